@@ -1,0 +1,233 @@
+-- What is kept of a line is enough for the rules of an answer text.
+use Rattle.std.proofs.Common.{◌≡◌, ℕ, zero, suc, ◌+◌, ◌<◌, ◌≤◌, min, List, [], ◌∷◌, length, take, drop, map, get_or, Option, Some, None, Ok, Err, Result, Bool, true, false, cond, ◌&&◌, ◌||◌, ◌==◌, eqb, nat_lt, inl, inr, refl, sym, ap, ◌∙◌, arith, lit<, codes, subst}
+use Rattle.std.proofs.lemmas.Bool.{ne_eqb, cases_lt, lt-ltb, le-ltb}
+use Rattle.std.proofs.lemmas.List.{length-map}
+use Rattle.std.specs.Str.{bytes_eq}
+use Rattle.path_algebra.specs.Names.{name_of_text}
+use Rattle.road_text.specs.declared.faults.ReadFault.{ReadFault}
+use Rattle.road_text.specs.declared.slots.Slot.{Slot}
+use Rattle.road_text.specs.Lines.{fields}
+use Rattle.road_text.specs.Rules.{◌>>=◌}
+use Rattle.road_text.specs.Slots.{word_in}
+use Rattle.road_text.specs.Takes.{ShowsLine}
+use Rattle.road_text.specs.Words.{Word, word_of, held_word, word_at, no_word}
+use Rattle.road_text.proofs.WordLaws.{held, held_words, short_word, first_byte}
+use Rattle.road_files.specs.declared.questions.Kind.{Kind}
+use Rattle.road_files.specs.declared.questions.Kind.TheVariants.{Sources, Pairs, Multi}
+use Rattle.road_files.specs.QuestionFiles.{kind_named}
+use Rattle.answer_text.specs.declared.present_numbers.PresentNumbers.{PresentNumbers}
+use Rattle.answer_text.specs.AnswerFiles.{Stage, Between, InLines, AfterPair, AfterFound, AnswersSoFar, numbers_in, begins, header_line, source_line, pair_line, list_line, sources_line, route_line, reached_line, unreached_line, vertex_line, value_line, none_line, found_line, question_line, answer_line, first_line, told_after, line_given, line_read}
+use Rattle.answer_text.specs.AnswerTakes.{SoFar, begins_list, numbers_given}
+use Rattle.answer_text.proofs.ListFields.{number_held}
+
+-- these words are what is kept of those
+pub record Keeps (kept ws : List Word) : Type 0 where
+  pub count : (k : ℕ) → k < 6 → eqb (length kept) k ≡ eqb (length ws) k
+  pub word : (i : ℕ) → i < 6 → word_at i kept ≡ held (word_at i ws)
+
+word_kept : (k i : ℕ) (ws : List Word) → i < k → word_at i (take k (map held ws)) ≡ held (word_at i ws)
+word_kept zero i ws lt = absurd (omega arith)
+word_kept (suc k) i [] lt = refl
+word_kept (suc k) zero (w ∷ ws) lt = refl
+word_kept (suc k) (suc i) (w ∷ ws) lt = word_kept k i ws (omega arith)
+
+length_kept : (k : ℕ) (ws : List Word) → length (take k (map held ws)) ≡ min k (length ws)
+length_kept zero ws = omega arith
+length_kept (suc k) [] = omega arith
+length_kept (suc k) (w ∷ ws) = let more = length_kept k ws in omega (arith, more)
+
+count_kept : (ws : List Word) (k : ℕ) → k < 6 → eqb (length (take 6 (map held ws))) k ≡ eqb (length ws) k
+count_kept ws k lt = elim (cases_lt (length ws) 6) [
+  | inl few ↦ ap (λ n. eqb n k) (let e = length_kept 6 ws in omega (arith, e))
+  | inr many ↦ ne_eqb (length (take 6 (map held ws))) k (λ e. omega (arith, length_kept 6 ws)) ∙ sym (ne_eqb (length ws) k (λ e. omega arith))
+]
+
+keeps : (ws : List Word) → Keeps (take 6 (map held ws)) ws
+keeps ws = record { count = λ k lt. count_kept ws k lt; word = λ i lt. word_kept 6 i ws lt }
+
+kind_held : (w : List ℕ) → kind_named (take 9 w) ≡ kind_named w
+kind_held w = rw (short_word w (codes "ss") (lit< tt), short_word w (codes "p2p") (lit< tt), short_word w (codes "ms") (lit< tt)) refl
+
+name_held : (w : List ℕ) → name_of_text (take 9 w) ≡ name_of_text w
+name_held w = rw (
+  short_word w (codes "shortest") (lit< tt),
+  short_word w (codes "widest") (lit< tt),
+  short_word w (codes "reach") (lit< tt),
+  short_word w (codes "hops") (lit< tt),
+  short_word w (codes "reliable") (lit< tt),
+  short_word w (codes "within") (lit< tt),
+  short_word w (codes "own") (lit< tt),
+) refl
+
+module _ (kept ws : List Word) (h : Keeps kept ws) where
+  begins_held : (word : List ℕ) → length word < 9 → begins word kept ≡ begins word ws
+  begins_held word short = rw (h.word 0 (lit< tt)) (short_word (word_at 0 ws).text word short)
+
+  header_held : header_line kept ≡ header_line ws
+  unfolding header_line
+  header_held = rw (
+    h.count 5 (lit< tt),
+    h.word 1 (lit< tt),
+    h.word 2 (lit< tt),
+    h.word 3 (lit< tt),
+    h.word 4 (lit< tt),
+    short_word (word_at 1 ws).text (codes "ans") (lit< tt),
+    kind_held (word_at 2 ws).text,
+    name_held (word_at 4 ws).text,
+    number_held 1048576 (word_at 3 ws).number (lit< tt),
+  ) refl
+
+  source_held : source_line kept ≡ source_line ws
+  unfolding source_line
+  source_held = rw (h.count 2 (lit< tt), begins_held (codes "s") (lit< tt), h.word 1 (lit< tt), number_held 4294967295 (word_at 1 ws).number (lit< tt)) refl
+
+  pair_held : pair_line kept ≡ pair_line ws
+  unfolding pair_line
+  pair_held = rw (
+    h.count 3 (lit< tt),
+    begins_held (codes "q") (lit< tt),
+    h.word 1 (lit< tt),
+    h.word 2 (lit< tt),
+    number_held 4294967295 (word_at 1 ws).number (lit< tt),
+    number_held 4294967295 (word_at 2 ws).number (lit< tt),
+  ) refl
+
+  reached_held : (v : ℕ) → reached_line v kept ≡ reached_line v ws
+  unfolding reached_line
+  reached_held v = rw (
+    h.count 5 (lit< tt),
+    h.word 1 (lit< tt),
+    h.word 2 (lit< tt),
+    h.word 3 (lit< tt),
+    h.word 4 (lit< tt),
+    number_held 4294967295 (word_at 1 ws).number (lit< tt),
+    number_held 18446744073709551615 (word_at 2 ws).number (lit< tt),
+    number_held 4294967295 (word_at 3 ws).number (lit< tt),
+    number_held 4294967295 (word_at 4 ws).number (lit< tt),
+  ) refl
+
+  unreached_held : (v : ℕ) → unreached_line v kept ≡ unreached_line v ws
+  unfolding unreached_line
+  unreached_held v = rw (h.count 2 (lit< tt), h.word 1 (lit< tt), number_held 4294967295 (word_at 1 ws).number (lit< tt)) refl
+
+  vertex_held : (v : ℕ) → vertex_line v kept ≡ vertex_line v ws
+  unfolding vertex_line
+  vertex_held v = rw (begins_held (codes "d") (lit< tt), begins_held (codes "u") (lit< tt), reached_held v, unreached_held v) refl
+
+  value_held : value_line kept ≡ value_line ws
+  unfolding value_line
+  value_held = rw (
+    h.count 3 (lit< tt),
+    h.word 1 (lit< tt),
+    h.word 2 (lit< tt),
+    number_held 18446744073709551615 (word_at 1 ws).number (lit< tt),
+    number_held 4294967295 (word_at 2 ws).number (lit< tt),
+  ) refl
+
+  none_held : none_line kept ≡ none_line ws
+  unfolding none_line
+  none_held = rw (h.count 1 (lit< tt)) refl
+
+  found_held : found_line kept ≡ found_line ws
+  unfolding found_line
+  found_held = rw (begins_held (codes "d") (lit< tt), begins_held (codes "u") (lit< tt), value_held, none_held) refl
+
+  sources_held : (m : ℕ) (q : Result (List ℕ) ℕ) → sources_line kept m q ≡ sources_line ws m q
+  unfolding sources_line
+  sources_held m q = rw (begins_held (codes "m") (lit< tt)) refl
+
+  route_held : (m : ℕ) (q : Result (List ℕ) ℕ) → route_line kept m q ≡ route_line ws m q
+  unfolding route_line
+  route_held m q = rw (begins_held (codes "r") (lit< tt)) refl
+
+  module _ (n m : ℕ) (q : Result (List ℕ) ℕ) where
+    question_held : (s : AnswersSoFar) (kind : Kind) → question_line n s kept m q kind ≡ question_line n s ws m q kind
+    question_held s Sources = rw source_held refl
+    question_held s Pairs = rw pair_held refl
+    question_held s Multi = rw (sources_held m q) refl
+
+    answer_held : (s : AnswersSoFar) (stage : Stage) → answer_line n s kept m q stage ≡ answer_line n s ws m q stage
+    answer_held s Between = rw (question_held s s.kind) refl
+    answer_held s (InLines named lines) = rw (vertex_held (length lines + 1)) refl
+    answer_held s (AfterPair source target) = rw found_held refl
+    answer_held s (AfterFound source target code hops) = rw (route_held m q) refl
+
+    told_held : (s : Option AnswersSoFar) → told_after n s kept m q ≡ told_after n s ws m q
+    told_held None = rw (begins_held (codes "p") (lit< tt), header_held) refl
+    told_held (Some s) = rw (answer_held s s.stage) refl
+
+    line_held : (s : Option AnswersSoFar) → line_given n s kept m q ≡ line_given n s ws m q
+    unfolding line_given
+    line_held s = rw (h.count 0 (lit< tt), h.word 0 (lit< tt), first_byte (word_at 0 ws).text, told_held s) refl
+
+-- where the letter is another the numbers do not matter
+list_same : (letter : Bool) (c d : Bool) (p q : Result (List ℕ) ℕ) → c ≡ d → (letter ≡ true → p ≡ q) → list_line letter c p ≡ list_line letter d q
+list_same false c d p q e h = refl
+list_same true c d p q e h = rw (e, h refl) refl
+
+few_same : (n m : ℕ) → m ≡ min n 1026 → (nat_lt 1 n && nat_lt n 1026) ≡ (nat_lt 1 m && nat_lt m 1026)
+few_same n m e = elim (cases_lt n 1026) [
+  | inl lt ↦ let same : n ≡ m = omega arith in ap (λ k. nat_lt 1 k && nat_lt k 1026) same
+  | inr ge ↦ let big : m ≡ 1026 = omega arith in rw (big, le-ltb n 1026 ge, lt-ltb 1 n (omega arith)) refl
+]
+
+some_same : (n m : ℕ) → m ≡ min n 1026 → nat_lt 1 n ≡ nat_lt 1 m
+some_same n m e = elim (cases_lt 1 n) [
+  | inl lt ↦ rw (lt-ltb 1 n lt, lt-ltb 1 m (omega arith)) refl
+  | inr ge ↦ rw (le-ltb 1 n ge, le-ltb 1 m (omega arith)) refl
+]
+
+-- only the number of fields up to a limit matters, and the numbers only of a list
+module _ (n : ℕ) (ws : List Word) (m : ℕ) (p q : Result (List ℕ) ℕ) (e : m ≡ min (length ws) 1026) (pm : begins (codes "m") ws ≡ true → p ≡ q) (pr : begins (codes "r") ws ≡ true → p ≡ q) where
+  sources_same : sources_line ws (length ws) p ≡ sources_line ws m q
+  unfolding sources_line
+  sources_same = list_same (begins (codes "m") ws) _ _ p q (few_same (length ws) m e) pm
+
+  route_same : route_line ws (length ws) p ≡ route_line ws m q
+  unfolding route_line
+  route_same = list_same (begins (codes "r") ws) _ _ p q (some_same (length ws) m e) pr
+
+  question_same : (s : AnswersSoFar) (kind : Kind) → question_line n s ws (length ws) p kind ≡ question_line n s ws m q kind
+  question_same s Sources = refl
+  question_same s Pairs = refl
+  question_same s Multi = rw sources_same refl
+
+  answer_same : (s : AnswersSoFar) (stage : Stage) → answer_line n s ws (length ws) p stage ≡ answer_line n s ws m q stage
+  answer_same s Between = rw (question_same s s.kind) refl
+  answer_same s (InLines named lines) = refl
+  answer_same s (AfterPair source target) = refl
+  answer_same s (AfterFound source target code hops) = rw route_same refl
+
+  told_same : (s : Option AnswersSoFar) → told_after n s ws (length ws) p ≡ told_after n s ws m q
+  told_same None = refl
+  told_same (Some s) = rw (answer_same s s.stage) refl
+
+  given_same : (s : Option AnswersSoFar) → line_given n s ws (length ws) p ≡ line_given n s ws m q
+  unfolding line_given
+  given_same s = rw (told_same s) refl
+
+right_true : (a b : Bool) → b ≡ true → (a || b) ≡ true
+right_true true b e = refl
+right_true false b e = e
+
+left_true : (a b : Bool) → a ≡ true → (a || b) ≡ true
+left_true a b e = rw e refl
+
+begun_by_m : (fs : List (List ℕ)) → begins (codes "m") (map word_of fs) ≡ true → begins_list fs ≡ true
+begun_by_m [] e = e
+begun_by_m (f ∷ fs) e = right_true (bytes_eq f (codes "r")) (bytes_eq f (codes "m")) e
+
+begun_by_r : (fs : List (List ℕ)) → begins (codes "r") (map word_of fs) ≡ true → begins_list fs ≡ true
+begun_by_r [] e = e
+begun_by_r (f ∷ fs) e = left_true (bytes_eq f (codes "r")) (bytes_eq f (codes "m")) e
+
+-- the rule of the line is that of its slots and of the list that was kept
+pub line_rule : (n : ℕ) (s : Option AnswersSoFar) (l : PresentNumbers) (slots : List Slot) (line : List ℕ) → ShowsLine slots line → SoFar l (fields line)
+    → line_read n s (map word_of (fields line)) ≡ line_given n s (map word_in slots) l.count (numbers_given l)
+line_rule n s l slots line shown h =
+    let ws : List Word = map word_of (fields line) in
+    let many : length ws ≡ length (fields line) = length-map (fields line) word_of in
+    let same : begins_list (fields line) ≡ true → numbers_in (drop 1 ws) ≡ numbers_given l = λ on. h.numbers_are (h.letter_is ∙ on) in
+    given_same n ws l.count (numbers_in (drop 1 ws)) (numbers_given l) (h.count_is ∙ ap (λ k. min k 1026) (sym many)) (λ on. same (begun_by_m (fields line) on)) (λ on. same (begun_by_r (fields line) on)) s
+    ∙ sym (line_held (take 6 (map held ws)) ws (keeps ws) n l.count (numbers_given l) s)
+    ∙ ap (λ x. line_given n s x l.count (numbers_given l)) (ap (take 6) (held_words (fields line)) ∙ sym shown)

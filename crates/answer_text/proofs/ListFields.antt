@@ -1,0 +1,55 @@
+-- Lists of numbers, field by field.
+use Rattle.std.proofs.Common.{◌≡◌, ℕ, ◌+◌, ◌<◌, ◌≤◌, min, List, [], ◌∷◌, ◌++◌, length, drop, map, Option, Some, None, Ok, Err, Result, Bool, true, option_map, refl, sym, ap, ◌∙◌, arith, length-append}
+use Rattle.std.proofs.lemmas.List.{map-append}
+use Rattle.std.proofs.lemmas.Grind.{common_steps}
+use Rattle.std.specs.Result.{OnOk}
+use Rattle.road_text.specs.Rules.{◌>>=◌}
+use Rattle.road_text.specs.Words.{Word, word_of, held_word}
+use Rattle.answer_text.specs.declared.present_numbers.PresentNumbers.{PresentNumbers}
+use Rattle.answer_text.specs.AnswerFiles.{number_in, numbers_in}
+use Rattle.answer_text.specs.AnswerTakes.{SoFar, begins_list, numbers_given, one_number_more}
+
+-- what is kept of a number is enough
+pub number_held : (limit : ℕ) (o : Option ℕ) → limit < 18446744073709551616 → number_in limit (option_map (λ v. min v 18446744073709551616) o) ≡ number_in limit o
+number_held limit None h = refl
+number_held limit (Some v) h = grind (arith, common_steps)
+
+numbers_push : (ws : List Word) (w : Word) → numbers_in (ws ++ w ∷ []) ≡ one_number_more (numbers_in ws) w.number
+numbers_push [] w = single (number_in 4294967295 w.number)
+  where
+    single : (r : Result ℕ ℕ) → (r >>= λ v. Ok (v ∷ [])) ≡ (r >>= λ v. Ok ([] ++ v ∷ []))
+    single (Ok v) = refl
+    single (Err e) = refl
+numbers_push (x ∷ ws) w = rw (numbers_push ws w) (go (number_in 4294967295 x.number) (numbers_in ws) (number_in 4294967295 w.number))
+  where
+    go : (a : Result ℕ ℕ) (b : Result (List ℕ) ℕ) (c : Result ℕ ℕ) → (a >>= λ v. (b >>= λ vs. c >>= λ u. Ok (vs ++ u ∷ [])) >>= λ vs. Ok (v ∷ vs)) ≡ ((a >>= λ v. b >>= λ vs. Ok (v ∷ vs)) >>= λ vs. c >>= λ u. Ok (vs ++ u ∷ []))
+    go (Err e) b c = refl
+    go (Ok v) (Err e) c = refl
+    go (Ok v) (Ok vs) (Err e) = refl
+    go (Ok v) (Ok vs) (Ok u) = refl
+
+same_letter : (fs : List (List ℕ)) (f : List ℕ) → 0 < length fs → begins_list (fs ++ f ∷ []) ≡ begins_list fs
+same_letter [] f lt = absurd (omega arith)
+same_letter (x ∷ fs) f lt = refl
+
+after_first : (fs : List (List ℕ)) (f : List ℕ) → 0 < length fs → drop 1 (map word_of (fs ++ f ∷ [])) ≡ drop 1 (map word_of fs) ++ word_of f ∷ []
+after_first [] f lt = absurd (omega arith)
+after_first (x ∷ fs) f lt = map-append word_of fs (f ∷ [])
+
+-- a further field
+pub next_field : (s t : PresentNumbers) (fs : List (List ℕ)) (f : List ℕ) → SoFar s fs → 0 < s.count → t.count ≡ min (s.count + 1) 1026 → t.is_list ≡ s.is_list
+    → (s.is_list ≡ true → numbers_given t ≡ one_number_more (numbers_given s) (held_word f).number) → SoFar t (fs ++ f ∷ [])
+next_field s t fs f h some more letter numbers =
+    let long : length (fs ++ f ∷ []) ≡ length fs + 1 = length-append fs (f ∷ []) in
+    let any : 0 < length fs = omega (arith, h.count_is) in
+    record {
+      count_is = omega (arith, h.count_is, long, more);
+      letter_is = letter ∙ h.letter_is ∙ sym (same_letter fs f any);
+      numbers_are = λ on. let was : s.is_list ≡ true = sym letter ∙ on in
+          ap numbers_in (after_first fs f any) ∙ numbers_push (drop 1 (map word_of fs)) (word_of f) ∙ ap (λ r. one_number_more r (word_of f).number) (h.numbers_are was)
+          ∙ ap (λ r. numbers_given s >>= λ vs. r >>= λ v. Ok (vs ++ v ∷ [])) (sym (number_held 4294967295 (word_of f).number (omega arith))) ∙ sym (numbers was);
+    }
+
+pub on_more : {E P Q : Type 0} (r : Result (Unit {0}) E) → OnOk r P → (P → Q) → OnOk r Q
+on_more (Ok x) h f = f h
+on_more (Err e) h f = tt

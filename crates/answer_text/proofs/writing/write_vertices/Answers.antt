@@ -1,0 +1,20 @@
+use Rattle.std.proofs.Common.{refl, subst, sym, arith}
+use Rattle.road_text.specs.Written.{Left}
+use Rattle.road_text.proofs.WriteLaws.{left_start, left_end}
+use Rattle.answer_text.proofs.VertexLines.{vertices_start, vertices_end, vertex_left, vertex_fell}
+use Rattle.answer_text.proofs.writing.write_vertices.Goals as goal
+
+pub loop-line-init : goal.loop-line-init
+loop-line-init g c = record { vertex = refl; left = subst (Left _ _ _ _ _) (sym (vertices_start c.args.lines.now)) (left_start _ _ _) }
+
+pub loop-line-preserved : goal.loop-line-preserved
+loop-line-preserved g c = record {
+  vertex = omega arith;
+  left = vertex_left _ _ _ _ _ _ _ _ c.args.lines.now c.loop-line.line-index c.loop-line.vertex _ c.loop-line-test.true c.loop-line.invariant.vertex refl c.loop-line.invariant.left c.in-Ok.ensures;
+}
+
+pub returns-in-Err : goal.returns-in-Err
+returns-in-Err g c = vertex_fell _ _ _ _ _ _ _ _ c.args.lines.now c.loop-line.line-index c.loop-line.vertex _ c.loop-line-test.true c.loop-line.invariant.vertex refl c.loop-line.invariant.left c.in-Err.ensures
+
+pub returns : goal.returns
+returns g c = left_end _ _ _ _ _ _ (vertices_end c.loop-line.line-index c.args.lines.now c.loop-line-test.false) c.loop-line.invariant.left

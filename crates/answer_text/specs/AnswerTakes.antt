@@ -1,0 +1,61 @@
+-- What the taker of an answer text holds, as the rules have it.
+use Rattle.std.specs.Prelude.{◌≡◌, ℕ, min, ◌||◌, List, [], ◌∷◌, ◌++◌, length, drop, map, Bool, true, false, Option, Some, None, option_map, Result, Ok, Err, codes, bytes_eq}
+use Rattle.road_text.specs.declared.faults.ReadFault.{ReadFault}
+use Rattle.road_text.specs.declared.faults.Rule.{Rule}
+use Rattle.road_text.specs.RuleNumbers.{number_of}
+use Rattle.road_text.specs.Rules.{◌>>=◌}
+use Rattle.road_text.specs.Takes.{GivesBy}
+use Rattle.road_text.specs.Way.{Way}
+use Rattle.road_text.specs.Words.{word_of}
+use Rattle.answer_text.specs.declared.answers.Answers.{Answers}
+use Rattle.answer_text.specs.declared.present_numbers.PresentNumbers.{PresentNumbers}
+use Rattle.answer_text.specs.declared.taken_answers.Place.{Place}
+use Rattle.answer_text.specs.declared.taken_answers.Place.TheVariants as places
+use Rattle.answer_text.specs.declared.taken_answers.TakenAnswers.{TakenAnswers}
+use Rattle.answer_text.specs.declared.answer_taker.AnswerTaker.{AnswerTaker}
+use Rattle.answer_text.specs.Told.{told_of, told_list_of}
+use Rattle.answer_text.specs.AnswerFiles.{Stage, Between, InLines, AfterPair, AfterFound, OneSource, ManySources, AnswersSoFar, number_in, numbers_in, answer_rules}
+
+abbrev pub numbers_or : Option Rule → List ℕ → Result (List ℕ) ℕ
+numbers_or None numbers = Ok numbers
+numbers_or (Some rule) numbers = Err (number_of rule)
+
+-- what the numbers of the present line give so far
+abbrev pub numbers_given : PresentNumbers → Result (List ℕ) ℕ
+numbers_given l = numbers_or l.broken l.numbers.items
+
+-- one number more, or the first field that is none
+abbrev pub one_number_more : Result (List ℕ) ℕ → Option ℕ → Result (List ℕ) ℕ
+one_number_more numbers o = numbers >>= λ vs. number_in 4294967295 o >>= λ v. Ok (vs ++ v ∷ [])
+
+-- whether the first field is `r` or `m`
+abbrev pub begins_list : List (List ℕ) → Bool
+begins_list [] = false
+begins_list (f ∷ fs) = bytes_eq f (codes "r") || bytes_eq f (codes "m")
+
+-- these are the fields of the present line so far
+pub record SoFar (l : PresentNumbers) (fs : List (List ℕ)) : Type 0 where
+  pub count_is : l.count ≡ min (length fs) 1026
+  pub letter_is : l.is_list ≡ begins_list fs
+  pub numbers_are : l.is_list ≡ true → numbers_in (drop 1 (map word_of fs)) ≡ numbers_given l
+
+abbrev pub stage_at : TakenAnswers → Place → Stage
+stage_at t places.Between = Between
+stage_at t (places.Source source) = InLines (OneSource source) t.lines.items
+stage_at t places.Sources = InLines (ManySources t.sources.items) t.lines.items
+stage_at t (places.Pair source target) = AfterPair source target
+stage_at t (places.Found source target code hops) = AfterFound source target code hops
+
+abbrev pub answers_so_far : TakenAnswers → AnswersSoFar
+answers_so_far t = record { kind = t.kind; name = t.name; announced = t.announced; list = map told_of t.list.items; stage = stage_at t t.place }
+
+abbrev pub begun_of : AnswerTaker → Option AnswersSoFar
+begun_of s = option_map answers_so_far s.begun
+
+-- the lines from a number on give this
+abbrev pub GivesAnswers : Bool → AnswerTaker → ℕ → List (List ℕ) → Result Answers ReadFault → Type 0
+GivesAnswers cut s at ls r = GivesBy (answer_rules s.n) (begun_of s) told_list_of cut at ls r
+
+-- the numbers of a list are kept before its line ends
+abbrev pub answer_way : Way AnswerTaker Answers
+answer_way = record { gives = GivesAnswers; so_far = λ s fs. SoFar s.present fs }

@@ -1,0 +1,67 @@
+-- The one written spelling of answers, by lines of words.
+use Rattle.std.specs.Prelude.{ℕ, ◌+◌, List, [], ◌∷◌, ◌++◌, Option, Some, None, codes, decimal, length}
+use Rattle.road_text.specs.Texts.{spelled, text_of, list_words}
+use Rattle.path_algebra.specs.declared.name.AlgebraName.{AlgebraName}
+use Rattle.path_algebra.specs.Names.{name_text}
+use Rattle.road_files.specs.declared.questions.Kind.{Kind}
+use Rattle.road_files.specs.declared.questions.Kind.TheVariants.{Sources, Pairs, Multi}
+use Rattle.answer_text.specs.declared.answers.Reached.{Reached}
+use Rattle.answer_text.specs.Told.{ToldFound, Told, ToldSource, ToldPair, ToldMulti, ToldList}
+
+-- the word by which a kind is named
+abbrev pub kind_word : Kind → List ℕ
+kind_word Sources = codes "ss"
+kind_word Pairs = codes "p2p"
+kind_word Multi = codes "ms"
+
+-- the line before so many answers
+abbrev pub header_words : Kind → ℕ → AlgebraName → List (List ℕ)
+header_words kind count name = codes "p" ∷ codes "ans" ∷ kind_word kind ∷ decimal count ∷ name_text name ∷ []
+
+-- the lines that name a question, and the value of a pair
+abbrev pub source_words : ℕ → List (List ℕ)
+source_words source = codes "s" ∷ decimal source ∷ []
+
+abbrev pub pair_words : ℕ → ℕ → List (List ℕ)
+pair_words source target = codes "q" ∷ decimal source ∷ decimal target ∷ []
+
+abbrev pub found_words : ℕ → ℕ → List (List ℕ)
+found_words code hops = codes "d" ∷ decimal code ∷ decimal hops ∷ []
+
+-- the line of a vertex: reached or not
+abbrev pub vertex_words : ℕ → Option Reached → List (List ℕ)
+vertex_words v None = codes "u" ∷ decimal v ∷ []
+vertex_words v (Some r) = codes "d" ∷ decimal v ∷ decimal r.code ∷ decimal r.hops ∷ decimal r.parent ∷ []
+
+-- the lines of the vertices from v on
+abbrev pub vertex_lines : ℕ → List (Option Reached) → List (List (List ℕ))
+vertex_lines v [] = []
+vertex_lines v (x ∷ xs) = vertex_words v x ∷ vertex_lines (v + 1) xs
+
+-- the lines of a pair: its value and route, or that no walk joins it
+abbrev pub found_lines : Option ToldFound → List (List (List ℕ))
+found_lines None = (codes "u" ∷ []) ∷ []
+found_lines (Some f) = found_words f.code f.hops ∷ list_words (codes "r") f.route ∷ []
+
+-- the lines of an answer
+abbrev pub answer_lines : Told → List (List (List ℕ))
+answer_lines (ToldSource s ls) = source_words s ∷ vertex_lines 1 ls
+answer_lines (ToldPair s t f) = pair_words s t ∷ found_lines f
+answer_lines (ToldMulti ss ls) = list_words (codes "m") ss ∷ vertex_lines 1 ls
+
+-- the text of an answer
+unfoldable pub answer_text : Told → List ℕ
+answer_text a = text_of (answer_lines a)
+
+-- the texts of answers, one after the other
+abbrev pub blocks_text : List Told → List ℕ
+blocks_text [] = []
+blocks_text (a ∷ more) = answer_text a ++ blocks_text more
+
+-- the header before so many answers
+unfoldable pub header_text : Kind → ℕ → AlgebraName → List ℕ
+header_text kind count name = spelled (header_words kind count name)
+
+-- the text of all answers
+abbrev pub answers_text : ToldList → List ℕ
+answers_text a = header_text a.kind (length a.list) a.name ++ blocks_text a.list

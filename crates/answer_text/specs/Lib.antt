@@ -1,0 +1,5 @@
+pub mod Told
+pub mod IsAnswer
+pub mod AnswerText
+pub mod AnswerFiles
+pub mod AnswerTakes

@@ -1,0 +1,56 @@
+// Answers as they are held in memory.
+
+use path_algebra::AlgebraName;
+use road_files::Kind;
+
+/// What is said of a vertex that some walk reaches.
+#[derive(Clone, Copy, Debug, PartialEq, Eq)]
+pub struct Reached {
+    /// The code of the best value.
+    pub code: u64,
+    /// The least number of arcs of a walk that has the best value all along.
+    pub hops: u32,
+    /// The vertex before this one on such a walk, the least there is; 0 at a source.
+    pub parent: u32,
+}
+
+/// What is said of a pair that some walk joins.
+#[derive(Debug, Drop)]
+pub struct Found {
+    /// The code of the best value.
+    pub code: u64,
+    /// The number of arcs of the route.
+    pub hops: u32,
+    /// The vertices of the route, source and target included.
+    pub route: Vec<u32>,
+}
+
+/// The answer to one question. Entry `i` of `lines` is of vertex `i + 1`; none stands where no walk has a value.
+#[derive(Debug, Drop)]
+pub enum Answer {
+    Source {
+        source: u32,
+        lines: Vec<Option<Reached>>,
+    },
+    Pair {
+        source: u32,
+        target: u32,
+        found: Option<Found>,
+    },
+    Multi {
+        sources: Vec<u32>,
+        lines: Vec<Option<Reached>>,
+    },
+}
+
+/// The answers to all questions of a file.
+#[derive(Debug, Drop)]
+pub struct Answers {
+    /// The algebra that was used.
+    pub name: AlgebraName,
+    pub kind: Kind,
+    /// The number of vertices of the graph.
+    pub n: u32,
+    /// One answer for each question, in order.
+    pub list: Vec<Answer>,
+}

@@ -1,0 +1,34 @@
+// Theorems over answers, each the contract of a function that computes nothing.
+ghost use Rattle.std.specs.Prelude.{◌≡◌, ℕ, ◌++◌, List, length, take};
+ghost use Rattle.road_graph.specs.Roads.{Roads};
+ghost use Rattle.road_files.specs.Asked.{Asked, Question};
+ghost use Rattle.answer_text.specs.AnswerText.{answers_text, blocks_text, header_text};
+ghost use Rattle.answer_text.specs.IsAnswer.{AreAnswers, IsAnswer, IsAnswerList};
+ghost use Rattle.answer_text.specs.Told.{Told, ToldList};
+
+use path_algebra::{PathAlgebra, laws_hold};
+
+/// A graph and questions have one right answer list at most.
+#[tactic(auto, using(crate::proofs::OneAnswer::answer_list_once))]
+pub fn answers_are_one<A: PathAlgebra>(algebra: A)
+    ensures { (g : Roads) (asked : Asked) (t u : ToldList) → IsAnswerList (A.meaning algebra) g asked t → IsAnswerList (A.meaning algebra) g asked u → t ≡ u }
+{
+    laws_hold(algebra);
+}
+
+/// A question has one right answer at most.
+#[tactic(auto, using(crate::proofs::OneAnswer::answer_once))]
+pub fn an_answer_is_one<A: PathAlgebra>(algebra: A)
+    ensures { (g : Roads) (q : Question) (t u : Told) → IsAnswer (A.meaning algebra) g q t → IsAnswer (A.meaning algebra) g q u → t ≡ u }
+{
+    laws_hold(algebra);
+}
+
+/// The header and the text of the right answers to the first questions begin the text of every right answer list.
+#[tactic(auto, using(crate::proofs::FirstAnswers::first_answers_text))]
+pub fn first_answers_begin_all<A: PathAlgebra>(algebra: A)
+    ensures { (g : Roads) (asked : Asked) (count : ℕ) (ts : List Told) (all : ToldList) → AreAnswers (A.meaning algebra) g (take count asked.questions) ts → IsAnswerList (A.meaning algebra) g asked all →
+        (rest : List ℕ) × (answers_text all ≡ (header_text asked.kind (length asked.questions) (A.meaning algebra).name ++ blocks_text ts) ++ rest) }
+{
+    laws_hold(algebra);
+}

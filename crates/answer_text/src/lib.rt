@@ -1,0 +1,23 @@
+//! Answers to questions over a road graph: what the right answers are, and their text both ways.
+#![tactic(auto)]
+
+mod answer_lines;
+mod answer_taker;
+mod answers;
+mod laws;
+mod lines;
+mod list_fields;
+mod number_fields;
+mod present_numbers;
+mod reading;
+mod taken_answers;
+mod taking;
+mod writing;
+
+pub use answers::{Answer, Answers, Found, Reached};
+pub use laws::{an_answer_is_one, answers_are_one, first_answers_begin_all};
+pub use reading::read_answers;
+pub use writing::{
+    MAX_ANSWERS, write_answer, write_answers, write_header, write_source_line, write_sources_line,
+    write_vertex,
+};

@@ -1,0 +1,106 @@
+// Takes the fields of a line, and keeps those of a list.
+ghost use Rattle.std.specs.Prelude.{◌≡◌, ℕ, ◌+◌, min, ◌++◌, ◌∷◌, [], List, OnOk, IfErr, MatchResult, Ok};
+ghost use Rattle.road_text.specs.Slots.{word_in};
+ghost use Rattle.road_text.specs.Takes.{Breaks};
+ghost use Rattle.road_text.specs.Words.{held_word};
+ghost use Rattle.answer_text.specs.AnswerFiles.{list_line};
+ghost use Rattle.answer_text.specs.AnswerTakes.{SoFar, numbers_given, one_number_more};
+
+use crate::number_fields::number_of;
+use crate::present_numbers::PresentNumbers;
+use road_text::{LineFault, Rule, Slot};
+use std::alloc::Global;
+
+/// Up to this many the fields are counted: more than any list of sources has.
+const COUNTED: u32 = 1_026;
+
+// One field more.
+fn counted(count: u32) -> u32
+    ensures { result ≡ min (count + 1) 1026 }
+{
+    if count < COUNTED { count + 1 } else { COUNTED }
+}
+
+impl PresentNumbers {
+    /// No field yet.
+    pub fn new(alloc: Global) -> Self
+        ensures { SoFar result [] }
+    {
+        PresentNumbers {
+            count: 0,
+            is_list: false,
+            numbers: Vec::new(alloc),
+            broken: None,
+        }
+    }
+
+    /// A line begins.
+    pub fn restart(&mut self)
+        ensures { SoFar self.new [] }
+    {
+        self.count = 0;
+        self.is_list = false;
+    }
+
+    // One number more, or the first field that is none.
+    fn add(&mut self, slot: &Slot) -> Result<(), LineFault>
+        ensures numbers { OnOk result (numbers_given self.new ≡ one_number_more (numbers_given self.old) (word_in slot.now).number) }
+        ensures rest { (self.new.count ≡ self.old.count) × (self.new.is_list ≡ self.old.is_list) }
+        ensures memory { IfErr result (λ e. e ≡ LineFault.Memory) }
+    {
+        if self.broken.is_some() {
+            return Ok(());
+        }
+        match number_of(slot) {
+            Ok(number) => match self.numbers.push(number) {
+                Ok(()) => Ok(()),
+                Err(_) => Err(LineFault::Memory),
+            },
+            Err(LineFault::Memory) => Err(LineFault::Memory),
+            Err(LineFault::Broken(rule)) => {
+                self.broken = Some(rule);
+                Ok(())
+            }
+        }
+    }
+
+    /// Takes the next field of the line.
+    pub fn field(&mut self, slot: &Slot) -> Result<(), LineFault>
+        ensures told { OnOk result ((fs : List (List ℕ)) (f : List ℕ) → SoFar self.old fs → word_in slot.now ≡ held_word f → SoFar self.new (fs ++ f ∷ [])) }
+        ensures memory { IfErr result (λ e. e ≡ LineFault.Memory) }
+    {
+        if self.count == 0 {
+            self.numbers.clear();
+            self.broken = None;
+            self.is_list = slot.is_word(b"r") || slot.is_word(b"m");
+            self.count = 1;
+            return Ok(());
+        }
+        self.count = counted(self.count);
+        if self.is_list {
+            return self.add(slot);
+        }
+        Ok(())
+    }
+
+    /// The numbers of the present line, given whether its letter belongs here and whether it has enough fields.
+    pub fn whole(
+        &mut self,
+        alloc: Global,
+        letter: bool,
+        enough: bool,
+    ) -> Result<Vec<u32>, LineFault>
+        ensures { MatchResult result (λ v. list_line letter enough (numbers_given self.old) ≡ Ok v.items) (Breaks (list_line letter enough (numbers_given self.old))) }
+    {
+        if !letter {
+            return Err(LineFault::Broken(Rule::Misplaced));
+        }
+        if !enough {
+            return Err(LineFault::Broken(Rule::AnswerFields));
+        }
+        if let Some(rule) = self.broken {
+            return Err(LineFault::Broken(rule));
+        }
+        Ok(std::mem::replace(&mut self.numbers, Vec::new(alloc)))
+    }
+}

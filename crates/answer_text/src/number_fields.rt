@@ -1,0 +1,36 @@
+// Numbers in the fields of an answer text.
+ghost use Rattle.std.specs.Prelude.{ℕ};
+ghost use Rattle.road_text.specs.Slots.{word_in};
+ghost use Rattle.road_text.specs.Takes.{Agrees};
+ghost use Rattle.answer_text.specs.AnswerFiles.{number_in};
+
+use road_text::{LineFault, Rule, Slot};
+
+/// The number in a field, up to a limit.
+pub fn number_up_to(slot: &Slot, limit: u32) -> Result<u32, LineFault>
+    ensures { Agrees (number_in limit (word_in slot.now).number) result }
+{
+    match slot.number {
+        None => Err(LineFault::Broken(Rule::AnswerNotANumber)),
+        Some(n) if n > u128::from(limit) => Err(LineFault::Broken(Rule::AnswerTooLarge)),
+        Some(n) => Ok(n as u32),
+    }
+}
+
+/// A number below 2^32.
+pub fn number_of(slot: &Slot) -> Result<u32, LineFault>
+    ensures { Agrees (number_in 4294967295 (word_in slot.now).number) result }
+{
+    number_up_to(slot, u32::MAX)
+}
+
+/// A code: a number below 2^64.
+pub fn code_of(slot: &Slot) -> Result<u64, LineFault>
+    ensures { Agrees (number_in 18446744073709551615 (word_in slot.now).number) result }
+{
+    match slot.number {
+        None => Err(LineFault::Broken(Rule::AnswerNotANumber)),
+        Some(n) if n > u128::from(u64::MAX) => Err(LineFault::Broken(Rule::AnswerTooLarge)),
+        Some(n) => Ok(n as u64),
+    }
+}

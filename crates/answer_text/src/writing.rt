@@ -1,0 +1,195 @@
+// Writes answers, line by line. Nothing here takes memory.
+ghost use Rattle.std.specs.Prelude.{◌≡◌, ◌≤◌, ◌<◌, ◌^◌, ◌++◌, ◌∷◌, [], codes, length, map, option_map};
+ghost use Rattle.road_text.specs.Texts.{list_words, spelled, text_of};
+ghost use Rattle.road_text.specs.Written.{Wrote};
+ghost use Rattle.answer_text.specs.AnswerText.{answer_text, answers_text, blocks_text, found_lines, found_words, header_text, pair_words, source_words, vertex_lines, vertex_words};
+ghost use Rattle.answer_text.specs.Told.{found_of, told_list_of, told_of};
+
+use crate::answers::{Answer, Answers, Found, Reached};
+use crate::lines::{fill_vertex, line_of_found, line_of_header, line_of_pair, line_of_source};
+use path_algebra::AlgebraName;
+use road_files::Kind;
+use road_text::{Line, RoadWrite, WriteFault, write_bytes, write_list};
+
+/// The most answers that a text may have.
+pub const MAX_ANSWERS: u32 = 1_048_576;
+
+/// Writes the header before `count` answers.
+#[tactic(auto, unfolding(crate::specs::AnswerText::header_text))]
+pub fn write_header<W: RoadWrite>(
+    to: &mut W,
+    kind: Kind,
+    count: u32,
+    name: AlgebraName,
+) -> Result<(), WriteFault>
+    ensures { Wrote (W.written to.old) (W.written to.new) (W.failures to.old) (W.failures to.new) (header_text kind count name) result }
+{
+    write_bytes(to, line_of_header(kind, count, name).as_str().as_bytes())
+}
+
+/// Writes the first line of an answer from one source. `write_vertex` writes the lines that follow it.
+pub fn write_source_line<W: RoadWrite>(to: &mut W, source: u32) -> Result<(), WriteFault>
+    ensures { Wrote (W.written to.old) (W.written to.new) (W.failures to.old) (W.failures to.new) (spelled (source_words source)) result }
+{
+    write_bytes(to, line_of_source(source).as_str().as_bytes())
+}
+
+/// Writes the first line of an answer from several sources. `write_vertex` writes the lines that follow it.
+pub fn write_sources_line<W: RoadWrite>(to: &mut W, sources: &[u32]) -> Result<(), WriteFault>
+    ensures { Wrote (W.written to.old) (W.written to.new) (W.failures to.old) (W.failures to.new) (spelled (list_words (codes "m") sources.now)) result }
+{
+    write_list(to, b"m", sources)
+}
+
+/// Writes the line of a vertex. `line` is room for the text of it, whatever it holds: one serves for all vertices.
+pub fn write_vertex<W: RoadWrite>(
+    to: &mut W,
+    line: &mut Line,
+    vertex: u64,
+    reached: Option<Reached>,
+) -> Result<(), WriteFault>
+    ensures { Wrote (W.written to.old) (W.written to.new) (W.failures to.old) (W.failures to.new) (spelled (vertex_words vertex reached)) result }
+{
+    fill_vertex(line, vertex, reached);
+    write_bytes(to, line.as_str().as_bytes())
+}
+
+// Writes the lines of all vertices.
+fn write_vertices<W: RoadWrite>(to: &mut W, lines: &[Option<Reached>]) -> Result<(), WriteFault>
+    ensures { Wrote (W.written to.old) (W.written to.new) (W.failures to.old) (W.failures to.new) (text_of (vertex_lines 1 lines.now)) result }
+{
+    let mut vertex: u64 = 0;
+    let mut text = Line::new();
+    for line in lines {
+        vertex += 1;
+        match write_vertex(to, &mut text, vertex, *line) {
+            Ok(()) => {}
+            Err(fault) => return Err(fault),
+        }
+    }
+    Ok(())
+}
+
+// Writes an answer whose first line is named by one source.
+#[tactic(auto, using(road_text::proofs::WriteLaws::wrote_then, road_text::proofs::WriteLaws::fell_first))]
+fn write_source<W: RoadWrite>(
+    to: &mut W,
+    source: u32,
+    lines: &[Option<Reached>],
+) -> Result<(), WriteFault>
+    ensures { Wrote (W.written to.old) (W.written to.new) (W.failures to.old) (W.failures to.new) (spelled (source_words source) ++ text_of (vertex_lines 1 lines.now)) result }
+{
+    match write_source_line(to, source) {
+        Ok(()) => write_vertices(to, lines),
+        Err(fault) => Err(fault),
+    }
+}
+
+// Writes an answer whose first line is named by several sources.
+#[tactic(auto, using(road_text::proofs::WriteLaws::wrote_then, road_text::proofs::WriteLaws::fell_first))]
+fn write_multi<W: RoadWrite>(
+    to: &mut W,
+    sources: &[u32],
+    lines: &[Option<Reached>],
+) -> Result<(), WriteFault>
+    ensures { Wrote (W.written to.old) (W.written to.new) (W.failures to.old) (W.failures to.new) (spelled (list_words (codes "m") sources.now) ++ text_of (vertex_lines 1 lines.now)) result }
+{
+    match write_sources_line(to, sources) {
+        Ok(()) => write_vertices(to, lines),
+        Err(fault) => Err(fault),
+    }
+}
+
+fn write_pair_line<W: RoadWrite>(to: &mut W, source: u32, target: u32) -> Result<(), WriteFault>
+    ensures { Wrote (W.written to.old) (W.written to.new) (W.failures to.old) (W.failures to.new) (spelled (pair_words source target)) result }
+{
+    write_bytes(to, line_of_pair(source, target).as_str().as_bytes())
+}
+
+fn write_found_line<W: RoadWrite>(to: &mut W, code: u64, hops: u32) -> Result<(), WriteFault>
+    ensures { Wrote (W.written to.old) (W.written to.new) (W.failures to.old) (W.failures to.new) (spelled (found_words code hops)) result }
+{
+    write_bytes(to, line_of_found(code, hops).as_str().as_bytes())
+}
+
+#[tactic(auto, unfolding(road_text::specs::Texts::spelled))]
+fn write_unreached<W: RoadWrite>(to: &mut W) -> Result<(), WriteFault>
+    ensures { Wrote (W.written to.old) (W.written to.new) (W.failures to.old) (W.failures to.new) (text_of ((codes "u" ∷ []) ∷ [])) result }
+{
+    write_bytes(to, b"u\n")
+}
+
+#[tactic(auto, using(road_text::proofs::WriteLaws::wrote_then, road_text::proofs::WriteLaws::fell_first))]
+fn write_found<W: RoadWrite>(
+    to: &mut W,
+    code: u64,
+    hops: u32,
+    route: &[u32],
+) -> Result<(), WriteFault>
+    ensures { Wrote (W.written to.old) (W.written to.new) (W.failures to.old) (W.failures to.new) (text_of (found_words code hops ∷ list_words (codes "r") route.now ∷ [])) result }
+{
+    match write_found_line(to, code, hops) {
+        Ok(()) => write_list(to, b"r", route),
+        Err(fault) => Err(fault),
+    }
+}
+
+// Writes the answer of a pair.
+fn write_pair<W: RoadWrite>(
+    to: &mut W,
+    source: u32,
+    target: u32,
+    found: &Option<Found>,
+) -> Result<(), WriteFault>
+    ensures { Wrote (W.written to.old) (W.written to.new) (W.failures to.old) (W.failures to.new) (text_of (pair_words source target ∷ found_lines (option_map found_of found.now))) result }
+{
+    match write_pair_line(to, source, target) {
+        Ok(()) => {}
+        Err(fault) => return Err(fault),
+    }
+    match found {
+        Some(found) => write_found(to, found.code, found.hops, found.route.as_slice()),
+        None => write_unreached(to),
+    }
+}
+
+/// Writes an answer.
+#[tactic(auto, unfolding(crate::specs::AnswerText::answer_text))]
+pub fn write_answer<W: RoadWrite>(to: &mut W, answer: &Answer) -> Result<(), WriteFault>
+    ensures { Wrote (W.written to.old) (W.written to.new) (W.failures to.old) (W.failures to.new) (answer_text (told_of answer.now)) result }
+{
+    match answer {
+        Answer::Source { source, lines } => write_source(to, *source, lines.as_slice()),
+        Answer::Pair {
+            source,
+            target,
+            found,
+        } => write_pair(to, *source, *target, found),
+        Answer::Multi { sources, lines } => write_multi(to, sources.as_slice(), lines.as_slice()),
+    }
+}
+
+// Writes answers, one after the other.
+fn write_blocks<W: RoadWrite>(to: &mut W, answers: &[Answer]) -> Result<(), WriteFault>
+    ensures { Wrote (W.written to.old) (W.written to.new) (W.failures to.old) (W.failures to.new) (blocks_text (map told_of answers.now)) result }
+{
+    for answer in answers {
+        match write_answer(to, answer) {
+            Ok(()) => {}
+            Err(fault) => return Err(fault),
+        }
+    }
+    Ok(())
+}
+
+/// Writes a list of answers: the header, and then each answer.
+#[tactic(auto, using(road_text::proofs::WriteLaws::wrote_then, road_text::proofs::WriteLaws::fell_first))]
+pub fn write_answers<W: RoadWrite>(to: &mut W, answers: &Answers) -> Result<(), WriteFault>
+    requires { length answers.now.list.items ≤ MAX_ANSWERS }
+    ensures { Wrote (W.written to.old) (W.written to.new) (W.failures to.old) (W.failures to.new) (answers_text (told_list_of answers.now)) result }
+{
+    match write_header(to, answers.kind, answers.list.len() as u32, answers.name) {
+        Ok(()) => write_blocks(to, answers.list.as_slice()),
+        Err(fault) => Err(fault),
+    }
+}

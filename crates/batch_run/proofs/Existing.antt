@@ -1,0 +1,86 @@
+-- Every question has a right answer: best values, their tree, and what both tell of each vertex.
+use Rattle.std.proofs.Common.{◌≡◌, ℕ, zero, suc, ◌+◌, ◌-◌, ◌<◌, ◌≤◌, List, [], ◌∷◌, ◌++◌, length, refl, sym, ap, ◌∙◌, subst, arith, All, Option, Some, None}
+use Rattle.std.proofs.lemmas.List.{length-append}
+use Rattle.std.proofs.lemmas.List.Elements.{All-nil, All-cons, All-head, All-tail}
+use Rattle.road_graph.specs.Roads.{Roads, IsRoads, HasVertex}
+use Rattle.path_algebra.specs.Algebra.{Algebra}
+use Rattle.path_algebra.specs.Walks.{AreBest, label_of}
+use Rattle.route_tree.specs.Tree.{Branches, IsTree, IsLinked, IsRoute, hops_of, parent_of}
+use Rattle.route_tree.specs.Told.{IsParentRoute, IsParentChain}
+use Rattle.road_files.specs.Asked.{Question, FromSource, BetweenPair, FromSources, Asked}
+use Rattle.answer_text.specs.declared.answers.Reached.{Reached}
+use Rattle.answer_text.specs.Told.{Told, ToldSource, ToldPair, ToldMulti, ToldFound, ToldList}
+use Rattle.answer_text.specs.IsAnswer.{IsLine, AreLines, IsPairAnswer, IsAnswer, AreAnswers, IsAnswerList}
+use Rattle.batch_run.specs.Told.{told_line}
+use Rattle.batch_run.specs.Answered.{AsksWithin}
+use Rattle.batch_run.proofs.LinesAreRight.{line_is_right, lines_push, best_by_label, least_by_hops, unreached_by_label, unreached_by_hops}
+
+module _ {V : Type 0} (A : Algebra V) (g : Roads) (roads : IsRoads g)
+    (labelled : (sources : List ℕ) → All (HasVertex g) sources → (labels : List (Option V)) × AreBest A g sources labels)
+    (planted : (sources : List ℕ) → All (HasVertex g) sources → (labels : List (Option V)) → AreBest A g sources labels →
+        (t : Branches) × IsTree A g sources t × IsLinked t × ((v k : ℕ) → HasVertex g v → hops_of t v ≡ Some k → (list : List ℕ) × IsRoute t v list))
+    (follows : (sources : List ℕ) (t : Branches) → IsTree A g sources t → (v : ℕ) → HasVertex g v → (list : List ℕ) → IsRoute t v list → IsParentRoute A g sources v list)
+    (from_one : (s v : ℕ) (list : List ℕ) → IsParentRoute A g (s ∷ []) v list → (rest : List ℕ) × (list ≡ s ∷ rest) × IsParentChain A g (s ∷ []) s rest v) where
+
+  -- the lines of the first vertices
+  first_lines : (sources : List ℕ) (labels : List (Option V)) (t : Branches) → AreBest A g sources labels → IsTree A g sources t → (n : ℕ) → n ≤ g.vertices →
+      (lines : List (Option Reached)) × (length lines ≡ n) × ((v : ℕ) → 1 ≤ v → v ≤ n → IsLine A g sources v (label_of lines v))
+  first_lines sources labels t best tree zero few = ([], refl, λ v low high. absurd (omega (arith, low, high)))
+  first_lines sources labels t best tree (suc n) few =
+      let before = first_lines sources labels t best tree n (omega (arith, few)) in
+      let in_graph : HasVertex g (n + 1) = ((omega arith), (omega (arith, few))) in
+      let line : Option Reached = told_line A (label_of labels (n + 1)) (hops_of t (n + 1)) (parent_of t (n + 1)) in
+      let right : IsLine A g sources (n + 1) line = line_is_right A g sources (n + 1) (label_of labels (n + 1)) (hops_of t (n + 1)) (parent_of t (n + 1))
+        (best.best (n + 1) in_graph) (tree.hops (n + 1) in_graph) (tree.parents (n + 1) in_graph) in
+      let count : length (before.0 ++ line ∷ []) ≡ suc n = omega (arith, length-append before.0 (line ∷ []), before.1) in
+      (before.0 ++ line ∷ [], count,
+        λ v low high. lines_push (IsLine A g sources) before.0 line n before.1 (λ w one most. before.2 w one (omega (arith, most, before.1))) right v low (omega (arith, high)))
+
+  lines_exist : (sources : List ℕ) → All (HasVertex g) sources → (lines : List (Option Reached)) × AreLines A g sources lines
+  lines_exist sources inside =
+      let labels = labelled sources inside in
+      let tree = planted sources inside labels.0 labels.1 in
+      let lines = first_lines sources labels.0 tree.0 labels.1 tree.1 g.vertices (omega arith) in
+      (lines.0, record { count = lines.1; each = λ v in_graph. lines.2 v in_graph.0 in_graph.1 })
+
+  -- what is told of a pair, by the label and the hops of its target
+  pair_by : (s v : ℕ) (labels : List (Option V)) (t : Branches) → HasVertex g v → AreBest A g (s ∷ []) labels → IsTree A g (s ∷ []) t →
+      ((k : ℕ) → hops_of t v ≡ Some k → (list : List ℕ) × IsRoute t v list) → (label : Option V) (hops : Option ℕ) → label_of labels v ≡ label → hops_of t v ≡ hops →
+      (found : Option ToldFound) × IsPairAnswer A g s v found
+  pair_by s v labels t in_v best tree routed None hops label_is hops_is =
+      (None, unreached_by_label A g (s ∷ []) v (label_of labels v) (best.best v in_v) (λ x e. let bad : None ≡ Some x = sym label_is ∙ e in cc))
+  pair_by s v labels t in_v best tree routed (Some x) None label_is hops_is =
+      (None, unreached_by_hops A g (s ∷ []) v (hops_of t v) (tree.hops v in_v) (λ k e. let bad : None ≡ Some k = sym hops_is ∙ e in cc))
+  pair_by s v labels t in_v best tree routed (Some x) (Some k) label_is hops_is =
+      let list = routed k hops_is in
+      (Some (record { code = A.code x; hops = k; route = list.0 }), record {
+        code = (x, best_by_label A g (s ∷ []) v (label_of labels v) (label_of labels v) x (best.best v in_v) refl label_is, refl);
+        hops = least_by_hops A g (s ∷ []) v (hops_of t v) (hops_of t v) k (tree.hops v in_v) refl hops_is;
+        route = from_one s v list.0 (follows (s ∷ []) t tree v in_v list.0 list.1);
+      })
+
+  pair_exists : (s v : ℕ) → HasVertex g s → HasVertex g v → (found : Option ToldFound) × IsPairAnswer A g s v found
+  pair_exists s v in_s in_v =
+      let one = All-cons (HasVertex g) s [] in_s (All-nil (HasVertex g)) in
+      let labels = labelled (s ∷ []) one in
+      let tree = planted (s ∷ []) one labels.0 labels.1 in
+      pair_by s v labels.0 tree.0 in_v labels.1 tree.1 (λ k is. tree.3 v k in_v is) (label_of labels.0 v) (hops_of tree.0 v) refl refl
+
+  answer_exists : (q : Question) → AsksWithin g q → (t : Told) × IsAnswer A g q t
+  answer_exists (FromSource s) in_s =
+      let lines = lines_exist (s ∷ []) (All-cons (HasVertex g) s [] in_s (All-nil (HasVertex g))) in
+      (ToldSource s lines.0, (refl, lines.1))
+  answer_exists (BetweenPair s v) in_both = let found = pair_exists s v in_both.0 in_both.1 in (ToldPair s v found.0, (refl, refl, found.1))
+  answer_exists (FromSources ss) inside = let lines = lines_exist ss inside in (ToldMulti ss lines.0, (refl, lines.1))
+
+  answers_exist : (qs : List Question) → All (AsksWithin g) qs → (ts : List Told) × AreAnswers A g qs ts
+  answers_exist [] within = ([], tt)
+  answers_exist (q ∷ qs) within =
+      let first = answer_exists q (All-head (AsksWithin g) q qs within) in
+      let more = answers_exist qs (All-tail (AsksWithin g) q qs within) in
+      (first.0 ∷ more.0, (first.1, more.1))
+
+  pub list_exists : (asked : Asked) → All (AsksWithin g) asked.questions → (told : ToldList) × IsAnswerList A g asked told
+  list_exists asked within =
+      let answers = answers_exist asked.questions within in
+      (record { name = A.name; kind = asked.kind; n = g.vertices; list = answers.0 }, record { name_is = refl; kind_is = refl; n_is = refl; answers = answers.1 })

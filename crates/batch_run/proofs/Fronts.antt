@@ -1,0 +1,42 @@
+-- The first answers begin the text of all answers.
+use Rattle.std.proofs.Common.{◌≡◌, ℕ, List, ◌++◌, take, sym, ap, ◌∙◌, append_assoc, All, Option, Result, Ok, Err, Vec}
+use Rattle.std.specs.declared.alloc.Global.{Global}
+use Rattle.std.proofs.lemmas.List.Elements.{All-map}
+use Rattle.road_graph.specs.Roads.{Roads}
+use Rattle.road_files.specs.Asked.{Question, FromSource, FromSources, Asked, asked_of, of_pair, of_list, AreSourcesOf, AreQuestionsOf}
+use Rattle.road_files.specs.declared.questions.Questions.{Questions}
+use Rattle.road_files.specs.declared.questions.Questions.TheVariants as variants
+use Rattle.path_algebra.specs.Algebra.{Algebra}
+use Rattle.answer_text.specs.Told.{Told, ToldList}
+use Rattle.answer_text.specs.IsAnswer.{AreAnswers, IsAnswerList}
+use Rattle.answer_text.specs.AnswerText.{answers_text}
+use Rattle.batch_run.specs.declared.faults.RunFault.{RunFault}
+use Rattle.batch_run.specs.Answered.{AsksWithin, begun_text, WroteFirst, WroteFront, WroteAllOrFirst, WroteAllOrFront}
+
+-- questions that a reader gives ask within the graph
+asks_by : (g : Roads) (q : Questions) → AreQuestionsOf g.vertices q → All (AsksWithin g) (asked_of q).questions
+asks_by g (variants.Sources vs) h = All-map (AsksWithin g) FromSource vs.items h.within
+asks_by g (variants.Pairs ps) h = All-map (AsksWithin g) of_pair ps.items h.within
+asks_by g (variants.Multi ls) h = All-map (AsksWithin g) of_list ls.items (λ k d lt. (h.within k d lt).vertices)
+
+module _ {V : Type 0} (A : Algebra V) (g : Roads) (q : Questions) (within : AreQuestionsOf g.vertices q)
+    (exists : (asked : Asked) → All (AsksWithin g) asked.questions → (told : ToldList) × IsAnswerList A g asked told)
+    (begins : (asked : Asked) (count : ℕ) (ts : List Told) (all : ToldList) → AreAnswers A g (take count asked.questions) ts → IsAnswerList A g asked all →
+        (rest : List ℕ) × (answers_text all ≡ begun_text A asked ts ++ rest)) where
+
+  front_of_first : (old new : Option (List ℕ)) → WroteFirst A g (asked_of q) old new → WroteFront A g (asked_of q) old new
+  front_of_first old new w =
+      let all = exists (asked_of q) (asks_by g q within) in
+      let more = begins (asked_of q) w.count w.answers all.0 w.right all.1 in
+      record {
+        answers = all.0;
+        right = all.1;
+        front = w.front;
+        rest = w.rest ++ more.0;
+        text_is = more.1 ∙ ap (λ x. x ++ more.0) w.text_is ∙ append_assoc w.front w.rest more.0;
+        bytes = w.bytes;
+      }
+
+  pub all_or_front : (old new : Option (List ℕ)) (r : Result (Unit {0}) RunFault) → WroteAllOrFirst A g (asked_of q) old new r → WroteAllOrFront A g (asked_of q) old new r
+  all_or_front old new (Ok u) w = w
+  all_or_front old new (Err f) w = front_of_first old new w

@@ -1,0 +1,132 @@
+-- A batch on its way: the first questions were answered, and their answers written.
+use Rattle.std.proofs.Common.{◌≡◌, ℕ, ◌+◌, ◌<◌, ◌≤◌, List, [], ◌∷◌, ◌++◌, length, take, get_or, Option, Some, None, Result, Ok, Err, inl, inr, ◌⊎◌, refl, sym, ap, ◌∙◌, subst, append_assoc, append-nil, arith, suc}
+use Rattle.std.proofs.lemmas.List.{take_all, take_more}
+use Rattle.std.specs.Io.KnownBytes.{Appends, Keeps}
+use Rattle.std.proofs.KnownBytes.{Appends-nil}
+use Rattle.std.specs.Result.{OnOk, IfErr}
+use Rattle.road_graph.specs.Roads.{Roads}
+use Rattle.road_text.specs.Written.{Left, Fell}
+use Rattle.road_text.proofs.WriteLaws.{left_more, left_fell}
+use Rattle.road_files.specs.Asked.{Question, Asked}
+use Rattle.road_files.specs.declared.questions.Kind.{Kind}
+use Rattle.path_algebra.specs.declared.name.AlgebraName.{AlgebraName}
+use Rattle.path_algebra.specs.Algebra.{Algebra}
+use Rattle.answer_text.specs.Told.{Told}
+use Rattle.answer_text.specs.IsAnswer.{IsAnswer, AreAnswers}
+use Rattle.answer_text.specs.AnswerText.{answer_text, blocks_text, header_text}
+use Rattle.batch_run.specs.declared.faults.RunFault.{RunFault}
+use Rattle.batch_run.specs.Answered.{AnswersAt, WroteAnswers, begun_text, WroteFirst, WroteAllOrFirst}
+
+-- the first i questions were answered, and the answers written
+pub record Progress {V : Type 0} (A : Algebra V) (g : Roads) (asked : Asked) (i : ℕ) (old new : Option (List ℕ)) (before after : ℕ) : Type 0 where
+  pub answers : List Told
+  pub right : AreAnswers A g (take i asked.questions) answers
+  pub left : Left old new before after (begun_text A asked answers) []
+
+blocks-push : (ts : List Told) (t : Told) → blocks_text (ts ++ t ∷ []) ≡ blocks_text ts ++ answer_text t
+blocks-push [] t = append-nil (answer_text t)
+blocks-push (x ∷ ts) t = ap (λ y. answer_text x ++ y) (blocks-push ts t) ∙ sym (append_assoc (answer_text x) (blocks_text ts) (answer_text t))
+
+module _ {V : Type 0} (A : Algebra V) (g : Roads) where
+  answers-push : (qs : List Question) (ts : List Told) (q : Question) (t : Told) → AreAnswers A g qs ts → IsAnswer A g q t → AreAnswers A g (qs ++ q ∷ []) (ts ++ t ∷ [])
+  answers-push [] [] q t h a = (a, tt)
+  answers-push (x ∷ qs) (y ∷ ts) q t h a = (h.0, answers-push qs ts q t h.1 a)
+  answers-push [] (y ∷ ts) q t h a = absurd h
+  answers-push (x ∷ qs) [] q t h a = absurd h
+
+module _ {V : Type 0} (A : Algebra V) (asked : Asked) where
+  begun-push : (ts : List Told) (t : Told) → begun_text A asked (ts ++ t ∷ []) ≡ begun_text A asked ts ++ answer_text t
+  begun-push ts t =
+      let head = header_text asked.kind (length asked.questions) A.name in
+      ap (λ y. head ++ y) (blocks-push ts t) ∙ sym (append_assoc head (blocks_text ts) (answer_text t))
+
+module _ {V : Type 0} (A : Algebra V) (g : Roads) (asked : Asked) where
+  -- the header as the writer was given it
+  module _ (kind : Kind) (count : ℕ) (name : AlgebraName) (same_kind : kind ≡ asked.kind) (same_count : count ≡ length asked.questions) (same_name : name ≡ A.name) (old new : Option (List ℕ)) (b a : ℕ) where
+    header_is : header_text kind count name ≡ begun_text A asked []
+    header_is = ap (λ k. header_text k count name) same_kind ∙ ap (λ n. header_text asked.kind n name) same_count ∙ ap (λ m. header_text asked.kind (length asked.questions) m) same_name
+        ∙ sym (append-nil (header_text asked.kind (length asked.questions) A.name))
+
+    pub start : Left old new b a (header_text kind count name) [] → Progress A g asked 0 old new b a
+    start h = record { answers = []; right = tt; left = subst (λ t. Left old new b a t []) header_is h }
+
+    pub header_fell : Fell old new b a (header_text kind count name) → WroteFirst A g asked old new
+    header_fell h = record { count = 0; answers = []; right = tt; front = h.front; rest = h.rest; text_is = sym header_is ∙ h.text_is; bytes = h.bytes }
+
+  pub stop : (i : ℕ) (old new : Option (List ℕ)) (b a : ℕ) → Progress A g asked i old new b a → WroteFirst A g asked old new
+  stop i old new b a p = record { count = i; answers = p.answers; right = p.right; front = p.left.front; rest = []; text_is = p.left.text_is; bytes = p.left.bytes }
+
+  module _ (i : ℕ) (old mid new : Option (List ℕ)) (b m a : ℕ) (t : Told) (lt : i < length asked.questions) (is : AnswersAt A g asked.questions i t) (p : Progress A g asked i old mid b m) (q : Question) where
+    now_right : AreAnswers A g (take (i + 1) asked.questions) (p.answers ++ t ∷ [])
+    now_right = subst (λ x. AreAnswers A g x (p.answers ++ t ∷ [])) (sym (take_more asked.questions i q lt)) (answers-push A g (take i asked.questions) p.answers (get_or asked.questions i q) t p.right (is q))
+
+    begun : Left old mid b m (begun_text A asked (p.answers ++ t ∷ [])) (answer_text t ++ [])
+    begun = record {
+      front = p.left.front;
+      text_is = begun-push A asked p.answers t ∙ ap (λ x. x ++ answer_text t) (p.left.text_is ∙ append-nil p.left.front) ∙ ap (λ x. p.left.front ++ x) (sym (append-nil (answer_text t)));
+      bytes = p.left.bytes;
+      sound = p.left.sound;
+    }
+
+    pub step : Left mid new m a (answer_text t) [] → Progress A g asked (i + 1) old new b a
+    step h = record { answers = p.answers ++ t ∷ []; right = now_right; left = left_more begun h }
+
+    pub fell : Fell mid new m a (answer_text t) → WroteFirst A g asked old new
+    fell h = let f = left_fell [] begun h in
+      record { count = i + 1; answers = p.answers ++ t ∷ []; right = now_right; front = f.front; rest = f.rest; text_is = f.text_is; bytes = f.bytes }
+
+-- there is one answer for each question
+answers_count : {V : Type 0} (A : Algebra V) (g : Roads) (qs : List Question) (ts : List Told) → AreAnswers A g qs ts → length ts ≡ length qs
+answers_count A g [] [] h = refl
+answers_count A g (q ∷ qs) (t ∷ ts) h = ap suc (answers_count A g qs ts h.1)
+answers_count A g [] (t ∷ ts) h = absurd h
+answers_count A g (q ∷ qs) [] h = absurd h
+
+keeps_appends : (old mid new : Option (List ℕ)) (x : List ℕ) → Appends old mid x → Keeps mid new → Appends old new x
+keeps_appends None mid new x p q = tt
+keeps_appends (Some o) None new x p q = absurd p
+keeps_appends (Some o) (Some m) None x p q = absurd q
+keeps_appends (Some o) (Some m) (Some n) x p q = q ∙ p
+
+module _ {V : Type 0} (A : Algebra V) (g : Roads) (asked : Asked) where
+  pub end : (i : ℕ) (old new : Option (List ℕ)) (b a : ℕ) → length asked.questions ≤ i → Progress A g asked i old new b a → WroteAnswers A g asked old new
+  end i old new b a le p =
+      let right : AreAnswers A g asked.questions p.answers = subst (λ x. AreAnswers A g x p.answers) (take_all i asked.questions le) p.right in
+      record {
+        answers = record { name = A.name; kind = asked.kind; n = g.vertices; list = p.answers };
+        right = record { name_is = refl; kind_is = refl; n_is = refl; answers = right };
+        bytes = subst (Appends old new)
+          (sym (p.left.text_is ∙ append-nil p.left.front) ∙ ap (λ n. header_text asked.kind n A.name ++ blocks_text p.answers) (sym (answers_count A g asked.questions p.answers right)))
+          p.left.bytes;
+      }
+
+  module _ (old mid new : Option (List ℕ)) (keeps : Keeps mid new) where
+    all_kept : WroteAnswers A g asked old mid → WroteAnswers A g asked old new
+    all_kept w = record { answers = w.answers; right = w.right; bytes = keeps_appends old mid new _ w.bytes keeps }
+
+    first_kept : WroteFirst A g asked old mid → WroteFirst A g asked old new
+    first_kept w = record { count = w.count; answers = w.answers; right = w.right; front = w.front; rest = w.rest; text_is = w.text_is; bytes = keeps_appends old mid new w.front w.bytes keeps }
+
+  first_of_all : (old new : Option (List ℕ)) → WroteAnswers A g asked old new → WroteFirst A g asked old new
+  first_of_all old new w =
+      let text = begun_text A asked w.answers.list in
+      record {
+        count = length asked.questions;
+        answers = w.answers.list;
+        right = subst (λ x. AreAnswers A g x w.answers.list) (sym (take_all (length asked.questions) asked.questions (omega arith))) w.right.answers;
+        front = text;
+        rest = [];
+        text_is = sym (append-nil text);
+        bytes = subst (Appends old new)
+          (ap (λ k. header_text k (length w.answers.list) w.answers.name ++ blocks_text w.answers.list) w.right.kind_is
+            ∙ ap (λ n. header_text asked.kind n w.answers.name ++ blocks_text w.answers.list) (answers_count A g asked.questions w.answers.list w.right.answers)
+            ∙ ap (λ m. header_text asked.kind (length asked.questions) m ++ blocks_text w.answers.list) w.right.name_is)
+          w.bytes;
+      }
+
+  -- what was written stays when it is passed on, and the first fault stays
+  pub flushed : (F : RunFault) (Y Z : Type 0) (old mid new : Option (List ℕ)) → Keeps mid new → (answered r : Result (Unit {0}) RunFault) → WroteAllOrFirst A g asked old mid answered →
+      OnOk r ((answered ≡ Ok tt) × Y) → IfErr r (λ f. (answered ≡ Err f) ⊎ ((f ≡ F) × (answered ≡ Ok tt) × Z)) → WroteAllOrFirst A g asked old new r
+  flushed F Y Z old mid new keeps answered (Ok u) was ok err = all_kept old mid new keeps (subst (WroteAllOrFirst A g asked old mid) ok.0 was)
+  flushed F Y Z old mid new keeps answered (Err f) was ok (inl e) = first_kept old mid new keeps (subst (WroteAllOrFirst A g asked old mid) e was)
+  flushed F Y Z old mid new keeps answered (Err f) was ok (inr (x, e, y)) = first_of_all old new (all_kept old mid new keeps (subst (WroteAllOrFirst A g asked old mid) e was))

@@ -1,0 +1,4 @@
+pub mod InRange
+pub mod Told
+pub mod Answered
+pub mod Ran

@@ -1,0 +1,60 @@
+-- What a batch promises of its inputs and its output.
+use Rattle.std.specs.Prelude.{◌≡◌, ◌≢◌, ℕ, ◌<◌, ◌≤◌, ◌⊎◌, List, Option, None, Result, Ok, Err, IfSome}
+use Rattle.road_graph.specs.Roads.{Roads, IsRoads}
+use Rattle.road_text.specs.Rules.{text_read}
+use Rattle.road_files.specs.Asked.{Asked}
+use Rattle.road_files.specs.GraphFiles.{gr_rules}
+use Rattle.road_files.specs.QuestionFiles.{question_rules}
+use Rattle.road_files.specs.BundleFiles.{bundle_rules}
+use Rattle.path_algebra.specs.Algebra.{Algebra}
+use Rattle.batch_run.specs.declared.faults.RunFault.{RunFault}
+use Rattle.batch_run.specs.declared.faults.File.{File}
+use Rattle.batch_run.specs.declared.faults.File.TheVariants.{NoFile}
+use Rattle.batch_run.specs.Answered.{WroteAnswers, WroteFront}
+
+-- two inputs, where they are told, are the texts of this graph and of these questions over it
+pub record IsPairOf (graph questions : Option (List ℕ)) (g : Roads) (asked : Asked) : Type 0 where
+  pub graph_is : IfSome graph (λ b. text_read gr_rules b ≡ Ok g)
+  pub questions_are : IfSome questions (λ b. text_read (question_rules g.vertices None) b ≡ Ok asked)
+
+-- an input, where it is told, is the text of this graph and of these questions over it
+abbrev pub IsBundleOf : Option (List ℕ) → Roads → Asked → Type 0
+IsBundleOf input g asked = IfSome input (λ b. text_read bundle_rules b ≡ Ok (g, asked))
+
+-- the answers to what was read were written, whole
+pub record Done {V : Type 0} (A : Algebra V) (IsRead : Roads → Asked → Type 0) (old new : Option (List ℕ)) : Type 0 where
+  pub graph : Roads
+  pub asked : Asked
+  pub read : IsRead graph asked
+  pub wrote : WroteAnswers A graph asked old new
+
+-- a front of them was
+pub record Begun {V : Type 0} (A : Algebra V) (IsRead : Roads → Asked → Type 0) (old new : Option (List ℕ)) : Type 0 where
+  pub graph : Roads
+  pub asked : Asked
+  pub read : IsRead graph asked
+  pub wrote : WroteFront A graph asked old new
+
+-- the fault of a line, and none of reading or of memory
+abbrev pub IsTextFault : RunFault → Type 0
+IsTextFault f = (2 ≤ f.number) × (f.number ≢ 3)
+
+-- the graph has this fault
+abbrev pub IsGraphFault : Option (List ℕ) → RunFault → Type 0
+IsGraphFault graph f = IsTextFault f → IfSome graph (λ b. text_read gr_rules b ≡ Err (record { number = f.number; line = f.line }))
+
+-- the graph has none, and the questions have this one
+abbrev pub IsQuestionsFault : Option (List ℕ) → Option (List ℕ) → RunFault → Type 0
+IsQuestionsFault graph questions f =
+    (g : Roads) × IfSome graph (λ b. text_read gr_rules b ≡ Ok g)
+    × (IsTextFault f → IfSome questions (λ b. text_read (question_rules g.vertices None) b ≡ Err (record { number = f.number; line = f.line })))
+
+-- the bundle has this fault
+abbrev pub IsBundleFault : Option (List ℕ) → RunFault → Type 0
+IsBundleFault input f = IsTextFault f → IfSome input (λ b. text_read bundle_rules b ≡ Err (record { number = f.number; line = f.line }))
+
+-- a fault of one of these inputs, with a reader's number; or one of the run: memory, a write, or a setting
+abbrev pub IsFaultOf : (File → Type 0) → RunFault → Type 0
+IsFaultOf inputs f =
+    (inputs f.file × (1 ≤ f.number) × (f.number ≤ 36))
+    ⊎ ((f.file ≡ NoFile) × (f.line ≡ 0) × ((f.number ≡ 3) ⊎ ((f.number ≡ 42) ⊎ (f.number ≡ 43))))

@@ -1,0 +1,169 @@
+//! Runs a batch from bytes to bytes.
+ghost use Rattle.std.specs.Prelude.{◌≡◌, ◌≢◌, ℕ, ◌≤◌, ◌<◌, ◌↔◌, ◌⊎◌, [], Ok, Err, OnOk, IfErr, length};
+ghost use Rattle.std.specs.Io.KnownBytes.{Keeps};
+ghost use Rattle.road_files.specs.Asked.{AreQuestionsOf, asked_of};
+ghost use Rattle.batch_run.specs.Answered.{WroteAllOrFirst, WroteAllOrFront};
+ghost use Rattle.batch_run.specs.InRange.{AreInRange};
+ghost use Rattle.batch_run.specs.Ran.{Done, Begun, IsPairOf, IsBundleOf, IsGraphFault, IsQuestionsFault, IsBundleFault, IsFaultOf};
+
+use crate::answering::answer_at;
+use crate::faults::{fault_in, fault_of_run, File, RunFault};
+use crate::gate::Gate;
+use crate::laws::answers_exist;
+use crate::settings::Settings;
+use answer_text::{first_answers_begin_all, write_answer, write_header};
+use path_algebra::PathAlgebra;
+use road_files::{read_bundle, read_gr, read_questions, Questions};
+use road_graph::Graph;
+use road_text::{RoadRead, RoadWrite};
+use std::alloc::Global;
+
+/// Want of memory.
+const MEMORY: u8 = 3;
+
+/// A write that failed, took nothing, or was not passed on.
+const WRITE: u8 = 42;
+
+/// A setting that is out of its range.
+const SETTINGS: u8 = 43;
+
+/// Answers all questions in order, and stops at the first fault.
+fn answer_all<A: PathAlgebra, W: RoadWrite>(alloc: Global, algebra: A, graph: &Graph, questions: &Questions, out: &mut W) -> Result<(), RunFault>
+    requires { AreQuestionsOf graph.now.vertices questions.now }
+    ensures text { WroteAllOrFirst (A.meaning algebra) graph.now (asked_of questions.now) (W.written out.old) (W.written out.new) result }
+    ensures sound { OnOk result (W.failures out.new ≡ W.failures out.old) }
+    ensures later { IfErr result (λ f. (f.file ≡ File.NoFile) × (f.line ≡ 0) × ((f.number ≡ 3) ⊎ (f.number ≡ 42)) × (f.number ≡ 42 → W.failures out.old < W.failures out.new)) }
+{
+    match write_header(out, questions.kind(), questions.len() as u32, algebra.name()) {
+        Ok(()) => {}
+        Err(_) => return Err(fault_of_run(WRITE)),
+    }
+    for i in 0..questions.len() {
+        match answer_at(alloc, algebra, graph, questions, i) {
+            Ok(answer) => match write_answer(out, &answer) {
+                Ok(()) => {}
+                Err(_) => return Err(fault_of_run(WRITE)),
+            },
+            Err(_) => return Err(fault_of_run(MEMORY)),
+        }
+    }
+    Ok(())
+}
+
+/// Passes on what was written, also after a fault that was no failed write: the first fault stays.
+fn flush_all<W: RoadWrite>(out: &mut W, answered: Result<(), RunFault>) -> Result<(), RunFault>
+    ensures bytes { Keeps (W.written out.old) (W.written out.new) }
+    ensures passed_on { OnOk result ((answered ≡ Ok tt) × (W.held out.new ≡ [])) }
+    ensures sound { OnOk result (W.failures out.new ≡ W.failures out.old) }
+    ensures fault { IfErr result (λ f. (answered ≡ Err f) ⊎ ((f ≡ record { number = 42; file = File.NoFile; line = 0 }) × (answered ≡ Ok tt) × (W.failures out.old < W.failures out.new))) }
+    ensures more { W.failures out.old ≤ W.failures out.new }
+{
+    match answered {
+        Err(fault) => {
+            if fault.number != WRITE {
+                let _ = out.flush();
+            }
+            Err(fault)
+        }
+        Ok(()) => match out.flush() {
+            Ok(()) => Ok(()),
+            Err(_) => Err(fault_of_run(WRITE)),
+        },
+    }
+}
+
+/// Answers all questions, and passes the answers on.
+fn answer_and_flush<A: PathAlgebra, W: RoadWrite>(alloc: Global, algebra: A, graph: &Graph, questions: &Questions, out: &mut W) -> Result<(), RunFault>
+    requires { AreQuestionsOf graph.now.vertices questions.now }
+    ensures text { WroteAllOrFront (A.meaning algebra) graph.now (asked_of questions.now) (W.written out.old) (W.written out.new) result }
+    ensures passed_on { OnOk result (W.held out.new ≡ []) }
+    ensures sound { OnOk result (W.failures out.new ≡ W.failures out.old) }
+    ensures later { IfErr result (λ f. (f.file ≡ File.NoFile) × (f.line ≡ 0) × ((f.number ≡ 3) ⊎ (f.number ≡ 42)) × (f.number ≡ 42 → W.failures out.old < W.failures out.new)) }
+{
+    answers_exist(algebra);
+    first_answers_begin_all(algebra);
+    let _n = graph.vertices();
+    let answered = answer_all(alloc, algebra, graph, questions, out);
+    flush_all(out, answered)
+}
+
+/// Answers the questions of one input over the graph of another, and writes the answers.
+///
+/// The settings are tested first (43), then the graph is read and then the questions, and then each question is answered and
+/// written, in order; at last the output is flushed. The first fault in this order is told. After a fault of an input nothing
+/// has been written; after a later one (3, 42) a front of the answers' text has. The plain solver answers all questions, whatever
+/// the settings say, and the gate is not asked.
+pub fn run_pair<A: PathAlgebra, G: RoadRead, Q: RoadRead, W: RoadWrite, T: Gate>(
+    alloc: Global,
+    algebra: A,
+    graph_in: &mut G,
+    questions_in: &mut Q,
+    out: &mut W,
+    settings: &Settings,
+    _gate: &T,
+) -> Result<(), RunFault>
+    ensures done { OnOk result (Done (A.meaning algebra) (IsPairOf (G.left graph_in.old) (Q.left questions_in.old)) (W.written out.old) (W.written out.new)) }
+    ensures passed_on { OnOk result (W.held out.new ≡ []) }
+    ensures sound { OnOk result ((G.failures graph_in.new ≡ G.failures graph_in.old) × (Q.failures questions_in.new ≡ Q.failures questions_in.old) × (W.failures out.new ≡ W.failures out.old)) }
+
+    // Which fault is told, and what stood in the input.
+    ensures settings { (result ≡ Err (record { number = 43; file = File.NoFile; line = 0 })) ↔ (AreInRange settings.now → ⊥) }
+    ensures graph { IfErr result (λ f. f.file ≡ File.Graph → IsGraphFault (G.left graph_in.old) f) }
+    ensures questions { IfErr result (λ f. f.file ≡ File.Questions → IsQuestionsFault (G.left graph_in.old) (Q.left questions_in.old) f) }
+    ensures read { IfErr result (λ f. f.number ≡ 1 → (G.failures graph_in.new ≢ G.failures graph_in.old) ⊎ (Q.failures questions_in.new ≢ Q.failures questions_in.old)) }
+    ensures write { IfErr result (λ f. f.number ≡ 42 → W.failures out.old < W.failures out.new) }
+    ensures kinds { IfErr result (λ f. IsFaultOf (λ file. (file ≡ File.Graph) ⊎ (file ≡ File.Questions)) f) }
+
+    // What a fault leaves.
+    ensures nothing { IfErr result (λ f. f.file ≢ File.NoFile → Keeps (W.written out.old) (W.written out.new)) }
+    ensures untouched { IfErr result (λ f. f.number ≡ 43 → (graph_in.new ≡ graph_in.old) × (questions_in.new ≡ questions_in.old) × (out.new ≡ out.old)) }
+    ensures begun { IfErr result (λ f. f.file ≡ File.NoFile → f.number ≢ 43 → Begun (A.meaning algebra) (IsPairOf (G.left graph_in.old) (Q.left questions_in.old)) (W.written out.old) (W.written out.new)) }
+{
+    if !settings.are_in_range() {
+        return Err(fault_of_run(SETTINGS));
+    }
+    let graph = match read_gr(alloc, graph_in) {
+        Ok(graph) => graph,
+        Err(fault) => return Err(fault_in(File::Graph, fault)),
+    };
+    let questions = match read_questions(alloc, questions_in, graph.vertices()) {
+        Ok(questions) => questions,
+        Err(fault) => return Err(fault_in(File::Questions, fault)),
+    };
+    answer_and_flush(alloc, algebra, &graph, &questions, out)
+}
+
+/// Answers the questions of a bundle, a graph and questions over it in one input, as `run_pair` does.
+pub fn run_bundle<A: PathAlgebra, B: RoadRead, W: RoadWrite, T: Gate>(
+    alloc: Global,
+    algebra: A,
+    input: &mut B,
+    out: &mut W,
+    settings: &Settings,
+    _gate: &T,
+) -> Result<(), RunFault>
+    ensures done { OnOk result (Done (A.meaning algebra) (IsBundleOf (B.left input.old)) (W.written out.old) (W.written out.new)) }
+    ensures passed_on { OnOk result (W.held out.new ≡ []) }
+    ensures sound { OnOk result ((B.failures input.new ≡ B.failures input.old) × (W.failures out.new ≡ W.failures out.old)) }
+
+    // Which fault is told, and what stood in the input.
+    ensures settings { (result ≡ Err (record { number = 43; file = File.NoFile; line = 0 })) ↔ (AreInRange settings.now → ⊥) }
+    ensures bundle { IfErr result (λ f. f.file ≡ File.Bundle → IsBundleFault (B.left input.old) f) }
+    ensures read { IfErr result (λ f. f.number ≡ 1 → B.failures input.new ≢ B.failures input.old) }
+    ensures write { IfErr result (λ f. f.number ≡ 42 → W.failures out.old < W.failures out.new) }
+    ensures kinds { IfErr result (λ f. IsFaultOf (λ file. file ≡ File.Bundle) f) }
+
+    // What a fault leaves.
+    ensures nothing { IfErr result (λ f. f.file ≢ File.NoFile → Keeps (W.written out.old) (W.written out.new)) }
+    ensures untouched { IfErr result (λ f. f.number ≡ 43 → (input.new ≡ input.old) × (out.new ≡ out.old)) }
+    ensures begun { IfErr result (λ f. f.file ≡ File.NoFile → f.number ≢ 43 → Begun (A.meaning algebra) (IsBundleOf (B.left input.old)) (W.written out.old) (W.written out.new)) }
+{
+    if !settings.are_in_range() {
+        return Err(fault_of_run(SETTINGS));
+    }
+    let (graph, questions) = match read_bundle(alloc, input) {
+        Ok(read) => read,
+        Err(fault) => return Err(fault_in(File::Bundle, fault)),
+    };
+    answer_and_flush(alloc, algebra, &graph, &questions, out)
+}

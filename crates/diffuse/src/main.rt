@@ -1,0 +1,94 @@
+//! `diffuse`: answers shortest, widest, reachability, hop and reliability questions over road graphs.
+#![tactic(auto)]
+
+mod chosen;
+mod jobs;
+mod options;
+mod report;
+
+use batch_run::{fault_of_run, RunFault};
+use chosen::{choose, Chosen};
+use clap::Error;
+use clap::error::ErrorKind;
+use options::{read_job, Job, Wanted};
+use path_algebra::AlgebraName;
+use report::report;
+use std::alloc::AllocError;
+use std::process::ExitCode;
+use std::rt::{Env, Files};
+use std::{env, io};
+
+/// Want of memory.
+const MEMORY: u8 = 3;
+
+/// A setting that is out of its range, or a limit that does not go with the algebra.
+const SETTINGS: u8 = 43;
+
+/// The exit status of a wrong command line.
+const USAGE: u8 = 2;
+
+/// Prints what the command line's parser says: help on standard output, a usage fault on standard error.
+fn usage<R: Print + Eprint>(rt: &R, error: &Error) -> u8 {
+    if error.kind() == ErrorKind::OutOfMemory {
+        return report(rt, fault_of_run(MEMORY));
+    }
+    let _ = error.print(rt);
+    if error.use_stderr() { USAGE } else { 0 }
+}
+
+/// The algebra that is wanted: a fault where its limit is missing, or does not belong.
+fn algebra_of(wanted: &Wanted<'_>) -> Result<Chosen, RunFault> {
+    match AlgebraName::from_text(wanted.algebra.as_bytes()) {
+        Some(name) => match choose(name, wanted.limit) {
+            Some(chosen) => Ok(chosen),
+            None => Err(fault_of_run(SETTINGS)),
+        },
+        None => Err(fault_of_run(SETTINGS)),
+    }
+}
+
+/// Does a job.
+fn perform<R: Files + Input + Print + AllocGlobal>(rt: &R, job: &Job<'_>) -> Result<(), RunFault> {
+    match job {
+        Job::Solve {
+            graph,
+            questions,
+            wanted,
+        } => jobs::solve(rt, algebra_of(wanted)?, graph, questions),
+        Job::Bundle { wanted } => jobs::bundle(rt, algebra_of(wanted)?),
+    }
+}
+
+/// Does what the words of a command line say, and gives the exit status.
+fn run_words<R: Files + Input + Print + Eprint + AllocGlobal>(rt: &R, words: &[String]) -> u8 {
+    match read_job(rt.alloc(), words) {
+        Ok(Some(job)) => match perform(rt, &job) {
+            Ok(()) => 0,
+            Err(fault) => report(rt, fault),
+        },
+        Ok(None) => USAGE,
+        Err(error) => usage(rt, &error),
+    }
+}
+
+/// Takes the words of the command line, and does what they say.
+fn run<R: Env + Files + Input + Print + Eprint + AllocGlobal>(rt: &R) -> u8 {
+    let words: Result<Vec<String>, AllocError> = match env::args(rt) {
+        Ok(words) => words.collect(rt.alloc()),
+        Err(error) => {
+            if error.kind() == io::ErrorKind::OutOfMemory {
+                return report(rt, fault_of_run(MEMORY));
+            }
+            let _ = eprintln!(rt; "error: a word of the command line is no text");
+            return USAGE;
+        }
+    };
+    match words {
+        Ok(words) => run_words(rt, words.as_slice()),
+        Err(_) => report(rt, fault_of_run(MEMORY)),
+    }
+}
+
+fn main(rt: HostRuntime) -> ExitCode {
+    ExitCode::from(run(&rt))
+}

@@ -1,0 +1,8 @@
+pub mod Names
+pub mod Algebra
+pub mod LabelSteps
+pub mod Walks
+pub mod Given
+pub mod Laws
+pub mod Open
+pub mod Tolls

@@ -1,0 +1,59 @@
+//! What a path algebra is.
+ghost use Rattle.std.specs.Prelude.{◌≡◌, Bool};
+ghost use Rattle.path_algebra.specs.Algebra.{Algebra, IsOrder, IsLawful};
+
+use crate::name::AlgebraName;
+
+/// The values of walks, how one more arc changes a value, and which of two values is no worse.
+///
+/// An implementation says by `meaning` what its calls compute, and proves the laws below the last
+/// call. Nothing else is asked of it, and every solver, engine and checker over it is then right.
+/// `tolls.rt`, beside the tests, is a whole implementation of a caller's own.
+pub trait PathAlgebra: Copy + Send + Sync {
+    /// What a walk is worth. Which values of the type occur, `is_value` says.
+    type Value: Copy + Send + Sync;
+
+    /// Which of two values is no worse, whatever the algebra's parameters.
+    ghost order: { Self.Value → Self.Value → Bool };
+
+    /// The operations and the name, as one record.
+    ghost meaning: { Self → Algebra Self.Value };
+
+    /// Whether `v` is a value of this algebra.
+    fn is_value(self, v: Self::Value) -> bool
+        ensures { result ≡ (meaning self).is_value v };
+
+    /// The value of the walk of no arcs.
+    fn origin(self) -> Self::Value
+        ensures { result ≡ (meaning self).origin };
+
+    /// The value of a walk of value `v` and one more arc of weight `w`; none where the arc may not
+    /// be taken from there.
+    fn extend(self, v: Self::Value, w: u32) -> Option<Self::Value>
+        ensures { result ≡ (meaning self).extend v w };
+
+    /// Whether `a` is no worse than `b`.
+    fn no_worse(a: Self::Value, b: Self::Value) -> bool
+        ensures { result ≡ order a b };
+
+    /// The number that stands for a value in answer texts.
+    fn code(self, v: Self::Value) -> u64
+        ensures { result ≡ (meaning self).code v };
+
+    /// The value that a number stands for, if there is one.
+    fn value_of(self, code: u64) -> Option<Self::Value>
+        ensures { result ≡ (meaning self).value_of code };
+
+    /// The name that answer texts give this algebra.
+    fn name(self) -> AlgebraName
+        ensures { result ≡ (meaning self).name };
+
+    /// The order is that of the meaning.
+    ghost one_order: { (a : Self) → (meaning a).no_worse ≡ order };
+
+    /// The order is total, transitive and antisymmetric, over the whole type.
+    ghost ordered: { IsOrder order };
+
+    /// The laws of the operations, over what `is_value` allows.
+    ghost lawful: { (a : Self) → IsLawful (meaning a) };
+}

@@ -1,0 +1,38 @@
+//! Path algebras: what a route is worth, which of two routes is better, and the labels that the
+//! vertices of a graph get.
+//!
+//! A `PathAlgebra` gives values to walks: the walk of no arcs has the origin, each further arc
+//! extends a value or refuses it, and a total order says which of two values is no worse. Six
+//! algebras are given, and a caller's own serves just like them once its implementation has proved
+//! the laws. Solvers, engine, trees and checker rest on these laws and on the theorems of `laws`.
+#![tactic(auto)]
+
+mod algebra;
+mod hops;
+mod labels;
+mod laws;
+mod name;
+mod reach;
+mod reliable;
+mod shortest;
+mod widest;
+mod within;
+
+pub use algebra::PathAlgebra;
+pub use hops::Hops;
+pub use labels::Labels;
+pub use laws::{
+    best_values_are_unique, closed_labels_are_best, laws_hold, merged_labels_are_best,
+    names_are_read_back, shortest_values_are_least_sums, tight_arcs_reach,
+};
+pub use name::AlgebraName;
+pub use reach::Reach;
+pub use reliable::Reliable;
+pub use shortest::Shortest;
+pub use widest::Widest;
+pub use within::Within;
+
+#[cfg(test)]
+mod tests;
+#[cfg(test)]
+mod tolls;

@@ -1,0 +1,176 @@
+-- One arc of the vertex that is being settled, and then all of them.
+use Rattle.std.proofs.Common.{◌≡◌, ℕ, zero, suc, ◌+◌, ◌-◌, ◌<◌, ◌≤◌, ◌^◌, ◌⊎◌, inl, inr, Bool, true, false, cond, List, [], ◌∷◌, length, get_or, set, replicate, refl, ap, sym, ◌∙◌, subst, arith, Option, Some, None, get_or-set_same, get_or-set_other, length-set, take, drop, ◌++◌}
+use Rattle.std.proofs.Math.Seq.{take-append_seam}
+use Rattle.std.proofs.lemmas.List.{get_or-replicate, length-replicate}
+use Rattle.std.proofs.lemmas.List.Sums.{sum_by-set}
+use Rattle.std.proofs.lemmas.Bool.{cases_eq}
+use Rattle.std.specs.Prelude.{IsTrue, Contains, ◌↔◌, sum_by}
+use Rattle.road_graph.specs.Roads.{Roads, IsRoads, HasArc, HasVertex, arc_of, ListsArcsFrom}
+use Rattle.path_algebra.specs.Algebra.{Algebra, IsOrder, IsLawful}
+use Rattle.path_algebra.specs.Walks.{IsWalk, IsWalkValue, AreBest, AreWalkValues, IsNotImproving, label_of, improved, offered, offered_if, relaxed}
+use Rattle.path_algebra.proofs.Walks.{IsWalkValue-extend, walk_value_is_value, labels_are_best}
+use Rattle.path_algebra.proofs.Least.{same_no_worse, other_no_worse}
+use Rattle.path_algebra.specs.Open.{IsBestOpen, IsLeastOpen, AnswersBestOpen, better_of}
+use Rattle.path_plain.proofs.Small.{not_in_empty, head_or_tail, false_or_true}
+use Rattle.path_plain.proofs.Search.{IsSettled, Search}
+
+-- what an offer leaves is no worse than what was offered, and than what was there
+module _ {V : Type 0} (no_worse : V → V → Bool) (ordered : IsOrder no_worse) (z : V) where
+  pub left_by_offer : (old : Option V) → (y : V) × (improved no_worse old z ≡ Some y) × IsTrue (no_worse y z)
+  left_by_offer None = (z, refl, same_no_worse no_worse ordered z)
+  left_by_offer (Some y) = elim (false_or_true (no_worse y z)) [
+    | inl worse ↦ (z, rw worse refl, same_no_worse no_worse ordered z)
+    | inr kept ↦ (y, rw kept refl, kept)
+  ]
+
+  pub improves : (y : V) → (w : V) × (improved no_worse (Some y) z ≡ Some w) × IsTrue (no_worse w y)
+  improves y = elim (false_or_true (no_worse y z)) [
+    | inl worse ↦ (z, rw worse refl, other_no_worse no_worse ordered y z worse)
+    | inr kept ↦ (y, rw kept refl, same_no_worse no_worse ordered y)
+  ]
+
+  pub old_or_offered : (old : Option V) (y : V) → improved no_worse old z ≡ Some y → (old ≡ Some y) ⊎ (z ≡ y)
+  old_or_offered None y e = inr (cc)
+  old_or_offered (Some w) y e = elim (false_or_true (no_worse w z)) [
+    | inl worse ↦ let f : improved no_worse (Some w) z ≡ Some z = rw worse refl in let k : Some z ≡ Some y = sym f ∙ e in inr (cc)
+    | inr kept ↦ let f : improved no_worse (Some w) z ≡ Some w = rw kept refl in inl (sym f ∙ e)
+  ]
+
+  pub kept_label : (w : V) → IsTrue (no_worse w z) → improved no_worse (Some w) z ≡ Some w
+  kept_label w h = rw h refl
+
+module _ {V : Type 0} (A : Algebra V) (lawful : IsLawful A) (g : Roads) (roads : IsRoads g) (s : ℕ) (in_s : HasVertex g s) (settled : List Bool) (x : V)
+    (labels : List (Option V)) (a : ℕ) (rest : List ℕ) (known : Search A g s labels settled x (a ∷ rest)) (z : V) (ex : A.extend x (arc_of g a).weight ≡ Some z) where
+  abbrev after : List (Option V)
+  after = offered A.no_worse labels (arc_of g a).head z
+
+  after_count : length after ≡ g.vertices
+  after_count = simp length-set known.labels_count
+
+  this : HasArc g a × IsSettled settled (arc_of g a).tail × (label_of labels (arc_of g a).tail ≡ Some x)
+  this = known.current a (0, omega arith, refl)
+
+  tail_in : HasVertex g (arc_of g a).tail
+  tail_in = (roads.ends a this.0).0
+
+  head_in : HasVertex g (arc_of g a).head
+  head_in = (roads.ends a this.0).1
+
+  x_is_value : IsTrue (A.is_value x)
+  x_is_value = walk_value_is_value A lawful g roads (s ∷ []) (arc_of g a).tail x (known.values (arc_of g a).tail x tail_in this.2)
+
+  x_before_offer : IsTrue (A.no_worse x z)
+  x_before_offer = lawful.never_better x (arc_of g a).weight z x_is_value (roads.weights a this.0) ex
+
+  at_head : (v : ℕ) → HasVertex g v → v ≡ (arc_of g a).head → label_of after v ≡ improved A.no_worse (label_of labels v) z
+  at_head v in_v e =
+      let lt : (arc_of g a).head - 1 < length labels = omega (arith, head_in.0, head_in.1, known.labels_count) in
+      rw e (get_or-set_same labels ((arc_of g a).head - 1) (improved A.no_worse (label_of labels (arc_of g a).head) z) None lt)
+
+  elsewhere : (v : ℕ) → HasVertex g v → (v ≡ (arc_of g a).head → ⊥) → label_of after v ≡ label_of labels v
+  elsewhere v in_v ne =
+      let other : v - 1 ≡ (arc_of g a).head - 1 → ⊥ = λ e. ne (omega (arith, in_v.0, head_in.0)) in
+      get_or-set_other labels ((arc_of g a).head - 1) (v - 1) (improved A.no_worse (label_of labels (arc_of g a).head) z) None other
+
+  never_worse : (v : ℕ) (y : V) → HasVertex g v → label_of labels v ≡ Some y → (w : V) × (label_of after v ≡ Some w) × IsTrue (A.no_worse w y)
+  never_worse v y in_v e = elim (cases_eq v (arc_of g a).head) [
+    | inl same ↦ let i = improves A.no_worse lawful.ordered z y in
+        (i.0, at_head v in_v same ∙ ap (λ (o : Option V). improved A.no_worse o z) e ∙ i.1, i.2)
+    | inr other ↦ (y, elsewhere v in_v other ∙ e, same_no_worse A.no_worse lawful.ordered y)
+  ]
+
+  settled_kept : (v : ℕ) → HasVertex g v → IsSettled settled v → label_of after v ≡ label_of labels v
+  settled_kept v in_v h = elim (cases_eq v (arc_of g a).head) [
+    | inl same ↦ let found = known.labelled v in_v h in
+        let k = kept_label A.no_worse lawful.ordered z found.0
+        (lawful.ordered.transitive found.0 x z found.2 x_before_offer) in
+        at_head v in_v same ∙ ap (λ (o : Option V). improved A.no_worse o z) found.1 ∙ k ∙ sym found.1
+    | inr other ↦ elsewhere v in_v other
+  ]
+
+  old_or_new : (v : ℕ) (y : V) → HasVertex g v → label_of after v ≡ Some y → (label_of labels v ≡ Some y) ⊎ (((arc_of g a).head ≡ v) × (z ≡ y))
+  old_or_new v y in_v e = elim (cases_eq v (arc_of g a).head) [
+    | inl same ↦ elim (old_or_offered A.no_worse lawful.ordered z (label_of labels v) y (sym (at_head v in_v same) ∙ e)) [
+      | inl old ↦ inl old
+      | inr new ↦ inr (sym same, new)
+    ]
+    | inr other ↦ inl (sym (elsewhere v in_v other) ∙ e)
+  ]
+
+  not_improving_now : IsNotImproving A g after a
+  not_improving_now y t e f =
+      let same : Some x ≡ Some y = sym this.2 ∙ sym (settled_kept (arc_of g a).tail tail_in this.1) ∙ e in
+      let is : x ≡ y = cc in
+      let both : Some z ≡ Some t = sym ex ∙ ap (λ (v : V). A.extend v (arc_of g a).weight) is ∙ f in
+      let gives : z ≡ t = cc in
+      let l = left_by_offer A.no_worse lawful.ordered z (label_of labels (arc_of g a).head) in
+      (l.0, at_head (arc_of g a).head head_in refl ∙ l.1, subst (λ (v : V). IsTrue (A.no_worse l.0 v)) gives l.2)
+
+  still_not_improving : (b : ℕ) → HasArc g b → IsSettled settled (arc_of g b).tail → IsNotImproving A g labels b → IsNotImproving A g after b
+  still_not_improving b h t old y u e f =
+      let ends = roads.ends b h in
+      let found = old y u (sym (settled_kept (arc_of g b).tail ends.0 t) ∙ e) f in
+      let now = never_worse (arc_of g b).head found.0 ends.1 found.1 in
+      (now.0, now.1, lawful.ordered.transitive now.0 found.0 u now.2 found.2)
+
+  pub search_offer : Search A g s after settled x rest
+  search_offer = record {
+    labels_count = after_count;
+    settled_count = known.settled_count;
+    values = λ v y in_v e. elim (old_or_new v y in_v e) [
+      | inl old ↦ known.values v y in_v old
+      | inr new ↦ let w = IsWalkValue-extend A g (s ∷ []) (arc_of g a).tail a x z (known.values (arc_of g a).tail x tail_in this.2) this.0 refl ex in
+          subst (λ (u : ℕ). IsWalkValue A g (s ∷ []) u y) new.0 (subst (λ (q : V). IsWalkValue A g (s ∷ []) (arc_of g a).head q) new.1 w)
+    ];
+    source = let w = never_worse s known.source.0 in_s known.source.1 in
+        (w.0, w.1, lawful.ordered.transitive w.0 known.source.0 A.origin w.2 known.source.2);
+    labelled = λ v in_v h. let found = known.labelled v in_v h in (found.0, settled_kept v in_v h ∙ found.1, found.2);
+    above = λ v y in_v o e. elim (old_or_new v y in_v e) [
+      | inl old ↦ known.above v y in_v o old
+      | inr new ↦ subst (λ (q : V). IsTrue (A.no_worse x q)) new.1 x_before_offer
+    ];
+    closed = λ b h t. elim (known.closed b h t) [
+      | inl waits ↦ elim (head_or_tail a b rest waits) [
+        | inl same ↦ inr (subst (λ (c : ℕ). IsNotImproving A g after c) same not_improving_now)
+        | inr later ↦ inl later
+      ]
+      | inr done ↦ inr (still_not_improving b h t done)
+    ];
+    current = λ b h. let found = known.current b (suc h.0, omega (arith, h.1), h.2) in
+        (found.0, found.1, settled_kept (arc_of g b).tail ((roads.ends b found.0).0) found.1 ∙ found.2);
+  }
+
+module _ {V : Type 0} (A : Algebra V) (lawful : IsLawful A) (g : Roads) (roads : IsRoads g) (s : ℕ) (in_s : HasVertex g s) (settled : List Bool) (x : V) where
+  -- an arc whose extension is refused changes nothing
+  search_refused : (labels : List (Option V)) (a : ℕ) (rest : List ℕ) → Search A g s labels settled x (a ∷ rest) → A.extend x (arc_of g a).weight ≡ None → Search A g s labels settled x rest
+  search_refused labels a rest known ex = record {
+    labels_count = known.labels_count;
+    settled_count = known.settled_count;
+    values = known.values;
+    source = known.source;
+    labelled = known.labelled;
+    above = known.above;
+    closed = λ b h t. elim (known.closed b h t) [
+      | inl waits ↦ elim (head_or_tail a b rest waits) [
+        | inl same ↦ inr (subst (λ (c : ℕ). IsNotImproving A g labels c) same (λ y u e f.
+            let this = known.current a (0, omega arith, refl) in
+            let xy : Some x ≡ Some y = sym this.2 ∙ e in
+            let is : x ≡ y = cc in
+            let bad : None ≡ Some u = sym ex ∙ ap (λ (v : V). A.extend v (arc_of g a).weight) is ∙ f in
+            cc))
+        | inr later ↦ inl later
+      ]
+      | inr done ↦ inr done
+    ];
+    current = λ b h. known.current b (suc h.0, omega (arith, h.1), h.2);
+  }
+
+  search_arc : (labels : List (Option V)) (a : ℕ) (rest : List ℕ) → Search A g s labels settled x (a ∷ rest) → (o : Option V) → A.extend x (arc_of g a).weight ≡ o →
+      Search A g s (offered_if A.no_worse labels (arc_of g a).head o) settled x rest
+  search_arc labels a rest known None ex = search_refused labels a rest known ex
+  search_arc labels a rest known (Some z) ex = search_offer A lawful g roads s in_s settled x labels a rest known z ex
+
+  pub search_relaxed : (arcs : List ℕ) (labels : List (Option V)) → Search A g s labels settled x arcs → Search A g s (relaxed A g x labels arcs) settled x []
+  search_relaxed [] labels known = known
+  search_relaxed (a ∷ arcs) labels known =
+      search_relaxed arcs (offered_if A.no_worse labels (arc_of g a).head (A.extend x (arc_of g a).weight)) (search_arc labels a arcs known (A.extend x (arc_of g a).weight) refl)

@@ -1,0 +1,14 @@
+//! The one-thread solver: best values from one source, vertices settled best first, for every lawful algebra.
+//!
+//! It is the measure that the running engine is compared with, and the checker's own way to best values.
+#![tactic(auto)]
+
+mod laws;
+mod queue;
+mod solve;
+
+pub use laws::best_values_exist;
+pub use solve::solve_one;
+
+#[cfg(test)]
+mod tests;

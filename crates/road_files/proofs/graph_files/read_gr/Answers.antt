@@ -1,0 +1,14 @@
+use Rattle.road_files.specs.GraphFiles.{gr_rules}
+use Rattle.road_files.specs.GraphTakes.{graph_way}
+use Rattle.road_files.proofs.GraphTakerLaws.{by_value, by_fault}
+use Rattle.road_files.proofs.WholeTexts.{reads_value, reads_some, reads_fault}
+use Rattle.road_files.proofs.graph_files.read_gr.Goals as goal
+
+pub returns-clause-value : goal.returns-clause-value
+returns-clause-value g c = let s = c.new.result in reads_value gr_rules (λ x. x) graph_way s (by_value s c.new.ensures) (by_fault s c.new.ensures) (g.R.RoadRead.left c.args.from.now) c.read_whole.result c.read_whole.ensures.value
+
+pub returns-clause-some_text : goal.returns-clause-some_text
+returns-clause-some_text g c = let s = c.new.result in reads_some gr_rules (λ x. x) graph_way s (by_value s c.new.ensures) (by_fault s c.new.ensures) c.read_whole.result c.read_whole.ensures.some_text
+
+pub returns-clause-fault : goal.returns-clause-fault
+returns-clause-fault g c = let s = c.new.result in reads_fault gr_rules (λ x. x) graph_way s (by_value s c.new.ensures) (by_fault s c.new.ensures) (g.R.RoadRead.left c.args.from.now) c.read_whole.result c.read_whole.ensures.fault

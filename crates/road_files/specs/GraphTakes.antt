@@ -1,0 +1,23 @@
+-- What the taker of a graph file holds, as the rules have it.
+use Rattle.std.specs.Prelude.{◌≡◌, ℕ, List, Option, option_map, Result, Bool}
+use Rattle.road_graph.specs.Roads.{Roads}
+use Rattle.road_text.specs.declared.faults.ReadFault.{ReadFault}
+use Rattle.road_text.specs.Takes.{GivesBy}
+use Rattle.road_text.specs.Way.{Way}
+use Rattle.road_files.specs.declared.taken_roads.TakenRoads.{TakenRoads}
+use Rattle.road_files.specs.declared.graph_lines.GraphTaker.{GraphTaker}
+use Rattle.road_files.specs.GraphFiles.{RoadsSoFar, gr_rules}
+
+abbrev pub roads_so_far : TakenRoads → RoadsSoFar
+roads_so_far t = record { vertices = t.vertices; announced = t.announced; arcs = t.arcs.items }
+
+abbrev pub taken_of : GraphTaker → Option RoadsSoFar
+taken_of s = option_map roads_so_far s.taken
+
+-- the lines from a number on give this
+abbrev pub GivesRoads : Bool → GraphTaker → ℕ → List (List ℕ) → Result Roads ReadFault → Type 0
+GivesRoads cut s at ls r = GivesBy gr_rules (taken_of s) (λ g. g) cut at ls r
+
+-- no field is kept before its line ends
+abbrev pub graph_way : Way GraphTaker Roads
+graph_way = record { gives = GivesRoads; so_far = λ _ _. Unit {0} }

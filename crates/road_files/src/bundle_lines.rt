@@ -1,0 +1,153 @@
+//! Takes the lines of a bundle.
+ghost use Rattle.std.specs.Prelude.{◌≡◌, ℕ, ◌++◌, ◌∷◌, [], List, map, refl, OnOk, IfOk, IfErr, MatchResult, Ok, None};
+ghost use Rattle.road_graph.specs.Roads.{Roads};
+ghost use Rattle.road_text.specs.Slots.{word_in};
+ghost use Rattle.road_text.specs.Takes.{Leaves, Breaks};
+ghost use Rattle.road_text.specs.Words.{held_word};
+ghost use Rattle.road_files.specs.Asked.{asked_of, AreQuestionsOf};
+ghost use Rattle.road_files.specs.BundleFiles.{InGraph, InQuestions, begins_questions, first_question_line, question_part_line, bundle_end};
+ghost use Rattle.road_files.specs.GraphTakes.{roads_so_far, taken_of};
+ghost use Rattle.road_files.specs.QuestionTakes.{SoFar, sources_given, begun_of};
+
+use crate::bundle_part::{BundlePart, QuestionPart};
+use crate::graph_lines::{GraphTaker, build, whole};
+use crate::question_taker::QuestionTaker;
+use crate::questions::Questions;
+use road_graph::Graph;
+use road_text::{LineFault, Rule, Slot, TakesLines};
+use std::alloc::Global;
+
+// Whether a line ends the graph part.
+#[tactic(auto, unfolding(crate::specs::BundleFiles::begins_questions))]
+fn ends_graph(slots: &[Slot]) -> bool
+    ensures { result ≡ begins_questions (map word_in slots.now) }
+{
+    slots.len() > 1 && slots[0].is_word(b"p") && slots[1].is_word(b"aux")
+}
+
+// The question part that begins at a line; the graph is whole before it.
+fn question_part(graph: &mut GraphTaker, slots: &[Slot]) -> Result<QuestionPart, LineFault>
+    ensures rule { MatchResult result (λ p. first_question_line (taken_of graph.old) (map word_in slots.now) ≡ Ok (InQuestions (roads_so_far p.roads) (begun_of p.questions))) (Breaks (first_question_line (taken_of graph.old) (map word_in slots.now))) }
+    ensures ready { IfOk result (λ p. SoFar p.questions.list []) }
+{
+    let roads = match whole(graph.taken.take()) {
+        Ok(roads) => roads,
+        Err(fault) => return Err(fault),
+    };
+    let mut questions = QuestionTaker::new(graph.alloc, roads.vertices, None);
+    match questions.problem(slots) {
+        Ok(()) => Ok(QuestionPart { roads, questions }),
+        Err(fault) => Err(fault),
+    }
+}
+
+// The end of the graph part is no end of a bundle.
+fn no_questions(graph: GraphTaker) -> LineFault
+    ensures { Breaks (bundle_end (InGraph (taken_of graph))) result }
+{
+    match whole(graph.taken) {
+        Ok(_) => LineFault::Broken(Rule::NoProblem),
+        Err(fault) => fault,
+    }
+}
+
+impl QuestionPart {
+    fn take(&mut self, slots: &[Slot]) -> Result<(), LineFault>
+        ensures rule { Leaves (question_part_line (roads_so_far self.old.roads) (begun_of self.old.questions) (map word_in slots.now) self.old.questions.list.is_list self.old.questions.list.count (sources_given self.old.questions.list)) result (InQuestions (roads_so_far self.new.roads) (begun_of self.new.questions)) }
+        ensures ready { OnOk result (SoFar self.new.questions.list []) }
+    {
+        match self.questions.take(slots) {
+            Ok(()) => {}
+            Err(fault) => return Err(fault),
+        }
+        self.questions.list.restart();
+        Ok(())
+    }
+
+    fn whole(self, alloc: Global) -> Result<(Graph, Questions), LineFault>
+        ensures rule { MatchResult result (λ b. bundle_end (InQuestions (roads_so_far self.roads) (begun_of self.questions)) ≡ Ok (b.0, asked_of b.1)) (Breaks (bundle_end (InQuestions (roads_so_far self.roads) (begun_of self.questions)))) }
+        ensures fit { IfOk result (λ b. AreQuestionsOf b.0.vertices b.1) }
+    {
+        let QuestionPart { roads, questions } = self;
+        let questions = match questions.whole() {
+            Ok(questions) => questions,
+            Err(fault) => return Err(fault),
+        };
+        match build(alloc, roads) {
+            Ok(graph) => Ok((graph, questions)),
+            Err(fault) => Err(fault),
+        }
+    }
+}
+
+/// Takes the lines of a bundle.
+#[derive(Drop)]
+pub struct BundleTaker {
+    pub alloc: Global,
+    pub part: BundlePart,
+}
+
+impl BundleTaker {
+    ghost use Rattle.road_files.specs.BundleTakes.{bundle_so_far, kept_line, PartSoFar};
+
+    /// No line was taken yet.
+    pub fn new(alloc: Global) -> Self
+        ensures start { bundle_so_far result.part ≡ InGraph None }
+        ensures ready { PartSoFar result.part [] }
+    {
+        BundleTaker {
+            alloc,
+            part: BundlePart::Graph(GraphTaker::new(alloc)),
+        }
+    }
+
+    fn take(&mut self, slots: &[Slot]) -> Result<(), LineFault>
+        ensures rule { Leaves (kept_line self.old.part (map word_in slots.now)) result (bundle_so_far self.new.part) }
+        ensures ready { OnOk result (PartSoFar self.new.part []) }
+    {
+        match &mut self.part {
+            BundlePart::Questions(part) => part.take(slots),
+            BundlePart::Graph(graph) => {
+                if !ends_graph(slots) {
+                    return graph.take(slots);
+                }
+                match question_part(graph, slots) {
+                    Ok(part) => {
+                        self.part = BundlePart::Questions(part);
+                        Ok(())
+                    }
+                    Err(fault) => Err(fault),
+                }
+            }
+        }
+    }
+}
+
+impl TakesLines for BundleTaker {
+    ghost use Rattle.road_files.specs.BundleTakes.{bundle_way};
+
+    type Value = (Graph, Questions);
+
+    ghost way = { bundle_way };
+
+    fn field(&mut self, slot: &Slot) -> Result<(), LineFault> {
+        match &mut self.part {
+            BundlePart::Graph(_) => Ok(()),
+            BundlePart::Questions(part) => part.questions.list.field(slot),
+        }
+    }
+
+    fn line(&mut self, slots: &[Slot]) -> Result<(), LineFault> {
+        self.take(slots)
+    }
+
+    fn finish(self) -> Result<(Graph, Questions), LineFault> {
+        let part = self.part;
+        match part {
+            BundlePart::Graph(graph) => Err(no_questions(graph)),
+            BundlePart::Questions(part) => part.whole(self.alloc),
+        }
+    }
+
+    ghost stops_short = { λ s at. (refl, tt) };
+}

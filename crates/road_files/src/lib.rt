@@ -1,0 +1,23 @@
+//! Road graphs and questions over them as files of lines: readers that tell the value of a file or its first fault, and writers.
+#![tactic(auto)]
+
+mod bundle_files;
+mod bundle_lines;
+mod bundle_part;
+mod graph_files;
+mod graph_lines;
+mod list_fields;
+mod number_fields;
+mod present_list;
+mod question_files;
+mod question_items;
+mod question_lines;
+mod question_taker;
+mod questions;
+mod taken_questions;
+mod taken_roads;
+
+pub use questions::{Kind, Questions};
+pub use bundle_files::read_bundle;
+pub use graph_files::read_gr;
+pub use question_files::{read_ms, read_p2p, read_questions, read_ss};

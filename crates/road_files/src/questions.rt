@@ -1,0 +1,59 @@
+//! Questions over a road graph as they are held in memory.
+
+use road_graph::Vertex;
+
+/// What kind of questions a file has.
+#[derive(Clone, Copy, Debug, PartialEq, Eq)]
+pub enum Kind {
+    /// From one source to all vertices.
+    Sources,
+    /// From one vertex to another.
+    Pairs,
+    /// From the nearest of several sources to all vertices.
+    Multi,
+}
+
+/// The questions of a file, in order.
+#[derive(Debug, Drop)]
+pub enum Questions {
+    /// The source of each question.
+    Sources(Vec<Vertex>),
+    /// The source and the target of each question.
+    Pairs(Vec<(Vertex, Vertex)>),
+    /// The sources of each question.
+    Multi(Vec<Vec<Vertex>>),
+}
+
+impl Questions {
+    ghost use Rattle.std.specs.Prelude.{◌≡◌, ◌↔◌, [], length, IsTrue};
+    ghost use Rattle.road_files.specs.Asked.{asked_of};
+
+    /// How many questions there are.
+    pub fn len(&self) -> usize
+        ensures { result ≡ length (asked_of self.now).questions }
+    {
+        match self {
+            Questions::Sources(sources) => sources.len(),
+            Questions::Pairs(pairs) => pairs.len(),
+            Questions::Multi(lists) => lists.len(),
+        }
+    }
+
+    /// Whether there is none.
+    pub fn is_empty(&self) -> bool
+        ensures { IsTrue result ↔ ((asked_of self.now).questions ≡ []) }
+    {
+        self.len() == 0
+    }
+
+    /// Their kind.
+    pub fn kind(&self) -> Kind
+        ensures { result ≡ (asked_of self.now).kind }
+    {
+        match self {
+            Questions::Sources(_) => Kind::Sources,
+            Questions::Pairs(_) => Kind::Pairs,
+            Questions::Multi(_) => Kind::Multi,
+        }
+    }
+}

@@ -1,0 +1,59 @@
+-- A directed road graph as its list of arcs. Arcs are numbered from 1 in the order of the list.
+use Rattle.std.specs.Prelude.{◌≡◌, ℕ, ◌-◌, ◌<◌, ◌≤◌, ◌^◌, ◌↔◌, List, [], ◌∷◌, length, map, Contains, slice_index_or}
+use Rattle.road_graph.specs.declared.RoadArc.{RoadArc}
+use Rattle.road_graph.specs.declared.OutRoad.{OutRoad}
+
+-- what a graph is: how many vertices it has, and its arcs
+pub record Roads : Type 0 where
+  pub vertices : ℕ
+  pub arcs : List RoadArc
+
+-- the numbers of vertices are 1 to n
+abbrev pub HasVertex : Roads → ℕ → Type 0
+HasVertex g v = (1 ≤ v) × (v ≤ g.vertices)
+
+-- the numbers of arcs are 1 to M
+abbrev pub HasArc : Roads → ℕ → Type 0
+HasArc g a = (1 ≤ a) × (a ≤ length g.arcs)
+
+-- the arc of a number
+abbrev pub arc_of : Roads → ℕ → RoadArc
+arc_of g a = slice_index_or g.arcs (a - 1) (record { tail = 0; head = 0; weight = 0 })
+
+-- both ends of the arc are among the vertices 1 to n
+abbrev pub JoinsVertices : ℕ → RoadArc → Type 0
+JoinsVertices n a = ((1 ≤ a.tail) × (a.tail ≤ n)) × ((1 ≤ a.head) × (a.head ≤ n))
+
+-- what holds of every graph: its arcs join its vertices, their weights are below 2^32, and there are not too many of either
+pub record IsRoads (g : Roads) : Type 0 where
+  pub ends : (a : ℕ) → HasArc g a → JoinsVertices g.vertices (arc_of g a)
+  pub weights : (a : ℕ) → HasArc g a → (arc_of g a).weight < 2 ^ 32
+  pub few_vertices : g.vertices ≤ 2 ^ 25
+  pub few_arcs : length g.arcs ≤ 2 ^ 27
+
+-- numbers that rise, all above low
+abbrev pub IsAscendingFrom : ℕ → List ℕ → Type 0
+IsAscendingFrom low [] = Unit {0}
+IsAscendingFrom low (x ∷ xs) = (low < x) × IsAscendingFrom x xs
+
+-- the list has exactly the arcs that leave v, in ascending order
+pub record ListsArcsFrom (g : Roads) (v : ℕ) (numbers : List ℕ) : Type 0 where
+  pub complete : (a : ℕ) → Contains numbers a ↔ (HasArc g a × ((arc_of g a).tail ≡ v))
+  pub ascending : IsAscendingFrom 0 numbers
+
+-- the list has exactly the arcs that enter v, in ascending order
+pub record ListsArcsInto (g : Roads) (v : ℕ) (numbers : List ℕ) : Type 0 where
+  pub complete : (a : ℕ) → Contains numbers a ↔ (HasArc g a × ((arc_of g a).head ≡ v))
+  pub ascending : IsAscendingFrom 0 numbers
+
+-- an arc as it is seen from its tail
+abbrev pub road_of : RoadArc → OutRoad
+road_of a = record { head = a.head; weight = a.weight }
+
+-- the roads of a list of arc numbers, in its order
+abbrev pub roads_of : Roads → List ℕ → List OutRoad
+roads_of g numbers = map (λ a. road_of (arc_of g a)) numbers
+
+-- the roads of exactly the arcs that leave v, in ascending order of the arcs' numbers
+abbrev pub ListsRoadsFrom : Roads → ℕ → List OutRoad → Type 0
+ListsRoadsFrom g v roads = (numbers : List ℕ) × ListsArcsFrom g v numbers × (roads ≡ roads_of g numbers)

@@ -1,0 +1,173 @@
+//! The graph.
+
+ghost use Rattle.std.specs.Prelude.{◌≡◌, ℕ, ◌+◌, ◌-◌, ◌<◌, ◌≤◌, ◌↔◌, ◌^◌, length, slice_index, IsTrue, MatchResult, MatchOption};
+ghost use Rattle.road_graph.specs.Roads.{JoinsVertices, IsRoads};
+ghost use Rattle.road_graph.specs.Making.{IsFirstBad};
+
+use crate::rows::{Rows, roads_at, rows_of};
+use crate::{ArcNo, GraphFault, OutRoad, RoadArc, Side, Vertex};
+use std::alloc::Global;
+use std::marker::Model;
+
+/// A directed graph with its arcs by number, by tail and by head.
+///
+/// It takes 28 bytes for each arc and 8 for each vertex.
+#[derive(Debug, Drop)]
+pub struct Graph {
+    vertices: u32,
+    arcs: Vec<RoadArc>,
+    out_rows: Rows,
+    out_roads: Vec<OutRoad>,
+    into_rows: Rows,
+}
+
+impl Model for Graph {
+    ghost use Rattle.std.specs.Prelude.{◌≡◌};
+    ghost use Rattle.road_graph.specs.Roads.{Roads, IsRoads, roads_of};
+    ghost use Rattle.road_graph.specs.Making.{AreRows};
+    ghost use Rattle.road_graph.specs.declared.Side.TheVariants.{Tail, Head};
+
+    ghost Value = { Roads };
+
+    ghost view = { λ g. record { vertices = g.vertices; arcs = g.arcs.items } };
+
+    ghost invariant = { λ g.
+        IsRoads (record { vertices = g.vertices; arcs = g.arcs.items })
+        × AreRows Tail g.vertices g.arcs.items g.out_rows.starts.items g.out_rows.numbers.items
+        × AreRows Head g.vertices g.arcs.items g.into_rows.starts.items g.into_rows.numbers.items
+        × (g.out_roads.items ≡ roads_of (record { vertices = g.vertices; arcs = g.arcs.items }) g.out_rows.numbers.items) };
+}
+
+fn joins(arc: RoadArc, n: u32) -> bool
+    ensures joins { IsTrue result ↔ JoinsVertices n arc }
+    ensures fits { arc.weight < 2 ^ 32 }
+{
+    // That a weight fits its type is known once it is read.
+    let _weight = arc.weight;
+    let (tail, head) = (arc.tail.0, arc.head.0);
+    1 <= tail && tail <= n && 1 <= head && head <= n
+}
+
+/// The first arc with an end outside 1 to n.
+fn first_bad(n: u32, arcs: &[RoadArc]) -> Option<ArcNo>
+    requires few_vertices { n ≤ 2 ^ 25 }
+    requires few_arcs { length arcs.now ≤ 2 ^ 27 }
+    ensures { MatchOption result (IsRoads (record { vertices = n; arcs = arcs.now })) (IsFirstBad n arcs.now) }
+{
+    for (i, arc) in arcs.iter().enumerate() {
+        if !joins(*arc, n) {
+            return Some(ArcNo(i as u32 + 1));
+        }
+    }
+    None
+}
+
+/// Where the row of a vertex starts and ends.
+fn range_of(starts: &[u32], v: Vertex) -> (usize, usize)
+    requires low { 1 ≤ v }
+    requires high { v < length starts.now }
+    ensures start { result.0 ≡ slice_index starts.now (v - 1) }
+    ensures end { result.1 ≡ slice_index starts.now v }
+{
+    (
+        starts[v.0 as usize - 1] as usize,
+        starts[v.0 as usize] as usize,
+    )
+}
+
+impl Graph {
+    ghost use Rattle.road_graph.specs.Making.{IsRefusal};
+    ghost use Rattle.road_graph.specs.Roads.{Roads, HasVertex, HasArc, arc_of, ListsArcsFrom, ListsArcsInto, ListsRoadsFrom};
+
+    /// The graph of exactly these arcs on the vertices 1 to n.
+    ///
+    /// # Errors
+    /// The arcs come back with the first arc that has an end outside 1 to n, or else with `Memory`.
+    pub fn new(
+        alloc: Global,
+        n: u32,
+        arcs: Vec<RoadArc>,
+    ) -> Result<Graph, (GraphFault, Vec<RoadArc>)>
+        requires few_vertices { n ≤ 2 ^ 25 }
+        requires few_arcs { length arcs.items ≤ 2 ^ 27 }
+        ensures { MatchResult result (λ g. g ≡ record { vertices = n; arcs = arcs.items }) (λ e. IsRefusal n arcs.items e.0 × (e.1.items ≡ arcs.items)) }
+    {
+        if let Some(a) = first_bad(n, &arcs) {
+            return Err((GraphFault::BadEnd(a), arcs));
+        }
+        let Ok(out_rows) = rows_of(alloc, n, &arcs, Side::Tail) else {
+            return Err((GraphFault::Memory, arcs));
+        };
+        let Ok(out_roads) = roads_at(alloc, &arcs, &out_rows.numbers) else {
+            return Err((GraphFault::Memory, arcs));
+        };
+        let Ok(into_rows) = rows_of(alloc, n, &arcs, Side::Head) else {
+            return Err((GraphFault::Memory, arcs));
+        };
+        Ok(Graph {
+            vertices: n,
+            arcs,
+            out_rows,
+            out_roads,
+            into_rows,
+        })
+    }
+
+    /// How many vertices there are.
+    pub fn vertices(&self) -> u32
+        ensures count { result ≡ self.now.vertices }
+        // What holds of every graph, for callers that lean on it.
+        ensures roads { IsRoads self.now }
+    {
+        self.vertices
+    }
+
+    /// How many arcs there are.
+    pub fn arcs(&self) -> usize
+        ensures { result ≡ length self.now.arcs }
+    {
+        self.arcs.len()
+    }
+
+    /// Whether v is a vertex of this graph.
+    pub fn has(&self, v: Vertex) -> bool
+        ensures { IsTrue result ↔ HasVertex self.now v }
+    {
+        1 <= v.0 && v.0 <= self.vertices
+    }
+
+    /// The arc of a number.
+    pub fn arc(&self, a: ArcNo) -> RoadArc
+        requires { HasArc self.now a }
+        ensures { result ≡ arc_of self.now a }
+    {
+        self.arcs[a.0 as usize - 1]
+    }
+
+    /// The arcs that leave a vertex, in ascending order.
+    pub fn out(&self, v: Vertex) -> &[ArcNo]
+        requires { HasVertex self.now v }
+        ensures { ListsArcsFrom self.now v result.now }
+    {
+        let (start, end) = range_of(&self.out_rows.starts, v);
+        &self.out_rows.numbers[start..end]
+    }
+
+    /// The arcs that enter a vertex, in ascending order.
+    pub fn into(&self, v: Vertex) -> &[ArcNo]
+        requires { HasVertex self.now v }
+        ensures { ListsArcsInto self.now v result.now }
+    {
+        let (start, end) = range_of(&self.into_rows.starts, v);
+        &self.into_rows.numbers[start..end]
+    }
+
+    /// The heads and weights of the arcs that leave a vertex, in the order of `out`.
+    pub fn roads_from(&self, v: Vertex) -> &[OutRoad]
+        requires { HasVertex self.now v }
+        ensures { ListsRoadsFrom self.now v result.now }
+    {
+        let (start, end) = range_of(&self.out_rows.starts, v);
+        &self.out_roads[start..end]
+    }
+}

@@ -1,0 +1,12 @@
+pub mod Splits
+pub mod ScanLaws
+pub mod TextLaws
+pub mod ReaderLaws
+pub mod StandLaws
+pub mod WordLaws
+pub mod TakerLaws
+pub mod WriteLaws
+pub mod ListLaws
+pub mod FirstFault
+pub mod RoundTrip
+pub mod NumberLaws

@@ -1,0 +1,103 @@
+-- What is written is read again.
+use Rattle.std.proofs.Common.{◌≡◌, ℕ, zero, suc, map, ◌-◌, ◌<◌, ◌≤◌, ◌^◌, List, [], ◌∷◌, ◌++◌, length, get_or, Bool, true, false, ◌&&◌, nat_lt, inl, inr, Some, refl, sym, ap, ◌∙◌, arith, append_assoc}
+use Rattle.std.specs.List.{All, AllByRecursion, join_with_byte}
+use Rattle.std.specs.Fmt.{decimal}
+use Rattle.std.specs.Str.{all_ascii_digits}
+use Rattle.std.specs.Str.Lines.{strip_carriage_return}
+use Rattle.std.specs.Str.Parse.{digits_value}
+use Rattle.std.proofs.lemmas.Str.Parse.{digit_at, IsNumeralModel, numerals_by_value, tells_all_ascii_digits}
+use Rattle.std.proofs.lemmas.Fmt.{digits_decimal, digits_value-decimal, decimal_nonempty}
+use Rattle.std.proofs.lemmas.Bool.{ne_eqb, cases_lt, lt-ltb, le-ltb}
+use Rattle.std.proofs.lemmas.List.Elements.{All-append}
+use Rattle.std.proofs.lemmas.List.{get_or_default}
+use Rattle.std.specs.Int.{IsInRange}
+use Rattle.road_text.proofs.TextLaws.{lines_first, lines_none}
+use Rattle.std.proofs.lemmas.List.Splits.{slice_split_at, slice_split_none}
+use Rattle.road_text.specs.Lines.{lines, fields, number, is_gap, is_line_end, has_bytes}
+use Rattle.road_text.specs.Texts.{spelled, text_of, IsWord}
+
+own : IsNumeralModel (λ ds. all_ascii_digits ds ≡ true) (digits_value 10)
+own = numerals_by_value _ tells_all_ascii_digits
+
+pub decimal_is_number : (n : ℕ) → n < 2 ^ 64 → number (decimal n) ≡ Some n
+unfolding number
+decimal_is_number n small = rw (digits_decimal own n small, digits_value-decimal own n small) refl
+
+no_gap : (f : List ℕ) → All (λ b. 32 < b) f → All (λ b. is_gap b ≡ false) f
+no_gap f h = λ k d lt. let big : 32 < get_or f k d = h k d lt in rw (ne_eqb (get_or f k d) 32 (λ e. omega arith), ne_eqb (get_or f k d) 9 (λ e. omega arith)) refl
+
+kept : (f : List ℕ) → 0 < length f → has_bytes f ≡ true
+kept [] h = absurd (omega arith)
+kept (b ∷ f) h = refl
+
+-- words with one space between them are the line's fields
+pub fields_join : (fs : List (List ℕ)) → AllByRecursion IsWord fs → fields (join_with_byte 32 fs) ≡ fs
+unfolding fields
+fields_join [] h = refl
+fields_join (f ∷ []) h = rw (slice_split_none is_gap f (no_gap f h.0.1), kept f h.0.0) refl
+fields_join (f ∷ g ∷ fs) h = rw (slice_split_at is_gap f 32 (join_with_byte 32 (g ∷ fs)) (no_gap f h.0.1) refl, kept f h.0.0) (ap (λ x. f ∷ x) (fields_join (g ∷ fs) h.1))
+
+-- no byte of a written line is below the space
+plain_append : (xs ys : List ℕ) → All (λ b. 32 ≤ b) xs → All (λ b. 32 ≤ b) ys → All (λ b. 32 ≤ b) (xs ++ ys)
+plain_append xs ys p q = All-append (λ b. 32 ≤ b) xs ys p q
+
+plain_cons : (ys : List ℕ) → All (λ b. 32 ≤ b) ys → All (λ b. 32 ≤ b) (32 ∷ ys)
+plain_cons ys p zero d lt = omega arith
+plain_cons ys p (suc k) d lt = p k d (omega arith)
+
+plain_word : (f : List ℕ) → IsWord f → All (λ b. 32 ≤ b) f
+plain_word f h = λ k d lt. let big : 32 < get_or f k d = h.1 k d lt in omega arith
+
+plain_join : (fs : List (List ℕ)) → AllByRecursion IsWord fs → All (λ b. 32 ≤ b) (join_with_byte 32 fs)
+plain_join [] h = λ k d lt. absurd (omega arith)
+plain_join (f ∷ []) h = plain_word f h.0
+plain_join (f ∷ g ∷ fs) h = plain_append f (32 ∷ join_with_byte 32 (g ∷ fs)) (plain_word f h.0) (plain_cons _ (plain_join (g ∷ fs) h.1))
+
+no_line_end : (xs : List ℕ) → All (λ b. 32 ≤ b) xs → All (λ b. is_line_end b ≡ false) xs
+no_line_end xs h = λ k d lt. let big : 32 ≤ get_or xs k d = h k d lt in ne_eqb (get_or xs k d) 10 (λ e. omega arith)
+
+no_return : (xs : List ℕ) → All (λ b. 32 ≤ b) xs → strip_carriage_return xs ≡ xs
+no_return [] h = refl
+no_return (x ∷ xs) h = let big : 32 ≤ get_or (x ∷ xs) (length (x ∷ xs) - 1) 0 = h (length (x ∷ xs) - 1) 0 (omega arith) in rw (ne_eqb (get_or (x ∷ xs) (length (x ∷ xs) - 1) 0) 13 (λ e. omega arith)) refl
+
+-- the lines of a written text are its lines
+pub lines_text : (ls : List (List (List ℕ))) → AllByRecursion (AllByRecursion IsWord) ls → lines false (text_of ls) ≡ map (join_with_byte 32) ls
+unfolding spelled
+lines_text [] h = lines_none
+lines_text (fs ∷ ls) h =
+    let plain : All (λ b. 32 ≤ b) (join_with_byte 32 fs) = plain_join fs h.0 in
+    ap (lines false) (append_assoc (join_with_byte 32 fs) (10 ∷ []) (text_of ls)) ∙ lines_first false (join_with_byte 32 fs) (text_of ls) (no_line_end _ plain)
+    ∙ ap (λ x. x ∷ lines false (text_of ls)) (no_return _ plain) ∙ ap (λ x. join_with_byte 32 fs ∷ x) (lines_text ls h.1)
+
+-- a written number is a word
+pub word_of_number : (n : ℕ) → n < 2 ^ 64 → IsWord (decimal n)
+word_of_number n small = (
+  decimal_nonempty n small,
+  λ k d lt.
+      let digit : IsInRange 48 57 (get_or (decimal n) k 0) = digit_at (decimal n) k (own.to (decimal n) (digits_decimal own n small)) lt in
+      let same : get_or (decimal n) k d ≡ get_or (decimal n) k 0 = get_or_default (decimal n) k d 0 lt in omega arith,
+)
+
+-- whether each byte is above the space
+abbrev pub above_space : List ℕ → Bool
+above_space [] = true
+above_space (b ∷ f) = nat_lt 32 b && above_space f
+
+above_rest : (b : ℕ) (f : List ℕ) → above_space (b ∷ f) ≡ true → (32 < b) × (above_space f ≡ true)
+above_rest b f h = elim (cases_lt 32 b) [
+  | inl big ↦ (big, sym (ap (λ x. x && above_space f) (lt-ltb 32 b big)) ∙ h)
+  | inr small ↦ let e : false ≡ true = sym (ap (λ x. x && above_space f) (le-ltb 32 b small)) ∙ h in cc
+]
+
+all_above : (f : List ℕ) → above_space f ≡ true → All (λ b. 32 < b) f
+all_above [] h = λ k d lt. absurd (omega arith)
+all_above (b ∷ f) h = let p = above_rest b f h in all_cons (λ b. 32 < b) b f p.0 (all_above f p.1)
+  where
+    all_cons : (P : ℕ → Type 0) (b : ℕ) (f : List ℕ) → P b → All P f → All P (b ∷ f)
+    all_cons P b f here rest zero d lt = here
+    all_cons P b f here rest (suc k) d lt = rest k d (omega arith)
+
+-- a literal word is a word: `word_by_test (codes "sp") refl`
+pub word_by_test : (f : List ℕ) → (has_bytes f && above_space f) ≡ true → IsWord f
+word_by_test [] h = cc
+word_by_test (b ∷ f) h = (omega arith, all_above (b ∷ f) h)

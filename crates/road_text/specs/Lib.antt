@@ -1,0 +1,13 @@
+pub mod Lines
+pub mod Words
+pub mod RuleNumbers
+pub mod Rules
+pub mod Way
+pub mod Slots
+pub mod Takes
+pub mod Reads
+pub mod Texts
+pub mod Written
+pub mod Scans
+pub mod Standing
+pub mod Numbers

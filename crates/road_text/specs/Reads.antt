@@ -1,0 +1,52 @@
+-- What a reader of whole texts promises. It is said of the bytes that were left to read and are left now, where the
+-- reader tells them, and of its failures and of the reads that were asked for, before and after.
+use Rattle.std.specs.Prelude.{◌≡◌, ◌≢◌, ℕ, ◌+◌, ◌<◌, ◌≤◌, List, length, Option, IfSome, Result, Ok, Err, IfOk, IfErr, OnOk}
+use Rattle.std.specs.Io.KnownBytes.{IsAtEnd}
+use Rattle.road_text.specs.declared.faults.ReadFault.{ReadFault}
+use Rattle.road_text.specs.Rules.{Rules, text_read}
+
+-- the value is the text's
+abbrev pub ReadsValue : {S V A : Type 0} → Rules S V → (A → V) → Option (List ℕ) → Result A ReadFault → Type 0
+ReadsValue rules view left result = IfOk result (λ a. IfSome left (λ all. text_read rules all ≡ Ok (view a)))
+
+-- also where the reader does not tell its bytes, the value is that of some text
+abbrev pub ReadsSome : {S V A : Type 0} → Rules S V → (A → V) → Result A ReadFault → Type 0
+ReadsSome rules view result = IfOk result (λ a. (all : List ℕ) × (text_read rules all ≡ Ok (view a)))
+
+-- a fault, but 1 and 3, is the text's first fault
+abbrev pub ReadsFault : {S V A : Type 0} → Rules S V → Option (List ℕ) → Result A ReadFault → Type 0
+ReadsFault rules left result = IfErr result (λ f. 2 ≤ f.number → f.number ≢ 3 → IfSome left (λ all. text_read rules all ≡ Err f))
+
+-- fault 1 is told where a read failed
+abbrev pub TellsFailure : {A : Type 0} → ℕ → ℕ → Result A ReadFault → Type 0
+TellsFailure before after result = IfErr result (λ f. f.number ≡ 1 → after ≢ before)
+
+-- and only there
+abbrev pub TellsNoOther : {A : Type 0} → ℕ → ℕ → Result A ReadFault → Type 0
+TellsNoOther before after result = IfErr result (λ f. f.number ≢ 1 → after ≡ before)
+
+-- fault 2 comes beyond 2 ^ 32 bytes alone
+abbrev pub IsTooLong : {A : Type 0} → Option (List ℕ) → Result A ReadFault → Type 0
+IsTooLong left result = IfErr result (λ f. f.number ≡ 2 → IfSome left (λ all. 4294967296 < length all))
+
+-- faults 1, 2 and 3 stand in no line
+abbrev pub IsPlaced : {A : Type 0} → Result A ReadFault → Type 0
+IsPlaced result = IfErr result (λ f. f.number ≤ 3 → f.line ≡ 0)
+
+-- a fault's number is 1 to 36
+abbrev pub IsReadNumber : {A : Type 0} → Result A ReadFault → Type 0
+IsReadNumber result = IfErr result (λ f. (1 ≤ f.number) × (f.number ≤ 36))
+
+-- all of these, and that a reader is at its end after success and is asked at most 2 ^ 32 + 1 times
+pub record ReadsText {S V A : Type 0} (rules : Rules S V) (view : A → V) (left gone : Option (List ℕ)) (before after calls more : ℕ) (result : Result A ReadFault) : Type 0 where
+  pub value : ReadsValue rules view left result
+  pub some_text : ReadsSome rules view result
+  pub fault : ReadsFault rules left result
+  pub sound : OnOk result (after ≡ before)
+  pub told : TellsFailure before after result
+  pub untold : TellsNoOther before after result
+  pub long : IsTooLong left result
+  pub placed : IsPlaced result
+  pub numbered : IsReadNumber result
+  pub end : OnOk result (IsAtEnd gone)
+  pub asked : more ≤ calls + 4294967297

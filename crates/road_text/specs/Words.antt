@@ -1,0 +1,24 @@
+-- The words of a line: its fields with the numbers that they are.
+use Rattle.std.specs.Prelude.{ℕ, List, [], take, min, Option, Some, option_map, get_or}
+use Rattle.road_text.specs.Lines.{number}
+
+-- a field, and the number that it is, if it is one
+pub record Word : Type 0 where
+  pub text : List ℕ
+  pub number : Option ℕ
+
+-- the word that a field is
+abbrev pub word_of : List ℕ → Word
+word_of f = record { text = f; number = number f }
+
+-- what is kept of a field: its first nine bytes, and its number, held at 2 ^ 64
+abbrev pub held_word : List ℕ → Word
+held_word f = record { text = take 9 f; number = option_map (λ n. min n 18446744073709551616) (number f) }
+
+-- what stands for a word where there is none
+abbrev pub no_word : Word
+no_word = record { text = []; number = Some 0 }
+
+-- word i of a line, counted from 0
+abbrev pub word_at : ℕ → List Word → Word
+word_at i ws = get_or ws i no_word

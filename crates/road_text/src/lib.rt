@@ -1,0 +1,31 @@
+//! Texts of lines: what they are read from and written to, their lines, fields and numbers, one machine that reads
+//! any kind of text line by line, and writers of lines. The kinds themselves stand in the crates above.
+#![tactic(auto)]
+
+mod ends;
+mod faults;
+mod gathered;
+mod laws;
+mod line_words;
+mod pieces;
+mod plain;
+mod reader;
+mod reading;
+mod scanner;
+mod slots;
+mod takes;
+#[cfg(test)]
+mod tests;
+
+pub use ends::{ReadFailed, RoadRead, RoadWrite, WriteFault};
+pub use faults::{Halt, LineFault, ReadFault, Rule};
+pub use gathered::{GATHERED, Gathered};
+pub use laws::{finds_first_fault, numbers_read_again, text_read_again};
+pub use line_words::{Line, push_number, push_spaced};
+pub use pieces::{write_bytes, write_list};
+pub use plain::Plain;
+pub use reader::{LineReader, MAX_BYTES};
+pub use reading::{read_text, read_whole};
+pub use scanner::Scanner;
+pub use slots::Slot;
+pub use takes::TakesLines;

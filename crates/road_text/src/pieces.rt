@@ -1,0 +1,55 @@
+//! Writes texts piece by piece.
+ghost use Rattle.std.specs.Prelude.{◌≡◌, ℕ, ◌∷◌, List, decimal};
+ghost use Rattle.road_text.specs.Texts.{spelled, list_words, spaced};
+ghost use Rattle.road_text.specs.Written.{Wrote};
+
+use crate::ends::{RoadWrite, WriteFault};
+use crate::line_words::{Line, push_spaced};
+
+/// Writes all bytes, or a front of them.
+pub fn write_bytes<W: RoadWrite>(to: &mut W, bytes: &[u8]) -> Result<(), WriteFault>
+    ensures { Wrote (W.written to.old) (W.written to.new) (W.failures to.old) (W.failures to.new) bytes.now result }
+{
+    let mut rest = bytes;
+    while !rest.is_empty() {
+        match to.write(rest) {
+            Ok(n) => rest = &rest[n..],
+            Err(fault) => return Err(fault),
+        }
+    }
+    Ok(())
+}
+
+fn spaced_number(n: u32) -> Line
+    ensures { result.bytes ≡ 32 ∷ decimal n }
+{
+    let mut line = Line::new();
+    push_spaced(&mut line, u64::from(n));
+    line
+}
+
+// Writes each number after a space, and the line's end.
+fn write_numbers<W: RoadWrite>(to: &mut W, numbers: &[u32]) -> Result<(), WriteFault>
+    ensures { Wrote (W.written to.old) (W.written to.new) (W.failures to.old) (W.failures to.new) (spaced numbers.now) result }
+{
+    for n in numbers {
+        let text = spaced_number(*n);
+        match write_bytes(to, text.as_str().as_bytes()) {
+            Ok(()) => {}
+            Err(fault) => return Err(fault),
+        }
+    }
+    write_bytes(to, b"\n")
+}
+
+/// Writes a line of a word and numbers, or a front of it. It takes no memory, however long the list is.
+#[tactic(auto, using(crate::proofs::ListLaws::list_then, crate::proofs::ListLaws::list_fell))]
+pub fn write_list<W: RoadWrite>(to: &mut W, word: &[u8], numbers: &[u32]) -> Result<(), WriteFault>
+    ensures { Wrote (W.written to.old) (W.written to.new) (W.failures to.old) (W.failures to.new) (spelled (list_words word.now numbers.now)) result }
+{
+    match write_bytes(to, word) {
+        Ok(()) => {}
+        Err(fault) => return Err(fault),
+    }
+    write_numbers(to, numbers)
+}

@@ -1,0 +1,204 @@
+//! The line machine: takes a text byte by byte, and hands on its fields and lines.
+ghost use Rattle.std.specs.Prelude.{◌≡◌, ◌≢◌, ℕ, ◌+◌, ◌≤◌, List, [], ◌∷◌, ◌++◌, Result, Ok, OnOk, IfOk, IfErr, length, true, false, Bool, ◌<◌, All};
+ghost use Rattle.road_text.specs.declared.faults.ReadFault.{ReadFault};
+ghost use Rattle.road_text.specs.Lines.{lines, fields};
+
+use crate::faults::{Halt, LineFault, ReadFault};
+use crate::scanner::{Scanner, is_gap, plain_front};
+use crate::takes::TakesLines;
+
+/// The most bytes that a text may have: 2 ^ 32.
+pub const MAX_BYTES: u64 = 4_294_967_296;
+
+/// Reads a text line by line.
+#[derive(Drop)]
+pub struct LineReader<T> {
+    pub taker: T,
+    pub scanner: Scanner,
+    pub begun: bool,
+    pub held: bool,
+    pub line: u64,
+    pub count: u64,
+    ghost few_lines: { line ≤ count + 1 },
+    ghost present_counts: { begun ≡ true → line ≤ count },
+    ghost few_bytes: { count ≤ 4294967296 },
+}
+
+impl<T: TakesLines> LineReader<T> {
+    ghost use Rattle.road_text.specs.Scans.{scan_of, Shows, is_plain};
+    ghost use Rattle.road_text.specs.Standing.{Leads, LineHalts, Halts, HaltsAtEnd, EndHalts, IsNumbered};
+
+    pub fn new(taker: T) -> Self
+        requires { T.way.so_far taker [] }
+        ensures count { result.count ≡ 0 }
+        ensures start { (cut : Bool) (bytes : List ℕ) (r : Result T.Value ReadFault) → Leads cut T.way result bytes r → T.way.gives cut taker 1 (lines cut bytes) r }
+    {
+        LineReader {
+            taker,
+            scanner: Scanner::new(),
+            begun: false,
+            held: false,
+            line: 1,
+            count: 0,
+        }
+    }
+
+    fn end_line(&mut self) -> Result<(), Halt>
+        requires { self.old.line ≤ self.old.count }
+        ensures ok { OnOk result ((cut : Bool) (rest : List ℕ) (r : Result T.Value ReadFault) → Leads cut T.way self.new rest r → Leads cut T.way self.old (10 ∷ rest) r) }
+        ensures count { self.new.count ≡ self.old.count }
+        ensures closed { OnOk result (self.new.begun ≡ false) }
+        ensures err { IfErr result (λ h. LineHalts T.way self.old (10 ∷ []) h) }
+        ensures numbered { IfErr result IsNumbered }
+    {
+        match self.end_field() {
+            Ok(()) => {}
+            Err(halt) => return Err(halt),
+        }
+        self.scanner.close();
+        match self.taker.line(self.scanner.slots.as_slice()) {
+            Ok(()) => {}
+            Err(LineFault::Memory) => return Err(Halt::Memory),
+            Err(LineFault::Broken(rule)) => {
+                return Err(Halt::Broken(ReadFault {
+                    number: rule.number(),
+                    line: self.line,
+                }));
+            }
+        }
+        self.scanner.restart();
+        self.begun = false;
+        self.held = false;
+        self.line += 1;
+        Ok(())
+    }
+
+    // Gives the present field, if it has bytes, to the taker.
+    fn end_field(&mut self) -> Result<(), Halt>
+        ensures same { OnOk result ((cut : Bool) (at : ℕ) (ls : List (List ℕ)) (r : Result T.Value ReadFault) → T.way.gives cut self.new.taker at ls r → T.way.gives cut self.old.taker at ls r) }
+        ensures told { OnOk result ((line : List ℕ) → Shows (T.way.so_far self.old.taker) (scan_of self.old.scanner) line → T.way.so_far self.new.taker (fields line)) }
+        ensures scanner { scan_of self.new.scanner ≡ scan_of self.old.scanner }
+        ensures rest { (self.new.begun ≡ self.old.begun) × (self.new.held ≡ self.old.held) × (self.new.line ≡ self.old.line) × (self.new.count ≡ self.old.count) }
+        ensures memory { IfErr result (λ e. e ≡ Halt.Memory) }
+    {
+        if self.scanner.present.text.is_empty() {
+            return Ok(());
+        }
+        match self.taker.field(&self.scanner.present) {
+            Ok(()) => Ok(()),
+            Err(_) => Err(Halt::Memory),
+        }
+    }
+
+    // Takes the next byte of the present line.
+    fn present_byte(&mut self, byte: u8) -> Result<(), Halt>
+        requires other { byte ≢ 10 }
+        requires counted { self.old.line ≤ self.old.count }
+        ensures same { OnOk result ((cut : Bool) (rest : List ℕ) (r : Result T.Value ReadFault) → Leads cut T.way self.new rest r → Leads cut T.way self.old (byte ∷ rest) r) }
+        ensures count { self.new.count ≡ self.old.count }
+        ensures memory { IfErr result (λ e. e ≡ Halt.Memory) }
+    {
+        self.scanner.add_held(self.held);
+        self.begun = true;
+        if byte == b'\r' {
+            self.held = true;
+            return Ok(());
+        }
+        self.held = false;
+        if is_gap(byte) {
+            match self.end_field() {
+                Ok(()) => {}
+                Err(halt) => return Err(halt),
+            }
+            self.scanner.close();
+            return Ok(());
+        }
+        self.scanner.present.add(byte);
+        Ok(())
+    }
+
+    // Takes some bytes that all go on with the present field.
+    fn present_run(&mut self, bytes: &[u8])
+        requires some { 0 < length bytes.now }
+        requires plain { All (λ b. is_plain b ≡ true) bytes.now }
+        requires room { self.old.count + length bytes.now ≤ 4294967296 }
+        ensures same { (cut : Bool) (rest : List ℕ) (r : Result T.Value ReadFault) → Leads cut T.way self.new rest r → Leads cut T.way self.old (bytes.now ++ rest) r }
+        ensures count { self.new.count ≡ self.old.count + length bytes.now }
+    {
+        let held = self.held;
+        self.scanner.add_held(held);
+        self.count += bytes.len() as u64;
+        self.begun = true;
+        self.held = false;
+        self.scanner.present.add_all(bytes);
+    }
+
+    /// Takes the next byte.
+    pub fn byte(&mut self, byte: u8) -> Result<(), Halt>
+        ensures ok { OnOk result ((cut : Bool) (rest : List ℕ) (r : Result T.Value ReadFault) → Leads cut T.way self.new rest r → Leads cut T.way self.old (byte ∷ rest) r) }
+        ensures count { OnOk result (self.new.count ≡ self.old.count + 1) }
+        ensures err { IfErr result (λ h. Halts T.way self.old (byte ∷ []) h) }
+        ensures numbered { IfErr result IsNumbered }
+    {
+        if self.count == MAX_BYTES {
+            return Err(Halt::TooLong);
+        }
+        self.count += 1;
+        if byte == b'\n' {
+            return self.end_line();
+        }
+        self.present_byte(byte)
+    }
+
+    /// Takes the next bytes.
+    pub fn feed(&mut self, bytes: &[u8]) -> Result<(), Halt>
+        ensures ok { OnOk result ((cut : Bool) (rest : List ℕ) (r : Result T.Value ReadFault) → Leads cut T.way self.new rest r → Leads cut T.way self.old (bytes.now ++ rest) r) }
+        ensures count { OnOk result (self.new.count ≡ self.old.count + length bytes.now) }
+        ensures err { IfErr result (λ h. Halts T.way self.old bytes.now h) }
+        ensures numbered { IfErr result IsNumbered }
+    {
+        let mut at = 0;
+        while at < bytes.len() {
+            let rest = &bytes[at..];
+            let front = plain_front(rest);
+            if front > 0 && front as u64 <= MAX_BYTES - self.count {
+                self.present_run(&rest[..front]);
+                at += front;
+            } else {
+                self.byte(rest[0])?;
+                at += 1;
+            }
+        }
+        Ok(())
+    }
+
+    // Takes the end where no line is begun.
+    fn end(self) -> Result<T::Value, Halt>
+        ensures ok { IfOk result (λ v. T.way.gives false self.taker self.line [] (Ok v)) }
+        ensures err { IfErr result (λ h. EndHalts T.way self h) }
+        ensures numbered { IfErr result IsNumbered }
+    {
+        let line = self.line;
+        match self.taker.finish() {
+            Ok(value) => Ok(value),
+            Err(LineFault::Memory) => Err(Halt::Memory),
+            Err(LineFault::Broken(rule)) => Err(Halt::Broken(ReadFault {
+                number: rule.number(),
+                line,
+            })),
+        }
+    }
+
+    /// Takes the end.
+    pub fn finish(mut self) -> Result<T::Value, Halt>
+        ensures ok { IfOk result (λ v. Leads false T.way self [] (Ok v)) }
+        ensures err { IfErr result (λ h. HaltsAtEnd T.way self h) }
+        ensures numbered { IfErr result IsNumbered }
+    {
+        if !self.begun {
+            return self.end();
+        }
+        self.end_line()?;
+        self.end()
+    }
+}

@@ -1,0 +1,63 @@
+//! Reads a text from a reader.
+ghost use Rattle.std.specs.Prelude.{◌≡◌, ◌≢◌, ℕ, ◌+◌, ◌≤◌, [], Ok, Err, OnOk, IfOk, IfErr, IfSome};
+ghost use Rattle.std.specs.Io.KnownBytes.{IsAtEnd};
+ghost use Rattle.road_text.specs.Reads.{TellsFailure, TellsNoOther, IsTooLong, IsPlaced, IsReadNumber};
+ghost use Rattle.road_text.specs.Standing.{Stops, TextGives, SomeTextGives, IsNumbered};
+
+use crate::ends::RoadRead;
+use crate::faults::{Halt, ReadFault};
+use crate::reader::LineReader;
+use crate::takes::TakesLines;
+
+/// The bytes that are asked for at once.
+const BUFFER: usize = 65_536;
+
+/// Each read but the last gives a byte, and a text has at most 2 ^ 32.
+const MAX_READS: u64 = 4_294_967_297;
+
+/// What the text gives that the reader has left.
+pub fn read_text<R: RoadRead, T: TakesLines>(from: &mut R, taker: T) -> Result<T::Value, Halt>
+    requires { T.way.so_far taker [] }
+    ensures value { IfOk result (λ v. IfSome (R.left from.old) (λ all. TextGives T.way taker all (Ok v))) }
+    ensures some_text { IfOk result (λ v. SomeTextGives T.way taker (Ok v)) }
+    ensures end { OnOk result (IsAtEnd (R.left from.new)) }
+    ensures sound { OnOk result (R.failures from.new ≡ R.failures from.old) }
+    ensures asked { R.asked from.new ≤ R.asked from.old + 4294967297 }
+    ensures stops { IfErr result (λ h. Stops T.way taker (R.left from.old) (R.failures from.old) (R.failures from.new) h) }
+    ensures numbered { IfErr result IsNumbered }
+{
+    let mut reader = LineReader::new(taker);
+    let mut buffer = [0u8; BUFFER];
+    for _ in 0..MAX_READS {
+        match from.read(&mut buffer) {
+            Err(_) => return Err(Halt::Read),
+            Ok(0) => return reader.finish(),
+            Ok(n) => reader.feed(&buffer[..n])?,
+        }
+    }
+    unreachable!()
+}
+
+/// The same, with the fault's number and line in place of why reading stopped.
+pub fn read_whole<R: RoadRead, T: TakesLines>(from: &mut R, taker: T) -> Result<T::Value, ReadFault>
+    requires { T.way.so_far taker [] }
+    ensures value { IfOk result (λ v. IfSome (R.left from.old) (λ all. TextGives T.way taker all (Ok v))) }
+    ensures some_text { IfOk result (λ v. SomeTextGives T.way taker (Ok v)) }
+    ensures fault { IfErr result (λ f. 2 ≤ f.number → f.number ≢ 3 → IfSome (R.left from.old) (λ all. TextGives T.way taker all (Err f))) }
+    ensures sound { OnOk result (R.failures from.new ≡ R.failures from.old) }
+    ensures told { TellsFailure (R.failures from.old) (R.failures from.new) result }
+    ensures untold { TellsNoOther (R.failures from.old) (R.failures from.new) result }
+    ensures long { IsTooLong (R.left from.old) result }
+    ensures placed { IsPlaced result }
+    ensures numbered { IsReadNumber result }
+    ensures end { OnOk result (IsAtEnd (R.left from.new)) }
+    ensures asked { R.asked from.new ≤ R.asked from.old + 4294967297 }
+{
+    match read_text(from, taker) {
+        Ok(value) => Ok(value),
+        Err(Halt::Read) => Err(ReadFault { number: 1, line: 0 }),
+        Err(Halt::TooLong) => Err(ReadFault { number: 2, line: 0 }),
+        Err(Halt::Memory) => Err(ReadFault { number: 3, line: 0 }),
+        Err(Halt::Broken(fault)) => Err(fault),
+    }
+}

@@ -1,0 +1,347 @@
+//! A small kind of text read in pieces and with failures, and the writers over an end that fills up.
+ghost use Rattle.std.specs.Prelude.{◌≡◌, ◌<◌, ◌≤◌, ◌+◌, ◌^◌, ℕ, List, Some, Ok, length, map, refl, IfOk, IfErr, IfSome};
+ghost use Rattle.road_text.specs.Numbers.{below_top, numbers_line, numbers_rules};
+ghost use Rattle.road_text.specs.Reads.{ReadsValue, ReadsFault, TellsFailure, TellsNoOther, IsReadNumber};
+ghost use Rattle.road_text.specs.Slots.{word_in};
+ghost use Rattle.road_text.specs.Takes.{Agrees, Leaves, GivesBy};
+
+use crate::{
+    Gathered, Line, LineFault, Plain, ReadFailed, ReadFault, RoadRead, RoadWrite, Rule, Slot,
+    TakesLines, WriteFault, push_spaced, read_whole, write_bytes, write_list,
+};
+use arrayvec::ArrayVec;
+use ghost_count::Count;
+use std::alloc::Global;
+use std::test::Fail;
+
+/// Takes lines `n NUMBER`.
+#[derive(Drop)]
+struct NumberTaker {
+    numbers: Vec<u64>,
+}
+
+fn below_top(slot: &Slot) -> Result<u64, LineFault>
+    ensures { Agrees (below_top (word_in slot.now).number) result }
+{
+    match slot.number {
+        None => Err(LineFault::Broken(Rule::NotANumber)),
+        Some(n) if n > u128::from(u64::MAX) => Err(LineFault::Broken(Rule::TooLarge)),
+        Some(n) => Ok(n as u64),
+    }
+}
+
+impl NumberTaker {
+    #[tactic(auto, unfolding(crate::specs::Numbers::numbers_line))]
+    fn take(&mut self, slots: &[Slot]) -> Result<(), LineFault>
+        ensures { Leaves (numbers_line self.old.numbers.items (map word_in slots.now)) result self.new.numbers.items }
+    {
+        if slots.is_empty() {
+            return Ok(());
+        }
+        if !slots[0].is_word(b"n") {
+            return Err(LineFault::Broken(Rule::UnknownLine));
+        }
+        if slots.len() != 2 {
+            return Err(LineFault::Broken(Rule::Fields));
+        }
+        let number = below_top(&slots[1])?;
+        match self.numbers.push(number) {
+            Ok(()) => Ok(()),
+            Err(_) => Err(LineFault::Memory),
+        }
+    }
+}
+
+impl TakesLines for NumberTaker {
+    type Value = Vec<u64>;
+
+    ghost way = { record { gives = λ cut s at ls r. GivesBy numbers_rules s.numbers.items (λ v. v.items) cut at ls r; so_far = λ _ _. Unit {0} } };
+
+    fn field(&mut self, _slot: &Slot) -> Result<(), LineFault> {
+        Ok(())
+    }
+
+    fn line(&mut self, slots: &[Slot]) -> Result<(), LineFault> {
+        self.take(slots)
+    }
+
+    fn finish(self) -> Result<Vec<u64>, LineFault> {
+        Ok(self.numbers)
+    }
+
+    ghost stops_short = { λ s at. refl };
+}
+
+/// The numbers of a text.
+fn read_numbers<R: RoadRead>(alloc: Global, from: &mut R) -> Result<Vec<u64>, ReadFault>
+    ensures value { ReadsValue numbers_rules (λ v. v.items) (R.left from.old) result }
+    ensures fault { ReadsFault numbers_rules (R.left from.old) result }
+    ensures told { TellsFailure (R.failures from.old) (R.failures from.new) result }
+    ensures untold { TellsNoOther (R.failures from.old) (R.failures from.new) result }
+    ensures numbered { IsReadNumber result }
+{
+    read_whole(
+        from,
+        NumberTaker {
+            numbers: Vec::new(alloc),
+        },
+    )
+}
+
+/// Gives its bytes in pieces, and fails behind them where it is told to.
+#[derive(Drop)]
+struct Pieces<'a> {
+    bytes: &'a [u8],
+    piece: usize,
+    fails: bool,
+    failed: Count,
+    reads: Count,
+    ghost some: { 0 < piece },
+}
+
+impl<'a> Pieces<'a> {
+    fn new(bytes: &'a [u8], piece: usize, fails: bool) -> Self
+        requires { 0 < piece }
+    {
+        Pieces {
+            bytes,
+            piece,
+            fails,
+            failed: Count::new(),
+            reads: Count::new(),
+        }
+    }
+}
+
+impl RoadRead for Pieces<'_> {
+    ghost left = { λ p. Some p.bytes.now };
+
+    ghost failures = { λ p. p.failed.total };
+
+    ghost asked = { λ p. p.reads.total };
+
+    fn read(&mut self, buf: &mut [u8]) -> Result<usize, ReadFailed> {
+        self.reads = self.reads.next();
+        if self.bytes.is_empty() && self.fails {
+            self.failed = self.failed.next();
+            return Err(ReadFailed);
+        }
+        let mut taken = self.bytes.len();
+        if self.piece < taken {
+            taken = self.piece;
+        }
+        if buf.len() < taken {
+            taken = buf.len();
+        }
+        let (front, rest) = self.bytes.split_at(taken);
+        buf[..taken].copy_from_slice(front);
+        self.bytes = rest;
+        Ok(taken)
+    }
+}
+
+/// Takes what it has room for, and then fails.
+#[derive(Drop)]
+struct Sheet {
+    bytes: ArrayVec<u8, 32>,
+    failed: Count,
+}
+
+impl Sheet {
+    fn new() -> Self {
+        Sheet {
+            bytes: ArrayVec::new(),
+            failed: Count::new(),
+        }
+    }
+}
+
+impl RoadWrite for Sheet {
+    ghost written = { λ s. Some s.bytes.items };
+
+    ghost failures = { λ s. s.failed.total };
+
+    fn write(&mut self, buf: &[u8]) -> Result<usize, WriteFault> {
+        let mut taken = 32 - self.bytes.len();
+        if buf.len() < taken {
+            taken = buf.len();
+        }
+        if taken == 0 && !buf.is_empty() {
+            self.failed = self.failed.next();
+            return Err(WriteFault);
+        }
+        let Ok(()) = self.bytes.try_extend_from_slice(&buf[..taken]) else {
+            unreachable!()
+        };
+        Ok(taken)
+    }
+
+    fn flush(&mut self) -> Result<(), WriteFault> {
+        Ok(())
+    }
+}
+
+/// The sum of the numbers, or the fault's number and line.
+fn outcome(alloc: Global, bytes: &[u8], piece: usize, fails: bool) -> Result<u64, (u8, u64)>
+    requires { 0 < piece }
+{
+    match read_numbers(alloc, &mut Pieces::new(bytes, piece, fails)) {
+        Ok(numbers) => Ok(numbers.iter().fold(0, |sum, n| u64::wrapping_add(sum, *n))),
+        Err(fault) => Err((fault.number, fault.line)),
+    }
+}
+
+#[test]
+fn pieces_of_any_size(rt: HostRuntime) {
+    let text = b"n 1\r\n\n \t\n\tn   0020 \r\nn 300";
+    for piece in [1, 2, 3, 7, 65_535, 65_536] {
+        assert_eq!(rt; outcome(rt.alloc(), text, piece, false), Ok(321));
+    }
+}
+
+#[test]
+fn a_reader_that_fails(rt: HostRuntime) {
+    let text = b"n 1\r\nn 20\nn 300\n";
+    for end in 0..=text.len() {
+        assert_eq!(rt; outcome(rt.alloc(), &text[..end], 2, true), Err((1, 0)));
+    }
+}
+
+#[test]
+fn faults_in_order(rt: HostRuntime) {
+    let alloc = rt.alloc();
+    assert_eq!(rt; outcome(alloc, b"", 9, true), Err((1, 0)));
+    assert_eq!(rt; outcome(alloc, b"", 9, false), Ok(0));
+    assert_eq!(rt; outcome(alloc, b"n 1\nm 1 x\n", 9, false), Err((13, 2)));
+    assert_eq!(rt; outcome(alloc, b"\n\nn 1 x\nm\n", 9, false), Err((14, 3)));
+    assert_eq!(rt; outcome(alloc, b"n x\nm\n", 9, true), Err((15, 1)));
+    assert_eq!(rt; outcome(alloc, b"n +1", 9, false), Err((15, 1)));
+    assert_eq!(rt; outcome(alloc, b"nn 1", 9, false), Err((13, 1)));
+    assert_eq!(rt;
+        outcome(alloc, b"nnnnnnnnnnnnnnnnn 1", 9, false),
+        Err((13, 1))
+    );
+    assert_eq!(rt;
+        outcome(alloc, b"n 1 1 1 1 1 1 1 1 1", 9, false),
+        Err((14, 1))
+    );
+}
+
+#[test]
+fn numbers_at_the_top(rt: HostRuntime) {
+    let alloc = rt.alloc();
+    assert_eq!(rt;
+        outcome(alloc, b"n 18446744073709551615", 5, false),
+        Ok(18_446_744_073_709_551_615)
+    );
+    assert_eq!(rt;
+        outcome(
+            alloc,
+            b"n 000000000000000000000018446744073709551615",
+            5,
+            false
+        ),
+        Ok(18_446_744_073_709_551_615)
+    );
+    assert_eq!(rt;
+        outcome(alloc, b"n 18446744073709551616", 5, false),
+        Err((16, 1))
+    );
+    assert_eq!(rt;
+        outcome(alloc, b"n 184467440737095516150", 5, false),
+        Err((16, 1))
+    );
+    assert_eq!(rt;
+        outcome(
+            alloc,
+            b"n 99999999999999999999999999999999999999999999",
+            70,
+            false
+        ),
+        Err((16, 1))
+    );
+    assert_eq!(rt;
+        outcome(
+            alloc,
+            b"n 9999999999999999999999999999999999999999999x",
+            70,
+            false
+        ),
+        Err((15, 1))
+    );
+}
+
+#[test]
+fn carriage_returns_and_odd_bytes(rt: HostRuntime) {
+    let alloc = rt.alloc();
+    assert_eq!(rt; outcome(alloc, b"n 1\r", 1, false), Ok(1));
+    assert_eq!(rt; outcome(alloc, b"\r\n\r\nn 1", 1, false), Ok(1));
+    assert_eq!(rt; outcome(alloc, b"n 1\r\r\n", 1, false), Err((15, 1)));
+    assert_eq!(rt; outcome(alloc, b"\r\r\n", 1, false), Err((13, 1)));
+    assert_eq!(rt; outcome(alloc, b"n\r1\n", 1, false), Err((13, 1)));
+    assert_eq!(rt; outcome(alloc, b"n \r1\n", 1, false), Err((15, 1)));
+    assert_eq!(rt; outcome(alloc, b"n 1\x0b\n", 1, false), Err((15, 1)));
+    assert_eq!(rt; outcome(alloc, b"n 1 \x00\n", 1, false), Err((14, 1)));
+    assert_eq!(rt; outcome(alloc, b"\xff\n", 1, false), Err((13, 1)));
+}
+
+#[test]
+fn writers_of_lines(rt: HostRuntime) {
+    let mut sheet = Sheet::new();
+    let mut line = Line::new();
+    line.push_str("d");
+    push_spaced(&mut line, 18_446_744_073_709_551_615);
+    assert_eq!(rt; write_bytes(&mut sheet, line.as_str().as_bytes()), Ok(()));
+    assert_eq!(rt;
+        sheet.bytes.as_slice(),
+        b"d 18446744073709551615".as_slice()
+    );
+    assert_eq!(rt; write_list(&mut sheet, b"r", &[0, 70, 5]), Ok(()));
+    assert_eq!(rt;
+        sheet.bytes.as_slice(),
+        b"d 18446744073709551615r 0 70 5\n".as_slice()
+    );
+    assert_eq!(rt; write_list(&mut sheet, b"m", &[1]), Err(WriteFault));
+    assert_eq!(rt;
+        sheet.bytes.as_slice(),
+        b"d 18446744073709551615r 0 70 5\nm".as_slice()
+    );
+    assert_eq!(rt; write_bytes(&mut sheet, b""), Ok(()));
+}
+
+#[test]
+fn gathers_and_passes_on(rt: HostRuntime) -> Result<(), Fail> {
+    let mut gathered = Gathered::new(rt.alloc(), Sheet::new())?;
+    for _ in 0..3 {
+        assert_eq!(rt; write_bytes(&mut gathered, b"0123456789"), Ok(()));
+    }
+    assert_eq!(rt; gathered.inner().bytes.as_slice(), b"".as_slice());
+    assert_eq!(rt; gathered.flush(), Ok(()));
+    assert_eq!(rt;
+        gathered.inner().bytes.as_slice(),
+        b"012345678901234567890123456789".as_slice()
+    );
+    assert_eq!(rt; write_bytes(&mut gathered, b"abcd"), Ok(()));
+    assert_eq!(rt; gathered.flush(), Err(WriteFault));
+    assert_eq!(rt;
+        gathered.inner().bytes.as_slice(),
+        b"012345678901234567890123456789ab".as_slice()
+    );
+    assert_eq!(rt; gathered.flush(), Err(WriteFault));
+    Ok(())
+}
+
+#[test]
+fn ends_of_std(rt: HostRuntime) -> Result<(), Fail> {
+    let alloc = rt.alloc();
+    let text: &[u8] = b"n 4\nn 5\n";
+    match read_numbers(alloc, &mut Plain::new(text)) {
+        Ok(numbers) => assert_eq!(rt; numbers.as_slice(), [4u64, 5].as_slice()),
+        Err(_) => assert!(rt; false),
+    }
+    let mut written = Plain::new(Vec::new(alloc));
+    assert_eq!(rt; write_list(&mut written, b"m", &[4, 5]), Ok(()));
+    assert_eq!(rt; written.flush(), Ok(()));
+    assert_eq!(rt; written.into_inner().as_slice(), b"m 4 5\n".as_slice());
+    Ok(())
+}

@@ -1,0 +1,9 @@
+pub mod Elements
+pub mod LevelsAreLeast
+pub mod OneArc
+pub mod OneVertex
+pub mod Marking
+pub mod Trees
+pub mod Chains
+pub mod Told
+pub mod Existing

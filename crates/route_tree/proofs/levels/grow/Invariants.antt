@@ -1,0 +1,13 @@
+use Rattle.std.proofs.Common.{◌≤◌, ◌+◌, [], length}
+use Rattle.path_algebra.specs.Walks.{is_tight}
+use Rattle.route_tree.specs.Levels.{Spreading, unreached}
+use Rattle.route_tree.proofs.levels.grow.Given as goal
+
+abbrev pub invariant-loop-alloc : goal.invariant-loop-alloc
+invariant-loop-alloc g l = record {
+  spreading : Spreading l.graph (is_tight (g.A.PathAlgebra.meaning l.algebra) l.graph l.labels) l.sources l.k l.tree.hops.items l.tree.parents.items l.tree.next.items [] [];
+  size : unreached l.tree.hops.items + length l.tree.next.items + l.k ≤ l.graph.vertices;
+}
+
+abbrev pub decreases-loop-alloc : goal.decreases-loop-alloc
+decreases-loop-alloc g l = unreached l.tree.hops.items + length l.tree.next.items

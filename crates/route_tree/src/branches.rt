@@ -1,0 +1,54 @@
+//! The tree that hops and parents make.
+
+ghost use Rattle.std.specs.Prelude.{◌≡◌, ◌≤◌, length};
+
+use road_graph::Vertex;
+use std::marker::Model;
+
+/// The hops and the parent of each vertex.
+#[derive(Drop)]
+pub struct Tree {
+    pub(crate) hops: Vec<Option<u32>>,
+    pub(crate) parents: Vec<Option<Vertex>>,
+}
+
+impl Model for Tree {
+    ghost use Rattle.std.specs.Prelude.{ℕ, List, Option};
+    ghost use Rattle.route_tree.specs.Tree.{Branches, IsLinked};
+
+    ghost Value = { Branches };
+
+    ghost view = { λ t. record { hops = t.hops.items; parents = t.parents.items } };
+
+    ghost invariant = { λ t. IsLinked (record { hops = t.hops.items; parents = t.parents.items }) };
+}
+
+impl Tree {
+    ghost use Rattle.route_tree.specs.Tree.{hops_of, parent_of, IsLinked};
+
+    /// The number of vertices, which are 1 to this number.
+    pub fn vertices(&self) -> usize
+        ensures count { result ≡ length self.now.hops }
+        ensures linked { IsLinked self.now }
+    {
+        self.hops.len()
+    }
+
+    /// The least number of arcs of a walk of tight arcs from a source; none where no walk has a value.
+    pub fn hops(&self, v: Vertex) -> Option<u32>
+        requires low { 1 ≤ v }
+        requires high { v ≤ length self.now.hops }
+        ensures { result ≡ hops_of self.now v }
+    {
+        self.hops[v.0 as usize - 1]
+    }
+
+    /// The least vertex with a tight arc to this one and one hop less; none at a source, and where there are no hops.
+    pub fn parent(&self, v: Vertex) -> Option<Vertex>
+        requires low { 1 ≤ v }
+        requires high { v ≤ length self.now.hops }
+        ensures { result ≡ parent_of self.now v }
+    {
+        self.parents[v.0 as usize - 1]
+    }
+}

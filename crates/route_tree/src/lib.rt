@@ -1,0 +1,22 @@
+//! Route trees: for labels that are best from some sources, the least hops and the least parent of each vertex, and routes along them.
+//!
+//! An arc is tight where extending the label of its tail gives the label of its head. The hops of a vertex are the least
+//! number of arcs of a walk of tight arcs from a source to it; its parent is the least vertex from which a tight arc leads
+//! to it and that has one hop less. A tree is made in one pass over the arcs that leave reached vertices.
+#![tactic(auto)]
+
+mod branches;
+mod growing;
+mod laws;
+mod levels;
+mod planting;
+mod routes;
+mod tightness;
+
+pub use branches::Tree;
+pub use laws::{hops_tell_reached, labels_and_trees_agree, routes_follow_parents, trees_exist};
+pub use planting::tree;
+pub use routes::route;
+
+#[cfg(test)]
+mod tests;

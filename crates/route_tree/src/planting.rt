@@ -1,0 +1,33 @@
+//! The tree of best labels.
+
+ghost use Rattle.std.specs.Prelude.{◌≡◌, length, All, IfOk};
+ghost use Rattle.road_graph.specs.Roads.{HasVertex};
+ghost use Rattle.path_algebra.specs.Walks.{AreBest};
+ghost use Rattle.route_tree.specs.Tree.{IsTree};
+
+use crate::branches::Tree;
+use crate::levels::grow;
+use path_algebra::{Labels, PathAlgebra, laws_hold};
+use road_graph::{Graph, Memory, Vertex};
+use std::alloc::Global;
+
+/// The hops and parents of labels that are best from the sources, as a solver gives them. The only error is want of memory.
+///
+/// It takes time for the arcs that leave reached vertices, and memory for two numbers a vertex.
+pub fn tree<A: PathAlgebra>(
+    alloc: Global,
+    algebra: A,
+    graph: &Graph,
+    sources: &[Vertex],
+    labels: &Labels<A::Value>,
+) -> Result<Tree, Memory>
+    requires sources { All (HasVertex graph.now) sources.now }
+    requires labels { AreBest (A.meaning algebra) graph.now sources.now labels.now }
+    ensures { IfOk result (λ tree. IsTree (A.meaning algebra) graph.now sources.now tree) }
+{
+    laws_hold(algebra);
+    let _n = graph.vertices();
+    let grown = grow(alloc, algebra, graph, labels, sources)?;
+    let (hops, parents) = (grown.hops, grown.parents);
+    Ok(Tree { hops, parents })
+}

@@ -1,0 +1,97 @@
+-- Facts on the words of the definitions.
+use Rattle.std.proofs.Common.{◌≡◌, ℕ, zero, suc, ◌<◌, ◌≤◌, Bool, true, false, cond, not, ◌&&◌, ◌||◌, eqb, Option, Some, None, ◌⊎◌, refl, sym, ap, ◌∙◌, subst, inl, inr, arith, eqb-true, eq-eqb, ne_eqb}
+use Rattle.std.proofs.lemmas.Bool.{cases_eq, cases_Bool, and_parts, and_from, false≢true, cond-true, cond-false, and_left, and_right, not_from_true, not_from_false, or_cases, not-true}
+use Rattle.scholten_core.specs.declared.token.Token.{Token}
+use Rattle.scholten_core.specs.declared.token.Token.TheVariants.{Idle, Message, Held, Signal}
+use Rattle.path_algebra.specs.Algebra.{Algebra, IsLawful}
+use Rattle.scholten_core.specs.Network.{Network}
+use Rattle.scholten_core.specs.Diffusion.{CoreState, put, is_idle, all_below, is_due, out_idle, same_label, sent, extend_label, better_of}
+
+pub put-at : {X : Type 0} (f : ℕ → X) (k : ℕ) (x : X) (j : ℕ) → j ≡ k → put f k x j ≡ x
+unfolding put
+put-at f k x j e = cond-true (eqb j k) x (f j) (eq-eqb j k e)
+
+pub put-same : {X : Type 0} (f : ℕ → X) (k : ℕ) (x : X) → put f k x k ≡ x
+put-same f k x = put-at f k x k refl
+
+pub put-other : {X : Type 0} (f : ℕ → X) (k : ℕ) (x : X) (j : ℕ) → (j ≡ k → ⊥) → put f k x j ≡ f j
+unfolding put
+put-other f k x j h = cond-false (eqb j k) x (f j) (ne_eqb j k h)
+
+-- what a changed function answers
+pub put_tells : {X : Type 0} (f : ℕ → X) (k : ℕ) (x : X) (j : ℕ) → ((j ≡ k) × (put f k x j ≡ x)) ⊎ ((j ≡ k → ⊥) × (put f k x j ≡ f j))
+put_tells f k x j = elim (cases_eq j k) [ inl e ↦ inl (e, put-at f k x j e) | inr h ↦ inr (h, put-other f k x j h) ]
+
+pub idle-true : {V : Type 0} (t : Token V) → is_idle t ≡ true → t ≡ Idle
+idle-true Idle h = refl
+idle-true (Message x) h = absurd (false≢true h)
+idle-true Held h = absurd (false≢true h)
+idle-true Signal h = absurd (false≢true h)
+
+pub idle-false : {V : Type 0} (t : Token V) → is_idle t ≡ false → t ≡ Idle → ⊥
+idle-false t h e = false≢true (sym h ∙ ap is_idle e)
+
+pub all_below-at : (p : ℕ → Bool) (n k : ℕ) → all_below p n ≡ true → k < n → p k ≡ true
+all_below-at p zero k h l = absurd (omega arith)
+all_below-at p (suc n) k h l =
+    elim (cases_eq k n) [
+      | inl e ↦ subst (λ j. p j ≡ true) (sym e) (and_parts (p n) (all_below p n) h).0
+      | inr ne ↦ all_below-at p n k (and_parts (p n) (all_below p n) h).1 (omega arith)
+    ]
+
+module _ {V : Type 0} (A : Algebra V) (N : Network) where
+  pub use_same : IsLawful A → (o p : Option V) → same_label A o p ≡ true → o ≡ p
+  use_same L None None h = refl
+  use_same L None (Some y) h = absurd (false≢true h)
+  use_same L (Some x) None h = absurd (false≢true h)
+  use_same L (Some x) (Some y) h = let b = and_parts (A.no_worse x y) (A.no_worse y x) h in ap Some (L.ordered.antisymmetric x y b.0 b.1)
+
+  pub due_tells : IsLawful A → (v : ℕ) (c : CoreState V) (b : ℕ) →
+      ((is_due A N v c b ≡ true) × (N.tail b ≡ v) × (c.token b ≡ Idle)) ⊎ ((is_due A N v c b ≡ false) × (N.tail b ≡ v → c.token b ≡ Idle → c.told b ≡ c.label v))
+  unfolding is_due
+  due_tells L v c b = elim (cases_Bool (eqb (N.tail b) v)) [
+    | inr f ↦ inr (and_left _ _ (and_left _ _ f), λ e _. absurd (false≢true (sym f ∙ eq-eqb (N.tail b) v e)))
+    | inl t ↦ elim (cases_Bool (is_idle (c.token b))) [
+      | inr f ↦ inr (and_left _ _ (and_right _ _ f), λ _ e. absurd (idle-false (c.token b) f e))
+      | inl i ↦ elim (cases_Bool (same_label A (c.told b) (c.label v))) [
+        | inl s ↦ inr (and_right _ _ (not_from_true _ s), λ _ _. use_same L (c.told b) (c.label v) s)
+        | inr s ↦ inl (and_from _ _ (and_from _ _ t i) (not_from_false _ s), eqb-true (N.tail b) v t, idle-true (c.token b) i)
+      ]
+    ]
+  ]
+
+  pub sent_message : (o : Option V) (w : ℕ) (y : V) → sent (extend_label A o w) ≡ Message y → (x : V) × (o ≡ Some x) × (A.extend x w ≡ Some y)
+  sent_message None w y h = cc
+  sent_message (Some x) w y h = (x, refl, go (A.extend x w) h)
+    where
+      go : (o : Option V) → sent o ≡ Message y → o ≡ Some y
+      go None h = cc
+      go (Some z) h = cc
+
+  pub sent_held : (o : Option V) → sent o ≡ Held → ⊥
+  sent_held None h = cc
+  sent_held (Some x) h = cc
+
+  self : IsLawful A → (x : V) → A.no_worse x x ≡ true
+  self L x = elim (L.ordered.total x x) [ inl h ↦ h | inr h ↦ h ]
+
+  pub better_tells : IsLawful A → (x : V) (o : Option V) →
+      (z : V) × (better_of A x o ≡ Some z) × (A.no_worse z x ≡ true) × ((y : V) → o ≡ Some y → A.no_worse z y ≡ true) × ((z ≡ x) ⊎ (o ≡ Some z))
+  better_tells L x None = (x, refl, self L x, λ y e. cc, inl refl)
+  better_tells L x (Some y) = go (A.no_worse x y) (A.no_worse y x) refl refl
+    where
+      go : (s t : Bool) → A.no_worse x y ≡ s → A.no_worse y x ≡ t →
+          (z : V) × (cond (s && not t) (Some x) (Some y) ≡ Some z) × (A.no_worse z x ≡ true) × ((u : V) → Some y ≡ Some u → A.no_worse z u ≡ true) × ((z ≡ x) ⊎ (Some y ≡ Some z))
+      go true true p q = (y, refl, q, λ u e. let f : y ≡ u = cc in subst (λ w. A.no_worse y w ≡ true) f (self L y), inr refl)
+      go true false p q = (x, refl, self L x, λ u e. let f : y ≡ u = cc in subst (λ w. A.no_worse x w ≡ true) f p, inl refl)
+      go false true p q = (y, refl, q, λ u e. let f : y ≡ u = cc in subst (λ w. A.no_worse y w ≡ true) f (self L y), inr refl)
+      go false false p q = absurd (elim (L.ordered.total x y) [ inl h ↦ false≢true (sym p ∙ h) | inr h ↦ false≢true (sym q ∙ h) ])
+
+  pub out_idle-at : (v : ℕ) (c : CoreState V) → out_idle A N v c ≡ true → (b : ℕ) → b ≤ N.arcs → N.tail b ≡ v → c.token b ≡ Idle
+  unfolding out_idle
+  out_idle-at v c h b l e =
+      let t = all_below-at (λ k. not (eqb (N.tail k) v) || is_idle (c.token k)) (suc N.arcs) b h (omega arith) in
+      elim (or_cases _ _ t) [
+        | inl n ↦ absurd (false≢true (sym (not-true _ n) ∙ eq-eqb (N.tail b) v e))
+        | inr i ↦ idle-true (c.token b) i
+      ]

@@ -1,0 +1,252 @@
+-- The items that an event makes, against the tokens that it changes.
+use Rattle.std.proofs.Common.{◌≡◌, ◌≢◌, ℕ, ◌≤◌, Bool, true, false, cond, eqb, ne_eqb, eq-eqb, Option, Some, None, List, [], ◌∷◌, ◌++◌, append-nil, length, length-append, ◌⊎◌, refl, sym, ap, ◌∙◌, subst, inl, inr, arith}
+use Rattle.std.proofs.lemmas.Bool.{cases_eq, cases_Bool, cond-true, cond-false}
+use Rattle.scholten_core.specs.declared.token.Token.{Token}
+use Rattle.scholten_core.specs.declared.token.Token.TheVariants.{Idle, Message, Held, Signal}
+use Rattle.path_algebra.specs.Algebra.{Algebra, IsLawful}
+use Rattle.scholten_core.specs.Network.{Network, WellFormed}
+use Rattle.scholten_core.specs.Diffusion.{CoreState, is_due, out_idle, pump, arrive, rest, released, freed, settle, sent, extend_label, answer_to, Listed}
+use Rattle.scholten_core.specs.declared.item.Item.{Item}
+use Rattle.scholten_core.specs.declared.item.Item.TheVariants.{Message as MessageOn, Signal as SignalOn}
+use Rattle.scholten_core.specs.Items.{item_arc, at, item_of, pump_made, rest_made, settle_made, IsDistinct, IsOutList, Makes, Moves, HoldsItems, ShowsItems}
+use Rattle.scholten_core.proofs.Basics.{due_tells, put_tells, put-same, put-other}
+use Rattle.scholten_core.proofs.Kept.{Kept, pumped, arrive_kept, freed_kept}
+
+cond_append : {X : Type 0} (t : Bool) (i : X) (xs ys : List X) → cond t (i ∷ (xs ++ ys)) (xs ++ ys) ≡ cond t (i ∷ xs) xs ++ ys
+cond_append true i xs ys = refl
+cond_append false i xs ys = refl
+
+pub at-append : {V : Type 0} (b : ℕ) (xs ys : List (Item V)) → at b (xs ++ ys) ≡ at b xs ++ at b ys
+unfolding at
+at-append b [] ys = refl
+at-append b (i ∷ xs) ys = ap (λ zs. cond (eqb (item_arc i) b) (i ∷ zs) zs) (at-append b xs ys) ∙ cond_append (eqb (item_arc i) b) i (at b xs) (at b ys)
+
+at-one : {V : Type 0} (b : ℕ) (i : Item V) → (item_arc i ≡ b) → at b (i ∷ []) ≡ i ∷ []
+unfolding at
+at-one b i e = cond-true (eqb (item_arc i) b) _ _ (eq-eqb (item_arc i) b e)
+
+at-other : {V : Type 0} (b : ℕ) (i : Item V) → (item_arc i ≢ b) → at b (i ∷ []) ≡ []
+unfolding at
+at-other b i e = cond-false (eqb (item_arc i) b) _ _ (ne_eqb (item_arc i) b e)
+
+pub at-nil : {V : Type 0} (b : ℕ) → ◌≡◌ {A = List (Item V)} (at b []) []
+unfolding at
+at-nil b = refl
+
+pub at-item_of : {V : Type 0} (b : ℕ) (t : Token V) → at b (item_of b t) ≡ item_of b t
+at-item_of b Idle = at-nil b
+at-item_of b (Message x) = at-one b (MessageOn b x) refl
+at-item_of b Held = at-nil b
+at-item_of b Signal = at-one b (SignalOn b) refl
+
+pub at-item_other : {V : Type 0} (b u : ℕ) (t : Token V) → u ≢ b → at b (item_of u t) ≡ []
+at-item_other b u Idle n = at-nil b
+at-item_other b u (Message x) n = at-other b (MessageOn u x) n
+at-item_other b u Held n = at-nil b
+at-item_other b u Signal n = at-other b (SignalOn u) n
+
+module _ {V : Type 0} (A : Algebra V) (N : Network) where
+  abbrev pub due_item : ℕ → CoreState V → ℕ → List (Item V)
+  due_item v d b = cond (is_due A N v d b) (item_of b (sent (extend_label A (d.label v) (N.weight b)))) []
+
+  due_item_other : (v : ℕ) (d : CoreState V) (u b : ℕ) → u ≢ b → at b (due_item v d u) ≡ []
+  due_item_other v d u b n = elim (cases_Bool (is_due A N v d u)) [
+    | inl t ↦ ap (at b) (cond-true _ _ _ t) ∙ at-item_other b u (sent (extend_label A (d.label v) (N.weight u))) n
+    | inr f ↦ ap (at b) (cond-false _ _ _ f) ∙ at-nil b
+  ]
+
+  pub due_item_here : (v : ℕ) (d : CoreState V) (b : ℕ) → at b (due_item v d b) ≡ due_item v d b
+  due_item_here v d b = elim (cases_Bool (is_due A N v d b)) [
+    | inl t ↦ ap (at b) (cond-true _ _ _ t) ∙ at-item_of b (sent (extend_label A (d.label v) (N.weight b))) ∙ sym (cond-true _ _ _ t)
+    | inr f ↦ ap (at b) (cond-false _ _ _ f) ∙ at-nil b ∙ sym (cond-false _ _ _ f)
+  ]
+
+  pub pump_made_none : (v : ℕ) (d : CoreState V) (xs : List ℕ) (b : ℕ) → (Listed A N b xs → ⊥) → at b (pump_made A N v d xs) ≡ []
+  pump_made_none v d [] b h = at-nil b
+  pump_made_none v d (u ∷ us) b h = at-append b (due_item v d u) (pump_made A N v d us)
+      ∙ (λ i. due_item_other v d u b (λ e. h (inl (sym e))) i ++ pump_made_none v d us b (λ l. h (inr l)) i)
+
+  pub pump_made_at : (v : ℕ) (d : CoreState V) (xs : List ℕ) (b : ℕ) → IsDistinct A N xs → Listed A N b xs → at b (pump_made A N v d xs) ≡ due_item v d b
+  pump_made_at v d [] b D l = absurd l
+  pump_made_at v d (u ∷ us) b D l = elim (cases_eq u b) [
+    | inl e ↦ at-append b (due_item v d u) (pump_made A N v d us)
+        ∙ (λ i. at b (due_item v d (e i)) ++ pump_made_none v d us b (λ k. D.0 (subst (λ w. Listed A N w us) (sym e) k)) i)
+        ∙ ap (λ zs. zs ++ []) (due_item_here v d b) ∙ append-nil (due_item v d b)
+    | inr n ↦ (let k : Listed A N b us = elim l [ inl e ↦ absurd (n (sym e)) | inr k ↦ k ] in
+        at-append b (due_item v d u) (pump_made A N v d us) ∙ (λ i. due_item_other v d u b n i ++ pump_made_at v d us b D.1 k i))
+  ]
+
+  rest_made_at : (v : ℕ) (p : CoreState V) (o : Option ℕ) (t : Bool) (b : ℕ) → ((e : ℕ) → o ≡ Some e → p.token e ≡ Held) →
+      (((released A N v p o t).token b ≡ p.token b) × (at b (rest_made A N o t) ≡ [])) ⊎ ((p.token b ≡ Held) × ((released A N v p o t).token b ≡ Signal) × (at b (rest_made A N o t) ≡ SignalOn b ∷ []))
+  rest_made_at v p None t b h = inl (refl, at-nil b)
+  rest_made_at v p (Some e) false b h = inl (refl, at-nil b)
+  rest_made_at v p (Some e) true b h = elim (put_tells p.token e Signal b) [
+    | inl k ↦ inr (ap p.token k.0 ∙ h e refl, k.1, at-one b (SignalOn e) (sym k.0) ∙ ap (λ j. SignalOn j ∷ []) (sym k.0))
+    | inr k ↦ inl (k.1, at-other b (SignalOn e) (λ q. k.0 (sym q)))
+  ]
+
+  pub settle_makes : IsLawful A → (v : ℕ) (d : CoreState V) (xs : List ℕ) (b : ℕ) → IsOutList A N v xs → ((e : ℕ) → d.engager v ≡ Some e → d.token e ≡ Held) →
+      Makes A N b (d.token b) ((settle A N v d).token b) (at b (settle_made A N v d xs))
+  settle_makes L v d xs b O h =
+      let split = at-append b (pump_made A N v d xs) (rest_made A N (d.engager v) (out_idle A N v (pump A N v d))) in
+      let held = λ (e : ℕ) (q : d.engager v ≡ Some e). elim (pumped A N L v d e) as (λ _. (pump A N v d).token e ≡ Held) [ inl k ↦ absurd (let g = h e q in let j = k.1 in cc) | inr k ↦ k.0 ∙ h e q ] in
+      elim (due_tells A N L v d b) [
+        | inl k ↦ (let p : at b (pump_made A N v d xs) ≡ item_of b ((pump A N v d).token b) =
+            pump_made_at v d xs b O.distinct (O.all b k.1) ∙ cond-true _ _ _ k.0 ∙ ap (item_of b) (sym (cond-true (is_due A N v d b) _ _ k.0)) in
+            elim (rest_made_at v (pump A N v d) (d.engager v) (out_idle A N v (pump A N v d)) b held) [
+              | inl r ↦ inr (ap (item_of b) k.2, split ∙ (λ i. p i ++ r.1 i) ∙ append-nil (item_of b ((pump A N v d).token b)) ∙ ap (item_of b) (sym r.0))
+              | inr r ↦ absurd (sent_never (extend_label A (d.label v) (N.weight b)) (sym (cond-true (is_due A N v d b) _ _ k.0) ∙ r.0))
+            ])
+        | inr k ↦ (let p : at b (pump_made A N v d xs) ≡ [] = (elim (cases_eq (N.tail b) v) [
+          | inl e ↦ pump_made_at v d xs b O.distinct (O.all b e) ∙ cond-false _ _ _ k.0
+          | inr n ↦ pump_made_none v d xs b (λ l. n (O.only b l))
+        ]) in
+            let u : (pump A N v d).token b ≡ d.token b = cond-false (is_due A N v d b) _ _ k.0 in
+            elim (rest_made_at v (pump A N v d) (d.engager v) (out_idle A N v (pump A N v d)) b held) [
+              | inl r ↦ inl (r.0 ∙ u, split ∙ (λ i. p i ++ r.1 i))
+              | inr r ↦ inr (ap (item_of b) (sym u ∙ r.0), split ∙ (λ i. p i ++ r.2 i) ∙ ap (item_of b) (sym r.1))
+            ])
+      ]
+    where
+      sent_never : (o : Option V) → sent o ≡ Held → ⊥
+      sent_never None q = cc
+      sent_never (Some y) q = cc
+
+  abbrev pub deliver_made : ℕ → CoreState V → List ℕ → List (Item V) → List (Item V)
+  deliver_made a d xs answer = answer ++ settle_made A N (N.head a) d xs
+
+  answer_either : (o : Option ℕ) → (answer_to {V = V} o ≡ Held) ⊎ (answer_to {V = V} o ≡ Signal)
+  answer_either None = inl refl
+  answer_either (Some e) = inr refl
+
+  -- a delivery: its own arc has what its new token stands for, each other arc nothing or its new items
+  pub message_makes : IsLawful A → WellFormed N → (a : ℕ) (x : V) (c : CoreState V) (xs : List ℕ) → c.token a ≡ Message x → Kept A N 0 c → IsOutList A N (N.head a) xs →
+      (at a (item_of a (answer_to (c.engager (N.head a))) ++ settle_made A N (N.head a) (arrive A N a x c) xs) ≡ item_of a ((settle A N (N.head a) (arrive A N a x c)).token a))
+      × ((b : ℕ) → b ≢ a → Makes A N b (c.token b) ((settle A N (N.head a) (arrive A N a x c)).token b) (at b (item_of a (answer_to (c.engager (N.head a))) ++ settle_made A N (N.head a) (arrive A N a x c) xs)))
+  message_makes L W a x c xs q K O =
+      let K2 = arrive_kept A N L W a x c q K in
+      let S = λ (b : ℕ). settle_makes L (N.head a) (arrive A N a x c) xs b O (λ e r. (K2.engager_held (N.head a) e r).0) in
+      let t = answer_to {V = V} (c.engager (N.head a)) in
+      let ta : (arrive A N a x c).token a ≡ answer_to (c.engager (N.head a)) = put-same c.token a (answer_to (c.engager (N.head a))) in
+      let split = λ (b : ℕ). at-append b (item_of a (answer_to {V = V} (c.engager (N.head a)))) (settle_made A N (N.head a) (arrive A N a x c) xs) in (
+        split a ∙ (elim (S a) [
+          | inl h ↦ (λ i. at-item_of a (answer_to {V = V} (c.engager (N.head a))) i ++ h.1 i) ∙ append-nil (item_of a (answer_to {V = V} (c.engager (N.head a)))) ∙ ap (item_of a) (sym (h.0 ∙ ta))
+          | inr h ↦ (λ i. (at-item_of a (answer_to {V = V} (c.engager (N.head a))) ∙ ap (item_of a) (sym ta) ∙ h.0) i ++ h.1 i)
+        ]),
+        λ b n. (let tb : (arrive A N a x c).token b ≡ c.token b = put-other c.token a (answer_to (c.engager (N.head a))) b n in
+            let none : at b (item_of a (answer_to {V = V} (c.engager (N.head a)))) ≡ [] = at-item_other b a (answer_to {V = V} (c.engager (N.head a))) (λ e. n (sym e)) in
+            elim (S b) [
+              | inl h ↦ inl (h.0 ∙ tb, split b ∙ (λ i. none i ++ h.1 i))
+              | inr h ↦ inr (ap (item_of b) (sym tb) ∙ h.0, split b ∙ (λ i. none i ++ h.1 i))
+            ]),
+      )
+
+  pub moves_then : (k l m : List (Item V)) (c d e : CoreState V) → Moves A N k l c d → Moves A N l m d e → Moves A N k m c e
+  moves_then k l m c d e p q b = elim (p b) [
+    | inl h ↦ (elim (q b) [ inl j ↦ inl (j.0 ∙ h.0, j.1 ∙ h.1) | inr j ↦ inr (sym h.1 ∙ j.0 ∙ ap (item_of b) h.0, j.1) ])
+    | inr h ↦ (elim (q b) [ inl j ↦ inr (h.0, j.1 ∙ h.1 ∙ ap (item_of b) (sym j.0)) | inr j ↦ inr (h.0, j.1) ])
+  ]
+
+  pub moves_holds : (own new : List (Item V)) (c d : CoreState V) → HoldsItems A N own c → Moves A N own new c d → HoldsItems A N new d
+  moves_holds own new c d h m b = elim (m b) [
+    | inl j ↦ (elim (h b) [ inl k ↦ inl (j.1 ∙ k) | inr k ↦ inr (j.1 ∙ k ∙ ap (item_of b) (sym j.0)) ])
+    | inr j ↦ inr j.1
+  ]
+
+  around_none : {X : Type 0} (xs zs ys : List X) → xs ++ (zs ++ ys) ≡ zs → (xs ≡ []) × (ys ≡ [])
+  around_none xs zs ys e =
+      let l = ap length e in let p = length-append xs (zs ++ ys) in let q = length-append zs ys in
+      (no_length xs (omega (arith, l, p, q)), no_length ys (omega (arith, l, p, q)))
+    where
+      no_length : {X : Type 0} (xs : List X) → length xs ≡ 0 → xs ≡ []
+      no_length [] h = refl
+      no_length (x ∷ xs) h = absurd (omega arith)
+
+  -- one part's lists move among all
+  pub shows_moved : (before own new after : List (Item V)) (c d : CoreState V) → ShowsItems A N (before ++ (own ++ after)) c → Moves A N own new c d → ShowsItems A N (before ++ (new ++ after)) d
+  shows_moved before own new after c d S m b =
+      let split = λ (zs : List (Item V)). at-append b before (zs ++ after) ∙ ap (λ ys. at b before ++ ys) (at-append b zs after) in
+      let all : at b before ++ (at b own ++ at b after) ≡ item_of b (c.token b) = sym (split own) ∙ S b in
+      split new ∙ (elim (m b) [
+        | inl h ↦ ap (λ zs. at b before ++ (zs ++ at b after)) h.1 ∙ all ∙ ap (item_of b) (sym h.0)
+        | inr h ↦ (let none = around_none (at b before) (item_of b (c.token b)) (at b after) (ap (λ zs. at b before ++ (zs ++ at b after)) (sym h.0) ∙ all) in
+            (λ i. none.0 i ++ (h.1 i ++ none.1 i)) ∙ append-nil (item_of b (d.token b)))
+      ])
+
+  item_of_short : (b : ℕ) (t : Token V) → length (item_of b t) ≤ 1
+  item_of_short b Idle = omega arith
+  item_of_short b (Message x) = omega arith
+  item_of_short b Held = omega arith
+  item_of_short b Signal = omega arith
+
+  swap_short : {X : Type 0} (xs us vs ys : List X) → length (xs ++ (us ++ (vs ++ ys))) ≤ 1 → xs ++ (us ++ (vs ++ ys)) ≡ xs ++ (vs ++ (us ++ ys))
+  swap_short xs [] vs ys h = refl
+  swap_short xs (u ∷ us) [] ys h = refl
+  swap_short xs (u ∷ us) (v ∷ vs) ys h =
+      absurd (let p = length-append xs ((u ∷ us) ++ ((v ∷ vs) ++ ys)) in let q = length-append us ((v ∷ vs) ++ ys) in omega (arith, p, q))
+
+  -- a batch moves past other lists: from an outbox to a mailbox, from a mailbox to a queue
+  pub shows_batch : (before batch between after : List (Item V)) (c : CoreState V) → ShowsItems A N (before ++ (batch ++ (between ++ after))) c → ShowsItems A N (before ++ (between ++ (batch ++ after))) c
+  shows_batch before batch between after c S b =
+      let split = λ (us vs : List (Item V)). at-append b before (us ++ (vs ++ after)) ∙ ap (λ zs. at b before ++ zs) (at-append b us (vs ++ after) ∙ ap (λ zs. at b us ++ zs) (at-append b vs after)) in
+      let all : at b before ++ (at b batch ++ (at b between ++ at b after)) ≡ item_of b (c.token b) = sym (split batch between) ∙ S b in
+      split between batch
+      ∙ sym (swap_short (at b before) (at b batch) (at b between) (at b after) (subst (λ zs. length zs ≤ 1) (sym all) (item_of_short b (c.token b))))
+      ∙ all
+
+  pub at-first : (b : ℕ) (i : Item V) (rest : List (Item V)) → (item_arc i ≡ b) → at b (i ∷ rest) ≡ i ∷ at b rest
+  unfolding at
+  at-first b i rest e = cond-true (eqb (item_arc i) b) _ _ (eq-eqb (item_arc i) b e)
+
+  pub at-skip : (b : ℕ) (i : Item V) (rest : List (Item V)) → (item_arc i ≢ b) → at b (i ∷ rest) ≡ at b rest
+  unfolding at
+  at-skip b i rest e = cond-false (eqb (item_arc i) b) _ _ (ne_eqb (item_arc i) b e)
+
+  only_first : {X : Type 0} (x y : X) (xs : List X) → x ∷ xs ≡ y ∷ [] → xs ≡ []
+  only_first x y xs e = cc
+
+  -- the item at the front is taken, and the event's items are put behind
+  pub front_moves : (i : Item V) (rest made : List (Item V)) (c d : CoreState V) →
+      HoldsItems A N (i ∷ rest) c → item_of (item_arc i) (c.token (item_arc i)) ≡ i ∷ [] →
+      at (item_arc i) made ≡ item_of (item_arc i) (d.token (item_arc i)) →
+      ((b : ℕ) → b ≢ item_arc i → Makes A N b (c.token b) (d.token b) (at b made)) → Moves A N (i ∷ rest) (rest ++ made) c d
+  front_moves i rest made c d H f m o b = elim (cases_eq b (item_arc i)) [
+    | inl e ↦ inr (subst (λ a. (at a (i ∷ rest) ≡ item_of a (c.token a)) × (at a (rest ++ made) ≡ item_of a (d.token a))) (sym e)
+        (let alone : at (item_arc i) rest ≡ [] = elim (H (item_arc i)) [
+          | inl h ↦ absurd (let g = sym (at-first (item_arc i) i rest refl) ∙ h in cc)
+          | inr h ↦ only_first i i (at (item_arc i) rest) (sym (at-first (item_arc i) i rest refl) ∙ h ∙ f)
+        ] in (
+          at-first (item_arc i) i rest refl ∙ ap (λ zs. i ∷ zs) alone ∙ sym f,
+          at-append (item_arc i) rest made ∙ (λ j. alone j ++ m j),
+        )))
+    | inr n ↦ (let skip = at-skip b i rest (λ e. n (sym e)) in elim (o b n) [
+      | inl h ↦ inl (h.0, at-append b rest made ∙ ap (λ zs. at b rest ++ zs) h.1 ∙ append-nil (at b rest) ∙ sym skip)
+      | inr h ↦ (let none : at b rest ≡ [] = elim (H b) [ inl k ↦ sym skip ∙ k | inr k ↦ sym skip ∙ k ∙ h.0 ] in
+          inr (skip ∙ none ∙ sym h.0, at-append b rest made ∙ (λ j. none j ++ h.1 j)))
+    ])
+  ]
+
+  pub message_moves : IsLawful A → WellFormed N → (a : ℕ) (x : V) (rest xs : List (Item V)) (c : CoreState V) (out : List ℕ) → c.token a ≡ Message x → Kept A N 0 c → IsOutList A N (N.head a) out →
+      HoldsItems A N (MessageOn a x ∷ rest) c →
+      Moves A N (MessageOn a x ∷ rest) (rest ++ (item_of a (answer_to (c.engager (N.head a))) ++ settle_made A N (N.head a) (arrive A N a x c) out)) c (settle A N (N.head a) (arrive A N a x c))
+  message_moves L W a x rest xs c out q K O H =
+      let M = message_makes L W a x c out q K O in
+      front_moves (MessageOn a x) rest (item_of a (answer_to (c.engager (N.head a))) ++ settle_made A N (N.head a) (arrive A N a x c) out) c (settle A N (N.head a) (arrive A N a x c)) H (ap (item_of a) q) M.0 M.1
+
+  pub signal_makes : IsLawful A → WellFormed N → (a : ℕ) (c : CoreState V) (xs : List ℕ) → c.token a ≡ Signal → Kept A N 0 c → IsOutList A N (N.tail a) xs →
+      (at a (settle_made A N (N.tail a) (freed A N a c) xs) ≡ item_of a ((settle A N (N.tail a) (freed A N a c)).token a))
+      × ((b : ℕ) → b ≢ a → Makes A N b (c.token b) ((settle A N (N.tail a) (freed A N a c)).token b) (at b (settle_made A N (N.tail a) (freed A N a c) xs)))
+  signal_makes L W a c xs q K O =
+      let K2 = freed_kept A N W a c q K in
+      let S = λ (b : ℕ). settle_makes L (N.tail a) (freed A N a c) xs b O (λ e r. (K2.engager_held (N.tail a) e r).0) in
+      let ta : (freed A N a c).token a ≡ Idle = put-same c.token a Idle in (
+        (elim (S a) [ inl h ↦ h.1 ∙ ap (item_of a) (sym (h.0 ∙ ta)) | inr h ↦ h.1 ]),
+        λ b n. (let tb : (freed A N a c).token b ≡ c.token b = put-other c.token a Idle b n in
+            elim (S b) [ inl h ↦ inl (h.0 ∙ tb, h.1) | inr h ↦ inr (ap (item_of b) (sym tb) ∙ h.0, h.1) ]),
+      )
+
+  pub signal_moves : IsLawful A → WellFormed N → (a : ℕ) (rest : List (Item V)) (c : CoreState V) (out : List ℕ) → c.token a ≡ Signal → Kept A N 0 c → IsOutList A N (N.tail a) out →
+      HoldsItems A N (SignalOn a ∷ rest) c → Moves A N (SignalOn a ∷ rest) (rest ++ settle_made A N (N.tail a) (freed A N a c) out) c (settle A N (N.tail a) (freed A N a c))
+  signal_moves L W a rest c out q K O H =
+      let M = signal_makes L W a c out q K O in
+      front_moves (SignalOn a) rest (settle_made A N (N.tail a) (freed A N a c) out) c (settle A N (N.tail a) (freed A N a c)) H (ap (item_of a) q) M.0 M.1

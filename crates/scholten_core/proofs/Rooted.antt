@@ -1,0 +1,169 @@
+-- The engagement order through each event.
+use Rattle.std.proofs.Common.{◌≡◌, ◌≢◌, ℕ, zero, suc, Bool, true, false, cond, eqb, Option, Some, None, List, [], ◌∷◌, ◌⊎◌, refl, sym, ap, ◌∙◌, subst, inl, inr, arith, eq-eqb, ne_eqb}
+use Rattle.std.proofs.lemmas.Bool.{cases_eq, cond-true, cond-false}
+use Rattle.scholten_core.specs.declared.token.Token.{Token}
+use Rattle.scholten_core.specs.declared.token.Token.TheVariants.{Idle, Message, Held, Signal}
+use Rattle.scholten_core.specs.declared.event.Event.{Event}
+use Rattle.scholten_core.specs.declared.event.Event.TheVariants.{Deliver, Accept}
+use Rattle.path_algebra.specs.Algebra.{Algebra, IsLawful}
+use Rattle.scholten_core.specs.Network.{Network, WellFormed}
+use Rattle.scholten_core.specs.Diffusion.{CoreState, opening, put, pump, arrive, rest, released, freed, settle_tail, delivered, accepted, step, run_from, out_idle, engaged_by, Listed}
+use Rattle.scholten_core.specs.Rooted.{IsEngagementOrder, IsRooted}
+use Rattle.scholten_core.proofs.Basics.{put_tells, put-same, put-other, out_idle-at}
+use Rattle.scholten_core.proofs.Kept.{Kept, head_real, arrive_kept, pump_kept, freed_kept, step_kept}
+
+module _ {V : Type 0} (A : Algebra V) (N : Network) where
+  -- the part of IsRooted that pumping cannot change
+  pub Ordered : (ℕ → Option ℕ) → Type 0
+  Ordered f = (order : List ℕ) × IsEngagementOrder A N f order × ((v a : ℕ) → f v ≡ Some a → Listed A N v order)
+
+  order_engaged : (f : ℕ → Option ℕ) (order : List ℕ) (v : ℕ) → IsEngagementOrder A N f order → Listed A N v order → (a : ℕ) × (f v ≡ Some a)
+  order_engaged f [] v o l = absurd l
+  order_engaged f (u ∷ us) v o l = elim l [ inl e ↦ (o.0.0, ap f e ∙ o.0.1) | inr m ↦ order_engaged f us v o.2 m ]
+
+  order_same : (f g : ℕ → Option ℕ) (order : List ℕ) → ((v : ℕ) → Listed A N v order → f v ≡ g v) → IsEngagementOrder A N f order → IsEngagementOrder A N g order
+  order_same f g [] h o = tt
+  order_same f g (u ∷ us) h o = ((o.0.0, sym (h u (inl refl)) ∙ o.0.1, o.0.2), o.1, order_same f g us (λ v l. h v (inr l)) o.2)
+
+  without : ℕ → List ℕ → List ℕ
+  without v [] = []
+  without v (u ∷ us) = cond (eqb u v) (without v us) (u ∷ without v us)
+
+  without-here : (v u : ℕ) (us : List ℕ) → u ≡ v → without v (u ∷ us) ≡ without v us
+  unfolding without
+  without-here v u us e = cond-true (eqb u v) _ _ (eq-eqb u v e)
+
+  without-there : (v u : ℕ) (us : List ℕ) → u ≢ v → without v (u ∷ us) ≡ u ∷ without v us
+  unfolding without
+  without-there v u us e = cond-false (eqb u v) _ _ (ne_eqb u v e)
+
+  without-nil : (v : ℕ) → without v [] ≡ []
+  unfolding without
+  without-nil v = refl
+
+  listed_without : (v u : ℕ) (us : List ℕ) → u ≢ v → Listed A N u us → Listed A N u (without v us)
+  listed_without v u [] ne l = absurd l
+  listed_without v u (w ∷ us) ne l = elim (cases_eq w v) [
+    | inl e ↦ subst (Listed A N u) (sym (without-here v w us e)) (elim l [ inl k ↦ absurd (ne (k ∙ e)) | inr k ↦ listed_without v u us ne k ])
+    | inr n ↦ subst (Listed A N u) (sym (without-there v w us n)) (elim l [ inl k ↦ inl k | inr k ↦ inr (listed_without v u us ne k) ])
+  ]
+
+  without_listed : (v u : ℕ) (us : List ℕ) → Listed A N u (without v us) → Listed A N u us
+  without_listed v u [] l = subst (Listed A N u) (without-nil v) l
+  without_listed v u (w ∷ us) l = elim (cases_eq w v) [
+    | inl e ↦ inr (without_listed v u us (subst (Listed A N u) (without-here v w us e) l))
+    | inr n ↦ (let k : Listed A N u (w ∷ without v us) = subst (Listed A N u) (without-there v w us n) l in elim k [ inl j ↦ inl j | inr j ↦ inr (without_listed v u us j) ])
+  ]
+
+  order_without : (f : ℕ → Option ℕ) (v : ℕ) → ((u a : ℕ) → f u ≡ Some a → N.tail a ≢ v) → (order : List ℕ) →
+      IsEngagementOrder A N f order → IsEngagementOrder A N (put f v None) (without v order)
+  order_without f v free [] o = subst (IsEngagementOrder A N (put f v None)) (sym (without-nil v)) tt
+  order_without f v free (u ∷ us) o = elim (cases_eq u v) [
+    | inl e ↦ subst (IsEngagementOrder A N (put f v None)) (sym (without-here v u us e)) (order_without f v free us o.2)
+    | inr n ↦ subst (IsEngagementOrder A N (put f v None)) (sym (without-there v u us n)) (
+      (o.0.0, put-other f v None u n ∙ o.0.1, elim o.0.2 [ inl z ↦ inl z | inr l ↦ inr (listed_without v (N.tail o.0.0) us (free u o.0.0 o.0.1) l) ]),
+      (λ l. o.1 (without_listed v u us l)),
+      order_without f v free us o.2,
+    )
+  ]
+
+  -- a vertex is engaged by an arc whose tail is the environment or engaged
+  engage_ordered : (f : ℕ → Option ℕ) (v a : ℕ) (o : Option ℕ) → f v ≡ o → (N.tail a ≡ 0) ⊎ ((e : ℕ) × (f (N.tail a) ≡ Some e)) → Ordered f → Ordered (put f v (engaged_by o a))
+  unfolding Ordered
+  engage_ordered f v a None q t O =
+      let new = λ (l : Listed A N v O.0). (let h = order_engaged f O.0 v O.1 l in let g = h.1 in let z : ⊥ = cc in z) in (
+        v ∷ O.0,
+        (
+          (a, put-same f v (Some a), elim t [ inl z ↦ inl z | inr h ↦ inr (O.2 (N.tail a) h.0 h.1) ]),
+          new,
+          order_same f (put f v (Some a)) O.0 (λ u l. sym (put-other f v (Some a) u (λ e. new (subst (λ w. Listed A N w O.0) e l)))) O.1,
+        ),
+        λ u b h. elim (put_tells f v (Some a) u) [ inl k ↦ inl k.0 | inr k ↦ inr (O.2 u b (sym k.1 ∙ h)) ],
+      )
+  engage_ordered f v a (Some e) q t O =
+      let same = λ (u : ℕ). elim (put_tells f v (Some e) u) as (λ _. f u ≡ put f v (Some e) u) [ inl k ↦ ap f k.0 ∙ q ∙ sym k.1 | inr k ↦ sym k.1 ] in
+      (O.0, order_same f (put f v (Some e)) O.0 (λ u l. same u) O.1, λ u b h. O.2 u b (same u ∙ h))
+
+  release_ordered : (f : ℕ → Option ℕ) (v : ℕ) → ((u a : ℕ) → f u ≡ Some a → N.tail a ≢ v) → Ordered f → Ordered (put f v None)
+  unfolding Ordered
+  release_ordered f v free O = (
+    without v O.0,
+    order_without f v free O.0 O.1,
+    λ u b h. elim (put_tells f v None u) [ inl k ↦ absurd (let g = k.1 in cc) | inr k ↦ listed_without v u O.0 k.0 (O.2 u b (sym k.1 ∙ h)) ],
+  )
+
+  rest_ordered : WellFormed N → (v : ℕ) (c : CoreState V) → Kept A N 0 c → Ordered c.engager → Ordered (rest A N v c).engager
+  rest_ordered W v c K O = go (c.engager v) (out_idle A N v c) refl refl
+    where
+      go : (o : Option ℕ) (t : Bool) → c.engager v ≡ o → out_idle A N v c ≡ t → Ordered (released A N v c o t).engager
+      go None t p q = O
+      go (Some e) false p q = O
+      go (Some e) true p q = release_ordered c.engager v
+          (λ u a h z. let held = (K.engager_held u a h).0 in
+          let vn : v ≢ 0 = (λ y. let g = ap c.engager y in let j = K.env_neutral in cc) in
+          let i = out_idle-at A N v c q a (W.real a (λ y. vn (sym z ∙ y))) z in cc) O
+
+  pub deliver_ordered : IsLawful A → WellFormed N → (a : ℕ) (c : CoreState V) (t : Token V) → c.token a ≡ t → Kept A N 0 c → Ordered c.engager → Ordered (delivered A N a c t).engager
+  deliver_ordered L W a c Idle q K O = O
+  deliver_ordered L W a c (Message x) q K O =
+      let v = N.head a in
+      let e = engaged_some (c.engager (N.head a)) a in
+      rest_ordered W (N.head a) (pump A N (N.head a) (arrive A N a x c))
+      (pump_kept A N L W (N.head a) e.0 (arrive A N a x c) (head_real A N W 0 a c K (λ z. cc))
+      (put-same c.engager (N.head a) (engaged_by (c.engager (N.head a)) a) ∙ e.1) (arrive_kept A N L W a x c q K))
+      (engage_ordered c.engager (N.head a) a (c.engager (N.head a)) refl (tail_in (c.engager (N.tail a)) refl) O)
+    where
+      engaged_some : (o : Option ℕ) (a : ℕ) → (e : ℕ) × (engaged_by o a ≡ Some e)
+      engaged_some None a = (a, refl)
+      engaged_some (Some e) a = (e, refl)
+
+      tail_in : (o : Option ℕ) → c.engager (N.tail a) ≡ o → (N.tail a ≡ 0) ⊎ ((e : ℕ) × (c.engager (N.tail a) ≡ Some e))
+      tail_in None h = elim (cases_eq a 0) [ inl z ↦ inl (ap N.tail z ∙ W.tail_zero) | inr nz ↦ absurd (let g = K.neutral_idle a nz h in cc) ]
+      tail_in (Some e) h = inr (e, h)
+  deliver_ordered L W a c Held q K O = O
+  deliver_ordered L W a c Signal q K O = O
+
+  settle_tail_ordered : IsLawful A → WellFormed N → (a : ℕ) (c : CoreState V) → c.token a ≡ Signal → Kept A N 0 c → Ordered c.engager → Ordered (settle_tail A N a (N.tail a) (freed A N a c)).engager
+  settle_tail_ordered L W zero c q K O = O
+  settle_tail_ordered L W (suc a) c q K O =
+      let e = tail_engaged (c.engager (N.tail (suc a))) refl in
+      rest_ordered W (N.tail (suc a)) (pump A N (N.tail (suc a)) (freed A N (suc a) c))
+      (pump_kept A N L W (N.tail (suc a)) e.0 (freed A N (suc a) c) (λ z. let g = ap c.engager z in let j = K.env_neutral in let k = e.1 in cc) e.1 (freed_kept A N W (suc a) c q K)) O
+    where
+      tail_engaged : (o : Option ℕ) → c.engager (N.tail (suc a)) ≡ o → (e : ℕ) × (c.engager (N.tail (suc a)) ≡ Some e)
+      tail_engaged None h = absurd (let g = K.neutral_idle (suc a) (λ z. omega arith) h in cc)
+      tail_engaged (Some e) h = (e, h)
+
+  pub accept_ordered : IsLawful A → WellFormed N → (a : ℕ) (c : CoreState V) (t : Token V) → c.token a ≡ t → Kept A N 0 c → Ordered c.engager → Ordered (accepted A N a c t).engager
+  accept_ordered L W a c Idle q K O = O
+  accept_ordered L W a c (Message x) q K O = O
+  accept_ordered L W a c Held q K O = O
+  accept_ordered L W a c Signal q K O = settle_tail_ordered L W a c q K O
+
+  pub step_ordered : IsLawful A → WellFormed N → (c : CoreState V) (e : Event) → Kept A N 0 c → Ordered c.engager → Ordered (step A N c e).engager
+  step_ordered L W c (Deliver a) K O = deliver_ordered L W a c (c.token a) refl K O
+  step_ordered L W c (Accept a) K O = accept_ordered L W a c (c.token a) refl K O
+
+  pub run_ordered : IsLawful A → WellFormed N → (c : CoreState V) (es : List Event) → Kept A N 0 c → Ordered c.engager → Ordered (run_from A N c es).engager
+  run_ordered L W c [] K O = O
+  run_ordered L W c (e ∷ es) K O = run_ordered L W (step A N c e) es (step_kept A N L W c e K) (step_ordered L W c e K O)
+
+  pub rooted : (c : CoreState V) → Kept A N 0 c → Ordered c.engager → IsRooted A N c
+  unfolding Ordered
+  rooted c K O = (O.0, O.1, λ v a h. (O.2 v a h, (K.engager_held v a h).0))
+
+  pub opening_ordered : Ordered (opening A N).engager
+  unfolding Ordered
+  opening_ordered = ([], tt, λ v a h. cc)
+
+  none_listed : (f : ℕ → Option ℕ) → ((u a : ℕ) → f u ≡ Some a → N.tail a ≢ 0) → (order : List ℕ) → IsEngagementOrder A N f order → (u : ℕ) → Listed A N u order → ⊥
+  none_listed f free [] o u l = l
+  none_listed f free (v ∷ us) o u l = elim o.0.2 [ inl z ↦ free v o.0.0 o.0.1 z | inr k ↦ none_listed f free us o.2 (N.tail o.0.0) k ]
+
+  pub none_engaged : (f : ℕ → Option ℕ) → ((u a : ℕ) → f u ≡ Some a → N.tail a ≢ 0) → Ordered f → (v : ℕ) → f v ≡ None
+  unfolding Ordered
+  none_engaged f free O v = go (f v) refl
+    where
+      go : (o : Option ℕ) → f v ≡ o → f v ≡ None
+      go None h = h
+      go (Some a) h = absurd (none_listed f free O.0 O.1 v (O.2 v a h))

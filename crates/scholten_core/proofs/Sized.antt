@@ -1,0 +1,146 @@
+-- The tables keep their sizes, and the counters stay right, through each move.
+use Rattle.std.proofs.Common.{◌≡◌, ◌≢◌, ℕ, zero, suc, ◌+◌, ◌-◌, ◌<◌, ◌≤◌, ◌^◌, Bool, true, false, Option, Some, None, List, length, get_or, set, ◌⊎◌, refl, sym, ap, ◌∙◌, subst, inl, inr, arith, length-set, get_or-set_same, get_or-set_other}
+use Rattle.scholten_core.specs.declared.token.Token.{Token}
+use Rattle.scholten_core.specs.declared.token.Token.TheVariants.{Idle, Message, Held, Signal}
+use Rattle.scholten_core.specs.Diffusion.{CoreState, is_idle}
+use Rattle.scholten_core.specs.Deficit.{deficit}
+use Rattle.scholten_core.specs.CoreView.{CoreView, state_of, network_of, IsSized}
+use Rattle.scholten_core.proofs.Written.{busy_within, reads}
+use Rattle.scholten_core.proofs.Counted.{counted_same, counted_more, counted_less, deficit_least, deficit_most}
+
+-- a token that is not idle stands on one of the arcs
+pub busy_arc : {S V : Type 0} (t : CoreView S V) (a : ℕ) → IsSized t → is_idle ((state_of t).token a) ≡ false → a < suc (network_of t).arcs
+busy_arc t a z b = let l = busy_within t.tokens a b in let n = z.tokens in omega (arith, l, n)
+
+-- what a caller knows of the view holds of the tables
+pub busy_seen : {S V : Type 0} (t old : CoreView S V) (a : ℕ) → t ≡ old → is_idle ((state_of old).token a) ≡ false → is_idle ((state_of t).token a) ≡ false
+busy_seen t old a e b = ap (λ u. is_idle ((state_of u).token a)) e ∙ b
+
+pub tail_seen : {S V : Type 0} (t old : CoreView S V) (a v : ℕ) → t ≡ old → v ≡ (network_of old).tail a → v ≡ (network_of t).tail a
+tail_seen t old a v e h = h ∙ ap (λ u. (network_of u).tail a) (sym e)
+
+pub vertex_seen : {S V : Type 0} (t old : CoreView S V) (v : ℕ) → t ≡ old → v ≤ old.problem.roads.vertices → v ≤ t.problem.roads.vertices
+vertex_seen t old v e h = subst (λ u. v ≤ u.problem.roads.vertices) (sym e) h
+
+pub idle_seen : {S V : Type 0} (t old : CoreView S V) (a : ℕ) → t ≡ old → is_idle ((state_of old).token a) ≡ true → is_idle ((state_of t).token a) ≡ true
+idle_seen t old a e b = ap (λ u. is_idle ((state_of u).token a)) e ∙ b
+
+pub tail_of_seen : {S V : Type 0} (t old : CoreView S V) (a v : ℕ) → t ≡ old → (network_of old).tail a ≡ v → (network_of t).tail a ≡ v
+tail_of_seen t old a v e h = ap (λ u. (network_of u).tail a) e ∙ h
+
+pub arc_seen : {S V : Type 0} (t old : CoreView S V) (a : ℕ) → t ≡ old → a ≤ length old.problem.roads.arcs → a ≤ length t.problem.roads.arcs
+arc_seen t old a e h = subst (λ u. a ≤ length u.problem.roads.arcs) (sym e) h
+
+tokens_else : {V : Type 0} (ts : List (Token V)) (i a : ℕ) (x : Token V) → i ≡ a → (b : ℕ) → b ≢ a → get_or (set ts i x) b Idle ≡ get_or ts b Idle
+tokens_else ts i a x p b n = get_or-set_other ts i b x Idle (λ q. n (q ∙ p))
+
+token_here : {V : Type 0} (ts : List (Token V)) (i a : ℕ) (x : Token V) → i ≡ a → a < length ts → get_or (set ts i x) a Idle ≡ x
+token_here ts i a x p l = ap (λ k. get_or (set ts k x) a Idle) p ∙ get_or-set_same ts a x Idle l
+
+-- a busy arc stays busy, whatever else is written
+pub still_sized : {S V : Type 0} (t : CoreView S V) (labels told : List (Option V)) (engagers : List (Option ℕ)) (a i : ℕ) (x : Token V) → IsSized t → i ≡ a →
+  is_idle ((state_of t).token a) ≡ false → is_idle x ≡ false → length labels ≡ length t.labels → length engagers ≡ length t.engagers → length told ≡ length t.told →
+  IsSized (record t { labels = labels; engagers = engagers; tokens = set t.tokens i x; told = told })
+still_sized t labels told engagers a i x z p b n l e d =
+  let w = busy_arc t a z b in
+  record {
+    question = z.question;
+    labels = l ∙ z.labels;
+    engagers = e ∙ z.engagers;
+    tokens = length-set t.tokens i x ∙ z.tokens;
+    told = d ∙ z.told;
+    busy = z.busy;
+    counted = counted_same (network_of t) t.problem.roads.vertices t.busy a (state_of t) (state_of (record t { tokens = set t.tokens i x })) w
+      (tokens_else t.tokens i a x p)
+      (ap is_idle (token_here t.tokens i a x p (busy_within t.tokens a b)) ∙ n ∙ sym b) z.counted;
+  }
+
+-- then the counter of its tail is not 0
+pub freed_least : {S V : Type 0} (t : CoreView S V) (a v j y : ℕ) → IsSized t → j ≡ v → v ≡ (network_of t).tail a → v ≤ t.problem.roads.vertices → is_idle ((state_of t).token a) ≡ false →
+  y ≡ get_or t.busy j y → 1 ≤ y
+freed_least t a v j y z q h m b r =
+  let least : 1 ≤ deficit (network_of t) ((network_of t).tail a) (state_of t) = deficit_least (network_of t) a (state_of t) (busy_arc t a z b) b in
+  let k = z.counted v m in
+  let d : deficit (network_of t) v (state_of t) ≡ deficit (network_of t) ((network_of t).tail a) (state_of t) = ap (λ u. deficit (network_of t) u (state_of t)) h in
+  let long = z.busy in
+  let read = reads t.busy j v y q (omega (arith, m, long)) r in omega (arith, k, d, least, read)
+
+-- and every counter is small
+pub counter_most : {S V : Type 0} (t : CoreView S V) (v j y : ℕ) → IsSized t → j ≡ v → v ≤ t.problem.roads.vertices → y ≡ get_or t.busy j y → y < 2 ^ 31
+counter_most t v j y z q m r =
+  let most = deficit_most (network_of t) v (state_of t) in
+  let k = z.counted v m in
+  let few = z.question.roads.few_arcs in
+  let long = z.busy in
+  let read = reads t.busy j v y q (omega (arith, m, long)) r in omega (arith, k, most, few, read)
+
+-- a busy arc becomes idle
+pub freed_sized : {S V : Type 0} (t : CoreView S V) (a i v j x y : ℕ) → IsSized t → i ≡ a → j ≡ v → v ≡ (network_of t).tail a → v ≤ t.problem.roads.vertices →
+  is_idle ((state_of t).token a) ≡ false → y ≡ get_or t.busy j y → x ≡ y - 1 → IsSized (record t { tokens = set t.tokens i Idle; busy = set t.busy j x })
+freed_sized t a i v j x y z p q h m b r e =
+  let w = busy_arc t a z b in
+  let least : 1 ≤ deficit (network_of t) ((network_of t).tail a) (state_of t) = deficit_least (network_of t) a (state_of t) w b in
+  let k = z.counted v m in
+  let d : deficit (network_of t) v (state_of t) ≡ deficit (network_of t) ((network_of t).tail a) (state_of t) = ap (λ u. deficit (network_of t) u (state_of t)) h in
+  let long = z.busy in
+  let same : get_or t.busy v 0 ≡ get_or t.busy ((network_of t).tail a) 0 = ap (λ u. get_or t.busy u 0) h in
+  record {
+    question = z.question;
+    labels = z.labels;
+    engagers = z.engagers;
+    tokens = length-set t.tokens i Idle ∙ z.tokens;
+    told = z.told;
+    busy = length-set t.busy j x ∙ z.busy;
+    counted = subst (λ u. (r : ℕ) → r ≤ t.problem.roads.vertices → get_or (set t.busy u x) r 0 ≡ deficit (network_of t) r (state_of (record t { tokens = set t.tokens i Idle }))) (sym (q ∙ h))
+      (counted_less (network_of t) t.problem.roads.vertices t.busy a x (state_of t) (state_of (record t { tokens = set t.tokens i Idle })) w
+        (tokens_else t.tokens i a Idle p) b (ap is_idle (token_here t.tokens i a Idle p (busy_within t.tokens a b)))
+        (omega (arith, h, m, long)) (let read = reads t.busy j v y q (omega (arith, m, long)) r in omega (arith, e, k, d, least, same, read)) z.counted);
+  }
+
+-- an idle arc out of v gets a message, and is told
+pub sent_sized : {S V : Type 0} (t : CoreView S V) (a i i2 v j x y : ℕ) (token : Token V) (label : Option V) → IsSized t → i ≡ a → j ≡ v → (network_of t).tail a ≡ v → v ≤ t.problem.roads.vertices → a ≤ length t.problem.roads.arcs →
+  is_idle ((state_of t).token a) ≡ true → is_idle token ≡ false → y ≡ get_or t.busy j y → x ≡ y + 1 → IsSized (record t { tokens = set t.tokens i token; told = set t.told i2 label; busy = set t.busy j x })
+sent_sized t a i i2 v j x y token label z p q h m w b n r e =
+  let long = z.busy in
+  let wide = z.tokens in
+  let same : get_or t.busy v 0 ≡ get_or t.busy ((network_of t).tail a) 0 = ap (λ u. get_or t.busy u 0) (sym h) in
+  record {
+    question = z.question;
+    labels = z.labels;
+    engagers = z.engagers;
+    tokens = length-set t.tokens i token ∙ z.tokens;
+    told = length-set t.told i2 label ∙ z.told;
+    busy = length-set t.busy j x ∙ z.busy;
+    counted = subst (λ u. (r : ℕ) → r ≤ t.problem.roads.vertices → get_or (set t.busy u x) r 0 ≡ deficit (network_of t) r (state_of (record t { tokens = set t.tokens i token }))) (sym (q ∙ sym h))
+      (counted_more (network_of t) t.problem.roads.vertices t.busy a x (state_of t) (state_of (record t { tokens = set t.tokens i token })) (omega (arith, w))
+        (tokens_else t.tokens i a token p) b (ap is_idle (token_here t.tokens i a token p (omega (arith, w, wide))) ∙ n)
+        (omega (arith, h, m, long)) (let read = reads t.busy j v y q (omega (arith, m, long)) r in omega (arith, e, same, read)) z.counted);
+  }
+
+-- an arc is told, and that alone
+pub told_sized : {S V : Type 0} (t : CoreView S V) (i : ℕ) (label : Option V) → IsSized t → IsSized (record t { told = set t.told i label })
+told_sized t i label z = record {
+  question = z.question;
+  labels = z.labels;
+  engagers = z.engagers;
+  tokens = z.tokens;
+  told = length-set t.told i label ∙ z.told;
+  busy = z.busy;
+  counted = z.counted;
+}
+
+-- places in the tables
+pub label_place : {S V : Type 0} (t old : CoreView S V) (v : ℕ) → t ≡ old → IsSized t → v ≤ old.problem.roads.vertices → v < length t.labels
+label_place t old v e z h = let m = vertex_seen t old v e h in let l = z.labels in omega (arith, m, l)
+
+pub engager_place : {S V : Type 0} (t old : CoreView S V) (v : ℕ) → t ≡ old → IsSized t → v ≤ old.problem.roads.vertices → v < length t.engagers
+engager_place t old v e z h = let m = vertex_seen t old v e h in let l = z.engagers in omega (arith, m, l)
+
+pub token_place : {S V : Type 0} (t old : CoreView S V) (a : ℕ) → t ≡ old → IsSized t → a ≤ length old.problem.roads.arcs → a < length t.tokens
+token_place t old a e z h = let m = arc_seen t old a e h in let l = z.tokens in omega (arith, m, l)
+
+pub told_place : {S V : Type 0} (t old : CoreView S V) (a : ℕ) → t ≡ old → IsSized t → a ≤ length old.problem.roads.arcs → a < length t.told
+told_place t old a e z h = let m = arc_seen t old a e h in let l = z.told in omega (arith, m, l)
+
+pub held_place : {S V : Type 0} (t old : CoreView S V) (e i : ℕ) → t ≡ old → i ≡ e → (state_of old).token e ≡ Held → i < length t.tokens
+held_place t old e i q p h = let w = busy_within t.tokens e (busy_seen t old e q (ap is_idle h)) in omega (arith, w, p)

@@ -1,0 +1,11 @@
+pub mod Network
+pub mod Diffusion
+pub mod Sums
+pub mod Deficit
+pub mod Rooted
+pub mod Accounts
+pub mod Shares
+pub mod Items
+pub mod Told
+pub mod Reached
+pub mod CoreView

@@ -1,0 +1,20 @@
+//! The diffusing computation of one question over a list of events, after Dijkstra and Scholten.
+//!
+//! A `Core` holds the state of a question: labels of vertices, and on each arc nothing, a message, an engagement or a
+//! signal. Messages are delivered and signals accepted in any order; when the signal on arc 0 has been accepted the
+//! question has ended, and each label is the best value of a walk. An event costs the arcs that it sends along.
+#![tactic(auto)]
+
+mod desk;
+mod event;
+mod idle;
+mod item;
+pub mod laws;
+mod running;
+mod token;
+mod values;
+
+pub use event::Event;
+pub use item::Item;
+pub use running::{Core, NoMessage, NoSignal};
+pub use token::Token;

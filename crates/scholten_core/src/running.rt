@@ -1,0 +1,180 @@
+//! The core itself: a desk whose state some list of events leads to.
+ghost use Rattle.std.specs.Prelude.{◌≡◌, ℕ, ◌≤◌, ◌<◌, ◌+◌, ◌^◌, ◌↔◌, ◌∷◌, [], length, IfOk, OnErr, IfSome, IsTrue, true, false};
+ghost use Rattle.road_graph.specs.Roads.{HasVertex};
+ghost use Rattle.path_algebra.specs.Walks.{IsWalkValue};
+ghost use Rattle.scholten_core.specs.declared.token.Token.TheVariants.{Idle, Held};
+ghost use Rattle.scholten_core.specs.declared.event.Event.TheVariants.{Deliver, Accept};
+ghost use Rattle.scholten_core.specs.Network.{network};
+ghost use Rattle.scholten_core.specs.Diffusion.{opening, step, run_from, is_enabled, count_enabled, HasEnded, IsQuiet as IsQuietState};
+ghost use Rattle.scholten_core.specs.Deficit.{deficit};
+ghost use Rattle.scholten_core.specs.Rooted.{IsRooted};
+ghost use Rattle.scholten_core.specs.Reached.{IsReached, LabelsAreBest};
+ghost use Rattle.scholten_core.specs.CoreView.{state_of, network_of};
+
+use crate::desk::{Desk, ENTRY};
+use crate::event::Event;
+use crate::token::Token;
+use path_algebra::{PathAlgebra, laws_hold};
+use road_graph::{ArcNo, Graph, Memory, Vertex};
+use std::alloc::Global;
+use std::marker::Model;
+
+/// No message stands on the arc.
+#[derive(Clone, Copy, Debug, PartialEq, Eq)]
+pub struct NoMessage;
+
+/// No signal stands on the arc.
+#[derive(Clone, Copy, Debug, PartialEq, Eq)]
+pub struct NoSignal;
+
+/// The diffusing computation of one question: which labels are best over all walks from a source?
+#[derive(Drop)]
+pub struct Core<'g, A: PathAlgebra> {
+    desk: Desk<'g, A>,
+}
+
+impl<'g, A: PathAlgebra> Model for Core<'g, A> {
+    ghost use Rattle.scholten_core.specs.CoreView.{CoreView, IsRun};
+
+    ghost Value = { CoreView A A.Value };
+
+    ghost view = { λ c. c.desk };
+
+    ghost invariant = { λ c. IsRun A.meaning c.desk };
+}
+
+impl<'g, A: PathAlgebra> Core<'g, A> {
+    /// A fresh core: a message with the origin on arc 0, and nothing else. Makes all tables, so no later call takes memory.
+    pub fn open(alloc: Global, algebra: A, graph: &'g Graph, source: Vertex) -> Result<Core<'g, A>, Memory>
+        requires { HasVertex graph.now source }
+        ensures problem { IfOk result (λ c. c.problem ≡ record { algebra = algebra; roads = graph.now; source = source }) }
+        ensures state { IfOk result (λ c. state_of c ≡ opening (A.meaning algebra) (network graph.now source)) }
+    {
+        let _roads = graph.vertices();
+        let desk = Desk::open(alloc, algebra, graph, source)?;
+        Ok(Core { desk })
+    }
+
+    /// The message on an arc is handled at the arc's head. Refused, with nothing changed, where no message stands there.
+    pub fn deliver(&mut self, a: ArcNo) -> Result<(), NoMessage>
+        ensures same { self.new.problem ≡ self.old.problem }
+        ensures done { IfOk result (λ _. (is_enabled (state_of self.old) (Deliver a) ≡ true) × (state_of self.new ≡ step (A.meaning self.old.problem.algebra) (network_of self.old) (state_of self.old) (Deliver a))) }
+        ensures refused { OnErr result ((is_enabled (state_of self.old) (Deliver a) ≡ false) × (self.new ≡ self.old)) }
+    {
+        laws_hold(self.desk.algebra());
+        match self.desk.token(a) {
+            Token::Message(value) => {
+                let v = self.desk.head(a);
+                self.desk.take_message(a, v, value);
+                self.desk.rest(v);
+                Ok(())
+            }
+            _ => Err(NoMessage),
+        }
+    }
+
+    /// The signal on an arc is handled at the arc's tail. Refused, with nothing changed, where no signal stands there.
+    pub fn accept(&mut self, a: ArcNo) -> Result<(), NoSignal>
+        ensures same { self.new.problem ≡ self.old.problem }
+        ensures done { IfOk result (λ _. (is_enabled (state_of self.old) (Accept a) ≡ true) × (state_of self.new ≡ step (A.meaning self.old.problem.algebra) (network_of self.old) (state_of self.old) (Accept a))) }
+        ensures refused { OnErr result ((is_enabled (state_of self.old) (Accept a) ≡ false) × (self.new ≡ self.old)) }
+    {
+        laws_hold(self.desk.algebra());
+        match self.desk.token(a) {
+            Token::Signal => {
+                let v = self.desk.tail(a);
+                if a == ENTRY {
+                    self.desk.free(a, v);
+                } else {
+                    self.desk.take_signal(a, v);
+                    self.desk.rest(v);
+                }
+                Ok(())
+            }
+            _ => Err(NoSignal),
+        }
+    }
+
+    fn apply(&mut self, event: Event) -> bool
+        ensures same { self.new.problem ≡ self.old.problem }
+        ensures state { state_of self.new ≡ step (A.meaning self.old.problem.algebra) (network_of self.old) (state_of self.old) event }
+        ensures enabled { result ≡ is_enabled (state_of self.old) event }
+    {
+        match event {
+            Event::Deliver(a) => self.deliver(a).is_ok(),
+            Event::Accept(a) => self.accept(a).is_ok(),
+        }
+    }
+
+    /// Applies the events in order, skips those that are not enabled, and says how many were.
+    pub fn run(&mut self, events: &[Event]) -> usize
+        ensures same { self.new.problem ≡ self.old.problem }
+        ensures state { state_of self.new ≡ run_from (A.meaning self.old.problem.algebra) (network_of self.old) (state_of self.old) events.now }
+        ensures count { result ≡ count_enabled (A.meaning self.old.problem.algebra) (network_of self.old) (state_of self.old) events.now }
+    {
+        let mut enabled = 0;
+        for event in events {
+            if self.apply(*event) {
+                enabled += 1;
+            }
+        }
+        enabled
+    }
+
+    /// Whether the signal on arc 0 has been accepted. Then nothing is under way, and each label is best.
+    pub fn ended(&self) -> bool
+        ensures ended { IsTrue result ↔ HasEnded (state_of self.now) }
+        ensures quiet { IsTrue result → IsQuietState (state_of self.now) }
+        ensures best { IsTrue result → LabelsAreBest (A.meaning self.now.problem.algebra) self.now.problem.roads self.now.problem.source (state_of self.now) }
+        ensures reached { IsReached (A.meaning self.now.problem.algebra) self.now.problem.roads self.now.problem.source (state_of self.now) }
+    {
+        laws_hold(self.desk.algebra());
+        self.desk.token(ENTRY).is_idle()
+    }
+
+    /// Whether every arc is idle and every vertex neutral.
+    pub fn quiet(&self) -> bool
+        ensures { IsTrue result ↔ IsQuietState (state_of self.now) }
+    {
+        self.ended()
+    }
+
+    /// The label of a vertex, the value of some walk to it, or none so far.
+    pub fn label(&self, v: Vertex) -> Option<A::Value>
+        requires { HasVertex self.now.problem.roads v }
+        ensures label { result ≡ (state_of self.now).label v }
+        ensures walk { IfSome result (λ x. IsWalkValue (A.meaning self.now.problem.algebra) self.now.problem.roads (self.now.problem.source ∷ []) v x) }
+    {
+        laws_hold(self.desk.algebra());
+        self.desk.label(v)
+    }
+
+    /// The arc that engages a vertex, none for a neutral one.
+    pub fn engager(&self, v: Vertex) -> Option<ArcNo>
+        requires { HasVertex self.now.problem.roads v }
+        ensures engager { result ≡ (state_of self.now).engager v }
+        ensures held { IfSome result (λ e. ((state_of self.now).token e ≡ Held) × ((network_of self.now).head e ≡ v)) }
+        ensures rooted { IsRooted (A.meaning self.now.problem.algebra) (network_of self.now) (state_of self.now) }
+    {
+        laws_hold(self.desk.algebra());
+        self.desk.engager(v)
+    }
+
+    /// What stands on an arc; a message has the value of some walk to the arc's head.
+    pub fn token(&self, a: ArcNo) -> Token<A::Value>
+        requires { a ≤ length self.now.problem.roads.arcs }
+        ensures token { result ≡ (state_of self.now).token a }
+        ensures walk { (x : A.Value) → result ≡ Token.Message x → IsWalkValue (A.meaning self.now.problem.algebra) self.now.problem.roads (self.now.problem.source ∷ []) ((network_of self.now).head a) x }
+    {
+        laws_hold(self.desk.algebra());
+        self.desk.token(a)
+    }
+
+    /// How many arcs out of a vertex are busy: 0 for a neutral one.
+    pub fn deficit(&self, v: Vertex) -> u32
+        requires { HasVertex self.now.problem.roads v }
+        ensures { result ≡ deficit (network_of self.now) v (state_of self.now) }
+    {
+        self.desk.busy(v)
+    }
+}

@@ -1,0 +1,16 @@
+pub mod Weights
+pub mod Flying
+pub mod Here
+pub mod Quick
+pub mod Routed
+pub mod Taking
+pub mod Showing
+pub mod Room
+pub mod Alone
+pub mod Sound
+pub mod Fits
+pub mod Ascending
+pub mod Readable
+pub mod Blocks
+pub mod Spread
+pub mod Places

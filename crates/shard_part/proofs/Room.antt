@@ -1,0 +1,131 @@
+-- A ring with a place for each arc of its shard, or of its pair of shards, is never too small.
+use Rattle.std.proofs.Common.{◌≡◌, ◌≢◌, ℕ, zero, suc, ◌+◌, ◌<◌, ◌≤◌, Bool, true, false, cond, not, ◌&&◌, ◌||◌, eqb, Option, Some, None, List, [], ◌∷◌, ◌++◌, length, set, get_or, ◌⊎◌, refl, sym, ap, ◌∙◌, subst, inl, inr, arith, eqb-true, eq-eqb, ne_eqb}
+use Rattle.std.proofs.lemmas.Bool.{cases_eq, cases_lt, cases_Bool, cond-true, cond-false, and_from}
+use Rattle.scholten_core.specs.declared.token.Token.{Token}
+use Rattle.scholten_core.specs.declared.token.Token.TheVariants.{Idle, Message, Held, Signal}
+use Rattle.scholten_core.specs.declared.item.Item.{Item}
+use Rattle.scholten_core.specs.declared.item.Item.TheVariants.{Message as MessageOn, Signal as SignalOn}
+use Rattle.path_algebra.specs.Algebra.{Algebra}
+use Rattle.path_algebra.specs.Algebra.{IsLawful as Lawful}
+use Rattle.scholten_core.specs.Network.{Network, WellFormed}
+use Rattle.scholten_core.specs.Diffusion.{CoreState, is_idle}
+use Rattle.scholten_core.specs.Sums.{sum_below, one_if}
+use Rattle.scholten_core.specs.Items.{item_arc, item_of}
+use Rattle.shard_part.specs.PartState.{PartData, state_in, total, outs_weight, part_weight, vertex_of, at_place, flying, is, All, mine, HoldsShare, HoldsTables, touches, queue_room, joins, out_room, maker_of}
+use Rattle.scholten_core.proofs.Kept.{Kept}
+use Rattle.shard_part.proofs.Showing.{is_self}
+
+pub sum_most : (f g : ℕ → ℕ) (n : ℕ) → ((b : ℕ) → f b ≤ g b) → sum_below f n ≤ sum_below g n
+sum_most f g zero h = omega arith
+sum_most f g (suc n) h = let p = sum_most f g n h in let q = h n in omega (arith, p, q)
+
+pub sum_none_of : (f : ℕ → ℕ) (a n : ℕ) → n ≤ a → ((b : ℕ) → b ≢ a → f b ≡ 0) → sum_below f n ≡ 0
+sum_none_of f a zero l h = refl
+sum_none_of f a (suc n) l h = let p = sum_none_of f a n (omega (arith, l)) h in let q = h n (λ e. omega (arith, e, l)) in omega (arith, p, q)
+
+pub sum_of_one : (f : ℕ → ℕ) (a n : ℕ) → ((b : ℕ) → b ≢ a → f b ≡ 0) → f a ≤ 1 → sum_below f n ≤ 1
+sum_of_one f a zero h one = omega arith
+sum_of_one f a (suc n) h one = elim (cases_eq n a) [
+    inl e ↦ (let p = sum_none_of f a n (omega (arith, e)) h in let q = ap f e in omega (arith, p, q, one))
+  | inr ne ↦ (let p = sum_of_one f a n h one in let q = h n ne in omega (arith, p, q)) ]
+
+one_or_left : (s t : Bool) → one_if s ≤ one_if (s || t)
+one_or_left true t = omega arith
+one_or_left false t = go t
+  where
+    go : (t : Bool) → one_if false ≤ one_if t
+    go true = omega arith
+    go false = omega arith
+
+one_or_right : (s t : Bool) → one_if t ≤ one_if (s || t)
+one_or_right true true = omega arith
+one_or_right true false = omega arith
+one_or_right false t = omega arith
+
+pub all_one : {X : Type 0} (f : X → ℕ) (xs : List X) → All (λ x. f x ≡ 1) xs → total f xs ≡ length xs
+all_one f [] h = refl
+all_one f (x ∷ xs) h = let p = all_one f xs h.1 in let q = h.0 in omega (arith, p, q)
+
+pub each_one : {X : Type 0} (f : X → ℕ) (xs : List X) → ((x : X) → f x ≡ 1) → total f xs ≡ length xs
+each_one f [] h = refl
+each_one f (x ∷ xs) h = let p = each_one f xs h in let q = h x in omega (arith, p, q)
+
+pub outs_member : {V : Type 0} (h : ℕ → Item V → ℕ) (k t : ℕ) (os : List (List (Item V))) → total (h (k + t)) (get_or os t []) ≤ outs_weight h k os
+outs_member h k t [] = omega arith
+outs_member h k zero (o ∷ os) = let q : total (h (k + 0)) o ≡ total (h k) o = ap (λ z. total (h z) o) (let e : k + 0 ≡ k = omega arith in e) in omega (arith, q)
+outs_member h k (suc t) (o ∷ os) = let p = outs_member h (suc k) t os in let q : total (h (k + suc t)) (get_or os t []) ≡ total (h (suc k + t)) (get_or os t []) = ap (λ z. total (h z) (get_or os t [])) (let e : k + suc t ≡ suc k + t = omega arith in e) in omega (arith, p, q)
+
+module _ {V : Type 0} (N : Network) (place : ℕ → ℕ) where
+  abbrev at_shard : ℕ → ℕ → Item V → ℕ
+  at_shard s r j = one_if (eqb r s)
+
+  shard_most : (s b : ℕ) (t : Token V) → total (at_place N place (at_shard s)) (item_of b t) ≤ touches N place s b
+  shard_most s b Idle = omega arith
+  shard_most s b Held = omega arith
+  shard_most s b (Message x) = let p = one_or_left (eqb (place (N.head b)) s) (eqb (place (N.tail b)) s) in omega (arith, p)
+  shard_most s b Signal = let p = one_or_right (eqb (place (N.head b)) s) (eqb (place (N.tail b)) s) in omega (arith, p)
+
+  abbrev from_to : ℕ → ℕ → ℕ → Item V → ℕ
+  from_to s t r j = one_if (eqb r t && eqb (place (maker_of N j)) s)
+
+  pair_most : (s t b : ℕ) (k : Token V) → total (at_place N place (from_to s t)) (item_of b k) ≤ joins N place s t b
+  pair_most s t b Idle = omega arith
+  pair_most s t b Held = omega arith
+  pair_most s t b (Message x) = let p = one_or_left (eqb (place (N.head b)) t && eqb (place (N.tail b)) s) (eqb (place (N.tail b)) t && eqb (place (N.head b)) s) in omega (arith, p)
+  pair_most s t b Signal = let p = one_or_right (eqb (place (N.head b)) t && eqb (place (N.tail b)) s) (eqb (place (N.tail b)) t && eqb (place (N.head b)) s) in omega (arith, p)
+
+  abbrev pub on_arc : ℕ → ℕ → Item V → ℕ
+  on_arc a r j = is a (item_arc j)
+
+module _ {S V : Type 0} (A : Algebra V) (N : Network) (place : ℕ → ℕ) where
+  -- the queue never outgrows its ring. With the queue joined by a batch: what `receive` asks as room
+  pub queue_fits : (c : CoreState V) (p : PartData S V) → HoldsShare A N place c p → length p.queue ≤ queue_room N place p.shard
+  queue_fits c p H =
+    let w = H.weighs (at_shard N place p.shard) in
+    let n = each_one (at_shard N place p.shard p.shard) p.queue (λ i. is_self p.shard) in
+    let m = sum_most (λ b. total (at_place N place (at_shard N place p.shard)) (item_of b (c.token b))) (touches N place p.shard) (suc N.arcs) (λ b. shard_most N place p.shard b (c.token b)) in
+    omega (arith, w, n, m)
+
+  -- nor an outbox; that its items were made in the shard is local
+  pub outbox_fits : (c : CoreState V) (p : PartData S V) (t : ℕ) → HoldsShare A N place c p → All (λ i. place (maker_of N i) ≡ p.shard) (get_or p.outs t []) → length (get_or p.outs t []) ≤ out_room N place p.shard t
+  outbox_fits c p t H M =
+    let w = H.weighs (from_to N place p.shard t) in
+    let o = outs_member (from_to N place p.shard t) 0 t p.outs in
+    let z : total (from_to N place p.shard t (0 + t)) (get_or p.outs t []) ≡ total (from_to N place p.shard t t) (get_or p.outs t []) = ap (λ k. total (from_to N place p.shard t k) (get_or p.outs t [])) (let e : 0 + t ≡ t = omega arith in e) in
+    let n = all_one (from_to N place p.shard t t) (get_or p.outs t []) (ones (get_or p.outs t []) M) in
+    let m = sum_most (λ b. total (at_place N place (from_to N place p.shard t)) (item_of b (c.token b))) (joins N place p.shard t) (suc N.arcs) (λ b. pair_most N place p.shard t b (c.token b)) in
+    omega (arith, w, o, z, n, m)
+    where
+      ones : (is : List (Item V)) → All (λ i. place (maker_of N i) ≡ p.shard) is → All (λ i. from_to N place p.shard t t i ≡ 1) is
+      ones [] a = tt
+      ones (i ∷ is) a = (ap one_if (and_from _ _ (eq-eqb t t refl) (eq-eqb (place (maker_of N i)) p.shard a.0)), ones is a.1)
+
+  -- no arc twice
+  pub arc_once : (c : CoreState V) (p : PartData S V) (a : ℕ) → HoldsShare A N place c p → part_weight (on_arc N place a) p ≤ 1
+  arc_once c p a H =
+    let w = H.weighs (on_arc N place a) in
+    let m = sum_of_one (λ b. total (at_place N place (on_arc N place a)) (item_of b (c.token b))) a (suc N.arcs) (λ b n. off b (λ e. n (sym e)) (c.token b)) (here (c.token a)) in
+    omega (arith, w, m)
+    where
+      off : (b : ℕ) → a ≢ b → (t : Token V) → total (at_place N place (on_arc N place a)) (item_of b t) ≡ 0
+      off b n Idle = refl
+      off b n Held = refl
+      off b n (Message x) = let q = ap one_if (ne_eqb a b n) in omega (arith, q)
+      off b n Signal = let q = ap one_if (ne_eqb a b n) in omega (arith, q)
+      here : (t : Token V) → total (at_place N place (on_arc N place a)) (item_of a t) ≤ 1
+      here Idle = omega arith
+      here Held = omega arith
+      here (Message x) = let q = is_self a in omega (arith, q)
+      here Signal = let q = is_self a in omega (arith, q)
+
+  -- a message's arc engages nothing here, a signal's arc is busy here
+  pub message_free : (c : CoreState V) (p : PartData S V) (a : ℕ) (x : V) → Kept A N 0 c → HoldsTables A N place c p → c.token a ≡ Message x → mine place p.shard (N.head a) ≡ true → (state_in p).engager (N.head a) ≢ Some a
+  message_free c p a x K H q m e = let h = (K.engager_held (N.head a) a (sym (H.agree.engager (N.head a) m) ∙ e)).0 in let g = sym q ∙ h in cc
+
+  pub signal_busy : (c : CoreState V) (p : PartData S V) (a : ℕ) → HoldsTables A N place c p → c.token a ≡ Signal → mine place p.shard (N.tail a) ≡ true → is_idle ((state_in p).token a) ≡ false
+  signal_busy c p a H q m = H.agree.idle a m ∙ ap is_idle q
+
+  -- an arc is held exactly where its head's part names it as engager
+  pub held_named : (c : CoreState V) (p : PartData S V) (a : ℕ) → Kept A N 0 c → HoldsTables A N place c p → mine place p.shard (N.head a) ≡ true →
+    ((c.token a ≡ Held → (state_in p).engager (N.head a) ≡ Some a) × ((state_in p).engager (N.head a) ≡ Some a → c.token a ≡ Held))
+  held_named c p a K H m = ((λ q. H.agree.engager (N.head a) m ∙ K.held_engager a q), (λ e. (K.engager_held (N.head a) a (sym (H.agree.engager (N.head a) m) ∙ e)).0))

@@ -1,0 +1,57 @@
+-- Values by place, seen by the numbers that they belong to.
+use Rattle.std.proofs.Common.{◌≡◌, ◌≢◌, ℕ, zero, suc, ◌+◌, ◌-◌, ◌<◌, ◌≤◌, Bool, true, false, cond, eqb, List, [], ◌∷◌, ◌++◌, length, set, get_or, replicate, ◌⊎◌, refl, sym, ap, ◌∙◌, subst, inl, inr, arith, length-set, get_or-set_same, get_or-set_other}
+use Rattle.std.proofs.lemmas.Bool.{cases_eq, cases_lt}
+use Rattle.std.proofs.lemmas.List.{get_or_past, get_or-replicate, length-replicate}
+use Rattle.shard_part.specs.Tables.{spread, IsApart, IsAbsent}
+
+module _ {X : Type 0} where
+  pub set_twice : (xs : List X) (k : ℕ) (x y : X) → set (set xs k x) k y ≡ set xs k y
+  set_twice [] k x y = refl
+  set_twice (z ∷ xs) zero x y = refl
+  set_twice (z ∷ xs) (suc k) x y = ap (λ ys. z ∷ ys) (set_twice xs k x y)
+
+  pub set_swapped : (xs : List X) (j k : ℕ) (x y : X) → j ≢ k → set (set xs j x) k y ≡ set (set xs k y) j x
+  set_swapped [] j k x y n = refl
+  set_swapped (z ∷ xs) zero zero x y n = absurd (n refl)
+  set_swapped (z ∷ xs) zero (suc k) x y n = refl
+  set_swapped (z ∷ xs) (suc j) zero x y n = refl
+  set_swapped (z ∷ xs) (suc j) (suc k) x y n = ap (λ ys. z ∷ ys) (set_swapped xs j k x y (λ e. n (ap suc e)))
+
+  pub spread_long : (keys : List ℕ) (values : List X) (d : X) (n : ℕ) → length (spread keys values d n) ≡ n
+  unfolding spread
+  spread_long [] values d n = length-replicate n d
+  spread_long (k ∷ keys) [] d n = length-replicate n d
+  spread_long (k ∷ keys) (x ∷ values) d n = length-set (spread keys values d n) k x ∙ spread_long keys values d n
+
+  pub spread_write : (keys : List ℕ) (values : List X) (d : X) (n j : ℕ) (x : X) → IsApart keys → j < length keys → j < length values →
+    spread keys (set values j x) d n ≡ set (spread keys values d n) (get_or keys j 0) x
+  unfolding spread
+  spread_write [] values d n j x a l m = absurd (omega arith)
+  spread_write (k ∷ keys) [] d n j x a l m = absurd (omega arith)
+  spread_write (k ∷ keys) (y ∷ values) d n zero x a l m = sym (set_twice (spread keys values d n) k y x)
+  spread_write (k ∷ keys) (y ∷ values) d n (suc j) x a l m =
+    ap (λ ys. set ys k y) (spread_write keys values d n j x (λ i h p q. a (suc i) (suc h) (omega arith) (omega arith)) (omega arith) (omega arith))
+    ∙ set_swapped (spread keys values d n) (get_or keys j 0) k x y (λ e. a 0 (suc j) (omega arith) (omega arith) (sym e))
+
+  -- what stands at the number of a place is the value of the place
+  pub spread_read : (keys : List ℕ) (values : List X) (d e : X) (n j : ℕ) → IsApart keys → j < length keys → j < length values → get_or keys j 0 < n →
+    get_or (spread keys values d n) (get_or keys j 0) e ≡ get_or values j e
+  unfolding spread
+  spread_read [] values d e n j a l m b = absurd (omega arith)
+  spread_read (k ∷ keys) [] d e n j a l m b = absurd (omega arith)
+  spread_read (k ∷ keys) (y ∷ values) d e n zero a l m b = get_or-set_same (spread keys values d n) k y e (let q = spread_long keys values d n in omega (arith, q, b))
+  spread_read (k ∷ keys) (y ∷ values) d e n (suc j) a l m b =
+    get_or-set_other (spread keys values d n) k (get_or keys j 0) y e (λ z. a 0 (suc j) (omega arith) (omega arith) (sym z))
+    ∙ spread_read keys values d e n j (λ i h p q. a (suc i) (suc h) (omega arith) (omega arith)) (omega arith) (omega arith) b
+
+  -- elsewhere nothing stands
+  pub spread_none : (keys : List ℕ) (values : List X) (d : X) (n v : ℕ) → IsAbsent v keys → get_or (spread keys values d n) v d ≡ d
+  unfolding spread
+  spread_none [] values d n v h = elim (cases_lt v n) [
+      inl l ↦ get_or-replicate n v d d l
+    | inr l ↦ get_or_past (replicate n d) v d (let e = length-replicate n d in omega (arith, e)) ]
+  spread_none (k ∷ keys) [] d n v h = elim (cases_lt v n) [
+      inl l ↦ get_or-replicate n v d d l
+    | inr l ↦ get_or_past (replicate n d) v d (let e = length-replicate n d in omega (arith, e)) ]
+  spread_none (k ∷ keys) (y ∷ values) d n v h =
+    get_or-set_other (spread keys values d n) k v y d (λ e. h 0 (omega arith) (sym e)) ∙ spread_none keys values d n v (λ j l. h (suc j) (omega arith))

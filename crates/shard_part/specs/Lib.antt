@@ -1,0 +1,5 @@
+pub mod Plans
+pub mod Tallies
+pub mod Tables
+pub mod PartState
+pub mod Desk

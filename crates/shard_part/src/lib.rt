@@ -1,0 +1,14 @@
+//! One shard's part of a diffusing computation.
+#![tactic(auto)]
+
+mod batch;
+mod plan;
+mod shard;
+mod tables;
+mod tally;
+
+pub use batch::Batch;
+pub use plan::{Plan, PlanFault};
+pub use shard::Shard;
+pub use tables::Tables;
+pub use tally::Tally;

@@ -1,5 +1,5 @@
 -- What a taker of answer texts gives, by the rules.
-use Rattle.std.proofs.Common.{◌≡◌, ℕ, ◌+◌, List, ◌∷◌, Bool, Option, Some, None, Ok, Err, Result, map, sym, ap, ◌∙◌, subst, refl}
+use Rattle.std.proofs.Common.{◌≡◌, ℕ, ◌+◌, List, ◌∷◌, Bool, None, Ok, Err, Result, map, sym, ap, ◌∙◌, subst}
 use Rattle.road_text.specs.declared.faults.LineFault.{LineFault}
 use Rattle.road_text.specs.declared.faults.LineFault.TheVariants.{Broken}
 use Rattle.road_text.specs.declared.faults.ReadFault.{ReadFault}
@@ -10,7 +10,6 @@ use Rattle.road_text.specs.RuleNumbers.{number_of}
 use Rattle.road_text.specs.Rules.{reading, fault_at}
 use Rattle.road_text.specs.Slots.{word_in}
 use Rattle.road_text.specs.Takes.{ShowsLine, GivesBy, Breaks}
-use Rattle.road_text.specs.Words.{word_of}
 use Rattle.road_text.proofs.TakerLaws.{gives_taken, gives_broken}
 use Rattle.answer_text.specs.declared.answers.Answers.{Answers}
 use Rattle.answer_text.specs.declared.answer_taker.AnswerTaker.{AnswerTaker}

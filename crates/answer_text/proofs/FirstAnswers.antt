@@ -2,8 +2,6 @@
 use Rattle.std.proofs.Common.{◌≡◌, ℕ, List, [], ◌∷◌, ◌++◌, length, take, drop, refl, sym, ap, ◌∙◌, append_assoc, take-append-drop}
 use Rattle.road_graph.specs.Roads.{Roads}
 use Rattle.path_algebra.specs.Algebra.{Algebra, IsLawful}
-use Rattle.path_algebra.specs.declared.name.AlgebraName.{AlgebraName}
-use Rattle.road_files.specs.declared.questions.Kind.{Kind}
 use Rattle.road_files.specs.Asked.{Asked}
 use Rattle.answer_text.specs.Told.{Told, ToldList}
 use Rattle.answer_text.specs.AnswerText.{answer_text, blocks_text, header_text, answers_text}

@@ -1,22 +1,20 @@
 -- What is kept of a line is enough for the rules of an answer text.
-use Rattle.std.proofs.Common.{◌≡◌, ℕ, zero, suc, ◌+◌, ◌<◌, ◌≤◌, min, List, [], ◌∷◌, length, take, drop, map, get_or, Option, Some, None, Ok, Err, Result, Bool, true, false, cond, ◌&&◌, ◌||◌, ◌==◌, eqb, nat_lt, inl, inr, refl, sym, ap, ◌∙◌, arith, lit<, codes, subst}
+use Rattle.std.proofs.Common.{◌≡◌, ℕ, zero, suc, ◌+◌, ◌<◌, min, List, [], ◌∷◌, length, take, drop, map, Option, Some, None, Result, Bool, true, false, ◌&&◌, ◌||◌, eqb, nat_lt, inl, inr, refl, sym, ap, ◌∙◌, arith, lit<, codes}
 use Rattle.std.proofs.lemmas.Bool.{ne_eqb, cases_lt, lt-ltb, le-ltb}
 use Rattle.std.proofs.lemmas.List.{length-map}
 use Rattle.std.specs.Str.{bytes_eq}
 use Rattle.path_algebra.specs.Names.{name_of_text}
-use Rattle.road_text.specs.declared.faults.ReadFault.{ReadFault}
 use Rattle.road_text.specs.declared.slots.Slot.{Slot}
 use Rattle.road_text.specs.Lines.{fields}
-use Rattle.road_text.specs.Rules.{◌>>=◌}
 use Rattle.road_text.specs.Slots.{word_in}
 use Rattle.road_text.specs.Takes.{ShowsLine}
-use Rattle.road_text.specs.Words.{Word, word_of, held_word, word_at, no_word}
+use Rattle.road_text.specs.Words.{Word, word_of, word_at}
 use Rattle.road_text.proofs.WordLaws.{held, held_words, short_word, first_byte}
 use Rattle.road_files.specs.declared.questions.Kind.{Kind}
 use Rattle.road_files.specs.declared.questions.Kind.TheVariants.{Sources, Pairs, Multi}
 use Rattle.road_files.specs.QuestionFiles.{kind_named}
 use Rattle.answer_text.specs.declared.present_numbers.PresentNumbers.{PresentNumbers}
-use Rattle.answer_text.specs.AnswerFiles.{Stage, Between, InLines, AfterPair, AfterFound, AnswersSoFar, numbers_in, begins, header_line, source_line, pair_line, list_line, sources_line, route_line, reached_line, unreached_line, vertex_line, value_line, none_line, found_line, question_line, answer_line, first_line, told_after, line_given, line_read}
+use Rattle.answer_text.specs.AnswerFiles.{Stage, Between, InLines, AfterPair, AfterFound, AnswersSoFar, numbers_in, begins, header_line, source_line, pair_line, list_line, sources_line, route_line, reached_line, unreached_line, vertex_line, value_line, none_line, found_line, question_line, answer_line, told_after, line_given, line_read}
 use Rattle.answer_text.specs.AnswerTakes.{SoFar, begins_list, numbers_given}
 use Rattle.answer_text.proofs.ListFields.{number_held}
 

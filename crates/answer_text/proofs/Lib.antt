@@ -6,3 +6,4 @@ pub mod FirstAnswers
 pub mod ListFields
 pub mod HeldAnswerLines
 pub mod AnswerTakerLaws
+pub mod ReadAgain

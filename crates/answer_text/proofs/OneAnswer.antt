@@ -1,17 +1,17 @@
 -- There is one right answer at most: best values, hops, parents and routes are determined.
-use Rattle.std.proofs.Common.{◌≡◌, ℕ, zero, suc, ◌+◌, ◌-◌, ◌<◌, ◌≤◌, List, [], ◌∷◌, ◌++◌, length, take, drop, get_or, Option, Some, None, inl, inr, refl, sym, ap, ◌∙◌, subst, append_assoc, arith, take-append-drop}
+use Rattle.std.proofs.Common.{◌≡◌, ℕ, zero, suc, ◌+◌, ◌-◌, ◌<◌, ◌≤◌, List, [], ◌∷◌, ◌++◌, length, take, get_or, Option, Some, None, inl, inr, refl, sym, ap, ◌∙◌, subst, append_assoc, arith}
 use Rattle.std.proofs.lemmas.List.{append_cancel_right, reverse-append, reverse-reverse}
 use mathlib.Core.List.{reverse}
-use Rattle.std.specs.Prelude.{Contains, IsTrue}
-use Rattle.road_graph.specs.Roads.{Roads, HasVertex}
+use Rattle.std.specs.Prelude.{Contains}
+use Rattle.road_graph.specs.Roads.{Roads}
 use Rattle.path_algebra.specs.Algebra.{Algebra, IsLawful}
-use Rattle.path_algebra.specs.Walks.{IsBest, AreHops, IsParent, label_of}
+use Rattle.path_algebra.specs.Walks.{IsBest, AreHops, IsParent, IsParentChain}
 use Rattle.road_files.specs.Asked.{Question, FromSource, BetweenPair, FromSources, Asked}
 use Rattle.path_algebra.specs.declared.name.AlgebraName.{AlgebraName}
 use Rattle.road_files.specs.declared.questions.Kind.{Kind}
 use Rattle.answer_text.specs.declared.answers.Reached.{Reached}
 use Rattle.answer_text.specs.Told.{ToldFound, Told, ToldSource, ToldPair, ToldMulti, ToldList}
-use Rattle.answer_text.specs.IsAnswer.{IsBestCode, IsParentOrZero, IsReachedLine, IsLine, AreLines, IsParentChain, IsRouteBetween, IsFoundBetween, IsPairAnswer, IsAnswer, AreAnswers, IsAnswerList}
+use Rattle.answer_text.specs.IsAnswer.{IsBestCode, IsParentOrZero, IsLine, AreLines, IsRouteBetween, IsPairAnswer, IsAnswer, AreAnswers, IsAnswerList}
 
 -- the elements of a list in front of others, the last first
 turned : List ℕ → List ℕ → List ℕ

@@ -10,7 +10,7 @@ use Rattle.road_files.specs.declared.questions.Kind.{Kind}
 use Rattle.road_files.specs.declared.questions.Kind.TheVariants.{Sources, Pairs, Multi}
 use Rattle.road_files.specs.QuestionFiles.{kind_named}
 use Rattle.answer_text.specs.declared.answers.Reached.{Reached}
-use Rattle.answer_text.specs.Told.{ToldFound, Told, ToldSource, ToldPair, ToldMulti, ToldList}
+use Rattle.answer_text.specs.Told.{Told, ToldSource, ToldPair, ToldMulti, ToldList}
 
 -- the sources that an answer with lines for vertices names
 pub data Named : Type 0 where

@@ -2,7 +2,7 @@
 use Rattle.std.specs.Prelude.{◌≡◌, ℕ, ◌⊎◌, List, [], ◌∷◌, length, Contains, Option, Some, None, ⊤}
 use Rattle.road_graph.specs.Roads.{Roads, HasVertex}
 use Rattle.path_algebra.specs.Algebra.{Algebra}
-use Rattle.path_algebra.specs.Walks.{IsBest, IsUnreached, AreHops, IsParent, label_of}
+use Rattle.path_algebra.specs.Walks.{IsBest, IsUnreached, AreHops, IsParent, label_of, IsParentChain}
 use Rattle.answer_text.specs.declared.answers.Reached.{Reached}
 use Rattle.road_files.specs.Asked.{Question, FromSource, BetweenPair, FromSources, Asked}
 use Rattle.answer_text.specs.Told.{ToldFound, Told, ToldSource, ToldPair, ToldMulti, ToldList}
@@ -30,11 +30,6 @@ IsLine A g sources v (Some r) = IsReachedLine A g sources v r
 pub record AreLines {V : Type 0} (A : Algebra V) (g : Roads) (sources : List ℕ) (lines : List (Option Reached)) : Type 0 where
   pub count : length lines ≡ g.vertices
   pub each : (v : ℕ) → HasVertex g v → IsLine A g sources v (label_of lines v)
-
--- each vertex is the parent of the next, from u on to v
-abbrev pub IsParentChain : {V : Type 0} → Algebra V → Roads → List ℕ → ℕ → List ℕ → ℕ → Type 0
-IsParentChain A g sources u [] v = u ≡ v
-IsParentChain A g sources u (w ∷ rest) v = IsParent A g sources w u × IsParentChain A g sources w rest v
 
 -- the list from s to t in which each vertex is the parent of the next
 abbrev pub IsRouteBetween : {V : Type 0} → Algebra V → Roads → ℕ → ℕ → List ℕ → Type 0

@@ -3,3 +3,4 @@ pub mod IsAnswer
 pub mod AnswerText
 pub mod AnswerFiles
 pub mod AnswerTakes
+pub mod Writable

@@ -1,19 +1,12 @@
 -- Answers as plain data: numbers and lists.
-use Rattle.std.specs.Prelude.{ℕ, List, [], ◌∷◌, Option, map, option_map}
+use Rattle.std.specs.Prelude.{ℕ, List, Option, map, option_map}
 use Rattle.path_algebra.specs.declared.name.AlgebraName.{AlgebraName}
-use Rattle.road_files.specs.Asked.{Question, FromSource, BetweenPair, FromSources}
 use Rattle.road_files.specs.declared.questions.Kind.{Kind}
 use Rattle.answer_text.specs.declared.answers.Reached.{Reached}
 use Rattle.answer_text.specs.declared.answers.Found.{Found}
 use Rattle.answer_text.specs.declared.answers.Answer.{Answer}
 use Rattle.answer_text.specs.declared.answers.Answer.TheVariants
 use Rattle.answer_text.specs.declared.answers.Answers.{Answers}
-
--- the walks of a question begin at one of these
-abbrev pub sources_of : Question → List ℕ
-sources_of (FromSource s) = s ∷ []
-sources_of (BetweenPair s t) = s ∷ []
-sources_of (FromSources ss) = ss
 
 -- what is told of a pair that a walk joins
 pub record ToldFound : Type 0 where

@@ -1,4 +1,4 @@
-// The lines of an answer text that have few fields, by what is kept of them.
+//! The lines of an answer text that have few fields, by what is kept of them.
 ghost use Rattle.std.specs.Prelude.{ℕ, ◌+◌, ◌≡◌, map};
 ghost use Rattle.path_algebra.specs.Names.{name_of_text};
 ghost use Rattle.road_text.specs.Slots.{word_in};

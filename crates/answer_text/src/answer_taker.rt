@@ -1,4 +1,4 @@
-// Takes the lines of an answer text.
+//! Takes the lines of an answer text.
 ghost use Rattle.std.specs.Prelude.{◌≡◌, ℕ, [], List, None, Some, map, refl, MatchResult, Ok};
 ghost use Rattle.road_text.specs.Slots.{word_in};
 ghost use Rattle.road_text.specs.Takes.{Breaks, Leaves};

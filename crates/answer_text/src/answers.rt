@@ -1,4 +1,4 @@
-// Answers as they are held in memory.
+//! Answers as they are held in memory.
 
 use path_algebra::AlgebraName;
 use road_files::Kind;

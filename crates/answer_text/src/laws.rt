@@ -1,10 +1,13 @@
-// Theorems over answers, each the contract of a function that computes nothing.
-ghost use Rattle.std.specs.Prelude.{◌≡◌, ℕ, ◌++◌, List, length, take};
+//! Theorems over answers, each the contract of a function that computes nothing.
+ghost use Rattle.std.specs.Prelude.{◌≡◌, ℕ, ◌≤◌, ◌++◌, List, Ok, length, take};
 ghost use Rattle.road_graph.specs.Roads.{Roads};
 ghost use Rattle.road_files.specs.Asked.{Asked, Question};
 ghost use Rattle.answer_text.specs.AnswerText.{answers_text, blocks_text, header_text};
 ghost use Rattle.answer_text.specs.IsAnswer.{AreAnswers, IsAnswer, IsAnswerList};
+ghost use Rattle.answer_text.specs.AnswerFiles.{answer_rules};
 ghost use Rattle.answer_text.specs.Told.{Told, ToldList};
+ghost use Rattle.answer_text.specs.Writable.{AreWritable};
+ghost use Rattle.road_text.specs.Rules.{text_read};
 
 use path_algebra::{PathAlgebra, laws_hold};
 
@@ -32,3 +35,9 @@ pub fn first_answers_begin_all<A: PathAlgebra>(algebra: A)
 {
     laws_hold(algebra);
 }
+
+/// A list of answers that may be written is read again as it was, up to the length that a text may have.
+#[tactic(auto, using(crate::proofs::ReadAgain::written_again))]
+pub fn written_answers_are_read_again()
+    ensures { (t : ToldList) → AreWritable t → length (answers_text t) ≤ 4294967296 → text_read (answer_rules t.n) (answers_text t) ≡ Ok t }
+{}

@@ -15,9 +15,14 @@ mod taking;
 mod writing;
 
 pub use answers::{Answer, Answers, Found, Reached};
-pub use laws::{an_answer_is_one, answers_are_one, first_answers_begin_all};
+pub use laws::{
+    an_answer_is_one, answers_are_one, first_answers_begin_all, written_answers_are_read_again,
+};
 pub use reading::read_answers;
 pub use writing::{
     MAX_ANSWERS, write_answer, write_answers, write_header, write_source_line, write_sources_line,
     write_vertex,
 };
+
+#[cfg(test)]
+mod tests;

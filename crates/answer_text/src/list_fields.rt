@@ -1,4 +1,4 @@
-// Takes the fields of a line, and keeps those of a list.
+//! Takes the fields of a line, and keeps those of a list.
 ghost use Rattle.std.specs.Prelude.{◌≡◌, ℕ, ◌+◌, min, ◌++◌, ◌∷◌, [], List, OnOk, IfErr, MatchResult, Ok};
 ghost use Rattle.road_text.specs.Slots.{word_in};
 ghost use Rattle.road_text.specs.Takes.{Breaks};

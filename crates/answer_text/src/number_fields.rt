@@ -1,4 +1,4 @@
-// Numbers in the fields of an answer text.
+//! Numbers in the fields of an answer text.
 ghost use Rattle.std.specs.Prelude.{ℕ};
 ghost use Rattle.road_text.specs.Slots.{word_in};
 ghost use Rattle.road_text.specs.Takes.{Agrees};

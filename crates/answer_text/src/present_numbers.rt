@@ -1,4 +1,4 @@
-// The numbers of a line that begins with `r` or `m`, field by field.
+//! The numbers of a line that begins with `r` or `m`, field by field.
 
 use road_text::Rule;
 

@@ -1,4 +1,4 @@
-// Reads answer texts.
+//! Reads answer texts.
 ghost use Rattle.std.specs.Prelude.{◌≡◌, ◌≢◌, ◌+◌, ◌≤◌, OnOk, IfErr, IfOk, IfSome, Ok, Err};
 ghost use Rattle.std.specs.Io.KnownBytes.{IsAtEnd};
 ghost use Rattle.road_text.specs.Reads.{ReadsValue, ReadsSome, ReadsFault, TellsFailure, TellsNoOther, IsTooLong, IsPlaced, IsReadNumber};

@@ -1,4 +1,4 @@
-// The answers of a text so far.
+//! The answers of a text so far.
 
 use crate::answers::{Answer, Reached};
 use path_algebra::AlgebraName;

@@ -1,4 +1,4 @@
-// Takes the lines behind the header of an answer text.
+//! Takes the lines behind the header of an answer text.
 ghost use Rattle.std.specs.Prelude.{◌≡◌, ◌+◌, ◌<◌, ◌&&◌, ℕ, List, map, nat_lt, length, OnOk, IfErr, MatchResult, Ok, [], Some, codes};
 ghost use Rattle.road_text.specs.Slots.{word_in};
 ghost use Rattle.road_text.specs.Takes.{Breaks, Leaves};

@@ -1,4 +1,4 @@
-// Writes answers, line by line. Nothing here takes memory.
+//! Writes answers, line by line. Nothing here takes memory.
 ghost use Rattle.std.specs.Prelude.{◌≡◌, ◌≤◌, ◌<◌, ◌^◌, ◌++◌, ◌∷◌, [], codes, length, map, option_map};
 ghost use Rattle.road_text.specs.Texts.{list_words, spelled, text_of};
 ghost use Rattle.road_text.specs.Written.{Wrote};

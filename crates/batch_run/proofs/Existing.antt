@@ -4,9 +4,9 @@ use Rattle.std.proofs.lemmas.List.{length-append}
 use Rattle.std.proofs.lemmas.List.Elements.{All-nil, All-cons, All-head, All-tail}
 use Rattle.road_graph.specs.Roads.{Roads, IsRoads, HasVertex}
 use Rattle.path_algebra.specs.Algebra.{Algebra}
-use Rattle.path_algebra.specs.Walks.{AreBest, label_of}
+use Rattle.path_algebra.specs.Walks.{AreBest, label_of, IsParentChain}
 use Rattle.route_tree.specs.Tree.{Branches, IsTree, IsLinked, IsRoute, hops_of, parent_of}
-use Rattle.route_tree.specs.Told.{IsParentRoute, IsParentChain}
+use Rattle.route_tree.specs.Told.{IsParentRoute}
 use Rattle.road_files.specs.Asked.{Question, FromSource, BetweenPair, FromSources, Asked}
 use Rattle.answer_text.specs.declared.answers.Reached.{Reached}
 use Rattle.answer_text.specs.Told.{Told, ToldSource, ToldPair, ToldMulti, ToldFound, ToldList}
@@ -18,10 +18,9 @@ use Rattle.batch_run.proofs.LinesAreRight.{line_is_right, lines_push, best_by_la
 module _ {V : Type 0} (A : Algebra V) (g : Roads) (roads : IsRoads g)
     (labelled : (sources : List ℕ) → All (HasVertex g) sources → (labels : List (Option V)) × AreBest A g sources labels)
     (planted : (sources : List ℕ) → All (HasVertex g) sources → (labels : List (Option V)) → AreBest A g sources labels →
-        (t : Branches) × IsTree A g sources t × IsLinked t × ((v k : ℕ) → HasVertex g v → hops_of t v ≡ Some k → (list : List ℕ) × IsRoute t v list))
+    (t : Branches) × IsTree A g sources t × IsLinked t × ((v k : ℕ) → HasVertex g v → hops_of t v ≡ Some k → (list : List ℕ) × IsRoute t v list))
     (follows : (sources : List ℕ) (t : Branches) → IsTree A g sources t → (v : ℕ) → HasVertex g v → (list : List ℕ) → IsRoute t v list → IsParentRoute A g sources v list)
     (from_one : (s v : ℕ) (list : List ℕ) → IsParentRoute A g (s ∷ []) v list → (rest : List ℕ) × (list ≡ s ∷ rest) × IsParentChain A g (s ∷ []) s rest v) where
-
   -- the lines of the first vertices
   first_lines : (sources : List ℕ) (labels : List (Option V)) (t : Branches) → AreBest A g sources labels → IsTree A g sources t → (n : ℕ) → n ≤ g.vertices →
       (lines : List (Option Reached)) × (length lines ≡ n) × ((v : ℕ) → 1 ≤ v → v ≤ n → IsLine A g sources v (label_of lines v))
@@ -31,10 +30,12 @@ module _ {V : Type 0} (A : Algebra V) (g : Roads) (roads : IsRoads g)
       let in_graph : HasVertex g (n + 1) = ((omega arith), (omega (arith, few))) in
       let line : Option Reached = told_line A (label_of labels (n + 1)) (hops_of t (n + 1)) (parent_of t (n + 1)) in
       let right : IsLine A g sources (n + 1) line = line_is_right A g sources (n + 1) (label_of labels (n + 1)) (hops_of t (n + 1)) (parent_of t (n + 1))
-        (best.best (n + 1) in_graph) (tree.hops (n + 1) in_graph) (tree.parents (n + 1) in_graph) in
-      let count : length (before.0 ++ line ∷ []) ≡ suc n = omega (arith, length-append before.0 (line ∷ []), before.1) in
-      (before.0 ++ line ∷ [], count,
-        λ v low high. lines_push (IsLine A g sources) before.0 line n before.1 (λ w one most. before.2 w one (omega (arith, most, before.1))) right v low (omega (arith, high)))
+      (best.best (n + 1) in_graph) (tree.hops (n + 1) in_graph) (tree.parents (n + 1) in_graph) in
+      let count : length (before.0 ++ line ∷ []) ≡ suc n = omega (arith, length-append before.0 (line ∷ []), before.1) in (
+        before.0 ++ line ∷ [],
+        count,
+        λ v low high. lines_push (IsLine A g sources) before.0 line n before.1 (λ w one most. before.2 w one (omega (arith, most, before.1))) right v low (omega (arith, high)),
+      )
 
   lines_exist : (sources : List ℕ) → All (HasVertex g) sources → (lines : List (Option Reached)) × AreLines A g sources lines
   lines_exist sources inside =
@@ -52,12 +53,14 @@ module _ {V : Type 0} (A : Algebra V) (g : Roads) (roads : IsRoads g)
   pair_by s v labels t in_v best tree routed (Some x) None label_is hops_is =
       (None, unreached_by_hops A g (s ∷ []) v (hops_of t v) (tree.hops v in_v) (λ k e. let bad : None ≡ Some k = sym hops_is ∙ e in cc))
   pair_by s v labels t in_v best tree routed (Some x) (Some k) label_is hops_is =
-      let list = routed k hops_is in
-      (Some (record { code = A.code x; hops = k; route = list.0 }), record {
-        code = (x, best_by_label A g (s ∷ []) v (label_of labels v) (label_of labels v) x (best.best v in_v) refl label_is, refl);
-        hops = least_by_hops A g (s ∷ []) v (hops_of t v) (hops_of t v) k (tree.hops v in_v) refl hops_is;
-        route = from_one s v list.0 (follows (s ∷ []) t tree v in_v list.0 list.1);
-      })
+      let list = routed k hops_is in (
+        Some (record { code = A.code x; hops = k; route = list.0 }),
+        record {
+          code = (x, best_by_label A g (s ∷ []) v (label_of labels v) (label_of labels v) x (best.best v in_v) refl label_is, refl);
+          hops = least_by_hops A g (s ∷ []) v (hops_of t v) (hops_of t v) k (tree.hops v in_v) refl hops_is;
+          route = from_one s v list.0 (follows (s ∷ []) t tree v in_v list.0 list.1);
+        },
+      )
 
   pair_exists : (s v : ℕ) → HasVertex g s → HasVertex g v → (found : Option ToldFound) × IsPairAnswer A g s v found
   pair_exists s v in_s in_v =

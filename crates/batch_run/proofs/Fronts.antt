@@ -22,8 +22,7 @@ asks_by g (variants.Multi ls) h = All-map (AsksWithin g) of_list ls.items (λ k 
 module _ {V : Type 0} (A : Algebra V) (g : Roads) (q : Questions) (within : AreQuestionsOf g.vertices q)
     (exists : (asked : Asked) → All (AsksWithin g) asked.questions → (told : ToldList) × IsAnswerList A g asked told)
     (begins : (asked : Asked) (count : ℕ) (ts : List Told) (all : ToldList) → AreAnswers A g (take count asked.questions) ts → IsAnswerList A g asked all →
-        (rest : List ℕ) × (answers_text all ≡ begun_text A asked ts ++ rest)) where
-
+    (rest : List ℕ) × (answers_text all ≡ begun_text A asked ts ++ rest)) where
   front_of_first : (old new : Option (List ℕ)) → WroteFirst A g (asked_of q) old new → WroteFront A g (asked_of q) old new
   front_of_first old new w =
       let all = exists (asked_of q) (asks_by g q within) in

@@ -73,7 +73,7 @@ module _ {V : Type 0} (A : Algebra V) (g : Roads) (asked : Asked) where
 
     pub fell : Fell mid new m a (answer_text t) → WroteFirst A g asked old new
     fell h = let f = left_fell [] begun h in
-      record { count = i + 1; answers = p.answers ++ t ∷ []; right = now_right; front = f.front; rest = f.rest; text_is = f.text_is; bytes = f.bytes }
+        record { count = i + 1; answers = p.answers ++ t ∷ []; right = now_right; front = f.front; rest = f.rest; text_is = f.text_is; bytes = f.bytes }
 
 -- there is one answer for each question
 answers_count : {V : Type 0} (A : Algebra V) (g : Roads) (qs : List Question) (ts : List Told) → AreAnswers A g qs ts → length ts ≡ length qs
@@ -96,8 +96,8 @@ module _ {V : Type 0} (A : Algebra V) (g : Roads) (asked : Asked) where
         answers = record { name = A.name; kind = asked.kind; n = g.vertices; list = p.answers };
         right = record { name_is = refl; kind_is = refl; n_is = refl; answers = right };
         bytes = subst (Appends old new)
-          (sym (p.left.text_is ∙ append-nil p.left.front) ∙ ap (λ n. header_text asked.kind n A.name ++ blocks_text p.answers) (sym (answers_count A g asked.questions p.answers right)))
-          p.left.bytes;
+            (sym (p.left.text_is ∙ append-nil p.left.front) ∙ ap (λ n. header_text asked.kind n A.name ++ blocks_text p.answers) (sym (answers_count A g asked.questions p.answers right)))
+            p.left.bytes;
       }
 
   module _ (old mid new : Option (List ℕ)) (keeps : Keeps mid new) where
@@ -118,10 +118,10 @@ module _ {V : Type 0} (A : Algebra V) (g : Roads) (asked : Asked) where
         rest = [];
         text_is = sym (append-nil text);
         bytes = subst (Appends old new)
-          (ap (λ k. header_text k (length w.answers.list) w.answers.name ++ blocks_text w.answers.list) w.right.kind_is
+            (ap (λ k. header_text k (length w.answers.list) w.answers.name ++ blocks_text w.answers.list) w.right.kind_is
             ∙ ap (λ n. header_text asked.kind n w.answers.name ++ blocks_text w.answers.list) (answers_count A g asked.questions w.answers.list w.right.answers)
             ∙ ap (λ m. header_text asked.kind (length asked.questions) m ++ blocks_text w.answers.list) w.right.name_is)
-          w.bytes;
+            w.bytes;
       }
 
   -- what was written stays when it is passed on, and the first fault stays

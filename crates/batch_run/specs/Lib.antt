@@ -2,3 +2,4 @@ pub mod InRange
 pub mod Told
 pub mod Answered
 pub mod Ran
+pub mod Tolls

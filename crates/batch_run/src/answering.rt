@@ -15,11 +15,16 @@ use path_algebra::{Labels, PathAlgebra};
 use path_plain::solve_one;
 use road_files::Questions;
 use road_graph::{Graph, Memory, Vertex};
-use route_tree::{route, routes_follow_parents, tree, Tree};
+use route_tree::{Tree, route, routes_follow_parents, tree};
 use std::alloc::{AllocError, Global};
 
 /// What is told of a vertex.
-fn line_of<A: PathAlgebra>(algebra: A, label: Option<A::Value>, hops: Option<u32>, parent: Option<Vertex>) -> Option<Reached>
+fn line_of<A: PathAlgebra>(
+    algebra: A,
+    label: Option<A::Value>,
+    hops: Option<u32>,
+    parent: Option<Vertex>,
+) -> Option<Reached>
     ensures { result ≡ told_line (A.meaning algebra) label hops parent }
 {
     match (label, hops) {
@@ -36,7 +41,14 @@ fn line_of<A: PathAlgebra>(algebra: A, label: Option<A::Value>, hops: Option<u32
 }
 
 /// What is told of each vertex, in order.
-fn lines_of<A: PathAlgebra>(alloc: Global, algebra: A, graph: &Graph, sources: &[Vertex], labels: &Labels<A::Value>, tree: &Tree) -> Result<Vec<Option<Reached>>, AllocError>
+fn lines_of<A: PathAlgebra>(
+    alloc: Global,
+    algebra: A,
+    graph: &Graph,
+    sources: &[Vertex],
+    labels: &Labels<A::Value>,
+    tree: &Tree,
+) -> Result<Vec<Option<Reached>>, AllocError>
     requires labels { AreBest (A.meaning algebra) graph.now sources.now labels.now }
     requires tree { IsTree (A.meaning algebra) graph.now sources.now tree.now }
     ensures { IfOk result (λ lines. AreLines (A.meaning algebra) graph.now sources.now lines.items) }
@@ -44,13 +56,20 @@ fn lines_of<A: PathAlgebra>(alloc: Global, algebra: A, graph: &Graph, sources: &
     let mut lines = Vec::new(alloc);
     for v in 0..graph.vertices() {
         let vertex = Vertex(v + 1);
-        lines.push(line_of(algebra, labels.of(vertex), tree.hops(vertex), tree.parent(vertex)))?;
+        let hops = tree.hops(vertex);
+        let parent = tree.parent(vertex);
+        lines.push(line_of(algebra, labels.of(vertex), hops, parent))?;
     }
     Ok(lines)
 }
 
 /// What is told of each vertex in answer to a question from these sources.
-pub(crate) fn answer_lines<A: PathAlgebra>(alloc: Global, algebra: A, graph: &Graph, sources: &[Vertex]) -> Result<Vec<Option<Reached>>, Memory>
+pub(crate) fn answer_lines<A: PathAlgebra>(
+    alloc: Global,
+    algebra: A,
+    graph: &Graph,
+    sources: &[Vertex],
+) -> Result<Vec<Option<Reached>>, Memory>
     requires some { 1 ≤ length sources.now }
     requires inside { All (HasVertex graph.now) sources.now }
     ensures { IfOk result (λ lines. AreLines (A.meaning algebra) graph.now sources.now lines.items) }
@@ -72,7 +91,15 @@ fn numbers_of(alloc: Global, vertices: &[Vertex]) -> Result<Vec<u32>, AllocError
 }
 
 /// The best value, the hops and the route of a target, where its label stands.
-fn found_at<A: PathAlgebra>(alloc: Global, algebra: A, graph: &Graph, source: Vertex, target: Vertex, labels: &Labels<A::Value>, tree: &Tree) -> Result<Option<Found>, Memory>
+fn found_at<A: PathAlgebra>(
+    alloc: Global,
+    algebra: A,
+    graph: &Graph,
+    source: Vertex,
+    target: Vertex,
+    labels: &Labels<A::Value>,
+    tree: &Tree,
+) -> Result<Option<Found>, Memory>
     requires target { HasVertex graph.now target }
     requires labels { AreBest (A.meaning algebra) graph.now (source ∷ []) labels.now }
     requires tree { IsTree (A.meaning algebra) graph.now (source ∷ []) tree.now }
@@ -97,7 +124,13 @@ fn found_at<A: PathAlgebra>(alloc: Global, algebra: A, graph: &Graph, source: Ve
 }
 
 /// The right answer to a question from one vertex to another.
-fn answer_pair<A: PathAlgebra>(alloc: Global, algebra: A, graph: &Graph, source: Vertex, target: Vertex) -> Result<Answer, Memory>
+fn answer_pair<A: PathAlgebra>(
+    alloc: Global,
+    algebra: A,
+    graph: &Graph,
+    source: Vertex,
+    target: Vertex,
+) -> Result<Answer, Memory>
     requires source { HasVertex graph.now source }
     requires target { HasVertex graph.now target }
     ensures { IfOk result (λ answer. IsAnswer (A.meaning algebra) graph.now (BetweenPair source target) (told_of answer)) }
@@ -113,7 +146,12 @@ fn answer_pair<A: PathAlgebra>(alloc: Global, algebra: A, graph: &Graph, source:
 }
 
 /// The right answer to a question from one source to all vertices.
-fn answer_source<A: PathAlgebra>(alloc: Global, algebra: A, graph: &Graph, source: Vertex) -> Result<Answer, Memory>
+fn answer_source<A: PathAlgebra>(
+    alloc: Global,
+    algebra: A,
+    graph: &Graph,
+    source: Vertex,
+) -> Result<Answer, Memory>
     requires { HasVertex graph.now source }
     ensures { IfOk result (λ answer. IsAnswer (A.meaning algebra) graph.now (FromSource source) (told_of answer)) }
 {
@@ -125,7 +163,12 @@ fn answer_source<A: PathAlgebra>(alloc: Global, algebra: A, graph: &Graph, sourc
 }
 
 /// The right answer to a question from several sources to all vertices.
-fn answer_sources<A: PathAlgebra>(alloc: Global, algebra: A, graph: &Graph, sources: &[Vertex]) -> Result<Answer, Memory>
+fn answer_sources<A: PathAlgebra>(
+    alloc: Global,
+    algebra: A,
+    graph: &Graph,
+    sources: &[Vertex],
+) -> Result<Answer, Memory>
     requires { AreSourcesOf graph.now.vertices sources.now }
     ensures { IfOk result (λ answer. IsAnswer (A.meaning algebra) graph.now (FromSources sources.now) (told_of answer)) }
 {
@@ -137,7 +180,13 @@ fn answer_sources<A: PathAlgebra>(alloc: Global, algebra: A, graph: &Graph, sour
 }
 
 /// The right answer to the question at a place.
-pub(crate) fn answer_at<A: PathAlgebra>(alloc: Global, algebra: A, graph: &Graph, questions: &Questions, i: usize) -> Result<Answer, Memory>
+pub(crate) fn answer_at<A: PathAlgebra>(
+    alloc: Global,
+    algebra: A,
+    graph: &Graph,
+    questions: &Questions,
+    i: usize,
+) -> Result<Answer, Memory>
     requires within { AreQuestionsOf graph.now.vertices questions.now }
     requires place { i < length (asked_of questions.now).questions }
     ensures { IfOk result (λ answer. AnswersAt (A.meaning algebra) graph.now (asked_of questions.now).questions i (told_of answer)) }

@@ -10,7 +10,8 @@ use path_algebra::PathAlgebra;
 use path_plain::best_values_exist;
 use route_tree::{routes_follow_parents, trees_exist};
 
-/// Every graph and questions have a right answer list. That they have no other is `answer_text::answers_are_one`.
+/// Every graph and questions have a right answer list. That they have no other is
+/// `answer_text::answers_are_one`.
 pub fn answers_exist<A: PathAlgebra>(algebra: A)
     ensures { (g : Roads) → IsRoads g → (asked : Asked) → All (AsksWithin g) asked.questions → (told : ToldList) × IsAnswerList (A.meaning algebra) g asked told }
 {

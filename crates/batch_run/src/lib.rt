@@ -9,8 +9,13 @@ mod laws;
 mod run;
 mod settings;
 
-pub use faults::{fault_in, fault_of_run, File, RunFault};
+pub use faults::{File, RunFault, fault_in, fault_of_run};
 pub use gate::{Gate, OpenGate};
 pub use laws::answers_exist;
 pub use run::{run_bundle, run_pair};
 pub use settings::Settings;
+
+#[cfg(test)]
+mod tests;
+#[cfg(test)]
+mod tolls;

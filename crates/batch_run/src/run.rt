@@ -7,13 +7,13 @@ ghost use Rattle.batch_run.specs.InRange.{AreInRange};
 ghost use Rattle.batch_run.specs.Ran.{Done, Begun, IsPairOf, IsBundleOf, IsGraphFault, IsQuestionsFault, IsBundleFault, IsFaultOf};
 
 use crate::answering::answer_at;
-use crate::faults::{fault_in, fault_of_run, File, RunFault};
+use crate::faults::{File, RunFault, fault_in, fault_of_run};
 use crate::gate::Gate;
 use crate::laws::answers_exist;
 use crate::settings::Settings;
 use answer_text::{first_answers_begin_all, write_answer, write_header};
 use path_algebra::PathAlgebra;
-use road_files::{read_bundle, read_gr, read_questions, Questions};
+use road_files::{Questions, read_bundle, read_gr, read_questions};
 use road_graph::Graph;
 use road_text::{RoadRead, RoadWrite};
 use std::alloc::Global;
@@ -28,13 +28,24 @@ const WRITE: u8 = 42;
 const SETTINGS: u8 = 43;
 
 /// Answers all questions in order, and stops at the first fault.
-fn answer_all<A: PathAlgebra, W: RoadWrite>(alloc: Global, algebra: A, graph: &Graph, questions: &Questions, out: &mut W) -> Result<(), RunFault>
+fn answer_all<A: PathAlgebra, W: RoadWrite>(
+    alloc: Global,
+    algebra: A,
+    graph: &Graph,
+    questions: &Questions,
+    out: &mut W,
+) -> Result<(), RunFault>
     requires { AreQuestionsOf graph.now.vertices questions.now }
     ensures text { WroteAllOrFirst (A.meaning algebra) graph.now (asked_of questions.now) (W.written out.old) (W.written out.new) result }
     ensures sound { OnOk result (W.failures out.new ≡ W.failures out.old) }
     ensures later { IfErr result (λ f. (f.file ≡ File.NoFile) × (f.line ≡ 0) × ((f.number ≡ 3) ⊎ (f.number ≡ 42)) × (f.number ≡ 42 → W.failures out.old < W.failures out.new)) }
 {
-    match write_header(out, questions.kind(), questions.len() as u32, algebra.name()) {
+    match write_header(
+        out,
+        questions.kind(),
+        questions.len() as u32,
+        algebra.name(),
+    ) {
         Ok(()) => {}
         Err(_) => return Err(fault_of_run(WRITE)),
     }
@@ -73,7 +84,13 @@ fn flush_all<W: RoadWrite>(out: &mut W, answered: Result<(), RunFault>) -> Resul
 }
 
 /// Answers all questions, and passes the answers on.
-fn answer_and_flush<A: PathAlgebra, W: RoadWrite>(alloc: Global, algebra: A, graph: &Graph, questions: &Questions, out: &mut W) -> Result<(), RunFault>
+fn answer_and_flush<A: PathAlgebra, W: RoadWrite>(
+    alloc: Global,
+    algebra: A,
+    graph: &Graph,
+    questions: &Questions,
+    out: &mut W,
+) -> Result<(), RunFault>
     requires { AreQuestionsOf graph.now.vertices questions.now }
     ensures text { WroteAllOrFront (A.meaning algebra) graph.now (asked_of questions.now) (W.written out.old) (W.written out.new) result }
     ensures passed_on { OnOk result (W.held out.new ≡ []) }
@@ -89,10 +106,10 @@ fn answer_and_flush<A: PathAlgebra, W: RoadWrite>(alloc: Global, algebra: A, gra
 
 /// Answers the questions of one input over the graph of another, and writes the answers.
 ///
-/// The settings are tested first (43), then the graph is read and then the questions, and then each question is answered and
-/// written, in order; at last the output is flushed. The first fault in this order is told. After a fault of an input nothing
-/// has been written; after a later one (3, 42) a front of the answers' text has. The plain solver answers all questions, whatever
-/// the settings say, and the gate is not asked.
+/// The settings are tested first (43), then the graph is read and then the questions, and then each question is
+/// answered and written, in order; at last the output is flushed. The first fault in this order is told. After a
+/// fault of an input nothing has been written; after a later one (3, 42) a front of the answers' text has. The plain
+/// solver answers all questions, whatever the settings say, and the gate is not asked.
 pub fn run_pair<A: PathAlgebra, G: RoadRead, Q: RoadRead, W: RoadWrite, T: Gate>(
     alloc: Global,
     algebra: A,

@@ -1,7 +1,7 @@
 //! How a batch is run.
 ghost use Rattle.std.specs.Prelude.{◌↔◌, IsTrue};
 
-/// How a batch is run. The plain solver answers the same bytes for all settings in range.
+/// How a batch is run. The plain solver writes the same bytes whatever settings in range are given.
 #[derive(Clone, Copy, Debug, PartialEq, Eq)]
 pub struct Settings {
     /// The number of worker threads, 1 to 64.
@@ -38,6 +38,10 @@ impl Settings {
 }
 
 impl Default for Settings {
+    ghost use Rattle.std.specs.Prelude.{◌≡◌, false};
+
+    ghost is_default = { λ s. s ≡ record { workers = 4; shards = 4; width = 1; budget = 1024; turns = 1000000000000; plain = false } };
+
     fn default() -> Settings {
         Settings {
             workers: 4,

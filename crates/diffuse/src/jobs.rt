@@ -1,6 +1,10 @@
 //! Does what the command line asks for.
+ghost use Rattle.std.specs.Prelude.{◌≡◌, [], OnOk, IfErr};
+ghost use Rattle.batch_run.specs.Ran.{IsPairOf, IsBundleOf};
+ghost use Rattle.diffuse.specs.DoneUnder.{DoneUnder};
+
 use crate::chosen::Chosen;
-use batch_run::{fault_of_run, run_bundle, run_pair, File, OpenGate, RunFault, Settings};
+use batch_run::{File, OpenGate, RunFault, Settings, fault_of_run, run_bundle, run_pair};
 use path_algebra::{Hops, Reach, Reliable, Shortest, Widest};
 use road_text::{Gathered, Plain, RoadRead, RoadWrite};
 use std::alloc::Global;
@@ -11,7 +15,9 @@ use std::{fs, io};
 const MEMORY: u8 = 3;
 
 /// Opens a file, and tells which could not be opened.
-fn open<R: Files>(rt: &R, path: &str, file: File) -> Result<R::File, RunFault> {
+fn open<R: Files>(rt: &R, path: &str, file: File) -> Result<R::File, RunFault>
+    ensures { IfErr result (λ f. f ≡ record { number = 1; file = file; line = 0 }) }
+{
     match fs::File::open(rt, path) {
         Ok(opened) => Ok(opened),
         Err(_) => Err(RunFault {
@@ -29,7 +35,10 @@ fn run_chosen_pair<G: RoadRead, Q: RoadRead, W: RoadWrite>(
     graph: &mut G,
     questions: &mut Q,
     out: &mut W,
-) -> Result<(), RunFault> {
+) -> Result<(), RunFault>
+    ensures done { OnOk result (DoneUnder chosen (IsPairOf (G.left graph.old) (Q.left questions.old)) (W.written out.old) (W.written out.new)) }
+    ensures passed_on { OnOk result (W.held out.new ≡ []) }
+{
     let settings = Settings::default();
     let gate = OpenGate;
     match chosen {
@@ -48,7 +57,10 @@ fn run_chosen_bundle<B: RoadRead, W: RoadWrite>(
     chosen: Chosen,
     input: &mut B,
     out: &mut W,
-) -> Result<(), RunFault> {
+) -> Result<(), RunFault>
+    ensures done { OnOk result (DoneUnder chosen (IsBundleOf (B.left input.old)) (W.written out.old) (W.written out.new)) }
+    ensures passed_on { OnOk result (W.held out.new ≡ []) }
+{
     let settings = Settings::default();
     let gate = OpenGate;
     match chosen {
@@ -62,7 +74,12 @@ fn run_chosen_bundle<B: RoadRead, W: RoadWrite>(
 }
 
 /// Answers the questions of a file over the graph of another, on standard output. Both are opened before one is read.
-pub fn solve<R: Files + Print + AllocGlobal>(rt: &R, chosen: Chosen, graph: &str, questions: &str) -> Result<(), RunFault> {
+pub fn solve<R: Files + Print + AllocGlobal>(
+    rt: &R,
+    chosen: Chosen,
+    graph: &str,
+    questions: &str,
+) -> Result<(), RunFault> {
     let graph = open(rt, graph, File::Graph)?;
     let questions = open(rt, questions, File::Questions)?;
     match Gathered::new(rt.alloc(), Plain::new(io::writer(rt))) {
@@ -80,7 +97,12 @@ pub fn solve<R: Files + Print + AllocGlobal>(rt: &R, chosen: Chosen, graph: &str
 /// Answers the bundle on standard input, on standard output.
 pub fn bundle<R: Input + Print + AllocGlobal>(rt: &R, chosen: Chosen) -> Result<(), RunFault> {
     match Gathered::new(rt.alloc(), Plain::new(io::writer(rt))) {
-        Ok(mut out) => run_chosen_bundle(rt.alloc(), chosen, &mut Plain::new(rt.reader()), &mut out),
+        Ok(mut out) => run_chosen_bundle(
+            rt.alloc(),
+            chosen,
+            &mut Plain::new(rt.reader()),
+            &mut out,
+        ),
         Err(_) => Err(fault_of_run(MEMORY)),
     }
 }

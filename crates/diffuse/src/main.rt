@@ -1,16 +1,20 @@
-//! `diffuse`: answers shortest, widest, reachability, hop and reliability questions over road graphs.
+//! `diffuse`: answers questions over road graphs: shortest, widest, reachability, hop, reliability and limited ones.
 #![tactic(auto)]
+
+ghost use Rattle.std.specs.Prelude.{◌≡◌, Some, IfOk, IfErr};
+ghost use Rattle.path_algebra.specs.Names.{name_of_text};
+ghost use Rattle.diffuse.specs.Choices.{limit_of, name_of};
 
 mod chosen;
 mod jobs;
 mod options;
 mod report;
 
-use batch_run::{fault_of_run, RunFault};
-use chosen::{choose, Chosen};
+use batch_run::{File, RunFault, fault_of_run};
+use chosen::{Chosen, choose};
 use clap::Error;
 use clap::error::ErrorKind;
-use options::{read_job, Job, Wanted};
+use options::{Job, Wanted, read_job};
 use path_algebra::AlgebraName;
 use report::report;
 use std::alloc::AllocError;
@@ -37,7 +41,11 @@ fn usage<R: Print + Eprint>(rt: &R, error: &Error) -> u8 {
 }
 
 /// The algebra that is wanted: a fault where its limit is missing, or does not belong.
-fn algebra_of(wanted: &Wanted<'_>) -> Result<Chosen, RunFault> {
+fn algebra_of(wanted: &Wanted<'_>) -> Result<Chosen, RunFault>
+    ensures name { IfOk result (λ chosen. name_of_text wanted.now.algebra.now ≡ Some (name_of chosen)) }
+    ensures limit { IfOk result (λ chosen. limit_of chosen ≡ wanted.now.limit) }
+    ensures fault { IfErr result (λ f. f ≡ record { number = 43; file = File.NoFile; line = 0 }) }
+{
     match AlgebraName::from_text(wanted.algebra.as_bytes()) {
         Some(name) => match choose(name, wanted.limit) {
             Some(chosen) => Ok(chosen),
@@ -92,3 +100,6 @@ fn run<R: Env + Files + Input + Print + Eprint + AllocGlobal>(rt: &R) -> u8 {
 fn main(rt: HostRuntime) -> ExitCode {
     ExitCode::from(run(&rt))
 }
+
+#[cfg(test)]
+mod tests;

@@ -28,7 +28,9 @@ pub enum Job<'a> {
         wanted: Wanted<'a>,
     },
     /// Answer the bundle on standard input.
-    Bundle { wanted: Wanted<'a> },
+    Bundle {
+        wanted: Wanted<'a>,
+    },
 }
 
 fn algebra<'a>(alloc: Global) -> Arg<'a> {
@@ -38,7 +40,9 @@ fn algebra<'a>(alloc: Global) -> Arg<'a> {
         .action(ArgAction::Set)
         .value_parser(ALGEBRAS)
         .default_value("shortest")
-        .help("What is best: the least sum of weights (shortest), the greatest least weight (widest), any walk (reach), the fewest arcs (hops), the greatest product of parts of a million (reliable), or the least sum up to a limit (within)")
+        .help(
+            "What is best: the least sum of weights (shortest), the greatest least weight (widest), any walk (reach), the fewest arcs (hops), the greatest product of parts of a million (reliable), or the least sum up to a limit (within)",
+        )
 }
 
 fn limit<'a>(alloc: Global) -> Arg<'a> {
@@ -47,7 +51,9 @@ fn limit<'a>(alloc: Global) -> Arg<'a> {
         .value_name("L")
         .action(ArgAction::Set)
         .value_parser(ValueParser::unsigned(0, MAX_LIMIT))
-        .help("The greatest sum of weights for `--algebra within`, 0 to 9223372036854775808; needed there, and nowhere else")
+        .help(
+            "The greatest sum of weights for `--algebra within`, 0 to 9223372036854775808; needed there, and nowhere else",
+        )
 }
 
 fn file<'a>(alloc: Global, name: &'a str, help: &'a str) -> Arg<'a> {
@@ -60,7 +66,11 @@ fn file<'a>(alloc: Global, name: &'a str, help: &'a str) -> Arg<'a> {
 fn solve<'a>(alloc: Global) -> Result<Command<'a>, AllocError> {
     Command::new(alloc, "solve")
         .about("Answers the questions of a file over the graph of another")
-        .arg(file(alloc, "GRAPH", "A road graph: a .gr file of the 9th DIMACS Implementation Challenge"))?
+        .arg(file(
+            alloc,
+            "GRAPH",
+            "A road graph: a .gr file of the 9th DIMACS Implementation Challenge",
+        ))?
         .arg(file(alloc, "QUESTIONS", "The questions: a .ss, .p2p or .ms file"))?
         .arg(algebra(alloc))?
         .arg(limit(alloc))
@@ -75,7 +85,9 @@ fn bundle<'a>(alloc: Global) -> Result<Command<'a>, AllocError> {
 
 fn command<'a>(alloc: Global) -> Result<Command<'a>, AllocError> {
     Command::new(alloc, "diffuse")
-        .about("Answers shortest, widest, reachability, hop and reliability questions over road graphs; every answer is proved")
+        .about(
+            "Answers shortest, widest, reachability, hop and reliability questions over road graphs; every answer is proved",
+        )
         .after_help(STATUSES)
         .subcommand_required(true)
         .subcommand(solve(alloc)?)?
@@ -83,7 +95,8 @@ fn command<'a>(alloc: Global) -> Result<Command<'a>, AllocError> {
 }
 
 /// What the exit statuses mean.
-const STATUSES: &str = "Exit status: 0 answered; 2 wrong usage, or a limit where none belongs; 3 an input is not as it should be; 4 no memory; 5 the answer could not be written. A fault is told on standard error as `diffuse: fault N FILE line L`; docs/FORMATS.md lists the numbers.";
+const STATUSES: &str =
+    "Exit status: 0 answered; 2 wrong usage, or a limit where none belongs; 3 an input is not as it should be; 4 no memory; 5 the answer could not be written. A fault is told on standard error as `diffuse: fault N FILE line L`; docs/FORMATS.md lists the numbers.";
 
 fn text_of<'a>(matches: &ArgMatches<'a>, name: &str) -> &'a str {
     matches.get_str(name).unwrap_or("")

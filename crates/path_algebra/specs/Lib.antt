@@ -5,4 +5,3 @@ pub mod Walks
 pub mod Given
 pub mod Laws
 pub mod Open
-pub mod Tolls

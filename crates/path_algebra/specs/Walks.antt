@@ -99,6 +99,11 @@ pub record IsParent {V : Type 0} (A : Algebra V) (g : Roads) (sources : List ℕ
   pub nearer : IsNearer A g sources v u
   pub least : (t : ℕ) → IsNearer A g sources v t → u ≤ t
 
+-- each vertex is the parent of the next, from u on to v
+abbrev pub IsParentChain : {V : Type 0} → Algebra V → Roads → List ℕ → ℕ → List ℕ → ℕ → Type 0
+IsParentChain A g sources u [] v = u ≡ v
+IsParentChain A g sources u (w ∷ rest) v = IsParent A g sources w u × IsParentChain A g sources w rest v
+
 -- the plain sum of the weights of a list of arcs
 abbrev pub sum_of_weights : Roads → List ℕ → ℕ
 sum_of_weights g [] = 0

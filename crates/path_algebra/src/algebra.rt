@@ -8,7 +8,6 @@ use crate::name::AlgebraName;
 ///
 /// An implementation says by `meaning` what its calls compute, and proves the laws below the last
 /// call. Nothing else is asked of it, and every solver, engine and checker over it is then right.
-/// `tolls.rt`, beside the tests, is a whole implementation of a caller's own.
 pub trait PathAlgebra: Copy + Send + Sync {
     /// What a walk is worth. Which values of the type occur, `is_value` says.
     type Value: Copy + Send + Sync;

@@ -34,5 +34,3 @@ pub use within::Within;
 
 #[cfg(test)]
 mod tests;
-#[cfg(test)]
-mod tolls;

@@ -1,5 +1,4 @@
 //! Values worked out by hand, and each public call once.
-use crate::tolls::Tolls;
 use crate::{
     AlgebraName, Hops, Labels, PathAlgebra, Reach, Reliable, Shortest, Widest, Within,
     best_values_are_unique, closed_labels_are_best, laws_hold, merged_labels_are_best,
@@ -77,16 +76,6 @@ fn within_a_limit(rt: HostRuntime) -> Result<(), Fail> {
     assert_eq!(rt; greatest.extend(HELD, 1), None);
     assert!(rt; Within::new(HELD + 1).is_none());
     Ok(())
-}
-
-#[test]
-fn own_algebra_tolls(rt: HostRuntime) {
-    assert_eq!(rt; code_along(Tolls, &[]), Some(0));
-    assert_eq!(rt; code_along(Tolls, &[1]), Some(2));
-    assert_eq!(rt; code_along(Tolls, &[1, 2]), Some(6));
-    assert_eq!(rt; code_along(Tolls, &[1, 2, 5]), Some(16));
-    assert_eq!(rt; Tolls.extend(HELD - 5, GREATEST_WEIGHT), Some(HELD));
-    assert!(rt; Tolls.name() == AlgebraName::Own);
 }
 
 #[test]

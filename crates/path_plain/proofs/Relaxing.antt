@@ -1,7 +1,7 @@
 -- Relaxing by heads and weights is relaxing by arc numbers.
-use Rattle.std.proofs.Common.{◌≡◌, ℕ, zero, suc, ◌+◌, ◌-◌, ◌<◌, ◌≤◌, Bool, List, [], ◌∷◌, length, get_or, drop, map, refl, ap, sym, subst, ◌∙◌, arith, Option, drop-cons, add-one}
+use Rattle.std.proofs.Common.{◌≡◌, ℕ, suc, ◌+◌, ◌<◌, ◌≤◌, Bool, List, [], ◌∷◌, length, get_or, drop, refl, ap, sym, subst, ◌∙◌, arith, Option, drop-cons, add-one}
 use Rattle.std.proofs.lemmas.List.{get_or-map, length-map, get_or_default}
-use Rattle.road_graph.specs.Roads.{Roads, IsRoads, HasVertex, ListsArcsFrom, ListsRoadsFrom, arc_of, road_of, roads_of}
+use Rattle.road_graph.specs.Roads.{Roads, IsRoads, HasVertex, ListsRoadsFrom, arc_of, road_of, roads_of}
 use Rattle.path_algebra.specs.Algebra.{Algebra}
 use Rattle.path_algebra.specs.Walks.{offered_if, relaxed}
 use Rattle.road_graph.specs.declared.OutRoad.{OutRoad}

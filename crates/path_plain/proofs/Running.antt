@@ -1,20 +1,18 @@
 -- The search with its queue, between two rounds.
-use Rattle.std.proofs.Common.{◌≡◌, ℕ, zero, suc, ◌+◌, ◌-◌, ◌*◌, ◌<◌, ◌≤◌, ◌⊎◌, inl, inr, Bool, true, false, cond, List, [], ◌∷◌, length, get_or, set, replicate, refl, ap, sym, ◌∙◌, subst, arith, Option, Some, None, get_or-set_same, get_or-set_other, length-set}
-use Rattle.std.proofs.lemmas.Bool.{cases_eq}
+use Rattle.std.proofs.Common.{◌≡◌, ℕ, ◌+◌, ◌-◌, ◌*◌, ◌<◌, Bool, true, false, cond, List, [], ◌∷◌, length, get_or, set, replicate, refl, sym, ◌∙◌, arith, Option, Some, None}
 use Rattle.std.proofs.lemmas.List.{get_or-replicate, length-replicate}
 use Rattle.std.proofs.lemmas.List.Sums.{sum_by-set}
 use Rattle.std.proofs.lemmas.List.Sorted.{Contains-permutation, IsPermutation-sym}
-use Rattle.std.specs.Prelude.{IsTrue, Contains, sum_by}
+use Rattle.std.specs.Prelude.{Contains}
 use Rattle.std.specs.List.Sorted.{IsPermutation}
 use Rattle.std.specs.BinaryHeap.{IsUpperBound}
-use Rattle.road_graph.specs.Roads.{Roads, IsRoads, HasVertex, ListsArcsFrom}
+use Rattle.road_graph.specs.Roads.{Roads, IsRoads, HasVertex}
 use Rattle.path_algebra.specs.Algebra.{Algebra, IsOrder, IsLawful}
-use Rattle.path_algebra.specs.Walks.{AreBest, relaxed}
-use Rattle.path_algebra.specs.Open.{IsBestOpen}
+use Rattle.path_algebra.specs.Walks.{AreBest}
 use Rattle.path_plain.proofs.Rounds.{Between, unsettled, starting, round, ending}
 use Rattle.path_plain.specs.Order.{open_cmp}
 use Rattle.path_plain.specs.Queue.{IsQueue, KeepsQueue}
-use Rattle.path_plain.specs.Settling.{Relaxes, Settles, Handles}
+use Rattle.path_plain.specs.Settling.{Relaxes, Handles}
 use Rattle.path_plain.proofs.Waiting.{queue_offer, queue_skip, queue_settle, queue_best, none_is_worse}
 
 -- the search is between two vertices, and the queue is that of its open ones
@@ -43,7 +41,7 @@ module _ {K V : Type 0} (value : K → V) (place : K → ℕ) (order : V → V �
     pub run_skip : get_or settled (place top) false ≡ true → Running value place order A g s labels settled rest
     run_skip t = record { between = running.between; queue = queue_skip value place order ordered labels settled items running.queue top rest moved t }
 
-    pub run_settle : get_or settled (place top) false ≡ false → IsUpperBound (open_cmp value order) top items →
+    pub run_settle : get_or settled (place top) false ≡ false → IsUpperBound (open_cmp value place order) top items →
         (next : List (Option V)) (queued : List K) → Relaxes A g (place top + 1) (value top) labels next →
         KeepsQueue value place order labels rest next queued → Running value place order A g s next (set settled (place top) true) queued
     run_settle o upper next queued pass keeps =
@@ -55,13 +53,13 @@ module _ {K V : Type 0} (value : K → V) (place : K → ℕ) (order : V → V �
         }
 
     module _ (labels' : List (Option V)) (settled' : List Bool) (items' : List K) where
-      stepped : IsUpperBound (open_cmp value order) top items → (b : Bool) → get_or settled (place top) false ≡ b →
+      stepped : IsUpperBound (open_cmp value place order) top items → (b : Bool) → get_or settled (place top) false ≡ b →
           Handles value place order A g (place top) (value top) b labels settled rest labels' settled' items' → Running value place order A g s labels' settled' items'
       stepped upper true t h = rw (h.same_labels, h.same_marks, h.same_queue) (run_skip t)
       stepped upper false o h = rw h.marks (run_settle o upper labels' items' h.relaxes h.queue)
 
       -- handling the best entry leads from one round to the next
-      pub run_step : IsUpperBound (open_cmp value order) top items →
+      pub run_step : IsUpperBound (open_cmp value place order) top items →
           Handles value place order A g (place top) (value top) (get_or settled (place top) false) labels settled rest labels' settled' items' → Running value place order A g s labels' settled' items'
       run_step upper h = stepped upper (get_or settled (place top) false) refl h
 

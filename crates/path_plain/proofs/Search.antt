@@ -1,17 +1,14 @@
 -- The search by best vertices first: what holds between its steps, its start, and the choice of a vertex.
-use Rattle.std.proofs.Common.{◌≡◌, ℕ, zero, suc, ◌+◌, ◌-◌, ◌<◌, ◌≤◌, ◌^◌, ◌⊎◌, inl, inr, Bool, true, false, cond, List, [], ◌∷◌, length, get_or, set, replicate, refl, ap, sym, ◌∙◌, subst, arith, Option, Some, None, get_or-set_same, get_or-set_other, length-set, take, drop, ◌++◌}
-use Rattle.std.proofs.Math.Seq.{take-append_seam}
+use Rattle.std.proofs.Common.{◌≡◌, ℕ, ◌+◌, ◌-◌, ◌<◌, ◌⊎◌, inl, inr, Bool, true, false, List, [], ◌∷◌, length, get_or, set, replicate, refl, ap, sym, ◌∙◌, subst, arith, Option, Some, None, get_or-set_same, get_or-set_other, length-set}
 use Rattle.std.proofs.lemmas.List.{get_or-replicate, length-replicate}
-use Rattle.std.proofs.lemmas.List.Sums.{sum_by-set}
 use Rattle.std.proofs.lemmas.Bool.{cases_eq}
-use Rattle.std.specs.Prelude.{IsTrue, Contains, ◌↔◌, sum_by}
+use Rattle.std.specs.Prelude.{IsTrue, Contains}
 use Rattle.road_graph.specs.Roads.{Roads, IsRoads, HasArc, HasVertex, arc_of, ListsArcsFrom}
-use Rattle.path_algebra.specs.Algebra.{Algebra, IsOrder, IsLawful}
-use Rattle.path_algebra.specs.Walks.{IsWalk, IsWalkValue, AreBest, AreWalkValues, IsNotImproving, label_of, improved, offered, offered_if, relaxed}
-use Rattle.path_algebra.proofs.Walks.{IsWalkValue-extend, walk_value_is_value, labels_are_best}
-use Rattle.path_algebra.proofs.Least.{same_no_worse, other_no_worse}
-use Rattle.path_algebra.specs.Open.{IsBestOpen, IsLeastOpen, AnswersBestOpen, better_of}
-use Rattle.path_plain.proofs.Small.{not_in_empty, head_or_tail, false_or_true}
+use Rattle.path_algebra.specs.Algebra.{Algebra, IsLawful}
+use Rattle.path_algebra.specs.Walks.{AreWalkValues, IsNotImproving, label_of}
+use Rattle.path_algebra.proofs.Least.{same_no_worse}
+use Rattle.path_algebra.specs.Open.{IsBestOpen}
+use Rattle.path_plain.proofs.Small.{not_in_empty}
 
 -- a vertex that is marked as settled
 abbrev pub IsSettled : List Bool → ℕ → Type 0

@@ -2,12 +2,17 @@
 use Rattle.std.specs.Prelude.{◌≡◌, ℕ, ◌<◌, List, length, Bool, false, IsTrue, Contains, Option, Some, None, slice_index_or}
 
 -- each entry is no better than the label of its place, and each open label has an entry of its very value
-pub record IsQueue {K V : Type 0} (value : K → V) (place : K → ℕ) (no_worse : V → V → Bool) (labels : List (Option V)) (settled : List Bool) (items : List K) : Type 0 where
-  pub entries : (e : K) → Contains items e → (place e < length labels) × ((y : V) × (slice_index_or labels (place e) None ≡ Some y) × IsTrue (no_worse y (value e)))
-  pub covers : (k : ℕ) (y : V) → k < length labels → slice_index_or settled k false ≡ false → slice_index_or labels k None ≡ Some y →
+pub record IsQueue {K V : Type 0} (value : K → V) (place : K → ℕ) (no_worse : V → V → Bool)
+    (labels : List (Option V)) (settled : List Bool) (items : List K) : Type 0 where
+  pub entries : (e : K) → Contains items e →
+      (place e < length labels) × ((y : V) × (slice_index_or labels (place e) None ≡ Some y) × IsTrue (no_worse y (value e)))
+  pub covers : (k : ℕ) (y : V) → k < length labels → slice_index_or settled k false ≡ false →
+      slice_index_or labels k None ≡ Some y →
       (e : K) × Contains items e × (value e ≡ y) × (place e ≡ k)
 
 -- whatever is settled: what was the queue of the old labels has become that of the new ones
-abbrev pub KeepsQueue : {K V : Type 0} → (K → V) → (K → ℕ) → (V → V → Bool) → List (Option V) → List K → List (Option V) → List K → Type 0
+abbrev pub KeepsQueue : {K V : Type 0} → (K → V) → (K → ℕ) → (V → V → Bool) →
+    List (Option V) → List K → List (Option V) → List K → Type 0
 KeepsQueue value place no_worse labels items labels' items' =
-    (settled : List Bool) → IsQueue value place no_worse labels settled items → IsQueue value place no_worse labels' settled items'
+    (settled : List Bool) → IsQueue value place no_worse labels settled items →
+    IsQueue value place no_worse labels' settled items'

@@ -8,7 +8,8 @@ use path_algebra::{PathAlgebra, laws_hold};
 
 /// Best values exist: on every graph, and from every list of its vertices, for every lawful algebra.
 pub fn best_values_exist<A: PathAlgebra>(algebra: A)
-    ensures { (g : Roads) → IsRoads g → (sources : List ℕ) → All (HasVertex g) sources → (labels : List (Option A.Value)) × AreBest (A.meaning algebra) g sources labels }
+    ensures { (g : Roads) → IsRoads g → (sources : List ℕ) → All (HasVertex g) sources →
+        (labels : List (Option A.Value)) × AreBest (A.meaning algebra) g sources labels }
 {
     laws_hold(algebra);
 }

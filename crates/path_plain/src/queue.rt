@@ -15,7 +15,7 @@ use std::collections::BinaryHeap;
 
 /// A vertex, by its place among the labels, with a value that it was offered.
 ///
-/// Entries are compared by their values alone: better is greater.
+/// Better values are greater, and of equal ones the lesser place is.
 #[derive(Drop)]
 pub(crate) struct Open<A: PathAlgebra> {
     pub(crate) value: A::Value,
@@ -23,9 +23,9 @@ pub(crate) struct Open<A: PathAlgebra> {
 }
 
 impl<A: PathAlgebra> Ord for Open<A> {
-    ghost cmp = { open_cmp (λ o. o.value) A.order };
+    ghost cmp = { open_cmp (λ o. o.value) (λ o. o.place) A.order };
 
-    ghost total = { open_total (λ o. o.value) A.order A.ordered };
+    ghost total = { open_total (λ o. o.value) (λ o. o.place) A.order A.ordered };
 
     ghost matches_partial_cmp = { λ x y. refl };
 
@@ -38,15 +38,15 @@ impl<A: PathAlgebra> Ord for Open<A> {
         } else if !A::no_worse(b, a) {
             Ordering::Greater
         } else {
-            Ordering::Equal
+            other.place.cmp(&self.place)
         }
     }
 }
 
 impl<A: PathAlgebra> PartialOrd for Open<A> {
-    ghost partial_cmp = { as_partial_cmp (open_cmp (λ o. o.value) A.order) };
+    ghost partial_cmp = { as_partial_cmp (open_cmp (λ o. o.value) (λ o. o.place) A.order) };
 
-    ghost laws = { partial_order_from_total (open_total (λ o. o.value) A.order A.ordered) };
+    ghost laws = { partial_order_from_total (open_total (λ o. o.value) (λ o. o.place) A.order A.ordered) };
 
     fn partial_cmp(&self, other: &Self) -> Option<Ordering> {
         Some(self.cmp(other))
@@ -54,9 +54,9 @@ impl<A: PathAlgebra> PartialOrd for Open<A> {
 }
 
 impl<A: PathAlgebra> PartialEq for Open<A> {
-    ghost eq = { eq_by_cmp (open_cmp (λ o. o.value) A.order) };
+    ghost eq = { eq_by_cmp (open_cmp (λ o. o.value) (λ o. o.place) A.order) };
 
-    ghost laws = { partial_equiv_from_equiv (eq_by_cmp_equiv (open_total (λ o. o.value) A.order A.ordered)) };
+    ghost laws = { partial_equiv_from_equiv (eq_by_cmp_equiv (open_total (λ o. o.value) (λ o. o.place) A.order A.ordered)) };
 
     fn eq(&self, other: &Self) -> bool {
         self.cmp(other).is_eq()
@@ -64,7 +64,7 @@ impl<A: PathAlgebra> PartialEq for Open<A> {
 }
 
 impl<A: PathAlgebra> Eq for Open<A> {
-    ghost laws = { eq_by_cmp_equiv (open_total (λ o. o.value) A.order A.ordered) };
+    ghost laws = { eq_by_cmp_equiv (open_total (λ o. o.value) (λ o. o.place) A.order A.ordered) };
 }
 
 /// Puts an entry into the queue.
@@ -73,9 +73,10 @@ pub(crate) fn push_open<A: PathAlgebra>(
     value: A::Value,
     place: usize,
 ) -> Result<(), Memory>
-    requires { IsHeap (open_cmp (λ o. o.value) A.order) (heap_items queue.old) }
-    ensures heap { OnOk result (IsHeap (open_cmp (λ o. o.value) A.order) (heap_items queue.new)) }
-    ensures items { OnOk result (IsPermutation (record { value = value; place = place } ∷ heap_items queue.old) (heap_items queue.new)) }
+    requires { IsHeap (open_cmp (λ o. o.value) (λ o. o.place) A.order) (heap_items queue.old) }
+    ensures heap { OnOk result (IsHeap (open_cmp (λ o. o.value) (λ o. o.place) A.order) (heap_items queue.new)) }
+    ensures items { OnOk result
+        (IsPermutation (record { value = value; place = place } ∷ heap_items queue.old) (heap_items queue.new)) }
     ensures len { OnOk result (length (heap_items queue.new) ≡ length (heap_items queue.old) + 1) }
 {
     queue.push(Open { value, place }).map_err(AllocError::from)?;
@@ -84,12 +85,14 @@ pub(crate) fn push_open<A: PathAlgebra>(
 
 /// Takes an entry of the best value in the queue, if there is any.
 pub(crate) fn pop_best<A: PathAlgebra>(queue: &mut BinaryHeap<Open<A>>) -> Option<(A::Value, usize)>
-    requires { IsHeap (open_cmp (λ o. o.value) A.order) (heap_items queue.old) }
-    ensures heap { IsHeap (open_cmp (λ o. o.value) A.order) (heap_items queue.new) }
-    ensures items { IfSome result (λ x. IsPermutation (heap_items queue.old) (record { value = x.0; place = x.1 } ∷ heap_items queue.new)) }
+    requires { IsHeap (open_cmp (λ o. o.value) (λ o. o.place) A.order) (heap_items queue.old) }
+    ensures heap { IsHeap (open_cmp (λ o. o.value) (λ o. o.place) A.order) (heap_items queue.new) }
+    ensures items { IfSome result
+        (λ x. IsPermutation (heap_items queue.old) (record { value = x.0; place = x.1 } ∷ heap_items queue.new)) }
     ensures len { IfSome result (λ x. length (heap_items queue.new) + 1 ≡ length (heap_items queue.old)) }
     ensures none { IfNone result (heap_items queue.old ≡ []) }
-    ensures best { IfSome result (λ x. IsUpperBound (open_cmp (λ o. o.value) A.order) (record { value = x.0; place = x.1 }) (heap_items queue.old)) }
+    ensures best { IfSome result
+        (λ x. IsUpperBound (open_cmp (λ o. o.value) (λ o. o.place) A.order) (record { value = x.0; place = x.1 }) (heap_items queue.old)) }
 {
     let best = queue.pop()?;
     Some((best.value, best.place))

@@ -23,10 +23,11 @@ fn offer<A: PathAlgebra>(
 ) -> Result<(), Memory>
     requires low { 1 ≤ v }
     requires high { v ≤ length labels.old }
-    requires heap { IsHeap (open_cmp (λ o. o.value) A.order) (heap_items queue.old) }
+    requires heap { IsHeap (open_cmp (λ o. o.value) (λ o. o.place) A.order) (heap_items queue.old) }
     ensures labels { OnOk result (labels.new ≡ offered A.order labels.old v z) }
-    ensures heap { OnOk result (IsHeap (open_cmp (λ o. o.value) A.order) (heap_items queue.new)) }
-    ensures queue { OnOk result (KeepsQueue (λ o. o.value) (λ o. o.place) A.order labels.old (heap_items queue.old) labels.new (heap_items queue.new)) }
+    ensures heap { OnOk result (IsHeap (open_cmp (λ o. o.value) (λ o. o.place) A.order) (heap_items queue.new)) }
+    ensures queue { OnOk result (KeepsQueue (λ o. o.value) (λ o. o.place) A.order
+        labels.old (heap_items queue.old) labels.new (heap_items queue.new)) }
     ensures few { OnOk result (length (heap_items queue.new) ≤ length (heap_items queue.old) + 1) }
 {
     let i = v.0 as usize - 1;
@@ -50,11 +51,12 @@ fn offer_if<A: PathAlgebra>(
 ) -> Result<(), Memory>
     requires low { 1 ≤ v }
     requires high { v ≤ length labels.old }
-    requires heap { IsHeap (open_cmp (λ o. o.value) A.order) (heap_items queue.old) }
+    requires heap { IsHeap (open_cmp (λ o. o.value) (λ o. o.place) A.order) (heap_items queue.old) }
     ensures labels { OnOk result (labels.new ≡ offered_if A.order labels.old v extended) }
     ensures count { OnOk result (length labels.new ≡ length labels.old) }
-    ensures heap { OnOk result (IsHeap (open_cmp (λ o. o.value) A.order) (heap_items queue.new)) }
-    ensures queue { OnOk result (KeepsQueue (λ o. o.value) (λ o. o.place) A.order labels.old (heap_items queue.old) labels.new (heap_items queue.new)) }
+    ensures heap { OnOk result (IsHeap (open_cmp (λ o. o.value) (λ o. o.place) A.order) (heap_items queue.new)) }
+    ensures queue { OnOk result (KeepsQueue (λ o. o.value) (λ o. o.place) A.order
+        labels.old (heap_items queue.old) labels.new (heap_items queue.new)) }
     ensures few { OnOk result (length (heap_items queue.new) ≤ length (heap_items queue.old) + 1) }
 {
     match extended {
@@ -75,11 +77,13 @@ fn relax<A: PathAlgebra>(
     requires roads { IsRoads graph.now }
     requires in_graph { HasVertex graph.now v }
     requires count { length labels.old ≡ graph.now.vertices }
-    requires heap { IsHeap (open_cmp (λ o. o.value) A.order) (heap_items queue.old) }
+    requires heap { IsHeap (open_cmp (λ o. o.value) (λ o. o.place) A.order) (heap_items queue.old) }
     ensures relaxes { OnOk result (Relaxes (A.meaning algebra) graph.now v x labels.old labels.new) }
-    ensures heap { OnOk result (IsHeap (open_cmp (λ o. o.value) A.order) (heap_items queue.new)) }
-    ensures queue { OnOk result (KeepsQueue (λ o. o.value) (λ o. o.place) A.order labels.old (heap_items queue.old) labels.new (heap_items queue.new)) }
-    ensures few { OnOk result (length (heap_items queue.new) ≤ length (heap_items queue.old) + length graph.now.arcs) }
+    ensures heap { OnOk result (IsHeap (open_cmp (λ o. o.value) (λ o. o.place) A.order) (heap_items queue.new)) }
+    ensures queue { OnOk result (KeepsQueue (λ o. o.value) (λ o. o.place) A.order
+        labels.old (heap_items queue.old) labels.new (heap_items queue.new)) }
+    ensures few { OnOk result
+        (length (heap_items queue.new) ≤ length (heap_items queue.old) + length graph.now.arcs) }
 {
     laws_hold(algebra);
     for road in graph.roads_from(v) {
@@ -101,9 +105,10 @@ fn settle<A: PathAlgebra>(
     requires place { best.1 < graph.now.vertices }
     requires labels { length labels.old ≡ graph.now.vertices }
     requires settled { length settled.old ≡ graph.now.vertices }
-    requires heap { IsHeap (open_cmp (λ o. o.value) A.order) (heap_items queue.old) }
-    ensures heap { OnOk result (IsHeap (open_cmp (λ o. o.value) A.order) (heap_items queue.new)) }
-    ensures handles { OnOk result (Handles (λ o. o.value) (λ o. o.place) A.order (A.meaning algebra) graph.now best.1 best.0 (slice_index_or settled.old best.1 false)
+    requires heap { IsHeap (open_cmp (λ o. o.value) (λ o. o.place) A.order) (heap_items queue.old) }
+    ensures heap { OnOk result (IsHeap (open_cmp (λ o. o.value) (λ o. o.place) A.order) (heap_items queue.new)) }
+    ensures handles { OnOk result (Handles (λ o. o.value) (λ o. o.place) A.order (A.meaning algebra) graph.now
+        best.1 best.0 (slice_index_or settled.old best.1 false)
         labels.old settled.old (heap_items queue.old) labels.new settled.new (heap_items queue.new)) }
 {
     if settled[best.1] {

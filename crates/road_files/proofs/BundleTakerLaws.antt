@@ -1,17 +1,15 @@
 -- A bundle's line, as its taker takes it.
-use Rattle.std.proofs.Common.{◌≡◌, ℕ, ◌+◌, ◌<◌, List, [], ◌∷◌, length, take, map, Bool, Option, None, Result, Ok, Err, refl, sym, ap, ◌∙◌, arith, lit<, codes, subst}
+use Rattle.std.proofs.Common.{◌≡◌, ℕ, ◌<◌, List, [], ◌∷◌, length, take, map, Bool, Option, None, Ok, Err, refl, sym, ap, ◌∙◌, arith, lit<, codes, subst}
 use Rattle.std.proofs.lemmas.Bool.{lt-ltb}
 use Rattle.std.specs.Option.{IfSome}
-use Rattle.std.specs.Result.{IfOk}
 use Rattle.road_graph.specs.Roads.{Roads}
 use Rattle.road_text.specs.declared.faults.ReadFault.{ReadFault}
 use Rattle.road_text.specs.declared.slots.Slot.{Slot}
 use Rattle.road_text.specs.Lines.{fields}
-use Rattle.road_text.specs.Rules.{◌>>=◌, reading, fault_at}
+use Rattle.road_text.specs.Rules.{◌>>=◌, reading}
 use Rattle.road_text.specs.Slots.{word_in}
 use Rattle.road_text.specs.Takes.{ShowsLine}
 use Rattle.road_text.specs.Words.{Word, word_of}
-use Rattle.road_text.proofs.TakerLaws.{gives_taken, gives_broken}
 use Rattle.road_text.proofs.WordLaws.{held, held_words, short_word}
 use Rattle.road_files.specs.declared.questions.Questions.{Questions}
 use Rattle.road_files.specs.declared.bundle_part.BundlePart.{BundlePart}

@@ -1,5 +1,5 @@
 -- A graph's line, as its taker takes it.
-use Rattle.std.proofs.Common.{◌≡◌, ℕ, ◌<◌, List, map, Bool, Option, Some, None, option_map, Result, Ok, Err, arith, subst}
+use Rattle.std.proofs.Common.{◌≡◌, ℕ, ◌<◌, List, map, Bool, Option, Some, None, option_map, Ok, Err, arith, subst}
 use Rattle.std.specs.Option.{IfSome}
 use Rattle.road_graph.specs.Roads.{Roads}
 use Rattle.road_text.specs.declared.faults.ReadFault.{ReadFault}

@@ -85,7 +85,7 @@ line_same n only s (w ∷ ws) b m p q e h =
     let in_list : cond b (one_question Multi s (sources_of_line (length (w ∷ ws)) p)) (Err 13) ≡ cond b (one_question Multi s (sources_of_line m q)) (Err 13) =
     cond_same b _ _ (Err 13) (λ on. ap (one_question Multi s) (list_same (length (w ∷ ws)) m p q e (h on))) in
     ap (λ x. cond (eqb (length (w ∷ ws)) 0) (Ok s) (cond (eqb (get_or w.text 0 0) 99) (Ok s) (cond (bytes_eq w.text (codes "p")) (question_problem only s (w ∷ ws))
-      (cond (bytes_eq w.text (codes "s")) (one_question Sources s (source_of_line n (w ∷ ws))) (cond (bytes_eq w.text (codes "q")) (one_question Pairs s (pair_of_line n (w ∷ ws))) x))))) in_list
+    (cond (bytes_eq w.text (codes "s")) (one_question Sources s (source_of_line n (w ∷ ws))) (cond (bytes_eq w.text (codes "q")) (one_question Pairs s (pair_of_line n (w ∷ ws))) x))))) in_list
 
 -- the rule gives the same of the words and of what is kept of the fields
 pub question_line_kept : (n : ℕ) (only : Option Kind) (s : Option AskedSoFar) (kept : List Word) (fs : List (List ℕ)) (b : Bool) (m : ℕ) (q : Result (List ℕ) ℕ) → n < 18446744073709551616

@@ -6,3 +6,8 @@ pub mod ListFields
 pub mod HeldQuestionLines
 pub mod QuestionTakerLaws
 pub mod BundleTakerLaws
+pub mod LinesInARow
+pub mod LinesAgain
+pub mod GraphAgain
+pub mod QuestionsAgain
+pub mod BundleAgain

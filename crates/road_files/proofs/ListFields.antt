@@ -1,8 +1,7 @@
 -- The fields of a list, one after the other.
-use Rattle.std.proofs.Common.{◌≡◌, ℕ, ◌+◌, ◌<◌, ◌≤◌, List, [], ◌∷◌, ◌++◌, length, drop, map, Option, Ok, Err, Result, Bool, true, refl, sym, ap, ◌∙◌, arith, length-append}
+use Rattle.std.proofs.Common.{◌≡◌, ℕ, ◌+◌, ◌<◌, ◌≤◌, List, [], ◌∷◌, ◌++◌, length, drop, map, Ok, Err, Result, true, refl, sym, ap, ◌∙◌, arith, length-append}
 use Rattle.std.proofs.lemmas.List.{map-append}
 use Rattle.std.specs.Result.{OnOk}
-use Rattle.road_text.specs.declared.faults.LineFault.{LineFault}
 use Rattle.road_text.specs.Rules.{◌>>=◌}
 use Rattle.road_text.specs.Words.{Word, word_of, held_word}
 use Rattle.road_files.specs.declared.present_list.PresentList.{PresentList}
@@ -47,8 +46,8 @@ next_field s t fs f small h some few same more letter sources =
       count = omega (arith, h.count, long, more);
       letter = letter ∙ h.letter ∙ sym (same_letter fs f any);
       sources = λ on le. let was : s.is_list ≡ true = sym letter ∙ on in
-        ap (λ n. vertices_in n (drop 1 (map word_of (fs ++ f ∷ [])))) same ∙ ap (vertices_in s.vertices) (after_first fs f any) ∙ vertices_push s.vertices (drop 1 (map word_of fs)) (word_of f)
-        ∙ ap (λ r. one_vertex_more s.vertices r (word_of f).number) (h.sources was (omega (arith, long))) ∙ sym (one_held s.vertices (sources_given s) f small) ∙ sym (sources was);
+          ap (λ n. vertices_in n (drop 1 (map word_of (fs ++ f ∷ [])))) same ∙ ap (vertices_in s.vertices) (after_first fs f any) ∙ vertices_push s.vertices (drop 1 (map word_of fs)) (word_of f)
+          ∙ ap (λ r. one_vertex_more s.vertices r (word_of f).number) (h.sources was (omega (arith, long))) ∙ sym (one_held s.vertices (sources_given s) f small) ∙ sym (sources was);
     }
 
 pub on_both : {E P Q R : Type 0} (r : Result (Unit {0}) E) → OnOk r P → OnOk r Q → (P → Q → R) → OnOk r R

@@ -1,5 +1,5 @@
 -- A question's line, as its taker takes it.
-use Rattle.std.proofs.Common.{◌≡◌, ℕ, ◌+◌, ◌<◌, List, ◌∷◌, map, Bool, Option, Some, None, Result, Ok, Err, refl, sym, ap, ◌∙◌, arith, subst}
+use Rattle.std.proofs.Common.{◌≡◌, ℕ, ◌+◌, List, ◌∷◌, map, Bool, Option, None, Result, Ok, Err, ◌∙◌, arith, subst}
 use Rattle.std.specs.Result.{IfOk}
 use Rattle.road_text.specs.declared.faults.LineFault.{LineFault}
 use Rattle.road_text.specs.declared.faults.LineFault.TheVariants.{Broken}

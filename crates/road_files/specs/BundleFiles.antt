@@ -1,5 +1,5 @@
 -- Bundles, by their lines: a graph part, and then a question part, which begins at a problem line with `aux`.
-use Rattle.std.specs.Prelude.{ℕ, ◌==◌, ◌&&◌, List, [], ◌∷◌, length, map, if◌then◌else◌, Option, Some, None, Result, Ok, Err, codes, bytes_eq, Bool, nat_lt, drop}
+use Rattle.std.specs.Prelude.{ℕ, ◌&&◌, List, length, map, if◌then◌else◌, Option, None, Result, Ok, Err, codes, bytes_eq, Bool, nat_lt, drop}
 use Rattle.road_graph.specs.Roads.{Roads}
 use Rattle.road_text.specs.Rules.{◌>>=◌, Rules}
 use Rattle.road_text.specs.Words.{Word, word_of, word_at}

@@ -1,5 +1,5 @@
 -- What the taker of a graph file holds, as the rules have it.
-use Rattle.std.specs.Prelude.{◌≡◌, ℕ, List, Option, option_map, Result, Bool}
+use Rattle.std.specs.Prelude.{ℕ, List, Option, option_map, Result, Bool}
 use Rattle.road_graph.specs.Roads.{Roads}
 use Rattle.road_text.specs.declared.faults.ReadFault.{ReadFault}
 use Rattle.road_text.specs.Takes.{GivesBy}

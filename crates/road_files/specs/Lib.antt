@@ -7,3 +7,4 @@ pub mod QuestionFiles
 pub mod QuestionTakes
 pub mod BundleFiles
 pub mod BundleTakes
+pub mod WrittenFiles

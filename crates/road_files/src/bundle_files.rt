@@ -12,7 +12,10 @@ use road_text::{ReadFault, RoadRead, read_whole};
 use std::alloc::Global;
 
 /// The graph and the questions of a bundle.
-pub fn read_bundle<R: RoadRead>(alloc: Global, from: &mut R) -> Result<(Graph, Questions), ReadFault>
+pub fn read_bundle<R: RoadRead>(
+    alloc: Global,
+    from: &mut R,
+) -> Result<(Graph, Questions), ReadFault>
     ensures value { ReadsValue bundle_rules bundle_of (R.left from.old) result }
     ensures some_text { ReadsSome bundle_rules bundle_of result }
     ensures fit { IfOk result (λ b. AreQuestionsOf b.0.vertices b.1) }

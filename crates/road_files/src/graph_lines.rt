@@ -60,7 +60,9 @@ pub fn whole(taken: Option<TakenRoads>) -> Result<TakenRoads, LineFault>
 {
     match taken {
         None => Err(LineFault::Broken(Rule::NoProblem)),
-        Some(taken) if taken.arcs.len() < taken.announced as usize => Err(LineFault::Broken(Rule::TooFew)),
+        Some(taken) if taken.arcs.len() < taken.announced as usize => Err(LineFault::Broken(
+            Rule::TooFew,
+        )),
         Some(taken) => Ok(taken),
     }
 }

@@ -6,6 +6,7 @@ mod bundle_lines;
 mod bundle_part;
 mod graph_files;
 mod graph_lines;
+mod laws;
 mod list_fields;
 mod number_fields;
 mod present_list;
@@ -16,8 +17,14 @@ mod question_taker;
 mod questions;
 mod taken_questions;
 mod taken_roads;
+#[cfg(test)]
+mod tests;
+mod writing;
+mod written_lines;
 
-pub use questions::{Kind, Questions};
 pub use bundle_files::read_bundle;
 pub use graph_files::read_gr;
+pub use laws::{bundle_read_again, graph_read_again, questions_read_again};
 pub use question_files::{read_ms, read_p2p, read_questions, read_ss};
+pub use questions::{Kind, Questions};
+pub use writing::{write_gr, write_ms, write_p2p, write_ss};

@@ -13,7 +13,12 @@ use road_text::{ReadFault, RoadRead, read_whole};
 use std::alloc::Global;
 
 // The questions of a file, which may be of one kind alone.
-fn read_asked<R: RoadRead>(alloc: Global, from: &mut R, vertices: u32, only: Option<Kind>) -> Result<Questions, ReadFault>
+fn read_asked<R: RoadRead>(
+    alloc: Global,
+    from: &mut R,
+    vertices: u32,
+    only: Option<Kind>,
+) -> Result<Questions, ReadFault>
     ensures value { ReadsValue (question_rules vertices only) asked_of (R.left from.old) result }
     ensures some_text { ReadsSome (question_rules vertices only) asked_of result }
     ensures fit { IfOk result (FitsFile vertices only) }
@@ -31,7 +36,11 @@ fn read_asked<R: RoadRead>(alloc: Global, from: &mut R, vertices: u32, only: Opt
 }
 
 /// The questions of a question file of any kind, over a graph with this number of vertices.
-pub fn read_questions<R: RoadRead>(alloc: Global, from: &mut R, vertices: u32) -> Result<Questions, ReadFault>
+pub fn read_questions<R: RoadRead>(
+    alloc: Global,
+    from: &mut R,
+    vertices: u32,
+) -> Result<Questions, ReadFault>
     ensures value { ReadsValue (question_rules vertices None) asked_of (R.left from.old) result }
     ensures some_text { ReadsSome (question_rules vertices None) asked_of result }
     ensures fit { IfOk result (AreQuestionsOf vertices) }
@@ -79,7 +88,11 @@ fn lists_of(questions: Questions) -> Vec<Vec<Vertex>>
 }
 
 /// The sources of an .ss file, over a graph with this number of vertices.
-pub fn read_ss<R: RoadRead>(alloc: Global, from: &mut R, vertices: u32) -> Result<Vec<Vertex>, ReadFault>
+pub fn read_ss<R: RoadRead>(
+    alloc: Global,
+    from: &mut R,
+    vertices: u32,
+) -> Result<Vec<Vertex>, ReadFault>
     ensures value { ReadsValue (question_rules vertices (Some Kind.Sources)) asked_of_sources (R.left from.old) result }
     ensures some_text { ReadsSome (question_rules vertices (Some Kind.Sources)) asked_of_sources result }
     ensures fit { IfOk result (λ sources. AreQuestionsOf vertices (Questions.Sources sources)) }
@@ -100,7 +113,11 @@ pub fn read_ss<R: RoadRead>(alloc: Global, from: &mut R, vertices: u32) -> Resul
 }
 
 /// The pairs of a source and a target of a .p2p file, over a graph with this number of vertices.
-pub fn read_p2p<R: RoadRead>(alloc: Global, from: &mut R, vertices: u32) -> Result<Vec<(Vertex, Vertex)>, ReadFault>
+pub fn read_p2p<R: RoadRead>(
+    alloc: Global,
+    from: &mut R,
+    vertices: u32,
+) -> Result<Vec<(Vertex, Vertex)>, ReadFault>
     ensures value { ReadsValue (question_rules vertices (Some Kind.Pairs)) asked_of_pairs (R.left from.old) result }
     ensures some_text { ReadsSome (question_rules vertices (Some Kind.Pairs)) asked_of_pairs result }
     ensures fit { IfOk result (λ pairs. AreQuestionsOf vertices (Questions.Pairs pairs)) }
@@ -121,7 +138,11 @@ pub fn read_p2p<R: RoadRead>(alloc: Global, from: &mut R, vertices: u32) -> Resu
 }
 
 /// The lists of sources of an .ms file, over a graph with this number of vertices.
-pub fn read_ms<R: RoadRead>(alloc: Global, from: &mut R, vertices: u32) -> Result<Vec<Vec<Vertex>>, ReadFault>
+pub fn read_ms<R: RoadRead>(
+    alloc: Global,
+    from: &mut R,
+    vertices: u32,
+) -> Result<Vec<Vec<Vertex>>, ReadFault>
     ensures value { ReadsValue (question_rules vertices (Some Kind.Multi)) asked_of_lists (R.left from.old) result }
     ensures some_text { ReadsSome (question_rules vertices (Some Kind.Multi)) asked_of_lists result }
     ensures fit { IfOk result (λ lists. AreQuestionsOf vertices (Questions.Multi lists)) }

@@ -41,7 +41,12 @@ fn pair_in(slots: &[Slot], vertices: u32) -> Result<(Vertex, Vertex), LineFault>
     Ok((source, target))
 }
 
-fn add_source(sources: &mut Vec<Vertex>, announced: u32, vertices: u32, slots: &[Slot]) -> Result<(), LineFault>
+fn add_source(
+    sources: &mut Vec<Vertex>,
+    announced: u32,
+    vertices: u32,
+    slots: &[Slot],
+) -> Result<(), LineFault>
     ensures rule { Leaves (one_more announced (map of_source sources.old.items) (source_of_line vertices (map word_in slots.now))) result (map of_source sources.new.items) }
     ensures within { All (IsVertexOf vertices) sources.old.items → All (IsVertexOf vertices) sources.new.items }
     ensures room { length sources.old.items ≤ announced → length sources.new.items ≤ announced }
@@ -56,7 +61,12 @@ fn add_source(sources: &mut Vec<Vertex>, announced: u32, vertices: u32, slots: &
     }
 }
 
-fn add_pair(pairs: &mut Vec<(Vertex, Vertex)>, announced: u32, vertices: u32, slots: &[Slot]) -> Result<(), LineFault>
+fn add_pair(
+    pairs: &mut Vec<(Vertex, Vertex)>,
+    announced: u32,
+    vertices: u32,
+    slots: &[Slot],
+) -> Result<(), LineFault>
     ensures rule { Leaves (one_more announced (map of_pair pairs.old.items) (pair_of_line vertices (map word_in slots.now))) result (map of_pair pairs.new.items) }
     ensures within { All (IsPairOf vertices) pairs.old.items → All (IsPairOf vertices) pairs.new.items }
     ensures room { length pairs.old.items ≤ announced → length pairs.new.items ≤ announced }
@@ -71,7 +81,12 @@ fn add_pair(pairs: &mut Vec<(Vertex, Vertex)>, announced: u32, vertices: u32, sl
     }
 }
 
-fn add_list(lists: &mut Vec<Vec<Vertex>>, announced: u32, list: &mut PresentList, alloc: Global) -> Result<(), LineFault>
+fn add_list(
+    lists: &mut Vec<Vec<Vertex>>,
+    announced: u32,
+    list: &mut PresentList,
+    alloc: Global,
+) -> Result<(), LineFault>
     requires { list.old.is_list ≡ true }
     ensures rule { Leaves (one_more announced (map of_list lists.old.items) (sources_of_line list.old.count (sources_given list.old))) result (map of_list lists.new.items) }
     ensures within { All (λ l. AreSourcesOf list.old.vertices l.items) lists.old.items → All (λ l. AreSourcesOf list.old.vertices l.items) lists.new.items }
@@ -96,7 +111,12 @@ impl TakenQuestions {
         ensures kind { (asked_of self.new.questions).kind ≡ (asked_of self.old.questions).kind }
     {
         match &mut self.questions {
-            Questions::Sources(sources) => add_source(sources, self.announced, self.vertices, slots),
+            Questions::Sources(sources) => add_source(
+                sources,
+                self.announced,
+                self.vertices,
+                slots,
+            ),
             Questions::Pairs(_) | Questions::Multi(_) => Err(LineFault::Broken(Rule::UnknownLine)),
         }
     }
@@ -109,7 +129,9 @@ impl TakenQuestions {
     {
         match &mut self.questions {
             Questions::Pairs(pairs) => add_pair(pairs, self.announced, self.vertices, slots),
-            Questions::Sources(_) | Questions::Multi(_) => Err(LineFault::Broken(Rule::UnknownLine)),
+            Questions::Sources(_) | Questions::Multi(_) => Err(LineFault::Broken(
+                Rule::UnknownLine,
+            )),
         }
     }
 
@@ -124,7 +146,9 @@ impl TakenQuestions {
     {
         match &mut self.questions {
             Questions::Multi(lists) => add_list(lists, self.announced, list, alloc),
-            Questions::Sources(_) | Questions::Pairs(_) => Err(LineFault::Broken(Rule::UnknownLine)),
+            Questions::Sources(_) | Questions::Pairs(_) => Err(LineFault::Broken(
+                Rule::UnknownLine,
+            )),
         }
     }
 

@@ -1,6 +1,7 @@
 //! The graph.
 
-ghost use Rattle.std.specs.Prelude.{◌≡◌, ℕ, ◌+◌, ◌-◌, ◌<◌, ◌≤◌, ◌↔◌, ◌^◌, length, slice_index, IsTrue, MatchResult, MatchOption};
+ghost use Rattle.std.specs.Prelude.{◌≡◌, ℕ, ◌+◌, ◌-◌, ◌<◌, ◌≤◌, ◌↔◌, ◌^◌, length, slice_index};
+ghost use Rattle.std.specs.Prelude.{IsTrue, MatchResult, MatchOption};
 ghost use Rattle.road_graph.specs.Roads.{JoinsVertices, IsRoads};
 ghost use Rattle.road_graph.specs.Making.{IsFirstBad};
 
@@ -77,7 +78,8 @@ fn range_of(starts: &[u32], v: Vertex) -> (usize, usize)
 
 impl Graph {
     ghost use Rattle.road_graph.specs.Making.{IsRefusal};
-    ghost use Rattle.road_graph.specs.Roads.{Roads, HasVertex, HasArc, arc_of, ListsArcsFrom, ListsArcsInto, ListsRoadsFrom};
+    ghost use Rattle.road_graph.specs.Roads.{Roads, HasVertex, HasArc, arc_of};
+    ghost use Rattle.road_graph.specs.Roads.{ListsArcsFrom, ListsArcsInto, ListsRoadsFrom};
 
     /// The graph of exactly these arcs on the vertices 1 to n.
     ///
@@ -90,7 +92,8 @@ impl Graph {
     ) -> Result<Graph, (GraphFault, Vec<RoadArc>)>
         requires few_vertices { n ≤ 2 ^ 25 }
         requires few_arcs { length arcs.items ≤ 2 ^ 27 }
-        ensures { MatchResult result (λ g. g ≡ record { vertices = n; arcs = arcs.items }) (λ e. IsRefusal n arcs.items e.0 × (e.1.items ≡ arcs.items)) }
+        ensures { MatchResult result (λ g. g ≡ record { vertices = n; arcs = arcs.items })
+            (λ e. IsRefusal n arcs.items e.0 × (e.1.items ≡ arcs.items)) }
     {
         if let Some(a) = first_bad(n, &arcs) {
             return Err((GraphFault::BadEnd(a), arcs));

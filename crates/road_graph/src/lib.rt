@@ -1,7 +1,8 @@
 //! A directed road graph in compact form: its arcs by number, by tail and by head.
 //!
-//! Vertices and arcs are numbered from 1. For each direction the numbers of the arcs stand in one list, vertex by vertex,
-//! and a list of offsets says where the row of each vertex starts; heads and weights stand in the order of the outgoing rows too.
+//! Vertices and arcs are numbered from 1. For each direction the numbers of the arcs stand in one
+//! list, vertex by vertex, and a list of offsets says where the row of each vertex starts. Heads and
+//! weights stand in the order of the outgoing rows too, for whoever goes along all of them.
 #![tactic(auto)]
 
 mod compact;

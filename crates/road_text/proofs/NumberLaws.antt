@@ -1,16 +1,13 @@
 -- What is kept of a line is enough for the small kind of text of the tests.
-use Rattle.std.proofs.Common.{◌≡◌, ℕ, ◌+◌, List, [], ◌∷◌, length, take, map, Bool, Option, Some, None, Ok, Err, Result, min, option_map, codes, refl, sym, ap, ◌∙◌, arith, lit<}
+use Rattle.std.proofs.Common.{◌≡◌, ℕ, List, [], ◌∷◌, length, take, map, Option, Some, None, min, option_map, codes, refl, sym, ap, ◌∙◌, arith, lit<}
 use Rattle.std.proofs.lemmas.Grind.{common_steps}
 use Rattle.std.proofs.lemmas.Bool.{ne_eqb}
-use Rattle.std.specs.Result.{OnOk}
-use Rattle.road_text.specs.declared.faults.LineFault.{LineFault}
-use Rattle.road_text.specs.declared.faults.ReadFault.{ReadFault}
 use Rattle.road_text.specs.declared.slots.Slot.{Slot}
 use Rattle.road_text.specs.Lines.{fields}
 use Rattle.road_text.specs.Numbers.{below_top, numbers_line, numbers_rules}
 use Rattle.road_text.specs.Slots.{word_in}
 use Rattle.road_text.specs.Takes.{ShowsLine}
-use Rattle.road_text.specs.Words.{Word, word_of, held_word}
+use Rattle.road_text.specs.Words.{Word, word_of}
 use Rattle.road_text.proofs.WordLaws.{held, held_words, short_word}
 
 below_top_held : (o : Option ℕ) → below_top (option_map (λ n. min n 18446744073709551616) o) ≡ below_top o

@@ -1,10 +1,10 @@
 -- What a record of fixed size shows of a line.
 use Rattle.std.specs.List.{slice_split}
-use Rattle.std.proofs.Common.{◌≡◌, ℕ, ◌+◌, ◌*◌, ◌-◌, ◌<◌, min, List, [], ◌∷◌, ◌++◌, length, take, map, filter, Bool, true, false, cond, not, ◌&&◌, Option, Some, None, option_map, refl, sym, ap, ◌∙◌, arith, append-nil, nat_lt, inl, inr, subst, suc, append_assoc, All, get_or, drop, add-one, drop-cons, drop_of_length-le, ◌≤◌}
+use Rattle.std.proofs.Common.{◌≡◌, ℕ, ◌+◌, ◌*◌, ◌-◌, ◌<◌, min, List, [], ◌∷◌, ◌++◌, length, take, map, filter, Bool, true, false, cond, not, ◌&&◌, Option, Some, None, option_map, refl, sym, ap, ◌∙◌, arith, append-nil, nat_lt, inl, inr, subst, suc, append_assoc, All, get_or}
 use Rattle.std.specs.Option.{option_and_then}
 use Rattle.std.proofs.lemmas.Str.{digit_value_digit}
 use Rattle.std.proofs.lemmas.Bool.{cases_lt, lt-ltb, le-ltb, ne_eqb}
-use Rattle.std.proofs.lemmas.List.{take_all, length-take-le, take-append-le, length-append}
+use Rattle.std.proofs.lemmas.List.{take_all, take_more, length-take-le, take-append-le, length-append}
 use Rattle.std.specs.Char.{is_ascii_digit, digit_value}
 use Rattle.std.specs.Str.{all_ascii_digits}
 use Rattle.std.specs.Str.Parse.{digits_value}
@@ -173,8 +173,9 @@ shows_run P s line bytes e h = record {
 }
 
 -- a number byte by byte
-pub number_step : (o : Option ℕ) (xs : List ℕ) (i : ℕ) → i < length xs → number_with (number_on o (get_or xs i 0)) (drop (i + 1) xs) ≡ number_with o (drop i xs)
-number_step o xs i lt = ap (λ k. number_with (number_on o (get_or xs i 0)) (drop k xs)) (add-one i) ∙ sym (ap (λ l. number_with o l) (drop-cons xs i 0 lt))
+number_with-push : (o : Option ℕ) (xs : List ℕ) (b : ℕ) → number_with o (xs ++ b ∷ []) ≡ number_on (number_with o xs) b
+number_with-push o [] b = refl
+number_with-push o (x ∷ xs) b = number_with-push (number_on o x) xs b
 
-pub number_end : (o : Option ℕ) (xs : List ℕ) (i : ℕ) → length xs ≤ i → number_with o (drop i xs) ≡ o
-number_end o xs i le = ap (λ l. number_with o l) (drop_of_length-le xs le)
+pub number_with-take_more : (o : Option ℕ) (xs : List ℕ) (i : ℕ) → i < length xs → number_with o (take (i + 1) xs) ≡ number_on (number_with o (take i xs)) (get_or xs i 0)
+number_with-take_more o xs i lt = ap (λ l. number_with o l) (take_more xs i 0 lt) ∙ number_with-push o (take i xs) (get_or xs i 0)

@@ -8,7 +8,7 @@ use std::alloc::{AllocError, Global};
 /// How many bytes are gathered before they are passed on.
 pub const GATHERED: usize = 65_536;
 
-/// A writer with what is not yet passed on to it.
+/// A writer with what is not yet passed on to it. What it holds when it is dropped is lost: flush it first.
 #[derive(Drop)]
 pub struct Gathered<W> {
     inner: W,
@@ -16,20 +16,20 @@ pub struct Gathered<W> {
 }
 
 impl<W> Gathered<W> {
+    /// Holds nothing yet, and has room for all that it will gather.
     pub fn new(alloc: Global, inner: W) -> Result<Self, AllocError>
     where
         W: Drop,
         ensures inner { IfOk result (λ g. g.inner ≡ inner) }
         ensures empty { IfOk result (λ g. g.buf.items ≡ []) }
+        ensures room { IfOk result (λ g. GATHERED ≤ vec_capacity g.buf) }
     {
         Ok(Gathered {
             inner,
             buf: Vec::with_capacity(alloc, GATHERED)?,
         })
     }
-}
 
-impl<W> Gathered<W> {
     /// The writer behind it.
     pub fn inner(&self) -> &W
         ensures { result.now ≡ self.now.inner }

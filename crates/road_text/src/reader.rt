@@ -4,7 +4,8 @@ ghost use Rattle.road_text.specs.declared.faults.ReadFault.{ReadFault};
 ghost use Rattle.road_text.specs.Lines.{lines, fields};
 
 use crate::faults::{Halt, LineFault, ReadFault};
-use crate::scanner::{Scanner, is_gap, plain_front};
+use crate::runs::run;
+use crate::scanner::{Scanner, is_gap};
 use crate::takes::TakesLines;
 
 /// The most bytes that a text may have: 2 ^ 32.
@@ -25,7 +26,7 @@ pub struct LineReader<T> {
 }
 
 impl<T: TakesLines> LineReader<T> {
-    ghost use Rattle.road_text.specs.Scans.{scan_of, Shows, is_plain};
+    ghost use Rattle.road_text.specs.Scans.{scan_of, Shows, is_plain, number_with};
     ghost use Rattle.road_text.specs.Standing.{Leads, LineHalts, Halts, HaltsAtEnd, EndHalts, IsNumbered};
 
     pub fn new(taker: T) -> Self
@@ -117,20 +118,19 @@ impl<T: TakesLines> LineReader<T> {
         Ok(())
     }
 
-    // Takes some bytes that all go on with the present field.
-    fn present_run(&mut self, bytes: &[u8])
+    // Takes some bytes that all go on with the present field, with which it is this number.
+    fn present_run(&mut self, bytes: &[u8], number: Option<u128>)
         requires some { 0 < length bytes.now }
         requires plain { All (λ b. is_plain b ≡ true) bytes.now }
+        requires number { number ≡ number_with self.old.scanner.present.number bytes.now }
+        requires whole { self.old.held ≡ false }
         requires room { self.old.count + length bytes.now ≤ 4294967296 }
         ensures same { (cut : Bool) (rest : List ℕ) (r : Result T.Value ReadFault) → Leads cut T.way self.new rest r → Leads cut T.way self.old (bytes.now ++ rest) r }
         ensures count { self.new.count ≡ self.old.count + length bytes.now }
     {
-        let held = self.held;
-        self.scanner.add_held(held);
         self.count += bytes.len() as u64;
         self.begun = true;
-        self.held = false;
-        self.scanner.present.add_all(bytes);
+        self.scanner.present.add_run(bytes, number);
     }
 
     /// Takes the next byte.
@@ -160,9 +160,9 @@ impl<T: TakesLines> LineReader<T> {
         let mut at = 0;
         while at < bytes.len() {
             let rest = &bytes[at..];
-            let front = plain_front(rest);
-            if front > 0 && front as u64 <= MAX_BYTES - self.count {
-                self.present_run(&rest[..front]);
+            let (front, number) = run(rest, self.scanner.present.number);
+            if front > 0 && !self.held && front as u64 <= MAX_BYTES - self.count {
+                self.present_run(&rest[..front], number);
                 at += front;
             } else {
                 self.byte(rest[0])?;

@@ -1,7 +1,7 @@
 //! What is kept of the present line.
-ghost use Rattle.std.specs.Prelude.{◌≡◌, ℕ, ◌≤◌, List, [], ◌∷◌, length, take, true, All, if◌then◌else◌};
+ghost use Rattle.std.specs.Prelude.{◌≡◌, ℕ, List, [], ◌∷◌, length, if◌then◌else◌};
 ghost use Rattle.road_text.specs.Lines.{is_gap};
-ghost use Rattle.road_text.specs.Scans.{is_plain, scan_of, scan_on, past};
+ghost use Rattle.road_text.specs.Scans.{scan_of, scan_on, past};
 ghost use Rattle.road_text.specs.Words.{no_word};
 
 use crate::slots::Slot;
@@ -15,27 +15,6 @@ pub fn is_gap(byte: u8) -> bool
     ensures { result ≡ is_gap byte }
 {
     byte == b' ' || byte == b'\t'
-}
-
-/// Whether a byte goes on with a field, whatever comes before and after it.
-#[inline(always)]
-pub fn is_plain(byte: u8) -> bool
-    ensures { result ≡ is_plain byte }
-{
-    byte != b' ' && byte != b'\t' && byte != b'\n' && byte != b'\r'
-}
-
-/// How many bytes at the front go on with a field.
-#[inline(always)]
-pub fn plain_front(bytes: &[u8]) -> usize
-    ensures bound { result ≤ length bytes.now }
-    ensures plain { All (λ b. is_plain b ≡ true) (take result bytes.now) }
-{
-    let mut front = 0;
-    while front < bytes.len() && is_plain(bytes[front]) {
-        front += 1;
-    }
-    front
 }
 
 /// The first six fields of the present line, and the field that may go on.

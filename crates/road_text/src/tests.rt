@@ -12,6 +12,7 @@ use crate::{
 use arrayvec::ArrayVec;
 use ghost_count::Count;
 use std::alloc::Global;
+use std::io::{self, Write};
 use std::test::Fail;
 
 /// Takes lines `n NUMBER`.
@@ -343,5 +344,30 @@ fn ends_of_std(rt: HostRuntime) -> Result<(), Fail> {
     assert_eq!(rt; write_list(&mut written, b"m", &[4, 5]), Ok(()));
     assert_eq!(rt; written.flush(), Ok(()));
     assert_eq!(rt; written.into_inner().as_slice(), b"m 4 5\n".as_slice());
+    Ok(())
+}
+
+/// Takes all, and fails to pass it on.
+#[derive(Drop)]
+struct Stuck;
+
+impl Write for Stuck {
+    fn write(&mut self, buf: &[u8]) -> io::Result<usize> {
+        Ok(buf.len())
+    }
+
+    fn flush(&mut self) -> io::Result<()> {
+        Err(io::Error::from(io::ErrorKind::BrokenPipe))
+    }
+}
+
+#[test]
+fn a_flush_that_fails(rt: HostRuntime) -> Result<(), Fail> {
+    let mut plain = Plain::new(Stuck);
+    assert_eq!(rt; write_bytes(&mut plain, b"n 1"), Ok(()));
+    assert_eq!(rt; plain.flush(), Err(WriteFault));
+    let mut gathered = Gathered::new(rt.alloc(), plain)?;
+    assert_eq!(rt; write_bytes(&mut gathered, b"n 1"), Ok(()));
+    assert_eq!(rt; gathered.flush(), Err(WriteFault));
     Ok(())
 }

@@ -5,9 +5,9 @@ use Rattle.std.proofs.lemmas.List.Elements.{All-head, All-tail}
 use Rattle.std.specs.Prelude.{Contains, All, ◌↔◌}
 use Rattle.road_graph.specs.Roads.{Roads, IsRoads, HasVertex, arc_of}
 use Rattle.path_algebra.specs.Algebra.{Algebra}
-use Rattle.path_algebra.specs.Walks.{IsWalk, IsWalkValue, IsTight, IsBestLabel, AreBest, AreHops, IsParent, IsUnreached, label_of}
+use Rattle.path_algebra.specs.Walks.{IsWalk, IsWalkValue, IsTight, IsBestLabel, AreBest, AreHops, IsParent, IsUnreached, label_of, IsParentChain}
 use Rattle.route_tree.specs.Tree.{Branches, hops_of, parent_of, AreHopsAt, IsParentAt, IsTree, IsChain, IsRoute}
-use Rattle.route_tree.specs.Told.{IsToldOf, IsParentChain, IsParentRoute}
+use Rattle.route_tree.specs.Told.{IsToldOf, IsParentRoute}
 use Rattle.route_tree.proofs.Elements.{not_in_empty, head_or_tail}
 
 module _ {V : Type 0} (A : Algebra V) (g : Roads) (sources : List ℕ) where

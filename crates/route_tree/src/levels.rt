@@ -1,11 +1,9 @@
 //! A tree grows level by level: from the vertices at k hops, along tight arcs, to those at k + 1.
 
-ghost use Rattle.std.specs.Prelude.{◌≡◌, ℕ, ◌+◌, ◌-◌, ◌≤◌, ◌^◌, length, All, cond, [], OnOk, IfOk};
+ghost use Rattle.std.specs.Prelude.{◌≡◌, ◌+◌, ◌≤◌, ◌^◌, [], All, IfOk, None, OnOk, cond, length, replicate};
 ghost use Rattle.road_graph.specs.Roads.{HasVertex};
 ghost use Rattle.path_algebra.specs.Walks.{label_of, is_tight, is_tight_between};
-ghost use Rattle.route_tree.specs.Levels.{GoesThrough, GoesThroughLevel, hops_if, parents_if, next_if, unreached};
-ghost use Rattle.std.specs.Prelude.{replicate, None};
-ghost use Rattle.route_tree.specs.Levels.{AreLeast, AreLeastTails, IsMarked};
+ghost use Rattle.route_tree.specs.Levels.{AreLeast, AreLeastTails, GoesThrough, GoesThroughLevel, IsMarked, hops_if, next_if, parents_if, unreached};
 
 use crate::growing::Growing;
 use crate::tightness::is_tight;
@@ -37,9 +35,9 @@ fn try_road<A: PathAlgebra>(
     requires parents_count { length tree.old.parents.items ≡ length tree.old.hops.items }
     ensures count { OnOk result (length tree.new.hops.items ≡ length tree.old.hops.items) }
     ensures parents_count { OnOk result (length tree.new.parents.items ≡ length tree.old.parents.items) }
-    ensures hops { OnOk result (tree.new.hops.items ≡ cond (is_tight_between (A.meaning algebra) from.label weight (label_of labels.now head)) (hops_if from.far tree.old.hops.items head (label_of tree.old.hops.items head)) tree.old.hops.items) }
-    ensures parents { OnOk result (tree.new.parents.items ≡ cond (is_tight_between (A.meaning algebra) from.label weight (label_of labels.now head)) (parents_if from.far tree.old.parents.items head from.vertex (label_of tree.old.hops.items head)) tree.old.parents.items) }
-    ensures next { OnOk result (tree.new.next.items ≡ cond (is_tight_between (A.meaning algebra) from.label weight (label_of labels.now head)) (next_if tree.old.next.items head (label_of tree.old.hops.items head)) tree.old.next.items) }
+    ensures hops { let passes = is_tight_between (A.meaning algebra) from.label weight (label_of labels.now head) in OnOk result (tree.new.hops.items ≡ cond passes (hops_if from.far tree.old.hops.items head (label_of tree.old.hops.items head)) tree.old.hops.items) }
+    ensures parents { let passes = is_tight_between (A.meaning algebra) from.label weight (label_of labels.now head) in OnOk result (tree.new.parents.items ≡ cond passes (parents_if from.far tree.old.parents.items head from.vertex (label_of tree.old.hops.items head)) tree.old.parents.items) }
+    ensures next { let passes = is_tight_between (A.meaning algebra) from.label weight (label_of labels.now head) in OnOk result (tree.new.next.items ≡ cond passes (next_if tree.old.next.items head (label_of tree.old.hops.items head)) tree.old.next.items) }
     ensures size { OnOk result (unreached tree.new.hops.items + length tree.new.next.items ≡ unreached tree.old.hops.items + length tree.old.next.items) }
 {
     if tree.is_near(head, from.far) && is_tight(algebra, from.label, weight, labels.of(head)) {

@@ -1,6 +1,6 @@
 //! The tree of best labels.
 
-ghost use Rattle.std.specs.Prelude.{◌≡◌, length, All, IfOk};
+ghost use Rattle.std.specs.Prelude.{All, IfOk};
 ghost use Rattle.road_graph.specs.Roads.{HasVertex};
 ghost use Rattle.path_algebra.specs.Walks.{AreBest};
 ghost use Rattle.route_tree.specs.Tree.{IsTree};
@@ -11,9 +11,9 @@ use path_algebra::{Labels, PathAlgebra, laws_hold};
 use road_graph::{Graph, Memory, Vertex};
 use std::alloc::Global;
 
-/// The hops and parents of labels that are best from the sources, as a solver gives them. The only error is want of memory.
+/// The hops and parents of labels that are best from the sources, as a solver gives them. Sources may repeat. The only error is want of memory.
 ///
-/// It takes time for the arcs that leave reached vertices, and memory for two numbers a vertex.
+/// Each arc that leaves a reached vertex is looked at once; the tree keeps two numbers a vertex.
 pub fn tree<A: PathAlgebra>(
     alloc: Global,
     algebra: A,

@@ -1,12 +1,12 @@
 -- The counters of busy arcs follow each change of one arc's token.
-use Rattle.std.proofs.Common.{◌≡◌, ◌≢◌, ℕ, zero, suc, ◌+◌, ◌-◌, ◌<◌, ◌≤◌, Bool, true, false, not, ◌&&◌, eqb, eq-eqb, ne_eqb, List, length, get_or, set, ◌⊎◌, refl, sym, ap, ◌∙◌, subst, inl, inr, arith, get_or-set_same, get_or-set_other}
-use Rattle.std.proofs.lemmas.Bool.{cases_eq, cases_Bool}
+use Rattle.std.proofs.Common.{◌≡◌, ◌≢◌, ℕ, zero, suc, ◌+◌, ◌<◌, ◌≤◌, Bool, true, false, not, ◌&&◌, eqb, eq-eqb, ne_eqb, List, length, get_or, set, refl, sym, ap, ◌∙◌, inl, inr, arith, get_or-set_same, get_or-set_other}
+use Rattle.std.proofs.lemmas.Bool.{cases_eq}
 use Rattle.scholten_core.specs.declared.token.Token.{Token}
 use Rattle.scholten_core.specs.declared.token.Token.TheVariants.{Idle}
 use Rattle.scholten_core.specs.Network.{Network}
 use Rattle.scholten_core.specs.Diffusion.{CoreState, is_idle}
 use Rattle.scholten_core.specs.Sums.{sum_below, one_if}
-use Rattle.scholten_core.specs.Deficit.{deficit, busy_out}
+use Rattle.scholten_core.specs.Deficit.{deficit}
 use Rattle.scholten_core.specs.CoreView.{IsCounted}
 
 pub sum_below-same : (f g : ℕ → ℕ) (n : ℕ) → ((b : ℕ) → b < n → f b ≡ g b) → sum_below f n ≡ sum_below g n
@@ -17,14 +17,16 @@ sum_below-same f g (suc n) h = let s = sum_below-same f g n (λ b l. h b (omega 
 pub sum_below-change : (f g : ℕ → ℕ) (a n : ℕ) → a < n → ((b : ℕ) → b ≢ a → f b ≡ g b) → sum_below g n + f a ≡ sum_below f n + g a
 sum_below-change f g a zero l h = absurd (omega (arith, l))
 sum_below-change f g a (suc n) l h = elim (cases_eq n a) [
-    inl e ↦ (let s = sum_below-same f g n (λ b m. h b (λ q. omega (arith, q, m, e))) in let x = ap f e in let y = ap g e in omega (arith, s, x, y))
-  | inr ne ↦ (let s = sum_below-change f g a n (omega (arith, l, ne)) h in let x = h n ne in omega (arith, s, x)) ]
+  | inl e ↦ (let s = sum_below-same f g n (λ b m. h b (λ q. omega (arith, q, m, e))) in let x = ap f e in let y = ap g e in omega (arith, s, x, y))
+  | inr ne ↦ (let s = sum_below-change f g a n (omega (arith, l, ne)) h in let x = h n ne in omega (arith, s, x))
+]
 
 pub sum_below-least : (f : ℕ → ℕ) (a n : ℕ) → a < n → f a ≤ sum_below f n
 sum_below-least f a zero l = absurd (omega (arith, l))
 sum_below-least f a (suc n) l = elim (cases_eq n a) [
-    inl e ↦ (let x = ap f e in omega (arith, x))
-  | inr ne ↦ (let s = sum_below-least f a n (omega (arith, l, ne)) in omega (arith, s)) ]
+  | inl e ↦ (let x = ap f e in omega (arith, x))
+  | inr ne ↦ (let s = sum_below-least f a n (omega (arith, l, ne)) in omega (arith, s))
+]
 
 pub sum_below-most : (f : ℕ → ℕ) (n : ℕ) → ((b : ℕ) → f b ≤ 1) → sum_below f n ≤ n
 sum_below-most f zero h = omega arith
@@ -62,7 +64,7 @@ module _ {V : Type 0} (N : Network) where
   busy_at-else v t b n = λ k. one_if (ne_eqb (N.tail b) v n k && not (is_idle t))
 
   deficit_change : (v a : ℕ) (c d : CoreState V) → a < suc N.arcs → ((b : ℕ) → b ≢ a → d.token b ≡ c.token b) →
-    deficit N v d + busy_at v (c.token a) a ≡ deficit N v c + busy_at v (d.token a) a
+      deficit N v d + busy_at v (c.token a) a ≡ deficit N v c + busy_at v (d.token a) a
   deficit_change v a c d l h = sum_below-change (λ b. busy_at v (c.token b) b) (λ b. busy_at v (d.token b) b) a (suc N.arcs) l (λ b n. ap (λ t. busy_at v t b) (sym (h b n)))
 
   pub deficit_most : (v : ℕ) (c : CoreState V) → deficit N v c ≤ suc N.arcs
@@ -71,34 +73,36 @@ module _ {V : Type 0} (N : Network) where
   -- the tail of a busy arc has one
   pub deficit_least : (a : ℕ) (c : CoreState V) → a < suc N.arcs → is_idle (c.token a) ≡ false → 1 ≤ deficit N (N.tail a) c
   deficit_least a c l i =
-    let s : busy_at (N.tail a) (c.token a) a ≤ deficit N (N.tail a) c = sum_below-least (λ b. busy_at (N.tail a) (c.token b) b) a (suc N.arcs) l in
-    let one = busy_at-busy (N.tail a) (c.token a) a i refl in omega (arith, s, one)
+      let s : busy_at (N.tail a) (c.token a) a ≤ deficit N (N.tail a) c = sum_below-least (λ b. busy_at (N.tail a) (c.token b) b) a (suc N.arcs) l in
+      let one = busy_at-busy (N.tail a) (c.token a) a i refl in omega (arith, s, one)
 
   pub counted_same : (n : ℕ) (busy : List ℕ) (a : ℕ) (c d : CoreState V) → a < suc N.arcs → ((b : ℕ) → b ≢ a → d.token b ≡ c.token b) → is_idle (d.token a) ≡ is_idle (c.token a) →
-    IsCounted N n busy c → IsCounted N n busy d
+      IsCounted N n busy c → IsCounted N n busy d
   counted_same n busy a c d l h i K v m =
-    let k = K v m in let s = deficit_change v a c d l h in let x : busy_at v (d.token a) a ≡ busy_at v (c.token a) a = ap (λ t. one_if (eqb (N.tail a) v && not t)) i in omega (arith, k, s, x)
+      let k = K v m in let s = deficit_change v a c d l h in let x : busy_at v (d.token a) a ≡ busy_at v (c.token a) a = ap (λ t. one_if (eqb (N.tail a) v && not t)) i in omega (arith, k, s, x)
 
   pub counted_more : (n : ℕ) (busy : List ℕ) (a x : ℕ) (c d : CoreState V) → a < suc N.arcs → ((b : ℕ) → b ≢ a → d.token b ≡ c.token b) →
-    is_idle (c.token a) ≡ true → is_idle (d.token a) ≡ false → N.tail a < length busy → x ≡ get_or busy (N.tail a) 0 + 1 →
-    IsCounted N n busy c → IsCounted N n (set busy (N.tail a) x) d
+      is_idle (c.token a) ≡ true → is_idle (d.token a) ≡ false → N.tail a < length busy → x ≡ get_or busy (N.tail a) 0 + 1 →
+      IsCounted N n busy c → IsCounted N n (set busy (N.tail a) x) d
   counted_more n busy a x c d l h i j w e K v m =
-    let k = K v m in let s = deficit_change v a c d l h in let was = busy_at-idle v (c.token a) a i in
-    elim (cases_eq v (N.tail a)) [
-      inl q ↦ (let now = busy_at-busy v (d.token a) a j (sym q) in
-        let r : get_or (set busy (N.tail a) x) v 0 ≡ x = ap (λ u. get_or (set busy (N.tail a) x) u 0) q ∙ get_or-set_same busy (N.tail a) x 0 w in
-        let o : get_or busy v 0 ≡ get_or busy (N.tail a) 0 = ap (λ u. get_or busy u 0) q in omega (arith, k, s, was, now, r, o, e))
-    | inr ne ↦ (let now = busy_at-else v (d.token a) a (λ q. ne (sym q)) in
-        let r = get_or-set_other busy (N.tail a) v x 0 ne in omega (arith, k, s, was, now, r)) ]
+      let k = K v m in let s = deficit_change v a c d l h in let was = busy_at-idle v (c.token a) a i in
+      elim (cases_eq v (N.tail a)) [
+        | inl q ↦ (let now = busy_at-busy v (d.token a) a j (sym q) in
+            let r : get_or (set busy (N.tail a) x) v 0 ≡ x = ap (λ u. get_or (set busy (N.tail a) x) u 0) q ∙ get_or-set_same busy (N.tail a) x 0 w in
+            let o : get_or busy v 0 ≡ get_or busy (N.tail a) 0 = ap (λ u. get_or busy u 0) q in omega (arith, k, s, was, now, r, o, e))
+        | inr ne ↦ (let now = busy_at-else v (d.token a) a (λ q. ne (sym q)) in
+            let r = get_or-set_other busy (N.tail a) v x 0 ne in omega (arith, k, s, was, now, r))
+      ]
 
   pub counted_less : (n : ℕ) (busy : List ℕ) (a x : ℕ) (c d : CoreState V) → a < suc N.arcs → ((b : ℕ) → b ≢ a → d.token b ≡ c.token b) →
-    is_idle (c.token a) ≡ false → is_idle (d.token a) ≡ true → N.tail a < length busy → x + 1 ≡ get_or busy (N.tail a) 0 →
-    IsCounted N n busy c → IsCounted N n (set busy (N.tail a) x) d
+      is_idle (c.token a) ≡ false → is_idle (d.token a) ≡ true → N.tail a < length busy → x + 1 ≡ get_or busy (N.tail a) 0 →
+      IsCounted N n busy c → IsCounted N n (set busy (N.tail a) x) d
   counted_less n busy a x c d l h i j w e K v m =
-    let k = K v m in let s = deficit_change v a c d l h in let now = busy_at-idle v (d.token a) a j in
-    elim (cases_eq v (N.tail a)) [
-      inl q ↦ (let was = busy_at-busy v (c.token a) a i (sym q) in
-        let r : get_or (set busy (N.tail a) x) v 0 ≡ x = ap (λ u. get_or (set busy (N.tail a) x) u 0) q ∙ get_or-set_same busy (N.tail a) x 0 w in
-        let o : get_or busy v 0 ≡ get_or busy (N.tail a) 0 = ap (λ u. get_or busy u 0) q in omega (arith, k, s, was, now, r, o, e))
-    | inr ne ↦ (let was = busy_at-else v (c.token a) a (λ q. ne (sym q)) in
-        let r = get_or-set_other busy (N.tail a) v x 0 ne in omega (arith, k, s, was, now, r)) ]
+      let k = K v m in let s = deficit_change v a c d l h in let now = busy_at-idle v (d.token a) a j in
+      elim (cases_eq v (N.tail a)) [
+        | inl q ↦ (let was = busy_at-busy v (c.token a) a i (sym q) in
+            let r : get_or (set busy (N.tail a) x) v 0 ≡ x = ap (λ u. get_or (set busy (N.tail a) x) u 0) q ∙ get_or-set_same busy (N.tail a) x 0 w in
+            let o : get_or busy v 0 ≡ get_or busy (N.tail a) 0 = ap (λ u. get_or busy u 0) q in omega (arith, k, s, was, now, r, o, e))
+        | inr ne ↦ (let was = busy_at-else v (c.token a) a (λ q. ne (sym q)) in
+            let r = get_or-set_other busy (N.tail a) v x 0 ne in omega (arith, k, s, was, now, r))
+      ]

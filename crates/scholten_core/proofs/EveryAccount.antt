@@ -1,6 +1,6 @@
 -- The accounts of every run, in the words of the graph.
-use Rattle.std.proofs.Common.{◌≡◌, ◌≢◌, ℕ, zero, suc, ◌+◌, ◌-◌, ◌<◌, ◌≤◌, Bool, true, false, is_some, inl, inr, Option, Some, None, List, [], ◌∷◌, length, refl, sym, ap, ◌∙◌, subst, arith}
-use Rattle.std.proofs.lemmas.Bool.{cases_Bool, false≢true}
+use Rattle.std.proofs.Common.{◌≡◌, ℕ, zero, suc, ◌+◌, ◌≤◌, Bool, is_some, inl, inr, Option, Some, None, List, [], ◌∷◌, length, refl, sym, ap, ◌∙◌, arith}
+use Rattle.std.proofs.lemmas.Bool.{cases_Bool}
 use Rattle.road_graph.specs.Roads.{Roads, IsRoads, HasVertex, HasArc, arc_of}
 use Rattle.path_algebra.specs.Algebra.{Algebra, IsLawful}
 use Rattle.path_algebra.specs.Walks.{IsWalkValue, IsBestLabel}
@@ -10,7 +10,7 @@ use Rattle.scholten_core.specs.declared.event.Event.{Event}
 use Rattle.scholten_core.specs.Network.{network}
 use Rattle.scholten_core.specs.Sums.{sum_below, one_if}
 use Rattle.scholten_core.specs.Diffusion.{CoreState, opening, state_after, HasEnded}
-use Rattle.scholten_core.specs.Accounts.{sent_on, label_changes, totals_of, sent_total, AreEqualTotals, AreMarksOfReached, count_marked}
+use Rattle.scholten_core.specs.Accounts.{sent_on, label_changes, totals_of, AreEqualTotals, AreMarksOfReached, count_marked}
 use Rattle.scholten_core.proofs.Kept.{Kept}
 use Rattle.scholten_core.proofs.Networks.{well_formed, tail-arc, tail-entry}
 use Rattle.scholten_core.proofs.Counted.{sum_below-same}
@@ -20,7 +20,7 @@ use Rattle.scholten_core.proofs.EveryRun.{run_kept_at, labels_are_walk_values, e
 
 module _ {V : Type 0} (A : Algebra V) (g : Roads) (s : ℕ) where
   pub sends_follow_changes : IsLawful A → IsRoads g → 1 ≤ s → (es : List Event) (b : ℕ) →
-    sent_on A (network g s) b (opening A (network g s)) es ≤ label_changes A (network g s) ((network g s).tail b) (opening A (network g s)) es
+      sent_on A (network g s) b (opening A (network g s)) es ≤ label_changes A (network g s) ((network g s).tail b) (opening A (network g s)) es
   sends_follow_changes L R l es b = sends_at_most A (network g s) L (well_formed g s R l) es b
 
   pub totals_are_equal : IsLawful A → IsRoads g → 1 ≤ s → (es : List Event) → HasEnded (state_after A (network g s) es) → AreEqualTotals (totals_of A (network g s) es)
@@ -36,8 +36,8 @@ module _ (g : Roads) (s : ℕ) where
 
   -- a label stands at the tail of each marked arc, and at no other
   marked_label : (c : CoreState (Unit {0})) (marked : ℕ → Bool) → AreMarksOfReached reach g s marked →
-    ((v : ℕ) (x : Unit {0}) → c.label v ≡ Some x → IsWalkValue reach g (s ∷ []) v x) → ((v : ℕ) → HasVertex g v → IsBestLabel reach g (s ∷ []) v (c.label v)) → IsRoads g →
-    (a : ℕ) → HasArc g a → is_some (c.label ((arc_of g a).tail)) ≡ marked a
+      ((v : ℕ) (x : Unit {0}) → c.label v ≡ Some x → IsWalkValue reach g (s ∷ []) v x) → ((v : ℕ) → HasVertex g v → IsBestLabel reach g (s ∷ []) v (c.label v)) → IsRoads g →
+      (a : ℕ) → HasArc g a → is_some (c.label ((arc_of g a).tail)) ≡ marked a
   marked_label c marked M W B R a h = go (c.label (arc_of g a).tail) refl (B (arc_of g a).tail (R.ends a h).0)
     where
       go : (o : Option (Unit {0})) → c.label (arc_of g a).tail ≡ o → IsBestLabel reach g (s ∷ []) (arc_of g a).tail o → is_some o ≡ marked a
@@ -45,21 +45,21 @@ module _ (g : Roads) (s : ℕ) where
       go None q b = elim (cases_Bool (marked a)) [ inl t ↦ absurd (let r = (M a h).0 t in b r.0 r.1) | inr f ↦ sym f ]
 
   pub reach_sends_once : IsRoads g → HasVertex g s → (es : List Event) → HasEnded (state_after reach (network g s) es) → (marked : ℕ → Bool) → AreMarksOfReached reach g s marked →
-    (totals_of reach (network g s) es).sent ≡ 1 + count_marked g marked
+      (totals_of reach (network g s) es).sent ≡ 1 + count_marked g marked
   reach_sends_once R S es q marked M =
-    let W = well_formed g s R S.0 in
-    let c = state_after reach (network g s) es in
-    let K = run_kept_at reach g s reach_laws R S.0 es in
-    let none = no_entry_label K ((state_after reach (network g s) es).label 0) refl in
-    let first : one_if (is_some ((state_after reach (network g s) es).label ((network g s).tail 0))) ≡ 0 =
+      let W = well_formed g s R S.0 in
+      let c = state_after reach (network g s) es in
+      let K = run_kept_at reach g s reach_laws R S.0 es in
+      let none = no_entry_label K ((state_after reach (network g s) es).label 0) refl in
+      let first : one_if (is_some ((state_after reach (network g s) es).label ((network g s).tail 0))) ≡ 0 =
       ap (λ v. one_if (is_some ((state_after reach (network g s) es).label v))) (tail-entry g) ∙ ap (λ o. one_if (is_some o)) none in
-    let each = sum_below-same (λ b. one_if (is_some ((state_after reach (network g s) es).label ((network g s).tail (suc b))))) (λ b. one_if (marked (suc b))) (length g.arcs)
+      let each = sum_below-same (λ b. one_if (is_some ((state_after reach (network g s) es).label ((network g s).tail (suc b))))) (λ b. one_if (marked (suc b))) (length g.arcs)
       (λ b l. let h : HasArc g (suc b) = (omega arith, omega (arith, l)) in
-        ap (λ v. one_if (is_some ((state_after reach (network g s) es).label v))) (tail-arc g (suc b) (omega arith))
-        ∙ ap one_if (marked_label (state_after reach (network g s) es) marked M (labels_are_walk_values reach g s reach_laws R S.0 es) (ended_is_best reach g s reach_laws R S.0 es q) R (suc b) h)) in
-    let all = reach_sends reach (network g s) reach_laws W one_value es q in
-    let split = sum_below-first (λ b. one_if (is_some ((state_after reach (network g s) es).label ((network g s).tail b)))) (length g.arcs) in
-    omega (arith, first, each, all, split)
+      ap (λ v. one_if (is_some ((state_after reach (network g s) es).label v))) (tail-arc g (suc b) (omega arith))
+      ∙ ap one_if (marked_label (state_after reach (network g s) es) marked M (labels_are_walk_values reach g s reach_laws R S.0 es) (ended_is_best reach g s reach_laws R S.0 es q) R (suc b) h)) in
+      let all = reach_sends reach (network g s) reach_laws W one_value es q in
+      let split = sum_below-first (λ b. one_if (is_some ((state_after reach (network g s) es).label ((network g s).tail b)))) (length g.arcs) in
+      omega (arith, first, each, all, split)
     where
       no_entry_label : Kept reach (network g s) 0 (state_after reach (network g s) es) → (o : Option (Unit {0})) → (state_after reach (network g s) es).label 0 ≡ o → (state_after reach (network g s) es).label 0 ≡ None
       no_entry_label K None h = h

@@ -1,23 +1,23 @@
 -- The tables of a fresh core.
-use Rattle.std.proofs.Common.{◌≡◌, ◌≢◌, ℕ, zero, suc, ◌+◌, ◌-◌, ◌<◌, ◌≤◌, Bool, true, false, not, ◌&&◌, eqb, cond, Option, Some, None, List, [], ◌∷◌, ◌++◌, length, get_or, set, replicate, ◌⊎◌, refl, sym, ap, ◌∙◌, subst, inl, inr, arith, length-set, get_or-set_same, get_or-set_other}
-use Rattle.std.proofs.lemmas.Bool.{cases_eq, cases_lt}
+use Rattle.std.proofs.Common.{◌≡◌, ℕ, ◌+◌, false, Option, None, List, [], length, get_or, set, replicate, sym, ap, ◌∙◌, subst, inl, inr, arith, length-set, get_or-set_same, get_or-set_other}
+use Rattle.std.proofs.lemmas.Bool.{cases_lt}
 use Rattle.std.proofs.lemmas.List.{get_or_past, get_or-replicate, length-replicate}
 use Rattle.road_graph.specs.Roads.{Roads, IsRoads, HasVertex}
 use Rattle.path_algebra.specs.Algebra.{Algebra}
 use Rattle.scholten_core.specs.declared.token.Token.{Token}
-use Rattle.scholten_core.specs.declared.token.Token.TheVariants.{Idle, Message, Held, Signal}
+use Rattle.scholten_core.specs.declared.token.Token.TheVariants.{Idle, Message}
 use Rattle.scholten_core.specs.Network.{Network, network}
 use Rattle.scholten_core.specs.Diffusion.{CoreState, opening, put, is_idle}
-use Rattle.scholten_core.specs.Deficit.{deficit}
-use Rattle.scholten_core.specs.CoreView.{CoreView, Problem, state_of, network_of, network_in, IsCounted, IsQuestion, IsSized, IsRun}
+use Rattle.scholten_core.specs.CoreView.{CoreView, state_of, network_of, network_in, IsCounted, IsQuestion, IsSized, IsRun}
 use Rattle.scholten_core.proofs.Networks.{tail-entry}
 use Rattle.scholten_core.proofs.Written.{put_set}
 use Rattle.scholten_core.proofs.Counted.{counted_more, idle_counted}
 
 replicate_reads : {X : Type 0} (n : ℕ) (x : X) → ◌≡◌ {A = ℕ → X} (λ j. get_or (replicate n x) j x) (λ j. x)
 replicate_reads n x = λ i j. (elim (cases_lt j n) as (λ _. get_or (replicate n x) j x ≡ x) [
-      inl l ↦ get_or-replicate n j x x l
-    | inr l ↦ get_or_past (replicate n x) j x (let e = length-replicate n x in omega (arith, e)) ]) i
+  | inl l ↦ get_or-replicate n j x x l
+  | inr l ↦ get_or_past (replicate n x) j x (let e = length-replicate n x in omega (arith, e))
+]) i
 
 abbrev state_at : {V : Type 0} → List (Option V) → List (Option ℕ) → List (Token V) → List (Option V) → CoreState V
 state_at labels engagers tokens told = record {
@@ -28,49 +28,51 @@ state_at labels engagers tokens told = record {
 }
 
 pub opened_state : {V : Type 0} (A : Algebra V) (N : Network) (labels : List (Option V)) (engagers : List (Option ℕ)) (first tokens : List (Token V)) (told : List (Option V)) (n m : ℕ) →
-  labels ≡ replicate n None → engagers ≡ replicate n None → first ≡ replicate (m + 1) Idle → tokens ≡ set first 0 (Message A.origin) → told ≡ replicate (m + 1) None →
-  state_at labels engagers tokens told ≡ opening A N
+    labels ≡ replicate n None → engagers ≡ replicate n None → first ≡ replicate (m + 1) Idle → tokens ≡ set first 0 (Message A.origin) → told ≡ replicate (m + 1) None →
+    state_at labels engagers tokens told ≡ opening A N
 opened_state {V = V} A N labels engagers first tokens told n m l e k s d =
-  (λ i. record {
-    label = λ v. get_or (l i) v None;
-    engager = λ v. get_or (e i) v None;
-    token = λ b. get_or ((s ∙ ap (λ xs. set xs 0 (Message A.origin)) k) i) b Idle;
-    told = λ b. get_or (d i) b None })
-  ∙ (λ i. record {
-    label = replicate_reads n None i;
-    engager = replicate_reads n None i;
-    token = (put_set (replicate (m + 1) Idle) 0 (Message A.origin) Idle (let q = length-replicate {A = Token V} (m + 1) Idle in omega (arith, q)) ∙ ap (λ f. put f 0 (Message A.origin)) (replicate_reads (m + 1) Idle)) i;
-    told = replicate_reads (m + 1) None i })
+    (λ i. record {
+      label = λ v. get_or (l i) v None;
+      engager = λ v. get_or (e i) v None;
+      token = λ b. get_or ((s ∙ ap (λ xs. set xs 0 (Message A.origin)) k) i) b Idle;
+      told = λ b. get_or (d i) b None;
+    })
+    ∙ (λ i. record {
+      label = replicate_reads n None i;
+      engager = replicate_reads n None i;
+      token = (put_set (replicate (m + 1) Idle) 0 (Message A.origin) Idle (let q = length-replicate {A = Token V} (m + 1) Idle in omega (arith, q)) ∙ ap (λ f. put f 0 (Message A.origin)) (replicate_reads (m + 1) Idle)) i;
+      told = replicate_reads (m + 1) None i;
+    })
 
 pub opened_sized : {S V : Type 0} (t : CoreView S V) (first : List (Token V)) (m : Token V) (zeros : List ℕ) → IsQuestion t.problem →
-  t.labels ≡ replicate (t.problem.roads.vertices + 1) None → t.engagers ≡ replicate (t.problem.roads.vertices + 1) None →
-  first ≡ replicate (length t.problem.roads.arcs + 1) Idle → t.tokens ≡ set first 0 m → is_idle m ≡ false → t.told ≡ replicate (length t.problem.roads.arcs + 1) None →
-  zeros ≡ replicate (t.problem.roads.vertices + 1) 0 → t.busy ≡ set zeros 0 1 → IsSized t
+    t.labels ≡ replicate (t.problem.roads.vertices + 1) None → t.engagers ≡ replicate (t.problem.roads.vertices + 1) None →
+    first ≡ replicate (length t.problem.roads.arcs + 1) Idle → t.tokens ≡ set first 0 m → is_idle m ≡ false → t.told ≡ replicate (length t.problem.roads.arcs + 1) None →
+    zeros ≡ replicate (t.problem.roads.vertices + 1) 0 → t.busy ≡ set zeros 0 1 → IsSized t
 opened_sized {V = V} t first m zeros Q l e k s b d z y =
-  let long = ap length k ∙ length-replicate {A = Token V} (length t.problem.roads.arcs + 1) Idle in
-  let wide = ap length z ∙ length-replicate (t.problem.roads.vertices + 1) 0 in
-  let none : CoreState V = state_at t.labels t.engagers first t.told in
-  let entry = tail-entry t.problem.roads in
-  let idle = λ (j : ℕ). ap (λ xs. get_or xs j Idle) k ∙ ap (λ f. f j) (replicate_reads (length t.problem.roads.arcs + 1) Idle) in
-  record {
-    question = Q;
-    labels = ap length l ∙ length-replicate _ _;
-    engagers = ap length e ∙ length-replicate _ _;
-    tokens = ap length s ∙ length-set first 0 m ∙ long;
-    told = ap length d ∙ length-replicate _ _;
-    busy = ap length y ∙ length-set zeros 0 1 ∙ wide;
-    counted = subst (λ xs. IsCounted (network_of t) t.problem.roads.vertices xs (state_of t)) (ap (λ u. set zeros u 1) entry ∙ sym y)
-      (counted_more (network_of t) t.problem.roads.vertices zeros 0 1 (state_at t.labels t.engagers first t.told) (state_of t) (omega arith)
-        (λ j n. ap (λ xs. get_or xs j Idle) s ∙ get_or-set_other first 0 j m Idle n)
-        (ap is_idle (idle 0))
-        (ap (λ xs. is_idle (get_or xs 0 Idle)) s ∙ ap is_idle (get_or-set_same first 0 m Idle (omega (arith, long))) ∙ b)
-        (omega (arith, entry, wide))
-        (let r = ap (λ xs. get_or xs ((network_of t).tail 0) 0) z ∙ ap (λ f. f ((network_of t).tail 0)) (replicate_reads (t.problem.roads.vertices + 1) 0) in omega (arith, r))
-        (λ v h. ap (λ xs. get_or xs v 0) z ∙ ap (λ f. f v) (replicate_reads (t.problem.roads.vertices + 1) 0) ∙ sym (idle_counted (network_of t) v (state_at t.labels t.engagers first t.told) idle)));
-  }
+    let long = ap length k ∙ length-replicate {A = Token V} (length t.problem.roads.arcs + 1) Idle in
+    let wide = ap length z ∙ length-replicate (t.problem.roads.vertices + 1) 0 in
+    let none : CoreState V = state_at t.labels t.engagers first t.told in
+    let entry = tail-entry t.problem.roads in
+    let idle = λ (j : ℕ). ap (λ xs. get_or xs j Idle) k ∙ ap (λ f. f j) (replicate_reads (length t.problem.roads.arcs + 1) Idle) in
+    record {
+      question = Q;
+      labels = ap length l ∙ length-replicate _ _;
+      engagers = ap length e ∙ length-replicate _ _;
+      tokens = ap length s ∙ length-set first 0 m ∙ long;
+      told = ap length d ∙ length-replicate _ _;
+      busy = ap length y ∙ length-set zeros 0 1 ∙ wide;
+      counted = subst (λ xs. IsCounted (network_of t) t.problem.roads.vertices xs (state_of t)) (ap (λ u. set zeros u 1) entry ∙ sym y)
+          (counted_more (network_of t) t.problem.roads.vertices zeros 0 1 (state_at t.labels t.engagers first t.told) (state_of t) (omega arith)
+          (λ j n. ap (λ xs. get_or xs j Idle) s ∙ get_or-set_other first 0 j m Idle n)
+          (ap is_idle (idle 0))
+          (ap (λ xs. is_idle (get_or xs 0 Idle)) s ∙ ap is_idle (get_or-set_same first 0 m Idle (omega (arith, long))) ∙ b)
+          (omega (arith, entry, wide))
+          (let r = ap (λ xs. get_or xs ((network_of t).tail 0) 0) z ∙ ap (λ f. f ((network_of t).tail 0)) (replicate_reads (t.problem.roads.vertices + 1) 0) in omega (arith, r))
+          (λ v h. ap (λ xs. get_or xs v 0) z ∙ ap (λ f. f v) (replicate_reads (t.problem.roads.vertices + 1) 0) ∙ sym (idle_counted (network_of t) v (state_at t.labels t.engagers first t.told) idle)));
+    }
 
 pub opened_run : {S V : Type 0} (meaning : S → Algebra V) (t : CoreView S V) (a : S) (g : Roads) (s : ℕ) → t.problem ≡ record { algebra = a; roads = g; source = s } →
-  IsRoads g → HasVertex g s → state_of t ≡ opening (meaning a) (network g s) → IsRun meaning t
+    IsRoads g → HasVertex g s → state_of t ≡ opening (meaning a) (network g s) → IsRun meaning t
 opened_run meaning t a g s p R v e = record {
   question = subst IsQuestion (sym p) (record { roads = R; source = v });
   reached = ([], e ∙ (λ i. opening (meaning (sym p i).algebra) (network_in (sym p i))));

@@ -49,7 +49,7 @@ module _ {V : Type 0} (A : Algebra V) (N : Network) where
   -- after a signal its own arc alone may be due
   pub quiet_acceptance : IsLawful A → (a : ℕ) (c : CoreState V) → N.tail a ≢ 0 → IdleIsTold N c → (b : ℕ) → b ≢ a → is_due A N (N.tail a) (freed A N a c) b ≡ false
   quiet_acceptance L a c n H b ne = told_not_due L (N.tail a) (freed A N a c) b
-    (λ e i. H b (λ z. n (sym e ∙ z)) (sym (put-other c.token a Idle b ne) ∙ i) ∙ ap c.label e)
+      (λ e i. H b (λ z. n (sym e ∙ z)) (sym (put-other c.token a Idle b ne) ∙ i) ∙ ap c.label e)
 
   -- the same for one shard's vertices
   pub quiet_signal : IsLawful A → (mine : ℕ → Bool) (a : ℕ) (d : CoreState V) → mine (N.tail a) ≡ true → N.tail a ≢ 0 → HasTold mine 0 d →

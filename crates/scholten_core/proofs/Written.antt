@@ -1,12 +1,12 @@
 -- A write to a table changes the state's function at one place.
-use Rattle.std.proofs.Common.{◌≡◌, ◌≢◌, ℕ, zero, suc, ◌+◌, ◌-◌, ◌<◌, ◌≤◌, Bool, true, false, not, ◌&&◌, eqb, eq-eqb, cond, Option, Some, None, List, [], ◌∷◌, length, get_or, set, ◌⊎◌, refl, sym, ap, ◌∙◌, subst, inl, inr, arith, get_or-set_same, get_or-set_other}
+use Rattle.std.proofs.Common.{◌≡◌, ℕ, ◌<◌, Bool, true, false, not, ◌&&◌, eq-eqb, Option, Some, None, List, length, get_or, set, refl, sym, ap, ◌∙◌, inl, inr, get_or-set_same, get_or-set_other}
 use Rattle.std.proofs.lemmas.Bool.{cases_eq, cases_lt, cond-true, cond-false, and_parts}
 use Rattle.std.proofs.lemmas.List.{get_or_past, get_or_default}
 use Rattle.path_algebra.specs.Algebra.{Algebra}
 use Rattle.scholten_core.specs.declared.token.Token.{Token}
-use Rattle.scholten_core.specs.declared.token.Token.TheVariants.{Idle, Message, Held, Signal}
+use Rattle.scholten_core.specs.declared.token.Token.TheVariants.{Idle, Message, Signal}
 use Rattle.scholten_core.specs.Network.{Network}
-use Rattle.scholten_core.specs.Diffusion.{CoreState, is_due, is_idle, same_label, sent, extend_label, put, freed, arrive, better_of, engaged_by, answer_to, pump_one, pump, released, rest, out_idle}
+use Rattle.scholten_core.specs.Diffusion.{CoreState, is_due, is_idle, same_label, sent, extend_label, put, freed, arrive, better_of, engaged_by, answer_to, pump_one, released, rest, out_idle}
 use Rattle.scholten_core.specs.CoreView.{CoreView, state_of}
 use Rattle.scholten_core.proofs.Basics.{put-at, put-other, idle-true}
 
@@ -15,8 +15,9 @@ same_function f g h = λ i j. h j i
 
 pub put_set : {X : Type 0} (xs : List X) (k : ℕ) (x d : X) → k < length xs → (λ j. get_or (set xs k x) j d) ≡ put (λ j. get_or xs j d) k x
 put_set xs k x d l = same_function (λ j. get_or (set xs k x) j d) (put (λ j. get_or xs j d) k x) (λ j. elim (cases_eq j k) [
-      inl e ↦ ap (λ m. get_or (set xs k x) m d) e ∙ get_or-set_same xs k x d l ∙ sym (put-at (λ m. get_or xs m d) k x j e)
-    | inr n ↦ get_or-set_other xs k j x d n ∙ sym (put-other (λ m. get_or xs m d) k x j n) ])
+  | inl e ↦ ap (λ m. get_or (set xs k x) m d) e ∙ get_or-set_same xs k x d l ∙ sym (put-at (λ m. get_or xs m d) k x j e)
+  | inr n ↦ get_or-set_other xs k j x d n ∙ sym (put-other (λ m. get_or xs m d) k x j n)
+])
 
 pub answered_busy : {V : Type 0} (o : Option ℕ) (t : Token V) → t ≡ answer_to o → is_idle t ≡ false
 answered_busy None t e = ap is_idle e
@@ -35,7 +36,7 @@ reads xs j v y p l e = e ∙ ap (λ k. get_or xs k y) p ∙ get_or_default xs v 
 
 -- the tables with a token written
 pub token_written : {S V : Type 0} (t : CoreView S V) (a : ℕ) (x : Token V) → a < length t.tokens →
-  state_of (record t { tokens = set t.tokens a x }) ≡ record (state_of t) { token = put (state_of t).token a x }
+    state_of (record t { tokens = set t.tokens a x }) ≡ record (state_of t) { token = put (state_of t).token a x }
 token_written t a x l = ap (λ f. record (state_of t) { token = f }) (put_set t.tokens a x Idle l)
 
 module _ {V : Type 0} (A : Algebra V) (N : Network) where
@@ -65,72 +66,83 @@ module _ {V : Type 0} (A : Algebra V) (N : Network) where
 
   pub not_due_leaves : (c : CoreState V) (v b : ℕ) → is_due A N v c b ≡ false → c ≡ pump_one A N v b c
   not_due_leaves c v b q =
-    (λ i. record { label = c.label; engager = c.engager; token = put-self c.token b i; told = put-self c.told b i })
-    ∙ (λ i. record { label = c.label; engager = c.engager;
+      (λ i. record { label = c.label; engager = c.engager; token = put-self c.token b i; told = put-self c.told b i })
+      ∙ (λ i. record {
+        label = c.label;
+        engager = c.engager;
         token = put c.token b (sym (cond-false (is_due A N v c b) (sent (extend_label A (c.label v) (N.weight b))) (c.token b) q) i);
-        told = put c.told b (sym (cond-false (is_due A N v c b) (c.label v) (c.told b) q) i) })
+        told = put c.told b (sym (cond-false (is_due A N v c b) (c.label v) (c.told b) q) i);
+      })
 
 module _ {S V : Type 0} (A : Algebra V) (N : Network) where
   -- t is what the tables hold, old what a caller sees, i and j the indices that the code uses
   pub free_leaves : (t old : CoreView S V) (a i : ℕ) → t ≡ old → i ≡ a → is_idle ((state_of old).token a) ≡ false →
-    state_of (record t { tokens = set t.tokens i Idle }) ≡ freed A N a (state_of old)
+      state_of (record t { tokens = set t.tokens i Idle }) ≡ freed A N a (state_of old)
   free_leaves t old a i e p b =
-    let l : a < length t.tokens = busy_within t.tokens a (ap (λ u. is_idle ((state_of u).token a)) e ∙ b) in
-    ap (λ k. state_of (record t { tokens = set t.tokens k Idle })) p ∙ token_written t a Idle l ∙ ap (λ u. freed A N a (state_of u)) e
+      let l : a < length t.tokens = busy_within t.tokens a (ap (λ u. is_idle ((state_of u).token a)) e ∙ b) in
+      ap (λ k. state_of (record t { tokens = set t.tokens k Idle })) p ∙ token_written t a Idle l ∙ ap (λ u. freed A N a (state_of u)) e
 
   pub arrive_leaves : (t old : CoreView S V) (a v i j : ℕ) (x : V) (label : Option V) (engager : Option ℕ) (token : Token V) → t ≡ old → i ≡ a → j ≡ v → is_idle ((state_of old).token a) ≡ false →
-    v < length t.labels → v < length t.engagers → v ≡ N.head a →
-    label ≡ better_of A x ((state_of old).label v) → engager ≡ engaged_by ((state_of old).engager v) a → token ≡ answer_to ((state_of old).engager v) →
-    state_of (record t { labels = set t.labels j label; engagers = set t.engagers j engager; tokens = set t.tokens i token }) ≡ arrive A N a x (state_of old)
+      v < length t.labels → v < length t.engagers → v ≡ N.head a →
+      label ≡ better_of A x ((state_of old).label v) → engager ≡ engaged_by ((state_of old).engager v) a → token ≡ answer_to ((state_of old).engager v) →
+      state_of (record t { labels = set t.labels j label; engagers = set t.engagers j engager; tokens = set t.tokens i token }) ≡ arrive A N a x (state_of old)
   arrive_leaves t old a v i j x label engager token e p q b l m h x1 x2 x3 =
-    let w : a < length t.tokens = busy_within t.tokens a (ap (λ u. is_idle ((state_of u).token a)) e ∙ b) in
-    (λ k. state_of (record t { labels = set t.labels (q k) label; engagers = set t.engagers (q k) engager; tokens = set t.tokens (p k) token }))
-    ∙ (λ k. record { label = put_set t.labels v label None l k; engager = put_set t.engagers v engager None m k; token = put_set t.tokens a token Idle w k; told = (state_of t).told })
-    ∙ (λ k. record {
+      let w : a < length t.tokens = busy_within t.tokens a (ap (λ u. is_idle ((state_of u).token a)) e ∙ b) in
+      (λ k. state_of (record t { labels = set t.labels (q k) label; engagers = set t.engagers (q k) engager; tokens = set t.tokens (p k) token }))
+      ∙ (λ k. record { label = put_set t.labels v label None l k; engager = put_set t.engagers v engager None m k; token = put_set t.tokens a token Idle w k; told = (state_of t).told })
+      ∙ (λ k. record {
         label = put (state_of (e k)).label (h k) (x1 k);
         engager = put (state_of (e k)).engager (h k) (x2 k);
         token = put (state_of (e k)).token a (x3 k);
-        told = (state_of (e k)).told })
-    ∙ ap (λ w. record {
+        told = (state_of (e k)).told;
+      })
+      ∙ ap (λ w. record {
         label = put (state_of old).label (N.head a) (better_of A x ((state_of old).label w));
         engager = put (state_of old).engager (N.head a) (engaged_by ((state_of old).engager w) a);
         token = put (state_of old).token a (answer_to ((state_of old).engager w));
-        told = (state_of old).told }) h
+        told = (state_of old).told;
+      }) h
 
   pub rest_leaves : (t old : CoreView S V) (v e i j : ℕ) → t ≡ old → i ≡ e → j ≡ v → v < length t.engagers →
-    (state_of old).engager v ≡ Some e → is_idle ((state_of old).token e) ≡ false → out_idle A N v (state_of old) ≡ true →
-    state_of (record t { tokens = set t.tokens i Signal; engagers = set t.engagers j None }) ≡ rest A N v (state_of old)
+      (state_of old).engager v ≡ Some e → is_idle ((state_of old).token e) ≡ false → out_idle A N v (state_of old) ≡ true →
+      state_of (record t { tokens = set t.tokens i Signal; engagers = set t.engagers j None }) ≡ rest A N v (state_of old)
   rest_leaves t old v e i j q p r l en b out =
-    let w : e < length t.tokens = busy_within t.tokens e (ap (λ u. is_idle ((state_of u).token e)) q ∙ b) in
-    (λ k. state_of (record t { tokens = set t.tokens (p k) Signal; engagers = set t.engagers (r k) None }))
-    ∙ (λ k. record { label = (state_of t).label; engager = put_set t.engagers v None None l k; token = put_set t.tokens e Signal Idle w k; told = (state_of t).told })
-    ∙ ap (λ u. record { label = (state_of u).label; engager = put (state_of u).engager v None; token = put (state_of u).token e Signal; told = (state_of u).told }) q
-    ∙ (λ k. released A N v (state_of old) (sym en k) (sym out k))
+      let w : e < length t.tokens = busy_within t.tokens e (ap (λ u. is_idle ((state_of u).token e)) q ∙ b) in
+      (λ k. state_of (record t { tokens = set t.tokens (p k) Signal; engagers = set t.engagers (r k) None }))
+      ∙ (λ k. record { label = (state_of t).label; engager = put_set t.engagers v None None l k; token = put_set t.tokens e Signal Idle w k; told = (state_of t).told })
+      ∙ ap (λ u. record { label = (state_of u).label; engager = put (state_of u).engager v None; token = put (state_of u).token e Signal; told = (state_of u).told }) q
+      ∙ (λ k. released A N v (state_of old) (sym en k) (sym out k))
 
   -- a due arc is told, and sent what the extension gives
   pub offer_leaves : (t old : CoreView S V) (v b i j : ℕ) (label : Option V) (y : V) → t ≡ old → i ≡ b → j ≡ b → b < length t.tokens → b < length t.told →
-    is_due A N v (state_of old) b ≡ true → label ≡ (state_of old).label v → Some y ≡ extend_label A label (N.weight b) →
-    state_of (record t { tokens = set t.tokens i (Message y); told = set t.told j label }) ≡ pump_one A N v b (state_of old)
+      is_due A N v (state_of old) b ≡ true → label ≡ (state_of old).label v → Some y ≡ extend_label A label (N.weight b) →
+      state_of (record t { tokens = set t.tokens i (Message y); told = set t.told j label }) ≡ pump_one A N v b (state_of old)
   offer_leaves t old v b i j label y e p r l m due x1 x2 =
-    (λ k. state_of (record t { tokens = set t.tokens (p k) (Message y); told = set t.told (r k) label }))
-    ∙ (λ k. record { label = (state_of t).label; engager = (state_of t).engager; token = put_set t.tokens b (Message y) Idle l k; told = put_set t.told b label None m k })
-    ∙ (λ k. record { label = (state_of (e k)).label; engager = (state_of (e k)).engager; token = put (state_of (e k)).token b (sent (x2 k)); told = put (state_of (e k)).told b (x1 k) })
-    ∙ due_told t old v b label due x1
+      (λ k. state_of (record t { tokens = set t.tokens (p k) (Message y); told = set t.told (r k) label }))
+      ∙ (λ k. record { label = (state_of t).label; engager = (state_of t).engager; token = put_set t.tokens b (Message y) Idle l k; told = put_set t.told b label None m k })
+      ∙ (λ k. record { label = (state_of (e k)).label; engager = (state_of (e k)).engager; token = put (state_of (e k)).token b (sent (x2 k)); told = put (state_of (e k)).told b (x1 k) })
+      ∙ due_told t old v b label due x1
     where
       due_told : (t old : CoreView S V) (v b : ℕ) (label : Option V) → is_due A N v (state_of old) b ≡ true → label ≡ (state_of old).label v →
-        record { label = (state_of old).label; engager = (state_of old).engager; token = put (state_of old).token b (sent (extend_label A label (N.weight b))); told = put (state_of old).told b ((state_of old).label v) } ≡ pump_one A N v b (state_of old)
-      due_told t old v b label due x1 = (λ k. record { label = (state_of old).label; engager = (state_of old).engager;
+          record { label = (state_of old).label; engager = (state_of old).engager; token = put (state_of old).token b (sent (extend_label A label (N.weight b))); told = put (state_of old).told b ((state_of old).label v) } ≡ pump_one A N v b (state_of old)
+      due_told t old v b label due x1 = (λ k. record {
+        label = (state_of old).label;
+        engager = (state_of old).engager;
         token = put (state_of old).token b ((ap (λ o. sent (extend_label A o (N.weight b))) x1 ∙ sym (cond-true (is_due A N v (state_of old) b) (sent (extend_label A ((state_of old).label v) (N.weight b))) ((state_of old).token b) due)) k);
-        told = put (state_of old).told b (sym (cond-true (is_due A N v (state_of old) b) ((state_of old).label v) ((state_of old).told b) due) k) })
+        told = put (state_of old).told b (sym (cond-true (is_due A N v (state_of old) b) ((state_of old).label v) ((state_of old).told b) due) k);
+      })
 
   -- a due arc is told, though the extension is refused
   pub refuse_leaves : (t old : CoreView S V) (v b j : ℕ) (label : Option V) → t ≡ old → j ≡ b → b < length t.told →
-    is_due A N v (state_of old) b ≡ true → is_idle ((state_of old).token b) ≡ true → label ≡ (state_of old).label v → None ≡ extend_label A label (N.weight b) →
-    state_of (record t { told = set t.told j label }) ≡ pump_one A N v b (state_of old)
+      is_due A N v (state_of old) b ≡ true → is_idle ((state_of old).token b) ≡ true → label ≡ (state_of old).label v → None ≡ extend_label A label (N.weight b) →
+      state_of (record t { told = set t.told j label }) ≡ pump_one A N v b (state_of old)
   refuse_leaves t old v b j label e r m due idle x1 x2 =
-    (λ k. state_of (record t { told = set t.told (r k) label }))
-    ∙ (λ k. record { label = (state_of t).label; engager = (state_of t).engager; token = put-self (state_of t).token b k; told = put_set t.told b label None m k })
-    ∙ (λ k. record { label = (state_of (e k)).label; engager = (state_of (e k)).engager; token = put (state_of (e k)).token b ((state_of (e k)).token b); told = put (state_of (e k)).told b (x1 k) })
-    ∙ (λ k. record { label = (state_of old).label; engager = (state_of old).engager;
+      (λ k. state_of (record t { told = set t.told (r k) label }))
+      ∙ (λ k. record { label = (state_of t).label; engager = (state_of t).engager; token = put-self (state_of t).token b k; told = put_set t.told b label None m k })
+      ∙ (λ k. record { label = (state_of (e k)).label; engager = (state_of (e k)).engager; token = put (state_of (e k)).token b ((state_of (e k)).token b); told = put (state_of (e k)).told b (x1 k) })
+      ∙ (λ k. record {
+        label = (state_of old).label;
+        engager = (state_of old).engager;
         token = put (state_of old).token b ((idle-true ((state_of old).token b) idle ∙ ap sent x2 ∙ ap (λ o. sent (extend_label A o (N.weight b))) x1 ∙ sym (cond-true (is_due A N v (state_of old) b) (sent (extend_label A ((state_of old).label v) (N.weight b))) ((state_of old).token b) due)) k);
-        told = put (state_of old).told b (sym (cond-true (is_due A N v (state_of old) b) ((state_of old).label v) ((state_of old).told b) due) k) })
+        told = put (state_of old).told b (sym (cond-true (is_due A N v (state_of old) b) ((state_of old).label v) ((state_of old).told b) due) k);
+      })

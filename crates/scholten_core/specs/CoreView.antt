@@ -1,5 +1,5 @@
 -- What a core is seen as: its question and its tables. A place for the environment, and for arc 0, stands in front.
-use Rattle.std.specs.Prelude.{◌≡◌, ℕ, suc, ◌+◌, ◌<◌, ◌≤◌, List, length, slice_index_or, Option, Some, None}
+use Rattle.std.specs.Prelude.{◌≡◌, ℕ, ◌+◌, ◌≤◌, List, length, slice_index_or, Option, None}
 use Rattle.road_graph.specs.Roads.{Roads, IsRoads, HasVertex}
 use Rattle.path_algebra.specs.Algebra.{Algebra}
 use Rattle.scholten_core.specs.declared.token.Token.{Token}

@@ -54,7 +54,11 @@ impl<'g, A: PathAlgebra> Desk<'g, A> {
         ensures { result ≡ (state_of self.now).token a }
     {
         let a = a.0 as usize;
-        if a < self.tokens.len() { self.tokens[a] } else { Token::Idle }
+        if a < self.tokens.len() {
+            self.tokens[a]
+        } else {
+            Token::Idle
+        }
     }
 
     /// The label of a vertex.
@@ -95,7 +99,11 @@ impl<'g, A: PathAlgebra> Desk<'g, A> {
         ensures tail { result ≡ (network_of self.now).tail a }
         ensures within { result ≤ self.now.problem.roads.vertices }
     {
-        if a == ENTRY { Vertex(0) } else { self.graph.arc(a).tail }
+        if a == ENTRY {
+            Vertex(0)
+        } else {
+            self.graph.arc(a).tail
+        }
     }
 
     /// The vertex that an arc enters.
@@ -104,7 +112,11 @@ impl<'g, A: PathAlgebra> Desk<'g, A> {
         ensures head { result ≡ (network_of self.now).head a }
         ensures within { result ≤ self.now.problem.roads.vertices }
     {
-        if a == ENTRY { self.source } else { self.graph.arc(a).head }
+        if a == ENTRY {
+            self.source
+        } else {
+            self.graph.arc(a).head
+        }
     }
 
     /// The weight of an arc of the graph.

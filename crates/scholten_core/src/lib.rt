@@ -9,12 +9,19 @@ mod desk;
 mod event;
 mod idle;
 mod item;
-pub mod laws;
+mod laws;
 mod running;
 mod token;
 mod values;
 
 pub use event::Event;
 pub use item::Item;
+pub use laws::{
+    ended_runs_are_best, ended_totals_are_equal, every_run_is_sound, messages_follow_label_changes,
+    reach_sends_once_an_arc,
+};
 pub use running::{Core, NoMessage, NoSignal};
 pub use token::Token;
+
+#[cfg(test)]
+mod tests;

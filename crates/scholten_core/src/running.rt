@@ -45,7 +45,12 @@ impl<'g, A: PathAlgebra> Model for Core<'g, A> {
 
 impl<'g, A: PathAlgebra> Core<'g, A> {
     /// A fresh core: a message with the origin on arc 0, and nothing else. Makes all tables, so no later call takes memory.
-    pub fn open(alloc: Global, algebra: A, graph: &'g Graph, source: Vertex) -> Result<Core<'g, A>, Memory>
+    pub fn open(
+        alloc: Global,
+        algebra: A,
+        graph: &'g Graph,
+        source: Vertex,
+    ) -> Result<Core<'g, A>, Memory>
         requires { HasVertex graph.now source }
         ensures problem { IfOk result (λ c. c.problem ≡ record { algebra = algebra; roads = graph.now; source = source }) }
         ensures state { IfOk result (λ c. state_of c ≡ opening (A.meaning algebra) (network graph.now source)) }

@@ -36,7 +36,11 @@ pub fn is_same<A: PathAlgebra>(algebra: A, told: Option<A::Value>, label: Option
 }
 
 /// A label after one more arc, none where there is no label or the arc is refused.
-pub fn extended<A: PathAlgebra>(algebra: A, label: Option<A::Value>, weight: u32) -> Option<A::Value>
+pub fn extended<A: PathAlgebra>(
+    algebra: A,
+    label: Option<A::Value>,
+    weight: u32,
+) -> Option<A::Value>
     ensures { result ≡ extend_label (A.meaning algebra) label weight }
 {
     match label {

@@ -14,3 +14,10 @@ pub mod Readable
 pub mod Blocks
 pub mod Spread
 pub mod Places
+pub mod Moves
+pub mod Busy
+pub mod Rings
+pub mod Graphs
+pub mod Halving
+pub mod Offers
+pub mod Pumping

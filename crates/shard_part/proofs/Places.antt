@@ -3,12 +3,8 @@ use Rattle.std.proofs.Common.{◌≡◌, ◌≢◌, ℕ, zero, suc, ◌+◌, ◌
 use Rattle.std.proofs.lemmas.Bool.{cases_eq, cases_lt, cond-true, cond-false}
 use Rattle.std.proofs.lemmas.List.{get_or_append_left, get_or-append-add}
 use Rattle.scholten_core.specs.Network.{Network}
-use Rattle.shard_part.specs.Tables.{IsApart, IsAbsent, placed}
+use Rattle.shard_part.specs.Tables.{IsApart, IsAbsent, Rises, placed}
 use Rattle.shard_part.specs.PartState.{Setup, place_in, network_in, arcs_from, outgoing, own_in, arcs_out}
-
--- a list that rises
-abbrev pub Rises : List ℕ → Type 0
-Rises xs = (i j : ℕ) → i < j → j < length xs → get_or xs i 0 < get_or xs j 0
 
 pub rises_apart : (xs : List ℕ) → Rises xs → IsApart xs
 rises_apart xs h i j l m e = let r = h i j l m in omega (arith, r, e)
@@ -26,14 +22,16 @@ picked_here : (pass : ℕ → Type 0) (k n : ℕ) (xs : List ℕ) → pass k →
 picked_here pass k n xs p P = record {
   each = λ i l. here i l;
   all = λ v q l m. elim (cases_eq v k) [
-      inl e ↦ (0, (let z : 0 < suc (length xs) = omega arith in z), sym e)
-    | inr ne ↦ (let r = P.all v q (omega arith) (omega arith) in (suc r.0, (let z = r.1 in omega (arith, z)), r.2)) ];
+    | inl e ↦ (0, (let z : 0 < suc (length xs) = omega arith in z), sym e)
+    | inr ne ↦ (let r = P.all v q (omega arith) (omega arith) in (suc r.0, (let z = r.1 in omega (arith, z)), r.2))
+  ];
   rises = λ i j l m. rise i j l m;
 }
   where
     here : (i : ℕ) → i < length (k ∷ xs) → pass (get_or (k ∷ xs) i 0) × (k ≤ get_or (k ∷ xs) i 0) × (get_or (k ∷ xs) i 0 < k + suc n)
     here zero l = (p, (let z : k ≤ k = omega arith in z), omega arith)
     here (suc i) l = let r = P.each i (omega arith) in (r.0, (let z = r.1 in omega (arith, z)), (let z = r.2 in omega (arith, z)))
+
     rise : (i j : ℕ) → i < j → j < length (k ∷ xs) → get_or (k ∷ xs) i 0 < get_or (k ∷ xs) j 0
     rise i zero l m = absurd (omega arith)
     rise zero (suc j) l m = let r = (P.each j (omega arith)).1 in omega (arith, r)
@@ -43,8 +41,9 @@ picked_not : (pass : ℕ → Type 0) (k n : ℕ) (xs : List ℕ) → (pass k →
 picked_not pass k n xs p P = record {
   each = λ i l. (let r = P.each i l in (r.0, (let z = r.1 in omega (arith, z)), (let z = r.2 in omega (arith, z))));
   all = λ v q l m. elim (cases_eq v k) [
-      inl e ↦ absurd (p (subst pass e q))
-    | inr ne ↦ P.all v q (omega arith) (omega arith) ];
+    | inl e ↦ absurd (p (subst pass e q))
+    | inr ne ↦ P.all v q (omega arith) (omega arith)
+  ];
   rises = P.rises;
 }
 
@@ -52,18 +51,20 @@ pub placed_picked : (place : ℕ → ℕ) (s k n : ℕ) → Picked (λ v. place 
 unfolding placed
 placed_picked place s k zero = picked_none (λ v. place v ≡ s) k
 placed_picked place s k (suc n) = elim (cases_eq (place k) s) [
-    inl e ↦ subst (Picked (λ v. place v ≡ s) k (suc n)) (sym (cond-true (eqb (place k) s) (k ∷ placed place s (suc k) n) (placed place s (suc k) n) (eq-eqb (place k) s e)))
+  | inl e ↦ subst (Picked (λ v. place v ≡ s) k (suc n)) (sym (cond-true (eqb (place k) s) (k ∷ placed place s (suc k) n) (placed place s (suc k) n) (eq-eqb (place k) s e)))
       (picked_here (λ v. place v ≡ s) k n (placed place s (suc k) n) e (placed_picked place s (suc k) n))
   | inr ne ↦ subst (Picked (λ v. place v ≡ s) k (suc n)) (sym (cond-false (eqb (place k) s) (k ∷ placed place s (suc k) n) (placed place s (suc k) n) (ne_eqb (place k) s ne)))
-      (picked_not (λ v. place v ≡ s) k n (placed place s (suc k) n) ne (placed_picked place s (suc k) n)) ]
+      (picked_not (λ v. place v ≡ s) k n (placed place s (suc k) n) ne (placed_picked place s (suc k) n))
+]
 
 pub arcs_picked : (N : Network) (v k n : ℕ) → Picked (λ b. N.tail b ≡ v) k n (arcs_from N v k n)
 arcs_picked N v k zero = picked_none (λ b. N.tail b ≡ v) k
 arcs_picked N v k (suc n) = elim (cases_eq (N.tail k) v) [
-    inl e ↦ subst (Picked (λ b. N.tail b ≡ v) k (suc n)) (sym (cond-true (eqb (N.tail k) v) (k ∷ arcs_from N v (suc k) n) (arcs_from N v (suc k) n) (eq-eqb (N.tail k) v e)))
+  | inl e ↦ subst (Picked (λ b. N.tail b ≡ v) k (suc n)) (sym (cond-true (eqb (N.tail k) v) (k ∷ arcs_from N v (suc k) n) (arcs_from N v (suc k) n) (eq-eqb (N.tail k) v e)))
       (picked_here (λ b. N.tail b ≡ v) k n (arcs_from N v (suc k) n) e (arcs_picked N v (suc k) n))
   | inr ne ↦ subst (Picked (λ b. N.tail b ≡ v) k (suc n)) (sym (cond-false (eqb (N.tail k) v) (k ∷ arcs_from N v (suc k) n) (arcs_from N v (suc k) n) (ne_eqb (N.tail k) v ne)))
-      (picked_not (λ b. N.tail b ≡ v) k n (arcs_from N v (suc k) n) ne (arcs_picked N v (suc k) n)) ]
+      (picked_not (λ b. N.tail b ≡ v) k n (arcs_from N v (suc k) n) ne (arcs_picked N v (suc k) n))
+]
 
 pub outgoing_picked : (N : Network) (v : ℕ) → Picked (λ b. N.tail b ≡ v) 0 (suc N.arcs) (outgoing N v)
 outgoing_picked N v = arcs_picked N v 0 (suc N.arcs)
@@ -89,7 +90,7 @@ own_placed t s (suc j) l n = ((placed_picked (place_in t) s 1 t.roads.vertices).
 pub own_all : {S : Type 0} (t : Setup S) (s v : ℕ) → v ≤ t.roads.vertices → (v ≢ 0 → place_in t v ≡ s) → (j : ℕ) × (j < length (own_in t s)) × (get_or (own_in t s) j 0 ≡ v)
 own_all t s zero l h = (0, (let z : 0 < suc (length (placed (place_in t) s 1 t.roads.vertices)) = omega arith in z), refl)
 own_all t s (suc v) l h = let r = (placed_picked (place_in t) s 1 t.roads.vertices).all (suc v) (h (λ e. omega (arith, e))) (omega arith) (omega arith) in
-  (suc r.0, (let z = r.1 in omega (arith, z)), r.2)
+    (suc r.0, (let z = r.1 in omega (arith, z)), r.2)
 
 -- the arcs out of a list of vertices
 module _ (N : Network) where
@@ -97,50 +98,54 @@ module _ (N : Network) where
   unfolding arcs_out
   arc_owner [] i l = absurd (omega arith)
   arc_owner (v ∷ vs) i l = elim (cases_lt i (length (outgoing N v))) [
-      inl m ↦ (let g = get_or_append_left (outgoing N v) (arcs_out N vs) 0 i m in let P = (outgoing_picked N v).each i m in
+    | inl m ↦ (let g = get_or_append_left (outgoing N v) (arcs_out N vs) 0 i m in let P = (outgoing_picked N v).each i m in
         (0, (let z : 0 < suc (length vs) = omega arith in z), ap N.tail g ∙ P.0, (let z = P.2 in omega (arith, z, g))))
     | inr m ↦ (let a = length-append (outgoing N v) (arcs_out N vs) in
         let e : length (outgoing N v) + (i - length (outgoing N v)) ≡ i = omega arith in
         let g : get_or (outgoing N v ++ arcs_out N vs) i 0 ≡ get_or (arcs_out N vs) (i - length (outgoing N v)) 0 =
-          ap (λ k. get_or (outgoing N v ++ arcs_out N vs) k 0) (sym e) ∙ get_or-append-add (outgoing N v) (arcs_out N vs) (i - length (outgoing N v)) 0 in
+        ap (λ k. get_or (outgoing N v ++ arcs_out N vs) k 0) (sym e) ∙ get_or-append-add (outgoing N v) (arcs_out N vs) (i - length (outgoing N v)) 0 in
         let r = arc_owner vs (i - length (outgoing N v)) (omega (arith, a, l)) in
-        (suc r.0, (let z = r.1 in omega (arith, z)), ap N.tail g ∙ r.2, (let z = r.3 in omega (arith, z, g)))) ]
+        (suc r.0, (let z = r.1 in omega (arith, z)), ap N.tail g ∙ r.2, (let z = r.3 in omega (arith, z, g))))
+  ]
 
   pub arcs_apart : (vs : List ℕ) → IsApart vs → IsApart (arcs_out N vs)
   unfolding arcs_out
   arcs_apart [] A i j l m q = absurd (omega arith)
   arcs_apart (v ∷ vs) A i j l m q =
-    let a = length-append (outgoing N v) (arcs_out N vs) in
-    elim (cases_lt j (length (outgoing N v))) [
-      inl mj ↦ (let mi : i < length (outgoing N v) = omega arith in
-        let gi = get_or_append_left (outgoing N v) (arcs_out N vs) 0 i mi in let gj = get_or_append_left (outgoing N v) (arcs_out N vs) 0 j mj in
-        let r = (outgoing_picked N v).rises i j l mj in omega (arith, gi, gj, r, q))
-    | inr mj ↦ (let ej : length (outgoing N v) + (j - length (outgoing N v)) ≡ j = omega arith in
-        let gj : get_or (outgoing N v ++ arcs_out N vs) j 0 ≡ get_or (arcs_out N vs) (j - length (outgoing N v)) 0 =
-          ap (λ k. get_or (outgoing N v ++ arcs_out N vs) k 0) (sym ej) ∙ get_or-append-add (outgoing N v) (arcs_out N vs) (j - length (outgoing N v)) 0 in
-        elim (cases_lt i (length (outgoing N v))) [
-          inl mi ↦ (let gi = get_or_append_left (outgoing N v) (arcs_out N vs) 0 i mi in
-            let o = arc_owner vs (j - length (outgoing N v)) (omega (arith, a, m)) in
-            let P = (outgoing_picked N v).each i mi in
-            A 0 (suc o.0) (omega arith) (let z = o.1 in omega (arith, z)) (sym P.0 ∙ ap N.tail (sym gi ∙ q ∙ gj) ∙ o.2))
-        | inr mi ↦ (let ei : length (outgoing N v) + (i - length (outgoing N v)) ≡ i = omega arith in
-            let gi : get_or (outgoing N v ++ arcs_out N vs) i 0 ≡ get_or (arcs_out N vs) (i - length (outgoing N v)) 0 =
-              ap (λ k. get_or (outgoing N v ++ arcs_out N vs) k 0) (sym ei) ∙ get_or-append-add (outgoing N v) (arcs_out N vs) (i - length (outgoing N v)) 0 in
-            arcs_apart vs (λ x y lx ly. A (suc x) (suc y) (omega arith) (omega arith)) (i - length (outgoing N v)) (j - length (outgoing N v)) (omega arith) (omega (arith, a, m)) (sym gi ∙ q ∙ gj)) ]) ]
+      let a = length-append (outgoing N v) (arcs_out N vs) in
+      elim (cases_lt j (length (outgoing N v))) [
+        | inl mj ↦ (let mi : i < length (outgoing N v) = omega arith in
+            let gi = get_or_append_left (outgoing N v) (arcs_out N vs) 0 i mi in let gj = get_or_append_left (outgoing N v) (arcs_out N vs) 0 j mj in
+            let r = (outgoing_picked N v).rises i j l mj in omega (arith, gi, gj, r, q))
+        | inr mj ↦ (let ej : length (outgoing N v) + (j - length (outgoing N v)) ≡ j = omega arith in
+            let gj : get_or (outgoing N v ++ arcs_out N vs) j 0 ≡ get_or (arcs_out N vs) (j - length (outgoing N v)) 0 =
+            ap (λ k. get_or (outgoing N v ++ arcs_out N vs) k 0) (sym ej) ∙ get_or-append-add (outgoing N v) (arcs_out N vs) (j - length (outgoing N v)) 0 in
+            elim (cases_lt i (length (outgoing N v))) [
+              | inl mi ↦ (let gi = get_or_append_left (outgoing N v) (arcs_out N vs) 0 i mi in
+                  let o = arc_owner vs (j - length (outgoing N v)) (omega (arith, a, m)) in
+                  let P = (outgoing_picked N v).each i mi in
+                  A 0 (suc o.0) (omega arith) (let z = o.1 in omega (arith, z)) (sym P.0 ∙ ap N.tail (sym gi ∙ q ∙ gj) ∙ o.2))
+              | inr mi ↦ (let ei : length (outgoing N v) + (i - length (outgoing N v)) ≡ i = omega arith in
+                  let gi : get_or (outgoing N v ++ arcs_out N vs) i 0 ≡ get_or (arcs_out N vs) (i - length (outgoing N v)) 0 =
+                  ap (λ k. get_or (outgoing N v ++ arcs_out N vs) k 0) (sym ei) ∙ get_or-append-add (outgoing N v) (arcs_out N vs) (i - length (outgoing N v)) 0 in
+                  arcs_apart vs (λ x y lx ly. A (suc x) (suc y) (omega arith) (omega arith)) (i - length (outgoing N v)) (j - length (outgoing N v)) (omega arith) (omega (arith, a, m)) (sym gi ∙ q ∙ gj))
+            ])
+      ]
 
   -- the k-th arc out of the vertex at place j
   pub arc_at_place : (vs : List ℕ) (j k : ℕ) → j < length vs → k < length (outgoing N (get_or vs j 0)) →
-    (length (arcs_out N (take j vs)) + k < length (arcs_out N vs)) × (get_or (arcs_out N vs) (length (arcs_out N (take j vs)) + k) 0 ≡ get_or (outgoing N (get_or vs j 0)) k 0)
+      (length (arcs_out N (take j vs)) + k < length (arcs_out N vs)) × (get_or (arcs_out N vs) (length (arcs_out N (take j vs)) + k) 0 ≡ get_or (outgoing N (get_or vs j 0)) k 0)
   unfolding arcs_out
   arc_at_place [] j k l m = absurd (omega arith)
   arc_at_place (v ∷ vs) zero k l m =
-    let a = length-append (outgoing N v) (arcs_out N vs) in
-    let e : 0 + k ≡ k = omega arith in
-    ((omega (arith, a, m)), ap (λ i. get_or (outgoing N v ++ arcs_out N vs) i 0) e ∙ get_or_append_left (outgoing N v) (arcs_out N vs) 0 k m)
+      let a = length-append (outgoing N v) (arcs_out N vs) in
+      let e : 0 + k ≡ k = omega arith in
+      ((omega (arith, a, m)), ap (λ i. get_or (outgoing N v ++ arcs_out N vs) i 0) e ∙ get_or_append_left (outgoing N v) (arcs_out N vs) 0 k m)
   arc_at_place (v ∷ vs) (suc j) k l m =
-    let r = arc_at_place vs j k (omega arith) m in
-    let a = length-append (outgoing N v) (arcs_out N vs) in
-    let b = length-append (outgoing N v) (arcs_out N (take j vs)) in
-    let e : length (outgoing N v ++ arcs_out N (take j vs)) + k ≡ length (outgoing N v) + (length (arcs_out N (take j vs)) + k) = omega (arith, b) in
-    ((let z = r.0 in omega (arith, a, b, z)),
-     ap (λ i. get_or (outgoing N v ++ arcs_out N vs) i 0) e ∙ get_or-append-add (outgoing N v) (arcs_out N vs) (length (arcs_out N (take j vs)) + k) 0 ∙ r.1)
+      let r = arc_at_place vs j k (omega arith) m in
+      let a = length-append (outgoing N v) (arcs_out N vs) in
+      let b = length-append (outgoing N v) (arcs_out N (take j vs)) in
+      let e : length (outgoing N v ++ arcs_out N (take j vs)) + k ≡ length (outgoing N v) + (length (arcs_out N (take j vs)) + k) = omega (arith, b) in (
+        (let z = r.0 in omega (arith, a, b, z)),
+        ap (λ i. get_or (outgoing N v ++ arcs_out N vs) i 0) e ∙ get_or-append-add (outgoing N v) (arcs_out N vs) (length (arcs_out N (take j vs)) + k) 0 ∙ r.1,
+      )

@@ -28,8 +28,9 @@ module _ {V : Type 0} (A : Algebra V) (N : Network) where
 
   pump_told : Lawful A → (mine : ℕ → Bool) (v : ℕ) (d : CoreState V) → HasTold mine v d → HasTold mine 0 (pump A N v d)
   pump_told L mine v d H b m n ne i = elim (pumped A N L v d b) [
-      inl k ↦ k.3 ∙ ap d.label (sym k.0)
-    | inr k ↦ k.1 ∙ (elim (cases_eq (N.tail b) v) [ inl e ↦ k.2 e (sym k.0 ∙ i) ∙ ap d.label (sym e) | inr o ↦ H b m n o (sym k.0 ∙ i) ]) ]
+    | inl k ↦ k.3 ∙ ap d.label (sym k.0)
+    | inr k ↦ k.1 ∙ (elim (cases_eq (N.tail b) v) [ inl e ↦ k.2 e (sym k.0 ∙ i) ∙ ap d.label (sym e) | inr o ↦ H b m n o (sym k.0 ∙ i) ])
+  ]
 
   rest_told : (mine : ℕ → Bool) (v : ℕ) (d : CoreState V) (o : Option ℕ) (t : Bool) → HasTold mine 0 d → HasTold mine 0 (rest_here A N v d o t)
   rest_told mine v d None t H = H
@@ -55,30 +56,34 @@ module _ {V : Type 0} (A : Algebra V) (N : Network) where
   due_differs : (v : ℕ) (d : CoreState V) (b : ℕ) → is_due A N v d b ≡ true → same_label A (d.told b) (d.label v) ≡ true → ⊥
   unfolding is_due
   due_differs v d b t s =
-    let u : eqb (N.tail b) v && is_idle (d.token b) && not (same_label A (d.told b) (d.label v)) ≡ true = t in
-    false≢true (sym (and_right (eqb (N.tail b) v && is_idle (d.token b)) (not (same_label A (d.told b) (d.label v))) (ap not s)) ∙ u)
+      let u : eqb (N.tail b) v && is_idle (d.token b) && not (same_label A (d.told b) (d.label v)) ≡ true = t in
+      false≢true (sym (and_right (eqb (N.tail b) v && is_idle (d.token b)) (not (same_label A (d.told b) (d.label v))) (ap not s)) ∙ u)
 
   told_not_due : Lawful A → (v : ℕ) (d : CoreState V) (b : ℕ) → (N.tail b ≡ v → d.token b ≡ Idle → d.told b ≡ d.label v) → is_due A N v d b ≡ false
   told_not_due L v d b h = elim (due_tells A N L v d b) [
-      inr k ↦ k.0
-    | inl k ↦ absurd (due_differs v d b k.0 (ap (λ o. same_label A o (d.label v)) (h k.1 k.2) ∙ same_itself L (d.label v))) ]
+    | inr k ↦ k.0
+    | inl k ↦ absurd (due_differs v d b k.0 (ap (λ o. same_label A o (d.label v)) (h k.1 k.2) ∙ same_itself L (d.label v)))
+  ]
 
   -- a message that does not improve: no arc is due, so the pump does nothing
   pub quiet_message : Lawful A → (mine : ℕ → Bool) (a : ℕ) (x : V) (d : CoreState V) → mine (N.head a) ≡ true → N.head a ≢ 0 → HasTold mine 0 d → better_of A x (d.label (N.head a)) ≡ d.label (N.head a) →
-    (b : ℕ) → is_due A N (N.head a) (arrive_here A N a x d) b ≡ false
+      (b : ℕ) → is_due A N (N.head a) (arrive_here A N a x d) b ≡ false
   quiet_message L mine a x d m n H same b = told_not_due L (N.head a) (arrive_here A N a x d) b
-    (λ e i. H b (ap mine e ∙ m) (λ z. n (sym e ∙ z)) (λ z. n (sym e ∙ z)) i ∙ ap d.label e ∙ sym same ∙ sym (put-same d.label (N.head a) (better_of A x (d.label (N.head a)))))
+      (λ e i. H b (ap mine e ∙ m) (λ z. n (sym e ∙ z)) (λ z. n (sym e ∙ z)) i ∙ ap d.label e ∙ sym same ∙ sym (put-same d.label (N.head a) (better_of A x (d.label (N.head a)))))
 
   -- a signal: its own arc alone may be due
   pub quiet_signal : Lawful A → (mine : ℕ → Bool) (a : ℕ) (d : CoreState V) → mine (N.tail a) ≡ true → N.tail a ≢ 0 → HasTold mine 0 d →
-    (b : ℕ) → b ≢ a → is_due A N (N.tail a) (freed A N a d) b ≡ false
+      (b : ℕ) → b ≢ a → is_due A N (N.tail a) (freed A N a d) b ≡ false
   quiet_signal L mine a d m n H b ne = told_not_due L (N.tail a) (freed A N a d) b
-    (λ e i. H b (ap mine e ∙ m) (λ z. n (sym e ∙ z)) (λ z. n (sym e ∙ z)) (sym (put-other d.token a Idle b ne) ∙ i) ∙ ap d.label e)
+      (λ e i. H b (ap mine e ∙ m) (λ z. n (sym e ∙ z)) (λ z. n (sym e ∙ z)) (sym (put-other d.token a Idle b ne) ∙ i) ∙ ap d.label e)
 
   pub pump_nothing : (v : ℕ) (d : CoreState V) → ((b : ℕ) → is_due A N v d b ≡ false) → pump A N v d ≡ d
-  pump_nothing v d h = λ i. record { label = d.label; engager = d.engager;
+  pump_nothing v d h = λ i. record {
+    label = d.label;
+    engager = d.engager;
     token = λ b. cond-false (is_due A N v d b) (sent (extend_label A (d.label v) (N.weight b))) (d.token b) (h b) i;
-    told = λ b. cond-false (is_due A N v d b) (d.label v) (d.told b) (h b) i }
+    told = λ b. cond-false (is_due A N v d b) (d.label v) (d.told b) (h b) i;
+  }
 
   pub made_nothing : (v : ℕ) (d : CoreState V) (xs : List ℕ) → ((b : ℕ) → Listed A N b xs → is_due A N v d b ≡ false) → pump_made A N v d xs ≡ []
   made_nothing v d [] h = refl
@@ -88,17 +93,21 @@ module _ {V : Type 0} (A : Algebra V) (N : Network) where
   put-itself f g a h = λ i b. (elim (put_tells f a (g a) b) as (λ _. g b ≡ put f a (g a) b) [ inl k ↦ ap g k.0 ∙ sym k.1 | inr k ↦ h b k.0 ∙ sym k.1 ]) i
 
   pub pump_alone : (v a : ℕ) (d : CoreState V) → ((b : ℕ) → b ≢ a → is_due A N v d b ≡ false) → pump A N v d ≡ pump_one A N v a d
-  pump_alone v a d h = λ i. record { label = d.label; engager = d.engager;
+  pump_alone v a d h = λ i. record {
+    label = d.label;
+    engager = d.engager;
     token = put-itself d.token (pump A N v d).token a (λ b n. cond-false (is_due A N v d b) (sent (extend_label A (d.label v) (N.weight b))) (d.token b) (h b n)) i;
-    told = put-itself d.told (pump A N v d).told a (λ b n. cond-false (is_due A N v d b) (d.label v) (d.told b) (h b n)) i }
+    told = put-itself d.told (pump A N v d).told a (λ b n. cond-false (is_due A N v d b) (d.label v) (d.told b) (h b n)) i;
+  }
 
   pub made_alone : (v a : ℕ) (d : CoreState V) (xs : List ℕ) → IsDistinct A N xs → Listed A N a xs → ((b : ℕ) → b ≢ a → is_due A N v d b ≡ false) → pump_made A N v d xs ≡ pump_made A N v d (a ∷ [])
   made_alone v a d [] D l h = absurd l
   made_alone v a d (u ∷ us) D l h = elim (cases_eq u a) [
-      inl e ↦ (let none = made_nothing v d us (λ b k. h b (λ q. D.0 (subst (λ w. Listed A N w us) (q ∙ sym e) k))) in
+    | inl e ↦ (let none = made_nothing v d us (λ b k. h b (λ q. D.0 (subst (λ w. Listed A N w us) (q ∙ sym e) k))) in
         ap (λ zs. cond (is_due A N v d u) (item_of u (sent (extend_label A (d.label v) (N.weight u)))) [] ++ zs) none ∙ ap (λ w. pump_made A N v d (w ∷ [])) e)
     | inr n ↦ (let k : Listed A N a us = elim l [ inl e ↦ absurd (n (sym e)) | inr k ↦ k ] in
-        (λ i. cond-false (is_due A N v d u) (item_of u (sent (extend_label A (d.label v) (N.weight u)))) [] (h u n) i ++ pump_made A N v d us) ∙ made_alone v a d us D.1 k h) ]
+        (λ i. cond-false (is_due A N v d u) (item_of u (sent (extend_label A (d.label v) (N.weight u)))) [] (h u n) i ++ pump_made A N v d us) ∙ made_alone v a d us D.1 k h)
+  ]
 
   -- how many outgoing arcs are busy
   abbrev pub busy_out : ℕ → CoreState V → ℕ → ℕ
@@ -110,6 +119,7 @@ module _ {V : Type 0} (A : Algebra V) (N : Network) where
     where
       plus : (k : ℕ) → eqb k 0 ≡ eqb (0 + k) 0
       plus k = ap (λ n. eqb n 0) (let z : k ≡ 0 + k = omega arith in z)
+
       go : (s t : Bool) (k : ℕ) {u : Bool} → u ≡ eqb k 0 → ((not s || t) && u) ≡ eqb (one_if (s && not t) + k) 0
       go true true k e = e ∙ plus k
       go true false k e = sym (ne_eqb (1 + k) 0 (λ z. omega (arith, z)))

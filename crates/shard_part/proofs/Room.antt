@@ -26,8 +26,9 @@ sum_none_of f a (suc n) l h = let p = sum_none_of f a n (omega (arith, l)) h in 
 pub sum_of_one : (f : ℕ → ℕ) (a n : ℕ) → ((b : ℕ) → b ≢ a → f b ≡ 0) → f a ≤ 1 → sum_below f n ≤ 1
 sum_of_one f a zero h one = omega arith
 sum_of_one f a (suc n) h one = elim (cases_eq n a) [
-    inl e ↦ (let p = sum_none_of f a n (omega (arith, e)) h in let q = ap f e in omega (arith, p, q, one))
-  | inr ne ↦ (let p = sum_of_one f a n h one in let q = h n ne in omega (arith, p, q)) ]
+  | inl e ↦ (let p = sum_none_of f a n (omega (arith, e)) h in let q = ap f e in omega (arith, p, q, one))
+  | inr ne ↦ (let p = sum_of_one f a n h one in let q = h n ne in omega (arith, p, q))
+]
 
 one_or_left : (s t : Bool) → one_if s ≤ one_if (s || t)
 one_or_left true t = omega arith
@@ -81,20 +82,20 @@ module _ {S V : Type 0} (A : Algebra V) (N : Network) (place : ℕ → ℕ) wher
   -- the queue never outgrows its ring. With the queue joined by a batch: what `receive` asks as room
   pub queue_fits : (c : CoreState V) (p : PartData S V) → HoldsShare A N place c p → length p.queue ≤ queue_room N place p.shard
   queue_fits c p H =
-    let w = H.weighs (at_shard N place p.shard) in
-    let n = each_one (at_shard N place p.shard p.shard) p.queue (λ i. is_self p.shard) in
-    let m = sum_most (λ b. total (at_place N place (at_shard N place p.shard)) (item_of b (c.token b))) (touches N place p.shard) (suc N.arcs) (λ b. shard_most N place p.shard b (c.token b)) in
-    omega (arith, w, n, m)
+      let w = H.weighs (at_shard N place p.shard) in
+      let n = each_one (at_shard N place p.shard p.shard) p.queue (λ i. is_self p.shard) in
+      let m = sum_most (λ b. total (at_place N place (at_shard N place p.shard)) (item_of b (c.token b))) (touches N place p.shard) (suc N.arcs) (λ b. shard_most N place p.shard b (c.token b)) in
+      omega (arith, w, n, m)
 
   -- nor an outbox; that its items were made in the shard is local
   pub outbox_fits : (c : CoreState V) (p : PartData S V) (t : ℕ) → HoldsShare A N place c p → All (λ i. place (maker_of N i) ≡ p.shard) (get_or p.outs t []) → length (get_or p.outs t []) ≤ out_room N place p.shard t
   outbox_fits c p t H M =
-    let w = H.weighs (from_to N place p.shard t) in
-    let o = outs_member (from_to N place p.shard t) 0 t p.outs in
-    let z : total (from_to N place p.shard t (0 + t)) (get_or p.outs t []) ≡ total (from_to N place p.shard t t) (get_or p.outs t []) = ap (λ k. total (from_to N place p.shard t k) (get_or p.outs t [])) (let e : 0 + t ≡ t = omega arith in e) in
-    let n = all_one (from_to N place p.shard t t) (get_or p.outs t []) (ones (get_or p.outs t []) M) in
-    let m = sum_most (λ b. total (at_place N place (from_to N place p.shard t)) (item_of b (c.token b))) (joins N place p.shard t) (suc N.arcs) (λ b. pair_most N place p.shard t b (c.token b)) in
-    omega (arith, w, o, z, n, m)
+      let w = H.weighs (from_to N place p.shard t) in
+      let o = outs_member (from_to N place p.shard t) 0 t p.outs in
+      let z : total (from_to N place p.shard t (0 + t)) (get_or p.outs t []) ≡ total (from_to N place p.shard t t) (get_or p.outs t []) = ap (λ k. total (from_to N place p.shard t k) (get_or p.outs t [])) (let e : 0 + t ≡ t = omega arith in e) in
+      let n = all_one (from_to N place p.shard t t) (get_or p.outs t []) (ones (get_or p.outs t []) M) in
+      let m = sum_most (λ b. total (at_place N place (from_to N place p.shard t)) (item_of b (c.token b))) (joins N place p.shard t) (suc N.arcs) (λ b. pair_most N place p.shard t b (c.token b)) in
+      omega (arith, w, o, z, n, m)
     where
       ones : (is : List (Item V)) → All (λ i. place (maker_of N i) ≡ p.shard) is → All (λ i. from_to N place p.shard t t i ≡ 1) is
       ones [] a = tt
@@ -103,15 +104,16 @@ module _ {S V : Type 0} (A : Algebra V) (N : Network) (place : ℕ → ℕ) wher
   -- no arc twice
   pub arc_once : (c : CoreState V) (p : PartData S V) (a : ℕ) → HoldsShare A N place c p → part_weight (on_arc N place a) p ≤ 1
   arc_once c p a H =
-    let w = H.weighs (on_arc N place a) in
-    let m = sum_of_one (λ b. total (at_place N place (on_arc N place a)) (item_of b (c.token b))) a (suc N.arcs) (λ b n. off b (λ e. n (sym e)) (c.token b)) (here (c.token a)) in
-    omega (arith, w, m)
+      let w = H.weighs (on_arc N place a) in
+      let m = sum_of_one (λ b. total (at_place N place (on_arc N place a)) (item_of b (c.token b))) a (suc N.arcs) (λ b n. off b (λ e. n (sym e)) (c.token b)) (here (c.token a)) in
+      omega (arith, w, m)
     where
       off : (b : ℕ) → a ≢ b → (t : Token V) → total (at_place N place (on_arc N place a)) (item_of b t) ≡ 0
       off b n Idle = refl
       off b n Held = refl
       off b n (Message x) = let q = ap one_if (ne_eqb a b n) in omega (arith, q)
       off b n Signal = let q = ap one_if (ne_eqb a b n) in omega (arith, q)
+
       here : (t : Token V) → total (at_place N place (on_arc N place a)) (item_of a t) ≤ 1
       here Idle = omega arith
       here Held = omega arith
@@ -127,5 +129,5 @@ module _ {S V : Type 0} (A : Algebra V) (N : Network) (place : ℕ → ℕ) wher
 
   -- an arc is held exactly where its head's part names it as engager
   pub held_named : (c : CoreState V) (p : PartData S V) (a : ℕ) → Kept A N 0 c → HoldsTables A N place c p → mine place p.shard (N.head a) ≡ true →
-    ((c.token a ≡ Held → (state_in p).engager (N.head a) ≡ Some a) × ((state_in p).engager (N.head a) ≡ Some a → c.token a ≡ Held))
+      ((c.token a ≡ Held → (state_in p).engager (N.head a) ≡ Some a) × ((state_in p).engager (N.head a) ≡ Some a → c.token a ≡ Held))
   held_named c p a K H m = ((λ q. H.agree.engager (N.head a) m ∙ K.held_engager a q), (λ e. (K.engager_held (N.head a) a (sym (H.agree.engager (N.head a) m) ∙ e)).0))

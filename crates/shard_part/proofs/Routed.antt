@@ -24,22 +24,25 @@ module _ {V : Type 0} where
 
     route_one : (s : ℕ) (i : Item V) (l : Lanes V) → place (vertex_of N i) < length l.outs → Routed s l (route N place s i l) (i ∷ [])
     route_one s i l lt = elim (cases_eq (place (vertex_of N i)) s) [
-        inl same ↦ subst (λ (z : Bool). Routed s l (cond z (record { queue = l.queue ++ i ∷ []; outs = l.outs }) (record { queue = l.queue; outs = set l.outs (place (vertex_of N i)) (get_or l.outs (place (vertex_of N i)) [] ++ i ∷ []) })) (i ∷ []))
+      | inl same ↦ subst (λ (z : Bool). Routed s l (cond z (record { queue = l.queue ++ i ∷ []; outs = l.outs }) (record { queue = l.queue; outs = set l.outs (place (vertex_of N i)) (get_or l.outs (place (vertex_of N i)) [] ++ i ∷ []) })) (i ∷ []))
           (sym (eq-eqb (place (vertex_of N i)) s same))
           (record { long = refl; weighs = λ h. let p = total_append (h s) l.queue (i ∷ []) in let q : h (place (vertex_of N i)) i ≡ h s i = ap (λ (z : ℕ). h z i) same in omega (arith, p, q) })
       | inr ne ↦ subst (λ (z : Bool). Routed s l (cond z (record { queue = l.queue ++ i ∷ []; outs = l.outs }) (record { queue = l.queue; outs = set l.outs (place (vertex_of N i)) (get_or l.outs (place (vertex_of N i)) [] ++ i ∷ []) })) (i ∷ []))
           (sym (ne_eqb (place (vertex_of N i)) s ne))
-          (record { long = length-set l.outs (place (vertex_of N i)) (get_or l.outs (place (vertex_of N i)) [] ++ i ∷ []);
-            weighs = λ h. let p = outs_push h 0 (place (vertex_of N i)) l.outs i lt in let q : h (0 + place (vertex_of N i)) i ≡ h (place (vertex_of N i)) i = ap (λ (z : ℕ). h z i) (let o : 0 + place (vertex_of N i) ≡ place (vertex_of N i) = omega arith in o) in omega (arith, p, q) }) ]
+          (record {
+            long = length-set l.outs (place (vertex_of N i)) (get_or l.outs (place (vertex_of N i)) [] ++ i ∷ []);
+            weighs = λ h. let p = outs_push h 0 (place (vertex_of N i)) l.outs i lt in let q : h (0 + place (vertex_of N i)) i ≡ h (place (vertex_of N i)) i = ap (λ (z : ℕ). h z i) (let o : 0 + place (vertex_of N i) ≡ place (vertex_of N i) = omega arith in o) in omega (arith, p, q);
+          })
+    ]
 
     pub routed : (s : ℕ) (is : List (Item V)) (l : Lanes V) → ((v : ℕ) → place v < length l.outs) → Routed s l (routes N place s is l) is
     routed s [] l w = record { long = refl; weighs = λ h. omega arith }
     routed s (i ∷ is) l w =
-      let r = route_one s i l (w (vertex_of N i)) in
-      let q = routed s is (route N place s i l) (λ v. let a = w v in let b = r.long in omega (arith, a, b)) in record {
-        long = q.long ∙ r.long;
-        weighs = λ h. let x = q.weighs h in let y = r.weighs h in omega (arith, x, y);
-      }
+        let r = route_one s i l (w (vertex_of N i)) in
+        let q = routed s is (route N place s i l) (λ v. let a = w v in let b = r.long in omega (arith, a, b)) in record {
+          long = q.long ∙ r.long;
+          weighs = λ h. let x = q.weighs h in let y = r.weighs h in omega (arith, x, y);
+        }
 
     pub routes-append : (s : ℕ) (is js : List (Item V)) (l : Lanes V) → routes N place s (is ++ js) l ≡ routes N place s js (routes N place s is l)
     routes-append s [] js l = refl

@@ -24,8 +24,9 @@ sum_below_same f g (suc n) e = let p = sum_below_same f g n (λ k h. e k (omega 
 pub sum_at : (f g : ℕ → ℕ) (k n : ℕ) → k < n → ((j : ℕ) → j ≢ k → f j ≡ g j) → sum_below f n + g k ≡ sum_below g n + f k
 sum_at f g k zero h e = absurd (omega (arith, h))
 sum_at f g k (suc n) h e = elim (cases_eq k n) [
-    inl same ↦ (let p = sum_below_same f g n (λ j l. e j (λ q. omega (arith, q, l, same))) in let q : f n ≡ f k = ap f (sym same) in let r : g n ≡ g k = ap g (sym same) in omega (arith, p, q, r))
-  | inr ne ↦ (let p = sum_at f g k n (omega (arith, h, ne)) e in let q = e n (λ s. ne (sym s)) in omega (arith, p, q)) ]
+  | inl same ↦ (let p = sum_below_same f g n (λ j l. e j (λ q. omega (arith, q, l, same))) in let q : f n ≡ f k = ap f (sym same) in let r : g n ≡ g k = ap g (sym same) in omega (arith, p, q, r))
+  | inr ne ↦ (let p = sum_at f g k n (omega (arith, h, ne)) e in let q = e n (λ s. ne (sym s)) in omega (arith, p, q))
+]
 
 pub sum_zero : (f : ℕ → ℕ) (n : ℕ) → ((k : ℕ) → f k ≡ 0) → sum_below f n ≡ 0
 sum_zero f zero e = refl
@@ -35,16 +36,18 @@ sum_zero f (suc n) e = let p = sum_zero f n e in let q = e n in omega (arith, p,
 pub sum_member : (f : ℕ → ℕ) (n : ℕ) → 0 < sum_below f n → (k : ℕ) × (k < n) × (0 < f k)
 sum_member f zero h = absurd (omega (arith, h))
 sum_member f (suc n) h = elim (cases_lt 0 (f n)) [
-    inl l ↦ (n, (omega arith), l)
-  | inr l ↦ (let r = sum_member f n (omega (arith, h, l)) in (r.0, (let p = r.1 in omega (arith, p)), r.2)) ]
+  | inl l ↦ (n, (omega arith), l)
+  | inr l ↦ (let r = sum_member f n (omega (arith, h, l)) in (r.0, (let p = r.1 in omega (arith, p)), r.2))
+]
 
 module _ {V : Type 0} (A : Algebra V) (N : Network) where
   -- the items of a list, arc by arc
   pub total_by_arc : (f : Item V → ℕ) (n : ℕ) (is : List (Item V)) → ((b : ℕ) → n ≤ b → at b is ≡ []) → total f is ≡ sum_below (λ b. total f (at b is)) n
   total_by_arc f n [] h = sym (sum_zero (λ b. total f (at b [])) n (λ b. ap (total f) (at-nil b)))
   total_by_arc f n (i ∷ is) h = elim (cases_lt (item_arc i) n) [
-      inr l ↦ absurd (let g = sym (at-first A N (item_arc i) i is refl) ∙ h (item_arc i) l in cc)
+    | inr l ↦ absurd (let g = sym (at-first A N (item_arc i) i is refl) ∙ h (item_arc i) l in cc)
     | inl l ↦ (let rest = total_by_arc f n is (λ b m. sym (at-skip A N b i is (λ e. omega (arith, e, l, m))) ∙ h b m) in
         let differ = sum_at (λ b. total f (at b (i ∷ is))) (λ b. total f (at b is)) (item_arc i) n l (λ b ne. ap (total f) (at-skip A N b i is (λ e. ne (sym e)))) in
         let here : total f (at (item_arc i) (i ∷ is)) ≡ f i + total f (at (item_arc i) is) = ap (total f) (at-first A N (item_arc i) i is refl) in
-        omega (arith, rest, differ, here)) ]
+        omega (arith, rest, differ, here))
+  ]

@@ -6,10 +6,11 @@ use Rattle.path_algebra.specs.Algebra.{Algebra}
 use Rattle.road_graph.specs.Roads.{Roads, HasVertex, IsRoads}
 use Rattle.scholten_core.specs.Network.{Network}
 use Rattle.scholten_core.specs.Diffusion.{CoreState, improves, is_due, extend_label, out_idle}
+use Rattle.scholten_core.specs.Items.{item_arc}
 use Rattle.shard_part.specs.Plans.{PlanData, IsPlan}
-use Rattle.shard_part.specs.Tallies.{counted_on}
+use Rattle.shard_part.specs.Tallies.{counted_on, top}
 use Rattle.shard_part.specs.Tables.{spread}
-use Rattle.shard_part.specs.PartState.{PartData, Setup, Lanes, lanes_of, network_in, place_in, state_in, own_in, arcs_out, busy_out, outgoing, route, is_told, is_back, IsSound, queue_room, out_room}
+use Rattle.shard_part.specs.PartState.{PartData, Setup, Lanes, lanes_of, network_in, place_in, state_in, own_in, arcs_out, busy_out, outgoing, route, is_told, is_back, IsSound, queue_room, out_room, IsArc, IsClear, vertex_of}
 use Rattle.shard_part.specs.declared.tables.Tables.{Tables}
 
 -- the values of the tables, by place
@@ -80,6 +81,10 @@ abbrev pub IsCounted : {S V : Type 0} → PartData S V → Rows V → Type 0
 IsCounted p r = (j : ℕ) → j < length (own_in p.setup p.shard) →
     get_or r.deficits j 0 ≡ busy_out (network_in p.setup) (get_or (own_in p.setup p.shard) j 0) (state_in p) (suc (length p.setup.roads.arcs))
 
+-- no counter is past its top
+abbrev pub IsTallied : {S V : Type 0} → PartData S V → Type 0
+IsTallied p = (p.sent ≤ top) × (p.delivered ≤ top) × (p.signalled ≤ top) × (p.accepted ≤ top)
+
 pub record IsDesk {S V : Type 0} (p : PartData S V) (r : Rows V) (queue_capacity : ℕ) (out_capacities : List ℕ) : Type 0 where
   pub planned : IsPlanned p.setup p.shard
   pub sized : IsSized p r
@@ -87,6 +92,7 @@ pub record IsDesk {S V : Type 0} (p : PartData S V) (r : Rows V) (queue_capacity
   pub counts : IsCounted p r
   pub sound : IsSound (network_in p.setup) (place_in p.setup) p
   pub roomy : IsRoomy p queue_capacity out_capacities
+  pub tallied : IsTallied p
 
 -- the vertex v is the part's, at the place j
 pub record IsPlace {S V : Type 0} (p : PartData S V) (v j : ℕ) : Type 0 where
@@ -98,15 +104,30 @@ pub record IsRow {S V : Type 0} (p : PartData S V) (b i : ℕ) : Type 0 where
   pub inside : i < length (arcs_out (network_in p.setup) (own_in p.setup p.shard))
   pub arc : get_or (arcs_out (network_in p.setup) (own_in p.setup p.shard)) i 0 ≡ b
 
+-- the item i went from the front of the queue
+pub record IsPopped {S V : Type 0} (old new : PartData S V) (i : Item V) : Type 0 where
+  pub front : old.queue ≡ i ∷ new.queue
+  pub same : new ≡ record old { queue = new.queue }
+  pub arc : IsArc (network_in new.setup) (item_arc i)
+  pub here : place_in new.setup (vertex_of (network_in new.setup) i) ≡ new.shard
+  pub clear : IsClear new (item_arc i)
+
 module _ {S V : Type 0} where
-  -- an item is made: counted, and put where it belongs
-  abbrev pub with_item : Item V → PartData S V → PartData S V
-  with_item i p = record p {
+  -- an item is put where it belongs
+  abbrev pub put_item : Item V → PartData S V → PartData S V
+  put_item i p = record p {
     queue = (route (network_in p.setup) (place_in p.setup) p.shard i (lanes_of p)).queue;
     outs = (route (network_in p.setup) (place_in p.setup) p.shard i (lanes_of p)).outs;
-    sent = counted_on (is_told i) p.sent;
-    signalled = counted_on (is_back i) p.signalled;
   }
+
+  -- and counted
+  abbrev pub counted_made : Item V → PartData S V → PartData S V
+  counted_made (MessageOn b y) p = record p { sent = counted_on 1 p.sent }
+  counted_made (SignalOn b) p = record p { signalled = counted_on 1 p.signalled }
+
+  -- an item is made
+  abbrev pub with_item : Item V → PartData S V → PartData S V
+  with_item i p = counted_made i (put_item i p)
 
   -- a message along b, where the extension is not refused
   abbrev pub with_message : ℕ → Option V → PartData S V → PartData S V
@@ -131,7 +152,7 @@ module _ {S V : Type 0} (A : Algebra V) where
   -- the arc b out of v is told the label of v, if it is due
   abbrev pub offered : ℕ → ℕ → PartData S V → PartData S V
   offered v b p = cond (is_due A (network_in p.setup) v (state_in p) b)
-    (with_message b (extend_label A ((state_in p).label v) ((network_in p.setup).weight b)) (record p { told = set p.told b ((state_in p).label v) })) p
+      (with_message b (extend_label A ((state_in p).label v) ((network_in p.setup).weight b)) (record p { told = set p.told b ((state_in p).label v) })) p
 
   unfoldable pub offered_all : ℕ → List ℕ → PartData S V → PartData S V
   offered_all v [] p = p
@@ -143,8 +164,8 @@ module _ {S V : Type 0} (A : Algebra V) where
   -- what a message does: the label, the engager or the answer, then the arcs if the label improved, then rest
   abbrev pub with_value : ℕ → V → ℕ → PartData S V → PartData S V
   with_value a x v p = rested v (cond (improves A x ((state_in p).label v))
-    (offered_all v (outgoing (network_in p.setup) v) (greeted a v ((state_in p).engager v) (labelled x v p)))
-    (greeted a v ((state_in p).engager v) (labelled x v p)))
+      (offered_all v (outgoing (network_in p.setup) v) (greeted a v ((state_in p).engager v) (labelled x v p)))
+      (greeted a v ((state_in p).engager v) (labelled x v p)))
 
   abbrev pub with_free : ℕ → ℕ → PartData S V → PartData S V
   with_free zero v p = record p { busy = set p.busy zero false }
@@ -154,3 +175,7 @@ module _ {S V : Type 0} (A : Algebra V) where
   abbrev pub with_taken : Item V → PartData S V → PartData S V
   with_taken (MessageOn a x) p = with_value a x ((network_in p.setup).head a) (record p { delivered = counted_on 1 p.delivered })
   with_taken (SignalOn a) p = with_free a ((network_in p.setup).tail a) (record p { accepted = counted_on 1 p.accepted })
+
+  -- the front item is taken, and does what it does
+  abbrev pub HandledOne : PartData S V → PartData S V → Type 0
+  HandledOne p q = (i : Item V) × (m : PartData S V) × IsPopped p m i × (q ≡ with_taken i m)

@@ -147,8 +147,8 @@ module _ {V : Type 0} (N : Network) (place : ℕ → ℕ) where
   -- an item for the shard s itself goes to the back of the queue, another to the back of that outbox
   abbrev pub route : ℕ → Item V → Lanes V → Lanes V
   route s i l = cond (eqb (place (vertex_of N i)) s)
-    (record { queue = l.queue ++ i ∷ []; outs = l.outs })
-    (record { queue = l.queue; outs = set l.outs (place (vertex_of N i)) (get_or l.outs (place (vertex_of N i)) [] ++ i ∷ []) })
+      (record { queue = l.queue ++ i ∷ []; outs = l.outs })
+      (record { queue = l.queue; outs = set l.outs (place (vertex_of N i)) (get_or l.outs (place (vertex_of N i)) [] ++ i ∷ []) })
 
   abbrev pub routes : ℕ → List (Item V) → Lanes V → Lanes V
   routes s [] l = l
@@ -329,4 +329,3 @@ arcs_out N (v ∷ vs) = outgoing N v ++ arcs_out N vs
 -- how many arcs out of v are busy
 abbrev pub busy_out : {V : Type 0} → Network → ℕ → CoreState V → ℕ → ℕ
 busy_out N v d n = sum_below (λ b. one_if (eqb (N.tail b) v && not (is_idle (d.token b)))) n
-

@@ -19,3 +19,11 @@ IsAbsent v keys = (j : ℕ) → j < length keys → get_or keys j 0 ≢ v
 unfoldable pub placed : (ℕ → ℕ) → ℕ → ℕ → ℕ → List ℕ
 placed place s k zero = []
 placed place s k (suc n) = cond (eqb (place k) s) (k ∷ placed place s (suc k) n) (placed place s (suc k) n)
+
+-- a list that rises
+abbrev pub Rises : List ℕ → Type 0
+Rises xs = (i j : ℕ) → i < j → j < length xs → get_or xs i 0 < get_or xs j 0
+
+-- v is one of the list
+abbrev pub StandsIn : List ℕ → ℕ → Type 0
+StandsIn xs v = (j : ℕ) × (j < length xs) × (get_or xs j 0 ≡ v)

@@ -2,12 +2,16 @@
 #![tactic(auto)]
 
 mod batch;
+mod desk;
+pub mod laws;
 mod plan;
+mod search;
 mod shard;
 mod tables;
 mod tally;
 
 pub use batch::Batch;
+pub use desk::Desk;
 pub use plan::{Plan, PlanFault};
 pub use shard::Shard;
 pub use tables::Tables;

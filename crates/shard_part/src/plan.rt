@@ -38,10 +38,7 @@ impl Plan {
         ensures { IfOk result (λ p. IsBlocks n s p) }
     {
         let list = block_list(alloc, n, s)?;
-        Ok(Plan {
-            shards: s,
-            list,
-        })
+        Ok(Plan { shards: s, list })
     }
 
     /// The plan that a list tells: entry i is the shard of vertex i + 1. Refused at the first entry that is s or more, with the list.
@@ -52,10 +49,7 @@ impl Plan {
     {
         match first_bad(s, &list) {
             Some(v) => Err((PlanFault::BadShard(v), list)),
-            None => Ok(Plan {
-                shards: s,
-                list,
-            }),
+            None => Ok(Plan { shards: s, list }),
         }
     }
 

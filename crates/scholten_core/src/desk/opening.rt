@@ -24,7 +24,12 @@ fn filled<T: Copy>(alloc: Global, value: T, n: usize) -> Result<Vec<T>, AllocErr
 
 impl<'g, A: PathAlgebra> Desk<'g, A> {
     /// A message with the origin on arc 0, and nothing else.
-    pub fn open(alloc: Global, algebra: A, graph: &'g Graph, source: Vertex) -> Result<Desk<'g, A>, Memory>
+    pub fn open(
+        alloc: Global,
+        algebra: A,
+        graph: &'g Graph,
+        source: Vertex,
+    ) -> Result<Desk<'g, A>, Memory>
         requires { HasVertex graph.now source }
         ensures problem { IfOk result (λ c. c.problem ≡ record { algebra = algebra; roads = graph.now; source = source }) }
         ensures state { IfOk result (λ c. state_of c ≡ opening (A.meaning algebra) (network graph.now source)) }
@@ -38,6 +43,15 @@ impl<'g, A: PathAlgebra> Desk<'g, A> {
         let mut busy = filled(alloc, 0, vertices)?;
         tokens[0] = Token::Message(algebra.origin());
         busy[0] = 1;
-        Ok(Desk { algebra, graph, source, labels, engagers, tokens, told, busy })
+        Ok(Desk {
+            algebra,
+            graph,
+            source,
+            labels,
+            engagers,
+            tokens,
+            told,
+            busy,
+        })
     }
 }

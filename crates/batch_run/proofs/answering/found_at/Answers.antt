@@ -16,7 +16,7 @@ returns g c =
     let is_route : IsRoute c.args.tree.now c.args.target c.in-Some-2.list.items = search rules in
     let law = c.routes_follow_parents.ensures in
     let route = law.from_one_source c.args.graph.now c.args.source c.args.target c.in-Some-2.list.items
-      (law.follows c.args.graph.now c.vertices-n.ensures.roads (c.args.source ∷ []) c.args.tree.now c.requires.tree c.args.target c.requires.target c.in-Some-2.list.items is_route) in
+    (law.follows c.args.graph.now c.vertices-n.ensures.roads (c.args.source ∷ []) c.args.tree.now c.requires.tree c.args.target c.requires.target c.in-Some-2.list.items is_route) in
     record {
       code = (c.in-Some.value, best_by_label _ _ _ c.args.target c.of.result _ c.in-Some.value (c.requires.labels.best c.args.target c.requires.target) c.of.ensures (search rules), c.code.ensures);
       hops = least_by_hops _ _ _ c.args.target c.hops.result _ c.in-Some-hops.hops (c.requires.tree.hops c.args.target c.requires.target) c.hops.ensures (search rules);

@@ -1,4 +1,4 @@
-use Rattle.std.proofs.Common.{rules, ◌≡◌, ℕ, ◌+◌, ◌-◌, ◌<◌, ◌≤◌, length, ◌∙◌, arith, refl, Option, None, get_or}
+use Rattle.std.proofs.Common.{◌≡◌, ◌-◌, ◌<◌, length, ◌∙◌, arith, refl, None, get_or}
 use Rattle.std.proofs.lemmas.List.{get_or_default}
 use Rattle.path_plain.proofs.Waiting.{queue_offer, worse_than_offered, none_is_worse}
 use Rattle.path_plain.proofs.solve.offer.Goals as goal

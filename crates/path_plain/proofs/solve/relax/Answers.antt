@@ -1,6 +1,6 @@
-use Rattle.std.proofs.Common.{rules, ◌≡◌, ℕ, ◌+◌, ◌-◌, ◌<◌, ◌≤◌, List, [], length, get_or, drop, arith, sym, ap, ◌∙◌, Option, refl}
+use Rattle.std.proofs.Common.{◌≡◌, [], drop, arith, sym, ap, ◌∙◌}
 use Rattle.std.proofs.Math.ListN.{drop_of_length-le}
-use Rattle.path_algebra.specs.Walks.{offered_if, relaxed}
+use Rattle.path_algebra.specs.Walks.{offered_if}
 use Rattle.path_plain.proofs.Relaxing.{relaxed_by_roads, relaxed_is, by_roads_once, head_in, roads_short}
 use Rattle.path_plain.proofs.solve.relax.Goals as goal
 

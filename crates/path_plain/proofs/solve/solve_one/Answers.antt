@@ -1,6 +1,6 @@
-use Rattle.std.proofs.Common.{rules, ◌≡◌, ℕ, ◌+◌, ◌-◌, ◌*◌, ◌<◌, ◌≤◌, List, length, replicate, None, Some, Option, Bool, true, false, [], ◌∷◌, ◌++◌, get_or, set, take, drop, refl, ap, sym, ◌∙◌, arith, heap_items}
+use Rattle.std.proofs.Common.{◌≡◌, length, drop, refl, ◌∙◌, arith, heap_items}
 use Rattle.path_plain.proofs.Small.{written_back, none_only}
-use Rattle.path_plain.proofs.Running.{Running, run_start, run_end, top_place, run_step, run_smaller}
+use Rattle.path_plain.proofs.Running.{run_start, run_end, top_place, run_step, run_smaller}
 use Rattle.path_plain.proofs.solve.solve_one.Goals as goal
 
 pub loop-best-init : goal.loop-best-init

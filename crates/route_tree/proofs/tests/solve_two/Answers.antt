@@ -1,4 +1,3 @@
-use Rattle.std.proofs.Common.{◌≡◌, ap, sym, length, ◌∙◌}
 use Rattle.std.proofs.Common.{[], ◌∷◌}
 use Rattle.route_tree.proofs.tests.solve_two.Goals as goal
 

@@ -8,8 +8,8 @@ use Rattle.road_text.proofs.reader.LineReader.feed.Goals as goal
 pub loop-at-preserved-then-front-self : goal.loop-at-preserved-then-front-self
 loop-at-preserved-then-front-self g c =
     let xs : List ℕ = c.args.bytes.now in
-    let n : ℕ = c.plain_front-front.result in
-    let bound = c.plain_front-front.ensures.bound in
+    let n : ℕ = c.run-front.result.0 in
+    let bound = c.run-front.ensures.bound in
     let piece : List ℕ = take n (take (length xs - c.loop-at.at) (drop c.loop-at.at xs)) in
     let size : length piece ≡ n = piece_length c.loop-at.at n xs bound in
     record {

@@ -1,4 +1,4 @@
-use Rattle.std.proofs.Common.{◌++◌, sym, subst, append_assoc, true, false}
+use Rattle.std.proofs.Common.{◌++◌, List, ℕ, sym, ◌∙◌, subst, append_assoc, true, false}
 use Rattle.road_text.specs.Scans.{Shows, scan_of, word_with}
 use Rattle.road_text.specs.Slots.{word_in}
 use Rattle.road_text.specs.Standing.{Holds}
@@ -9,9 +9,10 @@ use Rattle.road_text.proofs.reader.LineReader.present_run.Goals as goal
 pub returns-clause-same : goal.returns-clause-same
 returns-clause-same g c = λ cut rest r h present held.
     let P = g.T.TakesLines.way.so_far c.args.self.now.taker in
-    let full : Shows P (scan_of c.add_held.new.self) present = rw c.add_held.ensures (shows_whole P c.args.self.now.held (scan_of c.args.self.now.scanner) present held.held held.shown) in
-    let now : Holds P true false ((scan_of c.add_held.new.self).0, word_with (scan_of c.add_held.new.self).1 c.args.bytes.now) (present ++ c.args.bytes.now) =
-    holds_run P (scan_of c.add_held.new.self) present c.args.bytes.now c.requires.some c.requires.plain full held.whole in
-    let taken : Holds P true false ((scan_of c.add_held.new.self).0, word_in c.add_all.new.self) (present ++ c.args.bytes.now) =
-    subst (λ (w : Word). Holds P true false ((scan_of c.add_held.new.self).0, w) (present ++ c.args.bytes.now)) (sym c.add_all.ensures) now in
-    rw (← append_assoc present c.args.bytes.now rest) (h (present ++ c.args.bytes.now) taken)
+    let scan = scan_of c.args.self.now.scanner in
+    let bytes : List ℕ = c.args.bytes.now in
+    let full : Shows P scan present = shows_whole P false scan present (sym c.requires.whole ∙ held.held) held.shown in
+    let now : Holds P true false (scan.0, word_with scan.1 bytes) (present ++ bytes) = holds_run P scan present bytes c.requires.some c.requires.plain full held.whole in
+    let taken : Holds P true false (scan.0, word_in c.add_run.new.self) (present ++ bytes) = subst (λ (w : Word). Holds P true false (scan.0, w) (present ++ bytes)) (sym c.add_run.ensures) now in
+    let standing : Holds P true c.args.self.now.held (scan.0, word_in c.add_run.new.self) (present ++ bytes) = rw c.requires.whole taken in
+    rw (← append_assoc present bytes rest) (h (present ++ bytes) standing)

@@ -1,4 +1,4 @@
-use Rattle.std.proofs.Common.{◌≡◌, ℕ, ◌≤◌, ap, ◌∙◌, sym, arith}
+use Rattle.std.proofs.Common.{ap}
 use Rattle.scholten_core.proofs.GraphReads.{entry_head, arc_head, is_entry, not_entry}
 use Rattle.scholten_core.proofs.desk.Desk.head.Goals as goal
 

@@ -1,4 +1,4 @@
-use Rattle.std.proofs.Common.{◌≡◌, ℕ, ◌+◌, length, ap, ◌∙◌, sym, refl, replicate, set, None}
+use Rattle.std.proofs.Common.{◌+◌, length, ap, ◌∙◌, refl, replicate, set, None}
 use Rattle.scholten_core.specs.declared.token.Token.TheVariants.{Message, Idle}
 use Rattle.scholten_core.specs.Network.{network}
 use Rattle.scholten_core.proofs.Opened.{opened_state, opened_sized}
@@ -6,7 +6,7 @@ use Rattle.scholten_core.proofs.desk.Desk.open.Goals as goal
 
 pub invariant_of-result : goal.invariant_of-result
 invariant_of-result g c =
-  opened_sized _ c.in_ok-tokens.tokens.items (Message c.origin.result) c.in_ok-busy.busy.items (record { roads = c.vertices.ensures.roads; source = c.requires })
+    opened_sized _ c.in_ok-tokens.tokens.items (Message c.origin.result) c.in_ok-busy.busy.items (record { roads = c.vertices.ensures.roads; source = c.requires })
     (c.in_ok-labels.ensures ∙ ap (λ n. replicate (n + 1) None) c.vertices.ensures.count) (c.in_ok-engagers.ensures ∙ ap (λ n. replicate (n + 1) None) c.vertices.ensures.count)
     (c.in_ok-tokens.ensures ∙ ap (λ n. replicate (n + 1) Idle) c.arcs-arcs.ensures) refl refl
     (c.in_ok-told.ensures ∙ ap (λ n. replicate (n + 1) None) c.arcs-arcs.ensures)
@@ -14,7 +14,7 @@ invariant_of-result g c =
 
 pub returns-clause-state : goal.returns-clause-state
 returns-clause-state g c =
-  opened_state (g.A.PathAlgebra.meaning c.args.algebra) (network c.args.graph.now c.args.source) c.in_ok-labels.labels.items c.in_ok-engagers.engagers.items c.in_ok-tokens.tokens.items _ c.in_ok-told.told.items
+    opened_state (g.A.PathAlgebra.meaning c.args.algebra) (network c.args.graph.now c.args.source) c.in_ok-labels.labels.items c.in_ok-engagers.engagers.items c.in_ok-tokens.tokens.items _ c.in_ok-told.told.items
     (c.args.graph.now.vertices + 1) (length c.args.graph.now.arcs)
     (c.in_ok-labels.ensures ∙ ap (λ n. replicate (n + 1) None) c.vertices.ensures.count) (c.in_ok-engagers.ensures ∙ ap (λ n. replicate (n + 1) None) c.vertices.ensures.count)
     (c.in_ok-tokens.ensures ∙ ap (λ n. replicate (n + 1) Idle) c.arcs-arcs.ensures) (ap (λ x. set c.in_ok-tokens.tokens.items 0 (Message x)) c.origin.ensures)

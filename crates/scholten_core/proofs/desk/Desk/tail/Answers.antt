@@ -1,4 +1,4 @@
-use Rattle.std.proofs.Common.{◌≡◌, ℕ, ◌≤◌, ap, ◌∙◌, sym, arith}
+use Rattle.std.proofs.Common.{ap}
 use Rattle.scholten_core.proofs.GraphReads.{entry_tail, arc_tail, is_entry, not_entry}
 use Rattle.scholten_core.proofs.desk.Desk.tail.Goals as goal
 

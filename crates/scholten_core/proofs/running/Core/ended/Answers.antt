@@ -1,4 +1,4 @@
-use Rattle.std.proofs.Common.{◌≡◌, ap, ◌∙◌, sym, subst}
+use Rattle.std.proofs.Common.{◌∙◌, sym, subst}
 use Rattle.path_algebra.specs.Algebra.{IsLawful}
 use Rattle.scholten_core.proofs.Basics.{idle-true}
 use Rattle.scholten_core.proofs.RunReads.{quiet_at, best_at}

@@ -1,0 +1,351 @@
+//! Worked answers written and read, faults by their lines, and a writer that fails at each byte.
+ghost use Rattle.std.specs.Prelude.{◌≡◌, ◌<◌, ◌≤◌, Some, length};
+
+use crate::{
+    Answer, Answers, Found, Reached, read_answers, write_answer, write_answers, write_header,
+    write_source_line, write_sources_line, write_vertex,
+};
+use arrayvec::ArrayVec;
+use ghost_count::Count;
+use path_algebra::AlgebraName;
+use road_files::Kind;
+use road_text::{Line, Plain, RoadWrite, WriteFault};
+use std::alloc::Global;
+use std::test::Fail;
+
+const SHORTEST: &[u8] =
+    b"p ans ss 1 shortest\ns 1\nd 1 0 0 0\nd 2 3 2 3\nd 3 1 1 1\nd 4 8 3 2\nu 5\n";
+
+const PAIRS: &[u8] =
+    b"p ans p2p 3 shortest\nq 1 4\nd 8 3\nr 1 3 2 4\nq 4 1\nu\nq 5 5\nd 0 0\nr 5\n";
+
+const SEVERAL: &[u8] =
+    b"p ans ms 2 shortest\nm 4 5\nd 1 3 1 5\nd 2 6 3 3\nd 3 4 2 1\nd 4 0 0 0\nd 5 0 0 0\nm 5 2\nd 1 3 1 5\nd 2 0 0 0\nd 3 4 2 1\nd 4 5 1 2\nd 5 0 0 0\n";
+
+/// Takes pieces of some size as long as there is room, and then fails.
+#[derive(Drop)]
+struct Sheet {
+    bytes: ArrayVec<u8, 256>,
+    room: usize,
+    piece: usize,
+    failed: Count,
+    ghost fits: { room ≤ 256 },
+    ghost some: { 0 < piece },
+}
+
+impl Sheet {
+    fn new(room: usize, piece: usize) -> Self
+        requires room { room ≤ 256 }
+        requires piece { 0 < piece }
+    {
+        Sheet {
+            bytes: ArrayVec::new(),
+            room,
+            piece,
+            failed: Count::new(),
+        }
+    }
+}
+
+impl RoadWrite for Sheet {
+    ghost written = { λ s. Some s.bytes.items };
+
+    ghost failures = { λ s. s.failed.total };
+
+    fn write(&mut self, buf: &[u8]) -> Result<usize, WriteFault> {
+        let mut taken = self.room.saturating_sub(self.bytes.len());
+        if self.piece < taken {
+            taken = self.piece;
+        }
+        if buf.len() < taken {
+            taken = buf.len();
+        }
+        if taken == 0 && !buf.is_empty() {
+            self.failed = self.failed.next();
+            return Err(WriteFault);
+        }
+        let Ok(()) = self.bytes.try_extend_from_slice(&buf[..taken]) else {
+            unreachable!()
+        };
+        Ok(taken)
+    }
+
+    fn flush(&mut self) -> Result<(), WriteFault> {
+        Ok(())
+    }
+}
+
+fn reached(code: u64, hops: u32, parent: u32) -> Option<Reached> {
+    Some(Reached { code, hops, parent })
+}
+
+fn shortest_answers(alloc: Global) -> Result<Answers, Fail> {
+    let lines = vec![in alloc;
+        reached(0, 0, 0),
+        reached(3, 2, 3),
+        reached(1, 1, 1),
+        reached(8, 3, 2),
+        None,
+    ]?;
+    Ok(Answers {
+        name: AlgebraName::Shortest,
+        kind: Kind::Sources,
+        n: 5,
+        list: vec![in alloc; Answer::Source { source: 1, lines }]?,
+    })
+}
+
+fn found(code: u64, hops: u32, route: Vec<u32>) -> Option<Found> {
+    Some(Found { code, hops, route })
+}
+
+fn pair_answers(alloc: Global) -> Result<Answers, Fail> {
+    let there = found(8, 3, vec![in alloc; 1, 3, 2, 4]?);
+    let here = found(0, 0, vec![in alloc; 5]?);
+    let list = vec![in alloc;
+        Answer::Pair {
+            source: 1,
+            target: 4,
+            found: there
+        },
+        Answer::Pair {
+            source: 4,
+            target: 1,
+            found: None
+        },
+        Answer::Pair {
+            source: 5,
+            target: 5,
+            found: here
+        },
+    ]?;
+    Ok(Answers {
+        name: AlgebraName::Shortest,
+        kind: Kind::Pairs,
+        n: 5,
+        list,
+    })
+}
+
+/// The text of these answers, in pieces of one byte.
+fn sheet_of(answers: &Answers) -> Sheet {
+    let mut sheet = Sheet::new(256, 1);
+    if answers.list.len() <= 2 + 1 {
+        let _ = write_answers(&mut sheet, answers);
+    }
+    sheet
+}
+
+/// The number and the line of the fault, or twice 0.
+fn outcome(alloc: Global, bytes: &[u8], n: u32) -> (u8, u64) {
+    match read_answers(alloc, &mut Plain::new(bytes), n) {
+        Ok(_) => (0, 0),
+        Err(fault) => (fault.number, fault.line),
+    }
+}
+
+/// The text that is written of what was read.
+fn read_and_written(alloc: Global, bytes: &[u8], n: u32) -> Sheet {
+    match read_answers(alloc, &mut Plain::new(bytes), n) {
+        Ok(answers) => sheet_of(&answers),
+        Err(_) => Sheet::new(0, 1),
+    }
+}
+
+#[test]
+fn five_vertices_shortest(rt: HostRuntime) -> Result<(), Fail> {
+    let sheet = sheet_of(&shortest_answers(rt.alloc())?);
+    assert_eq!(rt; sheet.bytes.as_slice(), SHORTEST);
+    Ok(())
+}
+
+#[test]
+fn pairs_with_routes(rt: HostRuntime) -> Result<(), Fail> {
+    let sheet = sheet_of(&pair_answers(rt.alloc())?);
+    assert_eq!(rt; sheet.bytes.as_slice(), PAIRS);
+    Ok(())
+}
+
+#[test]
+fn several_sources(rt: HostRuntime) -> Result<(), Fail> {
+    let alloc = rt.alloc();
+    let mut sheet = Sheet::new(256, 3);
+    let lines = vec![in alloc;
+        reached(3, 1, 5),
+        reached(6, 3, 3),
+        reached(4, 2, 1),
+        reached(0, 0, 0),
+        reached(0, 0, 0),
+    ]?;
+    let first = Answer::Multi {
+        sources: vec![in alloc; 4, 5]?,
+        lines,
+    };
+    assert_eq!(rt;
+        write_header(&mut sheet, Kind::Multi, 2, AlgebraName::Shortest),
+        Ok(())
+    );
+    assert_eq!(rt; write_answer(&mut sheet, &first), Ok(()));
+    assert_eq!(rt; write_sources_line(&mut sheet, &[5, 2]), Ok(()));
+    let mut line = Line::new();
+    let last = [
+        reached(3, 1, 5),
+        reached(0, 0, 0),
+        reached(4, 2, 1),
+        reached(5, 1, 2),
+        reached(0, 0, 0),
+    ];
+    let mut vertex = 0;
+    for reached in last {
+        vertex = u64::wrapping_add(vertex, 1);
+        assert_eq!(rt;
+            write_vertex(&mut sheet, &mut line, vertex, reached),
+            Ok(())
+        );
+    }
+    assert_eq!(rt; sheet.bytes.as_slice(), SEVERAL);
+    assert_eq!(rt; write_source_line(&mut sheet, 7), Ok(()));
+    Ok(())
+}
+
+#[test]
+fn a_writer_that_fails_at_each_byte(rt: HostRuntime) -> Result<(), Fail> {
+    let answers = pair_answers(rt.alloc())?;
+    for room in 0..PAIRS.len() {
+        for piece in [1, 256] {
+            let mut sheet = Sheet::new(room.min(256), piece);
+            assert!(rt; answers.list.len() == 3);
+            assert_eq!(rt; write_answers(&mut sheet, &answers), Err(WriteFault));
+            assert_eq!(rt; sheet.bytes.as_slice(), &PAIRS[..room]);
+        }
+    }
+    Ok(())
+}
+
+#[test]
+fn answers_read_back(rt: HostRuntime) {
+    let alloc = rt.alloc();
+    assert_eq!(rt;
+        read_and_written(alloc, SHORTEST, 5).bytes.as_slice(),
+        SHORTEST
+    );
+    assert_eq!(rt; read_and_written(alloc, PAIRS, 5).bytes.as_slice(), PAIRS);
+    assert_eq!(rt;
+        read_and_written(alloc, SEVERAL, 5).bytes.as_slice(),
+        SEVERAL
+    );
+    assert_eq!(rt;
+        outcome(
+            alloc,
+            b"p ans ss 1 shortest\ns 1\nd 1 0 0 0\nd 2 3 2 3\nd 3 1 1 1\nd 4 8 3 2\n",
+            5
+        ),
+        (36, 7)
+    );
+    assert_eq!(rt;
+        outcome(
+            alloc,
+            b"p ans ss 1 shortest\ns 1\nd 1 0 0 0\nd 2 3 2 3\nd 3 1 1 1\nd 4 8 3 2\nu 4\n",
+            5
+        ),
+        (32, 7)
+    );
+    assert_eq!(rt; outcome(alloc, b"p ans ss 1 fast\n", 5), (31, 1));
+    assert_eq!(rt; outcome(alloc, b"", 5), (30, 1));
+}
+
+#[test]
+fn faults_of_headers(rt: HostRuntime) {
+    let alloc = rt.alloc();
+    assert_eq!(rt; outcome(alloc, b"c\n\ns 1\n", 1), (30, 3));
+    assert_eq!(rt; outcome(alloc, b"pp ans ss 1 own\n", 1), (30, 1));
+    assert_eq!(rt; outcome(alloc, b"p ans ss 1\n", 1), (31, 1));
+    assert_eq!(rt; outcome(alloc, b"p aux ss 1 own\n", 1), (31, 1));
+    assert_eq!(rt; outcome(alloc, b"p ans sp 1 own\n", 1), (31, 1));
+    assert_eq!(rt; outcome(alloc, b"p ans ss x owner\n", 1), (31, 1));
+    assert_eq!(rt; outcome(alloc, b"p ans ss x within\n", 1), (34, 1));
+    assert_eq!(rt; outcome(alloc, b"p ans ss 1048577 within\n", 1), (35, 1));
+    assert_eq!(rt; outcome(alloc, b"p ans ss 1048576 within\n", 1), (36, 2));
+    assert_eq!(rt; outcome(alloc, b"p ans ss 0 reliable\n", 1), (0, 0));
+}
+
+#[test]
+fn faults_of_lines(rt: HostRuntime) {
+    let alloc = rt.alloc();
+    assert_eq!(rt; outcome(alloc, b"p ans ss 1 own\nq 1 2\n", 1), (32, 2));
+    assert_eq!(rt;
+        outcome(alloc, b"p ans ss 1 own\np ans ss 1 own\n", 1),
+        (32, 2)
+    );
+    assert_eq!(rt; outcome(alloc, b"p ans ss 1 own\ns 1 2\n", 1), (33, 2));
+    assert_eq!(rt; outcome(alloc, b"p ans ss 1 own\ns -1\n", 1), (34, 2));
+    assert_eq!(rt;
+        outcome(alloc, b"p ans ss 1 own\ns 4294967296\n", 1),
+        (35, 2)
+    );
+    assert_eq!(rt; outcome(alloc, b"p ans ss 1 own\ns 1\ndd 1\n", 1), (32, 3));
+    assert_eq!(rt;
+        outcome(alloc, b"p ans ss 1 own\ns 1\nd 2 x 0 0\n", 1),
+        (34, 3)
+    );
+    assert_eq!(rt;
+        outcome(
+            alloc,
+            b"p ans ss 1 own\ns 1\nd 2 18446744073709551616 x 0\n",
+            1
+        ),
+        (35, 3)
+    );
+    assert_eq!(rt;
+        outcome(
+            alloc,
+            b"p ans ss 1 own\ns 1\nd 1 18446744073709551615 4294967295 007\n",
+            1
+        ),
+        (0, 0)
+    );
+    assert_eq!(rt;
+        outcome(alloc, b"p ans ss 1 own\ns 1\nu 1\nc\n\nu 1\n", 1),
+        (32, 6)
+    );
+    assert_eq!(rt; outcome(alloc, b"p ans ss 1 own\ns 1\n", 0), (0, 0));
+    assert_eq!(rt; outcome(alloc, b"p ans ss 1 own\ns 1\nu 1\n", 0), (32, 3));
+}
+
+#[test]
+fn faults_of_lists(rt: HostRuntime) {
+    let alloc = rt.alloc();
+    assert_eq!(rt; outcome(alloc, b"p ans ms 1 own\nm\n", 0), (33, 2));
+    assert_eq!(rt;
+        outcome(alloc, b"p ans ms 1 own\nm 1 2 3 4 5 6 7 8\n", 0),
+        (0, 0)
+    );
+    assert_eq!(rt;
+        outcome(alloc, b"p ans ms 1 own\nm 1 2 3 4 5 6 7 x 4294967296\n", 0),
+        (34, 2)
+    );
+    assert_eq!(rt;
+        outcome(alloc, b"p ans p2p 1 own\nq 1 4\nd 8 3\nr\n", 0),
+        (33, 4)
+    );
+    assert_eq!(rt;
+        outcome(
+            alloc,
+            b"p ans p2p 1 own\nq 1 4\nd 8 3\nr 1 2 3 4 5 6 7 8 4294967296 x\n",
+            0
+        ),
+        (35, 4)
+    );
+    assert_eq!(rt;
+        outcome(alloc, b"p ans p2p 1 own\nq 1 4\nu 1\n", 0),
+        (33, 3)
+    );
+    assert_eq!(rt;
+        outcome(alloc, b"p ans p2p 1 own\nq 1 4\nr 1 4\n", 0),
+        (32, 3)
+    );
+    assert_eq!(rt;
+        outcome(alloc, b"p ans p2p 1 own\nq 1 4\nd 8 3\n", 0),
+        (36, 4)
+    );
+}

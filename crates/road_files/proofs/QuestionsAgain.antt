@@ -1,0 +1,172 @@
+-- Questions that are written are read again.
+use Rattle.std.proofs.Common.{◌≡◌, ◌≢◌, ℕ, ◌+◌, ◌*◌, ◌<◌, ◌≤◌, List, [], ◌∷◌, ◌++◌, length, map, true, Option, Some, None, Ok, refl, ap, ◌∙◌, arith, lit<, codes, decimal, append_assoc, append-nil, length-append, Vec, Global}
+use Rattle.std.specs.List.{AllByRecursion}
+use Rattle.std.proofs.lemmas.Bool.{ne_eqb, lt-ltb, le-ltb}
+use Rattle.std.proofs.lemmas.Fmt.{length-decimal-le}
+use Rattle.std.proofs.lemmas.List.{length-map}
+use Rattle.std.proofs.lemmas.List.Elements.{recursion_from_All}
+use Rattle.road_text.specs.Rules.{◌>>=◌, text_value, text_read}
+use Rattle.road_text.specs.Texts.{text_of, spelled, AreLines, IsWord, list_words}
+use Rattle.road_text.specs.Words.{word_of}
+use Rattle.road_text.proofs.RoundTrip.{decimal_is_number, word_of_number, word_by_test}
+use Rattle.road_files.specs.declared.questions.Kind.{Kind}
+use Rattle.road_files.specs.declared.questions.Kind.TheVariants.{Sources, Pairs, Multi}
+use Rattle.road_files.specs.declared.questions.Questions.{Questions}
+use Rattle.road_files.specs.declared.questions.Questions.TheVariants as variants
+use Rattle.road_files.specs.Vertices.{IsVertexOf, IsPairOf, AreSourcesOf}
+use Rattle.road_files.specs.Asked.{Question, FromSource, BetweenPair, FromSources, of_source, of_pair, of_list, asked_of, AskWithin, AreQuestionsOf}
+use Rattle.road_files.specs.Numbers.{vertex_in}
+use Rattle.road_files.specs.QuestionFiles.{may_be, question_problem, vertices_in, source_of_line, pair_of_line, sources_of_line, question_line_of, question_rules, question_end}
+use Rattle.road_files.specs.WrittenFiles.{problem_words, question_words, question_lines, questions_text}
+use Rattle.road_files.proofs.LinesAgain.{after, value_again, read_again}
+
+-- a question of this kind, of vertices of a graph with n alone
+abbrev pub IsQuestionOf : ℕ → Kind → Question → Type 0
+IsQuestionOf n Sources (FromSource s) = IsVertexOf n s
+IsQuestionOf n Pairs (BetweenPair s t) = IsVertexOf n s × IsVertexOf n t
+IsQuestionOf n Multi (FromSources ss) = AreSourcesOf n ss
+IsQuestionOf n _ _ = ⊥
+
+sources_of : (n : ℕ) (vs : List ℕ) → AllByRecursion (IsVertexOf n) vs → AllByRecursion (IsQuestionOf n Sources) (map of_source vs)
+sources_of n [] h = tt
+sources_of n (v ∷ vs) h = (h.0, sources_of n vs h.1)
+
+pairs_of : (n : ℕ) (ps : List (ℕ × ℕ)) → AllByRecursion (IsPairOf n) ps → AllByRecursion (IsQuestionOf n Pairs) (map of_pair ps)
+pairs_of n [] h = tt
+pairs_of n (p ∷ ps) h = (h.0, pairs_of n ps h.1)
+
+lists_of : (n : ℕ) (ls : List (Vec ℕ Global)) → AllByRecursion (λ (l : Vec ℕ Global). AreSourcesOf n l.items) ls → AllByRecursion (IsQuestionOf n Multi) (map of_list ls)
+lists_of n [] h = tt
+lists_of n (l ∷ ls) h = (h.0, lists_of n ls h.1)
+
+pub questions_of : (n : ℕ) (q : Questions) → AskWithin n q → AllByRecursion (IsQuestionOf n (asked_of q).kind) (asked_of q).questions
+questions_of n (variants.Sources vs) h = sources_of n vs.items (recursion_from_All (IsVertexOf n) vs.items h)
+questions_of n (variants.Pairs ps) h = pairs_of n ps.items (recursion_from_All (IsPairOf n) ps.items h)
+questions_of n (variants.Multi ls) h = lists_of n ls.items (recursion_from_All (λ (l : Vec ℕ Global). AreSourcesOf n l.items) ls.items h)
+
+pub problem_step : (only : Option Kind) (kind : Kind) (k : ℕ) → may_be only kind ≡ true → k ≤ 1048576 → question_problem only None (map word_of (problem_words kind k)) ≡ Ok (Some (record { kind = kind; announced = k; questions = [] }))
+unfolding question_problem
+problem_step only Sources k may small = rw (may, decimal_is_number k (omega arith), le-ltb 1048576 k small) refl
+problem_step only Pairs k may small = rw (may, decimal_is_number k (omega arith), le-ltb 1048576 k small) refl
+problem_step only Multi k may small = rw (may, decimal_is_number k (omega arith), le-ltb 1048576 k small) refl
+
+first_line : (n : ℕ) (only : Option Kind) (kind : Kind) (k : ℕ) → may_be only kind ≡ true → k ≤ 1048576 → (question_rules n only).line None (problem_words kind k) ≡ Ok (Some (record { kind = kind; announced = k; questions = [] }))
+unfolding question_line_of
+first_line n only kind k may small = problem_step only kind k may small
+
+vertex_again : (n v : ℕ) → n ≤ 33554432 → IsVertexOf n v → vertex_in n (word_of (decimal v)).number ≡ Ok v
+vertex_again n v small h = rw (decimal_is_number v (omega (arith, h.1)), ne_eqb v 0 (λ e. omega (arith, h.0)), le-ltb n v h.1) refl
+
+vertices_again : (n : ℕ) (vs : List ℕ) → n ≤ 33554432 → AllByRecursion (IsVertexOf n) vs → vertices_in n (map word_of (map decimal vs)) ≡ Ok vs
+vertices_again n [] small h = refl
+vertices_again n (v ∷ vs) small h = rw (vertex_again n v small h.0, vertices_again n vs small h.1) refl
+
+question_step : (n : ℕ) (only : Option Kind) (kind : Kind) (k : ℕ) (done : List Question) (q : Question) → n ≤ 33554432 → length done < k → IsQuestionOf n kind q
+    → (question_rules n only).line (Some (record { kind = kind; announced = k; questions = done })) (question_words q) ≡ Ok (Some (record { kind = kind; announced = k; questions = done ++ q ∷ [] }))
+unfolding question_line_of source_of_line pair_of_line sources_of_line
+question_step n only Sources k done (FromSource s) small room h = rw (lt-ltb (length done) k room, vertex_again n s small h) refl
+question_step n only Pairs k done (BetweenPair s t) small room h = rw (lt-ltb (length done) k room, vertex_again n s small h.0, vertex_again n t small h.1) refl
+question_step n only Multi k done (FromSources ss) small room h =
+    let some = h.some in let few = h.few in
+    let many : length (map word_of (list_words (codes "m") ss)) ≡ length ss + 1 = omega (arith, length-map (map decimal ss) word_of, length-map ss decimal) in
+    rw (
+      lt-ltb (length done) k room,
+      ne_eqb (length (map word_of (list_words (codes "m") ss))) 0 (λ e. omega (arith, many)),
+      lt-ltb 1 (length (map word_of (list_words (codes "m") ss))) (omega (arith, many)),
+      lt-ltb (length (map word_of (list_words (codes "m") ss))) 1026 (omega (arith, many)),
+      vertices_again n ss small (recursion_from_All (IsVertexOf n) ss h.vertices),
+    ) refl
+question_step n only Sources k done (BetweenPair s t) small room h = absurd h
+question_step n only Sources k done (FromSources ss) small room h = absurd h
+question_step n only Pairs k done (FromSource s) small room h = absurd h
+question_step n only Pairs k done (FromSources ss) small room h = absurd h
+question_step n only Multi k done (FromSource s) small room h = absurd h
+question_step n only Multi k done (BetweenPair s t) small room h = absurd h
+
+pub questions_after : (n : ℕ) (only : Option Kind) (kind : Kind) (k : ℕ) (done qs : List Question) → n ≤ 33554432 → length done + length qs ≤ k → AllByRecursion (IsQuestionOf n kind) qs
+    → after (question_rules n only) (Some (record { kind = kind; announced = k; questions = done })) (map question_words qs) ≡ Ok (Some (record { kind = kind; announced = k; questions = done ++ qs }))
+questions_after n only kind k done [] small room h = rw (append-nil done) refl
+questions_after n only kind k done (q ∷ qs) small room h =
+    ap (λ r. r >>= λ t. after (question_rules n only) t (map question_words qs)) (question_step n only kind k done q small (omega arith) h.0)
+    ∙ questions_after n only kind k (done ++ q ∷ []) qs small (omega (arith, length-append done (q ∷ []))) h.1 ∙ ap (λ xs. Ok (Some (record { kind = kind; announced = k; questions = xs }))) (append_assoc done (q ∷ []) qs)
+
+numbers_are_words : (n : ℕ) (vs : List ℕ) → n ≤ 33554432 → AllByRecursion (IsVertexOf n) vs → AllByRecursion IsWord (map decimal vs)
+numbers_are_words n [] small h = tt
+numbers_are_words n (v ∷ vs) small h = (word_of_number v (omega (arith, h.0.1)), numbers_are_words n vs small h.1)
+
+question_is_line : (n : ℕ) (kind : Kind) (q : Question) → n ≤ 33554432 → IsQuestionOf n kind q → AllByRecursion IsWord (question_words q)
+question_is_line n Sources (FromSource s) small h = (word_by_test (codes "s") refl, (word_of_number s (omega (arith, h.1)), tt))
+question_is_line n Pairs (BetweenPair s t) small h = (word_by_test (codes "q") refl, (word_of_number s (omega (arith, h.0.1)), (word_of_number t (omega (arith, h.1.1)), tt)))
+question_is_line n Multi (FromSources ss) small h = (word_by_test (codes "m") refl, numbers_are_words n ss small (recursion_from_All (IsVertexOf n) ss h.vertices))
+question_is_line n Sources (BetweenPair s t) small h = absurd h
+question_is_line n Sources (FromSources ss) small h = absurd h
+question_is_line n Pairs (FromSource s) small h = absurd h
+question_is_line n Pairs (FromSources ss) small h = absurd h
+question_is_line n Multi (FromSource s) small h = absurd h
+question_is_line n Multi (BetweenPair s t) small h = absurd h
+
+pub questions_are_lines : (n : ℕ) (kind : Kind) (qs : List Question) → n ≤ 33554432 → AllByRecursion (IsQuestionOf n kind) qs → AreLines (map question_words qs)
+questions_are_lines n kind [] small h = tt
+questions_are_lines n kind (q ∷ qs) small h = (question_is_line n kind q small h.0, questions_are_lines n kind qs small h.1)
+
+pub problem_is_line : (kind : Kind) (k : ℕ) → k ≤ 1048576 → AllByRecursion IsWord (problem_words kind k)
+problem_is_line Sources k small = (word_by_test (codes "p") refl, (word_by_test (codes "aux") refl, (word_by_test (codes "sp") refl, (word_by_test (codes "ss") refl, (word_of_number k (omega arith), tt)))))
+problem_is_line Pairs k small = (word_by_test (codes "p") refl, (word_by_test (codes "aux") refl, (word_by_test (codes "sp") refl, (word_by_test (codes "p2p") refl, (word_of_number k (omega arith), tt)))))
+problem_is_line Multi k small = (word_by_test (codes "p") refl, (word_by_test (codes "aux") refl, (word_by_test (codes "sp") refl, (word_by_test (codes "ms") refl, (word_of_number k (omega arith), tt)))))
+
+-- the text of questions, as a whole, has their value
+pub value_of_questions : (n : ℕ) (only : Option Kind) (q : Questions) → n ≤ 33554432 → may_be only (asked_of q).kind ≡ true → AreQuestionsOf n q → text_value (question_rules n only) (questions_text (asked_of q)) ≡ Ok (asked_of q)
+unfolding questions_text
+value_of_questions n only q small may h =
+    let a = asked_of q in
+    let k = length (asked_of q).questions in
+    let all : AllByRecursion (IsQuestionOf n (asked_of q).kind) (asked_of q).questions = questions_of n q h.within in
+    let read : after (question_rules n only) None (question_lines (asked_of q)) ≡ Ok (Some (record { kind = (asked_of q).kind; announced = length (asked_of q).questions; questions = (asked_of q).questions })) =
+    ap (λ r. r >>= λ t. after (question_rules n only) t (map question_words (asked_of q).questions)) (first_line n only a.kind k may h.few)
+    ∙ questions_after n only a.kind k [] a.questions small (omega arith) all in
+    let ended : question_end (Some (record { kind = (asked_of q).kind; announced = length (asked_of q).questions; questions = (asked_of q).questions })) ≡ Ok (asked_of q) = rw (le-ltb k k (omega arith)) refl in
+    value_again (question_rules n only) _ a (question_lines a) (problem_is_line a.kind k h.few, questions_are_lines n a.kind a.questions small all) read ended
+
+-- a line of a source or of a pair has at most 20 bytes
+question_length : (n : ℕ) (kind : Kind) (q : Question) → n ≤ 33554432 → kind ≢ Multi → IsQuestionOf n kind q → length (spelled (question_words q)) ≤ 20
+unfolding spelled
+question_length n Sources (FromSource s) small other h =
+    let t : length (decimal s) ≤ 8 = length-decimal-le 8 s (lit< tt) (omega (arith, h.1)) (omega (arith, h.1)) in
+    simp length-append (omega arith)
+question_length n Pairs (BetweenPair s t) small other h =
+    let u : length (decimal s) ≤ 8 = length-decimal-le 8 s (lit< tt) (omega (arith, h.0.1)) (omega (arith, h.0.1)) in
+    let v : length (decimal t) ≤ 8 = length-decimal-le 8 t (lit< tt) (omega (arith, h.1.1)) (omega (arith, h.1.1)) in
+    simp length-append (omega arith)
+question_length n Multi q small other h = absurd (other refl)
+question_length n Sources (BetweenPair s t) small other h = absurd h
+question_length n Sources (FromSources ss) small other h = absurd h
+question_length n Pairs (FromSource s) small other h = absurd h
+question_length n Pairs (FromSources ss) small other h = absurd h
+
+questions_length : (n : ℕ) (kind : Kind) (qs : List Question) → n ≤ 33554432 → kind ≢ Multi → AllByRecursion (IsQuestionOf n kind) qs → length (text_of (map question_words qs)) ≤ 20 * length qs
+questions_length n kind [] small other h = omega arith
+questions_length n kind (q ∷ qs) small other h =
+    let here : length (spelled (question_words q)) ≤ 20 = question_length n kind q small other h.0 in
+    let rest : length (text_of (map question_words qs)) ≤ 20 * length qs = questions_length n kind qs small other h.1 in
+    let both : length (spelled (question_words q) ++ text_of (map question_words qs)) ≡ length (spelled (question_words q)) + length (text_of (map question_words qs)) = length-append (spelled (question_words q)) (text_of (map question_words qs)) in
+    omega arith
+
+problem_length : (kind : Kind) (k : ℕ) → k ≤ 1048576 → length (spelled (problem_words kind k)) ≤ 21
+unfolding spelled
+problem_length Sources k small = let t : length (decimal k) ≤ 7 = length-decimal-le 7 k (lit< tt) (omega arith) (omega arith) in simp length-append (omega arith)
+problem_length Pairs k small = let t : length (decimal k) ≤ 7 = length-decimal-le 7 k (lit< tt) (omega arith) (omega arith) in simp length-append (omega arith)
+problem_length Multi k small = let t : length (decimal k) ≤ 7 = length-decimal-le 7 k (lit< tt) (omega arith) (omega arith) in simp length-append (omega arith)
+
+-- only lists of sources can make a text longer than a text may be
+pub short_text : (n : ℕ) (q : Questions) → n ≤ 33554432 → (asked_of q).kind ≢ Multi → AreQuestionsOf n q → length (questions_text (asked_of q)) ≤ 20 * 1048576 + 21
+unfolding questions_text
+short_text n q small other h =
+    let few = h.few in
+    let first : length (spelled (problem_words (asked_of q).kind (length (asked_of q).questions))) ≤ 21 = problem_length (asked_of q).kind (length (asked_of q).questions) h.few in
+    let rest : length (text_of (map question_words (asked_of q).questions)) ≤ 20 * length (asked_of q).questions = questions_length n (asked_of q).kind (asked_of q).questions small other (questions_of n q h.within) in
+    let both : length (spelled (problem_words (asked_of q).kind (length (asked_of q).questions)) ++ text_of (map question_words (asked_of q).questions)) ≡ length (spelled (problem_words (asked_of q).kind (length (asked_of q).questions))) + length (text_of (map question_words (asked_of q).questions)) = length-append (spelled (problem_words (asked_of q).kind (length (asked_of q).questions))) (text_of (map question_words (asked_of q).questions)) in
+    omega arith
+
+-- the text of questions has their value, where it is not too long
+pub questions_again : (n : ℕ) (only : Option Kind) (q : Questions) → n ≤ 33554432 → may_be only (asked_of q).kind ≡ true → AreQuestionsOf n q → length (questions_text (asked_of q)) ≤ 4294967296 → text_read (question_rules n only) (questions_text (asked_of q)) ≡ Ok (asked_of q)
+questions_again n only q small may h few = read_again (question_rules n only) (asked_of q) (questions_text (asked_of q)) few (value_of_questions n only q small may h)

@@ -1,0 +1,16 @@
+use Rattle.std.proofs.Common.{◌∙◌, ℕ, ap, map, sym}
+use Rattle.std.proofs.lemmas.List.{length-map}
+use Rattle.road_text.specs.Texts.{spelled}
+use Rattle.road_files.specs.declared.questions.Kind.TheVariants.{Multi}
+use Rattle.road_files.specs.Asked.{of_list}
+use Rattle.road_files.specs.WrittenFiles.{problem_words}
+use Rattle.road_files.proofs.LinesInARow.{questions_then, questions_fell}
+use Rattle.road_files.proofs.writing.write_ms.Goals as goal
+
+pub returns-in-Ok : goal.returns-in-Ok
+returns-in-Ok g c = questions_then _ _ _ _ _ _ _ (record { kind = Multi; questions = map of_list c.args.lists.now }) _
+    (c.as_bytes.ensures.value ∙ c.as_str.ensures.value ∙ c.line_of_problem-line.ensures ∙ ap (λ (k : ℕ). spelled (problem_words Multi k)) (sym (length-map c.args.lists.now of_list))) c.in-Ok.ensures c.write_lists.ensures
+
+pub returns-in-Err : goal.returns-in-Err
+returns-in-Err g c = questions_fell _ _ _ _ _ (record { kind = Multi; questions = map of_list c.args.lists.now })
+    (c.as_bytes.ensures.value ∙ c.as_str.ensures.value ∙ c.line_of_problem-line.ensures ∙ ap (λ (k : ℕ). spelled (problem_words Multi k)) (sym (length-map c.args.lists.now of_list))) c.in-Err.ensures

@@ -1,0 +1,36 @@
+//! Laws over the definitions: what is written is read again.
+ghost use Rattle.std.specs.Prelude.{◌≡◌, ◌≢◌, ℕ, ◌≤◌, ◌++◌, Ok, length, Option, true};
+ghost use Rattle.road_graph.specs.Roads.{Roads, IsRoads};
+ghost use Rattle.road_text.specs.Rules.{text_read};
+ghost use Rattle.road_files.specs.declared.questions.Questions.{Questions};
+ghost use Rattle.road_files.specs.Asked.{asked_of, AreQuestionsOf};
+ghost use Rattle.road_files.specs.BundleFiles.{bundle_rules};
+ghost use Rattle.road_files.specs.GraphFiles.{gr_rules};
+ghost use Rattle.road_files.specs.QuestionFiles.{question_rules, may_be};
+ghost use Rattle.road_files.specs.WrittenFiles.{gr_text, questions_text};
+
+use crate::questions::Kind;
+
+/// The text of a graph has the graph as its value.
+#[tactic(auto, using(crate::proofs::GraphAgain::graph_again))]
+pub fn graph_read_again()
+    ensures { (g : Roads) → IsRoads g → text_read gr_rules (gr_text g) ≡ Ok g }
+{}
+
+/// The text of questions over a graph with n vertices has the questions as its value, where a file may be of their
+/// kind, and where it is no longer than a text may be: only lists of sources can make it so long.
+#[tactic(auto, using(crate::proofs::QuestionsAgain::questions_again, crate::proofs::QuestionsAgain::short_text))]
+pub fn questions_read_again()
+    ensures value { (n : ℕ) (only : Option Kind) (q : Questions) → n ≤ 33554432 → may_be only (asked_of q).kind ≡ true → AreQuestionsOf n q → length (questions_text (asked_of q)) ≤ 4294967296 →
+        text_read (question_rules n only) (questions_text (asked_of q)) ≡ Ok (asked_of q) }
+    ensures short { (n : ℕ) (q : Questions) → n ≤ 33554432 → (asked_of q).kind ≢ Kind.Multi → AreQuestionsOf n q → length (questions_text (asked_of q)) ≤ 4294967296 }
+{}
+
+/// The text of a graph and then that of questions over it is a bundle of both, where it is no longer than a text may
+/// be: only lists of sources can make it so long.
+#[tactic(auto, using(crate::proofs::BundleAgain::bundle_again, crate::proofs::BundleAgain::short_bundle))]
+pub fn bundle_read_again()
+    ensures value { (g : Roads) (q : Questions) → IsRoads g → AreQuestionsOf g.vertices q → length (gr_text g ++ questions_text (asked_of q)) ≤ 4294967296 →
+        text_read bundle_rules (gr_text g ++ questions_text (asked_of q)) ≡ Ok (g, asked_of q) }
+    ensures short { (g : Roads) (q : Questions) → IsRoads g → AreQuestionsOf g.vertices q → (asked_of q).kind ≢ Kind.Multi → length (gr_text g ++ questions_text (asked_of q)) ≤ 4294967296 }
+{}

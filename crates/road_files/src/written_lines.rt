@@ -1,0 +1,91 @@
+//! Lines of files, each put together before it is written.
+ghost use Rattle.std.specs.Prelude.{◌≡◌, ◌∷◌, ◌≤◌, [], codes, decimal, length};
+ghost use Rattle.road_text.specs.Texts.{spelled};
+ghost use Rattle.road_files.specs.WrittenFiles.{graph_words, arc_words, kind_word, problem_words, question_words};
+ghost use Rattle.road_files.specs.Asked.{FromSource, BetweenPair};
+
+use crate::questions::Kind;
+use road_graph::{RoadArc, Vertex};
+use road_text::{Line, push_spaced};
+
+/// The problem line of a graph file.
+#[tactic(auto, unfolding(road_text::specs::Texts::spelled))]
+pub fn line_of_graph(vertices: u32, arcs: u64) -> Line
+    ensures { result.bytes ≡ spelled (graph_words vertices arcs) }
+{
+    let mut line = Line::new();
+    line.push_str("p sp");
+    push_spaced(&mut line, u64::from(vertices));
+    push_spaced(&mut line, arcs);
+    line.push_str("\n");
+    line
+}
+
+/// The line of an arc.
+#[tactic(auto, unfolding(road_text::specs::Texts::spelled))]
+pub fn fill_arc(line: &mut Line, arc: RoadArc)
+    ensures { line.new.bytes ≡ spelled (arc_words arc) }
+{
+    line.clear();
+    line.push_str("a");
+    push_spaced(line, u64::from(arc.tail.0));
+    push_spaced(line, u64::from(arc.head.0));
+    push_spaced(line, u64::from(arc.weight));
+    line.push_str("\n");
+}
+
+fn word_of(kind: Kind) -> &'static str
+    ensures word { result.now ≡ kind_word kind }
+    ensures short { length result.now ≤ 3 }
+{
+    match kind {
+        Kind::Sources => "ss",
+        Kind::Pairs => "p2p",
+        Kind::Multi => "ms",
+    }
+}
+
+/// The problem line of a question file.
+#[tactic(auto, unfolding(road_text::specs::Texts::spelled))]
+pub fn line_of_problem(kind: Kind, count: u64) -> Line
+    ensures { result.bytes ≡ spelled (problem_words kind count) }
+{
+    let mut line = Line::new();
+    line.push_str("p aux sp ");
+    line.push_str(word_of(kind));
+    push_spaced(&mut line, count);
+    line.push_str("\n");
+    line
+}
+
+/// The line of a source.
+#[tactic(auto, unfolding(road_text::specs::Texts::spelled))]
+pub fn fill_source(line: &mut Line, source: Vertex)
+    ensures { line.new.bytes ≡ spelled (question_words (FromSource source)) }
+{
+    line.clear();
+    line.push_str("s");
+    push_spaced(line, u64::from(source.0));
+    line.push_str("\n");
+}
+
+/// The line of a pair.
+#[tactic(auto, unfolding(road_text::specs::Texts::spelled))]
+pub fn fill_pair(line: &mut Line, pair: (Vertex, Vertex))
+    ensures { line.new.bytes ≡ spelled (question_words (BetweenPair pair.0 pair.1)) }
+{
+    let (source, target) = pair;
+    line.clear();
+    line.push_str("q");
+    push_spaced(line, u64::from(source.0));
+    push_spaced(line, u64::from(target.0));
+    line.push_str("\n");
+}
+
+/// A vertex of a list, behind a space.
+pub fn fill_vertex(line: &mut Line, vertex: Vertex)
+    ensures { line.new.bytes ≡ 32 ∷ decimal vertex }
+{
+    line.clear();
+    push_spaced(line, u64::from(vertex.0));
+}

@@ -1,0 +1,145 @@
+-- What the graph and the plan say of the network's arcs and places.
+use Rattle.std.proofs.Common.{◌≡◌, ◌≢◌, ℕ, zero, suc, ◌+◌, ◌-◌, ◌<◌, ◌≤◌, Bool, true, false, List, [], ◌∷◌, length, get_or, take, ◌⊎◌, refl, sym, ap, ◌∙◌, subst, inl, inr, arith}
+use Rattle.std.proofs.lemmas.Bool.{cases_eq, cases_lt}
+use Rattle.std.proofs.lemmas.List.{get_or_read}
+use Rattle.path_algebra.specs.Algebra.{Algebra}
+use Rattle.road_graph.specs.Roads.{Roads, IsRoads, HasVertex, HasArc, ListsArcsFrom, IsAscendingFrom, arc_of}
+use Rattle.scholten_core.specs.Network.{Network, network, tail_of, head_of}
+use Rattle.scholten_core.specs.Diffusion.{Listed}
+use Rattle.scholten_core.proofs.Networks.{out_of, real_arc, tail-arc, head-arc, weight-arc, tail-entry, head-entry}
+use Rattle.shard_part.specs.Plans.{PlanData, shard_in, HasPlanned}
+use Rattle.shard_part.specs.PartState.{Setup, PartData, network_in, place_in, arcs_from, outgoing, IsArc, own_in, arcs_out}
+use Rattle.shard_part.specs.Desk.{Rows, IsDesk, IsPlanned, IsPlace, IsRow}
+use Rattle.shard_part.specs.Tables.{Rises, StandsIn}
+use Rattle.shard_part.proofs.Ascending.{Ascends, arcs_are}
+use Rattle.shard_part.proofs.Places.{outgoing_picked, arc_at_place, own_rises, own_all}
+
+module _ {V : Type 0} (A : Algebra V) (N : Network) where
+  pub listed_in : (b : ℕ) (xs : List ℕ) → Listed A N b xs → (j : ℕ) × (j < length xs) × (get_or xs j 0 ≡ b)
+  listed_in b [] l = absurd l
+  listed_in b (x ∷ xs) l = elim l [
+    | inl e ↦ (0, (let z : 0 < suc (length xs) = omega arith in z), sym e)
+    | inr m ↦ (let r = listed_in b xs m in (suc r.0, (let z = r.1 in omega (arith, z)), r.2))
+  ]
+
+  pub in_listed : (b : ℕ) (xs : List ℕ) (j : ℕ) → j < length xs → get_or xs j 0 ≡ b → Listed A N b xs
+  in_listed b [] j l e = absurd (omega arith)
+  in_listed b (x ∷ xs) zero l e = inl (sym e)
+  in_listed b (x ∷ xs) (suc j) l e = inr (in_listed b xs j (omega arith) e)
+
+rising : (low : ℕ) (xs : List ℕ) → IsAscendingFrom low xs → Ascends (suc low) xs
+rising low [] h = tt
+rising low (x ∷ xs) h = ((let l = h.0 in omega (arith, l)), rising x xs h.1)
+
+from_none : (k : ℕ) (xs : List ℕ) → Ascends (suc k) xs → Ascends k xs
+from_none k [] h = tt
+from_none k (x ∷ xs) h = ((let l = h.0 in omega (arith, l)), h.1)
+
+-- the graph's list of the arcs out of v is the one list
+pub out_is : {V : Type 0} (A : Algebra V) (g : Roads) (s v : ℕ) (xs : List ℕ) → 1 ≤ v → ListsArcsFrom g v xs → xs ≡ outgoing (network g s) v
+out_is A g s v xs l o =
+    let O = out_of g s v xs l o in
+    arcs_are A (network g s) v 0 (suc (length g.arcs)) xs (from_none 0 xs (rising 0 xs o.ascending))
+    (λ b m. let r = listed_in A (network g s) b xs m in (ap (network g s).tail (sym r.2) ∙ O.tail r.0 r.1, (let h = O.high r.0 r.1 in let e = r.2 in omega (arith, h, e))))
+    (λ b t h k. let r = O.all b t in in_listed A (network g s) b xs r.0 r.1 r.2)
+
+-- the environment's arc stands alone
+pub entry_first : (g : Roads) (s : ℕ) → (0 < length (outgoing (network g s) 0)) × (get_or (outgoing (network g s) 0) 0 0 ≡ 0)
+entry_first g s =
+    let P = outgoing_picked (network g s) 0 in
+    let r = P.all 0 (tail-entry g) (omega arith) (omega arith) in
+    let l : 0 < length (outgoing (network g s) 0) = (let z = r.1 in omega (arith, z)) in (
+      l,
+      elim (cases_eq r.0 0) [
+        | inl e ↦ ap (λ i. get_or (outgoing (network g s) 0) i 0) (sym e) ∙ r.2
+        | inr ne ↦ absurd (let h = P.rises 0 r.0 (omega (arith, ne)) r.1 in let e = r.2 in omega (arith, h, e))
+      ],
+    )
+
+module _ {S : Type 0} (t : Setup S) where
+  pub place_vertex : (v : ℕ) → 1 ≤ v → place_in t v ≡ shard_in t.plan v
+  unfolding place_in
+  place_vertex zero l = absurd (omega arith)
+  place_vertex (suc v) l = let e : suc v - 1 ≡ v = omega arith in ap (λ k. get_or t.plan.list k 0) (sym e)
+
+  pub place_entry : 1 ≤ t.source → place_in t 0 ≡ shard_in t.plan t.source
+  unfolding place_in
+  place_entry l = refl
+
+  -- the place of the vertex that stands for it
+  pub placed_as : (v w : ℕ) → 1 ≤ t.source → ((v ≡ 0) × (w ≡ t.source)) ⊎ ((1 ≤ v) × (w ≡ v)) → place_in t v ≡ shard_in t.plan w
+  placed_as v w l h = elim h [
+    | inl k ↦ ap (place_in t) k.0 ∙ place_entry l ∙ ap (shard_in t.plan) (sym k.1)
+    | inr k ↦ place_vertex v k.0 ∙ ap (shard_in t.plan) (sym k.1)
+  ]
+
+  pub graph_arc : (b : ℕ) → b ≢ 0 → IsArc (network_in t) b → HasArc t.roads b
+  graph_arc b n r = real_arc t.roads b (r.1 n)
+
+  pub head_of_arc : IsRoads t.roads → (b : ℕ) → b ≢ 0 → IsArc (network_in t) b → ((network_in t).head b ≡ (arc_of t.roads b).head) × (1 ≤ (network_in t).head b) × ((network_in t).head b ≤ t.roads.vertices)
+  head_of_arc R b n r = let h = graph_arc b n r in let e = head-arc t.roads t.source b h.0 in let j = (R.ends b h).1 in
+      (e, (let a = j.0 in omega (arith, e, a)), (let a = j.1 in omega (arith, e, a)))
+
+  pub tail_of_arc : IsRoads t.roads → (b : ℕ) → b ≢ 0 → IsArc (network_in t) b → ((network_in t).tail b ≡ (arc_of t.roads b).tail) × (1 ≤ (network_in t).tail b) × ((network_in t).tail b ≤ t.roads.vertices)
+  tail_of_arc R b n r = let h = graph_arc b n r in let e = tail-arc t.roads b h.0 in let j = (R.ends b h).0 in
+      (e, (let a = j.0 in omega (arith, e, a)), (let a = j.1 in omega (arith, e, a)))
+
+  pub head_of_entry : HasVertex t.roads t.source → ((network_in t).head 0 ≡ t.source)
+  head_of_entry h = head-entry t.roads t.source
+
+  pub tail_of_entry : (network_in t).tail 0 ≡ 0
+  tail_of_entry = tail-entry t.roads
+
+module _ {S V : Type 0} where
+  -- where the arcs of a place begin
+  pub row_leaves : (p old : PartData S V) (r : Rows V) (n : ℕ) (ns : List ℕ) (v j k d : ℕ) → p ≡ old → IsDesk p r n ns → IsPlace old v j → k < length (outgoing (network_in old.setup) v) → d ≡ get_or r.offsets j d →
+      (d + k < length r.busy) × IsRow old (get_or (outgoing (network_in old.setup) v) k 0) (d + k)
+  row_leaves p old r n ns v j k d e D Q l h =
+      let P : IsPlace p v j = subst (λ (u : PartData S V). IsPlace u v j) (sym e) Q in
+      let l2 : k < length (outgoing (network_in p.setup) (get_or (own_in p.setup p.shard) j 0)) = subst (λ w. k < length (outgoing (network_in p.setup) w)) (sym P.vertex) (subst (λ (u : PartData S V). k < length (outgoing (network_in u.setup) v)) (sym e) l) in
+      let A = arc_at_place (network_in p.setup) (own_in p.setup p.shard) j k P.inside l2 in
+      let o : d ≡ length (arcs_out (network_in p.setup) (take j (own_in p.setup p.shard))) = get_or_read r.offsets j d (let q = D.sized.offsets in let z = P.inside in omega (arith, q, z)) h 0 ∙ D.sized.starts j P.inside in (
+        (let a = A.0 in let b = D.sized.busy in omega (arith, a, b, o)),
+        subst (λ (u : PartData S V). IsRow u (get_or (outgoing (network_in u.setup) v) k 0) (d + k)) e (record {
+          inside = (let a = A.0 in omega (arith, a, o));
+          arc = ap (λ i. get_or (arcs_out (network_in p.setup) (own_in p.setup p.shard)) (i + k) 0) o ∙ A.1 ∙ ap (λ w. get_or (outgoing (network_in p.setup) w) k 0) P.vertex;
+        }),
+      )
+
+  pub own_rising : (p old : PartData S V) (r : Rows V) (n : ℕ) (ns : List ℕ) (xs : List ℕ) (v : ℕ) → p ≡ old → IsDesk p r n ns → xs ≡ r.own → v ≤ old.setup.roads.vertices → (v ≢ 0 → place_in old.setup v ≡ old.shard) → Rises xs × StandsIn xs v
+  own_rising p old r n ns xs v e D x l h =
+      subst (λ ys. Rises ys × StandsIn ys v) (sym (x ∙ D.sized.own)) (
+        own_rises p.setup p.shard,
+        own_all p.setup p.shard v (subst (λ (u : PartData S V). v ≤ u.setup.roads.vertices) (sym e) l) (subst (λ (u : PartData S V). v ≢ 0 → place_in u.setup v ≡ u.shard) (sym e) h),
+      )
+
+  pub place_leaves : (p old : PartData S V) (r : Rows V) (n : ℕ) (ns : List ℕ) (xs : List ℕ) (v j : ℕ) → p ≡ old → IsDesk p r n ns → xs ≡ r.own → j < length xs → get_or xs j 0 ≡ v → IsPlace old v j
+  place_leaves p old r n ns xs v j e D x l h = subst (λ (u : PartData S V). IsPlace u v j) e (record {
+    inside = subst (λ ys. j < length ys) (x ∙ D.sized.own) l;
+    vertex = ap (λ ys. get_or ys j 0) (sym (x ∙ D.sized.own)) ∙ h;
+  })
+
+  -- the head and the tail of an arc, the environment's among them
+  pub arc_in_graph : (p old : PartData S V) (r : Rows V) (n : ℕ) (ns : List ℕ) (a : ℕ) → p ≡ old → IsDesk p r n ns → IsArc (network_in old.setup) a → a ≢ 0 → HasArc p.setup.roads a
+  arc_in_graph p old r n ns a e D h nz = graph_arc p.setup a nz (subst (λ (u : PartData S V). IsArc (network_in u.setup) a) (sym e) h)
+
+  pub head_entry_is : (p old : PartData S V) (a : ℕ) → p ≡ old → a ≡ 0 → p.setup.source ≡ (network_in old.setup).head a
+  head_entry_is p old a e z = sym (head-entry p.setup.roads p.setup.source) ∙ (λ i. (network_in (e i).setup).head (sym z i))
+
+  pub head_arc_is : (p old : PartData S V) (r : Rows V) (n : ℕ) (ns : List ℕ) (a : ℕ) → p ≡ old → IsDesk p r n ns → IsArc (network_in old.setup) a → a ≢ 0 →
+      ((arc_of p.setup.roads a).head ≡ (network_in old.setup).head a) × (1 ≤ (arc_of p.setup.roads a).head) × ((arc_of p.setup.roads a).head ≤ old.setup.roads.vertices)
+  head_arc_is p old r n ns a e D h nz =
+      let g = arc_in_graph p old r n ns a e D h nz in let j = (D.planned.roads.ends a g).1 in
+      (sym (head-arc p.setup.roads p.setup.source a g.0) ∙ ap (λ (u : PartData S V). (network_in u.setup).head a) e, j.0, subst (λ (u : PartData S V). (arc_of p.setup.roads a).head ≤ u.setup.roads.vertices) e j.1)
+
+  pub tail_entry_is : (p old : PartData S V) (a : ℕ) → p ≡ old → a ≡ 0 → 0 ≡ (network_in old.setup).tail a
+  tail_entry_is p old a e z = sym (tail-entry p.setup.roads) ∙ (λ i. (network_in (e i).setup).tail (sym z i))
+
+  pub tail_arc_is : (p old : PartData S V) (r : Rows V) (n : ℕ) (ns : List ℕ) (a : ℕ) → p ≡ old → IsDesk p r n ns → IsArc (network_in old.setup) a → a ≢ 0 →
+      ((arc_of p.setup.roads a).tail ≡ (network_in old.setup).tail a) × (1 ≤ (arc_of p.setup.roads a).tail) × ((arc_of p.setup.roads a).tail ≤ old.setup.roads.vertices)
+  tail_arc_is p old r n ns a e D h nz =
+      let g = arc_in_graph p old r n ns a e D h nz in let j = (D.planned.roads.ends a g).0 in
+      (sym (tail-arc p.setup.roads a g.0) ∙ ap (λ (u : PartData S V). (network_in u.setup).tail a) e, j.0, subst (λ (u : PartData S V). (arc_of p.setup.roads a).tail ≤ u.setup.roads.vertices) e j.1)
+
+  pub shard_is : (p old : PartData S V) (r : Rows V) (n : ℕ) (ns : List ℕ) (v w : ℕ) → p ≡ old → IsDesk p r n ns → ((v ≡ 0) × (w ≡ p.setup.source)) ⊎ ((1 ≤ v) × (w ≡ v)) → shard_in p.setup.plan w ≡ place_in old.setup v
+  shard_is p old r n ns v w e D h = sym (placed_as p.setup v w D.planned.source.0 h) ∙ ap (λ (u : PartData S V). place_in u.setup v) e

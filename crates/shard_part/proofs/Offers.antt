@@ -1,0 +1,82 @@
+-- An arc is offered a label: the code's steps are the definition's.
+use Rattle.std.proofs.Common.{◌≡◌, ◌≢◌, ℕ, zero, suc, ◌+◌, Bool, true, false, cond, not, ◌&&◌, eqb, Option, Some, None, List, [], ◌∷◌, ◌++◌, length, set, get_or, refl, sym, ap, ◌∙◌, subst, eq-eqb, ne_eqb}
+use Rattle.std.proofs.lemmas.Bool.{cond-true, cond-false}
+use Rattle.path_algebra.specs.Algebra.{Algebra}
+use Rattle.scholten_core.specs.declared.item.Item.TheVariants.{Message as MessageOn, Signal as SignalOn}
+use Rattle.scholten_core.specs.Network.{Network}
+use Rattle.scholten_core.specs.Diffusion.{CoreState, is_idle, is_due, same_label, extend_label, out_idle}
+use Rattle.road_graph.specs.Roads.{arc_of}
+use Rattle.scholten_core.proofs.Networks.{weight-arc}
+use Rattle.shard_part.specs.PartState.{Setup, PartData, state_in, token_if, network_in, place_in, busy_out, IsArc}
+use Rattle.shard_part.proofs.Graphs.{arc_in_graph}
+use Rattle.shard_part.proofs.Moves.{mine_at}
+use Rattle.shard_part.proofs.Quick.{out_idle_counted}
+use Rattle.shard_part.specs.Desk.{Rows, IsDesk, IsPlace, IsRow, with_item, with_message, greeted, rested, rested_by, offered, offered_all}
+
+pub same_read : {V : Type 0} (A : Algebra V) {x y u v : Option V} → x ≡ u → y ≡ v → same_label A x y ≡ same_label A u v
+same_read A p q = λ i. same_label A (p i) (q i)
+
+module _ {S V : Type 0} (A : Algebra V) where
+  pub due_read : (p : PartData S V) (v b : ℕ) (busy same : Bool) → (network_in p.setup).tail b ≡ v → busy ≡ get_or p.busy b false → same ≡ same_label A ((state_in p).told b) ((state_in p).label v) →
+      (not busy && not same) ≡ is_due A (network_in p.setup) v (state_in p) b
+  unfolding is_due
+  due_read p v b busy same t e s =
+      (λ i. not (e i) && not (s i)) ∙ (λ i. idle_flag (get_or p.busy b false) i && not (same_label A ((state_in p).told b) ((state_in p).label v)))
+      ∙ (λ i. sym (and_one (is_idle ((state_in p).token b))) i && not (same_label A ((state_in p).told b) ((state_in p).label v)))
+      ∙ (λ i. (sym (eq-eqb ((network_in p.setup).tail b) v t) i && is_idle ((state_in p).token b)) && not (same_label A ((state_in p).told b) ((state_in p).label v)))
+    where
+      idle_flag : (t : Bool) → not t ≡ is_idle {V = V} (token_if t)
+      idle_flag true = refl
+      idle_flag false = refl
+
+      and_one : (t : Bool) → (true && t) ≡ t
+      and_one true = refl
+      and_one false = refl
+
+  -- a due arc is idle
+  pub due_idle : (p : PartData S V) (v b : ℕ) → is_due A (network_in p.setup) v (state_in p) b ≡ true → get_or p.busy b false ≡ false
+  unfolding is_due
+  due_idle p v b h = go (get_or p.busy b false) (eqb ((network_in p.setup).tail b) v) (not (same_label A ((state_in p).told b) ((state_in p).label v))) h
+    where
+      go : (t s w : Bool) → ((s && is_idle {V = V} (token_if t)) && w) ≡ true → t ≡ false
+      go false s w e = refl
+      go true true true e = sym e
+      go true true false e = sym e
+      go true false true e = sym e
+      go true false false e = sym e
+
+  pub offered_then : (old mid new : PartData S V) (v b : ℕ) (label value : Option V) → is_due A (network_in old.setup) v (state_in old) b ≡ true → label ≡ (state_in old).label v →
+      value ≡ extend_label A ((state_in old).label v) ((network_in old.setup).weight b) → mid ≡ record old { told = set old.told b label } → new ≡ with_message b value mid → new ≡ offered A v b old
+  offered_then old mid new v b label value h l x m w =
+      w ∙ (λ i. with_message b (x i) (m i)) ∙ (λ i. with_message b (extend_label A ((state_in old).label v) ((network_in old.setup).weight b)) (record old { told = set old.told b (l i) }))
+      ∙ sym (cond-true (is_due A (network_in old.setup) v (state_in old) b) (with_message b (extend_label A ((state_in old).label v) ((network_in old.setup).weight b)) (record old { told = set old.told b ((state_in old).label v) })) old h)
+
+  pub offered_not : (old : PartData S V) (v b : ℕ) → is_due A (network_in old.setup) v (state_in old) b ≡ false → old ≡ offered A v b old
+  offered_not old v b h = sym (cond-false (is_due A (network_in old.setup) v (state_in old) b) (with_message b (extend_label A ((state_in old).label v) ((network_in old.setup).weight b)) (record old { told = set old.told b ((state_in old).label v) })) old h)
+
+  pub extension_read : (p old : PartData S V) (r : Rows V) (n : ℕ) (ns : List ℕ) (meaning : S → Algebra V) (label x : Option V) (v b w : ℕ) → p ≡ old → IsDesk p r n ns → IsArc (network_in old.setup) b → b ≢ 0 →
+      label ≡ (state_in old).label v → w ≡ (arc_of p.setup.roads b).weight → x ≡ extend_label (meaning p.setup.algebra) label w → x ≡ extend_label (meaning old.setup.algebra) ((state_in old).label v) ((network_in old.setup).weight b)
+  extension_read p old r n ns meaning label x v b w e D ar nz l y h =
+      h ∙ (λ i. extend_label (meaning (e i).setup.algebra) (l i) (((y ∙ sym (weight-arc p.setup.roads b (arc_in_graph p old r n ns b e D ar nz).0)) ∙ ap (λ (u : PartData S V). (network_in u.setup).weight b) e) i))
+
+  -- a move of told values leaves places, idle arcs and shards as they are
+  pub tail_mine : (p q : PartData S V) (v j b : ℕ) (label : Option V) → q ≡ record p { told = set p.told b label } → IsPlace p v j → v ≢ 0 → (network_in p.setup).tail b ≡ v → place_in q.setup ((network_in q.setup).tail b) ≡ q.shard
+  tail_mine p q v j b label e P nz t = subst (λ (u : PartData S V). place_in u.setup ((network_in u.setup).tail b) ≡ u.shard) (sym e) (ap (place_in p.setup) t ∙ mine_at p v j P nz)
+
+  pub still_idle : (p q : PartData S V) (v b : ℕ) (label : Option V) → q ≡ record p { told = set p.told b label } → is_due A (network_in p.setup) v (state_in p) b ≡ true → get_or q.busy b false ≡ false
+  still_idle p q v b label e h = ap (λ (u : PartData S V). get_or u.busy b false) e ∙ due_idle p v b h
+
+  -- v rests
+  pub rested_none : (p : PartData S V) (v : ℕ) → (state_in p).engager v ≡ None → p ≡ rested A v p
+  rested_none p v h = (λ i. rested_by v (sym h i) (out_idle A (network_in p.setup) v (state_in p)) p)
+
+  pub rested_busy : (p : PartData S V) (v d e : ℕ) → (state_in p).engager v ≡ Some e → d ≡ busy_out (network_in p.setup) v (state_in p) (suc (length p.setup.roads.arcs)) → d ≢ 0 → p ≡ rested A v p
+  rested_busy p v d e h k nz =
+      let f : out_idle A (network_in p.setup) v (state_in p) ≡ false = out_idle_counted A (network_in p.setup) v (state_in p) ∙ ap (λ m. eqb m 0) (sym k) ∙ ne_eqb d 0 nz in
+      (λ i. rested_by v (sym h i) (sym f i) p)
+
+  pub rested_then : (p mid new : PartData S V) (v d e : ℕ) → (state_in p).engager v ≡ Some e → d ≡ busy_out (network_in p.setup) v (state_in p) (suc (length p.setup.roads.arcs)) → d ≡ 0 →
+      mid ≡ record p { engagers = set p.engagers v None } → new ≡ with_item (SignalOn e) mid → new ≡ rested A v p
+  rested_then p mid new v d e h k z m w =
+      let f : out_idle A (network_in p.setup) v (state_in p) ≡ true = out_idle_counted A (network_in p.setup) v (state_in p) ∙ ap (λ n. eqb n 0) (sym k ∙ z) in
+      w ∙ (λ i. with_item (SignalOn e) (m i)) ∙ (λ i. rested_by v (sym h i) (sym f i) p)

@@ -1,0 +1,146 @@
+-- The arcs out of a vertex are offered its label one after the other.
+use Rattle.std.proofs.Common.{◌≡◌, ◌≢◌, ℕ, zero, suc, ◌+◌, ◌-◌, ◌<◌, ◌≤◌, Bool, true, false, cond, Option, Some, None, List, [], ◌∷◌, ◌++◌, length, set, get_or, take, refl, sym, ap, ◌∙◌, subst, inl, inr, arith, eq-eqb}
+use Rattle.std.proofs.lemmas.Bool.{cases_Bool, cond-true, cond-false}
+use Rattle.std.proofs.lemmas.List.{get_or_read, take_more, take_all}
+use Rattle.path_algebra.specs.Algebra.{Algebra}
+use Rattle.road_graph.specs.Roads.{Roads, HasVertex, ListsArcsFrom}
+use Rattle.scholten_core.specs.Network.{Network, WellFormed}
+use Rattle.scholten_core.specs.Diffusion.{CoreState, is_due, extend_label, improves}
+use Rattle.shard_part.specs.PartState.{Setup, PartData, state_in, network_in, place_in, outgoing, own_in, IsArc}
+use Rattle.shard_part.specs.Desk.{Rows, IsDesk, IsPlace, IsRow, with_message, greeted, labelled, offered, offered_all, rested, with_value, with_free}
+use Rattle.shard_part.specs.Tables.{Rises, StandsIn}
+use Rattle.shard_part.proofs.Graphs.{out_is}
+use Rattle.shard_part.proofs.Moves.{formed}
+use Rattle.shard_part.proofs.Places.{own_below, outgoing_picked}
+
+module _ {S V : Type 0} (A : Algebra V) where
+  message_same : (b : ℕ) (o : Option V) (p : PartData S V) → ((with_message b o p).setup ≡ p.setup) × ((with_message b o p).shard ≡ p.shard)
+  message_same b None p = (refl, refl)
+  message_same b (Some y) p = (refl, refl)
+
+  pub offered_same : (v b : ℕ) (p : PartData S V) → ((offered A v b p).setup ≡ p.setup) × ((offered A v b p).shard ≡ p.shard)
+  offered_same v b p = go (is_due A (network_in p.setup) v (state_in p) b)
+    where
+      go : (t : Bool) → ((cond t (with_message b (extend_label A ((state_in p).label v) ((network_in p.setup).weight b)) (record p { told = set p.told b ((state_in p).label v) })) p).setup ≡ p.setup)
+          × ((cond t (with_message b (extend_label A ((state_in p).label v) ((network_in p.setup).weight b)) (record p { told = set p.told b ((state_in p).label v) })) p).shard ≡ p.shard)
+      go false = (refl, refl)
+      go true = message_same b (extend_label A ((state_in p).label v) ((network_in p.setup).weight b)) (record p { told = set p.told b ((state_in p).label v) })
+
+  pub offered_all-snoc : (v : ℕ) (bs : List ℕ) (b : ℕ) (p : PartData S V) → offered_all A v (bs ++ b ∷ []) p ≡ offered A v b (offered_all A v bs p)
+  unfolding offered_all
+  offered_all-snoc v [] b p = refl
+  offered_all-snoc v (c ∷ bs) b p = offered_all-snoc v bs b (offered A v c p)
+
+  pub offered_none : (v : ℕ) (p : PartData S V) → offered_all A v [] p ≡ p
+  unfolding offered_all
+  offered_none v p = refl
+
+  pub place_same : (p q : PartData S V) (v j : ℕ) → q.setup ≡ p.setup → q.shard ≡ p.shard → IsPlace p v j → IsPlace q v j
+  place_same p q v j e s P = record {
+    inside = subst (λ (t : Setup S). j < length (own_in t q.shard)) (sym e) (subst (λ k. j < length (own_in p.setup k)) (sym s) P.inside);
+    vertex = (λ i. get_or (own_in (e i) (s i)) j 0) ∙ P.vertex;
+  }
+
+  -- the graph has the vertex at a place
+  pub vertex_at : (p old : PartData S V) (r : Rows V) (n : ℕ) (ns : List ℕ) (v j : ℕ) → p ≡ old → IsDesk p r n ns → IsPlace old v j → v ≢ 0 → HasVertex p.setup.roads v
+  vertex_at p old r n ns v j e D Q nz =
+      let P : IsPlace p v j = subst (λ (u : PartData S V). IsPlace u v j) (sym e) Q in
+      ((omega (arith, nz)), (let b = own_below p.setup p.shard j P.inside in let w = P.vertex in omega (arith, b, w)))
+
+  pub listed_out : (p old : PartData S V) (v : ℕ) (xs : List ℕ) → p ≡ old → 1 ≤ v → ListsArcsFrom p.setup.roads v xs → xs ≡ outgoing (network_in old.setup) v
+  listed_out p old v xs e l o = out_is A p.setup.roads p.setup.source v xs l o ∙ ap (λ (u : PartData S V). outgoing (network_in u.setup) v) e
+
+  pub offered_all_same : (v : ℕ) (bs : List ℕ) (p : PartData S V) → ((offered_all A v bs p).setup ≡ p.setup) × ((offered_all A v bs p).shard ≡ p.shard)
+  unfolding offered_all
+  offered_all_same v [] p = (refl, refl)
+  offered_all_same v (b ∷ bs) p = let r = offered_all_same v bs (offered A v b p) in let q = offered_same v b p in (r.0 ∙ q.0, r.1 ∙ q.1)
+
+  -- one arc more was offered
+  pub offered_more : (p mid new : PartData S V) (v b k : ℕ) (xs : List ℕ) → k < length xs → b ≡ get_or xs k b → mid ≡ offered_all A v (take k xs) p → new ≡ offered A v b mid → new ≡ offered_all A v (take (k + 1) xs) p
+  offered_more p mid new v b k xs l h m w =
+      w ∙ ap (offered A v b) m ∙ sym (offered_all-snoc v (take k xs) b p) ∙ ap (λ ys. offered_all A v ys p) (ap (λ (z : ℕ). take k xs ++ z ∷ []) (get_or_read xs k b l h 0) ∙ sym (take_more xs k 0 l))
+
+  pub pump_done : (p new : PartData S V) (v k : ℕ) (xs ys : List ℕ) → new ≡ offered_all A v (take k xs) p → length xs ≤ k → xs ≡ ys → new ≡ offered_all A v ys p
+  pump_done p new v k xs ys h l e = h ∙ ap (λ zs. offered_all A v zs p) (take_all k xs l ∙ e)
+
+  pub improve_same : (x : V) (v : ℕ) (p : PartData S V) → ((labelled A x v p).setup ≡ p.setup) × ((labelled A x v p).shard ≡ p.shard) × ((state_in (labelled A x v p)).engager ≡ (state_in p).engager)
+  improve_same x v p = go (improves A x ((state_in p).label v))
+    where
+      go : (t : Bool) → ((cond t (record p { labels = set p.labels v (Some x) }) p).setup ≡ p.setup) × ((cond t (record p { labels = set p.labels v (Some x) }) p).shard ≡ p.shard)
+          × ((state_in (cond t (record p { labels = set p.labels v (Some x) }) p)).engager ≡ (state_in p).engager)
+      go true = (refl, refl, refl)
+      go false = (refl, refl, refl)
+
+  pub greeted_same : (a v : ℕ) (o : Option ℕ) (p : PartData S V) → ((greeted a v o p).setup ≡ p.setup) × ((greeted a v o p).shard ≡ p.shard)
+  greeted_same a v None p = (refl, refl)
+  greeted_same a v (Some e) p = (refl, refl)
+
+  pub pumped_same : (t : Bool) (v : ℕ) (bs : List ℕ) (p : PartData S V) → ((cond t (offered_all A v bs p) p).setup ≡ p.setup) × ((cond t (offered_all A v bs p) p).shard ≡ p.shard)
+  pumped_same true v bs p = offered_all_same v bs p
+  pumped_same false v bs p = (refl, refl)
+
+  pub free_same : (a b : ℕ) (p q : PartData S V) → q ≡ record p { busy = set p.busy a false } → (q.setup ≡ p.setup) × (q.shard ≡ p.shard)
+  free_same a b p q e = (ap (λ (u : PartData S V). u.setup) e, ap (λ (u : PartData S V). u.shard) e)
+
+-- the list of the arcs out of v, once it is known to be that
+pub rises_of : (N : Network) (v : ℕ) (xs : List ℕ) → xs ≡ outgoing N v → Rises xs
+rises_of N v xs e = subst Rises (sym e) (outgoing_picked N v).rises
+
+pub stands_of : (N : Network) (v a : ℕ) (xs : List ℕ) → xs ≡ outgoing N v → N.tail a ≡ v → a ≤ N.arcs → StandsIn xs a
+stands_of N v a xs e t l = subst (λ ys. StandsIn ys a) (sym e) ((outgoing_picked N v).all a t (omega arith) (omega arith))
+
+module _ {S V : Type 0} where
+  pub inside_of : (p q : PartData S V) (v k : ℕ) (xs : List ℕ) → xs ≡ outgoing (network_in p.setup) v → q.setup ≡ p.setup → k < length xs → k < length (outgoing (network_in q.setup) v)
+  inside_of p q v k xs e s l = subst (λ (t : Setup S). k < length (outgoing (network_in t) v)) (sym s) (subst (λ ys. k < length ys) e l)
+
+  pub row_found : (p q : PartData S V) (v k b i : ℕ) (xs : List ℕ) → xs ≡ outgoing (network_in p.setup) v → q.setup ≡ p.setup → get_or xs k 0 ≡ b → IsRow q (get_or (outgoing (network_in q.setup) v) k 0) i → IsRow q b i
+  row_found p q v k b i xs e s h R = subst (λ z. IsRow q z i) ((λ j. get_or (outgoing (network_in (s j)) v) k 0) ∙ ap (λ ys. get_or ys k 0) (sym e) ∙ h) R
+
+  pub tail_found : (p q : PartData S V) (v k b : ℕ) (xs : List ℕ) → xs ≡ outgoing (network_in p.setup) v → q.setup ≡ p.setup → k < length xs → get_or xs k 0 ≡ b → (network_in q.setup).tail b ≡ v
+  tail_found p q v k b xs e s l h = ap (λ (t : Setup S). (network_in t).tail b) s ∙ ap (network_in p.setup).tail (sym h ∙ ap (λ ys. get_or ys k 0) e) ∙ ((outgoing_picked (network_in p.setup) v).each k (subst (λ ys. k < length ys) e l)).0
+
+  pub arc_found : (u p q : PartData S V) (r : Rows V) (n : ℕ) (ns : List ℕ) (v b : ℕ) → u ≡ p → IsDesk u r n ns → q.setup ≡ p.setup → v ≢ 0 → (network_in q.setup).tail b ≡ v → IsArc (network_in q.setup) b × (b ≢ 0)
+  arc_found u p q r n ns v b e D s nz t =
+      let W : WellFormed (network_in q.setup) = subst (λ (x : Setup S). WellFormed (network_in x)) (ap (λ (y : PartData S V). y.setup) e ∙ sym s) (formed u u.shard D.planned) in
+      let tn : (network_in q.setup).tail b ≢ 0 = λ z. nz (sym t ∙ z) in
+      ((W.head_in b tn, λ _. tn), λ z. tn (ap (network_in q.setup).tail z ∙ W.tail_zero))
+
+  -- a message, step by step
+  pub message_handled : (meaning : S → Algebra V) (p p1 p2 p3 p4 : PartData S V) (a v w : ℕ) (x : V) (t : Bool) → v ≡ w → p1 ≡ labelled (meaning p.setup.algebra) x v p → p2 ≡ greeted a v ((state_in p1).engager v) p1 →
+      t ≡ improves (meaning p.setup.algebra) x ((state_in p).label v) → p3 ≡ cond t (offered_all (meaning p2.setup.algebra) v (outgoing (network_in p2.setup) v) p2) p2 →
+      p4 ≡ rested (meaning p3.setup.algebra) v p3 → p4 ≡ with_value (meaning p.setup.algebra) a x w p
+  message_handled meaning p p1 p2 p3 p4 a v w x t vw e1 e2 et e3 e4 =
+      let L = improve_same (meaning p.setup.algebra) x v p in
+      let s1 : p1.setup ≡ p.setup = ap (λ (u : PartData S V). u.setup) e1 ∙ L.0 in
+      let g1 : (state_in p1).engager v ≡ (state_in p).engager v = ap (λ (u : PartData S V). (state_in u).engager v) e1 ∙ ap (λ f. f v) L.2 in
+      let s2 : p2.setup ≡ p.setup = ap (λ (u : PartData S V). u.setup) e2 ∙ (greeted_same (meaning p.setup.algebra) a v ((state_in p1).engager v) p1).0 ∙ s1 in
+      let s3 : p3.setup ≡ p.setup = ap (λ (u : PartData S V). u.setup) e3 ∙ (pumped_same (meaning p2.setup.algebra) t v (outgoing (network_in p2.setup) v) p2).0 ∙ s2 in
+      let q2 : p2 ≡ greeted a v ((state_in p).engager v) (labelled (meaning p.setup.algebra) x v p) = e2 ∙ (λ i. greeted a v (g1 i) (e1 i)) in
+      let q3 : p3 ≡ cond (improves (meaning p.setup.algebra) x ((state_in p).label v)) (offered_all (meaning p.setup.algebra) v (outgoing (network_in p.setup) v) (greeted a v ((state_in p).engager v) (labelled (meaning p.setup.algebra) x v p))) (greeted a v ((state_in p).engager v) (labelled (meaning p.setup.algebra) x v p)) =
+      e3 ∙ (λ i. cond (et i) (offered_all (meaning (s2 i).algebra) v (outgoing (network_in (s2 i)) v) (q2 i)) (q2 i)) in
+      e4 ∙ (λ i. rested (meaning (s3 i).algebra) v (q3 i)) ∙ ap (λ z. with_value (meaning p.setup.algebra) a x z p) vw
+
+  -- a signal, step by step
+  pub signal_handled : (meaning : S → Algebra V) (p p1 p2 p3 : PartData S V) (a v w : ℕ) → v ≡ w → p1 ≡ record p { busy = set p.busy a false } → a ≢ 0 → p2 ≡ offered (meaning p1.setup.algebra) v a p1 → p3 ≡ rested (meaning p2.setup.algebra) v p2 →
+      p3 ≡ with_free (meaning p.setup.algebra) a w p
+  signal_handled meaning p p1 p2 p3 zero v w vw e1 nz e2 e3 = absurd (nz refl)
+  signal_handled meaning p p1 p2 p3 (suc a) v w vw e1 nz e2 e3 =
+      let s1 : p1.setup ≡ p.setup = ap (λ (u : PartData S V). u.setup) e1 in
+      let s2 : p2.setup ≡ p.setup = ap (λ (u : PartData S V). u.setup) e2 ∙ (offered_same (meaning p1.setup.algebra) v (suc a) p1).0 ∙ s1 in
+      let q2 : p2 ≡ offered (meaning p.setup.algebra) v (suc a) (record p { busy = set p.busy (suc a) false }) = e2 ∙ (λ i. offered (meaning (s1 i).algebra) v (suc a) (e1 i)) in
+      e3 ∙ (λ i. rested (meaning (s2 i).algebra) v (q2 i)) ∙ ap (λ z. with_free (meaning p.setup.algebra) (suc a) z p) vw
+
+  pub entry_handled : (meaning : S → Algebra V) (p p1 : PartData S V) (a w : ℕ) → p1 ≡ record p { busy = set p.busy a false } → a ≡ 0 → p1 ≡ with_free (meaning p.setup.algebra) a w p
+  entry_handled meaning p p1 zero w e z = e
+  entry_handled meaning p p1 (suc a) w e z = absurd (omega (arith, z))
+
+  -- the part stays of its shard and setup
+  pub message_keeps : (meaning : S → Algebra V) (p p1 p2 p3 : PartData S V) (a v j : ℕ) (x : V) (t : Bool) → p1 ≡ labelled (meaning p.setup.algebra) x v p → p2 ≡ greeted a v ((state_in p1).engager v) p1 →
+      p3 ≡ cond t (offered_all (meaning p2.setup.algebra) v (outgoing (network_in p2.setup) v) p2) p2 → IsPlace p v j → IsPlace p3 v j
+  message_keeps meaning p p1 p2 p3 a v j x t e1 e2 e3 P =
+      let L = improve_same (meaning p.setup.algebra) x v p in
+      let G = greeted_same (meaning p.setup.algebra) a v ((state_in p1).engager v) p1 in
+      let M = pumped_same (meaning p2.setup.algebra) t v (outgoing (network_in p2.setup) v) p2 in
+      place_same (meaning p.setup.algebra) p p3 v j
+      (ap (λ (u : PartData S V). u.setup) e3 ∙ M.0 ∙ ap (λ (u : PartData S V). u.setup) e2 ∙ G.0 ∙ ap (λ (u : PartData S V). u.setup) e1 ∙ L.0)
+      (ap (λ (u : PartData S V). u.shard) e3 ∙ M.1 ∙ ap (λ (u : PartData S V). u.shard) e2 ∙ G.1 ∙ ap (λ (u : PartData S V). u.shard) e1 ∙ L.1) P

@@ -1,0 +1,15 @@
+use Rattle.std.proofs.Common.{true, arith, rules}
+use Rattle.shard_part.proofs.Busy.{occupy_keeps, busy_leaves, deficit_few}
+use Rattle.shard_part.proofs.desk.Desk.occupy.Goals as goal
+
+pub overflow_add-deficit : goal.overflow_add-deficit
+overflow_add-deficit g c = let few = deficit_few _ c.args.self.now _ _ _ c.args.v c.args.j c.index-deficit.result.now c.self.view_is c.self.invariant c.requires.place c.index-deficit.ensures in search rules
+
+pub invariant_of-self : goal.invariant_of-self
+invariant_of-self g c = (occupy_keeps _ c.args.self.now _ _ _ c.args.v c.args.j c.args.b c.args.i c.index-deficit.result.now c.self.view_is c.self.invariant c.requires.place c.requires.row c.requires.tail c.requires.vertex c.requires.idle c.index-deficit.ensures).0
+
+pub returns-clause-moved : goal.returns-clause-moved
+returns-clause-moved g c = busy_leaves _ c.args.self.now _ _ _ c.args.b c.args.i true c.self.view_is c.self.invariant c.requires.row
+
+pub returns-clause-clear : goal.returns-clause-clear
+returns-clause-clear g c = (occupy_keeps _ c.args.self.now _ _ _ c.args.v c.args.j c.args.b c.args.i c.index-deficit.result.now c.self.view_is c.self.invariant c.requires.place c.requires.row c.requires.tail c.requires.vertex c.requires.idle c.index-deficit.ensures).1

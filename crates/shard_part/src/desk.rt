@@ -1,0 +1,549 @@
+ghost use Rattle.std.specs.Prelude.{◌≡◌, ◌≢◌, ℕ, suc, ◌+◌, ◌<◌, ◌≤◌, [], ◌∷◌, length, get_or, set, Option, Some, None, IfSome, IsTrue, IsFalse, ◌↔◌, true, false, cond, eqb, not, ◌&&◌};
+ghost use Rattle.road_graph.specs.Roads.{HasVertex};
+ghost use Rattle.scholten_core.specs.Diffusion.{out_idle, same_label, extend_label, improves, is_due as due};
+ghost use Rattle.scholten_core.specs.Items.{item_arc};
+ghost use Rattle.shard_part.specs.Tallies.{counted_on};
+ghost use Rattle.shard_part.specs.PartState.{network_in, place_in, state_in, own_in, arcs_out, outgoing, busy_out, vertex_of, maker_of, IsArc, IsClear};
+ghost use Rattle.shard_part.specs.Desk.{IsPlace, IsRow, IsPopped, HandledOne, put_item, counted_made, with_item, with_message, greeted, rested_by, labelled, offered, offered_all, rested, with_value, with_free, with_taken};
+
+use crate::batch::Batch;
+use crate::plan::Plan;
+use crate::search::{find_arc, find_vertex};
+use crate::shard::Shard;
+use crate::tables::Tables;
+use path_algebra::PathAlgebra;
+use road_graph::{ArcNo, Graph, Vertex};
+use scholten_core::Item;
+use std::marker::Model;
+
+/// The tables and rings of one shard, with the moves of which its events are made.
+#[derive(Drop)]
+pub struct Desk<'g, A: PathAlgebra> {
+    algebra: A,
+    graph: &'g Graph,
+    plan: &'g Plan,
+    source: Vertex,
+    shard: Shard,
+    tables: Tables<A::Value>,
+    queue: Batch<A::Value>,
+    outs: Vec<Batch<A::Value>>,
+    sent: u64,
+    delivered: u64,
+    signalled: u64,
+    accepted: u64,
+}
+
+impl<'g, A: PathAlgebra> Model for Desk<'g, A> {
+    ghost use Rattle.std.specs.Prelude.{map};
+    ghost use Rattle.shard_part.specs.PartState.{PartData};
+    ghost use Rattle.shard_part.specs.Desk.{seen_as, rows_of, IsDesk};
+
+    ghost Value = { PartData A A.Value };
+
+    ghost view = { λ p. seen_as (record { algebra = p.algebra; roads = p.graph.now; source = p.source; plan = p.plan.now }) p.shard (rows_of p.tables) p.queue.items (map (λ b. b.items) p.outs.items) p.sent p.delivered p.signalled p.accepted };
+
+    ghost invariant = { λ p. IsDesk (seen_as (record { algebra = p.algebra; roads = p.graph.now; source = p.source; plan = p.plan.now }) p.shard (rows_of p.tables) p.queue.items (map (λ b. b.items) p.outs.items) p.sent p.delivered p.signalled p.accepted) (rows_of p.tables) p.queue.capacity (map (λ b. b.capacity) p.outs.items) };
+}
+
+impl<'g, A: PathAlgebra> Desk<'g, A> {
+    /// How many items wait.
+    pub fn queued(&self) -> usize
+        ensures { result ≡ length self.now.queue }
+    {
+        self.queue.len()
+    }
+
+    /// The label of the vertex at a place.
+    fn label(&self, v: Vertex, j: usize) -> Option<A::Value>
+        requires { IsPlace self.now v j }
+        ensures { result ≡ (state_in self.now).label v }
+    {
+        let _v = v;
+        self.tables.labels[j]
+    }
+
+    /// The engager of the vertex at a place.
+    fn engager(&self, v: Vertex, j: usize) -> Option<ArcNo>
+        requires { IsPlace self.now v j }
+        ensures { result ≡ (state_in self.now).engager v }
+    {
+        let _v = v;
+        self.tables.engagers[j]
+    }
+
+    /// The label of the vertex at a place becomes another.
+    fn set_label(&mut self, v: Vertex, j: usize, label: A::Value)
+        requires { IsPlace self.old v j }
+        ensures { self.new ≡ record self.old { labels = set self.old.labels v (Some label) } }
+    {
+        let _v = v;
+        self.tables.labels[j] = Some(label);
+    }
+
+    /// The arc a engages its head, the vertex at a place.
+    fn engage(&mut self, v: Vertex, j: usize, a: ArcNo)
+        requires place { IsPlace self.old v j }
+        requires arc { IsArc (network_in self.old.setup) a }
+        requires head { (network_in self.old.setup).head a ≡ v }
+        requires clear { IsClear self.old a }
+        ensures { self.new ≡ record self.old { engagers = set self.old.engagers v (Some a) } }
+    {
+        let _v = v;
+        self.tables.engagers[j] = Some(a);
+    }
+
+    /// The vertex at a place lets go of its engager.
+    fn release(&mut self, v: Vertex, j: usize, e: ArcNo)
+        requires place { IsPlace self.old v j }
+        requires vertex { v ≢ 0 }
+        requires engager { (state_in self.old).engager v ≡ Some e }
+        ensures moved { self.new ≡ record self.old { engagers = set self.old.engagers v None } }
+        ensures clear { IsClear self.new e }
+        ensures arc { IsArc (network_in self.new.setup) e }
+        ensures made { place_in self.new.setup ((network_in self.new.setup).head e) ≡ self.new.shard }
+    {
+        let _v = v;
+        let _e = e;
+        self.tables.engagers[j] = None;
+    }
+
+    /// Whether the arc at a place is busy.
+    fn is_busy(&self, b: ArcNo, i: usize) -> bool
+        requires { IsRow self.now b i }
+        ensures { result ≡ get_or self.now.busy b false }
+    {
+        let _b = b;
+        self.tables.busy[i]
+    }
+
+    /// What the arc at a place was told last.
+    fn told(&self, b: ArcNo, i: usize) -> Option<A::Value>
+        requires { IsRow self.now b i }
+        ensures { result ≡ (state_in self.now).told b }
+    {
+        let _b = b;
+        self.tables.told[i]
+    }
+
+    /// The arc at a place is told a label.
+    fn tell(&mut self, b: ArcNo, i: usize, label: Option<A::Value>)
+        requires { IsRow self.old b i }
+        ensures { self.new ≡ record self.old { told = set self.old.told b label } }
+    {
+        let _b = b;
+        self.tables.told[i] = label;
+    }
+
+    /// An idle arc becomes busy.
+    fn occupy(&mut self, v: Vertex, j: usize, b: ArcNo, i: usize)
+        requires place { IsPlace self.old v j }
+        requires row { IsRow self.old b i }
+        requires tail { (network_in self.old.setup).tail b ≡ v }
+        requires vertex { v ≢ 0 }
+        requires idle { get_or self.old.busy b false ≡ false }
+        ensures moved { self.new ≡ record self.old { busy = set self.old.busy b true } }
+        ensures clear { IsClear self.new b }
+    {
+        let (_v, _b) = (v, b);
+        let deficit = self.tables.deficits[j];
+        self.tables.busy[i] = true;
+        self.tables.deficits[j] = deficit + 1;
+    }
+
+    /// An arc whose signal was taken becomes idle.
+    fn free(&mut self, v: Vertex, j: usize, a: ArcNo, i: usize)
+        requires place { IsPlace self.old v j }
+        requires row { IsRow self.old a i }
+        requires tail { (network_in self.old.setup).tail a ≡ v }
+        requires here { place_in self.old.setup v ≡ self.old.shard }
+        requires clear { IsClear self.old a }
+        ensures { self.new ≡ record self.old { busy = set self.old.busy a false } }
+    {
+        let (_v, _a) = (v, a);
+        let deficit = self.tables.deficits[j];
+        self.tables.busy[i] = false;
+        self.tables.deficits[j] = deficit - 1;
+    }
+
+    /// How many arcs out of the vertex at a place are busy.
+    fn deficit_at(&self, v: Vertex, j: usize) -> u32
+        requires { IsPlace self.now v j }
+        ensures { result ≡ busy_out (network_in self.now.setup) v (state_in self.now) (suc (length self.now.setup.roads.arcs)) }
+    {
+        let _v = v;
+        self.tables.deficits[j]
+    }
+
+    /// The shard of a vertex, and of the environment that of the source.
+    fn shard_of(&self, v: Vertex) -> Shard
+        requires { v ≤ self.now.setup.roads.vertices }
+        ensures { result ≡ place_in self.now.setup v }
+    {
+        let stands = if v.0 == 0 { self.source } else { v };
+        self.plan.shard_of(stands)
+    }
+
+    /// The vertex that an arc leads to.
+    fn head(&self, a: ArcNo) -> Vertex
+        requires { IsArc (network_in self.now.setup) a }
+        ensures head { result ≡ (network_in self.now.setup).head a }
+        ensures low { 1 ≤ result }
+        ensures within { result ≤ self.now.setup.roads.vertices }
+    {
+        if a.0 == 0 {
+            self.source
+        } else {
+            self.graph.arc(a).head
+        }
+    }
+
+    /// The vertex that an arc leaves.
+    fn tail(&self, a: ArcNo) -> Vertex
+        requires { IsArc (network_in self.now.setup) a }
+        ensures tail { result ≡ (network_in self.now.setup).tail a }
+        ensures within { result ≤ self.now.setup.roads.vertices }
+    {
+        if a.0 == 0 {
+            Vertex(0)
+        } else {
+            self.graph.arc(a).tail
+        }
+    }
+
+    /// The shard where an item belongs.
+    fn destination(&self, item: Item<A::Value>) -> Shard
+        requires { IsArc (network_in self.now.setup) (item_arc item) }
+        ensures { result ≡ place_in self.now.setup (vertex_of (network_in self.now.setup) item) }
+    {
+        match item {
+            Item::Message { arc, value: _ } => self.shard_of(self.head(arc)),
+            Item::Signal { arc } => self.shard_of(self.tail(arc)),
+        }
+    }
+
+    /// The place of a vertex.
+    fn place(&self, v: Vertex) -> usize
+        requires within { v ≤ self.now.setup.roads.vertices }
+        requires here { v ≢ 0 → place_in self.now.setup v ≡ self.now.shard }
+        ensures { IsPlace self.now v result }
+    {
+        find_vertex(&self.tables.own, v)
+    }
+
+    /// The place of the k-th arc out of the vertex at a place.
+    fn row(&self, v: Vertex, j: usize, k: usize) -> usize
+        requires place { IsPlace self.now v j }
+        requires arc { k < length (outgoing (network_in self.now.setup) v) }
+        ensures { IsRow self.now (get_or (outgoing (network_in self.now.setup) v) k 0) result }
+    {
+        let _v = v;
+        self.tables.offsets[j] as usize + k
+    }
+
+    /// Takes the front item off the queue.
+    fn pop(&mut self) -> Option<Item<A::Value>>
+        ensures none { result ≡ None → (self.old.queue ≡ []) × (self.new ≡ self.old) }
+        ensures some { IfSome result (λ i. IsPopped self.old self.new i) }
+    {
+        self.queue.pop()
+    }
+
+    /// Puts an item where it belongs.
+    fn send(&mut self, item: Item<A::Value>)
+        requires arc { IsArc (network_in self.old.setup) (item_arc item) }
+        requires made { place_in self.old.setup (maker_of (network_in self.old.setup) item) ≡ self.old.shard }
+        requires clear { IsClear self.old (item_arc item) }
+        ensures { self.new ≡ put_item item self.old }
+    {
+        let to = self.destination(item);
+        if to == self.shard {
+            self.queue.push(item);
+        } else {
+            self.outs[to.0 as usize].push(item);
+        }
+    }
+
+    /// Counts an item that was made.
+    fn count_made(&mut self, item: Item<A::Value>)
+        ensures { self.new ≡ counted_made item self.old }
+    {
+        match item {
+            Item::Message { .. } => self.sent = self.sent.saturating_add(1),
+            Item::Signal { .. } => self.signalled = self.signalled.saturating_add(1),
+        }
+    }
+
+    /// Counts a message that was handled.
+    fn count_delivered(&mut self)
+        ensures { self.new ≡ record self.old { delivered = counted_on 1 self.old.delivered } }
+    {
+        self.delivered = self.delivered.saturating_add(1);
+    }
+
+    /// Counts a signal that was handled.
+    fn count_accepted(&mut self)
+        ensures { self.new ≡ record self.old { accepted = counted_on 1 self.old.accepted } }
+    {
+        self.accepted = self.accepted.saturating_add(1);
+    }
+
+    /// An item is made.
+    fn put(&mut self, item: Item<A::Value>)
+        requires arc { IsArc (network_in self.old.setup) (item_arc item) }
+        requires made { place_in self.old.setup (maker_of (network_in self.old.setup) item) ≡ self.old.shard }
+        requires clear { IsClear self.old (item_arc item) }
+        ensures { self.new ≡ with_item item self.old }
+    {
+        self.send(item);
+        self.count_made(item);
+    }
+}
+
+impl<'g, A: PathAlgebra> Desk<'g, A> {
+    /// A message on arc a finds the vertex at a place: a neutral one is engaged, another answers.
+    fn greet(&mut self, a: ArcNo, v: Vertex, j: usize)
+        requires place { IsPlace self.old v j }
+        requires vertex { v ≢ 0 }
+        requires arc { IsArc (network_in self.old.setup) a }
+        requires head { (network_in self.old.setup).head a ≡ v }
+        requires clear { IsClear self.old a }
+        ensures { self.new ≡ greeted a v ((state_in self.old).engager v) self.old }
+    {
+        match self.engager(v, j) {
+            None => self.engage(v, j, a),
+            Some(_) => self.put(Item::Signal { arc: a }),
+        }
+    }
+
+    /// The vertex at a place lets go, if it is engaged and no arc out of it is busy.
+    fn rest(&mut self, v: Vertex, j: usize)
+        requires place { IsPlace self.old v j }
+        requires vertex { v ≢ 0 }
+        ensures { self.new ≡ rested (A.meaning self.old.setup.algebra) v self.old }
+    {
+        if let Some(e) = self.engager(v, j) {
+            if self.deficit_at(v, j) == 0 {
+                self.release(v, j, e);
+                self.put(Item::Signal { arc: e });
+            }
+        }
+    }
+
+    /// Whether the arc b out of the vertex at a place has to be told its label.
+    fn is_due(&self, v: Vertex, j: usize, b: ArcNo, i: usize) -> bool
+        requires place { IsPlace self.now v j }
+        requires row { IsRow self.now b i }
+        requires tail { (network_in self.now.setup).tail b ≡ v }
+        ensures { result ≡ due (A.meaning self.now.setup.algebra) (network_in self.now.setup) v (state_in self.now) b }
+    {
+        neither(
+            self.is_busy(b, i),
+            is_same::<A>(self.told(b, i), self.label(v, j)),
+        )
+    }
+
+    /// The label of the vertex at a place, extended by the arc b.
+    fn extension(&self, v: Vertex, j: usize, b: ArcNo) -> Option<A::Value>
+        requires place { IsPlace self.now v j }
+        requires arc { IsArc (network_in self.now.setup) b }
+        requires graph { b ≢ 0 }
+        ensures { result ≡ extend_label (A.meaning self.now.setup.algebra) ((state_in self.now).label v) ((network_in self.now.setup).weight b) }
+    {
+        let weight = self.graph.arc(b).weight;
+        extended(self.algebra, self.label(v, j), weight)
+    }
+
+    /// A message goes along the idle arc b, if there is a value.
+    fn message(&mut self, v: Vertex, j: usize, b: ArcNo, i: usize, value: Option<A::Value>)
+        requires place { IsPlace self.old v j }
+        requires vertex { v ≢ 0 }
+        requires row { IsRow self.old b i }
+        requires tail { (network_in self.old.setup).tail b ≡ v }
+        requires arc { IsArc (network_in self.old.setup) b }
+        requires made { place_in self.old.setup ((network_in self.old.setup).tail b) ≡ self.old.shard }
+        requires idle { get_or self.old.busy b false ≡ false }
+        ensures { self.new ≡ with_message b value self.old }
+    {
+        if let Some(value) = value {
+            self.occupy(v, j, b, i);
+            self.put(Item::Message { arc: b, value });
+        }
+    }
+
+    /// The arc b out of the vertex at a place is told its label, if it is due.
+    fn offer(&mut self, v: Vertex, j: usize, b: ArcNo, i: usize)
+        requires place { IsPlace self.old v j }
+        requires vertex { v ≢ 0 }
+        requires row { IsRow self.old b i }
+        requires tail { (network_in self.old.setup).tail b ≡ v }
+        requires arc { IsArc (network_in self.old.setup) b }
+        requires graph { b ≢ 0 }
+        ensures { self.new ≡ offered (A.meaning self.old.setup.algebra) v b self.old }
+    {
+        if self.is_due(v, j, b, i) {
+            let label = self.label(v, j);
+            let value = self.extension(v, j, b);
+            self.tell(b, i, label);
+            self.message(v, j, b, i, value);
+        }
+    }
+}
+
+impl<'g, A: PathAlgebra> Desk<'g, A> {
+    /// Each due arc out of the vertex at a place is told its label.
+    fn pump(&mut self, v: Vertex, j: usize)
+        requires place { IsPlace self.old v j }
+        requires vertex { v ≢ 0 }
+        ensures { self.new ≡ offered_all (A.meaning self.old.setup.algebra) v (outgoing (network_in self.old.setup) v) self.old }
+    {
+        let graph = self.graph;
+        let outgoing = graph.out(v);
+        for (k, b) in outgoing.iter().enumerate() {
+            let i = self.row(v, j, k);
+            self.offer(v, j, *b, i);
+        }
+    }
+
+    /// The same where the label improved, and nothing else: then each idle arc was told it before.
+    fn pump_if(&mut self, v: Vertex, j: usize, improved: bool)
+        requires place { IsPlace self.old v j }
+        requires vertex { v ≢ 0 }
+        ensures { self.new ≡ cond improved (offered_all (A.meaning self.old.setup.algebra) v (outgoing (network_in self.old.setup) v) self.old) self.old }
+    {
+        if improved {
+            self.pump(v, j);
+        }
+    }
+
+    /// The label of the vertex at a place becomes the value, if that is better.
+    fn improve(&mut self, v: Vertex, j: usize, value: A::Value) -> bool
+        requires { IsPlace self.old v j }
+        ensures improved { result ≡ improves (A.meaning self.old.setup.algebra) value ((state_in self.old).label v) }
+        ensures moved { self.new ≡ labelled (A.meaning self.old.setup.algebra) value v self.old }
+    {
+        let improved = is_better::<A>(value, self.label(v, j));
+        if improved {
+            self.set_label(v, j, value);
+        }
+        improved
+    }
+
+    /// The place of the arc a out of the vertex at a place.
+    fn row_of(&self, v: Vertex, j: usize, a: ArcNo) -> usize
+        requires place { IsPlace self.now v j }
+        requires arc { IsArc (network_in self.now.setup) a }
+        requires tail { (network_in self.now.setup).tail a ≡ v }
+        ensures { IsRow self.now a result }
+    {
+        if a.0 == 0 {
+            return self.row(v, j, 0);
+        }
+        let k = find_arc(self.graph.out(v), a);
+        self.row(v, j, k)
+    }
+
+    /// A message is handled at its head.
+    fn handle_message(&mut self, a: ArcNo, value: A::Value)
+        requires arc { IsArc (network_in self.old.setup) a }
+        requires here { place_in self.old.setup ((network_in self.old.setup).head a) ≡ self.old.shard }
+        requires clear { IsClear self.old a }
+        ensures { self.new ≡ with_value (A.meaning self.old.setup.algebra) a value ((network_in self.old.setup).head a) self.old }
+    {
+        let v = self.head(a);
+        let j = self.place(v);
+        let improved = self.improve(v, j, value);
+        self.greet(a, v, j);
+        self.pump_if(v, j, improved);
+        self.rest(v, j);
+    }
+
+    /// A signal is handled at its tail.
+    fn handle_signal(&mut self, a: ArcNo)
+        requires arc { IsArc (network_in self.old.setup) a }
+        requires here { place_in self.old.setup ((network_in self.old.setup).tail a) ≡ self.old.shard }
+        requires clear { IsClear self.old a }
+        ensures { self.new ≡ with_free (A.meaning self.old.setup.algebra) a ((network_in self.old.setup).tail a) self.old }
+    {
+        let v = self.tail(a);
+        let j = self.place(v);
+        let i = self.row_of(v, j, a);
+        self.free(v, j, a, i);
+        if a.0 > 0 {
+            self.offer(v, j, a, i);
+            self.rest(v, j);
+        }
+    }
+}
+
+impl<'g, A: PathAlgebra> Desk<'g, A> {
+    /// Handles an item that was taken from the queue.
+    fn handle_item(&mut self, item: Item<A::Value>)
+        requires arc { IsArc (network_in self.old.setup) (item_arc item) }
+        requires here { place_in self.old.setup (vertex_of (network_in self.old.setup) item) ≡ self.old.shard }
+        requires clear { IsClear self.old (item_arc item) }
+        ensures { self.new ≡ with_taken (A.meaning self.old.setup.algebra) item self.old }
+    {
+        match item {
+            Item::Message { arc, value } => {
+                self.count_delivered();
+                self.handle_message(arc, value);
+            }
+            Item::Signal { arc } => {
+                self.count_accepted();
+                self.handle_signal(arc);
+            }
+        }
+    }
+
+    /// Handles the front item, if there is one.
+    pub fn handle_front(&mut self) -> bool
+        ensures taken { IsTrue result → HandledOne (A.meaning self.old.setup.algebra) self.old self.new }
+        ensures none { IsFalse result → (self.old.queue ≡ []) × (self.new ≡ self.old) }
+    {
+        match self.pop() {
+            Some(item) => {
+                self.handle_item(item);
+                true
+            }
+            None => false,
+        }
+    }
+}
+
+/// Whether a value is better than a label, or there is none.
+fn is_better<A: PathAlgebra>(value: A::Value, label: Option<A::Value>) -> bool
+    ensures { (algebra : A) → result ≡ improves (A.meaning algebra) value label }
+{
+    match label {
+        None => true,
+        Some(old) => A::no_worse(value, old) && !A::no_worse(old, value),
+    }
+}
+
+/// Neither holds.
+fn neither(one: bool, other: bool) -> bool
+    ensures { result ≡ (not one && not other) }
+{
+    !one && !other
+}
+
+/// Whether a told value is the label.
+fn is_same<A: PathAlgebra>(told: Option<A::Value>, label: Option<A::Value>) -> bool
+    ensures { (algebra : A) → result ≡ same_label (A.meaning algebra) told label }
+{
+    match (told, label) {
+        (None, None) => true,
+        (Some(x), Some(y)) => A::no_worse(x, y) && A::no_worse(y, x),
+        _ => false,
+    }
+}
+
+/// A label extended by an arc, none where there is no label or the extension is refused.
+fn extended<A: PathAlgebra>(algebra: A, label: Option<A::Value>, weight: u32) -> Option<A::Value>
+    ensures { result ≡ extend_label (A.meaning algebra) label weight }
+{
+    match label {
+        None => None,
+        Some(x) => algebra.extend(x, weight),
+    }
+}

@@ -1,0 +1,42 @@
+ghost use Rattle.std.specs.Prelude.{◌≡◌, ◌<◌, suc, ℕ, true, List, [], ◌++◌, ◌∷◌, set, get_or};
+ghost use Rattle.scholten_core.specs.declared.item.Item.{Item};
+ghost use Rattle.scholten_core.specs.declared.event.Event.{Event};
+ghost use Rattle.scholten_core.specs.Network.{WellFormed};
+ghost use Rattle.scholten_core.specs.Diffusion.{CoreState, state_after, step, is_enabled};
+ghost use Rattle.shard_part.specs.PartState.{Setup, PartData, Took, TookAll, AllEnabled, Holds, Shows, event_of, network_in, place_in, mail_weight, on, parts_places, mail_places, place_of_token};
+
+use path_algebra::PathAlgebra;
+
+/// Where all parts and mailboxes show a reached state and one part takes one item, they show what its event leads to.
+pub fn item_is_event<A: PathAlgebra>(_algebra: A)
+    ensures { (t : Setup A) (events : List Event) (before after : List (PartData A A.Value)) (p q : PartData A A.Value) (i : Item A.Value) (mail : (ℕ → Item A.Value → ℕ) → ℕ) → WellFormed (network_in t) →
+        Shows A.meaning t (before ++ p ∷ after) mail (state_after (A.meaning t.algebra) (network_in t) events) → Took A.meaning p i q →
+        (is_enabled (state_after (A.meaning t.algebra) (network_in t) events) (event_of i) ≡ true) × Shows A.meaning t (before ++ q ∷ after) mail (step (A.meaning t.algebra) (network_in t) (state_after (A.meaning t.algebra) (network_in t) events) (event_of i)) }
+{}
+
+/// Whatever the others hold: a part that takes items makes as many enabled events of every reached state of which it holds its share.
+pub fn items_are_events<A: PathAlgebra>(_algebra: A)
+    ensures { (events : List Event) (items : List (Item A.Value)) (p q : PartData A A.Value) → WellFormed (network_in p.setup) →
+        Holds A.meaning (state_after (A.meaning p.setup.algebra) (network_in p.setup) events) p → TookAll A.meaning p items q →
+        (d : CoreState A.Value) × Holds A.meaning d q × (q.setup ≡ p.setup) × AllEnabled A.meaning p.setup (state_after (A.meaning p.setup.algebra) (network_in p.setup) events) items d }
+{}
+
+/// What parts and mailboxes show, read: on each arc the items in all places, each with the shard that it is at or going to, are just what its token stands for.
+pub fn places_are_read<A: PathAlgebra>(_algebra: A)
+    ensures { (t : Setup A) (parts : List (PartData A A.Value)) (ms : List (ℕ × List (Item A.Value))) (c : CoreState A.Value) → Shows A.meaning t parts (mail_weight ms) c → (b : ℕ) → b < suc (network_in t).arcs →
+        on b (parts_places parts ++ mail_places ms) ≡ place_of_token (network_in t) (place_in t) b (c.token b) }
+{}
+
+/// A batch moves from an outbox into an empty mailbox: all show the same state.
+pub fn publishing_shows_the_same<A: PathAlgebra>(_algebra: A)
+    ensures { (t : Setup A) (before after : List (PartData A A.Value)) (p : PartData A A.Value) (to : ℕ) (boxes behind : List (ℕ × List (Item A.Value))) (c : CoreState A.Value) →
+        Shows A.meaning t (before ++ p ∷ after) (mail_weight (boxes ++ (to, []) ∷ behind)) c →
+        Shows A.meaning t (before ++ record p { outs = set p.outs to [] } ∷ after) (mail_weight (boxes ++ (to, get_or p.outs to []) ∷ behind)) c }
+{}
+
+/// A batch moves from a mailbox into the queue of the part that it leads to: all show the same state.
+pub fn receiving_shows_the_same<A: PathAlgebra>(_algebra: A)
+    ensures { (t : Setup A) (before after : List (PartData A A.Value)) (p : PartData A A.Value) (batch : List (Item A.Value)) (boxes behind : List (ℕ × List (Item A.Value))) (c : CoreState A.Value) →
+        Shows A.meaning t (before ++ p ∷ after) (mail_weight (boxes ++ (p.shard, batch) ∷ behind)) c →
+        Shows A.meaning t (before ++ record p { queue = p.queue ++ batch } ∷ after) (mail_weight (boxes ++ (p.shard, []) ∷ behind)) c }
+{}

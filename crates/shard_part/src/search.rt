@@ -1,0 +1,65 @@
+ghost use Rattle.std.specs.Prelude.{◌≡◌, ℕ, ◌<◌, length, slice_index};
+ghost use Rattle.shard_part.specs.Tables.{Rises, StandsIn};
+
+use road_graph::{ArcNo, Vertex};
+
+/// Where a vertex stands in a list that rises. In a list of neighbours it is found at the first look.
+pub(crate) fn find_vertex(list: &[Vertex], v: Vertex) -> usize
+    requires rises { Rises list.now }
+    requires stands { StandsIn list.now v }
+    ensures inside { result < length list.now }
+    ensures found { slice_index list.now result ≡ v }
+{
+    if list.len() > 1 {
+        let first = list[1];
+        if v.0 >= first.0 {
+            let guess = (v.0 - first.0) as usize + 1;
+            if guess < list.len() && list[guess] == v {
+                return guess;
+            }
+        }
+    }
+    halve(list, v)
+}
+
+/// Where a vertex stands in a list that rises, by halving.
+fn halve(list: &[Vertex], v: Vertex) -> usize
+    requires rises { Rises list.now }
+    requires stands { StandsIn list.now v }
+    ensures inside { result < length list.now }
+    ensures found { slice_index list.now result ≡ v }
+{
+    let mut low = 0;
+    let mut high = list.len();
+    while high - low > 1 {
+        let middle = low + (high - low) / 2;
+        let there = list[middle];
+        if there.0 <= v.0 {
+            low = middle;
+        } else {
+            high = middle;
+        }
+    }
+    low
+}
+
+/// Where an arc stands in a list that rises.
+pub(crate) fn find_arc(list: &[ArcNo], a: ArcNo) -> usize
+    requires rises { Rises list.now }
+    requires stands { StandsIn list.now a }
+    ensures inside { result < length list.now }
+    ensures found { slice_index list.now result ≡ a }
+{
+    let mut low = 0;
+    let mut high = list.len();
+    while high - low > 1 {
+        let middle = low + (high - low) / 2;
+        let there = list[middle];
+        if there.0 <= a.0 {
+            low = middle;
+        } else {
+            high = middle;
+        }
+    }
+    low
+}

@@ -140,9 +140,11 @@ found_line ws =
 abbrev pub with_answer : AnswersSoFar → Told → AnswersSoFar
 with_answer s t = record { kind = s.kind; name = s.name; announced = s.announced; list = s.list ++ t ∷ []; stage = Between }
 
+-- the same answers, with the next line expected
 abbrev pub with_stage : AnswersSoFar → Stage → AnswersSoFar
 with_stage s stage = record { kind = s.kind; name = s.name; announced = s.announced; list = s.list; stage = stage }
 
+-- the answer to a question for all vertices, by how its first line names it
 abbrev pub told_lines : Named → List (Option Reached) → Told
 told_lines (OneSource s) lines = ToldSource s lines
 told_lines (ManySources ss) lines = ToldMulti ss lines
@@ -186,6 +188,7 @@ line_given n s ws count numbers =
     else if slice_index (word_at 0 ws).text 0 == 99 then Ok s
     else told_after n s ws count numbers
 
+-- a line, by its words alone
 abbrev pub line_read : ℕ → Option AnswersSoFar → List Word → Result (Option AnswersSoFar) ℕ
 line_read n s ws = line_given n s ws (length ws) (numbers_in (drop 1 ws))
 

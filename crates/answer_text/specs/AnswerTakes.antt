@@ -16,6 +16,7 @@ use Rattle.answer_text.specs.declared.answer_taker.AnswerTaker.{AnswerTaker}
 use Rattle.answer_text.specs.Told.{told_of, told_list_of}
 use Rattle.answer_text.specs.AnswerFiles.{Stage, Between, InLines, AfterPair, AfterFound, OneSource, ManySources, AnswersSoFar, number_in, numbers_in, answer_rules}
 
+-- the numbers that were listed, or the first fault among them
 abbrev pub numbers_or : Option Rule → List ℕ → Result (List ℕ) ℕ
 numbers_or None numbers = Ok numbers
 numbers_or (Some rule) numbers = Err (number_of rule)
@@ -39,6 +40,7 @@ pub record SoFar (l : PresentNumbers) (fs : List (List ℕ)) : Type 0 where
   pub letter_is : l.is_list ≡ begins_list fs
   pub numbers_are : l.is_list ≡ true → numbers_in (drop 1 (map word_of fs)) ≡ numbers_given l
 
+-- which line is expected, by the place that was reached
 abbrev pub stage_at : TakenAnswers → Place → Stage
 stage_at t places.Between = Between
 stage_at t (places.Source source) = InLines (OneSource source) t.lines.items
@@ -46,9 +48,11 @@ stage_at t places.Sources = InLines (ManySources t.sources.items) t.lines.items
 stage_at t (places.Pair source target) = AfterPair source target
 stage_at t (places.Found source target code hops) = AfterFound source target code hops
 
+-- the answers that were taken, and the line that is expected
 abbrev pub answers_so_far : TakenAnswers → AnswersSoFar
 answers_so_far t = record { kind = t.kind; name = t.name; announced = t.announced; list = map told_of t.list.items; stage = stage_at t t.place }
 
+-- the same, where a header was read
 abbrev pub begun_of : AnswerTaker → Option AnswersSoFar
 begun_of s = option_map answers_so_far s.begun
 

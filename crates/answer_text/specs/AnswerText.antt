@@ -22,9 +22,11 @@ header_words kind count name = codes "p" ∷ codes "ans" ∷ kind_word kind ∷ 
 abbrev pub source_words : ℕ → List (List ℕ)
 source_words source = codes "s" ∷ decimal source ∷ []
 
+-- the line that names a pair
 abbrev pub pair_words : ℕ → ℕ → List (List ℕ)
 pair_words source target = codes "q" ∷ decimal source ∷ decimal target ∷ []
 
+-- the line of a value and its hops
 abbrev pub found_words : ℕ → ℕ → List (List ℕ)
 found_words code hops = codes "d" ∷ decimal code ∷ decimal hops ∷ []
 

@@ -27,6 +27,7 @@ pub record ToldList : Type 0 where
   pub n : ℕ
   pub list : List Told
 
+-- what is told of a pair, as plain data
 abbrev pub found_of : Found → ToldFound
 found_of f = record { code = f.code; hops = f.hops; route = f.route.items }
 

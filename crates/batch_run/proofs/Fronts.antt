@@ -1,5 +1,5 @@
 -- The first answers begin the text of all answers.
-use Rattle.std.proofs.Common.{◌≡◌, ℕ, List, ◌++◌, take, sym, ap, ◌∙◌, append_assoc, All, Option, Result, Ok, Err, Vec}
+use Rattle.std.proofs.Common.{◌≡◌, ℕ, List, ◌++◌, take, sym, ap, ◌∙◌, append_assoc, All, Option, Result, Ok, Err, Vec, ◌<◌, ◌≤◌, ◌+◌, inl, inr, arith, ◌⊎◌}
 use Rattle.std.specs.declared.alloc.Global.{Global}
 use Rattle.std.proofs.lemmas.List.Elements.{All-map}
 use Rattle.road_graph.specs.Roads.{Roads}
@@ -11,6 +11,8 @@ use Rattle.answer_text.specs.Told.{Told, ToldList}
 use Rattle.answer_text.specs.IsAnswer.{AreAnswers, IsAnswerList}
 use Rattle.answer_text.specs.AnswerText.{answers_text}
 use Rattle.batch_run.specs.declared.faults.RunFault.{RunFault}
+use Rattle.std.specs.Prelude.{◌≢◌, IfErr}
+use Rattle.batch_run.specs.Ran.{IsPassedOn}
 use Rattle.batch_run.specs.Answered.{AsksWithin, begun_text, WroteFirst, WroteFront, WroteAllOrFirst, WroteAllOrFront}
 
 -- questions that a reader gives ask within the graph
@@ -39,3 +41,8 @@ module _ {V : Type 0} (A : Algebra V) (g : Roads) (q : Questions) (within : AreQ
   pub all_or_front : (old new : Option (List ℕ)) (r : Result (Unit {0}) RunFault) → WroteAllOrFirst A g (asked_of q) old new r → WroteAllOrFront A g (asked_of q) old new r
   all_or_front old new (Ok u) w = w
   all_or_front old new (Err f) w = front_of_first old new w
+
+-- what is passed on now is passed on, counted from an earlier moment
+pub passed_on_since : (r : Result (Unit {0}) RunFault) (held : List ℕ) (b m a : ℕ) → b ≤ m → IfErr r (λ f. f.number ≢ 42 → IsPassedOn held m a) → IfErr r (λ f. f.number ≢ 42 → IsPassedOn held b a)
+passed_on_since (Ok u) held b m a le h = h
+passed_on_since (Err f) held b m a le h = λ other. elim (h other) [ inl none ↦ inl none | inr more ↦ inr (omega (arith, le, more)) ]

@@ -1,5 +1,5 @@
 -- What a batch promises of its inputs and its output.
-use Rattle.std.specs.Prelude.{◌≡◌, ◌≢◌, ℕ, ◌<◌, ◌≤◌, ◌⊎◌, List, Option, None, Result, Ok, Err, IfSome}
+use Rattle.std.specs.Prelude.{◌≡◌, ◌≢◌, ℕ, ◌<◌, ◌≤◌, ◌⊎◌, List, [], Option, None, Result, Ok, Err, IfSome}
 use Rattle.road_graph.specs.Roads.{Roads, IsRoads}
 use Rattle.road_text.specs.Rules.{text_read}
 use Rattle.road_files.specs.Asked.{Asked}
@@ -58,3 +58,7 @@ abbrev pub IsFaultOf : (File → Type 0) → RunFault → Type 0
 IsFaultOf inputs f =
     (inputs f.file × (1 ≤ f.number) × (f.number ≤ 36))
     ⊎ ((f.file ≡ NoFile) × (f.line ≡ 0) × ((f.number ≡ 3) ⊎ ((f.number ≡ 42) ⊎ (f.number ≡ 43))))
+
+-- nothing is held back: all was passed on, or passing it on failed
+abbrev pub IsPassedOn : List ℕ → ℕ → ℕ → Type 0
+IsPassedOn held before after = (held ≡ []) ⊎ (before < after)

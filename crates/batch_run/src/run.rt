@@ -4,7 +4,7 @@ ghost use Rattle.std.specs.Io.KnownBytes.{Keeps};
 ghost use Rattle.road_files.specs.Asked.{AreQuestionsOf, asked_of};
 ghost use Rattle.batch_run.specs.Answered.{WroteAllOrFirst, WroteAllOrFront};
 ghost use Rattle.batch_run.specs.InRange.{AreInRange};
-ghost use Rattle.batch_run.specs.Ran.{Done, Begun, IsPairOf, IsBundleOf, IsGraphFault, IsQuestionsFault, IsBundleFault, IsFaultOf};
+ghost use Rattle.batch_run.specs.Ran.{IsPassedOn, Done, Begun, IsPairOf, IsBundleOf, IsGraphFault, IsQuestionsFault, IsBundleFault, IsFaultOf};
 
 use crate::answering::answer_at;
 use crate::faults::{File, RunFault, fault_in, fault_of_run};
@@ -39,6 +39,7 @@ fn answer_all<A: PathAlgebra, W: RoadWrite>(
     ensures text { WroteAllOrFirst (A.meaning algebra) graph.now (asked_of questions.now) (W.written out.old) (W.written out.new) result }
     ensures sound { OnOk result (W.failures out.new ≡ W.failures out.old) }
     ensures later { IfErr result (λ f. (f.file ≡ File.NoFile) × (f.line ≡ 0) × ((f.number ≡ 3) ⊎ (f.number ≡ 42)) × (f.number ≡ 42 → W.failures out.old < W.failures out.new)) }
+    ensures more { W.failures out.old ≤ W.failures out.new }
 {
     match write_header(
         out,
@@ -68,6 +69,7 @@ fn flush_all<W: RoadWrite>(out: &mut W, answered: Result<(), RunFault>) -> Resul
     ensures sound { OnOk result (W.failures out.new ≡ W.failures out.old) }
     ensures fault { IfErr result (λ f. (answered ≡ Err f) ⊎ ((f ≡ record { number = 42; file = File.NoFile; line = 0 }) × (answered ≡ Ok tt) × (W.failures out.old < W.failures out.new))) }
     ensures more { W.failures out.old ≤ W.failures out.new }
+    ensures flushed { IfErr result (λ f. f.number ≢ 42 → IsPassedOn (W.held out.new) (W.failures out.old) (W.failures out.new)) }
 {
     match answered {
         Err(fault) => {
@@ -96,6 +98,7 @@ fn answer_and_flush<A: PathAlgebra, W: RoadWrite>(
     ensures passed_on { OnOk result (W.held out.new ≡ []) }
     ensures sound { OnOk result (W.failures out.new ≡ W.failures out.old) }
     ensures later { IfErr result (λ f. (f.file ≡ File.NoFile) × (f.line ≡ 0) × ((f.number ≡ 3) ⊎ (f.number ≡ 42)) × (f.number ≡ 42 → W.failures out.old < W.failures out.new)) }
+    ensures flushed { IfErr result (λ f. f.number ≢ 42 → IsPassedOn (W.held out.new) (W.failures out.old) (W.failures out.new)) }
 {
     answers_exist(algebra);
     first_answers_begin_all(algebra);
@@ -135,6 +138,7 @@ pub fn run_pair<A: PathAlgebra, G: RoadRead, Q: RoadRead, W: RoadWrite, T: Gate>
     ensures nothing { IfErr result (λ f. f.file ≢ File.NoFile → Keeps (W.written out.old) (W.written out.new)) }
     ensures untouched { IfErr result (λ f. f.number ≡ 43 → (graph_in.new ≡ graph_in.old) × (questions_in.new ≡ questions_in.old) × (out.new ≡ out.old)) }
     ensures begun { IfErr result (λ f. f.file ≡ File.NoFile → f.number ≢ 43 → Begun (A.meaning algebra) (IsPairOf (G.left graph_in.old) (Q.left questions_in.old)) (W.written out.old) (W.written out.new)) }
+    ensures flushed { IfErr result (λ f. f.file ≡ File.NoFile → f.number ≡ 3 → IsPassedOn (W.held out.new) (W.failures out.old) (W.failures out.new)) }
 {
     if !settings.are_in_range() {
         return Err(fault_of_run(SETTINGS));
@@ -174,6 +178,7 @@ pub fn run_bundle<A: PathAlgebra, B: RoadRead, W: RoadWrite, T: Gate>(
     ensures nothing { IfErr result (λ f. f.file ≢ File.NoFile → Keeps (W.written out.old) (W.written out.new)) }
     ensures untouched { IfErr result (λ f. f.number ≡ 43 → (input.new ≡ input.old) × (out.new ≡ out.old)) }
     ensures begun { IfErr result (λ f. f.file ≡ File.NoFile → f.number ≢ 43 → Begun (A.meaning algebra) (IsBundleOf (B.left input.old)) (W.written out.old) (W.written out.new)) }
+    ensures flushed { IfErr result (λ f. f.file ≡ File.NoFile → f.number ≡ 3 → IsPassedOn (W.held out.new) (W.failures out.old) (W.failures out.new)) }
 {
     if !settings.are_in_range() {
         return Err(fault_of_run(SETTINGS));

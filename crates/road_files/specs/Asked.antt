@@ -42,9 +42,11 @@ asked_of (variants.Multi ls) = record { kind = kinds.Multi; questions = map of_l
 abbrev pub asked_of_sources : Vec ℕ Global → Asked
 asked_of_sources vs = asked_of (variants.Sources vs)
 
+-- what a list of pairs asks
 abbrev pub asked_of_pairs : Vec (ℕ × ℕ) Global → Asked
 asked_of_pairs ps = asked_of (variants.Pairs ps)
 
+-- what lists of sources ask
 abbrev pub asked_of_lists : Vec (Vec ℕ Global) Global → Asked
 asked_of_lists ls = asked_of (variants.Multi ls)
 

@@ -40,6 +40,7 @@ question_part_line roads s ws in_list count vertices = do
   questions ← question_line_of roads.vertices None s ws in_list count vertices
   Ok (InQuestions roads questions)
 
+-- a line, in the part that is read
 abbrev pub bundle_line : BundleSoFar → List Word → Result BundleSoFar ℕ
 bundle_line (InGraph s) ws = if begins_questions ws then first_question_line s ws else graph_part_line s ws
 bundle_line (InQuestions roads s) ws = question_part_line roads s ws (begins_list ws) (length ws) (vertices_in roads.vertices (drop 1 ws))

@@ -14,6 +14,7 @@ use Rattle.road_files.specs.GraphTakes.{roads_so_far, taken_of}
 use Rattle.road_files.specs.QuestionTakes.{SoFar, sources_given, begun_of}
 use Rattle.road_files.specs.BundleFiles.{BundleSoFar, InGraph, InQuestions, begins_questions, first_question_line, graph_part_line, question_part_line, bundle_of, bundle_rules}
 
+-- what was read so far, by the part that is read
 abbrev pub bundle_so_far : BundlePart → BundleSoFar
 bundle_so_far (parts.Graph g) = InGraph (taken_of g)
 bundle_so_far (parts.Questions p) = InQuestions (roads_so_far p.roads) (begun_of p.questions)

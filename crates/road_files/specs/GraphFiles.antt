@@ -64,6 +64,7 @@ gr_whole s = do
 abbrev pub graph_read : RoadsSoFar → Roads
 graph_read r = record { vertices = r.vertices; arcs = r.arcs }
 
+-- the graph, where all announced arcs are there
 abbrev pub gr_end : Option RoadsSoFar → Result Roads ℕ
 gr_end s = do
   roads ← gr_whole s

@@ -8,9 +8,11 @@ use Rattle.road_files.specs.declared.taken_roads.TakenRoads.{TakenRoads}
 use Rattle.road_files.specs.declared.graph_lines.GraphTaker.{GraphTaker}
 use Rattle.road_files.specs.GraphFiles.{RoadsSoFar, gr_rules}
 
+-- what was announced, and the arcs that were taken
 abbrev pub roads_so_far : TakenRoads → RoadsSoFar
 roads_so_far t = record { vertices = t.vertices; announced = t.announced; arcs = t.arcs.items }
 
+-- the same, where a problem line was read
 abbrev pub taken_of : GraphTaker → Option RoadsSoFar
 taken_of s = option_map roads_so_far s.taken
 

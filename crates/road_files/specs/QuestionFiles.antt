@@ -14,6 +14,7 @@ pub record AskedSoFar : Type 0 where
   pub announced : ℕ
   pub questions : List Question
 
+-- whether two kinds are the same
 abbrev pub same_kind : Kind → Kind → Bool
 same_kind Sources Sources = true
 same_kind Pairs Pairs = true
@@ -117,6 +118,7 @@ question_line_of n only s ws in_list count vertices =
     else if in_list then one_question Multi s (sources_of_line count vertices)
     else Err 13
 
+-- a line, by its words alone
 abbrev pub question_line : ℕ → Option Kind → Option AskedSoFar → List Word → Result (Option AskedSoFar) ℕ
 question_line n only s ws = question_line_of n only s ws (begins_list ws) (length ws) (vertices_in n (drop 1 ws))
 

@@ -14,6 +14,7 @@ use Rattle.road_files.specs.declared.question_taker.QuestionTaker.{QuestionTaker
 use Rattle.road_files.specs.Asked.{asked_of, AreQuestionsOf}
 use Rattle.road_files.specs.QuestionFiles.{AskedSoFar, vertices_in, begins_list, may_be, question_rules}
 
+-- the sources that were listed, or the first fault among them
 abbrev pub sources_or : Option Rule → List ℕ → Result (List ℕ) ℕ
 sources_or None sources = Ok sources
 sources_or (Some rule) sources = Err (number_of rule)
@@ -28,9 +29,11 @@ pub record SoFar (l : PresentList) (fs : List (List ℕ)) : Type 0 where
   pub letter : l.is_list ≡ begins_list (map word_of fs)
   pub sources : l.is_list ≡ true → length fs ≤ 1025 → vertices_in l.vertices (drop 1 (map word_of fs)) ≡ sources_given l
 
+-- what was announced, and the questions that were taken
 abbrev pub asked_so_far : TakenQuestions → AskedSoFar
 asked_so_far t = record { kind = (asked_of t.questions).kind; announced = t.announced; questions = (asked_of t.questions).questions }
 
+-- the same, where a problem line was read
 abbrev pub begun_of : QuestionTaker → Option AskedSoFar
 begun_of s = option_map asked_so_far s.begun
 

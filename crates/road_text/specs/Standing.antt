@@ -11,6 +11,7 @@ use Rattle.road_text.specs.Rules.{too_long}
 use Rattle.road_text.specs.Scans.{scan_of}
 use Rattle.road_text.specs.Scans.{Shows, Scan}
 
+-- whether the last byte is a CR
 abbrev pub ends_in_return : List ℕ → Bool
 ends_in_return line = slice_index line (length line - 1) == 13
 
@@ -80,6 +81,7 @@ SomeTextGives gives taker r = (all : List ℕ) × TextGives gives taker all r
 abbrev pub Behind : {T V : Type 0} → Way T V → T → List ℕ → LineReader T → Type 0
 Behind {V = V} gives taker done s = (s.count ≡ length done) × ((cut : Bool) (more : List ℕ) (r : Result V ReadFault) → Leads cut gives s more r → gives.gives cut taker 1 (lines cut (done ++ more)) r)
 
+-- what was read so far leads on to what the rest gives, where the reader tells it
 abbrev pub Stands : {T V : Type 0} → Way T V → T → Option (List ℕ) → Option (List ℕ) → LineReader T → Type 0
 Stands gives taker None now s = (done : List ℕ) × Behind gives taker done s
 Stands gives taker (Some all) None s = ⊥

@@ -47,10 +47,12 @@ abbrev pub hops_if : ℕ → List (Option ℕ) → ℕ → Option ℕ → List (
 hops_if k hops v None = slice_set hops (v - 1) (Some k)
 hops_if k hops v (Some j) = hops
 
+-- the parents after a tight arc led to a vertex with these hops
 abbrev pub parents_if : ℕ → List (Option ℕ) → ℕ → ℕ → Option ℕ → List (Option ℕ)
 parents_if k parents v u None = slice_set parents (v - 1) (Some u)
 parents_if k parents v u (Some j) = cond (eqb j k) (slice_set parents (v - 1) (lesser (label_of parents v) u)) parents
 
+-- the next level after that
 abbrev pub next_if : List ℕ → ℕ → Option ℕ → List ℕ
 next_if next v None = next ++ (v ∷ [])
 next_if next v (Some j) = next

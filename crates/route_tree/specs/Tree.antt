@@ -9,9 +9,11 @@ pub record Branches : Type 0 where
   pub hops : List (Option ℕ)
   pub parents : List (Option ℕ)
 
+-- the hops of a vertex
 abbrev pub hops_of : Branches → ℕ → Option ℕ
 hops_of t v = label_of t.hops v
 
+-- the parent of a vertex
 abbrev pub parent_of : Branches → ℕ → Option ℕ
 parent_of t v = label_of t.parents v
 
@@ -27,6 +29,7 @@ IsParentAt A g sources v None None = IsUnreached A g sources v
 IsParentAt A g sources v (Some k) None = Contains sources v
 IsParentAt A g sources v (Some k) (Some u) = IsParent A g sources v u
 
+-- hops and parents are right at every vertex
 pub record IsTree {V : Type 0} (A : Algebra V) (g : Roads) (sources : List ℕ) (t : Branches) : Type 0 where
   pub hops_count : length t.hops ≡ g.vertices
   pub parents_count : length t.parents ≡ g.vertices
@@ -40,6 +43,7 @@ IsLinkedAt t None (Some u) = ⊥
 IsLinkedAt t (Some k) None = k ≡ 0
 IsLinkedAt t (Some k) (Some u) = (1 ≤ u) × (u ≤ length t.hops) × ((j : ℕ) × (hops_of t u ≡ Some j) × (j + 1 ≡ k))
 
+-- each vertex is linked to its parent
 pub record IsLinked (t : Branches) : Type 0 where
   pub count : length t.parents ≡ length t.hops
   pub links : (v : ℕ) → 1 ≤ v → v ≤ length t.hops → IsLinkedAt t (hops_of t v) (parent_of t v)

@@ -52,6 +52,7 @@ module _ {V : Type 0} (A : Algebra V) (N : Network) where
   label_changes v c [] = 0
   label_changes v c (e ∷ es) = one_if (not (same_label A (c.label v) ((step A N c e).label v))) + label_changes v (step A N c e) es
 
+-- the four counts of a list of events
 pub record Totals : Type 0 where
   pub sent : ℕ
   pub delivered : ℕ

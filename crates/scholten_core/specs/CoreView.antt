@@ -15,6 +15,7 @@ pub record Problem (S : Type 0) : Type 0 where
   pub roads : Roads
   pub source : ℕ
 
+-- what callers see of a running core: the question, and its tables
 pub record CoreView (S V : Type 0) : Type 0 where
   pub problem : Problem S
   pub labels : List (Option V)
@@ -32,9 +33,11 @@ state_of t = record {
   told = λ b. slice_index_or t.told b None;
 }
 
+-- the network of a question
 abbrev pub network_in : {S : Type 0} → Problem S → Network
 network_in p = network p.roads p.source
 
+-- the network of a core
 abbrev pub network_of : {S V : Type 0} → CoreView S V → Network
 network_of t = network_in t.problem
 

@@ -14,18 +14,21 @@ pub record CoreState (V : Type 0) : Type 0 where
   pub token : ℕ → Token V
   pub told : ℕ → Option V
 
+-- nothing stands on the arc
 abbrev pub is_idle : {V : Type 0} → Token V → Bool
 is_idle Idle = true
 is_idle (Message x) = false
 is_idle Held = false
 is_idle Signal = false
 
+-- a message stands on the arc
 abbrev pub is_message : {V : Type 0} → Token V → Bool
 is_message Idle = false
 is_message (Message x) = true
 is_message Held = false
 is_message Signal = false
 
+-- a signal stands on the arc
 abbrev pub is_signal : {V : Type 0} → Token V → Bool
 is_signal Idle = false
 is_signal (Message x) = false

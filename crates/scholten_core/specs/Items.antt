@@ -8,6 +8,7 @@ use Rattle.path_algebra.specs.Algebra.{Algebra}
 use Rattle.scholten_core.specs.Network.{Network}
 use Rattle.scholten_core.specs.Diffusion.{CoreState, is_due, out_idle, pump, sent, extend_label, Listed}
 
+-- the arc of an item
 abbrev pub item_arc : {V : Type 0} → Item V → ℕ
 item_arc (MessageOn b x) = b
 item_arc (SignalOn b) = b

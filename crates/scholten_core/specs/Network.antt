@@ -3,6 +3,7 @@
 use Rattle.std.specs.Prelude.{◌≡◌, ◌≢◌, ℕ, zero, suc, ◌<◌, ◌≤◌, ◌^◌, length}
 use Rattle.road_graph.specs.Roads.{Roads, arc_of}
 
+-- a graph and a source, as functions of the arc's number; arc 0 leads from the environment to the source
 pub record Network : Type 0 where
   pub arcs : ℕ
   pub source : ℕ

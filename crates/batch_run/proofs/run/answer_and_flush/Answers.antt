@@ -1,6 +1,6 @@
 use Rattle.road_files.specs.Asked.{asked_of}
 use Rattle.batch_run.proofs.Progress.{flushed}
-use Rattle.batch_run.proofs.Fronts.{all_or_front}
+use Rattle.batch_run.proofs.Fronts.{all_or_front, passed_on_since}
 use Rattle.batch_run.proofs.run.answer_and_flush.Goals as goal
 
 pub returns-clause-text : goal.returns-clause-text
@@ -10,3 +10,6 @@ returns-clause-text g c =
     all_or_front A roads c.args.questions.now c.requires (c.answers_exist.ensures roads c.vertices-n.ensures.roads) (c.first_answers_begin_all.ensures roads) _ _ c.flush_all.result
     (flushed A roads (asked_of c.args.questions.now) _ _ _ _ _ _ c.flush_all.ensures.bytes c.answer_all-answered.result c.flush_all.result
     c.answer_all-answered.ensures.text c.flush_all.ensures.passed_on c.flush_all.ensures.fault)
+
+pub returns-clause-flushed : goal.returns-clause-flushed
+returns-clause-flushed g c = passed_on_since c.flush_all.result _ _ _ _ c.answer_all-answered.ensures.more c.flush_all.ensures.flushed

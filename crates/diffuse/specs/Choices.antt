@@ -12,6 +12,11 @@ GoTogether names.Within (Some limit) = limit ≤ 2 ^ 63
 GoTogether names.Own limit = ⊥
 GoTogether _ limit = limit ≡ None
 
+-- the word is no algebra's name, or the limit does not go with that algebra
+abbrev pub CannotBe : Option AlgebraName → Option ℕ → Type 0
+CannotBe None limit = Unit {0}
+CannotBe (Some name) limit = GoTogether name limit → ⊥
+
 -- the name of the algebra that was chosen
 abbrev pub name_of : Chosen → AlgebraName
 name_of chosen.Shortest = names.Shortest

@@ -1,9 +1,9 @@
 //! `diffuse`: answers questions over road graphs: shortest, widest, reachability, hop, reliability and limited ones.
 #![tactic(auto)]
 
-ghost use Rattle.std.specs.Prelude.{◌≡◌, Some, IfOk, IfErr};
+ghost use Rattle.std.specs.Prelude.{◌≡◌, Some, IfOk, IfErr, OnErr};
 ghost use Rattle.path_algebra.specs.Names.{name_of_text};
-ghost use Rattle.diffuse.specs.Choices.{limit_of, name_of};
+ghost use Rattle.diffuse.specs.Choices.{CannotBe, limit_of, name_of};
 
 mod chosen;
 mod jobs;
@@ -45,6 +45,7 @@ fn algebra_of(wanted: &Wanted<'_>) -> Result<Chosen, RunFault>
     ensures name { IfOk result (λ chosen. name_of_text wanted.now.algebra.now ≡ Some (name_of chosen)) }
     ensures limit { IfOk result (λ chosen. limit_of chosen ≡ wanted.now.limit) }
     ensures fault { IfErr result (λ f. f ≡ record { number = 43; file = File.NoFile; line = 0 }) }
+    ensures refuses { OnErr result (CannotBe (name_of_text wanted.now.algebra.now) wanted.now.limit) }
 {
     match AlgebraName::from_text(wanted.algebra.as_bytes()) {
         Some(name) => match choose(name, wanted.limit) {

@@ -24,8 +24,11 @@ def seconds(value):
     return "%.1f ms" % (value * 1e3) if value < 0.1 else "%.0f ms" % (value * 1e3) if value < 1 else "%.2f s" % value
 
 
-def megabytes(value):
-    return "%.1f MB" % (value / 1e6) if value < 1e8 else "%.0f MB" % (value / 1e6)
+def size(value):
+    for unit, name in ((1e9, "GB"), (1e6, "MB")):
+        if value >= unit:
+            return "%.3g %s" % (value / unit, name)
+    return "%d bytes" % value
 
 
 def spread(ratios):
@@ -72,6 +75,6 @@ def aims_of(cases, aims, named):
 
 def tables(cases, growing, aims, named):
     return [table_of("Processor time: ratios as median (least to greatest)", TIME, seconds, cases),
-            table_of("Peak memory: ratios as median (least to greatest)", PEAK, megabytes, cases),
+            table_of("Peak memory: ratios as median (least to greatest)", PEAK, size, cases),
             aims_of(cases, aims, named),
             growth_of(growing)]

@@ -2,7 +2,7 @@
 import math
 import statistics
 
-from cases import ONE_SOURCE, PEAK, PEER, TIME
+from cases import PEAK, PEER, TIME
 
 
 class Table:
@@ -60,21 +60,20 @@ def growth_of(cases):
     return table
 
 
-def aims_of(cases, aims, named):
+def aims_of(cases, aims):
     """Whether the median ratio to the baseline is at most what is aimed at, and how far it is from it."""
     table = Table("Aims: ratios to the baseline", ["Graph and questions", "Of", "Aim: at most", "Median", "Aim"])
-    for case in cases:
-        if case.kind != ONE_SOURCE or case.roads.name not in named:
-            continue
-        for what, most in aims.items():
-            median = statistics.median(case.ratios("baseline", what))
-            word = "met" if median <= most else "missed by %.0f %%" % (100 * (median / most - 1))
-            table.rows.append([case.title(), what, "%.2f" % most, "%.2f" % median, word])
+    for name, kind, what, most in aims:
+        for case in cases:
+            if (case.roads.name, case.kind) == (name, kind):
+                median = statistics.median(case.ratios("baseline", what))
+                word = "met" if median <= most else "missed by %.0f %%" % (100 * (median / most - 1))
+                table.rows.append([case.title(), what, "%.2f" % most, "%.2f" % median, word])
     return table
 
 
-def tables(cases, growing, aims, named):
+def tables(cases, growing, aims):
     return [table_of("Processor time: ratios as median (least to greatest)", TIME, seconds, cases),
             table_of("Peak memory: ratios as median (least to greatest)", PEAK, size, cases),
-            aims_of(cases, aims, named),
+            aims_of(cases, aims),
             growth_of(growing)]

@@ -1,0 +1,443 @@
+-- Lines that are certified are the right answer, and the right answer is certified.
+use Rattle.std.proofs.Common.{◌≡◌, ℕ, zero, suc, ◌+◌, ◌-◌, ◌<◌, ◌≤◌, ◌^◌, ◌⊎◌, inl, inr, List, [], ◌∷◌, ◌++◌, length, map, get_or, refl, ap, sym, ◌∙◌, subst, arith, Option, Some, None}
+use Rattle.std.proofs.lemmas.List.{length-append, length-map}
+use Rattle.std.proofs.lemmas.List.Elements.{All-nil, All-cons, All-head, All-tail, All-append}
+use Rattle.std.proofs.lemmas.Bool.{cases_eq}
+use Rattle.route_tree.proofs.Elements.{not_in_empty, head_or_tail, here, later}
+use Rattle.std.specs.Prelude.{IsTrue, Contains, All}
+use Rattle.road_graph.specs.Roads.{Roads, IsRoads, HasArc, HasVertex, arc_of}
+use Rattle.path_algebra.specs.Algebra.{Algebra, IsLawful}
+use Rattle.path_algebra.specs.Walks.{IsWalk, IsWalkValue, IsBest, IsBestLabel, IsUnreached, AreBest, IsTight, IsTightWalk, AreHops, IsNearer, IsParent, label_of}
+use Rattle.path_algebra.proofs.Walks.{IsWalk-snoc, IsWalkValue-extend, walk_value_is_value, labels_are_best}
+use Rattle.path_algebra.proofs.Tight.{never_better_along, best_is_one}
+use Rattle.answer_text.specs.declared.answers.Reached.{Reached}
+use Rattle.answer_text.specs.IsAnswer.{IsBestCode, IsParentOrZero, IsReachedLine, IsLine, AreLines}
+use Rattle.answer_check.specs.Reasons.{IsCodeOf, Brings, source_line}
+use Rattle.answer_check.specs.Certificates.{IsSupported, IsRightLine, IsCertifiedAt, AreCertified}
+
+pub same_some : {X : Type 0} (o : Option X) (x y : X) → o ≡ Some x → o ≡ Some y → x ≡ y
+same_some o x y e f = let s : Some x ≡ Some y = sym e ∙ f in cc
+
+-- the value that a line tells
+abbrev value_told : {V : Type 0} → Algebra V → Option Reached → Option V
+value_told A None = None
+value_told A (Some r) = A.value_of r.code
+
+label_of-map : {X Y : Type 0} (f : Option X → Option Y) (xs : List (Option X)) (v : ℕ) → f None ≡ None → label_of (map f xs) v ≡ f (label_of xs v)
+label_of-map {X} {Y} f xs v none = at xs (v - 1)
+  where
+    at : (ys : List (Option X)) (k : ℕ) → get_or (map f ys) k None ≡ f (get_or ys k None)
+    at [] k = sym none
+    at (y ∷ ys) zero = refl
+    at (y ∷ ys) (suc k) = at ys k
+
+module _ {V : Type 0} (A : Algebra V) (lawful : IsLawful A) where
+  -- a number is the code of one value alone
+  pub code_of_one : (c : ℕ) (x y : V) → IsCodeOf A c x → IsCodeOf A c y → x ≡ y
+  code_of_one c x y h k = same_some (A.value_of c) x y (ap A.value_of h.1 ∙ lawful.value_of_code x h.0) (ap A.value_of k.1 ∙ lawful.value_of_code y k.0)
+
+  value_of_code_of : (c : ℕ) (x : V) → IsCodeOf A c x → A.value_of c ≡ Some x
+  value_of_code_of c x h = ap A.value_of h.1 ∙ lawful.value_of_code x h.0
+
+  no_worse_itself : (x : V) → IsTrue (A.no_worse x x)
+  no_worse_itself x = elim (lawful.ordered.total x x) [ inl e ↦ e | inr e ↦ e ]
+
+  module _ (g : Roads) (roads : IsRoads g) (sources : List ℕ) (in_s : (s : ℕ) → Contains sources s → HasVertex g s) (lines : List (Option Reached)) where
+    walk_has_code : (v : ℕ) (c : ℕ) (x : V) → IsWalkValue A g sources v x → c ≡ A.code x → IsCodeOf A c x
+    walk_has_code v c x w e = (walk_value_is_value A lawful g roads sources v x w, e)
+
+    -- what an arc brings, where the line of its tail tells the value of a walk
+    brings_walk : (u v : ℕ) (near : Reached) (x z : V) → IsWalkValue A g sources u x → near.code ≡ A.code x → Brings A g lines u v near z → IsWalkValue A g sources v z
+    brings_walk u v near x z w e b =
+        let same : b.value ≡ x = code_of_one near.code b.value x b.code_is (walk_has_code u near.code x w e) in
+        let from : IsWalkValue A g sources u b.value = subst (λ (y : V). IsWalkValue A g sources u y) (sym same) w in
+        subst (λ (k : ℕ). IsWalkValue A g sources k z) b.head_is (IsWalkValue-extend A g sources u b.arc b.value z from b.is_arc b.tail_is b.extends)
+
+    origin_walk : (s : ℕ) → Contains sources s → IsWalkValue A g sources s A.origin
+    origin_walk s h = ([], (s, h, refl), refl)
+
+    origin_best : (v : ℕ) (y : V) → IsWalkValue A g sources v y → IsTrue (A.no_worse A.origin y)
+    origin_best v y w = never_better_along A lawful g roads w.1.0 w.0 v A.origin y w.1.2 lawful.origin_is_value w.2
+
+    tail_in : (u v : ℕ) (near : Reached) (z : V) → Brings A g lines u v near z → HasVertex g u
+    tail_in u v near z b = subst (λ (k : ℕ). HasVertex g k) b.tail_is (roads.ends b.arc b.is_arc).0
+
+    -- a walk of tight arcs goes on by a tight arc
+    tight_more : (u k a : ℕ) → IsTightWalk A g sources u k → IsTight A g sources a → (arc_of g a).tail ≡ u → IsTightWalk A g sources (arc_of g a).head (k + 1)
+    tight_more u k a w t e =
+        let n = length-append w.0 (a ∷ []) in
+        let l = w.3 in (
+          w.0 ++ a ∷ [],
+          (w.1.0, w.1.1, IsWalk-snoc g w.1.0 w.0 u a w.1.2 t.arc e),
+          All-append (IsTight A g sources) w.0 (a ∷ []) w.2 (All-cons (IsTight A g sources) a [] t (All-nil (IsTight A g sources))),
+          omega (arith, n, l),
+        )
+
+    -- an arc that brings the best value of its head is tight, where its tail's line tells the best value
+    brings_tight : (u v : ℕ) (near : Reached) (x y : V) → IsBest A g sources u x → near.code ≡ A.code x → IsBest A g sources v y → (b : Brings A g lines u v near y) → IsTight A g sources b.arc
+    brings_tight u v near x y best_u e best_v b =
+        let same : b.value ≡ x = code_of_one near.code b.value x b.code_is (walk_has_code u near.code x best_u.attained e) in
+        record {
+          arc = b.is_arc;
+          tail = x;
+          head = y;
+          tail_best = subst (λ (k : ℕ). IsBest A g sources k x) (sym b.tail_is) best_u;
+          head_best = subst (λ (k : ℕ). IsBest A g sources k y) (sym b.head_is) best_v;
+          extends = subst (λ (t : V). A.extend t (arc_of g b.arc).weight ≡ Some y) same b.extends;
+        }
+
+    -- a tight arc brings the best value of its head
+    tight_brings : (a : ℕ) (near : Reached) (x y : V) → IsTight A g sources a → label_of lines (arc_of g a).tail ≡ Some near → near.code ≡ A.code x →
+        IsBest A g sources (arc_of g a).tail x → IsBest A g sources (arc_of g a).head y → Brings A g lines (arc_of g a).tail (arc_of g a).head near y
+    tight_brings a near x y t line e best_u best_v =
+        let from : t.tail ≡ x = best_is_one A lawful g roads sources (arc_of g a).tail t.tail x t.tail_best best_u in
+        let to : t.head ≡ y = best_is_one A lawful g roads sources (arc_of g a).head t.head y t.head_best best_v in
+        record {
+          arc = a;
+          is_arc = t.arc;
+          tail_is = refl;
+          head_is = refl;
+          value = x;
+          line_is = line;
+          code_is = walk_has_code (arc_of g a).tail near.code x best_u.attained e;
+          extends = ap (λ (q : V). A.extend q (arc_of g a).weight) (sym from) ∙ t.extends ∙ ap (λ (q : V). Some q) to;
+        }
+
+    source_walk : (v k : ℕ) → Contains sources v → k ≡ 0 → IsTightWalk A g sources v k
+    source_walk v k h e = ([], (v, h, refl), All-nil (IsTight A g sources), sym e)
+
+    module _ (certified : AreCertified A g sources lines) where
+      -- the line of v tells the value of a walk
+      abbrev TellsWalk : ℕ → Reached → Type 0
+      TellsWalk v r = (x : V) × IsWalkValue A g sources v x × (r.code ≡ A.code x)
+
+      source_tells : (v : ℕ) (r : Reached) → Contains sources v → label_of lines v ≡ Some r → label_of lines v ≡ source_line A → TellsWalk v r
+      source_tells v r h e is =
+          let same = same_some (label_of lines v) r (record { code = A.code A.origin; hops = 0; parent = 0 }) e is in
+          (A.origin, origin_walk v h, ap (λ (q : Reached). q.code) same)
+
+      supported : (v : ℕ) (r : Reached) (l : Option Reached) → l ≡ Some r → IsRightLine A g lines v l → IsSupported A g lines v r
+      supported v r None e h = let bad : None ≡ Some r = e in cc
+      supported v r (Some q) e h = let same = same_some (Some q) q r refl e in subst (λ (t : Reached). IsSupported A g lines v t) same h
+
+      support_at : (v : ℕ) (r : Reached) → label_of lines v ≡ Some r → IsCertifiedAt A g sources lines v → (Contains sources v × (label_of lines v ≡ source_line A)) ⊎ ((Contains sources v → ⊥) × IsSupported A g lines v r)
+      support_at v r e h = elim h [ inl s ↦ inl s | inr n ↦ inr (n.0, supported v r (label_of lines v) e n.1) ]
+
+      -- along parents hops grow less, down to a source
+      tells_by_hops : (n v : ℕ) (r : Reached) → HasVertex g v → label_of lines v ≡ Some r → r.hops ≤ n → TellsWalk v r
+      tells_by_hops zero v r in_v e few = elim (support_at v r e (certified.each v in_v)) [
+        | inl s ↦ source_tells v r s.0 e s.1
+        | inr h ↦ let one = h.1.hops_are in absurd (omega (arith, one, few))
+      ]
+      tells_by_hops (suc n) v r in_v e few = elim (support_at v r e (certified.each v in_v)) [
+        | inl s ↦ source_tells v r s.0 e s.1
+        | inr h ↦
+            let sup = h.1 in
+            let one = sup.hops_are in
+            let from = sup.from_parent in
+            let w = tells_by_hops n r.parent sup.near (tail_in r.parent v sup.near sup.value from) from.line_is (omega (arith, one, few)) in
+            (sup.value, brings_walk r.parent v sup.near w.0 sup.value w.1 w.2 from, sup.code_is.1)
+      ]
+
+      tells : (v : ℕ) (r : Reached) → HasVertex g v → label_of lines v ≡ Some r → TellsWalk v r
+      tells v r in_v e = tells_by_hops r.hops v r in_v e (omega arith)
+
+      -- the values that the lines tell, as labels
+      abbrev labels : List (Option V)
+      labels = map (value_told A) lines
+
+      label_is : (v : ℕ) → label_of labels v ≡ value_told A (label_of lines v)
+      label_is v = label_of-map (value_told A) lines v refl
+
+      label_told : (v : ℕ) (r : Reached) (x : V) → label_of lines v ≡ Some r → IsCodeOf A r.code x → label_of labels v ≡ Some x
+      label_told v r x e h = label_is v ∙ ap (value_told A) e ∙ value_of_code_of r.code x h
+
+      unlabelled : (v : ℕ) → label_of lines v ≡ None → label_of labels v ≡ None
+      unlabelled v e = label_is v ∙ ap (value_told A) e
+
+      -- a label is told by a line
+      told_by : (v : ℕ) (x : V) → HasVertex g v → label_of labels v ≡ Some x → (l : Option Reached) → label_of lines v ≡ l → (r : Reached) × (label_of lines v ≡ Some r) × IsWalkValue A g sources v x × (r.code ≡ A.code x)
+      told_by v x in_v e None f = let bad : None ≡ Some x = sym (unlabelled v f) ∙ e in cc
+      told_by v x in_v e (Some r) f =
+          let t = tells v r in_v f in
+          let same : t.0 ≡ x = same_some (label_of labels v) t.0 x (label_told v r t.0 f (walk_has_code v r.code t.0 t.1 t.2)) e in
+          (r, f, subst (λ (y : V). IsWalkValue A g sources v y) same t.1, t.2 ∙ ap A.code same)
+
+      told_at : (v : ℕ) (x : V) → HasVertex g v → label_of labels v ≡ Some x → (r : Reached) × (label_of lines v ≡ Some r) × IsWalkValue A g sources v x × (r.code ≡ A.code x)
+      told_at v x in_v e = told_by v x in_v e (label_of lines v) refl
+
+      -- what a line tells is its label
+      label_at : (v : ℕ) (r : Reached) → HasVertex g v → label_of lines v ≡ Some r → (x : V) × (label_of labels v ≡ Some x) × IsWalkValue A g sources v x × (r.code ≡ A.code x)
+      label_at v r in_v e = let t = tells v r in_v e in (t.0, label_told v r t.0 e (walk_has_code v r.code t.0 t.1 t.2), t.1, t.2)
+
+      origin_label : (s : ℕ) → label_of lines s ≡ source_line A → label_of labels s ≡ Some A.origin
+      origin_label s e = label_told s (record { code = A.code A.origin; hops = 0; parent = 0 }) A.origin e (lawful.origin_is_value, refl)
+
+      source_is : (s : ℕ) → Contains sources s → label_of lines s ≡ source_line A
+      source_is s h = elim (certified.each s (in_s s h)) [ inl k ↦ k.1 | inr n ↦ absurd (n.0 h) ]
+
+      -- no arc improves the label of its head
+      head_label : (v u : ℕ) (near : Reached) (x z : V) → HasVertex g v → Brings A g lines u v near z → IsWalkValue A g sources v z → (l : Option Reached) → label_of lines v ≡ l → IsCertifiedAt A g sources lines v →
+          (y : V) × (label_of labels v ≡ Some y) × IsTrue (A.no_worse y z)
+      head_label v u near x z in_v b w l e (inl s) = (A.origin, origin_label v s.1, origin_best v z w)
+      head_label v u near x z in_v b w None e (inr n) = absurd (let none : IsRightLine A g lines v None = subst (IsRightLine A g lines v) e n.1 in none u near z b)
+      head_label v u near x z in_v b w (Some r) e (inr n) =
+          let sup = supported v r (label_of lines v) e n.1 in
+          (sup.value, label_told v r sup.value e sup.code_is, sup.not_beaten u near z b)
+
+      not_improving : (a : ℕ) → HasArc g a → (x z : V) → label_of labels (arc_of g a).tail ≡ Some x → A.extend x (arc_of g a).weight ≡ Some z → (y : V) × (label_of labels (arc_of g a).head ≡ Some y) × IsTrue (A.no_worse y z)
+      not_improving a h x z e f =
+          let ends = roads.ends a h in
+          let t = told_at (arc_of g a).tail x ends.0 e in
+          let b : Brings A g lines (arc_of g a).tail (arc_of g a).head t.0 z = record {
+            arc = a;
+            is_arc = h;
+            tail_is = refl;
+            head_is = refl;
+            value = x;
+            line_is = t.1;
+            code_is = walk_has_code (arc_of g a).tail t.0.code x t.2 t.3;
+            extends = f;
+          } in
+          head_label (arc_of g a).head (arc_of g a).tail t.0 x z ends.1 b (IsWalkValue-extend A g sources (arc_of g a).tail a x z t.2 h refl f) (label_of lines (arc_of g a).head) refl (certified.each (arc_of g a).head ends.1)
+
+      best : AreBest A g sources labels
+      best = labels_are_best A lawful g roads sources labels (λ v x in_v e. (told_at v x in_v e).2) not_improving in_s (λ s h. (A.origin, origin_label s (source_is s h), no_worse_itself A.origin))
+          (length-map lines (value_told A) ∙ certified.count)
+
+      best_at : (v : ℕ) (x : V) → HasVertex g v → label_of labels v ≡ Some x → IsBest A g sources v x
+      best_at v x in_v e = subst (λ (l : Option V). IsBestLabel A g sources v l) e (best.best v in_v)
+
+      -- the line of a vertex tells its best value
+      tells_best : (v : ℕ) (r : Reached) → HasVertex g v → label_of lines v ≡ Some r → (x : V) × IsBest A g sources v x × (r.code ≡ A.code x)
+      tells_best v r in_v e = let l = label_at v r in_v e in (l.0, best_at v l.0 in_v l.1, l.3)
+
+      -- a vertex with a best value has a line that tells it
+      line_by : (v : ℕ) (x : V) → HasVertex g v → IsBest A g sources v x → (l : Option Reached) → label_of lines v ≡ l → (r : Reached) × (label_of lines v ≡ Some r) × (r.code ≡ A.code x)
+      line_by v x in_v b None e =
+          let none : IsBestLabel A g sources v None = subst (λ (l : Option V). IsBestLabel A g sources v l) (unlabelled v e) (best.best v in_v) in
+          absurd (none x b.attained)
+      line_by v x in_v b (Some r) e =
+          let t = tells_best v r in_v e in
+          (r, e, t.2 ∙ ap A.code (best_is_one A lawful g roads sources v t.0 x t.1 b))
+
+      line_of_best : (v : ℕ) (x : V) → HasVertex g v → IsBest A g sources v x → (r : Reached) × (label_of lines v ≡ Some r) × (r.code ≡ A.code x)
+      line_of_best v x in_v b = line_by v x in_v b (label_of lines v) refl
+
+      -- the value of a supported line is the best
+      support_best : (v : ℕ) (r : Reached) → HasVertex g v → label_of lines v ≡ Some r → (sup : IsSupported A g lines v r) → IsBest A g sources v sup.value
+      support_best v r in_v e sup = best_at v sup.value in_v (label_told v r sup.value e sup.code_is)
+
+      -- the arc from the parent is tight
+      parent_tight : (v : ℕ) (r : Reached) → HasVertex g v → label_of lines v ≡ Some r → (sup : IsSupported A g lines v r) → IsTight A g sources sup.from_parent.arc
+      parent_tight v r in_v e sup =
+          let from = sup.from_parent in
+          let u = tells_best r.parent sup.near (tail_in r.parent v sup.near sup.value from) from.line_is in
+          brings_tight r.parent v sup.near u.0 sup.value u.1 u.2 (support_best v r in_v e sup) from
+
+      source_hops : (v : ℕ) (r : Reached) → label_of lines v ≡ Some r → label_of lines v ≡ source_line A → (r.hops ≡ 0) × (r.parent ≡ 0)
+      source_hops v r e is =
+          let same = same_some (label_of lines v) r (record { code = A.code A.origin; hops = 0; parent = 0 }) e is in
+          (ap (λ (q : Reached). q.hops) same, ap (λ (q : Reached). q.parent) same)
+
+      -- along parents leads a walk of tight arcs, as long as the hops tell
+      tight_by_hops : (n v : ℕ) (r : Reached) → HasVertex g v → label_of lines v ≡ Some r → r.hops ≤ n → IsTightWalk A g sources v r.hops
+      tight_by_hops zero v r in_v e few = elim (support_at v r e (certified.each v in_v)) [
+        | inl s ↦ source_walk v r.hops s.0 (source_hops v r e s.1).0
+        | inr h ↦ let one = h.1.hops_are in absurd (omega (arith, one, few))
+      ]
+      tight_by_hops (suc n) v r in_v e few = elim (support_at v r e (certified.each v in_v)) [
+        | inl s ↦ source_walk v r.hops s.0 (source_hops v r e s.1).0
+        | inr h ↦
+            let sup = h.1 in
+            let one = sup.hops_are in
+            let from = sup.from_parent in
+            let w = tight_by_hops n r.parent sup.near (tail_in r.parent v sup.near sup.value from) from.line_is (omega (arith, one, few)) in
+            let more = tight_more r.parent sup.near.hops from.arc w (parent_tight v r in_v e sup) from.tail_is in
+            subst (λ (k : ℕ). IsTightWalk A g sources v k) one (subst (λ (t : ℕ). IsTightWalk A g sources t (sup.near.hops + 1)) from.head_is more)
+      ]
+
+      -- a tight arc adds one hop at most
+      one_more : (a : ℕ) (near : Reached) → IsTight A g sources a → label_of lines (arc_of g a).tail ≡ Some near →
+          (r : Reached) × (label_of lines (arc_of g a).head ≡ Some r) × (r.hops ≤ near.hops + 1)
+      one_more a near t e =
+          let ends = roads.ends a t.arc in
+          let v = (arc_of g a).head in
+          let u = tells_best (arc_of g a).tail near ends.0 e in
+          let line = line_of_best v t.head ends.1 t.head_best in
+          let b = tight_brings a near u.0 t.head t e u.2 u.1 t.head_best in (
+            line.0,
+            line.1,
+            elim (support_at v line.0 line.1 (certified.each v ends.1)) [
+              | inl s ↦ let z = (source_hops v line.0 line.1 s.1).0 in omega (arith, z)
+              | inr h ↦
+                  let sup = h.1 in
+                  let same = best_is_one A lawful g roads sources v t.head sup.value t.head_best (support_best v line.0 ends.1 line.1 sup) in
+                  sup.not_nearer (arc_of g a).tail near (subst (λ (y : V). Brings A g lines (arc_of g a).tail v near y) same b)
+            ],
+          )
+
+      hops_along : (u : ℕ) (p : List ℕ) (v : ℕ) (near r : Reached) → IsWalk g u p v → All (IsTight A g sources) p → label_of lines u ≡ Some near → label_of lines v ≡ Some r → r.hops ≤ near.hops + length p
+      hops_along u [] v near r w all e f =
+          let same = same_some (label_of lines v) near r (ap (label_of lines) (sym w) ∙ e) f in
+          let hops = ap (λ (q : Reached). q.hops) same in omega (arith, hops)
+      hops_along u (a ∷ p) v near r w all e f =
+          let next = one_more a near (All-head (IsTight A g sources) a p all) (ap (label_of lines) w.1 ∙ e) in
+          let rest = hops_along (arc_of g a).head p v next.0 r w.2 (All-tail (IsTight A g sources) a p all) next.1 f in
+          let one = next.2 in omega (arith, rest, one)
+
+      hops_least : (v : ℕ) (r : Reached) → label_of lines v ≡ Some r → (j : ℕ) → IsTightWalk A g sources v j → r.hops ≤ j
+      hops_least v r e j w =
+          let s = w.1.0 in
+          let b = hops_along s w.0 v (record { code = A.code A.origin; hops = 0; parent = 0 }) r w.1.2 w.2 (source_is s w.1.1) e in
+          let l = w.3 in omega (arith, b, l)
+
+      hops_are : (v : ℕ) (r : Reached) → HasVertex g v → label_of lines v ≡ Some r → AreHops A g sources v r.hops
+      hops_are v r in_v e = record { attained = tight_by_hops r.hops v r in_v e (omega arith); least = hops_least v r e }
+
+      parent_is : (v : ℕ) (r : Reached) → HasVertex g v → label_of lines v ≡ Some r → (Contains sources v → ⊥) → IsSupported A g lines v r → IsParent A g sources v r.parent
+      parent_is v r in_v e no_source sup = record {
+        no_source = no_source;
+        nearer =
+            let from = sup.from_parent in
+            let one = sup.hops_are in (
+              from.arc,
+              parent_tight v r in_v e sup,
+              from.tail_is,
+              from.head_is,
+              (sup.near.hops, hops_are r.parent sup.near (tail_in r.parent v sup.near sup.value from) from.line_is, subst (λ (k : ℕ). AreHops A g sources v k) (sym one) (hops_are v r in_v e)),
+            );
+        least = λ t n.
+            let a = n.0 in
+            let tight = n.1 in
+            let ends = roads.ends a tight.arc in
+            let line = line_of_best (arc_of g a).tail tight.tail ends.0 tight.tail_best in
+            let b : Brings A g lines (arc_of g a).tail (arc_of g a).head line.0 tight.head = tight_brings a line.0 tight.tail tight.head tight line.1 line.2 tight.tail_best tight.head_best in
+            let c : Brings A g lines t v line.0 tight.head = subst (λ (k : ℕ). Brings A g lines t k line.0 tight.head) n.3 (subst (λ (k : ℕ). Brings A g lines k (arc_of g a).head line.0 tight.head) n.2 b) in
+            let head_best : IsBest A g sources v tight.head = subst (λ (k : ℕ). IsBest A g sources k tight.head) n.3 tight.head_best in
+            let same = best_is_one A lawful g roads sources v tight.head sup.value head_best (support_best v r in_v e sup) in
+            let at_tail : AreHops A g sources t line.0.hops = subst (λ (k : ℕ). AreHops A g sources k line.0.hops) n.2 (hops_are (arc_of g a).tail line.0 ends.0 line.1) in
+            let k = n.4 in
+            let low = k.1.least line.0.hops at_tail.attained in
+            let high = at_tail.least k.0 k.1.attained in
+            let mine = hops_are v r in_v e in
+            let below = k.2.least r.hops mine.attained in
+            let above = mine.least (k.0 + 1) k.2.attained in
+            sup.not_lesser t line.0 (subst (λ (y : V). Brings A g lines t v line.0 y) same c) (omega (arith, low, high, below, above));
+      }
+
+      line_is_right : (v : ℕ) → HasVertex g v → (l : Option Reached) → label_of lines v ≡ l → IsLine A g sources v l
+      line_is_right v in_v None e = subst (λ (l : Option V). IsBestLabel A g sources v l) (unlabelled v e) (best.best v in_v)
+      line_is_right v in_v (Some r) e = record {
+        code = let t = tells_best v r in_v e in (t.0, t.1, t.2);
+        hops = hops_are v r in_v e;
+        parent = elim (support_at v r e (certified.each v in_v)) [
+          | inl s ↦ inl (s.0, (source_hops v r e s.1).1)
+          | inr h ↦ inr (parent_is v r in_v e h.0 h.1)
+        ];
+      }
+
+      -- lines that are certified are right
+      pub lines_are_right : AreLines A g sources lines
+      lines_are_right = record { count = certified.count; each = λ v in_v. line_is_right v in_v (label_of lines v) refl }
+
+    source_or_not : (xs : List ℕ) (v : ℕ) → Contains xs v ⊎ (Contains xs v → ⊥)
+    source_or_not [] v = inr (not_in_empty v)
+    source_or_not (x ∷ xs) v = elim (cases_eq x v) [
+      | inl same ↦ inl (subst (Contains (x ∷ xs)) same (here x xs))
+      | inr other ↦ elim (source_or_not xs v) [
+        | inl h ↦ inl (later x v xs h)
+        | inr none ↦ inr (λ h. elim (head_or_tail x v xs h) [ inl e ↦ other e | inr t ↦ none t ])
+      ]
+    ]
+
+    module _ (right : AreLines A g sources lines) where
+      line_at : (v : ℕ) (r : Reached) → HasVertex g v → label_of lines v ≡ Some r → IsReachedLine A g sources v r
+      line_at v r in_v e = subst (λ (l : Option Reached). IsLine A g sources v l) e (right.each v in_v)
+
+      -- a vertex that a walk with a value reaches has a line
+      line_reached : (v : ℕ) (x : V) → HasVertex g v → IsWalkValue A g sources v x → (l : Option Reached) → label_of lines v ≡ l → (r : Reached) × (label_of lines v ≡ Some r) × IsReachedLine A g sources v r
+      line_reached v x in_v w None e = let none : IsUnreached A g sources v = subst (λ (l : Option Reached). IsLine A g sources v l) e (right.each v in_v) in absurd (none x w)
+      line_reached v x in_v w (Some r) e = (r, e, line_at v r in_v e)
+
+      same_line : (r : Reached) (c h p : ℕ) → r.code ≡ c → r.hops ≡ h → r.parent ≡ p → r ≡ record { code = c; hops = h; parent = p }
+      same_line r c h p a b d =
+          let f : ℕ → Reached = λ x. record { code = x; hops = r.hops; parent = r.parent } in
+          let k : ℕ → Reached = λ x. record { code = c; hops = x; parent = r.parent } in
+          let m : ℕ → Reached = λ x. record { code = c; hops = h; parent = x } in
+          ap f a ∙ ap k b ∙ ap m d
+
+      source_certified : (v : ℕ) → HasVertex g v → Contains sources v → label_of lines v ≡ source_line A
+      source_certified v in_v h =
+          let l = line_reached v A.origin in_v (origin_walk v h) (label_of lines v) refl in
+          let r = l.0 in
+          let best = l.2.code.1 in
+          let value : l.2.code.0 ≡ A.origin = lawful.ordered.antisymmetric l.2.code.0 A.origin (best.least A.origin (origin_walk v h)) (origin_best v l.2.code.0 best.attained) in
+          let few = l.2.hops.least 0 (source_walk v 0 h refl) in
+          let none : r.parent ≡ 0 = elim l.2.parent [ inl p ↦ p.1 | inr p ↦ absurd (p.no_source h) ] in
+          l.1 ∙ ap (λ (q : Reached). Some q) (same_line r (A.code A.origin) 0 0 (l.2.code.2 ∙ ap A.code value) (omega (arith, few)) none)
+
+      -- the value of v is brought by the parent, with one hop less
+      from_parent : (v : ℕ) (r : Reached) → IsReachedLine A g sources v r → (x : V) → IsBest A g sources v x → IsParent A g sources v r.parent →
+          (near : Reached) × Brings A g lines r.parent v near x × (near.hops + 1 ≡ r.hops)
+      from_parent v r line x best p =
+          let n = p.nearer in
+          let a = n.0 in
+          let tight = n.1 in
+          let ends = roads.ends a tight.arc in
+          let l = line_reached (arc_of g a).tail tight.tail ends.0 tight.tail_best.attained (label_of lines (arc_of g a).tail) refl in
+          let head_best : IsBest A g sources (arc_of g a).head x = subst (λ (k : ℕ). IsBest A g sources k x) (sym n.3) best in
+          let b = tight_brings a l.0 l.2.code.0 x tight l.1 l.2.code.2 l.2.code.1 head_best in
+          let c : Brings A g lines r.parent v l.0 x = subst (λ (k : ℕ). Brings A g lines r.parent k l.0 x) n.3 (subst (λ (k : ℕ). Brings A g lines k (arc_of g a).head l.0 x) n.2 b) in
+          let at_tail : AreHops A g sources r.parent l.0.hops = subst (λ (k : ℕ). AreHops A g sources k l.0.hops) n.2 l.2.hops in
+          let k = n.4 in
+          let low = k.1.least l.0.hops at_tail.attained in
+          let high = at_tail.least k.0 k.1.attained in
+          let below = k.2.least r.hops line.hops.attained in
+          let above = line.hops.least (k.0 + 1) k.2.attained in
+          (l.0, c, omega (arith, low, high, below, above))
+
+      line_supported : (v : ℕ) (r : Reached) → HasVertex g v → label_of lines v ≡ Some r → IsParent A g sources v r.parent → IsSupported A g lines v r
+      line_supported v r in_v e p =
+          let line = line_at v r in_v e in
+          let x = line.code.0 in
+          let best = line.code.1 in
+          let from = from_parent v r line x best p in
+          record {
+            value = x;
+            code_is = walk_has_code v r.code x best.attained line.code.2;
+            near = from.0;
+            from_parent = from.1;
+            hops_are = from.2;
+            not_beaten = λ u other z b.
+                let tail = line_at u other (tail_in u v other z b) b.line_is in
+                best.least z (brings_walk u v other tail.code.0 z tail.code.1.attained tail.code.2 b);
+            not_nearer = λ u other b.
+                let tail = line_at u other (tail_in u v other x b) b.line_is in
+                let tight = brings_tight u v other tail.code.0 x tail.code.1 tail.code.2 best b in
+                let walk = tight_more u other.hops b.arc tail.hops.attained tight b.tail_is in
+                line.hops.least (other.hops + 1) (subst (λ (k : ℕ). IsTightWalk A g sources k (other.hops + 1)) b.head_is walk);
+            not_lesser = λ u other b one.
+                let tail = line_at u other (tail_in u v other x b) b.line_is in
+                let tight = brings_tight u v other tail.code.0 x tail.code.1 tail.code.2 best b in
+                p.least u (b.arc, tight, b.tail_is, b.head_is, (other.hops, tail.hops, subst (λ (k : ℕ). AreHops A g sources v k) (sym one) line.hops));
+          }
+
+      right_line : (v : ℕ) → HasVertex g v → (Contains sources v → ⊥) → (l : Option Reached) → label_of lines v ≡ l → IsRightLine A g lines v l
+      right_line v in_v no_source None e = λ u near z b.
+          let tail = line_at u near (tail_in u v near z b) b.line_is in
+          let none : IsUnreached A g sources v = subst (λ (l : Option Reached). IsLine A g sources v l) e (right.each v in_v) in
+          none z (brings_walk u v near tail.code.0 z tail.code.1.attained tail.code.2 b)
+      right_line v in_v no_source (Some r) e =
+          let line = line_at v r in_v e in
+          line_supported v r in_v e (elim line.parent [ inl p ↦ absurd (no_source p.0) | inr p ↦ p ])
+
+      -- right lines are certified
+      pub lines_are_certified : AreCertified A g sources lines
+      lines_are_certified = record {
+        count = right.count;
+        each = λ v in_v. elim (source_or_not sources v) [
+          | inl h ↦ inl (h, source_certified v in_v h)
+          | inr other ↦ inr (other, right_line v in_v other (label_of lines v) refl)
+        ];
+      }

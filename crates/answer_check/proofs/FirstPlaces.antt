@@ -1,0 +1,160 @@
+-- The first place that a pass over marked lines finds is the first where the answer is wrong; where it finds none, the answer is right.
+use Rattle.std.proofs.Common.{◌≡◌, ℕ, zero, suc, ◌+◌, ◌-◌, ◌<◌, ◌≤◌, ◌^◌, ◌⊎◌, inl, inr, min, Bool, true, false, List, [], ◌∷◌, length, refl, ap, sym, ◌∙◌, subst, arith, Option, Some, None}
+use Rattle.std.specs.Prelude.{IsTrue, Contains, ◌↔◌, option_map}
+use Rattle.std.specs.List.{range_with_len, AllZip}
+use Rattle.rayon.specs.Lists.{first_true}
+use Rattle.road_graph.specs.Roads.{Roads, IsRoads, HasVertex}
+use Rattle.path_algebra.specs.Algebra.{Algebra, IsLawful}
+use Rattle.path_algebra.specs.Walks.{label_of, is_marked}
+use Rattle.answer_text.specs.declared.answers.Reached.{Reached}
+use Rattle.answer_text.specs.IsAnswer.{AreLines}
+use Rattle.answer_check.specs.declared.place.Place.{Place}
+use Rattle.answer_check.specs.declared.verdict.Reason.{Reason}
+use Rattle.answer_check.specs.declared.verdict.Reason.TheVariants.{Mismatch, NotBest, NoParent, OtherHops, LesserParent, HasWalk, OtherRoute}
+use Rattle.answer_check.specs.Reasons.{IsRefused, IsLineRefused, IsJudged, reason_number, source_line}
+use Rattle.answer_check.specs.Certificates.{IsRightLine, IsCertifiedAt}
+use Rattle.answer_check.specs.Marked.{IsMarkedRefused, IsMarkedRight, TellsRefused}
+use Rattle.answer_check.specs.Places.{IsJudgedAt, IsFirstNumber}
+use Rattle.answer_check.specs.Verdicts.{IsEarlier}
+use Rattle.answer_check.proofs.Certified.{lines_are_right}
+use Rattle.answer_check.proofs.Refused.{not_refused}
+
+module _ (R : ℕ → Bool → Type 0) where
+  -- the first of the numbers from a on
+  abbrev IsFirstFrom : ℕ → ℕ → Option ℕ → Type 0
+  IsFirstFrom a n None = (k : ℕ) → k < n → R (a + k) false
+  IsFirstFrom a n (Some i) = (i < n) × R (a + i) true × ((k : ℕ) → k < i → R (a + k) false)
+
+  shifted : (a k : ℕ) (b : Bool) → R ((a + 1) + k) b → R (a + suc k) b
+  shifted a k b h = let same : (a + 1) + k ≡ a + suc k = omega arith in subst (λ (x : ℕ). R x b) same h
+
+  at_start : (a : ℕ) (b : Bool) → R a b → R (a + 0) b
+  at_start a b h = let same : a ≡ a + 0 = omega arith in subst (λ (x : ℕ). R x b) same h
+
+  none_from : (a n k : ℕ) → R a false → ((j : ℕ) → j < n → R ((a + 1) + j) false) → k < suc n → R (a + k) false
+  none_from a n zero h rest lt = at_start a false h
+  none_from a n (suc k) h rest lt = shifted a k false (rest k (omega (arith, lt)))
+
+  one_later : (a n : ℕ) (o : Option ℕ) → n < 2 ^ 64 - 1 → R a false → IsFirstFrom (a + 1) n o → IsFirstFrom a (suc n) (option_map (λ k. min (k + 1) (2 ^ 64 - 1)) o)
+  one_later a n None short h rest = λ k lt. none_from a n k h rest lt
+  one_later a n (Some i) short h rest =
+      let low = rest.0 in
+      let next : suc i ≡ min (i + 1) (2 ^ 64 - 1) = omega (arith, low, short) in
+      let found : IsFirstFrom a (suc n) (Some (suc i)) = (omega (arith, low), shifted a i true rest.1, λ k lt. none_from a i k h rest.2 lt) in
+      subst (λ (j : ℕ). IsFirstFrom a (suc n) (Some j)) next found
+
+  first_from : (a n : ℕ) (bs : List Bool) → n < 2 ^ 64 → AllZip R (range_with_len a n) bs → IsFirstFrom a n (first_true bs)
+  first_from a zero [] short z = λ k lt. absurd (omega (arith, lt))
+  first_from a zero (b ∷ bs) short z = absurd z
+  first_from a (suc n) [] short z = absurd z
+  first_from a (suc n) (true ∷ bs) short z = (omega arith, at_start a true z.0, λ k lt. absurd (omega (arith, lt)))
+  first_from a (suc n) (false ∷ bs) short z = one_later a n (first_true bs) (omega (arith, short)) z.0 (first_from (a + 1) n bs (omega (arith, short)) z.1)
+
+  from_zero : (k : ℕ) (b : Bool) → R (0 + k) b → R k b
+  from_zero k b h = let same : 0 + k ≡ k = omega arith in subst (λ (x : ℕ). R x b) same h
+
+  first_of : (n : ℕ) (o : Option ℕ) → IsFirstFrom 0 n o → IsFirstNumber n R o
+  first_of n None h = λ k lt. from_zero k false (h k lt)
+  first_of n (Some i) h = (h.0, from_zero i true h.1, λ k lt. from_zero k false (h.2 k lt))
+
+  pub first_number : (n : ℕ) (bs : List Bool) → n < 2 ^ 64 → AllZip R (range_with_len 0 n) bs → IsFirstNumber n R (first_true bs)
+  first_number n bs short z = first_of n (first_true bs) (first_from 0 n bs short z)
+
+module _ {V : Type 0} (A : Algebra V) (lawful : IsLawful A) (g : Roads) (lines : List (Option Reached)) where
+  pub marked_not_refused : (v : ℕ) (b : Bool) (r : Reason) → IsMarkedRight A g lines v b → IsMarkedRefused A g lines v b r → ⊥
+  marked_not_refused v true Mismatch e h = h e
+  marked_not_refused v true NotBest e h = h
+  marked_not_refused v true NoParent e h = h
+  marked_not_refused v true OtherHops e h = h
+  marked_not_refused v true LesserParent e h = h
+  marked_not_refused v true HasWalk e h = h
+  marked_not_refused v true OtherRoute e h = h
+  marked_not_refused v false r right h = not_refused A lawful g lines v (label_of lines v) r right h
+
+  module _ (marks : List Bool) (i : ℕ) (before : (k : ℕ) → k < i → TellsRefused A g lines marks (k + 1) false) where
+    -- the first reason at the first vertex is the first place
+    pub first_there : (v : ℕ) (reason : Reason) → v ≡ i + 1 →
+        ((s : Reason) → reason_number s < reason_number reason → IsMarkedRefused A g lines v (is_marked marks v) s → ⊥) →
+        (u : ℕ) (r : Reason) → IsEarlier u r v reason → HasVertex g u × IsMarkedRefused A g lines u (is_marked marks u) r → ⊥
+    first_there v reason is first u r (inl less) h =
+        let low = h.0.0 in
+        let back : (u - 1) + 1 ≡ u = omega (arith, low) in
+        let right : IsMarkedRight A g lines u (is_marked marks u) = subst (λ (w : ℕ). IsMarkedRight A g lines w (is_marked marks w)) back (before (u - 1) (omega (arith, low, less, is))) in
+        marked_not_refused u (is_marked marks u) r right h.1
+    first_there v reason is first u r (inr same) h =
+        first r same.1 (subst (λ (w : ℕ). IsMarkedRefused A g lines w (is_marked marks w) r) same.0 h.1)
+
+    pub first_place_is : i < g.vertices → (reason : Reason) → (IsMarkedRefused A g lines (i + 1) (is_marked marks (i + 1)) reason
+        × ((s : Reason) → reason_number s < reason_number reason → IsMarkedRefused A g lines (i + 1) (is_marked marks (i + 1)) s → ⊥)) → (v : ℕ) → v ≡ i + 1 →
+        (HasVertex g v × IsMarkedRefused A g lines v (is_marked marks v) reason)
+        × ((u : ℕ) (r : Reason) → IsEarlier u r v reason → HasVertex g u × IsMarkedRefused A g lines u (is_marked marks u) r → ⊥)
+    first_place_is lt reason h v is =
+        let first : (s : Reason) → reason_number s < reason_number reason → IsMarkedRefused A g lines v (is_marked marks v) s → ⊥ =
+        λ s low k. h.1 s low (subst (λ (w : ℕ). IsMarkedRefused A g lines w (is_marked marks w) s) is k) in (
+          ((omega (arith, is), omega (arith, is, lt)), subst (λ (w : ℕ). IsMarkedRefused A g lines w (is_marked marks w) reason) (sym is) h.0),
+          first_there v reason is first,
+        )
+
+  -- a reason at the vertex contradicts that it is right
+  pub not_right : (v : ℕ) (b : Bool) → ((r : Reason) × IsMarkedRefused A g lines v b r) → IsMarkedRight A g lines v b → ⊥
+  not_right v b h right = marked_not_refused v b h.0 right h.1
+
+  no_mismatch : (v : ℕ) (l : Option Reached) → IsRefused A g lines v l Mismatch → ⊥
+  no_mismatch v None h = h
+  no_mismatch v (Some r) h = h
+
+  module _ (sources : List ℕ) (v : ℕ) where
+    refused_by_mark : (b : Bool) (r : Reason) → (b ≡ true → Contains sources v) → (Contains sources v → b ≡ true) → IsMarkedRefused A g lines v b r → IsLineRefused A g sources lines v r
+    refused_by_mark true Mismatch is of h = (is refl, h)
+    refused_by_mark true NotBest is of h = absurd h
+    refused_by_mark true NoParent is of h = absurd h
+    refused_by_mark true OtherHops is of h = absurd h
+    refused_by_mark true LesserParent is of h = absurd h
+    refused_by_mark true HasWalk is of h = absurd h
+    refused_by_mark true OtherRoute is of h = absurd h
+    refused_by_mark false Mismatch is of h = absurd (no_mismatch v (label_of lines v) h)
+    refused_by_mark false NotBest is of h = (λ s. let bad : false ≡ true = of s in cc, h)
+    refused_by_mark false NoParent is of h = (λ s. let bad : false ≡ true = of s in cc, h)
+    refused_by_mark false OtherHops is of h = (λ s. let bad : false ≡ true = of s in cc, h)
+    refused_by_mark false LesserParent is of h = (λ s. let bad : false ≡ true = of s in cc, h)
+    refused_by_mark false HasWalk is of h = (λ s. let bad : false ≡ true = of s in cc, h)
+    refused_by_mark false OtherRoute is of h = (λ s. let bad : false ≡ true = of s in cc, h)
+
+    marked_by_refused : (b : Bool) (r : Reason) → (b ≡ true → Contains sources v) → (Contains sources v → b ≡ true) → IsLineRefused A g sources lines v r → IsMarkedRefused A g lines v b r
+    marked_by_refused true Mismatch is of h = h.1
+    marked_by_refused true NotBest is of h = h.0 (is refl)
+    marked_by_refused true NoParent is of h = h.0 (is refl)
+    marked_by_refused true OtherHops is of h = h.0 (is refl)
+    marked_by_refused true LesserParent is of h = h.0 (is refl)
+    marked_by_refused true HasWalk is of h = h.0 (is refl)
+    marked_by_refused true OtherRoute is of h = h.0 (is refl)
+    marked_by_refused false Mismatch is of h = let bad : false ≡ true = of h.0 in absurd (cc)
+    marked_by_refused false NotBest is of h = h.1
+    marked_by_refused false NoParent is of h = h.1
+    marked_by_refused false OtherHops is of h = h.1
+    marked_by_refused false LesserParent is of h = h.1
+    marked_by_refused false HasWalk is of h = h.1
+    marked_by_refused false OtherRoute is of h = h.1
+
+    certified_by_mark : (b : Bool) → (b ≡ true → Contains sources v) → (Contains sources v → b ≡ true) → IsMarkedRight A g lines v b → IsCertifiedAt A g sources lines v
+    certified_by_mark true is of h = inl (is refl, h)
+    certified_by_mark false is of h = inr (λ s. let bad : false ≡ true = of s in cc, h)
+
+  module _ (roads : IsRoads g) (sources : List ℕ) (in_s : (s : ℕ) → Contains sources s → HasVertex g s) (count : length lines ≡ g.vertices) (marks : List Bool)
+      (marked : (v : ℕ) → 1 ≤ v → v ≤ g.vertices → IsTrue (is_marked marks v) ↔ Contains sources v) where
+    -- a verdict on marked lines is one on the lines from these sources
+    pub lines_judged : (o : Option Place) → IsJudgedAt ((v : ℕ) → HasVertex g v → IsMarkedRight A g lines v (is_marked marks v)) (λ v r. HasVertex g v × IsMarkedRefused A g lines v (is_marked marks v) r) o →
+        IsJudgedAt (AreLines A g sources lines) (λ v r. HasVertex g v × IsLineRefused A g sources lines v r) o
+    lines_judged None right = lines_are_right A lawful g roads sources in_s lines (record {
+      count = count;
+      each = λ v in_v. let m = marked v in_v.0 in_v.1 in certified_by_mark sources v (is_marked marks v) m.0 m.1 (right v in_v);
+    })
+    lines_judged (Some p) h =
+        let in_p = h.0.0 in
+        let m = marked p.vertex in_p.0 in_p.1 in (
+          (in_p, refused_by_mark sources p.vertex (is_marked marks p.vertex) p.reason m.0 m.1 h.0.1),
+          λ v r earlier k.
+              let in_v = k.0 in
+              let n = marked v in_v.0 in_v.1 in
+              h.1 v r earlier (in_v, marked_by_refused sources v (is_marked marks v) r n.0 n.1 k.1),
+        )

@@ -1,0 +1,125 @@
+-- How what is told of a pair differs from the right answer is the first reason against it.
+use Rattle.std.proofs.Common.{◌≡◌, ◌≢◌, ℕ, ◌+◌, ◌<◌, ◌≤◌, List, [], ◌∷◌, length, refl, ap, sym, ◌∙◌, subst, arith, Option, Some, None}
+use Rattle.std.specs.Prelude.{Contains}
+use Rattle.road_graph.specs.Roads.{Roads, IsRoads, HasVertex}
+use Rattle.path_algebra.specs.Algebra.{Algebra, IsLawful}
+use Rattle.path_algebra.specs.Walks.{IsBest, IsBestLabel, IsUnreached, AreHops, IsWalkValue, IsParentChain, label_of}
+use Rattle.path_algebra.proofs.Tight.{best_is_one}
+use Rattle.route_tree.specs.Told.{IsToldOf, IsParentRoute}
+use Rattle.route_tree.proofs.Elements.{here}
+use Rattle.answer_text.specs.Told.{ToldFound}
+use Rattle.answer_text.specs.IsAnswer.{IsBestCode, IsRouteBetween, IsFoundBetween, IsPairAnswer}
+use Rattle.answer_check.specs.declared.verdict.Reason.{Reason}
+use Rattle.answer_check.specs.declared.verdict.Reason.TheVariants.{Mismatch, NotBest, NoParent, OtherHops, LesserParent, HasWalk, OtherRoute}
+use Rattle.answer_check.specs.Pairs.{IsOther}
+use Rattle.answer_check.specs.Reasons.{IsPairRefused, IsJudged, reason_number}
+
+module _ {V : Type 0} (A : Algebra V) (lawful : IsLawful A) (g : Roads) (roads : IsRoads g) (s t : ℕ) where
+  -- nothing speaks against the right answer
+  pub pair_not_refused : (found : Option ToldFound) (r : Reason) → IsPairAnswer A g s t found → IsPairRefused A g s t found r → ⊥
+  pair_not_refused None HasWalk right h = right h.0 h.1
+  pair_not_refused None Mismatch right h = h
+  pair_not_refused None NotBest right h = h
+  pair_not_refused None NoParent right h = h
+  pair_not_refused None OtherHops right h = h
+  pair_not_refused None LesserParent right h = h
+  pair_not_refused None OtherRoute right h = h
+  pair_not_refused (Some f) NotBest right h = h right.code
+  pair_not_refused (Some f) OtherHops right h = h right.hops
+  pair_not_refused (Some f) OtherRoute right h = h right.route
+  pair_not_refused (Some f) Mismatch right h = h
+  pair_not_refused (Some f) NoParent right h = h
+  pair_not_refused (Some f) LesserParent right h = h
+  pair_not_refused (Some f) HasWalk right h = h
+
+  -- none is told where a walk has a value
+  pub walk_told_none : (y : V) → IsWalkValue A g (s ∷ []) t y → IsJudged (IsPairAnswer A g s t None) (IsPairRefused A g s t None) (Some HasWalk)
+  walk_told_none y w = ((y, w), before)
+    where
+      before : (r : Reason) → reason_number r < 6 → IsPairRefused A g s t None r → ⊥
+      before HasWalk lt h = omega (arith, lt)
+      before Mismatch lt h = h
+      before NotBest lt h = h
+      before NoParent lt h = h
+      before OtherHops lt h = h
+      before LesserParent lt h = h
+      before OtherRoute lt h = h
+
+  -- something is told where no walk has a value
+  pub told_without_walk : (f : ToldFound) → IsUnreached A g (s ∷ []) t → IsJudged (IsPairAnswer A g s t (Some f)) (IsPairRefused A g s t (Some f)) (Some NotBest)
+  told_without_walk f none = (λ code. none code.0 code.1.attained, before)
+    where
+      before : (r : Reason) → reason_number r < 2 → IsPairRefused A g s t (Some f) r → ⊥
+      before NotBest lt h = omega (arith, lt)
+      before OtherHops lt h = omega (arith, lt)
+      before OtherRoute lt h = omega (arith, lt)
+      before Mismatch lt h = h
+      before NoParent lt h = h
+      before LesserParent lt h = h
+      before HasWalk lt h = h
+
+  module _ (only : (list other : List ℕ) → IsParentRoute A g (s ∷ []) t list → IsParentRoute A g (s ∷ []) t other → list ≡ other)
+      (code hops : ℕ) (route : List ℕ) (code_is : IsBestCode A g (s ∷ []) t code) (hops_are : AreHops A g (s ∷ []) t hops) (route_is : IsRouteBetween A g s t route) where
+    code_once : (c : ℕ) → IsBestCode A g (s ∷ []) t c → c ≡ code
+    code_once c h = h.2 ∙ ap A.code (best_is_one A lawful g roads (s ∷ []) t h.0 code_is.0 h.1 code_is.1) ∙ sym code_is.2
+
+    hops_once : (k : ℕ) → AreHops A g (s ∷ []) t k → k ≡ hops
+    hops_once k h = let a = h.least hops hops_are.attained in let b = hops_are.least k h.attained in omega (arith, a, b)
+
+    as_route : (list : List ℕ) → IsRouteBetween A g s t list → IsParentRoute A g (s ∷ []) t list
+    as_route list h = record { first = s; rest = h.0; is = h.1; begins = here s []; chain = h.2 }
+
+    route_once : (list : List ℕ) → IsRouteBetween A g s t list → list ≡ route
+    route_once list h = only list route (as_route list h) (as_route route route_is)
+
+    refused : (f : ToldFound) (r : Reason) → IsOther code hops route f r → IsPairRefused A g s t (Some f) r
+    refused f NotBest h = λ k. h (code_once f.code k)
+    refused f OtherHops h = λ k. h (hops_once f.hops k)
+    refused f OtherRoute h = λ k. h (route_once f.route k)
+    refused f Mismatch h = h
+    refused f NoParent h = h
+    refused f LesserParent h = h
+    refused f HasWalk h = h
+
+    other : (f : ToldFound) (r : Reason) → IsPairRefused A g s t (Some f) r → IsOther code hops route f r
+    other f NotBest h = λ e. h (subst (IsBestCode A g (s ∷ []) t) (sym e) code_is)
+    other f OtherHops h = λ e. h (subst (AreHops A g (s ∷ []) t) (sym e) hops_are)
+    other f OtherRoute h = λ e. h (subst (IsRouteBetween A g s t) (sym e) route_is)
+    other f Mismatch h = h
+    other f NoParent h = h
+    other f LesserParent h = h
+    other f HasWalk h = h
+
+    -- the first difference is the first reason
+    pub pair_judged : (f : ToldFound) (o : Option Reason) → IsJudged (f ≡ record { code = code; hops = hops; route = route }) (IsOther code hops route f) o →
+        IsJudged (IsPairAnswer A g s t (Some f)) (IsPairRefused A g s t (Some f)) o
+    pair_judged f None e = subst (λ (q : ToldFound). IsFoundBetween A g s t q) (sym e) (record { code = code_is; hops = hops_are; route = route_is })
+    pair_judged f (Some r) h = (refused f r h.0, λ q lt k. h.1 q lt (other f q k))
+
+  -- what labels and trees tell of a vertex that has a label and hops
+  pub told_parts : (l : Option V) (k u : Option ℕ) (x : V) (j : ℕ) → IsToldOf A g (s ∷ []) t l k u → l ≡ Some x → k ≡ Some j → IsBest A g (s ∷ []) t x × AreHops A g (s ∷ []) t j
+  told_parts None k u x j h e f = let bad : None ≡ Some x = e in absurd (cc)
+  told_parts (Some y) None u x j h e f = let bad : None ≡ Some j = f in absurd (cc)
+  told_parts (Some y) (Some i) None x j h e f = both y i x j h.0 h.1 e f
+    where
+      both : (y : V) (i : ℕ) (x : V) (j : ℕ) → IsBest A g (s ∷ []) t y → AreHops A g (s ∷ []) t i → Some y ≡ Some x → Some i ≡ Some j → IsBest A g (s ∷ []) t x × AreHops A g (s ∷ []) t j
+      both y i x j p q e f =
+          let a : y ≡ x = cc in
+          let b : i ≡ j = cc in
+          (subst (IsBest A g (s ∷ []) t) a p, subst (AreHops A g (s ∷ []) t) b q)
+  told_parts (Some y) (Some i) (Some w) x j h e f =
+      let a : y ≡ x = cc in
+      let b : i ≡ j = cc in
+      (subst (IsBest A g (s ∷ []) t) a h.0, subst (AreHops A g (s ∷ []) t) b h.1)
+
+  -- a vertex without hops is unreached
+  pub unreached_by_hops : (l : Option V) (k u : Option ℕ) → IsToldOf A g (s ∷ []) t l k u → k ≡ None → IsUnreached A g (s ∷ []) t
+  unreached_by_hops None None None h e = h
+  unreached_by_hops None None (Some w) h e = absurd h
+  unreached_by_hops None (Some i) u h e = let bad : Some i ≡ None = e in absurd (cc)
+  unreached_by_hops (Some y) None u h e = absurd h
+  unreached_by_hops (Some y) (Some i) u h e = let bad : Some i ≡ None = e in absurd (cc)
+
+  -- the label of t is best
+  pub best_label : (l m : Option V) → IsBestLabel A g (s ∷ []) t m → l ≡ m → IsBestLabel A g (s ∷ []) t l
+  best_label l m h e = subst (IsBestLabel A g (s ∷ []) t) (sym e) h

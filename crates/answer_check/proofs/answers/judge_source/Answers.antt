@@ -1,0 +1,12 @@
+use Rattle.std.proofs.Common.{rules, ◌≡◌, ℕ, length, arith, sym, ◌∙◌}
+use Rattle.rayon.proofs.ListFacts.{IfOk-then}
+use Rattle.answer_check.proofs.FirstWrong.{source_judged}
+use Rattle.answer_check.proofs.answers.judge_source.Goals as goal
+
+pub returns : goal.returns
+returns g c =
+    let view : c.source.inside.0 ≡ c.args.source = c.source.view_is in
+    let same : c.in-Source.named ≡ c.args.source = omega arith in
+    let count : length c.in-Source.lines.items ≡ c.args.graph.now.vertices = search rules in
+    let judged = rw c.as_slice.ensures.value at c.judge_lines.ensures in
+    rw c.in-Source.is (IfOk-then c.judge_lines.result _ _ judged (source_judged (g.A.PathAlgebra.meaning c.args.algebra) c.args.graph.now c.args.source c.in-Source.named c.in-Source.lines.items same count))

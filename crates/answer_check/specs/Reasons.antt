@@ -1,0 +1,87 @@
+-- Why the line of a vertex, or the answer to a pair, is refused. Lines are judged by themselves and by the lines of the vertices before them alone.
+use Rattle.std.specs.Prelude.{◌≡◌, ◌≢◌, ℕ, ◌+◌, ◌<◌, ◌⊎◌, List, [], ◌∷◌, Contains, IsTrue, Option, Some, None}
+use Rattle.road_graph.specs.Roads.{Roads, HasArc, arc_of}
+use Rattle.path_algebra.specs.Algebra.{Algebra}
+use Rattle.path_algebra.specs.Walks.{IsWalkValue, AreHops, label_of}
+use Rattle.answer_text.specs.declared.answers.Reached.{Reached}
+use Rattle.answer_text.specs.IsAnswer.{IsBestCode, IsRouteBetween}
+use Rattle.answer_text.specs.Told.{ToldFound}
+use Rattle.answer_check.specs.declared.verdict.Reason.{Reason}
+use Rattle.answer_check.specs.declared.verdict.Reason.TheVariants.{Mismatch, NotBest, NoParent, OtherHops, LesserParent, HasWalk, OtherRoute}
+
+-- the number of a reason, by which reasons at one place are ordered
+abbrev pub reason_number : Reason → ℕ
+reason_number Mismatch = 1
+reason_number NotBest = 2
+reason_number NoParent = 3
+reason_number OtherHops = 4
+reason_number LesserParent = 5
+reason_number HasWalk = 6
+reason_number OtherRoute = 7
+
+-- what has to stand at a source
+abbrev pub source_line : {V : Type 0} → Algebra V → Option Reached
+source_line A = Some (record { code = A.code A.origin; hops = 0; parent = 0 })
+
+-- the number is the code of the value x
+abbrev pub IsCodeOf : {V : Type 0} → Algebra V → ℕ → V → Type 0
+IsCodeOf A c x = IsTrue (A.is_value x) × (c ≡ A.code x)
+
+-- some arc from u to v takes the value that the line `near` of u tells to z; a line whose code is no value's brings nothing
+pub record Brings {V : Type 0} (A : Algebra V) (g : Roads) (lines : List (Option Reached)) (u v : ℕ) (near : Reached) (z : V) : Type 0 where
+  pub arc : ℕ
+  pub is_arc : HasArc g arc
+  pub tail_is : (arc_of g arc).tail ≡ u
+  pub head_is : (arc_of g arc).head ≡ v
+  pub value : V
+  pub line_is : label_of lines u ≡ Some near
+  pub code_is : IsCodeOf A near.code value
+  pub extends : A.extend value (arc_of g arc).weight ≡ Some z
+
+-- some arc from u to v gives the value that the line r of v tells
+abbrev pub Gives : {V : Type 0} → Algebra V → Roads → List (Option Reached) → ℕ → ℕ → Reached → Reached → Type 0
+Gives {V} A g lines u v near r = (y : V) × IsCodeOf A r.code y × Brings A g lines u v near y
+
+-- some arc gives v a better value than its line r tells
+abbrev pub IsBeaten : {V : Type 0} → Algebra V → Roads → List (Option Reached) → ℕ → Reached → Type 0
+IsBeaten {V} A g lines v r =
+    (y : V) × IsCodeOf A r.code y × ((u : ℕ) × (near : Reached) × (z : V) × Brings A g lines u v near z × (IsTrue (A.no_worse y z) → ⊥))
+
+-- the hops of r are not one more than those of its parent, which gives the value
+abbrev pub HasOtherHops : {V : Type 0} → Algebra V → Roads → List (Option Reached) → ℕ → Reached → Type 0
+HasOtherHops A g lines v r = (near : Reached) × Gives A g lines r.parent v near r × (near.hops + 1 ≢ r.hops)
+
+-- a vertex gives the value with fewer hops than r tells
+abbrev pub HasFewerHops : {V : Type 0} → Algebra V → Roads → List (Option Reached) → ℕ → Reached → Type 0
+HasFewerHops A g lines v r = (u : ℕ) × (near : Reached) × Gives A g lines u v near r × (near.hops + 1 < r.hops)
+
+-- a vertex less than the parent gives the value with these hops
+abbrev pub HasLesserParent : {V : Type 0} → Algebra V → Roads → List (Option Reached) → ℕ → Reached → Type 0
+HasLesserParent A g lines v r = (u : ℕ) × (near : Reached) × Gives A g lines u v near r × (u < r.parent) × (near.hops + 1 ≡ r.hops)
+
+-- what speaks against the line of a vertex that is no source
+abbrev pub IsRefused : {V : Type 0} → Algebra V → Roads → List (Option Reached) → ℕ → Option Reached → Reason → Type 0
+IsRefused {V} A g lines v None HasWalk = (u : ℕ) × (near : Reached) × (z : V) × Brings A g lines u v near z
+IsRefused A g lines v (Some r) NotBest = IsBeaten A g lines v r
+IsRefused A g lines v (Some r) NoParent = (near : Reached) → Gives A g lines r.parent v near r → ⊥
+IsRefused A g lines v (Some r) OtherHops = HasOtherHops A g lines v r ⊎ HasFewerHops A g lines v r
+IsRefused A g lines v (Some r) LesserParent = HasLesserParent A g lines v r
+IsRefused A g lines v _ _ = ⊥
+
+-- what speaks against the line of v: at a source that it is another than has to stand there
+abbrev pub IsLineRefused : {V : Type 0} → Algebra V → Roads → List ℕ → List (Option Reached) → ℕ → Reason → Type 0
+IsLineRefused A g sources lines v Mismatch = Contains sources v × (label_of lines v ≢ source_line A)
+IsLineRefused A g sources lines v reason = (Contains sources v → ⊥) × IsRefused A g lines v (label_of lines v) reason
+
+-- what speaks against the answer to a pair: a walk where it tells none, or else another code than the best value's, other hops, another route
+abbrev pub IsPairRefused : {V : Type 0} → Algebra V → Roads → ℕ → ℕ → Option ToldFound → Reason → Type 0
+IsPairRefused {V} A g s t None HasWalk = (y : V) × IsWalkValue A g (s ∷ []) t y
+IsPairRefused A g s t (Some f) NotBest = IsBestCode A g (s ∷ []) t f.code → ⊥
+IsPairRefused A g s t (Some f) OtherHops = AreHops A g (s ∷ []) t f.hops → ⊥
+IsPairRefused A g s t (Some f) OtherRoute = IsRouteBetween A g s t f.route → ⊥
+IsPairRefused A g s t _ _ = ⊥
+
+-- right, or the first reason of those that hold
+abbrev pub IsJudged : Type 0 → (Reason → Type 0) → Option Reason → Type 0
+IsJudged Right Holds None = Right
+IsJudged Right Holds (Some r) = Holds r × ((s : Reason) → reason_number s < reason_number r → Holds s → ⊥)

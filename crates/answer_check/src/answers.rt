@@ -1,0 +1,133 @@
+//! The first place where the answer to one question is wrong.
+
+ghost use Rattle.std.specs.Prelude.{◌≡◌, ℕ, ◌<◌, length, slice_get, All, IfOk};
+ghost use Rattle.road_graph.specs.Roads.{HasVertex};
+ghost use Rattle.road_files.specs.Asked.{AskWithin, AreSourcesOf, FromSource, BetweenPair, FromSources, Question, asked_of};
+ghost use Rattle.answer_text.specs.Told.{told_of};
+ghost use Rattle.answer_text.specs.IsAnswer.{IsAnswer};
+ghost use Rattle.answer_check.specs.Verdicts.{IsWrongIn};
+ghost use Rattle.answer_check.specs.Places.{IsJudgedAt};
+
+use crate::lines::judge_lines;
+use crate::numbers::are_numbers;
+use crate::pairs::reason_of_pair;
+use crate::place::Place;
+use crate::verdict::Reason;
+use answer_text::Answer;
+use path_algebra::PathAlgebra;
+use road_files::Questions;
+use road_graph::{Graph, Memory, Vertex};
+use std::alloc::Global;
+use std::thread::Threads;
+
+/// The answer as a whole is to another question.
+const MISMATCH: Place = Place {
+    vertex: 0,
+    reason: Reason::Mismatch,
+};
+
+/// Judges the answer to a question from one source.
+fn judge_source<A: PathAlgebra, R: Threads + Sync>(
+    rt: &R,
+    alloc: Global,
+    algebra: A,
+    graph: &Graph,
+    source: Vertex,
+    answer: &Answer,
+) -> Result<Option<Place>, Memory>
+    requires { HasVertex graph.now source }
+    ensures { IfOk result (IsJudgedAt (IsAnswer (A.meaning algebra) graph.now (FromSource source) (told_of answer.now)) (IsWrongIn (A.meaning algebra) graph.now (FromSource source) (told_of answer.now))) }
+{
+    let Answer::Source {
+        source: named,
+        lines,
+    } = answer
+    else {
+        return Ok(Some(MISMATCH));
+    };
+    if *named != source.0 || lines.len() != graph.vertices() as usize {
+        return Ok(Some(MISMATCH));
+    }
+    judge_lines(rt, alloc, algebra, graph, &[source], lines.as_slice())
+}
+
+/// Judges the answer to a question from several sources.
+fn judge_sources<A: PathAlgebra, R: Threads + Sync>(
+    rt: &R,
+    alloc: Global,
+    algebra: A,
+    graph: &Graph,
+    sources: &[Vertex],
+    answer: &Answer,
+) -> Result<Option<Place>, Memory>
+    requires { All (HasVertex graph.now) sources.now }
+    ensures { IfOk result (IsJudgedAt (IsAnswer (A.meaning algebra) graph.now (FromSources sources.now) (told_of answer.now)) (IsWrongIn (A.meaning algebra) graph.now (FromSources sources.now) (told_of answer.now))) }
+{
+    let Answer::Multi {
+        sources: named,
+        lines,
+    } = answer
+    else {
+        return Ok(Some(MISMATCH));
+    };
+    if !are_numbers(sources, named.as_slice()) || lines.len() != graph.vertices() as usize {
+        return Ok(Some(MISMATCH));
+    }
+    judge_lines(rt, alloc, algebra, graph, sources, lines.as_slice())
+}
+
+/// Judges the answer to a question from one vertex to another.
+fn judge_pair<A: PathAlgebra>(
+    alloc: Global,
+    algebra: A,
+    graph: &Graph,
+    source: Vertex,
+    target: Vertex,
+    answer: &Answer,
+) -> Result<Option<Place>, Memory>
+    requires source { HasVertex graph.now source }
+    requires target { HasVertex graph.now target }
+    ensures { IfOk result (IsJudgedAt (IsAnswer (A.meaning algebra) graph.now (BetweenPair source target) (told_of answer.now)) (IsWrongIn (A.meaning algebra) graph.now (BetweenPair source target) (told_of answer.now))) }
+{
+    let Answer::Pair {
+        source: from,
+        target: to,
+        found,
+    } = answer
+    else {
+        return Ok(Some(MISMATCH));
+    };
+    if *from != source.0 || *to != target.0 {
+        return Ok(Some(MISMATCH));
+    }
+    let reason = reason_of_pair(alloc, algebra, graph, source, target, found)?;
+    Ok(reason.map(|reason| Place {
+        vertex: target.0,
+        reason,
+    }))
+}
+
+/// The first place where the answer to the question at a place is wrong.
+pub(crate) fn judge<A: PathAlgebra, R: Threads + Sync>(
+    rt: &R,
+    alloc: Global,
+    algebra: A,
+    graph: &Graph,
+    questions: &Questions,
+    i: usize,
+    answer: &Answer,
+) -> Result<Option<Place>, Memory>
+    requires within { AskWithin graph.now.vertices questions.now }
+    requires place { i < length (asked_of questions.now).questions }
+    ensures { (q : Question) → slice_get (asked_of questions.now).questions i ≡ Some q → IfOk result (IsJudgedAt (IsAnswer (A.meaning algebra) graph.now q (told_of answer.now)) (IsWrongIn (A.meaning algebra) graph.now q (told_of answer.now))) }
+{
+    match questions {
+        Questions::Sources(sources) => judge_source(rt, alloc, algebra, graph, sources[i], answer),
+        Questions::Pairs(pairs) => {
+            judge_pair(alloc, algebra, graph, pairs[i].0, pairs[i].1, answer)
+        }
+        Questions::Multi(lists) => {
+            judge_sources(rt, alloc, algebra, graph, lists[i].as_slice(), answer)
+        }
+    }
+}

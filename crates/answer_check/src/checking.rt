@@ -1,0 +1,69 @@
+//! The check of an answer list.
+
+ghost use Rattle.std.specs.Prelude.{◌≡◌, ◌↔◌, IfOk, IsTrue};
+ghost use Rattle.road_files.specs.Asked.{AskWithin, asked_of};
+ghost use Rattle.answer_text.specs.Told.{told_list_of};
+ghost use Rattle.answer_text.specs.IsAnswer.{IsAnswerList};
+ghost use Rattle.answer_check.specs.declared.verdict.Verdict.TheVariants.{Valid};
+ghost use Rattle.answer_check.specs.Verdicts.{HasHeader, IsVerdict};
+
+use crate::answers::judge;
+use crate::verdict::{Reason, Verdict};
+use answer_text::Answers;
+use path_algebra::{PathAlgebra, laws_hold};
+use road_files::Questions;
+use road_graph::{Graph, Memory};
+use std::alloc::Global;
+use std::thread::Threads;
+
+/// Whether the header of an answer list is that of the questions over a graph.
+fn has_header<A: PathAlgebra>(
+    algebra: A,
+    graph: &Graph,
+    questions: &Questions,
+    answers: &Answers,
+) -> bool
+    ensures { IsTrue result ↔ HasHeader (A.meaning algebra) graph.now (asked_of questions.now) (told_list_of answers.now) }
+{
+    answers.name == algebra.name()
+        && answers.kind == questions.kind()
+        && answers.n == graph.vertices()
+        && answers.list.len() == questions.len()
+}
+
+/// Whether these are the right answers to questions over a graph, or else the first place where they are not.
+///
+/// Places are ordered by question, then by vertex, then by the number of the reason. Only want of memory is an error.
+pub fn check<A: PathAlgebra, R: Threads + Sync>(
+    rt: &R,
+    alloc: Global,
+    algebra: A,
+    graph: &Graph,
+    questions: &Questions,
+    answers: &Answers,
+) -> Result<Verdict, Memory>
+    requires { AskWithin graph.now.vertices questions.now }
+    ensures verdict { IfOk result (IsVerdict (A.meaning algebra) graph.now (asked_of questions.now) (told_list_of answers.now)) }
+    ensures valid { IfOk result (λ verdict. verdict ≡ Valid ↔ IsAnswerList (A.meaning algebra) graph.now (asked_of questions.now) (told_list_of answers.now)) }
+{
+    laws_hold(algebra);
+    let _n = graph.vertices();
+    if !has_header(algebra, graph, questions, answers) {
+        return Ok(Verdict::Invalid {
+            question: 0,
+            vertex: 0,
+            reason: Reason::Mismatch,
+        });
+    }
+    for i in 0..answers.list.len() {
+        let place = judge(rt, alloc, algebra, graph, questions, i, &answers.list[i])?;
+        if let Some(place) = place {
+            return Ok(Verdict::Invalid {
+                question: i + 1,
+                vertex: place.vertex,
+                reason: place.reason,
+            });
+        }
+    }
+    Ok(Verdict::Valid)
+}

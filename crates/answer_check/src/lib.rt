@@ -1,0 +1,21 @@
+//! Checks an answer list against its graph and questions, without solving what can be told from the list itself.
+//!
+//! An answer for all vertices carries its own certificate: each line is judged by the lines of the vertices that an arc leads from. Vertices are judged in parallel, and the verdict is that of one thread.
+#![tactic(auto)]
+
+mod answers;
+mod checking;
+mod lines;
+mod numbers;
+mod pairs;
+mod pass;
+mod place;
+mod signs;
+mod verdict;
+mod vertices;
+
+pub use checking::check;
+pub use verdict::{Reason, Verdict};
+
+#[cfg(test)]
+mod tests;

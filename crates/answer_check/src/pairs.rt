@@ -1,0 +1,71 @@
+//! The first reason against the answer to a pair, which is compared with the solver's.
+
+ghost use Rattle.std.specs.Prelude.{◌≡◌, [], ◌∷◌, IfOk, option_map};
+ghost use Rattle.road_graph.specs.Roads.{HasVertex};
+ghost use Rattle.answer_text.specs.Told.{found_of};
+ghost use Rattle.answer_check.specs.Reasons.{IsPairRefused, IsJudged};
+ghost use Rattle.answer_text.specs.IsAnswer.{IsPairAnswer};
+ghost use Rattle.answer_check.specs.Pairs.{IsOther};
+
+use crate::numbers::are_numbers;
+use crate::verdict::Reason;
+use answer_text::Found;
+use path_algebra::{PathAlgebra, laws_hold};
+use path_plain::solve_one;
+use road_graph::{Graph, Memory, Vertex};
+use route_tree::{labels_and_trees_agree, route, routes_follow_parents, tree};
+use std::alloc::Global;
+
+/// The first way in which what is told differs from the right code, hops and route.
+fn difference(code: u64, hops: u32, list: &[Vertex], found: &Found) -> Option<Reason>
+    ensures { IsJudged (found_of found.now ≡ record { code = code; hops = hops; route = list.now }) (IsOther code hops list.now (found_of found.now)) result }
+{
+    if found.code != code {
+        Some(Reason::NotBest)
+    } else if found.hops != hops {
+        Some(Reason::OtherHops)
+    } else if !are_numbers(list, found.route.as_slice()) {
+        Some(Reason::OtherRoute)
+    } else {
+        None
+    }
+}
+
+/// The first reason against what is told of a pair.
+pub(crate) fn reason_of_pair<A: PathAlgebra>(
+    alloc: Global,
+    algebra: A,
+    graph: &Graph,
+    source: Vertex,
+    target: Vertex,
+    found: &Option<Found>,
+) -> Result<Option<Reason>, Memory>
+    requires source { HasVertex graph.now source }
+    requires target { HasVertex graph.now target }
+    ensures { IfOk result (IsJudged (IsPairAnswer (A.meaning algebra) graph.now source target (option_map found_of found.now)) (IsPairRefused (A.meaning algebra) graph.now source target (option_map found_of found.now))) }
+{
+    laws_hold(algebra);
+    labels_and_trees_agree(algebra);
+    routes_follow_parents(algebra);
+    let _n = graph.vertices();
+    let labels = solve_one(alloc, algebra, graph, source)?;
+    let Some(found) = found else {
+        let has_walk = labels.of(target).is_some();
+        return Ok(if has_walk {
+            Some(Reason::HasWalk)
+        } else {
+            None
+        });
+    };
+    let Some(value) = labels.of(target) else {
+        return Ok(Some(Reason::NotBest));
+    };
+    let tree = tree(alloc, algebra, graph, &[source], &labels)?;
+    let Some(hops) = tree.hops(target) else {
+        return Ok(Some(Reason::NotBest));
+    };
+    let Some(list) = route(alloc, &tree, target)? else {
+        return Ok(Some(Reason::NotBest));
+    };
+    Ok(difference(algebra.code(value), hops, list.as_slice(), found))
+}

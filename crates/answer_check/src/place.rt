@@ -1,0 +1,10 @@
+//! Where an answer is wrong, and why.
+
+use crate::verdict::Reason;
+
+/// The vertex, or 0 for the answer as a whole, and the reason.
+#[derive(Clone, Copy)]
+pub(crate) struct Place {
+    pub(crate) vertex: u32,
+    pub(crate) reason: Reason,
+}

@@ -21,3 +21,8 @@ pub mod Graphs
 pub mod Halving
 pub mod Offers
 pub mod Pumping
+pub mod TakenArcs
+pub mod TakenMoves
+pub mod Taken
+pub mod Told
+pub mod TakenCounts

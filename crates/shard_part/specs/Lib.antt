@@ -3,3 +3,4 @@ pub mod Tallies
 pub mod Tables
 pub mod PartState
 pub mod Desk
+pub mod Part

@@ -4,14 +4,16 @@ ghost use Rattle.scholten_core.specs.Diffusion.{out_idle, same_label, extend_lab
 ghost use Rattle.scholten_core.specs.Items.{item_arc};
 ghost use Rattle.shard_part.specs.Tallies.{counted_on};
 ghost use Rattle.shard_part.specs.PartState.{network_in, place_in, state_in, own_in, arcs_out, outgoing, busy_out, vertex_of, maker_of, IsArc, IsClear};
-ghost use Rattle.shard_part.specs.Desk.{IsPlace, IsRow, IsPopped, HandledOne, put_item, counted_made, with_item, with_message, greeted, rested_by, labelled, offered, offered_all, rested, with_value, with_free, with_taken};
+ghost use Rattle.scholten_core.specs.Network.{WellFormed};
+ghost use Rattle.shard_part.specs.Part.{OwnIdleIsTold, TookFront};
+ghost use Rattle.shard_part.specs.Desk.{IsTallied, IsPlace, IsRow, IsPopped, HandledOne, put_item, counted_made, with_item, with_message, greeted, rested_by, labelled, offered, offered_all, rested, with_value, with_free, with_taken};
 
 use crate::batch::Batch;
 use crate::plan::Plan;
 use crate::search::{find_arc, find_vertex};
 use crate::shard::Shard;
 use crate::tables::Tables;
-use path_algebra::PathAlgebra;
+use path_algebra::{PathAlgebra, laws_hold};
 use road_graph::{ArcNo, Graph, Vertex};
 use scholten_core::Item;
 use std::marker::Model;
@@ -46,6 +48,15 @@ impl<'g, A: PathAlgebra> Model for Desk<'g, A> {
 }
 
 impl<'g, A: PathAlgebra> Desk<'g, A> {
+    /// The algebra of the question.
+    pub(crate) fn algebra(&self) -> A
+        ensures algebra { result ≡ self.now.setup.algebra }
+        ensures formed { WellFormed (network_in self.now.setup) }
+        ensures tallied { IsTallied self.now }
+    {
+        self.algebra
+    }
+
     /// How many items wait.
     pub fn queued(&self) -> usize
         ensures { result ≡ length self.now.queue }
@@ -498,8 +509,11 @@ impl<'g, A: PathAlgebra> Desk<'g, A> {
     /// Handles the front item, if there is one.
     pub fn handle_front(&mut self) -> bool
         ensures taken { IsTrue result → HandledOne (A.meaning self.old.setup.algebra) self.old self.new }
+        ensures item { IsTrue result → OwnIdleIsTold self.old → TookFront A.meaning self.old self.new }
+        ensures told { OwnIdleIsTold self.old → OwnIdleIsTold self.new }
         ensures none { IsFalse result → (self.old.queue ≡ []) × (self.new ≡ self.old) }
     {
+        laws_hold(self.algebra);
         match self.pop() {
             Some(item) => {
                 self.handle_item(item);

@@ -4,6 +4,7 @@
 mod batch;
 mod desk;
 pub mod laws;
+mod part;
 mod plan;
 mod search;
 mod shard;
@@ -12,6 +13,7 @@ mod tally;
 
 pub use batch::Batch;
 pub use desk::Desk;
+pub use part::Part;
 pub use plan::{Plan, PlanFault};
 pub use shard::Shard;
 pub use tables::Tables;

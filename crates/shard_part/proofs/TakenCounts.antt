@@ -1,0 +1,177 @@
+-- Items that a part takes are events of each state of which it holds its share, and its counters count what these events do.
+use Rattle.std.proofs.Common.{◌≡◌, ℕ, suc, ◌+◌, ◌≤◌, Bool, true, false, List, [], ◌∷◌, ◌++◌, length, map, length-append, refl, sym, ap, ◌∙◌, subst, arith}
+use Rattle.std.proofs.lemmas.Bool.{cond-true}
+use Rattle.scholten_core.specs.declared.token.Token.{Token}
+use Rattle.scholten_core.specs.declared.token.Token.TheVariants.{Idle, Message, Held, Signal}
+use Rattle.scholten_core.specs.declared.item.Item.{Item}
+use Rattle.scholten_core.specs.declared.item.Item.TheVariants.{Message as MessageOn, Signal as SignalOn}
+use Rattle.scholten_core.specs.declared.event.Event.{Event}
+use Rattle.path_algebra.specs.Algebra.{Algebra}
+use Rattle.path_algebra.specs.Algebra.{IsLawful as Lawful}
+use Rattle.scholten_core.specs.Network.{Network, WellFormed}
+use Rattle.scholten_core.specs.Diffusion.{CoreState, step, run_from, opening, state_after, count_enabled, is_enabled, is_message, is_signal}
+use Rattle.scholten_core.specs.Accounts.{count_sent, count_signalled, is_delivery, is_acceptance, sent_total, delivered_total, signalled_total, accepted_total}
+use Rattle.scholten_core.specs.Sums.{sum_below, one_if}
+use Rattle.scholten_core.specs.Items.{item_of}
+use Rattle.scholten_core.proofs.Kept.{Kept, step_kept, run_kept}
+use Rattle.scholten_core.proofs.Ended.{opening_kept}
+use Rattle.scholten_core.proofs.Counts.{sum_same, accounts}
+use Rattle.shard_part.specs.Tallies.{counted_on, top}
+use Rattle.shard_part.specs.PartState.{PartData, Setup, network_in, place_in, state_in, total, is_told, is_back, made, flying, event_of, TookIn, TookAll, HoldsShare, Holds}
+use Rattle.shard_part.specs.Desk.{IsTallied}
+use Rattle.shard_part.specs.Part.{TookFront, TookMany, IsRunOn}
+use Rattle.shard_part.proofs.Taking.{took_event, took_weighs}
+use Rattle.shard_part.proofs.TakenArcs.{counted_none, counted_more, counted_top}
+
+module _ {V : Type 0} (N : Network) (place : ℕ → ℕ) where
+  -- the messages under way are those that stand, and so are the signals
+  flying_told : (c : CoreState V) → flying N place c (λ _. is_told) ≡ sum_below (λ b. one_if (is_message (c.token b))) (suc N.arcs)
+  flying_told c = sum_same _ _ (suc N.arcs) (λ b. one b (c.token b))
+    where
+      one : (b : ℕ) (t : Token V) → total is_told (item_of b t) ≡ one_if (is_message t)
+      one b Idle = refl
+      one b (Message x) = refl
+      one b Held = refl
+      one b Signal = refl
+
+  flying_back : (c : CoreState V) → flying N place c (λ _. is_back) ≡ sum_below (λ b. one_if (is_signal (c.token b))) (suc N.arcs)
+  flying_back c = sum_same _ _ (suc N.arcs) (λ b. one b (c.token b))
+    where
+      one : (b : ℕ) (t : Token V) → total is_back (item_of b t) ≡ one_if (is_signal t)
+      one b Idle = refl
+      one b (Message x) = refl
+      one b Held = refl
+      one b Signal = refl
+
+module _ {V : Type 0} (A : Algebra V) (N : Network) where
+  told_if : (c : CoreState V) (i : Item V) → is_enabled c (event_of i) ≡ true → is_told i ≡ one_if (is_delivery A N c (event_of i))
+  told_if c (MessageOn a x) e = ap one_if (sym e)
+  told_if c (SignalOn a) e = refl
+
+  back_if : (c : CoreState V) (i : Item V) → is_enabled c (event_of i) ≡ true → is_back i ≡ one_if (is_acceptance A N c (event_of i))
+  back_if c (MessageOn a x) e = refl
+  back_if c (SignalOn a) e = ap one_if (sym e)
+
+  run_append : (c : CoreState V) (es fs : List Event) → run_from A N c (es ++ fs) ≡ run_from A N (run_from A N c es) fs
+  run_append c [] fs = refl
+  run_append c (e ∷ es) fs = run_append (step A N c e) es fs
+
+module _ {S V : Type 0} (A : Algebra V) (N : Network) (place : ℕ → ℕ) where
+  -- the counts of one item are those of its event
+  record Counts (c : CoreState V) (i : Item V) (p : PartData S V) : Type 0 where
+    sent : total is_told (made A N i (state_in p)) ≡ count_sent A N c (step A N c (event_of i))
+    signalled : total is_back (made A N i (state_in p)) ≡ count_signalled A N c (step A N c (event_of i))
+    delivered : is_told i ≡ one_if (is_delivery A N c (event_of i))
+    accepted : is_back i ≡ one_if (is_acceptance A N c (event_of i))
+
+  counts : Lawful A → WellFormed N → (c : CoreState V) (p : PartData S V) (i : Item V) (q : PartData S V) → Kept A N 0 c → HoldsShare A N place c p → TookIn A N place p i q → Counts c i p
+  counts L W c p i q K H T =
+      let E = took_event A N place L W c p i q K H T in
+      let R = accounts A N L W c (event_of i ∷ []) K in
+      let d = told_if A N c i E.enabled in
+      let s = back_if A N c i E.enabled in
+      record {
+        sent = (let w = took_weighs A N place p i q H.tables.wide T (λ _. is_told) in
+            let b = E.weighs (λ _. is_told) in let r = R.messages in let f = flying_told N place c in let g = flying_told N place (step A N c (event_of i)) in omega (arith, w, b, r, f, g, d));
+        signalled = (let w = took_weighs A N place p i q H.tables.wide T (λ _. is_back) in
+            let b = E.weighs (λ _. is_back) in let r = R.signals in let f = flying_back N place c in let g = flying_back N place (step A N c (event_of i)) in omega (arith, w, b, r, f, g, s));
+        delivered = d;
+        accepted = s;
+      }
+
+module _ {S V : Type 0} (meaning : S → Algebra V) where
+  -- items taken one after the other, as events of c
+  record Runs (t : Setup S) (c : CoreState V) (items : List (Item V)) (p q : PartData S V) : Type 0 where
+    enabled : count_enabled (meaning t.algebra) (network_in t) c (map event_of items) ≡ length items
+    holds : HoldsShare (meaning t.algebra) (network_in t) (place_in t) (run_from (meaning t.algebra) (network_in t) c (map event_of items)) q
+    setup : q.setup ≡ t
+    sent : q.sent ≡ counted_on (sent_total (meaning t.algebra) (network_in t) c (map event_of items)) p.sent
+    delivered : q.delivered ≡ counted_on (delivered_total (meaning t.algebra) (network_in t) c (map event_of items)) p.delivered
+    signalled : q.signalled ≡ counted_on (signalled_total (meaning t.algebra) (network_in t) c (map event_of items)) p.signalled
+    accepted : q.accepted ≡ counted_on (accepted_total (meaning t.algebra) (network_in t) c (map event_of items)) p.accepted
+
+  -- a counter after one item and then others
+  counter : (k l j a n m : ℕ) → n ≡ counted_on k a → k ≡ l → m ≡ counted_on j n → m ≡ counted_on (l + j) a
+  counter k l j a n m p e q = q ∙ ap (counted_on j) (p ∙ ap (λ z. counted_on z a) e) ∙ counted_more l j a
+
+  runs : (t : Setup S) → Lawful (meaning t.algebra) → WellFormed (network_in t) → (items : List (Item V)) (p q : PartData S V) (c : CoreState V) → p.setup ≡ t → IsTallied p → Kept (meaning t.algebra) (network_in t) 0 c →
+      HoldsShare (meaning t.algebra) (network_in t) (place_in t) c p → TookAll meaning p items q → Runs t c items p q
+  runs t L W [] p q c e y K H s = subst (Runs t c [] p) s (record {
+    enabled = refl;
+    holds = H;
+    setup = e;
+    sent = sym (counted_none p.sent y.0);
+    delivered = sym (counted_none p.delivered y.1);
+    signalled = sym (counted_none p.signalled y.2);
+    accepted = sym (counted_none p.accepted y.3);
+  })
+  runs t L W (i ∷ is) p q c e y K H (m, T, rest) =
+      let A = meaning t.algebra in
+      let N = network_in t in
+      let T1 : TookIn (meaning t.algebra) (network_in t) (place_in t) p i m = subst (λ u. TookIn (meaning u.algebra) (network_in u) (place_in u) p i m) e T in
+      let E = took_event A N (place_in t) L W c p i m K H T1 in
+      let C = counts A N (place_in t) L W c p i m K H T1 in
+      let below : IsTallied m = (
+        subst (λ n. n ≤ top) (sym T.sent) (counted_top _ p.sent),
+        subst (λ n. n ≤ top) (sym T.delivered) (counted_top (is_told i) p.delivered),
+        subst (λ n. n ≤ top) (sym T.signalled) (counted_top _ p.signalled),
+        subst (λ n. n ≤ top) (sym T.accepted) (counted_top (is_back i) p.accepted),
+      ) in
+      let R = runs t L W is m q (step A N c (event_of i)) (T1.setup ∙ e) below (step_kept A N L W c (event_of i) K) E.holds rest in
+      record {
+        enabled = (let r = R.enabled in let one = cond-true {A = ℕ} (is_enabled c (event_of i)) 1 0 E.enabled in omega (arith, r, one));
+        holds = R.holds;
+        setup = R.setup;
+        sent = counter _ _ (sent_total A N (step A N c (event_of i)) (map event_of is)) p.sent m.sent q.sent T1.sent C.sent R.sent;
+        delivered = counter _ _ (delivered_total A N (step A N c (event_of i)) (map event_of is)) p.delivered m.delivered q.delivered T1.delivered C.delivered R.delivered;
+        signalled = counter _ _ (signalled_total A N (step A N c (event_of i)) (map event_of is)) p.signalled m.signalled q.signalled T1.signalled C.signalled R.signalled;
+        accepted = counter _ _ (accepted_total A N (step A N c (event_of i)) (map event_of is)) p.accepted m.accepted q.accepted T1.accepted C.accepted R.accepted;
+      }
+
+  -- on the state after some events
+  pub run_on : (events : List Event) (p q : PartData S V) (n : ℕ) (items : List (Item V)) → Lawful (meaning p.setup.algebra) → WellFormed (network_in p.setup) → IsTallied p → length items ≡ n → TookAll meaning p items q →
+      Holds meaning (state_after (meaning p.setup.algebra) (network_in p.setup) events) p → IsRunOn meaning events p n q
+  run_on events p q n items L W y l T H =
+      let A = meaning p.setup.algebra in
+      let N = network_in p.setup in
+      let c = state_after A N events in
+      let R = runs p.setup L W items p q (state_after A N events) refl y (run_kept A N L W (opening A N) events (opening_kept A N W)) H T in
+      record {
+        items = items;
+        count = l;
+        took = T;
+        enabled = R.enabled ∙ l;
+        holds = subst (λ t. HoldsShare (meaning t.algebra) (network_in t) (place_in t) (state_after A N (events ++ map event_of items)) q) (sym R.setup)
+            (subst (λ d. HoldsShare A N (place_in p.setup) d q) (sym (run_append A N (opening A N) events (map event_of items))) R.holds);
+        sent = R.sent;
+        delivered = R.delivered;
+        signalled = R.signalled;
+        accepted = R.accepted;
+      }
+
+  -- one item more at the end
+  pub took_more : (items : List (Item V)) (i : Item V) (p m q : PartData S V) → TookAll meaning p items m → TookIn (meaning m.setup.algebra) (network_in m.setup) (place_in m.setup) m i q → TookAll meaning p (items ++ i ∷ []) q
+  took_more [] i p m q e T = (q, subst (λ (u : PartData S V). TookIn (meaning u.setup.algebra) (network_in u.setup) (place_in u.setup) u i q) (sym e) T, refl)
+  took_more (j ∷ items) i p m q (u, S1, rest) T = (u, S1, took_more items i u m q rest T)
+
+  -- what many items leave
+  pub took_same : (items : List (Item V)) (p q : PartData S V) → TookAll meaning p items q → (q.setup ≡ p.setup) × (q.shard ≡ p.shard)
+  took_same [] p q e = (ap (λ (u : PartData S V). u.setup) (sym e), ap (λ (u : PartData S V). u.shard) (sym e))
+  took_same (i ∷ items) p q (m, T, rest) = let r = took_same items m q rest in (r.0 ∙ T.setup, r.1 ∙ T.shard)
+
+  -- no item
+  pub took_none : (p : PartData S V) → TookMany meaning p 0 p
+  took_none p = ([], refl, refl)
+
+  -- one item more was taken
+  pub took_next : (p m q : PartData S V) (n : ℕ) → TookMany meaning p n m → TookFront meaning m q → TookMany meaning p (n + 1) q
+  took_next p m q n (items, l, T) (i, R) = (items ++ i ∷ [], length-append items (i ∷ []) ∙ ap (λ k. k + 1) l, took_more items i p m q T R)
+
+  pub took_many_same : (p q : PartData S V) (n : ℕ) → TookMany meaning p n q → (q.setup ≡ p.setup) × (q.shard ≡ p.shard)
+  took_many_same p q n (items, l, T) = took_same items p q T
+
+  -- many items of a part, on the state after some events
+  pub many_run : (desk p q : PartData S V) (a : S) (n : ℕ) → desk ≡ p → a ≡ desk.setup.algebra → Lawful (meaning a) → WellFormed (network_in desk.setup) → IsTallied desk → TookMany meaning p n q →
+      (events : List Event) → Holds meaning (state_after (meaning p.setup.algebra) (network_in p.setup) events) p → IsRunOn meaning events p n q
+  many_run desk p q a n e l L W y (items, count, T) events H = run_on events p q n items (subst (λ z. Lawful (meaning z)) (l ∙ ap (λ (u : PartData S V). u.setup.algebra) e) L)
+      (subst (λ (u : PartData S V). WellFormed (network_in u.setup)) e W) (subst IsTallied e y) count T H

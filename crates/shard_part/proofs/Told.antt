@@ -1,0 +1,46 @@
+-- Each item that a part takes keeps what its idle arcs have been told.
+use Rattle.std.proofs.Common.{◌≡◌, ℕ, true, eqb, List, None, refl, sym, ap, ◌∙◌, subst, eq-eqb}
+use Rattle.scholten_core.specs.declared.token.Token.TheVariants.{Idle}
+use Rattle.scholten_core.specs.declared.item.Item.{Item}
+use Rattle.path_algebra.specs.Algebra.{Algebra}
+use Rattle.path_algebra.specs.Algebra.{IsLawful as Lawful}
+use Rattle.scholten_core.specs.Network.{Network, WellFormed}
+use Rattle.scholten_core.specs.Diffusion.{CoreState, is_idle}
+use Rattle.scholten_core.proofs.Basics.{idle-true}
+use Rattle.shard_part.specs.PartState.{PartData, network_in, place_in, state_in, mine, taken, Took, TookIn}
+use Rattle.shard_part.specs.Desk.{Rows, IsDesk, IsPlanned, IsPopped, with_taken}
+use Rattle.shard_part.specs.Part.{OwnIdleIsTold}
+use Rattle.shard_part.proofs.Quick.{taken_told}
+use Rattle.shard_part.proofs.Taken.{IsFit, desk_fit, has_told, popped_taken}
+use Rattle.shard_part.proofs.Moves.{formed}
+use Rattle.shard_part.proofs.TakenMoves.{of_one_shard}
+
+module _ {S V : Type 0} (A : Algebra V) where
+  pub told_kept : Lawful A → (p : PartData S V) (i : Item V) (q : PartData S V) → WellFormed (network_in p.setup) → OwnIdleIsTold p → TookIn A (network_in p.setup) (place_in p.setup) p i q → OwnIdleIsTold q
+  told_kept L p i q W T R =
+      let N = network_in p.setup in
+      let own = mine (place_in p.setup) p.shard in
+      let H = taken_told A N L W (mine (place_in p.setup) p.shard) i (state_in p) (has_told A p T) in
+      let here : OwnIdleIsTold (record q { setup = p.setup; shard = p.shard }) = (λ b h n idle.
+      let m : mine (place_in p.setup) p.shard (N.tail b) ≡ true = eq-eqb _ _ h in
+      R.tables.told b m ∙ H b m n n (idle-true ((taken A N i (state_in p)).token b) (sym (R.tables.idle b m) ∙ ap is_idle idle)) ∙ sym (R.tables.label (N.tail b) m)) in
+      subst OwnIdleIsTold (sym (of_one_shard A p q R.setup R.shard)) here
+
+-- where nothing has been told yet and no vertex has a label
+pub untold : {S V : Type 0} (p : PartData S V) → ((v : ℕ) → (state_in p).label v ≡ None) → ((b : ℕ) → (state_in p).told b ≡ None) → OwnIdleIsTold p
+untold p labels told b h n i = told b ∙ sym (labels ((network_in p.setup).tail b))
+
+-- of a desk whose front item was taken off the queue and handled
+module _ {S V : Type 0} (meaning : S → Algebra V) where
+  pub desk_formed : (p old : PartData S V) (r : Rows V) (n : ℕ) (ns : List ℕ) → p ≡ old → IsDesk p r n ns → WellFormed (network_in old.setup)
+  desk_formed p old r n ns e D = subst (λ (u : PartData S V). WellFormed (network_in u.setup)) e (formed p p.shard D.planned)
+
+  pub front_taken : (p old m q : PartData S V) (r : Rows V) (n : ℕ) (ns : List ℕ) (i : Item V) → p ≡ old → IsDesk p r n ns → Lawful (meaning p.setup.algebra) → IsPopped old m i → q ≡ with_taken (meaning old.setup.algebra) i m → OwnIdleIsTold old →
+      Took meaning old i q
+  front_taken p old m q r n ns i e D L O w T = popped_taken (meaning old.setup.algebra) (subst (λ (u : PartData S V). Lawful (meaning u.setup.algebra)) e L) old m q i
+      (subst (λ (u : PartData S V). IsPlanned u.setup u.shard) e D.planned) (subst IsFit e (desk_fit p r n ns D)) T O w
+
+  pub front_told : (p old m q : PartData S V) (r : Rows V) (n : ℕ) (ns : List ℕ) (i : Item V) → p ≡ old → IsDesk p r n ns → Lawful (meaning p.setup.algebra) → IsPopped old m i → q ≡ with_taken (meaning old.setup.algebra) i m → OwnIdleIsTold old →
+      OwnIdleIsTold q
+  front_told p old m q r n ns i e D L O w T = told_kept (meaning old.setup.algebra) (subst (λ (u : PartData S V). Lawful (meaning u.setup.algebra)) e L) old i q
+      (desk_formed p old r n ns e D) T (front_taken p old m q r n ns i e D L O w T)

@@ -1,0 +1,38 @@
+-- What a running part keeps, and what it does with the items that it takes.
+use Rattle.std.specs.Prelude.{◌≡◌, ◌≢◌, ℕ, List, length, map, ◌++◌}
+use Rattle.scholten_core.specs.declared.item.Item.{Item}
+use Rattle.scholten_core.specs.declared.event.Event.{Event}
+use Rattle.scholten_core.specs.declared.token.Token.TheVariants.{Idle}
+use Rattle.path_algebra.specs.Algebra.{Algebra}
+use Rattle.scholten_core.specs.Network.{Network}
+use Rattle.scholten_core.specs.Diffusion.{CoreState, state_after, count_enabled}
+use Rattle.scholten_core.specs.Accounts.{sent_total, delivered_total, signalled_total, accepted_total}
+use Rattle.shard_part.specs.Tallies.{counted_on}
+use Rattle.shard_part.specs.PartState.{PartData, network_in, place_in, state_in, event_of, Took, TookAll, Holds}
+
+-- an idle arc out of a vertex of the part has been told the vertex's label
+abbrev pub OwnIdleIsTold : {S V : Type 0} → PartData S V → Type 0
+OwnIdleIsTold p = (b : ℕ) → place_in p.setup ((network_in p.setup).tail b) ≡ p.shard → (network_in p.setup).tail b ≢ 0 →
+    (state_in p).token b ≡ Idle → (state_in p).told b ≡ (state_in p).label ((network_in p.setup).tail b)
+
+module _ {S V : Type 0} (meaning : S → Algebra V) where
+  -- some item was taken from the front
+  abbrev pub TookFront : PartData S V → PartData S V → Type 0
+  TookFront p q = (i : Item V) × Took meaning p i q
+
+  -- so many items were taken, one after the other
+  abbrev pub TookMany : PartData S V → ℕ → PartData S V → Type 0
+  TookMany p n q = (items : List (Item V)) × (length items ≡ n) × TookAll meaning p items q
+
+  -- so many items were taken, and where the part held its share of the state after these events, they are as many events more, each enabled in its turn:
+  -- the part holds its share of the state after all of them, and has counted what they sent, delivered, signalled and accepted
+  pub record IsRunOn (events : List Event) (p : PartData S V) (n : ℕ) (q : PartData S V) : Type 0 where
+    pub items : List (Item V)
+    pub count : length items ≡ n
+    pub took : TookAll meaning p items q
+    pub enabled : count_enabled (meaning p.setup.algebra) (network_in p.setup) (state_after (meaning p.setup.algebra) (network_in p.setup) events) (map event_of items) ≡ n
+    pub holds : Holds meaning (state_after (meaning p.setup.algebra) (network_in p.setup) (events ++ map event_of items)) q
+    pub sent : q.sent ≡ counted_on (sent_total (meaning p.setup.algebra) (network_in p.setup) (state_after (meaning p.setup.algebra) (network_in p.setup) events) (map event_of items)) p.sent
+    pub delivered : q.delivered ≡ counted_on (delivered_total (meaning p.setup.algebra) (network_in p.setup) (state_after (meaning p.setup.algebra) (network_in p.setup) events) (map event_of items)) p.delivered
+    pub signalled : q.signalled ≡ counted_on (signalled_total (meaning p.setup.algebra) (network_in p.setup) (state_after (meaning p.setup.algebra) (network_in p.setup) events) (map event_of items)) p.signalled
+    pub accepted : q.accepted ≡ counted_on (accepted_total (meaning p.setup.algebra) (network_in p.setup) (state_after (meaning p.setup.algebra) (network_in p.setup) events) (map event_of items)) p.accepted

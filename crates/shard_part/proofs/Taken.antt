@@ -1,13 +1,11 @@
 -- What the moves do with the item that was taken from the front is one item taken.
-use Rattle.std.proofs.Common.{◌≡◌, ◌≢◌, ℕ, zero, suc, ◌+◌, ◌<◌, ◌≤◌, Bool, true, false, cond, eqb, Option, Some, None, List, [], ◌∷◌, ◌++◌, length, set, get_or, ◌⊎◌, refl, sym, ap, ◌∙◌, subst, inl, inr, arith, length-set, get_or-set_same, get_or-set_other, eqb-true, eq-eqb}
+use Rattle.std.proofs.Common.{◌≡◌, ◌≢◌, ℕ, zero, suc, ◌<◌, ◌≤◌, Bool, true, false, cond, Option, Some, None, List, [], ◌∷◌, ◌++◌, length, set, get_or, refl, sym, ap, ◌∙◌, subst, inl, inr, arith, length-set, get_or-set_same, get_or-set_other, eqb-true, eq-eqb}
 use Rattle.std.proofs.lemmas.Bool.{cond-true, cond-false}
-use Rattle.scholten_core.specs.declared.token.Token.{Token}
 use Rattle.scholten_core.specs.declared.token.Token.TheVariants.{Idle}
 use Rattle.scholten_core.specs.declared.item.Item.{Item}
 use Rattle.scholten_core.specs.declared.item.Item.TheVariants.{Message as MessageOn, Signal as SignalOn}
 use Rattle.path_algebra.specs.Algebra.{Algebra}
 use Rattle.path_algebra.specs.Algebra.{IsLawful as Lawful}
-use Rattle.road_graph.specs.Roads.{Roads, HasVertex, IsRoads}
 use Rattle.scholten_core.specs.Network.{Network, WellFormed}
 use Rattle.scholten_core.specs.Diffusion.{CoreState, put, is_idle, is_due, improves, better_of, engaged_by, answer_to, freed, Listed}
 use Rattle.scholten_core.specs.Items.{item_arc, item_of, pump_made, settle_made, IsDistinct, IsOutList}
@@ -23,7 +21,7 @@ use Rattle.shard_part.proofs.Graphs.{head_of_arc, head_of_entry, tail_of_arc, ta
 use Rattle.shard_part.proofs.Pumping.{offered_none}
 use Rattle.shard_part.proofs.Quick.{HasTold, quiet_message, quiet_signal, made_nothing, made_alone}
 use Rattle.shard_part.proofs.TakenArcs.{counted_none, counted_top}
-use Rattle.shard_part.proofs.TakenMoves.{everywhere, Made, settles, made_after}
+use Rattle.shard_part.proofs.TakenMoves.{Made, settles, made_after}
 
 -- the tables have a place for each vertex and each arc, and no counter is past its top
 pub record IsFit {S V : Type 0} (p : PartData S V) : Type 0 where

@@ -1,18 +1,17 @@
 -- A vertex settles: the arcs offered and the rest that follows are those of the whole state.
-use Rattle.std.proofs.Common.{◌≡◌, ◌≢◌, ℕ, suc, ◌+◌, ◌<◌, ◌≤◌, Bool, true, false, cond, Option, Some, None, List, [], ◌∷◌, ◌++◌, length, set, get_or, ◌⊎◌, append-nil, refl, sym, ap, ◌∙◌, subst, inl, inr, arith, get_or-set_same, get_or-set_other}
+use Rattle.std.proofs.Common.{◌≡◌, ℕ, ◌<◌, ◌≤◌, Bool, true, false, Option, Some, None, List, [], ◌∷◌, ◌++◌, length, set, get_or, append-nil, refl, sym, ap, ◌∙◌, subst, inl, inr, get_or-set_same, get_or-set_other}
 use Rattle.std.proofs.lemmas.Bool.{cond-false}
 use Rattle.scholten_core.specs.declared.item.Item.{Item}
-use Rattle.scholten_core.specs.declared.item.Item.TheVariants.{Message as MessageOn, Signal as SignalOn}
+use Rattle.scholten_core.specs.declared.item.Item.TheVariants.{Signal as SignalOn}
 use Rattle.path_algebra.specs.Algebra.{Algebra}
-use Rattle.scholten_core.specs.Network.{Network, WellFormed}
-use Rattle.scholten_core.specs.Diffusion.{CoreState, put, is_idle, is_due, pump, out_idle, Listed}
+use Rattle.scholten_core.specs.Diffusion.{CoreState, is_idle, is_due, pump, out_idle, Listed}
 use Rattle.scholten_core.specs.Items.{pump_made, rest_made, settle_made, IsDistinct}
 use Rattle.scholten_core.specs.Shares.{Agree}
 use Rattle.scholten_core.proofs.Basics.{put_tells}
 use Rattle.scholten_core.proofs.Shares.{out_idle_agree}
 use Rattle.shard_part.specs.Tallies.{counted_on, top}
-use Rattle.shard_part.specs.PartState.{PartData, Setup, Lanes, lanes_of, network_in, place_in, state_in, total, is_told, is_back, routes, rest_here, settle_here}
-use Rattle.shard_part.specs.Desk.{with_item, offered_all, rested, rested_by}
+use Rattle.shard_part.specs.PartState.{PartData, lanes_of, network_in, place_in, state_in, total, is_told, is_back, routes, rest_here, settle_here}
+use Rattle.shard_part.specs.Desk.{offered_all, rested, rested_by}
 use Rattle.shard_part.proofs.Routed.{routes-append}
 use Rattle.shard_part.proofs.TakenArcs.{counted_none, counted_append, counted_top, listed_or, made_no_back, Offers, offers}
 

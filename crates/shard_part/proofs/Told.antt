@@ -1,11 +1,10 @@
 -- Each item that a part takes keeps what its idle arcs have been told.
-use Rattle.std.proofs.Common.{◌≡◌, ℕ, true, eqb, List, None, refl, sym, ap, ◌∙◌, subst, eq-eqb}
-use Rattle.scholten_core.specs.declared.token.Token.TheVariants.{Idle}
+use Rattle.std.proofs.Common.{◌≡◌, ℕ, true, List, None, sym, ap, ◌∙◌, subst, eq-eqb}
 use Rattle.scholten_core.specs.declared.item.Item.{Item}
 use Rattle.path_algebra.specs.Algebra.{Algebra}
 use Rattle.path_algebra.specs.Algebra.{IsLawful as Lawful}
-use Rattle.scholten_core.specs.Network.{Network, WellFormed}
-use Rattle.scholten_core.specs.Diffusion.{CoreState, is_idle}
+use Rattle.scholten_core.specs.Network.{WellFormed}
+use Rattle.scholten_core.specs.Diffusion.{is_idle}
 use Rattle.scholten_core.proofs.Basics.{idle-true}
 use Rattle.shard_part.specs.PartState.{PartData, network_in, place_in, state_in, mine, taken, Took, TookIn}
 use Rattle.shard_part.specs.Desk.{Rows, IsDesk, IsPlanned, IsPopped, with_taken}

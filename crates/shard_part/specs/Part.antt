@@ -4,8 +4,7 @@ use Rattle.scholten_core.specs.declared.item.Item.{Item}
 use Rattle.scholten_core.specs.declared.event.Event.{Event}
 use Rattle.scholten_core.specs.declared.token.Token.TheVariants.{Idle}
 use Rattle.path_algebra.specs.Algebra.{Algebra}
-use Rattle.scholten_core.specs.Network.{Network}
-use Rattle.scholten_core.specs.Diffusion.{CoreState, state_after, count_enabled}
+use Rattle.scholten_core.specs.Diffusion.{state_after, count_enabled}
 use Rattle.scholten_core.specs.Accounts.{sent_total, delivered_total, signalled_total, accepted_total}
 use Rattle.shard_part.specs.Tallies.{counted_on}
 use Rattle.shard_part.specs.PartState.{PartData, network_in, place_in, state_in, event_of, Took, TookAll, Holds}

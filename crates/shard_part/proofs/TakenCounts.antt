@@ -58,13 +58,13 @@ module _ {V : Type 0} (A : Algebra V) (N : Network) where
 
 module _ {S V : Type 0} (A : Algebra V) (N : Network) (place : ℕ → ℕ) where
   -- the counts of one item are those of its event
-  record Counts (c : CoreState V) (i : Item V) (p : PartData S V) : Type 0 where
-    sent : total is_told (made A N i (state_in p)) ≡ count_sent A N c (step A N c (event_of i))
-    signalled : total is_back (made A N i (state_in p)) ≡ count_signalled A N c (step A N c (event_of i))
-    delivered : is_told i ≡ one_if (is_delivery A N c (event_of i))
-    accepted : is_back i ≡ one_if (is_acceptance A N c (event_of i))
+  pub record Counts (c : CoreState V) (i : Item V) (p : PartData S V) : Type 0 where
+    pub sent : total is_told (made A N i (state_in p)) ≡ count_sent A N c (step A N c (event_of i))
+    pub signalled : total is_back (made A N i (state_in p)) ≡ count_signalled A N c (step A N c (event_of i))
+    pub delivered : is_told i ≡ one_if (is_delivery A N c (event_of i))
+    pub accepted : is_back i ≡ one_if (is_acceptance A N c (event_of i))
 
-  counts : Lawful A → WellFormed N → (c : CoreState V) (p : PartData S V) (i : Item V) (q : PartData S V) → Kept A N 0 c → HoldsShare A N place c p → TookIn A N place p i q → Counts c i p
+  pub counts : Lawful A → WellFormed N → (c : CoreState V) (p : PartData S V) (i : Item V) (q : PartData S V) → Kept A N 0 c → HoldsShare A N place c p → TookIn A N place p i q → Counts c i p
   counts L W c p i q K H T =
       let E = took_event A N place L W c p i q K H T in
       let R = accounts A N L W c (event_of i ∷ []) K in
@@ -81,20 +81,20 @@ module _ {S V : Type 0} (A : Algebra V) (N : Network) (place : ℕ → ℕ) wher
 
 module _ {S V : Type 0} (meaning : S → Algebra V) where
   -- items taken one after the other, as events of c
-  record Runs (t : Setup S) (c : CoreState V) (items : List (Item V)) (p q : PartData S V) : Type 0 where
-    enabled : count_enabled (meaning t.algebra) (network_in t) c (map event_of items) ≡ length items
-    holds : HoldsShare (meaning t.algebra) (network_in t) (place_in t) (run_from (meaning t.algebra) (network_in t) c (map event_of items)) q
-    setup : q.setup ≡ t
-    sent : q.sent ≡ counted_on (sent_total (meaning t.algebra) (network_in t) c (map event_of items)) p.sent
-    delivered : q.delivered ≡ counted_on (delivered_total (meaning t.algebra) (network_in t) c (map event_of items)) p.delivered
-    signalled : q.signalled ≡ counted_on (signalled_total (meaning t.algebra) (network_in t) c (map event_of items)) p.signalled
-    accepted : q.accepted ≡ counted_on (accepted_total (meaning t.algebra) (network_in t) c (map event_of items)) p.accepted
+  pub record Runs (t : Setup S) (c : CoreState V) (items : List (Item V)) (p q : PartData S V) : Type 0 where
+    pub enabled : count_enabled (meaning t.algebra) (network_in t) c (map event_of items) ≡ length items
+    pub holds : HoldsShare (meaning t.algebra) (network_in t) (place_in t) (run_from (meaning t.algebra) (network_in t) c (map event_of items)) q
+    pub setup : q.setup ≡ t
+    pub sent : q.sent ≡ counted_on (sent_total (meaning t.algebra) (network_in t) c (map event_of items)) p.sent
+    pub delivered : q.delivered ≡ counted_on (delivered_total (meaning t.algebra) (network_in t) c (map event_of items)) p.delivered
+    pub signalled : q.signalled ≡ counted_on (signalled_total (meaning t.algebra) (network_in t) c (map event_of items)) p.signalled
+    pub accepted : q.accepted ≡ counted_on (accepted_total (meaning t.algebra) (network_in t) c (map event_of items)) p.accepted
 
   -- a counter after one item and then others
   counter : (k l j a n m : ℕ) → n ≡ counted_on k a → k ≡ l → m ≡ counted_on j n → m ≡ counted_on (l + j) a
   counter k l j a n m p e q = q ∙ ap (counted_on j) (p ∙ ap (λ z. counted_on z a) e) ∙ counted_more l j a
 
-  runs : (t : Setup S) → Lawful (meaning t.algebra) → WellFormed (network_in t) → (items : List (Item V)) (p q : PartData S V) (c : CoreState V) → p.setup ≡ t → IsTallied p → Kept (meaning t.algebra) (network_in t) 0 c →
+  pub runs : (t : Setup S) → Lawful (meaning t.algebra) → WellFormed (network_in t) → (items : List (Item V)) (p q : PartData S V) (c : CoreState V) → p.setup ≡ t → IsTallied p → Kept (meaning t.algebra) (network_in t) 0 c →
       HoldsShare (meaning t.algebra) (network_in t) (place_in t) c p → TookAll meaning p items q → Runs t c items p q
   runs t L W [] p q c e y K H s = subst (Runs t c [] p) s (record {
     enabled = refl;

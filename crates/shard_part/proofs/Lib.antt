@@ -26,3 +26,4 @@ pub mod TakenMoves
 pub mod Taken
 pub mod Told
 pub mod TakenCounts
+pub mod TakenShown

@@ -17,7 +17,7 @@ use Rattle.scholten_core.proofs.Kept.{Kept, step_kept, run_kept}
 use Rattle.scholten_core.proofs.Ended.{opening_kept}
 use Rattle.scholten_core.proofs.Counts.{sum_same, accounts}
 use Rattle.shard_part.specs.Tallies.{counted_on, top}
-use Rattle.shard_part.specs.PartState.{PartData, Setup, network_in, place_in, state_in, total, is_told, is_back, made, flying, event_of, TookIn, TookAll, HoldsShare, Holds}
+use Rattle.shard_part.specs.PartState.{PartData, Setup, network_in, place_in, state_in, total, is_told, is_back, made, flying, part_weight, event_of, TookIn, TookAll, HoldsShare, Holds}
 use Rattle.shard_part.specs.Desk.{IsTallied}
 use Rattle.shard_part.specs.Part.{TookFront, TookMany, IsRunOn}
 use Rattle.shard_part.proofs.Taking.{took_event, took_weighs}
@@ -52,7 +52,7 @@ module _ {V : Type 0} (A : Algebra V) (N : Network) where
   back_if c (MessageOn a x) e = refl
   back_if c (SignalOn a) e = ap one_if (sym e)
 
-  run_append : (c : CoreState V) (es fs : List Event) → run_from A N c (es ++ fs) ≡ run_from A N (run_from A N c es) fs
+  pub run_append : (c : CoreState V) (es fs : List Event) → run_from A N c (es ++ fs) ≡ run_from A N (run_from A N c es) fs
   run_append c [] fs = refl
   run_append c (e ∷ es) fs = run_append (step A N c e) es fs
 
@@ -85,6 +85,7 @@ module _ {S V : Type 0} (meaning : S → Algebra V) where
     pub enabled : count_enabled (meaning t.algebra) (network_in t) c (map event_of items) ≡ length items
     pub holds : HoldsShare (meaning t.algebra) (network_in t) (place_in t) (run_from (meaning t.algebra) (network_in t) c (map event_of items)) q
     pub setup : q.setup ≡ t
+    pub weighs : (h : ℕ → Item V → ℕ) → part_weight h q + flying (network_in t) (place_in t) c h ≡ part_weight h p + flying (network_in t) (place_in t) (run_from (meaning t.algebra) (network_in t) c (map event_of items)) h
     pub sent : q.sent ≡ counted_on (sent_total (meaning t.algebra) (network_in t) c (map event_of items)) p.sent
     pub delivered : q.delivered ≡ counted_on (delivered_total (meaning t.algebra) (network_in t) c (map event_of items)) p.delivered
     pub signalled : q.signalled ≡ counted_on (signalled_total (meaning t.algebra) (network_in t) c (map event_of items)) p.signalled
@@ -100,6 +101,7 @@ module _ {S V : Type 0} (meaning : S → Algebra V) where
     enabled = refl;
     holds = H;
     setup = e;
+    weighs = λ h. refl;
     sent = sym (counted_none p.sent y.0);
     delivered = sym (counted_none p.delivered y.1);
     signalled = sym (counted_none p.signalled y.2);
@@ -122,6 +124,7 @@ module _ {S V : Type 0} (meaning : S → Algebra V) where
         enabled = (let r = R.enabled in let one = cond-true {A = ℕ} (is_enabled c (event_of i)) 1 0 E.enabled in omega (arith, r, one));
         holds = R.holds;
         setup = R.setup;
+        weighs = λ h. let w = E.weighs h in let r = R.weighs h in omega (arith, w, r);
         sent = counter _ _ (sent_total A N (step A N c (event_of i)) (map event_of is)) p.sent m.sent q.sent T1.sent C.sent R.sent;
         delivered = counter _ _ (delivered_total A N (step A N c (event_of i)) (map event_of is)) p.delivered m.delivered q.delivered T1.delivered C.delivered R.delivered;
         signalled = counter _ _ (signalled_total A N (step A N c (event_of i)) (map event_of is)) p.signalled m.signalled q.signalled T1.signalled C.signalled R.signalled;
@@ -143,6 +146,7 @@ module _ {S V : Type 0} (meaning : S → Algebra V) where
         enabled = R.enabled ∙ l;
         holds = subst (λ t. HoldsShare (meaning t.algebra) (network_in t) (place_in t) (state_after A N (events ++ map event_of items)) q) (sym R.setup)
             (subst (λ d. HoldsShare A N (place_in p.setup) d q) (sym (run_append A N (opening A N) events (map event_of items))) R.holds);
+        weighs = subst (λ d. (h : ℕ → Item V → ℕ) → part_weight h q + flying N (place_in p.setup) (state_after A N events) h ≡ part_weight h p + flying N (place_in p.setup) d h) (sym (run_append A N (opening A N) events (map event_of items))) R.weighs;
         sent = R.sent;
         delivered = R.delivered;
         signalled = R.signalled;

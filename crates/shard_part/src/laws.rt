@@ -4,6 +4,7 @@ ghost use Rattle.scholten_core.specs.declared.event.Event.{Event};
 ghost use Rattle.scholten_core.specs.Network.{WellFormed};
 ghost use Rattle.scholten_core.specs.Diffusion.{CoreState, state_after, step, is_enabled};
 ghost use Rattle.shard_part.specs.PartState.{Setup, PartData, Took, TookAll, AllEnabled, Holds, Shows, event_of, network_in, place_in, mail_weight, on, parts_places, mail_places, place_of_token};
+ghost use Rattle.shard_part.specs.Part.{TookMany, IsShownOn};
 
 use path_algebra::PathAlgebra;
 
@@ -19,6 +20,12 @@ pub fn items_are_events<A: PathAlgebra>(_algebra: A)
     ensures { (events : List Event) (items : List (Item A.Value)) (p q : PartData A A.Value) → WellFormed (network_in p.setup) →
         Holds A.meaning (state_after (A.meaning p.setup.algebra) (network_in p.setup) events) p → TookAll A.meaning p items q →
         (d : CoreState A.Value) × Holds A.meaning d q × (q.setup ≡ p.setup) × AllEnabled A.meaning p.setup (state_after (A.meaning p.setup.algebra) (network_in p.setup) events) items d }
+{}
+
+/// Where all parts and mailboxes show a reached state and one part takes items, one after the other, they show the state after as many events more, each enabled in its turn.
+pub fn items_are_shown<A: PathAlgebra>(_algebra: A)
+    ensures { (t : Setup A) (events : List Event) (before after : List (PartData A A.Value)) (p q : PartData A A.Value) (n : ℕ) (mail : (ℕ → Item A.Value → ℕ) → ℕ) → WellFormed (network_in t) →
+        Shows A.meaning t (before ++ p ∷ after) mail (state_after (A.meaning t.algebra) (network_in t) events) → TookMany A.meaning p n q → IsShownOn A.meaning t events (before ++ q ∷ after) mail n }
 {}
 
 /// What parts and mailboxes show, read: on each arc the items in all places, each with the shard that it is at or going to, are just what its token stands for.

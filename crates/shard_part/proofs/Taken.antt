@@ -185,12 +185,10 @@ module _ {S V : Type 0} (A : Algebra V) where
       }
   signal_taken L p (suc k) W F T here n within =
       let N = network_in p.setup in
-      let a = suc k in
       let v = (network_in p.setup).tail (suc k) in
       let nz : (network_in p.setup).tail (suc k) ≢ 0 = n (λ z. omega (arith, z)) in
       let O = outgoing_is A N W v nz in
       let p1 : PartData S V = record p { busy = set p.busy (suc k) false } in
-      let d : CoreState V = freed A N (suc k) (state_in p) in
       let in_busy : suc k < length p.busy = (out_within p W F v nz (suc k) (O.all (suc k) refl)).1 in
       let in_told : suc k < length p.told = (out_within p W F v nz (suc k) (O.all (suc k) refl)).0 in
       let e = free_is p (suc k) in_busy in
@@ -199,7 +197,6 @@ module _ {S V : Type 0} (A : Algebra V) where
       (λ b l. elim l [ inl q ↦ (let s = length-set p.busy (suc k) false in (omega (arith, q, in_told), omega (arith, q, s, in_busy))) | inr z ↦ absurd z ])
       (subst (λ s. (b : ℕ) → (Listed A N b (suc k ∷ []) → ⊥) → is_due A N v s b ≡ false) (sym e) (λ b m. quiet b (λ q. m (inl q))))
       (subst (λ s. pump_made A N v s (outgoing N v) ≡ pump_made A N v s (suc k ∷ [])) (sym e) (made_alone A N v (suc k) (freed A N (suc k) (state_in p)) (outgoing N v) O.distinct (O.all (suc k) refl) quiet)) in
-      let q : PartData S V = rested A v (offered_all A v (suc k ∷ []) p1) in
       let M : Made A (settle_here A N v (freed A N (suc k) (state_in p))) (settle_made A N v (freed A N (suc k) (state_in p)) (outgoing N v)) p1 (rested A v (offered_all A v (suc k ∷ []) p1)) =
       subst (λ s. Made A (settle_here A N v s) (settle_made A N v s (outgoing N v)) p1 (rested A v (offered_all A v (suc k ∷ []) p1))) e R in
       let Q : Made A (settle_here A N v (freed A N (suc k) (state_in p))) (settle_made A N v (freed A N (suc k) (state_in p)) (outgoing N v)) p1 (rested A v (offered A v (suc k) p1)) =

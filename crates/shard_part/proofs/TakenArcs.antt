@@ -138,9 +138,7 @@ module _ {S V : Type 0} (A : Algebra V) where
       (ap (λ xs. routes N (place_in p.setup) p.shard xs (lanes_of p)) (sym none)) (sym (counted_none p.sent s) ∙ ap (λ xs. counted_on (total is_told xs) p.sent) (sym none)) (later p.told p.busy p.queue p.outs p.sent s refl refl)
   offers_one v b bs p s lt lb apart later true d None e =
       let N = network_in p.setup in
-      let x = (state_in p).label v in
       let none : offer_made A N v (state_in p) b ≡ [] = cond-true _ _ _ d ∙ ap (λ o. item_of b (sent o)) e in
-      let ts = set p.told b ((state_in p).label v) in
       offers_step v b bs p (offered_all A v bs (record p { told = set p.told b ((state_in p).label v) })) (set p.told b ((state_in p).label v)) p.busy p.queue p.outs p.sent apart
       (get_or-set_same p.told b ((state_in p).label v) None lt ∙ sym (cond-true _ _ _ d))
       (due_idle A N v (state_in p) b d ∙ ap is_idle (sym (cond-true _ _ _ d ∙ ap sent e)))

@@ -137,7 +137,6 @@ module _ {S V : Type 0} (meaning : S → Algebra V) where
   run_on events p q n items L W y l T H =
       let A = meaning p.setup.algebra in
       let N = network_in p.setup in
-      let c = state_after A N events in
       let R = runs p.setup L W items p q (state_after A N events) refl y (run_kept A N L W (opening A N) events (opening_kept A N W)) H T in
       record {
         items = items;

@@ -95,7 +95,6 @@ module _ {S V : Type 0} (A : Algebra V) where
   rests v ys p q l M =
       let N = network_in p.setup in
       let e = of_one_shard p q M.setup M.shard in
-      let q' : PartData S V = record q { setup = p.setup; shard = p.shard } in
       let M' : Made (pump A N v (state_in p)) (pump_made A N v (state_in p) ys) p (record q { setup = p.setup; shard = p.shard }) = subst (Made (pump A N v (state_in p)) (pump_made A N v (state_in p) ys) p) e M in
       let o : (state_in q).engager v ≡ (state_in p).engager v = M'.tables.engager v refl in
       let t : out_idle A N v (state_in q) ≡ out_idle A N v (pump A N v (state_in p)) = out_idle_agree A N everywhere v (pump A N v (state_in p)) (state_in q) refl M'.tables in

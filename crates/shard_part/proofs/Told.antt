@@ -18,7 +18,6 @@ module _ {S V : Type 0} (A : Algebra V) where
   pub told_kept : Lawful A → (p : PartData S V) (i : Item V) (q : PartData S V) → WellFormed (network_in p.setup) → OwnIdleIsTold p → TookIn A (network_in p.setup) (place_in p.setup) p i q → OwnIdleIsTold q
   told_kept L p i q W T R =
       let N = network_in p.setup in
-      let own = mine (place_in p.setup) p.shard in
       let H = taken_told A N L W (mine (place_in p.setup) p.shard) i (state_in p) (has_told A p T) in
       let here : OwnIdleIsTold (record q { setup = p.setup; shard = p.shard }) = (λ b h n idle.
       let m : mine (place_in p.setup) p.shard (N.tail b) ≡ true = eq-eqb _ _ h in

@@ -1,3 +1,4 @@
 pub mod Choices
 pub mod Reports
 pub mod DoneUnder
+pub mod Verdicts

@@ -1,14 +1,18 @@
 //! Does what the command line asks for.
-ghost use Rattle.std.specs.Prelude.{◌≡◌, [], OnOk, IfErr};
-ghost use Rattle.batch_run.specs.Ran.{IsPairOf, IsBundleOf};
-ghost use Rattle.diffuse.specs.DoneUnder.{DoneUnder};
+ghost use Rattle.std.specs.Prelude.{◌≡◌, ◌≢◌, ◌⊎◌, [], OnOk, IfErr};
+ghost use Rattle.std.specs.Io.KnownBytes.{Keeps};
+ghost use Rattle.batch_run.specs.Ran.{IsPairOf, IsBundleOf, IsGraphFault, IsQuestionsFault, IsBundleFault, IsFaultOf};
+ghost use Rattle.diffuse.specs.DoneUnder.{DoneUnder, BegunUnder};
 
 use crate::chosen::Chosen;
+use crate::judging::judge;
+use crate::verdicts::{status_of_verdict, tell};
 use batch_run::{File, OpenGate, RunFault, Settings, fault_of_run, run_bundle, run_pair};
 use path_algebra::{Hops, Reach, Reliable, Shortest, Widest};
 use road_text::{Gathered, Plain, RoadRead, RoadWrite};
 use std::alloc::Global;
 use std::rt::Files;
+use std::thread::Threads;
 use std::{fs, io};
 
 /// Want of memory.
@@ -38,6 +42,11 @@ fn run_chosen_pair<G: RoadRead, Q: RoadRead, W: RoadWrite>(
 ) -> Result<(), RunFault>
     ensures done { OnOk result (DoneUnder chosen (IsPairOf (G.left graph.old) (Q.left questions.old)) (W.written out.old) (W.written out.new)) }
     ensures passed_on { OnOk result (W.held out.new ≡ []) }
+    ensures graph { IfErr result (λ f. f.file ≡ File.Graph → IsGraphFault (G.left graph.old) f) }
+    ensures questions { IfErr result (λ f. f.file ≡ File.Questions → IsQuestionsFault (G.left graph.old) (Q.left questions.old) f) }
+    ensures kinds { IfErr result (λ f. IsFaultOf (λ file. (file ≡ File.Graph) ⊎ (file ≡ File.Questions)) f) }
+    ensures nothing { IfErr result (λ f. f.file ≢ File.NoFile → Keeps (W.written out.old) (W.written out.new)) }
+    ensures begun { IfErr result (λ f. f.file ≡ File.NoFile → f.number ≢ 43 → BegunUnder chosen (IsPairOf (G.left graph.old) (Q.left questions.old)) (W.written out.old) (W.written out.new)) }
 {
     let settings = Settings::default();
     let gate = OpenGate;
@@ -60,6 +69,10 @@ fn run_chosen_bundle<B: RoadRead, W: RoadWrite>(
 ) -> Result<(), RunFault>
     ensures done { OnOk result (DoneUnder chosen (IsBundleOf (B.left input.old)) (W.written out.old) (W.written out.new)) }
     ensures passed_on { OnOk result (W.held out.new ≡ []) }
+    ensures bundle { IfErr result (λ f. f.file ≡ File.Bundle → IsBundleFault (B.left input.old) f) }
+    ensures kinds { IfErr result (λ f. IsFaultOf (λ file. file ≡ File.Bundle) f) }
+    ensures nothing { IfErr result (λ f. f.file ≢ File.NoFile → Keeps (W.written out.old) (W.written out.new)) }
+    ensures begun { IfErr result (λ f. f.file ≡ File.NoFile → f.number ≢ 43 → BegunUnder chosen (IsBundleOf (B.left input.old)) (W.written out.old) (W.written out.new)) }
 {
     let settings = Settings::default();
     let gate = OpenGate;
@@ -105,4 +118,28 @@ pub fn bundle<R: Input + Print + AllocGlobal>(rt: &R, chosen: Chosen) -> Result<
         ),
         Err(_) => Err(fault_of_run(MEMORY)),
     }
+}
+
+/// Judges the answers of a file, tells the verdict on standard output, and gives the exit status. All three files are
+/// opened before one is read.
+pub fn check<R: Files + Print + AllocGlobal + Threads + Sync>(
+    rt: &R,
+    graph: &str,
+    questions: &str,
+    answers: &str,
+    limit: Option<u64>,
+) -> Result<u8, RunFault> {
+    let graph = open(rt, graph, File::Graph)?;
+    let questions = open(rt, questions, File::Questions)?;
+    let answers = open(rt, answers, File::Answers)?;
+    let verdict = judge(
+        rt,
+        rt.alloc(),
+        &mut Plain::new(graph),
+        &mut Plain::new(questions),
+        &mut Plain::new(answers),
+        limit,
+    )?;
+    tell(&mut Plain::new(io::writer(rt)), verdict)?;
+    Ok(status_of_verdict(verdict))
 }

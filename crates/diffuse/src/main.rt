@@ -7,8 +7,10 @@ ghost use Rattle.diffuse.specs.Choices.{CannotBe, limit_of, name_of};
 
 mod chosen;
 mod jobs;
+mod judging;
 mod options;
 mod report;
+mod verdicts;
 
 use batch_run::{File, RunFault, fault_of_run};
 use chosen::{Chosen, choose};
@@ -20,6 +22,7 @@ use report::report;
 use std::alloc::AllocError;
 use std::process::ExitCode;
 use std::rt::{Env, Files};
+use std::thread::Threads;
 use std::{env, io};
 
 /// Want of memory.
@@ -56,23 +59,41 @@ fn algebra_of(wanted: &Wanted<'_>) -> Result<Chosen, RunFault>
     }
 }
 
-/// Does a job.
-fn perform<R: Files + Input + Print + AllocGlobal>(rt: &R, job: &Job<'_>) -> Result<(), RunFault> {
+/// Does a job, and gives the exit status.
+fn perform<R: Files + Input + Print + AllocGlobal + Threads + Sync>(
+    rt: &R,
+    job: &Job<'_>,
+) -> Result<u8, RunFault> {
     match job {
         Job::Solve {
             graph,
             questions,
             wanted,
-        } => jobs::solve(rt, algebra_of(wanted)?, graph, questions),
-        Job::Bundle { wanted } => jobs::bundle(rt, algebra_of(wanted)?),
+        } => {
+            jobs::solve(rt, algebra_of(wanted)?, graph, questions)?;
+            Ok(0)
+        }
+        Job::Bundle { wanted } => {
+            jobs::bundle(rt, algebra_of(wanted)?)?;
+            Ok(0)
+        }
+        Job::Check {
+            graph,
+            questions,
+            answers,
+            limit,
+        } => jobs::check(rt, graph, questions, answers, *limit),
     }
 }
 
 /// Does what the words of a command line say, and gives the exit status.
-fn run_words<R: Files + Input + Print + Eprint + AllocGlobal>(rt: &R, words: &[String]) -> u8 {
+fn run_words<R: Files + Input + Print + Eprint + AllocGlobal + Threads + Sync>(
+    rt: &R,
+    words: &[String],
+) -> u8 {
     match read_job(rt.alloc(), words) {
         Ok(Some(job)) => match perform(rt, &job) {
-            Ok(()) => 0,
+            Ok(status) => status,
             Err(fault) => report(rt, fault),
         },
         Ok(None) => USAGE,
@@ -81,7 +102,7 @@ fn run_words<R: Files + Input + Print + Eprint + AllocGlobal>(rt: &R, words: &[S
 }
 
 /// Takes the words of the command line, and does what they say.
-fn run<R: Env + Files + Input + Print + Eprint + AllocGlobal>(rt: &R) -> u8 {
+fn run<R: Env + Files + Input + Print + Eprint + AllocGlobal + Threads + Sync>(rt: &R) -> u8 {
     let words: Result<Vec<String>, AllocError> = match env::args(rt) {
         Ok(words) => words.collect(rt.alloc()),
         Err(error) => {

@@ -11,9 +11,10 @@ use Rattle.road_files.specs.Asked.{Question, FromSource, BetweenPair, FromSource
 use Rattle.answer_text.specs.declared.answers.Reached.{Reached}
 use Rattle.answer_text.specs.Told.{Told, ToldSource, ToldPair, ToldMulti, ToldFound, ToldList}
 use Rattle.answer_text.specs.IsAnswer.{IsLine, AreLines, IsPairAnswer, IsAnswer, AreAnswers, IsAnswerList}
-use Rattle.batch_run.specs.Told.{told_line}
+use Rattle.batch_run.specs.Told.{told_lines}
 use Rattle.batch_run.specs.Answered.{AsksWithin}
-use Rattle.batch_run.proofs.LinesAreRight.{line_is_right, lines_push, best_by_label, least_by_hops, unreached_by_label, unreached_by_hops}
+use Rattle.batch_run.proofs.LinesAreRight.{best_by_label, least_by_hops, unreached_by_label, unreached_by_hops}
+use Rattle.batch_run.proofs.ToldLines.{lines_are_right}
 
 module _ {V : Type 0} (A : Algebra V) (g : Roads) (roads : IsRoads g)
     (labelled : (sources : List ℕ) → All (HasVertex g) sources → (labels : List (Option V)) × AreBest A g sources labels)
@@ -21,28 +22,11 @@ module _ {V : Type 0} (A : Algebra V) (g : Roads) (roads : IsRoads g)
     (t : Branches) × IsTree A g sources t × IsLinked t × ((v k : ℕ) → HasVertex g v → hops_of t v ≡ Some k → (list : List ℕ) × IsRoute t v list))
     (follows : (sources : List ℕ) (t : Branches) → IsTree A g sources t → (v : ℕ) → HasVertex g v → (list : List ℕ) → IsRoute t v list → IsParentRoute A g sources v list)
     (from_one : (s v : ℕ) (list : List ℕ) → IsParentRoute A g (s ∷ []) v list → (rest : List ℕ) × (list ≡ s ∷ rest) × IsParentChain A g (s ∷ []) s rest v) where
-  -- the lines of the first vertices
-  first_lines : (sources : List ℕ) (labels : List (Option V)) (t : Branches) → AreBest A g sources labels → IsTree A g sources t → (n : ℕ) → n ≤ g.vertices →
-      (lines : List (Option Reached)) × (length lines ≡ n) × ((v : ℕ) → 1 ≤ v → v ≤ n → IsLine A g sources v (label_of lines v))
-  first_lines sources labels t best tree zero few = ([], refl, λ v low high. absurd (omega (arith, low, high)))
-  first_lines sources labels t best tree (suc n) few =
-      let before = first_lines sources labels t best tree n (omega (arith, few)) in
-      let in_graph : HasVertex g (n + 1) = ((omega arith), (omega (arith, few))) in
-      let line : Option Reached = told_line A (label_of labels (n + 1)) (hops_of t (n + 1)) (parent_of t (n + 1)) in
-      let right : IsLine A g sources (n + 1) line = line_is_right A g sources (n + 1) (label_of labels (n + 1)) (hops_of t (n + 1)) (parent_of t (n + 1))
-      (best.best (n + 1) in_graph) (tree.hops (n + 1) in_graph) (tree.parents (n + 1) in_graph) in
-      let count : length (before.0 ++ line ∷ []) ≡ suc n = omega (arith, length-append before.0 (line ∷ []), before.1) in (
-        before.0 ++ line ∷ [],
-        count,
-        λ v low high. lines_push (IsLine A g sources) before.0 line n before.1 (λ w one most. before.2 w one (omega (arith, most, before.1))) right v low (omega (arith, high)),
-      )
-
   lines_exist : (sources : List ℕ) → All (HasVertex g) sources → (lines : List (Option Reached)) × AreLines A g sources lines
   lines_exist sources inside =
       let labels = labelled sources inside in
       let tree = planted sources inside labels.0 labels.1 in
-      let lines = first_lines sources labels.0 tree.0 labels.1 tree.1 g.vertices (omega arith) in
-      (lines.0, record { count = lines.1; each = λ v in_graph. lines.2 v in_graph.0 in_graph.1 })
+      (told_lines A labels.0 tree.0 g.vertices, lines_are_right A g sources labels.0 tree.0 g.vertices refl labels.1 tree.1)
 
   -- what is told of a pair, by the label and the hops of its target
   pair_by : (s v : ℕ) (labels : List (Option V)) (t : Branches) → HasVertex g v → AreBest A g (s ∷ []) labels → IsTree A g (s ∷ []) t →

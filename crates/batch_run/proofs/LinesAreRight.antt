@@ -9,16 +9,6 @@ use Rattle.route_tree.specs.Tree.{AreHopsAt, IsParentAt}
 use Rattle.answer_text.specs.IsAnswer.{IsLine}
 use Rattle.batch_run.specs.Told.{told_line}
 
--- one line more
-pub lines_push : {X : Type 0} (P : ℕ → Option X → Type 0) (xs : List (Option X)) (x : Option X) (n : ℕ) → length xs ≡ n → ((v : ℕ) → 1 ≤ v → v ≤ length xs → P v (label_of xs v)) → P (n + 1) x →
-    (v : ℕ) → 1 ≤ v → v ≤ n + 1 → P v (label_of (xs ++ x ∷ []) v)
-lines_push P xs x n count each last v low high = elim (eq-or-lt_of_le high) [
-  | inl e ↦
-      let at : length xs ≡ v - 1 = omega (arith, e, count) in
-      rw (get_or_push xs x None (v - 1) at) (subst (λ k. P k x) (sym e) last)
-  | inr less ↦ rw (get_or_append_left xs (x ∷ []) None (v - 1) (omega (arith, less, count, low))) (each v low (omega (arith, less, count)))
-]
-
 module _ {V : Type 0} (A : Algebra V) (g : Roads) (sources : List ℕ) where
   pub line_is_right : (v : ℕ) (label : Option V) (hops parent : Option ℕ) → IsBestLabel A g sources v label → AreHopsAt A g sources v hops → IsParentAt A g sources v hops parent →
       IsLine A g sources v (told_line A label hops parent)

@@ -14,8 +14,11 @@ use Rattle.path_algebra.specs.Algebra.{Algebra}
 use Rattle.answer_text.specs.Told.{Told}
 use Rattle.answer_text.specs.IsAnswer.{IsAnswer, AreAnswers}
 use Rattle.answer_text.specs.AnswerText.{answer_text, blocks_text, header_text}
+use Rattle.batch_run.specs.declared.faults.File.TheVariants.{NoFile}
 use Rattle.batch_run.specs.declared.faults.RunFault.{RunFault}
-use Rattle.batch_run.specs.Answered.{AnswersAt, WroteAnswers, begun_text, WroteFirst, WroteAllOrFirst}
+use Rattle.batch_run.specs.declared.faults.Unanswered.{Unanswered}
+use Rattle.batch_run.specs.declared.faults.Unanswered.TheVariants as variants
+use Rattle.batch_run.specs.Answered.{WroteAnswer, WroteAnswers, begun_text, WroteFirst, WroteAllOrFirst, fault_of_answer}
 
 -- the first i questions were answered, and the answers written
 pub record Progress {V : Type 0} (A : Algebra V) (g : Roads) (asked : Asked) (i : ℕ) (old new : Option (List ℕ)) (before after : ℕ) : Type 0 where
@@ -56,9 +59,9 @@ module _ {V : Type 0} (A : Algebra V) (g : Roads) (asked : Asked) where
   pub stop : (i : ℕ) (old new : Option (List ℕ)) (b a : ℕ) → Progress A g asked i old new b a → WroteFirst A g asked old new
   stop i old new b a p = record { count = i; answers = p.answers; right = p.right; front = p.left.front; rest = []; text_is = p.left.text_is; bytes = p.left.bytes }
 
-  module _ (i : ℕ) (old mid new : Option (List ℕ)) (b m a : ℕ) (t : Told) (lt : i < length asked.questions) (is : AnswersAt A g asked.questions i t) (p : Progress A g asked i old mid b m) (q : Question) where
+  module _ (i : ℕ) (old mid new : Option (List ℕ)) (b m a : ℕ) (t : Told) (lt : i < length asked.questions) (q : Question) (is : IsAnswer A g (get_or asked.questions i q) t) (p : Progress A g asked i old mid b m) where
     now_right : AreAnswers A g (take (i + 1) asked.questions) (p.answers ++ t ∷ [])
-    now_right = subst (λ x. AreAnswers A g x (p.answers ++ t ∷ [])) (sym (take_more asked.questions i q lt)) (answers-push A g (take i asked.questions) p.answers (get_or asked.questions i q) t p.right (is q))
+    now_right = subst (λ x. AreAnswers A g x (p.answers ++ t ∷ [])) (sym (take_more asked.questions i q lt)) (answers-push A g (take i asked.questions) p.answers (get_or asked.questions i q) t p.right is)
 
     begun : Left old mid b m (begun_text A asked (p.answers ++ t ∷ [])) (answer_text t ++ [])
     begun = record {
@@ -74,6 +77,26 @@ module _ {V : Type 0} (A : Algebra V) (g : Roads) (asked : Asked) where
     pub fell : Fell mid new m a (answer_text t) → WroteFirst A g asked old new
     fell h = let f = left_fell [] begun h in
         record { count = i + 1; answers = p.answers ++ t ∷ []; right = now_right; front = f.front; rest = f.rest; text_is = f.text_is; bytes = f.bytes }
+
+  module _ (i : ℕ) (old mid new : Option (List ℕ)) (b m a : ℕ) (lt : i < length asked.questions) (q : Question) (p : Progress A g asked i old mid b m) where
+    -- one question more was answered
+    pub answered : WroteAnswer A g (get_or asked.questions i q) mid new m a (Ok tt) → Progress A g asked (i + 1) old new b a
+    answered h = step i old mid new b m a h.0 lt q h.1 p h.2
+
+    -- a question was not
+    pub unanswered : (u : Unanswered) → WroteAnswer A g (get_or asked.questions i q) mid new m a (Err u) → WroteFirst A g asked old new
+    unanswered variants.Memory h = subst (WroteFirst A g asked old) (sym h.0) (stop i old mid b m p)
+    unanswered variants.Write h = fell i old mid new b m a h.0 lt q h.1 p h.2
+
+    -- then memory was refused, or a write failed and was counted
+    pub fault_later : (u : Unanswered) → WroteAnswer A g (get_or asked.questions i q) mid new m a (Err u) →
+        ((fault_of_answer u).file ≡ NoFile) × ((fault_of_answer u).line ≡ 0) × (((fault_of_answer u).number ≡ 3) ⊎ ((fault_of_answer u).number ≡ 42)) × ((fault_of_answer u).number ≡ 42 → b < a)
+    fault_later variants.Memory h = (refl, refl, inl refl, λ e. absurd (omega (arith, e)))
+    fault_later variants.Write h = (refl, refl, inr refl, λ e. omega (arith, h.2.failed, p.left.sound))
+
+    pub more_failed : (u : Unanswered) → WroteAnswer A g (get_or asked.questions i q) mid new m a (Err u) → b ≤ a
+    more_failed variants.Memory h = omega (arith, h.1, p.left.sound)
+    more_failed variants.Write h = omega (arith, h.2.failed, p.left.sound)
 
 -- there is one answer for each question
 answers_count : {V : Type 0} (A : Algebra V) (g : Roads) (qs : List Question) (ts : List Told) → AreAnswers A g qs ts → length ts ≡ length qs

@@ -1,17 +1,23 @@
 -- What a batch leaves: the text of the right answers, whole or a front of it.
-use Rattle.std.specs.Prelude.{◌≡◌, ℕ, List, ◌++◌, length, take, slice_index_or, All, Option, Result, Ok, Err}
+use Rattle.std.specs.Prelude.{◌≡◌, ℕ, List, [], ◌++◌, length, take, All, Option, Result, Ok, Err}
 use Rattle.std.specs.Io.KnownBytes.{Appends}
 use Rattle.road_graph.specs.Roads.{Roads, HasVertex}
 use Rattle.road_files.specs.Asked.{Question, FromSource, BetweenPair, FromSources, Asked}
 use Rattle.path_algebra.specs.Algebra.{Algebra}
 use Rattle.answer_text.specs.Told.{Told, ToldList}
 use Rattle.answer_text.specs.IsAnswer.{IsAnswer, AreAnswers, IsAnswerList}
-use Rattle.answer_text.specs.AnswerText.{header_text, blocks_text, answers_text}
+use Rattle.answer_text.specs.AnswerText.{answer_text, header_text, blocks_text, answers_text}
+use Rattle.road_text.specs.Written.{Left, Fell}
 use Rattle.batch_run.specs.declared.faults.RunFault.{RunFault}
+use Rattle.batch_run.specs.declared.faults.File.TheVariants.{NoFile}
+use Rattle.batch_run.specs.declared.faults.Unanswered.{Unanswered}
+use Rattle.batch_run.specs.declared.faults.Unanswered.TheVariants.{Memory, Write}
 
--- the answer to the question at place i
-abbrev pub AnswersAt : {V : Type 0} → Algebra V → Roads → List Question → ℕ → Told → Type 0
-AnswersAt A g questions i told = (default : Question) → IsAnswer A g (slice_index_or questions i default) told
+-- the right answer to a question was written, whole; or nothing, since memory was refused; or a front of it, and then a write failed
+abbrev pub WroteAnswer : {V : Type 0} → Algebra V → Roads → Question → (old new : Option (List ℕ)) (before after : ℕ) → Result (Unit {0}) Unanswered → Type 0
+WroteAnswer A g q old new before after (Ok _) = (told : Told) × IsAnswer A g q told × Left old new before after (answer_text told) []
+WroteAnswer A g q old new before after (Err Memory) = (new ≡ old) × (after ≡ before)
+WroteAnswer A g q old new before after (Err Write) = (told : Told) × IsAnswer A g q told × Fell old new before after (answer_text told)
 
 -- the text of the answer list was written, whole
 pub record WroteAnswers {V : Type 0} (A : Algebra V) (g : Roads) (asked : Asked) (old new : Option (List ℕ)) : Type 0 where
@@ -57,3 +63,8 @@ abbrev pub AsksWithin : Roads → Question → Type 0
 AsksWithin g (FromSource s) = HasVertex g s
 AsksWithin g (BetweenPair s t) = HasVertex g s × HasVertex g t
 AsksWithin g (FromSources ss) = All (HasVertex g) ss
+
+-- want of memory is 3, and a failed write 42
+abbrev pub fault_of_answer : Unanswered → RunFault
+fault_of_answer Memory = record { number = 3; file = NoFile; line = 0 }
+fault_of_answer Write = record { number = 42; file = NoFile; line = 0 }

@@ -1,83 +1,23 @@
-//! The right answer to one question.
-ghost use Rattle.std.specs.Prelude.{◌≡◌, ℕ, ◌≤◌, ◌<◌, List, [], ◌∷◌, length, All, IfOk, Option, option_map};
+//! Answers one question: solves it, and writes the right answer.
+ghost use Rattle.std.specs.Prelude.{◌≡◌, ◌≤◌, ◌<◌, [], ◌∷◌, length, slice_index_or, All, IfOk, option_map};
 ghost use Rattle.road_graph.specs.Roads.{HasVertex};
 ghost use Rattle.path_algebra.specs.Walks.{AreBest};
 ghost use Rattle.route_tree.specs.Tree.{IsTree};
-ghost use Rattle.road_files.specs.Asked.{AreQuestionsOf, AreSourcesOf, FromSource, BetweenPair, FromSources, asked_of};
-ghost use Rattle.answer_text.specs.IsAnswer.{AreLines, IsAnswer, IsPairAnswer};
-ghost use Rattle.answer_text.specs.Told.{told_of, found_of};
-ghost use Rattle.batch_run.specs.Answered.{AnswersAt};
-ghost use Rattle.batch_run.specs.Told.{told_line};
+ghost use Rattle.road_files.specs.Asked.{AreQuestionsOf, AreSourcesOf, Question, FromSource, BetweenPair, FromSources, asked_of};
+ghost use Rattle.answer_text.specs.IsAnswer.{IsPairAnswer};
+ghost use Rattle.answer_text.specs.Told.{found_of};
+ghost use Rattle.batch_run.specs.Answered.{WroteAnswer};
 
+use crate::faults::Unanswered;
 use crate::labelling::solve_all;
-use answer_text::{Answer, Found, Reached};
+use crate::telling::{write_source, write_sources};
+use answer_text::{Answer, Found, write_answer};
 use path_algebra::{Labels, PathAlgebra};
-use path_plain::solve_one;
 use road_files::Questions;
 use road_graph::{Graph, Memory, Vertex};
+use road_text::RoadWrite;
 use route_tree::{Tree, route, routes_follow_parents, tree};
 use std::alloc::{AllocError, Global};
-
-/// What is told of a vertex.
-fn line_of<A: PathAlgebra>(
-    algebra: A,
-    label: Option<A::Value>,
-    hops: Option<u32>,
-    parent: Option<Vertex>,
-) -> Option<Reached>
-    ensures { result ≡ told_line (A.meaning algebra) label hops parent }
-{
-    match (label, hops) {
-        (Some(value), Some(hops)) => Some(Reached {
-            code: algebra.code(value),
-            hops,
-            parent: match parent {
-                Some(vertex) => vertex.0,
-                None => 0,
-            },
-        }),
-        _ => None,
-    }
-}
-
-/// What is told of each vertex, in order.
-fn lines_of<A: PathAlgebra>(
-    alloc: Global,
-    algebra: A,
-    graph: &Graph,
-    sources: &[Vertex],
-    labels: &Labels<A::Value>,
-    tree: &Tree,
-) -> Result<Vec<Option<Reached>>, AllocError>
-    requires labels { AreBest (A.meaning algebra) graph.now sources.now labels.now }
-    requires tree { IsTree (A.meaning algebra) graph.now sources.now tree.now }
-    ensures { IfOk result (λ lines. AreLines (A.meaning algebra) graph.now sources.now lines.items) }
-{
-    let mut lines = Vec::new(alloc);
-    for v in 0..graph.vertices() {
-        let vertex = Vertex(v + 1);
-        let hops = tree.hops(vertex);
-        let parent = tree.parent(vertex);
-        lines.push(line_of(algebra, labels.of(vertex), hops, parent))?;
-    }
-    Ok(lines)
-}
-
-/// What is told of each vertex in answer to a question from these sources.
-pub(crate) fn answer_lines<A: PathAlgebra>(
-    alloc: Global,
-    algebra: A,
-    graph: &Graph,
-    sources: &[Vertex],
-) -> Result<Vec<Option<Reached>>, Memory>
-    requires some { 1 ≤ length sources.now }
-    requires inside { All (HasVertex graph.now) sources.now }
-    ensures { IfOk result (λ lines. AreLines (A.meaning algebra) graph.now sources.now lines.items) }
-{
-    let labels = solve_all(alloc, algebra, graph, sources)?;
-    let tree = tree(alloc, algebra, graph, sources, &labels)?;
-    Ok(lines_of(alloc, algebra, graph, sources, &labels, &tree)?)
-}
 
 /// The numbers of vertices.
 fn numbers_of(alloc: Global, vertices: &[Vertex]) -> Result<Vec<u32>, AllocError>
@@ -123,77 +63,130 @@ fn found_at<A: PathAlgebra>(
     }))
 }
 
-/// The right answer to a question from one vertex to another.
-fn answer_pair<A: PathAlgebra>(
+/// The best labels from some sources, and their tree.
+fn solve<A: PathAlgebra>(
+    alloc: Global,
+    algebra: A,
+    graph: &Graph,
+    sources: &[Vertex],
+) -> Result<(Labels<A::Value>, Tree), Memory>
+    requires some { 1 ≤ length sources.now }
+    requires inside { All (HasVertex graph.now) sources.now }
+    ensures labels { IfOk result (λ r. AreBest (A.meaning algebra) graph.now sources.now r.0) }
+    ensures tree { IfOk result (λ r. IsTree (A.meaning algebra) graph.now sources.now r.1) }
+{
+    let labels = solve_all(alloc, algebra, graph, sources)?;
+    let tree = tree(alloc, algebra, graph, sources, &labels)?;
+    Ok((labels, tree))
+}
+
+/// What is found between two vertices.
+fn find<A: PathAlgebra>(
     alloc: Global,
     algebra: A,
     graph: &Graph,
     source: Vertex,
     target: Vertex,
-) -> Result<Answer, Memory>
+) -> Result<Option<Found>, Memory>
     requires source { HasVertex graph.now source }
     requires target { HasVertex graph.now target }
-    ensures { IfOk result (λ answer. IsAnswer (A.meaning algebra) graph.now (BetweenPair source target) (told_of answer)) }
+    ensures { IfOk result (λ found. IsPairAnswer (A.meaning algebra) graph.now source target (option_map found_of found)) }
 {
-    let labels = solve_one(alloc, algebra, graph, source)?;
-    let tree = tree(alloc, algebra, graph, &[source], &labels)?;
-    let found = found_at(alloc, algebra, graph, source, target, &labels, &tree)?;
-    Ok(Answer::Pair {
+    let (labels, tree) = solve(alloc, algebra, graph, &[source])?;
+    found_at(alloc, algebra, graph, source, target, &labels, &tree)
+}
+
+/// Writes the right answer to a question from one vertex to another.
+fn answer_pair<A: PathAlgebra, W: RoadWrite>(
+    alloc: Global,
+    algebra: A,
+    graph: &Graph,
+    pair: (Vertex, Vertex),
+    out: &mut W,
+) -> Result<(), Unanswered>
+    requires source { HasVertex graph.now pair.0 }
+    requires target { HasVertex graph.now pair.1 }
+    ensures { WroteAnswer (A.meaning algebra) graph.now (BetweenPair pair.0 pair.1) (W.written out.old) (W.written out.new) (W.failures out.old) (W.failures out.new) result }
+{
+    let (source, target) = pair;
+    let Ok(found) = find(alloc, algebra, graph, source, target) else {
+        return Err(Unanswered::Memory);
+    };
+    let answer = Answer::Pair {
         source: source.0,
         target: target.0,
         found,
-    })
+    };
+    match write_answer(out, &answer) {
+        Ok(()) => Ok(()),
+        Err(_) => Err(Unanswered::Write),
+    }
 }
 
-/// The right answer to a question from one source to all vertices.
-fn answer_source<A: PathAlgebra>(
+/// Writes the right answer to a question from one source to all vertices.
+fn answer_source<A: PathAlgebra, W: RoadWrite>(
     alloc: Global,
     algebra: A,
     graph: &Graph,
     source: Vertex,
-) -> Result<Answer, Memory>
+    out: &mut W,
+) -> Result<(), Unanswered>
     requires { HasVertex graph.now source }
-    ensures { IfOk result (λ answer. IsAnswer (A.meaning algebra) graph.now (FromSource source) (told_of answer)) }
+    ensures { WroteAnswer (A.meaning algebra) graph.now (FromSource source) (W.written out.old) (W.written out.new) (W.failures out.old) (W.failures out.new) result }
 {
-    let lines = answer_lines(alloc, algebra, graph, &[source])?;
-    Ok(Answer::Source {
-        source: source.0,
-        lines,
-    })
+    let Ok(solved) = solve(alloc, algebra, graph, &[source]) else {
+        return Err(Unanswered::Memory);
+    };
+    let n = graph.vertices();
+    match write_source(out, algebra, n, source, &solved.0, &solved.1) {
+        Ok(()) => Ok(()),
+        Err(_) => Err(Unanswered::Write),
+    }
 }
 
-/// The right answer to a question from several sources to all vertices.
-fn answer_sources<A: PathAlgebra>(
+/// Writes the right answer to a question from several sources to all vertices.
+fn answer_sources<A: PathAlgebra, W: RoadWrite>(
     alloc: Global,
     algebra: A,
     graph: &Graph,
     sources: &[Vertex],
-) -> Result<Answer, Memory>
+    out: &mut W,
+) -> Result<(), Unanswered>
     requires { AreSourcesOf graph.now.vertices sources.now }
-    ensures { IfOk result (λ answer. IsAnswer (A.meaning algebra) graph.now (FromSources sources.now) (told_of answer)) }
+    ensures { WroteAnswer (A.meaning algebra) graph.now (FromSources sources.now) (W.written out.old) (W.written out.new) (W.failures out.old) (W.failures out.new) result }
 {
-    let lines = answer_lines(alloc, algebra, graph, sources)?;
-    Ok(Answer::Multi {
-        sources: numbers_of(alloc, sources)?,
-        lines,
-    })
+    let Ok(solved) = solve(alloc, algebra, graph, sources) else {
+        return Err(Unanswered::Memory);
+    };
+    let Ok(numbers) = numbers_of(alloc, sources) else {
+        return Err(Unanswered::Memory);
+    };
+    let n = graph.vertices();
+    let numbers = numbers.as_slice();
+    match write_sources(out, algebra, n, numbers, &solved.0, &solved.1) {
+        Ok(()) => Ok(()),
+        Err(_) => Err(Unanswered::Write),
+    }
 }
 
-/// The right answer to the question at a place.
-pub(crate) fn answer_at<A: PathAlgebra>(
+/// Writes the right answer to the question at a place.
+pub(crate) fn answer_at<A: PathAlgebra, W: RoadWrite>(
     alloc: Global,
     algebra: A,
     graph: &Graph,
     questions: &Questions,
     i: usize,
-) -> Result<Answer, Memory>
+    out: &mut W,
+) -> Result<(), Unanswered>
     requires within { AreQuestionsOf graph.now.vertices questions.now }
     requires place { i < length (asked_of questions.now).questions }
-    ensures { IfOk result (λ answer. AnswersAt (A.meaning algebra) graph.now (asked_of questions.now).questions i (told_of answer)) }
+    ensures { (default : Question) → WroteAnswer (A.meaning algebra) graph.now (slice_index_or (asked_of questions.now).questions i default) (W.written out.old) (W.written out.new) (W.failures out.old) (W.failures out.new) result }
 {
     match questions {
-        Questions::Sources(sources) => answer_source(alloc, algebra, graph, sources[i]),
-        Questions::Pairs(pairs) => answer_pair(alloc, algebra, graph, pairs[i].0, pairs[i].1),
-        Questions::Multi(lists) => answer_sources(alloc, algebra, graph, lists[i].as_slice()),
+        Questions::Sources(sources) => answer_source(alloc, algebra, graph, sources[i], out),
+        Questions::Pairs(pairs) => answer_pair(alloc, algebra, graph, pairs[i], out),
+        Questions::Multi(lists) => {
+            answer_sources(alloc, algebra, graph, lists[i].as_slice(), out)
+        }
     }
 }

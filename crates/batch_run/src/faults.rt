@@ -1,5 +1,6 @@
 //! What stops a batch.
 ghost use Rattle.std.specs.Prelude.{◌≡◌};
+ghost use Rattle.batch_run.specs.Answered.{fault_of_answer};
 
 use road_text::ReadFault;
 use thiserror::Error;
@@ -28,6 +29,21 @@ pub struct RunFault {
     pub line: u64,
 }
 
+/// Why a question was not answered.
+#[derive(Clone, Copy, Debug, PartialEq, Eq)]
+pub(crate) enum Unanswered {
+    /// Memory was refused, and nothing of the answer was written.
+    Memory,
+    /// A write failed.
+    Write,
+}
+
+/// Want of memory.
+const MEMORY: u8 = 3;
+
+/// A write that failed, took nothing, or was not passed on.
+pub(crate) const WRITE: u8 = 42;
+
 /// A fault of the run itself.
 pub fn fault_of_run(number: u8) -> RunFault
     ensures { result ≡ record { number = number; file = File.NoFile; line = 0 } }
@@ -47,5 +63,15 @@ pub fn fault_in(file: File, fault: ReadFault) -> RunFault
         number: fault.number,
         file,
         line: fault.line,
+    }
+}
+
+/// What a question that is not answered stops the batch with.
+pub(crate) fn fault_of_answer(unanswered: Unanswered) -> RunFault
+    ensures { result ≡ fault_of_answer unanswered }
+{
+    match unanswered {
+        Unanswered::Memory => fault_of_run(MEMORY),
+        Unanswered::Write => fault_of_run(WRITE),
     }
 }

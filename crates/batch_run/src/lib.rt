@@ -8,6 +8,7 @@ mod labelling;
 mod laws;
 mod run;
 mod settings;
+mod telling;
 
 pub use faults::{File, RunFault, fault_in, fault_of_run};
 pub use gate::{Gate, OpenGate};

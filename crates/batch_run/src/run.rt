@@ -7,22 +7,16 @@ ghost use Rattle.batch_run.specs.InRange.{AreInRange};
 ghost use Rattle.batch_run.specs.Ran.{IsPassedOn, Done, Begun, IsPairOf, IsBundleOf, IsGraphFault, IsQuestionsFault, IsBundleFault, IsFaultOf};
 
 use crate::answering::answer_at;
-use crate::faults::{File, RunFault, fault_in, fault_of_run};
+use crate::faults::{File, RunFault, WRITE, fault_in, fault_of_answer, fault_of_run};
 use crate::gate::Gate;
 use crate::laws::answers_exist;
 use crate::settings::Settings;
-use answer_text::{first_answers_begin_all, write_answer, write_header};
+use answer_text::{first_answers_begin_all, write_header};
 use path_algebra::PathAlgebra;
 use road_files::{Questions, read_bundle, read_gr, read_questions};
 use road_graph::Graph;
 use road_text::{RoadRead, RoadWrite};
 use std::alloc::Global;
-
-/// Want of memory.
-const MEMORY: u8 = 3;
-
-/// A write that failed, took nothing, or was not passed on.
-const WRITE: u8 = 42;
 
 /// A setting that is out of its range.
 const SETTINGS: u8 = 43;
@@ -51,12 +45,9 @@ fn answer_all<A: PathAlgebra, W: RoadWrite>(
         Err(_) => return Err(fault_of_run(WRITE)),
     }
     for i in 0..questions.len() {
-        match answer_at(alloc, algebra, graph, questions, i) {
-            Ok(answer) => match write_answer(out, &answer) {
-                Ok(()) => {}
-                Err(_) => return Err(fault_of_run(WRITE)),
-            },
-            Err(_) => return Err(fault_of_run(MEMORY)),
+        match answer_at(alloc, algebra, graph, questions, i, out) {
+            Ok(()) => {}
+            Err(unanswered) => return Err(fault_of_answer(unanswered)),
         }
     }
     Ok(())

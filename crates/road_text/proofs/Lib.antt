@@ -1,5 +1,6 @@
 pub mod Splits
 pub mod ScanLaws
+pub mod ScannerLaws
 pub mod TextLaws
 pub mod ReaderLaws
 pub mod StandLaws

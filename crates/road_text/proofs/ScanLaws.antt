@@ -1,6 +1,6 @@
 -- What a record of fixed size shows of a line.
 use Rattle.std.specs.List.{slice_split}
-use Rattle.std.proofs.Common.{◌≡◌, ℕ, ◌+◌, ◌*◌, ◌-◌, ◌<◌, min, List, [], ◌∷◌, ◌++◌, length, take, map, filter, Bool, true, false, cond, not, ◌&&◌, Option, Some, None, option_map, refl, sym, ap, ◌∙◌, arith, append-nil, nat_lt, inl, inr, subst, suc, append_assoc, All, get_or}
+use Rattle.std.proofs.Common.{◌≡◌, ℕ, ◌+◌, ◌*◌, ◌-◌, ◌<◌, min, List, [], ◌∷◌, ◌++◌, length, take, map, filter, Bool, true, false, cond, not, ◌&&◌, ◌||◌, ◌==◌, Option, Some, None, option_map, refl, sym, ap, ◌∙◌, arith, append-nil, nat_lt, inl, inr, subst, suc, append_assoc, All, get_or}
 use Rattle.std.specs.Option.{option_and_then}
 use Rattle.std.proofs.lemmas.Str.{digit_value_digit}
 use Rattle.std.proofs.lemmas.Bool.{cases_lt, lt-ltb, le-ltb, ne_eqb}
@@ -179,3 +179,19 @@ number_with-push o (x ∷ xs) b = number_with-push (number_on o x) xs b
 
 pub number_with-take_more : (o : Option ℕ) (xs : List ℕ) (i : ℕ) → i < length xs → number_with o (take (i + 1) xs) ≡ number_on (number_with o (take i xs)) (get_or xs i 0)
 number_with-take_more o xs i lt = ap (λ l. number_with o l) (take_more xs i 0 lt) ∙ number_with-push o (take i xs) (get_or xs i 0)
+
+-- the present field is past: it is none, there is no room for it, or it is kept
+pub past_none : (words : List Word) (now : Word) → length now.text ≡ 0 → past (words, now) ≡ words
+unfolding past
+past_none words now e = rw e refl
+
+pub past_full : (words : List Word) (now : Word) → length words ≡ 6 → past (words, now) ≡ words
+unfolding past
+past_full words now e = rw e (either_way (length now.text == 0)) where
+  either_way : (b : Bool) → cond (b || true) words (words ++ now ∷ []) ≡ words
+  either_way true = refl
+  either_way false = refl
+
+pub past_kept : (words : List Word) (now : Word) → (length now.text ≡ 0 → ⊥) → length words < 6 → past (words, now) ≡ words ++ now ∷ []
+unfolding past
+past_kept words now some lt = rw (ne_eqb (length now.text) 0 some, lt-ltb (length words) 6 lt) refl

@@ -5,6 +5,8 @@ use lib.Seq.{take-add}
 use Rattle.std.proofs.Math.Seq.{take-append-add}
 use Rattle.std.proofs.Common.{◌≡◌, ◌<◌, List, [], ◌∷◌, ◌++◌, length, Bool, true, false, cond, refl, ap, arith, ℕ, ◌-◌, take, ◌≤◌, ◌∙◌, All, zero, suc, get_or, drop, subst, sym, ◌+◌, append_assoc, drop-cons, length-drop}
 use Rattle.std.specs.List.{slice_split, onto_first}
+use Rattle.std.specs.Char.{is_ascii_digit}
+use Rattle.road_text.specs.Scans.{is_plain}
 use Rattle.std.proofs.lemmas.List.Splits.{length-slice_split}
 
 -- y at the end of the last part
@@ -59,6 +61,10 @@ take-append_past limit front after le = ap (λ n. take n (front ++ after)) (room
 pub All-one : (P : ℕ → Type 0) (b : ℕ) → P b → All P (b ∷ [])
 All-one P b h zero d lt = h
 All-one P b h (suc k) d lt = absurd (omega arith)
+
+-- a digit goes on with a field
+pub plain_digit : (b : ℕ) → is_ascii_digit b ≡ true → is_plain b ≡ true
+plain_digit b digit = grind (arith, digit)
 
 -- one element more of a front
 pub All-take_more : (P : ℕ → Type 0) (xs : List ℕ) (i : ℕ) → i < length xs → P (get_or xs i 0) → All P (take i xs) → All P (take (i + 1) xs)

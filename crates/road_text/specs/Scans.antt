@@ -1,5 +1,5 @@
 -- What is kept of the present line: a record of fixed size, however long the line is.
-use Rattle.std.specs.Prelude.{◌≡◌, ℕ, ◌+◌, ◌*◌, ◌-◌, not, ◌||◌, ◌==◌, List, [], ◌∷◌, ◌++◌, length, take, map, filter, min, if◌then◌else◌, option_and_then, Bool, Option, Some, None, nat_lt}
+use Rattle.std.specs.Prelude.{◌≡◌, ℕ, ◌+◌, ◌*◌, ◌-◌, not, ◌||◌, ◌==◌, List, [], ◌∷◌, ◌++◌, length, take, map, slice_index_or, filter, min, if◌then◌else◌, option_and_then, Bool, Option, Some, None, nat_lt}
 use Rattle.std.specs.Char.{is_ascii_digit}
 use Rattle.std.specs.List.{slice_split}
 use Rattle.road_text.specs.declared.scanner.Scanner.{Scanner}
@@ -34,7 +34,7 @@ Scan = List Word × Word
 
 -- the scan that the code keeps
 abbrev pub scan_of : Scanner → Scan
-scan_of s = (map word_in s.slots.items, word_in s.present)
+scan_of s = let words = map word_in s.slots in (take s.filled words, slice_index_or words s.filled no_word)
 
 -- the present field is past
 unfoldable pub past : Scan → List Word

@@ -57,7 +57,7 @@ impl<T: TakesLines> LineReader<T> {
             Err(halt) => return Err(halt),
         }
         self.scanner.close();
-        match self.taker.line(self.scanner.slots.as_slice()) {
+        match self.taker.line(self.scanner.fields()) {
             Ok(()) => {}
             Err(LineFault::Memory) => return Err(Halt::Memory),
             Err(LineFault::Broken(rule)) => {
@@ -82,10 +82,11 @@ impl<T: TakesLines> LineReader<T> {
         ensures rest { (self.new.begun ≡ self.old.begun) × (self.new.held ≡ self.old.held) × (self.new.line ≡ self.old.line) × (self.new.count ≡ self.old.count) }
         ensures memory { IfErr result (λ e. e ≡ Halt.Memory) }
     {
-        if self.scanner.present.text.is_empty() {
+        let present = self.scanner.present();
+        if present.text.is_empty() {
             return Ok(());
         }
-        match self.taker.field(&self.scanner.present) {
+        match self.taker.field(present) {
             Ok(()) => Ok(()),
             Err(_) => Err(Halt::Memory),
         }
@@ -114,7 +115,7 @@ impl<T: TakesLines> LineReader<T> {
             self.scanner.close();
             return Ok(());
         }
-        self.scanner.present.add(byte);
+        self.scanner.go_on(byte);
         Ok(())
     }
 
@@ -122,7 +123,7 @@ impl<T: TakesLines> LineReader<T> {
     fn present_run(&mut self, bytes: &[u8], number: Option<u128>)
         requires some { 0 < length bytes.now }
         requires plain { All (λ b. is_plain b ≡ true) bytes.now }
-        requires number { number ≡ number_with self.old.scanner.present.number bytes.now }
+        requires number { number ≡ number_with (scan_of self.old.scanner).1.number bytes.now }
         requires whole { self.old.held ≡ false }
         requires room { self.old.count + length bytes.now ≤ 4294967296 }
         ensures same { (cut : Bool) (rest : List ℕ) (r : Result T.Value ReadFault) → Leads cut T.way self.new rest r → Leads cut T.way self.old (bytes.now ++ rest) r }
@@ -130,7 +131,7 @@ impl<T: TakesLines> LineReader<T> {
     {
         self.count += bytes.len() as u64;
         self.begun = true;
-        self.scanner.present.add_run(bytes, number);
+        self.scanner.add_run(bytes, number);
     }
 
     /// Takes the next byte.
@@ -160,7 +161,7 @@ impl<T: TakesLines> LineReader<T> {
         let mut at = 0;
         while at < bytes.len() {
             let rest = &bytes[at..];
-            let (front, number) = run(rest, self.scanner.present.number);
+            let (front, number) = run(rest, self.scanner.present().number);
             if front > 0 && !self.held && front as u64 <= MAX_BYTES - self.count {
                 self.present_run(&rest[..front], number);
                 at += front;

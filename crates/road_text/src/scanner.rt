@@ -1,11 +1,8 @@
 //! What is kept of the present line.
-ghost use Rattle.std.specs.Prelude.{◌≡◌, ℕ, List, [], ◌∷◌, length, if◌then◌else◌};
+ghost use Rattle.std.specs.Prelude.{◌≡◌, ◌≤◌, ◌<◌, length};
 ghost use Rattle.road_text.specs.Lines.{is_gap};
-ghost use Rattle.road_text.specs.Scans.{scan_of, scan_on, past};
-ghost use Rattle.road_text.specs.Words.{no_word};
 
 use crate::slots::Slot;
-use arrayvec::ArrayVec;
 
 /// How many fields of a line are kept.
 pub const FIELDS: usize = 6;
@@ -17,46 +14,105 @@ pub fn is_gap(byte: u8) -> bool
     byte == b' ' || byte == b'\t'
 }
 
-/// The first six fields of the present line, and the field that may go on.
+/// How many slots there are: one for each field that is kept, and one for the field that may go on.
+const SLOTS: usize = 7;
+
+/// The first six fields of the present line, and the field that may go on, each in its slot, so that none is moved.
 #[derive(Drop)]
 pub struct Scanner {
-    /// The fields that are past.
-    pub slots: ArrayVec<Slot, FIELDS>,
-    /// The field that may go on.
-    pub present: Slot,
+    /// The fields that are past, then the one that may go on, and then room.
+    pub slots: [Slot; SLOTS],
+    /// How many fields are past.
+    pub filled: usize,
+    ghost room: { length slots ≡ 7 },
+    ghost few: { filled ≤ 6 },
 }
 
 impl Scanner {
+    ghost use Rattle.std.specs.Prelude.{[], ◌∷◌, ◌++◌, map, if◌then◌else◌};
+    ghost use Rattle.road_text.specs.Scans.{scan_of, scan_on, past, number_with, word_on, word_with};
+    ghost use Rattle.road_text.specs.Slots.{word_in};
+    ghost use Rattle.road_text.specs.Words.{no_word};
+
     /// A line begins.
     pub fn new() -> Self
         ensures { scan_of result ≡ ([], no_word) }
     {
         Scanner {
-            slots: ArrayVec::new(),
-            present: Slot::default(),
+            slots: [
+                Slot::default(),
+                Slot::default(),
+                Slot::default(),
+                Slot::default(),
+                Slot::default(),
+                Slot::default(),
+                Slot::default(),
+            ],
+            filled: 0,
         }
     }
 
+    /// The fields that are past.
+    #[inline(always)]
+    pub fn fields(&self) -> &[Slot]
+        ensures { map word_in result.now ≡ (scan_of self.now).0 }
+    {
+        &self.slots[..self.filled]
+    }
+
+    /// The field that may go on.
+    #[inline(always)]
+    pub fn present(&self) -> &Slot
+        ensures { word_in result.now ≡ (scan_of self.now).1 }
+    {
+        &self.slots[self.filled]
+    }
+
     /// A new line begins.
+    #[inline(always)]
     pub fn restart(&mut self)
         ensures { scan_of self.new ≡ ([], no_word) }
     {
-        self.slots.clear();
-        self.present = Slot::default();
+        self.filled = 0;
+        self.slots[0] = Slot::default();
+    }
+
+    // The present field is no more.
+    #[inline(always)]
+    fn drop_present(&mut self)
+        ensures { scan_of self.new ≡ ((scan_of self.old).0, no_word) }
+    {
+        self.slots[self.filled] = Slot::default();
+    }
+
+    // The present field is one of those that are past.
+    #[inline(always)]
+    fn keep_present(&mut self)
+        requires { self.old.filled < 6 }
+        ensures { scan_of self.new ≡ ((scan_of self.old).0 ++ (scan_of self.old).1 ∷ [], no_word) }
+    {
+        self.filled += 1;
+        self.slots[self.filled] = Slot::default();
     }
 
     /// The present field is past.
-    #[tactic(auto, unfolding(crate::specs::Scans::past))]
+    #[inline(always)]
     pub fn close(&mut self)
         ensures { scan_of self.new ≡ (past (scan_of self.old), no_word) }
     {
-        let field = std::mem::replace(&mut self.present, Slot::default());
-        if !field.text.is_empty() && !self.slots.is_full() {
-            self.slots.push(field);
+        if self.filled == FIELDS {
+            self.drop_present();
+            return;
+        }
+        if self.present().text.is_empty() {
+            self.drop_present();
+        } else {
+            self.keep_present();
         }
     }
 
     /// Takes a CR that was held back.
+    #[inline(always)]
     pub fn add_held(&mut self, held: bool)
         ensures { scan_of self.new ≡ (if held then scan_on (scan_of self.old) 13 else scan_of self.old) }
     {
@@ -73,7 +129,24 @@ impl Scanner {
         if is_gap(byte) {
             self.close();
         } else {
-            self.present.add(byte);
+            self.go_on(byte);
         }
+    }
+
+    /// Takes one byte more of the present field.
+    #[inline(always)]
+    pub fn go_on(&mut self, byte: u8)
+        ensures { scan_of self.new ≡ ((scan_of self.old).0, word_on (scan_of self.old).1 byte) }
+    {
+        self.slots[self.filled].add(byte);
+    }
+
+    /// Takes some bytes more of the present field, with which it is this number.
+    #[inline(always)]
+    pub fn add_run(&mut self, bytes: &[u8], number: Option<u128>)
+        requires { number ≡ number_with (scan_of self.old).1.number bytes.now }
+        ensures { scan_of self.new ≡ ((scan_of self.old).0, word_with (scan_of self.old).1 bytes.now) }
+    {
+        self.slots[self.filled].add_run(bytes, number);
     }
 }

@@ -1,3 +1,4 @@
+pub mod Slots
 pub mod Tree
 pub mod Told
 pub mod Levels

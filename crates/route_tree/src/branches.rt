@@ -2,14 +2,15 @@
 
 ghost use Rattle.std.specs.Prelude.{◌≡◌, ◌≤◌, length};
 
+use crate::slot::NumberSlot;
 use road_graph::Vertex;
 use std::marker::Model;
 
 /// The hops and the parent of each vertex.
 #[derive(Drop)]
 pub struct Tree {
-    pub(crate) hops: Vec<Option<u32>>,
-    pub(crate) parents: Vec<Option<Vertex>>,
+    pub(crate) hops: Vec<NumberSlot>,
+    pub(crate) parents: Vec<NumberSlot>,
 }
 
 impl Model for Tree {
@@ -40,7 +41,7 @@ impl Tree {
         requires high { v ≤ length self.now.hops }
         ensures { result ≡ hops_of self.now v }
     {
-        self.hops[v.0 as usize - 1]
+        self.hops[v.0 as usize - 1].get()
     }
 
     /// The least vertex with a tight arc to this one and one hop less; none at a source, and where there are no hops.
@@ -49,6 +50,9 @@ impl Tree {
         requires high { v ≤ length self.now.hops }
         ensures { result ≡ parent_of self.now v }
     {
-        self.parents[v.0 as usize - 1]
+        match self.parents[v.0 as usize - 1].get() {
+            Some(u) => Some(Vertex(u)),
+            None => None,
+        }
     }
 }

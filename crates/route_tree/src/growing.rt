@@ -1,28 +1,30 @@
 //! The hops and parents of a tree while it grows.
 
-ghost use Rattle.std.specs.Prelude.{◌≡◌, ℕ, ◌+◌, ◌-◌, ◌≤◌, length, replicate, [], IfOk, OnOk, None};
+ghost use Rattle.std.specs.Prelude.{◌≡◌, ℕ, ◌+◌, ◌-◌, ◌≤◌, ◌<◌, length, replicate, [], IfOk, OnOk, None};
 ghost use Rattle.path_algebra.specs.Walks.{label_of};
 ghost use Rattle.route_tree.specs.Levels.{hops_if, parents_if, next_if, unreached, lesser, is_near};
 
+use crate::slot::NumberSlot;
 use road_graph::{Memory, Vertex};
 use std::alloc::{AllocError, Global};
 
 /// A tree while it grows. Vertices get their hops in ascending order of hops.
 #[derive(Drop)]
 pub(crate) struct Growing {
-    pub(crate) hops: Vec<Option<u32>>,
-    pub(crate) parents: Vec<Option<Vertex>>,
+    pub(crate) hops: Vec<NumberSlot>,
+    pub(crate) parents: Vec<NumberSlot>,
     /// The vertices with the most hops so far, from which the tree grows on.
     pub(crate) next: Vec<Vertex>,
 }
 
 /// The lesser of two parents, or the only one.
-fn lesser(old: Option<Vertex>, new: Vertex) -> Option<Vertex>
+fn lesser(old: NumberSlot, new: Vertex) -> NumberSlot
+    requires { new < 4294967295 }
     ensures { result ≡ lesser old new }
 {
-    match old {
-        Some(old) if old <= new => Some(old),
-        _ => Some(new),
+    match old.get() {
+        Some(u) if u <= new.0 => old,
+        _ => NumberSlot::some(new.0),
     }
 }
 
@@ -33,8 +35,8 @@ impl Growing {
         ensures parents { IfOk result (λ tree. tree.parents.items ≡ replicate n None) }
         ensures next { IfOk result (λ tree. tree.next.items ≡ []) }
     {
-        let hops = vec![in alloc; None; n as usize]?;
-        let parents = vec![in alloc; None; n as usize]?;
+        let hops = vec![in alloc; NumberSlot::none(); n as usize]?;
+        let parents = vec![in alloc; NumberSlot::none(); n as usize]?;
         let next = Vec::new(alloc);
         Ok(Growing {
             hops,
@@ -53,11 +55,11 @@ impl Growing {
         ensures size { OnOk result (unreached self.new.hops.items + length self.new.next.items ≡ unreached self.old.hops.items + length self.old.next.items) }
     {
         let i = v.0 as usize - 1;
-        match self.hops[i] {
+        match self.hops[i].get() {
             Some(_) => Ok(()),
             None => {
                 self.next.push(v).map_err(AllocError::from)?;
-                self.hops[i] = Some(0);
+                self.hops[i] = NumberSlot::some(0);
                 Ok(())
             }
         }
@@ -69,7 +71,7 @@ impl Growing {
         requires high { v ≤ length self.now.hops.items }
         ensures { result ≡ is_near (label_of self.now.hops.items v) k }
     {
-        match self.hops[v.0 as usize - 1] {
+        match self.hops[v.0 as usize - 1].get() {
             Some(j) => j == k,
             None => true,
         }
@@ -80,6 +82,8 @@ impl Growing {
         requires low { 1 ≤ v }
         requires high { v ≤ length self.old.hops.items }
         requires parents { length self.old.parents.items ≡ length self.old.hops.items }
+        requires near { k < 4294967295 }
+        requires tail { tail < 4294967295 }
         ensures count { OnOk result (length self.new.hops.items ≡ length self.old.hops.items) }
         ensures parents_count { OnOk result (length self.new.parents.items ≡ length self.old.parents.items) }
         ensures hops { OnOk result (self.new.hops.items ≡ hops_if k self.old.hops.items v (label_of self.old.hops.items v)) }
@@ -88,11 +92,11 @@ impl Growing {
         ensures size { OnOk result (unreached self.new.hops.items + length self.new.next.items ≡ unreached self.old.hops.items + length self.old.next.items) }
     {
         let i = v.0 as usize - 1;
-        match self.hops[i] {
+        match self.hops[i].get() {
             None => {
                 self.next.push(v).map_err(AllocError::from)?;
-                self.hops[i] = Some(k);
-                self.parents[i] = Some(tail);
+                self.hops[i] = NumberSlot::some(k);
+                self.parents[i] = NumberSlot::some(tail.0);
             }
             Some(j) if j == k => self.parents[i] = lesser(self.parents[i], tail),
             Some(_) => {}

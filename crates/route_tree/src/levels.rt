@@ -1,6 +1,6 @@
 //! A tree grows level by level: from the vertices at k hops, along tight arcs, to those at k + 1.
 
-ghost use Rattle.std.specs.Prelude.{◌≡◌, ◌+◌, ◌≤◌, ◌^◌, [], All, IfOk, None, OnOk, cond, length, replicate};
+ghost use Rattle.std.specs.Prelude.{◌≡◌, ◌+◌, ◌≤◌, ◌<◌, ◌^◌, [], All, IfOk, None, OnOk, cond, length, replicate};
 ghost use Rattle.road_graph.specs.Roads.{HasVertex};
 ghost use Rattle.path_algebra.specs.Walks.{label_of, is_tight, is_tight_between};
 ghost use Rattle.route_tree.specs.Levels.{AreLeast, AreLeastTails, GoesThrough, GoesThroughLevel, IsMarked, hops_if, next_if, parents_if, unreached};
@@ -33,6 +33,8 @@ fn try_road<A: PathAlgebra>(
     requires head { (1 ≤ head) × (head ≤ length labels.now) }
     requires count { length tree.old.hops.items ≡ length labels.now }
     requires parents_count { length tree.old.parents.items ≡ length tree.old.hops.items }
+    requires near { from.far < 4294967295 }
+    requires tail { from.vertex < 4294967295 }
     ensures count { OnOk result (length tree.new.hops.items ≡ length tree.old.hops.items) }
     ensures parents_count { OnOk result (length tree.new.parents.items ≡ length tree.old.parents.items) }
     ensures hops { let passes = is_tight_between (A.meaning algebra) from.label weight (label_of labels.now head) in OnOk result (tree.new.hops.items ≡ cond passes (hops_if from.far tree.old.hops.items head (label_of tree.old.hops.items head)) tree.old.hops.items) }

@@ -11,6 +11,7 @@ mod laws;
 mod levels;
 mod planting;
 mod routes;
+mod slot;
 mod tightness;
 
 pub use branches::Tree;

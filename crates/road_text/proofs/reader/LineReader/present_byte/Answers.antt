@@ -1,9 +1,8 @@
 use Rattle.std.proofs.Common.{◌≡◌, [], ◌∷◌, ◌++◌, ap, ◌∙◌, sym, subst, append_assoc, true, false}
 use Rattle.road_text.specs.Lines.{lines, is_gap}
 use Rattle.road_text.specs.Scans.{Scan, Shows, past}
-use Rattle.road_text.specs.Words.{Word, no_word}
+use Rattle.road_text.specs.Words.{no_word}
 use Rattle.road_text.specs.Scans.{scan_of}
-use Rattle.road_text.specs.Slots.{word_in}
 use Rattle.road_text.specs.Standing.{Holds}
 use Rattle.road_text.proofs.ScanLaws.{shows_gap, shows_other}
 use Rattle.road_text.proofs.TextLaws.{shows_whole, holds_return, holds_other}
@@ -33,8 +32,8 @@ returns-clause-same g c = λ cut rest r h present held.
     let P = g.T.TakesLines.way.so_far c.args.self.now.taker in
     let full : Shows P (scan_of c.add_held.new.self) present = rw c.add_held.ensures (shows_whole P c.args.self.now.held (scan_of c.args.self.now.scanner) present held.held held.shown) in
     let gap : is_gap c.args.byte ≡ false = sym c.is_gap.ensures ∙ c.if-is_gap.false in
-    let now : Holds P true false ((scan_of c.add_held.new.self).0, word_in c.add.new.self) (present ++ c.args.byte ∷ []) =
-    holds_other P ((scan_of c.add_held.new.self).0, word_in c.add.new.self) present c.args.byte
-    (subst (λ (l : Word). Shows P ((scan_of c.add_held.new.self).0, l) (present ++ c.args.byte ∷ [])) (sym c.add.ensures) (shows_other P (scan_of c.add_held.new.self) present c.args.byte gap full))
+    let now : Holds P true false (scan_of c.go_on.new.self) (present ++ c.args.byte ∷ []) =
+    holds_other P (scan_of c.go_on.new.self) present c.args.byte
+    (subst (λ (s : Scan). Shows P s (present ++ c.args.byte ∷ [])) (sym c.go_on.ensures) (shows_other P (scan_of c.add_held.new.self) present c.args.byte gap full))
     held.whole c.requires.other c.if-byte-eq13.false in
     rw (← append_assoc present (c.args.byte ∷ []) rest) (h (present ++ c.args.byte ∷ []) now)

@@ -1,0 +1,38 @@
+use Rattle.std.proofs.Common.{◌≡◌, ℕ, ◌+◌, ◌<◌, length, get_or, None, rules, subst, sym, ap, arith}
+use Rattle.road_text.specs.Texts.{spelled}
+use Rattle.road_text.specs.Written.{Left}
+use Rattle.road_text.proofs.WriteLaws.{left_start, left_end}
+use Rattle.answer_text.specs.AnswerText.{vertex_words}
+use Rattle.answer_text.proofs.VertexLines.{vertices_start, vertices_end, vertex_left, vertex_fell}
+use Rattle.batch_run.specs.Told.{told_lines}
+use Rattle.batch_run.proofs.ToldLines.{lines_count, line_is}
+use Rattle.batch_run.proofs.telling.write_lines.Goals as goal
+
+pub loop-v-init : goal.loop-v-init
+loop-v-init g c =
+    let lines = told_lines (g.A.PathAlgebra.meaning c.args.algebra) c.args.labels.now c.args.tree.now c.args.n in
+    subst (Left _ _ _ _ _) (sym (vertices_start lines)) (left_start _ _ _)
+
+pub loop-v-preserved : goal.loop-v-preserved
+loop-v-preserved g c =
+    let A = g.A.PathAlgebra.meaning c.args.algebra in
+    let lines = told_lines A c.args.labels.now c.args.tree.now c.args.n in
+    let lt : c.loop-v.v < c.args.n = search rules in
+    let within : c.loop-v.v < length lines = rw (lines_count A c.args.labels.now c.args.tree.now c.args.n) lt in
+    let line = line_is A c.args.labels.now c.args.tree.now c.args.n c.loop-v.v (c.loop-v.v + 1) c.line_of-line.result _ _ _ lt (omega arith) c.line_of-line.ensures c.of.ensures c.hops-hops.ensures c.parent-parent.ensures in
+    vertex_left _ _ _ _ _ _ _ _ lines c.loop-v.v c.from.result None within c.from.ensures (ap (λ l. spelled (vertex_words (c.from.result + 1) l)) line) c.loop-v.invariant c.in-Ok.ensures
+
+pub returns-in-Err : goal.returns-in-Err
+returns-in-Err g c =
+    let A = g.A.PathAlgebra.meaning c.args.algebra in
+    let lines = told_lines A c.args.labels.now c.args.tree.now c.args.n in
+    let lt : c.loop-v.v < c.args.n = search rules in
+    let within : c.loop-v.v < length lines = rw (lines_count A c.args.labels.now c.args.tree.now c.args.n) lt in
+    let line = line_is A c.args.labels.now c.args.tree.now c.args.n c.loop-v.v (c.loop-v.v + 1) c.line_of-line.result _ _ _ lt (omega arith) c.line_of-line.ensures c.of.ensures c.hops-hops.ensures c.parent-parent.ensures in
+    vertex_fell _ _ _ _ _ _ _ _ lines c.loop-v.v c.from.result None within c.from.ensures (ap (λ l. spelled (vertex_words (c.from.result + 1) l)) line) c.loop-v.invariant c.in-Err.ensures
+
+pub returns : goal.returns
+returns g c =
+    let A = g.A.PathAlgebra.meaning c.args.algebra in
+    let count = lines_count A c.args.labels.now c.args.tree.now c.args.n in
+    left_end _ _ _ _ _ _ (vertices_end c.loop-v.v (told_lines A c.args.labels.now c.args.tree.now c.args.n) (omega (arith, count, c.loop-v-test.false))) c.loop-v.invariant

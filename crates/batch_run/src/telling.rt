@@ -1,0 +1,101 @@
+//! Writes what is told of each vertex, a line at a time: an answer takes no memory but its labels and its tree.
+ghost use Rattle.std.specs.Prelude.{◌≡◌, ℕ, Option, length};
+ghost use Rattle.road_text.specs.Texts.{text_of};
+ghost use Rattle.road_text.specs.Written.{Wrote};
+ghost use Rattle.answer_text.specs.AnswerText.{answer_text, vertex_lines};
+ghost use Rattle.answer_text.specs.Told.{ToldSource, ToldMulti};
+ghost use Rattle.batch_run.specs.Told.{told_line, told_lines};
+
+use answer_text::{Reached, write_source_line, write_sources_line, write_vertex};
+use path_algebra::{Labels, PathAlgebra};
+use road_graph::Vertex;
+use road_text::{Line, RoadWrite, WriteFault};
+use route_tree::Tree;
+
+/// What is told of a vertex.
+fn line_of<A: PathAlgebra>(
+    algebra: A,
+    label: Option<A::Value>,
+    hops: Option<u32>,
+    parent: Option<Vertex>,
+) -> Option<Reached>
+    ensures { result ≡ told_line (A.meaning algebra) label hops parent }
+{
+    match (label, hops) {
+        (Some(value), Some(hops)) => Some(Reached {
+            code: algebra.code(value),
+            hops,
+            parent: match parent {
+                Some(vertex) => vertex.0,
+                None => 0,
+            },
+        }),
+        _ => None,
+    }
+}
+
+/// Writes what is told of each of n vertices, in order.
+fn write_lines<A: PathAlgebra, W: RoadWrite>(
+    to: &mut W,
+    algebra: A,
+    n: u32,
+    labels: &Labels<A::Value>,
+    tree: &Tree,
+) -> Result<(), WriteFault>
+    requires labels { length labels.now ≡ n }
+    requires hops { length tree.now.hops ≡ n }
+    ensures { Wrote (W.written to.old) (W.written to.new) (W.failures to.old) (W.failures to.new) (text_of (vertex_lines 1 (told_lines (A.meaning algebra) labels.now tree.now n))) result }
+{
+    let mut text = Line::new();
+    for v in 0..n {
+        let vertex = Vertex(v + 1);
+        let hops = tree.hops(vertex);
+        let parent = tree.parent(vertex);
+        let line = line_of(algebra, labels.of(vertex), hops, parent);
+        match write_vertex(to, &mut text, u64::from(v) + 1, line) {
+            Ok(()) => {}
+            Err(fault) => return Err(fault),
+        }
+    }
+    Ok(())
+}
+
+/// Writes the answer to a question from one source.
+#[tactic(auto, using(road_text::proofs::WriteLaws::wrote_then, road_text::proofs::WriteLaws::fell_first), unfolding(answer_text::specs::AnswerText::answer_text))]
+pub(crate) fn write_source<A: PathAlgebra, W: RoadWrite>(
+    to: &mut W,
+    algebra: A,
+    n: u32,
+    source: Vertex,
+    labels: &Labels<A::Value>,
+    tree: &Tree,
+) -> Result<(), WriteFault>
+    requires labels { length labels.now ≡ n }
+    requires hops { length tree.now.hops ≡ n }
+    ensures { Wrote (W.written to.old) (W.written to.new) (W.failures to.old) (W.failures to.new) (answer_text (ToldSource source (told_lines (A.meaning algebra) labels.now tree.now n))) result }
+{
+    match write_source_line(to, source.0) {
+        Ok(()) => write_lines(to, algebra, n, labels, tree),
+        Err(fault) => Err(fault),
+    }
+}
+
+/// Writes the answer to a question from several sources.
+#[tactic(auto, using(road_text::proofs::WriteLaws::wrote_then, road_text::proofs::WriteLaws::fell_first), unfolding(answer_text::specs::AnswerText::answer_text))]
+pub(crate) fn write_sources<A: PathAlgebra, W: RoadWrite>(
+    to: &mut W,
+    algebra: A,
+    n: u32,
+    sources: &[u32],
+    labels: &Labels<A::Value>,
+    tree: &Tree,
+) -> Result<(), WriteFault>
+    requires labels { length labels.now ≡ n }
+    requires hops { length tree.now.hops ≡ n }
+    ensures { Wrote (W.written to.old) (W.written to.new) (W.failures to.old) (W.failures to.new) (answer_text (ToldMulti sources.now (told_lines (A.meaning algebra) labels.now tree.now n))) result }
+{
+    match write_sources_line(to, sources) {
+        Ok(()) => write_lines(to, algebra, n, labels, tree),
+        Err(fault) => Err(fault),
+    }
+}

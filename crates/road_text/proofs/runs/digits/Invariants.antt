@@ -1,0 +1,14 @@
+use Rattle.std.proofs.Common.{◌≡◌, ◌≤◌, ◌-◌, length, take, true, All, Some}
+use Rattle.road_text.specs.Scans.{is_plain, number_with}
+use Rattle.road_text.proofs.runs.digits.Given as goal
+
+-- the bytes so far are digits, and are taken into the number
+abbrev pub invariant-loop-front : goal.invariant-loop-front
+invariant-loop-front l = record {
+  within : l.front ≤ length l.bytes;
+  plain : All (λ b. is_plain b ≡ true) (take l.front l.bytes);
+  number : Some l.grown ≡ number_with (Some l.fn.number) (take l.front l.bytes);
+}
+
+abbrev pub decreases-loop-front : goal.decreases-loop-front
+decreases-loop-front l = length l.bytes - l.front

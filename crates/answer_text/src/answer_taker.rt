@@ -110,6 +110,10 @@ impl TakesLines for AnswerTaker {
         Ok(())
     }
 
+    fn short_line(&mut self, _letter: u8, _numbers: (u64, u64, u64)) -> bool {
+        false
+    }
+
     fn finish(self) -> Result<Answers, LineFault> {
         let AnswerTaker { n, begun, .. } = self;
         match begun {

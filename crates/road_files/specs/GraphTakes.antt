@@ -1,5 +1,5 @@
 -- What the taker of a graph file holds, as the rules have it.
-use Rattle.std.specs.Prelude.{ℕ, List, Option, option_map, Result, Bool}
+use Rattle.std.specs.Prelude.{ℕ, ◌<◌, ◌≤◌, length, List, Option, option_map, Result, Bool}
 use Rattle.road_graph.specs.Roads.{Roads}
 use Rattle.road_text.specs.declared.faults.ReadFault.{ReadFault}
 use Rattle.road_text.specs.Takes.{GivesBy}
@@ -11,6 +11,13 @@ use Rattle.road_files.specs.GraphFiles.{RoadsSoFar, gr_rules}
 -- what was announced, and the arcs that were taken
 abbrev pub roads_so_far : TakenRoads → RoadsSoFar
 roads_so_far t = record { vertices = t.vertices; announced = t.announced; arcs = t.arcs.items }
+
+-- one arc more is announced, and this one breaks no rule
+pub record FitsArc (roads : RoadsSoFar) (tail head weight : ℕ) : Type 0 where
+  pub room : length roads.arcs < roads.announced
+  pub tail_in : (1 ≤ tail) × (tail ≤ roads.vertices)
+  pub head_in : (1 ≤ head) × (head ≤ roads.vertices)
+  pub weight_in : weight ≤ 4294967295
 
 -- the same, where a problem line was read
 abbrev pub taken_of : GraphTaker → Option RoadsSoFar

@@ -141,6 +141,10 @@ impl TakesLines for BundleTaker {
         self.take(slots)
     }
 
+    fn short_line(&mut self, _letter: u8, _numbers: (u64, u64, u64)) -> bool {
+        false
+    }
+
     fn finish(self) -> Result<(Graph, Questions), LineFault> {
         let part = self.part;
         match part {

@@ -1,14 +1,14 @@
 //! Takes the lines of a graph file.
-ghost use Rattle.std.specs.Prelude.{◌≡◌, ◌<◌, ◌≤◌, ◌++◌, ◌∷◌, [], length, map, refl, OnOk, IfOk, IfErr, MatchResult, option_map};
+ghost use Rattle.std.specs.Prelude.{◌≡◌, ◌<◌, ◌≤◌, ◌++◌, ◌∷◌, [], length, map, refl, OnOk, IfOk, IfErr, MatchResult, option_map, true, false};
 ghost use Rattle.road_graph.specs.Roads.{JoinsVertices};
 ghost use Rattle.road_text.specs.Slots.{word_in};
 ghost use Rattle.road_text.specs.Takes.{Leaves, Breaks};
 ghost use Rattle.road_files.specs.GraphFiles.{one_arc, gr_problem, gr_arc, gr_line, gr_whole, graph_read};
-ghost use Rattle.road_files.specs.GraphTakes.{roads_so_far};
+ghost use Rattle.road_files.specs.GraphTakes.{roads_so_far, FitsArc};
 
 use crate::number_fields::{number_up_to, vertex_of};
 use crate::taken_roads::TakenRoads;
-use road_graph::{Graph, GraphFault, RoadArc};
+use road_graph::{Graph, GraphFault, RoadArc, Vertex};
 use road_text::{LineFault, Rule, Slot, TakesLines};
 use std::alloc::Global;
 
@@ -22,7 +22,7 @@ const MAX_ARCS: u32 = 134_217_728;
 const MAX_WEIGHT: u32 = 4_294_967_295;
 
 impl TakenRoads {
-    ghost use Rattle.road_files.specs.GraphTakes.{roads_so_far};
+    ghost use Rattle.road_files.specs.GraphTakes.{roads_so_far, FitsArc};
 
     fn push(&mut self, arc: RoadArc) -> Result<(), LineFault>
         requires room { length self.old.arcs.items < self.old.announced }
@@ -34,6 +34,34 @@ impl TakenRoads {
             Ok(()) => Ok(()),
             Err(_) => Err(LineFault::Memory),
         }
+    }
+}
+
+impl TakenRoads {
+    // The arc of these numbers, where it breaks no rule and there is room for it: else nothing changes.
+    #[tactic(auto, unfolding(crate::specs::GraphFiles::one_arc))]
+    fn short_arc(&mut self, numbers: (u64, u64, u64)) -> bool
+        ensures left { result ≡ false → self.new ≡ self.old }
+        ensures taken { result ≡ true → (roads_so_far self.new ≡ record (roads_so_far self.old) { arcs = self.old.arcs.items ++ record { tail = numbers.0; head = numbers.1; weight = numbers.2 } ∷ [] }) }
+        ensures joined { result ≡ true → FitsArc (roads_so_far self.old) numbers.0 numbers.1 numbers.2 }
+    {
+        let (tail, head, weight) = numbers;
+        let n = u64::from(self.vertices);
+        if self.arcs.len() >= self.announced as usize || self.arcs.len() == self.arcs.capacity() {
+            return false;
+        }
+        if tail == 0 || tail > n || head == 0 || head > n || weight > u64::from(MAX_WEIGHT) {
+            return false;
+        }
+        let Ok(()) = self.arcs.push(RoadArc {
+            tail: Vertex(tail as u32),
+            head: Vertex(head as u32),
+            weight: weight as u32,
+        })
+        else {
+            unreachable!()
+        };
+        true
     }
 }
 
@@ -157,6 +185,16 @@ impl TakesLines for GraphTaker {
 
     fn line(&mut self, slots: &[Slot]) -> Result<(), LineFault> {
         self.take(slots)
+    }
+
+    fn short_line(&mut self, letter: u8, numbers: (u64, u64, u64)) -> bool {
+        if letter != b'a' {
+            return false;
+        }
+        match &mut self.taken {
+            None => false,
+            Some(taken) => taken.short_arc(numbers),
+        }
     }
 
     fn finish(self) -> Result<Graph, LineFault> {

@@ -194,6 +194,10 @@ impl TakesLines for QuestionTaker {
         Ok(())
     }
 
+    fn short_line(&mut self, _letter: u8, _numbers: (u64, u64, u64)) -> bool {
+        false
+    }
+
     fn finish(self) -> Result<Questions, LineFault> {
         self.whole()
     }

@@ -2,3 +2,4 @@ pub mod Numbers
 pub mod Counting
 pub mod Placing
 pub mod Reading
+pub mod Rising

@@ -1,42 +1,59 @@
 //! The graph.
 
-ghost use Rattle.std.specs.Prelude.{◌≡◌, ℕ, ◌+◌, ◌-◌, ◌<◌, ◌≤◌, ◌↔◌, ◌^◌, length, slice_index};
+ghost use Rattle.std.specs.Prelude.{◌≡◌, ℕ, ◌+◌, ◌-◌, ◌<◌, ◌≤◌, ◌↔◌, ◌^◌, length, slice_index, Contains};
 ghost use Rattle.std.specs.Prelude.{IsTrue, MatchResult, MatchOption};
-ghost use Rattle.road_graph.specs.Roads.{JoinsVertices, IsRoads};
+ghost use Rattle.road_graph.specs.Roads.{JoinsVertices, IsRoads, IsAscendingFrom};
 ghost use Rattle.road_graph.specs.Making.{IsFirstBad};
 
-use crate::rows::{Rows, roads_at, rows_of};
+use crate::rows::{Rows, roads_at, rows_of, tails_of};
 use crate::{ArcNo, GraphFault, OutRoad, RoadArc, Side, Vertex};
 use std::alloc::Global;
+use std::fmt;
 use std::marker::Model;
+use std::snapshot::Snapshot;
 
 /// A directed graph with its arcs by number, by tail and by head.
 ///
-/// It takes 28 bytes for each arc and 8 for each vertex.
-#[derive(Debug, Drop)]
+/// It takes 20 bytes for each arc and 8 for each vertex: heads and weights stand once, in the order of the outgoing rows.
+#[derive(Drop)]
 pub struct Graph {
     vertices: u32,
-    arcs: Vec<RoadArc>,
+    arcs: Snapshot<Vec<RoadArc>>,
+    tails: Vec<Vertex>,
     out_rows: Rows,
     out_roads: Vec<OutRoad>,
     into_rows: Rows,
 }
 
+impl fmt::Debug for Graph {
+    fn fmt<F: fmt::Write>(&self, f: &mut fmt::Formatter<F>) -> fmt::Result {
+        f.debug_struct("Graph")
+            .field("vertices", &self.vertices)
+            .field("tails", &self.tails)
+            .field("out_rows", &self.out_rows)
+            .field("out_roads", &self.out_roads)
+            .field("into_rows", &self.into_rows)
+            .finish()
+    }
+}
+
 impl Model for Graph {
     ghost use Rattle.std.specs.Prelude.{◌≡◌};
+    ghost use Rattle.std.specs.Prelude.{map};
     ghost use Rattle.road_graph.specs.Roads.{Roads, IsRoads, roads_of};
-    ghost use Rattle.road_graph.specs.Making.{AreRows};
+    ghost use Rattle.road_graph.specs.Making.{AreRows, end_of};
     ghost use Rattle.road_graph.specs.declared.Side.TheVariants.{Tail, Head};
 
     ghost Value = { Roads };
 
-    ghost view = { λ g. record { vertices = g.vertices; arcs = g.arcs.items } };
+    ghost view = { λ g. record { vertices = g.vertices; arcs = g.arcs.value.items } };
 
     ghost invariant = { λ g.
-        IsRoads (record { vertices = g.vertices; arcs = g.arcs.items })
-        × AreRows Tail g.vertices g.arcs.items g.out_rows.starts.items g.out_rows.numbers.items
-        × AreRows Head g.vertices g.arcs.items g.into_rows.starts.items g.into_rows.numbers.items
-        × (g.out_roads.items ≡ roads_of (record { vertices = g.vertices; arcs = g.arcs.items }) g.out_rows.numbers.items) };
+        IsRoads (record { vertices = g.vertices; arcs = g.arcs.value.items })
+        × AreRows Tail g.vertices g.arcs.value.items g.out_rows.starts.items g.out_rows.numbers.items
+        × AreRows Head g.vertices g.arcs.value.items g.into_rows.starts.items g.into_rows.numbers.items
+        × (g.out_roads.items ≡ roads_of (record { vertices = g.vertices; arcs = g.arcs.value.items }) g.out_rows.numbers.items)
+        × (g.tails.items ≡ map (end_of Tail) g.arcs.value.items) };
 }
 
 fn joins(arc: RoadArc, n: u32) -> bool
@@ -76,6 +93,27 @@ fn range_of(starts: &[u32], v: Vertex) -> (usize, usize)
     )
 }
 
+/// Where a number stands in a row, by halving.
+fn place_of(row: &[ArcNo], number: u32) -> usize
+    requires ascending { IsAscendingFrom 0 row.now }
+    requires listed { Contains row.now number }
+    ensures place { result < length row.now }
+    ensures number { slice_index row.now result ≡ number }
+{
+    let mut low = 0;
+    let mut high = row.len();
+    while low + 1 < high {
+        let middle = low + (high - low) / 2;
+        let here = row[middle];
+        if here.0 <= number {
+            low = middle;
+        } else {
+            high = middle;
+        }
+    }
+    low
+}
+
 impl Graph {
     ghost use Rattle.road_graph.specs.Making.{IsRefusal};
     ghost use Rattle.road_graph.specs.Roads.{Roads, HasVertex, HasArc, arc_of};
@@ -107,9 +145,13 @@ impl Graph {
         let Ok(into_rows) = rows_of(alloc, n, &arcs, Side::Head) else {
             return Err((GraphFault::Memory, arcs));
         };
+        let Ok(tails) = tails_of(alloc, &arcs) else {
+            return Err((GraphFault::Memory, arcs));
+        };
         Ok(Graph {
             vertices: n,
-            arcs,
+            arcs: Snapshot::of(&arcs),
+            tails,
             out_rows,
             out_roads,
             into_rows,
@@ -129,7 +171,7 @@ impl Graph {
     pub fn arcs(&self) -> usize
         ensures { result ≡ length self.now.arcs }
     {
-        self.arcs.len()
+        self.tails.len()
     }
 
     /// Whether v is a vertex of this graph.
@@ -144,7 +186,15 @@ impl Graph {
         requires { HasArc self.now a }
         ensures { result ≡ arc_of self.now a }
     {
-        self.arcs[a.0 as usize - 1]
+        let tail = self.tails[a.0 as usize - 1];
+        let (start, end) = range_of(&self.out_rows.starts, tail);
+        let at = start + place_of(&self.out_rows.numbers[start..end], a.0);
+        let road = self.out_roads[at];
+        RoadArc {
+            tail,
+            head: road.head,
+            weight: road.weight,
+        }
     }
 
     /// The arcs that leave a vertex, in ascending order.

@@ -11,3 +11,4 @@ pub mod ListLaws
 pub mod FirstFault
 pub mod RoundTrip
 pub mod NumberLaws
+pub mod ShortLineLaws

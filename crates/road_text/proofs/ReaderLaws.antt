@@ -1,5 +1,5 @@
 -- How a reader stands at the end of a text.
-use Rattle.std.proofs.Common.{◌≡◌, ℕ, Bool, List, [], ◌∷◌, ◌++◌, true, false, Result, Err, refl, sym, ap, ◌+◌, ◌<◌, length, drop, get_or, suc, arith, drop-cons, take, ◌∙◌, append_assoc, append-nil, take-append-drop, length-append}
+use Rattle.std.proofs.Common.{◌≡◌, ℕ, Bool, List, [], ◌∷◌, ◌++◌, true, false, Result, Err, refl, sym, ap, ◌+◌, ◌-◌, ◌<◌, length, drop, get_or, suc, arith, drop-cons, take, ◌∙◌, append_assoc, append-nil, take-append-drop, length-append}
 use Rattle.std.proofs.lemmas.List.{length-take-le}
 use Rattle.road_text.specs.Rules.{too_long}
 use Rattle.road_text.specs.declared.faults.ReadFault.{ReadFault}
@@ -9,6 +9,7 @@ use Rattle.road_text.specs.declared.reader.LineReader.{LineReader}
 use Rattle.road_text.specs.Way.{Way}
 use Rattle.road_text.specs.Scans.{scan_of}
 use Rattle.road_text.specs.Standing.{Leads, LineHalts, Halts, HaltsAtEnd, EndHalts, CutShort, BreaksOff}
+use Rattle.road_text.proofs.Splits.{take_further, one_further}
 use Rattle.road_text.proofs.TextLaws.{nothing, lines_closed, lines_none, lines_cut}
 
 module _ {T V : Type 0} (gives : Way T V) (s : LineReader T) where
@@ -84,3 +85,16 @@ module _ {T V : Type 0} (gives : Way T V) (s : LineReader T) where
   byte_broken t b TooLong lt p = absurd p
   byte_broken t b Memory lt p = p
   byte_broken t b (Broken f) lt p = (b ∷ [], [], refl, omega arith, p)
+
+-- what leads from one place in a piece to a later one
+pub leads_further : {T V : Type 0} (gives : Way T V) (s t u : LineReader T) (xs : List ℕ) (at n : ℕ)
+    → ((cut : Bool) (more : List ℕ) (r : Result V ReadFault) → Leads cut gives t more r → Leads cut gives s (take at xs ++ more) r)
+    → ((cut : Bool) (more : List ℕ) (r : Result V ReadFault) → Leads cut gives u more r → Leads cut gives t (take n (take (length xs - at) (drop at xs)) ++ more) r)
+    → (cut : Bool) (more : List ℕ) (r : Result V ReadFault) → Leads cut gives u more r → Leads cut gives s (take (at + n) xs ++ more) r
+leads_further gives s t u xs at n f g cut more r h = rw (take_further at n xs more) (f cut (take n (take (length xs - at) (drop at xs)) ++ more) r (g cut more r h))
+
+pub leads_byte : {T V : Type 0} (gives : Way T V) (s t u : LineReader T) (xs : List ℕ) (at : ℕ) → at < length xs
+    → ((cut : Bool) (more : List ℕ) (r : Result V ReadFault) → Leads cut gives t more r → Leads cut gives s (take at xs ++ more) r)
+    → ((cut : Bool) (more : List ℕ) (r : Result V ReadFault) → Leads cut gives u more r → Leads cut gives t (get_or xs at 0 ∷ more) r)
+    → (cut : Bool) (more : List ℕ) (r : Result V ReadFault) → Leads cut gives u more r → Leads cut gives s (take (at + 1) xs ++ more) r
+leads_byte gives s t u xs at lt f g cut more r h = rw (one_further at xs more lt) (f cut (get_or xs at 0 ∷ more) r (g cut more r h))

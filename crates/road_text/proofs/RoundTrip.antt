@@ -60,6 +60,13 @@ no_return : (xs : List ℕ) → All (λ b. 32 ≤ b) xs → strip_carriage_retur
 no_return [] h = refl
 no_return (x ∷ xs) h = let big : 32 ≤ get_or (x ∷ xs) (length (x ∷ xs) - 1) 0 = h (length (x ∷ xs) - 1) 0 (omega arith) in rw (ne_eqb (get_or (x ∷ xs) (length (x ∷ xs) - 1) 0) 13 (λ e. omega arith)) refl
 
+-- a written line is the next line
+pub line_again : (cut : Bool) (fs : List (List ℕ)) (rest : List ℕ) → AllByRecursion IsWord fs → lines cut (spelled fs ++ rest) ≡ join_with_byte 32 fs ∷ lines cut rest
+unfolding spelled
+line_again cut fs rest h =
+    let plain : All (λ b. 32 ≤ b) (join_with_byte 32 fs) = plain_join fs h in
+    ap (lines cut) (append_assoc (join_with_byte 32 fs) (10 ∷ []) rest) ∙ lines_first cut (join_with_byte 32 fs) rest (no_line_end _ plain) ∙ ap (λ x. x ∷ lines cut rest) (no_return _ plain)
+
 -- the lines of a written text are its lines
 pub lines_text : (ls : List (List (List ℕ))) → AllByRecursion (AllByRecursion IsWord) ls → lines false (text_of ls) ≡ map (join_with_byte 32) ls
 unfolding spelled

@@ -77,11 +77,11 @@ text_with_held f bytes = elim (cases_lt (length f) 9) [
   | inr h ↦ rw (length-take-le 9 f h, take-append-le 9 f bytes h) (append-nil (take 9 f))
 ]
 
-held_word-with : (f bytes : List ℕ) → word_with (held_word f) bytes ≡ held_word (f ++ bytes)
+pub held_word-with : (f bytes : List ℕ) → word_with (held_word f) bytes ≡ held_word (f ++ bytes)
 unfolding word_with
 held_word-with f bytes = cc (text_with_held f bytes, number_with_held f bytes)
 
-no_word_is : no_word ≡ held_word []
+pub no_word_is : no_word ≡ held_word []
 unfolding number
 no_word_is = refl
 

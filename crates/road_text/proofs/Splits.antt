@@ -66,6 +66,9 @@ All-one P b h (suc k) d lt = absurd (omega arith)
 pub plain_digit : (b : ℕ) → is_ascii_digit b ≡ true → is_plain b ≡ true
 plain_digit b digit = grind (arith, digit)
 
+pub above_digit : (b : ℕ) → is_ascii_digit b ≡ true → 32 < b
+above_digit b digit = grind (arith, digit)
+
 -- one element more of a front
 pub All-take_more : (P : ℕ → Type 0) (xs : List ℕ) (i : ℕ) → i < length xs → P (get_or xs i 0) → All P (take i xs) → All P (take (i + 1) xs)
 All-take_more P xs i lt here before = subst (All P) (sym (take_more xs i 0 lt)) (All-append P (take i xs) (get_or xs i 0 ∷ []) before (All-one P (get_or xs i 0) here))
@@ -81,9 +84,5 @@ piece_length at n xs le = length-take-le n (take (length xs - at) (drop at xs)) 
 pub take_further : (at n : ℕ) (xs more : List ℕ) → take (at + n) xs ++ more ≡ take at xs ++ (take n (take (length xs - at) (drop at xs)) ++ more)
 take_further at n xs more = rw (rest_is at xs) (ap (λ x. x ++ more) (take-add at n xs) ∙ append_assoc (take at xs) (take n (drop at xs)) more)
 
--- its first byte
-pub first_of_rest : (at : ℕ) (xs : List ℕ) → at < length xs → get_or (take (length xs - at) (drop at xs)) 0 0 ≡ get_or xs at 0
-first_of_rest at xs lt = rw (rest_is at xs, drop-cons xs at 0 lt) refl
-
-pub byte_further : (at : ℕ) (xs more : List ℕ) → at < length xs → take (at + 1) xs ++ more ≡ take at xs ++ (get_or (take (length xs - at) (drop at xs)) 0 0 ∷ more)
-byte_further at xs more lt = rw (first_of_rest at xs lt) (ap (λ x. x ++ more) (take_more xs at 0 lt) ∙ append_assoc (take at xs) (get_or xs at 0 ∷ []) more)
+pub one_further : (at : ℕ) (xs more : List ℕ) → at < length xs → take (at + 1) xs ++ more ≡ take at xs ++ (get_or xs at 0 ∷ more)
+one_further at xs more lt = ap (λ x. x ++ more) (take_more xs at 0 lt) ∙ append_assoc (take at xs) (get_or xs at 0 ∷ []) more

@@ -11,3 +11,4 @@ pub mod Written
 pub mod Scans
 pub mod Standing
 pub mod Numbers
+pub mod ShortLines

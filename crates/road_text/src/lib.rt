@@ -13,6 +13,7 @@ mod reader;
 mod reading;
 mod runs;
 mod scanner;
+mod short_lines;
 mod slots;
 mod takes;
 #[cfg(test)]

@@ -1,11 +1,12 @@
 //! The line machine: takes a text byte by byte, and hands on its fields and lines.
-ghost use Rattle.std.specs.Prelude.{◌≡◌, ◌≢◌, ℕ, ◌+◌, ◌≤◌, List, [], ◌∷◌, ◌++◌, Result, Ok, OnOk, IfOk, IfErr, length, true, false, Bool, ◌<◌, All};
+ghost use Rattle.std.specs.Prelude.{◌≡◌, ◌≢◌, ℕ, ◌+◌, ◌≤◌, List, [], ◌∷◌, ◌++◌, Result, Ok, OnOk, IfOk, IfErr, length, take, true, false, Bool, ◌<◌, All};
 ghost use Rattle.road_text.specs.declared.faults.ReadFault.{ReadFault};
 ghost use Rattle.road_text.specs.Lines.{lines, fields};
 
 use crate::faults::{Halt, LineFault, ReadFault};
 use crate::runs::run;
 use crate::scanner::{Scanner, is_gap};
+use crate::short_lines::short_line;
 use crate::takes::TakesLines;
 
 /// The most bytes that a text may have: 2 ^ 32.
@@ -134,6 +135,65 @@ impl<T: TakesLines> LineReader<T> {
         self.scanner.add_run(bytes, number);
     }
 
+    // Takes the bytes at the front that go on with the present field, and says how many they are. It takes none where a
+    // CR is held back, or where they do not fit: `byte` does then.
+    #[inline(always)]
+    fn front_run(&mut self, bytes: &[u8]) -> usize
+        ensures bound { result ≤ length bytes.now }
+        ensures leads { (cut : Bool) (more : List ℕ) (r : Result T.Value ReadFault) → Leads cut T.way self.new more r → Leads cut T.way self.old (take result bytes.now ++ more) r }
+        ensures count { self.new.count ≡ self.old.count + result }
+    {
+        let (front, number) = run(bytes, self.scanner.present().number);
+        if front == 0 || self.held || front as u64 > MAX_BYTES - self.count {
+            return 0;
+        }
+        self.present_run(&bytes[..front], number);
+        front
+    }
+
+    // Takes the line at the front, where it is a letter and three numbers and the taker is quick with it, and says how
+    // many bytes that were.
+    #[inline(always)]
+    fn short_line(&mut self, bytes: &[u8]) -> usize
+        ensures bound { result ≤ length bytes.now }
+        ensures leads { (cut : Bool) (more : List ℕ) (r : Result T.Value ReadFault) → Leads cut T.way self.new more r → Leads cut T.way self.old (take result bytes.now ++ more) r }
+        ensures count { self.new.count ≡ self.old.count + result }
+    {
+        if self.begun {
+            return 0;
+        }
+        let Some(short) = short_line(bytes) else {
+            return 0;
+        };
+        if short.len as u64 > MAX_BYTES - self.count {
+            return 0;
+        }
+        if !self.taker.short_line(short.letter, short.numbers) {
+            return 0;
+        }
+        self.count += short.len as u64;
+        self.line += 1;
+        short.len
+    }
+
+    // Takes such lines as long as they come.
+    #[inline(always)]
+    fn short_lines(&mut self, bytes: &[u8]) -> usize
+        ensures bound { result ≤ length bytes.now }
+        ensures leads { (cut : Bool) (more : List ℕ) (r : Result T.Value ReadFault) → Leads cut T.way self.new more r → Leads cut T.way self.old (take result bytes.now ++ more) r }
+        ensures count { self.new.count ≡ self.old.count + result }
+    {
+        let mut at = 0;
+        while at < bytes.len() {
+            let len = self.short_line(&bytes[at..]);
+            if len == 0 {
+                return at;
+            }
+            at += len;
+        }
+        at
+    }
+
     /// Takes the next byte.
     pub fn byte(&mut self, byte: u8) -> Result<(), Halt>
         ensures ok { OnOk result ((cut : Bool) (rest : List ℕ) (r : Result T.Value ReadFault) → Leads cut T.way self.new rest r → Leads cut T.way self.old (byte ∷ rest) r) }
@@ -160,15 +220,13 @@ impl<T: TakesLines> LineReader<T> {
     {
         let mut at = 0;
         while at < bytes.len() {
-            let rest = &bytes[at..];
-            let (front, number) = run(rest, self.scanner.present().number);
-            if front > 0 && !self.held && front as u64 <= MAX_BYTES - self.count {
-                self.present_run(&rest[..front], number);
-                at += front;
-            } else {
-                self.byte(rest[0])?;
-                at += 1;
+            at += self.short_lines(&bytes[at..]);
+            at += self.front_run(&bytes[at..]);
+            if at == bytes.len() {
+                return Ok(());
             }
+            self.byte(bytes[at])?;
+            at += 1;
         }
         Ok(())
     }

@@ -51,8 +51,9 @@ fn digit_on(number: u64, digit: u8) -> u64
 /// How many digits stand at the front, while the number with them is small, and that number. It is where most of the
 /// time of reading goes: most fields are such numbers, and one register holds them.
 #[inline(always)]
-fn digits(bytes: &[u8], number: u64) -> (usize, u64)
+pub fn digits(bytes: &[u8], number: u64) -> (usize, u64)
     ensures bound { result.0 ≤ length bytes.now }
+    ensures digits { All (λ b. is_ascii_digit b ≡ true) (take result.0 bytes.now) }
     ensures plain { All (λ b. is_plain b ≡ true) (take result.0 bytes.now) }
     ensures number { Some result.1 ≡ number_with (Some number) (take result.0 bytes.now) }
 {

@@ -5,6 +5,7 @@ ghost use Rattle.road_text.specs.declared.faults.Rule.{Rule};
 ghost use Rattle.road_text.specs.Lines.{fields};
 ghost use Rattle.road_text.specs.RuleNumbers.{number_of};
 ghost use Rattle.road_text.specs.Rules.{fault_at, too_long};
+ghost use Rattle.road_text.specs.ShortLines.{HasShortFields};
 ghost use Rattle.road_text.specs.Slots.{word_in};
 ghost use Rattle.road_text.specs.Takes.{ShowsLine};
 ghost use Rattle.road_text.specs.Way.{Way};
@@ -35,6 +36,14 @@ pub trait TakesLines: Drop {
         ensures ready { OnOk result (way.so_far self.new []) }
         ensures broken { (rule : Rule) → result ≡ Err (LineFault.Broken rule) → (cut : Bool) (at : ℕ) (l : List ℕ) (rest : List (List ℕ)) →
             ShowsLine slots.now l → way.so_far self.old (fields l) → way.gives cut self.old at (l ∷ rest) (Err (fault_at at (number_of rule))) };
+
+    /// Takes a whole line of a letter and three numbers, each below 2 ^ 64, if that is quickly done: else it is taken by
+    /// its fields, and nothing changes here.
+    fn short_line(&mut self, letter: u8, numbers: (u64, u64, u64)) -> bool
+        ensures left { result ≡ false → self.new ≡ self.old }
+        ensures taken { result ≡ true → (cut : Bool) (at : ℕ) (l : List ℕ) (rest : List (List ℕ)) (r : Result Self.Value ReadFault) →
+            HasShortFields l letter numbers.0 numbers.1 numbers.2 → way.gives cut self.new (at + 1) rest r → way.gives cut self.old at (l ∷ rest) r }
+        ensures ready { result ≡ true → way.so_far self.new [] };
 
     /// Takes the end, and gives what the lines were.
     fn finish(self) -> Result<Self::Value, LineFault>

@@ -62,6 +62,10 @@ impl TakesLines for NumberTaker {
         Ok(())
     }
 
+    fn short_line(&mut self, _letter: u8, _numbers: (u64, u64, u64)) -> bool {
+        false
+    }
+
     fn line(&mut self, slots: &[Slot]) -> Result<(), LineFault> {
         self.take(slots)
     }

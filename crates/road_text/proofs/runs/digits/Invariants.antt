@@ -1,4 +1,5 @@
 use Rattle.std.proofs.Common.{◌≡◌, ◌≤◌, ◌-◌, length, take, true, All, Some}
+use Rattle.std.specs.Char.{is_ascii_digit}
 use Rattle.road_text.specs.Scans.{is_plain, number_with}
 use Rattle.road_text.proofs.runs.digits.Given as goal
 
@@ -6,6 +7,7 @@ use Rattle.road_text.proofs.runs.digits.Given as goal
 abbrev pub invariant-loop-front : goal.invariant-loop-front
 invariant-loop-front l = record {
   within : l.front ≤ length l.bytes;
+  digits : All (λ b. is_ascii_digit b ≡ true) (take l.front l.bytes);
   plain : All (λ b. is_plain b ≡ true) (take l.front l.bytes);
   number : Some l.grown ≡ number_with (Some l.fn.number) (take l.front l.bytes);
 }

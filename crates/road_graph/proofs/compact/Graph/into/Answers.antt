@@ -5,7 +5,7 @@ use Rattle.road_graph.proofs.compact.Graph.into.Goals as goal
 
 pub returns : goal.returns
 returns c =
-    let G : Roads = record { vertices = c.self.inside.vertices; arcs = c.self.inside.arcs.items } in
+    let G : Roads = record { vertices = c.self.inside.vertices; arcs = c.self.inside.arcs.value.items } in
     let is : G ≡ c.args.self.now = c.self.view_is in
     let in_v : HasVertex G c.args.v = subst (λ (h : Roads). HasVertex h c.args.v) (sym is) c.requires in
     let starts = c.self.inside.into_rows.starts.items in

@@ -2,7 +2,7 @@
 
 use crate::{Reason, Verdict, check};
 use answer_text::read_answers;
-use path_algebra::{PathAlgebra, Shortest, Within};
+use path_algebra::{PathAlgebra, Shortest, Widest, Within};
 use road_files::{read_gr, read_questions};
 use road_text::Plain;
 use std::process::Abort;
@@ -15,14 +15,18 @@ const FIVE: &str = "p sp 5 7\na 1 2 4\na 1 3 1\na 3 2 2\na 2 4 5\na 3 4 8\na 4 4
 /// One question, from the first vertex.
 const FROM_ONE: &str = "p aux sp ss 1\ns 1\n";
 
-/// Asserts the verdict on answers to questions over a graph.
-fn assert_verdict<A: PathAlgebra>(
+/// What `FROM_ONE` over `FIVE` is answered under the least sum of weights.
+const LINES: &str = "d 1 0 0 0\nd 2 3 2 3\nd 3 1 1 1\nd 4 8 3 2\nu 5\n";
+
+/// Asserts the verdict that a number of checks give, each the same.
+fn assert_verdicts<A: PathAlgebra>(
     rt: &(impl Abort + AllocGlobal + Threads + Sync),
     algebra: A,
     graph: &str,
     questions: &str,
     answers: &str,
     wanted: Verdict,
+    times: u32,
 ) -> Result<(), Fail> {
     let alloc = rt.alloc();
     let graph = read_gr(alloc, &mut Plain::new(graph.as_bytes()))
@@ -35,9 +39,23 @@ fn assert_verdict<A: PathAlgebra>(
     let answers = read_answers(alloc, &mut Plain::new(answers.as_bytes()), n)
         .ok()
         .ok_or("no answers")?;
-    let verdict = check(rt, alloc, algebra, &graph, &questions, &answers);
-    assert_eq!(rt; verdict, Ok(wanted));
+    for _ in 0..times {
+        let verdict = check(rt, alloc, algebra, &graph, &questions, &answers);
+        assert_eq!(rt; verdict, Ok(wanted));
+    }
     Ok(())
+}
+
+/// Asserts the verdict on answers to questions over a graph.
+fn assert_verdict<A: PathAlgebra>(
+    rt: &(impl Abort + AllocGlobal + Threads + Sync),
+    algebra: A,
+    graph: &str,
+    questions: &str,
+    answers: &str,
+    wanted: Verdict,
+) -> Result<(), Fail> {
+    assert_verdicts(rt, algebra, graph, questions, answers, wanted, 1)
 }
 
 /// The verdict that names this place.
@@ -49,22 +67,34 @@ fn invalid(question: usize, vertex: u32, reason: Reason) -> Verdict {
     }
 }
 
-/// Asserts the verdict on lines of the five vertices from the first of them, under the least sum of weights.
+/// Asserts the verdict on lines from the first vertex of a graph, under the least sum of weights.
 fn assert_lines(
     rt: &(impl Abort + AllocGlobal + Threads + Sync),
+    graph: &str,
     lines: &str,
     wanted: Verdict,
 ) -> Result<(), Fail> {
     let answers = format!(in rt.alloc(); "p ans ss 1 shortest\ns 1\n{lines}")?;
-    assert_verdict(rt, Shortest, FIVE, FROM_ONE, answers.as_str(), wanted)
+    assert_verdict(rt, Shortest, graph, FROM_ONE, answers.as_str(), wanted)
+}
+
+/// Asserts the verdict on what is told of the pair 1 and 4 of the five vertices.
+fn assert_pair(
+    rt: &(impl Abort + AllocGlobal + Threads + Sync),
+    told: &str,
+    wanted: Verdict,
+) -> Result<(), Fail> {
+    let answers = format!(in rt.alloc(); "p ans p2p 1 shortest\n{told}")?;
+    let question = "p aux sp p2p 1\nq 1 4\n";
+    assert_verdict(rt, Shortest, FIVE, question, answers.as_str(), wanted)
 }
 
 #[test]
 fn right_answers(rt: HostRuntime) -> Result<(), Fail> {
-    let lines = "d 1 0 0 0\nd 2 3 2 3\nd 3 1 1 1\nd 4 8 3 2\nu 5\n";
-    assert_lines(&rt, lines, Verdict::Valid)?;
-    let pairs = "p aux sp p2p 3\nq 1 4\nq 4 1\nq 5 5\n";
-    let answers = "p ans p2p 3 shortest\nq 1 4\nd 8 3\nr 1 3 2 4\nq 4 1\nu\nq 5 5\nd 0 0\nr 5\n";
+    assert_lines(&rt, FIVE, LINES, Verdict::Valid)?;
+    assert_pair(&rt, "q 1 4\nd 8 3\nr 1 3 2 4\n", Verdict::Valid)?;
+    let pairs = "p aux sp p2p 2\nq 4 1\nq 5 5\n";
+    let answers = "p ans p2p 2 shortest\nq 4 1\nu\nq 5 5\nd 0 0\nr 5\n";
     assert_verdict(&rt, Shortest, FIVE, pairs, answers, Verdict::Valid)?;
     let multi = "p aux sp ms 2\nm 4 5\nm 5 2\n";
     let answers =
@@ -72,24 +102,147 @@ fn right_answers(rt: HostRuntime) -> Result<(), Fail> {
     assert_verdict(&rt, Shortest, FIVE, multi, answers, Verdict::Valid)?;
     let within = Within::new(5).ok_or("no limit")?;
     let answers = "p ans ss 1 within\ns 1\nd 1 0 0 0\nd 2 3 2 3\nd 3 1 1 1\nu 4\nu 5\n";
-    assert_verdict(&rt, within, FIVE, FROM_ONE, answers, Verdict::Valid)
+    assert_verdict(&rt, within, FIVE, FROM_ONE, answers, Verdict::Valid)?;
+    let answers =
+        "p ans ss 1 widest\ns 1\nd 1 4294967296 0 0\nd 2 4 1 1\nd 3 1 1 1\nd 4 4 2 2\nu 5\n";
+    assert_verdict(&rt, Widest, FIVE, FROM_ONE, answers, Verdict::Valid)?;
+    let nothing = "p aux sp ss 0\n";
+    assert_verdict(
+        &rt,
+        Shortest,
+        FIVE,
+        nothing,
+        "p ans ss 0 shortest\n",
+        Verdict::Valid,
+    )
 }
 
 #[test]
 fn checker_names_the_place(rt: HostRuntime) -> Result<(), Fail> {
     let other_source = "d 1 0 0 1\nd 2 3 2 3\nd 3 1 1 1\nd 4 8 3 2\nu 5\n";
-    assert_lines(&rt, other_source, invalid(1, 1, Reason::Mismatch))?;
+    assert_lines(&rt, FIVE, other_source, invalid(1, 1, Reason::Mismatch))?;
     let other_hops = "d 1 0 0 0\nd 2 3 3 3\nd 3 1 1 1\nd 4 8 3 2\nu 5\n";
-    assert_lines(&rt, other_hops, invalid(1, 2, Reason::OtherHops))?;
+    assert_lines(&rt, FIVE, other_hops, invalid(1, 2, Reason::OtherHops))?;
     let other_parent = "d 1 0 0 0\nd 2 3 2 3\nd 3 1 1 9\nd 4 8 3 2\nu 5\n";
-    assert_lines(&rt, other_parent, invalid(1, 3, Reason::NoParent))?;
-    let widest = "p ans ss 1 widest\ns 1\nd 1 0 0 0\nd 2 3 2 3\nd 3 1 1 1\nd 4 8 3 2\nu 5\n";
-    assert_verdict(
+    assert_lines(&rt, FIVE, other_parent, invalid(1, 3, Reason::NoParent))?;
+    let widest = format!(in rt.alloc(); "p ans ss 1 widest\ns 1\n{LINES}")?;
+    let whole = invalid(0, 0, Reason::Mismatch);
+    assert_verdict(&rt, Shortest, FIVE, FROM_ONE, widest.as_str(), whole)?;
+    let none = "p ans ss 0 shortest\n";
+    assert_verdict(&rt, Shortest, FIVE, FROM_ONE, none, whole)?;
+    let pair = "p ans p2p 1 shortest\nq 1 4\nu\n";
+    assert_verdict(&rt, Shortest, FIVE, FROM_ONE, pair, whole)?;
+    let from_two = format!(in rt.alloc(); "p ans ss 1 shortest\ns 2\n{LINES}")?;
+    let first = invalid(1, 0, Reason::Mismatch);
+    assert_verdict(&rt, Shortest, FIVE, FROM_ONE, from_two.as_str(), first)
+}
+
+#[test]
+fn questions_go_before_vertices(rt: HostRuntime) -> Result<(), Fail> {
+    let two = "p aux sp ss 2\ns 1\ns 2\n";
+    let unreached = "d 1 0 0 0\nd 2 3 2 3\nd 3 1 1 1\nd 4 8 3 2\nd 5 0 0 0\n";
+    let answers = format!(in rt.alloc(); "p ans ss 2 shortest\ns 1\n{unreached}s 4\n{LINES}")?;
+    let fifth = invalid(1, 5, Reason::NoParent);
+    assert_verdict(&rt, Shortest, FIVE, two, answers.as_str(), fifth)?;
+    let answers = format!(in rt.alloc(); "p ans ss 2 shortest\ns 1\n{LINES}s 4\n{unreached}")?;
+    let second = invalid(2, 0, Reason::Mismatch);
+    assert_verdict(&rt, Shortest, FIVE, two, answers.as_str(), second)
+}
+
+#[test]
+fn checker_reasons(rt: HostRuntime) -> Result<(), Fail> {
+    let longer = "d 1 0 0 0\nd 2 4 1 1\nd 3 1 1 1\nd 4 8 3 2\nu 5\n";
+    assert_lines(&rt, FIVE, longer, invalid(1, 2, Reason::NotBest))?;
+    let no_value = "d 1 0 0 0\nd 2 18446744073709551615 2 3\nd 3 1 1 1\nd 4 8 3 2\nu 5\n";
+    assert_lines(&rt, FIVE, no_value, invalid(1, 2, Reason::NoParent))?;
+    let shorter = "d 1 0 0 0\nd 2 2 2 3\nd 3 1 1 1\nd 4 7 3 2\nu 5\n";
+    assert_lines(&rt, FIVE, shorter, invalid(1, 2, Reason::NoParent))?;
+    let unreached = "d 1 0 0 0\nd 2 3 2 3\nd 3 1 1 1\nu 4\nu 5\n";
+    assert_lines(&rt, FIVE, unreached, invalid(1, 4, Reason::HasWalk))?;
+    let around = "p sp 3 4\na 1 2 0\na 2 3 0\na 3 2 0\na 1 3 0\n";
+    let far = "d 1 0 0 0\nd 2 0 2 3\nd 3 0 1 1\n";
+    assert_lines(&rt, around, far, invalid(1, 2, Reason::OtherHops))?;
+    let apart = "p sp 3 2\na 2 3 0\na 3 2 0\n";
+    let by_each_other = "d 1 0 0 0\nd 2 7 1 3\nd 3 7 0 2\n";
+    assert_lines(&rt, apart, by_each_other, invalid(1, 3, Reason::OtherHops))?;
+    let twice = "p sp 4 4\na 1 2 1\na 1 3 1\na 2 4 1\na 3 4 1\n";
+    let greater = "d 1 0 0 0\nd 2 1 1 1\nd 3 1 1 1\nd 4 2 2 3\n";
+    assert_lines(&rt, twice, greater, invalid(1, 4, Reason::LesserParent))?;
+    let two = "p aux sp ms 1\nm 4 5\n";
+    let answers =
+        "p ans ms 1 shortest\nm 4 5\nd 1 3 1 5\nd 2 6 3 3\nd 3 4 2 1\nd 4 0 0 0\nd 5 1 0 0\n";
+    let fifth = invalid(1, 1, Reason::NoParent);
+    assert_verdict(&rt, Shortest, FIVE, two, answers, fifth)?;
+    let answers =
+        "p ans ms 1 shortest\nm 4 5\nd 1 3 1 5\nd 2 6 3 3\nd 3 4 2 1\nd 4 0 0 1\nd 5 0 0 0\n";
+    let fourth = invalid(1, 4, Reason::Mismatch);
+    assert_verdict(&rt, Shortest, FIVE, two, answers, fourth)
+}
+
+#[test]
+fn reasons_against_pairs(rt: HostRuntime) -> Result<(), Fail> {
+    assert_pair(&rt, "q 1 4\nu\n", invalid(1, 4, Reason::HasWalk))?;
+    assert_pair(
+        &rt,
+        "q 1 4\nd 9 2\nr 1 3 4\n",
+        invalid(1, 4, Reason::NotBest),
+    )?;
+    assert_pair(
+        &rt,
+        "q 1 4\nd 8 2\nr 1 2 4\n",
+        invalid(1, 4, Reason::OtherHops),
+    )?;
+    assert_pair(
+        &rt,
+        "q 1 4\nd 8 3\nr 1 2 3 4\n",
+        invalid(1, 4, Reason::OtherRoute),
+    )?;
+    assert_pair(
+        &rt,
+        "q 1 4\nd 8 3\nr 1 3 2\n",
+        invalid(1, 4, Reason::OtherRoute),
+    )?;
+    assert_pair(&rt, "q 4 1\nu\n", invalid(1, 0, Reason::Mismatch))?;
+    let back = "p aux sp p2p 1\nq 4 1\n";
+    let answers = "p ans p2p 1 shortest\nq 4 1\nd 0 1\nr 4 1\n";
+    let first = invalid(1, 1, Reason::NotBest);
+    assert_verdict(&rt, Shortest, FIVE, back, answers, first)
+}
+
+#[test]
+fn numbers_of_reasons(rt: HostRuntime) {
+    assert_eq!(rt; Reason::Mismatch.number(), 1);
+    assert_eq!(rt; Reason::NotBest.number(), 2);
+    assert_eq!(rt; Reason::NoParent.number(), 3);
+    assert_eq!(rt; Reason::OtherHops.number(), 4);
+    assert_eq!(rt; Reason::LesserParent.number(), 5);
+    assert_eq!(rt; Reason::HasWalk.number(), 6);
+    assert_eq!(rt; Reason::OtherRoute.number(), 7);
+}
+
+#[test]
+fn first_of_two_wrong_codes(rt: HostRuntime) -> Result<(), Fail> {
+    let alloc = rt.alloc();
+    let mut graph = format!(in alloc; "p sp 5000 4999\n")?;
+    let mut answers = format!(in alloc; "p ans ss 1 shortest\ns 1\nd 1 0 0 0\n")?;
+    for v in 1..5000u32 {
+        let head = v + 1;
+        let code = if head == 3000 || head == 4000 {
+            head
+        } else {
+            v
+        };
+        graph.push_str(format!(in alloc; "a {v} {head} 1\n")?.as_str())?;
+        answers.push_str(format!(in alloc; "d {head} {code} {v} {v}\n")?.as_str())?;
+    }
+    let place = invalid(1, 3000, Reason::NotBest);
+    assert_verdicts(
         &rt,
         Shortest,
-        FIVE,
+        graph.as_str(),
         FROM_ONE,
-        widest,
-        invalid(0, 0, Reason::Mismatch),
+        answers.as_str(),
+        place,
+        50,
     )
 }

@@ -27,3 +27,11 @@ pub mod Taken
 pub mod Told
 pub mod TakenCounts
 pub mod TakenShown
+pub mod Counting
+pub mod Rooms
+pub mod Opened
+pub mod Receiving
+pub mod Sites
+pub mod Fitting
+pub mod Opening
+pub mod OpenedAll

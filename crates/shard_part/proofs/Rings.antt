@@ -17,12 +17,12 @@ use Rattle.shard_part.proofs.Fits.{sound_fits, sound_out_fits}
 use Rattle.shard_part.proofs.Showing.{is_self}
 use Rattle.shard_part.proofs.Moves.{formed}
 
-map_read : {X Y : Type 0} (f : X → Y) (rs : List X) (k : ℕ) (d : Y) (x : X) → k < length rs → x ≡ get_or rs k x → get_or (map f rs) k d ≡ f x
+pub map_read : {X Y : Type 0} (f : X → Y) (rs : List X) (k : ℕ) (d : Y) (x : X) → k < length rs → x ≡ get_or rs k x → get_or (map f rs) k d ≡ f x
 map_read f [] k d x l e = absurd (omega (arith, l))
 map_read f (r ∷ rs) zero d x l e = ap f (sym e)
 map_read f (r ∷ rs) (suc k) d x l e = map_read f rs k d x (omega (arith, l)) e
 
-map_write : {X Y : Type 0} (f : X → Y) (rs : List X) (k : ℕ) (x : X) → map f (set rs k x) ≡ set (map f rs) k (f x)
+pub map_write : {X Y : Type 0} (f : X → Y) (rs : List X) (k : ℕ) (x : X) → map f (set rs k x) ≡ set (map f rs) k (f x)
 map_write f [] k x = refl
 map_write f (r ∷ rs) zero x = refl
 map_write f (r ∷ rs) (suc k) x = ap (λ ys. f r ∷ ys) (map_write f rs k x)
@@ -31,7 +31,7 @@ pub map_long : {X Y : Type 0} (f : X → Y) (rs : List X) → length (map f rs) 
 map_long f [] = refl
 map_long f (r ∷ rs) = ap suc (map_long f rs)
 
-map_kept : {X : Type 0} (f : X → ℕ) (rs : List X) (k : ℕ) (x new : X) → k < length rs → x ≡ get_or rs k x → f new ≡ f x → map f (set rs k new) ≡ map f rs
+pub map_kept : {X : Type 0} (f : X → ℕ) (rs : List X) (k : ℕ) (x new : X) → k < length rs → x ≡ get_or rs k x → f new ≡ f x → map f (set rs k new) ≡ map f rs
 map_kept f [] k x new l e q = refl
 map_kept f (r ∷ rs) zero x new l e q = ap (λ n. n ∷ map f rs) (q ∙ ap f e)
 map_kept f (r ∷ rs) (suc k) x new l e q = ap (λ ys. f r ∷ ys) (map_kept f rs k x new (omega (arith, l)) e q)

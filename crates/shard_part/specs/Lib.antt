@@ -4,3 +4,6 @@ pub mod Tables
 pub mod PartState
 pub mod Desk
 pub mod Part
+pub mod Readings
+pub mod Exchange
+pub mod Opening

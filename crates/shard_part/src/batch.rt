@@ -1,8 +1,10 @@
-ghost use Rattle.std.specs.Prelude.{◌≡◌, ◌<◌, ◌++◌, [], ◌∷◌, length, drop, slice_get, IfOk};
+ghost use Rattle.std.specs.Prelude.{◌≡◌, ◌+◌, ◌<◌, ◌≤◌, ◌++◌, [], ◌∷◌, length, drop, slice_get, leb, IfOk};
 ghost use Rattle.circular_buffer.specs.Buffer.{buffer};
+ghost use Rattle.scholten_core.specs.Items.{item_arc};
+ghost use Rattle.shard_part.specs.PartState.{counted};
 
 use circular_buffer::HeapCircularBuffer;
-use road_graph::Memory;
+use road_graph::{ArcNo, Memory};
 use scholten_core::Item;
 use std::alloc::Global;
 use std::marker::Model;
@@ -55,6 +57,21 @@ impl<V: Copy> Batch<V> {
         }
     }
 
+    /// Whether an item on an arc stands at an index or behind it.
+    pub(crate) fn stands_from(&self, from: usize, arc: ArcNo) -> bool
+        requires { from ≤ length self.now.items }
+        ensures { result ≡ leb 1 (counted arc (drop from self.now.items)) }
+    {
+        for i in from..self.len() {
+            if let Some(item) = self.get(i) {
+                if arc_of(item) == arc {
+                    return true;
+                }
+            }
+        }
+        false
+    }
+
     /// Puts an item at the back.
     pub(crate) fn push(&mut self, item: Item<V>)
         requires { length self.old.items < self.old.capacity }
@@ -63,11 +80,32 @@ impl<V: Copy> Batch<V> {
         self.items.push_back(item);
     }
 
+    /// Moves all items of another batch behind its own.
+    pub(crate) fn append(&mut self, other: &mut Batch<V>)
+        requires { length self.old.items + length other.old.items ≤ self.old.capacity }
+        ensures own { self.new ≡ buffer (self.old.items ++ other.old.items) self.old.capacity }
+        ensures other { other.new ≡ buffer [] other.old.capacity }
+    {
+        while let Some(item) = other.pop() {
+            self.push(item);
+        }
+    }
+
     /// Takes the item at the front.
     pub(crate) fn pop(&mut self) -> Option<Item<V>>
         ensures value { result ≡ slice_get self.old.items 0 }
         ensures items { self.new ≡ buffer (drop 1 self.old.items) self.old.capacity }
     {
         self.items.pop_front()
+    }
+}
+
+/// The arc that an item is on.
+pub(crate) fn arc_of<V: Copy>(item: Item<V>) -> ArcNo
+    ensures { result ≡ item_arc item }
+{
+    match item {
+        Item::Message { arc, value: _ } => arc,
+        Item::Signal { arc } => arc,
     }
 }

@@ -8,6 +8,12 @@ ghost use Rattle.scholten_core.specs.Network.{WellFormed};
 ghost use Rattle.shard_part.specs.Part.{OwnIdleIsTold, TookFront};
 ghost use Rattle.shard_part.specs.Desk.{IsTallied, IsPlace, IsRow, IsPopped, HandledOne, put_item, counted_made, with_item, with_message, greeted, rested_by, labelled, offered, offered_all, rested, with_value, with_free, with_taken};
 
+mod exchange;
+mod opening;
+mod readings;
+#[cfg(test)]
+mod reserved;
+
 use crate::batch::Batch;
 use crate::plan::Plan;
 use crate::search::{find_arc, find_vertex};

@@ -5,6 +5,8 @@ ghost use Rattle.scholten_core.specs.Network.{WellFormed};
 ghost use Rattle.scholten_core.specs.Diffusion.{CoreState, state_after, step, is_enabled};
 ghost use Rattle.shard_part.specs.PartState.{Setup, PartData, Took, TookAll, AllEnabled, Holds, Shows, event_of, network_in, place_in, mail_weight, on, parts_places, mail_places, place_of_token};
 ghost use Rattle.shard_part.specs.Part.{TookMany, IsShownOn};
+ghost use Rattle.shard_part.specs.Desk.{IsPlanned};
+ghost use Rattle.shard_part.specs.Opening.{opened_parts};
 
 use path_algebra::PathAlgebra;
 
@@ -46,4 +48,10 @@ pub fn receiving_shows_the_same<A: PathAlgebra>(_algebra: A)
     ensures { (t : Setup A) (before after : List (PartData A A.Value)) (p : PartData A A.Value) (batch : List (Item A.Value)) (boxes behind : List (ℕ × List (Item A.Value))) (c : CoreState A.Value) →
         Shows A.meaning t (before ++ p ∷ after) (mail_weight (boxes ++ (p.shard, batch) ∷ behind)) c →
         Shows A.meaning t (before ++ record p { queue = p.queue ++ batch } ∷ after) (mail_weight (boxes ++ (p.shard, []) ∷ behind)) c }
+{}
+
+/// The parts of all shards as they are opened show the opening, where no mailbox weighs anything.
+pub fn opened_parts_show_the_opening<A: PathAlgebra>(_algebra: A)
+    ensures { (t : Setup A) (mail : (ℕ → Item A.Value → ℕ) → ℕ) → IsPlanned t 0 → ((h : ℕ → Item A.Value → ℕ) → mail h ≡ 0) →
+        Shows A.meaning t (opened_parts (A.meaning t.algebra) t 0 t.plan.shards) mail (state_after (A.meaning t.algebra) (network_in t) []) }
 {}

@@ -8,6 +8,7 @@ mod part;
 mod plan;
 mod search;
 mod shard;
+mod site;
 mod tables;
 mod tally;
 
@@ -18,3 +19,6 @@ pub use plan::{Plan, PlanFault};
 pub use shard::Shard;
 pub use tables::Tables;
 pub use tally::Tally;
+
+#[cfg(test)]
+mod tests;

@@ -1,5 +1,5 @@
 ghost use Rattle.std.specs.Prelude.{◌≡◌, ℕ, ◌+◌, ◌-◌, ◌*◌, ◌/◌, ◌<◌, ◌≤◌, ◌^◌, length, slice_index_or, IfOk, MatchResult, MatchOption};
-ghost use Rattle.shard_part.specs.Plans.{PlanData, shard_in, HasPlanned, IsBlocks, IsFirstBad, IsBad, IsBelow};
+ghost use Rattle.shard_part.specs.Plans.{PlanData, IsPlan, shard_in, HasPlanned, IsBlocks, IsFirstBad, IsBad, IsBelow};
 
 use crate::shard::Shard;
 use road_graph::{Memory, Vertex};
@@ -57,6 +57,8 @@ impl Plan {
     pub fn shards(&self) -> u8
         ensures count { result ≡ self.now.shards }
         ensures within { (1 ≤ result) × (result ≤ 64) }
+        // What holds of every plan, for callers that lean on it.
+        ensures plan { IsPlan self.now }
     {
         self.shards
     }

@@ -1,0 +1,247 @@
+-- A part as it is opened keeps what tables and rings keep, and holds its share of the opening.
+use Rattle.std.proofs.Common.{◌≡◌, ◌≢◌, ℕ, zero, suc, ◌+◌, ◌-◌, ◌<◌, ◌≤◌, Bool, true, false, not, ◌&&◌, eqb, Some, None, List, [], ◌∷◌, ◌++◌, length, set, get_or, replicate, refl, sym, ap, ◌∙◌, subst, inl, inr, arith, length-set, get_or-set_same, get_or-set_other, eqb-true, eq-eqb, ne_eqb}
+use Rattle.std.proofs.lemmas.Bool.{cases_eq, cases_lt, cond-true, cond-false}
+use Rattle.std.proofs.lemmas.List.{get_or_past, get_or-replicate, length-replicate}
+use Rattle.road_graph.specs.Roads.{Roads, IsRoads}
+use Rattle.path_algebra.specs.Algebra.{Algebra}
+use Rattle.scholten_core.specs.declared.token.Token.TheVariants.{Idle, Message}
+use Rattle.scholten_core.specs.declared.item.Item.{Item}
+use Rattle.scholten_core.specs.declared.item.Item.TheVariants.{Message as MessageOn}
+use Rattle.scholten_core.specs.Network.{Network, network, tail_of}
+use Rattle.scholten_core.specs.Diffusion.{opening, put, is_idle}
+use Rattle.scholten_core.specs.Items.{item_arc, item_of}
+use Rattle.scholten_core.specs.Sums.{one_if}
+use Rattle.scholten_core.proofs.Basics.{put-at, put-other}
+use Rattle.scholten_core.proofs.Networks.{tail-arc, head-entry, tail-entry}
+use Rattle.shard_part.specs.Tables.{spread, placed}
+use Rattle.shard_part.specs.PartState.{Setup, PartData, network_in, place_in, state_in, token_if, own_in, arcs_out, arcs_from, outgoing, busy_out, total, outs_weight, part_weight, engages, idles, names, is, All, vertex_of, maker_of, at_place, flying, IsArc, IsSound, HoldsShare, queue_room, out_room}
+use Rattle.shard_part.specs.Desk.{Rows, seen_as, IsPlanned, IsCounted, IsDesk}
+use Rattle.shard_part.specs.Opening.{is_first, first_items, opened_part, AreStarts, idle_rows}
+use Rattle.shard_part.proofs.Weights.{sum_at, sum_zero}
+use Rattle.shard_part.proofs.Alone.{if_most}
+use Rattle.shard_part.proofs.Places.{own_apart}
+use Rattle.shard_part.proofs.Graphs.{place_vertex, place_entry}
+
+module _ {X : Type 0} where
+  pub reads_same : (n : ℕ) (x : X) (j : ℕ) → get_or (replicate n x) j x ≡ x
+  reads_same n x j = elim (cases_lt j n) [
+    | inl l ↦ get_or-replicate n j x x l
+    | inr l ↦ get_or_past (replicate n x) j x (let e = length-replicate n x in omega (arith, e))
+  ]
+
+  set_same : (n : ℕ) (x : X) (k : ℕ) → set (replicate n x) k x ≡ replicate n x
+  set_same zero x k = refl
+  set_same (suc n) x zero = refl
+  set_same (suc n) x (suc k) = ap (λ ys. x ∷ ys) (set_same n x k)
+
+  pub spread_same : (keys : List ℕ) (m : ℕ) (d : X) (n : ℕ) → spread keys (replicate m d) d n ≡ replicate n d
+  unfolding spread
+  spread_same [] m d n = refl
+  spread_same (k ∷ keys) zero d n = refl
+  spread_same (k ∷ keys) (suc m) d n = ap (λ ys. set ys k d) (spread_same keys m d n) ∙ set_same n d k
+
+  -- one value at the front of rows that are all the same
+  pub spread_front : (keys rest : List ℕ) (m : ℕ) (d x : X) (n : ℕ) → keys ≡ 0 ∷ rest → 1 ≤ m → spread keys (set (replicate m d) 0 x) d n ≡ set (replicate n d) 0 x
+  unfolding spread
+  spread_front keys rest zero d x n e l = absurd (omega arith)
+  spread_front keys rest (suc m) d x n e l = ap (λ ks. spread ks (set (replicate (suc m) d) 0 x) d n) e ∙ ap (λ ys. set ys 0 x) (spread_same rest m d n)
+
+  pub front_read : (n : ℕ) (d x : X) → 1 ≤ n → get_or (set (replicate n d) 0 x) 0 d ≡ x
+  front_read n d x l = get_or-set_same (replicate n d) 0 x d (let e = length-replicate n d in omega (arith, e, l))
+
+  pub behind_read : (n : ℕ) (d x : X) (j : ℕ) → j ≢ 0 → get_or (set (replicate n d) 0 x) j d ≡ d
+  behind_read n d x j nz = get_or-set_other (replicate n d) 0 j x d nz ∙ reads_same n d j
+
+-- the environment's arc is the one arc out of it
+arcs_none : (N : Network) (v k n : ℕ) → ((b : ℕ) → k ≤ b → b < k + n → N.tail b ≢ v) → arcs_from N v k n ≡ []
+arcs_none N v k zero h = refl
+arcs_none N v k (suc n) h = cond-false (eqb (N.tail k) v) (k ∷ arcs_from N v (suc k) n) (arcs_from N v (suc k) n) (ne_eqb (N.tail k) v (h k (omega arith) (omega arith)))
+    ∙ arcs_none N v (suc k) n (λ b l m. h b (omega (arith, l)) (omega (arith, m)))
+
+pub entry_alone : (g : Roads) (s : ℕ) → IsRoads g → outgoing (network g s) 0 ≡ 0 ∷ []
+entry_alone g s R = cond-true (eqb (tail_of g 0) 0) (0 ∷ arcs_from (network g s) 0 1 (length g.arcs)) (arcs_from (network g s) 0 1 (length g.arcs)) (eq-eqb (tail_of g 0) 0 (tail-entry g))
+    ∙ ap (λ xs. 0 ∷ xs) (arcs_none (network g s) 0 1 (length g.arcs) (λ b l m e.
+    (let t = tail-arc g b l in let low = (R.ends b (l, (omega (arith, m)))).0.0 in omega (arith, t, low, e))))
+
+module _ {V : Type 0} where
+  no_weight : (h : ℕ → Item V → ℕ) (k n : ℕ) → outs_weight h k (replicate n []) ≡ 0
+  no_weight h k zero = refl
+  no_weight h k (suc n) = let p = no_weight h (suc k) n in omega (arith, p)
+
+module _ {S : Type 0} (t : Setup S) (s : ℕ) (P : IsPlanned t s) where
+  pub place_below : (v : ℕ) → place_in t v < t.plan.shards
+  unfolding place_in
+  place_below zero = P.plan.below (t.source - 1) (let h = P.source in let l = h.0 in let m = h.1 in let c = P.covers in omega (arith, l, m, c))
+  place_below (suc v) = elim (cases_lt v (length t.plan.list)) [
+    | inl l ↦ P.plan.below v l
+    | inr l ↦ (let z = get_or_past t.plan.list v 0 l in let o = P.plan.some_shard in omega (arith, z, o))
+  ]
+
+  -- the source and the environment are at one place
+  pub place_source : place_in t ((network_in t).head 0) ≡ place_in t 0
+  place_source = ap (place_in t) (head-entry t.roads t.source) ∙ place_vertex t t.source P.source.0 ∙ sym (place_entry t P.source.0)
+
+  pub arcs_first : arcs_out (network_in t) (own_in t s) ≡ 0 ∷ arcs_out (network_in t) (placed (place_in t) s 1 t.roads.vertices)
+  unfolding arcs_out
+  arcs_first = ap (λ xs. xs ++ arcs_out (network_in t) (placed (place_in t) s 1 t.roads.vertices)) (entry_alone t.roads t.source P.roads)
+
+  entry_arc : IsArc (network_in t) 0
+  entry_arc = ((λ e. let h = head-entry t.roads t.source in let l = P.source.0 in omega (arith, e, h, l)), (λ n. absurd (n refl)))
+
+module _ {S V : Type 0} (A : Algebra V) (t : Setup S) (s : ℕ) (P : IsPlanned t s) where
+  -- what arc 0 is, and what the others are
+  entry_token : get_or (opened_part A t s).busy 0 false ≡ is_first t s
+  entry_token = front_read (suc (length t.roads.arcs)) false (is_first t s) (omega arith)
+
+  other_token : (b : ℕ) → b ≢ 0 → get_or (opened_part A t s).busy b false ≡ false
+  other_token b nz = behind_read (suc (length t.roads.arcs)) false (is_first t s) b nz
+
+  busy_alone : (v : ℕ) → busy_out (network_in t) v (state_in (opened_part A t s)) (suc (length t.roads.arcs)) ≡ one_if (eqb ((network_in t).tail 0) v && is_first t s)
+  busy_alone v =
+      let f : ℕ → ℕ = λ b. one_if (eqb ((network_in t).tail b) v && not (is_idle (token_if {V = V} (get_or (opened_part A t s).busy b false)))) in
+      let d = sum_at f (λ b. 0) 0 (suc (length t.roads.arcs)) (omega arith) (λ b nz. ap (λ z. one_if (eqb ((network_in t).tail b) v && not (is_idle (token_if {V = V} z)))) (other_token b nz) ∙ and_none (eqb ((network_in t).tail b) v)) in
+      let z = sum_zero (λ b. 0) (suc (length t.roads.arcs)) (λ k. refl) in
+      let e : f 0 ≡ one_if (eqb ((network_in t).tail 0) v && is_first t s) = ap (λ z. one_if (eqb ((network_in t).tail 0) v && not (is_idle (token_if {V = V} z)))) entry_token ∙ ap (λ z. one_if (eqb ((network_in t).tail 0) v && z)) (busy_is (is_first t s)) in
+      omega (arith, d, z, e)
+    where
+      and_none : (x : Bool) → one_if (x && false) ≡ 0
+      and_none true = refl
+      and_none false = refl
+
+      busy_is : (x : Bool) → not (is_idle (token_if {V = V} x)) ≡ x
+      busy_is true = refl
+      busy_is false = refl
+
+  opened_counted : (r : Rows V) → r.deficits ≡ set (replicate (length (own_in t s)) 0) 0 (one_if (is_first t s)) → IsCounted (opened_part A t s) r
+  opened_counted r e zero l =
+      ap (λ xs. get_or xs 0 0) e ∙ front_read (length (own_in t s)) 0 (one_if (is_first t s)) (omega arith)
+      ∙ sym (busy_alone 0 ∙ ap (λ z. one_if (z && is_first t s)) (eq-eqb ((network_in t).tail 0) 0 (tail-entry t.roads)) ∙ and_first (is_first t s))
+    where
+      and_first : (x : Bool) → one_if (true && x) ≡ one_if x
+      and_first x = refl
+  opened_counted r e (suc j) l =
+      ap (λ xs. get_or xs (suc j) 0) e ∙ behind_read (length (own_in t s)) 0 (one_if (is_first t s)) (suc j) (λ z. omega (arith, z))
+      ∙ sym (busy_alone (get_or (own_in t s) (suc j) 0) ∙ ap (λ z. one_if (z && is_first t s)) (ne_eqb ((network_in t).tail 0) (get_or (own_in t s) (suc j) 0) (λ z. own_apart t s 0 (suc j) (omega arith) l (sym (tail-entry t.roads) ∙ z))))
+
+  -- nothing but the first message weighs
+  pub opened_weight : (h : ℕ → Item V → ℕ) → part_weight h (opened_part A t s) ≡ total (h s) (first_items A (is_first t s))
+  opened_weight h = let z = no_weight h 0 t.plan.shards in omega (arith, z)
+
+  opened_sound : IsSound (network_in t) (place_in t) (opened_part A t s)
+  opened_sound = record {
+    once = λ b. (let w = opened_weight (λ _ j. is b (item_arc j)) in
+        let g : engages (network_in t) (place_in t) s (state_in (opened_part A t s)) b ≡ 0 = ap (λ z. one_if (eqb (place_in t ((network_in t).head b)) s && names z b)) (reads_same (suc t.roads.vertices) None ((network_in t).head b)) ∙ none (eqb (place_in t ((network_in t).head b)) s) in
+        let k = alone b (is_first t s) refl in omega (arith, w, g, k));
+    leads = λ v e m q. absurd (let z : None ≡ Some e = sym (reads_same (suc t.roads.vertices) None v) ∙ q in cc);
+    here = first_here (is_first t s) refl;
+    gone = λ k. subst (All (λ i. (place_in t (vertex_of (network_in t) i) ≡ k) × (place_in t (maker_of (network_in t) i) ≡ s) × IsArc (network_in t) (item_arc i))) (sym (reads_same t.plan.shards [] k)) tt;
+    wide = λ v. (let b = place_below t s P v in let l = length-replicate {A = List (Item V)} t.plan.shards [] in omega (arith, b, l));
+  }
+    where
+      none : (x : Bool) → one_if (x && false) ≡ 0
+      none true = refl
+      none false = refl
+
+      alone : (b : ℕ) (h : Bool) → h ≡ is_first t s → total (λ j. is b (item_arc j)) (first_items A h) + idles (network_in t) (place_in t) s (state_in (opened_part A t s)) b ≤ 1
+      alone b false e = let m = if_most (eqb (place_in t ((network_in t).tail b)) s && is_idle ((state_in (opened_part A t s)).token b)) in omega (arith, m)
+      alone b true e = elim (cases_eq b 0) [
+        | inl z ↦ (let i : idles (network_in t) (place_in t) s (state_in (opened_part A t s)) b ≡ 0 = ap (λ a. idles (network_in t) (place_in t) s (state_in (opened_part A t s)) a) z
+            ∙ ap (λ y. one_if (eqb (place_in t ((network_in t).tail 0)) s && is_idle (token_if {V = V} y))) (entry_token ∙ sym e) ∙ none (eqb (place_in t ((network_in t).tail 0)) s) in
+            let m = if_most (eqb b 0) in omega (arith, i, m))
+        | inr nz ↦ (let m = if_most (eqb (place_in t ((network_in t).tail b)) s && is_idle ((state_in (opened_part A t s)).token b)) in let q = ap one_if (ne_eqb b 0 nz) in omega (arith, m, q))
+      ]
+
+      first_here : (h : Bool) → h ≡ is_first t s → All (λ i. (place_in t (vertex_of (network_in t) i) ≡ s) × IsArc (network_in t) (item_arc i)) (first_items A h)
+      first_here false e = tt
+      first_here true e = ((place_source t s P ∙ eqb-true (place_in t 0) s (sym e), entry_arc t s P), tt)
+
+  -- the tables are the rows of this part
+  pub opened_seen : (r : Rows V) (offsets : List ℕ) (arcs : ℕ) (queue : List (Item V)) (outs : List (List (Item V))) (sent : ℕ) → AreStarts (network_in t) (own_in t s) offsets arcs → r ≡ idle_rows (own_in t s) offsets arcs (is_first t s) →
+      queue ≡ first_items A (is_first t s) → outs ≡ replicate t.plan.shards [] → sent ≡ one_if (is_first t s) → seen_as t s r queue outs sent 0 0 0 ≡ opened_part A t s
+  opened_seen r offsets arcs queue outs sent B e q o n = λ i. record {
+    setup = t;
+    shard = s;
+    labels = (ap (λ (u : Rows V). spread (own_in t s) u.labels None (suc t.roads.vertices)) e ∙ spread_same (own_in t s) (length (own_in t s)) None (suc t.roads.vertices)) i;
+    engagers = (ap (λ (u : Rows V). spread (own_in t s) u.engagers None (suc t.roads.vertices)) e ∙ spread_same (own_in t s) (length (own_in t s)) None (suc t.roads.vertices)) i;
+    busy = (ap (λ (u : Rows V). spread (arcs_out (network_in t) (own_in t s)) u.busy false (suc (length t.roads.arcs))) e
+        ∙ spread_front (arcs_out (network_in t) (own_in t s)) (arcs_out (network_in t) (placed (place_in t) s 1 t.roads.vertices)) arcs false (is_first t s) (suc (length t.roads.arcs)) (arcs_first t s P)
+        (let l = ap length (arcs_first t s P) in let c = B.count_is in omega (arith, l, c))) i;
+    told = (ap (λ (u : Rows V). spread (arcs_out (network_in t) (own_in t s)) u.told None (suc (length t.roads.arcs))) e ∙ spread_same (arcs_out (network_in t) (own_in t s)) arcs None (suc (length t.roads.arcs))) i;
+    queue = q i;
+    outs = o i;
+    sent = n i;
+    delivered = 0;
+    signalled = 0;
+    accepted = 0;
+  }
+
+  pub opened_desk : (r : Rows V) (offsets : List ℕ) (arcs : ℕ) (queue : List (Item V)) (outs : List (List (Item V))) (sent n : ℕ) (ns : List ℕ) → AreStarts (network_in t) (own_in t s) offsets arcs → r ≡ idle_rows (own_in t s) offsets arcs (is_first t s) →
+      queue ≡ first_items A (is_first t s) → outs ≡ replicate t.plan.shards [] → sent ≡ one_if (is_first t s) →
+      n ≡ queue_room (network_in t) (place_in t) s → length ns ≡ t.plan.shards → ((k : ℕ) → k ≢ s → k < t.plan.shards → get_or ns k 0 ≡ out_room (network_in t) (place_in t) s k) →
+      IsDesk (seen_as t s r queue outs sent 0 0 0) r n ns
+  opened_desk r offsets arcs queue outs sent n ns B e q o c room long caps =
+      let E = opened_seen r offsets arcs queue outs sent B e q o c in
+      subst (λ (u : PartData S V). IsDesk u r n ns) (sym E) (record {
+        planned = P;
+        sized = record {
+          own = ap (λ (u : Rows V). u.own) e;
+          offsets = ap (λ (u : Rows V). length u.offsets) e ∙ B.long;
+          starts = λ j l. ap (λ (u : Rows V). get_or u.offsets j 0) e ∙ B.starts j l;
+          labels = ap (λ (u : Rows V). length u.labels) e ∙ length-replicate _ _;
+          engagers = ap (λ (u : Rows V). length u.engagers) e ∙ length-replicate _ _;
+          deficits = ap (λ (u : Rows V). length u.deficits) e ∙ length-set (replicate (length (own_in t s)) 0) 0 (one_if (is_first t s)) ∙ length-replicate _ _;
+          busy = ap (λ (u : Rows V). length u.busy) e ∙ length-set (replicate arcs false) 0 (is_first t s) ∙ length-replicate _ _ ∙ B.count_is;
+          told = ap (λ (u : Rows V). length u.told) e ∙ length-replicate _ _ ∙ B.count_is;
+        };
+        seen = record {
+          labels = sym (ap (λ (u : PartData S V). u.labels) E);
+          engagers = sym (ap (λ (u : PartData S V). u.engagers) E);
+          busy = sym (ap (λ (u : PartData S V). u.busy) E);
+          told = sym (ap (λ (u : PartData S V). u.told) E);
+        };
+        counts = opened_counted r (ap (λ (u : Rows V). u.deficits) e);
+        sound = opened_sound;
+        roomy = record {
+          queue = room;
+          boxes = length-replicate {A = List (Item V)} t.plan.shards [];
+          rings = long;
+          outs = caps;
+        };
+        tallied = ((let m = if_most (is_first t s) in omega (arith, m)), omega arith, omega arith, omega arith);
+      })
+
+  -- nor does anything but it in the opening
+  pub opening_weight : (h : ℕ → Item V → ℕ) → flying (network_in t) (place_in t) (opening A (network_in t)) h ≡ h (place_in t 0) (MessageOn 0 A.origin)
+  opening_weight h =
+      let f : ℕ → ℕ = λ b. total (at_place (network_in t) (place_in t) h) (item_of b (put (λ _. Idle) 0 (Message A.origin) b)) in
+      let d = sum_at f (λ b. 0) 0 (suc (length t.roads.arcs)) (omega arith) (λ b nz. ap (λ k. total (at_place (network_in t) (place_in t) h) (item_of b k)) (put-other (λ _. Idle) 0 (Message A.origin) b nz)) in
+      let z = sum_zero (λ b. 0) (suc (length t.roads.arcs)) (λ k. refl) in
+      let o : f 0 ≡ h (place_in t ((network_in t).head 0)) (MessageOn 0 A.origin) + 0 = ap (λ k. total (at_place (network_in t) (place_in t) h) (item_of 0 k)) (put-at (λ _. Idle) 0 (Message A.origin) 0 refl) in
+      let p = ap (λ y. h y (MessageOn 0 A.origin)) (place_source t s P) in omega (arith, d, z, o, p)
+
+  -- and it holds its share of the opening
+  pub opened_holds : HoldsShare A (network_in t) (place_in t) (opening A (network_in t)) (opened_part A t s)
+  opened_holds = record {
+    tables = record {
+      agree = record {
+        label = λ v m. reads_same (suc t.roads.vertices) None v;
+        engager = λ v m. reads_same (suc t.roads.vertices) None v;
+        told = λ b m. reads_same (suc (length t.roads.arcs)) None b;
+        idle = λ b m. elim (cases_eq b 0) [
+          | inl z ↦ ap (λ y. is_idle (token_if {V = V} (get_or (opened_part A t s).busy y false))) z
+              ∙ ap (λ y. is_idle (token_if {V = V} y)) (entry_token ∙ first_of b z m)
+              ∙ sym (ap is_idle (put-at (λ _. Idle) 0 (Message A.origin) b z))
+          | inr nz ↦ ap (λ y. is_idle (token_if {V = V} y)) (other_token b nz) ∙ sym (ap is_idle (put-other (λ _. Idle) 0 (Message A.origin) b nz))
+        ];
+      };
+      wide = λ v. (let b = place_below t s P v in let l = length-replicate {A = List (Item V)} t.plan.shards [] in omega (arith, b, l));
+    };
+    weighs = λ h. (let w = opened_weight h in let f = opening_weight h in let k = first_weight h (is_first t s) refl in omega (arith, w, f, k));
+  }
+    where
+      first_of : (b : ℕ) → b ≡ 0 → eqb (place_in t ((network_in t).tail b)) s ≡ true → is_first t s ≡ true
+      first_of b z m = ap (λ y. eqb (place_in t y) s) (sym (ap (network_in t).tail z ∙ tail-entry t.roads)) ∙ m
+
+      first_weight : (h : ℕ → Item V → ℕ) (f : Bool) → f ≡ is_first t s → total (h s) (first_items A f) ≤ h (place_in t 0) (MessageOn 0 A.origin)
+      first_weight h false e = omega arith
+      first_weight h true e = let p = ap (λ y. h y (MessageOn 0 A.origin)) (eqb-true (place_in t 0) s (sym e)) in omega (arith, p)

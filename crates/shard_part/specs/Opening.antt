@@ -1,0 +1,96 @@
+-- What a part is when it is opened.
+use Rattle.std.specs.Prelude.{◌≡◌, ℕ, zero, suc, ◌+◌, ◌<◌, Bool, true, false, cond, eqb, None, List, [], ◌∷◌, length, set, get_or, replicate, take}
+use Rattle.scholten_core.specs.declared.item.Item.{Item}
+use Rattle.scholten_core.specs.declared.item.Item.TheVariants.{Message as MessageOn}
+use Rattle.path_algebra.specs.Algebra.{Algebra}
+use Rattle.road_graph.specs.Roads.{Roads}
+use Rattle.scholten_core.specs.Network.{Network}
+use Rattle.scholten_core.specs.Sums.{one_if}
+use Rattle.shard_part.specs.Plans.{PlanData}
+use Rattle.shard_part.specs.PartState.{Setup, PartData, place_in, network_in, arcs_out, outgoing, total, is, out_room}
+use Rattle.shard_part.specs.Desk.{Rows}
+
+-- the source's part is the environment's too
+abbrev pub is_first : {S : Type 0} → Setup S → ℕ → Bool
+is_first t s = eqb (place_in t 0) s
+
+-- the message with which a question begins, at the source's part
+abbrev pub first_items : {V : Type 0} → Algebra V → Bool → List (Item V)
+first_items A true = MessageOn 0 A.origin ∷ []
+first_items A false = []
+
+-- no label, no engager, nothing told, every arc idle but arc 0, and nothing on the way but its message
+abbrev pub opened_part : {S V : Type 0} → Algebra V → Setup S → ℕ → PartData S V
+opened_part A t s = record {
+  setup = t;
+  shard = s;
+  labels = replicate (suc t.roads.vertices) None;
+  engagers = replicate (suc t.roads.vertices) None;
+  busy = set (replicate (suc (length t.roads.arcs)) false) 0 (is_first t s);
+  told = replicate (suc (length t.roads.arcs)) None;
+  queue = first_items A (is_first t s);
+  outs = replicate t.plan.shards [];
+  sent = one_if (is_first t s);
+  delivered = 0;
+  signalled = 0;
+  accepted = 0;
+}
+
+-- the parts of the shards k, k + 1, .., k + n - 1 as they are opened
+abbrev pub opened_parts : {S V : Type 0} → Algebra V → Setup S → ℕ → ℕ → List (PartData S V)
+opened_parts A t k zero = []
+opened_parts A t k (suc n) = opened_part A t k ∷ opened_parts A t (suc k) n
+
+-- a shard of a question, whatever its algebra
+pub record SiteData : Type 0 where
+  pub roads : Roads
+  pub plan : PlanData
+  pub source : ℕ
+  pub shard : ℕ
+
+abbrev pub question_of : SiteData → Setup (Unit {0})
+question_of w = record { algebra = tt; roads = w.roads; source = w.source; plan = w.plan }
+
+-- where the arcs out of each vertex begin in the list of all of them, and how many these are
+pub record AreStarts (N : Network) (own offsets : List ℕ) (count : ℕ) : Type 0 where
+  pub long : length offsets ≡ length own
+  pub starts : (j : ℕ) → j < length own → get_or offsets j 0 ≡ length (arcs_out N (take j own))
+  pub count_is : count ≡ length (arcs_out N own)
+
+-- the roads turned round: the arcs out of a vertex are those that enter it
+abbrev pub turned : Network → Network
+turned N = record { arcs = N.arcs; source = N.source; tail = λ b. cond (eqb b 0) 0 (N.head b); head = N.tail; weight = N.weight }
+
+-- the arcs of a list that lead to the shard t
+abbrev pub leading_to : Network → (ℕ → ℕ) → ℕ → List ℕ → ℕ
+leading_to N place t = total (λ b. is t (place (N.head b)))
+
+-- those that come from the shard t, none where it is s
+abbrev pub coming_from : Network → (ℕ → ℕ) → ℕ → ℕ → List ℕ → ℕ
+coming_from N place s t = total (λ b. cond (eqb (place (N.tail b)) s) 0 (is t (place (N.tail b))))
+
+-- for each shard so many arcs more as lead from v to it
+abbrev pub CountsOut : SiteData → ℕ → List ℕ → List ℕ → Type 0
+CountsOut w v old new = (length new ≡ length old)
+    × ((t : ℕ) → t < w.plan.shards → get_or new t 0 ≡ get_or old t 0 + leading_to (network_in (question_of w)) (place_in (question_of w)) t (outgoing (network_in (question_of w)) v))
+
+-- for each other shard so many more as come from it to v
+abbrev pub CountsInto : SiteData → ℕ → List ℕ → List ℕ → Type 0
+CountsInto w v old new = (length new ≡ length old)
+    × ((t : ℕ) → t < w.plan.shards → get_or new t 0 ≡ get_or old t 0 + coming_from (network_in (question_of w)) (place_in (question_of w)) w.shard t (outgoing (turned (network_in (question_of w))) v))
+
+-- for each shard so many as there are arcs between it and the own one; for the own one, as lie within it
+abbrev pub CountsAll : SiteData → List ℕ → Type 0
+CountsAll w rooms = (length rooms ≡ w.plan.shards) × ((t : ℕ) → t < w.plan.shards → get_or rooms t 0 ≡ out_room (network_in (question_of w)) (place_in (question_of w)) w.shard t)
+
+-- the rows of tables in which nothing has happened but that arc 0 may be busy
+abbrev pub idle_rows : {V : Type 0} → List ℕ → List ℕ → ℕ → Bool → Rows V
+idle_rows own offsets arcs entry = record {
+  own = own;
+  offsets = offsets;
+  labels = replicate (length own) None;
+  engagers = replicate (length own) None;
+  deficits = set (replicate (length own) 0) 0 (one_if entry);
+  busy = set (replicate arcs false) 0 entry;
+  told = replicate arcs None;
+}

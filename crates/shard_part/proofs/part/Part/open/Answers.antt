@@ -1,0 +1,5 @@
+use Rattle.shard_part.proofs.Told.{opened_told}
+use Rattle.shard_part.proofs.part.Part.open.Goals as goal
+
+pub invariant_of-result : goal.invariant_of-result
+invariant_of-result g c = opened_told (g.A.PathAlgebra.meaning c.args.algebra) _ _ _ c.in_ok-desk.ensures.part

@@ -19,7 +19,7 @@ abbrev pub first_items : {V : Type 0} → Algebra V → Bool → List (Item V)
 first_items A true = MessageOn 0 A.origin ∷ []
 first_items A false = []
 
--- no label, no engager, nothing told, every arc idle but arc 0, and nothing on the way but its message
+-- a part as it is opened: no label, no engager, nothing told, every arc idle but arc 0, and nothing on the way but its message
 abbrev pub opened_part : {S V : Type 0} → Algebra V → Setup S → ℕ → PartData S V
 opened_part A t s = record {
   setup = t;
@@ -48,6 +48,7 @@ pub record SiteData : Type 0 where
   pub source : ℕ
   pub shard : ℕ
 
+-- the question that the shard is of
 abbrev pub question_of : SiteData → Setup (Unit {0})
 question_of w = record { algebra = tt; roads = w.roads; source = w.source; plan = w.plan }
 

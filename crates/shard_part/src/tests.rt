@@ -2,7 +2,7 @@
 
 ghost use Rattle.std.specs.Prelude.{◌≡◌, ◌≤◌};
 
-use crate::{Batch, Desk, Plan, Shard, Tally};
+use crate::{Batch, Desk, Plan, PlanFault, Shard, Tally};
 use path_algebra::{PathAlgebra, Shortest, Within};
 use road_graph::{ArcNo, Graph, RoadArc, Vertex};
 use std::process::Abort;
@@ -143,6 +143,26 @@ fn blocks_of_a_plan(rt: HostRuntime) {
     shards_are(&rt, &plan, &[0, 32]);
     let plan = Plan::blocks(rt.alloc(), 0, 4).expect(&rt, "memory");
     assert!(rt; plan.shards() == 4 && plan.vertices() == 0);
+}
+
+#[test]
+fn refusals_hand_back(rt: HostRuntime) {
+    let mut list = Vec::new(rt.alloc());
+    for shard in 0..3 {
+        list.push(shard).expect(&rt, "memory");
+    }
+    assert!(rt; list.len() <= 1000);
+    let (fault, mut list) = match Plan::table(2, list) {
+        Ok(_) => panic!(rt; "taken"),
+        Err(refused) => refused,
+    };
+    assert!(rt; fault == PlanFault::BadShard(Vertex(3)) && list.len() == 3);
+    assert!(rt; list.pop() == Some(2));
+    assert!(rt; list.len() <= 1000);
+    match Plan::table(2, list) {
+        Ok(plan) => shards_are(&rt, &plan, &[0, 1]),
+        Err(_) => panic!(rt; "refused"),
+    }
 }
 
 #[test]

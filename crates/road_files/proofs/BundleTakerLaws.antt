@@ -1,5 +1,5 @@
 -- A bundle's line, as its taker takes it.
-use Rattle.std.proofs.Common.{◌≡◌, ℕ, ◌<◌, List, [], ◌∷◌, length, take, map, Bool, Option, None, Ok, Err, refl, sym, ap, ◌∙◌, arith, lit<, codes, subst}
+use Rattle.std.proofs.Common.{◌≡◌, ℕ, ◌<◌, List, [], ◌∷◌, length, take, map, Bool, false, Option, None, Ok, Err, refl, sym, ap, ◌∙◌, arith, lit<, codes, subst}
 use Rattle.std.proofs.lemmas.Bool.{lt-ltb}
 use Rattle.std.specs.Option.{IfSome}
 use Rattle.road_graph.specs.Roads.{Roads}
@@ -7,6 +7,7 @@ use Rattle.road_text.specs.declared.faults.ReadFault.{ReadFault}
 use Rattle.road_text.specs.declared.slots.Slot.{Slot}
 use Rattle.road_text.specs.Lines.{fields}
 use Rattle.road_text.specs.Rules.{◌>>=◌, reading}
+use Rattle.road_text.specs.ShortLines.{HasShortFields}
 use Rattle.road_text.specs.Slots.{word_in}
 use Rattle.road_text.specs.Takes.{ShowsLine}
 use Rattle.road_text.specs.Words.{Word, word_of}
@@ -16,7 +17,8 @@ use Rattle.road_files.specs.declared.bundle_part.BundlePart.{BundlePart}
 use Rattle.road_files.specs.declared.bundle_part.BundlePart.TheVariants as parts
 use Rattle.road_files.specs.declared.bundle_lines.BundleTaker.{BundleTaker}
 use Rattle.road_files.specs.Asked.{AreQuestionsOf}
-use Rattle.road_files.specs.GraphFiles.{RoadsSoFar}
+use Rattle.road_files.specs.declared.graph_lines.GraphTaker.{GraphTaker}
+use Rattle.road_files.specs.GraphFiles.{RoadsSoFar, gr_line}
 use Rattle.road_files.specs.GraphTakes.{roads_so_far, taken_of}
 use Rattle.road_files.specs.QuestionFiles.{question_line, question_line_of}
 use Rattle.road_files.specs.QuestionTakes.{sources_given, begun_of}
@@ -51,6 +53,18 @@ kept_rule (parts.Questions p) slots l shown h =
     subst (λ n. question_line n None (begun_of p.questions) (map word_of (fields l)) ≡ question_line_of n None (begun_of p.questions) (map word_in slots) list.is_list list.count (sources_given list)) p.same
     (list_rule list None (begun_of p.questions) slots l shown h) in
     ap (λ r. r >>= λ q. Ok (InQuestions (roads_so_far p.roads) q)) same
+
+-- a line of the letter `a` and three numbers does not end the graph part
+begins_none : (letter : ℕ) (one two three : List ℕ) → letter ≡ 97 → begins_questions (map word_of ((letter ∷ []) ∷ one ∷ two ∷ three ∷ [])) ≡ false
+unfolding begins_questions
+begins_none letter one two three is = rw is refl
+
+-- the rule of such a line in the graph part
+pub short_rule : (p : BundlePart) (g new : GraphTaker) (l : List ℕ) (letter tail head weight : ℕ) → bundle_so_far p ≡ InGraph (taken_of g) → letter ≡ 97 → HasShortFields l letter tail head weight
+    → gr_line (taken_of g) (map word_of (fields l)) ≡ Ok (taken_of new) → bundle_line (bundle_so_far p) (map word_of (fields l)) ≡ Ok (InGraph (taken_of new))
+short_rule p g new l letter tail head weight was a h taken =
+    let none : begins_questions (map word_of (fields l)) ≡ false = ap (λ fs. begins_questions (map word_of fs)) h.is ∙ begins_none letter h.one h.two h.three a in
+    ap (λ b. bundle_line b (map word_of (fields l))) was ∙ rw (none, taken) refl
 
 -- what a new taker gives is the text's by the rules
 module _ (s : BundleTaker) (start : bundle_so_far s.part ≡ InGraph None) where

@@ -141,8 +141,11 @@ impl TakesLines for BundleTaker {
         self.take(slots)
     }
 
-    fn short_line(&mut self, _letter: u8, _numbers: (u64, u64, u64)) -> bool {
-        false
+    fn short_line(&mut self, letter: u8, numbers: (u64, u64, u64)) -> bool {
+        match &mut self.part {
+            BundlePart::Graph(graph) => graph.short(letter, numbers),
+            BundlePart::Questions(_) => false,
+        }
     }
 
     fn finish(self) -> Result<(Graph, Questions), LineFault> {

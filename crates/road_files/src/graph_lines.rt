@@ -1,8 +1,11 @@
 //! Takes the lines of a graph file.
-ghost use Rattle.std.specs.Prelude.{◌≡◌, ◌<◌, ◌≤◌, ◌++◌, ◌∷◌, [], length, map, refl, OnOk, IfOk, IfErr, MatchResult, option_map, true, false};
+ghost use Rattle.std.specs.Prelude.{◌≡◌, ◌<◌, ◌≤◌, ◌++◌, ◌∷◌, [], length, map, refl, OnOk, IfOk, IfErr, MatchResult, option_map, true, false, ℕ, List, Ok};
 ghost use Rattle.road_graph.specs.Roads.{JoinsVertices};
 ghost use Rattle.road_text.specs.Slots.{word_in};
+ghost use Rattle.road_text.specs.Lines.{fields};
+ghost use Rattle.road_text.specs.ShortLines.{HasShortFields};
 ghost use Rattle.road_text.specs.Takes.{Leaves, Breaks};
+ghost use Rattle.road_text.specs.Words.{word_of};
 ghost use Rattle.road_files.specs.GraphFiles.{one_arc, gr_problem, gr_arc, gr_line, gr_whole, graph_read};
 ghost use Rattle.road_files.specs.GraphTakes.{roads_so_far, FitsArc};
 
@@ -154,6 +157,21 @@ impl GraphTaker {
         }
     }
 
+    /// Takes an arc line in one go, where it breaks no rule and there is room for the arc: else nothing changes.
+    pub fn short(&mut self, letter: u8, numbers: (u64, u64, u64)) -> bool
+        ensures left { result ≡ false → self.new ≡ self.old }
+        ensures letter { result ≡ true → letter ≡ 97 }
+        ensures taken { result ≡ true → (l : List ℕ) → HasShortFields l letter numbers.0 numbers.1 numbers.2 → gr_line (taken_of self.old) (map word_of (fields l)) ≡ Ok (taken_of self.new) }
+    {
+        if letter != b'a' {
+            return false;
+        }
+        match &mut self.taken {
+            None => false,
+            Some(taken) => taken.short_arc(numbers),
+        }
+    }
+
     /// Takes a line by its first six fields.
     #[tactic(auto, unfolding(crate::specs::GraphFiles::gr_line))]
     pub fn take(&mut self, slots: &[Slot]) -> Result<(), LineFault>
@@ -188,13 +206,7 @@ impl TakesLines for GraphTaker {
     }
 
     fn short_line(&mut self, letter: u8, numbers: (u64, u64, u64)) -> bool {
-        if letter != b'a' {
-            return false;
-        }
-        match &mut self.taken {
-            None => false,
-            Some(taken) => taken.short_arc(numbers),
-        }
+        self.short(letter, numbers)
     }
 
     fn finish(self) -> Result<Graph, LineFault> {

@@ -13,11 +13,9 @@ mod tables;
 mod tally;
 
 pub use batch::Batch;
-pub use desk::Desk;
 pub use part::Part;
 pub use plan::{Plan, PlanFault};
 pub use shard::Shard;
-pub use tables::Tables;
 pub use tally::Tally;
 
 #[cfg(test)]

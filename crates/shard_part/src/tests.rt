@@ -2,7 +2,8 @@
 
 ghost use Rattle.std.specs.Prelude.{◌≡◌, ◌≤◌};
 
-use crate::{Batch, Desk, Plan, PlanFault, Shard, Tally};
+use crate::desk::Desk;
+use crate::{Batch, Part, Plan, PlanFault, Shard, Tally};
 use path_algebra::{PathAlgebra, Shortest, Within};
 use road_graph::{ArcNo, Graph, RoadArc, Vertex};
 use std::process::Abort;
@@ -62,46 +63,44 @@ fn open<'g, A: PathAlgebra>(
     graph: &'g Graph,
     plan: &'g Plan,
     shard: u8,
-) -> Desk<'g, A> {
+) -> Part<'g, A> {
     assert!(rt; graph.has(Vertex(1)) && plan.vertices() == graph.vertices());
     assert!(rt; shard < plan.shards());
-    Desk::open(rt.alloc(), algebra, graph, plan, Shard(shard), Vertex(1)).expect(rt, "memory")
+    Part::open(rt.alloc(), algebra, graph, plan, Shard(shard), Vertex(1)).expect(rt, "memory")
 }
 
-fn label<A: PathAlgebra>(rt: &impl Abort, part: &Desk<'_, A>, v: u32) -> Option<A::Value> {
+/// How many entries the tables and rings of a shard with source 1 have room for.
+fn reserved_by(rt: &(impl Abort + AllocGlobal), graph: &Graph, plan: &Plan, shard: u8) -> usize {
+    assert!(rt; graph.has(Vertex(1)) && plan.vertices() == graph.vertices());
+    assert!(rt; shard < plan.shards());
+    let desk = Desk::open(rt.alloc(), Shortest, graph, plan, Shard(shard), Vertex(1));
+    desk.expect(rt, "memory").reserved()
+}
+
+fn label<A: PathAlgebra>(rt: &impl Abort, part: &Part<'_, A>, v: u32) -> Option<A::Value> {
     assert!(rt; part.holds(Vertex(v)));
-    part.label_of(Vertex(v))
+    part.label(Vertex(v))
 }
 
-fn engager<A: PathAlgebra>(rt: &impl Abort, part: &Desk<'_, A>, v: u32) -> Option<ArcNo> {
+fn engager<A: PathAlgebra>(rt: &impl Abort, part: &Part<'_, A>, v: u32) -> Option<ArcNo> {
     assert!(rt; part.holds(Vertex(v)));
-    part.engager_of(Vertex(v))
+    part.engager(Vertex(v))
 }
 
-fn deficit<A: PathAlgebra>(rt: &impl Abort, part: &Desk<'_, A>, v: u32) -> u32 {
+fn deficit<A: PathAlgebra>(rt: &impl Abort, part: &Part<'_, A>, v: u32) -> u32 {
     assert!(rt; part.holds(Vertex(v)));
-    part.deficit_of(Vertex(v))
+    part.deficit(Vertex(v))
 }
 
-fn outgoing<A: PathAlgebra>(rt: &impl Abort, part: &Desk<'_, A>, to: u8) -> usize {
+fn outgoing<A: PathAlgebra>(rt: &impl Abort, part: &Part<'_, A>, to: u8) -> usize {
     assert!(rt; part.is_other(Shard(to)));
     part.outgoing(Shard(to))
-}
-
-/// Handles items until so many were handled or none is left.
-fn handle<A: PathAlgebra>(part: &mut Desk<'_, A>, budget: u32) -> u32 {
-    for handled in 0..budget {
-        if !part.handle_front() {
-            return handled;
-        }
-    }
-    budget
 }
 
 /// What a part has sent to another shard.
 fn taken_out<A: PathAlgebra>(
     rt: &(impl Abort + AllocGlobal),
-    from: &mut Desk<'_, A>,
+    from: &mut Part<'_, A>,
     to: u8,
 ) -> Batch<A::Value> {
     assert!(rt; from.is_other(Shard(to)));
@@ -111,7 +110,7 @@ fn taken_out<A: PathAlgebra>(
 }
 
 /// A batch comes to the part that it leads to.
-fn put_in<A: PathAlgebra>(rt: &impl Abort, part: &mut Desk<'_, A>, mut batch: Batch<A::Value>) {
+fn put_in<A: PathAlgebra>(rt: &impl Abort, part: &mut Part<'_, A>, mut batch: Batch<A::Value>) {
     assert!(rt; part.fits(&batch) && batch.len() <= part.room());
     let capacity = batch.capacity();
     part.receive(&mut batch);
@@ -119,7 +118,7 @@ fn put_in<A: PathAlgebra>(rt: &impl Abort, part: &mut Desk<'_, A>, mut batch: Ba
 }
 
 /// The four counts of a tally that is not full.
-fn counts_are<A: PathAlgebra>(rt: &impl Abort, part: &Desk<'_, A>, wanted: [u64; 4]) {
+fn counts_are<A: PathAlgebra>(rt: &impl Abort, part: &Part<'_, A>, wanted: [u64; 4]) {
     let tally = part.tally();
     assert!(rt; !tally.full);
     assert!(rt; tally.sent == wanted[0] && tally.delivered == wanted[1]);
@@ -200,7 +199,7 @@ fn two_parts_by_hand(rt: HostRuntime) {
     assert!(rt; first.room() == 1 && second.room() == 1);
     assert!(rt; !first.ended() && !second.ended());
     assert!(rt; first.holds(Vertex(1)) && !first.holds(Vertex(2)) && !first.holds(Vertex(3)));
-    assert!(rt; handle(&mut first, 1) == 1);
+    assert!(rt; first.handle(1) == 1);
     assert!(rt; label(&rt, &first, 1) == Some(0));
     assert!(rt; engager(&rt, &first, 1) == Some(ArcNo(0)));
     assert!(rt; deficit(&rt, &first, 1) == 1);
@@ -211,7 +210,7 @@ fn two_parts_by_hand(rt: HostRuntime) {
     assert!(rt; outgoing(&rt, &first, 1) == 0);
     assert!(rt; second.fits(&batch) && !first.fits(&batch));
     put_in(&rt, &mut second, batch);
-    assert!(rt; handle(&mut second, 1) == 1);
+    assert!(rt; second.handle(1) == 1);
     assert!(rt; label(&rt, &second, 2) == Some(7));
     assert!(rt; engager(&rt, &second, 2).is_none());
     assert!(rt; deficit(&rt, &second, 2) == 0);
@@ -219,8 +218,25 @@ fn two_parts_by_hand(rt: HostRuntime) {
     let batch = taken_out(&rt, &mut second, 0);
     assert!(rt; !second.fits(&batch));
     put_in(&rt, &mut first, batch);
-    assert!(rt; handle(&mut first, 5) == 2);
+    assert!(rt; first.handle(5) == 2);
     assert!(rt; first.ended() && !second.ended());
+}
+
+#[test]
+fn tallies_of_two_parts(rt: HostRuntime) {
+    let graph = graph_of(&rt, 2, &[(1, 2, 7)]);
+    let plan = Plan::blocks(rt.alloc(), 2, 2).expect(&rt, "memory");
+    let mut first = open(&rt, Shortest, &graph, &plan, 0);
+    let mut second = open(&rt, Shortest, &graph, &plan, 1);
+    counts_are(&rt, &first, [1, 0, 0, 0]);
+    counts_are(&rt, &second, [0, 0, 0, 0]);
+    assert!(rt; first.handle(9) == 1);
+    let batch = taken_out(&rt, &mut first, 1);
+    put_in(&rt, &mut second, batch);
+    assert!(rt; second.handle(9) == 1);
+    let batch = taken_out(&rt, &mut second, 0);
+    put_in(&rt, &mut first, batch);
+    assert!(rt; first.handle(9) == 2);
     counts_are(&rt, &first, [2, 1, 1, 2]);
     counts_are(&rt, &second, [0, 1, 1, 0]);
 }
@@ -231,7 +247,7 @@ fn limit_zero_in_parts(rt: HostRuntime) {
     let plan = Plan::blocks(rt.alloc(), 5, 3).expect(&rt, "memory");
     let algebra = Within::new(0).expect(&rt, "a small limit");
     let mut first = open(&rt, algebra, &graph, &plan, 0);
-    assert!(rt; handle(&mut first, 9) == 2);
+    assert!(rt; first.handle(9) == 2);
     assert!(rt; first.ended());
     assert!(rt; label(&rt, &first, 1) == Some(0) && label(&rt, &first, 2).is_none());
     assert!(rt; outgoing(&rt, &first, 1) == 0 && outgoing(&rt, &first, 2) == 0);
@@ -242,12 +258,11 @@ fn limit_zero_in_parts(rt: HostRuntime) {
 fn parts_reserve_for_their_own(rt: HostRuntime) {
     let graph = chain_of(&rt, 100_000);
     let whole_plan = Plan::blocks(rt.alloc(), 100_000, 1).expect(&rt, "memory");
-    let whole = open(&rt, Shortest, &graph, &whole_plan, 0).reserved();
+    let whole = reserved_by(&rt, &graph, &whole_plan, 0);
     let plan = Plan::blocks(rt.alloc(), 100_000, 64).expect(&rt, "memory");
     let mut parts: usize = 0;
     for shard in 0..64 {
-        let part = open(&rt, Shortest, &graph, &plan, shard);
-        parts = parts.saturating_add(part.reserved());
+        parts = parts.saturating_add(reserved_by(&rt, &graph, &plan, shard));
     }
     assert!(rt;
         whole > 100_000 && parts / 2 <= whole,

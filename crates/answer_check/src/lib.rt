@@ -5,6 +5,7 @@
 
 mod answers;
 mod checking;
+mod laws;
 mod lines;
 mod numbers;
 mod pairs;
@@ -15,6 +16,7 @@ mod verdict;
 mod vertices;
 
 pub use checking::check;
+pub use laws::right_lines_are_certified;
 pub use verdict::{Reason, Verdict};
 
 #[cfg(test)]

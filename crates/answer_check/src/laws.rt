@@ -1,0 +1,17 @@
+//! Theorems over answer lists, each the contract of a function that computes nothing.
+
+ghost use Rattle.std.specs.Prelude.{◌≡◌, ℕ, ◌↔◌, List, All, Option};
+ghost use Rattle.road_graph.specs.Roads.{Roads, IsRoads, HasVertex};
+ghost use Rattle.answer_text.specs.declared.answers.Reached.{Reached};
+ghost use Rattle.answer_text.specs.IsAnswer.{AreLines};
+ghost use Rattle.answer_check.specs.Certificates.{AreCertified};
+
+use path_algebra::{PathAlgebra, laws_hold};
+
+/// Lines are the right answer exactly where each is certified by itself and the lines of the vertices that an arc leads from.
+pub fn right_lines_are_certified<A: PathAlgebra>(algebra: A)
+    ensures { (g : Roads) → IsRoads g → (sources : List ℕ) → All (HasVertex g) sources → (lines : List (Option Reached)) →
+        AreLines (A.meaning algebra) g sources lines ↔ AreCertified (A.meaning algebra) g sources lines }
+{
+    laws_hold(algebra);
+}

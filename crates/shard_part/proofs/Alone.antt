@@ -1,6 +1,6 @@
 -- What a part knows by itself is kept by every item that it takes, whatever the others hold.
-use Rattle.std.proofs.Common.{◌≡◌, ◌≢◌, ℕ, zero, suc, ◌+◌, ◌<◌, ◌≤◌, Bool, true, false, cond, not, ◌&&◌, ◌||◌, eqb, Option, Some, None, List, [], ◌∷◌, ◌++◌, length, ◌⊎◌, refl, sym, ap, ◌∙◌, subst, inl, inr, arith, eqb-true, eq-eqb, ne_eqb}
-use Rattle.std.proofs.lemmas.Bool.{cases_eq, cases_lt, cases_Bool, cond-true, cond-false, and_from, and_left, and_right}
+use Rattle.std.proofs.Common.{◌≡◌, ◌≢◌, ℕ, zero, suc, ◌+◌, ◌≤◌, Bool, true, false, ◌&&◌, eqb, Option, Some, None, List, [], ◌∷◌, length, ◌⊎◌, refl, sym, ap, ◌∙◌, inl, inr, arith, eq-eqb, ne_eqb}
+use Rattle.std.proofs.lemmas.Bool.{cases_eq, cond-true, cond-false, and_from}
 use Rattle.scholten_core.specs.declared.token.Token.{Token}
 use Rattle.scholten_core.specs.declared.token.Token.TheVariants.{Idle, Message, Held, Signal}
 use Rattle.scholten_core.specs.declared.item.Item.{Item}
@@ -8,12 +8,12 @@ use Rattle.scholten_core.specs.declared.item.Item.TheVariants.{Message as Messag
 use Rattle.path_algebra.specs.Algebra.{Algebra}
 use Rattle.path_algebra.specs.Algebra.{IsLawful as Lawful}
 use Rattle.scholten_core.specs.Network.{Network, WellFormed}
-use Rattle.scholten_core.specs.Diffusion.{CoreState, put, is_idle, is_due, pump, out_idle, freed, engaged_by, answer_to, sent, extend_label, better_of, Listed}
-use Rattle.scholten_core.specs.Sums.{sum_below, one_if}
+use Rattle.scholten_core.specs.Diffusion.{CoreState, put, is_idle, is_due, pump, out_idle, freed, engaged_by, answer_to, sent, extend_label}
+use Rattle.scholten_core.specs.Sums.{one_if}
 use Rattle.scholten_core.specs.Items.{item_arc, at, item_of, pump_made, rest_made, settle_made, IsOutList}
-use Rattle.shard_part.specs.PartState.{total, names, engages, idles, counted, is, arrive_here, rest_here, settle_here, settle_tail_here, taken, made, back_made, outgoing, vertex_of}
-use Rattle.scholten_core.proofs.Basics.{put_tells, put-at, put-same, put-other, due_tells}
-use Rattle.scholten_core.proofs.Items.{due_item, pump_made_none, pump_made_at}
+use Rattle.shard_part.specs.PartState.{names, engages, idles, counted, is, arrive_here, rest_here, settle_here, settle_tail_here, taken, made, back_made, outgoing, vertex_of}
+use Rattle.scholten_core.proofs.Basics.{put_tells, put-same, due_tells}
+use Rattle.scholten_core.proofs.Items.{pump_made_none, pump_made_at}
 use Rattle.shard_part.proofs.Weights.{total_append}
 use Rattle.shard_part.proofs.Showing.{is_self}
 use Rattle.shard_part.proofs.Flying.{outgoing_is}

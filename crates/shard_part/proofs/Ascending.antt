@@ -1,10 +1,10 @@
 -- An ascending list of just the arcs out of v is the one list.
-use Rattle.std.proofs.Common.{◌≡◌, ◌≢◌, ℕ, zero, suc, ◌+◌, ◌<◌, ◌≤◌, Bool, true, false, cond, eqb, List, [], ◌∷◌, ◌⊎◌, refl, sym, ap, ◌∙◌, subst, inl, inr, arith, eqb-true, eq-eqb, ne_eqb}
+use Rattle.std.proofs.Common.{◌≡◌, ◌≢◌, ℕ, zero, suc, ◌+◌, ◌<◌, ◌≤◌, eqb, List, [], ◌∷◌, refl, sym, ◌∙◌, subst, inl, inr, arith, eq-eqb, ne_eqb}
 use Rattle.std.proofs.lemmas.Bool.{cases_eq, cond-true, cond-false}
 use Rattle.path_algebra.specs.Algebra.{Algebra}
-use Rattle.scholten_core.specs.Network.{Network, WellFormed}
+use Rattle.scholten_core.specs.Network.{Network}
 use Rattle.scholten_core.specs.Diffusion.{Listed}
-use Rattle.shard_part.specs.PartState.{arcs_from, outgoing}
+use Rattle.shard_part.specs.PartState.{arcs_from}
 
 abbrev pub Ascends : ℕ → List ℕ → Type 0
 Ascends k [] = Unit {0}

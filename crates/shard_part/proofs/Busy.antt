@@ -1,19 +1,18 @@
 -- An arc becomes busy, or idle, and the deficit of its tail follows.
-use Rattle.std.proofs.Common.{◌≡◌, ◌≢◌, ℕ, zero, suc, ◌+◌, ◌-◌, ◌<◌, ◌≤◌, ◌^◌, Bool, true, false, cond, not, ◌&&◌, eqb, Option, Some, None, List, [], ◌∷◌, length, set, get_or, ◌⊎◌, inl, inr, refl, sym, ap, ◌∙◌, subst, arith, length-set, get_or-set_same, get_or-set_other, eq-eqb, ne_eqb}
+use Rattle.std.proofs.Common.{◌≡◌, ◌≢◌, ℕ, zero, suc, ◌+◌, ◌-◌, ◌<◌, ◌≤◌, ◌^◌, Bool, true, false, not, ◌&&◌, eqb, List, length, set, get_or, ◌⊎◌, inl, inr, refl, sym, ap, ◌∙◌, subst, arith, length-set, get_or-set_same, get_or-set_other, eq-eqb, ne_eqb}
 use Rattle.std.proofs.lemmas.Bool.{cases_eq, cases_lt}
 use Rattle.std.proofs.lemmas.List.{get_or_read}
 use Rattle.scholten_core.specs.Network.{Network}
 use Rattle.scholten_core.specs.Diffusion.{CoreState, is_idle}
-use Rattle.scholten_core.specs.declared.token.Token.TheVariants.{Idle, Message, Held, Signal}
-use Rattle.scholten_core.specs.Sums.{sum_below, one_if}
+use Rattle.scholten_core.specs.Sums.{one_if}
 use Rattle.scholten_core.specs.Items.{item_arc}
-use Rattle.shard_part.specs.Tables.{spread, IsApart}
-use Rattle.shard_part.specs.PartState.{Setup, PartData, state_in, token_if, network_in, place_in, own_in, arcs_out, busy_out, is, names, engages, idles, part_weight, IsArc, IsSound, IsClear}
-use Rattle.shard_part.specs.Desk.{Rows, IsSized, IsSeen, IsPlanned, IsRoomy, IsCounted, IsDesk, IsPlace, IsRow}
+use Rattle.shard_part.specs.Tables.{spread}
+use Rattle.shard_part.specs.PartState.{PartData, state_in, token_if, network_in, place_in, own_in, arcs_out, busy_out, is, engages, idles, part_weight, IsSound, IsClear}
+use Rattle.shard_part.specs.Desk.{Rows, IsCounted, IsDesk, IsPlace, IsRow}
 use Rattle.shard_part.proofs.Weights.{sum_at, sum_below_same}
-use Rattle.shard_part.proofs.Alone.{if_most, and_most}
-use Rattle.shard_part.proofs.Spread.{table_read, table_write, table_long}
-use Rattle.shard_part.proofs.Places.{own_apart, own_below, own_placed, arcs_apart, arc_owner}
+use Rattle.shard_part.proofs.Alone.{if_most}
+use Rattle.shard_part.proofs.Spread.{table_write, table_long}
+use Rattle.shard_part.proofs.Places.{own_apart, own_placed}
 use Rattle.shard_part.proofs.Moves.{place_at, row_at, arc_below, apart}
 
 pub busy_most : {V : Type 0} (N : Network) (v : ℕ) (d : CoreState V) (n : ℕ) → busy_out N v d n ≤ n

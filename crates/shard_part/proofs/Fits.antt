@@ -1,24 +1,22 @@
 -- A part that is sound by itself never outgrows its queue; a part that holds its share is sound.
-use Rattle.std.proofs.Common.{◌≡◌, ◌≢◌, ℕ, zero, suc, ◌+◌, ◌<◌, ◌≤◌, Bool, true, false, cond, not, ◌&&◌, ◌||◌, eqb, Option, Some, None, List, [], ◌∷◌, ◌++◌, length, get_or, ◌⊎◌, refl, sym, ap, ◌∙◌, subst, inl, inr, arith, eqb-true, eq-eqb, ne_eqb}
-use Rattle.std.proofs.lemmas.Bool.{cases_eq, cases_lt, cases_Bool, false≢true, and_from}
+use Rattle.std.proofs.Common.{◌≡◌, ◌≢◌, ℕ, zero, suc, ◌+◌, ◌<◌, ◌≤◌, Bool, true, false, ◌&&◌, ◌||◌, eqb, Option, Some, None, List, [], ◌∷◌, length, get_or, ◌⊎◌, refl, sym, ap, ◌∙◌, inl, inr, arith, eq-eqb, ne_eqb}
+use Rattle.std.proofs.lemmas.Bool.{cases_eq, cases_Bool, and_from}
 use Rattle.scholten_core.specs.declared.token.Token.{Token}
 use Rattle.scholten_core.specs.declared.token.Token.TheVariants.{Idle, Message, Held, Signal}
 use Rattle.scholten_core.specs.declared.item.Item.{Item}
 use Rattle.scholten_core.specs.declared.item.Item.TheVariants.{Message as MessageOn, Signal as SignalOn}
 use Rattle.path_algebra.specs.Algebra.{Algebra}
-use Rattle.path_algebra.specs.Algebra.{IsLawful as Lawful}
 use Rattle.scholten_core.specs.Network.{Network, WellFormed}
 use Rattle.scholten_core.specs.Diffusion.{CoreState, is_idle}
 use Rattle.scholten_core.specs.Sums.{sum_below, one_if}
 use Rattle.scholten_core.specs.Items.{item_arc, at, item_of}
-use Rattle.shard_part.specs.PartState.{PartData, state_in, total, names, engages, idles, counted, is, All, IsArc, IsSound, mine, part_weight, vertex_of, at_place, flying, touches, queue_room, joins, out_room, maker_of, HoldsTables, HoldsShare}
+use Rattle.shard_part.specs.PartState.{PartData, state_in, total, names, engages, idles, counted, is, All, IsArc, IsSound, part_weight, vertex_of, at_place, touches, queue_room, joins, out_room, maker_of, HoldsShare}
 use Rattle.scholten_core.proofs.Kept.{Kept}
-use Rattle.scholten_core.proofs.Items.{at-first, at-skip, at-nil}
+use Rattle.scholten_core.proofs.Items.{at-skip, at-nil}
 use Rattle.shard_part.proofs.Weights.{total_by_arc}
 use Rattle.shard_part.proofs.Showing.{is_self}
 use Rattle.shard_part.proofs.Room.{sum_most, sum_none_of, each_one, on_arc, outs_member}
-use Rattle.shard_part.proofs.Alone.{count_at, if_most, and_most}
-use Rattle.shard_part.proofs.Flying.{past_idle}
+use Rattle.shard_part.proofs.Alone.{count_at, if_most}
 
 -- a list of items, no arc twice, each on an arc for which there is room
 module _ {V : Type 0} (A : Algebra V) (N : Network) (room : ℕ → ℕ) where

@@ -1,24 +1,22 @@
 -- What an event does to the weights of the items that stand.
-use Rattle.std.proofs.Common.{◌≡◌, ◌≢◌, ℕ, zero, suc, ◌+◌, ◌<◌, ◌≤◌, Bool, true, false, cond, eqb, Option, Some, None, List, [], ◌∷◌, ◌++◌, ◌⊎◌, refl, sym, ap, ◌∙◌, subst, inl, inr, arith, eq-eqb, ne_eqb, eqb-true}
-use Rattle.std.proofs.lemmas.Bool.{cases_eq, cases_lt, cases_Bool, cond-true, cond-false, false≢true}
-use Rattle.scholten_core.specs.declared.token.Token.{Token}
-use Rattle.scholten_core.specs.declared.token.Token.TheVariants.{Idle, Message, Held, Signal}
-use Rattle.scholten_core.specs.declared.event.Event.{Event}
+use Rattle.std.proofs.Common.{◌≡◌, ◌≢◌, ℕ, zero, suc, ◌+◌, ◌<◌, ◌≤◌, eqb, List, [], ◌∷◌, ◌++◌, sym, ap, ◌∙◌, subst, inl, inr, arith, eq-eqb, eqb-true}
+use Rattle.std.proofs.lemmas.Bool.{cases_eq, cases_Bool, cond-true, cond-false}
+use Rattle.scholten_core.specs.declared.token.Token.TheVariants.{Idle, Message, Signal}
 use Rattle.scholten_core.specs.declared.event.Event.TheVariants.{Deliver, Accept}
 use Rattle.scholten_core.specs.declared.item.Item.{Item}
 use Rattle.scholten_core.specs.declared.item.Item.TheVariants.{Message as MessageOn, Signal as SignalOn}
 use Rattle.path_algebra.specs.Algebra.{Algebra}
 use Rattle.path_algebra.specs.Algebra.{IsLawful as Lawful}
 use Rattle.scholten_core.specs.Network.{Network, WellFormed}
-use Rattle.scholten_core.specs.Diffusion.{CoreState, put, settle, settle_tail, arrive, freed, step, delivered, accepted, answer_to, Listed}
+use Rattle.scholten_core.specs.Diffusion.{CoreState, settle, arrive, freed, step, delivered, accepted, answer_to, Listed}
 use Rattle.scholten_core.specs.Sums.{sum_below}
-use Rattle.scholten_core.specs.Items.{item_arc, at, item_of, Makes, IsOutList, settle_made, IsDistinct}
-use Rattle.shard_part.specs.PartState.{total, vertex_of, outgoing, arcs_from, taken, made, back_made, flying, at_place, event_of}
-use Rattle.scholten_core.proofs.Basics.{put_tells, put-same, put-other}
+use Rattle.scholten_core.specs.Items.{at, item_of, Makes, IsOutList, settle_made, IsDistinct}
+use Rattle.shard_part.specs.PartState.{total, outgoing, arcs_from, made, flying, at_place}
+use Rattle.scholten_core.proofs.Basics.{put-same, put-other}
 use Rattle.scholten_core.proofs.Kept.{Kept, step_kept}
-use Rattle.scholten_core.proofs.Items.{at-nil, at-item_of, message_makes, signal_makes}
-use Rattle.shard_part.proofs.Weights.{total_append, sum_at, sum_below_same, total_by_arc}
-use Rattle.scholten_core.proofs.Counts.{sum_add, sum_same}
+use Rattle.scholten_core.proofs.Items.{at-nil, message_makes, signal_makes}
+use Rattle.shard_part.proofs.Weights.{sum_at, total_by_arc}
+use Rattle.scholten_core.proofs.Counts.{sum_add}
 
 module _ {V : Type 0} (A : Algebra V) (N : Network) where
   -- arcs past the last are idle

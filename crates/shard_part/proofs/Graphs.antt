@@ -1,15 +1,15 @@
 -- What the graph and the plan say of the network's arcs and places.
-use Rattle.std.proofs.Common.{◌≡◌, ◌≢◌, ℕ, zero, suc, ◌+◌, ◌-◌, ◌<◌, ◌≤◌, Bool, true, false, List, [], ◌∷◌, length, get_or, take, ◌⊎◌, refl, sym, ap, ◌∙◌, subst, inl, inr, arith}
-use Rattle.std.proofs.lemmas.Bool.{cases_eq, cases_lt}
+use Rattle.std.proofs.Common.{◌≡◌, ◌≢◌, ℕ, zero, suc, ◌+◌, ◌-◌, ◌<◌, ◌≤◌, List, [], ◌∷◌, length, get_or, take, ◌⊎◌, refl, sym, ap, ◌∙◌, subst, inl, inr, arith}
+use Rattle.std.proofs.lemmas.Bool.{cases_eq}
 use Rattle.std.proofs.lemmas.List.{get_or_read}
 use Rattle.path_algebra.specs.Algebra.{Algebra}
 use Rattle.road_graph.specs.Roads.{Roads, IsRoads, HasVertex, HasArc, ListsArcsFrom, IsAscendingFrom, arc_of}
-use Rattle.scholten_core.specs.Network.{Network, network, tail_of, head_of}
+use Rattle.scholten_core.specs.Network.{Network, network}
 use Rattle.scholten_core.specs.Diffusion.{Listed}
-use Rattle.scholten_core.proofs.Networks.{out_of, real_arc, tail-arc, head-arc, weight-arc, tail-entry, head-entry}
-use Rattle.shard_part.specs.Plans.{PlanData, shard_in, HasPlanned}
-use Rattle.shard_part.specs.PartState.{Setup, PartData, network_in, place_in, arcs_from, outgoing, IsArc, own_in, arcs_out}
-use Rattle.shard_part.specs.Desk.{Rows, IsDesk, IsPlanned, IsPlace, IsRow}
+use Rattle.scholten_core.proofs.Networks.{out_of, real_arc, tail-arc, head-arc, tail-entry, head-entry}
+use Rattle.shard_part.specs.Plans.{shard_in}
+use Rattle.shard_part.specs.PartState.{Setup, PartData, network_in, place_in, outgoing, IsArc, own_in, arcs_out}
+use Rattle.shard_part.specs.Desk.{Rows, IsDesk, IsPlace, IsRow}
 use Rattle.shard_part.specs.Tables.{Rises, StandsIn}
 use Rattle.shard_part.proofs.Ascending.{Ascends, arcs_are}
 use Rattle.shard_part.proofs.Places.{outgoing_picked, arc_at_place, own_rises, own_all}

@@ -1,19 +1,15 @@
 -- What a part does to its own tables is what the event does to its share.
-use Rattle.std.proofs.Common.{◌≡◌, ◌≢◌, ℕ, zero, suc, ◌+◌, ◌<◌, ◌≤◌, Bool, true, false, cond, not, eqb, Option, Some, None, List, [], ◌∷◌, ◌⊎◌, refl, sym, ap, ◌∙◌, subst, inl, inr, arith}
-use Rattle.std.proofs.lemmas.Bool.{cases_eq, cases_Bool}
-use Rattle.scholten_core.specs.declared.token.Token.{Token}
-use Rattle.scholten_core.specs.declared.token.Token.TheVariants.{Idle, Message, Held, Signal}
-use Rattle.scholten_core.specs.declared.event.Event.{Event}
+use Rattle.std.proofs.Common.{◌≡◌, ℕ, zero, suc, Bool, true, false, Option, Some, None, refl, sym, ap, ◌∙◌, subst, inl, inr}
+use Rattle.scholten_core.specs.declared.token.Token.TheVariants.{Message, Held, Signal}
 use Rattle.scholten_core.specs.declared.event.Event.TheVariants.{Deliver, Accept}
-use Rattle.scholten_core.specs.declared.item.Item.{Item}
 use Rattle.scholten_core.specs.declared.item.Item.TheVariants.{Message as MessageOn, Signal as SignalOn}
 use Rattle.path_algebra.specs.Algebra.{Algebra}
 use Rattle.path_algebra.specs.Algebra.{IsLawful as Lawful}
 use Rattle.scholten_core.specs.Network.{Network, WellFormed}
-use Rattle.scholten_core.specs.Diffusion.{CoreState, put, is_idle, pump, out_idle, arrive, released, freed, settle, settle_tail, delivered, accepted, step, better_of, engaged_by, answer_to}
+use Rattle.scholten_core.specs.Diffusion.{CoreState, is_idle, pump, out_idle, arrive, released, freed, settle, settle_tail, delivered, accepted, step, answer_to}
 use Rattle.scholten_core.specs.Shares.{Agree}
 use Rattle.shard_part.specs.PartState.{arrive_here, rest_here, settle_here, settle_tail_here, taken}
-use Rattle.scholten_core.proofs.Basics.{put_tells, put-at, put-same, put-other}
+use Rattle.scholten_core.proofs.Basics.{put_tells, put-at, put-other}
 use Rattle.scholten_core.proofs.Kept.{Kept, arrive_kept, freed_kept}
 use Rattle.scholten_core.proofs.Counts.{held_pumped}
 use Rattle.scholten_core.proofs.Shares.{arrive_agree, pump_agree, freed_agree, out_idle_agree}

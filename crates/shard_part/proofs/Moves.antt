@@ -1,18 +1,16 @@
 -- Each move of the tables keeps what the tables keep, and is one write to the part's data.
-use Rattle.std.proofs.Common.{◌≡◌, ◌≢◌, ℕ, zero, suc, ◌+◌, ◌-◌, ◌<◌, ◌≤◌, ◌^◌, Bool, true, false, cond, not, ◌&&◌, eqb, Option, Some, None, List, [], ◌∷◌, length, set, get_or, ◌⊎◌, inl, inr, refl, sym, ap, ◌∙◌, subst, arith, length-set, get_or-set_same, get_or-set_other, eq-eqb, ne_eqb}
-use Rattle.std.proofs.lemmas.Bool.{cases_eq, cond-true, cond-false}
-use Rattle.std.proofs.lemmas.List.{set-get_or}
-use Rattle.scholten_core.specs.Network.{Network, WellFormed}
-use Rattle.scholten_core.specs.Diffusion.{CoreState, put, is_idle}
-use Rattle.scholten_core.specs.Sums.{sum_below, one_if}
+use Rattle.std.proofs.Common.{◌≡◌, ◌≢◌, ℕ, suc, ◌+◌, ◌<◌, ◌≤◌, Bool, true, false, ◌&&◌, eqb, Option, Some, None, List, length, set, get_or, ◌⊎◌, inl, inr, refl, sym, ap, ◌∙◌, subst, arith, length-set, get_or-set_same, get_or-set_other, eq-eqb, ne_eqb}
+use Rattle.std.proofs.lemmas.Bool.{cases_eq}
+use Rattle.scholten_core.specs.Network.{WellFormed}
+use Rattle.scholten_core.specs.Diffusion.{put}
+use Rattle.scholten_core.specs.Sums.{one_if}
 use Rattle.scholten_core.specs.Items.{item_arc}
-use Rattle.scholten_core.proofs.Basics.{put_tells, put-at, put-other}
+use Rattle.scholten_core.proofs.Basics.{put-at, put-other}
 use Rattle.scholten_core.proofs.Networks.{well_formed}
 use Rattle.shard_part.specs.Tables.{spread, IsApart}
-use Rattle.shard_part.specs.PartState.{Setup, PartData, state_in, token_if, network_in, place_in, own_in, arcs_out, busy_out, is, names, engages, idles, part_weight, IsArc, IsSound, IsClear}
-use Rattle.shard_part.specs.Desk.{Rows, IsSized, IsSeen, IsPlanned, IsRoomy, IsCounted, IsDesk, IsPlace, IsRow}
-use Rattle.shard_part.proofs.Weights.{sum_at, sum_below_same}
-use Rattle.shard_part.proofs.Alone.{if_most, and_most}
+use Rattle.shard_part.specs.PartState.{PartData, state_in, network_in, place_in, own_in, arcs_out, is, names, engages, idles, part_weight, IsArc, IsSound, IsClear}
+use Rattle.shard_part.specs.Desk.{Rows, IsPlanned, IsDesk, IsPlace, IsRow}
+use Rattle.shard_part.proofs.Alone.{if_most}
 use Rattle.shard_part.proofs.Spread.{table_read, table_write, table_long}
 use Rattle.shard_part.proofs.Places.{own_apart, own_below, own_placed, arcs_apart, arc_owner}
 

@@ -1,17 +1,16 @@
 -- An arc is offered a label: the code's steps are the definition's.
-use Rattle.std.proofs.Common.{◌≡◌, ◌≢◌, ℕ, zero, suc, ◌+◌, Bool, true, false, cond, not, ◌&&◌, eqb, Option, Some, None, List, [], ◌∷◌, ◌++◌, length, set, get_or, refl, sym, ap, ◌∙◌, subst, eq-eqb, ne_eqb}
+use Rattle.std.proofs.Common.{◌≡◌, ◌≢◌, ℕ, suc, Bool, true, false, not, ◌&&◌, eqb, Option, Some, None, List, length, set, get_or, refl, sym, ap, ◌∙◌, subst, eq-eqb, ne_eqb}
 use Rattle.std.proofs.lemmas.Bool.{cond-true, cond-false}
 use Rattle.path_algebra.specs.Algebra.{Algebra}
-use Rattle.scholten_core.specs.declared.item.Item.TheVariants.{Message as MessageOn, Signal as SignalOn}
-use Rattle.scholten_core.specs.Network.{Network}
-use Rattle.scholten_core.specs.Diffusion.{CoreState, is_idle, is_due, same_label, extend_label, out_idle}
+use Rattle.scholten_core.specs.declared.item.Item.TheVariants.{Signal as SignalOn}
+use Rattle.scholten_core.specs.Diffusion.{is_idle, is_due, same_label, extend_label, out_idle}
 use Rattle.road_graph.specs.Roads.{arc_of}
 use Rattle.scholten_core.proofs.Networks.{weight-arc}
-use Rattle.shard_part.specs.PartState.{Setup, PartData, state_in, token_if, network_in, place_in, busy_out, IsArc}
+use Rattle.shard_part.specs.PartState.{PartData, state_in, token_if, network_in, place_in, busy_out, IsArc}
 use Rattle.shard_part.proofs.Graphs.{arc_in_graph}
 use Rattle.shard_part.proofs.Moves.{mine_at}
 use Rattle.shard_part.proofs.Quick.{out_idle_counted}
-use Rattle.shard_part.specs.Desk.{Rows, IsDesk, IsPlace, IsRow, with_item, with_message, greeted, rested, rested_by, offered, offered_all}
+use Rattle.shard_part.specs.Desk.{Rows, IsDesk, IsPlace, with_item, with_message, rested, rested_by, offered}
 
 pub same_read : {V : Type 0} (A : Algebra V) {x y u v : Option V} → x ≡ u → y ≡ v → same_label A x y ≡ same_label A u v
 same_read A p q = λ i. same_label A (p i) (q i)

@@ -1,10 +1,10 @@
 -- The vertices of a shard and their arcs, by place.
-use Rattle.std.proofs.Common.{◌≡◌, ◌≢◌, ℕ, zero, suc, ◌+◌, ◌-◌, ◌<◌, ◌≤◌, Bool, true, false, cond, eqb, List, [], ◌∷◌, ◌++◌, length, length-append, get_or, take, ◌⊎◌, refl, sym, ap, ◌∙◌, subst, inl, inr, arith, eqb-true, eq-eqb, ne_eqb}
+use Rattle.std.proofs.Common.{◌≡◌, ◌≢◌, ℕ, zero, suc, ◌+◌, ◌-◌, ◌<◌, ◌≤◌, eqb, List, [], ◌∷◌, ◌++◌, length, length-append, get_or, take, refl, sym, ap, ◌∙◌, subst, inl, inr, arith, eq-eqb, ne_eqb}
 use Rattle.std.proofs.lemmas.Bool.{cases_eq, cases_lt, cond-true, cond-false}
 use Rattle.std.proofs.lemmas.List.{get_or_append_left, get_or-append-add}
 use Rattle.scholten_core.specs.Network.{Network}
-use Rattle.shard_part.specs.Tables.{IsApart, IsAbsent, Rises, placed}
-use Rattle.shard_part.specs.PartState.{Setup, place_in, network_in, arcs_from, outgoing, own_in, arcs_out}
+use Rattle.shard_part.specs.Tables.{IsApart, Rises, placed}
+use Rattle.shard_part.specs.PartState.{Setup, place_in, arcs_from, outgoing, own_in, arcs_out}
 
 pub rises_apart : (xs : List ℕ) → Rises xs → IsApart xs
 rises_apart xs h i j l m e = let r = h i j l m in omega (arith, r, e)

@@ -1,12 +1,11 @@
 -- The arcs out of a vertex are offered its label one after the other.
-use Rattle.std.proofs.Common.{◌≡◌, ◌≢◌, ℕ, zero, suc, ◌+◌, ◌-◌, ◌<◌, ◌≤◌, Bool, true, false, cond, Option, Some, None, List, [], ◌∷◌, ◌++◌, length, set, get_or, take, refl, sym, ap, ◌∙◌, subst, inl, inr, arith, eq-eqb}
-use Rattle.std.proofs.lemmas.Bool.{cases_Bool, cond-true, cond-false}
+use Rattle.std.proofs.Common.{◌≡◌, ◌≢◌, ℕ, zero, suc, ◌+◌, ◌<◌, ◌≤◌, Bool, true, false, cond, Option, Some, None, List, [], ◌∷◌, ◌++◌, length, set, get_or, take, refl, sym, ap, ◌∙◌, subst, arith}
 use Rattle.std.proofs.lemmas.List.{get_or_read, take_more, take_all}
 use Rattle.path_algebra.specs.Algebra.{Algebra}
-use Rattle.road_graph.specs.Roads.{Roads, HasVertex, ListsArcsFrom}
+use Rattle.road_graph.specs.Roads.{HasVertex, ListsArcsFrom}
 use Rattle.scholten_core.specs.Network.{Network, WellFormed}
-use Rattle.scholten_core.specs.Diffusion.{CoreState, is_due, extend_label, improves}
-use Rattle.shard_part.specs.PartState.{Setup, PartData, state_in, network_in, place_in, outgoing, own_in, IsArc}
+use Rattle.scholten_core.specs.Diffusion.{is_due, extend_label, improves}
+use Rattle.shard_part.specs.PartState.{Setup, PartData, state_in, network_in, outgoing, own_in, IsArc}
 use Rattle.shard_part.specs.Desk.{Rows, IsDesk, IsPlace, IsRow, with_message, greeted, labelled, offered, offered_all, rested, with_value, with_free}
 use Rattle.shard_part.specs.Tables.{Rises, StandsIn}
 use Rattle.shard_part.proofs.Graphs.{out_is}

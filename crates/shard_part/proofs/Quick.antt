@@ -1,8 +1,7 @@
 -- Where nothing has to be sent, nothing has to be looked at.
-use Rattle.std.proofs.Common.{◌≡◌, ◌≢◌, ℕ, zero, suc, ◌+◌, ◌<◌, ◌≤◌, Bool, true, false, cond, not, ◌&&◌, ◌||◌, eqb, Option, Some, None, List, [], ◌∷◌, ◌++◌, append-nil, ◌⊎◌, refl, sym, ap, ◌∙◌, subst, inl, inr, arith, eqb-true, eq-eqb, ne_eqb}
-use Rattle.std.proofs.lemmas.Bool.{cases_eq, cases_lt, cases_Bool, cond-true, cond-false, false≢true, and_from, and_left, and_right, or_cases, not-true}
-use Rattle.scholten_core.specs.declared.token.Token.{Token}
-use Rattle.scholten_core.specs.declared.token.Token.TheVariants.{Idle, Message, Held, Signal}
+use Rattle.std.proofs.Common.{◌≡◌, ◌≢◌, ℕ, zero, suc, ◌+◌, Bool, true, false, cond, not, ◌&&◌, ◌||◌, eqb, Option, Some, None, List, [], ◌∷◌, ◌++◌, refl, sym, ap, ◌∙◌, subst, inl, inr, arith, ne_eqb}
+use Rattle.std.proofs.lemmas.Bool.{cases_eq, cond-false, false≢true, and_from, and_right}
+use Rattle.scholten_core.specs.declared.token.Token.TheVariants.{Idle}
 use Rattle.scholten_core.specs.declared.item.Item.{Item}
 use Rattle.scholten_core.specs.declared.item.Item.TheVariants.{Message as MessageOn, Signal as SignalOn}
 use Rattle.path_algebra.specs.Algebra.{Algebra}
@@ -12,7 +11,7 @@ use Rattle.scholten_core.specs.Diffusion.{CoreState, put, is_idle, is_due, all_b
 use Rattle.scholten_core.specs.Sums.{sum_below, one_if}
 use Rattle.scholten_core.specs.Items.{item_of, pump_made, IsDistinct}
 use Rattle.shard_part.specs.PartState.{arrive_here, rest_here, settle_here, settle_tail_here, taken}
-use Rattle.scholten_core.proofs.Basics.{put_tells, put-at, put-same, put-other, due_tells, idle-true}
+use Rattle.scholten_core.proofs.Basics.{put_tells, put-same, put-other, due_tells}
 use Rattle.scholten_core.proofs.Kept.{pumped}
 
 module _ {V : Type 0} (A : Algebra V) (N : Network) where

@@ -1,17 +1,15 @@
 -- The weights say what stands where.
-use Rattle.std.proofs.Common.{◌≡◌, ◌≢◌, ℕ, zero, suc, ◌+◌, ◌<◌, ◌≤◌, Bool, true, false, cond, not, ◌&&◌, ◌||◌, eqb, List, [], ◌∷◌, ◌++◌, length, map, ◌⊎◌, refl, sym, ap, ◌∙◌, subst, inl, inr, arith, eqb-true, eq-eqb, ne_eqb}
-use Rattle.std.proofs.lemmas.Bool.{cases_eq, cases_lt, cases_Bool, cond-true, cond-false}
+use Rattle.std.proofs.Common.{◌≡◌, ◌≢◌, ℕ, suc, ◌+◌, ◌<◌, Bool, true, false, cond, eqb, List, [], ◌∷◌, ◌++◌, refl, sym, ap, ◌∙◌, arith, eq-eqb, ne_eqb}
 use Rattle.scholten_core.specs.declared.token.Token.{Token}
 use Rattle.scholten_core.specs.declared.token.Token.TheVariants.{Idle, Message, Held, Signal}
 use Rattle.scholten_core.specs.declared.item.Item.{Item}
 use Rattle.scholten_core.specs.declared.item.Item.TheVariants.{Message as MessageOn, Signal as SignalOn}
 use Rattle.path_algebra.specs.Algebra.{Algebra}
 use Rattle.path_algebra.specs.Algebra.{IsLawful as Lawful}
-use Rattle.scholten_core.specs.Network.{Network, WellFormed}
+use Rattle.scholten_core.specs.Network.{Network}
 use Rattle.scholten_core.specs.Diffusion.{CoreState}
-use Rattle.scholten_core.specs.Sums.{sum_below, one_if}
 use Rattle.scholten_core.specs.Items.{item_arc, item_of}
-use Rattle.shard_part.specs.PartState.{PartData, total, outs_weight, lanes_weight, lanes_of, part_weight, mail_weight, vertex_of, at_place, flying, is, ShowsIn, with_shard, outs_places, part_places, parts_places, mail_places, on, place_of_token}
+use Rattle.shard_part.specs.PartState.{PartData, total, outs_weight, part_weight, mail_weight, at_place, flying, is, ShowsIn, with_shard, outs_places, part_places, parts_places, mail_places, on, place_of_token}
 use Rattle.shard_part.proofs.Weights.{total_append, sum_at, sum_zero}
 use Rattle.shard_part.proofs.Taking.{marks, marks_self, marks_true}
 

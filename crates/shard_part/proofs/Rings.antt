@@ -1,17 +1,13 @@
 -- An item is put into a ring, where it has room, or taken from the queue.
-use Rattle.std.proofs.Common.{◌≡◌, ◌≢◌, ℕ, zero, suc, ◌+◌, ◌-◌, ◌<◌, ◌≤◌, Bool, true, false, cond, eqb, Option, Some, None, List, [], ◌∷◌, ◌++◌, length, length-append, set, get_or, drop, map, min, refl, sym, ap, ◌∙◌, subst, arith, eq-eqb, ne_eqb, length-set, get_or-set_same}
+use Rattle.std.proofs.Common.{◌≡◌, ◌≢◌, ℕ, zero, suc, ◌<◌, ◌≤◌, eqb, Option, Some, None, List, [], ◌∷◌, ◌++◌, length, length-append, set, get_or, drop, map, refl, sym, ap, ◌∙◌, subst, arith, eq-eqb, ne_eqb, length-set, get_or-set_same}
 use Rattle.std.specs.Prelude.{slice_get, IfSome}
 use Rattle.std.proofs.lemmas.Bool.{cond-true, cond-false}
 use Rattle.circular_buffer.specs.Buffer.{Buffer, buffer}
 use Rattle.scholten_core.specs.declared.item.Item.{Item}
-use Rattle.scholten_core.specs.declared.item.Item.TheVariants.{Message as MessageOn, Signal as SignalOn}
 use Rattle.path_algebra.specs.Algebra.{Algebra}
-use Rattle.scholten_core.specs.Network.{Network}
 use Rattle.scholten_core.specs.Items.{item_arc}
-use Rattle.scholten_core.specs.Sums.{one_if}
-use Rattle.shard_part.specs.Tallies.{top, counted_on}
-use Rattle.shard_part.specs.PartState.{PartData, Lanes, lanes_of, network_in, place_in, state_in, vertex_of, maker_of, route, IsArc, IsClear, IsSound, queue_room, out_room, total, is, All, part_weight, engages, idles}
-use Rattle.shard_part.specs.Desk.{Rows, IsSized, IsSeen, IsPlanned, IsRoomy, IsTallied, IsCounted, IsDesk, put_item, counted_made, with_item, IsPopped}
+use Rattle.shard_part.specs.PartState.{PartData, Lanes, lanes_of, network_in, place_in, vertex_of, maker_of, route, IsArc, IsClear, IsSound, total, is, All}
+use Rattle.shard_part.specs.Desk.{Rows, IsDesk, put_item, IsPopped}
 use Rattle.shard_part.proofs.Sound.{put_sound}
 use Rattle.shard_part.proofs.Fits.{sound_fits, sound_out_fits}
 use Rattle.shard_part.proofs.Showing.{is_self}

@@ -1,20 +1,17 @@
 -- Parts and mailboxes show a state: an item is taken, a batch moves.
-use Rattle.std.proofs.Common.{◌≡◌, ◌≢◌, ℕ, zero, suc, ◌+◌, ◌<◌, ◌≤◌, Bool, true, false, cond, not, ◌&&◌, eqb, Option, Some, None, List, [], ◌∷◌, ◌++◌, length, set, get_or, ◌⊎◌, refl, sym, ap, ◌∙◌, subst, inl, inr, arith, eq-eqb, ne_eqb, eqb-true, append_assoc, length-set}
-use Rattle.std.proofs.lemmas.Bool.{cases_eq, cases_lt, cases_Bool, cond-true, cond-false, false≢true, and_parts, and_from}
+use Rattle.std.proofs.Common.{◌≡◌, ◌≢◌, ℕ, ◌+◌, true, List, [], ◌∷◌, ◌++◌, length, set, get_or, refl, sym, ap, ◌∙◌, subst, arith, eq-eqb, length-set}
 use Rattle.scholten_core.specs.declared.item.Item.{Item}
-use Rattle.scholten_core.specs.declared.item.Item.TheVariants.{Message as MessageOn, Signal as SignalOn}
-use Rattle.scholten_core.specs.declared.event.Event.{Event}
 use Rattle.path_algebra.specs.Algebra.{Algebra}
 use Rattle.path_algebra.specs.Algebra.{IsLawful as Lawful}
 use Rattle.scholten_core.specs.Network.{Network, WellFormed}
-use Rattle.scholten_core.specs.Diffusion.{CoreState, step, run_from, is_enabled}
+use Rattle.scholten_core.specs.Diffusion.{CoreState, step, is_enabled}
 use Rattle.scholten_core.specs.Sums.{one_if}
 use Rattle.scholten_core.specs.Shares.{Agree}
-use Rattle.shard_part.specs.PartState.{Setup, PartData, network_in, place_in, state_in, Lanes, total, vertex_of, flying, at_place, event_of, lanes_weight, lanes_of, part_weight, mail_weight, outs_weight, mine, is, All, TookIn, Took, TookAll, AllEnabled, HoldsTables, HoldsShare, Holds, ShowsIn, Shows}
+use Rattle.shard_part.specs.PartState.{Setup, PartData, network_in, place_in, state_in, total, event_of, part_weight, mail_weight, mine, is, All, TookIn, Took, TookAll, AllEnabled, HoldsTables, HoldsShare, Holds, ShowsIn, Shows}
 use Rattle.scholten_core.proofs.Kept.{Kept, step_kept}
 use Rattle.shard_part.proofs.Weights.{total_append}
 use Rattle.shard_part.proofs.Routed.{outs_none}
-use Rattle.shard_part.proofs.Taking.{TakenEvent, took_event}
+use Rattle.shard_part.proofs.Taking.{took_event}
 
 pub all_append : {X : Type 0} (P : X → Type 0) (xs ys : List X) → All P xs → All P ys → All P (xs ++ ys)
 all_append P [] ys p q = q

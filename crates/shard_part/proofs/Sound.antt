@@ -1,18 +1,16 @@
 -- What a part knows by itself stays so with each item.
-use Rattle.std.proofs.Common.{◌≡◌, ◌≢◌, ℕ, zero, suc, ◌+◌, ◌<◌, ◌≤◌, Bool, true, false, cond, not, ◌&&◌, ◌||◌, eqb, Option, Some, None, List, [], ◌∷◌, ◌++◌, length, set, get_or, ◌⊎◌, refl, sym, ap, ◌∙◌, subst, inl, inr, arith, eqb-true, eq-eqb, ne_eqb, get_or-set_same, get_or-set_other}
-use Rattle.std.proofs.lemmas.Bool.{cases_eq, cases_Bool, cond-true, cond-false}
-use Rattle.scholten_core.specs.declared.token.Token.{Token}
-use Rattle.scholten_core.specs.declared.token.Token.TheVariants.{Idle, Message, Held, Signal}
+use Rattle.std.proofs.Common.{◌≡◌, ◌≢◌, ℕ, zero, suc, ◌+◌, ◌<◌, Bool, true, false, cond, ◌&&◌, eqb, Option, Some, None, List, [], ◌∷◌, ◌++◌, length, set, get_or, refl, sym, ap, ◌∙◌, subst, inl, inr, arith, eq-eqb, ne_eqb, get_or-set_same, get_or-set_other}
+use Rattle.std.proofs.lemmas.Bool.{cases_eq, cases_Bool}
 use Rattle.scholten_core.specs.declared.item.Item.{Item}
 use Rattle.scholten_core.specs.declared.item.Item.TheVariants.{Message as MessageOn, Signal as SignalOn}
 use Rattle.path_algebra.specs.Algebra.{Algebra}
 use Rattle.path_algebra.specs.Algebra.{IsLawful as Lawful}
 use Rattle.scholten_core.specs.Network.{Network, WellFormed}
-use Rattle.scholten_core.specs.Diffusion.{CoreState, put, is_idle, is_due, pump, out_idle, freed, engaged_by, answer_to, sent, extend_label, Listed}
+use Rattle.scholten_core.specs.Diffusion.{CoreState, is_idle, is_due, pump, out_idle, freed, engaged_by, answer_to, sent, extend_label, Listed}
 use Rattle.scholten_core.specs.Sums.{one_if}
-use Rattle.scholten_core.specs.Items.{item_arc, item_of, pump_made, rest_made, settle_made, IsOutList}
+use Rattle.scholten_core.specs.Items.{item_arc, item_of, pump_made, rest_made, settle_made}
 use Rattle.scholten_core.specs.Shares.{Agree}
-use Rattle.shard_part.specs.PartState.{PartData, Lanes, lanes_of, state_in, total, names, engages, idles, counted, is, All, IsArc, IsSound, mine, part_weight, arrive_here, rest_here, settle_here, settle_tail_here, taken, made, back_made, outgoing, vertex_of, maker_of, route, routes, TookIn}
+use Rattle.shard_part.specs.PartState.{PartData, Lanes, lanes_of, state_in, names, engages, idles, is, All, IsArc, IsSound, mine, part_weight, arrive_here, rest_here, settle_here, settle_tail_here, taken, made, back_made, outgoing, vertex_of, maker_of, route, routes, TookIn}
 use Rattle.scholten_core.proofs.Basics.{put_tells}
 use Rattle.shard_part.proofs.Showing.{all_append}
 use Rattle.shard_part.proofs.Flying.{outgoing_is}

@@ -1,25 +1,24 @@
 -- One item taken by one part is one enabled event of every state of which the part holds its share.
-use Rattle.std.proofs.Common.{◌≡◌, ◌≢◌, ℕ, zero, suc, ◌+◌, ◌<◌, ◌≤◌, Bool, true, false, cond, not, ◌&&◌, eqb, Option, Some, None, List, [], ◌∷◌, ◌++◌, length, set, get_or, ◌⊎◌, refl, sym, ap, ◌∙◌, subst, inl, inr, arith, eq-eqb, ne_eqb, eqb-true}
-use Rattle.std.proofs.lemmas.Bool.{cases_eq, cases_lt, cases_Bool, cond-true, cond-false, false≢true, and_parts, and_from}
+use Rattle.std.proofs.Common.{◌≡◌, ◌≢◌, ℕ, zero, suc, ◌+◌, ◌<◌, Bool, true, false, ◌&&◌, eqb, List, [], ◌∷◌, ◌++◌, length, refl, sym, ap, ◌∙◌, subst, inl, inr, arith, eq-eqb, ne_eqb, eqb-true}
+use Rattle.std.proofs.lemmas.Bool.{false≢true, and_parts, and_from}
 use Rattle.scholten_core.specs.declared.token.Token.{Token}
 use Rattle.scholten_core.specs.declared.token.Token.TheVariants.{Idle, Message, Held, Signal}
-use Rattle.scholten_core.specs.declared.event.Event.{Event}
-use Rattle.scholten_core.specs.declared.event.Event.TheVariants.{Deliver, Accept}
+use Rattle.scholten_core.specs.declared.event.Event.TheVariants.{Accept}
 use Rattle.scholten_core.specs.declared.item.Item.{Item}
 use Rattle.scholten_core.specs.declared.item.Item.TheVariants.{Message as MessageOn, Signal as SignalOn}
 use Rattle.path_algebra.specs.Algebra.{Algebra}
 use Rattle.path_algebra.specs.Algebra.{IsLawful as Lawful}
 use Rattle.scholten_core.specs.Network.{Network, WellFormed}
-use Rattle.scholten_core.specs.Diffusion.{CoreState, put, settle, settle_tail, arrive, freed, step, delivered, accepted, answer_to, Listed, is_enabled, is_message, is_signal}
-use Rattle.scholten_core.specs.Sums.{sum_below, one_if}
-use Rattle.scholten_core.specs.Items.{item_arc, at, item_of, settle_made}
+use Rattle.scholten_core.specs.Diffusion.{CoreState, arrive, freed, step, answer_to, is_enabled, is_message, is_signal}
+use Rattle.scholten_core.specs.Sums.{one_if}
+use Rattle.scholten_core.specs.Items.{item_arc, item_of, settle_made}
 use Rattle.scholten_core.specs.Shares.{Agree}
-use Rattle.shard_part.specs.PartState.{Setup, PartData, network_in, place_in, state_in, Lanes, total, vertex_of, outgoing, taken, made, arrive_here, flying, at_place, event_of, routes, lanes_weight, lanes_of, part_weight, outs_weight, mine, TookIn, HoldsTables, HoldsShare, ShowsIn}
+use Rattle.shard_part.specs.PartState.{PartData, state_in, total, vertex_of, outgoing, taken, made, arrive_here, flying, at_place, event_of, lanes_weight, lanes_of, part_weight, mine, TookIn, HoldsTables, HoldsShare}
 use Rattle.scholten_core.proofs.Kept.{Kept, head_real}
 use Rattle.scholten_core.proofs.Shares.{agree_then, message_frame, signal_frame, freed_agree}
 use Rattle.shard_part.proofs.Here.{arrive_here_agree, message_here, signal_here}
 use Rattle.scholten_core.proofs.Parts.{settle_made_agree, token_told, token_back}
-use Rattle.shard_part.proofs.Weights.{sum_member, total_append}
+use Rattle.shard_part.proofs.Weights.{sum_member}
 use Rattle.shard_part.proofs.Flying.{message_weighs, signal_weighs, last_weighs, outgoing_is}
 use Rattle.shard_part.proofs.Routed.{routed}
 

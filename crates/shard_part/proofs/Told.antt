@@ -1,5 +1,5 @@
 -- Each item that a part takes keeps what its idle arcs have been told.
-use Rattle.std.proofs.Common.{◌≡◌, ℕ, suc, ◌<◌, ◌≤◌, true, List, length, get_or, replicate, Option, None, ◌⊎◌, inl, inr, sym, ap, ◌∙◌, subst, arith, eq-eqb}
+use Rattle.std.proofs.Common.{◌≡◌, ℕ, suc, true, List, length, get_or, replicate, None, inl, inr, sym, ap, ◌∙◌, subst, arith, eq-eqb}
 use Rattle.std.proofs.lemmas.Bool.{cases_lt}
 use Rattle.std.proofs.lemmas.List.{get_or-replicate, get_or_past, length-replicate}
 use Rattle.scholten_core.specs.declared.item.Item.{Item}

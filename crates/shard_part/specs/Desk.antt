@@ -1,16 +1,15 @@
 -- What the running tables and rings keep with each single move, and the moves.
-use Rattle.std.specs.Prelude.{◌≡◌, ◌≢◌, ℕ, zero, suc, ◌+◌, ◌-◌, ◌<◌, ◌≤◌, Bool, true, false, cond, eqb, Option, Some, None, List, [], ◌∷◌, ◌++◌, length, set, get_or, take}
+use Rattle.std.specs.Prelude.{◌≡◌, ◌≢◌, ℕ, zero, suc, ◌<◌, ◌≤◌, Bool, true, false, cond, Option, Some, None, List, [], ◌∷◌, length, set, get_or, take}
 use Rattle.scholten_core.specs.declared.item.Item.{Item}
 use Rattle.scholten_core.specs.declared.item.Item.TheVariants.{Message as MessageOn, Signal as SignalOn}
 use Rattle.path_algebra.specs.Algebra.{Algebra}
-use Rattle.road_graph.specs.Roads.{Roads, HasVertex, IsRoads}
-use Rattle.scholten_core.specs.Network.{Network}
-use Rattle.scholten_core.specs.Diffusion.{CoreState, improves, is_due, extend_label, out_idle}
+use Rattle.road_graph.specs.Roads.{HasVertex, IsRoads}
+use Rattle.scholten_core.specs.Diffusion.{improves, is_due, extend_label, out_idle}
 use Rattle.scholten_core.specs.Items.{item_arc}
-use Rattle.shard_part.specs.Plans.{PlanData, IsPlan}
+use Rattle.shard_part.specs.Plans.{IsPlan}
 use Rattle.shard_part.specs.Tallies.{counted_on, top}
 use Rattle.shard_part.specs.Tables.{spread}
-use Rattle.shard_part.specs.PartState.{PartData, Setup, Lanes, lanes_of, network_in, place_in, state_in, own_in, arcs_out, busy_out, outgoing, route, is_told, is_back, IsSound, queue_room, out_room, IsArc, IsClear, vertex_of}
+use Rattle.shard_part.specs.PartState.{PartData, Setup, lanes_of, network_in, place_in, state_in, own_in, arcs_out, busy_out, outgoing, route, IsSound, queue_room, out_room, IsArc, IsClear, vertex_of}
 use Rattle.shard_part.specs.declared.tables.Tables.{Tables}
 
 -- the values of the tables, by place

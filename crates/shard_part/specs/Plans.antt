@@ -1,5 +1,5 @@
 -- Which shard each vertex belongs to.
-use Rattle.std.specs.Prelude.{◌≡◌, ℕ, ◌+◌, ◌-◌, ◌*◌, ◌/◌, ◌<◌, ◌≤◌, ◌^◌, List, length, slice_index_or}
+use Rattle.std.specs.Prelude.{◌≡◌, ℕ, ◌-◌, ◌*◌, ◌/◌, ◌<◌, ◌≤◌, ◌^◌, List, length, slice_index_or}
 use Rattle.shard_part.specs.declared.plan.PlanFault.{PlanFault}
 use Rattle.shard_part.specs.declared.plan.PlanFault.TheVariants.{BadShard}
 

@@ -1,5 +1,5 @@
 -- The tables of a shard: a value for each of its vertices and arcs, by place.
-use Rattle.std.specs.Prelude.{◌≡◌, ◌≢◌, ℕ, zero, suc, ◌+◌, ◌<◌, Bool, cond, eqb, List, [], ◌∷◌, ◌++◌, length, set, get_or, replicate}
+use Rattle.std.specs.Prelude.{◌≡◌, ◌≢◌, ℕ, zero, suc, ◌<◌, cond, eqb, List, [], ◌∷◌, length, set, get_or, replicate}
 
 -- the list of n entries in which the j-th value stands at the j-th key, and `none` elsewhere
 unfoldable pub spread : {X : Type 0} → List ℕ → List X → X → ℕ → List X

@@ -1,5 +1,5 @@
 -- Counters that stop at their top.
-use Rattle.std.specs.Prelude.{◌≡◌, ℕ, ◌+◌, ◌-◌, ◌^◌, min, leb, Bool, false, ◌||◌}
+use Rattle.std.specs.Prelude.{ℕ, ◌+◌, ◌-◌, ◌^◌, min, leb, false, ◌||◌}
 use Rattle.scholten_core.specs.Accounts.{Totals}
 use Rattle.shard_part.specs.declared.tally.Tally.{Tally}
 

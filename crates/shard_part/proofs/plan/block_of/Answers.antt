@@ -1,5 +1,5 @@
 use Rattle.shard_part.proofs.Blocks.{block_below}
-use Rattle.std.proofs.Common.{rules, arith, ◌≡◌, ◌*◌, ◌/◌, ◌<◌}
+use Rattle.std.proofs.Common.{rules}
 use Rattle.shard_part.proofs.plan.block_of.Goals as goal
 
 pub returns-clause-within : goal.returns-clause-within

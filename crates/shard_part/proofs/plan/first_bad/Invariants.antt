@@ -1,4 +1,4 @@
-use Rattle.std.proofs.Common.{◌≡◌, ℕ, ◌<◌, slice_index_or}
+use Rattle.std.proofs.Common.{ℕ, ◌<◌, slice_index_or}
 use Rattle.shard_part.proofs.plan.first_bad.Given as goal
 
 abbrev pub invariant-loop-i : goal.invariant-loop-i

@@ -1,4 +1,4 @@
-use Rattle.std.proofs.Common.{◌≡◌, ℕ, ◌<◌, ◌≤◌, ◌-◌}
+use Rattle.std.proofs.Common.{◌-◌}
 use Rattle.shard_part.proofs.Halving.{IsBetween}
 use Rattle.shard_part.proofs.search.halve.Given as goal
 

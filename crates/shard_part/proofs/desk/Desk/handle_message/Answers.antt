@@ -1,4 +1,3 @@
-use Rattle.std.proofs.Common.{sym, ap, ◌∙◌}
 use Rattle.shard_part.proofs.Pumping.{message_handled, message_keeps}
 use Rattle.shard_part.proofs.desk.Desk.handle_message.Goals as goal
 

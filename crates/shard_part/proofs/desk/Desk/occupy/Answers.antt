@@ -1,4 +1,4 @@
-use Rattle.std.proofs.Common.{true, arith, rules}
+use Rattle.std.proofs.Common.{true, rules}
 use Rattle.shard_part.proofs.Busy.{occupy_keeps, busy_leaves, deficit_few}
 use Rattle.shard_part.proofs.desk.Desk.occupy.Goals as goal
 

@@ -1,4 +1,4 @@
-use Rattle.shard_part.proofs.Offers.{offered_then, offered_not, tail_mine, still_idle}
+use Rattle.shard_part.proofs.Offers.{tail_mine, still_idle}
 use Rattle.std.proofs.Common.{sym, ◌∙◌}
 use Rattle.shard_part.proofs.desk.Desk.offer.Goals as goal
 

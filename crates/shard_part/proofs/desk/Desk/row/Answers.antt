@@ -1,4 +1,4 @@
-use Rattle.std.proofs.Common.{rules, arith}
+use Rattle.std.proofs.Common.{rules}
 use Rattle.shard_part.proofs.Graphs.{row_leaves}
 use Rattle.shard_part.proofs.desk.Desk.row.Goals as goal
 

@@ -1,4 +1,4 @@
-use Rattle.std.proofs.Common.{refl, sym, ap, ◌∙◌, arith, ◌<◌, ◌≤◌, length, ◌≢◌}
+use Rattle.std.proofs.Common.{refl, ◌∙◌, arith}
 use Rattle.shard_part.specs.PartState.{network_in}
 use Rattle.shard_part.proofs.Graphs.{graph_arc}
 use Rattle.shard_part.proofs.Pumping.{vertex_at, listed_out, rises_of, stands_of, inside_of, row_found}

@@ -1,4 +1,4 @@
-use Rattle.std.proofs.Common.{rules, ℕ, get_or, arith, ap, refl, sym, ◌∙◌, ◌++◌, ◌∷◌, [], length, ◌<◌, eqb-true, eq-eqb}
+use Rattle.std.proofs.Common.{rules, ap, refl, sym, ◌∙◌, ◌++◌, ◌∷◌, [], length, ◌<◌, eqb-true, eq-eqb}
 use Rattle.std.proofs.lemmas.Bool.{false≢true}
 use Rattle.circular_buffer.specs.Buffer.{buffer}
 use Rattle.shard_part.proofs.Rings.{put_here_leaves, put_there_leaves, there_in}

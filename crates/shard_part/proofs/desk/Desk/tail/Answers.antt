@@ -1,4 +1,4 @@
-use Rattle.std.proofs.Common.{arith, rules, ◌≢◌, ◌≡◌, ap, ◌∙◌}
+use Rattle.std.proofs.Common.{arith, ◌≢◌, ◌≡◌, ap, ◌∙◌}
 use Rattle.road_graph.specs.declared.RoadArc.{RoadArc}
 use Rattle.shard_part.proofs.Graphs.{arc_in_graph, tail_entry_is, tail_arc_is}
 use Rattle.shard_part.proofs.desk.Desk.tail.Goals as goal

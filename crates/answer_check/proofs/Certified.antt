@@ -1,5 +1,5 @@
 -- Lines that are certified are the right answer, and the right answer is certified.
-use Rattle.std.proofs.Common.{◌≡◌, ℕ, zero, suc, ◌+◌, ◌-◌, ◌<◌, ◌≤◌, ◌^◌, ◌⊎◌, inl, inr, List, [], ◌∷◌, ◌++◌, length, map, get_or, refl, ap, sym, ◌∙◌, subst, arith, Option, Some, None}
+use Rattle.std.proofs.Common.{◌≡◌, ℕ, zero, suc, ◌+◌, ◌-◌, ◌≤◌, ◌⊎◌, inl, inr, List, [], ◌∷◌, ◌++◌, length, map, get_or, refl, ap, sym, ◌∙◌, subst, arith, Option, Some, None}
 use Rattle.std.proofs.lemmas.List.{length-append, length-map}
 use Rattle.std.proofs.lemmas.List.Elements.{All-nil, All-cons, All-head, All-tail, All-append}
 use Rattle.std.proofs.lemmas.Bool.{cases_eq}
@@ -7,11 +7,11 @@ use Rattle.route_tree.proofs.Elements.{not_in_empty, head_or_tail, here, later}
 use Rattle.std.specs.Prelude.{IsTrue, Contains, All}
 use Rattle.road_graph.specs.Roads.{Roads, IsRoads, HasArc, HasVertex, arc_of}
 use Rattle.path_algebra.specs.Algebra.{Algebra, IsLawful}
-use Rattle.path_algebra.specs.Walks.{IsWalk, IsWalkValue, IsBest, IsBestLabel, IsUnreached, AreBest, IsTight, IsTightWalk, AreHops, IsNearer, IsParent, label_of}
+use Rattle.path_algebra.specs.Walks.{IsWalk, IsWalkValue, IsBest, IsBestLabel, IsUnreached, AreBest, IsTight, IsTightWalk, AreHops, IsParent, label_of}
 use Rattle.path_algebra.proofs.Walks.{IsWalk-snoc, IsWalkValue-extend, walk_value_is_value, labels_are_best}
 use Rattle.path_algebra.proofs.Tight.{never_better_along, best_is_one}
 use Rattle.answer_text.specs.declared.answers.Reached.{Reached}
-use Rattle.answer_text.specs.IsAnswer.{IsBestCode, IsParentOrZero, IsReachedLine, IsLine, AreLines}
+use Rattle.answer_text.specs.IsAnswer.{IsReachedLine, IsLine, AreLines}
 use Rattle.answer_check.specs.Reasons.{IsCodeOf, Brings, source_line}
 use Rattle.answer_check.specs.Certificates.{IsSupported, IsRightLine, IsCertifiedAt, AreCertified}
 

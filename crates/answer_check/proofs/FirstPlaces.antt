@@ -1,5 +1,5 @@
 -- The first place that a pass over marked lines finds is the first where the answer is wrong; where it finds none, the answer is right.
-use Rattle.std.proofs.Common.{◌≡◌, ℕ, zero, suc, ◌+◌, ◌-◌, ◌<◌, ◌≤◌, ◌^◌, ◌⊎◌, inl, inr, min, Bool, true, false, List, [], ◌∷◌, length, refl, ap, sym, ◌∙◌, subst, arith, Option, Some, None}
+use Rattle.std.proofs.Common.{◌≡◌, ℕ, zero, suc, ◌+◌, ◌-◌, ◌<◌, ◌≤◌, ◌^◌, inl, inr, min, Bool, true, false, List, [], ◌∷◌, length, refl, sym, subst, arith, Option, Some, None}
 use Rattle.std.specs.Prelude.{IsTrue, Contains, ◌↔◌, option_map}
 use Rattle.std.specs.List.{range_with_len, AllZip}
 use Rattle.rayon.specs.Lists.{first_true}
@@ -11,8 +11,8 @@ use Rattle.answer_text.specs.IsAnswer.{AreLines}
 use Rattle.answer_check.specs.declared.place.Place.{Place}
 use Rattle.answer_check.specs.declared.verdict.Reason.{Reason}
 use Rattle.answer_check.specs.declared.verdict.Reason.TheVariants.{Mismatch, NotBest, NoParent, OtherHops, LesserParent, HasWalk, OtherRoute}
-use Rattle.answer_check.specs.Reasons.{IsRefused, IsLineRefused, IsJudged, reason_number, source_line}
-use Rattle.answer_check.specs.Certificates.{IsRightLine, IsCertifiedAt}
+use Rattle.answer_check.specs.Reasons.{IsRefused, IsLineRefused, reason_number}
+use Rattle.answer_check.specs.Certificates.{IsCertifiedAt}
 use Rattle.answer_check.specs.Marked.{IsMarkedRefused, IsMarkedRight, TellsRefused}
 use Rattle.answer_check.specs.Places.{IsJudgedAt, IsFirstNumber}
 use Rattle.answer_check.specs.Verdicts.{IsEarlier}

@@ -1,13 +1,12 @@
 -- The first place of the first answer that is wrong is the first place of the list; a list that is wrong nowhere is right.
 use Rattle.std.proofs.Common.{◌≡◌, ℕ, zero, suc, ◌+◌, ◌-◌, ◌<◌, ◌≤◌, ◌⊎◌, inl, inr, List, [], ◌∷◌, length, map, get_or, refl, ap, sym, ◌∙◌, subst, arith, Option, Some, None}
-use Rattle.std.specs.Prelude.{◌↔◌, Contains, All, slice_get, option_map, Vec, ⊤}
-use Rattle.std.specs.declared.alloc.Global.{Global}
+use Rattle.std.specs.Prelude.{◌↔◌, All, slice_get}
 use Rattle.std.proofs.lemmas.List.Elements.{All-head, All-tail, All-cons, All-nil}
 use Rattle.std.proofs.lemmas.Option.{slice_get_within, slice_get-get_or}
 use Rattle.road_graph.specs.Roads.{Roads, IsRoads, HasVertex}
 use Rattle.path_algebra.specs.Algebra.{Algebra, IsLawful}
 use Rattle.path_algebra.proofs.Walks.{all_inside}
-use Rattle.road_files.specs.Asked.{Question, FromSource, BetweenPair, FromSources, Asked, AskWithin, asked_of, of_source, of_pair, of_list, IsVertexOf, IsPairOf, AreSourcesOf}
+use Rattle.road_files.specs.Asked.{Question, FromSource, BetweenPair, FromSources, Asked, AskWithin, asked_of, of_source, of_pair, of_list}
 use Rattle.road_files.specs.declared.questions.Questions.{Questions}
 use Rattle.road_files.specs.declared.questions.Questions.TheVariants as variants
 use Rattle.answer_text.specs.Told.{ToldFound, Told, ToldSource, ToldPair, ToldMulti, ToldList}
@@ -18,10 +17,9 @@ use Rattle.answer_check.specs.declared.verdict.Reason.{Reason}
 use Rattle.answer_check.specs.declared.verdict.Reason.TheVariants.{Mismatch, NotBest, NoParent, OtherHops, LesserParent, HasWalk, OtherRoute}
 use Rattle.answer_check.specs.declared.verdict.Verdict.{Verdict}
 use Rattle.answer_check.specs.declared.verdict.Verdict.TheVariants.{Valid, Invalid}
-use Rattle.path_algebra.specs.Walks.{label_of}
 use Rattle.answer_text.specs.declared.answers.Reached.{Reached}
 use Rattle.answer_check.specs.Reasons.{reason_number, IsLineRefused, IsPairRefused, IsJudged}
-use Rattle.answer_check.specs.Verdicts.{HasHeader, Names, IsRefusedAt, IsWrongIn, IsWrong, IsEarlier, IsBefore, IsFirstWrong, IsVerdict}
+use Rattle.answer_check.specs.Verdicts.{HasHeader, Names, IsRefusedAt, IsWrongIn, IsWrong, IsEarlier, IsFirstWrong, IsVerdict}
 use Rattle.answer_check.specs.Places.{IsJudgedAt}
 use Rattle.answer_check.proofs.Certified.{lines_are_certified, same_some}
 use Rattle.answer_check.proofs.Refused.{certified_not_refused}

@@ -1,9 +1,8 @@
 -- How what is told of a pair differs from the right answer is the first reason against it.
-use Rattle.std.proofs.Common.{◌≡◌, ◌≢◌, ℕ, ◌+◌, ◌<◌, ◌≤◌, List, [], ◌∷◌, length, refl, ap, sym, ◌∙◌, subst, arith, Option, Some, None}
-use Rattle.std.specs.Prelude.{Contains}
-use Rattle.road_graph.specs.Roads.{Roads, IsRoads, HasVertex}
+use Rattle.std.proofs.Common.{◌≡◌, ℕ, ◌<◌, List, [], ◌∷◌, ap, sym, ◌∙◌, subst, arith, Option, Some, None}
+use Rattle.road_graph.specs.Roads.{Roads, IsRoads}
 use Rattle.path_algebra.specs.Algebra.{Algebra, IsLawful}
-use Rattle.path_algebra.specs.Walks.{IsBest, IsBestLabel, IsUnreached, AreHops, IsWalkValue, IsParentChain, label_of}
+use Rattle.path_algebra.specs.Walks.{IsBest, IsBestLabel, IsUnreached, AreHops, IsWalkValue}
 use Rattle.path_algebra.proofs.Tight.{best_is_one}
 use Rattle.route_tree.specs.Told.{IsToldOf, IsParentRoute}
 use Rattle.route_tree.proofs.Elements.{here}

@@ -1,5 +1,5 @@
 -- Nothing speaks against a line that is certified.
-use Rattle.std.proofs.Common.{◌≡◌, ℕ, ◌+◌, ◌<◌, ◌≤◌, inl, inr, List, refl, ap, sym, ◌∙◌, subst, arith, Option, Some, None}
+use Rattle.std.proofs.Common.{◌≡◌, ℕ, ◌+◌, inl, inr, List, ap, ◌∙◌, subst, arith, Option, Some, None}
 use Rattle.std.specs.Prelude.{IsTrue, Contains}
 use Rattle.road_graph.specs.Roads.{Roads}
 use Rattle.path_algebra.specs.Algebra.{Algebra, IsLawful}
@@ -7,7 +7,7 @@ use Rattle.path_algebra.specs.Walks.{label_of}
 use Rattle.answer_text.specs.declared.answers.Reached.{Reached}
 use Rattle.answer_check.specs.declared.verdict.Reason.{Reason}
 use Rattle.answer_check.specs.declared.verdict.Reason.TheVariants.{Mismatch, NotBest, NoParent, OtherHops, LesserParent, HasWalk, OtherRoute}
-use Rattle.answer_check.specs.Reasons.{IsCodeOf, Brings, Gives, source_line, IsRefused, IsLineRefused}
+use Rattle.answer_check.specs.Reasons.{Brings, Gives, source_line, IsRefused, IsLineRefused}
 use Rattle.answer_check.specs.Certificates.{IsSupported, IsRightLine, IsCertifiedAt}
 use Rattle.answer_check.proofs.Certified.{same_some, code_of_one}
 

@@ -1,5 +1,5 @@
 -- What is shown by one arc more, and what the signs of all arcs into a vertex mean.
-use Rattle.std.proofs.Common.{◌≡◌, ℕ, ◌+◌, ◌<◌, List, Bool, true, false, ◌||◌, length, get_or, take, ap, ◌∙◌, subst, refl, sym}
+use Rattle.std.proofs.Common.{◌≡◌, ℕ, ◌+◌, ◌<◌, List, Bool, ◌||◌, length, get_or, take, ap, ◌∙◌, refl, sym}
 use Rattle.std.specs.Prelude.{Option}
 use Rattle.std.specs.List.{list_any}
 use Rattle.std.proofs.lemmas.List.Folds.{list_any_more}
@@ -7,7 +7,7 @@ use Rattle.road_graph.specs.Roads.{Roads}
 use Rattle.path_algebra.specs.Algebra.{Algebra}
 use Rattle.answer_text.specs.declared.answers.Reached.{Reached}
 use Rattle.answer_check.specs.declared.signs.Signs.{Signs}
-use Rattle.answer_check.specs.Signs.{signs_of, all_signs, either, brought, is_there}
+use Rattle.answer_check.specs.Signs.{signs_of, all_signs, either}
 
 one_more : (p : ℕ → Bool) (arcs : List ℕ) (i a : ℕ) → i < length arcs → a ≡ get_or arcs i a → list_any p (take (i + 1) arcs) ≡ (list_any p (take i arcs) || p a)
 one_more p arcs i a lt e = list_any_more p arcs i a lt ∙ ap (λ (x : ℕ). list_any p (take i arcs) || p x) (sym e)

@@ -1,12 +1,12 @@
 -- What the arcs into a vertex show of its line, as the check counts it.
-use Rattle.std.specs.Prelude.{ℕ, ◌+◌, ◌^◌, List, [], ◌∷◌, Bool, true, false, not, ◌&&◌, ◌||◌, nat_eq, nat_lt, if◌then◌else◌, Option, Some, None}
+use Rattle.std.specs.Prelude.{ℕ, ◌+◌, ◌^◌, List, Bool, true, false, not, ◌&&◌, ◌||◌, nat_eq, nat_lt, if◌then◌else◌, Option, Some, None}
 use Rattle.std.specs.List.{list_any}
 use Rattle.road_graph.specs.Roads.{Roads, arc_of}
 use Rattle.path_algebra.specs.Algebra.{Algebra}
 use Rattle.path_algebra.specs.Walks.{label_of}
 use Rattle.answer_text.specs.declared.answers.Reached.{Reached}
 use Rattle.answer_check.specs.declared.verdict.Reason.{Reason}
-use Rattle.answer_check.specs.declared.verdict.Reason.TheVariants.{Mismatch, NotBest, NoParent, OtherHops, LesserParent, HasWalk, OtherRoute}
+use Rattle.answer_check.specs.declared.verdict.Reason.TheVariants.{NotBest, NoParent, OtherHops, LesserParent}
 use Rattle.answer_check.specs.declared.signs.Signs.{Signs}
 
 -- the value that a number of 64 bits is the code of

@@ -1,5 +1,5 @@
 -- Where an answer list is wrong, and which of these places comes first.
-use Rattle.std.specs.Prelude.{◌≡◌, ℕ, ◌+◌, ◌-◌, ◌<◌, ◌≤◌, ◌⊎◌, List, [], ◌∷◌, length, slice_get, Option, Some, None}
+use Rattle.std.specs.Prelude.{◌≡◌, ℕ, ◌-◌, ◌<◌, ◌≤◌, ◌⊎◌, [], ◌∷◌, length, slice_get, Some}
 use Rattle.road_graph.specs.Roads.{Roads, HasVertex}
 use Rattle.path_algebra.specs.Algebra.{Algebra}
 use Rattle.road_files.specs.Asked.{Question, FromSource, BetweenPair, FromSources, Asked}

@@ -1,13 +1,11 @@
-use Rattle.std.proofs.Common.{rules, ◌≡◌, ℕ, ◌+◌, ◌<◌, ◌≤◌, length, map, arith, sym, ap, ◌∙◌, true, false, Option, Some, None, Ok, List}
+use Rattle.std.proofs.Common.{rules, ◌≡◌, ◌+◌, ◌<◌, ◌≤◌, length, arith, sym, ap, ◌∙◌, true, false, Option, Some, None, Ok}
 use Rattle.std.proofs.lemmas.List.{length-map}
-use Rattle.road_files.specs.Asked.{Question, asked_of}
-use Rattle.answer_text.specs.Told.{Told, told_of, told_list_of}
-use Rattle.answer_text.specs.IsAnswer.{IsAnswer, IsAnswerList}
+use Rattle.road_files.specs.Asked.{asked_of}
+use Rattle.answer_text.specs.Told.{told_of, told_list_of}
 use Rattle.answer_check.specs.declared.place.Place.{Place}
 use Rattle.answer_check.specs.declared.verdict.Reason.TheVariants.{Mismatch}
 use Rattle.answer_check.specs.declared.verdict.Verdict.TheVariants.{Valid, Invalid}
-use Rattle.answer_check.specs.Places.{IsJudgedAt}
-use Rattle.answer_check.specs.Verdicts.{HasHeader, IsWrongIn, IsFirstWrong}
+use Rattle.answer_check.specs.Verdicts.{HasHeader}
 use Rattle.answer_check.proofs.FirstWrong.{asks_of, question_at, mapped_read, one_right_more, list_is_right, both_clauses, header_first, answer_first}
 use Rattle.answer_check.proofs.checking.check.Goals as goal
 

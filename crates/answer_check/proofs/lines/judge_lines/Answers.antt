@@ -1,4 +1,4 @@
-use Rattle.std.proofs.Common.{rules, ◌≡◌, ℕ, ◌≤◌, ◌↔◌, Contains, IsTrue, arith}
+use Rattle.std.proofs.Common.{ℕ, ◌≤◌, ◌↔◌, Contains, IsTrue, arith}
 use Rattle.path_algebra.specs.Walks.{is_marked}
 use Rattle.path_algebra.proofs.Walks.{all_inside}
 use Rattle.answer_check.proofs.FirstPlaces.{lines_judged}

@@ -1,4 +1,4 @@
-use Rattle.std.proofs.Common.{rules, ◌≡◌, ℕ, ◌-◌, ◌<◌, ◌≤◌, List, length, get_or, set, take, sym, ◌∙◌, subst, arith, length-set, true, ap}
+use Rattle.std.proofs.Common.{rules, ◌≡◌, ℕ, ◌-◌, ◌<◌, List, length, get_or, take, sym, ◌∙◌, subst, arith, length-set, true, ap}
 use Rattle.std.proofs.Math.Seq.{take-length}
 use Rattle.answer_check.proofs.Marks.{AreMarksOf, mark_more}
 use Rattle.answer_check.proofs.lines.marks_of.Goals as goal

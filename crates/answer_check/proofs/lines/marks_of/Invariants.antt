@@ -1,4 +1,4 @@
-use Rattle.std.proofs.Common.{◌≡◌, ℕ, length, take}
+use Rattle.std.proofs.Common.{◌≡◌, length, take}
 use Rattle.answer_check.proofs.Marks.{AreMarksOf}
 use Rattle.answer_check.proofs.lines.marks_of.Given as goal
 

@@ -1,4 +1,4 @@
-use Rattle.std.proofs.Common.{rules, ◌≡◌, ℕ, List, Option, [], ◌∷◌, Some, None, ◌∙◌, sym, subst}
+use Rattle.std.proofs.Common.{rules, ◌≡◌, [], ◌∷◌, Some, None, ◌∙◌, sym, subst}
 use Rattle.path_algebra.specs.Walks.{IsBestLabel, IsUnreached, label_of}
 use Rattle.route_tree.specs.Tree.{IsRoute, hops_of, parent_of}
 use Rattle.answer_text.specs.Told.{found_of}

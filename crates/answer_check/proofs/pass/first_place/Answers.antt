@@ -1,4 +1,4 @@
-use Rattle.std.proofs.Common.{◌≡◌, ℕ, ◌+◌}
+use Rattle.std.proofs.Common.{◌+◌}
 use Rattle.path_algebra.specs.Walks.{is_marked}
 use Rattle.answer_check.proofs.FirstPlaces.{first_place_is, not_right}
 use Rattle.answer_check.proofs.pass.first_place.Goals as goal

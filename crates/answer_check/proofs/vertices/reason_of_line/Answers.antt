@@ -1,13 +1,9 @@
-use Rattle.std.proofs.Common.{rules, ◌≡◌, ℕ, ◌<◌, length, get_or, List, Option, Some, None, refl, sym, ◌∙◌, subst}
+use Rattle.std.proofs.Common.{rules, ◌≡◌, get_or, Some, None, sym, ◌∙◌}
 use Rattle.std.proofs.lemmas.List.Elements.{Contains-get_or}
-use Rattle.road_graph.specs.Roads.{HasArc}
 use Rattle.path_algebra.specs.Walks.{label_of}
-use Rattle.answer_text.specs.declared.answers.Reached.{Reached}
 use Rattle.std.proofs.Common.{true}
 use Rattle.std.specs.List.{list_any}
 use Rattle.answer_check.specs.Signs.{brought, is_there, decoded}
-use Rattle.answer_check.specs.Reasons.{IsRefused, IsJudged}
-use Rattle.answer_check.specs.Certificates.{IsRightLine}
 use Rattle.answer_check.proofs.SignsMean.{signs_judge, walk_judged, decoded_is}
 use Rattle.answer_check.proofs.vertices.reason_of_line.Goals as goal
 

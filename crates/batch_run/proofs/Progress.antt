@@ -2,7 +2,7 @@
 use Rattle.std.proofs.Common.{◌≡◌, ℕ, ◌+◌, ◌<◌, ◌≤◌, List, [], ◌∷◌, ◌++◌, length, take, get_or, Option, Some, None, Result, Ok, Err, inl, inr, ◌⊎◌, refl, sym, ap, ◌∙◌, subst, append_assoc, append-nil, arith, suc}
 use Rattle.std.proofs.lemmas.List.{take_all, take_more}
 use Rattle.std.specs.Io.KnownBytes.{Appends, Keeps}
-use Rattle.std.proofs.KnownBytes.{Appends-nil}
+use Rattle.std.proofs.KnownBytes.{Appends-nil, Appends-kept}
 use Rattle.std.specs.Result.{OnOk, IfErr}
 use Rattle.road_graph.specs.Roads.{Roads}
 use Rattle.road_text.specs.Written.{Left, Fell}
@@ -105,12 +105,6 @@ answers_count A g (q ∷ qs) (t ∷ ts) h = ap suc (answers_count A g qs ts h.1)
 answers_count A g [] (t ∷ ts) h = absurd h
 answers_count A g (q ∷ qs) [] h = absurd h
 
-keeps_appends : (old mid new : Option (List ℕ)) (x : List ℕ) → Appends old mid x → Keeps mid new → Appends old new x
-keeps_appends None mid new x p q = tt
-keeps_appends (Some o) None new x p q = absurd p
-keeps_appends (Some o) (Some m) None x p q = absurd q
-keeps_appends (Some o) (Some m) (Some n) x p q = q ∙ p
-
 module _ {V : Type 0} (A : Algebra V) (g : Roads) (asked : Asked) where
   pub end : (i : ℕ) (old new : Option (List ℕ)) (b a : ℕ) → length asked.questions ≤ i → Progress A g asked i old new b a → WroteAnswers A g asked old new
   end i old new b a le p =
@@ -125,10 +119,10 @@ module _ {V : Type 0} (A : Algebra V) (g : Roads) (asked : Asked) where
 
   module _ (old mid new : Option (List ℕ)) (keeps : Keeps mid new) where
     all_kept : WroteAnswers A g asked old mid → WroteAnswers A g asked old new
-    all_kept w = record { answers = w.answers; right = w.right; bytes = keeps_appends old mid new _ w.bytes keeps }
+    all_kept w = record { answers = w.answers; right = w.right; bytes = Appends-kept old mid new _ w.bytes keeps }
 
     first_kept : WroteFirst A g asked old mid → WroteFirst A g asked old new
-    first_kept w = record { count = w.count; answers = w.answers; right = w.right; front = w.front; rest = w.rest; text_is = w.text_is; bytes = keeps_appends old mid new w.front w.bytes keeps }
+    first_kept w = record { count = w.count; answers = w.answers; right = w.right; front = w.front; rest = w.rest; text_is = w.text_is; bytes = Appends-kept old mid new w.front w.bytes keeps }
 
   first_of_all : (old new : Option (List ℕ)) → WroteAnswers A g asked old new → WroteFirst A g asked old new
   first_of_all old new w =

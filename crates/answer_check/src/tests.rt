@@ -1,6 +1,6 @@
 //! Verdicts on answers that are right, and on answers with one place changed.
 
-use crate::{Reason, Verdict, check};
+use crate::{Reason, Verdict, check, right_lines_are_certified};
 use answer_text::read_answers;
 use path_algebra::{PathAlgebra, Shortest, Widest, Within};
 use road_files::{read_gr, read_questions};
@@ -91,6 +91,7 @@ fn assert_pair(
 
 #[test]
 fn right_answers(rt: HostRuntime) -> Result<(), Fail> {
+    right_lines_are_certified(Shortest);
     assert_lines(&rt, FIVE, LINES, Verdict::Valid)?;
     assert_pair(&rt, "q 1 4\nd 8 3\nr 1 3 2 4\n", Verdict::Valid)?;
     let pairs = "p aux sp p2p 2\nq 4 1\nq 5 5\n";

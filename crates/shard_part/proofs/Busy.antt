@@ -7,7 +7,8 @@ use Rattle.scholten_core.specs.Diffusion.{CoreState, is_idle}
 use Rattle.scholten_core.specs.Sums.{one_if}
 use Rattle.scholten_core.specs.Items.{item_arc}
 use Rattle.shard_part.specs.Tables.{spread}
-use Rattle.shard_part.specs.PartState.{PartData, state_in, token_if, network_in, place_in, own_in, arcs_out, busy_out, is, engages, idles, part_weight, IsSound, IsClear}
+use Rattle.scholten_core.specs.Deficit.{busy_out}
+use Rattle.shard_part.specs.PartState.{PartData, state_in, token_if, network_in, place_in, own_in, arcs_out, is, engages, idles, part_weight, IsSound, IsClear}
 use Rattle.shard_part.specs.Desk.{Rows, IsCounted, IsDesk, IsPlace, IsRow}
 use Rattle.shard_part.proofs.Weights.{sum_at, sum_below_same}
 use Rattle.shard_part.proofs.Alone.{if_most}

@@ -6,10 +6,11 @@ use Rattle.scholten_core.specs.declared.item.Item.TheVariants.{Signal as SignalO
 use Rattle.scholten_core.specs.Diffusion.{is_idle, is_due, same_label, extend_label, out_idle}
 use Rattle.road_graph.specs.Roads.{arc_of}
 use Rattle.scholten_core.proofs.Networks.{weight-arc}
-use Rattle.shard_part.specs.PartState.{PartData, state_in, token_if, network_in, place_in, busy_out, IsArc}
+use Rattle.scholten_core.specs.Deficit.{busy_out}
+use Rattle.shard_part.specs.PartState.{PartData, state_in, token_if, network_in, place_in, IsArc}
 use Rattle.shard_part.proofs.Graphs.{arc_in_graph}
 use Rattle.shard_part.proofs.Moves.{mine_at}
-use Rattle.shard_part.proofs.Quick.{out_idle_counted}
+use Rattle.scholten_core.proofs.Quick.{out_idle_counted}
 use Rattle.shard_part.specs.Desk.{Rows, IsDesk, IsPlace, with_item, with_message, rested, rested_by, offered}
 
 pub same_read : {V : Type 0} (A : Algebra V) {x y u v : Option V} → x ≡ u → y ≡ v → same_label A x y ≡ same_label A u v

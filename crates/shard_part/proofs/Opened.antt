@@ -14,7 +14,8 @@ use Rattle.scholten_core.specs.Sums.{one_if}
 use Rattle.scholten_core.proofs.Basics.{put-at, put-other}
 use Rattle.scholten_core.proofs.Networks.{tail-arc, head-entry, tail-entry}
 use Rattle.shard_part.specs.Tables.{spread, placed}
-use Rattle.shard_part.specs.PartState.{Setup, PartData, network_in, place_in, state_in, token_if, own_in, arcs_out, arcs_from, outgoing, busy_out, total, outs_weight, part_weight, engages, idles, names, is, All, vertex_of, maker_of, at_place, flying, IsArc, IsSound, HoldsShare, queue_room, out_room}
+use Rattle.scholten_core.specs.Deficit.{busy_out}
+use Rattle.shard_part.specs.PartState.{Setup, PartData, network_in, place_in, state_in, token_if, own_in, arcs_out, arcs_from, outgoing, total, outs_weight, part_weight, engages, idles, names, is, All, vertex_of, maker_of, at_place, flying, IsArc, IsSound, HoldsShare, queue_room, out_room}
 use Rattle.shard_part.specs.Desk.{Rows, seen_as, IsPlanned, IsCounted, IsDesk}
 use Rattle.shard_part.specs.Opening.{is_first, first_items, opened_part, AreStarts, idle_rows}
 use Rattle.shard_part.proofs.Weights.{sum_at, sum_zero}

@@ -19,7 +19,8 @@ use Rattle.shard_part.proofs.Flying.{outgoing_is}
 use Rattle.shard_part.proofs.Moves.{put_set, formed}
 use Rattle.shard_part.proofs.Graphs.{head_of_arc, head_of_entry, tail_of_arc, tail_of_entry}
 use Rattle.shard_part.proofs.Pumping.{offered_none}
-use Rattle.shard_part.proofs.Quick.{HasTold, quiet_message, quiet_signal, made_nothing, made_alone}
+use Rattle.scholten_core.proofs.Quick.{HasTold, quiet_signal, made_nothing, made_alone}
+use Rattle.shard_part.proofs.Quick.{quiet_message}
 use Rattle.shard_part.proofs.TakenArcs.{counted_none, counted_top}
 use Rattle.shard_part.proofs.TakenMoves.{Made, settles, made_after}
 

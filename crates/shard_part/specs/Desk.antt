@@ -9,7 +9,8 @@ use Rattle.scholten_core.specs.Items.{item_arc}
 use Rattle.shard_part.specs.Plans.{IsPlan}
 use Rattle.shard_part.specs.Tallies.{counted_on, top}
 use Rattle.shard_part.specs.Tables.{spread}
-use Rattle.shard_part.specs.PartState.{PartData, Setup, lanes_of, network_in, place_in, state_in, own_in, arcs_out, busy_out, outgoing, route, IsSound, queue_room, out_room, IsArc, IsClear, vertex_of}
+use Rattle.scholten_core.specs.Deficit.{busy_out}
+use Rattle.shard_part.specs.PartState.{PartData, Setup, lanes_of, network_in, place_in, state_in, own_in, arcs_out, outgoing, route, IsSound, queue_room, out_room, IsArc, IsClear, vertex_of}
 use Rattle.shard_part.specs.declared.tables.Tables.{Tables}
 
 -- the values of the tables, by place

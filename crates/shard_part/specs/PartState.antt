@@ -1,5 +1,5 @@
 -- What a part is seen as, what it does with one item, and what parts and mailboxes show.
-use Rattle.std.specs.Prelude.{◌≡◌, ◌≢◌, ℕ, zero, suc, ◌+◌, ◌-◌, ◌<◌, ◌≤◌, Bool, true, false, cond, not, ◌||◌, ◌&&◌, eqb, Option, Some, None, List, [], ◌∷◌, ◌++◌, length, set, get_or}
+use Rattle.std.specs.Prelude.{◌≡◌, ◌≢◌, ℕ, zero, suc, ◌+◌, ◌-◌, ◌<◌, ◌≤◌, Bool, true, false, cond, ◌||◌, ◌&&◌, eqb, Option, Some, None, List, [], ◌∷◌, ◌++◌, length, set, get_or}
 use Rattle.scholten_core.specs.declared.token.Token.{Token}
 use Rattle.scholten_core.specs.declared.token.Token.TheVariants.{Idle, Message, Held, Signal}
 use Rattle.scholten_core.specs.declared.item.Item.{Item}
@@ -325,7 +325,3 @@ own_in t s = 0 ∷ placed (place_in t) s 1 t.roads.vertices
 unfoldable pub arcs_out : Network → List ℕ → List ℕ
 arcs_out N [] = []
 arcs_out N (v ∷ vs) = outgoing N v ++ arcs_out N vs
-
--- how many arcs out of v are busy
-abbrev pub busy_out : {V : Type 0} → Network → ℕ → CoreState V → ℕ → ℕ
-busy_out N v d n = sum_below (λ b. one_if (eqb (N.tail b) v && not (is_idle (d.token b)))) n

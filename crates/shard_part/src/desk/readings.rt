@@ -1,6 +1,7 @@
 //! What may be read of a desk.
 ghost use Rattle.std.specs.Prelude.{◌≡◌, ◌≢◌, ◌+◌, ◌<◌, suc, [], get_or, length, leb, IsTrue, ◌↔◌};
-ghost use Rattle.shard_part.specs.PartState.{network_in, place_in, state_in, busy_out, queue_room, out_room};
+ghost use Rattle.scholten_core.specs.Deficit.{busy_out};
+ghost use Rattle.shard_part.specs.PartState.{network_in, place_in, state_in, queue_room, out_room};
 ghost use Rattle.shard_part.specs.Tallies.{top};
 ghost use Rattle.shard_part.specs.Readings.{IsOwn, has_ended, tally_in};
 

@@ -20,7 +20,7 @@ pub fn read_answers<R: RoadRead>(alloc: Global, from: &mut R, n: u32) -> Result<
     ensures untold { TellsNoOther (R.failures from.old) (R.failures from.new) result }
     ensures long { IsTooLong (R.left from.old) result }
     ensures placed { IsPlaced result }
-    ensures numbered { IsReadNumber result }
+    ensures numbered { IsReadNumber 10 36 result }
     ensures end { OnOk result (IsAtEnd (R.left from.new)) }
     ensures asked { R.asked from.new ≤ R.asked from.old + 4294967297 }
 {

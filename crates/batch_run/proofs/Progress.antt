@@ -18,7 +18,7 @@ use Rattle.batch_run.specs.declared.faults.File.TheVariants.{NoFile}
 use Rattle.batch_run.specs.declared.faults.RunFault.{RunFault}
 use Rattle.batch_run.specs.declared.faults.Unanswered.{Unanswered}
 use Rattle.batch_run.specs.declared.faults.Unanswered.TheVariants as variants
-use Rattle.batch_run.specs.Answered.{WroteAnswer, WroteAnswers, begun_text, WroteFirst, WroteAllOrFirst, fault_of_answer}
+use Rattle.batch_run.specs.Answered.{WroteAnswer, WroteAnswers, begun_text, WroteFirst, WroteWhole, WroteAllOrFirst, fault_of_answer}
 
 -- the first i questions were answered, and the answers written
 pub record Progress {V : Type 0} (A : Algebra V) (g : Roads) (asked : Asked) (i : ℕ) (old new : Option (List ℕ)) (before after : ℕ) : Type 0 where
@@ -94,6 +94,20 @@ module _ {V : Type 0} (A : Algebra V) (g : Roads) (asked : Asked) where
     fault_later variants.Memory h = (refl, refl, inl refl, λ e. absurd (omega (arith, e)))
     fault_later variants.Write h = (refl, refl, inr refl, λ e. omega (arith, h.2.failed, p.left.sound))
 
+    -- memory was refused between two answers, and no write failed
+    pub whole : (u : Unanswered) → WroteAnswer A g (get_or asked.questions i q) mid new m a (Err u) → (fault_of_answer u).number ≡ 3 → WroteWhole A g asked old new
+    whole variants.Memory h e = record {
+      count = i;
+      answers = p.answers;
+      right = p.right;
+      bytes = subst (λ (x : Option (List ℕ)). Appends old x (begun_text A asked p.answers)) (sym h.0) (subst (Appends old mid) (sym (p.left.text_is ∙ append-nil p.left.front)) p.left.bytes);
+    }
+    whole variants.Write h e = absurd (omega (arith, e))
+
+    pub unfailed : (u : Unanswered) → WroteAnswer A g (get_or asked.questions i q) mid new m a (Err u) → (fault_of_answer u).number ≡ 3 → a ≡ b
+    unfailed variants.Memory h e = h.1 ∙ p.left.sound
+    unfailed variants.Write h e = absurd (omega (arith, e))
+
     pub more_failed : (u : Unanswered) → WroteAnswer A g (get_or asked.questions i q) mid new m a (Err u) → b ≤ a
     more_failed variants.Memory h = omega (arith, h.1, p.left.sound)
     more_failed variants.Write h = omega (arith, h.2.failed, p.left.sound)
@@ -121,6 +135,9 @@ module _ {V : Type 0} (A : Algebra V) (g : Roads) (asked : Asked) where
     all_kept : WroteAnswers A g asked old mid → WroteAnswers A g asked old new
     all_kept w = record { answers = w.answers; right = w.right; bytes = Appends-kept old mid new _ w.bytes keeps }
 
+    pub whole_kept : WroteWhole A g asked old mid → WroteWhole A g asked old new
+    whole_kept w = record { count = w.count; answers = w.answers; right = w.right; bytes = Appends-kept old mid new _ w.bytes keeps }
+
     first_kept : WroteFirst A g asked old mid → WroteFirst A g asked old new
     first_kept w = record { count = w.count; answers = w.answers; right = w.right; front = w.front; rest = w.rest; text_is = w.text_is; bytes = Appends-kept old mid new w.front w.bytes keeps }
 
@@ -147,3 +164,10 @@ module _ {V : Type 0} (A : Algebra V) (g : Roads) (asked : Asked) where
   flushed F Y Z old mid new keeps answered (Ok u) was ok err = all_kept old mid new keeps (subst (WroteAllOrFirst A g asked old mid) ok.0 was)
   flushed F Y Z old mid new keeps answered (Err f) was ok (inl e) = first_kept old mid new keeps (subst (WroteAllOrFirst A g asked old mid) e was)
   flushed F Y Z old mid new keeps answered (Err f) was ok (inr (x, e, y)) = first_of_all old new (all_kept old mid new keeps (subst (WroteAllOrFirst A g asked old mid) e was))
+
+  -- nor does what was written whole change
+  pub flushed_whole : (F : RunFault) (Y Z : Type 0) (old mid new : Option (List ℕ)) → Keeps mid new → F.number ≡ 42 → (answered r : Result (Unit {0}) RunFault) → IfErr answered (λ f. f.number ≡ 3 → WroteWhole A g asked old mid) →
+      IfErr r (λ f. (answered ≡ Err f) ⊎ ((f ≡ F) × (answered ≡ Ok tt) × Z)) → IfErr r (λ f. f.number ≡ 3 → WroteWhole A g asked old new)
+  flushed_whole F Y Z old mid new keeps write answered (Ok u) was err = tt
+  flushed_whole F Y Z old mid new keeps write answered (Err f) was (inl e) = λ three. whole_kept old mid new keeps (subst (λ x. IfErr x (λ h. h.number ≡ 3 → WroteWhole A g asked old mid)) e was three)
+  flushed_whole F Y Z old mid new keeps write answered (Err f) was (inr (x, e, y)) = λ three. absurd (omega (arith, three, write, ap (λ (h : RunFault). h.number) x))

@@ -53,6 +53,13 @@ pub record WroteFirst {V : Type 0} (A : Algebra V) (g : Roads) (asked : Asked) (
   pub text_is : begun_text A asked answers ≡ front ++ rest
   pub bytes : Appends old new front
 
+-- the header was written, and the right answers to the first questions, each of them whole
+pub record WroteWhole {V : Type 0} (A : Algebra V) (g : Roads) (asked : Asked) (old new : Option (List ℕ)) : Type 0 where
+  pub count : ℕ
+  pub answers : List Told
+  pub right : AreAnswers A g (take count asked.questions) answers
+  pub bytes : Appends old new (begun_text A asked answers)
+
 -- all of the text, or of the first answers where there was a fault
 abbrev pub WroteAllOrFirst : {V : Type 0} → Algebra V → Roads → Asked → Option (List ℕ) → Option (List ℕ) → Result (Unit {0}) RunFault → Type 0
 WroteAllOrFirst A g asked old new (Ok _) = WroteAnswers A g asked old new

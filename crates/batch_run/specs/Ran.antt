@@ -1,6 +1,7 @@
 -- What a batch promises of its inputs and its output.
 use Rattle.std.specs.Prelude.{◌≡◌, ◌≢◌, ℕ, ◌<◌, ◌≤◌, ◌⊎◌, List, [], Option, None, Result, Ok, Err, IfSome}
 use Rattle.road_graph.specs.Roads.{Roads, IsRoads}
+use Rattle.road_text.specs.Reads.{IsNumberFrom}
 use Rattle.road_text.specs.Rules.{text_read}
 use Rattle.road_files.specs.Asked.{Asked}
 use Rattle.road_files.specs.GraphFiles.{gr_rules}
@@ -10,7 +11,7 @@ use Rattle.path_algebra.specs.Algebra.{Algebra}
 use Rattle.batch_run.specs.declared.faults.RunFault.{RunFault}
 use Rattle.batch_run.specs.declared.faults.File.{File}
 use Rattle.batch_run.specs.declared.faults.File.TheVariants.{NoFile}
-use Rattle.batch_run.specs.Answered.{WroteAnswers, WroteFront}
+use Rattle.batch_run.specs.Answered.{WroteAnswers, WroteFront, WroteWhole}
 
 -- two inputs, where they are told, are the texts of this graph and of these questions over it
 pub record IsPairOf (graph questions : Option (List ℕ)) (g : Roads) (asked : Asked) : Type 0 where
@@ -35,6 +36,13 @@ pub record Begun {V : Type 0} (A : Algebra V) (IsRead : Roads → Asked → Type
   pub read : IsRead graph asked
   pub wrote : WroteFront A graph asked old new
 
+-- the header was, and the answers to the first questions, each of them whole
+pub record BegunWhole {V : Type 0} (A : Algebra V) (IsRead : Roads → Asked → Type 0) (old new : Option (List ℕ)) : Type 0 where
+  pub graph : Roads
+  pub asked : Asked
+  pub read : IsRead graph asked
+  pub wrote : WroteWhole A graph asked old new
+
 -- the fault of a line, and none of reading or of memory
 abbrev pub IsTextFault : RunFault → Type 0
 IsTextFault f = (2 ≤ f.number) × (f.number ≢ 3)
@@ -53,10 +61,14 @@ IsQuestionsFault graph questions f =
 abbrev pub IsBundleFault : Option (List ℕ) → RunFault → Type 0
 IsBundleFault input f = IsTextFault f → IfSome input (λ b. text_read bundle_rules b ≡ Err (record { number = f.number; line = f.line }))
 
--- a fault of one of these inputs, with a reader's number; or one of the run: memory, a write, or a setting
+-- the number of a fault of an input with roads: 1 to 3, or 10 to 19
+abbrev pub IsRoadNumber : ℕ → Type 0
+IsRoadNumber number = IsNumberFrom 10 19 number
+
+-- a fault of one of these inputs, with a number of theirs; or one of the run: memory, a write, or a setting
 abbrev pub IsFaultOf : (File → Type 0) → RunFault → Type 0
 IsFaultOf inputs f =
-    (inputs f.file × (1 ≤ f.number) × (f.number ≤ 36))
+    (inputs f.file × IsRoadNumber f.number)
     ⊎ ((f.file ≡ NoFile) × (f.line ≡ 0) × ((f.number ≡ 3) ⊎ ((f.number ≡ 42) ⊎ (f.number ≡ 43))))
 
 -- nothing is held back: all was passed on, or passing it on failed

@@ -1,10 +1,10 @@
 //! Runs a batch from bytes to bytes.
-ghost use Rattle.std.specs.Prelude.{◌≡◌, ◌≢◌, ℕ, ◌≤◌, ◌<◌, ◌↔◌, ◌⊎◌, [], Ok, Err, OnOk, IfErr, length};
-ghost use Rattle.std.specs.Io.KnownBytes.{Keeps};
+ghost use Rattle.std.specs.Prelude.{◌≡◌, ◌≢◌, ℕ, ◌+◌, ◌≤◌, ◌<◌, ◌↔◌, ◌⊎◌, [], Ok, Err, OnOk, IfErr, length};
+ghost use Rattle.std.specs.Io.KnownBytes.{IsAtEnd, Keeps};
 ghost use Rattle.road_files.specs.Asked.{AreQuestionsOf, asked_of};
-ghost use Rattle.batch_run.specs.Answered.{WroteAllOrFirst, WroteAllOrFront};
+ghost use Rattle.batch_run.specs.Answered.{WroteAllOrFirst, WroteAllOrFront, WroteWhole};
 ghost use Rattle.batch_run.specs.InRange.{AreInRange};
-ghost use Rattle.batch_run.specs.Ran.{IsPassedOn, Done, Begun, IsPairOf, IsBundleOf, IsGraphFault, IsQuestionsFault, IsBundleFault, IsFaultOf};
+ghost use Rattle.batch_run.specs.Ran.{IsPassedOn, Done, Begun, BegunWhole, IsPairOf, IsBundleOf, IsGraphFault, IsQuestionsFault, IsBundleFault, IsFaultOf};
 
 use crate::answering::answer_at;
 use crate::faults::{File, RunFault, WRITE, fault_in, fault_of_answer, fault_of_run};
@@ -33,6 +33,8 @@ fn answer_all<A: PathAlgebra, W: RoadWrite>(
     ensures text { WroteAllOrFirst (A.meaning algebra) graph.now (asked_of questions.now) (W.written out.old) (W.written out.new) result }
     ensures sound { OnOk result (W.failures out.new ≡ W.failures out.old) }
     ensures later { IfErr result (λ f. (f.file ≡ File.NoFile) × (f.line ≡ 0) × ((f.number ≡ 3) ⊎ (f.number ≡ 42)) × (f.number ≡ 42 → W.failures out.old < W.failures out.new)) }
+    ensures whole { IfErr result (λ f. f.number ≡ 3 → WroteWhole (A.meaning algebra) graph.now (asked_of questions.now) (W.written out.old) (W.written out.new)) }
+    ensures unfailed { IfErr result (λ f. f.number ≡ 3 → W.failures out.new ≡ W.failures out.old) }
     ensures more { W.failures out.old ≤ W.failures out.new }
 {
     match write_header(
@@ -60,6 +62,7 @@ fn flush_all<W: RoadWrite>(out: &mut W, answered: Result<(), RunFault>) -> Resul
     ensures sound { OnOk result (W.failures out.new ≡ W.failures out.old) }
     ensures fault { IfErr result (λ f. (answered ≡ Err f) ⊎ ((f ≡ record { number = 42; file = File.NoFile; line = 0 }) × (answered ≡ Ok tt) × (W.failures out.old < W.failures out.new))) }
     ensures more { W.failures out.old ≤ W.failures out.new }
+    ensures once { W.failures out.new ≤ W.failures out.old + 1 }
     ensures flushed { IfErr result (λ f. f.number ≢ 42 → IsPassedOn (W.held out.new) (W.failures out.old) (W.failures out.new)) }
 {
     match answered {
@@ -89,6 +92,8 @@ fn answer_and_flush<A: PathAlgebra, W: RoadWrite>(
     ensures passed_on { OnOk result (W.held out.new ≡ []) }
     ensures sound { OnOk result (W.failures out.new ≡ W.failures out.old) }
     ensures later { IfErr result (λ f. (f.file ≡ File.NoFile) × (f.line ≡ 0) × ((f.number ≡ 3) ⊎ (f.number ≡ 42)) × (f.number ≡ 42 → W.failures out.old < W.failures out.new)) }
+    ensures whole { IfErr result (λ f. f.number ≡ 3 → WroteWhole (A.meaning algebra) graph.now (asked_of questions.now) (W.written out.old) (W.written out.new)) }
+    ensures once { IfErr result (λ f. f.number ≡ 3 → W.failures out.new ≤ W.failures out.old + 1) }
     ensures flushed { IfErr result (λ f. f.number ≢ 42 → IsPassedOn (W.held out.new) (W.failures out.old) (W.failures out.new)) }
 {
     answers_exist(algebra);
@@ -121,15 +126,25 @@ pub fn run_pair<A: PathAlgebra, G: RoadRead, Q: RoadRead, W: RoadWrite, T: Gate>
     ensures settings { (result ≡ Err (record { number = 43; file = File.NoFile; line = 0 })) ↔ (AreInRange settings.now → ⊥) }
     ensures graph { IfErr result (λ f. f.file ≡ File.Graph → IsGraphFault (G.left graph_in.old) f) }
     ensures questions { IfErr result (λ f. f.file ≡ File.Questions → IsQuestionsFault (G.left graph_in.old) (Q.left questions_in.old) f) }
-    ensures read { IfErr result (λ f. f.number ≡ 1 → (G.failures graph_in.new ≢ G.failures graph_in.old) ⊎ (Q.failures questions_in.new ≢ Q.failures questions_in.old)) }
+    ensures read_graph { (result ≡ Err (record { number = 1; file = File.Graph; line = 0 })) ↔ (G.failures graph_in.new ≢ G.failures graph_in.old) }
+    ensures read_questions { (result ≡ Err (record { number = 1; file = File.Questions; line = 0 })) ↔ (Q.failures questions_in.new ≢ Q.failures questions_in.old) }
     ensures write { IfErr result (λ f. f.number ≡ 42 → W.failures out.old < W.failures out.new) }
     ensures kinds { IfErr result (λ f. IsFaultOf (λ file. (file ≡ File.Graph) ⊎ (file ≡ File.Questions)) f) }
+    ensures placed { IfErr result (λ f. f.number ≤ 3 → f.line ≡ 0) }
 
     // What a fault leaves.
     ensures nothing { IfErr result (λ f. f.file ≢ File.NoFile → Keeps (W.written out.old) (W.written out.new)) }
+    ensures unwritten { IfErr result (λ f. f.file ≢ File.NoFile → out.new ≡ out.old) }
     ensures untouched { IfErr result (λ f. f.number ≡ 43 → (graph_in.new ≡ graph_in.old) × (questions_in.new ≡ questions_in.old) × (out.new ≡ out.old)) }
     ensures begun { IfErr result (λ f. f.file ≡ File.NoFile → f.number ≢ 43 → Begun (A.meaning algebra) (IsPairOf (G.left graph_in.old) (Q.left questions_in.old)) (W.written out.old) (W.written out.new)) }
+    ensures whole { IfErr result (λ f. f.file ≡ File.NoFile → f.number ≡ 3 → BegunWhole (A.meaning algebra) (IsPairOf (G.left graph_in.old) (Q.left questions_in.old)) (W.written out.old) (W.written out.new)) }
     ensures flushed { IfErr result (λ f. f.file ≡ File.NoFile → f.number ≡ 3 → IsPassedOn (W.held out.new) (W.failures out.old) (W.failures out.new)) }
+    ensures once { IfErr result (λ f. f.file ≡ File.NoFile → f.number ≡ 3 → W.failures out.new ≤ W.failures out.old + 1) }
+
+    // What is asked of the inputs.
+    ensures ends { OnOk result (IsAtEnd (G.left graph_in.new) × IsAtEnd (Q.left questions_in.new)) }
+    ensures asked { G.asked graph_in.new ≤ G.asked graph_in.old + 4294967297 }
+    ensures asked_questions { Q.asked questions_in.new ≤ Q.asked questions_in.old + 4294967297 }
 {
     if !settings.are_in_range() {
         return Err(fault_of_run(SETTINGS));
@@ -161,15 +176,23 @@ pub fn run_bundle<A: PathAlgebra, B: RoadRead, W: RoadWrite, T: Gate>(
     // Which fault is told, and what stood in the input.
     ensures settings { (result ≡ Err (record { number = 43; file = File.NoFile; line = 0 })) ↔ (AreInRange settings.now → ⊥) }
     ensures bundle { IfErr result (λ f. f.file ≡ File.Bundle → IsBundleFault (B.left input.old) f) }
-    ensures read { IfErr result (λ f. f.number ≡ 1 → B.failures input.new ≢ B.failures input.old) }
+    ensures read { (result ≡ Err (record { number = 1; file = File.Bundle; line = 0 })) ↔ (B.failures input.new ≢ B.failures input.old) }
     ensures write { IfErr result (λ f. f.number ≡ 42 → W.failures out.old < W.failures out.new) }
     ensures kinds { IfErr result (λ f. IsFaultOf (λ file. file ≡ File.Bundle) f) }
+    ensures placed { IfErr result (λ f. f.number ≤ 3 → f.line ≡ 0) }
 
     // What a fault leaves.
     ensures nothing { IfErr result (λ f. f.file ≢ File.NoFile → Keeps (W.written out.old) (W.written out.new)) }
+    ensures unwritten { IfErr result (λ f. f.file ≢ File.NoFile → out.new ≡ out.old) }
     ensures untouched { IfErr result (λ f. f.number ≡ 43 → (input.new ≡ input.old) × (out.new ≡ out.old)) }
     ensures begun { IfErr result (λ f. f.file ≡ File.NoFile → f.number ≢ 43 → Begun (A.meaning algebra) (IsBundleOf (B.left input.old)) (W.written out.old) (W.written out.new)) }
+    ensures whole { IfErr result (λ f. f.file ≡ File.NoFile → f.number ≡ 3 → BegunWhole (A.meaning algebra) (IsBundleOf (B.left input.old)) (W.written out.old) (W.written out.new)) }
     ensures flushed { IfErr result (λ f. f.file ≡ File.NoFile → f.number ≡ 3 → IsPassedOn (W.held out.new) (W.failures out.old) (W.failures out.new)) }
+    ensures once { IfErr result (λ f. f.file ≡ File.NoFile → f.number ≡ 3 → W.failures out.new ≤ W.failures out.old + 1) }
+
+    // What is asked of the input.
+    ensures end { OnOk result (IsAtEnd (B.left input.new)) }
+    ensures asked { B.asked input.new ≤ B.asked input.old + 4294967297 }
 {
     if !settings.are_in_range() {
         return Err(fault_of_run(SETTINGS));

@@ -6,7 +6,7 @@ use Rattle.std.proofs.lemmas.Option.{IfSome_then}
 use Rattle.std.proofs.lemmas.Result.{IfOk-weaker, IfErr-weaker}
 use Rattle.road_text.specs.declared.faults.ReadFault.{ReadFault}
 use Rattle.road_text.specs.Lines.{lines}
-use Rattle.road_text.specs.Reads.{ReadsValue, ReadsSome, ReadsFault}
+use Rattle.road_text.specs.Reads.{ReadsValue, ReadsSome, ReadsFault, ReadsSomeFault}
 use Rattle.road_text.specs.Rules.{Rules, reading, text_read}
 use Rattle.road_text.specs.Standing.{TextGives, SomeTextGives}
 use Rattle.road_text.specs.Way.{Way}
@@ -33,6 +33,9 @@ module _ {S V T R : Type 0} (rules : Rules S V) (view : R → V) (way : Way T R)
 
   pub reads_fault : (left : Option (List ℕ)) (r : Result R ReadFault) → IfErr r (λ f. 2 ≤ f.number → f.number ≢ 3 → IfSome left (λ all. TextGives way taker all (Err f))) → ReadsFault rules left r
   reads_fault left r h = IfErr-weaker r _ _ (λ f p a b. IfSome_then left (p a b) (λ all q. fault_of_text all f q)) h
+
+  pub reads_some_fault : (r : Result R ReadFault) → IfErr r (λ f. 2 ≤ f.number → f.number ≢ 3 → SomeTextGives way taker (Err f)) → ReadsSomeFault rules r
+  reads_some_fault r h = IfErr-weaker r _ _ (λ f p a b. let text = p a b in (text.0, fault_of_text text.0 f text.1)) h
 
 -- what any value of the taker is
 module _ {T R : Type 0} (way : Way T R) (taker : T) (P : R → Type 0) (sure : (cut : Bool) (ls : List (List ℕ)) (v : R) → way.gives cut taker 1 ls (Ok v) → P v) where

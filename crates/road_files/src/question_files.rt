@@ -1,7 +1,7 @@
 //! Reads question files.
 ghost use Rattle.std.specs.Prelude.{◌≡◌, ◌+◌, ◌≤◌, OnOk, IfOk, Some, None, true};
 ghost use Rattle.std.specs.Io.KnownBytes.{IsAtEnd};
-ghost use Rattle.road_text.specs.Reads.{ReadsValue, ReadsSome, ReadsFault, TellsFailure, TellsNoOther, IsTooLong, IsPlaced, IsReadNumber};
+ghost use Rattle.road_text.specs.Reads.{ReadsValue, ReadsSome, ReadsFault, ReadsSomeFault, TellsFailure, TellsNoOther, IsTooLong, IsPlaced, IsReadNumber};
 ghost use Rattle.road_files.specs.Asked.{asked_of, asked_of_sources, asked_of_pairs, asked_of_lists, AreQuestionsOf};
 ghost use Rattle.road_files.specs.QuestionFiles.{question_rules, may_be};
 ghost use Rattle.road_files.specs.QuestionTakes.{FitsFile};
@@ -23,12 +23,13 @@ fn read_asked<R: RoadRead>(
     ensures some_text { ReadsSome (question_rules vertices only) asked_of result }
     ensures fit { IfOk result (FitsFile vertices only) }
     ensures fault { ReadsFault (question_rules vertices only) (R.left from.old) result }
+    ensures some_fault { ReadsSomeFault (question_rules vertices only) result }
     ensures sound { OnOk result (R.failures from.new ≡ R.failures from.old) }
     ensures told { TellsFailure (R.failures from.old) (R.failures from.new) result }
     ensures untold { TellsNoOther (R.failures from.old) (R.failures from.new) result }
     ensures long { IsTooLong (R.left from.old) result }
     ensures placed { IsPlaced result }
-    ensures numbered { IsReadNumber result }
+    ensures numbered { IsReadNumber 10 19 result }
     ensures end { OnOk result (IsAtEnd (R.left from.new)) }
     ensures asked { R.asked from.new ≤ R.asked from.old + 4294967297 }
 {
@@ -45,12 +46,13 @@ pub fn read_questions<R: RoadRead>(
     ensures some_text { ReadsSome (question_rules vertices None) asked_of result }
     ensures fit { IfOk result (AreQuestionsOf vertices) }
     ensures fault { ReadsFault (question_rules vertices None) (R.left from.old) result }
+    ensures some_fault { ReadsSomeFault (question_rules vertices None) result }
     ensures sound { OnOk result (R.failures from.new ≡ R.failures from.old) }
     ensures told { TellsFailure (R.failures from.old) (R.failures from.new) result }
     ensures untold { TellsNoOther (R.failures from.old) (R.failures from.new) result }
     ensures long { IsTooLong (R.left from.old) result }
     ensures placed { IsPlaced result }
-    ensures numbered { IsReadNumber result }
+    ensures numbered { IsReadNumber 10 19 result }
     ensures end { OnOk result (IsAtEnd (R.left from.new)) }
     ensures asked { R.asked from.new ≤ R.asked from.old + 4294967297 }
 {
@@ -97,12 +99,13 @@ pub fn read_ss<R: RoadRead>(
     ensures some_text { ReadsSome (question_rules vertices (Some Kind.Sources)) asked_of_sources result }
     ensures fit { IfOk result (λ sources. AreQuestionsOf vertices (Questions.Sources sources)) }
     ensures fault { ReadsFault (question_rules vertices (Some Kind.Sources)) (R.left from.old) result }
+    ensures some_fault { ReadsSomeFault (question_rules vertices (Some Kind.Sources)) result }
     ensures sound { OnOk result (R.failures from.new ≡ R.failures from.old) }
     ensures told { TellsFailure (R.failures from.old) (R.failures from.new) result }
     ensures untold { TellsNoOther (R.failures from.old) (R.failures from.new) result }
     ensures long { IsTooLong (R.left from.old) result }
     ensures placed { IsPlaced result }
-    ensures numbered { IsReadNumber result }
+    ensures numbered { IsReadNumber 10 19 result }
     ensures end { OnOk result (IsAtEnd (R.left from.new)) }
     ensures asked { R.asked from.new ≤ R.asked from.old + 4294967297 }
 {
@@ -122,12 +125,13 @@ pub fn read_p2p<R: RoadRead>(
     ensures some_text { ReadsSome (question_rules vertices (Some Kind.Pairs)) asked_of_pairs result }
     ensures fit { IfOk result (λ pairs. AreQuestionsOf vertices (Questions.Pairs pairs)) }
     ensures fault { ReadsFault (question_rules vertices (Some Kind.Pairs)) (R.left from.old) result }
+    ensures some_fault { ReadsSomeFault (question_rules vertices (Some Kind.Pairs)) result }
     ensures sound { OnOk result (R.failures from.new ≡ R.failures from.old) }
     ensures told { TellsFailure (R.failures from.old) (R.failures from.new) result }
     ensures untold { TellsNoOther (R.failures from.old) (R.failures from.new) result }
     ensures long { IsTooLong (R.left from.old) result }
     ensures placed { IsPlaced result }
-    ensures numbered { IsReadNumber result }
+    ensures numbered { IsReadNumber 10 19 result }
     ensures end { OnOk result (IsAtEnd (R.left from.new)) }
     ensures asked { R.asked from.new ≤ R.asked from.old + 4294967297 }
 {
@@ -147,12 +151,13 @@ pub fn read_ms<R: RoadRead>(
     ensures some_text { ReadsSome (question_rules vertices (Some Kind.Multi)) asked_of_lists result }
     ensures fit { IfOk result (λ lists. AreQuestionsOf vertices (Questions.Multi lists)) }
     ensures fault { ReadsFault (question_rules vertices (Some Kind.Multi)) (R.left from.old) result }
+    ensures some_fault { ReadsSomeFault (question_rules vertices (Some Kind.Multi)) result }
     ensures sound { OnOk result (R.failures from.new ≡ R.failures from.old) }
     ensures told { TellsFailure (R.failures from.old) (R.failures from.new) result }
     ensures untold { TellsNoOther (R.failures from.old) (R.failures from.new) result }
     ensures long { IsTooLong (R.left from.old) result }
     ensures placed { IsPlaced result }
-    ensures numbered { IsReadNumber result }
+    ensures numbered { IsReadNumber 10 19 result }
     ensures end { OnOk result (IsAtEnd (R.left from.new)) }
     ensures asked { R.asked from.new ≤ R.asked from.old + 4294967297 }
 {

@@ -12,3 +12,4 @@ pub mod FirstFault
 pub mod RoundTrip
 pub mod NumberLaws
 pub mod ShortLineLaws
+pub mod OwnNumbers

@@ -12,7 +12,7 @@ use Rattle.road_text.specs.declared.reader.LineReader.{LineReader}
 use Rattle.road_text.specs.Rules.{too_long}
 use Rattle.road_text.specs.Way.{Way}
 use Rattle.road_text.specs.Lines.{lines}
-use Rattle.road_text.specs.Standing.{Leads, Halts, HaltsAtEnd, CutShort, BreaksOff, TextGives, SomeTextGives, Behind, Stands, Stops}
+use Rattle.road_text.specs.Standing.{Leads, Halts, HaltsAtEnd, CutShort, BreaksOff, TextGives, SomeTextGives, Behind, Stands, Stops, SomeTextStops}
 
 module _ {T V : Type 0} (gives : Way T V) (taker : T) where
   pub stands_start : (left : Option (List ℕ)) (s : LineReader T) → s.count ≡ 0 → ((cut : Bool) (bytes : List ℕ) (r : Result V ReadFault) → Leads cut gives s bytes r → gives.gives cut taker 1 (lines cut bytes) r) → Stands gives taker left left s
@@ -93,3 +93,25 @@ module _ {T V : Type 0} (gives : Way T V) (taker : T) where
       broken_in (Some all) (Some rest) (Some more) s piece f (done, a, (n, g)) c (front, after, d, fits, leads) =
           front_breaks all (done ++ front) (after ++ more) f (a ∙ ap (λ x. done ++ x) (c ∙ ap (λ x. x ++ more) d ∙ append_assoc front after more) ∙ sym (append_assoc done front (after ++ more)))
           (omega (arith, n, fits, length-append done front)) (λ cut x. rw (append_assoc done front x) (g cut (front ++ x) (Err f) (leads cut x)))
+
+  -- some text leads here, whether the reader tells it or not
+  stands_behind : (left old : Option (List ℕ)) (s : LineReader T) → Stands gives taker left old s → (done : List ℕ) × Behind gives taker done s
+  stands_behind None old s p = p
+  stands_behind (Some all) None s p = absurd p
+  stands_behind (Some all) (Some rest) s (done, a, b) = (done, b)
+
+  told_stops : (all : List ℕ) (h : Halt) → Stops gives taker (Some all) 0 0 h → SomeTextStops gives taker h
+  told_stops all Read p = tt
+  told_stops all TooLong p = (all, p.1.1)
+  told_stops all Memory p = tt
+  told_stops all (Broken f) p = (all, p.1)
+
+  pub some_stops_in : (left old : Option (List ℕ)) (s : LineReader T) (piece : List ℕ) (h : Halt) → Stands gives taker left old s → Halts gives s piece h → SomeTextStops gives taker h
+  some_stops_in left old s piece h p q =
+      let (done, b) = stands_behind left old s p in
+      told_stops (done ++ piece) h (stops_in (Some (done ++ piece)) (Some piece) (Some []) 0 0 s piece h refl (done, refl, b) (sym (append-nil piece)) q)
+
+  pub some_stops_at_end : (left old : Option (List ℕ)) (s : LineReader T) (h : Halt) → s.count ≤ 4294967296 → Stands gives taker left old s → HaltsAtEnd gives s h → SomeTextStops gives taker h
+  some_stops_at_end left old s h few p q =
+      let (done, b) = stands_behind left old s p in
+      told_stops done h (stops_at_end (Some done) (Some []) (Some []) 0 0 s h few refl (done, sym (append-nil done), b) refl refl q)

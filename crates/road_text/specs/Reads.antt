@@ -1,6 +1,6 @@
 -- What a reader of whole texts promises. It is said of the bytes that were left to read and are left now, where the
 -- reader tells them, and of its failures and of the reads that were asked for, before and after.
-use Rattle.std.specs.Prelude.{◌≡◌, ◌≢◌, ℕ, ◌+◌, ◌<◌, ◌≤◌, List, length, Option, IfSome, Result, Ok, Err, IfOk, IfErr, OnOk}
+use Rattle.std.specs.Prelude.{◌≡◌, ◌≢◌, ℕ, ◌+◌, ◌<◌, ◌≤◌, ◌⊎◌, List, length, Option, IfSome, Result, Ok, Err, IfOk, IfErr, OnOk}
 use Rattle.std.specs.Io.KnownBytes.{IsAtEnd}
 use Rattle.road_text.specs.declared.faults.ReadFault.{ReadFault}
 use Rattle.road_text.specs.Rules.{Rules, text_read}
@@ -33,20 +33,14 @@ IsTooLong left result = IfErr result (λ f. f.number ≡ 2 → IfSome left (λ a
 abbrev pub IsPlaced : {A : Type 0} → Result A ReadFault → Type 0
 IsPlaced result = IfErr result (λ f. f.number ≤ 3 → f.line ≡ 0)
 
--- a fault's number is 1 to 36
-abbrev pub IsReadNumber : {A : Type 0} → Result A ReadFault → Type 0
-IsReadNumber result = IfErr result (λ f. (1 ≤ f.number) × (f.number ≤ 36))
+-- also where the reader does not tell its bytes, a fault, but 1 and 3, is the first fault of some text
+abbrev pub ReadsSomeFault : {S V A : Type 0} → Rules S V → Result A ReadFault → Type 0
+ReadsSomeFault rules result = IfErr result (λ f. 2 ≤ f.number → f.number ≢ 3 → (all : List ℕ) × (text_read rules all ≡ Err f))
 
--- all of these, and that a reader is at its end after success and is asked at most 2 ^ 32 + 1 times
-pub record ReadsText {S V A : Type 0} (rules : Rules S V) (view : A → V) (left gone : Option (List ℕ)) (before after calls more : ℕ) (result : Result A ReadFault) : Type 0 where
-  pub value : ReadsValue rules view left result
-  pub some_text : ReadsSome rules view result
-  pub fault : ReadsFault rules left result
-  pub sound : OnOk result (after ≡ before)
-  pub told : TellsFailure before after result
-  pub untold : TellsNoOther before after result
-  pub long : IsTooLong left result
-  pub placed : IsPlaced result
-  pub numbered : IsReadNumber result
-  pub end : OnOk result (IsAtEnd gone)
-  pub asked : more ≤ calls + 4294967297
+-- a number that reading stops with: 1 a failed read, 2 too long, 3 memory, or one of the text's own, which are these
+abbrev pub IsNumberFrom : ℕ → ℕ → ℕ → Type 0
+IsNumberFrom least greatest number = ((1 ≤ number) × (number ≤ 3)) ⊎ ((least ≤ number) × (number ≤ greatest))
+
+-- a fault has such a number
+abbrev pub IsReadNumber : {A : Type 0} → ℕ → ℕ → Result A ReadFault → Type 0
+IsReadNumber least greatest result = IfErr result (λ f. IsNumberFrom least greatest f.number)

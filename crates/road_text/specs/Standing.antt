@@ -93,3 +93,10 @@ Stops gives taker left before after Read = after ≢ before
 Stops gives taker left before after TooLong = (after ≡ before) × IfSome left (λ all. (4294967296 < length all) × TextGives gives taker all (Err too_long))
 Stops gives taker left before after Memory = after ≡ before
 Stops gives taker left before after (Broken f) = (after ≡ before) × IfSome left (λ all. TextGives gives taker all (Err f))
+
+-- also where the reader does not tell its bytes, some text has the fault at which reading stopped
+abbrev pub SomeTextStops : {T V : Type 0} → Way T V → T → Halt → Type 0
+SomeTextStops gives taker Read = ⊤
+SomeTextStops gives taker TooLong = SomeTextGives gives taker (Err too_long)
+SomeTextStops gives taker Memory = ⊤
+SomeTextStops gives taker (Broken f) = SomeTextGives gives taker (Err f)

@@ -2,7 +2,7 @@
 ghost use Rattle.std.specs.Prelude.{◌≡◌, ◌≢◌, ℕ, ◌+◌, ◌≤◌, [], Ok, Err, OnOk, IfOk, IfErr, IfSome};
 ghost use Rattle.std.specs.Io.KnownBytes.{IsAtEnd};
 ghost use Rattle.road_text.specs.Reads.{TellsFailure, TellsNoOther, IsTooLong, IsPlaced, IsReadNumber};
-ghost use Rattle.road_text.specs.Standing.{Stops, TextGives, SomeTextGives, IsNumbered};
+ghost use Rattle.road_text.specs.Standing.{Stops, TextGives, SomeTextGives, SomeTextStops, IsNumbered};
 
 use crate::ends::RoadRead;
 use crate::faults::{Halt, ReadFault};
@@ -24,6 +24,7 @@ pub fn read_text<R: RoadRead, T: TakesLines>(from: &mut R, taker: T) -> Result<T
     ensures sound { OnOk result (R.failures from.new ≡ R.failures from.old) }
     ensures asked { R.asked from.new ≤ R.asked from.old + 4294967297 }
     ensures stops { IfErr result (λ h. Stops T.way taker (R.left from.old) (R.failures from.old) (R.failures from.new) h) }
+    ensures some_stops { IfErr result (SomeTextStops T.way taker) }
     ensures numbered { IfErr result IsNumbered }
 {
     let mut reader = LineReader::new(taker);
@@ -44,12 +45,13 @@ pub fn read_whole<R: RoadRead, T: TakesLines>(from: &mut R, taker: T) -> Result<
     ensures value { IfOk result (λ v. IfSome (R.left from.old) (λ all. TextGives T.way taker all (Ok v))) }
     ensures some_text { IfOk result (λ v. SomeTextGives T.way taker (Ok v)) }
     ensures fault { IfErr result (λ f. 2 ≤ f.number → f.number ≢ 3 → IfSome (R.left from.old) (λ all. TextGives T.way taker all (Err f))) }
+    ensures some_fault { IfErr result (λ f. 2 ≤ f.number → f.number ≢ 3 → SomeTextGives T.way taker (Err f)) }
     ensures sound { OnOk result (R.failures from.new ≡ R.failures from.old) }
     ensures told { TellsFailure (R.failures from.old) (R.failures from.new) result }
     ensures untold { TellsNoOther (R.failures from.old) (R.failures from.new) result }
     ensures long { IsTooLong (R.left from.old) result }
     ensures placed { IsPlaced result }
-    ensures numbered { IsReadNumber result }
+    ensures numbered { IsReadNumber 10 36 result }
     ensures end { OnOk result (IsAtEnd (R.left from.new)) }
     ensures asked { R.asked from.new ≤ R.asked from.old + 4294967297 }
 {

@@ -83,7 +83,7 @@ fn read_numbers<R: RoadRead>(alloc: Global, from: &mut R) -> Result<Vec<u64>, Re
     ensures fault { ReadsFault numbers_rules (R.left from.old) result }
     ensures told { TellsFailure (R.failures from.old) (R.failures from.new) result }
     ensures untold { TellsNoOther (R.failures from.old) (R.failures from.new) result }
-    ensures numbered { IsReadNumber result }
+    ensures numbered { IsReadNumber 10 36 result }
 {
     read_whole(
         from,

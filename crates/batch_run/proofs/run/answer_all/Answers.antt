@@ -1,6 +1,6 @@
 use Rattle.std.proofs.Common.{rules, ◌≡◌, ◌<◌, ◌≤◌, ℕ, List, Option, length}
 use Rattle.road_files.specs.Asked.{asked_of, FromSource}
-use Rattle.batch_run.proofs.Progress.{start, header_fell, answered, unanswered, fault_later, more_failed, end}
+use Rattle.batch_run.proofs.Progress.{start, header_fell, answered, unanswered, fault_later, whole, unfailed, more_failed, end}
 use Rattle.batch_run.proofs.run.answer_all.Goals as goal
 
 pub returns-in-Err-clause-text : goal.returns-in-Err-clause-text
@@ -27,3 +27,11 @@ loop-i-preserved g c = answered (g.A.PathAlgebra.meaning c.args.algebra) c.args.
 
 pub returns-clause-text : goal.returns-clause-text
 returns-clause-text g c = end (g.A.PathAlgebra.meaning c.args.algebra) c.args.graph.now (asked_of c.args.questions.now) c.loop-i.i _ _ _ _ (search rules) c.loop-i.invariant
+
+pub returns-in-Err-answer_at-clause-whole : goal.returns-in-Err-answer_at-clause-whole
+returns-in-Err-answer_at-clause-whole g c = rw (c.fault_of_answer.ensures) (whole (g.A.PathAlgebra.meaning c.args.algebra) c.args.graph.now (asked_of c.args.questions.now) c.loop-i.i _ _ _ _ _ _
+    (search rules) (FromSource 0) c.loop-i.invariant c.in-Err-answer_at.unanswered (c.in-Err-answer_at.ensures (FromSource 0)))
+
+pub returns-in-Err-answer_at-clause-unfailed : goal.returns-in-Err-answer_at-clause-unfailed
+returns-in-Err-answer_at-clause-unfailed g c = rw (c.fault_of_answer.ensures) (unfailed (g.A.PathAlgebra.meaning c.args.algebra) c.args.graph.now (asked_of c.args.questions.now) c.loop-i.i _ _ _ _ _ _
+    (search rules) (FromSource 0) c.loop-i.invariant c.in-Err-answer_at.unanswered (c.in-Err-answer_at.ensures (FromSource 0)))

@@ -1,5 +1,7 @@
+use Rattle.std.proofs.Common.{refl}
+use Rattle.batch_run.specs.declared.faults.File.TheVariants.{NoFile}
 use Rattle.road_files.specs.Asked.{asked_of}
-use Rattle.batch_run.proofs.Progress.{flushed}
+use Rattle.batch_run.proofs.Progress.{flushed, flushed_whole}
 use Rattle.batch_run.proofs.Fronts.{all_or_front, passed_on_since}
 use Rattle.batch_run.proofs.run.answer_and_flush.Goals as goal
 
@@ -13,3 +15,7 @@ returns-clause-text g c =
 
 pub returns-clause-flushed : goal.returns-clause-flushed
 returns-clause-flushed g c = passed_on_since c.flush_all.result _ _ _ _ c.answer_all-answered.ensures.more c.flush_all.ensures.flushed
+
+pub returns-clause-whole : goal.returns-clause-whole
+returns-clause-whole g c = flushed_whole (g.A.PathAlgebra.meaning c.args.algebra) c.args.graph.now (asked_of c.args.questions.now) (record { number = 42; file = NoFile; line = 0 }) (Unit {0}) _ _ _ _ c.flush_all.ensures.bytes refl c.answer_all-answered.result c.flush_all.result
+    c.answer_all-answered.ensures.whole c.flush_all.ensures.fault

@@ -1,7 +1,7 @@
 use Rattle.std.proofs.Common.{refl}
 use Rattle.std.proofs.Common.{[], ℕ, take, arith, ◌∙◌, subst}
 use Rattle.std.proofs.lemmas.List.{length-take-le}
-use Rattle.road_text.proofs.StandLaws.{stands_start, stands_more, stands_value, stands_some, stops_at_end, stops_in}
+use Rattle.road_text.proofs.StandLaws.{stands_start, stands_more, stands_value, stands_some, stops_at_end, stops_in, some_stops_at_end, some_stops_in}
 use Rattle.std.proofs.lemmas.Result.{IfOk-weaker, IfErr-weaker, err_from_is_err_and}
 use Rattle.std.specs.Io.KnownBytes.{Consumes, IsAtEnd}
 use Rattle.road_text.proofs.reading.read_text.Goals as goal
@@ -40,3 +40,10 @@ returns-in_err-feed-in-Ok-clause-stops g c = let p = err_from_is_err_and c.from_
 
 pub returns-in-Ok-eq0-clause-some_text : goal.returns-in-Ok-eq0-clause-some_text
 returns-in-Ok-eq0-clause-some_text g c = IfOk-weaker c.finish.result _ _ (λ v h. stands_some g.T.TakesLines.way c.args.taker _ _ c.loop.reader v c.loop.reader.few_bytes c.loop.invariant.stands h) c.finish.ensures.ok
+
+pub returns-in-Ok-eq0-clause-some_stops : goal.returns-in-Ok-eq0-clause-some_stops
+returns-in-Ok-eq0-clause-some_stops g c = IfErr-weaker c.finish.result _ _ (λ h p. some_stops_at_end g.T.TakesLines.way c.args.taker _ _ c.loop.reader h c.loop.reader.few_bytes c.loop.invariant.stands p) c.finish.ensures.err
+
+pub returns-in_err-feed-in-Ok-clause-some_stops : goal.returns-in_err-feed-in-Ok-clause-some_stops
+returns-in_err-feed-in-Ok-clause-some_stops g c = let p = err_from_is_err_and c.from_residual.result c.from_residual.ensures.1 in
+    rw (p.1, p.2) (some_stops_in g.T.TakesLines.way c.args.taker _ _ c.loop.reader _ _ c.loop.invariant.stands c.in_err-feed-in-Ok.ensures.err)

@@ -116,7 +116,7 @@ fn place_of(row: &[ArcNo], number: u32) -> usize
 
 impl Graph {
     ghost use Rattle.road_graph.specs.Making.{IsRefusal};
-    ghost use Rattle.road_graph.specs.Roads.{Roads, HasVertex, HasArc, arc_of};
+    ghost use Rattle.road_graph.specs.Roads.{Roads, HasVertex, HasArc, arc_of, road_of};
     ghost use Rattle.road_graph.specs.Roads.{ListsArcsFrom, ListsArcsInto, ListsRoadsFrom};
 
     /// The graph of exactly these arcs on the vertices 1 to n.
@@ -186,15 +186,37 @@ impl Graph {
         requires { HasArc self.now a }
         ensures { result ≡ arc_of self.now a }
     {
-        let tail = self.tails[a.0 as usize - 1];
-        let (start, end) = range_of(&self.out_rows.starts, tail);
-        let at = start + place_of(&self.out_rows.numbers[start..end], a.0);
-        let road = self.out_roads[at];
+        let tail = self.tail(a);
+        let road = self.road(a);
         RoadArc {
             tail,
             head: road.head,
             weight: road.weight,
         }
+    }
+
+    /// The vertex that an arc leaves.
+    pub fn tail(&self, a: ArcNo) -> Vertex
+        requires { HasArc self.now a }
+        ensures { result ≡ (arc_of self.now a).tail }
+    {
+        self.tails[a.0 as usize - 1]
+    }
+
+    /// The head and the weight of an arc. Where arcs are numbered in the order of the rows, they are found at the first look.
+    pub fn road(&self, a: ArcNo) -> OutRoad
+        requires { HasArc self.now a }
+        ensures { result ≡ road_of (arc_of self.now a) }
+    {
+        let numbers = &self.out_rows.numbers;
+        let guess = a.0 as usize - 1;
+        if guess < numbers.len() && numbers[guess] == a {
+            return self.out_roads[guess];
+        }
+        let tail = self.tail(a);
+        let (start, end) = range_of(&self.out_rows.starts, tail);
+        let at = start + place_of(&numbers[start..end], a.0);
+        self.out_roads[at]
     }
 
     /// The arcs that leave a vertex, in ascending order.

@@ -10,5 +10,4 @@ pub mod WriteLaws
 pub mod ListLaws
 pub mod FirstFault
 pub mod RoundTrip
-pub mod NumberLaws
 pub mod ShortLineLaws

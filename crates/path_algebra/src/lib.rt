@@ -31,6 +31,3 @@ pub use reliable::Reliable;
 pub use shortest::Shortest;
 pub use widest::Widest;
 pub use within::Within;
-
-#[cfg(test)]
-mod tests;

@@ -9,6 +9,3 @@ mod solve;
 
 pub use laws::best_values_exist;
 pub use solve::solve_one;
-
-#[cfg(test)]
-mod tests;

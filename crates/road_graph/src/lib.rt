@@ -83,6 +83,3 @@ pub enum Side {
     Tail,
     Head,
 }
-
-#[cfg(test)]
-mod tests;

@@ -10,6 +10,5 @@ pub mod WriteLaws
 pub mod ListLaws
 pub mod FirstFault
 pub mod RoundTrip
-pub mod NumberLaws
 pub mod ShortLineLaws
 pub mod OwnNumbers

@@ -10,5 +10,4 @@ pub mod Texts
 pub mod Written
 pub mod Scans
 pub mod Standing
-pub mod Numbers
 pub mod ShortLines

@@ -16,8 +16,6 @@ mod scanner;
 mod short_lines;
 mod slots;
 mod takes;
-#[cfg(test)]
-mod tests;
 
 pub use ends::{ReadFailed, RoadRead, RoadWrite, WriteFault};
 pub use faults::{Halt, LineFault, ReadFault, Rule};

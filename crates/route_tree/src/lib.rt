@@ -18,6 +18,3 @@ pub use branches::Tree;
 pub use laws::{hops_tell_reached, labels_and_trees_agree, routes_follow_parents, trees_exist};
 pub use planting::tree;
 pub use routes::route;
-
-#[cfg(test)]
-mod tests;

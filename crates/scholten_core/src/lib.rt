@@ -22,6 +22,3 @@ pub use laws::{
 };
 pub use running::{Core, NoMessage, NoSignal};
 pub use token::Token;
-
-#[cfg(test)]
-mod tests;

@@ -1,5 +1,5 @@
 //! Values worked out by hand, and each public call once.
-use crate::{
+use path_algebra::{
     AlgebraName, Hops, Labels, PathAlgebra, Reach, Reliable, Shortest, Widest, Within,
     best_values_are_unique, closed_labels_are_best, laws_hold, merged_labels_are_best,
     names_are_read_back, shortest_values_are_least_sums, tight_arcs_reach,

@@ -1,10 +1,10 @@
 use Rattle.std.proofs.Common.{◌∙◌, ℕ, List, Vec}
 use Rattle.std.specs.declared.alloc.Global.{Global}
 use Rattle.road_text.specs.RuleNumbers.{number_of}
-use Rattle.road_text.specs.Numbers.{numbers_rules}
-use Rattle.road_text.proofs.NumberLaws.{rule_of_line}
+use Rattle.text_trials.specs.Numbers.{numbers_rules}
+use Rattle.text_trials.proofs.NumberLaws.{rule_of_line}
 use Rattle.road_text.proofs.TakerLaws.{on_ok, gives_taken, gives_broken}
-use Rattle.road_text.proofs.tests.NumberTakerTakesLines.line.Goals as goal
+use Rattle.text_trials.proofs.lines.NumberTakerTakesLines.line.Goals as goal
 
 abbrev items_of : Vec ℕ Global → List ℕ
 items_of v = v.items

@@ -1,16 +1,16 @@
 //! A small kind of text read in pieces and with failures, and the writers over an end that fills up.
 ghost use Rattle.std.specs.Prelude.{◌≡◌, ◌<◌, ◌≤◌, ◌+◌, ◌^◌, ℕ, List, Some, Ok, length, map, refl, IfOk, IfErr, IfSome};
-ghost use Rattle.road_text.specs.Numbers.{below_top, numbers_line, numbers_rules};
+ghost use Rattle.text_trials.specs.Numbers.{below_top, numbers_line, numbers_rules};
 ghost use Rattle.road_text.specs.Reads.{ReadsValue, ReadsFault, TellsFailure, TellsNoOther, IsReadNumber};
 ghost use Rattle.road_text.specs.Slots.{word_in};
 ghost use Rattle.road_text.specs.Takes.{Agrees, Leaves, GivesBy};
 
-use crate::{
+use arrayvec::ArrayVec;
+use ghost_count::Count;
+use road_text::{
     Gathered, Line, LineFault, Plain, ReadFailed, ReadFault, RoadRead, RoadWrite, Rule, Slot,
     TakesLines, WriteFault, push_spaced, read_whole, write_bytes, write_list,
 };
-use arrayvec::ArrayVec;
-use ghost_count::Count;
 use std::alloc::Global;
 use std::io::{self, Write};
 use std::test::Fail;

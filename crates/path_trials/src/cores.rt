@@ -2,9 +2,9 @@
 
 ghost use Rattle.std.specs.Prelude.{◌≡◌};
 
-use crate::{Core, Event, Token};
 use path_algebra::{PathAlgebra, Shortest, Within};
 use road_graph::{ArcNo, Graph, RoadArc, Vertex};
+use scholten_core::{Core, Event, Token};
 use std::process::Abort;
 
 /// Five vertices, with a self-loop at 4; no arc leads to 5.

@@ -1,4 +1,5 @@
-use crate::{ArcNo, Graph, GraphFault, OutRoad, RoadArc, Vertex};
+//! Graphs by arcs, by tail and by head, with what was worked out by hand.
+use road_graph::{ArcNo, Graph, GraphFault, OutRoad, RoadArc, Vertex};
 use std::alloc::Global;
 
 fn arc(tail: u32, head: u32, weight: u32) -> RoadArc {

@@ -1,7 +1,7 @@
 //! Labels worked out by hand, for each algebra once, and one large graph.
 
-use crate::{best_values_exist, solve_one};
 use path_algebra::{Hops, PathAlgebra, Reach, Reliable, Shortest, Widest, Within};
+use path_plain::{best_values_exist, solve_one};
 use road_graph::{Graph, RoadArc, Vertex};
 use std::alloc::Global;
 use std::test::Fail;

@@ -1,5 +1,5 @@
 use Rattle.std.proofs.Common.{[], ◌∷◌}
-use Rattle.route_tree.proofs.tests.solve_two.Goals as goal
+use Rattle.path_trials.proofs.trees.solve_two.Goals as goal
 
 pub returns : goal.returns
 returns g c =

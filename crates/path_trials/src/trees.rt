@@ -4,13 +4,13 @@ ghost use Rattle.std.specs.Prelude.{◌≡◌, ◌≤◌, [], ◌∷◌, IfOk};
 ghost use Rattle.road_graph.specs.Roads.{HasVertex};
 ghost use Rattle.path_algebra.specs.Walks.{AreBest};
 
-use crate::{
-    Tree, hops_tell_reached, labels_and_trees_agree, route, routes_follow_parents, tree,
-    trees_exist,
-};
 use path_algebra::{Labels, PathAlgebra, Reach, Shortest, Widest, Within, merged_labels_are_best};
 use path_plain::solve_one;
 use road_graph::{Graph, Memory, RoadArc, Vertex};
+use route_tree::{
+    Tree, hops_tell_reached, labels_and_trees_agree, route, routes_follow_parents, tree,
+    trees_exist,
+};
 use std::alloc::Global;
 use std::process::Abort;
 

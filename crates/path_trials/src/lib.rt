@@ -1,0 +1,15 @@
+//! The tests of the graph, the algebras, the solver, the trees and the engine, through what these crates make public.
+//!
+//! They stand here in place of each crate's own, so that no crate is proved a second time with its tests.
+#![tactic(auto)]
+
+#[cfg(test)]
+mod algebras;
+#[cfg(test)]
+mod cores;
+#[cfg(test)]
+mod graphs;
+#[cfg(test)]
+mod plain_solver;
+#[cfg(test)]
+mod trees;

@@ -7,3 +7,4 @@ pub mod ListFields
 pub mod HeldAnswerLines
 pub mod AnswerTakerLaws
 pub mod ReadAgain
+pub mod AnswerNumbers

@@ -37,12 +37,8 @@ fn answer_all<A: PathAlgebra, W: RoadWrite>(
     ensures unfailed { IfErr result (λ f. f.number ≡ 3 → W.failures out.new ≡ W.failures out.old) }
     ensures more { W.failures out.old ≤ W.failures out.new }
 {
-    match write_header(
-        out,
-        questions.kind(),
-        questions.len() as u32,
-        algebra.name(),
-    ) {
+    let count = questions.len() as u32;
+    match write_header(out, questions.kind(), count, algebra.name()) {
         Ok(()) => {}
         Err(_) => return Err(fault_of_run(WRITE)),
     }

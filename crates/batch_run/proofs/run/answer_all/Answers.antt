@@ -4,10 +4,10 @@ use Rattle.batch_run.proofs.Progress.{start, header_fell, answered, unanswered, 
 use Rattle.batch_run.proofs.run.answer_all.Goals as goal
 
 pub returns-in-Err-clause-text : goal.returns-in-Err-clause-text
-returns-in-Err-clause-text g c = header_fell (g.A.PathAlgebra.meaning c.args.algebra) c.args.graph.now (asked_of c.args.questions.now) _ _ _ c.kind.ensures c.len.ensures c.name.ensures _ _ _ _ c.in-Err.ensures
+returns-in-Err-clause-text g c = header_fell (g.A.PathAlgebra.meaning c.args.algebra) c.args.graph.now (asked_of c.args.questions.now) _ _ _ c.kind.ensures c.len-count.ensures c.name.ensures _ _ _ _ c.in-Err.ensures
 
 pub loop-i-init : goal.loop-i-init
-loop-i-init g c = start (g.A.PathAlgebra.meaning c.args.algebra) c.args.graph.now (asked_of c.args.questions.now) _ _ _ c.kind.ensures c.len.ensures c.name.ensures _ _ _ _ c.in-Ok.ensures
+loop-i-init g c = start (g.A.PathAlgebra.meaning c.args.algebra) c.args.graph.now (asked_of c.args.questions.now) _ _ _ c.kind.ensures c.len-count.ensures c.name.ensures _ _ _ _ c.in-Ok.ensures
 
 pub returns-in-Err-answer_at-clause-text : goal.returns-in-Err-answer_at-clause-text
 returns-in-Err-answer_at-clause-text g c = unanswered (g.A.PathAlgebra.meaning c.args.algebra) c.args.graph.now (asked_of c.args.questions.now) c.loop-i.i _ _ _ _ _ _

@@ -1,4 +1,5 @@
 pub mod Small
+pub mod Opening
 pub mod Search
 pub mod Offering
 pub mod Rounds

@@ -1,11 +1,11 @@
 -- One arc of the vertex that is being settled, and then all of them.
 use Rattle.std.proofs.Common.{◌≡◌, ℕ, suc, ◌-◌, ◌<◌, ◌⊎◌, inl, inr, Bool, List, [], ◌∷◌, length, refl, ap, sym, ◌∙◌, subst, arith, Option, Some, None, get_or-set_same, get_or-set_other, length-set}
 use Rattle.std.proofs.lemmas.Bool.{cases_eq}
-use Rattle.std.specs.Prelude.{IsTrue}
+use Rattle.std.specs.Prelude.{IsTrue, All}
 use Rattle.road_graph.specs.Roads.{Roads, IsRoads, HasArc, HasVertex, arc_of}
 use Rattle.path_algebra.specs.Algebra.{Algebra, IsOrder, IsLawful}
 use Rattle.path_algebra.specs.Walks.{IsWalkValue, IsNotImproving, label_of, improved, offered, offered_if, relaxed}
-use Rattle.path_algebra.proofs.Walks.{IsWalkValue-extend, walk_value_is_value}
+use Rattle.path_algebra.proofs.Walks.{IsWalkValue-extend, walk_value_is_value, all_inside}
 use Rattle.path_algebra.proofs.Least.{same_no_worse, other_no_worse}
 use Rattle.path_plain.proofs.Small.{head_or_tail, false_or_true}
 use Rattle.path_plain.proofs.Search.{IsSettled, Search}
@@ -35,8 +35,8 @@ module _ {V : Type 0} (no_worse : V → V → Bool) (ordered : IsOrder no_worse)
   pub kept_label : (w : V) → IsTrue (no_worse w z) → improved no_worse (Some w) z ≡ Some w
   kept_label w h = rw h refl
 
-module _ {V : Type 0} (A : Algebra V) (lawful : IsLawful A) (g : Roads) (roads : IsRoads g) (s : ℕ) (in_s : HasVertex g s) (settled : List Bool) (x : V)
-    (labels : List (Option V)) (a : ℕ) (rest : List ℕ) (known : Search A g s labels settled x (a ∷ rest)) (z : V) (ex : A.extend x (arc_of g a).weight ≡ Some z) where
+module _ {V : Type 0} (A : Algebra V) (lawful : IsLawful A) (g : Roads) (roads : IsRoads g) (sources : List ℕ) (inside : All (HasVertex g) sources) (settled : List Bool) (x : V)
+    (labels : List (Option V)) (a : ℕ) (rest : List ℕ) (known : Search A g sources labels settled x (a ∷ rest)) (z : V) (ex : A.extend x (arc_of g a).weight ≡ Some z) where
   abbrev after : List (Option V)
   after = offered A.no_worse labels (arc_of g a).head z
 
@@ -53,7 +53,7 @@ module _ {V : Type 0} (A : Algebra V) (lawful : IsLawful A) (g : Roads) (roads :
   head_in = (roads.ends a this.0).1
 
   x_is_value : IsTrue (A.is_value x)
-  x_is_value = walk_value_is_value A lawful g roads (s ∷ []) (arc_of g a).tail x (known.values (arc_of g a).tail x tail_in this.2)
+  x_is_value = walk_value_is_value A lawful g roads sources (arc_of g a).tail x (known.values (arc_of g a).tail x tail_in this.2)
 
   x_before_offer : IsTrue (A.no_worse x z)
   x_before_offer = lawful.never_better x (arc_of g a).weight z x_is_value (roads.weights a this.0) ex
@@ -109,17 +109,19 @@ module _ {V : Type 0} (A : Algebra V) (lawful : IsLawful A) (g : Roads) (roads :
       let now = never_worse (arc_of g b).head found.0 ends.1 found.1 in
       (now.0, now.1, lawful.ordered.transitive now.0 found.0 u now.2 found.2)
 
-  pub search_offer : Search A g s after settled x rest
+  pub search_offer : Search A g sources after settled x rest
   search_offer = record {
     labels_count = after_count;
     settled_count = known.settled_count;
     values = λ v y in_v e. elim (old_or_new v y in_v e) [
       | inl old ↦ known.values v y in_v old
-      | inr new ↦ let w = IsWalkValue-extend A g (s ∷ []) (arc_of g a).tail a x z (known.values (arc_of g a).tail x tail_in this.2) this.0 refl ex in
-          subst (λ (u : ℕ). IsWalkValue A g (s ∷ []) u y) new.0 (subst (λ (q : V). IsWalkValue A g (s ∷ []) (arc_of g a).head q) new.1 w)
+      | inr new ↦ let w = IsWalkValue-extend A g sources (arc_of g a).tail a x z (known.values (arc_of g a).tail x tail_in this.2) this.0 refl ex in
+          subst (λ (u : ℕ). IsWalkValue A g sources u y) new.0 (subst (λ (q : V). IsWalkValue A g sources (arc_of g a).head q) new.1 w)
     ];
-    source = let w = never_worse s known.source.0 in_s known.source.1 in
-        (w.0, w.1, lawful.ordered.transitive w.0 known.source.0 A.origin w.2 known.source.2);
+    at_sources = λ s h.
+        let was = known.at_sources s h in
+        let w = never_worse s was.0 (all_inside g sources inside s h) was.1 in
+        (w.0, w.1, lawful.ordered.transitive w.0 was.0 A.origin w.2 was.2);
     labelled = λ v in_v h. let found = known.labelled v in_v h in (found.0, settled_kept v in_v h ∙ found.1, found.2);
     above = λ v y in_v o e. elim (old_or_new v y in_v e) [
       | inl old ↦ known.above v y in_v o old
@@ -136,14 +138,14 @@ module _ {V : Type 0} (A : Algebra V) (lawful : IsLawful A) (g : Roads) (roads :
         (found.0, found.1, settled_kept (arc_of g b).tail ((roads.ends b found.0).0) found.1 ∙ found.2);
   }
 
-module _ {V : Type 0} (A : Algebra V) (lawful : IsLawful A) (g : Roads) (roads : IsRoads g) (s : ℕ) (in_s : HasVertex g s) (settled : List Bool) (x : V) where
+module _ {V : Type 0} (A : Algebra V) (lawful : IsLawful A) (g : Roads) (roads : IsRoads g) (sources : List ℕ) (inside : All (HasVertex g) sources) (settled : List Bool) (x : V) where
   -- an arc whose extension is refused changes nothing
-  search_refused : (labels : List (Option V)) (a : ℕ) (rest : List ℕ) → Search A g s labels settled x (a ∷ rest) → A.extend x (arc_of g a).weight ≡ None → Search A g s labels settled x rest
+  search_refused : (labels : List (Option V)) (a : ℕ) (rest : List ℕ) → Search A g sources labels settled x (a ∷ rest) → A.extend x (arc_of g a).weight ≡ None → Search A g sources labels settled x rest
   search_refused labels a rest known ex = record {
     labels_count = known.labels_count;
     settled_count = known.settled_count;
     values = known.values;
-    source = known.source;
+    at_sources = known.at_sources;
     labelled = known.labelled;
     above = known.above;
     closed = λ b h t. elim (known.closed b h t) [
@@ -161,12 +163,12 @@ module _ {V : Type 0} (A : Algebra V) (lawful : IsLawful A) (g : Roads) (roads :
     current = λ b h. known.current b (suc h.0, omega (arith, h.1), h.2);
   }
 
-  search_arc : (labels : List (Option V)) (a : ℕ) (rest : List ℕ) → Search A g s labels settled x (a ∷ rest) → (o : Option V) → A.extend x (arc_of g a).weight ≡ o →
-      Search A g s (offered_if A.no_worse labels (arc_of g a).head o) settled x rest
+  search_arc : (labels : List (Option V)) (a : ℕ) (rest : List ℕ) → Search A g sources labels settled x (a ∷ rest) → (o : Option V) → A.extend x (arc_of g a).weight ≡ o →
+      Search A g sources (offered_if A.no_worse labels (arc_of g a).head o) settled x rest
   search_arc labels a rest known None ex = search_refused labels a rest known ex
-  search_arc labels a rest known (Some z) ex = search_offer A lawful g roads s in_s settled x labels a rest known z ex
+  search_arc labels a rest known (Some z) ex = search_offer A lawful g roads sources inside settled x labels a rest known z ex
 
-  pub search_relaxed : (arcs : List ℕ) (labels : List (Option V)) → Search A g s labels settled x arcs → Search A g s (relaxed A g x labels arcs) settled x []
+  pub search_relaxed : (arcs : List ℕ) (labels : List (Option V)) → Search A g sources labels settled x arcs → Search A g sources (relaxed A g x labels arcs) settled x []
   search_relaxed [] labels known = known
   search_relaxed (a ∷ arcs) labels known =
       search_relaxed arcs (offered_if A.no_worse labels (arc_of g a).head (A.extend x (arc_of g a).weight)) (search_arc labels a arcs known (A.extend x (arc_of g a).weight) refl)

@@ -1,5 +1,5 @@
 -- The search by best vertices first: what holds between its steps, its start, and the choice of a vertex.
-use Rattle.std.proofs.Common.{◌≡◌, ℕ, ◌+◌, ◌-◌, ◌<◌, ◌⊎◌, inl, inr, Bool, true, false, List, [], ◌∷◌, length, get_or, set, replicate, refl, ap, sym, ◌∙◌, subst, arith, Option, Some, None, get_or-set_same, get_or-set_other, length-set}
+use Rattle.std.proofs.Common.{◌≡◌, ℕ, ◌+◌, ◌-◌, ◌<◌, ◌⊎◌, inl, inr, Bool, true, false, List, [], length, get_or, set, replicate, refl, ap, sym, ◌∙◌, subst, arith, Option, Some, None, get_or-set_same, get_or-set_other, length-set}
 use Rattle.std.proofs.lemmas.List.{get_or-replicate, length-replicate}
 use Rattle.std.proofs.lemmas.Bool.{cases_eq}
 use Rattle.std.specs.Prelude.{IsTrue, Contains}
@@ -8,6 +8,7 @@ use Rattle.path_algebra.specs.Algebra.{Algebra, IsLawful}
 use Rattle.path_algebra.specs.Walks.{AreWalkValues, IsNotImproving, label_of}
 use Rattle.path_algebra.proofs.Least.{same_no_worse}
 use Rattle.path_algebra.specs.Open.{IsBestOpen}
+use Rattle.path_plain.specs.Opening.{AreOpening}
 use Rattle.path_plain.proofs.Small.{not_in_empty}
 
 -- a vertex that is marked as settled
@@ -15,51 +16,37 @@ abbrev pub IsSettled : List Bool → ℕ → Type 0
 IsSettled settled v = get_or settled (v - 1) false ≡ true
 
 -- x is a level: no settled label is worse, and no open one is better; pending arcs wait for their turn
-pub record Search {V : Type 0} (A : Algebra V) (g : Roads) (s : ℕ) (labels : List (Option V)) (settled : List Bool) (x : V) (pending : List ℕ) : Type 0 where
+pub record Search {V : Type 0} (A : Algebra V) (g : Roads) (sources : List ℕ) (labels : List (Option V)) (settled : List Bool) (x : V) (pending : List ℕ) : Type 0 where
   pub labels_count : length labels ≡ g.vertices
   pub settled_count : length settled ≡ g.vertices
-  pub values : AreWalkValues A g (s ∷ []) labels
-  pub source : (y : V) × (label_of labels s ≡ Some y) × IsTrue (A.no_worse y A.origin)
+  pub values : AreWalkValues A g sources labels
+  pub at_sources : (s : ℕ) → Contains sources s → (y : V) × (label_of labels s ≡ Some y) × IsTrue (A.no_worse y A.origin)
   pub labelled : (v : ℕ) → HasVertex g v → IsSettled settled v → (y : V) × (label_of labels v ≡ Some y) × IsTrue (A.no_worse y x)
   pub above : (v : ℕ) (y : V) → HasVertex g v → get_or settled (v - 1) false ≡ false → label_of labels v ≡ Some y → IsTrue (A.no_worse x y)
   pub closed : (a : ℕ) → HasArc g a → IsSettled settled (arc_of g a).tail → Contains pending a ⊎ IsNotImproving A g labels a
   pub current : (a : ℕ) → Contains pending a → HasArc g a × IsSettled settled (arc_of g a).tail × (label_of labels (arc_of g a).tail ≡ Some x)
 
-module _ {V : Type 0} (A : Algebra V) (lawful : IsLawful A) (g : Roads) (roads : IsRoads g) (s : ℕ) (in_s : HasVertex g s) where
-  in_first : s - 1 < length (replicate {A = Option V} g.vertices None)
-  in_first = simp length-replicate (omega (arith, in_s.0, in_s.1))
-
+module _ {V : Type 0} (A : Algebra V) (lawful : IsLawful A) (g : Roads) (roads : IsRoads g) (sources : List ℕ) where
   none_settled : (v : ℕ) → HasVertex g v → IsSettled (replicate g.vertices false) v → ⊥
   none_settled v in_v h =
       let f : get_or (replicate g.vertices false) (v - 1) false ≡ false = get_or-replicate g.vertices (v - 1) false false (omega (arith, in_v.0, in_v.1)) in
       let bad : false ≡ true = sym f ∙ h in cc
 
-  first_at : (v : ℕ) (y : V) → HasVertex g v → label_of (set (replicate g.vertices None) (s - 1) (Some A.origin)) v ≡ Some y → (s ≡ v) × (A.origin ≡ y)
-  first_at v y in_v e = elim (cases_eq (v - 1) (s - 1)) [
-    | inl same ↦
-        let f : label_of (set (replicate g.vertices None) (s - 1) (Some A.origin)) v ≡ Some A.origin = rw same (get_or-set_same _ _ _ _ in_first) in
-        let i : Some A.origin ≡ Some y = sym f ∙ e in
-        (omega (arith, in_s.0, in_v.0), cc)
-    | inr other ↦
-        let lt : v - 1 < g.vertices = omega (arith, in_v.0, in_v.1) in
-        let f : label_of (set (replicate g.vertices None) (s - 1) (Some A.origin)) v ≡ None = get_or-set_other (replicate g.vertices None) (s - 1) (v - 1) (Some A.origin) None other ∙ get_or-replicate g.vertices (v - 1) None None lt in
-        let bad : None ≡ Some y = sym f ∙ e in cc
-  ]
-
-  pub search_start : Search A g s (set (replicate g.vertices None) (s - 1) (Some A.origin)) (replicate g.vertices false) A.origin []
-  search_start = record {
-    labels_count = simp (length-set, length-replicate);
+  pub search_start : (labels : List (Option V)) → AreOpening A.origin g.vertices sources labels → Search A g sources labels (replicate g.vertices false) A.origin []
+  search_start labels opening = record {
+    labels_count = opening.count;
     settled_count = simp length-replicate;
-    values = λ v x in_v e. let f = first_at v x in_v e in ([], (s, (0, omega arith, refl), f.0), f.1);
-    source = (A.origin, get_or-set_same _ _ _ _ in_first, same_no_worse A.no_worse lawful.ordered A.origin);
+    values = λ v x in_v e. let f = opening.only_there v x in_v.0 in_v.1 e in ([], (v, f.0, refl), f.1);
+    at_sources = λ s h. (A.origin, opening.at_sources s h, same_no_worse A.no_worse lawful.ordered A.origin);
     labelled = λ v in_v h. absurd (none_settled v in_v h);
-    above = λ v y in_v o e. let f = first_at v y in_v e in subst (λ (z : V). IsTrue (A.no_worse A.origin z)) f.1 (same_no_worse A.no_worse lawful.ordered A.origin);
+    above = λ v y in_v o e. let f = opening.only_there v y in_v.0 in_v.1 e in
+        subst (λ (z : V). IsTrue (A.no_worse A.origin z)) f.1 (same_no_worse A.no_worse lawful.ordered A.origin);
     closed = λ a h t. absurd (none_settled (arc_of g a).tail ((roads.ends a h).0) t);
     current = λ a h. absurd (not_in_empty a h);
   }
 
-module _ {V : Type 0} (A : Algebra V) (lawful : IsLawful A) (g : Roads) (roads : IsRoads g) (s : ℕ) (labels : List (Option V)) (settled : List Bool) (x y : V) (i : ℕ) (out : List ℕ)
-    (known : Search A g s labels settled x []) (best : IsBestOpen A.no_worse labels settled g.vertices i y) (lists : ListsArcsFrom g (i + 1) out) where
+module _ {V : Type 0} (A : Algebra V) (lawful : IsLawful A) (g : Roads) (roads : IsRoads g) (sources : List ℕ) (labels : List (Option V)) (settled : List Bool) (x y : V) (i : ℕ) (out : List ℕ)
+    (known : Search A g sources labels settled x []) (best : IsBestOpen A.no_worse labels settled g.vertices i y) (lists : ListsArcsFrom g (i + 1) out) where
   picked : (v : ℕ) → HasVertex g v → IsSettled (set settled i true) v → ((v ≡ i + 1) × (label_of labels v ≡ Some y)) ⊎ (IsSettled settled v)
   picked v in_v h = elim (cases_eq (v - 1) i) [
     | inl same ↦ inl (omega (arith, in_v.0), ap (λ (j : ℕ). get_or labels j None) same ∙ best.label)
@@ -83,12 +70,12 @@ module _ {V : Type 0} (A : Algebra V) (lawful : IsLawful A) (g : Roads) (roads :
   here_label : label_of labels (i + 1) ≡ Some y
   here_label = let e : (i + 1) - 1 ≡ i = omega arith in rw e best.label
 
-  pub search_pick : Search A g s labels (set settled i true) y out
+  pub search_pick : Search A g sources labels (set settled i true) y out
   search_pick = record {
     labels_count = known.labels_count;
     settled_count = simp length-set known.settled_count;
     values = known.values;
-    source = known.source;
+    at_sources = known.at_sources;
     labelled = λ v in_v h. elim (picked v in_v h) [
       | inl p ↦ (y, p.1, same_no_worse A.no_worse lawful.ordered y)
       | inr old ↦ let found = known.labelled v in_v old in

@@ -1,4 +1,4 @@
-//! The one-thread solver: best values from one source, vertices settled best first, for every lawful algebra.
+//! The one-thread solver: best values from a list of sources, vertices settled best first, for every lawful algebra.
 //!
 //! It is the measure that the running engine is compared with, and the checker's own way to best values.
 #![tactic(auto)]
@@ -8,4 +8,4 @@ mod queue;
 mod solve;
 
 pub use laws::best_values_exist;
-pub use solve::solve_one;
+pub use solve::{solve_from, solve_one};

@@ -1,9 +1,10 @@
-//! Best values from one source.
+//! Best values from a list of sources.
 
-ghost use Rattle.std.specs.Prelude.{◌≡◌, ℕ, ◌+◌, ◌<◌, ◌≤◌, ◌∷◌, [], length, slice_index_or, false, OnOk, IfOk};
+ghost use Rattle.std.specs.Prelude.{◌≡◌, ℕ, ◌+◌, ◌<◌, ◌≤◌, ◌∷◌, [], All, length, replicate, slice_index_or, false, None, OnOk, IfOk};
 ghost use Rattle.std.specs.BinaryHeap.{heap_items, IsHeap};
 ghost use Rattle.road_graph.specs.Roads.{IsRoads, HasVertex};
 ghost use Rattle.path_algebra.specs.Walks.{AreBest, offered, offered_if};
+ghost use Rattle.path_plain.specs.Opening.{AreOpening};
 ghost use Rattle.path_plain.specs.Order.{open_cmp};
 ghost use Rattle.path_plain.specs.Queue.{KeepsQueue};
 ghost use Rattle.path_plain.specs.Settling.{Relaxes, Handles};
@@ -125,9 +126,52 @@ fn settle<A: PathAlgebra>(
     )
 }
 
-/// The best value of each vertex over all walks from the source, and none where no walk has a value.
+/// Offers the origin to each source, so that a source that is repeated is taken once.
+fn offer_origins<A: PathAlgebra>(
+    algebra: A,
+    labels: &mut [Option<A::Value>],
+    queue: &mut BinaryHeap<Open<A>>,
+    sources: &[Vertex],
+) -> Result<(), Memory>
+    requires inside { All (λ s. (1 ≤ s) × (s ≤ length labels.old)) sources.now }
+    requires fresh { labels.old ≡ replicate (length labels.old) None }
+    requires heap { IsHeap (open_cmp (λ o. o.value) (λ o. o.place) A.order) (heap_items queue.old) }
+    ensures opening { OnOk result (AreOpening (A.meaning algebra).origin (length labels.old) sources.now labels.new) }
+    ensures heap { OnOk result (IsHeap (open_cmp (λ o. o.value) (λ o. o.place) A.order) (heap_items queue.new)) }
+    ensures queue { OnOk result (KeepsQueue (λ o. o.value) (λ o. o.place) A.order
+        labels.old (heap_items queue.old) labels.new (heap_items queue.new)) }
+{
+    for source in sources {
+        offer::<A>(labels, queue, *source, algebra.origin())?;
+    }
+    Ok(())
+}
+
+/// The best value of each vertex over all walks from some source of the list, and none where no walk has a value. Sources may repeat.
 ///
 /// Vertices are settled best first, each once; an entry of the queue that has become stale is dropped when it comes up.
+pub fn solve_from<A: PathAlgebra>(
+    alloc: Global,
+    algebra: A,
+    graph: &Graph,
+    sources: &[Vertex],
+) -> Result<Labels<A::Value>, Memory>
+    requires { All (HasVertex graph.now) sources.now }
+    ensures { IfOk result (λ labels. AreBest (A.meaning algebra) graph.now sources.now labels) }
+{
+    laws_hold(algebra);
+    let n = graph.vertices() as usize;
+    let mut labels: Vec<Option<A::Value>> = vec![in alloc; None; n]?;
+    let mut settled: Vec<bool> = vec![in alloc; false; n]?;
+    let mut queue: BinaryHeap<Open<A>> = BinaryHeap::new(alloc);
+    offer_origins(algebra, &mut labels, &mut queue, sources)?;
+    while let Some(best) = pop_best::<A>(&mut queue) {
+        settle(algebra, graph, &mut labels, &mut settled, &mut queue, best)?;
+    }
+    Ok(Labels::from_vec(labels))
+}
+
+/// The best value of each vertex over all walks from the source, and none where no walk has a value.
 pub fn solve_one<A: PathAlgebra>(
     alloc: Global,
     algebra: A,
@@ -137,16 +181,5 @@ pub fn solve_one<A: PathAlgebra>(
     requires { HasVertex graph.now source }
     ensures { IfOk result (λ labels. AreBest (A.meaning algebra) graph.now (source ∷ []) labels) }
 {
-    laws_hold(algebra);
-    let n = graph.vertices() as usize;
-    let mut labels: Vec<Option<A::Value>> = vec![in alloc; None; n]?;
-    let mut settled: Vec<bool> = vec![in alloc; false; n]?;
-    let mut queue: BinaryHeap<Open<A>> = BinaryHeap::new(alloc);
-    let first = source.0 as usize - 1;
-    labels[first] = Some(algebra.origin());
-    push_open::<A>(&mut queue, algebra.origin(), first)?;
-    while let Some(best) = pop_best::<A>(&mut queue) {
-        settle(algebra, graph, &mut labels, &mut settled, &mut queue, best)?;
-    }
-    Ok(Labels::from_vec(labels))
+    solve_from(alloc, algebra, graph, &[source])
 }

@@ -1,13 +1,14 @@
 -- What the graph and the plan say of the network's arcs and places.
 use Rattle.std.proofs.Common.{◌≡◌, ◌≢◌, ℕ, zero, suc, ◌+◌, ◌-◌, ◌<◌, ◌≤◌, List, [], ◌∷◌, length, get_or, take, ◌⊎◌, refl, sym, ap, ◌∙◌, subst, inl, inr, arith}
 use Rattle.std.proofs.lemmas.Bool.{cases_eq}
-use Rattle.std.proofs.lemmas.List.{get_or_read}
+use Rattle.std.proofs.lemmas.List.{get_or_read, get_or-map, length-map}
 use Rattle.path_algebra.specs.Algebra.{Algebra}
-use Rattle.road_graph.specs.Roads.{Roads, IsRoads, HasVertex, HasArc, ListsArcsFrom, IsAscendingFrom, arc_of}
+use Rattle.road_graph.specs.Roads.{Roads, IsRoads, HasVertex, HasArc, ListsArcsFrom, ListsRoadsFrom, IsAscendingFrom, arc_of, road_of, roads_of}
+use Rattle.road_graph.specs.declared.OutRoad.{OutRoad}
 use Rattle.scholten_core.specs.Network.{Network, network}
 use Rattle.scholten_core.specs.Diffusion.{Listed}
 use Rattle.scholten_core.proofs.Networks.{out_of, real_arc, tail-arc, head-arc, tail-entry, head-entry}
-use Rattle.shard_part.specs.Plans.{shard_in}
+use Rattle.shard_part.specs.Plans.{shard_in, HasPlanned}
 use Rattle.shard_part.specs.PartState.{Setup, PartData, network_in, place_in, outgoing, IsArc, own_in, arcs_out}
 use Rattle.shard_part.specs.Desk.{Rows, IsDesk, IsPlace, IsRow}
 use Rattle.shard_part.specs.Tables.{Rises, StandsIn}
@@ -42,6 +43,16 @@ out_is A g s v xs l o =
     arcs_are A (network g s) v 0 (suc (length g.arcs)) xs (from_none 0 xs (rising 0 xs o.ascending))
     (λ b m. let r = listed_in A (network g s) b xs m in (ap (network g s).tail (sym r.2) ∙ O.tail r.0 r.1, (let h = O.high r.0 r.1 in let e = r.2 in omega (arith, h, e))))
     (λ b t h k. let r = O.all b t in in_listed A (network g s) b xs r.0 r.1 r.2)
+
+-- its list of heads and weights has those of these arcs, in the same order
+pub roads_are : {V : Type 0} (A : Algebra V) (g : Roads) (s v : ℕ) (rs : List OutRoad) → 1 ≤ v → ListsRoadsFrom g v rs → rs ≡ roads_of g (outgoing (network g s) v)
+roads_are A g s v rs l o = o.2 ∙ ap (roads_of g) (out_is A g s v o.0 l o.1)
+
+pub road_is : (g : Roads) (s v k b : ℕ) (rs : List OutRoad) (d : OutRoad) → rs ≡ roads_of g (outgoing (network g s) v) → k < length (outgoing (network g s) v) → get_or (outgoing (network g s) v) k 0 ≡ b → (k < length rs) × (get_or rs k d ≡ road_of (arc_of g b))
+road_is g s v k b rs d e l h = (
+  (let z = ap (λ (ys : List OutRoad). length ys) e in let y = length-map (outgoing (network g s) v) (λ a. road_of (arc_of g a)) in omega (arith, z, y, l)),
+  ap (λ ys. get_or ys k d) e ∙ get_or-map (λ a. road_of (arc_of g a)) (outgoing (network g s) v) k 0 d l ∙ ap (λ a. road_of (arc_of g a)) h,
+)
 
 -- the environment's arc stands alone
 pub entry_first : (g : Roads) (s : ℕ) → (0 < length (outgoing (network g s) 0)) × (get_or (outgoing (network g s) 0) 0 0 ≡ 0)
@@ -140,6 +151,15 @@ module _ {S V : Type 0} where
   tail_arc_is p old r n ns a e D h nz =
       let g = arc_in_graph p old r n ns a e D h nz in let j = (D.planned.roads.ends a g).0 in
       (sym (tail-arc p.setup.roads a g.0) ∙ ap (λ (u : PartData S V). (network_in u.setup).tail a) e, j.0, subst (λ (u : PartData S V). (arc_of p.setup.roads a).tail ≤ u.setup.roads.vertices) e j.1)
+
+  -- the head of an arc, as the graph tells it
+  pub head_told : (p old : PartData S V) (r : Rows V) (n : ℕ) (ns : List ℕ) (b w : ℕ) → p ≡ old → IsDesk p r n ns → IsArc (network_in old.setup) b → b ≢ 0 → w ≡ (arc_of old.setup.roads b).head →
+      (w ≡ (network_in old.setup).head b) × HasPlanned p.setup.plan w
+  head_told p old r n ns b w e D h nz is =
+      let H = head_arc_is p old r n ns b e D h nz in
+      let q : w ≡ (arc_of p.setup.roads b).head = is ∙ ap (λ (u : PartData S V). (arc_of u.setup.roads b).head) (sym e) in
+      let v = ap (λ (u : PartData S V). u.setup.roads.vertices) e in let k = D.planned.covers in let low = H.1 in let high = H.2 in
+      (q ∙ H.0, ((omega (arith, q, low)), (omega (arith, q, high, v, k))))
 
   pub shard_is : (p old : PartData S V) (r : Rows V) (n : ℕ) (ns : List ℕ) (v w : ℕ) → p ≡ old → IsDesk p r n ns → ((v ≡ 0) × (w ≡ p.setup.source)) ⊎ ((1 ≤ v) × (w ≡ v)) → shard_in p.setup.plan w ≡ place_in old.setup v
   shard_is p old r n ns v w e D h = sym (placed_as p.setup v w D.planned.source.0 h) ∙ ap (λ (u : PartData S V). place_in u.setup v) e

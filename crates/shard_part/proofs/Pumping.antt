@@ -2,13 +2,14 @@
 use Rattle.std.proofs.Common.{◌≡◌, ◌≢◌, ℕ, zero, suc, ◌+◌, ◌<◌, ◌≤◌, Bool, true, false, cond, Option, Some, None, List, [], ◌∷◌, ◌++◌, length, set, get_or, take, refl, sym, ap, ◌∙◌, subst, arith}
 use Rattle.std.proofs.lemmas.List.{get_or_read, take_more, take_all}
 use Rattle.path_algebra.specs.Algebra.{Algebra}
-use Rattle.road_graph.specs.Roads.{HasVertex, ListsArcsFrom}
-use Rattle.scholten_core.specs.Network.{Network, WellFormed}
+use Rattle.road_graph.specs.declared.OutRoad.{OutRoad}
+use Rattle.road_graph.specs.Roads.{HasVertex, ListsArcsFrom, ListsRoadsFrom, arc_of, road_of, roads_of}
+use Rattle.scholten_core.specs.Network.{WellFormed}
 use Rattle.scholten_core.specs.Diffusion.{is_due, extend_label, improves}
 use Rattle.shard_part.specs.PartState.{Setup, PartData, state_in, network_in, outgoing, own_in, IsArc}
 use Rattle.shard_part.specs.Desk.{Rows, IsDesk, IsPlace, IsRow, with_message, greeted, labelled, offered, offered_all, rested, with_value, with_free}
 use Rattle.shard_part.specs.Tables.{Rises, StandsIn}
-use Rattle.shard_part.proofs.Graphs.{out_is}
+use Rattle.shard_part.proofs.Graphs.{graph_arc, out_is, roads_are, road_is}
 use Rattle.shard_part.proofs.Moves.{formed}
 use Rattle.shard_part.proofs.Places.{own_below, outgoing_picked}
 
@@ -81,19 +82,15 @@ module _ {S V : Type 0} (A : Algebra V) where
   pub free_same : (a b : ℕ) (p q : PartData S V) → q ≡ record p { busy = set p.busy a false } → (q.setup ≡ p.setup) × (q.shard ≡ p.shard)
   free_same a b p q e = (ap (λ (u : PartData S V). u.setup) e, ap (λ (u : PartData S V). u.shard) e)
 
--- the list of the arcs out of v, once it is known to be that
-pub rises_of : (N : Network) (v : ℕ) (xs : List ℕ) → xs ≡ outgoing N v → Rises xs
-rises_of N v xs e = subst Rises (sym e) (outgoing_picked N v).rises
-
-pub stands_of : (N : Network) (v a : ℕ) (xs : List ℕ) → xs ≡ outgoing N v → N.tail a ≡ v → a ≤ N.arcs → StandsIn xs a
-stands_of N v a xs e t l = subst (λ ys. StandsIn ys a) (sym e) ((outgoing_picked N v).all a t (omega arith) (omega arith))
-
 module _ {S V : Type 0} where
   pub inside_of : (p q : PartData S V) (v k : ℕ) (xs : List ℕ) → xs ≡ outgoing (network_in p.setup) v → q.setup ≡ p.setup → k < length xs → k < length (outgoing (network_in q.setup) v)
   inside_of p q v k xs e s l = subst (λ (t : Setup S). k < length (outgoing (network_in t) v)) (sym s) (subst (λ ys. k < length ys) e l)
 
+  pub arc_at : (p q : PartData S V) (v k b : ℕ) (xs : List ℕ) → xs ≡ outgoing (network_in p.setup) v → q.setup ≡ p.setup → get_or xs k 0 ≡ b → get_or (outgoing (network_in q.setup) v) k 0 ≡ b
+  arc_at p q v k b xs e s h = (λ j. get_or (outgoing (network_in (s j)) v) k 0) ∙ ap (λ ys. get_or ys k 0) (sym e) ∙ h
+
   pub row_found : (p q : PartData S V) (v k b i : ℕ) (xs : List ℕ) → xs ≡ outgoing (network_in p.setup) v → q.setup ≡ p.setup → get_or xs k 0 ≡ b → IsRow q (get_or (outgoing (network_in q.setup) v) k 0) i → IsRow q b i
-  row_found p q v k b i xs e s h R = subst (λ z. IsRow q z i) ((λ j. get_or (outgoing (network_in (s j)) v) k 0) ∙ ap (λ ys. get_or ys k 0) (sym e) ∙ h) R
+  row_found p q v k b i xs e s h R = subst (λ z. IsRow q z i) (arc_at p q v k b xs e s h) R
 
   pub tail_found : (p q : PartData S V) (v k b : ℕ) (xs : List ℕ) → xs ≡ outgoing (network_in p.setup) v → q.setup ≡ p.setup → k < length xs → get_or xs k 0 ≡ b → (network_in q.setup).tail b ≡ v
   tail_found p q v k b xs e s l h = ap (λ (t : Setup S). (network_in t).tail b) s ∙ ap (network_in p.setup).tail (sym h ∙ ap (λ ys. get_or ys k 0) e) ∙ ((outgoing_picked (network_in p.setup) v).each k (subst (λ ys. k < length ys) e l)).0
@@ -103,6 +100,26 @@ module _ {S V : Type 0} where
       let W : WellFormed (network_in q.setup) = subst (λ (x : Setup S). WellFormed (network_in x)) (ap (λ (y : PartData S V). y.setup) e ∙ sym s) (formed u u.shard D.planned) in
       let tn : (network_in q.setup).tail b ≢ 0 = λ z. nz (sym t ∙ z) in
       ((W.head_in b tn, λ _. tn), λ z. tn (ap (network_in q.setup).tail z ∙ W.tail_zero))
+
+  -- an arc among those out of its tail
+  pub tail_vertex : (A : Algebra V) (p old : PartData S V) (r : Rows V) (n : ℕ) (ns : List ℕ) (v j a : ℕ) → p ≡ old → IsDesk p r n ns → IsPlace old v j → IsArc (network_in old.setup) a → (network_in old.setup).tail a ≡ v → a ≢ 0 → HasVertex p.setup.roads v
+  tail_vertex A p old r n ns v j a e D P ar t nz = vertex_at A p old r n ns v j e D P (λ z. ar.1 nz (t ∙ z))
+
+  pub found_out : (A : Algebra V) (p old : PartData S V) (v a : ℕ) (xs : List ℕ) → p ≡ old → HasVertex p.setup.roads v → IsArc (network_in old.setup) a → (network_in old.setup).tail a ≡ v → a ≢ 0 → ListsArcsFrom p.setup.roads v xs →
+      (xs ≡ outgoing (network_in old.setup) v) × Rises xs × StandsIn xs a
+  found_out A p old v a xs e h ar t nz o =
+      let is = listed_out A p old v xs e h.0 o in let P = outgoing_picked (network_in old.setup) v in (
+        is,
+        subst Rises (sym is) P.rises,
+        subst (λ ys. StandsIn ys a) (sym is) (P.all a t (omega arith) (let l = (graph_arc old.setup a nz ar).1 in omega (arith, l))),
+      )
+
+  -- head and weight of the k-th arc out of a vertex
+  pub road_found : (A : Algebra V) (p old : PartData S V) (r : Rows V) (n : ℕ) (ns : List ℕ) (v j k b : ℕ) (rs : List OutRoad) (d : OutRoad) → p ≡ old → IsDesk p r n ns → IsPlace old v j → v ≢ 0 → ListsRoadsFrom p.setup.roads v rs →
+      k < length (outgoing (network_in old.setup) v) → get_or (outgoing (network_in old.setup) v) k 0 ≡ b → (k < length rs) × (get_or rs k d ≡ road_of (arc_of old.setup.roads b))
+  road_found A p old r n ns v j k b rs d e D P nz o l h =
+      let h2 = vertex_at A p old r n ns v j e D P nz in
+      road_is old.setup.roads old.setup.source v k b rs d (roads_are A p.setup.roads p.setup.source v rs h2.0 o ∙ ap (λ (u : PartData S V). roads_of u.setup.roads (outgoing (network_in u.setup) v)) e) l h
 
   -- a message, step by step
   pub message_handled : (meaning : S → Algebra V) (p p1 p2 p3 p4 : PartData S V) (a v w : ℕ) (x : V) (t : Bool) → v ≡ w → p1 ≡ labelled (meaning p.setup.algebra) x v p → p2 ≡ greeted a v ((state_in p1).engager v) p1 →

@@ -1,5 +1,6 @@
 ghost use Rattle.std.specs.Prelude.{◌≡◌, ◌≢◌, ℕ, suc, ◌+◌, ◌<◌, ◌≤◌, [], ◌∷◌, length, get_or, set, Option, Some, None, IfSome, IsTrue, IsFalse, ◌↔◌, true, false, cond, eqb, not, ◌&&◌};
-ghost use Rattle.road_graph.specs.Roads.{HasVertex};
+ghost use Rattle.road_graph.specs.Roads.{HasVertex, arc_of, road_of};
+ghost use Rattle.scholten_core.specs.declared.item.Item.TheVariants.{Signal as SignalOn};
 ghost use Rattle.scholten_core.specs.Diffusion.{out_idle, same_label, extend_label, improves, is_due as due};
 ghost use Rattle.scholten_core.specs.Items.{item_arc};
 ghost use Rattle.shard_part.specs.Tallies.{counted_on};
@@ -21,7 +22,7 @@ use crate::search::{find_arc, find_vertex};
 use crate::shard::Shard;
 use crate::tables::Tables;
 use path_algebra::{PathAlgebra, laws_hold};
-use road_graph::{ArcNo, Graph, Vertex};
+use road_graph::{ArcNo, Graph, OutRoad, Vertex};
 use scholten_core::Item;
 use std::marker::Model;
 
@@ -211,7 +212,7 @@ impl<'g, A: PathAlgebra> Desk<'g, A> {
         if a.0 == 0 {
             self.source
         } else {
-            self.graph.arc(a).head
+            self.graph.road(a).head
         }
     }
 
@@ -224,19 +225,19 @@ impl<'g, A: PathAlgebra> Desk<'g, A> {
         if a.0 == 0 {
             Vertex(0)
         } else {
-            self.graph.arc(a).tail
+            self.graph.tail(a)
         }
     }
 
-    /// The shard where an item belongs.
-    fn destination(&self, item: Item<A::Value>) -> Shard
-        requires { IsArc (network_in self.now.setup) (item_arc item) }
-        ensures { result ≡ place_in self.now.setup (vertex_of (network_in self.now.setup) item) }
+    /// The shard that an arc leads to.
+    fn shard_behind(&self, b: ArcNo, head: Vertex) -> Shard
+        requires arc { IsArc (network_in self.now.setup) b }
+        requires graph { b ≢ 0 }
+        requires head { head ≡ (arc_of self.now.setup.roads b).head }
+        ensures { result ≡ place_in self.now.setup ((network_in self.now.setup).head b) }
     {
-        match item {
-            Item::Message { arc, value: _ } => self.shard_of(self.head(arc)),
-            Item::Signal { arc } => self.shard_of(self.tail(arc)),
-        }
+        let _b = b;
+        self.plan.shard_of(head)
     }
 
     /// The place of a vertex.
@@ -267,13 +268,13 @@ impl<'g, A: PathAlgebra> Desk<'g, A> {
     }
 
     /// Puts an item where it belongs.
-    fn send(&mut self, item: Item<A::Value>)
+    fn send(&mut self, item: Item<A::Value>, to: Shard)
         requires arc { IsArc (network_in self.old.setup) (item_arc item) }
         requires made { place_in self.old.setup (maker_of (network_in self.old.setup) item) ≡ self.old.shard }
+        requires shard { to ≡ place_in self.old.setup (vertex_of (network_in self.old.setup) item) }
         requires clear { IsClear self.old (item_arc item) }
         ensures { self.new ≡ put_item item self.old }
     {
-        let to = self.destination(item);
         if to == self.shard {
             self.queue.push(item);
         } else {
@@ -306,14 +307,26 @@ impl<'g, A: PathAlgebra> Desk<'g, A> {
     }
 
     /// An item is made.
-    fn put(&mut self, item: Item<A::Value>)
+    fn put(&mut self, item: Item<A::Value>, to: Shard)
         requires arc { IsArc (network_in self.old.setup) (item_arc item) }
         requires made { place_in self.old.setup (maker_of (network_in self.old.setup) item) ≡ self.old.shard }
+        requires shard { to ≡ place_in self.old.setup (vertex_of (network_in self.old.setup) item) }
         requires clear { IsClear self.old (item_arc item) }
         ensures { self.new ≡ with_item item self.old }
     {
-        self.send(item);
+        self.send(item, to);
         self.count_made(item);
+    }
+
+    /// The signal of an arc is made.
+    fn signal(&mut self, a: ArcNo)
+        requires arc { IsArc (network_in self.old.setup) a }
+        requires made { place_in self.old.setup ((network_in self.old.setup).head a) ≡ self.old.shard }
+        requires clear { IsClear self.old a }
+        ensures { self.new ≡ with_item (SignalOn a) self.old }
+    {
+        let to = self.shard_of(self.tail(a));
+        self.put(Item::Signal { arc: a }, to);
     }
 }
 
@@ -329,7 +342,7 @@ impl<'g, A: PathAlgebra> Desk<'g, A> {
     {
         match self.engager(v, j) {
             None => self.engage(v, j, a),
-            Some(_) => self.put(Item::Signal { arc: a }),
+            Some(_) => self.signal(a),
         }
     }
 
@@ -342,7 +355,7 @@ impl<'g, A: PathAlgebra> Desk<'g, A> {
         if let Some(e) = self.engager(v, j) {
             if self.deficit_at(v, j) == 0 {
                 self.release(v, j, e);
-                self.put(Item::Signal { arc: e });
+                self.signal(e);
             }
         }
     }
@@ -361,48 +374,60 @@ impl<'g, A: PathAlgebra> Desk<'g, A> {
     }
 
     /// The label of the vertex at a place, extended by the arc b.
-    fn extension(&self, v: Vertex, j: usize, b: ArcNo) -> Option<A::Value>
+    fn extension(&self, v: Vertex, j: usize, b: ArcNo, weight: u32) -> Option<A::Value>
         requires place { IsPlace self.now v j }
         requires arc { IsArc (network_in self.now.setup) b }
         requires graph { b ≢ 0 }
+        requires weight { weight ≡ (arc_of self.now.setup.roads b).weight }
         ensures { result ≡ extend_label (A.meaning self.now.setup.algebra) ((state_in self.now).label v) ((network_in self.now.setup).weight b) }
     {
-        let weight = self.graph.arc(b).weight;
+        let _b = b;
         extended(self.algebra, self.label(v, j), weight)
     }
 
     /// A message goes along the idle arc b, if there is a value.
-    fn message(&mut self, v: Vertex, j: usize, b: ArcNo, i: usize, value: Option<A::Value>)
+    fn message(
+        &mut self,
+        v: Vertex,
+        j: usize,
+        b: ArcNo,
+        i: usize,
+        value: Option<A::Value>,
+        to: Shard,
+    )
         requires place { IsPlace self.old v j }
         requires vertex { v ≢ 0 }
         requires row { IsRow self.old b i }
         requires tail { (network_in self.old.setup).tail b ≡ v }
         requires arc { IsArc (network_in self.old.setup) b }
         requires made { place_in self.old.setup ((network_in self.old.setup).tail b) ≡ self.old.shard }
+        requires shard { to ≡ place_in self.old.setup ((network_in self.old.setup).head b) }
         requires idle { get_or self.old.busy b false ≡ false }
         ensures { self.new ≡ with_message b value self.old }
     {
         if let Some(value) = value {
             self.occupy(v, j, b, i);
-            self.put(Item::Message { arc: b, value });
+            self.put(Item::Message { arc: b, value }, to);
         }
     }
 
     /// The arc b out of the vertex at a place is told its label, if it is due.
-    fn offer(&mut self, v: Vertex, j: usize, b: ArcNo, i: usize)
+    fn offer(&mut self, v: Vertex, j: usize, b: ArcNo, i: usize, road: OutRoad)
         requires place { IsPlace self.old v j }
         requires vertex { v ≢ 0 }
         requires row { IsRow self.old b i }
         requires tail { (network_in self.old.setup).tail b ≡ v }
         requires arc { IsArc (network_in self.old.setup) b }
         requires graph { b ≢ 0 }
+        requires road { road ≡ road_of (arc_of self.old.setup.roads b) }
         ensures { self.new ≡ offered (A.meaning self.old.setup.algebra) v b self.old }
     {
         if self.is_due(v, j, b, i) {
             let label = self.label(v, j);
-            let value = self.extension(v, j, b);
+            let value = self.extension(v, j, b, road.weight);
+            let to = self.shard_behind(b, road.head);
             self.tell(b, i, label);
-            self.message(v, j, b, i, value);
+            self.message(v, j, b, i, value, to);
         }
     }
 }
@@ -418,7 +443,8 @@ impl<'g, A: PathAlgebra> Desk<'g, A> {
         let outgoing = graph.out(v);
         for (k, b) in outgoing.iter().enumerate() {
             let i = self.row(v, j, k);
-            self.offer(v, j, *b, i);
+            let road = self.road_at(v, j, k, *b);
+            self.offer(v, j, *b, i, road);
         }
     }
 
@@ -446,6 +472,21 @@ impl<'g, A: PathAlgebra> Desk<'g, A> {
         improved
     }
 
+    /// Where the arc a stands among those out of the vertex at a place.
+    fn turn_of(&self, v: Vertex, j: usize, a: ArcNo) -> usize
+        requires place { IsPlace self.now v j }
+        requires arc { IsArc (network_in self.now.setup) a }
+        requires tail { (network_in self.now.setup).tail a ≡ v }
+        ensures inside { result < length (outgoing (network_in self.now.setup) v) }
+        ensures arc { get_or (outgoing (network_in self.now.setup) v) result 0 ≡ a }
+    {
+        let _j = j;
+        if a.0 == 0 {
+            return 0;
+        }
+        find_arc(self.graph.out(v), a)
+    }
+
     /// The place of the arc a out of the vertex at a place.
     fn row_of(&self, v: Vertex, j: usize, a: ArcNo) -> usize
         requires place { IsPlace self.now v j }
@@ -453,11 +494,20 @@ impl<'g, A: PathAlgebra> Desk<'g, A> {
         requires tail { (network_in self.now.setup).tail a ≡ v }
         ensures { IsRow self.now a result }
     {
-        if a.0 == 0 {
-            return self.row(v, j, 0);
-        }
-        let k = find_arc(self.graph.out(v), a);
+        let k = self.turn_of(v, j, a);
         self.row(v, j, k)
+    }
+
+    /// Head and weight of the arc b, the k-th out of the vertex at a place.
+    fn road_at(&self, v: Vertex, j: usize, k: usize, b: ArcNo) -> OutRoad
+        requires place { IsPlace self.now v j }
+        requires vertex { v ≢ 0 }
+        requires inside { k < length (outgoing (network_in self.now.setup) v) }
+        requires arc { get_or (outgoing (network_in self.now.setup) v) k 0 ≡ b }
+        ensures { result ≡ road_of (arc_of self.now.setup.roads b) }
+    {
+        let (_j, _b) = (j, b);
+        self.graph.roads_from(v)[k]
     }
 
     /// A message is handled at its head.
@@ -484,10 +534,12 @@ impl<'g, A: PathAlgebra> Desk<'g, A> {
     {
         let v = self.tail(a);
         let j = self.place(v);
-        let i = self.row_of(v, j, a);
+        let k = self.turn_of(v, j, a);
+        let i = self.row(v, j, k);
         self.free(v, j, a, i);
         if a.0 > 0 {
-            self.offer(v, j, a, i);
+            let road = self.road_at(v, j, k, a);
+            self.offer(v, j, a, i, road);
             self.rest(v, j);
         }
     }

@@ -43,8 +43,26 @@ fn halve(list: &[Vertex], v: Vertex) -> usize
     low
 }
 
-/// Where an arc stands in a list that rises.
+/// Where an arc stands in a list that rises. In a list of arcs that follow one another it is found at the first look.
 pub(crate) fn find_arc(list: &[ArcNo], a: ArcNo) -> usize
+    requires rises { Rises list.now }
+    requires stands { StandsIn list.now a }
+    ensures inside { result < length list.now }
+    ensures found { slice_index list.now result ≡ a }
+{
+    if let Some(first) = list.first() {
+        if a.0 >= first.0 {
+            let guess = (a.0 - first.0) as usize;
+            if guess < list.len() && list[guess] == a {
+                return guess;
+            }
+        }
+    }
+    halve_arcs(list, a)
+}
+
+/// Where an arc stands in a list that rises, by halving.
+fn halve_arcs(list: &[ArcNo], a: ArcNo) -> usize
     requires rises { Rises list.now }
     requires stands { StandsIn list.now a }
     ensures inside { result < length list.now }

@@ -18,6 +18,3 @@ mod vertices;
 pub use checking::check;
 pub use laws::right_lines_are_certified;
 pub use verdict::{Reason, Verdict};
-
-#[cfg(test)]
-mod tests;

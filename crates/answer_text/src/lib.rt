@@ -23,6 +23,3 @@ pub use writing::{
     MAX_ANSWERS, write_answer, write_answers, write_header, write_source_line, write_sources_line,
     write_vertex,
 };
-
-#[cfg(test)]
-mod tests;

@@ -17,8 +17,6 @@ mod question_taker;
 mod questions;
 mod taken_questions;
 mod taken_roads;
-#[cfg(test)]
-mod tests;
 mod writing;
 mod written_lines;
 

@@ -1,7 +1,14 @@
-//! The tests of texts, files and answers, through what their crates make public.
+//! The tests of texts, files, answers and verdicts, through what their crates make public.
 //!
 //! They stand here in place of each crate's own, so that no crate is proved a second time with its tests.
 #![tactic(auto)]
 
 #[cfg(test)]
+mod answers;
+pub mod ends;
+#[cfg(test)]
+mod files;
+#[cfg(test)]
 mod lines;
+#[cfg(test)]
+mod verdicts;

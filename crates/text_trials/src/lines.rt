@@ -5,6 +5,7 @@ ghost use Rattle.road_text.specs.Reads.{ReadsValue, ReadsFault, TellsFailure, Te
 ghost use Rattle.road_text.specs.Slots.{word_in};
 ghost use Rattle.road_text.specs.Takes.{Agrees, Leaves, GivesBy};
 
+use crate::ends::Pieces;
 use arrayvec::ArrayVec;
 use ghost_count::Count;
 use road_text::{
@@ -91,58 +92,6 @@ fn read_numbers<R: RoadRead>(alloc: Global, from: &mut R) -> Result<Vec<u64>, Re
             numbers: Vec::new(alloc),
         },
     )
-}
-
-/// Gives its bytes in pieces, and fails behind them where it is told to.
-#[derive(Drop)]
-struct Pieces<'a> {
-    bytes: &'a [u8],
-    piece: usize,
-    fails: bool,
-    failed: Count,
-    reads: Count,
-    ghost some: { 0 < piece },
-}
-
-impl<'a> Pieces<'a> {
-    fn new(bytes: &'a [u8], piece: usize, fails: bool) -> Self
-        requires { 0 < piece }
-    {
-        Pieces {
-            bytes,
-            piece,
-            fails,
-            failed: Count::new(),
-            reads: Count::new(),
-        }
-    }
-}
-
-impl RoadRead for Pieces<'_> {
-    ghost left = { λ p. Some p.bytes.now };
-
-    ghost failures = { λ p. p.failed.total };
-
-    ghost asked = { λ p. p.reads.total };
-
-    fn read(&mut self, buf: &mut [u8]) -> Result<usize, ReadFailed> {
-        self.reads = self.reads.next();
-        if self.bytes.is_empty() && self.fails {
-            self.failed = self.failed.next();
-            return Err(ReadFailed);
-        }
-        let mut taken = self.bytes.len();
-        if self.piece < taken {
-            taken = self.piece;
-        }
-        if buf.len() < taken {
-            taken = buf.len();
-        }
-        let (front, rest) = self.bytes.split_at(taken);
-        buf[..taken].copy_from_slice(front);
-        self.bytes = rest;
-        Ok(taken)
-    }
 }
 
 /// Takes what it has room for, and then fails.

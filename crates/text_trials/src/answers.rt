@@ -1,7 +1,7 @@
 //! Worked answers written and read, faults by their lines, and a writer that fails at each byte.
 ghost use Rattle.std.specs.Prelude.{◌≡◌, ◌<◌, ◌≤◌, Some, length};
 
-use crate::{
+use answer_text::{
     Answer, Answers, Found, Reached, read_answers, write_answer, write_answers, write_header,
     write_source_line, write_sources_line, write_vertex,
 };

@@ -1,66 +1,14 @@
 //! Files read in pieces, with their faults, and written again.
 ghost use Rattle.std.specs.Prelude.{◌≡◌, ◌<◌, ◌≤◌, ◌+◌, Some, length};
 
-use crate::{
+use crate::ends::Pieces;
+use road_files::{
     Kind, Questions, read_bundle, read_gr, read_ms, read_p2p, read_questions, read_ss, write_gr,
     write_ms, write_p2p, write_ss,
 };
-use ghost_count::Count;
 use road_text::{Plain, ReadFailed, RoadRead};
 use std::alloc::{AllocError, Global};
 use std::test::Fail;
-
-/// Gives its bytes in pieces, and fails behind them where it is told to.
-#[derive(Drop)]
-struct Pieces<'a> {
-    bytes: &'a [u8],
-    piece: usize,
-    fails: bool,
-    failed: Count,
-    reads: Count,
-    ghost some: { 0 < piece },
-}
-
-impl<'a> Pieces<'a> {
-    fn new(bytes: &'a [u8], piece: usize, fails: bool) -> Self
-        requires { 0 < piece }
-    {
-        Pieces {
-            bytes,
-            piece,
-            fails,
-            failed: Count::new(),
-            reads: Count::new(),
-        }
-    }
-}
-
-impl RoadRead for Pieces<'_> {
-    ghost left = { λ p. Some p.bytes.now };
-
-    ghost failures = { λ p. p.failed.total };
-
-    ghost asked = { λ p. p.reads.total };
-
-    fn read(&mut self, buf: &mut [u8]) -> Result<usize, ReadFailed> {
-        self.reads = self.reads.next();
-        if self.bytes.is_empty() && self.fails {
-            self.failed = self.failed.next();
-            return Err(ReadFailed);
-        }
-        let mut taken = self.bytes.len();
-        if self.piece < taken {
-            taken = self.piece;
-        }
-        if buf.len() < taken {
-            taken = buf.len();
-        }
-        let (front, rest) = self.bytes.split_at(taken);
-        buf[..taken].copy_from_slice(front);
-        self.bytes = rest;
-        Ok(taken)
-    }
-}
 
 const BUNDLE: &[u8] =
     b"p sp 5 7\na 1 2 4\na 1 3 1\na 3 2 2\na 2 4 5\na 3 4 8\na 4 4 0\na 5 1 3\np aux sp ss 1\ns 1\n";

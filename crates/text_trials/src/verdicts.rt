@@ -1,6 +1,6 @@
 //! Verdicts on answers that are right, and on answers with one place changed.
 
-use crate::{Reason, Verdict, check, right_lines_are_certified};
+use answer_check::{Reason, Verdict, check, right_lines_are_certified};
 use answer_text::read_answers;
 use path_algebra::{PathAlgebra, Shortest, Widest, Within};
 use road_files::{read_gr, read_questions};

@@ -1,0 +1,103 @@
+//! A reader that gives pieces and then may fail, and a writer that takes a byte at a time and then fails.
+ghost use Rattle.std.specs.Prelude.{◌≡◌, ◌<◌, ◌≤◌, Some};
+
+use ghost_count::Count;
+use road_text::{ReadFailed, RoadRead, RoadWrite, WriteFault};
+use std::alloc::Global;
+
+/// Gives its bytes in pieces, and fails behind them where it is told to.
+#[derive(Drop)]
+pub struct Pieces<'a> {
+    bytes: &'a [u8],
+    piece: usize,
+    fails: bool,
+    failed: Count,
+    reads: Count,
+    ghost some: { 0 < piece },
+}
+
+impl<'a> Pieces<'a> {
+    pub fn new(bytes: &'a [u8], piece: usize, fails: bool) -> Self
+        requires { 0 < piece }
+    {
+        Pieces {
+            bytes,
+            piece,
+            fails,
+            failed: Count::new(),
+            reads: Count::new(),
+        }
+    }
+}
+
+impl RoadRead for Pieces<'_> {
+    ghost left = { λ p. Some p.bytes.now };
+
+    ghost failures = { λ p. p.failed.total };
+
+    ghost asked = { λ p. p.reads.total };
+
+    fn read(&mut self, buf: &mut [u8]) -> Result<usize, ReadFailed> {
+        self.reads = self.reads.next();
+        if self.bytes.is_empty() && self.fails {
+            self.failed = self.failed.next();
+            return Err(ReadFailed);
+        }
+        let mut taken = self.bytes.len();
+        if self.piece < taken {
+            taken = self.piece;
+        }
+        if buf.len() < taken {
+            taken = buf.len();
+        }
+        let (front, rest) = self.bytes.split_at(taken);
+        buf[..taken].copy_from_slice(front);
+        self.bytes = rest;
+        Ok(taken)
+    }
+}
+
+/// Takes one byte at a time as long as there is room, and then fails; its flush may fail too.
+#[derive(Drop)]
+pub struct Sheet {
+    pub bytes: Vec<u8>,
+    room: usize,
+    flushes: bool,
+    failed: Count,
+}
+
+impl Sheet {
+    pub fn new(alloc: Global, room: usize, flushes: bool) -> Self {
+        Sheet {
+            bytes: Vec::new(alloc),
+            room,
+            flushes,
+            failed: Count::new(),
+        }
+    }
+}
+
+impl RoadWrite for Sheet {
+    ghost written = { λ s. Some s.bytes.items };
+
+    ghost failures = { λ s. s.failed.total };
+
+    fn write(&mut self, buf: &[u8]) -> Result<usize, WriteFault> {
+        if buf.is_empty() {
+            return Ok(0);
+        }
+        if self.bytes.len() < self.room && self.bytes.push(buf[0]).is_ok() {
+            return Ok(1);
+        }
+        self.failed = self.failed.next();
+        Err(WriteFault)
+    }
+
+    fn flush(&mut self) -> Result<(), WriteFault> {
+        if self.flushes {
+            return Ok(());
+        }
+        self.failed = self.failed.next();
+        Err(WriteFault)
+    }
+}

@@ -209,6 +209,9 @@ fn very_long_lines(rt: HostRuntime) -> Result<(), Fail> {
     assert_eq!(rt; written.as_slice(), b"p sp 2 1\na 1 2 7\n".as_slice());
     let nines = long_text(alloc, b"p sp 2 1\na 1 2 ", b'9', b"\n")?;
     assert_eq!(rt; graph_fault(alloc, &nines), (16, 2));
+    let mut moved = long_text(alloc, b"c", b'x', b"\n")?;
+    moved.extend_from_slice(nines.as_slice())?;
+    assert_eq!(rt; graph_fault(alloc, &moved), (16, 3));
     let comment = long_text(alloc, b"c", b'x', b"\np sp 2 1\na 1 2 -\n")?;
     assert_eq!(rt; graph_fault(alloc, &comment), (15, 3));
     Ok(())

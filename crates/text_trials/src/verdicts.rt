@@ -2,7 +2,7 @@
 
 use answer_check::{Reason, Verdict, check, right_lines_are_certified};
 use answer_text::read_answers;
-use path_algebra::{PathAlgebra, Shortest, Widest, Within};
+use path_algebra::{PathAlgebra, Reach, Shortest, Widest, Within};
 use road_files::{read_gr, read_questions};
 use road_text::Plain;
 use std::process::Abort;
@@ -120,6 +120,47 @@ fn right_answers(rt: HostRuntime) -> Result<(), Fail> {
 
 #[test]
 fn checker_names_the_place(rt: HostRuntime) -> Result<(), Fail> {
+    for (lines, wanted) in [
+        (LINES, Verdict::Valid),
+        (
+            "d 1 0 0 0\nd 2 3 2 3\nd 3 1 1 1\nd 4 9 2 3\nu 5\n",
+            invalid(1, 4, Reason::NotBest),
+        ),
+        (
+            "d 1 0 0 0\nd 2 3 2 3\nd 3 1 1 1\nu 4\nu 5\n",
+            invalid(1, 4, Reason::HasWalk),
+        ),
+        (
+            "d 1 0 0 0\nd 2 4 1 1\nd 3 1 1 1\nd 4 8 3 2\nu 5\n",
+            invalid(1, 2, Reason::NotBest),
+        ),
+    ] {
+        assert_lines(&rt, FIVE, lines, wanted)?;
+    }
+    for (fourth, wanted) in [
+        ("d 4 0 2 2", Verdict::Valid),
+        ("d 4 0 2 3", invalid(1, 4, Reason::LesserParent)),
+    ] {
+        let answers = format!(in rt.alloc();
+            "p ans ss 1 reach\ns 1\nd 1 0 0 0\nd 2 0 1 1\nd 3 0 1 1\n{fourth}\nu 5\n"
+        )?;
+        assert_verdict(&rt, Reach, FIVE, FROM_ONE, answers.as_str(), wanted)?;
+    }
+    let pairs = "p aux sp p2p 3\nq 1 4\nq 4 1\nq 5 5\n";
+    for (route, wanted) in [
+        ("r 1 3 2 4", Verdict::Valid),
+        ("r 1 2 4", invalid(1, 4, Reason::OtherRoute)),
+    ] {
+        let answers = format!(in rt.alloc();
+            "p ans p2p 3 shortest\nq 1 4\nd 8 3\n{route}\nq 4 1\nu\nq 5 5\nd 0 0\nr 5\n"
+        )?;
+        assert_verdict(&rt, Shortest, FIVE, pairs, answers.as_str(), wanted)?;
+    }
+    Ok(())
+}
+
+#[test]
+fn places_in_order(rt: HostRuntime) -> Result<(), Fail> {
     let other_source = "d 1 0 0 1\nd 2 3 2 3\nd 3 1 1 1\nd 4 8 3 2\nu 5\n";
     assert_lines(&rt, FIVE, other_source, invalid(1, 1, Reason::Mismatch))?;
     let other_hops = "d 1 0 0 0\nd 2 3 3 3\nd 3 1 1 1\nd 4 8 3 2\nu 5\n";

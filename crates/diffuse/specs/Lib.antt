@@ -1,4 +1,0 @@
-pub mod Choices
-pub mod Reports
-pub mod DoneUnder
-pub mod Verdicts

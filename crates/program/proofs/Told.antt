@@ -1,0 +1,17 @@
+-- A text that was written whole, and then passed on.
+use Rattle.std.specs.Prelude.{◌≡◌, ℕ, List, [], Option, Result, Ok, Err}
+use Rattle.std.specs.Io.KnownBytes.{Appends, Keeps}
+use Rattle.std.proofs.Common.{inl, inr, subst, sym, ◌∙◌, append-nil}
+use Rattle.std.proofs.KnownBytes.{Appends-kept}
+use Rattle.road_text.specs.declared.ends.WriteFault.{WriteFault}
+use Rattle.road_text.specs.Written.{Left, Fell, Wrote}
+use Rattle.program.specs.Reports.{IsTold}
+
+-- all of the text was written, and it stays
+pub told_whole : (old mid new : Option (List ℕ)) (b a : ℕ) (text : List ℕ) → Left old mid b a text [] → Keeps mid new → Appends old new text
+told_whole old mid new b a text was keeps = Appends-kept old mid new text (subst (Appends old mid) (sym (was.text_is ∙ append-nil was.front)) was.bytes) keeps
+
+-- what was written of a text was the whole, or a front
+pub wrote_told : (old new : Option (List ℕ)) (b a : ℕ) (given text : List ℕ) → given ≡ text → (r : Result (Unit {0}) WriteFault) → Wrote old new b a given r → IsTold old new b a text
+wrote_told old new b a given text e (Ok u) h = inl (subst (λ (t : List ℕ). Left old new b a t []) e h)
+wrote_told old new b a given text e (Err f) h = inr (subst (Fell old new b a) e h)

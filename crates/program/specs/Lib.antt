@@ -1,0 +1,6 @@
+pub mod Choices
+pub mod Under
+pub mod Reports
+pub mod Runs
+pub mod Verdicts
+pub mod Judgements

@@ -1,0 +1,41 @@
+-- How a command ends: the line that tells a fault, and the exit status.
+use Rattle.std.specs.Prelude.{◌≡◌, ℕ, ◌<◌, ◌⊎◌, List, [], ◌∷◌, ◌++◌, Option, Result, Ok, Err, codes, decimal, nat_eq, if◌then◌else◌, ◌||◌}
+use Rattle.std.specs.Io.KnownBytes.{Appends}
+use Rattle.road_text.specs.Written.{Left, Fell}
+use Rattle.batch_run.specs.declared.faults.File.{File}
+use Rattle.batch_run.specs.declared.faults.File.TheVariants.{Graph, Questions, Bundle, Answers, NoFile}
+use Rattle.batch_run.specs.declared.faults.RunFault.{RunFault}
+
+-- the word for an input, behind a space
+abbrev pub file_text : File → List ℕ
+file_text Graph = codes " graph"
+file_text Questions = codes " questions"
+file_text Bundle = codes " bundle"
+file_text Answers = codes " answers"
+file_text NoFile = []
+
+-- the words for a line, where there is one
+abbrev pub line_text : ℕ → List ℕ
+line_text line = if nat_eq line 0 then [] else (codes " line " ++ decimal line)
+
+-- the line that tells a fault
+abbrev pub fault_text : RunFault → List ℕ
+fault_text f = codes "diffuse: fault " ++ decimal f.number ++ file_text f.file ++ line_text f.line ++ 10 ∷ []
+
+-- the exit status of a fault: 2 for a setting, 4 for memory, 5 for a write, 6 for a limit or gate, 3 for an input
+abbrev pub status_of : ℕ → ℕ
+status_of number =
+    if nat_eq number 43 then 2
+    else if nat_eq number 3 then 4
+    else if nat_eq number 42 then 5
+    else if nat_eq number 40 || nat_eq number 41 then 6
+    else 3
+
+-- the text was written, whole, and nothing else; or a front of it, and then a write failed
+abbrev pub IsTold : Option (List ℕ) → Option (List ℕ) → ℕ → ℕ → List ℕ → Type 0
+IsTold old new before after text = Left old new before after text [] ⊎ Fell old new before after text
+
+-- the exit status of an outcome: a fault has its own, and its line is written on the error output; else nothing is written there
+abbrev pub EndsAs : {A : Type 0} → (A → ℕ) → Option (List ℕ) → Option (List ℕ) → ℕ → ℕ → Result A RunFault → ℕ → Type 0
+EndsAs status old new before after (Ok x) result = (result ≡ status x) × (new ≡ old) × (after ≡ before)
+EndsAs status old new before after (Err f) result = (result ≡ status_of f.number) × IsTold old new before after (fault_text f)

@@ -1,0 +1,83 @@
+-- What a verdict on answers promises of the three inputs, and how it is told.
+use Rattle.std.specs.Prelude.{◌≡◌, ◌≢◌, ℕ, ◌≤◌, ◌⊎◌, List, [], ◌∷◌, Option, None, Ok, Err, IfSome, codes, decimal}
+use Rattle.road_graph.specs.Roads.{Roads}
+use Rattle.road_text.specs.Reads.{IsNumberFrom}
+use Rattle.road_text.specs.Rules.{text_read}
+use Rattle.road_text.specs.Texts.{spelled}
+use Rattle.road_files.specs.Asked.{Asked}
+use Rattle.road_files.specs.GraphFiles.{gr_rules}
+use Rattle.road_files.specs.QuestionFiles.{question_rules}
+use Rattle.path_algebra.specs.declared.name.AlgebraName.{AlgebraName}
+use Rattle.path_algebra.specs.declared.name.AlgebraName.TheVariants.{Own}
+use Rattle.answer_text.specs.AnswerFiles.{answer_rules}
+use Rattle.answer_text.specs.Told.{ToldList}
+use Rattle.answer_check.specs.declared.verdict.Verdict.{Verdict}
+use Rattle.answer_check.specs.declared.verdict.Verdict.TheVariants.{Valid, Invalid}
+use Rattle.answer_check.specs.Reasons.{reason_number}
+use Rattle.answer_check.specs.Verdicts.{IsVerdict}
+use Rattle.batch_run.specs.declared.faults.RunFault.{RunFault}
+use Rattle.batch_run.specs.declared.faults.File.TheVariants.{Graph, Questions, Answers}
+use Rattle.batch_run.specs.Ran.{IsPairOf, IsTextFault, IsRoadNumber}
+use Rattle.program.specs.declared.chosen.Chosen.{Chosen}
+use Rattle.program.specs.Under.{Under}
+use Rattle.program.specs.Choices.{name_of, limit_of, GoTogether}
+
+-- the verdict on answers under the algebra that was chosen
+abbrev pub IsVerdictUnder : Chosen → Roads → Asked → ToldList → Verdict → Type 0
+IsVerdictUnder chosen g asked told verdict = Under chosen (λ V A. IsVerdict A g asked told verdict)
+
+-- three inputs, where they are told, are the texts of this graph, of these questions over it, and of these answers for it
+pub record AreInputs (graph questions answers : Option (List ℕ)) (g : Roads) (asked : Asked) (told : ToldList) : Type 0 where
+  pub graph_is : IfSome graph (λ b. text_read gr_rules b ≡ Ok g)
+  pub questions_are : IfSome questions (λ b. text_read (question_rules g.vertices None) b ≡ Ok asked)
+  pub answers_are : IfSome answers (λ b. text_read (answer_rules g.vertices) b ≡ Ok told)
+
+-- this is the verdict on the answers that were read, under the algebra that they name and the limit
+pub record IsJudged (graph questions answers : Option (List ℕ)) (limit : Option ℕ) (verdict : Verdict) : Type 0 where
+  pub roads : Roads
+  pub asked : Asked
+  pub told : ToldList
+  pub read : AreInputs graph questions answers roads asked told
+  pub chosen : Chosen
+  pub named : name_of chosen ≡ told.name
+  pub limited : limit_of chosen ≡ limit
+  pub judged : IsVerdictUnder chosen roads asked told verdict
+
+-- the graph and the questions have no fault, and the answers have this one
+pub record IsAnswersFault (graph questions answers : Option (List ℕ)) (f : RunFault) : Type 0 where
+  pub roads : Roads
+  pub asked : Asked
+  pub read : IsPairOf graph questions roads asked
+  pub fault : IsTextFault f → IfSome answers (λ b. text_read (answer_rules roads.vertices) b ≡ Err (record { number = f.number; line = f.line }))
+
+-- the answers were read, and they name an algebra of a caller's own
+pub record IsOwnFault (graph questions answers : Option (List ℕ)) (f : RunFault) : Type 0 where
+  pub roads : Roads
+  pub asked : Asked
+  pub told : ToldList
+  pub read : AreInputs graph questions answers roads asked told
+  pub own : told.name ≡ Own
+  pub fault : f ≡ record { number = 31; file = Answers; line = 0 }
+
+-- the answers were read, the algebra that they name is one of the program's, and it does not go with the limit
+pub record IsLimitFault (graph questions answers : Option (List ℕ)) (limit : Option ℕ) : Type 0 where
+  pub roads : Roads
+  pub asked : Asked
+  pub told : ToldList
+  pub read : AreInputs graph questions answers roads asked told
+  pub not_own : told.name ≢ Own
+  pub apart : GoTogether told.name limit → ⊥
+
+-- a fault of one of the three inputs, with a number of its own
+abbrev pub IsReadingFault : RunFault → Type 0
+IsReadingFault f = (((f.file ≡ Graph) ⊎ (f.file ≡ Questions)) × IsRoadNumber f.number) ⊎ ((f.file ≡ Answers) × IsNumberFrom 30 36 f.number)
+
+-- the line that tells a verdict
+abbrev pub verdict_text : Verdict → List ℕ
+verdict_text Valid = spelled (codes "valid" ∷ [])
+verdict_text (Invalid question vertex reason) = spelled (codes "invalid" ∷ decimal question ∷ decimal vertex ∷ decimal (reason_number reason) ∷ [])
+
+-- the exit status of a verdict
+abbrev pub verdict_status : Verdict → ℕ
+verdict_status Valid = 0
+verdict_status (Invalid question vertex reason) = 1

@@ -1,0 +1,36 @@
+//! The algebra that a command line asks for.
+ghost use Rattle.std.specs.Prelude.{◌≡◌, ◌↔◌, IsSome, IfSome};
+ghost use Rattle.program.specs.Choices.{GoTogether, name_of, limit_of};
+
+use path_algebra::{AlgebraName, Within};
+
+/// One of the six algebras that the program has.
+#[derive(Clone, Copy, Debug)]
+pub enum Chosen {
+    Shortest,
+    Widest,
+    Reach,
+    Hops,
+    Reliable,
+    Within(Within),
+}
+
+/// The algebra of a name, with a limit where it is `within`; none where the two do not go together.
+pub fn choose(name: AlgebraName, limit: Option<u64>) -> Option<Chosen>
+    ensures together { IsSome result ↔ GoTogether name limit }
+    ensures name { IfSome result (λ chosen. name_of chosen ≡ name) }
+    ensures limit { IfSome result (λ chosen. limit_of chosen ≡ limit) }
+{
+    match (name, limit) {
+        (AlgebraName::Shortest, None) => Some(Chosen::Shortest),
+        (AlgebraName::Widest, None) => Some(Chosen::Widest),
+        (AlgebraName::Reach, None) => Some(Chosen::Reach),
+        (AlgebraName::Hops, None) => Some(Chosen::Hops),
+        (AlgebraName::Reliable, None) => Some(Chosen::Reliable),
+        (AlgebraName::Within, Some(limit)) => match Within::new(limit) {
+            Some(within) => Some(Chosen::Within(within)),
+            None => None,
+        },
+        _ => None,
+    }
+}

@@ -1,0 +1,101 @@
+//! The commands over files by their names. All files are opened, in the order of the words, before one is read.
+ghost use Rattle.std.specs.Prelude.{◌≡◌, IfErr};
+
+use crate::chosen::Chosen;
+use crate::commands::{bundle, check, solve};
+use crate::places::Places;
+use crate::reports::report;
+use batch_run::{File, RunFault, Settings};
+use road_text::RoadWrite;
+use std::alloc::Global;
+use std::thread::Threads;
+
+/// Opens a file, and tells which could not be opened.
+fn open<P: Places>(places: &P, path: &str, file: File) -> Result<P::File, RunFault>
+    ensures { IfErr result (λ f. f ≡ record { number = 1; file = file; line = 0 }) }
+{
+    match places.open(path) {
+        Ok(opened) => Ok(opened),
+        Err(_) => Err(RunFault {
+            number: 1,
+            file,
+            line: 0,
+        }),
+    }
+}
+
+/// Answers the questions of one file over the graph of another, and gives the exit status.
+pub fn solve_files<P: Places, W: RoadWrite, E: RoadWrite>(
+    alloc: Global,
+    places: &P,
+    chosen: Chosen,
+    settings: &Settings,
+    names: (&str, &str),
+    out: &mut W,
+    errors: &mut E,
+) -> u8 {
+    let mut graph = match open(places, names.0, File::Graph) {
+        Ok(file) => file,
+        Err(fault) => return report(errors, fault),
+    };
+    let mut questions = match open(places, names.1, File::Questions) {
+        Ok(file) => file,
+        Err(fault) => return report(errors, fault),
+    };
+    solve(
+        alloc,
+        chosen,
+        settings,
+        &mut graph,
+        &mut questions,
+        out,
+        errors,
+    )
+}
+
+/// Answers the bundle on standard input, and gives the exit status.
+pub fn bundle_given<P: Places, W: RoadWrite, E: RoadWrite>(
+    alloc: Global,
+    places: &P,
+    chosen: Chosen,
+    settings: &Settings,
+    out: &mut W,
+    errors: &mut E,
+) -> u8 {
+    let mut text = places.given();
+    bundle(alloc, chosen, settings, &mut text, out, errors)
+}
+
+/// Judges the answers of one file to the questions of another over the graph of a third, and gives the exit status.
+pub fn check_files<R: Threads + Sync, P: Places, W: RoadWrite, E: RoadWrite>(
+    rt: &R,
+    alloc: Global,
+    places: &P,
+    names: (&str, &str, &str),
+    limit: Option<u64>,
+    out: &mut W,
+    errors: &mut E,
+) -> u8 {
+    let mut graph = match open(places, names.0, File::Graph) {
+        Ok(file) => file,
+        Err(fault) => return report(errors, fault),
+    };
+    let mut questions = match open(places, names.1, File::Questions) {
+        Ok(file) => file,
+        Err(fault) => return report(errors, fault),
+    };
+    let mut answers = match open(places, names.2, File::Answers) {
+        Ok(file) => file,
+        Err(fault) => return report(errors, fault),
+    };
+    check(
+        rt,
+        alloc,
+        &mut graph,
+        &mut questions,
+        &mut answers,
+        limit,
+        out,
+        errors,
+    )
+}

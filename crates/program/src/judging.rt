@@ -1,0 +1,213 @@
+//! Judges answers, from bytes to a verdict.
+ghost use Rattle.std.specs.Prelude.{◌≡◌, ◌≢◌, ◌+◌, ◌≤◌, ◌<◌, ◌↔◌, ◌⊎◌, [], Err, IfOk, IfErr, OnOk};
+ghost use Rattle.std.specs.Io.KnownBytes.{Appends};
+ghost use Rattle.road_files.specs.Asked.{AskWithin, asked_of};
+ghost use Rattle.path_algebra.specs.declared.name.AlgebraName.TheVariants.{Own};
+ghost use Rattle.answer_text.specs.Told.{told_list_of};
+ghost use Rattle.batch_run.specs.Ran.{IsGraphFault, IsQuestionsFault};
+ghost use Rattle.program.specs.Choices.{GoTogether, limit_of, name_of};
+ghost use Rattle.program.specs.Verdicts.{AreInputs, IsAnswersFault, IsJudged, IsLimitFault, IsOwnFault, IsVerdictUnder, IsReadingFault, verdict_text};
+
+use crate::chosen::{Chosen, choose};
+use crate::verdicts::tell;
+use answer_check::{Verdict, check};
+use answer_text::{Answers, read_answers};
+use batch_run::{File, RunFault, fault_in, fault_of_run};
+use path_algebra::{AlgebraName, Hops, Reach, Reliable, Shortest, Widest};
+use road_files::{Questions, read_gr, read_questions};
+use road_graph::{Graph, Memory};
+use road_text::{RoadRead, RoadWrite};
+use std::alloc::Global;
+use std::thread::Threads;
+
+/// Want of memory.
+const MEMORY: u8 = 3;
+
+/// A name in the header of answers that the program has no algebra for.
+const NO_SUCH_NAME: u8 = 31;
+
+/// A limit that does not go with the algebra, or one that is missing.
+const SETTINGS: u8 = 43;
+
+/// The algebra of the name that answers carry, with the limit that the command line gives.
+fn algebra_named(name: AlgebraName, limit: Option<u64>) -> Result<Chosen, RunFault>
+    ensures name { IfOk result (λ chosen. name_of chosen ≡ name) }
+    ensures limit { IfOk result (λ chosen. limit_of chosen ≡ limit) }
+    ensures fault { IfErr result (λ f. ((name ≡ Own) × (f ≡ record { number = 31; file = File.Answers; line = 0 })) ⊎ ((name ≢ Own) × (GoTogether name limit → ⊥) × (f ≡ record { number = 43; file = File.NoFile; line = 0 }))) }
+{
+    if name == AlgebraName::Own {
+        return Err(RunFault {
+            number: NO_SUCH_NAME,
+            file: File::Answers,
+            line: 0,
+        });
+    }
+    match choose(name, limit) {
+        Some(chosen) => Ok(chosen),
+        None => Err(fault_of_run(SETTINGS)),
+    }
+}
+
+/// Judges answers under the chosen algebra.
+fn judge_under<R: Threads + Sync>(
+    rt: &R,
+    alloc: Global,
+    chosen: Chosen,
+    graph: &Graph,
+    questions: &Questions,
+    answers: &Answers,
+) -> Result<Verdict, Memory>
+    requires { AskWithin graph.now.vertices questions.now }
+    ensures { IfOk result (IsVerdictUnder chosen graph.now (asked_of questions.now) (told_list_of answers.now)) }
+{
+    match chosen {
+        Chosen::Shortest => check(rt, alloc, Shortest, graph, questions, answers),
+        Chosen::Widest => check(rt, alloc, Widest, graph, questions, answers),
+        Chosen::Reach => check(rt, alloc, Reach, graph, questions, answers),
+        Chosen::Hops => check(rt, alloc, Hops, graph, questions, answers),
+        Chosen::Reliable => check(rt, alloc, Reliable, graph, questions, answers),
+        Chosen::Within(within) => check(rt, alloc, within, graph, questions, answers),
+    }
+}
+
+/// A graph, questions over it, and answers for it, as they were read.
+#[derive(Drop)]
+struct Inputs {
+    graph: Graph,
+    questions: Questions,
+    answers: Answers,
+}
+
+/// Reads the three inputs in order, and tells the first fault.
+fn read_inputs<G: RoadRead, Q: RoadRead, S: RoadRead>(
+    alloc: Global,
+    graph_in: &mut G,
+    questions_in: &mut Q,
+    answers_in: &mut S,
+) -> Result<Inputs, RunFault>
+    ensures read { IfOk result (λ i. AreInputs (G.left graph_in.old) (Q.left questions_in.old) (S.left answers_in.old) i.graph (asked_of i.questions) (told_list_of i.answers)) }
+    ensures within { IfOk result (λ i. AskWithin i.graph.vertices i.questions) }
+    ensures graph { IfErr result (λ f. f.file ≡ File.Graph → IsGraphFault (G.left graph_in.old) f) }
+    ensures questions { IfErr result (λ f. f.file ≡ File.Questions → IsQuestionsFault (G.left graph_in.old) (Q.left questions_in.old) f) }
+    ensures answers { IfErr result (λ f. f.file ≡ File.Answers → IsAnswersFault (G.left graph_in.old) (Q.left questions_in.old) (S.left answers_in.old) f) }
+    ensures sound { OnOk result ((G.failures graph_in.new ≡ G.failures graph_in.old) × (Q.failures questions_in.new ≡ Q.failures questions_in.old) × (S.failures answers_in.new ≡ S.failures answers_in.old)) }
+    ensures read_graph { (result ≡ Err (record { number = 1; file = File.Graph; line = 0 })) ↔ (G.failures graph_in.new ≢ G.failures graph_in.old) }
+    ensures read_questions { (result ≡ Err (record { number = 1; file = File.Questions; line = 0 })) ↔ (Q.failures questions_in.new ≢ Q.failures questions_in.old) }
+    ensures read_answers { (result ≡ Err (record { number = 1; file = File.Answers; line = 0 })) ↔ (S.failures answers_in.new ≢ S.failures answers_in.old) }
+    ensures kinds { IfErr result IsReadingFault }
+    ensures placed { IfErr result (λ f. f.number ≤ 3 → f.line ≡ 0) }
+    ensures asked { G.asked graph_in.new ≤ G.asked graph_in.old + 4294967297 }
+    ensures asked_questions { Q.asked questions_in.new ≤ Q.asked questions_in.old + 4294967297 }
+    ensures asked_answers { S.asked answers_in.new ≤ S.asked answers_in.old + 4294967297 }
+{
+    let graph = match read_gr(alloc, graph_in) {
+        Ok(graph) => graph,
+        Err(fault) => return Err(fault_in(File::Graph, fault)),
+    };
+    let questions = match read_questions(alloc, questions_in, graph.vertices()) {
+        Ok(questions) => questions,
+        Err(fault) => return Err(fault_in(File::Questions, fault)),
+    };
+    match read_answers(alloc, answers_in, graph.vertices()) {
+        Ok(answers) => Ok(Inputs {
+            graph,
+            questions,
+            answers,
+        }),
+        Err(fault) => Err(fault_in(File::Answers, fault)),
+    }
+}
+
+/// Judges the answers of one input to the questions of another over the graph of a third, under the algebra that the
+/// answers name. The inputs are read first, in this order; then an algebra of a caller's own is fault 31 of the
+/// answers, and a limit that does not go with the algebra is fault 43.
+pub fn judge<R: Threads + Sync, G: RoadRead, Q: RoadRead, S: RoadRead>(
+    rt: &R,
+    alloc: Global,
+    graph_in: &mut G,
+    questions_in: &mut Q,
+    answers_in: &mut S,
+    limit: Option<u64>,
+) -> Result<Verdict, RunFault>
+    ensures judged { IfOk result (IsJudged (G.left graph_in.old) (Q.left questions_in.old) (S.left answers_in.old) limit) }
+    ensures sound { OnOk result ((G.failures graph_in.new ≡ G.failures graph_in.old) × (Q.failures questions_in.new ≡ Q.failures questions_in.old) × (S.failures answers_in.new ≡ S.failures answers_in.old)) }
+
+    // Which fault is told, and what stood in the inputs.
+    ensures graph { IfErr result (λ f. f.file ≡ File.Graph → IsGraphFault (G.left graph_in.old) f) }
+    ensures questions { IfErr result (λ f. f.file ≡ File.Questions → IsQuestionsFault (G.left graph_in.old) (Q.left questions_in.old) f) }
+    ensures answers { IfErr result (λ f. f.file ≡ File.Answers → IsAnswersFault (G.left graph_in.old) (Q.left questions_in.old) (S.left answers_in.old) f ⊎ IsOwnFault (G.left graph_in.old) (Q.left questions_in.old) (S.left answers_in.old) f) }
+    ensures limit { IfErr result (λ f. f.number ≡ 43 → IsLimitFault (G.left graph_in.old) (Q.left questions_in.old) (S.left answers_in.old) limit) }
+    ensures read_graph { (result ≡ Err (record { number = 1; file = File.Graph; line = 0 })) ↔ (G.failures graph_in.new ≢ G.failures graph_in.old) }
+    ensures read_questions { (result ≡ Err (record { number = 1; file = File.Questions; line = 0 })) ↔ (Q.failures questions_in.new ≢ Q.failures questions_in.old) }
+    ensures read_answers { (result ≡ Err (record { number = 1; file = File.Answers; line = 0 })) ↔ (S.failures answers_in.new ≢ S.failures answers_in.old) }
+    ensures kinds { IfErr result (λ f. IsReadingFault f ⊎ ((f.file ≡ File.NoFile) × (f.line ≡ 0) × ((f.number ≡ 3) ⊎ (f.number ≡ 43)))) }
+    ensures placed { IfErr result (λ f. f.number ≤ 3 → f.line ≡ 0) }
+
+    // What is asked of the inputs.
+    ensures asked { G.asked graph_in.new ≤ G.asked graph_in.old + 4294967297 }
+    ensures asked_questions { Q.asked questions_in.new ≤ Q.asked questions_in.old + 4294967297 }
+    ensures asked_answers { S.asked answers_in.new ≤ S.asked answers_in.old + 4294967297 }
+{
+    let inputs = read_inputs(alloc, graph_in, questions_in, answers_in)?;
+    let chosen = algebra_named(inputs.answers.name, limit)?;
+    match judge_under(
+        rt,
+        alloc,
+        chosen,
+        &inputs.graph,
+        &inputs.questions,
+        &inputs.answers,
+    ) {
+        Ok(verdict) => Ok(verdict),
+        Err(_) => Err(fault_of_run(MEMORY)),
+    }
+}
+
+/// Judges answers as `judge` does, and tells the verdict.
+pub(crate) fn judge_and_tell<
+    R: Threads + Sync,
+    G: RoadRead,
+    Q: RoadRead,
+    S: RoadRead,
+    W: RoadWrite,
+>(
+    rt: &R,
+    alloc: Global,
+    graph_in: &mut G,
+    questions_in: &mut Q,
+    answers_in: &mut S,
+    limit: Option<u64>,
+    out: &mut W,
+) -> Result<Verdict, RunFault>
+    ensures judged { IfOk result (IsJudged (G.left graph_in.old) (Q.left questions_in.old) (S.left answers_in.old) limit) }
+    ensures told { IfOk result (λ verdict. Appends (W.written out.old) (W.written out.new) (verdict_text verdict)) }
+    ensures passed_on { OnOk result (W.held out.new ≡ []) }
+    ensures sound { OnOk result ((G.failures graph_in.new ≡ G.failures graph_in.old) × (Q.failures questions_in.new ≡ Q.failures questions_in.old) × (S.failures answers_in.new ≡ S.failures answers_in.old) × (W.failures out.new ≡ W.failures out.old)) }
+
+    // Which fault is told, and what stood in the inputs.
+    ensures graph { IfErr result (λ f. f.file ≡ File.Graph → IsGraphFault (G.left graph_in.old) f) }
+    ensures questions { IfErr result (λ f. f.file ≡ File.Questions → IsQuestionsFault (G.left graph_in.old) (Q.left questions_in.old) f) }
+    ensures answers { IfErr result (λ f. f.file ≡ File.Answers → IsAnswersFault (G.left graph_in.old) (Q.left questions_in.old) (S.left answers_in.old) f ⊎ IsOwnFault (G.left graph_in.old) (Q.left questions_in.old) (S.left answers_in.old) f) }
+    ensures limit { IfErr result (λ f. f.number ≡ 43 → IsLimitFault (G.left graph_in.old) (Q.left questions_in.old) (S.left answers_in.old) limit) }
+    ensures read_graph { (result ≡ Err (record { number = 1; file = File.Graph; line = 0 })) ↔ (G.failures graph_in.new ≢ G.failures graph_in.old) }
+    ensures read_questions { (result ≡ Err (record { number = 1; file = File.Questions; line = 0 })) ↔ (Q.failures questions_in.new ≢ Q.failures questions_in.old) }
+    ensures read_answers { (result ≡ Err (record { number = 1; file = File.Answers; line = 0 })) ↔ (S.failures answers_in.new ≢ S.failures answers_in.old) }
+    ensures write { IfErr result (λ f. f.number ≡ 42 → W.failures out.old < W.failures out.new) }
+    ensures unwritten { IfErr result (λ f. f.number ≢ 42 → out.new ≡ out.old) }
+    ensures kinds { IfErr result (λ f. IsReadingFault f ⊎ ((f.file ≡ File.NoFile) × (f.line ≡ 0) × ((f.number ≡ 3) ⊎ ((f.number ≡ 42) ⊎ (f.number ≡ 43))))) }
+    ensures placed { IfErr result (λ f. f.number ≤ 3 → f.line ≡ 0) }
+
+    // What is asked of the inputs.
+    ensures asked { G.asked graph_in.new ≤ G.asked graph_in.old + 4294967297 }
+    ensures asked_questions { Q.asked questions_in.new ≤ Q.asked questions_in.old + 4294967297 }
+    ensures asked_answers { S.asked answers_in.new ≤ S.asked answers_in.old + 4294967297 }
+{
+    let verdict = match judge(rt, alloc, graph_in, questions_in, answers_in, limit) {
+        Ok(verdict) => verdict,
+        Err(fault) => return Err(fault),
+    };
+    match tell(out, verdict) {
+        Ok(()) => Ok(verdict),
+        Err(fault) => Err(fault),
+    }
+}

@@ -1,0 +1,27 @@
+//! The program's commands: over streams, over files by their names, and by the words of a command line.
+#![tactic(auto)]
+
+mod chosen;
+mod commands;
+mod help;
+mod jobs;
+mod judging;
+mod options;
+mod places;
+mod reports;
+mod running;
+mod verdicts;
+mod words;
+
+pub use chosen::{Chosen, choose};
+pub use commands::{bundle, check, solve};
+pub use jobs::{bundle_given, check_files, solve_files};
+pub use judging::judge;
+pub use options::{Job, Wanted, read_job};
+pub use places::{HostPlaces, Places};
+pub use reports::report;
+pub use verdicts::tell;
+pub use words::{run, run_words};
+
+#[cfg(test)]
+mod tests;

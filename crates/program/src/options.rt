@@ -1,0 +1,157 @@
+//! What the command line says.
+use crate::help::{
+    ALGEBRA, ANSWERS, BUNDLE, FAULTS, GRAPH, JUDGED, LIMIT, LIMIT_OF_ANSWERS, NAMES, QUESTIONS,
+    STATUSES, VERDICT, VERDICTS, VERSION,
+};
+use clap::builder::ValueParser;
+use clap::{Arg, ArgAction, ArgMatches, Command, Error};
+use std::alloc::{AllocError, Global};
+
+/// The names of the algebras that the program has.
+const ALGEBRAS: &[&str] = &["shortest", "widest", "reach", "hops", "reliable", "within"];
+
+/// The greatest limit of `within`.
+const MAX_LIMIT: u64 = 9_223_372_036_854_775_808;
+
+/// What is best, as the command line has it.
+#[derive(Clone, Copy, Debug)]
+pub struct Wanted<'a> {
+    /// The name of an algebra.
+    pub algebra: &'a str,
+    /// The limit of `within`, where one was given.
+    pub limit: Option<u64>,
+}
+
+/// What is to be done.
+#[derive(Drop)]
+pub enum Job<'a> {
+    /// Answer the questions of one file over the graph of another.
+    Solve {
+        graph: &'a str,
+        questions: &'a str,
+        wanted: Wanted<'a>,
+    },
+    /// Answer the bundle on standard input.
+    Bundle {
+        wanted: Wanted<'a>,
+    },
+    /// Judge the answers of a file to the questions of another over the graph of a third.
+    Check {
+        graph: &'a str,
+        questions: &'a str,
+        answers: &'a str,
+        limit: Option<u64>,
+    },
+}
+
+fn algebra<'a>(alloc: Global) -> Arg<'a> {
+    Arg::new(alloc, "algebra")
+        .long("algebra")
+        .value_name("NAME")
+        .action(ArgAction::Set)
+        .value_parser(ALGEBRAS)
+        .default_value("shortest")
+        .hide_possible_values(true)
+        .next_line_help(true)
+        .help("What is best; the names are below")
+        .long_help(ALGEBRA)
+}
+
+fn limit<'a>(alloc: Global, help: &'a str) -> Arg<'a> {
+    Arg::new(alloc, "limit")
+        .long("limit")
+        .value_name("L")
+        .action(ArgAction::Set)
+        .value_parser(ValueParser::unsigned(0, MAX_LIMIT))
+        .next_line_help(true)
+        .help("The greatest sum of weights, for `within` alone")
+        .long_help(help)
+}
+
+fn file<'a>(alloc: Global, name: &'a str, help: &'a str, long_help: &'a str) -> Arg<'a> {
+    Arg::new(alloc, name)
+        .required(true)
+        .action(ArgAction::Set)
+        .next_line_help(true)
+        .help(help)
+        .long_help(long_help)
+}
+
+fn solve<'a>(alloc: Global) -> Result<Command<'a>, AllocError> {
+    Command::new(alloc, "solve")
+        .about("Answers the questions of a file over the graph of another")
+        .after_help(NAMES)
+        .after_long_help(ANSWERS)
+        .arg(file(alloc, "GRAPH", "A road graph, a .gr file", GRAPH))?
+        .arg(file(alloc, "QUESTIONS", "A .ss, .p2p or .ms file", QUESTIONS))?
+        .arg(algebra(alloc))?
+        .arg(limit(alloc, LIMIT))
+}
+
+fn bundle<'a>(alloc: Global) -> Result<Command<'a>, AllocError> {
+    Command::new(alloc, "bundle")
+        .about("Answers a graph and its questions from standard input")
+        .long_about(BUNDLE)
+        .after_help(NAMES)
+        .after_long_help(ANSWERS)
+        .arg(algebra(alloc))?
+        .arg(limit(alloc, LIMIT))
+}
+
+fn check<'a>(alloc: Global) -> Result<Command<'a>, AllocError> {
+    Command::new(alloc, "check")
+        .about("Judges answers, whoever made them, and tells the first wrong place")
+        .after_help(VERDICT)
+        .after_long_help(VERDICTS)
+        .arg(file(alloc, "GRAPH", "A road graph, a .gr file", GRAPH))?
+        .arg(file(alloc, "QUESTIONS", "A .ss, .p2p or .ms file", QUESTIONS))?
+        .arg(file(alloc, "ANSWERS", "The answers to judge", JUDGED))?
+        .arg(limit(alloc, LIMIT_OF_ANSWERS))
+}
+
+fn command<'a>(alloc: Global) -> Result<Command<'a>, AllocError> {
+    Command::new(alloc, "diffuse")
+        .version(VERSION)
+        .about(
+            "Answers questions over road graphs: shortest, widest, reachability, hop,\nreliability and limited ones; every answer is proved",
+        )
+        .after_help(STATUSES)
+        .after_long_help(FAULTS)
+        .subcommand_required(true)
+        .subcommand(solve(alloc)?)?
+        .subcommand(bundle(alloc)?)?
+        .subcommand(check(alloc)?)
+}
+
+fn text_of<'a>(matches: &ArgMatches<'a>, name: &str) -> &'a str {
+    matches.get_str(name).unwrap_or("")
+}
+
+fn wanted_of<'a>(matches: &ArgMatches<'a>) -> Wanted<'a> {
+    Wanted {
+        algebra: text_of(matches, "algebra"),
+        limit: matches.get_one::<u64>("limit"),
+    }
+}
+
+/// Reads the words of a command line, the program's own first. Errors are usage faults, help, or want of memory.
+pub fn read_job<'a>(alloc: Global, words: &'a [String]) -> Result<Option<Job<'a>>, Error> {
+    let matches = command(alloc)?.try_get_matches_from(words)?;
+    Ok(match matches.subcommand() {
+        Some(("solve", found)) => Some(Job::Solve {
+            graph: text_of(found, "GRAPH"),
+            questions: text_of(found, "QUESTIONS"),
+            wanted: wanted_of(found),
+        }),
+        Some(("bundle", found)) => Some(Job::Bundle {
+            wanted: wanted_of(found),
+        }),
+        Some(("check", found)) => Some(Job::Check {
+            graph: text_of(found, "GRAPH"),
+            questions: text_of(found, "QUESTIONS"),
+            answers: text_of(found, "ANSWERS"),
+            limit: found.get_one::<u64>("limit"),
+        }),
+        _ => None,
+    })
+}

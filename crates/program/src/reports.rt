@@ -1,0 +1,67 @@
+//! How a fault is told: its line, and the exit status.
+ghost use Rattle.std.specs.Prelude.{◌≡◌};
+ghost use Rattle.program.specs.Reports.{EndsAs, IsTold, fault_text, file_text, status_of};
+
+use batch_run::{File, RunFault};
+use road_text::{Line, RoadWrite, push_number, write_bytes};
+
+/// The word for an input, behind a space.
+fn text_of_file(file: File) -> &'static str
+    ensures { result.now ≡ file_text file }
+{
+    match file {
+        File::Graph => " graph",
+        File::Questions => " questions",
+        File::Bundle => " bundle",
+        File::Answers => " answers",
+        File::NoFile => "",
+    }
+}
+
+/// The line that tells a fault.
+pub(crate) fn line_of_fault(fault: RunFault) -> Line
+    ensures { result.bytes ≡ fault_text fault }
+{
+    let mut line = Line::new();
+    line.push_str("diffuse: fault ");
+    push_number(&mut line, u64::from(fault.number));
+    line.push_str(text_of_file(fault.file));
+    if fault.line != 0 {
+        line.push_str(" line ");
+        push_number(&mut line, fault.line);
+    }
+    line.push_str("\n");
+    line
+}
+
+/// The exit status of a fault.
+pub(crate) fn status_of(number: u8) -> u8
+    ensures { result ≡ status_of number }
+{
+    match number {
+        43 => 2,
+        3 => 4,
+        42 => 5,
+        40 | 41 => 6,
+        _ => 3,
+    }
+}
+
+/// Writes the line of a fault, and gives the exit status. Where the line cannot be written, the status stays.
+pub fn report<E: RoadWrite>(errors: &mut E, fault: RunFault) -> u8
+    ensures status { result ≡ status_of fault.number }
+    ensures told { IsTold (E.written errors.old) (E.written errors.new) (E.failures errors.old) (E.failures errors.new) (fault_text fault) }
+{
+    let _ = write_bytes(errors, line_of_fault(fault).as_str().as_bytes());
+    status_of(fault.number)
+}
+
+/// Ends a command: a fault is told, and gives its status; else the status is 0.
+pub(crate) fn end_with<E: RoadWrite>(errors: &mut E, outcome: Result<(), RunFault>) -> u8
+    ensures { EndsAs (λ _. 0) (E.written errors.old) (E.written errors.new) (E.failures errors.old) (E.failures errors.new) outcome result }
+{
+    match outcome {
+        Ok(()) => 0,
+        Err(fault) => report(errors, fault),
+    }
+}

@@ -1,0 +1,364 @@
+//! The words of a command line, over files and streams in memory.
+use crate::options::{Job, Wanted, read_job};
+use crate::places::Places;
+use crate::words::{algebra_of, run_words};
+use batch_run::fault_of_run;
+use road_text::{Plain, ReadFailed};
+use std::alloc::Global;
+use std::test::Fail;
+use std::thread::Threads;
+
+/// What a command line says, in words: the job, or whether it asks for help or is wrong.
+fn told(alloc: Global, line: &str) -> Result<String, Fail> {
+    let mut words = Vec::new(alloc);
+    for word in line.split(' ') {
+        words.push(String::from_str(alloc, word)?)?;
+    }
+    Ok(match read_job(alloc, words.as_slice()) {
+        Ok(
+            Some(
+                Job::Solve {
+                    graph,
+                    questions,
+                    wanted,
+                },
+            ),
+        ) => {
+            format!(in alloc;
+                "solve {graph} {questions} {} {:?}",
+                wanted.algebra, wanted.limit
+            )?
+        }
+        Ok(Some(Job::Bundle { wanted })) => {
+            format!(in alloc; "bundle {} {:?}", wanted.algebra, wanted.limit)?
+        }
+        Ok(
+            Some(
+                Job::Check {
+                    graph,
+                    questions,
+                    answers,
+                    limit,
+                },
+            ),
+        ) => format!(in alloc; "check {graph} {questions} {answers} {:?}", limit)?,
+        Ok(None) => String::from_str(alloc, "nothing")?,
+        Err(error) => String::from_str(alloc, if error.use_stderr() { "wrong" } else { "help" })?,
+    })
+}
+
+#[test]
+fn command_lines(rt: HostRuntime) -> Result<(), Fail> {
+    for (line, wanted) in [
+        ("diffuse bundle", "bundle shortest None"),
+        ("diffuse bundle --algebra widest", "bundle widest None"),
+        ("diffuse solve g q", "solve g q shortest None"),
+        ("diffuse solve --algebra=reach g q", "solve g q reach None"),
+        (
+            "diffuse solve g q --algebra within --limit 0",
+            "solve g q within Some(0)",
+        ),
+        (
+            "diffuse bundle --algebra within --limit 05",
+            "bundle within Some(5)",
+        ),
+        (
+            "diffuse bundle --limit=9223372036854775808",
+            "bundle shortest Some(9223372036854775808)",
+        ),
+        ("diffuse bundle --limit 9223372036854775809", "wrong"),
+        ("diffuse bundle --limit -1", "wrong"),
+        ("diffuse bundle --limit", "wrong"),
+        ("diffuse bundle --algebra fast", "wrong"),
+        ("diffuse bundle --algebra own", "wrong"),
+        ("diffuse bundle g", "wrong"),
+        ("diffuse solve g", "wrong"),
+        ("diffuse solve g q more", "wrong"),
+        ("diffuse", "wrong"),
+        ("diffuse check g q a", "check g q a None"),
+        ("diffuse check g q a --limit=7", "check g q a Some(7)"),
+        ("diffuse check g q", "wrong"),
+        ("diffuse check g q a more", "wrong"),
+        ("diffuse check g q a --algebra hops", "wrong"),
+        ("diffuse --help", "help"),
+        ("diffuse check --help", "help"),
+        ("diffuse -h", "help"),
+        ("diffuse --version", "help"),
+        ("diffuse solve --help", "help"),
+    ] {
+        assert_eq!(rt; told(rt.alloc(), line)?.as_str(), wanted);
+    }
+    Ok(())
+}
+
+#[test]
+fn algebras_and_limits(rt: HostRuntime) -> Result<(), Fail> {
+    for (algebra, limit, wanted) in [
+        ("shortest", None, "Ok(Shortest)"),
+        ("widest", None, "Ok(Widest)"),
+        ("reach", None, "Ok(Reach)"),
+        ("hops", None, "Ok(Hops)"),
+        ("reliable", None, "Ok(Reliable)"),
+        ("within", Some(5), "Ok(Within(Within { limit: 5 }))"),
+        ("within", None, "refused"),
+        ("within", Some(9_223_372_036_854_775_809), "refused"),
+        ("shortest", Some(5), "refused"),
+        ("own", None, "refused"),
+    ] {
+        let found = match algebra_of(&Wanted { algebra, limit }) {
+            Ok(chosen) => format!(in rt.alloc(); "Ok({chosen:?})")?,
+            Err(fault) => {
+                assert_eq!(rt; fault, fault_of_run(43));
+                String::from_str(rt.alloc(), "refused")?
+            }
+        };
+        assert_eq!(rt; found.as_str(), wanted);
+    }
+    Ok(())
+}
+
+/// Five vertices, of which the last is reached from nowhere.
+const FIVE: &str = "p sp 5 7\na 1 2 4\na 1 3 1\na 3 2 2\na 2 4 5\na 3 4 8\na 4 4 0\na 5 1 3\n";
+
+/// One question, from the first vertex.
+const FROM_ONE: &str = "p aux sp ss 1\ns 1\n";
+
+/// What `FROM_ONE` over `FIVE` is answered under the least sum of weights.
+const SHORTEST: &str =
+    "p ans ss 1 shortest\ns 1\nd 1 0 0 0\nd 2 3 2 3\nd 3 1 1 1\nd 4 8 3 2\nu 5\n";
+
+/// The same under the greatest least weight.
+const WIDEST: &str =
+    "p ans ss 1 widest\ns 1\nd 1 4294967296 0 0\nd 2 4 1 1\nd 3 1 1 1\nd 4 4 2 2\nu 5\n";
+
+/// The same under the fewest arcs.
+const HOPS: &str = "p ans ss 1 hops\ns 1\nd 1 0 0 0\nd 2 1 1 1\nd 3 1 1 1\nd 4 2 2 2\nu 5\n";
+
+/// The same under the least sum of weights up to 0.
+const WITHIN: &str = "p ans ss 1 within\ns 1\nd 1 0 0 0\nu 2\nu 3\nu 4\nu 5\n";
+
+/// Files by their names.
+const FILES: &[(&str, &str)] = &[
+    ("g", FIVE),
+    ("q", FROM_ONE),
+    ("right", SHORTEST),
+    ("wide", WIDEST),
+    ("within", WITHIN),
+    (
+        "wrong",
+        "p ans ss 1 shortest\ns 1\nd 1 0 0 0\nd 2 3 2 3\nd 3 1 1 1\nd 4 9 2 3\nu 5\n",
+    ),
+    (
+        "own",
+        "p ans ss 1 own\ns 1\nd 1 0 0 0\nd 2 3 2 3\nd 3 1 1 1\nd 4 8 3 2\nu 5\n",
+    ),
+    ("30", "s 1\n"),
+    ("31", "p ans ss 1 fastest\n"),
+    ("32", "p ans ss 1 shortest\nq 1 2\n"),
+    ("33", "p ans ss 1 shortest\ns\n"),
+    ("34", "p ans ss 1 shortest\ns x\n"),
+    ("35", "p ans ss 1048577 shortest\n"),
+    ("36", "p ans ss 1 shortest\n"),
+];
+
+/// Files and a standard input in memory.
+#[derive(Drop)]
+struct Shelf<'a> {
+    given: &'a str,
+}
+
+impl<'a> Places for Shelf<'a> {
+    type File = Plain<&'static [u8]>;
+
+    type Given = Plain<&'a [u8]>;
+
+    fn open(&self, path: &str) -> Result<Plain<&'static [u8]>, ReadFailed> {
+        for (name, text) in FILES {
+            if *name == path {
+                return Ok(Plain::new(text.as_bytes()));
+            }
+        }
+        Err(ReadFailed)
+    }
+
+    fn given(&self) -> Plain<&'a [u8]> {
+        Plain::new(self.given.as_bytes())
+    }
+}
+
+/// The words of a command line.
+fn words_of(alloc: Global, line: &str) -> Result<Vec<String>, Fail> {
+    let mut words = Vec::new(alloc);
+    for word in line.split(' ') {
+        words.push(String::from_str(alloc, word)?)?;
+    }
+    Ok(words)
+}
+
+/// Asserts what a command line with this standard input writes and tells, and its exit status.
+fn assert_run(
+    rt: &(impl std::process::Abort + Threads + AllocGlobal + Sync),
+    line: &str,
+    given: &str,
+    wanted: (&str, &str, u8),
+) -> Result<(), Fail> {
+    let alloc = rt.alloc();
+    let words = words_of(alloc, line)?;
+    let mut out = Plain::new(Vec::new(alloc));
+    let mut errors = Plain::new(Vec::new(alloc));
+    let status = run_words(
+        rt,
+        &Shelf { given },
+        words.as_slice(),
+        &mut out,
+        &mut errors,
+    );
+    assert_eq!(rt; out.into_inner().as_slice(), wanted.0.as_bytes());
+    assert_eq!(rt; errors.into_inner().as_slice(), wanted.1.as_bytes());
+    assert_eq!(rt; status, wanted.2);
+    Ok(())
+}
+
+#[test]
+fn commands_and_statuses(rt: HostRuntime) -> Result<(), Fail> {
+    for (line, out, errors, status) in [
+        ("solve g q", SHORTEST, "", 0),
+        ("solve --algebra widest g q", WIDEST, "", 0),
+        ("solve g q --algebra within --limit 0", WITHIN, "", 0),
+        ("solve q g", "", "diffuse: fault 12 graph line 1\n", 3),
+        ("solve g g", "", "diffuse: fault 12 questions line 1\n", 3),
+        ("solve none q", "", "diffuse: fault 1 graph\n", 3),
+        ("solve q none", "", "diffuse: fault 1 questions\n", 3),
+        ("solve g q --limit 0", "", "diffuse: fault 43\n", 2),
+        ("solve g q --algebra within", "", "diffuse: fault 43\n", 2),
+        ("check g q right", "valid\n", "", 0),
+        ("check g q wide", "valid\n", "", 0),
+        ("check g q within --limit 0", "valid\n", "", 0),
+        ("check g q within --limit 1", "invalid 1 3 6\n", "", 1),
+        ("check g q wrong", "invalid 1 4 2\n", "", 1),
+        ("check g q own", "", "diffuse: fault 31 answers\n", 3),
+        (
+            "check g q own --limit 5",
+            "",
+            "diffuse: fault 31 answers\n",
+            3,
+        ),
+        ("check g q right --limit 5", "", "diffuse: fault 43\n", 2),
+        ("check g q within", "", "diffuse: fault 43\n", 2),
+        ("check none q right", "", "diffuse: fault 1 graph\n", 3),
+        ("check q none right", "", "diffuse: fault 1 questions\n", 3),
+        ("check q g none", "", "diffuse: fault 1 answers\n", 3),
+        ("check q q 30", "", "diffuse: fault 12 graph line 1\n", 3),
+        (
+            "check g g 30",
+            "",
+            "diffuse: fault 12 questions line 1\n",
+            3,
+        ),
+        ("check g q 30", "", "diffuse: fault 30 answers line 1\n", 3),
+        ("check g q 31", "", "diffuse: fault 31 answers line 1\n", 3),
+        ("check g q 32", "", "diffuse: fault 32 answers line 2\n", 3),
+        ("check g q 33", "", "diffuse: fault 33 answers line 2\n", 3),
+        ("check g q 34", "", "diffuse: fault 34 answers line 2\n", 3),
+        ("check g q 35", "", "diffuse: fault 35 answers line 1\n", 3),
+        ("check g q 36", "", "diffuse: fault 36 answers line 2\n", 3),
+        ("--version", "diffuse 1.0.0\n", "", 0),
+    ] {
+        let line = format!(in rt.alloc(); "diffuse {line}")?;
+        assert_run(&rt, line.as_str(), "", (out, errors, status))?;
+    }
+    Ok(())
+}
+
+#[test]
+fn bundles_and_statuses(rt: HostRuntime) -> Result<(), Fail> {
+    let alloc = rt.alloc();
+    let text = format!(in alloc; "{FIVE}{FROM_ONE}")?;
+    assert_run(&rt, "diffuse bundle", text.as_str(), (SHORTEST, "", 0))?;
+    assert_run(
+        &rt,
+        "diffuse bundle --algebra hops",
+        text.as_str(),
+        (HOPS, "", 0),
+    )?;
+    assert_run(
+        &rt,
+        "diffuse bundle --limit 5",
+        text.as_str(),
+        ("", "diffuse: fault 43\n", 2),
+    )?;
+    for (given, place) in [
+        ("p sp 1 0\n", "10 bundle line 2"),
+        ("p sp 1 0\np sp 1 0\n", "11 bundle line 2"),
+        ("p sp 1\n", "12 bundle line 1"),
+        ("p sp 1 0\nx\n", "13 bundle line 2"),
+        ("p sp 1 1\na 1 1\n", "14 bundle line 2"),
+        ("p sp 1 x\n", "15 bundle line 1"),
+        ("p sp 1 1\na 1 1 4294967296\n", "16 bundle line 2"),
+        ("p sp 1 1\na 1 2 0\n", "17 bundle line 2"),
+        ("p sp 1 0\na 1 1 0\n", "18 bundle line 2"),
+        ("p sp 1 1\n", "19 bundle line 2"),
+    ] {
+        let told = format!(in alloc; "diffuse: fault {place}\n")?;
+        assert_run(&rt, "diffuse bundle", given, ("", told.as_str(), 3))?;
+    }
+    Ok(())
+}
+
+#[test]
+fn an_output_without_room(rt: HostRuntime) -> Result<(), Fail> {
+    let alloc = rt.alloc();
+    for line in ["diffuse solve g q", "diffuse check g q right"] {
+        let words = words_of(alloc, line)?;
+        let mut room = [0u8; 3];
+        let mut out = Plain::new(&mut room[..]);
+        let mut errors = Plain::new(Vec::new(alloc));
+        let shelf = Shelf { given: "" };
+        let status = run_words(&rt, &shelf, words.as_slice(), &mut out, &mut errors);
+        assert_eq!(rt;
+            errors.into_inner().as_slice(),
+            "diffuse: fault 42\n".as_bytes()
+        );
+        assert_eq!(rt; status, 5);
+    }
+    Ok(())
+}
+
+/// Asserts that help, or what is said of wrong usage, has lines of at most 80 bytes.
+fn assert_narrow(rt: &(impl std::process::Abort + AllocGlobal), text: &[u8]) {
+    assert!(rt; !text.is_empty());
+    for line in text.split(|b| *b == 10) {
+        assert!(rt; line.len() <= 80);
+    }
+}
+
+#[test]
+fn help_and_usage(rt: HostRuntime) -> Result<(), Fail> {
+    let alloc = rt.alloc();
+    for (line, wanted) in [
+        ("diffuse --help", 0),
+        ("diffuse -h", 0),
+        ("diffuse help check", 0),
+        ("diffuse solve --help", 0),
+        ("diffuse solve -h", 0),
+        ("diffuse bundle --help", 0),
+        ("diffuse check --help", 0),
+        ("diffuse", 2),
+        ("diffuse solve g", 2),
+        ("diffuse bundle --algebra own", 2),
+    ] {
+        let words = words_of(alloc, line)?;
+        let mut out = Plain::new(Vec::new(alloc));
+        let mut errors = Plain::new(Vec::new(alloc));
+        let shelf = Shelf { given: "" };
+        let status = run_words(&rt, &shelf, words.as_slice(), &mut out, &mut errors);
+        assert_eq!(rt; status, wanted);
+        let (told, quiet) = match status {
+            0 => (out.into_inner(), errors.into_inner()),
+            _ => (errors.into_inner(), out.into_inner()),
+        };
+        assert!(rt; quiet.is_empty());
+        assert_narrow(&rt, told.as_slice());
+    }
+    Ok(())
+}

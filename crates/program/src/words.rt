@@ -1,0 +1,156 @@
+//! Does what the words of a command line say.
+ghost use Rattle.std.specs.Prelude.{◌≡◌, Some, IfOk, IfErr, OnErr};
+ghost use Rattle.path_algebra.specs.Names.{name_of_text};
+ghost use Rattle.program.specs.Choices.{CannotBe, limit_of, name_of};
+
+use crate::chosen::{Chosen, choose};
+use crate::jobs::{bundle_given, check_files, solve_files};
+use crate::options::{Job, Wanted, read_job};
+use crate::places::{HostPlaces, Places};
+use crate::reports::report;
+use batch_run::{File, RunFault, Settings, fault_of_run};
+use clap::Error;
+use clap::error::ErrorKind;
+use path_algebra::AlgebraName;
+use road_text::{Gathered, Plain, RoadWrite, write_bytes};
+use std::alloc::{AllocError, Global};
+use std::io::Write;
+use std::rt::{Env, Files};
+use std::thread::Threads;
+use std::{env, io};
+
+/// Want of memory.
+const MEMORY: u8 = 3;
+
+/// A setting that is out of its range, or a limit that does not go with the algebra.
+const SETTINGS: u8 = 43;
+
+/// The exit status of a wrong command line.
+const USAGE: u8 = 2;
+
+/// What is said of a command line that is no text.
+const NO_TEXT: &[u8] = b"error: a word of the command line is no text\n";
+
+/// Writes what the command line's parser says: help on the output, a usage fault on the error output.
+fn usage<W: RoadWrite, E: RoadWrite>(
+    alloc: Global,
+    error: &Error,
+    out: &mut W,
+    errors: &mut E,
+) -> u8 {
+    if error.kind() == ErrorKind::OutOfMemory {
+        return report(errors, fault_of_run(MEMORY));
+    }
+    let Ok(text) = format!(in alloc; "{error}") else {
+        return report(errors, fault_of_run(MEMORY));
+    };
+    let text = text.as_str().as_bytes();
+    if error.use_stderr() {
+        let _ = write_bytes(errors, text);
+        return USAGE;
+    }
+    let _ = write_bytes(out, text);
+    let _ = out.flush();
+    0
+}
+
+/// The algebra that is wanted: a fault where its limit is missing, or does not belong.
+pub(crate) fn algebra_of(wanted: &Wanted<'_>) -> Result<Chosen, RunFault>
+    ensures name { IfOk result (λ chosen. name_of_text wanted.now.algebra.now ≡ Some (name_of chosen)) }
+    ensures limit { IfOk result (λ chosen. limit_of chosen ≡ wanted.now.limit) }
+    ensures fault { IfErr result (λ f. f ≡ record { number = 43; file = File.NoFile; line = 0 }) }
+    ensures refuses { OnErr result (CannotBe (name_of_text wanted.now.algebra.now) wanted.now.limit) }
+{
+    match AlgebraName::from_text(wanted.algebra.as_bytes()) {
+        Some(name) => match choose(name, wanted.limit) {
+            Some(chosen) => Ok(chosen),
+            None => Err(fault_of_run(SETTINGS)),
+        },
+        None => Err(fault_of_run(SETTINGS)),
+    }
+}
+
+/// Does a job, and gives the exit status.
+fn perform<R: AllocGlobal + Threads + Sync, P: Places, W: RoadWrite, E: RoadWrite>(
+    rt: &R,
+    places: &P,
+    job: &Job<'_>,
+    out: &mut W,
+    errors: &mut E,
+) -> u8 {
+    let settings = Settings::default();
+    match job {
+        Job::Solve {
+            graph,
+            questions,
+            wanted,
+        } => match algebra_of(wanted) {
+            Ok(chosen) => {
+                let names = (*graph, *questions);
+                solve_files(rt.alloc(), places, chosen, &settings, names, out, errors)
+            }
+            Err(fault) => report(errors, fault),
+        },
+        Job::Bundle { wanted } => match algebra_of(wanted) {
+            Ok(chosen) => bundle_given(rt.alloc(), places, chosen, &settings, out, errors),
+            Err(fault) => report(errors, fault),
+        },
+        Job::Check {
+            graph,
+            questions,
+            answers,
+            limit,
+        } => {
+            let names = (*graph, *questions, *answers);
+            check_files(rt, rt.alloc(), places, names, *limit, out, errors)
+        }
+    }
+}
+
+/// Does what the words of a command line say, the program's own first, and gives the exit status.
+pub fn run_words<R: AllocGlobal + Threads + Sync, P: Places, W: RoadWrite, E: RoadWrite>(
+    rt: &R,
+    places: &P,
+    words: &[String],
+    out: &mut W,
+    errors: &mut E,
+) -> u8 {
+    match read_job(rt.alloc(), words) {
+        Ok(Some(job)) => perform(rt, places, &job, out, errors),
+        Ok(None) => USAGE,
+        Err(error) => usage(rt.alloc(), &error, out, errors),
+    }
+}
+
+/// Takes the words of the command line, and does what they say.
+fn run_args<R, W: RoadWrite, E: RoadWrite>(rt: &R, out: &mut W, errors: &mut E) -> u8
+where
+    R: Env + Files + Input + AllocGlobal + Threads + Sync,
+{
+    let words: Result<Vec<String>, AllocError> = match env::args(rt) {
+        Ok(words) => words.collect(rt.alloc()),
+        Err(error) => {
+            if error.kind() == io::ErrorKind::OutOfMemory {
+                return report(errors, fault_of_run(MEMORY));
+            }
+            let _ = write_bytes(errors, NO_TEXT);
+            return USAGE;
+        }
+    };
+    match words {
+        Ok(words) => run_words(rt, &HostPlaces { rt }, words.as_slice(), out, errors),
+        Err(_) => report(errors, fault_of_run(MEMORY)),
+    }
+}
+
+/// Runs the program over the system's files and streams, with this error output, and gives the exit status.
+pub fn run<R, E: Write + Drop>(rt: &R, errors: E) -> u8
+where
+    R: Env + Files + Input + Print + AllocGlobal + Threads + Sync,
+{
+    let mut errors = Plain::new(errors);
+    match Gathered::new(rt.alloc(), Plain::new(io::writer(rt))) {
+        Ok(mut out) => run_args(rt, &mut out, &mut errors),
+        Err(_) => report(&mut errors, fault_of_run(MEMORY)),
+    }
+}

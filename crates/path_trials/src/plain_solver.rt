@@ -1,7 +1,9 @@
-//! Labels worked out by hand, for each algebra once, and one large graph.
+//! Labels worked out by hand, for each algebra once, from several sources, and on one large graph.
 
-use path_algebra::{Hops, PathAlgebra, Reach, Reliable, Shortest, Widest, Within};
-use path_plain::{best_values_exist, solve_one};
+ghost use Rattle.std.specs.Prelude.{◌≡◌, length};
+
+use path_algebra::{Hops, Labels, PathAlgebra, Reach, Reliable, Shortest, Widest, Within};
+use path_plain::{best_values_exist, solve_from, solve_one};
 use road_graph::{Graph, RoadArc, Vertex};
 use std::alloc::Global;
 use std::test::Fail;
@@ -29,12 +31,15 @@ fn five_vertices(alloc: Global) -> Option<Graph> {
     Graph::new(alloc, 5, arcs).ok()
 }
 
-/// The codes of the labels from vertex 1, vertex by vertex, or none where a call was refused.
-fn codes<A: PathAlgebra>(alloc: Global, algebra: A, graph: &Graph) -> Option<Vec<Option<u64>>> {
-    if !graph.has(Vertex(1)) {
-        return None;
-    }
-    let labels = solve_one(alloc, algebra, graph, Vertex(1)).ok()?;
+/// The codes of labels, vertex by vertex, or none for want of memory.
+fn codes_of<A: PathAlgebra>(
+    alloc: Global,
+    algebra: A,
+    graph: &Graph,
+    labels: &Labels<A::Value>,
+) -> Option<Vec<Option<u64>>>
+    requires { length labels.now ≡ graph.now.vertices }
+{
     let mut codes = Vec::new(alloc);
     for v in 1..=graph.vertices() {
         let code = match labels.of(Vertex(v)) {
@@ -44,6 +49,25 @@ fn codes<A: PathAlgebra>(alloc: Global, algebra: A, graph: &Graph) -> Option<Vec
         codes.push(code).ok()?;
     }
     Some(codes)
+}
+
+/// The codes of the labels from vertex 1, vertex by vertex, or none where a call was refused.
+fn codes<A: PathAlgebra>(alloc: Global, algebra: A, graph: &Graph) -> Option<Vec<Option<u64>>> {
+    if !graph.has(Vertex(1)) {
+        return None;
+    }
+    let labels = solve_one(alloc, algebra, graph, Vertex(1)).ok()?;
+    codes_of(alloc, algebra, graph, &labels)
+}
+
+/// The codes of the shortest sums from three sources, vertex by vertex, or none where a call was refused.
+fn shortest_from(alloc: Global, graph: &Graph, sources: [Vertex; 3]) -> Option<Vec<Option<u64>>> {
+    let [a, b, c] = sources;
+    if !graph.has(a) || !graph.has(b) || !graph.has(c) {
+        return None;
+    }
+    let labels = solve_from(alloc, Shortest, graph, &[a, b, c]).ok()?;
+    codes_of(alloc, Shortest, graph, &labels)
 }
 
 #[test]
@@ -119,6 +143,28 @@ fn within_a_limit(rt: HostRuntime) -> Result<(), Fail> {
     let none = Within::new(0).ok_or("no limit")?;
     let found = codes(alloc, none, &graph).ok_or("no labels")?;
     assert!(rt; found.as_slice() == [Some(0), None, None, None, None].as_slice());
+    Ok(())
+}
+
+#[test]
+fn several_sources(rt: HostRuntime) -> Result<(), Fail> {
+    let alloc = rt.alloc();
+    let graph = five_vertices(alloc).ok_or("no graph")?;
+    let repeated = [Vertex(4), Vertex(5), Vertex(4)];
+    let found = shortest_from(alloc, &graph, repeated).ok_or("no labels")?;
+    assert!(rt; found.as_slice() == [Some(3), Some(6), Some(4), Some(0), Some(0)].as_slice());
+    let repeated = [Vertex(5), Vertex(5), Vertex(2)];
+    let found = shortest_from(alloc, &graph, repeated).ok_or("no labels")?;
+    assert!(rt; found.as_slice() == [Some(3), Some(0), Some(4), Some(5), Some(0)].as_slice());
+    Ok(())
+}
+
+#[test]
+fn one_source_as_several(rt: HostRuntime) -> Result<(), Fail> {
+    let alloc = rt.alloc();
+    let graph = five_vertices(alloc).ok_or("no graph")?;
+    let found = shortest_from(alloc, &graph, [Vertex(1); 3]).ok_or("no labels")?;
+    assert!(rt; found.as_slice() == [Some(0), Some(3), Some(1), Some(8), None].as_slice());
     Ok(())
 }
 

@@ -9,9 +9,10 @@ ghost use Rattle.path_plain.specs.Order.{open_cmp, open_total};
 
 use path_algebra::PathAlgebra;
 use road_graph::Memory;
-use std::alloc::AllocError;
+use std::alloc::{AllocError, Global};
 use std::cmp::Ordering;
 use std::collections::BinaryHeap;
+use std::marker::Model;
 
 /// A vertex, by its place among the labels, with a value that it was offered.
 ///
@@ -67,33 +68,57 @@ impl<A: PathAlgebra> Eq for Open<A> {
     ghost laws = { eq_by_cmp_equiv (open_total (λ o. o.value) (λ o. o.place) A.order A.ordered) };
 }
 
-/// Puts an entry into the queue.
-pub(crate) fn push_open<A: PathAlgebra>(
-    queue: &mut BinaryHeap<Open<A>>,
-    value: A::Value,
-    place: usize,
-) -> Result<(), Memory>
-    requires { IsHeap (open_cmp (λ o. o.value) (λ o. o.place) A.order) (heap_items queue.old) }
-    ensures heap { OnOk result (IsHeap (open_cmp (λ o. o.value) (λ o. o.place) A.order) (heap_items queue.new)) }
-    ensures items { OnOk result
-        (IsPermutation (record { value = value; place = place } ∷ heap_items queue.old) (heap_items queue.new)) }
-    ensures len { OnOk result (length (heap_items queue.new) ≡ length (heap_items queue.old) + 1) }
-{
-    queue.push(Open { value, place }).map_err(AllocError::from)?;
-    Ok(())
+/// Open vertices with the values that they were offered, a heap with the best value on top.
+#[derive(Drop)]
+pub(crate) struct Queue<A: PathAlgebra> {
+    heap: BinaryHeap<Open<A>>,
 }
 
-/// Takes an entry of the best value in the queue, if there is any.
-pub(crate) fn pop_best<A: PathAlgebra>(queue: &mut BinaryHeap<Open<A>>) -> Option<(A::Value, usize)>
-    requires { IsHeap (open_cmp (λ o. o.value) (λ o. o.place) A.order) (heap_items queue.old) }
-    ensures heap { IsHeap (open_cmp (λ o. o.value) (λ o. o.place) A.order) (heap_items queue.new) }
-    ensures items { IfSome result
-        (λ x. IsPermutation (heap_items queue.old) (record { value = x.0; place = x.1 } ∷ heap_items queue.new)) }
-    ensures len { IfSome result (λ x. length (heap_items queue.new) + 1 ≡ length (heap_items queue.old)) }
-    ensures none { IfNone result (heap_items queue.old ≡ []) }
-    ensures best { IfSome result
-        (λ x. IsUpperBound (open_cmp (λ o. o.value) (λ o. o.place) A.order) (record { value = x.0; place = x.1 }) (heap_items queue.old)) }
-{
-    let best = queue.pop()?;
-    Some((best.value, best.place))
+impl<A: PathAlgebra> Model for Queue<A> {
+    ghost use Rattle.std.specs.Prelude.{List};
+    ghost use Rattle.std.specs.BinaryHeap.{heap_items, IsHeap};
+    ghost use Rattle.path_plain.specs.Order.{open_cmp};
+    ghost use Rattle.path_plain.specs.declared.queue.Open.{Open};
+
+    ghost Value = { List (Open A A.Value) };
+
+    ghost view = { λ q. heap_items q.heap };
+
+    ghost invariant = { λ q. IsHeap (open_cmp (λ o. o.value) (λ o. o.place) A.order) (heap_items q.heap) };
+}
+
+impl<A: PathAlgebra> Queue<A> {
+    /// A queue of nothing.
+    pub(crate) fn new(alloc: Global) -> Self
+        ensures { result ≡ [] }
+    {
+        Queue {
+            heap: BinaryHeap::new(alloc),
+        }
+    }
+
+    /// Puts an entry into the queue.
+    pub(crate) fn push(&mut self, value: A::Value, place: usize) -> Result<(), Memory>
+        ensures items { OnOk result
+            (IsPermutation (record { value = value; place = place } ∷ self.old) self.new) }
+        ensures len { OnOk result (length self.new ≡ length self.old + 1) }
+    {
+        self.heap
+            .push(Open { value, place })
+            .map_err(AllocError::from)?;
+        Ok(())
+    }
+
+    /// Takes an entry of the best value in the queue, if there is any.
+    pub(crate) fn pop(&mut self) -> Option<(A::Value, usize)>
+        ensures items { IfSome result
+            (λ x. IsPermutation self.old (record { value = x.0; place = x.1 } ∷ self.new)) }
+        ensures len { IfSome result (λ x. length self.new + 1 ≡ length self.old) }
+        ensures none { IfNone result (self.old ≡ []) }
+        ensures best { IfSome result
+            (λ x. IsUpperBound (open_cmp (λ o. o.value) (λ o. o.place) A.order) (record { value = x.0; place = x.1 }) self.old) }
+    {
+        let best = self.heap.pop()?;
+        Some((best.value, best.place))
+    }
 }

@@ -1,35 +1,30 @@
 //! Best values from a list of sources.
 
 ghost use Rattle.std.specs.Prelude.{◌≡◌, ℕ, ◌+◌, ◌<◌, ◌≤◌, ◌∷◌, [], All, length, replicate, slice_index_or, false, None, OnOk, IfOk};
-ghost use Rattle.std.specs.BinaryHeap.{heap_items, IsHeap};
 ghost use Rattle.road_graph.specs.Roads.{IsRoads, HasVertex};
 ghost use Rattle.path_algebra.specs.Walks.{AreBest, offered, offered_if};
 ghost use Rattle.path_plain.specs.Opening.{AreOpening};
-ghost use Rattle.path_plain.specs.Order.{open_cmp};
 ghost use Rattle.path_plain.specs.Queue.{KeepsQueue};
 ghost use Rattle.path_plain.specs.Settling.{Relaxes, Handles};
 
-use crate::queue::{Open, pop_best, push_open};
+use crate::queue::Queue;
 use path_algebra::{Labels, PathAlgebra, laws_hold};
 use road_graph::{Graph, Memory, Vertex};
 use std::alloc::Global;
-use std::collections::BinaryHeap;
 
 /// Gives a vertex the value z, if that is strictly better than its label, and puts it into the queue with it.
 fn offer<A: PathAlgebra>(
     labels: &mut [Option<A::Value>],
-    queue: &mut BinaryHeap<Open<A>>,
+    queue: &mut Queue<A>,
     v: Vertex,
     z: A::Value,
 ) -> Result<(), Memory>
     requires low { 1 ≤ v }
     requires high { v ≤ length labels.old }
-    requires heap { IsHeap (open_cmp (λ o. o.value) (λ o. o.place) A.order) (heap_items queue.old) }
     ensures labels { OnOk result (labels.new ≡ offered A.order labels.old v z) }
-    ensures heap { OnOk result (IsHeap (open_cmp (λ o. o.value) (λ o. o.place) A.order) (heap_items queue.new)) }
     ensures queue { OnOk result (KeepsQueue (λ o. o.value) (λ o. o.place) A.order
-        labels.old (heap_items queue.old) labels.new (heap_items queue.new)) }
-    ensures few { OnOk result (length (heap_items queue.new) ≤ length (heap_items queue.old) + 1) }
+        labels.old queue.old labels.new queue.new) }
+    ensures few { OnOk result (length queue.new ≤ length queue.old + 1) }
 {
     let i = v.0 as usize - 1;
     let is_better = match labels[i] {
@@ -37,7 +32,7 @@ fn offer<A: PathAlgebra>(
         None => true,
     };
     if is_better {
-        push_open::<A>(queue, z, i)?;
+        queue.push(z, i)?;
         labels[i] = Some(z);
     }
     Ok(())
@@ -46,19 +41,17 @@ fn offer<A: PathAlgebra>(
 /// Offers what an extension gave, if it was not refused.
 fn offer_if<A: PathAlgebra>(
     labels: &mut [Option<A::Value>],
-    queue: &mut BinaryHeap<Open<A>>,
+    queue: &mut Queue<A>,
     v: Vertex,
     extended: Option<A::Value>,
 ) -> Result<(), Memory>
     requires low { 1 ≤ v }
     requires high { v ≤ length labels.old }
-    requires heap { IsHeap (open_cmp (λ o. o.value) (λ o. o.place) A.order) (heap_items queue.old) }
     ensures labels { OnOk result (labels.new ≡ offered_if A.order labels.old v extended) }
     ensures count { OnOk result (length labels.new ≡ length labels.old) }
-    ensures heap { OnOk result (IsHeap (open_cmp (λ o. o.value) (λ o. o.place) A.order) (heap_items queue.new)) }
     ensures queue { OnOk result (KeepsQueue (λ o. o.value) (λ o. o.place) A.order
-        labels.old (heap_items queue.old) labels.new (heap_items queue.new)) }
-    ensures few { OnOk result (length (heap_items queue.new) ≤ length (heap_items queue.old) + 1) }
+        labels.old queue.old labels.new queue.new) }
+    ensures few { OnOk result (length queue.new ≤ length queue.old + 1) }
 {
     match extended {
         Some(z) => offer::<A>(labels, queue, v, z),
@@ -71,20 +64,18 @@ fn relax<A: PathAlgebra>(
     algebra: A,
     graph: &Graph,
     labels: &mut [Option<A::Value>],
-    queue: &mut BinaryHeap<Open<A>>,
+    queue: &mut Queue<A>,
     v: Vertex,
     x: A::Value,
 ) -> Result<(), Memory>
     requires roads { IsRoads graph.now }
     requires in_graph { HasVertex graph.now v }
     requires count { length labels.old ≡ graph.now.vertices }
-    requires heap { IsHeap (open_cmp (λ o. o.value) (λ o. o.place) A.order) (heap_items queue.old) }
     ensures relaxes { OnOk result (Relaxes (A.meaning algebra) graph.now v x labels.old labels.new) }
-    ensures heap { OnOk result (IsHeap (open_cmp (λ o. o.value) (λ o. o.place) A.order) (heap_items queue.new)) }
     ensures queue { OnOk result (KeepsQueue (λ o. o.value) (λ o. o.place) A.order
-        labels.old (heap_items queue.old) labels.new (heap_items queue.new)) }
+        labels.old queue.old labels.new queue.new) }
     ensures few { OnOk result
-        (length (heap_items queue.new) ≤ length (heap_items queue.old) + length graph.now.arcs) }
+        (length queue.new ≤ length queue.old + length graph.now.arcs) }
 {
     laws_hold(algebra);
     for road in graph.roads_from(v) {
@@ -99,18 +90,16 @@ fn settle<A: PathAlgebra>(
     graph: &Graph,
     labels: &mut [Option<A::Value>],
     settled: &mut [bool],
-    queue: &mut BinaryHeap<Open<A>>,
+    queue: &mut Queue<A>,
     best: (A::Value, usize),
 ) -> Result<(), Memory>
     requires roads { IsRoads graph.now }
     requires place { best.1 < graph.now.vertices }
     requires labels { length labels.old ≡ graph.now.vertices }
     requires settled { length settled.old ≡ graph.now.vertices }
-    requires heap { IsHeap (open_cmp (λ o. o.value) (λ o. o.place) A.order) (heap_items queue.old) }
-    ensures heap { OnOk result (IsHeap (open_cmp (λ o. o.value) (λ o. o.place) A.order) (heap_items queue.new)) }
     ensures handles { OnOk result (Handles (λ o. o.value) (λ o. o.place) A.order (A.meaning algebra) graph.now
         best.1 best.0 (slice_index_or settled.old best.1 false)
-        labels.old settled.old (heap_items queue.old) labels.new settled.new (heap_items queue.new)) }
+        labels.old settled.old queue.old labels.new settled.new queue.new) }
 {
     if settled[best.1] {
         return Ok(());
@@ -130,16 +119,14 @@ fn settle<A: PathAlgebra>(
 fn offer_origins<A: PathAlgebra>(
     algebra: A,
     labels: &mut [Option<A::Value>],
-    queue: &mut BinaryHeap<Open<A>>,
+    queue: &mut Queue<A>,
     sources: &[Vertex],
 ) -> Result<(), Memory>
     requires inside { All (λ s. (1 ≤ s) × (s ≤ length labels.old)) sources.now }
     requires fresh { labels.old ≡ replicate (length labels.old) None }
-    requires heap { IsHeap (open_cmp (λ o. o.value) (λ o. o.place) A.order) (heap_items queue.old) }
     ensures opening { OnOk result (AreOpening (A.meaning algebra).origin (length labels.old) sources.now labels.new) }
-    ensures heap { OnOk result (IsHeap (open_cmp (λ o. o.value) (λ o. o.place) A.order) (heap_items queue.new)) }
     ensures queue { OnOk result (KeepsQueue (λ o. o.value) (λ o. o.place) A.order
-        labels.old (heap_items queue.old) labels.new (heap_items queue.new)) }
+        labels.old queue.old labels.new queue.new) }
 {
     for source in sources {
         offer::<A>(labels, queue, *source, algebra.origin())?;
@@ -163,9 +150,9 @@ pub fn solve_from<A: PathAlgebra>(
     let n = graph.vertices() as usize;
     let mut labels: Vec<Option<A::Value>> = vec![in alloc; None; n]?;
     let mut settled: Vec<bool> = vec![in alloc; false; n]?;
-    let mut queue: BinaryHeap<Open<A>> = BinaryHeap::new(alloc);
+    let mut queue: Queue<A> = Queue::new(alloc);
     offer_origins(algebra, &mut labels, &mut queue, sources)?;
-    while let Some(best) = pop_best::<A>(&mut queue) {
+    while let Some(best) = queue.pop() {
         settle(algebra, graph, &mut labels, &mut settled, &mut queue, best)?;
     }
     Ok(Labels::from_vec(labels))

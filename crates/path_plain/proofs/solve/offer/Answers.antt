@@ -4,8 +4,8 @@ use Rattle.path_plain.proofs.Waiting.{queue_offer, worse_than_offered, none_is_w
 use Rattle.path_plain.proofs.solve.offer.Goals as goal
 use Rattle.path_plain.proofs.solve.offer.Goals.{in-Some, in-None}
 
-pub returns-in_ok-push_open-clause-queue : goal.returns-in_ok-push_open-clause-queue
-returns-in_ok-push_open-clause-queue g c = λ settled known.
+pub returns-in_ok-push-clause-queue : goal.returns-in_ok-push-clause-queue
+returns-in_ok-push-clause-queue g c = λ settled known.
     let laws = g.met.A.PathAlgebra g.world.𝓛 g.world.𝓜 g.world.𝓡 ((λ s x. x), (λ x. x), (λ x. x), λ x. x) in
     let v : c.v.inside.0 ≡ c.args.v = c.v.view_is in
     let lt : c.v.inside.0 - 1 < length c.args.labels.now = omega (arith, c.requires.low, c.requires.high) in
@@ -16,4 +16,4 @@ returns-in_ok-push_open-clause-queue g c = λ settled known.
           (get_or_default c.args.labels.now (c.v.inside.0 - 1) None _ lt ∙ w.in-Some.is) w.no_worse.ensures w.is_better-is c.if-is_better.true
       | in-None w ↦ none_is_worse g.A.PathAlgebra.order old c.args.z (get_or_default c.args.labels.now (c.v.inside.0 - 1) None _ lt ∙ w.in-None.is)
     ])
-    c.in_ok-push_open.ensures.items refl refl
+    c.in_ok-push.ensures.items refl refl

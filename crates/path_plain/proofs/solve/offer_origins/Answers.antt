@@ -14,6 +14,5 @@ loop-source-preserved g c =
     record {
       opening = opening_more order origin n c.args.sources.now c.loop-source.source-index s c.loop-source.labels c.offer.new.labels c.loop-source.invariant.opening c.loop-source-test.true c.source-item.is
           (subst (λ (v : ℕ). 1 ≤ v) (sym c.source-item.is) inside.0) (subst (λ (v : ℕ). v ≤ n) (sym c.source-item.is) inside.1) next;
-      heap = c.in_ok-offer.ensures.heap;
       kept = λ settled known. c.in_ok-offer.ensures.queue settled (c.loop-source.invariant.kept settled known);
     }

@@ -20,7 +20,6 @@ loop-road-preserved g c =
     rw (← c.extend.ensures) c.in_ok-offer_if.ensures.labels in
     record {
       count = c.in_ok-offer_if.ensures.count ∙ c.loop-road.invariant.count;
-      heap = c.in_ok-offer_if.ensures.heap;
       so_far = by_roads_once A c.args.x g.A.PathAlgebra.order c.loop-road.labels c.offer_if.new.labels c.roads_from-road-items.result.now c.loop-road.road-index c.road-item.result
           c.loop-road-test.true c.road-item.is c.laws_hold.ensures.order next ∙ c.loop-road.invariant.so_far;
       kept = λ settled known. c.in_ok-offer_if.ensures.queue settled (c.loop-road.invariant.kept settled known);

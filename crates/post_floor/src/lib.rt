@@ -4,6 +4,7 @@
 mod claims;
 mod exchange;
 mod floor;
+mod open;
 mod plays;
 mod seat;
 mod view;

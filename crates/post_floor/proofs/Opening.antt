@@ -19,11 +19,7 @@ use Rattle.post_floor.specs.declared.view.View.{View}
 use Rattle.post_floor.specs.Boxes.{box_count, dest}
 use Rattle.post_floor.specs.Floor.{Slot, flat, filling, reading, CountsNone, box, mail, emptied, BoxOk, Kept}
 use Rattle.post_floor.specs.Seats.{knows}
-
-get_zero : (n k : ℕ) → let z : ℕ = 0 in get_or (replicate n z) k z ≡ z
-get_zero zero k = refl
-get_zero (suc n) zero = refl
-get_zero (suc n) (suc k) = get_zero n k
+use Rattle.post_floor.proofs.Opened.{get_zero}
 
 only : {A : Type 0} (v : A) (id : ℕ) (u : A) → get_elem? (v ∷ []) id ≡ some u → v ≡ u
 only v zero u a = some-injective v u a
@@ -49,10 +45,6 @@ module _ {S V : Type 0} (A : Algebra V) (t : Setup S) where
   all_below : (m k n : ℕ) → k + n ≤ m → All (λ (p : PartData S V). p.shard < m) (opened_parts A t k n)
   all_below m k zero l = tt
   all_below m k (suc n) l = ((omega (arith, l)), all_below m (suc k) n (omega (arith, l)))
-
-  pub opened_long : (k n : ℕ) → length (opened_parts A t k n) ≡ n
-  opened_long k zero = refl
-  opened_long k (suc n) = ap suc (opened_long (suc k) n)
 
 module _ {S V : Type 0} (meaning : S → Algebra V) (t : Setup S) (P : IsPlanned t 0) where
   pub opens : (ws : List ℕ) (xs : List (Slot V)) → ws ≡ replicate (box_count t.plan.shards + 1) 0 → length xs ≡ box_count t.plan.shards → ((k : ℕ) → k < box_count t.plan.shards → get_elem? xs k ≡ some (emptied t k))

@@ -8,6 +8,9 @@ use Rattle.post_floor.specs.declared.view.View.{View}
 use Rattle.post_floor.specs.Boxes.{box_count, mailbox, dest, origin}
 use Rattle.post_floor.specs.Floor.{Slot, emptied, filling, reading}
 use Rattle.post_floor.specs.Plays.{Follows}
+use Rattle.post_floor.specs.Seats.{knows}
+use Rattle.shard_part.specs.Plans.{PlanData}
+use Rattle.shard_part.specs.Opening.{opened_parts}
 
 -- a floor: which it is, and the question that its parts share
 pub record FloorData (S : Type 0) : Type 0 where
@@ -73,3 +76,11 @@ pub record IsAt {S V : Type 0} (meaning : S → Algebra V) (f : FloorData S) (d 
 -- it is the same seat
 abbrev pub IsSameSeat : {S V : Type 0} → SeatData S V → SeatData S V → Type 0
 IsSameSeat d e = (e.floor ≡ d.floor) × (e.shard ≡ d.shard)
+
+-- the seat of a part as it is opened, at a floor of n shards
+abbrev pub seat_of : {S V : Type 0} → TableId → ℕ → PartData S V → SeatData S V
+seat_of id n p = record { floor = id; shard = p.shard; knows = knows n (p ∷ []) }
+
+-- the parts are those of all shards of the plan, in order, as they are opened for one question from the source
+abbrev pub IsFresh : {S V : Type 0} → (S → Algebra V) → PlanData → ℕ → List (PartData S V) → Type 0
+IsFresh {S} meaning plan source parts = (t : Setup S) × (parts ≡ opened_parts (meaning t.algebra) t 0 t.plan.shards) × (t.plan ≡ plan) × (t.source ≡ source)

@@ -1,6 +1,7 @@
 -- What is kept of a line is enough for the rules of an answer text.
-use Rattle.std.proofs.Common.{◌≡◌, ℕ, zero, suc, ◌+◌, ◌<◌, min, List, [], ◌∷◌, length, take, drop, map, Option, Some, None, Result, Bool, true, false, ◌&&◌, ◌||◌, eqb, nat_lt, inl, inr, refl, sym, ap, ◌∙◌, arith, lit<, codes}
+use Rattle.std.proofs.Common.{◌≡◌, ℕ, zero, suc, ◌+◌, ◌<◌, min, List, [], ◌∷◌, length, take, drop, map, Option, Some, None, Result, Bool, true, false, ◌&&◌, ◌||◌, eqb, nat_lt, ◌⊎◌, inl, inr, refl, sym, ap, ◌∙◌, arith, lit<, codes}
 use Rattle.std.proofs.lemmas.Bool.{ne_eqb, cases_lt, lt-ltb, le-ltb}
+use Rattle.std.proofs.lemmas.Bool.Decides.{nat_tests}
 use Rattle.std.proofs.lemmas.List.{length-map}
 use Rattle.std.specs.Str.{bytes_eq}
 use Rattle.path_algebra.specs.Names.{name_of_text}
@@ -15,7 +16,7 @@ use Rattle.road_files.specs.declared.questions.Kind.TheVariants.{Sources, Pairs,
 use Rattle.road_files.specs.QuestionFiles.{kind_named}
 use Rattle.answer_text.specs.declared.present_numbers.PresentNumbers.{PresentNumbers}
 use Rattle.answer_text.specs.AnswerFiles.{Stage, Between, InLines, AfterPair, AfterFound, AnswersSoFar, numbers_in, begins, header_line, source_line, pair_line, list_line, sources_line, route_line, reached_line, unreached_line, vertex_line, value_line, none_line, found_line, question_line, answer_line, told_after, line_given, line_read}
-use Rattle.answer_text.specs.AnswerTakes.{SoFar, begins_list, numbers_given}
+use Rattle.answer_text.specs.AnswerTakes.{SoFar, begins_list, begins_route, numbers_given}
 use Rattle.answer_text.proofs.ListFields.{number_held}
 
 -- these words are what is kept of those
@@ -159,9 +160,14 @@ module _ (kept ws : List Word) (h : Keeps kept ws) where
     line_held s = rw (h.count 0 (lit< tt), h.word 0 (lit< tt), first_byte (word_at 0 ws).text, told_held s) refl
 
 -- where the letter is another the numbers do not matter
-list_same : (letter : Bool) (c d : Bool) (p q : Result (List ℕ) ℕ) → c ≡ d → (letter ≡ true → p ≡ q) → list_line letter c p ≡ list_line letter d q
+list_same : (letter : Bool) (c d : Bool) (p q : Result (List ℕ) ℕ) → c ≡ d → (letter ≡ true → c ≡ true → p ≡ q) → list_line letter c p ≡ list_line letter d q
 list_same false c d p q e h = refl
-list_same true c d p q e h = rw (e, h refl) refl
+list_same true false d p q e h = rw (← e) refl
+list_same true true d p q e h = rw (← e, h refl refl) refl
+
+-- so many are not too many
+few_fields : (n : ℕ) → (nat_lt 1 n && nat_lt n 1026) ≡ true → n < 1026
+few_fields n e = grind (arith, nat_tests)
 
 few_same : (n m : ℕ) → m ≡ min n 1026 → (nat_lt 1 n && nat_lt n 1026) ≡ (nat_lt 1 m && nat_lt m 1026)
 few_same n m e = elim (cases_lt n 1026) [
@@ -176,14 +182,14 @@ some_same n m e = elim (cases_lt 1 n) [
 ]
 
 -- only the number of fields up to a limit matters, and the numbers only of a list
-module _ (n : ℕ) (ws : List Word) (m : ℕ) (p q : Result (List ℕ) ℕ) (e : m ≡ min (length ws) 1026) (pm : begins (codes "m") ws ≡ true → p ≡ q) (pr : begins (codes "r") ws ≡ true → p ≡ q) where
+module _ (n : ℕ) (ws : List Word) (m : ℕ) (p q : Result (List ℕ) ℕ) (e : m ≡ min (length ws) 1026) (pm : begins (codes "m") ws ≡ true → length ws < 1026 → p ≡ q) (pr : begins (codes "r") ws ≡ true → p ≡ q) where
   sources_same : sources_line ws (length ws) p ≡ sources_line ws m q
   unfolding sources_line
-  sources_same = list_same (begins (codes "m") ws) _ _ p q (few_same (length ws) m e) pm
+  sources_same = list_same (begins (codes "m") ws) _ _ p q (few_same (length ws) m e) (λ on few. pm on (few_fields (length ws) few))
 
   route_same : route_line ws (length ws) p ≡ route_line ws m q
   unfolding route_line
-  route_same = list_same (begins (codes "r") ws) _ _ p q (some_same (length ws) m e) pr
+  route_same = list_same (begins (codes "r") ws) _ _ p q (some_same (length ws) m e) (λ on _. pr on)
 
   question_same : (s : AnswersSoFar) (kind : Kind) → question_line n s ws (length ws) p kind ≡ question_line n s ws m q kind
   question_same s Sources = refl
@@ -219,13 +225,18 @@ begun_by_r : (fs : List (List ℕ)) → begins (codes "r") (map word_of fs) ≡ 
 begun_by_r [] e = e
 begun_by_r (f ∷ fs) e = left_true (bytes_eq f (codes "r")) (bytes_eq f (codes "m")) e
 
+route_by_r : (fs : List (List ℕ)) → begins (codes "r") (map word_of fs) ≡ true → begins_route fs ≡ true
+route_by_r [] e = e
+route_by_r (f ∷ fs) e = e
+
 -- the rule of the line is that of its slots and of the list that was kept
 pub line_rule : (n : ℕ) (s : Option AnswersSoFar) (l : PresentNumbers) (slots : List Slot) (line : List ℕ) → ShowsLine slots line → SoFar l (fields line)
     → line_read n s (map word_of (fields line)) ≡ line_given n s (map word_in slots) l.count (numbers_given l)
 line_rule n s l slots line shown h =
     let ws : List Word = map word_of (fields line) in
     let many : length ws ≡ length (fields line) = length-map (fields line) word_of in
-    let same : begins_list (fields line) ≡ true → numbers_in (drop 1 ws) ≡ numbers_given l = λ on. h.numbers_are (h.letter_is ∙ on) in
-    given_same n ws l.count (numbers_in (drop 1 ws)) (numbers_given l) (h.count_is ∙ ap (λ k. min k 1026) (sym many)) (λ on. same (begun_by_m (fields line) on)) (λ on. same (begun_by_r (fields line) on)) s
+    let same : begins_list (fields line) ≡ true → (l.is_route ≡ true) ⊎ (length (fields line) < 1026) → numbers_in (drop 1 ws) ≡ numbers_given l = λ on. h.numbers_are (h.letter_is ∙ on) in
+    given_same n ws l.count (numbers_in (drop 1 ws)) (numbers_given l) (h.count_is ∙ ap (λ k. min k 1026) (sym many)) (λ on few. same (begun_by_m (fields line) on) (inr (omega (arith, few, many))))
+    (λ on. same (begun_by_r (fields line) on) (inl (h.route_is ∙ route_by_r (fields line) on))) s
     ∙ sym (line_held (take 6 (map held ws)) ws (keeps ws) n l.count (numbers_given l) s)
     ∙ ap (λ x. line_given n s x l.count (numbers_given l)) (ap (take 6) (held_words (fields line)) ∙ sym shown)

@@ -1,5 +1,5 @@
 -- Lists of numbers, field by field.
-use Rattle.std.proofs.Common.{◌≡◌, ℕ, ◌+◌, ◌<◌, min, List, [], ◌∷◌, ◌++◌, length, drop, map, Option, Some, None, Ok, Err, Result, true, option_map, refl, sym, ap, ◌∙◌, arith, length-append}
+use Rattle.std.proofs.Common.{◌≡◌, ◌⊎◌, inl, inr, ℕ, ◌+◌, ◌<◌, min, List, [], ◌∷◌, ◌++◌, length, drop, map, Option, Some, None, Ok, Err, Result, true, option_map, refl, sym, ap, ◌∙◌, arith, length-append}
 use Rattle.std.proofs.lemmas.List.{map-append}
 use Rattle.std.proofs.lemmas.Grind.{common_steps}
 use Rattle.std.specs.Result.{OnOk}
@@ -7,7 +7,7 @@ use Rattle.road_text.specs.Rules.{◌>>=◌}
 use Rattle.road_text.specs.Words.{Word, word_of, held_word}
 use Rattle.answer_text.specs.declared.present_numbers.PresentNumbers.{PresentNumbers}
 use Rattle.answer_text.specs.AnswerFiles.{number_in, numbers_in}
-use Rattle.answer_text.specs.AnswerTakes.{SoFar, begins_list, numbers_given, one_number_more}
+use Rattle.answer_text.specs.AnswerTakes.{SoFar, begins_list, begins_route, numbers_given, one_number_more}
 
 -- what is kept of a number is enough
 pub number_held : (limit : ℕ) (o : Option ℕ) → limit < 18446744073709551616 → number_in limit (option_map (λ v. min v 18446744073709551616) o) ≡ number_in limit o
@@ -36,18 +36,27 @@ after_first : (fs : List (List ℕ)) (f : List ℕ) → 0 < length fs → drop 1
 after_first [] f lt = absurd (omega arith)
 after_first (x ∷ fs) f lt = map-append word_of fs (f ∷ [])
 
+same_route : (fs : List (List ℕ)) (f : List ℕ) → 0 < length fs → begins_route (fs ++ f ∷ []) ≡ begins_route fs
+same_route [] f lt = absurd (omega arith)
+same_route (x ∷ fs) f lt = refl
+
 -- a further field
-pub next_field : (s t : PresentNumbers) (fs : List (List ℕ)) (f : List ℕ) → SoFar s fs → 0 < s.count → t.count ≡ min (s.count + 1) 1026 → t.is_list ≡ s.is_list
-    → (s.is_list ≡ true → numbers_given t ≡ one_number_more (numbers_given s) (held_word f).number) → SoFar t (fs ++ f ∷ [])
-next_field s t fs f h some more letter numbers =
+pub next_field : (s t : PresentNumbers) (fs : List (List ℕ)) (f : List ℕ) → SoFar s fs → 0 < s.count → t.count ≡ min (s.count + 1) 1026 → t.is_list ≡ s.is_list → t.is_route ≡ s.is_route
+    → (s.is_list ≡ true → (s.is_route ≡ true) ⊎ (t.count < 1026) → numbers_given t ≡ one_number_more (numbers_given s) (held_word f).number) → SoFar t (fs ++ f ∷ [])
+next_field s t fs f h some more letter route numbers =
     let long : length (fs ++ f ∷ []) ≡ length fs + 1 = length-append fs (f ∷ []) in
     let any : 0 < length fs = omega (arith, h.count_is) in
+    let kept : (t.is_route ≡ true) ⊎ (length (fs ++ f ∷ []) < 1026) → (s.is_route ≡ true) ⊎ (length fs < 1026) =
+    λ few. elim few [ inl on ↦ inl (sym route ∙ on) | inr lt ↦ inr (omega (arith, lt, long)) ] in
+    let room : (t.is_route ≡ true) ⊎ (length (fs ++ f ∷ []) < 1026) → (s.is_route ≡ true) ⊎ (t.count < 1026) =
+    λ few. elim few [ inl on ↦ inl (sym route ∙ on) | inr lt ↦ inr (omega (arith, lt, long, more, h.count_is)) ] in
     record {
       count_is = omega (arith, h.count_is, long, more);
       letter_is = letter ∙ h.letter_is ∙ sym (same_letter fs f any);
-      numbers_are = λ on. let was : s.is_list ≡ true = sym letter ∙ on in
-          ap numbers_in (after_first fs f any) ∙ numbers_push (drop 1 (map word_of fs)) (word_of f) ∙ ap (λ r. one_number_more r (word_of f).number) (h.numbers_are was)
-          ∙ ap (λ r. numbers_given s >>= λ vs. r >>= λ v. Ok (vs ++ v ∷ [])) (sym (number_held 4294967295 (word_of f).number (omega arith))) ∙ sym (numbers was);
+      route_is = route ∙ h.route_is ∙ sym (same_route fs f any);
+      numbers_are = λ on few. let was : s.is_list ≡ true = sym letter ∙ on in
+          ap numbers_in (after_first fs f any) ∙ numbers_push (drop 1 (map word_of fs)) (word_of f) ∙ ap (λ r. one_number_more r (word_of f).number) (h.numbers_are was (kept few))
+          ∙ ap (λ r. numbers_given s >>= λ vs. r >>= λ v. Ok (vs ++ v ∷ [])) (sym (number_held 4294967295 (word_of f).number (omega arith))) ∙ sym (numbers was (room few));
     }
 
 pub on_more : {E P Q : Type 0} (r : Result (Unit {0}) E) → OnOk r P → (P → Q) → OnOk r Q

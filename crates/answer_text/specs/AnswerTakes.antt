@@ -1,5 +1,5 @@
 -- What the taker of an answer text holds, as the rules have it.
-use Rattle.std.specs.Prelude.{◌≡◌, ℕ, min, ◌||◌, List, [], ◌∷◌, ◌++◌, length, drop, map, Bool, true, false, Option, Some, None, option_map, Result, Ok, Err, codes, bytes_eq}
+use Rattle.std.specs.Prelude.{◌≡◌, ℕ, ◌<◌, ◌⊎◌, min, ◌||◌, List, [], ◌∷◌, ◌++◌, length, drop, map, Bool, true, false, Option, Some, None, option_map, Result, Ok, Err, codes, bytes_eq}
 use Rattle.road_text.specs.declared.faults.ReadFault.{ReadFault}
 use Rattle.road_text.specs.declared.faults.Rule.{Rule}
 use Rattle.road_text.specs.RuleNumbers.{number_of}
@@ -34,11 +34,17 @@ abbrev pub begins_list : List (List ℕ) → Bool
 begins_list [] = false
 begins_list (f ∷ fs) = bytes_eq f (codes "r") || bytes_eq f (codes "m")
 
--- these are the fields of the present line so far
+-- whether the first field is `r`
+abbrev pub begins_route : List (List ℕ) → Bool
+begins_route [] = false
+begins_route (f ∷ fs) = bytes_eq f (codes "r")
+
+-- these are the fields of the present line so far; of a list of sources that is too long the numbers are let go
 pub record SoFar (l : PresentNumbers) (fs : List (List ℕ)) : Type 0 where
   pub count_is : l.count ≡ min (length fs) 1026
   pub letter_is : l.is_list ≡ begins_list fs
-  pub numbers_are : l.is_list ≡ true → numbers_in (drop 1 (map word_of fs)) ≡ numbers_given l
+  pub route_is : l.is_route ≡ begins_route fs
+  pub numbers_are : l.is_list ≡ true → (l.is_route ≡ true) ⊎ (length fs < 1026) → numbers_in (drop 1 (map word_of fs)) ≡ numbers_given l
 
 -- which line is expected, by the place that was reached
 abbrev pub stage_at : TakenAnswers → Place → Stage

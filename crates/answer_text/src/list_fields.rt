@@ -1,5 +1,5 @@
 //! Takes the fields of a line, and keeps those of a list.
-ghost use Rattle.std.specs.Prelude.{◌≡◌, ℕ, ◌+◌, min, ◌++◌, ◌∷◌, [], List, OnOk, IfErr, MatchResult, Ok};
+ghost use Rattle.std.specs.Prelude.{◌≡◌, ℕ, ◌+◌, ◌≤◌, min, false, ◌++◌, ◌∷◌, [], List, OnOk, IfErr, MatchResult, Ok};
 ghost use Rattle.road_text.specs.Slots.{word_in};
 ghost use Rattle.road_text.specs.Takes.{Breaks};
 ghost use Rattle.road_text.specs.Words.{held_word};
@@ -29,6 +29,7 @@ impl PresentNumbers {
         PresentNumbers {
             count: 0,
             is_list: false,
+            is_route: false,
             numbers: Vec::new(alloc),
             broken: None,
         }
@@ -40,12 +41,13 @@ impl PresentNumbers {
     {
         self.count = 0;
         self.is_list = false;
+        self.is_route = false;
     }
 
     // One number more, or the first field that is none.
     fn add(&mut self, slot: &Slot) -> Result<(), LineFault>
         ensures numbers { OnOk result (numbers_given self.new ≡ one_number_more (numbers_given self.old) (word_in slot.now).number) }
-        ensures rest { (self.new.count ≡ self.old.count) × (self.new.is_list ≡ self.old.is_list) }
+        ensures rest { (self.new.count ≡ self.old.count) × (self.new.is_list ≡ self.old.is_list) × (self.new.is_route ≡ self.old.is_route) }
         ensures memory { IfErr result (λ e. e ≡ LineFault.Memory) }
     {
         if self.broken.is_some() {
@@ -67,17 +69,19 @@ impl PresentNumbers {
     /// Takes the next field of the line.
     pub fn field(&mut self, slot: &Slot) -> Result<(), LineFault>
         ensures told { OnOk result ((fs : List (List ℕ)) (f : List ℕ) → SoFar self.old fs → word_in slot.now ≡ held_word f → SoFar self.new (fs ++ f ∷ [])) }
+        ensures few { 1025 ≤ self.old.count → self.old.is_route ≡ false → self.new.numbers.items ≡ self.old.numbers.items }
         ensures memory { IfErr result (λ e. e ≡ LineFault.Memory) }
     {
         if self.count == 0 {
             self.numbers.clear();
             self.broken = None;
-            self.is_list = slot.is_word(b"r") || slot.is_word(b"m");
+            self.is_route = slot.is_word(b"r");
+            self.is_list = self.is_route || slot.is_word(b"m");
             self.count = 1;
             return Ok(());
         }
         self.count = counted(self.count);
-        if self.is_list {
+        if self.is_list && (self.is_route || self.count < COUNTED) {
             return self.add(slot);
         }
         Ok(())

@@ -9,7 +9,9 @@ pub struct PresentNumbers {
     pub count: u32,
     /// Whether the first of them is `r` or `m`.
     pub is_list: bool,
-    /// The numbers behind it, up to the first field that is none.
+    /// Whether it is `r`, behind which any number of fields may stand.
+    pub is_route: bool,
+    /// The numbers behind it, up to the first field that is none; behind `m` the first 1,024 alone.
     pub numbers: Vec<u32>,
     /// The rule that this field breaks.
     pub broken: Option<Rule>,

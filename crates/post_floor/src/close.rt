@@ -48,7 +48,7 @@ fn pass_of<A: PathAlgebra>(seat: Seat<A>) -> Pass<A>
 {
     let Seat {
         pass,
-        shard: _,
+        own: _,
         claims: _,
         next_fill: _,
         next_read: _,

@@ -1,0 +1,4 @@
+pub mod Station
+pub mod Turn
+pub mod Steps
+pub mod Opened

@@ -1,5 +1,5 @@
 -- What a verdict on answers promises of the three inputs, and how it is told.
-use Rattle.std.specs.Prelude.{◌≡◌, ◌≢◌, ℕ, ◌≤◌, ◌⊎◌, List, [], ◌∷◌, Option, None, Ok, Err, IfSome, codes, decimal}
+use Rattle.std.specs.Prelude.{◌≡◌, ◌≢◌, ℕ, ◌⊎◌, List, [], ◌∷◌, Option, None, Ok, Err, IfSome, codes, decimal}
 use Rattle.road_graph.specs.Roads.{Roads}
 use Rattle.road_text.specs.Reads.{IsNumberFrom}
 use Rattle.road_text.specs.Rules.{text_read}
@@ -7,7 +7,6 @@ use Rattle.road_text.specs.Texts.{spelled}
 use Rattle.road_files.specs.Asked.{Asked}
 use Rattle.road_files.specs.GraphFiles.{gr_rules}
 use Rattle.road_files.specs.QuestionFiles.{question_rules}
-use Rattle.path_algebra.specs.declared.name.AlgebraName.{AlgebraName}
 use Rattle.path_algebra.specs.declared.name.AlgebraName.TheVariants.{Own}
 use Rattle.answer_text.specs.AnswerFiles.{answer_rules}
 use Rattle.answer_text.specs.Told.{ToldList}

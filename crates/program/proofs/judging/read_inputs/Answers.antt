@@ -1,4 +1,4 @@
-use Rattle.std.proofs.Common.{rules, ◌≡◌, IfSome, Ok, Err, None, subst}
+use Rattle.std.proofs.Common.{◌≡◌, IfSome, Ok, Err, None, subst}
 use Rattle.std.proofs.Math.Path.{subst⁻¹}
 use Rattle.program.specs.Verdicts.{IsAnswersFault}
 use Rattle.road_text.specs.Rules.{text_read}

@@ -6,3 +6,6 @@ pub mod Labels
 pub mod Turns
 pub mod Opening
 pub mod Carrying
+pub mod Places
+pub mod Tallying
+pub mod Closed

@@ -14,7 +14,8 @@ use road_graph::{Graph, Memory, Vertex};
 use shard_part::{Part, Plan, Shard};
 use std::alloc::{AllocError, Global};
 
-fn push<T: Drop>(list: &mut Vec<T>, item: T) -> Result<(), AllocError>
+/// One more item at the end.
+pub(crate) fn push<T: Drop>(list: &mut Vec<T>, item: T) -> Result<(), AllocError>
     ensures { OnOk result (list.new.items ≡ list.old.items ++ (item ∷ [])) }
 {
     list.push(item)?;

@@ -1,5 +1,5 @@
 //! A part with its seat, which may be sent to another thread.
-ghost use Rattle.std.specs.Prelude.{◌≡◌, true, IsTrue, IfSome, ◌∷◌, [], ◌↔◌};
+ghost use Rattle.std.specs.Prelude.{◌≡◌, true, IsTrue, IfOk, IfErr, IfSome, ◌∷◌, [], ◌↔◌};
 ghost use Rattle.path_algebra.specs.Walks.{IsWalkValue};
 ghost use Rattle.shard_part.specs.PartState.{state_in};
 ghost use Rattle.shard_part.specs.Readings.{IsOwn};
@@ -8,6 +8,7 @@ ghost use Rattle.station.specs.Station.{BelongsTo, IsOver, HasEnded};
 ghost use Rattle.station.specs.Opened.{IsFreshPart, station_of};
 ghost use Rattle.station.specs.Turn.{Turned};
 
+use crate::gathering::Finished;
 use crate::turn::{Report, fill_all, look_for_end, read_all};
 use path_algebra::PathAlgebra;
 use post_floor::{Floor, Seat};
@@ -76,6 +77,23 @@ impl<'g, A: PathAlgebra> Station<'g, A> {
             published,
             ended: self.ended,
         }
+    }
+
+    /// What `gather` takes of a station whose last turn reported the end. Another comes back as it was.
+    pub fn finish(self) -> Result<Finished<'g, A>, Station<'g, A>>
+        ensures finished { IfOk result (λ f. HasEnded self.entry × (f ≡ self.entry)) }
+        ensures back { IfErr result (λ s. (HasEnded self.entry → ⊥) × (s ≡ self.entry)) }
+    {
+        if !self.ended {
+            return Err(self);
+        }
+        let Station {
+            part,
+            seat,
+            plan,
+            ended: _,
+        } = self;
+        Ok(Finished { part, seat, plan })
     }
 
     /// Whether its last turn reported the end.

@@ -1,11 +1,10 @@
 -- Sums over lists and over numbers, where one member changes.
-use Rattle.std.proofs.Common.{◌≡◌, ◌≢◌, ℕ, zero, suc, ◌+◌, ◌<◌, ◌≤◌, Bool, true, false, cond, eqb, List, [], ◌∷◌, ◌++◌, length, set, get_or, refl, sym, ap, ◌∙◌, subst, ◌⊎◌, inl, inr, arith, eq-eqb, ne_eqb}
+use Rattle.std.proofs.Common.{◌≡◌, ◌≢◌, ℕ, zero, suc, ◌+◌, ◌<◌, ◌≤◌, Bool, cond, eqb, List, [], ◌∷◌, set, refl, sym, ap, ◌∙◌, subst, inl, inr, arith, eq-eqb, ne_eqb}
 use Rattle.std.proofs.lemmas.Bool.{cases_eq}
-use mathlib.Core.Option.{Option, none, some, some-injective, some-ne-none}
+use mathlib.Core.Option.{some, some-injective, some-ne-none}
 use lib.ListN.{get_elem?}
-use Rattle.scholten_core.specs.Sums.{sum_below, one_if}
-use Rattle.shard_part.specs.PartState.{total, is, All}
-use Rattle.shard_part.proofs.Weights.{total_append}
+use Rattle.scholten_core.specs.Sums.{one_if}
+use Rattle.shard_part.specs.PartState.{total, is}
 use Rattle.post_floor.specs.Plays.{without}
 
 module _ {A : Type 0} where

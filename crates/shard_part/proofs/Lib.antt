@@ -35,3 +35,6 @@ pub mod Sites
 pub mod Fitting
 pub mod Opening
 pub mod OpenedAll
+pub mod Sharing
+pub mod Exact
+pub mod Arriving

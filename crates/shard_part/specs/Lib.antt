@@ -7,3 +7,5 @@ pub mod Part
 pub mod Readings
 pub mod Exchange
 pub mod Opening
+pub mod Arriving
+pub mod Exact

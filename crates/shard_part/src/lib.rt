@@ -6,6 +6,7 @@ mod desk;
 pub mod laws;
 mod part;
 mod plan;
+mod question;
 mod search;
 mod shard;
 mod site;
@@ -15,6 +16,8 @@ mod tally;
 pub use batch::Batch;
 pub use part::Part;
 pub use plan::{Plan, PlanFault};
+pub use question::Question;
+pub use scholten_core::Item;
 pub use shard::Shard;
 pub use tally::Tally;
 

@@ -5,7 +5,8 @@ ghost use Rattle.scholten_core.specs.Network.{network};
 ghost use Rattle.scholten_core.specs.declared.event.Event.{Event};
 ghost use Rattle.scholten_core.specs.Diffusion.{state_after};
 ghost use Rattle.scholten_core.specs.Deficit.{busy_out};
-ghost use Rattle.shard_part.specs.PartState.{network_in, place_in, state_in, queue_room, out_room, Holds};
+ghost use Rattle.shard_part.specs.PartState.{network_in, place_in, state_in, queue_room, out_room, Holds, IsSound};
+ghost use Rattle.shard_part.specs.Desk.{IsPlanned, IsTallied};
 ghost use Rattle.shard_part.specs.Opening.{opened_part};
 ghost use Rattle.shard_part.specs.Exchange.{Fits};
 ghost use Rattle.shard_part.specs.Readings.{IsOwn, has_ended, tally_in};
@@ -14,6 +15,7 @@ ghost use Rattle.shard_part.specs.Part.{TookFront, TookMany, IsRunOn};
 use crate::batch::Batch;
 use crate::desk::Desk;
 use crate::plan::Plan;
+use crate::question::Question;
 use crate::shard::Shard;
 use crate::tally::Tally;
 use path_algebra::{PathAlgebra, laws_hold};
@@ -120,6 +122,24 @@ impl<'g, A: PathAlgebra> Part<'g, A> {
         ensures { IsTrue result ↔ Fits (A.meaning self.now.setup.algebra) self.now batch.now.items }
     {
         self.desk.fits(batch)
+    }
+
+    /// Which shard it is.
+    pub fn shard(&self) -> Shard
+        ensures shard { result ≡ self.now.shard }
+        // What holds of every part, for callers that lean on it.
+        ensures planned { IsPlanned self.now.setup self.now.shard }
+        ensures sound { IsSound (network_in self.now.setup) (place_in self.now.setup) self.now }
+        ensures tallied { IsTallied self.now }
+    {
+        self.desk.shard()
+    }
+
+    /// The question that it is a part of.
+    pub fn question(&self) -> Question<A>
+        ensures { result ≡ self.now.setup }
+    {
+        self.desk.question()
     }
 
     /// Whether a shard is another one than this.

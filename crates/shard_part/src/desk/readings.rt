@@ -1,17 +1,42 @@
 //! What may be read of a desk.
 ghost use Rattle.std.specs.Prelude.{◌≡◌, ◌≢◌, ◌+◌, ◌<◌, suc, [], get_or, length, leb, IsTrue, ◌↔◌};
 ghost use Rattle.scholten_core.specs.Deficit.{busy_out};
-ghost use Rattle.shard_part.specs.PartState.{network_in, place_in, state_in, queue_room, out_room};
+ghost use Rattle.shard_part.specs.PartState.{network_in, place_in, state_in, queue_room, out_room, IsSound};
+ghost use Rattle.shard_part.specs.Desk.{IsPlanned, IsTallied};
 ghost use Rattle.shard_part.specs.Tallies.{top};
 ghost use Rattle.shard_part.specs.Readings.{IsOwn, has_ended, tally_in};
 
 use crate::desk::Desk;
+use crate::question::Question;
 use crate::shard::Shard;
 use crate::tally::Tally;
 use path_algebra::PathAlgebra;
 use road_graph::{ArcNo, Vertex};
+use std::snapshot::Snapshot;
 
 impl<'g, A: PathAlgebra> Desk<'g, A> {
+    /// Which shard it is.
+    pub fn shard(&self) -> Shard
+        ensures shard { result ≡ self.now.shard }
+        ensures planned { IsPlanned self.now.setup self.now.shard }
+        ensures sound { IsSound (network_in self.now.setup) (place_in self.now.setup) self.now }
+        ensures tallied { IsTallied self.now }
+    {
+        self.shard
+    }
+
+    /// The question that it is a part of.
+    pub fn question(&self) -> Question<A>
+        ensures { result ≡ self.now.setup }
+    {
+        Question {
+            algebra: self.algebra,
+            graph: Snapshot::of(self.graph),
+            plan: Snapshot::of(self.plan),
+            source: self.source,
+        }
+    }
+
     /// Whether a shard is another one than this.
     pub fn is_other(&self, to: Shard) -> bool
         ensures { IsTrue result ↔ (to ≢ self.now.shard) × (to < self.now.setup.plan.shards) }

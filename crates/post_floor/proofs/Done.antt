@@ -1,0 +1,144 @@
+-- The steps on the done word keep the rule of the floor.
+use Rattle.std.proofs.Common.{◌≡◌, ◌≢◌, ℕ, zero, suc, ◌+◌, ◌<◌, ◌≤◌, Bool, true, false, not, ◌&&◌, cond, eqb, List, [], ◌∷◌, ◌++◌, length, map, set, get_or, refl, sym, ap, ◌∙◌, subst, ◌⊎◌, inl, inr, arith, length-set, get_or-set_other, get_or-set_same, eqb-true}
+use Rattle.std.specs.Prelude as std
+use Rattle.std.proofs.lemmas.Bool.{cases_eq}
+use mathlib.Core.Option.{Option, none, some}
+use lib.ListN.{get_elem?}
+use Rattle.atomic_table.specs.Table.{State, Me, Step, step, Act, keeps, Allows, rest}
+use Rattle.atomic_table.proofs.Lists.{at_set}
+use Rattle.path_algebra.specs.Algebra.{Algebra}
+use Rattle.scholten_core.specs.declared.event.Event.{Event}
+use Rattle.scholten_core.specs.declared.item.Item.{Item}
+use Rattle.scholten_core.specs.declared.token.Token.{Token}
+use Rattle.scholten_core.specs.declared.token.Token.TheVariants.{Idle, Message, Held, Signal}
+use Rattle.scholten_core.specs.Network.{WellFormed}
+use Rattle.scholten_core.specs.Diffusion.{CoreState, HasEnded, IsQuiet, is_idle}
+use Rattle.scholten_core.proofs.Ended.{ended}
+use Rattle.shard_part.specs.PartState.{PartData, Setup, network_in, place_in, state_in, token_if, total, is, part_weight, event_of, TookAll, HoldsShare, Holds, Shows}
+use Rattle.shard_part.specs.Readings.{has_ended}
+use Rattle.shard_part.proofs.Weights.{sum_below_same}
+use Rattle.shard_part.proofs.Showing.{AllLawful}
+use Rattle.post_floor.specs.declared.view.View.{View}
+use Rattle.post_floor.specs.Boxes.{box_count, dest}
+use Rattle.post_floor.specs.Floor.{Slot, filling, reading, box, mail, BoxOk, core_of, Kept}
+use Rattle.post_floor.specs.Plays.{ShowsPart, Went, at_word, see, Follows, Known, Ended, looked, announced}
+use Rattle.post_floor.proofs.Totals.{total_set}
+use Rattle.shard_part.specs.Exact.{done_by}
+use Rattle.post_floor.proofs.Keeps.{gone, went, After, goes_on, idle_after}
+use Rattle.post_floor.proofs.Steps.{Tab, Seat, ended_more}
+use Rattle.post_floor.proofs.Exchanges.{unchanged}
+
+and_both : (a b : Bool) → a && b ≡ true → (a ≡ true) × (b ≡ true)
+and_both true b e = (refl, e)
+and_both false b e = absurd cc
+
+idle_is : {V : Type 0} (k : Token V) → is_idle k ≡ true → k ≡ Idle
+idle_is Idle e = refl
+idle_is (Message x) e = absurd cc
+idle_is Held e = absurd cc
+idle_is Signal e = absurd cc
+
+not_busy : (V : Type 0) (z : Bool) → not z ≡ true → is_idle (token_if {V = V} z) ≡ true
+not_busy V true e = absurd cc
+not_busy V false e = refl
+
+module _ {S V : Type 0} (meaning : S → Algebra V) (t : Setup S) where
+  -- the source's part knows whether the question has ended
+  pub over_is : WellFormed (network_in t) → (d : PartData S V) (c : CoreState V) → d.setup ≡ t → HoldsShare (meaning t.algebra) (network_in t) (place_in t) c d → has_ended d ≡ true → HasEnded c
+  over_is W d c e H o =
+      let q = and_both (eqb (place_in d.setup 0) d.shard) (not (get_or d.busy 0 false)) o in
+      let here : eqb (place_in t ((network_in t).tail 0)) d.shard ≡ true = ap (λ v. eqb (place_in t v) d.shard) W.tail_zero ∙ ap (λ (u : Setup S). eqb (place_in u 0) d.shard) (sym e) ∙ q.0 in
+      idle_is (c.token 0) (sym (H.tables.agree.idle 0 here) ∙ not_busy V (get_or d.busy 0 false) q.1)
+
+  ended_at : AllLawful meaning → WellFormed (network_in t) → (p : PartData S V) (events : List Event) → p.setup ≡ t → HoldsShare (meaning t.algebra) (network_in t) (place_in t) (core_of meaning t events) p → HasEnded (core_of meaning t events) → Ended meaning p
+  ended_at L W p events e H h =
+      let Q : IsQuiet (core_of meaning t events) = (ended (meaning t.algebra) (network_in t) (L t.algebra) W events h).0 in
+      let T = subst (λ (u : Setup S). HoldsShare (meaning u.algebra) (network_in u) (place_in u) (core_of meaning u events) p × HasEnded (core_of meaning u events) × IsQuiet (core_of meaning u events)) (sym e) (H, h, Q) in (events, T.0, T.1, T.2)
+
+  known_at : (p : PartData S V) (events : List Event) → p.setup ≡ t → HoldsShare (meaning t.algebra) (network_in t) (place_in t) (core_of meaning t events) p → Known meaning p
+  known_at p events e H = (events, subst (λ (u : Setup S). HoldsShare (meaning u.algebra) (network_in u) (place_in u) (core_of meaning u events) p) (sym e) H)
+
+  module _ (L : AllLawful meaning) (W : WellFormed (network_in t)) where
+    mail_done : (n : ℕ) (ws : List ℕ) (hs : List (Option (Slot V))) (n' : ℕ) (h : ℕ → Item V → ℕ) → mail n (set ws (box_count n) n') hs h ≡ mail n ws hs h
+    mail_done n ws hs n' h = sum_below_same (λ j. box (h (dest n j)) (get_or (set ws (box_count n) n') j 0) (get_elem? hs j)) (λ j. box (h (dest n j)) (get_or ws j 0) (get_elem? hs j)) (box_count n)
+        (λ j lt. ap (λ (z : ℕ). box (h (dest n j)) z (get_elem? hs j)) (get_or-set_other ws (box_count n) j n' 0 (λ e. omega (arith, e, lt))))
+
+    -- The done word goes to n', and the view of the seat id shows the part d.
+    pub record Note (s : Tab meaning t L W) (r : Kept meaning t s) (id n' : ℕ) (v u : View S V) (b d : PartData S V) (items : List (Item V)) : Type 0 where
+      pub at : get_elem? s.views id ≡ some v
+      pub one : ShowsPart v b
+      pub moves : TookAll meaning b items d
+      pub fills : u.fills ≡ v.fills
+      pub reads : u.reads ≡ v.reads
+      pub stays : get_or s.words (box_count t.plan.shards) 0 ≡ 1 → n' ≡ 1
+      pub ends : n' ≡ 1 → HoldsShare (meaning t.algebra) (network_in t) (place_in t) (core_of meaning t (r.events ++ map event_of items)) d → d.setup ≡ t → HasEnded (core_of meaning t (r.events ++ map event_of items))
+      pub seen : u.seen ≡ true → n' ≡ 1
+
+    pub notes : (s : Tab meaning t L W) (r : Kept meaning t s) (id n' : ℕ) (v u : View S V) (b d : PartData S V) (items : List (Item V)) (c : Note s r id n' v u b d items)
+        → Kept meaning t (record { words = set s.words (box_count t.plan.shards) n'; homes = s.homes; views = set s.views id (gone meaning t v u d (done_by meaning items b d c.moves)) }) × (n' ≡ 1 → Ended meaning d) × Known meaning d
+    notes s r id n' v u b d items c =
+        let n : ℕ = t.plan.shards in
+        let w : View S V = gone meaning t v u d (done_by meaning items b d c.moves) in
+        let G = goes_on meaning t L W s r id v u b d d items c.moves (mail n (set s.words (box_count n) n') s.homes) c.at c.one.parts (unchanged meaning t d)
+        (λ h. let m = mail_done n s.words s.homes n' h in omega (arith, m)) in
+        let word : get_or (set s.words (box_count n) n') (box_count n) 0 ≡ n' = get_or-set_same s.words (box_count n) n' 0 (let l = r.wide in omega (arith, l)) in
+        let over : n' ≡ 1 → HasEnded (core_of meaning t (r.events ++ map event_of items)) = λ e. c.ends e G.share G.setup in (
+          record {
+            events = r.events ++ map event_of items;
+            shown = G.shown;
+            whole = G.whole;
+            below = G.below;
+            idle = idle_after meaning t s.views id w d refl r.idle;
+            counts = G.counts;
+            boxes = λ j jl. let f : total (filling j) s.views ≡ total (filling j) (set s.views id w) = let a = total_set (filling j) s.views id v w c.at in let y : filling j w ≡ filling j v = ap (total (is j)) c.fills in omega (arith, a, y) in
+                let g : total (reading j) s.views ≡ total (reading j) (set s.views id w) = let a = total_set (reading j) s.views id v w c.at in let y : reading j w ≡ reading j v = ap (total (is j)) c.reads in omega (arith, a, y) in
+                let p : get_or s.words j 0 ≡ get_or (set s.words (box_count n) n') j 0 = sym (get_or-set_other s.words (box_count n) j n' 0 (λ e. omega (arith, e, jl))) in
+                subst (λ (z : ℕ × ℕ × ℕ). BoxOk t j z.0 (get_elem? s.homes j) z.1 z.2) (λ i. (p i, f i, g i)) (r.boxes j jl);
+            done = λ o. over (sym word ∙ o);
+            seen = λ i y a sn. word ∙ (elim (at_set s.views id i w y a) [ inl z ↦ c.seen (ap (λ (x : View S V). x.seen) z.1 ∙ sn) | inr z ↦ c.stays (r.seen i y z.1 sn) ]);
+            wide = length-set s.words (box_count n) n' ∙ r.wide;
+            roomy = r.roomy;
+          },
+          (λ e. ended_at L W d (r.events ++ map event_of items) G.setup G.share (over e)),
+          known_at d (r.events ++ map event_of items) G.setup G.share,
+        )
+
+    pub announces : (m id : ℕ) (me : Seat meaning t L W) (d : PartData S V) → Follows meaning me.0 d → has_ended d ≡ true
+        → Allows (Kept meaning t) m id me (box_count t.plan.shards) (λ _. 1) (λ _. announced meaning d (step m (box_count t.plan.shards) 1 0 none) me 1)
+    announces m id me d (b, items, sh, T) over s r roomy at small =
+        let p = notes s r id 1 me.0 (at_word (box_count t.plan.shards) 1 (see me.0)) b d items (record {
+          at = at;
+          one = sh;
+          moves = T;
+          fills = refl;
+          reads = refl;
+          stays = λ _. refl;
+          ends = λ _ H e. over_is W d (core_of meaning t (r.events ++ map event_of items)) e H over;
+          seen = λ _. refl;
+        }) in (gone meaning t me.0 (at_word (box_count t.plan.shards) 1 (see me.0)) d (done_by meaning items b d T), keeps, tt, p.0, (went meaning t me.0 (at_word (box_count t.plan.shards) 1 (see me.0)) b d d items T sh (unchanged meaning t d), p.1 refl, refl))
+
+    pub looks : (m id : ℕ) (me : Seat meaning t L W) (d : PartData S V) → Follows meaning me.0 d
+        → Allows (Kept meaning t) m id me (box_count t.plan.shards) (λ z. z) (looked meaning d (step m (box_count t.plan.shards) 0 0 none) me)
+    looks m id me d (b, items, sh, T) s r roomy at small = let y : ℕ = get_or s.words (box_count t.plan.shards) 0 in
+        elim (cases_eq y 1) [
+          | inl hit ↦ (let p = notes s r id y me.0 (at_word (box_count t.plan.shards) 1 (see me.0)) b d items (record {
+            at = at;
+            one = sh;
+            moves = T;
+            fills = refl;
+            reads = refl;
+            stays = λ e. e;
+            ends = λ e _ _. ended_more meaning t L W r.events (map event_of items) (r.done e);
+            seen = λ _. hit;
+          }) in (gone meaning t me.0 (at_word (box_count t.plan.shards) 1 (see me.0)) d (done_by meaning items b d T), keeps, tt, p.0, ((λ e. (went meaning t me.0 (at_word (box_count t.plan.shards) 1 (see me.0)) b d d items T sh (unchanged meaning t d), p.1 e)), (λ ne. absurd (ne hit)), refl)))
+          | inr miss ↦ (let p = notes s r id y me.0 (at_word (box_count t.plan.shards) y me.0) b d items (record {
+            at = at;
+            one = sh;
+            moves = T;
+            fills = refl;
+            reads = refl;
+            stays = λ e. e;
+            ends = λ e _ _. ended_more meaning t L W r.events (map event_of items) (r.done e);
+            seen = λ sn. r.seen id me.0 at sn;
+          }) in (gone meaning t me.0 (at_word (box_count t.plan.shards) y me.0) d (done_by meaning items b d T), keeps, tt, p.0, ((λ e. absurd (miss e)), (λ ne. (went meaning t me.0 (at_word (box_count t.plan.shards) y me.0) b d d items T sh (unchanged meaning t d), p.2)), refl)))
+        ]

@@ -1,0 +1,238 @@
+-- The kinds of steps, each as the table asks for it.
+use Rattle.std.proofs.Common.{◌≡◌, ◌≢◌, ℕ, zero, suc, ◌+◌, ◌*◌, ◌^◌, ◌<◌, ◌≤◌, Bool, true, false, cond, eqb, min, List, [], ◌∷◌, ◌++◌, length, map, set, get_or, refl, sym, ap, ◌∙◌, subst, ◌⊎◌, inl, inr, arith, length-set, get_or-set_other, get_or-set_same, eq-eqb, ne_eqb}
+use Rattle.std.specs.Prelude as std
+use Rattle.std.proofs.lemmas.Bool.{cases_eq}
+use mathlib.Core.Option.{Option, none, some, some-injective, some-ne-none}
+use lib.ListN.{get_elem?}
+use prog.Atomic.{either}
+use Rattle.atomic_table.specs.Table.{State, Me, Step, step, Act, keeps, takes, gives, Allows, Valid, stepped, rest, carried_after, homes_after, put_back}
+use Rattle.atomic_table.proofs.Lists.{at_set, set_here, set_else, exchanged}
+use Rattle.circular_buffer.specs.Buffer.{Buffer, buffer}
+use Rattle.path_algebra.specs.Algebra.{Algebra}
+use Rattle.scholten_core.specs.declared.event.Event.{Event}
+use Rattle.scholten_core.specs.declared.item.Item.{Item}
+use Rattle.scholten_core.specs.Network.{WellFormed}
+use Rattle.scholten_core.specs.Accounts.{Totals, totals_of}
+use Rattle.scholten_core.specs.Diffusion.{CoreState, HasEnded}
+use Rattle.scholten_core.specs.Sums.{sum_below}
+use Rattle.scholten_core.proofs.Kept.{Kept as CoreKept}
+use Rattle.shard_part.specs.PartState.{PartData, Setup, network_in, place_in, state_in, maker_of, total, is, All, part_weight, outs_weight, event_of, TookAll, HoldsShare, Holds, Shows}
+use Rattle.shard_part.proofs.Weights.{total_append, sum_below_same}
+use Rattle.shard_part.proofs.Routed.{outs_none}
+use Rattle.shard_part.proofs.Showing.{AllLawful}
+use Rattle.shard_part.specs.Arriving.{MadeAt, joined, MayReceive}
+use Rattle.post_floor.specs.declared.view.View.{View}
+use Rattle.post_floor.specs.Boxes.{box_count, dest, origin}
+use Rattle.post_floor.specs.Floor.{Slot, Place, flat, filling, reading, AddUp, load_place, box, mail, cap, emptied, BoxOk, core_of, Kept}
+use Rattle.post_floor.specs.Plays.{without, next_slot, ShowsPart, Went, at_word, Unclaimed, claim_fill, end_fill, claim_read, end_read, see, sent_off, HasEmpty, Follows, Known, Ended, filled, published, took, cleared, looked, announced, Publishing}
+use Rattle.post_floor.proofs.Totals.{total_set, total_at, is_same, is_else, is_one, without_same, without_else}
+use Rattle.shard_part.specs.Exact.{done_by}
+use Rattle.shard_part.proofs.TakenCounts.{took_same}
+use Rattle.shard_part.proofs.Arriving.{arrives}
+use Rattle.post_floor.proofs.Keeps.{gone, Relisted, went, kept_core}
+use Rattle.post_floor.proofs.Steps.{Tab, Seat, Change, changes}
+
+module _ {S V : Type 0} (meaning : S → Algebra V) (t : Setup S) where
+  pub unchanged : (d : PartData S V) → Relisted meaning t d d
+  unchanged d = record { setup = refl; shard = refl; tables = refl; outs = refl; sent = refl; delivered = refl; signalled = refl; accepted = refl }
+
+  -- a batch that came from another shard, for a part of this setup
+  arrived : (p : PartData S V) (c : CoreState V) (xs : List (Item V)) (j : ℕ) → AllLawful meaning → p.setup ≡ t → WellFormed (network_in t) → CoreKept (meaning t.algebra) (network_in t) 0 c → j ≢ p.shard → MadeAt t j xs →
+      HoldsShare (meaning t.algebra) (network_in t) (place_in t) c (joined p xs) → MayReceive meaning p xs
+  arrived p c xs j L e W K ne made H =
+      let T = subst (λ (u : Setup S). WellFormed (network_in u) × CoreKept (meaning u.algebra) (network_in u) 0 c × MadeAt u j xs × HoldsShare (meaning u.algebra) (network_in u) (place_in u) c (joined p xs)) (sym e) (W, K, made, H) in
+      arrives meaning p (L p.setup.algebra) T.0 c T.1 xs j ne T.2 T.3
+
+  module _ (L : AllLawful meaning) (W : WellFormed (network_in t)) where
+    abbrev Goes : Tab meaning t L W → ℕ → ℕ → Seat meaning t L W → (ℕ → Seat meaning t L W → Type 0) → ℕ → Type 0
+    Goes s k id me told n' = (w : View S V) × (a : Act (Slot V)) × Valid s.homes me.1 a × Kept meaning t (stepped s k n' id me.1 w a) × told (get_or s.words k 0) (w, carried_after me.1 a)
+
+    -- a step in which no word and no slot moves: the view alone goes on
+    stays : (s : Tab meaning t L W) (r : Kept meaning t s) (id k : ℕ) (me : Seat meaning t L W) (b d : PartData S V) (items : List (Item V)) (T : TookAll meaning b items d) → get_elem? s.views id ≡ some me.0 → ShowsPart me.0 b → k < box_count t.plan.shards
+        → Kept meaning t (record { words = set s.words k (get_or s.words k 0); homes = s.homes; views = set s.views id (gone meaning t me.0 (at_word k (get_or s.words k 0) me.0) d (done_by meaning items b d T)) })
+    stays s r id k me b d items T at sh lt = let ok = r.boxes k lt in (changes meaning t L W s r id k (get_or s.words k 0) s.homes me.0 (at_word k (get_or s.words k 0) me.0) b d d items (record {
+      at = at;
+      one = sh.parts;
+      moves = T;
+      lists = unchanged d;
+      below = lt;
+      long = r.roomy;
+      others = λ j ne. refl;
+      weighs = λ h. refl;
+      fills = λ j ne. refl;
+      reads = λ j ne. refl;
+      fill = refl;
+      read = refl;
+      low = ok.low;
+      empty = ok.empty_home;
+      full = ok.full_home;
+      seen = refl;
+    })).0
+
+    -- a mailbox that is neither being filled nor being read has no claim
+    unclaimed : (s : Tab meaning t L W) (r : Kept meaning t s) (id k : ℕ) (v : View S V) → get_elem? s.views id ≡ some v → k < box_count t.plan.shards → is 1 (get_or s.words k 0) ≡ 0 → is 3 (get_or s.words k 0) ≡ 0 → Unclaimed k v
+    unclaimed s r id k v at lt no_fill no_read = let ok = r.boxes k lt in (
+      (let p = total_at (filling k) s.views id v at in let z = ok.fills_is in omega (arith, p, z, no_fill)),
+      (let p = total_at (reading k) s.views id v at in let z = ok.reads_is in omega (arith, p, z, no_read)),
+    )
+
+    -- the part that the view shows is of the setup
+    setup_of : (s : Tab meaning t L W) (r : Kept meaning t s) (id : ℕ) (v : View S V) (b d : PartData S V) (items : List (Item V)) (T : TookAll meaning b items d) → get_elem? s.views id ≡ some v → ShowsPart v b → d.setup ≡ t
+    setup_of s r id v b d items T at sh =
+        let P = Rattle.post_floor.proofs.Parts.stands s.views id v b at sh.parts in
+        let same = subst (λ (l : List (PartData S V)). All (λ (p : PartData S V). p.setup ≡ t) l) P.now r.shown.same in
+        (took_same meaning items b d T).0 ∙ (Rattle.shard_part.proofs.Showing.all_parts (λ (p : PartData S V). p.setup ≡ t) P.before (b ∷ P.after) same).1.0
+
+    pub fills : (m id k : ℕ) (me : Seat meaning t L W) (d : PartData S V) → Follows meaning me.0 d → k < box_count t.plan.shards → Allows (Kept meaning t) m id me k (λ z. either (eqb z 0) 1 z) (filled meaning d (step m k 0 1 none) me)
+    fills m id k me d (b, items, sh, T) lt s r roomy at small =
+        let y : ℕ = get_or s.words k 0 in let ok = r.boxes k lt in let told = filled meaning d (step m k 0 1 none) me in
+        let e = setup_of s r id me.0 b d items T at sh in
+        exchanged y 0 1 (Goes s k id me told)
+        (λ hit. let homes' : List (Option (Slot V)) = set s.homes k none in let u : View S V = at_word k 0 (claim_fill k me.0) in (
+          gone meaning t me.0 u d (done_by meaning items b d T),
+          takes k (emptied t k),
+          ok.empty_home hit,
+          (changes meaning t L W s r id k 1 homes' me.0 u b d d items (record {
+            at = at;
+            one = sh.parts;
+            moves = T;
+            lists = unchanged d;
+            below = lt;
+            long = length-set s.homes k none ∙ r.roomy;
+            others = λ j ne. set_else s.homes k j none ne;
+            weighs = λ h. let p : box (h (dest t.plan.shards k)) y (get_elem? s.homes k) ≡ 0 = ap (λ (z : ℕ). box (h (dest t.plan.shards k)) z (get_elem? s.homes k)) hit in omega (arith, p);
+            fills = λ j ne. let p = is_else j k ne in omega (arith, p);
+            reads = λ j ne. refl;
+            fill = let p = is_same k in let q : is 1 y ≡ 0 = ap (is 1) hit in omega (arith, p, q);
+            read = let q : is 3 y ≡ 0 = ap (is 3) hit in omega (arith, q);
+            low = omega arith;
+            empty = λ z. absurd (omega (arith, z));
+            full = λ z. absurd (omega (arith, z));
+            seen = refl;
+          })).0,
+          ((λ z. (went meaning t me.0 u b d d items T sh (unchanged d), ap (λ (x : Setup S). (k, emptied x k) ∷ me.1) (sym e), unclaimed s r id k me.0 at lt (ap (is 1) hit) (ap (is 3) hit))), λ ne. absurd (ne hit)),
+        ))
+        (λ miss. (gone meaning t me.0 (at_word k y me.0) d (done_by meaning items b d T), keeps, tt, stays s r id k me b d items T at sh lt, ((λ z. absurd (miss z)), λ ne. (went meaning t me.0 (at_word k y me.0) b d d items T sh (unchanged d), refl))))
+
+    pub takes_batch : (m id k : ℕ) (me : Seat meaning t L W) (d : PartData S V) → Follows meaning me.0 d → k < box_count t.plan.shards → dest t.plan.shards k ≡ d.shard → origin t.plan.shards k ≢ d.shard →
+        Allows (Kept meaning t) m id me k (λ z. either (eqb z 2) 3 z) (took meaning d (step m k 2 3 none) me)
+    takes_batch m id k me d (b, items, sh, T) lt to from s r roomy at small =
+        let y : ℕ = get_or s.words k 0 in let ok = r.boxes k lt in let told = took meaning d (step m k 2 3 none) me in
+        let e = setup_of s r id me.0 b d items T at sh in
+        exchanged y 2 3 (Goes s k id me told)
+        (λ hit. let full = ok.full_home hit in let xs : List (Item V) = full.0 in let homes' : List (Option (Slot V)) = set s.homes k none in let u : View S V = at_word k 2 (claim_read k me.0) in
+        let q : PartData S V = joined d xs in
+        let lists : Relisted meaning t d q = record { setup = refl; shard = refl; tables = refl; outs = refl; sent = refl; delivered = refl; signalled = refl; accepted = refl } in
+        let C = changes meaning t L W s r id k 3 homes' me.0 u b d q items (record {
+          at = at;
+          one = sh.parts;
+          moves = T;
+          lists = lists;
+          below = lt;
+          long = length-set s.homes k none ∙ r.roomy;
+          others = λ j ne. set_else s.homes k j none ne;
+          weighs = λ h. let f : Item V → ℕ = h (dest t.plan.shards k) in let p : box f y (get_elem? s.homes k) ≡ total f xs = (λ i. box f (hit i) (full.1 i)) in let a = total_append (h d.shard) d.queue xs in
+              let z : total f xs ≡ total (h d.shard) xs = ap (λ (j : ℕ). total (h j) xs) to in omega (arith, p, a, z);
+          fills = λ j ne. refl;
+          reads = λ j ne. let p = is_else j k ne in omega (arith, p);
+          fill = let p : is 1 y ≡ 0 = ap (is 1) hit in omega (arith, p);
+          read = let p = is_same k in let z : is 3 y ≡ 0 = ap (is 3) hit in omega (arith, p, z);
+          low = omega arith;
+          empty = λ z. absurd (omega (arith, z));
+          full = λ z. absurd (omega (arith, z));
+          seen = refl;
+        }) in (
+          gone meaning t me.0 u q (done_by meaning items b d T),
+          takes k (std.Some (buffer xs (cap t k))),
+          full.1,
+          C.0,
+          (
+            (λ z. (
+              xs,
+              went meaning t me.0 u b d q items T sh lists,
+              ap (λ (x : Setup S). (k, std.Some (buffer xs (cap x k))) ∷ me.1) (sym e),
+              arrived d (core_of meaning t (r.events ++ map event_of items)) xs (origin t.plan.shards k) L e W (kept_core meaning t L W (r.events ++ map event_of items)) from full.2 C.1,
+              unclaimed s r id k me.0 at lt (ap (is 1) hit) (ap (is 3) hit),
+            )),
+            λ ne. absurd (ne hit),
+          ),
+        ))
+        (λ miss. (gone meaning t me.0 (at_word k y me.0) d (done_by meaning items b d T), keeps, tt, stays s r id k me b d items T at sh lt, ((λ z. absurd (miss z)), λ ne. (went meaning t me.0 (at_word k y me.0) b d d items T sh (unchanged d), refl))))
+
+    pub publishes : (m id k : ℕ) (me : Seat meaning t L W) (d : PartData S V) → Follows meaning me.0 d → k < box_count t.plan.shards →
+        me.1 ≡ (k, std.Some (buffer (get_or d.outs (dest t.plan.shards k) []) (cap t k))) ∷ rest me.1 → MadeAt t (origin t.plan.shards k) (get_or d.outs (dest t.plan.shards k) []) → 0 < filling k me.0 →
+        Allows (Kept meaning t) m id me k (λ _. 2) (λ _. published meaning (sent_off (dest t.plan.shards k) d) (step m k 2 0 none) me 2)
+    publishes m id k me d (b, items, sh, T) lt held made claim s r roomy at small =
+        let y : ℕ = get_or s.words k 0 in let ok = r.boxes k lt in
+        let e = setup_of s r id me.0 b d items T at sh in
+        let to : ℕ = dest t.plan.shards k in
+        let xs : List (Item V) = get_or d.outs to [] in
+        let q : PartData S V = sent_off to d in
+        let lists : Relisted meaning t d q = record { setup = refl; shard = refl; tables = refl; outs = length-set d.outs to []; sent = refl; delivered = refl; signalled = refl; accepted = refl } in
+        let homes' : List (Option (Slot V)) = put_back s.homes me.1 in
+        let homes_are : homes' ≡ set s.homes k (some (std.Some (buffer xs (cap t k)))) = ap (put_back s.homes) held in
+        let here : get_elem? homes' k ≡ some (some (std.Some (buffer xs (cap t k)))) = ap (λ (z : List (Option (Slot V))). get_elem? z k) homes_are ∙ set_here s.homes k (some (std.Some (buffer xs (cap t k)))) (let l = r.roomy in omega (arith, l, lt)) in
+        let was : 1 ≡ y = is_one 1 y (let p = total_at (filling k) s.views id me.0 at in let z = ok.fills_is in omega (arith, p, z, claim)) in
+        let u : View S V = at_word k 2 (end_fill to k me.0) in
+        let C = changes meaning t L W s r id k 2 homes' me.0 u b d q items (record {
+          at = at;
+          one = sh.parts;
+          moves = T;
+          lists = lists;
+          below = lt;
+          long = ap length homes_are ∙ length-set s.homes k (some (std.Some (buffer xs (cap t k)))) ∙ r.roomy;
+          others = λ j ne. ap (λ (z : List (Option (Slot V))). get_elem? z j) homes_are ∙ set_else s.homes k j (some (std.Some (buffer xs (cap t k)))) ne;
+          weighs = λ h. let f : Item V → ℕ = h to in let p : box f y (get_elem? s.homes k) ≡ 0 = ap (λ (z : ℕ). box f z (get_elem? s.homes k)) (sym was) in
+              let g : load_place f (get_elem? homes' k) ≡ total f xs = ap (load_place f) here in
+              let o = outs_none h 0 to d.outs in
+              let z : total (h (0 + to)) xs ≡ total (h to) xs = ap (λ (i : ℕ). total (h i) xs) (let w : 0 + to ≡ to = omega arith in w) in omega (arith, p, g, o, z);
+          fills = λ j ne. without_else j k me.0.fills ne;
+          reads = λ j ne. refl;
+          fill = let p = without_same k me.0.fills claim in let z : is 1 y ≡ 1 = ap (is 1) (sym was) in omega (arith, p, z);
+          read = let z : is 3 y ≡ 0 = ap (is 3) (sym was) in omega (arith, z);
+          low = omega arith;
+          empty = λ z. absurd (omega (arith, z));
+          full = λ z. (xs, here, made);
+          seen = refl;
+        }) in (
+          gone meaning t me.0 u q (done_by meaning items b d T),
+          gives,
+          tt,
+          C.0,
+          (subst (λ (x : Setup S). Went (at_word k 2 (end_fill (dest x.plan.shards k) k me.0)) q (gone meaning t me.0 u q (done_by meaning items b d T))) (sym e) (went meaning t me.0 u b d q items T sh lists), refl),
+        )
+
+    pub clears : (m id k : ℕ) (me : Seat meaning t L W) (d : PartData S V) → Follows meaning me.0 d → k < box_count t.plan.shards → HasEmpty t k me → 0 < reading k me.0 →
+        Allows (Kept meaning t) m id me k (λ _. 0) (λ _. cleared meaning d (step m k 0 0 none) me 0)
+    clears m id k me d (b, items, sh, T) lt held claim s r roomy at small =
+        let y : ℕ = get_or s.words k 0 in let ok = r.boxes k lt in
+        let e = setup_of s r id me.0 b d items T at sh in
+        let homes' : List (Option (Slot V)) = put_back s.homes me.1 in
+        let homes_are : homes' ≡ set s.homes k (some (emptied t k)) = ap (put_back s.homes) held in
+        let here : get_elem? homes' k ≡ some (some (emptied t k)) = ap (λ (z : List (Option (Slot V))). get_elem? z k) homes_are ∙ set_here s.homes k (some (emptied t k)) (let l = r.roomy in omega (arith, l, lt)) in
+        let was : 3 ≡ y = is_one 3 y (let p = total_at (reading k) s.views id me.0 at in let z = ok.reads_is in omega (arith, p, z, claim)) in
+        let u : View S V = at_word k 0 (end_read (origin t.plan.shards k) k me.0) in
+        let C = changes meaning t L W s r id k 0 homes' me.0 u b d d items (record {
+          at = at;
+          one = sh.parts;
+          moves = T;
+          lists = unchanged d;
+          below = lt;
+          long = ap length homes_are ∙ length-set s.homes k (some (emptied t k)) ∙ r.roomy;
+          others = λ j ne. ap (λ (z : List (Option (Slot V))). get_elem? z j) homes_are ∙ set_else s.homes k j (some (emptied t k)) ne;
+          weighs = λ h. let f : Item V → ℕ = h (dest t.plan.shards k) in let p : box f y (get_elem? s.homes k) ≡ 0 = ap (λ (z : ℕ). box f z (get_elem? s.homes k)) (sym was) in omega (arith, p);
+          fills = λ j ne. refl;
+          reads = λ j ne. without_else j k me.0.reads ne;
+          fill = let z : is 1 y ≡ 0 = ap (is 1) (sym was) in omega (arith, z);
+          read = let p = without_same k me.0.reads claim in let z : is 3 y ≡ 1 = ap (is 3) (sym was) in omega (arith, p, z);
+          low = omega arith;
+          empty = λ z. here;
+          full = λ z. absurd (omega (arith, z));
+          seen = refl;
+        }) in (
+          gone meaning t me.0 u d (done_by meaning items b d T),
+          gives,
+          tt,
+          C.0,
+          (subst (λ (x : Setup S). Went (at_word k 0 (end_read (origin x.plan.shards k) k me.0)) d (gone meaning t me.0 u d (done_by meaning items b d T))) (sym e) (went meaning t me.0 u b d d items T sh (unchanged d)), refl),
+        )

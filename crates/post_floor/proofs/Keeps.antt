@@ -1,0 +1,128 @@
+-- Each step keeps the rule of the floor.
+use Rattle.std.proofs.Common.{◌≡◌, ◌≢◌, ℕ, zero, suc, ◌+◌, ◌*◌, ◌^◌, ◌<◌, ◌≤◌, Bool, true, false, cond, eqb, min, List, [], ◌∷◌, ◌++◌, length, map, set, get_or, refl, sym, ap, ◌∙◌, subst, ◌⊎◌, inl, inr, arith, length-set, get_or-set_other, get_or-set_same, eq-eqb, ne_eqb}
+use Rattle.std.specs.Prelude as std
+use Rattle.std.proofs.lemmas.Bool.{cases_eq}
+use mathlib.Core.Option.{Option, none, some, some-injective, some-ne-none}
+use lib.ListN.{get_elem?}
+use prog.Atomic.{either}
+use Rattle.atomic_table.specs.Table.{State, Me, Step, step, Act, keeps, takes, gives, Allows, Valid, stepped, rest, carried_after, homes_after, put_back}
+use Rattle.atomic_table.proofs.Lists.{at_set, set_here, set_else, exchanged}
+use Rattle.circular_buffer.specs.Buffer.{Buffer, buffer}
+use Rattle.path_algebra.specs.Algebra.{Algebra}
+use Rattle.scholten_core.specs.declared.event.Event.{Event}
+use Rattle.scholten_core.specs.declared.item.Item.{Item}
+use Rattle.scholten_core.specs.declared.token.Token.TheVariants.{Idle}
+use Rattle.scholten_core.specs.Network.{WellFormed}
+use Rattle.scholten_core.specs.Accounts.{Totals, totals_of}
+use Rattle.scholten_core.specs.Diffusion.{CoreState, opening, state_after, run_from, HasEnded}
+use Rattle.scholten_core.specs.Shares.{Agree}
+use Rattle.scholten_core.specs.Sums.{sum_below}
+use Rattle.scholten_core.proofs.Kept.{Kept as CoreKept, run_kept}
+use Rattle.scholten_core.proofs.Ended.{opening_kept}
+use Rattle.shard_part.specs.Tallies.{top}
+use Rattle.shard_part.specs.PartState.{PartData, Setup, network_in, place_in, state_in, maker_of, total, is, All, mine, part_weight, event_of, TookAll, HoldsTables, HoldsShare, Holds, ShowsIn, Shows}
+use Rattle.shard_part.proofs.Weights.{total_append, sum_at, sum_below_same}
+use Rattle.shard_part.proofs.Routed.{outs_none}
+use Rattle.shard_part.proofs.Showing.{AllLawful, all_parts, all_append, shown_holds, swap_shown}
+use Rattle.shard_part.proofs.TakenCounts.{run_append, took_same}
+use Rattle.shard_part.specs.Arriving.{MadeAt, joined, MayReceive}
+use Rattle.post_floor.specs.declared.view.View.{View}
+use Rattle.post_floor.specs.Boxes.{box_count, dest, origin}
+use Rattle.post_floor.specs.Floor.{Slot, Place, flat, filling, reading, AddUp, CountsNone, load_place, box, mail, cap, emptied, BoxOk, core_of, Kept}
+use Rattle.post_floor.specs.Plays.{without, next_slot, ShowsPart, Went, claim_fill, end_fill, claim_read, end_read, see, sent_off, HasEmpty, Follows, Known, Ended, filled, published, took, cleared, looked, announced}
+use Rattle.post_floor.proofs.Totals.{total_set, total_at, set_set, set_at, is_same, is_else, is_one, without_same, without_else}
+use Rattle.post_floor.proofs.Parts.{Stands, stands}
+use Rattle.shard_part.specs.Exact.{plus, totals_from, done_by, Saturates}
+use Rattle.shard_part.proofs.Exact.{sent_more, delivered_more, signalled_more, accepted_more, saturates, moves}
+use Rattle.shard_part.proofs.Arriving.{arrives}
+
+module _ {S V : Type 0} (meaning : S → Algebra V) (t : Setup S) where
+  abbrev St : Type 0
+  St = State (Slot V) (View S V)
+
+  -- the view after a step: it is u, but shows e, has counted n more than v, and made a step more
+  abbrev pub gone : View S V → View S V → PartData S V → Totals → View S V
+  gone v u e n = record u { parts = e ∷ []; steps = suc u.steps; sent = v.sent + n.sent; delivered = v.delivered + n.delivered; signalled = v.signalled + n.signalled; accepted = v.accepted + n.accepted }
+
+  -- the lists of e differ from those of d, and nothing else
+  pub record Relisted (d e : PartData S V) : Type 0 where
+    pub setup : e.setup ≡ d.setup
+    pub shard : e.shard ≡ d.shard
+    pub tables : state_in e ≡ state_in d
+    pub outs : length e.outs ≡ length d.outs
+    pub sent : e.sent ≡ d.sent
+    pub delivered : e.delivered ≡ d.delivered
+    pub signalled : e.signalled ≡ d.signalled
+    pub accepted : e.accepted ≡ d.accepted
+
+  pub went : (v u : View S V) (b d e : PartData S V) (items : List (Item V)) (T : TookAll meaning b items d) → ShowsPart v b → Relisted d e → Went u e (gone v u e (done_by meaning items b d T))
+  went v u b d e items T s r =
+      let R = saturates meaning items b d T (record { sent = v.sent; delivered = v.delivered; signalled = v.signalled; accepted = v.accepted }) (record { sent = s.sent; delivered = s.delivered; signalled = s.signalled; accepted = s.accepted }) in record {
+        shows = record { parts = refl; sent = r.sent ∙ R.sent; delivered = r.delivered ∙ R.delivered; signalled = r.signalled ∙ R.signalled; accepted = r.accepted ∙ R.accepted };
+        fills = refl;
+        reads = refl;
+        next_fill = refl;
+        next_read = refl;
+        word = refl;
+        number = refl;
+        seen = refl;
+        steps = refl;
+      }
+
+  pub idle_after : (views : List (View S V)) (id : ℕ) (w : View S V) (e : PartData S V) → w.parts ≡ e ∷ [] → ((i : ℕ) (y : View S V) → get_elem? views i ≡ some y → y.parts ≡ [] → CountsNone y) →
+      (i : ℕ) (y : View S V) → get_elem? (set views id w) i ≡ some y → y.parts ≡ [] → CountsNone y
+  idle_after views id w e one old i y at none' = elim (at_set views id i w y at) [
+    | inl z ↦ absurd (let q : e ∷ [] ≡ [] = sym one ∙ ap (λ (v : View S V). v.parts) z.1 ∙ none' in cc)
+    | inr z ↦ old i y z.1 none'
+  ]
+
+  module _ (L : AllLawful meaning) (W : WellFormed (network_in t)) where
+    pub kept_core : (events : List Event) → CoreKept (meaning t.algebra) (network_in t) 0 (core_of meaning t events)
+    kept_core events = run_kept (meaning t.algebra) (network_in t) (L t.algebra) W (opening (meaning t.algebra) (network_in t)) events (opening_kept (meaning t.algebra) (network_in t) W)
+
+    -- what the parts and mailboxes show after one view went on by items of its part and then changed its lists
+    pub record After (s : St) (id : ℕ) (w : View S V) (e : PartData S V) (mail' : (ℕ → Item V → ℕ) → ℕ) (events : List Event) : Type 0 where
+      pub shown : Shows meaning t (flat (set s.views id w)) mail' (core_of meaning t events)
+      pub whole : (j : ℕ) → j < t.plan.shards → total (λ p. is j p.shard) (flat (set s.views id w)) ≡ 1
+      pub below : All (λ p. p.shard < t.plan.shards) (flat (set s.views id w))
+      pub counts : AddUp (set s.views id w) (totals_of (meaning t.algebra) (network_in t) events)
+      pub share : HoldsShare (meaning t.algebra) (network_in t) (place_in t) (core_of meaning t events) e
+      pub setup : e.setup ≡ t
+
+    pub goes_on : (s : St) (r : Kept meaning t s) (id : ℕ) (v u : View S V) (b d e : PartData S V) (items : List (Item V)) (T : TookAll meaning b items d) (mail' : (ℕ → Item V → ℕ) → ℕ) →
+        get_elem? s.views id ≡ some v → v.parts ≡ b ∷ [] → Relisted d e → ((h : ℕ → Item V → ℕ) → part_weight h e + mail' h ≡ part_weight h d + mail t.plan.shards s.words s.homes h) →
+        After s id (gone v u e (done_by meaning items b d T)) e mail' (r.events ++ map event_of items)
+    goes_on s r id v u b d e items T mail' at one R weighs =
+        let A = meaning t.algebra in let N = network_in t in
+        let n : Totals = done_by meaning items b d T in
+        let w : View S V = gone v u e n in
+        let m0 : (ℕ → Item V → ℕ) → ℕ = mail t.plan.shards s.words s.homes in
+        let c : CoreState V = core_of meaning t r.events in
+        let more : List Event = map event_of items in
+        let P = stands s.views id v b at one in
+        let H0 : Shows meaning t (P.before ++ b ∷ P.after) m0 c = subst (λ (l : List (PartData S V)). Shows meaning t l m0 c) P.now r.shown in
+        let all0 = all_parts (λ (p : PartData S V). p.setup ≡ t) P.before (b ∷ P.after) H0.same in
+        let M = moves meaning L t W items P.before P.after b d m0 c (kept_core r.events) all0.1.0 H0 T in
+        let k = took_same meaning items b d T in
+        let c' : CoreState V = run_from A N c more in
+        let is_c : c' ≡ core_of meaning t (r.events ++ more) = sym (run_append A N (opening A N) r.events more) in
+        let agree : Agree A N (mine (place_in t) d.shard) (state_in d) (state_in e) = subst (Agree A N (mine (place_in t) d.shard) (state_in d)) (sym R.tables) (record { label = λ v m. refl; engager = λ v m. refl; told = λ b m. refl; idle = λ b m. refl }) in
+        let sw : ShowsIn A N (place_in t) (P.before ++ e ∷ P.after) mail' c' = swap_shown A N (place_in t) P.before P.after d e m0 mail' c' M.shown.shown R.shard agree R.outs weighs in
+        let setup : e.setup ≡ t = R.setup ∙ k.0 ∙ all0.1.0 in
+        let sw' : Shows meaning t (P.before ++ e ∷ P.after) mail' c' = record { same = all_append (λ (p : PartData S V). p.setup ≡ t) P.before (e ∷ P.after) all0.0 (setup, all0.1.1); shown = sw } in
+        let views' : flat (set s.views id w) ≡ P.before ++ e ∷ P.after = P.then w e refl in record {
+          shown = subst (λ (d' : CoreState V). Shows meaning t (flat (set s.views id w)) mail' d') is_c (subst (λ (l : List (PartData S V)). Shows meaning t l mail' c') (sym views') sw');
+          whole = λ j lt. let f : PartData S V → ℕ = λ p. is j p.shard in
+              let o = r.whole j lt in let x = ap (total f) P.now in let y = ap (total f) views' in let x' = total_append f P.before (b ∷ P.after) in let y' = total_append f P.before (e ∷ P.after) in
+              let z : f e ≡ f b = ap (is j) (R.shard ∙ k.1) in omega (arith, o, x, y, x', y', z);
+          below = (let B = all_parts (λ (p : PartData S V). p.shard < t.plan.shards) P.before (b ∷ P.after) (subst (All (λ (p : PartData S V). p.shard < t.plan.shards)) P.now r.below) in
+              subst (All (λ (p : PartData S V). p.shard < t.plan.shards)) (sym views') (all_append (λ (p : PartData S V). p.shard < t.plan.shards) P.before (e ∷ P.after) B.0 (subst (λ z. z < t.plan.shards) (sym (R.shard ∙ k.1)) B.1.0, B.1.1)));
+          counts = record {
+            sent = (let a = total_set (λ (z : View S V). z.sent) s.views id v w at in let q = r.counts.sent in let m = sent_more A N (opening A N) r.events more in let z : n.sent ≡ (totals_from A N c more).sent = ap (λ (y : Totals). y.sent) M.did in omega (arith, a, q, m, z));
+            delivered = (let a = total_set (λ (z : View S V). z.delivered) s.views id v w at in let q = r.counts.delivered in let m = delivered_more A N (opening A N) r.events more in let z : n.delivered ≡ (totals_from A N c more).delivered = ap (λ (y : Totals). y.delivered) M.did in omega (arith, a, q, m, z));
+            signalled = (let a = total_set (λ (z : View S V). z.signalled) s.views id v w at in let q = r.counts.signalled in let m = signalled_more A N (opening A N) r.events more in let z : n.signalled ≡ (totals_from A N c more).signalled = ap (λ (y : Totals). y.signalled) M.did in omega (arith, a, q, m, z));
+            accepted = (let a = total_set (λ (z : View S V). z.accepted) s.views id v w at in let q = r.counts.accepted in let m = accepted_more A N (opening A N) r.events more in let z : n.accepted ≡ (totals_from A N c more).accepted = ap (λ (y : Totals). y.accepted) M.did in omega (arith, a, q, m, z));
+          };
+          share = subst (λ (d' : CoreState V). HoldsShare A N (place_in t) d' e) is_c (shown_holds A N (place_in t) P.before P.after e mail' c' sw);
+          setup = setup;
+        }

@@ -1,0 +1,15 @@
+pub mod Totals
+pub mod Parts
+pub mod Keeps
+pub mod Steps
+pub mod Exchanges
+pub mod Done
+pub mod Told
+pub mod Called
+pub mod Turning
+pub mod Claiming
+pub mod Seats
+pub mod Seated
+pub mod Opening
+pub mod Opened
+pub mod Closing

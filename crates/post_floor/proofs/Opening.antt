@@ -1,0 +1,83 @@
+-- The table as it is opened keeps the rule.
+use Rattle.std.proofs.Common.{◌≡◌, ◌≢◌, ℕ, zero, suc, ◌+◌, ◌<◌, ◌≤◌, Bool, true, false, List, [], ◌∷◌, ◌++◌, length, set, get_or, map, replicate, refl, sym, ap, ◌∙◌, subst, ◌⊎◌, inl, inr, arith, eq-eqb, ne_eqb, append-nil}
+use Rattle.std.proofs.lemmas.Bool.{cases_eq}
+use Rattle.std.proofs.lemmas.List.{length-replicate, length-map}
+use mathlib.Core.Option.{Option, none, some, some-injective, some-ne-none}
+use lib.ListN.{get_elem?}
+use Rattle.atomic_table.specs.Table.{State, opening}
+use Rattle.atomic_table.proofs.Lists.{at_map}
+use Rattle.path_algebra.specs.Algebra.{Algebra}
+use Rattle.scholten_core.specs.declared.item.Item.{Item}
+use Rattle.scholten_core.specs.Sums.{sum_below, one_if}
+use Rattle.shard_part.specs.PartState.{PartData, Setup, network_in, place_in, total, is, All, Shows}
+use Rattle.shard_part.specs.Desk.{IsPlanned}
+use Rattle.shard_part.specs.Opening.{opened_part, opened_parts}
+use Rattle.shard_part.proofs.Weights.{sum_zero, sum_below_same}
+use Rattle.shard_part.proofs.Opened.{place_below}
+use Rattle.shard_part.proofs.OpenedAll.{opened_show, opened_same}
+use Rattle.post_floor.specs.declared.view.View.{View}
+use Rattle.post_floor.specs.Boxes.{box_count, dest}
+use Rattle.post_floor.specs.Floor.{Slot, flat, filling, reading, CountsNone, box, mail, emptied, BoxOk, Kept}
+use Rattle.post_floor.specs.Seats.{knows}
+use Rattle.post_floor.proofs.Opened.{get_zero}
+
+only : {A : Type 0} (v : A) (id : ℕ) (u : A) → get_elem? (v ∷ []) id ≡ some u → v ≡ u
+only v zero u a = some-injective v u a
+only v (suc id) u a = absurd (some-ne-none u (sym a))
+
+module _ {S V : Type 0} (A : Algebra V) (t : Setup S) where
+  none_before : (j k n : ℕ) → j < k → total (λ (p : PartData S V). is j p.shard) (opened_parts A t k n) ≡ 0
+  none_before j k zero l = refl
+  none_before j k (suc n) l = let r = none_before j (suc k) n (omega (arith, l)) in let z = ap one_if (ne_eqb j k (λ e. omega (arith, e, l))) in omega (arith, r, z)
+
+  -- each shard has a part
+  pub one_each : (j k n : ℕ) → k ≤ j → j < k + n → total (λ (p : PartData S V). is j p.shard) (opened_parts A t k n) ≡ 1
+  one_each j k zero l m = absurd (omega (arith, l, m))
+  one_each j k (suc n) l m = elim (cases_eq j k) [
+    | inl e ↦ (let r = none_before j (suc k) n (omega (arith, e)) in let z = ap one_if (eq-eqb j k e) in omega (arith, r, z))
+    | inr ne ↦ (let r = one_each j (suc k) n (omega (arith, l, ne)) (omega (arith, m)) in let z = ap one_if (ne_eqb j k ne) in omega (arith, r, z))
+  ]
+
+  sent_are : (k n : ℕ) → total (λ (p : PartData S V). p.sent) (opened_parts A t k n) ≡ total (λ (p : PartData S V). is (place_in t 0) p.shard) (opened_parts A t k n)
+  sent_are k zero = refl
+  sent_are k (suc n) = let r = sent_are (suc k) n in omega (arith, r)
+
+  all_below : (m k n : ℕ) → k + n ≤ m → All (λ (p : PartData S V). p.shard < m) (opened_parts A t k n)
+  all_below m k zero l = tt
+  all_below m k (suc n) l = ((omega (arith, l)), all_below m (suc k) n (omega (arith, l)))
+
+module _ {S V : Type 0} (meaning : S → Algebra V) (t : Setup S) (P : IsPlanned t 0) where
+  pub opens : (ws : List ℕ) (xs : List (Slot V)) → ws ≡ replicate (box_count t.plan.shards + 1) 0 → length xs ≡ box_count t.plan.shards → ((k : ℕ) → k < box_count t.plan.shards → get_elem? xs k ≡ some (emptied t k))
+      → Kept meaning t (opening ws xs (knows t.plan.shards (opened_parts (meaning t.algebra) t 0 t.plan.shards)))
+  opens ws xs zeros wide empty =
+      let n : ℕ = t.plan.shards in
+      let ps : List (PartData S V) = opened_parts (meaning t.algebra) t 0 n in
+      let v : View S V = knows n ps in
+      let hs : List (Option (Slot V)) = map some xs in
+      let zero_at : (k : ℕ) → get_or ws k 0 ≡ 0 = λ k. ap (λ (z : List ℕ). get_or z k 0) zeros ∙ get_zero (box_count n + 1) k in
+      let none' : (h : ℕ → Item V → ℕ) → mail n ws hs h ≡ 0 = λ h. sum_below_same (λ k. box (h (dest n k)) (get_or ws k 0) (get_elem? hs k)) (λ _. 0) (box_count n) (λ k lt. ap (λ (z : ℕ). box (h (dest n k)) z (get_elem? hs k)) (zero_at k)) ∙ sum_zero (λ _. 0) (box_count n) (λ _. refl) in
+      let all : flat (v ∷ []) ≡ ps = append-nil ps in record {
+        events = [];
+        shown = subst (λ (l : List (PartData S V)). Shows meaning t l (mail n ws hs) (Rattle.post_floor.specs.Floor.core_of meaning t [])) (sym all)
+            (record { same = opened_same (meaning t.algebra) t P; shown = opened_show (meaning t.algebra) t P (mail n ws hs) none' });
+        whole = λ j lt. ap (total (λ (p : PartData S V). is j p.shard)) all ∙ one_each (meaning t.algebra) t j 0 n (omega arith) (omega (arith, lt));
+        below = subst (All (λ (p : PartData S V). p.shard < n)) (sym all) (all_below (meaning t.algebra) t n 0 n (omega arith));
+        idle = λ id u a none''. subst (λ (z : View S V). z.parts ≡ [] → CountsNone z) (only v id u a) (λ q. record { sent = ap (total (λ (p : PartData S V). p.sent)) q; delivered = refl; signalled = refl; accepted = refl }) none'';
+        counts = record {
+          sent = (let a = sent_are (meaning t.algebra) t 0 n in let b = one_each (meaning t.algebra) t (place_in t 0) 0 n (omega arith) (let l = place_below t 0 P 0 in omega (arith, l)) in omega (arith, a, b));
+          delivered = refl;
+          signalled = refl;
+          accepted = refl;
+        };
+        boxes = λ k lt. subst (λ (z : ℕ). BoxOk t k z (get_elem? hs k) 0 0) (sym (zero_at k)) (record {
+          low = omega arith;
+          fills_is = refl;
+          reads_is = refl;
+          empty_home = λ _. at_map (λ y. some y) xs k (emptied t k) (empty k lt);
+          full_home = λ e. absurd (omega (arith, e));
+        });
+        done = λ e. absurd (let z = zero_at (box_count n) in omega (arith, e, z));
+        seen = λ id u a sn. let f : false ≡ true = ap (λ (z : View S V). z.seen) (only v id u a) ∙ sn in absurd cc;
+        wide = ap length zeros ∙ length-replicate (box_count n + 1) 0;
+        roomy = length-map xs some ∙ wide;
+      }

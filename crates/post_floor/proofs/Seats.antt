@@ -1,0 +1,210 @@
+-- Seats that are cut off and joined keep the rule.
+use Rattle.std.proofs.Common.{◌≡◌, ◌≢◌, ℕ, zero, suc, ◌+◌, ◌<◌, ◌≤◌, Bool, true, false, ◌||◌, List, [], ◌∷◌, ◌++◌, length, set, get_or, refl, sym, ap, ◌∙◌, subst, ◌⊎◌, inl, inr, arith, map, length-append, append_assoc}
+use Rattle.std.proofs.lemmas.List.{map-append}
+use mathlib.Core.Option.{Option, none, some, some-injective, some-ne-none}
+use lib.ListN.{get_elem?}
+use Rattle.atomic_table.specs.Table.{State, Splits, Joins}
+use Rattle.atomic_table.proofs.Lists.{at_set, at_snoc}
+use Rattle.path_algebra.specs.Algebra.{Algebra}
+use Rattle.scholten_core.specs.declared.item.Item.{Item}
+use Rattle.scholten_core.specs.Accounts.{totals_of}
+use Rattle.shard_part.specs.PartState.{PartData, Setup, network_in, place_in, total, is, All, part_weight, HoldsTables, Shows}
+use Rattle.shard_part.proofs.Weights.{total_append}
+use Rattle.shard_part.proofs.Showing.{all_append}
+use Rattle.post_floor.specs.declared.view.View.{View}
+use Rattle.post_floor.specs.Boxes.{box_count}
+use Rattle.post_floor.specs.Floor.{Slot, flat, filling, reading, AddUp, CountsNone, BoxOk, core_of, Kept}
+use Rattle.post_floor.specs.Seats.{tail, first_of, with_parts, cut_left, cut_right, aside_left, aside_right, both, spent, AreJoined}
+use Rattle.post_floor.proofs.Totals.{total_set}
+use Rattle.post_floor.proofs.Parts.{flat_total, flat_each, flat_at}
+
+pub total_snoc : {A : Type 0} (f : A → ℕ) (xs : List A) (y : A) → total f (xs ++ y ∷ []) ≡ total f xs + f y
+total_snoc f xs y = let p = total_append f xs (y ∷ []) in omega (arith, p)
+
+total_cut : {A : Type 0} (f : A → ℕ) (xs : List A) → total f (tail xs) + total f (first_of xs) ≡ total f xs
+total_cut f [] = refl
+total_cut f (x ∷ xs) = omega arith
+
+all_tail : {A : Type 0} (P : A → Type 0) (xs : List A) → All P xs → All P (tail xs)
+all_tail P [] p = tt
+all_tail P (x ∷ xs) p = p.1
+
+all_first : {A : Type 0} (P : A → Type 0) (xs : List A) → All P xs → All P (first_of xs)
+all_first P [] p = tt
+all_first P (x ∷ xs) p = (p.0, tt)
+
+none_left : {A : Type 0} (xs ys : List A) → xs ++ ys ≡ [] → xs ≡ []
+none_left [] ys e = refl
+none_left (x ∷ xs) ys e = absurd cc
+
+none_right : {A : Type 0} (xs ys : List A) → xs ++ ys ≡ [] → ys ≡ []
+none_right [] ys e = e
+none_right (x ∷ xs) ys e = absurd cc
+
+either_true : (a b : Bool) (Q : Type 0) → (a ≡ true → Q) → (b ≡ true → Q) → a || b ≡ true → Q
+either_true true b Q f g e = f refl
+either_true false b Q f g e = g e
+
+module _ {S V : Type 0} (meaning : S → Algebra V) (t : Setup S) where
+  abbrev St : Type 0
+  St = State (Slot V) (View S V)
+
+  -- the same parts, claims, counts and knowledge, in other seats
+  pub record Reseats (s : St) (views' : List (View S V)) : Type 1 where
+    pub all : (Q : PartData S V → Type 0) → All Q (flat s.views) → All Q (flat views')
+    pub parts : (f : PartData S V → ℕ) → total (λ (v : View S V). total f v.parts) views' ≡ total (λ (v : View S V). total f v.parts) s.views
+    pub fills : (j : ℕ) → total (filling j) views' ≡ total (filling j) s.views
+    pub reads : (j : ℕ) → total (reading j) views' ≡ total (reading j) s.views
+    pub sent : total (λ (v : View S V). v.sent) views' ≡ total (λ (v : View S V). v.sent) s.views
+    pub delivered : total (λ (v : View S V). v.delivered) views' ≡ total (λ (v : View S V). v.delivered) s.views
+    pub signalled : total (λ (v : View S V). v.signalled) views' ≡ total (λ (v : View S V). v.signalled) s.views
+    pub accepted : total (λ (v : View S V). v.accepted) views' ≡ total (λ (v : View S V). v.accepted) s.views
+    pub idle : ((id : ℕ) (v : View S V) → get_elem? s.views id ≡ some v → v.parts ≡ [] → CountsNone v) → (id : ℕ) (v : View S V) → get_elem? views' id ≡ some v → v.parts ≡ [] → CountsNone v
+    pub seen : (D : Type 0) → ((id : ℕ) (v : View S V) → get_elem? s.views id ≡ some v → v.seen ≡ true → D) → (id : ℕ) (v : View S V) → get_elem? views' id ≡ some v → v.seen ≡ true → D
+
+  reseated : (s : St) (r : Kept meaning t s) (views' : List (View S V)) → Reseats s views' → Kept meaning t (record { words = s.words; homes = s.homes; views = views' })
+  reseated s r views' c =
+      let flat_same : (f : PartData S V → ℕ) → total f (flat views') ≡ total f (flat s.views) = λ f. flat_total f views' ∙ c.parts f ∙ sym (flat_total f s.views) in record {
+        events = r.events;
+        shown = record {
+          same = c.all (λ (p : PartData S V). p.setup ≡ t) r.shown.same;
+          shown = record {
+            tables = c.all (HoldsTables (meaning t.algebra) (network_in t) (place_in t) (core_of meaning t r.events)) r.shown.shown.tables;
+            weighs = λ h. let w = r.shown.shown.weighs h in let q = flat_same (part_weight h) in omega (arith, w, q);
+            apart = λ j. let w = r.shown.shown.apart j in let q = flat_same (λ (p : PartData S V). is j p.shard) in omega (arith, w, q);
+          };
+        };
+        whole = λ j lt. flat_same (λ (p : PartData S V). is j p.shard) ∙ r.whole j lt;
+        below = c.all (λ (p : PartData S V). p.shard < t.plan.shards) r.below;
+        idle = c.idle r.idle;
+        counts = record { sent = c.sent ∙ r.counts.sent; delivered = c.delivered ∙ r.counts.delivered; signalled = c.signalled ∙ r.counts.signalled; accepted = c.accepted ∙ r.counts.accepted };
+        boxes = λ j jl. subst (λ (z : ℕ × ℕ). BoxOk t j (get_or s.words j 0) (get_elem? s.homes j) z.0 z.1) (λ i. (sym (c.fills j) i, sym (c.reads j) i)) (r.boxes j jl);
+        done = r.done;
+        seen = c.seen (get_or s.words (box_count t.plan.shards) 0 ≡ 1) r.seen;
+        wide = r.wide;
+        roomy = r.roomy;
+      }
+
+  -- a view v is cut into l and w
+  pub record Cuts (v l w : View S V) : Type 1 where
+    pub all : (Q : PartData S V → Type 0) → All Q v.parts → All Q l.parts × All Q w.parts
+    pub parts : (f : PartData S V → ℕ) → total f l.parts + total f w.parts ≡ total f v.parts
+    pub fills : (j : ℕ) → filling j l + filling j w ≡ filling j v
+    pub reads : (j : ℕ) → reading j l + reading j w ≡ reading j v
+    pub sent : l.sent + w.sent ≡ v.sent
+    pub delivered : l.delivered + w.delivered ≡ v.delivered
+    pub signalled : l.signalled + w.signalled ≡ v.signalled
+    pub accepted : l.accepted + w.accepted ≡ v.accepted
+    pub idle : (v.parts ≡ [] → CountsNone v) → (l.parts ≡ [] → CountsNone l) × (w.parts ≡ [] → CountsNone w)
+    pub seen_left : l.seen ≡ v.seen
+    pub seen_right : w.seen ≡ v.seen
+
+  pub splits_as : (id : ℕ) (v l w : View S V) → Cuts v l w → Splits (Kept meaning t) id v l w
+  splits_as id v l w c s r at =
+      let views' : List (View S V) = set s.views id l ++ w ∷ [] in
+      let sums : (f : View S V → ℕ) → f l + f w ≡ f v → total f views' ≡ total f s.views = λ f e. let p = total_snoc f (set s.views id l) w in let q = total_set f s.views id v l at in omega (arith, p, q, e) in
+      let where' : (Q : View S V → Type 0) → ((i : ℕ) (u : View S V) → get_elem? s.views i ≡ some u → Q u) → Q l → Q w → (i : ℕ) (u : View S V) → get_elem? views' i ≡ some u → Q u = λ Q old ql qw i u e.
+      elim (at_snoc (set s.views id l) w u i e) [
+        | inl e' ↦ elim (at_set s.views id i l u e') [ inl z ↦ subst Q z.1 ql | inr z ↦ old i u z.1 ]
+        | inr z ↦ subst Q z qw
+      ] in
+      reseated s r views' (record {
+        all = λ Q a. let cut = c.all Q (flat_at Q s.views id v a at) in flat_each Q views' (where' (λ (u : View S V). All Q u.parts) (λ i u e. flat_at Q s.views i u a e) cut.0 cut.1);
+        parts = λ f. sums (λ (u : View S V). total f u.parts) (c.parts f);
+        fills = λ j. sums (filling j) (c.fills j);
+        reads = λ j. sums (reading j) (c.reads j);
+        sent = sums (λ (u : View S V). u.sent) c.sent;
+        delivered = sums (λ (u : View S V). u.delivered) c.delivered;
+        signalled = sums (λ (u : View S V). u.signalled) c.signalled;
+        accepted = sums (λ (u : View S V). u.accepted) c.accepted;
+        idle = λ old. let cut = c.idle (old id v at) in where' (λ (u : View S V). u.parts ≡ [] → CountsNone u) old cut.0 cut.1;
+        seen = λ D old. where' (λ (u : View S V). u.seen ≡ true → D) old (λ e. old id v at (sym c.seen_left ∙ e)) (λ e. old id v at (sym c.seen_right ∙ e));
+      })
+
+  pub splits : (id : ℕ) (v : View S V) → v.sent ≡ total (λ p. p.sent) v.parts → v.fills ≡ [] → v.reads ≡ [] → v.delivered ≡ 0 → v.signalled ≡ 0 → v.accepted ≡ 0 → Splits (Kept meaning t) id v (cut_left v) (cut_right v)
+  splits id v sent fills reads none1 none2 none3 = splits_as id v (cut_left v) (cut_right v) (record {
+    all = λ Q a. (all_tail Q v.parts a, all_first Q v.parts a);
+    parts = λ f. total_cut f v.parts;
+    fills = λ j. let z : filling j v ≡ 0 = ap (total (is j)) fills in omega (arith, z);
+    reads = λ j. let z : reading j v ≡ 0 = ap (total (is j)) reads in omega (arith, z);
+    sent = total_cut (λ (p : PartData S V). p.sent) v.parts ∙ sym sent;
+    delivered = omega (arith, none1);
+    signalled = omega (arith, none2);
+    accepted = omega (arith, none3);
+    idle = λ _. (
+      λ e. record { sent = ap (total (λ (p : PartData S V). p.sent)) e; delivered = none1; signalled = none2; accepted = none3 },
+      λ e. record { sent = ap (total (λ (p : PartData S V). p.sent)) e; delivered = none1; signalled = none2; accepted = none3 },
+    );
+    seen_left = refl;
+    seen_right = refl;
+  })
+
+  pub splits_aside : (id : ℕ) (v : View S V) → Splits (Kept meaning t) id v (aside_left v) (aside_right v)
+  splits_aside id v = splits_as id v (aside_left v) (aside_right v) (record {
+    all = λ Q a. (tt, a);
+    parts = λ f. omega arith;
+    fills = λ j. omega arith;
+    reads = λ j. omega arith;
+    sent = omega arith;
+    delivered = omega arith;
+    signalled = omega arith;
+    accepted = omega arith;
+    idle = λ old. ((λ e. record { sent = refl; delivered = refl; signalled = refl; accepted = refl }), λ e. let q = old e in record { sent = q.sent; delivered = q.delivered; signalled = q.signalled; accepted = q.accepted });
+    seen_left = refl;
+    seen_right = refl;
+  })
+
+  pub joins : (id : ℕ) (v : View S V) (other : ℕ) (w : View S V) → Joins (Kept meaning t) id v other w (both v w) spent
+  joins id v other w s r at ne at' =
+      let b : View S V = both v w in let e : View S V = spent in let views1 : List (View S V) = set s.views id b in let views' : List (View S V) = set views1 other e in
+      let was : get_elem? s.views other ≡ some w = elim (at_set s.views id other b w at') [ inl z ↦ absurd (ne z.0) | inr z ↦ z.1 ] in
+      let sums : (f : View S V → ℕ) → f b ≡ f v + f w → f e ≡ 0 → total f views' ≡ total f s.views = λ f p q. let y = total_set f s.views id v b at in let z = total_set f views1 other w e at' in omega (arith, y, z, p, q) in
+      let where' : (Q : View S V → Type 0) → ((i : ℕ) (u : View S V) → get_elem? s.views i ≡ some u → Q u) → Q b → Q e → (i : ℕ) (u : View S V) → get_elem? views' i ≡ some u → Q u = λ Q old qb qe i u a.
+      elim (at_set views1 other i e u a) [
+        | inl z ↦ subst Q z.1 qe
+        | inr z ↦ elim (at_set s.views id i b u z.1) [ inl y ↦ subst Q y.1 qb | inr y ↦ old i u y.1 ]
+      ] in
+      reseated s r views' (record {
+        all = λ Q a. flat_each Q views' (where' (λ (u : View S V). All Q u.parts) (λ i u e'. flat_at Q s.views i u a e') (all_append Q v.parts w.parts (flat_at Q s.views id v a at) (flat_at Q s.views other w a was)) tt);
+        parts = λ f. sums (λ (u : View S V). total f u.parts) (total_append f v.parts w.parts) refl;
+        fills = λ j. sums (filling j) (total_append (is j) v.fills w.fills) refl;
+        reads = λ j. sums (reading j) (total_append (is j) v.reads w.reads) refl;
+        sent = sums (λ (u : View S V). u.sent) refl refl;
+        delivered = sums (λ (u : View S V). u.delivered) refl refl;
+        signalled = sums (λ (u : View S V). u.signalled) refl refl;
+        accepted = sums (λ (u : View S V). u.accepted) refl refl;
+        idle = λ old. where' (λ (u : View S V). u.parts ≡ [] → CountsNone u) old
+            (λ q. let x = old id v at (none_left v.parts w.parts q) in let y = old other w was (none_right v.parts w.parts q) in record {
+              sent = (let a = x.sent in let c' = y.sent in omega (arith, a, c'));
+              delivered = (let a = x.delivered in let c' = y.delivered in omega (arith, a, c'));
+              signalled = (let a = x.signalled in let c' = y.signalled in omega (arith, a, c'));
+              accepted = (let a = x.accepted in let c' = y.accepted in omega (arith, a, c'));
+            })
+            (λ q. record { sent = refl; delivered = refl; signalled = refl; accepted = refl });
+        seen = λ D old. where' (λ (u : View S V). u.seen ≡ true → D) old (either_true v.seen w.seen D (old id v at) (old other w was)) (λ z. absurd cc);
+      })
+
+-- the last of a list leaves
+pub all_front : {A : Type 0} (P : A → Type 0) (xs ys : List A) (x : A) → ys ≡ xs ++ x ∷ [] → All P ys → All P xs × P x
+all_front P [] ys x e p = (tt, (subst (All P) e p).0)
+all_front P (y ∷ xs) ys x e p = let q = subst (All P) e p in let r = all_front P xs (xs ++ x ∷ []) x refl q.1 in ((q.0, r.0), r.1)
+
+module _ {S V X : Type 0} (view : X → View S V) where
+  none_joined : (v : View S V) → AreJoined view v v []
+  none_joined v = record { parts = λ f. omega arith; sent = omega arith; delivered = omega arith; signalled = omega arith; accepted = omega arith }
+
+  -- one seat more: w has been joined to v before, and then the last seat's view
+  pub join_one : (v a b : View S V) (before xs ys : List X) (x : X) → ys ≡ xs ++ x ∷ [] → b ≡ both a (aside_right (view x)) →
+      ((w : View S V) → AreJoined view w a ys → AreJoined view w v before) → (w : View S V) → AreJoined view w b xs → AreJoined view w v before
+  join_one v a b before xs ys x e j old w J =
+      let S' : (f : X → ℕ) → total f ys ≡ total f xs + f x = λ f. ap (total f) e ∙ total_snoc f xs x in old w (record {
+        parts = λ f. (let p = J.parts f in let q = S' (λ s. total f (view s).parts) in let r = ap (λ (z : View S V). total f z.parts) j in let t = total_append f a.parts (view x).parts in omega (arith, p, q, r, t));
+        sent = (let p = J.sent in let q = S' (λ s. (view s).sent) in let r = ap (λ (z : View S V). z.sent) j in omega (arith, p, q, r));
+        delivered = (let p = J.delivered in let q = S' (λ s. (view s).delivered) in let r = ap (λ (z : View S V). z.delivered) j in omega (arith, p, q, r));
+        signalled = (let p = J.signalled in let q = S' (λ s. (view s).signalled) in let r = ap (λ (z : View S V). z.signalled) j in omega (arith, p, q, r));
+        accepted = (let p = J.accepted in let q = S' (λ s. (view s).accepted) in let r = ap (λ (z : View S V). z.accepted) j in omega (arith, p, q, r));
+      })
+
+  pub joined_end : (w v : View S V) (before xs : List X) → length xs ≡ 0 → ((u : View S V) → AreJoined view u w xs → AreJoined view u v before) → AreJoined view w v before
+  joined_end w v before [] l old = old w (none_joined w)
+  joined_end w v before (x ∷ xs) l old = absurd (omega (arith, l))

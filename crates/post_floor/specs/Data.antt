@@ -1,0 +1,86 @@
+-- What callers see of a floor and of a seat.
+use Rattle.std.specs.Prelude.{◌≡◌, ◌⊎◌, ℕ, ◌+◌, ◌*◌, ◌<◌, ◌≤◌, Bool, false, cond, eqb, suc, List, [], ◌∷◌, ◌++◌, length, get_or, map}
+use Rattle.atomic_table.specs.Seated.{TableId}
+use Rattle.path_algebra.specs.Algebra.{Algebra}
+use Rattle.shard_part.specs.PartState.{Setup, PartData, total, is, All}
+use Rattle.shard_part.specs.Desk.{IsPlanned}
+use Rattle.post_floor.specs.declared.view.View.{View}
+use Rattle.post_floor.specs.Boxes.{box_count, mailbox, dest, origin}
+use Rattle.post_floor.specs.Floor.{Slot, emptied, filling, reading}
+use Rattle.post_floor.specs.Plays.{Follows}
+use Rattle.post_floor.specs.Seats.{knows}
+use Rattle.shard_part.specs.Plans.{PlanData}
+use Rattle.shard_part.specs.Opening.{opened_parts}
+
+-- a floor: which it is, and the question that its parts share
+pub record FloorData (S : Type 0) : Type 0 where
+  pub id : TableId
+  pub question : Setup S
+
+-- a seat: which floor it is at, the shard of its part, and what it knows
+pub record SeatData (S V : Type 0) : Type 0 where
+  pub floor : TableId
+  pub shard : ℕ
+  pub knows : View S V
+
+-- the table has four words and four slots for each ordered pair of the question's shards, and the done word
+pub record IsSized {S : Type 0} (id : TableId) (t : Setup S) : Type 0 where
+  pub words : id.words ≡ box_count t.plan.shards + 1
+  pub slots : id.slots ≡ box_count t.plan.shards
+  pub planned : IsPlanned t 0
+
+-- a next slot for each of n shards
+pub record AreSlots (n : ℕ) (next : List ℕ) : Type 0 where
+  pub long : length next ≡ n
+  pub low : (j : ℕ) → get_or next j 0 < 4
+
+-- one end of the mailbox is at the shard s
+abbrev pub HasEnd : ℕ → ℕ → ℕ → Type 0
+HasEnd n s k = (k < box_count n) × ((origin n k ≡ s) ⊎ (dest n k ≡ s))
+
+-- the slots that a seat has out: those of the mailboxes that it fills or reads, in the order of its claims, each empty, none twice
+pub record AreOpen {S V : Type 0} (t : Setup S) (s : ℕ) (v : View S V) (slots : List (ℕ × Slot V)) (claims : List ℕ) : Type 0 where
+  pub keys : map (λ x. x.0) slots ≡ claims
+  pub empty : All (λ x. x.1 ≡ emptied t x.0) slots
+  pub open_now : (k : ℕ) → total (is k) claims ≡ filling k v + reading k v
+  pub once : (k : ℕ) → total (is k) claims ≤ 1
+  pub own : All (HasEnd t.plan.shards s) claims
+
+-- a seat has one part, of its shard; its arrays of next slots are the view's, and its ring of claims has room for all mailboxes with an end at the shard
+pub record IsSeat {S V : Type 0} (d : SeatData S V) (slots : List (ℕ × Slot V)) (claims : List ℕ) (room : ℕ) (next_fill next_read : List ℕ) : Type 0 where
+  pub part : PartData S V
+  pub parts : d.knows.parts ≡ part ∷ []
+  pub shard : part.shard ≡ d.shard
+  pub below : d.shard < part.setup.plan.shards
+  pub fill : d.knows.next_fill ≡ next_fill
+  pub read : d.knows.next_read ≡ next_read
+  pub fill_slots : AreSlots part.setup.plan.shards next_fill
+  pub read_slots : AreSlots part.setup.plan.shards next_read
+  pub claims_open : AreOpen part.setup d.shard d.knows slots claims
+  pub roomy : room ≡ 8 * part.setup.plan.shards
+
+-- the mailbox from the seat's shard to another that it fills next
+abbrev pub fill_box : {S V : Type 0} → FloorData S → SeatData S V → ℕ → ℕ
+fill_box f d to = mailbox f.question.plan.shards d.shard to (get_or d.knows.next_fill to 0)
+
+-- the mailbox from another shard to the seat's that it reads next
+abbrev pub read_box : {S V : Type 0} → FloorData S → SeatData S V → ℕ → ℕ
+read_box f d from = mailbox f.question.plan.shards from d.shard (get_or d.knows.next_read from 0)
+
+-- the seat is one of the floor's, the part is of its question, and since the seat's last step the part moved on by items of its own alone
+pub record IsAt {S V : Type 0} (meaning : S → Algebra V) (f : FloorData S) (d : SeatData S V) (p : PartData S V) : Type 0 where
+  pub floor : d.floor ≡ f.id
+  pub setup : p.setup ≡ f.question
+  pub moved : Follows meaning d.knows p
+
+-- it is the same seat
+abbrev pub IsSameSeat : {S V : Type 0} → SeatData S V → SeatData S V → Type 0
+IsSameSeat d e = (e.floor ≡ d.floor) × (e.shard ≡ d.shard)
+
+-- the seat of a part as it is opened, at a floor of n shards
+abbrev pub seat_of : {S V : Type 0} → TableId → ℕ → PartData S V → SeatData S V
+seat_of id n p = record { floor = id; shard = p.shard; knows = knows n (p ∷ []) }
+
+-- the parts are those of all shards of the plan, in order, as they are opened for one question from the source
+abbrev pub IsFresh : {S V : Type 0} → (S → Algebra V) → PlanData → ℕ → List (PartData S V) → Type 0
+IsFresh {S} meaning plan source parts = (t : Setup S) × (parts ≡ opened_parts (meaning t.algebra) t 0 t.plan.shards) × (t.plan ≡ plan) × (t.source ≡ source)

@@ -1,0 +1,117 @@
+-- What views and mailboxes show, and the rule of the floor.
+use Rattle.std.specs.Prelude.{◌≡◌, ◌≢◌, ℕ, zero, suc, ◌+◌, ◌<◌, ◌≤◌, Bool, true, false, cond, eqb, List, [], ◌∷◌, ◌++◌, length, set, get_or}
+use Rattle.std.specs.Prelude as std
+use mathlib.Core.Option.{Option, none, some}
+use lib.ListN.{get_elem?}
+use Rattle.atomic_table.specs.Table.{State}
+use Rattle.circular_buffer.specs.Buffer.{Buffer, buffer}
+use Rattle.path_algebra.specs.Algebra.{Algebra}
+use Rattle.scholten_core.specs.declared.event.Event.{Event}
+use Rattle.scholten_core.specs.declared.item.Item.{Item}
+use Rattle.scholten_core.specs.Accounts.{Totals, totals_of}
+use Rattle.scholten_core.specs.Diffusion.{CoreState, state_after, HasEnded}
+use Rattle.scholten_core.specs.Sums.{sum_below}
+use Rattle.shard_part.specs.PartState.{Setup, PartData, network_in, place_in, total, is, All, out_room, Shows}
+use Rattle.shard_part.specs.Arriving.{MadeAt}
+use Rattle.post_floor.specs.declared.view.View.{View}
+use Rattle.post_floor.specs.Boxes.{box_count, dest, origin}
+
+-- what a slot holds: its batch, or nothing while a call has it in its hands
+abbrev pub Slot : Type 0 → Type 0
+Slot V = std.Option (Buffer (Item V))
+
+-- a slot's place: outside the table, out with a seat, or at home
+abbrev pub Place : Type 0 → Type 0
+Place V = Option (Option (Slot V))
+
+module _ {S V : Type 0} where
+  -- the parts of all views
+  abbrev pub flat : List (View S V) → List (PartData S V)
+  flat [] = []
+  flat (v ∷ vs) = v.parts ++ flat vs
+
+  abbrev pub filling : ℕ → View S V → ℕ
+  filling k v = total (is k) v.fills
+
+  abbrev pub reading : ℕ → View S V → ℕ
+  reading k v = total (is k) v.reads
+
+  -- the counts of the views add up to these
+  pub record AddUp (views : List (View S V)) (n : Totals) : Type 0 where
+    pub sent : total (λ v. v.sent) views ≡ n.sent
+    pub delivered : total (λ v. v.delivered) views ≡ n.delivered
+    pub signalled : total (λ v. v.signalled) views ≡ n.signalled
+    pub accepted : total (λ v. v.accepted) views ≡ n.accepted
+
+  -- it has counted nothing
+  pub record CountsNone (v : View S V) : Type 0 where
+    pub sent : v.sent ≡ 0
+    pub delivered : v.delivered ≡ 0
+    pub signalled : v.signalled ≡ 0
+    pub accepted : v.accepted ≡ 0
+
+module _ {V : Type 0} where
+  abbrev pub load : (Item V → ℕ) → Slot V → ℕ
+  load f (std.Some b) = total f b.items
+  load f std.None = 0
+
+  abbrev pub load_home : (Item V → ℕ) → Option (Slot V) → ℕ
+  load_home f none = 0
+  load_home f (some y) = load f y
+
+  abbrev pub load_place : (Item V → ℕ) → Place V → ℕ
+  load_place f none = 0
+  load_place f (some y) = load_home f y
+
+  -- a mailbox counts as its batch where its word is 2
+  abbrev pub box : (Item V → ℕ) → ℕ → Place V → ℕ
+  box f w y = cond (eqb w 2) (load_place f y) 0
+
+  -- what the mailboxes weigh
+  abbrev pub mail : ℕ → List ℕ → List (Option (Slot V)) → (ℕ → Item V → ℕ) → ℕ
+  mail n ws hs h = sum_below (λ k. box (h (dest n k)) (get_or ws k 0) (get_elem? hs k)) (box_count n)
+
+-- how many items a mailbox may hold: one for each arc between its shards
+abbrev pub cap : {S : Type 0} → Setup S → ℕ → ℕ
+cap t k = cond (eqb (origin t.plan.shards k) (dest t.plan.shards k)) 0 (out_room (network_in t) (place_in t) (origin t.plan.shards k) (dest t.plan.shards k))
+
+-- an empty batch of the mailbox's capacity
+abbrev pub emptied : {S V : Type 0} → Setup S → ℕ → Slot V
+emptied t k = std.Some (buffer [] (cap t k))
+
+-- one mailbox: its word, its slot, and how many claims views have on it
+pub record BoxOk {S V : Type 0} (t : Setup S) (k w : ℕ) (y : Place V) (fills reads : ℕ) : Type 0 where
+  pub low : w < 4
+  pub fills_is : fills ≡ is 1 w
+  pub reads_is : reads ≡ is 3 w
+  pub empty_home : w ≡ 0 → y ≡ some (some (emptied t k))
+  pub full_home : w ≡ 2 → (xs : List (Item V)) × (y ≡ some (some (std.Some (buffer xs (cap t k))))) × MadeAt t (origin t.plan.shards k) xs
+
+module _ {S V : Type 0} (meaning : S → Algebra V) (t : Setup S) where
+  -- the state that a list of events leads to
+  abbrev pub core_of : List Event → CoreState V
+  core_of events = state_after (meaning t.algebra) (network_in t) events
+
+  -- THE RULE
+  pub record Kept (s : State (Slot V) (View S V)) : Type 0 where
+    pub events : List Event
+    pub shown : Shows meaning t (flat s.views) (mail t.plan.shards s.words s.homes) (core_of events)
+    pub whole : (j : ℕ) → j < t.plan.shards → total (λ p. is j p.shard) (flat s.views) ≡ 1
+    pub below : All (λ p. p.shard < t.plan.shards) (flat s.views)
+    pub idle : (id : ℕ) (v : View S V) → get_elem? s.views id ≡ some v → v.parts ≡ [] → CountsNone v
+    pub counts : AddUp s.views (totals_of (meaning t.algebra) (network_in t) events)
+    pub boxes : (k : ℕ) → k < box_count t.plan.shards → BoxOk t k (get_or s.words k 0) (get_elem? s.homes k) (total (filling k) s.views) (total (reading k) s.views)
+    pub done : get_or s.words (box_count t.plan.shards) 0 ≡ 1 → HasEnded (core_of events)
+    pub seen : (id : ℕ) (v : View S V) → get_elem? s.views id ≡ some v → v.seen ≡ true → get_or s.words (box_count t.plan.shards) 0 ≡ 1
+    pub wide : length s.words ≡ box_count t.plan.shards + 1
+    pub roomy : length s.homes ≡ box_count t.plan.shards
+
+  -- parts that are all of a question show, with the mailboxes, a state that some events lead to, and these counts are what the events did
+  pub record Settled (v : View S V) (ws : List ℕ) (hs : List (Option (Slot V))) : Type 0 where
+    pub events : List Event
+    pub shown : Shows meaning t v.parts (mail t.plan.shards ws hs) (core_of events)
+    pub counts : AddUp (v ∷ []) (totals_of (meaning t.algebra) (network_in t) events)
+
+  -- the same, of the table's last state
+  abbrev pub LastShows : View S V → List ℕ → List (Slot V) → Type 0
+  LastShows v ws xs = (hs : List (Option (Slot V))) × Settled v ws hs × ((k : ℕ) (y : Slot V) → get_elem? hs k ≡ some (some y) → get_elem? xs k ≡ some y)

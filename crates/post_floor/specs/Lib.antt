@@ -1,0 +1,6 @@
+pub mod Boxes
+pub mod Floor
+pub mod Plays
+pub mod Claims
+pub mod Seats
+pub mod Data

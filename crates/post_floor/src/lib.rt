@@ -1,0 +1,15 @@
+//! Mailboxes between the parts of a question.
+#![tactic(auto)]
+
+mod claims;
+mod exchange;
+mod floor;
+mod open;
+mod plays;
+mod seat;
+mod view;
+mod words;
+
+pub use floor::{Floor, FloorRule};
+pub use seat::Seat;
+pub use view::View;

@@ -13,3 +13,4 @@ pub mod Seated
 pub mod Opening
 pub mod Opened
 pub mod Closing
+pub mod TwoPlaces

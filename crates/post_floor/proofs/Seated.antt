@@ -76,6 +76,8 @@ pub record Seated {S V : Type 0} (meaning : S → Algebra V) (f : FloorData S) (
   pub reads : (from x : ℕ) → x ≡ get_or next_read from 0 → mailbox sh from s x ≡ read_box f d from
   pub knows : d.knows ≡ v
   pub same : d.shard ≡ s
+  pub id_is : fid ≡ f.id
+  pub question_is : t ≡ f.question
 
 module _ {S V : Type 0} (meaning : S → Algebra V) (f : FloorData S) (d : SeatData S V) (p : PartData S V) (fid : TableId) (t : Setup S) (sh : ℕ) (id : TableId) (s : ℕ) (v : View S V)
     (slots : List (ℕ × Slot V)) (claims : List ℕ) (room : ℕ) (next_fill next_read : List ℕ) where
@@ -115,6 +117,8 @@ module _ {S V : Type 0} (meaning : S → Algebra V) (f : FloorData S) (d : SeatD
             (λ i. mailbox (sym count i) from s ((e ∙ ap (λ l. get_or l from 0) (sym inv.read)) i)));
         knows = ap (λ (z : SeatData S V). z.knows) (sym dd);
         same = ap (λ (z : SeatData S V). z.shard) (sym dd);
+        id_is = ap (λ (z : FloorData S). z.id) ff;
+        question_is = ap (λ (z : FloorData S). z.question) ff;
       }
 
   module _ (z : Seated meaning f d p fid t sh id s v slots claims room next_fill next_read) where
@@ -134,6 +138,10 @@ module _ {S V : Type 0} (meaning : S → Algebra V) (f : FloorData S) (d : SeatD
           claims_open = subst (λ (u : Setup S). AreOpen u s w slots' claims') (sym setup) out;
           roomy = roomy ∙ z.roomy ∙ ap (λ k. 8 * k) (sym n);
         }
+
+    -- the part is shown, so the seat is ready for the next call
+    pub placed : (id' : TableId) (u w : View S V) (q : PartData S V) → id' ≡ id → q.setup ≡ t → Went u q w → IsAt meaning f (record { floor = id'; shard = s; knows = w }) q
+    placed id' u w q same setup went = record { floor = same ∙ z.table ∙ z.id_is; setup = setup ∙ z.question_is; moved = (q, [], went.shows, refl) }
 
     -- no claim changed
     pub still : (id' : TableId) (u w : View S V) (q : PartData S V) (slots' : List (ℕ × Slot V)) → q.setup ≡ t → q.shard ≡ s → Went u q w → u.fills ≡ v.fills → u.reads ≡ v.reads → u.next_fill ≡ v.next_fill → u.next_read ≡ v.next_read → slots' ≡ slots →

@@ -14,7 +14,7 @@ use Rattle.shard_part.proofs.Showing.{all_append}
 use Rattle.post_floor.specs.declared.view.View.{View}
 use Rattle.post_floor.specs.Boxes.{box_count}
 use Rattle.post_floor.specs.Floor.{Slot, flat, filling, reading, AddUp, CountsNone, BoxOk, core_of, Kept}
-use Rattle.post_floor.specs.Seats.{tail, first_of, with_parts, cut_left, cut_right, aside_left, aside_right, both, spent, AreJoined}
+use Rattle.post_floor.specs.Seats.{tail, first_of, with_parts, cut_left, cut_right, aside_left, aside_right, both, spent}
 use Rattle.post_floor.proofs.Totals.{total_set}
 use Rattle.post_floor.proofs.Parts.{flat_total, flat_each, flat_at}
 
@@ -188,23 +188,3 @@ module _ {S V : Type 0} (meaning : S → Algebra V) (t : Setup S) where
 pub all_front : {A : Type 0} (P : A → Type 0) (xs ys : List A) (x : A) → ys ≡ xs ++ x ∷ [] → All P ys → All P xs × P x
 all_front P [] ys x e p = (tt, (subst (All P) e p).0)
 all_front P (y ∷ xs) ys x e p = let q = subst (All P) e p in let r = all_front P xs (xs ++ x ∷ []) x refl q.1 in ((q.0, r.0), r.1)
-
-module _ {S V X : Type 0} (view : X → View S V) where
-  none_joined : (v : View S V) → AreJoined view v v []
-  none_joined v = record { parts = λ f. omega arith; sent = omega arith; delivered = omega arith; signalled = omega arith; accepted = omega arith }
-
-  -- one seat more: w has been joined to v before, and then the last seat's view
-  pub join_one : (v a b : View S V) (before xs ys : List X) (x : X) → ys ≡ xs ++ x ∷ [] → b ≡ both a (aside_right (view x)) →
-      ((w : View S V) → AreJoined view w a ys → AreJoined view w v before) → (w : View S V) → AreJoined view w b xs → AreJoined view w v before
-  join_one v a b before xs ys x e j old w J =
-      let S' : (f : X → ℕ) → total f ys ≡ total f xs + f x = λ f. ap (total f) e ∙ total_snoc f xs x in old w (record {
-        parts = λ f. (let p = J.parts f in let q = S' (λ s. total f (view s).parts) in let r = ap (λ (z : View S V). total f z.parts) j in let t = total_append f a.parts (view x).parts in omega (arith, p, q, r, t));
-        sent = (let p = J.sent in let q = S' (λ s. (view s).sent) in let r = ap (λ (z : View S V). z.sent) j in omega (arith, p, q, r));
-        delivered = (let p = J.delivered in let q = S' (λ s. (view s).delivered) in let r = ap (λ (z : View S V). z.delivered) j in omega (arith, p, q, r));
-        signalled = (let p = J.signalled in let q = S' (λ s. (view s).signalled) in let r = ap (λ (z : View S V). z.signalled) j in omega (arith, p, q, r));
-        accepted = (let p = J.accepted in let q = S' (λ s. (view s).accepted) in let r = ap (λ (z : View S V). z.accepted) j in omega (arith, p, q, r));
-      })
-
-  pub joined_end : (w v : View S V) (before xs : List X) → length xs ≡ 0 → ((u : View S V) → AreJoined view u w xs → AreJoined view u v before) → AreJoined view w v before
-  joined_end w v before [] l old = old w (none_joined w)
-  joined_end w v before (x ∷ xs) l old = absurd (omega (arith, l))

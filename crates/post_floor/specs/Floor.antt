@@ -106,12 +106,9 @@ module _ {S V : Type 0} (meaning : S → Algebra V) (t : Setup S) where
     pub wide : length s.words ≡ box_count t.plan.shards + 1
     pub roomy : length s.homes ≡ box_count t.plan.shards
 
-  -- parts that are all of a question show, with the mailboxes, a state that some events lead to, and these counts are what the events did
+  -- one view has all parts of a question: with the mailboxes it shows a state that some events lead to, its counts are what these did, and if it has seen the done word at 1, the state has ended
   pub record Settled (v : View S V) (ws : List ℕ) (hs : List (Option (Slot V))) : Type 0 where
     pub events : List Event
     pub shown : Shows meaning t v.parts (mail t.plan.shards ws hs) (core_of events)
     pub counts : AddUp (v ∷ []) (totals_of (meaning t.algebra) (network_in t) events)
-
-  -- the same, of the table's last state
-  abbrev pub LastShows : View S V → List ℕ → List (Slot V) → Type 0
-  LastShows v ws xs = (hs : List (Option (Slot V))) × Settled v ws hs × ((k : ℕ) (y : Slot V) → get_elem? hs k ≡ some (some y) → get_elem? xs k ≡ some y)
+    pub ended : v.seen ≡ true → HasEnded (core_of events)

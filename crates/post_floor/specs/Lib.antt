@@ -4,3 +4,4 @@ pub mod Plays
 pub mod Claims
 pub mod Seats
 pub mod Data
+pub mod Closing

@@ -58,11 +58,3 @@ module _ {S V : Type 0} where
   -- the seat of one part, as it is opened
   abbrev pub lone : {X : Type 0} → ℕ → PartData S V → Me X (View S V)
   lone n p = (knows n (p ∷ []), [])
-
-  -- a view has the parts and the counts of another and of the seats of a list
-  pub record AreJoined {X : Type 0} (view : X → View S V) (w v : View S V) (seats : List X) : Type 0 where
-    pub parts : (f : PartData S V → ℕ) → total f w.parts ≡ total f v.parts + total (λ s. total f (view s).parts) seats
-    pub sent : w.sent ≡ v.sent + total (λ s. (view s).sent) seats
-    pub delivered : w.delivered ≡ v.delivered + total (λ s. (view s).delivered) seats
-    pub signalled : w.signalled ≡ v.signalled + total (λ s. (view s).signalled) seats
-    pub accepted : w.accepted ≡ v.accepted + total (λ s. (view s).accepted) seats

@@ -2,6 +2,7 @@
 #![tactic(auto)]
 
 mod claims;
+mod close;
 mod exchange;
 mod floor;
 mod open;
@@ -10,6 +11,10 @@ mod seat;
 mod view;
 mod words;
 
+pub use close::Closed;
 pub use floor::{Floor, FloorRule};
 pub use seat::Seat;
 pub use view::View;
+
+#[cfg(test)]
+mod tests;

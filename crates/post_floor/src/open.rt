@@ -78,7 +78,7 @@ fn sit<A: PathAlgebra>(
     let next_read = Vec::from_elem(alloc, 0u8, shards)?;
     Ok(Seat {
         pass,
-        shard,
+        own: shard,
         claims,
         next_fill,
         next_read,

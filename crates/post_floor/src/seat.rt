@@ -18,7 +18,7 @@ use std::marker::{Brand, Model};
 #[derive(Drop)]
 pub struct Seat<A: PathAlgebra> {
     pub(crate) pass: Pass<A>,
-    pub(crate) shard: Shard,
+    pub(crate) own: Shard,
     pub(crate) claims: HeapCircularBuffer<usize>,
     pub(crate) next_fill: Vec<u8>,
     pub(crate) next_read: Vec<u8>,
@@ -29,9 +29,9 @@ impl<A: PathAlgebra> Model for Seat<A> {
 
     ghost Value = { SeatData A A.Value };
 
-    ghost view = { λ s. record { floor = s.pass.table_id; shard = s.shard; knows = s.pass.me.0 } };
+    ghost view = { λ s. record { floor = s.pass.table_id; shard = s.own; knows = s.pass.me.0 } };
 
-    ghost invariant = { λ s. IsSeat (record { floor = s.pass.table_id; shard = s.shard; knows = s.pass.me.0 }) s.pass.me.1 s.claims.items s.claims.capacity s.next_fill.items s.next_read.items };
+    ghost invariant = { λ s. IsSeat (record { floor = s.pass.table_id; shard = s.own; knows = s.pass.me.0 }) s.pass.me.1 s.claims.items s.claims.capacity s.next_fill.items s.next_read.items };
 }
 
 impl<A: PathAlgebra> Seat<A> {
@@ -39,7 +39,7 @@ impl<A: PathAlgebra> Seat<A> {
     pub fn shard(&self) -> Shard
         ensures { result ≡ self.now.shard }
     {
-        self.shard
+        self.own
     }
 }
 
@@ -49,11 +49,12 @@ impl<A: PathAlgebra> Floor<A> {
         requires at { IsAt A.meaning self.now seat.old part.now }
         requires shard { to < self.now.question.plan.shards }
         ensures seat { IsSameSeat seat.old seat.new }
+        ensures at { IsAt A.meaning self.now seat.new part.now }
         ensures told { FillTold result part.now (fill_box self.now seat.old to) seat.old.knows seat.new.knows }
     {
         let shards = self.shards;
         let slot = seat.next_fill[to.0 as usize];
-        let word = word_of(shards, seat.shard, to, slot);
+        let word = word_of(shards, seat.own, to, slot);
         if fill_word::<A, Brand>(&self.table.shared, &mut seat.pass, part, word) != 0 {
             return false;
         }
@@ -68,13 +69,14 @@ impl<A: PathAlgebra> Floor<A> {
         // A `try_fill` to this shard was true, and no `publish` to it came since.
         requires claim { 0 < filling (fill_box self.now seat.old to) seat.old.knows }
         ensures seat { IsSameSeat seat.old seat.new }
+        ensures at { IsAt A.meaning self.now seat.new part.new }
         ensures part { part.new ≡ sent_off to part.old }
         ensures told { Went (at_word (fill_box self.now seat.old to) 2 (end_fill to (fill_box self.now seat.old to) seat.old.knows)) part.new seat.new.knows }
     {
         let shards = self.shards;
         let at = to.0 as usize;
         let slot = seat.next_fill[at];
-        let word = word_of(shards, seat.shard, to, slot);
+        let word = word_of(shards, seat.own, to, slot);
         bring(&mut seat.pass, &mut seat.claims, word);
         post(&self.table.shared, &mut seat.pass, part, to, word);
         seat.claims.pop_front();
@@ -86,11 +88,12 @@ impl<A: PathAlgebra> Floor<A> {
         requires at { IsAt A.meaning self.now seat.old part.old }
         requires shard { (from ≢ seat.old.shard) × (from < self.now.question.plan.shards) }
         ensures seat { IsSameSeat seat.old seat.new }
+        ensures at { IsAt A.meaning self.now seat.new part.new }
         ensures told { ReadTold result part.old part.new (read_box self.now seat.old from) seat.old.knows seat.new.knows }
     {
         let shards = self.shards;
         let slot = seat.next_read[from.0 as usize];
-        let word = word_of(shards, from, seat.shard, slot);
+        let word = word_of(shards, from, seat.own, slot);
         if fetch(&self.table.shared, &mut seat.pass, part, word) {
             seat.claims.push_front(word);
             true
@@ -106,12 +109,13 @@ impl<A: PathAlgebra> Floor<A> {
         // A `try_read` from this shard was true, and no `clear` from it came since.
         requires claim { 0 < reading (read_box self.now seat.old from) seat.old.knows }
         ensures seat { IsSameSeat seat.old seat.new }
+        ensures at { IsAt A.meaning self.now seat.new part.now }
         ensures told { Went (at_word (read_box self.now seat.old from) 0 (end_read from (read_box self.now seat.old from) seat.old.knows)) part.now seat.new.knows }
     {
         let shards = self.shards;
         let at = from.0 as usize;
         let slot = seat.next_read[at];
-        let word = word_of(shards, from, seat.shard, slot);
+        let word = word_of(shards, from, seat.own, slot);
         bring(&mut seat.pass, &mut seat.claims, word);
         clear_word::<A, Brand>(&self.table.shared, &mut seat.pass, part, word);
         seat.claims.pop_front();
@@ -123,6 +127,7 @@ impl<A: PathAlgebra> Floor<A> {
         requires at { IsAt A.meaning self.now seat.old part.now }
         requires ended { has_ended part.now ≡ true }
         ensures seat { IsSameSeat seat.old seat.new }
+        ensures at { IsAt A.meaning self.now seat.new part.now }
         ensures told { LookTold A.meaning true part.now (box_count self.now.question.plan.shards) seat.old.knows seat.new.knows }
     {
         announce_word::<A, Brand>(&self.table.shared, &mut seat.pass, part, self.done_word());
@@ -132,6 +137,7 @@ impl<A: PathAlgebra> Floor<A> {
     pub fn look(&self, seat: &mut Seat<A>, part: &Part<'_, A>) -> bool
         requires at { IsAt A.meaning self.now seat.old part.now }
         ensures seat { IsSameSeat seat.old seat.new }
+        ensures at { IsAt A.meaning self.now seat.new part.now }
         ensures told { LookTold A.meaning result part.now (box_count self.now.question.plan.shards) seat.old.knows seat.new.knows }
     {
         look_word::<A, Brand>(&self.table.shared, &mut seat.pass, part, self.done_word()) == 1

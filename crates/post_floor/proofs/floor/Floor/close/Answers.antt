@@ -1,0 +1,22 @@
+use Rattle.std.proofs.Common.{rules, arith, ◌≡◌, ◌<◌, ℕ, List, ap, sym, ◌∙◌, subst, IsTrue}
+use Rattle.std.specs.Mem.Slots.{slots_items}
+use Rattle.shard_part.specs.PartState.{Setup, total, is}
+use Rattle.post_floor.specs.Floor.{Slot, Settled}
+use Rattle.post_floor.specs.Data.{SeatData}
+use Rattle.post_floor.specs.Closing.{AllSeated}
+use Rattle.post_floor.proofs.Closing.{settles, join_last}
+use Rattle.post_floor.proofs.floor.Floor.close.Goals as goal
+
+pub returns-clause-closed : goal.returns-clause-closed
+returns-clause-closed g c =
+    let question : c.self.inside.table.shared.key ≡ c.args.self.question = ap (λ f. f.question) c.self.view_is in
+    let count : c.args.self.question.plan.shards ≡ c.self.inside.shards = ap (λ u. u.plan.shards) (sym question) ∙ c.self.invariant.1 in
+    let yes : IsTrue c.all_seated.result = search rules in
+    let seated : AllSeated c.self.inside.shards c.args.seats.items = subst (AllSeated c.self.inside.shards) c.deref.ensures.value (c.all_seated.ensures.0 yes) in
+    let w = c.join_all-pass.result.me.0 in
+    let joined = join_last w c.pass_of.result.me.0 c.pop.new.self.items c.args.seats.items c.in-Some.last c.in-Some.ensures.items c.pass_of.ensures.pass.1 c.pass_of.ensures.part c.join_all-pass.ensures.joined in
+    let full : (j : ℕ) → j < c.self.inside.table.shared.key.plan.shards → 0 < total (λ p. is j p.shard) w.parts = λ j lt.
+    let s = seated j (subst (λ n. j < n) c.self.invariant.1 lt) in let t = joined.shards j in omega (arith, s, t) in
+    let words = slots_items c.close_with.result.words in
+    let last = settles g.A.PathAlgebra.meaning c.self.inside.table.shared.key c.join_all-pass.result.id w _ _ full c.close_with.ensures.values.2 in
+    ((λ j lt. seated j (subst (λ n. j < n) count lt)), (w, joined, words, last.0, subst (λ u. Settled g.A.PathAlgebra.meaning u w words last.0) question last.1))

@@ -1,0 +1,109 @@
+//! A floor is closed with all its seats.
+ghost use Rattle.std.specs.Prelude.{◌≡◌, ℕ, ◌+◌, ◌<◌, ◌≤◌, ◌↔◌, List, [], ◌∷◌, length, IsTrue, IfOk, IfErr};
+ghost use Rattle.std.specs.Mem.Slots.{IsFull};
+ghost use Rattle.shard_part.specs.PartState.{PartData, total, is, All};
+ghost use Rattle.post_floor.specs.Seats.{spent};
+ghost use Rattle.post_floor.specs.Closing.{AllSeated, AreJoined, IsClosed};
+
+use crate::floor::{Floor, Mailboxes, Pass};
+use crate::plays::{Aside, Cut};
+use crate::seat::Seat;
+use path_algebra::PathAlgebra;
+use shard_part::{Batch, Shard};
+use std::alloc::Global;
+
+/// A floor that was closed. Nothing is left of it but what `close` promises.
+#[derive(Clone, Copy, Debug, PartialEq, Eq)]
+pub struct Closed;
+
+/// Whether a shard's seat is among them.
+fn is_seated<A: PathAlgebra>(seats: &[Seat<A>], shard: Shard) -> bool
+    ensures { IsTrue result ↔ (0 < total (λ d. is shard d.shard) seats.now) }
+{
+    for index in 0..seats.len() {
+        if seats[index].shard() == shard {
+            return true;
+        }
+    }
+    false
+}
+
+/// Whether the seats of all shards are among them.
+fn all_seated<A: PathAlgebra>(seats: &[Seat<A>], shards: usize) -> bool
+    requires { shards ≤ 64 }
+    ensures { IsTrue result ↔ AllSeated shards seats.now }
+{
+    for shard in 0..shards {
+        if !is_seated(seats, Shard(shard as u8)) {
+            return false;
+        }
+    }
+    true
+}
+
+/// What the caller of a seat knows, without the seat's own lists.
+fn pass_of<A: PathAlgebra>(seat: Seat<A>) -> Pass<A>
+    ensures pass { (result.table_id ≡ seat.floor) × (result.me.0 ≡ seat.knows) }
+    ensures part { (p : PartData A A.Value) × (seat.knows.parts ≡ p ∷ []) × (p.shard ≡ seat.shard) }
+{
+    let Seat {
+        pass,
+        own: _,
+        claims: _,
+        next_fill: _,
+        next_read: _,
+    } = seat;
+    pass
+}
+
+/// Joins all seats into one pass.
+fn join_all<A: PathAlgebra>(
+    table: &Mailboxes<A>,
+    mut all: Pass<A>,
+    mut seats: Vec<Seat<A>>,
+) -> Pass<A>
+    requires pass { (all.table_id ≡ table.now.table_id) × (0 < table.now.table_id.words) }
+    requires seats { All (λ d. d.floor ≡ table.now.table_id) seats.items }
+    ensures pass { result.table_id ≡ table.now.table_id }
+    ensures joined { AreJoined result.me.0 all.me.0 seats.items }
+{
+    while let Some(seat) = seats.pop() {
+        let mut own = pass_of(seat);
+        // A pass that has a slot out can't be joined, so what it knows goes to a new one.
+        let free = table.split_seat::<Aside>(&mut own);
+        table.join_seat::<Cut>(&mut all, free);
+    }
+    all
+}
+
+/// Takes the batches out of a table that is closed, and frees it.
+fn free<V: Drop>(mut closed: atomic_table::Closed<Option<Batch<V>>, Global>)
+    requires { IsFull closed.slots }
+{
+    for index in 0..closed.slot_count() {
+        drop(closed.take(index));
+    }
+    closed.free();
+}
+
+impl<A: PathAlgebra> Floor<A> {
+    /// Closes the floor with the seats of all its shards, whatever claims they have open. Where a shard's seat is missing, floor and seats come back as they were.
+    ///
+    /// What the seats know together and what the mailboxes hold shows one state, to which some events lead from the opening, and the seats' counts are what these events did.
+    pub fn close(self, mut seats: Vec<Seat<A>>) -> Result<Closed, (Floor<A>, Vec<Seat<A>>)>
+        requires seats { All (λ d. d.floor ≡ self.id) seats.items }
+        ensures closed { IfOk result (λ _. AllSeated self.question.plan.shards seats.items × IsClosed A.meaning self.question seats.items) }
+        ensures refused { IfErr result (λ r. (AllSeated self.question.plan.shards seats.items → ⊥) × (r.0 ≡ self) × (r.1 ≡ seats)) }
+    {
+        let Floor { table, shards } = self;
+        if !all_seated(&seats, shards) {
+            return Err((Floor { table, shards }, seats));
+        }
+        let Some(last) = seats.pop() else {
+            unreachable!()
+        };
+        let pass = join_all(&table.shared, pass_of(last), seats);
+        free(table.close_with(pass));
+        Ok(Closed)
+    }
+}

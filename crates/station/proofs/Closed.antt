@@ -1,0 +1,54 @@
+-- What the seats of an ended question show when its floor is closed.
+use Rattle.std.proofs.Common.{◌≡◌, ℕ, ◌+◌, ◌<◌, ◌≤◌, true, Option, List, [], ◌∷◌, refl, sym, ap, ◌∙◌, subst, arith}
+use Rattle.path_algebra.specs.Algebra.{Algebra}
+use Rattle.path_algebra.specs.Walks.{AreBest}
+use Rattle.scholten_core.specs.Accounts.{Totals, totals_of}
+use Rattle.scholten_core.proofs.EveryAccount.{totals_are_equal}
+use Rattle.scholten_core.proofs.EveryRun.{ended_is_quiet}
+use Rattle.shard_part.specs.declared.tally.Tally.{Tally}
+use Rattle.shard_part.specs.Desk.{IsPlanned}
+use Rattle.shard_part.specs.PartState.{Setup, network_in, All, total, is}
+use Rattle.shard_part.specs.Tallies.{tally_of}
+use Rattle.shard_part.proofs.Showing.{AllLawful}
+use Rattle.post_floor.specs.declared.view.View.{View}
+use Rattle.post_floor.specs.Closing.{AllSeated, AreJoined, IsClosed}
+use Rattle.post_floor.specs.Data.{SeatData}
+use Rattle.post_floor.specs.Seats.{spent}
+use Rattle.station.specs.Gather.{counts_of, IsGathered, IsThere}
+use Rattle.station.specs.Handing.{AreHanded}
+use Rattle.station.specs.Station.{StationData}
+use Rattle.station.proofs.Places.{counts_there}
+use Rattle.atomic_table.specs.Seated.{TableId}
+
+module _ {S V : Type 0} where
+  -- all shards have a seat where all stations were there
+  pub all_seated : (id : TableId) (n : ℕ) (all : List (StationData S V)) (seats : List (SeatData S V)) (tally : Tally) → ((j : ℕ) → j < n → IsThere all j) → AreHanded id all [] seats tally → AllSeated n seats
+  all_seated id n all seats tally there h j l = let t = there j l in let a = counts_there all j t.0 t.1 in let b = h.shards j in omega (arith, a, b)
+
+  seen_there : (n : ℕ) (w v : View S V) (seats : List (SeatData S V)) → 0 < n → AllSeated n seats → All (λ d. d.knows.seen ≡ true) seats → AreJoined w v seats → w.seen ≡ true
+  seen_there n w v [] l a s J = absurd (let k = a 0 l in omega (arith, k))
+  seen_there n w v (d ∷ ds) l a s J = J.all_seen.0 s.0
+
+module _ {S V : Type 0} (meaning : S → Algebra V) (L : AllLawful meaning) where
+  -- THE ANSWER
+  pub gathered : (t : Setup S) (s : ℕ) (id : TableId) (all : List (StationData S V)) (seats : List (SeatData S V)) (tally : Tally) (labels : List (Option V)) → IsPlanned t s → AreBest (meaning t.algebra) t.roads (t.source ∷ []) labels
+      → AllSeated t.plan.shards seats → AreHanded id all [] seats tally → IsClosed meaning t seats → IsGathered meaning t (record { labels = labels; tally = tally })
+  gathered t s id all seats tally labels P best seated h (w, J, words, homes, C) =
+      let A = meaning t.algebra in let T = totals_of A (network_in t) C.events in
+      let few : 0 < t.plan.shards = let l = P.shard in omega (arith, l) in
+      let over = C.ended (seen_there t.plan.shards w spent seats few seated h.seen J) in
+      let one : (x y z : ℕ) → x ≡ 0 + y → x + 0 ≡ z → y ≡ z = λ x y z e f. omega (arith, e, f) in
+      let same : counts_of seats ≡ T = λ i. record {
+        sent = one w.sent (total (λ d. d.knows.sent) seats) T.sent J.sent C.counts.sent i;
+        delivered = one w.delivered (total (λ d. d.knows.delivered) seats) T.delivered J.delivered C.counts.delivered i;
+        signalled = one w.signalled (total (λ d. d.knows.signalled) seats) T.signalled J.signalled C.counts.signalled i;
+        accepted = one w.accepted (total (λ d. d.knows.accepted) seats) T.accepted J.accepted C.counts.accepted i;
+      } in
+      record {
+        labels = best;
+        events = C.events;
+        ended = over;
+        quiet = ended_is_quiet A t.roads t.source (L t.algebra) P.roads P.source.0 C.events over;
+        tally = h.counted ∙ ap tally_of same;
+        equal = totals_are_equal A t.roads t.source (L t.algebra) P.roads P.source.0 C.events over;
+      }

@@ -1,0 +1,11 @@
+pub mod Batches
+pub mod Counted
+pub mod Stepping
+pub mod Over
+pub mod Labels
+pub mod Turns
+pub mod Opening
+pub mod Carrying
+pub mod Places
+pub mod Tallying
+pub mod Closed

@@ -1,0 +1,43 @@
+-- A part that holds its share of an ended state.
+use Rattle.std.proofs.Common.{◌≡◌, ℕ, zero, suc, ◌+◌, ◌<◌, ◌≤◌, Bool, true, false, None, List, [], ◌∷◌, length, get_or, refl, sym, ap, ◌∙◌, subst, arith, eq-eqb}
+use Rattle.path_algebra.specs.Algebra.{Algebra, IsLawful}
+use Rattle.path_algebra.specs.Walks.{IsBestLabel}
+use Rattle.scholten_core.specs.declared.item.Item.{Item}
+use Rattle.scholten_core.specs.declared.token.Token.{Token}
+use Rattle.scholten_core.specs.declared.token.Token.TheVariants.{Idle}
+use Rattle.scholten_core.specs.Diffusion.{CoreState, is_idle}
+use Rattle.scholten_core.specs.Items.{item_of}
+use Rattle.scholten_core.specs.Sums.{sum_below}
+use Rattle.scholten_core.proofs.EveryRun.{ended_is_best}
+use Rattle.shard_part.specs.PartState.{PartData, Setup, network_in, place_in, state_in, token_if, total, flying, at_place, HoldsShare}
+use Rattle.shard_part.specs.Desk.{IsPlanned}
+use Rattle.shard_part.specs.Readings.{IsOwn}
+use Rattle.shard_part.proofs.Weights.{sum_below_same, sum_zero}
+use Rattle.shard_part.proofs.Room.{each_one, outs_member}
+use Rattle.post_floor.specs.Floor.{core_of}
+use Rattle.post_floor.specs.Plays.{Ended}
+use Rattle.station.specs.Station.{IsOverPart}
+
+not_busy : (V : Type 0) (z : Bool) → is_idle (token_if {V = V} z) ≡ true → z ≡ false
+not_busy V true e = absurd cc
+not_busy V false e = refl
+
+empty : {A : Type 0} (xs : List A) → length xs ≤ 0 → xs ≡ []
+empty [] l = refl
+empty (x ∷ xs) l = absurd (omega (arith, l))
+
+module _ {S V : Type 0} (meaning : S → Algebra V) where
+  pub is_over : (p : PartData S V) (s : ℕ) → IsLawful (meaning p.setup.algebra) → IsPlanned p.setup s → Ended meaning p → IsOverPart meaning p
+  is_over p s L P (events, H, h, Q) =
+      let A = meaning p.setup.algebra in let N = network_in p.setup in let place = place_in p.setup in
+      let c : CoreState V = core_of meaning p.setup events in
+      let B = ended_is_best A p.setup.roads p.setup.source L P.roads P.source.0 events h in
+      let one : ℕ → Item V → ℕ = λ _ _. 1 in
+      let none' : flying N place c one ≡ 0 = sum_below_same (λ b. total (at_place N place one) (item_of b (c.token b))) (λ _. 0) (suc N.arcs) (λ b lt. ap (λ (k : Token V). total (at_place N place one) (item_of b k)) (Q.0 b)) ∙ sum_zero (λ _. 0) (suc N.arcs) (λ _. refl) in
+      let w = H.weighs one in record {
+        best = λ v own. subst (IsBestLabel A p.setup.roads (p.setup.source ∷ []) v) (sym (H.tables.agree.label v (eq-eqb _ _ own.1))) (B v own.0);
+        neutral = λ v own. H.tables.agree.engager v (eq-eqb _ _ own.1) ∙ Q.1 v;
+        idle = λ b here. not_busy V (get_or p.busy b false) (H.tables.agree.idle b (eq-eqb _ _ here) ∙ ap is_idle (Q.0 b));
+        queue = empty p.queue (let n = each_one (one p.shard) p.queue (λ i. refl) in omega (arith, w, n, none'));
+        outs = λ j. empty (get_or p.outs j []) (let n = each_one (one (0 + j)) (get_or p.outs j []) (λ i. refl) in let m = outs_member one 0 j p.outs in omega (arith, w, n, m, none'));
+      }

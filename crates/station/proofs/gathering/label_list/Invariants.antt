@@ -1,0 +1,9 @@
+use Rattle.std.proofs.Common.{◌≡◌, ◌<◌, ◌+◌, ℕ, [], ◌∷◌, length, None, get_or}
+use Rattle.path_algebra.specs.Walks.{IsBestLabel}
+use Rattle.station.proofs.gathering.label_list.Given as goal
+
+abbrev pub invariant-loop-v : goal.invariant-loop-v
+invariant-loop-v g l = record {
+  long : length l.list.items ≡ l.v;
+  best : (i : ℕ) → i < l.v → IsBestLabel (g.A.PathAlgebra.meaning l.floor.question.algebra) l.floor.question.roads (l.floor.question.source ∷ []) (i + 1) (get_or l.list.items i None);
+}

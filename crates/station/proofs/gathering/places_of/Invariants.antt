@@ -1,0 +1,6 @@
+use Rattle.std.proofs.Common.{◌≡◌, length}
+use Rattle.station.specs.Gather.{ArePlaces}
+use Rattle.station.proofs.gathering.places_of.Given as goal
+
+abbrev pub invariant-loop-s : goal.invariant-loop-s
+invariant-loop-s g l = record { places_are : ArePlaces l.s l.stations l.places; long : length l.places ≡ 64 }

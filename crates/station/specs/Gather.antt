@@ -1,0 +1,61 @@
+-- The stations of an ended question, and the answer that is gathered from them.
+use Rattle.std.specs.Prelude.{◌≡◌, ◌≢◌, ℕ, ◌+◌, ◌<◌, List, [], ◌∷◌, Option, length, get_or}
+use Rattle.std.specs.List.{All, HoldsAt}
+use Rattle.path_algebra.specs.Algebra.{Algebra}
+use Rattle.path_algebra.specs.Walks.{AreBest}
+use Rattle.scholten_core.specs.declared.event.Event.{Event}
+use Rattle.scholten_core.specs.Accounts.{Totals, totals_of, AreEqualTotals}
+use Rattle.scholten_core.specs.Diffusion.{HasEnded, IsQuiet}
+use Rattle.shard_part.specs.PartState.{Setup, network_in, total}
+use Rattle.shard_part.specs.Tallies.{tally_of}
+use Rattle.post_floor.specs.Data.{SeatData}
+use Rattle.post_floor.specs.Floor.{core_of}
+use Rattle.station.specs.declared.gathering.Gathered.{Gathered}
+use Rattle.station.specs.declared.gathering.Why.{Why}
+use Rattle.station.specs.declared.gathering.Why.TheVariants.{Missing, Memory}
+use Rattle.station.specs.Station.{StationData}
+
+module _ {S V : Type 0} where
+  -- the station at k is that of the shard j
+  abbrev pub IsAtPlace : List (StationData S V) → ℕ → ℕ → Type 0
+  IsAtPlace stations j k = (k < length stations) × HoldsAt (λ s. s.part.shard ≡ j) stations k
+
+  -- the station of the shard j is among these
+  abbrev pub IsThere : List (StationData S V) → ℕ → Type 0
+  IsThere stations j = (k : ℕ) × IsAtPlace stations j k
+
+  -- it is not
+  abbrev pub IsMissing : List (StationData S V) → ℕ → Type 0
+  IsMissing stations j = All (λ s. s.part.shard ≢ j) stations
+
+  -- the places of the stations of n shards
+  abbrev pub ArePlaces : ℕ → List (StationData S V) → List ℕ → Type 0
+  ArePlaces n stations places = (j : ℕ) → j < n → IsAtPlace stations j (get_or places j 0)
+
+  -- the stations are of one question
+  abbrev pub AreOf : Setup S → List (StationData S V) → Type 0
+  AreOf t stations = All (λ s. s.part.setup ≡ t) stations
+
+  -- why the answer was not gathered: a shard's station is missing, the least such shard; or all are there, and there was no memory
+  abbrev pub IsWhy : ℕ → List (StationData S V) → Why → Type 0
+  IsWhy n stations (Missing j) = (j < n) × IsMissing stations j × ((i : ℕ) → i < j → IsThere stations i)
+  IsWhy n stations Memory = (j : ℕ) → j < n → IsThere stations j
+
+-- Labels are best. Some events, counted in full, lead to a state that has ended and is quiet; each counter of the tally is the lesser
+-- of its total and its top, full exactly where a total reaches that, and all totals are the same.
+pub record IsGathered {S V : Type 0} (meaning : S → Algebra V) (t : Setup S) (g : Gathered V) : Type 0 where
+  pub labels : AreBest (meaning t.algebra) t.roads (t.source ∷ []) g.labels
+  pub events : List Event
+  pub ended : HasEnded (core_of meaning t events)
+  pub quiet : IsQuiet (core_of meaning t events)
+  pub tally : g.tally ≡ tally_of (totals_of (meaning t.algebra) (network_in t) events)
+  pub equal : AreEqualTotals (totals_of (meaning t.algebra) (network_in t) events)
+
+-- what seats have counted together
+abbrev pub counts_of : {S V : Type 0} → List (SeatData S V) → Totals
+counts_of seats = record {
+  sent = total (λ d. d.knows.sent) seats;
+  delivered = total (λ d. d.knows.delivered) seats;
+  signalled = total (λ d. d.knows.signalled) seats;
+  accepted = total (λ d. d.knows.accepted) seats;
+}

@@ -1,0 +1,53 @@
+-- A station between two turns: a part with its seat on the floor.
+use Rattle.std.specs.Prelude.{◌≡◌, ℕ, Bool, true, false, None, List, [], ◌∷◌, get_or}
+use Rattle.path_algebra.specs.Algebra.{Algebra}
+use Rattle.path_algebra.specs.Walks.{IsBestLabel}
+use Rattle.shard_part.specs.PartState.{PartData, network_in, place_in, state_in}
+use Rattle.shard_part.specs.Readings.{IsOwn}
+use Rattle.post_floor.specs.declared.view.View.{View}
+use Rattle.post_floor.specs.Plays.{ShowsPart, Known, Ended}
+use Rattle.post_floor.specs.Data.{FloorData, SeatData}
+
+-- a part, its seat, and whether its last turn reported the end
+pub record StationData (S V : Type 0) : Type 0 where
+  pub part : PartData S V
+  pub seat : SeatData S V
+  pub ended : Bool
+
+-- the station was opened together with the floor
+pub record BelongsTo {S V : Type 0} (f : FloorData S) (s : StationData S V) : Type 0 where
+  pub floor : s.seat.floor ≡ f.id
+  pub question : s.part.setup ≡ f.question
+
+-- its last turn reported the end
+abbrev pub HasEnded : {S V : Type 0} → StationData S V → Type 0
+HasEnded s = s.ended ≡ true
+
+-- no mailbox is in its hands
+abbrev pub IsFree : {S V : Type 0} → View S V → Type 0
+IsFree v = (v.fills ≡ []) × (v.reads ≡ [])
+
+module _ {S V : Type 0} (meaning : S → Algebra V) where
+  -- nothing is under way in the part, and each label of its vertices is best: none exactly where no walk has a value
+  pub record IsOverPart (p : PartData S V) : Type 0 where
+    pub best : (v : ℕ) → IsOwn p v → IsBestLabel (meaning p.setup.algebra) p.setup.roads (p.setup.source ∷ []) v ((state_in p).label v)
+    pub neutral : (v : ℕ) → IsOwn p v → (state_in p).engager v ≡ None
+    pub idle : (b : ℕ) → place_in p.setup ((network_in p.setup).tail b) ≡ p.shard → get_or p.busy b false ≡ false
+    pub queue : p.queue ≡ []
+    pub outs : (j : ℕ) → get_or p.outs j [] ≡ []
+
+  -- The question has ended, as the station knows: its view has seen the done word at 1, its part holds its share of an ended state,
+  -- each label of its vertices is best, and nothing is under way in it.
+  pub record IsOver (s : StationData S V) : Type 0 where
+    pub seen : s.seat.knows.seen ≡ true
+    pub ended : Ended meaning s.part
+    pub part : IsOverPart s.part
+
+  -- What holds of every station between two turns: its view shows its part, no mailbox is in its hands, the part holds its share of
+  -- a state that some events lead to, and where the last turn reported the end, the question is over.
+  pub record IsStation (s : StationData S V) : Type 0 where
+    pub shard : s.seat.shard ≡ s.part.shard
+    pub shows : ShowsPart s.seat.knows s.part
+    pub free : IsFree s.seat.knows
+    pub known : Known meaning s.part
+    pub over : HasEnded s → IsOver s

@@ -1,0 +1,87 @@
+//! Opening a question.
+ghost use Rattle.std.specs.Prelude.{◌≡◌, ◌<◌, [], ◌∷◌, ◌++◌, length, IfOk, OnOk, map};
+ghost use Rattle.road_graph.specs.Roads.{HasVertex};
+ghost use Rattle.shard_part.specs.PartState.{All};
+ghost use Rattle.shard_part.specs.Opening.{opened_parts};
+ghost use Rattle.post_floor.specs.Data.{seat_of};
+ghost use Rattle.post_floor.specs.Plays.{Known};
+ghost use Rattle.station.specs.Opened.{AreOpened, IsFreshPart, station_of};
+
+use crate::station::Station;
+use path_algebra::PathAlgebra;
+use post_floor::{Floor, Seat};
+use road_graph::{Graph, Memory, Vertex};
+use shard_part::{Part, Plan, Shard};
+use std::alloc::{AllocError, Global};
+
+/// One more item at the end.
+pub(crate) fn push<T: Drop>(list: &mut Vec<T>, item: T) -> Result<(), AllocError>
+    ensures { OnOk result (list.new.items ≡ list.old.items ++ (item ∷ [])) }
+{
+    list.push(item)?;
+    Ok(())
+}
+
+/// The part of each shard, in order.
+fn open_parts<'g, A: PathAlgebra>(
+    alloc: Global,
+    algebra: A,
+    graph: &'g Graph,
+    plan: &'g Plan,
+    source: Vertex,
+) -> Result<Vec<Part<'g, A>>, Memory>
+    requires source { HasVertex graph.now source }
+    requires plan { length plan.now.list ≡ graph.now.vertices }
+    ensures parts { IfOk result (λ v. v.items ≡ opened_parts (A.meaning algebra) (record { algebra = algebra; roads = graph.now; source = source; plan = plan.now }) 0 plan.now.shards) }
+    ensures known { IfOk result (λ v. All (Known A.meaning) v.items) }
+{
+    let mut parts = Vec::new(alloc);
+    for shard in 0..plan.shards() {
+        let part = Part::open(alloc, algebra, graph, plan, Shard(shard), source)?;
+        push(&mut parts, part)?;
+    }
+    Ok(parts)
+}
+
+/// A station of each part with its seat, in order.
+fn pair<'g, A: PathAlgebra>(
+    alloc: Global,
+    floor: &Floor<A>,
+    plan: &'g Plan,
+    mut parts: Vec<Part<'g, A>>,
+    mut seats: Vec<Seat<A>>,
+) -> Result<Vec<Station<'g, A>>, AllocError>
+    requires plan { plan.now ≡ floor.now.question.plan }
+    requires parts { All (IsFreshPart A.meaning floor.now) parts.items }
+    requires seats { seats.items ≡ map (seat_of floor.now.id floor.now.question.plan.shards) parts.items }
+    ensures { IfOk result (λ v. v.items ≡ map (station_of floor.now.id floor.now.question.plan.shards) parts.entry.items) }
+{
+    let mut stations = Vec::new(alloc);
+    while let Some(part) = parts.pop() {
+        let Some(seat) = seats.pop() else {
+            unreachable!()
+        };
+        push(&mut stations, Station::new(floor, plan, part, seat))?;
+    }
+    stations.reverse();
+    Ok(stations)
+}
+
+/// A floor with empty mailboxes, and one station for each shard of the plan, in order.
+pub fn open_question<'g, A: PathAlgebra>(
+    alloc: Global,
+    algebra: A,
+    graph: &'g Graph,
+    plan: &'g Plan,
+    source: Vertex,
+) -> Result<(Floor<A>, Vec<Station<'g, A>>), Memory>
+    requires source { HasVertex graph.now source }
+    requires plan { length plan.now.list ≡ graph.now.vertices }
+    ensures { IfOk result (λ r. AreOpened A.meaning (record { algebra = algebra; roads = graph.now; source = source; plan = plan.now }) r.0 r.1.items) }
+{
+    let _shards = plan.shards();
+    let parts = open_parts(alloc, algebra, graph, plan, source)?;
+    let (floor, seats) = Floor::open(alloc, plan, source, &parts)?;
+    let stations = pair(alloc, &floor, plan, parts, seats)?;
+    Ok((floor, stations))
+}

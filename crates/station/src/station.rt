@@ -1,0 +1,131 @@
+//! A part with its seat, which may be sent to another thread.
+ghost use Rattle.std.specs.Prelude.{◌≡◌, true, IsTrue, IfOk, IfErr, IfSome, ◌∷◌, [], ◌↔◌};
+ghost use Rattle.path_algebra.specs.Walks.{IsWalkValue};
+ghost use Rattle.shard_part.specs.PartState.{state_in};
+ghost use Rattle.shard_part.specs.Readings.{IsOwn};
+ghost use Rattle.post_floor.specs.Data.{seat_of};
+ghost use Rattle.station.specs.Station.{BelongsTo, IsOver, HasEnded};
+ghost use Rattle.station.specs.Opened.{IsFreshPart, station_of};
+ghost use Rattle.station.specs.Turn.{Turned};
+
+use crate::gathering::Finished;
+use crate::turn::{Report, fill_all, look_for_end, read_all};
+use path_algebra::PathAlgebra;
+use post_floor::{Floor, Seat};
+use road_graph::Vertex;
+use shard_part::{Part, Plan, Shard};
+use std::marker::Model;
+
+/// One shard's part of a question, with its seat on the floor that all parts share.
+#[derive(Drop)]
+pub struct Station<'g, A: PathAlgebra> {
+    part: Part<'g, A>,
+    seat: Seat<A>,
+    plan: &'g Plan,
+    ended: bool,
+}
+
+impl<'g, A: PathAlgebra> Model for Station<'g, A> {
+    ghost use Rattle.std.specs.Prelude.{◌≡◌};
+    ghost use Rattle.station.specs.Station.{StationData, IsStation};
+
+    ghost Value = { StationData A A.Value };
+
+    ghost view = { λ s. record { part = s.part; seat = s.seat; ended = s.ended } };
+
+    ghost invariant = { λ s. IsStation A.meaning (record { part = s.part; seat = s.seat; ended = s.ended }) × (s.plan.now ≡ s.part.setup.plan) };
+}
+
+impl<'g, A: PathAlgebra> Station<'g, A> {
+    /// A part that was just opened, with its seat.
+    pub(crate) fn new(floor: &Floor<A>, plan: &'g Plan, part: Part<'g, A>, seat: Seat<A>) -> Self
+        requires plan { plan.now ≡ floor.now.question.plan }
+        requires part { IsFreshPart A.meaning floor.now part }
+        requires seat { seat ≡ seat_of floor.now.id floor.now.question.plan.shards part }
+        ensures { result ≡ station_of floor.now.id floor.now.question.plan.shards part.entry }
+    {
+        Station {
+            part,
+            seat,
+            plan,
+            ended: false,
+        }
+    }
+
+    /// Takes what the other shards have sent, handles items, at most `budget`, and publishes what is for the others; last it looks whether the question has ended.
+    /// After a turn that reported the end, a turn does nothing.
+    pub fn turn(&mut self, floor: &Floor<A>, budget: u32) -> Report
+        requires { BelongsTo floor.now self.old }
+        ensures turned { Turned A.meaning floor.now budget self.old result self.new }
+        ensures over { IsTrue result.ended → IsOver A.meaning self.new }
+    {
+        if self.ended {
+            return Report {
+                handled: 0,
+                taken: 0,
+                published: 0,
+                ended: true,
+            };
+        }
+        let taken = read_all(floor, self.plan, &mut self.seat, &mut self.part);
+        let handled = self.part.handle(budget);
+        let published = fill_all(floor, self.plan, &mut self.seat, &mut self.part);
+        self.ended = look_for_end(floor, &mut self.seat, &self.part);
+        Report {
+            handled,
+            taken,
+            published,
+            ended: self.ended,
+        }
+    }
+
+    /// What `gather` takes of a station whose last turn reported the end. Another comes back as it was.
+    pub fn finish(self) -> Result<Finished<'g, A>, Station<'g, A>>
+        ensures finished { IfOk result (λ f. HasEnded self.entry × (f ≡ self.entry)) }
+        ensures back { IfErr result (λ s. (HasEnded self.entry → ⊥) × (s ≡ self.entry)) }
+    {
+        if !self.ended {
+            return Err(self);
+        }
+        let Station {
+            part,
+            seat,
+            plan,
+            ended: _,
+        } = self;
+        Ok(Finished { part, seat, plan })
+    }
+
+    /// Whether its last turn reported the end.
+    pub fn ended(&self) -> bool
+        ensures ended { result ≡ self.now.ended }
+        ensures over { IsTrue result → IsOver A.meaning self.now }
+    {
+        self.ended
+    }
+
+    /// Which shard it is.
+    pub fn shard(&self) -> Shard
+        ensures { result ≡ self.now.part.shard }
+    {
+        self.part.shard()
+    }
+
+    /// Whether v is a vertex of its shard.
+    pub fn holds(&self, v: Vertex) -> bool
+        ensures { IsTrue result ↔ IsOwn self.now.part v }
+    {
+        self.part.holds(v)
+    }
+
+    /// The label of a vertex of its shard, at any moment: the value of some walk to it, or none.
+    pub fn peek(&self, v: Vertex) -> Option<A::Value>
+        requires { IsOwn self.now.part v }
+        ensures label { result ≡ (state_in self.now.part).label v }
+        ensures walk { IfSome result (λ x. IsWalkValue (A.meaning self.now.part.setup.algebra) self.now.part.setup.roads (self.now.part.setup.source ∷ []) v x) }
+    {
+        // What holds of every part.
+        let _shard = self.part.shard();
+        self.part.label(v)
+    }
+}

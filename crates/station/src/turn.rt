@@ -1,0 +1,135 @@
+//! The steps of one turn.
+ghost use Rattle.std.specs.Prelude.{◌≡◌, ◌≢◌, true, ◌+◌, ◌-◌, ◌*◌, ◌<◌, ◌≤◌, IsTrue};
+ghost use Rattle.post_floor.specs.Plays.{Ended, Known};
+ghost use Rattle.station.specs.Station.{IsOverPart};
+ghost use Rattle.station.specs.Steps.{AreReady, AreBehind, CameIn, AllCameIn, WentOff, AllWentOff};
+
+use path_algebra::PathAlgebra;
+use post_floor::{Floor, Seat};
+use shard_part::{Part, Plan, Shard};
+
+/// What one turn did.
+#[derive(Clone, Copy, Debug, PartialEq, Eq)]
+pub struct Report {
+    /// How many items were handled.
+    pub handled: u32,
+    /// How many batches were taken from mailboxes.
+    pub taken: u32,
+    /// How many outboxes were published.
+    pub published: u32,
+    /// The question has ended.
+    pub ended: bool,
+}
+
+/// Takes the batch of the next mailbox from a shard, if it is another one and the mailbox is full.
+fn read_from<A: PathAlgebra>(
+    floor: &Floor<A>,
+    seat: &mut Seat<A>,
+    part: &mut Part<'_, A>,
+    from: Shard,
+) -> bool
+    requires ready { AreReady floor.now seat.old part.old }
+    requires from { from < part.old.setup.plan.shards }
+    ensures ready { AreReady floor.now seat.new part.new }
+    ensures part { CameIn result part.old part.new }
+    ensures steps { seat.new.knows.steps ≤ seat.old.knows.steps + 2 }
+    ensures own { from ≡ part.old.shard → seat.new.knows.steps ≡ seat.old.knows.steps }
+{
+    if from == part.shard() {
+        return false;
+    }
+    let full = floor.try_read(seat, part, from);
+    if full {
+        floor.clear(seat, part, from);
+    }
+    full
+}
+
+/// Takes the batch of the next mailbox from each other shard, if it is full, and says how many.
+pub(crate) fn read_all<A: PathAlgebra>(
+    floor: &Floor<A>,
+    plan: &Plan,
+    seat: &mut Seat<A>,
+    part: &mut Part<'_, A>,
+) -> u32
+    requires ready { AreReady floor.now seat.old part.old }
+    requires plan { plan.now ≡ part.old.setup.plan }
+    ensures ready { AreReady floor.now seat.new part.new }
+    ensures part { AllCameIn result part.old part.new }
+    ensures steps { seat.new.knows.steps ≤ seat.old.knows.steps + 2 * (part.old.setup.plan.shards - 1) }
+{
+    let _own = part.shard();
+    let mut taken = 0;
+    for from in 0..plan.shards() {
+        taken += u32::from(read_from(floor, seat, part, Shard(from)));
+    }
+    taken
+}
+
+/// Publishes what waits for a shard, if it is another one, something waits, and the next mailbox is free.
+fn fill_to<A: PathAlgebra>(
+    floor: &Floor<A>,
+    seat: &mut Seat<A>,
+    part: &mut Part<'_, A>,
+    to: Shard,
+) -> bool
+    requires behind { AreBehind A.meaning floor.now seat.old part.old }
+    requires to { to < part.old.setup.plan.shards }
+    ensures behind { AreBehind A.meaning floor.now seat.new part.new }
+    ensures part { WentOff result to part.old part.new }
+    ensures steps { seat.new.knows.steps ≤ seat.old.knows.steps + 2 }
+    ensures own { to ≡ part.old.shard → seat.new.knows.steps ≡ seat.old.knows.steps }
+{
+    if to == part.shard() || part.outgoing(to) == 0 {
+        return false;
+    }
+    let free = floor.try_fill(seat, part, to);
+    if free {
+        floor.publish(seat, part, to);
+    }
+    free
+}
+
+/// Publishes what waits for each other shard, if the next mailbox is free, and says how many.
+pub(crate) fn fill_all<A: PathAlgebra>(
+    floor: &Floor<A>,
+    plan: &Plan,
+    seat: &mut Seat<A>,
+    part: &mut Part<'_, A>,
+) -> u32
+    requires behind { AreBehind A.meaning floor.now seat.old part.old }
+    requires plan { plan.now ≡ part.old.setup.plan }
+    ensures behind { AreBehind A.meaning floor.now seat.new part.new }
+    ensures part { AllWentOff result part.old part.new }
+    ensures steps { seat.new.knows.steps ≤ seat.old.knows.steps + 2 * (part.old.setup.plan.shards - 1) }
+{
+    let _own = part.shard();
+    let mut published = 0;
+    for to in 0..plan.shards() {
+        published += u32::from(fill_to(floor, seat, part, Shard(to)));
+    }
+    published
+}
+
+/// Announces the end where the part knows of it, else looks for it.
+pub(crate) fn look_for_end<A: PathAlgebra>(
+    floor: &Floor<A>,
+    seat: &mut Seat<A>,
+    part: &Part<'_, A>,
+) -> bool
+    requires behind { AreBehind A.meaning floor.now seat.old part.now }
+    ensures ready { AreReady floor.now seat.new part.now }
+    ensures steps { seat.new.knows.steps ≤ seat.old.knows.steps + 1 }
+    ensures known { Known A.meaning part.now }
+    ensures seen { IsTrue result → seat.new.knows.seen ≡ true }
+    ensures ended { IsTrue result → Ended A.meaning part.now }
+    ensures over { IsTrue result → IsOverPart A.meaning part.now }
+{
+    // What holds of every part.
+    let _shard = part.shard();
+    if part.ended() {
+        floor.announce(seat, part);
+        return true;
+    }
+    floor.look(seat, part)
+}

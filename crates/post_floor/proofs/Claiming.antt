@@ -1,5 +1,5 @@
 -- A seat's claims: one more, one less, and how many there may be.
-use Rattle.std.proofs.Common.{◌≡◌, ◌≢◌, ℕ, zero, suc, ◌+◌, ◌*◌, ◌/◌, ◌%◌, ◌<◌, ◌≤◌, Bool, true, false, cond, eqb, List, [], ◌∷◌, ◌++◌, length, map, drop, refl, sym, ap, ◌∙◌, subst, ◌⊎◌, inl, inr, arith, eq-eqb, ne_eqb}
+use Rattle.std.proofs.Common.{◌≡◌, ◌≢◌, ℕ, zero, suc, ◌+◌, ◌*◌, ◌/◌, ◌%◌, ◌<◌, ◌≤◌, Bool, cond, eqb, List, [], ◌∷◌, length, map, drop, refl, sym, ap, ◌∙◌, subst, inl, inr, arith, eq-eqb, ne_eqb}
 use Rattle.std.proofs.lemmas.Bool.{cases_eq}
 use Rattle.std.proofs.Math.Nat.{div-add-mod, mod-lt}
 use Rattle.atomic_table.specs.Table.{rest}
@@ -7,11 +7,11 @@ use Rattle.scholten_core.specs.Sums.{sum_below}
 use Rattle.shard_part.specs.PartState.{total, is, All, Setup}
 use Rattle.shard_part.proofs.Weights.{sum_at, sum_zero}
 use Rattle.post_floor.specs.declared.view.View.{View}
-use Rattle.post_floor.specs.Boxes.{box_count, dest, origin}
+use Rattle.post_floor.specs.Boxes.{dest, origin}
 use Rattle.post_floor.specs.Floor.{Slot, emptied, filling, reading}
 use Rattle.post_floor.specs.Plays.{Unclaimed}
 use Rattle.post_floor.specs.Data.{AreOpen, HasEnd}
-use Rattle.post_floor.proofs.Totals.{is_same, is_else, is_one}
+use Rattle.post_floor.proofs.Totals.{is_same, is_else}
 use Rattle.post_floor.proofs.Opened.{pair_below}
 
 -- numbers that f sends to different numbers below n, none twice, are at most n

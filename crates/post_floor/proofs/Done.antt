@@ -1,10 +1,9 @@
 -- The steps on the done word keep the rule of the floor.
-use Rattle.std.proofs.Common.{◌≡◌, ◌≢◌, ℕ, zero, suc, ◌+◌, ◌<◌, ◌≤◌, Bool, true, false, not, ◌&&◌, cond, eqb, List, [], ◌∷◌, ◌++◌, length, map, set, get_or, refl, sym, ap, ◌∙◌, subst, ◌⊎◌, inl, inr, arith, length-set, get_or-set_other, get_or-set_same, eqb-true}
-use Rattle.std.specs.Prelude as std
+use Rattle.std.proofs.Common.{◌≡◌, ℕ, Bool, true, false, not, ◌&&◌, eqb, List, ◌++◌, map, set, get_or, refl, sym, ap, ◌∙◌, subst, inl, inr, arith, length-set, get_or-set_other, get_or-set_same}
 use Rattle.std.proofs.lemmas.Bool.{cases_eq}
 use mathlib.Core.Option.{Option, none, some}
 use lib.ListN.{get_elem?}
-use Rattle.atomic_table.specs.Table.{State, Me, Step, step, Act, keeps, Allows, rest}
+use Rattle.atomic_table.specs.Table.{step, keeps, Allows}
 use Rattle.atomic_table.proofs.Lists.{at_set}
 use Rattle.path_algebra.specs.Algebra.{Algebra}
 use Rattle.scholten_core.specs.declared.event.Event.{Event}
@@ -14,17 +13,17 @@ use Rattle.scholten_core.specs.declared.token.Token.TheVariants.{Idle, Message, 
 use Rattle.scholten_core.specs.Network.{WellFormed}
 use Rattle.scholten_core.specs.Diffusion.{CoreState, HasEnded, IsQuiet, is_idle}
 use Rattle.scholten_core.proofs.Ended.{ended}
-use Rattle.shard_part.specs.PartState.{PartData, Setup, network_in, place_in, state_in, token_if, total, is, part_weight, event_of, TookAll, HoldsShare, Holds, Shows}
+use Rattle.shard_part.specs.PartState.{PartData, Setup, network_in, place_in, token_if, total, is, event_of, TookAll, HoldsShare}
 use Rattle.shard_part.specs.Readings.{has_ended}
 use Rattle.shard_part.proofs.Weights.{sum_below_same}
 use Rattle.shard_part.proofs.Showing.{AllLawful}
 use Rattle.post_floor.specs.declared.view.View.{View}
 use Rattle.post_floor.specs.Boxes.{box_count, dest}
 use Rattle.post_floor.specs.Floor.{Slot, filling, reading, box, mail, BoxOk, core_of, Kept}
-use Rattle.post_floor.specs.Plays.{ShowsPart, Went, at_word, see, Follows, Known, Ended, looked, announced}
+use Rattle.post_floor.specs.Plays.{ShowsPart, at_word, see, Follows, Known, Ended, looked, announced}
 use Rattle.post_floor.proofs.Totals.{total_set}
 use Rattle.shard_part.specs.Exact.{done_by}
-use Rattle.post_floor.proofs.Keeps.{gone, went, After, goes_on, idle_after}
+use Rattle.post_floor.proofs.Keeps.{gone, went, goes_on, idle_after}
 use Rattle.post_floor.proofs.Steps.{Tab, Seat, ended_more}
 use Rattle.post_floor.proofs.Exchanges.{unchanged}
 

@@ -1,36 +1,32 @@
 -- The kinds of steps, each as the table asks for it.
-use Rattle.std.proofs.Common.{◌≡◌, ◌≢◌, ℕ, zero, suc, ◌+◌, ◌*◌, ◌^◌, ◌<◌, ◌≤◌, Bool, true, false, cond, eqb, min, List, [], ◌∷◌, ◌++◌, length, map, set, get_or, refl, sym, ap, ◌∙◌, subst, ◌⊎◌, inl, inr, arith, length-set, get_or-set_other, get_or-set_same, eq-eqb, ne_eqb}
+use Rattle.std.proofs.Common.{◌≡◌, ◌≢◌, ℕ, ◌+◌, ◌<◌, eqb, List, [], ◌∷◌, ◌++◌, length, map, set, get_or, refl, sym, ap, ◌∙◌, subst, arith, length-set}
 use Rattle.std.specs.Prelude as std
-use Rattle.std.proofs.lemmas.Bool.{cases_eq}
-use mathlib.Core.Option.{Option, none, some, some-injective, some-ne-none}
+use mathlib.Core.Option.{Option, none, some}
 use lib.ListN.{get_elem?}
 use prog.Atomic.{either}
-use Rattle.atomic_table.specs.Table.{State, Me, Step, step, Act, keeps, takes, gives, Allows, Valid, stepped, rest, carried_after, homes_after, put_back}
-use Rattle.atomic_table.proofs.Lists.{at_set, set_here, set_else, exchanged}
-use Rattle.circular_buffer.specs.Buffer.{Buffer, buffer}
+use Rattle.atomic_table.specs.Table.{step, Act, keeps, takes, gives, Allows, Valid, stepped, rest, carried_after, put_back}
+use Rattle.atomic_table.proofs.Lists.{set_here, set_else, exchanged}
+use Rattle.circular_buffer.specs.Buffer.{buffer}
 use Rattle.path_algebra.specs.Algebra.{Algebra}
-use Rattle.scholten_core.specs.declared.event.Event.{Event}
 use Rattle.scholten_core.specs.declared.item.Item.{Item}
 use Rattle.scholten_core.specs.Network.{WellFormed}
-use Rattle.scholten_core.specs.Accounts.{Totals, totals_of}
-use Rattle.scholten_core.specs.Diffusion.{CoreState, HasEnded}
-use Rattle.scholten_core.specs.Sums.{sum_below}
+use Rattle.scholten_core.specs.Diffusion.{CoreState}
 use Rattle.scholten_core.proofs.Kept.{Kept as CoreKept}
-use Rattle.shard_part.specs.PartState.{PartData, Setup, network_in, place_in, state_in, maker_of, total, is, All, part_weight, outs_weight, event_of, TookAll, HoldsShare, Holds, Shows}
-use Rattle.shard_part.proofs.Weights.{total_append, sum_below_same}
+use Rattle.shard_part.specs.PartState.{PartData, Setup, network_in, place_in, total, is, All, event_of, TookAll, HoldsShare}
+use Rattle.shard_part.proofs.Weights.{total_append}
 use Rattle.shard_part.proofs.Routed.{outs_none}
 use Rattle.shard_part.proofs.Showing.{AllLawful}
 use Rattle.shard_part.specs.Arriving.{MadeAt, joined, MayReceive}
 use Rattle.post_floor.specs.declared.view.View.{View}
 use Rattle.post_floor.specs.Boxes.{box_count, dest, origin}
-use Rattle.post_floor.specs.Floor.{Slot, Place, flat, filling, reading, AddUp, load_place, box, mail, cap, emptied, BoxOk, core_of, Kept}
-use Rattle.post_floor.specs.Plays.{without, next_slot, ShowsPart, Went, at_word, Unclaimed, claim_fill, end_fill, claim_read, end_read, see, sent_off, HasEmpty, Follows, Known, Ended, filled, published, took, cleared, looked, announced, Publishing}
-use Rattle.post_floor.proofs.Totals.{total_set, total_at, is_same, is_else, is_one, without_same, without_else}
+use Rattle.post_floor.specs.Floor.{Slot, filling, reading, load_place, box, cap, emptied, core_of, Kept}
+use Rattle.post_floor.specs.Plays.{ShowsPart, Went, at_word, Unclaimed, claim_fill, end_fill, claim_read, end_read, sent_off, HasEmpty, Follows, filled, published, took, cleared}
+use Rattle.post_floor.proofs.Totals.{total_at, is_same, is_else, is_one, without_same, without_else}
 use Rattle.shard_part.specs.Exact.{done_by}
 use Rattle.shard_part.proofs.TakenCounts.{took_same}
 use Rattle.shard_part.proofs.Arriving.{arrives}
 use Rattle.post_floor.proofs.Keeps.{gone, Relisted, went, kept_core}
-use Rattle.post_floor.proofs.Steps.{Tab, Seat, Change, changes}
+use Rattle.post_floor.proofs.Steps.{Tab, Seat, changes}
 
 module _ {S V : Type 0} (meaning : S → Algebra V) (t : Setup S) where
   pub unchanged : (d : PartData S V) → Relisted meaning t d d

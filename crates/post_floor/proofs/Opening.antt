@@ -1,17 +1,17 @@
 -- The table as it is opened keeps the rule.
-use Rattle.std.proofs.Common.{◌≡◌, ◌≢◌, ℕ, zero, suc, ◌+◌, ◌<◌, ◌≤◌, Bool, true, false, List, [], ◌∷◌, ◌++◌, length, set, get_or, map, replicate, refl, sym, ap, ◌∙◌, subst, ◌⊎◌, inl, inr, arith, eq-eqb, ne_eqb, append-nil}
+use Rattle.std.proofs.Common.{◌≡◌, ℕ, zero, suc, ◌+◌, ◌<◌, ◌≤◌, true, false, List, [], ◌∷◌, length, get_or, map, replicate, refl, sym, ap, ◌∙◌, subst, inl, inr, arith, eq-eqb, ne_eqb, append-nil}
 use Rattle.std.proofs.lemmas.Bool.{cases_eq}
 use Rattle.std.proofs.lemmas.List.{length-replicate, length-map}
-use mathlib.Core.Option.{Option, none, some, some-injective, some-ne-none}
+use mathlib.Core.Option.{Option, some, some-injective, some-ne-none}
 use lib.ListN.{get_elem?}
-use Rattle.atomic_table.specs.Table.{State, opening}
+use Rattle.atomic_table.specs.Table.{opening}
 use Rattle.atomic_table.proofs.Lists.{at_map}
 use Rattle.path_algebra.specs.Algebra.{Algebra}
 use Rattle.scholten_core.specs.declared.item.Item.{Item}
-use Rattle.scholten_core.specs.Sums.{sum_below, one_if}
-use Rattle.shard_part.specs.PartState.{PartData, Setup, network_in, place_in, total, is, All, Shows}
+use Rattle.scholten_core.specs.Sums.{one_if}
+use Rattle.shard_part.specs.PartState.{PartData, Setup, place_in, total, is, All, Shows}
 use Rattle.shard_part.specs.Desk.{IsPlanned}
-use Rattle.shard_part.specs.Opening.{opened_part, opened_parts}
+use Rattle.shard_part.specs.Opening.{opened_parts}
 use Rattle.shard_part.proofs.Weights.{sum_zero, sum_below_same}
 use Rattle.shard_part.proofs.Opened.{place_below}
 use Rattle.shard_part.proofs.OpenedAll.{opened_show, opened_same}

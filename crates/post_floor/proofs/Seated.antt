@@ -1,5 +1,5 @@
 -- What a call knows of its seat, and that the seat is one again after its step.
-use Rattle.std.proofs.Common.{◌≡◌, ◌≢◌, ℕ, zero, suc, ◌+◌, ◌*◌, ◌<◌, ◌≤◌, Bool, true, false, cond, eqb, List, [], ◌∷◌, length, get_or, set, take, drop, refl, sym, ap, ◌∙◌, subst, ◌⊎◌, inl, inr, arith, eq-eqb, ne_eqb, length-set, get_or-set_other}
+use Rattle.std.proofs.Common.{◌≡◌, ℕ, zero, suc, ◌+◌, ◌*◌, ◌<◌, ◌≤◌, Bool, cond, List, [], ◌∷◌, length, get_or, set, take, drop, refl, sym, ap, ◌∙◌, subst, inl, inr, arith, eq-eqb, ne_eqb, length-set, get_or-set_other}
 use Rattle.std.proofs.lemmas.Bool.{cases_eq}
 use Rattle.atomic_table.specs.Seated.{TableId}
 use Rattle.atomic_table.specs.Table.{rest}
@@ -7,12 +7,12 @@ use Rattle.path_algebra.specs.Algebra.{Algebra}
 use Rattle.shard_part.specs.PartState.{PartData, Setup, total, is}
 use Rattle.shard_part.proofs.TakenCounts.{took_same}
 use Rattle.post_floor.specs.declared.view.View.{View}
-use Rattle.post_floor.specs.Boxes.{box_count, mailbox, dest, origin}
+use Rattle.post_floor.specs.Boxes.{mailbox}
 use Rattle.post_floor.specs.Floor.{Slot, emptied, filling, reading}
-use Rattle.post_floor.specs.Plays.{without, next_slot, ShowsPart, Went, at_word, claim_fill, end_fill, claim_read, end_read, Follows, Unclaimed}
-use Rattle.post_floor.specs.Data.{FloorData, SeatData, IsSized, AreSlots, HasEnd, AreOpen, IsSeat, IsAt, fill_box, read_box}
+use Rattle.post_floor.specs.Plays.{without, next_slot, Went, at_word, end_fill, end_read, Follows, Unclaimed}
+use Rattle.post_floor.specs.Data.{FloorData, SeatData, AreSlots, HasEnd, AreOpen, IsSeat, IsAt, fill_box, read_box}
 use Rattle.post_floor.proofs.Totals.{is_same, is_else, without_same, without_else}
-use Rattle.post_floor.proofs.Claiming.{few_claims, claims_more, claims_less, first_empty}
+use Rattle.post_floor.proofs.Claiming.{few_claims, claims_more, claims_less}
 
 head_or : {A : Type 0} → A → List A → A
 head_or d [] = d

@@ -1,20 +1,17 @@
 -- Seats that are cut off and joined keep the rule.
-use Rattle.std.proofs.Common.{◌≡◌, ◌≢◌, ℕ, zero, suc, ◌+◌, ◌<◌, ◌≤◌, Bool, true, false, ◌||◌, List, [], ◌∷◌, ◌++◌, length, set, get_or, refl, sym, ap, ◌∙◌, subst, ◌⊎◌, inl, inr, arith, map, length-append, append_assoc}
-use Rattle.std.proofs.lemmas.List.{map-append}
-use mathlib.Core.Option.{Option, none, some, some-injective, some-ne-none}
+use Rattle.std.proofs.Common.{◌≡◌, ℕ, ◌+◌, ◌<◌, Bool, true, false, ◌||◌, List, [], ◌∷◌, ◌++◌, set, get_or, refl, sym, ap, ◌∙◌, subst, inl, inr, arith}
+use mathlib.Core.Option.{some}
 use lib.ListN.{get_elem?}
 use Rattle.atomic_table.specs.Table.{State, Splits, Joins}
 use Rattle.atomic_table.proofs.Lists.{at_set, at_snoc}
 use Rattle.path_algebra.specs.Algebra.{Algebra}
-use Rattle.scholten_core.specs.declared.item.Item.{Item}
-use Rattle.scholten_core.specs.Accounts.{totals_of}
-use Rattle.shard_part.specs.PartState.{PartData, Setup, network_in, place_in, total, is, All, part_weight, HoldsTables, Shows}
+use Rattle.shard_part.specs.PartState.{PartData, Setup, network_in, place_in, total, is, All, part_weight, HoldsTables}
 use Rattle.shard_part.proofs.Weights.{total_append}
 use Rattle.shard_part.proofs.Showing.{all_append}
 use Rattle.post_floor.specs.declared.view.View.{View}
 use Rattle.post_floor.specs.Boxes.{box_count}
-use Rattle.post_floor.specs.Floor.{Slot, flat, filling, reading, AddUp, CountsNone, BoxOk, core_of, Kept}
-use Rattle.post_floor.specs.Seats.{tail, first_of, with_parts, cut_left, cut_right, aside_left, aside_right, both, spent}
+use Rattle.post_floor.specs.Floor.{Slot, flat, filling, reading, CountsNone, BoxOk, core_of, Kept}
+use Rattle.post_floor.specs.Seats.{tail, first_of, cut_left, cut_right, aside_left, aside_right, both, spent}
 use Rattle.post_floor.proofs.Totals.{total_set}
 use Rattle.post_floor.proofs.Parts.{flat_total, flat_each, flat_at}
 

@@ -1,37 +1,30 @@
 -- Each of the steps on a mailbox keeps the rule of the floor.
-use Rattle.std.proofs.Common.{◌≡◌, ◌≢◌, ℕ, zero, suc, ◌+◌, ◌*◌, ◌^◌, ◌<◌, ◌≤◌, Bool, true, false, cond, eqb, min, List, [], ◌∷◌, ◌++◌, length, map, set, get_or, refl, sym, ap, ◌∙◌, subst, ◌⊎◌, inl, inr, arith, length-set, get_or-set_other, get_or-set_same, eq-eqb, ne_eqb}
+use Rattle.std.proofs.Common.{◌≡◌, ◌≢◌, ℕ, ◌+◌, ◌<◌, List, [], ◌∷◌, ◌++◌, length, map, set, get_or, refl, sym, ap, ◌∙◌, subst, inl, inr, arith, length-set, get_or-set_other, get_or-set_same}
 use Rattle.std.specs.Prelude as std
 use Rattle.std.proofs.lemmas.Bool.{cases_eq}
-use mathlib.Core.Option.{Option, none, some, some-injective, some-ne-none}
+use mathlib.Core.Option.{Option, some}
 use lib.ListN.{get_elem?}
-use prog.Atomic.{either}
-use Rattle.atomic_table.specs.Table.{State, Me, Step, step, Act, keeps, takes, gives, Allows, Valid, stepped, rest, carried_after, homes_after, put_back}
-use Rattle.atomic_table.proofs.Lists.{at_set, set_here, set_else, exchanged}
-use Rattle.circular_buffer.specs.Buffer.{Buffer, buffer}
+use Rattle.atomic_table.specs.Table.{State, Me}
+use Rattle.atomic_table.proofs.Lists.{at_set}
+use Rattle.circular_buffer.specs.Buffer.{buffer}
 use Rattle.path_algebra.specs.Algebra.{Algebra}
 use Rattle.scholten_core.specs.declared.event.Event.{Event}
 use Rattle.scholten_core.specs.declared.item.Item.{Item}
-use Rattle.scholten_core.specs.declared.token.Token.TheVariants.{Idle}
 use Rattle.scholten_core.specs.Network.{WellFormed}
-use Rattle.scholten_core.specs.Accounts.{Totals, totals_of}
-use Rattle.scholten_core.specs.Diffusion.{CoreState, opening, state_after, run_from, step as next_state, delivered, accepted, HasEnded, IsQuiet}
+use Rattle.scholten_core.specs.Diffusion.{CoreState, opening, run_from, step as next_state, delivered, accepted, HasEnded, IsQuiet}
 use Rattle.scholten_core.specs.declared.event.Event.TheVariants.{Deliver, Accept}
-use Rattle.scholten_core.specs.Sums.{sum_below}
 use Rattle.scholten_core.proofs.Ended.{ended}
-use Rattle.shard_part.specs.PartState.{PartData, Setup, network_in, place_in, state_in, maker_of, total, is, All, part_weight, outs_weight, event_of, TookAll, HoldsShare, Holds, Shows}
-use Rattle.shard_part.proofs.Weights.{total_append, sum_at, sum_below_same}
-use Rattle.shard_part.proofs.Routed.{outs_none}
+use Rattle.shard_part.specs.PartState.{PartData, Setup, network_in, place_in, total, is, part_weight, event_of, TookAll, HoldsShare}
+use Rattle.shard_part.proofs.Weights.{sum_at}
 use Rattle.shard_part.proofs.Showing.{AllLawful}
-use Rattle.shard_part.proofs.TakenCounts.{run_append, took_same}
-use Rattle.shard_part.specs.Arriving.{MadeAt, joined, MayReceive}
+use Rattle.shard_part.proofs.TakenCounts.{run_append}
+use Rattle.shard_part.specs.Arriving.{MadeAt}
 use Rattle.post_floor.specs.declared.view.View.{View}
 use Rattle.post_floor.specs.Boxes.{box_count, dest, origin}
-use Rattle.post_floor.specs.Floor.{Slot, Place, flat, filling, reading, AddUp, load_place, box, mail, cap, emptied, BoxOk, core_of, Kept}
-use Rattle.post_floor.specs.Plays.{without, next_slot, ShowsPart, Went, claim_fill, end_fill, claim_read, end_read, see, sent_off, HasEmpty, Follows, Known, Ended, filled, published, took, cleared, looked, announced}
-use Rattle.post_floor.proofs.Totals.{total_set, total_at, set_set, set_at, is_same, is_else, is_one, without_same, without_else}
+use Rattle.post_floor.specs.Floor.{Slot, Place, filling, reading, box, mail, cap, emptied, BoxOk, core_of, Kept}
+use Rattle.post_floor.proofs.Totals.{total_set}
 use Rattle.shard_part.specs.Exact.{done_by}
-use Rattle.shard_part.proofs.Arriving.{arrives}
-use Rattle.post_floor.proofs.Keeps.{gone, Relisted, went, After, goes_on, kept_core, idle_after}
+use Rattle.post_floor.proofs.Keeps.{gone, Relisted, goes_on, idle_after}
 
 module _ {V : Type 0} (A : Algebra V) (N : Rattle.scholten_core.specs.Network.Network) where
   -- after the end no event is enabled

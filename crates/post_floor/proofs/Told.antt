@@ -1,13 +1,11 @@
 -- The steps, as the floor's calls ask for them: what a step tells of the part d is told of each part of the list d ∷ [].
-use Rattle.std.proofs.Common.{◌≡◌, ◌≢◌, ℕ, suc, ◌+◌, ◌*◌, ◌<◌, ◌≤◌, Bool, true, false, eqb, List, [], ◌∷◌, length, refl, sym, ap, ◌∙◌, subst, ◌⊎◌, inl, inr, eq-eqb, ne_eqb, set, get_or}
+use Rattle.std.proofs.Common.{◌≡◌, ◌≢◌, ℕ, ◌<◌, true, eqb, List, [], ◌∷◌, sym, ap, ◌∙◌, subst, get_or}
 use Rattle.std.specs.Prelude as std
-use Rattle.std.proofs.lemmas.Bool.{cases_eq}
 use mathlib.Core.Option.{none}
 use prog.Atomic.{either}
-use Rattle.atomic_table.specs.Table.{State, Me, Step, step, Allows, rest}
-use Rattle.circular_buffer.specs.Buffer.{Buffer, buffer}
+use Rattle.atomic_table.specs.Table.{State, Me, step, Allows, rest}
+use Rattle.circular_buffer.specs.Buffer.{buffer}
 use Rattle.path_algebra.specs.Algebra.{Algebra}
-use Rattle.scholten_core.specs.declared.item.Item.{Item}
 use Rattle.scholten_core.specs.Network.{WellFormed}
 use Rattle.scholten_core.proofs.Networks.{well_formed}
 use Rattle.shard_part.specs.Desk.{IsPlanned}
@@ -17,7 +15,7 @@ use Rattle.shard_part.proofs.Showing.{AllLawful}
 use Rattle.shard_part.specs.Arriving.{MadeAt}
 use Rattle.post_floor.specs.declared.view.View.{View}
 use Rattle.post_floor.specs.Boxes.{box_count, dest, origin}
-use Rattle.post_floor.specs.Floor.{Slot, filling, reading, cap, emptied, Kept}
+use Rattle.post_floor.specs.Floor.{Slot, filling, reading, cap, Kept}
 use Rattle.post_floor.specs.Plays.{HasEmpty, Follows, Publishing, sent_off, filled, published, took, cleared, looked, announced}
 use Rattle.post_floor.proofs.Exchanges.{fills, takes_batch, publishes, clears}
 use Rattle.post_floor.proofs.Done.{looks, announces}

@@ -1,11 +1,10 @@
 -- Sums over lists and over numbers, where one member changes.
-use Rattle.std.proofs.Common.{◌≡◌, ◌≢◌, ℕ, zero, suc, ◌+◌, ◌<◌, ◌≤◌, Bool, true, false, cond, eqb, List, [], ◌∷◌, ◌++◌, length, set, get_or, refl, sym, ap, ◌∙◌, subst, ◌⊎◌, inl, inr, arith, eq-eqb, ne_eqb}
+use Rattle.std.proofs.Common.{◌≡◌, ◌≢◌, ℕ, zero, suc, ◌+◌, ◌<◌, ◌≤◌, Bool, cond, eqb, List, [], ◌∷◌, set, refl, sym, ap, ◌∙◌, subst, inl, inr, arith, eq-eqb, ne_eqb}
 use Rattle.std.proofs.lemmas.Bool.{cases_eq}
-use mathlib.Core.Option.{Option, none, some, some-injective, some-ne-none}
+use mathlib.Core.Option.{some, some-injective, some-ne-none}
 use lib.ListN.{get_elem?}
-use Rattle.scholten_core.specs.Sums.{sum_below, one_if}
-use Rattle.shard_part.specs.PartState.{total, is, All}
-use Rattle.shard_part.proofs.Weights.{total_append}
+use Rattle.scholten_core.specs.Sums.{one_if}
+use Rattle.shard_part.specs.PartState.{total, is}
 use Rattle.post_floor.specs.Plays.{without}
 
 module _ {A : Type 0} where
@@ -34,16 +33,6 @@ module _ {A : Type 0} where
   total_alone f [] id v at z = absurd (some-ne-none v (sym at))
   total_alone f (x ∷ xs) zero v at z = let p : f x ≡ f v = ap f (some-injective x v at) in let q = total_none f xs (λ i u a. z (suc i) u (λ e. omega (arith, e)) a) in omega (arith, p, q)
   total_alone f (x ∷ xs) (suc id) v at z = let p = z 0 x (λ e. omega (arith, e)) refl in let q = total_alone f xs id v at (λ i u ne a. z (suc i) u (λ e. ne (omega (arith, e))) a) in omega (arith, p, q)
-
-  pub set_set : (vs : List A) (i : ℕ) (v w : A) → set (set vs i v) i w ≡ set vs i w
-  set_set [] i v w = refl
-  set_set (x ∷ xs) zero v w = refl
-  set_set (x ∷ xs) (suc i) v w = ap (λ (l : List A). x ∷ l) (set_set xs i v w)
-
-  pub set_at : (vs : List A) (i : ℕ) (v w : A) → get_elem? vs i ≡ some v → get_elem? (set vs i w) i ≡ some w
-  set_at [] i v w e = absurd (some-ne-none v (sym e))
-  set_at (x ∷ xs) zero v w e = refl
-  set_at (x ∷ xs) (suc i) v w e = set_at xs i v w e
 
 pub is_same : (k : ℕ) → is k k ≡ 1
 is_same k = ap one_if (eq-eqb k k refl)

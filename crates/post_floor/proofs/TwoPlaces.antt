@@ -1,5 +1,5 @@
 -- Two parts and two seats as they are opened, and a part that goes on.
-use Rattle.std.proofs.Common.{◌≡◌, ℕ, zero, suc, ◌+◌, ◌<◌, List, [], ◌∷◌, ◌++◌, length, map, refl, sym, ap, ◌∙◌, subst, arith, length-append}
+use Rattle.std.proofs.Common.{◌≡◌, ℕ, zero, suc, ◌+◌, List, [], ◌∷◌, ◌++◌, length, map, refl, sym, ap, ◌∙◌, subst, arith, length-append}
 use Rattle.path_algebra.specs.Algebra.{Algebra}
 use Rattle.scholten_core.specs.declared.item.Item.{Item}
 use Rattle.shard_part.specs.PartState.{PartData, Setup, TookAll, All}

@@ -11,7 +11,7 @@ use Rattle.shard_part.specs.Tallies.{top}
 use Rattle.shard_part.specs.PartState.{Setup, PartData, TookAll, Holds}
 use Rattle.shard_part.specs.Arriving.{MadeAt, joined, MayReceive}
 use Rattle.post_floor.specs.declared.view.View.{View}
-use Rattle.post_floor.specs.Boxes.{box_count, origin, dest}
+use Rattle.post_floor.specs.Boxes.{origin, dest}
 use Rattle.post_floor.specs.Floor.{Slot, cap, emptied, core_of, filling, reading}
 
 -- the list with its first k left out

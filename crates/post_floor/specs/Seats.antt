@@ -1,5 +1,5 @@
 -- Seats that are cut off and joined.
-use Rattle.std.specs.Prelude.{◌≡◌, ℕ, suc, ◌+◌, Bool, false, ◌||◌, List, [], ◌∷◌, ◌++◌, replicate}
+use Rattle.std.specs.Prelude.{ℕ, ◌+◌, false, ◌||◌, List, [], ◌∷◌, ◌++◌, replicate}
 use Rattle.atomic_table.specs.Table.{Me}
 use Rattle.shard_part.specs.PartState.{PartData, total}
 use Rattle.post_floor.specs.declared.view.View.{View}

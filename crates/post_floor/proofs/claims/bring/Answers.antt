@@ -1,4 +1,4 @@
-use Rattle.std.proofs.Common.{◌≡◌, ◌<◌, ◌≤◌, ℕ, List, length, map, ap, sym, ◌∙◌, subst, arith}
+use Rattle.std.proofs.Common.{◌≡◌, ◌<◌, ℕ, List, length, map, ap, sym, ◌∙◌, subst, arith}
 use Rattle.circular_buffer.specs.Buffer.{Buffer}
 use Rattle.shard_part.specs.PartState.{total, is}
 use Rattle.post_floor.specs.Floor.{Slot}

@@ -1,4 +1,4 @@
-use Rattle.std.proofs.Common.{rules, arith, ◌≡◌, ap, sym, ◌∙◌}
+use Rattle.std.proofs.Common.{rules}
 use Rattle.post_floor.proofs.close.all_seated.Goals as goal
 
 pub returns-then-not-is_seated : goal.returns-then-not-is_seated

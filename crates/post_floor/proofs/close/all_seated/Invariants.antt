@@ -1,5 +1,3 @@
-use Rattle.std.proofs.Common.{ℕ, ◌<◌}
-use Rattle.shard_part.specs.PartState.{total, is}
 use Rattle.post_floor.specs.Closing.{AllSeated}
 use Rattle.post_floor.proofs.close.all_seated.Given as goal
 

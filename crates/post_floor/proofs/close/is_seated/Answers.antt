@@ -1,4 +1,4 @@
-use Rattle.std.proofs.Common.{rules, arith, ◌≡◌, ◌≢◌, ap, sym, ◌∙◌}
+use Rattle.std.proofs.Common.{rules, arith, ◌≡◌, ◌≢◌, ap, ◌∙◌}
 use Rattle.shard_part.specs.PartState.{is}
 use Rattle.post_floor.proofs.Totals.{is_same, is_else}
 use Rattle.post_floor.proofs.Closing.{found, not_found}

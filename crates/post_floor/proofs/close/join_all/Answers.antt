@@ -1,4 +1,4 @@
-use Rattle.std.proofs.Common.{◌≡◌, ap, sym, ◌∙◌, [], rules}
+use Rattle.std.proofs.Common.{◌≡◌, ap, ◌∙◌, rules}
 use Rattle.post_floor.specs.Seats.{both, aside_right}
 use Rattle.post_floor.proofs.Seats.{splits_aside, joins, all_front}
 use Rattle.post_floor.proofs.Closing.{join_one, joined_end}

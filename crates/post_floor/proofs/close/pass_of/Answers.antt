@@ -1,4 +1,4 @@
-use Rattle.std.proofs.Common.{◌≡◌, ap, sym, ◌∙◌}
+use Rattle.std.proofs.Common.{ap, sym, ◌∙◌}
 use Rattle.post_floor.proofs.close.pass_of.Goals as goal
 
 pub returns-clause-part : goal.returns-clause-part

@@ -1,4 +1,4 @@
-use Rattle.std.proofs.Common.{◌∙◌, ap, rules}
+use Rattle.std.proofs.Common.{◌∙◌}
 use Rattle.post_floor.proofs.Called.{first_is, has_now}
 use Rattle.post_floor.proofs.exchange.fetch.Goals as goal
 

@@ -1,4 +1,4 @@
-use Rattle.std.proofs.Common.{◌∙◌, ap, sym, rules}
+use Rattle.std.proofs.Common.{◌∙◌, ap, rules}
 use Rattle.post_floor.proofs.Called.{has_now, publishing}
 use Rattle.post_floor.proofs.exchange.post.Goals as goal
 

@@ -1,4 +1,4 @@
-use Rattle.std.proofs.Common.{rules, arith, ◌≡◌, ◌≤◌, ◌<◌, ◌/◌, ◌%◌, length, ap, sym, subst, ◌∙◌, ℕ}
+use Rattle.std.proofs.Common.{arith, ◌<◌, ◌/◌, ◌%◌, length, ap, sym, subst, ◌∙◌}
 use Rattle.shard_part.specs.PartState.{network_in, place_in, out_room}
 use Rattle.post_floor.proofs.Opened.{opened_long, pair_below, part_at, cap_own, cap_other}
 use Rattle.post_floor.proofs.open.room_of.Goals as goal

@@ -1,7 +1,5 @@
-use Rattle.std.proofs.Common.{◌≡◌, ℕ, ◌<◌, ◌+◌, ◌++◌, List, [], ◌∷◌, map, length, rules, arith, refl, ap, sym, ◌∙◌, subst, length-append, append-nil}
-use Rattle.shard_part.specs.PartState.{PartData, Setup}
-use Rattle.shard_part.specs.Opening.{opened_part, opened_parts}
-use Rattle.post_floor.specs.Seats.{lone, knows, tail, first_of, cut_left, cut_right}
+use Rattle.std.proofs.Common.{◌≡◌, ℕ, ◌+◌, ◌++◌, [], ◌∷◌, map, rules, arith, refl, ap, sym, ◌∙◌, length-append}
+use Rattle.post_floor.specs.Seats.{knows, cut_left, cut_right}
 use Rattle.post_floor.specs.Data.{seat_of}
 use Rattle.post_floor.proofs.Seats.{splits}
 use Rattle.post_floor.proofs.Opened.{cut_opened, map_one_more, none_more, opened_long}

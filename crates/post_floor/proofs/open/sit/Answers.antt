@@ -1,4 +1,4 @@
-use Rattle.std.proofs.Common.{rules, ◌≡◌, ap, sym, ◌∙◌}
+use Rattle.std.proofs.Common.{rules}
 use Rattle.post_floor.proofs.Opened.{sits}
 use Rattle.post_floor.proofs.open.sit.Goals as goal
 

@@ -1,5 +1,5 @@
-use Rattle.std.proofs.Common.{rules, arith, ◌+◌, ◌≡◌, ◌++◌, ◌∷◌, [], ℕ, ap, sym, ◌∙◌, List}
-use Rattle.shard_part.specs.PartState.{Setup, PartData}
+use Rattle.std.proofs.Common.{rules, arith, ◌+◌, ◌≡◌, ◌++◌, ◌∷◌, [], ap, ◌∙◌}
+use Rattle.shard_part.specs.PartState.{Setup}
 use Rattle.shard_part.specs.Opening.{opened_part, opened_parts}
 use Rattle.post_floor.proofs.TwoPlaces.{opened_more}
 use Rattle.post_floor.proofs.tests.parts_of.Goals as goal

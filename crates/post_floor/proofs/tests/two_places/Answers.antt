@@ -1,4 +1,4 @@
-use Rattle.std.proofs.Common.{rules, ◌≡◌, ◌++◌, ◌∷◌, [], ap, sym, ◌∙◌, map}
+use Rattle.std.proofs.Common.{rules, ◌≡◌, ◌++◌, ◌∷◌, [], ap, ◌∙◌, map}
 use Rattle.shard_part.specs.PartState.{All}
 use Rattle.post_floor.specs.Data.{seat_of}
 use Rattle.post_floor.proofs.TwoPlaces.{both_places}

@@ -1,7 +1,7 @@
-use Rattle.std.proofs.Common.{rules, arith, ◌≡◌, ◌∙◌, ap, sym, refl, subst, ℕ, ◌<◌}
+use Rattle.std.proofs.Common.{refl}
 use Rattle.post_floor.specs.Plays.{at_word, see}
 use Rattle.post_floor.proofs.Seated.{still, placed}
-use Rattle.post_floor.proofs.Seated.{seated, entry_is, again, still, placed, claimed, released, in_ring, slots_next, fill_less, read_less}
+use Rattle.post_floor.proofs.Seated.{seated, still, placed}
 use Rattle.post_floor.proofs.floor.Floor.announce.Goals as goal
 
 pub announce_word-requires-clause-moved : goal.announce_word-requires-clause-moved

@@ -1,8 +1,7 @@
-use Rattle.std.proofs.Common.{rules, arith, ◌≡◌, ◌<◌, ℕ, List, ap, sym, ◌∙◌, subst, IsTrue}
+use Rattle.std.proofs.Common.{rules, arith, ◌≡◌, ◌<◌, ℕ, ap, sym, ◌∙◌, subst, IsTrue}
 use Rattle.std.specs.Mem.Slots.{slots_items}
-use Rattle.shard_part.specs.PartState.{Setup, total, is}
-use Rattle.post_floor.specs.Floor.{Slot, Settled}
-use Rattle.post_floor.specs.Data.{SeatData}
+use Rattle.shard_part.specs.PartState.{total, is}
+use Rattle.post_floor.specs.Floor.{Settled}
 use Rattle.post_floor.specs.Closing.{AllSeated}
 use Rattle.post_floor.proofs.Closing.{settles, join_last}
 use Rattle.post_floor.proofs.floor.Floor.close.Goals as goal

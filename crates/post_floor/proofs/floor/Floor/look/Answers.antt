@@ -1,9 +1,9 @@
-use Rattle.std.proofs.Common.{rules, arith, ◌≡◌, ◌∙◌, ap, sym, refl, subst, ℕ, ◌<◌}
+use Rattle.std.proofs.Common.{refl, ℕ}
 use Rattle.post_floor.specs.Plays.{at_word, see}
 use Rattle.post_floor.proofs.Seated.{still, placed}
 use Rattle.std.proofs.Common.{inl, inr}
 use Rattle.std.proofs.lemmas.Bool.{cases_eq}
-use Rattle.post_floor.proofs.Seated.{seated, entry_is, again, still, placed, claimed, released, in_ring, slots_next, fill_less, read_less}
+use Rattle.post_floor.proofs.Seated.{seated, still, placed}
 use Rattle.post_floor.proofs.floor.Floor.look.Goals as goal
 
 pub look_word-requires-clause-moved : goal.look_word-requires-clause-moved

@@ -1,10 +1,9 @@
-use Rattle.std.proofs.Common.{rules, arith, ◌≡◌, ◌≤◌, ◌<◌, ℕ, ◌+◌, ◌*◌, List, [], length, map, ap, sym, ◌∙◌, subst, replicate}
-use Rattle.shard_part.specs.PartState.{All}
+use Rattle.std.proofs.Common.{rules, ◌<◌, ◌+◌, [], length, map, ap, sym, ◌∙◌, subst, replicate}
 use Rattle.shard_part.specs.Desk.{IsPlanned}
 use Rattle.shard_part.specs.Opening.{opened_parts}
 use Rattle.atomic_table.specs.Table.{opening}
 use Rattle.post_floor.specs.Boxes.{box_count}
-use Rattle.post_floor.specs.Floor.{emptied, Kept}
+use Rattle.post_floor.specs.Floor.{Kept}
 use Rattle.post_floor.specs.Seats.{knows}
 use Rattle.post_floor.specs.Data.{seat_of}
 use Rattle.std.proofs.lemmas.List.{length-replicate}

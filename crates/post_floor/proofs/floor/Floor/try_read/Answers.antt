@@ -1,14 +1,11 @@
-use Rattle.std.proofs.Common.{rules, arith, ◌≡◌, ◌∙◌, ap, sym, refl, subst, ℕ, ◌<◌}
+use Rattle.std.proofs.Common.{arith, ◌∙◌, ap, sym, refl, subst, ℕ, ◌<◌}
 use Rattle.std.specs.Prelude.{get_or}
-use Rattle.post_floor.specs.Plays.{at_word, claim_fill, end_fill, claim_read, end_read, Went, Follows}
-use Rattle.post_floor.specs.Floor.{filling, reading}
+use Rattle.post_floor.specs.Plays.{at_word, claim_read}
 use Rattle.post_floor.specs.Boxes.{origin, dest, box_count}
 use Rattle.circular_buffer.specs.Buffer.{Buffer}
-use Rattle.shard_part.specs.PartState.{is}
-use Rattle.post_floor.proofs.Seated.{renamed, claim_here, moved_on}
-use Rattle.post_floor.proofs.Claiming.{first_empty}
-use Rattle.std.proofs.Common.{inl, inr}
-use Rattle.post_floor.proofs.Seated.{seated, entry_is, again, still, placed, claimed, released, in_ring, slots_next, fill_less, read_less}
+use Rattle.post_floor.proofs.Seated.{renamed}
+use Rattle.std.proofs.Common.{inr}
+use Rattle.post_floor.proofs.Seated.{seated, entry_is, still, placed, claimed}
 use Rattle.post_floor.proofs.floor.Floor.try_read.Goals as goal
 
 pub index-slot-requires : goal.index-slot-requires

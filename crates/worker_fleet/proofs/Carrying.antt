@@ -1,0 +1,38 @@
+-- Stations may cross threads where values may.
+use mathlib.Core.List.{List, [], ◌∷◌}
+use Prim.Native.Nat.{ℕ}
+use mir.Syntax.{w64}
+use denote.RattleType.{RattleType}
+use denote.Plain.{UInt}
+use denote.Param.Send.{IsSend, AllSend, sendable}
+use denote.Param.SendFields.{FieldsHave, as_row_send, declared_send}
+use denote.Ref.{NamedLft}
+use denote.Struct.Field.{row_field}
+use denote.Struct.Tuple.{Tuple, TupleAt, tuple_name, type_at, parts}
+use Rattle.std.proofs.Crossing.{Vec-send}
+use Rattle.std.specs.contracts.vec.Vec as Vec
+use Rattle.std.specs.contracts.alloc.Global as Global
+use Rattle.std.specs.contracts.impls.GlobalAllocator.TheImpl.{ghosts}
+use Rattle.path_algebra.specs.declared.algebra.PathAlgebra.{Ghosts}
+use Rattle.station.proofs.Carrying.{station_send}
+use Rattle.station.specs.contracts.station.Station as Station
+use Rattle.worker_fleet.specs.contracts.driving.Driven as Driven
+
+parts_send : (Ts : List RattleType) → AllSend Ts → FieldsHave IsSend (parts Ts)
+parts_send [] s = tt
+parts_send (T ∷ Ts) s = (as_row_send (row_field T) s.0, parts_send Ts s.1)
+
+-- a tuple may be sent where each of its parts may
+tuple_send : (ν : List ℕ) (Ts : List RattleType) → AllSend Ts → IsSend (TupleAt ν Ts)
+tuple_send ν Ts s = declared_send (type_at ν Ts) (parts_send Ts s)
+
+w64_send : IsSend (UInt w64)
+w64_send = search sendable
+
+module _ (A V : RattleType) (h : Ghosts A.Denot V.Denot) where
+  module _ (κ : NamedLft) where
+    pub stations_send : IsSend A → IsSend V → IsSend (Vec.the_row (Tuple (UInt w64 ∷ Station.the_row κ A V h ∷ [])) Global.the_row ghosts)
+    stations_send a v = Vec-send _ (tuple_send (tuple_name 2) (UInt w64 ∷ Station.the_row κ A V h ∷ []) (w64_send, (station_send A V h κ a v, tt)))
+
+    pub driven_send : IsSend A → IsSend V → IsSend (Driven.the_row κ A V h)
+    driven_send a v = search (sendable, stations_send, w64_send) depth 40

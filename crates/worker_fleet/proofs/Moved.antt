@@ -1,0 +1,62 @@
+-- One more step of one of the things that are moved.
+use Rattle.std.proofs.Common.{◌≡◌, ℕ, zero, suc, ◌+◌, ◌<◌, List, [], ◌∷◌, length, get_or, set, refl, ap, ◌∙◌, arith, add-one}
+use Rattle.std.specs.Prelude.{sum, slice_get, Some, None}
+use Rattle.std.proofs.lemmas.List.Sums.{sum_by-set, sum_by-cons}
+use Rattle.std.proofs.lemmas.Option.{slice_get_read}
+use Rattle.worker_fleet.specs.Moves.{still, then, MovesEach}
+
+pub zeros : {X : Type 0} → List X → List ℕ
+zeros [] = []
+zeros (x ∷ xs) = 0 ∷ zeros xs
+
+pub more_at : List ℕ → ℕ → List ℕ
+more_at ns i = set ns i (get_or ns i 0 + 1)
+
+module _ {X : Type 0} (S : X → X → Type 0) where
+  pub MovesEach-none : (xs : List X) → MovesEach S (zeros xs) xs xs
+  unfolding MovesEach zeros
+  MovesEach-none [] = tt
+  MovesEach-none (x ∷ xs) = (still, MovesEach-none xs)
+
+  pub MovesEach-more : (ns : List ℕ) (xs ys : List X) (i : ℕ) (y z : X) → MovesEach S ns xs ys → slice_get ys i ≡ Some y → S y z → MovesEach S (more_at ns i) xs (set ys i z)
+  unfolding MovesEach more_at
+  MovesEach-more [] [] [] i y z m at s = let no : None ≡ Some y = at in cc
+  MovesEach-more (n ∷ ns) (x ∷ xs) (w ∷ ys) zero y z m at s =
+      let same : w ≡ y = let e : Some w ≡ Some y = at in cc in
+      (rw add-one (then {z = z} m.0 (rw same s)), m.1)
+  MovesEach-more (n ∷ ns) (x ∷ xs) (w ∷ ys) (suc i) y z m at s = (m.0, MovesEach-more ns xs ys i y z m.1 at s)
+  MovesEach-more [] [] (w ∷ ys) i y z m at s = absurd m
+  MovesEach-more [] (x ∷ xs) ys i y z m at s = absurd m
+  MovesEach-more (n ∷ ns) [] ys i y z m at s = absurd m
+  MovesEach-more (n ∷ ns) (x ∷ xs) [] i y z m at s = absurd m
+
+pub sum-zeros : {X : Type 0} (xs : List X) → sum (zeros xs) ≡ 0
+unfolding zeros
+sum-zeros [] = refl
+sum-zeros (x ∷ xs) = omega (arith, sum_by-cons (λ (n : ℕ). n) 0 (zeros xs), sum-zeros xs)
+
+pub sum-more : (ns : List ℕ) (i : ℕ) → i < length ns → sum (more_at ns i) ≡ sum ns + 1
+unfolding more_at
+sum-more ns i low = omega (arith, sum_by-set (λ (n : ℕ). n) ns i (get_or ns i 0 + 1) 0 low)
+
+pub MovesEach-length : {X : Type 0} (S : X → X → Type 0) (ns : List ℕ) (xs ys : List X) → MovesEach S ns xs ys → length ns ≡ length ys
+unfolding MovesEach
+MovesEach-length S [] [] [] m = refl
+MovesEach-length S (n ∷ ns) (x ∷ xs) (y ∷ ys) m = ap suc (MovesEach-length S ns xs ys m.1)
+MovesEach-length S [] [] (y ∷ ys) m = absurd m
+MovesEach-length S [] (x ∷ xs) ys m = absurd m
+MovesEach-length S (n ∷ ns) [] ys m = absurd m
+MovesEach-length S (n ∷ ns) (x ∷ xs) [] m = absurd m
+
+-- xs was moved to ys by so many steps together
+abbrev pub MovedBy : {X : Type 0} → (X → X → Type 0) → ℕ → List X → List X → Type 0
+MovedBy S n xs ys = (counts : List ℕ) × MovesEach S counts xs ys × (sum counts ≡ n)
+
+pub MovedBy-none : {X : Type 0} (S : X → X → Type 0) (xs : List X) → MovedBy S 0 xs xs
+MovedBy-none S xs = (zeros xs, MovesEach-none S xs, sum-zeros xs)
+
+pub MovedBy-more : {X : Type 0} (S : X → X → Type 0) (n : ℕ) (xs ys : List X) (i : ℕ) (y z : X) → i < length ys → y ≡ get_or ys i y → S y z → MovedBy S n xs ys → MovedBy S (n + 1) xs (set ys i z)
+MovedBy-more S n xs ys i y z low at s m =
+    let len = MovesEach-length S m.0 xs ys m.1 in
+    let inside : i < length m.0 = omega arith in
+    (more_at m.0 i, MovesEach-more S m.0 xs ys i y z m.1 (slice_get_read ys (length ys) i y refl low at) s, sum-more m.0 i inside ∙ ap (λ k. k + 1) m.2)

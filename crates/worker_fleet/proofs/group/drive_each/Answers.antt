@@ -1,0 +1,18 @@
+use Rattle.std.proofs.Common.{rules}
+use denote.Exit.{no}
+use denote.Param.{copied}
+use denote.Param.Send.{param_send, arg_send, sendable}
+use Rattle.worker_fleet.proofs.Carrying.{stations_send, driven_send}
+use Rattle.worker_fleet.proofs.group.drive_each.Goals as goal
+
+pub run_each-requires-send-J : goal.run_each-requires-send-J
+run_each-requires-send-J g c κs within = let s = c.type_bounds in
+    param_send 0 _ (arg_send _ no _ (stations_send (copied 0 g.row.A) (copied 3 g.row.A-Value) g.A.PathAlgebra _ s.send-A s.send-A-Value))
+
+pub run_each-requires-send-T : goal.run_each-requires-send-T
+run_each-requires-send-T g c κs within = let s = c.type_bounds in
+    param_send 1 _ (arg_send _ no _ (driven_send (copied 0 g.row.A) (copied 3 g.row.A-Value) g.A.PathAlgebra _ s.send-A s.send-A-Value))
+
+pub run_each-requires-clause-can : goal.run_each-requires-clause-can
+run_each-requires-clause-can g c κs within = λ k job low is. let s = c.type_bounds in
+    (rw is (c.requires k job (search rules)), (search sendable, search sendable, search sendable, search sendable, search sendable))

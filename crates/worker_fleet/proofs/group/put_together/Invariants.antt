@@ -1,0 +1,13 @@
+use Rattle.std.proofs.Common.{◌≡◌, ℕ, ◌<◌, ◌++◌, get_or, vec_len}
+use Rattle.std.specs.List.{All}
+use Rattle.std.specs.Vec.Iter.{into_iter_items}
+use Rattle.worker_fleet.specs.Groups.{gathered}
+use Rattle.worker_fleet.proofs.group.put_together.Given as goal
+
+abbrev pub invariant-loop-driven : goal.invariant-loop-driven
+invariant-loop-driven g l = record {
+  next : (goal.iterator-loop-driven g).can_next l.driven-iterator × (goal.iterator-loop-driven g).is_finite l.driven-iterator;
+  len : vec_len l.lists ≡ l.width;
+  within : All (λ r. All (λ p. p.0 < l.width) r.stations.items) (into_iter_items l.driven-iterator);
+  put : (q : ℕ) (d : _) → q < l.width → (get_or l.lists.items q d).items ++ gathered q (into_iter_items l.driven-iterator) ≡ gathered q l.fn.answers.items;
+}

@@ -1,0 +1,6 @@
+pub mod Moves
+pub mod Turns
+pub mod Drives
+pub mod Errands
+pub mod Dealt
+pub mod Groups

@@ -1,0 +1,143 @@
+//! The loop of one worker.
+ghost use Rattle.std.specs.Prelude.{◌≡◌, ℕ, ◌<◌, ◌≤◌, length, IfSome, IfNone};
+ghost use Rattle.std.specs.List.{All, AllWithin, HoldsAt};
+ghost use Rattle.worker_fleet.specs.Turns.{NextOn, IsPlaced, HasEnded, IsOpen};
+ghost use Rattle.worker_fleet.specs.Drives.{Drives};
+
+use crate::gate::Gate;
+use path_algebra::PathAlgebra;
+use post_floor::Floor;
+use station::{Report, Station};
+use std::thread;
+
+/// Why a worker stopped.
+#[derive(Clone, Copy, PartialEq, Eq, Debug)]
+pub enum Outcome {
+    /// All have ended.
+    Ended,
+    /// The limit of turns was reached, and not all have ended.
+    Stalled,
+    /// The gate answered `false`.
+    Gated,
+}
+
+/// What a worker answers.
+#[derive(Drop)]
+pub struct Driven<'g, A: PathAlgebra> {
+    /// Why it stopped.
+    pub outcome: Outcome,
+    /// How many turns it made.
+    pub turns: u64,
+    /// The stations that it was given, in the same order.
+    pub stations: Vec<(usize, Station<'g, A>)>,
+}
+
+/// The place of the first station from `from` up to `to` that has not ended.
+fn first_open<A: PathAlgebra>(
+    stations: &[(usize, Station<'_, A>)],
+    from: usize,
+    to: usize,
+) -> Option<usize>
+    requires { (from ≤ to) × (to ≤ length stations.now) }
+    ensures none { IfNone result (AllWithin HasEnded stations.now from to) }
+    ensures some { IfSome result (λ k. (k < to) × HoldsAt IsOpen stations.now k) }
+{
+    for k in from..to {
+        let (_, station) = &stations[k];
+        if !station.ended() {
+            return Some(k);
+        }
+    }
+    None
+}
+
+/// The place of the next station that has not ended, from `at` on and then from the first.
+fn next_open<A: PathAlgebra>(stations: &[(usize, Station<'_, A>)], at: usize) -> Option<usize>
+    requires { at ≤ length stations.now }
+    ensures none { IfNone result (All HasEnded stations.now) }
+    ensures some { IfSome result (λ k. (k < length stations.now) × HoldsAt IsOpen stations.now k) }
+{
+    match first_open(stations, at, stations.len()) {
+        Some(k) => Some(k),
+        None => first_open(stations, 0, at),
+    }
+}
+
+/// Whether a turn handled, took or published anything.
+fn is_busy(report: Report) -> bool {
+    report.handled > 0 || report.taken > 0 || report.published > 0
+}
+
+/// One turn of one station on its floor; whether it did anything.
+fn turn_one<A: PathAlgebra>(
+    floors: &[Floor<A>],
+    placed: &mut (usize, Station<'_, A>),
+    budget: u32,
+) -> bool
+    requires { IsPlaced floors.now placed.old }
+    ensures { NextOn A.meaning floors.now budget placed.old placed.new }
+{
+    let (place, station) = placed;
+    is_busy(station.turn(&floors[*place], budget))
+}
+
+/// Turns stations round and round, in the order of the list and passing over those that have ended.
+///
+/// It stops where all have ended, before a turn above the limit, or where the gate answers `false`. After a whole
+/// round in which no station did anything it lets other threads run.
+pub fn drive<'g, A: PathAlgebra, G: Gate>(
+    floors: &[Floor<A>],
+    stations: Vec<(usize, Station<'g, A>)>,
+    worker: u64,
+    budget: u32,
+    limit: u64,
+    gate: &G,
+) -> Driven<'g, A>
+    requires { All (IsPlaced floors.now) stations.items }
+    ensures { Drives A.meaning floors.now budget limit (G.is_always_open gate.now) stations.entry.items result }
+{
+    let mut stations = stations;
+    let mut at = 0;
+    let mut busy = true;
+    for done in 0..limit {
+        let Some(k) = next_open(&stations, at) else {
+            return Driven {
+                outcome: Outcome::Ended,
+                turns: done,
+                stations,
+            };
+        };
+        if k < at {
+            rest_unless(busy);
+            busy = false;
+        }
+        if !gate.before(worker, done + 1) {
+            return Driven {
+                outcome: Outcome::Gated,
+                turns: done,
+                stations,
+            };
+        }
+        busy |= turn_one(floors, &mut stations[k], budget);
+        at = k + 1;
+    }
+    match next_open(&stations, at) {
+        Some(_) => Driven {
+            outcome: Outcome::Stalled,
+            turns: limit,
+            stations,
+        },
+        None => Driven {
+            outcome: Outcome::Ended,
+            turns: limit,
+            stations,
+        },
+    }
+}
+
+/// Lets other threads run, unless there was something to do.
+fn rest_unless(busy: bool) {
+    if !busy {
+        thread::yield_now();
+    }
+}

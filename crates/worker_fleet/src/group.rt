@@ -1,0 +1,153 @@
+//! The stations of a group of questions, dealt to workers, run to their end, and put together again.
+ghost use Rattle.std.specs.Prelude.{◌≡◌, ◌≢◌, ℕ, ◌<◌, length, true, IfOk, IfNone, Err, Some, vec_len, slice_index_or};
+ghost use Rattle.std.specs.List.{All};
+ghost use Rattle.worker_fleet.specs.Turns.{IsPlaced};
+ghost use Rattle.worker_fleet.specs.Drives.{Drives};
+ghost use Rattle.worker_fleet.specs.Groups.{gathered, HasShard, IsDone};
+
+use crate::dealing::{deal_all, empty_lists, put_all};
+use crate::driving::{Driven, Outcome, drive};
+use crate::fleet::{Task, run_each};
+use crate::gate::Gate;
+use path_algebra::PathAlgebra;
+use post_floor::Floor;
+use station::Station;
+use std::alloc::{AllocError, Global};
+use std::sync::Wait;
+use std::thread::Threads;
+
+/// Why a group was not run to its end.
+#[derive(Clone, Copy, Debug, PartialEq, Eq)]
+pub enum GroupFault {
+    /// Memory, or a thread, was refused.
+    Memory,
+    /// A worker reached its limit of turns.
+    Stalled,
+    /// A worker's gate answered `false`.
+    Gated,
+}
+
+impl From<AllocError> for GroupFault {
+    ghost use Rattle.worker_fleet.specs.declared.group.GroupFault.TheVariants.{Memory};
+
+    ghost from_gives = { λ _ e. e ≡ Memory };
+
+    fn from(_error: AllocError) -> GroupFault {
+        GroupFault::Memory
+    }
+}
+
+/// What all workers of a group are told.
+#[derive(Drop)]
+struct Orders<'a, A: PathAlgebra, G: Gate> {
+    floors: &'a [Floor<A>],
+    budget: u32,
+    limit: u64,
+    gate: &'a G,
+}
+
+impl<'a, 'g, A: PathAlgebra, G: Gate> Task<Vec<(usize, Station<'g, A>)>, Driven<'g, A>>
+    for Orders<'a, A, G> {
+    ghost answers = { λ o _ stations r. Drives A.meaning o.floors.now o.budget o.limit (G.is_always_open o.gate.now) stations.items r };
+}
+
+/// Drives each share of the stations on a thread of its own.
+fn drive_each<'g, A: PathAlgebra, G: Gate, R: Threads + Wait>(
+    rt: &R,
+    alloc: Global,
+    floors: &[Floor<A>],
+    shares: Vec<Vec<(usize, Station<'g, A>)>>,
+    budget: u32,
+    limit: u64,
+    gate: &G,
+) -> Result<Vec<Driven<'g, A>>, AllocError>
+    requires { All (λ share. All (IsPlaced floors.now) share.items) shares.items }
+    ensures len { IfOk result (λ v. vec_len v ≡ vec_len shares.entry) }
+    ensures each { IfOk result (λ v. (k : ℕ) (share : _) (r : _) → k < vec_len shares.entry → Drives A.meaning floors.now budget limit (G.is_always_open gate.now) (slice_index_or shares.entry.items k share).items (slice_index_or v.items k r)) }
+{
+    let orders = Orders {
+        floors,
+        budget,
+        limit,
+        gate,
+    };
+    run_each(
+        rt,
+        alloc,
+        shares,
+        &orders,
+        &move |worker: u64, stations: Vec<(usize, Station<'_, A>)>| -> Driven<'_, A>
+            requires { All (IsPlaced floors.now) stations.items }
+            ensures { Drives A.meaning floors.entry.now budget limit (G.is_always_open gate.entry.now) stations.entry.items result }
+        { drive(floors, stations, worker, budget, limit, gate) },
+    )
+}
+
+/// Why the first worker stopped that did not end.
+fn first_stop<A: PathAlgebra>(answers: &[Driven<'_, A>]) -> Option<GroupFault>
+    ensures gated { All (λ r. r.outcome ≢ Outcome.Gated) answers.now → result ≢ Some GroupFault.Gated }
+    ensures none { IfNone result (All (λ r. r.outcome ≡ Outcome.Ended) answers.now) }
+{
+    for driven in answers {
+        match driven.outcome {
+            Outcome::Ended => {}
+            Outcome::Stalled => return Some(GroupFault::Stalled),
+            Outcome::Gated => return Some(GroupFault::Gated),
+        }
+    }
+    None
+}
+
+/// The stations of each question, from the answers of all workers.
+fn put_together<'g, A: PathAlgebra>(
+    alloc: Global,
+    answers: Vec<Driven<'g, A>>,
+    width: usize,
+) -> Result<Vec<Vec<Station<'g, A>>>, AllocError>
+    requires { All (λ r. All (λ p. p.0 < width) r.stations.items) answers.items }
+    ensures len { IfOk result (λ v. vec_len v ≡ width) }
+    ensures put { IfOk result (λ v. (q : ℕ) (d : _) → q < width → (slice_index_or v.items q d).items ≡ gathered q answers.entry.items) }
+{
+    let mut lists = empty_lists(alloc, width)?;
+    for driven in answers {
+        let Driven {
+            outcome: _,
+            turns: _,
+            stations,
+        } = driven;
+        put_all(&mut lists, stations)?;
+    }
+    Ok(lists)
+}
+
+/// Runs the stations of a group of questions to their end, dealt round to workers on threads of their own.
+///
+/// Worker w has, of each question, each of its stations whose number is w modulo `workers`, question by question and in
+/// their order. Want of memory, or of a thread, comes first; then, of the workers that stopped before the end, the least
+/// numbered tells why.
+pub fn run_group<'g, A: PathAlgebra, G: Gate, R: Threads + Wait>(
+    rt: &R,
+    alloc: Global,
+    floors: &[Floor<A>],
+    questions: Vec<Vec<Station<'g, A>>>,
+    workers: usize,
+    budget: u32,
+    limit: u64,
+    gate: &G,
+) -> Result<Vec<Vec<Station<'g, A>>>, GroupFault>
+    requires some { 0 < workers }
+    requires width { length floors.now ≡ vec_len questions }
+    requires own { (q : ℕ) (d : _) → q < vec_len questions → All (λ s. IsPlaced floors.now (q, s)) (slice_index_or questions.items q d).items }
+    ensures len { IfOk result (λ v. vec_len v ≡ vec_len questions.entry) }
+    ensures all { IfOk result (λ v. (q k : ℕ) (d e : _) → q < vec_len questions.entry → HasShard k (slice_index_or questions.entry.items q d).items → HasShard k (slice_index_or v.items q e).items) }
+    ensures done { IfOk result (λ v. (q : ℕ) (d : _) → q < vec_len questions.entry → All (IsDone floors.now q) (slice_index_or v.items q d).items) }
+    ensures open { G.is_always_open gate.now → result ≢ Err GroupFault.Gated }
+{
+    let width = questions.len();
+    let shares = deal_all(alloc, questions, workers)?;
+    let answers = drive_each(rt, alloc, floors, shares, budget, limit, gate)?;
+    if let Some(fault) = first_stop(answers.as_slice()) {
+        return Err(fault);
+    }
+    Ok(put_together(alloc, answers, width)?)
+}

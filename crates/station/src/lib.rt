@@ -10,3 +10,6 @@ pub use gathering::{Finished, Gathered, Ungathered, Why, gather};
 pub use open::open_question;
 pub use station::Station;
 pub use turn::Report;
+
+#[cfg(test)]
+mod tests;

@@ -101,14 +101,14 @@ impl<'g, A: PathAlgebra> Station<'g, A> {
         ensures ended { result ≡ self.now.ended }
         ensures over { IsTrue result → IsOver A.meaning self.now }
     {
-        self.ended
+        self.ended // as its last turn reported
     }
 
     /// Which shard it is.
     pub fn shard(&self) -> Shard
         ensures { result ≡ self.now.part.shard }
     {
-        self.part.shard()
+        self.part.shard() // its number in the plan
     }
 
     /// Whether v is a vertex of its shard.

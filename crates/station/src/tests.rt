@@ -1,0 +1,318 @@
+//! Questions that stations answer together.
+ghost use Rattle.std.specs.Prelude.{◌≡◌, ◌<◌, [], length};
+ghost use Rattle.std.specs.List.{All};
+ghost use Rattle.station.specs.Station.{BelongsTo};
+
+use crate::{Finished, Gathered, Station, Why, gather, open_question};
+use path_algebra::{Hops, PathAlgebra, Reach, Reliable, Shortest, Widest, Within};
+use post_floor::Floor;
+use road_graph::{Graph, RoadArc, Vertex};
+use shard_part::{Plan, Shard, Tally};
+use std::process::Abort;
+
+/// Five vertices, with a self-loop at 4; no arc leads to 5.
+const FIVE: [(u32, u32, u32); 7] = [
+    (1, 2, 4),
+    (1, 3, 1),
+    (3, 2, 2),
+    (2, 4, 5),
+    (3, 4, 8),
+    (4, 4, 0),
+    (5, 1, 3),
+];
+
+/// What the least sums from vertex 1 are.
+const SHORTEST: [Option<u64>; 5] = [Some(0), Some(3), Some(1), Some(8), None];
+
+/// The five vertices.
+fn five(rt: &(impl Abort + AllocGlobal)) -> Graph {
+    let mut arcs = Vec::new(rt.alloc());
+    for (tail, head, weight) in FIVE {
+        let arc = RoadArc {
+            tail: Vertex(tail),
+            head: Vertex(head),
+            weight,
+        };
+        arcs.push(arc).expect(rt, "memory");
+    }
+    assert!(rt; arcs.len() < 1000);
+    match Graph::new(rt.alloc(), 5, arcs) {
+        Ok(graph) => graph,
+        Err(_) => panic!(rt; "refused"),
+    }
+}
+
+/// The five vertices in blocks.
+fn blocks(rt: &(impl Abort + AllocGlobal), shards: u8) -> Plan {
+    assert!(rt; 1 <= shards && shards <= 64);
+    Plan::blocks(rt.alloc(), 5, shards).expect(rt, "memory")
+}
+
+/// The five vertices in three shards, as a table says.
+fn by_table(rt: &(impl Abort + AllocGlobal)) -> Plan {
+    let list = vec![in rt.alloc(); 2u8, 0, 2, 0, 1].expect(rt, "memory");
+    assert!(rt; list.len() == 5);
+    match Plan::table(3, list) {
+        Ok(plan) => plan,
+        Err(_) => panic!(rt; "refused"),
+    }
+}
+
+/// A question from a vertex.
+fn opened<'g, A: PathAlgebra>(
+    rt: &(impl Abort + AllocGlobal),
+    algebra: A,
+    graph: &'g Graph,
+    plan: &'g Plan,
+    source: u32,
+) -> (Floor<A>, Vec<Station<'g, A>>)
+    ensures { All (BelongsTo result.0) result.1.items }
+{
+    assert!(rt; graph.has(Vertex(source)));
+    assert!(rt; plan.vertices() == graph.vertices());
+    open_question(rt.alloc(), algebra, graph, plan, Vertex(source)).expect(rt, "memory")
+}
+
+/// One turn of a station.
+fn turn_one<A: PathAlgebra>(floor: &Floor<A>, station: &mut Station<'_, A>, budget: u32) -> bool
+    requires { BelongsTo floor.now station.old }
+    ensures { BelongsTo floor.now station.new }
+{
+    station.turn(floor, budget).ended
+}
+
+/// One turn of one station of a list.
+fn turned_once<'g, A: PathAlgebra>(
+    rt: &impl Abort,
+    floor: &Floor<A>,
+    stations: Vec<Station<'g, A>>,
+    k: usize,
+    budget: u32,
+) -> Vec<Station<'g, A>>
+    requires { All (BelongsTo floor.now) stations.items }
+    ensures { All (BelongsTo floor.now) result.items }
+{
+    let mut stations = stations;
+    assert!(rt; k < stations.len());
+    turn_one(floor, &mut stations[k], budget);
+    stations
+}
+
+/// So many turns, one station after the other, round and round.
+fn turned<'g, A: PathAlgebra>(
+    rt: &impl Abort,
+    floor: &Floor<A>,
+    stations: Vec<Station<'g, A>>,
+    budget: u32,
+    turns: usize,
+) -> Vec<Station<'g, A>>
+    requires { All (BelongsTo floor.now) stations.items }
+    ensures { All (BelongsTo floor.now) result.items }
+{
+    let mut stations = stations;
+    for turn in 0..turns {
+        assert!(rt; stations.len() > 0);
+        let k = turn % stations.len();
+        stations = turned_once(rt, floor, stations, k, budget);
+    }
+    stations
+}
+
+/// What `gather` takes of stations, all of which have ended.
+fn finished<'g, A: PathAlgebra>(
+    rt: &(impl Abort + AllocGlobal),
+    floor: &Floor<A>,
+    stations: Vec<Station<'g, A>>,
+) -> Vec<Finished<'g, A>>
+    requires { All (BelongsTo floor.now) stations.items }
+    ensures { All (BelongsTo floor.now) result.items }
+{
+    let mut stations = stations;
+    let mut done = Vec::new(rt.alloc());
+    while let Some(station) = stations.pop() {
+        match station.finish() {
+            Ok(station) => done.push(station).expect(rt, "memory"),
+            Err(_) => panic!(rt; "not ended"),
+        }
+    }
+    done
+}
+
+/// The answer of a question over the five vertices, after so many turns.
+fn answered<A: PathAlgebra>(
+    rt: &(impl Abort + AllocGlobal),
+    algebra: A,
+    plan: &Plan,
+    source: u32,
+    budget: u32,
+    turns: usize,
+) -> Gathered<A::Value> {
+    let graph = five(rt);
+    let (floor, stations) = opened(rt, algebra, &graph, plan, source);
+    let stations = turned(rt, &floor, stations, budget, turns);
+    let done = finished(rt, &floor, stations);
+    match gather(rt.alloc(), floor, done) {
+        Ok(gathered) => gathered,
+        Err(_) => panic!(rt; "not gathered"),
+    }
+}
+
+/// The label of each vertex, by the code of its value.
+fn labels_are<A: PathAlgebra>(
+    rt: &impl Abort,
+    algebra: A,
+    gathered: &Gathered<A::Value>,
+    wanted: [Option<u64>; 5],
+) {
+    assert!(rt; gathered.labels.vertices() == 5);
+    for v in 0..5u32 {
+        let code = match gathered.labels.of(Vertex(v + 1)) {
+            Some(value) => Some(algebra.code(value)),
+            None => None,
+        };
+        assert!(rt; code == wanted[v as usize]);
+    }
+}
+
+/// All four counts of a question that has ended.
+fn counts_are(rt: &impl Abort, tally: Tally, wanted: u64) {
+    assert!(rt; tally.sent == wanted && tally.delivered == wanted);
+    assert!(rt; tally.signalled == wanted && tally.accepted == wanted);
+    assert!(rt; !tally.full);
+}
+
+#[test]
+fn stations_in_turn(rt: HostRuntime) {
+    let gathered = answered(&rt, Shortest, &blocks(&rt, 3), 1, 1, 200);
+    labels_are(&rt, Shortest, &gathered, SHORTEST);
+}
+
+#[test]
+fn ends_within_two_hundred_turns(rt: HostRuntime) {
+    let graph = five(&rt);
+    let plan = blocks(&rt, 3);
+    let (floor, stations) = opened(&rt, Shortest, &graph, &plan, 1);
+    let stations = turned(&rt, &floor, stations, 1, 200);
+    for station in &stations {
+        assert!(rt; station.ended());
+    }
+}
+
+#[test]
+fn any_plan(rt: HostRuntime) {
+    for shards in [1, 2, 5, 64] {
+        let gathered = answered(&rt, Shortest, &blocks(&rt, shards), 1, 1024, 1000);
+        labels_are(&rt, Shortest, &gathered, SHORTEST);
+    }
+    let gathered = answered(&rt, Shortest, &by_table(&rt), 1, 2, 200);
+    labels_are(&rt, Shortest, &gathered, SHORTEST);
+}
+
+#[test]
+fn each_algebra(rt: HostRuntime) {
+    let plan = blocks(&rt, 3);
+    let widest = [Some(4_294_967_296), Some(4), Some(1), Some(4), None];
+    labels_are(
+        &rt,
+        Widest,
+        &answered(&rt, Widest, &plan, 1, 3, 200),
+        widest,
+    );
+    let hops = [Some(0), Some(1), Some(1), Some(2), None];
+    labels_are(&rt, Hops, &answered(&rt, Hops, &plan, 1, 3, 200), hops);
+    let reliable = [
+        Some(1_000_000_000_000),
+        Some(4_000_000),
+        Some(1_000_000),
+        Some(20),
+        None,
+    ];
+    labels_are(
+        &rt,
+        Reliable,
+        &answered(&rt, Reliable, &plan, 1, 3, 200),
+        reliable,
+    );
+    let within = Within { limit: 5 };
+    let near = [Some(0), Some(3), Some(1), None, None];
+    labels_are(&rt, within, &answered(&rt, within, &plan, 1, 3, 200), near);
+}
+
+#[test]
+fn reach_accounts(rt: HostRuntime) {
+    for budget in [1, 2, 1000] {
+        let gathered = answered(&rt, Reach, &blocks(&rt, 3), 1, budget, 200);
+        labels_are(
+            &rt,
+            Reach,
+            &gathered,
+            [Some(0), Some(0), Some(0), Some(0), None],
+        );
+        counts_are(&rt, gathered.tally, 7);
+    }
+    let gathered = answered(&rt, Reach, &by_table(&rt), 1, 1, 200);
+    counts_are(&rt, gathered.tally, 7);
+}
+
+#[test]
+fn reach_accounts_from_other_sources(rt: HostRuntime) {
+    let gathered = answered(&rt, Reach, &blocks(&rt, 3), 4, 1, 200);
+    counts_are(&rt, gathered.tally, 2);
+    let gathered = answered(&rt, Reach, &blocks(&rt, 3), 5, 1, 200);
+    counts_are(&rt, gathered.tally, 8);
+}
+
+/// The label of a vertex, as a station shows it.
+fn peeked<A: PathAlgebra>(rt: &impl Abort, station: &Station<'_, A>, v: u32) -> Option<A::Value> {
+    assert!(rt; station.holds(Vertex(v)));
+    station.peek(Vertex(v))
+}
+
+#[test]
+fn peek_never_grows(rt: HostRuntime) {
+    let graph = five(&rt);
+    let plan = blocks(&rt, 3);
+    let (floor, stations) = opened(&rt, Shortest, &graph, &plan, 1);
+    let mut stations = stations;
+    let mut last = None;
+    for turn in 0..200 {
+        stations = turned_once(&rt, &floor, stations, turn % 3, 1);
+        assert!(rt; stations.len() == 3 && stations[1].shard() == Shard(1));
+        let label = peeked(&rt, &stations[1], 4);
+        if let Some(before) = last {
+            assert!(rt; label.is_some_and(|now| now <= before));
+        }
+        last = label;
+    }
+    assert!(rt; last == Some(8));
+}
+
+#[test]
+fn refusals_hand_back(rt: HostRuntime) {
+    let graph = five(&rt);
+    let plan = blocks(&rt, 3);
+    let (floor, stations) = opened(&rt, Shortest, &graph, &plan, 1);
+    let mut stations = turned(&rt, &floor, stations, 1, 200);
+    assert!(rt; stations.len() == 3);
+    let left_out = stations.remove(1);
+    let done = finished(&rt, &floor, stations);
+    let Err(back) = gather(rt.alloc(), floor, done) else {
+        panic!(rt; "gathered")
+    };
+    assert!(rt; back.why == Why::Missing(Shard(1)) && back.stations.len() == 2);
+    assert!(rt; left_out.finish().is_ok());
+}
+
+#[test]
+fn finish_before_any_turn(rt: HostRuntime) {
+    let graph = five(&rt);
+    let plan = blocks(&rt, 3);
+    let (_floor, mut stations) = opened(&rt, Shortest, &graph, &plan, 1);
+    let Some(station) = stations.pop() else {
+        panic!(rt; "none")
+    };
+    let Err(station) = station.finish() else {
+        panic!(rt; "finished")
+    };
+    assert!(rt; !station.ended() && station.shard() == Shard(2));
+}

@@ -4,3 +4,6 @@ pub mod ToldLines
 pub mod Progress
 pub mod Existing
 pub mod Fronts
+pub mod Together
+pub mod Laid
+pub mod LastOf

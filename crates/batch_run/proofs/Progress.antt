@@ -1,5 +1,5 @@
 -- A batch on its way: the first questions were answered, and their answers written.
-use Rattle.std.proofs.Common.{◌≡◌, ℕ, ◌+◌, ◌<◌, ◌≤◌, List, [], ◌∷◌, ◌++◌, length, take, get_or, Option, Some, None, Result, Ok, Err, inl, inr, ◌⊎◌, refl, sym, ap, ◌∙◌, subst, append_assoc, append-nil, arith, suc}
+use Rattle.std.proofs.Common.{◌≡◌, ◌≢◌, Bool, true, false, ℕ, ◌+◌, ◌<◌, ◌≤◌, List, [], ◌∷◌, ◌++◌, length, take, get_or, Option, Some, None, Result, Ok, Err, inl, inr, ◌⊎◌, refl, sym, ap, ◌∙◌, subst, append_assoc, append-nil, arith, suc}
 use Rattle.std.proofs.lemmas.List.{take_all, take_more}
 use Rattle.std.specs.Io.KnownBytes.{Appends, Keeps}
 use Rattle.std.proofs.KnownBytes.{Appends-nil, Appends-kept}
@@ -18,7 +18,11 @@ use Rattle.batch_run.specs.declared.faults.File.TheVariants.{NoFile}
 use Rattle.batch_run.specs.declared.faults.RunFault.{RunFault}
 use Rattle.batch_run.specs.declared.faults.Unanswered.{Unanswered}
 use Rattle.batch_run.specs.declared.faults.Unanswered.TheVariants as variants
-use Rattle.batch_run.specs.Answered.{WroteAnswer, WroteAnswers, begun_text, WroteFirst, WroteWhole, WroteAllOrFirst, fault_of_answer}
+use Rattle.batch_run.specs.declared.settings.Settings.{Settings}
+use Rattle.worker_fleet.specs.declared.group.GroupFault.{GroupFault}
+use Rattle.worker_fleet.specs.declared.group.GroupFault.TheVariants as group
+use Rattle.batch_run.specs.Answered.{WroteAnswer, WroteAnswers, begun_text, WroteFirst, WroteWhole, WroteAllOrFirst, fault_of_answer, fault_of_group}
+use Rattle.batch_run.specs.Ran.{IsLater}
 
 -- the first i questions were answered, and the answers written
 pub record Progress {V : Type 0} (A : Algebra V) (g : Roads) (asked : Asked) (i : ℕ) (old new : Option (List ℕ)) (before after : ℕ) : Type 0 where
@@ -59,6 +63,15 @@ module _ {V : Type 0} (A : Algebra V) (g : Roads) (asked : Asked) where
   pub stop : (i : ℕ) (old new : Option (List ℕ)) (b a : ℕ) → Progress A g asked i old new b a → WroteFirst A g asked old new
   stop i old new b a p = record { count = i; answers = p.answers; right = p.right; front = p.left.front; rest = []; text_is = p.left.text_is; bytes = p.left.bytes }
 
+  -- what stands between two answers is whole
+  pub stop_whole : (i : ℕ) (old new : Option (List ℕ)) (b a : ℕ) → Progress A g asked i old new b a → WroteWhole A g asked old new
+  stop_whole i old new b a p = record {
+    count = i;
+    answers = p.answers;
+    right = p.right;
+    bytes = subst (Appends old new) (sym (p.left.text_is ∙ append-nil p.left.front)) p.left.bytes;
+  }
+
   module _ (i : ℕ) (old mid new : Option (List ℕ)) (b m a : ℕ) (t : Told) (lt : i < length asked.questions) (q : Question) (is : IsAnswer A g (get_or asked.questions i q) t) (p : Progress A g asked i old mid b m) where
     now_right : AreAnswers A g (take (i + 1) asked.questions) (p.answers ++ t ∷ [])
     now_right = subst (λ x. AreAnswers A g x (p.answers ++ t ∷ [])) (sym (take_more asked.questions i q lt)) (answers-push A g (take i asked.questions) p.answers (get_or asked.questions i q) t p.right is)
@@ -90,23 +103,18 @@ module _ {V : Type 0} (A : Algebra V) (g : Roads) (asked : Asked) where
 
     -- then memory was refused, or a write failed and was counted
     pub fault_later : (u : Unanswered) → WroteAnswer A g (get_or asked.questions i q) mid new m a (Err u) →
-        ((fault_of_answer u).file ≡ NoFile) × ((fault_of_answer u).line ≡ 0) × (((fault_of_answer u).number ≡ 3) ⊎ ((fault_of_answer u).number ≡ 42)) × ((fault_of_answer u).number ≡ 42 → b < a)
-    fault_later variants.Memory h = (refl, refl, inl refl, λ e. absurd (omega (arith, e)))
-    fault_later variants.Write h = (refl, refl, inr refl, λ e. omega (arith, h.2.failed, p.left.sound))
+        (s : Settings) (is_open : Type 0) → IsLater s is_open (fault_of_answer u) × ((fault_of_answer u).number ≡ 42 → b < a)
+    fault_later variants.Memory h s is_open = ((refl, refl, inl refl), λ e. absurd (omega (arith, e)))
+    fault_later variants.Write h s is_open = ((refl, refl, inr (inr (inr refl))), λ e. omega (arith, h.2.failed, p.left.sound))
 
     -- memory was refused between two answers, and no write failed
-    pub whole : (u : Unanswered) → WroteAnswer A g (get_or asked.questions i q) mid new m a (Err u) → (fault_of_answer u).number ≡ 3 → WroteWhole A g asked old new
-    whole variants.Memory h e = record {
-      count = i;
-      answers = p.answers;
-      right = p.right;
-      bytes = subst (λ (x : Option (List ℕ)). Appends old x (begun_text A asked p.answers)) (sym h.0) (subst (Appends old mid) (sym (p.left.text_is ∙ append-nil p.left.front)) p.left.bytes);
-    }
-    whole variants.Write h e = absurd (omega (arith, e))
+    pub whole : (u : Unanswered) → WroteAnswer A g (get_or asked.questions i q) mid new m a (Err u) → (fault_of_answer u).number ≢ 42 → WroteWhole A g asked old new
+    whole variants.Memory h ne = subst (WroteWhole A g asked old) (sym h.0) (stop_whole i old mid b m p)
+    whole variants.Write h ne = absurd (ne refl)
 
-    pub unfailed : (u : Unanswered) → WroteAnswer A g (get_or asked.questions i q) mid new m a (Err u) → (fault_of_answer u).number ≡ 3 → a ≡ b
-    unfailed variants.Memory h e = h.1 ∙ p.left.sound
-    unfailed variants.Write h e = absurd (omega (arith, e))
+    pub unfailed : (u : Unanswered) → WroteAnswer A g (get_or asked.questions i q) mid new m a (Err u) → (fault_of_answer u).number ≢ 42 → a ≡ b
+    unfailed variants.Memory h ne = h.1 ∙ p.left.sound
+    unfailed variants.Write h ne = absurd (ne refl)
 
     pub more_failed : (u : Unanswered) → WroteAnswer A g (get_or asked.questions i q) mid new m a (Err u) → b ≤ a
     more_failed variants.Memory h = omega (arith, h.1, p.left.sound)
@@ -166,8 +174,19 @@ module _ {V : Type 0} (A : Algebra V) (g : Roads) (asked : Asked) where
   flushed F Y Z old mid new keeps answered (Err f) was ok (inr (x, e, y)) = first_of_all old new (all_kept old mid new keeps (subst (WroteAllOrFirst A g asked old mid) e was))
 
   -- nor does what was written whole change
-  pub flushed_whole : (F : RunFault) (Y Z : Type 0) (old mid new : Option (List ℕ)) → Keeps mid new → F.number ≡ 42 → (answered r : Result (Unit {0}) RunFault) → IfErr answered (λ f. f.number ≡ 3 → WroteWhole A g asked old mid) →
-      IfErr r (λ f. (answered ≡ Err f) ⊎ ((f ≡ F) × (answered ≡ Ok tt) × Z)) → IfErr r (λ f. f.number ≡ 3 → WroteWhole A g asked old new)
+  pub flushed_whole : (F : RunFault) (Y Z : Type 0) (old mid new : Option (List ℕ)) → Keeps mid new → F.number ≡ 42 → (answered r : Result (Unit {0}) RunFault) → IfErr answered (λ f. f.number ≢ 42 → WroteWhole A g asked old mid) →
+      IfErr r (λ f. (answered ≡ Err f) ⊎ ((f ≡ F) × (answered ≡ Ok tt) × Z)) → IfErr r (λ f. f.number ≢ 42 → WroteWhole A g asked old new)
   flushed_whole F Y Z old mid new keeps write answered (Ok u) was err = tt
-  flushed_whole F Y Z old mid new keeps write answered (Err f) was (inl e) = λ three. whole_kept old mid new keeps (subst (λ x. IfErr x (λ h. h.number ≡ 3 → WroteWhole A g asked old mid)) e was three)
-  flushed_whole F Y Z old mid new keeps write answered (Err f) was (inr (x, e, y)) = λ three. absurd (omega (arith, three, write, ap (λ (h : RunFault). h.number) x))
+  flushed_whole F Y Z old mid new keeps write answered (Err f) was (inl e) = λ ne. whole_kept old mid new keeps (subst (λ x. IfErr x (λ h. h.number ≢ 42 → WroteWhole A g asked old mid)) e was ne)
+  flushed_whole F Y Z old mid new keeps write answered (Err f) was (inr (x, e, y)) = λ ne. absurd (ne (ap (λ (h : RunFault). h.number) x ∙ write))
+
+not_plain : (b : Bool) → (b ≡ true → ⊥) → b ≡ false
+not_plain true never = absurd (never refl)
+not_plain false never = refl
+
+-- labels were not found: memory or a thread was refused; or, where stations answer, a worker stopped, and at a gate only if it is not always open
+pub group_later : {X : Type 0} (s : Settings) (is_open : Type 0) (layout : Option X) (f : GroupFault) → (s.plain ≡ true → layout ≡ None) → (layout ≡ None → f ≡ group.Memory) → (is_open → f ≢ group.Gated) →
+    IsLater s is_open (fault_of_group f)
+group_later s is_open layout group.Memory p n o = (refl, refl, inl refl)
+group_later s is_open layout group.Stalled p n o = (refl, refl, inr (inl (refl, not_plain s.plain (λ e. let bad : group.Stalled ≡ group.Memory = n (p e) in cc))))
+group_later s is_open layout group.Gated p n o = (refl, refl, inr (inr (inl (refl, not_plain s.plain (λ e. let bad : group.Gated ≡ group.Memory = n (p e) in cc), λ always. o always refl))))

@@ -12,6 +12,8 @@ use Rattle.batch_run.specs.declared.faults.RunFault.{RunFault}
 use Rattle.batch_run.specs.declared.faults.File.TheVariants.{NoFile}
 use Rattle.batch_run.specs.declared.faults.Unanswered.{Unanswered}
 use Rattle.batch_run.specs.declared.faults.Unanswered.TheVariants.{Memory, Write}
+use Rattle.worker_fleet.specs.declared.group.GroupFault.{GroupFault}
+use Rattle.worker_fleet.specs.declared.group.GroupFault.TheVariants as group
 
 -- the right answer to a question was written, whole; or nothing, since memory was refused; or a front of it, and then a write failed
 abbrev pub WroteAnswer : {V : Type 0} → Algebra V → Roads → Question → (old new : Option (List ℕ)) (before after : ℕ) → Result (Unit {0}) Unanswered → Type 0
@@ -75,3 +77,9 @@ AsksWithin g (FromSources ss) = All (HasVertex g) ss
 abbrev pub fault_of_answer : Unanswered → RunFault
 fault_of_answer Memory = record { number = 3; file = NoFile; line = 0 }
 fault_of_answer Write = record { number = 42; file = NoFile; line = 0 }
+
+-- want of memory or of a thread is 3, a worker at its limit 40, and one whose gate answered false 41
+abbrev pub fault_of_group : GroupFault → RunFault
+fault_of_group group.Memory = record { number = 3; file = NoFile; line = 0 }
+fault_of_group group.Stalled = record { number = 40; file = NoFile; line = 0 }
+fault_of_group group.Gated = record { number = 41; file = NoFile; line = 0 }

@@ -1,5 +1,5 @@
 -- What a batch promises of its inputs and its output.
-use Rattle.std.specs.Prelude.{◌≡◌, ◌≢◌, ℕ, ◌<◌, ◌≤◌, ◌⊎◌, List, [], Option, None, Result, Ok, Err, IfSome}
+use Rattle.std.specs.Prelude.{◌≡◌, ◌≢◌, ℕ, ◌<◌, ◌≤◌, ◌⊎◌, false, List, [], Option, None, Result, Ok, Err, IfSome}
 use Rattle.road_graph.specs.Roads.{Roads, IsRoads}
 use Rattle.road_text.specs.Reads.{IsNumberFrom}
 use Rattle.road_text.specs.Rules.{text_read}
@@ -10,6 +10,7 @@ use Rattle.road_files.specs.BundleFiles.{bundle_rules}
 use Rattle.path_algebra.specs.Algebra.{Algebra}
 use Rattle.batch_run.specs.declared.faults.RunFault.{RunFault}
 use Rattle.batch_run.specs.declared.faults.File.{File}
+use Rattle.batch_run.specs.declared.settings.Settings.{Settings}
 use Rattle.batch_run.specs.declared.faults.File.TheVariants.{NoFile}
 use Rattle.batch_run.specs.Answered.{WroteAnswers, WroteFront, WroteWhole}
 
@@ -65,11 +66,16 @@ IsBundleFault input f = IsTextFault f → IfSome input (λ b. text_read bundle_r
 abbrev pub IsRoadNumber : ℕ → Type 0
 IsRoadNumber number = IsNumberFrom 10 19 number
 
--- a fault of one of these inputs, with a number of theirs; or one of the run: memory, a write, or a setting
+-- a fault of one of these inputs, with a number of theirs; or one of the run: memory or a thread, a limit of turns, a gate, a write, or a setting
 abbrev pub IsFaultOf : (File → Type 0) → RunFault → Type 0
 IsFaultOf inputs f =
     (inputs f.file × IsRoadNumber f.number)
-    ⊎ ((f.file ≡ NoFile) × (f.line ≡ 0) × ((f.number ≡ 3) ⊎ ((f.number ≡ 42) ⊎ (f.number ≡ 43))))
+    ⊎ ((f.file ≡ NoFile) × (f.line ≡ 0) × ((f.number ≡ 3) ⊎ ((f.number ≡ 40) ⊎ ((f.number ≡ 41) ⊎ ((f.number ≡ 42) ⊎ (f.number ≡ 43))))))
+
+-- a fault that comes when the inputs have been read: memory or a thread, a write; and where stations answer, a limit of turns, or a gate that is not always open
+abbrev pub IsLater : Settings → Type 0 → RunFault → Type 0
+IsLater s is_open f = (f.file ≡ NoFile) × (f.line ≡ 0)
+    × ((f.number ≡ 3) ⊎ (((f.number ≡ 40) × (s.plain ≡ false)) ⊎ (((f.number ≡ 41) × (s.plain ≡ false) × (is_open → ⊥)) ⊎ (f.number ≡ 42))))
 
 -- nothing is held back: all was passed on, or passing it on failed
 abbrev pub IsPassedOn : List ℕ → ℕ → ℕ → Type 0

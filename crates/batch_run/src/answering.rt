@@ -7,9 +7,9 @@ ghost use Rattle.road_files.specs.Asked.{AreQuestionsOf, AreSourcesOf, Question,
 ghost use Rattle.answer_text.specs.IsAnswer.{IsPairAnswer};
 ghost use Rattle.answer_text.specs.Told.{found_of};
 ghost use Rattle.batch_run.specs.Answered.{WroteAnswer};
+ghost use Rattle.batch_run.specs.Sources.{sources_of};
 
 use crate::faults::Unanswered;
-use crate::labelling::solve_all;
 use crate::telling::{write_source, write_sources};
 use answer_text::{Answer, Found, write_answer};
 use path_algebra::{Labels, PathAlgebra};
@@ -63,23 +63,6 @@ fn found_at<A: PathAlgebra>(
     }))
 }
 
-/// The best labels from some sources, and their tree.
-fn solve<A: PathAlgebra>(
-    alloc: Global,
-    algebra: A,
-    graph: &Graph,
-    sources: &[Vertex],
-) -> Result<(Labels<A::Value>, Tree), Memory>
-    requires some { 1 ≤ length sources.now }
-    requires inside { All (HasVertex graph.now) sources.now }
-    ensures labels { IfOk result (λ r. AreBest (A.meaning algebra) graph.now sources.now r.0) }
-    ensures tree { IfOk result (λ r. IsTree (A.meaning algebra) graph.now sources.now r.1) }
-{
-    let labels = solve_all(alloc, algebra, graph, sources)?;
-    let tree = tree(alloc, algebra, graph, sources, &labels)?;
-    Ok((labels, tree))
-}
-
 /// What is found between two vertices.
 fn find<A: PathAlgebra>(
     alloc: Global,
@@ -87,13 +70,15 @@ fn find<A: PathAlgebra>(
     graph: &Graph,
     source: Vertex,
     target: Vertex,
+    labels: &Labels<A::Value>,
 ) -> Result<Option<Found>, Memory>
     requires source { HasVertex graph.now source }
     requires target { HasVertex graph.now target }
+    requires labels { AreBest (A.meaning algebra) graph.now (source ∷ []) labels.now }
     ensures { IfOk result (λ found. IsPairAnswer (A.meaning algebra) graph.now source target (option_map found_of found)) }
 {
-    let (labels, tree) = solve(alloc, algebra, graph, &[source])?;
-    found_at(alloc, algebra, graph, source, target, &labels, &tree)
+    let tree = tree(alloc, algebra, graph, &[source], labels)?;
+    found_at(alloc, algebra, graph, source, target, labels, &tree)
 }
 
 /// Writes the right answer to a question from one vertex to another.
@@ -102,14 +87,16 @@ fn answer_pair<A: PathAlgebra, W: RoadWrite>(
     algebra: A,
     graph: &Graph,
     pair: (Vertex, Vertex),
+    labels: &Labels<A::Value>,
     out: &mut W,
 ) -> Result<(), Unanswered>
     requires source { HasVertex graph.now pair.0 }
     requires target { HasVertex graph.now pair.1 }
+    requires labels { AreBest (A.meaning algebra) graph.now (pair.0 ∷ []) labels.now }
     ensures { WroteAnswer (A.meaning algebra) graph.now (BetweenPair pair.0 pair.1) (W.written out.old) (W.written out.new) (W.failures out.old) (W.failures out.new) result }
 {
     let (source, target) = pair;
-    let Ok(found) = find(alloc, algebra, graph, source, target) else {
+    let Ok(found) = find(alloc, algebra, graph, source, target, labels) else {
         return Err(Unanswered::Memory);
     };
     let answer = Answer::Pair {
@@ -129,16 +116,18 @@ fn answer_source<A: PathAlgebra, W: RoadWrite>(
     algebra: A,
     graph: &Graph,
     source: Vertex,
+    labels: &Labels<A::Value>,
     out: &mut W,
 ) -> Result<(), Unanswered>
-    requires { HasVertex graph.now source }
+    requires source { HasVertex graph.now source }
+    requires labels { AreBest (A.meaning algebra) graph.now (source ∷ []) labels.now }
     ensures { WroteAnswer (A.meaning algebra) graph.now (FromSource source) (W.written out.old) (W.written out.new) (W.failures out.old) (W.failures out.new) result }
 {
-    let Ok(solved) = solve(alloc, algebra, graph, &[source]) else {
+    let Ok(tree) = tree(alloc, algebra, graph, &[source], labels) else {
         return Err(Unanswered::Memory);
     };
     let n = graph.vertices();
-    match write_source(out, algebra, n, source, &solved.0, &solved.1) {
+    match write_source(out, algebra, n, source, labels, &tree) {
         Ok(()) => Ok(()),
         Err(_) => Err(Unanswered::Write),
     }
@@ -150,12 +139,14 @@ fn answer_sources<A: PathAlgebra, W: RoadWrite>(
     algebra: A,
     graph: &Graph,
     sources: &[Vertex],
+    labels: &Labels<A::Value>,
     out: &mut W,
 ) -> Result<(), Unanswered>
-    requires { AreSourcesOf graph.now.vertices sources.now }
+    requires sources { AreSourcesOf graph.now.vertices sources.now }
+    requires labels { AreBest (A.meaning algebra) graph.now sources.now labels.now }
     ensures { WroteAnswer (A.meaning algebra) graph.now (FromSources sources.now) (W.written out.old) (W.written out.new) (W.failures out.old) (W.failures out.new) result }
 {
-    let Ok(solved) = solve(alloc, algebra, graph, sources) else {
+    let Ok(tree) = tree(alloc, algebra, graph, sources, labels) else {
         return Err(Unanswered::Memory);
     };
     let Ok(numbers) = numbers_of(alloc, sources) else {
@@ -163,30 +154,34 @@ fn answer_sources<A: PathAlgebra, W: RoadWrite>(
     };
     let n = graph.vertices();
     let numbers = numbers.as_slice();
-    match write_sources(out, algebra, n, numbers, &solved.0, &solved.1) {
+    match write_sources(out, algebra, n, numbers, labels, &tree) {
         Ok(()) => Ok(()),
         Err(_) => Err(Unanswered::Write),
     }
 }
 
-/// Writes the right answer to the question at a place.
+/// Writes the right answer to the question at a place, given its best labels.
 pub(crate) fn answer_at<A: PathAlgebra, W: RoadWrite>(
     alloc: Global,
     algebra: A,
     graph: &Graph,
     questions: &Questions,
     i: usize,
+    labels: &Labels<A::Value>,
     out: &mut W,
 ) -> Result<(), Unanswered>
     requires within { AreQuestionsOf graph.now.vertices questions.now }
     requires place { i < length (asked_of questions.now).questions }
+    requires labels { (default : Question) → AreBest (A.meaning algebra) graph.now (sources_of (slice_index_or (asked_of questions.now).questions i default)) labels.now }
     ensures { (default : Question) → WroteAnswer (A.meaning algebra) graph.now (slice_index_or (asked_of questions.now).questions i default) (W.written out.old) (W.written out.new) (W.failures out.old) (W.failures out.new) result }
 {
     match questions {
-        Questions::Sources(sources) => answer_source(alloc, algebra, graph, sources[i], out),
-        Questions::Pairs(pairs) => answer_pair(alloc, algebra, graph, pairs[i], out),
+        Questions::Sources(sources) => answer_source(
+            alloc, algebra, graph, sources[i], labels, out,
+        ),
+        Questions::Pairs(pairs) => answer_pair(alloc, algebra, graph, pairs[i], labels, out),
         Questions::Multi(lists) => {
-            answer_sources(alloc, algebra, graph, lists[i].as_slice(), out)
+            answer_sources(alloc, algebra, graph, lists[i].as_slice(), labels, out)
         }
     }
 }

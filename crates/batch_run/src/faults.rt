@@ -1,9 +1,10 @@
 //! What stops a batch.
 ghost use Rattle.std.specs.Prelude.{◌≡◌};
-ghost use Rattle.batch_run.specs.Answered.{fault_of_answer};
+ghost use Rattle.batch_run.specs.Answered.{fault_of_answer, fault_of_group};
 
 use road_text::ReadFault;
 use thiserror::Error;
+use worker_fleet::GroupFault;
 
 /// The input that a fault speaks of.
 #[derive(Clone, Copy, Debug, PartialEq, Eq)]
@@ -38,8 +39,14 @@ pub(crate) enum Unanswered {
     Write,
 }
 
-/// Want of memory.
-const MEMORY: u8 = 3;
+/// Want of memory, or of a thread.
+pub(crate) const MEMORY: u8 = 3;
+
+/// A worker reached its limit of turns.
+const STALLED: u8 = 40;
+
+/// A worker's gate answered `false`.
+const GATED: u8 = 41;
 
 /// A write that failed, took nothing, or was not passed on.
 pub(crate) const WRITE: u8 = 42;
@@ -73,5 +80,16 @@ pub(crate) fn fault_of_answer(unanswered: Unanswered) -> RunFault
     match unanswered {
         Unanswered::Memory => fault_of_run(MEMORY),
         Unanswered::Write => fault_of_run(WRITE),
+    }
+}
+
+/// What labels that are not found stop the batch with.
+pub(crate) fn fault_of_group(fault: GroupFault) -> RunFault
+    ensures { result ≡ fault_of_group fault }
+{
+    match fault {
+        GroupFault::Memory => fault_of_run(MEMORY),
+        GroupFault::Stalled => fault_of_run(STALLED),
+        GroupFault::Gated => fault_of_run(GATED),
     }
 }

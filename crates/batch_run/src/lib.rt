@@ -2,8 +2,8 @@
 #![tactic(auto)]
 
 mod answering;
+mod engine;
 mod faults;
-mod gate;
 mod labelling;
 mod laws;
 mod run;
@@ -11,10 +11,10 @@ mod settings;
 mod telling;
 
 pub use faults::{File, RunFault, fault_in, fault_of_run};
-pub use gate::{Gate, OpenGate};
 pub use laws::answers_exist;
 pub use run::{run_bundle, run_pair};
 pub use settings::Settings;
+pub use worker_fleet::{Driven, Gate, OpenGate, Outcome, drive};
 
 #[cfg(test)]
 mod tests;

@@ -1,14 +1,17 @@
 //! Runs a batch from bytes to bytes.
-ghost use Rattle.std.specs.Prelude.{◌≡◌, ◌≢◌, ℕ, ◌+◌, ◌≤◌, ◌<◌, ◌↔◌, ◌⊎◌, [], Ok, Err, OnOk, IfErr, length};
+ghost use Rattle.std.specs.Prelude.{◌≡◌, ◌≢◌, ℕ, ◌+◌, ◌≤◌, ◌<◌, ◌↔◌, ◌⊎◌, [], false, Ok, Err, OnOk, IfErr, length};
 ghost use Rattle.std.specs.Io.KnownBytes.{IsAtEnd, Keeps};
 ghost use Rattle.road_files.specs.Asked.{AreQuestionsOf, asked_of};
 ghost use Rattle.batch_run.specs.Answered.{WroteAllOrFirst, WroteAllOrFront, WroteWhole};
 ghost use Rattle.batch_run.specs.InRange.{AreInRange};
-ghost use Rattle.batch_run.specs.Ran.{IsPassedOn, Done, Begun, BegunWhole, IsPairOf, IsBundleOf, IsGraphFault, IsQuestionsFault, IsBundleFault, IsFaultOf};
+ghost use Rattle.batch_run.specs.Ran.{IsPassedOn, Done, Begun, BegunWhole, IsPairOf, IsBundleOf, IsGraphFault, IsQuestionsFault, IsBundleFault, IsFaultOf, IsLater};
 
 use crate::answering::answer_at;
-use crate::faults::{File, RunFault, WRITE, fault_in, fault_of_answer, fault_of_run};
-use crate::gate::Gate;
+use crate::engine::{Ahead, Batch, prepare};
+use crate::faults::{
+    File, MEMORY, RunFault, WRITE, fault_in, fault_of_answer, fault_of_group, fault_of_run,
+};
+use crate::labelling::labels_at;
 use crate::laws::answers_exist;
 use crate::settings::Settings;
 use answer_text::{first_answers_begin_all, write_header};
@@ -17,24 +20,31 @@ use road_files::{Questions, read_bundle, read_gr, read_questions};
 use road_graph::Graph;
 use road_text::{RoadRead, RoadWrite};
 use std::alloc::Global;
+use std::sync::Wait;
+use std::thread::Threads;
+use worker_fleet::Gate;
 
 /// A setting that is out of its range.
 const SETTINGS: u8 = 43;
 
 /// Answers all questions in order, and stops at the first fault.
-fn answer_all<A: PathAlgebra, W: RoadWrite>(
+fn answer_all<A: PathAlgebra, W: RoadWrite, R: Threads + Wait, T: Gate>(
+    rt: &R,
     alloc: Global,
     algebra: A,
     graph: &Graph,
     questions: &Questions,
     out: &mut W,
+    settings: &Settings,
+    gate: &T,
 ) -> Result<(), RunFault>
-    requires { AreQuestionsOf graph.now.vertices questions.now }
+    requires within { AreQuestionsOf graph.now.vertices questions.now }
+    requires settings { AreInRange settings.now }
     ensures text { WroteAllOrFirst (A.meaning algebra) graph.now (asked_of questions.now) (W.written out.old) (W.written out.new) result }
     ensures sound { OnOk result (W.failures out.new ≡ W.failures out.old) }
-    ensures later { IfErr result (λ f. (f.file ≡ File.NoFile) × (f.line ≡ 0) × ((f.number ≡ 3) ⊎ (f.number ≡ 42)) × (f.number ≡ 42 → W.failures out.old < W.failures out.new)) }
-    ensures whole { IfErr result (λ f. f.number ≡ 3 → WroteWhole (A.meaning algebra) graph.now (asked_of questions.now) (W.written out.old) (W.written out.new)) }
-    ensures unfailed { IfErr result (λ f. f.number ≡ 3 → W.failures out.new ≡ W.failures out.old) }
+    ensures later { IfErr result (λ f. IsLater settings.now (T.is_always_open gate.now) f × (f.number ≡ 42 → W.failures out.old < W.failures out.new)) }
+    ensures whole { IfErr result (λ f. f.number ≢ 42 → WroteWhole (A.meaning algebra) graph.now (asked_of questions.now) (W.written out.old) (W.written out.new)) }
+    ensures unfailed { IfErr result (λ f. f.number ≢ 42 → W.failures out.new ≡ W.failures out.old) }
     ensures more { W.failures out.old ≤ W.failures out.new }
 {
     let count = questions.len() as u32;
@@ -42,8 +52,28 @@ fn answer_all<A: PathAlgebra, W: RoadWrite>(
         Ok(()) => {}
         Err(_) => return Err(fault_of_run(WRITE)),
     }
+    let Ok(prepared) = prepare(alloc, graph, questions, settings) else {
+        return Err(fault_of_run(MEMORY));
+    };
+    let layout = prepared.as_ref();
+    let batch = Batch {
+        rt,
+        alloc,
+        algebra,
+        graph,
+        settings,
+        gate,
+    };
+    let mut ahead = Ahead {
+        asked: 0,
+        ended: Vec::new(alloc),
+    };
     for i in 0..questions.len() {
-        match answer_at(alloc, algebra, graph, questions, i, out) {
+        let labels = match labels_at(&batch, layout, &mut ahead, questions, i) {
+            Ok(labels) => labels,
+            Err(fault) => return Err(fault_of_group(fault)),
+        };
+        match answer_at(alloc, algebra, graph, questions, i, &labels, out) {
             Ok(()) => {}
             Err(unanswered) => return Err(fault_of_answer(unanswered)),
         }
@@ -76,26 +106,30 @@ fn flush_all<W: RoadWrite>(out: &mut W, answered: Result<(), RunFault>) -> Resul
 }
 
 /// Answers all questions, and passes the answers on.
-fn answer_and_flush<A: PathAlgebra, W: RoadWrite>(
+fn answer_and_flush<A: PathAlgebra, W: RoadWrite, R: Threads + Wait, T: Gate>(
+    rt: &R,
     alloc: Global,
     algebra: A,
     graph: &Graph,
     questions: &Questions,
     out: &mut W,
+    settings: &Settings,
+    gate: &T,
 ) -> Result<(), RunFault>
-    requires { AreQuestionsOf graph.now.vertices questions.now }
+    requires within { AreQuestionsOf graph.now.vertices questions.now }
+    requires settings { AreInRange settings.now }
     ensures text { WroteAllOrFront (A.meaning algebra) graph.now (asked_of questions.now) (W.written out.old) (W.written out.new) result }
     ensures passed_on { OnOk result (W.held out.new ≡ []) }
     ensures sound { OnOk result (W.failures out.new ≡ W.failures out.old) }
-    ensures later { IfErr result (λ f. (f.file ≡ File.NoFile) × (f.line ≡ 0) × ((f.number ≡ 3) ⊎ (f.number ≡ 42)) × (f.number ≡ 42 → W.failures out.old < W.failures out.new)) }
-    ensures whole { IfErr result (λ f. f.number ≡ 3 → WroteWhole (A.meaning algebra) graph.now (asked_of questions.now) (W.written out.old) (W.written out.new)) }
-    ensures once { IfErr result (λ f. f.number ≡ 3 → W.failures out.new ≤ W.failures out.old + 1) }
+    ensures later { IfErr result (λ f. IsLater settings.now (T.is_always_open gate.now) f × (f.number ≡ 42 → W.failures out.old < W.failures out.new)) }
+    ensures whole { IfErr result (λ f. f.number ≢ 42 → WroteWhole (A.meaning algebra) graph.now (asked_of questions.now) (W.written out.old) (W.written out.new)) }
+    ensures once { IfErr result (λ f. f.number ≢ 42 → W.failures out.new ≤ W.failures out.old + 1) }
     ensures flushed { IfErr result (λ f. f.number ≢ 42 → IsPassedOn (W.held out.new) (W.failures out.old) (W.failures out.new)) }
 {
     answers_exist(algebra);
     first_answers_begin_all(algebra);
     let _n = graph.vertices();
-    let answered = answer_all(alloc, algebra, graph, questions, out);
+    let answered = answer_all(rt, alloc, algebra, graph, questions, out, settings, gate);
     flush_all(out, answered)
 }
 
@@ -103,16 +137,20 @@ fn answer_and_flush<A: PathAlgebra, W: RoadWrite>(
 ///
 /// The settings are tested first (43), then the graph is read and then the questions, and then each question is
 /// answered and written, in order; at last the output is flushed. The first fault in this order is told. After a
-/// fault of an input nothing has been written; after a later one (3, 42) a front of the answers' text has. The plain
-/// solver answers all questions, whatever the settings say, and the gate is not asked.
-pub fn run_pair<A: PathAlgebra, G: RoadRead, Q: RoadRead, W: RoadWrite, T: Gate>(
+/// fault of an input nothing has been written; after a later one (3, 40 to 42) a front of the answers' text has.
+///
+/// Questions are run in groups of `width` diffusions, each over its own shards, by workers on threads: worker w turns the
+/// stations of the shards whose number is w modulo `workers`. With `plain` the one-thread solver answers each question, no
+/// worker is started, and the gate is not asked.
+pub fn run_pair<A: PathAlgebra, G: RoadRead, Q: RoadRead, W: RoadWrite, R: Threads + Wait, T: Gate>(
+    rt: &R,
     alloc: Global,
     algebra: A,
     graph_in: &mut G,
     questions_in: &mut Q,
     out: &mut W,
     settings: &Settings,
-    _gate: &T,
+    gate: &T,
 ) -> Result<(), RunFault>
     ensures done { OnOk result (Done (A.meaning algebra) (IsPairOf (G.left graph_in.old) (Q.left questions_in.old)) (W.written out.old) (W.written out.new)) }
     ensures passed_on { OnOk result (W.held out.new ≡ []) }
@@ -127,6 +165,8 @@ pub fn run_pair<A: PathAlgebra, G: RoadRead, Q: RoadRead, W: RoadWrite, T: Gate>
     ensures write { IfErr result (λ f. f.number ≡ 42 → W.failures out.old < W.failures out.new) }
     ensures kinds { IfErr result (λ f. IsFaultOf (λ file. (file ≡ File.Graph) ⊎ (file ≡ File.Questions)) f) }
     ensures placed { IfErr result (λ f. f.number ≤ 3 → f.line ≡ 0) }
+    ensures stalled { IfErr result (λ f. f.number ≡ 40 → settings.now.plain ≡ false) }
+    ensures gated { IfErr result (λ f. f.number ≡ 41 → (settings.now.plain ≡ false) × (T.is_always_open gate.now → ⊥)) }
 
     // What a fault leaves.
     ensures nothing { IfErr result (λ f. f.file ≢ File.NoFile → Keeps (W.written out.old) (W.written out.new)) }
@@ -136,6 +176,7 @@ pub fn run_pair<A: PathAlgebra, G: RoadRead, Q: RoadRead, W: RoadWrite, T: Gate>
     ensures whole { IfErr result (λ f. f.file ≡ File.NoFile → f.number ≡ 3 → BegunWhole (A.meaning algebra) (IsPairOf (G.left graph_in.old) (Q.left questions_in.old)) (W.written out.old) (W.written out.new)) }
     ensures flushed { IfErr result (λ f. f.file ≡ File.NoFile → f.number ≡ 3 → IsPassedOn (W.held out.new) (W.failures out.old) (W.failures out.new)) }
     ensures once { IfErr result (λ f. f.file ≡ File.NoFile → f.number ≡ 3 → W.failures out.new ≤ W.failures out.old + 1) }
+    ensures stopped { IfErr result (λ f. (f.number ≡ 40) ⊎ (f.number ≡ 41) → BegunWhole (A.meaning algebra) (IsPairOf (G.left graph_in.old) (Q.left questions_in.old)) (W.written out.old) (W.written out.new) × IsPassedOn (W.held out.new) (W.failures out.old) (W.failures out.new)) }
 
     // What is asked of the inputs.
     ensures ends { OnOk result (IsAtEnd (G.left graph_in.new) × IsAtEnd (Q.left questions_in.new)) }
@@ -153,17 +194,18 @@ pub fn run_pair<A: PathAlgebra, G: RoadRead, Q: RoadRead, W: RoadWrite, T: Gate>
         Ok(questions) => questions,
         Err(fault) => return Err(fault_in(File::Questions, fault)),
     };
-    answer_and_flush(alloc, algebra, &graph, &questions, out)
+    answer_and_flush(rt, alloc, algebra, &graph, &questions, out, settings, gate)
 }
 
 /// Answers the questions of a bundle, a graph and questions over it in one input, as `run_pair` does.
-pub fn run_bundle<A: PathAlgebra, B: RoadRead, W: RoadWrite, T: Gate>(
+pub fn run_bundle<A: PathAlgebra, B: RoadRead, W: RoadWrite, R: Threads + Wait, T: Gate>(
+    rt: &R,
     alloc: Global,
     algebra: A,
     input: &mut B,
     out: &mut W,
     settings: &Settings,
-    _gate: &T,
+    gate: &T,
 ) -> Result<(), RunFault>
     ensures done { OnOk result (Done (A.meaning algebra) (IsBundleOf (B.left input.old)) (W.written out.old) (W.written out.new)) }
     ensures passed_on { OnOk result (W.held out.new ≡ []) }
@@ -176,6 +218,8 @@ pub fn run_bundle<A: PathAlgebra, B: RoadRead, W: RoadWrite, T: Gate>(
     ensures write { IfErr result (λ f. f.number ≡ 42 → W.failures out.old < W.failures out.new) }
     ensures kinds { IfErr result (λ f. IsFaultOf (λ file. file ≡ File.Bundle) f) }
     ensures placed { IfErr result (λ f. f.number ≤ 3 → f.line ≡ 0) }
+    ensures stalled { IfErr result (λ f. f.number ≡ 40 → settings.now.plain ≡ false) }
+    ensures gated { IfErr result (λ f. f.number ≡ 41 → (settings.now.plain ≡ false) × (T.is_always_open gate.now → ⊥)) }
 
     // What a fault leaves.
     ensures nothing { IfErr result (λ f. f.file ≢ File.NoFile → Keeps (W.written out.old) (W.written out.new)) }
@@ -185,6 +229,7 @@ pub fn run_bundle<A: PathAlgebra, B: RoadRead, W: RoadWrite, T: Gate>(
     ensures whole { IfErr result (λ f. f.file ≡ File.NoFile → f.number ≡ 3 → BegunWhole (A.meaning algebra) (IsBundleOf (B.left input.old)) (W.written out.old) (W.written out.new)) }
     ensures flushed { IfErr result (λ f. f.file ≡ File.NoFile → f.number ≡ 3 → IsPassedOn (W.held out.new) (W.failures out.old) (W.failures out.new)) }
     ensures once { IfErr result (λ f. f.file ≡ File.NoFile → f.number ≡ 3 → W.failures out.new ≤ W.failures out.old + 1) }
+    ensures stopped { IfErr result (λ f. (f.number ≡ 40) ⊎ (f.number ≡ 41) → BegunWhole (A.meaning algebra) (IsBundleOf (B.left input.old)) (W.written out.old) (W.written out.new) × IsPassedOn (W.held out.new) (W.failures out.old) (W.failures out.new)) }
 
     // What is asked of the input.
     ensures end { OnOk result (IsAtEnd (B.left input.new)) }
@@ -197,5 +242,5 @@ pub fn run_bundle<A: PathAlgebra, B: RoadRead, W: RoadWrite, T: Gate>(
         Ok(read) => read,
         Err(fault) => return Err(fault_in(File::Bundle, fault)),
     };
-    answer_and_flush(alloc, algebra, &graph, &questions, out)
+    answer_and_flush(rt, alloc, algebra, &graph, &questions, out, settings, gate)
 }

@@ -1,13 +1,16 @@
 //! Worked questions with their answers, and what stops a batch.
 mod ends;
 mod faults;
+mod workers;
 
 use crate::tolls::Tolls;
 use crate::{OpenGate, Settings, run_bundle, run_pair};
 use path_algebra::{Hops, PathAlgebra, Reach, Reliable, Shortest, Widest, Within};
 use road_text::Plain;
 use std::process::Abort;
+use std::sync::Wait;
 use std::test::Fail;
+use std::thread::Threads;
 
 /// Five vertices, of which the last is reached from nowhere.
 const FIVE: &str = "p sp 5 7\na 1 2 4\na 1 3 1\na 3 2 2\na 2 4 5\na 3 4 8\na 4 4 0\na 5 1 3\n";
@@ -21,7 +24,7 @@ const SHORTEST: &str =
 
 /// Asserts that questions over a graph have this answer, as two inputs and as one.
 fn assert_answered<A: PathAlgebra>(
-    rt: &(impl Abort + AllocGlobal),
+    rt: &(impl Abort + AllocGlobal + Threads + Wait),
     algebra: A,
     settings: &Settings,
     graph: &str,
@@ -33,6 +36,7 @@ fn assert_answered<A: PathAlgebra>(
     let mut first = Plain::new(graph.as_bytes());
     let mut second = Plain::new(questions.as_bytes());
     let answered = run_pair(
+        rt,
         alloc,
         algebra,
         &mut first,
@@ -46,7 +50,15 @@ fn assert_answered<A: PathAlgebra>(
     let text = format!(in alloc; "{graph}{questions}")?;
     let mut out = Plain::new(Vec::new(alloc));
     let mut bundle = Plain::new(text.as_bytes());
-    let answered = run_bundle(alloc, algebra, &mut bundle, &mut out, settings, &OpenGate);
+    let answered = run_bundle(
+        rt,
+        alloc,
+        algebra,
+        &mut bundle,
+        &mut out,
+        settings,
+        &OpenGate,
+    );
     assert_eq!(rt; answered, Ok(()));
     assert_eq!(rt; out.into_inner().as_slice(), wanted.as_bytes());
     Ok(())
@@ -54,7 +66,7 @@ fn assert_answered<A: PathAlgebra>(
 
 /// Asserts that questions over a graph have this answer, under the settings that a program has by default.
 fn assert_text<A: PathAlgebra>(
-    rt: &(impl Abort + AllocGlobal),
+    rt: &(impl Abort + AllocGlobal + Threads + Wait),
     algebra: A,
     graph: &str,
     questions: &str,
@@ -201,7 +213,7 @@ fn one_source_as_several(rt: HostRuntime) -> Result<(), Fail> {
 fn any_settings_in_range(rt: HostRuntime) -> Result<(), Fail> {
     for plain in [false, true] {
         for (workers, shards, width, budget, turns) in [
-            (1, 1, 1, 1, 0),
+            (1, 1, 1, 1, 18),
             (64, 64, 64, 65_536, 1_000_000_000_000),
         ] {
             let settings = Settings {

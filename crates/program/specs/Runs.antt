@@ -1,5 +1,5 @@
 -- What answering leaves, between two moments of its inputs and its output.
-use Rattle.std.specs.Prelude.{◌≡◌, ◌≢◌, ℕ, ◌+◌, ◌≤◌, ◌<◌, ◌↔◌, ◌⊎◌, List, [], Option, Result, Err, OnOk, IfErr}
+use Rattle.std.specs.Prelude.{◌≡◌, ◌≢◌, ℕ, ◌+◌, ◌≤◌, ◌<◌, ◌↔◌, ◌⊎◌, false, List, [], Option, Result, Err, OnOk, IfErr}
 use Rattle.std.specs.Io.KnownBytes.{IsAtEnd}
 use Rattle.batch_run.specs.declared.faults.File.TheVariants.{Graph, Questions, Bundle, NoFile}
 use Rattle.batch_run.specs.declared.faults.RunFault.{RunFault}
@@ -42,12 +42,15 @@ pub record RanPair (chosen : Chosen) (settings : Settings) (graph graph_after qu
   pub write : IfErr outcome (λ f. f.number ≡ 42 → out.failures < out_after.failures)
   pub kinds : IfErr outcome (λ f. IsFaultOf (λ file. (file ≡ Graph) ⊎ (file ≡ Questions)) f)
   pub placed : IfErr outcome (λ f. f.number ≤ 3 → f.line ≡ 0)
+  pub stalled : IfErr outcome (λ f. f.number ≡ 40 → settings.plain ≡ false)
+  pub ungated : IfErr outcome (λ f. f.number ≢ 41)
   pub unwritten : IfErr outcome (λ f. f.file ≢ NoFile → out_after ≡ out)
   pub untouched : IfErr outcome (λ f. f.number ≡ 43 → (graph_after ≡ graph) × (questions_after ≡ questions) × (out_after ≡ out))
   pub begun : IfErr outcome (λ f. f.file ≡ NoFile → f.number ≢ 43 → BegunUnder chosen (IsPairOf graph.left questions.left) out.written out_after.written)
   pub whole : IfErr outcome (λ f. f.file ≡ NoFile → f.number ≡ 3 → WholeUnder chosen (IsPairOf graph.left questions.left) out.written out_after.written)
   pub flushed : IfErr outcome (λ f. f.file ≡ NoFile → f.number ≡ 3 → IsPassedOn out_after.held out.failures out_after.failures)
   pub once : IfErr outcome (λ f. f.file ≡ NoFile → f.number ≡ 3 → out_after.failures ≤ out.failures + 1)
+  pub stopped : IfErr outcome (λ f. f.number ≡ 40 → WholeUnder chosen (IsPairOf graph.left questions.left) out.written out_after.written × IsPassedOn out_after.held out.failures out_after.failures)
   pub ends : OnOk outcome (IsAtEnd graph_after.left × IsAtEnd questions_after.left)
   pub asked : graph_after.asked ≤ graph.asked + 4294967297
   pub asked_questions : questions_after.asked ≤ questions.asked + 4294967297
@@ -63,11 +66,14 @@ pub record RanBundle (chosen : Chosen) (settings : Settings) (input input_after 
   pub write : IfErr outcome (λ f. f.number ≡ 42 → out.failures < out_after.failures)
   pub kinds : IfErr outcome (λ f. IsFaultOf (λ file. file ≡ Bundle) f)
   pub placed : IfErr outcome (λ f. f.number ≤ 3 → f.line ≡ 0)
+  pub stalled : IfErr outcome (λ f. f.number ≡ 40 → settings.plain ≡ false)
+  pub ungated : IfErr outcome (λ f. f.number ≢ 41)
   pub unwritten : IfErr outcome (λ f. f.file ≢ NoFile → out_after ≡ out)
   pub untouched : IfErr outcome (λ f. f.number ≡ 43 → (input_after ≡ input) × (out_after ≡ out))
   pub begun : IfErr outcome (λ f. f.file ≡ NoFile → f.number ≢ 43 → BegunUnder chosen (IsBundleOf input.left) out.written out_after.written)
   pub whole : IfErr outcome (λ f. f.file ≡ NoFile → f.number ≡ 3 → WholeUnder chosen (IsBundleOf input.left) out.written out_after.written)
   pub flushed : IfErr outcome (λ f. f.file ≡ NoFile → f.number ≡ 3 → IsPassedOn out_after.held out.failures out_after.failures)
   pub once : IfErr outcome (λ f. f.file ≡ NoFile → f.number ≡ 3 → out_after.failures ≤ out.failures + 1)
+  pub stopped : IfErr outcome (λ f. f.number ≡ 40 → WholeUnder chosen (IsBundleOf input.left) out.written out_after.written × IsPassedOn out_after.held out.failures out_after.failures)
   pub end : OnOk outcome (IsAtEnd input_after.left)
   pub asked : input_after.asked ≤ input.asked + 4294967297

@@ -15,10 +15,12 @@ use crate::verdicts::end_check;
 use batch_run::Settings;
 use road_text::{RoadRead, RoadWrite};
 use std::alloc::Global;
+use std::sync::Wait;
 use std::thread::Threads;
 
 /// Answers the questions of one input over the graph of another, and gives the exit status.
-pub fn solve<G: RoadRead, Q: RoadRead, W: RoadWrite, E: RoadWrite>(
+pub fn solve<R: Threads + Wait, G: RoadRead, Q: RoadRead, W: RoadWrite, E: RoadWrite>(
+    rt: &R,
     alloc: Global,
     chosen: Chosen,
     settings: &Settings,
@@ -33,12 +35,13 @@ pub fn solve<G: RoadRead, Q: RoadRead, W: RoadWrite, E: RoadWrite>(
         (output (W.written out.old) (W.held out.old) (W.failures out.old)) (output (W.written out.new) (W.held out.new) (W.failures out.new)) outcome
         × EndsAs (λ _. 0) (E.written errors.old) (E.written errors.new) (E.failures errors.old) (E.failures errors.new) outcome result }
 {
-    let outcome = run_chosen_pair(alloc, chosen, graph_in, questions_in, out, settings);
+    let outcome = run_chosen_pair(rt, alloc, chosen, graph_in, questions_in, out, settings);
     end_with(errors, outcome)
 }
 
 /// Answers the questions of a bundle, and gives the exit status.
-pub fn bundle<B: RoadRead, W: RoadWrite, E: RoadWrite>(
+pub fn bundle<R: Threads + Wait, B: RoadRead, W: RoadWrite, E: RoadWrite>(
+    rt: &R,
     alloc: Global,
     chosen: Chosen,
     settings: &Settings,
@@ -51,7 +54,7 @@ pub fn bundle<B: RoadRead, W: RoadWrite, E: RoadWrite>(
         (output (W.written out.old) (W.held out.old) (W.failures out.old)) (output (W.written out.new) (W.held out.new) (W.failures out.new)) outcome
         × EndsAs (λ _. 0) (E.written errors.old) (E.written errors.new) (E.failures errors.old) (E.failures errors.new) outcome result }
 {
-    let outcome = run_chosen_bundle(alloc, chosen, text, out, settings);
+    let outcome = run_chosen_bundle(rt, alloc, chosen, text, out, settings);
     end_with(errors, outcome)
 }
 

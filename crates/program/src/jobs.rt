@@ -8,6 +8,7 @@ use crate::reports::report;
 use batch_run::{File, RunFault, Settings};
 use road_text::RoadWrite;
 use std::alloc::Global;
+use std::sync::Wait;
 use std::thread::Threads;
 
 /// Opens a file, and tells which could not be opened.
@@ -25,7 +26,8 @@ fn open<P: Places>(places: &P, path: &str, file: File) -> Result<P::File, RunFau
 }
 
 /// Answers the questions of one file over the graph of another, and gives the exit status.
-pub fn solve_files<P: Places, W: RoadWrite, E: RoadWrite>(
+pub fn solve_files<R: Threads + Wait, P: Places, W: RoadWrite, E: RoadWrite>(
+    rt: &R,
     alloc: Global,
     places: &P,
     chosen: Chosen,
@@ -43,6 +45,7 @@ pub fn solve_files<P: Places, W: RoadWrite, E: RoadWrite>(
         Err(fault) => return report(errors, fault),
     };
     solve(
+        rt,
         alloc,
         chosen,
         settings,
@@ -54,7 +57,8 @@ pub fn solve_files<P: Places, W: RoadWrite, E: RoadWrite>(
 }
 
 /// Answers the bundle on standard input, and gives the exit status.
-pub fn bundle_given<P: Places, W: RoadWrite, E: RoadWrite>(
+pub fn bundle_given<R: Threads + Wait, P: Places, W: RoadWrite, E: RoadWrite>(
+    rt: &R,
     alloc: Global,
     places: &P,
     chosen: Chosen,
@@ -63,7 +67,7 @@ pub fn bundle_given<P: Places, W: RoadWrite, E: RoadWrite>(
     errors: &mut E,
 ) -> u8 {
     let mut text = places.given();
-    bundle(alloc, chosen, settings, &mut text, out, errors)
+    bundle(rt, alloc, chosen, settings, &mut text, out, errors)
 }
 
 /// Judges the answers of one file to the questions of another over the graph of a third, and gives the exit status.

@@ -1,8 +1,9 @@
 //! What the command line says.
 use crate::help::{
-    ALGEBRA, ANSWERS, BUNDLE, FAULTS, GRAPH, JUDGED, LIMIT, LIMIT_OF_ANSWERS, NAMES, QUESTIONS,
-    STATUSES, VERDICT, VERDICTS, VERSION,
+    ALGEBRA, ANSWERS, BUDGET, BUNDLE, FAULTS, GRAPH, JUDGED, LIMIT, LIMIT_OF_ANSWERS, NAMES, PLAIN,
+    QUESTIONS, SHARDS, STATUSES, TURNS, VERDICT, VERDICTS, VERSION, WIDTH, WORKERS,
 };
+use batch_run::Settings;
 use clap::builder::ValueParser;
 use clap::{Arg, ArgAction, ArgMatches, Command, Error};
 use std::alloc::{AllocError, Global};
@@ -13,13 +14,15 @@ const ALGEBRAS: &[&str] = &["shortest", "widest", "reach", "hops", "reliable", "
 /// The greatest limit of `within`.
 const MAX_LIMIT: u64 = 9_223_372_036_854_775_808;
 
-/// What is best, as the command line has it.
+/// What is best, and how it is found, as the command line has it.
 #[derive(Clone, Copy, Debug)]
 pub struct Wanted<'a> {
     /// The name of an algebra.
     pub algebra: &'a str,
     /// The limit of `within`, where one was given.
     pub limit: Option<u64>,
+    /// How the questions are run.
+    pub settings: Settings,
 }
 
 /// What is to be done.
@@ -57,6 +60,42 @@ fn algebra<'a>(alloc: Global) -> Arg<'a> {
         .long_help(ALGEBRA)
 }
 
+/// A whole number in a range, with a default.
+fn number<'a>(
+    alloc: Global,
+    name: &'a str,
+    least: u64,
+    greatest: u64,
+    default: &'a str,
+    help: &'a str,
+) -> Arg<'a> {
+    Arg::new(alloc, name)
+        .long(name)
+        .value_name("N")
+        .action(ArgAction::Set)
+        .value_parser(ValueParser::unsigned(least, greatest))
+        .default_value(default)
+        .next_line_help(true)
+        .help(help)
+}
+
+/// How the questions are run.
+fn engine<'a>(alloc: Global, command: Command<'a>) -> Result<Command<'a>, AllocError> {
+    command
+        .arg(number(alloc, "workers", 1, 64, "4", WORKERS))?
+        .arg(number(alloc, "shards", 1, 64, "4", SHARDS))?
+        .arg(number(alloc, "width", 1, 64, "1", WIDTH))?
+        .arg(number(alloc, "budget", 1, 65_536, "1024", BUDGET))?
+        .arg(number(alloc, "turns", 0, 1_000_000_000_000, "1000000000000", TURNS))?
+        .arg(
+            Arg::new(alloc, "plain")
+                .long("plain")
+                .action(ArgAction::SetTrue)
+                .next_line_help(true)
+                .help(PLAIN),
+        )
+}
+
 fn limit<'a>(alloc: Global, help: &'a str) -> Arg<'a> {
     Arg::new(alloc, "limit")
         .long("limit")
@@ -78,24 +117,26 @@ fn file<'a>(alloc: Global, name: &'a str, help: &'a str, long_help: &'a str) -> 
 }
 
 fn solve<'a>(alloc: Global) -> Result<Command<'a>, AllocError> {
-    Command::new(alloc, "solve")
+    let command = Command::new(alloc, "solve")
         .about("Answers the questions of a file over the graph of another")
         .after_help(NAMES)
         .after_long_help(ANSWERS)
         .arg(file(alloc, "GRAPH", "A road graph, a .gr file", GRAPH))?
         .arg(file(alloc, "QUESTIONS", "A .ss, .p2p or .ms file", QUESTIONS))?
         .arg(algebra(alloc))?
-        .arg(limit(alloc, LIMIT))
+        .arg(limit(alloc, LIMIT))?;
+    engine(alloc, command)
 }
 
 fn bundle<'a>(alloc: Global) -> Result<Command<'a>, AllocError> {
-    Command::new(alloc, "bundle")
+    let command = Command::new(alloc, "bundle")
         .about("Answers a graph and its questions from standard input")
         .long_about(BUNDLE)
         .after_help(NAMES)
         .after_long_help(ANSWERS)
         .arg(algebra(alloc))?
-        .arg(limit(alloc, LIMIT))
+        .arg(limit(alloc, LIMIT))?;
+    engine(alloc, command)
 }
 
 fn check<'a>(alloc: Global) -> Result<Command<'a>, AllocError> {
@@ -127,10 +168,27 @@ fn text_of<'a>(matches: &ArgMatches<'a>, name: &str) -> &'a str {
     matches.get_str(name).unwrap_or("")
 }
 
+fn number_of(matches: &ArgMatches<'_>, name: &str, default: u64) -> u64 {
+    matches.get_one::<u64>(name).unwrap_or(default)
+}
+
+fn settings_of(matches: &ArgMatches<'_>) -> Settings {
+    let usual = Settings::default();
+    Settings {
+        workers: number_of(matches, "workers", usual.workers),
+        shards: number_of(matches, "shards", usual.shards),
+        width: number_of(matches, "width", usual.width),
+        budget: number_of(matches, "budget", usual.budget),
+        turns: number_of(matches, "turns", usual.turns),
+        plain: matches.get_flag("plain"),
+    }
+}
+
 fn wanted_of<'a>(matches: &ArgMatches<'a>) -> Wanted<'a> {
     Wanted {
         algebra: text_of(matches, "algebra"),
         limit: matches.get_one::<u64>("limit"),
+        settings: settings_of(matches),
     }
 }
 

@@ -1,5 +1,5 @@
 //! Runs a batch under the algebra that was chosen.
-ghost use Rattle.std.specs.Prelude.{◌≡◌, ◌≢◌, ℕ, ◌+◌, ◌≤◌, ◌<◌, ◌↔◌, ◌⊎◌, [], Err, OnOk, IfErr};
+ghost use Rattle.std.specs.Prelude.{◌≡◌, ◌≢◌, ℕ, ◌+◌, ◌≤◌, ◌<◌, ◌↔◌, ◌⊎◌, [], false, Err, OnOk, IfErr};
 ghost use Rattle.std.specs.Io.KnownBytes.{IsAtEnd, Keeps};
 ghost use Rattle.batch_run.specs.InRange.{AreInRange};
 ghost use Rattle.batch_run.specs.Ran.{IsPassedOn, IsPairOf, IsBundleOf, IsGraphFault, IsQuestionsFault, IsBundleFault, IsFaultOf};
@@ -10,9 +10,12 @@ use batch_run::{File, OpenGate, RunFault, Settings, run_bundle, run_pair};
 use path_algebra::{Hops, Reach, Reliable, Shortest, Widest};
 use road_text::{RoadRead, RoadWrite};
 use std::alloc::Global;
+use std::sync::Wait;
+use std::thread::Threads;
 
 /// Answers the questions of one input over the graph of another, under the chosen algebra.
-pub(crate) fn run_chosen_pair<G: RoadRead, Q: RoadRead, W: RoadWrite>(
+pub(crate) fn run_chosen_pair<G: RoadRead, Q: RoadRead, W: RoadWrite, R: Threads + Wait>(
+    rt: &R,
     alloc: Global,
     chosen: Chosen,
     graph: &mut G,
@@ -33,6 +36,8 @@ pub(crate) fn run_chosen_pair<G: RoadRead, Q: RoadRead, W: RoadWrite>(
     ensures write { IfErr result (λ f. f.number ≡ 42 → W.failures out.old < W.failures out.new) }
     ensures kinds { IfErr result (λ f. IsFaultOf (λ file. (file ≡ File.Graph) ⊎ (file ≡ File.Questions)) f) }
     ensures placed { IfErr result (λ f. f.number ≤ 3 → f.line ≡ 0) }
+    ensures stalled { IfErr result (λ f. f.number ≡ 40 → settings.now.plain ≡ false) }
+    ensures ungated { IfErr result (λ f. f.number ≢ 41) }
 
     // What a fault leaves.
     ensures nothing { IfErr result (λ f. f.file ≢ File.NoFile → Keeps (W.written out.old) (W.written out.new)) }
@@ -42,6 +47,7 @@ pub(crate) fn run_chosen_pair<G: RoadRead, Q: RoadRead, W: RoadWrite>(
     ensures whole { IfErr result (λ f. f.file ≡ File.NoFile → f.number ≡ 3 → WholeUnder chosen (IsPairOf (G.left graph.old) (Q.left questions.old)) (W.written out.old) (W.written out.new)) }
     ensures flushed { IfErr result (λ f. f.file ≡ File.NoFile → f.number ≡ 3 → IsPassedOn (W.held out.new) (W.failures out.old) (W.failures out.new)) }
     ensures once { IfErr result (λ f. f.file ≡ File.NoFile → f.number ≡ 3 → W.failures out.new ≤ W.failures out.old + 1) }
+    ensures stopped { IfErr result (λ f. f.number ≡ 40 → WholeUnder chosen (IsPairOf (G.left graph.old) (Q.left questions.old)) (W.written out.old) (W.written out.new) × IsPassedOn (W.held out.new) (W.failures out.old) (W.failures out.new)) }
 
     // What is asked of the inputs.
     ensures ends { OnOk result (IsAtEnd (G.left graph.new) × IsAtEnd (Q.left questions.new)) }
@@ -50,17 +56,20 @@ pub(crate) fn run_chosen_pair<G: RoadRead, Q: RoadRead, W: RoadWrite>(
 {
     let gate = OpenGate;
     match chosen {
-        Chosen::Shortest => run_pair(alloc, Shortest, graph, questions, out, settings, &gate),
-        Chosen::Widest => run_pair(alloc, Widest, graph, questions, out, settings, &gate),
-        Chosen::Reach => run_pair(alloc, Reach, graph, questions, out, settings, &gate),
-        Chosen::Hops => run_pair(alloc, Hops, graph, questions, out, settings, &gate),
-        Chosen::Reliable => run_pair(alloc, Reliable, graph, questions, out, settings, &gate),
-        Chosen::Within(within) => run_pair(alloc, within, graph, questions, out, settings, &gate),
+        Chosen::Shortest => run_pair(rt, alloc, Shortest, graph, questions, out, settings, &gate),
+        Chosen::Widest => run_pair(rt, alloc, Widest, graph, questions, out, settings, &gate),
+        Chosen::Reach => run_pair(rt, alloc, Reach, graph, questions, out, settings, &gate),
+        Chosen::Hops => run_pair(rt, alloc, Hops, graph, questions, out, settings, &gate),
+        Chosen::Reliable => run_pair(rt, alloc, Reliable, graph, questions, out, settings, &gate),
+        Chosen::Within(within) => run_pair(
+            rt, alloc, within, graph, questions, out, settings, &gate,
+        ),
     }
 }
 
 /// Answers a bundle under the chosen algebra.
-pub(crate) fn run_chosen_bundle<B: RoadRead, W: RoadWrite>(
+pub(crate) fn run_chosen_bundle<B: RoadRead, W: RoadWrite, R: Threads + Wait>(
+    rt: &R,
     alloc: Global,
     chosen: Chosen,
     input: &mut B,
@@ -78,6 +87,8 @@ pub(crate) fn run_chosen_bundle<B: RoadRead, W: RoadWrite>(
     ensures write { IfErr result (λ f. f.number ≡ 42 → W.failures out.old < W.failures out.new) }
     ensures kinds { IfErr result (λ f. IsFaultOf (λ file. file ≡ File.Bundle) f) }
     ensures placed { IfErr result (λ f. f.number ≤ 3 → f.line ≡ 0) }
+    ensures stalled { IfErr result (λ f. f.number ≡ 40 → settings.now.plain ≡ false) }
+    ensures ungated { IfErr result (λ f. f.number ≢ 41) }
 
     // What a fault leaves.
     ensures nothing { IfErr result (λ f. f.file ≢ File.NoFile → Keeps (W.written out.old) (W.written out.new)) }
@@ -87,6 +98,7 @@ pub(crate) fn run_chosen_bundle<B: RoadRead, W: RoadWrite>(
     ensures whole { IfErr result (λ f. f.file ≡ File.NoFile → f.number ≡ 3 → WholeUnder chosen (IsBundleOf (B.left input.old)) (W.written out.old) (W.written out.new)) }
     ensures flushed { IfErr result (λ f. f.file ≡ File.NoFile → f.number ≡ 3 → IsPassedOn (W.held out.new) (W.failures out.old) (W.failures out.new)) }
     ensures once { IfErr result (λ f. f.file ≡ File.NoFile → f.number ≡ 3 → W.failures out.new ≤ W.failures out.old + 1) }
+    ensures stopped { IfErr result (λ f. f.number ≡ 40 → WholeUnder chosen (IsBundleOf (B.left input.old)) (W.written out.old) (W.written out.new) × IsPassedOn (W.held out.new) (W.failures out.old) (W.failures out.new)) }
 
     // What is asked of the input.
     ensures end { OnOk result (IsAtEnd (B.left input.new)) }
@@ -94,11 +106,11 @@ pub(crate) fn run_chosen_bundle<B: RoadRead, W: RoadWrite>(
 {
     let gate = OpenGate;
     match chosen {
-        Chosen::Shortest => run_bundle(alloc, Shortest, input, out, settings, &gate),
-        Chosen::Widest => run_bundle(alloc, Widest, input, out, settings, &gate),
-        Chosen::Reach => run_bundle(alloc, Reach, input, out, settings, &gate),
-        Chosen::Hops => run_bundle(alloc, Hops, input, out, settings, &gate),
-        Chosen::Reliable => run_bundle(alloc, Reliable, input, out, settings, &gate),
-        Chosen::Within(within) => run_bundle(alloc, within, input, out, settings, &gate),
+        Chosen::Shortest => run_bundle(rt, alloc, Shortest, input, out, settings, &gate),
+        Chosen::Widest => run_bundle(rt, alloc, Widest, input, out, settings, &gate),
+        Chosen::Reach => run_bundle(rt, alloc, Reach, input, out, settings, &gate),
+        Chosen::Hops => run_bundle(rt, alloc, Hops, input, out, settings, &gate),
+        Chosen::Reliable => run_bundle(rt, alloc, Reliable, input, out, settings, &gate),
+        Chosen::Within(within) => run_bundle(rt, alloc, within, input, out, settings, &gate),
     }
 }

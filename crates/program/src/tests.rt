@@ -2,9 +2,10 @@
 use crate::options::{Job, Wanted, read_job};
 use crate::places::Places;
 use crate::words::{algebra_of, run_words};
-use batch_run::fault_of_run;
+use batch_run::{Settings, fault_of_run};
 use road_text::{Plain, ReadFailed};
 use std::alloc::Global;
+use std::sync::Wait;
 use std::test::Fail;
 use std::thread::Threads;
 
@@ -91,6 +92,48 @@ fn command_lines(rt: HostRuntime) -> Result<(), Fail> {
     Ok(())
 }
 
+/// How questions are run, as a command line says, in words; or `wrong`.
+fn settings_told(alloc: Global, line: &str) -> Result<String, Fail> {
+    let words = words_of(alloc, line)?;
+    Ok(match read_job(alloc, words.as_slice()) {
+        Ok(Some(Job::Bundle { wanted })) => {
+            let s = wanted.settings;
+            format!(in alloc;
+                "{} {} {} {} {} {}",
+                s.workers, s.shards, s.width, s.budget, s.turns, s.plain
+            )?
+        }
+        _ => String::from_str(alloc, "wrong")?,
+    })
+}
+
+#[test]
+fn settings_of_a_command_line(rt: HostRuntime) -> Result<(), Fail> {
+    for (options, wanted) in [
+        ("--workers 4", "4 4 1 1024 1000000000000 false"),
+        ("--workers 1 --plain", "1 4 1 1024 1000000000000 true"),
+        ("--workers 64 --shards 1", "64 1 1 1024 1000000000000 false"),
+        ("--shards=64 --width 64", "4 64 64 1024 1000000000000 false"),
+        ("--budget 1 --turns 0", "4 4 1 1 0 false"),
+        ("--budget 65536", "4 4 1 65536 1000000000000 false"),
+        ("--workers 0", "wrong"),
+        ("--workers 65", "wrong"),
+        ("--shards 0", "wrong"),
+        ("--shards 65", "wrong"),
+        ("--width 0", "wrong"),
+        ("--width 65", "wrong"),
+        ("--budget 0", "wrong"),
+        ("--budget 65537", "wrong"),
+        ("--turns 1000000000001", "wrong"),
+        ("--turns x", "wrong"),
+        ("--plain yes", "wrong"),
+    ] {
+        let line = format!(in rt.alloc(); "diffuse bundle {options}")?;
+        assert_eq!(rt; settings_told(rt.alloc(), line.as_str())?.as_str(), wanted);
+    }
+    Ok(())
+}
+
 #[test]
 fn algebras_and_limits(rt: HostRuntime) -> Result<(), Fail> {
     for (algebra, limit, wanted) in [
@@ -105,7 +148,11 @@ fn algebras_and_limits(rt: HostRuntime) -> Result<(), Fail> {
         ("shortest", Some(5), "refused"),
         ("own", None, "refused"),
     ] {
-        let found = match algebra_of(&Wanted { algebra, limit }) {
+        let found = match algebra_of(&Wanted {
+            algebra,
+            limit,
+            settings: Settings::default(),
+        }) {
             Ok(chosen) => format!(in rt.alloc(); "Ok({chosen:?})")?,
             Err(fault) => {
                 assert_eq!(rt; fault, fault_of_run(43));
@@ -197,7 +244,7 @@ fn words_of(alloc: Global, line: &str) -> Result<Vec<String>, Fail> {
 
 /// Asserts what a command line with this standard input writes and tells, and its exit status.
 fn assert_run(
-    rt: &(impl std::process::Abort + Threads + AllocGlobal + Sync),
+    rt: &(impl std::process::Abort + Threads + Wait + AllocGlobal + Sync),
     line: &str,
     given: &str,
     wanted: (&str, &str, u8),
@@ -231,6 +278,20 @@ fn commands_and_statuses(rt: HostRuntime) -> Result<(), Fail> {
         ("solve q none", "", "diffuse: fault 1 questions\n", 3),
         ("solve g q --limit 0", "", "diffuse: fault 43\n", 2),
         ("solve g q --algebra within", "", "diffuse: fault 43\n", 2),
+        ("solve g q --plain", SHORTEST, "", 0),
+        (
+            "solve g q --workers 64 --shards 64 --width 64 --budget 1",
+            SHORTEST,
+            "",
+            0,
+        ),
+        (
+            "solve g q --turns 0",
+            "p ans ss 1 shortest\n",
+            "diffuse: fault 40\n",
+            6,
+        ),
+        ("solve g q --turns 0 --plain", SHORTEST, "", 0),
         ("check g q right", "valid\n", "", 0),
         ("check g q wide", "valid\n", "", 0),
         ("check g q within --limit 0", "valid\n", "", 0),

@@ -8,7 +8,7 @@ use crate::jobs::{bundle_given, check_files, solve_files};
 use crate::options::{Job, Wanted, read_job};
 use crate::places::{HostPlaces, Places};
 use crate::reports::report;
-use batch_run::{File, RunFault, Settings, fault_of_run};
+use batch_run::{File, RunFault, fault_of_run};
 use clap::Error;
 use clap::error::ErrorKind;
 use path_algebra::AlgebraName;
@@ -16,6 +16,7 @@ use road_text::{Gathered, Plain, RoadWrite, write_bytes};
 use std::alloc::{AllocError, Global};
 use std::io::Write;
 use std::rt::{Env, Files};
+use std::sync::Wait;
 use std::thread::Threads;
 use std::{env, io};
 
@@ -71,14 +72,13 @@ pub(crate) fn algebra_of(wanted: &Wanted<'_>) -> Result<Chosen, RunFault>
 }
 
 /// Does a job, and gives the exit status.
-fn perform<R: AllocGlobal + Threads + Sync, P: Places, W: RoadWrite, E: RoadWrite>(
+fn perform<R: AllocGlobal + Threads + Wait + Sync, P: Places, W: RoadWrite, E: RoadWrite>(
     rt: &R,
     places: &P,
     job: &Job<'_>,
     out: &mut W,
     errors: &mut E,
 ) -> u8 {
-    let settings = Settings::default();
     match job {
         Job::Solve {
             graph,
@@ -87,12 +87,29 @@ fn perform<R: AllocGlobal + Threads + Sync, P: Places, W: RoadWrite, E: RoadWrit
         } => match algebra_of(wanted) {
             Ok(chosen) => {
                 let names = (*graph, *questions);
-                solve_files(rt.alloc(), places, chosen, &settings, names, out, errors)
+                solve_files(
+                    rt,
+                    rt.alloc(),
+                    places,
+                    chosen,
+                    &wanted.settings,
+                    names,
+                    out,
+                    errors,
+                )
             }
             Err(fault) => report(errors, fault),
         },
         Job::Bundle { wanted } => match algebra_of(wanted) {
-            Ok(chosen) => bundle_given(rt.alloc(), places, chosen, &settings, out, errors),
+            Ok(chosen) => bundle_given(
+                rt,
+                rt.alloc(),
+                places,
+                chosen,
+                &wanted.settings,
+                out,
+                errors,
+            ),
             Err(fault) => report(errors, fault),
         },
         Job::Check {
@@ -108,7 +125,7 @@ fn perform<R: AllocGlobal + Threads + Sync, P: Places, W: RoadWrite, E: RoadWrit
 }
 
 /// Does what the words of a command line say, the program's own first, and gives the exit status.
-pub fn run_words<R: AllocGlobal + Threads + Sync, P: Places, W: RoadWrite, E: RoadWrite>(
+pub fn run_words<R: AllocGlobal + Threads + Wait + Sync, P: Places, W: RoadWrite, E: RoadWrite>(
     rt: &R,
     places: &P,
     words: &[String],
@@ -125,7 +142,7 @@ pub fn run_words<R: AllocGlobal + Threads + Sync, P: Places, W: RoadWrite, E: Ro
 /// Takes the words of the command line, and does what they say.
 fn run_args<R, W: RoadWrite, E: RoadWrite>(rt: &R, out: &mut W, errors: &mut E) -> u8
 where
-    R: Env + Files + Input + AllocGlobal + Threads + Sync,
+    R: Env + Files + Input + AllocGlobal + Threads + Wait + Sync,
 {
     let words: Result<Vec<String>, AllocError> = match env::args(rt) {
         Ok(words) => words.collect(rt.alloc()),
@@ -146,7 +163,7 @@ where
 /// Runs the program over the system's files and streams, with this error output, and gives the exit status.
 pub fn run<R, E: Write + Drop>(rt: &R, errors: E) -> u8
 where
-    R: Env + Files + Input + Print + AllocGlobal + Threads + Sync,
+    R: Env + Files + Input + Print + AllocGlobal + Threads + Wait + Sync,
 {
     let mut errors = Plain::new(errors);
     match Gathered::new(rt.alloc(), Plain::new(io::writer(rt))) {

@@ -6,16 +6,20 @@ use path_algebra::Shortest;
 use road_text::{Plain, RoadRead, RoadWrite};
 use std::alloc::Global;
 use std::process::Abort;
+use std::sync::Wait;
 use std::test::Fail;
+use std::thread::Threads;
 
 /// The outcome of two inputs under the settings that a program has by default.
-fn outcome_of_pair<G: RoadRead, Q: RoadRead, W: RoadWrite>(
+fn outcome_of_pair<R: Threads + Wait, G: RoadRead, Q: RoadRead, W: RoadWrite>(
+    rt: &R,
     alloc: Global,
     graph: &mut G,
     questions: &mut Q,
     out: &mut W,
 ) -> Result<(), RunFault> {
     run_pair(
+        rt,
         alloc,
         Shortest,
         graph,
@@ -27,12 +31,21 @@ fn outcome_of_pair<G: RoadRead, Q: RoadRead, W: RoadWrite>(
 }
 
 /// The outcome of one input under the settings that a program has by default.
-fn outcome<B: RoadRead, W: RoadWrite>(
+fn outcome<R: Threads + Wait, B: RoadRead, W: RoadWrite>(
+    rt: &R,
     alloc: Global,
     input: &mut B,
     out: &mut W,
 ) -> Result<(), RunFault> {
-    run_bundle(alloc, Shortest, input, out, &Settings::default(), &OpenGate)
+    run_bundle(
+        rt,
+        alloc,
+        Shortest,
+        input,
+        out,
+        &Settings::default(),
+        &OpenGate,
+    )
 }
 
 fn fault(number: u8, file: File, line: u64) -> Result<(), RunFault> {
@@ -40,9 +53,14 @@ fn fault(number: u8, file: File, line: u64) -> Result<(), RunFault> {
 }
 
 /// Asserts that one input is refused with this fault before anything is written.
-fn assert_refused(rt: &(impl Abort + AllocGlobal), input: &mut Pieces<'_>, number: u8, line: u64) {
+fn assert_refused(
+    rt: &(impl Abort + AllocGlobal + Threads + Wait),
+    input: &mut Pieces<'_>,
+    number: u8,
+    line: u64,
+) {
     let mut out = Sheet::new(rt.alloc(), 100, true);
-    let refused = outcome(rt.alloc(), input, &mut out);
+    let refused = outcome(rt, rt.alloc(), input, &mut out);
     assert_eq!(rt; refused, fault(number, File::Bundle, line));
     assert!(rt; out.bytes.is_empty());
 }
@@ -67,7 +85,7 @@ fn faults_of_two_inputs(rt: HostRuntime) {
         let mut out = Plain::new(Vec::new(rt.alloc()));
         let mut first = Plain::new(graph.as_bytes());
         let mut second = Plain::new(questions.as_bytes());
-        let refused = outcome_of_pair(rt.alloc(), &mut first, &mut second, &mut out);
+        let refused = outcome_of_pair(&rt, rt.alloc(), &mut first, &mut second, &mut out);
         assert_eq!(rt; refused, fault(number, file, line));
         assert!(rt; out.into_inner().is_empty());
     }
@@ -118,6 +136,7 @@ fn settings_out_of_range(rt: HostRuntime) {
         let mut one = Pieces::new(b"", 1, true);
         let mut two = Pieces::new(b"", 1, true);
         let refused = run_pair(
+            &rt,
             rt.alloc(),
             Shortest,
             &mut one,
@@ -128,6 +147,7 @@ fn settings_out_of_range(rt: HostRuntime) {
         );
         assert_eq!(rt; refused, Err(fault_of_run(43)));
         let refused = run_bundle(
+            &rt,
             rt.alloc(),
             Shortest,
             &mut one,
@@ -147,6 +167,7 @@ fn pieces_of_any_size(rt: HostRuntime) -> Result<(), Fail> {
     for piece in [1, 2, 3, 65_535, 65_536] {
         let mut out = Plain::new(Vec::new(alloc));
         let answered = outcome(
+            &rt,
             alloc,
             &mut Pieces::new(text.as_bytes(), piece, false),
             &mut out,
@@ -169,7 +190,7 @@ fn a_reader_that_fails(rt: HostRuntime) -> Result<(), Fail> {
         let mut out = Sheet::new(alloc, 100, true);
         let mut first = Pieces::new(FIVE.as_bytes(), 7, graph_fails);
         let mut second = Pieces::new(FROM_ONE.as_bytes(), 7, true);
-        let refused = outcome_of_pair(alloc, &mut first, &mut second, &mut out);
+        let refused = outcome_of_pair(&rt, alloc, &mut first, &mut second, &mut out);
         assert_eq!(rt; refused, fault(1, file, 0));
         assert!(rt; out.bytes.is_empty());
     }
@@ -183,7 +204,12 @@ fn a_text_that_is_cut_short(rt: HostRuntime) -> Result<(), Fail> {
     let bytes = text.as_bytes();
     for end in 0..bytes.len().saturating_sub(1) {
         let mut out = Sheet::new(alloc, 100, true);
-        let refused = outcome(alloc, &mut Pieces::new(&bytes[..end], 7, false), &mut out);
+        let refused = outcome(
+            &rt,
+            alloc,
+            &mut Pieces::new(&bytes[..end], 7, false),
+            &mut out,
+        );
         let numbered = match refused {
             Err(f) => f.number == 19 || (10 <= f.number && f.number <= 16),
             Ok(()) => false,
@@ -201,7 +227,7 @@ fn a_writer_that_fails(rt: HostRuntime) -> Result<(), Fail> {
     for room in 0..=wanted.len() {
         for flushes in [false, true] {
             let mut out = Sheet::new(alloc, room, flushes);
-            let ended = outcome(alloc, &mut Plain::new(text.as_bytes()), &mut out);
+            let ended = outcome(&rt, alloc, &mut Plain::new(text.as_bytes()), &mut out);
             if room == wanted.len() && flushes {
                 assert_eq!(rt; ended, Ok(()));
             } else {

@@ -7,15 +7,17 @@ use Rattle.batch_run.proofs.answering.answer_source.Goals as goal
 pub returns-in-Ok-write_source : goal.returns-in-Ok-write_source
 returns-in-Ok-write_source g c =
     let A = g.A.PathAlgebra.meaning c.args.algebra in
-    let solved = c.in-Ok.solved in
+    let tree = c.in-Ok.tree in
+    let labels = c.args.labels.now in
     let n = c.vertices-n.result in
-    let right = lines_are_right A c.args.graph.now (c.args.source ∷ []) solved.0 solved.1 n c.vertices-n.ensures.count c.in-Ok.ensures.labels c.in-Ok.ensures.tree in
-    (ToldSource c.args.source (told_lines A solved.0 solved.1 n), (refl, right), c.in-Ok-write_source.ensures)
+    let right = lines_are_right A c.args.graph.now (c.args.source ∷ []) labels tree n c.vertices-n.ensures.count c.requires.labels c.in-Ok.ensures in
+    (ToldSource c.args.source (told_lines A labels tree n), (refl, right), c.in-Ok-write_source.ensures)
 
 pub returns : goal.returns
 returns g c =
     let A = g.A.PathAlgebra.meaning c.args.algebra in
-    let solved = c.in-Ok.solved in
+    let tree = c.in-Ok.tree in
+    let labels = c.args.labels.now in
     let n = c.vertices-n.result in
-    let right = lines_are_right A c.args.graph.now (c.args.source ∷ []) solved.0 solved.1 n c.vertices-n.ensures.count c.in-Ok.ensures.labels c.in-Ok.ensures.tree in
-    (ToldSource c.args.source (told_lines A solved.0 solved.1 n), (refl, right), c.in-Err.ensures)
+    let right = lines_are_right A c.args.graph.now (c.args.source ∷ []) labels tree n c.vertices-n.ensures.count c.requires.labels c.in-Ok.ensures in
+    (ToldSource c.args.source (told_lines A labels tree n), (refl, right), c.in-Err.ensures)

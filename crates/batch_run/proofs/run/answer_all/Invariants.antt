@@ -1,6 +1,10 @@
 use Rattle.road_files.specs.Asked.{asked_of}
+use Rattle.batch_run.specs.Ended.{AreReady}
 use Rattle.batch_run.proofs.Progress.{Progress}
 use Rattle.batch_run.proofs.run.answer_all.Given as goal
 
 abbrev pub invariant-loop-i : goal.invariant-loop-i
-invariant-loop-i g l = Progress (g.A.PathAlgebra.meaning l.algebra) l.graph (asked_of l.questions) l.i (g.W.RoadWrite.written l.fn.out) (g.W.RoadWrite.written l.out) (g.W.RoadWrite.failures l.fn.out) (g.W.RoadWrite.failures l.out)
+invariant-loop-i g l = record {
+  progress : Progress (g.A.PathAlgebra.meaning l.algebra) l.graph (asked_of l.questions) l.i (g.W.RoadWrite.written l.fn.out) (g.W.RoadWrite.written l.out) (g.W.RoadWrite.failures l.fn.out) (g.W.RoadWrite.failures l.out);
+  ready : AreReady l.algebra l.graph l.layout l.ahead.ended.items;
+}

@@ -9,7 +9,7 @@ pub returns-clause-text : goal.returns-clause-text
 returns-clause-text g c =
     let A = g.A.PathAlgebra.meaning c.args.algebra in
     let roads = c.args.graph.now in
-    all_or_front A roads c.args.questions.now c.requires (c.answers_exist.ensures roads c.vertices-n.ensures.roads) (c.first_answers_begin_all.ensures roads) _ _ c.flush_all.result
+    all_or_front A roads c.args.questions.now c.requires.within (c.answers_exist.ensures roads c.vertices-n.ensures.roads) (c.first_answers_begin_all.ensures roads) _ _ c.flush_all.result
     (flushed A roads (asked_of c.args.questions.now) _ _ _ _ _ _ c.flush_all.ensures.bytes c.answer_all-answered.result c.flush_all.result
     c.answer_all-answered.ensures.text c.flush_all.ensures.passed_on c.flush_all.ensures.fault)
 

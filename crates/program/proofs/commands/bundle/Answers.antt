@@ -15,12 +15,15 @@ returns g c =
         write = ran.write;
         kinds = ran.kinds;
         placed = ran.placed;
+        stalled = ran.stalled;
+        ungated = ran.ungated;
         unwritten = unwritten_still g.W.RoadWrite.written g.W.RoadWrite.held g.W.RoadWrite.failures c.args.out.now c.run_chosen_bundle-outcome.new.out c.run_chosen_bundle-outcome.result ran.unwritten;
         untouched = untouched_one g.W.RoadWrite.written g.W.RoadWrite.held g.W.RoadWrite.failures c.args.out.now c.run_chosen_bundle-outcome.new.out g.B.RoadRead.left g.B.RoadRead.failures g.B.RoadRead.asked c.args.text.now c.run_chosen_bundle-outcome.new.input c.run_chosen_bundle-outcome.result ran.untouched;
         begun = ran.begun;
         whole = ran.whole;
         flushed = ran.flushed;
         once = ran.once;
+        stopped = ran.stopped;
         end = ran.end;
         asked = ran.asked;
       },

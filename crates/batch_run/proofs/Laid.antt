@@ -1,0 +1,51 @@
+-- What the sources and labels of a question come to, by its kind.
+use Rattle.std.proofs.Common.{◌≡◌, ℕ, ◌<◌, List, [], ◌∷◌, length, get_or, map, refl, sym, ap, ◌∙◌, subst, Option, Some, None, Vec, Global, arith}
+use denote.Ref.{Bor}
+use Rattle.std.specs.Option.{option_copied}
+use Rattle.std.specs.Prelude.{Result, Ok, Err, IfOk, IfSome}
+use Rattle.std.proofs.lemmas.List.Elements.{All-nil}
+use Rattle.std.proofs.lemmas.List.{get_or-map, length-map}
+use Rattle.road_files.specs.Asked.{Question, FromSource, asked_of, of_source, of_pair, of_list}
+use Rattle.road_files.specs.declared.questions.Questions.{Questions}
+use Rattle.road_files.specs.declared.questions.Questions.TheVariants as variants
+use Rattle.road_graph.specs.Roads.{Roads}
+use Rattle.worker_fleet.specs.declared.group.GroupFault.{GroupFault}
+use Rattle.worker_fleet.specs.declared.group.GroupFault.TheVariants as group
+use Rattle.batch_run.specs.Answered.{fault_of_group}
+use Rattle.batch_run.specs.declared.engine.Layout.{Layout}
+use Rattle.batch_run.specs.Ended.{AreReady, IsEnded, IsLayout}
+use Rattle.batch_run.specs.Sources.{sources_of}
+
+pub IfOk_to : {T E : Type 0} (r : Result T E) {P Q : T → Type 0} → IfOk r P → ((v : T) → P v → Q v) → IfOk r Q
+IfOk_to (Ok v) p f = f v p
+IfOk_to (Err e) p f = tt
+
+-- the sources of the question at a place
+module _ (q : Questions) (i : ℕ) where
+  within : {X : Type 0} (f : X → Question) (xs : List X) (p : Questions) → (asked_of p).questions ≡ map f xs → q ≡ p → i < length (asked_of q).questions → i < length xs
+  within f xs p is e low = rw (sym (length-map xs f)) (subst (λ (l : List Question). i < length l) (ap (λ (y : Questions). (asked_of y).questions) e ∙ is) low)
+
+  pub source_at : (vs : Vec ℕ Global) (x : ℕ) → q ≡ variants.Sources vs → i < length (asked_of q).questions → x ≡ get_or vs.items i x → (d : Question) → sources_of (get_or (asked_of q).questions i d) ≡ x ∷ []
+  source_at vs x e low is d = ap (λ y. sources_of (get_or (asked_of y).questions i d)) e ∙ ap sources_of (get_or-map of_source vs.items i x d (within of_source vs.items (variants.Sources vs) refl e low)) ∙ ap (λ (y : ℕ). y ∷ []) (sym is)
+
+  pub pair_at : (ps : Vec (ℕ × ℕ) Global) (p : ℕ × ℕ) → q ≡ variants.Pairs ps → i < length (asked_of q).questions → p ≡ get_or ps.items i p → (d : Question) → sources_of (get_or (asked_of q).questions i d) ≡ p.0 ∷ []
+  pair_at ps p e low is d = ap (λ y. sources_of (get_or (asked_of y).questions i d)) e ∙ ap sources_of (get_or-map of_pair ps.items i p d (within of_pair ps.items (variants.Pairs ps) refl e low)) ∙ ap (λ (y : ℕ × ℕ). y.0 ∷ []) (sym is)
+
+  pub list_at : (ls : Vec (Vec ℕ Global) Global) (l : Vec ℕ Global) → q ≡ variants.Multi ls → i < length (asked_of q).questions → l ≡ get_or ls.items i l → (d : Question) → sources_of (get_or (asked_of q).questions i d) ≡ l.items
+  list_at ls l e low is d = ap (λ y. sources_of (get_or (asked_of y).questions i d)) e ∙ ap sources_of (get_or-map of_list ls.items i l d (within of_list ls.items (variants.Multi ls) refl e low)) ∙ ap (λ (y : Vec ℕ Global). y.items) (sym is)
+
+-- a layout behind a reference
+module _ {A : Type 0} (V : Type 0) (algebra : A) (roads : Roads) where
+  pub ready_at_first : (layout : Option (Bor Layout)) (prepared : Option Layout) → option_copied layout ≡ prepared → IfSome prepared (λ l. IsLayout roads l.plan l.sources.items) → AreReady {V = V} algebra roads layout []
+  ready_at_first None prepared e h = tt
+  ready_at_first (Some l) prepared e h = (subst (λ p. IfSome p (λ l. IsLayout roads l.plan l.sources.items)) (sym e) h, All-nil (IsEnded algebra roads l.now.plan))
+
+pub none_behind : (layout : Option (Bor Layout)) → option_copied layout ≡ None → layout ≡ None
+none_behind None e = refl
+none_behind (Some l) e = let bad : Some l.now ≡ None = e in absurd cc
+
+-- no fault of labels is a failed write
+pub no_write : (f : GroupFault) → (fault_of_group f).number ≡ 42 → ⊥
+no_write group.Memory e = omega (arith, e)
+no_write group.Stalled e = omega (arith, e)
+no_write group.Gated e = omega (arith, e)

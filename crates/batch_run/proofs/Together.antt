@@ -1,0 +1,111 @@
+-- Floors and stations of diffusions side by side: as they are opened, and when they have been run.
+use Rattle.std.proofs.Common.{zero, suc, ◌≡◌, ℕ, ◌<◌, ◌≤◌, ◌+◌, List, [], ◌∷◌, ◌++◌, length, get_or, map, refl, sym, ap, ◌∙◌, subst, arith, inl, inr, true, Vec}
+use Rattle.std.specs.List.{All, slice_get}
+use Rattle.std.proofs.lemmas.Bool.{cases_lt}
+use Rattle.std.proofs.lemmas.Grind.{common_steps}
+use Rattle.std.proofs.lemmas.Option.{slice_get-get_or, get_or_from_slice_get}
+use Rattle.path_algebra.specs.Algebra.{Algebra}
+use Rattle.shard_part.specs.PartState.{Setup, PartData}
+use Rattle.shard_part.specs.Opening.{opened_part, opened_parts}
+use Rattle.post_floor.specs.Data.{FloorData}
+use Rattle.station.specs.Station.{StationData, BelongsTo}
+use Rattle.station.specs.Opened.{AreOpened, station_of}
+use Rattle.worker_fleet.specs.Groups.{HasShard, IsDone, Some_of}
+use Rattle.worker_fleet.specs.Turns.{IsPlaced}
+use Rattle.road_graph.specs.Roads.{Roads}
+use Rattle.shard_part.specs.Plans.{PlanData}
+use Rattle.batch_run.specs.Ended.{AreEnded, diffusion}
+
+-- one more of each of two lists
+pub one_more : {F L : Type 0} (R : ℕ → F → L → Type 0) (n : ℕ) (fs gs : List F) (ls ms : List L) (f : F) (l : L) → gs ≡ fs ++ f ∷ [] → ms ≡ ls ++ l ∷ [] → length fs ≡ n → length ls ≡ n → R n f l
+    → ((q : ℕ) (e : F) (k : L) → q < n → R q (get_or fs q e) (get_or ls q k)) → (q : ℕ) (e : F) (k : L) → q < n + 1 → R q (get_or gs q e) (get_or ms q k)
+one_more R n fs gs ls ms f l is_f is_l nf nl r each q e k low =
+    elim (cases_lt q n) as (λ _. R q (get_or gs q e) (get_or ms q k)) [
+      | inl below ↦
+          let ef : get_or gs q e ≡ get_or fs q e = grind (arith, common_steps) in
+          let el : get_or ms q k ≡ get_or ls q k = grind (arith, common_steps) in
+          rw (ef, el) (each q e k below)
+      | inr here ↦
+          let i : q ≡ n = omega arith in
+          let ef : get_or gs n e ≡ f = grind (arith, common_steps) in
+          let el : get_or ms n k ≡ l = grind (arith, common_steps) in
+          rw (i, ef, el) r
+    ]
+
+-- the last of each of two lists, and the others
+module _ {F L : Type 0} (R : ℕ → F → L → Type 0) (fs gs : List F) (ls ms : List L) (f : F) (l : L) (is_f : fs ≡ gs ++ f ∷ []) (is_l : ls ≡ ms ++ l ∷ []) (same : length fs ≡ length ls)
+    (each : (q : ℕ) (e : F) (k : L) → q < length fs → R q (get_or fs q e) (get_or ls q k)) where
+  pub last_of : R (length gs) f l
+  last_of =
+      let ef : get_or fs (length gs) f ≡ f = grind (arith, common_steps) in
+      let el : get_or ls (length gs) l ≡ l = grind (arith, common_steps) in
+      let low : length gs < length fs = grind (arith, common_steps) in
+      rw (ef, el) at (each (length gs) f l low)
+
+  pub others : (q : ℕ) (e : F) (k : L) → q < length gs → R q (get_or gs q e) (get_or ms q k)
+  others q e k below =
+      let ef : get_or fs q e ≡ get_or gs q e = grind (arith, common_steps) in
+      let el : get_or ls q k ≡ get_or ms q k = grind (arith, common_steps) in
+      let low : q < length fs = grind (arith, common_steps) in
+      rw (ef, el) at (each q e k low)
+
+-- an element of a list that has one
+pub any_of : {X : Type 0} (xs : List X) (q : ℕ) → q < length xs → X
+any_of [] q h = absurd (omega (arith, h))
+any_of (x ∷ xs) q h = x
+
+-- as they are opened there is a station for each shard
+opened_shard : {S V : Type 0} (A : Algebra V) (t : Setup S) (f : FloorData S) (m first n k : ℕ) → first ≤ k → k < first + n → HasShard k (map (station_of f.id m) (opened_parts A t first n))
+unfolding Some_of
+opened_shard A t f m first zero k low high = absurd (omega arith)
+opened_shard A t f m first (suc n) k low high = elim (cases_lt first k) as (λ _. HasShard k (map (station_of f.id m) (opened_parts A t first (suc n)))) [
+  | inl later ↦ inr (opened_shard A t f m (suc first) n k (omega arith) (omega arith))
+  | inr here ↦ inl (omega arith)
+]
+
+pub shards_opened : {S V : Type 0} (meaning : S → Algebra V) (t : Setup S) (f : FloorData S) (stations : List (StationData S V)) → AreOpened meaning t f stations → (k : ℕ) → k < t.plan.shards → HasShard k stations
+shards_opened meaning t f stations o k low = rw o.stations_are (opened_shard (meaning t.algebra) t f t.plan.shards 0 t.plan.shards k (omega arith) (omega arith))
+
+module _ {S V W : Type 0} (meaning : S → Algebra V) (setup : ℕ → Setup S) (floors : List (FloorData S)) (questions : List (Vec (StationData S V) W)) (n : ℕ) (same : length floors ≡ n)
+    (opened : (q : ℕ) (f : FloorData S) (v : Vec (StationData S V) W) → q < n → AreOpened meaning (setup q) (get_or floors q f) (get_or questions q v).items) where
+  -- each station stands beside its floor
+  pub opened_placed : (q : ℕ) (v : Vec (StationData S V) W) → q < n → All (λ s. IsPlaced floors (q, s)) (get_or questions q v).items
+  opened_placed q v low = λ k s below.
+      let inside : q < length floors = rw same low in
+      let f = any_of floors q inside in
+      record { floor = get_or floors q f; is_floor = slice_get-get_or floors q f inside; own = (opened q f v low).own k s below }
+
+  -- what was run to its end
+  pub run_ended : (lists : List (Vec (StationData S V) W))
+      → ((q k : ℕ) (d e : Vec (StationData S V) W) → q < n → HasShard k (get_or questions q d).items → HasShard k (get_or lists q e).items)
+      → ((q : ℕ) (d : Vec (StationData S V) W) → q < n → All (IsDone floors q) (get_or lists q d).items)
+      → (q : ℕ) (f : FloorData S) (v : Vec (StationData S V) W) → q < n → AreEnded (setup q) (get_or floors q f) (get_or lists q v).items
+  run_ended lists all done q f v low = record {
+    question = (opened q f v low).question;
+    own = λ k s below. let d = done q v low k s below in let e = get_or_from_slice_get floors q d.0.floor f d.0.is_floor in rw e d.0.own;
+    ended = λ k s below. (done q v low k s below).1;
+    all = λ k inside. all q k v v low (shards_opened meaning (setup q) (get_or floors q f) (get_or questions q v).items (opened q f v low) k inside);
+  }
+
+pub longer : {X : Type 0} (ys xs : List X) (x : X) → ys ≡ xs ++ x ∷ [] → length ys ≡ length xs + 1
+longer ys xs x e = grind (arith, common_steps)
+
+-- what is run to its end stays so while the last is taken away
+module _ {S V W : Type 0} (algebra : S) (roads : Roads) (plan : PlanData) (sources : List ℕ) (fs gs : List (FloorData S)) (ls ms : List (Vec (StationData S V) W)) (f : FloorData S) (l : Vec (StationData S V) W)
+    (is_f : fs ≡ gs ++ f ∷ []) (is_l : ls ≡ ms ++ l ∷ []) (same : length fs ≡ length ls)
+    (each : (q s : ℕ) (e : FloorData S) (k : Vec (StationData S V) W) → q < length fs → AreEnded (diffusion algebra roads plan (get_or sources q s)) (get_or fs q e) (get_or ls q k).items) where
+  EndedAt : ℕ → FloorData S → Vec (StationData S V) W → Type 0
+  EndedAt q e k = (s : ℕ) → AreEnded (diffusion algebra roads plan (get_or sources q s)) e k.items
+
+  pub others_ended : (q s : ℕ) (e : FloorData S) (k : Vec (StationData S V) W) → q < length gs → AreEnded (diffusion algebra roads plan (get_or sources q s)) (get_or gs q e) (get_or ms q k).items
+  unfolding EndedAt
+  others_ended q s e k low = others EndedAt fs gs ls ms f l is_f is_l same (λ q e k low s. each q s e k low) q e k low s
+
+  pub last_ended : (stations : List (StationData S V)) (source : ℕ) → stations ≡ l.items → get_or sources (length gs) source ≡ source → AreEnded (diffusion algebra roads plan source) f stations
+  unfolding EndedAt
+  last_ended stations source e at =
+      rw e (subst (λ x. AreEnded (diffusion algebra roads plan x) f l.items) at (last_of EndedAt fs gs ls ms f l is_f is_l same (λ q e k low s. each q s e k low) source))
+
+-- the source at a place behind the first
+pub source_behind : (x y : ℕ) (xs : List ℕ) (n m : ℕ) → n ≡ suc m → m < length xs → y ≡ get_or xs m y → get_or (x ∷ xs) n y ≡ y
+source_behind x y xs n m e low is = rw e (sym is)

@@ -1,0 +1,10 @@
+use Rattle.std.proofs.Common.{take}
+use Rattle.path_algebra.specs.Walks.{AreBest}
+use Rattle.batch_run.specs.Ended.{AreReady}
+use Rattle.batch_run.proofs.labelling.label_all.Given as goal
+
+abbrev pub invariant-loop-i : goal.invariant-loop-i
+invariant-loop-i g l = record {
+  best : AreBest (g.A.PathAlgebra.meaning l.batch.algebra) l.batch.graph.now (take l.i l.sources) l.labels;
+  ready : AreReady l.batch.algebra l.batch.graph.now l.layout l.ahead.ended.items;
+}

@@ -1,8 +1,0 @@
-use Rattle.batch_run.proofs.SourceByMore.{source_more}
-use Rattle.batch_run.proofs.labelling.solve_all.Goals as goal
-
-pub loop-i-preserved : goal.loop-i-preserved
-loop-i-preserved g c =
-    source_more (g.A.PathAlgebra.meaning c.args.algebra) c.laws_hold.ensures.lawful c.args.graph.now g.A.PathAlgebra.order c.laws_hold.ensures.order
-    c.args.sources.now c.loop-i.i c.index-sources-i.result c.loop-i.labels c.in_ok-other.other c.merge.new.self c.loop-i-test.true c.index-sources-i.is
-    c.loop-i.invariant c.in_ok-other.ensures c.merge.ensures.count c.merge.ensures.labels

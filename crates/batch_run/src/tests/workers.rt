@@ -1,0 +1,258 @@
+//! Batches on workers: the same bytes for all, how often gates are asked, and what stops them.
+use super::{FIVE, FROM_ONE, SHORTEST, assert_answered};
+use crate::{File, Gate, OpenGate, RunFault, Settings, run_bundle};
+use crossbeam_utils::CachePadded;
+use path_algebra::{Shortest, Widest};
+use road_graph::Vertex;
+use road_text::Plain;
+use shard_part::Plan;
+use station::open_question;
+use std::alloc::Global;
+use std::process::Abort;
+use std::sync::Wait;
+use std::sync::atomic::{AtomicU64, Ordering};
+use std::test::Fail;
+use std::thread::Threads;
+
+/// Three questions from the same source.
+const THRICE: &str = "p aux sp ss 3\ns 1\ns 1\ns 1\n";
+
+/// A cycle of tight arcs.
+const CYCLE: &str = "p sp 3 4\na 1 2 0\na 2 3 0\na 3 2 0\na 1 3 0\n";
+
+/// A walk that is as wide as one with fewer arcs.
+const WALK: &str = "p sp 5 5\na 1 2 5\na 2 3 5\na 3 4 5\na 1 4 4\na 4 5 3\n";
+
+/// What `FROM_ONE` over `WALK` is answered under the greatest width.
+const WIDEST: &str =
+    "p ans ss 1 widest\ns 1\nd 1 4294967296 0 0\nd 2 5 1 1\nd 3 5 2 2\nd 4 5 3 3\nd 5 3 4 4\n";
+
+/// What `FROM_ONE` over `CYCLE` is answered.
+const AROUND: &str = "p ans ss 1 shortest\ns 1\nd 1 0 0 0\nd 2 0 1 1\nd 3 0 1 1\n";
+
+/// Two questions from several sources.
+const SEVERAL: &str = "p aux sp ms 2\nm 4 5\nm 5 2\n";
+
+/// What `SEVERAL` over `FIVE` is answered.
+const NEAREST: &str =
+    "p ans ms 2 shortest\nm 4 5\nd 1 3 1 5\nd 2 6 3 3\nd 3 4 2 1\nd 4 0 0 0\nd 5 0 0 0\nm 5 2\nd 1 3 1 5\nd 2 0 0 0\nd 3 4 2 1\nd 4 5 1 2\nd 5 0 0 0\n";
+
+/// One worker, one shard, one item a turn.
+const SLOW: Settings = Settings {
+    workers: 1,
+    shards: 1,
+    width: 1,
+    budget: 1,
+    turns: 1_000_000,
+    plain: false,
+};
+
+/// Counts how often it is asked, and keeps the greatest turn.
+#[derive(Drop)]
+struct Counting {
+    asked: AtomicU64,
+    greatest: AtomicU64,
+}
+
+impl Gate for Counting {
+    ghost is_always_open = { λ _. ⊥ };
+
+    fn before(&self, _worker: u64, turn: u64) -> bool {
+        self.asked.fetch_add(1, Ordering::SeqCst);
+        self.greatest.fetch_max(turn, Ordering::SeqCst);
+        true
+    }
+}
+
+fn counting() -> Counting {
+    Counting {
+        asked: AtomicU64::new(0),
+        greatest: AtomicU64::new(0),
+    }
+}
+
+/// Closed to every worker.
+struct Closed;
+
+impl Gate for Closed {
+    ghost is_always_open = { λ _. ⊥ };
+
+    fn before(&self, _worker: u64, _turn: u64) -> bool {
+        false
+    }
+}
+
+/// At the first turn of a worker marks its arrival, and looks for the other's mark.
+#[derive(Drop)]
+struct Meeting {
+    marks: [CachePadded<AtomicU64>; 2],
+    seconds: [CachePadded<AtomicU64>; 2],
+    tries: u64,
+}
+
+impl Gate for Meeting {
+    ghost is_always_open = { λ _. ⊥ };
+
+    fn before(&self, worker: u64, turn: u64) -> bool {
+        let me = (worker % 2) as usize;
+        if turn == 2 {
+            self.seconds[me].store(1, Ordering::SeqCst);
+        }
+        if turn != 1 {
+            return true;
+        }
+        self.marks[me].store(1, Ordering::SeqCst);
+        for _ in 0..self.tries {
+            if self.marks[1 - me].load(Ordering::SeqCst) == 1 {
+                return true;
+            }
+        }
+        false
+    }
+}
+
+/// How a bundle ends at a gate, and what it has written.
+fn run_at<R: Threads + Wait, T: Gate>(
+    rt: &R,
+    alloc: Global,
+    text: &str,
+    settings: &Settings,
+    gate: &T,
+) -> (Result<(), RunFault>, Vec<u8>) {
+    let mut out = Plain::new(Vec::new(alloc));
+    let mut input = Plain::new(text.as_bytes());
+    let ended = run_bundle(rt, alloc, Shortest, &mut input, &mut out, settings, gate);
+    (ended, out.into_inner())
+}
+
+fn stopped(number: u8) -> Result<(), RunFault> {
+    Err(RunFault {
+        number,
+        file: File::NoFile,
+        line: 0,
+    })
+}
+
+#[test]
+fn any_workers_and_shards(rt: HostRuntime) -> Result<(), Fail> {
+    for workers in [1, 2, 5, 64] {
+        for shards in [1, 5, 64] {
+            let settings = Settings {
+                workers,
+                shards,
+                ..Settings::default()
+            };
+            assert_answered(&rt, Shortest, &settings, FIVE, FROM_ONE, SHORTEST)?;
+            assert_answered(&rt, Shortest, &settings, CYCLE, FROM_ONE, AROUND)?;
+            assert_answered(&rt, Widest, &settings, WALK, FROM_ONE, WIDEST)?;
+            assert_answered(&rt, Shortest, &settings, FIVE, SEVERAL, NEAREST)?;
+        }
+    }
+    Ok(())
+}
+
+#[test]
+fn plain_writes_the_same(rt: HostRuntime) -> Result<(), Fail> {
+    let settings = Settings {
+        plain: true,
+        turns: 0,
+        ..Settings::default()
+    };
+    assert_answered(&rt, Shortest, &settings, FIVE, FROM_ONE, SHORTEST)?;
+    assert_answered(&rt, Widest, &settings, WALK, FROM_ONE, WIDEST)?;
+    let text = format!(in rt.alloc(); "{FIVE}{FROM_ONE}")?;
+    let (ended, _) = run_at(&rt, rt.alloc(), text.as_str(), &settings, &Closed);
+    assert_eq!(rt; ended, Ok(()));
+    Ok(())
+}
+
+#[test]
+fn any_width_and_budget(rt: HostRuntime) -> Result<(), Fail> {
+    for (width, budget) in [(1, 1), (2, 1), (3, 2), (64, 65_536)] {
+        let settings = Settings {
+            width,
+            budget,
+            shards: 3,
+            ..Settings::default()
+        };
+        assert_answered(&rt, Shortest, &settings, FIVE, FROM_ONE, SHORTEST)?;
+        assert_answered(&rt, Shortest, &settings, FIVE, SEVERAL, NEAREST)?;
+    }
+    Ok(())
+}
+
+#[test]
+fn turn_limits(rt: HostRuntime) -> Result<(), Fail> {
+    let text = format!(in rt.alloc(); "{FIVE}{FROM_ONE}")?;
+    let header = "p ans ss 1 shortest\n";
+    for (turns, wanted, written) in [
+        (0, stopped(40), header),
+        (17, stopped(40), header),
+        (18, Ok(()), SHORTEST),
+    ] {
+        let settings = Settings { turns, ..SLOW };
+        let (ended, out) = run_at(&rt, rt.alloc(), text.as_str(), &settings, &OpenGate);
+        assert_eq!(rt; ended, wanted);
+        assert_eq!(rt; out.as_slice(), written.as_bytes());
+    }
+    Ok(())
+}
+
+#[test]
+fn a_closed_gate(rt: HostRuntime) -> Result<(), Fail> {
+    let text = format!(in rt.alloc(); "{FIVE}{THRICE}")?;
+    for workers in [1, 2, 64] {
+        let settings = Settings {
+            workers,
+            ..Settings::default()
+        };
+        let (ended, out) = run_at(&rt, rt.alloc(), text.as_str(), &settings, &Closed);
+        assert_eq!(rt; ended, stopped(41));
+        assert_eq!(rt; out.as_slice(), b"p ans ss 3 shortest\n");
+    }
+    Ok(())
+}
+
+#[test]
+fn gates_are_asked_once_a_turn(rt: HostRuntime) -> Result<(), Fail> {
+    let text = format!(in rt.alloc(); "{FIVE}{THRICE}")?;
+    for (width, greatest) in [(1, 18), (2, 36)] {
+        let gate = counting();
+        let settings = Settings { width, ..SLOW };
+        let (ended, _) = run_at(&rt, rt.alloc(), text.as_str(), &settings, &gate);
+        assert_eq!(rt; ended, Ok(()));
+        assert_eq!(rt; gate.asked.load(Ordering::SeqCst), 54);
+        assert_eq!(rt; gate.greatest.load(Ordering::SeqCst), greatest);
+    }
+    Ok(())
+}
+
+#[test]
+fn two_workers_meet(rt: HostRuntime) -> Result<(), Fail> {
+    let text = format!(in rt.alloc(); "{FIVE}{FROM_ONE}")?;
+    let gate = Meeting {
+        marks: [
+            CachePadded::new(AtomicU64::new(0)),
+            CachePadded::new(AtomicU64::new(0)),
+        ],
+        seconds: [
+            CachePadded::new(AtomicU64::new(0)),
+            CachePadded::new(AtomicU64::new(0)),
+        ],
+        tries: 1_000_000_000,
+    };
+    let settings = Settings {
+        workers: 2,
+        shards: 2,
+        turns: 1_000_000_000,
+        ..Settings::default()
+    };
+    let (ended, out) = run_at(&rt, rt.alloc(), text.as_str(), &settings, &gate);
+    assert_eq!(rt; ended, Ok(()));
+    assert_eq!(rt; out.as_slice(), SHORTEST.as_bytes());
+    for me in [0, 1] {
+        assert_eq!(rt; gate.marks[me].load(Ordering::SeqCst), 1);
+        assert_eq!(rt; gate.seconds[me].load(Ordering::SeqCst), 1);
+    }
+    Ok(())
+}

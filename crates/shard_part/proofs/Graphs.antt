@@ -1,9 +1,8 @@
 -- What the graph and the plan say of the network's arcs and places.
 use Rattle.std.proofs.Common.{◌≡◌, ◌≢◌, ℕ, zero, suc, ◌+◌, ◌-◌, ◌<◌, ◌≤◌, List, [], ◌∷◌, length, get_or, take, ◌⊎◌, refl, sym, ap, ◌∙◌, subst, inl, inr, arith}
-use Rattle.std.proofs.lemmas.Bool.{cases_eq}
 use Rattle.std.proofs.lemmas.List.{get_or_read, get_or-map, length-map}
 use Rattle.path_algebra.specs.Algebra.{Algebra}
-use Rattle.road_graph.specs.Roads.{Roads, IsRoads, HasVertex, HasArc, ListsArcsFrom, ListsRoadsFrom, IsAscendingFrom, arc_of, road_of, roads_of}
+use Rattle.road_graph.specs.Roads.{Roads, IsRoads, HasVertex, HasArc, ListsArcsFrom, ListsRoadsFrom, arc_of, road_of, roads_of}
 use Rattle.road_graph.specs.declared.OutRoad.{OutRoad}
 use Rattle.scholten_core.specs.Network.{Network, network}
 use Rattle.scholten_core.specs.Diffusion.{Listed}
@@ -12,8 +11,8 @@ use Rattle.shard_part.specs.Plans.{shard_in, HasPlanned}
 use Rattle.shard_part.specs.PartState.{Setup, PartData, network_in, place_in, outgoing, IsArc, own_in, arcs_out}
 use Rattle.shard_part.specs.Desk.{Rows, IsDesk, IsPlace, IsRow}
 use Rattle.shard_part.specs.Tables.{Rises, StandsIn}
-use Rattle.shard_part.proofs.Ascending.{Ascends, arcs_are}
-use Rattle.shard_part.proofs.Places.{outgoing_picked, arc_at_place, own_rises, own_all}
+use Rattle.shard_part.proofs.Ascending.{arcs_are, rising, from_none}
+use Rattle.shard_part.proofs.Places.{arc_at_place, own_rises, own_all}
 
 module _ {V : Type 0} (A : Algebra V) (N : Network) where
   pub listed_in : (b : ℕ) (xs : List ℕ) → Listed A N b xs → (j : ℕ) × (j < length xs) × (get_or xs j 0 ≡ b)
@@ -27,14 +26,6 @@ module _ {V : Type 0} (A : Algebra V) (N : Network) where
   in_listed b [] j l e = absurd (omega arith)
   in_listed b (x ∷ xs) zero l e = inl (sym e)
   in_listed b (x ∷ xs) (suc j) l e = inr (in_listed b xs j (omega arith) e)
-
-rising : (low : ℕ) (xs : List ℕ) → IsAscendingFrom low xs → Ascends (suc low) xs
-rising low [] h = tt
-rising low (x ∷ xs) h = ((let l = h.0 in omega (arith, l)), rising x xs h.1)
-
-from_none : (k : ℕ) (xs : List ℕ) → Ascends (suc k) xs → Ascends k xs
-from_none k [] h = tt
-from_none k (x ∷ xs) h = ((let l = h.0 in omega (arith, l)), h.1)
 
 -- the graph's list of the arcs out of v is the one list
 pub out_is : {V : Type 0} (A : Algebra V) (g : Roads) (s v : ℕ) (xs : List ℕ) → 1 ≤ v → ListsArcsFrom g v xs → xs ≡ outgoing (network g s) v
@@ -53,19 +44,6 @@ road_is g s v k b rs d e l h = (
   (let z = ap (λ (ys : List OutRoad). length ys) e in let y = length-map (outgoing (network g s) v) (λ a. road_of (arc_of g a)) in omega (arith, z, y, l)),
   ap (λ ys. get_or ys k d) e ∙ get_or-map (λ a. road_of (arc_of g a)) (outgoing (network g s) v) k 0 d l ∙ ap (λ a. road_of (arc_of g a)) h,
 )
-
--- the environment's arc stands alone
-pub entry_first : (g : Roads) (s : ℕ) → (0 < length (outgoing (network g s) 0)) × (get_or (outgoing (network g s) 0) 0 0 ≡ 0)
-entry_first g s =
-    let P = outgoing_picked (network g s) 0 in
-    let r = P.all 0 (tail-entry g) (omega arith) (omega arith) in
-    let l : 0 < length (outgoing (network g s) 0) = (let z = r.1 in omega (arith, z)) in (
-      l,
-      elim (cases_eq r.0 0) [
-        | inl e ↦ ap (λ i. get_or (outgoing (network g s) 0) i 0) (sym e) ∙ r.2
-        | inr ne ↦ absurd (let h = P.rises 0 r.0 (omega (arith, ne)) r.1 in let e = r.2 in omega (arith, h, e))
-      ],
-    )
 
 module _ {S : Type 0} (t : Setup S) where
   pub place_vertex : (v : ℕ) → 1 ≤ v → place_in t v ≡ shard_in t.plan v

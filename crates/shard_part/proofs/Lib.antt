@@ -6,7 +6,6 @@ pub mod Routed
 pub mod Taking
 pub mod Showing
 pub mod Room
-pub mod Alone
 pub mod Sound
 pub mod Fits
 pub mod Ascending

@@ -7,7 +7,7 @@ use Rattle.scholten_core.specs.Network.{Network}
 use Rattle.scholten_core.specs.Diffusion.{CoreState, put, is_idle, is_due, all_below, out_idle, arrive, pump, pump_one, freed, same_label, sent, extend_label, better_of, answer_to, Listed}
 use Rattle.scholten_core.specs.Sums.{one_if}
 use Rattle.scholten_core.specs.Deficit.{busy_out}
-use Rattle.scholten_core.specs.Told.{IdleIsTold}
+use Rattle.scholten_core.specs.IdleIsTold.{IdleIsTold}
 use Rattle.scholten_core.specs.Items.{item_of, pump_made, IsDistinct}
 use Rattle.scholten_core.proofs.Basics.{put_tells, put-same, put-other, due_tells, same_self}
 

@@ -9,7 +9,7 @@ use Rattle.scholten_core.specs.Items.{item_arc}
 use Rattle.shard_part.specs.PartState.{PartData, Lanes, lanes_of, network_in, place_in, vertex_of, maker_of, route, IsArc, IsClear, IsSound, total, is, All}
 use Rattle.shard_part.specs.Desk.{Rows, IsDesk, put_item, IsPopped}
 use Rattle.shard_part.proofs.Sound.{put_sound}
-use Rattle.shard_part.proofs.Fits.{sound_fits, sound_out_fits}
+use Rattle.shard_part.proofs.RingsSuffice.{sound_fits, sound_out_fits}
 use Rattle.shard_part.proofs.Showing.{is_self}
 use Rattle.shard_part.proofs.Moves.{formed}
 

@@ -20,7 +20,7 @@ use Rattle.shard_part.proofs.Graphs.{listed_in, in_listed, out_is, place_vertex,
 use Rattle.shard_part.proofs.Opened.{entry_alone, place_source}
 use Rattle.shard_part.proofs.Counting.{arcs_out_more, total_whole, total_take, total_most, total_few, out_most, own_arcs_most}
 use Rattle.shard_part.proofs.Places.{own_below, placed_picked}
-use Rattle.shard_part.proofs.Rooms.{seen_at, seen_all, out_room_most}
+use Rattle.shard_part.proofs.RoomsByVertex.{seen_at, seen_all, out_room_most}
 use Rattle.scholten_core.proofs.Sums.{one_if-most}
 
 -- lists of arcs are the same under every algebra

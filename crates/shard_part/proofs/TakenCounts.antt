@@ -20,8 +20,8 @@ use Rattle.shard_part.specs.Tallies.{counted_on, top}
 use Rattle.shard_part.specs.PartState.{PartData, Setup, network_in, place_in, state_in, total, is_told, is_back, made, flying, part_weight, event_of, TookIn, TookAll, HoldsShare, Holds}
 use Rattle.shard_part.specs.Desk.{IsTallied}
 use Rattle.shard_part.specs.Part.{TookFront, TookMany, IsRunOn}
-use Rattle.shard_part.proofs.Taking.{took_event, took_weighs}
-use Rattle.shard_part.proofs.TakenArcs.{counted_none, counted_more, counted_top}
+use Rattle.shard_part.proofs.TakenIsEvent.{took_event, took_weighs}
+use Rattle.shard_part.proofs.OffersArePumped.{counted_none, counted_more, counted_top}
 use Rattle.scholten_core.proofs.Sums.{sum_same}
 
 module _ {V : Type 0} (N : Network) (place : ℕ → ℕ) where

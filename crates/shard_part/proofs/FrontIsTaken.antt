@@ -21,8 +21,8 @@ use Rattle.shard_part.proofs.Graphs.{head_of_arc, head_of_entry, tail_of_arc, ta
 use Rattle.shard_part.proofs.Pumping.{offered_none}
 use Rattle.scholten_core.proofs.Quick.{HasTold, quiet_signal, made_nothing, made_alone}
 use Rattle.shard_part.proofs.Quick.{quiet_message}
-use Rattle.shard_part.proofs.TakenArcs.{counted_none, counted_top}
-use Rattle.shard_part.proofs.TakenMoves.{Made, settles, made_after}
+use Rattle.shard_part.proofs.OffersArePumped.{counted_none, counted_top}
+use Rattle.shard_part.proofs.VertexSettles.{Made, settles, made_after}
 use Rattle.scholten_core.proofs.Written.{put_set}
 
 -- the tables have a place for each vertex and each arc, and no counter is past its top

@@ -17,7 +17,7 @@ pub mod Moves
 pub mod Busy
 pub mod Rings
 pub mod Graphs
-pub mod Standing
+pub mod Halving
 pub mod Offers
 pub mod Pumping
 pub mod OffersArePumped

@@ -19,7 +19,28 @@ pub(crate) fn find_vertex(list: &[Vertex], v: Vertex) -> usize
             }
         }
     }
-    list.partition_point(|u| u.0 <= v.0) - 1
+    halve(list, v)
+}
+
+/// Where a vertex stands in a list that rises, by halving.
+fn halve(list: &[Vertex], v: Vertex) -> usize
+    requires rises { Rises list.now }
+    requires stands { StandsIn list.now v }
+    ensures inside { result < length list.now }
+    ensures found { slice_index list.now result ≡ v }
+{
+    let mut low = 0;
+    let mut high = list.len();
+    while high - low > 1 {
+        let middle = low + (high - low) / 2;
+        let there = list[middle];
+        if there.0 <= v.0 {
+            low = middle;
+        } else {
+            high = middle;
+        }
+    }
+    low
 }
 
 /// Where an arc stands in a list that rises. In a list of arcs that follow one another it is found at the first look.
@@ -37,5 +58,26 @@ pub(crate) fn find_arc(list: &[ArcNo], a: ArcNo) -> usize
             }
         }
     }
-    list.partition_point(|b| b.0 <= a.0) - 1
+    halve_arcs(list, a)
+}
+
+/// Where an arc stands in a list that rises, by halving.
+fn halve_arcs(list: &[ArcNo], a: ArcNo) -> usize
+    requires rises { Rises list.now }
+    requires stands { StandsIn list.now a }
+    ensures inside { result < length list.now }
+    ensures found { slice_index list.now result ≡ a }
+{
+    let mut low = 0;
+    let mut high = list.len();
+    while high - low > 1 {
+        let middle = low + (high - low) / 2;
+        let there = list[middle];
+        if there.0 <= a.0 {
+            low = middle;
+        } else {
+            high = middle;
+        }
+    }
+    low
 }

@@ -13,6 +13,7 @@ use Rattle.shard_part.specs.Desk.{Rows, IsDesk, IsPlace, IsRow}
 use Rattle.shard_part.specs.Tables.{Rises, StandsIn}
 use Rattle.shard_part.proofs.Ascending.{arcs_are, rising, from_none}
 use Rattle.shard_part.proofs.Places.{arc_at_place, own_rises, own_all}
+use Rattle.std.proofs.lemmas.Bool.{cases_eq}
 
 module _ {V : Type 0} (A : Algebra V) (N : Network) where
   pub listed_in : (b : ℕ) (xs : List ℕ) → Listed A N b xs → (j : ℕ) × (j < length xs) × (get_or xs j 0 ≡ b)
@@ -112,23 +113,18 @@ module _ {S V : Type 0} where
   pub arc_in_graph : (p old : PartData S V) (r : Rows V) (n : ℕ) (ns : List ℕ) (a : ℕ) → p ≡ old → IsDesk p r n ns → IsArc (network_in old.setup) a → a ≢ 0 → HasArc p.setup.roads a
   arc_in_graph p old r n ns a e D h nz = graph_arc p.setup a nz (subst (λ (u : PartData S V). IsArc (network_in u.setup) a) (sym e) h)
 
-  pub head_entry_is : (p old : PartData S V) (a : ℕ) → p ≡ old → a ≡ 0 → p.setup.source ≡ (network_in old.setup).head a
-  head_entry_is p old a e z = sym (head-entry p.setup.roads p.setup.source) ∙ (λ i. (network_in (e i).setup).head (sym z i))
+  -- an arc is the environment's, or one of the graph's
+  pub arc_within : (p old : PartData S V) (a : ℕ) → p ≡ old → IsArc (network_in old.setup) a → a ≤ length p.setup.roads.arcs
+  arc_within p old a e h = elim (cases_eq a 0) [
+    | inl z ↦ (omega (arith, z))
+    | inr n ↦ (graph_arc p.setup a n (subst (λ (u : PartData S V). IsArc (network_in u.setup) a) (sym e) h)).1
+  ]
 
   pub head_arc_is : (p old : PartData S V) (r : Rows V) (n : ℕ) (ns : List ℕ) (a : ℕ) → p ≡ old → IsDesk p r n ns → IsArc (network_in old.setup) a → a ≢ 0 →
       ((arc_of p.setup.roads a).head ≡ (network_in old.setup).head a) × (1 ≤ (arc_of p.setup.roads a).head) × ((arc_of p.setup.roads a).head ≤ old.setup.roads.vertices)
   head_arc_is p old r n ns a e D h nz =
       let g = arc_in_graph p old r n ns a e D h nz in let j = (D.planned.roads.ends a g).1 in
       (sym (head-arc p.setup.roads p.setup.source a g.0) ∙ ap (λ (u : PartData S V). (network_in u.setup).head a) e, j.0, subst (λ (u : PartData S V). (arc_of p.setup.roads a).head ≤ u.setup.roads.vertices) e j.1)
-
-  pub tail_entry_is : (p old : PartData S V) (a : ℕ) → p ≡ old → a ≡ 0 → 0 ≡ (network_in old.setup).tail a
-  tail_entry_is p old a e z = sym (tail-entry p.setup.roads) ∙ (λ i. (network_in (e i).setup).tail (sym z i))
-
-  pub tail_arc_is : (p old : PartData S V) (r : Rows V) (n : ℕ) (ns : List ℕ) (a : ℕ) → p ≡ old → IsDesk p r n ns → IsArc (network_in old.setup) a → a ≢ 0 →
-      ((arc_of p.setup.roads a).tail ≡ (network_in old.setup).tail a) × (1 ≤ (arc_of p.setup.roads a).tail) × ((arc_of p.setup.roads a).tail ≤ old.setup.roads.vertices)
-  tail_arc_is p old r n ns a e D h nz =
-      let g = arc_in_graph p old r n ns a e D h nz in let j = (D.planned.roads.ends a g).0 in
-      (sym (tail-arc p.setup.roads a g.0) ∙ ap (λ (u : PartData S V). (network_in u.setup).tail a) e, j.0, subst (λ (u : PartData S V). (arc_of p.setup.roads a).tail ≤ u.setup.roads.vertices) e j.1)
 
   -- the head of an arc, as the graph tells it
   pub head_told : (p old : PartData S V) (r : Rows V) (n : ℕ) (ns : List ℕ) (b w : ℕ) → p ≡ old → IsDesk p r n ns → IsArc (network_in old.setup) b → b ≢ 0 → w ≡ (arc_of old.setup.roads b).head →

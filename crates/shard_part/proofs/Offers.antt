@@ -12,9 +12,6 @@ use Rattle.shard_part.proofs.Moves.{mine_at}
 use Rattle.scholten_core.proofs.Quick.{out_idle_counted}
 use Rattle.shard_part.specs.Desk.{Rows, IsDesk, IsPlace, with_item, rested, rested_by}
 
-pub same_read : {V : Type 0} (A : Algebra V) {x y u v : Option V} → x ≡ u → y ≡ v → same_label A x y ≡ same_label A u v
-same_read A p q = λ i. same_label A (p i) (q i)
-
 module _ {S V : Type 0} (A : Algebra V) where
   pub due_read : (p : PartData S V) (v b : ℕ) (busy same : Bool) → (network_in p.setup).tail b ≡ v → busy ≡ get_or p.busy b false → same ≡ same_label A ((state_in p).told b) ((state_in p).label v) →
       (not busy && not same) ≡ is_due A (network_in p.setup) v (state_in p) b

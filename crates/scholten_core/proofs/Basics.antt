@@ -1,11 +1,11 @@
 -- Facts on the words of the definitions.
-use Rattle.std.proofs.Common.{◌≡◌, ℕ, zero, suc, ◌<◌, ◌≤◌, Bool, true, false, cond, not, ◌&&◌, ◌||◌, eqb, Option, Some, None, ◌⊎◌, refl, sym, ap, ◌∙◌, subst, inl, inr, arith, eqb-true, eq-eqb, ne_eqb}
+use Rattle.std.proofs.Common.{◌≡◌, ◌≢◌, ℕ, zero, suc, ◌<◌, ◌≤◌, Bool, true, false, cond, not, ◌&&◌, ◌||◌, eqb, Option, Some, None, ◌⊎◌, refl, sym, ap, ◌∙◌, subst, inl, inr, arith, eqb-true, eq-eqb, ne_eqb}
 use Rattle.std.proofs.lemmas.Bool.{cases_eq, cases_Bool, and_parts, and_from, false≢true, cond-true, cond-false, and_left, and_right, not_from_true, not_from_false, or_cases, not-true}
 use Rattle.scholten_core.specs.declared.token.Token.{Token}
 use Rattle.scholten_core.specs.declared.token.Token.TheVariants.{Idle, Message, Held, Signal}
 use Rattle.path_algebra.specs.Algebra.{Algebra, IsLawful}
 use Rattle.scholten_core.specs.Network.{Network}
-use Rattle.scholten_core.specs.Diffusion.{CoreState, put, is_idle, all_below, is_due, out_idle, same_label, sent, extend_label, better_of}
+use Rattle.scholten_core.specs.Diffusion.{CoreState, put, is_idle, all_below, is_due, out_idle, same_label, pump, sent, extend_label, better_of}
 
 pub put-at : {X : Type 0} (f : ℕ → X) (k : ℕ) (x : X) (j : ℕ) → j ≡ k → put f k x j ≡ x
 unfolding put
@@ -40,6 +40,9 @@ all_below-at p (suc n) k h l =
     ]
 
 module _ {V : Type 0} (A : Algebra V) (N : Network) where
+  self : IsLawful A → (x : V) → A.no_worse x x ≡ true
+  self L x = elim (L.ordered.total x x) [ inl h ↦ h | inr h ↦ h ]
+
   pub use_same : IsLawful A → (o p : Option V) → same_label A o p ≡ true → o ≡ p
   use_same L None None h = refl
   use_same L None (Some y) h = absurd (false≢true h)
@@ -60,6 +63,30 @@ module _ {V : Type 0} (A : Algebra V) (N : Network) where
     ]
   ]
 
+  pub same_self : IsLawful A → (o : Option V) → same_label A o o ≡ true
+  same_self L None = refl
+  same_self L (Some x) = and_from _ _ (self L x) (self L x)
+
+  pub not_due : (v : ℕ) (c : CoreState V) (b : ℕ) → N.tail b ≢ v → is_due A N v c b ≡ false
+  unfolding is_due
+  not_due v c b n = and_left _ _ (and_left _ _ (ne_eqb (N.tail b) v n))
+
+  pub due_idle : (v : ℕ) (c : CoreState V) (b : ℕ) → is_due A N v c b ≡ true → is_idle (c.token b) ≡ true
+  unfolding is_due
+  due_idle v c b h = (and_parts (eqb (N.tail b) v) (is_idle (c.token b)) (and_parts (eqb (N.tail b) v && is_idle (c.token b)) (not (same_label A (c.told b) (c.label v))) h).0).1
+
+  pub due_same : (v : ℕ) (c d : CoreState V) (b : ℕ) → c.token b ≡ d.token b → c.told b ≡ d.told b → c.label v ≡ d.label v → is_due A N v c b ≡ is_due A N v d b
+  unfolding is_due
+  due_same v c d b p q r = λ i. eqb (N.tail b) v && is_idle (p i) && not (same_label A (q i) (r i))
+
+  -- what pumping does at an arc is told by this arc, and by the label of the vertex
+  pub pumped_same : (v : ℕ) (c d : CoreState V) (b : ℕ) → c.token b ≡ d.token b → c.told b ≡ d.told b → c.label v ≡ d.label v →
+      ((pump A N v c).token b ≡ (pump A N v d).token b) × ((pump A N v c).told b ≡ (pump A N v d).told b)
+  pumped_same v c d b p q r = (
+    (λ i. cond (due_same v c d b p q r i) (sent (extend_label A (r i) (N.weight b))) (p i)),
+    (λ i. cond (due_same v c d b p q r i) (r i) (q i)),
+  )
+
   pub sent_message : (o : Option V) (w : ℕ) (y : V) → sent (extend_label A o w) ≡ Message y → (x : V) × (o ≡ Some x) × (A.extend x w ≡ Some y)
   sent_message None w y h = cc
   sent_message (Some x) w y h = (x, refl, go (A.extend x w) h)
@@ -71,9 +98,6 @@ module _ {V : Type 0} (A : Algebra V) (N : Network) where
   pub sent_held : (o : Option V) → sent o ≡ Held → ⊥
   sent_held None h = cc
   sent_held (Some x) h = cc
-
-  self : IsLawful A → (x : V) → A.no_worse x x ≡ true
-  self L x = elim (L.ordered.total x x) [ inl h ↦ h | inr h ↦ h ]
 
   pub better_tells : IsLawful A → (x : V) (o : Option V) →
       (z : V) × (better_of A x o ≡ Some z) × (A.no_worse z x ≡ true) × ((y : V) → o ≡ Some y → A.no_worse z y ≡ true) × ((z ≡ x) ⊎ (o ≡ Some z))

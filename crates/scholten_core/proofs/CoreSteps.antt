@@ -8,7 +8,7 @@ use Rattle.scholten_core.specs.declared.event.Event.{Event}
 use Rattle.scholten_core.specs.declared.event.Event.TheVariants.{Deliver, Accept}
 use Rattle.scholten_core.specs.Network.{Network, WellFormed}
 use Rattle.scholten_core.specs.Diffusion.{CoreState, arrive, pump, rest, settle, step, run_from, state_after, opening, delivered, accepted, settle_tail, freed, count_enabled, is_enabled}
-use Rattle.scholten_core.specs.Told.{IdleIsTold}
+use Rattle.scholten_core.specs.IdleIsTold.{IdleIsTold}
 use Rattle.scholten_core.specs.CoreView.{CoreView, state_of, network_of, network_in, IsQuestion, IsRun}
 use Rattle.scholten_core.proofs.Networks.{well_formed}
 use Rattle.scholten_core.proofs.Kept.{Kept, head_real, arrive_kept, freed_kept}

@@ -1,44 +1,14 @@
 -- The counters of busy arcs follow each change of one arc's token.
-use Rattle.std.proofs.Common.{◌≡◌, ◌≢◌, ℕ, zero, suc, ◌+◌, ◌<◌, ◌≤◌, Bool, true, false, not, ◌&&◌, eqb, eq-eqb, ne_eqb, List, length, get_or, set, refl, sym, ap, ◌∙◌, inl, inr, arith, get_or-set_same, get_or-set_other}
+use Rattle.std.proofs.Common.{◌≡◌, ◌≢◌, ℕ, suc, ◌+◌, ◌<◌, ◌≤◌, Bool, true, false, not, ◌&&◌, eqb, eq-eqb, ne_eqb, List, length, get_or, set, refl, sym, ap, ◌∙◌, inl, inr, arith, get_or-set_same, get_or-set_other}
 use Rattle.std.proofs.lemmas.Bool.{cases_eq}
 use Rattle.scholten_core.specs.declared.token.Token.{Token}
 use Rattle.scholten_core.specs.declared.token.Token.TheVariants.{Idle}
 use Rattle.scholten_core.specs.Network.{Network}
 use Rattle.scholten_core.specs.Diffusion.{CoreState, is_idle}
-use Rattle.scholten_core.specs.Sums.{sum_below, one_if}
+use Rattle.scholten_core.specs.Sums.{one_if}
 use Rattle.scholten_core.specs.Deficit.{deficit}
 use Rattle.scholten_core.specs.CoreView.{IsCounted}
-
-pub sum_below-same : (f g : ℕ → ℕ) (n : ℕ) → ((b : ℕ) → b < n → f b ≡ g b) → sum_below f n ≡ sum_below g n
-sum_below-same f g zero h = refl
-sum_below-same f g (suc n) h = let s = sum_below-same f g n (λ b l. h b (omega (arith, l))) in let t = h n (omega arith) in omega (arith, s, t)
-
--- a sum whose terms change at one place
-pub sum_below-change : (f g : ℕ → ℕ) (a n : ℕ) → a < n → ((b : ℕ) → b ≢ a → f b ≡ g b) → sum_below g n + f a ≡ sum_below f n + g a
-sum_below-change f g a zero l h = absurd (omega (arith, l))
-sum_below-change f g a (suc n) l h = elim (cases_eq n a) [
-  | inl e ↦ (let s = sum_below-same f g n (λ b m. h b (λ q. omega (arith, q, m, e))) in let x = ap f e in let y = ap g e in omega (arith, s, x, y))
-  | inr ne ↦ (let s = sum_below-change f g a n (omega (arith, l, ne)) h in let x = h n ne in omega (arith, s, x))
-]
-
-pub sum_below-least : (f : ℕ → ℕ) (a n : ℕ) → a < n → f a ≤ sum_below f n
-sum_below-least f a zero l = absurd (omega (arith, l))
-sum_below-least f a (suc n) l = elim (cases_eq n a) [
-  | inl e ↦ (let x = ap f e in omega (arith, x))
-  | inr ne ↦ (let s = sum_below-least f a n (omega (arith, l, ne)) in omega (arith, s))
-]
-
-pub sum_below-most : (f : ℕ → ℕ) (n : ℕ) → ((b : ℕ) → f b ≤ 1) → sum_below f n ≤ n
-sum_below-most f zero h = omega arith
-sum_below-most f (suc n) h = let s = sum_below-most f n h in let x = h n in omega (arith, s, x)
-
-sum_below-none : (f : ℕ → ℕ) (n : ℕ) → ((b : ℕ) → f b ≡ 0) → sum_below f n ≡ 0
-sum_below-none f zero h = refl
-sum_below-none f (suc n) h = let s = sum_below-none f n h in let t = h n in omega (arith, s, t)
-
-pub one_if-most : (t : Bool) → one_if t ≤ 1
-one_if-most true = omega arith
-one_if-most false = omega arith
+use Rattle.scholten_core.proofs.Sums.{one_if-most, sum_zero, sum_ones, sum_most, sum_at, sum_term}
 
 module _ {V : Type 0} (N : Network) where
   -- what the arc b, with this token, adds to the deficit of v
@@ -55,7 +25,7 @@ module _ {V : Type 0} (N : Network) where
 
   -- where all arcs are idle
   pub idle_counted : (v : ℕ) (c : CoreState V) → ((b : ℕ) → c.token b ≡ Idle) → deficit N v c ≡ 0
-  idle_counted v c h = sum_below-none (λ b. busy_at v (c.token b) b) (suc N.arcs) (λ b. busy_at-idle v (c.token b) b (ap is_idle (h b)))
+  idle_counted v c h = sum_zero (λ b. busy_at v (c.token b) b) (suc N.arcs) (λ b. busy_at-idle v (c.token b) b (ap is_idle (h b)))
 
   busy_at-busy : (v : ℕ) (t : Token V) (b : ℕ) → is_idle t ≡ false → N.tail b ≡ v → busy_at v t b ≡ 1
   busy_at-busy v t b i e = λ k. one_if (eq-eqb (N.tail b) v e k && not (i k))
@@ -65,15 +35,17 @@ module _ {V : Type 0} (N : Network) where
 
   deficit_change : (v a : ℕ) (c d : CoreState V) → a < suc N.arcs → ((b : ℕ) → b ≢ a → d.token b ≡ c.token b) →
       deficit N v d + busy_at v (c.token a) a ≡ deficit N v c + busy_at v (d.token a) a
-  deficit_change v a c d l h = sum_below-change (λ b. busy_at v (c.token b) b) (λ b. busy_at v (d.token b) b) a (suc N.arcs) l (λ b n. ap (λ t. busy_at v t b) (sym (h b n)))
+  deficit_change v a c d l h = sum_at (λ b. busy_at v (d.token b) b) (λ b. busy_at v (c.token b) b) a (suc N.arcs) l (λ b n. ap (λ t. busy_at v t b) (h b n))
 
   pub deficit_most : (v : ℕ) (c : CoreState V) → deficit N v c ≤ suc N.arcs
-  deficit_most v c = sum_below-most (λ b. busy_at v (c.token b) b) (suc N.arcs) (λ b. one_if-most (eqb (N.tail b) v && not (is_idle (c.token b))))
+  deficit_most v c =
+      let s = sum_most (λ b. busy_at v (c.token b) b) (λ b. 1) (suc N.arcs) (λ b. one_if-most (eqb (N.tail b) v && not (is_idle (c.token b)))) in
+      let o = sum_ones (suc N.arcs) in omega (arith, s, o)
 
   -- the tail of a busy arc has one
   pub deficit_least : (a : ℕ) (c : CoreState V) → a < suc N.arcs → is_idle (c.token a) ≡ false → 1 ≤ deficit N (N.tail a) c
   deficit_least a c l i =
-      let s : busy_at (N.tail a) (c.token a) a ≤ deficit N (N.tail a) c = sum_below-least (λ b. busy_at (N.tail a) (c.token b) b) a (suc N.arcs) l in
+      let s : busy_at (N.tail a) (c.token a) a ≤ deficit N (N.tail a) c = sum_term (λ b. busy_at (N.tail a) (c.token b) b) a (suc N.arcs) l in
       let one = busy_at-busy (N.tail a) (c.token a) a i refl in omega (arith, s, one)
 
   pub counted_same : (n : ℕ) (busy : List ℕ) (a : ℕ) (c d : CoreState V) → a < suc N.arcs → ((b : ℕ) → b ≢ a → d.token b ≡ c.token b) → is_idle (d.token a) ≡ is_idle (c.token a) →

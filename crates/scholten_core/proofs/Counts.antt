@@ -1,6 +1,6 @@
 -- The counts of events against the tokens that stand.
 use Rattle.std.proofs.Common.{◌≡◌, ◌≢◌, ℕ, zero, suc, ◌+◌, ◌<◌, ◌≤◌, Bool, true, false, not, ◌&&◌, eqb, ne_eqb, eq-eqb, Option, Some, None, List, [], ◌∷◌, ◌⊎◌, refl, sym, ap, ◌∙◌, subst, inl, inr, arith}
-use Rattle.std.proofs.lemmas.Bool.{cases_eq, cases_Bool, cond-true, cond-false, false≢true, and_from, and_parts}
+use Rattle.std.proofs.lemmas.Bool.{cases_eq, cases_Bool, cond-true, cond-false, false≢true, and_parts}
 use Rattle.scholten_core.specs.declared.token.Token.{Token}
 use Rattle.scholten_core.specs.declared.token.Token.TheVariants.{Idle, Message, Held, Signal}
 use Rattle.scholten_core.specs.declared.event.Event.{Event}
@@ -10,28 +10,10 @@ use Rattle.scholten_core.specs.Network.{Network, WellFormed}
 use Rattle.scholten_core.specs.Diffusion.{CoreState, state_after, opening, same_label, run_from, is_message, is_signal, is_due, out_idle, pump, arrive, released, freed, settle, settle_tail, delivered, accepted, step, sent, extend_label, answer_to}
 use Rattle.scholten_core.specs.Sums.{sum_below, one_if}
 use Rattle.scholten_core.specs.Accounts.{sent_on, label_changes, count_sent, count_signalled, is_delivery, is_acceptance, sent_total, signalled_total, delivered_total, accepted_total}
-use Rattle.scholten_core.proofs.Basics.{use_same, due_tells, put_tells}
+use Rattle.scholten_core.proofs.Basics.{use_same, due_tells, put_tells, same_self}
 use Rattle.scholten_core.proofs.Ended.{opening_kept, ended}
 use Rattle.scholten_core.proofs.Kept.{Kept, pumped, arrive_kept, freed_kept, step_kept}
-
-pub sum_add : (f g : ℕ → ℕ) (n : ℕ) → sum_below (λ b. f b + g b) n ≡ sum_below f n + sum_below g n
-sum_add f g zero = omega arith
-sum_add f g (suc n) = let h = sum_add f g n in omega (arith, h)
-
-pub sum_same : (f g : ℕ → ℕ) (n : ℕ) → ((b : ℕ) → f b ≡ g b) → sum_below f n ≡ sum_below g n
-sum_same f g zero h = refl
-sum_same f g (suc n) h = λ i. h n i + sum_same f g n h i
-
-sum_none : (a n : ℕ) → n ≤ a → sum_below (λ b. one_if (eqb b a)) n ≡ 0
-sum_none a zero l = refl
-sum_none a (suc n) l = let e = ap one_if (ne_eqb n a (λ q. omega arith)) in let h = sum_none a n (omega arith) in omega (arith, e, h)
-
-pub sum_one : (a n : ℕ) → a < n → sum_below (λ b. one_if (eqb b a)) n ≡ 1
-sum_one a zero l = absurd (omega arith)
-sum_one a (suc n) l = elim (cases_eq n a) [
-  | inl e ↦ (let q = ap one_if (eq-eqb n a e) in let h = sum_none a n (omega arith) in omega (arith, q, h))
-  | inr ne ↦ (let q = ap one_if (ne_eqb n a ne) in let h = sum_one a n (omega arith) in omega (arith, q, h))
-]
+use Rattle.scholten_core.proofs.Sums.{one_if-most, sum_same, sum_zero, sum_add, sum_one}
 
 module _ {V : Type 0} (A : Algebra V) (N : Network) where
   -- what settling may do to one arc's token
@@ -197,10 +179,6 @@ module _ {V : Type 0} (A : Algebra V) (N : Network) where
         signals = sym (sum_add (λ b. signal_if (u.token b)) s (suc N.arcs)) ∙ sum_same _ _ (suc N.arcs) (λ b. (h b).signals) ∙ sum_add (λ b. signal_if (c.token b)) (λ b. new_signal (c.token b) (u.token b)) (suc N.arcs);
       }
 
-  sum_zero : (n : ℕ) → sum_below (λ b. 0) n ≡ 0
-  sum_zero zero = refl
-  sum_zero (suc n) = let h = sum_zero n in omega (arith, h)
-
   balanced_as : (c u : CoreState V) (d e s t : ℕ) → d ≡ e → s ≡ t → Balanced c u d s → Balanced c u e t
   balanced_as c u d e s t p q B = subst (λ x. Balanced c u x t) p (subst (λ y. Balanced c u d y) q B)
 
@@ -211,17 +189,17 @@ module _ {V : Type 0} (A : Algebra V) (N : Network) where
   ]
 
   deliver_balanced : IsLawful A → WellFormed N → (a : ℕ) (c : CoreState V) (t : Token V) → c.token a ≡ t → Kept A N 0 c → Balanced c (delivered A N a c t) (one_if (is_message t)) 0
-  deliver_balanced L W a c Idle q K = balanced_as c c _ 0 _ 0 (sum_zero (suc N.arcs)) (sum_zero (suc N.arcs)) (balanced c c (λ b. 0) (λ b. 0) (λ b. balance_same (c.token b)))
-  deliver_balanced L W a c (Message x) q K = balanced_as c _ _ 1 _ 0 (sum_one a (suc N.arcs) (busy_real W a c K (λ z. cc))) (sum_zero (suc N.arcs))
+  deliver_balanced L W a c Idle q K = balanced_as c c _ 0 _ 0 (sum_zero (λ b. 0) (suc N.arcs) (λ b. refl)) (sum_zero (λ b. 0) (suc N.arcs) (λ b. refl)) (balanced c c (λ b. 0) (λ b. 0) (λ b. balance_same (c.token b)))
+  deliver_balanced L W a c (Message x) q K = balanced_as c _ _ 1 _ 0 (sum_one a (suc N.arcs) (busy_real W a c K (λ z. cc))) (sum_zero (λ b. 0) (suc N.arcs) (λ b. refl))
       (balanced c (settle A N (N.head a) (arrive A N a x c)) (λ b. one_if (eqb b a)) (λ b. 0) (deliver_balance L W a x c q K))
-  deliver_balanced L W a c Held q K = balanced_as c c _ 0 _ 0 (sum_zero (suc N.arcs)) (sum_zero (suc N.arcs)) (balanced c c (λ b. 0) (λ b. 0) (λ b. balance_same (c.token b)))
-  deliver_balanced L W a c Signal q K = balanced_as c c _ 0 _ 0 (sum_zero (suc N.arcs)) (sum_zero (suc N.arcs)) (balanced c c (λ b. 0) (λ b. 0) (λ b. balance_same (c.token b)))
+  deliver_balanced L W a c Held q K = balanced_as c c _ 0 _ 0 (sum_zero (λ b. 0) (suc N.arcs) (λ b. refl)) (sum_zero (λ b. 0) (suc N.arcs) (λ b. refl)) (balanced c c (λ b. 0) (λ b. 0) (λ b. balance_same (c.token b)))
+  deliver_balanced L W a c Signal q K = balanced_as c c _ 0 _ 0 (sum_zero (λ b. 0) (suc N.arcs) (λ b. refl)) (sum_zero (λ b. 0) (suc N.arcs) (λ b. refl)) (balanced c c (λ b. 0) (λ b. 0) (λ b. balance_same (c.token b)))
 
   accept_balanced : IsLawful A → WellFormed N → (a : ℕ) (c : CoreState V) (t : Token V) → c.token a ≡ t → Kept A N 0 c → Balanced c (accepted A N a c t) 0 (one_if (is_signal t))
-  accept_balanced L W a c Idle q K = balanced_as c c _ 0 _ 0 (sum_zero (suc N.arcs)) (sum_zero (suc N.arcs)) (balanced c c (λ b. 0) (λ b. 0) (λ b. balance_same (c.token b)))
-  accept_balanced L W a c (Message x) q K = balanced_as c c _ 0 _ 0 (sum_zero (suc N.arcs)) (sum_zero (suc N.arcs)) (balanced c c (λ b. 0) (λ b. 0) (λ b. balance_same (c.token b)))
-  accept_balanced L W a c Held q K = balanced_as c c _ 0 _ 0 (sum_zero (suc N.arcs)) (sum_zero (suc N.arcs)) (balanced c c (λ b. 0) (λ b. 0) (λ b. balance_same (c.token b)))
-  accept_balanced L W a c Signal q K = balanced_as c _ _ 0 _ 1 (sum_zero (suc N.arcs)) (sum_one a (suc N.arcs) (busy_real W a c K (λ z. cc)))
+  accept_balanced L W a c Idle q K = balanced_as c c _ 0 _ 0 (sum_zero (λ b. 0) (suc N.arcs) (λ b. refl)) (sum_zero (λ b. 0) (suc N.arcs) (λ b. refl)) (balanced c c (λ b. 0) (λ b. 0) (λ b. balance_same (c.token b)))
+  accept_balanced L W a c (Message x) q K = balanced_as c c _ 0 _ 0 (sum_zero (λ b. 0) (suc N.arcs) (λ b. refl)) (sum_zero (λ b. 0) (suc N.arcs) (λ b. refl)) (balanced c c (λ b. 0) (λ b. 0) (λ b. balance_same (c.token b)))
+  accept_balanced L W a c Held q K = balanced_as c c _ 0 _ 0 (sum_zero (λ b. 0) (suc N.arcs) (λ b. refl)) (sum_zero (λ b. 0) (suc N.arcs) (λ b. refl)) (balanced c c (λ b. 0) (λ b. 0) (λ b. balance_same (c.token b)))
+  accept_balanced L W a c Signal q K = balanced_as c _ _ 0 _ 1 (sum_zero (λ b. 0) (suc N.arcs) (λ b. refl)) (sum_one a (suc N.arcs) (busy_real W a c K (λ z. cc)))
       (balanced c (settle_tail A N a (N.tail a) (freed A N a c)) (λ b. 0) (λ b. one_if (eqb b a)) (accept_balance L W a c q K))
 
   step_balanced : IsLawful A → WellFormed N → (c : CoreState V) (e : Event) → Kept A N 0 c → Balanced c (step A N c e) (one_if (is_delivery A N c e)) (one_if (is_acceptance A N c e))
@@ -246,9 +224,6 @@ module _ {V : Type 0} (A : Algebra V) (N : Network) where
         signals = (let p = B.signals in let q = R.signals in omega (arith, p, q));
       }
 
-  all_zero : (f : ℕ → ℕ) (n : ℕ) → ((b : ℕ) → f b ≡ 0) → sum_below f n ≡ 0
-  all_zero f n h = sum_same f (λ b. 0) n h ∙ sum_zero n
-
   one_message : messages_in (opening A N) ≡ 1
   one_message = sum_same (λ b. message_if ((opening A N).token b)) (λ b. one_if (eqb b 0)) (suc N.arcs)
       (λ b. elim (put_tells (λ _. Idle) 0 (Message A.origin) b) [
@@ -258,10 +233,10 @@ module _ {V : Type 0} (A : Algebra V) (N : Network) where
       ∙ sum_one 0 (suc N.arcs) (omega arith)
 
   no_held : helds_in (opening A N) ≡ 0
-  no_held = all_zero (λ b. held_if ((opening A N).token b)) (suc N.arcs) (λ b. elim (put_tells (λ _. Idle) 0 (Message A.origin) b) [ inl k ↦ ap (λ t. held_if t) k.1 | inr k ↦ ap (λ t. held_if t) k.1 ])
+  no_held = sum_zero (λ b. held_if ((opening A N).token b)) (suc N.arcs) (λ b. elim (put_tells (λ _. Idle) 0 (Message A.origin) b) [ inl k ↦ ap (λ t. held_if t) k.1 | inr k ↦ ap (λ t. held_if t) k.1 ])
 
   no_signal : signals_in (opening A N) ≡ 0
-  no_signal = all_zero (λ b. signal_if ((opening A N).token b)) (suc N.arcs) (λ b. elim (put_tells (λ _. Idle) 0 (Message A.origin) b) [ inl k ↦ ap (λ t. signal_if t) k.1 | inr k ↦ ap (λ t. signal_if t) k.1 ])
+  no_signal = sum_zero (λ b. signal_if ((opening A N).token b)) (suc N.arcs) (λ b. elim (put_tells (λ _. Idle) 0 (Message A.origin) b) [ inl k ↦ ap (λ t. signal_if t) k.1 | inr k ↦ ap (λ t. signal_if t) k.1 ])
 
   -- in an ended run the four totals are equal, the opening's message counted
   pub all_equal : IsLawful A → WellFormed N → (es : List Event) → (state_after A N es).token 0 ≡ Idle →
@@ -270,9 +245,9 @@ module _ {V : Type 0} (A : Algebra V) (N : Network) where
   all_equal L W es q =
       let R = accounts L W (opening A N) es (opening_kept A N W) in
       let Q = (ended A N L W es q).0 in
-      let m = all_zero (λ b. message_if ((state_after A N es).token b)) (suc N.arcs) (λ b. ap (λ t. message_if t) (Q.0 b)) in
-      let h = all_zero (λ b. held_if ((state_after A N es).token b)) (suc N.arcs) (λ b. ap (λ t. held_if t) (Q.0 b)) in
-      let s = all_zero (λ b. signal_if ((state_after A N es).token b)) (suc N.arcs) (λ b. ap (λ t. signal_if t) (Q.0 b)) in
+      let m = sum_zero (λ b. message_if ((state_after A N es).token b)) (suc N.arcs) (λ b. ap (λ t. message_if t) (Q.0 b)) in
+      let h = sum_zero (λ b. held_if ((state_after A N es).token b)) (suc N.arcs) (λ b. ap (λ t. held_if t) (Q.0 b)) in
+      let s = sum_zero (λ b. signal_if ((state_after A N es).token b)) (suc N.arcs) (λ b. ap (λ t. signal_if t) (Q.0 b)) in
       let x = R.messages in let y = R.held in let z = R.signals in let a = one_message in let b = no_held in let d = no_signal in
       ((omega (arith, x, m, a)), (omega (arith, y, h, b)), (omega (arith, z, s, d)))
 
@@ -287,18 +262,10 @@ module _ {V : Type 0} (A : Algebra V) (N : Network) where
   abbrev sends : CoreState V → CoreState V → ℕ → ℕ
   sends c d b = one_if (is_message (d.token b) && not (is_message (c.token b)))
 
-  same_self : IsLawful A → (o : Option V) → same_label A o o ≡ true
-  same_self L None = refl
-  same_self L (Some x) = elim (L.ordered.total x x) [ inl h ↦ and_from _ _ h h | inr h ↦ and_from _ _ h h ]
-
-  at_most_one : (t : Bool) → one_if t ≤ 1
-  at_most_one true = omega arith
-  at_most_one false = omega arith
-
   slack_label : IsLawful A → (o l m : Option V) → one_if (not (same_label A o m)) ≤ one_if (not (same_label A o l)) + one_if (not (same_label A l m))
   slack_label L o l m = elim (cases_Bool (same_label A l m)) [
     | inl t ↦ (let e = use_same A N L l m t in let g : one_if (not (same_label A o m)) ≡ one_if (not (same_label A o l)) = ap (λ x. one_if (not (same_label A o x))) (sym e) in omega (arith, g))
-    | inr f ↦ (let g : one_if (not (same_label A l m)) ≡ 1 = ap (λ t. one_if (not t)) f in let h = at_most_one (not (same_label A o m)) in omega (arith, g, h))
+    | inr f ↦ (let g : one_if (not (same_label A l m)) ≡ 1 = ap (λ t. one_if (not t)) f in let h = one_if-most (not (same_label A o m)) in omega (arith, g, h))
   ]
 
   no_send : (x y : Bool) → (x ≡ true → y ≡ true) → one_if (x && not y) ≡ 0
@@ -328,9 +295,9 @@ module _ {V : Type 0} (A : Algebra V) (N : Network) where
       let label = ap (λ f. f (N.tail b)) (rest_label v (pump A N v d) (d.engager v) (out_idle A N v (pump A N v d))) in
       elim (due_tells A N L v d b) [
         | inl k ↦ (let t : (settle A N v d).told b ≡ d.label (N.tail b) = told ∙ cond-true (is_due A N v d b) _ _ k.0 ∙ ap d.label (sym k.1) in
-            let z : slack (settle A N v d) b ≡ 0 = (λ i. one_if (not (same_label A (t i) (label i)))) ∙ ap (λ x. one_if (not x)) (same_self L (d.label (N.tail b))) in
+            let z : slack (settle A N v d) b ≡ 0 = (λ i. one_if (not (same_label A (t i) (label i)))) ∙ ap (λ x. one_if (not x)) (same_self A N L (d.label (N.tail b))) in
             let w : slack d b ≡ 1 = ap (λ u. one_if (not (same_label A (d.told b) (d.label u)))) k.1 ∙ ap one_if (due_slack v d b k.0) in
-            let s = at_most_one (is_message ((settle A N v d).token b) && not (is_message (c.token b))) in omega (arith, z, w, s))
+            let s = one_if-most (is_message ((settle A N v d).token b) && not (is_message (c.token b))) in omega (arith, z, w, s))
         | inr k ↦ (let t : (settle A N v d).told b ≡ d.told b = told ∙ cond-false (is_due A N v d b) _ _ k.0 in
             let z : slack (settle A N v d) b ≡ slack d b = λ i. one_if (not (same_label A (t i) (label i))) in
             let u : (pump A N v d).token b ≡ d.token b = cond-false (is_due A N v d b) _ _ k.0 in

@@ -1,5 +1,5 @@
 -- The accounts of every run, in the words of the graph.
-use Rattle.std.proofs.Common.{◌≡◌, ℕ, zero, suc, ◌+◌, ◌≤◌, Bool, is_some, inl, inr, Option, Some, None, List, [], ◌∷◌, length, refl, sym, ap, ◌∙◌, arith}
+use Rattle.std.proofs.Common.{◌≡◌, ℕ, suc, ◌+◌, ◌≤◌, Bool, is_some, inl, inr, Option, Some, None, List, [], ◌∷◌, length, refl, sym, ap, ◌∙◌, arith}
 use Rattle.std.proofs.lemmas.Bool.{cases_Bool}
 use Rattle.road_graph.specs.Roads.{Roads, IsRoads, HasVertex, HasArc, arc_of}
 use Rattle.path_algebra.specs.Algebra.{Algebra, IsLawful}
@@ -8,15 +8,15 @@ use Rattle.path_algebra.specs.Given.{reach}
 use Rattle.path_algebra.specs.Laws.{reach_laws}
 use Rattle.scholten_core.specs.declared.event.Event.{Event}
 use Rattle.scholten_core.specs.Network.{network}
-use Rattle.scholten_core.specs.Sums.{sum_below, one_if}
+use Rattle.scholten_core.specs.Sums.{one_if}
 use Rattle.scholten_core.specs.Diffusion.{CoreState, opening, state_after, HasEnded}
 use Rattle.scholten_core.specs.Accounts.{sent_on, label_changes, totals_of, AreEqualTotals, AreMarksOfReached, count_marked}
 use Rattle.scholten_core.proofs.Kept.{Kept}
 use Rattle.scholten_core.proofs.Networks.{well_formed, tail-arc, tail-entry}
-use Rattle.scholten_core.proofs.Counted.{sum_below-same}
 use Rattle.scholten_core.proofs.Counts.{sends_at_most, all_equal}
 use Rattle.scholten_core.proofs.Reach.{IsOneValued, reach_sends, walk_end}
 use Rattle.scholten_core.proofs.EveryRun.{run_kept_at, labels_are_walk_values, ended_is_best}
+use Rattle.scholten_core.proofs.Sums.{sum_below_same, sum_first}
 
 module _ {V : Type 0} (A : Algebra V) (g : Roads) (s : ℕ) where
   pub sends_follow_changes : IsLawful A → IsRoads g → 1 ≤ s → (es : List Event) (b : ℕ) →
@@ -25,10 +25,6 @@ module _ {V : Type 0} (A : Algebra V) (g : Roads) (s : ℕ) where
 
   pub totals_are_equal : IsLawful A → IsRoads g → 1 ≤ s → (es : List Event) → HasEnded (state_after A (network g s) es) → AreEqualTotals (totals_of A (network g s) es)
   totals_are_equal L R l es q = let h = all_equal A (network g s) L (well_formed g s R l) es q in (sym h.0, sym h.1, sym h.2)
-
-sum_below-first : (f : ℕ → ℕ) (n : ℕ) → sum_below f (suc n) ≡ f 0 + sum_below (λ b. f (suc b)) n
-sum_below-first f zero = omega arith
-sum_below-first f (suc n) = let h = sum_below-first f n in omega (arith, h)
 
 module _ (g : Roads) (s : ℕ) where
   one_value : IsOneValued reach (network g s)
@@ -53,12 +49,12 @@ module _ (g : Roads) (s : ℕ) where
       let none = no_entry_label K ((state_after reach (network g s) es).label 0) refl in
       let first : one_if (is_some ((state_after reach (network g s) es).label ((network g s).tail 0))) ≡ 0 =
       ap (λ v. one_if (is_some ((state_after reach (network g s) es).label v))) (tail-entry g) ∙ ap (λ o. one_if (is_some o)) none in
-      let each = sum_below-same (λ b. one_if (is_some ((state_after reach (network g s) es).label ((network g s).tail (suc b))))) (λ b. one_if (marked (suc b))) (length g.arcs)
+      let each = sum_below_same (λ b. one_if (is_some ((state_after reach (network g s) es).label ((network g s).tail (suc b))))) (λ b. one_if (marked (suc b))) (length g.arcs)
       (λ b l. let h : HasArc g (suc b) = (omega arith, omega (arith, l)) in
       ap (λ v. one_if (is_some ((state_after reach (network g s) es).label v))) (tail-arc g (suc b) (omega arith))
       ∙ ap one_if (marked_label (state_after reach (network g s) es) marked M (labels_are_walk_values reach g s reach_laws R S.0 es) (ended_is_best reach g s reach_laws R S.0 es q) R (suc b) h)) in
       let all = reach_sends reach (network g s) reach_laws W one_value es q in
-      let split = sum_below-first (λ b. one_if (is_some ((state_after reach (network g s) es).label ((network g s).tail b)))) (length g.arcs) in
+      let split = sum_first (λ b. one_if (is_some ((state_after reach (network g s) es).label ((network g s).tail b)))) (length g.arcs) in
       omega (arith, first, each, all, split)
     where
       no_entry_label : Kept reach (network g s) 0 (state_after reach (network g s) es) → (o : Option (Unit {0})) → (state_after reach (network g s) es).label 0 ≡ o → (state_after reach (network g s) es).label 0 ≡ None

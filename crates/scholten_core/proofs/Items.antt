@@ -1,5 +1,5 @@
 -- The items that an event makes, against the tokens that it changes.
-use Rattle.std.proofs.Common.{◌≡◌, ◌≢◌, ℕ, ◌≤◌, Bool, true, false, cond, eqb, ne_eqb, eq-eqb, Option, Some, None, List, [], ◌∷◌, ◌++◌, append-nil, length, length-append, ◌⊎◌, refl, sym, ap, ◌∙◌, subst, inl, inr, arith}
+use Rattle.std.proofs.Common.{◌≡◌, ◌≢◌, ℕ, Bool, true, false, cond, eqb, ne_eqb, eq-eqb, Option, Some, None, List, [], ◌∷◌, ◌++◌, append-nil, ◌⊎◌, refl, sym, ap, ◌∙◌, subst, inl, inr}
 use Rattle.std.proofs.lemmas.Bool.{cases_eq, cases_Bool, cond-true, cond-false}
 use Rattle.scholten_core.specs.declared.token.Token.{Token}
 use Rattle.scholten_core.specs.declared.token.Token.TheVariants.{Idle, Message, Held, Signal}
@@ -8,7 +8,7 @@ use Rattle.scholten_core.specs.Network.{Network, WellFormed}
 use Rattle.scholten_core.specs.Diffusion.{CoreState, is_due, out_idle, pump, arrive, rest, released, freed, settle, sent, extend_label, answer_to, Listed}
 use Rattle.scholten_core.specs.declared.item.Item.{Item}
 use Rattle.scholten_core.specs.declared.item.Item.TheVariants.{Message as MessageOn, Signal as SignalOn}
-use Rattle.scholten_core.specs.Items.{item_arc, at, item_of, pump_made, rest_made, settle_made, IsDistinct, IsOutList, Makes, Moves, HoldsItems, ShowsItems}
+use Rattle.scholten_core.specs.Items.{item_arc, at, item_of, pump_made, rest_made, settle_made, IsDistinct, IsOutList, Makes}
 use Rattle.scholten_core.proofs.Basics.{due_tells, put_tells, put-same, put-other}
 use Rattle.scholten_core.proofs.Kept.{Kept, pumped, arrive_kept, freed_kept}
 
@@ -112,13 +112,6 @@ module _ {V : Type 0} (A : Algebra V) (N : Network) where
       sent_never None q = cc
       sent_never (Some y) q = cc
 
-  abbrev pub deliver_made : ℕ → CoreState V → List ℕ → List (Item V) → List (Item V)
-  deliver_made a d xs answer = answer ++ settle_made A N (N.head a) d xs
-
-  answer_either : (o : Option ℕ) → (answer_to {V = V} o ≡ Held) ⊎ (answer_to {V = V} o ≡ Signal)
-  answer_either None = inl refl
-  answer_either (Some e) = inr refl
-
   -- a delivery: its own arc has what its new token stands for, each other arc nothing or its new items
   pub message_makes : IsLawful A → WellFormed N → (a : ℕ) (x : V) (c : CoreState V) (xs : List ℕ) → c.token a ≡ Message x → Kept A N 0 c → IsOutList A N (N.head a) xs →
       (at a (item_of a (answer_to (c.engager (N.head a))) ++ settle_made A N (N.head a) (arrive A N a x c) xs) ≡ item_of a ((settle A N (N.head a) (arrive A N a x c)).token a))
@@ -141,59 +134,6 @@ module _ {V : Type 0} (A : Algebra V) (N : Network) where
             ]),
       )
 
-  pub moves_then : (k l m : List (Item V)) (c d e : CoreState V) → Moves A N k l c d → Moves A N l m d e → Moves A N k m c e
-  moves_then k l m c d e p q b = elim (p b) [
-    | inl h ↦ (elim (q b) [ inl j ↦ inl (j.0 ∙ h.0, j.1 ∙ h.1) | inr j ↦ inr (sym h.1 ∙ j.0 ∙ ap (item_of b) h.0, j.1) ])
-    | inr h ↦ (elim (q b) [ inl j ↦ inr (h.0, j.1 ∙ h.1 ∙ ap (item_of b) (sym j.0)) | inr j ↦ inr (h.0, j.1) ])
-  ]
-
-  pub moves_holds : (own new : List (Item V)) (c d : CoreState V) → HoldsItems A N own c → Moves A N own new c d → HoldsItems A N new d
-  moves_holds own new c d h m b = elim (m b) [
-    | inl j ↦ (elim (h b) [ inl k ↦ inl (j.1 ∙ k) | inr k ↦ inr (j.1 ∙ k ∙ ap (item_of b) (sym j.0)) ])
-    | inr j ↦ inr j.1
-  ]
-
-  around_none : {X : Type 0} (xs zs ys : List X) → xs ++ (zs ++ ys) ≡ zs → (xs ≡ []) × (ys ≡ [])
-  around_none xs zs ys e =
-      let l = ap length e in let p = length-append xs (zs ++ ys) in let q = length-append zs ys in
-      (no_length xs (omega (arith, l, p, q)), no_length ys (omega (arith, l, p, q)))
-    where
-      no_length : {X : Type 0} (xs : List X) → length xs ≡ 0 → xs ≡ []
-      no_length [] h = refl
-      no_length (x ∷ xs) h = absurd (omega arith)
-
-  -- one part's lists move among all
-  pub shows_moved : (before own new after : List (Item V)) (c d : CoreState V) → ShowsItems A N (before ++ (own ++ after)) c → Moves A N own new c d → ShowsItems A N (before ++ (new ++ after)) d
-  shows_moved before own new after c d S m b =
-      let split = λ (zs : List (Item V)). at-append b before (zs ++ after) ∙ ap (λ ys. at b before ++ ys) (at-append b zs after) in
-      let all : at b before ++ (at b own ++ at b after) ≡ item_of b (c.token b) = sym (split own) ∙ S b in
-      split new ∙ (elim (m b) [
-        | inl h ↦ ap (λ zs. at b before ++ (zs ++ at b after)) h.1 ∙ all ∙ ap (item_of b) (sym h.0)
-        | inr h ↦ (let none = around_none (at b before) (item_of b (c.token b)) (at b after) (ap (λ zs. at b before ++ (zs ++ at b after)) (sym h.0) ∙ all) in
-            (λ i. none.0 i ++ (h.1 i ++ none.1 i)) ∙ append-nil (item_of b (d.token b)))
-      ])
-
-  item_of_short : (b : ℕ) (t : Token V) → length (item_of b t) ≤ 1
-  item_of_short b Idle = omega arith
-  item_of_short b (Message x) = omega arith
-  item_of_short b Held = omega arith
-  item_of_short b Signal = omega arith
-
-  swap_short : {X : Type 0} (xs us vs ys : List X) → length (xs ++ (us ++ (vs ++ ys))) ≤ 1 → xs ++ (us ++ (vs ++ ys)) ≡ xs ++ (vs ++ (us ++ ys))
-  swap_short xs [] vs ys h = refl
-  swap_short xs (u ∷ us) [] ys h = refl
-  swap_short xs (u ∷ us) (v ∷ vs) ys h =
-      absurd (let p = length-append xs ((u ∷ us) ++ ((v ∷ vs) ++ ys)) in let q = length-append us ((v ∷ vs) ++ ys) in omega (arith, p, q))
-
-  -- a batch moves past other lists: from an outbox to a mailbox, from a mailbox to a queue
-  pub shows_batch : (before batch between after : List (Item V)) (c : CoreState V) → ShowsItems A N (before ++ (batch ++ (between ++ after))) c → ShowsItems A N (before ++ (between ++ (batch ++ after))) c
-  shows_batch before batch between after c S b =
-      let split = λ (us vs : List (Item V)). at-append b before (us ++ (vs ++ after)) ∙ ap (λ zs. at b before ++ zs) (at-append b us (vs ++ after) ∙ ap (λ zs. at b us ++ zs) (at-append b vs after)) in
-      let all : at b before ++ (at b batch ++ (at b between ++ at b after)) ≡ item_of b (c.token b) = sym (split batch between) ∙ S b in
-      split between batch
-      ∙ sym (swap_short (at b before) (at b batch) (at b between) (at b after) (subst (λ zs. length zs ≤ 1) (sym all) (item_of_short b (c.token b))))
-      ∙ all
-
   pub at-first : (b : ℕ) (i : Item V) (rest : List (Item V)) → (item_arc i ≡ b) → at b (i ∷ rest) ≡ i ∷ at b rest
   unfolding at
   at-first b i rest e = cond-true (eqb (item_arc i) b) _ _ (eq-eqb (item_arc i) b e)
@@ -201,37 +141,6 @@ module _ {V : Type 0} (A : Algebra V) (N : Network) where
   pub at-skip : (b : ℕ) (i : Item V) (rest : List (Item V)) → (item_arc i ≢ b) → at b (i ∷ rest) ≡ at b rest
   unfolding at
   at-skip b i rest e = cond-false (eqb (item_arc i) b) _ _ (ne_eqb (item_arc i) b e)
-
-  only_first : {X : Type 0} (x y : X) (xs : List X) → x ∷ xs ≡ y ∷ [] → xs ≡ []
-  only_first x y xs e = cc
-
-  -- the item at the front is taken, and the event's items are put behind
-  pub front_moves : (i : Item V) (rest made : List (Item V)) (c d : CoreState V) →
-      HoldsItems A N (i ∷ rest) c → item_of (item_arc i) (c.token (item_arc i)) ≡ i ∷ [] →
-      at (item_arc i) made ≡ item_of (item_arc i) (d.token (item_arc i)) →
-      ((b : ℕ) → b ≢ item_arc i → Makes A N b (c.token b) (d.token b) (at b made)) → Moves A N (i ∷ rest) (rest ++ made) c d
-  front_moves i rest made c d H f m o b = elim (cases_eq b (item_arc i)) [
-    | inl e ↦ inr (subst (λ a. (at a (i ∷ rest) ≡ item_of a (c.token a)) × (at a (rest ++ made) ≡ item_of a (d.token a))) (sym e)
-        (let alone : at (item_arc i) rest ≡ [] = elim (H (item_arc i)) [
-          | inl h ↦ absurd (let g = sym (at-first (item_arc i) i rest refl) ∙ h in cc)
-          | inr h ↦ only_first i i (at (item_arc i) rest) (sym (at-first (item_arc i) i rest refl) ∙ h ∙ f)
-        ] in (
-          at-first (item_arc i) i rest refl ∙ ap (λ zs. i ∷ zs) alone ∙ sym f,
-          at-append (item_arc i) rest made ∙ (λ j. alone j ++ m j),
-        )))
-    | inr n ↦ (let skip = at-skip b i rest (λ e. n (sym e)) in elim (o b n) [
-      | inl h ↦ inl (h.0, at-append b rest made ∙ ap (λ zs. at b rest ++ zs) h.1 ∙ append-nil (at b rest) ∙ sym skip)
-      | inr h ↦ (let none : at b rest ≡ [] = elim (H b) [ inl k ↦ sym skip ∙ k | inr k ↦ sym skip ∙ k ∙ h.0 ] in
-          inr (skip ∙ none ∙ sym h.0, at-append b rest made ∙ (λ j. none j ++ h.1 j)))
-    ])
-  ]
-
-  pub message_moves : IsLawful A → WellFormed N → (a : ℕ) (x : V) (rest xs : List (Item V)) (c : CoreState V) (out : List ℕ) → c.token a ≡ Message x → Kept A N 0 c → IsOutList A N (N.head a) out →
-      HoldsItems A N (MessageOn a x ∷ rest) c →
-      Moves A N (MessageOn a x ∷ rest) (rest ++ (item_of a (answer_to (c.engager (N.head a))) ++ settle_made A N (N.head a) (arrive A N a x c) out)) c (settle A N (N.head a) (arrive A N a x c))
-  message_moves L W a x rest xs c out q K O H =
-      let M = message_makes L W a x c out q K O in
-      front_moves (MessageOn a x) rest (item_of a (answer_to (c.engager (N.head a))) ++ settle_made A N (N.head a) (arrive A N a x c) out) c (settle A N (N.head a) (arrive A N a x c)) H (ap (item_of a) q) M.0 M.1
 
   pub signal_makes : IsLawful A → WellFormed N → (a : ℕ) (c : CoreState V) (xs : List ℕ) → c.token a ≡ Signal → Kept A N 0 c → IsOutList A N (N.tail a) xs →
       (at a (settle_made A N (N.tail a) (freed A N a c) xs) ≡ item_of a ((settle A N (N.tail a) (freed A N a c)).token a))
@@ -244,9 +153,3 @@ module _ {V : Type 0} (A : Algebra V) (N : Network) where
         λ b n. (let tb : (freed A N a c).token b ≡ c.token b = put-other c.token a Idle b n in
             elim (S b) [ inl h ↦ inl (h.0 ∙ tb, h.1) | inr h ↦ inr (ap (item_of b) (sym tb) ∙ h.0, h.1) ]),
       )
-
-  pub signal_moves : IsLawful A → WellFormed N → (a : ℕ) (rest : List (Item V)) (c : CoreState V) (out : List ℕ) → c.token a ≡ Signal → Kept A N 0 c → IsOutList A N (N.tail a) out →
-      HoldsItems A N (SignalOn a ∷ rest) c → Moves A N (SignalOn a ∷ rest) (rest ++ settle_made A N (N.tail a) (freed A N a c) out) c (settle A N (N.tail a) (freed A N a c))
-  signal_moves L W a rest c out q K O H =
-      let M = signal_makes L W a c out q K O in
-      front_moves (SignalOn a) rest (settle_made A N (N.tail a) (freed A N a c) out) c (settle A N (N.tail a) (freed A N a c)) H (ap (item_of a) q) M.0 M.1

@@ -1,4 +1,5 @@
 pub mod Basics
+pub mod Sums
 pub mod Walks
 pub mod Kept
 pub mod Rooted

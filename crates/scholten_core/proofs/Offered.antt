@@ -1,10 +1,10 @@
 -- The loop of pumping: after the first k outgoing arcs.
-use Rattle.std.proofs.Common.{◌≡◌, ◌≢◌, ℕ, ◌+◌, ◌<◌, false, not, ◌&&◌, eqb, ne_eqb, List, length, get_or, refl, sym, ap, ◌∙◌, subst, inl, inr, arith}
-use Rattle.std.proofs.lemmas.Bool.{cases_eq, cases_Bool, cond-true, cond-false, and_left}
+use Rattle.std.proofs.Common.{◌≡◌, ◌≢◌, ℕ, ◌+◌, ◌<◌, List, length, get_or, sym, ap, ◌∙◌, subst, inl, inr, arith}
+use Rattle.std.proofs.lemmas.Bool.{cases_eq, cond-false}
 use Rattle.path_algebra.specs.Algebra.{Algebra}
 use Rattle.scholten_core.specs.Network.{Network}
-use Rattle.scholten_core.specs.Diffusion.{CoreState, is_idle, is_due, same_label, pump, pump_one, sent, extend_label}
-use Rattle.scholten_core.proofs.Basics.{put-at, put-other}
+use Rattle.scholten_core.specs.Diffusion.{CoreState, pump, pump_one}
+use Rattle.scholten_core.proofs.Basics.{put-at, put-other, not_due, pumped_same}
 
 module _ {V : Type 0} (A : Algebra V) (N : Network) where
   pub record Offered (v : ℕ) (xs : List ℕ) (k : ℕ) (old new : CoreState V) : Type 0 where
@@ -13,28 +13,12 @@ module _ {V : Type 0} (A : Algebra V) (N : Network) where
     pub done : (j : ℕ) → j < k → (new.token (get_or xs j 0) ≡ (pump A N v old).token (get_or xs j 0)) × (new.told (get_or xs j 0) ≡ (pump A N v old).told (get_or xs j 0))
     pub left : (b : ℕ) → ((j : ℕ) → j < k → get_or xs j 0 ≢ b) → (new.token b ≡ old.token b) × (new.told b ≡ old.told b)
 
-  pub offered_none : (v : ℕ) (xs : List ℕ) (c : CoreState V) → Offered v xs 0 c c
-  offered_none v xs c = record { label = refl; engager = refl; done = λ j l. absurd (omega arith); left = λ b h. (refl, refl) }
-
-  due_same : (v : ℕ) (c d : CoreState V) (b : ℕ) → c.token b ≡ d.token b → c.told b ≡ d.told b → c.label v ≡ d.label v → is_due A N v c b ≡ is_due A N v d b
-  unfolding is_due
-  due_same v c d b p q r = λ i. eqb (N.tail b) v && is_idle (p i) && not (same_label A (q i) (r i))
-
-  pumped_same : (v : ℕ) (c d : CoreState V) (b : ℕ) → c.token b ≡ d.token b → c.told b ≡ d.told b → c.label v ≡ d.label v →
-      ((pump A N v c).token b ≡ (pump A N v d).token b) × ((pump A N v c).told b ≡ (pump A N v d).told b)
-  pumped_same v c d b p q r = elim (cases_Bool (is_due A N v d b)) [
-    | inl t ↦ (let s = due_same v c d b p q r ∙ t in
-        (cond-true _ _ _ s ∙ ap (λ o. sent (extend_label A o (N.weight b))) r ∙ sym (cond-true _ _ _ t), cond-true _ _ _ s ∙ r ∙ sym (cond-true _ _ _ t)))
-    | inr f ↦ (let s = due_same v c d b p q r ∙ f in
-        (cond-false _ _ _ s ∙ p ∙ sym (cond-false _ _ _ f), cond-false _ _ _ s ∙ q ∙ sym (cond-false _ _ _ f)))
-  ]
-
   pub offered_more : (v : ℕ) (xs : List ℕ) (k : ℕ) (old new : CoreState V) → ((j : ℕ) → j < k → get_or xs j 0 ≢ get_or xs k 0) →
       Offered v xs k old new → Offered v xs (k + 1) old (pump_one A N v (get_or xs k 0) new)
   offered_more v xs k old new apart O =
       let b = get_or xs k 0 in
       let same = O.left (get_or xs k 0) (λ j l. apart j l) in
-      let p = pumped_same v new old (get_or xs k 0) same.0 same.1 (ap (λ f. f v) O.label) in
+      let p = pumped_same A N v new old (get_or xs k 0) same.0 same.1 (ap (λ f. f v) O.label) in
       record {
         label = O.label;
         engager = O.engager;
@@ -59,16 +43,12 @@ module _ {V : Type 0} (A : Algebra V) (N : Network) where
             );
       }
 
-  not_due : (v : ℕ) (c : CoreState V) (b : ℕ) → N.tail b ≢ v → is_due A N v c b ≡ false
-  unfolding is_due
-  not_due v c b n = and_left _ _ (and_left _ _ (ne_eqb (N.tail b) v n))
-
   pub offered_all : (v : ℕ) (xs : List ℕ) (old new : CoreState V) → ((b : ℕ) → N.tail b ≡ v → (j : ℕ) × (j < length xs) × (get_or xs j 0 ≡ b)) →
       ((j : ℕ) → j < length xs → N.tail (get_or xs j 0) ≡ v) → Offered v xs (length xs) old new → new ≡ pump A N v old
   offered_all v xs old new all leads O =
       let each = λ (b : ℕ). elim (cases_eq (N.tail b) v) as (λ _. (new.token b ≡ (pump A N v old).token b) × (new.told b ≡ (pump A N v old).told b)) [
         | inl e ↦ (let j = all b e in subst (λ a. (new.token a ≡ (pump A N v old).token a) × (new.told a ≡ (pump A N v old).told a)) j.2 (O.done j.0 j.1))
         | inr n ↦ (let d = O.left b (λ j l e. n (ap N.tail (sym e) ∙ leads j l)) in
-            (d.0 ∙ sym (cond-false _ _ _ (not_due v old b n)), d.1 ∙ sym (cond-false _ _ _ (not_due v old b n))))
+            (d.0 ∙ sym (cond-false _ _ _ (not_due A N v old b n)), d.1 ∙ sym (cond-false _ _ _ (not_due A N v old b n))))
       ] in
       (λ i. record { label = O.label i; engager = O.engager i; token = λ b. (each b).0 i; told = λ b. (each b).1 i })

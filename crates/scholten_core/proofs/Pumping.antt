@@ -4,7 +4,7 @@ use Rattle.std.proofs.lemmas.Bool.{cond-false}
 use Rattle.path_algebra.specs.Algebra.{Algebra, IsLawful}
 use Rattle.scholten_core.specs.Network.{Network}
 use Rattle.scholten_core.specs.Diffusion.{CoreState, improves, is_idle, arrive, freed, pump, pump_one}
-use Rattle.scholten_core.specs.Told.{IdleIsTold}
+use Rattle.scholten_core.specs.IdleIsTold.{IdleIsTold}
 use Rattle.scholten_core.specs.CoreView.{CoreView, state_of, network_of, network_in}
 use Rattle.scholten_core.proofs.Basics.{idle-false}
 use Rattle.scholten_core.proofs.Networks.{OutOf}

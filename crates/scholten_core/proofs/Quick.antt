@@ -1,21 +1,17 @@
 -- Where nothing has to be sent, nothing has to be looked at.
 use Rattle.std.proofs.Common.{◌≡◌, ◌≢◌, ℕ, zero, suc, ◌+◌, Bool, true, false, cond, not, ◌&&◌, ◌||◌, eqb, Option, Some, None, List, [], ◌∷◌, ◌++◌, refl, sym, ap, ◌∙◌, subst, inl, inr, arith, ne_eqb}
-use Rattle.std.proofs.lemmas.Bool.{cases_eq, cond-false, false≢true, and_from, and_right}
+use Rattle.std.proofs.lemmas.Bool.{cases_eq, cond-false, false≢true, and_right}
 use Rattle.scholten_core.specs.declared.token.Token.TheVariants.{Idle}
 use Rattle.path_algebra.specs.Algebra.{Algebra, IsLawful}
 use Rattle.scholten_core.specs.Network.{Network}
 use Rattle.scholten_core.specs.Diffusion.{CoreState, put, is_idle, is_due, all_below, out_idle, arrive, pump, pump_one, freed, same_label, sent, extend_label, better_of, answer_to, Listed}
 use Rattle.scholten_core.specs.Sums.{one_if}
 use Rattle.scholten_core.specs.Deficit.{busy_out}
-use Rattle.scholten_core.specs.Told.{IdleIsTold}
+use Rattle.scholten_core.specs.IdleIsTold.{IdleIsTold}
 use Rattle.scholten_core.specs.Items.{item_of, pump_made, IsDistinct}
-use Rattle.scholten_core.proofs.Basics.{put_tells, put-same, put-other, due_tells}
+use Rattle.scholten_core.proofs.Basics.{put_tells, put-same, put-other, due_tells, same_self}
 
 module _ {V : Type 0} (A : Algebra V) (N : Network) where
-  pub same_itself : IsLawful A → (o : Option V) → same_label A o o ≡ true
-  same_itself L None = refl
-  same_itself L (Some x) = let r : A.no_worse x x ≡ true = elim (L.ordered.total x x) [ inl h ↦ h | inr h ↦ h ] in and_from _ _ r r
-
   due_differs : (v : ℕ) (d : CoreState V) (b : ℕ) → is_due A N v d b ≡ true → same_label A (d.told b) (d.label v) ≡ true → ⊥
   unfolding is_due
   due_differs v d b t s =
@@ -25,7 +21,7 @@ module _ {V : Type 0} (A : Algebra V) (N : Network) where
   pub told_not_due : IsLawful A → (v : ℕ) (d : CoreState V) (b : ℕ) → (N.tail b ≡ v → d.token b ≡ Idle → d.told b ≡ d.label v) → is_due A N v d b ≡ false
   told_not_due L v d b h = elim (due_tells A N L v d b) [
     | inr k ↦ k.0
-    | inl k ↦ absurd (due_differs v d b k.0 (ap (λ o. same_label A o (d.label v)) (h k.1 k.2) ∙ same_itself L (d.label v)))
+    | inl k ↦ absurd (due_differs v d b k.0 (ap (λ o. same_label A o (d.label v)) (h k.1 k.2) ∙ same_self A N L (d.label v)))
   ]
 
   -- an idle arc out of a vertex has been told its tail's label; the vertex e has still to pump

@@ -14,7 +14,8 @@ use Rattle.scholten_core.specs.Accounts.{sent_on, label_changes, count_sent, sen
 use Rattle.scholten_core.proofs.Basics.{due_tells, put_tells}
 use Rattle.scholten_core.proofs.Ended.{opening_kept, reached_kept, ended}
 use Rattle.scholten_core.proofs.Kept.{Kept, AtMost_arrive, arrive_kept, freed_kept, step_kept}
-use Rattle.scholten_core.proofs.Counts.{sum_add, sum_same, sends_at_most, settle_label, rest_told, released_changes, held_pumped}
+use Rattle.scholten_core.proofs.Counts.{sends_at_most, settle_label, rest_told, released_changes, held_pumped}
+use Rattle.scholten_core.proofs.Sums.{sum_zero, sum_add, sum_same, one_if-most}
 
 module _ {V : Type 0} (A : Algebra V) (N : Network) where
   pub record IsOneValued : Type 0 where
@@ -73,10 +74,6 @@ module _ {V : Type 0} (A : Algebra V) (N : Network) where
   told_of U None w = inl refl
   told_of U (Some x) w = let e = U.always x w in inr (e.0, ap sent e.1)
 
-  at_most : (t : Bool) → one_if t ≤ 1
-  at_most true = omega arith
-  at_most false = omega arith
-
   settle_told : IsLawful A → IsOneValued → (v : ℕ) (c d : CoreState V) (b : ℕ) → (d.token b ≡ Idle → is_message (c.token b) ≡ false) → d.told b ≡ c.told b →
       ((e : ℕ) → d.engager v ≡ Some e → d.token e ≡ Held) →
       one_if (is_some ((settle A N v d).told b)) ≤ one_if (is_some (c.told b)) + one_if (is_message ((settle A N v d).token b) && not (is_message (c.token b)))
@@ -88,7 +85,7 @@ module _ {V : Type 0} (A : Algebra V) (N : Network) where
           | inr y ↦ (let q : (settle A N v d).token b ≡ Message y.0 =
               rest_message v (pump A N v d) (d.engager v) (out_idle A N v (pump A N v d)) b y.0 (λ e r. held_pumped A N L v d e (h e r)) (cond-true (is_due A N v d b) _ _ k.0 ∙ y.1) in
               let s : one_if (is_message ((settle A N v d).token b) && not (is_message (c.token b))) ≡ 1 = (λ i. one_if (is_message (q i) && not (m k.2 i))) in
-              let l = at_most (is_some ((settle A N v d).told b)) in omega (arith, s, l))
+              let l = one_if-most (is_some ((settle A N v d).told b)) in omega (arith, s, l))
         ])
         | inr k ↦ (let z : one_if (is_some ((settle A N v d).told b)) ≡ one_if (is_some (c.told b)) = ap (λ o. one_if (is_some o)) (told ∙ cond-false (is_due A N v d b) _ _ k.0 ∙ t) in omega (arith, z))
       ]
@@ -147,11 +144,7 @@ module _ {V : Type 0} (A : Algebra V) (N : Network) where
   walk_end W u (a ∷ p) v n w = walk_end W (N.head a) p v (W.head_in a w.0) w.2
 
   total_by_arc : (c : CoreState V) (es : List Event) → sent_total A N c es ≡ sum_below (λ b. sent_on A N b c es) (suc N.arcs)
-  total_by_arc c [] = sym (zeros (suc N.arcs))
-    where
-      zeros : (n : ℕ) → sum_below (λ b. 0) n ≡ 0
-      zeros zero = refl
-      zeros (suc n) = let h = zeros n in omega (arith, h)
+  total_by_arc c [] = sym (sum_zero (λ b. 0) (suc N.arcs) (λ b. refl))
   total_by_arc c (e ∷ es) = ap (λ k. count_sent A N c (step A N c e) + k) (total_by_arc (step A N c e) es)
       ∙ sym (sum_add (λ b. one_if (is_message ((step A N c e).token b) && not (is_message (c.token b)))) (λ b. sent_on A N b (step A N c e) es) (suc N.arcs))
 

@@ -1,6 +1,6 @@
 -- An event at a vertex of one shard: it depends on that shard's share alone, and leaves the other shares as they are.
-use Rattle.std.proofs.Common.{◌≡◌, ◌≢◌, ℕ, zero, suc, Bool, true, false, not, ◌&&◌, ◌||◌, eqb, ne_eqb, eqb-true, Option, Some, None, refl, sym, ap, ◌∙◌, subst, inl, inr, arith}
-use Rattle.std.proofs.lemmas.Bool.{cases_eq, cases_Bool, cond-true, cond-false, false≢true, and_left}
+use Rattle.std.proofs.Common.{◌≡◌, ◌≢◌, ℕ, zero, suc, Bool, true, false, not, ◌&&◌, ◌||◌, eqb, eqb-true, Option, Some, None, refl, sym, ap, ◌∙◌, subst, inl, inr, arith}
+use Rattle.std.proofs.lemmas.Bool.{cases_eq, cases_Bool, cond-true, cond-false, false≢true}
 use Rattle.scholten_core.specs.declared.token.Token.{Token}
 use Rattle.scholten_core.specs.declared.token.Token.TheVariants.{Idle, Message, Held, Signal}
 use Rattle.scholten_core.specs.declared.event.Event.TheVariants.{Deliver, Accept}
@@ -8,7 +8,7 @@ use Rattle.path_algebra.specs.Algebra.{Algebra, IsLawful}
 use Rattle.scholten_core.specs.Network.{Network, WellFormed}
 use Rattle.scholten_core.specs.Diffusion.{CoreState, put, is_idle, all_below, is_due, out_idle, same_label, pump, arrive, rest, released, freed, settle, settle_tail, delivered, accepted, step, sent, extend_label, better_of, engaged_by, answer_to}
 use Rattle.scholten_core.specs.Shares.{Agree}
-use Rattle.scholten_core.proofs.Basics.{put_tells, put-at, put-same, put-other}
+use Rattle.scholten_core.proofs.Basics.{put_tells, put-at, put-same, put-other, not_due}
 use Rattle.scholten_core.proofs.Kept.{Kept, head_real, arrive_kept, pump_kept, freed_kept}
 
 module _ {V : Type 0} (A : Algebra V) (N : Network) where
@@ -20,15 +20,8 @@ module _ {V : Type 0} (A : Algebra V) (N : Network) where
     idle = λ b m. q.idle b m ∙ p.idle b m;
   }
 
-  pub agree_back : (mine : ℕ → Bool) (c d : CoreState V) → Agree A N mine c d → Agree A N mine d c
-  agree_back mine c d p = record { label = λ v m. sym (p.label v m); engager = λ v m. sym (p.engager v m); told = λ b m. sym (p.told b m); idle = λ b m. sym (p.idle b m) }
-
   pub agree_self : (mine : ℕ → Bool) (c : CoreState V) → Agree A N mine c c
   agree_self mine c = record { label = λ v m. refl; engager = λ v m. refl; told = λ b m. refl; idle = λ b m. refl }
-
-  not_due : (v : ℕ) (c : CoreState V) (b : ℕ) → N.tail b ≢ v → is_due A N v c b ≡ false
-  unfolding is_due
-  not_due v c b n = and_left _ _ (and_left _ _ (ne_eqb (N.tail b) v n))
 
   -- locality
 
@@ -82,24 +75,6 @@ module _ {V : Type 0} (A : Algebra V) (N : Network) where
         | inr f ↦ (λ i. not (f i) || is_idle (d.token b)) ∙ (λ i. not (sym f i) || is_idle (c.token b))
       ])
 
-  released_agree : (mine : ℕ → Bool) (v : ℕ) (c d : CoreState V) (o : Option ℕ) (t : Bool) → Agree A N mine c d → Agree A N mine (released A N v c o t) (released A N v d o t)
-  released_agree mine v c d None t G = G
-  released_agree mine v c d (Some e) false G = G
-  released_agree mine v c d (Some e) true G = record {
-    label = G.label;
-    engager = λ u h. put_agree d.engager c.engager v None None u refl (λ _. G.engager u h);
-    told = G.told;
-    idle = λ b h. put_idle_agree d.token c.token e Signal Signal b refl (λ _. G.idle b h);
-  }
-
-  pub rest_agree : (mine : ℕ → Bool) (v : ℕ) (c d : CoreState V) → mine v ≡ true → Agree A N mine c d → Agree A N mine (rest A N v c) (rest A N v d)
-  rest_agree mine v c d m G = subst (Agree A N mine (rest A N v c))
-      (λ i. released A N v d (sym (G.engager v m) i) (sym (out_idle_agree mine v c d m G) i))
-      (released_agree mine v c d (c.engager v) (out_idle A N v c) G)
-
-  pub settle_agree : (mine : ℕ → Bool) (v : ℕ) (c d : CoreState V) → mine v ≡ true → Agree A N mine c d → Agree A N mine (settle A N v c) (settle A N v d)
-  settle_agree mine v c d m G = rest_agree mine v (pump A N v c) (pump A N v d) m (pump_agree mine v c d m G)
-
   pub freed_agree : (mine : ℕ → Bool) (a : ℕ) (c d : CoreState V) → Agree A N mine c d → Agree A N mine (freed A N a c) (freed A N a d)
   freed_agree mine a c d G = record {
     label = G.label;
@@ -107,22 +82,6 @@ module _ {V : Type 0} (A : Algebra V) (N : Network) where
     told = G.told;
     idle = λ b h. put_idle_agree d.token c.token a Idle Idle b refl (λ _. G.idle b h);
   }
-
-  -- what a part does with an item, whatever its own tokens say of an arc from another shard
-  abbrev pub take_message : ℕ → V → CoreState V → CoreState V
-  take_message a x d = settle A N (N.head a) (arrive A N a x d)
-
-  pub message_local : (mine : ℕ → Bool) (a : ℕ) (x : V) (c d : CoreState V) → mine (N.head a) ≡ true → c.token a ≡ Message x → Agree A N mine c d → Agree A N mine (step A N c (Deliver a)) (take_message a x d)
-  message_local mine a x c d m q G = subst (λ t. Agree A N mine (delivered A N a c t) (take_message a x d)) (sym q)
-      (settle_agree mine (N.head a) (arrive A N a x c) (arrive A N a x d) m (arrive_agree mine a x c d m G))
-
-  pub signal_local : (mine : ℕ → Bool) (a : ℕ) (c d : CoreState V) → mine (N.tail a) ≡ true → c.token a ≡ Signal → Agree A N mine c d → Agree A N mine (step A N c (Accept a)) (settle_tail A N a (N.tail a) (freed A N a d))
-  signal_local mine a c d m q G = subst (λ t. Agree A N mine (accepted A N a c t) (settle_tail A N a (N.tail a) (freed A N a d))) (sym q)
-      (go a)
-    where
-      go : (k : ℕ) → Agree A N mine (settle_tail A N k (N.tail a) (freed A N a c)) (settle_tail A N k (N.tail a) (freed A N a d))
-      go zero = freed_agree mine a c d G
-      go (suc k) = settle_agree mine (N.tail a) (freed A N a c) (freed A N a d) m (freed_agree mine a c d G)
 
   -- frame
 
@@ -148,8 +107,8 @@ module _ {V : Type 0} (A : Algebra V) (N : Network) where
   pump_frame other v c f = record {
     label = λ u h. refl;
     engager = λ u h. refl;
-    told = λ b h. cond-false _ _ _ (not_due v c b (apart other (N.tail b) v f h));
-    idle = λ b h. ap is_idle (cond-false _ _ _ (not_due v c b (apart other (N.tail b) v f h)));
+    told = λ b h. cond-false _ _ _ (not_due A N v c b (apart other (N.tail b) v f h));
+    idle = λ b h. ap is_idle (cond-false _ _ _ (not_due A N v c b (apart other (N.tail b) v f h)));
   }
 
   released_frame : (other : ℕ → Bool) (v : ℕ) (c : CoreState V) (o : Option ℕ) (t : Bool) → other v ≡ false → ((e : ℕ) → o ≡ Some e → c.token e ≡ Held) → Agree A N other c (released A N v c o t)

@@ -117,18 +117,6 @@ sent_sized t a i i2 v j x y token label z p q h m w b n r e =
           (omega (arith, h, m, long)) (let read = reads t.busy j v y q (omega (arith, m, long)) r in omega (arith, e, same, read)) z.counted);
     }
 
--- an arc is told, and that alone
-pub told_sized : {S V : Type 0} (t : CoreView S V) (i : ℕ) (label : Option V) → IsSized t → IsSized (record t { told = set t.told i label })
-told_sized t i label z = record {
-  question = z.question;
-  labels = z.labels;
-  engagers = z.engagers;
-  tokens = z.tokens;
-  told = length-set t.told i label ∙ z.told;
-  busy = z.busy;
-  counted = z.counted;
-}
-
 -- places in the tables
 pub label_place : {S V : Type 0} (t old : CoreView S V) (v : ℕ) → t ≡ old → IsSized t → v ≤ old.problem.roads.vertices → v < length t.labels
 label_place t old v e z h = let m = vertex_seen t old v e h in let l = z.labels in omega (arith, m, l)

@@ -1,6 +1,6 @@
 -- A write to a table changes the state's function at one place.
 use Rattle.std.proofs.Common.{◌≡◌, ℕ, ◌<◌, Bool, true, false, not, ◌&&◌, eq-eqb, Option, Some, None, List, length, get_or, set, refl, sym, ap, ◌∙◌, inl, inr, get_or-set_same, get_or-set_other}
-use Rattle.std.proofs.lemmas.Bool.{cases_eq, cases_lt, cond-true, cond-false, and_parts}
+use Rattle.std.proofs.lemmas.Bool.{cases_eq, cases_lt, cond-true, cond-false}
 use Rattle.std.proofs.lemmas.List.{get_or_past, get_or_default}
 use Rattle.path_algebra.specs.Algebra.{Algebra}
 use Rattle.scholten_core.specs.declared.token.Token.{Token}
@@ -40,9 +40,6 @@ pub token_written : {S V : Type 0} (t : CoreView S V) (a : ℕ) (x : Token V) �
 token_written t a x l = ap (λ f. record (state_of t) { token = f }) (put_set t.tokens a x Idle l)
 
 module _ {V : Type 0} (A : Algebra V) (N : Network) where
-  pub no_engager_leaves : (v : ℕ) (c : CoreState V) → c.engager v ≡ None → c ≡ rest A N v c
-  no_engager_leaves v c q = ap (λ o. released A N v c o (out_idle A N v c)) (sym q)
-
   pub busy_leaves : (v : ℕ) (c : CoreState V) → out_idle A N v c ≡ false → c ≡ rest A N v c
   busy_leaves v c out = go (c.engager v) ∙ ap (λ b. released A N v c (c.engager v) b) (sym out)
     where
@@ -60,9 +57,6 @@ module _ {V : Type 0} (A : Algebra V) (N : Network) where
 
   pub due_else : (c : CoreState V) (v b : ℕ) → N.tail b ≡ v → is_idle (c.token b) ≡ false → false ≡ is_due A N v c b
   due_else c v b e i = (λ k. sym i k && not (same_label A (c.told b) (c.label v))) ∙ sym (due_reads c v b e)
-
-  pub due_idle : (c : CoreState V) (v b : ℕ) → N.tail b ≡ v → is_due A N v c b ≡ true → is_idle (c.token b) ≡ true
-  due_idle c v b e d = (and_parts (is_idle (c.token b)) (not (same_label A (c.told b) (c.label v))) (sym (due_reads c v b e) ∙ d)).0
 
   pub not_due_leaves : (c : CoreState V) (v b : ℕ) → is_due A N v c b ≡ false → c ≡ pump_one A N v b c
   not_due_leaves c v b q =

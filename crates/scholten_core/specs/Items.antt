@@ -52,15 +52,3 @@ module _ {V : Type 0} (A : Algebra V) (N : Network) where
   -- what an event does at one arc: nothing, or the arc's new items where it had none
   abbrev pub Makes : ℕ → Token V → Token V → List (Item V) → Type 0
   Makes b t u is = ((u ≡ t) × (is ≡ [])) ⊎ ((item_of b t ≡ []) × (is ≡ item_of b u))
-
-  -- what one part's lists may become
-  abbrev pub Moves : List (Item V) → List (Item V) → CoreState V → CoreState V → Type 0
-  Moves own new c d = (b : ℕ) → ((d.token b ≡ c.token b) × (at b new ≡ at b own)) ⊎ ((at b own ≡ item_of b (c.token b)) × (at b new ≡ item_of b (d.token b)))
-
-  -- its items are items of c, no arc twice
-  abbrev pub HoldsItems : List (Item V) → CoreState V → Type 0
-  HoldsItems own c = (b : ℕ) → (at b own ≡ []) ⊎ (at b own ≡ item_of b (c.token b))
-
-  -- every message and signal of c stands exactly once, and nothing else stands there
-  abbrev pub ShowsItems : List (Item V) → CoreState V → Type 0
-  ShowsItems all c = (b : ℕ) → at b all ≡ item_of b (c.token b)

@@ -6,6 +6,6 @@ pub mod Rooted
 pub mod Accounts
 pub mod Shares
 pub mod Items
-pub mod Told
+pub mod IdleIsTold
 pub mod Reached
 pub mod CoreView

@@ -8,13 +8,11 @@ mod moves;
 mod opening;
 mod pumping;
 
+use crate::arcs::{head_of, tail_of};
 use crate::token::Token;
 use path_algebra::PathAlgebra;
 use road_graph::{ArcNo, Graph, Vertex};
 use std::marker::Model;
-
-/// The arc from the environment to the source.
-pub const ENTRY: ArcNo = ArcNo(0);
 
 /// The tables, with a place in front for the environment and for arc 0.
 #[derive(Drop)]
@@ -99,11 +97,7 @@ impl<'g, A: PathAlgebra> Desk<'g, A> {
         ensures tail { result ≡ (network_of self.now).tail a }
         ensures within { result ≤ self.now.problem.roads.vertices }
     {
-        if a == ENTRY {
-            Vertex(0)
-        } else {
-            self.graph.arc(a).tail
-        }
+        tail_of(self.graph, a)
     }
 
     /// The vertex that an arc enters.
@@ -112,11 +106,7 @@ impl<'g, A: PathAlgebra> Desk<'g, A> {
         ensures head { result ≡ (network_of self.now).head a }
         ensures within { result ≤ self.now.problem.roads.vertices }
     {
-        if a == ENTRY {
-            self.source
-        } else {
-            self.graph.arc(a).head
-        }
+        head_of(self.graph, self.source, a)
     }
 
     /// The weight of an arc of the graph.

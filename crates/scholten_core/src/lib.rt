@@ -5,6 +5,7 @@
 //! question has ended, and each label is the best value of a walk. An event costs the arcs that it sends along.
 #![tactic(auto)]
 
+mod arcs;
 mod desk;
 mod event;
 mod idle;
@@ -14,6 +15,7 @@ mod running;
 mod token;
 mod values;
 
+pub use arcs::{ENTRY, head_of, tail_of};
 pub use event::Event;
 pub use item::Item;
 pub use laws::{
@@ -22,3 +24,4 @@ pub use laws::{
 };
 pub use running::{Core, NoMessage, NoSignal};
 pub use token::Token;
+pub use values::{extended, improves, is_same};

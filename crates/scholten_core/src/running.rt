@@ -11,7 +11,8 @@ ghost use Rattle.scholten_core.specs.Rooted.{IsRooted};
 ghost use Rattle.scholten_core.specs.Reached.{IsReached, LabelsAreBest};
 ghost use Rattle.scholten_core.specs.CoreView.{state_of, network_of};
 
-use crate::desk::{Desk, ENTRY};
+use crate::arcs::ENTRY;
+use crate::desk::Desk;
 use crate::event::Event;
 use crate::token::Token;
 use path_algebra::{PathAlgebra, laws_hold};

@@ -16,7 +16,7 @@ use Rattle.shard_part.specs.PartState.{PartData, Setup, network_in, place_in, to
 use Rattle.shard_part.specs.Exchange.{FitsAlone}
 use Rattle.shard_part.proofs.Weights.{total_append}
 use Rattle.shard_part.proofs.Room.{queue_fits, arc_once, message_free, signal_busy}
-use Rattle.shard_part.proofs.Taking.{front_stands}
+use Rattle.shard_part.proofs.TakenIsEvent.{front_stands}
 use Rattle.shard_part.specs.Arriving.{MadeAt, joined, MayReceive}
 
 is_message : {V : Type 0} (b : ℕ) (k : Token V) (x : V) → item_of b k ≡ MessageOn b x ∷ [] → k ≡ Message x

@@ -5,10 +5,19 @@ use Rattle.path_algebra.specs.Algebra.{Algebra}
 use Rattle.scholten_core.specs.Network.{Network}
 use Rattle.scholten_core.specs.Diffusion.{Listed}
 use Rattle.shard_part.specs.PartState.{arcs_from}
+use Rattle.road_graph.specs.Roads.{IsAscendingFrom}
 
 abbrev pub Ascends : ℕ → List ℕ → Type 0
 Ascends k [] = Unit {0}
 Ascends k (x ∷ xs) = (k ≤ x) × Ascends (suc x) xs
+
+pub rising : (low : ℕ) (xs : List ℕ) → IsAscendingFrom low xs → Ascends (suc low) xs
+rising low [] h = tt
+rising low (x ∷ xs) h = ((let l = h.0 in omega (arith, l)), rising x xs h.1)
+
+pub from_none : (k : ℕ) (xs : List ℕ) → Ascends (suc k) xs → Ascends k xs
+from_none k [] h = tt
+from_none k (x ∷ xs) h = ((let l = h.0 in omega (arith, l)), h.1)
 
 module _ {V : Type 0} (A : Algebra V) (N : Network) where
   least : (k : ℕ) (xs : List ℕ) (b : ℕ) → Ascends k xs → Listed A N b xs → k ≤ b

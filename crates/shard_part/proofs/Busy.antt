@@ -11,14 +11,14 @@ use Rattle.scholten_core.specs.Deficit.{busy_out}
 use Rattle.shard_part.specs.PartState.{PartData, state_in, token_if, network_in, place_in, own_in, arcs_out, is, engages, idles, part_weight, IsSound, IsClear}
 use Rattle.shard_part.specs.Desk.{Rows, IsCounted, IsDesk, IsPlace, IsRow}
 use Rattle.shard_part.proofs.Weights.{sum_at, sum_below_same}
-use Rattle.shard_part.proofs.Alone.{if_most}
 use Rattle.shard_part.proofs.Spread.{table_write, table_long}
 use Rattle.shard_part.proofs.Places.{own_apart, own_placed}
 use Rattle.shard_part.proofs.Moves.{place_at, row_at, arc_below, apart}
+use Rattle.scholten_core.proofs.Sums.{one_if-most}
 
 pub busy_most : {V : Type 0} (N : Network) (v : ℕ) (d : CoreState V) (n : ℕ) → busy_out N v d n ≤ n
 busy_most N v d zero = omega arith
-busy_most N v d (suc n) = let r = busy_most N v d n in let m = if_most (eqb (N.tail n) v && not (is_idle (d.token n))) in omega (arith, r, m)
+busy_most N v d (suc n) = let r = busy_most N v d n in let m = one_if-most (eqb (N.tail n) v && not (is_idle (d.token n))) in omega (arith, r, m)
 
 and_false : (t : Bool) → one_if (t && false) ≡ 0
 and_false true = refl
@@ -93,7 +93,7 @@ module _ {S V : Type 0} where
   free_sound p a D l z = record {
     once = λ b. (let o = D.once b in elim (idles_then p a false b l) [
       | inr k ↦ (let w = k.1 in omega (arith, o, w))
-      | inl k ↦ (let w = k.1 in let m = if_most (eqb (place_in p.setup ((network_in p.setup).tail b)) p.shard && true) in
+      | inl k ↦ (let w = k.1 in let m = one_if-most (eqb (place_in p.setup ((network_in p.setup).tail b)) p.shard && true) in
           let z2 : part_weight (λ _ i. is b (item_arc i)) p + engages (network_in p.setup) (place_in p.setup) p.shard (state_in p) b + idles (network_in p.setup) (place_in p.setup) p.shard (state_in p) b ≡ 0 =
           subst (λ c. part_weight (λ _ i. is c (item_arc i)) p + engages (network_in p.setup) (place_in p.setup) p.shard (state_in p) c + idles (network_in p.setup) (place_in p.setup) p.shard (state_in p) c ≡ 0) (sym k.0) z in
           omega (arith, w, m, z2))

@@ -3,11 +3,9 @@ use Rattle.std.proofs.Common.{◌≡◌, ℕ, zero, suc, ◌+◌, ◌<◌, ◌�
 use Rattle.std.proofs.lemmas.Bool.{cases_eq, cases_lt, cases_Bool, cond-true, cond-false}
 use Rattle.scholten_core.specs.Network.{Network}
 use Rattle.scholten_core.specs.Sums.{sum_below, one_if}
-use Rattle.scholten_core.proofs.Counts.{sum_add}
 use Rattle.shard_part.specs.Tables.{placed}
 use Rattle.shard_part.specs.PartState.{total, arcs_from, outgoing, arcs_out}
-use Rattle.shard_part.proofs.Weights.{sum_at, sum_zero}
-use Rattle.shard_part.proofs.Room.{sum_most}
+use Rattle.scholten_core.proofs.Sums.{sum_zero, sum_ones, sum_add, sum_most, sum_at}
 
 module _ {X : Type 0} (f : X → ℕ) where
   -- one more of a list
@@ -85,10 +83,6 @@ total_out N f v = let p = total_arcs N f v 0 (suc N.arcs) in
 cond_most : (b : Bool) (x : ℕ) → cond b x 0 ≤ x
 cond_most true x = omega arith
 cond_most false x = omega arith
-
-pub sum_ones : (n : ℕ) → sum_below (λ b. 1) n ≡ n
-sum_ones zero = refl
-sum_ones (suc n) = let p = sum_ones n in omega (arith, p)
 
 -- no list of arcs is longer than there are arcs
 pub out_most : (N : Network) (v : ℕ) → length (outgoing N v) ≤ suc N.arcs

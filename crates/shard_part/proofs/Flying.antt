@@ -16,7 +16,7 @@ use Rattle.scholten_core.proofs.Basics.{put-same, put-other}
 use Rattle.scholten_core.proofs.Kept.{Kept, step_kept}
 use Rattle.scholten_core.proofs.Items.{at-nil, message_makes, signal_makes}
 use Rattle.shard_part.proofs.Weights.{sum_at, total_by_arc}
-use Rattle.scholten_core.proofs.Counts.{sum_add}
+use Rattle.scholten_core.proofs.Sums.{sum_add}
 
 module _ {V : Type 0} (A : Algebra V) (N : Network) where
   -- arcs past the last are idle

@@ -1,9 +1,8 @@
 -- What the graph and the plan say of the network's arcs and places.
 use Rattle.std.proofs.Common.{◌≡◌, ◌≢◌, ℕ, zero, suc, ◌+◌, ◌-◌, ◌<◌, ◌≤◌, List, [], ◌∷◌, length, get_or, take, ◌⊎◌, refl, sym, ap, ◌∙◌, subst, inl, inr, arith}
-use Rattle.std.proofs.lemmas.Bool.{cases_eq}
 use Rattle.std.proofs.lemmas.List.{get_or_read, get_or-map, length-map}
 use Rattle.path_algebra.specs.Algebra.{Algebra}
-use Rattle.road_graph.specs.Roads.{Roads, IsRoads, HasVertex, HasArc, ListsArcsFrom, ListsRoadsFrom, IsAscendingFrom, arc_of, road_of, roads_of}
+use Rattle.road_graph.specs.Roads.{Roads, IsRoads, HasVertex, HasArc, ListsArcsFrom, ListsRoadsFrom, arc_of, road_of, roads_of}
 use Rattle.road_graph.specs.declared.OutRoad.{OutRoad}
 use Rattle.scholten_core.specs.Network.{Network, network}
 use Rattle.scholten_core.specs.Diffusion.{Listed}
@@ -12,8 +11,9 @@ use Rattle.shard_part.specs.Plans.{shard_in, HasPlanned}
 use Rattle.shard_part.specs.PartState.{Setup, PartData, network_in, place_in, outgoing, IsArc, own_in, arcs_out}
 use Rattle.shard_part.specs.Desk.{Rows, IsDesk, IsPlace, IsRow}
 use Rattle.shard_part.specs.Tables.{Rises, StandsIn}
-use Rattle.shard_part.proofs.Ascending.{Ascends, arcs_are}
-use Rattle.shard_part.proofs.Places.{outgoing_picked, arc_at_place, own_rises, own_all}
+use Rattle.shard_part.proofs.Ascending.{arcs_are, rising, from_none}
+use Rattle.shard_part.proofs.Places.{arc_at_place, own_rises, own_all}
+use Rattle.std.proofs.lemmas.Bool.{cases_eq}
 
 module _ {V : Type 0} (A : Algebra V) (N : Network) where
   pub listed_in : (b : ℕ) (xs : List ℕ) → Listed A N b xs → (j : ℕ) × (j < length xs) × (get_or xs j 0 ≡ b)
@@ -27,14 +27,6 @@ module _ {V : Type 0} (A : Algebra V) (N : Network) where
   in_listed b [] j l e = absurd (omega arith)
   in_listed b (x ∷ xs) zero l e = inl (sym e)
   in_listed b (x ∷ xs) (suc j) l e = inr (in_listed b xs j (omega arith) e)
-
-rising : (low : ℕ) (xs : List ℕ) → IsAscendingFrom low xs → Ascends (suc low) xs
-rising low [] h = tt
-rising low (x ∷ xs) h = ((let l = h.0 in omega (arith, l)), rising x xs h.1)
-
-from_none : (k : ℕ) (xs : List ℕ) → Ascends (suc k) xs → Ascends k xs
-from_none k [] h = tt
-from_none k (x ∷ xs) h = ((let l = h.0 in omega (arith, l)), h.1)
 
 -- the graph's list of the arcs out of v is the one list
 pub out_is : {V : Type 0} (A : Algebra V) (g : Roads) (s v : ℕ) (xs : List ℕ) → 1 ≤ v → ListsArcsFrom g v xs → xs ≡ outgoing (network g s) v
@@ -53,19 +45,6 @@ road_is g s v k b rs d e l h = (
   (let z = ap (λ (ys : List OutRoad). length ys) e in let y = length-map (outgoing (network g s) v) (λ a. road_of (arc_of g a)) in omega (arith, z, y, l)),
   ap (λ ys. get_or ys k d) e ∙ get_or-map (λ a. road_of (arc_of g a)) (outgoing (network g s) v) k 0 d l ∙ ap (λ a. road_of (arc_of g a)) h,
 )
-
--- the environment's arc stands alone
-pub entry_first : (g : Roads) (s : ℕ) → (0 < length (outgoing (network g s) 0)) × (get_or (outgoing (network g s) 0) 0 0 ≡ 0)
-entry_first g s =
-    let P = outgoing_picked (network g s) 0 in
-    let r = P.all 0 (tail-entry g) (omega arith) (omega arith) in
-    let l : 0 < length (outgoing (network g s) 0) = (let z = r.1 in omega (arith, z)) in (
-      l,
-      elim (cases_eq r.0 0) [
-        | inl e ↦ ap (λ i. get_or (outgoing (network g s) 0) i 0) (sym e) ∙ r.2
-        | inr ne ↦ absurd (let h = P.rises 0 r.0 (omega (arith, ne)) r.1 in let e = r.2 in omega (arith, h, e))
-      ],
-    )
 
 module _ {S : Type 0} (t : Setup S) where
   pub place_vertex : (v : ℕ) → 1 ≤ v → place_in t v ≡ shard_in t.plan v
@@ -134,23 +113,18 @@ module _ {S V : Type 0} where
   pub arc_in_graph : (p old : PartData S V) (r : Rows V) (n : ℕ) (ns : List ℕ) (a : ℕ) → p ≡ old → IsDesk p r n ns → IsArc (network_in old.setup) a → a ≢ 0 → HasArc p.setup.roads a
   arc_in_graph p old r n ns a e D h nz = graph_arc p.setup a nz (subst (λ (u : PartData S V). IsArc (network_in u.setup) a) (sym e) h)
 
-  pub head_entry_is : (p old : PartData S V) (a : ℕ) → p ≡ old → a ≡ 0 → p.setup.source ≡ (network_in old.setup).head a
-  head_entry_is p old a e z = sym (head-entry p.setup.roads p.setup.source) ∙ (λ i. (network_in (e i).setup).head (sym z i))
+  -- an arc is the environment's, or one of the graph's
+  pub arc_within : (p old : PartData S V) (a : ℕ) → p ≡ old → IsArc (network_in old.setup) a → a ≤ length p.setup.roads.arcs
+  arc_within p old a e h = elim (cases_eq a 0) [
+    | inl z ↦ (omega (arith, z))
+    | inr n ↦ (graph_arc p.setup a n (subst (λ (u : PartData S V). IsArc (network_in u.setup) a) (sym e) h)).1
+  ]
 
   pub head_arc_is : (p old : PartData S V) (r : Rows V) (n : ℕ) (ns : List ℕ) (a : ℕ) → p ≡ old → IsDesk p r n ns → IsArc (network_in old.setup) a → a ≢ 0 →
       ((arc_of p.setup.roads a).head ≡ (network_in old.setup).head a) × (1 ≤ (arc_of p.setup.roads a).head) × ((arc_of p.setup.roads a).head ≤ old.setup.roads.vertices)
   head_arc_is p old r n ns a e D h nz =
       let g = arc_in_graph p old r n ns a e D h nz in let j = (D.planned.roads.ends a g).1 in
       (sym (head-arc p.setup.roads p.setup.source a g.0) ∙ ap (λ (u : PartData S V). (network_in u.setup).head a) e, j.0, subst (λ (u : PartData S V). (arc_of p.setup.roads a).head ≤ u.setup.roads.vertices) e j.1)
-
-  pub tail_entry_is : (p old : PartData S V) (a : ℕ) → p ≡ old → a ≡ 0 → 0 ≡ (network_in old.setup).tail a
-  tail_entry_is p old a e z = sym (tail-entry p.setup.roads) ∙ (λ i. (network_in (e i).setup).tail (sym z i))
-
-  pub tail_arc_is : (p old : PartData S V) (r : Rows V) (n : ℕ) (ns : List ℕ) (a : ℕ) → p ≡ old → IsDesk p r n ns → IsArc (network_in old.setup) a → a ≢ 0 →
-      ((arc_of p.setup.roads a).tail ≡ (network_in old.setup).tail a) × (1 ≤ (arc_of p.setup.roads a).tail) × ((arc_of p.setup.roads a).tail ≤ old.setup.roads.vertices)
-  tail_arc_is p old r n ns a e D h nz =
-      let g = arc_in_graph p old r n ns a e D h nz in let j = (D.planned.roads.ends a g).0 in
-      (sym (tail-arc p.setup.roads a g.0) ∙ ap (λ (u : PartData S V). (network_in u.setup).tail a) e, j.0, subst (λ (u : PartData S V). (arc_of p.setup.roads a).tail ≤ u.setup.roads.vertices) e j.1)
 
   -- the head of an arc, as the graph tells it
   pub head_told : (p old : PartData S V) (r : Rows V) (n : ℕ) (ns : List ℕ) (b w : ℕ) → p ≡ old → IsDesk p r n ns → IsArc (network_in old.setup) b → b ≢ 0 → w ≡ (arc_of old.setup.roads b).head →

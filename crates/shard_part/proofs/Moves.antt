@@ -2,23 +2,15 @@
 use Rattle.std.proofs.Common.{◌≡◌, ◌≢◌, ℕ, suc, ◌+◌, ◌<◌, ◌≤◌, Bool, true, false, ◌&&◌, eqb, Option, Some, None, List, length, set, get_or, ◌⊎◌, inl, inr, refl, sym, ap, ◌∙◌, subst, arith, length-set, get_or-set_same, get_or-set_other, eq-eqb, ne_eqb}
 use Rattle.std.proofs.lemmas.Bool.{cases_eq}
 use Rattle.scholten_core.specs.Network.{WellFormed}
-use Rattle.scholten_core.specs.Diffusion.{put}
 use Rattle.scholten_core.specs.Sums.{one_if}
 use Rattle.scholten_core.specs.Items.{item_arc}
-use Rattle.scholten_core.proofs.Basics.{put-at, put-other}
 use Rattle.scholten_core.proofs.Networks.{well_formed}
 use Rattle.shard_part.specs.Tables.{spread, IsApart}
 use Rattle.shard_part.specs.PartState.{PartData, state_in, network_in, place_in, own_in, arcs_out, is, names, engages, idles, part_weight, IsArc, IsSound, IsClear}
 use Rattle.shard_part.specs.Desk.{Rows, IsPlanned, IsDesk, IsPlace, IsRow}
-use Rattle.shard_part.proofs.Alone.{if_most}
 use Rattle.shard_part.proofs.Spread.{table_read, table_write, table_long}
 use Rattle.shard_part.proofs.Places.{own_apart, own_below, own_placed, arcs_apart, arc_owner}
-
-pub put_set : {X : Type 0} (xs : List X) (k : ℕ) (x d : X) → k < length xs → (λ j. get_or (set xs k x) j d) ≡ put (λ j. get_or xs j d) k x
-put_set {X} xs k x d l = λ i j. (elim (cases_eq j k) as (λ _. get_or (set xs k x) j d ≡ put (λ m. get_or xs m d) k x j) [
-  | inl e ↦ ap (λ m. get_or (set xs k x) m d) e ∙ get_or-set_same xs k x d l ∙ sym (put-at (λ m. get_or xs m d) k x j e)
-  | inr n ↦ get_or-set_other xs k j x d n ∙ sym (put-other (λ m. get_or xs m d) k x j n)
-]) i
+use Rattle.scholten_core.proofs.Sums.{one_if-most}
 
 module _ {S V : Type 0} where
   pub formed : (p : PartData S V) (s : ℕ) → IsPlanned p.setup s → WellFormed (network_in p.setup)
@@ -122,7 +114,7 @@ module _ {S V : Type 0} where
           | inl k ↦ (let q = k.1 in elim (cases_eq b a) [
             | inl eb ↦ (let z3 : part_weight (λ _ i. is b (item_arc i)) p + engages (network_in p.setup) (place_in p.setup) p.shard (state_in p) b + idles (network_in p.setup) (place_in p.setup) p.shard (state_in p) b ≡ 0 =
                 subst (λ c. part_weight (λ _ i. is c (item_arc i)) p + engages (network_in p.setup) (place_in p.setup) p.shard (state_in p) c + idles (network_in p.setup) (place_in p.setup) p.shard (state_in p) c ≡ 0) (sym eb) z2 in
-                let m = if_most (eqb (place_in p.setup ((network_in p.setup).head b)) p.shard && names (Some a) b) in omega (arith, q, z3, m))
+                let m = one_if-most (eqb (place_in p.setup ((network_in p.setup).head b)) p.shard && names (Some a) b) in omega (arith, q, z3, m))
             | inr nb ↦ (let f : one_if (eqb (place_in p.setup ((network_in p.setup).head b)) p.shard && names (Some a) b) ≤ 0 = (let m = and_most_right (eqb (place_in p.setup ((network_in p.setup).head b)) p.shard) (eqb b a) in let g = ap one_if (ne_eqb b a nb) in omega (arith, m, g)) in omega (arith, o, q, f))
           ])
         ]);

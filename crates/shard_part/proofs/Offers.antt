@@ -1,6 +1,5 @@
 -- An arc is offered a label: the code's steps are the definition's.
 use Rattle.std.proofs.Common.{◌≡◌, ◌≢◌, ℕ, suc, Bool, true, false, not, ◌&&◌, eqb, Option, Some, None, List, length, set, get_or, refl, sym, ap, ◌∙◌, subst, eq-eqb, ne_eqb}
-use Rattle.std.proofs.lemmas.Bool.{cond-true, cond-false}
 use Rattle.path_algebra.specs.Algebra.{Algebra}
 use Rattle.scholten_core.specs.declared.item.Item.TheVariants.{Signal as SignalOn}
 use Rattle.scholten_core.specs.Diffusion.{is_idle, is_due, same_label, extend_label, out_idle}
@@ -11,10 +10,7 @@ use Rattle.shard_part.specs.PartState.{PartData, state_in, token_if, network_in,
 use Rattle.shard_part.proofs.Graphs.{arc_in_graph}
 use Rattle.shard_part.proofs.Moves.{mine_at}
 use Rattle.scholten_core.proofs.Quick.{out_idle_counted}
-use Rattle.shard_part.specs.Desk.{Rows, IsDesk, IsPlace, with_item, with_message, rested, rested_by, offered}
-
-pub same_read : {V : Type 0} (A : Algebra V) {x y u v : Option V} → x ≡ u → y ≡ v → same_label A x y ≡ same_label A u v
-same_read A p q = λ i. same_label A (p i) (q i)
+use Rattle.shard_part.specs.Desk.{Rows, IsDesk, IsPlace, with_item, rested, rested_by}
 
 module _ {S V : Type 0} (A : Algebra V) where
   pub due_read : (p : PartData S V) (v b : ℕ) (busy same : Bool) → (network_in p.setup).tail b ≡ v → busy ≡ get_or p.busy b false → same ≡ same_label A ((state_in p).told b) ((state_in p).label v) →
@@ -45,15 +41,6 @@ module _ {S V : Type 0} (A : Algebra V) where
       go true false true e = sym e
       go true false false e = sym e
 
-  pub offered_then : (old mid new : PartData S V) (v b : ℕ) (label value : Option V) → is_due A (network_in old.setup) v (state_in old) b ≡ true → label ≡ (state_in old).label v →
-      value ≡ extend_label A ((state_in old).label v) ((network_in old.setup).weight b) → mid ≡ record old { told = set old.told b label } → new ≡ with_message b value mid → new ≡ offered A v b old
-  offered_then old mid new v b label value h l x m w =
-      w ∙ (λ i. with_message b (x i) (m i)) ∙ (λ i. with_message b (extend_label A ((state_in old).label v) ((network_in old.setup).weight b)) (record old { told = set old.told b (l i) }))
-      ∙ sym (cond-true (is_due A (network_in old.setup) v (state_in old) b) (with_message b (extend_label A ((state_in old).label v) ((network_in old.setup).weight b)) (record old { told = set old.told b ((state_in old).label v) })) old h)
-
-  pub offered_not : (old : PartData S V) (v b : ℕ) → is_due A (network_in old.setup) v (state_in old) b ≡ false → old ≡ offered A v b old
-  offered_not old v b h = sym (cond-false (is_due A (network_in old.setup) v (state_in old) b) (with_message b (extend_label A ((state_in old).label v) ((network_in old.setup).weight b)) (record old { told = set old.told b ((state_in old).label v) })) old h)
-
   pub extension_read : (p old : PartData S V) (r : Rows V) (n : ℕ) (ns : List ℕ) (meaning : S → Algebra V) (label x : Option V) (v b w : ℕ) → p ≡ old → IsDesk p r n ns → IsArc (network_in old.setup) b → b ≢ 0 →
       label ≡ (state_in old).label v → w ≡ (arc_of p.setup.roads b).weight → x ≡ extend_label (meaning p.setup.algebra) label w → x ≡ extend_label (meaning old.setup.algebra) ((state_in old).label v) ((network_in old.setup).weight b)
   extension_read p old r n ns meaning label x v b w e D ar nz l y h =
@@ -65,10 +52,6 @@ module _ {S V : Type 0} (A : Algebra V) where
 
   pub still_idle : (p q : PartData S V) (v b : ℕ) (label : Option V) → q ≡ record p { told = set p.told b label } → is_due A (network_in p.setup) v (state_in p) b ≡ true → get_or q.busy b false ≡ false
   still_idle p q v b label e h = ap (λ (u : PartData S V). get_or u.busy b false) e ∙ due_idle p v b h
-
-  -- v rests
-  pub rested_none : (p : PartData S V) (v : ℕ) → (state_in p).engager v ≡ None → p ≡ rested A v p
-  rested_none p v h = (λ i. rested_by v (sym h i) (out_idle A (network_in p.setup) v (state_in p)) p)
 
   pub rested_busy : (p : PartData S V) (v d e : ℕ) → (state_in p).engager v ≡ Some e → d ≡ busy_out (network_in p.setup) v (state_in p) (suc (length p.setup.roads.arcs)) → d ≢ 0 → p ≡ rested A v p
   rested_busy p v d e h k nz =

@@ -19,9 +19,9 @@ use Rattle.shard_part.specs.PartState.{Setup, PartData, network_in, place_in, st
 use Rattle.shard_part.specs.Desk.{Rows, seen_as, IsPlanned, IsCounted, IsDesk}
 use Rattle.shard_part.specs.Opening.{is_first, first_items, opened_part, AreStarts, idle_rows}
 use Rattle.shard_part.proofs.Weights.{sum_at, sum_zero}
-use Rattle.shard_part.proofs.Alone.{if_most}
 use Rattle.shard_part.proofs.Places.{own_apart}
 use Rattle.shard_part.proofs.Graphs.{place_vertex, place_entry}
+use Rattle.scholten_core.proofs.Sums.{one_if-most}
 
 module _ {X : Type 0} where
   pub reads_same : (n : ℕ) (x : X) (j : ℕ) → get_or (replicate n x) j x ≡ x
@@ -144,12 +144,12 @@ module _ {S V : Type 0} (A : Algebra V) (t : Setup S) (s : ℕ) (P : IsPlanned t
       none false = refl
 
       alone : (b : ℕ) (h : Bool) → h ≡ is_first t s → total (λ j. is b (item_arc j)) (first_items A h) + idles (network_in t) (place_in t) s (state_in (opened_part A t s)) b ≤ 1
-      alone b false e = let m = if_most (eqb (place_in t ((network_in t).tail b)) s && is_idle ((state_in (opened_part A t s)).token b)) in omega (arith, m)
+      alone b false e = let m = one_if-most (eqb (place_in t ((network_in t).tail b)) s && is_idle ((state_in (opened_part A t s)).token b)) in omega (arith, m)
       alone b true e = elim (cases_eq b 0) [
         | inl z ↦ (let i : idles (network_in t) (place_in t) s (state_in (opened_part A t s)) b ≡ 0 = ap (λ a. idles (network_in t) (place_in t) s (state_in (opened_part A t s)) a) z
             ∙ ap (λ y. one_if (eqb (place_in t ((network_in t).tail 0)) s && is_idle (token_if {V = V} y))) (entry_token ∙ sym e) ∙ none (eqb (place_in t ((network_in t).tail 0)) s) in
-            let m = if_most (eqb b 0) in omega (arith, i, m))
-        | inr nz ↦ (let m = if_most (eqb (place_in t ((network_in t).tail b)) s && is_idle ((state_in (opened_part A t s)).token b)) in let q = ap one_if (ne_eqb b 0 nz) in omega (arith, m, q))
+            let m = one_if-most (eqb b 0) in omega (arith, i, m))
+        | inr nz ↦ (let m = one_if-most (eqb (place_in t ((network_in t).tail b)) s && is_idle ((state_in (opened_part A t s)).token b)) in let q = ap one_if (ne_eqb b 0 nz) in omega (arith, m, q))
       ]
 
       first_here : (h : Bool) → h ≡ is_first t s → All (λ i. (place_in t (vertex_of (network_in t) i) ≡ s) × IsArc (network_in t) (item_arc i)) (first_items A h)
@@ -208,7 +208,7 @@ module _ {S V : Type 0} (A : Algebra V) (t : Setup S) (s : ℕ) (P : IsPlanned t
           rings = long;
           outs = caps;
         };
-        tallied = ((let m = if_most (is_first t s) in omega (arith, m)), omega arith, omega arith, omega arith);
+        tallied = ((let m = one_if-most (is_first t s) in omega (arith, m)), omega arith, omega arith, omega arith);
       })
 
   -- nor does anything but it in the opening

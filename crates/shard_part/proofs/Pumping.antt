@@ -1,5 +1,5 @@
 -- The arcs out of a vertex are offered its label one after the other.
-use Rattle.std.proofs.Common.{◌≡◌, ◌≢◌, ℕ, zero, suc, ◌+◌, ◌<◌, ◌≤◌, Bool, true, false, cond, Option, Some, None, List, [], ◌∷◌, ◌++◌, length, set, get_or, take, refl, sym, ap, ◌∙◌, subst, arith}
+use Rattle.std.proofs.Common.{◌≡◌, ◌≢◌, ℕ, ◌+◌, ◌<◌, ◌≤◌, Bool, true, false, cond, Option, Some, None, List, [], ◌∷◌, ◌++◌, length, set, get_or, take, refl, sym, ap, ◌∙◌, subst, arith}
 use Rattle.std.proofs.lemmas.List.{get_or_read, take_more, take_all}
 use Rattle.path_algebra.specs.Algebra.{Algebra}
 use Rattle.road_graph.specs.declared.OutRoad.{OutRoad}
@@ -7,7 +7,7 @@ use Rattle.road_graph.specs.Roads.{HasVertex, ListsArcsFrom, ListsRoadsFrom, arc
 use Rattle.scholten_core.specs.Network.{WellFormed}
 use Rattle.scholten_core.specs.Diffusion.{is_due, extend_label, improves}
 use Rattle.shard_part.specs.PartState.{Setup, PartData, state_in, network_in, outgoing, own_in, IsArc}
-use Rattle.shard_part.specs.Desk.{Rows, IsDesk, IsPlace, IsRow, with_message, greeted, labelled, offered, offered_all, rested, with_value, with_free}
+use Rattle.shard_part.specs.Desk.{Rows, IsDesk, IsPlace, IsRow, with_message, greeted, labelled, offered, offered_all, rested, with_value}
 use Rattle.shard_part.specs.Tables.{Rises, StandsIn}
 use Rattle.shard_part.proofs.Graphs.{graph_arc, out_is, roads_are, road_is}
 use Rattle.shard_part.proofs.Moves.{formed}
@@ -79,9 +79,6 @@ module _ {S V : Type 0} (A : Algebra V) where
   pumped_same true v bs p = offered_all_same v bs p
   pumped_same false v bs p = (refl, refl)
 
-  pub free_same : (a b : ℕ) (p q : PartData S V) → q ≡ record p { busy = set p.busy a false } → (q.setup ≡ p.setup) × (q.shard ≡ p.shard)
-  free_same a b p q e = (ap (λ (u : PartData S V). u.setup) e, ap (λ (u : PartData S V). u.shard) e)
-
 module _ {S V : Type 0} where
   pub inside_of : (p q : PartData S V) (v k : ℕ) (xs : List ℕ) → xs ≡ outgoing (network_in p.setup) v → q.setup ≡ p.setup → k < length xs → k < length (outgoing (network_in q.setup) v)
   inside_of p q v k xs e s l = subst (λ (t : Setup S). k < length (outgoing (network_in t) v)) (sym s) (subst (λ ys. k < length ys) e l)
@@ -135,20 +132,6 @@ module _ {S V : Type 0} where
       let q3 : p3 ≡ cond (improves (meaning p.setup.algebra) x ((state_in p).label v)) (offered_all (meaning p.setup.algebra) v (outgoing (network_in p.setup) v) (greeted a v ((state_in p).engager v) (labelled (meaning p.setup.algebra) x v p))) (greeted a v ((state_in p).engager v) (labelled (meaning p.setup.algebra) x v p)) =
       e3 ∙ (λ i. cond (et i) (offered_all (meaning (s2 i).algebra) v (outgoing (network_in (s2 i)) v) (q2 i)) (q2 i)) in
       e4 ∙ (λ i. rested (meaning (s3 i).algebra) v (q3 i)) ∙ ap (λ z. with_value (meaning p.setup.algebra) a x z p) vw
-
-  -- a signal, step by step
-  pub signal_handled : (meaning : S → Algebra V) (p p1 p2 p3 : PartData S V) (a v w : ℕ) → v ≡ w → p1 ≡ record p { busy = set p.busy a false } → a ≢ 0 → p2 ≡ offered (meaning p1.setup.algebra) v a p1 → p3 ≡ rested (meaning p2.setup.algebra) v p2 →
-      p3 ≡ with_free (meaning p.setup.algebra) a w p
-  signal_handled meaning p p1 p2 p3 zero v w vw e1 nz e2 e3 = absurd (nz refl)
-  signal_handled meaning p p1 p2 p3 (suc a) v w vw e1 nz e2 e3 =
-      let s1 : p1.setup ≡ p.setup = ap (λ (u : PartData S V). u.setup) e1 in
-      let s2 : p2.setup ≡ p.setup = ap (λ (u : PartData S V). u.setup) e2 ∙ (offered_same (meaning p1.setup.algebra) v (suc a) p1).0 ∙ s1 in
-      let q2 : p2 ≡ offered (meaning p.setup.algebra) v (suc a) (record p { busy = set p.busy (suc a) false }) = e2 ∙ (λ i. offered (meaning (s1 i).algebra) v (suc a) (e1 i)) in
-      e3 ∙ (λ i. rested (meaning (s2 i).algebra) v (q2 i)) ∙ ap (λ z. with_free (meaning p.setup.algebra) (suc a) z p) vw
-
-  pub entry_handled : (meaning : S → Algebra V) (p p1 : PartData S V) (a w : ℕ) → p1 ≡ record p { busy = set p.busy a false } → a ≡ 0 → p1 ≡ with_free (meaning p.setup.algebra) a w p
-  entry_handled meaning p p1 zero w e z = e
-  entry_handled meaning p p1 (suc a) w e z = absurd (omega (arith, z))
 
   -- the part stays of its shard and setup
   pub message_keeps : (meaning : S → Algebra V) (p p1 p2 p3 : PartData S V) (a v j : ℕ) (x : V) (t : Bool) → p1 ≡ labelled (meaning p.setup.algebra) x v p → p2 ≡ greeted a v ((state_in p1).engager v) p1 →

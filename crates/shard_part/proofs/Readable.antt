@@ -11,7 +11,7 @@ use Rattle.scholten_core.specs.Diffusion.{CoreState}
 use Rattle.scholten_core.specs.Items.{item_arc, item_of}
 use Rattle.shard_part.specs.PartState.{PartData, total, outs_weight, part_weight, mail_weight, at_place, flying, is, ShowsIn, with_shard, outs_places, part_places, parts_places, mail_places, on, place_of_token}
 use Rattle.shard_part.proofs.Weights.{total_append, sum_at, sum_zero}
-use Rattle.shard_part.proofs.Taking.{marks, marks_self, marks_true}
+use Rattle.shard_part.proofs.TakenIsEvent.{marks, marks_self, marks_true}
 
 module _ {V : Type 0} where
   -- a weighing of items at shards, as one of pairs

@@ -18,7 +18,7 @@ use Rattle.shard_part.specs.Readings.{has_ended}
 use Rattle.shard_part.proofs.Weights.{total_append}
 use Rattle.shard_part.proofs.Routed.{outs_none}
 use Rattle.shard_part.proofs.Showing.{all_append}
-use Rattle.shard_part.proofs.Fits.{sound_fits}
+use Rattle.shard_part.proofs.RingsSuffice.{sound_fits}
 use Rattle.shard_part.proofs.Moves.{formed}
 use Rattle.shard_part.proofs.Rings.{map_read, map_write, map_kept, map_long, with_queue, with_outs}
 use Rattle.shard_part.proofs.Opened.{arcs_first}

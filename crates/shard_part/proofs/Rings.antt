@@ -9,7 +9,7 @@ use Rattle.scholten_core.specs.Items.{item_arc}
 use Rattle.shard_part.specs.PartState.{PartData, Lanes, lanes_of, network_in, place_in, vertex_of, maker_of, route, IsArc, IsClear, IsSound, total, is, All}
 use Rattle.shard_part.specs.Desk.{Rows, IsDesk, put_item, IsPopped}
 use Rattle.shard_part.proofs.Sound.{put_sound}
-use Rattle.shard_part.proofs.Fits.{sound_fits, sound_out_fits}
+use Rattle.shard_part.proofs.RingsSuffice.{sound_fits, sound_out_fits}
 use Rattle.shard_part.proofs.Showing.{is_self}
 use Rattle.shard_part.proofs.Moves.{formed}
 
@@ -169,13 +169,6 @@ module _ {S V : Type 0} where
             here = at.0.0;
             clear = (let o = D.sound.once (item_arc i) in let t = ap (total (λ j. is (item_arc i) (item_arc j))) front in let one = is_self (item_arc i) in omega (arith, o, t, one));
           }
-
-  pub nothing_popped : (p old : PartData S V) (r : Rows V) (n : ℕ) (ns : List ℕ) (new : Buffer (Item V)) → p ≡ old → new ≡ buffer (drop 1 p.queue) n → slice_get p.queue 0 ≡ None → (old.queue ≡ []) × (record p { queue = new.items } ≡ old)
-  nothing_popped p old r n ns new e w h = go p.queue refl
-    where
-      go : (xs : List (Item V)) → p.queue ≡ xs → (old.queue ≡ []) × (record p { queue = new.items } ≡ old)
-      go [] q = (ap (λ (u : PartData S V). u.queue) (sym e) ∙ q, (λ k. record p { queue = (ap (λ u. u.items) w ∙ ap (λ ys. drop 1 ys) q ∙ sym q) k }) ∙ e)
-      go (x ∷ xs) q = absurd (let z : Some x ≡ None = sym (ap (λ ys. slice_get ys 0) q) ∙ h in cc)
 
   pub popped_some : (p old : PartData S V) (r : Rows V) (n : ℕ) (ns : List ℕ) (new : Buffer (Item V)) (o : Option (Item V)) → p ≡ old → IsDesk p r n ns → new ≡ buffer (drop 1 p.queue) n → o ≡ slice_get p.queue 0 →
       IfSome o (λ i. IsPopped old (record p { queue = new.items }) i)

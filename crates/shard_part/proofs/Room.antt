@@ -1,6 +1,6 @@
 -- A ring with a place for each arc of its shard, or of its pair of shards, is never too small.
-use Rattle.std.proofs.Common.{◌≡◌, ◌≢◌, ℕ, zero, suc, ◌+◌, ◌≤◌, Bool, true, false, ◌&&◌, ◌||◌, eqb, Some, List, [], ◌∷◌, length, get_or, refl, sym, ap, ◌∙◌, inl, inr, arith, eq-eqb, ne_eqb}
-use Rattle.std.proofs.lemmas.Bool.{cases_eq, and_from}
+use Rattle.std.proofs.Common.{◌≡◌, ◌≢◌, ℕ, zero, suc, ◌+◌, ◌≤◌, Bool, true, false, ◌||◌, eqb, Some, List, [], ◌∷◌, length, get_or, refl, sym, ap, ◌∙◌, inl, inr, arith, ne_eqb}
+use Rattle.std.proofs.lemmas.Bool.{cases_eq}
 use Rattle.scholten_core.specs.declared.token.Token.{Token}
 use Rattle.scholten_core.specs.declared.token.Token.TheVariants.{Idle, Message, Held, Signal}
 use Rattle.scholten_core.specs.declared.item.Item.{Item}
@@ -9,13 +9,10 @@ use Rattle.scholten_core.specs.Network.{Network}
 use Rattle.scholten_core.specs.Diffusion.{CoreState, is_idle}
 use Rattle.scholten_core.specs.Sums.{sum_below, one_if}
 use Rattle.scholten_core.specs.Items.{item_arc, item_of}
-use Rattle.shard_part.specs.PartState.{PartData, state_in, total, outs_weight, part_weight, at_place, is, All, mine, HoldsShare, HoldsTables, touches, queue_room, joins, out_room, maker_of}
+use Rattle.shard_part.specs.PartState.{PartData, state_in, total, outs_weight, part_weight, at_place, is, mine, HoldsShare, HoldsTables, touches, queue_room}
 use Rattle.scholten_core.proofs.Kept.{Kept}
 use Rattle.shard_part.proofs.Showing.{is_self}
-
-pub sum_most : (f g : ℕ → ℕ) (n : ℕ) → ((b : ℕ) → f b ≤ g b) → sum_below f n ≤ sum_below g n
-sum_most f g zero h = omega arith
-sum_most f g (suc n) h = let p = sum_most f g n h in let q = h n in omega (arith, p, q)
+use Rattle.scholten_core.proofs.Sums.{sum_most}
 
 pub sum_none_of : (f : ℕ → ℕ) (a n : ℕ) → n ≤ a → ((b : ℕ) → b ≢ a → f b ≡ 0) → sum_below f n ≡ 0
 sum_none_of f a zero l h = refl
@@ -41,10 +38,6 @@ one_or_right true true = omega arith
 one_or_right true false = omega arith
 one_or_right false t = omega arith
 
-pub all_one : {X : Type 0} (f : X → ℕ) (xs : List X) → All (λ x. f x ≡ 1) xs → total f xs ≡ length xs
-all_one f [] h = refl
-all_one f (x ∷ xs) h = let p = all_one f xs h.1 in let q = h.0 in omega (arith, p, q)
-
 pub each_one : {X : Type 0} (f : X → ℕ) (xs : List X) → ((x : X) → f x ≡ 1) → total f xs ≡ length xs
 each_one f [] h = refl
 each_one f (x ∷ xs) h = let p = each_one f xs h in let q = h x in omega (arith, p, q)
@@ -64,15 +57,6 @@ module _ {V : Type 0} (N : Network) (place : ℕ → ℕ) where
   shard_most s b (Message x) = let p = one_or_left (eqb (place (N.head b)) s) (eqb (place (N.tail b)) s) in omega (arith, p)
   shard_most s b Signal = let p = one_or_right (eqb (place (N.head b)) s) (eqb (place (N.tail b)) s) in omega (arith, p)
 
-  abbrev from_to : ℕ → ℕ → ℕ → Item V → ℕ
-  from_to s t r j = one_if (eqb r t && eqb (place (maker_of N j)) s)
-
-  pair_most : (s t b : ℕ) (k : Token V) → total (at_place N place (from_to s t)) (item_of b k) ≤ joins N place s t b
-  pair_most s t b Idle = omega arith
-  pair_most s t b Held = omega arith
-  pair_most s t b (Message x) = let p = one_or_left (eqb (place (N.head b)) t && eqb (place (N.tail b)) s) (eqb (place (N.tail b)) t && eqb (place (N.head b)) s) in omega (arith, p)
-  pair_most s t b Signal = let p = one_or_right (eqb (place (N.head b)) t && eqb (place (N.tail b)) s) (eqb (place (N.tail b)) t && eqb (place (N.head b)) s) in omega (arith, p)
-
   abbrev pub on_arc : ℕ → ℕ → Item V → ℕ
   on_arc a r j = is a (item_arc j)
 
@@ -84,20 +68,6 @@ module _ {S V : Type 0} (A : Algebra V) (N : Network) (place : ℕ → ℕ) wher
       let n = each_one (at_shard N place p.shard p.shard) p.queue (λ i. is_self p.shard) in
       let m = sum_most (λ b. total (at_place N place (at_shard N place p.shard)) (item_of b (c.token b))) (touches N place p.shard) (suc N.arcs) (λ b. shard_most N place p.shard b (c.token b)) in
       omega (arith, w, n, m)
-
-  -- nor an outbox; that its items were made in the shard is local
-  pub outbox_fits : (c : CoreState V) (p : PartData S V) (t : ℕ) → HoldsShare A N place c p → All (λ i. place (maker_of N i) ≡ p.shard) (get_or p.outs t []) → length (get_or p.outs t []) ≤ out_room N place p.shard t
-  outbox_fits c p t H M =
-      let w = H.weighs (from_to N place p.shard t) in
-      let o = outs_member (from_to N place p.shard t) 0 t p.outs in
-      let z : total (from_to N place p.shard t (0 + t)) (get_or p.outs t []) ≡ total (from_to N place p.shard t t) (get_or p.outs t []) = ap (λ k. total (from_to N place p.shard t k) (get_or p.outs t [])) (let e : 0 + t ≡ t = omega arith in e) in
-      let n = all_one (from_to N place p.shard t t) (get_or p.outs t []) (ones (get_or p.outs t []) M) in
-      let m = sum_most (λ b. total (at_place N place (from_to N place p.shard t)) (item_of b (c.token b))) (joins N place p.shard t) (suc N.arcs) (λ b. pair_most N place p.shard t b (c.token b)) in
-      omega (arith, w, o, z, n, m)
-    where
-      ones : (is : List (Item V)) → All (λ i. place (maker_of N i) ≡ p.shard) is → All (λ i. from_to N place p.shard t t i ≡ 1) is
-      ones [] a = tt
-      ones (i ∷ is) a = (ap one_if (and_from _ _ (eq-eqb t t refl) (eq-eqb (place (maker_of N i)) p.shard a.0)), ones is a.1)
 
   -- no arc twice
   pub arc_once : (c : CoreState V) (p : PartData S V) (a : ℕ) → HoldsShare A N place c p → part_weight (on_arc N place a) p ≤ 1
@@ -124,8 +94,3 @@ module _ {S V : Type 0} (A : Algebra V) (N : Network) (place : ℕ → ℕ) wher
 
   pub signal_busy : (c : CoreState V) (p : PartData S V) (a : ℕ) → HoldsTables A N place c p → c.token a ≡ Signal → mine place p.shard (N.tail a) ≡ true → is_idle ((state_in p).token a) ≡ false
   signal_busy c p a H q m = H.agree.idle a m ∙ ap is_idle q
-
-  -- an arc is held exactly where its head's part names it as engager
-  pub held_named : (c : CoreState V) (p : PartData S V) (a : ℕ) → Kept A N 0 c → HoldsTables A N place c p → mine place p.shard (N.head a) ≡ true →
-      ((c.token a ≡ Held → (state_in p).engager (N.head a) ≡ Some a) × ((state_in p).engager (N.head a) ≡ Some a → c.token a ≡ Held))
-  held_named c p a K H m = ((λ q. H.agree.engager (N.head a) m ∙ K.held_engager a q), (λ e. (K.engager_held (N.head a) a (sym (H.agree.engager (N.head a) m) ∙ e)).0))

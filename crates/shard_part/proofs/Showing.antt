@@ -11,7 +11,7 @@ use Rattle.shard_part.specs.PartState.{Setup, PartData, network_in, place_in, st
 use Rattle.scholten_core.proofs.Kept.{Kept, step_kept}
 use Rattle.shard_part.proofs.Weights.{total_append}
 use Rattle.shard_part.proofs.Routed.{outs_none}
-use Rattle.shard_part.proofs.Taking.{took_event}
+use Rattle.shard_part.proofs.TakenIsEvent.{took_event}
 
 pub all_append : {X : Type 0} (P : X → Type 0) (xs ys : List X) → All P xs → All P ys → All P (xs ++ ys)
 all_append P [] ys p q = q

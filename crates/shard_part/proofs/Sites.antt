@@ -1,11 +1,11 @@
 -- What is counted of a shard before its tables are made.
-use Rattle.std.proofs.Common.{◌≡◌, ◌≢◌, ℕ, suc, ◌+◌, ◌<◌, ◌≤◌, ◌^◌, Bool, true, false, cond, not, eqb, Some, None, List, [], ◌∷◌, ◌++◌, length, length-append, set, get_or, take, replicate, ◌⊎◌, refl, sym, ap, ◌∙◌, subst, inl, inr, arith, eq-eqb, ne_eqb, get_or-set_same, get_or-set_other, length-set}
+use Rattle.std.proofs.Common.{◌≡◌, ◌≢◌, ℕ, suc, ◌+◌, ◌<◌, ◌≤◌, ◌^◌, Bool, true, false, cond, not, eqb, Some, None, List, [], ◌∷◌, ◌++◌, length, length-append, set, get_or, take, refl, sym, ap, ◌∙◌, subst, inl, inr, arith, eq-eqb, ne_eqb, get_or-set_same, get_or-set_other}
 use Rattle.std.proofs.lemmas.Bool.{cases_eq, cases_lt, cond-true, cond-false, false≢true}
-use Rattle.std.proofs.lemmas.List.{get_or_default, get_or_read, get_or_past, get_or_append_left, length-replicate}
+use Rattle.std.proofs.lemmas.List.{get_or_default, get_or_read, get_or_past, get_or_append_left}
 use Rattle.std.proofs.Math.Seq.{get_or-append_seam}
 use Rattle.path_algebra.specs.Algebra.{Algebra}
 use Rattle.path_algebra.specs.declared.name.AlgebraName.TheVariants.{Reach}
-use Rattle.road_graph.specs.Roads.{Roads, HasVertex, HasArc, ListsArcsFrom, ListsArcsInto, IsAscendingFrom, arc_of}
+use Rattle.road_graph.specs.Roads.{Roads, HasVertex, HasArc, ListsArcsFrom, ListsArcsInto, arc_of}
 use Rattle.scholten_core.specs.Network.{Network, network}
 use Rattle.scholten_core.specs.Diffusion.{Listed}
 use Rattle.scholten_core.specs.Sums.{one_if}
@@ -15,13 +15,13 @@ use Rattle.shard_part.specs.Tables.{placed}
 use Rattle.shard_part.specs.PartState.{network_in, place_in, own_in, arcs_out, outgoing, total, is, out_room}
 use Rattle.shard_part.specs.Desk.{IsPlanned}
 use Rattle.shard_part.specs.Opening.{SiteData, question_of, is_first, turned, leading_to, coming_from, CountsOut, CountsInto, CountsAll}
-use Rattle.shard_part.proofs.Ascending.{Ascends, arcs_are}
+use Rattle.shard_part.proofs.Ascending.{arcs_are, rising, from_none}
 use Rattle.shard_part.proofs.Graphs.{listed_in, in_listed, out_is, place_vertex, place_entry}
-use Rattle.shard_part.proofs.Opened.{entry_alone, place_source, reads_same}
+use Rattle.shard_part.proofs.Opened.{entry_alone, place_source}
 use Rattle.shard_part.proofs.Counting.{arcs_out_more, total_whole, total_take, total_most, total_few, out_most, own_arcs_most}
 use Rattle.shard_part.proofs.Places.{own_below, placed_picked}
-use Rattle.shard_part.proofs.Rooms.{seen_at, seen_all, out_room_most}
-use Rattle.shard_part.proofs.Alone.{if_most}
+use Rattle.shard_part.proofs.RoomsByVertex.{seen_at, seen_all, out_room_most}
+use Rattle.scholten_core.proofs.Sums.{one_if-most}
 
 -- lists of arcs are the same under every algebra
 any_algebra : Algebra (Unit {0})
@@ -38,14 +38,6 @@ count_out_zero w old v e D z = sym (ap length (entry_alone w.roads w.source D.ro
 
 pub listed_from : (w old : SiteData) (v : ℕ) (xs : List ℕ) → w ≡ old → 1 ≤ v → ListsArcsFrom w.roads v xs → xs ≡ outgoing (network_in (question_of old)) v
 listed_from w old v xs e l o = out_is any_algebra w.roads w.source v xs l o ∙ ap (λ (u : SiteData). outgoing (network_in (question_of u)) v) e
-
-rising : (low : ℕ) (xs : List ℕ) → IsAscendingFrom low xs → Ascends (suc low) xs
-rising low [] h = tt
-rising low (x ∷ xs) h = ((let l = h.0 in omega (arith, l)), rising x xs h.1)
-
-from_none : (k : ℕ) (xs : List ℕ) → Ascends (suc k) xs → Ascends k xs
-from_none k [] h = tt
-from_none k (x ∷ xs) h = ((let l = h.0 in omega (arith, l)), h.1)
 
 -- an arc of such a list is one of the graph's
 pub arc_from : (g : Roads) (v j : ℕ) (xs : List ℕ) → ListsArcsFrom g v xs → j < length xs → HasArc g (get_or xs j 0) × ((arc_of g (get_or xs j 0)).tail ≡ v)
@@ -122,14 +114,14 @@ seen_most w t i D = let a = seen_whole w t D in let b = total_most (seen_at (net
 
 -- each arc counts once at most
 pub leading_few : (N : Network) (place : ℕ → ℕ) (t : ℕ) (xs : List ℕ) → leading_to N place t xs ≤ length xs
-leading_few N place t xs = total_few (λ b. is t (place (N.head b))) xs (λ b. if_most (eqb t (place (N.head b))))
+leading_few N place t xs = total_few (λ b. is t (place (N.head b))) xs (λ b. one_if-most (eqb t (place (N.head b))))
 
 pub coming_few : (N : Network) (place : ℕ → ℕ) (s t : ℕ) (xs : List ℕ) → coming_from N place s t xs ≤ length xs
 coming_few N place s t xs = total_few (λ b. cond (eqb (place (N.tail b)) s) 0 (is t (place (N.tail b)))) xs (λ b. one (eqb (place (N.tail b)) s) (eqb t (place (N.tail b))))
   where
     one : (z x : Bool) → cond z 0 (one_if x) ≤ 1
     one true x = omega arith
-    one false x = if_most x
+    one false x = one_if-most x
 
 -- what holds of a site, through its view
 pub planned_at : (w old : SiteData) → w ≡ old → IsPlanned (question_of w) w.shard → IsPlanned (question_of old) old.shard
@@ -254,23 +246,6 @@ counted_all w i vs rooms D e l long inv = (
 
 pub counted_none : (w : SiteData) (vs rooms : List ℕ) → ((t : ℕ) → t < w.plan.shards → get_or rooms t 0 ≡ cond (is_first (question_of w) w.shard) (is t w.shard) 0) → CountedSo w 0 vs rooms
 counted_none w vs rooms h t k = let a = h t k in omega (arith, a)
-
--- the counters before anything is counted
-pub first_counts : (w : SiteData) (f : Bool) (zeros rooms : List ℕ) → IsPlanned (question_of w) w.shard → f ≡ is_first (question_of w) w.shard → zeros ≡ replicate w.plan.shards 0 →
-    ((f ≡ true) × (rooms ≡ set zeros w.shard 1)) ⊎ ((f ≡ false) × (rooms ≡ zeros)) → (length rooms ≡ w.plan.shards) × ((t : ℕ) → t < w.plan.shards → get_or rooms t 0 ≡ cond (is_first (question_of w) w.shard) (is t w.shard) 0)
-first_counts w f zeros rooms D h z c =
-    let long : length zeros ≡ w.plan.shards = ap length z ∙ length-replicate w.plan.shards 0 in
-    let reads = λ (t : ℕ). ap (λ xs. get_or xs t 0) z ∙ reads_same w.plan.shards 0 t in
-    elim c [
-      | inl k ↦ (
-        ap length k.1 ∙ length-set zeros w.shard 1 ∙ long,
-        λ t l. ap (λ xs. get_or xs t 0) k.1 ∙ elim (cases_eq t w.shard) [
-          | inl e ↦ ap (λ j. get_or (set zeros w.shard 1) j 0) e ∙ get_or-set_same zeros w.shard 1 0 (let s = D.shard in omega (arith, s, long)) ∙ sym (ap one_if (eq-eqb t w.shard e)) ∙ sym (cond-true (is_first (question_of w) w.shard) (is t w.shard) 0 (sym h ∙ k.0))
-          | inr n ↦ get_or-set_other zeros w.shard t 1 0 n ∙ reads t ∙ sym (ap one_if (ne_eqb t w.shard n)) ∙ sym (cond-true (is_first (question_of w) w.shard) (is t w.shard) 0 (sym h ∙ k.0))
-        ],
-      )
-      | inr k ↦ (ap length k.1 ∙ long, λ t l. ap (λ xs. get_or xs t 0) k.1 ∙ reads t ∙ sym (cond-false {A = ℕ} (is_first (question_of w) w.shard) (is t w.shard) 0 (sym h ∙ k.0)))
-    ]
 
 -- where the arcs begin
 pub starts_few : (w : SiteData) (own : List ℕ) (i : ℕ) → IsPlanned (question_of w) w.shard → own ≡ own_in (question_of w) w.shard → length (arcs_out (network_in (question_of w)) (take i own)) ≤ 2 ^ 27 + 1

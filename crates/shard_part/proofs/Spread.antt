@@ -1,8 +1,7 @@
 -- Values by place, seen by the numbers that they belong to.
-use Rattle.std.proofs.Common.{◌≡◌, ◌≢◌, ℕ, zero, suc, ◌<◌, List, [], ◌∷◌, length, set, get_or, replicate, refl, sym, ap, ◌∙◌, inl, inr, arith, length-set, get_or-set_same, get_or-set_other}
-use Rattle.std.proofs.lemmas.Bool.{cases_lt}
-use Rattle.std.proofs.lemmas.List.{get_or_past, get_or-replicate, length-replicate, get_or_read}
-use Rattle.shard_part.specs.Tables.{spread, IsApart, IsAbsent}
+use Rattle.std.proofs.Common.{◌≡◌, ◌≢◌, ℕ, zero, suc, ◌<◌, List, [], ◌∷◌, length, set, get_or, refl, sym, ap, ◌∙◌, arith, length-set, get_or-set_same, get_or-set_other}
+use Rattle.std.proofs.lemmas.List.{length-replicate, get_or_read}
+use Rattle.shard_part.specs.Tables.{spread, IsApart}
 
 module _ {X : Type 0} where
   pub set_twice : (xs : List X) (k : ℕ) (x y : X) → set (set xs k x) k y ≡ set xs k y
@@ -43,20 +42,6 @@ module _ {X : Type 0} where
   spread_read (k ∷ keys) (y ∷ values) d e n (suc j) a l m b =
       get_or-set_other (spread keys values d n) k (get_or keys j 0) y e (λ z. a 0 (suc j) (omega arith) (omega arith) (sym z))
       ∙ spread_read keys values d e n j (λ i h p q. a (suc i) (suc h) (omega arith) (omega arith)) (omega arith) (omega arith) b
-
-  -- elsewhere nothing stands
-  pub spread_none : (keys : List ℕ) (values : List X) (d : X) (n v : ℕ) → IsAbsent v keys → get_or (spread keys values d n) v d ≡ d
-  unfolding spread
-  spread_none [] values d n v h = elim (cases_lt v n) [
-    | inl l ↦ get_or-replicate n v d d l
-    | inr l ↦ get_or_past (replicate n d) v d (let e = length-replicate n d in omega (arith, e))
-  ]
-  spread_none (k ∷ keys) [] d n v h = elim (cases_lt v n) [
-    | inl l ↦ get_or-replicate n v d d l
-    | inr l ↦ get_or_past (replicate n d) v d (let e = length-replicate n d in omega (arith, e))
-  ]
-  spread_none (k ∷ keys) (y ∷ values) d n v h =
-      get_or-set_other (spread keys values d n) k v y d (λ e. h 0 (omega arith) (sym e)) ∙ spread_none keys values d n v (λ j l. h (suc j) (omega arith))
 
   pub table_read : (keys : List ℕ) (values table : List X) (d : X) (n j k : ℕ) (x : X) → table ≡ spread keys values d n → IsApart keys → j < length keys → length values ≡ length keys → get_or keys j 0 ≡ k → k < n →
       x ≡ get_or values j x → x ≡ get_or table k d

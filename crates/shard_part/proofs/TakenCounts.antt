@@ -15,13 +15,14 @@ use Rattle.scholten_core.specs.Sums.{sum_below, one_if}
 use Rattle.scholten_core.specs.Items.{item_of}
 use Rattle.scholten_core.proofs.Kept.{Kept, step_kept, run_kept}
 use Rattle.scholten_core.proofs.Ended.{opening_kept}
-use Rattle.scholten_core.proofs.Counts.{sum_same, accounts}
+use Rattle.scholten_core.proofs.Counts.{accounts}
 use Rattle.shard_part.specs.Tallies.{counted_on, top}
 use Rattle.shard_part.specs.PartState.{PartData, Setup, network_in, place_in, state_in, total, is_told, is_back, made, flying, part_weight, event_of, TookIn, TookAll, HoldsShare, Holds}
 use Rattle.shard_part.specs.Desk.{IsTallied}
 use Rattle.shard_part.specs.Part.{TookFront, TookMany, IsRunOn}
-use Rattle.shard_part.proofs.Taking.{took_event, took_weighs}
-use Rattle.shard_part.proofs.TakenArcs.{counted_none, counted_more, counted_top}
+use Rattle.shard_part.proofs.TakenIsEvent.{took_event, took_weighs}
+use Rattle.shard_part.proofs.OffersArePumped.{counted_none, counted_more, counted_top}
+use Rattle.scholten_core.proofs.Sums.{sum_same}
 
 module _ {V : Type 0} (N : Network) (place : ℕ → ℕ) where
   -- the messages under way are those that stand, and so are the signals
@@ -161,10 +162,6 @@ module _ {S V : Type 0} (meaning : S → Algebra V) where
   pub took_same : (items : List (Item V)) (p q : PartData S V) → TookAll meaning p items q → (q.setup ≡ p.setup) × (q.shard ≡ p.shard)
   took_same [] p q e = (ap (λ (u : PartData S V). u.setup) (sym e), ap (λ (u : PartData S V). u.shard) (sym e))
   took_same (i ∷ items) p q (m, T, rest) = let r = took_same items m q rest in (r.0 ∙ T.setup, r.1 ∙ T.shard)
-
-  -- no item
-  pub took_none : (p : PartData S V) → TookMany meaning p 0 p
-  took_none p = ([], refl, refl)
 
   -- one item more was taken
   pub took_next : (p m q : PartData S V) (n : ℕ) → TookMany meaning p n m → TookFront meaning m q → TookMany meaning p (n + 1) q

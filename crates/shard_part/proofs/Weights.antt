@@ -1,6 +1,6 @@
 -- Sums over items, by arcs.
-use Rattle.std.proofs.Common.{◌≡◌, ◌≢◌, ℕ, zero, suc, ◌+◌, ◌<◌, ◌≤◌, List, [], ◌∷◌, ◌++◌, refl, sym, ap, ◌∙◌, inl, inr, arith}
-use Rattle.std.proofs.lemmas.Bool.{cases_eq, cases_lt}
+use Rattle.std.proofs.Common.{◌≡◌, ℕ, zero, suc, ◌+◌, ◌<◌, ◌≤◌, List, [], ◌∷◌, ◌++◌, refl, sym, ap, ◌∙◌, inl, inr, arith}
+use Rattle.std.proofs.lemmas.Bool.{cases_lt}
 use Rattle.scholten_core.specs.declared.item.Item.{Item}
 use Rattle.path_algebra.specs.Algebra.{Algebra}
 use Rattle.scholten_core.specs.Network.{Network}
@@ -8,26 +8,11 @@ use Rattle.scholten_core.specs.Sums.{sum_below}
 use Rattle.scholten_core.specs.Items.{item_arc, at}
 use Rattle.shard_part.specs.PartState.{total}
 use Rattle.scholten_core.proofs.Items.{at-first, at-skip, at-nil}
+pub use Rattle.scholten_core.proofs.Sums.{sum_below_same, sum_at, sum_zero}
 
 pub total_append : {X : Type 0} (f : X → ℕ) (xs ys : List X) → total f (xs ++ ys) ≡ total f xs + total f ys
 total_append f [] ys = omega arith
 total_append f (x ∷ xs) ys = let p = total_append f xs ys in omega (arith, p)
-
-pub sum_below_same : (f g : ℕ → ℕ) (n : ℕ) → ((k : ℕ) → k < n → f k ≡ g k) → sum_below f n ≡ sum_below g n
-sum_below_same f g zero e = refl
-sum_below_same f g (suc n) e = let p = sum_below_same f g n (λ k h. e k (omega (arith, h))) in let q = e n (omega arith) in omega (arith, p, q)
-
--- the sums differ by what stands at k
-pub sum_at : (f g : ℕ → ℕ) (k n : ℕ) → k < n → ((j : ℕ) → j ≢ k → f j ≡ g j) → sum_below f n + g k ≡ sum_below g n + f k
-sum_at f g k zero h e = absurd (omega (arith, h))
-sum_at f g k (suc n) h e = elim (cases_eq k n) [
-  | inl same ↦ (let p = sum_below_same f g n (λ j l. e j (λ q. omega (arith, q, l, same))) in let q : f n ≡ f k = ap f (sym same) in let r : g n ≡ g k = ap g (sym same) in omega (arith, p, q, r))
-  | inr ne ↦ (let p = sum_at f g k n (omega (arith, h, ne)) e in let q = e n (λ s. ne (sym s)) in omega (arith, p, q))
-]
-
-pub sum_zero : (f : ℕ → ℕ) (n : ℕ) → ((k : ℕ) → f k ≡ 0) → sum_below f n ≡ 0
-sum_zero f zero e = refl
-sum_zero f (suc n) e = let p = sum_zero f n e in let q = e n in omega (arith, p, q)
 
 -- where a sum is more than 0, so is one of its members
 pub sum_member : (f : ℕ → ℕ) (n : ℕ) → 0 < sum_below f n → (k : ℕ) × (k < n) × (0 < f k)

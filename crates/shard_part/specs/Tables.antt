@@ -11,10 +11,6 @@ spread (k ∷ keys) (x ∷ values) none n = set (spread keys values none n) k x
 abbrev pub IsApart : List ℕ → Type 0
 IsApart keys = (i j : ℕ) → i < j → j < length keys → get_or keys i 0 ≢ get_or keys j 0
 
--- no key is v
-abbrev pub IsAbsent : ℕ → List ℕ → Type 0
-IsAbsent v keys = (j : ℕ) → j < length keys → get_or keys j 0 ≢ v
-
 -- of the numbers k, k + 1, .., k + n - 1, those at the place s
 unfoldable pub placed : (ℕ → ℕ) → ℕ → ℕ → ℕ → List ℕ
 placed place s k zero = []

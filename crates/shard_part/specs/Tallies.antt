@@ -1,5 +1,5 @@
 -- Counters that stop at their top.
-use Rattle.std.specs.Prelude.{ℕ, ◌+◌, ◌-◌, ◌^◌, min, leb, false, ◌||◌}
+use Rattle.std.specs.Prelude.{ℕ, ◌+◌, ◌-◌, ◌^◌, min, leb, ◌||◌}
 use Rattle.scholten_core.specs.Accounts.{Totals}
 use Rattle.shard_part.specs.declared.tally.Tally.{Tally}
 
@@ -22,9 +22,6 @@ more_signalled k t = record { sent = t.sent; delivered = t.delivered; signalled 
 
 abbrev pub more_accepted : ℕ → Tally → Tally
 more_accepted k t = record { sent = t.sent; delivered = t.delivered; signalled = t.signalled; accepted = counted_on k t.accepted; full = t.full || leb top (t.accepted + k) }
-
-abbrev pub no_events : Tally
-no_events = record { sent = 0; delivered = 0; signalled = 0; accepted = 0; full = false }
 
 -- the counts of both: each counter of the sum, and full where one of them is, or was
 abbrev pub together : Tally → Tally → Tally

@@ -1,7 +1,7 @@
 ghost use Rattle.std.specs.Prelude.{◌≡◌, ◌≢◌, ℕ, suc, ◌+◌, ◌<◌, ◌≤◌, [], ◌∷◌, length, get_or, set, Option, Some, None, IfSome, IsTrue, IsFalse, ◌↔◌, true, false, cond, eqb, not, ◌&&◌};
 ghost use Rattle.road_graph.specs.Roads.{HasVertex, arc_of, road_of};
 ghost use Rattle.scholten_core.specs.declared.item.Item.TheVariants.{Signal as SignalOn};
-ghost use Rattle.scholten_core.specs.Diffusion.{out_idle, same_label, extend_label, improves, is_due as due};
+ghost use Rattle.scholten_core.specs.Diffusion.{out_idle, extend_label, improves as improves_on, is_due as due};
 ghost use Rattle.scholten_core.specs.Items.{item_arc};
 ghost use Rattle.shard_part.specs.Tallies.{counted_on};
 ghost use Rattle.scholten_core.specs.Deficit.{busy_out};
@@ -23,7 +23,7 @@ use crate::shard::Shard;
 use crate::tables::Tables;
 use path_algebra::{PathAlgebra, laws_hold};
 use road_graph::{ArcNo, Graph, OutRoad, Vertex};
-use scholten_core::Item;
+use scholten_core::{Item, extended, head_of, improves, is_same, tail_of};
 use std::marker::Model;
 
 /// The tables and rings of one shard, with the moves of which its events are made.
@@ -209,11 +209,7 @@ impl<'g, A: PathAlgebra> Desk<'g, A> {
         ensures low { 1 ≤ result }
         ensures within { result ≤ self.now.setup.roads.vertices }
     {
-        if a.0 == 0 {
-            self.source
-        } else {
-            self.graph.road(a).head
-        }
+        head_of(self.graph, self.source, a)
     }
 
     /// The vertex that an arc leaves.
@@ -222,11 +218,7 @@ impl<'g, A: PathAlgebra> Desk<'g, A> {
         ensures tail { result ≡ (network_in self.now.setup).tail a }
         ensures within { result ≤ self.now.setup.roads.vertices }
     {
-        if a.0 == 0 {
-            Vertex(0)
-        } else {
-            self.graph.tail(a)
-        }
+        tail_of(self.graph, a)
     }
 
     /// The shard that an arc leads to.
@@ -369,7 +361,7 @@ impl<'g, A: PathAlgebra> Desk<'g, A> {
     {
         neither(
             self.is_busy(b, i),
-            is_same::<A>(self.told(b, i), self.label(v, j)),
+            is_same(self.algebra, self.told(b, i), self.label(v, j)),
         )
     }
 
@@ -462,10 +454,10 @@ impl<'g, A: PathAlgebra> Desk<'g, A> {
     /// The label of the vertex at a place becomes the value, if that is better.
     fn improve(&mut self, v: Vertex, j: usize, value: A::Value) -> bool
         requires { IsPlace self.old v j }
-        ensures improved { result ≡ improves (A.meaning self.old.setup.algebra) value ((state_in self.old).label v) }
+        ensures improved { result ≡ improves_on (A.meaning self.old.setup.algebra) value ((state_in self.old).label v) }
         ensures moved { self.new ≡ labelled (A.meaning self.old.setup.algebra) value v self.old }
     {
-        let improved = is_better::<A>(value, self.label(v, j));
+        let improved = improves(self.algebra, value, self.label(v, j));
         if improved {
             self.set_label(v, j, value);
         }
@@ -583,40 +575,9 @@ impl<'g, A: PathAlgebra> Desk<'g, A> {
     }
 }
 
-/// Whether a value is better than a label, or there is none.
-fn is_better<A: PathAlgebra>(value: A::Value, label: Option<A::Value>) -> bool
-    ensures { (algebra : A) → result ≡ improves (A.meaning algebra) value label }
-{
-    match label {
-        None => true,
-        Some(old) => A::no_worse(value, old) && !A::no_worse(old, value),
-    }
-}
-
 /// Neither holds.
 fn neither(one: bool, other: bool) -> bool
     ensures { result ≡ (not one && not other) }
 {
     !one && !other
-}
-
-/// Whether a told value is the label.
-fn is_same<A: PathAlgebra>(told: Option<A::Value>, label: Option<A::Value>) -> bool
-    ensures { (algebra : A) → result ≡ same_label (A.meaning algebra) told label }
-{
-    match (told, label) {
-        (None, None) => true,
-        (Some(x), Some(y)) => A::no_worse(x, y) && A::no_worse(y, x),
-        _ => false,
-    }
-}
-
-/// A label extended by an arc, none where there is no label or the extension is refused.
-fn extended<A: PathAlgebra>(algebra: A, label: Option<A::Value>, weight: u32) -> Option<A::Value>
-    ensures { result ≡ extend_label (A.meaning algebra) label weight }
-{
-    match label {
-        None => None,
-        Some(x) => algebra.extend(x, weight),
-    }
 }

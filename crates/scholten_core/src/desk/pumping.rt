@@ -3,7 +3,7 @@ ghost use Rattle.std.specs.Prelude.{◌≡◌, ◌≢◌, ℕ, ◌≤◌, ◌<�
 ghost use Rattle.path_algebra.specs.Algebra.{IsLawful};
 ghost use Rattle.road_graph.specs.Roads.{HasVertex};
 ghost use Rattle.scholten_core.specs.Diffusion.{arrive, freed, pump, is_idle};
-ghost use Rattle.scholten_core.specs.Told.{IdleIsTold};
+ghost use Rattle.scholten_core.specs.IdleIsTold.{IdleIsTold};
 ghost use Rattle.scholten_core.specs.CoreView.{state_of, network_of};
 
 use crate::desk::Desk;

@@ -15,8 +15,8 @@ use crate::shard::Shard;
 use crate::site::{Site, filled, sum_of};
 use crate::tables::Tables;
 use path_algebra::PathAlgebra;
-use road_graph::{ArcNo, Graph, Memory, Vertex};
-use scholten_core::Item;
+use road_graph::{Graph, Memory, Vertex};
+use scholten_core::{ENTRY, Item};
 use std::alloc::{AllocError, Global};
 
 impl<'g, A: PathAlgebra> Desk<'g, A> {
@@ -81,7 +81,7 @@ fn opening_queue<A: PathAlgebra>(
     let mut queue = Batch::empty(alloc, capacity)?;
     if first {
         queue.push(Item::Message {
-            arc: ArcNo(0),
+            arc: ENTRY,
             value: algebra.origin(),
         });
     }

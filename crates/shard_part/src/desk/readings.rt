@@ -12,6 +12,7 @@ use crate::shard::Shard;
 use crate::tally::Tally;
 use path_algebra::PathAlgebra;
 use road_graph::{ArcNo, Vertex};
+use scholten_core::ENTRY;
 use std::snapshot::Snapshot;
 
 impl<'g, A: PathAlgebra> Desk<'g, A> {
@@ -72,7 +73,7 @@ impl<'g, A: PathAlgebra> Desk<'g, A> {
     pub fn ended(&self) -> bool
         ensures { result ≡ has_ended self.now }
     {
-        self.shard_of(Vertex(0)) == self.shard && !self.is_busy(ArcNo(0), 0)
+        self.shard_of(Vertex(0)) == self.shard && !self.is_busy(ENTRY, 0)
     }
 
     /// Whether v is a vertex of this shard.

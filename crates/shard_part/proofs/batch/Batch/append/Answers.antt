@@ -1,4 +1,4 @@
-use Rattle.shard_part.proofs.Fitting.{append_room}
+use Rattle.shard_part.proofs.BatchFits.{append_room}
 use Rattle.shard_part.proofs.batch.Batch.append.Goals as goal
 
 pub push-requires : goal.push-requires

@@ -1,6 +1,6 @@
 use Rattle.std.proofs.Common.{ap, sym, ◌∙◌, leb, eqb-true, eq-eqb}
 use Rattle.std.proofs.lemmas.Bool.{false≢true}
-use Rattle.shard_part.proofs.Fitting.{counted_here, counted_next, got_none}
+use Rattle.shard_part.proofs.BatchFits.{counted_here, counted_next, got_none}
 use Rattle.shard_part.proofs.batch.Batch.stands_from.Goals as goal
 use Rattle.shard_part.proofs.batch.Batch.stands_from.Goals.{in-Some+else-eq, in_default}
 

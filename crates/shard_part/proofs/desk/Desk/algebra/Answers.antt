@@ -1,4 +1,4 @@
-use Rattle.shard_part.proofs.Told.{desk_formed}
+use Rattle.shard_part.proofs.ToldKept.{desk_formed}
 use Rattle.shard_part.proofs.desk.Desk.algebra.Goals as goal
 
 pub returns-clause-formed : goal.returns-clause-formed

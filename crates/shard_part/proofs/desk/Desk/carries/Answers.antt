@@ -1,5 +1,5 @@
 use Rattle.std.proofs.Common.{ap, ◌∙◌, map}
-use Rattle.shard_part.proofs.Fitting.{carried_out, outs_next, carried_none}
+use Rattle.shard_part.proofs.BatchFits.{carried_out, outs_next, carried_none}
 use Rattle.shard_part.proofs.desk.Desk.carries.Goals as goal
 
 pub returns-then-stands_from-2 : goal.returns-then-stands_from-2

@@ -1,5 +1,5 @@
 use Rattle.std.proofs.Common.{◌≡◌, drop}
-use Rattle.shard_part.proofs.Fitting.{outs_counted}
+use Rattle.shard_part.proofs.BatchFits.{outs_counted}
 use Rattle.shard_part.specs.PartState.{counted}
 use Rattle.shard_part.proofs.desk.Desk.carries.Given as goal
 

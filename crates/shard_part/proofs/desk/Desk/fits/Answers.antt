@@ -1,5 +1,5 @@
 use Rattle.std.proofs.Common.{sym, arith}
-use Rattle.shard_part.proofs.Fitting.{same_start, same_next, same_bad, same_done, got_none}
+use Rattle.shard_part.proofs.BatchFits.{same_start, same_next, same_bad, same_done, got_none}
 use Rattle.shard_part.proofs.desk.Desk.fits.Goals as goal
 use Rattle.shard_part.proofs.desk.Desk.fits.Goals.{in-Some+else-not-fits_before, in_default}
 

@@ -1,4 +1,4 @@
-use Rattle.shard_part.proofs.Fitting.{IsSame}
+use Rattle.shard_part.proofs.BatchFits.{IsSame}
 use Rattle.shard_part.proofs.desk.Desk.fits.Given as goal
 
 abbrev pub invariant-loop-i : goal.invariant-loop-i

@@ -1,5 +1,5 @@
 use Rattle.std.proofs.Common.{drop}
-use Rattle.shard_part.proofs.Fitting.{before_twice, before_carried, before_alone}
+use Rattle.shard_part.proofs.BatchFits.{before_twice, before_carried, before_alone}
 use Rattle.shard_part.proofs.desk.Desk.fits_before.Goals as goal
 
 pub returns-then-stands_from : goal.returns-then-stands_from

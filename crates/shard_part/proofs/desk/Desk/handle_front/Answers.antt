@@ -1,6 +1,6 @@
 use Rattle.std.proofs.Common.{ap, ◌∙◌}
 use Rattle.shard_part.specs.Desk.{with_taken}
-use Rattle.shard_part.proofs.Told.{front_taken, front_told}
+use Rattle.shard_part.proofs.ToldKept.{front_taken, front_told}
 use Rattle.shard_part.proofs.desk.Desk.handle_front.Goals as goal
 
 pub returns-in-Some-clause-taken : goal.returns-in-Some-clause-taken

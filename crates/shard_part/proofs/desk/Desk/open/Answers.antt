@@ -4,7 +4,7 @@ use Rattle.scholten_core.specs.Diffusion.{opening}
 use Rattle.scholten_core.specs.Sums.{one_if}
 use Rattle.shard_part.specs.PartState.{PartData, HoldsShare, place_in}
 use Rattle.shard_part.specs.Desk.{rows_of}
-use Rattle.shard_part.proofs.Opening.{sum_small, sum_first, some_arc, made_seen, made_desk}
+use Rattle.shard_part.proofs.DeskOpens.{sum_small, sum_first, some_arc, made_seen, made_desk}
 use Rattle.shard_part.proofs.Opened.{opened_holds}
 use Rattle.shard_part.proofs.desk.Desk.open.Goals as goal
 

@@ -1,12 +1,10 @@
-use Rattle.std.proofs.Common.{arith, ◌≢◌, ◌≡◌, ◌∙◌}
-use Rattle.shard_part.proofs.Graphs.{arc_in_graph, tail_entry_is, tail_arc_is}
+use Rattle.std.proofs.Common.{ap, ◌∙◌}
+use Rattle.shard_part.specs.PartState.{network_in}
+use Rattle.shard_part.proofs.Graphs.{arc_within}
 use Rattle.shard_part.proofs.desk.Desk.tail.Goals as goal
 
-pub tail-requires : goal.tail-requires
-tail-requires g c = let nz : c.args.a ≢ 0 = (λ z. absurd (omega (arith, z))) in arc_in_graph _ c.args.self.now _ _ _ c.args.a c.self.view_is c.self.invariant c.requires nz
+pub tail_of-requires : goal.tail_of-requires
+tail_of-requires g c = arc_within _ c.args.self.now c.args.a c.self.view_is c.requires
 
-pub returns-then-a-eq0-clause-tail : goal.returns-then-a-eq0-clause-tail
-returns-then-a-eq0-clause-tail g c = let z : c.args.a ≡ 0 = omega arith in tail_entry_is _ c.args.self.now c.args.a c.self.view_is z
-
-pub returns-else-a-eq0-clause-tail : goal.returns-else-a-eq0-clause-tail
-returns-else-a-eq0-clause-tail g c = let nz : c.args.a ≢ 0 = (λ z. absurd (omega (arith, z))) in c.tail.ensures ∙ (tail_arc_is _ c.args.self.now _ _ _ c.args.a c.self.view_is c.self.invariant c.requires nz).0
+pub returns-clause-tail : goal.returns-clause-tail
+returns-clause-tail g c = c.tail_of.ensures.tail ∙ ap (λ u. (network_in u.setup).tail c.args.a) c.self.view_is

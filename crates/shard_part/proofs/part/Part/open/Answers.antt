@@ -1,4 +1,4 @@
-use Rattle.shard_part.proofs.Told.{opened_told}
+use Rattle.shard_part.proofs.ToldKept.{opened_told}
 use Rattle.shard_part.proofs.part.Part.open.Goals as goal
 
 pub invariant_of-result : goal.invariant_of-result

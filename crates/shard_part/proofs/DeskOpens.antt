@@ -9,7 +9,7 @@ use Rattle.shard_part.specs.PartState.{Setup, network_in, place_in, own_in, tota
 use Rattle.shard_part.specs.Desk.{Rows, seen_as, IsPlanned, IsDesk}
 use Rattle.shard_part.specs.Opening.{SiteData, question_of, is_first, first_items, opened_part, idle_rows, AreStarts, CountsAll}
 use Rattle.shard_part.proofs.Counting.{total_index}
-use Rattle.shard_part.proofs.Rooms.{rooms_sum, queue_room_most, queue_room_first}
+use Rattle.shard_part.proofs.RoomsByVertex.{rooms_sum, queue_room_most, queue_room_first}
 use Rattle.shard_part.proofs.Opened.{place_below, place_source, arcs_first, opened_seen, opened_desk}
 
 module _ (w : SiteData) (P : IsPlanned (question_of w) w.shard) where

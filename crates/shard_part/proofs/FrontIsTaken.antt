@@ -16,13 +16,14 @@ use Rattle.shard_part.specs.Desk.{Rows, IsDesk, IsPlanned, IsPopped, greeted, of
 use Rattle.shard_part.specs.Part.{OwnIdleIsTold}
 use Rattle.shard_part.proofs.Spread.{table_long}
 use Rattle.shard_part.proofs.Flying.{outgoing_is}
-use Rattle.shard_part.proofs.Moves.{put_set, formed}
+use Rattle.shard_part.proofs.Moves.{formed}
 use Rattle.shard_part.proofs.Graphs.{head_of_arc, head_of_entry, tail_of_arc, tail_of_entry}
 use Rattle.shard_part.proofs.Pumping.{offered_none}
 use Rattle.scholten_core.proofs.Quick.{HasTold, quiet_signal, made_nothing, made_alone}
 use Rattle.shard_part.proofs.Quick.{quiet_message}
-use Rattle.shard_part.proofs.TakenArcs.{counted_none, counted_top}
-use Rattle.shard_part.proofs.TakenMoves.{Made, settles, made_after}
+use Rattle.shard_part.proofs.OffersArePumped.{counted_none, counted_top}
+use Rattle.shard_part.proofs.VertexSettles.{Made, settles, made_after}
+use Rattle.scholten_core.proofs.Written.{put_set}
 
 -- the tables have a place for each vertex and each arc, and no counter is past its top
 pub record IsFit {S V : Type 0} (p : PartData S V) : Type 0 where

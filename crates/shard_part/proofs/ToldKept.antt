@@ -13,9 +13,9 @@ use Rattle.shard_part.specs.Desk.{Rows, IsDesk, IsPlanned, IsPopped, with_taken}
 use Rattle.shard_part.specs.Part.{OwnIdleIsTold}
 use Rattle.shard_part.specs.Opening.{opened_part}
 use Rattle.shard_part.proofs.Quick.{taken_told}
-use Rattle.shard_part.proofs.Taken.{IsFit, desk_fit, has_told, popped_taken}
+use Rattle.shard_part.proofs.FrontIsTaken.{IsFit, desk_fit, has_told, popped_taken}
 use Rattle.shard_part.proofs.Moves.{formed}
-use Rattle.shard_part.proofs.TakenMoves.{of_one_shard}
+use Rattle.shard_part.proofs.VertexSettles.{of_one_shard}
 
 module _ {S V : Type 0} (A : Algebra V) where
   pub told_kept : Lawful A → (p : PartData S V) (i : Item V) (q : PartData S V) → WellFormed (network_in p.setup) → OwnIdleIsTold p → TookIn A (network_in p.setup) (place_in p.setup) p i q → OwnIdleIsTold q

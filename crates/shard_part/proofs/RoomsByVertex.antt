@@ -3,14 +3,11 @@ use Rattle.std.proofs.Common.{◌≡◌, ◌≢◌, ℕ, zero, suc, ◌+◌, ◌
 use Rattle.std.proofs.lemmas.Bool.{cases_eq, cases_Bool, cond-true, cond-false, false≢true}
 use Rattle.scholten_core.specs.Network.{Network}
 use Rattle.scholten_core.specs.Sums.{sum_below, one_if}
-use Rattle.scholten_core.proofs.Counts.{sum_add, sum_same}
 use Rattle.shard_part.specs.Tables.{placed}
 use Rattle.shard_part.specs.PartState.{total, is, outgoing, touches, joins, queue_room, out_room}
 use Rattle.shard_part.specs.Opening.{turned, leading_to, coming_from}
-use Rattle.shard_part.proofs.Weights.{sum_zero}
-use Rattle.shard_part.proofs.Alone.{if_most}
-use Rattle.shard_part.proofs.Room.{sum_most}
-use Rattle.shard_part.proofs.Counting.{total_same, total_both, sum_swap, total_swap, sum_one, sum_ones, total_out, placed_none, placed_once}
+use Rattle.shard_part.proofs.Counting.{total_same, total_both, sum_swap, total_swap, sum_one, total_out, placed_none, placed_once}
+use Rattle.scholten_core.proofs.Sums.{one_if-most, sum_same, sum_zero, sum_ones, sum_add, sum_most, sum_term}
 
 -- an arc between the shards s and t, seen from s: by its head where it leaves s, by its tail where it only enters s
 abbrev pub seen_from : ℕ → ℕ → ℕ → ℕ → ℕ
@@ -141,15 +138,11 @@ module _ (N : Network) (place : ℕ → ℕ) where
 
   -- no room is wider than there are arcs
   pub out_room_most : (s t : ℕ) → out_room N place s t ≤ suc N.arcs
-  out_room_most s t = let m = sum_most (joins N place s t) (λ b. 1) (suc N.arcs) (λ b. if_most ((eqb (place (N.head b)) t && eqb (place (N.tail b)) s) || (eqb (place (N.tail b)) t && eqb (place (N.head b)) s))) in let o = sum_ones (suc N.arcs) in omega (arith, m, o)
+  out_room_most s t = let m = sum_most (joins N place s t) (λ b. 1) (suc N.arcs) (λ b. one_if-most ((eqb (place (N.head b)) t && eqb (place (N.tail b)) s) || (eqb (place (N.tail b)) t && eqb (place (N.head b)) s))) in let o = sum_ones (suc N.arcs) in omega (arith, m, o)
 
   pub queue_room_most : (s : ℕ) → queue_room N place s ≤ suc N.arcs
-  queue_room_most s = let m = sum_most (touches N place s) (λ b. 1) (suc N.arcs) (λ b. if_most (eqb (place (N.head b)) s || eqb (place (N.tail b)) s)) in let o = sum_ones (suc N.arcs) in omega (arith, m, o)
+  queue_room_most s = let m = sum_most (touches N place s) (λ b. 1) (suc N.arcs) (λ b. one_if-most (eqb (place (N.head b)) s || eqb (place (N.tail b)) s)) in let o = sum_ones (suc N.arcs) in omega (arith, m, o)
 
   -- there is a place for the environment's message
   pub queue_room_first : (s : ℕ) → place (N.head 0) ≡ s → 1 ≤ queue_room N place s
-  queue_room_first s e = let m = sum_some (touches N place s) N.arcs in let o : touches N place s 0 ≡ 1 = ap (λ z. one_if (z || eqb (place (N.tail 0)) s)) (eq-eqb (place (N.head 0)) s e) in omega (arith, m, o)
-    where
-      sum_some : (f : ℕ → ℕ) (n : ℕ) → f 0 ≤ sum_below f (suc n)
-      sum_some f zero = omega arith
-      sum_some f (suc n) = let p = sum_some f n in omega (arith, p)
+  queue_room_first s e = let m = sum_term (touches N place s) 0 (suc N.arcs) (omega arith) in let o : touches N place s 0 ≡ 1 = ap (λ z. one_if (z || eqb (place (N.tail 0)) s)) (eq-eqb (place (N.head 0)) s e) in omega (arith, m, o)

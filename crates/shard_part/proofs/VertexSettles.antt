@@ -13,7 +13,7 @@ use Rattle.shard_part.specs.Tallies.{counted_on, top}
 use Rattle.shard_part.specs.PartState.{PartData, lanes_of, network_in, place_in, state_in, total, is_told, is_back, routes, rest_here, settle_here}
 use Rattle.shard_part.specs.Desk.{offered_all, rested, rested_by}
 use Rattle.shard_part.proofs.Routed.{routes-append}
-use Rattle.shard_part.proofs.TakenArcs.{counted_none, counted_append, counted_top, listed_or, made_no_back, Offers, offers}
+use Rattle.shard_part.proofs.OffersArePumped.{counted_none, counted_append, counted_top, listed_or, made_no_back, Offers, offers}
 
 abbrev pub everywhere : ℕ → Bool
 everywhere v = true

@@ -69,9 +69,6 @@ module _ {V : Type 0} where
   pub counted_next : (b : ℕ) (xs : List (Item V)) (i : ℕ) (x : Item V) → slice_get xs i ≡ Some x → item_arc x ≢ b → counted b (drop i xs) ≡ counted b (drop (i + 1) xs)
   counted_next b xs i x e n = let q = ap (counted b) (drop_item xs i x e) in let o = ap one_if (ne_eqb b (item_arc x) (λ z. n (sym z))) in omega (arith, q, o)
 
-  pub counted_past : (b : ℕ) (xs : List (Item V)) (i : ℕ) → length xs ≤ i → leb 1 (counted b (drop i xs)) ≡ false
-  counted_past b xs i l = is_none (counted b (drop i xs)) (ap (counted b) (drop_past xs i l))
-
   -- outboxes weighed by what does not depend on the shard
   abbrev pub outs_counted : ℕ → List (List (Item V)) → ℕ
   outs_counted b os = total (counted b) os
@@ -156,12 +153,6 @@ module _ {S V : Type 0} where
 
 -- whether an item on an arc stands in the queue or an outbox
 module _ {S V : Type 0} (b : ℕ) (p : PartData S V) where
-  pub carried_queue : (x : Bool) → x ≡ leb 1 (counted b (drop 0 p.queue)) → x ≡ true → true ≡ leb 1 (part_weight (λ _ j. is b (item_arc j)) p)
-  carried_queue x h t = let a = leb-true 1 (counted b (drop 0 p.queue)) (sym h ∙ t) in let e = ap (counted b) (drop_none p.queue) in let c = counted_in b p in sym (le-leb 1 (part_weight (λ _ j. is b (item_arc j)) p) (omega (arith, a, e, c)))
-
-  pub queue_none : (x : Bool) → x ≡ leb 1 (counted b (drop 0 p.queue)) → x ≡ false → counted b p.queue ≡ 0
-  queue_none x h f = sym (ap (counted b) (drop_none p.queue)) ∙ none_of (counted b (drop 0 p.queue)) (sym h ∙ f)
-
   -- the outbox at an index, as its ring
   out_at : {X : Type 0} (its : X → List (Item V)) (rs : List X) (k : ℕ) (x : X) → map its rs ≡ p.outs → k < length rs → x ≡ get_or rs k x → drop k p.outs ≡ its x ∷ drop (k + 1) p.outs
   out_at its rs k x e l h =
@@ -178,9 +169,6 @@ module _ {S V : Type 0} (b : ℕ) (p : PartData S V) where
       outs_counted b p.outs ≡ outs_counted b (drop (k + 1) p.outs)
   outs_next its rs k x y e l h i q f =
       let a = none_of (counted b (drop 0 (its x))) (sym q ∙ f) in let d = ap (counted b) (drop_none (its x)) in let o = ap (outs_counted b) (out_at its rs k x e l h) in omega (arith, a, d, o, i)
-
-  pub outs_start : outs_counted b p.outs ≡ outs_counted b (drop 0 p.outs)
-  outs_start = ap (outs_counted b) (sym (drop_none p.outs))
 
   pub carried_none : {X : Type 0} (its : X → List (Item V)) (rs : List X) (k : ℕ) → map its rs ≡ p.outs → length rs ≤ k → counted b p.queue ≡ 0 → outs_counted b p.outs ≡ outs_counted b (drop k p.outs) → false ≡ leb 1 (part_weight (λ _ j. is b (item_arc j)) p)
   carried_none its rs k e l z i =

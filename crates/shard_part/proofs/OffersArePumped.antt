@@ -1,18 +1,19 @@
 -- Arcs offered one after the other are the arcs pumped at once.
-use Rattle.std.proofs.Common.{◌≡◌, ◌≢◌, ℕ, ◌+◌, ◌<◌, ◌≤◌, Bool, true, false, cond, not, ◌&&◌, eqb, Option, Some, None, List, [], ◌∷◌, ◌++◌, length, set, get_or, ◌⊎◌, refl, sym, ap, ◌∙◌, subst, inl, inr, arith, length-set, get_or-set_same, get_or-set_other}
+use Rattle.std.proofs.Common.{◌≡◌, ◌≢◌, ℕ, ◌+◌, ◌<◌, ◌≤◌, Bool, true, false, cond, Option, Some, None, List, [], ◌∷◌, ◌++◌, length, set, get_or, ◌⊎◌, refl, sym, ap, ◌∙◌, subst, inl, inr, arith, length-set, get_or-set_same, get_or-set_other}
 use Rattle.std.proofs.Math.Nat.{min-le_right, min-eq_left}
-use Rattle.std.proofs.lemmas.Bool.{cases_eq, cond-true, cond-false, and_parts}
+use Rattle.std.proofs.lemmas.Bool.{cases_eq, cond-true, cond-false}
 use Rattle.scholten_core.specs.declared.item.Item.{Item}
 use Rattle.scholten_core.specs.declared.item.Item.TheVariants.{Message as MessageOn}
 use Rattle.path_algebra.specs.Algebra.{Algebra}
 use Rattle.scholten_core.specs.Network.{Network}
-use Rattle.scholten_core.specs.Diffusion.{CoreState, is_idle, is_due, same_label, pump, sent, extend_label, Listed}
+use Rattle.scholten_core.specs.Diffusion.{CoreState, is_idle, is_due, pump, sent, extend_label, Listed}
 use Rattle.scholten_core.specs.Items.{item_of, pump_made, IsDistinct}
 use Rattle.shard_part.specs.Tallies.{counted_on, top}
 use Rattle.shard_part.specs.PartState.{PartData, Lanes, lanes_of, network_in, place_in, state_in, token_if, total, is_told, is_back, route, routes}
 use Rattle.shard_part.specs.Desk.{with_message, offered_all}
 use Rattle.shard_part.proofs.Weights.{total_append}
 use Rattle.shard_part.proofs.Routed.{routes-append}
+use Rattle.scholten_core.proofs.Basics.{due_idle, due_same, pumped_same}
 
 pub counted_none : (n : ℕ) → n ≤ top → counted_on 0 n ≡ n
 counted_none n h = min-eq_left (let e : n + 0 ≤ top = omega (arith, h) in e) ∙ (let z : n + 0 ≡ n = omega arith in z)
@@ -38,21 +39,6 @@ module _ {V : Type 0} (A : Algebra V) (N : Network) where
     ])
   ]
 
-  due_same : (v : ℕ) (c d : CoreState V) (b : ℕ) → c.token b ≡ d.token b → c.told b ≡ d.told b → c.label v ≡ d.label v → is_due A N v c b ≡ is_due A N v d b
-  unfolding is_due
-  due_same v c d b p q r = λ i. eqb (N.tail b) v && is_idle (p i) && not (same_label A (q i) (r i))
-
-  pumped_same : (v : ℕ) (c d : CoreState V) (b : ℕ) → c.token b ≡ d.token b → c.told b ≡ d.told b → c.label v ≡ d.label v →
-      ((pump A N v c).told b ≡ (pump A N v d).told b) × ((pump A N v c).token b ≡ (pump A N v d).token b)
-  pumped_same v c d b p q r = (
-    (λ i. cond (due_same v c d b p q r i) (r i) (q i)),
-    (λ i. cond (due_same v c d b p q r i) (sent (extend_label A (r i) (N.weight b))) (p i)),
-  )
-
-  due_idle : (v : ℕ) (d : CoreState V) (b : ℕ) → is_due A N v d b ≡ true → is_idle (d.token b) ≡ true
-  unfolding is_due
-  due_idle v d b h = (and_parts (eqb (N.tail b) v) (is_idle (d.token b)) (and_parts (eqb (N.tail b) v && is_idle (d.token b)) (not (same_label A (d.told b) (d.label v))) h).0).1
-
   -- what pumping makes on one arc
   abbrev pub offer_made : ℕ → CoreState V → ℕ → List (Item V)
   offer_made v d b = cond (is_due A N v d b) (item_of b (sent (extend_label A (d.label v) (N.weight b)))) []
@@ -60,7 +46,7 @@ module _ {V : Type 0} (A : Algebra V) (N : Network) where
   made_same : (v : ℕ) (c d : CoreState V) (xs : List ℕ) → c.label v ≡ d.label v → ((b : ℕ) → Listed A N b xs → (c.token b ≡ d.token b) × (c.told b ≡ d.told b)) → pump_made A N v c xs ≡ pump_made A N v d xs
   made_same v c d [] r h = refl
   made_same v c d (b ∷ xs) r h = let k = h b (inl refl) in
-      λ i. cond (due_same v c d b k.0 k.1 r i) (item_of b (sent (extend_label A (r i) (N.weight b)))) [] ++ made_same v c d xs r (λ u l. h u (inr l)) i
+      λ i. cond (due_same A N v c d b k.0 k.1 r i) (item_of b (sent (extend_label A (r i) (N.weight b)))) [] ++ made_same v c d xs r (λ u l. h u (inr l)) i
 
   pub made_no_back : (v : ℕ) (d : CoreState V) (xs : List ℕ) → total is_back (pump_made A N v d xs) ≡ 0
   made_no_back v d [] = refl
@@ -113,7 +99,7 @@ module _ {S V : Type 0} (A : Algebra V) where
             k.0 ∙ ap (λ w. get_or ts w None) e ∙ here ∙ ap (pump A N v (state_in p)).told (sym e),
             ap is_idle k.1 ∙ ap (λ w. is_idle {V = V} (token_if (get_or fs w false))) e ∙ idle ∙ ap (λ w. is_idle ((pump A N v (state_in p)).token w)) (sym e),
           ))
-          | inr m ↦ (let k = R.done u m in let s = pumped_same A N v (state_in p1) (state_in p) u (token u (ne u m)) (told u (ne u m)) refl in (k.0 ∙ s.0, k.1 ∙ ap is_idle s.1))
+          | inr m ↦ (let k = R.done u m in let s = pumped_same A N v (state_in p1) (state_in p) u (token u (ne u m)) (told u (ne u m)) refl in (k.0 ∙ s.1, k.1 ∙ ap is_idle s.0))
         ];
         left = λ u h. let k = R.left u (λ m. h (inr m)) in let w : u ≢ b = λ e. h (inl e) in (k.0 ∙ told u w, k.1 ∙ token u w);
         lanes = R.lanes ∙ (λ i. routes N (place_in p.setup) p.shard (made i) (lanes i)) ∙ sym (routes-append N (place_in p.setup) p.shard (offer_made A N v (state_in p) b) (pump_made A N v (state_in p) bs) (lanes_of p));

@@ -14,11 +14,12 @@ use Rattle.road_text.specs.Texts.{spelled, text_of, IsWord, list_words}
 use Rattle.road_text.specs.Words.{word_of}
 use Rattle.road_text.proofs.RoundTrip.{decimal_is_number, fields_join, lines_text, word_of_number, word_by_test}
 use Rattle.road_files.specs.QuestionFiles.{kind_named}
+use Rattle.road_files.specs.WrittenFiles.{kind_word}
 use Rattle.road_files.specs.declared.questions.Kind.{Kind}
 use Rattle.road_files.specs.declared.questions.Kind.TheVariants.{Sources, Pairs, Multi}
 use Rattle.answer_text.specs.declared.answers.Reached.{Reached}
 use Rattle.answer_text.specs.Told.{Told, ToldSource, ToldPair, ToldMulti, ToldList}
-use Rattle.answer_text.specs.AnswerText.{kind_word, header_words, source_words, pair_words, found_words, vertex_words, vertex_lines, answer_lines, answer_text, blocks_text, header_text, answers_text}
+use Rattle.answer_text.specs.AnswerText.{header_words, source_words, pair_words, found_words, vertex_words, vertex_lines, answer_lines, answer_text, blocks_text, header_text, answers_text}
 use Rattle.answer_text.specs.AnswerFiles.{Named, OneSource, ManySources, Between, InLines, AfterPair, AfterFound, AnswersSoFar, numbers_in, header_line, source_line, pair_line, sources_line, route_line, reached_line, unreached_line, vertex_line, value_line, none_line, found_line, with_answer, with_stage, with_lines, told_lines, line_given, line_read, answer_rules}
 use Rattle.answer_text.specs.Writable.{AreSmall, IsLineWritable, AreLinesWritable, IsAnswerWritable, AreWritable}
 

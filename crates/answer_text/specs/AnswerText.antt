@@ -4,15 +4,9 @@ use Rattle.road_text.specs.Texts.{spelled, text_of, list_words}
 use Rattle.path_algebra.specs.declared.name.AlgebraName.{AlgebraName}
 use Rattle.path_algebra.specs.Names.{name_text}
 use Rattle.road_files.specs.declared.questions.Kind.{Kind}
-use Rattle.road_files.specs.declared.questions.Kind.TheVariants.{Sources, Pairs, Multi}
+use Rattle.road_files.specs.WrittenFiles.{kind_word}
 use Rattle.answer_text.specs.declared.answers.Reached.{Reached}
 use Rattle.answer_text.specs.Told.{ToldFound, Told, ToldSource, ToldPair, ToldMulti, ToldList}
-
--- the word by which a kind is named
-abbrev pub kind_word : Kind → List ℕ
-kind_word Sources = codes "ss"
-kind_word Pairs = codes "p2p"
-kind_word Multi = codes "ms"
 
 -- the line before so many answers
 abbrev pub header_words : Kind → ℕ → AlgebraName → List (List ℕ)

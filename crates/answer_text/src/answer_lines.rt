@@ -26,16 +26,10 @@ pub fn begins(slots: &[Slot], word: &[u8]) -> bool
 pub fn kind_of(slot: &Slot) -> Result<Kind, LineFault>
     ensures { Agrees (known (kind_named (word_in slot.now).text)) result }
 {
-    if slot.is_word(b"ss") {
-        return Ok(Kind::Sources);
+    match Kind::named(slot) {
+        Some(kind) => Ok(kind),
+        None => Err(LineFault::Broken(Rule::BadHeader)),
     }
-    if slot.is_word(b"p2p") {
-        return Ok(Kind::Pairs);
-    }
-    if slot.is_word(b"ms") {
-        return Ok(Kind::Multi);
-    }
-    Err(LineFault::Broken(Rule::BadHeader))
 }
 
 /// The name that a header has.

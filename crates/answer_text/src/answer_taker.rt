@@ -8,8 +8,7 @@ ghost use Rattle.answer_text.specs.Told.{told_list_of};
 
 use crate::answers::Answers;
 use crate::present_numbers::PresentNumbers;
-use crate::taken_answers::{Place, TakenAnswers};
-use crate::taking::first_in;
+use crate::taken_answers::{Place, TakenAnswers, first_in};
 use road_text::{LineFault, Rule, Slot, TakesLines};
 use std::alloc::Global;
 

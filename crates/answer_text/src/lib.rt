@@ -6,12 +6,10 @@ mod answer_taker;
 mod answers;
 mod laws;
 mod lines;
-mod list_fields;
 mod number_fields;
 mod present_numbers;
 mod reading;
 mod taken_answers;
-mod taking;
 mod writing;
 
 pub use answers::{Answer, Answers, Found, Reached};

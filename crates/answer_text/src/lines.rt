@@ -2,23 +2,12 @@
 ghost use Rattle.std.specs.Prelude.{◌≡◌, ◌≤◌, ◌∷◌, [], codes, decimal, length};
 ghost use Rattle.path_algebra.specs.Names.{name_text};
 ghost use Rattle.road_text.specs.Texts.{spelled};
-ghost use Rattle.answer_text.specs.AnswerText.{found_words, header_words, kind_word, pair_words, source_words, vertex_words};
+ghost use Rattle.answer_text.specs.AnswerText.{found_words, header_words, pair_words, source_words, vertex_words};
 
 use crate::answers::Reached;
 use path_algebra::AlgebraName;
 use road_files::Kind;
 use road_text::{Line, push_number, push_spaced};
-
-fn word_of_kind(kind: Kind) -> &'static str
-    ensures word { result.now ≡ kind_word kind }
-    ensures short { length result.now ≤ 10 }
-{
-    match kind {
-        Kind::Sources => "ss",
-        Kind::Pairs => "p2p",
-        Kind::Multi => "ms",
-    }
-}
 
 #[tactic(auto, using(crate::proofs::ShortWords::short_name))]
 fn word_of_name(name: AlgebraName) -> &'static str
@@ -35,7 +24,7 @@ pub fn line_of_header(kind: Kind, count: u32, name: AlgebraName) -> Line
 {
     let mut line = Line::new();
     line.push_str("p ans ");
-    line.push_str(word_of_kind(kind));
+    line.push_str(kind.word());
     push_spaced(&mut line, u64::from(count));
     line.push_str(" ");
     line.push_str(word_of_name(name));

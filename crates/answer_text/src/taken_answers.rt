@@ -1,8 +1,19 @@
 //! The answers of a text so far.
+ghost use Rattle.std.specs.Prelude.{◌≡◌, ◌+◌, ◌<◌, ◌&&◌, ℕ, List, map, nat_lt, length, OnOk, IfErr, MatchResult, Ok, [], Some, codes};
+ghost use Rattle.road_text.specs.Slots.{word_in};
+ghost use Rattle.road_text.specs.Takes.{Breaks, Leaves};
+ghost use Rattle.answer_text.specs.AnswerFiles.{AfterFound, AfterPair, Between, InLines, ManySources, OneSource, answer_line, begins, first_line, header_line, question_line, route_line, sources_line, with_answer, with_lines};
+ghost use Rattle.answer_text.specs.AnswerTakes.{answers_so_far, numbers_given};
+ghost use Rattle.answer_text.specs.Told.{told_of};
 
-use crate::answers::{Answer, Reached};
+use crate::answer_lines::{begins, found_in, kind_of, name_of, pair_in, source_in, vertex_in};
+use crate::answers::{Answer, Found, Reached};
+use crate::number_fields::number_up_to;
+use crate::present_numbers::PresentNumbers;
+use crate::writing::MAX_ANSWERS;
 use path_algebra::AlgebraName;
 use road_files::Kind;
+use road_text::{LineFault, Rule, Slot};
 use std::alloc::Global;
 
 /// What was read of the present answer.
@@ -35,4 +46,209 @@ pub struct TakenAnswers {
     pub sources: Vec<u32>,
     /// The lines of vertices of the present answer.
     pub lines: Vec<Option<Reached>>,
+}
+
+// `p ans KIND K NAME`.
+#[tactic(auto, unfolding(crate::specs::AnswerFiles::header_line))]
+fn header_in(alloc: Global, slots: &[Slot]) -> Result<TakenAnswers, LineFault>
+    ensures { MatchResult result (λ t. header_line (map word_in slots.now) ≡ Ok (answers_so_far t)) (Breaks (header_line (map word_in slots.now))) }
+{
+    if slots.len() != 5 || !slots[1].is_word(b"ans") {
+        return Err(LineFault::Broken(Rule::BadHeader));
+    }
+    let kind = kind_of(&slots[2])?;
+    let name = name_of(&slots[4])?;
+    let announced = number_up_to(&slots[3], MAX_ANSWERS)?;
+    Ok(TakenAnswers {
+        alloc,
+        kind,
+        name,
+        announced,
+        list: Vec::new(alloc),
+        place: Place::Between,
+        sources: Vec::new(alloc),
+        lines: Vec::new(alloc),
+    })
+}
+
+/// The first line that is told: the header.
+pub fn first_in(alloc: Global, slots: &[Slot]) -> Result<TakenAnswers, LineFault>
+    ensures { MatchResult result (λ t. first_line (map word_in slots.now) ≡ Ok (answers_so_far t)) (Breaks (first_line (map word_in slots.now))) }
+{
+    if !begins(slots, b"p") {
+        return Err(LineFault::Broken(Rule::NoHeader));
+    }
+    header_in(alloc, slots)
+}
+
+impl TakenAnswers {
+    // One answer more is whole.
+    fn push(&mut self, answer: Answer) -> Result<(), LineFault>
+        ensures pushed { OnOk result (answers_so_far self.new ≡ with_answer (answers_so_far self.old) (told_of answer)) }
+        ensures memory { IfErr result (λ e. e ≡ LineFault.Memory) }
+    {
+        self.place = Place::Between;
+        match self.list.push(answer) {
+            Ok(()) => Ok(()),
+            Err(_) => Err(LineFault::Memory),
+        }
+    }
+
+    // The present answer is from this source and has the lines that are there: they are all, or more are to come.
+    fn set_source(&mut self, n: u32, source: u32) -> Result<(), LineFault>
+        ensures set { OnOk result (answers_so_far self.new ≡ with_lines n (answers_so_far self.old) (OneSource source) self.old.lines.items) }
+        ensures memory { IfErr result (λ e. e ≡ LineFault.Memory) }
+    {
+        if self.lines.len() != n as usize {
+            self.place = Place::Source(source);
+            return Ok(());
+        }
+        let lines = std::mem::replace(&mut self.lines, Vec::new(self.alloc));
+        self.push(Answer::Source { source, lines })
+    }
+
+    // The present answer is from the sources and has the lines that are there: they are all, or more are to come.
+    fn set_sources(&mut self, n: u32) -> Result<(), LineFault>
+        ensures set { OnOk result (answers_so_far self.new ≡ with_lines n (answers_so_far self.old) (ManySources self.old.sources.items) self.old.lines.items) }
+        ensures memory { IfErr result (λ e. e ≡ LineFault.Memory) }
+    {
+        if self.lines.len() != n as usize {
+            self.place = Place::Sources;
+            return Ok(());
+        }
+        let lines = std::mem::replace(&mut self.lines, Vec::new(self.alloc));
+        let sources = std::mem::replace(&mut self.sources, Vec::new(self.alloc));
+        self.push(Answer::Multi { sources, lines })
+    }
+
+    // The line of a question from one source.
+    fn question_from(&mut self, n: u32, slots: &[Slot]) -> Result<(), LineFault>
+        ensures { Leaves (question_line n (answers_so_far self.old) (map word_in slots.now) 0 (Ok []) Kind.Sources) result (answers_so_far self.new) }
+    {
+        let source = source_in(slots)?;
+        self.lines = Vec::new(self.alloc);
+        self.set_source(n, source)
+    }
+
+    // The line of a question between a pair.
+    fn question_between(&mut self, slots: &[Slot]) -> Result<(), LineFault>
+        ensures { Leaves (question_line 0 (answers_so_far self.old) (map word_in slots.now) 0 (Ok []) Kind.Pairs) result (answers_so_far self.new) }
+    {
+        let pair = pair_in(slots)?;
+        self.place = Place::Pair(pair.0, pair.1);
+        Ok(())
+    }
+
+    // The line of a question from several sources.
+    fn question_from_many(
+        &mut self,
+        n: u32,
+        slots: &[Slot],
+        present: &mut PresentNumbers,
+    ) -> Result<(), LineFault>
+        ensures { Leaves (question_line n (answers_so_far self.old) (map word_in slots.now) present.old.count (numbers_given present.old) Kind.Multi) result (answers_so_far self.new) }
+    {
+        let sources = present.sources(self.alloc, slots)?;
+        self.sources = sources;
+        self.lines = Vec::new(self.alloc);
+        self.set_sources(n)
+    }
+
+    // The line that names the next question, if there is one to come.
+    fn question(
+        &mut self,
+        n: u32,
+        slots: &[Slot],
+        present: &mut PresentNumbers,
+    ) -> Result<(), LineFault>
+        ensures { Leaves (answer_line n (answers_so_far self.old) (map word_in slots.now) present.old.count (numbers_given present.old) Between) result (answers_so_far self.new) }
+    {
+        if self.list.len() >= self.announced as usize {
+            return Err(LineFault::Broken(Rule::Misplaced));
+        }
+        match self.kind {
+            Kind::Sources => self.question_from(n, slots),
+            Kind::Pairs => self.question_between(slots),
+            Kind::Multi => self.question_from_many(n, slots, present),
+        }
+    }
+
+    // The line of the next vertex, from one source.
+    fn vertex_from(&mut self, n: u32, slots: &[Slot], source: u32) -> Result<(), LineFault>
+        ensures { Leaves (answer_line n (answers_so_far self.old) (map word_in slots.now) 0 (Ok []) (InLines (OneSource source) self.old.lines.items)) result (answers_so_far self.new) }
+    {
+        let line = vertex_in(slots, self.lines.len() as u64 + 1)?;
+        match self.lines.push(line) {
+            Ok(()) => self.set_source(n, source),
+            Err(_) => Err(LineFault::Memory),
+        }
+    }
+
+    // The line of the next vertex, from several sources.
+    fn vertex_from_many(&mut self, n: u32, slots: &[Slot]) -> Result<(), LineFault>
+        ensures { Leaves (answer_line n (answers_so_far self.old) (map word_in slots.now) 0 (Ok []) (InLines (ManySources self.old.sources.items) self.old.lines.items)) result (answers_so_far self.new) }
+    {
+        let line = vertex_in(slots, self.lines.len() as u64 + 1)?;
+        match self.lines.push(line) {
+            Ok(()) => self.set_sources(n),
+            Err(_) => Err(LineFault::Memory),
+        }
+    }
+
+    // The value of a pair.
+    fn value(&mut self, slots: &[Slot], source: u32, target: u32) -> Result<(), LineFault>
+        ensures { Leaves (answer_line 0 (answers_so_far self.old) (map word_in slots.now) 0 (Ok []) (AfterPair source target)) result (answers_so_far self.new) }
+    {
+        match found_in(slots)? {
+            None => self.push(Answer::Pair {
+                source,
+                target,
+                found: None,
+            }),
+            Some((code, hops)) => {
+                self.place = Place::Found(source, target, code, hops);
+                Ok(())
+            }
+        }
+    }
+
+    // The route of a pair.
+    fn route(
+        &mut self,
+        slots: &[Slot],
+        present: &mut PresentNumbers,
+        source: u32,
+        target: u32,
+        code: u64,
+        hops: u32,
+    ) -> Result<(), LineFault>
+        ensures { Leaves (answer_line 0 (answers_so_far self.old) (map word_in slots.now) present.old.count (numbers_given present.old) (AfterFound source target code hops)) result (answers_so_far self.new) }
+    {
+        let route = present.route(self.alloc, slots)?;
+        self.push(Answer::Pair {
+            source,
+            target,
+            found: Some(Found { code, hops, route }),
+        })
+    }
+
+    /// Takes a line behind the header, over a graph with `n` vertices. The numbers of a list were taken before.
+    pub fn take(
+        &mut self,
+        n: u32,
+        slots: &[Slot],
+        present: &mut PresentNumbers,
+    ) -> Result<(), LineFault>
+        ensures { Leaves (answer_line n (answers_so_far self.old) (map word_in slots.now) present.old.count (numbers_given present.old) (answers_so_far self.old).stage) result (answers_so_far self.new) }
+    {
+        match self.place {
+            Place::Between => self.question(n, slots, present),
+            Place::Source(source) => self.vertex_from(n, slots, source),
+            Place::Sources => self.vertex_from_many(n, slots),
+            Place::Pair(source, target) => self.value(slots, source, target),
+            Place::Found(source, target, code, hops) => self.route(
+                slots, present, source, target, code, hops,
+            ),
+        }
+    }
 }

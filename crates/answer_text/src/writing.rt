@@ -79,10 +79,8 @@ fn write_source<W: RoadWrite>(
 ) -> Result<(), WriteFault>
     ensures { Wrote (W.written to.old) (W.written to.new) (W.failures to.old) (W.failures to.new) (spelled (source_words source) ++ text_of (vertex_lines 1 lines.now)) result }
 {
-    match write_source_line(to, source) {
-        Ok(()) => write_vertices(to, lines),
-        Err(fault) => Err(fault),
-    }
+    write_source_line(to, source)?;
+    write_vertices(to, lines)
 }
 
 // Writes an answer whose first line is named by several sources.
@@ -94,10 +92,8 @@ fn write_multi<W: RoadWrite>(
 ) -> Result<(), WriteFault>
     ensures { Wrote (W.written to.old) (W.written to.new) (W.failures to.old) (W.failures to.new) (spelled (list_words (codes "m") sources.now) ++ text_of (vertex_lines 1 lines.now)) result }
 {
-    match write_sources_line(to, sources) {
-        Ok(()) => write_vertices(to, lines),
-        Err(fault) => Err(fault),
-    }
+    write_sources_line(to, sources)?;
+    write_vertices(to, lines)
 }
 
 fn write_pair_line<W: RoadWrite>(to: &mut W, source: u32, target: u32) -> Result<(), WriteFault>

@@ -15,9 +15,9 @@ use Rattle.road_text.proofs.WordLaws.{held, held_words, short_word}
 use Rattle.road_files.specs.declared.questions.Questions.{Questions}
 use Rattle.road_files.specs.declared.bundle_part.BundlePart.{BundlePart}
 use Rattle.road_files.specs.declared.bundle_part.BundlePart.TheVariants as parts
-use Rattle.road_files.specs.declared.bundle_lines.BundleTaker.{BundleTaker}
+use Rattle.road_files.specs.declared.bundle_taker.BundleTaker.{BundleTaker}
 use Rattle.road_files.specs.Asked.{AreQuestionsOf}
-use Rattle.road_files.specs.declared.graph_lines.GraphTaker.{GraphTaker}
+use Rattle.road_files.specs.declared.graph_taker.GraphTaker.{GraphTaker}
 use Rattle.road_files.specs.GraphFiles.{RoadsSoFar, gr_line}
 use Rattle.road_files.specs.GraphTakes.{roads_so_far, taken_of}
 use Rattle.road_files.specs.QuestionFiles.{question_line, question_line_of}

@@ -12,7 +12,7 @@ use Rattle.road_text.specs.ShortLines.{HasShortFields}
 use Rattle.road_text.specs.Words.{Word, word_of, held_word}
 use Rattle.std.proofs.lemmas.Bool.{ne_eqb, lt-ltb, le-ltb}
 use Rattle.road_files.specs.declared.taken_roads.TakenRoads.{TakenRoads}
-use Rattle.road_files.specs.declared.graph_lines.GraphTaker.{GraphTaker}
+use Rattle.road_files.specs.declared.graph_taker.GraphTaker.{GraphTaker}
 use Rattle.road_files.specs.GraphFiles.{RoadsSoFar, gr_arc, gr_line, gr_rules, one_arc}
 use Rattle.road_files.specs.GraphTakes.{roads_so_far, taken_of, GivesRoads, FitsArc}
 use Rattle.road_files.proofs.HeldGraphLines.{gr_line_kept}

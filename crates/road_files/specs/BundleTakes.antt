@@ -8,7 +8,7 @@ use Rattle.road_text.specs.Words.{Word}
 use Rattle.road_files.specs.declared.questions.Questions.{Questions}
 use Rattle.road_files.specs.declared.bundle_part.BundlePart.{BundlePart}
 use Rattle.road_files.specs.declared.bundle_part.BundlePart.TheVariants as parts
-use Rattle.road_files.specs.declared.bundle_lines.BundleTaker.{BundleTaker}
+use Rattle.road_files.specs.declared.bundle_taker.BundleTaker.{BundleTaker}
 use Rattle.road_files.specs.Asked.{AreQuestionsOf}
 use Rattle.road_files.specs.GraphTakes.{roads_so_far, taken_of}
 use Rattle.road_files.specs.QuestionTakes.{SoFar, sources_given, begun_of}

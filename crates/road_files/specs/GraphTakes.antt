@@ -5,7 +5,7 @@ use Rattle.road_text.specs.declared.faults.ReadFault.{ReadFault}
 use Rattle.road_text.specs.Takes.{GivesBy}
 use Rattle.road_text.specs.Way.{Way}
 use Rattle.road_files.specs.declared.taken_roads.TakenRoads.{TakenRoads}
-use Rattle.road_files.specs.declared.graph_lines.GraphTaker.{GraphTaker}
+use Rattle.road_files.specs.declared.graph_taker.GraphTaker.{GraphTaker}
 use Rattle.road_files.specs.GraphFiles.{RoadsSoFar, gr_rules}
 
 -- what was announced, and the arcs that were taken

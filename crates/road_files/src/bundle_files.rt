@@ -5,7 +5,7 @@ ghost use Rattle.road_text.specs.Reads.{ReadsValue, ReadsSome, ReadsFault, Reads
 ghost use Rattle.road_files.specs.Asked.{AreQuestionsOf};
 ghost use Rattle.road_files.specs.BundleFiles.{bundle_of, bundle_rules};
 
-use crate::bundle_lines::BundleTaker;
+use crate::bundle_taker::BundleTaker;
 use crate::questions::Questions;
 use road_graph::Graph;
 use road_text::{ReadFault, RoadRead, read_whole};

@@ -1,10 +1,18 @@
 //! The part of a bundle that is read.
-ghost use Rattle.std.specs.Prelude.{◌≡◌};
+ghost use Rattle.std.specs.Prelude.{◌≡◌, [], map, OnOk, IfOk, MatchResult, Ok};
 ghost use Rattle.std.specs.Option.{ForSome};
+ghost use Rattle.road_text.specs.Slots.{word_in};
+ghost use Rattle.road_text.specs.Takes.{Leaves, Breaks};
+ghost use Rattle.road_files.specs.Asked.{asked_of, AreQuestionsOf};
+ghost use Rattle.road_files.specs.BundleFiles.{InGraph, InQuestions, first_question_line, question_part_line, bundle_end};
 
-use crate::graph_lines::GraphTaker;
+use crate::graph_taker::GraphTaker;
 use crate::question_taker::QuestionTaker;
+use crate::questions::Questions;
 use crate::taken_roads::TakenRoads;
+use road_graph::Graph;
+use road_text::{LineFault, Slot};
+use std::alloc::Global;
 
 /// The graph's arcs, which are all there, and the questions so far, of any kind.
 #[derive(Drop)]
@@ -13,6 +21,43 @@ pub struct QuestionPart {
     pub questions: QuestionTaker,
     ghost same: { questions.list.vertices ≡ roads.vertices },
     ghost any: { ForSome questions.only (λ _. ⊥) },
+}
+
+impl QuestionPart {
+    ghost use Rattle.road_files.specs.GraphTakes.{roads_so_far, taken_of};
+    ghost use Rattle.road_files.specs.QuestionTakes.{SoFar, sources_given, begun_of};
+
+    /// The question part that begins at a line; the graph is whole before it.
+    pub fn begin(graph: &mut GraphTaker, slots: &[Slot]) -> Result<QuestionPart, LineFault>
+        ensures rule { MatchResult result (λ p. first_question_line (taken_of graph.old) (map word_in slots.now) ≡ Ok (InQuestions (roads_so_far p.roads) (begun_of p.questions))) (Breaks (first_question_line (taken_of graph.old) (map word_in slots.now))) }
+        ensures ready { IfOk result (λ p. SoFar p.questions.list []) }
+    {
+        let roads = TakenRoads::whole(graph.taken.take())?;
+        let mut questions = QuestionTaker::new(graph.alloc, roads.vertices, None);
+        questions.problem(slots)?;
+        Ok(QuestionPart { roads, questions })
+    }
+
+    /// Takes a line by its first six fields.
+    pub fn take(&mut self, slots: &[Slot]) -> Result<(), LineFault>
+        ensures rule { Leaves (question_part_line (roads_so_far self.old.roads) (begun_of self.old.questions) (map word_in slots.now) self.old.questions.list.is_list self.old.questions.list.count (sources_given self.old.questions.list)) result (InQuestions (roads_so_far self.new.roads) (begun_of self.new.questions)) }
+        ensures ready { OnOk result (SoFar self.new.questions.list []) }
+    {
+        self.questions.take(slots)?;
+        self.questions.list.restart();
+        Ok(())
+    }
+
+    /// The graph and the questions, where all announced ones are there.
+    pub fn whole(self, alloc: Global) -> Result<(Graph, Questions), LineFault>
+        ensures rule { MatchResult result (λ b. bundle_end (InQuestions (roads_so_far self.roads) (begun_of self.questions)) ≡ Ok (b.0, asked_of b.1)) (Breaks (bundle_end (InQuestions (roads_so_far self.roads) (begun_of self.questions)))) }
+        ensures fit { IfOk result (λ b. AreQuestionsOf b.0.vertices b.1) }
+    {
+        let QuestionPart { roads, questions } = self;
+        let questions = questions.whole()?;
+        let graph = roads.build(alloc)?;
+        Ok((graph, questions))
+    }
 }
 
 /// The part of a bundle that is read, and what was read so far.

@@ -4,7 +4,7 @@ ghost use Rattle.std.specs.Io.KnownBytes.{IsAtEnd};
 ghost use Rattle.road_text.specs.Reads.{ReadsValue, ReadsSome, ReadsFault, ReadsSomeFault, TellsFailure, TellsNoOther, IsTooLong, IsPlaced, IsReadNumber};
 ghost use Rattle.road_files.specs.GraphFiles.{gr_rules};
 
-use crate::graph_lines::GraphTaker;
+use crate::graph_taker::GraphTaker;
 use road_graph::Graph;
 use road_text::{ReadFault, RoadRead, read_whole};
 use std::alloc::Global;

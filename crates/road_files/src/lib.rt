@@ -2,17 +2,14 @@
 #![tactic(auto)]
 
 mod bundle_files;
-mod bundle_lines;
 mod bundle_part;
+mod bundle_taker;
 mod graph_files;
-mod graph_lines;
+mod graph_taker;
 mod laws;
-mod list_fields;
 mod number_fields;
 mod present_list;
 mod question_files;
-mod question_items;
-mod question_lines;
 mod question_taker;
 mod questions;
 mod taken_questions;

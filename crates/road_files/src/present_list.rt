@@ -1,9 +1,19 @@
-//! The list of a line that begins with `m`, field by field.
-ghost use Rattle.std.specs.Prelude.{◌≡◌, ◌+◌, ◌<◌, ◌≤◌, length, All, true, None};
-ghost use Rattle.road_files.specs.Vertices.{IsVertexOf};
+//! The fields of the present line, and of a line that begins with `m` the vertices of its list.
+ghost use Rattle.std.specs.Prelude.{◌≡◌, ℕ, ◌+◌, ◌<◌, ◌≤◌, ◌++◌, ◌∷◌, [], List, length, All, OnOk, IfOk, IfErr, MatchResult, true, None, Ok};
+ghost use Rattle.road_text.specs.Slots.{word_in};
+ghost use Rattle.road_text.specs.Takes.{Breaks};
+ghost use Rattle.road_text.specs.Words.{held_word};
+ghost use Rattle.road_files.specs.Asked.{FromSources};
+ghost use Rattle.road_files.specs.QuestionFiles.{one_vertex_more, sources_of_line};
+ghost use Rattle.road_files.specs.Vertices.{AreSourcesOf, IsVertexOf};
 
+use crate::number_fields::vertex_of;
 use road_graph::Vertex;
-use road_text::Rule;
+use road_text::{LineFault, Rule, Slot};
+use std::alloc::Global;
+
+/// The most fields of a list's line: its letter and 1,024 sources.
+const MAX_FIELDS: u32 = 1_025;
 
 /// What is kept of the fields of the present line.
 #[derive(Drop)]
@@ -21,4 +31,99 @@ pub struct PresentList {
     ghost few: { vertices < 4294967296 },
     ghost within: { All (IsVertexOf vertices) sources.items },
     ghost counted: { is_list ≡ true → broken ≡ None → count ≤ 1025 → length sources.items + 1 ≡ count },
+}
+
+impl PresentList {
+    ghost use Rattle.road_files.specs.QuestionTakes.{SoFar, sources_given};
+
+    /// No field yet, of a line over a graph with this number of vertices.
+    pub fn new(alloc: Global, vertices: u32) -> Self
+        ensures vertices { result.vertices ≡ vertices }
+        ensures ready { SoFar result [] }
+    {
+        PresentList {
+            vertices,
+            count: 0,
+            is_list: false,
+            sources: Vec::new(alloc),
+            broken: None,
+        }
+    }
+
+    /// A line begins.
+    pub fn restart(&mut self)
+        ensures vertices { self.new.vertices ≡ self.old.vertices }
+        ensures ready { SoFar self.new [] }
+    {
+        self.count = 0;
+        self.is_list = false;
+    }
+
+    // One vertex more of the present list, or the first field that is none.
+    fn add(&mut self, slot: &Slot) -> Result<(), LineFault>
+        requires counted { self.old.count ≤ 1025 }
+        ensures sources { OnOk result (sources_given self.new ≡ one_vertex_more self.old.vertices (sources_given self.old) (word_in slot.now).number) }
+        ensures rest { OnOk result ((self.new.count ≡ self.old.count + 1) × (self.new.is_list ≡ self.old.is_list)) }
+        ensures vertices { self.new.vertices ≡ self.old.vertices }
+        ensures memory { IfErr result (λ e. e ≡ LineFault.Memory) }
+    {
+        if self.broken.is_some() {
+            self.count += 1;
+            return Ok(());
+        }
+        match vertex_of(slot, self.vertices) {
+            Ok(vertex) => {
+                let Ok(()) = self.sources.push(vertex) else {
+                    return Err(LineFault::Memory);
+                };
+            }
+            Err(LineFault::Memory) => return Err(LineFault::Memory),
+            Err(LineFault::Broken(rule)) => self.broken = Some(rule),
+        }
+        self.count += 1;
+        Ok(())
+    }
+
+    /// Takes the next field of the line.
+    pub fn field(&mut self, slot: &Slot) -> Result<(), LineFault>
+        ensures told { OnOk result ((fs : List (List ℕ)) (f : List ℕ) → SoFar self.old fs → word_in slot.now ≡ held_word f → SoFar self.new (fs ++ f ∷ [])) }
+        ensures vertices { self.new.vertices ≡ self.old.vertices }
+        ensures memory { IfErr result (λ e. e ≡ LineFault.Memory) }
+    {
+        if self.count == 0 {
+            self.sources.clear();
+            self.broken = None;
+            self.is_list = slot.is_word(b"m");
+            self.count = 1;
+            return Ok(());
+        }
+        if self.count > MAX_FIELDS {
+            return Ok(());
+        }
+        if self.is_list {
+            return self.add(slot);
+        }
+        self.count += 1;
+        Ok(())
+    }
+
+    /// The sources of the present list, whose line ends; the list is empty then.
+    #[tactic(auto, unfolding(crate::specs::QuestionFiles::sources_of_line))]
+    pub fn whole(&mut self, alloc: Global) -> Result<Vec<Vertex>, LineFault>
+        requires { self.old.is_list ≡ true }
+        ensures rule { MatchResult result (λ v. sources_of_line self.old.count (sources_given self.old) ≡ Ok (FromSources v.items)) (Breaks (sources_of_line self.old.count (sources_given self.old))) }
+        ensures within { IfOk result (λ v. AreSourcesOf self.old.vertices v.items) }
+        ensures vertices { self.new.vertices ≡ self.old.vertices }
+    {
+        if self.count < 2 || self.count > MAX_FIELDS {
+            return Err(LineFault::Broken(Rule::Fields));
+        }
+        if let Some(rule) = self.broken {
+            return Err(LineFault::Broken(rule));
+        }
+        let sources = std::mem::replace(&mut self.sources, Vec::new(alloc));
+        self.count = 0;
+        self.is_list = false;
+        Ok(sources)
+    }
 }

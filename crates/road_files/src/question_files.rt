@@ -109,10 +109,8 @@ pub fn read_ss<R: RoadRead>(
     ensures end { OnOk result (IsAtEnd (R.left from.new)) }
     ensures asked { R.asked from.new ≤ R.asked from.old + 4294967297 }
 {
-    match read_asked(alloc, from, vertices, Some(Kind::Sources)) {
-        Ok(questions) => Ok(sources_of(questions)),
-        Err(fault) => Err(fault),
-    }
+    let questions = read_asked(alloc, from, vertices, Some(Kind::Sources))?;
+    Ok(sources_of(questions))
 }
 
 /// The pairs of a source and a target of a .p2p file, over a graph with this number of vertices.
@@ -135,10 +133,8 @@ pub fn read_p2p<R: RoadRead>(
     ensures end { OnOk result (IsAtEnd (R.left from.new)) }
     ensures asked { R.asked from.new ≤ R.asked from.old + 4294967297 }
 {
-    match read_asked(alloc, from, vertices, Some(Kind::Pairs)) {
-        Ok(questions) => Ok(pairs_of(questions)),
-        Err(fault) => Err(fault),
-    }
+    let questions = read_asked(alloc, from, vertices, Some(Kind::Pairs))?;
+    Ok(pairs_of(questions))
 }
 
 /// The lists of sources of an .ms file, over a graph with this number of vertices.
@@ -161,8 +157,6 @@ pub fn read_ms<R: RoadRead>(
     ensures end { OnOk result (IsAtEnd (R.left from.new)) }
     ensures asked { R.asked from.new ≤ R.asked from.old + 4294967297 }
 {
-    match read_asked(alloc, from, vertices, Some(Kind::Multi)) {
-        Ok(questions) => Ok(lists_of(questions)),
-        Err(fault) => Err(fault),
-    }
+    let questions = read_asked(alloc, from, vertices, Some(Kind::Multi))?;
+    Ok(lists_of(questions))
 }

@@ -1,6 +1,7 @@
 //! Questions over a road graph as they are held in memory.
 
 use road_graph::Vertex;
+use road_text::Slot;
 
 /// What kind of questions a file has.
 #[derive(Clone, Copy, Debug, PartialEq, Eq)]
@@ -11,6 +12,41 @@ pub enum Kind {
     Pairs,
     /// From the nearest of several sources to all vertices.
     Multi,
+}
+
+impl Kind {
+    ghost use Rattle.std.specs.Prelude.{◌≡◌, ◌≤◌, length};
+    ghost use Rattle.road_text.specs.Slots.{word_in};
+    ghost use Rattle.road_files.specs.QuestionFiles.{kind_named};
+    ghost use Rattle.road_files.specs.WrittenFiles.{kind_word};
+
+    /// The word that names the kind.
+    pub fn word(self) -> &'static str
+        ensures word { result.now ≡ kind_word self }
+        ensures short { length result.now ≤ 3 }
+    {
+        match self {
+            Kind::Sources => "ss",
+            Kind::Pairs => "p2p",
+            Kind::Multi => "ms",
+        }
+    }
+
+    /// The kind that a field names.
+    pub fn named(slot: &Slot) -> Option<Kind>
+        ensures { result ≡ kind_named (word_in slot.now).text }
+    {
+        if slot.is_word(b"ss") {
+            return Some(Kind::Sources);
+        }
+        if slot.is_word(b"p2p") {
+            return Some(Kind::Pairs);
+        }
+        if slot.is_word(b"ms") {
+            return Some(Kind::Multi);
+        }
+        None
+    }
 }
 
 /// The questions of a file, in order.

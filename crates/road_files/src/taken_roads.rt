@@ -1,8 +1,17 @@
 //! The arcs of a graph file so far.
-ghost use Rattle.std.specs.Prelude.{◌≤◌, length, All};
+ghost use Rattle.std.specs.Prelude.{◌≡◌, ◌<◌, ◌≤◌, ◌++◌, ◌∷◌, [], length, map, All, IfOk, IfErr, OnOk, MatchResult, option_map, true, false, Ok};
 ghost use Rattle.road_graph.specs.Roads.{JoinsVertices};
+ghost use Rattle.road_text.specs.Slots.{word_in};
+ghost use Rattle.road_text.specs.Takes.{Leaves, Breaks};
+ghost use Rattle.road_files.specs.GraphFiles.{one_arc, gr_whole, graph_read};
 
-use road_graph::RoadArc;
+use crate::number_fields::{number_up_to, vertex_of};
+use road_graph::{Graph, GraphFault, RoadArc, Vertex};
+use road_text::{LineFault, Rule, Slot};
+use std::alloc::Global;
+
+/// The greatest weight of an arc.
+const MAX_WEIGHT: u32 = 4_294_967_295;
 
 /// What the problem line announced, and the arcs so far.
 #[derive(Drop)]
@@ -14,4 +23,88 @@ pub struct TakenRoads {
     ghost few_arcs: { announced ≤ 134217728 },
     ghost room: { length arcs.items ≤ announced },
     ghost joined: { All (JoinsVertices vertices) arcs.items },
+}
+
+impl TakenRoads {
+    ghost use Rattle.road_files.specs.GraphTakes.{roads_so_far, FitsArc};
+
+    fn push(&mut self, arc: RoadArc) -> Result<(), LineFault>
+        requires room { length self.old.arcs.items < self.old.announced }
+        requires joined { JoinsVertices self.old.vertices arc }
+        ensures ok { OnOk result (roads_so_far self.new ≡ record (roads_so_far self.old) { arcs = self.old.arcs.items ++ arc ∷ [] }) }
+        ensures err { IfErr result (λ e. e ≡ LineFault.Memory) }
+    {
+        match self.arcs.push(arc) {
+            Ok(()) => Ok(()),
+            Err(_) => Err(LineFault::Memory),
+        }
+    }
+
+    /// The arc of these numbers, where it breaks no rule and there is room for it: else nothing changes.
+    #[tactic(auto, unfolding(crate::specs::GraphFiles::one_arc))]
+    pub fn short_arc(&mut self, numbers: (u64, u64, u64)) -> bool
+        ensures left { result ≡ false → self.new ≡ self.old }
+        ensures taken { result ≡ true → (roads_so_far self.new ≡ record (roads_so_far self.old) { arcs = self.old.arcs.items ++ record { tail = numbers.0; head = numbers.1; weight = numbers.2 } ∷ [] }) }
+        ensures joined { result ≡ true → FitsArc (roads_so_far self.old) numbers.0 numbers.1 numbers.2 }
+    {
+        let (tail, head, weight) = numbers;
+        let n = u64::from(self.vertices);
+        if self.arcs.len() >= self.announced as usize || self.arcs.len() == self.arcs.capacity() {
+            return false;
+        }
+        if tail == 0 || tail > n || head == 0 || head > n || weight > u64::from(MAX_WEIGHT) {
+            return false;
+        }
+        let Ok(()) = self.arcs.push(RoadArc {
+            tail: Vertex(tail as u32),
+            head: Vertex(head as u32),
+            weight: weight as u32,
+        })
+        else {
+            unreachable!()
+        };
+        true
+    }
+
+    /// Takes the arc of a line behind the problem line.
+    #[tactic(auto, unfolding(crate::specs::GraphFiles::one_arc))]
+    pub fn add(&mut self, slots: &[Slot]) -> Result<(), LineFault>
+        ensures { Leaves (one_arc (roads_so_far self.old) (map word_in slots.now)) result (roads_so_far self.new) }
+    {
+        if self.arcs.len() >= self.announced as usize {
+            return Err(LineFault::Broken(Rule::TooMany));
+        }
+        if slots.len() != 4 {
+            return Err(LineFault::Broken(Rule::Fields));
+        }
+        let tail = vertex_of(&slots[1], self.vertices)?;
+        let head = vertex_of(&slots[2], self.vertices)?;
+        let weight = number_up_to(&slots[3], MAX_WEIGHT)?;
+        self.push(RoadArc { tail, head, weight })
+    }
+
+    /// All announced arcs, where they are there.
+    pub fn whole(taken: Option<TakenRoads>) -> Result<TakenRoads, LineFault>
+        ensures { MatchResult result (λ t. gr_whole (option_map roads_so_far taken) ≡ Ok (roads_so_far t)) (Breaks (gr_whole (option_map roads_so_far taken))) }
+    {
+        match taken {
+            None => Err(LineFault::Broken(Rule::NoProblem)),
+            Some(taken) if taken.arcs.len() < taken.announced as usize => Err(LineFault::Broken(
+                Rule::TooFew,
+            )),
+            Some(taken) => Ok(taken),
+        }
+    }
+
+    /// The graph of the arcs that were taken.
+    pub fn build(self, alloc: Global) -> Result<Graph, LineFault>
+        ensures graph { IfOk result (λ g. g ≡ graph_read (roads_so_far self)) }
+        ensures memory { IfErr result (λ e. e ≡ LineFault.Memory) }
+    {
+        match Graph::new(alloc, self.vertices, self.arcs) {
+            Ok(graph) => Ok(graph),
+            Err((GraphFault::Memory, _)) => Err(LineFault::Memory),
+            Err((GraphFault::BadEnd(_), _)) => unreachable!(),
+        }
+    }
 }

@@ -110,10 +110,8 @@ fn write_vertices<W: RoadWrite>(to: &mut W, vertices: &[Vertex]) -> Result<(), W
 fn write_list<W: RoadWrite>(to: &mut W, sources: &[Vertex]) -> Result<(), WriteFault>
     ensures { Wrote (W.written to.old) (W.written to.new) (W.failures to.old) (W.failures to.new) (spelled (list_words (codes "m") sources.now)) result }
 {
-    match write_bytes(to, b"m") {
-        Ok(()) => write_vertices(to, sources),
-        Err(fault) => Err(fault),
-    }
+    write_bytes(to, b"m")?;
+    write_vertices(to, sources)
 }
 
 fn write_lists<W: RoadWrite>(to: &mut W, lists: &[Vec<Vertex>]) -> Result<(), WriteFault>

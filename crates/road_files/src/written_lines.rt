@@ -1,7 +1,7 @@
 //! Lines of files, each put together before it is written.
 ghost use Rattle.std.specs.Prelude.{◌≡◌, ◌∷◌, ◌≤◌, [], codes, decimal, length};
 ghost use Rattle.road_text.specs.Texts.{spelled};
-ghost use Rattle.road_files.specs.WrittenFiles.{graph_words, arc_words, kind_word, problem_words, question_words};
+ghost use Rattle.road_files.specs.WrittenFiles.{graph_words, arc_words, problem_words, question_words};
 ghost use Rattle.road_files.specs.Asked.{FromSource, BetweenPair};
 
 use crate::questions::Kind;
@@ -34,17 +34,6 @@ pub fn fill_arc(line: &mut Line, arc: RoadArc)
     line.push_str("\n");
 }
 
-fn word_of(kind: Kind) -> &'static str
-    ensures word { result.now ≡ kind_word kind }
-    ensures short { length result.now ≤ 3 }
-{
-    match kind {
-        Kind::Sources => "ss",
-        Kind::Pairs => "p2p",
-        Kind::Multi => "ms",
-    }
-}
-
 /// The problem line of a question file.
 #[tactic(auto, unfolding(road_text::specs::Texts::spelled))]
 pub fn line_of_problem(kind: Kind, count: u64) -> Line
@@ -52,7 +41,7 @@ pub fn line_of_problem(kind: Kind, count: u64) -> Line
 {
     let mut line = Line::new();
     line.push_str("p aux sp ");
-    line.push_str(word_of(kind));
+    line.push_str(kind.word());
     push_spaced(&mut line, count);
     line.push_str("\n");
     line

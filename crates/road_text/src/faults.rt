@@ -3,6 +3,15 @@ ghost use Rattle.std.specs.Prelude.{◌≡◌, ◌≤◌};
 
 use thiserror::Error;
 
+/// The number of a read that failed.
+pub const READ_FAILED: u8 = 1;
+
+/// The number of a text with more bytes than a text may have.
+pub const TOO_LONG: u8 = 2;
+
+/// The number of a growth that was refused.
+pub const MEMORY: u8 = 3;
+
 /// The first fault of a text: its number, and the line it stands in, counted from 1, or 0 where it is no line's.
 #[derive(Clone, Copy, Debug, PartialEq, Eq, Error)]
 #[error("fault {number} in line {line}")]

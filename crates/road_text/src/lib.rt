@@ -18,7 +18,7 @@ mod slots;
 mod takes;
 
 pub use ends::{ReadFailed, RoadRead, RoadWrite, WriteFault};
-pub use faults::{Halt, LineFault, ReadFault, Rule};
+pub use faults::{Halt, LineFault, MEMORY, READ_FAILED, ReadFault, Rule, TOO_LONG};
 pub use gathered::{GATHERED, Gathered};
 pub use laws::{finds_first_fault, numbers_read_again, text_read_again};
 pub use line_words::{Line, push_number, push_spaced};

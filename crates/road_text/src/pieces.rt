@@ -47,9 +47,6 @@ fn write_numbers<W: RoadWrite>(to: &mut W, numbers: &[u32]) -> Result<(), WriteF
 pub fn write_list<W: RoadWrite>(to: &mut W, word: &[u8], numbers: &[u32]) -> Result<(), WriteFault>
     ensures { Wrote (W.written to.old) (W.written to.new) (W.failures to.old) (W.failures to.new) (spelled (list_words word.now numbers.now)) result }
 {
-    match write_bytes(to, word) {
-        Ok(()) => {}
-        Err(fault) => return Err(fault),
-    }
+    write_bytes(to, word)?;
     write_numbers(to, numbers)
 }

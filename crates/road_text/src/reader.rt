@@ -53,10 +53,7 @@ impl<T: TakesLines> LineReader<T> {
         ensures err { IfErr result (λ h. LineHalts T.way self.old (10 ∷ []) h) }
         ensures numbered { IfErr result IsNumbered }
     {
-        match self.end_field() {
-            Ok(()) => {}
-            Err(halt) => return Err(halt),
-        }
+        self.end_field()?;
         self.scanner.close();
         match self.taker.line(self.scanner.fields()) {
             Ok(()) => {}
@@ -109,10 +106,7 @@ impl<T: TakesLines> LineReader<T> {
         }
         self.held = false;
         if is_gap(byte) {
-            match self.end_field() {
-                Ok(()) => {}
-                Err(halt) => return Err(halt),
-            }
+            self.end_field()?;
             self.scanner.close();
             return Ok(());
         }

@@ -5,7 +5,7 @@ ghost use Rattle.road_text.specs.Reads.{TellsFailure, TellsNoOther, IsTooLong, I
 ghost use Rattle.road_text.specs.Standing.{Stops, TextGives, SomeTextGives, SomeTextStops, IsNumbered};
 
 use crate::ends::RoadRead;
-use crate::faults::{Halt, ReadFault};
+use crate::faults::{Halt, MEMORY, READ_FAILED, ReadFault, TOO_LONG};
 use crate::reader::LineReader;
 use crate::takes::TakesLines;
 
@@ -57,9 +57,18 @@ pub fn read_whole<R: RoadRead, T: TakesLines>(from: &mut R, taker: T) -> Result<
 {
     match read_text(from, taker) {
         Ok(value) => Ok(value),
-        Err(Halt::Read) => Err(ReadFault { number: 1, line: 0 }),
-        Err(Halt::TooLong) => Err(ReadFault { number: 2, line: 0 }),
-        Err(Halt::Memory) => Err(ReadFault { number: 3, line: 0 }),
+        Err(Halt::Read) => Err(ReadFault {
+            number: READ_FAILED,
+            line: 0,
+        }),
+        Err(Halt::TooLong) => Err(ReadFault {
+            number: TOO_LONG,
+            line: 0,
+        }),
+        Err(Halt::Memory) => Err(ReadFault {
+            number: MEMORY,
+            line: 0,
+        }),
         Err(Halt::Broken(fault)) => Err(fault),
     }
 }

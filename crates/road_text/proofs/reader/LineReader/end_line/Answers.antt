@@ -12,13 +12,13 @@ pub returns-in-Err-Broken-clause-err : goal.returns-in-Err-Broken-clause-err
 returns-in-Err-Broken-clause-err g c = λ cut rest present held.
     let shown : ShowsLine c.fields.result.now (strip_carriage_return present) =
     c.fields.ensures ∙ ap (λ (s : Scan). s.0) c.close.ensures ∙ ap past c.end_field.ensures.scanner ∙ shows_fields _ _ held.shown in
-    let told = c.in-Ok.ensures.told (strip_carriage_return present) held.shown in
-    rw (lines_first cut present rest held.whole, c.number.ensures.number, c.in-Err-Broken.rule-is, c.end_field.ensures.rest.2) (c.in-Ok.ensures.same cut c.args.self.now.line (strip_carriage_return present ∷ lines cut rest) _ (c.in-Err-Broken.ensures.broken c.in-Err-Broken.rule (ap (λ (e : LineFault). Err e) c.in-Err-Broken.field-0-is) cut c.args.self.now.line (strip_carriage_return present) (lines cut rest) shown told))
+    let told = c.in_ok-end_field.ensures.told (strip_carriage_return present) held.shown in
+    rw (lines_first cut present rest held.whole, c.number.ensures.number, c.in-Err-Broken.rule-is, c.end_field.ensures.rest.2) (c.in_ok-end_field.ensures.same cut c.args.self.now.line (strip_carriage_return present ∷ lines cut rest) _ (c.in-Err-Broken.ensures.broken c.in-Err-Broken.rule (ap (λ (e : LineFault). Err e) c.in-Err-Broken.field-0-is) cut c.args.self.now.line (strip_carriage_return present) (lines cut rest) shown told))
 
 pub returns-clause-ok : goal.returns-clause-ok
 returns-clause-ok g c = λ cut rest r h present held.
     let shown : ShowsLine c.fields.result.now (strip_carriage_return present) =
     c.fields.ensures ∙ ap (λ (s : Scan). s.0) c.close.ensures ∙ ap past c.end_field.ensures.scanner ∙ shows_fields _ _ held.shown in
-    let told = c.in-Ok.ensures.told (strip_carriage_return present) held.shown in
-    rw (lines_first cut present rest held.whole, ← c.end_field.ensures.rest.2) (c.in-Ok.ensures.same cut c.end_field.new.self.line (strip_carriage_return present ∷ lines cut rest) r
-    (c.in-Ok-line.ensures.ok cut c.end_field.new.self.line (strip_carriage_return present) (lines cut rest) r shown told (h [] (rw c.restart.ensures (holds_start (g.T.TakesLines.way.so_far c.line.new.self) c.in-Ok-line.ensures.ready)))))
+    let told = c.in_ok-end_field.ensures.told (strip_carriage_return present) held.shown in
+    rw (lines_first cut present rest held.whole, ← c.end_field.ensures.rest.2) (c.in_ok-end_field.ensures.same cut c.end_field.new.self.line (strip_carriage_return present ∷ lines cut rest) r
+    (c.in-Ok.ensures.ok cut c.end_field.new.self.line (strip_carriage_return present) (lines cut rest) r shown told (h [] (rw c.restart.ensures (holds_start (g.T.TakesLines.way.so_far c.line.new.self) c.in-Ok.ensures.ready)))))

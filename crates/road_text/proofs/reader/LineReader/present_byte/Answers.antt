@@ -21,11 +21,11 @@ returns-then-is_gap-clause-same g c = λ cut rest r h present held.
     let Q = g.T.TakesLines.way.so_far c.end_field.new.self.taker in
     let full : Shows P (scan_of c.add_held.new.self) present = rw c.add_held.ensures (shows_whole P c.args.self.now.held (scan_of c.args.self.now.scanner) present held.held held.shown) in
     let gap : is_gap c.args.byte ≡ true = sym c.is_gap.ensures ∙ c.if-is_gap.true in
-    let gone : Shows Q (past (scan_of c.add_held.new.self), no_word) (present ++ c.args.byte ∷ []) = shows_gap P Q (scan_of c.add_held.new.self) present c.args.byte gap full (c.in-Ok.ensures.told present full) in
+    let gone : Shows Q (past (scan_of c.add_held.new.self), no_word) (present ++ c.args.byte ∷ []) = shows_gap P Q (scan_of c.add_held.new.self) present c.args.byte gap full (c.in_ok-end_field.ensures.told present full) in
     let closed : Shows Q (scan_of c.close.new.self) (present ++ c.args.byte ∷ []) = subst (λ (s : Scan). Shows Q s (present ++ c.args.byte ∷ [])) (sym (c.close.ensures ∙ ap (λ (s : Scan). (past s, no_word)) c.end_field.ensures.scanner)) gone in
     let now : Holds Q true false (scan_of c.close.new.self) (present ++ c.args.byte ∷ []) = holds_other Q (scan_of c.close.new.self) present c.args.byte closed held.whole c.requires.other c.if-byte-eq13.false in
     let going : Holds Q c.end_field.new.self.begun c.end_field.new.self.held (scan_of c.close.new.self) (present ++ c.args.byte ∷ []) = rw (c.end_field.ensures.rest.0, c.end_field.ensures.rest.1) now in
-    rw (← append_assoc present (c.args.byte ∷ []) rest, ← c.end_field.ensures.rest.2) (c.in-Ok.ensures.same cut c.end_field.new.self.line (lines cut ((present ++ c.args.byte ∷ []) ++ rest)) r (h (present ++ c.args.byte ∷ []) going))
+    rw (← append_assoc present (c.args.byte ∷ []) rest, ← c.end_field.ensures.rest.2) (c.in_ok-end_field.ensures.same cut c.end_field.new.self.line (lines cut ((present ++ c.args.byte ∷ []) ++ rest)) r (h (present ++ c.args.byte ∷ []) going))
 
 pub returns-clause-same : goal.returns-clause-same
 returns-clause-same g c = λ cut rest r h present held.

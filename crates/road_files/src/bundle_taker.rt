@@ -10,9 +10,9 @@ ghost use Rattle.road_files.specs.GraphTakes.{roads_so_far, taken_of};
 ghost use Rattle.road_files.specs.QuestionTakes.{SoFar, sources_given, begun_of};
 
 use crate::bundle_part::{BundlePart, QuestionPart};
-use crate::graph_lines::{GraphTaker, build, whole};
-use crate::question_taker::QuestionTaker;
+use crate::graph_taker::GraphTaker;
 use crate::questions::Questions;
+use crate::taken_roads::TakenRoads;
 use road_graph::Graph;
 use road_text::{LineFault, Rule, Slot, TakesLines};
 use std::alloc::Global;
@@ -25,58 +25,13 @@ fn ends_graph(slots: &[Slot]) -> bool
     slots.len() > 1 && slots[0].is_word(b"p") && slots[1].is_word(b"aux")
 }
 
-// The question part that begins at a line; the graph is whole before it.
-fn question_part(graph: &mut GraphTaker, slots: &[Slot]) -> Result<QuestionPart, LineFault>
-    ensures rule { MatchResult result (λ p. first_question_line (taken_of graph.old) (map word_in slots.now) ≡ Ok (InQuestions (roads_so_far p.roads) (begun_of p.questions))) (Breaks (first_question_line (taken_of graph.old) (map word_in slots.now))) }
-    ensures ready { IfOk result (λ p. SoFar p.questions.list []) }
-{
-    let roads = match whole(graph.taken.take()) {
-        Ok(roads) => roads,
-        Err(fault) => return Err(fault),
-    };
-    let mut questions = QuestionTaker::new(graph.alloc, roads.vertices, None);
-    match questions.problem(slots) {
-        Ok(()) => Ok(QuestionPart { roads, questions }),
-        Err(fault) => Err(fault),
-    }
-}
-
 // The end of the graph part is no end of a bundle.
 fn no_questions(graph: GraphTaker) -> LineFault
     ensures { Breaks (bundle_end (InGraph (taken_of graph))) result }
 {
-    match whole(graph.taken) {
+    match TakenRoads::whole(graph.taken) {
         Ok(_) => LineFault::Broken(Rule::NoProblem),
         Err(fault) => fault,
-    }
-}
-
-impl QuestionPart {
-    fn take(&mut self, slots: &[Slot]) -> Result<(), LineFault>
-        ensures rule { Leaves (question_part_line (roads_so_far self.old.roads) (begun_of self.old.questions) (map word_in slots.now) self.old.questions.list.is_list self.old.questions.list.count (sources_given self.old.questions.list)) result (InQuestions (roads_so_far self.new.roads) (begun_of self.new.questions)) }
-        ensures ready { OnOk result (SoFar self.new.questions.list []) }
-    {
-        match self.questions.take(slots) {
-            Ok(()) => {}
-            Err(fault) => return Err(fault),
-        }
-        self.questions.list.restart();
-        Ok(())
-    }
-
-    fn whole(self, alloc: Global) -> Result<(Graph, Questions), LineFault>
-        ensures rule { MatchResult result (λ b. bundle_end (InQuestions (roads_so_far self.roads) (begun_of self.questions)) ≡ Ok (b.0, asked_of b.1)) (Breaks (bundle_end (InQuestions (roads_so_far self.roads) (begun_of self.questions)))) }
-        ensures fit { IfOk result (λ b. AreQuestionsOf b.0.vertices b.1) }
-    {
-        let QuestionPart { roads, questions } = self;
-        let questions = match questions.whole() {
-            Ok(questions) => questions,
-            Err(fault) => return Err(fault),
-        };
-        match build(alloc, roads) {
-            Ok(graph) => Ok((graph, questions)),
-            Err(fault) => Err(fault),
-        }
     }
 }
 
@@ -111,13 +66,9 @@ impl BundleTaker {
                 if !ends_graph(slots) {
                     return graph.take(slots);
                 }
-                match question_part(graph, slots) {
-                    Ok(part) => {
-                        self.part = BundlePart::Questions(part);
-                        Ok(())
-                    }
-                    Err(fault) => Err(fault),
-                }
+                let part = QuestionPart::begin(graph, slots)?;
+                self.part = BundlePart::Questions(part);
+                Ok(())
             }
         }
     }

@@ -4,7 +4,7 @@ use Rattle.road_text.proofs.TakerLaws.{on_ok, gives_taken, gives_broken}
 use Rattle.road_files.specs.BundleFiles.{bundle_of, bundle_rules}
 use Rattle.road_files.specs.BundleTakes.{bundle_so_far}
 use Rattle.road_files.proofs.BundleTakerLaws.{kept_rule}
-use Rattle.road_files.proofs.bundle_lines.BundleTakerTakesLines.line.Goals as goal
+use Rattle.road_files.proofs.bundle_taker.BundleTakerTakesLines.line.Goals as goal
 
 pub returns-clause-ok : goal.returns-clause-ok
 returns-clause-ok c = on_ok c.take.result _ _ c.take.ensures.rule

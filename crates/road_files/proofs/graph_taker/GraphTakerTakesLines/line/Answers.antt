@@ -4,7 +4,7 @@ use Rattle.road_text.proofs.TakerLaws.{on_ok, gives_taken, gives_broken}
 use Rattle.road_files.specs.GraphFiles.{gr_rules}
 use Rattle.road_files.specs.GraphTakes.{taken_of}
 use Rattle.road_files.proofs.GraphTakerLaws.{line_rule}
-use Rattle.road_files.proofs.graph_lines.GraphTakerTakesLines.line.Goals as goal
+use Rattle.road_files.proofs.graph_taker.GraphTakerTakesLines.line.Goals as goal
 
 pub returns-clause-ok : goal.returns-clause-ok
 returns-clause-ok c = on_ok c.take.result _ _ c.take.ensures

@@ -1,6 +1,6 @@
 use Rattle.std.proofs.Common.{Some, rules, ◌≡◌}
 use Rattle.road_files.proofs.GraphTakerLaws.{short_rule}
-use Rattle.road_files.proofs.graph_lines.GraphTaker.short.Goals as goal
+use Rattle.road_files.proofs.graph_taker.GraphTaker.short.Goals as goal
 
 pub returns-in-Some-clause-taken : goal.returns-in-Some-clause-taken
 returns-in-Some-clause-taken c = λ yes l shown.

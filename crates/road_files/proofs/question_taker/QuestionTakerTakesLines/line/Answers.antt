@@ -1,7 +1,7 @@
 use Rattle.std.proofs.Common.{◌∙◌}
 use Rattle.road_files.specs.QuestionTakes.{begun_of}
 use Rattle.road_files.proofs.QuestionTakerLaws.{line_taken, line_broken, broken_is}
-use Rattle.road_files.proofs.question_lines.QuestionTakerTakesLines.line.Goals as goal
+use Rattle.road_files.proofs.question_taker.QuestionTakerTakesLines.line.Goals as goal
 
 pub returns-in-Err-clause-broken : goal.returns-in-Err-clause-broken
 returns-in-Err-clause-broken c = λ rule is cut at l rest shown h. line_broken c.args.self.now c.args.slots.now l shown h cut at rest rule (broken_is _ c.in-Err.fault rule is c.in-Err.ensures.rule)

@@ -4,7 +4,7 @@ use Rattle.road_files.specs.BundleFiles.{InGraph, bundle_of, bundle_rules}
 use Rattle.road_files.specs.BundleTakes.{bundle_so_far}
 use Rattle.road_files.specs.GraphTakes.{taken_of}
 use Rattle.road_files.proofs.BundleTakerLaws.{short_rule}
-use Rattle.road_files.proofs.bundle_lines.BundleTakerTakesLines.short_line.Goals as goal
+use Rattle.road_files.proofs.bundle_taker.BundleTakerTakesLines.short_line.Goals as goal
 
 pub returns-in-Graph-clause-taken : goal.returns-in-Graph-clause-taken
 returns-in-Graph-clause-taken c = λ yes cut at l rest r shown more.

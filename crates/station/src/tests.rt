@@ -3,12 +3,16 @@ ghost use Rattle.std.specs.Prelude.{◌≡◌, ◌<◌, [], length};
 ghost use Rattle.std.specs.List.{All};
 ghost use Rattle.station.specs.Station.{BelongsTo};
 
-use crate::{Finished, Gathered, Station, Why, gather, open_question};
+mod threads;
+mod tolls;
+
+use crate::{Finished, Gathered, Station, Ungathered, Why, gather, open_question};
 use path_algebra::{Hops, PathAlgebra, Reach, Reliable, Shortest, Widest, Within};
 use post_floor::Floor;
 use road_graph::{Graph, RoadArc, Vertex};
 use shard_part::{Plan, Shard, Tally};
 use std::process::Abort;
+use tolls::Tolls;
 
 /// Five vertices, with a self-loop at 4; no arc leads to 5.
 const FIVE: [(u32, u32, u32); 7] = [
@@ -118,6 +122,41 @@ fn turned<'g, A: PathAlgebra>(
     stations
 }
 
+/// The last station of a list.
+fn last_of<'g, A: PathAlgebra>(
+    rt: &impl Abort,
+    floor: &Floor<A>,
+    stations: &mut Vec<Station<'g, A>>,
+) -> Station<'g, A>
+    requires { All (BelongsTo floor.now) stations.old.items }
+    ensures rest { All (BelongsTo floor.now) stations.new.items }
+    ensures last { BelongsTo floor.now result }
+{
+    match stations.pop() {
+        Some(station) => station,
+        None => panic!(rt; "no station is left"),
+    }
+}
+
+/// One more of those that have ended.
+fn with_one_more<'g, A: PathAlgebra>(
+    rt: &(impl Abort + AllocGlobal),
+    floor: &Floor<A>,
+    done: Vec<Finished<'g, A>>,
+    station: Station<'g, A>,
+) -> Vec<Finished<'g, A>>
+    requires done { All (BelongsTo floor.now) done.items }
+    requires station { BelongsTo floor.now station }
+    ensures { All (BelongsTo floor.now) result.items }
+{
+    let mut done = done;
+    match station.finish() {
+        Ok(station) => done.push(station).expect(rt, "memory"),
+        Err(_) => panic!(rt; "not ended"),
+    }
+    done
+}
+
 /// What `gather` takes of stations, all of which have ended.
 fn finished<'g, A: PathAlgebra>(
     rt: &(impl Abort + AllocGlobal),
@@ -130,12 +169,23 @@ fn finished<'g, A: PathAlgebra>(
     let mut stations = stations;
     let mut done = Vec::new(rt.alloc());
     while let Some(station) = stations.pop() {
-        match station.finish() {
-            Ok(station) => done.push(station).expect(rt, "memory"),
-            Err(_) => panic!(rt; "not ended"),
-        }
+        done = with_one_more(rt, floor, done, station);
     }
     done
+}
+
+/// The answer from what `finished` gives.
+fn gathered<A: PathAlgebra>(
+    rt: &(impl Abort + AllocGlobal),
+    floor: Floor<A>,
+    done: Vec<Finished<'_, A>>,
+) -> Gathered<A::Value>
+    requires { All (BelongsTo floor) done.items }
+{
+    match gather(rt.alloc(), floor, done) {
+        Ok(gathered) => gathered,
+        Err(_) => panic!(rt; "not gathered"),
+    }
 }
 
 /// The answer of a question over the five vertices, after so many turns.
@@ -151,10 +201,7 @@ fn answered<A: PathAlgebra>(
     let (floor, stations) = opened(rt, algebra, &graph, plan, source);
     let stations = turned(rt, &floor, stations, budget, turns);
     let done = finished(rt, &floor, stations);
-    match gather(rt.alloc(), floor, done) {
-        Ok(gathered) => gathered,
-        Err(_) => panic!(rt; "not gathered"),
-    }
+    gathered(rt, floor, done)
 }
 
 /// The label of each vertex, by the code of its value.
@@ -236,6 +283,8 @@ fn each_algebra(rt: HostRuntime) {
     let within = Within { limit: 5 };
     let near = [Some(0), Some(3), Some(1), None, None];
     labels_are(&rt, within, &answered(&rt, within, &plan, 1, 3, 200), near);
+    let tolls = [Some(0), Some(6), Some(2), Some(16), None];
+    labels_are(&rt, Tolls, &answered(&rt, Tolls, &plan, 1, 3, 200), tolls);
 }
 
 #[test]
@@ -287,20 +336,44 @@ fn peek_never_grows(rt: HostRuntime) {
     assert!(rt; last == Some(8));
 }
 
+/// What comes back where the station of shard 1 is missing, and of no shard before it.
+fn refused<'g, A: PathAlgebra>(
+    rt: &(impl Abort + AllocGlobal),
+    floor: Floor<A>,
+    done: Vec<Finished<'g, A>>,
+) -> (Floor<A>, Vec<Finished<'g, A>>)
+    requires { All (BelongsTo floor) done.items }
+    ensures floor { result.0 ≡ floor }
+    ensures stations { result.1.items ≡ done.entry.items }
+{
+    let Err(back) = gather(rt.alloc(), floor, done) else {
+        panic!(rt; "gathered")
+    };
+    let Ungathered {
+        why,
+        floor,
+        stations,
+    } = back;
+    assert!(rt; why == Why::Missing(Shard(1)));
+    (floor, stations)
+}
+
 #[test]
 fn refusals_hand_back(rt: HostRuntime) {
     let graph = five(&rt);
     let plan = blocks(&rt, 3);
     let (floor, stations) = opened(&rt, Shortest, &graph, &plan, 1);
     let mut stations = turned(&rt, &floor, stations, 1, 200);
-    assert!(rt; stations.len() == 3);
-    let left_out = stations.remove(1);
+    let third = last_of(&rt, &floor, &mut stations);
+    let second = last_of(&rt, &floor, &mut stations);
     let done = finished(&rt, &floor, stations);
-    let Err(back) = gather(rt.alloc(), floor, done) else {
-        panic!(rt; "gathered")
-    };
-    assert!(rt; back.why == Why::Missing(Shard(1)) && back.stations.len() == 2);
-    assert!(rt; left_out.finish().is_ok());
+    let (floor, done) = refused(&rt, floor, done);
+    assert!(rt; done.len() == 1);
+    let done = with_one_more(&rt, &floor, done, third);
+    let (floor, done) = refused(&rt, floor, done);
+    assert!(rt; done.len() == 2);
+    let done = with_one_more(&rt, &floor, done, second);
+    labels_are(&rt, Shortest, &gathered(&rt, floor, done), SHORTEST);
 }
 
 #[test]

@@ -1,0 +1,55 @@
+//! An algebra of a caller's own, for tests: each arc costs twice its weight.
+use path_algebra::{AlgebraName, PathAlgebra};
+
+/// The greatest value.
+const GREATEST: u64 = 1 << 63;
+
+/// The sum of twice a walk's weights, less is better, held at 2^63.
+#[derive(Clone, Copy, Debug, PartialEq, Eq)]
+pub struct Tolls;
+
+impl PathAlgebra for Tolls {
+    ghost use Rattle.std.specs.Prelude.{refl};
+    ghost use Rattle.path_algebra.specs.Laws.{less_is_better};
+    ghost use Rattle.station.specs.Tolls.{tolls, tolls_laws};
+
+    type Value = u64;
+
+    ghost order = { tolls.no_worse };
+
+    ghost meaning = { λ _. tolls };
+
+    ghost one_order = { λ _. refl };
+
+    ghost ordered = { less_is_better };
+
+    ghost lawful = { λ _. tolls_laws };
+
+    fn is_value(self, v: u64) -> bool {
+        v <= GREATEST
+    }
+
+    fn origin(self) -> u64 {
+        0
+    }
+
+    fn extend(self, v: u64, w: u32) -> Option<u64> {
+        Some(v.saturating_add(2 * u64::from(w)).min(GREATEST))
+    }
+
+    fn no_worse(a: u64, b: u64) -> bool {
+        a <= b
+    }
+
+    fn code(self, v: u64) -> u64 {
+        v
+    }
+
+    fn value_of(self, code: u64) -> Option<u64> {
+        if code <= GREATEST { Some(code) } else { None }
+    }
+
+    fn name(self) -> AlgebraName {
+        AlgebraName::Own
+    }
+}

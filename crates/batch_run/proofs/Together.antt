@@ -1,7 +1,8 @@
 -- Floors and stations of diffusions side by side: as they are opened, and when they have been run.
-use Rattle.std.proofs.Common.{zero, suc, ◌≡◌, ℕ, ◌<◌, ◌≤◌, ◌+◌, List, [], ◌∷◌, ◌++◌, length, get_or, map, refl, sym, ap, ◌∙◌, subst, arith, inl, inr, true, Vec}
+use Rattle.std.proofs.Common.{zero, suc, ◌≡◌, ◌≢◌, ℕ, ◌<◌, ◌≤◌, ◌+◌, List, [], ◌∷◌, ◌++◌, length, get_or, map, refl, sym, ap, ◌∙◌, subst, arith, inl, inr, true, Vec}
 use Rattle.std.specs.List.{All, slice_get}
 use Rattle.std.proofs.lemmas.Bool.{cases_lt}
+use Rattle.std.proofs.lemmas.List.Elements.{All-head, All-tail}
 use Rattle.std.proofs.lemmas.Grind.{common_steps}
 use Rattle.std.proofs.lemmas.Option.{slice_get-get_or, get_or_from_slice_get}
 use Rattle.path_algebra.specs.Algebra.{Algebra}
@@ -109,3 +110,10 @@ module _ {S V W : Type 0} (algebra : S) (roads : Roads) (plan : PlanData) (sourc
 -- the source at a place behind the first
 pub source_behind : (x y : ℕ) (xs : List ℕ) (n m : ℕ) → n ≡ suc m → m < length xs → y ≡ get_or xs m y → get_or (x ∷ xs) n y ≡ y
 source_behind x y xs n m e low is = rw e (sym is)
+
+-- the station of a shard is not missing where it is among them
+pub not_missing : {S V : Type 0} (k : ℕ) (stations : List (StationData S V)) → HasShard k stations → All (λ s. s.part.shard ≢ k) stations → ⊥
+unfolding Some_of
+not_missing k [] h missing = absurd h
+not_missing k (s ∷ ss) (inl h) missing = All-head (λ s. s.part.shard ≢ k) s ss missing h
+not_missing k (s ∷ ss) (inr h) missing = not_missing k ss h (All-tail (λ s. s.part.shard ≢ k) s ss missing)

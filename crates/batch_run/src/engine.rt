@@ -14,7 +14,7 @@ use post_floor::Floor;
 use road_files::Questions;
 use road_graph::{Graph, Memory, Vertex};
 use shard_part::Plan;
-use station::{Finished, Station, gather, open_question};
+use station::{Finished, Station, Why, gather, open_question};
 use std::alloc::{AllocError, Global};
 use std::sync::Wait;
 use std::thread::Threads;
@@ -144,7 +144,10 @@ fn gather_labels<'g, A: PathAlgebra>(
     let finished = finish_all(alloc, stations)?;
     match gather(alloc, floor, finished) {
         Ok(gathered) => Ok(gathered.labels),
-        Err(_) => Err(AllocError),
+        Err(ungathered) => match ungathered.why {
+            Why::Memory => Err(AllocError),
+            Why::Missing(_) => unreachable!(),
+        },
     }
 }
 

@@ -3,44 +3,45 @@ ghost use Rattle.std.specs.Prelude.{◌≡◌, ◌≢◌, ◌≤◌, ◌<◌, �
 ghost use Rattle.road_graph.specs.Roads.{HasVertex};
 ghost use Rattle.path_algebra.specs.Walks.{AreBest};
 ghost use Rattle.road_files.specs.Asked.{AreQuestionsOf, Question, asked_of};
-ghost use Rattle.batch_run.specs.Ended.{AreReady};
+ghost use Rattle.batch_run.specs.Ended.{AreReady, IsEnded, IsLayout};
 ghost use Rattle.batch_run.specs.InRange.{AreInRange};
 ghost use Rattle.batch_run.specs.Sources.{sources_of};
 
 use crate::engine::{Ahead, Batch, Layout, next_labels};
 use path_algebra::{Labels, PathAlgebra, laws_hold};
-use path_plain::solve_one;
+use path_plain::solve_from;
 use road_files::Questions;
 use road_graph::Vertex;
 use std::sync::Wait;
 use std::thread::Threads;
 use worker_fleet::{Gate, GroupFault};
 
-/// The best values over all walks from a source: by stations where there is a layout for them, else by the plain solver.
-fn label_one<'g, A: PathAlgebra, R: Threads + Wait, T: Gate>(
+/// The best values over all walks from some source of a list: of each source a diffusion of its own, and then these merged.
+fn merge_all<'g, A: PathAlgebra, R: Threads + Wait, T: Gate>(
     batch: &Batch<'g, A, R, T>,
-    layout: Option<&'g Layout>,
+    layout: &'g Layout,
     ahead: &mut Ahead<'g, A>,
-    source: Vertex,
+    sources: &[Vertex],
 ) -> Result<Labels<A::Value>, GroupFault>
     requires settings { AreInRange batch.now.settings.now }
-    requires source { HasVertex batch.now.graph.now source }
-    requires ready { AreReady batch.now.algebra batch.now.graph.now layout ahead.old.ended.items }
-    ensures labels { IfOk result (λ labels. AreBest (A.meaning batch.now.algebra) batch.now.graph.now (source ∷ []) labels) }
-    ensures ready { AreReady batch.now.algebra batch.now.graph.now layout.entry ahead.new.ended.items }
-    ensures plain { layout.entry ≡ None → IfErr result (λ f. f ≡ GroupFault.Memory) }
+    requires some { 1 ≤ length sources.now }
+    requires inside { All (HasVertex batch.now.graph.now) sources.now }
+    requires layout { IsLayout batch.now.graph.now layout.now.plan layout.now.sources.items }
+    requires ready { All (IsEnded batch.now.algebra batch.now.graph.now layout.now.plan) ahead.old.ended.items }
+    ensures labels { IfOk result (λ labels. AreBest (A.meaning batch.now.algebra) batch.now.graph.now sources.now labels) }
+    ensures ready { All (IsEnded batch.now.algebra batch.now.graph.now layout.now.plan) ahead.new.ended.items }
     ensures open { T.is_always_open batch.now.gate.now → result ≢ Err GroupFault.Gated }
 {
-    match layout {
-        Some(layout) => next_labels(batch, layout, ahead, source),
-        None => match solve_one(batch.alloc, batch.algebra, batch.graph, source) {
-            Ok(labels) => Ok(labels),
-            Err(_) => Err(GroupFault::Memory),
-        },
+    laws_hold(batch.algebra);
+    let mut labels = next_labels(batch, layout, ahead, sources[0])?;
+    for i in 1..sources.len() {
+        let other = next_labels(batch, layout, ahead, sources[i])?;
+        labels.merge(batch.algebra, &other);
     }
+    Ok(labels)
 }
 
-/// The best values over all walks from some source of a list, each source by itself and then merged.
+/// The best values over all walks from some source of a list: by stations where there is a layout for them, else by the plain solver, from all sources at once.
 pub(crate) fn label_all<'g, A: PathAlgebra, R: Threads + Wait, T: Gate>(
     batch: &Batch<'g, A, R, T>,
     layout: Option<&'g Layout>,
@@ -56,13 +57,13 @@ pub(crate) fn label_all<'g, A: PathAlgebra, R: Threads + Wait, T: Gate>(
     ensures plain { layout.entry ≡ None → IfErr result (λ f. f ≡ GroupFault.Memory) }
     ensures open { T.is_always_open batch.now.gate.now → result ≢ Err GroupFault.Gated }
 {
-    laws_hold(batch.algebra);
-    let mut labels = label_one(batch, layout, ahead, sources[0])?;
-    for i in 1..sources.len() {
-        let other = label_one(batch, layout, ahead, sources[i])?;
-        labels.merge(batch.algebra, &other);
+    match layout {
+        Some(layout) => merge_all(batch, layout, ahead, sources),
+        None => match solve_from(batch.alloc, batch.algebra, batch.graph, sources) {
+            Ok(labels) => Ok(labels),
+            Err(_) => Err(GroupFault::Memory),
+        },
     }
-    Ok(labels)
 }
 
 /// Best labels of the question at a place.

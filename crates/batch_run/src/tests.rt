@@ -152,14 +152,17 @@ fn lenient_spelling(rt: HostRuntime) -> Result<(), Fail> {
 
 #[test]
 fn repeated_sources(rt: HostRuntime) -> Result<(), Fail> {
-    let settings = Settings {
-        width: 2,
-        ..Settings::default()
-    };
     let questions = "p aux sp ss 3\ns 1\ns 1\ns 1\n";
     let wanted =
         "p ans ss 3 shortest\ns 1\nd 1 0 0 0\nd 2 3 2 3\nd 3 1 1 1\nd 4 8 3 2\nu 5\ns 1\nd 1 0 0 0\nd 2 3 2 3\nd 3 1 1 1\nd 4 8 3 2\nu 5\ns 1\nd 1 0 0 0\nd 2 3 2 3\nd 3 1 1 1\nd 4 8 3 2\nu 5\n";
-    assert_answered(&rt, Shortest, &settings, FIVE, questions, wanted)
+    for width in [1, 2, 3, 4, 64] {
+        let settings = Settings {
+            width,
+            ..Settings::default()
+        };
+        assert_answered(&rt, Shortest, &settings, FIVE, questions, wanted)?;
+    }
+    Ok(())
 }
 
 #[test]
@@ -214,6 +217,10 @@ fn any_settings_in_range(rt: HostRuntime) -> Result<(), Fail> {
     for plain in [false, true] {
         for (workers, shards, width, budget, turns) in [
             (1, 1, 1, 1, 18),
+            (1, 64, 64, 65_536, 1_000_000_000_000),
+            (64, 1, 64, 65_536, 1_000_000_000_000),
+            (64, 64, 1, 65_536, 1_000_000_000_000),
+            (64, 64, 64, 1, 1_000_000_000_000),
             (64, 64, 64, 65_536, 1_000_000_000_000),
         ] {
             let settings = Settings {

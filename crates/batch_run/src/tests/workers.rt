@@ -1,12 +1,17 @@
 //! Batches on workers: the same bytes for all, how often gates are asked, and what stops them.
+ghost use Rattle.std.specs.List.{All};
+ghost use Rattle.station.specs.Station.{BelongsTo};
+
 use super::{FIVE, FROM_ONE, SHORTEST, assert_answered};
 use crate::{File, Gate, OpenGate, RunFault, Settings, run_bundle};
 use crossbeam_utils::CachePadded;
-use path_algebra::{Shortest, Widest};
-use road_graph::Vertex;
+use path_algebra::{PathAlgebra, Reach, Shortest, Widest};
+use post_floor::Floor;
+use road_files::read_gr;
+use road_graph::{Graph, Vertex};
 use road_text::Plain;
 use shard_part::Plan;
-use station::open_question;
+use station::{Station, open_question};
 use std::alloc::Global;
 use std::process::Abort;
 use std::sync::Wait;
@@ -37,6 +42,13 @@ const SEVERAL: &str = "p aux sp ms 2\nm 4 5\nm 5 2\n";
 const NEAREST: &str =
     "p ans ms 2 shortest\nm 4 5\nd 1 3 1 5\nd 2 6 3 3\nd 3 4 2 1\nd 4 0 0 0\nd 5 0 0 0\nm 5 2\nd 1 3 1 5\nd 2 0 0 0\nd 3 4 2 1\nd 4 5 1 2\nd 5 0 0 0\n";
 
+/// A question from several sources, of which one stands twice.
+const TWICE: &str = "p aux sp ms 1\nm 1 1\n";
+
+/// What `TWICE` over `FIVE` is answered.
+const FROM_TWICE: &str =
+    "p ans ms 1 shortest\nm 1 1\nd 1 0 0 0\nd 2 3 2 3\nd 3 1 1 1\nd 4 8 3 2\nu 5\n";
+
 /// One worker, one shard, one item a turn.
 const SLOW: Settings = Settings {
     workers: 1,
@@ -64,10 +76,12 @@ impl Gate for Counting {
     }
 }
 
-fn counting() -> Counting {
-    Counting {
-        asked: AtomicU64::new(0),
-        greatest: AtomicU64::new(0),
+impl Counting {
+    fn new() -> Counting {
+        Counting {
+            asked: AtomicU64::new(0),
+            greatest: AtomicU64::new(0),
+        }
     }
 }
 
@@ -79,6 +93,18 @@ impl Gate for Closed {
 
     fn before(&self, _worker: u64, _turn: u64) -> bool {
         false
+    }
+}
+
+/// Closed to every worker at one turn.
+#[derive(Drop)]
+struct ClosedAt(u64);
+
+impl Gate for ClosedAt {
+    ghost is_always_open = { λ _. ⊥ };
+
+    fn before(&self, _worker: u64, turn: u64) -> bool {
+        turn != self.0
     }
 }
 
@@ -112,17 +138,124 @@ impl Gate for Meeting {
 }
 
 /// How a bundle ends at a gate, and what it has written.
-fn run_at<R: Threads + Wait, T: Gate>(
+fn run_at<A: PathAlgebra, R: Threads + Wait, T: Gate>(
     rt: &R,
     alloc: Global,
+    algebra: A,
     text: &str,
     settings: &Settings,
     gate: &T,
 ) -> (Result<(), RunFault>, Vec<u8>) {
     let mut out = Plain::new(Vec::new(alloc));
     let mut input = Plain::new(text.as_bytes());
-    let ended = run_bundle(rt, alloc, Shortest, &mut input, &mut out, settings, gate);
+    let ended = run_bundle(rt, alloc, algebra, &mut input, &mut out, settings, gate);
     (ended, out.into_inner())
+}
+
+/// One turn of a station, with one item.
+fn turn_one<A: PathAlgebra>(floor: &Floor<A>, station: &mut Station<'_, A>)
+    requires { BelongsTo floor.now station.old }
+    ensures { BelongsTo floor.now station.new }
+{
+    station.turn(floor, 1);
+}
+
+/// One turn of one station of a list.
+fn turned_once<'g, A: PathAlgebra>(
+    rt: &impl Abort,
+    floor: &Floor<A>,
+    stations: Vec<Station<'g, A>>,
+    k: usize,
+) -> Vec<Station<'g, A>>
+    requires { All (BelongsTo floor.now) stations.items }
+    ensures { All (BelongsTo floor.now) result.items }
+{
+    let mut stations = stations;
+    assert!(rt; k < stations.len());
+    turn_one(floor, &mut stations[k]);
+    stations
+}
+
+/// One turn of each station that has not ended, in order, and how many turns that were.
+fn turned_each<'g, A: PathAlgebra>(
+    rt: &impl Abort,
+    floor: &Floor<A>,
+    stations: Vec<Station<'g, A>>,
+) -> (Vec<Station<'g, A>>, u64)
+    requires { All (BelongsTo floor.now) stations.items }
+    ensures { All (BelongsTo floor.now) result.0.items }
+{
+    let mut stations = stations;
+    let mut turns = 0u64;
+    for k in 0..stations.len() {
+        assert!(rt; k < stations.len() && turns < 64);
+        if !stations[k].ended() {
+            stations = turned_once(rt, floor, stations, k);
+            turns += 1;
+        }
+    }
+    (stations, turns)
+}
+
+/// How many turns stations make, round and round, until all have ended.
+fn turns_to_the_end<'g, A: PathAlgebra>(
+    rt: &impl Abort,
+    floor: &Floor<A>,
+    stations: Vec<Station<'g, A>>,
+) -> u64
+    requires { All (BelongsTo floor.now) stations.items }
+{
+    let mut stations = stations;
+    let mut turns = 0u64;
+    for _ in 0..1000 {
+        let (turned, more) = turned_each(rt, floor, stations);
+        stations = turned;
+        if more == 0 {
+            return turns;
+        }
+        assert!(rt; turns < 1_000_000 && more <= 64);
+        turns += more;
+    }
+    panic!(rt; "not ended")
+}
+
+/// How many turns the stations of a question from the first vertex make with nobody to drive them.
+fn turns_alone<A: PathAlgebra>(
+    rt: &(impl Abort + AllocGlobal),
+    algebra: A,
+    graph: &Graph,
+    shards: u8,
+) -> u64 {
+    assert!(rt; 1 <= shards && shards <= 64 && graph.has(Vertex(1)));
+    let plan = Plan::blocks(rt.alloc(), graph.vertices(), shards).expect(rt, "memory");
+    let opened = open_question(rt.alloc(), algebra, graph, &plan, Vertex(1));
+    let (floor, stations) = opened.expect(rt, "memory");
+    turns_to_the_end(rt, &floor, stations)
+}
+
+/// Asserts that the gate of one worker is asked as often as the stations of a question turn when nobody drives them.
+fn assert_turns_agree<A: PathAlgebra>(
+    rt: &(impl Abort + AllocGlobal + Threads + Wait),
+    algebra: A,
+    graph: &str,
+) -> Result<(), Fail> {
+    let alloc = rt.alloc();
+    let text = format!(in alloc; "{graph}{FROM_ONE}")?;
+    let Ok(roads) = read_gr(alloc, &mut Plain::new(graph.as_bytes())) else {
+        panic!(rt; "refused")
+    };
+    for shards in [1u8, 3, 5] {
+        let gate = Counting::new();
+        let settings = Settings {
+            shards: u64::from(shards),
+            ..SLOW
+        };
+        let (ended, _) = run_at(rt, alloc, algebra, text.as_str(), &settings, &gate);
+        assert_eq!(rt; ended, Ok(()));
+        let alone = turns_alone(rt, algebra, &roads, shards);
+        assert_eq!(rt; gate.asked.load(Ordering::SeqCst), alone);
+    }
+    Ok(())
 }
 
 fn stopped(number: u8) -> Result<(), RunFault> {
@@ -160,8 +293,10 @@ fn plain_writes_the_same(rt: HostRuntime) -> Result<(), Fail> {
     };
     assert_answered(&rt, Shortest, &settings, FIVE, FROM_ONE, SHORTEST)?;
     assert_answered(&rt, Widest, &settings, WALK, FROM_ONE, WIDEST)?;
+    assert_answered(&rt, Shortest, &settings, FIVE, SEVERAL, NEAREST)?;
+    assert_answered(&rt, Shortest, &settings, FIVE, TWICE, FROM_TWICE)?;
     let text = format!(in rt.alloc(); "{FIVE}{FROM_ONE}")?;
-    let (ended, _) = run_at(&rt, rt.alloc(), text.as_str(), &settings, &Closed);
+    let (ended, _) = run_at(&rt, rt.alloc(), Shortest, text.as_str(), &settings, &Closed);
     assert_eq!(rt; ended, Ok(()));
     Ok(())
 }
@@ -191,11 +326,78 @@ fn turn_limits(rt: HostRuntime) -> Result<(), Fail> {
         (18, Ok(()), SHORTEST),
     ] {
         let settings = Settings { turns, ..SLOW };
-        let (ended, out) = run_at(&rt, rt.alloc(), text.as_str(), &settings, &OpenGate);
+        let (ended, out) = run_at(
+            &rt,
+            rt.alloc(),
+            Shortest,
+            text.as_str(),
+            &settings,
+            &OpenGate,
+        );
         assert_eq!(rt; ended, wanted);
         assert_eq!(rt; out.as_slice(), written.as_bytes());
     }
     Ok(())
+}
+
+#[test]
+fn every_turn_limit(rt: HostRuntime) -> Result<(), Fail> {
+    let text = format!(in rt.alloc(); "{FIVE}{FROM_ONE}")?;
+    for turns in 0..=200 {
+        let settings = Settings {
+            shards: 3,
+            turns,
+            ..SLOW
+        };
+        let (ended, out) = run_at(
+            &rt,
+            rt.alloc(),
+            Shortest,
+            text.as_str(),
+            &settings,
+            &OpenGate,
+        );
+        if ended == Ok(()) {
+            assert_eq!(rt; out.as_slice(), SHORTEST.as_bytes());
+        } else {
+            assert!(rt; turns < 200);
+            assert_eq!(rt; ended, stopped(40));
+            assert_eq!(rt; out.as_slice(), b"p ans ss 1 shortest\n".as_slice());
+        }
+    }
+    Ok(())
+}
+
+#[test]
+fn no_turn_for_no_question(rt: HostRuntime) -> Result<(), Fail> {
+    let settings = Settings { turns: 0, ..SLOW };
+    let text = "p sp 1 0\np aux sp ss 0\n";
+    let (ended, out) = run_at(&rt, rt.alloc(), Shortest, text, &settings, &Closed);
+    assert_eq!(rt; ended, Ok(()));
+    assert_eq!(rt; out.as_slice(), b"p ans ss 0 shortest\n".as_slice());
+    Ok(())
+}
+
+#[test]
+fn a_gate_that_closes(rt: HostRuntime) -> Result<(), Fail> {
+    let text = format!(in rt.alloc(); "{FIVE}{FROM_ONE}")?;
+    for turn in 1..=5 {
+        let settings = Settings { shards: 3, ..SLOW };
+        let gate = ClosedAt(turn);
+        let (ended, out) = run_at(&rt, rt.alloc(), Shortest, text.as_str(), &settings, &gate);
+        assert_eq!(rt; ended, stopped(41));
+        assert_eq!(rt; out.as_slice(), b"p ans ss 1 shortest\n".as_slice());
+    }
+    Ok(())
+}
+
+#[test]
+fn turns_agree(rt: HostRuntime) -> Result<(), Fail> {
+    assert_turns_agree(&rt, Shortest, FIVE)?;
+    assert_turns_agree(&rt, Widest, FIVE)?;
+    assert_turns_agree(&rt, Reach, FIVE)?;
+    assert_turns_agree(&rt, Shortest, CYCLE)?;
+    assert_turns_agree(&rt, Widest, WALK)
 }
 
 #[test]
@@ -206,9 +408,9 @@ fn a_closed_gate(rt: HostRuntime) -> Result<(), Fail> {
             workers,
             ..Settings::default()
         };
-        let (ended, out) = run_at(&rt, rt.alloc(), text.as_str(), &settings, &Closed);
+        let (ended, out) = run_at(&rt, rt.alloc(), Shortest, text.as_str(), &settings, &Closed);
         assert_eq!(rt; ended, stopped(41));
-        assert_eq!(rt; out.as_slice(), b"p ans ss 3 shortest\n");
+        assert_eq!(rt; out.as_slice(), b"p ans ss 3 shortest\n".as_slice());
     }
     Ok(())
 }
@@ -217,9 +419,9 @@ fn a_closed_gate(rt: HostRuntime) -> Result<(), Fail> {
 fn gates_are_asked_once_a_turn(rt: HostRuntime) -> Result<(), Fail> {
     let text = format!(in rt.alloc(); "{FIVE}{THRICE}")?;
     for (width, greatest) in [(1, 18), (2, 36)] {
-        let gate = counting();
+        let gate = Counting::new();
         let settings = Settings { width, ..SLOW };
-        let (ended, _) = run_at(&rt, rt.alloc(), text.as_str(), &settings, &gate);
+        let (ended, _) = run_at(&rt, rt.alloc(), Shortest, text.as_str(), &settings, &gate);
         assert_eq!(rt; ended, Ok(()));
         assert_eq!(rt; gate.asked.load(Ordering::SeqCst), 54);
         assert_eq!(rt; gate.greatest.load(Ordering::SeqCst), greatest);
@@ -247,7 +449,7 @@ fn two_workers_meet(rt: HostRuntime) -> Result<(), Fail> {
         turns: 1_000_000_000,
         ..Settings::default()
     };
-    let (ended, out) = run_at(&rt, rt.alloc(), text.as_str(), &settings, &gate);
+    let (ended, out) = run_at(&rt, rt.alloc(), Shortest, text.as_str(), &settings, &gate);
     assert_eq!(rt; ended, Ok(()));
     assert_eq!(rt; out.as_slice(), SHORTEST.as_bytes());
     for me in [0, 1] {

@@ -1,10 +1,11 @@
 use Rattle.std.proofs.Common.{take}
+use Rattle.std.specs.List.{All}
 use Rattle.path_algebra.specs.Walks.{AreBest}
-use Rattle.batch_run.specs.Ended.{AreReady}
-use Rattle.batch_run.proofs.labelling.label_all.Given as goal
+use Rattle.batch_run.specs.Ended.{IsEnded}
+use Rattle.batch_run.proofs.labelling.merge_all.Given as goal
 
 abbrev pub invariant-loop-i : goal.invariant-loop-i
 invariant-loop-i g l = record {
   best : AreBest (g.A.PathAlgebra.meaning l.batch.algebra) l.batch.graph.now (take l.i l.sources) l.labels;
-  ready : AreReady l.batch.algebra l.batch.graph.now l.layout l.ahead.ended.items;
+  ready : All (IsEnded l.batch.algebra l.batch.graph.now l.layout.plan) l.ahead.ended.items;
 }

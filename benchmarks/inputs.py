@@ -5,8 +5,11 @@ import subprocess
 import sys
 
 HERE = os.path.dirname(os.path.abspath(__file__))
-SOURCES = ["roads", "heap_dijkstra", "measure"]
+SOURCES = ["roads", "heap_dijkstra", "diffusing", "measure"]
 SEED = 1
+
+# How many sources the question files have.
+FEW, MANY = 5, 1024
 
 
 def stop(message):
@@ -30,12 +33,12 @@ def build(folder):
     if shutil.which(compiler()) is None:
         stop("there is no %s on the path, which builds the programs of benchmarks/" % compiler())
     os.makedirs(folder, exist_ok=True)
-    paths = {}
+    paths, common = {}, os.path.join(HERE, "common.hpp")
     for name in SOURCES:
         source, paths[name] = os.path.join(HERE, name + ".cpp"), os.path.join(folder, name)
-        if not is_newer(paths[name], source):
+        if not (is_newer(paths[name], source) and is_newer(paths[name], common)):
             tell("building " + name)
-            subprocess.run([compiler(), "-O2", "-std=c++17", "-o", paths[name], source], check=True)
+            subprocess.run([compiler(), "-O2", "-std=c++17", "-pthread", "-o", paths[name], source], check=True)
     return paths
 
 
@@ -46,22 +49,51 @@ def write_by(command, path):
     os.replace(path + ".part", path)
 
 
-class Roads:
-    """A graph in a file, with two question files: one source, and no question."""
+def write_lines(lines, path):
+    """Lines as a file, which is there only when it is whole."""
+    with open(path + ".part", "w") as out:
+        out.writelines(lines)
+    os.replace(path + ".part", path)
 
-    def __init__(self, name, size, shuffled=False):
-        self.name, self.shuffled = name, shuffled
+
+class Files:
+    """A graph in a file, and files of questions over it."""
+
+    marked = None
+
+    def at(self, stem):
+        self.graph, self.one_source, self.no_question = stem + ".gr", stem + ".one.ss", stem + ".none.ss"
+        self.few_sources, self.pairs, self.one_list = stem + ".few.ss", stem + ".p2p", stem + ".ms"
+
+    def warm(self):
+        """Reads the graphs once, so that no round waits for the disk."""
+        for path in filter(None, [self.graph, self.marked]):
+            with open(path, "rb") as file:
+                while file.read(1 << 20):
+                    pass
+
+
+class Roads(Files):
+    """A road-like graph; its kind is `shuffled` or `motorways`, as roads.cpp has it, or none."""
+
+    def __init__(self, name, size, kind=""):
+        self.name, self.kind = name, kind
         self.vertices, self.arcs = size
 
     def make(self, folder, roads, for_peer):
         """Writes the files that are not there yet; `for_peer` asks for the graph as LEMON reads it, too."""
-        stem = os.path.join(folder, "%d_%d%s" % (self.vertices, self.arcs, "_shuffled" if self.shuffled else ""))
-        self.graph, self.one_source, self.no_question = stem + ".gr", stem + ".one.ss", stem + ".none.ss"
+        stem = os.path.join(folder, "%d_%d%s" % (self.vertices, self.arcs, "_" + self.kind if self.kind else ""))
+        self.at(stem)
         self.marked = stem + ".marked.gr" if for_peer else None
-        order = ["shuffled"] if self.shuffled else []
-        self.write(self.graph, roads, ["graph", str(self.vertices), str(self.arcs), str(SEED)] + order)
-        self.write(self.one_source, roads, ["ss", str(self.vertices), "1", str(SEED)])
-        self.write(self.no_question, roads, ["ss", str(self.vertices), "0", str(SEED)])
+        kinds = [self.kind] if self.kind else []
+        self.write(self.graph, roads, ["graph", str(self.vertices), str(self.arcs), str(SEED)] + kinds)
+        for path, kind, count in ((self.one_source, "ss", 1), (self.no_question, "ss", 0), (self.few_sources, "ss", FEW),
+                                  (self.pairs, "p2p", FEW)):
+            self.write(path, roads, [kind, str(self.vertices), str(count), str(SEED)])
+        if not is_newer(self.one_list, roads):
+            many = subprocess.run([roads, "ss", str(self.vertices), str(MANY), str(SEED)], stdout=subprocess.PIPE, check=True)
+            sources = [line.split()[1] for line in many.stdout.decode().splitlines() if line.startswith("s ")]
+            write_lines(["p aux sp ms 1\n", "m %s\n" % " ".join(sources)], self.one_list)
         if self.marked and not is_newer(self.marked, self.graph):
             self.mark()
 
@@ -83,9 +115,65 @@ class Roads:
             shutil.copyfileobj(graph, marked, 1 << 20)
         os.replace(self.marked + ".part", self.marked)
 
-    def warm(self):
-        """Reads the graphs once, so that no round waits for the disk."""
-        for path in filter(None, [self.graph, self.marked]):
-            with open(path, "rb") as file:
-                while file.read(1 << 20):
-                    pass
+
+class Shape(Files):
+    """A graph of some plain shape, and one question from vertex 1."""
+
+    def __init__(self, name, size, shape):
+        self.name = "%s of %s" % (name, "{:,}".format(size))
+        self.size, self.shape = size, shape
+        self.vertices, self.arcs = shape(size)[:2]
+
+    def make(self, folder):
+        self.at(os.path.join(folder, "%s_%d" % (self.shape.__name__, self.size)))
+        if not is_newer(self.graph, __file__):
+            tell("making " + os.path.basename(self.graph))
+            arcs = self.shape(self.size)[2]
+            write_lines(self.lines(arcs), self.graph)
+            write_lines(["p aux sp ss 1\n", "s 1\n"], self.one_source)
+
+    def lines(self, arcs):
+        yield "p sp %d %d\n" % (self.vertices, self.arcs)
+        for arc in arcs:
+            yield "a %d %d %d\n" % arc
+
+
+def star(leaves):
+    """A hub, and an arc each way between it and each leaf."""
+    return leaves + 1, 2 * leaves, (arc for v in range(2, leaves + 2) for arc in ((1, v, v % 1009), (v, 1, v % 1013)))
+
+
+def chain(length):
+    """Arcs one behind the other."""
+    return length + 1, length, ((v, v + 1, v % 1009) for v in range(1, length + 1))
+
+
+def zero_grid(side):
+    """A square of places with arcs of weight 0 to the right and down, each way."""
+    def arcs():
+        for v in range(1, side * side + 1):
+            for there in ((v + 1 if v % side else 0), v + side):
+                if 0 < there <= side * side:
+                    yield v, there, 0
+                    yield there, v, 0
+
+    return side * side, 4 * side * (side - 1), arcs()
+
+
+def parallel(count):
+    """Two vertices, and arcs of falling weights from the one to the other."""
+    return 2, count, ((1, 2, count - k) for k in range(count))
+
+
+def locks(count):
+    """Diamonds in a chain on which labels improve exponentially often: each has a dear way, which a first wave takes
+    through all that follows, and a free one that is an arc longer; the arc before them waits until the wave has died."""
+    def arcs():
+        for k in range(count):
+            x = 1 + 3 * k
+            yield x, x + 1, 0
+            yield x + 1, x + 3, 1 << (count - 1 - k)
+            yield x + 1, x + 2, 0
+            yield x + 2, x + 3, 0
+
+    return 3 * count + 1, 4 * count, arcs()

@@ -2,9 +2,10 @@
 //
 //     measure OUTPUT COMMAND [ARGUMENT ..]
 //
-// One line: seconds of processor time (user and system), peak memory in KiB, and the exit status (128 and the signal's
-// number where a signal ended it). A child that is forked begins with its parent's memory, and its peak counts that;
+// One line: seconds of processor time (user and system), seconds of the clock, peak memory in KiB, and the exit status
+// (128 and the signal's number where a signal ended it). A child that is forked begins with its parent's memory, and its peak counts that;
 // this program is small, so that what it tells is the command's own peak.
+#include <chrono>
 #include <cstdio>
 #include <fcntl.h>
 #include <sys/resource.h>
@@ -25,6 +26,7 @@ int main(int count, char** words) {
         std::perror(words[1]);
         return 2;
     }
+    auto begun = std::chrono::steady_clock::now();
     pid_t child = fork();
     if (child == 0) {
         dup2(output, STDOUT_FILENO);
@@ -38,7 +40,8 @@ int main(int count, char** words) {
         std::perror("measure");
         return 2;
     }
+    std::chrono::duration<double> passed = std::chrono::steady_clock::now() - begun;
     int code = WIFEXITED(status) ? WEXITSTATUS(status) : 128 + WTERMSIG(status);
-    std::printf("%.6f %ld %d\n", seconds(used.ru_utime) + seconds(used.ru_stime), used.ru_maxrss, code);
+    std::printf("%.6f %.6f %ld %d\n", seconds(used.ru_utime) + seconds(used.ru_stime), passed.count(), used.ru_maxrss, code);
     return 0;
 }

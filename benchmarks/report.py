@@ -2,7 +2,7 @@
 import math
 import statistics
 
-from cases import PEAK, PEER, TIME
+from cases import BASELINE, DIFFUSING, PEAK, PEER, TIME, WALL
 
 
 class Table:
@@ -42,38 +42,95 @@ def table_of(title, what, unit, cases):
     table = Table(title, ["Graph and questions", "diffuse", "ratio to the baseline", "ratio to " + PEER])
     for case in cases:
         table.rows.append([case.title(), unit(case.median("diffuse", what)),
-                           spread(case.ratios("baseline", what)), spread(case.ratios(PEER, what))])
+                           spread(case.ratios(BASELINE, what)), spread(case.ratios(PEER, what))])
     return table
 
 
 def growth_of(cases):
     """Time over n log n (n vertices, logarithm of base 2) and peak memory over arcs, of diffuse and of the baseline."""
-    table = Table("Growth: one source, four sizes", ["Vertices", "Arcs", "diffuse", "ns per n log n", "of the baseline",
-                                                     "bytes per arc", "of the baseline"])
+    table = Table("Growth with --plain: one source, four sizes",
+                  ["Vertices", "Arcs", "diffuse", "ns per n log n", "of the baseline", "bytes per arc", "of the baseline"])
     for case in cases:
-        vertices, arcs = case.roads.vertices, case.roads.arcs
+        vertices, arcs = case.files.vertices, case.files.arcs
         work = vertices * math.log2(vertices)
-        times = ["%.1f" % (case.median(name, TIME) * 1e9 / work) for name in ("diffuse", "baseline")]
-        peaks = ["%.0f" % (case.median(name, PEAK) / arcs) for name in ("diffuse", "baseline")]
+        times = ["%.1f" % (case.median(name, TIME) * 1e9 / work) for name in ("diffuse", BASELINE)]
+        peaks = ["%.0f" % (case.median(name, PEAK) / arcs) for name in ("diffuse", BASELINE)]
         table.rows.append(["{:,}".format(vertices), "{:,}".format(arcs), seconds(case.median("diffuse", TIME))]
                           + times + peaks)
     return table
 
 
-def aims_of(cases, aims):
-    """Whether the median ratio to the baseline is at most what is aimed at, and how far it is from it."""
-    table = Table("Aims: ratios to the baseline", ["Graph and questions", "Of", "Aim: at most", "Median", "Aim"])
-    for name, kind, what, most in aims:
-        for case in cases:
-            if (case.roads.name, case.kind) == (name, kind):
-                median = statistics.median(case.ratios("baseline", what))
-                word = "met" if median <= most else "missed by %.0f %%" % (100 * (median / most - 1))
-                table.rows.append([case.title(), what, "%.2f" % most, "%.2f" % median, word])
+def engine_growth_of(cases):
+    """How the work of one worker grows: messages an arc, time a message, time over n log n."""
+    table = Table("Growth of the engine: one source, one worker, one shard",
+                  ["Graph", "Arcs", "Messages a vertex", "Messages an arc", "diffuse", "ns a message", "of plain C++",
+                   "ns per n log n", "bytes per arc", "of plain C++"])
+    for case in cases:
+        vertices, arcs, messages = case.files.vertices, case.files.arcs, case.messages()
+        time, theirs = case.median("diffuse", TIME), case.median(DIFFUSING, TIME)
+        table.rows.append([case.files.name, "{:,}".format(arcs), "%.0f" % (messages / vertices),
+                           "%.1f" % (messages / arcs), seconds(time), "%.0f" % (time * 1e9 / messages),
+                           "%.0f" % (theirs * 1e9 / messages), "%.0f" % (time * 1e9 / (vertices * math.log2(vertices)))]
+                          + ["%.0f" % (case.median(name, PEAK) / arcs) for name in ("diffuse", DIFFUSING)])
     return table
 
 
-def tables(cases, growing, aims):
-    return [table_of("Processor time: ratios as median (least to greatest)", TIME, seconds, cases),
-            table_of("Peak memory: ratios as median (least to greatest)", PEAK, size, cases),
-            aims_of(cases, aims),
-            growth_of(growing)]
+def settings_of(cases):
+    """What workers, shards, width and budget do."""
+    name = "Workers: %s, %s" % (cases[0].files.name, cases[0].kind)
+    table = Table(name, ["Workers", "Shards", "Width", "Budget", "Messages a vertex", "Processor time", "Wall time",
+                         "Peak memory", "Time to plain C++", "Wall to plain C++", "Memory to plain C++", "Time to the baseline"])
+    for case in cases:
+        ratios = ["%.2f" % statistics.median(case.ratios(DIFFUSING, what)) for what in (TIME, WALL, PEAK)]
+        table.rows.append(["{:,}".format(number) for number in case.settings.values()]
+                          + ["%.0f" % (case.messages() / case.files.vertices), seconds(case.median("diffuse", TIME)),
+                             seconds(case.median("diffuse", WALL)), size(case.median("diffuse", PEAK))]
+                          + ratios + ["%.0f" % statistics.median(case.ratios(BASELINE, TIME))])
+    return table
+
+
+def batches_of(cases, single):
+    """Several questions with --plain, beside one source of the same graph."""
+    table = Table("Batches with --plain", ["Graph and questions", "Processor time", "Wall time", "Peak memory",
+                                           "Processor time to one source", "Wall time to one source"])
+    for case in cases:
+        ratios = ["%.2f" % (case.median("diffuse", what) / single.median("diffuse", what)) for what in (TIME, WALL)]
+        table.rows.append([case.title(), seconds(case.median("diffuse", TIME)), seconds(case.median("diffuse", WALL)),
+                           size(case.median("diffuse", PEAK))] + ratios)
+    return table
+
+
+def shapes_of(pairs):
+    """Each shape at a size and at one whose number of arcs is about four times as great."""
+    table = Table("Shapes: one source, at two sizes", ["Shape", "Settings", "Arcs", "diffuse", "Arcs", "diffuse",
+                                                       "Growth of arcs", "Growth of time", "Ratio to plain C++"])
+    for less, more in pairs:
+        settings = "workers %(workers)d, shards %(shards)d" % less.settings
+        sides = [cell for case in (less, more)
+                 for cell in ("{:,}".format(case.files.arcs), seconds(case.median("diffuse", TIME)))]
+        growth = [more.files.arcs / less.files.arcs, more.median("diffuse", TIME) / less.median("diffuse", TIME)]
+        table.rows.append([less.files.name.split(" of ")[0], settings] + sides + ["%.1f" % it for it in growth]
+                          + [spread(more.ratios(DIFFUSING, TIME))])
+    return table
+
+
+def locks_of(cases, exact):
+    """The family on which labels improve exponentially often; how many messages there are is known beforehand."""
+    table = Table("Locks: messages of one worker and one shard", ["Locks", "Vertices", "Arcs", "Messages: 2^(k+2) - 3",
+                                                                  "Handled by diffuse", "diffuse", "diffuse --plain"])
+    for case, plain in cases:
+        count = case.files.size
+        table.rows.append([str(count), str(case.files.vertices), str(case.files.arcs), "{:,}".format(2 ** (count + 2) - 3),
+                           "exactly these" if exact[count] else "ANOTHER NUMBER", seconds(case.median("diffuse", TIME)),
+                           seconds(plain.median("diffuse", TIME))])
+    return table
+
+
+def aims_of(aims):
+    """Whether the median of each aim's ratios is at most what is aimed at, and how far it is from it."""
+    table = Table("Aims: medians of ratios", ["Graph, questions and settings", "Of", "Aim: at most", "Median", "Aim"])
+    for title, what, most, ratios in aims:
+        median = statistics.median(ratios)
+        word = "met" if median <= most else "missed by %.0f %%" % (100 * (median / most - 1))
+        table.rows.append([title, what, "%.2f" % most, "%.2f" % median, word])
+    return table

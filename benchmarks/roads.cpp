@@ -1,6 +1,6 @@
 // Writes road-like graphs and questions, in the formats of the 9th DIMACS Implementation Challenge, to standard output:
 //
-//     roads graph VERTICES ARCS SEED [shuffled]     a .gr
+//     roads graph VERTICES ARCS SEED [shuffled | motorways]     a .gr
 //     roads ss VERTICES QUESTIONS SEED              a .ss: sources
 //     roads p2p VERTICES QUESTIONS SEED             a .p2p: pairs
 //     roads ms VERTICES QUESTIONS SEED              a .ms: one to five sources a question
@@ -10,7 +10,9 @@
 // A graph is made from places on a grid, one a cell, each moved a little from the middle of its cell. Streets join
 // neighbouring places: a random tree that reaches all of them, and random further streets until there are enough.
 // A street is an arc each way of one weight, its length with bends. Places are numbered along a Z-curve, so that
-// neighbours mostly have near numbers, as in the challenge's graphs; with `shuffled` the numbers have no order.
+// neighbours mostly have near numbers, as in the challenge's graphs; with `shuffled` the numbers have no order. With
+// `motorways` some of the further streets go straight over eight cells, along every 32nd row and column, at less than half
+// their length: then a route by few arcs is seldom much longer than the shortest.
 #include <algorithm>
 #include <cmath>
 #include <cstdint>
@@ -140,6 +142,14 @@ public:
         uint64_t next = cell + (below ? width : 1);
         return next < count() ? place_in[next] : place;
     }
+
+    // The place where a motorway from this one comes out, to the right or below; or this place where there is none.
+    uint32_t next_exit(uint32_t place, bool below) const {
+        constexpr uint64_t FAR = 8, APART = 32;
+        uint64_t x = cell_of[place] % width, y = cell_of[place] / width, next = cell_of[place] + FAR * (below ? width : 1);
+        if ((below ? x : y) % APART != APART / 2 || (below ? y : x) % FAR != 0) return place;
+        return (below || x + FAR < width) && next < count() ? place_in[next] : place;
+    }
 };
 
 // A possible street: twice the number of its upper or left place, and one more where it leads down.
@@ -219,33 +229,58 @@ public:
     }
 };
 
-static void write_graph(uint32_t vertices, uint64_t arcs, uint64_t seed, bool shuffled) {
-    if (vertices == 0 || arcs % 2 == 1) stop("a graph has at least one vertex, and an even number of arcs");
-    Plane plane(vertices);
-    vector<bool> chosen = chosen_streets(plane, arcs / 2, seed);
-    vector<uint32_t> place_of(vertices);
+// How the vertices are numbered, and whether there are motorways.
+enum class Kind { ORDERED, SHUFFLED, MOTORWAYS };
+
+static uint64_t count_motorways(const Plane& plane) {
+    uint64_t count = 0;
+    for (uint32_t place = 0; place < plane.count(); place++) {
+        for (bool below : {false, true}) count += plane.next_exit(place, below) != place;
+    }
+    return count;
+}
+
+// The number of the vertex at each place, and the places in the order of the numbers.
+static std::pair<vector<uint32_t>, vector<uint32_t>> numbering(uint32_t vertices, uint64_t seed, bool shuffled) {
+    vector<uint32_t> place_of(vertices), number_of(vertices);
     std::iota(place_of.begin(), place_of.end(), 0u);
     if (shuffled) Random(seed, NUMBERS).shuffle(place_of);
-    vector<uint32_t> number_of(vertices);
     for (uint32_t i = 0; i < vertices; i++) number_of[place_of[i]] = i + 1;
+    return {number_of, place_of};
+}
+
+static void write_graph(uint32_t vertices, uint64_t arcs, uint64_t seed, Kind kind) {
+    if (vertices == 0 || arcs % 2 == 1) stop("a graph has at least one vertex, and an even number of arcs");
+    Plane plane(vertices);
+    bool motorways = kind == Kind::MOTORWAYS;
+    uint64_t fast = motorways ? count_motorways(plane) : 0;
+    if (fast > arcs / 2) stop("too few arcs for the motorways");
+    vector<bool> chosen = chosen_streets(plane, arcs / 2 - fast, seed);
+    auto [number_of, place_of] = numbering(vertices, seed, kind == Kind::SHUFFLED);
 
     Output out;
     string size = std::to_string(vertices), length = std::to_string(arcs);
     out.text("c road-like graph in the form of the 9th DIMACS Implementation Challenge: Shortest Paths\n");
     out.text("c made by benchmarks/roads.cpp: graph " + size + " " + length + " " + std::to_string(seed));
-    out.text(shuffled ? " shuffled\nc\n" : "\nc\n");
+    out.text(kind == Kind::SHUFFLED ? " shuffled\nc\n" : motorways ? " motorways\nc\n" : "\nc\n");
     out.text("p sp " + size + " " + length + "\n");
     out.text("c graph contains " + size + " nodes and " + length + " arcs\nc\n");
     Lengths lengths(plane, seed);
     Random directions(seed, DIRECTIONS);
+    auto write_both = [&, &number_of = number_of](uint32_t a, uint32_t b, uint64_t weight) {
+        uint64_t u = number_of[a], v = number_of[b];
+        if (directions.below(2) == 1) std::swap(u, v);
+        out.line('a', {u, v, weight});
+        out.line('a', {v, u, weight});
+    };
     for (uint32_t place : place_of) {
         for (Street street : {place * 2, place * 2 + 1}) {
-            if (!chosen[street]) continue;
             auto [a, b] = ends_of(plane, street);
-            uint64_t u = number_of[a], v = number_of[b], weight = lengths.weight(a, b);
-            if (directions.below(2) == 1) std::swap(u, v);
-            out.line('a', {u, v, weight});
-            out.line('a', {v, u, weight});
+            if (chosen[street]) write_both(a, b, lengths.weight(a, b));
+        }
+        for (bool below : {false, true}) {
+            uint32_t exit = motorways ? plane.next_exit(place, below) : place;
+            if (exit != place) write_both(place, exit, lengths.weight(place, exit) * 9 / 20);
         }
     }
     out.finish();
@@ -292,12 +327,13 @@ static uint64_t number(const char* word, uint64_t greatest) {
 
 int main(int count, char** words) {
     string kind = count > 1 ? words[1] : "";
-    bool shuffled = count == 6 && string(words[5]) == "shuffled";
-    bool graph = kind == "graph" && (count == 5 || shuffled);
+    string order = count == 6 ? words[5] : "";
+    bool graph = kind == "graph" && (count == 5 || order == "shuffled" || order == "motorways");
     bool questions = (kind == "ss" || kind == "p2p" || kind == "ms") && count == 5;
-    if (!graph && !questions) stop("usage: roads graph VERTICES ARCS SEED [shuffled] | roads ss|p2p|ms VERTICES QUESTIONS SEED");
+    if (!graph && !questions) stop("usage: roads graph VERTICES ARCS SEED [shuffled | motorways] | roads ss|p2p|ms VERTICES QUESTIONS SEED");
     auto vertices = static_cast<uint32_t>(number(words[2], 1 << 25));
     uint64_t length = number(words[3], graph ? 1 << 27 : 1 << 20), seed = number(words[4], 1 << 30);
-    if (graph) write_graph(vertices, length, seed, shuffled);
+    Kind drawn = order == "shuffled" ? Kind::SHUFFLED : order == "motorways" ? Kind::MOTORWAYS : Kind::ORDERED;
+    if (graph) write_graph(vertices, length, seed, drawn);
     else write_questions(kind, vertices, length, seed);
 }

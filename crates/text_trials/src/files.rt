@@ -189,6 +189,16 @@ fn a_reader_that_fails(rt: HostRuntime) {
     }
 }
 
+#[test]
+fn fronts_of_a_bundle(rt: HostRuntime) {
+    let text = BUNDLE;
+    for end in 0..text.len().saturating_sub(1) {
+        let (written, number, _line) = bundle(rt.alloc(), &text[..end], 5, false);
+        assert!(rt; (10 <= number && number <= 16) || number == 19);
+        assert_eq!(rt; written.as_slice(), b"".as_slice());
+    }
+}
+
 /// One text, a byte a million times, and another text.
 fn long_text(alloc: Global, front: &[u8], byte: u8, back: &[u8]) -> Result<Vec<u8>, AllocError> {
     let mut text = Vec::new(alloc);

@@ -1,0 +1,270 @@
+// Answers every question of a .ss by diffusing computations on threads, with the bytes of `diffuse solve`:
+//
+//     diffusing GRAPH QUESTIONS [WORKERS SHARDS WIDTH BUDGET]
+//
+// It is the engine's own rule in plain C++, to measure the engine against: the same parts, items in the same order,
+// batches through mailboxes of one word, a done word, workers that yield after a round in which nothing was done. On
+// standard error it tells how many messages were handled.
+//
+// The rule: a message that finds its vertex idle engages it, any other is answered by a signal at once. A better value
+// becomes the vertex's label, and goes on along every outgoing arc that is not waiting for a signal; the others have
+// their turn when their signal comes. A vertex that waits for no signal answers the message that engaged it.
+#include "common.hpp"
+
+#include <algorithm>
+#include <atomic>
+#include <memory>
+#include <thread>
+
+constexpr uint32_t NOT_ENGAGED = ~uint32_t(0);
+
+struct Settings {
+    uint32_t workers = 4, shards = 4, width = 1, budget = 1024;
+};
+
+// A message on an arc, or the signal that answers it. Arc 0 leads from the environment to the source.
+struct Item {
+    uint32_t arc;
+    bool is_signal;
+    uint64_t value;
+};
+
+class Ring {
+    vector<Item> room = vector<Item>(64);
+    size_t first = 0, count = 0;
+
+    void grow() {
+        vector<Item> wider(2 * room.size());
+        for (size_t i = 0; i < count; i++) wider[i] = room[(first + i) & (room.size() - 1)];
+        room.swap(wider);
+        first = 0;
+    }
+
+public:
+    bool is_empty() const { return count == 0; }
+
+    void push(const Item& item) {
+        if (count == room.size()) grow();
+        room[(first + count++) & (room.size() - 1)] = item;
+    }
+
+    Item pop() {
+        Item item = room[first];
+        first = (first + 1) & (room.size() - 1);
+        count--;
+        return item;
+    }
+};
+
+enum Word : uint32_t { EMPTY, FILLING, FULL, READING };
+
+struct Mailbox {
+    alignas(64) std::atomic<uint32_t> word{EMPTY};
+    vector<Item> batch;
+};
+
+// Arcs by their numbers, 1 to the number of arcs, and the numbers in the order of the rows.
+struct Network {
+    Graph graph;
+    vector<Arc> arcs;
+    vector<uint32_t> numbers;
+
+    explicit Network(ArcList list) : graph(list), numbers(list.arcs.size()) {
+        vector<uint32_t> next(size_t(list.vertices) + 1);
+        for (uint32_t v = 1; v <= list.vertices; v++) next[v] = graph.begin_of(v);
+        for (uint32_t i = 0; i < list.arcs.size(); i++) numbers[next[list.arcs[i].tail]++] = i + 1;
+        arcs.reserve(list.arcs.size() + 1);
+        arcs.push_back({0, 0, 0});
+        arcs.insert(arcs.end(), list.arcs.begin(), list.arcs.end());
+    }
+};
+
+struct Part {
+    Ring queue;
+    vector<vector<Item>> outboxes;
+    uint64_t messages = 0;
+    bool knows_end = false, is_over = false;
+};
+
+// One question: its tables, its parts, and what stands between them.
+class Question {
+    const Network& network;
+    const vector<uint8_t>& shard_of;
+    const Settings& settings;
+    vector<uint64_t> told;
+    vector<uint32_t> engager, deficit;
+    vector<char> busy;
+    std::unique_ptr<Mailbox[]> mailboxes;
+    std::atomic<uint32_t> done{0};
+
+    uint32_t shard_behind(uint32_t arc) const { return shard_of[arc == 0 ? source : network.arcs[arc].head]; }
+    uint32_t shard_before(uint32_t arc) const { return shard_of[arc == 0 ? source : network.arcs[arc].tail]; }
+
+    static void put(Part& part, uint32_t here, uint32_t to, const Item& item) {
+        if (to == here) part.queue.push(item);
+        else part.outboxes[to].push_back(item);
+    }
+
+    void offer(Part& part, uint32_t here, uint32_t arc, uint32_t vertex) {
+        if (busy[arc] || told[arc] == labels[vertex]) return;
+        busy[arc] = 1;
+        deficit[vertex]++;
+        told[arc] = labels[vertex];
+        put(part, here, shard_behind(arc), {arc, false, labels[vertex] + network.arcs[arc].weight});
+    }
+
+    void rest(Part& part, uint32_t here, uint32_t vertex) {
+        uint32_t arc = engager[vertex];
+        if (arc == NOT_ENGAGED || deficit[vertex] > 0) return;
+        engager[vertex] = NOT_ENGAGED;
+        put(part, here, shard_before(arc), {arc, true, 0});
+    }
+
+    void handle_message(Part& part, uint32_t here, const Item& item) {
+        uint32_t vertex = item.arc == 0 ? source : network.arcs[item.arc].head;
+        part.messages++;
+        bool better = item.value < labels[vertex];
+        if (better) labels[vertex] = item.value;
+        if (engager[vertex] == NOT_ENGAGED) engager[vertex] = item.arc;
+        else put(part, here, shard_before(item.arc), {item.arc, true, 0});
+        if (better) {
+            uint32_t end = network.graph.begin_of(vertex + 1);
+            for (uint32_t i = network.graph.begin_of(vertex); i < end; i++) offer(part, here, network.numbers[i], vertex);
+        }
+        rest(part, here, vertex);
+    }
+
+    void handle_signal(Part& part, uint32_t here, uint32_t arc) {
+        if (arc == 0) {
+            part.knows_end = true;
+            return;
+        }
+        uint32_t vertex = network.arcs[arc].tail;
+        busy[arc] = 0;
+        deficit[vertex]--;
+        offer(part, here, arc, vertex);
+        rest(part, here, vertex);
+    }
+
+    Mailbox& mailbox(uint32_t from, uint32_t to) { return mailboxes[size_t(from) * settings.shards + to]; }
+
+    bool read_from(Part& part, Mailbox& box) {
+        uint32_t full = FULL;
+        if (box.word.load(std::memory_order_relaxed) != FULL || !box.word.compare_exchange_strong(full, READING)) return false;
+        for (const Item& item : box.batch) part.queue.push(item);
+        box.batch.clear();
+        box.word.store(EMPTY);
+        return true;
+    }
+
+    bool publish(vector<Item>& outbox, Mailbox& box) {
+        uint32_t empty = EMPTY;
+        if (outbox.empty() || !box.word.compare_exchange_strong(empty, FILLING)) return false;
+        box.batch.swap(outbox);
+        box.word.store(FULL);
+        return true;
+    }
+
+public:
+    const uint32_t source;
+    vector<uint64_t> labels;
+    vector<Part> parts;
+
+    Question(const Network& network, const vector<uint8_t>& shard_of, const Settings& settings, uint32_t source)
+        : network(network), shard_of(shard_of), settings(settings), told(network.arcs.size(), UNREACHED),
+          engager(shard_of.size(), NOT_ENGAGED), deficit(shard_of.size()), busy(network.arcs.size()),
+          mailboxes(new Mailbox[size_t(settings.shards) * settings.shards]), source(source),
+          labels(shard_of.size(), UNREACHED), parts(settings.shards) {
+        for (Part& part : parts) part.outboxes.resize(settings.shards);
+        parts[shard_of[source]].queue.push({0, false, 0});
+    }
+
+    // One turn of a shard; whether it did anything.
+    bool turn(uint32_t here) {
+        Part& part = parts[here];
+        bool did = false;
+        for (uint32_t s = 0; s < settings.shards; s++) {
+            if (s != here) did |= read_from(part, mailbox(s, here));
+        }
+        for (uint32_t k = 0; k < settings.budget && !part.queue.is_empty(); k++) {
+            Item item = part.queue.pop();
+            if (item.is_signal) handle_signal(part, here, item.arc);
+            else handle_message(part, here, item);
+            did = true;
+        }
+        for (uint32_t s = 0; s < settings.shards; s++) {
+            if (s != here) did |= publish(part.outboxes[s], mailbox(here, s));
+        }
+        if (part.knows_end) done.store(1);
+        part.is_over = part.knows_end || done.load() == 1;
+        return did;
+    }
+};
+
+using Group = vector<std::unique_ptr<Question>>;
+
+// One worker: turns its shards of all questions round and round until all are over.
+static void drive(Group& group, const Settings& settings, uint32_t worker) {
+    for (bool any = true; any;) {
+        any = false;
+        bool did = false;
+        for (auto& question : group) {
+            for (uint32_t s = worker; s < settings.shards; s += settings.workers) {
+                if (question->parts[s].is_over) continue;
+                any = true;
+                did |= question->turn(s);
+            }
+        }
+        if (!did) std::this_thread::yield();
+    }
+}
+
+static void run(Group& group, const Settings& settings) {
+    vector<std::thread> threads;
+    for (uint32_t k = 1; k < settings.workers; k++) threads.emplace_back([&, k] { drive(group, settings, k); });
+    drive(group, settings, 0);
+    for (std::thread& thread : threads) thread.join();
+}
+
+static Settings settings_of(int count, char** words) {
+    Settings settings;
+    if (count == 7) {
+        auto number = [&](int i) { return static_cast<uint32_t>(std::strtoul(words[i], nullptr, 10)); };
+        settings = {number(3), number(4), number(5), number(6)};
+    } else if (count != 3) {
+        stop("usage: diffusing GRAPH QUESTIONS [WORKERS SHARDS WIDTH BUDGET]");
+    }
+    if (settings.workers == 0 || settings.width == 0 || settings.budget == 0 || settings.shards == 0 || settings.shards > 64) {
+        stop("a setting out of its range");
+    }
+    return settings;
+}
+
+int main(int count, char** words) {
+    Settings settings = settings_of(count, words);
+    Network network(read_graph(words[1]));
+    uint32_t vertices = network.graph.vertices();
+    vector<uint32_t> sources = read_sources(words[2], vertices);
+    vector<uint8_t> shard_of(size_t(vertices) + 1);
+    for (uint64_t v = 1; v <= vertices; v++) shard_of[v] = static_cast<uint8_t>((v - 1) * settings.shards / vertices);
+    Output out;
+    out.line("p ans ss", {sources.size()}, " shortest");
+    uint64_t messages = 0;
+    for (size_t first = 0; first < sources.size(); first += settings.width) {
+        Group group;
+        for (size_t i = first; i < std::min(sources.size(), first + settings.width); i++) {
+            group.emplace_back(new Question(network, shard_of, settings, sources[i]));
+        }
+        run(group, settings);
+        for (auto& question : group) {
+            for (const Part& part : question->parts) messages += part.messages;
+            Answer answer(vertices);
+            answer.distance.swap(question->labels);
+            find_parents(network.graph, question->source, answer);
+            write_answer(out, question->source, answer);
+            question.reset();
+        }
+    }
+    out.write_out();
+    std::fprintf(stderr, "%llu\n", static_cast<unsigned long long>(messages));
+}

@@ -38,13 +38,13 @@ pub const WORKERS: &str = "Threads that turn the shards of the questions, 1 to 6
 pub const SHARDS: &str = "Parts that the vertices are cut into, 1 to 64";
 
 /// How many questions are run together.
-pub const WIDTH: &str = "Questions under way together, 1 to 64; memory grows with it";
+pub const WIDTH: &str = "Questions run together, 1 to 64; memory grows with it";
 
 /// How much a shard does before the next has its turn.
-pub const BUDGET: &str = "Messages and signals that a shard handles in a turn, 1 to 65536";
+pub const BUDGET: &str = "Messages and signals of a shard in a turn, 1 to 65536";
 
 /// How long a worker goes on.
-pub const TURNS: &str = "Turns of a worker in a group of questions, then fault 40";
+pub const TURNS: &str = "Turns of a worker in a group, then fault 40";
 
 /// The one-thread solver.
 pub const PLAIN: &str =

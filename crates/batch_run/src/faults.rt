@@ -2,7 +2,7 @@
 ghost use Rattle.std.specs.Prelude.{◌≡◌};
 ghost use Rattle.batch_run.specs.Answered.{fault_of_answer, fault_of_group};
 
-use road_text::ReadFault;
+use road_text::{MEMORY, ReadFault};
 use thiserror::Error;
 use worker_fleet::GroupFault;
 
@@ -39,9 +39,6 @@ pub(crate) enum Unanswered {
     Write,
 }
 
-/// Want of memory, or of a thread.
-pub(crate) const MEMORY: u8 = 3;
-
 /// A worker reached its limit of turns.
 const STALLED: u8 = 40;
 
@@ -49,7 +46,10 @@ const STALLED: u8 = 40;
 const GATED: u8 = 41;
 
 /// A write that failed, took nothing, or was not passed on.
-pub(crate) const WRITE: u8 = 42;
+pub const WRITE: u8 = 42;
+
+/// A setting that is out of its range, or a limit that does not go with the algebra.
+pub const SETTINGS: u8 = 43;
 
 /// A fault of the run itself.
 pub fn fault_of_run(number: u8) -> RunFault

@@ -10,7 +10,7 @@ mod run;
 mod settings;
 mod telling;
 
-pub use faults::{File, RunFault, fault_in, fault_of_run};
+pub use faults::{File, RunFault, SETTINGS, WRITE, fault_in, fault_of_run};
 pub use laws::answers_exist;
 pub use run::{run_bundle, run_pair};
 pub use settings::Settings;

@@ -9,7 +9,7 @@ ghost use Rattle.batch_run.specs.Ran.{IsPassedOn, Done, Begun, BegunWhole, IsPai
 use crate::answering::answer_at;
 use crate::engine::{Ahead, Batch, prepare};
 use crate::faults::{
-    File, MEMORY, RunFault, WRITE, fault_in, fault_of_answer, fault_of_group, fault_of_run,
+    File, RunFault, SETTINGS, WRITE, fault_in, fault_of_answer, fault_of_group, fault_of_run,
 };
 use crate::labelling::labels_at;
 use crate::laws::answers_exist;
@@ -18,14 +18,11 @@ use answer_text::{first_answers_begin_all, write_header};
 use path_algebra::PathAlgebra;
 use road_files::{Questions, read_bundle, read_gr, read_questions};
 use road_graph::Graph;
-use road_text::{RoadRead, RoadWrite};
+use road_text::{MEMORY, RoadRead, RoadWrite};
 use std::alloc::Global;
 use std::sync::Wait;
 use std::thread::Threads;
 use worker_fleet::Gate;
-
-/// A setting that is out of its range.
-const SETTINGS: u8 = 43;
 
 /// Answers all questions in order, and stops at the first fault.
 fn answer_all<A: PathAlgebra, W: RoadWrite, R: Threads + Wait, T: Gate>(

@@ -6,7 +6,7 @@ use crate::commands::{bundle, check, solve};
 use crate::places::Places;
 use crate::reports::report;
 use batch_run::{File, RunFault, Settings};
-use road_text::RoadWrite;
+use road_text::{READ_FAILED, RoadWrite};
 use std::alloc::Global;
 use std::sync::Wait;
 use std::thread::Threads;
@@ -18,7 +18,7 @@ fn open<P: Places>(places: &P, path: &str, file: File) -> Result<P::File, RunFau
     match places.open(path) {
         Ok(opened) => Ok(opened),
         Err(_) => Err(RunFault {
-            number: 1,
+            number: READ_FAILED,
             file,
             line: 0,
         }),

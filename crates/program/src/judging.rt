@@ -12,22 +12,16 @@ use crate::chosen::{Chosen, choose};
 use crate::verdicts::tell;
 use answer_check::{Verdict, check};
 use answer_text::{Answers, read_answers};
-use batch_run::{File, RunFault, fault_in, fault_of_run};
+use batch_run::{File, RunFault, SETTINGS, fault_in, fault_of_run};
 use path_algebra::{AlgebraName, Hops, Reach, Reliable, Shortest, Widest};
 use road_files::{Questions, read_gr, read_questions};
 use road_graph::{Graph, Memory};
-use road_text::{RoadRead, RoadWrite};
+use road_text::{MEMORY, RoadRead, RoadWrite};
 use std::alloc::Global;
 use std::thread::Threads;
 
-/// Want of memory.
-const MEMORY: u8 = 3;
-
 /// A name in the header of answers that the program has no algebra for.
 const NO_SUCH_NAME: u8 = 31;
-
-/// A limit that does not go with the algebra, or one that is missing.
-const SETTINGS: u8 = 43;
 
 /// The algebra of the name that answers carry, with the limit that the command line gives.
 fn algebra_named(name: AlgebraName, limit: Option<u64>) -> Result<Chosen, RunFault>

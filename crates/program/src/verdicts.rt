@@ -6,11 +6,8 @@ ghost use Rattle.program.specs.Reports.{EndsAs};
 
 use crate::reports::report;
 use answer_check::Verdict;
-use batch_run::{File, RunFault, fault_of_run};
+use batch_run::{File, RunFault, WRITE, fault_of_run};
 use road_text::{Line, RoadWrite, push_spaced, write_bytes};
-
-/// A write that failed, took nothing, or was not passed on.
-const WRITE: u8 = 42;
 
 /// The line that tells a verdict.
 #[tactic(auto, unfolding(road_text::specs::Texts::spelled))]

@@ -8,23 +8,17 @@ use crate::jobs::{bundle_given, check_files, solve_files};
 use crate::options::{Job, Wanted, read_job};
 use crate::places::{HostPlaces, Places};
 use crate::reports::report;
-use batch_run::{File, RunFault, fault_of_run};
+use batch_run::{File, RunFault, SETTINGS, fault_of_run};
 use clap::Error;
 use clap::error::ErrorKind;
 use path_algebra::AlgebraName;
-use road_text::{Gathered, Plain, RoadWrite, write_bytes};
+use road_text::{Gathered, MEMORY, Plain, RoadWrite, write_bytes};
 use std::alloc::{AllocError, Global};
 use std::io::Write;
 use std::rt::{Env, Files};
 use std::sync::Wait;
 use std::thread::Threads;
 use std::{env, io};
-
-/// Want of memory.
-const MEMORY: u8 = 3;
-
-/// A setting that is out of its range, or a limit that does not go with the algebra.
-const SETTINGS: u8 = 43;
 
 /// The exit status of a wrong command line.
 const USAGE: u8 = 2;

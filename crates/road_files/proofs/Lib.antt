@@ -1,4 +1,3 @@
-pub mod WholeTexts
 pub mod HeldNumbers
 pub mod HeldGraphLines
 pub mod GraphTakerLaws

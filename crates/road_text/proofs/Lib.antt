@@ -12,3 +12,4 @@ pub mod FirstFault
 pub mod RoundTrip
 pub mod ShortLineLaws
 pub mod OwnNumbers
+pub mod WholeTexts

@@ -44,3 +44,19 @@ IsNumberFrom least greatest number = ((1 ≤ number) × (number ≤ 3)) ⊎ ((le
 -- a fault has such a number
 abbrev pub IsReadNumber : {A : Type 0} → ℕ → ℕ → Result A ReadFault → Type 0
 IsReadNumber least greatest result = IfErr result (λ f. IsNumberFrom least greatest f.number)
+
+-- what a reader of whole texts promises by these rules, seen through this view, between two moments of what it reads from:
+-- `bytes` tells what is left there, `failed` how many reads failed, and `reads` how many were asked for
+pub record ReadsText {S V A X : Type 0} (bytes : X → Option (List ℕ)) (failed reads : X → ℕ) (old new : X) (rules : Rules S V) (view : A → V) (least greatest : ℕ) (result : Result A ReadFault) : Type 0 where
+  pub value : ReadsValue rules view (bytes old) result
+  pub some_text : ReadsSome rules view result
+  pub fault : ReadsFault rules (bytes old) result
+  pub some_fault : ReadsSomeFault rules result
+  pub sound : OnOk result (failed new ≡ failed old)
+  pub told : TellsFailure (failed old) (failed new) result
+  pub untold : TellsNoOther (failed old) (failed new) result
+  pub long : IsTooLong (bytes old) result
+  pub placed : IsPlaced result
+  pub numbered : IsReadNumber least greatest result
+  pub end : OnOk result (IsAtEnd (bytes new))
+  pub asked : reads new ≤ reads old + 4294967297

@@ -11,7 +11,7 @@ use Rattle.program.proofs.judging.read_inputs.Goals as goal
 pub returns-in-Ok-read_answers-clause-read : goal.returns-in-Ok-read_answers-clause-read
 returns-in-Ok-read_answers-clause-read g c = record {
   graph_is = c.in-Ok.ensures.value;
-  questions_are = subst (λ n. IfSome (g.Q.RoadRead.left c.args.questions_in.now) (λ b. text_read (question_rules n None) b ≡ Ok (asked_of c.in-Ok-read_questions.questions))) c.vertices.ensures.count c.in-Ok-read_questions.ensures.value;
+  questions_are = subst (λ n. IfSome (g.Q.RoadRead.left c.args.questions_in.now) (λ b. text_read (question_rules n None) b ≡ Ok (asked_of c.in-Ok-read_questions.questions))) c.vertices.ensures.count c.in-Ok-read_questions.ensures.reads.value;
   answers_are = subst (λ n. IfSome (g.S.RoadRead.left c.args.answers_in.now) (λ b. text_read (answer_rules n) b ≡ Ok (told_list_of c.in-Ok-read_answers.answers))) c.vertices-2.ensures.count c.in-Ok-read_answers.ensures.value;
 }
 
@@ -21,7 +21,7 @@ returns-in-Err-read_answers-clause-answers g c = λ _. subst⁻¹ (IsAnswersFaul
   asked = asked_of c.in-Ok-read_questions.questions;
   read = record {
     graph_is = c.in-Ok.ensures.value;
-    questions_are = subst (λ n. IfSome (g.Q.RoadRead.left c.args.questions_in.now) (λ b. text_read (question_rules n None) b ≡ Ok (asked_of c.in-Ok-read_questions.questions))) c.vertices.ensures.count c.in-Ok-read_questions.ensures.value;
+    questions_are = subst (λ n. IfSome (g.Q.RoadRead.left c.args.questions_in.now) (λ b. text_read (question_rules n None) b ≡ Ok (asked_of c.in-Ok-read_questions.questions))) c.vertices.ensures.count c.in-Ok-read_questions.ensures.reads.value;
   };
   fault = λ text. subst (λ n. IfSome (g.S.RoadRead.left c.args.answers_in.now) (λ b. text_read (answer_rules n) b ≡ Err c.in-Err-read_answers.fault)) c.vertices-2.ensures.count (c.in-Err-read_answers.ensures.fault text.0 text.1);
 })

@@ -1,15 +1,17 @@
 -- What a whole text gives to a taker is what the rules read of it.
-use Rattle.std.proofs.Common.{◌≡◌, ◌≢◌, ℕ, ◌≤◌, List, length, take, Bool, true, false, cond, Option, Result, Ok, Err, IfSome, nat_lt}
+use Rattle.std.proofs.Common.{◌≡◌, ◌≢◌, ℕ, ◌+◌, ◌≤◌, List, length, take, Bool, true, false, cond, Option, Result, Ok, Err, IfSome, nat_lt}
 use Rattle.std.specs.Bool.{MatchBool}
-use Rattle.std.specs.Result.{IfOk, IfErr}
+use Rattle.std.specs.Result.{IfOk, IfErr, OnOk}
+use Rattle.std.specs.Io.KnownBytes.{IsAtEnd}
 use Rattle.std.proofs.lemmas.Option.{IfSome_then}
 use Rattle.std.proofs.lemmas.Result.{IfOk-weaker, IfErr-weaker}
 use Rattle.road_text.specs.declared.faults.ReadFault.{ReadFault}
 use Rattle.road_text.specs.Lines.{lines}
-use Rattle.road_text.specs.Reads.{ReadsValue, ReadsSome, ReadsFault, ReadsSomeFault}
+use Rattle.road_text.specs.Reads.{ReadsText, ReadsValue, ReadsSome, ReadsFault, ReadsSomeFault, TellsFailure, TellsNoOther, IsTooLong, IsPlaced, IsReadNumber}
 use Rattle.road_text.specs.Rules.{Rules, reading, text_read}
 use Rattle.road_text.specs.Standing.{TextGives, SomeTextGives}
 use Rattle.road_text.specs.Way.{Way}
+use Rattle.road_text.proofs.OwnNumbers.{IsOwn, own_numbers}
 
 by_test : {A : Type 0} (b : Bool) {P Q : Type 0} (x y v : A) → (P → x ≡ v) → (Q → y ≡ v) → MatchBool b P Q → cond b x y ≡ v
 by_test true x y v p q h = p h
@@ -36,6 +38,38 @@ module _ {S V T R : Type 0} (rules : Rules S V) (view : R → V) (way : Way T R)
 
   pub reads_some_fault : (r : Result R ReadFault) → IfErr r (λ f. 2 ≤ f.number → f.number ≢ 3 → SomeTextGives way taker (Err f)) → ReadsSomeFault rules r
   reads_some_fault r h = IfErr-weaker r _ _ (λ f p a b. let text = p a b in (text.0, fault_of_text text.0 f text.1)) h
+
+  -- What `read_whole` promises, said by the rules, which tell faults of these numbers alone. Its clauses go in as they are.
+  pub reads_text : {X : Type 0} (bytes : X → Option (List ℕ)) (failed reads : X → ℕ) (old new : X) (least greatest : ℕ)
+      → ((s : S) (fs : List (List ℕ)) → IsOwn least greatest (rules.line s fs)) → ((s : S) → IsOwn least greatest (rules.end s)) → (r : Result R ReadFault)
+      → IfOk r (λ v. IfSome (bytes old) (λ all. TextGives way taker all (Ok v))) → IfOk r (λ v. SomeTextGives way taker (Ok v))
+      → IfErr r (λ f. 2 ≤ f.number → f.number ≢ 3 → IfSome (bytes old) (λ all. TextGives way taker all (Err f))) → IfErr r (λ f. 2 ≤ f.number → f.number ≢ 3 → SomeTextGives way taker (Err f))
+      → OnOk r (failed new ≡ failed old) → TellsFailure (failed old) (failed new) r → TellsNoOther (failed old) (failed new) r → IsTooLong (bytes old) r → IsPlaced r → IsReadNumber 10 36 r
+      → OnOk r (IsAtEnd (bytes new)) → reads new ≤ reads old + 4294967297 → ReadsText bytes failed reads old new rules view least greatest r
+  reads_text bytes failed reads old new least greatest line end r value some_text fault some_fault sound told untold long placed numbered at_end asked =
+      let some : ReadsSomeFault rules r = reads_some_fault r some_fault in
+      record {
+        value = reads_value (bytes old) r value;
+        some_text = reads_some r some_text;
+        fault = reads_fault (bytes old) r fault;
+        some_fault = some;
+        sound = sound;
+        told = told;
+        untold = untold;
+        long = long;
+        placed = placed;
+        numbered = own_numbers least greatest rules line end r numbered some;
+        end = at_end;
+        asked = asked;
+      }
+
+-- what is read stays read where the value is a part of another, and a fault is one whatever the value is
+module _ {S V A B X : Type 0} (bytes : X → Option (List ℕ)) (failed reads : X → ℕ) (old new : X) (rules : Rules S V) (least greatest : ℕ) (view : A → V) (whole : B → A) where
+  pub reads_part : (x : B) → ReadsText bytes failed reads old new rules view least greatest (Ok (whole x)) → ReadsText bytes failed reads old new rules (λ b. view (whole b)) least greatest (Ok x)
+  reads_part x h = record { value = h.value; some_text = h.some_text; fault = tt; some_fault = tt; sound = h.sound; told = tt; untold = tt; long = tt; placed = tt; numbered = tt; end = h.end; asked = h.asked }
+
+  pub reads_no_part : (e : ReadFault) → ReadsText bytes failed reads old new rules view least greatest (Err e) → ReadsText bytes failed reads old new rules (λ b. view (whole b)) least greatest (Err e)
+  reads_no_part e h = record { value = tt; some_text = tt; fault = h.fault; some_fault = h.some_fault; sound = tt; told = h.told; untold = h.untold; long = h.long; placed = h.placed; numbered = h.numbered; end = tt; asked = h.asked }
 
 -- what any value of the taker is
 module _ {T R : Type 0} (way : Way T R) (taker : T) (P : R → Type 0) (sure : (cut : Bool) (ls : List (List ℕ)) (v : R) → way.gives cut taker 1 ls (Ok v) → P v) where

@@ -94,11 +94,11 @@ begins_again P Q scan ready h = record {
 
 -- a line that was taken whole
 module _ {T V : Type 0} (gives : Way T V) (s : LineReader T) (t : T) (fresh : s.begun ≡ false) (ready : gives.so_far t []) (bytes : List ℕ) (letter first second third : ℕ) (line : IsShortLine bytes letter first second third)
-    (taken : (cut : Bool) (at : ℕ) (l : List ℕ) (rest : List (List ℕ)) (r : Result V ReadFault) → HasShortFields l letter first second third → gives.gives cut t (at + 1) rest r → gives.gives cut s.taker at (l ∷ rest) r) where
-  starts : (present : List ℕ) → Holds (gives.so_far s.taker) s.begun s.held (scan_of s.scanner) present → present ≡ [] → Holds (gives.so_far t) s.begun s.held (scan_of s.scanner) []
+    (taken : (cut : Bool) (at : ℕ) (l : List ℕ) (rest : List (List ℕ)) (r : Result V ReadFault) → HasShortFields l letter first second third → gives.gives cut t (at + 1) rest r → gives.gives cut s.parser at (l ∷ rest) r) where
+  starts : (present : List ℕ) → Holds (gives.so_far s.parser) s.begun s.held (scan_of s.scanner) present → present ≡ [] → Holds (gives.so_far t) s.begun s.held (scan_of s.scanner) []
   starts present h none =
-      let now : Holds (gives.so_far s.taker) s.begun s.held (scan_of s.scanner) [] = subst (Holds (gives.so_far s.taker) s.begun s.held (scan_of s.scanner)) none h in
-      record { begun = now.begun; held = now.held; shown = begins_again (gives.so_far s.taker) (gives.so_far t) (scan_of s.scanner) ready now.shown; whole = now.whole }
+      let now : Holds (gives.so_far s.parser) s.begun s.held (scan_of s.scanner) [] = subst (Holds (gives.so_far s.parser) s.begun s.held (scan_of s.scanner)) none h in
+      record { begun = now.begun; held = now.held; shown = begins_again (gives.so_far s.parser) (gives.so_far t) (scan_of s.scanner) ready now.shown; whole = now.whole }
 
   pub taken_whole : (cut : Bool) (more : List ℕ) (r : Result V ReadFault)
       → ((present : List ℕ) → Holds (gives.so_far t) s.begun s.held (scan_of s.scanner) present → gives.gives cut t (s.line + 1) (lines cut (present ++ more)) r) → Leads cut gives s (bytes ++ more) r

@@ -7,7 +7,7 @@ loop-at-preserved g c =
     let xs : List ℕ = c.args.bytes.now in
     let old = c.loop-at.invariant in
     record {
-      leads = leads_further g.T.TakesLines.way c.args.self.now c.loop-at.self c.short_line-len.new.self xs c.loop-at.at c.short_line-len.result old.leads c.short_line-len.ensures.leads;
+      leads = leads_further g.T.LineParser.way c.args.self.now c.loop-at.self c.short_line-len.new.self xs c.loop-at.at c.short_line-len.result old.leads c.short_line-len.ensures.leads;
       count = omega (arith, c.short_line-len.ensures.count, old.count);
       within = omega (arith, c.short_line-len.ensures.bound);
     }

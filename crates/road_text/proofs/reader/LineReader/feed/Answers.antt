@@ -1,4 +1,4 @@
-use Rattle.std.proofs.Common.{Bool, ◌≡◌, ◌<◌, List, ℕ, ◌+◌, length, ◌++◌, take, arith, Result}
+use Rattle.std.proofs.Common.{◌≡◌, ◌<◌, List, ℕ, ◌+◌, length, arith}
 use Rattle.std.proofs.lemmas.List.{take_all}
 use Rattle.std.proofs.lemmas.Result.{err_from_is_err_and}
 use Rattle.road_text.proofs.ReaderLaws.{halts_in, leads_further, leads_byte}

@@ -1,4 +1,4 @@
-use Rattle.std.proofs.Common.{◌≡◌, ◌+◌, ◌-◌, List, ℕ, length, take, drop, arith}
+use Rattle.std.proofs.Common.{List, ℕ, arith}
 use Rattle.road_text.proofs.ReaderLaws.{leads_further}
 use Rattle.road_text.proofs.reader.LineReader.short_lines.Goals as goal
 

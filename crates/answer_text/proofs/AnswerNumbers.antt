@@ -6,7 +6,7 @@ use Rattle.road_text.specs.Words.{Word, word_of, word_at}
 use Rattle.road_text.proofs.OwnNumbers.{IsOwn, own_then, own_unless, own_if}
 use Rattle.road_files.specs.declared.questions.Kind.{Kind}
 use Rattle.road_files.specs.declared.questions.Kind.TheVariants.{Sources, Pairs, Multi}
-use Rattle.answer_text.specs.AnswerFiles.{Stage, Between, InLines, AfterPair, AfterFound, AnswersSoFar, number_in, numbers_in, known, header_line, source_line, pair_line, list_line, sources_line, route_line, reached_line, unreached_line, vertex_line, value_line, none_line, found_line, question_line, answer_line, first_line, told_after, line_given, end_read, answer_rules}
+use Rattle.answer_text.specs.AnswerFiles.{Stage, Between, InLines, AfterPair, AfterFound, AnswersSoFar, number_in, numbers_in, known, header_line, source_line, pair_line, list_line, sources_line, route_line, reached_line, unreached_line, vertex_line, value_line, none_line, found_line, question_line, answer_line, told_after, line_given, end_read, answer_rules}
 
 -- no fault, or one of these
 abbrev IsAnswers : {A : Type 0} → Result A ℕ → Type 0

@@ -5,6 +5,6 @@ pub mod OneAnswer
 pub mod FirstAnswers
 pub mod ListFields
 pub mod HeldAnswerLines
-pub mod AnswerTakerLaws
+pub mod AnswerParserLaws
 pub mod ReadAgain
 pub mod AnswerNumbers

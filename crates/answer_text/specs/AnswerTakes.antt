@@ -1,4 +1,4 @@
--- What the taker of an answer text holds, as the rules have it.
+-- What the parser of an answer text holds, as the rules have it.
 use Rattle.std.specs.Prelude.{◌≡◌, ℕ, ◌<◌, ◌⊎◌, min, ◌||◌, List, [], ◌∷◌, ◌++◌, length, drop, map, Bool, true, false, Option, Some, None, option_map, Result, Ok, Err, codes, bytes_eq}
 use Rattle.road_text.specs.declared.faults.ReadFault.{ReadFault}
 use Rattle.road_text.specs.declared.faults.Rule.{Rule}
@@ -9,10 +9,10 @@ use Rattle.road_text.specs.Way.{Way}
 use Rattle.road_text.specs.Words.{word_of}
 use Rattle.answer_text.specs.declared.answers.Answers.{Answers}
 use Rattle.answer_text.specs.declared.present_numbers.PresentNumbers.{PresentNumbers}
-use Rattle.answer_text.specs.declared.taken_answers.Place.{Place}
-use Rattle.answer_text.specs.declared.taken_answers.Place.TheVariants as places
+use Rattle.answer_text.specs.declared.taken_answers.Awaited.{Awaited}
+use Rattle.answer_text.specs.declared.taken_answers.Awaited.TheVariants as awaits
 use Rattle.answer_text.specs.declared.taken_answers.TakenAnswers.{TakenAnswers}
-use Rattle.answer_text.specs.declared.answer_taker.AnswerTaker.{AnswerTaker}
+use Rattle.answer_text.specs.declared.answer_parser.AnswerParser.{AnswerParser}
 use Rattle.answer_text.specs.Told.{told_of, told_list_of}
 use Rattle.answer_text.specs.AnswerFiles.{Stage, Between, InLines, AfterPair, AfterFound, OneSource, ManySources, AnswersSoFar, number_in, numbers_in, answer_rules}
 
@@ -46,26 +46,26 @@ pub record SoFar (l : PresentNumbers) (fs : List (List ℕ)) : Type 0 where
   pub route_is : l.is_route ≡ begins_route fs
   pub numbers_are : l.is_list ≡ true → (l.is_route ≡ true) ⊎ (length fs < 1026) → numbers_in (drop 1 (map word_of fs)) ≡ numbers_given l
 
--- which line is expected, by the place that was reached
-abbrev pub stage_at : TakenAnswers → Place → Stage
-stage_at t places.Between = Between
-stage_at t (places.Source source) = InLines (OneSource source) t.lines.items
-stage_at t places.Sources = InLines (ManySources t.sources.items) t.lines.items
-stage_at t (places.Pair source target) = AfterPair source target
-stage_at t (places.Found source target code hops) = AfterFound source target code hops
+-- which line is expected
+abbrev pub stage_at : TakenAnswers → Awaited → Stage
+stage_at t awaits.Between = Between
+stage_at t (awaits.Source source) = InLines (OneSource source) t.lines.items
+stage_at t awaits.Sources = InLines (ManySources t.sources.items) t.lines.items
+stage_at t (awaits.Pair source target) = AfterPair source target
+stage_at t (awaits.Found source target code hops) = AfterFound source target code hops
 
 -- the answers that were taken, and the line that is expected
 abbrev pub answers_so_far : TakenAnswers → AnswersSoFar
-answers_so_far t = record { kind = t.kind; name = t.name; announced = t.announced; list = map told_of t.list.items; stage = stage_at t t.place }
+answers_so_far t = record { kind = t.kind; name = t.name; announced = t.announced; list = map told_of t.list.items; stage = stage_at t t.awaited }
 
 -- the same, where a header was read
-abbrev pub begun_of : AnswerTaker → Option AnswersSoFar
+abbrev pub begun_of : AnswerParser → Option AnswersSoFar
 begun_of s = option_map answers_so_far s.begun
 
 -- the lines from a number on give this
-abbrev pub GivesAnswers : Bool → AnswerTaker → ℕ → List (List ℕ) → Result Answers ReadFault → Type 0
+abbrev pub GivesAnswers : Bool → AnswerParser → ℕ → List (List ℕ) → Result Answers ReadFault → Type 0
 GivesAnswers cut s at ls r = GivesBy (answer_rules s.n) (begun_of s) told_list_of cut at ls r
 
 -- the numbers of a list are kept before its line ends
-abbrev pub answer_way : Way AnswerTaker Answers
+abbrev pub answer_way : Way AnswerParser Answers
 answer_way = record { gives = GivesAnswers; so_far = λ s fs. SoFar s.present fs }

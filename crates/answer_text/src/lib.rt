@@ -2,7 +2,7 @@
 #![tactic(auto)]
 
 mod answer_lines;
-mod answer_taker;
+mod answer_parser;
 mod answers;
 mod laws;
 mod lines;

@@ -3,7 +3,7 @@ ghost use Rattle.road_text.specs.Reads.{ReadsText};
 ghost use Rattle.answer_text.specs.AnswerFiles.{answer_rules};
 ghost use Rattle.answer_text.specs.Told.{told_list_of};
 
-use crate::answer_taker::AnswerTaker;
+use crate::answer_parser::AnswerParser;
 use crate::answers::Answers;
 use road_text::{ReadFault, RoadRead, read_whole};
 use std::alloc::Global;
@@ -12,5 +12,5 @@ use std::alloc::Global;
 pub fn read_answers<R: RoadRead>(alloc: Global, from: &mut R, n: u32) -> Result<Answers, ReadFault>
     ensures { ReadsText R.left R.failures R.asked from.old from.new (answer_rules n) told_list_of 30 36 result }
 {
-    read_whole(from, AnswerTaker::new(alloc, n))
+    read_whole(from, AnswerParser::new(alloc, n))
 }

@@ -16,9 +16,9 @@ use road_files::Kind;
 use road_text::{LineFault, Rule, Slot};
 use std::alloc::Global;
 
-/// What was read of the present answer.
+/// Which line is awaited, by what was read of the present answer.
 #[derive(Clone, Copy)]
-pub enum Place {
+pub enum Awaited {
     /// Nothing: the next line names a question.
     Between,
     /// The source, and some lines of vertices.
@@ -41,7 +41,7 @@ pub struct TakenAnswers {
     pub announced: u32,
     /// The answers that are whole.
     pub list: Vec<Answer>,
-    pub place: Place,
+    pub awaited: Awaited,
     /// The sources of the present answer, where it has several.
     pub sources: Vec<u32>,
     /// The lines of vertices of the present answer.
@@ -65,7 +65,7 @@ fn header_in(alloc: Global, slots: &[Slot]) -> Result<TakenAnswers, LineFault>
         name,
         announced,
         list: Vec::new(alloc),
-        place: Place::Between,
+        awaited: Awaited::Between,
         sources: Vec::new(alloc),
         lines: Vec::new(alloc),
     })
@@ -87,7 +87,7 @@ impl TakenAnswers {
         ensures pushed { OnOk result (answers_so_far self.new ≡ with_answer (answers_so_far self.old) (told_of answer)) }
         ensures memory { IfErr result (λ e. e ≡ LineFault.Memory) }
     {
-        self.place = Place::Between;
+        self.awaited = Awaited::Between;
         match self.list.push(answer) {
             Ok(()) => Ok(()),
             Err(_) => Err(LineFault::Memory),
@@ -100,7 +100,7 @@ impl TakenAnswers {
         ensures memory { IfErr result (λ e. e ≡ LineFault.Memory) }
     {
         if self.lines.len() != n as usize {
-            self.place = Place::Source(source);
+            self.awaited = Awaited::Source(source);
             return Ok(());
         }
         let lines = std::mem::replace(&mut self.lines, Vec::new(self.alloc));
@@ -113,7 +113,7 @@ impl TakenAnswers {
         ensures memory { IfErr result (λ e. e ≡ LineFault.Memory) }
     {
         if self.lines.len() != n as usize {
-            self.place = Place::Sources;
+            self.awaited = Awaited::Sources;
             return Ok(());
         }
         let lines = std::mem::replace(&mut self.lines, Vec::new(self.alloc));
@@ -135,7 +135,7 @@ impl TakenAnswers {
         ensures { Leaves (question_line 0 (answers_so_far self.old) (map word_in slots.now) 0 (Ok []) Kind.Pairs) result (answers_so_far self.new) }
     {
         let pair = pair_in(slots)?;
-        self.place = Place::Pair(pair.0, pair.1);
+        self.awaited = Awaited::Pair(pair.0, pair.1);
         Ok(())
     }
 
@@ -206,7 +206,7 @@ impl TakenAnswers {
                 found: None,
             }),
             Some((code, hops)) => {
-                self.place = Place::Found(source, target, code, hops);
+                self.awaited = Awaited::Found(source, target, code, hops);
                 Ok(())
             }
         }
@@ -241,12 +241,12 @@ impl TakenAnswers {
     ) -> Result<(), LineFault>
         ensures { Leaves (answer_line n (answers_so_far self.old) (map word_in slots.now) present.old.count (numbers_given present.old) (answers_so_far self.old).stage) result (answers_so_far self.new) }
     {
-        match self.place {
-            Place::Between => self.question(n, slots, present),
-            Place::Source(source) => self.vertex_from(n, slots, source),
-            Place::Sources => self.vertex_from_many(n, slots),
-            Place::Pair(source, target) => self.value(slots, source, target),
-            Place::Found(source, target, code, hops) => self.route(
+        match self.awaited {
+            Awaited::Between => self.question(n, slots, present),
+            Awaited::Source(source) => self.vertex_from(n, slots, source),
+            Awaited::Sources => self.vertex_from_many(n, slots),
+            Awaited::Pair(source, target) => self.value(slots, source, target),
+            Awaited::Found(source, target, code, hops) => self.route(
                 slots, present, source, target, code, hops,
             ),
         }

@@ -12,7 +12,7 @@ use batch_run::{File, RunFault, SETTINGS, fault_of_run};
 use clap::Error;
 use clap::error::ErrorKind;
 use path_algebra::AlgebraName;
-use road_text::{Gathered, MEMORY, Plain, RoadWrite, write_bytes};
+use road_text::{Buffered, MEMORY, Plain, RoadWrite, write_bytes};
 use std::alloc::{AllocError, Global};
 use std::io::Write;
 use std::rt::{Env, Files};
@@ -160,7 +160,7 @@ where
     R: Env + Files + Input + Print + AllocGlobal + Threads + Wait + Sync,
 {
     let mut errors = Plain::new(errors);
-    match Gathered::new(rt.alloc(), Plain::new(io::writer(rt))) {
+    match Buffered::new(rt.alloc(), Plain::new(io::writer(rt))) {
         Ok(mut out) => run_args(rt, &mut out, &mut errors),
         Err(_) => report(&mut errors, fault_of_run(MEMORY)),
     }

@@ -1,10 +1,10 @@
 pub mod HeldNumbers
 pub mod HeldGraphLines
-pub mod GraphTakerLaws
+pub mod GraphParserLaws
 pub mod ListFields
 pub mod HeldQuestionLines
-pub mod QuestionTakerLaws
-pub mod BundleTakerLaws
+pub mod QuestionParserLaws
+pub mod BundleParserLaws
 pub mod LinesInARow
 pub mod LinesAgain
 pub mod GraphAgain

@@ -1,14 +1,13 @@
 -- Graphs, questions and bundles have faults of the numbers 10 to 19 alone.
-use Rattle.std.proofs.Common.{◌==◌, if◌then◌else◌, codes, bytes_eq, is_none, ℕ, ◌≤◌, List, ◌∷◌, [], length, drop, map, Bool, true, false, Option, Some, None, Result, Ok, Err, arith}
+use Rattle.std.proofs.Common.{if◌then◌else◌, ℕ, ◌≤◌, List, ◌∷◌, [], length, drop, map, Bool, Option, Some, None, Result, Ok, Err, arith}
 use Rattle.road_text.specs.Rules.{◌>>=◌, unless}
-use Rattle.road_text.specs.Words.{word_at, Word, word_of}
+use Rattle.road_text.specs.Words.{Word, word_of}
 use Rattle.road_text.proofs.OwnNumbers.{IsOwn, own_then, own_unless, own_if}
 use Rattle.road_files.specs.declared.questions.Kind.{Kind}
-use Rattle.road_files.specs.declared.questions.Kind.TheVariants as kinds
 use Rattle.road_files.specs.Asked.{Question}
 use Rattle.road_files.specs.Numbers.{up_to, vertex_in}
-use Rattle.road_files.specs.GraphFiles.{RoadsSoFar, roads_before, gr_problem, one_arc, gr_arc, gr_line, gr_whole, gr_rules}
-use Rattle.road_files.specs.QuestionFiles.{AskedSoFar, may_be, accepted, question_problem, asked_before, begins_list, vertices_in, source_of_line, pair_of_line, sources_of_line, one_more, one_question, question_line, question_line_of, question_end, question_rules}
+use Rattle.road_files.specs.GraphFiles.{RoadsSoFar, roads_before, gr_problem, one_arc, gr_line, gr_whole, gr_rules}
+use Rattle.road_files.specs.QuestionFiles.{AskedSoFar, may_be, accepted, question_problem, asked_before, begins_list, vertices_in, source_of_line, pair_of_line, sources_of_line, one_question, question_line, question_line_of, question_end, question_rules}
 use Rattle.road_files.specs.BundleFiles.{BundleSoFar, InGraph, InQuestions, bundle_line, bundle_end}
 
 -- no fault, or one of these

@@ -1,4 +1,4 @@
--- What the taker of a bundle holds, as the rules have it.
+-- What the parser of a bundle holds, as the rules have it.
 use Rattle.std.specs.Prelude.{ℕ, ⊤, if◌then◌else◌, List, Result, Bool, IfOk}
 use Rattle.road_graph.specs.Roads.{Roads}
 use Rattle.road_text.specs.declared.faults.ReadFault.{ReadFault}
@@ -8,7 +8,7 @@ use Rattle.road_text.specs.Words.{Word}
 use Rattle.road_files.specs.declared.questions.Questions.{Questions}
 use Rattle.road_files.specs.declared.bundle_part.BundlePart.{BundlePart}
 use Rattle.road_files.specs.declared.bundle_part.BundlePart.TheVariants as parts
-use Rattle.road_files.specs.declared.bundle_taker.BundleTaker.{BundleTaker}
+use Rattle.road_files.specs.declared.bundle_parser.BundleParser.{BundleParser}
 use Rattle.road_files.specs.Asked.{AreQuestionsOf}
 use Rattle.road_files.specs.GraphTakes.{roads_so_far, taken_of}
 use Rattle.road_files.specs.QuestionTakes.{SoFar, sources_given, begun_of}
@@ -30,9 +30,9 @@ PartSoFar (parts.Graph g) fs = ⊤
 PartSoFar (parts.Questions p) fs = SoFar p.questions.list fs
 
 -- the lines from a number on give this
-abbrev pub GivesBundle : Bool → BundleTaker → ℕ → List (List ℕ) → Result (Roads × Questions) ReadFault → Type 0
+abbrev pub GivesBundle : Bool → BundleParser → ℕ → List (List ℕ) → Result (Roads × Questions) ReadFault → Type 0
 GivesBundle cut s at ls r = GivesBy bundle_rules (bundle_so_far s.part) bundle_of cut at ls r × IfOk r (λ b. AreQuestionsOf b.0.vertices b.1)
 
 -- the fields of a list are kept before its line ends
-abbrev pub bundle_way : Way BundleTaker (Roads × Questions)
+abbrev pub bundle_way : Way BundleParser (Roads × Questions)
 bundle_way = record { gives = GivesBundle; so_far = λ s fs. PartSoFar s.part fs }

@@ -1,11 +1,11 @@
--- What the taker of a graph file holds, as the rules have it.
+-- What the parser of a graph file holds, as the rules have it.
 use Rattle.std.specs.Prelude.{ℕ, ◌<◌, ◌≤◌, length, List, Option, option_map, Result, Bool}
 use Rattle.road_graph.specs.Roads.{Roads}
 use Rattle.road_text.specs.declared.faults.ReadFault.{ReadFault}
 use Rattle.road_text.specs.Takes.{GivesBy}
 use Rattle.road_text.specs.Way.{Way}
 use Rattle.road_files.specs.declared.taken_roads.TakenRoads.{TakenRoads}
-use Rattle.road_files.specs.declared.graph_taker.GraphTaker.{GraphTaker}
+use Rattle.road_files.specs.declared.graph_parser.GraphParser.{GraphParser}
 use Rattle.road_files.specs.GraphFiles.{RoadsSoFar, gr_rules}
 
 -- what was announced, and the arcs that were taken
@@ -20,13 +20,13 @@ pub record FitsArc (roads : RoadsSoFar) (tail head weight : ℕ) : Type 0 where
   pub weight_in : weight ≤ 4294967295
 
 -- the same, where a problem line was read
-abbrev pub taken_of : GraphTaker → Option RoadsSoFar
+abbrev pub taken_of : GraphParser → Option RoadsSoFar
 taken_of s = option_map roads_so_far s.taken
 
 -- the lines from a number on give this
-abbrev pub GivesRoads : Bool → GraphTaker → ℕ → List (List ℕ) → Result Roads ReadFault → Type 0
+abbrev pub GivesRoads : Bool → GraphParser → ℕ → List (List ℕ) → Result Roads ReadFault → Type 0
 GivesRoads cut s at ls r = GivesBy gr_rules (taken_of s) (λ g. g) cut at ls r
 
 -- no field is kept before its line ends
-abbrev pub graph_way : Way GraphTaker Roads
+abbrev pub graph_way : Way GraphParser Roads
 graph_way = record { gives = GivesRoads; so_far = λ _ _. Unit {0} }

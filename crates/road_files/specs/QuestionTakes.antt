@@ -1,4 +1,4 @@
--- What the taker of a question file holds, as the rules have it.
+-- What the parser of a question file holds, as the rules have it.
 use Rattle.std.specs.Prelude.{◌≡◌, ℕ, ◌≤◌, min, List, length, drop, map, Bool, true, Option, Some, None, option_map, Result, Ok, Err, IfOk}
 use Rattle.road_text.specs.declared.faults.ReadFault.{ReadFault}
 use Rattle.road_text.specs.declared.faults.Rule.{Rule}
@@ -10,7 +10,7 @@ use Rattle.road_files.specs.declared.questions.Kind.{Kind}
 use Rattle.road_files.specs.declared.questions.Questions.{Questions}
 use Rattle.road_files.specs.declared.present_list.PresentList.{PresentList}
 use Rattle.road_files.specs.declared.taken_questions.TakenQuestions.{TakenQuestions}
-use Rattle.road_files.specs.declared.question_taker.QuestionTaker.{QuestionTaker}
+use Rattle.road_files.specs.declared.question_parser.QuestionParser.{QuestionParser}
 use Rattle.road_files.specs.Asked.{asked_of, AreQuestionsOf}
 use Rattle.road_files.specs.QuestionFiles.{AskedSoFar, vertices_in, begins_list, may_be, question_rules}
 
@@ -34,7 +34,7 @@ abbrev pub asked_so_far : TakenQuestions → AskedSoFar
 asked_so_far t = record { kind = (asked_of t.questions).kind; announced = t.announced; questions = (asked_of t.questions).questions }
 
 -- the same, where a problem line was read
-abbrev pub begun_of : QuestionTaker → Option AskedSoFar
+abbrev pub begun_of : QuestionParser → Option AskedSoFar
 begun_of s = option_map asked_so_far s.begun
 
 -- the questions fit the graph, and are of the kind that was asked for
@@ -43,9 +43,9 @@ pub record FitsFile (n : ℕ) (only : Option Kind) (q : Questions) : Type 0 wher
   pub kind : may_be only (asked_of q).kind ≡ true
 
 -- the lines from a number on give this
-abbrev pub GivesQuestions : Bool → QuestionTaker → ℕ → List (List ℕ) → Result Questions ReadFault → Type 0
+abbrev pub GivesQuestions : Bool → QuestionParser → ℕ → List (List ℕ) → Result Questions ReadFault → Type 0
 GivesQuestions cut s at ls r = GivesBy (question_rules s.list.vertices s.only) (begun_of s) asked_of cut at ls r × IfOk r (FitsFile s.list.vertices s.only)
 
 -- the fields of a list are kept before its line ends
-abbrev pub question_way : Way QuestionTaker Questions
+abbrev pub question_way : Way QuestionParser Questions
 question_way = record { gives = GivesQuestions; so_far = λ s fs. SoFar s.list fs }

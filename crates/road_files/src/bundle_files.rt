@@ -4,7 +4,7 @@ ghost use Rattle.road_text.specs.Reads.{ReadsText};
 ghost use Rattle.road_files.specs.Asked.{AreQuestionsOf};
 ghost use Rattle.road_files.specs.BundleFiles.{bundle_of, bundle_rules};
 
-use crate::bundle_taker::BundleTaker;
+use crate::bundle_parser::BundleParser;
 use crate::questions::Questions;
 use road_graph::Graph;
 use road_text::{ReadFault, RoadRead, read_whole};
@@ -18,5 +18,5 @@ pub fn read_bundle<R: RoadRead>(
     ensures reads { ReadsText R.left R.failures R.asked from.old from.new bundle_rules bundle_of 10 19 result }
     ensures fit { IfOk result (λ b. AreQuestionsOf b.0.vertices b.1) }
 {
-    read_whole(from, BundleTaker::new(alloc))
+    read_whole(from, BundleParser::new(alloc))
 }

@@ -6,8 +6,8 @@ ghost use Rattle.road_text.specs.Takes.{Leaves, Breaks};
 ghost use Rattle.road_files.specs.Asked.{asked_of, AreQuestionsOf};
 ghost use Rattle.road_files.specs.BundleFiles.{InGraph, InQuestions, first_question_line, question_part_line, bundle_end};
 
-use crate::graph_taker::GraphTaker;
-use crate::question_taker::QuestionTaker;
+use crate::graph_parser::GraphParser;
+use crate::question_parser::QuestionParser;
 use crate::questions::Questions;
 use crate::taken_roads::TakenRoads;
 use road_graph::Graph;
@@ -18,7 +18,7 @@ use std::alloc::Global;
 #[derive(Drop)]
 pub struct QuestionPart {
     pub roads: TakenRoads,
-    pub questions: QuestionTaker,
+    pub questions: QuestionParser,
     ghost same: { questions.list.vertices ≡ roads.vertices },
     ghost any: { ForSome questions.only (λ _. ⊥) },
 }
@@ -28,12 +28,12 @@ impl QuestionPart {
     ghost use Rattle.road_files.specs.QuestionTakes.{SoFar, sources_given, begun_of};
 
     /// The question part that begins at a line; the graph is whole before it.
-    pub fn begin(graph: &mut GraphTaker, slots: &[Slot]) -> Result<QuestionPart, LineFault>
+    pub fn begin(graph: &mut GraphParser, slots: &[Slot]) -> Result<QuestionPart, LineFault>
         ensures rule { MatchResult result (λ p. first_question_line (taken_of graph.old) (map word_in slots.now) ≡ Ok (InQuestions (roads_so_far p.roads) (begun_of p.questions))) (Breaks (first_question_line (taken_of graph.old) (map word_in slots.now))) }
         ensures ready { IfOk result (λ p. SoFar p.questions.list []) }
     {
         let roads = TakenRoads::whole(graph.taken.take())?;
-        let mut questions = QuestionTaker::new(graph.alloc, roads.vertices, None);
+        let mut questions = QuestionParser::new(graph.alloc, roads.vertices, None);
         questions.problem(slots)?;
         Ok(QuestionPart { roads, questions })
     }
@@ -63,6 +63,6 @@ impl QuestionPart {
 /// The part of a bundle that is read, and what was read so far.
 #[derive(Drop)]
 pub enum BundlePart {
-    Graph(GraphTaker),
+    Graph(GraphParser),
     Questions(QuestionPart),
 }

@@ -2,15 +2,15 @@
 #![tactic(auto)]
 
 mod bundle_files;
+mod bundle_parser;
 mod bundle_part;
-mod bundle_taker;
 mod graph_files;
-mod graph_taker;
+mod graph_parser;
 mod laws;
 mod number_fields;
 mod present_list;
 mod question_files;
-mod question_taker;
+mod question_parser;
 mod questions;
 mod taken_questions;
 mod taken_roads;

@@ -5,7 +5,7 @@ ghost use Rattle.road_files.specs.Asked.{asked_of, asked_of_sources, asked_of_pa
 ghost use Rattle.road_files.specs.QuestionFiles.{question_rules, may_be};
 ghost use Rattle.road_files.specs.QuestionTakes.{FitsFile};
 
-use crate::question_taker::QuestionTaker;
+use crate::question_parser::QuestionParser;
 use crate::questions::{Kind, Questions};
 use road_graph::Vertex;
 use road_text::{ReadFault, RoadRead, read_whole};
@@ -21,7 +21,7 @@ fn read_asked<R: RoadRead>(
     ensures reads { ReadsText R.left R.failures R.asked from.old from.new (question_rules vertices only) asked_of 10 19 result }
     ensures fit { IfOk result (FitsFile vertices only) }
 {
-    read_whole(from, QuestionTaker::new(alloc, vertices, only))
+    read_whole(from, QuestionParser::new(alloc, vertices, only))
 }
 
 /// The questions of a question file of any kind, over a graph with this number of vertices.

@@ -5,7 +5,7 @@ pub mod TextLaws
 pub mod ReaderLaws
 pub mod StandLaws
 pub mod WordLaws
-pub mod TakerLaws
+pub mod ParserLaws
 pub mod WriteLaws
 pub mod ListLaws
 pub mod FirstFault

@@ -1,6 +1,5 @@
 -- Rules that tell faults of some numbers alone.
-use Rattle.std.proofs.Common.{◌≡◌, ◌≢◌, ℕ, ◌+◌, ◌≤◌, ◌⊎◌, inl, inr, List, [], ◌∷◌, length, take, Bool, true, false, cond, nat_lt, Result, Ok, Err, IfErr, refl, sym, ap, subst, arith}
-use Rattle.std.proofs.lemmas.Result.{IfErr-weaker}
+use Rattle.std.proofs.Common.{◌≡◌, ◌≢◌, ℕ, ◌+◌, ◌≤◌, ◌⊎◌, inl, inr, List, [], ◌∷◌, length, take, Bool, true, false, cond, nat_lt, Result, Ok, Err, IfErr, refl, ap, subst, arith}
 use Rattle.road_text.specs.declared.faults.ReadFault.{ReadFault}
 use Rattle.road_text.specs.Lines.{fields, lines}
 use Rattle.road_text.specs.Reads.{IsNumberFrom, IsReadNumber, ReadsSomeFault}

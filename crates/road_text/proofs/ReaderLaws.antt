@@ -13,7 +13,7 @@ use Rattle.road_text.proofs.Splits.{take_further, one_further}
 use Rattle.road_text.proofs.TextLaws.{nothing, lines_closed, lines_none, lines_cut}
 
 module _ {T V : Type 0} (gives : Way T V) (s : LineReader T) where
-  pub leads_ended : (r : Result V ReadFault) → s.begun ≡ false → gives.gives false s.taker s.line [] r → Leads false gives s [] r
+  pub leads_ended : (r : Result V ReadFault) → s.begun ≡ false → gives.gives false s.parser s.line [] r → Leads false gives s [] r
   leads_ended r e h = λ present held. rw (nothing s.held (scan_of s.scanner) present (rw e at held), lines_none) h
 
   pub end_halts : (h : Halt) → s.begun ≡ false → EndHalts gives s h → HaltsAtEnd gives s h
@@ -75,7 +75,7 @@ module _ {T V : Type 0} (gives : Way T V) (s t : LineReader T) where
 module _ {T V : Type 0} (gives : Way T V) (s : LineReader T) where
   -- a text that ends here is cut short
   pub cut_here : ((t : T) (at : ℕ) → gives.gives true t at [] (Err too_long)) → Leads true gives s [] (Err too_long)
-  cut_here law = λ present held. rw (append-nil present, lines_cut present held.whole) (law s.taker s.line)
+  cut_here law = λ present held. rw (append-nil present, lines_cut present held.whole) (law s.parser s.line)
 
   pub byte_cut : (b : ℕ) → ((t : T) (at : ℕ) → gives.gives true t at [] (Err too_long)) → s.count ≡ 4294967296 → CutShort gives s (b ∷ [])
   byte_cut b law full = ([], b ∷ [], refl, omega arith, omega arith, cut_here law)

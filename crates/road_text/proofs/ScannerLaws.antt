@@ -1,10 +1,10 @@
 -- What slots show, when the present one is emptied.
-use Rattle.std.proofs.Common.{◌≡◌, ℕ, ◌+◌, ◌<◌, ◌≤◌, List, [], ◌∷◌, ◌++◌, length, take, map, get_or, set, refl, sym, ◌∙◌, arith}
+use Rattle.std.proofs.Common.{◌≡◌, ℕ, ◌+◌, ◌<◌, ◌≤◌, List, [], ◌∷◌, ◌++◌, length, take, map, get_or, set, refl, arith}
 use Rattle.std.proofs.lemmas.List.{map-set, take-set, get_or-set_same, take_more, length-map, length-take-le}
 use Rattle.road_text.specs.declared.slots.Slot.{Slot}
 use Rattle.road_text.specs.Scans.{Scan}
 use Rattle.road_text.specs.Slots.{word_in}
-use Rattle.road_text.specs.Words.{Word, no_word}
+use Rattle.road_text.specs.Words.{no_word}
 
 -- the scan that the first k slots and the one behind them show
 abbrev pub scan_at : List Slot → ℕ → Scan

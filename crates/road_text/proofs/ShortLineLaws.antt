@@ -1,21 +1,20 @@
 -- A line of a letter and three numbers, as it is read in one go.
-use Rattle.std.proofs.Common.{◌≡◌, ℕ, ◌+◌, ◌-◌, ◌<◌, ◌≤◌, List, [], ◌∷◌, ◌++◌, length, take, drop, filter, get_or, Bool, true, false, min, Option, Some, None, option_map, Result, refl, sym, ap, ◌∙◌, subst, arith, append_assoc, append-nil, All}
+use Rattle.std.proofs.Common.{◌≡◌, ℕ, ◌+◌, ◌-◌, ◌<◌, ◌≤◌, List, [], ◌∷◌, ◌++◌, length, take, drop, filter, get_or, Bool, true, false, Some, Result, refl, sym, ap, ◌∙◌, subst, arith, append_assoc, append-nil, All}
 use Rattle.std.proofs.lemmas.List.{take_more, length-take-le, length-append}
 use Rattle.std.specs.List.{slice_split, join_with_byte}
 use Rattle.std.specs.Char.{is_ascii_digit}
-use Rattle.std.specs.Str.Lines.{strip_carriage_return}
 use Rattle.road_text.specs.declared.faults.ReadFault.{ReadFault}
 use Rattle.road_text.specs.declared.reader.LineReader.{LineReader}
-use Rattle.road_text.specs.Lines.{lines, fields, is_gap, has_bytes}
+use Rattle.road_text.specs.Lines.{lines, is_gap, has_bytes}
 use Rattle.road_text.specs.Scans.{Scan, Shows, scan_of, number_with, word_with}
 use Rattle.road_text.specs.ShortLines.{IsNumberThen, IsShortLine, HasShortFields}
 use Rattle.road_text.specs.Standing.{Leads, Holds}
 use Rattle.road_text.specs.Texts.{spelled, IsWord}
 use Rattle.road_text.specs.Way.{Way}
-use Rattle.road_text.specs.Words.{Word, no_word, held_word}
+use Rattle.road_text.specs.Words.{Word, held_word}
 use Rattle.road_text.proofs.RoundTrip.{fields_join, line_again}
 use Rattle.road_text.proofs.ScanLaws.{held_word-with, no_word_is}
-use Rattle.road_text.proofs.Splits.{take_further, rest_is, above_digit}
+use Rattle.road_text.proofs.Splits.{take_further, above_digit}
 use Rattle.road_text.proofs.TextLaws.{nothing}
 
 -- digits are a word
@@ -94,11 +93,11 @@ begins_again P Q scan ready h = record {
 
 -- a line that was taken whole
 module _ {T V : Type 0} (gives : Way T V) (s : LineReader T) (t : T) (fresh : s.begun ≡ false) (ready : gives.so_far t []) (bytes : List ℕ) (letter first second third : ℕ) (line : IsShortLine bytes letter first second third)
-    (taken : (cut : Bool) (at : ℕ) (l : List ℕ) (rest : List (List ℕ)) (r : Result V ReadFault) → HasShortFields l letter first second third → gives.gives cut t (at + 1) rest r → gives.gives cut s.taker at (l ∷ rest) r) where
-  starts : (present : List ℕ) → Holds (gives.so_far s.taker) s.begun s.held (scan_of s.scanner) present → present ≡ [] → Holds (gives.so_far t) s.begun s.held (scan_of s.scanner) []
+    (taken : (cut : Bool) (at : ℕ) (l : List ℕ) (rest : List (List ℕ)) (r : Result V ReadFault) → HasShortFields l letter first second third → gives.gives cut t (at + 1) rest r → gives.gives cut s.parser at (l ∷ rest) r) where
+  starts : (present : List ℕ) → Holds (gives.so_far s.parser) s.begun s.held (scan_of s.scanner) present → present ≡ [] → Holds (gives.so_far t) s.begun s.held (scan_of s.scanner) []
   starts present h none =
-      let now : Holds (gives.so_far s.taker) s.begun s.held (scan_of s.scanner) [] = subst (Holds (gives.so_far s.taker) s.begun s.held (scan_of s.scanner)) none h in
-      record { begun = now.begun; held = now.held; shown = begins_again (gives.so_far s.taker) (gives.so_far t) (scan_of s.scanner) ready now.shown; whole = now.whole }
+      let now : Holds (gives.so_far s.parser) s.begun s.held (scan_of s.scanner) [] = subst (Holds (gives.so_far s.parser) s.begun s.held (scan_of s.scanner)) none h in
+      record { begun = now.begun; held = now.held; shown = begins_again (gives.so_far s.parser) (gives.so_far t) (scan_of s.scanner) ready now.shown; whole = now.whole }
 
   pub taken_whole : (cut : Bool) (more : List ℕ) (r : Result V ReadFault)
       → ((present : List ℕ) → Holds (gives.so_far t) s.begun s.held (scan_of s.scanner) present → gives.gives cut t (s.line + 1) (lines cut (present ++ more)) r) → Leads cut gives s (bytes ++ more) r

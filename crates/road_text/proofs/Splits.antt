@@ -3,7 +3,7 @@ use Rattle.std.proofs.lemmas.List.{take_all, take_more, length-take-le}
 use Rattle.std.proofs.lemmas.List.Elements.{All-append}
 use lib.Seq.{take-add}
 use Rattle.std.proofs.Math.Seq.{take-append-add}
-use Rattle.std.proofs.Common.{◌≡◌, ◌<◌, List, [], ◌∷◌, ◌++◌, length, Bool, true, false, cond, refl, ap, arith, ℕ, ◌-◌, take, ◌≤◌, ◌∙◌, All, zero, suc, get_or, drop, subst, sym, ◌+◌, append_assoc, drop-cons, length-drop}
+use Rattle.std.proofs.Common.{◌≡◌, ◌<◌, List, [], ◌∷◌, ◌++◌, length, Bool, true, false, cond, refl, ap, arith, ℕ, ◌-◌, take, ◌≤◌, ◌∙◌, All, zero, suc, get_or, drop, subst, sym, ◌+◌, append_assoc, length-drop}
 use Rattle.std.specs.List.{slice_split, onto_first}
 use Rattle.std.specs.Char.{is_ascii_digit}
 use Rattle.road_text.specs.Scans.{is_plain}

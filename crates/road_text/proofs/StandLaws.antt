@@ -14,13 +14,13 @@ use Rattle.road_text.specs.Way.{Way}
 use Rattle.road_text.specs.Lines.{lines}
 use Rattle.road_text.specs.Standing.{Leads, Halts, HaltsAtEnd, CutShort, BreaksOff, TextGives, SomeTextGives, Behind, Stands, Stops, SomeTextStops}
 
-module _ {T V : Type 0} (gives : Way T V) (taker : T) where
-  pub stands_start : (left : Option (List ℕ)) (s : LineReader T) → s.count ≡ 0 → ((cut : Bool) (bytes : List ℕ) (r : Result V ReadFault) → Leads cut gives s bytes r → gives.gives cut taker 1 (lines cut bytes) r) → Stands gives taker left left s
+module _ {T V : Type 0} (gives : Way T V) (parser : T) where
+  pub stands_start : (left : Option (List ℕ)) (s : LineReader T) → s.count ≡ 0 → ((cut : Bool) (bytes : List ℕ) (r : Result V ReadFault) → Leads cut gives s bytes r → gives.gives cut parser 1 (lines cut bytes) r) → Stands gives parser left left s
   stands_start None s e h = ([], (e, h))
   stands_start (Some all) s e h = ([], refl, (e, h))
 
-  pub stands_more : (left old new : Option (List ℕ)) (s t : LineReader T) (piece : List ℕ) → Stands gives taker left old s → Consumes old new piece → t.count ≡ s.count + length piece
-      → ((cut : Bool) (rest : List ℕ) (r : Result V ReadFault) → Leads cut gives t rest r → Leads cut gives s (piece ++ rest) r) → Stands gives taker left new t
+  pub stands_more : (left old new : Option (List ℕ)) (s t : LineReader T) (piece : List ℕ) → Stands gives parser left old s → Consumes old new piece → t.count ≡ s.count + length piece
+      → ((cut : Bool) (rest : List ℕ) (r : Result V ReadFault) → Leads cut gives t rest r → Leads cut gives s (piece ++ rest) r) → Stands gives parser left new t
   stands_more None old new s t piece (done, (n, g)) c e f = (done ++ piece, (omega (arith, e, n, length-append done piece), λ cut x r h. rw (append_assoc done piece x) (g cut (piece ++ x) r (f cut x r h))))
   stands_more (Some all) None new s t piece p c e f = absurd p
   stands_more (Some all) (Some rest) None s t piece p c e f = absurd c
@@ -31,52 +31,52 @@ module _ {T V : Type 0} (gives : Way T V) (taker : T) where
   )
 
   -- a text of at most 2 ^ 32 bytes that was read to its end
-  short_text : (all : List ℕ) (r : Result V ReadFault) → length all ≤ 4294967296 → gives.gives false taker 1 (lines false all) r → TextGives gives taker all r
+  short_text : (all : List ℕ) (r : Result V ReadFault) → length all ≤ 4294967296 → gives.gives false parser 1 (lines false all) r → TextGives gives parser all r
   short_text all r le h = rw (le-ltb 4294967296 (length all) le) h
 
-  at_end : (all done : List ℕ) (s : LineReader T) (r : Result V ReadFault) → all ≡ done → s.count ≤ 4294967296 → Behind gives taker done s → Leads false gives s [] r → TextGives gives taker all r
+  at_end : (all done : List ℕ) (s : LineReader T) (r : Result V ReadFault) → all ≡ done → s.count ≤ 4294967296 → Behind gives parser done s → Leads false gives s [] r → TextGives gives parser all r
   at_end all done s r e few (n, g) h = short_text all r (omega (arith, ap length e)) (rw (e, ← append-nil done) (g false [] r h))
 
-  ends : (left old new : Option (List ℕ)) (s : LineReader T) (r : Result V ReadFault) → s.count ≤ 4294967296 → Stands gives taker left old s → Consumes old new [] → IsAtEnd new → Leads false gives s [] r → IfSome left (λ all. TextGives gives taker all r)
+  ends : (left old new : Option (List ℕ)) (s : LineReader T) (r : Result V ReadFault) → s.count ≤ 4294967296 → Stands gives parser left old s → Consumes old new [] → IsAtEnd new → Leads false gives s [] r → IfSome left (λ all. TextGives gives parser all r)
   ends None old new s r few p c e h = tt
   ends (Some all) None new s r few p c e h = absurd p
   ends (Some all) (Some rest) None s r few p c e h = absurd c
   ends (Some all) (Some rest) (Some more) s r few (done, a, b) c e h = at_end all done s r (a ∙ ap (λ x. done ++ x) (c ∙ e) ∙ append-nil done) few b h
 
-  pub stands_value : (left old new : Option (List ℕ)) (s : LineReader T) (v : V) → s.count ≤ 4294967296 → Stands gives taker left old s → Consumes old new [] → IsAtEnd new → Leads false gives s [] (Ok v) → IfSome left (λ all. TextGives gives taker all (Ok v))
+  pub stands_value : (left old new : Option (List ℕ)) (s : LineReader T) (v : V) → s.count ≤ 4294967296 → Stands gives parser left old s → Consumes old new [] → IsAtEnd new → Leads false gives s [] (Ok v) → IfSome left (λ all. TextGives gives parser all (Ok v))
   stands_value left old new s v few p c e h = ends left old new s (Ok v) few p c e h
 
   -- also where the reader does not tell its bytes, some text was read
-  pub stands_some : (left old : Option (List ℕ)) (s : LineReader T) (v : V) → s.count ≤ 4294967296 → Stands gives taker left old s → Leads false gives s [] (Ok v) → SomeTextGives gives taker (Ok v)
+  pub stands_some : (left old : Option (List ℕ)) (s : LineReader T) (v : V) → s.count ≤ 4294967296 → Stands gives parser left old s → Leads false gives s [] (Ok v) → SomeTextGives gives parser (Ok v)
   stands_some None old s v few (done, b) h = (done, at_end done done s (Ok v) refl few b h)
   stands_some (Some all) None s v few p h = absurd p
   stands_some (Some all) (Some rest) s v few (done, a, b) h = (done, at_end done done s (Ok v) refl few b h)
 
-  pub stops_at_end : (left old new : Option (List ℕ)) (before after : ℕ) (s : LineReader T) (h : Halt) → s.count ≤ 4294967296 → after ≡ before → Stands gives taker left old s → Consumes old new [] → IsAtEnd new → HaltsAtEnd gives s h → Stops gives taker left before after h
+  pub stops_at_end : (left old new : Option (List ℕ)) (before after : ℕ) (s : LineReader T) (h : Halt) → s.count ≤ 4294967296 → after ≡ before → Stands gives parser left old s → Consumes old new [] → IsAtEnd new → HaltsAtEnd gives s h → Stops gives parser left before after h
   stops_at_end left old new before after s Read few same p c e h = absurd h
   stops_at_end left old new before after s TooLong few same p c e h = absurd h
   stops_at_end left old new before after s Memory few same p c e h = same
   stops_at_end left old new before after s (Broken f) few same p c e h = (same, ends left old new s (Err f) few p c e h)
 
   -- a fault of a line that ends within the bytes that fit
-  front_breaks : (all front rest : List ℕ) (f : ReadFault) → all ≡ front ++ rest → length front ≤ 4294967296 → ((cut : Bool) (more : List ℕ) → gives.gives cut taker 1 (lines cut (front ++ more)) (Err f)) → TextGives gives taker all (Err f)
+  front_breaks : (all front rest : List ℕ) (f : ReadFault) → all ≡ front ++ rest → length front ≤ 4294967296 → ((cut : Bool) (more : List ℕ) → gives.gives cut parser 1 (lines cut (front ++ more)) (Err f)) → TextGives gives parser all (Err f)
   front_breaks all front rest f e le h = by_test (nat_lt 4294967296 (length all))
     where
-      by_test : (b : Bool) → MatchBool b (gives.gives true taker 1 (lines true (take 4294967296 all)) (Err f)) (gives.gives false taker 1 (lines false all) (Err f))
+      by_test : (b : Bool) → MatchBool b (gives.gives true parser 1 (lines true (take 4294967296 all)) (Err f)) (gives.gives false parser 1 (lines false all) (Err f))
       by_test true = rw (e, take-append_past 4294967296 front rest le) (h true (take (4294967296 - length front) rest))
       by_test false = rw e (h false rest)
 
-  front_cut : (all front rest : List ℕ) → all ≡ front ++ rest → length front ≡ 4294967296 → 0 < length rest → gives.gives true taker 1 (lines true front) (Err too_long) → (4294967296 < length all) × TextGives gives taker all (Err too_long)
+  front_cut : (all front rest : List ℕ) → all ≡ front ++ rest → length front ≡ 4294967296 → 0 < length rest → gives.gives true parser 1 (lines true front) (Err too_long) → (4294967296 < length all) × TextGives gives parser all (Err too_long)
   front_cut all front rest e full some h =
       let long : 4294967296 < length all = omega (arith, ap length e, length-append front rest) in
       let first : take 4294967296 all ≡ front = ap (take 4294967296) e ∙ ap (λ n. take n (front ++ rest)) (sym full) ∙ take-append_seam front rest in
       (long, rw (lt-ltb 4294967296 (length all) long, first) h)
 
-  pub stops_in : (left old new : Option (List ℕ)) (before after : ℕ) (s : LineReader T) (piece : List ℕ) (h : Halt) → after ≡ before → Stands gives taker left old s → Consumes old new piece → Halts gives s piece h → Stops gives taker left before after h
+  pub stops_in : (left old new : Option (List ℕ)) (before after : ℕ) (s : LineReader T) (piece : List ℕ) (h : Halt) → after ≡ before → Stands gives parser left old s → Consumes old new piece → Halts gives s piece h → Stops gives parser left before after h
   stops_in left old new before after s piece Read same p c h = absurd h
   stops_in left old new before after s piece TooLong same p c h = (same, cut_in left old new s piece p c h)
     where
-      cut_in : (left old new : Option (List ℕ)) (s : LineReader T) (piece : List ℕ) → Stands gives taker left old s → Consumes old new piece → CutShort gives s piece → IfSome left (λ all. (4294967296 < length all) × TextGives gives taker all (Err too_long))
+      cut_in : (left old new : Option (List ℕ)) (s : LineReader T) (piece : List ℕ) → Stands gives parser left old s → Consumes old new piece → CutShort gives s piece → IfSome left (λ all. (4294967296 < length all) × TextGives gives parser all (Err too_long))
       cut_in None old new s piece p c h = tt
       cut_in (Some all) None new s piece p c h = absurd p
       cut_in (Some all) (Some rest) None s piece p c h = absurd c
@@ -86,7 +86,7 @@ module _ {T V : Type 0} (gives : Way T V) (taker : T) where
   stops_in left old new before after s piece Memory same p c h = same
   stops_in left old new before after s piece (Broken f) same p c h = (same, broken_in left old new s piece f p c h)
     where
-      broken_in : (left old new : Option (List ℕ)) (s : LineReader T) (piece : List ℕ) (f : ReadFault) → Stands gives taker left old s → Consumes old new piece → BreaksOff gives s piece f → IfSome left (λ all. TextGives gives taker all (Err f))
+      broken_in : (left old new : Option (List ℕ)) (s : LineReader T) (piece : List ℕ) (f : ReadFault) → Stands gives parser left old s → Consumes old new piece → BreaksOff gives s piece f → IfSome left (λ all. TextGives gives parser all (Err f))
       broken_in None old new s piece f p c h = tt
       broken_in (Some all) None new s piece f p c h = absurd p
       broken_in (Some all) (Some rest) None s piece f p c h = absurd c
@@ -95,23 +95,23 @@ module _ {T V : Type 0} (gives : Way T V) (taker : T) where
           (omega (arith, n, fits, length-append done front)) (λ cut x. rw (append_assoc done front x) (g cut (front ++ x) (Err f) (leads cut x)))
 
   -- some text leads here, whether the reader tells it or not
-  stands_behind : (left old : Option (List ℕ)) (s : LineReader T) → Stands gives taker left old s → (done : List ℕ) × Behind gives taker done s
+  stands_behind : (left old : Option (List ℕ)) (s : LineReader T) → Stands gives parser left old s → (done : List ℕ) × Behind gives parser done s
   stands_behind None old s p = p
   stands_behind (Some all) None s p = absurd p
   stands_behind (Some all) (Some rest) s (done, a, b) = (done, b)
 
-  told_stops : (all : List ℕ) (h : Halt) → Stops gives taker (Some all) 0 0 h → SomeTextStops gives taker h
+  told_stops : (all : List ℕ) (h : Halt) → Stops gives parser (Some all) 0 0 h → SomeTextStops gives parser h
   told_stops all Read p = tt
   told_stops all TooLong p = (all, p.1.1)
   told_stops all Memory p = tt
   told_stops all (Broken f) p = (all, p.1)
 
-  pub some_stops_in : (left old : Option (List ℕ)) (s : LineReader T) (piece : List ℕ) (h : Halt) → Stands gives taker left old s → Halts gives s piece h → SomeTextStops gives taker h
+  pub some_stops_in : (left old : Option (List ℕ)) (s : LineReader T) (piece : List ℕ) (h : Halt) → Stands gives parser left old s → Halts gives s piece h → SomeTextStops gives parser h
   some_stops_in left old s piece h p q =
       let (done, b) = stands_behind left old s p in
       told_stops (done ++ piece) h (stops_in (Some (done ++ piece)) (Some piece) (Some []) 0 0 s piece h refl (done, refl, b) (sym (append-nil piece)) q)
 
-  pub some_stops_at_end : (left old : Option (List ℕ)) (s : LineReader T) (h : Halt) → s.count ≤ 4294967296 → Stands gives taker left old s → HaltsAtEnd gives s h → SomeTextStops gives taker h
+  pub some_stops_at_end : (left old : Option (List ℕ)) (s : LineReader T) (h : Halt) → s.count ≤ 4294967296 → Stands gives parser left old s → HaltsAtEnd gives s h → SomeTextStops gives parser h
   some_stops_at_end left old s h few p q =
       let (done, b) = stands_behind left old s p in
       told_stops done h (stops_at_end (Some done) (Some []) (Some []) 0 0 s h few refl (done, sym (append-nil done), b) refl refl q)

@@ -1,5 +1,5 @@
 -- Lines of a letter and three numbers.
-use Rattle.std.specs.Prelude.{◌≡◌, ℕ, ◌<◌, ◌≤◌, List, [], ◌∷◌, ◌++◌, length, take, Some}
+use Rattle.std.specs.Prelude.{◌≡◌, ℕ, List, [], ◌∷◌, ◌++◌, Some}
 use Rattle.road_text.specs.Lines.{fields}
 use Rattle.road_text.specs.Scans.{number_with}
 use Rattle.road_text.specs.Texts.{spelled, IsWord}

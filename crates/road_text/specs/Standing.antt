@@ -24,7 +24,7 @@ pub record Holds (told_of : List (List ℕ) → Type 0) (any late : Bool) (scan 
 
 -- the bytes that follow here give this, as the whole text or as one that is cut short
 abbrev pub Leads : {T V : Type 0} → Bool → Way T V → LineReader T → List ℕ → Result V ReadFault → Type 0
-Leads cut gives s rest r = (present : List ℕ) → Holds (gives.so_far s.taker) s.begun s.held (scan_of s.scanner) present → gives.gives cut s.taker s.line (lines cut (present ++ rest)) r
+Leads cut gives s rest r = (present : List ℕ) → Holds (gives.so_far s.parser) s.begun s.held (scan_of s.scanner) present → gives.gives cut s.parser s.line (lines cut (present ++ rest)) r
 
 -- a rule's number is at least 10
 abbrev pub IsNumbered : Halt → Type 0
@@ -67,36 +67,36 @@ abbrev pub EndHalts : {T V : Type 0} → Way T V → LineReader T → Halt → T
 EndHalts gives s Read = ⊥
 EndHalts gives s TooLong = ⊥
 EndHalts gives s Memory = ⊤
-EndHalts gives s (Broken f) = gives.gives false s.taker s.line [] (Err f)
+EndHalts gives s (Broken f) = gives.gives false s.parser s.line [] (Err f)
 
 -- a text of any length gives this
 abbrev pub TextGives : {T V : Type 0} → Way T V → T → List ℕ → Result V ReadFault → Type 0
-TextGives gives taker all r = MatchBool (nat_lt 4294967296 (length all)) (gives.gives true taker 1 (lines true (take 4294967296 all)) r) (gives.gives false taker 1 (lines false all) r)
+TextGives gives parser all r = MatchBool (nat_lt 4294967296 (length all)) (gives.gives true parser 1 (lines true (take 4294967296 all)) r) (gives.gives false parser 1 (lines false all) r)
 
 -- some text gives this
 abbrev pub SomeTextGives : {T V : Type 0} → Way T V → T → Result V ReadFault → Type 0
-SomeTextGives gives taker r = (all : List ℕ) × TextGives gives taker all r
+SomeTextGives gives parser r = (all : List ℕ) × TextGives gives parser all r
 
 -- The reader stands in the text behind these bytes: what it leads to, the text gives.
 abbrev pub Behind : {T V : Type 0} → Way T V → T → List ℕ → LineReader T → Type 0
-Behind {V = V} gives taker done s = (s.count ≡ length done) × ((cut : Bool) (more : List ℕ) (r : Result V ReadFault) → Leads cut gives s more r → gives.gives cut taker 1 (lines cut (done ++ more)) r)
+Behind {V = V} gives parser done s = (s.count ≡ length done) × ((cut : Bool) (more : List ℕ) (r : Result V ReadFault) → Leads cut gives s more r → gives.gives cut parser 1 (lines cut (done ++ more)) r)
 
 -- what was read so far leads on to what the rest gives, where the reader tells it
 abbrev pub Stands : {T V : Type 0} → Way T V → T → Option (List ℕ) → Option (List ℕ) → LineReader T → Type 0
-Stands gives taker None now s = (done : List ℕ) × Behind gives taker done s
-Stands gives taker (Some all) None s = ⊥
-Stands gives taker (Some all) (Some rest) s = (done : List ℕ) × (all ≡ done ++ rest) × Behind gives taker done s
+Stands gives parser None now s = (done : List ℕ) × Behind gives parser done s
+Stands gives parser (Some all) None s = ⊥
+Stands gives parser (Some all) (Some rest) s = (done : List ℕ) × (all ≡ done ++ rest) × Behind gives parser done s
 
 -- why reading stopped: the reader failed, or it tells its bytes and they have this fault
 abbrev pub Stops : {T V : Type 0} → Way T V → T → Option (List ℕ) → ℕ → ℕ → Halt → Type 0
-Stops gives taker left before after Read = after ≢ before
-Stops gives taker left before after TooLong = (after ≡ before) × IfSome left (λ all. (4294967296 < length all) × TextGives gives taker all (Err too_long))
-Stops gives taker left before after Memory = after ≡ before
-Stops gives taker left before after (Broken f) = (after ≡ before) × IfSome left (λ all. TextGives gives taker all (Err f))
+Stops gives parser left before after Read = after ≢ before
+Stops gives parser left before after TooLong = (after ≡ before) × IfSome left (λ all. (4294967296 < length all) × TextGives gives parser all (Err too_long))
+Stops gives parser left before after Memory = after ≡ before
+Stops gives parser left before after (Broken f) = (after ≡ before) × IfSome left (λ all. TextGives gives parser all (Err f))
 
 -- also where the reader does not tell its bytes, some text has the fault at which reading stopped
 abbrev pub SomeTextStops : {T V : Type 0} → Way T V → T → Halt → Type 0
-SomeTextStops gives taker Read = ⊤
-SomeTextStops gives taker TooLong = SomeTextGives gives taker (Err too_long)
-SomeTextStops gives taker Memory = ⊤
-SomeTextStops gives taker (Broken f) = SomeTextGives gives taker (Err f)
+SomeTextStops gives parser Read = ⊤
+SomeTextStops gives parser TooLong = SomeTextGives gives parser (Err too_long)
+SomeTextStops gives parser Memory = ⊤
+SomeTextStops gives parser (Broken f) = SomeTextGives gives parser (Err f)

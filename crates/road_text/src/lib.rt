@@ -2,10 +2,11 @@
 //! any kind of text line by line, and writers of lines. The kinds themselves stand in the crates above.
 #![tactic(auto)]
 
+mod buffered;
 mod ends;
 mod faults;
-mod gathered;
 mod laws;
+mod line_parser;
 mod line_words;
 mod pieces;
 mod plain;
@@ -15,16 +16,15 @@ mod runs;
 mod scanner;
 mod short_lines;
 mod slots;
-mod takes;
 
+pub use buffered::{BUFFERED, Buffered};
 pub use ends::{ReadFailed, RoadRead, RoadWrite, WriteFault};
 pub use faults::{Halt, LineFault, MEMORY, READ_FAILED, ReadFault, Rule, TOO_LONG};
-pub use gathered::{GATHERED, Gathered};
 pub use laws::{finds_first_fault, numbers_read_again, text_read_again};
+pub use line_parser::LineParser;
 pub use line_words::{Line, push_number, push_spaced};
 pub use pieces::{write_bytes, write_list};
 pub use plain::Plain;
 pub use reader::MAX_BYTES;
 pub use reading::{read_text, read_whole};
 pub use slots::Slot;
-pub use takes::TakesLines;

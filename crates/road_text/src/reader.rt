@@ -4,10 +4,10 @@ ghost use Rattle.road_text.specs.declared.faults.ReadFault.{ReadFault};
 ghost use Rattle.road_text.specs.Lines.{lines, fields};
 
 use crate::faults::{Halt, LineFault, ReadFault};
+use crate::line_parser::LineParser;
 use crate::runs::run;
 use crate::scanner::{Scanner, is_gap};
 use crate::short_lines::short_line;
-use crate::takes::TakesLines;
 
 /// The most bytes that a text may have: 2 ^ 32.
 pub const MAX_BYTES: u64 = 4_294_967_296;
@@ -15,7 +15,7 @@ pub const MAX_BYTES: u64 = 4_294_967_296;
 /// Reads a text line by line.
 #[derive(Drop)]
 pub struct LineReader<T> {
-    pub taker: T,
+    pub parser: T,
     pub scanner: Scanner,
     pub begun: bool,
     pub held: bool,
@@ -26,17 +26,17 @@ pub struct LineReader<T> {
     ghost few_bytes: { count ≤ 4294967296 },
 }
 
-impl<T: TakesLines> LineReader<T> {
+impl<T: LineParser> LineReader<T> {
     ghost use Rattle.road_text.specs.Scans.{scan_of, Shows, is_plain, number_with};
     ghost use Rattle.road_text.specs.Standing.{Leads, LineHalts, Halts, HaltsAtEnd, EndHalts, IsNumbered};
 
-    pub fn new(taker: T) -> Self
-        requires { T.way.so_far taker [] }
+    pub fn new(parser: T) -> Self
+        requires { T.way.so_far parser [] }
         ensures count { result.count ≡ 0 }
-        ensures start { (cut : Bool) (bytes : List ℕ) (r : Result T.Value ReadFault) → Leads cut T.way result bytes r → T.way.gives cut taker 1 (lines cut bytes) r }
+        ensures start { (cut : Bool) (bytes : List ℕ) (r : Result T.Value ReadFault) → Leads cut T.way result bytes r → T.way.gives cut parser 1 (lines cut bytes) r }
     {
         LineReader {
-            taker,
+            parser,
             scanner: Scanner::new(),
             begun: false,
             held: false,
@@ -55,7 +55,7 @@ impl<T: TakesLines> LineReader<T> {
     {
         self.end_field()?;
         self.scanner.close();
-        match self.taker.line(self.scanner.fields()) {
+        match self.parser.line(self.scanner.fields()) {
             Ok(()) => {}
             Err(LineFault::Memory) => return Err(Halt::Memory),
             Err(LineFault::Broken(rule)) => {
@@ -72,10 +72,10 @@ impl<T: TakesLines> LineReader<T> {
         Ok(())
     }
 
-    // Gives the present field, if it has bytes, to the taker.
+    // Gives the present field, if it has bytes, to the parser.
     fn end_field(&mut self) -> Result<(), Halt>
-        ensures same { OnOk result ((cut : Bool) (at : ℕ) (ls : List (List ℕ)) (r : Result T.Value ReadFault) → T.way.gives cut self.new.taker at ls r → T.way.gives cut self.old.taker at ls r) }
-        ensures told { OnOk result ((line : List ℕ) → Shows (T.way.so_far self.old.taker) (scan_of self.old.scanner) line → T.way.so_far self.new.taker (fields line)) }
+        ensures same { OnOk result ((cut : Bool) (at : ℕ) (ls : List (List ℕ)) (r : Result T.Value ReadFault) → T.way.gives cut self.new.parser at ls r → T.way.gives cut self.old.parser at ls r) }
+        ensures told { OnOk result ((line : List ℕ) → Shows (T.way.so_far self.old.parser) (scan_of self.old.scanner) line → T.way.so_far self.new.parser (fields line)) }
         ensures scanner { scan_of self.new.scanner ≡ scan_of self.old.scanner }
         ensures rest { (self.new.begun ≡ self.old.begun) × (self.new.held ≡ self.old.held) × (self.new.line ≡ self.old.line) × (self.new.count ≡ self.old.count) }
         ensures memory { IfErr result (λ e. e ≡ Halt.Memory) }
@@ -84,7 +84,7 @@ impl<T: TakesLines> LineReader<T> {
         if present.text.is_empty() {
             return Ok(());
         }
-        match self.taker.field(present) {
+        match self.parser.field(present) {
             Ok(()) => Ok(()),
             Err(_) => Err(Halt::Memory),
         }
@@ -145,7 +145,7 @@ impl<T: TakesLines> LineReader<T> {
         front
     }
 
-    // Takes the line at the front, where it is a letter and three numbers and the taker is quick with it, and says how
+    // Takes the line at the front, where it is a letter and three numbers and the parser is quick with it, and says how
     // many bytes that were.
     #[inline(always)]
     fn short_line(&mut self, bytes: &[u8]) -> usize
@@ -162,7 +162,7 @@ impl<T: TakesLines> LineReader<T> {
         if short.len as u64 > MAX_BYTES - self.count {
             return 0;
         }
-        if !self.taker.short_line(short.letter, short.numbers) {
+        if !self.parser.short_line(short.letter, short.numbers) {
             return 0;
         }
         self.count += short.len as u64;
@@ -227,12 +227,12 @@ impl<T: TakesLines> LineReader<T> {
 
     // Takes the end where no line is begun.
     fn end(self) -> Result<T::Value, Halt>
-        ensures ok { IfOk result (λ v. T.way.gives false self.taker self.line [] (Ok v)) }
+        ensures ok { IfOk result (λ v. T.way.gives false self.parser self.line [] (Ok v)) }
         ensures err { IfErr result (λ h. EndHalts T.way self h) }
         ensures numbered { IfErr result IsNumbered }
     {
         let line = self.line;
-        match self.taker.finish() {
+        match self.parser.finish() {
             Ok(value) => Ok(value),
             Err(LineFault::Memory) => Err(Halt::Memory),
             Err(LineFault::Broken(rule)) => Err(Halt::Broken(ReadFault {

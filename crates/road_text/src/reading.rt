@@ -6,8 +6,8 @@ ghost use Rattle.road_text.specs.Standing.{Stops, TextGives, SomeTextGives, Some
 
 use crate::ends::RoadRead;
 use crate::faults::{Halt, MEMORY, READ_FAILED, ReadFault, TOO_LONG};
+use crate::line_parser::LineParser;
 use crate::reader::LineReader;
-use crate::takes::TakesLines;
 
 /// The bytes that are asked for at once.
 const BUFFER: usize = 65_536;
@@ -16,18 +16,18 @@ const BUFFER: usize = 65_536;
 const MAX_READS: u64 = 4_294_967_297;
 
 /// What the text gives that the reader has left.
-pub fn read_text<R: RoadRead, T: TakesLines>(from: &mut R, taker: T) -> Result<T::Value, Halt>
-    requires { T.way.so_far taker [] }
-    ensures value { IfOk result (λ v. IfSome (R.left from.old) (λ all. TextGives T.way taker all (Ok v))) }
-    ensures some_text { IfOk result (λ v. SomeTextGives T.way taker (Ok v)) }
+pub fn read_text<R: RoadRead, T: LineParser>(from: &mut R, parser: T) -> Result<T::Value, Halt>
+    requires { T.way.so_far parser [] }
+    ensures value { IfOk result (λ v. IfSome (R.left from.old) (λ all. TextGives T.way parser all (Ok v))) }
+    ensures some_text { IfOk result (λ v. SomeTextGives T.way parser (Ok v)) }
     ensures end { OnOk result (IsAtEnd (R.left from.new)) }
     ensures sound { OnOk result (R.failures from.new ≡ R.failures from.old) }
     ensures asked { R.asked from.new ≤ R.asked from.old + 4294967297 }
-    ensures stops { IfErr result (λ h. Stops T.way taker (R.left from.old) (R.failures from.old) (R.failures from.new) h) }
-    ensures some_stops { IfErr result (SomeTextStops T.way taker) }
+    ensures stops { IfErr result (λ h. Stops T.way parser (R.left from.old) (R.failures from.old) (R.failures from.new) h) }
+    ensures some_stops { IfErr result (SomeTextStops T.way parser) }
     ensures numbered { IfErr result IsNumbered }
 {
-    let mut reader = LineReader::new(taker);
+    let mut reader = LineReader::new(parser);
     let mut buffer = [0u8; BUFFER];
     for _ in 0..MAX_READS {
         match from.read(&mut buffer) {
@@ -40,12 +40,15 @@ pub fn read_text<R: RoadRead, T: TakesLines>(from: &mut R, taker: T) -> Result<T
 }
 
 /// The same, with the fault's number and line in place of why reading stopped.
-pub fn read_whole<R: RoadRead, T: TakesLines>(from: &mut R, taker: T) -> Result<T::Value, ReadFault>
-    requires { T.way.so_far taker [] }
-    ensures value { IfOk result (λ v. IfSome (R.left from.old) (λ all. TextGives T.way taker all (Ok v))) }
-    ensures some_text { IfOk result (λ v. SomeTextGives T.way taker (Ok v)) }
-    ensures fault { IfErr result (λ f. 2 ≤ f.number → f.number ≢ 3 → IfSome (R.left from.old) (λ all. TextGives T.way taker all (Err f))) }
-    ensures some_fault { IfErr result (λ f. 2 ≤ f.number → f.number ≢ 3 → SomeTextGives T.way taker (Err f)) }
+pub fn read_whole<R: RoadRead, T: LineParser>(
+    from: &mut R,
+    parser: T,
+) -> Result<T::Value, ReadFault>
+    requires { T.way.so_far parser [] }
+    ensures value { IfOk result (λ v. IfSome (R.left from.old) (λ all. TextGives T.way parser all (Ok v))) }
+    ensures some_text { IfOk result (λ v. SomeTextGives T.way parser (Ok v)) }
+    ensures fault { IfErr result (λ f. 2 ≤ f.number → f.number ≢ 3 → IfSome (R.left from.old) (λ all. TextGives T.way parser all (Err f))) }
+    ensures some_fault { IfErr result (λ f. 2 ≤ f.number → f.number ≢ 3 → SomeTextGives T.way parser (Err f)) }
     ensures sound { OnOk result (R.failures from.new ≡ R.failures from.old) }
     ensures told { TellsFailure (R.failures from.old) (R.failures from.new) result }
     ensures untold { TellsNoOther (R.failures from.old) (R.failures from.new) result }
@@ -55,7 +58,7 @@ pub fn read_whole<R: RoadRead, T: TakesLines>(from: &mut R, taker: T) -> Result<
     ensures end { OnOk result (IsAtEnd (R.left from.new)) }
     ensures asked { R.asked from.new ≤ R.asked from.old + 4294967297 }
 {
-    match read_text(from, taker) {
+    match read_text(from, parser) {
         Ok(value) => Ok(value),
         Err(Halt::Read) => Err(ReadFault {
             number: READ_FAILED,

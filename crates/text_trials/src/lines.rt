@@ -9,8 +9,8 @@ use crate::ends::Pieces;
 use arrayvec::ArrayVec;
 use ghost_count::Count;
 use road_text::{
-    Gathered, Line, LineFault, Plain, ReadFailed, ReadFault, RoadRead, RoadWrite, Rule, Slot,
-    TakesLines, WriteFault, push_spaced, read_whole, write_bytes, write_list,
+    Buffered, Line, LineFault, LineParser, Plain, ReadFailed, ReadFault, RoadRead, RoadWrite, Rule,
+    Slot, WriteFault, push_spaced, read_whole, write_bytes, write_list,
 };
 use std::alloc::Global;
 use std::io::{self, Write};
@@ -18,7 +18,7 @@ use std::test::Fail;
 
 /// Takes lines `n NUMBER`.
 #[derive(Drop)]
-struct NumberTaker {
+struct NumberParser {
     numbers: Vec<u64>,
 }
 
@@ -32,7 +32,7 @@ fn below_top(slot: &Slot) -> Result<u64, LineFault>
     }
 }
 
-impl NumberTaker {
+impl NumberParser {
     #[tactic(auto, unfolding(crate::specs::Numbers::numbers_line))]
     fn take(&mut self, slots: &[Slot]) -> Result<(), LineFault>
         ensures { Leaves (numbers_line self.old.numbers.items (map word_in slots.now)) result self.new.numbers.items }
@@ -54,7 +54,7 @@ impl NumberTaker {
     }
 }
 
-impl TakesLines for NumberTaker {
+impl LineParser for NumberParser {
     type Value = Vec<u64>;
 
     ghost way = { record { gives = λ cut s at ls r. GivesBy numbers_rules s.numbers.items (λ v. v.items) cut at ls r; so_far = λ _ _. Unit {0} } };
@@ -88,7 +88,7 @@ fn read_numbers<R: RoadRead>(alloc: Global, from: &mut R) -> Result<Vec<u64>, Re
 {
     read_whole(
         from,
-        NumberTaker {
+        NumberParser {
             numbers: Vec::new(alloc),
         },
     )
@@ -265,23 +265,23 @@ fn writers_of_lines(rt: HostRuntime) {
 
 #[test]
 fn gathers_and_passes_on(rt: HostRuntime) -> Result<(), Fail> {
-    let mut gathered = Gathered::new(rt.alloc(), Sheet::new())?;
+    let mut buffered = Buffered::new(rt.alloc(), Sheet::new())?;
     for _ in 0..3 {
-        assert_eq!(rt; write_bytes(&mut gathered, b"0123456789"), Ok(()));
+        assert_eq!(rt; write_bytes(&mut buffered, b"0123456789"), Ok(()));
     }
-    assert_eq!(rt; gathered.inner().bytes.as_slice(), b"".as_slice());
-    assert_eq!(rt; gathered.flush(), Ok(()));
+    assert_eq!(rt; buffered.inner().bytes.as_slice(), b"".as_slice());
+    assert_eq!(rt; buffered.flush(), Ok(()));
     assert_eq!(rt;
-        gathered.inner().bytes.as_slice(),
+        buffered.inner().bytes.as_slice(),
         b"012345678901234567890123456789".as_slice()
     );
-    assert_eq!(rt; write_bytes(&mut gathered, b"abcd"), Ok(()));
-    assert_eq!(rt; gathered.flush(), Err(WriteFault));
+    assert_eq!(rt; write_bytes(&mut buffered, b"abcd"), Ok(()));
+    assert_eq!(rt; buffered.flush(), Err(WriteFault));
     assert_eq!(rt;
-        gathered.inner().bytes.as_slice(),
+        buffered.inner().bytes.as_slice(),
         b"012345678901234567890123456789ab".as_slice()
     );
-    assert_eq!(rt; gathered.flush(), Err(WriteFault));
+    assert_eq!(rt; buffered.flush(), Err(WriteFault));
     Ok(())
 }
 
@@ -319,8 +319,8 @@ fn a_flush_that_fails(rt: HostRuntime) -> Result<(), Fail> {
     let mut plain = Plain::new(Stuck);
     assert_eq!(rt; write_bytes(&mut plain, b"n 1"), Ok(()));
     assert_eq!(rt; plain.flush(), Err(WriteFault));
-    let mut gathered = Gathered::new(rt.alloc(), plain)?;
-    assert_eq!(rt; write_bytes(&mut gathered, b"n 1"), Ok(()));
-    assert_eq!(rt; gathered.flush(), Err(WriteFault));
+    let mut buffered = Buffered::new(rt.alloc(), plain)?;
+    assert_eq!(rt; write_bytes(&mut buffered, b"n 1"), Ok(()));
+    assert_eq!(rt; buffered.flush(), Err(WriteFault));
     Ok(())
 }

@@ -2,7 +2,7 @@ use Rattle.road_text.proofs.WholeTexts.{reads_text}
 use Rattle.answer_text.specs.Told.{told_list_of}
 use Rattle.answer_text.specs.AnswerFiles.{answer_rules}
 use Rattle.answer_text.specs.AnswerTakes.{answer_way}
-use Rattle.answer_text.proofs.AnswerTakerLaws.{by_value, by_fault}
+use Rattle.answer_text.proofs.AnswerParserLaws.{by_value, by_fault}
 use Rattle.answer_text.proofs.AnswerNumbers.{answers_line, answers_end}
 use Rattle.answer_text.proofs.reading.read_answers.Goals as goal
 

@@ -4,7 +4,7 @@ use Rattle.road_text.proofs.WholeTexts.{reads_text, reads_sure}
 use Rattle.road_files.specs.Asked.{AreQuestionsOf}
 use Rattle.road_files.specs.BundleFiles.{bundle_of, bundle_rules}
 use Rattle.road_files.specs.BundleTakes.{bundle_way}
-use Rattle.road_files.proofs.BundleTakerLaws.{by_value, by_fault, by_fit}
+use Rattle.road_files.proofs.BundleParserLaws.{by_value, by_fault, by_fit}
 use Rattle.road_files.proofs.RoadNumbers.{bundles_line, bundles_end}
 use Rattle.road_files.proofs.bundle_files.read_bundle.Goals as goal
 

@@ -2,7 +2,7 @@ use Rattle.road_text.proofs.WholeTexts.{reads_text, reads_sure}
 use Rattle.road_files.specs.Asked.{asked_of}
 use Rattle.road_files.specs.QuestionFiles.{question_rules}
 use Rattle.road_files.specs.QuestionTakes.{question_way, FitsFile}
-use Rattle.road_files.proofs.QuestionTakerLaws.{by_value, by_fault, by_fit}
+use Rattle.road_files.proofs.QuestionParserLaws.{by_value, by_fault, by_fit}
 use Rattle.road_files.proofs.RoadNumbers.{line_of_questions, questions_end}
 use Rattle.road_files.proofs.question_files.read_asked.Goals as goal
 

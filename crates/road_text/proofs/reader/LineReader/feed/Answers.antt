@@ -1,4 +1,4 @@
-use Rattle.std.proofs.Common.{Bool, ◌≡◌, ◌<◌, List, ℕ, ◌+◌, length, ◌++◌, take, arith, Result}
+use Rattle.std.proofs.Common.{◌≡◌, ◌<◌, List, ℕ, ◌+◌, length, arith}
 use Rattle.std.proofs.lemmas.List.{take_all}
 use Rattle.std.proofs.lemmas.Result.{err_from_is_err_and}
 use Rattle.road_text.proofs.ReaderLaws.{halts_in, leads_further, leads_byte}
@@ -6,7 +6,7 @@ use Rattle.road_text.proofs.reader.LineReader.feed.Goals as goal
 
 pub loop-at-preserved : goal.loop-at-preserved
 loop-at-preserved g c =
-    let way = g.T.TakesLines.way in
+    let way = g.T.LineParser.way in
     let xs : List ℕ = c.args.bytes.now in
     let old = c.loop-at.invariant in
     let lines = c.short_lines-at in
@@ -23,7 +23,7 @@ loop-at-preserved g c =
 pub returns-in_err-byte-clause-err : goal.returns-in_err-byte-clause-err
 returns-in_err-byte-clause-err g c =
     let p = err_from_is_err_and c.from_residual.result c.from_residual.ensures.1 in
-    let way = g.T.TakesLines.way in
+    let way = g.T.LineParser.way in
     let xs : List ℕ = c.args.bytes.now in
     let old = c.loop-at.invariant in
     let lines = c.short_lines-at in
@@ -36,7 +36,7 @@ returns-in_err-byte-clause-err g c =
 
 pub returns-then-at-bytes-clause-ok : goal.returns-then-at-bytes-clause-ok
 returns-then-at-bytes-clause-ok g c =
-    let way = g.T.TakesLines.way in
+    let way = g.T.LineParser.way in
     let xs : List ℕ = c.args.bytes.now in
     let old = c.loop-at.invariant in
     let lines = c.short_lines-at in

@@ -6,7 +6,7 @@ use Rattle.road_text.proofs.reader.LineReader.present_run.Goals as goal
 
 pub returns-clause-same : goal.returns-clause-same
 returns-clause-same g c = λ cut rest r h present held.
-    let P = g.T.TakesLines.way.so_far c.args.self.now.taker in
+    let P = g.T.LineParser.way.so_far c.args.self.now.parser in
     let scan = scan_of c.args.self.now.scanner in
     let bytes : List ℕ = c.args.bytes.now in
     let full : Shows P scan present = shows_whole P false scan present (sym c.requires.whole ∙ held.held) held.shown in

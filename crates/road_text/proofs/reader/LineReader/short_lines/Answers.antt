@@ -1,4 +1,4 @@
-use Rattle.std.proofs.Common.{◌≡◌, ◌+◌, ◌-◌, List, ℕ, length, take, drop, arith}
+use Rattle.std.proofs.Common.{List, ℕ, arith}
 use Rattle.road_text.proofs.ReaderLaws.{leads_further}
 use Rattle.road_text.proofs.reader.LineReader.short_lines.Goals as goal
 
@@ -7,7 +7,7 @@ loop-at-preserved g c =
     let xs : List ℕ = c.args.bytes.now in
     let old = c.loop-at.invariant in
     record {
-      leads = leads_further g.T.TakesLines.way c.args.self.now c.loop-at.self c.short_line-len.new.self xs c.loop-at.at c.short_line-len.result old.leads c.short_line-len.ensures.leads;
+      leads = leads_further g.T.LineParser.way c.args.self.now c.loop-at.self c.short_line-len.new.self xs c.loop-at.at c.short_line-len.result old.leads c.short_line-len.ensures.leads;
       count = omega (arith, c.short_line-len.ensures.count, old.count);
       within = omega (arith, c.short_line-len.ensures.bound);
     }

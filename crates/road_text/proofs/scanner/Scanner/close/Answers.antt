@@ -1,8 +1,7 @@
-use Rattle.std.proofs.Common.{◌≡◌, ◌<◌, length, take, map, sym, ap, ◌∙◌, subst, arith}
+use Rattle.std.proofs.Common.{◌≡◌, ◌<◌, length, sym, ap, ◌∙◌, subst, arith}
 use Rattle.std.proofs.lemmas.Bool.{eqb-true}
 use Rattle.std.proofs.lemmas.Grind.{common_steps}
 use Rattle.road_text.specs.Scans.{scan_of}
-use Rattle.road_text.specs.Slots.{word_in}
 use Rattle.road_text.specs.Words.{Word, no_word}
 use Rattle.road_text.proofs.ScanLaws.{past_none, past_full, past_kept}
 use Rattle.road_text.proofs.ScannerLaws.{words_count}

@@ -1,0 +1,44 @@
+-- What a parser of answer texts gives, by the rules.
+use Rattle.std.proofs.Common.{◌≡◌, ℕ, ◌+◌, List, ◌∷◌, Bool, None, Ok, Err, Result, map, sym, ap, ◌∙◌, subst}
+use Rattle.road_text.specs.declared.faults.LineFault.{LineFault}
+use Rattle.road_text.specs.declared.faults.LineFault.TheVariants.{Broken}
+use Rattle.road_text.specs.declared.faults.ReadFault.{ReadFault}
+use Rattle.road_text.specs.declared.faults.Rule.{Rule}
+use Rattle.road_text.specs.declared.slots.Slot.{Slot}
+use Rattle.road_text.specs.Lines.{fields}
+use Rattle.road_text.specs.RuleNumbers.{number_of}
+use Rattle.road_text.specs.Rules.{reading, fault_at}
+use Rattle.road_text.specs.Slots.{word_in}
+use Rattle.road_text.specs.Takes.{ShowsLine, GivesBy, Breaks}
+use Rattle.road_text.proofs.ParserLaws.{gives_taken, gives_broken}
+use Rattle.answer_text.specs.declared.answers.Answers.{Answers}
+use Rattle.answer_text.specs.declared.answer_parser.AnswerParser.{AnswerParser}
+use Rattle.answer_text.specs.Told.{told_list_of}
+use Rattle.answer_text.specs.AnswerFiles.{line_given, answer_rules}
+use Rattle.answer_text.specs.AnswerTakes.{SoFar, begun_of, numbers_given, GivesAnswers}
+use Rattle.answer_text.proofs.HeldAnswerLines.{line_rule}
+
+module _ (old : AnswerParser) (slots : List Slot) (l : List ℕ) (shown : ShowsLine slots l) (h : SoFar old.present (fields l)) where
+  pub line_taken : (new : AnswerParser) (cut : Bool) (at : ℕ) (rest : List (List ℕ)) (r : Result Answers ReadFault) → new.n ≡ old.n
+      → line_given old.n (begun_of old) (map word_in slots) old.present.count (numbers_given old.present) ≡ Ok (begun_of new) → GivesAnswers cut new (at + 1) rest r → GivesAnswers cut old at (l ∷ rest) r
+  line_taken new cut at rest r same e g =
+      gives_taken (answer_rules old.n) told_list_of (begun_of old) (begun_of new) cut at l rest r (line_rule old.n (begun_of old) old.present slots l shown h ∙ e)
+      (subst (λ k. GivesBy (answer_rules k) (begun_of new) told_list_of cut (at + 1) rest r) same g)
+
+  pub line_broken : (cut : Bool) (at : ℕ) (rest : List (List ℕ)) (rule : Rule) → line_given old.n (begun_of old) (map word_in slots) old.present.count (numbers_given old.present) ≡ Err (number_of rule)
+      → GivesAnswers cut old at (l ∷ rest) (Err (fault_at at (number_of rule)))
+  line_broken cut at rest rule e = gives_broken (answer_rules old.n) told_list_of (begun_of old) cut at l rest (number_of rule) (line_rule old.n (begun_of old) old.present slots l shown h ∙ e)
+
+pub broken_is : {A : Type 0} (rule_gives : Result A ℕ) (fault : LineFault) (rule : Rule) → ◌≡◌ {A = Result (Unit {0}) LineFault} (Err fault) (Err (Broken rule)) → Breaks rule_gives fault → rule_gives ≡ Err (number_of rule)
+broken_is rule_gives fault rule e h = let same : fault ≡ Broken rule = cc in subst (Breaks rule_gives) same h
+
+-- what a new parser gives is the text's by the rules
+module _ (s : AnswerParser) (n : ℕ) (none : begun_of s ≡ None) (same : s.n ≡ n) where
+  both : (cut : Bool) (ls : List (List ℕ)) → reading cut (answer_rules s.n) 1 (begun_of s) ls ≡ reading cut (answer_rules n) 1 None ls
+  both cut ls = ap (λ k. reading cut (answer_rules k) 1 (begun_of s) ls) same ∙ ap (λ o. reading cut (answer_rules n) 1 o ls) none
+
+  pub by_value : (cut : Bool) (ls : List (List ℕ)) (v : Answers) → GivesAnswers cut s 1 ls (Ok v) → reading cut (answer_rules n) 1 None ls ≡ Ok (told_list_of v)
+  by_value cut ls v h = sym (both cut ls) ∙ h
+
+  pub by_fault : (cut : Bool) (ls : List (List ℕ)) (f : ReadFault) → GivesAnswers cut s 1 ls (Err f) → reading cut (answer_rules n) 1 None ls ≡ Err f
+  by_fault cut ls f h = sym (both cut ls) ∙ h

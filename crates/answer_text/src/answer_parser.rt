@@ -1,0 +1,125 @@
+//! Takes the lines of an answer text.
+ghost use Rattle.std.specs.Prelude.{◌≡◌, ℕ, [], List, None, Some, map, refl, MatchResult, Ok};
+ghost use Rattle.road_text.specs.Slots.{word_in};
+ghost use Rattle.road_text.specs.Takes.{Breaks, Leaves};
+ghost use Rattle.answer_text.specs.AnswerFiles.{end_read, line_given, told_after};
+ghost use Rattle.answer_text.specs.AnswerTakes.{SoFar, answers_so_far, numbers_given};
+ghost use Rattle.answer_text.specs.Told.{told_list_of};
+
+use crate::answers::Answers;
+use crate::present_numbers::PresentNumbers;
+use crate::taken_answers::{Awaited, TakenAnswers, first_in};
+use road_text::{LineFault, LineParser, Rule, Slot};
+use std::alloc::Global;
+
+/// Takes the lines of an answer text over a graph with `n` vertices.
+#[derive(Drop)]
+pub struct AnswerParser {
+    pub alloc: Global,
+    pub n: u32,
+    /// What was read since the header, if there was one.
+    pub begun: Option<TakenAnswers>,
+    /// The fields of the present line.
+    pub present: PresentNumbers,
+}
+
+impl AnswerParser {
+    ghost use Rattle.answer_text.specs.AnswerTakes.{begun_of};
+
+    /// No line was taken yet.
+    pub fn new(alloc: Global, n: u32) -> Self
+        ensures begun { begun_of result ≡ None }
+        ensures n { result.n ≡ n }
+        ensures ready { SoFar result.present [] }
+    {
+        AnswerParser {
+            alloc,
+            n,
+            begun: None,
+            present: PresentNumbers::new(alloc),
+        }
+    }
+
+    // Takes the header.
+    fn begin(&mut self, slots: &[Slot]) -> Result<(), LineFault>
+        ensures rule { Leaves (told_after self.old.n None (map word_in slots.now) 0 (Ok [])) result (begun_of self.new) }
+        ensures n { self.new.n ≡ self.old.n }
+    {
+        let begun = first_in(self.alloc, slots)?;
+        self.begun = Some(begun);
+        Ok(())
+    }
+
+    // Takes a line that is neither blank nor a comment.
+    fn told(&mut self, slots: &[Slot]) -> Result<(), LineFault>
+        ensures rule { Leaves (told_after self.old.n (begun_of self.old) (map word_in slots.now) self.old.present.count (numbers_given self.old.present)) result (begun_of self.new) }
+        ensures n { self.new.n ≡ self.old.n }
+    {
+        match &mut self.begun {
+            Some(begun) => begun.take(self.n, slots, &mut self.present),
+            None => self.begin(slots),
+        }
+    }
+
+    /// Takes a line by its first six fields. The numbers of a list were taken before.
+    #[tactic(auto, unfolding(crate::specs::AnswerFiles::line_given))]
+    pub fn take(&mut self, slots: &[Slot]) -> Result<(), LineFault>
+        ensures rule { Leaves (line_given self.old.n (begun_of self.old) (map word_in slots.now) self.old.present.count (numbers_given self.old.present)) result (begun_of self.new) }
+        ensures n { self.new.n ≡ self.old.n }
+    {
+        if slots.is_empty() || slots[0].begins_with(b'c') {
+            return Ok(());
+        }
+        self.told(slots)
+    }
+}
+
+// The answers, where there was a header and the last of them is whole.
+fn whole(n: u32, begun: TakenAnswers) -> Result<Answers, LineFault>
+    ensures { MatchResult result (λ a. end_read n (Some (answers_so_far begun)) ≡ Ok (told_list_of a)) (Breaks (end_read n (Some (answers_so_far begun)))) }
+{
+    match begun.awaited {
+        Awaited::Between if begun.list.len() == begun.announced as usize => Ok(Answers {
+            name: begun.name,
+            kind: begun.kind,
+            n,
+            list: begun.list,
+        }),
+        _ => Err(LineFault::Broken(Rule::CutOff)),
+    }
+}
+
+impl LineParser for AnswerParser {
+    ghost use Rattle.answer_text.specs.AnswerTakes.{answer_way};
+
+    type Value = Answers;
+
+    ghost way = { answer_way };
+
+    fn field(&mut self, slot: &Slot) -> Result<(), LineFault> {
+        self.present.field(slot)
+    }
+
+    fn line(&mut self, slots: &[Slot]) -> Result<(), LineFault> {
+        match self.take(slots) {
+            Ok(()) => {}
+            Err(fault) => return Err(fault),
+        }
+        self.present.restart();
+        Ok(())
+    }
+
+    fn short_line(&mut self, _letter: u8, _numbers: (u64, u64, u64)) -> bool {
+        false
+    }
+
+    fn finish(self) -> Result<Answers, LineFault> {
+        let AnswerParser { n, begun, .. } = self;
+        match begun {
+            None => Err(LineFault::Broken(Rule::NoHeader)),
+            Some(begun) => whole(n, begun),
+        }
+    }
+
+    ghost stops_short = { λ s at. refl };
+}

@@ -1,0 +1,78 @@
+-- A bundle's line, as its parser takes it.
+use Rattle.std.proofs.Common.{◌≡◌, ℕ, ◌<◌, List, [], ◌∷◌, length, take, map, Bool, false, Option, None, Ok, Err, refl, sym, ap, ◌∙◌, arith, lit<, codes, subst}
+use Rattle.std.proofs.lemmas.Bool.{lt-ltb}
+use Rattle.std.specs.Option.{IfSome}
+use Rattle.road_graph.specs.Roads.{Roads}
+use Rattle.road_text.specs.declared.faults.ReadFault.{ReadFault}
+use Rattle.road_text.specs.declared.slots.Slot.{Slot}
+use Rattle.road_text.specs.Lines.{fields}
+use Rattle.road_text.specs.Rules.{◌>>=◌, reading}
+use Rattle.road_text.specs.ShortLines.{HasShortFields}
+use Rattle.road_text.specs.Slots.{word_in}
+use Rattle.road_text.specs.Takes.{ShowsLine}
+use Rattle.road_text.specs.Words.{Word, word_of}
+use Rattle.road_text.proofs.WordLaws.{held, held_words, short_word}
+use Rattle.road_files.specs.declared.questions.Questions.{Questions}
+use Rattle.road_files.specs.declared.bundle_part.BundlePart.{BundlePart}
+use Rattle.road_files.specs.declared.bundle_part.BundlePart.TheVariants as parts
+use Rattle.road_files.specs.declared.bundle_parser.BundleParser.{BundleParser}
+use Rattle.road_files.specs.Asked.{AreQuestionsOf}
+use Rattle.road_files.specs.declared.graph_parser.GraphParser.{GraphParser}
+use Rattle.road_files.specs.GraphFiles.{RoadsSoFar, gr_line}
+use Rattle.road_files.specs.GraphTakes.{roads_so_far, taken_of}
+use Rattle.road_files.specs.QuestionFiles.{question_line, question_line_of}
+use Rattle.road_files.specs.QuestionTakes.{sources_given, begun_of}
+use Rattle.road_files.specs.BundleFiles.{InGraph, InQuestions, begins_questions, bundle_line, bundle_of, bundle_rules}
+use Rattle.road_files.specs.BundleTakes.{bundle_so_far, kept_line, PartSoFar, GivesBundle}
+use Rattle.road_files.proofs.GraphParserLaws.{few}
+use Rattle.road_files.proofs.HeldGraphLines.{line_held}
+use Rattle.road_files.proofs.HeldQuestionLines.{problem_held}
+use Rattle.road_files.proofs.QuestionParserLaws.{list_rule}
+
+begins_held : (ws : List Word) → begins_questions (take 6 (map held ws)) ≡ begins_questions ws
+unfolding begins_questions
+begins_held [] = refl
+begins_held (a ∷ []) = refl
+begins_held (a ∷ b ∷ ws) = rw (
+  short_word a.text (codes "p") (lit< tt),
+  short_word b.text (codes "aux") (lit< tt),
+  lt-ltb 1 (length (take 6 (map held (a ∷ b ∷ ws)))) (omega arith),
+  lt-ltb 1 (length (a ∷ b ∷ ws)) (omega arith),
+) refl
+
+graph_held : (s : Option RoadsSoFar) (ws : List Word) → IfSome s (λ r. r.vertices < 18446744073709551616) → bundle_line (InGraph s) (take 6 (map held ws)) ≡ bundle_line (InGraph s) ws
+graph_held s ws h = rw (begins_held ws, problem_held None None ws, line_held s ws h) refl
+
+-- the rule of the line is that of what is kept
+pub kept_rule : (p : BundlePart) (slots : List Slot) (l : List ℕ) → ShowsLine slots l → PartSoFar p (fields l) → bundle_line (bundle_so_far p) (map word_of (fields l)) ≡ kept_line p (map word_in slots)
+kept_rule (parts.Graph g) slots l shown h =
+    sym (graph_held (taken_of g) (map word_of (fields l)) (few g.taken)) ∙ ap (bundle_line (InGraph (taken_of g))) (ap (take 6) (held_words (fields l)) ∙ sym shown)
+kept_rule (parts.Questions p) slots l shown h =
+    let list = p.questions.list in
+    let same : question_line p.roads.vertices None (begun_of p.questions) (map word_of (fields l)) ≡ question_line_of p.roads.vertices None (begun_of p.questions) (map word_in slots) list.is_list list.count (sources_given list) =
+    subst (λ n. question_line n None (begun_of p.questions) (map word_of (fields l)) ≡ question_line_of n None (begun_of p.questions) (map word_in slots) list.is_list list.count (sources_given list)) p.same
+    (list_rule list None (begun_of p.questions) slots l shown h) in
+    ap (λ r. r >>= λ q. Ok (InQuestions (roads_so_far p.roads) q)) same
+
+-- a line of the letter `a` and three numbers does not end the graph part
+begins_none : (letter : ℕ) (one two three : List ℕ) → letter ≡ 97 → begins_questions (map word_of ((letter ∷ []) ∷ one ∷ two ∷ three ∷ [])) ≡ false
+unfolding begins_questions
+begins_none letter one two three is = rw is refl
+
+-- the rule of such a line in the graph part
+pub short_rule : (p : BundlePart) (g new : GraphParser) (l : List ℕ) (letter tail head weight : ℕ) → bundle_so_far p ≡ InGraph (taken_of g) → letter ≡ 97 → HasShortFields l letter tail head weight
+    → gr_line (taken_of g) (map word_of (fields l)) ≡ Ok (taken_of new) → bundle_line (bundle_so_far p) (map word_of (fields l)) ≡ Ok (InGraph (taken_of new))
+short_rule p g new l letter tail head weight was a h taken =
+    let none : begins_questions (map word_of (fields l)) ≡ false = ap (λ fs. begins_questions (map word_of fs)) h.is ∙ begins_none letter h.one h.two h.three a in
+    ap (λ b. bundle_line b (map word_of (fields l))) was ∙ rw (none, taken) refl
+
+-- what a new parser gives is the text's by the rules
+module _ (s : BundleParser) (start : bundle_so_far s.part ≡ InGraph None) where
+  pub by_value : (cut : Bool) (ls : List (List ℕ)) (b : Roads × Questions) → GivesBundle cut s 1 ls (Ok b) → reading cut bundle_rules 1 (InGraph None) ls ≡ Ok (bundle_of b)
+  by_value cut ls b h = subst (λ o. reading cut bundle_rules 1 o ls ≡ Ok (bundle_of b)) start h.0
+
+  pub by_fault : (cut : Bool) (ls : List (List ℕ)) (f : ReadFault) → GivesBundle cut s 1 ls (Err f) → reading cut bundle_rules 1 (InGraph None) ls ≡ Err f
+  by_fault cut ls f h = subst (λ o. reading cut bundle_rules 1 o ls ≡ Err f) start h.0
+
+  pub by_fit : (cut : Bool) (ls : List (List ℕ)) (b : Roads × Questions) → GivesBundle cut s 1 ls (Ok b) → AreQuestionsOf b.0.vertices b.1
+  by_fit cut ls b h = h.1

@@ -1,0 +1,15 @@
+use Rattle.std.proofs.Common.{◌∙◌}
+use Rattle.road_text.specs.RuleNumbers.{number_of}
+use Rattle.road_text.proofs.ParserLaws.{on_ok, gives_taken, gives_broken}
+use Rattle.road_files.specs.GraphFiles.{gr_rules}
+use Rattle.road_files.specs.GraphTakes.{taken_of}
+use Rattle.road_files.proofs.GraphParserLaws.{line_rule}
+use Rattle.road_files.proofs.graph_parser.GraphParserLineParser.line.Goals as goal
+
+pub returns-clause-ok : goal.returns-clause-ok
+returns-clause-ok c = on_ok c.take.result _ _ c.take.ensures
+    (λ e cut at l rest r shown _ h. gives_taken gr_rules (λ g. g) (taken_of c.args.self.now) (taken_of c.take.new.self) cut at l rest r (line_rule c.args.self.now c.args.slots.now l shown ∙ e) h)
+
+pub returns-clause-broken : goal.returns-clause-broken
+returns-clause-broken c = λ rule is cut at l rest shown _.
+    gives_broken gr_rules (λ g. g) (taken_of c.args.self.now) cut at l rest (number_of rule) (line_rule c.args.self.now c.args.slots.now l shown ∙ (rw is at c.take.ensures))

@@ -1,0 +1,111 @@
+//! Takes the lines of a bundle.
+ghost use Rattle.std.specs.Prelude.{◌≡◌, ℕ, ◌++◌, ◌∷◌, [], List, map, refl, OnOk, IfOk, IfErr, MatchResult, Ok, None};
+ghost use Rattle.road_graph.specs.Roads.{Roads};
+ghost use Rattle.road_text.specs.Slots.{word_in};
+ghost use Rattle.road_text.specs.Takes.{Leaves, Breaks};
+ghost use Rattle.road_text.specs.Words.{held_word};
+ghost use Rattle.road_files.specs.Asked.{asked_of, AreQuestionsOf};
+ghost use Rattle.road_files.specs.BundleFiles.{InGraph, InQuestions, begins_questions, first_question_line, question_part_line, bundle_end};
+ghost use Rattle.road_files.specs.GraphTakes.{roads_so_far, taken_of};
+ghost use Rattle.road_files.specs.QuestionTakes.{SoFar, sources_given, begun_of};
+
+use crate::bundle_part::{BundlePart, QuestionPart};
+use crate::graph_parser::GraphParser;
+use crate::questions::Questions;
+use crate::taken_roads::TakenRoads;
+use road_graph::Graph;
+use road_text::{LineFault, LineParser, Rule, Slot};
+use std::alloc::Global;
+
+// Whether a line ends the graph part.
+#[tactic(auto, unfolding(crate::specs::BundleFiles::begins_questions))]
+fn ends_graph(slots: &[Slot]) -> bool
+    ensures { result ≡ begins_questions (map word_in slots.now) }
+{
+    slots.len() > 1 && slots[0].is_word(b"p") && slots[1].is_word(b"aux")
+}
+
+// The end of the graph part is no end of a bundle.
+fn no_questions(graph: GraphParser) -> LineFault
+    ensures { Breaks (bundle_end (InGraph (taken_of graph))) result }
+{
+    match TakenRoads::whole(graph.taken) {
+        Ok(_) => LineFault::Broken(Rule::NoProblem),
+        Err(fault) => fault,
+    }
+}
+
+/// Takes the lines of a bundle.
+#[derive(Drop)]
+pub struct BundleParser {
+    pub alloc: Global,
+    pub part: BundlePart,
+}
+
+impl BundleParser {
+    ghost use Rattle.road_files.specs.BundleTakes.{bundle_so_far, kept_line, PartSoFar};
+
+    /// No line was taken yet.
+    pub fn new(alloc: Global) -> Self
+        ensures start { bundle_so_far result.part ≡ InGraph None }
+        ensures ready { PartSoFar result.part [] }
+    {
+        BundleParser {
+            alloc,
+            part: BundlePart::Graph(GraphParser::new(alloc)),
+        }
+    }
+
+    fn take(&mut self, slots: &[Slot]) -> Result<(), LineFault>
+        ensures rule { Leaves (kept_line self.old.part (map word_in slots.now)) result (bundle_so_far self.new.part) }
+        ensures ready { OnOk result (PartSoFar self.new.part []) }
+    {
+        match &mut self.part {
+            BundlePart::Questions(part) => part.take(slots),
+            BundlePart::Graph(graph) => {
+                if !ends_graph(slots) {
+                    return graph.take(slots);
+                }
+                let part = QuestionPart::begin(graph, slots)?;
+                self.part = BundlePart::Questions(part);
+                Ok(())
+            }
+        }
+    }
+}
+
+impl LineParser for BundleParser {
+    ghost use Rattle.road_files.specs.BundleTakes.{bundle_way};
+
+    type Value = (Graph, Questions);
+
+    ghost way = { bundle_way };
+
+    fn field(&mut self, slot: &Slot) -> Result<(), LineFault> {
+        match &mut self.part {
+            BundlePart::Graph(_) => Ok(()),
+            BundlePart::Questions(part) => part.questions.list.field(slot),
+        }
+    }
+
+    fn line(&mut self, slots: &[Slot]) -> Result<(), LineFault> {
+        self.take(slots)
+    }
+
+    fn short_line(&mut self, letter: u8, numbers: (u64, u64, u64)) -> bool {
+        match &mut self.part {
+            BundlePart::Graph(graph) => graph.short(letter, numbers),
+            BundlePart::Questions(_) => false,
+        }
+    }
+
+    fn finish(self) -> Result<(Graph, Questions), LineFault> {
+        let part = self.part;
+        match part {
+            BundlePart::Graph(graph) => Err(no_questions(graph)),
+            BundlePart::Questions(part) => part.whole(self.alloc),
+        }
+    }
+
+    ghost stops_short = { λ s at. (refl, tt) };
+}

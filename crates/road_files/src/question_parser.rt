@@ -1,0 +1,203 @@
+//! Takes the lines of a question file.
+ghost use Rattle.std.specs.Prelude.{◌≡◌, ℕ, [], List, map, refl, true, IfOk, Some, None, option_map, IfSome, MatchResult, Ok};
+ghost use Rattle.std.specs.Option.{ForSome};
+ghost use Rattle.road_text.specs.Slots.{word_in};
+ghost use Rattle.road_text.specs.Takes.{Agrees, Leaves, Breaks};
+ghost use Rattle.road_files.specs.Asked.{asked_of, AskWithin};
+ghost use Rattle.road_files.specs.QuestionFiles.{accepted, may_be, source_of_line, pair_of_line, sources_of_line, one_question, question_problem, question_line_of, question_end};
+
+use crate::number_fields::number_up_to;
+use crate::present_list::PresentList;
+use crate::questions::{Kind, Questions};
+use crate::taken_questions::TakenQuestions;
+use road_text::{LineFault, LineParser, Rule, Slot};
+use std::alloc::Global;
+
+/// The most questions of a file.
+const MAX_QUESTIONS: u32 = 1_048_576;
+
+// The kind that is named, where the file may be of it.
+fn accept(only: Option<Kind>, named: Option<Kind>) -> Result<Kind, LineFault>
+    ensures rule { Agrees (accepted only named) result }
+    ensures kind { IfOk result (λ k. may_be only k ≡ true) }
+{
+    let Some(kind) = named else {
+        return Err(LineFault::Broken(Rule::BadProblem));
+    };
+    match only {
+        None => Ok(kind),
+        Some(only) if only == kind => Ok(kind),
+        Some(_) => Err(LineFault::Broken(Rule::BadProblem)),
+    }
+}
+
+// No question of this kind yet.
+fn none_of(alloc: Global, kind: Kind) -> Questions
+    ensures asked { asked_of result ≡ record { kind = kind; questions = [] } }
+    ensures within { (n : ℕ) → AskWithin n result }
+{
+    match kind {
+        Kind::Sources => Questions::Sources(Vec::new(alloc)),
+        Kind::Pairs => Questions::Pairs(Vec::new(alloc)),
+        Kind::Multi => Questions::Multi(Vec::new(alloc)),
+    }
+}
+
+/// Takes the lines of a question file.
+#[derive(Drop)]
+pub struct QuestionParser {
+    pub alloc: Global,
+    /// The one kind that the file may be of, or any.
+    pub only: Option<Kind>,
+    /// What was read, once the problem line was.
+    pub begun: Option<TakenQuestions>,
+    /// The fields of the present line.
+    pub list: PresentList,
+    ghost graph: { ForSome begun (λ b. b.vertices ≡ list.vertices) },
+    ghost kind: { ForSome begun (λ b. may_be only (asked_of b.questions).kind ≡ true) },
+}
+
+impl QuestionParser {
+    ghost use Rattle.road_files.specs.QuestionTakes.{SoFar, sources_given, begun_of, FitsFile};
+
+    /// No line was taken yet, of questions over a graph with this number of vertices.
+    pub fn new(alloc: Global, vertices: u32, only: Option<Kind>) -> Self
+        ensures begun { begun_of result ≡ None }
+        ensures only { result.only ≡ only }
+        ensures vertices { result.list.vertices ≡ vertices }
+        ensures ready { SoFar result.list [] }
+    {
+        QuestionParser {
+            alloc,
+            only,
+            begun: None,
+            list: PresentList::new(alloc, vertices),
+        }
+    }
+
+    /// Takes the problem line.
+    #[tactic(auto, unfolding(crate::specs::QuestionFiles::question_problem))]
+    pub fn problem(&mut self, slots: &[Slot]) -> Result<(), LineFault>
+        ensures rule { Leaves (question_problem self.old.only (begun_of self.old) (map word_in slots.now)) result (begun_of self.new) }
+        ensures only { self.new.only ≡ self.old.only }
+        ensures list { self.new.list ≡ self.old.list }
+    {
+        match &self.begun {
+            Some(_) => return Err(LineFault::Broken(Rule::SecondProblem)),
+            None => {}
+        }
+        if slots.len() != 5 || !slots[1].is_word(b"aux") || !slots[2].is_word(b"sp") {
+            return Err(LineFault::Broken(Rule::BadProblem));
+        }
+        let kind = accept(self.only, Kind::named(&slots[3]))?;
+        let announced = number_up_to(&slots[4], MAX_QUESTIONS)?;
+        self.begun = Some(TakenQuestions {
+            vertices: self.list.vertices,
+            announced,
+            questions: none_of(self.alloc, kind),
+        });
+        Ok(())
+    }
+
+    fn source(&mut self, slots: &[Slot]) -> Result<(), LineFault>
+        ensures rule { Leaves (one_question Kind.Sources (begun_of self.old) (source_of_line self.old.list.vertices (map word_in slots.now))) result (begun_of self.new) }
+        ensures only { self.new.only ≡ self.old.only }
+        ensures list { self.new.list.vertices ≡ self.old.list.vertices }
+    {
+        match &mut self.begun {
+            None => Err(LineFault::Broken(Rule::NoProblem)),
+            Some(begun) => begun.source(slots),
+        }
+    }
+
+    fn pair(&mut self, slots: &[Slot]) -> Result<(), LineFault>
+        ensures rule { Leaves (one_question Kind.Pairs (begun_of self.old) (pair_of_line self.old.list.vertices (map word_in slots.now))) result (begun_of self.new) }
+        ensures only { self.new.only ≡ self.old.only }
+        ensures list { self.new.list.vertices ≡ self.old.list.vertices }
+    {
+        match &mut self.begun {
+            None => Err(LineFault::Broken(Rule::NoProblem)),
+            Some(begun) => begun.pair(slots),
+        }
+    }
+
+    fn sources(&mut self) -> Result<(), LineFault>
+        requires { self.old.list.is_list ≡ true }
+        ensures rule { Leaves (one_question Kind.Multi (begun_of self.old) (sources_of_line self.old.list.count (sources_given self.old.list))) result (begun_of self.new) }
+        ensures only { self.new.only ≡ self.old.only }
+        ensures list { self.new.list.vertices ≡ self.old.list.vertices }
+    {
+        match &mut self.begun {
+            None => Err(LineFault::Broken(Rule::NoProblem)),
+            Some(begun) => begun.list(&mut self.list, self.alloc),
+        }
+    }
+
+    /// Takes a line by its first six fields.
+    #[tactic(auto, unfolding(crate::specs::QuestionFiles::question_line_of))]
+    pub fn take(&mut self, slots: &[Slot]) -> Result<(), LineFault>
+        ensures rule { Leaves (question_line_of self.old.list.vertices self.old.only (begun_of self.old) (map word_in slots.now) self.old.list.is_list self.old.list.count (sources_given self.old.list)) result (begun_of self.new) }
+        ensures only { self.new.only ≡ self.old.only }
+        ensures list { self.new.list.vertices ≡ self.old.list.vertices }
+    {
+        if slots.is_empty() || slots[0].begins_with(b'c') {
+            return Ok(());
+        }
+        if slots[0].is_word(b"p") {
+            return self.problem(slots);
+        }
+        if slots[0].is_word(b"s") {
+            return self.source(slots);
+        }
+        if slots[0].is_word(b"q") {
+            return self.pair(slots);
+        }
+        if self.list.is_list {
+            return self.sources();
+        }
+        Err(LineFault::Broken(Rule::UnknownLine))
+    }
+
+    /// The questions, where all announced ones are there.
+    pub fn whole(self) -> Result<Questions, LineFault>
+        ensures rule { MatchResult result (λ q. question_end (begun_of self) ≡ Ok (asked_of q)) (Breaks (question_end (begun_of self))) }
+        ensures fit { IfOk result (FitsFile self.list.vertices self.only) }
+    {
+        let begun = self.begun;
+        match begun {
+            None => Err(LineFault::Broken(Rule::NoProblem)),
+            Some(begun) => begun.whole(),
+        }
+    }
+}
+
+impl LineParser for QuestionParser {
+    ghost use Rattle.road_files.specs.QuestionTakes.{question_way};
+
+    type Value = Questions;
+
+    ghost way = { question_way };
+
+    fn field(&mut self, slot: &Slot) -> Result<(), LineFault> {
+        self.list.field(slot)
+    }
+
+    fn line(&mut self, slots: &[Slot]) -> Result<(), LineFault> {
+        match self.take(slots) {
+            Ok(()) => {}
+            Err(fault) => return Err(fault),
+        }
+        self.list.restart();
+        Ok(())
+    }
+
+    fn short_line(&mut self, _letter: u8, _numbers: (u64, u64, u64)) -> bool {
+        false
+    }
+
+    fn finish(self) -> Result<Questions, LineFault> {
+        self.whole()
+    }
+
+    ghost stops_short = { λ s at. (refl, tt) };
+}

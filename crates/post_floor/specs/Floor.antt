@@ -92,7 +92,8 @@ module _ {S V : Type 0} (meaning : S → Algebra V) (t : Setup S) where
   abbrev pub core_of : List Event → CoreState V
   core_of events = state_after (meaning t.algebra) (network_in t) events
 
-  -- THE RULE
+  -- What holds between any two steps: some events lead from the opening to a state that all views and all mailboxes show, the views are of all
+  -- shards, their counts add up to what the events did, each mailbox is as its word says, and the done word is 1 only where the state has ended.
   pub record Kept (s : State (Slot V) (View S V)) : Type 0 where
     pub events : List Event
     pub shown : Shows meaning t (flat s.views) (mail t.plan.shards s.words s.homes) (core_of events)

@@ -48,33 +48,33 @@ module _ {V : Type 0} (N : Network) where
       let s : busy_at (N.tail a) (c.token a) a ≤ deficit N (N.tail a) c = sum_term (λ b. busy_at (N.tail a) (c.token b) b) a (suc N.arcs) l in
       let one = busy_at-busy (N.tail a) (c.token a) a i refl in omega (arith, s, one)
 
-  pub counted_same : (n : ℕ) (busy : List ℕ) (a : ℕ) (c d : CoreState V) → a < suc N.arcs → ((b : ℕ) → b ≢ a → d.token b ≡ c.token b) → is_idle (d.token a) ≡ is_idle (c.token a) →
-      IsCounted N n busy c → IsCounted N n busy d
-  counted_same n busy a c d l h i K v m =
+  pub counted_same : (n : ℕ) (deficits : List ℕ) (a : ℕ) (c d : CoreState V) → a < suc N.arcs → ((b : ℕ) → b ≢ a → d.token b ≡ c.token b) → is_idle (d.token a) ≡ is_idle (c.token a) →
+      IsCounted N n deficits c → IsCounted N n deficits d
+  counted_same n deficits a c d l h i K v m =
       let k = K v m in let s = deficit_change v a c d l h in let x : busy_at v (d.token a) a ≡ busy_at v (c.token a) a = ap (λ t. one_if (eqb (N.tail a) v && not t)) i in omega (arith, k, s, x)
 
-  pub counted_more : (n : ℕ) (busy : List ℕ) (a x : ℕ) (c d : CoreState V) → a < suc N.arcs → ((b : ℕ) → b ≢ a → d.token b ≡ c.token b) →
-      is_idle (c.token a) ≡ true → is_idle (d.token a) ≡ false → N.tail a < length busy → x ≡ get_or busy (N.tail a) 0 + 1 →
-      IsCounted N n busy c → IsCounted N n (set busy (N.tail a) x) d
-  counted_more n busy a x c d l h i j w e K v m =
+  pub counted_more : (n : ℕ) (deficits : List ℕ) (a x : ℕ) (c d : CoreState V) → a < suc N.arcs → ((b : ℕ) → b ≢ a → d.token b ≡ c.token b) →
+      is_idle (c.token a) ≡ true → is_idle (d.token a) ≡ false → N.tail a < length deficits → x ≡ get_or deficits (N.tail a) 0 + 1 →
+      IsCounted N n deficits c → IsCounted N n (set deficits (N.tail a) x) d
+  counted_more n deficits a x c d l h i j w e K v m =
       let k = K v m in let s = deficit_change v a c d l h in let was = busy_at-idle v (c.token a) a i in
       elim (cases_eq v (N.tail a)) [
         | inl q ↦ (let now = busy_at-busy v (d.token a) a j (sym q) in
-            let r : get_or (set busy (N.tail a) x) v 0 ≡ x = ap (λ u. get_or (set busy (N.tail a) x) u 0) q ∙ get_or-set_same busy (N.tail a) x 0 w in
-            let o : get_or busy v 0 ≡ get_or busy (N.tail a) 0 = ap (λ u. get_or busy u 0) q in omega (arith, k, s, was, now, r, o, e))
+            let r : get_or (set deficits (N.tail a) x) v 0 ≡ x = ap (λ u. get_or (set deficits (N.tail a) x) u 0) q ∙ get_or-set_same deficits (N.tail a) x 0 w in
+            let o : get_or deficits v 0 ≡ get_or deficits (N.tail a) 0 = ap (λ u. get_or deficits u 0) q in omega (arith, k, s, was, now, r, o, e))
         | inr ne ↦ (let now = busy_at-else v (d.token a) a (λ q. ne (sym q)) in
-            let r = get_or-set_other busy (N.tail a) v x 0 ne in omega (arith, k, s, was, now, r))
+            let r = get_or-set_other deficits (N.tail a) v x 0 ne in omega (arith, k, s, was, now, r))
       ]
 
-  pub counted_less : (n : ℕ) (busy : List ℕ) (a x : ℕ) (c d : CoreState V) → a < suc N.arcs → ((b : ℕ) → b ≢ a → d.token b ≡ c.token b) →
-      is_idle (c.token a) ≡ false → is_idle (d.token a) ≡ true → N.tail a < length busy → x + 1 ≡ get_or busy (N.tail a) 0 →
-      IsCounted N n busy c → IsCounted N n (set busy (N.tail a) x) d
-  counted_less n busy a x c d l h i j w e K v m =
+  pub counted_less : (n : ℕ) (deficits : List ℕ) (a x : ℕ) (c d : CoreState V) → a < suc N.arcs → ((b : ℕ) → b ≢ a → d.token b ≡ c.token b) →
+      is_idle (c.token a) ≡ false → is_idle (d.token a) ≡ true → N.tail a < length deficits → x + 1 ≡ get_or deficits (N.tail a) 0 →
+      IsCounted N n deficits c → IsCounted N n (set deficits (N.tail a) x) d
+  counted_less n deficits a x c d l h i j w e K v m =
       let k = K v m in let s = deficit_change v a c d l h in let now = busy_at-idle v (d.token a) a j in
       elim (cases_eq v (N.tail a)) [
         | inl q ↦ (let was = busy_at-busy v (c.token a) a i (sym q) in
-            let r : get_or (set busy (N.tail a) x) v 0 ≡ x = ap (λ u. get_or (set busy (N.tail a) x) u 0) q ∙ get_or-set_same busy (N.tail a) x 0 w in
-            let o : get_or busy v 0 ≡ get_or busy (N.tail a) 0 = ap (λ u. get_or busy u 0) q in omega (arith, k, s, was, now, r, o, e))
+            let r : get_or (set deficits (N.tail a) x) v 0 ≡ x = ap (λ u. get_or (set deficits (N.tail a) x) u 0) q ∙ get_or-set_same deficits (N.tail a) x 0 w in
+            let o : get_or deficits v 0 ≡ get_or deficits (N.tail a) 0 = ap (λ u. get_or deficits u 0) q in omega (arith, k, s, was, now, r, o, e))
         | inr ne ↦ (let was = busy_at-else v (c.token a) a (λ q. ne (sym q)) in
-            let r = get_or-set_other busy (N.tail a) v x 0 ne in omega (arith, k, s, was, now, r))
+            let r = get_or-set_other deficits (N.tail a) v x 0 ne in omega (arith, k, s, was, now, r))
       ]

@@ -47,7 +47,7 @@ opened_state {V = V} A N labels engagers first tokens told n m l e k s d =
 pub opened_sized : {S V : Type 0} (t : CoreView S V) (first : List (Token V)) (m : Token V) (zeros : List ℕ) → IsQuestion t.problem →
     t.labels ≡ replicate (t.problem.roads.vertices + 1) None → t.engagers ≡ replicate (t.problem.roads.vertices + 1) None →
     first ≡ replicate (length t.problem.roads.arcs + 1) Idle → t.tokens ≡ set first 0 m → is_idle m ≡ false → t.told ≡ replicate (length t.problem.roads.arcs + 1) None →
-    zeros ≡ replicate (t.problem.roads.vertices + 1) 0 → t.busy ≡ set zeros 0 1 → IsSized t
+    zeros ≡ replicate (t.problem.roads.vertices + 1) 0 → t.deficits ≡ set zeros 0 1 → IsSized t
 opened_sized {V = V} t first m zeros Q l e k s b d z y =
     let long = ap length k ∙ length-replicate {A = Token V} (length t.problem.roads.arcs + 1) Idle in
     let wide = ap length z ∙ length-replicate (t.problem.roads.vertices + 1) 0 in
@@ -60,7 +60,7 @@ opened_sized {V = V} t first m zeros Q l e k s b d z y =
       engagers = ap length e ∙ length-replicate _ _;
       tokens = ap length s ∙ length-set first 0 m ∙ long;
       told = ap length d ∙ length-replicate _ _;
-      busy = ap length y ∙ length-set zeros 0 1 ∙ wide;
+      deficits = ap length y ∙ length-set zeros 0 1 ∙ wide;
       counted = subst (λ xs. IsCounted (network_of t) t.problem.roads.vertices xs (state_of t)) (ap (λ u. set zeros u 1) entry ∙ sym y)
           (counted_more (network_of t) t.problem.roads.vertices zeros 0 1 (state_at t.labels t.engagers first t.told) (state_of t) (omega arith)
           (λ j n. ap (λ xs. get_or xs j Idle) s ∙ get_or-set_other first 0 j m Idle n)

@@ -49,72 +49,72 @@ still_sized t labels told engagers a i x z p b n l e d =
       engagers = e ∙ z.engagers;
       tokens = length-set t.tokens i x ∙ z.tokens;
       told = d ∙ z.told;
-      busy = z.busy;
-      counted = counted_same (network_of t) t.problem.roads.vertices t.busy a (state_of t) (state_of (record t { tokens = set t.tokens i x })) w
+      deficits = z.deficits;
+      counted = counted_same (network_of t) t.problem.roads.vertices t.deficits a (state_of t) (state_of (record t { tokens = set t.tokens i x })) w
           (tokens_else t.tokens i a x p)
           (ap is_idle (token_here t.tokens i a x p (busy_within t.tokens a b)) ∙ n ∙ sym b) z.counted;
     }
 
 -- then the counter of its tail is not 0
 pub freed_least : {S V : Type 0} (t : CoreView S V) (a v j y : ℕ) → IsSized t → j ≡ v → v ≡ (network_of t).tail a → v ≤ t.problem.roads.vertices → is_idle ((state_of t).token a) ≡ false →
-    y ≡ get_or t.busy j y → 1 ≤ y
+    y ≡ get_or t.deficits j y → 1 ≤ y
 freed_least t a v j y z q h m b r =
     let least : 1 ≤ deficit (network_of t) ((network_of t).tail a) (state_of t) = deficit_least (network_of t) a (state_of t) (busy_arc t a z b) b in
     let k = z.counted v m in
     let d : deficit (network_of t) v (state_of t) ≡ deficit (network_of t) ((network_of t).tail a) (state_of t) = ap (λ u. deficit (network_of t) u (state_of t)) h in
-    let long = z.busy in
-    let read = reads t.busy j v y q (omega (arith, m, long)) r in omega (arith, k, d, least, read)
+    let long = z.deficits in
+    let read = reads t.deficits j v y q (omega (arith, m, long)) r in omega (arith, k, d, least, read)
 
 -- and every counter is small
-pub counter_most : {S V : Type 0} (t : CoreView S V) (v j y : ℕ) → IsSized t → j ≡ v → v ≤ t.problem.roads.vertices → y ≡ get_or t.busy j y → y < 2 ^ 31
+pub counter_most : {S V : Type 0} (t : CoreView S V) (v j y : ℕ) → IsSized t → j ≡ v → v ≤ t.problem.roads.vertices → y ≡ get_or t.deficits j y → y < 2 ^ 31
 counter_most t v j y z q m r =
     let most = deficit_most (network_of t) v (state_of t) in
     let k = z.counted v m in
     let few = z.question.roads.few_arcs in
-    let long = z.busy in
-    let read = reads t.busy j v y q (omega (arith, m, long)) r in omega (arith, k, most, few, read)
+    let long = z.deficits in
+    let read = reads t.deficits j v y q (omega (arith, m, long)) r in omega (arith, k, most, few, read)
 
 -- a busy arc becomes idle
 pub freed_sized : {S V : Type 0} (t : CoreView S V) (a i v j x y : ℕ) → IsSized t → i ≡ a → j ≡ v → v ≡ (network_of t).tail a → v ≤ t.problem.roads.vertices →
-    is_idle ((state_of t).token a) ≡ false → y ≡ get_or t.busy j y → x ≡ y - 1 → IsSized (record t { tokens = set t.tokens i Idle; busy = set t.busy j x })
+    is_idle ((state_of t).token a) ≡ false → y ≡ get_or t.deficits j y → x ≡ y - 1 → IsSized (record t { tokens = set t.tokens i Idle; deficits = set t.deficits j x })
 freed_sized t a i v j x y z p q h m b r e =
     let w = busy_arc t a z b in
     let least : 1 ≤ deficit (network_of t) ((network_of t).tail a) (state_of t) = deficit_least (network_of t) a (state_of t) w b in
     let k = z.counted v m in
     let d : deficit (network_of t) v (state_of t) ≡ deficit (network_of t) ((network_of t).tail a) (state_of t) = ap (λ u. deficit (network_of t) u (state_of t)) h in
-    let long = z.busy in
-    let same : get_or t.busy v 0 ≡ get_or t.busy ((network_of t).tail a) 0 = ap (λ u. get_or t.busy u 0) h in
+    let long = z.deficits in
+    let same : get_or t.deficits v 0 ≡ get_or t.deficits ((network_of t).tail a) 0 = ap (λ u. get_or t.deficits u 0) h in
     record {
       question = z.question;
       labels = z.labels;
       engagers = z.engagers;
       tokens = length-set t.tokens i Idle ∙ z.tokens;
       told = z.told;
-      busy = length-set t.busy j x ∙ z.busy;
-      counted = subst (λ u. (r : ℕ) → r ≤ t.problem.roads.vertices → get_or (set t.busy u x) r 0 ≡ deficit (network_of t) r (state_of (record t { tokens = set t.tokens i Idle }))) (sym (q ∙ h))
-          (counted_less (network_of t) t.problem.roads.vertices t.busy a x (state_of t) (state_of (record t { tokens = set t.tokens i Idle })) w
+      deficits = length-set t.deficits j x ∙ z.deficits;
+      counted = subst (λ u. (r : ℕ) → r ≤ t.problem.roads.vertices → get_or (set t.deficits u x) r 0 ≡ deficit (network_of t) r (state_of (record t { tokens = set t.tokens i Idle }))) (sym (q ∙ h))
+          (counted_less (network_of t) t.problem.roads.vertices t.deficits a x (state_of t) (state_of (record t { tokens = set t.tokens i Idle })) w
           (tokens_else t.tokens i a Idle p) b (ap is_idle (token_here t.tokens i a Idle p (busy_within t.tokens a b)))
-          (omega (arith, h, m, long)) (let read = reads t.busy j v y q (omega (arith, m, long)) r in omega (arith, e, k, d, least, same, read)) z.counted);
+          (omega (arith, h, m, long)) (let read = reads t.deficits j v y q (omega (arith, m, long)) r in omega (arith, e, k, d, least, same, read)) z.counted);
     }
 
 -- an idle arc out of v gets a message, and is told
 pub sent_sized : {S V : Type 0} (t : CoreView S V) (a i i2 v j x y : ℕ) (token : Token V) (label : Option V) → IsSized t → i ≡ a → j ≡ v → (network_of t).tail a ≡ v → v ≤ t.problem.roads.vertices → a ≤ length t.problem.roads.arcs →
-    is_idle ((state_of t).token a) ≡ true → is_idle token ≡ false → y ≡ get_or t.busy j y → x ≡ y + 1 → IsSized (record t { tokens = set t.tokens i token; told = set t.told i2 label; busy = set t.busy j x })
+    is_idle ((state_of t).token a) ≡ true → is_idle token ≡ false → y ≡ get_or t.deficits j y → x ≡ y + 1 → IsSized (record t { tokens = set t.tokens i token; told = set t.told i2 label; deficits = set t.deficits j x })
 sent_sized t a i i2 v j x y token label z p q h m w b n r e =
-    let long = z.busy in
+    let long = z.deficits in
     let wide = z.tokens in
-    let same : get_or t.busy v 0 ≡ get_or t.busy ((network_of t).tail a) 0 = ap (λ u. get_or t.busy u 0) (sym h) in
+    let same : get_or t.deficits v 0 ≡ get_or t.deficits ((network_of t).tail a) 0 = ap (λ u. get_or t.deficits u 0) (sym h) in
     record {
       question = z.question;
       labels = z.labels;
       engagers = z.engagers;
       tokens = length-set t.tokens i token ∙ z.tokens;
       told = length-set t.told i2 label ∙ z.told;
-      busy = length-set t.busy j x ∙ z.busy;
-      counted = subst (λ u. (r : ℕ) → r ≤ t.problem.roads.vertices → get_or (set t.busy u x) r 0 ≡ deficit (network_of t) r (state_of (record t { tokens = set t.tokens i token }))) (sym (q ∙ sym h))
-          (counted_more (network_of t) t.problem.roads.vertices t.busy a x (state_of t) (state_of (record t { tokens = set t.tokens i token })) (omega (arith, w))
+      deficits = length-set t.deficits j x ∙ z.deficits;
+      counted = subst (λ u. (r : ℕ) → r ≤ t.problem.roads.vertices → get_or (set t.deficits u x) r 0 ≡ deficit (network_of t) r (state_of (record t { tokens = set t.tokens i token }))) (sym (q ∙ sym h))
+          (counted_more (network_of t) t.problem.roads.vertices t.deficits a x (state_of t) (state_of (record t { tokens = set t.tokens i token })) (omega (arith, w))
           (tokens_else t.tokens i a token p) b (ap is_idle (token_here t.tokens i a token p (omega (arith, w, wide))) ∙ n)
-          (omega (arith, h, m, long)) (let read = reads t.busy j v y q (omega (arith, m, long)) r in omega (arith, e, same, read)) z.counted);
+          (omega (arith, h, m, long)) (let read = reads t.deficits j v y q (omega (arith, m, long)) r in omega (arith, e, same, read)) z.counted);
     }
 
 -- places in the tables

@@ -22,7 +22,7 @@ pub record CoreView (S V : Type 0) : Type 0 where
   pub engagers : List (Option ℕ)
   pub tokens : List (Token V)
   pub told : List (Option V)
-  pub busy : List ℕ
+  pub deficits : List ℕ
 
 -- the tables as functions
 abbrev pub state_of : {S V : Type 0} → CoreView S V → CoreState V
@@ -48,7 +48,7 @@ pub record IsQuestion {S : Type 0} (p : Problem S) : Type 0 where
 
 -- the counters say how many arcs out of each vertex are busy
 abbrev pub IsCounted : {V : Type 0} → Network → ℕ → List ℕ → CoreState V → Type 0
-IsCounted N n busy c = (v : ℕ) → v ≤ n → slice_index_or busy v 0 ≡ deficit N v c
+IsCounted N n deficits c = (v : ℕ) → v ≤ n → slice_index_or deficits v 0 ≡ deficit N v c
 
 -- the tables have a place for each vertex and each arc
 pub record IsSized {S V : Type 0} (t : CoreView S V) : Type 0 where
@@ -57,8 +57,8 @@ pub record IsSized {S V : Type 0} (t : CoreView S V) : Type 0 where
   pub engagers : length t.engagers ≡ t.problem.roads.vertices + 1
   pub tokens : length t.tokens ≡ length t.problem.roads.arcs + 1
   pub told : length t.told ≡ length t.problem.roads.arcs + 1
-  pub busy : length t.busy ≡ t.problem.roads.vertices + 1
-  pub counted : IsCounted (network_of t) t.problem.roads.vertices t.busy (state_of t)
+  pub deficits : length t.deficits ≡ t.problem.roads.vertices + 1
+  pub counted : IsCounted (network_of t) t.problem.roads.vertices t.deficits (state_of t)
 
 -- the tables show a state that some list of events leads to
 pub record IsRun {S V : Type 0} (meaning : S → Algebra V) (t : CoreView S V) : Type 0 where

@@ -25,7 +25,7 @@ pub struct Desk<'g, A: PathAlgebra> {
     tokens: Vec<Token<A::Value>>,
     told: Vec<Option<A::Value>>,
     // How many arcs out of each vertex are busy.
-    busy: Vec<u32>,
+    deficits: Vec<u32>,
 }
 
 impl<'g, A: PathAlgebra> Model for Desk<'g, A> {
@@ -33,9 +33,9 @@ impl<'g, A: PathAlgebra> Model for Desk<'g, A> {
 
     ghost Value = { CoreView A A.Value };
 
-    ghost view = { λ c. record { problem = record { algebra = c.algebra; roads = c.graph.now; source = c.source }; labels = c.labels.items; engagers = c.engagers.items; tokens = c.tokens.items; told = c.told.items; busy = c.busy.items } };
+    ghost view = { λ c. record { problem = record { algebra = c.algebra; roads = c.graph.now; source = c.source }; labels = c.labels.items; engagers = c.engagers.items; tokens = c.tokens.items; told = c.told.items; deficits = c.deficits.items } };
 
-    ghost invariant = { λ c. IsSized (record { problem = record { algebra = c.algebra; roads = c.graph.now; source = c.source }; labels = c.labels.items; engagers = c.engagers.items; tokens = c.tokens.items; told = c.told.items; busy = c.busy.items }) };
+    ghost invariant = { λ c. IsSized (record { problem = record { algebra = c.algebra; roads = c.graph.now; source = c.source }; labels = c.labels.items; engagers = c.engagers.items; tokens = c.tokens.items; told = c.told.items; deficits = c.deficits.items }) };
 }
 
 impl<'g, A: PathAlgebra> Desk<'g, A> {
@@ -76,11 +76,11 @@ impl<'g, A: PathAlgebra> Desk<'g, A> {
     }
 
     /// How many arcs out of a vertex are busy.
-    pub fn busy(&self, v: Vertex) -> u32
+    pub fn deficit(&self, v: Vertex) -> u32
         requires { v ≤ self.now.problem.roads.vertices }
         ensures { result ≡ deficit (network_of self.now) v (state_of self.now) }
     {
-        self.busy[v.0 as usize]
+        self.deficits[v.0 as usize]
     }
 
     /// What was last sent along an arc.

@@ -181,6 +181,6 @@ impl<'g, A: PathAlgebra> Core<'g, A> {
         requires { HasVertex self.now.problem.roads v }
         ensures { result ≡ deficit (network_of self.now) v (state_of self.now) }
     {
-        self.desk.busy(v)
+        self.desk.deficit(v)
     }
 }

@@ -39,7 +39,7 @@ impl<'g, A: PathAlgebra> Desk<'g, A> {
         ensures state { state_of self.new ≡ freed (A.meaning self.old.problem.algebra) (network_of self.old) a (state_of self.old) }
     {
         self.tokens[a.0 as usize] = Token::Idle;
-        self.busy[v.0 as usize] -= 1;
+        self.deficits[v.0 as usize] -= 1;
     }
 
     /// An engaged vertex with no busy arc out lets go: its engager's arc gets a signal.
@@ -50,7 +50,7 @@ impl<'g, A: PathAlgebra> Desk<'g, A> {
         ensures state { state_of self.new ≡ rest (A.meaning self.old.problem.algebra) (network_of self.old) v (state_of self.old) }
     {
         if let Some(e) = self.engager(v) {
-            if self.busy(v) == 0 {
+            if self.deficit(v) == 0 {
                 self.tokens[e.0 as usize] = Token::Signal;
                 self.engagers[v.0 as usize] = None;
             }
@@ -82,7 +82,7 @@ impl<'g, A: PathAlgebra> Desk<'g, A> {
             self.told[b.0 as usize] = label;
             if let Some(value) = extension {
                 self.tokens[b.0 as usize] = Token::Message(value);
-                self.busy[v.0 as usize] += 1;
+                self.deficits[v.0 as usize] += 1;
             }
         }
     }

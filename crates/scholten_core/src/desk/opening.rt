@@ -40,9 +40,9 @@ impl<'g, A: PathAlgebra> Desk<'g, A> {
         let engagers = filled(alloc, None, vertices)?;
         let mut tokens = filled(alloc, Token::Idle, arcs)?;
         let told = filled(alloc, None, arcs)?;
-        let mut busy = filled(alloc, 0, vertices)?;
+        let mut deficits = filled(alloc, 0, vertices)?;
         tokens[0] = Token::Message(algebra.origin());
-        busy[0] = 1;
+        deficits[0] = 1;
         Ok(Desk {
             algebra,
             graph,
@@ -51,7 +51,7 @@ impl<'g, A: PathAlgebra> Desk<'g, A> {
             engagers,
             tokens,
             told,
-            busy,
+            deficits,
         })
     }
 }

@@ -6,11 +6,11 @@ use Rattle.scholten_core.proofs.desk.Desk.open.Goals as goal
 
 pub invariant_of-result : goal.invariant_of-result
 invariant_of-result g c =
-    opened_sized _ c.in_ok-tokens.tokens.items (Message c.origin.result) c.in_ok-busy.busy.items (record { roads = c.vertices.ensures.roads; source = c.requires })
+    opened_sized _ c.in_ok-tokens.tokens.items (Message c.origin.result) c.in_ok-deficits.deficits.items (record { roads = c.vertices.ensures.roads; source = c.requires })
     (c.in_ok-labels.ensures ∙ ap (λ n. replicate (n + 1) None) c.vertices.ensures.count) (c.in_ok-engagers.ensures ∙ ap (λ n. replicate (n + 1) None) c.vertices.ensures.count)
     (c.in_ok-tokens.ensures ∙ ap (λ n. replicate (n + 1) Idle) c.arcs-arcs.ensures) refl refl
     (c.in_ok-told.ensures ∙ ap (λ n. replicate (n + 1) None) c.arcs-arcs.ensures)
-    (c.in_ok-busy.ensures ∙ ap (λ n. replicate (n + 1) 0) c.vertices.ensures.count) refl
+    (c.in_ok-deficits.ensures ∙ ap (λ n. replicate (n + 1) 0) c.vertices.ensures.count) refl
 
 pub returns-clause-state : goal.returns-clause-state
 returns-clause-state g c =

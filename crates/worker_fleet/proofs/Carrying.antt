@@ -16,6 +16,7 @@ use Rattle.std.specs.contracts.impls.GlobalAllocator.TheImpl.{ghosts}
 use Rattle.path_algebra.specs.declared.algebra.PathAlgebra.{Ghosts}
 use Rattle.station.proofs.Carrying.{station_send}
 use Rattle.station.specs.contracts.station.Station as Station
+use Rattle.std.specs.contracts.option.Option as Option
 use Rattle.worker_fleet.specs.contracts.driving.Driven as Driven
 
 parts_send : (Ts : List RattleType) → AllSend Ts → FieldsHave IsSend (parts Ts)
@@ -36,3 +37,6 @@ module _ (A V : RattleType) (h : Ghosts A.Denot V.Denot) where
 
     pub driven_send : IsSend A → IsSend V → IsSend (Driven.the_row κ A V h)
     driven_send a v = search (sendable, stations_send, w64_send) depth 40
+
+    pub answer_send : IsSend A → IsSend V → IsSend (Option.the_row (Driven.the_row κ A V h))
+    answer_send a v = search (sendable, driven_send) depth 40

@@ -1,5 +1,5 @@
 //! The loop of one worker.
-ghost use Rattle.std.specs.Prelude.{◌≡◌, ℕ, ◌<◌, ◌≤◌, length, IfSome, IfNone};
+ghost use Rattle.std.specs.Prelude.{◌≡◌, ◌≢◌, ℕ, ◌<◌, ◌≤◌, length, false, None, IfSome, IfNone};
 ghost use Rattle.std.specs.List.{All, AllWithin, HoldsAt};
 ghost use Rattle.worker_fleet.specs.Turns.{NextOn, IsPlaced, HasEnded, IsOpen};
 ghost use Rattle.worker_fleet.specs.Drives.{Drives};
@@ -8,6 +8,7 @@ use crate::gate::Gate;
 use path_algebra::PathAlgebra;
 use post_floor::Floor;
 use station::{Report, Station};
+use std::sync::atomic::{AtomicBool, Ordering};
 use std::thread;
 
 /// Why a worker stopped.
@@ -81,6 +82,72 @@ fn turn_one<A: PathAlgebra>(
     is_busy(station.turn(&floors[*place], budget))
 }
 
+/// Whether workers were called off, where they can be.
+fn are_called_off(called_off: Option<&AtomicBool>) -> bool
+    ensures { called_off.entry ≡ None → result ≡ false }
+{
+    match called_off {
+        Some(flag) => flag.load(Ordering::Relaxed),
+        None => false,
+    }
+}
+
+/// As `drive`, or none where the workers were called off before this one stopped.
+pub(crate) fn drive_unless<'g, A: PathAlgebra, G: Gate>(
+    floors: &[Floor<A>],
+    stations: Vec<(usize, Station<'g, A>)>,
+    worker: u64,
+    budget: u32,
+    limit: u64,
+    gate: &G,
+    called_off: Option<&AtomicBool>,
+) -> Option<Driven<'g, A>>
+    requires { All (IsPlaced floors.now) stations.items }
+    ensures drives { IfSome result (Drives A.meaning floors.now budget limit (G.is_always_open gate.now) stations.entry.items) }
+    ensures some { called_off.entry ≡ None → result ≢ None }
+{
+    let mut stations = stations;
+    let mut at = 0;
+    let mut busy = true;
+    for done in 0..limit {
+        let Some(k) = next_open(&stations, at) else {
+            return Some(Driven {
+                outcome: Outcome::Ended,
+                turns: done,
+                stations,
+            });
+        };
+        if are_called_off(called_off) {
+            return None;
+        }
+        if k < at {
+            rest_unless(busy);
+            busy = false;
+        }
+        if !gate.before(worker, done + 1) {
+            return Some(Driven {
+                outcome: Outcome::Gated,
+                turns: done,
+                stations,
+            });
+        }
+        busy |= turn_one(floors, &mut stations[k], budget);
+        at = k + 1;
+    }
+    match next_open(&stations, at) {
+        Some(_) => Some(Driven {
+            outcome: Outcome::Stalled,
+            turns: limit,
+            stations,
+        }),
+        None => Some(Driven {
+            outcome: Outcome::Ended,
+            turns: limit,
+            stations,
+        }),
+    }
+}
+
 /// Turns stations round and round, in the order of the list and passing over those that have ended.
 ///
 /// It stops where all have ended, before a turn above the limit, or where the gate answers `false`. After a whole
@@ -96,42 +163,9 @@ pub fn drive<'g, A: PathAlgebra, G: Gate>(
     requires { All (IsPlaced floors.now) stations.items }
     ensures { Drives A.meaning floors.now budget limit (G.is_always_open gate.now) stations.entry.items result }
 {
-    let mut stations = stations;
-    let mut at = 0;
-    let mut busy = true;
-    for done in 0..limit {
-        let Some(k) = next_open(&stations, at) else {
-            return Driven {
-                outcome: Outcome::Ended,
-                turns: done,
-                stations,
-            };
-        };
-        if k < at {
-            rest_unless(busy);
-            busy = false;
-        }
-        if !gate.before(worker, done + 1) {
-            return Driven {
-                outcome: Outcome::Gated,
-                turns: done,
-                stations,
-            };
-        }
-        busy |= turn_one(floors, &mut stations[k], budget);
-        at = k + 1;
-    }
-    match next_open(&stations, at) {
-        Some(_) => Driven {
-            outcome: Outcome::Stalled,
-            turns: limit,
-            stations,
-        },
-        None => Driven {
-            outcome: Outcome::Ended,
-            turns: limit,
-            stations,
-        },
+    match drive_unless(floors, stations, worker, budget, limit, gate, None) {
+        Some(driven) => driven,
+        None => unreachable!(),
     }
 }
 

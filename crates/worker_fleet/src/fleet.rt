@@ -12,6 +12,9 @@ use std::thread::{Promise, PromisedHandle, Scope, Threads};
 pub trait Task<J, T> {
     // What the worker of this number may answer to this job.
     ghost answers: { Self → ℕ → J → T → Type 0 };
+
+    /// Tells those that work already that not all could be started, so that they need not go on.
+    fn call_off(&self);
 }
 
 /// What a worker is started with, by which its answer is known.
@@ -155,6 +158,9 @@ pub fn run_each<
             ensures each { IfOk result (λ v. (k : ℕ) (job : J) (r : T) → k < vec_len jobs → K.answers task.entry.now k (slice_index_or jobs.items k job) (slice_index_or v.items k r)) }
         {
             let (handles, all) = start_all(scope, alloc, task, work, jobs)?;
+            if !all {
+                task.call_off();
+            }
             join_all(rt, handles, all)
         },
     )

@@ -1,12 +1,12 @@
 //! The stations of a group of questions, dealt to workers, run to their end, and put together again.
-ghost use Rattle.std.specs.Prelude.{◌≡◌, ◌≢◌, ℕ, ◌<◌, length, true, IfOk, IfNone, Err, Some, vec_len, slice_index_or};
+ghost use Rattle.std.specs.Prelude.{◌≡◌, ◌≢◌, ℕ, ◌<◌, length, map, true, IfOk, IfNone, IfSome, Err, Some, vec_len, slice_index_or};
 ghost use Rattle.std.specs.List.{All};
 ghost use Rattle.worker_fleet.specs.Turns.{IsPlaced};
 ghost use Rattle.worker_fleet.specs.Drives.{Drives};
 ghost use Rattle.worker_fleet.specs.Groups.{gathered, HasShard, IsDone};
 
 use crate::dealing::{deal_all, empty_lists, put_all};
-use crate::driving::{Driven, Outcome, drive};
+use crate::driving::{Driven, Outcome, drive_unless};
 use crate::fleet::{Task, run_each};
 use crate::gate::Gate;
 use path_algebra::PathAlgebra;
@@ -14,6 +14,7 @@ use post_floor::Floor;
 use station::Station;
 use std::alloc::{AllocError, Global};
 use std::sync::Wait;
+use std::sync::atomic::{AtomicBool, Ordering};
 use std::thread::Threads;
 
 /// Why a group was not run to its end.
@@ -44,11 +45,33 @@ struct Orders<'a, A: PathAlgebra, G: Gate> {
     budget: u32,
     limit: u64,
     gate: &'a G,
+    called_off: &'a AtomicBool,
 }
 
-impl<'a, 'g, A: PathAlgebra, G: Gate> Task<Vec<(usize, Station<'g, A>)>, Driven<'g, A>>
+impl<'a, 'g, A: PathAlgebra, G: Gate> Task<Vec<(usize, Station<'g, A>)>, Option<Driven<'g, A>>>
     for Orders<'a, A, G> {
-    ghost answers = { λ o _ stations r. Drives A.meaning o.floors.now o.budget o.limit (G.is_always_open o.gate.now) stations.items r };
+    ghost answers = { λ o _ stations r. IfSome r (Drives A.meaning o.floors.now o.budget o.limit (G.is_always_open o.gate.now) stations.items) };
+
+    fn call_off(&self) {
+        self.called_off.store(true, Ordering::Relaxed);
+    }
+}
+
+/// What all workers answer, where none was called off.
+fn all_driven<'g, A: PathAlgebra>(
+    alloc: Global,
+    answers: Vec<Option<Driven<'g, A>>>,
+) -> Result<Vec<Driven<'g, A>>, AllocError>
+    ensures { IfOk result (λ v. answers.entry.items ≡ map Some v.items) }
+{
+    let mut all = Vec::new(alloc);
+    for answer in answers {
+        let Some(driven) = answer else {
+            return Err(AllocError);
+        };
+        all.push(driven)?;
+    }
+    Ok(all)
 }
 
 /// Drives each share of the stations on a thread of its own.
@@ -65,22 +88,36 @@ fn drive_each<'g, A: PathAlgebra, G: Gate, R: Threads + Wait>(
     ensures len { IfOk result (λ v. vec_len v ≡ vec_len shares.entry) }
     ensures each { IfOk result (λ v. (k : ℕ) (share : _) (r : _) → k < vec_len shares.entry → Drives A.meaning floors.now budget limit (G.is_always_open gate.now) (slice_index_or shares.entry.items k share).items (slice_index_or v.items k r)) }
 {
+    let called_off = &AtomicBool::new(false);
     let orders = Orders {
         floors,
         budget,
         limit,
         gate,
+        called_off,
     };
-    run_each(
+    let answers = run_each(
         rt,
         alloc,
         shares,
         &orders,
-        &move |worker: u64, stations: Vec<(usize, Station<'_, A>)>| -> Driven<'_, A>
+        &move |worker: u64, stations: Vec<(usize, Station<'_, A>)>| -> Option<Driven<'_, A>>
             requires { All (IsPlaced floors.now) stations.items }
-            ensures { Drives A.meaning floors.entry.now budget limit (G.is_always_open gate.entry.now) stations.entry.items result }
-        { drive(floors, stations, worker, budget, limit, gate) },
-    )
+            ensures { IfSome result (Drives A.meaning floors.entry.now budget limit (G.is_always_open gate.entry.now) stations.entry.items) }
+        {
+            drive_unless(
+                floors,
+                stations,
+                worker,
+                budget,
+                limit,
+                gate,
+                Some(called_off),
+            )
+        },
+    )?;
+    let driven = all_driven(alloc, answers)?;
+    Ok(driven)
 }
 
 /// Why the first worker stopped that did not end.

@@ -2,7 +2,7 @@ use Rattle.std.proofs.Common.{◌≡◌, ℕ, List, ◌≤◌, length, sum}
 use Rattle.std.specs.List.{All}
 use Rattle.worker_fleet.specs.Turns.{NextOn, IsPlaced}
 use Rattle.worker_fleet.specs.Moves.{MovesEach}
-use Rattle.worker_fleet.proofs.driving.drive.Given as goal
+use Rattle.worker_fleet.proofs.driving.drive_unless.Given as goal
 
 abbrev pub invariant-loop-done : goal.invariant-loop-done
 invariant-loop-done g l = record {

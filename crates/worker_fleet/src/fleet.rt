@@ -134,8 +134,8 @@ fn join_all<'s, J: Drop, T: Drop, K: Task<J, T>, R: Threads>(
 
 /// Does each job on a thread of its own, and waits for all of them; what they answer comes in the order of the jobs.
 ///
-/// The work is told the number of its job. It answers want of memory where a thread could not be started, or the list of
-/// the answers could not grow; all that were started have then been joined too.
+/// The work is told the number of its job. It answers want of memory where a thread could not be started, and then those that
+/// were started are called off; or where the list of the answers could not grow. All that were started have then been joined too.
 pub fn run_each<
     J: Send + Drop,
     T: Send + Drop,

@@ -4,4 +4,3 @@ pub mod Steps
 pub mod Opened
 pub mod Gather
 pub mod Handing
-pub mod Tolls

@@ -4,7 +4,6 @@ ghost use Rattle.std.specs.List.{All};
 ghost use Rattle.station.specs.Station.{BelongsTo};
 
 mod threads;
-mod tolls;
 
 use crate::{Finished, Gathered, Station, Ungathered, Why, gather, open_question};
 use path_algebra::{Hops, PathAlgebra, Reach, Reliable, Shortest, Widest, Within};
@@ -12,7 +11,6 @@ use post_floor::Floor;
 use road_graph::{Graph, RoadArc, Vertex};
 use shard_part::{Plan, Shard, Tally};
 use std::process::Abort;
-use tolls::Tolls;
 
 /// Five vertices, with a self-loop at 4; no arc leads to 5.
 const FIVE: [(u32, u32, u32); 7] = [
@@ -283,8 +281,6 @@ fn each_algebra(rt: HostRuntime) {
     let within = Within { limit: 5 };
     let near = [Some(0), Some(3), Some(1), None, None];
     labels_are(&rt, within, &answered(&rt, within, &plan, 1, 3, 200), near);
-    let tolls = [Some(0), Some(6), Some(2), Some(16), None];
-    labels_are(&rt, Tolls, &answered(&rt, Tolls, &plan, 1, 3, 200), tolls);
 }
 
 #[test]

@@ -4,6 +4,7 @@ ghost use Rattle.shard_part.specs.Readings.{has_ended};
 ghost use Rattle.post_floor.specs.Data.{IsAt, IsFresh};
 
 mod chain;
+mod claims;
 mod threads;
 
 use crate::{Floor, Seat};

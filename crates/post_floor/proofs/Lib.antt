@@ -14,4 +14,6 @@ pub mod Opening
 pub mod Opened
 pub mod Closing
 pub mod TwoPlaces
+pub mod Places
 pub mod Carrying
+pub mod Passing

@@ -3,6 +3,10 @@ ghost use Rattle.std.specs.Prelude.{◌≡◌, ◌≢◌, ℕ, ◌<◌, ◌≤�
 ghost use Rattle.shard_part.specs.Readings.{has_ended};
 ghost use Rattle.post_floor.specs.Data.{IsAt, IsFresh};
 
+mod chain;
+mod claims;
+mod threads;
+
 use crate::{Floor, Seat};
 use path_algebra::{PathAlgebra, Shortest};
 use road_graph::{Graph, RoadArc, Vertex};
@@ -76,7 +80,7 @@ fn work<A: PathAlgebra>(floor: &Floor<A>, seat: &Seat<A>, part: &mut Part<'_, A>
     requires at { IsAt A.meaning floor.now seat.now part.old }
     ensures { IsAt A.meaning floor.now seat.now part.new }
 {
-    part.handle(9)
+    part.handle(4096)
 }
 
 /// Fills the next mailbox to another shard and publishes it, if it is free.

@@ -119,8 +119,8 @@ module _ {V : Type 0} (A : Algebra V) (N : Network) where
       Balance (c.token b) ((settle A N (N.head a) (arrive A N a x c)).token b) (one_if (eqb b a)) 0
   deliver_balance L W a x c q K b =
       let d = arrive A N a x c in
-      let K2 = arrive_kept A N L W a x c q K in
-      let h = settle_changes L (N.head a) (arrive A N a x c) b (λ e r. (K2.engager_held (N.head a) e r).0) in
+      let kept_next = arrive_kept A N L W a x c q K in
+      let h = settle_changes L (N.head a) (arrive A N a x c) b (λ e r. (kept_next.engager_held (N.head a) e r).0) in
       elim (put_tells c.token a (answer_to (c.engager (N.head a))) b) [
         | inl k ↦ (let B = delivered_token ((arrive A N a x c).token b) ((settle A N (N.head a) (arrive A N a x c)).token b) x
             (elim (answer_either (c.engager (N.head a))) [ inl r ↦ inl (k.1 ∙ r) | inr r ↦ inr (k.1 ∙ r) ]) h in
@@ -144,8 +144,8 @@ module _ {V : Type 0} (A : Algebra V) (N : Network) where
   accept_balance : IsLawful A → WellFormed N → (a : ℕ) (c : CoreState V) → c.token a ≡ Signal → Kept A N 0 c → (b : ℕ) →
       Balance (c.token b) ((settle_tail A N a (N.tail a) (freed A N a c)).token b) 0 (one_if (eqb b a))
   accept_balance L W a c q K b =
-      let K2 = freed_kept A N W a c q K in
-      let h = settle_tail_changes L a (N.tail a) (freed A N a c) b (λ e r. (K2.engager_held (N.tail a) e r).0) in
+      let kept_next = freed_kept A N W a c q K in
+      let h = settle_tail_changes L a (N.tail a) (freed A N a c) b (λ e r. (kept_next.engager_held (N.tail a) e r).0) in
       elim (put_tells c.token a Idle b) [
         | inl k ↦ (let B = accepted_token ((settle_tail A N a (N.tail a) (freed A N a c)).token b) (subst (λ t. Changes t ((settle_tail A N a (N.tail a) (freed A N a c)).token b)) k.1 h) in
             subst (λ n. Balance (c.token b) ((settle_tail A N a (N.tail a) (freed A N a c)).token b) 0 n) (ap one_if (sym (eq-eqb b a k.0)))
@@ -318,13 +318,13 @@ module _ {V : Type 0} (A : Algebra V) (N : Network) where
   deliver_sends : IsLawful A → WellFormed N → (a : ℕ) (x : V) (c : CoreState V) → c.token a ≡ Message x → Kept A N 0 c → (b : ℕ) →
       sends c (settle A N (N.head a) (arrive A N a x c)) b + slack (settle A N (N.head a) (arrive A N a x c)) b ≤ slack c b + changed c (settle A N (N.head a) (arrive A N a x c)) (N.tail b)
   deliver_sends L W a x c q K b =
-      let K2 = arrive_kept A N L W a x c q K in
+      let kept_next = arrive_kept A N L W a x c q K in
       let s = settle_sends L (N.head a) c (arrive A N a x c) b
       (λ r. elim (put_tells c.token a (answer_to (c.engager (N.head a))) b) [
         | inl k ↦ absurd (false≢true (sym (ap is_message k.1 ∙ answer_silent (c.engager (N.head a))) ∙ r))
         | inr k ↦ ap is_message (sym k.1) ∙ r
       ])
-      (λ e r. (K2.engager_held (N.head a) e r).0) in
+      (λ e r. (kept_next.engager_held (N.head a) e r).0) in
       let l = slack_label L (c.told b) (c.label (N.tail b)) ((arrive A N a x c).label (N.tail b)) in
       let g : changed c (settle A N (N.head a) (arrive A N a x c)) (N.tail b) ≡ one_if (not (same_label A (c.label (N.tail b)) ((arrive A N a x c).label (N.tail b)))) =
       ap (λ f. one_if (not (same_label A (c.label (N.tail b)) (f (N.tail b))))) (settle_label (N.head a) (arrive A N a x c)) in

@@ -117,8 +117,8 @@ module _ {V : Type 0} (A : Algebra V) (N : Network) where
       (at a (item_of a (answer_to (c.engager (N.head a))) ++ settle_made A N (N.head a) (arrive A N a x c) xs) ≡ item_of a ((settle A N (N.head a) (arrive A N a x c)).token a))
       × ((b : ℕ) → b ≢ a → Makes A N b (c.token b) ((settle A N (N.head a) (arrive A N a x c)).token b) (at b (item_of a (answer_to (c.engager (N.head a))) ++ settle_made A N (N.head a) (arrive A N a x c) xs)))
   message_makes L W a x c xs q K O =
-      let K2 = arrive_kept A N L W a x c q K in
-      let S = λ (b : ℕ). settle_makes L (N.head a) (arrive A N a x c) xs b O (λ e r. (K2.engager_held (N.head a) e r).0) in
+      let kept_next = arrive_kept A N L W a x c q K in
+      let S = λ (b : ℕ). settle_makes L (N.head a) (arrive A N a x c) xs b O (λ e r. (kept_next.engager_held (N.head a) e r).0) in
       let t = answer_to {V = V} (c.engager (N.head a)) in
       let ta : (arrive A N a x c).token a ≡ answer_to (c.engager (N.head a)) = put-same c.token a (answer_to (c.engager (N.head a))) in
       let split = λ (b : ℕ). at-append b (item_of a (answer_to {V = V} (c.engager (N.head a)))) (settle_made A N (N.head a) (arrive A N a x c) xs) in (
@@ -146,8 +146,8 @@ module _ {V : Type 0} (A : Algebra V) (N : Network) where
       (at a (settle_made A N (N.tail a) (freed A N a c) xs) ≡ item_of a ((settle A N (N.tail a) (freed A N a c)).token a))
       × ((b : ℕ) → b ≢ a → Makes A N b (c.token b) ((settle A N (N.tail a) (freed A N a c)).token b) (at b (settle_made A N (N.tail a) (freed A N a c) xs)))
   signal_makes L W a c xs q K O =
-      let K2 = freed_kept A N W a c q K in
-      let S = λ (b : ℕ). settle_makes L (N.tail a) (freed A N a c) xs b O (λ e r. (K2.engager_held (N.tail a) e r).0) in
+      let kept_next = freed_kept A N W a c q K in
+      let S = λ (b : ℕ). settle_makes L (N.tail a) (freed A N a c) xs b O (λ e r. (kept_next.engager_held (N.tail a) e r).0) in
       let ta : (freed A N a c).token a ≡ Idle = put-same c.token a Idle in (
         (elim (S a) [ inl h ↦ h.1 ∙ ap (item_of a) (sym (h.0 ∙ ta)) | inr h ↦ h.1 ]),
         λ b n. (let tb : (freed A N a c).token b ≡ c.token b = put-other c.token a Idle b n in

@@ -100,26 +100,26 @@ module _ {V : Type 0} (A : Algebra V) (N : Network) where
   deliver_told : IsLawful A → WellFormed N → IsOneValued → (a : ℕ) (c : CoreState V) (t : Token V) → c.token a ≡ t → Kept A N 0 c → (b : ℕ) → Covers c (delivered A N a c t) b
   deliver_told L W U a c Idle q K b = omega arith
   deliver_told L W U a c (Message x) q K b =
-      let K2 = arrive_kept A N L W a x c q K in
+      let kept_next = arrive_kept A N L W a x c q K in
       settle_told L U (N.head a) c (arrive A N a x c) b
       (λ i. elim (put_tells c.token a (answer_to (c.engager (N.head a))) b) [
         | inl k ↦ absurd (busy_answer (c.engager (N.head a)) (sym k.1 ∙ i))
         | inr k ↦ ap is_message (sym k.1 ∙ i)
       ])
-      refl (λ e r. (K2.engager_held (N.head a) e r).0)
+      refl (λ e r. (kept_next.engager_held (N.head a) e r).0)
   deliver_told L W U a c Held q K b = omega arith
   deliver_told L W U a c Signal q K b = omega arith
 
   settle_tail_told : IsLawful A → WellFormed N → IsOneValued → (a k : ℕ) (c : CoreState V) → c.token a ≡ Signal → Kept A N 0 c → (b : ℕ) → Covers c (settle_tail A N k (N.tail a) (freed A N a c)) b
   settle_tail_told L W U a zero c q K b = omega arith
   settle_tail_told L W U a (suc k) c q K b =
-      let K2 = freed_kept A N W a c q K in
+      let kept_next = freed_kept A N W a c q K in
       settle_told L U (N.tail a) c (freed A N a c) b
       (λ i. elim (put_tells c.token a Idle b) [
         | inl k ↦ ap is_message (ap c.token k.0 ∙ q)
         | inr k ↦ ap is_message (sym k.1 ∙ i)
       ])
-      refl (λ e r. (K2.engager_held (N.tail a) e r).0)
+      refl (λ e r. (kept_next.engager_held (N.tail a) e r).0)
 
   accept_told : IsLawful A → WellFormed N → IsOneValued → (a : ℕ) (c : CoreState V) (t : Token V) → c.token a ≡ t → Kept A N 0 c → (b : ℕ) → Covers c (accepted A N a c t) b
   accept_told L W U a c Idle q K b = omega arith

@@ -67,9 +67,9 @@ module _ {S V : Type 0} (meaning : S → Algebra V) where
   moves L t W [] before after p q mail c K e H T = record { shown = subst (λ (u : PartData S V). Shows meaning t (before ++ u ∷ after) mail c) T H; did = refl }
   moves L t W (i ∷ is) before after p q mail c K e H (m, T, rest) =
       let A = meaning t.algebra in let N = network_in t in
-      let T1 : TookIn (meaning t.algebra) (network_in t) (place_in t) p i m = subst (λ (u : Setup S). TookIn (meaning u.algebra) (network_in u) (place_in u) p i m) e T in
+      let took_in : TookIn (meaning t.algebra) (network_in t) (place_in t) p i m = subst (λ (u : Setup S). TookIn (meaning u.algebra) (network_in u) (place_in u) p i m) e T in
       let one = took_shows meaning L t W before after p m i mail c K H T in
-      let C = counts A N (place_in t) (L t.algebra) W c p i m K (shown_holds A N (place_in t) before after p mail c H.shown) T1 in
+      let C = counts A N (place_in t) (L t.algebra) W c p i m K (shown_holds A N (place_in t) before after p mail c H.shown) took_in in
       let R = moves L t W is before after m q mail (step A N c (event_of i)) (step_kept A N (L t.algebra) W c (event_of i) K) (T.setup ∙ e) one.1 rest in
       let told : total is_told (made (meaning p.setup.algebra) (network_in p.setup) i (state_in p)) ≡ count_sent A N c (step A N c (event_of i)) = ap (λ (u : Setup S). total is_told (made (meaning u.algebra) (network_in u) i (state_in p))) e ∙ C.sent in
       let back : total is_back (made (meaning p.setup.algebra) (network_in p.setup) i (state_in p)) ≡ count_signalled A N c (step A N c (event_of i)) = ap (λ (u : Setup S). total is_back (made (meaning u.algebra) (network_in u) i (state_in p))) e ∙ C.signalled in

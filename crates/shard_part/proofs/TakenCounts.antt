@@ -111,25 +111,25 @@ module _ {S V : Type 0} (meaning : S → Algebra V) where
   runs t L W (i ∷ is) p q c e y K H (m, T, rest) =
       let A = meaning t.algebra in
       let N = network_in t in
-      let T1 : TookIn (meaning t.algebra) (network_in t) (place_in t) p i m = subst (λ u. TookIn (meaning u.algebra) (network_in u) (place_in u) p i m) e T in
-      let E = took_event A N (place_in t) L W c p i m K H T1 in
-      let C = counts A N (place_in t) L W c p i m K H T1 in
+      let took_in : TookIn (meaning t.algebra) (network_in t) (place_in t) p i m = subst (λ u. TookIn (meaning u.algebra) (network_in u) (place_in u) p i m) e T in
+      let E = took_event A N (place_in t) L W c p i m K H took_in in
+      let C = counts A N (place_in t) L W c p i m K H took_in in
       let below : IsTallied m = (
         subst (λ n. n ≤ top) (sym T.sent) (counted_top _ p.sent),
         subst (λ n. n ≤ top) (sym T.delivered) (counted_top (is_told i) p.delivered),
         subst (λ n. n ≤ top) (sym T.signalled) (counted_top _ p.signalled),
         subst (λ n. n ≤ top) (sym T.accepted) (counted_top (is_back i) p.accepted),
       ) in
-      let R = runs t L W is m q (step A N c (event_of i)) (T1.setup ∙ e) below (step_kept A N L W c (event_of i) K) E.holds rest in
+      let R = runs t L W is m q (step A N c (event_of i)) (took_in.setup ∙ e) below (step_kept A N L W c (event_of i) K) E.holds rest in
       record {
         enabled = (let r = R.enabled in let one = cond-true {A = ℕ} (is_enabled c (event_of i)) 1 0 E.enabled in omega (arith, r, one));
         holds = R.holds;
         setup = R.setup;
         weighs = λ h. let w = E.weighs h in let r = R.weighs h in omega (arith, w, r);
-        sent = counter _ _ (sent_total A N (step A N c (event_of i)) (map event_of is)) p.sent m.sent q.sent T1.sent C.sent R.sent;
-        delivered = counter _ _ (delivered_total A N (step A N c (event_of i)) (map event_of is)) p.delivered m.delivered q.delivered T1.delivered C.delivered R.delivered;
-        signalled = counter _ _ (signalled_total A N (step A N c (event_of i)) (map event_of is)) p.signalled m.signalled q.signalled T1.signalled C.signalled R.signalled;
-        accepted = counter _ _ (accepted_total A N (step A N c (event_of i)) (map event_of is)) p.accepted m.accepted q.accepted T1.accepted C.accepted R.accepted;
+        sent = counter _ _ (sent_total A N (step A N c (event_of i)) (map event_of is)) p.sent m.sent q.sent took_in.sent C.sent R.sent;
+        delivered = counter _ _ (delivered_total A N (step A N c (event_of i)) (map event_of is)) p.delivered m.delivered q.delivered took_in.delivered C.delivered R.delivered;
+        signalled = counter _ _ (signalled_total A N (step A N c (event_of i)) (map event_of is)) p.signalled m.signalled q.signalled took_in.signalled C.signalled R.signalled;
+        accepted = counter _ _ (accepted_total A N (step A N c (event_of i)) (map event_of is)) p.accepted m.accepted q.accepted took_in.accepted C.accepted R.accepted;
       }
 
   -- on the state after some events

@@ -1,31 +1,21 @@
 -- Stations may cross threads where values may.
-use mathlib.Core.List.{List, [], ◌∷◌}
-use Prim.Native.Nat.{ℕ}
+use mathlib.Core.List.{[], ◌∷◌}
 use mir.Syntax.{w64}
 use denote.RattleType.{RattleType}
 use denote.Plain.{UInt}
-use denote.Param.Send.{IsSend, AllSend, sendable}
-use denote.Param.SendFields.{FieldsHave, as_row_send, declared_send}
+use denote.Param.Send.{IsSend, sendable}
 use denote.Ref.{NamedLft}
-use denote.Struct.Field.{row_field}
-use denote.Struct.Tuple.{Tuple, TupleAt, tuple_name, type_at, parts}
+use denote.Struct.Tuple.{Tuple, tuple_name}
 use Rattle.std.proofs.Crossing.{Vec-send}
 use Rattle.std.specs.contracts.vec.Vec as Vec
 use Rattle.std.specs.contracts.alloc.Global as Global
 use Rattle.std.specs.contracts.impls.GlobalAllocator.TheImpl.{ghosts}
 use Rattle.path_algebra.specs.declared.algebra.PathAlgebra.{Ghosts}
+use Rattle.post_floor.proofs.Carrying.{tuple_send}
 use Rattle.station.proofs.Carrying.{station_send}
 use Rattle.station.specs.contracts.station.Station as Station
 use Rattle.std.specs.contracts.option.Option as Option
 use Rattle.worker_fleet.specs.contracts.driving.Driven as Driven
-
-parts_send : (Ts : List RattleType) → AllSend Ts → FieldsHave IsSend (parts Ts)
-parts_send [] s = tt
-parts_send (T ∷ Ts) s = (as_row_send (row_field T) s.0, parts_send Ts s.1)
-
--- a tuple may be sent where each of its parts may
-tuple_send : (ν : List ℕ) (Ts : List RattleType) → AllSend Ts → IsSend (TupleAt ν Ts)
-tuple_send ν Ts s = declared_send (type_at ν Ts) (parts_send Ts s)
 
 w64_send : IsSend (UInt w64)
 w64_send = search sendable

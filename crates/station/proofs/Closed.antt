@@ -45,6 +45,8 @@ module _ {S V : Type 0} (meaning : S → Algebra V) (L : AllLawful meaning) wher
         accepted = one w.accepted (total (λ d. d.knows.accepted) seats) T.accepted J.accepted C.counts.accepted i;
       } in
       record {
+        roads = P.roads;
+        source = P.source;
         labels = best;
         events = C.events;
         ended = over;

@@ -9,3 +9,4 @@ pub mod Carrying
 pub mod Places
 pub mod Tallying
 pub mod Closed
+pub mod Reached

@@ -1,11 +1,13 @@
 -- The stations of an ended question, and the answer that is gathered from them.
-use Rattle.std.specs.Prelude.{◌≡◌, ◌≢◌, ℕ, ◌+◌, ◌<◌, List, [], ◌∷◌, Option, length, get_or}
+use Rattle.std.specs.Prelude.{◌≡◌, ◌≢◌, ℕ, ◌<◌, false, List, [], ◌∷◌, length, get_or}
 use Rattle.std.specs.List.{All, HoldsAt}
+use Rattle.road_graph.specs.Roads.{IsRoads, HasVertex}
 use Rattle.path_algebra.specs.Algebra.{Algebra}
 use Rattle.path_algebra.specs.Walks.{AreBest}
 use Rattle.scholten_core.specs.declared.event.Event.{Event}
 use Rattle.scholten_core.specs.Accounts.{Totals, totals_of, AreEqualTotals}
 use Rattle.scholten_core.specs.Diffusion.{HasEnded, IsQuiet}
+use Rattle.shard_part.specs.declared.tally.Tally.{Tally}
 use Rattle.shard_part.specs.PartState.{Setup, network_in, total}
 use Rattle.shard_part.specs.Tallies.{tally_of}
 use Rattle.post_floor.specs.Data.{SeatData}
@@ -41,9 +43,12 @@ module _ {S V : Type 0} where
   IsWhy n stations (Missing j) = (j < n) × IsMissing stations j × ((i : ℕ) → i < j → IsThere stations i)
   IsWhy n stations Memory = (j : ℕ) → j < n → IsThere stations j
 
--- Labels are best. Some events, counted in full, lead to a state that has ended and is quiet; each counter of the tally is the lesser
--- of its total and its top, full exactly where a total reaches that, and all totals are the same.
+-- The question is about a graph, from one of its vertices. Labels are best. Some events, counted in full, lead to a state that has ended
+-- and is quiet; each counter of the tally is the lesser of its total and its top, full exactly where a total reaches that, and all totals
+-- are the same.
 pub record IsGathered {S V : Type 0} (meaning : S → Algebra V) (t : Setup S) (g : Gathered V) : Type 0 where
+  pub roads : IsRoads t.roads
+  pub source : HasVertex t.roads t.source
   pub labels : AreBest (meaning t.algebra) t.roads (t.source ∷ []) g.labels
   pub events : List Event
   pub ended : HasEnded (core_of meaning t events)
@@ -59,3 +64,7 @@ counts_of seats = record {
   signalled = total (λ d. d.knows.signalled) seats;
   accepted = total (λ d. d.knows.accepted) seats;
 }
+
+-- all four counters show n, which is below their top
+abbrev pub each_shows : ℕ → Tally
+each_shows n = record { sent = n; delivered = n; signalled = n; accepted = n; full = false }

@@ -1,15 +1,21 @@
-//! Questions that stations answer together.
-ghost use Rattle.std.specs.Prelude.{◌≡◌, ◌<◌, [], length};
+//! Questions that stations answer together. What a question is refused memory for is asked for once more, so it ends the same where any one growth is refused.
+ghost use Rattle.std.specs.Prelude.{◌≡◌, ℕ, ◌+◌, ◌<◌, Bool, [], length};
 ghost use Rattle.std.specs.List.{All};
+ghost use Rattle.path_algebra.specs.Given.{reach};
+ghost use Rattle.scholten_core.specs.Accounts.{AreMarksOfReached, count_marked};
+ghost use Rattle.station.specs.Gather.{IsGathered, each_shows};
 ghost use Rattle.station.specs.Station.{BelongsTo};
 
 mod threads;
 
-use crate::{Finished, Gathered, Station, Ungathered, Why, gather, open_question};
+use crate::{
+    Finished, Gathered, Station, Ungathered, Why, gather, open_question, reach_counts_each_arc_once,
+};
 use path_algebra::{Hops, PathAlgebra, Reach, Reliable, Shortest, Widest, Within};
 use post_floor::Floor;
 use road_graph::{Graph, RoadArc, Vertex};
 use shard_part::{Plan, Shard, Tally};
+use std::alloc::Global;
 use std::process::Abort;
 
 /// Five vertices, with a self-loop at 4; no arc leads to 5.
@@ -26,33 +32,46 @@ const FIVE: [(u32, u32, u32); 7] = [
 /// What the least sums from vertex 1 are.
 const SHORTEST: [Option<u64>; 5] = [Some(0), Some(3), Some(1), Some(8), None];
 
-/// The five vertices.
-fn five(rt: &(impl Abort + AllocGlobal)) -> Graph {
-    let mut arcs = Vec::new(rt.alloc());
+/// The five vertices, or none where memory was refused.
+fn asked_five(alloc: Global) -> Option<Graph> {
+    let mut arcs = Vec::with_capacity(alloc, FIVE.len()).ok()?;
     for (tail, head, weight) in FIVE {
         let arc = RoadArc {
             tail: Vertex(tail),
             head: Vertex(head),
             weight,
         };
-        arcs.push(arc).expect(rt, "memory");
+        arcs.push(arc).ok()?;
     }
-    assert!(rt; arcs.len() < 1000);
-    match Graph::new(rt.alloc(), 5, arcs) {
-        Ok(graph) => graph,
-        Err(_) => panic!(rt; "refused"),
+    if arcs.len() > 1000 {
+        return None;
+    }
+    Graph::new(alloc, 5, arcs).ok()
+}
+
+/// The five vertices.
+fn five(rt: &(impl Abort + AllocGlobal)) -> Graph {
+    match asked_five(rt.alloc()) {
+        Some(graph) => graph,
+        None => asked_five(rt.alloc()).expect(rt, "memory"),
     }
 }
 
 /// The five vertices in blocks.
 fn blocks(rt: &(impl Abort + AllocGlobal), shards: u8) -> Plan {
     assert!(rt; 1 <= shards && shards <= 64);
-    Plan::blocks(rt.alloc(), 5, shards).expect(rt, "memory")
+    match Plan::blocks(rt.alloc(), 5, shards) {
+        Ok(plan) => plan,
+        Err(_) => Plan::blocks(rt.alloc(), 5, shards).expect(rt, "memory"),
+    }
 }
 
 /// The five vertices in three shards, as a table says.
 fn by_table(rt: &(impl Abort + AllocGlobal)) -> Plan {
-    let list = vec![in rt.alloc(); 2u8, 0, 2, 0, 1].expect(rt, "memory");
+    let list = match vec![in rt.alloc(); 2u8, 0, 2, 0, 1] {
+        Ok(list) => list,
+        Err(_) => vec![in rt.alloc(); 2u8, 0, 2, 0, 1].expect(rt, "memory"),
+    };
     assert!(rt; list.len() == 5);
     match Plan::table(3, list) {
         Ok(plan) => plan,
@@ -68,11 +87,18 @@ fn opened<'g, A: PathAlgebra>(
     plan: &'g Plan,
     source: u32,
 ) -> (Floor<A>, Vec<Station<'g, A>>)
-    ensures { All (BelongsTo result.0) result.1.items }
+    ensures own { All (BelongsTo result.0) result.1.items }
+    ensures roads { result.0.question.roads ≡ graph.now }
+    ensures source { result.0.question.source ≡ source }
 {
     assert!(rt; graph.has(Vertex(source)));
     assert!(rt; plan.vertices() == graph.vertices());
-    open_question(rt.alloc(), algebra, graph, plan, Vertex(source)).expect(rt, "memory")
+    match open_question(rt.alloc(), algebra, graph, plan, Vertex(source)) {
+        Ok(opened) => opened,
+        Err(_) => {
+            open_question(rt.alloc(), algebra, graph, plan, Vertex(source)).expect(rt, "memory")
+        }
+    }
 }
 
 /// One turn of a station.
@@ -155,6 +181,16 @@ fn with_one_more<'g, A: PathAlgebra>(
     done
 }
 
+/// An empty list with room for so many.
+fn empty<'g, A: PathAlgebra>(rt: &(impl Abort + AllocGlobal), count: usize) -> Vec<Finished<'g, A>>
+    ensures { result.items ≡ [] }
+{
+    match Vec::with_capacity(rt.alloc(), count) {
+        Ok(list) => list,
+        Err(_) => Vec::with_capacity(rt.alloc(), count).expect(rt, "memory"),
+    }
+}
+
 /// What `gather` takes of stations, all of which have ended.
 fn finished<'g, A: PathAlgebra>(
     rt: &(impl Abort + AllocGlobal),
@@ -165,11 +201,31 @@ fn finished<'g, A: PathAlgebra>(
     ensures { All (BelongsTo floor.now) result.items }
 {
     let mut stations = stations;
-    let mut done = Vec::new(rt.alloc());
+    let mut done = empty(rt, stations.len());
     while let Some(station) = stations.pop() {
         done = with_one_more(rt, floor, done, station);
     }
     done
+}
+
+/// The answer from what came back where memory was refused.
+fn gathered_again<A: PathAlgebra>(
+    rt: &(impl Abort + AllocGlobal),
+    back: Ungathered<'_, A>,
+) -> Gathered<A::Value>
+    requires { All (BelongsTo back.floor) back.stations.items }
+    ensures { IsGathered A.meaning back.entry.floor.question result }
+{
+    let Ungathered {
+        why,
+        floor,
+        stations,
+    } = back;
+    assert!(rt; why == Why::Memory);
+    match gather(rt.alloc(), floor, stations) {
+        Ok(gathered) => gathered,
+        Err(_) => panic!(rt; "not gathered"),
+    }
 }
 
 /// The answer from what `finished` gives.
@@ -179,10 +235,11 @@ fn gathered<A: PathAlgebra>(
     done: Vec<Finished<'_, A>>,
 ) -> Gathered<A::Value>
     requires { All (BelongsTo floor) done.items }
+    ensures { IsGathered A.meaning floor.question result }
 {
     match gather(rt.alloc(), floor, done) {
         Ok(gathered) => gathered,
-        Err(_) => panic!(rt; "not gathered"),
+        Err(back) => gathered_again(rt, back),
     }
 }
 
@@ -283,10 +340,29 @@ fn each_algebra(rt: HostRuntime) {
     labels_are(&rt, within, &answered(&rt, within, &plan, 1, 3, 200), near);
 }
 
+/// The answer of reachability: in every schedule each counter shows one, and one more for each arc whose tail is reached.
+fn reached(
+    rt: &(impl Abort + AllocGlobal),
+    graph: &Graph,
+    plan: &Plan,
+    source: u32,
+    budget: u32,
+) -> Gathered<()>
+    ensures { (marked : ℕ → Bool) → AreMarksOfReached reach graph.now source marked → result.tally ≡ each_shows (1 + count_marked graph.now marked) }
+{
+    let (floor, stations) = opened(rt, Reach, graph, plan, source);
+    let stations = turned(rt, &floor, stations, budget, 200);
+    let done = finished(rt, &floor, stations);
+    let gathered = gathered(rt, floor, done);
+    reach_counts_each_arc_once();
+    gathered
+}
+
 #[test]
 fn reach_accounts(rt: HostRuntime) {
+    let graph = five(&rt);
     for budget in [1, 2, 1000] {
-        let gathered = answered(&rt, Reach, &blocks(&rt, 3), 1, budget, 200);
+        let gathered = reached(&rt, &graph, &blocks(&rt, 3), 1, budget);
         labels_are(
             &rt,
             Reach,
@@ -295,16 +371,16 @@ fn reach_accounts(rt: HostRuntime) {
         );
         counts_are(&rt, gathered.tally, 7);
     }
-    let gathered = answered(&rt, Reach, &by_table(&rt), 1, 1, 200);
+    let gathered = reached(&rt, &graph, &by_table(&rt), 1, 1);
     counts_are(&rt, gathered.tally, 7);
 }
 
 #[test]
 fn reach_accounts_from_other_sources(rt: HostRuntime) {
-    let gathered = answered(&rt, Reach, &blocks(&rt, 3), 4, 1, 200);
-    counts_are(&rt, gathered.tally, 2);
-    let gathered = answered(&rt, Reach, &blocks(&rt, 3), 5, 1, 200);
-    counts_are(&rt, gathered.tally, 8);
+    let graph = five(&rt);
+    let plan = blocks(&rt, 3);
+    counts_are(&rt, reached(&rt, &graph, &plan, 4, 1).tally, 2);
+    counts_are(&rt, reached(&rt, &graph, &plan, 5, 1).tally, 8);
 }
 
 /// The label of a vertex, as a station shows it.

@@ -1,0 +1,39 @@
+-- What is counted where all walks have one value.
+use Rattle.std.proofs.Common.{◌≡◌, ℕ, suc, ◌+◌, ◌<◌, ◌≤◌, Bool, false, ◌||◌, leb, min, length, sym, ◌∙◌, arith}
+use Rattle.std.proofs.lemmas.Bool.{lt-leb}
+use Rattle.path_algebra.specs.Given.{reach}
+use Rattle.road_graph.specs.Roads.{Roads}
+use Rattle.scholten_core.specs.Accounts.{Totals, totals_of, AreEqualTotals, AreMarksOfReached, count_marked}
+use Rattle.scholten_core.specs.Sums.{one_if}
+use Rattle.scholten_core.proofs.EveryAccount.{reach_sends_once}
+use Rattle.scholten_core.proofs.Sums.{one_if-most, sum_most, sum_ones}
+use Rattle.shard_part.specs.PartState.{Setup, network_in}
+use Rattle.shard_part.specs.Tallies.{top, tally_of}
+use Rattle.station.specs.declared.gathering.Gathered.{Gathered}
+use Rattle.station.specs.Gather.{IsGathered, each_shows}
+
+-- totals that are all n, below the top, are shown as they are
+shown : (T : Totals) (n : ℕ) → n < top → T.sent ≡ n → AreEqualTotals T → tally_of T ≡ each_shows n
+shown T n l e (s, d, a) =
+    let e2 = sym s ∙ e in let e3 = sym d ∙ e2 in let e4 = sym a ∙ e3 in
+    let kept : (x : ℕ) → x ≡ n → min x top ≡ n = λ x q. omega (arith, q, l) in
+    let below : (x : ℕ) → x ≡ n → leb top x ≡ false = λ x q. lt-leb top x (omega (arith, q, l)) in
+    λ i. record {
+      sent = kept T.sent e i;
+      delivered = kept T.delivered e2 i;
+      signalled = kept T.signalled e3 i;
+      accepted = kept T.accepted e4 i;
+      full = below T.sent e i || below T.delivered e2 i || below T.signalled e3 i || below T.accepted e4 i;
+    }
+
+-- no more arcs have a mark than there are
+marked_at_most : (g : Roads) (marked : ℕ → Bool) → count_marked g marked ≤ length g.arcs
+marked_at_most g marked =
+    let m = sum_most (λ b. one_if (marked (suc b))) (λ b. 1) (length g.arcs) (λ b. one_if-most (marked (suc b))) in
+    let o = sum_ones (length g.arcs) in omega (arith, m, o)
+
+pub once_an_arc : {S : Type 0} (t : Setup S) (g : Gathered (Unit {0})) → IsGathered (λ _. reach) t g → (marked : ℕ → Bool) → AreMarksOfReached reach t.roads t.source marked → g.tally ≡ each_shows (1 + count_marked t.roads marked)
+once_an_arc t g G marked M =
+    let sent = reach_sends_once t.roads t.source G.roads G.source G.events G.ended marked M in
+    let most = marked_at_most t.roads marked in let few = G.roads.few_arcs in
+    G.tally ∙ shown (totals_of reach (network_in t) G.events) (1 + count_marked t.roads marked) (omega (arith, most, few)) sent G.equal

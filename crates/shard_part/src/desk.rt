@@ -403,6 +403,25 @@ impl<'g, A: PathAlgebra> Desk<'g, A> {
         }
     }
 
+    /// The due arc b out of the vertex at a place is told its label.
+    fn tell_anew(&mut self, v: Vertex, j: usize, b: ArcNo, i: usize, road: OutRoad)
+        requires place { IsPlace self.old v j }
+        requires vertex { v ≢ 0 }
+        requires row { IsRow self.old b i }
+        requires tail { (network_in self.old.setup).tail b ≡ v }
+        requires arc { IsArc (network_in self.old.setup) b }
+        requires graph { b ≢ 0 }
+        requires road { road ≡ road_of (arc_of self.old.setup.roads b) }
+        requires due { due (A.meaning self.old.setup.algebra) (network_in self.old.setup) v (state_in self.old) b ≡ true }
+        ensures { self.new ≡ offered (A.meaning self.old.setup.algebra) v b self.old }
+    {
+        let label = self.label(v, j);
+        let value = self.extension(v, j, b, road.weight);
+        let to = self.shard_behind(b, road.head);
+        self.tell(b, i, label);
+        self.message(v, j, b, i, value, to);
+    }
+
     /// The arc b out of the vertex at a place is told its label, if it is due.
     fn offer(&mut self, v: Vertex, j: usize, b: ArcNo, i: usize, road: OutRoad)
         requires place { IsPlace self.old v j }
@@ -415,11 +434,25 @@ impl<'g, A: PathAlgebra> Desk<'g, A> {
         ensures { self.new ≡ offered (A.meaning self.old.setup.algebra) v b self.old }
     {
         if self.is_due(v, j, b, i) {
-            let label = self.label(v, j);
-            let value = self.extension(v, j, b, road.weight);
-            let to = self.shard_behind(b, road.head);
-            self.tell(b, i, label);
-            self.message(v, j, b, i, value, to);
+            self.tell_anew(v, j, b, i, road);
+        }
+    }
+
+    /// The same for the k-th arc out of the vertex. Most arcs are not due, and only that of one that is due is looked up.
+    fn offer_again(&mut self, v: Vertex, j: usize, k: usize, b: ArcNo, i: usize)
+        requires place { IsPlace self.old v j }
+        requires vertex { v ≢ 0 }
+        requires inside { k < length (outgoing (network_in self.old.setup) v) }
+        requires turn { get_or (outgoing (network_in self.old.setup) v) k 0 ≡ b }
+        requires row { IsRow self.old b i }
+        requires tail { (network_in self.old.setup).tail b ≡ v }
+        requires arc { IsArc (network_in self.old.setup) b }
+        requires graph { b ≢ 0 }
+        ensures { self.new ≡ offered (A.meaning self.old.setup.algebra) v b self.old }
+    {
+        if self.is_due(v, j, b, i) {
+            let road = self.road_at(v, j, k, b);
+            self.tell_anew(v, j, b, i, road);
         }
     }
 }
@@ -530,8 +563,7 @@ impl<'g, A: PathAlgebra> Desk<'g, A> {
         let i = self.row(v, j, k);
         self.free(v, j, a, i);
         if a.0 > 0 {
-            let road = self.road_at(v, j, k, a);
-            self.offer(v, j, a, i, road);
+            self.offer_again(v, j, k, a, i);
             self.rest(v, j);
         }
     }

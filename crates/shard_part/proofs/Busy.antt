@@ -1,7 +1,7 @@
 -- An arc becomes busy, or idle, and the deficit of its tail follows.
 use Rattle.std.proofs.Common.{◌≡◌, ◌≢◌, ℕ, zero, suc, ◌+◌, ◌-◌, ◌<◌, ◌≤◌, ◌^◌, Bool, true, false, not, ◌&&◌, eqb, List, length, set, get_or, ◌⊎◌, inl, inr, refl, sym, ap, ◌∙◌, subst, arith, length-set, get_or-set_same, get_or-set_other, eq-eqb, ne_eqb}
 use Rattle.std.proofs.lemmas.Bool.{cases_eq, cases_lt}
-use Rattle.std.proofs.lemmas.List.{get_or_read}
+use Rattle.std.proofs.lemmas.List.{take_all}
 use Rattle.scholten_core.specs.Network.{Network}
 use Rattle.scholten_core.specs.Diffusion.{CoreState, is_idle}
 use Rattle.scholten_core.specs.Sums.{one_if}
@@ -11,6 +11,7 @@ use Rattle.scholten_core.specs.Deficit.{busy_out}
 use Rattle.shard_part.specs.PartState.{PartData, state_in, token_if, network_in, place_in, own_in, arcs_out, is, engages, idles, part_weight, IsSound, IsClear}
 use Rattle.shard_part.specs.Desk.{Rows, IsCounted, IsDesk, IsPlace, IsRow}
 use Rattle.shard_part.proofs.Weights.{sum_at, sum_below_same}
+use Rattle.shard_part.proofs.Counting.{own_arcs_most}
 use Rattle.shard_part.proofs.Spread.{table_write, table_long}
 use Rattle.shard_part.proofs.Places.{own_apart, own_placed}
 use Rattle.shard_part.proofs.Moves.{place_at, row_at, arc_below, apart}
@@ -157,7 +158,7 @@ module _ {S V : Type 0} where
           ]
 
   pub occupy_keeps : (p old : PartData S V) (r : Rows V) (n : ℕ) (ns : List ℕ) (v j b i d : ℕ) → p ≡ old → IsDesk p r n ns → IsPlace old v j → IsRow old b i → (network_in old.setup).tail b ≡ v → v ≢ 0 → get_or old.busy b false ≡ false →
-      d ≡ get_or r.deficits j d →
+      d ≡ get_or r.deficits j 0 →
       IsDesk (record p { busy = spread (arcs_out (network_in p.setup) (own_in p.setup p.shard)) (set r.busy i true) false (suc (length p.setup.roads.arcs)) }) (record r { busy = set r.busy i true; deficits = set r.deficits j (d + 1) }) n ns
       × IsClear (record p { busy = spread (arcs_out (network_in p.setup) (own_in p.setup p.shard)) (set r.busy i true) false (suc (length p.setup.roads.arcs)) }) b
   occupy_keeps p old r n ns v j b i d e D R1 R2 t nz f h =
@@ -167,21 +168,28 @@ module _ {S V : Type 0} where
       let m : place_in p.setup ((network_in p.setup).tail b) ≡ p.shard = ap (place_in p.setup) (t2 ∙ sym P.vertex) ∙ own_placed p.setup p.shard j P.inside (λ w. nz (sym P.vertex ∙ w)) in
       let l : b < length p.busy = (let w = table_long (arcs_out (network_in p.setup) (own_in p.setup p.shard)) r.busy p.busy false (suc (length p.setup.roads.arcs)) D.seen.busy in let z = arc_below p b i Q in omega (arith, w, z)) in
       let O = occupy_sound p b D.sound l m f2 in
-      let d2 : d ≡ get_or r.deficits j 0 = get_or_read r.deficits j d (let q = D.sized.deficits in let z = P.inside in omega (arith, q, z)) h 0 in
+      let d2 : d ≡ get_or r.deficits j 0 = h in
       let z = ap one_if f2 in (
         keep_busy p r n ns v j b i true (d + 1) D P Q t2 (omega (arith, d2, z)) O.0,
         subst (λ (ys : List Bool). IsClear (record p { busy = ys }) b) (sym (busy_written p r n ns b i true D Q)) O.1,
       )
 
-  pub deficit_few : (p old : PartData S V) (r : Rows V) (n : ℕ) (ns : List ℕ) (v j d : ℕ) → p ≡ old → IsDesk p r n ns → IsPlace old v j → d ≡ get_or r.deficits j d → d ≤ 2 ^ 27 + 1
+  -- the table of arcs is no longer than all arcs with the environment's
+  pub rows_few : (p : PartData S V) (r : Rows V) (n : ℕ) (ns : List ℕ) → IsDesk p r n ns → length r.busy ≤ 2 ^ 27 + 1
+  rows_few p r n ns D =
+      let m = own_arcs_most (network_in p.setup) (place_in p.setup) p.shard p.setup.roads.vertices (length (own_in p.setup p.shard)) in
+      let t = ap (λ vs. length (arcs_out (network_in p.setup) vs)) (take_all (length (own_in p.setup p.shard)) (own_in p.setup p.shard) (omega arith)) in
+      let s = D.sized.busy in let a = D.planned.roads.few_arcs in omega (arith, m, t, s, a)
+
+  pub deficit_few : (p old : PartData S V) (r : Rows V) (n : ℕ) (ns : List ℕ) (v j d : ℕ) → p ≡ old → IsDesk p r n ns → IsPlace old v j → d ≡ get_or r.deficits j 0 → d ≤ 2 ^ 27 + 1
   deficit_few p old r n ns v j d e D R h =
       let P = place_at p old v j e R in
-      let d2 : d ≡ get_or r.deficits j 0 = get_or_read r.deficits j d (let q = D.sized.deficits in let z = P.inside in omega (arith, q, z)) h 0 in
+      let d2 : d ≡ get_or r.deficits j 0 = h in
       let c = D.counts j P.inside in let m = busy_most (network_in p.setup) (get_or (own_in p.setup p.shard) j 0) (state_in p) (suc (length p.setup.roads.arcs)) in
       let a = D.planned.roads.few_arcs in omega (arith, d2, c, m, a)
 
   pub free_keeps : (p old : PartData S V) (r : Rows V) (n : ℕ) (ns : List ℕ) (v j a i d : ℕ) → p ≡ old → IsDesk p r n ns → IsPlace old v j → IsRow old a i → (network_in old.setup).tail a ≡ v → place_in old.setup v ≡ old.shard → IsClear old a →
-      d ≡ get_or r.deficits j d →
+      d ≡ get_or r.deficits j 0 →
       (1 ≤ d) × IsDesk (record p { busy = spread (arcs_out (network_in p.setup) (own_in p.setup p.shard)) (set r.busy i false) false (suc (length p.setup.roads.arcs)) }) (record r { busy = set r.busy i false; deficits = set r.deficits j (d - 1) }) n ns
   free_keeps p old r n ns v j a i d e D R1 R2 t m z h =
       let P = place_at p old v j e R1 in let Q = row_at p old a i e R2 in
@@ -190,7 +198,7 @@ module _ {S V : Type 0} where
       let z2 : IsClear p a = subst (λ (u : PartData S V). IsClear u a) (sym e) z in
       let f2 = clear_busy p a (ap (place_in p.setup) t2 ∙ m2) z2 in
       let l : a < length p.busy = (let w = table_long (arcs_out (network_in p.setup) (own_in p.setup p.shard)) r.busy p.busy false (suc (length p.setup.roads.arcs)) D.seen.busy in let y = arc_below p a i Q in omega (arith, w, y)) in
-      let d2 : d ≡ get_or r.deficits j 0 = get_or_read r.deficits j d (let q = D.sized.deficits in let y = P.inside in omega (arith, q, y)) h 0 in
+      let d2 : d ≡ get_or r.deficits j 0 = h in
       let one = ap one_if f2 in
       let c = D.counts j P.inside in
       let y = busy_here p (get_or (own_in p.setup p.shard) j 0) a false (suc (length p.setup.roads.arcs)) (arc_below p a i Q) l (t2 ∙ sym P.vertex) in

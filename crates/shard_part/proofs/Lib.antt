@@ -37,3 +37,4 @@ pub mod OpenedAll
 pub mod Sharing
 pub mod Exact
 pub mod Arriving
+pub mod Records

@@ -36,22 +36,22 @@ module _ {S V : Type 0} where
   mine_at p v j P nz = subst (λ k. place_in p.setup k ≡ p.shard) P.vertex (own_placed p.setup p.shard j P.inside (λ w. nz (sym P.vertex ∙ w)))
 
   -- reads
-  pub label_read : (p old : PartData S V) (r : Rows V) (n : ℕ) (ns : List ℕ) (v j : ℕ) (x : Option V) → p ≡ old → IsDesk p r n ns → IsPlace old v j → x ≡ get_or r.labels j x → x ≡ get_or old.labels v None
+  pub label_read : (p old : PartData S V) (r : Rows V) (n : ℕ) (ns : List ℕ) (v j : ℕ) (x : Option V) → p ≡ old → IsDesk p r n ns → IsPlace old v j → x ≡ get_or r.labels j None → x ≡ get_or old.labels v None
   label_read p old r n ns v j x e D Q h = let P = place_at p old v j e Q in
       table_read (own_in p.setup p.shard) r.labels p.labels None (suc p.setup.roads.vertices) j v x D.seen.labels (own_apart p.setup p.shard) P.inside D.sized.labels P.vertex (below p v j P) h
       ∙ ap (λ (u : PartData S V). get_or u.labels v None) e
 
-  pub engager_read : (p old : PartData S V) (r : Rows V) (n : ℕ) (ns : List ℕ) (v j : ℕ) (x : Option ℕ) → p ≡ old → IsDesk p r n ns → IsPlace old v j → x ≡ get_or r.engagers j x → x ≡ get_or old.engagers v None
+  pub engager_read : (p old : PartData S V) (r : Rows V) (n : ℕ) (ns : List ℕ) (v j : ℕ) (x : Option ℕ) → p ≡ old → IsDesk p r n ns → IsPlace old v j → x ≡ get_or r.engagers j None → x ≡ get_or old.engagers v None
   engager_read p old r n ns v j x e D Q h = let P = place_at p old v j e Q in
       table_read (own_in p.setup p.shard) r.engagers p.engagers None (suc p.setup.roads.vertices) j v x D.seen.engagers (own_apart p.setup p.shard) P.inside D.sized.engagers P.vertex (below p v j P) h
       ∙ ap (λ (u : PartData S V). get_or u.engagers v None) e
 
-  pub busy_read : (p old : PartData S V) (r : Rows V) (n : ℕ) (ns : List ℕ) (b i : ℕ) (x : Bool) → p ≡ old → IsDesk p r n ns → IsRow old b i → x ≡ get_or r.busy i x → x ≡ get_or old.busy b false
+  pub busy_read : (p old : PartData S V) (r : Rows V) (n : ℕ) (ns : List ℕ) (b i : ℕ) (x : Bool) → p ≡ old → IsDesk p r n ns → IsRow old b i → x ≡ get_or r.busy i false → x ≡ get_or old.busy b false
   busy_read p old r n ns b i x e D Q h = let P = row_at p old b i e Q in
       table_read (arcs_out (network_in p.setup) (own_in p.setup p.shard)) r.busy p.busy false (suc (length p.setup.roads.arcs)) i b x D.seen.busy (apart p) P.inside D.sized.busy P.arc (arc_below p b i P) h
       ∙ ap (λ (u : PartData S V). get_or u.busy b false) e
 
-  pub told_read : (p old : PartData S V) (r : Rows V) (n : ℕ) (ns : List ℕ) (b i : ℕ) (x : Option V) → p ≡ old → IsDesk p r n ns → IsRow old b i → x ≡ get_or r.told i x → x ≡ get_or old.told b None
+  pub told_read : (p old : PartData S V) (r : Rows V) (n : ℕ) (ns : List ℕ) (b i : ℕ) (x : Option V) → p ≡ old → IsDesk p r n ns → IsRow old b i → x ≡ get_or r.told i None → x ≡ get_or old.told b None
   told_read p old r n ns b i x e D Q h = let P = row_at p old b i e Q in
       table_read (arcs_out (network_in p.setup) (own_in p.setup p.shard)) r.told p.told None (suc (length p.setup.roads.arcs)) i b x D.seen.told (apart p) P.inside D.sized.told P.arc (arc_below p b i P) h
       ∙ ap (λ (u : PartData S V). get_or u.told b None) e
@@ -68,6 +68,18 @@ module _ {S V : Type 0} where
   told_leaves p old r n ns b i x e D Q = let P = row_at p old b i e Q in
       ap (λ (ys : List (Option V)). record p { told = ys }) (table_write (arcs_out (network_in p.setup) (own_in p.setup p.shard)) r.told p.told None (suc (length p.setup.roads.arcs)) i b x D.seen.told (apart p) P.inside D.sized.told P.arc)
       ∙ ap (λ (u : PartData S V). record u { told = set u.told b x }) e
+
+  pub told_keeps : (p : PartData S V) (r : Rows V) (n : ℕ) (ns : List ℕ) (i : ℕ) (x : Option V) → IsDesk p r n ns →
+      IsDesk (record p { told = spread (arcs_out (network_in p.setup) (own_in p.setup p.shard)) (set r.told i x) None (suc (length p.setup.roads.arcs)) }) (record r { told = set r.told i x }) n ns
+  told_keeps p r n ns i x D = record {
+    planned = D.planned;
+    sized = record { own = D.sized.own; offsets = D.sized.offsets; starts = D.sized.starts; labels = D.sized.labels; engagers = D.sized.engagers; deficits = D.sized.deficits; busy = D.sized.busy; told = length-set r.told i x ∙ D.sized.told };
+    seen = record { labels = D.seen.labels; engagers = D.seen.engagers; busy = D.seen.busy; told = refl };
+    counts = D.counts;
+    sound = record { once = D.sound.once; leads = D.sound.leads; here = D.sound.here; gone = D.sound.gone; wide = D.sound.wide };
+    roomy = record { queue = D.roomy.queue; boxes = D.roomy.boxes; rings = D.roomy.rings; outs = D.roomy.outs };
+    tallied = D.tallied;
+  }
 
   -- an engager is written
   engagers_written : (p : PartData S V) (r : Rows V) (n : ℕ) (ns : List ℕ) (v j : ℕ) (x : Option ℕ) → IsDesk p r n ns → IsPlace p v j →

@@ -1,6 +1,6 @@
 -- Values by place, seen by the numbers that they belong to.
 use Rattle.std.proofs.Common.{◌≡◌, ◌≢◌, ℕ, zero, suc, ◌<◌, List, [], ◌∷◌, length, set, get_or, refl, sym, ap, ◌∙◌, arith, length-set, get_or-set_same, get_or-set_other}
-use Rattle.std.proofs.lemmas.List.{length-replicate, get_or_read}
+use Rattle.std.proofs.lemmas.List.{length-replicate}
 use Rattle.shard_part.specs.Tables.{spread, IsApart}
 
 module _ {X : Type 0} where
@@ -44,10 +44,9 @@ module _ {X : Type 0} where
       ∙ spread_read keys values d e n j (λ i h p q. a (suc i) (suc h) (omega arith) (omega arith)) (omega arith) (omega arith) b
 
   pub table_read : (keys : List ℕ) (values table : List X) (d : X) (n j k : ℕ) (x : X) → table ≡ spread keys values d n → IsApart keys → j < length keys → length values ≡ length keys → get_or keys j 0 ≡ k → k < n →
-      x ≡ get_or values j x → x ≡ get_or table k d
+      x ≡ get_or values j d → x ≡ get_or table k d
   table_read keys values table d n j k x t a l m e b h =
-      get_or_read values j x (omega (arith, l, m)) h d
-      ∙ sym (spread_read keys values d d n j a l (omega (arith, l, m)) (omega (arith, e, b)))
+      h ∙ sym (spread_read keys values d d n j a l (omega (arith, l, m)) (omega (arith, e, b)))
       ∙ ap (λ i. get_or (spread keys values d n) i d) e ∙ ap (λ xs. get_or xs k d) (sym t)
 
   pub table_write : (keys : List ℕ) (values table : List X) (d : X) (n j k : ℕ) (x : X) → table ≡ spread keys values d n → IsApart keys → j < length keys → length values ≡ length keys → get_or keys j 0 ≡ k →

@@ -1,5 +1,7 @@
 -- The tables of a shard: a value for each of its vertices and arcs, by place.
-use Rattle.std.specs.Prelude.{◌≡◌, ◌≢◌, ℕ, zero, suc, ◌<◌, cond, eqb, List, [], ◌∷◌, length, set, get_or, replicate}
+use Rattle.std.specs.Prelude.{◌≡◌, ◌≢◌, ℕ, zero, suc, ◌<◌, Bool, cond, eqb, Option, Some, None, List, [], ◌∷◌, length, map, set, get_or, replicate}
+use Rattle.shard_part.specs.declared.tables.VertexRow.{VertexRow}
+use Rattle.shard_part.specs.declared.tables.ArcRow.{ArcRow}
 
 -- the list of n entries in which the j-th value stands at the j-th key, and `none` elsewhere
 unfoldable pub spread : {X : Type 0} → List ℕ → List X → X → ℕ → List X
@@ -23,3 +25,30 @@ Rises xs = (i j : ℕ) → i < j → j < length xs → get_or xs i 0 < get_or xs
 -- v is one of the list
 abbrev pub StandsIn : List ℕ → ℕ → Type 0
 StandsIn xs v = (j : ℕ) × (j < length xs) × (get_or xs j 0 ≡ v)
+
+-- what is known of the vertices, by place
+pub record VertexLists (V : Type 0) : Type 0 where
+  pub labels : List (Option V)
+  pub engagers : List (Option ℕ)
+  pub deficits : List ℕ
+
+-- what is known of the arcs, by place
+pub record ArcLists (V : Type 0) : Type 0 where
+  pub busy : List Bool
+  pub told : List (Option V)
+
+-- the label in a row, if there is one
+abbrev pub label_in : {V : Type 0} → VertexRow V → Option V
+label_in r = cond r.labelled (Some r.value) None
+
+-- what the arc of a row was told, if it was told anything
+abbrev pub told_in : {V : Type 0} → ArcRow V → Option V
+told_in r = cond r.told (Some r.value) None
+
+-- rows of vertices, as a list for each thing that is known of them
+abbrev pub vertex_lists : {V : Type 0} → List (VertexRow V) → VertexLists V
+vertex_lists rows = record { labels = map label_in rows; engagers = map (λ r. r.engager) rows; deficits = map (λ r. r.deficit) rows }
+
+-- rows of arcs, likewise
+abbrev pub arc_lists : {V : Type 0} → List (ArcRow V) → ArcLists V
+arc_lists rows = record { busy = map (λ r. r.busy) rows; told = map told_in rows }

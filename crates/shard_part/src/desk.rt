@@ -78,7 +78,7 @@ impl<'g, A: PathAlgebra> Desk<'g, A> {
         ensures { result ≡ (state_in self.now).label v }
     {
         let _v = v;
-        self.tables.labels[j]
+        self.tables.vertices.label(j)
     }
 
     /// The engager of the vertex at a place.
@@ -87,7 +87,7 @@ impl<'g, A: PathAlgebra> Desk<'g, A> {
         ensures { result ≡ (state_in self.now).engager v }
     {
         let _v = v;
-        self.tables.engagers[j]
+        self.tables.vertices.engager(j)
     }
 
     /// The label of the vertex at a place becomes another.
@@ -96,7 +96,7 @@ impl<'g, A: PathAlgebra> Desk<'g, A> {
         ensures { self.new ≡ record self.old { labels = set self.old.labels v (Some label) } }
     {
         let _v = v;
-        self.tables.labels[j] = Some(label);
+        self.tables.vertices.set_label(j, label);
     }
 
     /// The arc a engages its head, the vertex at a place.
@@ -108,7 +108,7 @@ impl<'g, A: PathAlgebra> Desk<'g, A> {
         ensures { self.new ≡ record self.old { engagers = set self.old.engagers v (Some a) } }
     {
         let _v = v;
-        self.tables.engagers[j] = Some(a);
+        self.tables.vertices.set_engager(j, Some(a));
     }
 
     /// The vertex at a place lets go of its engager.
@@ -123,7 +123,7 @@ impl<'g, A: PathAlgebra> Desk<'g, A> {
     {
         let _v = v;
         let _e = e;
-        self.tables.engagers[j] = None;
+        self.tables.vertices.set_engager(j, None);
     }
 
     /// Whether the arc at a place is busy.
@@ -132,7 +132,7 @@ impl<'g, A: PathAlgebra> Desk<'g, A> {
         ensures { result ≡ get_or self.now.busy b false }
     {
         let _b = b;
-        self.tables.busy[i]
+        self.tables.arcs.is_busy(i)
     }
 
     /// What the arc at a place was told last.
@@ -141,7 +141,7 @@ impl<'g, A: PathAlgebra> Desk<'g, A> {
         ensures { result ≡ (state_in self.now).told b }
     {
         let _b = b;
-        self.tables.told[i]
+        self.tables.arcs.told(i)
     }
 
     /// The arc at a place is told a label.
@@ -150,7 +150,7 @@ impl<'g, A: PathAlgebra> Desk<'g, A> {
         ensures { self.new ≡ record self.old { told = set self.old.told b label } }
     {
         let _b = b;
-        self.tables.told[i] = label;
+        self.tables.arcs.tell(i, label);
     }
 
     /// An idle arc becomes busy.
@@ -164,9 +164,9 @@ impl<'g, A: PathAlgebra> Desk<'g, A> {
         ensures clear { IsClear self.new b }
     {
         let (_v, _b) = (v, b);
-        let deficit = self.tables.deficits[j];
-        self.tables.busy[i] = true;
-        self.tables.deficits[j] = deficit + 1;
+        let deficit = self.tables.vertices.deficit(j);
+        self.tables.arcs.set_busy(i, true);
+        self.tables.vertices.set_deficit(j, deficit + 1);
     }
 
     /// An arc whose signal was taken becomes idle.
@@ -179,9 +179,9 @@ impl<'g, A: PathAlgebra> Desk<'g, A> {
         ensures { self.new ≡ record self.old { busy = set self.old.busy a false } }
     {
         let (_v, _a) = (v, a);
-        let deficit = self.tables.deficits[j];
-        self.tables.busy[i] = false;
-        self.tables.deficits[j] = deficit - 1;
+        let deficit = self.tables.vertices.deficit(j);
+        self.tables.arcs.set_busy(i, false);
+        self.tables.vertices.set_deficit(j, deficit - 1);
     }
 
     /// How many arcs out of the vertex at a place are busy.
@@ -190,7 +190,7 @@ impl<'g, A: PathAlgebra> Desk<'g, A> {
         ensures { result ≡ busy_out (network_in self.now.setup) v (state_in self.now) (suc (length self.now.setup.roads.arcs)) }
     {
         let _v = v;
-        self.tables.deficits[j]
+        self.tables.vertices.deficit(j)
     }
 
     /// The shard of a vertex, and of the environment that of the source.
@@ -403,6 +403,25 @@ impl<'g, A: PathAlgebra> Desk<'g, A> {
         }
     }
 
+    /// The due arc b out of the vertex at a place is told its label.
+    fn tell_anew(&mut self, v: Vertex, j: usize, b: ArcNo, i: usize, road: OutRoad)
+        requires place { IsPlace self.old v j }
+        requires vertex { v ≢ 0 }
+        requires row { IsRow self.old b i }
+        requires tail { (network_in self.old.setup).tail b ≡ v }
+        requires arc { IsArc (network_in self.old.setup) b }
+        requires graph { b ≢ 0 }
+        requires road { road ≡ road_of (arc_of self.old.setup.roads b) }
+        requires due { due (A.meaning self.old.setup.algebra) (network_in self.old.setup) v (state_in self.old) b ≡ true }
+        ensures { self.new ≡ offered (A.meaning self.old.setup.algebra) v b self.old }
+    {
+        let label = self.label(v, j);
+        let value = self.extension(v, j, b, road.weight);
+        let to = self.shard_behind(b, road.head);
+        self.tell(b, i, label);
+        self.message(v, j, b, i, value, to);
+    }
+
     /// The arc b out of the vertex at a place is told its label, if it is due.
     fn offer(&mut self, v: Vertex, j: usize, b: ArcNo, i: usize, road: OutRoad)
         requires place { IsPlace self.old v j }
@@ -415,11 +434,25 @@ impl<'g, A: PathAlgebra> Desk<'g, A> {
         ensures { self.new ≡ offered (A.meaning self.old.setup.algebra) v b self.old }
     {
         if self.is_due(v, j, b, i) {
-            let label = self.label(v, j);
-            let value = self.extension(v, j, b, road.weight);
-            let to = self.shard_behind(b, road.head);
-            self.tell(b, i, label);
-            self.message(v, j, b, i, value, to);
+            self.tell_anew(v, j, b, i, road);
+        }
+    }
+
+    /// The same for the k-th arc out of the vertex. Most arcs are not due, and only that of one that is due is looked up.
+    fn offer_again(&mut self, v: Vertex, j: usize, k: usize, b: ArcNo, i: usize)
+        requires place { IsPlace self.old v j }
+        requires vertex { v ≢ 0 }
+        requires inside { k < length (outgoing (network_in self.old.setup) v) }
+        requires turn { get_or (outgoing (network_in self.old.setup) v) k 0 ≡ b }
+        requires row { IsRow self.old b i }
+        requires tail { (network_in self.old.setup).tail b ≡ v }
+        requires arc { IsArc (network_in self.old.setup) b }
+        requires graph { b ≢ 0 }
+        ensures { self.new ≡ offered (A.meaning self.old.setup.algebra) v b self.old }
+    {
+        if self.is_due(v, j, b, i) {
+            let road = self.road_at(v, j, k, b);
+            self.tell_anew(v, j, b, i, road);
         }
     }
 }
@@ -530,8 +563,7 @@ impl<'g, A: PathAlgebra> Desk<'g, A> {
         let i = self.row(v, j, k);
         self.free(v, j, a, i);
         if a.0 > 0 {
-            let road = self.road_at(v, j, k, a);
-            self.offer(v, j, a, i, road);
+            self.offer_again(v, j, k, a, i);
             self.rest(v, j);
         }
     }

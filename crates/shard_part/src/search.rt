@@ -3,20 +3,18 @@ ghost use Rattle.shard_part.specs.Tables.{Rises, StandsIn};
 
 use road_graph::{ArcNo, Vertex};
 
-/// Where a vertex stands in a list that rises. In a list of neighbours it is found at the first look.
+/// Where a vertex stands in a list that rises. Where those after the first follow one another, the list's ends tell it.
 pub(crate) fn find_vertex(list: &[Vertex], v: Vertex) -> usize
     requires rises { Rises list.now }
     requires stands { StandsIn list.now v }
     ensures inside { result < length list.now }
     ensures found { slice_index list.now result ≡ v }
 {
-    if list.len() > 1 {
-        let first = list[1];
-        if v.0 >= first.0 {
-            let guess = (v.0 - first.0) as usize + 1;
-            if guess < list.len() && list[guess] == v {
-                return guess;
-            }
+    let last = list.len() - 1;
+    if last > 0 {
+        let (low, high) = (list[1], list[last]);
+        if v.0 >= low.0 && (high.0 - low.0) as usize + 1 == last {
+            return (v.0 - low.0) as usize + 1;
         }
     }
     halve(list, v)

@@ -1,16 +1,201 @@
-use road_graph::{ArcNo, Vertex};
+//! What a part knows of its vertices and of the arcs out of them, by place.
+ghost use Rattle.std.specs.Prelude.{◌≡◌, ◌<◌, Some, None, false, length, get_or, set, replicate, IfOk};
 
-/// What a part knows of its vertices and of the arcs out of them, by place.
+use crate::site::filled;
+use road_graph::{ArcNo, Vertex};
+use std::alloc::{AllocError, Global};
+use std::marker::Model;
+
+/// The tables of a part.
 #[derive(Drop)]
 pub struct Tables<V> {
     /// The environment, then the vertices of the shard, ascending.
     pub own: Vec<Vertex>,
-    /// Where the arcs out of each vertex begin in `busy` and `told`.
+    /// Where the arcs out of each vertex begin in `arcs`.
     pub offsets: Vec<u32>,
-    pub labels: Vec<Option<V>>,
-    pub engagers: Vec<Option<ArcNo>>,
-    /// How many arcs out of each vertex are busy.
-    pub deficits: Vec<u32>,
-    pub busy: Vec<bool>,
-    pub told: Vec<Option<V>>,
+    pub vertices: VertexTable<V>,
+    pub arcs: ArcTable<V>,
+}
+
+/// What is known of one vertex.
+#[derive(Clone, Copy)]
+pub struct VertexRow<V> {
+    /// Its label, if it has one, and else any value.
+    pub value: V,
+    pub engager: Option<ArcNo>,
+    /// How many arcs out of it are busy.
+    pub deficit: u32,
+    pub labelled: bool,
+}
+
+/// What is known of one arc.
+#[derive(Clone, Copy)]
+pub struct ArcRow<V> {
+    /// What it was told last, if it was told anything, and else any value.
+    pub value: V,
+    pub told: bool,
+    pub busy: bool,
+}
+
+/// What is known of the vertices. All of one stands together, since an item that is handled reads most of it.
+#[derive(Drop)]
+pub struct VertexTable<V> {
+    rows: Vec<VertexRow<V>>,
+}
+
+/// What is known of the arcs, all of one together.
+#[derive(Drop)]
+pub struct ArcTable<V> {
+    rows: Vec<ArcRow<V>>,
+}
+
+impl<V> Model for VertexTable<V> {
+    ghost use Rattle.shard_part.specs.Tables.{VertexLists, vertex_lists};
+
+    ghost Value = { VertexLists V };
+
+    ghost view = { λ t. vertex_lists t.rows.items };
+}
+
+impl<V> Model for ArcTable<V> {
+    ghost use Rattle.shard_part.specs.Tables.{ArcLists, arc_lists};
+
+    ghost Value = { ArcLists V };
+
+    ghost view = { λ t. arc_lists t.rows.items };
+}
+
+impl<V: Copy> VertexTable<V> {
+    /// So many vertices without a label and an engager, none of whose arcs is busy. The value stands in for labels.
+    pub fn idle(alloc: Global, n: usize, value: V) -> Result<VertexTable<V>, AllocError>
+        ensures { IfOk result (λ t. t ≡ record { labels = replicate n None; engagers = replicate n None; deficits = replicate n 0 }) }
+    {
+        let row = VertexRow {
+            value,
+            engager: None,
+            deficit: 0,
+            labelled: false,
+        };
+        let rows = filled(alloc, row, n)?;
+        Ok(VertexTable { rows })
+    }
+
+    /// The label of the vertex at a place.
+    pub fn label(&self, j: usize) -> Option<V>
+        requires { j < length self.now.labels }
+        ensures { result ≡ get_or self.now.labels j None }
+    {
+        let row = self.rows[j];
+        if row.labelled { Some(row.value) } else { None }
+    }
+
+    /// Its label becomes another.
+    pub fn set_label(&mut self, j: usize, label: V)
+        requires { j < length self.old.labels }
+        ensures { self.new ≡ record self.old { labels = set self.old.labels j (Some label) } }
+    {
+        let row = self.rows[j];
+        self.rows[j] = VertexRow {
+            value: label,
+            labelled: true,
+            ..row
+        };
+    }
+
+    /// The engager of the vertex at a place.
+    pub fn engager(&self, j: usize) -> Option<ArcNo>
+        requires { j < length self.now.engagers }
+        ensures { result ≡ get_or self.now.engagers j None }
+    {
+        self.rows[j].engager
+    }
+
+    /// Its engager becomes another.
+    pub fn set_engager(&mut self, j: usize, engager: Option<ArcNo>)
+        requires { j < length self.old.engagers }
+        ensures { self.new ≡ record self.old { engagers = set self.old.engagers j engager } }
+    {
+        self.rows[j].engager = engager;
+    }
+
+    /// How many arcs out of the vertex at a place are busy.
+    pub fn deficit(&self, j: usize) -> u32
+        requires { j < length self.now.deficits }
+        ensures { result ≡ get_or self.now.deficits j 0 }
+    {
+        self.rows[j].deficit
+    }
+
+    /// That number becomes another.
+    pub fn set_deficit(&mut self, j: usize, deficit: u32)
+        requires { j < length self.old.deficits }
+        ensures { self.new ≡ record self.old { deficits = set self.old.deficits j deficit } }
+    {
+        self.rows[j].deficit = deficit;
+    }
+
+    /// For how many vertices there is room.
+    #[cfg(test)]
+    pub fn capacity(&self) -> usize {
+        self.rows.capacity()
+    }
+}
+
+impl<V: Copy> ArcTable<V> {
+    /// So many idle arcs that were told nothing. The value stands in for what they were told.
+    pub fn idle(alloc: Global, n: usize, value: V) -> Result<ArcTable<V>, AllocError>
+        ensures { IfOk result (λ t. t ≡ record { busy = replicate n false; told = replicate n None }) }
+    {
+        let row = ArcRow {
+            value,
+            told: false,
+            busy: false,
+        };
+        let rows = filled(alloc, row, n)?;
+        Ok(ArcTable { rows })
+    }
+
+    /// Whether the arc at a place is busy.
+    pub fn is_busy(&self, i: usize) -> bool
+        requires { i < length self.now.busy }
+        ensures { result ≡ get_or self.now.busy i false }
+    {
+        self.rows[i].busy
+    }
+
+    /// It becomes busy, or idle.
+    pub fn set_busy(&mut self, i: usize, busy: bool)
+        requires { i < length self.old.busy }
+        ensures { self.new ≡ record self.old { busy = set self.old.busy i busy } }
+    {
+        self.rows[i].busy = busy;
+    }
+
+    /// What the arc at a place was told last.
+    pub fn told(&self, i: usize) -> Option<V>
+        requires { i < length self.now.told }
+        ensures { result ≡ get_or self.now.told i None }
+    {
+        let row = self.rows[i];
+        if row.told { Some(row.value) } else { None }
+    }
+
+    /// It is told a label, or that there is none.
+    pub fn tell(&mut self, i: usize, label: Option<V>)
+        requires { i < length self.old.told }
+        ensures { self.new ≡ record self.old { told = set self.old.told i label } }
+    {
+        let row = self.rows[i];
+        self.rows[i] = ArcRow {
+            value: label.unwrap_or(row.value),
+            told: label.is_some(),
+            ..row
+        };
+    }
+
+    /// For how many arcs there is room.
+    #[cfg(test)]
+    pub fn capacity(&self) -> usize {
+        self.rows.capacity()
+    }
 }

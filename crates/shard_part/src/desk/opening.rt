@@ -12,8 +12,8 @@ use crate::batch::Batch;
 use crate::desk::Desk;
 use crate::plan::Plan;
 use crate::shard::Shard;
-use crate::site::{Site, filled, sum_of};
-use crate::tables::Tables;
+use crate::site::{Site, sum_of};
+use crate::tables::{ArcTable, Tables, VertexTable};
 use path_algebra::PathAlgebra;
 use road_graph::{Graph, Memory, Vertex};
 use scholten_core::{ENTRY, Item};
@@ -50,7 +50,7 @@ impl<'g, A: PathAlgebra> Desk<'g, A> {
         let queue = opening_queue(alloc, algebra, sum_of(&rooms), first)?;
         rooms[shard.0 as usize] = 0;
         let outs = empty_batches(alloc, &rooms)?;
-        let tables = idle_tables(alloc, own, offsets, arcs, first)?;
+        let tables = idle_tables(alloc, own, offsets, arcs, first, algebra.origin())?;
         Ok(Desk {
             algebra,
             graph,
@@ -103,32 +103,27 @@ fn empty_batches<V: Copy>(alloc: Global, capacities: &[usize]) -> Result<Vec<Bat
     Ok(all)
 }
 
-/// Tables in which nothing has happened but that arc 0 may be busy.
+/// Tables in which nothing has happened but that arc 0 may be busy. The value stands in for those that are not there yet.
 fn idle_tables<V: Copy>(
     alloc: Global,
     own: Vec<Vertex>,
     offsets: Vec<u32>,
     arcs: usize,
     entry: bool,
+    value: V,
 ) -> Result<Tables<V>, AllocError>
     requires vertices { 1 ≤ length own.items }
     requires arcs { 1 ≤ arcs }
     ensures { IfOk result (λ t. rows_of t ≡ idle_rows own.items offsets.items arcs entry) }
 {
-    let labels = filled(alloc, None, own.len())?;
-    let engagers = filled(alloc, None, own.len())?;
-    let mut deficits = filled(alloc, 0, own.len())?;
-    let mut busy = filled(alloc, false, arcs)?;
-    let told = filled(alloc, None, arcs)?;
-    deficits[0] = u32::from(entry);
-    busy[0] = entry;
+    let mut vertices = VertexTable::idle(alloc, own.len(), value)?;
+    let mut arcs = ArcTable::idle(alloc, arcs, value)?;
+    vertices.set_deficit(0, u32::from(entry));
+    arcs.set_busy(0, entry);
     Ok(Tables {
         own,
         offsets,
-        labels,
-        engagers,
-        deficits,
-        busy,
-        told,
+        vertices,
+        arcs,
     })
 }

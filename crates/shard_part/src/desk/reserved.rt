@@ -10,13 +10,10 @@ impl<'g, A: PathAlgebra> Desk<'g, A> {
         let vertices = [
             tables.own.capacity(),
             tables.offsets.capacity(),
-            tables.labels.capacity(),
-            tables.engagers.capacity(),
-            tables.deficits.capacity(),
+            tables.vertices.capacity(),
         ];
         let arcs = [
-            tables.busy.capacity(),
-            tables.told.capacity(),
+            tables.arcs.capacity(),
             self.queue.capacity(),
             self.outs.capacity(),
         ];

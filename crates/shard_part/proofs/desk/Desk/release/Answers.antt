@@ -3,13 +3,13 @@ use Rattle.shard_part.proofs.Moves.{release_keeps, engager_leaves}
 use Rattle.shard_part.proofs.desk.Desk.release.Goals as goal
 
 pub invariant_of-self : goal.invariant_of-self
-invariant_of-self g c = (release_keeps _ c.args.self.now _ _ _ c.args.v c.args.j c.args.e c.self.view_is c.self.invariant c.requires.place c.requires.vertex c.requires.engager).0
+invariant_of-self g c = rw c.set_engager.ensures ((release_keeps _ c.args.self.now _ _ _ c.args.v c.args.j c.args.e c.self.view_is c.self.invariant c.requires.place c.requires.vertex c.requires.engager).0)
 
 pub returns-clause-moved : goal.returns-clause-moved
-returns-clause-moved g c = engager_leaves _ c.args.self.now _ _ _ c.args.v c.args.j None c.self.view_is c.self.invariant c.requires.place
+returns-clause-moved g c = rw c.set_engager.ensures (engager_leaves _ c.args.self.now _ _ _ c.args.v c.args.j None c.self.view_is c.self.invariant c.requires.place)
 
 pub returns-clause-clear : goal.returns-clause-clear
-returns-clause-clear g c = (release_keeps _ c.args.self.now _ _ _ c.args.v c.args.j c.args.e c.self.view_is c.self.invariant c.requires.place c.requires.vertex c.requires.engager).1
+returns-clause-clear g c = rw c.set_engager.ensures ((release_keeps _ c.args.self.now _ _ _ c.args.v c.args.j c.args.e c.self.view_is c.self.invariant c.requires.place c.requires.vertex c.requires.engager).1)
 
 pub returns-clause-arc : goal.returns-clause-arc
 returns-clause-arc g c = (release_keeps _ c.args.self.now _ _ _ c.args.v c.args.j c.args.e c.self.view_is c.self.invariant c.requires.place c.requires.vertex c.requires.engager).2

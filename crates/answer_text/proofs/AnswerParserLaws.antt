@@ -6,7 +6,6 @@ use Rattle.road_text.specs.declared.faults.ReadFault.{ReadFault}
 use Rattle.road_text.specs.declared.faults.Rule.{Rule}
 use Rattle.road_text.specs.declared.slots.Slot.{Slot}
 use Rattle.road_text.specs.Lines.{fields}
-use Rattle.road_text.specs.RuleNumbers.{number_of}
 use Rattle.road_text.specs.Rules.{reading, fault_at}
 use Rattle.road_text.specs.Slots.{word_in}
 use Rattle.road_text.specs.Takes.{ShowsLine, GivesBy, Breaks}
@@ -25,12 +24,9 @@ module _ (old : AnswerParser) (slots : List Slot) (l : List ℕ) (shown : ShowsL
       gives_taken (answer_rules old.n) told_list_of (begun_of old) (begun_of new) cut at l rest r (line_rule old.n (begun_of old) old.present slots l shown h ∙ e)
       (subst (λ k. GivesBy (answer_rules k) (begun_of new) told_list_of cut (at + 1) rest r) same g)
 
-  pub line_broken : (cut : Bool) (at : ℕ) (rest : List (List ℕ)) (rule : Rule) → line_given old.n (begun_of old) (map word_in slots) old.present.count (numbers_given old.present) ≡ Err (number_of rule)
-      → GivesAnswers cut old at (l ∷ rest) (Err (fault_at at (number_of rule)))
-  line_broken cut at rest rule e = gives_broken (answer_rules old.n) told_list_of (begun_of old) cut at l rest (number_of rule) (line_rule old.n (begun_of old) old.present slots l shown h ∙ e)
-
-pub broken_is : {A : Type 0} (rule_gives : Result A ℕ) (fault : LineFault) (rule : Rule) → ◌≡◌ {A = Result (Unit {0}) LineFault} (Err fault) (Err (Broken rule)) → Breaks rule_gives fault → rule_gives ≡ Err (number_of rule)
-broken_is rule_gives fault rule e h = let same : fault ≡ Broken rule = cc in subst (Breaks rule_gives) same h
+  pub line_broken : (cut : Bool) (at : ℕ) (rest : List (List ℕ)) (rule : Rule) → line_given old.n (begun_of old) (map word_in slots) old.present.count (numbers_given old.present) ≡ Err rule.number
+      → GivesAnswers cut old at (l ∷ rest) (Err (fault_at at rule.number))
+  line_broken cut at rest rule e = gives_broken (answer_rules old.n) told_list_of (begun_of old) cut at l rest rule.number (line_rule old.n (begun_of old) old.present slots l shown h ∙ e)
 
 -- what a new parser gives is the text's by the rules
 module _ (s : AnswerParser) (n : ℕ) (none : begun_of s ≡ None) (same : s.n ≡ n) where

@@ -2,7 +2,6 @@
 use Rattle.std.specs.Prelude.{◌≡◌, ℕ, ◌<◌, ◌⊎◌, min, ◌||◌, List, [], ◌∷◌, ◌++◌, length, drop, map, Bool, true, false, Option, Some, None, option_map, Result, Ok, Err, codes, bytes_eq}
 use Rattle.road_text.specs.declared.faults.ReadFault.{ReadFault}
 use Rattle.road_text.specs.declared.faults.Rule.{Rule}
-use Rattle.road_text.specs.RuleNumbers.{number_of}
 use Rattle.road_text.specs.Rules.{◌>>=◌}
 use Rattle.road_text.specs.Takes.{GivesBy}
 use Rattle.road_text.specs.Way.{Way}
@@ -19,7 +18,7 @@ use Rattle.answer_text.specs.AnswerFiles.{Stage, Between, InLines, AfterPair, Af
 -- the numbers that were listed, or the first fault among them
 abbrev pub numbers_or : Option Rule → List ℕ → Result (List ℕ) ℕ
 numbers_or None numbers = Ok numbers
-numbers_or (Some rule) numbers = Err (number_of rule)
+numbers_or (Some rule) numbers = Err rule.number
 
 -- what the numbers of the present line give so far
 abbrev pub numbers_given : PresentNumbers → Result (List ℕ) ℕ

@@ -8,9 +8,10 @@ ghost use Rattle.answer_text.specs.AnswerFiles.{begins, found_line, known, none_
 
 use crate::answers::Reached;
 use crate::number_fields::{code_of, number_of};
+use crate::rules::{BAD_HEADER, FIELDS, MISPLACED};
 use path_algebra::AlgebraName;
 use road_files::Kind;
-use road_text::{LineFault, Rule, Slot};
+use road_text::{LineFault, Slot};
 
 /// Whether the line begins with this word.
 pub fn begins(slots: &[Slot], word: &[u8]) -> bool
@@ -28,7 +29,7 @@ pub fn kind_of(slot: &Slot) -> Result<Kind, LineFault>
 {
     match Kind::named(slot) {
         Some(kind) => Ok(kind),
-        None => Err(LineFault::Broken(Rule::BadHeader)),
+        None => Err(LineFault::Broken(BAD_HEADER)),
     }
 }
 
@@ -38,7 +39,7 @@ pub fn name_of(slot: &Slot) -> Result<AlgebraName, LineFault>
 {
     match AlgebraName::from_text(slot.text.as_slice()) {
         Some(name) => Ok(name),
-        None => Err(LineFault::Broken(Rule::BadHeader)),
+        None => Err(LineFault::Broken(BAD_HEADER)),
     }
 }
 
@@ -48,10 +49,10 @@ pub fn source_in(slots: &[Slot]) -> Result<u32, LineFault>
     ensures { Agrees (source_line (map word_in slots.now)) result }
 {
     if !begins(slots, b"s") {
-        return Err(LineFault::Broken(Rule::Misplaced));
+        return Err(LineFault::Broken(MISPLACED));
     }
     if slots.len() != 2 {
-        return Err(LineFault::Broken(Rule::AnswerFields));
+        return Err(LineFault::Broken(FIELDS));
     }
     number_of(&slots[1])
 }
@@ -62,10 +63,10 @@ pub fn pair_in(slots: &[Slot]) -> Result<(u32, u32), LineFault>
     ensures { Agrees (pair_line (map word_in slots.now)) result }
 {
     if !begins(slots, b"q") {
-        return Err(LineFault::Broken(Rule::Misplaced));
+        return Err(LineFault::Broken(MISPLACED));
     }
     if slots.len() != 3 {
-        return Err(LineFault::Broken(Rule::AnswerFields));
+        return Err(LineFault::Broken(FIELDS));
     }
     let source = number_of(&slots[1])?;
     let target = number_of(&slots[2])?;
@@ -78,14 +79,14 @@ fn reached_in(slots: &[Slot], next: u64) -> Result<Option<Reached>, LineFault>
     ensures { Agrees (reached_line next (map word_in slots.now)) result }
 {
     if slots.len() != 5 {
-        return Err(LineFault::Broken(Rule::AnswerFields));
+        return Err(LineFault::Broken(FIELDS));
     }
     let vertex = number_of(&slots[1])?;
     let code = code_of(&slots[2])?;
     let hops = number_of(&slots[3])?;
     let parent = number_of(&slots[4])?;
     if u64::from(vertex) != next {
-        return Err(LineFault::Broken(Rule::Misplaced));
+        return Err(LineFault::Broken(MISPLACED));
     }
     Ok(Some(Reached { code, hops, parent }))
 }
@@ -96,11 +97,11 @@ fn unreached_in(slots: &[Slot], next: u64) -> Result<Option<Reached>, LineFault>
     ensures { Agrees (unreached_line next (map word_in slots.now)) result }
 {
     if slots.len() != 2 {
-        return Err(LineFault::Broken(Rule::AnswerFields));
+        return Err(LineFault::Broken(FIELDS));
     }
     let vertex = number_of(&slots[1])?;
     if u64::from(vertex) != next {
-        return Err(LineFault::Broken(Rule::Misplaced));
+        return Err(LineFault::Broken(MISPLACED));
     }
     Ok(None)
 }
@@ -116,7 +117,7 @@ pub fn vertex_in(slots: &[Slot], next: u64) -> Result<Option<Reached>, LineFault
     if begins(slots, b"u") {
         return unreached_in(slots, next);
     }
-    Err(LineFault::Broken(Rule::Misplaced))
+    Err(LineFault::Broken(MISPLACED))
 }
 
 // `d CODE HOPS`.
@@ -125,7 +126,7 @@ fn value_in(slots: &[Slot]) -> Result<Option<(u64, u32)>, LineFault>
     ensures { Agrees (value_line (map word_in slots.now)) result }
 {
     if slots.len() != 3 {
-        return Err(LineFault::Broken(Rule::AnswerFields));
+        return Err(LineFault::Broken(FIELDS));
     }
     let code = code_of(&slots[1])?;
     let hops = number_of(&slots[2])?;
@@ -138,7 +139,7 @@ fn none_in(slots: &[Slot]) -> Result<Option<(u64, u32)>, LineFault>
     ensures { Agrees (none_line (map word_in slots.now)) result }
 {
     if slots.len() != 1 {
-        return Err(LineFault::Broken(Rule::AnswerFields));
+        return Err(LineFault::Broken(FIELDS));
     }
     Ok(None)
 }
@@ -154,5 +155,5 @@ pub fn found_in(slots: &[Slot]) -> Result<Option<(u64, u32)>, LineFault>
     if begins(slots, b"u") {
         return none_in(slots);
     }
-    Err(LineFault::Broken(Rule::Misplaced))
+    Err(LineFault::Broken(MISPLACED))
 }

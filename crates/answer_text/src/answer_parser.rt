@@ -8,8 +8,9 @@ ghost use Rattle.answer_text.specs.Told.{told_list_of};
 
 use crate::answers::Answers;
 use crate::present_numbers::PresentNumbers;
+use crate::rules::{CUT_OFF, NO_HEADER};
 use crate::taken_answers::{Awaited, TakenAnswers, first_in};
-use road_text::{LineFault, LineParser, Rule, Slot};
+use road_text::{LineFault, LineParser, Slot};
 use std::alloc::Global;
 
 /// Takes the lines of an answer text over a graph with `n` vertices.
@@ -85,7 +86,7 @@ fn whole(n: u32, begun: TakenAnswers) -> Result<Answers, LineFault>
             n,
             list: begun.list,
         }),
-        _ => Err(LineFault::Broken(Rule::CutOff)),
+        _ => Err(LineFault::Broken(CUT_OFF)),
     }
 }
 
@@ -116,7 +117,7 @@ impl LineParser for AnswerParser {
     fn finish(self) -> Result<Answers, LineFault> {
         let AnswerParser { n, begun, .. } = self;
         match begun {
-            None => Err(LineFault::Broken(Rule::NoHeader)),
+            None => Err(LineFault::Broken(NO_HEADER)),
             Some(begun) => whole(n, begun),
         }
     }

@@ -9,6 +9,7 @@ mod lines;
 mod number_fields;
 mod present_numbers;
 mod reading;
+pub mod rules;
 mod taken_answers;
 mod writing;
 

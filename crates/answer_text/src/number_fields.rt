@@ -4,15 +4,16 @@ ghost use Rattle.road_text.specs.Slots.{word_in};
 ghost use Rattle.road_text.specs.Takes.{Agrees};
 ghost use Rattle.answer_text.specs.AnswerFiles.{number_in};
 
-use road_text::{LineFault, Rule, Slot};
+use crate::rules::{NOT_A_NUMBER, TOO_LARGE};
+use road_text::{LineFault, Slot};
 
 /// The number in a field, up to a limit.
 pub fn number_up_to(slot: &Slot, limit: u32) -> Result<u32, LineFault>
     ensures { Agrees (number_in limit (word_in slot.now).number) result }
 {
     match slot.number {
-        None => Err(LineFault::Broken(Rule::AnswerNotANumber)),
-        Some(n) if n > u128::from(limit) => Err(LineFault::Broken(Rule::AnswerTooLarge)),
+        None => Err(LineFault::Broken(NOT_A_NUMBER)),
+        Some(n) if n > u128::from(limit) => Err(LineFault::Broken(TOO_LARGE)),
         Some(n) => Ok(n as u32),
     }
 }
@@ -29,8 +30,8 @@ pub fn code_of(slot: &Slot) -> Result<u64, LineFault>
     ensures { Agrees (number_in 18446744073709551615 (word_in slot.now).number) result }
 {
     match slot.number {
-        None => Err(LineFault::Broken(Rule::AnswerNotANumber)),
-        Some(n) if n > u128::from(u64::MAX) => Err(LineFault::Broken(Rule::AnswerTooLarge)),
+        None => Err(LineFault::Broken(NOT_A_NUMBER)),
+        Some(n) if n > u128::from(u64::MAX) => Err(LineFault::Broken(TOO_LARGE)),
         Some(n) => Ok(n as u64),
     }
 }

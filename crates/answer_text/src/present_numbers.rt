@@ -8,6 +8,7 @@ ghost use Rattle.answer_text.specs.AnswerTakes.{SoFar, numbers_given, one_number
 
 use crate::answer_lines::begins;
 use crate::number_fields::number_of;
+use crate::rules::{FIELDS, MISPLACED};
 use road_text::{LineFault, Rule, Slot};
 use std::alloc::Global;
 
@@ -110,10 +111,10 @@ impl PresentNumbers {
         ensures { MatchResult result (λ v. list_line letter enough (numbers_given self.old) ≡ Ok v.items) (Breaks (list_line letter enough (numbers_given self.old))) }
     {
         if !letter {
-            return Err(LineFault::Broken(Rule::Misplaced));
+            return Err(LineFault::Broken(MISPLACED));
         }
         if !enough {
-            return Err(LineFault::Broken(Rule::AnswerFields));
+            return Err(LineFault::Broken(FIELDS));
         }
         if let Some(rule) = self.broken {
             return Err(LineFault::Broken(rule));

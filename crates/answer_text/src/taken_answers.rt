@@ -10,10 +10,11 @@ use crate::answer_lines::{begins, found_in, kind_of, name_of, pair_in, source_in
 use crate::answers::{Answer, Found, Reached};
 use crate::number_fields::number_up_to;
 use crate::present_numbers::PresentNumbers;
+use crate::rules::{BAD_HEADER, MISPLACED, NO_HEADER};
 use crate::writing::MAX_ANSWERS;
 use path_algebra::AlgebraName;
 use road_files::Kind;
-use road_text::{LineFault, Rule, Slot};
+use road_text::{LineFault, Slot};
 use std::alloc::Global;
 
 /// Which line is awaited, by what was read of the present answer.
@@ -54,7 +55,7 @@ fn header_in(alloc: Global, slots: &[Slot]) -> Result<TakenAnswers, LineFault>
     ensures { MatchResult result (λ t. header_line (map word_in slots.now) ≡ Ok (answers_so_far t)) (Breaks (header_line (map word_in slots.now))) }
 {
     if slots.len() != 5 || !slots[1].is_word(b"ans") {
-        return Err(LineFault::Broken(Rule::BadHeader));
+        return Err(LineFault::Broken(BAD_HEADER));
     }
     let kind = kind_of(&slots[2])?;
     let name = name_of(&slots[4])?;
@@ -76,7 +77,7 @@ pub fn first_in(alloc: Global, slots: &[Slot]) -> Result<TakenAnswers, LineFault
     ensures { MatchResult result (λ t. first_line (map word_in slots.now) ≡ Ok (answers_so_far t)) (Breaks (first_line (map word_in slots.now))) }
 {
     if !begins(slots, b"p") {
-        return Err(LineFault::Broken(Rule::NoHeader));
+        return Err(LineFault::Broken(NO_HEADER));
     }
     header_in(alloc, slots)
 }
@@ -164,7 +165,7 @@ impl TakenAnswers {
         ensures { Leaves (answer_line n (answers_so_far self.old) (map word_in slots.now) present.old.count (numbers_given present.old) Between) result (answers_so_far self.new) }
     {
         if self.list.len() >= self.announced as usize {
-            return Err(LineFault::Broken(Rule::Misplaced));
+            return Err(LineFault::Broken(MISPLACED));
         }
         match self.kind {
             Kind::Sources => self.question_from(n, slots),

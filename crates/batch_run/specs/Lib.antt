@@ -5,3 +5,4 @@ pub mod Ended
 pub mod Answered
 pub mod Ran
 pub mod Tolls
+pub mod FaultTexts

@@ -1,9 +1,11 @@
 //! What stops a batch.
-ghost use Rattle.std.specs.Prelude.{◌≡◌};
+ghost use Rattle.std.specs.Prelude.{◌≡◌, Some};
 ghost use Rattle.batch_run.specs.Answered.{fault_of_answer, fault_of_group};
+ghost use Rattle.batch_run.specs.FaultTexts.{fault_shown, file_text};
 
 use road_text::{MEMORY, ReadFault};
-use thiserror::Error;
+use std::error::Error;
+use std::fmt;
 use worker_fleet::GroupFault;
 
 /// The input that a fault speaks of.
@@ -21,14 +23,44 @@ pub enum File {
     NoFile,
 }
 
+impl File {
+    /// The word for an input, behind a space; of no input nothing.
+    pub fn text(self) -> &'static str
+        ensures { result.now ≡ file_text self }
+    {
+        match self {
+            File::Graph => " graph",
+            File::Questions => " questions",
+            File::Bundle => " bundle",
+            File::Answers => " answers",
+            File::NoFile => "",
+        }
+    }
+}
+
 /// Why a batch stopped: the number of the fault, the input, and the line in it (0 where none is meant).
-#[derive(Clone, Copy, Debug, PartialEq, Eq, Error)]
-#[error("fault {number}")]
+#[derive(Clone, Copy, Debug, PartialEq, Eq)]
 pub struct RunFault {
     pub number: u8,
     pub file: File,
     pub line: u64,
 }
+
+impl fmt::Display for RunFault {
+    ghost output = { λ fault. Some (fault_shown fault) };
+
+    fn fmt<W: fmt::Write>(&self, f: &mut fmt::Formatter<W>) -> fmt::Result {
+        let number = self.number;
+        let file = self.file.text();
+        let line = self.line;
+        if line == 0 {
+            return write!(f, "fault {number}{file}");
+        }
+        write!(f, "fault {number}{file} line {line}")
+    }
+}
+
+impl Error for RunFault {}
 
 /// Why a question was not answered.
 #[derive(Clone, Copy, Debug, PartialEq, Eq)]

@@ -7,7 +7,6 @@ use Rattle.road_text.specs.declared.faults.ReadFault.{ReadFault}
 use Rattle.road_text.specs.declared.faults.Rule.{Rule}
 use Rattle.road_text.specs.declared.slots.Slot.{Slot}
 use Rattle.road_text.specs.Lines.{fields}
-use Rattle.road_text.specs.RuleNumbers.{number_of}
 use Rattle.road_text.specs.Rules.{reading, fault_at}
 use Rattle.road_text.specs.Slots.{word_in}
 use Rattle.road_text.specs.Takes.{ShowsLine, Breaks, GivesBy}
@@ -43,12 +42,9 @@ module _ (old : QuestionParser) (slots : List Slot) (l : List ℕ) (shown : Show
 
   -- a line that breaks a rule
   pub line_broken : (cut : Bool) (at : ℕ) (rest : List (List ℕ)) (broken : Rule)
-      → question_line_of old.list.vertices old.only (begun_of old) (map word_in slots) old.list.is_list old.list.count (sources_given old.list) ≡ Err (number_of broken)
-      → GivesQuestions cut old at (l ∷ rest) (Err (fault_at at (number_of broken)))
-  line_broken cut at rest broken e = (gives_broken (question_rules old.list.vertices old.only) asked_of (begun_of old) cut at l rest (number_of broken) (rule ∙ e), tt)
-
-pub broken_is : {A : Type 0} (rule_gives : Result A ℕ) (fault : LineFault) (rule : Rule) → ◌≡◌ {A = Result (Unit {0}) LineFault} (Err fault) (Err (Broken rule)) → Breaks rule_gives fault → rule_gives ≡ Err (number_of rule)
-broken_is rule_gives fault rule e h = let same : fault ≡ Broken rule = cc in subst (Breaks rule_gives) same h
+      → question_line_of old.list.vertices old.only (begun_of old) (map word_in slots) old.list.is_list old.list.count (sources_given old.list) ≡ Err broken.number
+      → GivesQuestions cut old at (l ∷ rest) (Err (fault_at at broken.number))
+  line_broken cut at rest broken e = (gives_broken (question_rules old.list.vertices old.only) asked_of (begun_of old) cut at l rest broken.number (rule ∙ e), tt)
 
 -- what a new parser gives is the text's by the rules
 module _ (s : QuestionParser) (none : begun_of s ≡ None) (n : ℕ) (only : Option Kind) (same_n : s.list.vertices ≡ n) (same_only : s.only ≡ only) where

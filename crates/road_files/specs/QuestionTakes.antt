@@ -2,7 +2,6 @@
 use Rattle.std.specs.Prelude.{◌≡◌, ℕ, ◌≤◌, min, List, length, drop, map, Bool, true, Option, Some, None, option_map, Result, Ok, Err, IfOk}
 use Rattle.road_text.specs.declared.faults.ReadFault.{ReadFault}
 use Rattle.road_text.specs.declared.faults.Rule.{Rule}
-use Rattle.road_text.specs.RuleNumbers.{number_of}
 use Rattle.road_text.specs.Takes.{GivesBy}
 use Rattle.road_text.specs.Way.{Way}
 use Rattle.road_text.specs.Words.{word_of}
@@ -17,7 +16,7 @@ use Rattle.road_files.specs.QuestionFiles.{AskedSoFar, vertices_in, begins_list,
 -- the sources that were listed, or the first fault among them
 abbrev pub sources_or : Option Rule → List ℕ → Result (List ℕ) ℕ
 sources_or None sources = Ok sources
-sources_or (Some rule) sources = Err (number_of rule)
+sources_or (Some rule) sources = Err rule.number
 
 -- what the vertices of the present list give so far
 abbrev pub sources_given : PresentList → Result (List ℕ) ℕ

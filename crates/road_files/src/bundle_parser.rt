@@ -12,9 +12,10 @@ ghost use Rattle.road_files.specs.QuestionTakes.{SoFar, sources_given, begun_of}
 use crate::bundle_part::{BundlePart, QuestionPart};
 use crate::graph_parser::GraphParser;
 use crate::questions::Questions;
+use crate::rules::NO_PROBLEM;
 use crate::taken_roads::TakenRoads;
 use road_graph::Graph;
-use road_text::{LineFault, LineParser, Rule, Slot};
+use road_text::{LineFault, LineParser, Slot};
 use std::alloc::Global;
 
 // Whether a line ends the graph part.
@@ -30,7 +31,7 @@ fn no_questions(graph: GraphParser) -> LineFault
     ensures { Breaks (bundle_end (InGraph (taken_of graph))) result }
 {
     match TakenRoads::whole(graph.taken) {
-        Ok(_) => LineFault::Broken(Rule::NoProblem),
+        Ok(_) => LineFault::Broken(NO_PROBLEM),
         Err(fault) => fault,
     }
 }

@@ -10,9 +10,10 @@ ghost use Rattle.road_files.specs.GraphFiles.{one_arc, gr_problem, gr_arc, gr_li
 ghost use Rattle.road_files.specs.GraphTakes.{roads_so_far, FitsArc};
 
 use crate::number_fields::number_up_to;
+use crate::rules::{BAD_PROBLEM, NO_PROBLEM, SECOND_PROBLEM, UNKNOWN_LINE};
 use crate::taken_roads::TakenRoads;
 use road_graph::Graph;
-use road_text::{LineFault, LineParser, Rule, Slot};
+use road_text::{LineFault, LineParser, Slot};
 use std::alloc::Global;
 
 /// The most vertices of a graph.
@@ -43,11 +44,11 @@ impl GraphParser {
         ensures { Leaves (gr_problem (taken_of self.old) (map word_in slots.now)) result (taken_of self.new) }
     {
         match &self.taken {
-            Some(_) => return Err(LineFault::Broken(Rule::SecondProblem)),
+            Some(_) => return Err(LineFault::Broken(SECOND_PROBLEM)),
             None => {}
         }
         if slots.len() != 4 || !slots[1].is_word(b"sp") {
-            return Err(LineFault::Broken(Rule::BadProblem));
+            return Err(LineFault::Broken(BAD_PROBLEM));
         }
         let vertices = number_up_to(&slots[2], MAX_VERTICES)?;
         let announced = number_up_to(&slots[3], MAX_ARCS)?;
@@ -63,7 +64,7 @@ impl GraphParser {
         ensures { Leaves (gr_arc (taken_of self.old) (map word_in slots.now)) result (taken_of self.new) }
     {
         match &mut self.taken {
-            None => Err(LineFault::Broken(Rule::NoProblem)),
+            None => Err(LineFault::Broken(NO_PROBLEM)),
             Some(taken) => taken.add(slots),
         }
     }
@@ -97,7 +98,7 @@ impl GraphParser {
         if slots[0].is_word(b"a") {
             return self.arc(slots);
         }
-        Err(LineFault::Broken(Rule::UnknownLine))
+        Err(LineFault::Broken(UNKNOWN_LINE))
     }
 }
 

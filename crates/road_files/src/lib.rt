@@ -12,6 +12,7 @@ mod present_list;
 mod question_files;
 mod question_parser;
 mod questions;
+pub mod rules;
 mod taken_questions;
 mod taken_roads;
 mod writing;

@@ -5,8 +5,9 @@ ghost use Rattle.road_text.specs.Takes.{Agrees};
 ghost use Rattle.road_files.specs.Vertices.{IsVertexOf};
 ghost use Rattle.road_files.specs.Numbers.{up_to, vertex_in};
 
+use crate::rules::{NO_VERTEX, NOT_A_NUMBER, TOO_LARGE};
 use road_graph::Vertex;
-use road_text::{LineFault, Rule, Slot};
+use road_text::{LineFault, Slot};
 
 /// The number in a field, up to a limit.
 pub fn number_up_to(slot: &Slot, limit: u32) -> Result<u32, LineFault>
@@ -14,8 +15,8 @@ pub fn number_up_to(slot: &Slot, limit: u32) -> Result<u32, LineFault>
     ensures limit { IfOk result (λ n. n ≤ limit) }
 {
     match slot.number {
-        None => Err(LineFault::Broken(Rule::NotANumber)),
-        Some(n) if n > u128::from(limit) => Err(LineFault::Broken(Rule::TooLarge)),
+        None => Err(LineFault::Broken(NOT_A_NUMBER)),
+        Some(n) if n > u128::from(limit) => Err(LineFault::Broken(TOO_LARGE)),
         Some(n) => Ok(n as u32),
     }
 }
@@ -26,8 +27,8 @@ pub fn vertex_of(slot: &Slot, vertices: u32) -> Result<Vertex, LineFault>
     ensures vertex { IfOk result (IsVertexOf vertices) }
 {
     match slot.number {
-        None => Err(LineFault::Broken(Rule::NotANumber)),
-        Some(n) if n == 0 || n > u128::from(vertices) => Err(LineFault::Broken(Rule::NoVertex)),
+        None => Err(LineFault::Broken(NOT_A_NUMBER)),
+        Some(n) if n == 0 || n > u128::from(vertices) => Err(LineFault::Broken(NO_VERTEX)),
         Some(n) => Ok(Vertex(n as u32)),
     }
 }

@@ -8,6 +8,7 @@ ghost use Rattle.road_files.specs.QuestionFiles.{one_vertex_more, sources_of_lin
 ghost use Rattle.road_files.specs.Vertices.{AreSourcesOf, IsVertexOf};
 
 use crate::number_fields::vertex_of;
+use crate::rules::FIELDS;
 use road_graph::Vertex;
 use road_text::{LineFault, Rule, Slot};
 use std::alloc::Global;
@@ -116,7 +117,7 @@ impl PresentList {
         ensures vertices { self.new.vertices ≡ self.old.vertices }
     {
         if self.count < 2 || self.count > MAX_FIELDS {
-            return Err(LineFault::Broken(Rule::Fields));
+            return Err(LineFault::Broken(FIELDS));
         }
         if let Some(rule) = self.broken {
             return Err(LineFault::Broken(rule));

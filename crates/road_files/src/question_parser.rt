@@ -9,8 +9,9 @@ ghost use Rattle.road_files.specs.QuestionFiles.{accepted, may_be, source_of_lin
 use crate::number_fields::number_up_to;
 use crate::present_list::PresentList;
 use crate::questions::{Kind, Questions};
+use crate::rules::{BAD_PROBLEM, NO_PROBLEM, SECOND_PROBLEM, UNKNOWN_LINE};
 use crate::taken_questions::TakenQuestions;
-use road_text::{LineFault, LineParser, Rule, Slot};
+use road_text::{LineFault, LineParser, Slot};
 use std::alloc::Global;
 
 /// The most questions of a file.
@@ -22,12 +23,12 @@ fn accept(only: Option<Kind>, named: Option<Kind>) -> Result<Kind, LineFault>
     ensures kind { IfOk result (λ k. may_be only k ≡ true) }
 {
     let Some(kind) = named else {
-        return Err(LineFault::Broken(Rule::BadProblem));
+        return Err(LineFault::Broken(BAD_PROBLEM));
     };
     match only {
         None => Ok(kind),
         Some(only) if only == kind => Ok(kind),
-        Some(_) => Err(LineFault::Broken(Rule::BadProblem)),
+        Some(_) => Err(LineFault::Broken(BAD_PROBLEM)),
     }
 }
 
@@ -83,11 +84,11 @@ impl QuestionParser {
         ensures list { self.new.list ≡ self.old.list }
     {
         match &self.begun {
-            Some(_) => return Err(LineFault::Broken(Rule::SecondProblem)),
+            Some(_) => return Err(LineFault::Broken(SECOND_PROBLEM)),
             None => {}
         }
         if slots.len() != 5 || !slots[1].is_word(b"aux") || !slots[2].is_word(b"sp") {
-            return Err(LineFault::Broken(Rule::BadProblem));
+            return Err(LineFault::Broken(BAD_PROBLEM));
         }
         let kind = accept(self.only, Kind::named(&slots[3]))?;
         let announced = number_up_to(&slots[4], MAX_QUESTIONS)?;
@@ -105,7 +106,7 @@ impl QuestionParser {
         ensures list { self.new.list.vertices ≡ self.old.list.vertices }
     {
         match &mut self.begun {
-            None => Err(LineFault::Broken(Rule::NoProblem)),
+            None => Err(LineFault::Broken(NO_PROBLEM)),
             Some(begun) => begun.source(slots),
         }
     }
@@ -116,7 +117,7 @@ impl QuestionParser {
         ensures list { self.new.list.vertices ≡ self.old.list.vertices }
     {
         match &mut self.begun {
-            None => Err(LineFault::Broken(Rule::NoProblem)),
+            None => Err(LineFault::Broken(NO_PROBLEM)),
             Some(begun) => begun.pair(slots),
         }
     }
@@ -128,7 +129,7 @@ impl QuestionParser {
         ensures list { self.new.list.vertices ≡ self.old.list.vertices }
     {
         match &mut self.begun {
-            None => Err(LineFault::Broken(Rule::NoProblem)),
+            None => Err(LineFault::Broken(NO_PROBLEM)),
             Some(begun) => begun.list(&mut self.list, self.alloc),
         }
     }
@@ -155,7 +156,7 @@ impl QuestionParser {
         if self.list.is_list {
             return self.sources();
         }
-        Err(LineFault::Broken(Rule::UnknownLine))
+        Err(LineFault::Broken(UNKNOWN_LINE))
     }
 
     /// The questions, where all announced ones are there.
@@ -165,7 +166,7 @@ impl QuestionParser {
     {
         let begun = self.begun;
         match begun {
-            None => Err(LineFault::Broken(Rule::NoProblem)),
+            None => Err(LineFault::Broken(NO_PROBLEM)),
             Some(begun) => begun.whole(),
         }
     }

@@ -9,8 +9,9 @@ ghost use Rattle.road_files.specs.Vertices.{IsVertexOf, IsPairOf, AreSourcesOf};
 use crate::number_fields::vertex_of;
 use crate::present_list::PresentList;
 use crate::questions::{Kind, Questions};
+use crate::rules::{FIELDS, TOO_FEW, TOO_MANY, UNKNOWN_LINE};
 use road_graph::Vertex;
-use road_text::{LineFault, Rule, Slot};
+use road_text::{LineFault, Slot};
 use std::alloc::Global;
 
 // The vertex of a source's line.
@@ -20,7 +21,7 @@ fn source_in(slots: &[Slot], vertices: u32) -> Result<Vertex, LineFault>
     ensures within { IfOk result (IsVertexOf vertices) }
 {
     if slots.len() != 2 {
-        return Err(LineFault::Broken(Rule::Fields));
+        return Err(LineFault::Broken(FIELDS));
     }
     vertex_of(&slots[1], vertices)
 }
@@ -32,7 +33,7 @@ fn pair_in(slots: &[Slot], vertices: u32) -> Result<(Vertex, Vertex), LineFault>
     ensures within { IfOk result (IsPairOf vertices) }
 {
     if slots.len() != 3 {
-        return Err(LineFault::Broken(Rule::Fields));
+        return Err(LineFault::Broken(FIELDS));
     }
     let source = vertex_of(&slots[1], vertices)?;
     let target = vertex_of(&slots[2], vertices)?;
@@ -50,7 +51,7 @@ fn add_source(
     ensures room { length sources.old.items ≤ announced → length sources.new.items ≤ announced }
 {
     if sources.len() >= announced as usize {
-        return Err(LineFault::Broken(Rule::TooMany));
+        return Err(LineFault::Broken(TOO_MANY));
     }
     let source = source_in(slots, vertices)?;
     match sources.push(source) {
@@ -70,7 +71,7 @@ fn add_pair(
     ensures room { length pairs.old.items ≤ announced → length pairs.new.items ≤ announced }
 {
     if pairs.len() >= announced as usize {
-        return Err(LineFault::Broken(Rule::TooMany));
+        return Err(LineFault::Broken(TOO_MANY));
     }
     let pair = pair_in(slots, vertices)?;
     match pairs.push(pair) {
@@ -108,7 +109,7 @@ impl TakenQuestions {
         ensures vertices { list.new.vertices ≡ list.old.vertices }
     {
         if lists.len() >= announced as usize {
-            return Err(LineFault::Broken(Rule::TooMany));
+            return Err(LineFault::Broken(TOO_MANY));
         }
         let sources = list.whole(alloc)?;
         match lists.push(sources) {
@@ -130,7 +131,7 @@ impl TakenQuestions {
                 self.vertices,
                 slots,
             ),
-            Questions::Pairs(_) | Questions::Multi(_) => Err(LineFault::Broken(Rule::UnknownLine)),
+            Questions::Pairs(_) | Questions::Multi(_) => Err(LineFault::Broken(UNKNOWN_LINE)),
         }
     }
 
@@ -142,9 +143,7 @@ impl TakenQuestions {
     {
         match &mut self.questions {
             Questions::Pairs(pairs) => add_pair(pairs, self.announced, self.vertices, slots),
-            Questions::Sources(_) | Questions::Multi(_) => Err(LineFault::Broken(
-                Rule::UnknownLine,
-            )),
+            Questions::Sources(_) | Questions::Multi(_) => Err(LineFault::Broken(UNKNOWN_LINE)),
         }
     }
 
@@ -159,9 +158,7 @@ impl TakenQuestions {
     {
         match &mut self.questions {
             Questions::Multi(lists) => TakenQuestions::add_list(lists, self.announced, list, alloc),
-            Questions::Sources(_) | Questions::Pairs(_) => Err(LineFault::Broken(
-                Rule::UnknownLine,
-            )),
+            Questions::Sources(_) | Questions::Pairs(_) => Err(LineFault::Broken(UNKNOWN_LINE)),
         }
     }
 
@@ -172,7 +169,7 @@ impl TakenQuestions {
         ensures kind { IfOk result (λ q. (asked_of q).kind ≡ (asked_of self.questions).kind) }
     {
         if self.questions.len() < self.announced as usize {
-            return Err(LineFault::Broken(Rule::TooFew));
+            return Err(LineFault::Broken(TOO_FEW));
         }
         Ok(self.questions)
     }

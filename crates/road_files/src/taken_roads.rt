@@ -6,8 +6,9 @@ ghost use Rattle.road_text.specs.Takes.{Leaves, Breaks};
 ghost use Rattle.road_files.specs.GraphFiles.{one_arc, gr_whole, graph_read};
 
 use crate::number_fields::{number_up_to, vertex_of};
+use crate::rules::{FIELDS, NO_PROBLEM, TOO_FEW, TOO_MANY};
 use road_graph::{Graph, GraphFault, RoadArc, Vertex};
-use road_text::{LineFault, Rule, Slot};
+use road_text::{LineFault, Slot};
 use std::alloc::Global;
 
 /// The greatest weight of an arc.
@@ -72,10 +73,10 @@ impl TakenRoads {
         ensures { Leaves (one_arc (roads_so_far self.old) (map word_in slots.now)) result (roads_so_far self.new) }
     {
         if self.arcs.len() >= self.announced as usize {
-            return Err(LineFault::Broken(Rule::TooMany));
+            return Err(LineFault::Broken(TOO_MANY));
         }
         if slots.len() != 4 {
-            return Err(LineFault::Broken(Rule::Fields));
+            return Err(LineFault::Broken(FIELDS));
         }
         let tail = vertex_of(&slots[1], self.vertices)?;
         let head = vertex_of(&slots[2], self.vertices)?;
@@ -88,9 +89,9 @@ impl TakenRoads {
         ensures { MatchResult result (λ t. gr_whole (option_map roads_so_far taken) ≡ Ok (roads_so_far t)) (Breaks (gr_whole (option_map roads_so_far taken))) }
     {
         match taken {
-            None => Err(LineFault::Broken(Rule::NoProblem)),
+            None => Err(LineFault::Broken(NO_PROBLEM)),
             Some(taken) if taken.arcs.len() < taken.announced as usize => Err(LineFault::Broken(
-                Rule::TooFew,
+                TOO_FEW,
             )),
             Some(taken) => Ok(taken),
         }

@@ -52,13 +52,13 @@ module _ (least greatest : ℕ) where
     own_or_long f high (inl e) = absurd (omega (arith, ap (λ (x : ReadFault). x.number) e))
     own_or_long f high (inr own) = inr own
 
-    own_number : (f : ReadFault) → IsNumberFrom 10 36 f.number → (2 ≤ f.number → f.number ≢ 3 → (all : List ℕ) × (text_read rules all ≡ Err f)) → IsNumberFrom least greatest f.number
+    own_number : (f : ReadFault) → IsNumberFrom 10 255 f.number → (2 ≤ f.number → f.number ≢ 3 → (all : List ℕ) × (text_read rules all ≡ Err f)) → IsNumberFrom least greatest f.number
     own_number f (inl low) text = inl low
     own_number f (inr high) text =
         let (all, e) = text (omega (arith, high.0)) (λ three. omega (arith, high.0, three)) in
         own_or_long f (omega (arith, high.0)) (subst IsOwnOrLong e (own_text all))
 
     -- a text that is read by these rules stops with one of these numbers, or with 1, 2 or 3
-    pub own_numbers : {A : Type 0} (r : Result A ReadFault) → IsReadNumber 10 36 r → ReadsSomeFault rules r → IsReadNumber least greatest r
+    pub own_numbers : {A : Type 0} (r : Result A ReadFault) → IsReadNumber 10 255 r → ReadsSomeFault rules r → IsReadNumber least greatest r
     own_numbers (Ok x) h text = tt
     own_numbers (Err f) h text = own_number f h text

@@ -1,16 +1,22 @@
 -- What a parser's lines give by rules.
-use Rattle.std.proofs.Common.{◌≡◌, ℕ, ◌+◌, List, [], ◌∷◌, Bool, false, Ok, Err, Result, refl}
+use Rattle.std.proofs.Common.{◌≡◌, ℕ, ◌+◌, List, [], ◌∷◌, Bool, false, Ok, Err, Result, refl, subst}
 use Rattle.std.specs.Result.{OnOk}
 use Rattle.road_text.specs.declared.faults.LineFault.{LineFault}
+use Rattle.road_text.specs.declared.faults.LineFault.TheVariants.{Broken}
 use Rattle.road_text.specs.declared.faults.ReadFault.{ReadFault}
+use Rattle.road_text.specs.declared.faults.Rule.{Rule}
 use Rattle.road_text.specs.Lines.{fields}
 use Rattle.road_text.specs.Rules.{Rules, fault_at}
-use Rattle.road_text.specs.Takes.{GivesBy, Leaves}
+use Rattle.road_text.specs.Takes.{Breaks, GivesBy, Leaves}
 
 -- what code leaves where it gives a value
 pub on_ok : {A B P : Type 0} (r : Result B LineFault) (rule : Result A ℕ) (state : A) → Leaves rule r state → (rule ≡ Ok state → P) → OnOk r P
 on_ok (Ok x) rule state h f = f h
 on_ok (Err e) rule state h f = tt
+
+-- the rule that code tells as broken is the rule that is
+pub broken_is : {A : Type 0} (rule_gives : Result A ℕ) (fault : LineFault) (rule : Rule) → ◌≡◌ {A = Result (Unit {0}) LineFault} (Err fault) (Err (Broken rule)) → Breaks rule_gives fault → rule_gives ≡ Err rule.number
+broken_is rule_gives fault rule e h = let same : fault ≡ Broken rule = cc in subst (Breaks rule_gives) same h
 
 module _ {S V R : Type 0} (rules : Rules S V) (view : R → V) where
   -- a line that the rules take

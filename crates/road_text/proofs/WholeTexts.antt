@@ -44,7 +44,7 @@ module _ {S V T R : Type 0} (rules : Rules S V) (view : R → V) (way : Way T R)
       → ((s : S) (fs : List (List ℕ)) → IsOwn least greatest (rules.line s fs)) → ((s : S) → IsOwn least greatest (rules.end s)) → (r : Result R ReadFault)
       → IfOk r (λ v. IfSome (bytes old) (λ all. TextGives way parser all (Ok v))) → IfOk r (λ v. SomeTextGives way parser (Ok v))
       → IfErr r (λ f. 2 ≤ f.number → f.number ≢ 3 → IfSome (bytes old) (λ all. TextGives way parser all (Err f))) → IfErr r (λ f. 2 ≤ f.number → f.number ≢ 3 → SomeTextGives way parser (Err f))
-      → OnOk r (failed new ≡ failed old) → TellsFailure (failed old) (failed new) r → TellsNoOther (failed old) (failed new) r → IsTooLong (bytes old) r → IsPlaced r → IsReadNumber 10 36 r
+      → OnOk r (failed new ≡ failed old) → TellsFailure (failed old) (failed new) r → TellsNoOther (failed old) (failed new) r → IsTooLong (bytes old) r → IsPlaced r → IsReadNumber 10 255 r
       → OnOk r (IsAtEnd (bytes new)) → reads new ≤ reads old + 4294967297 → ReadsText bytes failed reads old new rules view least greatest r
   reads_text bytes failed reads old new least greatest line end r value some_text fault some_fault sound told untold long placed numbered at_end asked =
       let some : ReadsSomeFault rules r = reads_some_fault r some_fault in

@@ -1,6 +1,5 @@
 pub mod Lines
 pub mod Words
-pub mod RuleNumbers
 pub mod Rules
 pub mod Way
 pub mod Slots

@@ -26,12 +26,12 @@ pub record Holds (told_of : List (List ℕ) → Type 0) (any late : Bool) (scan 
 abbrev pub Leads : {T V : Type 0} → Bool → Way T V → LineReader T → List ℕ → Result V ReadFault → Type 0
 Leads cut gives s rest r = (present : List ℕ) → Holds (gives.so_far s.parser) s.begun s.held (scan_of s.scanner) present → gives.gives cut s.parser s.line (lines cut (present ++ rest)) r
 
--- a rule's number is at least 10
+-- a rule's number is at least 10, and a byte
 abbrev pub IsNumbered : Halt → Type 0
 IsNumbered Read = ⊤
 IsNumbered TooLong = ⊤
 IsNumbered Memory = ⊤
-IsNumbered (Broken f) = (10 ≤ f.number) × (f.number ≤ 36)
+IsNumbered (Broken f) = (10 ≤ f.number) × (f.number ≤ 255)
 
 -- why a line's end was not taken
 abbrev pub LineHalts : {T V : Type 0} → Way T V → LineReader T → List ℕ → Halt → Type 0

@@ -5,7 +5,6 @@ use Rattle.road_text.specs.declared.faults.LineFault.TheVariants.{Broken, Memory
 use Rattle.road_text.specs.declared.faults.ReadFault.{ReadFault}
 use Rattle.road_text.specs.declared.slots.Slot.{Slot}
 use Rattle.road_text.specs.Lines.{fields}
-use Rattle.road_text.specs.RuleNumbers.{number_of}
 use Rattle.road_text.specs.Rules.{Rules, reading}
 use Rattle.road_text.specs.Slots.{word_in}
 use Rattle.road_text.specs.Words.{held_word}
@@ -16,7 +15,7 @@ ShowsLine slots line = map word_in slots ≡ take 6 (map held_word (fields line)
 
 -- a rule is broken as the fault says
 abbrev pub Breaks : {A : Type 0} → Result A ℕ → LineFault → Type 0
-Breaks rule (Broken broken) = rule ≡ Err (number_of broken)
+Breaks rule (Broken broken) = rule ≡ Err broken.number
 Breaks rule Memory = ⊤
 
 -- the rule gives what the code gives, but where memory runs out

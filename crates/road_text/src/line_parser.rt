@@ -3,7 +3,6 @@ ghost use Rattle.std.specs.Prelude.{◌≡◌, ℕ, ◌+◌, List, [], ◌∷◌
 ghost use Rattle.road_text.specs.declared.faults.ReadFault.{ReadFault};
 ghost use Rattle.road_text.specs.declared.faults.Rule.{Rule};
 ghost use Rattle.road_text.specs.Lines.{fields};
-ghost use Rattle.road_text.specs.RuleNumbers.{number_of};
 ghost use Rattle.road_text.specs.Rules.{fault_at, too_long};
 ghost use Rattle.road_text.specs.ShortLines.{HasShortFields};
 ghost use Rattle.road_text.specs.Slots.{word_in};
@@ -35,7 +34,7 @@ pub trait LineParser: Drop {
             ShowsLine slots.now l → way.so_far self.old (fields l) → way.gives cut self.new (at + 1) rest r → way.gives cut self.old at (l ∷ rest) r) }
         ensures ready { OnOk result (way.so_far self.new []) }
         ensures broken { (rule : Rule) → result ≡ Err (LineFault.Broken rule) → (cut : Bool) (at : ℕ) (l : List ℕ) (rest : List (List ℕ)) →
-            ShowsLine slots.now l → way.so_far self.old (fields l) → way.gives cut self.old at (l ∷ rest) (Err (fault_at at (number_of rule))) };
+            ShowsLine slots.now l → way.so_far self.old (fields l) → way.gives cut self.old at (l ∷ rest) (Err (fault_at at rule.number)) };
 
     /// Takes a whole line of a letter and three numbers, each below 2 ^ 64, if that is quickly done: else it is taken by
     /// its fields, and nothing changes here.
@@ -48,7 +47,7 @@ pub trait LineParser: Drop {
     /// Takes the end, and gives what the lines were.
     fn finish(self) -> Result<Self::Value, LineFault>
         ensures ok { IfOk result (λ v. (at : ℕ) → way.gives false self at [] (Ok v)) }
-        ensures broken { (rule : Rule) → result ≡ Err (LineFault.Broken rule) → (at : ℕ) → way.gives false self at [] (Err (fault_at at (number_of rule))) };
+        ensures broken { (rule : Rule) → result ≡ Err (LineFault.Broken rule) → (at : ℕ) → way.gives false self at [] (Err (fault_at at rule.number)) };
 
     // A text that is cut short is too long.
     ghost stops_short: { (s : Self) (at : ℕ) → way.gives true s at [] (Err too_long) };

@@ -60,7 +60,7 @@ impl<T: LineParser> LineReader<T> {
             Err(LineFault::Memory) => return Err(Halt::Memory),
             Err(LineFault::Broken(rule)) => {
                 return Err(Halt::Broken(ReadFault {
-                    number: rule.number(),
+                    number: rule.number,
                     line: self.line,
                 }));
             }
@@ -236,7 +236,7 @@ impl<T: LineParser> LineReader<T> {
             Ok(value) => Ok(value),
             Err(LineFault::Memory) => Err(Halt::Memory),
             Err(LineFault::Broken(rule)) => Err(Halt::Broken(ReadFault {
-                number: rule.number(),
+                number: rule.number,
                 line,
             })),
         }

@@ -54,7 +54,7 @@ pub fn read_whole<R: RoadRead, T: LineParser>(
     ensures untold { TellsNoOther (R.failures from.old) (R.failures from.new) result }
     ensures long { IsTooLong (R.left from.old) result }
     ensures placed { IsPlaced result }
-    ensures numbered { IsReadNumber 10 36 result }
+    ensures numbered { IsReadNumber 10 255 result }
     ensures end { OnOk result (IsAtEnd (R.left from.new)) }
     ensures asked { R.asked from.new ≤ R.asked from.old + 4294967297 }
 {

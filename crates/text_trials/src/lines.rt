@@ -8,9 +8,10 @@ ghost use Rattle.road_text.specs.Takes.{Agrees, Leaves, GivesBy};
 use crate::ends::Pieces;
 use arrayvec::ArrayVec;
 use ghost_count::Count;
+use road_files::rules::{FIELDS, NOT_A_NUMBER, TOO_LARGE, UNKNOWN_LINE};
 use road_text::{
-    Buffered, Line, LineFault, LineParser, Plain, ReadFailed, ReadFault, RoadRead, RoadWrite, Rule,
-    Slot, WriteFault, push_spaced, read_whole, write_bytes, write_list,
+    Buffered, Line, LineFault, LineParser, Plain, ReadFailed, ReadFault, RoadRead, RoadWrite, Slot,
+    WriteFault, push_spaced, read_whole, write_bytes, write_list,
 };
 use std::alloc::Global;
 use std::io::{self, Write};
@@ -26,8 +27,8 @@ fn below_top(slot: &Slot) -> Result<u64, LineFault>
     ensures { Agrees (below_top (word_in slot.now).number) result }
 {
     match slot.number {
-        None => Err(LineFault::Broken(Rule::NotANumber)),
-        Some(n) if n > u128::from(u64::MAX) => Err(LineFault::Broken(Rule::TooLarge)),
+        None => Err(LineFault::Broken(NOT_A_NUMBER)),
+        Some(n) if n > u128::from(u64::MAX) => Err(LineFault::Broken(TOO_LARGE)),
         Some(n) => Ok(n as u64),
     }
 }
@@ -41,10 +42,10 @@ impl NumberParser {
             return Ok(());
         }
         if !slots[0].is_word(b"n") {
-            return Err(LineFault::Broken(Rule::UnknownLine));
+            return Err(LineFault::Broken(UNKNOWN_LINE));
         }
         if slots.len() != 2 {
-            return Err(LineFault::Broken(Rule::Fields));
+            return Err(LineFault::Broken(FIELDS));
         }
         let number = below_top(&slots[1])?;
         match self.numbers.push(number) {
@@ -84,7 +85,7 @@ fn read_numbers<R: RoadRead>(alloc: Global, from: &mut R) -> Result<Vec<u64>, Re
     ensures fault { ReadsFault numbers_rules (R.left from.old) result }
     ensures told { TellsFailure (R.failures from.old) (R.failures from.new) result }
     ensures untold { TellsNoOther (R.failures from.old) (R.failures from.new) result }
-    ensures numbered { IsReadNumber 10 36 result }
+    ensures numbered { IsReadNumber 10 255 result }
 {
     read_whole(
         from,

@@ -1,4 +1,5 @@
-use Rattle.answer_text.proofs.AnswerParserLaws.{line_taken, line_broken, broken_is}
+use Rattle.road_text.proofs.ParserLaws.{broken_is}
+use Rattle.answer_text.proofs.AnswerParserLaws.{line_taken, line_broken}
 use Rattle.answer_text.proofs.answer_parser.AnswerParserLineParser.line.Goals as goal
 
 pub returns-clause-ok : goal.returns-clause-ok

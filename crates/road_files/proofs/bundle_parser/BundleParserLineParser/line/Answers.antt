@@ -1,5 +1,4 @@
 use Rattle.std.proofs.Common.{◌∙◌}
-use Rattle.road_text.specs.RuleNumbers.{number_of}
 use Rattle.road_text.proofs.ParserLaws.{on_ok, gives_taken, gives_broken}
 use Rattle.road_files.specs.BundleFiles.{bundle_of, bundle_rules}
 use Rattle.road_files.specs.BundleTakes.{bundle_so_far}
@@ -12,4 +11,4 @@ returns-clause-ok c = on_ok c.take.result _ _ c.take.ensures.rule
 
 pub returns-clause-broken : goal.returns-clause-broken
 returns-clause-broken c = λ rule is cut at l rest shown so.
-    (gives_broken bundle_rules bundle_of (bundle_so_far c.args.self.now.part) cut at l rest (number_of rule) (kept_rule c.args.self.now.part c.args.slots.now l shown so ∙ (rw is at c.take.ensures.rule)), tt)
+    (gives_broken bundle_rules bundle_of (bundle_so_far c.args.self.now.part) cut at l rest rule.number (kept_rule c.args.self.now.part c.args.slots.now l shown so ∙ (rw is at c.take.ensures.rule)), tt)

@@ -1,5 +1,4 @@
 use Rattle.std.proofs.Common.{◌∙◌}
-use Rattle.road_text.specs.RuleNumbers.{number_of}
 use Rattle.road_text.proofs.ParserLaws.{on_ok, gives_taken, gives_broken}
 use Rattle.road_files.specs.GraphFiles.{gr_rules}
 use Rattle.road_files.specs.GraphTakes.{taken_of}
@@ -12,4 +11,4 @@ returns-clause-ok c = on_ok c.take.result _ _ c.take.ensures
 
 pub returns-clause-broken : goal.returns-clause-broken
 returns-clause-broken c = λ rule is cut at l rest shown _.
-    gives_broken gr_rules (λ g. g) (taken_of c.args.self.now) cut at l rest (number_of rule) (line_rule c.args.self.now c.args.slots.now l shown ∙ (rw is at c.take.ensures))
+    gives_broken gr_rules (λ g. g) (taken_of c.args.self.now) cut at l rest rule.number (line_rule c.args.self.now c.args.slots.now l shown ∙ (rw is at c.take.ensures))

@@ -1,6 +1,7 @@
 use Rattle.std.proofs.Common.{◌∙◌}
 use Rattle.road_files.specs.QuestionTakes.{begun_of}
-use Rattle.road_files.proofs.QuestionParserLaws.{line_taken, line_broken, broken_is}
+use Rattle.road_text.proofs.ParserLaws.{broken_is}
+use Rattle.road_files.proofs.QuestionParserLaws.{line_taken, line_broken}
 use Rattle.road_files.proofs.question_parser.QuestionParserLineParser.line.Goals as goal
 
 pub returns-in-Err-clause-broken : goal.returns-in-Err-clause-broken

@@ -13,7 +13,7 @@ returns-in-Err-Broken-clause-err g c = λ cut rest present held.
     let shown : ShowsLine c.fields.result.now (strip_carriage_return present) =
     c.fields.ensures ∙ ap (λ (s : Scan). s.0) c.close.ensures ∙ ap past c.end_field.ensures.scanner ∙ shows_fields _ _ held.shown in
     let told = c.in_ok-end_field.ensures.told (strip_carriage_return present) held.shown in
-    rw (lines_first cut present rest held.whole, c.number.ensures.number, c.in-Err-Broken.rule-is, c.end_field.ensures.rest.2) (c.in_ok-end_field.ensures.same cut c.args.self.now.line (strip_carriage_return present ∷ lines cut rest) _ (c.in-Err-Broken.ensures.broken c.in-Err-Broken.rule (ap (λ (e : LineFault). Err e) c.in-Err-Broken.field-0-is) cut c.args.self.now.line (strip_carriage_return present) (lines cut rest) shown told))
+    rw (lines_first cut present rest held.whole, c.in-Err-Broken.rule-is, c.end_field.ensures.rest.2) (c.in_ok-end_field.ensures.same cut c.args.self.now.line (strip_carriage_return present ∷ lines cut rest) _ (c.in-Err-Broken.ensures.broken c.in-Err-Broken.rule (ap (λ (e : LineFault). Err e) c.in-Err-Broken.field-0-is) cut c.args.self.now.line (strip_carriage_return present) (lines cut rest) shown told))
 
 pub returns-clause-ok : goal.returns-clause-ok
 returns-clause-ok g c = λ cut rest r h present held.

@@ -42,7 +42,7 @@ module _ {K V : Type 0} (value : K → V) (place : K → ℕ) (order : V → V �
     pub run_skip : get_or settled (place top) false ≡ true → Running value place order A g sources labels settled rest
     run_skip t = record { between = running.between; queue = queue_skip value place order ordered labels settled items running.queue top rest moved t }
 
-    pub run_settle : get_or settled (place top) false ≡ false → IsUpperBound (open_cmp value place order) top items →
+    pub run_settle : get_or settled (place top) false ≡ false → IsUpperBound (open_cmp value order) top items →
         (next : List (Option V)) (queued : List K) → Relaxes A g (place top + 1) (value top) labels next →
         KeepsQueue value place order labels rest next queued → Running value place order A g sources next (set settled (place top) true) queued
     run_settle o upper next queued pass keeps =
@@ -54,13 +54,13 @@ module _ {K V : Type 0} (value : K → V) (place : K → ℕ) (order : V → V �
         }
 
     module _ (labels' : List (Option V)) (settled' : List Bool) (items' : List K) where
-      stepped : IsUpperBound (open_cmp value place order) top items → (b : Bool) → get_or settled (place top) false ≡ b →
+      stepped : IsUpperBound (open_cmp value order) top items → (b : Bool) → get_or settled (place top) false ≡ b →
           Handles value place order A g (place top) (value top) b labels settled rest labels' settled' items' → Running value place order A g sources labels' settled' items'
       stepped upper true t h = rw (h.same_labels, h.same_marks, h.same_queue) (run_skip t)
       stepped upper false o h = rw h.marks (run_settle o upper labels' items' h.relaxes h.queue)
 
       -- handling the best entry leads from one round to the next
-      pub run_step : IsUpperBound (open_cmp value place order) top items →
+      pub run_step : IsUpperBound (open_cmp value order) top items →
           Handles value place order A g (place top) (value top) (get_or settled (place top) false) labels settled rest labels' settled' items' → Running value place order A g sources labels' settled' items'
       run_step upper h = stepped upper (get_or settled (place top) false) refl h
 

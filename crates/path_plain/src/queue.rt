@@ -1,6 +1,6 @@
 //! The queue of open vertices: a heap with the best value on top.
 
-ghost use Rattle.std.specs.Prelude.{◌≡◌, ◌+◌, ◌∷◌, [], length, refl, OnOk, IfSome, IfNone};
+ghost use Rattle.std.specs.Prelude.{◌≡◌, ◌+◌, ◌∷◌, [], length, refl, OnOk, OnErr, IfSome, IfNone};
 ghost use Rattle.std.specs.Cmp.{partial_order_from_total, partial_equiv_from_equiv, eq_by_cmp_equiv};
 ghost use Rattle.std.specs.Ordering.{eq_by_cmp, as_partial_cmp};
 ghost use Rattle.std.specs.BinaryHeap.{heap_items, IsHeap, IsUpperBound};
@@ -102,6 +102,7 @@ impl<A: PathAlgebra> Queue<A> {
         ensures items { OnOk result
             (IsPermutation (record { value = value; place = place } ∷ self.old) self.new) }
         ensures len { OnOk result (length self.new ≡ length self.old + 1) }
+        ensures kept { OnErr result (self.new ≡ self.old) }
     {
         self.heap
             .push(Open { value, place })
@@ -115,6 +116,7 @@ impl<A: PathAlgebra> Queue<A> {
             (λ x. IsPermutation self.old (record { value = x.0; place = x.1 } ∷ self.new)) }
         ensures len { IfSome result (λ x. length self.new + 1 ≡ length self.old) }
         ensures none { IfNone result (self.old ≡ []) }
+        ensures empty { IfNone result (self.new ≡ []) }
         ensures best { IfSome result
             (λ x. IsUpperBound (open_cmp (λ o. o.value) A.order) (record { value = x.0; place = x.1 }) self.old) }
     {

@@ -1,9 +1,9 @@
 pub mod Small
 pub mod Opening
-pub mod Search
+pub mod Known
 pub mod Offering
 pub mod Rounds
 pub mod Waiting
-pub mod Running
+pub mod Steps
 pub mod Relaxing
 pub mod Existing

@@ -8,7 +8,7 @@ use Rattle.path_algebra.specs.Walks.{IsWalkValue, IsNotImproving, label_of, impr
 use Rattle.path_algebra.proofs.Walks.{IsWalkValue-extend, walk_value_is_value, all_inside}
 use Rattle.path_algebra.proofs.Least.{same_no_worse, other_no_worse}
 use Rattle.path_plain.proofs.Small.{head_or_tail, false_or_true}
-use Rattle.path_plain.proofs.Search.{IsSettled, Search}
+use Rattle.path_plain.proofs.Known.{IsSettled, Search}
 
 -- what an offer leaves is no worse than what was offered, and than what was there
 module _ {V : Type 0} (no_worse : V → V → Bool) (ordered : IsOrder no_worse) (z : V) where

@@ -7,10 +7,10 @@ use Rattle.path_algebra.specs.Walks.{AreBest}
 use Rattle.path_algebra.proofs.Walks.{labels_are_best, all_inside}
 use Rattle.path_algebra.specs.Open.{IsBestOpen, AnswersBestOpen}
 use Rattle.path_plain.proofs.Small.{not_in_empty, false_or_true}
-use Rattle.path_plain.proofs.Search.{Search, search_start, search_pick}
+use Rattle.path_plain.proofs.Known.{Search, search_start, search_pick}
 use Rattle.path_plain.proofs.Offering.{search_relaxed}
 use Rattle.path_plain.specs.Opening.{AreOpening}
-use Rattle.path_plain.specs.Settling.{Relaxes}
+use Rattle.path_plain.specs.Searching.{Relaxes}
 
 module _ {V : Type 0} (A : Algebra V) (lawful : IsLawful A) (g : Roads) (roads : IsRoads g) (sources : List ℕ) (inside : All (HasVertex g) sources) (settled : List Bool) (x : V) where
   pub search_ends : (labels : List (Option V)) → Search A g sources labels settled x [] → AnswersBestOpen A.no_worse labels settled g.vertices None → AreBest A g sources labels

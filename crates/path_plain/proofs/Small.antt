@@ -1,7 +1,6 @@
 -- Small facts on lists and choices.
-use Rattle.std.proofs.Common.{◌≡◌, ℕ, zero, suc, ◌<◌, ◌⊎◌, inl, inr, Bool, true, false, List, [], ◌∷◌, length, refl, arith, Option, Some, None, take, ◌++◌}
+use Rattle.std.proofs.Common.{◌≡◌, ℕ, zero, suc, ◌<◌, ◌⊎◌, inl, inr, Bool, true, false, List, [], ◌∷◌, length, refl, arith}
 use Rattle.std.specs.Prelude.{Contains}
-use Rattle.std.proofs.Math.Seq.{take-append_seam}
 
 pub not_in_empty : {X : Type 0} (a : X) → Contains [] a → ⊥
 not_in_empty a h = let l : h.0 < 0 = h.1 in omega arith
@@ -19,11 +18,3 @@ here a rest = (0, omega arith, refl)
 
 pub later : {X : Type 0} (a b : X) (rest : List X) → Contains rest b → Contains (a ∷ rest) b
 later a b rest h = (suc h.0, (let l : h.0 < length rest = h.1 in omega arith), h.2)
-
--- a `Vec` lent as a slice of its length comes back as that slice
-pub written_back : {X : Type 0} (n : ℕ) (new rest : List X) → n ≡ length new → take n (new ++ rest) ≡ new
-written_back n new rest e = rw e (take-append_seam new rest)
-
-pub none_only : {X : Type 0} (o : Option X) → ((x : X) → o ≡ Some x → ⊥) → o ≡ None
-none_only None h = refl
-none_only (Some x) h = absurd (h x refl)

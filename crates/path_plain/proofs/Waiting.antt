@@ -6,8 +6,7 @@ use Rattle.std.specs.Prelude.{IsTrue, Contains}
 use Rattle.std.specs.List.{AllByRecursion}
 use Rattle.std.specs.List.Sorted.{IsPermutation}
 use Rattle.std.specs.BinaryHeap.{IsUpperBound}
-use Rattle.std.specs.Ordering.{is_lt, ordering_then}
-use Rattle.std.specs.declared.cmp.Ordering.{Ordering}
+use Rattle.std.specs.Ordering.{is_lt}
 use Rattle.std.specs.declared.cmp.Ordering.TheVariants.{Less, Equal, Greater}
 use Rattle.road_graph.specs.Roads.{Roads, IsAscendingFrom, ListsArcsFrom}
 use Rattle.path_algebra.specs.Algebra.{IsOrder}
@@ -24,9 +23,9 @@ all_at P (x ∷ xs) h (suc k) d lt = all_at P xs h.1 k d (omega arith)
 holds_of : {X : Type 0} (P : X → Type 0) (xs : List X) (e : X) → AllByRecursion P xs → Contains xs e → P e
 holds_of P xs e all h = subst P h.2 (all_at P xs all h.0 e h.1)
 
-not_less : (p q : Bool) (o : Ordering) → is_lt (ordering_then (cond p (cond q Equal Greater) Less) o) ≡ false → IsTrue p
-not_less true q o h = refl
-not_less false q o h = cc
+not_less : (p q : Bool) → is_lt (cond p (cond q Equal Greater) Less) ≡ false → IsTrue p
+not_less true q h = refl
+not_less false q h = cc
 
 module _ {K V : Type 0} (value : K → V) (place : K → ℕ) (no_worse : V → V → Bool) (ordered : IsOrder no_worse) (labels : List (Option V)) (settled : List Bool) (items : List K)
     (known : IsQueue value place no_worse labels settled items) where
@@ -93,13 +92,13 @@ module _ {K V : Type 0} (value : K → V) (place : K → ℕ) (no_worse : V → 
     }
 
     -- the top entry is the best open vertex
-    pub queue_best : get_or settled (place top) false ≡ false → IsUpperBound (open_cmp value place no_worse) top items →
+    pub queue_best : get_or settled (place top) false ≡ false → IsUpperBound (open_cmp value no_worse) top items →
         IsBestOpen no_worse labels settled (length labels) (place top) (value top)
     queue_best o upper =
         let was = known.entries top top_in in
         let cover = known.covers (place top) was.1.0 was.0 o was.1.1 in
         let worse : (e : K) → Contains items e → IsTrue (no_worse (value top) (value e)) =
-        λ e h. not_less (no_worse (value top) (value e)) (no_worse (value e) (value top)) _ (holds_of (λ x. is_lt (open_cmp value place no_worse top x) ≡ false) items e upper h) in
+        λ e h. not_less (no_worse (value top) (value e)) (no_worse (value e) (value top)) (holds_of (λ x. is_lt (open_cmp value no_worse top x) ≡ false) items e upper h) in
         let same : was.1.0 ≡ value top = ordered.antisymmetric was.1.0 (value top) was.1.2 (subst (λ (v : V). IsTrue (no_worse (value top) v)) cover.2 (worse cover.0 cover.1)) in
         record {
           below = was.0;

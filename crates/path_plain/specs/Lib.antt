@@ -1,4 +1,4 @@
 pub mod Opening
 pub mod Order
 pub mod Queue
-pub mod Settling
+pub mod Searching

@@ -1,8 +1,8 @@
 -- The order of the open vertices in a heap.
-use Rattle.std.specs.Prelude.{◌≡◌, ℕ, ◌⊎◌, Bool, true, false, cond, IsTrue}
-use Rattle.std.specs.Ordering.{nat_cmp, ordering_reverse, on, flip_args, then_cmp}
-use Rattle.std.specs.Cmp.{IsTotalOrder, nat_cmp_total}
-use Rattle.std.proofs.lemmas.Cmp.{on_total, then_total, back_total}
+use Rattle.std.specs.Prelude.{◌≡◌, ◌⊎◌, Bool, true, false, cond, IsTrue}
+use Rattle.std.specs.Ordering.{ordering_reverse, on}
+use Rattle.std.specs.Cmp.{IsTotalOrder}
+use Rattle.std.proofs.lemmas.Cmp.{on_total}
 use Rattle.std.specs.declared.cmp.Ordering.{Ordering}
 use Rattle.std.specs.declared.cmp.Ordering.TheVariants.{Less, Equal, Greater}
 use Rattle.std.proofs.Common.{refl, ap, inl, inr}
@@ -57,9 +57,9 @@ module _ {V : Type 0} (no_worse : V → V → Bool) (ordered : IsOrder no_worse)
   pub value_total : IsTotalOrder (value_cmp no_worse)
   value_total = record { antisymm = value_antisymm; trans = value_trans; congr = value_congr }
 
--- entries by their values, and of equal ones the lesser place is the greater
-abbrev pub open_cmp : {K V : Type 0} → (K → V) → (K → ℕ) → (V → V → Bool) → K → K → Ordering
-open_cmp value place no_worse = then_cmp (on value (value_cmp no_worse)) (flip_args (on place nat_cmp))
+-- entries by their values
+abbrev pub open_cmp : {K V : Type 0} → (K → V) → (V → V → Bool) → K → K → Ordering
+open_cmp value no_worse = on value (value_cmp no_worse)
 
-pub open_total : {K V : Type 0} (value : K → V) (place : K → ℕ) (no_worse : V → V → Bool) → IsOrder no_worse → IsTotalOrder (open_cmp value place no_worse)
-open_total value place no_worse ordered = then_total (on_total value (value_total no_worse ordered)) (back_total (on_total place nat_cmp_total))
+pub open_total : {K V : Type 0} (value : K → V) (no_worse : V → V → Bool) → IsOrder no_worse → IsTotalOrder (open_cmp value no_worse)
+open_total value no_worse ordered = on_total value (value_total no_worse ordered)

@@ -9,10 +9,3 @@ pub record IsQueue {K V : Type 0} (value : K → V) (place : K → ℕ) (no_wors
   pub covers : (k : ℕ) (y : V) → k < length labels → slice_index_or settled k false ≡ false →
       slice_index_or labels k None ≡ Some y →
       (e : K) × Contains items e × (value e ≡ y) × (place e ≡ k)
-
--- whatever is settled: what was the queue of the old labels has become that of the new ones
-abbrev pub KeepsQueue : {K V : Type 0} → (K → V) → (K → ℕ) → (V → V → Bool) →
-    List (Option V) → List K → List (Option V) → List K → Type 0
-KeepsQueue value place no_worse labels items labels' items' =
-    (settled : List Bool) → IsQueue value place no_worse labels settled items →
-    IsQueue value place no_worse labels' settled items'

@@ -5,6 +5,7 @@
 
 mod laws;
 mod queue;
+mod search;
 mod solve;
 
 pub use laws::best_values_exist;

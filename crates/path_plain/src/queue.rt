@@ -1,6 +1,6 @@
 //! The queue of open vertices: a heap with the best value on top.
 
-ghost use Rattle.std.specs.Prelude.{◌≡◌, ◌+◌, ◌∷◌, [], length, refl, OnOk, IfSome, IfNone};
+ghost use Rattle.std.specs.Prelude.{◌≡◌, ◌+◌, ◌∷◌, [], length, refl, OnOk, OnErr, IfSome, IfNone};
 ghost use Rattle.std.specs.Cmp.{partial_order_from_total, partial_equiv_from_equiv, eq_by_cmp_equiv};
 ghost use Rattle.std.specs.Ordering.{eq_by_cmp, as_partial_cmp};
 ghost use Rattle.std.specs.BinaryHeap.{heap_items, IsHeap, IsUpperBound};
@@ -16,7 +16,7 @@ use std::marker::Model;
 
 /// A vertex, by its place among the labels, with a value that it was offered.
 ///
-/// Better values are greater, and of equal ones the lesser place is.
+/// Better values are greater, and the place does not count.
 #[derive(Drop)]
 pub(crate) struct Open<A: PathAlgebra> {
     pub(crate) value: A::Value,
@@ -24,9 +24,9 @@ pub(crate) struct Open<A: PathAlgebra> {
 }
 
 impl<A: PathAlgebra> Ord for Open<A> {
-    ghost cmp = { open_cmp (λ o. o.value) (λ o. o.place) A.order };
+    ghost cmp = { open_cmp (λ o. o.value) A.order };
 
-    ghost total = { open_total (λ o. o.value) (λ o. o.place) A.order A.ordered };
+    ghost total = { open_total (λ o. o.value) A.order A.ordered };
 
     ghost matches_partial_cmp = { λ x y. refl };
 
@@ -39,15 +39,15 @@ impl<A: PathAlgebra> Ord for Open<A> {
         } else if !A::no_worse(b, a) {
             Ordering::Greater
         } else {
-            other.place.cmp(&self.place)
+            Ordering::Equal
         }
     }
 }
 
 impl<A: PathAlgebra> PartialOrd for Open<A> {
-    ghost partial_cmp = { as_partial_cmp (open_cmp (λ o. o.value) (λ o. o.place) A.order) };
+    ghost partial_cmp = { as_partial_cmp (open_cmp (λ o. o.value) A.order) };
 
-    ghost laws = { partial_order_from_total (open_total (λ o. o.value) (λ o. o.place) A.order A.ordered) };
+    ghost laws = { partial_order_from_total (open_total (λ o. o.value) A.order A.ordered) };
 
     fn partial_cmp(&self, other: &Self) -> Option<Ordering> {
         Some(self.cmp(other))
@@ -55,9 +55,9 @@ impl<A: PathAlgebra> PartialOrd for Open<A> {
 }
 
 impl<A: PathAlgebra> PartialEq for Open<A> {
-    ghost eq = { eq_by_cmp (open_cmp (λ o. o.value) (λ o. o.place) A.order) };
+    ghost eq = { eq_by_cmp (open_cmp (λ o. o.value) A.order) };
 
-    ghost laws = { partial_equiv_from_equiv (eq_by_cmp_equiv (open_total (λ o. o.value) (λ o. o.place) A.order A.ordered)) };
+    ghost laws = { partial_equiv_from_equiv (eq_by_cmp_equiv (open_total (λ o. o.value) A.order A.ordered)) };
 
     fn eq(&self, other: &Self) -> bool {
         self.cmp(other).is_eq()
@@ -65,7 +65,7 @@ impl<A: PathAlgebra> PartialEq for Open<A> {
 }
 
 impl<A: PathAlgebra> Eq for Open<A> {
-    ghost laws = { eq_by_cmp_equiv (open_total (λ o. o.value) (λ o. o.place) A.order A.ordered) };
+    ghost laws = { eq_by_cmp_equiv (open_total (λ o. o.value) A.order A.ordered) };
 }
 
 /// Open vertices with the values that they were offered, a heap with the best value on top.
@@ -84,7 +84,7 @@ impl<A: PathAlgebra> Model for Queue<A> {
 
     ghost view = { λ q. heap_items q.heap };
 
-    ghost invariant = { λ q. IsHeap (open_cmp (λ o. o.value) (λ o. o.place) A.order) (heap_items q.heap) };
+    ghost invariant = { λ q. IsHeap (open_cmp (λ o. o.value) A.order) (heap_items q.heap) };
 }
 
 impl<A: PathAlgebra> Queue<A> {
@@ -102,6 +102,7 @@ impl<A: PathAlgebra> Queue<A> {
         ensures items { OnOk result
             (IsPermutation (record { value = value; place = place } ∷ self.old) self.new) }
         ensures len { OnOk result (length self.new ≡ length self.old + 1) }
+        ensures kept { OnErr result (self.new ≡ self.old) }
     {
         self.heap
             .push(Open { value, place })
@@ -115,8 +116,9 @@ impl<A: PathAlgebra> Queue<A> {
             (λ x. IsPermutation self.old (record { value = x.0; place = x.1 } ∷ self.new)) }
         ensures len { IfSome result (λ x. length self.new + 1 ≡ length self.old) }
         ensures none { IfNone result (self.old ≡ []) }
+        ensures empty { IfNone result (self.new ≡ []) }
         ensures best { IfSome result
-            (λ x. IsUpperBound (open_cmp (λ o. o.value) (λ o. o.place) A.order) (record { value = x.0; place = x.1 }) self.old) }
+            (λ x. IsUpperBound (open_cmp (λ o. o.value) A.order) (record { value = x.0; place = x.1 }) self.old) }
     {
         let best = self.heap.pop()?;
         Some((best.value, best.place))

@@ -1,12 +1,13 @@
-use Rattle.std.proofs.Common.{◌+◌, ◌*◌, length}
-use Rattle.path_plain.proofs.Rounds.{unsettled}
-use Rattle.path_plain.proofs.Running.{Running}
+use Rattle.std.proofs.Common.{◌≡◌, ◌+◌, ◌*◌, length}
+use Rattle.path_plain.proofs.Rounds.{Between, unsettled}
 use Rattle.path_plain.proofs.solve.solve_from.Given as goal
 
-abbrev pub invariant-loop-best : goal.invariant-loop-best
-invariant-loop-best g l = record {
-  running : Running (λ o. o.value) (λ o. o.place) g.A.PathAlgebra.order (g.A.PathAlgebra.meaning l.algebra) l.graph l.fn.sources l.labels.items l.settled.items l.queue;
+abbrev pub invariant-loop-search : goal.invariant-loop-search
+invariant-loop-search g l = record {
+  algebra : l.search.algebra ≡ l.fn.algebra;
+  graph : l.search.roads ≡ l.graph;
+  between : Between (g.A.PathAlgebra.meaning l.fn.algebra) l.graph l.sources l.search.labels l.search.settled;
 }
 
-abbrev pub decreases-loop-best : goal.decreases-loop-best
-decreases-loop-best g l = unsettled l.settled.items * (length l.graph.arcs + 1) + length l.queue
+abbrev pub decreases-loop-search : goal.decreases-loop-search
+decreases-loop-search g l = unsettled l.search.settled * (length l.graph.arcs + 1) + l.search.waiting

@@ -1,0 +1,60 @@
+-- A search, and how it proceeds.
+use Rattle.std.specs.Prelude.{◌≡◌, ℕ, ◌+◌, ◌<◌, ◌≤◌, ◌⊎◌, List, length, Bool, true, false, Option, None, slice_set}
+use Rattle.road_graph.specs.Roads.{Roads, IsRoads, ListsArcsFrom}
+use Rattle.path_algebra.specs.Algebra.{Algebra}
+use Rattle.path_algebra.specs.Walks.{relaxed}
+use Rattle.path_algebra.specs.Open.{IsBestOpen, AnswersBestOpen}
+use Rattle.path_plain.specs.Queue.{IsQueue}
+
+-- the label of each vertex, which are settled, and how many entries wait in the queue
+pub record SearchState (A V : Type 0) : Type 0 where
+  pub algebra : A
+  pub roads : Roads
+  pub labels : List (Option V)
+  pub settled : List Bool
+  pub waiting : ℕ
+
+-- a label and a mark for each vertex of a graph, and the queue of the open vertices
+pub record IsSearch {K V : Type 0} (value : K → V) (place : K → ℕ) (no_worse : V → V → Bool)
+    (g : Roads) (labels : List (Option V)) (settled : List Bool) (items : List K) : Type 0 where
+  pub roads : IsRoads g
+  pub labels_count : length labels ≡ g.vertices
+  pub settled_count : length settled ≡ g.vertices
+  pub queue : IsQueue value place no_worse labels settled items
+
+-- nothing more is settled, in the same graph by the same algebra
+pub record IsSameSearch {A V : Type 0} (old new : SearchState A V) : Type 0 where
+  pub algebra : new.algebra ≡ old.algebra
+  pub roads : new.roads ≡ old.roads
+  pub settled : new.settled ≡ old.settled
+
+-- the labels after x was extended along each arc that leaves v
+abbrev pub Relaxes : {V : Type 0} → Algebra V → Roads → ℕ → V → List (Option V) → List (Option V) → Type 0
+Relaxes A g v x labels labels' = (numbers : List ℕ) × ListsArcsFrom g v numbers × (labels' ≡ relaxed A g x labels numbers)
+
+-- the best open vertex is settled, and what its arcs improve joins the queue
+pub record Settles {A V : Type 0} (no_worse : V → V → Bool) (meaning : Algebra V) (old new : SearchState A V) : Type 0 where
+  pub index : ℕ
+  pub value : V
+  pub best : IsBestOpen no_worse old.labels old.settled (length old.labels) index value
+  pub marks : new.settled ≡ slice_set old.settled index true
+  pub relaxes : Relaxes meaning old.roads (index + 1) value old.labels new.labels
+  pub few : new.waiting ≤ old.waiting + length old.roads.arcs
+
+-- an entry of a settled vertex is dropped
+pub record Drops {A V : Type 0} (old new : SearchState A V) : Type 0 where
+  pub labels : new.labels ≡ old.labels
+  pub settled : new.settled ≡ old.settled
+  pub fewer : new.waiting < old.waiting
+
+-- one entry is taken, or no open vertex has a label
+abbrev pub Advances : {A V : Type 0} → (V → V → Bool) → Algebra V → Bool → SearchState A V → SearchState A V → Type 0
+Advances no_worse meaning true old new = Settles no_worse meaning old new ⊎ Drops old new
+Advances no_worse meaning false old new =
+    (new.labels ≡ old.labels) × AnswersBestOpen no_worse old.labels old.settled (length old.labels) None
+
+-- a step in the same graph by the same algebra
+pub record Proceeds {A V : Type 0} (no_worse : V → V → Bool) (meaning : Algebra V) (more : Bool) (old new : SearchState A V) : Type 0 where
+  pub algebra : new.algebra ≡ old.algebra
+  pub roads : new.roads ≡ old.roads
+  pub advances : Advances no_worse meaning more old new

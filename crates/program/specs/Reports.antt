@@ -1,21 +1,8 @@
 -- How a command ends: the line that tells a fault, and the exit status.
 use Rattle.std.specs.Prelude.{◌≡◌, ℕ, ◌⊎◌, List, [], ◌∷◌, ◌++◌, Option, Result, Ok, Err, codes, decimal, nat_eq, if◌then◌else◌, ◌||◌}
 use Rattle.road_text.specs.Written.{Left, Fell}
-use Rattle.batch_run.specs.declared.faults.File.{File}
-use Rattle.batch_run.specs.declared.faults.File.TheVariants.{Graph, Questions, Bundle, Answers, NoFile}
 use Rattle.batch_run.specs.declared.faults.RunFault.{RunFault}
-
--- the word for an input, behind a space
-abbrev pub file_text : File → List ℕ
-file_text Graph = codes " graph"
-file_text Questions = codes " questions"
-file_text Bundle = codes " bundle"
-file_text Answers = codes " answers"
-file_text NoFile = []
-
--- the words for a line, where there is one
-abbrev pub line_text : ℕ → List ℕ
-line_text line = if nat_eq line 0 then [] else (codes " line " ++ decimal line)
+use Rattle.batch_run.specs.FaultTexts.{file_text, line_text}
 
 -- the line that tells a fault
 abbrev pub fault_text : RunFault → List ℕ

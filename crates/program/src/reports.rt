@@ -1,22 +1,9 @@
 //! How a fault is told: its line, and the exit status.
 ghost use Rattle.std.specs.Prelude.{◌≡◌};
-ghost use Rattle.program.specs.Reports.{EndsAs, IsTold, fault_text, file_text, status_of};
+ghost use Rattle.program.specs.Reports.{EndsAs, IsTold, fault_text, status_of};
 
-use batch_run::{File, RunFault};
+use batch_run::RunFault;
 use road_text::{Line, RoadWrite, push_number, write_bytes};
-
-/// The word for an input, behind a space.
-fn text_of_file(file: File) -> &'static str
-    ensures { result.now ≡ file_text file }
-{
-    match file {
-        File::Graph => " graph",
-        File::Questions => " questions",
-        File::Bundle => " bundle",
-        File::Answers => " answers",
-        File::NoFile => "",
-    }
-}
 
 /// The line that tells a fault.
 pub(crate) fn line_of_fault(fault: RunFault) -> Line
@@ -25,7 +12,7 @@ pub(crate) fn line_of_fault(fault: RunFault) -> Line
     let mut line = Line::new();
     line.push_str("diffuse: fault ");
     push_number(&mut line, u64::from(fault.number));
-    line.push_str(text_of_file(fault.file));
+    line.push_str(fault.file.text());
     if fault.line != 0 {
         line.push_str(" line ");
         push_number(&mut line, fault.line);

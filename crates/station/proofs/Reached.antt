@@ -15,15 +15,15 @@ use Rattle.station.specs.Gather.{IsGathered, each_shows}
 -- totals that are all n, below the top, are shown as they are
 shown : (T : Totals) (n : ℕ) → n < top → T.sent ≡ n → AreEqualTotals T → tally_of T ≡ each_shows n
 shown T n l e (s, d, a) =
-    let e2 = sym s ∙ e in let e3 = sym d ∙ e2 in let e4 = sym a ∙ e3 in
+    let delivered_is = sym s ∙ e in let signalled_is = sym d ∙ delivered_is in let accepted_is = sym a ∙ signalled_is in
     let kept : (x : ℕ) → x ≡ n → min x top ≡ n = λ x q. omega (arith, q, l) in
     let below : (x : ℕ) → x ≡ n → leb top x ≡ false = λ x q. lt-leb top x (omega (arith, q, l)) in
     λ i. record {
       sent = kept T.sent e i;
-      delivered = kept T.delivered e2 i;
-      signalled = kept T.signalled e3 i;
-      accepted = kept T.accepted e4 i;
-      full = below T.sent e i || below T.delivered e2 i || below T.signalled e3 i || below T.accepted e4 i;
+      delivered = kept T.delivered delivered_is i;
+      signalled = kept T.signalled signalled_is i;
+      accepted = kept T.accepted accepted_is i;
+      full = below T.sent e i || below T.delivered delivered_is i || below T.signalled signalled_is i || below T.accepted accepted_is i;
     }
 
 -- no more arcs have a mark than there are

@@ -161,16 +161,15 @@ module _ {S V : Type 0} where
       d ≡ get_or r.deficits j 0 →
       IsDesk (record p { busy = spread (arcs_out (network_in p.setup) (own_in p.setup p.shard)) (set r.busy i true) false (suc (length p.setup.roads.arcs)) }) (record r { busy = set r.busy i true; deficits = set r.deficits j (d + 1) }) n ns
       × IsClear (record p { busy = spread (arcs_out (network_in p.setup) (own_in p.setup p.shard)) (set r.busy i true) false (suc (length p.setup.roads.arcs)) }) b
-  occupy_keeps p old r n ns v j b i d e D R1 R2 t nz f h =
-      let P = place_at p old v j e R1 in let Q = row_at p old b i e R2 in
+  occupy_keeps p old r n ns v j b i d e D stands lies t nz f h =
+      let P = place_at p old v j e stands in let Q = row_at p old b i e lies in
       let t2 : (network_in p.setup).tail b ≡ v = subst (λ (u : PartData S V). (network_in u.setup).tail b ≡ v) (sym e) t in
       let f2 : get_or p.busy b false ≡ false = subst (λ (u : PartData S V). get_or u.busy b false ≡ false) (sym e) f in
       let m : place_in p.setup ((network_in p.setup).tail b) ≡ p.shard = ap (place_in p.setup) (t2 ∙ sym P.vertex) ∙ own_placed p.setup p.shard j P.inside (λ w. nz (sym P.vertex ∙ w)) in
       let l : b < length p.busy = (let w = table_long (arcs_out (network_in p.setup) (own_in p.setup p.shard)) r.busy p.busy false (suc (length p.setup.roads.arcs)) D.seen.busy in let z = arc_below p b i Q in omega (arith, w, z)) in
       let O = occupy_sound p b D.sound l m f2 in
-      let d2 : d ≡ get_or r.deficits j 0 = h in
       let z = ap one_if f2 in (
-        keep_busy p r n ns v j b i true (d + 1) D P Q t2 (omega (arith, d2, z)) O.0,
+        keep_busy p r n ns v j b i true (d + 1) D P Q t2 (omega (arith, h, z)) O.0,
         subst (λ (ys : List Bool). IsClear (record p { busy = ys }) b) (sym (busy_written p r n ns b i true D Q)) O.1,
       )
 
@@ -184,23 +183,21 @@ module _ {S V : Type 0} where
   pub deficit_few : (p old : PartData S V) (r : Rows V) (n : ℕ) (ns : List ℕ) (v j d : ℕ) → p ≡ old → IsDesk p r n ns → IsPlace old v j → d ≡ get_or r.deficits j 0 → d ≤ 2 ^ 27 + 1
   deficit_few p old r n ns v j d e D R h =
       let P = place_at p old v j e R in
-      let d2 : d ≡ get_or r.deficits j 0 = h in
       let c = D.counts j P.inside in let m = busy_most (network_in p.setup) (get_or (own_in p.setup p.shard) j 0) (state_in p) (suc (length p.setup.roads.arcs)) in
-      let a = D.planned.roads.few_arcs in omega (arith, d2, c, m, a)
+      let a = D.planned.roads.few_arcs in omega (arith, h, c, m, a)
 
   pub free_keeps : (p old : PartData S V) (r : Rows V) (n : ℕ) (ns : List ℕ) (v j a i d : ℕ) → p ≡ old → IsDesk p r n ns → IsPlace old v j → IsRow old a i → (network_in old.setup).tail a ≡ v → place_in old.setup v ≡ old.shard → IsClear old a →
       d ≡ get_or r.deficits j 0 →
       (1 ≤ d) × IsDesk (record p { busy = spread (arcs_out (network_in p.setup) (own_in p.setup p.shard)) (set r.busy i false) false (suc (length p.setup.roads.arcs)) }) (record r { busy = set r.busy i false; deficits = set r.deficits j (d - 1) }) n ns
-  free_keeps p old r n ns v j a i d e D R1 R2 t m z h =
-      let P = place_at p old v j e R1 in let Q = row_at p old a i e R2 in
+  free_keeps p old r n ns v j a i d e D stands lies t m z h =
+      let P = place_at p old v j e stands in let Q = row_at p old a i e lies in
       let t2 : (network_in p.setup).tail a ≡ v = subst (λ (u : PartData S V). (network_in u.setup).tail a ≡ v) (sym e) t in
       let m2 : place_in p.setup v ≡ p.shard = subst (λ (u : PartData S V). place_in u.setup v ≡ u.shard) (sym e) m in
       let z2 : IsClear p a = subst (λ (u : PartData S V). IsClear u a) (sym e) z in
       let f2 = clear_busy p a (ap (place_in p.setup) t2 ∙ m2) z2 in
       let l : a < length p.busy = (let w = table_long (arcs_out (network_in p.setup) (own_in p.setup p.shard)) r.busy p.busy false (suc (length p.setup.roads.arcs)) D.seen.busy in let y = arc_below p a i Q in omega (arith, w, y)) in
-      let d2 : d ≡ get_or r.deficits j 0 = h in
       let one = ap one_if f2 in
       let c = D.counts j P.inside in
       let y = busy_here p (get_or (own_in p.setup p.shard) j 0) a false (suc (length p.setup.roads.arcs)) (arc_below p a i Q) l (t2 ∙ sym P.vertex) in
-      let low : 1 ≤ d = omega (arith, d2, c, y, one) in
-      (low, keep_busy p r n ns v j a i false (d - 1) D P Q t2 (omega (arith, d2, one, low)) (free_sound p a D.sound l z2))
+      let low : 1 ≤ d = omega (arith, h, c, y, one) in
+      (low, keep_busy p r n ns v j a i false (d - 1) D P Q t2 (omega (arith, h, one, low)) (free_sound p a D.sound l z2))

@@ -9,7 +9,7 @@ SOURCES = ["roads", "heap_dijkstra", "diffusing", "measure"]
 SEED = 1
 
 # How many sources the question files have.
-FEW, MANY = 5, 1024
+FOUR, FEW, MANY = 4, 5, 1024
 
 
 def stop(message):
@@ -63,7 +63,8 @@ class Files:
 
     def at(self, stem):
         self.graph, self.one_source, self.no_question = stem + ".gr", stem + ".one.ss", stem + ".none.ss"
-        self.few_sources, self.pairs, self.one_list = stem + ".few.ss", stem + ".p2p", stem + ".ms"
+        self.four_sources, self.few_sources = stem + ".four.ss", stem + ".few.ss"
+        self.pairs, self.one_list = stem + ".p2p", stem + ".ms"
 
     def warm(self):
         """Reads the graphs once, so that no round waits for the disk."""
@@ -87,8 +88,8 @@ class Roads(Files):
         self.marked = stem + ".marked.gr" if for_peer else None
         kinds = [self.kind] if self.kind else []
         self.write(self.graph, roads, ["graph", str(self.vertices), str(self.arcs), str(SEED)] + kinds)
-        for path, kind, count in ((self.one_source, "ss", 1), (self.no_question, "ss", 0), (self.few_sources, "ss", FEW),
-                                  (self.pairs, "p2p", FEW)):
+        for path, kind, count in ((self.one_source, "ss", 1), (self.no_question, "ss", 0), (self.four_sources, "ss", FOUR),
+                                  (self.few_sources, "ss", FEW), (self.pairs, "p2p", FEW)):
             self.write(path, roads, [kind, str(self.vertices), str(count), str(SEED)])
         if not is_newer(self.one_list, roads):
             many = subprocess.run([roads, "ss", str(self.vertices), str(MANY), str(SEED)], stdout=subprocess.PIPE, check=True)

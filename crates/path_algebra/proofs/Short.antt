@@ -3,18 +3,9 @@ use Rattle.std.proofs.Common.{◌≡◌, ℕ, zero, suc, ◌+◌, ◌*◌, ◌<�
 use Rattle.std.proofs.lemmas.Bool.{cases_eq}
 use Rattle.std.specs.Prelude.{Contains}
 use Rattle.road_graph.specs.Roads.{Roads, IsRoads, HasArc, HasVertex, arc_of}
+use Rattle.road_graph.proofs.Lists.{not_in_empty, here, later, head_or_tail}
 use Rattle.path_algebra.specs.Given.{shortest}
 use Rattle.path_algebra.specs.Walks.{IsWalk, Extends, IsBest, sum_of_weights, IsLeastSum}
-
-here : (x : ℕ) (xs : List ℕ) → Contains (x ∷ xs) x
-here x xs = (0, omega arith, refl)
-
-later : (x c : ℕ) (xs : List ℕ) → Contains xs c → Contains (x ∷ xs) c
-later x c xs h = (suc h.0, (let l : h.0 < length xs = h.1 in omega arith), h.2)
-
-head_or_tail : (a b : ℕ) (rest : List ℕ) → Contains (a ∷ rest) b → (a ≡ b) ⊎ Contains rest b
-head_or_tail a b rest (zero, h, e) = inl e
-head_or_tail a b rest (suc k, h, e) = inr (k, omega arith, e)
 
 -- the list without the first u
 remove : ℕ → List ℕ → List ℕ
@@ -23,7 +14,7 @@ remove u (x ∷ xs) = cond (eqb x u) xs (x ∷ remove u xs)
 
 kept : (u w : ℕ) (xs : List ℕ) → Contains xs w → (w ≡ u → ⊥) → Contains (remove u xs) w
 unfolding remove
-kept u w [] h ne = let l : h.0 < 0 = h.1 in absurd (omega arith)
+kept u w [] h ne = absurd (not_in_empty w h)
 kept u w (x ∷ xs) h ne = elim (cases_eq x u) [
   | inl same ↦ rw (eq-eqb x u same) (elim (head_or_tail x w xs h) [ inl e ↦ absurd (ne (sym e ∙ same)) | inr r ↦ r ])
   | inr other ↦ rw (ne_eqb x u other) (elim (head_or_tail x w xs h) [
@@ -34,7 +25,7 @@ kept u w (x ∷ xs) h ne = elim (cases_eq x u) [
 
 shorter : (u : ℕ) (xs : List ℕ) → Contains xs u → length (remove u xs) + 1 ≡ length xs
 unfolding remove
-shorter u [] h = let l : h.0 < 0 = h.1 in absurd (omega arith)
+shorter u [] h = absurd (not_in_empty u h)
 shorter u (x ∷ xs) h = elim (cases_eq x u) [
   | inl same ↦ rw (eq-eqb x u same) (omega arith)
   | inr other ↦ elim (head_or_tail x u xs h) [

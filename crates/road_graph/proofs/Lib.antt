@@ -1,3 +1,5 @@
+pub mod Lists
+pub mod Options
 pub mod Numbers
 pub mod Counting
 pub mod Placing

@@ -1,12 +1,11 @@
 -- What is read of a row.
-use Rattle.std.proofs.Common.{◌≡◌, ℕ, ◌+◌, ◌-◌, List, take, drop, get_or, map, refl, ap, ◌∙◌, arith}
+use Rattle.std.proofs.Common.{◌≡◌, ℕ, ◌+◌, ◌-◌, List, take, drop, get_or, refl, arith}
 use Rattle.std.specs.List.{drop-map, take-map}
-use Rattle.std.proofs.lemmas.List.{get_or-map}
 use Rattle.road_graph.specs.declared.OutRoad.{OutRoad}
 use Rattle.road_graph.specs.declared.Side.{Side}
 use Rattle.road_graph.specs.declared.Side.TheVariants.{Tail, Head}
-use Rattle.road_graph.specs.Roads.{Roads, HasVertex, HasArc, ListsArcsFrom, ListsArcsInto, ListsRoadsFrom, roads_of, road_of, arc_of}
-use Rattle.road_graph.specs.Making.{numbers_at, AreRows, end_of}
+use Rattle.road_graph.specs.Roads.{Roads, HasVertex, ListsArcsFrom, ListsArcsInto, ListsRoadsFrom, roads_of, road_of, arc_of}
+use Rattle.road_graph.specs.Making.{numbers_at, AreRows}
 use Rattle.road_graph.proofs.Numbers.{lists_from, lists_into}
 
 module _ (g : Roads) (v : ℕ) (in_v : HasVertex g v) (starts numbers : List ℕ) (start past : ℕ) (from : start ≡ get_or starts (v - 1) 0) (to : past ≡ get_or starts v 0) where
@@ -27,8 +26,3 @@ module _ (g : Roads) (v : ℕ) (in_v : HasVertex g v) (starts numbers : List ℕ
     row_lists_from numbers refl known,
     rw (is, drop-map (λ a. road_of (arc_of g a)) start numbers, take-map (λ a. road_of (arc_of g a)) (past - start) (drop start numbers)) refl,
   )
-
--- the tail of an arc, among those of all arcs
-pub tail_is : (g : Roads) (tails : List ℕ) (a v : ℕ) → HasArc g a → tails ≡ map (end_of Tail) g.arcs → v ≡ get_or tails (a - 1) v → v ≡ (arc_of g a).tail
-tail_is g tails a v in_g is stored =
-    stored ∙ ap (λ xs. get_or xs (a - 1) v) is ∙ get_or-map (end_of Tail) g.arcs (a - 1) (record { tail = 0; head = 0; weight = 0 }) v (omega (arith, in_g.0, in_g.1))

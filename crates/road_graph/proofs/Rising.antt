@@ -4,7 +4,7 @@ use Rattle.std.proofs.Math.Nat.{eq-or-lt_of_le}
 use Rattle.std.proofs.lemmas.Bool.{cases_lt}
 use Rattle.road_graph.specs.Roads.{IsAscendingFrom}
 
-above : (low : ℕ) (xs : List ℕ) (j : ℕ) → IsAscendingFrom low xs → j < length xs → low < get_or xs j 0
+pub above : (low : ℕ) (xs : List ℕ) (j : ℕ) → IsAscendingFrom low xs → j < length xs → low < get_or xs j 0
 above low [] j h lt = absurd (omega arith)
 above low (x ∷ xs) zero h lt = h.0
 above low (x ∷ xs) (suc j) h lt = let more : x < get_or xs j 0 = above x xs j h.1 (omega arith) in omega (arith, more, h.0)

@@ -1,8 +1,9 @@
 -- The network of a graph is well formed, and its arcs are the graph's.
-use Rattle.std.proofs.Common.{◌≡◌, ◌≢◌, ℕ, zero, suc, ◌-◌, ◌<◌, ◌≤◌, List, [], ◌∷◌, length, get_or, subst, refl, sym, ap, ◌∙◌, inl, inr, arith}
+use Rattle.std.proofs.Common.{◌≡◌, ◌≢◌, ℕ, zero, suc, ◌-◌, ◌<◌, ◌≤◌, List, length, get_or, subst, refl, sym, ap, ◌∙◌, inl, inr, arith}
 use Rattle.std.proofs.lemmas.Bool.{cases_eq, cases_lt}
 use Rattle.std.proofs.lemmas.List.{get_or_past, get_or_default}
-use Rattle.road_graph.specs.Roads.{Roads, IsRoads, HasArc, arc_of, ListsArcsFrom, IsAscendingFrom}
+use Rattle.road_graph.specs.Roads.{Roads, IsRoads, HasArc, arc_of, ListsArcsFrom}
+use Rattle.road_graph.proofs.Rising.{rises}
 use Rattle.scholten_core.specs.CoreView.{CoreView, network_of}
 use Rattle.scholten_core.specs.Network.{Network, WellFormed, network, tail_of, head_of, weight_of}
 
@@ -60,17 +61,6 @@ pub record OutOf (N : Network) (v : ℕ) (xs : List ℕ) : Type 0 where
   pub all : (b : ℕ) → N.tail b ≡ v → (j : ℕ) × (j < length xs) × (get_or xs j 0 ≡ b)
   pub apart : (j k : ℕ) → j < k → k < length xs → get_or xs j 0 ≢ get_or xs k 0
 
-above : (low : ℕ) (xs : List ℕ) → IsAscendingFrom low xs → (j : ℕ) → j < length xs → low < get_or xs j 0
-above low [] h j l = absurd (omega (arith, l))
-above low (x ∷ xs) h zero l = h.0
-above low (x ∷ xs) h (suc j) l = let a = above x xs h.1 j (omega (arith, l)) in let b = h.0 in omega (arith, a, b)
-
-ascends : (low : ℕ) (xs : List ℕ) → IsAscendingFrom low xs → (j k : ℕ) → j < k → k < length xs → get_or xs j 0 < get_or xs k 0
-ascends low [] h j k l m = absurd (omega (arith, m))
-ascends low (x ∷ xs) h j zero l m = absurd (omega (arith, l))
-ascends low (x ∷ xs) h zero (suc k) l m = above x xs h.1 k (omega (arith, m))
-ascends low (x ∷ xs) h (suc j) (suc k) l m = ascends x xs h.1 j k (omega (arith, l)) (omega (arith, m))
-
 pub out_of : (g : Roads) (s v : ℕ) (xs : List ℕ) → 1 ≤ v → ListsArcsFrom g v xs → OutOf (network g s) v xs
 out_of g s v xs l o =
     let leads = λ (j : ℕ) (h : j < length xs). (o.complete (get_or xs j 0)).0 (j, h, get_or_default xs j (get_or xs j 0) 0 h) in
@@ -81,7 +71,7 @@ out_of g s v xs l o =
       all = λ b e. let r = real_arc g b (λ z. let w : v ≡ 0 = sym e ∙ z in omega arith) in
           let c = (o.complete b).1 (r, sym (tail-arc g b r.0) ∙ e) in
           (c.0, c.1, get_or_default xs c.0 0 b c.1 ∙ c.2);
-      apart = λ j k h m e. let a = ascends 0 xs o.ascending j k h m in omega (arith, a, e);
+      apart = λ j k h m e. let a = rises 0 xs j k o.ascending h m in omega (arith, a, e);
     }
 
 pub out_at : {S V : Type 0} (t old : CoreView S V) (v : ℕ) (xs : List ℕ) → t ≡ old → 1 ≤ v → ListsArcsFrom t.problem.roads v xs → OutOf (network_of old) v xs

@@ -1,18 +1,12 @@
 -- The walks of a network are the walks of its graph, with the same values.
-use Rattle.std.proofs.Common.{◌≡◌, ℕ, zero, suc, ◌<◌, Option, Some, None, List, [], ◌∷◌, get_or, Contains, refl, sym, ap, ◌∙◌, subst, arith}
+use Rattle.std.proofs.Common.{◌≡◌, ℕ, ◌<◌, Option, Some, None, List, [], ◌∷◌, refl, sym, ap, ◌∙◌, subst, arith}
 use Rattle.road_graph.specs.Roads.{Roads, IsRoads, arc_of}
+use Rattle.road_graph.proofs.Lists.{only_element}
 use Rattle.path_algebra.specs.Algebra.{Algebra}
 use Rattle.path_algebra.specs.Walks.{IsWalk, Extends, IsWalkValue}
 use Rattle.scholten_core.specs.Network.{network}
 use Rattle.scholten_core.proofs.Networks.{tail-arc, head-arc, weight-arc, real_arc}
 use Rattle.scholten_core.proofs.Walks.{Walk, along, along-none, IsValueAt}
-
-only_source : (s u : ℕ) → Contains (s ∷ []) u → s ≡ u
-only_source s u c = go c.0 c.1 c.2
-  where
-    go : (k : ℕ) → k < 1 → get_or (s ∷ []) k u ≡ u → s ≡ u
-    go zero l e = e
-    go (suc k) l e = absurd (omega (arith, l))
 
 module _ {V : Type 0} (A : Algebra V) (g : Roads) (s : ℕ) where
   walk_of_graph : (u : ℕ) (p : List ℕ) (v : ℕ) → Walk A (network g s) u p v → IsWalk g u p v
@@ -50,5 +44,5 @@ module _ {V : Type 0} (A : Algebra V) (g : Roads) (s : ℕ) where
 
   pub value_in_network : IsRoads g → (v : ℕ) (x : V) → IsWalkValue A g (s ∷ []) v x → IsValueAt A (network g s) v x
   value_in_network R v x h =
-      let w : IsWalk g s h.0 v = subst (λ u. IsWalk g u h.0 v) (sym (only_source s h.1.0 h.1.1)) h.1.2 in
+      let w : IsWalk g s h.0 v = subst (λ u. IsWalk g u h.0 v) (sym (only_element s h.1.0 h.1.1)) h.1.2 in
       (h.0, walk_of_network R s h.0 v w, along_extends s h.0 v A.origin x w h.2)

@@ -3,6 +3,7 @@ use Rattle.std.proofs.Common.{◌≡◌, ◌≢◌, ℕ, zero, suc, ◌+◌, ◌
 use Rattle.std.specs.Prelude.{slice_get, IsTrue, ◌↔◌}
 use Rattle.std.proofs.lemmas.Bool.{cases_eq, leb-true, le-leb, false≢true}
 use Rattle.std.proofs.lemmas.Bool.Decides.{leb_tells}
+use Rattle.std.proofs.lemmas.List.{drop_all, drop_more, length-map}
 use Rattle.path_algebra.specs.Algebra.{Algebra}
 use Rattle.scholten_core.specs.declared.item.Item.{Item}
 use Rattle.scholten_core.specs.Items.{item_arc}
@@ -10,7 +11,7 @@ use Rattle.scholten_core.specs.Sums.{one_if}
 use Rattle.shard_part.specs.PartState.{PartData, total, counted, is, part_weight, outs_weight}
 use Rattle.shard_part.specs.Desk.{Rows, IsDesk}
 use Rattle.shard_part.specs.Exchange.{Fits, FitsAlone, FitsBefore}
-use Rattle.shard_part.proofs.Rings.{map_read, map_long}
+use Rattle.shard_part.proofs.Rings.{map_read}
 
 pub none_of : (n : ℕ) → leb 1 n ≡ false → n ≡ 0
 none_of n e = elim (leb_tells 1 n) [ inl t ↦ absurd (let q = sym e ∙ t.0 in cc) | inr f ↦ (let l = f.1 in omega (arith, l)) ]
@@ -28,12 +29,6 @@ drop_item {X = X} xs i x e = go xs i e ∙ ap (λ n. x ∷ drop n xs) (let z : s
     go (y ∷ xs) zero e = let q : Some y ≡ Some x = e in let r : y ≡ x = cc in ap (λ z. z ∷ xs) r
     go (y ∷ xs) (suc i) e = go xs i e
 
-pub drop_past : {X : Type 0} (xs : List X) (i : ℕ) → length xs ≤ i → drop i xs ≡ []
-drop_past [] zero l = refl
-drop_past [] (suc i) l = refl
-drop_past (x ∷ xs) zero l = absurd (omega arith)
-drop_past (x ∷ xs) (suc i) l = drop_past xs i (omega arith)
-
 pub drop_none : {X : Type 0} (xs : List X) → drop 0 xs ≡ xs
 drop_none [] = refl
 drop_none (x ∷ xs) = refl
@@ -46,15 +41,6 @@ got_none {X = X} xs i n o g z l e = go xs i (sym g ∙ z) (omega (arith, l, e))
     go [] i q l = omega (arith, l)
     go (x ∷ xs) zero q l = let r : Some x ≡ None = q in cc
     go (x ∷ xs) (suc i) q l = go xs i q (omega (arith, l))
-
--- the outboxes from an index on
-pub drop_read : {X : Type 0} (xs : List X) (i : ℕ) (d : X) → i < length xs → drop i xs ≡ get_or xs i d ∷ drop (i + 1) xs
-drop_read {X = X} xs i d l = go xs i l ∙ ap (λ n. get_or xs i d ∷ drop n xs) (let z : suc i ≡ i + 1 = omega arith in z)
-  where
-    go : (xs : List X) (i : ℕ) → i < length xs → drop i xs ≡ get_or xs i d ∷ drop (suc i) xs
-    go [] i l = absurd (omega (arith, l))
-    go (x ∷ xs) zero l = refl
-    go (x ∷ xs) (suc i) l = go xs i (omega (arith, l))
 
 -- while another ring still has an item, there is room for it
 pub append_room : {X : Type 0} (own other own_first other_first : List X) (x : X) (capacity first : ℕ) → own ++ other ≡ own_first ++ other_first → capacity ≡ first → length own_first + length other_first ≤ first → Some x ≡ slice_get other 0 → length own < capacity
@@ -112,7 +98,7 @@ module _ {S V : Type 0} (A : Algebra V) (p : PartData S V) where
   each_rest batch i x e F = let G = subst FitsEach (drop_item batch i x e) F in (G.0, G.1)
 
   pub each_done : (batch : List (Item V)) (i : ℕ) → length batch ≤ i → FitsEach (drop i batch)
-  each_done batch i l = subst FitsEach (sym (drop_past batch i l)) tt
+  each_done batch i l = subst FitsEach (sym (drop_all i batch l)) tt
 
   -- what the tests tell
   pub before_twice : (i : Item V) (rest : List (Item V)) (a : ℕ) (x : Bool) → a ≡ item_arc i → x ≡ leb 1 (counted a rest) → x ≡ true → IsTrue false ↔ FitsBefore A p i rest
@@ -156,8 +142,8 @@ module _ {S V : Type 0} (b : ℕ) (p : PartData S V) where
   -- the outbox at an index, as its ring
   out_at : {X : Type 0} (its : X → List (Item V)) (rs : List X) (k : ℕ) (x : X) → map its rs ≡ p.outs → k < length rs → x ≡ get_or rs k x → drop k p.outs ≡ its x ∷ drop (k + 1) p.outs
   out_at its rs k x e l h =
-      let n : k < length p.outs = (let a = map_long its rs in let c = ap length e in omega (arith, a, c, l)) in
-      drop_read p.outs k [] n ∙ ap (λ o. o ∷ drop (k + 1) p.outs) (ap (λ os. get_or os k []) (sym e) ∙ map_read its rs k [] x l h)
+      let n : k < length p.outs = (let a = length-map rs its in let c = ap length e in omega (arith, a, c, l)) in
+      drop_more p.outs k [] n ∙ ap (λ o. o ∷ drop (k + 1) p.outs) (ap (λ os. get_or os k []) (sym e) ∙ map_read its rs k [] x l h)
 
   pub carried_out : {X : Type 0} (its : X → List (Item V)) (rs : List X) (k : ℕ) (x : X) (y : Bool) → map its rs ≡ p.outs → k < length rs → x ≡ get_or rs k x → outs_counted b p.outs ≡ outs_counted b (drop k p.outs) → y ≡ leb 1 (counted b (drop 0 (its x))) → y ≡ true →
       true ≡ leb 1 (part_weight (λ _ j. is b (item_arc j)) p)
@@ -172,5 +158,5 @@ module _ {S V : Type 0} (b : ℕ) (p : PartData S V) where
 
   pub carried_none : {X : Type 0} (its : X → List (Item V)) (rs : List X) (k : ℕ) → map its rs ≡ p.outs → length rs ≤ k → counted b p.queue ≡ 0 → outs_counted b p.outs ≡ outs_counted b (drop k p.outs) → false ≡ leb 1 (part_weight (λ _ j. is b (item_arc j)) p)
   carried_none its rs k e l z i =
-      let n : length p.outs ≤ k = (let a = map_long its rs in let c = ap length e in omega (arith, a, c, l)) in
-      let d = ap (outs_counted b) (drop_past p.outs k n) in let c = counted_in b p in sym (is_none (part_weight (λ _ j. is b (item_arc j)) p) (omega (arith, z, i, d, c)))
+      let n : length p.outs ≤ k = (let a = length-map rs its in let c = ap length e in omega (arith, a, c, l)) in
+      let d = ap (outs_counted b) (drop_all k p.outs n) in let c = counted_in b p in sym (is_none (part_weight (λ _ j. is b (item_arc j)) p) (omega (arith, z, i, d, c)))

@@ -2,10 +2,10 @@
 use Rattle.std.proofs.Common.{◌≡◌, ℕ, zero, suc, ◌+◌, ◌<◌, ◌≤◌, Bool, true, false, cond, eqb, List, [], ◌∷◌, ◌++◌, length, length-append, get_or, take, refl, sym, ap, ◌∙◌, inl, inr, arith, eq-eqb, ne_eqb}
 use Rattle.std.proofs.lemmas.Bool.{cases_eq, cases_lt, cases_Bool, cond-true, cond-false}
 use Rattle.scholten_core.specs.Network.{Network}
-use Rattle.scholten_core.specs.Sums.{sum_below, one_if}
+use Rattle.scholten_core.specs.Sums.{sum_below}
 use Rattle.shard_part.specs.Tables.{placed}
 use Rattle.shard_part.specs.PartState.{total, arcs_from, outgoing, arcs_out}
-use Rattle.scholten_core.proofs.Sums.{sum_zero, sum_ones, sum_add, sum_most, sum_at}
+use Rattle.scholten_core.proofs.Sums.{sum_zero, sum_ones, sum_add, sum_most}
 
 module _ {X : Type 0} (f : X → ℕ) where
   -- one more of a list
@@ -58,10 +58,6 @@ sum_swap f (suc m) n = let p = sum_swap f m n in let q = sum_add (f m) (λ b. su
 pub total_swap : (f : ℕ → ℕ → ℕ) (vs : List ℕ) (n : ℕ) → total (λ v. sum_below (f v) n) vs ≡ sum_below (λ b. total (λ v. f v b) vs) n
 total_swap f [] n = sym (sum_zero (λ b. 0) n (λ k. refl))
 total_swap f (v ∷ vs) n = let p = total_swap f vs n in let q = sum_add (f v) (λ b. total (λ v. f v b) vs) n in omega (arith, p, q)
-
--- where just one number counts
-pub sum_one : (w m : ℕ) → w < m → sum_below (λ t. one_if (eqb w t)) m ≡ 1
-sum_one w m l = let d = sum_at (λ t. one_if (eqb w t)) (λ t. 0) w m l (λ j n. ap one_if (ne_eqb w j (λ e. n (sym e)))) in let z = sum_zero (λ t. 0) m (λ k. refl) in let o = ap one_if (eq-eqb w w refl) in omega (arith, d, z, o)
 
 -- the arcs out of one vertex, among all
 pub total_arcs : (N : Network) (f : ℕ → ℕ) (v k n : ℕ) → sum_below (λ b. cond (eqb (N.tail b) v) (f b) 0) k + total f (arcs_from N v k n) ≡ sum_below (λ b. cond (eqb (N.tail b) v) (f b) 0) (k + n)

@@ -48,7 +48,8 @@ module _ {S V : Type 0} (A : Algebra V) (t : Setup S) (P : IsPlanned t 0) where
     | inr w ↦ (let e = w.0 in let z = w.1 in let r = weights_all h (suc k) n (omega (arith, l)) (omega (arith, a, e)) (omega (arith, b)) in omega (arith, z, r))
   ]
 
-  shards_past : (j k n : ℕ) → j < k → total (λ (p : PartData S V). is j p.shard) (opened_parts A t k n) ≡ 0
+  -- no shard before the first has a part
+  pub shards_past : (j k n : ℕ) → j < k → total (λ (p : PartData S V). is j p.shard) (opened_parts A t k n) ≡ 0
   shards_past j k zero l = refl
   shards_past j k (suc n) l = let r = shards_past j (suc k) n (omega (arith, l)) in let z = ap one_if (ne_eqb j k (λ e. omega (arith, e, l))) in omega (arith, r, z)
 

@@ -2,6 +2,7 @@
 use Rattle.std.proofs.Common.{◌≡◌, ◌≢◌, ℕ, zero, suc, ◌+◌, ◌-◌, ◌<◌, ◌≤◌, Bool, true, false, not, ◌&&◌, eqb, Option, Some, None, List, [], ◌∷◌, ◌++◌, length, set, get_or, map, ◌⊎◌, inl, inr, refl, sym, ap, ◌∙◌, subst, arith, eqb-true, eq-eqb, ne_eqb, length-set, get_or-set_other}
 use Rattle.std.specs.Prelude.{IsTrue, ◌↔◌}
 use Rattle.std.proofs.lemmas.Bool.{cases_eq, false≢true}
+use Rattle.std.proofs.lemmas.List.{length-map, map-set}
 use Rattle.circular_buffer.specs.Buffer.{Buffer, buffer}
 use Rattle.path_algebra.specs.Algebra.{Algebra}
 use Rattle.road_graph.specs.Roads.{IsRoads, HasArc, arc_of}
@@ -20,7 +21,7 @@ use Rattle.shard_part.proofs.Routed.{outs_none}
 use Rattle.shard_part.proofs.Showing.{all_append}
 use Rattle.shard_part.proofs.RingsSuffice.{sound_fits}
 use Rattle.shard_part.proofs.Moves.{formed}
-use Rattle.shard_part.proofs.Rings.{map_read, map_write, map_kept, map_long, with_queue, with_outs}
+use Rattle.shard_part.proofs.Rings.{map_read, map_kept, with_queue, with_outs}
 use Rattle.shard_part.proofs.Opened.{arcs_first}
 
 module _ {S V : Type 0} where
@@ -77,8 +78,8 @@ module _ {S V : Type 0} where
   swap_leaves its caps rs p old r n to x new e D o ne lt read empty cap =
       let many : to < p.setup.plan.shards = subst (λ (u : PartData S V). to < u.setup.plan.shards) (sym e) lt in
       let other : to ≢ p.shard = subst (λ (u : PartData S V). to ≢ u.shard) (sym e) ne in
-      let inside : to < length rs = (let a = D.roomy.boxes in let b = ap length o in let c = map_long its rs in omega (arith, a, b, c, many)) in
-      let outs : map its (set rs to new) ≡ set p.outs to [] = map_write its rs to new ∙ (λ i. set (sym o i) to (empty i)) in
+      let inside : to < length rs = (let a = D.roomy.boxes in let b = ap length o in let c = length-map rs its in omega (arith, a, b, c, many)) in
+      let outs : map its (set rs to new) ≡ set p.outs to [] = map-set its rs to new ∙ (λ i. set (sym o i) to (empty i)) in
       let was : caps x ≡ caps new = sym (map_read caps rs to 0 x inside read) ∙ D.roomy.outs to other many ∙ ap (λ (u : PartData S V). out_room (network_in u.setup) (place_in u.setup) u.shard to) e ∙ sym cap in
       let ns : map caps (set rs to new) ≡ map caps rs = map_kept caps rs to x new inside read (sym was) in (
         subst (λ (ys : List (List (Item V))). IsDesk (record p { outs = ys }) r n (map caps (set rs to new))) (sym outs)

@@ -2,6 +2,7 @@
 use Rattle.std.proofs.Common.{◌≡◌, ◌≢◌, ℕ, zero, suc, ◌<◌, ◌≤◌, eqb, Option, Some, None, List, [], ◌∷◌, ◌++◌, length, length-append, set, get_or, drop, map, refl, sym, ap, ◌∙◌, subst, arith, eq-eqb, ne_eqb, length-set, get_or-set_same}
 use Rattle.std.specs.Prelude.{slice_get, IfSome}
 use Rattle.std.proofs.lemmas.Bool.{cond-true, cond-false}
+use Rattle.std.proofs.lemmas.List.{length-map, map-set}
 use Rattle.circular_buffer.specs.Buffer.{Buffer, buffer}
 use Rattle.scholten_core.specs.declared.item.Item.{Item}
 use Rattle.path_algebra.specs.Algebra.{Algebra}
@@ -17,15 +18,6 @@ pub map_read : {X Y : Type 0} (f : X → Y) (rs : List X) (k : ℕ) (d : Y) (x :
 map_read f [] k d x l e = absurd (omega (arith, l))
 map_read f (r ∷ rs) zero d x l e = ap f (sym e)
 map_read f (r ∷ rs) (suc k) d x l e = map_read f rs k d x (omega (arith, l)) e
-
-pub map_write : {X Y : Type 0} (f : X → Y) (rs : List X) (k : ℕ) (x : X) → map f (set rs k x) ≡ set (map f rs) k (f x)
-map_write f [] k x = refl
-map_write f (r ∷ rs) zero x = refl
-map_write f (r ∷ rs) (suc k) x = ap (λ ys. f r ∷ ys) (map_write f rs k x)
-
-pub map_long : {X Y : Type 0} (f : X → Y) (rs : List X) → length (map f rs) ≡ length rs
-map_long f [] = refl
-map_long f (r ∷ rs) = ap suc (map_long f rs)
 
 pub map_kept : {X : Type 0} (f : X → ℕ) (rs : List X) (k : ℕ) (x new : X) → k < length rs → x ≡ get_or rs k x → f new ≡ f x → map f (set rs k new) ≡ map f rs
 map_kept f [] k x new l e q = refl
@@ -114,7 +106,7 @@ module _ {S V : Type 0} where
     pub there_in : {X : Type 0} (its : X → List (Item V)) (rs : List X) (p old : PartData S V) (r : Rows V) (n : ℕ) (ns : List ℕ) (i : Item V) (to : ℕ) → p ≡ old → IsDesk p r n ns → p.outs ≡ map its rs → to ≡ place_in old.setup (vertex_of (network_in old.setup) i) → to < length rs
     there_in its rs p old r n ns i to e D o t =
         let w : to < length p.outs = subst (λ k. k < length p.outs) (sym (t ∙ ap (λ (u : PartData S V). place_in u.setup (vertex_of (network_in u.setup) i)) (sym e))) (D.sound.wide (vertex_of (network_in p.setup) i)) in
-        let q = ap length o in let l = map_long its rs in omega (arith, w, q, l)
+        let q = ap length o in let l = length-map rs its in omega (arith, w, q, l)
 
     pub put_there_leaves : {X : Type 0} (its : X → List (Item V)) (caps : X → ℕ) (rs : List X) (p old : PartData S V) (r : Rows V) (n : ℕ) (i : Item V) (to : ℕ) (x : X) → p ≡ old → IsDesk p r n (map caps rs) → p.outs ≡ map its rs →
         to ≡ place_in old.setup (vertex_of (network_in old.setup) i) →
@@ -133,7 +125,7 @@ module _ {S V : Type 0} where
           (let f = R.1 in omega (arith, f, l, c, la)),
           λ new kept cap.
               (let all : its new ≡ get_or p.outs to [] ++ i ∷ [] = kept ∙ ap (λ ys. ys ++ i ∷ []) (sym a) in
-              let outs : map its (set rs to new) ≡ set p.outs to (get_or p.outs to [] ++ i ∷ []) = map_write its rs to new ∙ (λ k. set (sym o k) to (all k)) in
+              let outs : map its (set rs to new) ≡ set p.outs to (get_or p.outs to [] ++ i ∷ []) = map-set its rs to new ∙ (λ k. set (sym o k) to (all k)) in
               let ns : map caps (set rs to new) ≡ map caps rs = map_kept caps rs to x new lt read cap in (
                 subst (λ (ys : List (List (Item V))). IsDesk (record p { outs = ys }) r n (map caps (set rs to new))) (sym outs) (subst (λ (ks : List ℕ). IsDesk (record p { outs = set p.outs to (get_or p.outs to [] ++ i ∷ []) }) r n ks) (sym ns) R.3),
                 (λ k. record p { outs = outs k }) ∙ (λ k. record p { queue = (sym R.2 k).queue; outs = (sym R.2 k).outs }) ∙ ap (λ (u : PartData S V). put_item i u) e,

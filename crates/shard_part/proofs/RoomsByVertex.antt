@@ -6,8 +6,8 @@ use Rattle.scholten_core.specs.Sums.{sum_below, one_if}
 use Rattle.shard_part.specs.Tables.{placed}
 use Rattle.shard_part.specs.PartState.{total, is, outgoing, touches, joins, queue_room, out_room}
 use Rattle.shard_part.specs.Opening.{turned, leading_to, coming_from}
-use Rattle.shard_part.proofs.Counting.{total_same, total_both, sum_swap, total_swap, sum_one, total_out, placed_none, placed_once}
-use Rattle.scholten_core.proofs.Sums.{one_if-most, sum_same, sum_zero, sum_ones, sum_add, sum_most, sum_term}
+use Rattle.shard_part.proofs.Counting.{total_same, total_both, sum_swap, total_swap, total_out, placed_none, placed_once}
+use Rattle.scholten_core.proofs.Sums.{one_if-most, sum_same, sum_zero, sum_ones, sum_add, sum_most, sum_term, sum_one}
 
 -- an arc between the shards s and t, seen from s: by its head where it leaves s, by its tail where it only enters s
 abbrev pub seen_from : ℕ → ℕ → ℕ → ℕ → ℕ
@@ -71,9 +71,9 @@ seen_twice s t a h = elim (cases_Bool (eqb a s)) [
 -- over all shards an arc is seen once where it has an end in s
 pub seen_sum : (s a h m : ℕ) → a < m → h < m → sum_below (λ t. seen_from s t a h) m ≡ one_if (eqb h s || eqb a s)
 seen_sum s a h m la lh = elim (cases_Bool (eqb a s)) [
-  | inl p ↦ sum_same (λ t. seen_from s t a h) (λ t. one_if (eqb h t)) m (λ t. cond-true (eqb a s) (one_if (eqb h t)) (cond (eqb h s) (one_if (eqb a t)) 0) p) ∙ sum_one h m lh ∙ sym (ap (λ z. one_if (eqb h s || z)) p ∙ right (eqb h s))
+  | inl p ↦ sum_same (λ t. seen_from s t a h) (λ t. one_if (eqb t h)) m (λ t. cond-true (eqb a s) (one_if (eqb h t)) (cond (eqb h s) (one_if (eqb a t)) 0) p ∙ turn h t) ∙ sum_one h m lh ∙ sym (ap (λ z. one_if (eqb h s || z)) p ∙ right (eqb h s))
   | inr p ↦ elim (cases_Bool (eqb h s)) [
-    | inl r ↦ sum_same (λ t. seen_from s t a h) (λ t. one_if (eqb a t)) m (λ t. cond-false (eqb a s) (one_if (eqb h t)) (cond (eqb h s) (one_if (eqb a t)) 0) p ∙ cond-true (eqb h s) (one_if (eqb a t)) 0 r) ∙ sum_one a m la ∙ sym (ap (λ z. one_if (z || eqb a s)) r)
+    | inl r ↦ sum_same (λ t. seen_from s t a h) (λ t. one_if (eqb t a)) m (λ t. cond-false (eqb a s) (one_if (eqb h t)) (cond (eqb h s) (one_if (eqb a t)) 0) p ∙ cond-true (eqb h s) (one_if (eqb a t)) 0 r ∙ turn a t) ∙ sum_one a m la ∙ sym (ap (λ z. one_if (z || eqb a s)) r)
     | inr r ↦ sum_same (λ t. seen_from s t a h) (λ t. 0) m (λ t. cond-false (eqb a s) (one_if (eqb h t)) (cond (eqb h s) (one_if (eqb a t)) 0) p ∙ cond-false (eqb h s) (one_if (eqb a t)) 0 r) ∙ sum_zero (λ t. 0) m (λ k. refl) ∙ sym (λ i. one_if (r i || p i))
   ]
 ]

@@ -1,21 +1,9 @@
 -- Values by place, seen by the numbers that they belong to.
-use Rattle.std.proofs.Common.{◌≡◌, ◌≢◌, ℕ, zero, suc, ◌<◌, List, [], ◌∷◌, length, set, get_or, refl, sym, ap, ◌∙◌, arith, length-set, get_or-set_same, get_or-set_other}
-use Rattle.std.proofs.lemmas.List.{length-replicate}
+use Rattle.std.proofs.Common.{◌≡◌, ℕ, zero, suc, ◌<◌, List, [], ◌∷◌, length, set, get_or, sym, ap, ◌∙◌, arith, length-set, get_or-set_same, get_or-set_other}
+use Rattle.std.proofs.lemmas.List.{length-replicate, set-set, set_comm}
 use Rattle.shard_part.specs.Tables.{spread, IsApart}
 
 module _ {X : Type 0} where
-  pub set_twice : (xs : List X) (k : ℕ) (x y : X) → set (set xs k x) k y ≡ set xs k y
-  set_twice [] k x y = refl
-  set_twice (z ∷ xs) zero x y = refl
-  set_twice (z ∷ xs) (suc k) x y = ap (λ ys. z ∷ ys) (set_twice xs k x y)
-
-  pub set_swapped : (xs : List X) (j k : ℕ) (x y : X) → j ≢ k → set (set xs j x) k y ≡ set (set xs k y) j x
-  set_swapped [] j k x y n = refl
-  set_swapped (z ∷ xs) zero zero x y n = absurd (n refl)
-  set_swapped (z ∷ xs) zero (suc k) x y n = refl
-  set_swapped (z ∷ xs) (suc j) zero x y n = refl
-  set_swapped (z ∷ xs) (suc j) (suc k) x y n = ap (λ ys. z ∷ ys) (set_swapped xs j k x y (λ e. n (ap suc e)))
-
   pub spread_long : (keys : List ℕ) (values : List X) (d : X) (n : ℕ) → length (spread keys values d n) ≡ n
   unfolding spread
   spread_long [] values d n = length-replicate n d
@@ -27,10 +15,10 @@ module _ {X : Type 0} where
   unfolding spread
   spread_write [] values d n j x a l m = absurd (omega arith)
   spread_write (k ∷ keys) [] d n j x a l m = absurd (omega arith)
-  spread_write (k ∷ keys) (y ∷ values) d n zero x a l m = sym (set_twice (spread keys values d n) k y x)
+  spread_write (k ∷ keys) (y ∷ values) d n zero x a l m = sym (set-set (spread keys values d n) k y x)
   spread_write (k ∷ keys) (y ∷ values) d n (suc j) x a l m =
       ap (λ ys. set ys k y) (spread_write keys values d n j x (λ i h p q. a (suc i) (suc h) (omega arith) (omega arith)) (omega arith) (omega arith))
-      ∙ set_swapped (spread keys values d n) (get_or keys j 0) k x y (λ e. a 0 (suc j) (omega arith) (omega arith) (sym e))
+      ∙ set_comm (spread keys values d n) (get_or keys j 0) k x y (λ e. a 0 (suc j) (omega arith) (omega arith) (sym e))
 
   -- what stands at the number of a place is the value of the place
   pub spread_read : (keys : List ℕ) (values : List X) (d e : X) (n j : ℕ) → IsApart keys → j < length keys → j < length values → get_or keys j 0 < n →

@@ -1,7 +1,5 @@
 -- Each item that a part takes keeps what its idle arcs have been told.
-use Rattle.std.proofs.Common.{◌≡◌, ℕ, suc, true, List, length, get_or, replicate, None, inl, inr, sym, ap, ◌∙◌, subst, arith, eq-eqb}
-use Rattle.std.proofs.lemmas.Bool.{cases_lt}
-use Rattle.std.proofs.lemmas.List.{get_or-replicate, get_or_past, length-replicate}
+use Rattle.std.proofs.Common.{◌≡◌, ℕ, suc, true, List, length, None, sym, ap, ◌∙◌, subst, eq-eqb}
 use Rattle.scholten_core.specs.declared.item.Item.{Item}
 use Rattle.path_algebra.specs.Algebra.{Algebra}
 use Rattle.path_algebra.specs.Algebra.{IsLawful as Lawful}
@@ -16,6 +14,7 @@ use Rattle.shard_part.proofs.Quick.{taken_told}
 use Rattle.shard_part.proofs.FrontIsTaken.{IsFit, desk_fit, has_told, popped_taken}
 use Rattle.shard_part.proofs.Moves.{formed}
 use Rattle.shard_part.proofs.VertexSettles.{of_one_shard}
+use Rattle.shard_part.proofs.Opened.{reads_same}
 
 module _ {S V : Type 0} (A : Algebra V) where
   pub told_kept : Lawful A → (p : PartData S V) (i : Item V) (q : PartData S V) → WellFormed (network_in p.setup) → OwnIdleIsTold p → TookIn A (network_in p.setup) (place_in p.setup) p i q → OwnIdleIsTold q
@@ -31,15 +30,9 @@ module _ {S V : Type 0} (A : Algebra V) where
 pub untold : {S V : Type 0} (p : PartData S V) → ((v : ℕ) → (state_in p).label v ≡ None) → ((b : ℕ) → (state_in p).told b ≡ None) → OwnIdleIsTold p
 untold p labels told b h n i = told b ∙ sym (labels ((network_in p.setup).tail b))
 
-all_read : {X : Type 0} (n i : ℕ) (d : X) → get_or (replicate n d) i d ≡ d
-all_read n i d = elim (cases_lt i n) [
-  | inl l ↦ get_or-replicate n i d d l
-  | inr g ↦ get_or_past (replicate n d) i d (let k = length-replicate n d in omega (arith, g, k))
-]
-
 -- so of every part that was opened
 pub opened_told : {S V : Type 0} (A : Algebra V) (p : PartData S V) (t : Setup S) (s : ℕ) → p ≡ opened_part A t s → OwnIdleIsTold p
-opened_told A p t s e = subst OwnIdleIsTold (sym e) (untold (opened_part A t s) (λ v. all_read (suc t.roads.vertices) v None) (λ b. all_read (suc (length t.roads.arcs)) b None))
+opened_told A p t s e = subst OwnIdleIsTold (sym e) (untold (opened_part A t s) (λ v. reads_same (suc t.roads.vertices) None v) (λ b. reads_same (suc (length t.roads.arcs)) None b))
 
 -- of a desk whose front item was taken off the queue and handled
 module _ {S V : Type 0} (meaning : S → Algebra V) where

@@ -3,3 +3,4 @@ pub mod Counting
 pub mod Placing
 pub mod Reading
 pub mod Rising
+pub mod Places

@@ -5,3 +5,4 @@ pub mod Counting
 pub mod Placing
 pub mod Reading
 pub mod Rising
+pub mod Places

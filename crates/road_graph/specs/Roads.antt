@@ -1,5 +1,5 @@
 -- A directed road graph as its list of arcs. Arcs are numbered from 1 in the order of the list.
-use Rattle.std.specs.Prelude.{◌≡◌, ℕ, ◌-◌, ◌<◌, ◌≤◌, ◌^◌, ◌↔◌, List, [], ◌∷◌, length, map, Contains, slice_index_or}
+use Rattle.std.specs.Prelude.{◌≡◌, ℕ, ◌-◌, ◌<◌, ◌≤◌, ◌^◌, ◌↔◌, List, [], ◌∷◌, length, map, Contains, slice_index, slice_index_or}
 use Rattle.road_graph.specs.declared.RoadArc.{RoadArc}
 use Rattle.road_graph.specs.declared.OutRoad.{OutRoad}
 
@@ -45,6 +45,13 @@ pub record ListsArcsFrom (g : Roads) (v : ℕ) (numbers : List ℕ) : Type 0 whe
 pub record ListsArcsInto (g : Roads) (v : ℕ) (numbers : List ℕ) : Type 0 where
   pub complete : (a : ℕ) → Contains numbers a ↔ (HasArc g a × ((arc_of g a).head ≡ v))
   pub ascending : IsAscendingFrom 0 numbers
+
+-- in the list of the arcs that leave its tail, a stands at this index
+pub record IsTurn (g : Roads) (a index : ℕ) : Type 0 where
+  pub numbers : List ℕ
+  pub lists : ListsArcsFrom g (arc_of g a).tail numbers
+  pub inside : index < length numbers
+  pub found : slice_index numbers index ≡ a
 
 -- an arc as it is seen from its tail
 abbrev pub road_of : RoadArc → OutRoad

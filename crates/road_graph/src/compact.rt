@@ -3,10 +3,10 @@
 ghost use Rattle.std.specs.Prelude.{◌≡◌, ℕ, ◌+◌, ◌-◌, ◌<◌, ◌≤◌, ◌↔◌, ◌^◌, length, slice_index, Contains};
 ghost use Rattle.std.specs.Prelude.{IsTrue, MatchResult, MatchOption};
 ghost use Rattle.road_graph.specs.Roads.{JoinsVertices, IsRoads, IsAscendingFrom};
-ghost use Rattle.road_graph.specs.Making.{IsFirstBad};
+ghost use Rattle.road_graph.specs.Making.{IsFirstBad, HasInRow, StandsAt, ArePlaces};
 
-use crate::rows::{Rows, roads_at, rows_of, tails_of};
-use crate::{ArcNo, GraphFault, OutRoad, RoadArc, Side, Vertex};
+use crate::rows::{Rows, places_of, roads_at, rows_of, tails_of};
+use crate::{ArcNo, GraphFault, Memory, OutRoad, RoadArc, Side, Vertex};
 use std::alloc::Global;
 use std::fmt;
 use std::marker::Model;
@@ -15,6 +15,7 @@ use std::snapshot::Snapshot;
 /// A directed graph with its arcs by number, by tail and by head.
 ///
 /// It takes 20 bytes for each arc and 8 for each vertex: heads and weights stand once, in the order of the outgoing rows.
+/// Once indexed it takes 4 bytes more for each arc, and an arc is found in its row by one load.
 #[derive(Drop)]
 pub struct Graph {
     vertices: u32,
@@ -23,6 +24,8 @@ pub struct Graph {
     out_rows: Rows,
     out_roads: Vec<OutRoad>,
     into_rows: Rows,
+    /// Where each arc stands in the outgoing rows, by number from 1; empty until the graph is indexed.
+    places: Vec<u32>,
 }
 
 impl fmt::Debug for Graph {
@@ -33,6 +36,7 @@ impl fmt::Debug for Graph {
             .field("out_rows", &self.out_rows)
             .field("out_roads", &self.out_roads)
             .field("into_rows", &self.into_rows)
+            .field("places", &self.places)
             .finish()
     }
 }
@@ -41,7 +45,7 @@ impl Model for Graph {
     ghost use Rattle.std.specs.Prelude.{◌≡◌};
     ghost use Rattle.std.specs.Prelude.{map};
     ghost use Rattle.road_graph.specs.Roads.{Roads, IsRoads, roads_of};
-    ghost use Rattle.road_graph.specs.Making.{AreRows, end_of};
+    ghost use Rattle.road_graph.specs.Making.{AreRows, ArePlaces, end_of};
     ghost use Rattle.road_graph.specs.declared.Side.TheVariants.{Tail, Head};
 
     ghost Value = { Roads };
@@ -53,7 +57,8 @@ impl Model for Graph {
         × AreRows Tail g.vertices g.arcs.value.items g.out_rows.starts.items g.out_rows.numbers.items
         × AreRows Head g.vertices g.arcs.value.items g.into_rows.starts.items g.into_rows.numbers.items
         × (g.out_roads.items ≡ roads_of (record { vertices = g.vertices; arcs = g.arcs.value.items }) g.out_rows.numbers.items)
-        × (g.tails.items ≡ map (end_of Tail) g.arcs.value.items) };
+        × (g.tails.items ≡ map (end_of Tail) g.arcs.value.items)
+        × ArePlaces g.out_rows.numbers.items g.places.items };
 }
 
 fn joins(arc: RoadArc, n: u32) -> bool
@@ -114,10 +119,38 @@ fn place_of(row: &[ArcNo], number: u32) -> usize
     low
 }
 
+/// Where an arc stands in the rows, looked for in that of its tail. Where arcs are numbered in the order of the rows, it is found at the first look.
+fn find_place(rows: &Rows, tail: Vertex, a: ArcNo) -> usize
+    requires low { 1 ≤ a }
+    requires row { HasInRow rows.now.starts.items rows.now.numbers.items tail a }
+    ensures { StandsAt rows.now.numbers.items a result }
+{
+    let numbers = &rows.numbers;
+    let guess = a.0 as usize - 1;
+    if guess < numbers.len() && numbers[guess] == a {
+        return guess;
+    }
+    let (start, end) = range_of(&rows.starts, tail);
+    start + place_of(&numbers[start..end], a.0)
+}
+
+/// Where an arc stands in the rows: told by the places, where they are there.
+fn place_in(rows: &Rows, tails: &[Vertex], places: &[u32], a: ArcNo) -> usize
+    requires tail { (1 ≤ a) × (a ≤ length tails.now) }
+    requires row { HasInRow rows.now.starts.items rows.now.numbers.items (slice_index tails.now (a - 1)) a }
+    requires places { ArePlaces rows.now.numbers.items places.now }
+    ensures { StandsAt rows.now.numbers.items a result }
+{
+    if let Some(place) = places.get(a.0 as usize) {
+        return *place as usize;
+    }
+    find_place(rows, tails[a.0 as usize - 1], a)
+}
+
 impl Graph {
     ghost use Rattle.road_graph.specs.Making.{IsRefusal};
     ghost use Rattle.road_graph.specs.Roads.{Roads, HasVertex, HasArc, arc_of, road_of};
-    ghost use Rattle.road_graph.specs.Roads.{ListsArcsFrom, ListsArcsInto, ListsRoadsFrom};
+    ghost use Rattle.road_graph.specs.Roads.{IsTurn, ListsArcsFrom, ListsArcsInto, ListsRoadsFrom};
 
     /// The graph of exactly these arcs on the vertices 1 to n.
     ///
@@ -155,7 +188,19 @@ impl Graph {
             out_rows,
             out_roads,
             into_rows,
+            places: Vec::new(alloc),
         })
+    }
+
+    /// Indexes the arcs: from then on `road`, `arc` and `turn` find an arc by one load, in place of a search.
+    ///
+    /// # Errors
+    /// Where memory is refused, the graph is as it was.
+    pub fn index(&mut self, alloc: Global) -> Result<(), Memory>
+        ensures { self.new ≡ self.old }
+    {
+        self.places = places_of(alloc, &self.out_rows.numbers)?;
+        Ok(())
     }
 
     /// How many vertices there are.
@@ -203,20 +248,22 @@ impl Graph {
         self.tails[a.0 as usize - 1]
     }
 
-    /// The head and the weight of an arc. Where arcs are numbered in the order of the rows, they are found at the first look.
+    /// The head and the weight of an arc.
     pub fn road(&self, a: ArcNo) -> OutRoad
         requires { HasArc self.now a }
         ensures { result ≡ road_of (arc_of self.now a) }
     {
-        let numbers = &self.out_rows.numbers;
-        let guess = a.0 as usize - 1;
-        if guess < numbers.len() && numbers[guess] == a {
-            return self.out_roads[guess];
-        }
-        let tail = self.tail(a);
-        let (start, end) = range_of(&self.out_rows.starts, tail);
-        let at = start + place_of(&numbers[start..end], a.0);
-        self.out_roads[at]
+        self.out_roads[place_in(&self.out_rows, &self.tails, &self.places, a)]
+    }
+
+    /// Where an arc stands among those that leave its tail, an index into what `out` and `roads_from` give for that.
+    pub fn turn(&self, a: ArcNo) -> usize
+        requires { HasArc self.now a }
+        ensures { IsTurn self.now a result }
+    {
+        let place = place_in(&self.out_rows, &self.tails, &self.places, a);
+        let (start, _) = range_of(&self.out_rows.starts, self.tail(a));
+        place - start
     }
 
     /// The arcs that leave a vertex, in ascending order.

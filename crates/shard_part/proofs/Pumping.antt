@@ -3,13 +3,13 @@ use Rattle.std.proofs.Common.{◌≡◌, ◌≢◌, ℕ, ◌+◌, ◌<◌, ◌�
 use Rattle.std.proofs.lemmas.List.{get_or_read, take_more, take_all}
 use Rattle.path_algebra.specs.Algebra.{Algebra}
 use Rattle.road_graph.specs.declared.OutRoad.{OutRoad}
-use Rattle.road_graph.specs.Roads.{HasVertex, ListsArcsFrom, ListsRoadsFrom, arc_of, road_of, roads_of}
+use Rattle.road_graph.specs.Roads.{HasVertex, IsTurn, ListsArcsFrom, ListsRoadsFrom, arc_of, road_of, roads_of}
 use Rattle.scholten_core.specs.Network.{WellFormed}
 use Rattle.scholten_core.specs.Diffusion.{is_due, extend_label, improves}
 use Rattle.shard_part.specs.PartState.{Setup, PartData, state_in, network_in, outgoing, own_in, IsArc}
 use Rattle.shard_part.specs.Desk.{Rows, IsDesk, IsPlace, IsRow, with_message, greeted, labelled, offered, offered_all, rested, with_value}
-use Rattle.shard_part.specs.Tables.{Rises, StandsIn}
-use Rattle.shard_part.proofs.Graphs.{graph_arc, out_is, roads_are, road_is}
+use Rattle.scholten_core.proofs.Networks.{tail-arc}
+use Rattle.shard_part.proofs.Graphs.{out_is, roads_are, road_is}
 use Rattle.shard_part.proofs.Moves.{formed}
 use Rattle.shard_part.proofs.Places.{own_below, outgoing_picked}
 
@@ -102,14 +102,14 @@ module _ {S V : Type 0} where
   pub tail_vertex : (A : Algebra V) (p old : PartData S V) (r : Rows V) (n : ℕ) (ns : List ℕ) (v j a : ℕ) → p ≡ old → IsDesk p r n ns → IsPlace old v j → IsArc (network_in old.setup) a → (network_in old.setup).tail a ≡ v → a ≢ 0 → HasVertex p.setup.roads v
   tail_vertex A p old r n ns v j a e D P ar t nz = vertex_at A p old r n ns v j e D P (λ z. ar.1 nz (t ∙ z))
 
-  pub found_out : (A : Algebra V) (p old : PartData S V) (v a : ℕ) (xs : List ℕ) → p ≡ old → HasVertex p.setup.roads v → IsArc (network_in old.setup) a → (network_in old.setup).tail a ≡ v → a ≢ 0 → ListsArcsFrom p.setup.roads v xs →
-      (xs ≡ outgoing (network_in old.setup) v) × Rises xs × StandsIn xs a
-  found_out A p old v a xs e h ar t nz o =
-      let is = listed_out A p old v xs e h.0 o in let P = outgoing_picked (network_in old.setup) v in (
-        is,
-        subst Rises (sym is) P.rises,
-        subst (λ ys. StandsIn ys a) (sym is) (P.all a t (omega arith) (let l = (graph_arc old.setup a nz ar).1 in omega (arith, l))),
-      )
+  -- where the graph says that an arc stands among those out of its tail
+  pub turn_found : (A : Algebra V) (p old : PartData S V) (v a k : ℕ) → p ≡ old → HasVertex p.setup.roads v → (network_in old.setup).tail a ≡ v → a ≢ 0 → IsTurn p.setup.roads a k →
+      (k < length (outgoing (network_in old.setup) v)) × (get_or (outgoing (network_in old.setup) v) k 0 ≡ a)
+  turn_found A p old v a k e h t nz turn =
+      let low : 1 ≤ a = omega arith in
+      let tail : (arc_of p.setup.roads a).tail ≡ v = sym (tail-arc p.setup.roads a low) ∙ ap (λ (u : PartData S V). (network_in u.setup).tail a) e ∙ t in
+      let is = listed_out A p old v turn.numbers e h.0 (subst (λ w. ListsArcsFrom p.setup.roads w turn.numbers) tail turn.lists) in
+      (subst (λ ys. k < length ys) is turn.inside, ap (λ ys. get_or ys k 0) (sym is) ∙ turn.found)
 
   -- head and weight of the k-th arc out of a vertex
   pub road_found : (A : Algebra V) (p old : PartData S V) (r : Rows V) (n : ℕ) (ns : List ℕ) (v j k b : ℕ) (rs : List OutRoad) (d : OutRoad) → p ≡ old → IsDesk p r n ns → IsPlace old v j → v ≢ 0 → ListsRoadsFrom p.setup.roads v rs →

@@ -18,7 +18,7 @@ mod reserved;
 
 use crate::batch::Batch;
 use crate::plan::Plan;
-use crate::search::{find_arc, find_vertex};
+use crate::search::find_vertex;
 use crate::shard::Shard;
 use crate::tables::Tables;
 use path_algebra::{PathAlgebra, laws_hold};
@@ -505,11 +505,11 @@ impl<'g, A: PathAlgebra> Desk<'g, A> {
         ensures inside { result < length (outgoing (network_in self.now.setup) v) }
         ensures arc { get_or (outgoing (network_in self.now.setup) v) result 0 ≡ a }
     {
-        let _j = j;
+        let (_v, _j) = (v, j);
         if a.0 == 0 {
             return 0;
         }
-        find_arc(self.graph.out(v), a)
+        self.graph.turn(a)
     }
 
     /// The place of the arc a out of the vertex at a place.

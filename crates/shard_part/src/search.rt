@@ -1,7 +1,7 @@
 ghost use Rattle.std.specs.Prelude.{◌≡◌, ℕ, ◌<◌, length, slice_index};
 ghost use Rattle.shard_part.specs.Tables.{Rises, StandsIn};
 
-use road_graph::{ArcNo, Vertex};
+use road_graph::Vertex;
 
 /// Where a vertex stands in a list that rises. Where those after the first follow one another, the list's ends tell it.
 pub(crate) fn find_vertex(list: &[Vertex], v: Vertex) -> usize
@@ -33,45 +33,6 @@ fn halve(list: &[Vertex], v: Vertex) -> usize
         let middle = low + (high - low) / 2;
         let there = list[middle];
         if there.0 <= v.0 {
-            low = middle;
-        } else {
-            high = middle;
-        }
-    }
-    low
-}
-
-/// Where an arc stands in a list that rises. In a list of arcs that follow one another it is found at the first look.
-pub(crate) fn find_arc(list: &[ArcNo], a: ArcNo) -> usize
-    requires rises { Rises list.now }
-    requires stands { StandsIn list.now a }
-    ensures inside { result < length list.now }
-    ensures found { slice_index list.now result ≡ a }
-{
-    if let Some(first) = list.first() {
-        if a.0 >= first.0 {
-            let guess = (a.0 - first.0) as usize;
-            if guess < list.len() && list[guess] == a {
-                return guess;
-            }
-        }
-    }
-    halve_arcs(list, a)
-}
-
-/// Where an arc stands in a list that rises, by halving.
-fn halve_arcs(list: &[ArcNo], a: ArcNo) -> usize
-    requires rises { Rises list.now }
-    requires stands { StandsIn list.now a }
-    ensures inside { result < length list.now }
-    ensures found { slice_index list.now result ≡ a }
-{
-    let mut low = 0;
-    let mut high = list.len();
-    while high - low > 1 {
-        let middle = low + (high - low) / 2;
-        let there = list[middle];
-        if there.0 <= a.0 {
             low = middle;
         } else {
             high = middle;

@@ -10,6 +10,8 @@ mod cores;
 #[cfg(test)]
 mod graphs;
 #[cfg(test)]
+mod pairs;
+#[cfg(test)]
 mod plain_solver;
 #[cfg(test)]
 mod trees;

@@ -15,7 +15,7 @@ use std::alloc::Global;
 use std::process::Abort;
 
 /// Five vertices, with a self-loop at 4; no arc leads to 5.
-const FIVE: [(u32, u32, u32); 7] = [
+pub(crate) const FIVE: [(u32, u32, u32); 7] = [
     (1, 2, 4),
     (1, 3, 1),
     (3, 2, 2),
@@ -26,7 +26,7 @@ const FIVE: [(u32, u32, u32); 7] = [
 ];
 
 /// The graph of these tails, heads and weights.
-fn graph_of(rt: &(impl Abort + AllocGlobal), n: u32, arcs: &[(u32, u32, u32)]) -> Graph {
+pub(crate) fn graph_of(rt: &(impl Abort + AllocGlobal), n: u32, arcs: &[(u32, u32, u32)]) -> Graph {
     let mut list = Vec::new(rt.alloc());
     for (tail, head, weight) in arcs {
         let arc = RoadArc {

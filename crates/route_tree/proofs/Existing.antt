@@ -17,7 +17,8 @@ use Rattle.route_tree.proofs.OneArc.{spread_arc}
 use Rattle.route_tree.proofs.OneVertex.{spread_open, spread_level}
 use Rattle.route_tree.proofs.Marking.{marked_start, marked_once, marked_spreads}
 use Rattle.route_tree.proofs.LevelsAreLeast.{hops_are_least, parents_are_least}
-use Rattle.route_tree.proofs.Trees.{tree_is, tree_is_linked}
+use Rattle.route_tree.proofs.Trees.{tree_is}
+use Rattle.route_tree.proofs.Linked.{linked}
 use Rattle.route_tree.proofs.Chains.{Climbing, climb, climb_hops, climbed, climb_start}
 
 -- reaching moves one vertex from the open ones to the next level
@@ -81,7 +82,7 @@ module _ (g : Roads) (roads : IsRoads g) (test : ℕ → Bool) (sources : List �
         rw (← add-one) (marked_once g.vertices sources i v before.0 before.1 (hops_if 0 before.0 v l) (next_if before.1 v l) lt (sym (get_or_default sources i v 0 lt)) in_v.0 in_v.1 refl refl before.2),
       )
 
-  least_exist : All (HasVertex g) sources → (hops parents : List (Option ℕ)) × AreLeast g test sources hops × AreLeastTails g test hops parents
+  pub least_exist : All (HasVertex g) sources → (hops parents : List (Option ℕ)) × AreLeast g test sources hops × AreLeastTails g test hops parents
   least_exist inside =
       let first = marked_upto (length sources) (omega arith) inside in
       let marked = subst (λ (done : List ℕ). IsMarked g.vertices sources done first.0 first.1) (take-length sources) first.2 in
@@ -107,9 +108,9 @@ tree_exists A lawful g roads sources inside labels best =
     let least = least_exist g roads (is_tight A g labels) sources inside in
     let in_s = all_inside g sources inside in
     let t : Branches = record { hops = least.0; parents = least.1 } in
-    let linked = tree_is_linked A lawful g roads sources in_s labels best least.0 least.2 least.1 least.3 in (
+    let is_linked = linked g roads (is_tight A g labels) sources least.0 least.2 least.1 least.3 in (
       t,
       tree_is A lawful g roads sources in_s labels best least.0 least.2 least.1 least.3,
-      linked,
-      λ v k in_v e. route_exists t linked v in_v.0 (let n = least.2.count in omega (arith, in_v.1, n)) k e,
+      is_linked,
+      λ v k in_v e. route_exists t is_linked v in_v.0 (let n = least.2.count in omega (arith, in_v.1, n)) k e,
     )

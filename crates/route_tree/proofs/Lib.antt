@@ -3,7 +3,10 @@ pub mod LevelsAreLeast
 pub mod OneArc
 pub mod OneVertex
 pub mod Marking
+pub mod Linked
 pub mod Trees
 pub mod Chains
 pub mod Told
 pub mod Existing
+pub mod GoingBack
+pub mod RegionTrees

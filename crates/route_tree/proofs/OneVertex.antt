@@ -1,12 +1,13 @@
 -- One vertex that is gone through, and one level.
-use Rattle.std.proofs.Common.{drop, drop-cons, add-one, ◌≡◌, ℕ, suc, ◌+◌, ◌<◌, ◌≤◌, inl, inr, Bool, cond, List, [], ◌∷◌, length, get_or, refl, ap, sym, ◌∙◌, arith, Option}
+use Rattle.std.proofs.Common.{drop, drop-cons, add-one, ◌≡◌, ℕ, suc, ◌+◌, ◌<◌, ◌≤◌, inl, inr, Bool, false, cond, List, [], ◌∷◌, length, get_or, refl, ap, sym, ◌∙◌, arith, Option}
 use Rattle.std.proofs.Math.ListN.{drop_of_length-le}
 use Rattle.std.proofs.lemmas.List.{get_or-map, length-map, get_or_default}
 use Rattle.road_graph.specs.Roads.{Roads, IsRoads, HasArc, arc_of, ListsArcsFrom, road_of, roads_of}
 use Rattle.road_graph.specs.declared.OutRoad.{OutRoad}
 use Rattle.path_algebra.specs.Algebra.{Algebra}
-use Rattle.path_algebra.specs.Walks.{label_of, is_tight, is_tight_between}
+use Rattle.path_algebra.specs.Walks.{label_of, is_tight_between}
 use Rattle.route_tree.specs.Levels.{hops_if, parents_if, next_if, Spreading, GoesThrough}
+use Rattle.route_tree.specs.Regions.{in_region, is_tight_into}
 use Rattle.route_tree.proofs.Elements.{not_in_empty, head_or_tail, here, later}
 use Rattle.route_tree.proofs.OneArc.{spread_arc}
 
@@ -22,10 +23,10 @@ module _ (g : Roads) (v : ℕ) (numbers : List ℕ) (lists : ListsArcsFrom g v n
       let has = (lists.complete (get_or numbers i 0)).0 (i, in_numbers, get_or_default numbers i (get_or numbers i 0) 0 in_numbers) in
       (has.0, has.1, is ∙ at)
 
--- whether an arc is tight, by its road
-pub is_tight_by_road : {V : Type 0} (A : Algebra V) (g : Roads) (labels : List (Option V)) (a v : ℕ) (r : OutRoad) (l : Option V) → (arc_of g a).tail ≡ v → r ≡ road_of (arc_of g a) → l ≡ label_of labels v →
-    is_tight A g labels a ≡ is_tight_between A l r.weight (label_of labels r.head)
-is_tight_by_road A g labels a v r l leaves is e = rw (is, leaves, e) refl
+-- whether an arc is tight and leads into a region, by its road
+pub is_tight_by_road : {V : Type 0} (A : Algebra V) (g : Roads) (labels : List (Option V)) (region : Option (List Bool)) (a v : ℕ) (r : OutRoad) (l : Option V) → (arc_of g a).tail ≡ v → r ≡ road_of (arc_of g a) → l ≡ label_of labels v →
+    is_tight_into A g labels region a ≡ cond (in_region region r.head) (is_tight_between A l r.weight (label_of labels r.head)) false
+is_tight_by_road A g labels region a v r l leaves is e = rw (is, leaves, e) refl
 
 module _ (g : Roads) (roads : IsRoads g) (test : ℕ → Bool) (sources : List ℕ) (k : ℕ) (hops parents : List (Option ℕ)) where
   -- the first vertex that waits gives way to its arcs

@@ -1,16 +1,17 @@
 -- The tree that least hops and least tails make.
-use Rattle.std.proofs.Common.{◌≡◌, ℕ, ◌+◌, ◌-◌, ◌≤◌, ◌⊎◌, inl, inr, Bool, true, false, List, [], ◌∷◌, length, get_or, map, refl, ap, sym, ◌∙◌, subst, arith, Option, Some, None}
+use Rattle.std.proofs.Common.{◌≡◌, ℕ, ◌+◌, ◌-◌, ◌≤◌, Bool, true, false, List, [], ◌∷◌, get_or, map, refl, ap, sym, ◌∙◌, subst, arith, Option, Some, None}
 use Rattle.std.proofs.lemmas.List.{get_or-map}
 use Rattle.std.proofs.lemmas.List.Elements.{All-nil, All-cons, All-head, All-tail}
 use Rattle.std.specs.Prelude.{IsTrue, Contains, All}
-use Rattle.road_graph.specs.Roads.{Roads, IsRoads, HasArc, HasVertex, arc_of}
+use Rattle.road_graph.specs.Roads.{Roads, IsRoads, HasVertex, arc_of}
 use Rattle.path_algebra.specs.Algebra.{Algebra, IsLawful}
 use Rattle.path_algebra.specs.Walks.{IsWalk, IsTight, is_tight, AreBest, AreHops, IsParent, IsTightWalk, IsUnreached, label_of}
 use Rattle.path_algebra.proofs.Tight.{tight_is, tight_arcs_reach, labelled}
 use Rattle.route_tree.specs.Levels.{IsWalkOf, IsLeastAt, AreLeast, IsLeastTail, AreLeastTails}
-use Rattle.route_tree.specs.Tree.{AreHopsAt, IsParentAt, IsTree, IsLinkedAt, IsLinked}
+use Rattle.route_tree.specs.Tree.{AreHopsAt, IsParentAt, IsTree}
 use Rattle.route_tree.proofs.Elements.{same_some}
 use Rattle.route_tree.proofs.LevelsAreLeast.{IsWalkOf-snoc, IsWalkOf-nil}
+use Rattle.route_tree.proofs.Linked.{no_arc, by_arc, tail_at}
 
 module _ {V : Type 0} (A : Algebra V) (lawful : IsLawful A) (g : Roads) (roads : IsRoads g) (sources : List ℕ) (in_s : (s : ℕ) → Contains sources s → HasVertex g s)
     (labels : List (Option V)) (best : AreBest A g sources labels) (hops : List (Option ℕ)) (least : AreLeast g (is_tight A g labels) sources hops) where
@@ -87,52 +88,13 @@ module _ {V : Type 0} (A : Algebra V) (lawful : IsLawful A) (g : Roads) (roads :
   hops_label v None in_v e = none_unreached v in_v e
   hops_label v (Some k) in_v e = hops_are v k (label_of hops v) e (least.least v in_v)
 
-  -- a walk that is not empty ends by an arc
-  last_arc : (u : ℕ) (p : List ℕ) (v : ℕ) → IsWalk g u p v → All (λ a. IsTrue (is_tight A g labels a)) p →
-      ((u ≡ v) × (length p ≡ 0)) ⊎ ((q : List ℕ) × (a : ℕ) × IsWalk g u q (arc_of g a).tail × All (λ b. IsTrue (is_tight A g labels b)) q × HasArc g a × IsTrue (is_tight A g labels a) × ((arc_of g a).head ≡ v) × (length q + 1 ≡ length p))
-  last_arc u [] v w h = inl (w, refl)
-  last_arc u (a ∷ p) v w h =
-      let first = All-head (λ b. IsTrue (is_tight A g labels b)) a p h in
-      let rest = All-tail (λ b. IsTrue (is_tight A g labels b)) a p h in
-      elim (last_arc (arc_of g a).head p v w.2 rest) [
-        | inl none ↦ let z = none.1 in inr ([], a, sym w.1, All-nil (λ b. IsTrue (is_tight A g labels b)), w.0, first, none.0, omega (arith, z))
-        | inr f ↦ let n = f.7 in inr (a ∷ f.0, f.1, (w.0, w.1, f.2), All-cons (λ b. IsTrue (is_tight A g labels b)) a f.0 first f.3, f.4, f.5, f.6, omega (arith, n))
-      ]
-
   module _ (parents : List (Option ℕ)) (tails : AreLeastTails g (is_tight A g labels) hops parents) where
-    -- a vertex with hops that no tree arc enters is a source
-    no_arc : (v k : ℕ) → HasVertex g v → label_of hops v ≡ Some k → IsLeastTail g (is_tight A g labels) hops v None → Contains sources v
-    no_arc v k in_v e none =
-        let h = hops_are v k (label_of hops v) e (least.least v in_v) in
-        let w = from_tight v k h.attained in
-        elim (last_arc w.1.0 w.0 v w.1.2 w.2) [
-          | inl empty ↦ subst (λ (s : ℕ). Contains sources s) empty.0 w.1.1
-          | inr f ↦
-              let ends = roads.ends f.1 f.4 in
-              let before : IsWalkOf g (is_tight A g labels) sources (arc_of g f.1).tail (length f.0) = (f.0, (w.1.0, w.1.1, f.2), f.3, refl) in
-              let t = has_some (arc_of g f.1).tail (label_of hops (arc_of g f.1).tail) (reached_has (arc_of g f.1).tail (length f.0) (label_of hops (arc_of g f.1).tail) before (least.least (arc_of g f.1).tail ends.0)) (least.least (arc_of g f.1).tail ends.0) in
-              let tail_hops = hops_are (arc_of g f.1).tail t.0 (label_of hops (arc_of g f.1).tail) t.1 (least.least (arc_of g f.1).tail ends.0) in
-              let low = tail_hops.least (length f.0) (to_tight (arc_of g f.1).tail (length f.0) before) in
-              let on = IsWalkOf-snoc g (is_tight A g labels) sources (arc_of g f.1).tail f.1 t.0 t.2 f.4 refl f.5 in
-              let high = h.least (t.0 + 1) (to_tight v (t.0 + 1) (subst (λ (u : ℕ). IsWalkOf g (is_tight A g labels) sources u (t.0 + 1)) f.6 on)) in
-              let n = f.7 in
-              let m = w.3 in
-              let one : t.0 + 1 ≡ k = omega (arith, low, high, n, m) in
-              let at_head : label_of hops (arc_of g f.1).head ≡ Some k = ap (label_of hops) f.6 ∙ e in
-              absurd (none f.1 (record { arc = f.4; passes = f.5; near = t.0; at_tail = t.1; at_head = at_head ∙ ap (λ (i : ℕ). Some i) (sym one) }) f.6)
-        ]
-
     -- what an arc of the tree says
     module _ (v : ℕ) (in_v : HasVertex g v) (u : ℕ) (tail : IsLeastTail g (is_tight A g labels) hops v (Some u)) where
-      by_arc : (j : ℕ) × (label_of hops u ≡ Some j) × (label_of hops v ≡ Some (j + 1)) × HasVertex g u
-      by_arc =
-          let f = tail.0 in
-          (f.1.near, ap (label_of hops) (sym f.3) ∙ f.1.at_tail, ap (label_of hops) (sym f.2) ∙ f.1.at_head, subst (λ (w : ℕ). HasVertex g w) f.3 ((roads.ends f.0 f.1.arc).0))
-
       is_parent : IsParent A g sources v u
       is_parent =
           let f = tail.0 in
-          let o = by_arc in
+          let o = by_arc g roads (is_tight A g labels) sources hops least v u tail in
           let hops_u = hops_are u o.0 (label_of hops u) o.1 (least.least u o.3) in
           let hops_v = hops_are v (o.0 + 1) (label_of hops v) o.2 (least.least v in_v) in
           record {
@@ -155,10 +117,10 @@ module _ {V : Type 0} (A : Algebra V) (lawful : IsLawful A) (g : Roads) (roads :
     parent_label : (v : ℕ) → HasVertex g v → (l m : Option ℕ) → label_of hops v ≡ l → label_of parents v ≡ m → IsParentAt A g sources v l m
     parent_label v in_v None None e f = none_unreached v in_v e
     parent_label v in_v None (Some u) e f =
-        let o = by_arc v in_v u (subst (λ (m : Option ℕ). IsLeastTail g (is_tight A g labels) hops v m) f (tails.tails v in_v)) in
+        let o = by_arc g roads (is_tight A g labels) sources hops least v u (tail_at g roads (is_tight A g labels) sources hops least parents tails v (Some u) in_v f) in
         let bad : None ≡ Some (o.0 + 1) = sym e ∙ o.2 in cc
-    parent_label v in_v (Some k) None e f = no_arc v k in_v e (subst (λ (m : Option ℕ). IsLeastTail g (is_tight A g labels) hops v m) f (tails.tails v in_v))
-    parent_label v in_v (Some k) (Some u) e f = is_parent v in_v u (subst (λ (m : Option ℕ). IsLeastTail g (is_tight A g labels) hops v m) f (tails.tails v in_v))
+    parent_label v in_v (Some k) None e f = no_arc g roads (is_tight A g labels) sources hops least v k in_v e (tail_at g roads (is_tight A g labels) sources hops least parents tails v None in_v f)
+    parent_label v in_v (Some k) (Some u) e f = is_parent v in_v u (tail_at g roads (is_tight A g labels) sources hops least parents tails v (Some u) in_v f)
 
     pub tree_is : IsTree A g sources (record { hops = hops; parents = parents })
     tree_is = record {
@@ -166,24 +128,4 @@ module _ {V : Type 0} (A : Algebra V) (lawful : IsLawful A) (g : Roads) (roads :
       parents_count = tails.count;
       hops = λ v in_v. hops_label v (label_of hops v) in_v refl;
       parents = λ v in_v. parent_label v in_v (label_of hops v) (label_of parents v) refl refl;
-    }
-
-    link : (v : ℕ) → HasVertex g v → (l m : Option ℕ) → label_of hops v ≡ l → label_of parents v ≡ m → IsLinkedAt (record { hops = hops; parents = parents }) l m
-    link v in_v None None e f = tt
-    link v in_v None (Some u) e f =
-        let o = by_arc v in_v u (subst (λ (m : Option ℕ). IsLeastTail g (is_tight A g labels) hops v m) f (tails.tails v in_v)) in
-        let bad : None ≡ Some (o.0 + 1) = sym e ∙ o.2 in cc
-    link v in_v (Some k) None e f =
-        let s = no_arc v k in_v e (subst (λ (m : Option ℕ). IsLeastTail g (is_tight A g labels) hops v m) f (tails.tails v in_v)) in
-        let low = (hops_are v k (label_of hops v) e (least.least v in_v)).least 0 (to_tight v 0 (IsWalkOf-nil g (is_tight A g labels) sources v s)) in
-        omega (arith, low)
-    link v in_v (Some k) (Some u) e f =
-        let o = by_arc v in_v u (subst (λ (m : Option ℕ). IsLeastTail g (is_tight A g labels) hops v m) f (tails.tails v in_v)) in
-        let in_u = o.3 in
-        (in_u.0, (let high = in_u.1 in omega (arith, high, least.count)), (o.0, o.1, same_some (label_of hops v) (o.0 + 1) k o.2 e))
-
-    pub tree_is_linked : IsLinked (record { hops = hops; parents = parents })
-    tree_is_linked = record {
-      count = tails.count ∙ sym least.count;
-      links = λ v low high. link v (low, omega (arith, high, least.count)) (label_of hops v) (label_of parents v) refl refl;
     }

@@ -2,3 +2,4 @@ pub mod Slots
 pub mod Tree
 pub mod Told
 pub mod Levels
+pub mod Regions

@@ -1,11 +1,13 @@
 //! A tree grows level by level: from the vertices at k hops, along tight arcs, to those at k + 1.
 
-ghost use Rattle.std.specs.Prelude.{◌≡◌, ◌+◌, ◌≤◌, ◌<◌, ◌^◌, [], All, IfOk, None, OnOk, cond, length, replicate};
+ghost use Rattle.std.specs.Prelude.{◌≡◌, ◌+◌, ◌≤◌, ◌<◌, ◌^◌, [], All, Bool, IfOk, None, OnOk, cond, false, length, replicate};
 ghost use Rattle.road_graph.specs.Roads.{HasVertex};
-ghost use Rattle.path_algebra.specs.Walks.{label_of, is_tight, is_tight_between};
+ghost use Rattle.path_algebra.specs.Walks.{label_of, is_tight_between};
 ghost use Rattle.route_tree.specs.Levels.{AreLeast, AreLeastTails, GoesThrough, GoesThroughLevel, IsMarked, hops_if, next_if, parents_if, unreached};
+ghost use Rattle.route_tree.specs.Regions.{in_region, is_tight_into};
 
 use crate::growing::Growing;
+use crate::region::Region;
 use crate::tightness::is_tight;
 use path_algebra::{Labels, PathAlgebra};
 use road_graph::{Graph, Memory, Vertex};
@@ -21,10 +23,11 @@ struct Place<V: Copy> {
     far: u32,
 }
 
-/// Goes along one road.
+/// Goes along one road, where it leads into the region.
 fn try_road<A: PathAlgebra>(
     algebra: A,
     labels: &Labels<A::Value>,
+    region: &Region,
     tree: &mut Growing,
     from: Place<A::Value>,
     head: Vertex,
@@ -37,12 +40,15 @@ fn try_road<A: PathAlgebra>(
     requires tail { from.vertex < 4294967295 }
     ensures count { OnOk result (length tree.new.hops.items ≡ length tree.old.hops.items) }
     ensures parents_count { OnOk result (length tree.new.parents.items ≡ length tree.old.parents.items) }
-    ensures hops { let passes = is_tight_between (A.meaning algebra) from.label weight (label_of labels.now head) in OnOk result (tree.new.hops.items ≡ cond passes (hops_if from.far tree.old.hops.items head (label_of tree.old.hops.items head)) tree.old.hops.items) }
-    ensures parents { let passes = is_tight_between (A.meaning algebra) from.label weight (label_of labels.now head) in OnOk result (tree.new.parents.items ≡ cond passes (parents_if from.far tree.old.parents.items head from.vertex (label_of tree.old.hops.items head)) tree.old.parents.items) }
-    ensures next { let passes = is_tight_between (A.meaning algebra) from.label weight (label_of labels.now head) in OnOk result (tree.new.next.items ≡ cond passes (next_if tree.old.next.items head (label_of tree.old.hops.items head)) tree.old.next.items) }
+    ensures hops { let passes = cond (in_region region.now head) (is_tight_between (A.meaning algebra) from.label weight (label_of labels.now head)) false in OnOk result (tree.new.hops.items ≡ cond passes (hops_if from.far tree.old.hops.items head (label_of tree.old.hops.items head)) tree.old.hops.items) }
+    ensures parents { let passes = cond (in_region region.now head) (is_tight_between (A.meaning algebra) from.label weight (label_of labels.now head)) false in OnOk result (tree.new.parents.items ≡ cond passes (parents_if from.far tree.old.parents.items head from.vertex (label_of tree.old.hops.items head)) tree.old.parents.items) }
+    ensures next { let passes = cond (in_region region.now head) (is_tight_between (A.meaning algebra) from.label weight (label_of labels.now head)) false in OnOk result (tree.new.next.items ≡ cond passes (next_if tree.old.next.items head (label_of tree.old.hops.items head)) tree.old.next.items) }
     ensures size { OnOk result (unreached tree.new.hops.items + length tree.new.next.items ≡ unreached tree.old.hops.items + length tree.old.next.items) }
 {
-    if tree.is_near(head, from.far) && is_tight(algebra, from.label, weight, labels.of(head)) {
+    if tree.is_near(head, from.far)
+        && region.has(head)
+        && is_tight(algebra, from.label, weight, labels.of(head))
+    {
         tree.reach(head, from.vertex, from.far)
     } else {
         Ok(())
@@ -54,6 +60,7 @@ fn spread<A: PathAlgebra>(
     algebra: A,
     graph: &Graph,
     labels: &Labels<A::Value>,
+    region: &Region,
     tree: &mut Growing,
     v: Vertex,
     k: u32,
@@ -65,7 +72,7 @@ fn spread<A: PathAlgebra>(
     requires few { k ≤ 2 ^ 25 }
     ensures count { OnOk result (length tree.new.hops.items ≡ graph.now.vertices) }
     ensures parents_count { OnOk result (length tree.new.parents.items ≡ graph.now.vertices) }
-    ensures goes { OnOk result (GoesThrough graph.now (is_tight (A.meaning algebra) graph.now labels.now) k v tree.old.hops.items tree.old.parents.items tree.old.next.items tree.new.hops.items tree.new.parents.items tree.new.next.items) }
+    ensures goes { OnOk result (GoesThrough graph.now (is_tight_into (A.meaning algebra) graph.now labels.now region.now) k v tree.old.hops.items tree.old.parents.items tree.old.next.items tree.new.hops.items tree.new.parents.items tree.new.next.items) }
     ensures size { OnOk result (unreached tree.new.hops.items + length tree.new.next.items ≡ unreached tree.old.hops.items + length tree.old.next.items) }
 {
     let _n = graph.vertices();
@@ -75,7 +82,7 @@ fn spread<A: PathAlgebra>(
         far: k + 1,
     };
     for road in graph.roads_from(v) {
-        try_road(algebra, labels, tree, from, road.head, road.weight)?;
+        try_road(algebra, labels, region, tree, from, road.head, road.weight)?;
     }
     Ok(())
 }
@@ -85,6 +92,7 @@ fn spread_level<A: PathAlgebra>(
     algebra: A,
     graph: &Graph,
     labels: &Labels<A::Value>,
+    region: &Region,
     tree: &mut Growing,
     level: &[Vertex],
     k: u32,
@@ -95,12 +103,12 @@ fn spread_level<A: PathAlgebra>(
     requires parents_count { length tree.old.parents.items ≡ graph.now.vertices }
     requires next { tree.old.next.items ≡ [] }
     requires few { k ≤ 2 ^ 25 }
-    ensures goes { OnOk result (GoesThroughLevel graph.now (is_tight (A.meaning algebra) graph.now labels.now) k tree.old.hops.items tree.old.parents.items level.now tree.new.hops.items tree.new.parents.items tree.new.next.items) }
+    ensures goes { OnOk result (GoesThroughLevel graph.now (is_tight_into (A.meaning algebra) graph.now labels.now region.now) k tree.old.hops.items tree.old.parents.items level.now tree.new.hops.items tree.new.parents.items tree.new.next.items) }
     ensures size { OnOk result (unreached tree.new.hops.items + length tree.new.next.items ≡ unreached tree.old.hops.items) }
 {
     let _n = graph.vertices();
     for v in level {
-        spread(algebra, graph, labels, tree, *v, k)?;
+        spread(algebra, graph, labels, region, tree, *v, k)?;
     }
     Ok(())
 }
@@ -120,25 +128,26 @@ fn mark_sources(tree: &mut Growing, sources: &[Vertex]) -> Result<(), Memory>
     Ok(())
 }
 
-/// Level by level, the least hops and the least parent of each vertex.
+/// Level by level, the least hops and the least parent of each vertex, over the tight arcs that lead into the region.
 pub(crate) fn grow<A: PathAlgebra>(
     alloc: Global,
     algebra: A,
     graph: &Graph,
     labels: &Labels<A::Value>,
+    region: &Region,
     sources: &[Vertex],
 ) -> Result<Growing, Memory>
     requires sources { All (HasVertex graph.now) sources.now }
     requires labels { length labels.now ≡ graph.now.vertices }
-    ensures hops { IfOk result (λ tree. AreLeast graph.now (is_tight (A.meaning algebra) graph.now labels.now) sources.now tree.hops.items) }
-    ensures parents { IfOk result (λ tree. AreLeastTails graph.now (is_tight (A.meaning algebra) graph.now labels.now) tree.hops.items tree.parents.items) }
+    ensures hops { IfOk result (λ tree. AreLeast graph.now (is_tight_into (A.meaning algebra) graph.now labels.now region.now) sources.now tree.hops.items) }
+    ensures parents { IfOk result (λ tree. AreLeastTails graph.now (is_tight_into (A.meaning algebra) graph.now labels.now region.now) tree.hops.items tree.parents.items) }
 {
     let mut tree = Growing::new(alloc, graph.vertices())?;
     mark_sources(&mut tree, sources)?;
     let mut k = 0;
     while !tree.next.is_empty() {
         let level = mem::replace(&mut tree.next, Vec::new(alloc));
-        spread_level(algebra, graph, labels, &mut tree, &level, k)?;
+        spread_level(algebra, graph, labels, region, &mut tree, &level, k)?;
         k += 1;
     }
     Ok(tree)

@@ -2,19 +2,24 @@
 //!
 //! An arc is tight where extending the label of its tail gives the label of its head. The hops of a vertex are the least
 //! number of arcs of a walk of tight arcs from a source to it; its parent is the least vertex from which a tight arc leads
-//! to it and that has one hop less. A tree is made in one pass over the arcs that leave reached vertices.
+//! to it and that has one hop less. A tree is made in one pass over the arcs that leave reached vertices. One route is found
+//! without the whole tree, by a search from its target back.
 #![tactic(auto)]
 
+mod backward;
 mod branches;
 mod growing;
 mod laws;
 mod levels;
+mod pairs;
 mod planting;
+mod region;
 mod routes;
 mod slot;
 mod tightness;
 
 pub use branches::Tree;
 pub use laws::{hops_tell_reached, labels_and_trees_agree, routes_follow_parents, trees_exist};
+pub use pairs::{PairRoute, route_between};
 pub use planting::tree;
 pub use routes::route;

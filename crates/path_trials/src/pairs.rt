@@ -1,0 +1,173 @@
+//! Routes between two vertices, worked out by hand, and all of those of small graphs against the whole tree's.
+
+use crate::trees::{FIVE, graph_of};
+use path_algebra::{Hops, PathAlgebra, Reach, Reliable, Shortest, Widest, Within};
+use path_plain::solve_one;
+use road_graph::{Graph, Vertex};
+use route_tree::{PairRoute, Tree, route, route_between, tree};
+use std::process::Abort;
+
+/// The route between two vertices, or none.
+fn found_between<A: PathAlgebra>(
+    rt: &(impl Abort + AllocGlobal),
+    algebra: A,
+    graph: &Graph,
+    source: u32,
+    target: u32,
+) -> Option<PairRoute> {
+    let (source, target) = (Vertex(source), Vertex(target));
+    assert!(rt; graph.has(source) && graph.has(target));
+    let labels = solve_one(rt.alloc(), algebra, graph, source).expect(rt, "memory");
+    route_between(rt.alloc(), algebra, graph, source, target, &labels).expect(rt, "memory")
+}
+
+/// Whether the route between two vertices goes through these; through none where no walk has a value.
+fn assert_between<A: PathAlgebra>(
+    rt: &(impl Abort + AllocGlobal),
+    algebra: A,
+    graph: &Graph,
+    source: u32,
+    wanted: &[u32],
+    target: u32,
+) {
+    match found_between(rt, algebra, graph, source, target) {
+        Some(found) => {
+            assert!(rt; found.vertices.len() == wanted.len());
+            assert!(rt; wanted.len() as u64 == found.hops as u64 + 1);
+            for i in 0..wanted.len() {
+                assert!(rt; found.vertices[i].0 == wanted[i]);
+            }
+        }
+        None => assert!(rt; wanted.is_empty()),
+    }
+}
+
+/// Whether a route is that of the tree to the same target.
+fn assert_of_tree(
+    rt: &(impl Abort + AllocGlobal),
+    tree: &Tree,
+    target: Vertex,
+    found: &Option<PairRoute>,
+) {
+    assert!(rt; 1 <= target.0 && target.0 as usize <= tree.vertices());
+    let wanted = route(rt.alloc(), tree, target).expect(rt, "memory");
+    match (wanted, found) {
+        (Some(wanted), Some(found)) => {
+            assert!(rt; tree.hops(target) == Some(found.hops));
+            assert!(rt; wanted.len() == found.vertices.len());
+            for i in 0..wanted.len() {
+                assert!(rt; found.vertices[i] == wanted[i]);
+            }
+        }
+        (None, None) => {}
+        _ => panic!(rt; "one of the two is none"),
+    }
+}
+
+/// Whether the routes from a vertex to all are those of its tree.
+fn assert_all_from<A: PathAlgebra>(
+    rt: &(impl Abort + AllocGlobal),
+    algebra: A,
+    graph: &Graph,
+    source: Vertex,
+) {
+    assert!(rt; graph.has(source));
+    let labels = solve_one(rt.alloc(), algebra, graph, source).expect(rt, "memory");
+    let tree = tree(rt.alloc(), algebra, graph, &[source], &labels).expect(rt, "memory");
+    for v in 1..=graph.vertices() {
+        let target = Vertex(v);
+        let found = route_between(rt.alloc(), algebra, graph, source, target, &labels).expect(
+            rt, "memory",
+        );
+        assert_of_tree(rt, &tree, target, &found);
+    }
+}
+
+/// Whether the routes of all pairs are those of the trees.
+fn assert_all<A: PathAlgebra>(rt: &(impl Abort + AllocGlobal), algebra: A, graph: &Graph) {
+    for s in 1..=graph.vertices() {
+        assert_all_from(rt, algebra, graph, Vertex(s));
+    }
+}
+
+/// The same for each algebra.
+fn assert_all_algebras(rt: &(impl Abort + AllocGlobal), graph: &Graph) {
+    assert_all(rt, Shortest, graph);
+    assert_all(rt, Widest, graph);
+    assert_all(rt, Reliable, graph);
+    assert_all(rt, Hops, graph);
+    assert_all(rt, Reach, graph);
+    assert_all(rt, Within::new(5).expect(rt, "limit"), graph);
+}
+
+#[test]
+fn five_vertices(rt: HostRuntime) {
+    let graph = graph_of(&rt, 5, &FIVE);
+    assert_between(&rt, Shortest, &graph, 1, &[1, 3, 2, 4], 4);
+    assert_between(&rt, Shortest, &graph, 1, &[1], 1);
+    assert_between(&rt, Shortest, &graph, 4, &[4], 4);
+    assert_between(&rt, Shortest, &graph, 1, &[], 5);
+    assert_between(&rt, Reach, &graph, 1, &[1, 2, 4], 4);
+    assert_between(&rt, Reach, &graph, 5, &[5, 1, 2, 4], 4);
+    let within = Within::new(5).expect(&rt, "limit");
+    assert_between(&rt, within, &graph, 1, &[1, 3, 2], 2);
+    assert_between(&rt, within, &graph, 1, &[], 4);
+    assert_all_algebras(&rt, &graph);
+}
+
+#[test]
+fn least_parents_from_the_target_back(rt: HostRuntime) {
+    let arcs = [
+        (1, 2, 1),
+        (1, 5, 1),
+        (2, 4, 1),
+        (5, 3, 1),
+        (4, 6, 1),
+        (3, 6, 1),
+    ];
+    let graph = graph_of(&rt, 6, &arcs);
+    assert_between(&rt, Shortest, &graph, 1, &[1, 5, 3, 6], 6);
+    assert_all_algebras(&rt, &graph);
+}
+
+#[test]
+fn tight_cycles(rt: HostRuntime) {
+    let cycle = graph_of(&rt, 3, &[(1, 2, 0), (2, 3, 0), (3, 2, 0), (1, 3, 0)]);
+    assert_between(&rt, Shortest, &cycle, 1, &[1, 3], 3);
+    assert_between(&rt, Shortest, &cycle, 2, &[], 1);
+    assert_all_algebras(&rt, &cycle);
+    let arcs = [
+        (1, 3, 0),
+        (3, 2, 0),
+        (2, 1, 0),
+        (2, 2, 0),
+        (3, 2, 0),
+        (2, 4, 1),
+        (3, 4, 1),
+        (1, 4, 1),
+    ];
+    let parallel = graph_of(&rt, 4, &arcs);
+    assert_between(&rt, Shortest, &parallel, 3, &[3, 2, 1], 1);
+    assert_between(&rt, Shortest, &parallel, 3, &[3, 4], 4);
+    assert_all_algebras(&rt, &parallel);
+}
+
+#[test]
+fn wide_walk_with_untight_first_arc(rt: HostRuntime) {
+    let arcs = [(1, 2, 5), (2, 3, 5), (3, 4, 5), (1, 4, 4), (4, 5, 3)];
+    let graph = graph_of(&rt, 5, &arcs);
+    assert_between(&rt, Widest, &graph, 1, &[1, 2, 3, 4, 5], 5);
+    assert_all_algebras(&rt, &graph);
+}
+
+#[test]
+fn many_equal_routes(rt: HostRuntime) {
+    let mut arcs = Vec::new(rt.alloc());
+    let mut number = 7u32;
+    for _ in 0..90 {
+        number = number.wrapping_mul(1103515245).wrapping_add(12345);
+        let (tail, head) = (number / 65536 % 24 + 1, number / 1048576 % 24 + 1);
+        arcs.push((tail, head, number / 256 % 3)).expect(&rt, "memory");
+    }
+    assert_all_algebras(&rt, &graph_of(&rt, 24, &arcs));
+}

@@ -1,10 +1,10 @@
 -- Lists of numbers, field by field.
 use Rattle.std.proofs.Common.{◌≡◌, ◌⊎◌, inl, inr, ℕ, ◌+◌, ◌<◌, min, List, [], ◌∷◌, ◌++◌, length, drop, map, Option, Some, None, Ok, Err, Result, true, option_map, refl, sym, ap, ◌∙◌, arith, length-append}
-use Rattle.std.proofs.lemmas.List.{map-append}
 use Rattle.std.proofs.lemmas.Grind.{common_steps}
 use Rattle.std.specs.Result.{OnOk}
 use Rattle.road_text.specs.Rules.{◌>>=◌}
 use Rattle.road_text.specs.Words.{Word, word_of, held_word}
+use Rattle.road_text.proofs.ListFields.{words_push, after_first}
 use Rattle.answer_text.specs.declared.present_numbers.PresentNumbers.{PresentNumbers}
 use Rattle.answer_text.specs.AnswerFiles.{number_in, numbers_in}
 use Rattle.answer_text.specs.AnswerTakes.{SoFar, begins_list, begins_route, numbers_given, one_number_more}
@@ -15,26 +15,11 @@ number_held limit None h = refl
 number_held limit (Some v) h = grind (arith, common_steps)
 
 numbers_push : (ws : List Word) (w : Word) → numbers_in (ws ++ w ∷ []) ≡ one_number_more (numbers_in ws) w.number
-numbers_push [] w = single (number_in 4294967295 w.number)
-  where
-    single : (r : Result ℕ ℕ) → (r >>= λ v. Ok (v ∷ [])) ≡ (r >>= λ v. Ok ([] ++ v ∷ []))
-    single (Ok v) = refl
-    single (Err e) = refl
-numbers_push (x ∷ ws) w = rw (numbers_push ws w) (go (number_in 4294967295 x.number) (numbers_in ws) (number_in 4294967295 w.number))
-  where
-    go : (a : Result ℕ ℕ) (b : Result (List ℕ) ℕ) (c : Result ℕ ℕ) → (a >>= λ v. (b >>= λ vs. c >>= λ u. Ok (vs ++ u ∷ [])) >>= λ vs. Ok (v ∷ vs)) ≡ ((a >>= λ v. b >>= λ vs. Ok (v ∷ vs)) >>= λ vs. c >>= λ u. Ok (vs ++ u ∷ []))
-    go (Err e) b c = refl
-    go (Ok v) (Err e) c = refl
-    go (Ok v) (Ok vs) (Err e) = refl
-    go (Ok v) (Ok vs) (Ok u) = refl
+numbers_push = words_push (λ w. number_in 4294967295 w.number) numbers_in refl (λ w ws. refl)
 
 same_letter : (fs : List (List ℕ)) (f : List ℕ) → 0 < length fs → begins_list (fs ++ f ∷ []) ≡ begins_list fs
 same_letter [] f lt = absurd (omega arith)
 same_letter (x ∷ fs) f lt = refl
-
-after_first : (fs : List (List ℕ)) (f : List ℕ) → 0 < length fs → drop 1 (map word_of (fs ++ f ∷ [])) ≡ drop 1 (map word_of fs) ++ word_of f ∷ []
-after_first [] f lt = absurd (omega arith)
-after_first (x ∷ fs) f lt = map-append word_of fs (f ∷ [])
 
 same_route : (fs : List (List ℕ)) (f : List ℕ) → 0 < length fs → begins_route (fs ++ f ∷ []) ≡ begins_route fs
 same_route [] f lt = absurd (omega arith)

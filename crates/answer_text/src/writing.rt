@@ -62,10 +62,7 @@ fn write_vertices<W: RoadWrite>(to: &mut W, lines: &[Option<Reached>]) -> Result
     let mut text = Line::new();
     for line in lines {
         vertex += 1;
-        match write_vertex(to, &mut text, vertex, *line) {
-            Ok(()) => {}
-            Err(fault) => return Err(fault),
-        }
+        write_vertex(to, &mut text, vertex, *line)?;
     }
     Ok(())
 }
@@ -124,10 +121,8 @@ fn write_found<W: RoadWrite>(
 ) -> Result<(), WriteFault>
     ensures { WritesText W.written W.failures to.old to.new (text_of (found_words code hops ∷ list_words (codes "r") route.now ∷ [])) result }
 {
-    match write_found_line(to, code, hops) {
-        Ok(()) => write_list(to, b"r", route),
-        Err(fault) => Err(fault),
-    }
+    write_found_line(to, code, hops)?;
+    write_list(to, b"r", route)
 }
 
 // Writes the answer of a pair.
@@ -139,10 +134,7 @@ fn write_pair<W: RoadWrite>(
 ) -> Result<(), WriteFault>
     ensures { WritesText W.written W.failures to.old to.new (text_of (pair_words source target ∷ found_lines (option_map found_of found.now))) result }
 {
-    match write_pair_line(to, source, target) {
-        Ok(()) => {}
-        Err(fault) => return Err(fault),
-    }
+    write_pair_line(to, source, target)?;
     match found {
         Some(found) => write_found(to, found.code, found.hops, found.route.as_slice()),
         None => write_unreached(to),
@@ -170,10 +162,7 @@ fn write_blocks<W: RoadWrite>(to: &mut W, answers: &[Answer]) -> Result<(), Writ
     ensures { WritesText W.written W.failures to.old to.new (blocks_text (map told_of answers.now)) result }
 {
     for answer in answers {
-        match write_answer(to, answer) {
-            Ok(()) => {}
-            Err(fault) => return Err(fault),
-        }
+        write_answer(to, answer)?;
     }
     Ok(())
 }
@@ -184,8 +173,6 @@ pub fn write_answers<W: RoadWrite>(to: &mut W, answers: &Answers) -> Result<(), 
     requires { length answers.now.list.items ≤ MAX_ANSWERS }
     ensures { WritesText W.written W.failures to.old to.new (answers_text (told_list_of answers.now)) result }
 {
-    match write_header(to, answers.kind, answers.list.len() as u32, answers.name) {
-        Ok(()) => write_blocks(to, answers.list.as_slice()),
-        Err(fault) => Err(fault),
-    }
+    write_header(to, answers.kind, answers.list.len() as u32, answers.name)?;
+    write_blocks(to, answers.list.as_slice())
 }

@@ -21,10 +21,7 @@ fn write_arcs<W: RoadWrite>(to: &mut W, graph: &Graph) -> Result<(), WriteFault>
     let _vertices = graph.vertices();
     for number in 0..graph.arcs() as u32 {
         fill_arc(&mut line, graph.arc(ArcNo(number + 1)));
-        match write_bytes(to, line.as_str().as_bytes()) {
-            Ok(()) => {}
-            Err(fault) => return Err(fault),
-        }
+        write_bytes(to, line.as_str().as_bytes())?;
     }
     Ok(())
 }
@@ -34,10 +31,8 @@ pub fn write_gr<W: RoadWrite>(to: &mut W, graph: &Graph) -> Result<(), WriteFaul
     ensures { WritesText W.written W.failures to.old to.new (gr_text graph.now) result }
 {
     let line = line_of_graph(graph.vertices(), graph.arcs() as u64);
-    match write_bytes(to, line.as_str().as_bytes()) {
-        Ok(()) => write_arcs(to, graph),
-        Err(fault) => Err(fault),
-    }
+    write_bytes(to, line.as_str().as_bytes())?;
+    write_arcs(to, graph)
 }
 
 fn write_sources<W: RoadWrite>(to: &mut W, sources: &[Vertex]) -> Result<(), WriteFault>
@@ -46,10 +41,7 @@ fn write_sources<W: RoadWrite>(to: &mut W, sources: &[Vertex]) -> Result<(), Wri
     let mut line = Line::new();
     for source in sources {
         fill_source(&mut line, *source);
-        match write_bytes(to, line.as_str().as_bytes()) {
-            Ok(()) => {}
-            Err(fault) => return Err(fault),
-        }
+        write_bytes(to, line.as_str().as_bytes())?;
     }
     Ok(())
 }
@@ -59,10 +51,8 @@ pub fn write_ss<W: RoadWrite>(to: &mut W, sources: &[Vertex]) -> Result<(), Writ
     ensures { WritesText W.written W.failures to.old to.new (questions_text (record { kind = Kind.Sources; questions = map of_source sources.now })) result }
 {
     let line = line_of_problem(Kind::Sources, sources.len() as u64);
-    match write_bytes(to, line.as_str().as_bytes()) {
-        Ok(()) => write_sources(to, sources),
-        Err(fault) => Err(fault),
-    }
+    write_bytes(to, line.as_str().as_bytes())?;
+    write_sources(to, sources)
 }
 
 fn write_pairs<W: RoadWrite>(to: &mut W, pairs: &[(Vertex, Vertex)]) -> Result<(), WriteFault>
@@ -71,10 +61,7 @@ fn write_pairs<W: RoadWrite>(to: &mut W, pairs: &[(Vertex, Vertex)]) -> Result<(
     let mut line = Line::new();
     for pair in pairs {
         fill_pair(&mut line, *pair);
-        match write_bytes(to, line.as_str().as_bytes()) {
-            Ok(()) => {}
-            Err(fault) => return Err(fault),
-        }
+        write_bytes(to, line.as_str().as_bytes())?;
     }
     Ok(())
 }
@@ -84,10 +71,8 @@ pub fn write_p2p<W: RoadWrite>(to: &mut W, pairs: &[(Vertex, Vertex)]) -> Result
     ensures { WritesText W.written W.failures to.old to.new (questions_text (record { kind = Kind.Pairs; questions = map of_pair pairs.now })) result }
 {
     let line = line_of_problem(Kind::Pairs, pairs.len() as u64);
-    match write_bytes(to, line.as_str().as_bytes()) {
-        Ok(()) => write_pairs(to, pairs),
-        Err(fault) => Err(fault),
-    }
+    write_bytes(to, line.as_str().as_bytes())?;
+    write_pairs(to, pairs)
 }
 
 // Writes each vertex after a space, and the line's end.
@@ -97,10 +82,7 @@ fn write_vertices<W: RoadWrite>(to: &mut W, vertices: &[Vertex]) -> Result<(), W
     let mut line = Line::new();
     for vertex in vertices {
         fill_vertex(&mut line, *vertex);
-        match write_bytes(to, line.as_str().as_bytes()) {
-            Ok(()) => {}
-            Err(fault) => return Err(fault),
-        }
+        write_bytes(to, line.as_str().as_bytes())?;
     }
     write_bytes(to, b"\n")
 }
@@ -118,10 +100,7 @@ fn write_lists<W: RoadWrite>(to: &mut W, lists: &[Vec<Vertex>]) -> Result<(), Wr
     ensures { WritesText W.written W.failures to.old to.new (text_of (map question_words (map of_list lists.now))) result }
 {
     for list in lists {
-        match write_list(to, list) {
-            Ok(()) => {}
-            Err(fault) => return Err(fault),
-        }
+        write_list(to, list)?;
     }
     Ok(())
 }
@@ -131,8 +110,6 @@ pub fn write_ms<W: RoadWrite>(to: &mut W, lists: &[Vec<Vertex>]) -> Result<(), W
     ensures { WritesText W.written W.failures to.old to.new (questions_text (record { kind = Kind.Multi; questions = map of_list lists.now })) result }
 {
     let line = line_of_problem(Kind::Multi, lists.len() as u64);
-    match write_bytes(to, line.as_str().as_bytes()) {
-        Ok(()) => write_lists(to, lists),
-        Err(fault) => Err(fault),
-    }
+    write_bytes(to, line.as_str().as_bytes())?;
+    write_lists(to, lists)
 }

@@ -32,10 +32,7 @@ fn write_numbers<W: RoadWrite>(to: &mut W, numbers: &[u32]) -> Result<(), WriteF
 {
     for n in numbers {
         let text = spaced_number(*n);
-        match write_bytes(to, text.as_str().as_bytes()) {
-            Ok(()) => {}
-            Err(fault) => return Err(fault),
-        }
+        write_bytes(to, text.as_str().as_bytes())?;
     }
     write_bytes(to, b"\n")
 }

@@ -1,18 +1,13 @@
 -- Lists of numbers, field by field.
-use Rattle.std.proofs.Common.{◌≡◌, ◌⊎◌, inl, inr, ℕ, ◌+◌, ◌<◌, min, List, [], ◌∷◌, ◌++◌, length, drop, map, Option, Some, None, Ok, Err, Result, true, option_map, refl, sym, ap, ◌∙◌, arith, length-append}
-use Rattle.std.proofs.lemmas.Grind.{common_steps}
+use Rattle.std.proofs.Common.{◌≡◌, ◌⊎◌, inl, inr, ℕ, ◌+◌, ◌<◌, min, List, [], ◌∷◌, ◌++◌, length, drop, map, Ok, Err, Result, true, refl, sym, ap, ◌∙◌, arith, length-append}
 use Rattle.std.specs.Result.{OnOk}
 use Rattle.road_text.specs.Rules.{◌>>=◌}
 use Rattle.road_text.specs.Words.{Word, word_of, held_word}
 use Rattle.road_text.proofs.ListFields.{words_push, after_first}
+use Rattle.road_text.proofs.WordLaws.{number_held}
 use Rattle.answer_text.specs.declared.present_numbers.PresentNumbers.{PresentNumbers}
 use Rattle.answer_text.specs.AnswerFiles.{number_in, numbers_in}
 use Rattle.answer_text.specs.AnswerTakes.{SoFar, begins_list, begins_route, numbers_given, one_number_more}
-
--- what is kept of a number is enough
-pub number_held : (limit : ℕ) (o : Option ℕ) → limit < 18446744073709551616 → number_in limit (option_map (λ v. min v 18446744073709551616) o) ≡ number_in limit o
-number_held limit None h = refl
-number_held limit (Some v) h = grind (arith, common_steps)
 
 numbers_push : (ws : List Word) (w : Word) → numbers_in (ws ++ w ∷ []) ≡ one_number_more (numbers_in ws) w.number
 numbers_push = words_push (λ w. number_in 4294967295 w.number) numbers_in refl (λ w ws. refl)
@@ -41,7 +36,7 @@ next_field s t fs f h some more letter route numbers =
       route_is = route ∙ h.route_is ∙ sym (same_route fs f any);
       numbers_are = λ on few. let was : s.is_list ≡ true = sym letter ∙ on in
           ap numbers_in (after_first fs f any) ∙ numbers_push (drop 1 (map word_of fs)) (word_of f) ∙ ap (λ r. one_number_more r (word_of f).number) (h.numbers_are was (kept few))
-          ∙ ap (λ r. numbers_given s >>= λ vs. r >>= λ v. Ok (vs ++ v ∷ [])) (sym (number_held 4294967295 (word_of f).number (omega arith))) ∙ sym (numbers was (room few));
+          ∙ ap (λ r. numbers_given s >>= λ vs. r >>= λ v. Ok (vs ++ v ∷ [])) (sym (number_held 34 35 4294967295 (word_of f).number (omega arith))) ∙ sym (numbers was (room few));
     }
 
 pub on_more : {E P Q : Type 0} (r : Result (Unit {0}) E) → OnOk r P → (P → Q) → OnOk r Q

@@ -3,7 +3,7 @@ use Rattle.std.proofs.Common.{◌+◌, ◌==◌, if◌then◌else◌, ℕ, ◌�
 use Rattle.std.specs.Prelude.{slice_index}
 use Rattle.road_text.specs.Rules.{◌>>=◌, unless}
 use Rattle.road_text.specs.Words.{Word, word_of, word_at}
-use Rattle.road_text.proofs.OwnNumbers.{IsOwn, own_then, own_unless, own_if}
+use Rattle.road_text.proofs.OwnNumbers.{IsOwn, own_then, own_unless, own_if, own_up_to}
 use Rattle.road_files.specs.declared.questions.Kind.{Kind}
 use Rattle.road_files.specs.declared.questions.Kind.TheVariants.{Sources, Pairs, Multi}
 use Rattle.answer_text.specs.AnswerFiles.{Stage, Between, InLines, AfterPair, AfterFound, AnswersSoFar, number_in, numbers_in, known, header_line, source_line, pair_line, list_line, sources_line, route_line, reached_line, unreached_line, vertex_line, value_line, none_line, found_line, question_line, answer_line, told_after, line_given, end_read, answer_rules}
@@ -28,8 +28,7 @@ either : {A : Type 0} (b : Bool) (x y : Result A ℕ) → IsAnswers x → IsAnsw
 either b x y p q = own_if 30 36 b x y p q
 
 number : (limit : ℕ) (o : Option ℕ) → IsAnswers (number_in limit o)
-number limit None = wrong 34 (omega arith) (omega arith)
-number limit (Some n) = either _ _ _ (wrong 35 (omega arith) (omega arith)) (fine n)
+number limit o = own_up_to 30 36 34 35 limit o (omega arith, omega arith) (omega arith, omega arith)
 
 numbers : (ws : List Word) → IsAnswers (numbers_in ws)
 numbers [] = fine []

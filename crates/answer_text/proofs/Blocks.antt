@@ -3,7 +3,7 @@ use Rattle.std.proofs.Common.{◌≡◌, ℕ, ◌+◌, ◌<◌, List, [], ◌∷
 use Rattle.std.proofs.lemmas.List.{length-map}
 use Rattle.road_text.specs.Texts.{spelled, text_of}
 use Rattle.road_text.specs.Written.{Left, Fell, Wrote}
-use Rattle.road_text.proofs.WriteLaws.{wrote_then, left_step, fell_step}
+use Rattle.road_text.proofs.WriteLaws.{wrote_then, left_step, fell_step, fell_first}
 use Rattle.answer_text.specs.declared.answers.Answer.{Answer}
 use Rattle.answer_text.specs.AnswerText.{answer_text, answers_text, blocks_text, header_text}
 use Rattle.answer_text.specs.declared.answers.Answers.{Answers}
@@ -34,3 +34,9 @@ header_then old mid new b m a answers items count r same is was next =
     wrote_then old mid new b m a (header_text answers.kind (length told) answers.name) (blocks_text told) r
     (subst (λ k. Left old mid b m (header_text answers.kind k answers.name) []) (is ∙ sym (length-map answers.list.items told_of)) was)
     (subst (λ xs. Wrote mid new m a (blocks_text (map told_of xs)) r) same next)
+
+-- the header was cut short
+pub header_fell : (old new : Option (List ℕ)) (b a : ℕ) (answers : Answers) (count : ℕ) → count ≡ length answers.list.items → Fell old new b a (header_text answers.kind count answers.name) → Fell old new b a (answers_text (told_list_of answers))
+header_fell old new b a answers count is was =
+    let told : List Told = map told_of answers.list.items in
+    fell_first old new b a (header_text answers.kind (length told) answers.name) (blocks_text told) (subst (λ k. Fell old new b a (header_text answers.kind k answers.name)) (is ∙ sym (length-map answers.list.items told_of)) was)

@@ -10,14 +10,13 @@ use Rattle.road_text.specs.Lines.{fields}
 use Rattle.road_text.specs.Slots.{word_in}
 use Rattle.road_text.specs.Takes.{ShowsLine}
 use Rattle.road_text.specs.Words.{Word, word_of, word_at}
-use Rattle.road_text.proofs.WordLaws.{held, held_words, short_word, first_byte}
+use Rattle.road_text.proofs.WordLaws.{held, held_words, short_word, first_byte, number_held}
 use Rattle.road_files.specs.declared.questions.Kind.{Kind}
 use Rattle.road_files.specs.declared.questions.Kind.TheVariants.{Sources, Pairs, Multi}
 use Rattle.road_files.specs.QuestionFiles.{kind_named}
 use Rattle.answer_text.specs.declared.present_numbers.PresentNumbers.{PresentNumbers}
 use Rattle.answer_text.specs.AnswerFiles.{Stage, Between, InLines, AfterPair, AfterFound, AnswersSoFar, numbers_in, begins, header_line, source_line, pair_line, list_line, sources_line, route_line, reached_line, unreached_line, vertex_line, value_line, none_line, found_line, question_line, answer_line, told_after, line_given, line_read}
 use Rattle.answer_text.specs.AnswerTakes.{SoFar, begins_list, begins_route, numbers_given}
-use Rattle.answer_text.proofs.ListFields.{number_held}
 
 -- these words are what is kept of those
 pub record Keeps (kept ws : List Word) : Type 0 where
@@ -73,12 +72,12 @@ module _ (kept ws : List Word) (h : Keeps kept ws) where
     short_word (word_at 1 ws).text (codes "ans") (lit< tt),
     kind_held (word_at 2 ws).text,
     name_held (word_at 4 ws).text,
-    number_held 1048576 (word_at 3 ws).number (lit< tt),
+    number_held 34 35 1048576 (word_at 3 ws).number (lit< tt),
   ) refl
 
   source_held : source_line kept ≡ source_line ws
   unfolding source_line
-  source_held = rw (h.count 2 (lit< tt), begins_held (codes "s") (lit< tt), h.word 1 (lit< tt), number_held 4294967295 (word_at 1 ws).number (lit< tt)) refl
+  source_held = rw (h.count 2 (lit< tt), begins_held (codes "s") (lit< tt), h.word 1 (lit< tt), number_held 34 35 4294967295 (word_at 1 ws).number (lit< tt)) refl
 
   pair_held : pair_line kept ≡ pair_line ws
   unfolding pair_line
@@ -87,8 +86,8 @@ module _ (kept ws : List Word) (h : Keeps kept ws) where
     begins_held (codes "q") (lit< tt),
     h.word 1 (lit< tt),
     h.word 2 (lit< tt),
-    number_held 4294967295 (word_at 1 ws).number (lit< tt),
-    number_held 4294967295 (word_at 2 ws).number (lit< tt),
+    number_held 34 35 4294967295 (word_at 1 ws).number (lit< tt),
+    number_held 34 35 4294967295 (word_at 2 ws).number (lit< tt),
   ) refl
 
   reached_held : (v : ℕ) → reached_line v kept ≡ reached_line v ws
@@ -99,15 +98,15 @@ module _ (kept ws : List Word) (h : Keeps kept ws) where
     h.word 2 (lit< tt),
     h.word 3 (lit< tt),
     h.word 4 (lit< tt),
-    number_held 4294967295 (word_at 1 ws).number (lit< tt),
-    number_held 18446744073709551615 (word_at 2 ws).number (lit< tt),
-    number_held 4294967295 (word_at 3 ws).number (lit< tt),
-    number_held 4294967295 (word_at 4 ws).number (lit< tt),
+    number_held 34 35 4294967295 (word_at 1 ws).number (lit< tt),
+    number_held 34 35 18446744073709551615 (word_at 2 ws).number (lit< tt),
+    number_held 34 35 4294967295 (word_at 3 ws).number (lit< tt),
+    number_held 34 35 4294967295 (word_at 4 ws).number (lit< tt),
   ) refl
 
   unreached_held : (v : ℕ) → unreached_line v kept ≡ unreached_line v ws
   unfolding unreached_line
-  unreached_held v = rw (h.count 2 (lit< tt), h.word 1 (lit< tt), number_held 4294967295 (word_at 1 ws).number (lit< tt)) refl
+  unreached_held v = rw (h.count 2 (lit< tt), h.word 1 (lit< tt), number_held 34 35 4294967295 (word_at 1 ws).number (lit< tt)) refl
 
   vertex_held : (v : ℕ) → vertex_line v kept ≡ vertex_line v ws
   unfolding vertex_line
@@ -119,8 +118,8 @@ module _ (kept ws : List Word) (h : Keeps kept ws) where
     h.count 3 (lit< tt),
     h.word 1 (lit< tt),
     h.word 2 (lit< tt),
-    number_held 18446744073709551615 (word_at 1 ws).number (lit< tt),
-    number_held 4294967295 (word_at 2 ws).number (lit< tt),
+    number_held 34 35 18446744073709551615 (word_at 1 ws).number (lit< tt),
+    number_held 34 35 4294967295 (word_at 2 ws).number (lit< tt),
   ) refl
 
   none_held : none_line kept ≡ none_line ws

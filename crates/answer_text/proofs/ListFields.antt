@@ -1,40 +1,20 @@
 -- Lists of numbers, field by field.
-use Rattle.std.proofs.Common.{◌≡◌, ◌⊎◌, inl, inr, ℕ, ◌+◌, ◌<◌, min, List, [], ◌∷◌, ◌++◌, length, drop, map, Option, Some, None, Ok, Err, Result, true, option_map, refl, sym, ap, ◌∙◌, arith, length-append}
-use Rattle.std.proofs.lemmas.List.{map-append}
-use Rattle.std.proofs.lemmas.Grind.{common_steps}
+use Rattle.std.proofs.Common.{◌≡◌, ◌⊎◌, inl, inr, ℕ, ◌+◌, ◌<◌, min, List, [], ◌∷◌, ◌++◌, length, drop, map, Ok, Err, Result, true, refl, sym, ap, ◌∙◌, arith, length-append}
 use Rattle.std.specs.Result.{OnOk}
 use Rattle.road_text.specs.Rules.{◌>>=◌}
 use Rattle.road_text.specs.Words.{Word, word_of, held_word}
+use Rattle.road_text.proofs.ListFields.{words_push, after_first}
+use Rattle.road_text.proofs.WordLaws.{number_held}
 use Rattle.answer_text.specs.declared.present_numbers.PresentNumbers.{PresentNumbers}
 use Rattle.answer_text.specs.AnswerFiles.{number_in, numbers_in}
 use Rattle.answer_text.specs.AnswerTakes.{SoFar, begins_list, begins_route, numbers_given, one_number_more}
 
--- what is kept of a number is enough
-pub number_held : (limit : ℕ) (o : Option ℕ) → limit < 18446744073709551616 → number_in limit (option_map (λ v. min v 18446744073709551616) o) ≡ number_in limit o
-number_held limit None h = refl
-number_held limit (Some v) h = grind (arith, common_steps)
-
 numbers_push : (ws : List Word) (w : Word) → numbers_in (ws ++ w ∷ []) ≡ one_number_more (numbers_in ws) w.number
-numbers_push [] w = single (number_in 4294967295 w.number)
-  where
-    single : (r : Result ℕ ℕ) → (r >>= λ v. Ok (v ∷ [])) ≡ (r >>= λ v. Ok ([] ++ v ∷ []))
-    single (Ok v) = refl
-    single (Err e) = refl
-numbers_push (x ∷ ws) w = rw (numbers_push ws w) (go (number_in 4294967295 x.number) (numbers_in ws) (number_in 4294967295 w.number))
-  where
-    go : (a : Result ℕ ℕ) (b : Result (List ℕ) ℕ) (c : Result ℕ ℕ) → (a >>= λ v. (b >>= λ vs. c >>= λ u. Ok (vs ++ u ∷ [])) >>= λ vs. Ok (v ∷ vs)) ≡ ((a >>= λ v. b >>= λ vs. Ok (v ∷ vs)) >>= λ vs. c >>= λ u. Ok (vs ++ u ∷ []))
-    go (Err e) b c = refl
-    go (Ok v) (Err e) c = refl
-    go (Ok v) (Ok vs) (Err e) = refl
-    go (Ok v) (Ok vs) (Ok u) = refl
+numbers_push = words_push (λ w. number_in 4294967295 w.number) numbers_in refl (λ w ws. refl)
 
 same_letter : (fs : List (List ℕ)) (f : List ℕ) → 0 < length fs → begins_list (fs ++ f ∷ []) ≡ begins_list fs
 same_letter [] f lt = absurd (omega arith)
 same_letter (x ∷ fs) f lt = refl
-
-after_first : (fs : List (List ℕ)) (f : List ℕ) → 0 < length fs → drop 1 (map word_of (fs ++ f ∷ [])) ≡ drop 1 (map word_of fs) ++ word_of f ∷ []
-after_first [] f lt = absurd (omega arith)
-after_first (x ∷ fs) f lt = map-append word_of fs (f ∷ [])
 
 same_route : (fs : List (List ℕ)) (f : List ℕ) → 0 < length fs → begins_route (fs ++ f ∷ []) ≡ begins_route fs
 same_route [] f lt = absurd (omega arith)
@@ -56,7 +36,7 @@ next_field s t fs f h some more letter route numbers =
       route_is = route ∙ h.route_is ∙ sym (same_route fs f any);
       numbers_are = λ on few. let was : s.is_list ≡ true = sym letter ∙ on in
           ap numbers_in (after_first fs f any) ∙ numbers_push (drop 1 (map word_of fs)) (word_of f) ∙ ap (λ r. one_number_more r (word_of f).number) (h.numbers_are was (kept few))
-          ∙ ap (λ r. numbers_given s >>= λ vs. r >>= λ v. Ok (vs ++ v ∷ [])) (sym (number_held 4294967295 (word_of f).number (omega arith))) ∙ sym (numbers was (room few));
+          ∙ ap (λ r. numbers_given s >>= λ vs. r >>= λ v. Ok (vs ++ v ∷ [])) (sym (number_held 34 35 4294967295 (word_of f).number (omega arith))) ∙ sym (numbers was (room few));
     }
 
 pub on_more : {E P Q : Type 0} (r : Result (Unit {0}) E) → OnOk r P → (P → Q) → OnOk r Q

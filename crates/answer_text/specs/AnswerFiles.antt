@@ -5,7 +5,7 @@ use Rattle.std.specs.Prelude.{ℕ, ◌+◌, ◌==◌, ◌&&◌, Bool, true, fals
 use Rattle.path_algebra.specs.declared.name.AlgebraName.{AlgebraName}
 use Rattle.path_algebra.specs.Names.{name_of_text}
 use Rattle.road_text.specs.Rules.{◌>>=◌, unless, Rules}
-use Rattle.road_text.specs.Words.{Word, word_of, word_at}
+use Rattle.road_text.specs.Words.{Word, word_of, word_at, number_up_to}
 use Rattle.road_files.specs.declared.questions.Kind.{Kind}
 use Rattle.road_files.specs.declared.questions.Kind.TheVariants.{Sources, Pairs, Multi}
 use Rattle.road_files.specs.QuestionFiles.{kind_named}
@@ -34,8 +34,7 @@ pub record AnswersSoFar : Type 0 where
 
 -- a number up to a limit: 34 where it is none, 35 above the limit
 abbrev pub number_in : ℕ → Option ℕ → Result ℕ ℕ
-number_in limit None = Err 34
-number_in limit (Some n) = if nat_lt limit n then Err 35 else Ok n
+number_in = number_up_to 34 35
 
 -- numbers below 2^32, from left to right
 abbrev pub numbers_in : List Word → Result (List ℕ) ℕ

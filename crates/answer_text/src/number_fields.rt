@@ -5,17 +5,14 @@ ghost use Rattle.road_text.specs.Takes.{Agrees};
 ghost use Rattle.answer_text.specs.AnswerFiles.{number_in};
 
 use crate::rules::{NOT_A_NUMBER, TOO_LARGE};
-use road_text::{LineFault, Slot};
+use road_text::{LineFault, Slot, limited_number};
 
 /// The number in a field, up to a limit.
 pub fn number_up_to(slot: &Slot, limit: u32) -> Result<u32, LineFault>
     ensures { Agrees (number_in limit (word_in slot.now).number) result }
 {
-    match slot.number {
-        None => Err(LineFault::Broken(NOT_A_NUMBER)),
-        Some(n) if n > u128::from(limit) => Err(LineFault::Broken(TOO_LARGE)),
-        Some(n) => Ok(n as u32),
-    }
+    let number = limited_number(slot, u64::from(limit), NOT_A_NUMBER, TOO_LARGE)?;
+    Ok(number as u32)
 }
 
 /// A number below 2^32.
@@ -29,9 +26,5 @@ pub fn number_of(slot: &Slot) -> Result<u32, LineFault>
 pub fn code_of(slot: &Slot) -> Result<u64, LineFault>
     ensures { Agrees (number_in 18446744073709551615 (word_in slot.now).number) result }
 {
-    match slot.number {
-        None => Err(LineFault::Broken(NOT_A_NUMBER)),
-        Some(n) if n > u128::from(u64::MAX) => Err(LineFault::Broken(TOO_LARGE)),
-        Some(n) => Ok(n as u64),
-    }
+    limited_number(slot, u64::MAX, NOT_A_NUMBER, TOO_LARGE)
 }

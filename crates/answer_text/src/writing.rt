@@ -1,7 +1,7 @@
 //! Writes answers, line by line. Nothing here takes memory.
 ghost use Rattle.std.specs.Prelude.{◌≡◌, ◌≤◌, ◌<◌, ◌^◌, ◌++◌, ◌∷◌, [], codes, length, map, option_map};
 ghost use Rattle.road_text.specs.Texts.{list_words, spelled, text_of};
-ghost use Rattle.road_text.specs.Written.{Wrote};
+ghost use Rattle.road_text.specs.Written.{WritesText};
 ghost use Rattle.answer_text.specs.AnswerText.{answer_text, answers_text, blocks_text, found_lines, found_words, header_text, pair_words, source_words, vertex_lines, vertex_words};
 ghost use Rattle.answer_text.specs.Told.{found_of, told_list_of, told_of};
 
@@ -22,21 +22,21 @@ pub fn write_header<W: RoadWrite>(
     count: u32,
     name: AlgebraName,
 ) -> Result<(), WriteFault>
-    ensures { Wrote (W.written to.old) (W.written to.new) (W.failures to.old) (W.failures to.new) (header_text kind count name) result }
+    ensures { WritesText W.written W.failures to.old to.new (header_text kind count name) result }
 {
     write_bytes(to, line_of_header(kind, count, name).as_str().as_bytes())
 }
 
 /// Writes the first line of an answer from one source. `write_vertex` writes the lines that follow it.
 pub fn write_source_line<W: RoadWrite>(to: &mut W, source: u32) -> Result<(), WriteFault>
-    ensures { Wrote (W.written to.old) (W.written to.new) (W.failures to.old) (W.failures to.new) (spelled (source_words source)) result }
+    ensures { WritesText W.written W.failures to.old to.new (spelled (source_words source)) result }
 {
     write_bytes(to, line_of_source(source).as_str().as_bytes())
 }
 
 /// Writes the first line of an answer from several sources. `write_vertex` writes the lines that follow it.
 pub fn write_sources_line<W: RoadWrite>(to: &mut W, sources: &[u32]) -> Result<(), WriteFault>
-    ensures { Wrote (W.written to.old) (W.written to.new) (W.failures to.old) (W.failures to.new) (spelled (list_words (codes "m") sources.now)) result }
+    ensures { WritesText W.written W.failures to.old to.new (spelled (list_words (codes "m") sources.now)) result }
 {
     write_list(to, b"m", sources)
 }
@@ -48,7 +48,7 @@ pub fn write_vertex<W: RoadWrite>(
     vertex: u64,
     reached: Option<Reached>,
 ) -> Result<(), WriteFault>
-    ensures { Wrote (W.written to.old) (W.written to.new) (W.failures to.old) (W.failures to.new) (spelled (vertex_words vertex reached)) result }
+    ensures { WritesText W.written W.failures to.old to.new (spelled (vertex_words vertex reached)) result }
 {
     fill_vertex(line, vertex, reached);
     write_bytes(to, line.as_str().as_bytes())
@@ -56,16 +56,13 @@ pub fn write_vertex<W: RoadWrite>(
 
 // Writes the lines of all vertices.
 fn write_vertices<W: RoadWrite>(to: &mut W, lines: &[Option<Reached>]) -> Result<(), WriteFault>
-    ensures { Wrote (W.written to.old) (W.written to.new) (W.failures to.old) (W.failures to.new) (text_of (vertex_lines 1 lines.now)) result }
+    ensures { WritesText W.written W.failures to.old to.new (text_of (vertex_lines 1 lines.now)) result }
 {
     let mut vertex: u64 = 0;
     let mut text = Line::new();
     for line in lines {
         vertex += 1;
-        match write_vertex(to, &mut text, vertex, *line) {
-            Ok(()) => {}
-            Err(fault) => return Err(fault),
-        }
+        write_vertex(to, &mut text, vertex, *line)?;
     }
     Ok(())
 }
@@ -77,7 +74,7 @@ fn write_source<W: RoadWrite>(
     source: u32,
     lines: &[Option<Reached>],
 ) -> Result<(), WriteFault>
-    ensures { Wrote (W.written to.old) (W.written to.new) (W.failures to.old) (W.failures to.new) (spelled (source_words source) ++ text_of (vertex_lines 1 lines.now)) result }
+    ensures { WritesText W.written W.failures to.old to.new (spelled (source_words source) ++ text_of (vertex_lines 1 lines.now)) result }
 {
     write_source_line(to, source)?;
     write_vertices(to, lines)
@@ -90,27 +87,27 @@ fn write_multi<W: RoadWrite>(
     sources: &[u32],
     lines: &[Option<Reached>],
 ) -> Result<(), WriteFault>
-    ensures { Wrote (W.written to.old) (W.written to.new) (W.failures to.old) (W.failures to.new) (spelled (list_words (codes "m") sources.now) ++ text_of (vertex_lines 1 lines.now)) result }
+    ensures { WritesText W.written W.failures to.old to.new (spelled (list_words (codes "m") sources.now) ++ text_of (vertex_lines 1 lines.now)) result }
 {
     write_sources_line(to, sources)?;
     write_vertices(to, lines)
 }
 
 fn write_pair_line<W: RoadWrite>(to: &mut W, source: u32, target: u32) -> Result<(), WriteFault>
-    ensures { Wrote (W.written to.old) (W.written to.new) (W.failures to.old) (W.failures to.new) (spelled (pair_words source target)) result }
+    ensures { WritesText W.written W.failures to.old to.new (spelled (pair_words source target)) result }
 {
     write_bytes(to, line_of_pair(source, target).as_str().as_bytes())
 }
 
 fn write_found_line<W: RoadWrite>(to: &mut W, code: u64, hops: u32) -> Result<(), WriteFault>
-    ensures { Wrote (W.written to.old) (W.written to.new) (W.failures to.old) (W.failures to.new) (spelled (found_words code hops)) result }
+    ensures { WritesText W.written W.failures to.old to.new (spelled (found_words code hops)) result }
 {
     write_bytes(to, line_of_found(code, hops).as_str().as_bytes())
 }
 
 #[tactic(auto, unfolding(road_text::specs::Texts::spelled))]
 fn write_unreached<W: RoadWrite>(to: &mut W) -> Result<(), WriteFault>
-    ensures { Wrote (W.written to.old) (W.written to.new) (W.failures to.old) (W.failures to.new) (text_of ((codes "u" ∷ []) ∷ [])) result }
+    ensures { WritesText W.written W.failures to.old to.new (text_of ((codes "u" ∷ []) ∷ [])) result }
 {
     write_bytes(to, b"u\n")
 }
@@ -122,12 +119,10 @@ fn write_found<W: RoadWrite>(
     hops: u32,
     route: &[u32],
 ) -> Result<(), WriteFault>
-    ensures { Wrote (W.written to.old) (W.written to.new) (W.failures to.old) (W.failures to.new) (text_of (found_words code hops ∷ list_words (codes "r") route.now ∷ [])) result }
+    ensures { WritesText W.written W.failures to.old to.new (text_of (found_words code hops ∷ list_words (codes "r") route.now ∷ [])) result }
 {
-    match write_found_line(to, code, hops) {
-        Ok(()) => write_list(to, b"r", route),
-        Err(fault) => Err(fault),
-    }
+    write_found_line(to, code, hops)?;
+    write_list(to, b"r", route)
 }
 
 // Writes the answer of a pair.
@@ -137,12 +132,9 @@ fn write_pair<W: RoadWrite>(
     target: u32,
     found: &Option<Found>,
 ) -> Result<(), WriteFault>
-    ensures { Wrote (W.written to.old) (W.written to.new) (W.failures to.old) (W.failures to.new) (text_of (pair_words source target ∷ found_lines (option_map found_of found.now))) result }
+    ensures { WritesText W.written W.failures to.old to.new (text_of (pair_words source target ∷ found_lines (option_map found_of found.now))) result }
 {
-    match write_pair_line(to, source, target) {
-        Ok(()) => {}
-        Err(fault) => return Err(fault),
-    }
+    write_pair_line(to, source, target)?;
     match found {
         Some(found) => write_found(to, found.code, found.hops, found.route.as_slice()),
         None => write_unreached(to),
@@ -152,7 +144,7 @@ fn write_pair<W: RoadWrite>(
 /// Writes an answer.
 #[tactic(auto, unfolding(crate::specs::AnswerText::answer_text))]
 pub fn write_answer<W: RoadWrite>(to: &mut W, answer: &Answer) -> Result<(), WriteFault>
-    ensures { Wrote (W.written to.old) (W.written to.new) (W.failures to.old) (W.failures to.new) (answer_text (told_of answer.now)) result }
+    ensures { WritesText W.written W.failures to.old to.new (answer_text (told_of answer.now)) result }
 {
     match answer {
         Answer::Source { source, lines } => write_source(to, *source, lines.as_slice()),
@@ -167,13 +159,10 @@ pub fn write_answer<W: RoadWrite>(to: &mut W, answer: &Answer) -> Result<(), Wri
 
 // Writes answers, one after the other.
 fn write_blocks<W: RoadWrite>(to: &mut W, answers: &[Answer]) -> Result<(), WriteFault>
-    ensures { Wrote (W.written to.old) (W.written to.new) (W.failures to.old) (W.failures to.new) (blocks_text (map told_of answers.now)) result }
+    ensures { WritesText W.written W.failures to.old to.new (blocks_text (map told_of answers.now)) result }
 {
     for answer in answers {
-        match write_answer(to, answer) {
-            Ok(()) => {}
-            Err(fault) => return Err(fault),
-        }
+        write_answer(to, answer)?;
     }
     Ok(())
 }
@@ -182,10 +171,8 @@ fn write_blocks<W: RoadWrite>(to: &mut W, answers: &[Answer]) -> Result<(), Writ
 #[tactic(auto, using(road_text::proofs::WriteLaws::wrote_then, road_text::proofs::WriteLaws::fell_first))]
 pub fn write_answers<W: RoadWrite>(to: &mut W, answers: &Answers) -> Result<(), WriteFault>
     requires { length answers.now.list.items ≤ MAX_ANSWERS }
-    ensures { Wrote (W.written to.old) (W.written to.new) (W.failures to.old) (W.failures to.new) (answers_text (told_list_of answers.now)) result }
+    ensures { WritesText W.written W.failures to.old to.new (answers_text (told_list_of answers.now)) result }
 {
-    match write_header(to, answers.kind, answers.list.len() as u32, answers.name) {
-        Ok(()) => write_blocks(to, answers.list.as_slice()),
-        Err(fault) => Err(fault),
-    }
+    write_header(to, answers.kind, answers.list.len() as u32, answers.name)?;
+    write_blocks(to, answers.list.as_slice())
 }

@@ -1,7 +1,7 @@
 //! Writes what is told of each vertex, a line at a time: an answer takes no memory but its labels and its tree.
 ghost use Rattle.std.specs.Prelude.{◌≡◌, ℕ, Option, length};
 ghost use Rattle.road_text.specs.Texts.{text_of};
-ghost use Rattle.road_text.specs.Written.{Wrote};
+ghost use Rattle.road_text.specs.Written.{WritesText};
 ghost use Rattle.answer_text.specs.AnswerText.{answer_text, vertex_lines};
 ghost use Rattle.answer_text.specs.Told.{ToldSource, ToldMulti};
 ghost use Rattle.batch_run.specs.Told.{told_line, told_lines};
@@ -44,7 +44,7 @@ fn write_lines<A: PathAlgebra, W: RoadWrite>(
 ) -> Result<(), WriteFault>
     requires labels { length labels.now ≡ n }
     requires hops { length tree.now.hops ≡ n }
-    ensures { Wrote (W.written to.old) (W.written to.new) (W.failures to.old) (W.failures to.new) (text_of (vertex_lines 1 (told_lines (A.meaning algebra) labels.now tree.now n))) result }
+    ensures { WritesText W.written W.failures to.old to.new (text_of (vertex_lines 1 (told_lines (A.meaning algebra) labels.now tree.now n))) result }
 {
     let mut text = Line::new();
     for v in 0..n {
@@ -72,7 +72,7 @@ pub(crate) fn write_source<A: PathAlgebra, W: RoadWrite>(
 ) -> Result<(), WriteFault>
     requires labels { length labels.now ≡ n }
     requires hops { length tree.now.hops ≡ n }
-    ensures { Wrote (W.written to.old) (W.written to.new) (W.failures to.old) (W.failures to.new) (answer_text (ToldSource source (told_lines (A.meaning algebra) labels.now tree.now n))) result }
+    ensures { WritesText W.written W.failures to.old to.new (answer_text (ToldSource source (told_lines (A.meaning algebra) labels.now tree.now n))) result }
 {
     match write_source_line(to, source.0) {
         Ok(()) => write_lines(to, algebra, n, labels, tree),
@@ -92,7 +92,7 @@ pub(crate) fn write_sources<A: PathAlgebra, W: RoadWrite>(
 ) -> Result<(), WriteFault>
     requires labels { length labels.now ≡ n }
     requires hops { length tree.now.hops ≡ n }
-    ensures { Wrote (W.written to.old) (W.written to.new) (W.failures to.old) (W.failures to.new) (answer_text (ToldMulti sources.now (told_lines (A.meaning algebra) labels.now tree.now n))) result }
+    ensures { WritesText W.written W.failures to.old to.new (answer_text (ToldMulti sources.now (told_lines (A.meaning algebra) labels.now tree.now n))) result }
 {
     match write_sources_line(to, sources) {
         Ok(()) => write_lines(to, algebra, n, labels, tree),

@@ -3,9 +3,9 @@ use Rattle.std.proofs.Common.{◌≡◌, ℕ, ◌<◌, List, [], ◌∷◌, leng
 use Rattle.std.proofs.lemmas.Bool.{ne_eqb}
 use Rattle.std.specs.Option.{IfSome}
 use Rattle.road_text.specs.Words.{Word, word_of, held_word}
-use Rattle.road_text.proofs.WordLaws.{held, held_words, short_word, first_byte}
+use Rattle.road_text.proofs.WordLaws.{held, held_words, short_word, first_byte, number_held}
 use Rattle.road_files.specs.GraphFiles.{RoadsSoFar, one_arc, gr_arc, gr_problem, gr_line}
-use Rattle.road_files.proofs.HeldNumbers.{vertex_held, up_to_held}
+use Rattle.road_files.proofs.HeldNumbers.{vertex_held}
 
 arc_held : (r : RoadsSoFar) (ws : List Word) → r.vertices < 18446744073709551616 → one_arc r (take 6 (map held ws)) ≡ one_arc r ws
 unfolding one_arc
@@ -13,7 +13,7 @@ arc_held r [] h = refl
 arc_held r (a ∷ []) h = refl
 arc_held r (a ∷ b ∷ []) h = refl
 arc_held r (a ∷ b ∷ c ∷ []) h = refl
-arc_held r (a ∷ b ∷ c ∷ d ∷ []) h = rw (vertex_held r.vertices b.number h, vertex_held r.vertices c.number h, up_to_held 4294967295 d.number (lit< tt)) refl
+arc_held r (a ∷ b ∷ c ∷ d ∷ []) h = rw (vertex_held r.vertices b.number h, vertex_held r.vertices c.number h, number_held 15 16 4294967295 d.number (lit< tt)) refl
 arc_held r (a ∷ b ∷ c ∷ d ∷ e ∷ []) h = refl
 arc_held r (a ∷ b ∷ c ∷ d ∷ e ∷ f ∷ ws) h = rw (ne_eqb (length (a ∷ b ∷ c ∷ d ∷ e ∷ f ∷ ws)) 4 (λ e. omega arith)) refl
 
@@ -24,7 +24,7 @@ problem_held None [] = refl
 problem_held None (a ∷ []) = refl
 problem_held None (a ∷ b ∷ []) = refl
 problem_held None (a ∷ b ∷ c ∷ []) = refl
-problem_held None (a ∷ b ∷ c ∷ d ∷ []) = rw (short_word b.text (codes "sp") (lit< tt), up_to_held 33554432 c.number (lit< tt), up_to_held 134217728 d.number (lit< tt)) refl
+problem_held None (a ∷ b ∷ c ∷ d ∷ []) = rw (short_word b.text (codes "sp") (lit< tt), number_held 15 16 33554432 c.number (lit< tt), number_held 15 16 134217728 d.number (lit< tt)) refl
 problem_held None (a ∷ b ∷ c ∷ d ∷ e ∷ []) = refl
 problem_held None (a ∷ b ∷ c ∷ d ∷ e ∷ f ∷ ws) = rw (ne_eqb (length (a ∷ b ∷ c ∷ d ∷ e ∷ f ∷ ws)) 4 (λ e. omega arith)) refl
 

@@ -4,11 +4,11 @@ use Rattle.std.proofs.lemmas.Bool.{ne_eqb, cases_lt, lt-ltb, le-ltb}
 use Rattle.std.proofs.lemmas.List.{length-map}
 use Rattle.std.specs.Str.{bytes_eq}
 use Rattle.road_text.specs.Words.{Word, word_of, held_word}
-use Rattle.road_text.proofs.WordLaws.{held, held_words, short_word, first_byte}
+use Rattle.road_text.proofs.WordLaws.{held, held_words, short_word, first_byte, number_held}
 use Rattle.road_files.specs.declared.questions.Kind.{Kind}
 use Rattle.road_files.specs.declared.questions.Kind.TheVariants.{Sources, Pairs, Multi}
 use Rattle.road_files.specs.QuestionFiles.{AskedSoFar, question_problem, vertices_in, source_of_line, pair_of_line, sources_of_line, one_question, begins_list, question_line_of, question_line}
-use Rattle.road_files.proofs.HeldNumbers.{vertex_held, up_to_held}
+use Rattle.road_files.proofs.HeldNumbers.{vertex_held}
 
 pub problem_held : (only : Option Kind) (s : Option AskedSoFar) (ws : List Word) → question_problem only s (take 6 (map held ws)) ≡ question_problem only s ws
 unfolding question_problem
@@ -24,7 +24,7 @@ problem_held only None (a ∷ b ∷ c ∷ d ∷ e ∷ []) = rw (
   short_word d.text (codes "ss") (lit< tt),
   short_word d.text (codes "p2p") (lit< tt),
   short_word d.text (codes "ms") (lit< tt),
-  up_to_held 1048576 e.number (lit< tt),
+  number_held 15 16 1048576 e.number (lit< tt),
 ) refl
 problem_held only None (a ∷ b ∷ c ∷ d ∷ e ∷ f ∷ ws) = rw (ne_eqb (length (a ∷ b ∷ c ∷ d ∷ e ∷ f ∷ ws)) 5 (λ e. omega arith)) refl
 

@@ -1,9 +1,9 @@
 -- The fields of a list, one after the other.
 use Rattle.std.proofs.Common.{◌≡◌, ℕ, ◌+◌, ◌<◌, ◌≤◌, List, [], ◌∷◌, ◌++◌, length, drop, map, Ok, Err, Result, true, refl, sym, ap, ◌∙◌, arith, length-append}
-use Rattle.std.proofs.lemmas.List.{map-append}
 use Rattle.std.specs.Result.{OnOk}
 use Rattle.road_text.specs.Rules.{◌>>=◌}
 use Rattle.road_text.specs.Words.{Word, word_of, held_word}
+use Rattle.road_text.proofs.ListFields.{words_push, after_first}
 use Rattle.road_files.specs.declared.present_list.PresentList.{PresentList}
 use Rattle.road_files.specs.Numbers.{vertex_in}
 use Rattle.road_files.specs.QuestionFiles.{vertices_in, one_vertex_more, begins_list}
@@ -11,18 +11,7 @@ use Rattle.road_files.specs.QuestionTakes.{SoFar, sources_given}
 use Rattle.road_files.proofs.HeldNumbers.{vertex_held}
 
 vertices_push : (n : ℕ) (ws : List Word) (w : Word) → vertices_in n (ws ++ w ∷ []) ≡ one_vertex_more n (vertices_in n ws) w.number
-vertices_push n [] w = single (vertex_in n w.number)
-  where
-    single : (r : Result ℕ ℕ) → (r >>= λ v. Ok (v ∷ [])) ≡ (r >>= λ v. Ok ([] ++ v ∷ []))
-    single (Ok v) = refl
-    single (Err e) = refl
-vertices_push n (x ∷ ws) w = rw (vertices_push n ws w) (go (vertex_in n x.number) (vertices_in n ws) (vertex_in n w.number))
-  where
-    go : (a : Result ℕ ℕ) (b : Result (List ℕ) ℕ) (c : Result ℕ ℕ) → (a >>= λ v. (b >>= λ vs. c >>= λ u. Ok (vs ++ u ∷ [])) >>= λ vs. Ok (v ∷ vs)) ≡ ((a >>= λ v. b >>= λ vs. Ok (v ∷ vs)) >>= λ vs. c >>= λ u. Ok (vs ++ u ∷ []))
-    go (Err e) b c = refl
-    go (Ok v) (Err e) c = refl
-    go (Ok v) (Ok vs) (Err e) = refl
-    go (Ok v) (Ok vs) (Ok u) = refl
+vertices_push n = words_push (λ w. vertex_in n w.number) (vertices_in n) refl (λ w ws. refl)
 
 -- what is kept of a field is enough for a vertex
 one_held : (n : ℕ) (vertices : Result (List ℕ) ℕ) (f : List ℕ) → n < 18446744073709551616 → one_vertex_more n vertices (held_word f).number ≡ one_vertex_more n vertices (word_of f).number
@@ -31,10 +20,6 @@ one_held n vertices f lt = ap (λ r. vertices >>= λ vs. r >>= λ v. Ok (vs ++ v
 same_letter : (fs : List (List ℕ)) (f : List ℕ) → 0 < length fs → begins_list (map word_of (fs ++ f ∷ [])) ≡ begins_list (map word_of fs)
 same_letter [] f lt = absurd (omega arith)
 same_letter (x ∷ fs) f lt = refl
-
-after_first : (fs : List (List ℕ)) (f : List ℕ) → 0 < length fs → drop 1 (map word_of (fs ++ f ∷ [])) ≡ drop 1 (map word_of fs) ++ word_of f ∷ []
-after_first [] f lt = absurd (omega arith)
-after_first (x ∷ fs) f lt = map-append word_of fs (f ∷ [])
 
 -- a further field
 pub next_field : (s t : PresentList) (fs : List (List ℕ)) (f : List ℕ) → s.vertices < 18446744073709551616 → SoFar s fs → 0 < s.count → s.count ≤ 1025 → t.vertices ≡ s.vertices → t.count ≡ s.count + 1 → t.is_list ≡ s.is_list

@@ -2,7 +2,7 @@
 use Rattle.std.proofs.Common.{if◌then◌else◌, ℕ, ◌≤◌, List, ◌∷◌, [], length, drop, map, Bool, Option, Some, None, Result, Ok, Err, arith}
 use Rattle.road_text.specs.Rules.{◌>>=◌, unless}
 use Rattle.road_text.specs.Words.{Word, word_of}
-use Rattle.road_text.proofs.OwnNumbers.{IsOwn, own_then, own_unless, own_if}
+use Rattle.road_text.proofs.OwnNumbers.{IsOwn, own_then, own_unless, own_if, own_up_to}
 use Rattle.road_files.specs.declared.questions.Kind.{Kind}
 use Rattle.road_files.specs.Asked.{Question}
 use Rattle.road_files.specs.Numbers.{up_to, vertex_in}
@@ -30,8 +30,7 @@ either : {A : Type 0} (b : Bool) (x y : Result A ℕ) → IsRoad x → IsRoad y 
 either b x y p q = own_if 10 19 b x y p q
 
 number : (limit : ℕ) (o : Option ℕ) → IsRoad (up_to limit o)
-number limit None = wrong 15 (omega arith) (omega arith)
-number limit (Some n) = either _ _ _ (wrong 16 (omega arith) (omega arith)) (fine n)
+number limit o = own_up_to 10 19 15 16 limit o (omega arith, omega arith) (omega arith, omega arith)
 
 vertex : (n : ℕ) (o : Option ℕ) → IsRoad (vertex_in n o)
 vertex n None = wrong 15 (omega arith) (omega arith)

@@ -1,10 +1,10 @@
 -- Numbers and vertices in fields.
 use Rattle.std.specs.Prelude.{ℕ, ◌||◌, ◌==◌, if◌then◌else◌, Option, Some, None, nat_lt, Result, Ok, Err}
+use Rattle.road_text.specs.Words.{number_up_to}
 
 -- a number up to a limit: 15 where it is none, 16 above the limit
 abbrev pub up_to : ℕ → Option ℕ → Result ℕ ℕ
-up_to limit None = Err 15
-up_to limit (Some n) = if nat_lt limit n then Err 16 else Ok n
+up_to = number_up_to 15 16
 
 -- a vertex of a graph with n: 15 where it is no number, 17 where it is 0 or above n
 abbrev pub vertex_in : ℕ → Option ℕ → Result ℕ ℕ

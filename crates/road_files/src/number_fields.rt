@@ -7,18 +7,15 @@ ghost use Rattle.road_files.specs.Numbers.{up_to, vertex_in};
 
 use crate::rules::{NO_VERTEX, NOT_A_NUMBER, TOO_LARGE};
 use road_graph::Vertex;
-use road_text::{LineFault, Slot};
+use road_text::{LineFault, Slot, limited_number};
 
 /// The number in a field, up to a limit.
 pub fn number_up_to(slot: &Slot, limit: u32) -> Result<u32, LineFault>
     ensures rule { Agrees (up_to limit (word_in slot.now).number) result }
     ensures limit { IfOk result (λ n. n ≤ limit) }
 {
-    match slot.number {
-        None => Err(LineFault::Broken(NOT_A_NUMBER)),
-        Some(n) if n > u128::from(limit) => Err(LineFault::Broken(TOO_LARGE)),
-        Some(n) => Ok(n as u32),
-    }
+    let number = limited_number(slot, u64::from(limit), NOT_A_NUMBER, TOO_LARGE)?;
+    Ok(number as u32)
 }
 
 /// The vertex in a field, of a graph with this number of vertices.

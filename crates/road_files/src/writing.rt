@@ -2,7 +2,7 @@
 ghost use Rattle.std.specs.Prelude.{◌≡◌, ◌≤◌, ◌+◌, ◌∷◌, ℕ, List, length, map, codes};
 ghost use Rattle.road_graph.specs.Roads.{Roads};
 ghost use Rattle.road_text.specs.Texts.{spelled, list_words, spaced, text_of};
-ghost use Rattle.road_text.specs.Written.{Wrote};
+ghost use Rattle.road_text.specs.Written.{WritesText};
 ghost use Rattle.road_files.specs.Asked.{of_source, of_pair, of_list};
 ghost use Rattle.road_files.specs.WrittenFiles.{gr_text, questions_text, arc_words, question_words};
 
@@ -14,93 +14,75 @@ use road_graph::{ArcNo, Graph, Vertex};
 use road_text::{Line, RoadWrite, WriteFault, write_bytes};
 
 fn write_arcs<W: RoadWrite>(to: &mut W, graph: &Graph) -> Result<(), WriteFault>
-    ensures { Wrote (W.written to.old) (W.written to.new) (W.failures to.old) (W.failures to.new) (text_of (map arc_words graph.now.arcs)) result }
+    ensures { WritesText W.written W.failures to.old to.new (text_of (map arc_words graph.now.arcs)) result }
 {
     let mut line = Line::new();
     // At most 2 ^ 27 arcs: their numbers fit.
     let _vertices = graph.vertices();
     for number in 0..graph.arcs() as u32 {
         fill_arc(&mut line, graph.arc(ArcNo(number + 1)));
-        match write_bytes(to, line.as_str().as_bytes()) {
-            Ok(()) => {}
-            Err(fault) => return Err(fault),
-        }
+        write_bytes(to, line.as_str().as_bytes())?;
     }
     Ok(())
 }
 
 /// Writes a graph as a graph file: the whole text, or, where a write fails, a front of it.
 pub fn write_gr<W: RoadWrite>(to: &mut W, graph: &Graph) -> Result<(), WriteFault>
-    ensures { Wrote (W.written to.old) (W.written to.new) (W.failures to.old) (W.failures to.new) (gr_text graph.now) result }
+    ensures { WritesText W.written W.failures to.old to.new (gr_text graph.now) result }
 {
     let line = line_of_graph(graph.vertices(), graph.arcs() as u64);
-    match write_bytes(to, line.as_str().as_bytes()) {
-        Ok(()) => write_arcs(to, graph),
-        Err(fault) => Err(fault),
-    }
+    write_bytes(to, line.as_str().as_bytes())?;
+    write_arcs(to, graph)
 }
 
 fn write_sources<W: RoadWrite>(to: &mut W, sources: &[Vertex]) -> Result<(), WriteFault>
-    ensures { Wrote (W.written to.old) (W.written to.new) (W.failures to.old) (W.failures to.new) (text_of (map question_words (map of_source sources.now))) result }
+    ensures { WritesText W.written W.failures to.old to.new (text_of (map question_words (map of_source sources.now))) result }
 {
     let mut line = Line::new();
     for source in sources {
         fill_source(&mut line, *source);
-        match write_bytes(to, line.as_str().as_bytes()) {
-            Ok(()) => {}
-            Err(fault) => return Err(fault),
-        }
+        write_bytes(to, line.as_str().as_bytes())?;
     }
     Ok(())
 }
 
 /// Writes sources as an .ss file: the whole text, or, where a write fails, a front of it.
 pub fn write_ss<W: RoadWrite>(to: &mut W, sources: &[Vertex]) -> Result<(), WriteFault>
-    ensures { Wrote (W.written to.old) (W.written to.new) (W.failures to.old) (W.failures to.new) (questions_text (record { kind = Kind.Sources; questions = map of_source sources.now })) result }
+    ensures { WritesText W.written W.failures to.old to.new (questions_text (record { kind = Kind.Sources; questions = map of_source sources.now })) result }
 {
     let line = line_of_problem(Kind::Sources, sources.len() as u64);
-    match write_bytes(to, line.as_str().as_bytes()) {
-        Ok(()) => write_sources(to, sources),
-        Err(fault) => Err(fault),
-    }
+    write_bytes(to, line.as_str().as_bytes())?;
+    write_sources(to, sources)
 }
 
 fn write_pairs<W: RoadWrite>(to: &mut W, pairs: &[(Vertex, Vertex)]) -> Result<(), WriteFault>
-    ensures { Wrote (W.written to.old) (W.written to.new) (W.failures to.old) (W.failures to.new) (text_of (map question_words (map of_pair pairs.now))) result }
+    ensures { WritesText W.written W.failures to.old to.new (text_of (map question_words (map of_pair pairs.now))) result }
 {
     let mut line = Line::new();
     for pair in pairs {
         fill_pair(&mut line, *pair);
-        match write_bytes(to, line.as_str().as_bytes()) {
-            Ok(()) => {}
-            Err(fault) => return Err(fault),
-        }
+        write_bytes(to, line.as_str().as_bytes())?;
     }
     Ok(())
 }
 
 /// Writes pairs of a source and a target as a .p2p file: the whole text, or, where a write fails, a front of it.
 pub fn write_p2p<W: RoadWrite>(to: &mut W, pairs: &[(Vertex, Vertex)]) -> Result<(), WriteFault>
-    ensures { Wrote (W.written to.old) (W.written to.new) (W.failures to.old) (W.failures to.new) (questions_text (record { kind = Kind.Pairs; questions = map of_pair pairs.now })) result }
+    ensures { WritesText W.written W.failures to.old to.new (questions_text (record { kind = Kind.Pairs; questions = map of_pair pairs.now })) result }
 {
     let line = line_of_problem(Kind::Pairs, pairs.len() as u64);
-    match write_bytes(to, line.as_str().as_bytes()) {
-        Ok(()) => write_pairs(to, pairs),
-        Err(fault) => Err(fault),
-    }
+    write_bytes(to, line.as_str().as_bytes())?;
+    write_pairs(to, pairs)
 }
 
 // Writes each vertex after a space, and the line's end.
 fn write_vertices<W: RoadWrite>(to: &mut W, vertices: &[Vertex]) -> Result<(), WriteFault>
-    ensures { Wrote (W.written to.old) (W.written to.new) (W.failures to.old) (W.failures to.new) (spaced vertices.now) result }
+    ensures { WritesText W.written W.failures to.old to.new (spaced vertices.now) result }
 {
     let mut line = Line::new();
     for vertex in vertices {
         fill_vertex(&mut line, *vertex);
-        match write_bytes(to, line.as_str().as_bytes()) {
-            Ok(()) => {}
-            Err(fault) => return Err(fault),
-        }
+        write_bytes(to, line.as_str().as_bytes())?;
     }
     write_bytes(to, b"\n")
 }
@@ -108,31 +90,26 @@ fn write_vertices<W: RoadWrite>(to: &mut W, vertices: &[Vertex]) -> Result<(), W
 // Writes the line of a list of sources.
 #[tactic(auto, using(road_text::proofs::ListLaws::list_then, road_text::proofs::ListLaws::list_fell))]
 fn write_list<W: RoadWrite>(to: &mut W, sources: &[Vertex]) -> Result<(), WriteFault>
-    ensures { Wrote (W.written to.old) (W.written to.new) (W.failures to.old) (W.failures to.new) (spelled (list_words (codes "m") sources.now)) result }
+    ensures { WritesText W.written W.failures to.old to.new (spelled (list_words (codes "m") sources.now)) result }
 {
     write_bytes(to, b"m")?;
     write_vertices(to, sources)
 }
 
 fn write_lists<W: RoadWrite>(to: &mut W, lists: &[Vec<Vertex>]) -> Result<(), WriteFault>
-    ensures { Wrote (W.written to.old) (W.written to.new) (W.failures to.old) (W.failures to.new) (text_of (map question_words (map of_list lists.now))) result }
+    ensures { WritesText W.written W.failures to.old to.new (text_of (map question_words (map of_list lists.now))) result }
 {
     for list in lists {
-        match write_list(to, list) {
-            Ok(()) => {}
-            Err(fault) => return Err(fault),
-        }
+        write_list(to, list)?;
     }
     Ok(())
 }
 
 /// Writes lists of sources as an .ms file: the whole text, or, where a write fails, a front of it.
 pub fn write_ms<W: RoadWrite>(to: &mut W, lists: &[Vec<Vertex>]) -> Result<(), WriteFault>
-    ensures { Wrote (W.written to.old) (W.written to.new) (W.failures to.old) (W.failures to.new) (questions_text (record { kind = Kind.Multi; questions = map of_list lists.now })) result }
+    ensures { WritesText W.written W.failures to.old to.new (questions_text (record { kind = Kind.Multi; questions = map of_list lists.now })) result }
 {
     let line = line_of_problem(Kind::Multi, lists.len() as u64);
-    match write_bytes(to, line.as_str().as_bytes()) {
-        Ok(()) => write_lists(to, lists),
-        Err(fault) => Err(fault),
-    }
+    write_bytes(to, line.as_str().as_bytes())?;
+    write_lists(to, lists)
 }

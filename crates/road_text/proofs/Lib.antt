@@ -7,6 +7,7 @@ pub mod StandLaws
 pub mod WordLaws
 pub mod ParserLaws
 pub mod WriteLaws
+pub mod ListFields
 pub mod ListLaws
 pub mod FirstFault
 pub mod RoundTrip

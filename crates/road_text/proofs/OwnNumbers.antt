@@ -1,9 +1,10 @@
 -- Rules that tell faults of some numbers alone.
-use Rattle.std.proofs.Common.{◌≡◌, ◌≢◌, ℕ, ◌+◌, ◌≤◌, ◌⊎◌, inl, inr, List, [], ◌∷◌, length, take, Bool, true, false, cond, nat_lt, Result, Ok, Err, IfErr, refl, ap, subst, arith}
+use Rattle.std.proofs.Common.{◌≡◌, ◌≢◌, ℕ, ◌+◌, ◌≤◌, ◌⊎◌, inl, inr, List, [], ◌∷◌, length, take, Bool, true, false, cond, nat_lt, Option, Some, None, Result, Ok, Err, IfErr, refl, ap, subst, arith}
 use Rattle.road_text.specs.declared.faults.ReadFault.{ReadFault}
 use Rattle.road_text.specs.Lines.{fields, lines}
 use Rattle.road_text.specs.Reads.{IsNumberFrom, IsReadNumber, ReadsSomeFault}
 use Rattle.road_text.specs.Rules.{Rules, ◌>>=◌, unless, at_line, reading, text_read, too_long}
+use Rattle.road_text.specs.Words.{number_up_to}
 
 -- no fault, or one of these numbers
 pub record IsOwn (least greatest : ℕ) {A : Type 0} (r : Result A ℕ) : Type 0 where
@@ -21,6 +22,10 @@ module _ (least greatest : ℕ) where
   pub own_if : {A : Type 0} (b : Bool) (x y : Result A ℕ) → IsOwn least greatest x → IsOwn least greatest y → IsOwn least greatest (cond b x y)
   own_if true x y p q = p
   own_if false x y p q = q
+
+  pub own_up_to : (none large limit : ℕ) (o : Option ℕ) → (least ≤ none) × (none ≤ greatest) → (least ≤ large) × (large ≤ greatest) → IsOwn least greatest (number_up_to none large limit o)
+  own_up_to none large limit None first second = record { own = first }
+  own_up_to none large limit (Some n) first second = own_if (nat_lt limit n) (Err large) (Ok n) (record { own = second }) (record { own = tt })
 
   -- too long, or one of these numbers
   abbrev IsOwnOrLong : {A : Type 0} → Result A ReadFault → Type 0

@@ -14,7 +14,7 @@ use Rattle.road_text.proofs.TextLaws.{nothing, lines_closed, lines_none, lines_c
 
 module _ {T V : Type 0} (gives : Way T V) (s : LineReader T) where
   pub leads_ended : (r : Result V ReadFault) → s.begun ≡ false → gives.gives false s.parser s.line [] r → Leads false gives s [] r
-  leads_ended r e h = λ present held. rw (nothing s.held (scan_of s.scanner) present (rw e at held), lines_none) h
+  leads_ended r e h = λ present held. rw (nothing s.pending (scan_of s.scanner) present (rw e at held), lines_none) h
 
   pub end_halts : (h : Halt) → s.begun ≡ false → EndHalts gives s h → HaltsAtEnd gives s h
   end_halts Read e p = p
@@ -23,7 +23,7 @@ module _ {T V : Type 0} (gives : Way T V) (s : LineReader T) where
   end_halts (Broken f) e p = leads_ended (Err f) e p
 
   pub leads_closed : (r : Result V ReadFault) → s.begun ≡ true → Leads false gives s (10 ∷ []) r → Leads false gives s [] r
-  leads_closed r e h = λ present held. rw (← lines_closed s.held (scan_of s.scanner) present (rw e at held)) (h present held)
+  leads_closed r e h = λ present held. rw (← lines_closed s.pending (scan_of s.scanner) present (rw e at held)) (h present held)
 
   pub line_halts_end : (h : Halt) → s.begun ≡ true → LineHalts gives s (10 ∷ []) h → HaltsAtEnd gives s h
   line_halts_end Read e p = p

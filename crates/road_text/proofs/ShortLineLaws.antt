@@ -94,16 +94,16 @@ begins_again P Q scan ready h = record {
 -- a line that was taken whole
 module _ {T V : Type 0} (gives : Way T V) (s : LineReader T) (t : T) (fresh : s.begun ≡ false) (ready : gives.so_far t []) (bytes : List ℕ) (letter first second third : ℕ) (line : IsShortLine bytes letter first second third)
     (taken : (cut : Bool) (at : ℕ) (l : List ℕ) (rest : List (List ℕ)) (r : Result V ReadFault) → HasShortFields l letter first second third → gives.gives cut t (at + 1) rest r → gives.gives cut s.parser at (l ∷ rest) r) where
-  starts : (present : List ℕ) → Holds (gives.so_far s.parser) s.begun s.held (scan_of s.scanner) present → present ≡ [] → Holds (gives.so_far t) s.begun s.held (scan_of s.scanner) []
+  starts : (present : List ℕ) → Holds (gives.so_far s.parser) s.begun s.pending (scan_of s.scanner) present → present ≡ [] → Holds (gives.so_far t) s.begun s.pending (scan_of s.scanner) []
   starts present h none =
-      let now : Holds (gives.so_far s.parser) s.begun s.held (scan_of s.scanner) [] = subst (Holds (gives.so_far s.parser) s.begun s.held (scan_of s.scanner)) none h in
-      record { begun = now.begun; held = now.held; shown = begins_again (gives.so_far s.parser) (gives.so_far t) (scan_of s.scanner) ready now.shown; whole = now.whole }
+      let now : Holds (gives.so_far s.parser) s.begun s.pending (scan_of s.scanner) [] = subst (Holds (gives.so_far s.parser) s.begun s.pending (scan_of s.scanner)) none h in
+      record { begun = now.begun; pending = now.pending; shown = begins_again (gives.so_far s.parser) (gives.so_far t) (scan_of s.scanner) ready now.shown; whole = now.whole }
 
   pub taken_whole : (cut : Bool) (more : List ℕ) (r : Result V ReadFault)
-      → ((present : List ℕ) → Holds (gives.so_far t) s.begun s.held (scan_of s.scanner) present → gives.gives cut t (s.line + 1) (lines cut (present ++ more)) r) → Leads cut gives s (bytes ++ more) r
+      → ((present : List ℕ) → Holds (gives.so_far t) s.begun s.pending (scan_of s.scanner) present → gives.gives cut t (s.line + 1) (lines cut (present ++ more)) r) → Leads cut gives s (bytes ++ more) r
   taken_whole cut more r h = λ present held.
       let words = (letter ∷ []) ∷ line.one ∷ line.two ∷ line.three ∷ [] in
-      let none : present ≡ [] = nothing s.held (scan_of s.scanner) present (rw fresh at held) in
+      let none : present ≡ [] = nothing s.pending (scan_of s.scanner) present (rw fresh at held) in
       let read : lines cut (present ++ (bytes ++ more)) ≡ join_with_byte 32 words ∷ lines cut more =
       ap (λ p. lines cut (p ++ (bytes ++ more))) none ∙ ap (λ b. lines cut (b ++ more)) line.is ∙ line_again cut words more (line.words.0, (line.words.1, (line.words.2, (line.words.3, tt)))) in
       rw read (taken cut s.line (join_with_byte 32 words) (lines cut more) r (short_fields bytes letter first second third line) (h [] (starts present held none)))

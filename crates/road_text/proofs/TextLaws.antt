@@ -15,7 +15,7 @@ use Rattle.road_text.proofs.Splits.{All-one}
 use Rattle.road_text.proofs.ScanLaws.{shows_start, shows_on, shows_run}
 
 pub holds_start : (P : List (List ℕ) → Type 0) → P [] → Holds P false false ([], no_word) []
-holds_start P h = record { begun = refl; held = refl; shown = shows_start P h; whole = λ k d h. absurd (omega arith) }
+holds_start P h = record { begun = refl; pending = refl; shown = shows_start P h; whole = λ k d h. absurd (omega arith) }
 
 one_more : (cut : Bool) (present : List ℕ) (parts : List (List ℕ)) → 0 < length parts → lines_of_parts cut (present ∷ parts) ≡ strip_carriage_return present ∷ lines_of_parts cut parts
 one_more cut present [] h = absurd (omega arith)
@@ -68,7 +68,7 @@ last_suc xs h = omega arith
 at_end : (xs : List ℕ) → 0 < length xs → ends_in_return xs ≡ true → xs ≡ strip_carriage_return xs ++ 13 ∷ []
 at_end xs some h = rw h (sym (take-length xs) ∙ ap (λ n. take n xs) (sym (last_suc xs some)) ∙ take-suc xs (length xs - 1) 0 (omega arith) ∙ ap (λ b. take (length xs - 1) xs ++ b ∷ []) (eqb-true (get_or xs (length xs - 1) 0) 13 h))
 
--- what stands before a CR that is held back, and then that CR
+-- what stands before a CR that is pending, and then that CR
 restored : (xs : List ℕ) → ends_in_return xs ≡ true → xs ≡ strip_carriage_return xs ++ 13 ∷ []
 restored [] h = cc
 restored (x ∷ xs) h = at_end (x ∷ xs) (omega arith) h
@@ -76,15 +76,15 @@ restored (x ∷ xs) h = at_end (x ∷ xs) (omega arith) h
 not_stripped : (xs : List ℕ) → ends_in_return xs ≡ false → strip_carriage_return xs ≡ xs
 not_stripped xs h = rw h refl
 
--- the held CR is given to the record
-pub shows_whole : (P : List (List ℕ) → Type 0) (held : Bool) (scan : Scan) (xs : List ℕ) → held ≡ ends_in_return xs → Shows P scan (strip_carriage_return xs) → Shows P (cond held (scan_on scan 13) scan) xs
+-- the pending CR is given to the record
+pub shows_whole : (P : List (List ℕ) → Type 0) (pending : Bool) (scan : Scan) (xs : List ℕ) → pending ≡ ends_in_return xs → Shows P scan (strip_carriage_return xs) → Shows P (cond pending (scan_on scan 13) scan) xs
 shows_whole P true scan xs h s = subst (Shows P (scan_on scan 13)) (sym (restored xs (sym h))) (shows_on P scan (strip_carriage_return xs) 13 refl s)
 shows_whole P false scan xs h s = subst (Shows P scan) (not_stripped xs (sym h)) s
 
 pub holds_return : (P : List (List ℕ) → Type 0) (scan : Scan) (xs : List ℕ) → Shows P scan xs → All (λ b. is_line_end b ≡ false) xs → Holds P true true scan (xs ++ 13 ∷ [])
 holds_return P scan xs s w = record {
   begun = has_bytes-push xs 13;
-  held = sym (ends-push xs 13);
+  pending = sym (ends-push xs 13);
   shown = subst (Shows P scan) (sym (strip-return xs)) s;
   whole = whole-push xs 13 w (λ e. cc);
 }
@@ -92,7 +92,7 @@ holds_return P scan xs s w = record {
 pub holds_other : (P : List (List ℕ) → Type 0) (scan : Scan) (xs : List ℕ) (b : ℕ) → Shows P scan (xs ++ b ∷ []) → All (λ b. is_line_end b ≡ false) xs → b ≢ 10 → b ≢ 13 → Holds P true false scan (xs ++ b ∷ [])
 holds_other P scan xs b s w ne other = record {
   begun = has_bytes-push xs b;
-  held = sym (ends-push xs b ∙ ne_eqb b 13 other);
+  pending = sym (ends-push xs b ∙ ne_eqb b 13 other);
   shown = subst (Shows P scan) (sym (strip-other xs b (ne_eqb b 13 other))) s;
   whole = whole-push xs b w ne;
 }
@@ -126,7 +126,7 @@ holds_run P scan xs (b ∷ bytes) some plain s w =
     let last : ends_in_return (xs ++ b ∷ bytes) ≡ false = no_return_at_end xs (b ∷ bytes) some (λ k d lt. (plain_parts (get_or (b ∷ bytes) k d) (plain k d lt)).2) in
     record {
       begun = has_bytes-append xs b bytes;
-      held = sym last;
+      pending = sym last;
       shown = subst (Shows P (scan.0, word_with scan.1 (b ∷ bytes))) (sym (not_stripped (xs ++ b ∷ bytes) last)) (shows_run P scan xs (b ∷ bytes) (λ k d lt. (plain_parts (get_or (b ∷ bytes) k d) (plain k d lt)).0) s);
       whole = All-append (λ b. is_line_end b ≡ false) xs (b ∷ bytes) w (λ k d lt. ne_eqb (get_or (b ∷ bytes) k d) 10 (plain_parts (get_or (b ∷ bytes) k d) (plain k d lt)).1);
     }

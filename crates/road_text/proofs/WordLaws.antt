@@ -1,12 +1,12 @@
 -- What is kept of a field is enough for rules that look at short words and at numbers with limits.
-use Rattle.std.proofs.Common.{◌≡◌, ℕ, ◌<◌, min, List, [], ◌∷◌, length, take, map, Bool, false, option_map, refl, sym, ap, ◌∙◌, arith, inl, inr, get_or}
+use Rattle.std.proofs.Common.{◌≡◌, ℕ, ◌<◌, min, List, [], ◌∷◌, length, take, map, Bool, false, Option, Some, None, option_map, refl, sym, ap, ◌∙◌, arith, inl, inr, get_or}
 use Rattle.std.proofs.lemmas.Grind.{common_steps}
 use Rattle.std.proofs.lemmas.Bool.{cases_lt}
 use Rattle.std.specs.Bool.{Decides}
 use Rattle.std.proofs.lemmas.Slice.Eq.{bytes_eq-Decides}
 use Rattle.std.proofs.lemmas.List.{take_all, length-take-le}
 use Rattle.std.specs.Str.{bytes_eq}
-use Rattle.road_text.specs.Words.{Word, word_of, held_word}
+use Rattle.road_text.specs.Words.{Word, word_of, held_word, number_up_to}
 
 -- what is kept of a word
 abbrev pub held : Word → Word
@@ -34,3 +34,8 @@ short_word w k h = elim (cases_lt 9 (length w)) [
 pub first_byte : (w : List ℕ) → get_or (take 9 w) 0 0 ≡ get_or w 0 0
 first_byte [] = refl
 first_byte (b ∷ w) = refl
+
+-- so is a number up to a limit
+pub number_held : (none large limit : ℕ) (o : Option ℕ) → limit < 18446744073709551616 → number_up_to none large limit (option_map (λ v. min v 18446744073709551616) o) ≡ number_up_to none large limit o
+number_held none large limit None h = refl
+number_held none large limit (Some v) h = grind (arith, common_steps)

@@ -1,6 +1,7 @@
 -- A text that is written in pieces.
 use Rattle.std.proofs.Common.{◌≡◌, ℕ, List, [], ◌++◌, length, take, drop, Option, Result, Ok, Err, refl, sym, ap, ◌∙◌, append_assoc, take-append-drop, arith, ◌-◌, ◌+◌, append-nil, subst, length-drop, take_all}
 use Rattle.std.specs.Io.KnownBytes.{Appends}
+use Rattle.std.specs.Result.{IsErrAnd}
 use Rattle.std.proofs.KnownBytes.{Appends-trans, Appends-nil}
 use Rattle.road_text.specs.Written.{Left, Fell, Wrote}
 
@@ -62,3 +63,8 @@ wrote_then old mid new b m a x y r was next = wrote_last old mid new b m a (x ++
 
 pub fell_first : (old new : Option (List ℕ)) (b a : ℕ) (x y : List ℕ) → Fell old new b a x → Fell old new b a (x ++ y)
 fell_first old new b a x y was = record { front = was.front; rest = was.rest ++ y; text_is = ap (λ k. k ++ y) was.text_is ∙ append_assoc was.front was.rest y; bytes = was.bytes; failed = was.failed }
+
+-- what a failed write left is what a function leaves that returns its fault
+pub fell_out : {A E : Type 0} (Is : E → Type 0) (old new : Option (List ℕ)) (b a : ℕ) (text : List ℕ) (r : Result A E) → IsErrAnd r Is → Fell old new b a text → Wrote old new b a text r
+fell_out Is old new b a text (Ok x) err was = absurd err
+fell_out Is old new b a text (Err e) err was = was

@@ -15,16 +15,16 @@ use Rattle.road_text.specs.Scans.{Shows, Scan}
 abbrev pub ends_in_return : List ℕ → Bool
 ends_in_return line = slice_index line (length line - 1) == 13
 
--- these are the bytes since the last line's end: whether there are any, whether a CR is held back, and the record
+-- these are the bytes since the last line's end: whether there are any, whether a CR is pending, and the record
 pub record Holds (told_of : List (List ℕ) → Type 0) (any late : Bool) (scan : Scan) (present : List ℕ) : Type 0 where
   pub begun : any ≡ has_bytes present
-  pub held : late ≡ ends_in_return present
+  pub pending : late ≡ ends_in_return present
   pub shown : Shows told_of scan (strip_carriage_return present)
   pub whole : All (λ b. is_line_end b ≡ false) present
 
 -- the bytes that follow here give this, as the whole text or as one that is cut short
 abbrev pub Leads : {T V : Type 0} → Bool → Way T V → LineReader T → List ℕ → Result V ReadFault → Type 0
-Leads cut gives s rest r = (present : List ℕ) → Holds (gives.so_far s.parser) s.begun s.held (scan_of s.scanner) present → gives.gives cut s.parser s.line (lines cut (present ++ rest)) r
+Leads cut gives s rest r = (present : List ℕ) → Holds (gives.so_far s.parser) s.begun s.pending (scan_of s.scanner) present → gives.gives cut s.parser s.line (lines cut (present ++ rest)) r
 
 -- a rule's number is at least 10, and a byte
 abbrev pub IsNumbered : Halt → Type 0

@@ -1,5 +1,5 @@
 -- The words of a line: its fields with the numbers that they are.
-use Rattle.std.specs.Prelude.{ℕ, List, [], take, min, Option, Some, option_map, get_or}
+use Rattle.std.specs.Prelude.{ℕ, List, [], take, min, if◌then◌else◌, nat_lt, Option, None, Some, option_map, get_or, Result, Ok, Err}
 use Rattle.road_text.specs.Lines.{number}
 
 -- a field, and the number that it is, if it is one
@@ -22,3 +22,8 @@ no_word = record { text = []; number = Some 0 }
 -- word i of a line, counted from 0
 abbrev pub word_at : ℕ → List Word → Word
 word_at i ws = get_or ws i no_word
+
+-- a number up to a limit: the first fault where it is none, the second above the limit
+abbrev pub number_up_to : ℕ → ℕ → ℕ → Option ℕ → Result ℕ ℕ
+number_up_to none large limit None = Err none
+number_up_to none large limit (Some n) = if nat_lt limit n then Err large else Ok n

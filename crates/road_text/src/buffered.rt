@@ -5,7 +5,7 @@ ghost use Rattle.std.specs.Io.KnownBytes.{append_known, WriteAppends, Appends, K
 use crate::ends::{RoadWrite, WriteFault};
 use std::alloc::{AllocError, Global};
 
-/// How many bytes are held before they are passed on.
+/// How many bytes are buffered before they are passed on.
 pub const BUFFERED: usize = 65_536;
 
 /// A writer with what is not yet passed on to it. What it holds when it is dropped is lost: flush it first.
@@ -39,7 +39,7 @@ impl<W> Buffered<W> {
 }
 
 impl<W: RoadWrite> Buffered<W> {
-    // What a failure leaves stays held.
+    // What a failure leaves stays buffered.
     fn pass_on(&mut self) -> Result<(), WriteFault>
         ensures bytes { Keeps (append_known (W.written self.old.inner) self.old.buf.items) (append_known (W.written self.new.inner) self.new.buf.items) }
         ensures empty { OnOk result (self.new.buf.items ≡ []) }

@@ -22,7 +22,7 @@ pub struct ReadFault {
     pub line: u64,
 }
 
-/// A rule that a line, or the end of a text, breaks: the number that it is told by. Each kind of text has its own.
+/// A rule that a line, or the end of a text, breaks: the number that it is reported by. Each kind of text has its own.
 #[derive(Clone, Copy, Debug, PartialEq, Eq)]
 pub struct Rule {
     /// The lower numbers are those of any text.

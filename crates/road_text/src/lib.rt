@@ -8,6 +8,7 @@ mod faults;
 mod laws;
 mod line_parser;
 mod line_words;
+mod number_fields;
 mod pieces;
 mod plain;
 mod reader;
@@ -23,6 +24,7 @@ pub use faults::{Halt, LineFault, MEMORY, READ_FAILED, ReadFault, Rule, TOO_LONG
 pub use laws::{finds_first_fault, numbers_read_again, text_read_again};
 pub use line_parser::LineParser;
 pub use line_words::{Line, push_number, push_spaced};
+pub use number_fields::limited_number;
 pub use pieces::{write_bytes, write_list};
 pub use plain::Plain;
 pub use reader::MAX_BYTES;

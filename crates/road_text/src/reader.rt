@@ -18,7 +18,7 @@ pub struct LineReader<T> {
     pub parser: T,
     pub scanner: Scanner,
     pub begun: bool,
-    pub held: bool,
+    pub pending: bool,
     pub line: u64,
     pub count: u64,
     ghost few_lines: { line ≤ count + 1 },
@@ -39,7 +39,7 @@ impl<T: LineParser> LineReader<T> {
             parser,
             scanner: Scanner::new(),
             begun: false,
-            held: false,
+            pending: false,
             line: 1,
             count: 0,
         }
@@ -67,7 +67,7 @@ impl<T: LineParser> LineReader<T> {
         }
         self.scanner.restart();
         self.begun = false;
-        self.held = false;
+        self.pending = false;
         self.line += 1;
         Ok(())
     }
@@ -77,7 +77,7 @@ impl<T: LineParser> LineReader<T> {
         ensures same { OnOk result ((cut : Bool) (at : ℕ) (ls : List (List ℕ)) (r : Result T.Value ReadFault) → T.way.gives cut self.new.parser at ls r → T.way.gives cut self.old.parser at ls r) }
         ensures told { OnOk result ((line : List ℕ) → Shows (T.way.so_far self.old.parser) (scan_of self.old.scanner) line → T.way.so_far self.new.parser (fields line)) }
         ensures scanner { scan_of self.new.scanner ≡ scan_of self.old.scanner }
-        ensures rest { (self.new.begun ≡ self.old.begun) × (self.new.held ≡ self.old.held) × (self.new.line ≡ self.old.line) × (self.new.count ≡ self.old.count) }
+        ensures rest { (self.new.begun ≡ self.old.begun) × (self.new.pending ≡ self.old.pending) × (self.new.line ≡ self.old.line) × (self.new.count ≡ self.old.count) }
         ensures memory { IfErr result (λ e. e ≡ Halt.Memory) }
     {
         let present = self.scanner.present();
@@ -98,13 +98,13 @@ impl<T: LineParser> LineReader<T> {
         ensures count { self.new.count ≡ self.old.count }
         ensures memory { IfErr result (λ e. e ≡ Halt.Memory) }
     {
-        self.scanner.add_held(self.held);
+        self.scanner.add_pending(self.pending);
         self.begun = true;
         if byte == b'\r' {
-            self.held = true;
+            self.pending = true;
             return Ok(());
         }
-        self.held = false;
+        self.pending = false;
         if is_gap(byte) {
             self.end_field()?;
             self.scanner.close();
@@ -119,7 +119,7 @@ impl<T: LineParser> LineReader<T> {
         requires some { 0 < length bytes.now }
         requires plain { All (λ b. is_plain b ≡ true) bytes.now }
         requires number { number ≡ number_with (scan_of self.old.scanner).1.number bytes.now }
-        requires whole { self.old.held ≡ false }
+        requires whole { self.old.pending ≡ false }
         requires room { self.old.count + length bytes.now ≤ 4294967296 }
         ensures same { (cut : Bool) (rest : List ℕ) (r : Result T.Value ReadFault) → Leads cut T.way self.new rest r → Leads cut T.way self.old (bytes.now ++ rest) r }
         ensures count { self.new.count ≡ self.old.count + length bytes.now }
@@ -130,7 +130,7 @@ impl<T: LineParser> LineReader<T> {
     }
 
     // Takes the bytes at the front that go on with the present field, and says how many they are. It takes none where a
-    // CR is held back, or where they do not fit: `byte` does then.
+    // CR is pending, or where they do not fit: `byte` does then.
     #[inline(always)]
     fn front_run(&mut self, bytes: &[u8]) -> usize
         ensures bound { result ≤ length bytes.now }
@@ -138,7 +138,7 @@ impl<T: LineParser> LineReader<T> {
         ensures count { self.new.count ≡ self.old.count + result }
     {
         let (front, number) = run(bytes, self.scanner.present().number);
-        if front == 0 || self.held || front as u64 > MAX_BYTES - self.count {
+        if front == 0 || self.pending || front as u64 > MAX_BYTES - self.count {
             return 0;
         }
         self.present_run(&bytes[..front], number);

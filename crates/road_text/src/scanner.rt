@@ -111,12 +111,12 @@ impl Scanner {
         }
     }
 
-    /// Takes a CR that was held back.
+    /// Takes a CR that was pending.
     #[inline(always)]
-    pub fn add_held(&mut self, held: bool)
-        ensures { scan_of self.new ≡ (if held then scan_on (scan_of self.old) 13 else scan_of self.old) }
+    pub fn add_pending(&mut self, pending: bool)
+        ensures { scan_of self.new ≡ (if pending then scan_on (scan_of self.old) 13 else scan_of self.old) }
     {
-        if held {
+        if pending {
             self.add(b'\r');
         }
     }

@@ -1,6 +1,6 @@
 use Rattle.std.proofs.Common.{refl, subst, sym, arith}
 use Rattle.road_text.specs.Written.{Left}
-use Rattle.road_text.proofs.WriteLaws.{left_start, left_end}
+use Rattle.road_text.proofs.WriteLaws.{left_start, left_end, fell_out}
 use Rattle.answer_text.proofs.VertexLines.{vertices_start, vertices_end, vertex_left, vertex_fell}
 use Rattle.answer_text.proofs.writing.write_vertices.Goals as goal
 
@@ -10,11 +10,11 @@ loop-line-init g c = record { vertex = refl; left = subst (Left _ _ _ _ _) (sym 
 pub loop-line-preserved : goal.loop-line-preserved
 loop-line-preserved g c = record {
   vertex = omega arith;
-  left = vertex_left _ _ _ _ _ _ _ _ c.args.lines.now c.loop-line.line-index c.loop-line.vertex _ c.loop-line-test.true c.loop-line.invariant.vertex refl c.loop-line.invariant.left c.in-Ok.ensures;
+  left = vertex_left _ _ _ _ _ _ _ _ c.args.lines.now c.loop-line.line-index c.loop-line.vertex _ c.loop-line-test.true c.loop-line.invariant.vertex refl c.loop-line.invariant.left c.in_ok-write_vertex.ensures;
 }
 
-pub returns-in-Err : goal.returns-in-Err
-returns-in-Err g c = vertex_fell _ _ _ _ _ _ _ _ c.args.lines.now c.loop-line.line-index c.loop-line.vertex _ c.loop-line-test.true c.loop-line.invariant.vertex refl c.loop-line.invariant.left c.in-Err.ensures
+pub returns-in_err-write_vertex : goal.returns-in_err-write_vertex
+returns-in_err-write_vertex g c = fell_out _ _ _ _ _ _ c.from_residual.result c.from_residual.ensures.1 (vertex_fell _ _ _ _ _ _ _ _ c.args.lines.now c.loop-line.line-index c.loop-line.vertex _ c.loop-line-test.true c.loop-line.invariant.vertex refl c.loop-line.invariant.left c.in_err-write_vertex.ensures)
 
 pub returns : goal.returns
 returns g c = left_end _ _ _ _ _ _ (vertices_end c.loop-line.line-index c.args.lines.now c.loop-line-test.false) c.loop-line.invariant.left

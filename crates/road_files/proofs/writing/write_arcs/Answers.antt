@@ -3,6 +3,7 @@ use Rattle.road_graph.specs.declared.RoadArc.{RoadArc}
 use Rattle.road_text.specs.Texts.{spelled}
 use Rattle.road_files.specs.WrittenFiles.{arc_words}
 use Rattle.road_files.proofs.LinesInARow.{lines_start, line_left, line_fell, lines_end, arc_at}
+use Rattle.road_text.proofs.WriteLaws.{fell_out}
 use Rattle.road_files.proofs.writing.write_arcs.Goals as goal
 
 pub loop-number-init : goal.loop-number-init
@@ -12,13 +13,13 @@ pub loop-number-preserved : goal.loop-number-preserved
 loop-number-preserved g c =
     let inside : c.loop-number.number < length c.args.graph.now.arcs = omega (arith, c.arcs-number-end.ensures, c.loop-number-test.true) in
     line_left arc_words _ _ _ _ _ _ _ _ c.args.graph.now.arcs c.loop-number.number _ inside
-    (c.as_bytes.ensures.value ∙ c.as_str.ensures.value ∙ c.fill_arc.ensures ∙ ap (λ (a : RoadArc). spelled (arc_words a)) (c.arc.ensures ∙ arc_at c.args.graph.now c.loop-number.number)) c.loop-number.invariant c.in-Ok.ensures
+    (c.as_bytes.ensures.value ∙ c.as_str.ensures.value ∙ c.fill_arc.ensures ∙ ap (λ (a : RoadArc). spelled (arc_words a)) (c.arc.ensures ∙ arc_at c.args.graph.now c.loop-number.number)) c.loop-number.invariant c.in_ok-write_bytes.ensures
 
-pub returns-in-Err : goal.returns-in-Err
-returns-in-Err g c =
+pub returns-in_err-write_bytes : goal.returns-in_err-write_bytes
+returns-in_err-write_bytes g c =
     let inside : c.loop-number.number < length c.args.graph.now.arcs = omega (arith, c.arcs-number-end.ensures, c.loop-number-test.true) in
-    line_fell arc_words _ _ _ _ _ _ _ _ c.args.graph.now.arcs c.loop-number.number _ inside
-    (c.as_bytes.ensures.value ∙ c.as_str.ensures.value ∙ c.fill_arc.ensures ∙ ap (λ (a : RoadArc). spelled (arc_words a)) (c.arc.ensures ∙ arc_at c.args.graph.now c.loop-number.number)) c.loop-number.invariant c.in-Err.ensures
+    fell_out _ _ _ _ _ _ c.from_residual.result c.from_residual.ensures.1 (line_fell arc_words _ _ _ _ _ _ _ _ c.args.graph.now.arcs c.loop-number.number _ inside
+    (c.as_bytes.ensures.value ∙ c.as_str.ensures.value ∙ c.fill_arc.ensures ∙ ap (λ (a : RoadArc). spelled (arc_words a)) (c.arc.ensures ∙ arc_at c.args.graph.now c.loop-number.number)) c.loop-number.invariant c.in_err-write_bytes.ensures)
 
 pub returns : goal.returns
 returns g c =

@@ -5,12 +5,13 @@ use Rattle.road_files.specs.declared.questions.Kind.TheVariants.{Sources}
 use Rattle.road_files.specs.Asked.{of_source}
 use Rattle.road_files.specs.WrittenFiles.{problem_words}
 use Rattle.road_files.proofs.LinesInARow.{questions_then, questions_fell}
+use Rattle.road_text.proofs.WriteLaws.{fell_out}
 use Rattle.road_files.proofs.writing.write_ss.Goals as goal
 
-pub returns-in-Ok : goal.returns-in-Ok
-returns-in-Ok g c = questions_then _ _ _ _ _ _ _ (record { kind = Sources; questions = map of_source c.args.sources.now }) _
-    (c.as_bytes.ensures.value ∙ c.as_str.ensures.value ∙ c.line_of_problem-line.ensures ∙ ap (λ (k : ℕ). spelled (problem_words Sources k)) (sym (length-map c.args.sources.now of_source))) c.in-Ok.ensures c.write_sources.ensures
+pub returns : goal.returns
+returns g c = questions_then _ _ _ _ _ _ _ (record { kind = Sources; questions = map of_source c.args.sources.now }) _
+    (c.as_bytes.ensures.value ∙ c.as_str.ensures.value ∙ c.line_of_problem-line.ensures ∙ ap (λ (k : ℕ). spelled (problem_words Sources k)) (sym (length-map c.args.sources.now of_source))) c.in_ok-write_bytes.ensures c.write_sources.ensures
 
-pub returns-in-Err : goal.returns-in-Err
-returns-in-Err g c = questions_fell _ _ _ _ _ (record { kind = Sources; questions = map of_source c.args.sources.now })
-    (c.as_bytes.ensures.value ∙ c.as_str.ensures.value ∙ c.line_of_problem-line.ensures ∙ ap (λ (k : ℕ). spelled (problem_words Sources k)) (sym (length-map c.args.sources.now of_source))) c.in-Err.ensures
+pub returns-in_err-write_bytes : goal.returns-in_err-write_bytes
+returns-in_err-write_bytes g c = fell_out _ _ _ _ _ _ c.from_residual.result c.from_residual.ensures.1 (questions_fell _ _ _ _ _ (record { kind = Sources; questions = map of_source c.args.sources.now })
+    (c.as_bytes.ensures.value ∙ c.as_str.ensures.value ∙ c.line_of_problem-line.ensures ∙ ap (λ (k : ℕ). spelled (problem_words Sources k)) (sym (length-map c.args.sources.now of_source))) c.in_err-write_bytes.ensures)

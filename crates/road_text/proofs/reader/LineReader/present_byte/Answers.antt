@@ -11,29 +11,29 @@ use Rattle.road_text.proofs.reader.LineReader.present_byte.Goals as goal
 pub returns-then-byte-eq13-clause-same : goal.returns-then-byte-eq13-clause-same
 returns-then-byte-eq13-clause-same g c = λ cut rest r h present held.
     let P = g.T.LineParser.way.so_far c.args.self.now.parser in
-    let full : Shows P (scan_of c.add_held.new.self) present = rw c.add_held.ensures (shows_whole P c.args.self.now.held (scan_of c.args.self.now.scanner) present held.held held.shown) in
-    let now : Holds P true true (scan_of c.add_held.new.self) (present ++ c.args.byte ∷ []) = rw c.if-byte-eq13.true (holds_return P (scan_of c.add_held.new.self) present full held.whole) in
+    let full : Shows P (scan_of c.add_pending.new.self) present = rw c.add_pending.ensures (shows_whole P c.args.self.now.pending (scan_of c.args.self.now.scanner) present held.pending held.shown) in
+    let now : Holds P true true (scan_of c.add_pending.new.self) (present ++ c.args.byte ∷ []) = rw c.if-byte-eq13.true (holds_return P (scan_of c.add_pending.new.self) present full held.whole) in
     rw (← append_assoc present (c.args.byte ∷ []) rest) (h (present ++ c.args.byte ∷ []) now)
 
 pub returns-then-is_gap-clause-same : goal.returns-then-is_gap-clause-same
 returns-then-is_gap-clause-same g c = λ cut rest r h present held.
     let P = g.T.LineParser.way.so_far c.args.self.now.parser in
     let Q = g.T.LineParser.way.so_far c.end_field.new.self.parser in
-    let full : Shows P (scan_of c.add_held.new.self) present = rw c.add_held.ensures (shows_whole P c.args.self.now.held (scan_of c.args.self.now.scanner) present held.held held.shown) in
+    let full : Shows P (scan_of c.add_pending.new.self) present = rw c.add_pending.ensures (shows_whole P c.args.self.now.pending (scan_of c.args.self.now.scanner) present held.pending held.shown) in
     let gap : is_gap c.args.byte ≡ true = sym c.is_gap.ensures ∙ c.if-is_gap.true in
-    let gone : Shows Q (past (scan_of c.add_held.new.self), no_word) (present ++ c.args.byte ∷ []) = shows_gap P Q (scan_of c.add_held.new.self) present c.args.byte gap full (c.in_ok-end_field.ensures.told present full) in
+    let gone : Shows Q (past (scan_of c.add_pending.new.self), no_word) (present ++ c.args.byte ∷ []) = shows_gap P Q (scan_of c.add_pending.new.self) present c.args.byte gap full (c.in_ok-end_field.ensures.told present full) in
     let closed : Shows Q (scan_of c.close.new.self) (present ++ c.args.byte ∷ []) = subst (λ (s : Scan). Shows Q s (present ++ c.args.byte ∷ [])) (sym (c.close.ensures ∙ ap (λ (s : Scan). (past s, no_word)) c.end_field.ensures.scanner)) gone in
     let now : Holds Q true false (scan_of c.close.new.self) (present ++ c.args.byte ∷ []) = holds_other Q (scan_of c.close.new.self) present c.args.byte closed held.whole c.requires.other c.if-byte-eq13.false in
-    let going : Holds Q c.end_field.new.self.begun c.end_field.new.self.held (scan_of c.close.new.self) (present ++ c.args.byte ∷ []) = rw (c.end_field.ensures.rest.0, c.end_field.ensures.rest.1) now in
+    let going : Holds Q c.end_field.new.self.begun c.end_field.new.self.pending (scan_of c.close.new.self) (present ++ c.args.byte ∷ []) = rw (c.end_field.ensures.rest.0, c.end_field.ensures.rest.1) now in
     rw (← append_assoc present (c.args.byte ∷ []) rest, ← c.end_field.ensures.rest.2) (c.in_ok-end_field.ensures.same cut c.end_field.new.self.line (lines cut ((present ++ c.args.byte ∷ []) ++ rest)) r (h (present ++ c.args.byte ∷ []) going))
 
 pub returns-clause-same : goal.returns-clause-same
 returns-clause-same g c = λ cut rest r h present held.
     let P = g.T.LineParser.way.so_far c.args.self.now.parser in
-    let full : Shows P (scan_of c.add_held.new.self) present = rw c.add_held.ensures (shows_whole P c.args.self.now.held (scan_of c.args.self.now.scanner) present held.held held.shown) in
+    let full : Shows P (scan_of c.add_pending.new.self) present = rw c.add_pending.ensures (shows_whole P c.args.self.now.pending (scan_of c.args.self.now.scanner) present held.pending held.shown) in
     let gap : is_gap c.args.byte ≡ false = sym c.is_gap.ensures ∙ c.if-is_gap.false in
     let now : Holds P true false (scan_of c.go_on.new.self) (present ++ c.args.byte ∷ []) =
     holds_other P (scan_of c.go_on.new.self) present c.args.byte
-    (subst (λ (s : Scan). Shows P s (present ++ c.args.byte ∷ [])) (sym c.go_on.ensures) (shows_other P (scan_of c.add_held.new.self) present c.args.byte gap full))
+    (subst (λ (s : Scan). Shows P s (present ++ c.args.byte ∷ [])) (sym c.go_on.ensures) (shows_other P (scan_of c.add_pending.new.self) present c.args.byte gap full))
     held.whole c.requires.other c.if-byte-eq13.false in
     rw (← append_assoc present (c.args.byte ∷ []) rest) (h (present ++ c.args.byte ∷ []) now)

@@ -9,8 +9,8 @@ returns-clause-same g c = λ cut rest r h present held.
     let P = g.T.LineParser.way.so_far c.args.self.now.parser in
     let scan = scan_of c.args.self.now.scanner in
     let bytes : List ℕ = c.args.bytes.now in
-    let full : Shows P scan present = shows_whole P false scan present (sym c.requires.whole ∙ held.held) held.shown in
+    let full : Shows P scan present = shows_whole P false scan present (sym c.requires.whole ∙ held.pending) held.shown in
     let now : Holds P true false (scan.0, word_with scan.1 bytes) (present ++ bytes) = holds_run P scan present bytes c.requires.some c.requires.plain full held.whole in
     let taken : Holds P true false (scan_of c.add_run.new.self) (present ++ bytes) = subst (λ (s : Scan). Holds P true false s (present ++ bytes)) (sym c.add_run.ensures) now in
-    let standing : Holds P true c.args.self.now.held (scan_of c.add_run.new.self) (present ++ bytes) = rw c.requires.whole taken in
+    let standing : Holds P true c.args.self.now.pending (scan_of c.add_run.new.self) (present ++ bytes) = rw c.requires.whole taken in
     rw (← append_assoc present bytes rest) (h (present ++ bytes) standing)

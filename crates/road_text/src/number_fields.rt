@@ -1,0 +1,20 @@
+//! Numbers in fields.
+ghost use Rattle.std.specs.Prelude.{ℕ, ◌≤◌, IfOk};
+ghost use Rattle.road_text.specs.Slots.{word_in};
+ghost use Rattle.road_text.specs.Takes.{Agrees};
+ghost use Rattle.road_text.specs.Words.{number_up_to};
+
+use crate::faults::{LineFault, Rule};
+use crate::slots::Slot;
+
+/// The number in a field, up to a limit. The rule `none` is broken by a field that is no number, `large` by a greater one.
+pub fn limited_number(slot: &Slot, limit: u64, none: Rule, large: Rule) -> Result<u64, LineFault>
+    ensures rule { Agrees (number_up_to none.number large.number limit (word_in slot.now).number) result }
+    ensures limit { IfOk result (λ n. n ≤ limit) }
+{
+    match slot.number {
+        None => Err(LineFault::Broken(none)),
+        Some(n) if n > u128::from(limit) => Err(LineFault::Broken(large)),
+        Some(n) => Ok(n as u64),
+    }
+}

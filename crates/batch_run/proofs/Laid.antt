@@ -1,11 +1,12 @@
 -- What the sources and labels of a question come to, by its kind.
-use Rattle.std.proofs.Common.{◌≡◌, ℕ, ◌<◌, List, [], ◌∷◌, length, get_or, map, refl, sym, ap, ◌∙◌, subst, Option, Some, None, Vec, Global, arith}
+use Rattle.std.proofs.Common.{◌≡◌, ℕ, ◌<◌, ◌≤◌, List, [], ◌∷◌, length, get_or, map, refl, sym, ap, ◌∙◌, subst, Option, Some, None, Vec, Global, arith}
 use denote.Ref.{Bor}
+use Rattle.std.specs.List.{All}
 use Rattle.std.specs.Option.{option_copied}
 use Rattle.std.specs.Prelude.{Result, Ok, Err, IfOk, IfSome}
-use Rattle.std.proofs.lemmas.List.Elements.{All-nil}
+use Rattle.std.proofs.lemmas.List.Elements.{All-nil, All-cons}
 use Rattle.std.proofs.lemmas.List.{get_or-map, length-map}
-use Rattle.road_files.specs.Asked.{Question, FromSource, asked_of, of_source, of_pair, of_list}
+use Rattle.road_files.specs.Asked.{AskWithin, IsVertexOf, Question, FromSource, asked_of, of_source, of_pair, of_list}
 use Rattle.road_files.specs.declared.questions.Questions.{Questions}
 use Rattle.road_files.specs.declared.questions.Questions.TheVariants as variants
 use Rattle.road_graph.specs.Roads.{Roads}
@@ -15,6 +16,7 @@ use Rattle.batch_run.specs.Answered.{fault_of_group}
 use Rattle.batch_run.specs.declared.engine.Layout.{Layout}
 use Rattle.batch_run.specs.Ended.{AreReady, IsEnded, IsLayout}
 use Rattle.batch_run.specs.Sources.{sources_of}
+use Rattle.batch_run.proofs.Together.{any_of}
 
 pub IfOk_to : {T E : Type 0} (r : Result T E) {P Q : T → Type 0} → IfOk r P → ((v : T) → P v → Q v) → IfOk r Q
 IfOk_to (Ok v) p f = f v p
@@ -33,6 +35,20 @@ module _ (q : Questions) (i : ℕ) where
 
   pub list_at : (ls : Vec (Vec ℕ Global) Global) (l : Vec ℕ Global) → q ≡ variants.Multi ls → i < length (asked_of q).questions → l ≡ get_or ls.items i l → (d : Question) → sources_of (get_or (asked_of q).questions i d) ≡ l.items
   list_at ls l e low is d = ap (λ y. sources_of (get_or (asked_of y).questions i d)) e ∙ ap sources_of (get_or-map of_list ls.items i l d (within of_list ls.items (variants.Multi ls) refl e low)) ∙ ap (λ (y : Vec ℕ Global). y.items) (sym is)
+
+-- the sources of each question are some, and vertices of the graph
+pub asked_within : (n : ℕ) (q : Questions) (i : ℕ) → AskWithin n q → i < length (asked_of q).questions → (d : Question) → (1 ≤ length (sources_of (get_or (asked_of q).questions i d))) × All (IsVertexOf n) (sources_of (get_or (asked_of q).questions i d))
+asked_within n (variants.Sources vs) i w low d =
+    let at = within (variants.Sources vs) i of_source vs.items (variants.Sources vs) refl refl low in
+    subst (λ (y : Question). (1 ≤ length (sources_of y)) × All (IsVertexOf n) (sources_of y)) (sym (get_or-map of_source vs.items i 0 d at)) (omega arith, All-cons (IsVertexOf n) (get_or vs.items i 0) [] (w i 0 at) (All-nil (IsVertexOf n)))
+asked_within n (variants.Pairs ps) i w low d =
+    let at = within (variants.Pairs ps) i of_pair ps.items (variants.Pairs ps) refl refl low in
+    subst (λ (y : Question). (1 ≤ length (sources_of y)) × All (IsVertexOf n) (sources_of y)) (sym (get_or-map of_pair ps.items i (0, 0) d at))
+    (omega arith, All-cons (IsVertexOf n) (get_or ps.items i (0, 0)).0 [] ((w i (0, 0) at).0) (All-nil (IsVertexOf n)))
+asked_within n (variants.Multi ls) i w low d =
+    let at = within (variants.Multi ls) i of_list ls.items (variants.Multi ls) refl refl low in
+    let one = any_of ls.items i at in
+    subst (λ (y : Question). (1 ≤ length (sources_of y)) × All (IsVertexOf n) (sources_of y)) (sym (get_or-map of_list ls.items i one d at)) ((w i one at).some, (w i one at).vertices)
 
 -- a layout behind a reference
 module _ {A : Type 0} (V : Type 0) (algebra : A) (roads : Roads) where

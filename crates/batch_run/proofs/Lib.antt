@@ -7,3 +7,4 @@ pub mod Fronts
 pub mod Together
 pub mod Laid
 pub mod LastOf
+pub mod SameSources

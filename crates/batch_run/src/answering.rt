@@ -1,4 +1,4 @@
-//! Answers one question: solves it, and writes the right answer.
+//! Writes the right answer to one question.
 ghost use Rattle.std.specs.Prelude.{◌≡◌, ◌≤◌, ◌<◌, [], ◌∷◌, length, slice_index_or, All, IfOk, option_map};
 ghost use Rattle.road_graph.specs.Roads.{HasVertex};
 ghost use Rattle.path_algebra.specs.Walks.{AreBest};
@@ -7,16 +7,17 @@ ghost use Rattle.road_files.specs.Asked.{AreQuestionsOf, AreSourcesOf, Question,
 ghost use Rattle.answer_text.specs.IsAnswer.{IsPairAnswer};
 ghost use Rattle.answer_text.specs.Told.{found_of};
 ghost use Rattle.batch_run.specs.Answered.{WroteAnswer};
-ghost use Rattle.batch_run.specs.Sources.{sources_of};
+ghost use Rattle.batch_run.specs.Solved.{IsSolvedFor, IsSolvedFrom};
 
 use crate::faults::Unanswered;
+use crate::solving::Solved;
 use crate::telling::{write_source, write_sources};
 use answer_text::{Answer, Found, write_answer};
 use path_algebra::{Labels, PathAlgebra};
 use road_files::Questions;
 use road_graph::{Graph, Memory, Vertex};
 use road_text::RoadWrite;
-use route_tree::{Tree, route, routes_follow_parents, tree};
+use route_tree::{Tree, route, routes_follow_parents};
 use std::alloc::{AllocError, Global};
 
 /// The numbers of vertices.
@@ -63,40 +64,23 @@ fn found_at<A: PathAlgebra>(
     }))
 }
 
-/// What is found between two vertices.
-fn find<A: PathAlgebra>(
-    alloc: Global,
-    algebra: A,
-    graph: &Graph,
-    source: Vertex,
-    target: Vertex,
-    labels: &Labels<A::Value>,
-) -> Result<Option<Found>, Memory>
-    requires source { HasVertex graph.now source }
-    requires target { HasVertex graph.now target }
-    requires labels { AreBest (A.meaning algebra) graph.now (source ∷ []) labels.now }
-    ensures { IfOk result (λ found. IsPairAnswer (A.meaning algebra) graph.now source target (option_map found_of found)) }
-{
-    let tree = tree(alloc, algebra, graph, &[source], labels)?;
-    found_at(alloc, algebra, graph, source, target, labels, &tree)
-}
-
 /// Writes the right answer to a question from one vertex to another.
 fn answer_pair<A: PathAlgebra, W: RoadWrite>(
     alloc: Global,
     algebra: A,
     graph: &Graph,
     pair: (Vertex, Vertex),
-    labels: &Labels<A::Value>,
+    solved: &Solved<A::Value>,
     out: &mut W,
 ) -> Result<(), Unanswered>
     requires source { HasVertex graph.now pair.0 }
     requires target { HasVertex graph.now pair.1 }
-    requires labels { AreBest (A.meaning algebra) graph.now (pair.0 ∷ []) labels.now }
+    requires solved { IsSolvedFrom (A.meaning algebra) graph.now (pair.0 ∷ []) solved.now }
     ensures { WroteAnswer (A.meaning algebra) graph.now (BetweenPair pair.0 pair.1) (W.written out.old) (W.written out.new) (W.failures out.old) (W.failures out.new) result }
 {
     let (source, target) = pair;
-    let Ok(found) = find(alloc, algebra, graph, source, target, labels) else {
+    let (labels, tree) = (&solved.labels, &solved.tree);
+    let Ok(found) = found_at(alloc, algebra, graph, source, target, labels, tree) else {
         return Err(Unanswered::Memory);
     };
     let answer = Answer::Pair {
@@ -112,22 +96,17 @@ fn answer_pair<A: PathAlgebra, W: RoadWrite>(
 
 /// Writes the right answer to a question from one source to all vertices.
 fn answer_source<A: PathAlgebra, W: RoadWrite>(
-    alloc: Global,
     algebra: A,
     graph: &Graph,
     source: Vertex,
-    labels: &Labels<A::Value>,
+    solved: &Solved<A::Value>,
     out: &mut W,
 ) -> Result<(), Unanswered>
-    requires source { HasVertex graph.now source }
-    requires labels { AreBest (A.meaning algebra) graph.now (source ∷ []) labels.now }
+    requires solved { IsSolvedFrom (A.meaning algebra) graph.now (source ∷ []) solved.now }
     ensures { WroteAnswer (A.meaning algebra) graph.now (FromSource source) (W.written out.old) (W.written out.new) (W.failures out.old) (W.failures out.new) result }
 {
-    let Ok(tree) = tree(alloc, algebra, graph, &[source], labels) else {
-        return Err(Unanswered::Memory);
-    };
     let n = graph.vertices();
-    match write_source(out, algebra, n, source, labels, &tree) {
+    match write_source(out, algebra, n, source, &solved.labels, &solved.tree) {
         Ok(()) => Ok(()),
         Err(_) => Err(Unanswered::Write),
     }
@@ -139,49 +118,44 @@ fn answer_sources<A: PathAlgebra, W: RoadWrite>(
     algebra: A,
     graph: &Graph,
     sources: &[Vertex],
-    labels: &Labels<A::Value>,
+    solved: &Solved<A::Value>,
     out: &mut W,
 ) -> Result<(), Unanswered>
     requires sources { AreSourcesOf graph.now.vertices sources.now }
-    requires labels { AreBest (A.meaning algebra) graph.now sources.now labels.now }
+    requires solved { IsSolvedFrom (A.meaning algebra) graph.now sources.now solved.now }
     ensures { WroteAnswer (A.meaning algebra) graph.now (FromSources sources.now) (W.written out.old) (W.written out.new) (W.failures out.old) (W.failures out.new) result }
 {
-    let Ok(tree) = tree(alloc, algebra, graph, sources, labels) else {
-        return Err(Unanswered::Memory);
-    };
     let Ok(numbers) = numbers_of(alloc, sources) else {
         return Err(Unanswered::Memory);
     };
     let n = graph.vertices();
     let numbers = numbers.as_slice();
-    match write_sources(out, algebra, n, numbers, labels, &tree) {
+    match write_sources(out, algebra, n, numbers, &solved.labels, &solved.tree) {
         Ok(()) => Ok(()),
         Err(_) => Err(Unanswered::Write),
     }
 }
 
-/// Writes the right answer to the question at a place, given its best labels.
+/// Writes the right answer to the question at a place, given its best labels and their tree.
 pub(crate) fn answer_at<A: PathAlgebra, W: RoadWrite>(
     alloc: Global,
     algebra: A,
     graph: &Graph,
     questions: &Questions,
     i: usize,
-    labels: &Labels<A::Value>,
+    solved: &Solved<A::Value>,
     out: &mut W,
 ) -> Result<(), Unanswered>
     requires within { AreQuestionsOf graph.now.vertices questions.now }
     requires place { i < length (asked_of questions.now).questions }
-    requires labels { (default : Question) → AreBest (A.meaning algebra) graph.now (sources_of (slice_index_or (asked_of questions.now).questions i default)) labels.now }
+    requires solved { IsSolvedFor (A.meaning algebra) graph.now (asked_of questions.now).questions i solved.now }
     ensures { (default : Question) → WroteAnswer (A.meaning algebra) graph.now (slice_index_or (asked_of questions.now).questions i default) (W.written out.old) (W.written out.new) (W.failures out.old) (W.failures out.new) result }
 {
     match questions {
-        Questions::Sources(sources) => answer_source(
-            alloc, algebra, graph, sources[i], labels, out,
-        ),
-        Questions::Pairs(pairs) => answer_pair(alloc, algebra, graph, pairs[i], labels, out),
+        Questions::Sources(sources) => answer_source(algebra, graph, sources[i], solved, out),
+        Questions::Pairs(pairs) => answer_pair(alloc, algebra, graph, pairs[i], solved, out),
         Questions::Multi(lists) => {
-            answer_sources(alloc, algebra, graph, lists[i].as_slice(), labels, out)
+            answer_sources(alloc, algebra, graph, lists[i].as_slice(), solved, out)
         }
     }
 }

@@ -8,6 +8,7 @@ mod labelling;
 mod laws;
 mod run;
 mod settings;
+mod solving;
 mod telling;
 
 pub use faults::{File, RunFault, SETTINGS, WRITE, fault_in, fault_of_run};

@@ -11,9 +11,9 @@ use crate::engine::{Ahead, Batch, prepare};
 use crate::faults::{
     File, RunFault, SETTINGS, WRITE, fault_in, fault_of_answer, fault_of_group, fault_of_run,
 };
-use crate::labelling::labels_at;
 use crate::laws::answers_exist;
 use crate::settings::Settings;
+use crate::solving::solved_at;
 use answer_text::{first_answers_begin_all, write_header};
 use path_algebra::PathAlgebra;
 use road_files::{Questions, read_bundle, read_gr, read_questions};
@@ -65,12 +65,13 @@ fn answer_all<A: PathAlgebra, W: RoadWrite, R: Threads + Wait, T: Gate>(
         asked: 0,
         ended: Vec::new(alloc),
     };
+    let mut solved = Vec::new(alloc);
     for i in 0..questions.len() {
-        let labels = match labels_at(&batch, layout, &mut ahead, questions, i) {
-            Ok(labels) => labels,
+        let k = match solved_at(&batch, layout, &mut ahead, questions, i, &mut solved) {
+            Ok(k) => k,
             Err(fault) => return Err(fault_of_group(fault)),
         };
-        match answer_at(alloc, algebra, graph, questions, i, &labels, out) {
+        match answer_at(alloc, algebra, graph, questions, i, &solved[k], out) {
             Ok(()) => {}
             Err(unanswered) => return Err(fault_of_answer(unanswered)),
         }
@@ -137,8 +138,8 @@ fn answer_and_flush<A: PathAlgebra, W: RoadWrite, R: Threads + Wait, T: Gate>(
 /// fault of an input nothing has been written; after a later one (3, 40 to 42) a front of the answers' text has.
 ///
 /// Questions are run in groups of `width` diffusions, each over its own shards, by workers on threads: worker w turns the
-/// stations of the shards whose number is w modulo `workers`. With `plain` the one-thread solver answers each question, no
-/// worker is started, and the gate is not asked.
+/// stations of the shards whose number is w modulo `workers`. With `plain` the one-thread solver answers each question, and
+/// one from the sources of the question before it without a new search; no worker is started, and the gate is not asked.
 pub fn run_pair<A: PathAlgebra, G: RoadRead, Q: RoadRead, W: RoadWrite, R: Threads + Wait, T: Gate>(
     rt: &R,
     alloc: Global,

@@ -1,6 +1,7 @@
 //! Worked questions with their answers, and what stops a batch.
 mod ends;
 mod faults;
+mod sources;
 mod workers;
 
 use crate::tolls::Tolls;

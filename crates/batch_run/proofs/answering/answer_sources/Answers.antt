@@ -7,17 +7,17 @@ use Rattle.batch_run.proofs.answering.answer_sources.Goals as goal
 pub returns-in-Ok-write_sources : goal.returns-in-Ok-write_sources
 returns-in-Ok-write_sources g c =
     let A = g.A.PathAlgebra.meaning c.args.algebra in
-    let tree = c.in-Ok.tree in
-    let labels = c.args.labels.now in
+    let tree = c.args.solved.now.tree in
+    let labels = c.args.solved.now.labels in
     let n = c.vertices-n.result in
-    let right = lines_are_right A c.args.graph.now c.args.sources.now labels tree n c.vertices-n.ensures.count c.requires.labels c.in-Ok.ensures in
-    (ToldMulti c.as_slice-numbers.result.now (told_lines A labels tree n), (c.as_slice-numbers.ensures.value ∙ c.in-Ok-numbers_of.ensures, right), c.in-Ok-write_sources.ensures)
+    let right = lines_are_right A c.args.graph.now c.args.sources.now labels tree n c.vertices-n.ensures.count c.requires.solved.labels c.requires.solved.tree in
+    (ToldMulti c.as_slice-numbers.result.now (told_lines A labels tree n), (c.as_slice-numbers.ensures.value ∙ c.in-Ok.ensures, right), c.in-Ok-write_sources.ensures)
 
 pub returns : goal.returns
 returns g c =
     let A = g.A.PathAlgebra.meaning c.args.algebra in
-    let tree = c.in-Ok.tree in
-    let labels = c.args.labels.now in
+    let tree = c.args.solved.now.tree in
+    let labels = c.args.solved.now.labels in
     let n = c.vertices-n.result in
-    let right = lines_are_right A c.args.graph.now c.args.sources.now labels tree n c.vertices-n.ensures.count c.requires.labels c.in-Ok.ensures in
-    (ToldMulti c.as_slice-numbers.result.now (told_lines A labels tree n), (c.as_slice-numbers.ensures.value ∙ c.in-Ok-numbers_of.ensures, right), c.in-Err.ensures)
+    let right = lines_are_right A c.args.graph.now c.args.sources.now labels tree n c.vertices-n.ensures.count c.requires.solved.labels c.requires.solved.tree in
+    (ToldMulti c.as_slice-numbers.result.now (told_lines A labels tree n), (c.as_slice-numbers.ensures.value ∙ c.in-Ok.ensures, right), c.in-Err.ensures)

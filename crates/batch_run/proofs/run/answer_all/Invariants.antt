@@ -1,5 +1,7 @@
+use Rattle.std.specs.List.{All}
 use Rattle.road_files.specs.Asked.{asked_of}
 use Rattle.batch_run.specs.Ended.{AreReady}
+use Rattle.batch_run.specs.Solved.{IsSolved}
 use Rattle.batch_run.proofs.Progress.{Progress}
 use Rattle.batch_run.proofs.run.answer_all.Given as goal
 
@@ -7,4 +9,5 @@ abbrev pub invariant-loop-i : goal.invariant-loop-i
 invariant-loop-i g l = record {
   progress : Progress (g.A.PathAlgebra.meaning l.algebra) l.graph (asked_of l.questions) l.i (g.W.RoadWrite.written l.fn.out) (g.W.RoadWrite.written l.out) (g.W.RoadWrite.failures l.fn.out) (g.W.RoadWrite.failures l.out);
   ready : AreReady l.algebra l.graph l.layout l.ahead.ended.items;
+  solved : All (IsSolved (g.A.PathAlgebra.meaning l.algebra) l.graph (asked_of l.questions).questions) l.solved.items;
 }

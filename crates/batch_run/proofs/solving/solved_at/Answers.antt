@@ -1,0 +1,13 @@
+use Rattle.road_files.specs.Asked.{asked_of}
+use Rattle.batch_run.proofs.SameSources.{alone_answers, alone_solved}
+use Rattle.batch_run.proofs.solving.solved_at.Goals as goal
+
+pub returns-in-Ok-clause-answers : goal.returns-in-Ok-clause-answers
+returns-in-Ok-clause-answers g c =
+    alone_answers (g.A.PathAlgebra.meaning c.args.batch.now.algebra) c.args.batch.now.graph.now (asked_of c.args.questions.now).questions c.args.i c.in_ok-next-in-Some.next c.clear.new.self.items c.push.new.self.items
+    c.in_ok-next-in-Some.ensures.solved c.clear.ensures.items c.in-Ok.ensures.items
+
+pub returns-in-Ok-clause-solved : goal.returns-in-Ok-clause-solved
+returns-in-Ok-clause-solved g c =
+    alone_solved (g.A.PathAlgebra.meaning c.args.batch.now.algebra) c.args.batch.now.graph.now (asked_of c.args.questions.now).questions c.args.i c.in_ok-next-in-Some.next c.clear.new.self.items c.push.new.self.items
+    c.in_ok-next-in-Some.ensures.solved c.clear.ensures.items c.in-Ok.ensures.items c.requires.place

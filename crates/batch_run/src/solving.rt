@@ -1,0 +1,197 @@
+//! Best labels and the tree of a question.
+ghost use Rattle.std.specs.Prelude.{◌≡◌, ◌≢◌, ◌≤◌, ◌<◌, ◌↔◌, length, slice_index_or, All, HoldsAt, IfOk, IfErr, IfSome, None, Err, IsTrue};
+ghost use Rattle.road_files.specs.Asked.{AreQuestionsOf, Question, asked_of};
+ghost use Rattle.batch_run.specs.Ended.{AreReady, IsEnded, IsLayout};
+ghost use Rattle.batch_run.specs.InRange.{AreInRange};
+ghost use Rattle.batch_run.specs.Solved.{IsSolved, IsSolvedAt, IsSolvedFor};
+ghost use Rattle.batch_run.specs.Sources.{sources_of};
+
+use crate::engine::{Ahead, Batch, Layout};
+use crate::labelling::merge_all;
+use path_algebra::{Labels, PathAlgebra};
+use path_plain::solve_from;
+use road_files::Questions;
+use road_graph::{Graph, Memory, Vertex};
+use route_tree::{Tree, tree};
+use std::alloc::{AllocError, Global};
+use std::sync::Wait;
+use std::thread::Threads;
+use worker_fleet::{Gate, GroupFault};
+
+/// Best labels from the sources of the question at a place, with their tree.
+#[derive(Drop)]
+pub(crate) struct Solved<V: Copy> {
+    pub(crate) place: usize,
+    pub(crate) labels: Labels<V>,
+    pub(crate) tree: Tree,
+}
+
+/// The same vertices in a list of its own.
+fn copied(alloc: Global, vertices: &[Vertex]) -> Result<Vec<Vertex>, AllocError>
+    ensures { IfOk result (λ v. v.items ≡ vertices.now) }
+{
+    let mut list = Vec::new(alloc);
+    list.extend_from_slice(vertices)?;
+    Ok(list)
+}
+
+/// The sources of the question at a place.
+fn sources_at(alloc: Global, questions: &Questions, i: usize) -> Result<Vec<Vertex>, AllocError>
+    requires place { i < length (asked_of questions.now).questions }
+    ensures { IfOk result (λ v. (default : Question) → v.items ≡ sources_of (slice_index_or (asked_of questions.now).questions i default)) }
+{
+    match questions {
+        Questions::Sources(sources) => copied(alloc, &[sources[i]]),
+        Questions::Pairs(pairs) => copied(alloc, &[pairs[i].0]),
+        Questions::Multi(lists) => copied(alloc, lists[i].as_slice()),
+    }
+}
+
+/// Whether two questions have the same sources, in the same order.
+fn have_same_sources(questions: &Questions, i: usize, j: usize) -> bool
+    requires first { i < length (asked_of questions.now).questions }
+    requires second { j < length (asked_of questions.now).questions }
+    ensures { IsTrue result ↔ ((default : Question) → sources_of (slice_index_or (asked_of questions.now).questions i default) ≡ sources_of (slice_index_or (asked_of questions.now).questions j default)) }
+{
+    match questions {
+        Questions::Sources(sources) => sources[i] == sources[j],
+        Questions::Pairs(pairs) => pairs[i].0 == pairs[j].0,
+        Questions::Multi(lists) => lists[i].as_slice() == lists[j].as_slice(),
+    }
+}
+
+/// Which of those that are solved has the sources of the question at a place.
+fn solved_like<V: Copy>(solved: &[Solved<V>], questions: &Questions, i: usize) -> Option<usize>
+    requires place { i < length (asked_of questions.now).questions }
+    requires places { All (λ s. s.place < length (asked_of questions.now).questions) solved.now }
+    ensures inside { IfSome result (λ k. k < length solved.now) }
+    ensures same { IfSome result (HoldsAt (λ s. (default : Question) → sources_of (slice_index_or (asked_of questions.now).questions s.place default) ≡ sources_of (slice_index_or (asked_of questions.now).questions i default)) solved.now) }
+{
+    for k in 0..solved.len() {
+        if have_same_sources(questions, solved[k].place, i) {
+            return Some(k);
+        }
+    }
+    None
+}
+
+/// Best labels of the question at a place by the plain solver, with their tree.
+fn solve<A: PathAlgebra>(
+    alloc: Global,
+    algebra: A,
+    graph: &Graph,
+    questions: &Questions,
+    i: usize,
+) -> Result<Solved<A::Value>, Memory>
+    requires within { AreQuestionsOf graph.now.vertices questions.now }
+    requires place { i < length (asked_of questions.now).questions }
+    ensures { IfOk result (IsSolvedAt (A.meaning algebra) graph.now (asked_of questions.now).questions i) }
+{
+    let list = sources_at(alloc, questions, i)?;
+    let sources = list.as_slice();
+    let labels = solve_from(alloc, algebra, graph, sources)?;
+    let tree = tree(alloc, algebra, graph, sources, &labels)?;
+    Ok(Solved {
+        place: i,
+        labels,
+        tree,
+    })
+}
+
+/// Which of those that are solved answers the question at a place: the plain solver solves it where it asks from other sources.
+fn solve_plainly<A: PathAlgebra>(
+    alloc: Global,
+    algebra: A,
+    graph: &Graph,
+    questions: &Questions,
+    i: usize,
+    solved: &mut Vec<Solved<A::Value>>,
+) -> Result<usize, Memory>
+    requires within { AreQuestionsOf graph.now.vertices questions.now }
+    requires place { i < length (asked_of questions.now).questions }
+    requires solved { All (IsSolved (A.meaning algebra) graph.now (asked_of questions.now).questions) solved.old.items }
+    ensures inside { IfOk result (λ k. k < length solved.new.items) }
+    ensures answers { IfOk result (HoldsAt (IsSolvedFor (A.meaning algebra) graph.now (asked_of questions.now).questions i) solved.new.items) }
+    ensures solved { All (IsSolved (A.meaning algebra) graph.now (asked_of questions.now).questions) solved.new.items }
+{
+    if let Some(k) = solved_like(solved.as_slice(), questions, i) {
+        return Ok(k);
+    }
+    solved.clear();
+    let next = solve(alloc, algebra, graph, questions, i)?;
+    match solved.push(next) {
+        Ok(()) => {}
+        Err(_) => return Err(Memory),
+    }
+    Ok(0)
+}
+
+/// Best labels of the question at a place by stations, with their tree.
+fn solve_by_stations<'g, A: PathAlgebra, R: Threads + Wait, T: Gate>(
+    batch: &Batch<'g, A, R, T>,
+    layout: &'g Layout,
+    ahead: &mut Ahead<'g, A>,
+    questions: &Questions,
+    i: usize,
+) -> Result<Solved<A::Value>, GroupFault>
+    requires settings { AreInRange batch.now.settings.now }
+    requires within { AreQuestionsOf batch.now.graph.now.vertices questions.now }
+    requires place { i < length (asked_of questions.now).questions }
+    requires layout { IsLayout batch.now.graph.now layout.now.plan layout.now.sources.items }
+    requires ready { All (IsEnded batch.now.algebra batch.now.graph.now layout.now.plan) ahead.old.ended.items }
+    ensures solved { IfOk result (IsSolvedAt (A.meaning batch.now.algebra) batch.now.graph.now (asked_of questions.now).questions i) }
+    ensures ready { All (IsEnded batch.now.algebra batch.now.graph.now layout.now.plan) ahead.new.ended.items }
+    ensures open { T.is_always_open batch.now.gate.now → result ≢ Err GroupFault.Gated }
+{
+    let list = sources_at(batch.alloc, questions, i)?;
+    let sources = list.as_slice();
+    let labels = merge_all(batch, layout, ahead, sources)?;
+    let Ok(tree) = tree(batch.alloc, batch.algebra, batch.graph, sources, &labels) else {
+        return Err(GroupFault::Memory);
+    };
+    Ok(Solved {
+        place: i,
+        labels,
+        tree,
+    })
+}
+
+/// Which of those that are solved answers the question at a place: stations solve it where there is a layout for them, else the
+/// plain solver, unless one with the same sources is there already.
+pub(crate) fn solved_at<'g, A: PathAlgebra, R: Threads + Wait, T: Gate>(
+    batch: &Batch<'g, A, R, T>,
+    layout: Option<&'g Layout>,
+    ahead: &mut Ahead<'g, A>,
+    questions: &Questions,
+    i: usize,
+    solved: &mut Vec<Solved<A::Value>>,
+) -> Result<usize, GroupFault>
+    requires settings { AreInRange batch.now.settings.now }
+    requires within { AreQuestionsOf batch.now.graph.now.vertices questions.now }
+    requires place { i < length (asked_of questions.now).questions }
+    requires ready { AreReady batch.now.algebra batch.now.graph.now layout ahead.old.ended.items }
+    requires solved { All (IsSolved (A.meaning batch.now.algebra) batch.now.graph.now (asked_of questions.now).questions) solved.old.items }
+    ensures inside { IfOk result (λ k. k < length solved.new.items) }
+    ensures answers { IfOk result (HoldsAt (IsSolvedFor (A.meaning batch.now.algebra) batch.now.graph.now (asked_of questions.now).questions i) solved.new.items) }
+    ensures solved { All (IsSolved (A.meaning batch.now.algebra) batch.now.graph.now (asked_of questions.now).questions) solved.new.items }
+    ensures ready { AreReady batch.now.algebra batch.now.graph.now layout.entry ahead.new.ended.items }
+    ensures plain { layout.entry ≡ None → IfErr result (λ f. f ≡ GroupFault.Memory) }
+    ensures open { T.is_always_open batch.now.gate.now → result ≢ Err GroupFault.Gated }
+{
+    let (alloc, algebra, graph) = (batch.alloc, batch.algebra, batch.graph);
+    match layout {
+        Some(layout) => {
+            solved.clear();
+            let next = solve_by_stations(batch, layout, ahead, questions, i)?;
+            match solved.push(next) {
+                Ok(()) => {}
+                Err(_) => return Err(GroupFault::Memory),
+            }
+            Ok(0)
+        }
+        None => match solve_plainly(alloc, algebra, graph, questions, i, solved) {
+            Ok(k) => Ok(k),
+            Err(_) => Err(GroupFault::Memory),
+        },
+    }
+}

@@ -52,10 +52,7 @@ fn write_lines<A: PathAlgebra, W: RoadWrite>(
         let hops = tree.hops(vertex);
         let parent = tree.parent(vertex);
         let line = line_of(algebra, labels.of(vertex), hops, parent);
-        match write_vertex(to, &mut text, u64::from(v) + 1, line) {
-            Ok(()) => {}
-            Err(fault) => return Err(fault),
-        }
+        write_vertex(to, &mut text, u64::from(v) + 1, line)?;
     }
     Ok(())
 }
@@ -74,10 +71,8 @@ pub(crate) fn write_source<A: PathAlgebra, W: RoadWrite>(
     requires hops { length tree.now.hops ≡ n }
     ensures { WritesText W.written W.failures to.old to.new (answer_text (ToldSource source (told_lines (A.meaning algebra) labels.now tree.now n))) result }
 {
-    match write_source_line(to, source.0) {
-        Ok(()) => write_lines(to, algebra, n, labels, tree),
-        Err(fault) => Err(fault),
-    }
+    write_source_line(to, source.0)?;
+    write_lines(to, algebra, n, labels, tree)
 }
 
 /// Writes the answer to a question from several sources.
@@ -94,8 +89,6 @@ pub(crate) fn write_sources<A: PathAlgebra, W: RoadWrite>(
     requires hops { length tree.now.hops ≡ n }
     ensures { WritesText W.written W.failures to.old to.new (answer_text (ToldMulti sources.now (told_lines (A.meaning algebra) labels.now tree.now n))) result }
 {
-    match write_sources_line(to, sources) {
-        Ok(()) => write_lines(to, algebra, n, labels, tree),
-        Err(fault) => Err(fault),
-    }
+    write_sources_line(to, sources)?;
+    write_lines(to, algebra, n, labels, tree)
 }

@@ -13,7 +13,4 @@ pub mod Seated
 pub mod Opening
 pub mod Opened
 pub mod Closing
-pub mod TwoPlaces
-pub mod Places
 pub mod Carrying
-pub mod Passing

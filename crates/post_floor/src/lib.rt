@@ -15,6 +15,3 @@ pub use close::Closed;
 pub use floor::{Floor, FloorRule};
 pub use seat::Seat;
 pub use view::View;
-
-#[cfg(test)]
-mod tests;

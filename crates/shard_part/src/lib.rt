@@ -20,6 +20,3 @@ pub use question::Question;
 pub use scholten_core::Item;
 pub use shard::Shard;
 pub use tally::Tally;
-
-#[cfg(test)]
-mod tests;

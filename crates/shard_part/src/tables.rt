@@ -135,7 +135,6 @@ impl<V: Copy> VertexTable<V> {
     }
 
     /// For how many vertices there is room.
-    #[cfg(test)]
     pub fn capacity(&self) -> usize {
         self.rows.capacity()
     }
@@ -194,7 +193,6 @@ impl<V: Copy> ArcTable<V> {
     }
 
     /// For how many arcs there is room.
-    #[cfg(test)]
     pub fn capacity(&self) -> usize {
         self.rows.capacity()
     }

@@ -12,6 +12,3 @@ pub use laws::reach_counts_each_arc_once;
 pub use open::open_question;
 pub use station::Station;
 pub use turn::Report;
-
-#[cfg(test)]
-mod tests;

@@ -10,6 +10,3 @@ mod group;
 pub use driving::{Driven, Outcome, drive};
 pub use gate::{Gate, OpenGate};
 pub use group::{GroupFault, run_group};
-
-#[cfg(test)]
-mod tests;

@@ -1,0 +1,3 @@
+pub mod TwoPlaces
+pub mod Places
+pub mod Passing

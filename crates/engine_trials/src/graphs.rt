@@ -1,0 +1,58 @@
+//! The graphs that the tests ask about.
+
+use road_graph::{Graph, RoadArc, Vertex};
+use std::alloc::Global;
+use std::process::Abort;
+
+/// Five vertices, with a self-loop at 4; no arc leads to 5.
+pub const FIVE: [(u32, u32, u32); 7] = [
+    (1, 2, 4),
+    (1, 3, 1),
+    (3, 2, 2),
+    (2, 4, 5),
+    (3, 4, 8),
+    (4, 4, 0),
+    (5, 1, 3),
+];
+
+/// What the least sums from vertex 1 of the five are.
+pub const SHORTEST: [Option<u64>; 5] = [Some(0), Some(3), Some(1), Some(8), None];
+
+/// The graph of these tails, heads and weights, or none where memory was refused.
+fn asked(alloc: Global, n: u32, arcs: &[(u32, u32, u32)]) -> Option<Graph> {
+    let mut list = Vec::with_capacity(alloc, arcs.len()).ok()?;
+    for (tail, head, weight) in arcs {
+        let arc = RoadArc {
+            tail: Vertex(*tail),
+            head: Vertex(*head),
+            weight: *weight,
+        };
+        list.push(arc).ok()?;
+    }
+    if n > 1_000_000 || list.len() > 1_000_000 {
+        return None;
+    }
+    Graph::new(alloc, n, list).ok()
+}
+
+/// The graph of these tails, heads and weights. What is refused memory is asked for once more.
+pub fn graph_of(rt: &(impl Abort + AllocGlobal), n: u32, arcs: &[(u32, u32, u32)]) -> Graph {
+    match asked(rt.alloc(), n, arcs) {
+        Some(graph) => graph,
+        None => asked(rt.alloc(), n, arcs).expect(rt, "a graph"),
+    }
+}
+
+/// The five vertices.
+pub fn five(rt: &(impl Abort + AllocGlobal)) -> Graph {
+    graph_of(rt, 5, &FIVE)
+}
+
+/// Vertices 1 to n, with an arc of this weight from each to the next.
+pub fn chain_of(rt: &(impl Abort + AllocGlobal), n: u32, weight: u32) -> Graph {
+    let mut arcs = Vec::new(rt.alloc());
+    for tail in 1..n {
+        arcs.push((tail, tail + 1, weight)).expect(rt, "memory");
+    }
+    graph_of(rt, n, &arcs)
+}

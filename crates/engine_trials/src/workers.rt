@@ -1,0 +1,76 @@
+//! Workers that stop at a limit of turns, and go on.
+ghost use Rattle.std.specs.Prelude.{◌∷◌, []};
+ghost use Rattle.std.specs.List.{All};
+ghost use Rattle.station.specs.Station.{BelongsTo};
+ghost use Rattle.worker_fleet.specs.Turns.{IsPlaced};
+
+use crate::graphs::{SHORTEST, five};
+use crate::stations::{blocks, opened};
+use path_algebra::{PathAlgebra, Shortest};
+use post_floor::Floor;
+use road_graph::Vertex;
+use station::Station;
+use std::process::Abort;
+use worker_fleet::{OpenGate, Outcome, drive};
+
+/// Stations beside the place of their floor, the only one.
+fn placed<'g, A: PathAlgebra>(
+    rt: &(impl Abort + AllocGlobal),
+    floor: &Floor<A>,
+    stations: Vec<Station<'g, A>>,
+) -> Vec<(usize, Station<'g, A>)>
+    requires { All (BelongsTo floor.now) stations.items }
+    ensures { All (IsPlaced (floor.now ∷ [])) result.items }
+{
+    let mut placed = Vec::new(rt.alloc());
+    for station in stations {
+        placed.push((0, station)).expect(rt, "memory");
+    }
+    placed
+}
+
+/// Stations that a worker drove to their end, three turns at a time.
+fn driven<'g, A: PathAlgebra>(
+    rt: &impl Abort,
+    floors: &[Floor<A>],
+    stations: Vec<(usize, Station<'g, A>)>,
+) -> Vec<(usize, Station<'g, A>)>
+    requires { All (IsPlaced floors.now) stations.items }
+{
+    let mut stations = stations;
+    for _ in 0..200 {
+        let back = drive(floors, stations, 0, 1, 3, &OpenGate);
+        stations = back.stations;
+        match back.outcome {
+            Outcome::Ended => return stations,
+            Outcome::Stalled => assert!(rt; back.turns == 3),
+            Outcome::Gated => panic!(rt; "gated"),
+        }
+    }
+    panic!(rt; "not ended")
+}
+
+/// The label of a vertex, at the station that holds it.
+fn label_of(rt: &impl Abort, stations: &[(usize, Station<'_, Shortest>)], v: u32) -> Option<u64> {
+    for (_, station) in stations {
+        if station.holds(Vertex(v)) {
+            return station.peek(Vertex(v));
+        }
+    }
+    panic!(rt; "no station holds it")
+}
+
+#[test]
+fn drives_on_after_each_limit(rt: HostRuntime) {
+    let graph = five(&rt);
+    for shards in [1, 2, 3] {
+        let plan = blocks(&rt, shards);
+        let (floor, stations) = opened(&rt, Shortest, &graph, &plan, 1);
+        let stations = placed(&rt, &floor, stations);
+        let ended = driven(&rt, &[floor], stations);
+        for v in 0..5 {
+            let label = label_of(&rt, &ended, v as u32 + 1);
+            assert!(rt; label == SHORTEST[v]);
+        }
+    }
+}

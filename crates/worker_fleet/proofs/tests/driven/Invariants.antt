@@ -1,6 +1,0 @@
-use Rattle.std.specs.List.{All}
-use Rattle.worker_fleet.specs.Turns.{IsPlaced}
-use Rattle.worker_fleet.proofs.tests.driven.Given as goal
-
-abbrev pub invariant-loop : goal.invariant-loop
-invariant-loop g l = All (IsPlaced l.floors) l.stations.items

@@ -198,19 +198,28 @@ fn limit_zero_in_parts(rt: HostRuntime) {
     counts_are(&rt, &first, [1, 1, 1, 1]);
 }
 
+/// For how many items the queue and the outboxes of a part have room.
+fn rings_of<A: PathAlgebra>(part: &Part<'_, A>, shards: u8) -> usize {
+    let mut sum = part.room().saturating_add(part.queued());
+    for to in 0..shards {
+        if part.is_other(Shard(to)) {
+            sum = sum.saturating_add(part.capacity(Shard(to)));
+        }
+    }
+    sum
+}
+
 #[test]
 fn parts_reserve_for_their_own(rt: HostRuntime) {
     let graph = chain_of(&rt, 100_000, 1);
     let whole_plan = Plan::blocks(rt.alloc(), 100_000, 1).expect(&rt, "memory");
-    let whole = open(&rt, Shortest, &graph, &whole_plan, 0).reserved();
+    let whole = rings_of(&open(&rt, Shortest, &graph, &whole_plan, 0), 1);
     let plan = Plan::blocks(rt.alloc(), 100_000, 64).expect(&rt, "memory");
     let mut parts: usize = 0;
     for shard in 0..64 {
         let part = open(&rt, Shortest, &graph, &plan, shard);
-        parts = parts.saturating_add(part.reserved());
+        parts = parts.saturating_add(rings_of(&part, 64));
     }
-    assert!(rt;
-        whole > 100_000 && parts / 2 <= whole,
-        "{parts} for {whole}"
-    );
+    // An item on each of 99,999 arcs and on arc 0; 63 arcs lead from one shard to the next.
+    assert!(rt; whole == 100_000 && parts == 100_000 + 3 * 63);
 }

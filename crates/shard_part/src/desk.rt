@@ -13,7 +13,6 @@ ghost use Rattle.shard_part.specs.Desk.{IsTallied, IsPlace, IsRow, IsPopped, Han
 mod exchange;
 mod opening;
 mod readings;
-mod reserved;
 
 use crate::batch::Batch;
 use crate::plan::Plan;

@@ -172,11 +172,6 @@ impl<'g, A: PathAlgebra> Part<'g, A> {
         self.desk.room()
     }
 
-    /// How many entries its tables and rings have room for, in all.
-    pub fn reserved(&self) -> usize {
-        self.desk.reserved()
-    }
-
     /// How many items are on the way to another shard.
     pub fn outgoing(&self, to: Shard) -> usize
         requires { to < self.now.setup.plan.shards }

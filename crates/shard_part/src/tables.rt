@@ -133,11 +133,6 @@ impl<V: Copy> VertexTable<V> {
     {
         self.rows[j].deficit = deficit;
     }
-
-    /// For how many vertices there is room.
-    pub fn capacity(&self) -> usize {
-        self.rows.capacity()
-    }
 }
 
 impl<V: Copy> ArcTable<V> {
@@ -190,10 +185,5 @@ impl<V: Copy> ArcTable<V> {
             told: label.is_some(),
             ..row
         };
-    }
-
-    /// For how many arcs there is room.
-    pub fn capacity(&self) -> usize {
-        self.rows.capacity()
     }
 }

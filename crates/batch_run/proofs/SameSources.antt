@@ -1,7 +1,9 @@
--- What is solved for one question, and for those with the same sources.
-use Rattle.std.proofs.Common.{◌≡◌, ℕ, ◌<◌, List, [], ◌∷◌, ◌++◌, length, get_or, All, HoldsAt, subst, sym, ap, ◌∙◌, Bool, true}
-use Rattle.std.proofs.lemmas.List.Elements.{All-nil, All-cons}
+-- What is solved for one question, for those with the same sources, and for several side by side.
+use Rattle.std.proofs.Common.{arith, ◌≡◌, ℕ, ◌<◌, List, [], ◌∷◌, ◌++◌, length, get_or, map, All, HoldsAt, Vec, Global, subst, sym, ap, ◌∙◌, Bool, true}
+use Rattle.std.proofs.lemmas.List.Elements.{All-nil, All-cons, All-head, All-tail}
 use Rattle.std.specs.Bool.{Decides}
+use Rattle.std.specs.List.{AllZip}
+use Rattle.std.specs.Prelude.{Result, Ok, Err, IfOk, MatchResult, Contains}
 use Rattle.road_graph.specs.Roads.{Roads}
 use Rattle.road_files.specs.Asked.{Question, FromSource}
 use Rattle.path_algebra.specs.Algebra.{Algebra}
@@ -19,6 +21,22 @@ module _ {V : Type 0} (A : Algebra V) (g : Roads) (asked : List Question) where
     place = subst (λ k. k < length asked) (sym h.place) low;
     solved = subst (λ k. IsSolvedFor A g asked k s) (sym h.place) h.solved;
   }
+
+  -- those of a group are each solved for a question
+  pub all_own : (places : List ℕ) (ss : List (Solved V)) → All (λ k. k < length asked) places → AllZip (IsSolvedAt A g asked) places ss → All (IsSolved A g asked) ss
+  all_own [] [] inside h = All-nil (IsSolved A g asked)
+  all_own [] (s ∷ ss) inside h = absurd h
+  all_own (k ∷ ks) [] inside h = absurd h
+  all_own (k ∷ ks) (s ∷ ss) inside h =
+      All-cons (IsSolved A g asked) s ss (at_own k s (All-head (λ j. j < length asked) k ks inside) h.0) (all_own ks ss (All-tail (λ j. j < length asked) k ks inside) h.1)
+
+  -- the first of a group answers the question at its first place
+  pub first_answers : (i : ℕ) (rest places : List ℕ) (ss : List (Solved V)) → places ≡ i ∷ rest → AllZip (IsSolvedAt A g asked) places ss → (0 < length ss) × HoldsAt (IsSolvedFor A g asked i) ss 0
+  first_answers i rest places ss e h = go ss (subst (λ l. AllZip (IsSolvedAt A g asked) l ss) e h)
+    where
+      go : (ts : List (Solved V)) → AllZip (IsSolvedAt A g asked) (i ∷ rest) ts → (0 < length ts) × HoldsAt (IsSolvedFor A g asked i) ts 0
+      go [] p = absurd p
+      go (s ∷ ts) p = (omega arith, λ d. p.0.solved)
 
 module _ {V : Type 0} (A : Algebra V) (g : Roads) (asked : List Question) (i : ℕ) where
   -- of those that are solved, one with the sources of a question answers it
@@ -39,6 +57,19 @@ module _ {V : Type 0} (A : Algebra V) (g : Roads) (asked : List Question) (i : �
 
     pub alone_solved : i < length asked → All (IsSolved A g asked) ss
     alone_solved low = subst (All (IsSolved A g asked)) (sym alone) (All-cons (IsSolved A g asked) s [] (at_own A g asked i s low h) (All-nil (IsSolved A g asked)))
+
+-- what each of a list came to, where none failed
+all_ok : {S : Type 0} (E : Type 0) (Holds : ℕ → S → Type 0) (places : List ℕ) (ss : List S) → AllZip (λ k (r : Result S E). IfOk r (Holds k)) places (map Ok ss) → AllZip Holds places ss
+all_ok E Holds [] [] h = tt
+all_ok E Holds [] (s ∷ ss) h = absurd h
+all_ok E Holds (k ∷ ks) [] h = absurd h
+all_ok E Holds (k ∷ ks) (s ∷ ss) h = (h.0, all_ok E Holds ks ss h.1)
+
+-- and gathered in the order of the list
+pub gathered : {S E : Type 0} (Holds : ℕ → S → Type 0) (places : List ℕ) (rs : List (Result S E)) (v : Result (Vec S Global) E) → AllZip (λ k r. IfOk r (Holds k)) places rs
+    → MatchResult v (λ c. (ss : List S) × (rs ≡ map Ok ss) × (c.items ≡ ss)) (λ e. Contains rs (Err e)) → IfOk v (λ c. AllZip Holds places c.items)
+gathered Holds places rs (Ok c) each (ss, were, is) = rw is (all_ok _ Holds places ss (subst (λ l. AllZip (λ k r. IfOk r (Holds k)) places l) were each))
+gathered Holds places rs (Err e) each h = tt
 
 -- whether two lists of one are the same
 pub Decides-one : (b : Bool) (x y : ℕ) → Decides b (x ≡ y) → Decides b (x ∷ [] ≡ y ∷ [])

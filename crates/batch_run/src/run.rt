@@ -25,7 +25,7 @@ use std::thread::Threads;
 use worker_fleet::Gate;
 
 /// Answers all questions in order, and stops at the first fault.
-fn answer_all<A: PathAlgebra, W: RoadWrite, R: Threads + Wait, T: Gate>(
+fn answer_all<A: PathAlgebra, W: RoadWrite, R: Threads + Wait + Sync, T: Gate>(
     rt: &R,
     alloc: Global,
     algebra: A,
@@ -104,7 +104,7 @@ fn flush_all<W: RoadWrite>(out: &mut W, answered: Result<(), RunFault>) -> Resul
 }
 
 /// Answers all questions, and passes the answers on.
-fn answer_and_flush<A: PathAlgebra, W: RoadWrite, R: Threads + Wait, T: Gate>(
+fn answer_and_flush<A: PathAlgebra, W: RoadWrite, R: Threads + Wait + Sync, T: Gate>(
     rt: &R,
     alloc: Global,
     algebra: A,
@@ -139,8 +139,16 @@ fn answer_and_flush<A: PathAlgebra, W: RoadWrite, R: Threads + Wait, T: Gate>(
 ///
 /// Questions are run in groups of `width` diffusions, each over its own shards, by workers on threads: worker w turns the
 /// stations of the shards whose number is w modulo `workers`. With `plain` the one-thread solver answers each question, and
-/// one from the sources of the question before it without a new search; no worker is started, and the gate is not asked.
-pub fn run_pair<A: PathAlgebra, G: RoadRead, Q: RoadRead, W: RoadWrite, R: Threads + Wait, T: Gate>(
+/// one from the sources of the question before it without a new search; `width` searches go side by side on all processors. No
+/// worker is started, and the gate is not asked.
+pub fn run_pair<
+    A: PathAlgebra,
+    G: RoadRead,
+    Q: RoadRead,
+    W: RoadWrite,
+    R: Threads + Wait + Sync,
+    T: Gate,
+>(
     rt: &R,
     alloc: Global,
     algebra: A,
@@ -196,7 +204,7 @@ pub fn run_pair<A: PathAlgebra, G: RoadRead, Q: RoadRead, W: RoadWrite, R: Threa
 }
 
 /// Answers the questions of a bundle, a graph and questions over it in one input, as `run_pair` does.
-pub fn run_bundle<A: PathAlgebra, B: RoadRead, W: RoadWrite, R: Threads + Wait, T: Gate>(
+pub fn run_bundle<A: PathAlgebra, B: RoadRead, W: RoadWrite, R: Threads + Wait + Sync, T: Gate>(
     rt: &R,
     alloc: Global,
     algebra: A,

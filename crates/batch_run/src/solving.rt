@@ -1,5 +1,6 @@
-//! Best labels and the tree of a question.
-ghost use Rattle.std.specs.Prelude.{◌≡◌, ◌≢◌, ◌≤◌, ◌<◌, ◌↔◌, length, slice_index_or, All, HoldsAt, IfOk, IfErr, IfSome, None, Err, IsTrue};
+//! Best labels and the tree of a question; with the plain solver, of several side by side.
+ghost use Rattle.std.specs.Prelude.{◌≡◌, ◌≢◌, ◌≤◌, ◌<◌, ◌↔◌, ◌∷◌, List, ℕ, length, slice_index_or, All, HoldsAt, IfOk, IfErr, IfSome, None, Err, IsTrue};
+ghost use Rattle.std.specs.List.{AllZip};
 ghost use Rattle.road_files.specs.Asked.{AreQuestionsOf, Question, asked_of};
 ghost use Rattle.batch_run.specs.Ended.{AreReady, IsEnded, IsLayout};
 ghost use Rattle.batch_run.specs.InRange.{AreInRange};
@@ -10,6 +11,7 @@ use crate::engine::{Ahead, Batch, Layout};
 use crate::labelling::merge_all;
 use path_algebra::{Labels, PathAlgebra};
 use path_plain::solve_from;
+use rayon::prelude::*;
 use road_files::Questions;
 use road_graph::{Graph, Memory, Vertex};
 use route_tree::{Tree, tree};
@@ -98,31 +100,85 @@ fn solve<A: PathAlgebra>(
     })
 }
 
-/// Which of those that are solved answers the question at a place: the plain solver solves it where it asks from other sources.
-fn solve_plainly<A: PathAlgebra>(
+/// The place of a question, and of those that follow it with other sources than the one before them, as many as `most` in all.
+fn places_from(
+    alloc: Global,
+    questions: &Questions,
+    first: usize,
+    most: usize,
+) -> Result<Vec<usize>, AllocError>
+    requires first { first < length (asked_of questions.now).questions }
+    requires some { 1 ≤ most }
+    ensures first { IfOk result (λ v. (rest : List ℕ) × (v.items ≡ first ∷ rest)) }
+    ensures inside { IfOk result (λ v. All (λ place. place < length (asked_of questions.now).questions) v.items) }
+    ensures few { IfOk result (λ v. length v.items ≤ most) }
+{
+    let mut places = Vec::new(alloc);
+    places.push(first)?;
+    for place in first + 1..questions.len() {
+        if places.len() == most {
+            break;
+        }
+        if !have_same_sources(questions, place - 1, place) {
+            places.push(place)?;
+        }
+    }
+    Ok(places)
+}
+
+/// Best labels of the questions at several places by the plain solver, with their trees: side by side, on all processors.
+fn solve_each<A: PathAlgebra, R: Threads + Sync>(
+    rt: &R,
     alloc: Global,
     algebra: A,
     graph: &Graph,
     questions: &Questions,
+    places: &[usize],
+) -> Result<Vec<Solved<A::Value>>, Memory>
+    requires within { AreQuestionsOf graph.now.vertices questions.now }
+    requires places { All (λ place. place < length (asked_of questions.now).questions) places.now }
+    ensures { IfOk result (λ v. AllZip (IsSolvedAt (A.meaning algebra) graph.now (asked_of questions.now).questions) places.now v.items) }
+{
+    let solved: Result<Vec<Solved<A::Value>>, Memory> = places
+        .par_iter()
+        .with_min_len(1)
+        .map(
+            |place: &usize| -> Result<Solved<A::Value>, Memory>
+                requires { (place.now < length (asked_of questions.now).questions) × AreQuestionsOf graph.now.vertices questions.now }
+                ensures { IfOk result (IsSolvedAt (A.meaning algebra) graph.entry.now (asked_of questions.entry.now).questions place.now) }
+            { solve(alloc, algebra, graph, questions, *place) },
+        )
+        .collect(rt, alloc)?;
+    solved
+}
+
+/// Which of those that are solved answers the question at a place. Where none has its sources, the plain solver solves it, and side
+/// by side those that follow it with other sources, as many as the width in all; it alone, where memory does not suffice for all.
+fn solve_plainly<'g, A: PathAlgebra, R: Threads + Sync, T>(
+    batch: &Batch<'g, A, R, T>,
+    questions: &Questions,
     i: usize,
     solved: &mut Vec<Solved<A::Value>>,
 ) -> Result<usize, Memory>
-    requires within { AreQuestionsOf graph.now.vertices questions.now }
+    requires settings { AreInRange batch.now.settings.now }
+    requires within { AreQuestionsOf batch.now.graph.now.vertices questions.now }
     requires place { i < length (asked_of questions.now).questions }
-    requires solved { All (IsSolved (A.meaning algebra) graph.now (asked_of questions.now).questions) solved.old.items }
+    requires solved { All (IsSolved (A.meaning batch.now.algebra) batch.now.graph.now (asked_of questions.now).questions) solved.old.items }
     ensures inside { IfOk result (λ k. k < length solved.new.items) }
-    ensures answers { IfOk result (HoldsAt (IsSolvedFor (A.meaning algebra) graph.now (asked_of questions.now).questions i) solved.new.items) }
-    ensures solved { All (IsSolved (A.meaning algebra) graph.now (asked_of questions.now).questions) solved.new.items }
+    ensures answers { IfOk result (HoldsAt (IsSolvedFor (A.meaning batch.now.algebra) batch.now.graph.now (asked_of questions.now).questions i) solved.new.items) }
+    ensures solved { All (IsSolved (A.meaning batch.now.algebra) batch.now.graph.now (asked_of questions.now).questions) solved.new.items }
 {
     if let Some(k) = solved_like(solved.as_slice(), questions, i) {
         return Ok(k);
     }
     solved.clear();
-    let next = solve(alloc, algebra, graph, questions, i)?;
-    match solved.push(next) {
-        Ok(()) => {}
-        Err(_) => return Err(Memory),
+    let (rt, alloc, algebra, graph) = (batch.rt, batch.alloc, batch.algebra, batch.graph);
+    let places = places_from(alloc, questions, i, batch.settings.width as usize)?;
+    if let Ok(group) = solve_each(rt, alloc, algebra, graph, questions, places.as_slice()) {
+        *solved = group;
+        return Ok(0);
     }
+    *solved = solve_each(rt, alloc, algebra, graph, questions, &places[..1])?;
     Ok(0)
 }
 
@@ -158,7 +214,7 @@ fn solve_by_stations<'g, A: PathAlgebra, R: Threads + Wait, T: Gate>(
 
 /// Which of those that are solved answers the question at a place: stations solve it where there is a layout for them, else the
 /// plain solver, unless one with the same sources is there already.
-pub(crate) fn solved_at<'g, A: PathAlgebra, R: Threads + Wait, T: Gate>(
+pub(crate) fn solved_at<'g, A: PathAlgebra, R: Threads + Wait + Sync, T: Gate>(
     batch: &Batch<'g, A, R, T>,
     layout: Option<&'g Layout>,
     ahead: &mut Ahead<'g, A>,
@@ -178,7 +234,6 @@ pub(crate) fn solved_at<'g, A: PathAlgebra, R: Threads + Wait, T: Gate>(
     ensures plain { layout.entry ≡ None → IfErr result (λ f. f ≡ GroupFault.Memory) }
     ensures open { T.is_always_open batch.now.gate.now → result ≢ Err GroupFault.Gated }
 {
-    let (alloc, algebra, graph) = (batch.alloc, batch.algebra, batch.graph);
     match layout {
         Some(layout) => {
             solved.clear();
@@ -189,7 +244,7 @@ pub(crate) fn solved_at<'g, A: PathAlgebra, R: Threads + Wait, T: Gate>(
             }
             Ok(0)
         }
-        None => match solve_plainly(alloc, algebra, graph, questions, i, solved) {
+        None => match solve_plainly(batch, questions, i, solved) {
             Ok(k) => Ok(k),
             Err(_) => Err(GroupFault::Memory),
         },

@@ -25,7 +25,7 @@ const SHORTEST: &str =
 
 /// Asserts that questions over a graph have this answer, as two inputs and as one.
 fn assert_answered<A: PathAlgebra>(
-    rt: &(impl Abort + AllocGlobal + Threads + Wait),
+    rt: &(impl Abort + AllocGlobal + Threads + Wait + Sync),
     algebra: A,
     settings: &Settings,
     graph: &str,
@@ -67,7 +67,7 @@ fn assert_answered<A: PathAlgebra>(
 
 /// Asserts that questions over a graph have this answer, under the settings that a program has by default.
 fn assert_text<A: PathAlgebra>(
-    rt: &(impl Abort + AllocGlobal + Threads + Wait),
+    rt: &(impl Abort + AllocGlobal + Threads + Wait + Sync),
     algebra: A,
     graph: &str,
     questions: &str,

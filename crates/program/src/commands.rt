@@ -19,7 +19,7 @@ use std::sync::Wait;
 use std::thread::Threads;
 
 /// Answers the questions of one input over the graph of another, and gives the exit status.
-pub fn solve<R: Threads + Wait, G: RoadRead, Q: RoadRead, W: RoadWrite, E: RoadWrite>(
+pub fn solve<R: Threads + Wait + Sync, G: RoadRead, Q: RoadRead, W: RoadWrite, E: RoadWrite>(
     rt: &R,
     alloc: Global,
     chosen: Chosen,
@@ -40,7 +40,7 @@ pub fn solve<R: Threads + Wait, G: RoadRead, Q: RoadRead, W: RoadWrite, E: RoadW
 }
 
 /// Answers the questions of a bundle, and gives the exit status.
-pub fn bundle<R: Threads + Wait, B: RoadRead, W: RoadWrite, E: RoadWrite>(
+pub fn bundle<R: Threads + Wait + Sync, B: RoadRead, W: RoadWrite, E: RoadWrite>(
     rt: &R,
     alloc: Global,
     chosen: Chosen,

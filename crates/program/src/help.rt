@@ -126,8 +126,8 @@ pub const TURNS: &str = "Turns of a worker in a group, then fault 40";
 
 /// The one-thread solver.
 pub const PLAIN: &str = concat!(
-    "One thread and a heap in place of workers: the same answers, and\n",
-    "the faster way wherever the graph fits one memory",
+    "A heap for each question in place of workers: the same answers,\n",
+    "and the faster way wherever the graph fits one memory",
 );
 
 /// What a bundle is.

@@ -26,7 +26,7 @@ fn open<P: Places>(places: &P, path: &str, file: File) -> Result<P::File, RunFau
 }
 
 /// Answers the questions of one file over the graph of another, and gives the exit status.
-pub fn solve_files<R: Threads + Wait, P: Places, W: RoadWrite, E: RoadWrite>(
+pub fn solve_files<R: Threads + Wait + Sync, P: Places, W: RoadWrite, E: RoadWrite>(
     rt: &R,
     alloc: Global,
     places: &P,
@@ -57,7 +57,7 @@ pub fn solve_files<R: Threads + Wait, P: Places, W: RoadWrite, E: RoadWrite>(
 }
 
 /// Answers the bundle on standard input, and gives the exit status.
-pub fn bundle_given<R: Threads + Wait, P: Places, W: RoadWrite, E: RoadWrite>(
+pub fn bundle_given<R: Threads + Wait + Sync, P: Places, W: RoadWrite, E: RoadWrite>(
     rt: &R,
     alloc: Global,
     places: &P,

@@ -14,7 +14,7 @@ use std::sync::Wait;
 use std::thread::Threads;
 
 /// Answers the questions of one input over the graph of another, under the chosen algebra.
-pub(crate) fn run_chosen_pair<G: RoadRead, Q: RoadRead, W: RoadWrite, R: Threads + Wait>(
+pub(crate) fn run_chosen_pair<G: RoadRead, Q: RoadRead, W: RoadWrite, R: Threads + Wait + Sync>(
     rt: &R,
     alloc: Global,
     chosen: Chosen,
@@ -68,7 +68,7 @@ pub(crate) fn run_chosen_pair<G: RoadRead, Q: RoadRead, W: RoadWrite, R: Threads
 }
 
 /// Answers a bundle under the chosen algebra.
-pub(crate) fn run_chosen_bundle<B: RoadRead, W: RoadWrite, R: Threads + Wait>(
+pub(crate) fn run_chosen_bundle<B: RoadRead, W: RoadWrite, R: Threads + Wait + Sync>(
     rt: &R,
     alloc: Global,
     chosen: Chosen,

@@ -22,7 +22,7 @@ const BUNDLE: &str =
 const WRONG: &str = "p ans ss 1 own\ns 1\nd 1 0 0 0\nd 2 6 1 1\nd 3 3 1 1\nd 4 14 2 2\nu 5\n";
 
 /// The text of the right answers to a bundle.
-fn answered<R: Threads + Wait>(rt: &R, alloc: Global, bundle: &str) -> Result<Vec<u8>, Fault>
+fn answered<R: Threads + Wait + Sync>(rt: &R, alloc: Global, bundle: &str) -> Result<Vec<u8>, Fault>
     ensures { IfOk result (λ text. Done stops (IsBundleOf (Some bundle.now)) (Some []) (Some text.items)) }
 {
     let mut input = Plain::new(bundle.as_bytes());

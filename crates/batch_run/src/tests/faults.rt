@@ -11,7 +11,7 @@ use std::test::Fail;
 use std::thread::Threads;
 
 /// The outcome of two inputs under the settings that a program has by default.
-fn outcome_of_pair<R: Threads + Wait, G: RoadRead, Q: RoadRead, W: RoadWrite>(
+fn outcome_of_pair<R: Threads + Wait + Sync, G: RoadRead, Q: RoadRead, W: RoadWrite>(
     rt: &R,
     alloc: Global,
     graph: &mut G,
@@ -31,7 +31,7 @@ fn outcome_of_pair<R: Threads + Wait, G: RoadRead, Q: RoadRead, W: RoadWrite>(
 }
 
 /// The outcome of one input under the settings that a program has by default.
-fn outcome<R: Threads + Wait, B: RoadRead, W: RoadWrite>(
+fn outcome<R: Threads + Wait + Sync, B: RoadRead, W: RoadWrite>(
     rt: &R,
     alloc: Global,
     input: &mut B,
@@ -54,7 +54,7 @@ fn fault(number: u8, file: File, line: u64) -> Result<(), RunFault> {
 
 /// Asserts that one input is refused with this fault before anything is written.
 fn assert_refused(
-    rt: &(impl Abort + AllocGlobal + Threads + Wait),
+    rt: &(impl Abort + AllocGlobal + Threads + Wait + Sync),
     input: &mut Pieces<'_>,
     number: u8,
     line: u64,

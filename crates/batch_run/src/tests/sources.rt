@@ -9,12 +9,12 @@ use std::thread::Threads;
 
 /// Asserts that questions over `FIVE` have this answer, with workers and without, however many are under way together.
 fn assert_each(
-    rt: &(impl Abort + AllocGlobal + Threads + Wait),
+    rt: &(impl Abort + AllocGlobal + Threads + Wait + Sync),
     questions: &str,
     wanted: &str,
 ) -> Result<(), Fail> {
     for plain in [false, true] {
-        for width in [1, 2, 3, 64] {
+        for width in [1, 2, 3, 4, 5, 64] {
             let settings = Settings {
                 width,
                 plain,
@@ -62,4 +62,25 @@ fn the_same_sources_and_others(rt: HostRuntime) -> Result<(), Fail> {
         "p aux sp ms 6\nm 1 1\nm 1 1\nm 1\nm 4 5\nm 5 4\nm 4 5\n",
         wanted.as_str(),
     )
+}
+
+#[test]
+fn a_near_target_and_a_far_one(rt: HostRuntime) -> Result<(), Fail> {
+    let graph = "p sp 9 4\na 7 8 2\na 8 9 3\na 7 1 4\na 9 1 0\n";
+    for (width, plain) in [(1, false), (2, false), (1, true), (2, true)] {
+        let settings = Settings {
+            width,
+            plain,
+            ..Settings::default()
+        };
+        assert_answered(
+            &rt,
+            Shortest,
+            &settings,
+            graph,
+            "p aux sp p2p 2\nq 7 1\nq 7 9\n",
+            "p ans p2p 2 shortest\nq 7 1\nd 4 1\nr 7 1\nq 7 9\nd 5 2\nr 7 8 9\n",
+        )?;
+    }
+    Ok(())
 }

@@ -138,7 +138,7 @@ impl Gate for Meeting {
 }
 
 /// How a bundle ends at a gate, and what it has written.
-fn run_at<A: PathAlgebra, R: Threads + Wait, T: Gate>(
+fn run_at<A: PathAlgebra, R: Threads + Wait + Sync, T: Gate>(
     rt: &R,
     alloc: Global,
     algebra: A,
@@ -235,7 +235,7 @@ fn turns_alone<A: PathAlgebra>(
 
 /// Asserts that the gate of one worker is asked as often as the stations of a question turn when nobody drives them.
 fn assert_turns_agree<A: PathAlgebra>(
-    rt: &(impl Abort + AllocGlobal + Threads + Wait),
+    rt: &(impl Abort + AllocGlobal + Threads + Wait + Sync),
     algebra: A,
     graph: &str,
 ) -> Result<(), Fail> {

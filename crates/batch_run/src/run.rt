@@ -7,7 +7,7 @@ ghost use Rattle.batch_run.specs.InRange.{AreInRange};
 ghost use Rattle.batch_run.specs.Ran.{IsPassedOn, Done, Begun, BegunWhole, IsPairOf, IsBundleOf, IsGraphFault, IsQuestionsFault, IsBundleFault, IsFaultOf, IsLater};
 
 use crate::answering::answer_at;
-use crate::engine::{Ahead, Batch, prepare};
+use crate::engine::{Ahead, Batch, indexed, prepare};
 use crate::faults::{
     File, RunFault, SETTINGS, WRITE, fault_in, fault_of_answer, fault_of_group, fault_of_run,
 };
@@ -200,6 +200,7 @@ pub fn run_pair<
         Ok(questions) => questions,
         Err(fault) => return Err(fault_in(File::Questions, fault)),
     };
+    let graph = indexed(alloc, graph, settings);
     answer_and_flush(rt, alloc, algebra, &graph, &questions, out, settings, gate)
 }
 
@@ -248,5 +249,6 @@ pub fn run_bundle<A: PathAlgebra, B: RoadRead, W: RoadWrite, R: Threads + Wait +
         Ok(read) => read,
         Err(fault) => return Err(fault_in(File::Bundle, fault)),
     };
+    let graph = indexed(alloc, graph, settings);
     answer_and_flush(rt, alloc, algebra, &graph, &questions, out, settings, gate)
 }

@@ -5,13 +5,13 @@ use Rattle.std.proofs.Common.{inl, inr, subst, sym, ◌∙◌, append-nil}
 use Rattle.std.proofs.KnownBytes.{Appends-kept}
 use Rattle.road_text.specs.declared.ends.WriteFault.{WriteFault}
 use Rattle.road_text.specs.Written.{Left, Fell, Wrote}
-use Rattle.program.specs.Reports.{IsTold}
+use Rattle.program.specs.Reports.{IsReported}
 
 -- all of the text was written, and it stays
 pub told_whole : (old mid new : Option (List ℕ)) (b a : ℕ) (text : List ℕ) → Left old mid b a text [] → Keeps mid new → Appends old new text
 told_whole old mid new b a text was keeps = Appends-kept old mid new text (subst (Appends old mid) (sym (was.text_is ∙ append-nil was.front)) was.bytes) keeps
 
 -- what was written of a text was the whole, or a front
-pub wrote_told : (old new : Option (List ℕ)) (b a : ℕ) (given text : List ℕ) → given ≡ text → (r : Result (Unit {0}) WriteFault) → Wrote old new b a given r → IsTold old new b a text
-wrote_told old new b a given text e (Ok u) h = inl (subst (λ (t : List ℕ). Left old new b a t []) e h)
-wrote_told old new b a given text e (Err f) h = inr (subst (Fell old new b a) e h)
+pub wrote_reported : (old new : Option (List ℕ)) (b a : ℕ) (given text : List ℕ) → given ≡ text → (r : Result (Unit {0}) WriteFault) → Wrote old new b a given r → IsReported old new b a text
+wrote_reported old new b a given text e (Ok u) h = inl (subst (λ (t : List ℕ). Left old new b a t []) e h)
+wrote_reported old new b a given text e (Err f) h = inr (subst (Fell old new b a) e h)

@@ -15,6 +15,37 @@ pub enum Chosen {
     Within(Within),
 }
 
+/// What an expression gives with the algebra that was chosen. A choice becomes a type here alone.
+macro_rules! with_algebra {
+    ($chosen:expr, |$algebra:ident| $value:expr) => {
+        match $chosen {
+            Chosen::Shortest => {
+                let $algebra = path_algebra::Shortest;
+                $value
+            }
+            Chosen::Widest => {
+                let $algebra = path_algebra::Widest;
+                $value
+            }
+            Chosen::Reach => {
+                let $algebra = path_algebra::Reach;
+                $value
+            }
+            Chosen::Hops => {
+                let $algebra = path_algebra::Hops;
+                $value
+            }
+            Chosen::Reliable => {
+                let $algebra = path_algebra::Reliable;
+                $value
+            }
+            Chosen::Within($algebra) => $value,
+        }
+    };
+}
+
+pub(crate) use with_algebra;
+
 /// The algebra of a name, with a limit where it is `within`; none where the two do not go together.
 pub fn choose(name: AlgebraName, limit: Option<u64>) -> Option<Chosen>
     ensures together { IsSome result ↔ GoTogether name limit }

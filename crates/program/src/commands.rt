@@ -1,4 +1,4 @@
-//! The commands over streams: each gives the exit status, and tells a fault in one line on the error output.
+//! The commands over streams: each gives the exit status, and reports a fault in one line on the error output.
 ghost use Rattle.std.specs.Prelude.{ℕ, Result};
 ghost use Rattle.answer_check.specs.declared.verdict.Verdict.{Verdict};
 ghost use Rattle.batch_run.specs.declared.faults.RunFault.{RunFault};

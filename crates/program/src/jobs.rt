@@ -1,5 +1,5 @@
 //! The commands over files by their names. All files are opened, in the order of the words, before one is read.
-ghost use Rattle.std.specs.Prelude.{◌≡◌, IfErr};
+ghost use Rattle.std.specs.Prelude.{◌≡◌, ◌≢◌, IfErr};
 
 use crate::chosen::Chosen;
 use crate::commands::{bundle, check, solve};
@@ -11,7 +11,7 @@ use std::alloc::Global;
 use std::sync::Wait;
 use std::thread::Threads;
 
-/// Opens a file, and tells which could not be opened.
+/// Opens a file, and reports which could not be opened.
 fn open<P: Places>(places: &P, path: &str, file: File) -> Result<P::File, RunFault>
     ensures { IfErr result (λ f. f ≡ record { number = 1; file = file; line = 0 }) }
 {
@@ -25,6 +25,20 @@ fn open<P: Places>(places: &P, path: &str, file: File) -> Result<P::File, RunFau
     }
 }
 
+/// Opens the files of a graph and of questions, in this order.
+fn open_both<P: Places>(
+    places: &P,
+    graph: &str,
+    questions: &str,
+) -> Result<(P::File, P::File), RunFault>
+    ensures graph { IfErr result (λ f. f.file ≢ File.Questions → f ≡ record { number = 1; file = File.Graph; line = 0 }) }
+    ensures questions { IfErr result (λ f. f.file ≡ File.Questions → f ≡ record { number = 1; file = File.Questions; line = 0 }) }
+{
+    let graph = open(places, graph, File::Graph)?;
+    let questions = open(places, questions, File::Questions)?;
+    Ok((graph, questions))
+}
+
 /// Answers the questions of one file over the graph of another, and gives the exit status.
 pub fn solve_files<R: Threads + Wait + Sync, P: Places, W: RoadWrite, E: RoadWrite>(
     rt: &R,
@@ -36,12 +50,8 @@ pub fn solve_files<R: Threads + Wait + Sync, P: Places, W: RoadWrite, E: RoadWri
     out: &mut W,
     errors: &mut E,
 ) -> u8 {
-    let mut graph = match open(places, names.0, File::Graph) {
-        Ok(file) => file,
-        Err(fault) => return report(errors, fault),
-    };
-    let mut questions = match open(places, names.1, File::Questions) {
-        Ok(file) => file,
+    let (mut graph, mut questions) = match open_both(places, names.0, names.1) {
+        Ok(files) => files,
         Err(fault) => return report(errors, fault),
     };
     solve(
@@ -80,12 +90,8 @@ pub fn check_files<R: Threads + Sync, P: Places, W: RoadWrite, E: RoadWrite>(
     out: &mut W,
     errors: &mut E,
 ) -> u8 {
-    let mut graph = match open(places, names.0, File::Graph) {
-        Ok(file) => file,
-        Err(fault) => return report(errors, fault),
-    };
-    let mut questions = match open(places, names.1, File::Questions) {
-        Ok(file) => file,
+    let (mut graph, mut questions) = match open_both(places, names.0, names.1) {
+        Ok(files) => files,
         Err(fault) => return report(errors, fault),
     };
     let mut answers = match open(places, names.2, File::Answers) {

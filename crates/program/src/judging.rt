@@ -8,12 +8,12 @@ ghost use Rattle.batch_run.specs.Ran.{IsGraphFault, IsQuestionsFault};
 ghost use Rattle.program.specs.Choices.{GoTogether, limit_of, name_of};
 ghost use Rattle.program.specs.Verdicts.{AreInputs, IsAnswersFault, IsJudged, IsLimitFault, IsOwnFault, IsVerdictUnder, IsReadingFault, verdict_text};
 
-use crate::chosen::{Chosen, choose};
+use crate::chosen::{Chosen, choose, with_algebra};
 use crate::verdicts::tell;
 use answer_check::{Verdict, check};
 use answer_text::{Answers, read_answers};
 use batch_run::{File, RunFault, SETTINGS, fault_in, fault_of_run};
-use path_algebra::{AlgebraName, Hops, Reach, Reliable, Shortest, Widest};
+use path_algebra::AlgebraName;
 use road_files::{Questions, read_gr, read_questions};
 use road_graph::{Graph, Memory};
 use road_text::{MEMORY, RoadRead, RoadWrite};
@@ -54,14 +54,10 @@ fn judge_under<R: Threads + Sync>(
     requires { AskWithin graph.now.vertices questions.now }
     ensures { IfOk result (IsVerdictUnder chosen graph.now (asked_of questions.now) (told_list_of answers.now)) }
 {
-    match chosen {
-        Chosen::Shortest => check(rt, alloc, Shortest, graph, questions, answers),
-        Chosen::Widest => check(rt, alloc, Widest, graph, questions, answers),
-        Chosen::Reach => check(rt, alloc, Reach, graph, questions, answers),
-        Chosen::Hops => check(rt, alloc, Hops, graph, questions, answers),
-        Chosen::Reliable => check(rt, alloc, Reliable, graph, questions, answers),
-        Chosen::Within(within) => check(rt, alloc, within, graph, questions, answers),
-    }
+    with_algebra!(
+        chosen,
+        |algebra| check(rt, alloc, algebra, graph, questions, answers)
+    )
 }
 
 /// A graph, questions over it, and answers for it, as they were read.
@@ -72,7 +68,7 @@ struct Inputs {
     answers: Answers,
 }
 
-/// Reads the three inputs in order, and tells the first fault.
+/// Reads the three inputs in order, and reports the first fault.
 fn read_inputs<G: RoadRead, Q: RoadRead, S: RoadRead>(
     alloc: Global,
     graph_in: &mut G,
@@ -126,7 +122,7 @@ pub fn judge<R: Threads + Sync, G: RoadRead, Q: RoadRead, S: RoadRead>(
     ensures judged { IfOk result (IsJudged (G.left graph_in.old) (Q.left questions_in.old) (S.left answers_in.old) limit) }
     ensures sound { OnOk result ((G.failures graph_in.new ≡ G.failures graph_in.old) × (Q.failures questions_in.new ≡ Q.failures questions_in.old) × (S.failures answers_in.new ≡ S.failures answers_in.old)) }
 
-    // Which fault is told, and what stood in the inputs.
+    // Which fault is reported, and what stood in the inputs.
     ensures graph { IfErr result (λ f. f.file ≡ File.Graph → IsGraphFault (G.left graph_in.old) f) }
     ensures questions { IfErr result (λ f. f.file ≡ File.Questions → IsQuestionsFault (G.left graph_in.old) (Q.left questions_in.old) f) }
     ensures answers { IfErr result (λ f. f.file ≡ File.Answers → IsAnswersFault (G.left graph_in.old) (Q.left questions_in.old) (S.left answers_in.old) f ⊎ IsOwnFault (G.left graph_in.old) (Q.left questions_in.old) (S.left answers_in.old) f) }
@@ -178,7 +174,7 @@ pub(crate) fn judge_and_tell<
     ensures passed_on { OnOk result (W.held out.new ≡ []) }
     ensures sound { OnOk result ((G.failures graph_in.new ≡ G.failures graph_in.old) × (Q.failures questions_in.new ≡ Q.failures questions_in.old) × (S.failures answers_in.new ≡ S.failures answers_in.old) × (W.failures out.new ≡ W.failures out.old)) }
 
-    // Which fault is told, and what stood in the inputs.
+    // Which fault is reported, and what stood in the inputs.
     ensures graph { IfErr result (λ f. f.file ≡ File.Graph → IsGraphFault (G.left graph_in.old) f) }
     ensures questions { IfErr result (λ f. f.file ≡ File.Questions → IsQuestionsFault (G.left graph_in.old) (Q.left questions_in.old) f) }
     ensures answers { IfErr result (λ f. f.file ≡ File.Answers → IsAnswersFault (G.left graph_in.old) (Q.left questions_in.old) (S.left answers_in.old) f ⊎ IsOwnFault (G.left graph_in.old) (Q.left questions_in.old) (S.left answers_in.old) f) }

@@ -1,11 +1,11 @@
-//! How a fault is told: its line, and the exit status.
+//! How a fault is reported: its line, and the exit status.
 ghost use Rattle.std.specs.Prelude.{◌≡◌};
-ghost use Rattle.program.specs.Reports.{EndsAs, IsTold, fault_text, status_of};
+ghost use Rattle.program.specs.Reports.{EndsAs, IsReported, fault_text, status_of};
 
 use batch_run::RunFault;
 use road_text::{Line, RoadWrite, push_number, write_bytes};
 
-/// The line that tells a fault.
+/// The line that reports a fault.
 pub(crate) fn line_of_fault(fault: RunFault) -> Line
     ensures { result.bytes ≡ fault_text fault }
 {
@@ -37,13 +37,13 @@ pub(crate) fn status_of(number: u8) -> u8
 /// Writes the line of a fault, and gives the exit status. Where the line cannot be written, the status stays.
 pub fn report<E: RoadWrite>(errors: &mut E, fault: RunFault) -> u8
     ensures status { result ≡ status_of fault.number }
-    ensures told { IsTold (E.written errors.old) (E.written errors.new) (E.failures errors.old) (E.failures errors.new) (fault_text fault) }
+    ensures reported { IsReported (E.written errors.old) (E.written errors.new) (E.failures errors.old) (E.failures errors.new) (fault_text fault) }
 {
     let _ = write_bytes(errors, line_of_fault(fault).as_str().as_bytes());
     status_of(fault.number)
 }
 
-/// Ends a command: a fault is told, and gives its status; else the status is 0.
+/// Ends a command: a fault is reported, and gives its status; else the status is 0.
 pub(crate) fn end_with<E: RoadWrite>(errors: &mut E, outcome: Result<(), RunFault>) -> u8
     ensures { EndsAs (λ _. 0) (E.written errors.old) (E.written errors.new) (E.failures errors.old) (E.failures errors.new) outcome result }
 {

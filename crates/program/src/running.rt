@@ -5,9 +5,8 @@ ghost use Rattle.batch_run.specs.InRange.{AreInRange};
 ghost use Rattle.batch_run.specs.Ran.{IsPassedOn, IsPairOf, IsBundleOf, IsGraphFault, IsQuestionsFault, IsBundleFault, IsFaultOf};
 ghost use Rattle.program.specs.Under.{DoneUnder, BegunUnder, WholeUnder};
 
-use crate::chosen::Chosen;
+use crate::chosen::{Chosen, with_algebra};
 use batch_run::{File, OpenGate, RunFault, Settings, run_bundle, run_pair};
-use path_algebra::{Hops, Reach, Reliable, Shortest, Widest};
 use road_text::{RoadRead, RoadWrite};
 use std::alloc::Global;
 use std::sync::Wait;
@@ -27,7 +26,7 @@ pub(crate) fn run_chosen_pair<G: RoadRead, Q: RoadRead, W: RoadWrite, R: Threads
     ensures passed_on { OnOk result (W.held out.new ≡ []) }
     ensures sound { OnOk result ((G.failures graph.new ≡ G.failures graph.old) × (Q.failures questions.new ≡ Q.failures questions.old) × (W.failures out.new ≡ W.failures out.old)) }
 
-    // Which fault is told, and what stood in the input.
+    // Which fault is reported, and what stood in the input.
     ensures settings { (result ≡ Err (record { number = 43; file = File.NoFile; line = 0 })) ↔ (AreInRange settings.now → ⊥) }
     ensures graph { IfErr result (λ f. f.file ≡ File.Graph → IsGraphFault (G.left graph.old) f) }
     ensures questions { IfErr result (λ f. f.file ≡ File.Questions → IsQuestionsFault (G.left graph.old) (Q.left questions.old) f) }
@@ -55,16 +54,10 @@ pub(crate) fn run_chosen_pair<G: RoadRead, Q: RoadRead, W: RoadWrite, R: Threads
     ensures asked_questions { Q.asked questions.new ≤ Q.asked questions.old + 4294967297 }
 {
     let gate = OpenGate;
-    match chosen {
-        Chosen::Shortest => run_pair(rt, alloc, Shortest, graph, questions, out, settings, &gate),
-        Chosen::Widest => run_pair(rt, alloc, Widest, graph, questions, out, settings, &gate),
-        Chosen::Reach => run_pair(rt, alloc, Reach, graph, questions, out, settings, &gate),
-        Chosen::Hops => run_pair(rt, alloc, Hops, graph, questions, out, settings, &gate),
-        Chosen::Reliable => run_pair(rt, alloc, Reliable, graph, questions, out, settings, &gate),
-        Chosen::Within(within) => run_pair(
-            rt, alloc, within, graph, questions, out, settings, &gate,
-        ),
-    }
+    with_algebra!(
+        chosen,
+        |algebra| run_pair(rt, alloc, algebra, graph, questions, out, settings, &gate)
+    )
 }
 
 /// Answers a bundle under the chosen algebra.
@@ -80,7 +73,7 @@ pub(crate) fn run_chosen_bundle<B: RoadRead, W: RoadWrite, R: Threads + Wait + S
     ensures passed_on { OnOk result (W.held out.new ≡ []) }
     ensures sound { OnOk result ((B.failures input.new ≡ B.failures input.old) × (W.failures out.new ≡ W.failures out.old)) }
 
-    // Which fault is told, and what stood in the input.
+    // Which fault is reported, and what stood in the input.
     ensures settings { (result ≡ Err (record { number = 43; file = File.NoFile; line = 0 })) ↔ (AreInRange settings.now → ⊥) }
     ensures bundle { IfErr result (λ f. f.file ≡ File.Bundle → IsBundleFault (B.left input.old) f) }
     ensures read { (result ≡ Err (record { number = 1; file = File.Bundle; line = 0 })) ↔ (B.failures input.new ≢ B.failures input.old) }
@@ -105,12 +98,8 @@ pub(crate) fn run_chosen_bundle<B: RoadRead, W: RoadWrite, R: Threads + Wait + S
     ensures asked { B.asked input.new ≤ B.asked input.old + 4294967297 }
 {
     let gate = OpenGate;
-    match chosen {
-        Chosen::Shortest => run_bundle(rt, alloc, Shortest, input, out, settings, &gate),
-        Chosen::Widest => run_bundle(rt, alloc, Widest, input, out, settings, &gate),
-        Chosen::Reach => run_bundle(rt, alloc, Reach, input, out, settings, &gate),
-        Chosen::Hops => run_bundle(rt, alloc, Hops, input, out, settings, &gate),
-        Chosen::Reliable => run_bundle(rt, alloc, Reliable, input, out, settings, &gate),
-        Chosen::Within(within) => run_bundle(rt, alloc, within, input, out, settings, &gate),
-    }
+    with_algebra!(
+        chosen,
+        |algebra| run_bundle(rt, alloc, algebra, input, out, settings, &gate)
+    )
 }

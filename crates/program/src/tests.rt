@@ -242,7 +242,7 @@ fn words_of(alloc: Global, line: &str) -> Result<Vec<String>, Fail> {
     Ok(words)
 }
 
-/// Asserts what a command line with this standard input writes and tells, and its exit status.
+/// Asserts what a command line with this standard input writes and reports, and its exit status.
 fn assert_run(
     rt: &(impl std::process::Abort + Threads + Wait + AllocGlobal + Sync),
     line: &str,
@@ -360,8 +360,8 @@ fn bundles_and_statuses(rt: HostRuntime) -> Result<(), Fail> {
         ("p sp 1 0\na 1 1 0\n", "18 bundle line 2"),
         ("p sp 1 1\n", "19 bundle line 2"),
     ] {
-        let told = format!(in alloc; "diffuse: fault {place}\n")?;
-        assert_run(&rt, "diffuse bundle", given, ("", told.as_str(), 3))?;
+        let reported = format!(in alloc; "diffuse: fault {place}\n")?;
+        assert_run(&rt, "diffuse bundle", given, ("", reported.as_str(), 3))?;
     }
     Ok(())
 }
@@ -414,12 +414,12 @@ fn help_and_usage(rt: HostRuntime) -> Result<(), Fail> {
         let shelf = Shelf { given: "" };
         let status = run_words(&rt, &shelf, words.as_slice(), &mut out, &mut errors);
         assert_eq!(rt; status, wanted);
-        let (told, quiet) = match status {
+        let (reported, quiet) = match status {
             0 => (out.into_inner(), errors.into_inner()),
             _ => (errors.into_inner(), out.into_inner()),
         };
         assert!(rt; quiet.is_empty());
-        assert_narrow(&rt, told.as_slice());
+        assert_narrow(&rt, reported.as_slice());
     }
     Ok(())
 }

@@ -62,7 +62,7 @@ pub fn status_of_verdict(verdict: Verdict) -> u8
     }
 }
 
-/// Ends a check: a fault is told, and gives its status; else the verdict gives it.
+/// Ends a check: a fault is reported, and gives its status; else the verdict gives it.
 pub(crate) fn end_check<E: RoadWrite>(errors: &mut E, outcome: Result<Verdict, RunFault>) -> u8
     ensures { EndsAs verdict_status (E.written errors.old) (E.written errors.new) (E.failures errors.old) (E.failures errors.new) outcome result }
 {

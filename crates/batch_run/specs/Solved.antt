@@ -1,5 +1,5 @@
--- Questions that are solved: best labels from their sources, with the tree of these.
-use Rattle.std.specs.Prelude.{◌≡◌, ℕ, ◌<◌, List, length, get_or}
+-- Questions that are solved: best labels from their sources, and the tree of these, where there is one.
+use Rattle.std.specs.Prelude.{◌≡◌, ℕ, ◌<◌, List, length, get_or, IfSome}
 use Rattle.road_graph.specs.Roads.{Roads}
 use Rattle.road_files.specs.Asked.{Question}
 use Rattle.path_algebra.specs.Algebra.{Algebra}
@@ -8,10 +8,10 @@ use Rattle.route_tree.specs.Tree.{IsTree}
 use Rattle.batch_run.specs.Sources.{sources_of}
 use Rattle.batch_run.specs.declared.solving.Solved.{Solved}
 
--- the labels are best from these sources, and the tree is theirs
+-- the labels are best from these sources, and a tree is theirs
 pub record IsSolvedFrom {V : Type 0} (A : Algebra V) (g : Roads) (sources : List ℕ) (s : Solved V) : Type 0 where
   pub labels : AreBest A g sources s.labels
-  pub tree : IsTree A g sources s.tree
+  pub tree : IfSome s.tree (IsTree A g sources)
 
 -- they are so from the sources of the question at a place
 abbrev pub IsSolvedFor : {V : Type 0} → Algebra V → Roads → List Question → ℕ → Solved V → Type 0

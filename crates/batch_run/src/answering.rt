@@ -17,7 +17,7 @@ use path_algebra::{Labels, PathAlgebra};
 use road_files::Questions;
 use road_graph::{Graph, Memory, Vertex};
 use road_text::RoadWrite;
-use route_tree::{Tree, route, routes_follow_parents};
+use route_tree::{Tree, route_between, routes_follow_parents, tree};
 use std::alloc::{AllocError, Global};
 
 /// The numbers of vertices.
@@ -39,11 +39,10 @@ fn found_at<A: PathAlgebra>(
     source: Vertex,
     target: Vertex,
     labels: &Labels<A::Value>,
-    tree: &Tree,
 ) -> Result<Option<Found>, Memory>
+    requires source { HasVertex graph.now source }
     requires target { HasVertex graph.now target }
     requires labels { AreBest (A.meaning algebra) graph.now (source ∷ []) labels.now }
-    requires tree { IsTree (A.meaning algebra) graph.now (source ∷ []) tree.now }
     ensures { IfOk result (λ found. IsPairAnswer (A.meaning algebra) graph.now source target (option_map found_of found)) }
 {
     routes_follow_parents(algebra);
@@ -51,16 +50,13 @@ fn found_at<A: PathAlgebra>(
     let Some(value) = labels.of(target) else {
         return Ok(None);
     };
-    let Some(hops) = tree.hops(target) else {
-        return Ok(None);
-    };
-    let Some(list) = route(alloc, tree, target)? else {
+    let Some(route) = route_between(alloc, algebra, graph, source, target, labels)? else {
         return Ok(None);
     };
     Ok(Some(Found {
         code: algebra.code(value),
-        hops,
-        route: numbers_of(alloc, list.as_slice())?,
+        hops: route.hops,
+        route: numbers_of(alloc, route.vertices.as_slice())?,
     }))
 }
 
@@ -79,8 +75,7 @@ fn answer_pair<A: PathAlgebra, W: RoadWrite>(
     ensures { WroteAnswer (A.meaning algebra) graph.now (BetweenPair pair.0 pair.1) (W.written out.old) (W.written out.new) (W.failures out.old) (W.failures out.new) result }
 {
     let (source, target) = pair;
-    let (labels, tree) = (&solved.labels, &solved.tree);
-    let Ok(found) = found_at(alloc, algebra, graph, source, target, labels, tree) else {
+    let Ok(found) = found_at(alloc, algebra, graph, source, target, &solved.labels) else {
         return Err(Unanswered::Memory);
     };
     let answer = Answer::Pair {
@@ -94,25 +89,75 @@ fn answer_pair<A: PathAlgebra, W: RoadWrite>(
     }
 }
 
-/// Writes the right answer to a question from one source to all vertices.
+/// Writes the right answer to a question from one source to all vertices, by the tree of its best labels.
+fn tell_source<A: PathAlgebra, W: RoadWrite>(
+    algebra: A,
+    graph: &Graph,
+    source: Vertex,
+    labels: &Labels<A::Value>,
+    tree: &Tree,
+    out: &mut W,
+) -> Result<(), Unanswered>
+    requires labels { AreBest (A.meaning algebra) graph.now (source ∷ []) labels.now }
+    requires tree { IsTree (A.meaning algebra) graph.now (source ∷ []) tree.now }
+    ensures { WroteAnswer (A.meaning algebra) graph.now (FromSource source) (W.written out.old) (W.written out.new) (W.failures out.old) (W.failures out.new) result }
+{
+    let n = graph.vertices();
+    match write_source(out, algebra, n, source, labels, tree) {
+        Ok(()) => Ok(()),
+        Err(_) => Err(Unanswered::Write),
+    }
+}
+
+/// Writes the right answer to a question from one source to all vertices. Where no tree was kept, one is made.
 fn answer_source<A: PathAlgebra, W: RoadWrite>(
+    alloc: Global,
     algebra: A,
     graph: &Graph,
     source: Vertex,
     solved: &Solved<A::Value>,
     out: &mut W,
 ) -> Result<(), Unanswered>
+    requires source { HasVertex graph.now source }
     requires solved { IsSolvedFrom (A.meaning algebra) graph.now (source ∷ []) solved.now }
     ensures { WroteAnswer (A.meaning algebra) graph.now (FromSource source) (W.written out.old) (W.written out.new) (W.failures out.old) (W.failures out.new) result }
 {
+    let labels = &solved.labels;
+    match &solved.tree {
+        Some(kept) => tell_source(algebra, graph, source, labels, kept, out),
+        None => match tree(alloc, algebra, graph, &[source], labels) {
+            Ok(made) => tell_source(algebra, graph, source, labels, &made, out),
+            Err(_) => Err(Unanswered::Memory),
+        },
+    }
+}
+
+/// Writes the right answer to a question from several sources to all vertices, by the tree of its best labels.
+fn tell_sources<A: PathAlgebra, W: RoadWrite>(
+    alloc: Global,
+    algebra: A,
+    graph: &Graph,
+    sources: &[Vertex],
+    labels: &Labels<A::Value>,
+    tree: &Tree,
+    out: &mut W,
+) -> Result<(), Unanswered>
+    requires labels { AreBest (A.meaning algebra) graph.now sources.now labels.now }
+    requires tree { IsTree (A.meaning algebra) graph.now sources.now tree.now }
+    ensures { WroteAnswer (A.meaning algebra) graph.now (FromSources sources.now) (W.written out.old) (W.written out.new) (W.failures out.old) (W.failures out.new) result }
+{
+    let Ok(numbers) = numbers_of(alloc, sources) else {
+        return Err(Unanswered::Memory);
+    };
     let n = graph.vertices();
-    match write_source(out, algebra, n, source, &solved.labels, &solved.tree) {
+    let numbers = numbers.as_slice();
+    match write_sources(out, algebra, n, numbers, labels, tree) {
         Ok(()) => Ok(()),
         Err(_) => Err(Unanswered::Write),
     }
 }
 
-/// Writes the right answer to a question from several sources to all vertices.
+/// Writes the right answer to a question from several sources to all vertices. Where no tree was kept, one is made.
 fn answer_sources<A: PathAlgebra, W: RoadWrite>(
     alloc: Global,
     algebra: A,
@@ -125,18 +170,17 @@ fn answer_sources<A: PathAlgebra, W: RoadWrite>(
     requires solved { IsSolvedFrom (A.meaning algebra) graph.now sources.now solved.now }
     ensures { WroteAnswer (A.meaning algebra) graph.now (FromSources sources.now) (W.written out.old) (W.written out.new) (W.failures out.old) (W.failures out.new) result }
 {
-    let Ok(numbers) = numbers_of(alloc, sources) else {
-        return Err(Unanswered::Memory);
-    };
-    let n = graph.vertices();
-    let numbers = numbers.as_slice();
-    match write_sources(out, algebra, n, numbers, &solved.labels, &solved.tree) {
-        Ok(()) => Ok(()),
-        Err(_) => Err(Unanswered::Write),
+    let labels = &solved.labels;
+    match &solved.tree {
+        Some(kept) => tell_sources(alloc, algebra, graph, sources, labels, kept, out),
+        None => match tree(alloc, algebra, graph, sources, labels) {
+            Ok(made) => tell_sources(alloc, algebra, graph, sources, labels, &made, out),
+            Err(_) => Err(Unanswered::Memory),
+        },
     }
 }
 
-/// Writes the right answer to the question at a place, given its best labels and their tree.
+/// Writes the right answer to the question at a place, given its best labels, and their tree where one was kept.
 pub(crate) fn answer_at<A: PathAlgebra, W: RoadWrite>(
     alloc: Global,
     algebra: A,
@@ -152,7 +196,9 @@ pub(crate) fn answer_at<A: PathAlgebra, W: RoadWrite>(
     ensures { (default : Question) → WroteAnswer (A.meaning algebra) graph.now (slice_index_or (asked_of questions.now).questions i default) (W.written out.old) (W.written out.new) (W.failures out.old) (W.failures out.new) result }
 {
     match questions {
-        Questions::Sources(sources) => answer_source(algebra, graph, sources[i], solved, out),
+        Questions::Sources(sources) => {
+            answer_source(alloc, algebra, graph, sources[i], solved, out)
+        }
         Questions::Pairs(pairs) => answer_pair(alloc, algebra, graph, pairs[i], solved, out),
         Questions::Multi(lists) => {
             answer_sources(alloc, algebra, graph, lists[i].as_slice(), solved, out)

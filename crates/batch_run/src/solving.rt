@@ -1,6 +1,9 @@
-//! Best labels and the tree of a question; with the plain solver, of several side by side.
+//! Best labels of a question, and their tree; with the plain solver, of several side by side.
 ghost use Rattle.std.specs.Prelude.{◌≡◌, ◌≢◌, ◌≤◌, ◌<◌, ◌↔◌, ◌∷◌, List, ℕ, length, slice_index_or, All, HoldsAt, IfOk, IfErr, IfSome, None, Err, IsTrue};
 ghost use Rattle.std.specs.List.{AllZip};
+ghost use Rattle.road_graph.specs.Roads.{HasVertex};
+ghost use Rattle.path_algebra.specs.Walks.{AreBest};
+ghost use Rattle.route_tree.specs.Tree.{IsTree};
 ghost use Rattle.road_files.specs.Asked.{AreQuestionsOf, Question, asked_of};
 ghost use Rattle.batch_run.specs.Ended.{AreReady, IsEnded, IsLayout};
 ghost use Rattle.batch_run.specs.InRange.{AreInRange};
@@ -20,12 +23,12 @@ use std::sync::Wait;
 use std::thread::Threads;
 use worker_fleet::{Gate, GroupFault};
 
-/// Best labels from the sources of the question at a place, with their tree.
+/// Best labels from the sources of the question at a place, and their tree unless it is a pair.
 #[derive(Drop)]
 pub(crate) struct Solved<V: Copy> {
     pub(crate) place: usize,
     pub(crate) labels: Labels<V>,
-    pub(crate) tree: Tree,
+    pub(crate) tree: Option<Tree>,
 }
 
 /// The same vertices in a list of its own.
@@ -77,7 +80,29 @@ fn solved_like<V: Copy>(solved: &[Solved<V>], questions: &Questions, i: usize) -
     None
 }
 
-/// Best labels of the question at a place by the plain solver, with their tree.
+/// The tree of best labels, unless they are a pair's: its route is found without.
+fn tree_unless_pair<A: PathAlgebra>(
+    alloc: Global,
+    algebra: A,
+    graph: &Graph,
+    questions: &Questions,
+    sources: &[Vertex],
+    labels: &Labels<A::Value>,
+) -> Result<Option<Tree>, Memory>
+    requires sources { All (HasVertex graph.now) sources.now }
+    requires labels { AreBest (A.meaning algebra) graph.now sources.now labels.now }
+    ensures { IfOk result (λ found. IfSome found (λ t. IsTree (A.meaning algebra) graph.now sources.now t)) }
+{
+    match questions {
+        Questions::Pairs(_) => Ok(None),
+        Questions::Sources(_) | Questions::Multi(_) => {
+            let made = tree(alloc, algebra, graph, sources, labels)?;
+            Ok(Some(made))
+        }
+    }
+}
+
+/// Best labels of the question at a place by the plain solver, and their tree unless it is a pair.
 fn solve<A: PathAlgebra>(
     alloc: Global,
     algebra: A,
@@ -92,7 +117,7 @@ fn solve<A: PathAlgebra>(
     let list = sources_at(alloc, questions, i)?;
     let sources = list.as_slice();
     let labels = solve_from(alloc, algebra, graph, sources)?;
-    let tree = tree(alloc, algebra, graph, sources, &labels)?;
+    let tree = tree_unless_pair(alloc, algebra, graph, questions, sources, &labels)?;
     Ok(Solved {
         place: i,
         labels,
@@ -126,7 +151,7 @@ fn places_from(
     Ok(places)
 }
 
-/// Best labels of the questions at several places by the plain solver, with their trees: side by side, on all processors.
+/// Best labels of the questions at several places by the plain solver, and their trees: side by side, on all processors.
 fn solve_each<A: PathAlgebra, R: Threads + Sync>(
     rt: &R,
     alloc: Global,
@@ -182,7 +207,7 @@ fn solve_plainly<'g, A: PathAlgebra, R: Threads + Sync, T>(
     Ok(0)
 }
 
-/// Best labels of the question at a place by stations, with their tree.
+/// Best labels of the question at a place by stations, and their tree unless it is a pair.
 fn solve_by_stations<'g, A: PathAlgebra, R: Threads + Wait, T: Gate>(
     batch: &Batch<'g, A, R, T>,
     layout: &'g Layout,
@@ -202,7 +227,8 @@ fn solve_by_stations<'g, A: PathAlgebra, R: Threads + Wait, T: Gate>(
     let list = sources_at(batch.alloc, questions, i)?;
     let sources = list.as_slice();
     let labels = merge_all(batch, layout, ahead, sources)?;
-    let Ok(tree) = tree(batch.alloc, batch.algebra, batch.graph, sources, &labels) else {
+    let (alloc, algebra, graph) = (batch.alloc, batch.algebra, batch.graph);
+    let Ok(tree) = tree_unless_pair(alloc, algebra, graph, questions, sources, &labels) else {
         return Err(GroupFault::Memory);
     };
     Ok(Solved {

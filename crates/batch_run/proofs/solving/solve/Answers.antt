@@ -1,4 +1,5 @@
 use Rattle.std.proofs.Common.{◌∙◌, refl, sym, subst, List, ℕ}
+use Rattle.std.specs.Prelude.{IfSome}
 use Rattle.std.specs.List.{All}
 use Rattle.road_graph.specs.Roads.{HasVertex}
 use Rattle.road_files.specs.Asked.{FromSource}
@@ -12,8 +13,8 @@ solve_from-requires-after_bounds g c κs within =
     subst (λ (vs : List ℕ). All (HasVertex c.args.graph.now) vs) (sym (c.as_slice-sources.ensures.value ∙ c.in_ok-list.ensures (FromSource 0)))
     (asked_within c.args.graph.now.vertices c.args.questions.now c.args.i c.requires.within.within c.requires.place (FromSource 0)).1
 
-pub tree-requires-clause-sources : goal.tree-requires-clause-sources
-tree-requires-clause-sources g c κs within =
+pub tree_unless_pair-requires-clause-sources : goal.tree_unless_pair-requires-clause-sources
+tree_unless_pair-requires-clause-sources g c κs within =
     subst (λ (vs : List ℕ). All (HasVertex c.args.graph.now) vs) (sym (c.as_slice-sources.ensures.value ∙ c.in_ok-list.ensures (FromSource 0)))
     (asked_within c.args.graph.now.vertices c.args.questions.now c.args.i c.requires.within.within c.requires.place (FromSource 0)).1
 
@@ -26,6 +27,6 @@ returns g c =
           let from = c.as_slice-sources.ensures.value ∙ c.in_ok-list.ensures d in
           record {
             labels = subst (λ (vs : List ℕ). AreBest A c.args.graph.now vs c.in_ok-labels.labels) from c.in_ok-labels.ensures;
-            tree = subst (λ (vs : List ℕ). IsTree A c.args.graph.now vs c.in_ok-tree.tree) from c.in_ok-tree.ensures;
+            tree = subst (λ (vs : List ℕ). IfSome c.in_ok-tree.tree (IsTree A c.args.graph.now vs)) from c.in_ok-tree.ensures;
           };
     }

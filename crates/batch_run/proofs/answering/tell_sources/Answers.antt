@@ -2,22 +2,22 @@ use Rattle.std.proofs.Common.{refl, ◌∙◌}
 use Rattle.answer_text.specs.Told.{ToldMulti}
 use Rattle.batch_run.specs.Told.{told_lines}
 use Rattle.batch_run.proofs.ToldLines.{lines_are_right}
-use Rattle.batch_run.proofs.answering.answer_sources.Goals as goal
+use Rattle.batch_run.proofs.answering.tell_sources.Goals as goal
 
 pub returns-in-Ok-write_sources : goal.returns-in-Ok-write_sources
 returns-in-Ok-write_sources g c =
     let A = g.A.PathAlgebra.meaning c.args.algebra in
-    let tree = c.args.solved.now.tree in
-    let labels = c.args.solved.now.labels in
+    let tree = c.args.tree.now in
+    let labels = c.args.labels.now in
     let n = c.vertices-n.result in
-    let right = lines_are_right A c.args.graph.now c.args.sources.now labels tree n c.vertices-n.ensures.count c.requires.solved.labels c.requires.solved.tree in
+    let right = lines_are_right A c.args.graph.now c.args.sources.now labels tree n c.vertices-n.ensures.count c.requires.labels c.requires.tree in
     (ToldMulti c.as_slice-numbers.result.now (told_lines A labels tree n), (c.as_slice-numbers.ensures.value ∙ c.in-Ok.ensures, right), c.in-Ok-write_sources.ensures)
 
 pub returns : goal.returns
 returns g c =
     let A = g.A.PathAlgebra.meaning c.args.algebra in
-    let tree = c.args.solved.now.tree in
-    let labels = c.args.solved.now.labels in
+    let tree = c.args.tree.now in
+    let labels = c.args.labels.now in
     let n = c.vertices-n.result in
-    let right = lines_are_right A c.args.graph.now c.args.sources.now labels tree n c.vertices-n.ensures.count c.requires.solved.labels c.requires.solved.tree in
+    let right = lines_are_right A c.args.graph.now c.args.sources.now labels tree n c.vertices-n.ensures.count c.requires.labels c.requires.tree in
     (ToldMulti c.as_slice-numbers.result.now (told_lines A labels tree n), (c.as_slice-numbers.ensures.value ∙ c.in-Ok.ensures, right), c.in-Err.ensures)

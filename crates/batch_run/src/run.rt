@@ -103,31 +103,32 @@ fn flush_all<W: RoadWrite>(out: &mut W, answered: Result<(), RunFault>) -> Resul
     }
 }
 
-/// Answers all questions, and passes the answers on.
+/// Answers all questions over the graph, which is indexed where workers are to answer, and passes the answers on.
 fn answer_and_flush<A: PathAlgebra, W: RoadWrite, R: Threads + Wait + Sync, T: Gate>(
     rt: &R,
     alloc: Global,
     algebra: A,
-    graph: &Graph,
+    graph: Graph,
     questions: &Questions,
     out: &mut W,
     settings: &Settings,
     gate: &T,
 ) -> Result<(), RunFault>
-    requires within { AreQuestionsOf graph.now.vertices questions.now }
+    requires within { AreQuestionsOf graph.vertices questions.now }
     requires settings { AreInRange settings.now }
-    ensures text { WroteAllOrFront (A.meaning algebra) graph.now (asked_of questions.now) (W.written out.old) (W.written out.new) result }
+    ensures text { WroteAllOrFront (A.meaning algebra) graph (asked_of questions.now) (W.written out.old) (W.written out.new) result }
     ensures passed_on { OnOk result (W.held out.new ≡ []) }
     ensures sound { OnOk result (W.failures out.new ≡ W.failures out.old) }
     ensures later { IfErr result (λ f. IsLater settings.now (T.is_always_open gate.now) f × (f.number ≡ 42 → W.failures out.old < W.failures out.new)) }
-    ensures whole { IfErr result (λ f. f.number ≢ 42 → WroteWhole (A.meaning algebra) graph.now (asked_of questions.now) (W.written out.old) (W.written out.new)) }
+    ensures whole { IfErr result (λ f. f.number ≢ 42 → WroteWhole (A.meaning algebra) graph (asked_of questions.now) (W.written out.old) (W.written out.new)) }
     ensures once { IfErr result (λ f. f.number ≢ 42 → W.failures out.new ≤ W.failures out.old + 1) }
     ensures flushed { IfErr result (λ f. f.number ≢ 42 → IsPassedOn (W.held out.new) (W.failures out.old) (W.failures out.new)) }
 {
     answers_exist(algebra);
     first_answers_begin_all(algebra);
     let _n = graph.vertices();
-    let answered = answer_all(rt, alloc, algebra, graph, questions, out, settings, gate);
+    let graph = indexed(alloc, graph, settings);
+    let answered = answer_all(rt, alloc, algebra, &graph, questions, out, settings, gate);
     flush_all(out, answered)
 }
 
@@ -200,8 +201,7 @@ pub fn run_pair<
         Ok(questions) => questions,
         Err(fault) => return Err(fault_in(File::Questions, fault)),
     };
-    let graph = indexed(alloc, graph, settings);
-    answer_and_flush(rt, alloc, algebra, &graph, &questions, out, settings, gate)
+    answer_and_flush(rt, alloc, algebra, graph, &questions, out, settings, gate)
 }
 
 /// Answers the questions of a bundle, a graph and questions over it in one input, as `run_pair` does.
@@ -249,6 +249,5 @@ pub fn run_bundle<A: PathAlgebra, B: RoadRead, W: RoadWrite, R: Threads + Wait +
         Ok(read) => read,
         Err(fault) => return Err(fault_in(File::Bundle, fault)),
     };
-    let graph = indexed(alloc, graph, settings);
-    answer_and_flush(rt, alloc, algebra, &graph, &questions, out, settings, gate)
+    answer_and_flush(rt, alloc, algebra, graph, &questions, out, settings, gate)
 }

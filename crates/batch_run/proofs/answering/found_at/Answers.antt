@@ -13,7 +13,7 @@ returns g c =
     let A = g.A.PathAlgebra.meaning c.args.algebra in
     let found = c.in-Some-2.route in
     let between : AreHops A c.args.graph.now (c.args.source ∷ []) c.args.target found.hops
-        × IsParentRoute A c.args.graph.now (c.args.source ∷ []) c.args.target found.vertices.items × (length found.vertices.items ≡ found.hops + 1) = search rules in
+    × IsParentRoute A c.args.graph.now (c.args.source ∷ []) c.args.target found.vertices.items × (length found.vertices.items ≡ found.hops + 1) = search rules in
     let route = c.routes_follow_parents.ensures.from_one_source c.args.graph.now c.args.source c.args.target found.vertices.items between.1 in
     record {
       code = (c.in-Some.value, best_by_label _ _ _ c.args.target c.of.result _ c.in-Some.value (c.requires.labels.best c.args.target c.requires.target) c.of.ensures (search rules), c.code.ensures);

@@ -167,7 +167,8 @@ fn many_equal_routes(rt: HostRuntime) {
     for _ in 0..90 {
         number = number.wrapping_mul(1103515245).wrapping_add(12345);
         let (tail, head) = (number / 65536 % 24 + 1, number / 1048576 % 24 + 1);
-        arcs.push((tail, head, number / 256 % 3)).expect(&rt, "memory");
+        arcs.push((tail, head, number / 256 % 3))
+            .expect(&rt, "memory");
     }
     assert_all_algebras(&rt, &graph_of(&rt, 24, &arcs));
 }

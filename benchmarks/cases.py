@@ -64,7 +64,8 @@ class Plain(Case):
 class Batch(Case):
     """Several questions of one file by the one-thread solver, beside one source of the same graph."""
 
-    FILES = {"four sources": "four_sources", "five pairs": "pairs", "one list of 1,024 sources": "one_list"}
+    FILES = {"four sources": "four_sources", "five sources": "few_sources", "five pairs": "pairs",
+             "one list of 1,024 sources": "one_list"}
 
     def __init__(self, files, kind, width):
         super().__init__(files, kind)

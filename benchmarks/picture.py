@@ -3,6 +3,9 @@ import math
 
 from cases import BASELINE, DIFFUSING, TIME, WALL
 
+# The batch of the plain solver that stands beside the workers.
+FIVE_IN_TURN = "five sources", 1
+
 INK, PALE = "#222222", "#dddddd"
 WORKERS, SAME_RULE, PLAIN, HEAP = ("#c02a1b", "diffuse, workers"), ("#e09a2b", "the same rule in plain C++"), (
     "#1b5fc0", "diffuse --plain"), ("#3a8f3a", "baseline")
@@ -70,7 +73,7 @@ def by_workers(plan):
                   workers, str)
     panel.add(WORKERS, [(case.settings["workers"], case.median("diffuse", WALL)) for case in cases])
     panel.add(SAME_RULE, [(case.settings["workers"], case.median(DIFFUSING, WALL)) for case in cases])
-    one_thread = [plan.batches[0].median("diffuse", WALL)] * len(workers)
+    one_thread = [plan.batches[FIVE_IN_TURN].median("diffuse", WALL)] * len(workers)
     panel.add(PLAIN, list(zip(workers, one_thread)))
     panel.add(HEAP, [(case.settings["workers"], case.median(BASELINE, WALL)) for case in cases])
     return panel

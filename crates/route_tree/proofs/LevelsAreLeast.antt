@@ -6,7 +6,7 @@ use Rattle.std.specs.Prelude.{IsTrue, Contains, All}
 use Rattle.road_graph.specs.Roads.{Roads, HasArc, HasVertex, arc_of}
 use Rattle.path_algebra.specs.Walks.{IsWalk, label_of}
 use Rattle.path_algebra.proofs.Walks.{IsWalk-snoc}
-use Rattle.route_tree.specs.Levels.{IsWalkOf, IsLeastAt, AreLeast, Leads, IsLeastTail, AreLeastTails, IsPassed, Spreading}
+use Rattle.route_tree.specs.Levels.{IsWalkOf, IsLeastAt, AreLeast, IsTreeArc, IsLeastTail, AreLeastTails, IsPassed, Visiting}
 use Rattle.route_tree.proofs.Elements.{not_in_empty, same_some}
 
 module _ (g : Roads) (test : ℕ → Bool) (sources : List ℕ) where
@@ -25,7 +25,7 @@ module _ (g : Roads) (test : ℕ → Bool) (sources : List ℕ) where
   pub IsWalkOf-nil : (s : ℕ) → Contains sources s → IsWalkOf g test sources s 0
   IsWalkOf-nil s h = ([], (s, h, refl), All-nil (λ a. IsTrue (test a)), refl)
 
-  module _ (k : ℕ) (hops parents : List (Option ℕ)) (known : Spreading g test sources k hops parents [] [] []) where
+  module _ (k : ℕ) (hops parents : List (Option ℕ)) (known : Visiting g test sources k hops parents [] [] []) where
     passed : (a j : ℕ) → HasArc g a → test a ≡ true → label_of hops (arc_of g a).tail ≡ Some j → IsPassed g hops parents a (j + 1)
     passed a j h t e = elim (known.closed a j h t e) [
       | inl none ↦ absurd (not_in_empty a none)
@@ -63,7 +63,7 @@ module _ (g : Roads) (test : ℕ → Bool) (sources : List ℕ) where
     hops_are_least = record { count = known.count; least = λ v in_v. least_at v in_v (label_of hops v) refl }
 
     -- the head of an arc of the tree has a parent that is no greater than the arc's tail
-    adopted_by : (a : ℕ) → Leads g test hops a → (u : ℕ) × (label_of parents (arc_of g a).head ≡ Some u) × (u ≤ (arc_of g a).tail)
+    adopted_by : (a : ℕ) → IsTreeArc g test hops a → (u : ℕ) × (label_of parents (arc_of g a).head ≡ Some u) × (u ≤ (arc_of g a).tail)
     adopted_by a l =
         let p = passed a l.near l.arc l.passes l.at_tail in
         p.parent (same_some (label_of hops (arc_of g a).head) p.far (l.near + 1) p.at_head l.at_head)

@@ -5,11 +5,11 @@ use Rattle.std.specs.Prelude.{IsTrue, Contains, All}
 use Rattle.road_graph.specs.Roads.{Roads, IsRoads, HasVertex, arc_of}
 use Rattle.path_algebra.specs.Algebra.{Algebra, IsLawful}
 use Rattle.path_algebra.specs.Walks.{IsWalk, AreBest, AreHops, IsUnreached, label_of, is_marked, is_tight}
-use Rattle.route_tree.specs.Levels.{IsWalkOf, AreLeast, Leads, IsLeastTail, AreLeastTails}
+use Rattle.route_tree.specs.Levels.{IsWalkOf, AreLeast, IsTreeArc, IsLeastTail, AreLeastTails}
 use Rattle.route_tree.specs.Regions.{IsWithin, Covers}
 use Rattle.route_tree.specs.Told.{IsParentRoute}
 use Rattle.route_tree.specs.Tree.{AreHopsAt, IsChain, IsRoute}
-use Rattle.route_tree.proofs.GoingBack.{within_back}
+use Rattle.route_tree.proofs.VisitingBack.{within_back}
 use Rattle.route_tree.proofs.Elements.{same_some}
 use Rattle.route_tree.proofs.Existing.{least_exist}
 use Rattle.route_tree.proofs.LevelsAreLeast.{IsWalkOf-snoc}
@@ -72,8 +72,8 @@ module _ (g : Roads) (roads : IsRoads g) (test : ℕ → Bool) (source target : 
           found.1 ∙ ap (λ (m : ℕ). Some m) same
 
       -- an arc of the held tree is one of the whole tree
-      whole_lead : (v i j a : ℕ) → HasVertex g v → label_of hops v ≡ Some i → IsWithin g test target j v → i + j ≤ far → Leads g (into g test marks) near a → (arc_of g a).head ≡ v →
-          Leads g test hops a × ((m : ℕ) × (label_of hops (arc_of g a).tail ≡ Some m) × (m + 1 ≡ i))
+      whole_lead : (v i j a : ℕ) → HasVertex g v → label_of hops v ≡ Some i → IsWithin g test target j v → i + j ≤ far → IsTreeArc g (into g test marks) near a → (arc_of g a).head ≡ v →
+          IsTreeArc g test hops a × ((m : ℕ) × (label_of hops (arc_of g a).tail ≡ Some m) × (m + 1 ≡ i))
       whole_lead v i j a in_v e within le l head =
           let in_tail = (roads.ends a l.arc).0 in
           let t = passes_test a l.passes in
@@ -91,8 +91,8 @@ module _ (g : Roads) (roads : IsRoads g) (test : ℕ → Bool) (source target : 
           )
 
       -- an arc of the whole tree on a least walk to the target is one of the held tree
-      held_lead : (v i j a : ℕ) → HasVertex g v → label_of hops v ≡ Some i → IsWithin g test target j v → i + j ≤ far → Leads g test hops a → (arc_of g a).head ≡ v →
-          Leads g (into g test marks) near a
+      held_lead : (v i j a : ℕ) → HasVertex g v → label_of hops v ≡ Some i → IsWithin g test target j v → i + j ≤ far → IsTreeArc g test hops a → (arc_of g a).head ≡ v →
+          IsTreeArc g (into g test marks) near a
       held_lead v i j a in_v e within le l head =
           let in_tail = (roads.ends a l.arc).0 in
           let one : l.near + 1 ≡ i = same_some (label_of hops v) (l.near + 1) i (ap (label_of hops) (sym head) ∙ l.at_head) e in

@@ -3,7 +3,7 @@
 ghost use Rattle.std.specs.Prelude.{◌≡◌, ◌+◌, ◌-◌, ◌≤◌, [], ◌∷◌, ◌++◌, All, Bool, IfOk, OnOk, cond, false, length, replicate, slice_set, true};
 ghost use Rattle.road_graph.specs.Roads.{HasArc, HasVertex, arc_of};
 ghost use Rattle.path_algebra.specs.Walks.{is_marked, is_tight, is_tight_between, label_of};
-ghost use Rattle.route_tree.specs.Regions.{Covers, GoesBack, GoesBackLevel, unmarked};
+ghost use Rattle.route_tree.specs.Regions.{Covers, VisitsBack, VisitsLevelBack, unmarked};
 
 use crate::tightness::is_tight;
 use path_algebra::{Labels, PathAlgebra};
@@ -82,7 +82,7 @@ fn try_arc<A: PathAlgebra>(
 }
 
 /// Goes back along the arcs that enter a vertex.
-fn go_back<A: PathAlgebra>(
+fn visit_back<A: PathAlgebra>(
     algebra: A,
     graph: &Graph,
     labels: &Labels<A::Value>,
@@ -93,7 +93,7 @@ fn go_back<A: PathAlgebra>(
     requires labels { length labels.now ≡ graph.now.vertices }
     requires count { length found.old.marks.items ≡ graph.now.vertices }
     ensures count { OnOk result (length found.new.marks.items ≡ graph.now.vertices) }
-    ensures goes { OnOk result (GoesBack graph.now (is_tight (A.meaning algebra) graph.now labels.now) v found.old.marks.items found.old.next.items found.new.marks.items found.new.next.items) }
+    ensures goes { OnOk result (VisitsBack graph.now (is_tight (A.meaning algebra) graph.now labels.now) v found.old.marks.items found.old.next.items found.new.marks.items found.new.next.items) }
     ensures size { OnOk result (unmarked found.new.marks.items + length found.new.next.items ≡ unmarked found.old.marks.items + length found.old.next.items) }
 {
     let _n = graph.vertices();
@@ -105,7 +105,7 @@ fn go_back<A: PathAlgebra>(
 }
 
 /// Goes back from the vertices found last; those found now are one arc further from the target.
-fn go_back_level<A: PathAlgebra>(
+fn visit_level_back<A: PathAlgebra>(
     algebra: A,
     graph: &Graph,
     labels: &Labels<A::Value>,
@@ -116,12 +116,12 @@ fn go_back_level<A: PathAlgebra>(
     requires labels { length labels.now ≡ graph.now.vertices }
     requires count { length found.old.marks.items ≡ graph.now.vertices }
     requires next { found.old.next.items ≡ [] }
-    ensures goes { OnOk result (GoesBackLevel graph.now (is_tight (A.meaning algebra) graph.now labels.now) found.old.marks.items level.now found.new.marks.items found.new.next.items) }
+    ensures goes { OnOk result (VisitsLevelBack graph.now (is_tight (A.meaning algebra) graph.now labels.now) found.old.marks.items level.now found.new.marks.items found.new.next.items) }
     ensures size { OnOk result (unmarked found.new.marks.items + length found.new.next.items ≡ unmarked found.old.marks.items) }
 {
     let _n = graph.vertices();
     for v in level {
-        go_back(algebra, graph, labels, found, *v)?;
+        visit_back(algebra, graph, labels, found, *v)?;
     }
     Ok(())
 }
@@ -144,7 +144,7 @@ pub(crate) fn marks_back<A: PathAlgebra>(
     found.mark(target)?;
     while !found.next.is_empty() && !found.has(source) {
         let level = mem::replace(&mut found.next, Vec::new(alloc));
-        go_back_level(algebra, graph, labels, &mut found, &level)?;
+        visit_level_back(algebra, graph, labels, &mut found, &level)?;
     }
     Ok(found.marks)
 }

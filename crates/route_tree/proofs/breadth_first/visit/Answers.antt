@@ -3,8 +3,8 @@ use Rattle.road_graph.specs.Roads.{HasVertex}
 use Rattle.road_graph.specs.declared.OutRoad.{OutRoad}
 use Rattle.path_algebra.specs.Walks.{label_of, is_tight_between}
 use Rattle.route_tree.specs.Regions.{in_region, is_tight_into}
-use Rattle.route_tree.proofs.OneVertex.{spread_open, spread_road, arcs_done, same_length, road_at, is_tight_by_road}
-use Rattle.route_tree.proofs.levels.spread.Goals as goal
+use Rattle.route_tree.proofs.OneVertex.{visit_open, visit_road, arcs_done, same_length, road_at, is_tight_by_road}
+use Rattle.route_tree.proofs.breadth_first.visit.Goals as goal
 
 pub loop-road-init : goal.loop-road-init
 loop-road-init g c =
@@ -13,7 +13,7 @@ loop-road-init g c =
     record {
       count = c.requires.count;
       parents_count = c.requires.parents_count;
-      goes = λ sources pending numbers lists are known. spread_open G c.vertices-n.ensures.roads (is_tight_into A G c.args.labels.now c.args.region.now) sources c.args.k _ _ c.args.v pending _ numbers lists known;
+      goes = λ sources pending numbers lists are known. visit_open G c.vertices-n.ensures.roads (is_tight_into A G c.args.labels.now c.args.region.now) sources c.args.k _ _ c.args.v pending _ numbers lists known;
       size = refl;
     }
 
@@ -39,7 +39,7 @@ loop-road-preserved g c =
           let n = same_length G c.args.v numbers lists out are in
           let a = get_or numbers c.loop-road.road-index 0 in
           let test = is_tight_by_road A G labels c.args.region.now a c.args.v r c.of.result at.1 at.2 c.of.ensures in
-          spread_road G c.vertices-n.ensures.roads (is_tight_into A G labels c.args.region.now) sources c.args.k c.loop-road.tree.hops.items c.loop-road.tree.parents.items c.args.v pending c.loop-road.tree.next.items
+          visit_road G c.vertices-n.ensures.roads (is_tight_into A G labels c.args.region.now) sources c.args.k c.loop-road.tree.hops.items c.loop-road.tree.parents.items c.args.v pending c.loop-road.tree.next.items
           numbers c.loop-road.road-index r (cond (in_region c.args.region.now r.head) (is_tight_between A c.of.result r.weight (label_of labels r.head)) false) _ _ _ (omega (arith, n)) at.1 at.2 test
           c.in_ok-try_road.ensures.hops c.in_ok-try_road.ensures.parents c.in_ok-try_road.ensures.next (c.loop-road.invariant.goes sources pending numbers lists are known);
       size = c.in_ok-try_road.ensures.size ∙ c.loop-road.invariant.size;

@@ -1,4 +1,4 @@
-//! The tree of best labels.
+//! The tree of best labels, over the arcs that are tight by them.
 
 ghost use Rattle.std.specs.Prelude.{◌≡◌, All, IfOk, length};
 ghost use Rattle.road_graph.specs.Roads.{HasVertex};
@@ -7,8 +7,8 @@ ghost use Rattle.route_tree.specs.Levels.{AreLeast, AreLeastTails};
 ghost use Rattle.route_tree.specs.Regions.{is_tight_into};
 ghost use Rattle.route_tree.specs.Tree.{IsTree};
 
-use crate::branches::Tree;
-use crate::levels::grow;
+use crate::breadth_first::breadth_first_search;
+use crate::hops_and_parents::Tree;
 use crate::region::Region;
 use path_algebra::{Labels, PathAlgebra, laws_hold};
 use road_graph::{Graph, Memory, Vertex};
@@ -29,8 +29,8 @@ pub(crate) fn tree_into<A: PathAlgebra>(
     ensures parents { IfOk result (λ tree. AreLeastTails graph.now (is_tight_into (A.meaning algebra) graph.now labels.now region.now) tree.hops tree.parents) }
 {
     let _n = graph.vertices();
-    let grown = grow(alloc, algebra, graph, labels, region, sources)?;
-    let (hops, parents) = (grown.hops, grown.parents);
+    let found = breadth_first_search(alloc, algebra, graph, labels, region, sources)?;
+    let (hops, parents) = (found.hops, found.parents);
     Ok(Tree { hops, parents })
 }
 

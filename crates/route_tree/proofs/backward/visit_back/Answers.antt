@@ -1,8 +1,8 @@
 use Rattle.std.proofs.Common.{◌≡◌, refl, ap, sym, ◌∙◌, arith}
 use Rattle.road_graph.specs.Roads.{arc_of}
 use Rattle.path_algebra.specs.Walks.{is_tight, label_of}
-use Rattle.route_tree.proofs.GoingBack.{back_open, back_once, row_done}
-use Rattle.route_tree.proofs.backward.go_back.Goals as goal
+use Rattle.route_tree.proofs.VisitingBack.{back_open, back_once, row_done}
+use Rattle.route_tree.proofs.backward.visit_back.Goals as goal
 
 pub loop-a-init : goal.loop-a-init
 loop-a-init g c =

@@ -2,12 +2,12 @@ use Rattle.std.proofs.Common.{◌≡◌, ℕ, List, [], length, replicate, None,
 use Rattle.std.proofs.lemmas.List.{length-replicate}
 use Rattle.std.specs.Prelude.{All}
 use Rattle.road_graph.specs.Roads.{HasVertex}
-use Rattle.route_tree.specs.Levels.{IsMarked, Spreading, unreached}
+use Rattle.route_tree.specs.Levels.{IsMarked, Visiting, unreached}
 use Rattle.route_tree.specs.Regions.{is_tight_into}
 use Rattle.route_tree.proofs.Elements.{all_of, no_items}
-use Rattle.route_tree.proofs.Marking.{marked_spreads, unreached_all}
+use Rattle.route_tree.proofs.Marking.{marked_visits, unreached_all}
 use Rattle.route_tree.proofs.LevelsAreLeast.{hops_are_least, parents_are_least}
-use Rattle.route_tree.proofs.levels.grow.Goals as goal
+use Rattle.route_tree.proofs.breadth_first.breadth_first_search.Goals as goal
 
 pub loop-alloc-init : goal.loop-alloc-init
 loop-alloc-init g c =
@@ -20,16 +20,16 @@ loop-alloc-init g c =
     let parents : c.mark_sources.new.tree.parents.items ≡ replicate c.args.graph.now.vertices None =
     c.in_ok-mark_sources.ensures.parents ∙ c.in_ok-tree.ensures.parents ∙ ap (λ (m : ℕ). replicate m None) c.vertices.ensures.count in
     let marked = subst (λ (m : ℕ). IsMarked m c.args.sources.now c.args.sources.now hops level) n c.in_ok-mark_sources.ensures.marked in
-    let start = marked_spreads G c.vertices.ensures.roads (is_tight_into A G c.args.labels.now c.args.region.now) c.args.sources.now hops level c.requires.sources marked in
+    let start = marked_visits G c.vertices.ensures.roads (is_tight_into A G c.args.labels.now c.args.region.now) c.args.sources.now hops level c.requires.sources marked in
     record {
-      spreading = subst (λ (ps : List (Option ℕ)). Spreading G (is_tight_into A G c.args.labels.now c.args.region.now) c.args.sources.now 0 hops ps level [] []) (sym parents) start;
+      visiting = subst (λ (ps : List (Option ℕ)). Visiting G (is_tight_into A G c.args.labels.now c.args.region.now) c.args.sources.now 0 hops ps level [] []) (sym parents) start;
       size = omega (arith, c.in_ok-mark_sources.ensures.size, size);
     }
 
-pub spread_level-requires-clause-in_graph : goal.spread_level-requires-clause-in_graph
-spread_level-requires-clause-in_graph g c κs within =
+pub visit_level-requires-clause-in_graph : goal.visit_level-requires-clause-in_graph
+visit_level-requires-clause-in_graph g c κs within =
     let level = rw (c.replace-level.ensures.value) at c.deref.ensures.value in
-    subst (λ (xs : List ℕ). All (HasVertex c.args.graph.now) xs) (sym level) (all_of (HasVertex c.args.graph.now) c.loop-alloc.tree.next.items (λ v h. (c.loop-alloc.invariant.spreading.pending_at v h).0))
+    subst (λ (xs : List ℕ). All (HasVertex c.args.graph.now) xs) (sym level) (all_of (HasVertex c.args.graph.now) c.loop-alloc.tree.next.items (λ v h. (c.loop-alloc.invariant.visiting.pending_at v h).0))
 
 pub loop-alloc-preserved : goal.loop-alloc-preserved
 loop-alloc-preserved g c =
@@ -38,9 +38,9 @@ loop-alloc-preserved g c =
     let level = rw (c.replace-level.ensures.value) at c.deref.ensures.value in
     let nonempty : (length c.loop-alloc.tree.next.items ≡ 0 → ⊥) = λ z. let len : c.loop-alloc.tree.next.len ≡ 0 = c.loop-alloc.tree.next.ok.0 ∙ z in let t : true ≡ false = sym (eq-eqb c.loop-alloc.tree.next.len 0 len) ∙ sym c.is_empty.ensures ∙ c.loop-alloc-test.true in cc in
     record {
-      spreading = c.in_ok-spread_level.ensures.goes c.args.sources.now
-          (subst (λ (xs : List ℕ). Spreading G (is_tight_into A G c.args.labels.now c.args.region.now) c.args.sources.now c.loop-alloc.k c.loop-alloc.tree.hops.items c.loop-alloc.tree.parents.items xs [] []) (sym level) c.loop-alloc.invariant.spreading);
-      size = omega (arith, c.in_ok-spread_level.ensures.size, c.loop-alloc.invariant.size, nonempty);
+      visiting = c.in_ok-visit_level.ensures.goes c.args.sources.now
+          (subst (λ (xs : List ℕ). Visiting G (is_tight_into A G c.args.labels.now c.args.region.now) c.args.sources.now c.loop-alloc.k c.loop-alloc.tree.hops.items c.loop-alloc.tree.parents.items xs [] []) (sym level) c.loop-alloc.invariant.visiting);
+      size = omega (arith, c.in_ok-visit_level.ensures.size, c.loop-alloc.invariant.size, nonempty);
     }
 
 pub returns-clause-hops : goal.returns-clause-hops
@@ -49,7 +49,7 @@ returns-clause-hops g c =
     let G = c.args.graph.now in
     let empty : eqb c.loop-alloc.tree.next.len 0 ≡ true = sym c.is_empty.ensures ∙ c.loop-alloc-test.false in
     let none = no_items c.loop-alloc.tree.next.items (sym c.loop-alloc.tree.next.ok.0 ∙ eqb-true c.loop-alloc.tree.next.len 0 empty) in
-    hops_are_least G (is_tight_into A G c.args.labels.now c.args.region.now) c.args.sources.now c.loop-alloc.k c.loop-alloc.tree.hops.items c.loop-alloc.tree.parents.items (rw none at c.loop-alloc.invariant.spreading)
+    hops_are_least G (is_tight_into A G c.args.labels.now c.args.region.now) c.args.sources.now c.loop-alloc.k c.loop-alloc.tree.hops.items c.loop-alloc.tree.parents.items (rw none at c.loop-alloc.invariant.visiting)
 
 pub returns-clause-parents : goal.returns-clause-parents
 returns-clause-parents g c =
@@ -57,4 +57,4 @@ returns-clause-parents g c =
     let G = c.args.graph.now in
     let empty : eqb c.loop-alloc.tree.next.len 0 ≡ true = sym c.is_empty.ensures ∙ c.loop-alloc-test.false in
     let none = no_items c.loop-alloc.tree.next.items (sym c.loop-alloc.tree.next.ok.0 ∙ eqb-true c.loop-alloc.tree.next.len 0 empty) in
-    parents_are_least G (is_tight_into A G c.args.labels.now c.args.region.now) c.args.sources.now c.loop-alloc.k c.loop-alloc.tree.hops.items c.loop-alloc.tree.parents.items (rw none at c.loop-alloc.invariant.spreading)
+    parents_are_least G (is_tight_into A G c.args.labels.now c.args.region.now) c.args.sources.now c.loop-alloc.k c.loop-alloc.tree.hops.items c.loop-alloc.tree.parents.items (rw none at c.loop-alloc.invariant.visiting)

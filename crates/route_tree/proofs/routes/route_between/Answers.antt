@@ -4,7 +4,7 @@ use Rattle.road_graph.specs.Roads.{HasVertex}
 use Rattle.path_algebra.proofs.Walks.{all_inside}
 use Rattle.route_tree.specs.Tree.{IsRoute}
 use Rattle.route_tree.proofs.RegionTrees.{no_route, route_told}
-use Rattle.route_tree.proofs.pairs.route_between.Goals as goal
+use Rattle.route_tree.proofs.routes.route_between.Goals as goal
 
 pub returns-in_default : goal.returns-in_default
 returns-in_default g c =

@@ -1,6 +1,6 @@
 use Rattle.std.proofs.Common.{ℕ, ◌≤◌, length, sym, subst, ◌∙◌}
 use Rattle.route_tree.proofs.Marking.{marked_once}
-use Rattle.route_tree.proofs.levels.mark_sources.Goals as goal
+use Rattle.route_tree.proofs.breadth_first.mark_sources.Goals as goal
 
 pub loop-s-preserved : goal.loop-s-preserved
 loop-s-preserved c =

@@ -7,7 +7,7 @@ use Rattle.std.proofs.lemmas.List.Elements.{All-nil, All-cons, All-head, All-tai
 use Rattle.std.specs.Prelude.{IsTrue, Contains, All}
 use Rattle.road_graph.specs.Roads.{Roads, IsRoads, HasArc, HasVertex, arc_of, ListsArcsInto}
 use Rattle.path_algebra.specs.Walks.{IsWalk, is_marked}
-use Rattle.route_tree.specs.Regions.{IsWithin, Covers, GoingBack, GoesBack}
+use Rattle.route_tree.specs.Regions.{IsWithin, Covers, VisitingBack, VisitsBack}
 use Rattle.route_tree.proofs.Elements.{not_in_empty, head_or_tail, here, later}
 
 module _ (g : Roads) (roads : IsRoads g) (test : ℕ → Bool) (target : ℕ) where
@@ -18,7 +18,7 @@ module _ (g : Roads) (roads : IsRoads g) (test : ℕ → Bool) (target : ℕ) wh
   pub within_back : (k a : ℕ) → HasArc g a → test a ≡ true → IsWithin g test target k (arc_of g a).head → IsWithin g test target (k + 1) (arc_of g a).tail
   within_back k a h t w = let n = w.3 in (a ∷ w.0, (h, refl, w.1), All-cons (λ b. IsTrue (test b)) a w.0 t w.2, omega (arith, n))
 
-  pub back_start : (n : ℕ) (marks : List Bool) → n ≡ g.vertices → HasVertex g target → marks ≡ set (replicate n false) (target - 1) true → GoingBack g test target 0 marks (target ∷ []) [] []
+  pub back_start : (n : ℕ) (marks : List Bool) → n ≡ g.vertices → HasVertex g target → marks ≡ set (replicate n false) (target - 1) true → VisitingBack g test target 0 marks (target ∷ []) [] []
   back_start n marks is in_t e = rw e (record {
     count = simp length-set (length-replicate n false ∙ is);
     attained = λ v in_v m. elim (cases_eq v target) [
@@ -62,8 +62,8 @@ module _ (g : Roads) (roads : IsRoads g) (test : ℕ → Bool) (target : ℕ) wh
 
   module _ (k : ℕ) (marks : List Bool) where
     -- the first vertex that waits gives way to its arcs
-    pub back_open : (v : ℕ) (pending next arcs : List ℕ) → ListsArcsInto g v arcs → GoingBack g test target k marks (v ∷ pending) [] next →
-        GoingBack g test target k marks pending arcs next
+    pub back_open : (v : ℕ) (pending next arcs : List ℕ) → ListsArcsInto g v arcs → VisitingBack g test target k marks (v ∷ pending) [] next →
+        VisitingBack g test target k marks pending arcs next
     back_open v pending next arcs lists known = record {
       count = known.count;
       attained = known.attained;
@@ -80,7 +80,7 @@ module _ (g : Roads) (roads : IsRoads g) (test : ℕ → Bool) (target : ℕ) wh
       ];
     }
 
-    module _ (pending next rest : List ℕ) (a : ℕ) (known : GoingBack g test target k marks pending (a ∷ rest) next) where
+    module _ (pending next rest : List ℕ) (a : ℕ) (known : VisitingBack g test target k marks pending (a ∷ rest) next) where
       this : HasArc g a × IsWithin g test target k (arc_of g a).head
       this = known.arcs_at a (here a rest)
 
@@ -88,7 +88,7 @@ module _ (g : Roads) (roads : IsRoads g) (test : ℕ → Bool) (target : ℕ) wh
       tail_in = (roads.ends a this.0).0
 
       -- an arc that does not pass, or whose tail is marked, is dropped
-      back_drop : (test a ≡ true → is_marked marks (arc_of g a).tail ≡ true) → GoingBack g test target k marks pending rest next
+      back_drop : (test a ≡ true → is_marked marks (arc_of g a).tail ≡ true) → VisitingBack g test target k marks pending rest next
       back_drop done = record {
         count = known.count;
         attained = known.attained;
@@ -155,7 +155,7 @@ module _ (g : Roads) (roads : IsRoads g) (test : ℕ → Bool) (target : ℕ) wh
           | inr new ↦ inr (inr (inl (new_in (arc_of g b).head new)))
         ]
 
-        back_new : GoingBack g test target k after pending rest (next ++ (arc_of g a).tail ∷ [])
+        back_new : VisitingBack g test target k after pending rest (next ++ (arc_of g a).tail ∷ [])
         back_new = record {
           count = simp length-set known.count;
           attained = λ v in_v m. elim (old_or_new v in_v m) [
@@ -177,12 +177,12 @@ module _ (g : Roads) (roads : IsRoads g) (test : ℕ → Bool) (target : ℕ) wh
         }
 
       by_test : (b : Bool) → test a ≡ b → is_marked marks (arc_of g a).tail ≡ false →
-          GoingBack g test target k (cond b (set marks ((arc_of g a).tail - 1) true) marks) pending rest (cond b (next ++ (arc_of g a).tail ∷ []) next)
+          VisitingBack g test target k (cond b (set marks ((arc_of g a).tail - 1) true) marks) pending rest (cond b (next ++ (arc_of g a).tail ∷ []) next)
       by_test true t fresh = back_new t fresh
       by_test false t fresh = back_drop (λ u. let bad : true ≡ false = sym u ∙ t in cc)
 
       back_arc : (m b : Bool) → is_marked marks (arc_of g a).tail ≡ m → test a ≡ b →
-          GoingBack g test target k (cond (cond m false b) (set marks ((arc_of g a).tail - 1) true) marks) pending rest (cond (cond m false b) (next ++ (arc_of g a).tail ∷ []) next)
+          VisitingBack g test target k (cond (cond m false b) (set marks ((arc_of g a).tail - 1) true) marks) pending rest (cond (cond m false b) (next ++ (arc_of g a).tail ∷ []) next)
       back_arc true b is t = back_drop (λ _. is)
       back_arc false b is t = by_test b t is
 
@@ -190,16 +190,16 @@ module _ (g : Roads) (roads : IsRoads g) (test : ℕ → Bool) (target : ℕ) wh
     pub back_once : (pending next numbers : List ℕ) (i a : ℕ) (marks' : List Bool) (next' : List ℕ) → i < length numbers → a ≡ get_or numbers i a →
         marks' ≡ cond (cond (is_marked marks (arc_of g a).tail) false (test a)) (set marks ((arc_of g a).tail - 1) true) marks →
         next' ≡ cond (cond (is_marked marks (arc_of g a).tail) false (test a)) (next ++ (arc_of g a).tail ∷ []) next →
-        GoingBack g test target k marks pending (drop i numbers) next → GoingBack g test target k marks' pending (drop (i + 1) numbers) next'
+        VisitingBack g test target k marks pending (drop i numbers) next → VisitingBack g test target k marks' pending (drop (i + 1) numbers) next'
     back_once pending next numbers i a marks' next' lt is e f known =
         let cut : drop i numbers ≡ a ∷ drop (i + 1) numbers = rw add-one (drop-cons numbers i a lt ∙ ap (λ (b : ℕ). b ∷ drop (suc i) numbers) (sym is)) in
         rw (e, f) (back_arc pending next (drop (i + 1) numbers) a (rw cut at known) (is_marked marks (arc_of g a).tail) (test a) refl refl)
 
-    pub row_done : (pending next numbers : List ℕ) (i : ℕ) → length numbers ≤ i → GoingBack g test target k marks pending (drop i numbers) next → GoingBack g test target k marks pending [] next
+    pub row_done : (pending next numbers : List ℕ) (i : ℕ) → length numbers ≤ i → VisitingBack g test target k marks pending (drop i numbers) next → VisitingBack g test target k marks pending [] next
     row_done pending next numbers i h known = rw (drop_of_length-le numbers h) at known
 
     -- the next level's turn
-    back_level : (next : List ℕ) → GoingBack g test target k marks [] [] next → GoingBack g test target (k + 1) marks next [] []
+    back_level : (next : List ℕ) → VisitingBack g test target k marks [] [] next → VisitingBack g test target (k + 1) marks next [] []
     back_level next known = record {
       count = known.count;
       attained = λ v in_v m. elim (known.attained v in_v m) [ inl w ↦ inl (within_more k v w) | inr n ↦ inl ((known.next_at v n).1) ];
@@ -222,18 +222,18 @@ module _ (g : Roads) (roads : IsRoads g) (test : ℕ → Bool) (target : ℕ) wh
               | inr r ↦ elim r [ inl none ↦ absurd (not_in_empty _ none) | inr s ↦ elim s [ inl n ↦ absurd (rest.1 n) | inr m ↦ m ] ]
             ]
 
-    pub level_done : (level next : List ℕ) (i : ℕ) → length level ≤ i → GoingBack g test target k marks (drop i level) [] next → GoingBack g test target (k + 1) marks next [] []
+    pub level_done : (level next : List ℕ) (i : ℕ) → length level ≤ i → VisitingBack g test target k marks (drop i level) [] next → VisitingBack g test target (k + 1) marks next [] []
     level_done level next i h known = back_level next (rw (drop_of_length-le level h) at known)
 
     -- the vertex at a place of a level
     pub level_once : (level next : List ℕ) (i v : ℕ) (marks' : List Bool) (next' : List ℕ) → i < length level → v ≡ get_or level i v →
-        GoesBack g test v marks next marks' next' → GoingBack g test target k marks (drop i level) [] next → GoingBack g test target k marks' (drop (i + 1) level) [] next'
+        VisitsBack g test v marks next marks' next' → VisitingBack g test target k marks (drop i level) [] next → VisitingBack g test target k marks' (drop (i + 1) level) [] next'
     level_once level next i v marks' next' lt is goes known =
         let cut : drop i level ≡ v ∷ drop (i + 1) level = rw add-one (drop-cons level i v lt ∙ ap (λ (b : ℕ). b ∷ drop (suc i) level) (sym is)) in
         goes target k (drop (i + 1) level) (rw cut at known)
 
     -- where the source was found, nothing is missing that is as near as it
-    pub covers_near : (source : ℕ) (level : List ℕ) → GoingBack g test target k marks level [] [] → HasVertex g source → is_marked marks source ≡ true → Covers g test source target marks
+    pub covers_near : (source : ℕ) (level : List ℕ) → VisitingBack g test target k marks level [] [] → HasVertex g source → is_marked marks source ≡ true → Covers g test source target marks
     covers_near source level known in_s m = λ v j w low. elim (known.attained source in_s m) [
       | inl walk ↦
           let shortest = low (length walk.0) (walk.0, (source, here source [], walk.1), walk.2, refl) in
@@ -243,7 +243,7 @@ module _ (g : Roads) (roads : IsRoads g) (test : ℕ → Bool) (target : ℕ) wh
     ]
 
     -- where no vertex is left to go back from, all are found
-    pub covers_all : (source : ℕ) → GoingBack g test target k marks [] [] [] → Covers g test source target marks
+    pub covers_all : (source : ℕ) → VisitingBack g test target k marks [] [] [] → Covers g test source target marks
     covers_all source known = λ v j w low. along v w.0 w.1 w.2
       where
         along : (v : ℕ) (p : List ℕ) → IsWalk g v p target → All (λ a. IsTrue (test a)) p → is_marked marks v ≡ true

@@ -1,6 +1,6 @@
 use Rattle.std.proofs.Common.{◌≡◌, ◌+◌, length, take}
 use Rattle.route_tree.specs.Levels.{IsMarked, unreached}
-use Rattle.route_tree.proofs.levels.mark_sources.Given as goal
+use Rattle.route_tree.proofs.breadth_first.mark_sources.Given as goal
 
 abbrev pub invariant-loop-s : goal.invariant-loop-s
 invariant-loop-s l = record {

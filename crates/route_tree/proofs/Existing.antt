@@ -1,4 +1,4 @@
--- Trees and routes exist: the levels gone through in thought.
+-- Trees and routes exist: by visiting the levels in thought.
 use Rattle.std.proofs.Common.{add-one, ◌≡◌, ℕ, zero, suc, ◌+◌, ◌-◌, ◌<◌, ◌≤◌, Bool, true, false, cond, List, [], ◌∷◌, ◌++◌, length, get_or, set, replicate, reverse, take, refl, sym, ◌∙◌, subst, arith, Option, Some, None}
 use Rattle.std.proofs.Math.Seq.{take-length}
 use Rattle.std.proofs.lemmas.List.{length-append, get_or_default}

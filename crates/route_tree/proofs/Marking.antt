@@ -6,9 +6,10 @@ use Rattle.std.proofs.lemmas.List.{get_or-replicate, length-replicate, take_more
 use Rattle.std.proofs.lemmas.List.Elements.{Contains-append_left, Contains-append_right, Contains-append_cases}
 use Rattle.std.specs.Prelude.{Contains, All}
 use Rattle.road_graph.specs.Roads.{Roads, IsRoads, HasArc, HasVertex, arc_of}
+use Rattle.road_graph.proofs.Lists.{not_in_empty, head_or_tail, here}
+use Rattle.road_graph.proofs.Options.{same_some}
 use Rattle.path_algebra.specs.Walks.{label_of}
 use Rattle.route_tree.specs.Levels.{IsWalkOf, hops_if, next_if, is_open, unreached, Visiting, IsMarked}
-use Rattle.route_tree.proofs.Elements.{not_in_empty, head_or_tail, here, same_some}
 use Rattle.route_tree.proofs.LevelsAreLeast.{IsWalkOf-nil}
 
 module _ (n : ℕ) (sources : List ℕ) where

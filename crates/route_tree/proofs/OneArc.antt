@@ -1,12 +1,13 @@
--- One arc of a vertex that is gone through.
+-- One arc of a vertex that is visited.
 use Rattle.std.proofs.Common.{◌≡◌, ℕ, ◌+◌, ◌-◌, ◌<◌, ◌≤◌, ◌⊎◌, inl, inr, Bool, true, false, cond, eqb, leb, eqb-true, eq-eqb, leb-true, le-leb, List, [], ◌∷◌, ◌++◌, length, set, refl, ap, sym, ◌∙◌, subst, arith, Option, Some, None, get_or-set_same, get_or-set_other, length-set}
 use Rattle.std.proofs.lemmas.Bool.{cases_eq}
 use Rattle.std.proofs.lemmas.List.Elements.{Contains-append_left, Contains-append_right, Contains-append_cases}
 use Rattle.std.specs.Prelude.{Contains}
 use Rattle.road_graph.specs.Roads.{Roads, IsRoads, HasArc, HasVertex, arc_of}
+use Rattle.road_graph.proofs.Lists.{not_in_empty, head_or_tail, here, later}
+use Rattle.road_graph.proofs.Options.{same_some}
 use Rattle.path_algebra.specs.Walks.{label_of}
 use Rattle.route_tree.specs.Levels.{IsWalkOf, IsTreeArc, lesser, hops_if, parents_if, next_if, IsPassed, Visiting}
-use Rattle.route_tree.proofs.Elements.{not_in_empty, head_or_tail, here, later, same_some}
 use Rattle.route_tree.proofs.LevelsAreLeast.{IsWalkOf-snoc}
 
 -- what the lesser of two parents is
@@ -94,8 +95,8 @@ module _ (g : Roads) (roads : IsRoads g) (test : ℕ → Bool) (sources : List �
       | inr other ↦ inl (sym (elsewhere hops (Some (k + 1)) v in_v other) ∙ e)
     ]
 
-    kept_lead : (b : ℕ) → IsTreeArc g test hops b → IsTreeArc g test after b
-    kept_lead b l = record {
+    kept_tree_arc : (b : ℕ) → IsTreeArc g test hops b → IsTreeArc g test after b
+    kept_tree_arc b l = record {
       arc = l.arc;
       passes = l.passes;
       near = l.near;
@@ -129,7 +130,7 @@ module _ (g : Roads) (roads : IsRoads g) (test : ℕ → Bool) (sources : List �
           (a, record { arc = this.0; passes = t; near = k; at_tail = kept (arc_of g a).tail k tail_in this.1; at_head = at_head }, sym same, is)
       | inr other ↦
           let f = known.adopted v u in_v (sym (elsewhere parents (Some (arc_of g a).tail) v in_v other) ∙ e) in
-          (f.0, kept_lead f.0 f.1, f.2, f.3)
+          (f.0, kept_tree_arc f.0 f.1, f.2, f.3)
     ]
 
     closed_after : (b j : ℕ) → HasArc g b → test b ≡ true → label_of after (arc_of g b).tail ≡ Some j →

@@ -1,14 +1,14 @@
--- One vertex that is gone through, and one level.
+-- One vertex that is visited, and one level.
 use Rattle.std.proofs.Common.{drop, drop-cons, add-one, ◌≡◌, ℕ, suc, ◌+◌, ◌<◌, ◌≤◌, inl, inr, Bool, false, cond, List, [], ◌∷◌, length, get_or, refl, ap, sym, ◌∙◌, arith, Option}
 use Rattle.std.proofs.Math.ListN.{drop_of_length-le}
 use Rattle.std.proofs.lemmas.List.{get_or-map, length-map, get_or_default}
 use Rattle.road_graph.specs.Roads.{Roads, IsRoads, HasArc, arc_of, ListsArcsFrom, road_of, roads_of}
 use Rattle.road_graph.specs.declared.OutRoad.{OutRoad}
+use Rattle.road_graph.proofs.Lists.{not_in_empty, head_or_tail, here, later}
 use Rattle.path_algebra.specs.Algebra.{Algebra}
 use Rattle.path_algebra.specs.Walks.{label_of, is_tight_between}
 use Rattle.route_tree.specs.Levels.{hops_if, parents_if, next_if, Visiting, Visits}
 use Rattle.route_tree.specs.Regions.{in_region, is_tight_into}
-use Rattle.route_tree.proofs.Elements.{not_in_empty, head_or_tail, here, later}
 use Rattle.route_tree.proofs.OneArc.{visit_arc}
 
 module _ (g : Roads) (v : ℕ) (numbers : List ℕ) (lists : ListsArcsFrom g v numbers) (out : List OutRoad) (are : out ≡ roads_of g numbers) where

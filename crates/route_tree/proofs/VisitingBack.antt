@@ -6,9 +6,9 @@ use Rattle.std.proofs.lemmas.List.{get_or-replicate, length-replicate}
 use Rattle.std.proofs.lemmas.List.Elements.{All-nil, All-cons, All-head, All-tail, Contains-append_left, Contains-append_right, Contains-append_cases}
 use Rattle.std.specs.Prelude.{IsTrue, Contains, All}
 use Rattle.road_graph.specs.Roads.{Roads, IsRoads, HasArc, HasVertex, arc_of, ListsArcsInto}
+use Rattle.road_graph.proofs.Lists.{not_in_empty, head_or_tail, here, later}
 use Rattle.path_algebra.specs.Walks.{IsWalk, is_marked}
 use Rattle.route_tree.specs.Regions.{IsWithin, Covers, VisitingBack, VisitsBack}
-use Rattle.route_tree.proofs.Elements.{not_in_empty, head_or_tail, here, later}
 
 module _ (g : Roads) (roads : IsRoads g) (test : ℕ → Bool) (target : ℕ) where
   within_more : (k v : ℕ) → IsWithin g test target k v → IsWithin g test target (k + 1) v

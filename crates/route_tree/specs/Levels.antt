@@ -73,7 +73,7 @@ pub record IsPassed (g : Roads) (hops parents : List (Option ℕ)) (a k : ℕ) :
   pub few : far ≤ k
   pub parent : far ≡ k → (u : ℕ) × (label_of parents (arc_of g a).head ≡ Some u) × (u ≤ (arc_of g a).tail)
 
--- while the vertices at k hops are gone through: those in `pending` wait, and the arcs in `arcs`; those in `next` have k + 1
+-- while the vertices at k hops are visited: those in `pending` wait, and the arcs in `arcs`; those in `next` have k + 1
 pub record Visiting (g : Roads) (test : ℕ → Bool) (sources : List ℕ) (k : ℕ) (hops parents : List (Option ℕ)) (pending arcs next : List ℕ) : Type 0 where
   pub count : length hops ≡ g.vertices
   pub parents_count : length parents ≡ g.vertices
@@ -87,12 +87,12 @@ pub record Visiting (g : Roads) (test : ℕ → Bool) (sources : List ℕ) (k : 
   pub closed : (a j : ℕ) → HasArc g a → test a ≡ true → label_of hops (arc_of g a).tail ≡ Some j →
       Contains arcs a ⊎ (Contains pending (arc_of g a).tail ⊎ (Contains next (arc_of g a).tail ⊎ IsPassed g hops parents a (j + 1)))
 
--- v is gone through, whatever waits behind it
+-- v is visited, whatever waits after it
 abbrev pub Visits : Roads → (ℕ → Bool) → ℕ → ℕ → List (Option ℕ) → List (Option ℕ) → List ℕ → List (Option ℕ) → List (Option ℕ) → List ℕ → Type 0
 Visits g test k v hops parents next hops' parents' next' =
     (sources pending : List ℕ) → Visiting g test sources k hops parents (v ∷ pending) [] next → Visiting g test sources k hops' parents' pending [] next'
 
--- a whole level is gone through
+-- a whole level is visited
 abbrev pub VisitsLevel : Roads → (ℕ → Bool) → ℕ → List (Option ℕ) → List (Option ℕ) → List ℕ → List (Option ℕ) → List (Option ℕ) → List ℕ → Type 0
 VisitsLevel g test k hops parents level hops' parents' next =
     (sources : List ℕ) → Visiting g test sources k hops parents level [] [] → Visiting g test sources (k + 1) hops' parents' next [] []

@@ -31,7 +31,7 @@ is_unmarked false = 1
 abbrev pub unmarked : List Bool → ℕ
 unmarked marks = sum_by is_unmarked marks
 
--- while the vertices k arcs before the target are gone through: those in `pending` wait, and the arcs in `arcs`; those in `next` are one arc further
+-- while the vertices k arcs before the target are visited: those in `pending` wait, and the arcs in `arcs`; those in `next` are one arc further
 pub record VisitingBack (g : Roads) (test : ℕ → Bool) (target k : ℕ) (marks : List Bool) (pending arcs next : List ℕ) : Type 0 where
   pub count : length marks ≡ g.vertices
   pub attained : (v : ℕ) → HasVertex g v → IsTrue (is_marked marks v) → IsWithin g test target k v ⊎ Contains next v
@@ -42,12 +42,12 @@ pub record VisitingBack (g : Roads) (test : ℕ → Bool) (target k : ℕ) (mark
   pub closed : (a : ℕ) → HasArc g a → test a ≡ true → IsTrue (is_marked marks (arc_of g a).head) →
       Contains arcs a ⊎ (Contains pending (arc_of g a).head ⊎ (Contains next (arc_of g a).head ⊎ IsTrue (is_marked marks (arc_of g a).tail)))
 
--- v is gone through, whatever waits behind it
+-- v is visited, whatever waits after it
 abbrev pub VisitsBack : Roads → (ℕ → Bool) → ℕ → List Bool → List ℕ → List Bool → List ℕ → Type 0
 VisitsBack g test v marks next marks' next' =
     (target k : ℕ) (pending : List ℕ) → VisitingBack g test target k marks (v ∷ pending) [] next → VisitingBack g test target k marks' pending [] next'
 
--- a whole level is gone through
+-- a whole level is visited
 abbrev pub VisitsLevelBack : Roads → (ℕ → Bool) → List Bool → List ℕ → List Bool → List ℕ → Type 0
 VisitsLevelBack g test marks level marks' next =
     (target k : ℕ) → VisitingBack g test target k marks level [] [] → VisitingBack g test target (k + 1) marks' next [] []

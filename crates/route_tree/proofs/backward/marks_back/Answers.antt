@@ -1,9 +1,10 @@
 use Rattle.std.proofs.Common.{◌≡◌, ℕ, ◌+◌, ◌-◌, List, [], ◌∷◌, ◌++◌, Bool, true, set, eqb, eqb-true, ap, sym, subst, ◌∙◌}
+use Rattle.std.proofs.lemmas.List.{nil_from_length}
 use Rattle.std.specs.Prelude.{All}
 use Rattle.road_graph.specs.Roads.{HasVertex}
 use Rattle.path_algebra.specs.Walks.{is_tight}
 use Rattle.route_tree.specs.Regions.{VisitingBack}
-use Rattle.route_tree.proofs.Elements.{all_of, no_items}
+use Rattle.route_tree.proofs.Elements.{all_of}
 use Rattle.route_tree.proofs.VisitingBack.{back_start, covers_near, covers_all}
 use Rattle.route_tree.proofs.backward.marks_back.Goals as goal
 use Rattle.route_tree.proofs.backward.marks_back.Goals.{then-loop-found-test+else-not-has, else-loop-found-test}
@@ -45,7 +46,7 @@ returns g c =
           covers_near G c.vertices.ensures.roads (is_tight A G c.args.labels.now) c.args.target k c.loop-found.found.marks.items c.args.source c.loop-found.found.next.items known c.requires.source (sym w.has.ensures ∙ w.if-not-has.false)
       | else-loop-found-test w ↦
           let empty : eqb c.loop-found.found.next.len 0 ≡ true = sym c.is_empty.ensures ∙ w.loop-found-test.false in
-          let none = no_items c.loop-found.found.next.items (sym c.loop-found.found.next.ok.0 ∙ eqb-true c.loop-found.found.next.len 0 empty) in
+          let none = nil_from_length c.loop-found.found.next.items (sym c.loop-found.found.next.ok.0 ∙ eqb-true c.loop-found.found.next.len 0 empty) in
           covers_all G c.vertices.ensures.roads (is_tight A G c.args.labels.now) c.args.target k c.loop-found.found.marks.items c.args.source
           (subst (λ (xs : List ℕ). VisitingBack G (is_tight A G c.args.labels.now) c.args.target k c.loop-found.found.marks.items xs [] []) none known)
     ]

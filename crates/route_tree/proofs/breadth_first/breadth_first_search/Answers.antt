@@ -1,10 +1,10 @@
 use Rattle.std.proofs.Common.{◌≡◌, ℕ, List, [], length, replicate, None, true, false, eqb, eqb-true, eq-eqb, arith, sym, subst, ap, ◌∙◌, Option}
-use Rattle.std.proofs.lemmas.List.{length-replicate}
+use Rattle.std.proofs.lemmas.List.{length-replicate, nil_from_length}
 use Rattle.std.specs.Prelude.{All}
 use Rattle.road_graph.specs.Roads.{HasVertex}
 use Rattle.route_tree.specs.Levels.{IsMarked, Visiting, unreached}
 use Rattle.route_tree.specs.Regions.{is_tight_into}
-use Rattle.route_tree.proofs.Elements.{all_of, no_items}
+use Rattle.route_tree.proofs.Elements.{all_of}
 use Rattle.route_tree.proofs.Marking.{marked_visits, unreached_all}
 use Rattle.route_tree.proofs.LevelsAreLeast.{hops_are_least, parents_are_least}
 use Rattle.route_tree.proofs.breadth_first.breadth_first_search.Goals as goal
@@ -48,7 +48,7 @@ returns-clause-hops g c =
     let A = g.A.PathAlgebra.meaning c.args.algebra in
     let G = c.args.graph.now in
     let empty : eqb c.loop-alloc.tree.next.len 0 ≡ true = sym c.is_empty.ensures ∙ c.loop-alloc-test.false in
-    let none = no_items c.loop-alloc.tree.next.items (sym c.loop-alloc.tree.next.ok.0 ∙ eqb-true c.loop-alloc.tree.next.len 0 empty) in
+    let none = nil_from_length c.loop-alloc.tree.next.items (sym c.loop-alloc.tree.next.ok.0 ∙ eqb-true c.loop-alloc.tree.next.len 0 empty) in
     hops_are_least G (is_tight_into A G c.args.labels.now c.args.region.now) c.args.sources.now c.loop-alloc.k c.loop-alloc.tree.hops.items c.loop-alloc.tree.parents.items (rw none at c.loop-alloc.invariant.visiting)
 
 pub returns-clause-parents : goal.returns-clause-parents
@@ -56,5 +56,5 @@ returns-clause-parents g c =
     let A = g.A.PathAlgebra.meaning c.args.algebra in
     let G = c.args.graph.now in
     let empty : eqb c.loop-alloc.tree.next.len 0 ≡ true = sym c.is_empty.ensures ∙ c.loop-alloc-test.false in
-    let none = no_items c.loop-alloc.tree.next.items (sym c.loop-alloc.tree.next.ok.0 ∙ eqb-true c.loop-alloc.tree.next.len 0 empty) in
+    let none = nil_from_length c.loop-alloc.tree.next.items (sym c.loop-alloc.tree.next.ok.0 ∙ eqb-true c.loop-alloc.tree.next.len 0 empty) in
     parents_are_least G (is_tight_into A G c.args.labels.now c.args.region.now) c.args.sources.now c.loop-alloc.k c.loop-alloc.tree.hops.items c.loop-alloc.tree.parents.items (rw none at c.loop-alloc.invariant.visiting)

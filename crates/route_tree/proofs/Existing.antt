@@ -56,7 +56,7 @@ module _ (g : Roads) (roads : IsRoads g) (test : ℕ → Bool) (sources : List �
   through_level k [] hops parents next known = (hops, parents, next, known, refl)
   through_level k (v ∷ pending) hops parents next known =
       let arcs = numbers_at Tail v 0 g.arcs in
-      let one = through_arcs k pending arcs hops parents next (visit_open g roads test sources k hops parents v pending next arcs (lists_from g v) known) in
+      let one = through_arcs k pending arcs hops parents next (visit_open g test sources k hops parents v pending next arcs (lists_from g v) known) in
       let rest = through_level k pending one.0 one.1 one.2 one.3 in
       (rest.0, rest.1, rest.2, rest.3, rest.4 ∙ one.4)
 
@@ -67,7 +67,7 @@ module _ (g : Roads) (roads : IsRoads g) (test : ℕ → Bool) (sources : List �
   through_all (suc n) k hops parents (v ∷ level) known le =
       let next = through_level k (v ∷ level) hops parents [] known in
       let size = next.4 in
-      through_all n (k + 1) next.0 next.1 next.2 (visit_level g roads test sources k next.0 next.1 next.2 next.3) (omega (arith, le, size))
+      through_all n (k + 1) next.0 next.1 next.2 (visit_level g test sources k next.0 next.1 next.2 next.3) (omega (arith, le, size))
 
   marked_upto : (i : ℕ) → i ≤ length sources → All (HasVertex g) sources → (hops : List (Option ℕ)) × (level : List ℕ) × IsMarked g.vertices sources (take i sources) hops level
   marked_upto zero le inside = (replicate g.vertices None, [], marked_start g.vertices sources)

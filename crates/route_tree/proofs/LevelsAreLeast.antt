@@ -1,6 +1,6 @@
 -- When no level is left, hops are least and parents are least.
-use Rattle.std.proofs.Common.{◌≡◌, ℕ, ◌+◌, ◌≤◌, inl, inr, Bool, true, List, [], ◌∷◌, ◌++◌, length, refl, ap, sym, ◌∙◌, arith, Option, Some, None}
-use Rattle.std.proofs.lemmas.List.{length-append}
+use Rattle.std.proofs.Common.{◌≡◌, ℕ, ◌+◌, ◌≤◌, inl, inr, Bool, true, eqb, eqb-true, List, [], ◌∷◌, ◌++◌, length, refl, ap, sym, ◌∙◌, arith, Option, Some, None}
+use Rattle.std.proofs.lemmas.List.{length-append, nil_from_length}
 use Rattle.std.proofs.lemmas.List.Elements.{All-nil, All-cons, All-head, All-tail, All-append}
 use Rattle.std.specs.Prelude.{IsTrue, Contains, All}
 use Rattle.road_graph.specs.Roads.{Roads, HasArc, HasVertex, arc_of}
@@ -84,3 +84,10 @@ module _ (g : Roads) (test : ℕ → Bool) (sources : List ℕ) where
 
     pub parents_are_least : AreLeastTails g test hops parents
     parents_are_least = record { count = known.parents_count; tails = λ v in_v. least_tail_at v in_v (label_of parents v) refl }
+
+  -- a search that has no vertex left to visit is over
+  pub search_ends : (k : ℕ) (hops parents : List (Option ℕ)) (next : List ℕ) → eqb (length next) 0 ≡ true → Visiting g test sources k hops parents next [] [] →
+      AreLeast g test sources hops × AreLeastTails g test hops parents
+  search_ends k hops parents next empty known =
+      let last : Visiting g test sources k hops parents [] [] [] = rw (nil_from_length next (eqb-true (length next) 0 empty)) at known in
+      (hops_are_least k hops parents last, parents_are_least k hops parents last)

@@ -8,12 +8,9 @@ use Rattle.std.specs.Prelude.{IsTrue, Contains, All}
 use Rattle.road_graph.specs.Roads.{Roads, IsRoads, HasArc, HasVertex, arc_of, ListsArcsInto}
 use Rattle.road_graph.proofs.Lists.{not_in_empty, head_or_tail, here, later}
 use Rattle.path_algebra.specs.Walks.{IsWalk, is_marked}
-use Rattle.route_tree.specs.Regions.{IsWithin, Covers, VisitingBack, VisitsBack}
+use Rattle.route_tree.specs.Regions.{IsWithin, Covers, VisitingBack}
 
 module _ (g : Roads) (roads : IsRoads g) (test : ℕ → Bool) (target : ℕ) where
-  within_more : (k v : ℕ) → IsWithin g test target k v → IsWithin g test target (k + 1) v
-  within_more k v w = let n = w.3 in (w.0, w.1, w.2, omega (arith, n))
-
   -- one arc further back
   pub within_back : (k a : ℕ) → HasArc g a → test a ≡ true → IsWithin g test target k (arc_of g a).head → IsWithin g test target (k + 1) (arc_of g a).tail
   within_back k a h t w = let n = w.3 in (a ∷ w.0, (h, refl, w.1), All-cons (λ b. IsTrue (test b)) a w.0 t w.2, omega (arith, n))
@@ -198,40 +195,6 @@ module _ (g : Roads) (roads : IsRoads g) (test : ℕ → Bool) (target : ℕ) wh
     pub row_done : (pending next numbers : List ℕ) (i : ℕ) → length numbers ≤ i → VisitingBack g test target k marks pending (drop i numbers) next → VisitingBack g test target k marks pending [] next
     row_done pending next numbers i h known = rw (drop_of_length-le numbers h) at known
 
-    -- the next level's turn
-    back_level : (next : List ℕ) → VisitingBack g test target k marks [] [] next → VisitingBack g test target (k + 1) marks next [] []
-    back_level next known = record {
-      count = known.count;
-      attained = λ v in_v m. elim (known.attained v in_v m) [ inl w ↦ inl (within_more k v w) | inr n ↦ inl ((known.next_at v n).1) ];
-      complete = λ v w. (further v w.0 w.1 w.2 w.3, not_in_empty v);
-      pending_at = known.next_at;
-      next_at = λ v h. absurd (not_in_empty v h);
-      arcs_at = λ a h. absurd (not_in_empty a h);
-      closed = λ a h t m. elim (known.closed a h t m) [
-        | inl none ↦ absurd (not_in_empty a none)
-        | inr r ↦ elim r [ inl none ↦ absurd (not_in_empty _ none) | inr s ↦ elim s [ inl waits ↦ inr (inl waits) | inr done ↦ inr (inr (inr done)) ] ]
-      ];
-    }
-      where
-        further : (v : ℕ) (p : List ℕ) → IsWalk g v p target → All (λ a. IsTrue (test a)) p → length p ≤ k + 1 → is_marked marks v ≡ true
-        further v [] w all le = (known.complete v ([], w, all, omega arith)).0
-        further v (a ∷ p) w all le =
-            let rest = known.complete (arc_of g a).head (p, w.2, All-tail (λ b. IsTrue (test b)) a p all, omega (arith, le)) in
-            ap (is_marked marks) (sym w.1) ∙ elim (known.closed a w.0 (All-head (λ b. IsTrue (test b)) a p all) rest.0) [
-              | inl none ↦ absurd (not_in_empty a none)
-              | inr r ↦ elim r [ inl none ↦ absurd (not_in_empty _ none) | inr s ↦ elim s [ inl n ↦ absurd (rest.1 n) | inr m ↦ m ] ]
-            ]
-
-    pub level_done : (level next : List ℕ) (i : ℕ) → length level ≤ i → VisitingBack g test target k marks (drop i level) [] next → VisitingBack g test target (k + 1) marks next [] []
-    level_done level next i h known = back_level next (rw (drop_of_length-le level h) at known)
-
-    -- the vertex at a place of a level
-    pub level_once : (level next : List ℕ) (i v : ℕ) (marks' : List Bool) (next' : List ℕ) → i < length level → v ≡ get_or level i v →
-        VisitsBack g test v marks next marks' next' → VisitingBack g test target k marks (drop i level) [] next → VisitingBack g test target k marks' (drop (i + 1) level) [] next'
-    level_once level next i v marks' next' lt is goes known =
-        let cut : drop i level ≡ v ∷ drop (i + 1) level = rw add-one (drop-cons level i v lt ∙ ap (λ (b : ℕ). b ∷ drop (suc i) level) (sym is)) in
-        goes target k (drop (i + 1) level) (rw cut at known)
-
     -- where the source was found, nothing is missing that is as near as it
     pub covers_near : (source : ℕ) (level : List ℕ) → VisitingBack g test target k marks level [] [] → HasVertex g source → is_marked marks source ≡ true → Covers g test source target marks
     covers_near source level known in_s m = λ v j w low. elim (known.attained source in_s m) [
@@ -253,3 +216,41 @@ module _ (g : Roads) (roads : IsRoads g) (test : ℕ → Bool) (target : ℕ) wh
               | inl none ↦ absurd (not_in_empty a none)
               | inr r ↦ elim r [ inl none ↦ absurd (not_in_empty _ none) | inr s ↦ elim s [ inl none ↦ absurd (not_in_empty _ none) | inr m ↦ m ] ]
             ]
+
+module _ (g : Roads) (test : ℕ → Bool) (target k : ℕ) (marks : List Bool) where
+  within_more : (v : ℕ) → IsWithin g test target k v → IsWithin g test target (k + 1) v
+  within_more v w = let n = w.3 in (w.0, w.1, w.2, omega (arith, n))
+
+  -- the next level's turn
+  pub back_level : (next : List ℕ) → VisitingBack g test target k marks [] [] next → VisitingBack g test target (k + 1) marks next [] []
+  back_level next known = record {
+    count = known.count;
+    attained = λ v in_v m. elim (known.attained v in_v m) [ inl w ↦ inl (within_more v w) | inr n ↦ inl ((known.next_at v n).1) ];
+    complete = λ v w. (further v w.0 w.1 w.2 w.3, not_in_empty v);
+    pending_at = known.next_at;
+    next_at = λ v h. absurd (not_in_empty v h);
+    arcs_at = λ a h. absurd (not_in_empty a h);
+    closed = λ a h t m. elim (known.closed a h t m) [
+      | inl none ↦ absurd (not_in_empty a none)
+      | inr r ↦ elim r [ inl none ↦ absurd (not_in_empty _ none) | inr s ↦ elim s [ inl waits ↦ inr (inl waits) | inr done ↦ inr (inr (inr done)) ] ]
+    ];
+  }
+    where
+      further : (v : ℕ) (p : List ℕ) → IsWalk g v p target → All (λ a. IsTrue (test a)) p → length p ≤ k + 1 → is_marked marks v ≡ true
+      further v [] w all le = (known.complete v ([], w, all, omega arith)).0
+      further v (a ∷ p) w all le =
+          let rest = known.complete (arc_of g a).head (p, w.2, All-tail (λ b. IsTrue (test b)) a p all, omega (arith, le)) in
+          ap (is_marked marks) (sym w.1) ∙ elim (known.closed a w.0 (All-head (λ b. IsTrue (test b)) a p all) rest.0) [
+            | inl none ↦ absurd (not_in_empty a none)
+            | inr r ↦ elim r [ inl none ↦ absurd (not_in_empty _ none) | inr s ↦ elim s [ inl n ↦ absurd (rest.1 n) | inr m ↦ m ] ]
+          ]
+
+  pub level_done : (level next : List ℕ) (i : ℕ) → length level ≤ i → VisitingBack g test target k marks (drop i level) [] next → VisitingBack g test target k marks [] [] next
+  level_done level next i h known = rw (drop_of_length-le level h) at known
+
+  -- the vertex at a place of a level
+  pub level_once : (level next : List ℕ) (i v : ℕ) (marks' : List Bool) (next' : List ℕ) → i < length level → v ≡ get_or level i v →
+      ((pending : List ℕ) → VisitingBack g test target k marks (v ∷ pending) [] next → VisitingBack g test target k marks' pending [] next') → VisitingBack g test target k marks (drop i level) [] next → VisitingBack g test target k marks' (drop (i + 1) level) [] next'
+  level_once level next i v marks' next' lt is goes known =
+      let cut : drop i level ≡ v ∷ drop (i + 1) level = rw add-one (drop-cons level i v lt ∙ ap (λ (b : ℕ). b ∷ drop (suc i) level) (sym is)) in
+      goes (drop (i + 1) level) (rw cut at known)

@@ -87,16 +87,6 @@ pub record Visiting (g : Roads) (test : ℕ → Bool) (sources : List ℕ) (k : 
   pub closed : (a j : ℕ) → HasArc g a → test a ≡ true → label_of hops (arc_of g a).tail ≡ Some j →
       Contains arcs a ⊎ (Contains pending (arc_of g a).tail ⊎ (Contains next (arc_of g a).tail ⊎ IsPassed g hops parents a (j + 1)))
 
--- v is visited, whatever waits after it
-abbrev pub Visits : Roads → (ℕ → Bool) → ℕ → ℕ → List (Option ℕ) → List (Option ℕ) → List ℕ → List (Option ℕ) → List (Option ℕ) → List ℕ → Type 0
-Visits g test k v hops parents next hops' parents' next' =
-    (sources pending : List ℕ) → Visiting g test sources k hops parents (v ∷ pending) [] next → Visiting g test sources k hops' parents' pending [] next'
-
--- a whole level is visited
-abbrev pub VisitsLevel : Roads → (ℕ → Bool) → ℕ → List (Option ℕ) → List (Option ℕ) → List ℕ → List (Option ℕ) → List (Option ℕ) → List ℕ → Type 0
-VisitsLevel g test k hops parents level hops' parents' next =
-    (sources : List ℕ) → Visiting g test sources k hops parents level [] [] → Visiting g test sources (k + 1) hops' parents' next [] []
-
 -- after the sources in `done`: each has 0 hops, and who has hops is a source and in the level
 pub record IsMarked (n : ℕ) (sources done : List ℕ) (hops : List (Option ℕ)) (level : List ℕ) : Type 0 where
   pub count : length hops ≡ n

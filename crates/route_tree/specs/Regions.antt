@@ -41,13 +41,3 @@ pub record VisitingBack (g : Roads) (test : ℕ → Bool) (target k : ℕ) (mark
   pub arcs_at : (a : ℕ) → Contains arcs a → HasArc g a × IsWithin g test target k (arc_of g a).head
   pub closed : (a : ℕ) → HasArc g a → test a ≡ true → IsTrue (is_marked marks (arc_of g a).head) →
       Contains arcs a ⊎ (Contains pending (arc_of g a).head ⊎ (Contains next (arc_of g a).head ⊎ IsTrue (is_marked marks (arc_of g a).tail)))
-
--- v is visited, whatever waits after it
-abbrev pub VisitsBack : Roads → (ℕ → Bool) → ℕ → List Bool → List ℕ → List Bool → List ℕ → Type 0
-VisitsBack g test v marks next marks' next' =
-    (target k : ℕ) (pending : List ℕ) → VisitingBack g test target k marks (v ∷ pending) [] next → VisitingBack g test target k marks' pending [] next'
-
--- a whole level is visited
-abbrev pub VisitsLevelBack : Roads → (ℕ → Bool) → List Bool → List ℕ → List Bool → List ℕ → Type 0
-VisitsLevelBack g test marks level marks' next =
-    (target k : ℕ) → VisitingBack g test target k marks level [] [] → VisitingBack g test target (k + 1) marks' next [] []

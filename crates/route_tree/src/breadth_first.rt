@@ -1,26 +1,43 @@
 //! A breadth-first search over tight arcs, level by level: from the vertices at k hops to those at k + 1.
 
-ghost use Rattle.std.specs.Prelude.{◌≡◌, ℕ, ◌+◌, ◌-◌, ◌≤◌, ◌<◌, ◌^◌, [], All, Bool, IfOk, None, OnOk, cond, false, length, replicate};
+ghost use Rattle.std.specs.Prelude.{◌≡◌, ◌+◌, ◌≤◌, ◌<◌, All, IfOk, None, OnOk, cond, eqb, length, replicate};
 ghost use Rattle.road_graph.specs.Roads.{HasVertex};
-ghost use Rattle.path_algebra.specs.Walks.{label_of, is_tight_between};
-ghost use Rattle.route_tree.specs.Levels.{AreLeast, AreLeastTails, IsMarked, Visits, VisitsLevel, hops_if, is_near, lesser, next_if, parents_if, unreached};
-ghost use Rattle.route_tree.specs.Regions.{in_region, is_tight_into};
+ghost use Rattle.path_algebra.specs.Walks.{label_of};
+ghost use Rattle.route_tree.specs.Levels.{IsMarked, hops_if, is_near, lesser, next_if, parents_if, unreached};
+ghost use Rattle.route_tree.specs.BreadthFirst.{IsSameSearch, VisitsVertex, VisitsAll, VisitsLevel, passes_road};
 
 use crate::region::Region;
 use crate::slot::NumberSlot;
 use crate::tightness::is_tight;
 use path_algebra::{Labels, PathAlgebra};
-use road_graph::{Graph, Memory, Vertex};
+use road_graph::{Graph, Memory, OutRoad, Vertex};
 use std::alloc::{AllocError, Global};
+use std::marker::Model;
 use std::mem;
 
-/// What the search has found so far. Vertices get their hops in ascending order of hops.
+/// The search while it goes on. Vertices get their hops in ascending order of hops.
 #[derive(Drop)]
-pub(crate) struct BreadthFirst {
-    pub(crate) hops: Vec<NumberSlot>,
-    pub(crate) parents: Vec<NumberSlot>,
-    /// The vertices with the most hops so far, from which the search goes on.
+pub(crate) struct BreadthFirst<'g, A: PathAlgebra> {
+    algebra: A,
+    graph: &'g Graph,
+    labels: &'g Labels<A::Value>,
+    region: &'g Region,
+    hops: Vec<NumberSlot>,
+    parents: Vec<NumberSlot>,
+    /// The vertices that were found last, from which the search goes on.
     next: Vec<Vertex>,
+    /// The hops of the vertices that are visited.
+    level: u32,
+}
+
+impl<'g, A: PathAlgebra> Model for BreadthFirst<'g, A> {
+    ghost use Rattle.route_tree.specs.BreadthFirst.{SearchState, IsSearch};
+
+    ghost Value = { SearchState A A.Value };
+
+    ghost view = { λ s. record { over = record { algebra = s.algebra; roads = s.graph.now; labels = s.labels.now }; region = s.region.now; hops = s.hops.items; parents = s.parents.items; next = s.next.items; level = s.level } };
+
+    ghost invariant = { λ s. IsSearch s.graph.now s.labels.now s.hops.items s.parents.items s.next.items s.level };
 }
 
 /// The lesser of two parents, or the only one.
@@ -34,218 +51,189 @@ fn lesser(old: NumberSlot, new: Vertex) -> NumberSlot
     }
 }
 
-impl BreadthFirst {
-    /// Of n vertices none has hops.
-    fn new(alloc: Global, n: u32) -> Result<BreadthFirst, AllocError>
-        ensures hops { IfOk result (λ tree. tree.hops.items ≡ replicate n None) }
-        ensures parents { IfOk result (λ tree. tree.parents.items ≡ replicate n None) }
-        ensures next { IfOk result (λ tree. tree.next.items ≡ []) }
+impl<'g, A: PathAlgebra> BreadthFirst<'g, A> {
+    /// A search whose first level is the sources. Sources may repeat.
+    pub(crate) fn open(
+        alloc: Global,
+        algebra: A,
+        graph: &'g Graph,
+        labels: &'g Labels<A::Value>,
+        region: &'g Region,
+        sources: &[Vertex],
+    ) -> Result<Self, Memory>
+        requires sources { All (HasVertex graph.now) sources.now }
+        requires labels { length labels.now ≡ graph.now.vertices }
+        ensures over { IfOk result (λ s. s.over ≡ record { algebra = algebra; roads = graph.now; labels = labels.now }) }
+        ensures region { IfOk result (λ s. s.region ≡ region.now) }
+        ensures level { IfOk result (λ s. s.level ≡ 0) }
+        ensures marked { IfOk result (λ s. IsMarked graph.now.vertices sources.now sources.now s.hops s.next) }
+        ensures parents { IfOk result (λ s. s.parents ≡ replicate graph.now.vertices None) }
     {
-        let hops = vec![in alloc; NumberSlot::none(); n as usize]?;
-        let parents = vec![in alloc; NumberSlot::none(); n as usize]?;
+        let n = graph.vertices() as usize;
+        let hops = vec![in alloc; NumberSlot::none(); n]?;
+        let parents = vec![in alloc; NumberSlot::none(); n]?;
         let next = Vec::new(alloc);
-        Ok(BreadthFirst {
+        let mut search = BreadthFirst {
+            algebra,
+            graph,
+            labels,
+            region,
             hops,
             parents,
             next,
-        })
+            level: 0,
+        };
+        for s in sources {
+            search.mark(*s)?;
+        }
+        Ok(search)
+    }
+
+    /// The hops of a vertex so far.
+    fn hops(&self, v: Vertex) -> Option<u32>
+        requires { HasVertex self.now.over.roads v }
+        ensures { result ≡ label_of self.now.hops v }
+    {
+        self.hops[v.0 as usize - 1].get()
+    }
+
+    /// The hops of the vertices that are found from those that are visited.
+    fn far(&self) -> u32
+        ensures far { result ≡ self.now.level + 1 }
+        ensures fits { result < 4294967295 }
+    {
+        self.level + 1
     }
 
     /// A vertex that had no hops is a source: it has 0 now, and no parent.
     fn mark(&mut self, v: Vertex) -> Result<(), Memory>
-        requires low { 1 ≤ v }
-        requires high { v ≤ length self.old.hops.items }
-        ensures hops { OnOk result (self.new.hops.items ≡ hops_if 0 self.old.hops.items v (label_of self.old.hops.items v)) }
-        ensures parents { OnOk result (self.new.parents.items ≡ self.old.parents.items) }
-        ensures next { OnOk result (self.new.next.items ≡ next_if self.old.next.items v (label_of self.old.hops.items v)) }
-        ensures size { OnOk result (unreached self.new.hops.items + length self.new.next.items ≡ unreached self.old.hops.items + length self.old.next.items) }
+        requires { HasVertex self.old.over.roads v }
+        ensures hops { OnOk result (self.new.hops ≡ hops_if 0 self.old.hops v (label_of self.old.hops v)) }
+        ensures parents { OnOk result (self.new.parents ≡ self.old.parents) }
+        ensures next { OnOk result (self.new.next ≡ next_if self.old.next v (label_of self.old.hops v)) }
+        ensures same { OnOk result (IsSameSearch self.old self.new) }
     {
-        let i = v.0 as usize - 1;
-        match self.hops[i].get() {
-            Some(_) => Ok(()),
-            None => {
-                self.next.push(v).map_err(AllocError::from)?;
-                self.hops[i] = NumberSlot::some(0);
-                Ok(())
-            }
+        if self.hops(v).is_none() {
+            self.next.push(v).map_err(AllocError::from)?;
+            self.hops[v.0 as usize - 1] = NumberSlot::some(0);
         }
+        Ok(())
     }
 
-    /// Whether a walk of k arcs to this vertex could change its hops or its parent.
-    fn is_near(&self, v: Vertex, k: u32) -> bool
-        requires low { 1 ≤ v }
-        requires high { v ≤ length self.now.hops.items }
-        ensures { result ≡ is_near (label_of self.now.hops.items v) k }
+    /// Whether a tight arc from a vertex that is visited could change the hops or the parent of this one.
+    fn is_near(&self, v: Vertex) -> bool
+        requires { HasVertex self.now.over.roads v }
+        ensures { result ≡ is_near (label_of self.now.hops v) (self.now.level + 1) }
     {
-        match self.hops[v.0 as usize - 1].get() {
-            Some(j) => j == k,
+        match self.hops(v) {
+            Some(k) => k == self.far(),
             None => true,
         }
     }
 
-    /// A tight arc from `tail` ends a walk of k arcs to this vertex.
-    fn reach(&mut self, v: Vertex, tail: Vertex, k: u32) -> Result<(), Memory>
-        requires low { 1 ≤ v }
-        requires high { v ≤ length self.old.hops.items }
-        requires parents { length self.old.parents.items ≡ length self.old.hops.items }
-        requires near { k < 4294967295 }
-        requires tail { tail < 4294967295 }
-        ensures count { OnOk result (length self.new.hops.items ≡ length self.old.hops.items) }
-        ensures parents_count { OnOk result (length self.new.parents.items ≡ length self.old.parents.items) }
-        ensures hops { OnOk result (self.new.hops.items ≡ hops_if k self.old.hops.items v (label_of self.old.hops.items v)) }
-        ensures parents { OnOk result (self.new.parents.items ≡ parents_if k self.old.parents.items v tail (label_of self.old.hops.items v)) }
-        ensures next { OnOk result (self.new.next.items ≡ next_if self.old.next.items v (label_of self.old.hops.items v)) }
-        ensures size { OnOk result (unreached self.new.hops.items + length self.new.next.items ≡ unreached self.old.hops.items + length self.old.next.items) }
+    /// A tight arc leads from `tail`, which is visited, to this vertex.
+    fn reach(&mut self, v: Vertex, tail: Vertex) -> Result<(), Memory>
+        requires head { HasVertex self.old.over.roads v }
+        requires tail { HasVertex self.old.over.roads tail }
+        ensures hops { OnOk result (self.new.hops ≡ hops_if (self.old.level + 1) self.old.hops v (label_of self.old.hops v)) }
+        ensures parents { OnOk result (self.new.parents ≡ parents_if (self.old.level + 1) self.old.parents v tail (label_of self.old.hops v)) }
+        ensures next { OnOk result (self.new.next ≡ next_if self.old.next v (label_of self.old.hops v)) }
+        ensures same { OnOk result (IsSameSearch self.old self.new) }
+        ensures size { OnOk result (unreached self.new.hops + length self.new.next ≡ unreached self.old.hops + length self.old.next) }
     {
         let i = v.0 as usize - 1;
-        match self.hops[i].get() {
+        let far = self.far();
+        match self.hops(v) {
             None => {
                 self.next.push(v).map_err(AllocError::from)?;
-                self.hops[i] = NumberSlot::some(k);
+                self.hops[i] = NumberSlot::some(far);
                 self.parents[i] = NumberSlot::some(tail.0);
             }
-            Some(j) if j == k => self.parents[i] = lesser(self.parents[i], tail),
+            Some(k) if k == far => self.parents[i] = lesser(self.parents[i], tail),
             Some(_) => {}
         }
         Ok(())
     }
-}
 
-/// A vertex that is visited.
-#[derive(Clone, Copy)]
-struct Place<V: Copy> {
-    vertex: Vertex,
-    label: Option<V>,
-    /// One more than its own hops.
-    far: u32,
-}
-
-/// Goes along one road, where it leads into the region.
-fn try_road<A: PathAlgebra>(
-    algebra: A,
-    labels: &Labels<A::Value>,
-    region: &Region,
-    tree: &mut BreadthFirst,
-    from: Place<A::Value>,
-    head: Vertex,
-    weight: u32,
-) -> Result<(), Memory>
-    requires head { (1 ≤ head) × (head ≤ length labels.now) }
-    requires count { length tree.old.hops.items ≡ length labels.now }
-    requires parents_count { length tree.old.parents.items ≡ length tree.old.hops.items }
-    requires near { from.far < 4294967295 }
-    requires tail { from.vertex < 4294967295 }
-    ensures count { OnOk result (length tree.new.hops.items ≡ length tree.old.hops.items) }
-    ensures parents_count { OnOk result (length tree.new.parents.items ≡ length tree.old.parents.items) }
-    ensures hops { let passes = cond (in_region region.now head) (is_tight_between (A.meaning algebra) from.label weight (label_of labels.now head)) false in OnOk result (tree.new.hops.items ≡ cond passes (hops_if from.far tree.old.hops.items head (label_of tree.old.hops.items head)) tree.old.hops.items) }
-    ensures parents { let passes = cond (in_region region.now head) (is_tight_between (A.meaning algebra) from.label weight (label_of labels.now head)) false in OnOk result (tree.new.parents.items ≡ cond passes (parents_if from.far tree.old.parents.items head from.vertex (label_of tree.old.hops.items head)) tree.old.parents.items) }
-    ensures next { let passes = cond (in_region region.now head) (is_tight_between (A.meaning algebra) from.label weight (label_of labels.now head)) false in OnOk result (tree.new.next.items ≡ cond passes (next_if tree.old.next.items head (label_of tree.old.hops.items head)) tree.old.next.items) }
-    ensures size { OnOk result (unreached tree.new.hops.items + length tree.new.next.items ≡ unreached tree.old.hops.items + length tree.old.next.items) }
-{
-    if tree.is_near(head, from.far)
-        && region.has(head)
-        && is_tight(algebra, from.label, weight, labels.of(head))
+    /// Goes along a road from `tail`, whose label is `near`, where it is tight and leads into the region.
+    fn try_road(
+        &mut self,
+        tail: Vertex,
+        near: Option<A::Value>,
+        road: OutRoad,
+    ) -> Result<(), Memory>
+        requires tail { HasVertex self.old.over.roads tail }
+        requires head { HasVertex self.old.over.roads road.head }
+        ensures hops { OnOk result (self.new.hops ≡ cond (passes_road (A.meaning self.old.over.algebra) self.old near road.head road.weight) (hops_if (self.old.level + 1) self.old.hops road.head (label_of self.old.hops road.head)) self.old.hops) }
+        ensures parents { OnOk result (self.new.parents ≡ cond (passes_road (A.meaning self.old.over.algebra) self.old near road.head road.weight) (parents_if (self.old.level + 1) self.old.parents road.head tail (label_of self.old.hops road.head)) self.old.parents) }
+        ensures next { OnOk result (self.new.next ≡ cond (passes_road (A.meaning self.old.over.algebra) self.old near road.head road.weight) (next_if self.old.next road.head (label_of self.old.hops road.head)) self.old.next) }
+        ensures same { OnOk result (IsSameSearch self.old self.new) }
+        ensures size { OnOk result (unreached self.new.hops + length self.new.next ≡ unreached self.old.hops + length self.old.next) }
     {
-        tree.reach(head, from.vertex, from.far)
-    } else {
+        if self.is_near(road.head)
+            && self.region.has(road.head)
+            && is_tight(self.algebra, near, road.weight, self.labels.of(road.head))
+        {
+            self.reach(road.head, tail)
+        } else {
+            Ok(())
+        }
+    }
+
+    /// Visits a vertex: goes along the roads that leave it.
+    fn visit(&mut self, v: Vertex) -> Result<(), Memory>
+        requires { HasVertex self.old.over.roads v }
+        ensures visits { OnOk result (VisitsVertex (A.meaning self.old.over.algebra) v self.old self.new) }
+        ensures same { OnOk result (IsSameSearch self.old self.new) }
+        ensures size { OnOk result (unreached self.new.hops + length self.new.next ≡ unreached self.old.hops + length self.old.next) }
+    {
+        let graph = self.graph;
+        let near = self.labels.of(v);
+        for road in graph.roads_from(v) {
+            self.try_road(v, near, *road)?;
+        }
         Ok(())
     }
-}
 
-/// Visits a vertex at k hops: goes along the roads that leave it.
-fn visit<A: PathAlgebra>(
-    algebra: A,
-    graph: &Graph,
-    labels: &Labels<A::Value>,
-    region: &Region,
-    tree: &mut BreadthFirst,
-    v: Vertex,
-    k: u32,
-) -> Result<(), Memory>
-    requires in_graph { HasVertex graph.now v }
-    requires labels { length labels.now ≡ graph.now.vertices }
-    requires count { length tree.old.hops.items ≡ graph.now.vertices }
-    requires parents_count { length tree.old.parents.items ≡ graph.now.vertices }
-    requires few { k ≤ 2 ^ 25 }
-    ensures count { OnOk result (length tree.new.hops.items ≡ graph.now.vertices) }
-    ensures parents_count { OnOk result (length tree.new.parents.items ≡ graph.now.vertices) }
-    ensures goes { OnOk result (Visits graph.now (is_tight_into (A.meaning algebra) graph.now labels.now region.now) k v tree.old.hops.items tree.old.parents.items tree.old.next.items tree.new.hops.items tree.new.parents.items tree.new.next.items) }
-    ensures size { OnOk result (unreached tree.new.hops.items + length tree.new.next.items ≡ unreached tree.old.hops.items + length tree.old.next.items) }
-{
-    let _n = graph.vertices();
-    let from = Place {
-        vertex: v,
-        label: labels.of(v),
-        far: k + 1,
-    };
-    for road in graph.roads_from(v) {
-        try_road(algebra, labels, region, tree, from, road.head, road.weight)?;
+    /// Visits each vertex of a list.
+    fn visit_all(&mut self, list: &[Vertex]) -> Result<(), Memory>
+        requires { All (HasVertex self.old.over.roads) list.now }
+        ensures visits { OnOk result (VisitsAll (A.meaning self.old.over.algebra) list.now self.old self.new) }
+        ensures same { OnOk result (IsSameSearch self.old self.new) }
+        ensures size { OnOk result (unreached self.new.hops + length self.new.next ≡ unreached self.old.hops + length self.old.next) }
+    {
+        for v in list {
+            self.visit(*v)?;
+        }
+        Ok(())
     }
-    Ok(())
-}
 
-/// Visits the vertices at k hops; those with one more are then the next level.
-fn visit_level<A: PathAlgebra>(
-    algebra: A,
-    graph: &Graph,
-    labels: &Labels<A::Value>,
-    region: &Region,
-    tree: &mut BreadthFirst,
-    level: &[Vertex],
-    k: u32,
-) -> Result<(), Memory>
-    requires in_graph { All (HasVertex graph.now) level.now }
-    requires labels { length labels.now ≡ graph.now.vertices }
-    requires count { length tree.old.hops.items ≡ graph.now.vertices }
-    requires parents_count { length tree.old.parents.items ≡ graph.now.vertices }
-    requires next { tree.old.next.items ≡ [] }
-    requires few { k ≤ 2 ^ 25 }
-    ensures goes { OnOk result (VisitsLevel graph.now (is_tight_into (A.meaning algebra) graph.now labels.now region.now) k tree.old.hops.items tree.old.parents.items level.now tree.new.hops.items tree.new.parents.items tree.new.next.items) }
-    ensures size { OnOk result (unreached tree.new.hops.items + length tree.new.next.items ≡ unreached tree.old.hops.items) }
-{
-    let _n = graph.vertices();
-    for v in level {
-        visit(algebra, graph, labels, region, tree, *v, k)?;
+    /// Whether no vertex is left to visit.
+    pub(crate) fn is_done(&self) -> bool
+        ensures { result ≡ eqb (length self.now.next) 0 }
+    {
+        self.next.is_empty()
     }
-    Ok(())
-}
 
-/// The sources are the first level.
-fn mark_sources(tree: &mut BreadthFirst, sources: &[Vertex]) -> Result<(), Memory>
-    requires inside { All (λ s. (1 ≤ s) × (s ≤ length tree.old.hops.items)) sources.now }
-    requires fresh { tree.old.hops.items ≡ replicate (length tree.old.hops.items) None }
-    requires next { tree.old.next.items ≡ [] }
-    ensures marked { OnOk result (IsMarked (length tree.old.hops.items) sources.now sources.now tree.new.hops.items tree.new.next.items) }
-    ensures parents { OnOk result (tree.new.parents.items ≡ tree.old.parents.items) }
-    ensures size { OnOk result (unreached tree.new.hops.items + length tree.new.next.items ≡ unreached tree.old.hops.items) }
-{
-    for s in sources {
-        tree.mark(*s)?;
+    /// Visits the vertices that were found last; those that are found then are the next level.
+    pub(crate) fn visit_level(&mut self, alloc: Global) -> Result<(), Memory>
+        requires waiting { 1 ≤ length self.old.next }
+        ensures visits { OnOk result (VisitsLevel (A.meaning self.old.over.algebra) self.old self.new) }
+        ensures over { OnOk result (self.new.over ≡ self.old.over) }
+        ensures region { OnOk result (self.new.region ≡ self.old.region) }
+        ensures fewer { OnOk result (unreached self.new.hops + length self.new.next < unreached self.old.hops + length self.old.next) }
+    {
+        let level = mem::replace(&mut self.next, Vec::new(alloc));
+        self.visit_all(&level)?;
+        self.level += 1;
+        Ok(())
     }
-    Ok(())
-}
 
-/// Level by level, the least hops and the least parent of each vertex, over the tight arcs that lead into the region.
-pub(crate) fn breadth_first_search<A: PathAlgebra>(
-    alloc: Global,
-    algebra: A,
-    graph: &Graph,
-    labels: &Labels<A::Value>,
-    region: &Region,
-    sources: &[Vertex],
-) -> Result<BreadthFirst, Memory>
-    requires sources { All (HasVertex graph.now) sources.now }
-    requires labels { length labels.now ≡ graph.now.vertices }
-    ensures hops { IfOk result (λ tree. AreLeast graph.now (is_tight_into (A.meaning algebra) graph.now labels.now region.now) sources.now tree.hops.items) }
-    ensures parents { IfOk result (λ tree. AreLeastTails graph.now (is_tight_into (A.meaning algebra) graph.now labels.now region.now) tree.hops.items tree.parents.items) }
-{
-    let mut tree = BreadthFirst::new(alloc, graph.vertices())?;
-    mark_sources(&mut tree, sources)?;
-    let mut k = 0;
-    while !tree.next.is_empty() {
-        let level = mem::replace(&mut tree.next, Vec::new(alloc));
-        visit_level(algebra, graph, labels, region, &mut tree, &level, k)?;
-        k += 1;
+    /// The hops and the parents.
+    pub(crate) fn into_parts(self) -> (Vec<NumberSlot>, Vec<NumberSlot>)
+        ensures hops { result.0.items ≡ self.entry.hops }
+        ensures parents { result.1.items ≡ self.entry.parents }
+    {
+        (self.hops, self.parents)
     }
-    Ok(tree)
 }

@@ -7,7 +7,7 @@ ghost use Rattle.route_tree.specs.Levels.{AreLeast, AreLeastTails};
 ghost use Rattle.route_tree.specs.Regions.{is_tight_into};
 ghost use Rattle.route_tree.specs.Tree.{IsTree};
 
-use crate::breadth_first::breadth_first_search;
+use crate::breadth_first::BreadthFirst;
 use crate::hops_and_parents::Tree;
 use crate::region::Region;
 use path_algebra::{Labels, PathAlgebra, laws_hold};
@@ -29,8 +29,11 @@ pub(crate) fn tree_into<A: PathAlgebra>(
     ensures parents { IfOk result (λ tree. AreLeastTails graph.now (is_tight_into (A.meaning algebra) graph.now labels.now region.now) tree.hops tree.parents) }
 {
     let _n = graph.vertices();
-    let found = breadth_first_search(alloc, algebra, graph, labels, region, sources)?;
-    let (hops, parents) = (found.hops, found.parents);
+    let mut search = BreadthFirst::open(alloc, algebra, graph, labels, region, sources)?;
+    while !search.is_done() {
+        search.visit_level(alloc)?;
+    }
+    let (hops, parents) = search.into_parts();
     Ok(Tree { hops, parents })
 }
 

@@ -1,8 +1,8 @@
 -- Chains of parents.
-use Rattle.std.proofs.Common.{◌≡◌, ℕ, ◌+◌, ◌<◌, ◌≤◌, List, [], ◌∷◌, ◌++◌, length, refl, ap, ◌∙◌, subst, arith, Option, Some, None, reverse}
+use Rattle.std.proofs.Common.{◌≡◌, ℕ, ◌+◌, ◌≤◌, List, [], ◌∷◌, ◌++◌, length, refl, ap, ◌∙◌, subst, Option, Some, None, reverse}
 use Rattle.std.proofs.lemmas.List.{reverse-append}
+use Rattle.road_graph.proofs.Options.{same_some}
 use Rattle.route_tree.specs.Tree.{Branches, hops_of, parent_of, IsLinkedAt, IsLinked, IsChain, IsRoute}
-use Rattle.route_tree.proofs.Elements.{same_some}
 
 -- a list that is being filled from the back: reversed, it leads from `at` to the target
 pub record Climbing (t : Branches) (target at : ℕ) (items : List ℕ) : Type 0 where
@@ -49,9 +49,6 @@ module _ (t : Branches) (is_linked : IsLinked t) (target at : ℕ) (items : List
   pub climb_hops : (u : ℕ) (e : parent_of t at ≡ Some u) → (climb u e).hops + 1 ≡ known.hops
   unfolding climb
   climb_hops u e = let one = (above u e).2.2 in one
-
-  pub climb_lower : (u : ℕ) → parent_of t at ≡ Some u → height (hops_of t u) < height (hops_of t at)
-  climb_lower u e = let a = above u e in let one = a.2.2 in rw (a.2.1, known.at_hops) (omega (arith, one))
 
   pub climbed : parent_of t at ≡ None → IsRoute t target (reverse items)
   climbed e = record {

@@ -1,4 +1,4 @@
--- Trees and routes exist: the levels gone through in thought.
+-- Trees and routes exist: by visiting the levels in thought.
 use Rattle.std.proofs.Common.{add-one, ◌≡◌, ℕ, zero, suc, ◌+◌, ◌-◌, ◌<◌, ◌≤◌, Bool, true, false, cond, List, [], ◌∷◌, ◌++◌, length, get_or, set, replicate, reverse, take, refl, sym, ◌∙◌, subst, arith, Option, Some, None}
 use Rattle.std.proofs.Math.Seq.{take-length}
 use Rattle.std.proofs.lemmas.List.{length-append, get_or_default}
@@ -11,11 +11,11 @@ use Rattle.road_graph.proofs.Numbers.{lists_from}
 use Rattle.path_algebra.specs.Algebra.{Algebra, IsLawful}
 use Rattle.path_algebra.specs.Walks.{AreBest, is_tight, label_of}
 use Rattle.path_algebra.proofs.Walks.{all_inside}
-use Rattle.route_tree.specs.Levels.{AreLeast, AreLeastTails, IsMarked, Spreading, hops_if, parents_if, next_if, is_open, unreached}
+use Rattle.route_tree.specs.Levels.{AreLeast, AreLeastTails, IsMarked, Visiting, hops_if, parents_if, next_if, is_open, unreached}
 use Rattle.route_tree.specs.Tree.{Branches, hops_of, parent_of, IsTree, IsLinked, IsRoute}
-use Rattle.route_tree.proofs.OneArc.{spread_arc}
-use Rattle.route_tree.proofs.OneVertex.{spread_open, spread_level}
-use Rattle.route_tree.proofs.Marking.{marked_start, marked_once, marked_spreads}
+use Rattle.route_tree.proofs.OneArc.{visit_arc}
+use Rattle.route_tree.proofs.OneVertex.{visit_open, visit_level}
+use Rattle.route_tree.proofs.Marking.{marked_start, marked_once, marked_visits}
 use Rattle.route_tree.proofs.LevelsAreLeast.{hops_are_least, parents_are_least}
 use Rattle.route_tree.proofs.Trees.{tree_is}
 use Rattle.route_tree.proofs.Linked.{linked}
@@ -32,16 +32,16 @@ reach_size k v hops next None e lt =
     omega (arith, was, n)
 
 module _ (g : Roads) (roads : IsRoads g) (test : ℕ → Bool) (sources : List ℕ) where
-  -- a tree that has grown, with as many vertices unreached or waiting as before
-  abbrev Grown : ℕ → List ℕ → ℕ → Type 0
-  Grown k pending size = (hops parents : List (Option ℕ)) × (next : List ℕ) × Spreading g test sources k hops parents pending [] next × (unreached hops + length next ≡ size)
+  -- a search that has gone on, with as many vertices unreached or waiting as before
+  abbrev Visited : ℕ → List ℕ → ℕ → Type 0
+  Visited k pending size = (hops parents : List (Option ℕ)) × (next : List ℕ) × Visiting g test sources k hops parents pending [] next × (unreached hops + length next ≡ size)
 
   step_size : (k v : ℕ) (b : Bool) (hops : List (Option ℕ)) (next : List ℕ) → v - 1 < length hops →
       unreached (cond b (hops_if k hops v (label_of hops v)) hops) + length (cond b (next_if next v (label_of hops v)) next) ≡ unreached hops + length next
   step_size k v true hops next lt = reach_size k v hops next (label_of hops v) refl lt
   step_size k v false hops next lt = refl
 
-  through_arcs : (k : ℕ) (pending arcs : List ℕ) (hops parents : List (Option ℕ)) (next : List ℕ) → Spreading g test sources k hops parents pending arcs next → Grown k pending (unreached hops + length next)
+  through_arcs : (k : ℕ) (pending arcs : List ℕ) (hops parents : List (Option ℕ)) (next : List ℕ) → Visiting g test sources k hops parents pending arcs next → Visited k pending (unreached hops + length next)
   through_arcs k pending [] hops parents next known = (hops, parents, next, known, refl)
   through_arcs k pending (a ∷ arcs) hops parents next known =
       let head = (arc_of g a).head in
@@ -49,25 +49,25 @@ module _ (g : Roads) (roads : IsRoads g) (test : ℕ → Bool) (sources : List �
       let in_head = (roads.ends a this).1 in
       let size = step_size (k + 1) (arc_of g a).head (test a) hops next (omega (arith, in_head.0, in_head.1, known.count)) in
       let rest = through_arcs k pending arcs (cond (test a) (hops_if (k + 1) hops head (label_of hops head)) hops) (cond (test a) (parents_if (k + 1) parents head (arc_of g a).tail (label_of hops head)) parents)
-      (cond (test a) (next_if next head (label_of hops head)) next) (spread_arc g roads test sources k hops parents pending next arcs a known (test a) refl (label_of hops head) refl) in
+      (cond (test a) (next_if next head (label_of hops head)) next) (visit_arc g roads test sources k hops parents pending next arcs a known (test a) refl (label_of hops head) refl) in
       (rest.0, rest.1, rest.2, rest.3, rest.4 ∙ size)
 
-  through_level : (k : ℕ) (pending : List ℕ) (hops parents : List (Option ℕ)) (next : List ℕ) → Spreading g test sources k hops parents pending [] next → Grown k [] (unreached hops + length next)
+  through_level : (k : ℕ) (pending : List ℕ) (hops parents : List (Option ℕ)) (next : List ℕ) → Visiting g test sources k hops parents pending [] next → Visited k [] (unreached hops + length next)
   through_level k [] hops parents next known = (hops, parents, next, known, refl)
   through_level k (v ∷ pending) hops parents next known =
       let arcs = numbers_at Tail v 0 g.arcs in
-      let one = through_arcs k pending arcs hops parents next (spread_open g roads test sources k hops parents v pending next arcs (lists_from g v) known) in
+      let one = through_arcs k pending arcs hops parents next (visit_open g test sources k hops parents v pending next arcs (lists_from g v) known) in
       let rest = through_level k pending one.0 one.1 one.2 one.3 in
       (rest.0, rest.1, rest.2, rest.3, rest.4 ∙ one.4)
 
-  through_all : (n k : ℕ) (hops parents : List (Option ℕ)) (level : List ℕ) → Spreading g test sources k hops parents level [] [] → unreached hops + length level ≤ n →
+  through_all : (n k : ℕ) (hops parents : List (Option ℕ)) (level : List ℕ) → Visiting g test sources k hops parents level [] [] → unreached hops + length level ≤ n →
       (least parent : List (Option ℕ)) × AreLeast g test sources least × AreLeastTails g test least parent
   through_all n k hops parents [] known le = (hops, parents, hops_are_least g test sources k hops parents known, parents_are_least g test sources k hops parents known)
   through_all zero k hops parents (v ∷ level) known le = absurd (omega (arith, le))
   through_all (suc n) k hops parents (v ∷ level) known le =
       let next = through_level k (v ∷ level) hops parents [] known in
       let size = next.4 in
-      through_all n (k + 1) next.0 next.1 next.2 (spread_level g roads test sources k next.0 next.1 next.2 next.3) (omega (arith, le, size))
+      through_all n (k + 1) next.0 next.1 next.2 (visit_level g test sources k next.0 next.1 next.2 next.3) (omega (arith, le, size))
 
   marked_upto : (i : ℕ) → i ≤ length sources → All (HasVertex g) sources → (hops : List (Option ℕ)) × (level : List ℕ) × IsMarked g.vertices sources (take i sources) hops level
   marked_upto zero le inside = (replicate g.vertices None, [], marked_start g.vertices sources)
@@ -86,7 +86,7 @@ module _ (g : Roads) (roads : IsRoads g) (test : ℕ → Bool) (sources : List �
   least_exist inside =
       let first = marked_upto (length sources) (omega arith) inside in
       let marked = subst (λ (done : List ℕ). IsMarked g.vertices sources done first.0 first.1) (take-length sources) first.2 in
-      through_all (unreached first.0 + length first.1) 0 first.0 (replicate g.vertices None) first.1 (marked_spreads g roads test sources first.0 first.1 inside marked) (omega arith)
+      through_all (unreached first.0 + length first.1) 0 first.0 (replicate g.vertices None) first.1 (marked_visits g roads test sources first.0 first.1 inside marked) (omega arith)
 
 module _ (t : Branches) (linked : IsLinked t) (target : ℕ) where
   climb_on : (n at : ℕ) (items : List ℕ) (known : Climbing t target at items) → known.hops ≤ n → (l : Option ℕ) → parent_of t at ≡ l → (list : List ℕ) × IsRoute t target list

@@ -1,13 +1,14 @@
 -- When no level is left, hops are least and parents are least.
-use Rattle.std.proofs.Common.{◌≡◌, ℕ, ◌+◌, ◌≤◌, inl, inr, Bool, true, List, [], ◌∷◌, ◌++◌, length, refl, ap, sym, ◌∙◌, arith, Option, Some, None}
-use Rattle.std.proofs.lemmas.List.{length-append}
+use Rattle.std.proofs.Common.{◌≡◌, ℕ, ◌+◌, ◌≤◌, inl, inr, Bool, true, eqb, eqb-true, List, [], ◌∷◌, ◌++◌, length, refl, ap, sym, ◌∙◌, arith, Option, Some, None}
+use Rattle.std.proofs.lemmas.List.{length-append, nil_from_length}
 use Rattle.std.proofs.lemmas.List.Elements.{All-nil, All-cons, All-head, All-tail, All-append}
 use Rattle.std.specs.Prelude.{IsTrue, Contains, All}
 use Rattle.road_graph.specs.Roads.{Roads, HasArc, HasVertex, arc_of}
+use Rattle.road_graph.proofs.Lists.{not_in_empty}
+use Rattle.road_graph.proofs.Options.{same_some}
 use Rattle.path_algebra.specs.Walks.{IsWalk, label_of}
 use Rattle.path_algebra.proofs.Walks.{IsWalk-snoc}
-use Rattle.route_tree.specs.Levels.{IsWalkOf, IsLeastAt, AreLeast, Leads, IsLeastTail, AreLeastTails, IsPassed, Spreading}
-use Rattle.route_tree.proofs.Elements.{not_in_empty, same_some}
+use Rattle.route_tree.specs.Levels.{IsWalkOf, IsLeastAt, AreLeast, IsTreeArc, IsLeastTail, AreLeastTails, IsPassed, Visiting}
 
 module _ (g : Roads) (test : ℕ → Bool) (sources : List ℕ) where
   -- a walk goes on by an arc that passes
@@ -25,7 +26,7 @@ module _ (g : Roads) (test : ℕ → Bool) (sources : List ℕ) where
   pub IsWalkOf-nil : (s : ℕ) → Contains sources s → IsWalkOf g test sources s 0
   IsWalkOf-nil s h = ([], (s, h, refl), All-nil (λ a. IsTrue (test a)), refl)
 
-  module _ (k : ℕ) (hops parents : List (Option ℕ)) (known : Spreading g test sources k hops parents [] [] []) where
+  module _ (k : ℕ) (hops parents : List (Option ℕ)) (known : Visiting g test sources k hops parents [] [] []) where
     passed : (a j : ℕ) → HasArc g a → test a ≡ true → label_of hops (arc_of g a).tail ≡ Some j → IsPassed g hops parents a (j + 1)
     passed a j h t e = elim (known.closed a j h t e) [
       | inl none ↦ absurd (not_in_empty a none)
@@ -63,7 +64,7 @@ module _ (g : Roads) (test : ℕ → Bool) (sources : List ℕ) where
     hops_are_least = record { count = known.count; least = λ v in_v. least_at v in_v (label_of hops v) refl }
 
     -- the head of an arc of the tree has a parent that is no greater than the arc's tail
-    adopted_by : (a : ℕ) → Leads g test hops a → (u : ℕ) × (label_of parents (arc_of g a).head ≡ Some u) × (u ≤ (arc_of g a).tail)
+    adopted_by : (a : ℕ) → IsTreeArc g test hops a → (u : ℕ) × (label_of parents (arc_of g a).head ≡ Some u) × (u ≤ (arc_of g a).tail)
     adopted_by a l =
         let p = passed a l.near l.arc l.passes l.at_tail in
         p.parent (same_some (label_of hops (arc_of g a).head) p.far (l.near + 1) p.at_head l.at_head)
@@ -83,3 +84,10 @@ module _ (g : Roads) (test : ℕ → Bool) (sources : List ℕ) where
 
     pub parents_are_least : AreLeastTails g test hops parents
     parents_are_least = record { count = known.parents_count; tails = λ v in_v. least_tail_at v in_v (label_of parents v) refl }
+
+  -- a search that has no vertex left to visit is over
+  pub search_ends : (k : ℕ) (hops parents : List (Option ℕ)) (next : List ℕ) → eqb (length next) 0 ≡ true → Visiting g test sources k hops parents next [] [] →
+      AreLeast g test sources hops × AreLeastTails g test hops parents
+  search_ends k hops parents next empty known =
+      let last : Visiting g test sources k hops parents [] [] [] = rw (nil_from_length next (eqb-true (length next) 0 empty)) at known in
+      (hops_are_least k hops parents last, parents_are_least k hops parents last)

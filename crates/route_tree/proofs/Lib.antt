@@ -8,5 +8,5 @@ pub mod Trees
 pub mod Chains
 pub mod Told
 pub mod Existing
-pub mod GoingBack
+pub mod VisitingBack
 pub mod RegionTrees

@@ -3,10 +3,10 @@ use Rattle.std.proofs.Common.{◌≡◌, ℕ, ◌+◌, ◌≤◌, ◌⊎◌, inl
 use Rattle.std.proofs.lemmas.List.Elements.{All-nil, All-cons, All-head, All-tail}
 use Rattle.std.specs.Prelude.{IsTrue, Contains, All}
 use Rattle.road_graph.specs.Roads.{Roads, IsRoads, HasArc, HasVertex, arc_of}
+use Rattle.road_graph.proofs.Options.{same_some}
 use Rattle.path_algebra.specs.Walks.{IsWalk, label_of}
 use Rattle.route_tree.specs.Levels.{IsWalkOf, IsLeastAt, AreLeast, IsLeastTail, AreLeastTails}
 use Rattle.route_tree.specs.Tree.{IsLinkedAt, IsLinked}
-use Rattle.route_tree.proofs.Elements.{same_some}
 use Rattle.route_tree.proofs.LevelsAreLeast.{IsWalkOf-snoc, IsWalkOf-nil}
 
 module _ (g : Roads) (roads : IsRoads g) (test : ℕ → Bool) (sources : List ℕ) where

@@ -1,12 +1,13 @@
--- One arc of a vertex that is gone through.
+-- One arc of a vertex that is visited.
 use Rattle.std.proofs.Common.{◌≡◌, ℕ, ◌+◌, ◌-◌, ◌<◌, ◌≤◌, ◌⊎◌, inl, inr, Bool, true, false, cond, eqb, leb, eqb-true, eq-eqb, leb-true, le-leb, List, [], ◌∷◌, ◌++◌, length, set, refl, ap, sym, ◌∙◌, subst, arith, Option, Some, None, get_or-set_same, get_or-set_other, length-set}
 use Rattle.std.proofs.lemmas.Bool.{cases_eq}
 use Rattle.std.proofs.lemmas.List.Elements.{Contains-append_left, Contains-append_right, Contains-append_cases}
 use Rattle.std.specs.Prelude.{Contains}
 use Rattle.road_graph.specs.Roads.{Roads, IsRoads, HasArc, HasVertex, arc_of}
+use Rattle.road_graph.proofs.Lists.{not_in_empty, head_or_tail, here, later}
+use Rattle.road_graph.proofs.Options.{same_some}
 use Rattle.path_algebra.specs.Walks.{label_of}
-use Rattle.route_tree.specs.Levels.{IsWalkOf, Leads, lesser, hops_if, parents_if, next_if, IsPassed, Spreading}
-use Rattle.route_tree.proofs.Elements.{not_in_empty, head_or_tail, here, later, same_some}
+use Rattle.route_tree.specs.Levels.{IsWalkOf, IsTreeArc, lesser, hops_if, parents_if, next_if, IsPassed, Visiting}
 use Rattle.route_tree.proofs.LevelsAreLeast.{IsWalkOf-snoc}
 
 -- what the lesser of two parents is
@@ -24,7 +25,7 @@ lesser_is (Some s) t = elim (leb s t) as (λ b. leb s t ≡ b → (u : ℕ) × (
         either x y = grind arith
 
 module _ (g : Roads) (roads : IsRoads g) (test : ℕ → Bool) (sources : List ℕ) (k : ℕ) (hops parents : List (Option ℕ))
-    (pending next rest : List ℕ) (a : ℕ) (known : Spreading g test sources k hops parents pending (a ∷ rest) next) where
+    (pending next rest : List ℕ) (a : ℕ) (known : Visiting g test sources k hops parents pending (a ∷ rest) next) where
   this : HasArc g a × (label_of hops (arc_of g a).tail ≡ Some k)
   this = known.arcs_at a (here a rest)
 
@@ -35,8 +36,8 @@ module _ (g : Roads) (roads : IsRoads g) (test : ℕ → Bool) (sources : List �
   head_in = (roads.ends a this.0).1
 
   -- an arc that does not pass, or whose head is settled, is dropped
-  pub spread_drop : (test a ≡ true → IsPassed g hops parents a (k + 1)) → Spreading g test sources k hops parents pending rest next
-  spread_drop passed = record {
+  pub visit_drop : (test a ≡ true → IsPassed g hops parents a (k + 1)) → Visiting g test sources k hops parents pending rest next
+  visit_drop passed = record {
     count = known.count;
     parents_count = known.parents_count;
     attained = known.attained;
@@ -94,8 +95,8 @@ module _ (g : Roads) (roads : IsRoads g) (test : ℕ → Bool) (sources : List �
       | inr other ↦ inl (sym (elsewhere hops (Some (k + 1)) v in_v other) ∙ e)
     ]
 
-    kept_lead : (b : ℕ) → Leads g test hops b → Leads g test after b
-    kept_lead b l = record {
+    kept_tree_arc : (b : ℕ) → IsTreeArc g test hops b → IsTreeArc g test after b
+    kept_tree_arc b l = record {
       arc = l.arc;
       passes = l.passes;
       near = l.near;
@@ -122,14 +123,14 @@ module _ (g : Roads) (roads : IsRoads g) (test : ℕ → Bool) (sources : List �
       parent = λ _. ((arc_of g a).tail, parent_at_head, omega arith);
     }
 
-    adopted_after : (v u : ℕ) → HasVertex g v → label_of adopting v ≡ Some u → (b : ℕ) × Leads g test after b × ((arc_of g b).head ≡ v) × ((arc_of g b).tail ≡ u)
+    adopted_after : (v u : ℕ) → HasVertex g v → label_of adopting v ≡ Some u → (b : ℕ) × IsTreeArc g test after b × ((arc_of g b).head ≡ v) × ((arc_of g b).tail ≡ u)
     adopted_after v u in_v e = elim (cases_eq v (arc_of g a).head) [
       | inl same ↦
           let is : (arc_of g a).tail ≡ u = same_some (label_of adopting v) (arc_of g a).tail u (ap (label_of adopting) same ∙ parent_at_head) e in
           (a, record { arc = this.0; passes = t; near = k; at_tail = kept (arc_of g a).tail k tail_in this.1; at_head = at_head }, sym same, is)
       | inr other ↦
           let f = known.adopted v u in_v (sym (elsewhere parents (Some (arc_of g a).tail) v in_v other) ∙ e) in
-          (f.0, kept_lead f.0 f.1, f.2, f.3)
+          (f.0, kept_tree_arc f.0 f.1, f.2, f.3)
     ]
 
     closed_after : (b j : ℕ) → HasArc g b → test b ≡ true → label_of after (arc_of g b).tail ≡ Some j →
@@ -155,8 +156,8 @@ module _ (g : Roads) (roads : IsRoads g) (test : ℕ → Bool) (sources : List �
           (subst (λ (u : ℕ). Contains ((arc_of g a).head ∷ []) u) (sym new.0) (here (arc_of g a).head [])))))
     ]
 
-    pub spread_new : Spreading g test sources k after adopting pending rest (next ++ (arc_of g a).head ∷ [])
-    spread_new = record {
+    pub visit_new : Visiting g test sources k after adopting pending rest (next ++ (arc_of g a).head ∷ [])
+    visit_new = record {
       count = simp length-set known.count;
       parents_count = simp length-set known.parents_count;
       attained = λ v j in_v e. elim (old_or_new v j in_v e) [
@@ -221,7 +222,7 @@ module _ (g : Roads) (roads : IsRoads g) (test : ℕ → Bool) (sources : List �
         let m = lesser_is (label_of parents (arc_of g a).head) (arc_of g a).tail in
         record { far = k + 1; at_head = far; few = omega arith; parent = λ _. (m.0, best_at_head ∙ m.1, m.2) }
 
-    adopted_better : (v u : ℕ) → HasVertex g v → label_of best v ≡ Some u → (b : ℕ) × Leads g test hops b × ((arc_of g b).head ≡ v) × ((arc_of g b).tail ≡ u)
+    adopted_better : (v u : ℕ) → HasVertex g v → label_of best v ≡ Some u → (b : ℕ) × IsTreeArc g test hops b × ((arc_of g b).head ≡ v) × ((arc_of g b).tail ≡ u)
     adopted_better v u in_v e = elim (cases_eq v (arc_of g a).head) [
       | inl same ↦
           let m = lesser_is (label_of parents (arc_of g a).head) (arc_of g a).tail in
@@ -233,8 +234,8 @@ module _ (g : Roads) (roads : IsRoads g) (test : ℕ → Bool) (sources : List �
       | inr other ↦ known.adopted v u in_v (sym (best_elsewhere v in_v other) ∙ e)
     ]
 
-    pub spread_better : Spreading g test sources k hops best pending rest next
-    spread_better = record {
+    pub visit_better : Visiting g test sources k hops best pending rest next
+    visit_better = record {
       count = known.count;
       parents_count = simp length-set known.parents_count;
       attained = known.attained;
@@ -272,13 +273,13 @@ module _ (g : Roads) (roads : IsRoads g) (test : ℕ → Bool) (sources : List �
   }
 
   reached_before : (i : ℕ) → label_of hops (arc_of g a).head ≡ Some i → test a ≡ true → (b : Bool) → eqb i (k + 1) ≡ b →
-      Spreading g test sources k hops (cond b (set parents ((arc_of g a).head - 1) (lesser (label_of parents (arc_of g a).head) (arc_of g a).tail)) parents) pending rest next
-  reached_before i e t true q = spread_better t (e ∙ ap (λ (x : ℕ). Some x) (eqb-true i (k + 1) q))
-  reached_before i e t false q = spread_drop (λ _. settled i e (λ same. let bad : true ≡ false = sym (eq-eqb i (k + 1) same) ∙ q in cc))
+      Visiting g test sources k hops (cond b (set parents ((arc_of g a).head - 1) (lesser (label_of parents (arc_of g a).head) (arc_of g a).tail)) parents) pending rest next
+  reached_before i e t true q = visit_better t (e ∙ ap (λ (x : ℕ). Some x) (eqb-true i (k + 1) q))
+  reached_before i e t false q = visit_drop (λ _. settled i e (λ same. let bad : true ≡ false = sym (eq-eqb i (k + 1) same) ∙ q in cc))
 
-  pub spread_arc : (b : Bool) → test a ≡ b → (l : Option ℕ) → label_of hops (arc_of g a).head ≡ l →
-      Spreading g test sources k (cond b (hops_if (k + 1) hops (arc_of g a).head l) hops) (cond b (parents_if (k + 1) parents (arc_of g a).head (arc_of g a).tail l) parents)
+  pub visit_arc : (b : Bool) → test a ≡ b → (l : Option ℕ) → label_of hops (arc_of g a).head ≡ l →
+      Visiting g test sources k (cond b (hops_if (k + 1) hops (arc_of g a).head l) hops) (cond b (parents_if (k + 1) parents (arc_of g a).head (arc_of g a).tail l) parents)
       pending rest (cond b (next_if next (arc_of g a).head l) next)
-  spread_arc false t l e = spread_drop (λ t'. let bad : true ≡ false = sym t' ∙ t in cc)
-  spread_arc true t None e = spread_new t e
-  spread_arc true t (Some i) e = reached_before i e t (eqb i (k + 1)) refl
+  visit_arc false t l e = visit_drop (λ t'. let bad : true ≡ false = sym t' ∙ t in cc)
+  visit_arc true t None e = visit_new t e
+  visit_arc true t (Some i) e = reached_before i e t (eqb i (k + 1)) refl

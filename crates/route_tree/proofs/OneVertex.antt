@@ -1,15 +1,15 @@
--- One vertex that is gone through, and one level.
+-- One vertex that is visited, and one level.
 use Rattle.std.proofs.Common.{drop, drop-cons, add-one, ◌≡◌, ℕ, suc, ◌+◌, ◌<◌, ◌≤◌, inl, inr, Bool, false, cond, List, [], ◌∷◌, length, get_or, refl, ap, sym, ◌∙◌, arith, Option}
 use Rattle.std.proofs.Math.ListN.{drop_of_length-le}
 use Rattle.std.proofs.lemmas.List.{get_or-map, length-map, get_or_default}
 use Rattle.road_graph.specs.Roads.{Roads, IsRoads, HasArc, arc_of, ListsArcsFrom, road_of, roads_of}
 use Rattle.road_graph.specs.declared.OutRoad.{OutRoad}
+use Rattle.road_graph.proofs.Lists.{not_in_empty, head_or_tail, here, later}
 use Rattle.path_algebra.specs.Algebra.{Algebra}
 use Rattle.path_algebra.specs.Walks.{label_of, is_tight_between}
-use Rattle.route_tree.specs.Levels.{hops_if, parents_if, next_if, Spreading, GoesThrough}
+use Rattle.route_tree.specs.Levels.{hops_if, parents_if, next_if, Visiting}
 use Rattle.route_tree.specs.Regions.{in_region, is_tight_into}
-use Rattle.route_tree.proofs.Elements.{not_in_empty, head_or_tail, here, later}
-use Rattle.route_tree.proofs.OneArc.{spread_arc}
+use Rattle.route_tree.proofs.OneArc.{visit_arc}
 
 module _ (g : Roads) (v : ℕ) (numbers : List ℕ) (lists : ListsArcsFrom g v numbers) (out : List OutRoad) (are : out ≡ roads_of g numbers) where
   pub same_length : length out ≡ length numbers
@@ -28,11 +28,11 @@ pub is_tight_by_road : {V : Type 0} (A : Algebra V) (g : Roads) (labels : List (
     is_tight_into A g labels region a ≡ cond (in_region region r.head) (is_tight_between A l r.weight (label_of labels r.head)) false
 is_tight_by_road A g labels region a v r l leaves is e = rw (is, leaves, e) refl
 
-module _ (g : Roads) (roads : IsRoads g) (test : ℕ → Bool) (sources : List ℕ) (k : ℕ) (hops parents : List (Option ℕ)) where
+module _ (g : Roads) (test : ℕ → Bool) (sources : List ℕ) (k : ℕ) (hops parents : List (Option ℕ)) where
   -- the first vertex that waits gives way to its arcs
-  pub spread_open : (v : ℕ) (pending next out : List ℕ) → ListsArcsFrom g v out → Spreading g test sources k hops parents (v ∷ pending) [] next →
-      Spreading g test sources k hops parents pending out next
-  spread_open v pending next out lists known = record {
+  pub visit_open : (v : ℕ) (pending next out : List ℕ) → ListsArcsFrom g v out → Visiting g test sources k hops parents (v ∷ pending) [] next →
+      Visiting g test sources k hops parents pending out next
+  visit_open v pending next out lists known = record {
     count = known.count;
     parents_count = known.parents_count;
     attained = known.attained;
@@ -51,32 +51,12 @@ module _ (g : Roads) (roads : IsRoads g) (test : ℕ → Bool) (sources : List �
     ];
   }
 
-  -- the arc at place i of a row; `passes` tells whether it passes the test
-  spread_once : (v : ℕ) (pending next numbers : List ℕ) (i a : ℕ) (passes : Bool) → i < length numbers → a ≡ get_or numbers i a → (arc_of g a).tail ≡ v → test a ≡ passes →
-      Spreading g test sources k hops parents pending (drop i numbers) next →
-      Spreading g test sources k (cond passes (hops_if (k + 1) hops (arc_of g a).head (label_of hops (arc_of g a).head)) hops)
-      (cond passes (parents_if (k + 1) parents (arc_of g a).head v (label_of hops (arc_of g a).head)) parents)
-      pending (drop (i + 1) numbers) (cond passes (next_if next (arc_of g a).head (label_of hops (arc_of g a).head)) next)
-  spread_once v pending next numbers i a passes lt is leaves t known =
-      let cut : drop i numbers ≡ a ∷ drop (i + 1) numbers = rw add-one (drop-cons numbers i a lt ∙ ap (λ (b : ℕ). b ∷ drop (suc i) numbers) (sym is)) in
-      rw (← leaves) (spread_arc g roads test sources k hops parents pending next (drop (i + 1) numbers) a (rw cut at known) passes t (label_of hops (arc_of g a).head) refl)
-
-  -- the road at place i
-  pub spread_road : (v : ℕ) (pending next numbers : List ℕ) (i : ℕ) (r : OutRoad) (passes : Bool) (hops' parents' : List (Option ℕ)) (next' : List ℕ) → i < length numbers →
-      (arc_of g (get_or numbers i 0)).tail ≡ v → r ≡ road_of (arc_of g (get_or numbers i 0)) → test (get_or numbers i 0) ≡ passes →
-      hops' ≡ cond passes (hops_if (k + 1) hops r.head (label_of hops r.head)) hops →
-      parents' ≡ cond passes (parents_if (k + 1) parents r.head v (label_of hops r.head)) parents →
-      next' ≡ cond passes (next_if next r.head (label_of hops r.head)) next →
-      Spreading g test sources k hops parents pending (drop i numbers) next → Spreading g test sources k hops' parents' pending (drop (i + 1) numbers) next'
-  spread_road v pending next numbers i r passes hops' parents' next' lt leaves is t e f n known =
-      rw (e, f, n, is) (spread_once v pending next numbers i (get_or numbers i 0) passes lt (sym (get_or_default numbers i (get_or numbers i 0) 0 lt)) leaves t known)
-
-  pub arcs_done : (pending next out : List ℕ) (i : ℕ) → length out ≤ i → Spreading g test sources k hops parents pending (drop i out) next → Spreading g test sources k hops parents pending [] next
+  pub arcs_done : (pending next out : List ℕ) (i : ℕ) → length out ≤ i → Visiting g test sources k hops parents pending (drop i out) next → Visiting g test sources k hops parents pending [] next
   arcs_done pending next out i h known = rw (drop_of_length-le out h) at known
 
   -- the next level's turn
-  pub spread_level : (next : List ℕ) → Spreading g test sources k hops parents [] [] next → Spreading g test sources (k + 1) hops parents next [] []
-  spread_level next known = record {
+  pub visit_level : (next : List ℕ) → Visiting g test sources k hops parents [] [] next → Visiting g test sources (k + 1) hops parents next [] []
+  visit_level next known = record {
     count = known.count;
     parents_count = known.parents_count;
     attained = known.attained;
@@ -92,12 +72,33 @@ module _ (g : Roads) (roads : IsRoads g) (test : ℕ → Bool) (sources : List �
     ];
   }
 
-  pub level_done : (level next : List ℕ) (i : ℕ) → length level ≤ i → Spreading g test sources k hops parents (drop i level) [] next → Spreading g test sources (k + 1) hops parents next [] []
-  level_done level next i h known = spread_level next (rw (drop_of_length-le level h) at known)
+  pub level_done : (level next : List ℕ) (i : ℕ) → length level ≤ i → Visiting g test sources k hops parents (drop i level) [] next → Visiting g test sources k hops parents [] [] next
+  level_done level next i h known = rw (drop_of_length-le level h) at known
 
   -- the vertex at place i of a level
   pub level_once : (level next : List ℕ) (i v : ℕ) (hops' parents' : List (Option ℕ)) (next' : List ℕ) → i < length level → v ≡ get_or level i v →
-      GoesThrough g test k v hops parents next hops' parents' next' → Spreading g test sources k hops parents (drop i level) [] next → Spreading g test sources k hops' parents' (drop (i + 1) level) [] next'
+      ((pending : List ℕ) → Visiting g test sources k hops parents (v ∷ pending) [] next → Visiting g test sources k hops' parents' pending [] next') → Visiting g test sources k hops parents (drop i level) [] next → Visiting g test sources k hops' parents' (drop (i + 1) level) [] next'
   level_once level next i v hops' parents' next' lt is goes known =
       let cut : drop i level ≡ v ∷ drop (i + 1) level = rw add-one (drop-cons level i v lt ∙ ap (λ (b : ℕ). b ∷ drop (suc i) level) (sym is)) in
-      goes sources (drop (i + 1) level) (rw cut at known)
+      goes (drop (i + 1) level) (rw cut at known)
+
+module _ (g : Roads) (roads : IsRoads g) (test : ℕ → Bool) (sources : List ℕ) (k : ℕ) (hops parents : List (Option ℕ)) where
+  -- the arc at place i of a row; `passes` tells whether it passes the test
+  visit_once : (v : ℕ) (pending next numbers : List ℕ) (i a : ℕ) (passes : Bool) → i < length numbers → a ≡ get_or numbers i a → (arc_of g a).tail ≡ v → test a ≡ passes →
+      Visiting g test sources k hops parents pending (drop i numbers) next →
+      Visiting g test sources k (cond passes (hops_if (k + 1) hops (arc_of g a).head (label_of hops (arc_of g a).head)) hops)
+      (cond passes (parents_if (k + 1) parents (arc_of g a).head v (label_of hops (arc_of g a).head)) parents)
+      pending (drop (i + 1) numbers) (cond passes (next_if next (arc_of g a).head (label_of hops (arc_of g a).head)) next)
+  visit_once v pending next numbers i a passes lt is leaves t known =
+      let cut : drop i numbers ≡ a ∷ drop (i + 1) numbers = rw add-one (drop-cons numbers i a lt ∙ ap (λ (b : ℕ). b ∷ drop (suc i) numbers) (sym is)) in
+      rw (← leaves) (visit_arc g roads test sources k hops parents pending next (drop (i + 1) numbers) a (rw cut at known) passes t (label_of hops (arc_of g a).head) refl)
+
+  -- the road at place i
+  pub visit_road : (v : ℕ) (pending next numbers : List ℕ) (i : ℕ) (r : OutRoad) (passes : Bool) (hops' parents' : List (Option ℕ)) (next' : List ℕ) → i < length numbers →
+      (arc_of g (get_or numbers i 0)).tail ≡ v → r ≡ road_of (arc_of g (get_or numbers i 0)) → test (get_or numbers i 0) ≡ passes →
+      hops' ≡ cond passes (hops_if (k + 1) hops r.head (label_of hops r.head)) hops →
+      parents' ≡ cond passes (parents_if (k + 1) parents r.head v (label_of hops r.head)) parents →
+      next' ≡ cond passes (next_if next r.head (label_of hops r.head)) next →
+      Visiting g test sources k hops parents pending (drop i numbers) next → Visiting g test sources k hops' parents' pending (drop (i + 1) numbers) next'
+  visit_road v pending next numbers i r passes hops' parents' next' lt leaves is t e f n known =
+      rw (e, f, n, is) (visit_once v pending next numbers i (get_or numbers i 0) passes lt (sym (get_or_default numbers i (get_or numbers i 0) 0 lt)) leaves t known)

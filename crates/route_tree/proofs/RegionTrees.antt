@@ -3,14 +3,14 @@ use Rattle.std.proofs.Common.{◌≡◌, ℕ, ◌+◌, ◌≤◌, Bool, true, fa
 use Rattle.std.proofs.lemmas.List.Elements.{All-nil, All-cons, All-head, All-tail}
 use Rattle.std.specs.Prelude.{IsTrue, Contains, All}
 use Rattle.road_graph.specs.Roads.{Roads, IsRoads, HasVertex, arc_of}
+use Rattle.road_graph.proofs.Options.{same_some}
 use Rattle.path_algebra.specs.Algebra.{Algebra, IsLawful}
 use Rattle.path_algebra.specs.Walks.{IsWalk, AreBest, AreHops, IsUnreached, label_of, is_marked, is_tight}
-use Rattle.route_tree.specs.Levels.{IsWalkOf, AreLeast, Leads, IsLeastTail, AreLeastTails}
+use Rattle.route_tree.specs.Levels.{IsWalkOf, AreLeast, IsTreeArc, IsLeastTail, AreLeastTails}
 use Rattle.route_tree.specs.Regions.{IsWithin, Covers}
 use Rattle.route_tree.specs.Told.{IsParentRoute}
 use Rattle.route_tree.specs.Tree.{AreHopsAt, IsChain, IsRoute}
-use Rattle.route_tree.proofs.GoingBack.{within_back}
-use Rattle.route_tree.proofs.Elements.{same_some}
+use Rattle.route_tree.proofs.VisitingBack.{within_back}
 use Rattle.route_tree.proofs.Existing.{least_exist}
 use Rattle.route_tree.proofs.LevelsAreLeast.{IsWalkOf-snoc}
 use Rattle.route_tree.proofs.Linked.{hops_at, walk_has_hops, tail_at}
@@ -72,9 +72,9 @@ module _ (g : Roads) (roads : IsRoads g) (test : ℕ → Bool) (source target : 
           found.1 ∙ ap (λ (m : ℕ). Some m) same
 
       -- an arc of the held tree is one of the whole tree
-      whole_lead : (v i j a : ℕ) → HasVertex g v → label_of hops v ≡ Some i → IsWithin g test target j v → i + j ≤ far → Leads g (into g test marks) near a → (arc_of g a).head ≡ v →
-          Leads g test hops a × ((m : ℕ) × (label_of hops (arc_of g a).tail ≡ Some m) × (m + 1 ≡ i))
-      whole_lead v i j a in_v e within le l head =
+      whole_tree_arc : (v i j a : ℕ) → HasVertex g v → label_of hops v ≡ Some i → IsWithin g test target j v → i + j ≤ far → IsTreeArc g (into g test marks) near a → (arc_of g a).head ≡ v →
+          IsTreeArc g test hops a × ((m : ℕ) × (label_of hops (arc_of g a).tail ≡ Some m) × (m + 1 ≡ i))
+      whole_tree_arc v i j a in_v e within le l head =
           let in_tail = (roads.ends a l.arc).0 in
           let t = passes_test a l.passes in
           let at_v = same_hops v i j in_v e within le in
@@ -91,9 +91,9 @@ module _ (g : Roads) (roads : IsRoads g) (test : ℕ → Bool) (source target : 
           )
 
       -- an arc of the whole tree on a least walk to the target is one of the held tree
-      held_lead : (v i j a : ℕ) → HasVertex g v → label_of hops v ≡ Some i → IsWithin g test target j v → i + j ≤ far → Leads g test hops a → (arc_of g a).head ≡ v →
-          Leads g (into g test marks) near a
-      held_lead v i j a in_v e within le l head =
+      held_tree_arc : (v i j a : ℕ) → HasVertex g v → label_of hops v ≡ Some i → IsWithin g test target j v → i + j ≤ far → IsTreeArc g test hops a → (arc_of g a).head ≡ v →
+          IsTreeArc g (into g test marks) near a
+      held_tree_arc v i j a in_v e within le l head =
           let in_tail = (roads.ends a l.arc).0 in
           let one : l.near + 1 ≡ i = same_some (label_of hops v) (l.near + 1) i (ap (label_of hops) (sym head) ∙ l.at_head) e in
           let m = covers v j within (λ k w. let low = no_shorter k w in omega (arith, low, le)) in
@@ -109,12 +109,12 @@ module _ (g : Roads) (roads : IsRoads g) (test : ℕ → Bool) (source target : 
       by_whole : (v i j u : ℕ) → HasVertex g v → label_of hops v ≡ Some i → IsWithin g test target j v → i + j ≤ far → IsLeastTail g (into g test marks) near v (Some u) →
           (l : Option ℕ) → IsLeastTail g test hops v l → l ≡ Some u
       by_whole v i j u in_v e within le tail None none =
-          let f = tail.0 in absurd (none f.0 (whole_lead v i j f.0 in_v e within le f.1 f.2).0 f.2)
+          let f = tail.0 in absurd (none f.0 (whole_tree_arc v i j f.0 in_v e within le f.1 f.2).0 f.2)
       by_whole v i j u in_v e within le tail (Some t) least_tail =
           let f = tail.0 in
           let h = least_tail.0 in
-          let low = least_tail.1 f.0 (whole_lead v i j f.0 in_v e within le f.1 f.2).0 f.2 in
-          let high = tail.1 h.0 (held_lead v i j h.0 in_v e within le h.1 h.2) h.2 in
+          let low = least_tail.1 f.0 (whole_tree_arc v i j f.0 in_v e within le f.1 f.2).0 f.2 in
+          let high = tail.1 h.0 (held_tree_arc v i j h.0 in_v e within le h.1 h.2) h.2 in
           let at_f = f.3 in
           let at_h = h.3 in
           let same : t ≡ u = omega (arith, low, high, at_f, at_h) in
@@ -127,7 +127,7 @@ module _ (g : Roads) (roads : IsRoads g) (test : ℕ → Bool) (source target : 
           let le : i + j ≤ far = omega (arith, is) in
           let tail = tail_at g roads (into g test marks) (source ∷ []) near near_least adopted near_tails v (Some u) in_v f in
           let h = tail.0 in
-          let whole = whole_lead v i j h.0 in_v e within le h.1 h.2 in
+          let whole = whole_tree_arc v i j h.0 in_v e within le h.1 h.2 in
           let back = within_back g roads test target j h.0 h.1.arc (passes_test h.0 h.1.passes) (subst (λ (w : ℕ). IsWithin g test target j w) (sym h.2) within) in (
             by_whole v i j u in_v e within le tail (label_of parents v) (tails.tails v in_v),
             subst (λ (w : ℕ). HasVertex g w) h.3 ((roads.ends h.0 h.1.arc).0),

@@ -4,11 +4,11 @@ use Rattle.std.proofs.lemmas.List.{length-append}
 use Rattle.std.proofs.lemmas.List.Elements.{All-head, All-tail}
 use Rattle.std.specs.Prelude.{Contains, All, ◌↔◌}
 use Rattle.road_graph.specs.Roads.{Roads, IsRoads, HasVertex, arc_of}
+use Rattle.road_graph.proofs.Lists.{only_element}
 use Rattle.path_algebra.specs.Algebra.{Algebra}
 use Rattle.path_algebra.specs.Walks.{IsWalk, IsWalkValue, IsTight, IsBestLabel, AreBest, AreHops, IsParent, IsUnreached, label_of, IsParentChain}
 use Rattle.route_tree.specs.Tree.{Branches, hops_of, parent_of, AreHopsAt, IsParentAt, IsTree, IsChain, IsRoute}
 use Rattle.route_tree.specs.Told.{IsToldOf, IsParentRoute}
-use Rattle.route_tree.proofs.Elements.{not_in_empty, head_or_tail}
 
 module _ {V : Type 0} (A : Algebra V) (g : Roads) (sources : List ℕ) where
   tight_end : (u : ℕ) (p : List ℕ) (v : ℕ) → IsWalk g u p v → All (IsTight A g sources) p → (u ≡ v) ⊎ ((x : V) × IsWalkValue A g sources v x)
@@ -129,10 +129,7 @@ module _ {V : Type 0} (A : Algebra V) (g : Roads) (sources : List ℕ) where
       none_at (Some k) h = let w = hops_have_value v k h in (λ e. let bad : Some k ≡ None = e in absurd (cc), λ u. absurd (u w.0 w.1))
 
 -- with one source the list begins there
-first_is : (s first : ℕ) → Contains (s ∷ []) first → s ≡ first
-first_is s first h = elim (head_or_tail s first [] h) [ inl same ↦ same | inr none ↦ absurd (not_in_empty first none) ]
-
 pub from_one : {V : Type 0} (A : Algebra V) (g : Roads) (s v : ℕ) (list : List ℕ) → IsParentRoute A g (s ∷ []) v list → (rest : List ℕ) × (list ≡ s ∷ rest) × IsParentChain A g (s ∷ []) s rest v
 from_one A g s v list r =
-    let same = first_is s r.first r.begins in
+    let same = only_element s r.first r.begins in
     (r.rest, r.is ∙ ap (λ (x : ℕ). x ∷ r.rest) (sym same), subst (λ (x : ℕ). IsParentChain A g (s ∷ []) x r.rest v) (sym same) r.chain)

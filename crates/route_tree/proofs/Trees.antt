@@ -4,12 +4,12 @@ use Rattle.std.proofs.lemmas.List.{get_or-map}
 use Rattle.std.proofs.lemmas.List.Elements.{All-nil, All-cons, All-head, All-tail}
 use Rattle.std.specs.Prelude.{IsTrue, Contains, All}
 use Rattle.road_graph.specs.Roads.{Roads, IsRoads, HasVertex, arc_of}
+use Rattle.road_graph.proofs.Options.{same_some}
 use Rattle.path_algebra.specs.Algebra.{Algebra, IsLawful}
 use Rattle.path_algebra.specs.Walks.{IsWalk, IsTight, is_tight, AreBest, AreHops, IsParent, IsTightWalk, IsUnreached, label_of}
 use Rattle.path_algebra.proofs.Tight.{tight_is, tight_arcs_reach, labelled}
 use Rattle.route_tree.specs.Levels.{IsWalkOf, IsLeastAt, AreLeast, IsLeastTail, AreLeastTails}
 use Rattle.route_tree.specs.Tree.{AreHopsAt, IsParentAt, IsTree}
-use Rattle.route_tree.proofs.Elements.{same_some}
 use Rattle.route_tree.proofs.LevelsAreLeast.{IsWalkOf-snoc, IsWalkOf-nil}
 use Rattle.route_tree.proofs.Linked.{no_arc, by_arc, tail_at}
 

@@ -18,7 +18,7 @@ pub record AreLeast (g : Roads) (test : ℕ → Bool) (sources : List ℕ) (hops
   pub least : (v : ℕ) → HasVertex g v → IsLeastAt g test sources v (label_of hops v)
 
 -- an arc of the tree: it passes the test, and its head has one hop more than its tail
-pub record Leads (g : Roads) (test : ℕ → Bool) (hops : List (Option ℕ)) (a : ℕ) : Type 0 where
+pub record IsTreeArc (g : Roads) (test : ℕ → Bool) (hops : List (Option ℕ)) (a : ℕ) : Type 0 where
   pub arc : HasArc g a
   pub passes : test a ≡ true
   pub near : ℕ
@@ -27,10 +27,10 @@ pub record Leads (g : Roads) (test : ℕ → Bool) (hops : List (Option ℕ)) (a
 
 -- the least tail among the arcs of the tree that enter v, or none
 abbrev pub IsLeastTail : Roads → (ℕ → Bool) → List (Option ℕ) → ℕ → Option ℕ → Type 0
-IsLeastTail g test hops v None = (a : ℕ) → Leads g test hops a → (arc_of g a).head ≡ v → ⊥
+IsLeastTail g test hops v None = (a : ℕ) → IsTreeArc g test hops a → (arc_of g a).head ≡ v → ⊥
 IsLeastTail g test hops v (Some u) =
-    ((a : ℕ) × Leads g test hops a × ((arc_of g a).head ≡ v) × ((arc_of g a).tail ≡ u))
-    × ((a : ℕ) → Leads g test hops a → (arc_of g a).head ≡ v → u ≤ (arc_of g a).tail)
+    ((a : ℕ) × IsTreeArc g test hops a × ((arc_of g a).head ≡ v) × ((arc_of g a).tail ≡ u))
+    × ((a : ℕ) → IsTreeArc g test hops a → (arc_of g a).head ≡ v → u ≤ (arc_of g a).tail)
 
 -- least tails at every vertex
 pub record AreLeastTails (g : Roads) (test : ℕ → Bool) (hops parents : List (Option ℕ)) : Type 0 where
@@ -73,29 +73,19 @@ pub record IsPassed (g : Roads) (hops parents : List (Option ℕ)) (a k : ℕ) :
   pub few : far ≤ k
   pub parent : far ≡ k → (u : ℕ) × (label_of parents (arc_of g a).head ≡ Some u) × (u ≤ (arc_of g a).tail)
 
--- while the vertices at k hops are gone through: those in `pending` wait, and the arcs in `arcs`; those in `next` have k + 1
-pub record Spreading (g : Roads) (test : ℕ → Bool) (sources : List ℕ) (k : ℕ) (hops parents : List (Option ℕ)) (pending arcs next : List ℕ) : Type 0 where
+-- while the vertices at k hops are visited: those in `pending` wait, and the arcs in `arcs`; those in `next` have k + 1
+pub record Visiting (g : Roads) (test : ℕ → Bool) (sources : List ℕ) (k : ℕ) (hops parents : List (Option ℕ)) (pending arcs next : List ℕ) : Type 0 where
   pub count : length hops ≡ g.vertices
   pub parents_count : length parents ≡ g.vertices
   pub attained : (v j : ℕ) → HasVertex g v → label_of hops v ≡ Some j → IsWalkOf g test sources v j
   pub at_sources : (s : ℕ) → Contains sources s → HasVertex g s × (label_of hops s ≡ Some 0)
   pub few : (v j : ℕ) → HasVertex g v → label_of hops v ≡ Some j → j ≤ k + 1
-  pub adopted : (v u : ℕ) → HasVertex g v → label_of parents v ≡ Some u → (a : ℕ) × Leads g test hops a × ((arc_of g a).head ≡ v) × ((arc_of g a).tail ≡ u)
+  pub adopted : (v u : ℕ) → HasVertex g v → label_of parents v ≡ Some u → (a : ℕ) × IsTreeArc g test hops a × ((arc_of g a).head ≡ v) × ((arc_of g a).tail ≡ u)
   pub pending_at : (v : ℕ) → Contains pending v → HasVertex g v × (label_of hops v ≡ Some k)
   pub next_at : (v : ℕ) → Contains next v → HasVertex g v × (label_of hops v ≡ Some (k + 1))
   pub arcs_at : (a : ℕ) → Contains arcs a → HasArc g a × (label_of hops (arc_of g a).tail ≡ Some k)
   pub closed : (a j : ℕ) → HasArc g a → test a ≡ true → label_of hops (arc_of g a).tail ≡ Some j →
       Contains arcs a ⊎ (Contains pending (arc_of g a).tail ⊎ (Contains next (arc_of g a).tail ⊎ IsPassed g hops parents a (j + 1)))
-
--- v is gone through, whatever waits behind it
-abbrev pub GoesThrough : Roads → (ℕ → Bool) → ℕ → ℕ → List (Option ℕ) → List (Option ℕ) → List ℕ → List (Option ℕ) → List (Option ℕ) → List ℕ → Type 0
-GoesThrough g test k v hops parents next hops' parents' next' =
-    (sources pending : List ℕ) → Spreading g test sources k hops parents (v ∷ pending) [] next → Spreading g test sources k hops' parents' pending [] next'
-
--- a whole level is gone through
-abbrev pub GoesThroughLevel : Roads → (ℕ → Bool) → ℕ → List (Option ℕ) → List (Option ℕ) → List ℕ → List (Option ℕ) → List (Option ℕ) → List ℕ → Type 0
-GoesThroughLevel g test k hops parents level hops' parents' next =
-    (sources : List ℕ) → Spreading g test sources k hops parents level [] [] → Spreading g test sources (k + 1) hops' parents' next [] []
 
 -- after the sources in `done`: each has 0 hops, and who has hops is a source and in the level
 pub record IsMarked (n : ℕ) (sources done : List ℕ) (hops : List (Option ℕ)) (level : List ℕ) : Type 0 where

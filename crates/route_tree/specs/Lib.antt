@@ -3,3 +3,5 @@ pub mod Tree
 pub mod Told
 pub mod Levels
 pub mod Regions
+pub mod BreadthFirst
+pub mod Backward

@@ -31,8 +31,8 @@ is_unmarked false = 1
 abbrev pub unmarked : List Bool → ℕ
 unmarked marks = sum_by is_unmarked marks
 
--- while the vertices k arcs before the target are gone through: those in `pending` wait, and the arcs in `arcs`; those in `next` are one arc further
-pub record GoingBack (g : Roads) (test : ℕ → Bool) (target k : ℕ) (marks : List Bool) (pending arcs next : List ℕ) : Type 0 where
+-- while the vertices k arcs before the target are visited: those in `pending` wait, and the arcs in `arcs`; those in `next` are one arc further
+pub record VisitingBack (g : Roads) (test : ℕ → Bool) (target k : ℕ) (marks : List Bool) (pending arcs next : List ℕ) : Type 0 where
   pub count : length marks ≡ g.vertices
   pub attained : (v : ℕ) → HasVertex g v → IsTrue (is_marked marks v) → IsWithin g test target k v ⊎ Contains next v
   pub complete : (v : ℕ) → IsWithin g test target k v → IsTrue (is_marked marks v) × (Contains next v → ⊥)
@@ -41,13 +41,3 @@ pub record GoingBack (g : Roads) (test : ℕ → Bool) (target k : ℕ) (marks :
   pub arcs_at : (a : ℕ) → Contains arcs a → HasArc g a × IsWithin g test target k (arc_of g a).head
   pub closed : (a : ℕ) → HasArc g a → test a ≡ true → IsTrue (is_marked marks (arc_of g a).head) →
       Contains arcs a ⊎ (Contains pending (arc_of g a).head ⊎ (Contains next (arc_of g a).head ⊎ IsTrue (is_marked marks (arc_of g a).tail)))
-
--- v is gone through, whatever waits behind it
-abbrev pub GoesBack : Roads → (ℕ → Bool) → ℕ → List Bool → List ℕ → List Bool → List ℕ → Type 0
-GoesBack g test v marks next marks' next' =
-    (target k : ℕ) (pending : List ℕ) → GoingBack g test target k marks (v ∷ pending) [] next → GoingBack g test target k marks' pending [] next'
-
--- a whole level is gone through
-abbrev pub GoesBackLevel : Roads → (ℕ → Bool) → List Bool → List ℕ → List Bool → List ℕ → Type 0
-GoesBackLevel g test marks level marks' next =
-    (target k : ℕ) → GoingBack g test target k marks level [] [] → GoingBack g test target (k + 1) marks' next [] []

@@ -1,129 +1,159 @@
 //! The search from a target back over tight arcs, level by level, for the vertices that a route to it may go through.
 
-ghost use Rattle.std.specs.Prelude.{◌≡◌, ◌+◌, ◌-◌, ◌≤◌, [], ◌∷◌, ◌++◌, All, Bool, IfOk, OnOk, cond, false, length, replicate, slice_set, true};
+ghost use Rattle.std.specs.Prelude.{◌≡◌, ◌+◌, ◌-◌, ◌≤◌, ◌<◌, [], ◌∷◌, ◌++◌, All, IfOk, OnOk, cond, eqb, false, length, replicate, slice_set, true};
 ghost use Rattle.road_graph.specs.Roads.{HasArc, HasVertex, arc_of};
-ghost use Rattle.path_algebra.specs.Walks.{is_marked, is_tight, is_tight_between, label_of};
-ghost use Rattle.route_tree.specs.Regions.{Covers, GoesBack, GoesBackLevel, unmarked};
+ghost use Rattle.path_algebra.specs.Walks.{is_marked, is_tight};
+ghost use Rattle.route_tree.specs.Regions.{Covers, unmarked};
+ghost use Rattle.route_tree.specs.Backward.{VisitsBack, VisitsAllBack, VisitsLevelBack, finds_tail};
 
 use crate::tightness::is_tight;
 use path_algebra::{Labels, PathAlgebra};
 use road_graph::{ArcNo, Graph, Memory, Vertex};
 use std::alloc::{AllocError, Global};
+use std::marker::Model;
 use std::mem;
 
 /// The search while it goes on.
 #[derive(Drop)]
-struct Backward {
+struct Backward<'g, A: PathAlgebra> {
+    algebra: A,
+    graph: &'g Graph,
+    labels: &'g Labels<A::Value>,
     /// Whether a vertex was found.
     marks: Vec<bool>,
     /// The vertices that were found last, from which the search goes on.
     next: Vec<Vertex>,
 }
 
-impl Backward {
-    /// Of n vertices none is found.
-    fn new(alloc: Global, n: u32) -> Result<Backward, AllocError>
-        ensures marks { IfOk result (λ found. found.marks.items ≡ replicate n false) }
-        ensures next { IfOk result (λ found. found.next.items ≡ []) }
+impl<'g, A: PathAlgebra> Model for Backward<'g, A> {
+    ghost use Rattle.route_tree.specs.Backward.{BackwardState, IsBackward};
+
+    ghost Value = { BackwardState A A.Value };
+
+    ghost view = { λ s. record { over = record { algebra = s.algebra; roads = s.graph.now; labels = s.labels.now }; marks = s.marks.items; next = s.next.items } };
+
+    ghost invariant = { λ s. IsBackward s.graph.now s.labels.now s.marks.items s.next.items };
+}
+
+impl<'g, A: PathAlgebra> Backward<'g, A> {
+    /// A search by which the target alone is found.
+    fn open(
+        alloc: Global,
+        algebra: A,
+        graph: &'g Graph,
+        labels: &'g Labels<A::Value>,
+        target: Vertex,
+    ) -> Result<Self, Memory>
+        requires target { HasVertex graph.now target }
+        requires labels { length labels.now ≡ graph.now.vertices }
+        ensures over { IfOk result (λ s. s.over ≡ record { algebra = algebra; roads = graph.now; labels = labels.now }) }
+        ensures marks { IfOk result (λ s. s.marks ≡ slice_set (replicate graph.now.vertices false) (target - 1) true) }
+        ensures next { IfOk result (λ s. s.next ≡ target ∷ []) }
     {
-        let marks = vec![in alloc; false; n as usize]?;
-        let next = Vec::new(alloc);
-        Ok(Backward { marks, next })
+        let mut marks = vec![in alloc; false; graph.vertices() as usize]?;
+        marks[target.0 as usize - 1] = true;
+        let mut next = Vec::new(alloc);
+        next.push(target).map_err(AllocError::from)?;
+        Ok(Backward {
+            algebra,
+            graph,
+            labels,
+            marks,
+            next,
+        })
     }
 
     /// Whether a vertex was found.
     fn has(&self, v: Vertex) -> bool
-        requires low { 1 ≤ v }
-        requires high { v ≤ length self.now.marks.items }
-        ensures { result ≡ is_marked self.now.marks.items v }
+        requires { HasVertex self.now.over.roads v }
+        ensures { result ≡ is_marked self.now.marks v }
     {
         self.marks[v.0 as usize - 1]
     }
 
     /// A vertex is found that was not.
     fn mark(&mut self, v: Vertex) -> Result<(), Memory>
-        requires low { 1 ≤ v }
-        requires high { v ≤ length self.old.marks.items }
-        requires fresh { is_marked self.old.marks.items v ≡ false }
-        ensures marks { OnOk result (self.new.marks.items ≡ slice_set self.old.marks.items (v - 1) true) }
-        ensures next { OnOk result (self.new.next.items ≡ self.old.next.items ++ (v ∷ [])) }
-        ensures size { OnOk result (unmarked self.new.marks.items + length self.new.next.items ≡ unmarked self.old.marks.items + length self.old.next.items) }
+        requires in_graph { HasVertex self.old.over.roads v }
+        requires fresh { is_marked self.old.marks v ≡ false }
+        ensures marks { OnOk result (self.new.marks ≡ slice_set self.old.marks (v - 1) true) }
+        ensures next { OnOk result (self.new.next ≡ self.old.next ++ (v ∷ [])) }
+        ensures over { OnOk result (self.new.over ≡ self.old.over) }
+        ensures size { OnOk result (unmarked self.new.marks + length self.new.next ≡ unmarked self.old.marks + length self.old.next) }
     {
         self.next.push(v).map_err(AllocError::from)?;
         self.marks[v.0 as usize - 1] = true;
         Ok(())
     }
-}
 
-/// Goes back along one arc, whose head has this label.
-fn try_arc<A: PathAlgebra>(
-    algebra: A,
-    graph: &Graph,
-    labels: &Labels<A::Value>,
-    found: &mut Backward,
-    a: ArcNo,
-    far: Option<A::Value>,
-) -> Result<(), Memory>
-    requires arc { HasArc graph.now a }
-    requires labels { length labels.now ≡ graph.now.vertices }
-    requires count { length found.old.marks.items ≡ graph.now.vertices }
-    ensures count { OnOk result (length found.new.marks.items ≡ graph.now.vertices) }
-    ensures marks { let u = (arc_of graph.now a).tail in let passes = cond (is_marked found.old.marks.items u) false (is_tight_between (A.meaning algebra) (label_of labels.now u) (arc_of graph.now a).weight far) in OnOk result (found.new.marks.items ≡ cond passes (slice_set found.old.marks.items (u - 1) true) found.old.marks.items) }
-    ensures next { let u = (arc_of graph.now a).tail in let passes = cond (is_marked found.old.marks.items u) false (is_tight_between (A.meaning algebra) (label_of labels.now u) (arc_of graph.now a).weight far) in OnOk result (found.new.next.items ≡ cond passes (found.old.next.items ++ (u ∷ [])) found.old.next.items) }
-    ensures size { OnOk result (unmarked found.new.marks.items + length found.new.next.items ≡ unmarked found.old.marks.items + length found.old.next.items) }
-{
-    let _n = graph.vertices();
-    let tail = graph.tail(a);
-    if !found.has(tail) && is_tight(algebra, labels.of(tail), graph.road(a).weight, far) {
-        found.mark(tail)
-    } else {
+    /// Goes back along one arc, whose head has this label.
+    fn try_arc(&mut self, a: ArcNo, far: Option<A::Value>) -> Result<(), Memory>
+        requires arc { HasArc self.old.over.roads a }
+        ensures marks { OnOk result (self.new.marks ≡ cond (finds_tail (A.meaning self.old.over.algebra) self.old a far) (slice_set self.old.marks ((arc_of self.old.over.roads a).tail - 1) true) self.old.marks) }
+        ensures next { OnOk result (self.new.next ≡ cond (finds_tail (A.meaning self.old.over.algebra) self.old a far) (self.old.next ++ ((arc_of self.old.over.roads a).tail ∷ [])) self.old.next) }
+        ensures over { OnOk result (self.new.over ≡ self.old.over) }
+        ensures size { OnOk result (unmarked self.new.marks + length self.new.next ≡ unmarked self.old.marks + length self.old.next) }
+    {
+        let (algebra, graph) = (self.algebra, self.graph);
+        let tail = graph.tail(a);
+        if !self.has(tail) && is_tight(algebra, self.labels.of(tail), graph.road(a).weight, far) {
+            self.mark(tail)
+        } else {
+            Ok(())
+        }
+    }
+
+    /// Visits a vertex: goes back along the arcs that enter it.
+    fn visit(&mut self, v: Vertex) -> Result<(), Memory>
+        requires { HasVertex self.old.over.roads v }
+        ensures visits { OnOk result (VisitsBack (A.meaning self.old.over.algebra) v self.old self.new) }
+        ensures over { OnOk result (self.new.over ≡ self.old.over) }
+        ensures size { OnOk result (unmarked self.new.marks + length self.new.next ≡ unmarked self.old.marks + length self.old.next) }
+    {
+        let graph = self.graph;
+        let far = self.labels.of(v);
+        for a in graph.into(v) {
+            self.try_arc(*a, far)?;
+        }
         Ok(())
     }
-}
 
-/// Goes back along the arcs that enter a vertex.
-fn go_back<A: PathAlgebra>(
-    algebra: A,
-    graph: &Graph,
-    labels: &Labels<A::Value>,
-    found: &mut Backward,
-    v: Vertex,
-) -> Result<(), Memory>
-    requires in_graph { HasVertex graph.now v }
-    requires labels { length labels.now ≡ graph.now.vertices }
-    requires count { length found.old.marks.items ≡ graph.now.vertices }
-    ensures count { OnOk result (length found.new.marks.items ≡ graph.now.vertices) }
-    ensures goes { OnOk result (GoesBack graph.now (is_tight (A.meaning algebra) graph.now labels.now) v found.old.marks.items found.old.next.items found.new.marks.items found.new.next.items) }
-    ensures size { OnOk result (unmarked found.new.marks.items + length found.new.next.items ≡ unmarked found.old.marks.items + length found.old.next.items) }
-{
-    let _n = graph.vertices();
-    let far = labels.of(v);
-    for a in graph.into(v) {
-        try_arc(algebra, graph, labels, found, *a, far)?;
+    /// Visits each vertex of a list.
+    fn visit_all(&mut self, list: &[Vertex]) -> Result<(), Memory>
+        requires { All (HasVertex self.old.over.roads) list.now }
+        ensures visits { OnOk result (VisitsAllBack (A.meaning self.old.over.algebra) list.now self.old self.new) }
+        ensures over { OnOk result (self.new.over ≡ self.old.over) }
+        ensures size { OnOk result (unmarked self.new.marks + length self.new.next ≡ unmarked self.old.marks + length self.old.next) }
+    {
+        for v in list {
+            self.visit(*v)?;
+        }
+        Ok(())
     }
-    Ok(())
-}
 
-/// Goes back from the vertices found last; those found now are one arc further from the target.
-fn go_back_level<A: PathAlgebra>(
-    algebra: A,
-    graph: &Graph,
-    labels: &Labels<A::Value>,
-    found: &mut Backward,
-    level: &[Vertex],
-) -> Result<(), Memory>
-    requires in_graph { All (HasVertex graph.now) level.now }
-    requires labels { length labels.now ≡ graph.now.vertices }
-    requires count { length found.old.marks.items ≡ graph.now.vertices }
-    requires next { found.old.next.items ≡ [] }
-    ensures goes { OnOk result (GoesBackLevel graph.now (is_tight (A.meaning algebra) graph.now labels.now) found.old.marks.items level.now found.new.marks.items found.new.next.items) }
-    ensures size { OnOk result (unmarked found.new.marks.items + length found.new.next.items ≡ unmarked found.old.marks.items) }
-{
-    let _n = graph.vertices();
-    for v in level {
-        go_back(algebra, graph, labels, found, *v)?;
+    /// Whether no vertex is left to visit.
+    fn is_done(&self) -> bool
+        ensures { result ≡ eqb (length self.now.next) 0 }
+    {
+        self.next.is_empty()
     }
-    Ok(())
+
+    /// Visits the vertices that were found last; those that are found then are one arc further from the target.
+    fn visit_level(&mut self, alloc: Global) -> Result<(), Memory>
+        requires waiting { 1 ≤ length self.old.next }
+        ensures visits { OnOk result (VisitsLevelBack (A.meaning self.old.over.algebra) self.old self.new) }
+        ensures over { OnOk result (self.new.over ≡ self.old.over) }
+        ensures fewer { OnOk result (unmarked self.new.marks + length self.new.next < unmarked self.old.marks + length self.old.next) }
+    {
+        let level = mem::replace(&mut self.next, Vec::new(alloc));
+        self.visit_all(&level)
+    }
+
+    /// The marks.
+    fn into_marks(self) -> Vec<bool>
+        ensures { result.items ≡ self.entry.marks }
+    {
+        self.marks
+    }
 }
 
 /// Marks of the vertices from which walks of tight arcs lead to the target, level by level until the source is among them.
@@ -140,11 +170,10 @@ pub(crate) fn marks_back<A: PathAlgebra>(
     requires labels { length labels.now ≡ graph.now.vertices }
     ensures { IfOk result (λ marks. Covers graph.now (is_tight (A.meaning algebra) graph.now labels.now) source target marks.items) }
 {
-    let mut found = Backward::new(alloc, graph.vertices())?;
-    found.mark(target)?;
-    while !found.next.is_empty() && !found.has(source) {
-        let level = mem::replace(&mut found.next, Vec::new(alloc));
-        go_back_level(algebra, graph, labels, &mut found, &level)?;
+    let _n = graph.vertices();
+    let mut search = Backward::open(alloc, algebra, graph, labels, target)?;
+    while !search.is_done() && !search.has(source) {
+        search.visit_level(alloc)?;
     }
-    Ok(found.marks)
+    Ok(search.into_marks())
 }

@@ -7,19 +7,16 @@
 #![tactic(auto)]
 
 mod backward;
-mod branches;
-mod growing;
+mod breadth_first;
+mod hops_and_parents;
 mod laws;
-mod levels;
-mod pairs;
-mod planting;
 mod region;
 mod routes;
 mod slot;
+mod tight_tree;
 mod tightness;
 
-pub use branches::Tree;
+pub use hops_and_parents::Tree;
 pub use laws::{hops_tell_reached, labels_and_trees_agree, routes_follow_parents, trees_exist};
-pub use pairs::{PairRoute, route_between};
-pub use planting::tree;
-pub use routes::route;
+pub use routes::{PairRoute, route, route_between};
+pub use tight_tree::tree;

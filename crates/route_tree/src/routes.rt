@@ -1,10 +1,17 @@
-//! Routes: chains of parents.
+//! Routes: chains of parents, from a whole tree or between two vertices alone.
 
-ghost use Rattle.std.specs.Prelude.{◌≡◌, ◌≤◌, [], ◌∷◌, ◌++◌, length, IfOk, OnOk, None, MatchOption};
+ghost use Rattle.std.specs.Prelude.{◌≡◌, ◌+◌, ◌≤◌, [], ◌∷◌, ◌++◌, length, IfOk, OnOk, None, MatchOption};
+ghost use Rattle.road_graph.specs.Roads.{HasVertex};
+ghost use Rattle.path_algebra.specs.Walks.{AreBest, AreHops, IsUnreached};
+ghost use Rattle.route_tree.specs.Told.{IsParentRoute};
 ghost use Rattle.route_tree.specs.Tree.{IsRoute, hops_of};
 
-use crate::branches::Tree;
-use road_graph::{Memory, Vertex};
+use crate::backward::marks_back;
+use crate::hops_and_parents::Tree;
+use crate::region::Region;
+use crate::tight_tree::tree_into;
+use path_algebra::{Labels, PathAlgebra, laws_hold};
+use road_graph::{Graph, Memory, Vertex};
 use std::alloc::{AllocError, Global};
 
 fn push(list: &mut Vec<Vertex>, v: Vertex) -> Result<(), Memory>
@@ -34,4 +41,47 @@ pub fn route(alloc: Global, tree: &Tree, target: Vertex) -> Result<Option<Vec<Ve
     }
     list.reverse();
     Ok(Some(list))
+}
+
+/// A route, and how many arcs it goes along.
+#[derive(Drop)]
+pub struct PairRoute {
+    /// The least hops of its target.
+    pub hops: u32,
+    /// From the source on, each vertex is the least parent of the next.
+    pub vertices: Vec<Vertex>,
+}
+
+/// The route from a source to a target, for labels that are best from that source; none where no walk has a value.
+/// The only error is want of memory.
+///
+/// It is the route of the whole tree, but only vertices with a walk of tight arcs to the target are looked at, and no
+/// further back than the source.
+pub fn route_between<A: PathAlgebra>(
+    alloc: Global,
+    algebra: A,
+    graph: &Graph,
+    source: Vertex,
+    target: Vertex,
+    labels: &Labels<A::Value>,
+) -> Result<Option<PairRoute>, Memory>
+    requires source { HasVertex graph.now source }
+    requires target { HasVertex graph.now target }
+    requires labels { AreBest (A.meaning algebra) graph.now (source ∷ []) labels.now }
+    ensures { IfOk result (λ found. MatchOption found (IsUnreached (A.meaning algebra) graph.now (source ∷ []) target)
+        (λ r. AreHops (A.meaning algebra) graph.now (source ∷ []) target r.hops
+        × IsParentRoute (A.meaning algebra) graph.now (source ∷ []) target r.vertices.items
+        × (length r.vertices.items ≡ r.hops + 1))) }
+{
+    laws_hold(algebra);
+    let _n = graph.vertices();
+    let region = Region::marked(marks_back(alloc, algebra, graph, labels, source, target)?);
+    let tree = tree_into(alloc, algebra, graph, labels, &region, &[source])?;
+    let Some(hops) = tree.hops(target) else {
+        return Ok(None);
+    };
+    let Some(vertices) = route(alloc, &tree, target)? else {
+        return Ok(None);
+    };
+    Ok(Some(PairRoute { hops, vertices }))
 }

@@ -1,51 +1,47 @@
-use Rattle.std.proofs.Common.{◌≡◌, ℕ, ◌+◌, ◌-◌, List, [], ◌∷◌, ◌++◌, Bool, true, set, eqb, eqb-true, ap, sym, subst, ◌∙◌}
-use Rattle.std.specs.Prelude.{All}
-use Rattle.road_graph.specs.Roads.{HasVertex}
+use Rattle.std.proofs.Common.{◌≡◌, ℕ, ◌+◌, List, [], length, true, false, eqb-true, eq-eqb, arith, sym, subst, ◌∙◌, refl}
+use Rattle.std.proofs.lemmas.List.{nil_from_length}
 use Rattle.path_algebra.specs.Walks.{is_tight}
-use Rattle.route_tree.specs.Regions.{GoingBack}
-use Rattle.route_tree.proofs.Elements.{all_of, no_items}
-use Rattle.route_tree.proofs.GoingBack.{back_start, covers_near, covers_all}
+use Rattle.route_tree.specs.Regions.{VisitingBack}
+use Rattle.route_tree.proofs.VisitingBack.{back_start, covers_near, covers_all}
 use Rattle.route_tree.proofs.backward.marks_back.Goals as goal
-use Rattle.route_tree.proofs.backward.marks_back.Goals.{then-loop-found-test+else-not-has, else-loop-found-test}
+use Rattle.route_tree.proofs.backward.marks_back.Goals.{then-loop-search-test+else-not-has, else-loop-search-test}
 
-pub loop-found-init : goal.loop-found-init
-loop-found-init g c =
-    let A = g.A.PathAlgebra.meaning c.args.algebra in
-    let G = c.args.graph.now in
-    let target = c.args.target in
-    let next : c.mark.new.self.next.items ≡ target ∷ [] = c.in_ok-mark.ensures.next ∙ ap (λ (xs : List ℕ). xs ++ target ∷ []) c.in_ok-found.ensures.next in
-    let marks = c.in_ok-mark.ensures.marks ∙ ap (λ (ms : List Bool). set ms (target - 1) true) c.in_ok-found.ensures.marks in
-    let start = back_start G c.vertices.ensures.roads (is_tight A G c.args.labels.now) target c.vertices.result c.mark.new.self.marks.items c.vertices.ensures.count c.requires.target marks in
-    (0, subst (λ (xs : List ℕ). GoingBack G (is_tight A G c.args.labels.now) target 0 c.mark.new.self.marks.items xs [] []) (sym next) start)
+pub loop-search-init : goal.loop-search-init
+loop-search-init g c =
+    let roads = c.args.graph.now in
+    let test = is_tight (g.A.PathAlgebra.meaning c.args.algebra) roads c.args.labels.now in
+    let search = c.in_ok-search.search in
+    let start = back_start roads c.vertices-n.ensures.roads test c.args.target roads.vertices search.marks refl c.requires.target c.in_ok-search.ensures.marks in
+    record {
+      over = c.in_ok-search.ensures.over;
+      visiting = (0, subst (λ (list : List ℕ). VisitingBack roads test c.args.target 0 search.marks list [] []) (sym c.in_ok-search.ensures.next) start);
+    }
 
-pub go_back_level-requires-clause-in_graph : goal.go_back_level-requires-clause-in_graph
-go_back_level-requires-clause-in_graph g c κs within =
-    let level = rw (c.replace-level.ensures.value) at c.deref.ensures.value in
-    subst (λ (xs : List ℕ). All (HasVertex c.args.graph.now) xs) (sym level) (all_of (HasVertex c.args.graph.now) c.loop-found.found.next.items (λ v h. (c.loop-found.invariant.1.pending_at v h).0))
+pub visit_level-requires-clause-waiting : goal.visit_level-requires-clause-waiting
+visit_level-requires-clause-waiting g c κs within =
+    let some : (length c.loop-search.search.next ≡ 0 → ⊥) = λ z. let t : true ≡ false = sym (eq-eqb (length c.loop-search.search.next) 0 z) ∙ sym c.is_done.ensures ∙ c.loop-search-test.true in cc in
+    omega (arith, some)
 
-pub loop-found-preserved : goal.loop-found-preserved
-loop-found-preserved g c =
-    let A = g.A.PathAlgebra.meaning c.args.algebra in
-    let G = c.args.graph.now in
-    let k = c.loop-found.invariant.0 in
-    let level = rw (c.replace-level.ensures.value) at c.deref.ensures.value in (
-      k + 1,
-      c.in_ok-go_back_level.ensures.goes c.args.target k
-          (subst (λ (xs : List ℕ). GoingBack G (is_tight A G c.args.labels.now) c.args.target k c.loop-found.found.marks.items xs [] []) (sym level) c.loop-found.invariant.1),
-    )
+pub loop-search-preserved : goal.loop-search-preserved
+loop-search-preserved g c =
+    let known = c.loop-search.invariant in
+    record {
+      over = c.in_ok-visit_level.ensures.over ∙ known.over;
+      visiting = (known.visiting.0 + 1, (rw known.over at c.in_ok-visit_level.ensures.visits) c.args.target known.visiting.0 known.visiting.1);
+    }
 
 pub returns : goal.returns
 returns g c =
-    let A = g.A.PathAlgebra.meaning c.args.algebra in
-    let G = c.args.graph.now in
-    let k = c.loop-found.invariant.0 in
-    let known = c.loop-found.invariant.1 in
-    elim c.loop-found-test.branch [
-      | then-loop-found-test+else-not-has w ↦
-          covers_near G c.vertices.ensures.roads (is_tight A G c.args.labels.now) c.args.target k c.loop-found.found.marks.items c.args.source c.loop-found.found.next.items known c.requires.source (sym w.has.ensures ∙ w.if-not-has.false)
-      | else-loop-found-test w ↦
-          let empty : eqb c.loop-found.found.next.len 0 ≡ true = sym c.is_empty.ensures ∙ w.loop-found-test.false in
-          let none = no_items c.loop-found.found.next.items (sym c.loop-found.found.next.ok.0 ∙ eqb-true c.loop-found.found.next.len 0 empty) in
-          covers_all G c.vertices.ensures.roads (is_tight A G c.args.labels.now) c.args.target k c.loop-found.found.marks.items c.args.source
-          (subst (λ (xs : List ℕ). GoingBack G (is_tight A G c.args.labels.now) c.args.target k c.loop-found.found.marks.items xs [] []) none known)
-    ]
+    let roads = c.args.graph.now in
+    let test = is_tight (g.A.PathAlgebra.meaning c.args.algebra) roads c.args.labels.now in
+    let search = c.loop-search.search in
+    let k = c.loop-search.invariant.visiting.0 in
+    let known = c.loop-search.invariant.visiting.1 in
+    rw c.into_marks.ensures (elim c.loop-search-test.branch [
+      | then-loop-search-test+else-not-has w ↦
+          covers_near roads c.vertices-n.ensures.roads test c.args.target k search.marks c.args.source search.next known c.requires.source (sym w.has.ensures ∙ w.if-not-has.false)
+      | else-loop-search-test w ↦
+          let none = nil_from_length search.next (eqb-true (length search.next) 0 (sym c.is_done.ensures ∙ w.loop-search-test.false)) in
+          covers_all roads c.vertices-n.ensures.roads test c.args.target k search.marks c.args.source
+          (subst (λ (list : List ℕ). VisitingBack roads test c.args.target k search.marks list [] []) none known)
+    ])

@@ -1,0 +1,58 @@
+//! The tree of best labels, over the arcs that are tight by them.
+
+ghost use Rattle.std.specs.Prelude.{◌≡◌, All, IfOk, length};
+ghost use Rattle.road_graph.specs.Roads.{HasVertex};
+ghost use Rattle.path_algebra.specs.Walks.{AreBest};
+ghost use Rattle.route_tree.specs.Levels.{AreLeast, AreLeastTails};
+ghost use Rattle.route_tree.specs.Regions.{is_tight_into};
+ghost use Rattle.route_tree.specs.Tree.{IsTree};
+
+use crate::breadth_first::BreadthFirst;
+use crate::hops_and_parents::Tree;
+use crate::region::Region;
+use path_algebra::{Labels, PathAlgebra, laws_hold};
+use road_graph::{Graph, Memory, Vertex};
+use std::alloc::Global;
+
+/// The least hops and the least parents over the tight arcs that lead into a region.
+pub(crate) fn tree_into<A: PathAlgebra>(
+    alloc: Global,
+    algebra: A,
+    graph: &Graph,
+    labels: &Labels<A::Value>,
+    region: &Region,
+    sources: &[Vertex],
+) -> Result<Tree, Memory>
+    requires sources { All (HasVertex graph.now) sources.now }
+    requires labels { length labels.now ≡ graph.now.vertices }
+    ensures hops { IfOk result (λ tree. AreLeast graph.now (is_tight_into (A.meaning algebra) graph.now labels.now region.now) sources.now tree.hops) }
+    ensures parents { IfOk result (λ tree. AreLeastTails graph.now (is_tight_into (A.meaning algebra) graph.now labels.now region.now) tree.hops tree.parents) }
+{
+    let _n = graph.vertices();
+    let mut search = BreadthFirst::open(alloc, algebra, graph, labels, region, sources)?;
+    while !search.is_done() {
+        search.visit_level(alloc)?;
+    }
+    let (hops, parents) = search.into_parts();
+    Ok(Tree { hops, parents })
+}
+
+/// The hops and parents of labels that are best from the sources, as a solver gives them. Sources may repeat. The only error is want of memory.
+///
+/// Each arc that leaves a reached vertex is looked at once; the tree keeps two numbers a vertex.
+pub fn tree<A: PathAlgebra>(
+    alloc: Global,
+    algebra: A,
+    graph: &Graph,
+    sources: &[Vertex],
+    labels: &Labels<A::Value>,
+) -> Result<Tree, Memory>
+    requires sources { All (HasVertex graph.now) sources.now }
+    requires labels { AreBest (A.meaning algebra) graph.now sources.now labels.now }
+    ensures { IfOk result (λ tree. IsTree (A.meaning algebra) graph.now sources.now tree) }
+{
+    laws_hold(algebra);
+    let _n = graph.vertices();
+    let tree = tree_into(alloc, algebra, graph, labels, &Region::all(), sources)?;
+    Ok(tree)
+}

@@ -3,20 +3,19 @@ use Rattle.std.proofs.Common.{◌≡◌, ℕ, zero, suc, ◌+◌, ◌-◌, ◌�
 use Rattle.std.proofs.lemmas.List.{length-append, length-map}
 use Rattle.std.proofs.lemmas.List.Elements.{All-nil, All-cons, All-head, All-tail, All-append}
 use Rattle.std.proofs.lemmas.Bool.{cases_eq}
-use Rattle.route_tree.proofs.Elements.{not_in_empty, head_or_tail, here, later}
 use Rattle.std.specs.Prelude.{IsTrue, Contains, All}
 use Rattle.road_graph.specs.Roads.{Roads, IsRoads, HasArc, HasVertex, arc_of}
+use Rattle.road_graph.proofs.Lists.{not_in_empty, head_or_tail, here, later}
+use Rattle.road_graph.proofs.Options.{same_some}
 use Rattle.path_algebra.specs.Algebra.{Algebra, IsLawful}
 use Rattle.path_algebra.specs.Walks.{IsWalk, IsWalkValue, IsBest, IsBestLabel, IsUnreached, AreBest, IsTight, IsTightWalk, AreHops, IsParent, label_of}
 use Rattle.path_algebra.proofs.Walks.{IsWalk-snoc, IsWalkValue-extend, walk_value_is_value, labels_are_best}
+use Rattle.path_algebra.proofs.Least.{same_no_worse}
 use Rattle.path_algebra.proofs.Tight.{never_better_along, best_is_one}
 use Rattle.answer_text.specs.declared.answers.Reached.{Reached}
 use Rattle.answer_text.specs.IsAnswer.{IsReachedLine, IsLine, AreLines}
 use Rattle.answer_check.specs.Reasons.{IsCodeOf, Brings, source_line}
 use Rattle.answer_check.specs.Certificates.{IsSupported, IsRightLine, IsCertifiedAt, AreCertified}
-
-pub same_some : {X : Type 0} (o : Option X) (x y : X) → o ≡ Some x → o ≡ Some y → x ≡ y
-same_some o x y e f = let s : Some x ≡ Some y = sym e ∙ f in cc
 
 -- the value that a line tells
 abbrev value_told : {V : Type 0} → Algebra V → Option Reached → Option V
@@ -38,9 +37,6 @@ module _ {V : Type 0} (A : Algebra V) (lawful : IsLawful A) where
 
   value_of_code_of : (c : ℕ) (x : V) → IsCodeOf A c x → A.value_of c ≡ Some x
   value_of_code_of c x h = ap A.value_of h.1 ∙ lawful.value_of_code x h.0
-
-  no_worse_itself : (x : V) → IsTrue (A.no_worse x x)
-  no_worse_itself x = elim (lawful.ordered.total x x) [ inl e ↦ e | inr e ↦ e ]
 
   module _ (g : Roads) (roads : IsRoads g) (sources : List ℕ) (in_s : (s : ℕ) → Contains sources s → HasVertex g s) (lines : List (Option Reached)) where
     walk_has_code : (v : ℕ) (c : ℕ) (x : V) → IsWalkValue A g sources v x → c ≡ A.code x → IsCodeOf A c x
@@ -202,7 +198,7 @@ module _ {V : Type 0} (A : Algebra V) (lawful : IsLawful A) where
           head_label (arc_of g a).head (arc_of g a).tail t.0 x z ends.1 b (IsWalkValue-extend A g sources (arc_of g a).tail a x z t.2 h refl f) (label_of lines (arc_of g a).head) refl (certified.each (arc_of g a).head ends.1)
 
       best : AreBest A g sources labels
-      best = labels_are_best A lawful g roads sources labels (λ v x in_v e. (told_at v x in_v e).2) not_improving in_s (λ s h. (A.origin, origin_label s (source_is s h), no_worse_itself A.origin))
+      best = labels_are_best A lawful g roads sources labels (λ v x in_v e. (told_at v x in_v e).2) not_improving in_s (λ s h. (A.origin, origin_label s (source_is s h), same_no_worse A.no_worse lawful.ordered A.origin))
           (length-map lines (value_told A) ∙ certified.count)
 
       best_at : (v : ℕ) (x : V) → HasVertex g v → label_of labels v ≡ Some x → IsBest A g sources v x

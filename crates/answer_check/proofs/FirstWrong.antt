@@ -4,13 +4,14 @@ use Rattle.std.specs.Prelude.{◌↔◌, All, slice_get}
 use Rattle.std.proofs.lemmas.List.Elements.{All-head, All-tail, All-cons, All-nil}
 use Rattle.std.proofs.lemmas.Option.{slice_get_within, slice_get-get_or}
 use Rattle.road_graph.specs.Roads.{Roads, IsRoads, HasVertex}
+use Rattle.road_graph.proofs.Options.{same_some}
 use Rattle.path_algebra.specs.Algebra.{Algebra, IsLawful}
 use Rattle.path_algebra.proofs.Walks.{all_inside}
 use Rattle.road_files.specs.Asked.{Question, FromSource, BetweenPair, FromSources, Asked, AskWithin, asked_of, of_source, of_pair, of_list}
 use Rattle.road_files.specs.declared.questions.Questions.{Questions}
 use Rattle.road_files.specs.declared.questions.Questions.TheVariants as variants
-use Rattle.answer_text.specs.Told.{ToldFound, Told, ToldSource, ToldPair, ToldMulti, ToldList}
-use Rattle.answer_text.specs.IsAnswer.{AreLines, IsPairAnswer, IsAnswer, AreAnswers, IsAnswerList}
+use Rattle.answer_text.specs.Told.{Told, ToldSource, ToldPair, ToldMulti, ToldList}
+use Rattle.answer_text.specs.IsAnswer.{AreLines, IsAnswer, AreAnswers, IsAnswerList}
 use Rattle.answer_text.proofs.OneAnswer.{answers_count}
 use Rattle.answer_check.specs.declared.place.Place.{Place}
 use Rattle.answer_check.specs.declared.verdict.Reason.{Reason}
@@ -18,10 +19,10 @@ use Rattle.answer_check.specs.declared.verdict.Reason.TheVariants.{Mismatch, Not
 use Rattle.answer_check.specs.declared.verdict.Verdict.{Verdict}
 use Rattle.answer_check.specs.declared.verdict.Verdict.TheVariants.{Valid, Invalid}
 use Rattle.answer_text.specs.declared.answers.Reached.{Reached}
-use Rattle.answer_check.specs.Reasons.{reason_number, IsLineRefused, IsPairRefused, IsJudged}
+use Rattle.answer_check.specs.Reasons.{reason_number, IsLineRefused}
 use Rattle.answer_check.specs.Verdicts.{HasHeader, Names, IsRefusedAt, IsWrongIn, IsWrong, IsEarlier, IsFirstWrong, IsVerdict}
 use Rattle.answer_check.specs.Places.{IsJudgedAt}
-use Rattle.answer_check.proofs.Certified.{lines_are_certified, same_some}
+use Rattle.answer_check.proofs.Certified.{lines_are_certified}
 use Rattle.answer_check.proofs.Refused.{certified_not_refused}
 use Rattle.answer_check.proofs.PairsJudged.{pair_not_refused}
 
@@ -69,10 +70,6 @@ asks_of g (variants.Pairs ps) within k q e = mapped_at (AsksOf g) of_pair ps.ite
 asks_of g (variants.Multi ls) within k q e = mapped_at (AsksOf g) of_list ls.items (λ i d lt. (within i d lt).vertices) k q e
 
 module _ {V : Type 0} (A : Algebra V) (g : Roads) where
-  -- an answer to another question is wrong as a whole
-  pub mismatch_judged : (q : Question) (t : Told) → (Names g q t → ⊥) → IsJudgedAt (IsAnswer A g q t) (IsWrongIn A g q t) (Some (record { vertex = 0; reason = Mismatch }))
-  mismatch_judged q t other = (inl (refl, refl, other), λ v r earlier h. none_earlier v r earlier)
-
   -- in an answer that names its question, only vertices are wrong
   pub named_judged : (q : Question) (t : Told) → Names g q t → (o : Option Place) → IsJudgedAt (IsAnswer A g q t) (IsRefusedAt A g q t) o → IsJudgedAt (IsAnswer A g q t) (IsWrongIn A g q t) o
   named_judged q t named None right = right
@@ -89,19 +86,6 @@ module _ {V : Type 0} (A : Algebra V) (g : Roads) where
       IsJudgedAt (IsAnswer A g (FromSources ss) (ToldMulti rs lines)) (IsWrongIn A g (FromSources ss) (ToldMulti rs lines)) o
   sources_judged ss rs lines e n None h = (e, h)
   sources_judged ss rs lines e n (Some p) h = named_judged (FromSources ss) (ToldMulti rs lines) (e, n) (Some p) h
-
-  -- the place of a reason against a pair is its target
-  abbrev pub place_of : ℕ → Option Reason → Option Place
-  place_of t None = None
-  place_of t (Some r) = Some (record { vertex = t; reason = r })
-
-  pub pair_place : (s t r u : ℕ) (found : Option ToldFound) → r ≡ s → u ≡ t → (o : Option Reason) → IsJudged (IsPairAnswer A g s t found) (IsPairRefused A g s t found) o →
-      IsJudgedAt (IsAnswer A g (BetweenPair s t) (ToldPair r u found)) (IsWrongIn A g (BetweenPair s t) (ToldPair r u found)) (place_of t o)
-  pair_place s t r u found e f None h = (e, f, h)
-  pair_place s t r u found e f (Some reason) h = named_judged (BetweenPair s t) (ToldPair r u found) (e, f) (Some (record { vertex = t; reason = reason })) (
-    (refl, h.0),
-    λ v q earlier k. elim earlier [ inl less ↦ let same = k.0 in omega (arith, less, same) | inr same ↦ h.1 q same.1 k.1 ],
-  )
 
   names_answer : (q : Question) (t : Told) → IsAnswer A g q t → Names g q t
   names_answer (FromSource s) (ToldSource r lines) h = (h.0, h.1.count)
@@ -123,7 +107,7 @@ module _ {V : Type 0} (A : Algebra V) (g : Roads) where
     not_refused_at (FromSource s) (ToldSource k lines) asks right v r h =
         let in_s = all_inside g (s ∷ []) (All-cons (HasVertex g) s [] asks (All-nil (HasVertex g))) in
         certified_not_refused A lawful g lines (s ∷ []) v ((lines_are_certified A lawful g roads (s ∷ []) in_s lines right.1).each v h.0) r h.1
-    not_refused_at (BetweenPair s u) (ToldPair k w found) asks right v r h = pair_not_refused A lawful g roads s u found r right.2 h.1
+    not_refused_at (BetweenPair s u) (ToldPair k w found) asks right v r h = pair_not_refused A lawful g s u found r right.2 h.1
     not_refused_at (FromSources ss) (ToldMulti rs lines) asks right v r h =
         certified_not_refused A lawful g lines ss v ((lines_are_certified A lawful g roads ss (all_inside g ss asks) lines right.1).each v h.0) r h.1
     not_refused_at (FromSource s) (ToldPair k u found) asks right v r h = h
@@ -176,7 +160,7 @@ module _ {V : Type 0} (A : Algebra V) (g : Roads) where
     answer_at (p ∷ qs) (u ∷ ts) h (suc k) q t e f = answer_at qs ts h.1 k q t e f
 
     header_of : (asked : Asked) (told : ToldList) → IsAnswerList A g asked told → HasHeader A g asked told
-    header_of asked told right = record { name_is = right.name_is; kind_is = right.kind_is; n_is = right.n_is; count = answers_count A lawful g asked.questions told.list right.answers }
+    header_of asked told right = record { name_is = right.name_is; kind_is = right.kind_is; n_is = right.n_is; count = answers_count A g asked.questions told.list right.answers }
 
     module _ (asked : Asked) (told : ToldList) (asks : (k : ℕ) (q : Question) → slice_get asked.questions k ≡ Some q → AsksOf g q) where
       -- a right list is wrong nowhere

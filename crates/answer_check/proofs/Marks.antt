@@ -1,23 +1,14 @@
 -- One source more is marked.
-use Rattle.std.proofs.Common.{◌≡◌, ℕ, ◌+◌, ◌-◌, ◌<◌, ◌≤◌, inl, inr, Bool, true, false, List, [], ◌∷◌, ◌++◌, length, get_or, set, take, replicate, ap, sym, ◌∙◌, subst, arith, get_or-set_same, get_or-set_other}
+use Rattle.std.proofs.Common.{◌≡◌, ℕ, ◌+◌, ◌-◌, ◌<◌, ◌≤◌, inl, inr, Bool, true, false, List, [], ◌∷◌, ◌++◌, length, get_or, set, take, ap, sym, ◌∙◌, subst, arith, get_or-set_same, get_or-set_other}
 use Rattle.std.specs.Prelude.{IsTrue, Contains, ◌↔◌}
 use Rattle.std.proofs.lemmas.Bool.{cases_eq}
-use Rattle.std.proofs.lemmas.List.{take_more, get_or-replicate}
-use Rattle.std.proofs.lemmas.List.Elements.{Contains-append_left, Contains-append_right, Contains-append_cases}
+use Rattle.std.proofs.lemmas.List.{take_more}
+use Rattle.std.proofs.lemmas.List.Elements.{Contains-append_left, Contains-push, Contains-push_cases}
 use Rattle.path_algebra.specs.Walks.{is_marked}
-use Rattle.route_tree.proofs.Elements.{not_in_empty, head_or_tail, here}
 
 -- the marks tell which of n vertices are in a list
 abbrev pub AreMarksOf : ℕ → List ℕ → List Bool → Type 0
 AreMarksOf n sources marks = (v : ℕ) → 1 ≤ v → v ≤ n → IsTrue (is_marked marks v) ↔ Contains sources v
-
-pub no_marks : (n : ℕ) → AreMarksOf n [] (replicate n false)
-no_marks n v low high = (
-  λ t.
-      let none = get_or-replicate n (v - 1) false false (omega (arith, low, high)) in
-      let bad : false ≡ true = sym none ∙ t in absurd (cc),
-  λ h. absurd (not_in_empty v h),
-)
 
 module _ (n : ℕ) (sources : List ℕ) (marks : List Bool) (s : ℕ) (count : length marks ≡ n) (low : 1 ≤ s) (high : s ≤ n) (known : AreMarksOf n sources marks) where
   at_source : is_marked (set marks (s - 1) true) s ≡ true
@@ -29,15 +20,15 @@ module _ (n : ℕ) (sources : List ℕ) (marks : List Bool) (s : ℕ) (count : l
   one_marked : AreMarksOf n (sources ++ s ∷ []) (set marks (s - 1) true)
   one_marked v in_low in_high = elim (cases_eq v s) [
     | inl same ↦ (
-      λ t. Contains-append_right sources (s ∷ []) v (subst (λ (k : ℕ). Contains (s ∷ []) k) (sym same) (here s [])),
+      λ t. subst (λ (k : ℕ). Contains (sources ++ s ∷ []) k) (sym same) (Contains-push sources s),
       λ h. subst (λ (k : ℕ). is_marked (set marks (s - 1) true) k ≡ true) (sym same) at_source,
     )
     | inr other ↦
         let kept = elsewhere v (λ e. other (omega (arith, low, in_low, e))) in (
           λ t. Contains-append_left sources (s ∷ []) v ((known v in_low in_high).0 (sym kept ∙ t)),
-          λ h. elim (Contains-append_cases sources (s ∷ []) v h) [
+          λ h. elim (Contains-push_cases sources s v h) [
             | inl old ↦ kept ∙ (known v in_low in_high).1 old
-            | inr new ↦ elim (head_or_tail s v [] new) [ inl same ↦ absurd (other (sym same)) | inr none ↦ absurd (not_in_empty v none) ]
+            | inr new ↦ absurd (other (sym new))
           ],
         )
   ]

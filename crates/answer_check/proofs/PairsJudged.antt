@@ -1,19 +1,18 @@
 -- How what is told of a pair differs from the right answer is the first reason against it.
-use Rattle.std.proofs.Common.{◌≡◌, ℕ, ◌<◌, List, [], ◌∷◌, ap, sym, ◌∙◌, subst, arith, Option, Some, None}
-use Rattle.road_graph.specs.Roads.{Roads, IsRoads}
+use Rattle.std.proofs.Common.{◌≡◌, ℕ, ◌<◌, List, [], ◌∷◌, sym, subst, arith, Option, Some, None}
+use Rattle.road_graph.specs.Roads.{Roads}
 use Rattle.path_algebra.specs.Algebra.{Algebra, IsLawful}
-use Rattle.path_algebra.specs.Walks.{IsBest, IsBestLabel, IsUnreached, AreHops, IsWalkValue}
-use Rattle.path_algebra.proofs.Tight.{best_is_one}
-use Rattle.route_tree.specs.Told.{IsToldOf, IsParentRoute}
-use Rattle.route_tree.proofs.Elements.{here}
+use Rattle.path_algebra.specs.Walks.{IsBest, IsUnreached, AreHops}
+use Rattle.route_tree.specs.Told.{IsToldOf}
 use Rattle.answer_text.specs.Told.{ToldFound}
 use Rattle.answer_text.specs.IsAnswer.{IsBestCode, IsRouteBetween, IsFoundBetween, IsPairAnswer}
+use Rattle.answer_text.proofs.OneAnswer.{code_once, hops_once, route_once}
 use Rattle.answer_check.specs.declared.verdict.Reason.{Reason}
 use Rattle.answer_check.specs.declared.verdict.Reason.TheVariants.{Mismatch, NotBest, NoParent, OtherHops, LesserParent, HasWalk, OtherRoute}
 use Rattle.answer_check.specs.Pairs.{IsOther}
 use Rattle.answer_check.specs.Reasons.{IsPairRefused, IsJudged, reason_number}
 
-module _ {V : Type 0} (A : Algebra V) (lawful : IsLawful A) (g : Roads) (roads : IsRoads g) (s t : ℕ) where
+module _ {V : Type 0} (A : Algebra V) (lawful : IsLawful A) (g : Roads) (s t : ℕ) where
   -- nothing speaks against the right answer
   pub pair_not_refused : (found : Option ToldFound) (r : Reason) → IsPairAnswer A g s t found → IsPairRefused A g s t found r → ⊥
   pair_not_refused None HasWalk right h = right h.0 h.1
@@ -31,19 +30,6 @@ module _ {V : Type 0} (A : Algebra V) (lawful : IsLawful A) (g : Roads) (roads :
   pair_not_refused (Some f) LesserParent right h = h
   pair_not_refused (Some f) HasWalk right h = h
 
-  -- none is told where a walk has a value
-  pub walk_told_none : (y : V) → IsWalkValue A g (s ∷ []) t y → IsJudged (IsPairAnswer A g s t None) (IsPairRefused A g s t None) (Some HasWalk)
-  walk_told_none y w = ((y, w), before)
-    where
-      before : (r : Reason) → reason_number r < 6 → IsPairRefused A g s t None r → ⊥
-      before HasWalk lt h = omega (arith, lt)
-      before Mismatch lt h = h
-      before NotBest lt h = h
-      before NoParent lt h = h
-      before OtherHops lt h = h
-      before LesserParent lt h = h
-      before OtherRoute lt h = h
-
   -- something is told where no walk has a value
   pub told_without_walk : (f : ToldFound) → IsUnreached A g (s ∷ []) t → IsJudged (IsPairAnswer A g s t (Some f)) (IsPairRefused A g s t (Some f)) (Some NotBest)
   told_without_walk f none = (λ code. none code.0 code.1.attained, before)
@@ -57,24 +43,11 @@ module _ {V : Type 0} (A : Algebra V) (lawful : IsLawful A) (g : Roads) (roads :
       before LesserParent lt h = h
       before HasWalk lt h = h
 
-  module _ (only : (list other : List ℕ) → IsParentRoute A g (s ∷ []) t list → IsParentRoute A g (s ∷ []) t other → list ≡ other)
-      (code hops : ℕ) (route : List ℕ) (code_is : IsBestCode A g (s ∷ []) t code) (hops_are : AreHops A g (s ∷ []) t hops) (route_is : IsRouteBetween A g s t route) where
-    code_once : (c : ℕ) → IsBestCode A g (s ∷ []) t c → c ≡ code
-    code_once c h = h.2 ∙ ap A.code (best_is_one A lawful g roads (s ∷ []) t h.0 code_is.0 h.1 code_is.1) ∙ sym code_is.2
-
-    hops_once : (k : ℕ) → AreHops A g (s ∷ []) t k → k ≡ hops
-    hops_once k h = let a = h.least hops hops_are.attained in let b = hops_are.least k h.attained in omega (arith, a, b)
-
-    as_route : (list : List ℕ) → IsRouteBetween A g s t list → IsParentRoute A g (s ∷ []) t list
-    as_route list h = record { first = s; rest = h.0; is = h.1; begins = here s []; chain = h.2 }
-
-    route_once : (list : List ℕ) → IsRouteBetween A g s t list → list ≡ route
-    route_once list h = only list route (as_route list h) (as_route route route_is)
-
+  module _ (code hops : ℕ) (route : List ℕ) (code_is : IsBestCode A g (s ∷ []) t code) (hops_are : AreHops A g (s ∷ []) t hops) (route_is : IsRouteBetween A g s t route) where
     refused : (f : ToldFound) (r : Reason) → IsOther code hops route f r → IsPairRefused A g s t (Some f) r
-    refused f NotBest h = λ k. h (code_once f.code k)
-    refused f OtherHops h = λ k. h (hops_once f.hops k)
-    refused f OtherRoute h = λ k. h (route_once f.route k)
+    refused f NotBest h = λ k. h (code_once A lawful g (s ∷ []) t f.code code k code_is)
+    refused f OtherHops h = λ k. h (hops_once A lawful g (s ∷ []) t f.hops hops k hops_are)
+    refused f OtherRoute h = λ k. h (route_once A lawful g s t f.route route k route_is)
     refused f Mismatch h = h
     refused f NoParent h = h
     refused f LesserParent h = h
@@ -118,7 +91,3 @@ module _ {V : Type 0} (A : Algebra V) (lawful : IsLawful A) (g : Roads) (roads :
   unreached_by_hops None (Some i) u h e = let bad : Some i ≡ None = e in absurd (cc)
   unreached_by_hops (Some y) None u h e = absurd h
   unreached_by_hops (Some y) (Some i) u h e = let bad : Some i ≡ None = e in absurd (cc)
-
-  -- the label of t is best
-  pub best_label : (l m : Option V) → IsBestLabel A g (s ∷ []) t m → l ≡ m → IsBestLabel A g (s ∷ []) t l
-  best_label l m h e = subst (IsBestLabel A g (s ∷ []) t) (sym e) h

@@ -2,6 +2,7 @@
 use Rattle.std.proofs.Common.{◌≡◌, ℕ, ◌+◌, inl, inr, List, ap, ◌∙◌, subst, arith, Option, Some, None}
 use Rattle.std.specs.Prelude.{IsTrue, Contains}
 use Rattle.road_graph.specs.Roads.{Roads}
+use Rattle.road_graph.proofs.Options.{same_some}
 use Rattle.path_algebra.specs.Algebra.{Algebra, IsLawful}
 use Rattle.path_algebra.specs.Walks.{label_of}
 use Rattle.answer_text.specs.declared.answers.Reached.{Reached}
@@ -9,7 +10,7 @@ use Rattle.answer_check.specs.declared.verdict.Reason.{Reason}
 use Rattle.answer_check.specs.declared.verdict.Reason.TheVariants.{Mismatch, NotBest, NoParent, OtherHops, LesserParent, HasWalk, OtherRoute}
 use Rattle.answer_check.specs.Reasons.{Brings, Gives, source_line, IsRefused, IsLineRefused}
 use Rattle.answer_check.specs.Certificates.{IsSupported, IsRightLine, IsCertifiedAt}
-use Rattle.answer_check.proofs.Certified.{same_some, code_of_one}
+use Rattle.answer_check.proofs.Certified.{code_of_one}
 
 module _ {V : Type 0} (A : Algebra V) (lawful : IsLawful A) (g : Roads) (lines : List (Option Reached)) where
   -- what gives the line's value brings the value that supports it

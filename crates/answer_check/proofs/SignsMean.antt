@@ -3,12 +3,13 @@ use Rattle.std.proofs.Common.{◌≡◌, ℕ, ◌+◌, ◌<◌, ◌≤◌, ◌^�
 use Rattle.std.specs.Prelude.{IsTrue, Contains}
 use Rattle.std.specs.List.{list_any}
 use Rattle.std.proofs.Common.{eqb-true, eq-eqb}
-use Rattle.std.proofs.lemmas.Bool.{lt-ltb, ltb-true, ltb-false}
+use Rattle.std.proofs.lemmas.Bool.{eqb-false, lt-ltb, ltb-true, ltb-false, and_parts, not-true, not-false}
 use Rattle.std.proofs.lemmas.List.Folds.{list_any_at}
 use Rattle.road_graph.specs.Roads.{Roads, HasArc, arc_of, ListsArcsInto}
+use Rattle.road_graph.proofs.Lists.{here, later}
+use Rattle.road_graph.proofs.Options.{same_some}
 use Rattle.path_algebra.specs.Algebra.{Algebra, IsLawful}
 use Rattle.path_algebra.specs.Walks.{label_of}
-use Rattle.route_tree.proofs.Elements.{here, later}
 use Rattle.answer_text.specs.declared.answers.Reached.{Reached}
 use Rattle.answer_check.specs.declared.signs.Signs.{Signs}
 use Rattle.answer_check.specs.declared.verdict.Reason.{Reason}
@@ -16,7 +17,7 @@ use Rattle.answer_check.specs.declared.verdict.Reason.TheVariants.{Mismatch, Not
 use Rattle.answer_check.specs.Reasons.{IsCodeOf, Brings, Gives, IsRefused, IsJudged, reason_number}
 use Rattle.answer_check.specs.Certificates.{IsSupported, IsRightLine}
 use Rattle.answer_check.specs.Signs.{decoded, extended, beside, brought_from, brought, is_same, signs_by, signs_of, all_signs, reason_by, is_there}
-use Rattle.answer_check.proofs.Certified.{same_some, code_of_one}
+use Rattle.answer_check.proofs.Certified.{code_of_one}
 
 found_at_head : (p : ℕ → Bool) (x : ℕ) (xs : List ℕ) (b : Bool) → p x ≡ b → list_any p (x ∷ xs) ≡ true →
     (list_any p xs ≡ true → (a : ℕ) × Contains xs a × (p a ≡ true)) → (a : ℕ) × Contains (x ∷ xs) a × (p a ≡ true)
@@ -124,28 +125,9 @@ module _ {V : Type 0} (A : Algebra V) (lawful : IsLawful A) where
           let here : test (arc_of g b.arc).tail near z ≡ false = subst (λ (o : Option (Reached × V)). on_brought test (arc_of g b.arc).tail o ≡ false) (brings_brought u v near z b) shown in
           subst (λ (k : ℕ). test k near z ≡ false) b.tail_is here
 
-both_true : (a b : Bool) → (a && b) ≡ true → (a ≡ true) × (b ≡ true)
-both_true true true h = (refl, refl)
-both_true true false h = let bad : false ≡ true = h in absurd (cc)
-both_true false b h = let bad : false ≡ true = h in absurd (cc)
-
 not_both : (a b : Bool) → (a && b) ≡ false → a ≡ true → b ≡ false
 not_both true b h e = h
 not_both false b h e = let bad : false ≡ true = e in absurd (cc)
-
-turned_true : (b : Bool) → not b ≡ true → b ≡ false
-turned_true false h = refl
-turned_true true h = let bad : false ≡ true = h in absurd (cc)
-
-turned_false : (b : Bool) → not b ≡ false → b ≡ true
-turned_false true h = refl
-turned_false false h = let bad : true ≡ false = h in absurd (cc)
-
-not_equal : (a b : ℕ) → nat_eq a b ≡ false → a ≡ b → ⊥
-not_equal a b h e = let bad : true ≡ false = sym (eq-eqb a b e) ∙ h in cc
-
-not_less : (a b : ℕ) → nat_lt a b ≡ false → b ≤ a
-not_less a b h = ltb-false a b h
 
 -- the reasons below a number, where those that could come first do not hold
 no_earlier : {V : Type 0} (A : Algebra V) (g : Roads) (lines : List (Option Reached)) (v : ℕ) (r : Reached) (n : ℕ) → n ≤ 5 →
@@ -212,11 +194,11 @@ module _ {V : Type 0} (A : Algebra V) (lawful : IsLawful A) (g : Roads) (lines :
   is_beaten : shown.better ≡ true → IsRefused A g lines v (Some r) NotBest
   is_beaten h =
       let f = found A lawful g lines v arcs into better (λ a. (signs_of A A.no_worse g lines r y a).better) (λ a. better_is (arc_of g a).tail (brought A g lines a)) h in
-      (y, code, (f.0, f.1, f.2, f.3, λ t. let bad : true ≡ false = sym t ∙ turned_true (A.no_worse y f.2) f.4 in cc))
+      (y, code, (f.0, f.1, f.2, f.3, λ t. let bad : true ≡ false = sym t ∙ not-true (A.no_worse y f.2) f.4 in cc))
 
   none_better : shown.better ≡ false → (u : ℕ) (near : Reached) (z : V) → Brings A g lines u v near z → IsTrue (A.no_worse y z)
   none_better h u near z b =
-      turned_false (A.no_worse y z) (missed A lawful g lines v arcs into better (λ a. (signs_of A A.no_worse g lines r y a).better) (λ a. better_is (arc_of g a).tail (brought A g lines a)) h u near z b)
+      not-false (A.no_worse y z) (missed A lawful g lines v arcs into better (λ a. (signs_of A A.no_worse g lines r y a).better) (λ a. better_is (arc_of g a).tail (brought A g lines a)) h u near z b)
 
   not_beaten : shown.better ≡ false → IsRefused A g lines v (Some r) NotBest → ⊥
   not_beaten h beaten =
@@ -226,23 +208,23 @@ module _ {V : Type 0} (A : Algebra V) (lawful : IsLawful A) (g : Roads) (lines :
   from_parent : shown.supported ≡ true → (near : Reached) × Gives A g lines r.parent v near r
   from_parent h =
       let f = found A lawful g lines v arcs into supported (λ a. (signs_of A A.no_worse g lines r y a).supported) (λ a. supported_is (arc_of g a).tail (brought A g lines a)) h in
-      let t = both_true (is_same A.no_worse y f.2) (nat_eq f.0 r.parent) f.4 in
+      let t = and_parts (is_same A.no_worse y f.2) (nat_eq f.0 r.parent) f.4 in
       (f.1, subst (λ (u : ℕ). Gives A g lines u v f.1 r) (eqb-true f.0 r.parent t.1) (value_given f.0 f.1 f.2 f.3 t.0))
 
   no_parent : shown.supported ≡ false → IsRefused A g lines v (Some r) NoParent
   no_parent h = λ near gives.
       let none = missed A lawful g lines v arcs into supported (λ a. (signs_of A A.no_worse g lines r y a).supported) (λ a. supported_is (arc_of g a).tail (brought A g lines a)) h r.parent near y (gives_value r.parent near gives) in
-      not_equal r.parent r.parent (not_both (is_same A.no_worse y y) (nat_eq r.parent r.parent) none (same_itself A lawful y)) refl
+      eqb-false r.parent r.parent (not_both (is_same A.no_worse y y) (nat_eq r.parent r.parent) none (same_itself A lawful y)) refl
 
   goes_astray : shown.astray ≡ true → IsRefused A g lines v (Some r) OtherHops
   goes_astray h =
       let f = found A lawful g lines v arcs into astray (λ a. (signs_of A A.no_worse g lines r y a).astray) (λ a. astray_is (arc_of g a).tail (brought A g lines a)) h in
-      let t = both_true (is_same A.no_worse y f.2) (nat_eq f.0 r.parent && not (nat_eq (f.1.hops + 1) r.hops)) f.4 in
-      let s = both_true (nat_eq f.0 r.parent) (not (nat_eq (f.1.hops + 1) r.hops)) t.1 in
+      let t = and_parts (is_same A.no_worse y f.2) (nat_eq f.0 r.parent && not (nat_eq (f.1.hops + 1) r.hops)) f.4 in
+      let s = and_parts (nat_eq f.0 r.parent) (not (nat_eq (f.1.hops + 1) r.hops)) t.1 in
       inl (
         f.1,
         subst (λ (u : ℕ). Gives A g lines u v f.1 r) (eqb-true f.0 r.parent s.0) (value_given f.0 f.1 f.2 f.3 t.0),
-        not_equal (f.1.hops + 1) r.hops (turned_true (nat_eq (f.1.hops + 1) r.hops) s.1),
+        eqb-false (f.1.hops + 1) r.hops (not-true (nat_eq (f.1.hops + 1) r.hops) s.1),
       )
 
   hops_of_parent : shown.astray ≡ false → (near : Reached) → Gives A g lines r.parent v near r → near.hops + 1 ≡ r.hops
@@ -250,18 +232,18 @@ module _ {V : Type 0} (A : Algebra V) (lawful : IsLawful A) (g : Roads) (lines :
       let none = missed A lawful g lines v arcs into astray (λ a. (signs_of A A.no_worse g lines r y a).astray) (λ a. astray_is (arc_of g a).tail (brought A g lines a)) h r.parent near y (gives_value r.parent near gives) in
       let t = not_both (is_same A.no_worse y y) (nat_eq r.parent r.parent && not (nat_eq (near.hops + 1) r.hops)) none (same_itself A lawful y) in
       let s = not_both (nat_eq r.parent r.parent) (not (nat_eq (near.hops + 1) r.hops)) t (eq-eqb r.parent r.parent refl) in
-      eqb-true (near.hops + 1) r.hops (turned_false (nat_eq (near.hops + 1) r.hops) s)
+      eqb-true (near.hops + 1) r.hops (not-false (nat_eq (near.hops + 1) r.hops) s)
 
   has_nearer : shown.nearer ≡ true → IsRefused A g lines v (Some r) OtherHops
   has_nearer h =
       let f = found A lawful g lines v arcs into nearer (λ a. (signs_of A A.no_worse g lines r y a).nearer) (λ a. nearer_is (arc_of g a).tail (brought A g lines a)) h in
-      let t = both_true (is_same A.no_worse y f.2) (nat_lt (f.1.hops + 1) r.hops) f.4 in
+      let t = and_parts (is_same A.no_worse y f.2) (nat_lt (f.1.hops + 1) r.hops) f.4 in
       inr (f.0, f.1, value_given f.0 f.1 f.2 f.3 t.0, ltb-true (f.1.hops + 1) r.hops t.1)
 
   none_nearer : shown.nearer ≡ false → (u : ℕ) (near : Reached) → Brings A g lines u v near y → r.hops ≤ near.hops + 1
   none_nearer h u near b =
       let none = missed A lawful g lines v arcs into nearer (λ a. (signs_of A A.no_worse g lines r y a).nearer) (λ a. nearer_is (arc_of g a).tail (brought A g lines a)) h u near y b in
-      not_less (near.hops + 1) r.hops (not_both (is_same A.no_worse y y) (nat_lt (near.hops + 1) r.hops) none (same_itself A lawful y))
+      ltb-false (near.hops + 1) r.hops (not_both (is_same A.no_worse y y) (nat_lt (near.hops + 1) r.hops) none (same_itself A lawful y))
 
   same_hops : shown.astray ≡ false → shown.nearer ≡ false → IsRefused A g lines v (Some r) OtherHops → ⊥
   same_hops h k (inl o) = o.2 (hops_of_parent h o.0 o.1)
@@ -272,20 +254,20 @@ module _ {V : Type 0} (A : Algebra V) (lawful : IsLawful A) (g : Roads) (lines :
   has_lesser : shown.lesser ≡ true → IsRefused A g lines v (Some r) LesserParent
   has_lesser h =
       let f = found A lawful g lines v arcs into lesser (λ a. (signs_of A A.no_worse g lines r y a).lesser) (λ a. lesser_is (arc_of g a).tail (brought A g lines a)) h in
-      let t = both_true (is_same A.no_worse y f.2) (nat_lt f.0 r.parent && nat_eq (f.1.hops + 1) r.hops) f.4 in
-      let s = both_true (nat_lt f.0 r.parent) (nat_eq (f.1.hops + 1) r.hops) t.1 in
+      let t = and_parts (is_same A.no_worse y f.2) (nat_lt f.0 r.parent && nat_eq (f.1.hops + 1) r.hops) f.4 in
+      let s = and_parts (nat_lt f.0 r.parent) (nat_eq (f.1.hops + 1) r.hops) t.1 in
       (f.0, f.1, value_given f.0 f.1 f.2 f.3 t.0, ltb-true f.0 r.parent s.0, eqb-true (f.1.hops + 1) r.hops s.1)
 
   none_lesser : shown.lesser ≡ false → (u : ℕ) (near : Reached) → Brings A g lines u v near y → near.hops + 1 ≡ r.hops → r.parent ≤ u
   none_lesser h u near b e =
       let none = missed A lawful g lines v arcs into lesser (λ a. (signs_of A A.no_worse g lines r y a).lesser) (λ a. lesser_is (arc_of g a).tail (brought A g lines a)) h u near y b in
       let t = not_both (is_same A.no_worse y y) (nat_lt u r.parent && nat_eq (near.hops + 1) r.hops) none (same_itself A lawful y) in
-      let swapped : (nat_lt u r.parent ≡ true) → ⊥ = λ less. not_equal (near.hops + 1) r.hops (not_both (nat_lt u r.parent) (nat_eq (near.hops + 1) r.hops) t less) e in
+      let swapped : (nat_lt u r.parent ≡ true) → ⊥ = λ less. eqb-false (near.hops + 1) r.hops (not_both (nat_lt u r.parent) (nat_eq (near.hops + 1) r.hops) t less) e in
       at_most u r.parent (nat_lt u r.parent) refl swapped
     where
       at_most : (a b : ℕ) (t : Bool) → nat_lt a b ≡ t → (nat_lt a b ≡ true → ⊥) → b ≤ a
       at_most a b true f no_less = absurd (no_less f)
-      at_most a b false f no_less = not_less a b f
+      at_most a b false f no_less = ltb-false a b f
 
   abbrev Judged : Option Reason → Type 0
   Judged o = IsJudged (IsSupported A g lines v r) (IsRefused A g lines v (Some r)) o
@@ -326,13 +308,6 @@ module _ {V : Type 0} (A : Algebra V) (lawful : IsLawful A) (g : Roads) (lines :
   pub signs_judge : Judged (reason_by shown)
   signs_judge = by_better shown.better refl
 
--- a line whose code is no value's is refused for its parent, and for nothing before
-pub no_value_judged : {V : Type 0} (A : Algebra V) (lawful : IsLawful A) (g : Roads) (lines : List (Option Reached)) (v : ℕ) (r : Reached) → decoded A r.code ≡ None →
-    IsJudged (IsSupported A g lines v r) (IsRefused A g lines v (Some r)) (Some NoParent)
-no_value_judged {V} A lawful g lines v r none =
-    let no_code : (x : V) → IsCodeOf A r.code x → ⊥ = λ x h. (let bad : None ≡ Some x = sym none ∙ is_decoded A lawful r.code x h in cc) in
-    (λ near gives. no_code gives.0 gives.1, no_earlier A g lines v r 3 (omega arith) (λ _ h. no_code h.0 h.1) (λ lt. absurd (omega (arith, lt))) (λ lt. absurd (omega (arith, lt))))
-
 module _ {V : Type 0} (A : Algebra V) (lawful : IsLawful A) (g : Roads) (lines : List (Option Reached)) (v : ℕ) (arcs : List ℕ) (into : ListsArcsInto g v arcs) where
   there_is : (u : ℕ) (o : Option (Reached × V)) → is_there o ≡ on_brought A lawful g lines (λ _ _ _. true) u o
   there_is u None = refl
@@ -352,8 +327,3 @@ module _ {V : Type 0} (A : Algebra V) (lawful : IsLawful A) (g : Roads) (lines :
   walk_judged h =
       let f = found A lawful g lines v arcs into (λ _ _ _. true) (λ a. is_there (brought A g lines a)) (λ a. there_is (arc_of g a).tail (brought A g lines a)) h in
       ((f.0, f.1, f.2, f.3), before_walk)
-
-  -- where none does, it is right
-  pub no_walk_judged : list_any (λ a. is_there (brought A g lines a)) arcs ≡ false → IsRightLine A g lines v None
-  no_walk_judged h = λ u near z b.
-      let bad : true ≡ false = missed A lawful g lines v arcs into (λ _ _ _. true) (λ a. is_there (brought A g lines a)) (λ a. there_is (arc_of g a).tail (brought A g lines a)) h u near z b in cc

@@ -16,9 +16,9 @@ module _ {V : Type 0} (A : Algebra V) (lawful : IsLawful A) (g : Roads) where
   pub first_answers_text : (asked : Asked) (count : ℕ) (ts : List Told) (all : ToldList) → AreAnswers A g (take count asked.questions) ts → IsAnswerList A g asked all
       → (rest : List ℕ) × (answers_text all ≡ (header_text asked.kind (length asked.questions) A.name ++ blocks_text ts) ++ rest)
   first_answers_text asked count ts all are is =
-      let same : ts ≡ take count all.list = answers_once A lawful g (take count asked.questions) ts (take count all.list) are (first_answers A lawful g count asked.questions all.list is.answers) in
+      let same : ts ≡ take count all.list = answers_once A lawful g (take count asked.questions) ts (take count all.list) are (first_answers A g count asked.questions all.list is.answers) in
       let head : header_text all.kind (length all.list) all.name ≡ header_text asked.kind (length asked.questions) A.name =
-      ap (λ k. header_text k (length all.list) all.name) is.kind_is ∙ ap (λ n. header_text asked.kind n all.name) (answers_count A lawful g asked.questions all.list is.answers)
+      ap (λ k. header_text k (length all.list) all.name) is.kind_is ∙ ap (λ n. header_text asked.kind n all.name) (answers_count A g asked.questions all.list is.answers)
       ∙ ap (λ x. header_text asked.kind (length asked.questions) x) is.name_is in
       let rest : List ℕ = blocks_text (drop count all.list) in
       let blocks : blocks_text all.list ≡ blocks_text ts ++ rest =

@@ -1,6 +1,6 @@
 -- What is kept of a line is enough for the rules of an answer text.
 use Rattle.std.proofs.Common.{◌≡◌, ℕ, zero, suc, ◌+◌, ◌<◌, min, List, [], ◌∷◌, length, take, drop, map, Option, Some, None, Result, Bool, true, false, ◌&&◌, ◌||◌, eqb, nat_lt, ◌⊎◌, inl, inr, refl, sym, ap, ◌∙◌, arith, lit<, codes}
-use Rattle.std.proofs.lemmas.Bool.{ne_eqb, cases_lt, lt-ltb, le-ltb}
+use Rattle.std.proofs.lemmas.Bool.{ne_eqb, cases_lt, lt-ltb, le-ltb, or_left, or_right}
 use Rattle.std.proofs.lemmas.Bool.Decides.{nat_tests}
 use Rattle.std.proofs.lemmas.List.{length-map}
 use Rattle.std.specs.Str.{bytes_eq}
@@ -209,20 +209,13 @@ module _ (n : ℕ) (ws : List Word) (m : ℕ) (p q : Result (List ℕ) ℕ) (e :
   unfolding line_given
   given_same s = rw (told_same s) refl
 
-right_true : (a b : Bool) → b ≡ true → (a || b) ≡ true
-right_true true b e = refl
-right_true false b e = e
-
-left_true : (a b : Bool) → a ≡ true → (a || b) ≡ true
-left_true a b e = rw e refl
-
 begun_by_m : (fs : List (List ℕ)) → begins (codes "m") (map word_of fs) ≡ true → begins_list fs ≡ true
 begun_by_m [] e = e
-begun_by_m (f ∷ fs) e = right_true (bytes_eq f (codes "r")) (bytes_eq f (codes "m")) e
+begun_by_m (f ∷ fs) e = or_right (bytes_eq f (codes "r")) (bytes_eq f (codes "m")) e
 
 begun_by_r : (fs : List (List ℕ)) → begins (codes "r") (map word_of fs) ≡ true → begins_list fs ≡ true
 begun_by_r [] e = e
-begun_by_r (f ∷ fs) e = left_true (bytes_eq f (codes "r")) (bytes_eq f (codes "m")) e
+begun_by_r (f ∷ fs) e = or_left (bytes_eq f (codes "r")) (bytes_eq f (codes "m")) e
 
 route_by_r : (fs : List (List ℕ)) → begins (codes "r") (map word_of fs) ≡ true → begins_route fs ≡ true
 route_by_r [] e = e

@@ -4,6 +4,7 @@ use Rattle.std.proofs.lemmas.List.{append_cancel_right, reverse-append, reverse-
 use mathlib.Core.List.{reverse}
 use Rattle.std.specs.Prelude.{Contains}
 use Rattle.road_graph.specs.Roads.{Roads}
+use Rattle.road_graph.proofs.Lists.{here}
 use Rattle.path_algebra.specs.Algebra.{Algebra, IsLawful}
 use Rattle.path_algebra.specs.Walks.{IsBest, AreHops, IsParent, IsParentChain}
 use Rattle.road_files.specs.Asked.{Question, FromSource, BetweenPair, FromSources, Asked}
@@ -51,10 +52,10 @@ module _ {V : Type 0} (A : Algebra V) (lawful : IsLawful A) (g : Roads) where
   best_once : (sources : List ℕ) (v : ℕ) (x y : V) → IsBest A g sources v x → IsBest A g sources v y → x ≡ y
   best_once sources v x y h k = lawful.ordered.antisymmetric x y (h.least y k.attained) (k.least x h.attained)
 
-  code_once : (sources : List ℕ) (v c d : ℕ) → IsBestCode A g sources v c → IsBestCode A g sources v d → c ≡ d
+  pub code_once : (sources : List ℕ) (v c d : ℕ) → IsBestCode A g sources v c → IsBestCode A g sources v d → c ≡ d
   code_once sources v c d p q = p.2 ∙ ap A.code (best_once sources v p.0 q.0 p.1 q.1) ∙ sym q.2
 
-  hops_once : (sources : List ℕ) (v k j : ℕ) → AreHops A g sources v k → AreHops A g sources v j → k ≡ j
+  pub hops_once : (sources : List ℕ) (v k j : ℕ) → AreHops A g sources v k → AreHops A g sources v j → k ≡ j
   hops_once sources v k j p q = let a : k ≤ j = p.least j q.attained in let b : j ≤ k = q.least k p.attained in omega arith
 
   parent_once : (sources : List ℕ) (v u t : ℕ) → IsParent A g sources v u → IsParent A g sources v t → u ≡ t
@@ -125,11 +126,8 @@ module _ {V : Type 0} (A : Algebra V) (lawful : IsLawful A) (g : Roads) where
         let same : before_last s [] xs ≡ before_last s [] ys = back_once v (before_last s [] xs) (before_last s [] ys) (chain_back s [] xs v refl p) (chain_back s [] ys v refl q) in
         turned_once (s ∷ []) xs ys (sym (ends_turned s [] xs v p) ∙ ap (λ zs. v ∷ zs) same ∙ ends_turned s [] ys v q)
 
-  only_source : (s : ℕ) → Contains (s ∷ []) s
-  only_source s = (0, omega arith, refl)
-
-  route_once : (s t : ℕ) (xs ys : List ℕ) → IsRouteBetween A g s t xs → IsRouteBetween A g s t ys → xs ≡ ys
-  route_once s t xs ys p q = p.1 ∙ ap (λ zs. s ∷ zs) (chain_once s (s ∷ []) (only_source s) t p.0 q.0 p.2 q.2) ∙ sym q.1
+  pub route_once : (s t : ℕ) (xs ys : List ℕ) → IsRouteBetween A g s t xs → IsRouteBetween A g s t ys → xs ≡ ys
+  route_once s t xs ys p q = p.1 ∙ ap (λ zs. s ∷ zs) (chain_once s (s ∷ []) (here s []) t p.0 q.0 p.2 q.2) ∙ sym q.1
 
   pair_once : (s t : ℕ) (x y : Option ToldFound) → IsPairAnswer A g s t x → IsPairAnswer A g s t y → x ≡ y
   pair_once s t None None p q = refl
@@ -180,6 +178,7 @@ module _ {V : Type 0} (A : Algebra V) (lawful : IsLawful A) (g : Roads) where
       let with_list : List Told → ToldList = λ x. record { name = u.name; kind = u.kind; n = u.n; list = x } in
       ap with_name name ∙ ap with_kind kind ∙ ap with_n n ∙ ap with_list list
 
+module _ {V : Type 0} (A : Algebra V) (g : Roads) where
   -- the first answers answer the first questions
   pub first_answers : (count : ℕ) (qs : List Question) (ts : List Told) → AreAnswers A g qs ts → AreAnswers A g (take count qs) (take count ts)
   first_answers zero qs ts h = tt

@@ -1,7 +1,6 @@
 -- Answers that are written are read again.
-use Rattle.std.proofs.Common.{◌≡◌, ℕ, suc, ◌+◌, ◌<◌, ◌≤◌, ◌^◌, List, [], ◌∷◌, ◌++◌, length, map, Option, Some, None, Ok, Result, true, false, eqb, decimal, inl, inr, refl, sym, ap, ◌∙◌, subst, arith, codes, append_assoc, append-nil, length-append}
-use Rattle.std.proofs.lemmas.Bool.{ne_eqb, lt-ltb, le-ltb}
-use Rattle.std.proofs.lemmas.Bool.Decides.{eqb_tells}
+use Rattle.std.proofs.Common.{◌≡◌, ℕ, suc, ◌+◌, ◌<◌, ◌≤◌, ◌^◌, List, [], ◌∷◌, ◌++◌, length, map, Option, Some, None, Ok, Result, true, false, decimal, refl, sym, ap, ◌∙◌, subst, arith, codes, append_assoc, append-nil, length-append}
+use Rattle.std.proofs.lemmas.Bool.{eq-eqb, ne_eqb, lt-ltb, le-ltb}
 use Rattle.std.proofs.lemmas.List.{length-map}
 use Rattle.std.specs.List.{AllByRecursion, join_with_byte}
 use Rattle.path_algebra.specs.declared.name.AlgebraName.{AlgebraName}
@@ -22,9 +21,6 @@ use Rattle.answer_text.specs.Told.{Told, ToldSource, ToldPair, ToldMulti, ToldLi
 use Rattle.answer_text.specs.AnswerText.{header_words, source_words, pair_words, found_words, vertex_words, vertex_lines, answer_lines, answer_text, blocks_text, header_text, answers_text}
 use Rattle.answer_text.specs.AnswerFiles.{Named, OneSource, ManySources, Between, InLines, AfterPair, AfterFound, AnswersSoFar, numbers_in, header_line, source_line, pair_line, sources_line, route_line, reached_line, unreached_line, vertex_line, value_line, none_line, found_line, with_answer, with_stage, with_lines, told_lines, line_given, line_read, answer_rules}
 use Rattle.answer_text.specs.Writable.{AreSmall, IsLineWritable, AreLinesWritable, IsAnswerWritable, AreWritable}
-
-same_eqb : (a b : ℕ) → a ≡ b → eqb a b ≡ true
-same_eqb a b e = elim (eqb_tells a b) [ inl p ↦ p.0 | inr p ↦ absurd (p.1 e) ]
 
 small_word : (n : ℕ) → n < 2 ^ 32 → IsWord (decimal n)
 small_word n h = word_of_number n (omega arith)
@@ -76,7 +72,7 @@ module _ (n : ℕ) (result : Result ToldList ReadFault) where
   vertex_again : (s : AnswersSoFar) (named : Named) (done : List (Option Reached)) (v : ℕ) (x : Option Reached) → v ≡ length done + 1 → v < 2 ^ 32 → IsLineWritable x
       → line_read n (Some (with_stage s (InLines named done))) (map word_of (vertex_words v x)) ≡ Ok (Some (with_lines n s named (done ++ x ∷ [])))
   unfolding line_given vertex_line reached_line unreached_line
-  vertex_again s named done v None e lt h = rw (small_number v lt, le-ltb 4294967295 v (omega arith), same_eqb v (length done + 1) e) refl
+  vertex_again s named done v None e lt h = rw (small_number v lt, le-ltb 4294967295 v (omega arith), eq-eqb v (length done + 1) e) refl
   vertex_again s named done v (Some r) e lt h =
       let code : r.code < 2 ^ 64 = h.0 in
       let hops : r.hops < 2 ^ 32 = h.1 in
@@ -90,13 +86,13 @@ module _ (n : ℕ) (result : Result ToldList ReadFault) where
         le-ltb 18446744073709551615 r.code (omega arith),
         le-ltb 4294967295 r.hops (omega arith),
         le-ltb 4294967295 r.parent (omega arith),
-        same_eqb v (length done + 1) e,
+        eq-eqb v (length done + 1) e,
       ) refl
 
   lines_again : (s : AnswersSoFar) (named : Named) (done rest : List (Option Reached)) (v : ℕ) (more : List (List (List ℕ))) → v ≡ length done + 1 → length done + length rest ≡ n → n < 2 ^ 32
       → AllByRecursion IsLineWritable rest → Goes (Some (with_answer s (told_lines named (done ++ rest)))) more → Goes (Some (with_lines n s named done)) (vertex_lines v rest ++ more)
   lines_again s named done [] v more e all small h go = λ at.
-      rw (same_eqb (length done) n (omega arith)) (subst (λ xs. Goes (Some (with_answer s (told_lines named xs))) more) (append-nil done) go at)
+      rw (eq-eqb (length done) n (omega arith)) (subst (λ xs. Goes (Some (with_answer s (told_lines named xs))) more) (append-nil done) go at)
   lines_again s named done (x ∷ rest) v more e all small h go = λ at.
       rw (ne_eqb (length done) n (λ p. omega arith))
       (step (Some (with_stage s (InLines named done))) (Some (with_lines n s named (done ++ x ∷ []))) (vertex_words v x) (vertex_lines (v + 1) rest ++ more) (vertex_are_words v x (omega arith) h.0)
@@ -173,7 +169,7 @@ block_lines (t ∷ ts) = answer_lines t ++ block_lines ts
 module _ (n : ℕ) (kind : Kind) (name : AlgebraName) (k : ℕ) where
   answers_again : (done ts : List Told) → n < 2 ^ 32 → length done + length ts ≡ k → AllByRecursion (IsAnswerWritable kind n) ts
       → Goes n (Ok (record { name = name; kind = kind; n = n; list = done ++ ts })) (Some (between kind name k done)) (block_lines ts)
-  answers_again done [] small e h = λ at. rw (same_eqb (length done) k (omega arith), append-nil) refl
+  answers_again done [] small e h = λ at. rw (eq-eqb (length done) k (omega arith), append-nil) refl
   answers_again done (t ∷ ts) small e h =
       answer_again n _ name k done (omega arith) kind t (block_lines ts) small h.0
       (subst (λ xs. Goes n (Ok (record { name = name; kind = kind; n = n; list = xs })) (Some (between kind name k (done ++ t ∷ []))) (block_lines ts)) (append_assoc done (t ∷ []) ts)

@@ -1,16 +1,15 @@
 -- Every question has a right answer: best values, their tree, and what both tell of each vertex.
-use Rattle.std.proofs.Common.{◌≡◌, ℕ, zero, suc, ◌+◌, ◌-◌, ◌<◌, ◌≤◌, List, [], ◌∷◌, ◌++◌, length, refl, sym, ap, ◌∙◌, subst, arith, All, Option, Some, None}
-use Rattle.std.proofs.lemmas.List.{length-append}
+use Rattle.std.proofs.Common.{◌≡◌, ℕ, List, [], ◌∷◌, refl, sym, ◌∙◌, All, Option, Some, None}
 use Rattle.std.proofs.lemmas.List.Elements.{All-nil, All-cons, All-head, All-tail}
 use Rattle.road_graph.specs.Roads.{Roads, IsRoads, HasVertex}
 use Rattle.path_algebra.specs.Algebra.{Algebra}
 use Rattle.path_algebra.specs.Walks.{AreBest, label_of, IsParentChain}
-use Rattle.route_tree.specs.Tree.{Branches, IsTree, IsLinked, IsRoute, hops_of, parent_of}
+use Rattle.route_tree.specs.Tree.{Branches, IsTree, IsLinked, IsRoute, hops_of}
 use Rattle.route_tree.specs.Told.{IsParentRoute}
 use Rattle.road_files.specs.Asked.{Question, FromSource, BetweenPair, FromSources, Asked}
 use Rattle.answer_text.specs.declared.answers.Reached.{Reached}
 use Rattle.answer_text.specs.Told.{Told, ToldSource, ToldPair, ToldMulti, ToldFound, ToldList}
-use Rattle.answer_text.specs.IsAnswer.{IsLine, AreLines, IsPairAnswer, IsAnswer, AreAnswers, IsAnswerList}
+use Rattle.answer_text.specs.IsAnswer.{AreLines, IsPairAnswer, IsAnswer, AreAnswers, IsAnswerList}
 use Rattle.batch_run.specs.Told.{told_lines}
 use Rattle.batch_run.specs.Answered.{AsksWithin}
 use Rattle.batch_run.proofs.LinesAreRight.{best_by_label, least_by_hops, unreached_by_label, unreached_by_hops}

@@ -1,9 +1,9 @@
 -- The first answers begin the text of all answers.
-use Rattle.std.proofs.Common.{◌≡◌, ℕ, List, ◌++◌, take, sym, ap, ◌∙◌, append_assoc, All, Option, Result, Ok, Err, Vec, ◌<◌, ◌≤◌, ◌+◌, inl, inr, arith, ◌⊎◌}
-use Rattle.std.specs.declared.alloc.Global.{Global}
+use Rattle.std.proofs.Common.{◌≡◌, ℕ, List, ◌++◌, take, ap, ◌∙◌, append_assoc, All, Option, Result, Ok, Err, ◌≤◌, inl, inr, arith}
 use Rattle.std.proofs.lemmas.List.Elements.{All-map}
+use Rattle.std.proofs.lemmas.Result.{IfErr-weaker}
 use Rattle.road_graph.specs.Roads.{Roads}
-use Rattle.road_files.specs.Asked.{Question, FromSource, FromSources, Asked, asked_of, of_pair, of_list, AreSourcesOf, AreQuestionsOf}
+use Rattle.road_files.specs.Asked.{FromSource, Asked, asked_of, of_pair, of_list, AreQuestionsOf}
 use Rattle.road_files.specs.declared.questions.Questions.{Questions}
 use Rattle.road_files.specs.declared.questions.Questions.TheVariants as variants
 use Rattle.path_algebra.specs.Algebra.{Algebra}
@@ -44,5 +44,4 @@ module _ {V : Type 0} (A : Algebra V) (g : Roads) (q : Questions) (within : AreQ
 
 -- what is passed on now is passed on, counted from an earlier moment
 pub passed_on_since : (r : Result (Unit {0}) RunFault) (held : List ℕ) (b m a : ℕ) → b ≤ m → IfErr r (λ f. f.number ≢ 42 → IsPassedOn held m a) → IfErr r (λ f. f.number ≢ 42 → IsPassedOn held b a)
-passed_on_since (Ok u) held b m a le h = h
-passed_on_since (Err f) held b m a le h = λ other. elim (h other) [ inl none ↦ inl none | inr more ↦ inr (omega (arith, le, more)) ]
+passed_on_since r held b m a le = IfErr-weaker r _ _ (λ f passed other. elim (passed other) [ inl none ↦ inl none | inr more ↦ inr (omega (arith, le, more)) ])

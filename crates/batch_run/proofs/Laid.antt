@@ -1,12 +1,13 @@
 -- What the sources and labels of a question come to, by its kind.
-use Rattle.std.proofs.Common.{◌≡◌, ℕ, ◌<◌, ◌≤◌, List, [], ◌∷◌, length, get_or, map, refl, sym, ap, ◌∙◌, subst, Option, Some, None, Vec, Global, arith}
+use Rattle.std.proofs.Common.{◌≡◌, ◌≢◌, ℕ, ◌<◌, ◌≤◌, List, [], ◌∷◌, length, get_or, map, refl, sym, ap, ◌∙◌, subst, Option, Some, None, Vec, Global, arith}
 use denote.Ref.{Bor}
 use Rattle.std.specs.List.{All}
 use Rattle.std.specs.Option.{option_copied}
-use Rattle.std.specs.Prelude.{Result, Ok, Err, IfOk, IfSome}
+use Rattle.std.specs.Prelude.{IfSome}
 use Rattle.std.proofs.lemmas.List.Elements.{All-nil, All-cons}
 use Rattle.std.proofs.lemmas.List.{get_or-map, length-map}
-use Rattle.road_files.specs.Asked.{AskWithin, IsVertexOf, Question, FromSource, asked_of, of_source, of_pair, of_list}
+use Rattle.road_files.specs.Asked.{AskWithin, IsVertexOf, Question, asked_of, of_source, of_pair, of_list}
+use Rattle.road_files.specs.declared.questions.Kind.TheVariants as kinds
 use Rattle.road_files.specs.declared.questions.Questions.{Questions}
 use Rattle.road_files.specs.declared.questions.Questions.TheVariants as variants
 use Rattle.road_graph.specs.Roads.{Roads}
@@ -17,10 +18,6 @@ use Rattle.batch_run.specs.declared.engine.Layout.{Layout}
 use Rattle.batch_run.specs.Ended.{AreReady, IsEnded, IsLayout}
 use Rattle.batch_run.specs.Sources.{sources_of}
 use Rattle.batch_run.proofs.Together.{any_of}
-
-pub IfOk_to : {T E : Type 0} (r : Result T E) {P Q : T → Type 0} → IfOk r P → ((v : T) → P v → Q v) → IfOk r Q
-IfOk_to (Ok v) p f = f v p
-IfOk_to (Err e) p f = tt
 
 -- the sources of the question at a place
 module _ (q : Questions) (i : ℕ) where
@@ -35,6 +32,13 @@ module _ (q : Questions) (i : ℕ) where
 
   pub list_at : (ls : Vec (Vec ℕ Global) Global) (l : Vec ℕ Global) → q ≡ variants.Multi ls → i < length (asked_of q).questions → l ≡ get_or ls.items i l → (d : Question) → sources_of (get_or (asked_of q).questions i d) ≡ l.items
   list_at ls l e low is d = ap (λ y. sources_of (get_or (asked_of y).questions i d)) e ∙ ap sources_of (get_or-map of_list ls.items i l d (within of_list ls.items (variants.Multi ls) refl e low)) ∙ ap (λ (y : Vec ℕ Global). y.items) (sym is)
+
+-- questions from one source, or from several, are no pairs
+pub sources_no_pairs : (q : Questions) (vs : Vec ℕ Global) → q ≡ variants.Sources vs → (asked_of q).kind ≢ kinds.Pairs
+sources_no_pairs q vs is e = let bad : kinds.Sources ≡ kinds.Pairs = sym (ap (λ (y : Questions). (asked_of y).kind) is) ∙ e in cc
+
+pub lists_no_pairs : (q : Questions) (ls : Vec (Vec ℕ Global) Global) → q ≡ variants.Multi ls → (asked_of q).kind ≢ kinds.Pairs
+lists_no_pairs q ls is e = let bad : kinds.Multi ≡ kinds.Pairs = sym (ap (λ (y : Questions). (asked_of y).kind) is) ∙ e in cc
 
 -- the sources of each question are some, and vertices of the graph
 pub asked_within : (n : ℕ) (q : Questions) (i : ℕ) → AskWithin n q → i < length (asked_of q).questions → (d : Question) → (1 ≤ length (sources_of (get_or (asked_of q).questions i d))) × All (IsVertexOf n) (sources_of (get_or (asked_of q).questions i d))

@@ -6,5 +6,5 @@ pub mod Existing
 pub mod Fronts
 pub mod Together
 pub mod Laid
-pub mod LastOf
+pub mod Moved
 pub mod SameSources

@@ -1,10 +1,8 @@
 -- What is told of a vertex by its best label, hops and parent is right.
-use Rattle.std.proofs.Common.{◌≡◌, ℕ, ◌+◌, ◌-◌, ◌<◌, ◌≤◌, List, [], ◌∷◌, ◌++◌, length, get_or, refl, inl, inr, subst, sym, ◌∙◌, All, Option, Some, None, arith}
-use Rattle.std.proofs.Math.Nat.{eq-or-lt_of_le}
-use Rattle.std.proofs.lemmas.List.{get_or_append_left, get_or_push}
-use Rattle.road_graph.specs.Roads.{Roads, HasVertex, arc_of}
+use Rattle.std.proofs.Common.{◌≡◌, ℕ, List, refl, inl, inr, subst, sym, ◌∙◌, Option, Some, None}
+use Rattle.road_graph.specs.Roads.{Roads}
 use Rattle.path_algebra.specs.Algebra.{Algebra}
-use Rattle.path_algebra.specs.Walks.{IsBest, IsBestLabel, IsUnreached, AreHops, label_of}
+use Rattle.path_algebra.specs.Walks.{IsBest, IsBestLabel, IsUnreached, AreHops}
 use Rattle.route_tree.specs.Tree.{AreHopsAt, IsParentAt}
 use Rattle.answer_text.specs.IsAnswer.{IsLine}
 use Rattle.batch_run.specs.Told.{told_line}

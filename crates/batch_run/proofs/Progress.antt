@@ -1,8 +1,9 @@
 -- A batch on its way: the first questions were answered, and their answers written.
-use Rattle.std.proofs.Common.{◌≡◌, ◌≢◌, Bool, true, false, ℕ, ◌+◌, ◌<◌, ◌≤◌, List, [], ◌∷◌, ◌++◌, length, take, get_or, Option, Some, None, Result, Ok, Err, inl, inr, ◌⊎◌, refl, sym, ap, ◌∙◌, subst, append_assoc, append-nil, arith, suc}
+use Rattle.std.proofs.Common.{◌≡◌, ◌≢◌, true, ℕ, ◌+◌, ◌<◌, ◌≤◌, List, [], ◌∷◌, ◌++◌, length, take, get_or, Option, None, Result, Ok, Err, inl, inr, ◌⊎◌, refl, sym, ap, ◌∙◌, subst, append_assoc, append-nil, arith}
+use Rattle.std.proofs.lemmas.Bool.{false_from_ne_true}
 use Rattle.std.proofs.lemmas.List.{take_all, take_more}
 use Rattle.std.specs.Io.KnownBytes.{Appends, Keeps}
-use Rattle.std.proofs.KnownBytes.{Appends-nil, Appends-kept}
+use Rattle.std.proofs.KnownBytes.{Appends-kept}
 use Rattle.std.specs.Result.{OnOk, IfErr}
 use Rattle.road_graph.specs.Roads.{Roads}
 use Rattle.road_text.specs.Written.{Left, Fell}
@@ -14,7 +15,8 @@ use Rattle.path_algebra.specs.Algebra.{Algebra}
 use Rattle.answer_text.specs.Told.{Told}
 use Rattle.answer_text.specs.IsAnswer.{IsAnswer, AreAnswers}
 use Rattle.answer_text.specs.AnswerText.{answer_text, blocks_text, header_text}
-use Rattle.batch_run.specs.declared.faults.File.TheVariants.{NoFile}
+use Rattle.answer_text.proofs.FirstAnswers.{blocks_split}
+use Rattle.answer_text.proofs.OneAnswer.{answers_count}
 use Rattle.batch_run.specs.declared.faults.RunFault.{RunFault}
 use Rattle.batch_run.specs.declared.faults.Unanswered.{Unanswered}
 use Rattle.batch_run.specs.declared.faults.Unanswered.TheVariants as variants
@@ -31,8 +33,7 @@ pub record Progress {V : Type 0} (A : Algebra V) (g : Roads) (asked : Asked) (i 
   pub left : Left old new before after (begun_text A asked answers) []
 
 blocks-push : (ts : List Told) (t : Told) → blocks_text (ts ++ t ∷ []) ≡ blocks_text ts ++ answer_text t
-blocks-push [] t = append-nil (answer_text t)
-blocks-push (x ∷ ts) t = ap (λ y. answer_text x ++ y) (blocks-push ts t) ∙ sym (append_assoc (answer_text x) (blocks_text ts) (answer_text t))
+blocks-push ts t = blocks_split ts (t ∷ []) ∙ ap (λ y. blocks_text ts ++ y) (append-nil (answer_text t))
 
 module _ {V : Type 0} (A : Algebra V) (g : Roads) where
   answers-push : (qs : List Question) (ts : List Told) (q : Question) (t : Told) → AreAnswers A g qs ts → IsAnswer A g q t → AreAnswers A g (qs ++ q ∷ []) (ts ++ t ∷ [])
@@ -120,13 +121,6 @@ module _ {V : Type 0} (A : Algebra V) (g : Roads) (asked : Asked) where
     more_failed variants.Memory h = omega (arith, h.1, p.left.sound)
     more_failed variants.Write h = omega (arith, h.2.failed, p.left.sound)
 
--- there is one answer for each question
-answers_count : {V : Type 0} (A : Algebra V) (g : Roads) (qs : List Question) (ts : List Told) → AreAnswers A g qs ts → length ts ≡ length qs
-answers_count A g [] [] h = refl
-answers_count A g (q ∷ qs) (t ∷ ts) h = ap suc (answers_count A g qs ts h.1)
-answers_count A g [] (t ∷ ts) h = absurd h
-answers_count A g (q ∷ qs) [] h = absurd h
-
 module _ {V : Type 0} (A : Algebra V) (g : Roads) (asked : Asked) where
   pub end : (i : ℕ) (old new : Option (List ℕ)) (b a : ℕ) → length asked.questions ≤ i → Progress A g asked i old new b a → WroteAnswers A g asked old new
   end i old new b a le p =
@@ -180,13 +174,9 @@ module _ {V : Type 0} (A : Algebra V) (g : Roads) (asked : Asked) where
   flushed_whole F Y Z old mid new keeps write answered (Err f) was (inl e) = λ ne. whole_kept old mid new keeps (subst (λ x. IfErr x (λ h. h.number ≢ 42 → WroteWhole A g asked old mid)) e was ne)
   flushed_whole F Y Z old mid new keeps write answered (Err f) was (inr (x, e, y)) = λ ne. absurd (ne (ap (λ (h : RunFault). h.number) x ∙ write))
 
-not_plain : (b : Bool) → (b ≡ true → ⊥) → b ≡ false
-not_plain true never = absurd (never refl)
-not_plain false never = refl
-
 -- labels were not found: memory or a thread was refused; or, where stations answer, a worker stopped, and at a gate only if it is not always open
 pub group_later : {X : Type 0} (s : Settings) (is_open : Type 0) (layout : Option X) (f : GroupFault) → (s.plain ≡ true → layout ≡ None) → (layout ≡ None → f ≡ group.Memory) → (is_open → f ≢ group.Gated) →
     IsLater s is_open (fault_of_group f)
 group_later s is_open layout group.Memory p n o = (refl, refl, inl refl)
-group_later s is_open layout group.Stalled p n o = (refl, refl, inr (inl (refl, not_plain s.plain (λ e. let bad : group.Stalled ≡ group.Memory = n (p e) in cc))))
-group_later s is_open layout group.Gated p n o = (refl, refl, inr (inr (inl (refl, not_plain s.plain (λ e. let bad : group.Gated ≡ group.Memory = n (p e) in cc), λ always. o always refl))))
+group_later s is_open layout group.Stalled p n o = (refl, refl, inr (inl (refl, false_from_ne_true s.plain (λ e. let bad : group.Stalled ≡ group.Memory = n (p e) in cc))))
+group_later s is_open layout group.Gated p n o = (refl, refl, inr (inr (inl (refl, false_from_ne_true s.plain (λ e. let bad : group.Gated ≡ group.Memory = n (p e) in cc), λ always. o always refl))))

@@ -5,30 +5,30 @@ use Rattle.std.specs.Bool.{Decides}
 use Rattle.std.specs.List.{AllZip}
 use Rattle.std.specs.Prelude.{Result, Ok, Err, IfOk, MatchResult, Contains}
 use Rattle.road_graph.specs.Roads.{Roads}
-use Rattle.road_files.specs.Asked.{Question, FromSource}
+use Rattle.road_files.specs.Asked.{Question, Asked, FromSource}
 use Rattle.path_algebra.specs.Algebra.{Algebra}
 use Rattle.batch_run.specs.Sources.{sources_of}
 use Rattle.batch_run.specs.Solved.{IsSolved, IsSolvedAt, IsSolvedFor, IsSolvedFrom}
 use Rattle.batch_run.specs.declared.solving.Solved.{Solved}
 
-module _ {V : Type 0} (A : Algebra V) (g : Roads) (asked : List Question) where
+module _ {V : Type 0} (A : Algebra V) (g : Roads) (asked : Asked) where
   -- what is solved for one question is so for any with the same sources
-  pub for_other : (i j : ℕ) (s : Solved V) → IsSolvedFor A g asked j s → ((d : Question) → sources_of (get_or asked j d) ≡ sources_of (get_or asked i d)) → IsSolvedFor A g asked i s
-  for_other i j s h same d = subst (λ xs. IsSolvedFrom A g xs s) (same d) (h d)
+  pub for_other : (i j : ℕ) (s : Solved V) → IsSolvedFor A g asked j s → ((d : Question) → sources_of (get_or asked.questions j d) ≡ sources_of (get_or asked.questions i d)) → IsSolvedFor A g asked i s
+  for_other i j s h same d = subst (λ xs. IsSolvedFrom A g asked.kind xs s) (same d) (h d)
 
-  pub at_own : (i : ℕ) (s : Solved V) → i < length asked → IsSolvedAt A g asked i s → IsSolved A g asked s
+  pub at_own : (i : ℕ) (s : Solved V) → i < length asked.questions → IsSolvedAt A g asked i s → IsSolved A g asked s
   at_own i s low h = record {
-    place = subst (λ k. k < length asked) (sym h.place) low;
+    place = subst (λ k. k < length asked.questions) (sym h.place) low;
     solved = subst (λ k. IsSolvedFor A g asked k s) (sym h.place) h.solved;
   }
 
   -- those of a group are each solved for a question
-  pub all_own : (places : List ℕ) (ss : List (Solved V)) → All (λ k. k < length asked) places → AllZip (IsSolvedAt A g asked) places ss → All (IsSolved A g asked) ss
+  pub all_own : (places : List ℕ) (ss : List (Solved V)) → All (λ k. k < length asked.questions) places → AllZip (IsSolvedAt A g asked) places ss → All (IsSolved A g asked) ss
   all_own [] [] inside h = All-nil (IsSolved A g asked)
   all_own [] (s ∷ ss) inside h = absurd h
   all_own (k ∷ ks) [] inside h = absurd h
   all_own (k ∷ ks) (s ∷ ss) inside h =
-      All-cons (IsSolved A g asked) s ss (at_own k s (All-head (λ j. j < length asked) k ks inside) h.0) (all_own ks ss (All-tail (λ j. j < length asked) k ks inside) h.1)
+      All-cons (IsSolved A g asked) s ss (at_own k s (All-head (λ j. j < length asked.questions) k ks inside) h.0) (all_own ks ss (All-tail (λ j. j < length asked.questions) k ks inside) h.1)
 
   -- the first of a group answers the question at its first place
   pub first_answers : (i : ℕ) (rest places : List ℕ) (ss : List (Solved V)) → places ≡ i ∷ rest → AllZip (IsSolvedAt A g asked) places ss → (0 < length ss) × HoldsAt (IsSolvedFor A g asked i) ss 0
@@ -38,14 +38,14 @@ module _ {V : Type 0} (A : Algebra V) (g : Roads) (asked : List Question) where
       go [] p = absurd p
       go (s ∷ ts) p = (omega arith, λ d. p.0.solved)
 
-module _ {V : Type 0} (A : Algebra V) (g : Roads) (asked : List Question) (i : ℕ) where
+module _ {V : Type 0} (A : Algebra V) (g : Roads) (asked : Asked) (i : ℕ) where
   -- of those that are solved, one with the sources of a question answers it
   pub like_answers : (k : ℕ) (seen ss : List (Solved V)) → seen ≡ ss → All (IsSolved A g asked) ss → k < length seen
-      → HoldsAt (λ s. (d : Question) → sources_of (get_or asked s.place d) ≡ sources_of (get_or asked i d)) seen k → HoldsAt (IsSolvedFor A g asked i) ss k
+      → HoldsAt (λ s. (d : Question) → sources_of (get_or asked.questions s.place d) ≡ sources_of (get_or asked.questions i d)) seen k → HoldsAt (IsSolvedFor A g asked i) ss k
   like_answers k seen ss e all low same d =
       let s = get_or ss k d in
       for_other A g asked i s.place s (all k d (subst (λ l. k < length l) e low)).solved
-      (subst (λ l. HoldsAt (λ s. (d : Question) → sources_of (get_or asked s.place d) ≡ sources_of (get_or asked i d)) l k) e same d)
+      (subst (λ l. HoldsAt (λ s. (d : Question) → sources_of (get_or asked.questions s.place d) ≡ sources_of (get_or asked.questions i d)) l k) e same d)
 
   -- a question that is solved, alone in the list
   module _ (s : Solved V) (none ss : List (Solved V)) (h : IsSolvedAt A g asked i s) (empty : none ≡ []) (pushed : ss ≡ none ++ s ∷ []) where
@@ -55,7 +55,7 @@ module _ {V : Type 0} (A : Algebra V) (g : Roads) (asked : List Question) (i : �
     pub alone_answers : HoldsAt (IsSolvedFor A g asked i) ss 0
     alone_answers d = subst (λ l. IsSolvedFor A g asked i (get_or l 0 d)) (sym alone) h.solved
 
-    pub alone_solved : i < length asked → All (IsSolved A g asked) ss
+    pub alone_solved : i < length asked.questions → All (IsSolved A g asked) ss
     alone_solved low = subst (All (IsSolved A g asked)) (sym alone) (All-cons (IsSolved A g asked) s [] (at_own A g asked i s low h) (All-nil (IsSolved A g asked)))
 
 -- what each of a list came to, where none failed

@@ -1,13 +1,10 @@
 -- Best labels from the first sources of a list, and those from the next, merge to those from one source more.
-use Rattle.std.proofs.Common.{◌≡◌, ℕ, ◌+◌, ◌<◌, ◌≤◌, List, [], ◌∷◌, ◌++◌, length, get_or, take, ap, sym, ◌∙◌, arith, Option, Bool}
+use Rattle.std.proofs.Common.{◌≡◌, ℕ, ◌+◌, ◌<◌, List, [], ◌∷◌, ◌++◌, length, get_or, take, ap, sym, ◌∙◌, Option, Bool}
 use Rattle.std.proofs.lemmas.List.{take_more}
 use Rattle.road_graph.specs.Roads.{Roads}
 use Rattle.path_algebra.specs.Algebra.{Algebra, IsLawful}
 use Rattle.path_algebra.specs.Walks.{AreBest, label_of, better_label}
 use Rattle.path_algebra.proofs.Merge.{merged_are_best}
-
-pub one_source : (xs : List ℕ) (x : ℕ) → 1 ≤ length xs → x ≡ get_or xs 0 x → take 1 xs ≡ x ∷ []
-one_source xs x h e = take_more xs 0 x (omega (arith, h)) ∙ ap (λ (y : ℕ). y ∷ []) (sym e)
 
 pub source_more : {V : Type 0} (A : Algebra V) (lawful : IsLawful A) (g : Roads) (order : V → V → Bool) (same : A.no_worse ≡ order) (xs : List ℕ) (i x : ℕ) (ls ms ns : List (Option V)) →
     i < length xs → x ≡ get_or xs i x → AreBest A g (take i xs) ls → AreBest A g (x ∷ []) ms → length ns ≡ length ls →

@@ -1,15 +1,15 @@
 -- Floors and stations of diffusions side by side: as they are opened, and when they have been run.
-use Rattle.std.proofs.Common.{zero, suc, ◌≡◌, ◌≢◌, ℕ, ◌<◌, ◌≤◌, ◌+◌, List, [], ◌∷◌, ◌++◌, length, get_or, map, refl, sym, ap, ◌∙◌, subst, arith, inl, inr, true, Vec}
-use Rattle.std.specs.List.{All, slice_get}
+use Rattle.std.proofs.Common.{zero, suc, ◌≡◌, ◌≢◌, ℕ, ◌<◌, ◌≤◌, ◌+◌, List, [], ◌∷◌, ◌++◌, length, get_or, map, sym, subst, arith, inl, inr, Vec}
+use Rattle.std.specs.List.{All}
 use Rattle.std.proofs.lemmas.Bool.{cases_lt}
 use Rattle.std.proofs.lemmas.List.Elements.{All-head, All-tail}
 use Rattle.std.proofs.lemmas.Grind.{common_steps}
 use Rattle.std.proofs.lemmas.Option.{slice_get-get_or, get_or_from_slice_get}
 use Rattle.path_algebra.specs.Algebra.{Algebra}
-use Rattle.shard_part.specs.PartState.{Setup, PartData}
-use Rattle.shard_part.specs.Opening.{opened_part, opened_parts}
+use Rattle.shard_part.specs.PartState.{Setup}
+use Rattle.shard_part.specs.Opening.{opened_parts}
 use Rattle.post_floor.specs.Data.{FloorData}
-use Rattle.station.specs.Station.{StationData, BelongsTo}
+use Rattle.station.specs.Station.{StationData}
 use Rattle.station.specs.Opened.{AreOpened, station_of}
 use Rattle.worker_fleet.specs.Groups.{HasShard, IsDone, Some_of}
 use Rattle.worker_fleet.specs.Turns.{IsPlaced}

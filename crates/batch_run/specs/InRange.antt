@@ -1,5 +1,5 @@
 -- The ranges of the settings.
-use Rattle.std.specs.Prelude.{ℕ, ◌≤◌}
+use Rattle.std.specs.Prelude.{◌≤◌}
 use Rattle.batch_run.specs.declared.settings.Settings.{Settings}
 
 -- each setting is in its range

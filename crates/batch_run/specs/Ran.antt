@@ -1,6 +1,6 @@
 -- What a batch promises of its inputs and its output.
-use Rattle.std.specs.Prelude.{◌≡◌, ◌≢◌, ℕ, ◌<◌, ◌≤◌, ◌⊎◌, false, List, [], Option, None, Result, Ok, Err, IfSome}
-use Rattle.road_graph.specs.Roads.{Roads, IsRoads}
+use Rattle.std.specs.Prelude.{◌≡◌, ◌≢◌, ℕ, ◌<◌, ◌≤◌, ◌⊎◌, false, List, [], Option, None, Ok, Err, IfSome}
+use Rattle.road_graph.specs.Roads.{Roads}
 use Rattle.road_text.specs.Reads.{IsNumberFrom}
 use Rattle.road_text.specs.Rules.{text_read}
 use Rattle.road_files.specs.Asked.{Asked}

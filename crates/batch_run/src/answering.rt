@@ -3,11 +3,11 @@ ghost use Rattle.std.specs.Prelude.{◌≡◌, ◌≤◌, ◌<◌, [], ◌∷◌
 ghost use Rattle.road_graph.specs.Roads.{HasVertex};
 ghost use Rattle.path_algebra.specs.Walks.{AreBest};
 ghost use Rattle.route_tree.specs.Tree.{IsTree};
-ghost use Rattle.road_files.specs.Asked.{AreQuestionsOf, AreSourcesOf, Question, FromSource, BetweenPair, FromSources, asked_of};
+ghost use Rattle.road_files.specs.Asked.{AreQuestionsOf, Question, FromSource, BetweenPair, FromSources, asked_of};
 ghost use Rattle.answer_text.specs.IsAnswer.{IsPairAnswer};
 ghost use Rattle.answer_text.specs.Told.{found_of};
 ghost use Rattle.batch_run.specs.Answered.{WroteAnswer};
-ghost use Rattle.batch_run.specs.Solved.{IsSolvedFor, IsSolvedFrom};
+ghost use Rattle.batch_run.specs.Solved.{IsSolvedFor};
 
 use crate::faults::Unanswered;
 use crate::solving::Solved;
@@ -17,7 +17,7 @@ use path_algebra::{Labels, PathAlgebra};
 use road_files::Questions;
 use road_graph::{Graph, Memory, Vertex};
 use road_text::RoadWrite;
-use route_tree::{Tree, route_between, routes_follow_parents, tree};
+use route_tree::{Tree, route_between, routes_follow_parents};
 use std::alloc::{AllocError, Global};
 
 /// The numbers of vertices.
@@ -66,16 +66,16 @@ fn answer_pair<A: PathAlgebra, W: RoadWrite>(
     algebra: A,
     graph: &Graph,
     pair: (Vertex, Vertex),
-    solved: &Solved<A::Value>,
+    labels: &Labels<A::Value>,
     out: &mut W,
 ) -> Result<(), Unanswered>
     requires source { HasVertex graph.now pair.0 }
     requires target { HasVertex graph.now pair.1 }
-    requires solved { IsSolvedFrom (A.meaning algebra) graph.now (pair.0 ∷ []) solved.now }
+    requires labels { AreBest (A.meaning algebra) graph.now (pair.0 ∷ []) labels.now }
     ensures { WroteAnswer (A.meaning algebra) graph.now (BetweenPair pair.0 pair.1) (W.written out.old) (W.written out.new) (W.failures out.old) (W.failures out.new) result }
 {
     let (source, target) = pair;
-    let Ok(found) = found_at(alloc, algebra, graph, source, target, &solved.labels) else {
+    let Ok(found) = found_at(alloc, algebra, graph, source, target, labels) else {
         return Err(Unanswered::Memory);
     };
     let answer = Answer::Pair {
@@ -90,7 +90,7 @@ fn answer_pair<A: PathAlgebra, W: RoadWrite>(
 }
 
 /// Writes the right answer to a question from one source to all vertices, by the tree of its best labels.
-fn tell_source<A: PathAlgebra, W: RoadWrite>(
+fn answer_source<A: PathAlgebra, W: RoadWrite>(
     algebra: A,
     graph: &Graph,
     source: Vertex,
@@ -109,31 +109,8 @@ fn tell_source<A: PathAlgebra, W: RoadWrite>(
     }
 }
 
-/// Writes the right answer to a question from one source to all vertices. Where no tree was kept, one is made.
-fn answer_source<A: PathAlgebra, W: RoadWrite>(
-    alloc: Global,
-    algebra: A,
-    graph: &Graph,
-    source: Vertex,
-    solved: &Solved<A::Value>,
-    out: &mut W,
-) -> Result<(), Unanswered>
-    requires source { HasVertex graph.now source }
-    requires solved { IsSolvedFrom (A.meaning algebra) graph.now (source ∷ []) solved.now }
-    ensures { WroteAnswer (A.meaning algebra) graph.now (FromSource source) (W.written out.old) (W.written out.new) (W.failures out.old) (W.failures out.new) result }
-{
-    let labels = &solved.labels;
-    match &solved.tree {
-        Some(kept) => tell_source(algebra, graph, source, labels, kept, out),
-        None => match tree(alloc, algebra, graph, &[source], labels) {
-            Ok(made) => tell_source(algebra, graph, source, labels, &made, out),
-            Err(_) => Err(Unanswered::Memory),
-        },
-    }
-}
-
 /// Writes the right answer to a question from several sources to all vertices, by the tree of its best labels.
-fn tell_sources<A: PathAlgebra, W: RoadWrite>(
+fn answer_sources<A: PathAlgebra, W: RoadWrite>(
     alloc: Global,
     algebra: A,
     graph: &Graph,
@@ -157,30 +134,7 @@ fn tell_sources<A: PathAlgebra, W: RoadWrite>(
     }
 }
 
-/// Writes the right answer to a question from several sources to all vertices. Where no tree was kept, one is made.
-fn answer_sources<A: PathAlgebra, W: RoadWrite>(
-    alloc: Global,
-    algebra: A,
-    graph: &Graph,
-    sources: &[Vertex],
-    solved: &Solved<A::Value>,
-    out: &mut W,
-) -> Result<(), Unanswered>
-    requires sources { AreSourcesOf graph.now.vertices sources.now }
-    requires solved { IsSolvedFrom (A.meaning algebra) graph.now sources.now solved.now }
-    ensures { WroteAnswer (A.meaning algebra) graph.now (FromSources sources.now) (W.written out.old) (W.written out.new) (W.failures out.old) (W.failures out.new) result }
-{
-    let labels = &solved.labels;
-    match &solved.tree {
-        Some(kept) => tell_sources(alloc, algebra, graph, sources, labels, kept, out),
-        None => match tree(alloc, algebra, graph, sources, labels) {
-            Ok(made) => tell_sources(alloc, algebra, graph, sources, labels, &made, out),
-            Err(_) => Err(Unanswered::Memory),
-        },
-    }
-}
-
-/// Writes the right answer to the question at a place, given its best labels, and their tree where one was kept.
+/// Writes the right answer to the question at a place, given its best labels, and their tree unless it is a pair.
 pub(crate) fn answer_at<A: PathAlgebra, W: RoadWrite>(
     alloc: Global,
     algebra: A,
@@ -192,16 +146,27 @@ pub(crate) fn answer_at<A: PathAlgebra, W: RoadWrite>(
 ) -> Result<(), Unanswered>
     requires within { AreQuestionsOf graph.now.vertices questions.now }
     requires place { i < length (asked_of questions.now).questions }
-    requires solved { IsSolvedFor (A.meaning algebra) graph.now (asked_of questions.now).questions i solved.now }
+    requires solved { IsSolvedFor (A.meaning algebra) graph.now (asked_of questions.now) i solved.now }
     ensures { (default : Question) → WroteAnswer (A.meaning algebra) graph.now (slice_index_or (asked_of questions.now).questions i default) (W.written out.old) (W.written out.new) (W.failures out.old) (W.failures out.new) result }
 {
+    let labels = &solved.labels;
     match questions {
         Questions::Sources(sources) => {
-            answer_source(alloc, algebra, graph, sources[i], solved, out)
+            let tree = solved.kept_tree();
+            answer_source(algebra, graph, sources[i], labels, tree, out)
         }
-        Questions::Pairs(pairs) => answer_pair(alloc, algebra, graph, pairs[i], solved, out),
+        Questions::Pairs(pairs) => answer_pair(alloc, algebra, graph, pairs[i], labels, out),
         Questions::Multi(lists) => {
-            answer_sources(alloc, algebra, graph, lists[i].as_slice(), solved, out)
+            let tree = solved.kept_tree();
+            answer_sources(
+                alloc,
+                algebra,
+                graph,
+                lists[i].as_slice(),
+                labels,
+                tree,
+                out,
+            )
         }
     }
 }

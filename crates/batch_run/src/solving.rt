@@ -1,10 +1,11 @@
 //! Best labels of a question, and their tree; with the plain solver, of several side by side.
-ghost use Rattle.std.specs.Prelude.{◌≡◌, ◌≢◌, ◌≤◌, ◌<◌, ◌↔◌, ◌∷◌, List, ℕ, length, slice_index_or, All, HoldsAt, IfOk, IfErr, IfSome, None, Err, IsTrue};
+ghost use Rattle.std.specs.Prelude.{◌≡◌, ◌≢◌, ◌≤◌, ◌<◌, ◌↔◌, ◌∷◌, List, ℕ, length, slice_index_or, All, HoldsAt, IfOk, IfErr, IfSome, IsSome, None, Some, Err, IsTrue};
 ghost use Rattle.std.specs.List.{AllZip};
 ghost use Rattle.road_graph.specs.Roads.{HasVertex};
 ghost use Rattle.path_algebra.specs.Walks.{AreBest};
 ghost use Rattle.route_tree.specs.Tree.{IsTree};
 ghost use Rattle.road_files.specs.Asked.{AreQuestionsOf, Question, asked_of};
+ghost use Rattle.road_files.specs.declared.questions.Kind.TheVariants.{Pairs};
 ghost use Rattle.batch_run.specs.Ended.{AreReady, IsEnded, IsLayout};
 ghost use Rattle.batch_run.specs.InRange.{AreInRange};
 ghost use Rattle.batch_run.specs.Solved.{IsSolved, IsSolvedAt, IsSolvedFor};
@@ -23,12 +24,25 @@ use std::sync::Wait;
 use std::thread::Threads;
 use worker_fleet::{Gate, GroupFault};
 
-/// Best labels from the sources of the question at a place, and their tree unless it is a pair.
+/// Best labels from the sources of the question at a place, and their tree unless the questions are pairs.
 #[derive(Drop)]
 pub(crate) struct Solved<V: Copy> {
     pub(crate) place: usize,
     pub(crate) labels: Labels<V>,
     pub(crate) tree: Option<Tree>,
+}
+
+impl<V: Copy> Solved<V> {
+    /// The tree, where there is one.
+    pub(crate) fn kept_tree(&self) -> &Tree
+        requires { IsSome self.now.tree }
+        ensures { self.now.tree ≡ Some result.now }
+    {
+        let Some(tree) = &self.tree else {
+            unreachable!()
+        };
+        tree
+    }
 }
 
 /// The same vertices in a list of its own.
@@ -91,7 +105,8 @@ fn tree_unless_pair<A: PathAlgebra>(
 ) -> Result<Option<Tree>, Memory>
     requires sources { All (HasVertex graph.now) sources.now }
     requires labels { AreBest (A.meaning algebra) graph.now sources.now labels.now }
-    ensures { IfOk result (λ found. IfSome found (λ t. IsTree (A.meaning algebra) graph.now sources.now t)) }
+    ensures tree { IfOk result (λ found. IfSome found (λ t. IsTree (A.meaning algebra) graph.now sources.now t)) }
+    ensures kept { IfOk result (λ found. (asked_of questions.now).kind ≢ Pairs → IsSome found) }
 {
     match questions {
         Questions::Pairs(_) => Ok(None),
@@ -112,7 +127,7 @@ fn solve<A: PathAlgebra>(
 ) -> Result<Solved<A::Value>, Memory>
     requires within { AreQuestionsOf graph.now.vertices questions.now }
     requires place { i < length (asked_of questions.now).questions }
-    ensures { IfOk result (IsSolvedAt (A.meaning algebra) graph.now (asked_of questions.now).questions i) }
+    ensures { IfOk result (IsSolvedAt (A.meaning algebra) graph.now (asked_of questions.now) i) }
 {
     let list = sources_at(alloc, questions, i)?;
     let sources = list.as_slice();
@@ -162,7 +177,7 @@ fn solve_each<A: PathAlgebra, R: Threads + Sync>(
 ) -> Result<Vec<Solved<A::Value>>, Memory>
     requires within { AreQuestionsOf graph.now.vertices questions.now }
     requires places { All (λ place. place < length (asked_of questions.now).questions) places.now }
-    ensures { IfOk result (λ v. AllZip (IsSolvedAt (A.meaning algebra) graph.now (asked_of questions.now).questions) places.now v.items) }
+    ensures { IfOk result (λ v. AllZip (IsSolvedAt (A.meaning algebra) graph.now (asked_of questions.now)) places.now v.items) }
 {
     let solved: Result<Vec<Solved<A::Value>>, Memory> = places
         .par_iter()
@@ -170,7 +185,7 @@ fn solve_each<A: PathAlgebra, R: Threads + Sync>(
         .map(
             |place: &usize| -> Result<Solved<A::Value>, Memory>
                 requires { (place.now < length (asked_of questions.now).questions) × AreQuestionsOf graph.now.vertices questions.now }
-                ensures { IfOk result (IsSolvedAt (A.meaning algebra) graph.entry.now (asked_of questions.entry.now).questions place.now) }
+                ensures { IfOk result (IsSolvedAt (A.meaning algebra) graph.entry.now (asked_of questions.entry.now) place.now) }
             { solve(alloc, algebra, graph, questions, *place) },
         )
         .collect(rt, alloc)?;
@@ -188,10 +203,10 @@ fn solve_plainly<'g, A: PathAlgebra, R: Threads + Sync, T>(
     requires settings { AreInRange batch.now.settings.now }
     requires within { AreQuestionsOf batch.now.graph.now.vertices questions.now }
     requires place { i < length (asked_of questions.now).questions }
-    requires solved { All (IsSolved (A.meaning batch.now.algebra) batch.now.graph.now (asked_of questions.now).questions) solved.old.items }
+    requires solved { All (IsSolved (A.meaning batch.now.algebra) batch.now.graph.now (asked_of questions.now)) solved.old.items }
     ensures inside { IfOk result (λ k. k < length solved.new.items) }
-    ensures answers { IfOk result (HoldsAt (IsSolvedFor (A.meaning batch.now.algebra) batch.now.graph.now (asked_of questions.now).questions i) solved.new.items) }
-    ensures solved { All (IsSolved (A.meaning batch.now.algebra) batch.now.graph.now (asked_of questions.now).questions) solved.new.items }
+    ensures answers { IfOk result (HoldsAt (IsSolvedFor (A.meaning batch.now.algebra) batch.now.graph.now (asked_of questions.now) i) solved.new.items) }
+    ensures solved { All (IsSolved (A.meaning batch.now.algebra) batch.now.graph.now (asked_of questions.now)) solved.new.items }
 {
     if let Some(k) = solved_like(solved.as_slice(), questions, i) {
         return Ok(k);
@@ -220,7 +235,7 @@ fn solve_by_stations<'g, A: PathAlgebra, R: Threads + Wait, T: Gate>(
     requires place { i < length (asked_of questions.now).questions }
     requires layout { IsLayout batch.now.graph.now layout.now.plan layout.now.sources.items }
     requires ready { All (IsEnded batch.now.algebra batch.now.graph.now layout.now.plan) ahead.old.ended.items }
-    ensures solved { IfOk result (IsSolvedAt (A.meaning batch.now.algebra) batch.now.graph.now (asked_of questions.now).questions i) }
+    ensures solved { IfOk result (IsSolvedAt (A.meaning batch.now.algebra) batch.now.graph.now (asked_of questions.now) i) }
     ensures ready { All (IsEnded batch.now.algebra batch.now.graph.now layout.now.plan) ahead.new.ended.items }
     ensures open { T.is_always_open batch.now.gate.now → result ≢ Err GroupFault.Gated }
 {
@@ -252,10 +267,10 @@ pub(crate) fn solved_at<'g, A: PathAlgebra, R: Threads + Wait + Sync, T: Gate>(
     requires within { AreQuestionsOf batch.now.graph.now.vertices questions.now }
     requires place { i < length (asked_of questions.now).questions }
     requires ready { AreReady batch.now.algebra batch.now.graph.now layout ahead.old.ended.items }
-    requires solved { All (IsSolved (A.meaning batch.now.algebra) batch.now.graph.now (asked_of questions.now).questions) solved.old.items }
+    requires solved { All (IsSolved (A.meaning batch.now.algebra) batch.now.graph.now (asked_of questions.now)) solved.old.items }
     ensures inside { IfOk result (λ k. k < length solved.new.items) }
-    ensures answers { IfOk result (HoldsAt (IsSolvedFor (A.meaning batch.now.algebra) batch.now.graph.now (asked_of questions.now).questions i) solved.new.items) }
-    ensures solved { All (IsSolved (A.meaning batch.now.algebra) batch.now.graph.now (asked_of questions.now).questions) solved.new.items }
+    ensures answers { IfOk result (HoldsAt (IsSolvedFor (A.meaning batch.now.algebra) batch.now.graph.now (asked_of questions.now) i) solved.new.items) }
+    ensures solved { All (IsSolved (A.meaning batch.now.algebra) batch.now.graph.now (asked_of questions.now)) solved.new.items }
     ensures ready { AreReady batch.now.algebra batch.now.graph.now layout.entry ahead.new.ended.items }
     ensures plain { layout.entry ≡ None → IfErr result (λ f. f ≡ GroupFault.Memory) }
     ensures open { T.is_always_open batch.now.gate.now → result ≢ Err GroupFault.Gated }

@@ -4,12 +4,12 @@ use Rattle.std.proofs.lemmas.List.{get_or-replicate, length-replicate}
 use Rattle.std.proofs.lemmas.Bool.{cases_eq}
 use Rattle.std.specs.Prelude.{IsTrue, Contains}
 use Rattle.road_graph.specs.Roads.{Roads, IsRoads, HasArc, HasVertex, arc_of, ListsArcsFrom}
+use Rattle.road_graph.proofs.Lists.{not_in_empty}
 use Rattle.path_algebra.specs.Algebra.{Algebra, IsLawful}
 use Rattle.path_algebra.specs.Walks.{AreWalkValues, IsNotImproving, label_of}
 use Rattle.path_algebra.proofs.Least.{same_no_worse}
 use Rattle.path_algebra.specs.Open.{IsBestOpen}
 use Rattle.path_plain.specs.Opening.{AreOpening}
-use Rattle.path_plain.proofs.Small.{not_in_empty}
 
 -- a vertex that is marked as settled
 abbrev pub IsSettled : List Bool → ℕ → Type 0

@@ -1,4 +1,3 @@
-pub mod Small
 pub mod Opening
 pub mod Known
 pub mod Offering

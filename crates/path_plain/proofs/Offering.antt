@@ -1,35 +1,35 @@
 -- One arc of the vertex that is being settled, and then all of them.
 use Rattle.std.proofs.Common.{◌≡◌, ℕ, suc, ◌-◌, ◌<◌, ◌⊎◌, inl, inr, Bool, List, [], ◌∷◌, length, refl, ap, sym, ◌∙◌, subst, arith, Option, Some, None, get_or-set_same, get_or-set_other, length-set}
-use Rattle.std.proofs.lemmas.Bool.{cases_eq}
+use Rattle.std.proofs.lemmas.Bool.{cases_eq, cases_Bool}
 use Rattle.std.specs.Prelude.{IsTrue, All}
 use Rattle.road_graph.specs.Roads.{Roads, IsRoads, HasArc, HasVertex, arc_of}
+use Rattle.road_graph.proofs.Lists.{head_or_tail}
 use Rattle.path_algebra.specs.Algebra.{Algebra, IsOrder, IsLawful}
 use Rattle.path_algebra.specs.Walks.{IsWalkValue, IsNotImproving, label_of, improved, offered, offered_if, relaxed}
 use Rattle.path_algebra.proofs.Walks.{IsWalkValue-extend, walk_value_is_value, all_inside}
 use Rattle.path_algebra.proofs.Least.{same_no_worse, other_no_worse}
-use Rattle.path_plain.proofs.Small.{head_or_tail, false_or_true}
 use Rattle.path_plain.proofs.Known.{IsSettled, Search}
 
 -- what an offer leaves is no worse than what was offered, and than what was there
 module _ {V : Type 0} (no_worse : V → V → Bool) (ordered : IsOrder no_worse) (z : V) where
   pub left_by_offer : (old : Option V) → (y : V) × (improved no_worse old z ≡ Some y) × IsTrue (no_worse y z)
   left_by_offer None = (z, refl, same_no_worse no_worse ordered z)
-  left_by_offer (Some y) = elim (false_or_true (no_worse y z)) [
-    | inl worse ↦ (z, rw worse refl, same_no_worse no_worse ordered z)
-    | inr kept ↦ (y, rw kept refl, kept)
+  left_by_offer (Some y) = elim (cases_Bool (no_worse y z)) [
+    | inr worse ↦ (z, rw worse refl, same_no_worse no_worse ordered z)
+    | inl kept ↦ (y, rw kept refl, kept)
   ]
 
   pub improves : (y : V) → (w : V) × (improved no_worse (Some y) z ≡ Some w) × IsTrue (no_worse w y)
-  improves y = elim (false_or_true (no_worse y z)) [
-    | inl worse ↦ (z, rw worse refl, other_no_worse no_worse ordered y z worse)
-    | inr kept ↦ (y, rw kept refl, same_no_worse no_worse ordered y)
+  improves y = elim (cases_Bool (no_worse y z)) [
+    | inr worse ↦ (z, rw worse refl, other_no_worse no_worse ordered y z worse)
+    | inl kept ↦ (y, rw kept refl, same_no_worse no_worse ordered y)
   ]
 
   pub old_or_offered : (old : Option V) (y : V) → improved no_worse old z ≡ Some y → (old ≡ Some y) ⊎ (z ≡ y)
   old_or_offered None y e = inr (cc)
-  old_or_offered (Some w) y e = elim (false_or_true (no_worse w z)) [
-    | inl worse ↦ let f : improved no_worse (Some w) z ≡ Some z = rw worse refl in let k : Some z ≡ Some y = sym f ∙ e in inr (cc)
-    | inr kept ↦ let f : improved no_worse (Some w) z ≡ Some w = rw kept refl in inl (sym f ∙ e)
+  old_or_offered (Some w) y e = elim (cases_Bool (no_worse w z)) [
+    | inr worse ↦ let f : improved no_worse (Some w) z ≡ Some z = rw worse refl in let k : Some z ≡ Some y = sym f ∙ e in inr (cc)
+    | inl kept ↦ let f : improved no_worse (Some w) z ≡ Some w = rw kept refl in inl (sym f ∙ e)
   ]
 
   pub kept_label : (w : V) → IsTrue (no_worse w z) → improved no_worse (Some w) z ≡ Some w

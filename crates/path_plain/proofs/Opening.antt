@@ -1,12 +1,12 @@
 -- The labels at the start of a search, source by source.
 use Rattle.std.proofs.Common.{◌≡◌, ℕ, ◌+◌, ◌-◌, ◌<◌, ◌≤◌, ◌⊎◌, inl, inr, Bool, List, [], ◌∷◌, ◌++◌, length, get_or, replicate, take, refl, ap, sym, ◌∙◌, subst, arith, Option, Some, None, get_or-set_same, get_or-set_other, length-set}
-use Rattle.std.proofs.lemmas.Bool.{cases_eq}
+use Rattle.std.proofs.lemmas.Bool.{cases_eq, cases_Bool}
 use Rattle.std.proofs.lemmas.List.{get_or-replicate, length-replicate, take_more}
-use Rattle.std.proofs.lemmas.List.Elements.{Contains-append_left, Contains-append_right, Contains-append_cases}
+use Rattle.std.proofs.lemmas.List.Elements.{Contains-append_left, Contains-push, Contains-push_cases}
 use Rattle.std.specs.Prelude.{Contains}
+use Rattle.road_graph.proofs.Lists.{not_in_empty, head_or_tail, here, later}
 use Rattle.path_algebra.specs.Walks.{label_of, improved, offered}
 use Rattle.path_plain.specs.Opening.{AreOpening}
-use Rattle.path_plain.proofs.Small.{not_in_empty, head_or_tail, here, later, false_or_true}
 
 module _ {V : Type 0} (no_worse : V → V → Bool) (origin : V) (n : ℕ) where
   pub opening_none : AreOpening origin n [] (replicate n None)
@@ -20,9 +20,9 @@ module _ {V : Type 0} (no_worse : V → V → Bool) (origin : V) (n : ℕ) where
 
   improved_origin : (l : Option V) → ((y : V) → l ≡ Some y → origin ≡ y) → improved no_worse l origin ≡ Some origin
   improved_origin None only = refl
-  improved_origin (Some y) only = elim (false_or_true (no_worse y origin)) [
-    | inl worse ↦ rw worse refl
-    | inr kept ↦ let is : origin ≡ y = only y refl in rw kept (ap (λ (v : V). Some v) (sym is))
+  improved_origin (Some y) only = elim (cases_Bool (no_worse y origin)) [
+    | inr worse ↦ rw worse refl
+    | inl kept ↦ let is : origin ≡ y = only y refl in rw kept (ap (λ (v : V). Some v) (sym is))
   ]
 
   module _ (done : List ℕ) (labels : List (Option V)) (known : AreOpening origin n done labels) (s : ℕ) (low : 1 ≤ s) (high : s ≤ n) where
@@ -65,13 +65,10 @@ module _ {V : Type 0} (no_worse : V → V → Bool) (origin : V) (n : ℕ) where
 
     pub opening_back : AreOpening origin n (done ++ s ∷ []) after
     opening_back = opening_one (done ++ s ∷ [])
-        (λ v h. elim (Contains-append_cases done (s ∷ []) v h) [
-          | inl old ↦ inl old
-          | inr new ↦ elim (head_or_tail s v [] new) [ inl same ↦ inr same | inr none ↦ absurd (not_in_empty v none) ]
-        ])
+        (λ v h. Contains-push_cases done s v h)
         (λ v h. elim h [
           | inl old ↦ Contains-append_left done (s ∷ []) v old
-          | inr same ↦ subst (λ (u : ℕ). Contains (done ++ s ∷ []) u) same (Contains-append_right done (s ∷ []) s (here s []))
+          | inr same ↦ subst (λ (u : ℕ). Contains (done ++ s ∷ []) u) same (Contains-push done s)
         ])
 
   -- one turn of the loop over the sources

@@ -1,5 +1,5 @@
 -- Relaxing by heads and weights is relaxing by arc numbers.
-use Rattle.std.proofs.Common.{◌≡◌, ℕ, suc, ◌+◌, ◌<◌, ◌≤◌, Bool, List, [], ◌∷◌, length, get_or, drop, refl, ap, sym, subst, ◌∙◌, arith, Option, drop-cons, add-one}
+use Rattle.std.proofs.Common.{◌≡◌, ℕ, ◌<◌, ◌≤◌, List, [], ◌∷◌, length, get_or, refl, ap, sym, subst, ◌∙◌, arith, Option}
 use Rattle.std.proofs.lemmas.List.{get_or-map, length-map, get_or_default}
 use Rattle.road_graph.specs.Roads.{Roads, IsRoads, HasVertex, ListsRoadsFrom, arc_of, road_of, roads_of}
 use Rattle.path_algebra.specs.Algebra.{Algebra}
@@ -15,13 +15,6 @@ relaxed_by_roads A x labels (r ∷ roads) = relaxed_by_roads A x (offered_if A.n
 pub relaxed_is : {V : Type 0} (A : Algebra V) (g : Roads) (x : V) (labels : List (Option V)) (numbers : List ℕ) → relaxed A g x labels numbers ≡ relaxed_by_roads A x labels (roads_of g numbers)
 relaxed_is A g x labels [] = refl
 relaxed_is A g x labels (a ∷ numbers) = relaxed_is A g x (offered_if A.no_worse labels (arc_of g a).head (A.extend x (arc_of g a).weight)) numbers
-
-pub by_roads_once : {V : Type 0} (A : Algebra V) (x : V) (order : V → V → Bool) (labels next : List (Option V)) (out : List OutRoad) (i : ℕ) (r : OutRoad) →
-    i < length out → r ≡ get_or out i r → A.no_worse ≡ order → next ≡ offered_if order labels r.head (A.extend x r.weight) →
-    relaxed_by_roads A x next (drop (i + 1) out) ≡ relaxed_by_roads A x labels (drop i out)
-by_roads_once A x order labels next out i r lt is same e =
-    let cut : drop i out ≡ r ∷ drop (i + 1) out = rw add-one (drop-cons out i r lt ∙ ap (λ (b : OutRoad). b ∷ drop (suc i) out) (sym is)) in
-    rw (cut, e, ← same) refl
 
 -- heads are vertices
 pub head_in : (g : Roads) → IsRoads g → (v : ℕ) (out : List OutRoad) → ListsRoadsFrom g v out → (i : ℕ) (r : OutRoad) → i < length out → r ≡ get_or out i r → HasVertex g r.head

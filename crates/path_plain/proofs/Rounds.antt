@@ -1,12 +1,13 @@
 -- The search between two vertices, and its end.
 use Rattle.std.proofs.Common.{◌≡◌, ℕ, ◌+◌, ◌-◌, ◌<◌, inl, inr, Bool, true, false, cond, List, [], length, get_or, set, replicate, sym, ◌∙◌, arith, Option, Some, None}
 use Rattle.std.specs.Prelude.{All, sum_by}
+use Rattle.std.proofs.lemmas.Bool.{cases_Bool}
 use Rattle.road_graph.specs.Roads.{Roads, IsRoads, HasVertex, arc_of}
+use Rattle.road_graph.proofs.Lists.{not_in_empty}
 use Rattle.path_algebra.specs.Algebra.{Algebra, IsLawful}
 use Rattle.path_algebra.specs.Walks.{AreBest}
 use Rattle.path_algebra.proofs.Walks.{labels_are_best, all_inside}
 use Rattle.path_algebra.specs.Open.{IsBestOpen, AnswersBestOpen}
-use Rattle.path_plain.proofs.Small.{not_in_empty, false_or_true}
 use Rattle.path_plain.proofs.Known.{Search, search_start, search_pick}
 use Rattle.path_plain.proofs.Offering.{search_relaxed}
 use Rattle.path_plain.specs.Opening.{AreOpening}
@@ -18,10 +19,10 @@ module _ {V : Type 0} (A : Algebra V) (lawful : IsLawful A) (g : Roads) (roads :
       labels_are_best A lawful g roads sources labels known.values
       (λ a h y u e f.
       let ends = roads.ends a h in
-      elim (false_or_true (get_or settled ((arc_of g a).tail - 1) false)) [
-        | inl unsettled ↦ let lt : (arc_of g a).tail - 1 < g.vertices = omega (arith, ends.0.0, ends.0.1) in
+      elim (cases_Bool (get_or settled ((arc_of g a).tail - 1) false)) [
+        | inr unsettled ↦ let lt : (arc_of g a).tail - 1 < g.vertices = omega (arith, ends.0.0, ends.0.1) in
             let bad : None ≡ Some y = sym (none ((arc_of g a).tail - 1) lt unsettled) ∙ e in cc
-        | inr done ↦ elim (known.closed a h done) [ inl waits ↦ absurd (not_in_empty a waits) | inr c ↦ c y u e f ]
+        | inl done ↦ elim (known.closed a h done) [ inl waits ↦ absurd (not_in_empty a waits) | inr c ↦ c y u e f ]
       ])
       (all_inside g sources inside)
       known.at_sources

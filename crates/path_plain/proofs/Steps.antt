@@ -1,18 +1,16 @@
 -- The steps of a search: each keeps its queue, leads from one round to the next, and comes nearer to the end.
-use Rattle.std.proofs.Common.{◌≡◌, ℕ, ◌+◌, ◌*◌, ◌<◌, ◌≤◌, inl, inr, Bool, true, false, cond, List, [], ◌∷◌, length, get_or, set, refl, arith, Option, Some, None, length-set}
+use Rattle.std.proofs.Common.{◌≡◌, ℕ, ◌+◌, ◌*◌, ◌<◌, ◌≤◌, inl, inr, Bool, true, false, cond, List, ◌∷◌, length, get_or, set, refl, arith, Option, Some, None, length-set}
 use Rattle.std.proofs.lemmas.List.Sums.{sum_by-set}
 use Rattle.std.proofs.lemmas.List.Sorted.{Contains-permutation, IsPermutation-sym}
-use Rattle.std.specs.Prelude.{IsTrue, All, Contains}
+use Rattle.std.specs.Prelude.{IsTrue, All}
 use Rattle.std.specs.List.Sorted.{IsPermutation}
 use Rattle.std.specs.BinaryHeap.{IsUpperBound}
 use Rattle.road_graph.specs.Roads.{Roads, IsRoads, HasVertex}
 use Rattle.path_algebra.specs.Algebra.{Algebra, IsOrder, IsLawful}
 use Rattle.path_algebra.specs.Walks.{AreBest}
-use Rattle.path_algebra.specs.Open.{AnswersBestOpen}
 use Rattle.path_plain.proofs.Rounds.{Between, unsettled, round, ending}
 use Rattle.path_plain.specs.Order.{open_cmp}
-use Rattle.path_plain.specs.Searching.{SearchState, IsSearch, IsSameSearch, Relaxes, Settles, Advances, Proceeds}
-use Rattle.path_plain.proofs.Small.{not_in_empty}
+use Rattle.path_plain.specs.Searching.{SearchState, IsSearch, IsSameSearch, Relaxes, Advances, Proceeds}
 use Rattle.path_plain.proofs.Waiting.{queue_offer, queue_skip, queue_settle, queue_best}
 
 module _ {K V : Type 0} (value : K → V) (place : K → ℕ) (order : V → V → Bool) (ordered : IsOrder order) (g : Roads) (labels : List (Option V)) (settled : List Bool) (items : List K)
@@ -26,16 +24,6 @@ module _ {K V : Type 0} (value : K → V) (place : K → ℕ) (order : V → V �
     settled_count = known.settled_count;
     queue = queue_offer value place order ordered labels settled items known.queue i z new next lt better moved is_z is_i;
   }
-
-  -- an empty queue: no open vertex has a label
-  pub none_waits : items ≡ [] → AnswersBestOpen order labels settled (length labels) None
-  none_waits e j lt o = finds (get_or labels j None) refl
-    where
-      finds : (l : Option V) → get_or labels j None ≡ l → get_or labels j None ≡ None
-      finds None k = k
-      finds (Some y) k =
-          let c = known.queue.covers j y lt o k in
-          let h : Contains [] c.0 = rw e at c.1 in absurd (not_in_empty c.0 h)
 
   module _ (top : K) (rest : List K) (moved : IsPermutation items (top ∷ rest)) where
     pub top_place : place top < g.vertices

@@ -1,27 +1,19 @@
 -- The queue of open vertices.
-use Rattle.std.proofs.Common.{◌≡◌, ℕ, zero, suc, ◌+◌, ◌<◌, ◌≤◌, inl, inr, Bool, true, false, cond, List, [], ◌∷◌, length, get_or, set, refl, ap, sym, ◌∙◌, subst, arith, Option, Some, None, get_or-set_same, get_or-set_other, length-set, not}
+use Rattle.std.proofs.Common.{◌≡◌, ℕ, ◌+◌, ◌<◌, ◌≤◌, inl, inr, Bool, true, false, cond, List, [], ◌∷◌, length, get_or, set, refl, ap, sym, ◌∙◌, subst, arith, Option, Some, None, get_or-set_same, get_or-set_other, length-set, not}
 use Rattle.std.proofs.lemmas.Bool.{cases_eq}
+use Rattle.std.proofs.lemmas.List.Elements.{All-contains, All-from_recursion}
 use Rattle.std.proofs.lemmas.List.Sorted.{Contains-permutation, IsPermutation-sym}
 use Rattle.std.specs.Prelude.{IsTrue, Contains}
-use Rattle.std.specs.List.{AllByRecursion}
 use Rattle.std.specs.List.Sorted.{IsPermutation}
 use Rattle.std.specs.BinaryHeap.{IsUpperBound}
 use Rattle.std.specs.Ordering.{is_lt}
 use Rattle.std.specs.declared.cmp.Ordering.TheVariants.{Less, Equal, Greater}
 use Rattle.road_graph.specs.Roads.{Roads, IsAscendingFrom, ListsArcsFrom}
+use Rattle.road_graph.proofs.Lists.{head_or_tail, here, later}
 use Rattle.path_algebra.specs.Algebra.{IsOrder}
 use Rattle.path_algebra.specs.Open.{IsBestOpen}
 use Rattle.path_plain.specs.Order.{open_cmp}
-use Rattle.path_plain.proofs.Small.{head_or_tail, here, later}
 use Rattle.path_plain.specs.Queue.{IsQueue}
-
-all_at : {X : Type 0} (P : X → Type 0) (xs : List X) → AllByRecursion P xs → (k : ℕ) (d : X) → k < length xs → P (get_or xs k d)
-all_at P [] h k d lt = absurd (omega arith)
-all_at P (x ∷ xs) h zero d lt = h.0
-all_at P (x ∷ xs) h (suc k) d lt = all_at P xs h.1 k d (omega arith)
-
-holds_of : {X : Type 0} (P : X → Type 0) (xs : List X) (e : X) → AllByRecursion P xs → Contains xs e → P e
-holds_of P xs e all h = subst P h.2 (all_at P xs all h.0 e h.1)
 
 not_less : (p q : Bool) → is_lt (cond p (cond q Equal Greater) Less) ≡ false → IsTrue p
 not_less true q h = refl
@@ -97,8 +89,9 @@ module _ {K V : Type 0} (value : K → V) (place : K → ℕ) (no_worse : V → 
     queue_best o upper =
         let was = known.entries top top_in in
         let cover = known.covers (place top) was.1.0 was.0 o was.1.1 in
+        let passed : K → Type 0 = λ x. is_lt (open_cmp value no_worse top x) ≡ false in
         let worse : (e : K) → Contains items e → IsTrue (no_worse (value top) (value e)) =
-        λ e h. not_less (no_worse (value top) (value e)) (no_worse (value e) (value top)) (holds_of (λ x. is_lt (open_cmp value no_worse top x) ≡ false) items e upper h) in
+        λ e h. not_less (no_worse (value top) (value e)) (no_worse (value e) (value top)) (All-contains passed items e (All-from_recursion passed items upper) h) in
         let same : was.1.0 ≡ value top = ordered.antisymmetric was.1.0 (value top) was.1.2 (subst (λ (v : V). IsTrue (no_worse (value top) v)) cover.2 (worse cover.0 cover.1)) in
         record {
           below = was.0;

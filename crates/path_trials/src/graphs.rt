@@ -1,6 +1,7 @@
 //! Graphs by arcs, by tail and by head, with what was worked out by hand.
 use road_graph::{ArcNo, Graph, GraphFault, OutRoad, RoadArc, Vertex};
 use std::alloc::Global;
+use std::process::Abort;
 
 fn arc(tail: u32, head: u32, weight: u32) -> RoadArc {
     RoadArc {
@@ -30,10 +31,8 @@ fn refusals_hand_back(rt: HostRuntime) {
     assert!(rt; back.as_slice() == [arc(1, 2, 7), arc(1, 3, 8), arc(0, 1, 9)].as_slice());
 }
 
-/// Five vertices, with two arcs from 1 to 3, a loop at 4, and nothing that enters 5.
-#[test]
-fn rows_by_tail_and_head(rt: HostRuntime) {
-    let alloc = rt.alloc();
+/// Five vertices, with two arcs from 1 to 3, a loop at 4, and nothing that enters 5. No arc has its number's place in the rows.
+fn five_vertices(alloc: Global) -> Option<Graph> {
     let arcs = vec![in alloc;
         arc(3, 2, 2),
         arc(1, 2, 4),
@@ -42,11 +41,13 @@ fn rows_by_tail_and_head(rt: HostRuntime) {
         arc(5, 1, 3),
         arc(1, 3, 9),
     ]
-    .expect(&rt, "memory");
-    let graph = match Graph::new(alloc, 5, arcs) {
-        Ok(graph) => graph,
-        Err(_) => panic!(rt; "refused"),
-    };
+    .ok()?;
+    Graph::new(alloc, 5, arcs).ok()
+}
+
+#[test]
+fn rows_by_tail_and_head(rt: HostRuntime) {
+    let graph = five_vertices(rt.alloc()).expect(&rt, "memory");
     // By a reference, since `into` of a value is that of `Into`.
     let graph = &graph;
     assert!(rt; graph.vertices() == 5 && graph.arcs() == 6);
@@ -67,6 +68,40 @@ fn rows_by_tail_and_head(rt: HostRuntime) {
             && graph.into(Vertex(4)) == [ArcNo(3)].as_slice()
     );
     assert!(rt; graph.roads_from(Vertex(1)) == [road(2, 4), road(3, 1), road(3, 9)].as_slice());
+}
+
+/// The graph tells of each of its arcs what it is, and where it stands among those that leave its tail.
+fn tells_each(rt: &impl Abort, graph: &Graph) {
+    assert!(rt; graph.arcs() == 6);
+    let expected = [
+        (arc(3, 2, 2), 0),
+        (arc(1, 2, 4), 0),
+        (arc(4, 4, 0), 0),
+        (arc(1, 3, 1), 1),
+        (arc(5, 1, 3), 0),
+        (arc(1, 3, 9), 2),
+    ];
+    for i in 0..6 {
+        let a = ArcNo(i as u32 + 1);
+        let (arc, turn) = expected[i];
+        assert!(rt; graph.arc(a) == arc);
+        assert!(rt; graph.road(a) == road(arc.head.0, arc.weight));
+        assert!(rt; graph.turn(a) == turn);
+    }
+}
+
+/// An index changes nothing that is told of an arc, be there memory for it or not.
+#[test]
+fn arcs_by_number(rt: HostRuntime) {
+    let alloc = rt.alloc();
+    let mut graph = five_vertices(alloc).expect(&rt, "memory");
+    tells_each(&rt, &graph);
+    let indexed = graph.index(alloc);
+    tells_each(&rt, &graph);
+    if indexed.is_err() {
+        graph.index(alloc).expect(&rt, "memory");
+        tells_each(&rt, &graph);
+    }
 }
 
 /// A graph may have no vertex at all.

@@ -1,9 +1,8 @@
 -- The parts of a text that grows at its end.
-use Rattle.std.proofs.lemmas.List.{take_all, take_more, length-take-le}
-use Rattle.std.proofs.lemmas.List.Elements.{All-append}
+use Rattle.std.proofs.lemmas.List.{take_more, take_rest}
 use lib.Seq.{take-add}
 use Rattle.std.proofs.Math.Seq.{take-append-add}
-use Rattle.std.proofs.Common.{◌≡◌, ◌<◌, List, [], ◌∷◌, ◌++◌, length, Bool, true, false, cond, refl, ap, arith, ℕ, ◌-◌, take, ◌≤◌, ◌∙◌, All, zero, suc, get_or, drop, subst, sym, ◌+◌, append_assoc, length-drop}
+use Rattle.std.proofs.Common.{◌≡◌, ◌<◌, List, [], ◌∷◌, ◌++◌, length, Bool, true, false, cond, refl, ap, arith, ℕ, ◌-◌, take, ◌≤◌, ◌∙◌, All, zero, suc, get_or, drop, ◌+◌, append_assoc}
 use Rattle.std.specs.List.{slice_split, onto_first}
 use Rattle.std.specs.Char.{is_ascii_digit}
 use Rattle.road_text.specs.Scans.{is_plain}
@@ -69,20 +68,9 @@ plain_digit b digit = grind (arith, digit)
 pub above_digit : (b : ℕ) → is_ascii_digit b ≡ true → 32 < b
 above_digit b digit = grind (arith, digit)
 
--- one element more of a front
-pub All-take_more : (P : ℕ → Type 0) (xs : List ℕ) (i : ℕ) → i < length xs → P (get_or xs i 0) → All P (take i xs) → All P (take (i + 1) xs)
-All-take_more P xs i lt here before = subst (All P) (sym (take_more xs i 0 lt)) (All-append P (take i xs) (get_or xs i 0 ∷ []) before (All-one P (get_or xs i 0) here))
-
--- the rest behind a front
-pub rest_is : (at : ℕ) (xs : List ℕ) → take (length xs - at) (drop at xs) ≡ drop at xs
-rest_is at xs = take_all (length xs - at) (drop at xs) (omega (arith, length-drop at xs))
-
 -- a piece at the front of the rest
-pub piece_length : (at n : ℕ) (xs : List ℕ) → n ≤ length (take (length xs - at) (drop at xs)) → length (take n (take (length xs - at) (drop at xs))) ≡ n
-piece_length at n xs le = length-take-le n (take (length xs - at) (drop at xs)) le
-
 pub take_further : (at n : ℕ) (xs more : List ℕ) → take (at + n) xs ++ more ≡ take at xs ++ (take n (take (length xs - at) (drop at xs)) ++ more)
-take_further at n xs more = rw (rest_is at xs) (ap (λ x. x ++ more) (take-add at n xs) ∙ append_assoc (take at xs) (take n (drop at xs)) more)
+take_further at n xs more = rw (take_rest xs at) (ap (λ x. x ++ more) (take-add at n xs) ∙ append_assoc (take at xs) (take n (drop at xs)) more)
 
 pub one_further : (at : ℕ) (xs more : List ℕ) → at < length xs → take (at + 1) xs ++ more ≡ take at xs ++ (get_or xs at 0 ∷ more)
 one_further at xs more lt = ap (λ x. x ++ more) (take_more xs at 0 lt) ∙ append_assoc (take at xs) (get_or xs at 0 ∷ []) more

@@ -1,5 +1,5 @@
 -- A text that is written in pieces.
-use Rattle.std.proofs.Common.{◌≡◌, ℕ, List, [], ◌++◌, length, take, drop, Option, Result, Ok, Err, refl, sym, ap, ◌∙◌, append_assoc, take-append-drop, arith, ◌-◌, ◌+◌, append-nil, subst, length-drop, take_all}
+use Rattle.std.proofs.Common.{◌≡◌, ℕ, List, [], ◌++◌, take, drop, Option, Result, Ok, Err, refl, sym, ap, ◌∙◌, append_assoc, take-append-drop, ◌+◌, append-nil, subst}
 use Rattle.std.specs.Io.KnownBytes.{Appends}
 use Rattle.std.specs.Result.{IsErrAnd}
 use Rattle.std.proofs.KnownBytes.{Appends-trans, Appends-nil}
@@ -27,9 +27,6 @@ left_fell {old = old} {mid = mid} {new = new} {x = x} rest was piece = record {
   bytes = Appends-trans old mid new was.front piece.front was.bytes piece.bytes;
   failed = piece.failed ∙ ap (λ k. k + 1) was.sound;
 }
-
-pub after_is : (n : ℕ) (rest : List ℕ) → take (length rest - n) (drop n rest) ≡ drop n rest
-after_is n rest = take_all (length rest - n) (drop n rest) (omega (arith, length-drop n rest))
 
 -- a front of the rest was written by one write
 pub left_more_front : (old mid new : Option (List ℕ)) (b m a n : ℕ) (text rest after : List ℕ) → after ≡ drop n rest → Left old mid b m text rest → Appends mid new (take n rest) → a ≡ m → Left old new b a text after

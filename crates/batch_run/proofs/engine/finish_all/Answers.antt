@@ -1,8 +1,7 @@
-use Rattle.std.proofs.Common.{rules, ◌≡◌, ◌++◌, ◌∷◌, refl, ◌∙◌, true}
-use Rattle.std.specs.Vec.Iter.{into_iter_items}
+use Rattle.std.proofs.Common.{rules, ◌≡◌, refl, true}
 use Rattle.station.specs.Station.{StationData}
 use Rattle.worker_fleet.proofs.Rests.{All-first, All-rest}
-use Rattle.batch_run.proofs.LastOf.{moved_on, moved_all}
+use Rattle.batch_run.proofs.Moved.{moved_on, moved_all}
 use Rattle.batch_run.proofs.engine.finish_all.Goals as goal
 
 pub loop-station-init : goal.loop-station-init

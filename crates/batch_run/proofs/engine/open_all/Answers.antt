@@ -1,4 +1,4 @@
-use Rattle.std.proofs.Common.{rules, ◌≡◌, ℕ, ◌<◌, ◌∙◌, sym, get_or, length, Vec, Global}
+use Rattle.std.proofs.Common.{rules, ◌≡◌, ℕ, ◌∙◌, sym, get_or, length, Vec, Global}
 use Rattle.std.proofs.lemmas.List.{get_or_default}
 use Rattle.post_floor.specs.Data.{FloorData}
 use Rattle.station.specs.Station.{StationData}

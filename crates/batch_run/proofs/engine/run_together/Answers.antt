@@ -1,8 +1,5 @@
-use Rattle.std.proofs.Common.{rules, arith, ◌≡◌, ℕ, ◌<◌, ◌∙◌, ◌+◌, ◌-◌, ◌∷◌, suc, sym, ap, subst, get_or, length, vec_len, Vec, Global, refl}
-use Rattle.std.specs.List.{All}
+use Rattle.std.proofs.Common.{rules, arith, ◌≡◌, ◌∙◌, ◌+◌, ◌-◌, ◌∷◌, suc, ap, subst, get_or, length, refl}
 use Rattle.std.proofs.lemmas.List.Elements.{All-nil, All-push}
-use Rattle.post_floor.specs.Data.{FloorData}
-use Rattle.station.specs.Station.{StationData}
 use Rattle.batch_run.specs.declared.engine.Ended.{Ended}
 use Rattle.batch_run.specs.Ended.{AreEnded, IsEnded, diffusion}
 use Rattle.batch_run.proofs.Together.{opened_placed, run_ended, longer, others_ended, last_ended, source_behind}

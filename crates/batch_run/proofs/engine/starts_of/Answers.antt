@@ -1,6 +1,5 @@
 use Rattle.std.proofs.lemmas.List.Elements.{All-push}
-use Rattle.std.proofs.Common.{rules}
-use Rattle.road_files.specs.Asked.{IsPairOf, IsVertexOf}
+use Rattle.road_files.specs.Asked.{IsVertexOf}
 use Rattle.batch_run.proofs.engine.starts_of.Goals as goal
 
 pub loop-source-preserved : goal.loop-source-preserved

@@ -1,9 +1,9 @@
-use Rattle.std.proofs.Common.{rules, arith, ◌≡◌, ◌<◌, ◌≤◌, ℕ, List, Option, length, ap, Err, sym, subst, ◌∙◌}
+use Rattle.std.proofs.Common.{rules, arith, ap, Err, sym, subst, ◌∙◌}
 use Rattle.road_files.specs.Asked.{asked_of, FromSource}
 use Rattle.std.proofs.lemmas.List.Elements.{All-nil}
 use Rattle.batch_run.specs.Solved.{IsSolved, IsSolvedFor}
 use Rattle.batch_run.specs.declared.solving.Solved.{Solved}
-use Rattle.batch_run.proofs.Progress.{Progress, start, stop, stop_whole, header_fell, answered, unanswered, fault_later, group_later, whole, unfailed, more_failed, end}
+use Rattle.batch_run.proofs.Progress.{start, stop, stop_whole, header_fell, answered, unanswered, fault_later, group_later, whole, unfailed, more_failed, end}
 use Rattle.batch_run.proofs.Laid.{ready_at_first, none_behind, no_write}
 use Rattle.batch_run.proofs.run.answer_all.Goals as goal
 
@@ -14,7 +14,7 @@ pub loop-i-init : goal.loop-i-init
 loop-i-init g c = record {
   progress = start (g.A.PathAlgebra.meaning c.args.algebra) c.args.graph.now (asked_of c.args.questions.now) _ _ _ c.kind.ensures c.len-count.ensures c.name.ensures _ _ _ _ c.in-Ok.ensures;
   ready = rw c.new.ensures.items (ready_at_first g.row.A-Value.Denot c.args.algebra c.args.graph.now c.as_ref-layout.result c.in-Ok-prepare.prepared c.as_ref-layout.ensures.value c.in-Ok-prepare.ensures.layout);
-  solved = rw c.new-solved.ensures.items (All-nil (IsSolved (g.A.PathAlgebra.meaning c.args.algebra) c.args.graph.now (asked_of c.args.questions.now).questions));
+  solved = rw c.new-solved.ensures.items (All-nil (IsSolved (g.A.PathAlgebra.meaning c.args.algebra) c.args.graph.now (asked_of c.args.questions.now)));
 }
 
 pub returns-in_default-clause-text : goal.returns-in_default-clause-text
@@ -41,7 +41,7 @@ returns-in-Err-solved_at-clause-more g c = let e = c.loop-i.invariant.progress.l
 
 pub answer_at-requires-clause-solved : goal.answer_at-requires-clause-solved
 answer_at-requires-clause-solved g c κs within =
-    subst (λ (s : Solved g.row.A-Value.Denot). IsSolvedFor (g.A.PathAlgebra.meaning c.args.algebra) c.args.graph.now (asked_of c.args.questions.now).questions c.loop-i.i s)
+    subst (λ (s : Solved g.row.A-Value.Denot). IsSolvedFor (g.A.PathAlgebra.meaning c.args.algebra) c.args.graph.now (asked_of c.args.questions.now) c.loop-i.i s)
     (sym c.index.ensures) (c.in-Ok-solved_at.ensures.answers c.index.result.now)
 
 pub returns-in-Err-answer_at-clause-text : goal.returns-in-Err-answer_at-clause-text

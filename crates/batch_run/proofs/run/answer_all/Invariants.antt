@@ -9,5 +9,5 @@ abbrev pub invariant-loop-i : goal.invariant-loop-i
 invariant-loop-i g l = record {
   progress : Progress (g.A.PathAlgebra.meaning l.algebra) l.graph (asked_of l.questions) l.i (g.W.RoadWrite.written l.fn.out) (g.W.RoadWrite.written l.out) (g.W.RoadWrite.failures l.fn.out) (g.W.RoadWrite.failures l.out);
   ready : AreReady l.algebra l.graph l.layout l.ahead.ended.items;
-  solved : All (IsSolved (g.A.PathAlgebra.meaning l.algebra) l.graph (asked_of l.questions).questions) l.solved.items;
+  solved : All (IsSolved (g.A.PathAlgebra.meaning l.algebra) l.graph (asked_of l.questions)) l.solved.items;
 }

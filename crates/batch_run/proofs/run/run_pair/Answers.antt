@@ -1,5 +1,6 @@
-use Rattle.std.proofs.Common.{◌≡◌, ◌≢◌, ◌⊎◌, inl, inr, ℕ, ◌<◌, List, Option, Result, Ok, Err, [], arith, rules}
+use Rattle.std.proofs.Common.{◌≡◌, ◌≢◌, ◌⊎◌, inl, inr, ℕ, List, Option, Result, Ok, Err, arith, rules}
 use Rattle.std.specs.Prelude.{IfErr}
+use Rattle.std.proofs.lemmas.Result.{IfErr-weaker}
 use Rattle.road_graph.specs.Roads.{Roads}
 use Rattle.road_files.specs.Asked.{Asked, asked_of}
 use Rattle.path_algebra.specs.Algebra.{Algebra}
@@ -14,8 +15,7 @@ module _ {V : Type 0} (A : Algebra V) (IsRead : Roads → Asked → Type 0) (g :
   begun wrote = record { graph = g; asked = asked; read = read; wrote = wrote }
 
   begun_without_memory : (r : Result (Unit {0}) RunFault) → IfErr r (λ f. f.number ≢ 42 → WroteWhole A g asked old new) → IfErr r (λ f. f.file ≡ NoFile → f.number ≡ 3 → BegunWhole A IsRead old new)
-  begun_without_memory (Ok u) wrote = tt
-  begun_without_memory (Err f) wrote = λ file three. begun (wrote (λ e. absurd (omega (arith, three, e))))
+  begun_without_memory r = IfErr-weaker r _ _ (λ f wrote file three. begun (wrote (λ e. absurd (omega (arith, three, e)))))
 
   begun_when_stopped : (r : Result (Unit {0}) RunFault) (kept : List ℕ) (before after : ℕ) → IfErr r (λ f. f.number ≢ 42 → WroteWhole A g asked old new) → IfErr r (λ f. f.number ≢ 42 → IsPassedOn kept before after) →
       IfErr r (λ f. (f.number ≡ 40) ⊎ (f.number ≡ 41) → BegunWhole A IsRead old new × IsPassedOn kept before after)

@@ -27,6 +27,7 @@ returns g c =
           let from = c.as_slice-sources.ensures.value ∙ c.in_ok-list.ensures d in
           record {
             labels = subst (λ (vs : List ℕ). AreBest A c.args.graph.now vs c.in_ok-labels.labels) from c.in_ok-labels.ensures;
-            tree = subst (λ (vs : List ℕ). IfSome c.in_ok-tree.tree (IsTree A c.args.graph.now vs)) from c.in_ok-tree.ensures;
+            tree = subst (λ (vs : List ℕ). IfSome c.in_ok-tree.tree (IsTree A c.args.graph.now vs)) from c.in_ok-tree.ensures.tree;
+            kept = c.in_ok-tree.ensures.kept;
           };
     }

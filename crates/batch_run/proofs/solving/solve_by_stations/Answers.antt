@@ -32,6 +32,7 @@ returns-clause-solved g c =
           let from = c.as_slice-sources.ensures.value ∙ c.in_ok-list.ensures d in
           record {
             labels = subst (λ (vs : List ℕ). AreBest A c.args.batch.now.graph.now vs c.in_ok-labels.labels) from c.in_ok-labels.ensures.labels;
-            tree = subst (λ (vs : List ℕ). IfSome c.in-Ok.tree (IsTree A c.args.batch.now.graph.now vs)) from c.in-Ok.ensures;
+            tree = subst (λ (vs : List ℕ). IfSome c.in-Ok.tree (IsTree A c.args.batch.now.graph.now vs)) from c.in-Ok.ensures.tree;
+            kept = c.in-Ok.ensures.kept;
           };
     }

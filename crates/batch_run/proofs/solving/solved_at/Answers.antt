@@ -4,10 +4,10 @@ use Rattle.batch_run.proofs.solving.solved_at.Goals as goal
 
 pub returns-in-Ok-clause-answers : goal.returns-in-Ok-clause-answers
 returns-in-Ok-clause-answers g c =
-    alone_answers (g.A.PathAlgebra.meaning c.args.batch.now.algebra) c.args.batch.now.graph.now (asked_of c.args.questions.now).questions c.args.i c.in_ok-next-in-Some.next c.clear.new.self.items c.push.new.self.items
+    alone_answers (g.A.PathAlgebra.meaning c.args.batch.now.algebra) c.args.batch.now.graph.now (asked_of c.args.questions.now) c.args.i c.in_ok-next-in-Some.next c.clear.new.self.items c.push.new.self.items
     c.in_ok-next-in-Some.ensures.solved c.clear.ensures.items c.in-Ok.ensures.items
 
 pub returns-in-Ok-clause-solved : goal.returns-in-Ok-clause-solved
 returns-in-Ok-clause-solved g c =
-    alone_solved (g.A.PathAlgebra.meaning c.args.batch.now.algebra) c.args.batch.now.graph.now (asked_of c.args.questions.now).questions c.args.i c.in_ok-next-in-Some.next c.clear.new.self.items c.push.new.self.items
+    alone_solved (g.A.PathAlgebra.meaning c.args.batch.now.algebra) c.args.batch.now.graph.now (asked_of c.args.questions.now) c.args.i c.in_ok-next-in-Some.next c.clear.new.self.items c.push.new.self.items
     c.in_ok-next-in-Some.ensures.solved c.clear.ensures.items c.in-Ok.ensures.items c.requires.place

@@ -1,4 +1,4 @@
-use Rattle.std.proofs.Common.{◌≡◌, ℕ, ◌+◌, ◌<◌, length, get_or, None, rules, subst, sym, ap, arith}
+use Rattle.std.proofs.Common.{◌+◌, ◌<◌, length, None, rules, subst, sym, ap, arith}
 use Rattle.road_text.specs.Texts.{spelled}
 use Rattle.road_text.specs.Written.{Left}
 use Rattle.road_text.proofs.WriteLaws.{left_start, left_end, fell_out}

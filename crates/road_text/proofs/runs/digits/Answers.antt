@@ -1,8 +1,9 @@
 use Rattle.std.proofs.Common.{◌≡◌, ap, sym, ◌∙◌, get_or, true, arith, Some}
 use Rattle.std.specs.Char.{is_ascii_digit}
+use Rattle.std.proofs.lemmas.List.Elements.{All-more}
 use Rattle.road_text.specs.Scans.{is_plain, number_on}
 use Rattle.road_text.proofs.ScanLaws.{number_with-take_more}
-use Rattle.road_text.proofs.Splits.{All-take_more, plain_digit}
+use Rattle.road_text.proofs.Splits.{plain_digit}
 use Rattle.road_text.proofs.runs.digits.Goals as goal
 
 pub loop-front-preserved : goal.loop-front-preserved
@@ -10,8 +11,8 @@ loop-front-preserved c =
     let digit = sym c.is_ascii_digit.ensures.value ∙ c.if-is_ascii_digit.true in
     record {
       within = omega arith;
-      digits = All-take_more (λ b. is_ascii_digit b ≡ true) c.args.bytes.now c.loop-front.front c.loop-front-test.true digit c.loop-front.invariant.digits;
-      plain = All-take_more (λ b. is_plain b ≡ true) c.args.bytes.now c.loop-front.front c.loop-front-test.true (plain_digit (get_or c.args.bytes.now c.loop-front.front 0) digit) c.loop-front.invariant.plain;
+      digits = All-more (λ b. is_ascii_digit b ≡ true) c.args.bytes.now c.loop-front.front 0 c.loop-front-test.true c.loop-front.invariant.digits digit;
+      plain = All-more (λ b. is_plain b ≡ true) c.args.bytes.now c.loop-front.front 0 c.loop-front-test.true c.loop-front.invariant.plain (plain_digit (get_or c.args.bytes.now c.loop-front.front 0) digit);
       number = c.digit_on-grown.ensures ∙ ap (λ o. number_on o (get_or c.args.bytes.now c.loop-front.front 0)) c.loop-front.invariant.number
           ∙ sym (number_with-take_more (Some c.args.number) c.args.bytes.now c.loop-front.front c.loop-front-test.true);
     }

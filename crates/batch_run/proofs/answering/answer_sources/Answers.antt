@@ -1,8 +1,8 @@
-use Rattle.std.proofs.Common.{refl, ◌∙◌}
+use Rattle.std.proofs.Common.{◌∙◌}
 use Rattle.answer_text.specs.Told.{ToldMulti}
 use Rattle.batch_run.specs.Told.{told_lines}
 use Rattle.batch_run.proofs.ToldLines.{lines_are_right}
-use Rattle.batch_run.proofs.answering.tell_sources.Goals as goal
+use Rattle.batch_run.proofs.answering.answer_sources.Goals as goal
 
 pub returns-in-Ok-write_sources : goal.returns-in-Ok-write_sources
 returns-in-Ok-write_sources g c =

@@ -2,7 +2,7 @@ use Rattle.std.proofs.Common.{[], ◌∷◌, refl}
 use Rattle.answer_text.specs.Told.{ToldSource}
 use Rattle.batch_run.specs.Told.{told_lines}
 use Rattle.batch_run.proofs.ToldLines.{lines_are_right}
-use Rattle.batch_run.proofs.answering.tell_source.Goals as goal
+use Rattle.batch_run.proofs.answering.answer_source.Goals as goal
 
 pub returns-in-Ok : goal.returns-in-Ok
 returns-in-Ok g c =

@@ -10,7 +10,7 @@ use Rattle.path_algebra.specs.Algebra.{Algebra}
 use Rattle.scholten_core.specs.declared.item.Item.{Item}
 use Rattle.scholten_core.specs.Sums.{one_if}
 use Rattle.shard_part.specs.PartState.{PartData, Setup, place_in, total, is, All, Shows}
-use Rattle.shard_part.specs.Desk.{IsPlanned}
+use Rattle.shard_part.specs.Moves.{IsPlanned}
 use Rattle.shard_part.specs.Opening.{opened_parts}
 use Rattle.shard_part.proofs.Weights.{sum_zero, sum_below_same}
 use Rattle.shard_part.proofs.Opened.{place_below}

@@ -8,7 +8,7 @@ use Rattle.circular_buffer.specs.Buffer.{buffer}
 use Rattle.path_algebra.specs.Algebra.{Algebra}
 use Rattle.scholten_core.specs.Network.{WellFormed}
 use Rattle.scholten_core.proofs.Networks.{well_formed}
-use Rattle.shard_part.specs.Desk.{IsPlanned}
+use Rattle.shard_part.specs.Moves.{IsPlanned}
 use Rattle.shard_part.specs.Readings.{has_ended}
 use Rattle.shard_part.specs.PartState.{PartData, Setup, network_in, All}
 use Rattle.shard_part.proofs.Showing.{AllLawful}

@@ -3,7 +3,7 @@ use Rattle.std.specs.Prelude.{◌≡◌, ◌⊎◌, ℕ, ◌+◌, ◌*◌, ◌<�
 use Rattle.atomic_table.specs.Seated.{TableId}
 use Rattle.path_algebra.specs.Algebra.{Algebra}
 use Rattle.shard_part.specs.PartState.{Setup, PartData, total, is, All}
-use Rattle.shard_part.specs.Desk.{IsPlanned}
+use Rattle.shard_part.specs.Moves.{IsPlanned}
 use Rattle.post_floor.specs.declared.view.View.{View}
 use Rattle.post_floor.specs.Boxes.{box_count, mailbox, dest, origin}
 use Rattle.post_floor.specs.Floor.{Slot, emptied, filling, reading}

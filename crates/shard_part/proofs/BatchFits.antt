@@ -9,7 +9,7 @@ use Rattle.scholten_core.specs.declared.item.Item.{Item}
 use Rattle.scholten_core.specs.Items.{item_arc}
 use Rattle.scholten_core.specs.Sums.{one_if}
 use Rattle.shard_part.specs.PartState.{PartData, total, counted, is, part_weight, outs_weight}
-use Rattle.shard_part.specs.Desk.{Rows, IsDesk}
+use Rattle.shard_part.specs.Moves.{Rows, IsStored}
 use Rattle.shard_part.specs.Exchange.{Fits, FitsAlone, FitsBefore}
 use Rattle.shard_part.proofs.Rings.{map_read}
 
@@ -128,13 +128,13 @@ module _ {S V : Type 0} (A : Algebra V) (p : PartData S V) where
 
 module _ {S V : Type 0} where
   -- of each arc the part holds one item at most
-  pub holds_one : (p : PartData S V) (r : Rows V) (n : ℕ) (ns : List ℕ) → IsDesk p r n ns → (b : ℕ) → part_weight (λ _ j. is b (item_arc j)) p ≤ 1
+  pub holds_one : (p : PartData S V) (r : Rows V) (n : ℕ) (ns : List ℕ) → IsStored p r n ns → (b : ℕ) → part_weight (λ _ j. is b (item_arc j)) p ≤ 1
   holds_one p r n ns D b = let o = D.sound.once b in omega (arith, o)
 
-  pub fits_from : (A : Algebra V) (p old : PartData S V) (r : Rows V) (n : ℕ) (ns : List ℕ) (batch : List (Item V)) → p ≡ old → IsDesk p r n ns → FitsEach A old batch → Fits A old batch
+  pub fits_from : (A : Algebra V) (p old : PartData S V) (r : Rows V) (n : ℕ) (ns : List ℕ) (batch : List (Item V)) → p ≡ old → IsStored p r n ns → FitsEach A old batch → Fits A old batch
   fits_from A p old r n ns batch e D F = each_fits A old (λ b. subst (λ (u : PartData S V). part_weight (λ _ j. is b (item_arc j)) u ≤ 1) e (holds_one p r n ns D b)) batch F
 
-  pub same_done : (A : Algebra V) (p old : PartData S V) (r : Rows V) (n : ℕ) (ns : List ℕ) (batch : List (Item V)) (i : ℕ) → p ≡ old → IsDesk p r n ns → IsSame A old batch i → length batch ≤ i → IsTrue true ↔ Fits A old batch
+  pub same_done : (A : Algebra V) (p old : PartData S V) (r : Rows V) (n : ℕ) (ns : List ℕ) (batch : List (Item V)) (i : ℕ) → p ≡ old → IsStored p r n ns → IsSame A old batch i → length batch ≤ i → IsTrue true ↔ Fits A old batch
   same_done A p old r n ns batch i e D I l = ((λ _. fits_from A p old r n ns batch e D (I.0 (each_done A old batch i l))), (λ _. refl))
 
 -- whether an item on an arc stands in the queue or an outbox

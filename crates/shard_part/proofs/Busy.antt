@@ -9,7 +9,7 @@ use Rattle.scholten_core.specs.Items.{item_arc}
 use Rattle.shard_part.specs.Tables.{spread}
 use Rattle.scholten_core.specs.Deficit.{busy_out}
 use Rattle.shard_part.specs.PartState.{PartData, state_in, token_if, network_in, place_in, own_in, arcs_out, is, engages, idles, part_weight, IsSound, IsClear}
-use Rattle.shard_part.specs.Desk.{Rows, IsCounted, IsDesk, IsPlace, IsRow}
+use Rattle.shard_part.specs.Moves.{Rows, IsCounted, IsStored, IsPlace, IsRow}
 use Rattle.shard_part.proofs.Weights.{sum_at, sum_below_same}
 use Rattle.shard_part.proofs.Counting.{own_arcs_most}
 use Rattle.shard_part.proofs.Spread.{table_write, table_long}
@@ -113,18 +113,18 @@ module _ {S V : Type 0} where
       go true e = e
       go false e = absurd (let one : idles (network_in p.setup) (place_in p.setup) p.shard (state_in p) a ≡ 1 = (λ i. one_if (eq-eqb _ _ m i && is_idle {V = V} (token_if (e i)))) in omega (arith, z, one))
 
-  busy_written : (p : PartData S V) (r : Rows V) (n : ℕ) (ns : List ℕ) (b i : ℕ) (x : Bool) → IsDesk p r n ns → IsRow p b i →
+  busy_written : (p : PartData S V) (r : Rows V) (n : ℕ) (ns : List ℕ) (b i : ℕ) (x : Bool) → IsStored p r n ns → IsRow p b i →
       spread (arcs_out (network_in p.setup) (own_in p.setup p.shard)) (set r.busy i x) false (suc (length p.setup.roads.arcs)) ≡ set p.busy b x
   busy_written p r n ns b i x D P = table_write (arcs_out (network_in p.setup) (own_in p.setup p.shard)) r.busy p.busy false (suc (length p.setup.roads.arcs)) i b x D.seen.busy (apart p) P.inside D.sized.busy P.arc
 
-  pub busy_leaves : (p old : PartData S V) (r : Rows V) (n : ℕ) (ns : List ℕ) (b i : ℕ) (x : Bool) → p ≡ old → IsDesk p r n ns → IsRow old b i →
+  pub busy_leaves : (p old : PartData S V) (r : Rows V) (n : ℕ) (ns : List ℕ) (b i : ℕ) (x : Bool) → p ≡ old → IsStored p r n ns → IsRow old b i →
       record p { busy = spread (arcs_out (network_in p.setup) (own_in p.setup p.shard)) (set r.busy i x) false (suc (length p.setup.roads.arcs)) } ≡ record old { busy = set old.busy b x }
   busy_leaves p old r n ns b i x e D Q = ap (λ (ys : List Bool). record p { busy = ys }) (busy_written p r n ns b i x D (row_at p old b i e Q)) ∙ ap (λ (u : PartData S V). record u { busy = set u.busy b x }) e
 
-  keep_busy : (p : PartData S V) (r : Rows V) (n : ℕ) (ns : List ℕ) (v j b i : ℕ) (x : Bool) (d' : ℕ) → IsDesk p r n ns → IsPlace p v j → IsRow p b i → (network_in p.setup).tail b ≡ v →
+  keep_busy : (p : PartData S V) (r : Rows V) (n : ℕ) (ns : List ℕ) (v j b i : ℕ) (x : Bool) (d' : ℕ) → IsStored p r n ns → IsPlace p v j → IsRow p b i → (network_in p.setup).tail b ≡ v →
       d' + one_if (get_or p.busy b false) ≡ get_or r.deficits j 0 + one_if x →
       IsSound (network_in p.setup) (place_in p.setup) (record p { busy = set p.busy b x }) →
-      IsDesk (record p { busy = spread (arcs_out (network_in p.setup) (own_in p.setup p.shard)) (set r.busy i x) false (suc (length p.setup.roads.arcs)) }) (record r { busy = set r.busy i x; deficits = set r.deficits j d' }) n ns
+      IsStored (record p { busy = spread (arcs_out (network_in p.setup) (own_in p.setup p.shard)) (set r.busy i x) false (suc (length p.setup.roads.arcs)) }) (record r { busy = set r.busy i x; deficits = set r.deficits j d' }) n ns
   keep_busy p r n ns v j b i x d' D P Q t h s = record {
     planned = D.planned;
     sized = record { own = D.sized.own; offsets = D.sized.offsets; starts = D.sized.starts; labels = D.sized.labels; engagers = D.sized.engagers; deficits = length-set r.deficits j d' ∙ D.sized.deficits; busy = length-set r.busy i x ∙ D.sized.busy; told = D.sized.told };
@@ -157,9 +157,9 @@ module _ {S V : Type 0} where
             | inr m ↦ own_apart p.setup p.shard j k (omega (arith, m, ne)) l (sym q)
           ]
 
-  pub occupy_keeps : (p old : PartData S V) (r : Rows V) (n : ℕ) (ns : List ℕ) (v j b i d : ℕ) → p ≡ old → IsDesk p r n ns → IsPlace old v j → IsRow old b i → (network_in old.setup).tail b ≡ v → v ≢ 0 → get_or old.busy b false ≡ false →
+  pub occupy_keeps : (p old : PartData S V) (r : Rows V) (n : ℕ) (ns : List ℕ) (v j b i d : ℕ) → p ≡ old → IsStored p r n ns → IsPlace old v j → IsRow old b i → (network_in old.setup).tail b ≡ v → v ≢ 0 → get_or old.busy b false ≡ false →
       d ≡ get_or r.deficits j 0 →
-      IsDesk (record p { busy = spread (arcs_out (network_in p.setup) (own_in p.setup p.shard)) (set r.busy i true) false (suc (length p.setup.roads.arcs)) }) (record r { busy = set r.busy i true; deficits = set r.deficits j (d + 1) }) n ns
+      IsStored (record p { busy = spread (arcs_out (network_in p.setup) (own_in p.setup p.shard)) (set r.busy i true) false (suc (length p.setup.roads.arcs)) }) (record r { busy = set r.busy i true; deficits = set r.deficits j (d + 1) }) n ns
       × IsClear (record p { busy = spread (arcs_out (network_in p.setup) (own_in p.setup p.shard)) (set r.busy i true) false (suc (length p.setup.roads.arcs)) }) b
   occupy_keeps p old r n ns v j b i d e D stands lies t nz f h =
       let P = place_at p old v j e stands in let Q = row_at p old b i e lies in
@@ -174,21 +174,21 @@ module _ {S V : Type 0} where
       )
 
   -- the table of arcs is no longer than all arcs with the environment's
-  pub rows_few : (p : PartData S V) (r : Rows V) (n : ℕ) (ns : List ℕ) → IsDesk p r n ns → length r.busy ≤ 2 ^ 27 + 1
+  pub rows_few : (p : PartData S V) (r : Rows V) (n : ℕ) (ns : List ℕ) → IsStored p r n ns → length r.busy ≤ 2 ^ 27 + 1
   rows_few p r n ns D =
       let m = own_arcs_most (network_in p.setup) (place_in p.setup) p.shard p.setup.roads.vertices (length (own_in p.setup p.shard)) in
       let t = ap (λ vs. length (arcs_out (network_in p.setup) vs)) (take_all (length (own_in p.setup p.shard)) (own_in p.setup p.shard) (omega arith)) in
       let s = D.sized.busy in let a = D.planned.roads.few_arcs in omega (arith, m, t, s, a)
 
-  pub deficit_few : (p old : PartData S V) (r : Rows V) (n : ℕ) (ns : List ℕ) (v j d : ℕ) → p ≡ old → IsDesk p r n ns → IsPlace old v j → d ≡ get_or r.deficits j 0 → d ≤ 2 ^ 27 + 1
+  pub deficit_few : (p old : PartData S V) (r : Rows V) (n : ℕ) (ns : List ℕ) (v j d : ℕ) → p ≡ old → IsStored p r n ns → IsPlace old v j → d ≡ get_or r.deficits j 0 → d ≤ 2 ^ 27 + 1
   deficit_few p old r n ns v j d e D R h =
       let P = place_at p old v j e R in
       let c = D.counts j P.inside in let m = busy_most (network_in p.setup) (get_or (own_in p.setup p.shard) j 0) (state_in p) (suc (length p.setup.roads.arcs)) in
       let a = D.planned.roads.few_arcs in omega (arith, h, c, m, a)
 
-  pub free_keeps : (p old : PartData S V) (r : Rows V) (n : ℕ) (ns : List ℕ) (v j a i d : ℕ) → p ≡ old → IsDesk p r n ns → IsPlace old v j → IsRow old a i → (network_in old.setup).tail a ≡ v → place_in old.setup v ≡ old.shard → IsClear old a →
+  pub free_keeps : (p old : PartData S V) (r : Rows V) (n : ℕ) (ns : List ℕ) (v j a i d : ℕ) → p ≡ old → IsStored p r n ns → IsPlace old v j → IsRow old a i → (network_in old.setup).tail a ≡ v → place_in old.setup v ≡ old.shard → IsClear old a →
       d ≡ get_or r.deficits j 0 →
-      (1 ≤ d) × IsDesk (record p { busy = spread (arcs_out (network_in p.setup) (own_in p.setup p.shard)) (set r.busy i false) false (suc (length p.setup.roads.arcs)) }) (record r { busy = set r.busy i false; deficits = set r.deficits j (d - 1) }) n ns
+      (1 ≤ d) × IsStored (record p { busy = spread (arcs_out (network_in p.setup) (own_in p.setup p.shard)) (set r.busy i false) false (suc (length p.setup.roads.arcs)) }) (record r { busy = set r.busy i false; deficits = set r.deficits j (d - 1) }) n ns
   free_keeps p old r n ns v j a i d e D stands lies t m z h =
       let P = place_at p old v j e stands in let Q = row_at p old a i e lies in
       let t2 : (network_in p.setup).tail a ≡ v = subst (λ (u : PartData S V). (network_in u.setup).tail a ≡ v) (sym e) t in

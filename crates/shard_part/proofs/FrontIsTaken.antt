@@ -12,7 +12,7 @@ use Rattle.scholten_core.specs.Items.{item_arc, item_of, pump_made, settle_made,
 use Rattle.scholten_core.proofs.Basics.{put_tells, due_tells}
 use Rattle.shard_part.specs.Tallies.{counted_on, top}
 use Rattle.shard_part.specs.PartState.{PartData, Setup, Lanes, lanes_of, network_in, place_in, state_in, token_if, total, is_told, is_back, mine, routes, route, outgoing, arrive_here, settle_here, taken, made, vertex_of, IsArc, TookIn}
-use Rattle.shard_part.specs.Desk.{Rows, IsDesk, IsPlanned, IsPopped, greeted, offered, offered_all, rested, with_value, with_free, with_taken}
+use Rattle.shard_part.specs.Moves.{Rows, IsStored, IsPlanned, IsPopped, greeted, offered, offered_all, rested, with_value, with_free, with_taken}
 use Rattle.shard_part.specs.Part.{OwnIdleIsTold}
 use Rattle.shard_part.proofs.Spread.{table_long}
 use Rattle.shard_part.proofs.Flying.{outgoing_is}
@@ -36,8 +36,8 @@ pub record IsFit {S V : Type 0} (p : PartData S V) : Type 0 where
   pub signalled : p.signalled ≤ top
   pub accepted : p.accepted ≤ top
 
-pub desk_fit : {S V : Type 0} (p : PartData S V) (r : Rows V) (n : ℕ) (ns : List ℕ) → IsDesk p r n ns → IsFit p
-desk_fit p r n ns D = record {
+pub stored_fit : {S V : Type 0} (p : PartData S V) (r : Rows V) (n : ℕ) (ns : List ℕ) → IsStored p r n ns → IsFit p
+stored_fit p r n ns D = record {
   labels = table_long _ r.labels p.labels None (suc p.setup.roads.vertices) D.seen.labels;
   engagers = table_long _ r.engagers p.engagers None (suc p.setup.roads.vertices) D.seen.engagers;
   busy = table_long _ r.busy p.busy false (suc (length p.setup.roads.arcs)) D.seen.busy;

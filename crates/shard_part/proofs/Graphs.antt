@@ -9,7 +9,7 @@ use Rattle.scholten_core.specs.Diffusion.{Listed}
 use Rattle.scholten_core.proofs.Networks.{out_of, real_arc, tail-arc, head-arc, tail-entry, head-entry}
 use Rattle.shard_part.specs.Plans.{shard_in, HasPlanned}
 use Rattle.shard_part.specs.PartState.{Setup, PartData, network_in, place_in, outgoing, IsArc, own_in, arcs_out}
-use Rattle.shard_part.specs.Desk.{Rows, IsDesk, IsPlace, IsRow}
+use Rattle.shard_part.specs.Moves.{Rows, IsStored, IsPlace, IsRow}
 use Rattle.shard_part.specs.Tables.{Rises, StandsIn}
 use Rattle.shard_part.proofs.Ascending.{arcs_are, rising, from_none}
 use Rattle.shard_part.proofs.Places.{arc_at_place, own_rises, own_all}
@@ -82,7 +82,7 @@ module _ {S : Type 0} (t : Setup S) where
 
 module _ {S V : Type 0} where
   -- where the arcs of a place begin
-  pub row_leaves : (p old : PartData S V) (r : Rows V) (n : ℕ) (ns : List ℕ) (v j k d : ℕ) → p ≡ old → IsDesk p r n ns → IsPlace old v j → k < length (outgoing (network_in old.setup) v) → d ≡ get_or r.offsets j d →
+  pub row_leaves : (p old : PartData S V) (r : Rows V) (n : ℕ) (ns : List ℕ) (v j k d : ℕ) → p ≡ old → IsStored p r n ns → IsPlace old v j → k < length (outgoing (network_in old.setup) v) → d ≡ get_or r.offsets j d →
       (d + k < length r.busy) × IsRow old (get_or (outgoing (network_in old.setup) v) k 0) (d + k)
   row_leaves p old r n ns v j k d e D Q l h =
       let P : IsPlace p v j = subst (λ (u : PartData S V). IsPlace u v j) (sym e) Q in
@@ -96,21 +96,21 @@ module _ {S V : Type 0} where
         }),
       )
 
-  pub own_rising : (p old : PartData S V) (r : Rows V) (n : ℕ) (ns : List ℕ) (xs : List ℕ) (v : ℕ) → p ≡ old → IsDesk p r n ns → xs ≡ r.own → v ≤ old.setup.roads.vertices → (v ≢ 0 → place_in old.setup v ≡ old.shard) → Rises xs × StandsIn xs v
+  pub own_rising : (p old : PartData S V) (r : Rows V) (n : ℕ) (ns : List ℕ) (xs : List ℕ) (v : ℕ) → p ≡ old → IsStored p r n ns → xs ≡ r.own → v ≤ old.setup.roads.vertices → (v ≢ 0 → place_in old.setup v ≡ old.shard) → Rises xs × StandsIn xs v
   own_rising p old r n ns xs v e D x l h =
       subst (λ ys. Rises ys × StandsIn ys v) (sym (x ∙ D.sized.own)) (
         own_rises p.setup p.shard,
         own_all p.setup p.shard v (subst (λ (u : PartData S V). v ≤ u.setup.roads.vertices) (sym e) l) (subst (λ (u : PartData S V). v ≢ 0 → place_in u.setup v ≡ u.shard) (sym e) h),
       )
 
-  pub place_leaves : (p old : PartData S V) (r : Rows V) (n : ℕ) (ns : List ℕ) (xs : List ℕ) (v j : ℕ) → p ≡ old → IsDesk p r n ns → xs ≡ r.own → j < length xs → get_or xs j 0 ≡ v → IsPlace old v j
+  pub place_leaves : (p old : PartData S V) (r : Rows V) (n : ℕ) (ns : List ℕ) (xs : List ℕ) (v j : ℕ) → p ≡ old → IsStored p r n ns → xs ≡ r.own → j < length xs → get_or xs j 0 ≡ v → IsPlace old v j
   place_leaves p old r n ns xs v j e D x l h = subst (λ (u : PartData S V). IsPlace u v j) e (record {
     inside = subst (λ ys. j < length ys) (x ∙ D.sized.own) l;
     vertex = ap (λ ys. get_or ys j 0) (sym (x ∙ D.sized.own)) ∙ h;
   })
 
   -- the head and the tail of an arc, the environment's among them
-  pub arc_in_graph : (p old : PartData S V) (r : Rows V) (n : ℕ) (ns : List ℕ) (a : ℕ) → p ≡ old → IsDesk p r n ns → IsArc (network_in old.setup) a → a ≢ 0 → HasArc p.setup.roads a
+  pub arc_in_graph : (p old : PartData S V) (r : Rows V) (n : ℕ) (ns : List ℕ) (a : ℕ) → p ≡ old → IsStored p r n ns → IsArc (network_in old.setup) a → a ≢ 0 → HasArc p.setup.roads a
   arc_in_graph p old r n ns a e D h nz = graph_arc p.setup a nz (subst (λ (u : PartData S V). IsArc (network_in u.setup) a) (sym e) h)
 
   -- an arc is the environment's, or one of the graph's
@@ -120,14 +120,14 @@ module _ {S V : Type 0} where
     | inr n ↦ (graph_arc p.setup a n (subst (λ (u : PartData S V). IsArc (network_in u.setup) a) (sym e) h)).1
   ]
 
-  pub head_arc_is : (p old : PartData S V) (r : Rows V) (n : ℕ) (ns : List ℕ) (a : ℕ) → p ≡ old → IsDesk p r n ns → IsArc (network_in old.setup) a → a ≢ 0 →
+  pub head_arc_is : (p old : PartData S V) (r : Rows V) (n : ℕ) (ns : List ℕ) (a : ℕ) → p ≡ old → IsStored p r n ns → IsArc (network_in old.setup) a → a ≢ 0 →
       ((arc_of p.setup.roads a).head ≡ (network_in old.setup).head a) × (1 ≤ (arc_of p.setup.roads a).head) × ((arc_of p.setup.roads a).head ≤ old.setup.roads.vertices)
   head_arc_is p old r n ns a e D h nz =
       let g = arc_in_graph p old r n ns a e D h nz in let j = (D.planned.roads.ends a g).1 in
       (sym (head-arc p.setup.roads p.setup.source a g.0) ∙ ap (λ (u : PartData S V). (network_in u.setup).head a) e, j.0, subst (λ (u : PartData S V). (arc_of p.setup.roads a).head ≤ u.setup.roads.vertices) e j.1)
 
   -- the head of an arc, as the graph tells it
-  pub head_told : (p old : PartData S V) (r : Rows V) (n : ℕ) (ns : List ℕ) (b w : ℕ) → p ≡ old → IsDesk p r n ns → IsArc (network_in old.setup) b → b ≢ 0 → w ≡ (arc_of old.setup.roads b).head →
+  pub head_told : (p old : PartData S V) (r : Rows V) (n : ℕ) (ns : List ℕ) (b w : ℕ) → p ≡ old → IsStored p r n ns → IsArc (network_in old.setup) b → b ≢ 0 → w ≡ (arc_of old.setup.roads b).head →
       (w ≡ (network_in old.setup).head b) × HasPlanned p.setup.plan w
   head_told p old r n ns b w e D h nz is =
       let H = head_arc_is p old r n ns b e D h nz in
@@ -135,5 +135,5 @@ module _ {S V : Type 0} where
       let v = ap (λ (u : PartData S V). u.setup.roads.vertices) e in let k = D.planned.covers in let low = H.1 in let high = H.2 in
       (q ∙ H.0, ((omega (arith, q, low)), (omega (arith, q, high, v, k))))
 
-  pub shard_is : (p old : PartData S V) (r : Rows V) (n : ℕ) (ns : List ℕ) (v w : ℕ) → p ≡ old → IsDesk p r n ns → ((v ≡ 0) × (w ≡ p.setup.source)) ⊎ ((1 ≤ v) × (w ≡ v)) → shard_in p.setup.plan w ≡ place_in old.setup v
+  pub shard_is : (p old : PartData S V) (r : Rows V) (n : ℕ) (ns : List ℕ) (v w : ℕ) → p ≡ old → IsStored p r n ns → ((v ≡ 0) × (w ≡ p.setup.source)) ⊎ ((1 ≤ v) × (w ≡ v)) → shard_in p.setup.plan w ≡ place_in old.setup v
   shard_is p old r n ns v w e D h = sym (placed_as p.setup v w D.planned.source.0 h) ∙ ap (λ (u : PartData S V). place_in u.setup v) e

@@ -32,7 +32,7 @@ pub mod Opened
 pub mod Receiving
 pub mod Sites
 pub mod BatchFits
-pub mod DeskOpens
+pub mod TablesOpen
 pub mod OpenedAll
 pub mod Sharing
 pub mod Exact

@@ -7,7 +7,7 @@ use Rattle.scholten_core.specs.Items.{item_arc}
 use Rattle.scholten_core.proofs.Networks.{well_formed}
 use Rattle.shard_part.specs.Tables.{spread, IsApart}
 use Rattle.shard_part.specs.PartState.{PartData, state_in, network_in, place_in, own_in, arcs_out, is, names, engages, idles, part_weight, IsArc, IsSound, IsClear}
-use Rattle.shard_part.specs.Desk.{Rows, IsPlanned, IsDesk, IsPlace, IsRow}
+use Rattle.shard_part.specs.Moves.{Rows, IsPlanned, IsStored, IsPlace, IsRow}
 use Rattle.shard_part.proofs.Spread.{table_read, table_write, table_long}
 use Rattle.shard_part.proofs.Places.{own_apart, own_below, own_placed, arcs_apart, arc_owner}
 use Rattle.scholten_core.proofs.Sums.{one_if-most}
@@ -36,41 +36,41 @@ module _ {S V : Type 0} where
   mine_at p v j P nz = subst (λ k. place_in p.setup k ≡ p.shard) P.vertex (own_placed p.setup p.shard j P.inside (λ w. nz (sym P.vertex ∙ w)))
 
   -- reads
-  pub label_read : (p old : PartData S V) (r : Rows V) (n : ℕ) (ns : List ℕ) (v j : ℕ) (x : Option V) → p ≡ old → IsDesk p r n ns → IsPlace old v j → x ≡ get_or r.labels j None → x ≡ get_or old.labels v None
+  pub label_read : (p old : PartData S V) (r : Rows V) (n : ℕ) (ns : List ℕ) (v j : ℕ) (x : Option V) → p ≡ old → IsStored p r n ns → IsPlace old v j → x ≡ get_or r.labels j None → x ≡ get_or old.labels v None
   label_read p old r n ns v j x e D Q h = let P = place_at p old v j e Q in
       table_read (own_in p.setup p.shard) r.labels p.labels None (suc p.setup.roads.vertices) j v x D.seen.labels (own_apart p.setup p.shard) P.inside D.sized.labels P.vertex (below p v j P) h
       ∙ ap (λ (u : PartData S V). get_or u.labels v None) e
 
-  pub engager_read : (p old : PartData S V) (r : Rows V) (n : ℕ) (ns : List ℕ) (v j : ℕ) (x : Option ℕ) → p ≡ old → IsDesk p r n ns → IsPlace old v j → x ≡ get_or r.engagers j None → x ≡ get_or old.engagers v None
+  pub engager_read : (p old : PartData S V) (r : Rows V) (n : ℕ) (ns : List ℕ) (v j : ℕ) (x : Option ℕ) → p ≡ old → IsStored p r n ns → IsPlace old v j → x ≡ get_or r.engagers j None → x ≡ get_or old.engagers v None
   engager_read p old r n ns v j x e D Q h = let P = place_at p old v j e Q in
       table_read (own_in p.setup p.shard) r.engagers p.engagers None (suc p.setup.roads.vertices) j v x D.seen.engagers (own_apart p.setup p.shard) P.inside D.sized.engagers P.vertex (below p v j P) h
       ∙ ap (λ (u : PartData S V). get_or u.engagers v None) e
 
-  pub busy_read : (p old : PartData S V) (r : Rows V) (n : ℕ) (ns : List ℕ) (b i : ℕ) (x : Bool) → p ≡ old → IsDesk p r n ns → IsRow old b i → x ≡ get_or r.busy i false → x ≡ get_or old.busy b false
+  pub busy_read : (p old : PartData S V) (r : Rows V) (n : ℕ) (ns : List ℕ) (b i : ℕ) (x : Bool) → p ≡ old → IsStored p r n ns → IsRow old b i → x ≡ get_or r.busy i false → x ≡ get_or old.busy b false
   busy_read p old r n ns b i x e D Q h = let P = row_at p old b i e Q in
       table_read (arcs_out (network_in p.setup) (own_in p.setup p.shard)) r.busy p.busy false (suc (length p.setup.roads.arcs)) i b x D.seen.busy (apart p) P.inside D.sized.busy P.arc (arc_below p b i P) h
       ∙ ap (λ (u : PartData S V). get_or u.busy b false) e
 
-  pub told_read : (p old : PartData S V) (r : Rows V) (n : ℕ) (ns : List ℕ) (b i : ℕ) (x : Option V) → p ≡ old → IsDesk p r n ns → IsRow old b i → x ≡ get_or r.told i None → x ≡ get_or old.told b None
+  pub told_read : (p old : PartData S V) (r : Rows V) (n : ℕ) (ns : List ℕ) (b i : ℕ) (x : Option V) → p ≡ old → IsStored p r n ns → IsRow old b i → x ≡ get_or r.told i None → x ≡ get_or old.told b None
   told_read p old r n ns b i x e D Q h = let P = row_at p old b i e Q in
       table_read (arcs_out (network_in p.setup) (own_in p.setup p.shard)) r.told p.told None (suc (length p.setup.roads.arcs)) i b x D.seen.told (apart p) P.inside D.sized.told P.arc (arc_below p b i P) h
       ∙ ap (λ (u : PartData S V). get_or u.told b None) e
 
   -- a label is written
-  pub label_leaves : (p old : PartData S V) (r : Rows V) (n : ℕ) (ns : List ℕ) (v j : ℕ) (x : Option V) → p ≡ old → IsDesk p r n ns → IsPlace old v j →
+  pub label_leaves : (p old : PartData S V) (r : Rows V) (n : ℕ) (ns : List ℕ) (v j : ℕ) (x : Option V) → p ≡ old → IsStored p r n ns → IsPlace old v j →
       record p { labels = spread (own_in p.setup p.shard) (set r.labels j x) None (suc p.setup.roads.vertices) } ≡ record old { labels = set old.labels v x }
   label_leaves p old r n ns v j x e D Q = let P = place_at p old v j e Q in
       ap (λ (ys : List (Option V)). record p { labels = ys }) (table_write (own_in p.setup p.shard) r.labels p.labels None (suc p.setup.roads.vertices) j v x D.seen.labels (own_apart p.setup p.shard) P.inside D.sized.labels P.vertex)
       ∙ ap (λ (u : PartData S V). record u { labels = set u.labels v x }) e
 
-  pub told_leaves : (p old : PartData S V) (r : Rows V) (n : ℕ) (ns : List ℕ) (b i : ℕ) (x : Option V) → p ≡ old → IsDesk p r n ns → IsRow old b i →
+  pub told_leaves : (p old : PartData S V) (r : Rows V) (n : ℕ) (ns : List ℕ) (b i : ℕ) (x : Option V) → p ≡ old → IsStored p r n ns → IsRow old b i →
       record p { told = spread (arcs_out (network_in p.setup) (own_in p.setup p.shard)) (set r.told i x) None (suc (length p.setup.roads.arcs)) } ≡ record old { told = set old.told b x }
   told_leaves p old r n ns b i x e D Q = let P = row_at p old b i e Q in
       ap (λ (ys : List (Option V)). record p { told = ys }) (table_write (arcs_out (network_in p.setup) (own_in p.setup p.shard)) r.told p.told None (suc (length p.setup.roads.arcs)) i b x D.seen.told (apart p) P.inside D.sized.told P.arc)
       ∙ ap (λ (u : PartData S V). record u { told = set u.told b x }) e
 
-  pub told_keeps : (p : PartData S V) (r : Rows V) (n : ℕ) (ns : List ℕ) (i : ℕ) (x : Option V) → IsDesk p r n ns →
-      IsDesk (record p { told = spread (arcs_out (network_in p.setup) (own_in p.setup p.shard)) (set r.told i x) None (suc (length p.setup.roads.arcs)) }) (record r { told = set r.told i x }) n ns
+  pub told_keeps : (p : PartData S V) (r : Rows V) (n : ℕ) (ns : List ℕ) (i : ℕ) (x : Option V) → IsStored p r n ns →
+      IsStored (record p { told = spread (arcs_out (network_in p.setup) (own_in p.setup p.shard)) (set r.told i x) None (suc (length p.setup.roads.arcs)) }) (record r { told = set r.told i x }) n ns
   told_keeps p r n ns i x D = record {
     planned = D.planned;
     sized = record { own = D.sized.own; offsets = D.sized.offsets; starts = D.sized.starts; labels = D.sized.labels; engagers = D.sized.engagers; deficits = D.sized.deficits; busy = D.sized.busy; told = length-set r.told i x ∙ D.sized.told };
@@ -82,11 +82,11 @@ module _ {S V : Type 0} where
   }
 
   -- an engager is written
-  engagers_written : (p : PartData S V) (r : Rows V) (n : ℕ) (ns : List ℕ) (v j : ℕ) (x : Option ℕ) → IsDesk p r n ns → IsPlace p v j →
+  engagers_written : (p : PartData S V) (r : Rows V) (n : ℕ) (ns : List ℕ) (v j : ℕ) (x : Option ℕ) → IsStored p r n ns → IsPlace p v j →
       spread (own_in p.setup p.shard) (set r.engagers j x) None (suc p.setup.roads.vertices) ≡ set p.engagers v x
   engagers_written p r n ns v j x D P = table_write (own_in p.setup p.shard) r.engagers p.engagers None (suc p.setup.roads.vertices) j v x D.seen.engagers (own_apart p.setup p.shard) P.inside D.sized.engagers P.vertex
 
-  pub engager_leaves : (p old : PartData S V) (r : Rows V) (n : ℕ) (ns : List ℕ) (v j : ℕ) (x : Option ℕ) → p ≡ old → IsDesk p r n ns → IsPlace old v j →
+  pub engager_leaves : (p old : PartData S V) (r : Rows V) (n : ℕ) (ns : List ℕ) (v j : ℕ) (x : Option ℕ) → p ≡ old → IsStored p r n ns → IsPlace old v j →
       record p { engagers = spread (own_in p.setup p.shard) (set r.engagers j x) None (suc p.setup.roads.vertices) } ≡ record old { engagers = set old.engagers v x }
   engager_leaves p old r n ns v j x e D Q =
       ap (λ (ys : List (Option ℕ)). record p { engagers = ys }) (engagers_written p r n ns v j x D (place_at p old v j e Q)) ∙ ap (λ (u : PartData S V). record u { engagers = set u.engagers v x }) e
@@ -100,8 +100,8 @@ module _ {S V : Type 0} where
     | inr ne ↦ inr (ne, ap (λ z. one_if (eqb (place_in p.setup ((network_in p.setup).head b)) p.shard && names z b)) (get_or-set_other p.engagers v ((network_in p.setup).head b) x None ne))
   ]
 
-  keep_engagers : (p : PartData S V) (r : Rows V) (n : ℕ) (ns : List ℕ) (v j : ℕ) (x : Option ℕ) → IsDesk p r n ns → IsPlace p v j → IsSound (network_in p.setup) (place_in p.setup) (record p { engagers = set p.engagers v x }) →
-      IsDesk (record p { engagers = spread (own_in p.setup p.shard) (set r.engagers j x) None (suc p.setup.roads.vertices) }) (record r { engagers = set r.engagers j x }) n ns
+  keep_engagers : (p : PartData S V) (r : Rows V) (n : ℕ) (ns : List ℕ) (v j : ℕ) (x : Option ℕ) → IsStored p r n ns → IsPlace p v j → IsSound (network_in p.setup) (place_in p.setup) (record p { engagers = set p.engagers v x }) →
+      IsStored (record p { engagers = spread (own_in p.setup p.shard) (set r.engagers j x) None (suc p.setup.roads.vertices) }) (record r { engagers = set r.engagers j x }) n ns
   keep_engagers p r n ns v j x D P s = record {
     planned = D.planned;
     sized = record { own = D.sized.own; offsets = D.sized.offsets; starts = D.sized.starts; labels = D.sized.labels; engagers = length-set r.engagers j x ∙ D.sized.engagers; deficits = D.sized.deficits; busy = D.sized.busy; told = D.sized.told };
@@ -112,8 +112,8 @@ module _ {S V : Type 0} where
     tallied = D.tallied;
   }
 
-  pub engage_keeps : (p old : PartData S V) (r : Rows V) (n : ℕ) (ns : List ℕ) (v j a : ℕ) → p ≡ old → IsDesk p r n ns → IsPlace old v j → IsArc (network_in old.setup) a → (network_in old.setup).head a ≡ v → IsClear old a →
-      IsDesk (record p { engagers = spread (own_in p.setup p.shard) (set r.engagers j (Some a)) None (suc p.setup.roads.vertices) }) (record r { engagers = set r.engagers j (Some a) }) n ns
+  pub engage_keeps : (p old : PartData S V) (r : Rows V) (n : ℕ) (ns : List ℕ) (v j a : ℕ) → p ≡ old → IsStored p r n ns → IsPlace old v j → IsArc (network_in old.setup) a → (network_in old.setup).head a ≡ v → IsClear old a →
+      IsStored (record p { engagers = spread (own_in p.setup p.shard) (set r.engagers j (Some a)) None (suc p.setup.roads.vertices) }) (record r { engagers = set r.engagers j (Some a) }) n ns
   engage_keeps p old r n ns v j a e D Q ar h z =
       let P = place_at p old v j e Q in
       let ar2 : IsArc (network_in p.setup) a = subst (λ (u : PartData S V). IsArc (network_in u.setup) a) (sym e) ar in
@@ -180,8 +180,8 @@ module _ {S V : Type 0} where
       true_and : (t : Bool) → t ≡ true → one_if (true && t) ≡ 1
       true_and t e = ap (λ z. one_if (true && z)) e
 
-  pub release_keeps : (p old : PartData S V) (r : Rows V) (n : ℕ) (ns : List ℕ) (v j e : ℕ) → p ≡ old → IsDesk p r n ns → IsPlace old v j → v ≢ 0 → (state_in old).engager v ≡ Some e →
-      IsDesk (record p { engagers = spread (own_in p.setup p.shard) (set r.engagers j None) None (suc p.setup.roads.vertices) }) (record r { engagers = set r.engagers j None }) n ns
+  pub release_keeps : (p old : PartData S V) (r : Rows V) (n : ℕ) (ns : List ℕ) (v j e : ℕ) → p ≡ old → IsStored p r n ns → IsPlace old v j → v ≢ 0 → (state_in old).engager v ≡ Some e →
+      IsStored (record p { engagers = spread (own_in p.setup p.shard) (set r.engagers j None) None (suc p.setup.roads.vertices) }) (record r { engagers = set r.engagers j None }) n ns
       × IsClear (record p { engagers = spread (own_in p.setup p.shard) (set r.engagers j None) None (suc p.setup.roads.vertices) }) e
       × IsArc (network_in p.setup) e × (place_in p.setup ((network_in p.setup).head e) ≡ p.shard)
   release_keeps p old r n ns v j a e D Q nz q =

@@ -10,7 +10,7 @@ use Rattle.shard_part.specs.PartState.{PartData, state_in, token_if, network_in,
 use Rattle.shard_part.proofs.Graphs.{arc_in_graph}
 use Rattle.shard_part.proofs.Moves.{mine_at}
 use Rattle.scholten_core.proofs.Quick.{out_idle_counted}
-use Rattle.shard_part.specs.Desk.{Rows, IsDesk, IsPlace, with_item, rested, rested_by}
+use Rattle.shard_part.specs.Moves.{Rows, IsStored, IsPlace, with_item, rested, rested_by}
 
 module _ {S V : Type 0} (A : Algebra V) where
   pub due_read : (p : PartData S V) (v b : ℕ) (busy same : Bool) → (network_in p.setup).tail b ≡ v → busy ≡ get_or p.busy b false → same ≡ same_label A ((state_in p).told b) ((state_in p).label v) →
@@ -41,7 +41,7 @@ module _ {S V : Type 0} (A : Algebra V) where
       go true false true e = sym e
       go true false false e = sym e
 
-  pub extension_read : (p old : PartData S V) (r : Rows V) (n : ℕ) (ns : List ℕ) (meaning : S → Algebra V) (label x : Option V) (v b w : ℕ) → p ≡ old → IsDesk p r n ns → IsArc (network_in old.setup) b → b ≢ 0 →
+  pub extension_read : (p old : PartData S V) (r : Rows V) (n : ℕ) (ns : List ℕ) (meaning : S → Algebra V) (label x : Option V) (v b w : ℕ) → p ≡ old → IsStored p r n ns → IsArc (network_in old.setup) b → b ≢ 0 →
       label ≡ (state_in old).label v → w ≡ (arc_of p.setup.roads b).weight → x ≡ extend_label (meaning p.setup.algebra) label w → x ≡ extend_label (meaning old.setup.algebra) ((state_in old).label v) ((network_in old.setup).weight b)
   extension_read p old r n ns meaning label x v b w e D ar nz l y h =
       h ∙ (λ i. extend_label (meaning (e i).setup.algebra) (l i) (((y ∙ sym (weight-arc p.setup.roads b (arc_in_graph p old r n ns b e D ar nz).0)) ∙ ap (λ (u : PartData S V). (network_in u.setup).weight b) e) i))

@@ -10,7 +10,7 @@ use Rattle.scholten_core.specs.Diffusion.{CoreState, is_idle, is_due, pump, sent
 use Rattle.scholten_core.specs.Items.{item_of, pump_made, IsDistinct}
 use Rattle.shard_part.specs.Tallies.{counted_on, top}
 use Rattle.shard_part.specs.PartState.{PartData, Lanes, lanes_of, network_in, place_in, state_in, token_if, total, is_told, is_back, route, routes}
-use Rattle.shard_part.specs.Desk.{with_message, offered_all}
+use Rattle.shard_part.specs.Moves.{with_message, offered_all}
 use Rattle.shard_part.proofs.Weights.{total_append}
 use Rattle.shard_part.proofs.Routed.{routes-append}
 use Rattle.scholten_core.proofs.Basics.{due_idle, due_same, pumped_same}

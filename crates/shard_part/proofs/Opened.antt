@@ -16,7 +16,7 @@ use Rattle.scholten_core.proofs.Networks.{tail-arc, head-entry, tail-entry}
 use Rattle.shard_part.specs.Tables.{spread, placed}
 use Rattle.scholten_core.specs.Deficit.{busy_out}
 use Rattle.shard_part.specs.PartState.{Setup, PartData, network_in, place_in, state_in, token_if, own_in, arcs_out, arcs_from, outgoing, total, outs_weight, part_weight, engages, idles, names, is, All, vertex_of, maker_of, at_place, flying, IsArc, IsSound, HoldsShare, queue_room, out_room}
-use Rattle.shard_part.specs.Desk.{Rows, seen_as, IsPlanned, IsCounted, IsDesk}
+use Rattle.shard_part.specs.Moves.{Rows, seen_as, IsPlanned, IsCounted, IsStored}
 use Rattle.shard_part.specs.Opening.{is_first, first_items, opened_part, AreStarts, idle_rows}
 use Rattle.shard_part.proofs.Weights.{sum_at, sum_zero}
 use Rattle.shard_part.proofs.Places.{own_apart}
@@ -176,13 +176,13 @@ module _ {S V : Type 0} (A : Algebra V) (t : Setup S) (s : ℕ) (P : IsPlanned t
     accepted = 0;
   }
 
-  pub opened_desk : (r : Rows V) (offsets : List ℕ) (arcs : ℕ) (queue : List (Item V)) (outs : List (List (Item V))) (sent n : ℕ) (ns : List ℕ) → AreStarts (network_in t) (own_in t s) offsets arcs → r ≡ idle_rows (own_in t s) offsets arcs (is_first t s) →
+  pub opened_stored : (r : Rows V) (offsets : List ℕ) (arcs : ℕ) (queue : List (Item V)) (outs : List (List (Item V))) (sent n : ℕ) (ns : List ℕ) → AreStarts (network_in t) (own_in t s) offsets arcs → r ≡ idle_rows (own_in t s) offsets arcs (is_first t s) →
       queue ≡ first_items A (is_first t s) → outs ≡ replicate t.plan.shards [] → sent ≡ one_if (is_first t s) →
       n ≡ queue_room (network_in t) (place_in t) s → length ns ≡ t.plan.shards → ((k : ℕ) → k ≢ s → k < t.plan.shards → get_or ns k 0 ≡ out_room (network_in t) (place_in t) s k) →
-      IsDesk (seen_as t s r queue outs sent 0 0 0) r n ns
-  opened_desk r offsets arcs queue outs sent n ns B e q o c room long caps =
+      IsStored (seen_as t s r queue outs sent 0 0 0) r n ns
+  opened_stored r offsets arcs queue outs sent n ns B e q o c room long caps =
       let E = opened_seen r offsets arcs queue outs sent B e q o c in
-      subst (λ (u : PartData S V). IsDesk u r n ns) (sym E) (record {
+      subst (λ (u : PartData S V). IsStored u r n ns) (sym E) (record {
         planned = P;
         sized = record {
           own = ap (λ (u : Rows V). u.own) e;

@@ -7,7 +7,7 @@ use Rattle.road_graph.specs.Roads.{HasVertex, IsTurn, ListsArcsFrom, ListsRoadsF
 use Rattle.scholten_core.specs.Network.{WellFormed}
 use Rattle.scholten_core.specs.Diffusion.{is_due, extend_label, improves}
 use Rattle.shard_part.specs.PartState.{Setup, PartData, state_in, network_in, outgoing, own_in, IsArc}
-use Rattle.shard_part.specs.Desk.{Rows, IsDesk, IsPlace, IsRow, with_message, greeted, labelled, offered, offered_all, rested, with_value}
+use Rattle.shard_part.specs.Moves.{Rows, IsStored, IsPlace, IsRow, with_message, greeted, labelled, offered, offered_all, rested, with_value}
 use Rattle.scholten_core.proofs.Networks.{tail-arc}
 use Rattle.shard_part.proofs.Graphs.{out_is, roads_are, road_is}
 use Rattle.shard_part.proofs.Moves.{formed}
@@ -42,7 +42,7 @@ module _ {S V : Type 0} (A : Algebra V) where
   }
 
   -- the graph has the vertex at a place
-  pub vertex_at : (p old : PartData S V) (r : Rows V) (n : ℕ) (ns : List ℕ) (v j : ℕ) → p ≡ old → IsDesk p r n ns → IsPlace old v j → v ≢ 0 → HasVertex p.setup.roads v
+  pub vertex_at : (p old : PartData S V) (r : Rows V) (n : ℕ) (ns : List ℕ) (v j : ℕ) → p ≡ old → IsStored p r n ns → IsPlace old v j → v ≢ 0 → HasVertex p.setup.roads v
   vertex_at p old r n ns v j e D Q nz =
       let P : IsPlace p v j = subst (λ (u : PartData S V). IsPlace u v j) (sym e) Q in
       ((omega (arith, nz)), (let b = own_below p.setup p.shard j P.inside in let w = P.vertex in omega (arith, b, w)))
@@ -92,14 +92,14 @@ module _ {S V : Type 0} where
   pub tail_found : (p q : PartData S V) (v k b : ℕ) (xs : List ℕ) → xs ≡ outgoing (network_in p.setup) v → q.setup ≡ p.setup → k < length xs → get_or xs k 0 ≡ b → (network_in q.setup).tail b ≡ v
   tail_found p q v k b xs e s l h = ap (λ (t : Setup S). (network_in t).tail b) s ∙ ap (network_in p.setup).tail (sym h ∙ ap (λ ys. get_or ys k 0) e) ∙ ((outgoing_picked (network_in p.setup) v).each k (subst (λ ys. k < length ys) e l)).0
 
-  pub arc_found : (u p q : PartData S V) (r : Rows V) (n : ℕ) (ns : List ℕ) (v b : ℕ) → u ≡ p → IsDesk u r n ns → q.setup ≡ p.setup → v ≢ 0 → (network_in q.setup).tail b ≡ v → IsArc (network_in q.setup) b × (b ≢ 0)
+  pub arc_found : (u p q : PartData S V) (r : Rows V) (n : ℕ) (ns : List ℕ) (v b : ℕ) → u ≡ p → IsStored u r n ns → q.setup ≡ p.setup → v ≢ 0 → (network_in q.setup).tail b ≡ v → IsArc (network_in q.setup) b × (b ≢ 0)
   arc_found u p q r n ns v b e D s nz t =
       let W : WellFormed (network_in q.setup) = subst (λ (x : Setup S). WellFormed (network_in x)) (ap (λ (y : PartData S V). y.setup) e ∙ sym s) (formed u u.shard D.planned) in
       let tn : (network_in q.setup).tail b ≢ 0 = λ z. nz (sym t ∙ z) in
       ((W.head_in b tn, λ _. tn), λ z. tn (ap (network_in q.setup).tail z ∙ W.tail_zero))
 
   -- an arc among those out of its tail
-  pub tail_vertex : (A : Algebra V) (p old : PartData S V) (r : Rows V) (n : ℕ) (ns : List ℕ) (v j a : ℕ) → p ≡ old → IsDesk p r n ns → IsPlace old v j → IsArc (network_in old.setup) a → (network_in old.setup).tail a ≡ v → a ≢ 0 → HasVertex p.setup.roads v
+  pub tail_vertex : (A : Algebra V) (p old : PartData S V) (r : Rows V) (n : ℕ) (ns : List ℕ) (v j a : ℕ) → p ≡ old → IsStored p r n ns → IsPlace old v j → IsArc (network_in old.setup) a → (network_in old.setup).tail a ≡ v → a ≢ 0 → HasVertex p.setup.roads v
   tail_vertex A p old r n ns v j a e D P ar t nz = vertex_at A p old r n ns v j e D P (λ z. ar.1 nz (t ∙ z))
 
   -- where the graph says that an arc stands among those out of its tail
@@ -112,7 +112,7 @@ module _ {S V : Type 0} where
       (subst (λ ys. k < length ys) is turn.inside, ap (λ ys. get_or ys k 0) (sym is) ∙ turn.found)
 
   -- head and weight of the k-th arc out of a vertex
-  pub road_found : (A : Algebra V) (p old : PartData S V) (r : Rows V) (n : ℕ) (ns : List ℕ) (v j k b : ℕ) (rs : List OutRoad) (d : OutRoad) → p ≡ old → IsDesk p r n ns → IsPlace old v j → v ≢ 0 → ListsRoadsFrom p.setup.roads v rs →
+  pub road_found : (A : Algebra V) (p old : PartData S V) (r : Rows V) (n : ℕ) (ns : List ℕ) (v j k b : ℕ) (rs : List OutRoad) (d : OutRoad) → p ≡ old → IsStored p r n ns → IsPlace old v j → v ≢ 0 → ListsRoadsFrom p.setup.roads v rs →
       k < length (outgoing (network_in old.setup) v) → get_or (outgoing (network_in old.setup) v) k 0 ≡ b → (k < length rs) × (get_or rs k d ≡ road_of (arc_of old.setup.roads b))
   road_found A p old r n ns v j k b rs d e D P nz o l h =
       let h2 = vertex_at A p old r n ns v j e D P nz in

@@ -13,7 +13,7 @@ use Rattle.scholten_core.proofs.Networks.{tail-arc, head-arc, tail-entry}
 use Rattle.shard_part.specs.Plans.{shard_in, HasPlanned}
 use Rattle.shard_part.specs.Tables.{placed}
 use Rattle.shard_part.specs.PartState.{network_in, place_in, own_in, arcs_out, outgoing, total, is, out_room}
-use Rattle.shard_part.specs.Desk.{IsPlanned}
+use Rattle.shard_part.specs.Moves.{IsPlanned}
 use Rattle.shard_part.specs.Opening.{SiteData, question_of, is_first, turned, leading_to, coming_from, CountsOut, CountsInto, CountsAll}
 use Rattle.shard_part.proofs.Ascending.{arcs_are, rising, from_none}
 use Rattle.shard_part.proofs.Graphs.{listed_in, in_listed, out_is, place_vertex, place_entry}

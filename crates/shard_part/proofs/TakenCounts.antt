@@ -18,7 +18,7 @@ use Rattle.scholten_core.proofs.Ended.{opening_kept}
 use Rattle.scholten_core.proofs.Counts.{accounts}
 use Rattle.shard_part.specs.Tallies.{counted_on, top}
 use Rattle.shard_part.specs.PartState.{PartData, Setup, network_in, place_in, state_in, total, is_told, is_back, made, flying, part_weight, event_of, TookIn, TookAll, HoldsShare, Holds}
-use Rattle.shard_part.specs.Desk.{IsTallied}
+use Rattle.shard_part.specs.Moves.{IsTallied}
 use Rattle.shard_part.specs.Part.{TookFront, TookMany, IsRunOn}
 use Rattle.shard_part.proofs.TakenIsEvent.{took_event, took_weighs}
 use Rattle.shard_part.proofs.OffersArePumped.{counted_none, counted_more, counted_top}
@@ -171,7 +171,7 @@ module _ {S V : Type 0} (meaning : S → Algebra V) where
   took_many_same p q n (items, l, T) = took_same items p q T
 
   -- many items of a part, on the state after some events
-  pub many_run : (desk p q : PartData S V) (a : S) (n : ℕ) → desk ≡ p → a ≡ desk.setup.algebra → Lawful (meaning a) → WellFormed (network_in desk.setup) → IsTallied desk → TookMany meaning p n q →
+  pub many_run : (state p q : PartData S V) (a : S) (n : ℕ) → state ≡ p → a ≡ state.setup.algebra → Lawful (meaning a) → WellFormed (network_in state.setup) → IsTallied state → TookMany meaning p n q →
       (events : List Event) → Holds meaning (state_after (meaning p.setup.algebra) (network_in p.setup) events) p → IsRunOn meaning events p n q
-  many_run desk p q a n e l L W y (items, count, T) events H = run_on events p q n items (subst (λ z. Lawful (meaning z)) (l ∙ ap (λ (u : PartData S V). u.setup.algebra) e) L)
+  many_run state p q a n e l L W y (items, count, T) events H = run_on events p q n items (subst (λ z. Lawful (meaning z)) (l ∙ ap (λ (u : PartData S V). u.setup.algebra) e) L)
       (subst (λ (u : PartData S V). WellFormed (network_in u.setup)) e W) (subst IsTallied e y) count T H

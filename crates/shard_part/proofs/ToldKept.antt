@@ -7,11 +7,11 @@ use Rattle.scholten_core.specs.Network.{WellFormed}
 use Rattle.scholten_core.specs.Diffusion.{is_idle}
 use Rattle.scholten_core.proofs.Basics.{idle-true}
 use Rattle.shard_part.specs.PartState.{PartData, Setup, network_in, place_in, state_in, mine, taken, Took, TookIn}
-use Rattle.shard_part.specs.Desk.{Rows, IsDesk, IsPlanned, IsPopped, with_taken}
+use Rattle.shard_part.specs.Moves.{Rows, IsStored, IsPlanned, IsPopped, with_taken}
 use Rattle.shard_part.specs.Part.{OwnIdleIsTold}
 use Rattle.shard_part.specs.Opening.{opened_part}
 use Rattle.shard_part.proofs.Quick.{taken_told}
-use Rattle.shard_part.proofs.FrontIsTaken.{IsFit, desk_fit, has_told, popped_taken}
+use Rattle.shard_part.proofs.FrontIsTaken.{IsFit, stored_fit, has_told, popped_taken}
 use Rattle.shard_part.proofs.Moves.{formed}
 use Rattle.shard_part.proofs.VertexSettles.{of_one_shard}
 use Rattle.shard_part.proofs.Opened.{reads_same}
@@ -34,17 +34,17 @@ untold p labels told b h n i = told b ∙ sym (labels ((network_in p.setup).tail
 pub opened_told : {S V : Type 0} (A : Algebra V) (p : PartData S V) (t : Setup S) (s : ℕ) → p ≡ opened_part A t s → OwnIdleIsTold p
 opened_told A p t s e = subst OwnIdleIsTold (sym e) (untold (opened_part A t s) (λ v. reads_same (suc t.roads.vertices) None v) (λ b. reads_same (suc (length t.roads.arcs)) None b))
 
--- of a desk whose front item was taken off the queue and handled
+-- of a part whose front item was taken off the queue and handled
 module _ {S V : Type 0} (meaning : S → Algebra V) where
-  pub desk_formed : (p old : PartData S V) (r : Rows V) (n : ℕ) (ns : List ℕ) → p ≡ old → IsDesk p r n ns → WellFormed (network_in old.setup)
-  desk_formed p old r n ns e D = subst (λ (u : PartData S V). WellFormed (network_in u.setup)) e (formed p p.shard D.planned)
+  pub stored_formed : (p old : PartData S V) (r : Rows V) (n : ℕ) (ns : List ℕ) → p ≡ old → IsStored p r n ns → WellFormed (network_in old.setup)
+  stored_formed p old r n ns e D = subst (λ (u : PartData S V). WellFormed (network_in u.setup)) e (formed p p.shard D.planned)
 
-  pub front_taken : (p old m q : PartData S V) (r : Rows V) (n : ℕ) (ns : List ℕ) (i : Item V) → p ≡ old → IsDesk p r n ns → Lawful (meaning p.setup.algebra) → IsPopped old m i → q ≡ with_taken (meaning old.setup.algebra) i m → OwnIdleIsTold old →
+  pub front_taken : (p old m q : PartData S V) (r : Rows V) (n : ℕ) (ns : List ℕ) (i : Item V) → p ≡ old → IsStored p r n ns → Lawful (meaning p.setup.algebra) → IsPopped old m i → q ≡ with_taken (meaning old.setup.algebra) i m → OwnIdleIsTold old →
       Took meaning old i q
   front_taken p old m q r n ns i e D L O w T = popped_taken (meaning old.setup.algebra) (subst (λ (u : PartData S V). Lawful (meaning u.setup.algebra)) e L) old m q i
-      (subst (λ (u : PartData S V). IsPlanned u.setup u.shard) e D.planned) (subst IsFit e (desk_fit p r n ns D)) T O w
+      (subst (λ (u : PartData S V). IsPlanned u.setup u.shard) e D.planned) (subst IsFit e (stored_fit p r n ns D)) T O w
 
-  pub front_told : (p old m q : PartData S V) (r : Rows V) (n : ℕ) (ns : List ℕ) (i : Item V) → p ≡ old → IsDesk p r n ns → Lawful (meaning p.setup.algebra) → IsPopped old m i → q ≡ with_taken (meaning old.setup.algebra) i m → OwnIdleIsTold old →
+  pub front_told : (p old m q : PartData S V) (r : Rows V) (n : ℕ) (ns : List ℕ) (i : Item V) → p ≡ old → IsStored p r n ns → Lawful (meaning p.setup.algebra) → IsPopped old m i → q ≡ with_taken (meaning old.setup.algebra) i m → OwnIdleIsTold old →
       OwnIdleIsTold q
   front_told p old m q r n ns i e D L O w T = told_kept (meaning old.setup.algebra) (subst (λ (u : PartData S V). Lawful (meaning u.setup.algebra)) e L) old i q
-      (desk_formed p old r n ns e D) T (front_taken p old m q r n ns i e D L O w T)
+      (stored_formed p old r n ns e D) T (front_taken p old m q r n ns i e D L O w T)

@@ -2,7 +2,7 @@ pub mod Plans
 pub mod Tallies
 pub mod Tables
 pub mod PartState
-pub mod Desk
+pub mod Moves
 pub mod Part
 pub mod Readings
 pub mod Exchange

@@ -8,7 +8,7 @@ use Rattle.scholten_core.specs.Network.{Network}
 use Rattle.scholten_core.specs.Sums.{one_if}
 use Rattle.shard_part.specs.Plans.{PlanData}
 use Rattle.shard_part.specs.PartState.{Setup, PartData, place_in, network_in, arcs_out, outgoing, total, is, out_room}
-use Rattle.shard_part.specs.Desk.{Rows}
+use Rattle.shard_part.specs.Moves.{Rows}
 
 -- the source's part is the environment's too
 abbrev pub is_first : {S : Type 0} → Setup S → ℕ → Bool

@@ -5,7 +5,7 @@ ghost use Rattle.scholten_core.specs.Network.{WellFormed};
 ghost use Rattle.scholten_core.specs.Diffusion.{CoreState, state_after, step, is_enabled};
 ghost use Rattle.shard_part.specs.PartState.{Setup, PartData, Took, TookAll, AllEnabled, Holds, Shows, event_of, network_in, place_in, mail_weight, on, parts_places, mail_places, place_of_token};
 ghost use Rattle.shard_part.specs.Part.{TookMany, IsShownOn};
-ghost use Rattle.shard_part.specs.Desk.{IsPlanned};
+ghost use Rattle.shard_part.specs.Moves.{IsPlanned};
 ghost use Rattle.shard_part.specs.Opening.{opened_parts};
 
 use path_algebra::PathAlgebra;

@@ -2,7 +2,6 @@
 #![tactic(auto)]
 
 mod batch;
-mod desk;
 pub mod laws;
 mod part;
 mod plan;
@@ -10,6 +9,7 @@ mod question;
 mod search;
 mod shard;
 mod site;
+mod state;
 mod tables;
 mod tally;
 
@@ -19,4 +19,5 @@ pub use plan::{Plan, PlanFault};
 pub use question::Question;
 pub use scholten_core::Item;
 pub use shard::Shard;
+pub use state::PartState;
 pub use tally::Tally;

@@ -22,7 +22,7 @@ pub(crate) struct Site<'g> {
 
 impl<'g> Model for Site<'g> {
     ghost use Rattle.shard_part.specs.Opening.{SiteData, question_of};
-    ghost use Rattle.shard_part.specs.Desk.{IsPlanned};
+    ghost use Rattle.shard_part.specs.Moves.{IsPlanned};
 
     ghost Value = { SiteData };
 

@@ -6,7 +6,7 @@ use Rattle.scholten_core.specs.Accounts.{Totals, totals_of}
 use Rattle.scholten_core.proofs.EveryAccount.{totals_are_equal}
 use Rattle.scholten_core.proofs.EveryRun.{ended_is_quiet}
 use Rattle.shard_part.specs.declared.tally.Tally.{Tally}
-use Rattle.shard_part.specs.Desk.{IsPlanned}
+use Rattle.shard_part.specs.Moves.{IsPlanned}
 use Rattle.shard_part.specs.PartState.{Setup, network_in, All, total, is}
 use Rattle.shard_part.specs.Tallies.{tally_of}
 use Rattle.shard_part.proofs.Showing.{AllLawful}

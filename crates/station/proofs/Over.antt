@@ -10,7 +10,7 @@ use Rattle.scholten_core.specs.Items.{item_of}
 use Rattle.scholten_core.specs.Sums.{sum_below}
 use Rattle.scholten_core.proofs.EveryRun.{ended_is_best}
 use Rattle.shard_part.specs.PartState.{PartData, Setup, network_in, place_in, state_in, token_if, total, flying, at_place, HoldsShare}
-use Rattle.shard_part.specs.Desk.{IsPlanned}
+use Rattle.shard_part.specs.Moves.{IsPlanned}
 use Rattle.shard_part.specs.Readings.{IsOwn}
 use Rattle.shard_part.proofs.Weights.{sum_below_same, sum_zero}
 use Rattle.shard_part.proofs.Room.{each_one, outs_member}

@@ -3,7 +3,7 @@ use Rattle.std.proofs.Common.{◌≡◌, ◌≢◌, ℕ, zero, suc, ◌+◌, ◌
 use Rattle.std.proofs.lemmas.Bool.{cases_eq}
 use Rattle.std.proofs.lemmas.List.{get_or_append_left}
 use Rattle.std.specs.List.{All}
-use Rattle.shard_part.specs.Desk.{IsPlanned}
+use Rattle.shard_part.specs.Moves.{IsPlanned}
 use Rattle.shard_part.specs.PartState.{PartData, Setup, total, is}
 use Rattle.post_floor.proofs.Totals.{is_same}
 use Rattle.shard_part.specs.Plans.{HasPlanned, shard_in}

@@ -6,7 +6,7 @@ use Rattle.path_algebra.specs.Walks.{IsWalkValue}
 use Rattle.scholten_core.specs.declared.event.Event.{Event}
 use Rattle.scholten_core.specs.Diffusion.{state_after}
 use Rattle.scholten_core.proofs.EveryRun.{labels_are_walk_values}
-use Rattle.shard_part.specs.Desk.{IsPlanned}
+use Rattle.shard_part.specs.Moves.{IsPlanned}
 use Rattle.shard_part.specs.PartState.{PartData, Setup, network_in, place_in, state_in, flying, part_weight, Holds}
 use Rattle.shard_part.specs.Part.{TookMany, IsRunOn}
 use Rattle.shard_part.specs.Readings.{IsOwn}

@@ -3,7 +3,7 @@ ghost use Rattle.std.specs.Prelude.{◌≡◌, ℕ, ◌+◌, ◌<◌, ◌≤◌,
 ghost use Rattle.std.specs.List.{All};
 ghost use Rattle.path_algebra.specs.Walks.{AreBest, IsBestLabel};
 ghost use Rattle.shard_part.specs.Plans.{HasPlanned, shard_in};
-ghost use Rattle.shard_part.specs.Desk.{IsPlanned};
+ghost use Rattle.shard_part.specs.Moves.{IsPlanned};
 ghost use Rattle.station.specs.Gather.{AreOf, ArePlaces, IsAtPlace, IsGathered, IsMissing, IsThere, IsWhy};
 ghost use Rattle.station.specs.Handing.{AreHanded};
 ghost use Rattle.station.specs.Station.{BelongsTo, HasEnded};

@@ -13,7 +13,7 @@ pub returns-then-not-take_front-clause-shard : goal.returns-then-not-take_front-
 returns-then-not-take_front-clause-shard g c = ap (λ u. u.shard) (c.if-not-take_front.ensures.none refl).1 ∙ (took_many_same g.A.PathAlgebra.meaning c.args.self.now c.loop-taken.self c.loop-taken.taken c.loop-taken.invariant).1
 
 pub returns-then-not-take_front-clause-events : goal.returns-then-not-take_front-clause-events
-returns-then-not-take_front-clause-events g c = many_run g.A.PathAlgebra.meaning c.self.inside.desk c.args.self.now c.take_front.new.self c.algebra.result c.loop-taken.taken c.self.view_is c.algebra.ensures.algebra c.laws_hold.ensures.lawful c.algebra.ensures.formed c.algebra.ensures.tallied
+returns-then-not-take_front-clause-events g c = many_run g.A.PathAlgebra.meaning c.self.inside.state c.args.self.now c.take_front.new.self c.algebra.result c.loop-taken.taken c.self.view_is c.algebra.ensures.algebra c.laws_hold.ensures.lawful c.algebra.ensures.formed c.algebra.ensures.tallied
     (subst (TookMany g.A.PathAlgebra.meaning c.args.self.now c.loop-taken.taken) (sym (c.if-not-take_front.ensures.none refl).1) c.loop-taken.invariant)
 
 pub returns-clause-setup : goal.returns-clause-setup
@@ -25,5 +25,5 @@ returns-clause-shard g c = (took_many_same g.A.PathAlgebra.meaning c.args.self.n
 pub returns-clause-events : goal.returns-clause-events
 returns-clause-events g c =
     let all : c.loop-taken.taken ≡ c.args.budget = omega arith in
-    many_run g.A.PathAlgebra.meaning c.self.inside.desk c.args.self.now c.loop-taken.self c.algebra.result c.args.budget c.self.view_is c.algebra.ensures.algebra c.laws_hold.ensures.lawful c.algebra.ensures.formed c.algebra.ensures.tallied
+    many_run g.A.PathAlgebra.meaning c.self.inside.state c.args.self.now c.loop-taken.self c.algebra.result c.args.budget c.self.view_is c.algebra.ensures.algebra c.laws_hold.ensures.lawful c.algebra.ensures.formed c.algebra.ensures.tallied
     (subst (λ n. TookMany g.A.PathAlgebra.meaning c.args.self.now n c.loop-taken.self) all c.loop-taken.invariant)

@@ -2,4 +2,4 @@ use Rattle.shard_part.proofs.ToldKept.{opened_told}
 use Rattle.shard_part.proofs.part.Part.open.Goals as goal
 
 pub invariant_of-result : goal.invariant_of-result
-invariant_of-result g c = opened_told (g.A.PathAlgebra.meaning c.args.algebra) _ _ _ c.in_ok-desk.ensures.part
+invariant_of-result g c = opened_told (g.A.PathAlgebra.meaning c.args.algebra) _ _ _ c.in_ok-state.ensures.part

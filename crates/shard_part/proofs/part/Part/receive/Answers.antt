@@ -3,4 +3,4 @@ use Rattle.shard_part.specs.Part.{OwnIdleIsTold}
 use Rattle.shard_part.proofs.part.Part.receive.Goals as goal
 
 pub invariant_of-self : goal.invariant_of-self
-invariant_of-self g c = subst OwnIdleIsTold (sym c.receive.ensures.desk) c.self.invariant
+invariant_of-self g c = subst OwnIdleIsTold (sym c.receive.ensures.part) c.self.invariant

@@ -1,5 +1,0 @@
-use Rattle.shard_part.proofs.ToldKept.{desk_formed}
-use Rattle.shard_part.proofs.desk.Desk.algebra.Goals as goal
-
-pub returns-clause-formed : goal.returns-clause-formed
-returns-clause-formed g c = desk_formed g.A.PathAlgebra.meaning _ c.args.self.now _ _ _ c.self.view_is c.self.invariant

@@ -1,7 +1,0 @@
-use Rattle.std.proofs.Common.{◌≡◌, drop}
-use Rattle.shard_part.proofs.BatchFits.{outs_counted}
-use Rattle.shard_part.specs.PartState.{counted}
-use Rattle.shard_part.proofs.desk.Desk.carries.Given as goal
-
-abbrev pub invariant-loop-out : goal.invariant-loop-out
-invariant-loop-out g l = (counted l.arc l.self.queue ≡ 0) × (outs_counted l.arc l.self.outs ≡ outs_counted l.arc (drop l.out-index l.self.outs))

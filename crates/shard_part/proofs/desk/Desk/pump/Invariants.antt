@@ -1,6 +1,0 @@
-use Rattle.std.proofs.Common.{◌≡◌, take}
-use Rattle.shard_part.specs.Desk.{offered_all}
-use Rattle.shard_part.proofs.desk.Desk.pump.Given as goal
-
-abbrev pub invariant-loop-k : goal.invariant-loop-k
-invariant-loop-k g l = (l.self.setup ≡ l.initial.self.setup) × (l.self.shard ≡ l.initial.self.shard) × (l.self ≡ offered_all (g.A.PathAlgebra.meaning l.initial.self.setup.algebra) l.v (take l.k l.outgoing) l.initial.self)

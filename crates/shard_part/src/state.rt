@@ -1,0 +1,606 @@
+ghost use Rattle.std.specs.Prelude.{◌≡◌, ◌≢◌, ℕ, suc, ◌+◌, ◌<◌, ◌≤◌, [], ◌∷◌, length, get_or, set, Option, Some, None, IfSome, IsTrue, IsFalse, ◌↔◌, true, false, cond, eqb, not, ◌&&◌};
+ghost use Rattle.road_graph.specs.Roads.{HasVertex, arc_of, road_of};
+ghost use Rattle.scholten_core.specs.declared.item.Item.TheVariants.{Signal as SignalOn};
+ghost use Rattle.scholten_core.specs.Diffusion.{out_idle, extend_label, improves as improves_on, is_due as due};
+ghost use Rattle.scholten_core.specs.Items.{item_arc};
+ghost use Rattle.shard_part.specs.Tallies.{counted_on};
+ghost use Rattle.scholten_core.specs.Deficit.{busy_out};
+ghost use Rattle.shard_part.specs.PartState.{network_in, place_in, state_in, own_in, arcs_out, outgoing, vertex_of, maker_of, IsArc, IsClear};
+ghost use Rattle.scholten_core.specs.Network.{WellFormed};
+ghost use Rattle.shard_part.specs.Part.{OwnIdleIsTold, TookFront};
+ghost use Rattle.shard_part.specs.Moves.{IsTallied, IsPlace, IsRow, IsPopped, HandledOne, put_item, counted_made, with_item, with_message, greeted, rested_by, labelled, offered, offered_all, rested, with_value, with_free, with_taken};
+
+mod exchange;
+mod opening;
+mod readings;
+
+use crate::batch::Batch;
+use crate::plan::Plan;
+use crate::search::find_vertex;
+use crate::shard::Shard;
+use crate::tables::Tables;
+use path_algebra::{PathAlgebra, laws_hold};
+use road_graph::{ArcNo, Graph, OutRoad, Vertex};
+use scholten_core::{Item, extended, head_of, improves, is_same, tail_of};
+use std::marker::Model;
+
+/// The tables and rings of one shard, with the moves of which its events are made.
+#[derive(Drop)]
+pub struct PartState<'g, A: PathAlgebra> {
+    algebra: A,
+    graph: &'g Graph,
+    plan: &'g Plan,
+    source: Vertex,
+    shard: Shard,
+    tables: Tables<A::Value>,
+    queue: Batch<A::Value>,
+    outs: Vec<Batch<A::Value>>,
+    sent: u64,
+    delivered: u64,
+    signalled: u64,
+    accepted: u64,
+}
+
+impl<'g, A: PathAlgebra> Model for PartState<'g, A> {
+    ghost use Rattle.std.specs.Prelude.{map};
+    ghost use Rattle.shard_part.specs.PartState.{PartData};
+    ghost use Rattle.shard_part.specs.Moves.{seen_as, rows_of, IsStored};
+
+    ghost Value = { PartData A A.Value };
+
+    ghost view = { λ p. seen_as (record { algebra = p.algebra; roads = p.graph.now; source = p.source; plan = p.plan.now }) p.shard (rows_of p.tables) p.queue.items (map (λ b. b.items) p.outs.items) p.sent p.delivered p.signalled p.accepted };
+
+    ghost invariant = { λ p. IsStored (seen_as (record { algebra = p.algebra; roads = p.graph.now; source = p.source; plan = p.plan.now }) p.shard (rows_of p.tables) p.queue.items (map (λ b. b.items) p.outs.items) p.sent p.delivered p.signalled p.accepted) (rows_of p.tables) p.queue.capacity (map (λ b. b.capacity) p.outs.items) };
+}
+
+impl<'g, A: PathAlgebra> PartState<'g, A> {
+    /// The algebra of the question.
+    pub(crate) fn algebra(&self) -> A
+        ensures algebra { result ≡ self.now.setup.algebra }
+        ensures formed { WellFormed (network_in self.now.setup) }
+        ensures tallied { IsTallied self.now }
+    {
+        self.algebra
+    }
+
+    /// The label of the vertex at a place.
+    fn label_at(&self, v: Vertex, j: usize) -> Option<A::Value>
+        requires { IsPlace self.now v j }
+        ensures { result ≡ (state_in self.now).label v }
+    {
+        let _v = v;
+        self.tables.vertices.label(j)
+    }
+
+    /// The engager of the vertex at a place.
+    fn engager_at(&self, v: Vertex, j: usize) -> Option<ArcNo>
+        requires { IsPlace self.now v j }
+        ensures { result ≡ (state_in self.now).engager v }
+    {
+        let _v = v;
+        self.tables.vertices.engager(j)
+    }
+
+    /// The label of the vertex at a place becomes another.
+    fn set_label(&mut self, v: Vertex, j: usize, label: A::Value)
+        requires { IsPlace self.old v j }
+        ensures { self.new ≡ record self.old { labels = set self.old.labels v (Some label) } }
+    {
+        let _v = v;
+        self.tables.vertices.set_label(j, label);
+    }
+
+    /// The arc a engages its head, the vertex at a place.
+    fn engage(&mut self, v: Vertex, j: usize, a: ArcNo)
+        requires place { IsPlace self.old v j }
+        requires arc { IsArc (network_in self.old.setup) a }
+        requires head { (network_in self.old.setup).head a ≡ v }
+        requires clear { IsClear self.old a }
+        ensures { self.new ≡ record self.old { engagers = set self.old.engagers v (Some a) } }
+    {
+        let _v = v;
+        self.tables.vertices.set_engager(j, Some(a));
+    }
+
+    /// The vertex at a place lets go of its engager.
+    fn release(&mut self, v: Vertex, j: usize, e: ArcNo)
+        requires place { IsPlace self.old v j }
+        requires vertex { v ≢ 0 }
+        requires engager { (state_in self.old).engager v ≡ Some e }
+        ensures moved { self.new ≡ record self.old { engagers = set self.old.engagers v None } }
+        ensures clear { IsClear self.new e }
+        ensures arc { IsArc (network_in self.new.setup) e }
+        ensures made { place_in self.new.setup ((network_in self.new.setup).head e) ≡ self.new.shard }
+    {
+        let _v = v;
+        let _e = e;
+        self.tables.vertices.set_engager(j, None);
+    }
+
+    /// Whether the arc at a place is busy.
+    fn is_busy(&self, b: ArcNo, i: usize) -> bool
+        requires { IsRow self.now b i }
+        ensures { result ≡ get_or self.now.busy b false }
+    {
+        let _b = b;
+        self.tables.arcs.is_busy(i)
+    }
+
+    /// What the arc at a place was told last.
+    fn told(&self, b: ArcNo, i: usize) -> Option<A::Value>
+        requires { IsRow self.now b i }
+        ensures { result ≡ (state_in self.now).told b }
+    {
+        let _b = b;
+        self.tables.arcs.told(i)
+    }
+
+    /// The arc at a place is told a label.
+    fn tell(&mut self, b: ArcNo, i: usize, label: Option<A::Value>)
+        requires { IsRow self.old b i }
+        ensures { self.new ≡ record self.old { told = set self.old.told b label } }
+    {
+        let _b = b;
+        self.tables.arcs.tell(i, label);
+    }
+
+    /// An idle arc becomes busy.
+    fn occupy(&mut self, v: Vertex, j: usize, b: ArcNo, i: usize)
+        requires place { IsPlace self.old v j }
+        requires row { IsRow self.old b i }
+        requires tail { (network_in self.old.setup).tail b ≡ v }
+        requires vertex { v ≢ 0 }
+        requires idle { get_or self.old.busy b false ≡ false }
+        ensures moved { self.new ≡ record self.old { busy = set self.old.busy b true } }
+        ensures clear { IsClear self.new b }
+    {
+        let (_v, _b) = (v, b);
+        let deficit = self.tables.vertices.deficit(j);
+        self.tables.arcs.set_busy(i, true);
+        self.tables.vertices.set_deficit(j, deficit + 1);
+    }
+
+    /// An arc whose signal was taken becomes idle.
+    fn free(&mut self, v: Vertex, j: usize, a: ArcNo, i: usize)
+        requires place { IsPlace self.old v j }
+        requires row { IsRow self.old a i }
+        requires tail { (network_in self.old.setup).tail a ≡ v }
+        requires here { place_in self.old.setup v ≡ self.old.shard }
+        requires clear { IsClear self.old a }
+        ensures { self.new ≡ record self.old { busy = set self.old.busy a false } }
+    {
+        let (_v, _a) = (v, a);
+        let deficit = self.tables.vertices.deficit(j);
+        self.tables.arcs.set_busy(i, false);
+        self.tables.vertices.set_deficit(j, deficit - 1);
+    }
+
+    /// How many arcs out of the vertex at a place are busy.
+    fn deficit_at(&self, v: Vertex, j: usize) -> u32
+        requires { IsPlace self.now v j }
+        ensures { result ≡ busy_out (network_in self.now.setup) v (state_in self.now) (suc (length self.now.setup.roads.arcs)) }
+    {
+        let _v = v;
+        self.tables.vertices.deficit(j)
+    }
+
+    /// The shard of a vertex, and of the environment that of the source.
+    fn shard_of(&self, v: Vertex) -> Shard
+        requires { v ≤ self.now.setup.roads.vertices }
+        ensures { result ≡ place_in self.now.setup v }
+    {
+        let stands = if v.0 == 0 { self.source } else { v };
+        self.plan.shard_of(stands)
+    }
+
+    /// The vertex that an arc leads to.
+    fn head(&self, a: ArcNo) -> Vertex
+        requires { IsArc (network_in self.now.setup) a }
+        ensures head { result ≡ (network_in self.now.setup).head a }
+        ensures low { 1 ≤ result }
+        ensures within { result ≤ self.now.setup.roads.vertices }
+    {
+        head_of(self.graph, self.source, a)
+    }
+
+    /// The vertex that an arc leaves.
+    fn tail(&self, a: ArcNo) -> Vertex
+        requires { IsArc (network_in self.now.setup) a }
+        ensures tail { result ≡ (network_in self.now.setup).tail a }
+        ensures within { result ≤ self.now.setup.roads.vertices }
+    {
+        tail_of(self.graph, a)
+    }
+
+    /// The shard that an arc leads to.
+    fn shard_behind(&self, b: ArcNo, head: Vertex) -> Shard
+        requires arc { IsArc (network_in self.now.setup) b }
+        requires graph { b ≢ 0 }
+        requires head { head ≡ (arc_of self.now.setup.roads b).head }
+        ensures { result ≡ place_in self.now.setup ((network_in self.now.setup).head b) }
+    {
+        let _b = b;
+        self.plan.shard_of(head)
+    }
+
+    /// The place of a vertex.
+    fn place(&self, v: Vertex) -> usize
+        requires within { v ≤ self.now.setup.roads.vertices }
+        requires here { v ≢ 0 → place_in self.now.setup v ≡ self.now.shard }
+        ensures { IsPlace self.now v result }
+    {
+        find_vertex(&self.tables.own, v)
+    }
+
+    /// The place of the k-th arc out of the vertex at a place.
+    fn row(&self, v: Vertex, j: usize, k: usize) -> usize
+        requires place { IsPlace self.now v j }
+        requires arc { k < length (outgoing (network_in self.now.setup) v) }
+        ensures { IsRow self.now (get_or (outgoing (network_in self.now.setup) v) k 0) result }
+    {
+        let _v = v;
+        self.tables.offsets[j] as usize + k
+    }
+
+    /// Takes the front item off the queue.
+    fn pop(&mut self) -> Option<Item<A::Value>>
+        ensures none { result ≡ None → (self.old.queue ≡ []) × (self.new ≡ self.old) }
+        ensures some { IfSome result (λ i. IsPopped self.old self.new i) }
+    {
+        self.queue.pop()
+    }
+
+    /// Puts an item where it belongs.
+    fn send(&mut self, item: Item<A::Value>, to: Shard)
+        requires arc { IsArc (network_in self.old.setup) (item_arc item) }
+        requires made { place_in self.old.setup (maker_of (network_in self.old.setup) item) ≡ self.old.shard }
+        requires shard { to ≡ place_in self.old.setup (vertex_of (network_in self.old.setup) item) }
+        requires clear { IsClear self.old (item_arc item) }
+        ensures { self.new ≡ put_item item self.old }
+    {
+        if to == self.shard {
+            self.queue.push(item);
+        } else {
+            self.outs[to.0 as usize].push(item);
+        }
+    }
+
+    /// Counts an item that was made.
+    fn count_made(&mut self, item: Item<A::Value>)
+        ensures { self.new ≡ counted_made item self.old }
+    {
+        match item {
+            Item::Message { .. } => self.sent = self.sent.saturating_add(1),
+            Item::Signal { .. } => self.signalled = self.signalled.saturating_add(1),
+        }
+    }
+
+    /// Counts a message that was handled.
+    fn count_delivered(&mut self)
+        ensures { self.new ≡ record self.old { delivered = counted_on 1 self.old.delivered } }
+    {
+        self.delivered = self.delivered.saturating_add(1);
+    }
+
+    /// Counts a signal that was handled.
+    fn count_accepted(&mut self)
+        ensures { self.new ≡ record self.old { accepted = counted_on 1 self.old.accepted } }
+    {
+        self.accepted = self.accepted.saturating_add(1);
+    }
+
+    /// An item is made.
+    fn put(&mut self, item: Item<A::Value>, to: Shard)
+        requires arc { IsArc (network_in self.old.setup) (item_arc item) }
+        requires made { place_in self.old.setup (maker_of (network_in self.old.setup) item) ≡ self.old.shard }
+        requires shard { to ≡ place_in self.old.setup (vertex_of (network_in self.old.setup) item) }
+        requires clear { IsClear self.old (item_arc item) }
+        ensures { self.new ≡ with_item item self.old }
+    {
+        self.send(item, to);
+        self.count_made(item);
+    }
+
+    /// The signal of an arc is made.
+    fn signal(&mut self, a: ArcNo)
+        requires arc { IsArc (network_in self.old.setup) a }
+        requires made { place_in self.old.setup ((network_in self.old.setup).head a) ≡ self.old.shard }
+        requires clear { IsClear self.old a }
+        ensures { self.new ≡ with_item (SignalOn a) self.old }
+    {
+        let to = self.shard_of(self.tail(a));
+        self.put(Item::Signal { arc: a }, to);
+    }
+}
+
+impl<'g, A: PathAlgebra> PartState<'g, A> {
+    /// A message on arc a finds the vertex at a place: a neutral one is engaged, another answers.
+    fn greet(&mut self, a: ArcNo, v: Vertex, j: usize)
+        requires place { IsPlace self.old v j }
+        requires vertex { v ≢ 0 }
+        requires arc { IsArc (network_in self.old.setup) a }
+        requires head { (network_in self.old.setup).head a ≡ v }
+        requires clear { IsClear self.old a }
+        ensures { self.new ≡ greeted a v ((state_in self.old).engager v) self.old }
+    {
+        match self.engager_at(v, j) {
+            None => self.engage(v, j, a),
+            Some(_) => self.signal(a),
+        }
+    }
+
+    /// The vertex at a place lets go, if it is engaged and no arc out of it is busy.
+    fn rest(&mut self, v: Vertex, j: usize)
+        requires place { IsPlace self.old v j }
+        requires vertex { v ≢ 0 }
+        ensures { self.new ≡ rested (A.meaning self.old.setup.algebra) v self.old }
+    {
+        if let Some(e) = self.engager_at(v, j) {
+            if self.deficit_at(v, j) == 0 {
+                self.release(v, j, e);
+                self.signal(e);
+            }
+        }
+    }
+
+    /// Whether the arc b out of the vertex at a place has to be told its label.
+    fn is_due(&self, v: Vertex, j: usize, b: ArcNo, i: usize) -> bool
+        requires place { IsPlace self.now v j }
+        requires row { IsRow self.now b i }
+        requires tail { (network_in self.now.setup).tail b ≡ v }
+        ensures { result ≡ due (A.meaning self.now.setup.algebra) (network_in self.now.setup) v (state_in self.now) b }
+    {
+        neither(
+            self.is_busy(b, i),
+            is_same(self.algebra, self.told(b, i), self.label_at(v, j)),
+        )
+    }
+
+    /// The label of the vertex at a place, extended by the arc b.
+    fn extension(&self, v: Vertex, j: usize, b: ArcNo, weight: u32) -> Option<A::Value>
+        requires place { IsPlace self.now v j }
+        requires arc { IsArc (network_in self.now.setup) b }
+        requires graph { b ≢ 0 }
+        requires weight { weight ≡ (arc_of self.now.setup.roads b).weight }
+        ensures { result ≡ extend_label (A.meaning self.now.setup.algebra) ((state_in self.now).label v) ((network_in self.now.setup).weight b) }
+    {
+        let _b = b;
+        extended(self.algebra, self.label_at(v, j), weight)
+    }
+
+    /// A message goes along the idle arc b, if there is a value.
+    fn message(
+        &mut self,
+        v: Vertex,
+        j: usize,
+        b: ArcNo,
+        i: usize,
+        value: Option<A::Value>,
+        to: Shard,
+    )
+        requires place { IsPlace self.old v j }
+        requires vertex { v ≢ 0 }
+        requires row { IsRow self.old b i }
+        requires tail { (network_in self.old.setup).tail b ≡ v }
+        requires arc { IsArc (network_in self.old.setup) b }
+        requires made { place_in self.old.setup ((network_in self.old.setup).tail b) ≡ self.old.shard }
+        requires shard { to ≡ place_in self.old.setup ((network_in self.old.setup).head b) }
+        requires idle { get_or self.old.busy b false ≡ false }
+        ensures { self.new ≡ with_message b value self.old }
+    {
+        if let Some(value) = value {
+            self.occupy(v, j, b, i);
+            self.put(Item::Message { arc: b, value }, to);
+        }
+    }
+
+    /// The due arc b out of the vertex at a place is told its label.
+    fn tell_anew(&mut self, v: Vertex, j: usize, b: ArcNo, i: usize, road: OutRoad)
+        requires place { IsPlace self.old v j }
+        requires vertex { v ≢ 0 }
+        requires row { IsRow self.old b i }
+        requires tail { (network_in self.old.setup).tail b ≡ v }
+        requires arc { IsArc (network_in self.old.setup) b }
+        requires graph { b ≢ 0 }
+        requires road { road ≡ road_of (arc_of self.old.setup.roads b) }
+        requires due { due (A.meaning self.old.setup.algebra) (network_in self.old.setup) v (state_in self.old) b ≡ true }
+        ensures { self.new ≡ offered (A.meaning self.old.setup.algebra) v b self.old }
+    {
+        let label = self.label_at(v, j);
+        let value = self.extension(v, j, b, road.weight);
+        let to = self.shard_behind(b, road.head);
+        self.tell(b, i, label);
+        self.message(v, j, b, i, value, to);
+    }
+
+    /// The arc b out of the vertex at a place is told its label, if it is due.
+    fn offer(&mut self, v: Vertex, j: usize, b: ArcNo, i: usize, road: OutRoad)
+        requires place { IsPlace self.old v j }
+        requires vertex { v ≢ 0 }
+        requires row { IsRow self.old b i }
+        requires tail { (network_in self.old.setup).tail b ≡ v }
+        requires arc { IsArc (network_in self.old.setup) b }
+        requires graph { b ≢ 0 }
+        requires road { road ≡ road_of (arc_of self.old.setup.roads b) }
+        ensures { self.new ≡ offered (A.meaning self.old.setup.algebra) v b self.old }
+    {
+        if self.is_due(v, j, b, i) {
+            self.tell_anew(v, j, b, i, road);
+        }
+    }
+
+    /// The same for the k-th arc out of the vertex. Most arcs are not due, and only that of one that is due is looked up.
+    fn offer_again(&mut self, v: Vertex, j: usize, k: usize, b: ArcNo, i: usize)
+        requires place { IsPlace self.old v j }
+        requires vertex { v ≢ 0 }
+        requires inside { k < length (outgoing (network_in self.old.setup) v) }
+        requires turn { get_or (outgoing (network_in self.old.setup) v) k 0 ≡ b }
+        requires row { IsRow self.old b i }
+        requires tail { (network_in self.old.setup).tail b ≡ v }
+        requires arc { IsArc (network_in self.old.setup) b }
+        requires graph { b ≢ 0 }
+        ensures { self.new ≡ offered (A.meaning self.old.setup.algebra) v b self.old }
+    {
+        if self.is_due(v, j, b, i) {
+            let road = self.road_at(v, j, k, b);
+            self.tell_anew(v, j, b, i, road);
+        }
+    }
+}
+
+impl<'g, A: PathAlgebra> PartState<'g, A> {
+    /// Each due arc out of the vertex at a place is told its label.
+    fn pump(&mut self, v: Vertex, j: usize)
+        requires place { IsPlace self.old v j }
+        requires vertex { v ≢ 0 }
+        ensures { self.new ≡ offered_all (A.meaning self.old.setup.algebra) v (outgoing (network_in self.old.setup) v) self.old }
+    {
+        let graph = self.graph;
+        let outgoing = graph.out(v);
+        for (k, b) in outgoing.iter().enumerate() {
+            let i = self.row(v, j, k);
+            let road = self.road_at(v, j, k, *b);
+            self.offer(v, j, *b, i, road);
+        }
+    }
+
+    /// The same where the label improved, and nothing else: then each idle arc was told it before.
+    fn pump_if(&mut self, v: Vertex, j: usize, improved: bool)
+        requires place { IsPlace self.old v j }
+        requires vertex { v ≢ 0 }
+        ensures { self.new ≡ cond improved (offered_all (A.meaning self.old.setup.algebra) v (outgoing (network_in self.old.setup) v) self.old) self.old }
+    {
+        if improved {
+            self.pump(v, j);
+        }
+    }
+
+    /// The label of the vertex at a place becomes the value, if that is better.
+    fn improve(&mut self, v: Vertex, j: usize, value: A::Value) -> bool
+        requires { IsPlace self.old v j }
+        ensures improved { result ≡ improves_on (A.meaning self.old.setup.algebra) value ((state_in self.old).label v) }
+        ensures moved { self.new ≡ labelled (A.meaning self.old.setup.algebra) value v self.old }
+    {
+        let improved = improves(self.algebra, value, self.label_at(v, j));
+        if improved {
+            self.set_label(v, j, value);
+        }
+        improved
+    }
+
+    /// Where the arc a stands among those out of the vertex at a place.
+    fn turn_of(&self, v: Vertex, j: usize, a: ArcNo) -> usize
+        requires place { IsPlace self.now v j }
+        requires arc { IsArc (network_in self.now.setup) a }
+        requires tail { (network_in self.now.setup).tail a ≡ v }
+        ensures inside { result < length (outgoing (network_in self.now.setup) v) }
+        ensures arc { get_or (outgoing (network_in self.now.setup) v) result 0 ≡ a }
+    {
+        let (_v, _j) = (v, j);
+        if a.0 == 0 {
+            return 0;
+        }
+        self.graph.turn(a)
+    }
+
+    /// The place of the arc a out of the vertex at a place.
+    fn row_of(&self, v: Vertex, j: usize, a: ArcNo) -> usize
+        requires place { IsPlace self.now v j }
+        requires arc { IsArc (network_in self.now.setup) a }
+        requires tail { (network_in self.now.setup).tail a ≡ v }
+        ensures { IsRow self.now a result }
+    {
+        let k = self.turn_of(v, j, a);
+        self.row(v, j, k)
+    }
+
+    /// Head and weight of the arc b, the k-th out of the vertex at a place.
+    fn road_at(&self, v: Vertex, j: usize, k: usize, b: ArcNo) -> OutRoad
+        requires place { IsPlace self.now v j }
+        requires vertex { v ≢ 0 }
+        requires inside { k < length (outgoing (network_in self.now.setup) v) }
+        requires arc { get_or (outgoing (network_in self.now.setup) v) k 0 ≡ b }
+        ensures { result ≡ road_of (arc_of self.now.setup.roads b) }
+    {
+        let (_j, _b) = (j, b);
+        self.graph.roads_from(v)[k]
+    }
+
+    /// A message is handled at its head.
+    fn handle_message(&mut self, a: ArcNo, value: A::Value)
+        requires arc { IsArc (network_in self.old.setup) a }
+        requires here { place_in self.old.setup ((network_in self.old.setup).head a) ≡ self.old.shard }
+        requires clear { IsClear self.old a }
+        ensures { self.new ≡ with_value (A.meaning self.old.setup.algebra) a value ((network_in self.old.setup).head a) self.old }
+    {
+        let v = self.head(a);
+        let j = self.place(v);
+        let improved = self.improve(v, j, value);
+        self.greet(a, v, j);
+        self.pump_if(v, j, improved);
+        self.rest(v, j);
+    }
+
+    /// A signal is handled at its tail.
+    fn handle_signal(&mut self, a: ArcNo)
+        requires arc { IsArc (network_in self.old.setup) a }
+        requires here { place_in self.old.setup ((network_in self.old.setup).tail a) ≡ self.old.shard }
+        requires clear { IsClear self.old a }
+        ensures { self.new ≡ with_free (A.meaning self.old.setup.algebra) a ((network_in self.old.setup).tail a) self.old }
+    {
+        let v = self.tail(a);
+        let j = self.place(v);
+        let k = self.turn_of(v, j, a);
+        let i = self.row(v, j, k);
+        self.free(v, j, a, i);
+        if a.0 > 0 {
+            self.offer_again(v, j, k, a, i);
+            self.rest(v, j);
+        }
+    }
+}
+
+impl<'g, A: PathAlgebra> PartState<'g, A> {
+    /// Handles an item that was taken from the queue.
+    fn handle_item(&mut self, item: Item<A::Value>)
+        requires arc { IsArc (network_in self.old.setup) (item_arc item) }
+        requires here { place_in self.old.setup (vertex_of (network_in self.old.setup) item) ≡ self.old.shard }
+        requires clear { IsClear self.old (item_arc item) }
+        ensures { self.new ≡ with_taken (A.meaning self.old.setup.algebra) item self.old }
+    {
+        match item {
+            Item::Message { arc, value } => {
+                self.count_delivered();
+                self.handle_message(arc, value);
+            }
+            Item::Signal { arc } => {
+                self.count_accepted();
+                self.handle_signal(arc);
+            }
+        }
+    }
+
+    /// Handles the front item, if there is one.
+    pub(crate) fn handle_front(&mut self) -> bool
+        ensures taken { IsTrue result → HandledOne (A.meaning self.old.setup.algebra) self.old self.new }
+        ensures item { IsTrue result → OwnIdleIsTold self.old → TookFront A.meaning self.old self.new }
+        ensures told { OwnIdleIsTold self.old → OwnIdleIsTold self.new }
+        ensures none { IsFalse result → (self.old.queue ≡ []) × (self.new ≡ self.old) }
+    {
+        laws_hold(self.algebra);
+        match self.pop() {
+            Some(item) => {
+                self.handle_item(item);
+                true
+            }
+            None => false,
+        }
+    }
+}
+
+/// Neither holds.
+fn neither(one: bool, other: bool) -> bool
+    ensures { result ≡ (not one && not other) }
+{
+    !one && !other
+}

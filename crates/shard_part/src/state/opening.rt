@@ -1,0 +1,129 @@
+//! A part as it is opened.
+ghost use Rattle.std.specs.Prelude.{◌≡◌, ℕ, ◌≤◌, ◌<◌, [], map, length, replicate, IsTrue, IfOk};
+ghost use Rattle.circular_buffer.specs.Buffer.{buffer};
+ghost use Rattle.road_graph.specs.Roads.{HasVertex};
+ghost use Rattle.scholten_core.specs.Network.{network};
+ghost use Rattle.scholten_core.specs.Diffusion.{state_after};
+ghost use Rattle.shard_part.specs.PartState.{Holds};
+ghost use Rattle.shard_part.specs.Moves.{rows_of};
+ghost use Rattle.shard_part.specs.Opening.{opened_part, first_items, idle_rows};
+
+use crate::batch::Batch;
+use crate::plan::Plan;
+use crate::shard::Shard;
+use crate::site::{Site, sum_of};
+use crate::state::PartState;
+use crate::tables::{ArcTable, Tables, VertexTable};
+use path_algebra::PathAlgebra;
+use road_graph::{Graph, Memory, Vertex};
+use scholten_core::{ENTRY, Item};
+use std::alloc::{AllocError, Global};
+
+impl<'g, A: PathAlgebra> PartState<'g, A> {
+    /// The part of one shard before any event. At the source's the message of the environment waits, with the origin as its value.
+    pub(crate) fn open(
+        alloc: Global,
+        algebra: A,
+        graph: &'g Graph,
+        plan: &'g Plan,
+        shard: Shard,
+        source: Vertex,
+    ) -> Result<PartState<'g, A>, Memory>
+        requires source { HasVertex graph.now source }
+        requires plan { length plan.now.list ≡ graph.now.vertices }
+        requires shard { shard < plan.now.shards }
+        ensures part { IfOk result (λ d. d ≡ opened_part (A.meaning algebra) (record { algebra = algebra; roads = graph.now; source = source; plan = plan.now }) shard) }
+        ensures share { IfOk result (λ d. Holds A.meaning (state_after (A.meaning algebra) (network graph.now source) []) d) }
+    {
+        // What holds of every graph and every plan is known once one is asked.
+        let _known = (graph.vertices(), plan.shards());
+        let site = Site {
+            graph,
+            plan,
+            source,
+            shard,
+        };
+        let first = site.is_first();
+        let own = site.own_vertices(alloc)?;
+        let (offsets, arcs) = site.starts(alloc, &own)?;
+        let mut rooms = site.rooms(alloc, &own)?;
+        let queue = opening_queue(alloc, algebra, sum_of(&rooms), first)?;
+        rooms[shard.0 as usize] = 0;
+        let outs = empty_batches(alloc, &rooms)?;
+        let tables = idle_tables(alloc, own, offsets, arcs, first, algebra.origin())?;
+        Ok(PartState {
+            algebra,
+            graph,
+            plan,
+            source,
+            shard,
+            tables,
+            queue,
+            outs,
+            sent: u64::from(first),
+            delivered: 0,
+            signalled: 0,
+            accepted: 0,
+        })
+    }
+}
+
+/// A queue of some capacity, with the message of the environment at the source's part.
+fn opening_queue<A: PathAlgebra>(
+    alloc: Global,
+    algebra: A,
+    capacity: usize,
+    first: bool,
+) -> Result<Batch<A::Value>, Memory>
+    requires { IsTrue first → 1 ≤ capacity }
+    ensures { IfOk result (λ q. q ≡ buffer (first_items (A.meaning algebra) first) capacity) }
+{
+    let mut queue = Batch::empty(alloc, capacity)?;
+    if first {
+        queue.push(Item::Message {
+            arc: ENTRY,
+            value: algebra.origin(),
+        });
+    }
+    Ok(queue)
+}
+
+/// Empty batches of these capacities.
+fn empty_batches<V: Copy>(alloc: Global, capacities: &[usize]) -> Result<Vec<Batch<V>>, Memory>
+    ensures items { IfOk result (λ all. map (λ b. b.items) all.items ≡ replicate (length capacities.now) []) }
+    ensures capacities { IfOk result (λ all. map (λ b. b.capacity) all.items ≡ capacities.now) }
+{
+    let mut all = Vec::with_capacity(alloc, capacities.len())?;
+    for capacity in capacities {
+        let batch = Batch::empty(alloc, *capacity)?;
+        if all.push(batch).is_err() {
+            return Err(Memory);
+        }
+    }
+    Ok(all)
+}
+
+/// Tables in which nothing has happened but that arc 0 may be busy. The value stands in for those that are not there yet.
+fn idle_tables<V: Copy>(
+    alloc: Global,
+    own: Vec<Vertex>,
+    offsets: Vec<u32>,
+    arcs: usize,
+    entry: bool,
+    value: V,
+) -> Result<Tables<V>, AllocError>
+    requires vertices { 1 ≤ length own.items }
+    requires arcs { 1 ≤ arcs }
+    ensures { IfOk result (λ t. rows_of t ≡ idle_rows own.items offsets.items arcs entry) }
+{
+    let mut vertices = VertexTable::idle(alloc, own.len(), value)?;
+    let mut arcs = ArcTable::idle(alloc, arcs, value)?;
+    vertices.set_deficit(0, u32::from(entry));
+    arcs.set_busy(0, entry);
+    Ok(Tables {
+        own,
+        offsets,
+        vertices,
+        arcs,
+    })
+}

@@ -14,7 +14,7 @@ use Rattle.path_algebra.proofs.Least.{same_no_worse}
 use Rattle.path_algebra.proofs.Tight.{never_better_along, best_is_one}
 use Rattle.answer_text.specs.declared.answers.Reached.{Reached}
 use Rattle.answer_text.specs.IsAnswer.{IsReachedLine, IsLine, AreLines}
-use Rattle.answer_check.specs.Reasons.{IsCodeOf, Brings, source_line}
+use Rattle.answer_check.specs.Reasons.{IsCodeOf, Offers, source_line}
 use Rattle.answer_check.specs.Certificates.{IsSupported, IsRightLine, IsCertifiedAt, AreCertified}
 
 -- the value that a line tells
@@ -42,9 +42,9 @@ module _ {V : Type 0} (A : Algebra V) (lawful : IsLawful A) where
     walk_has_code : (v : ℕ) (c : ℕ) (x : V) → IsWalkValue A g sources v x → c ≡ A.code x → IsCodeOf A c x
     walk_has_code v c x w e = (walk_value_is_value A lawful g roads sources v x w, e)
 
-    -- what an arc brings, where the line of its tail tells the value of a walk
-    brings_walk : (u v : ℕ) (near : Reached) (x z : V) → IsWalkValue A g sources u x → near.code ≡ A.code x → Brings A g lines u v near z → IsWalkValue A g sources v z
-    brings_walk u v near x z w e b =
+    -- what an arc offers, where the line of its tail tells the value of a walk
+    offers_walk : (u v : ℕ) (near : Reached) (x z : V) → IsWalkValue A g sources u x → near.code ≡ A.code x → Offers A g lines u v near z → IsWalkValue A g sources v z
+    offers_walk u v near x z w e b =
         let same : b.value ≡ x = code_of_one near.code b.value x b.code_is (walk_has_code u near.code x w e) in
         let from : IsWalkValue A g sources u b.value = subst (λ (y : V). IsWalkValue A g sources u y) (sym same) w in
         subst (λ (k : ℕ). IsWalkValue A g sources k z) b.head_is (IsWalkValue-extend A g sources u b.arc b.value z from b.is_arc b.tail_is b.extends)
@@ -55,7 +55,7 @@ module _ {V : Type 0} (A : Algebra V) (lawful : IsLawful A) where
     origin_best : (v : ℕ) (y : V) → IsWalkValue A g sources v y → IsTrue (A.no_worse A.origin y)
     origin_best v y w = never_better_along A lawful g roads w.1.0 w.0 v A.origin y w.1.2 lawful.origin_is_value w.2
 
-    tail_in : (u v : ℕ) (near : Reached) (z : V) → Brings A g lines u v near z → HasVertex g u
+    tail_in : (u v : ℕ) (near : Reached) (z : V) → Offers A g lines u v near z → HasVertex g u
     tail_in u v near z b = subst (λ (k : ℕ). HasVertex g k) b.tail_is (roads.ends b.arc b.is_arc).0
 
     -- a walk of tight arcs goes on by a tight arc
@@ -69,9 +69,9 @@ module _ {V : Type 0} (A : Algebra V) (lawful : IsLawful A) where
           omega (arith, n, l),
         )
 
-    -- an arc that brings the best value of its head is tight, where its tail's line tells the best value
-    brings_tight : (u v : ℕ) (near : Reached) (x y : V) → IsBest A g sources u x → near.code ≡ A.code x → IsBest A g sources v y → (b : Brings A g lines u v near y) → IsTight A g sources b.arc
-    brings_tight u v near x y best_u e best_v b =
+    -- an arc that offers the best value of its head is tight, where its tail's line tells the best value
+    offers_tight : (u v : ℕ) (near : Reached) (x y : V) → IsBest A g sources u x → near.code ≡ A.code x → IsBest A g sources v y → (b : Offers A g lines u v near y) → IsTight A g sources b.arc
+    offers_tight u v near x y best_u e best_v b =
         let same : b.value ≡ x = code_of_one near.code b.value x b.code_is (walk_has_code u near.code x best_u.attained e) in
         record {
           arc = b.is_arc;
@@ -82,10 +82,10 @@ module _ {V : Type 0} (A : Algebra V) (lawful : IsLawful A) where
           extends = subst (λ (t : V). A.extend t (arc_of g b.arc).weight ≡ Some y) same b.extends;
         }
 
-    -- a tight arc brings the best value of its head
-    tight_brings : (a : ℕ) (near : Reached) (x y : V) → IsTight A g sources a → label_of lines (arc_of g a).tail ≡ Some near → near.code ≡ A.code x →
-        IsBest A g sources (arc_of g a).tail x → IsBest A g sources (arc_of g a).head y → Brings A g lines (arc_of g a).tail (arc_of g a).head near y
-    tight_brings a near x y t line e best_u best_v =
+    -- a tight arc offers the best value of its head
+    tight_offers : (a : ℕ) (near : Reached) (x y : V) → IsTight A g sources a → label_of lines (arc_of g a).tail ≡ Some near → near.code ≡ A.code x →
+        IsBest A g sources (arc_of g a).tail x → IsBest A g sources (arc_of g a).head y → Offers A g lines (arc_of g a).tail (arc_of g a).head near y
+    tight_offers a near x y t line e best_u best_v =
         let from : t.tail ≡ x = best_is_one A lawful g roads sources (arc_of g a).tail t.tail x t.tail_best best_u in
         let to : t.head ≡ y = best_is_one A lawful g roads sources (arc_of g a).head t.head y t.head_best best_v in
         record {
@@ -132,7 +132,7 @@ module _ {V : Type 0} (A : Algebra V) (lawful : IsLawful A) where
             let one = sup.hops_are in
             let from = sup.from_parent in
             let w = tells_by_hops n r.parent sup.near (tail_in r.parent v sup.near sup.value from) from.line_is (omega (arith, one, few)) in
-            (sup.value, brings_walk r.parent v sup.near w.0 sup.value w.1 w.2 from, sup.code_is.1)
+            (sup.value, offers_walk r.parent v sup.near w.0 sup.value w.1 w.2 from, sup.code_is.1)
       ]
 
       tells : (v : ℕ) (r : Reached) → HasVertex g v → label_of lines v ≡ Some r → TellsWalk v r
@@ -173,7 +173,7 @@ module _ {V : Type 0} (A : Algebra V) (lawful : IsLawful A) where
       source_is s h = elim (certified.each s (in_s s h)) [ inl k ↦ k.1 | inr n ↦ absurd (n.0 h) ]
 
       -- no arc improves the label of its head
-      head_label : (v u : ℕ) (near : Reached) (x z : V) → HasVertex g v → Brings A g lines u v near z → IsWalkValue A g sources v z → (l : Option Reached) → label_of lines v ≡ l → IsCertifiedAt A g sources lines v →
+      head_label : (v u : ℕ) (near : Reached) (x z : V) → HasVertex g v → Offers A g lines u v near z → IsWalkValue A g sources v z → (l : Option Reached) → label_of lines v ≡ l → IsCertifiedAt A g sources lines v →
           (y : V) × (label_of labels v ≡ Some y) × IsTrue (A.no_worse y z)
       head_label v u near x z in_v b w l e (inl s) = (A.origin, origin_label v s.1, origin_best v z w)
       head_label v u near x z in_v b w None e (inr n) = absurd (let none : IsRightLine A g lines v None = subst (IsRightLine A g lines v) e n.1 in none u near z b)
@@ -185,7 +185,7 @@ module _ {V : Type 0} (A : Algebra V) (lawful : IsLawful A) where
       not_improving a h x z e f =
           let ends = roads.ends a h in
           let t = told_at (arc_of g a).tail x ends.0 e in
-          let b : Brings A g lines (arc_of g a).tail (arc_of g a).head t.0 z = record {
+          let b : Offers A g lines (arc_of g a).tail (arc_of g a).head t.0 z = record {
             arc = a;
             is_arc = h;
             tail_is = refl;
@@ -229,7 +229,7 @@ module _ {V : Type 0} (A : Algebra V) (lawful : IsLawful A) where
       parent_tight v r in_v e sup =
           let from = sup.from_parent in
           let u = tells_best r.parent sup.near (tail_in r.parent v sup.near sup.value from) from.line_is in
-          brings_tight r.parent v sup.near u.0 sup.value u.1 u.2 (support_best v r in_v e sup) from
+          offers_tight r.parent v sup.near u.0 sup.value u.1 u.2 (support_best v r in_v e sup) from
 
       source_hops : (v : ℕ) (r : Reached) → label_of lines v ≡ Some r → label_of lines v ≡ source_line A → (r.hops ≡ 0) × (r.parent ≡ 0)
       source_hops v r e is =
@@ -261,7 +261,7 @@ module _ {V : Type 0} (A : Algebra V) (lawful : IsLawful A) where
           let v = (arc_of g a).head in
           let u = tells_best (arc_of g a).tail near ends.0 e in
           let line = line_of_best v t.head ends.1 t.head_best in
-          let b = tight_brings a near u.0 t.head t e u.2 u.1 t.head_best in (
+          let b = tight_offers a near u.0 t.head t e u.2 u.1 t.head_best in (
             line.0,
             line.1,
             elim (support_at v line.0 line.1 (certified.each v ends.1)) [
@@ -269,7 +269,7 @@ module _ {V : Type 0} (A : Algebra V) (lawful : IsLawful A) where
               | inr h ↦
                   let sup = h.1 in
                   let same = best_is_one A lawful g roads sources v t.head sup.value t.head_best (support_best v line.0 ends.1 line.1 sup) in
-                  sup.not_nearer (arc_of g a).tail near (subst (λ (y : V). Brings A g lines (arc_of g a).tail v near y) same b)
+                  sup.not_nearer (arc_of g a).tail near (subst (λ (y : V). Offers A g lines (arc_of g a).tail v near y) same b)
             ],
           )
 
@@ -308,8 +308,8 @@ module _ {V : Type 0} (A : Algebra V) (lawful : IsLawful A) where
             let tight = n.1 in
             let ends = roads.ends a tight.arc in
             let line = line_of_best (arc_of g a).tail tight.tail ends.0 tight.tail_best in
-            let b : Brings A g lines (arc_of g a).tail (arc_of g a).head line.0 tight.head = tight_brings a line.0 tight.tail tight.head tight line.1 line.2 tight.tail_best tight.head_best in
-            let c : Brings A g lines t v line.0 tight.head = subst (λ (k : ℕ). Brings A g lines t k line.0 tight.head) n.3 (subst (λ (k : ℕ). Brings A g lines k (arc_of g a).head line.0 tight.head) n.2 b) in
+            let b : Offers A g lines (arc_of g a).tail (arc_of g a).head line.0 tight.head = tight_offers a line.0 tight.tail tight.head tight line.1 line.2 tight.tail_best tight.head_best in
+            let c : Offers A g lines t v line.0 tight.head = subst (λ (k : ℕ). Offers A g lines t k line.0 tight.head) n.3 (subst (λ (k : ℕ). Offers A g lines k (arc_of g a).head line.0 tight.head) n.2 b) in
             let head_best : IsBest A g sources v tight.head = subst (λ (k : ℕ). IsBest A g sources k tight.head) n.3 tight.head_best in
             let same = best_is_one A lawful g roads sources v tight.head sup.value head_best (support_best v r in_v e sup) in
             let at_tail : AreHops A g sources t line.0.hops = subst (λ (k : ℕ). AreHops A g sources k line.0.hops) n.2 (hops_are (arc_of g a).tail line.0 ends.0 line.1) in
@@ -319,7 +319,7 @@ module _ {V : Type 0} (A : Algebra V) (lawful : IsLawful A) where
             let mine = hops_are v r in_v e in
             let below = k.2.least r.hops mine.attained in
             let above = mine.least (k.0 + 1) k.2.attained in
-            sup.not_lesser t line.0 (subst (λ (y : V). Brings A g lines t v line.0 y) same c) (omega (arith, low, high, below, above));
+            sup.not_lesser t line.0 (subst (λ (y : V). Offers A g lines t v line.0 y) same c) (omega (arith, low, high, below, above));
       }
 
       line_is_right : (v : ℕ) → HasVertex g v → (l : Option Reached) → label_of lines v ≡ l → IsLine A g sources v l
@@ -373,9 +373,9 @@ module _ {V : Type 0} (A : Algebra V) (lawful : IsLawful A) where
           let none : r.parent ≡ 0 = elim l.2.parent [ inl p ↦ p.1 | inr p ↦ absurd (p.no_source h) ] in
           l.1 ∙ ap (λ (q : Reached). Some q) (same_line r (A.code A.origin) 0 0 (l.2.code.2 ∙ ap A.code value) (omega (arith, few)) none)
 
-      -- the value of v is brought by the parent, with one hop less
+      -- the value of v is offered by the parent, with one hop less
       from_parent : (v : ℕ) (r : Reached) → IsReachedLine A g sources v r → (x : V) → IsBest A g sources v x → IsParent A g sources v r.parent →
-          (near : Reached) × Brings A g lines r.parent v near x × (near.hops + 1 ≡ r.hops)
+          (near : Reached) × Offers A g lines r.parent v near x × (near.hops + 1 ≡ r.hops)
       from_parent v r line x best p =
           let n = p.nearer in
           let a = n.0 in
@@ -383,8 +383,8 @@ module _ {V : Type 0} (A : Algebra V) (lawful : IsLawful A) where
           let ends = roads.ends a tight.arc in
           let l = line_reached (arc_of g a).tail tight.tail ends.0 tight.tail_best.attained (label_of lines (arc_of g a).tail) refl in
           let head_best : IsBest A g sources (arc_of g a).head x = subst (λ (k : ℕ). IsBest A g sources k x) (sym n.3) best in
-          let b = tight_brings a l.0 l.2.code.0 x tight l.1 l.2.code.2 l.2.code.1 head_best in
-          let c : Brings A g lines r.parent v l.0 x = subst (λ (k : ℕ). Brings A g lines r.parent k l.0 x) n.3 (subst (λ (k : ℕ). Brings A g lines k (arc_of g a).head l.0 x) n.2 b) in
+          let b = tight_offers a l.0 l.2.code.0 x tight l.1 l.2.code.2 l.2.code.1 head_best in
+          let c : Offers A g lines r.parent v l.0 x = subst (λ (k : ℕ). Offers A g lines r.parent k l.0 x) n.3 (subst (λ (k : ℕ). Offers A g lines k (arc_of g a).head l.0 x) n.2 b) in
           let at_tail : AreHops A g sources r.parent l.0.hops = subst (λ (k : ℕ). AreHops A g sources k l.0.hops) n.2 l.2.hops in
           let k = n.4 in
           let low = k.1.least l.0.hops at_tail.attained in
@@ -407,15 +407,15 @@ module _ {V : Type 0} (A : Algebra V) (lawful : IsLawful A) where
             hops_are = from.2;
             not_beaten = λ u other z b.
                 let tail = line_at u other (tail_in u v other z b) b.line_is in
-                best.least z (brings_walk u v other tail.code.0 z tail.code.1.attained tail.code.2 b);
+                best.least z (offers_walk u v other tail.code.0 z tail.code.1.attained tail.code.2 b);
             not_nearer = λ u other b.
                 let tail = line_at u other (tail_in u v other x b) b.line_is in
-                let tight = brings_tight u v other tail.code.0 x tail.code.1 tail.code.2 best b in
+                let tight = offers_tight u v other tail.code.0 x tail.code.1 tail.code.2 best b in
                 let walk = tight_more u other.hops b.arc tail.hops.attained tight b.tail_is in
                 line.hops.least (other.hops + 1) (subst (λ (k : ℕ). IsTightWalk A g sources k (other.hops + 1)) b.head_is walk);
             not_lesser = λ u other b one.
                 let tail = line_at u other (tail_in u v other x b) b.line_is in
-                let tight = brings_tight u v other tail.code.0 x tail.code.1 tail.code.2 best b in
+                let tight = offers_tight u v other tail.code.0 x tail.code.1 tail.code.2 best b in
                 p.least u (b.arc, tight, b.tail_is, b.head_is, (other.hops, tail.hops, subst (λ (k : ℕ). AreHops A g sources v k) (sym one) line.hops));
           }
 
@@ -423,7 +423,7 @@ module _ {V : Type 0} (A : Algebra V) (lawful : IsLawful A) where
       right_line v in_v no_source None e = λ u near z b.
           let tail = line_at u near (tail_in u v near z b) b.line_is in
           let none : IsUnreached A g sources v = subst (λ (l : Option Reached). IsLine A g sources v l) e (right.each v in_v) in
-          none z (brings_walk u v near tail.code.0 z tail.code.1.attained tail.code.2 b)
+          none z (offers_walk u v near tail.code.0 z tail.code.1.attained tail.code.2 b)
       right_line v in_v no_source (Some r) e =
           let line = line_at v r in_v e in
           line_supported v r in_v e (elim line.parent [ inl p ↦ absurd (no_source p.0) | inr p ↦ p ])

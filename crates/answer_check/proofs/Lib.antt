@@ -1,7 +1,7 @@
 pub mod Certified
 pub mod Refused
-pub mod SignsAdd
-pub mod SignsMean
+pub mod EvidenceAdds
+pub mod EvidenceMeans
 pub mod FirstPlaces
 pub mod Marks
 pub mod PairsJudged

@@ -4,22 +4,22 @@ use Rattle.road_graph.specs.Roads.{Roads, HasVertex}
 use Rattle.path_algebra.specs.Algebra.{Algebra}
 use Rattle.path_algebra.specs.Walks.{label_of}
 use Rattle.answer_text.specs.declared.answers.Reached.{Reached}
-use Rattle.answer_check.specs.Reasons.{IsCodeOf, Brings, source_line}
+use Rattle.answer_check.specs.Reasons.{IsCodeOf, Offers, source_line}
 
--- the line r of v tells a value that its parent gives with one hop less; no arc brings a better value, or this one with fewer hops; no lesser vertex gives it with these hops
+-- the line r of v tells a value that its parent gives with one hop less; no arc offers a better value, or this one with fewer hops; no lesser vertex gives it with these hops
 pub record IsSupported {V : Type 0} (A : Algebra V) (g : Roads) (lines : List (Option Reached)) (v : ℕ) (r : Reached) : Type 0 where
   pub value : V
   pub code_is : IsCodeOf A r.code value
   pub near : Reached
-  pub from_parent : Brings A g lines r.parent v near value
+  pub from_parent : Offers A g lines r.parent v near value
   pub hops_are : near.hops + 1 ≡ r.hops
-  pub not_beaten : (u : ℕ) (other : Reached) (z : V) → Brings A g lines u v other z → IsTrue (A.no_worse value z)
-  pub not_nearer : (u : ℕ) (other : Reached) → Brings A g lines u v other value → r.hops ≤ other.hops + 1
-  pub not_lesser : (u : ℕ) (other : Reached) → Brings A g lines u v other value → other.hops + 1 ≡ r.hops → r.parent ≤ u
+  pub not_beaten : (u : ℕ) (other : Reached) (z : V) → Offers A g lines u v other z → IsTrue (A.no_worse value z)
+  pub not_nearer : (u : ℕ) (other : Reached) → Offers A g lines u v other value → r.hops ≤ other.hops + 1
+  pub not_lesser : (u : ℕ) (other : Reached) → Offers A g lines u v other value → other.hops + 1 ≡ r.hops → r.parent ≤ u
 
--- what makes the line of a vertex right that is no source: where none is told, no arc brings a value
+-- what makes the line of a vertex right that is no source: where none is told, no arc offers a value
 abbrev pub IsRightLine : {V : Type 0} → Algebra V → Roads → List (Option Reached) → ℕ → Option Reached → Type 0
-IsRightLine {V} A g lines v None = (u : ℕ) (near : Reached) (z : V) → Brings A g lines u v near z → ⊥
+IsRightLine {V} A g lines v None = (u : ℕ) (near : Reached) (z : V) → Offers A g lines u v near z → ⊥
 IsRightLine A g lines v (Some r) = IsSupported A g lines v r
 
 -- what makes the line of a vertex right

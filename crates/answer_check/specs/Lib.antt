@@ -1,7 +1,7 @@
 pub mod Reasons
 pub mod Certificates
 pub mod Verdicts
-pub mod Signs
+pub mod Evidence
 pub mod Marked
 pub mod Places
 pub mod Pairs

@@ -27,8 +27,8 @@ source_line A = Some (record { code = A.code A.origin; hops = 0; parent = 0 })
 abbrev pub IsCodeOf : {V : Type 0} → Algebra V → ℕ → V → Type 0
 IsCodeOf A c x = IsTrue (A.is_value x) × (c ≡ A.code x)
 
--- some arc from u to v takes the value that the line `near` of u tells to z; a line whose code is no value's brings nothing
-pub record Brings {V : Type 0} (A : Algebra V) (g : Roads) (lines : List (Option Reached)) (u v : ℕ) (near : Reached) (z : V) : Type 0 where
+-- some arc from u to v takes the value that the line `near` of u tells to z; a line whose code is no value's offers nothing
+pub record Offers {V : Type 0} (A : Algebra V) (g : Roads) (lines : List (Option Reached)) (u v : ℕ) (near : Reached) (z : V) : Type 0 where
   pub arc : ℕ
   pub is_arc : HasArc g arc
   pub tail_is : (arc_of g arc).tail ≡ u
@@ -40,12 +40,12 @@ pub record Brings {V : Type 0} (A : Algebra V) (g : Roads) (lines : List (Option
 
 -- some arc from u to v gives the value that the line r of v tells
 abbrev pub Gives : {V : Type 0} → Algebra V → Roads → List (Option Reached) → ℕ → ℕ → Reached → Reached → Type 0
-Gives {V} A g lines u v near r = (y : V) × IsCodeOf A r.code y × Brings A g lines u v near y
+Gives {V} A g lines u v near r = (y : V) × IsCodeOf A r.code y × Offers A g lines u v near y
 
 -- some arc gives v a better value than its line r tells
 abbrev pub IsBeaten : {V : Type 0} → Algebra V → Roads → List (Option Reached) → ℕ → Reached → Type 0
 IsBeaten {V} A g lines v r =
-    (y : V) × IsCodeOf A r.code y × ((u : ℕ) × (near : Reached) × (z : V) × Brings A g lines u v near z × (IsTrue (A.no_worse y z) → ⊥))
+    (y : V) × IsCodeOf A r.code y × ((u : ℕ) × (near : Reached) × (z : V) × Offers A g lines u v near z × (IsTrue (A.no_worse y z) → ⊥))
 
 -- the hops of r are not one more than those of its parent, which gives the value
 abbrev pub HasOtherHops : {V : Type 0} → Algebra V → Roads → List (Option Reached) → ℕ → Reached → Type 0
@@ -61,7 +61,7 @@ HasLesserParent A g lines v r = (u : ℕ) × (near : Reached) × Gives A g lines
 
 -- what speaks against the line of a vertex that is no source
 abbrev pub IsRefused : {V : Type 0} → Algebra V → Roads → List (Option Reached) → ℕ → Option Reached → Reason → Type 0
-IsRefused {V} A g lines v None HasWalk = (u : ℕ) × (near : Reached) × (z : V) × Brings A g lines u v near z
+IsRefused {V} A g lines v None HasWalk = (u : ℕ) × (near : Reached) × (z : V) × Offers A g lines u v near z
 IsRefused A g lines v (Some r) NotBest = IsBeaten A g lines v r
 IsRefused A g lines v (Some r) NoParent = (near : Reached) → Gives A g lines r.parent v near r → ⊥
 IsRefused A g lines v (Some r) OtherHops = HasOtherHops A g lines v r ⊎ HasFewerHops A g lines v r

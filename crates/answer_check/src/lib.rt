@@ -5,13 +5,13 @@
 
 mod answers;
 mod checking;
+mod evidence;
 mod laws;
 mod lines;
 mod numbers;
 mod pairs;
 mod pass;
 mod place;
-mod signs;
 mod verdict;
 mod vertices;
 

@@ -5,11 +5,11 @@ ghost use Rattle.std.specs.List.{list_any};
 ghost use Rattle.road_graph.specs.Roads.{HasVertex, HasArc, ListsArcsInto};
 ghost use Rattle.path_algebra.specs.Walks.{label_of, is_marked};
 ghost use Rattle.answer_check.specs.Reasons.{source_line, IsRefused, IsJudged};
-ghost use Rattle.answer_check.specs.Signs.{brought, is_there};
+ghost use Rattle.answer_check.specs.Evidence.{candidate, is_there};
 ghost use Rattle.answer_check.specs.Marked.{IsMarkedRefused, IsMarkedRight};
 ghost use Rattle.answer_check.specs.Certificates.{IsRightLine};
 
-use crate::signs::{brought, signs_of, value_told};
+use crate::evidence::{candidate, evidence_of, value_told};
 use crate::verdict::Reason;
 use answer_text::Reached;
 use path_algebra::{PathAlgebra, laws_hold};
@@ -27,8 +27,8 @@ fn is_source_line<A: PathAlgebra>(algebra: A, line: Option<Reached>) -> bool
     }
 }
 
-/// Whether some arc of a list brings a value.
-fn brings_some<A: PathAlgebra>(
+/// Whether some arc of a list offers a value.
+fn offers_some<A: PathAlgebra>(
     algebra: A,
     graph: &Graph,
     lines: &[Option<Reached>],
@@ -36,12 +36,12 @@ fn brings_some<A: PathAlgebra>(
 ) -> bool
     requires count { length lines.now ≡ graph.now.vertices }
     requires arcs { All (HasArc graph.now) arcs.now }
-    ensures { result ≡ list_any (λ a. is_there (brought (A.meaning algebra) graph.now lines.now a)) arcs.now }
+    ensures { result ≡ list_any (λ a. is_there (candidate (A.meaning algebra) graph.now lines.now a)) arcs.now }
 {
     let _n = graph.vertices();
     for a in arcs {
         let arc = graph.arc(*a);
-        if brought(algebra, lines[arc.tail.0 as usize - 1], arc.weight).is_some() {
+        if candidate(algebra, lines[arc.tail.0 as usize - 1], arc.weight).is_some() {
             return true;
         }
     }
@@ -62,7 +62,7 @@ fn reason_of_line<A: PathAlgebra>(
     laws_hold(algebra);
     let arcs = graph.into(v);
     let Some(line) = lines[v.0 as usize - 1] else {
-        let has_walk = brings_some(algebra, graph, lines, arcs);
+        let has_walk = offers_some(algebra, graph, lines, arcs);
         return if has_walk {
             Some(Reason::HasWalk)
         } else {
@@ -70,7 +70,7 @@ fn reason_of_line<A: PathAlgebra>(
         };
     };
     match value_told(algebra, line) {
-        Some(value) => signs_of(algebra, graph, lines, line, value, arcs).reason(),
+        Some(value) => evidence_of(algebra, graph, lines, line, value, arcs).reason(),
         None => Some(Reason::NoParent),
     }
 }

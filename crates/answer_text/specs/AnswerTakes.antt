@@ -4,7 +4,7 @@ use Rattle.road_text.specs.declared.faults.ReadFault.{ReadFault}
 use Rattle.road_text.specs.declared.faults.Rule.{Rule}
 use Rattle.road_text.specs.Rules.{◌>>=◌}
 use Rattle.road_text.specs.Takes.{GivesBy}
-use Rattle.road_text.specs.Way.{Way}
+use Rattle.road_text.specs.Meaning.{Meaning}
 use Rattle.road_text.specs.Words.{word_of}
 use Rattle.answer_text.specs.declared.answers.Answers.{Answers}
 use Rattle.answer_text.specs.declared.present_numbers.PresentNumbers.{PresentNumbers}
@@ -66,5 +66,5 @@ abbrev pub GivesAnswers : Bool → AnswerParser → ℕ → List (List ℕ) → 
 GivesAnswers cut s at ls r = GivesBy (answer_rules s.n) (begun_of s) told_list_of cut at ls r
 
 -- the numbers of a list are kept before its line ends
-abbrev pub answer_way : Way AnswerParser Answers
-answer_way = record { gives = GivesAnswers; so_far = λ s fs. SoFar s.present fs }
+abbrev pub answer_meaning : Meaning AnswerParser Answers
+answer_meaning = record { gives = GivesAnswers; so_far = λ s fs. SoFar s.present fs }

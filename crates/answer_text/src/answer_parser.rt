@@ -91,11 +91,11 @@ fn whole(n: u32, begun: TakenAnswers) -> Result<Answers, LineFault>
 }
 
 impl LineParser for AnswerParser {
-    ghost use Rattle.answer_text.specs.AnswerTakes.{answer_way};
+    ghost use Rattle.answer_text.specs.AnswerTakes.{answer_meaning};
 
     type Value = Answers;
 
-    ghost way = { answer_way };
+    ghost meaning = { answer_meaning };
 
     fn field(&mut self, slot: &Slot) -> Result<(), LineFault> {
         self.present.field(slot)

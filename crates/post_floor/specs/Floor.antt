@@ -11,7 +11,7 @@ use Rattle.scholten_core.specs.declared.item.Item.{Item}
 use Rattle.scholten_core.specs.Accounts.{Totals, totals_of}
 use Rattle.scholten_core.specs.Diffusion.{CoreState, state_after, HasEnded}
 use Rattle.scholten_core.specs.Sums.{sum_below}
-use Rattle.shard_part.specs.PartState.{Setup, PartData, network_in, place_in, total, is, All, out_room, Shows}
+use Rattle.shard_part.specs.PartState.{Setup, PartData, network_in, place_in, total, is, All, outbox_bound, Shows}
 use Rattle.shard_part.specs.Arriving.{MadeAt}
 use Rattle.post_floor.specs.declared.view.View.{View}
 use Rattle.post_floor.specs.Boxes.{box_count, dest, origin}
@@ -73,7 +73,7 @@ module _ {V : Type 0} where
 
 -- how many items a mailbox may hold: one for each arc between its shards
 abbrev pub cap : {S : Type 0} → Setup S → ℕ → ℕ
-cap t k = cond (eqb (origin t.plan.shards k) (dest t.plan.shards k)) 0 (out_room (network_in t) (place_in t) (origin t.plan.shards k) (dest t.plan.shards k))
+cap t k = cond (eqb (origin t.plan.shards k) (dest t.plan.shards k)) 0 (outbox_bound (network_in t) (place_in t) (origin t.plan.shards k) (dest t.plan.shards k))
 
 -- an empty batch of the mailbox's capacity
 abbrev pub emptied : {S V : Type 0} → Setup S → ℕ → Slot V

@@ -3,7 +3,7 @@ use Rattle.std.specs.Prelude.{ℕ, ⊤, if◌then◌else◌, List, Result, Bool,
 use Rattle.road_graph.specs.Roads.{Roads}
 use Rattle.road_text.specs.declared.faults.ReadFault.{ReadFault}
 use Rattle.road_text.specs.Takes.{GivesBy}
-use Rattle.road_text.specs.Way.{Way}
+use Rattle.road_text.specs.Meaning.{Meaning}
 use Rattle.road_text.specs.Words.{Word}
 use Rattle.road_files.specs.declared.questions.Questions.{Questions}
 use Rattle.road_files.specs.declared.bundle_part.BundlePart.{BundlePart}
@@ -34,5 +34,5 @@ abbrev pub GivesBundle : Bool → BundleParser → ℕ → List (List ℕ) → R
 GivesBundle cut s at ls r = GivesBy bundle_rules (bundle_so_far s.part) bundle_of cut at ls r × IfOk r (λ b. AreQuestionsOf b.0.vertices b.1)
 
 -- the fields of a list are kept before its line ends
-abbrev pub bundle_way : Way BundleParser (Roads × Questions)
-bundle_way = record { gives = GivesBundle; so_far = λ s fs. PartSoFar s.part fs }
+abbrev pub bundle_meaning : Meaning BundleParser (Roads × Questions)
+bundle_meaning = record { gives = GivesBundle; so_far = λ s fs. PartSoFar s.part fs }

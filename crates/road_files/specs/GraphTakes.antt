@@ -3,7 +3,7 @@ use Rattle.std.specs.Prelude.{ℕ, ◌<◌, ◌≤◌, length, List, Option, opt
 use Rattle.road_graph.specs.Roads.{Roads}
 use Rattle.road_text.specs.declared.faults.ReadFault.{ReadFault}
 use Rattle.road_text.specs.Takes.{GivesBy}
-use Rattle.road_text.specs.Way.{Way}
+use Rattle.road_text.specs.Meaning.{Meaning}
 use Rattle.road_files.specs.declared.taken_roads.TakenRoads.{TakenRoads}
 use Rattle.road_files.specs.declared.graph_parser.GraphParser.{GraphParser}
 use Rattle.road_files.specs.GraphFiles.{RoadsSoFar, gr_rules}
@@ -28,5 +28,5 @@ abbrev pub GivesRoads : Bool → GraphParser → ℕ → List (List ℕ) → Res
 GivesRoads cut s at ls r = GivesBy gr_rules (taken_of s) (λ g. g) cut at ls r
 
 -- no field is kept before its line ends
-abbrev pub graph_way : Way GraphParser Roads
-graph_way = record { gives = GivesRoads; so_far = λ _ _. Unit {0} }
+abbrev pub graph_meaning : Meaning GraphParser Roads
+graph_meaning = record { gives = GivesRoads; so_far = λ _ _. Unit {0} }

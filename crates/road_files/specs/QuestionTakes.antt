@@ -3,7 +3,7 @@ use Rattle.std.specs.Prelude.{◌≡◌, ℕ, ◌≤◌, min, List, length, drop
 use Rattle.road_text.specs.declared.faults.ReadFault.{ReadFault}
 use Rattle.road_text.specs.declared.faults.Rule.{Rule}
 use Rattle.road_text.specs.Takes.{GivesBy}
-use Rattle.road_text.specs.Way.{Way}
+use Rattle.road_text.specs.Meaning.{Meaning}
 use Rattle.road_text.specs.Words.{word_of}
 use Rattle.road_files.specs.declared.questions.Kind.{Kind}
 use Rattle.road_files.specs.declared.questions.Questions.{Questions}
@@ -46,5 +46,5 @@ abbrev pub GivesQuestions : Bool → QuestionParser → ℕ → List (List ℕ) 
 GivesQuestions cut s at ls r = GivesBy (question_rules s.list.vertices s.only) (begun_of s) asked_of cut at ls r × IfOk r (FitsFile s.list.vertices s.only)
 
 -- the fields of a list are kept before its line ends
-abbrev pub question_way : Way QuestionParser Questions
-question_way = record { gives = GivesQuestions; so_far = λ s fs. SoFar s.list fs }
+abbrev pub question_meaning : Meaning QuestionParser Questions
+question_meaning = record { gives = GivesQuestions; so_far = λ s fs. SoFar s.list fs }

@@ -76,11 +76,11 @@ impl BundleParser {
 }
 
 impl LineParser for BundleParser {
-    ghost use Rattle.road_files.specs.BundleTakes.{bundle_way};
+    ghost use Rattle.road_files.specs.BundleTakes.{bundle_meaning};
 
     type Value = (Graph, Questions);
 
-    ghost way = { bundle_way };
+    ghost meaning = { bundle_meaning };
 
     fn field(&mut self, slot: &Slot) -> Result<(), LineFault> {
         match &mut self.part {

@@ -103,11 +103,11 @@ impl GraphParser {
 }
 
 impl LineParser for GraphParser {
-    ghost use Rattle.road_files.specs.GraphTakes.{graph_way};
+    ghost use Rattle.road_files.specs.GraphTakes.{graph_meaning};
 
     type Value = Graph;
 
-    ghost way = { graph_way };
+    ghost meaning = { graph_meaning };
 
     fn field(&mut self, _slot: &Slot) -> Result<(), LineFault> {
         Ok(())

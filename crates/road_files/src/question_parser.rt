@@ -173,11 +173,11 @@ impl QuestionParser {
 }
 
 impl LineParser for QuestionParser {
-    ghost use Rattle.road_files.specs.QuestionTakes.{question_way};
+    ghost use Rattle.road_files.specs.QuestionTakes.{question_meaning};
 
     type Value = Questions;
 
-    ghost way = { question_way };
+    ghost meaning = { question_meaning };
 
     fn field(&mut self, slot: &Slot) -> Result<(), LineFault> {
         self.list.field(slot)

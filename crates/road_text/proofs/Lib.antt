@@ -3,7 +3,7 @@ pub mod ScanLaws
 pub mod ScannerLaws
 pub mod TextLaws
 pub mod ReaderLaws
-pub mod StandLaws
+pub mod ReadingLaws
 pub mod WordLaws
 pub mod ParserLaws
 pub mod WriteLaws

@@ -8,9 +8,9 @@ use Rattle.road_text.specs.declared.reader.LineReader.{LineReader}
 use Rattle.road_text.specs.Lines.{lines, is_gap, has_bytes}
 use Rattle.road_text.specs.Scans.{Scan, Shows, scan_of, number_with, word_with}
 use Rattle.road_text.specs.ShortLines.{IsNumberThen, IsShortLine, HasShortFields}
-use Rattle.road_text.specs.Standing.{Leads, Holds}
+use Rattle.road_text.specs.Reading.{RestGives, Holds}
 use Rattle.road_text.specs.Texts.{spelled, IsWord}
-use Rattle.road_text.specs.Way.{Way}
+use Rattle.road_text.specs.Meaning.{Meaning}
 use Rattle.road_text.specs.Words.{Word, held_word}
 use Rattle.road_text.proofs.RoundTrip.{fields_join, line_again}
 use Rattle.road_text.proofs.ScanLaws.{held_word-with, no_word_is}
@@ -92,15 +92,15 @@ begins_again P Q scan ready h = record {
 }
 
 -- a line that was taken whole
-module _ {T V : Type 0} (gives : Way T V) (s : LineReader T) (t : T) (fresh : s.begun ≡ false) (ready : gives.so_far t []) (bytes : List ℕ) (letter first second third : ℕ) (line : IsShortLine bytes letter first second third)
-    (taken : (cut : Bool) (at : ℕ) (l : List ℕ) (rest : List (List ℕ)) (r : Result V ReadFault) → HasShortFields l letter first second third → gives.gives cut t (at + 1) rest r → gives.gives cut s.parser at (l ∷ rest) r) where
-  starts : (present : List ℕ) → Holds (gives.so_far s.parser) s.begun s.pending (scan_of s.scanner) present → present ≡ [] → Holds (gives.so_far t) s.begun s.pending (scan_of s.scanner) []
+module _ {T V : Type 0} (meaning : Meaning T V) (s : LineReader T) (t : T) (fresh : s.begun ≡ false) (ready : meaning.so_far t []) (bytes : List ℕ) (letter first second third : ℕ) (line : IsShortLine bytes letter first second third)
+    (taken : (cut : Bool) (at : ℕ) (l : List ℕ) (rest : List (List ℕ)) (r : Result V ReadFault) → HasShortFields l letter first second third → meaning.gives cut t (at + 1) rest r → meaning.gives cut s.parser at (l ∷ rest) r) where
+  starts : (present : List ℕ) → Holds (meaning.so_far s.parser) s.begun s.pending (scan_of s.scanner) present → present ≡ [] → Holds (meaning.so_far t) s.begun s.pending (scan_of s.scanner) []
   starts present h none =
-      let now : Holds (gives.so_far s.parser) s.begun s.pending (scan_of s.scanner) [] = subst (Holds (gives.so_far s.parser) s.begun s.pending (scan_of s.scanner)) none h in
-      record { begun = now.begun; pending = now.pending; shown = begins_again (gives.so_far s.parser) (gives.so_far t) (scan_of s.scanner) ready now.shown; whole = now.whole }
+      let now : Holds (meaning.so_far s.parser) s.begun s.pending (scan_of s.scanner) [] = subst (Holds (meaning.so_far s.parser) s.begun s.pending (scan_of s.scanner)) none h in
+      record { begun = now.begun; pending = now.pending; shown = begins_again (meaning.so_far s.parser) (meaning.so_far t) (scan_of s.scanner) ready now.shown; whole = now.whole }
 
   pub taken_whole : (cut : Bool) (more : List ℕ) (r : Result V ReadFault)
-      → ((present : List ℕ) → Holds (gives.so_far t) s.begun s.pending (scan_of s.scanner) present → gives.gives cut t (s.line + 1) (lines cut (present ++ more)) r) → Leads cut gives s (bytes ++ more) r
+      → ((present : List ℕ) → Holds (meaning.so_far t) s.begun s.pending (scan_of s.scanner) present → meaning.gives cut t (s.line + 1) (lines cut (present ++ more)) r) → RestGives cut meaning s (bytes ++ more) r
   taken_whole cut more r h = λ present held.
       let words = (letter ∷ []) ∷ line.one ∷ line.two ∷ line.three ∷ [] in
       let none : present ≡ [] = nothing s.pending (scan_of s.scanner) present (rw fresh at held) in

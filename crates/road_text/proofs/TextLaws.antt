@@ -10,7 +10,7 @@ use Rattle.std.proofs.lemmas.List.{get_or-append-add}
 use Rattle.road_text.specs.Lines.{lines, lines_of_parts, is_line_end, has_bytes, is_gap}
 use Rattle.road_text.specs.Scans.{Shows, Scan, scan_on, word_with, is_plain}
 use Rattle.road_text.specs.Words.{no_word}
-use Rattle.road_text.specs.Standing.{Holds, ends_in_return}
+use Rattle.road_text.specs.Reading.{Holds, ends_in_return}
 use Rattle.road_text.proofs.Splits.{All-one}
 use Rattle.road_text.proofs.ScanLaws.{shows_start, shows_on, shows_run}
 

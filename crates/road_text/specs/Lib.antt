@@ -1,12 +1,12 @@
 pub mod Lines
 pub mod Words
 pub mod Rules
-pub mod Way
+pub mod Meaning
 pub mod Slots
 pub mod Takes
 pub mod Reads
 pub mod Texts
 pub mod Written
 pub mod Scans
-pub mod Standing
+pub mod Reading
 pub mod ShortLines

@@ -7,7 +7,7 @@ ghost use Rattle.road_text.specs.Rules.{fault_at, too_long};
 ghost use Rattle.road_text.specs.ShortLines.{HasShortFields};
 ghost use Rattle.road_text.specs.Slots.{word_in};
 ghost use Rattle.road_text.specs.Takes.{ShowsLine};
-ghost use Rattle.road_text.specs.Way.{Way};
+ghost use Rattle.road_text.specs.Meaning.{Meaning};
 ghost use Rattle.road_text.specs.Words.{held_word};
 
 use crate::faults::LineFault;
@@ -20,35 +20,35 @@ pub trait LineParser: Drop {
     type Value;
 
     // What the lines from a number on give, and whether these are the fields of the present line so far.
-    ghost way: { Way Self Self.Value };
+    ghost meaning: { Meaning Self Self.Value };
 
     /// Takes the next field of the present line. Only lines of any number of fields need it.
     fn field(&mut self, slot: &Slot) -> Result<(), LineFault>
-        ensures same { OnOk result ((cut : Bool) (at : ℕ) (ls : List (List ℕ)) (r : Result Self.Value ReadFault) → way.gives cut self.new at ls r → way.gives cut self.old at ls r) }
-        ensures told { OnOk result ((fs : List (List ℕ)) (f : List ℕ) → way.so_far self.old fs → word_in slot.now ≡ held_word f → way.so_far self.new (fs ++ f ∷ [])) }
+        ensures same { OnOk result ((cut : Bool) (at : ℕ) (ls : List (List ℕ)) (r : Result Self.Value ReadFault) → meaning.gives cut self.new at ls r → meaning.gives cut self.old at ls r) }
+        ensures told { OnOk result ((fs : List (List ℕ)) (f : List ℕ) → meaning.so_far self.old fs → word_in slot.now ≡ held_word f → meaning.so_far self.new (fs ++ f ∷ [])) }
         ensures memory { IfErr result (λ e. e ≡ LineFault.Memory) };
 
     /// Takes the present line, all of whose fields were taken: these are the first six.
     fn line(&mut self, slots: &[Slot]) -> Result<(), LineFault>
         ensures ok { OnOk result ((cut : Bool) (at : ℕ) (l : List ℕ) (rest : List (List ℕ)) (r : Result Self.Value ReadFault) →
-            ShowsLine slots.now l → way.so_far self.old (fields l) → way.gives cut self.new (at + 1) rest r → way.gives cut self.old at (l ∷ rest) r) }
-        ensures ready { OnOk result (way.so_far self.new []) }
+            ShowsLine slots.now l → meaning.so_far self.old (fields l) → meaning.gives cut self.new (at + 1) rest r → meaning.gives cut self.old at (l ∷ rest) r) }
+        ensures ready { OnOk result (meaning.so_far self.new []) }
         ensures broken { (rule : Rule) → result ≡ Err (LineFault.Broken rule) → (cut : Bool) (at : ℕ) (l : List ℕ) (rest : List (List ℕ)) →
-            ShowsLine slots.now l → way.so_far self.old (fields l) → way.gives cut self.old at (l ∷ rest) (Err (fault_at at rule.number)) };
+            ShowsLine slots.now l → meaning.so_far self.old (fields l) → meaning.gives cut self.old at (l ∷ rest) (Err (fault_at at rule.number)) };
 
     /// Takes a whole line of a letter and three numbers, each below 2 ^ 64, if that is quickly done: else it is taken by
     /// its fields, and nothing changes here.
     fn short_line(&mut self, letter: u8, numbers: (u64, u64, u64)) -> bool
         ensures left { result ≡ false → self.new ≡ self.old }
         ensures taken { result ≡ true → (cut : Bool) (at : ℕ) (l : List ℕ) (rest : List (List ℕ)) (r : Result Self.Value ReadFault) →
-            HasShortFields l letter numbers.0 numbers.1 numbers.2 → way.gives cut self.new (at + 1) rest r → way.gives cut self.old at (l ∷ rest) r }
-        ensures ready { result ≡ true → way.so_far self.new [] };
+            HasShortFields l letter numbers.0 numbers.1 numbers.2 → meaning.gives cut self.new (at + 1) rest r → meaning.gives cut self.old at (l ∷ rest) r }
+        ensures ready { result ≡ true → meaning.so_far self.new [] };
 
     /// Takes the end, and gives what the lines were.
     fn finish(self) -> Result<Self::Value, LineFault>
-        ensures ok { IfOk result (λ v. (at : ℕ) → way.gives false self at [] (Ok v)) }
-        ensures broken { (rule : Rule) → result ≡ Err (LineFault.Broken rule) → (at : ℕ) → way.gives false self at [] (Err (fault_at at rule.number)) };
+        ensures ok { IfOk result (λ v. (at : ℕ) → meaning.gives false self at [] (Ok v)) }
+        ensures broken { (rule : Rule) → result ≡ Err (LineFault.Broken rule) → (at : ℕ) → meaning.gives false self at [] (Err (fault_at at rule.number)) };
 
     // A text that is cut short is too long.
-    ghost stops_short: { (s : Self) (at : ℕ) → way.gives true s at [] (Err too_long) };
+    ghost stops_short: { (s : Self) (at : ℕ) → meaning.gives true s at [] (Err too_long) };
 }

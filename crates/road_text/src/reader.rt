@@ -28,12 +28,12 @@ pub struct LineReader<T> {
 
 impl<T: LineParser> LineReader<T> {
     ghost use Rattle.road_text.specs.Scans.{scan_of, Shows, is_plain, number_with};
-    ghost use Rattle.road_text.specs.Standing.{Leads, LineHalts, Halts, HaltsAtEnd, EndHalts, IsNumbered};
+    ghost use Rattle.road_text.specs.Reading.{RestGives, LineHalts, Halts, HaltsAtEnd, EndHalts, IsNumbered};
 
     pub fn new(parser: T) -> Self
-        requires { T.way.so_far parser [] }
+        requires { T.meaning.so_far parser [] }
         ensures count { result.count ≡ 0 }
-        ensures start { (cut : Bool) (bytes : List ℕ) (r : Result T.Value ReadFault) → Leads cut T.way result bytes r → T.way.gives cut parser 1 (lines cut bytes) r }
+        ensures start { (cut : Bool) (bytes : List ℕ) (r : Result T.Value ReadFault) → RestGives cut T.meaning result bytes r → T.meaning.gives cut parser 1 (lines cut bytes) r }
     {
         LineReader {
             parser,
@@ -47,10 +47,10 @@ impl<T: LineParser> LineReader<T> {
 
     fn end_line(&mut self) -> Result<(), Halt>
         requires { self.old.line ≤ self.old.count }
-        ensures ok { OnOk result ((cut : Bool) (rest : List ℕ) (r : Result T.Value ReadFault) → Leads cut T.way self.new rest r → Leads cut T.way self.old (10 ∷ rest) r) }
+        ensures ok { OnOk result ((cut : Bool) (rest : List ℕ) (r : Result T.Value ReadFault) → RestGives cut T.meaning self.new rest r → RestGives cut T.meaning self.old (10 ∷ rest) r) }
         ensures count { self.new.count ≡ self.old.count }
         ensures closed { OnOk result (self.new.begun ≡ false) }
-        ensures err { IfErr result (λ h. LineHalts T.way self.old (10 ∷ []) h) }
+        ensures err { IfErr result (λ h. LineHalts T.meaning self.old (10 ∷ []) h) }
         ensures numbered { IfErr result IsNumbered }
     {
         self.end_field()?;
@@ -74,8 +74,8 @@ impl<T: LineParser> LineReader<T> {
 
     // Gives the present field, if it has bytes, to the parser.
     fn end_field(&mut self) -> Result<(), Halt>
-        ensures same { OnOk result ((cut : Bool) (at : ℕ) (ls : List (List ℕ)) (r : Result T.Value ReadFault) → T.way.gives cut self.new.parser at ls r → T.way.gives cut self.old.parser at ls r) }
-        ensures told { OnOk result ((line : List ℕ) → Shows (T.way.so_far self.old.parser) (scan_of self.old.scanner) line → T.way.so_far self.new.parser (fields line)) }
+        ensures same { OnOk result ((cut : Bool) (at : ℕ) (ls : List (List ℕ)) (r : Result T.Value ReadFault) → T.meaning.gives cut self.new.parser at ls r → T.meaning.gives cut self.old.parser at ls r) }
+        ensures told { OnOk result ((line : List ℕ) → Shows (T.meaning.so_far self.old.parser) (scan_of self.old.scanner) line → T.meaning.so_far self.new.parser (fields line)) }
         ensures scanner { scan_of self.new.scanner ≡ scan_of self.old.scanner }
         ensures rest { (self.new.begun ≡ self.old.begun) × (self.new.pending ≡ self.old.pending) × (self.new.line ≡ self.old.line) × (self.new.count ≡ self.old.count) }
         ensures memory { IfErr result (λ e. e ≡ Halt.Memory) }
@@ -94,7 +94,7 @@ impl<T: LineParser> LineReader<T> {
     fn present_byte(&mut self, byte: u8) -> Result<(), Halt>
         requires other { byte ≢ 10 }
         requires counted { self.old.line ≤ self.old.count }
-        ensures same { OnOk result ((cut : Bool) (rest : List ℕ) (r : Result T.Value ReadFault) → Leads cut T.way self.new rest r → Leads cut T.way self.old (byte ∷ rest) r) }
+        ensures same { OnOk result ((cut : Bool) (rest : List ℕ) (r : Result T.Value ReadFault) → RestGives cut T.meaning self.new rest r → RestGives cut T.meaning self.old (byte ∷ rest) r) }
         ensures count { self.new.count ≡ self.old.count }
         ensures memory { IfErr result (λ e. e ≡ Halt.Memory) }
     {
@@ -121,7 +121,7 @@ impl<T: LineParser> LineReader<T> {
         requires number { number ≡ number_with (scan_of self.old.scanner).1.number bytes.now }
         requires whole { self.old.pending ≡ false }
         requires room { self.old.count + length bytes.now ≤ 4294967296 }
-        ensures same { (cut : Bool) (rest : List ℕ) (r : Result T.Value ReadFault) → Leads cut T.way self.new rest r → Leads cut T.way self.old (bytes.now ++ rest) r }
+        ensures same { (cut : Bool) (rest : List ℕ) (r : Result T.Value ReadFault) → RestGives cut T.meaning self.new rest r → RestGives cut T.meaning self.old (bytes.now ++ rest) r }
         ensures count { self.new.count ≡ self.old.count + length bytes.now }
     {
         self.count += bytes.len() as u64;
@@ -134,7 +134,7 @@ impl<T: LineParser> LineReader<T> {
     #[inline(always)]
     fn front_run(&mut self, bytes: &[u8]) -> usize
         ensures bound { result ≤ length bytes.now }
-        ensures leads { (cut : Bool) (more : List ℕ) (r : Result T.Value ReadFault) → Leads cut T.way self.new more r → Leads cut T.way self.old (take result bytes.now ++ more) r }
+        ensures rest_gives { (cut : Bool) (more : List ℕ) (r : Result T.Value ReadFault) → RestGives cut T.meaning self.new more r → RestGives cut T.meaning self.old (take result bytes.now ++ more) r }
         ensures count { self.new.count ≡ self.old.count + result }
     {
         let (front, number) = run(bytes, self.scanner.present().number);
@@ -150,7 +150,7 @@ impl<T: LineParser> LineReader<T> {
     #[inline(always)]
     fn short_line(&mut self, bytes: &[u8]) -> usize
         ensures bound { result ≤ length bytes.now }
-        ensures leads { (cut : Bool) (more : List ℕ) (r : Result T.Value ReadFault) → Leads cut T.way self.new more r → Leads cut T.way self.old (take result bytes.now ++ more) r }
+        ensures rest_gives { (cut : Bool) (more : List ℕ) (r : Result T.Value ReadFault) → RestGives cut T.meaning self.new more r → RestGives cut T.meaning self.old (take result bytes.now ++ more) r }
         ensures count { self.new.count ≡ self.old.count + result }
     {
         if self.begun {
@@ -174,7 +174,7 @@ impl<T: LineParser> LineReader<T> {
     #[inline(always)]
     fn short_lines(&mut self, bytes: &[u8]) -> usize
         ensures bound { result ≤ length bytes.now }
-        ensures leads { (cut : Bool) (more : List ℕ) (r : Result T.Value ReadFault) → Leads cut T.way self.new more r → Leads cut T.way self.old (take result bytes.now ++ more) r }
+        ensures rest_gives { (cut : Bool) (more : List ℕ) (r : Result T.Value ReadFault) → RestGives cut T.meaning self.new more r → RestGives cut T.meaning self.old (take result bytes.now ++ more) r }
         ensures count { self.new.count ≡ self.old.count + result }
     {
         let mut at = 0;
@@ -190,9 +190,9 @@ impl<T: LineParser> LineReader<T> {
 
     /// Takes the next byte.
     pub fn byte(&mut self, byte: u8) -> Result<(), Halt>
-        ensures ok { OnOk result ((cut : Bool) (rest : List ℕ) (r : Result T.Value ReadFault) → Leads cut T.way self.new rest r → Leads cut T.way self.old (byte ∷ rest) r) }
+        ensures ok { OnOk result ((cut : Bool) (rest : List ℕ) (r : Result T.Value ReadFault) → RestGives cut T.meaning self.new rest r → RestGives cut T.meaning self.old (byte ∷ rest) r) }
         ensures count { OnOk result (self.new.count ≡ self.old.count + 1) }
-        ensures err { IfErr result (λ h. Halts T.way self.old (byte ∷ []) h) }
+        ensures err { IfErr result (λ h. Halts T.meaning self.old (byte ∷ []) h) }
         ensures numbered { IfErr result IsNumbered }
     {
         if self.count == MAX_BYTES {
@@ -207,9 +207,9 @@ impl<T: LineParser> LineReader<T> {
 
     /// Takes the next bytes.
     pub fn feed(&mut self, bytes: &[u8]) -> Result<(), Halt>
-        ensures ok { OnOk result ((cut : Bool) (rest : List ℕ) (r : Result T.Value ReadFault) → Leads cut T.way self.new rest r → Leads cut T.way self.old (bytes.now ++ rest) r) }
+        ensures ok { OnOk result ((cut : Bool) (rest : List ℕ) (r : Result T.Value ReadFault) → RestGives cut T.meaning self.new rest r → RestGives cut T.meaning self.old (bytes.now ++ rest) r) }
         ensures count { OnOk result (self.new.count ≡ self.old.count + length bytes.now) }
-        ensures err { IfErr result (λ h. Halts T.way self.old bytes.now h) }
+        ensures err { IfErr result (λ h. Halts T.meaning self.old bytes.now h) }
         ensures numbered { IfErr result IsNumbered }
     {
         let mut at = 0;
@@ -227,8 +227,8 @@ impl<T: LineParser> LineReader<T> {
 
     // Takes the end where no line is begun.
     fn end(self) -> Result<T::Value, Halt>
-        ensures ok { IfOk result (λ v. T.way.gives false self.parser self.line [] (Ok v)) }
-        ensures err { IfErr result (λ h. EndHalts T.way self h) }
+        ensures ok { IfOk result (λ v. T.meaning.gives false self.parser self.line [] (Ok v)) }
+        ensures err { IfErr result (λ h. EndHalts T.meaning self h) }
         ensures numbered { IfErr result IsNumbered }
     {
         let line = self.line;
@@ -244,8 +244,8 @@ impl<T: LineParser> LineReader<T> {
 
     /// Takes the end.
     pub fn finish(mut self) -> Result<T::Value, Halt>
-        ensures ok { IfOk result (λ v. Leads false T.way self [] (Ok v)) }
-        ensures err { IfErr result (λ h. HaltsAtEnd T.way self h) }
+        ensures ok { IfOk result (λ v. RestGives false T.meaning self [] (Ok v)) }
+        ensures err { IfErr result (λ h. HaltsAtEnd T.meaning self h) }
         ensures numbered { IfErr result IsNumbered }
     {
         if !self.begun {

@@ -2,7 +2,7 @@
 ghost use Rattle.std.specs.Prelude.{◌≡◌, ◌≢◌, ℕ, ◌+◌, ◌≤◌, [], Ok, Err, OnOk, IfOk, IfErr, IfSome};
 ghost use Rattle.std.specs.Io.KnownBytes.{IsAtEnd};
 ghost use Rattle.road_text.specs.Reads.{TellsFailure, TellsNoOther, IsTooLong, IsPlaced, IsReadNumber};
-ghost use Rattle.road_text.specs.Standing.{Stops, TextGives, SomeTextGives, SomeTextStops, IsNumbered};
+ghost use Rattle.road_text.specs.Reading.{Stops, TextGives, SomeTextGives, SomeTextStops, IsNumbered};
 
 use crate::ends::RoadRead;
 use crate::faults::{Halt, MEMORY, READ_FAILED, ReadFault, TOO_LONG};
@@ -17,14 +17,14 @@ const MAX_READS: u64 = 4_294_967_297;
 
 /// What the text gives that the reader has left.
 pub fn read_text<R: RoadRead, T: LineParser>(from: &mut R, parser: T) -> Result<T::Value, Halt>
-    requires { T.way.so_far parser [] }
-    ensures value { IfOk result (λ v. IfSome (R.left from.old) (λ all. TextGives T.way parser all (Ok v))) }
-    ensures some_text { IfOk result (λ v. SomeTextGives T.way parser (Ok v)) }
+    requires { T.meaning.so_far parser [] }
+    ensures value { IfOk result (λ v. IfSome (R.left from.old) (λ all. TextGives T.meaning parser all (Ok v))) }
+    ensures some_text { IfOk result (λ v. SomeTextGives T.meaning parser (Ok v)) }
     ensures end { OnOk result (IsAtEnd (R.left from.new)) }
     ensures sound { OnOk result (R.failures from.new ≡ R.failures from.old) }
     ensures asked { R.asked from.new ≤ R.asked from.old + 4294967297 }
-    ensures stops { IfErr result (λ h. Stops T.way parser (R.left from.old) (R.failures from.old) (R.failures from.new) h) }
-    ensures some_stops { IfErr result (SomeTextStops T.way parser) }
+    ensures stops { IfErr result (λ h. Stops T.meaning parser (R.left from.old) (R.failures from.old) (R.failures from.new) h) }
+    ensures some_stops { IfErr result (SomeTextStops T.meaning parser) }
     ensures numbered { IfErr result IsNumbered }
 {
     let mut reader = LineReader::new(parser);
@@ -44,11 +44,11 @@ pub fn read_whole<R: RoadRead, T: LineParser>(
     from: &mut R,
     parser: T,
 ) -> Result<T::Value, ReadFault>
-    requires { T.way.so_far parser [] }
-    ensures value { IfOk result (λ v. IfSome (R.left from.old) (λ all. TextGives T.way parser all (Ok v))) }
-    ensures some_text { IfOk result (λ v. SomeTextGives T.way parser (Ok v)) }
-    ensures fault { IfErr result (λ f. 2 ≤ f.number → f.number ≢ 3 → IfSome (R.left from.old) (λ all. TextGives T.way parser all (Err f))) }
-    ensures some_fault { IfErr result (λ f. 2 ≤ f.number → f.number ≢ 3 → SomeTextGives T.way parser (Err f)) }
+    requires { T.meaning.so_far parser [] }
+    ensures value { IfOk result (λ v. IfSome (R.left from.old) (λ all. TextGives T.meaning parser all (Ok v))) }
+    ensures some_text { IfOk result (λ v. SomeTextGives T.meaning parser (Ok v)) }
+    ensures fault { IfErr result (λ f. 2 ≤ f.number → f.number ≢ 3 → IfSome (R.left from.old) (λ all. TextGives T.meaning parser all (Err f))) }
+    ensures some_fault { IfErr result (λ f. 2 ≤ f.number → f.number ≢ 3 → SomeTextGives T.meaning parser (Err f)) }
     ensures sound { OnOk result (R.failures from.new ≡ R.failures from.old) }
     ensures told { TellsFailure (R.failures from.old) (R.failures from.new) result }
     ensures untold { TellsNoOther (R.failures from.old) (R.failures from.new) result }

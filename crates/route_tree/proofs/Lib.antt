@@ -1,4 +1,3 @@
-pub mod Elements
 pub mod LevelsAreLeast
 pub mod OneArc
 pub mod OneVertex

@@ -12,10 +12,10 @@ use Rattle.scholten_core.specs.Items.{item_arc, item_of, pump_made, settle_made,
 use Rattle.scholten_core.proofs.Basics.{put_tells, due_tells}
 use Rattle.shard_part.specs.Tallies.{counted_on, top}
 use Rattle.shard_part.specs.PartState.{PartData, Setup, Lanes, lanes_of, network_in, place_in, state_in, token_if, total, is_told, is_back, mine, routes, route, outgoing, arrive_here, settle_here, taken, made, vertex_of, IsArc, TookIn}
-use Rattle.shard_part.specs.Moves.{Rows, IsStored, IsPlanned, IsPopped, greeted, offered, offered_all, rested, with_value, with_free, with_taken}
+use Rattle.shard_part.specs.Moves.{Rows, IsStored, IsPlanned, IsPopped, engaged_or_answered, offered, offered_all, rested, with_value, with_free, with_taken}
 use Rattle.shard_part.specs.Part.{OwnIdleIsTold}
 use Rattle.shard_part.proofs.Spread.{table_long}
-use Rattle.shard_part.proofs.Flying.{outgoing_is}
+use Rattle.shard_part.proofs.InFlight.{outgoing_is}
 use Rattle.shard_part.proofs.Moves.{formed}
 use Rattle.shard_part.proofs.Graphs.{head_of_arc, head_of_entry, tail_of_arc, tail_of_entry}
 use Rattle.shard_part.proofs.Pumping.{offered_none}
@@ -91,9 +91,9 @@ module _ {S V : Type 0} (A : Algebra V) where
       let v = (network_in p.setup).head a in
       let p2 : PartData S V = record p { labels = ls; engagers = es; queue = qs; outs = os; signalled = m } in
       let q : PartData S V = rested A ((network_in p.setup).head a) (offered_all A ((network_in p.setup).head a) xs (record p { labels = ls; engagers = es; queue = qs; outs = os; signalled = m })) in
-      let greets : (λ j. get_or es j None) ≡ put (state_in p).engager ((network_in p.setup).head a) (engaged_by ((state_in p).engager ((network_in p.setup).head a)) a) =
+      let engages_or_answers : (λ j. get_or es j None) ≡ put (state_in p).engager ((network_in p.setup).head a) (engaged_by ((state_in p).engager ((network_in p.setup).head a)) a) =
       engager ∙ ap (λ u. put (state_in p).engager ((network_in p.setup).head a) (engaged_by u a)) (sym e) in
-      let here : state_in p2 ≡ arrive_here A N a x (state_in p) = λ i. record { label = label i; engager = greets i; token = (state_in p).token; told = (state_in p).told } in
+      let here : state_in p2 ≡ arrive_here A N a x (state_in p) = λ i. record { label = label i; engager = engages_or_answers i; token = (state_in p).token; told = (state_in p).told } in
       let R = settles A v xs (outgoing N v) p2 F.sent top_m long D within
       (subst (λ d. (b : ℕ) → (Listed A N b xs → ⊥) → is_due A N v d b ≡ false) (sym here) quiet)
       (subst (λ d. pump_made A N v d (outgoing N v) ≡ pump_made A N v d xs) (sym here) same) in
@@ -140,7 +140,7 @@ module _ {S V : Type 0} (A : Algebra V) where
 
       go : (t : Bool) → improves A x ((state_in p).label v) ≡ t → (o : Option ℕ) → (state_in p).engager v ≡ o →
           Made A (taken A N (MessageOn a x) (state_in p)) (made A N (MessageOn a x) (state_in p)) p
-          (rested A v (cond t (offered_all A v (outgoing N v) (greeted a v o (cond t (record p { labels = set p.labels v (Some x) }) p))) (greeted a v o (cond t (record p { labels = set p.labels v (Some x) }) p))))
+          (rested A v (cond t (offered_all A v (outgoing N v) (engaged_or_answered a v o (cond t (record p { labels = set p.labels v (Some x) }) p))) (engaged_or_answered a v o (cond t (record p { labels = set p.labels v (Some x) }) p))))
       go true t None e = arrived L p a x None (set p.labels v (Some x)) (set p.engagers v (Some a)) p.queue p.outs p.signalled (outgoing N v) F F.signalled
           (let l = length-set p.engagers v (Some a) in omega (arith, l, long_e)) e (new_label t) (put_set p.engagers v (Some a) None long_e) refl (sym (counted_none p.signalled F.signalled))
           O.distinct (out_within p W F v n) (others_quiet A L N v (arrive_here A N a x (state_in p)) (outgoing N v) O) refl

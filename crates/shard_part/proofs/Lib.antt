@@ -1,5 +1,5 @@
 pub mod Weights
-pub mod Flying
+pub mod InFlight
 pub mod Here
 pub mod Quick
 pub mod Routed
@@ -27,10 +27,10 @@ pub mod ToldKept
 pub mod TakenCounts
 pub mod TakenShown
 pub mod Counting
-pub mod RoomsByVertex
+pub mod CapacitiesByVertex
 pub mod Opened
 pub mod Receiving
-pub mod Sites
+pub mod ShardLayouts
 pub mod BatchFits
 pub mod TablesOpen
 pub mod OpenedAll

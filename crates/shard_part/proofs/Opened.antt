@@ -15,7 +15,7 @@ use Rattle.scholten_core.proofs.Basics.{put-at, put-other}
 use Rattle.scholten_core.proofs.Networks.{tail-arc, head-entry, tail-entry}
 use Rattle.shard_part.specs.Tables.{spread, placed}
 use Rattle.scholten_core.specs.Deficit.{busy_out}
-use Rattle.shard_part.specs.PartState.{Setup, PartData, network_in, place_in, state_in, token_if, own_in, arcs_out, arcs_from, outgoing, total, outs_weight, part_weight, engages, idles, names, is, All, vertex_of, maker_of, at_place, flying, IsArc, IsSound, HoldsShare, queue_room, out_room}
+use Rattle.shard_part.specs.PartState.{Setup, PartData, network_in, place_in, state_in, token_if, own_in, arcs_out, arcs_from, outgoing, total, outs_weight, part_weight, engages, idles, names, is, All, vertex_of, maker_of, at_place, in_flight, IsArc, IsSound, HoldsShare, queue_bound, outbox_bound}
 use Rattle.shard_part.specs.Moves.{Rows, seen_as, IsPlanned, IsCounted, IsStored}
 use Rattle.shard_part.specs.Opening.{is_first, first_items, opened_part, AreStarts, idle_rows}
 use Rattle.shard_part.proofs.Weights.{sum_at, sum_zero}
@@ -178,7 +178,7 @@ module _ {S V : Type 0} (A : Algebra V) (t : Setup S) (s : ℕ) (P : IsPlanned t
 
   pub opened_stored : (r : Rows V) (offsets : List ℕ) (arcs : ℕ) (queue : List (Item V)) (outs : List (List (Item V))) (sent n : ℕ) (ns : List ℕ) → AreStarts (network_in t) (own_in t s) offsets arcs → r ≡ idle_rows (own_in t s) offsets arcs (is_first t s) →
       queue ≡ first_items A (is_first t s) → outs ≡ replicate t.plan.shards [] → sent ≡ one_if (is_first t s) →
-      n ≡ queue_room (network_in t) (place_in t) s → length ns ≡ t.plan.shards → ((k : ℕ) → k ≢ s → k < t.plan.shards → get_or ns k 0 ≡ out_room (network_in t) (place_in t) s k) →
+      n ≡ queue_bound (network_in t) (place_in t) s → length ns ≡ t.plan.shards → ((k : ℕ) → k ≢ s → k < t.plan.shards → get_or ns k 0 ≡ outbox_bound (network_in t) (place_in t) s k) →
       IsStored (seen_as t s r queue outs sent 0 0 0) r n ns
   opened_stored r offsets arcs queue outs sent n ns B e q o c room long caps =
       let E = opened_seen r offsets arcs queue outs sent B e q o c in
@@ -212,7 +212,7 @@ module _ {S V : Type 0} (A : Algebra V) (t : Setup S) (s : ℕ) (P : IsPlanned t
       })
 
   -- nor does anything but it in the opening
-  pub opening_weight : (h : ℕ → Item V → ℕ) → flying (network_in t) (place_in t) (opening A (network_in t)) h ≡ h (place_in t 0) (MessageOn 0 A.origin)
+  pub opening_weight : (h : ℕ → Item V → ℕ) → in_flight (network_in t) (place_in t) (opening A (network_in t)) h ≡ h (place_in t 0) (MessageOn 0 A.origin)
   opening_weight h =
       let f : ℕ → ℕ = λ b. total (at_place (network_in t) (place_in t) h) (item_of b (put (λ _. Idle) 0 (Message A.origin) b)) in
       let d = sum_at f (λ b. 0) 0 (suc (length t.roads.arcs)) (omega arith) (λ b nz. ap (λ k. total (at_place (network_in t) (place_in t) h) (item_of b k)) (put-other (λ _. Idle) 0 (Message A.origin) b nz)) in

@@ -7,7 +7,7 @@ use Rattle.road_graph.specs.Roads.{HasVertex, IsTurn, ListsArcsFrom, ListsRoadsF
 use Rattle.scholten_core.specs.Network.{WellFormed}
 use Rattle.scholten_core.specs.Diffusion.{is_due, extend_label, improves}
 use Rattle.shard_part.specs.PartState.{Setup, PartData, state_in, network_in, outgoing, own_in, IsArc}
-use Rattle.shard_part.specs.Moves.{Rows, IsStored, IsPlace, IsRow, with_message, greeted, labelled, offered, offered_all, rested, with_value}
+use Rattle.shard_part.specs.Moves.{Rows, IsStored, IsPlace, IsRow, with_message, engaged_or_answered, labelled, offered, offered_all, rested, with_value}
 use Rattle.scholten_core.proofs.Networks.{tail-arc}
 use Rattle.shard_part.proofs.Graphs.{out_is, roads_are, road_is}
 use Rattle.shard_part.proofs.Moves.{formed}
@@ -71,9 +71,9 @@ module _ {S V : Type 0} (A : Algebra V) where
       go true = (refl, refl, refl)
       go false = (refl, refl, refl)
 
-  pub greeted_same : (a v : ℕ) (o : Option ℕ) (p : PartData S V) → ((greeted a v o p).setup ≡ p.setup) × ((greeted a v o p).shard ≡ p.shard)
-  greeted_same a v None p = (refl, refl)
-  greeted_same a v (Some e) p = (refl, refl)
+  pub engaged_or_answered_same : (a v : ℕ) (o : Option ℕ) (p : PartData S V) → ((engaged_or_answered a v o p).setup ≡ p.setup) × ((engaged_or_answered a v o p).shard ≡ p.shard)
+  engaged_or_answered_same a v None p = (refl, refl)
+  engaged_or_answered_same a v (Some e) p = (refl, refl)
 
   pub pumped_same : (t : Bool) (v : ℕ) (bs : List ℕ) (p : PartData S V) → ((cond t (offered_all A v bs p) p).setup ≡ p.setup) × ((cond t (offered_all A v bs p) p).shard ≡ p.shard)
   pumped_same true v bs p = offered_all_same v bs p
@@ -119,26 +119,26 @@ module _ {S V : Type 0} where
       road_is old.setup.roads old.setup.source v k b rs d (roads_are A p.setup.roads p.setup.source v rs h2.0 o ∙ ap (λ (u : PartData S V). roads_of u.setup.roads (outgoing (network_in u.setup) v)) e) l h
 
   -- a message, step by step
-  pub message_handled : (meaning : S → Algebra V) (p p1 p2 p3 p4 : PartData S V) (a v w : ℕ) (x : V) (t : Bool) → v ≡ w → p1 ≡ labelled (meaning p.setup.algebra) x v p → p2 ≡ greeted a v ((state_in p1).engager v) p1 →
+  pub message_handled : (meaning : S → Algebra V) (p p1 p2 p3 p4 : PartData S V) (a v w : ℕ) (x : V) (t : Bool) → v ≡ w → p1 ≡ labelled (meaning p.setup.algebra) x v p → p2 ≡ engaged_or_answered a v ((state_in p1).engager v) p1 →
       t ≡ improves (meaning p.setup.algebra) x ((state_in p).label v) → p3 ≡ cond t (offered_all (meaning p2.setup.algebra) v (outgoing (network_in p2.setup) v) p2) p2 →
       p4 ≡ rested (meaning p3.setup.algebra) v p3 → p4 ≡ with_value (meaning p.setup.algebra) a x w p
   message_handled meaning p p1 p2 p3 p4 a v w x t vw e1 e2 et e3 e4 =
       let L = improve_same (meaning p.setup.algebra) x v p in
       let s1 : p1.setup ≡ p.setup = ap (λ (u : PartData S V). u.setup) e1 ∙ L.0 in
       let g1 : (state_in p1).engager v ≡ (state_in p).engager v = ap (λ (u : PartData S V). (state_in u).engager v) e1 ∙ ap (λ f. f v) L.2 in
-      let s2 : p2.setup ≡ p.setup = ap (λ (u : PartData S V). u.setup) e2 ∙ (greeted_same (meaning p.setup.algebra) a v ((state_in p1).engager v) p1).0 ∙ s1 in
+      let s2 : p2.setup ≡ p.setup = ap (λ (u : PartData S V). u.setup) e2 ∙ (engaged_or_answered_same (meaning p.setup.algebra) a v ((state_in p1).engager v) p1).0 ∙ s1 in
       let s3 : p3.setup ≡ p.setup = ap (λ (u : PartData S V). u.setup) e3 ∙ (pumped_same (meaning p2.setup.algebra) t v (outgoing (network_in p2.setup) v) p2).0 ∙ s2 in
-      let q2 : p2 ≡ greeted a v ((state_in p).engager v) (labelled (meaning p.setup.algebra) x v p) = e2 ∙ (λ i. greeted a v (g1 i) (e1 i)) in
-      let q3 : p3 ≡ cond (improves (meaning p.setup.algebra) x ((state_in p).label v)) (offered_all (meaning p.setup.algebra) v (outgoing (network_in p.setup) v) (greeted a v ((state_in p).engager v) (labelled (meaning p.setup.algebra) x v p))) (greeted a v ((state_in p).engager v) (labelled (meaning p.setup.algebra) x v p)) =
+      let q2 : p2 ≡ engaged_or_answered a v ((state_in p).engager v) (labelled (meaning p.setup.algebra) x v p) = e2 ∙ (λ i. engaged_or_answered a v (g1 i) (e1 i)) in
+      let q3 : p3 ≡ cond (improves (meaning p.setup.algebra) x ((state_in p).label v)) (offered_all (meaning p.setup.algebra) v (outgoing (network_in p.setup) v) (engaged_or_answered a v ((state_in p).engager v) (labelled (meaning p.setup.algebra) x v p))) (engaged_or_answered a v ((state_in p).engager v) (labelled (meaning p.setup.algebra) x v p)) =
       e3 ∙ (λ i. cond (et i) (offered_all (meaning (s2 i).algebra) v (outgoing (network_in (s2 i)) v) (q2 i)) (q2 i)) in
       e4 ∙ (λ i. rested (meaning (s3 i).algebra) v (q3 i)) ∙ ap (λ z. with_value (meaning p.setup.algebra) a x z p) vw
 
   -- the part stays of its shard and setup
-  pub message_keeps : (meaning : S → Algebra V) (p p1 p2 p3 : PartData S V) (a v j : ℕ) (x : V) (t : Bool) → p1 ≡ labelled (meaning p.setup.algebra) x v p → p2 ≡ greeted a v ((state_in p1).engager v) p1 →
+  pub message_keeps : (meaning : S → Algebra V) (p p1 p2 p3 : PartData S V) (a v j : ℕ) (x : V) (t : Bool) → p1 ≡ labelled (meaning p.setup.algebra) x v p → p2 ≡ engaged_or_answered a v ((state_in p1).engager v) p1 →
       p3 ≡ cond t (offered_all (meaning p2.setup.algebra) v (outgoing (network_in p2.setup) v) p2) p2 → IsPlace p v j → IsPlace p3 v j
   message_keeps meaning p p1 p2 p3 a v j x t e1 e2 e3 P =
       let L = improve_same (meaning p.setup.algebra) x v p in
-      let G = greeted_same (meaning p.setup.algebra) a v ((state_in p1).engager v) p1 in
+      let G = engaged_or_answered_same (meaning p.setup.algebra) a v ((state_in p1).engager v) p1 in
       let M = pumped_same (meaning p2.setup.algebra) t v (outgoing (network_in p2.setup) v) p2 in
       place_same (meaning p.setup.algebra) p p3 v j
       (ap (λ (u : PartData S V). u.setup) e3 ∙ M.0 ∙ ap (λ (u : PartData S V). u.setup) e2 ∙ G.0 ∙ ap (λ (u : PartData S V). u.setup) e1 ∙ L.0)

@@ -9,7 +9,7 @@ use Rattle.path_algebra.specs.Algebra.{IsLawful as Lawful}
 use Rattle.scholten_core.specs.Network.{Network}
 use Rattle.scholten_core.specs.Diffusion.{CoreState}
 use Rattle.scholten_core.specs.Items.{item_arc, item_of}
-use Rattle.shard_part.specs.PartState.{PartData, total, outs_weight, part_weight, mail_weight, at_place, flying, is, ShowsIn, with_shard, outs_places, part_places, parts_places, mail_places, on, place_of_token}
+use Rattle.shard_part.specs.PartState.{PartData, total, outs_weight, part_weight, mail_weight, at_place, in_flight, is, ShowsIn, with_shard, outs_places, part_places, parts_places, mail_places, on, place_of_token}
 use Rattle.shard_part.proofs.Weights.{total_append, sum_at, sum_zero}
 use Rattle.shard_part.proofs.TakenIsEvent.{marks, marks_self, marks_true}
 
@@ -63,7 +63,7 @@ module _ {V : Type 0} where
       λ k. (m.0 k, m.1 k) ∷ none k
 
 module _ {V : Type 0} (N : Network) (place : ℕ → ℕ) where
-  only_arc : (c : CoreState V) (b : ℕ) (g : ℕ → Item V → ℕ) → b < suc N.arcs → flying N place c (only_on b g) ≡ total (at_place N place g) (item_of b (c.token b))
+  only_arc : (c : CoreState V) (b : ℕ) (g : ℕ → Item V → ℕ) → b < suc N.arcs → in_flight N place c (only_on b g) ≡ total (at_place N place g) (item_of b (c.token b))
   only_arc c b g lt =
       let differ = sum_at (λ k. total (at_place N place (only_on b g)) (item_of k (c.token k))) (λ _. 0) b (suc N.arcs) lt (λ k n. off k n (c.token k)) in
       let zeros = sum_zero (λ _. 0) (suc N.arcs) (λ _. refl) in

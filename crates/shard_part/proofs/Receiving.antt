@@ -12,7 +12,7 @@ use Rattle.scholten_core.specs.Diffusion.{is_idle}
 use Rattle.scholten_core.specs.Items.{item_arc}
 use Rattle.scholten_core.specs.Sums.{one_if}
 use Rattle.scholten_core.proofs.Networks.{tail-arc, head-arc}
-use Rattle.shard_part.specs.PartState.{PartData, network_in, place_in, state_in, token_if, vertex_of, maker_of, IsArc, IsSound, queue_room, out_room, counted, is, names, All, engages, idles}
+use Rattle.shard_part.specs.PartState.{PartData, network_in, place_in, state_in, token_if, vertex_of, maker_of, IsArc, IsSound, queue_bound, outbox_bound, counted, is, names, All, engages, idles}
 use Rattle.shard_part.specs.Moves.{Rows, IsStored, IsRow}
 use Rattle.shard_part.specs.Exchange.{Fits, FitsAlone, MayEngage, Awaits}
 use Rattle.shard_part.specs.Readings.{has_ended}
@@ -29,11 +29,11 @@ module _ {S V : Type 0} where
   pub queue_within : (A : Algebra V) (p : PartData S V) (r : Rows V) (n : ℕ) (ns : List ℕ) → IsStored p r n ns → length p.queue ≤ n
   queue_within A p r n ns D = let f = sound_fits A (network_in p.setup) (place_in p.setup) (formed p p.shard D.planned) p D.sound in let q = D.roomy.queue in omega (arith, f, q)
 
-  pub room_is : (A : Algebra V) (p old : PartData S V) (r : Rows V) (n : ℕ) (ns : List ℕ) (k l : ℕ) → p ≡ old → IsStored p r n ns → k ≡ n → l ≡ length p.queue → k - l + length old.queue ≡ queue_room (network_in old.setup) (place_in old.setup) old.shard
+  pub room_is : (A : Algebra V) (p old : PartData S V) (r : Rows V) (n : ℕ) (ns : List ℕ) (k l : ℕ) → p ≡ old → IsStored p r n ns → k ≡ n → l ≡ length p.queue → k - l + length old.queue ≡ queue_bound (network_in old.setup) (place_in old.setup) old.shard
   room_is A p old r n ns k l e D h q =
       let w = queue_within A p r n ns D in
-      let m : k - l + length p.queue ≡ queue_room (network_in p.setup) (place_in p.setup) p.shard = (let c = D.roomy.queue in omega (arith, w, c, h, q)) in
-      subst (λ (u : PartData S V). k - l + length u.queue ≡ queue_room (network_in u.setup) (place_in u.setup) u.shard) e m
+      let m : k - l + length p.queue ≡ queue_bound (network_in p.setup) (place_in p.setup) p.shard = (let c = D.roomy.queue in omega (arith, w, c, h, q)) in
+      subst (λ (u : PartData S V). k - l + length u.queue ≡ queue_bound (network_in u.setup) (place_in u.setup) u.shard) e m
 
   -- the environment's arc has the first row
   pub entry_row : (p old : PartData S V) (r : Rows V) (n : ℕ) (ns : List ℕ) → p ≡ old → IsStored p r n ns → IsRow old 0 0
@@ -73,14 +73,14 @@ module _ {S V : Type 0} where
           go (o ∷ os) (suc to) = go os to
 
   pub swap_leaves : {X : Type 0} (its : X → List (Item V)) (caps : X → ℕ) (rs : List X) (p old : PartData S V) (r : Rows V) (n to : ℕ) (x new : X) → p ≡ old → IsStored p r n (map caps rs) → p.outs ≡ map its rs →
-      to ≢ old.shard → to < old.setup.plan.shards → x ≡ get_or rs to x → its new ≡ [] → caps new ≡ out_room (network_in old.setup) (place_in old.setup) old.shard to →
+      to ≢ old.shard → to < old.setup.plan.shards → x ≡ get_or rs to x → its new ≡ [] → caps new ≡ outbox_bound (network_in old.setup) (place_in old.setup) old.shard to →
       IsStored (record p { outs = map its (set rs to new) }) r n (map caps (set rs to new)) × (record p { outs = map its (set rs to new) } ≡ record old { outs = set old.outs to [] }) × (its x ≡ get_or old.outs to []) × (caps x ≡ caps new)
   swap_leaves its caps rs p old r n to x new e D o ne lt read empty cap =
       let many : to < p.setup.plan.shards = subst (λ (u : PartData S V). to < u.setup.plan.shards) (sym e) lt in
       let other : to ≢ p.shard = subst (λ (u : PartData S V). to ≢ u.shard) (sym e) ne in
       let inside : to < length rs = (let a = D.roomy.boxes in let b = ap length o in let c = length-map rs its in omega (arith, a, b, c, many)) in
       let outs : map its (set rs to new) ≡ set p.outs to [] = map-set its rs to new ∙ (λ i. set (sym o i) to (empty i)) in
-      let was : caps x ≡ caps new = sym (map_read caps rs to 0 x inside read) ∙ D.roomy.outs to other many ∙ ap (λ (u : PartData S V). out_room (network_in u.setup) (place_in u.setup) u.shard to) e ∙ sym cap in
+      let was : caps x ≡ caps new = sym (map_read caps rs to 0 x inside read) ∙ D.roomy.outs to other many ∙ ap (λ (u : PartData S V). outbox_bound (network_in u.setup) (place_in u.setup) u.shard to) e ∙ sym cap in
       let ns : map caps (set rs to new) ≡ map caps rs = map_kept caps rs to x new inside read (sym was) in (
         subst (λ (ys : List (List (Item V))). IsStored (record p { outs = ys }) r n (map caps (set rs to new))) (sym outs)
             (subst (λ (ks : List ℕ). IsStored (record p { outs = set p.outs to [] }) r n ks) (sym ns) (with_outs p r n (map caps rs) (set p.outs to []) D (length-set p.outs to []) (emptied_sound p to D.sound))),
@@ -143,10 +143,10 @@ module _ {S V : Type 0} where
       wide = D.wide;
     }
 
-    pub receive_leaves : (p old : PartData S V) (r : Rows V) (n : ℕ) (ns : List ℕ) (batch : List (Item V)) → p ≡ old → IsStored p r n ns → length old.queue + length batch ≤ queue_room (network_in old.setup) (place_in old.setup) old.shard → Fits A old batch →
+    pub receive_leaves : (p old : PartData S V) (r : Rows V) (n : ℕ) (ns : List ℕ) (batch : List (Item V)) → p ≡ old → IsStored p r n ns → length old.queue + length batch ≤ queue_bound (network_in old.setup) (place_in old.setup) old.shard → Fits A old batch →
         (length p.queue + length batch ≤ n) × ((new : Buffer (Item V)) → new ≡ buffer (p.queue ++ batch) n → IsStored (record p { queue = new.items }) r new.capacity ns × (record p { queue = new.items } ≡ record old { queue = old.queue ++ batch }))
     receive_leaves p old r n ns batch e D l F =
-        let l2 : length p.queue + length batch ≤ queue_room (network_in p.setup) (place_in p.setup) p.shard = subst (λ (u : PartData S V). length u.queue + length batch ≤ queue_room (network_in u.setup) (place_in u.setup) u.shard) (sym e) l in
+        let l2 : length p.queue + length batch ≤ queue_bound (network_in p.setup) (place_in p.setup) p.shard = subst (λ (u : PartData S V). length u.queue + length batch ≤ queue_bound (network_in u.setup) (place_in u.setup) u.shard) (sym e) l in
         let F2 : Fits A p batch = subst (λ (u : PartData S V). Fits A u batch) (sym e) F in (
           (let q = D.roomy.queue in omega (arith, q, l2)),
           λ new w. (

@@ -7,7 +7,7 @@ use Rattle.path_algebra.specs.Algebra.{Algebra}
 use Rattle.scholten_core.specs.Network.{Network, WellFormed}
 use Rattle.scholten_core.specs.Sums.{sum_below, one_if}
 use Rattle.scholten_core.specs.Items.{item_arc, at}
-use Rattle.shard_part.specs.PartState.{PartData, total, counted, is, All, IsArc, IsSound, vertex_of, touches, queue_room, joins, out_room, maker_of}
+use Rattle.shard_part.specs.PartState.{PartData, total, counted, is, All, IsArc, IsSound, vertex_of, touches, queue_bound, joins, outbox_bound, maker_of}
 use Rattle.scholten_core.proofs.Items.{at-skip, at-nil}
 use Rattle.shard_part.proofs.Weights.{total_by_arc}
 use Rattle.shard_part.proofs.Room.{each_one, outs_member}
@@ -82,9 +82,9 @@ module _ {V : Type 0} (A : Algebra V) (N : Network) (place : ℕ → ℕ) where
 
 module _ {S V : Type 0} (A : Algebra V) (N : Network) (place : ℕ → ℕ) where
   -- with no core in sight
-  pub sound_fits : WellFormed N → (p : PartData S V) → IsSound N place p → length p.queue ≤ queue_room N place p.shard
+  pub sound_fits : WellFormed N → (p : PartData S V) → IsSound N place p → length p.queue ≤ queue_bound N place p.shard
   sound_fits W p H = lists_fit A N (touches N place p.shard) W p.queue (queue_counts A N place p.shard p.queue H.here) (λ b. let o = H.once b in omega (arith, o))
 
-  pub sound_out_fits : WellFormed N → (p : PartData S V) → IsSound N place p → (t : ℕ) → length (get_or p.outs t []) ≤ out_room N place p.shard t
+  pub sound_out_fits : WellFormed N → (p : PartData S V) → IsSound N place p → (t : ℕ) → length (get_or p.outs t []) ≤ outbox_bound N place p.shard t
   sound_out_fits W p H t = lists_fit A N (joins N place p.shard t) W (get_or p.outs t []) (outbox_counts A N place p.shard t (get_or p.outs t []) (H.gone t))
       (λ b. let o = H.once b in let m = outs_member (λ _ j. is b (item_arc j)) 0 t p.outs in omega (arith, o, m))

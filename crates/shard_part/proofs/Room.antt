@@ -9,7 +9,7 @@ use Rattle.scholten_core.specs.Network.{Network}
 use Rattle.scholten_core.specs.Diffusion.{CoreState, is_idle}
 use Rattle.scholten_core.specs.Sums.{sum_below, one_if}
 use Rattle.scholten_core.specs.Items.{item_arc, item_of}
-use Rattle.shard_part.specs.PartState.{PartData, state_in, total, outs_weight, part_weight, at_place, is, mine, HoldsShare, HoldsTables, touches, queue_room}
+use Rattle.shard_part.specs.PartState.{PartData, state_in, total, outs_weight, part_weight, at_place, is, mine, HoldsShare, HoldsTables, touches, queue_bound}
 use Rattle.scholten_core.proofs.Kept.{Kept}
 use Rattle.shard_part.proofs.Showing.{is_self}
 use Rattle.scholten_core.proofs.Sums.{sum_most}
@@ -62,7 +62,7 @@ module _ {V : Type 0} (N : Network) (place : ℕ → ℕ) where
 
 module _ {S V : Type 0} (A : Algebra V) (N : Network) (place : ℕ → ℕ) where
   -- the queue never outgrows its ring. With the queue joined by a batch: what `receive` asks as room
-  pub queue_fits : (c : CoreState V) (p : PartData S V) → HoldsShare A N place c p → length p.queue ≤ queue_room N place p.shard
+  pub queue_fits : (c : CoreState V) (p : PartData S V) → HoldsShare A N place c p → length p.queue ≤ queue_bound N place p.shard
   queue_fits c p H =
       let w = H.weighs (at_shard N place p.shard) in
       let n = each_one (at_shard N place p.shard p.shard) p.queue (λ i. is_self p.shard) in

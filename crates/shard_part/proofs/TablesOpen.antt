@@ -5,27 +5,27 @@ use Rattle.path_algebra.specs.Algebra.{Algebra}
 use Rattle.scholten_core.specs.declared.item.Item.{Item}
 use Rattle.scholten_core.specs.Sums.{sum_below, one_if}
 use Rattle.shard_part.specs.Tables.{placed}
-use Rattle.shard_part.specs.PartState.{Setup, network_in, place_in, own_in, total, out_room, queue_room}
+use Rattle.shard_part.specs.PartState.{Setup, network_in, place_in, own_in, total, outbox_bound, queue_bound}
 use Rattle.shard_part.specs.Moves.{Rows, seen_as, IsPlanned, IsStored}
-use Rattle.shard_part.specs.Opening.{SiteData, question_of, is_first, first_items, opened_part, idle_rows, AreStarts, CountsAll}
+use Rattle.shard_part.specs.Opening.{ShardLayoutData, question_of, is_first, first_items, opened_part, idle_rows, AreStarts, CountsAll}
 use Rattle.shard_part.proofs.Counting.{total_index}
-use Rattle.shard_part.proofs.RoomsByVertex.{rooms_sum, queue_room_most, queue_room_first}
+use Rattle.shard_part.proofs.CapacitiesByVertex.{capacities_sum, queue_bound_most, queue_bound_first}
 use Rattle.shard_part.proofs.Opened.{place_below, place_source, arcs_first, opened_seen, opened_stored}
 
-module _ (w : SiteData) (P : IsPlanned (question_of w) w.shard) where
-  pub sum_is : (rooms : List ℕ) → CountsAll w rooms → total (λ n. n) rooms ≡ queue_room (network_in (question_of w)) (place_in (question_of w)) w.shard
-  sum_is rooms C =
-      total_index rooms (out_room (network_in (question_of w)) (place_in (question_of w)) w.shard) (λ t l. C.1 t (let q = C.0 in omega (arith, q, l)))
-      ∙ ap (sum_below (out_room (network_in (question_of w)) (place_in (question_of w)) w.shard)) C.0
-      ∙ rooms_sum (network_in (question_of w)) (place_in (question_of w)) w.shard w.plan.shards (place_below (question_of w) w.shard P)
+module _ (w : ShardLayoutData) (P : IsPlanned (question_of w) w.shard) where
+  pub sum_is : (capacities : List ℕ) → CountsAll w capacities → total (λ n. n) capacities ≡ queue_bound (network_in (question_of w)) (place_in (question_of w)) w.shard
+  sum_is capacities C =
+      total_index capacities (outbox_bound (network_in (question_of w)) (place_in (question_of w)) w.shard) (λ t l. C.1 t (let q = C.0 in omega (arith, q, l)))
+      ∙ ap (sum_below (outbox_bound (network_in (question_of w)) (place_in (question_of w)) w.shard)) C.0
+      ∙ capacities_sum (network_in (question_of w)) (place_in (question_of w)) w.shard w.plan.shards (place_below (question_of w) w.shard P)
 
-  pub sum_small : (rooms xs : List ℕ) → CountsAll w rooms → xs ≡ rooms → total (λ n. n) xs ≤ 2 ^ 32
-  sum_small rooms xs C e = let a = sum_is rooms C in let b = ap (total (λ n. n)) e in let m = queue_room_most (network_in (question_of w)) (place_in (question_of w)) w.shard in let f = P.roads.few_arcs in omega (arith, a, b, m, f)
+  pub sum_small : (capacities xs : List ℕ) → CountsAll w capacities → xs ≡ capacities → total (λ n. n) xs ≤ 2 ^ 32
+  sum_small capacities xs C e = let a = sum_is capacities C in let b = ap (total (λ n. n)) e in let m = queue_bound_most (network_in (question_of w)) (place_in (question_of w)) w.shard in let f = P.roads.few_arcs in omega (arith, a, b, m, f)
 
-  pub sum_first : (rooms xs : List ℕ) (sum : ℕ) (first : Bool) → CountsAll w rooms → xs ≡ rooms → sum ≡ total (λ n. n) xs → first ≡ is_first (question_of w) w.shard → first ≡ true → 1 ≤ sum
-  sum_first rooms xs sum first C e s f t =
-      let a = sum_is rooms C in let b = ap (total (λ n. n)) e in
-      let m = queue_room_first (network_in (question_of w)) (place_in (question_of w)) w.shard (place_source (question_of w) w.shard P ∙ eqb-true (place_in (question_of w) 0) w.shard (sym f ∙ t)) in omega (arith, a, b, s, m)
+  pub sum_first : (capacities xs : List ℕ) (sum : ℕ) (first : Bool) → CountsAll w capacities → xs ≡ capacities → sum ≡ total (λ n. n) xs → first ≡ is_first (question_of w) w.shard → first ≡ true → 1 ≤ sum
+  sum_first capacities xs sum first C e s f t =
+      let a = sum_is capacities C in let b = ap (total (λ n. n)) e in
+      let m = queue_bound_first (network_in (question_of w)) (place_in (question_of w)) w.shard (place_source (question_of w) w.shard P ∙ eqb-true (place_in (question_of w) 0) w.shard (sym f ∙ t)) in omega (arith, a, b, s, m)
 
   pub some_arc : (own xs offsets : List ℕ) (arcs : ℕ) → AreStarts (network_in (question_of w)) xs offsets arcs → xs ≡ own → own ≡ own_in (question_of w) w.shard → 1 ≤ arcs
   some_arc own xs offsets arcs B e o =
@@ -34,19 +34,19 @@ module _ (w : SiteData) (P : IsPlanned (question_of w) w.shard) where
 
 module _ {S : Type 0} (t : Setup S) (s : ℕ) where
   -- the shard of a question, without its algebra
-  abbrev pub site_of : SiteData
-  site_of = record { roads = t.roads; plan = t.plan; source = t.source; shard = s }
+  abbrev pub layout_of : ShardLayoutData
+  layout_of = record { roads = t.roads; plan = t.plan; source = t.source; shard = s }
 
-  pub same_place : place_in (question_of site_of) ≡ place_in t
+  pub same_place : place_in (question_of layout_of) ≡ place_in t
   unfolding place_in
   same_place = refl
 
-  pub planned_too : IsPlanned (question_of site_of) s → IsPlanned t s
+  pub planned_too : IsPlanned (question_of layout_of) s → IsPlanned t s
   planned_too P = record { roads = P.roads; source = P.source; plan = P.plan; covers = P.covers; shard = P.shard }
 
-module _ {S V : Type 0} (A : Algebra V) (t : Setup S) (s : ℕ) (P : IsPlanned (question_of (site_of t s)) s) (first : Bool) (own xs offsets rooms ys zs ns : List ℕ) (arcs sum sent : ℕ) (rows : Rows V) (queue : Buffer (Item V)) (outs : List (List (Item V)))
-    (F : first ≡ is_first (question_of (site_of t s)) s) (O : own ≡ own_in (question_of (site_of t s)) s) (X : xs ≡ own) (B : AreStarts (network_in (question_of (site_of t s))) xs offsets arcs)
-    (C : CountsAll (site_of t s) rooms) (Y : ys ≡ rooms) (T : sum ≡ total (λ n. n) ys) (Q : queue ≡ buffer (first_items A first) sum) (Z : zs ≡ set rooms s 0) (I : outs ≡ replicate (length zs) []) (K : ns ≡ zs)
+module _ {S V : Type 0} (A : Algebra V) (t : Setup S) (s : ℕ) (P : IsPlanned (question_of (layout_of t s)) s) (first : Bool) (own xs offsets capacities ys zs ns : List ℕ) (arcs sum sent : ℕ) (rows : Rows V) (queue : Buffer (Item V)) (outs : List (List (Item V)))
+    (F : first ≡ is_first (question_of (layout_of t s)) s) (O : own ≡ own_in (question_of (layout_of t s)) s) (X : xs ≡ own) (B : AreStarts (network_in (question_of (layout_of t s))) xs offsets arcs)
+    (C : CountsAll (layout_of t s) capacities) (Y : ys ≡ capacities) (T : sum ≡ total (λ n. n) ys) (Q : queue ≡ buffer (first_items A first) sum) (Z : zs ≡ set capacities s 0) (I : outs ≡ replicate (length zs) []) (K : ns ≡ zs)
     (R : rows ≡ idle_rows own offsets arcs first) (N : sent ≡ one_if first) where
   first_too : first ≡ is_first t s
   first_too = F ∙ ap (λ f. eqb (f 0) s) (same_place t s)
@@ -58,7 +58,7 @@ module _ {S V : Type 0} (A : Algebra V) (t : Setup S) (s : ℕ) (P : IsPlanned (
   starts_too = subst (λ os. AreStarts (network_in t) os offsets arcs) (X ∙ own_too) B
 
   long : length zs ≡ t.plan.shards
-  long = ap length Z ∙ length-set rooms s 0 ∙ C.0
+  long = ap length Z ∙ length-set capacities s 0 ∙ C.0
 
   pub made_seen : seen_as t s rows queue.items outs sent 0 0 0 ≡ opened_part A t s
   made_seen = opened_seen A t s (planned_too t s P) rows offsets arcs queue.items outs sent starts_too (R ∙ (λ i. idle_rows (own_too i) offsets arcs (first_too i)))
@@ -67,6 +67,6 @@ module _ {S V : Type 0} (A : Algebra V) (t : Setup S) (s : ℕ) (P : IsPlanned (
   pub made_stored : IsStored (seen_as t s rows queue.items outs sent 0 0 0) rows queue.capacity ns
   made_stored = opened_stored A t s (planned_too t s P) rows offsets arcs queue.items outs sent queue.capacity ns starts_too (R ∙ (λ i. idle_rows (own_too i) offsets arcs (first_too i)))
       (ap (λ q. q.items) Q ∙ ap (first_items A) first_too) (I ∙ ap (λ n. replicate n []) long) (N ∙ ap one_if first_too)
-      (ap (λ q. q.capacity) Q ∙ T ∙ ap (total (λ n. n)) Y ∙ sum_is (site_of t s) P rooms C ∙ ap (λ f. queue_room (network_in t) f s) (same_place t s))
+      (ap (λ q. q.capacity) Q ∙ T ∙ ap (total (λ n. n)) Y ∙ sum_is (layout_of t s) P capacities C ∙ ap (λ f. queue_bound (network_in t) f s) (same_place t s))
       (ap length K ∙ long)
-      (λ k ne l. ap (λ vs. get_or vs k 0) (K ∙ Z) ∙ get_or-set_other rooms s k 0 0 ne ∙ C.1 k l ∙ ap (λ f. out_room (network_in t) f s k) (same_place t s))
+      (λ k ne l. ap (λ vs. get_or vs k 0) (K ∙ Z) ∙ get_or-set_other capacities s k 0 0 ne ∙ C.1 k l ∙ ap (λ f. outbox_bound (network_in t) f s k) (same_place t s))

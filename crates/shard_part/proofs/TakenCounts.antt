@@ -17,7 +17,7 @@ use Rattle.scholten_core.proofs.Kept.{Kept, step_kept, run_kept}
 use Rattle.scholten_core.proofs.Ended.{opening_kept}
 use Rattle.scholten_core.proofs.Counts.{accounts}
 use Rattle.shard_part.specs.Tallies.{counted_on, top}
-use Rattle.shard_part.specs.PartState.{PartData, Setup, network_in, place_in, state_in, total, is_told, is_back, made, flying, part_weight, event_of, TookIn, TookAll, HoldsShare, Holds}
+use Rattle.shard_part.specs.PartState.{PartData, Setup, network_in, place_in, state_in, total, is_told, is_back, made, in_flight, part_weight, event_of, TookIn, TookAll, HoldsShare, Holds}
 use Rattle.shard_part.specs.Moves.{IsTallied}
 use Rattle.shard_part.specs.Part.{TookFront, TookMany, IsRunOn}
 use Rattle.shard_part.proofs.TakenIsEvent.{took_event, took_weighs}
@@ -26,8 +26,8 @@ use Rattle.scholten_core.proofs.Sums.{sum_same}
 
 module _ {V : Type 0} (N : Network) (place : ℕ → ℕ) where
   -- the messages under way are those that stand, and so are the signals
-  flying_told : (c : CoreState V) → flying N place c (λ _. is_told) ≡ sum_below (λ b. one_if (is_message (c.token b))) (suc N.arcs)
-  flying_told c = sum_same _ _ (suc N.arcs) (λ b. one b (c.token b))
+  in_flight_told : (c : CoreState V) → in_flight N place c (λ _. is_told) ≡ sum_below (λ b. one_if (is_message (c.token b))) (suc N.arcs)
+  in_flight_told c = sum_same _ _ (suc N.arcs) (λ b. one b (c.token b))
     where
       one : (b : ℕ) (t : Token V) → total is_told (item_of b t) ≡ one_if (is_message t)
       one b Idle = refl
@@ -35,8 +35,8 @@ module _ {V : Type 0} (N : Network) (place : ℕ → ℕ) where
       one b Held = refl
       one b Signal = refl
 
-  flying_back : (c : CoreState V) → flying N place c (λ _. is_back) ≡ sum_below (λ b. one_if (is_signal (c.token b))) (suc N.arcs)
-  flying_back c = sum_same _ _ (suc N.arcs) (λ b. one b (c.token b))
+  in_flight_back : (c : CoreState V) → in_flight N place c (λ _. is_back) ≡ sum_below (λ b. one_if (is_signal (c.token b))) (suc N.arcs)
+  in_flight_back c = sum_same _ _ (suc N.arcs) (λ b. one b (c.token b))
     where
       one : (b : ℕ) (t : Token V) → total is_back (item_of b t) ≡ one_if (is_signal t)
       one b Idle = refl
@@ -73,9 +73,9 @@ module _ {S V : Type 0} (A : Algebra V) (N : Network) (place : ℕ → ℕ) wher
       let s = back_if A N c i E.enabled in
       record {
         sent = (let w = took_weighs A N place p i q H.tables.wide T (λ _. is_told) in
-            let b = E.weighs (λ _. is_told) in let r = R.messages in let f = flying_told N place c in let g = flying_told N place (step A N c (event_of i)) in omega (arith, w, b, r, f, g, d));
+            let b = E.weighs (λ _. is_told) in let r = R.messages in let f = in_flight_told N place c in let g = in_flight_told N place (step A N c (event_of i)) in omega (arith, w, b, r, f, g, d));
         signalled = (let w = took_weighs A N place p i q H.tables.wide T (λ _. is_back) in
-            let b = E.weighs (λ _. is_back) in let r = R.signals in let f = flying_back N place c in let g = flying_back N place (step A N c (event_of i)) in omega (arith, w, b, r, f, g, s));
+            let b = E.weighs (λ _. is_back) in let r = R.signals in let f = in_flight_back N place c in let g = in_flight_back N place (step A N c (event_of i)) in omega (arith, w, b, r, f, g, s));
         delivered = d;
         accepted = s;
       }
@@ -86,7 +86,7 @@ module _ {S V : Type 0} (meaning : S → Algebra V) where
     pub enabled : count_enabled (meaning t.algebra) (network_in t) c (map event_of items) ≡ length items
     pub holds : HoldsShare (meaning t.algebra) (network_in t) (place_in t) (run_from (meaning t.algebra) (network_in t) c (map event_of items)) q
     pub setup : q.setup ≡ t
-    pub weighs : (h : ℕ → Item V → ℕ) → part_weight h q + flying (network_in t) (place_in t) c h ≡ part_weight h p + flying (network_in t) (place_in t) (run_from (meaning t.algebra) (network_in t) c (map event_of items)) h
+    pub weighs : (h : ℕ → Item V → ℕ) → part_weight h q + in_flight (network_in t) (place_in t) c h ≡ part_weight h p + in_flight (network_in t) (place_in t) (run_from (meaning t.algebra) (network_in t) c (map event_of items)) h
     pub sent : q.sent ≡ counted_on (sent_total (meaning t.algebra) (network_in t) c (map event_of items)) p.sent
     pub delivered : q.delivered ≡ counted_on (delivered_total (meaning t.algebra) (network_in t) c (map event_of items)) p.delivered
     pub signalled : q.signalled ≡ counted_on (signalled_total (meaning t.algebra) (network_in t) c (map event_of items)) p.signalled
@@ -146,7 +146,7 @@ module _ {S V : Type 0} (meaning : S → Algebra V) where
         enabled = R.enabled ∙ l;
         holds = subst (λ t. HoldsShare (meaning t.algebra) (network_in t) (place_in t) (state_after A N (events ++ map event_of items)) q) (sym R.setup)
             (subst (λ d. HoldsShare A N (place_in p.setup) d q) (sym (run_append A N (opening A N) events (map event_of items))) R.holds);
-        weighs = subst (λ d. (h : ℕ → Item V → ℕ) → part_weight h q + flying N (place_in p.setup) (state_after A N events) h ≡ part_weight h p + flying N (place_in p.setup) d h) (sym (run_append A N (opening A N) events (map event_of items))) R.weighs;
+        weighs = subst (λ d. (h : ℕ → Item V → ℕ) → part_weight h q + in_flight N (place_in p.setup) (state_after A N events) h ≡ part_weight h p + in_flight N (place_in p.setup) d h) (sym (run_append A N (opening A N) events (map event_of items))) R.weighs;
         sent = R.sent;
         delivered = R.delivered;
         signalled = R.signalled;

@@ -13,13 +13,13 @@ use Rattle.scholten_core.specs.Diffusion.{CoreState, arrive, freed, step, answer
 use Rattle.scholten_core.specs.Sums.{one_if}
 use Rattle.scholten_core.specs.Items.{item_arc, item_of, settle_made}
 use Rattle.scholten_core.specs.Shares.{Agree}
-use Rattle.shard_part.specs.PartState.{PartData, state_in, total, vertex_of, outgoing, taken, made, arrive_here, flying, at_place, event_of, lanes_weight, lanes_of, part_weight, mine, TookIn, HoldsTables, HoldsShare}
+use Rattle.shard_part.specs.PartState.{PartData, state_in, total, vertex_of, outgoing, taken, made, arrive_here, in_flight, at_place, event_of, lanes_weight, lanes_of, part_weight, mine, TookIn, HoldsTables, HoldsShare}
 use Rattle.scholten_core.proofs.Kept.{Kept, head_real}
 use Rattle.scholten_core.proofs.Shares.{agree_then, message_frame, signal_frame, freed_agree}
 use Rattle.shard_part.proofs.Here.{arrive_here_agree, message_here, signal_here}
 use Rattle.scholten_core.proofs.Parts.{settle_made_agree, token_told, token_back}
 use Rattle.shard_part.proofs.Weights.{sum_member}
-use Rattle.shard_part.proofs.Flying.{message_weighs, signal_weighs, last_weighs, outgoing_is}
+use Rattle.shard_part.proofs.InFlight.{message_weighs, signal_weighs, last_weighs, outgoing_is}
 use Rattle.shard_part.proofs.Routed.{routed}
 
 module _ {V : Type 0} (A : Algebra V) where
@@ -85,7 +85,7 @@ module _ {V : Type 0} (A : Algebra V) (N : Network) (place : ℕ → ℕ) where
   pub record Event1 (s : ℕ) (c d : CoreState V) (i : Item V) : Type 0 where
     pub enabled : is_enabled c (event_of i) ≡ true
     pub agree : Agree A N (mine place s) (step A N c (event_of i)) (taken A N i d)
-    pub weighs : (h : ℕ → Item V → ℕ) → flying N place (step A N c (event_of i)) h + at_place N place h i ≡ flying N place c h + total (at_place N place h) (made A N i d)
+    pub weighs : (h : ℕ → Item V → ℕ) → in_flight N place (step A N c (event_of i)) h + at_place N place h i ≡ in_flight N place c h + total (at_place N place h) (made A N i d)
     pub frame : (r : ℕ) → r ≢ s → Agree A N (mine place r) c (step A N c (event_of i))
 
   other_shard : (s r v : ℕ) → place v ≡ s → r ≢ s → mine place r v ≡ false
@@ -102,7 +102,7 @@ module _ {V : Type 0} (A : Algebra V) (N : Network) (place : ℕ → ℕ) where
       record {
         enabled = ap is_message q;
         agree = message_here A N L W (mine place s) a x c d m q K G;
-        weighs = λ h. message_weighs A N place L W a x c h T.real hn q K ∙ ap (λ zs. flying N place c h + total (at_place N place h) zs) (sym same);
+        weighs = λ h. message_weighs A N place L W a x c h T.real hn q K ∙ ap (λ zs. in_flight N place c h + total (at_place N place h) zs) (sym same);
         frame = λ r n. message_frame A N L W (mine place r) a x c (other_shard s r (N.head a) T.here n) q K;
       }
   event_made L W s c d (SignalOn a) K G T =
@@ -116,13 +116,13 @@ module _ {V : Type 0} (A : Algebra V) (N : Network) (place : ℕ → ℕ) where
       }
     where
       weigh : (b : ℕ) → c.token b ≡ Signal → mine place s (N.tail b) ≡ true → b < suc N.arcs → (h : ℕ → Item V → ℕ) →
-          flying N place (step A N c (Accept b)) h + at_place N place h (SignalOn b) ≡ flying N place c h + total (at_place N place h) (made A N (SignalOn b) d)
+          in_flight N place (step A N c (Accept b)) h + at_place N place h (SignalOn b) ≡ in_flight N place c h + total (at_place N place h) (made A N (SignalOn b) d)
       weigh zero q m lt h = last_weighs A N place L W c h q K
       weigh (suc k) q m lt h =
           let tn : N.tail (suc k) ≢ 0 = λ z. (let idle = K.neutral_idle (suc k) (λ y. omega (arith, y)) (ap c.engager z ∙ K.env_neutral) in let g = sym q ∙ idle in cc) in
           let O = outgoing_is A N W (N.tail (suc k)) tn in
           let same : made A N (SignalOn (suc k)) d ≡ made A N (SignalOn (suc k)) c = settle_made_agree A N (mine place s) (N.tail (suc k)) (freed A N (suc k) c) (freed A N (suc k) d) m (freed_agree A N (mine place s) (suc k) c d G) (outgoing N (N.tail (suc k))) O in
-          signal_weighs A N place L W k c h lt tn q K ∙ ap (λ zs. flying N place c h + total (at_place N place h) zs) (sym same)
+          signal_weighs A N place L W k c h lt tn q K ∙ ap (λ zs. in_flight N place c h + total (at_place N place h) zs) (sym same)
 
 module _ {S V : Type 0} (A : Algebra V) (N : Network) (place : ℕ → ℕ) where
   pub front_stands : Lawful A → (c : CoreState V) (p : PartData S V) (i : Item V) (rest : List (Item V)) → HoldsShare A N place c p → p.queue ≡ i ∷ rest → Stands A N place c p.shard i
@@ -148,13 +148,13 @@ module _ {S V : Type 0} (A : Algebra V) (N : Network) (place : ℕ → ℕ) wher
     pub enabled : is_enabled c (event_of i) ≡ true
     pub holds : HoldsShare A N place (step A N c (event_of i)) q
     pub others : (r : PartData S V) → r.shard ≢ p.shard → HoldsTables A N place c r → HoldsTables A N place (step A N c (event_of i)) r
-    pub weighs : (h : ℕ → Item V → ℕ) → part_weight h q + flying N place c h ≡ part_weight h p + flying N place (step A N c (event_of i)) h
+    pub weighs : (h : ℕ → Item V → ℕ) → part_weight h q + in_flight N place c h ≡ part_weight h p + in_flight N place (step A N c (event_of i)) h
 
   pub took_event : Lawful A → WellFormed N → (c : CoreState V) (p : PartData S V) (i : Item V) (q : PartData S V) → Kept A N 0 c → HoldsShare A N place c p → TookIn A N place p i q → TakenEvent c p i q
   took_event L W c p i q K H T =
       let F = front_stands L c p i T.rest H T.front in
       let E = event_made A N place L W p.shard c (state_in p) i K H.tables.agree F in
-      let balance : (h : ℕ → Item V → ℕ) → part_weight h q + flying N place c h ≡ part_weight h p + flying N place (step A N c (event_of i)) h = λ h. (let a = E.weighs h in let b = took_weighs p i q H.tables.wide T h in let e : at_place N place h i ≡ h p.shard i = ap (λ z. h z i) F.here in
+      let balance : (h : ℕ → Item V → ℕ) → part_weight h q + in_flight N place c h ≡ part_weight h p + in_flight N place (step A N c (event_of i)) h = λ h. (let a = E.weighs h in let b = took_weighs p i q H.tables.wide T h in let e : at_place N place h i ≡ h p.shard i = ap (λ z. h z i) F.here in
       omega (arith, a, b, e)) in
       let long : length q.outs ≡ length p.outs = ap (λ l. length l.outs) T.lanes ∙ (routed N place p.shard (made A N i (state_in p)) (record { queue = T.rest; outs = p.outs }) H.tables.wide).long in
       record {
@@ -165,7 +165,7 @@ module _ {S V : Type 0} (A : Algebra V) (N : Network) (place : ℕ → ℕ) wher
                 (agree_then A N (mine place p.shard) (step A N c (event_of i)) (taken A N i (state_in p)) (state_in q) E.agree T.tables);
             wide = λ v. let w = H.tables.wide v in omega (arith, w, long);
           };
-          weighs = λ h. let b : part_weight h q + flying N place c h ≡ part_weight h p + flying N place (step A N c (event_of i)) h = balance h in let w = H.weighs h in omega (arith, b, w);
+          weighs = λ h. let b : part_weight h q + in_flight N place c h ≡ part_weight h p + in_flight N place (step A N c (event_of i)) h = balance h in let w = H.weighs h in omega (arith, b, w);
         };
         others = λ r n G. record { agree = agree_then A N (mine place r.shard) (step A N c (event_of i)) c (state_in r) (agree_back' r (E.frame r.shard n)) G.agree; wide = G.wide };
         weighs = balance;

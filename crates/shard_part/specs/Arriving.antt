@@ -2,7 +2,7 @@
 use Rattle.std.specs.Prelude.{◌≡◌, ℕ, ◌+◌, ◌≤◌, List, ◌++◌, length}
 use Rattle.scholten_core.specs.declared.item.Item.{Item}
 use Rattle.path_algebra.specs.Algebra.{Algebra}
-use Rattle.shard_part.specs.PartState.{PartData, Setup, network_in, place_in, maker_of, All, queue_room}
+use Rattle.shard_part.specs.PartState.{PartData, Setup, network_in, place_in, maker_of, All, queue_bound}
 use Rattle.shard_part.specs.Exchange.{Fits}
 
 module _ {S V : Type 0} where
@@ -16,4 +16,4 @@ module _ {S V : Type 0} where
 
   -- the part may receive the batch: it has room, and the batch fits
   abbrev pub MayReceive : (S → Algebra V) → PartData S V → List (Item V) → Type 0
-  MayReceive meaning p xs = (length p.queue + length xs ≤ queue_room (network_in p.setup) (place_in p.setup) p.shard) × Fits (meaning p.setup.algebra) p xs
+  MayReceive meaning p xs = (length p.queue + length xs ≤ queue_bound (network_in p.setup) (place_in p.setup) p.shard) × Fits (meaning p.setup.algebra) p xs

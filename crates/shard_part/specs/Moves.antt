@@ -10,7 +10,7 @@ use Rattle.shard_part.specs.Plans.{IsPlan}
 use Rattle.shard_part.specs.Tallies.{counted_on, top}
 use Rattle.shard_part.specs.Tables.{spread}
 use Rattle.scholten_core.specs.Deficit.{busy_out}
-use Rattle.shard_part.specs.PartState.{PartData, Setup, lanes_of, network_in, place_in, state_in, own_in, arcs_out, outgoing, route, IsSound, queue_room, out_room, IsArc, IsClear, vertex_of}
+use Rattle.shard_part.specs.PartState.{PartData, Setup, lanes_of, network_in, place_in, state_in, own_in, arcs_out, outgoing, route, IsSound, queue_bound, outbox_bound, IsArc, IsClear, vertex_of}
 use Rattle.shard_part.specs.declared.tables.Tables.{Tables}
 
 -- the values of the tables, by place
@@ -71,10 +71,10 @@ pub record IsPlanned {S : Type 0} (t : Setup S) (s : ℕ) : Type 0 where
 
 -- a queue for every arc with an end in the shard, an outbox for every arc between the two shards
 pub record IsRoomy {S V : Type 0} (p : PartData S V) (queue_capacity : ℕ) (out_capacities : List ℕ) : Type 0 where
-  pub queue : queue_capacity ≡ queue_room (network_in p.setup) (place_in p.setup) p.shard
+  pub queue : queue_capacity ≡ queue_bound (network_in p.setup) (place_in p.setup) p.shard
   pub boxes : length p.outs ≡ p.setup.plan.shards
   pub rings : length out_capacities ≡ p.setup.plan.shards
-  pub outs : (t : ℕ) → t ≢ p.shard → t < p.setup.plan.shards → get_or out_capacities t 0 ≡ out_room (network_in p.setup) (place_in p.setup) p.shard t
+  pub outs : (t : ℕ) → t ≢ p.shard → t < p.setup.plan.shards → get_or out_capacities t 0 ≡ outbox_bound (network_in p.setup) (place_in p.setup) p.shard t
 
 -- the deficit of a vertex is the number of its busy arcs
 abbrev pub IsCounted : {S V : Type 0} → PartData S V → Rows V → Type 0
@@ -135,9 +135,9 @@ module _ {S V : Type 0} where
   with_message b (Some y) p = with_item (MessageOn b y) (record p { busy = set p.busy b true })
 
   -- a message on arc a finds v: a neutral vertex is engaged, another answers
-  abbrev pub greeted : ℕ → ℕ → Option ℕ → PartData S V → PartData S V
-  greeted a v None p = record p { engagers = set p.engagers v (Some a) }
-  greeted a v (Some e) p = with_item (SignalOn a) p
+  abbrev pub engaged_or_answered : ℕ → ℕ → Option ℕ → PartData S V → PartData S V
+  engaged_or_answered a v None p = record p { engagers = set p.engagers v (Some a) }
+  engaged_or_answered a v (Some e) p = with_item (SignalOn a) p
 
   -- v lets go where the test holds
   abbrev pub rested_by : ℕ → Option ℕ → Bool → PartData S V → PartData S V
@@ -164,8 +164,8 @@ module _ {S V : Type 0} (A : Algebra V) where
   -- what a message does: the label, the engager or the answer, then the arcs if the label improved, then rest
   abbrev pub with_value : ℕ → V → ℕ → PartData S V → PartData S V
   with_value a x v p = rested v (cond (improves A x ((state_in p).label v))
-      (offered_all v (outgoing (network_in p.setup) v) (greeted a v ((state_in p).engager v) (labelled x v p)))
-      (greeted a v ((state_in p).engager v) (labelled x v p)))
+      (offered_all v (outgoing (network_in p.setup) v) (engaged_or_answered a v ((state_in p).engager v) (labelled x v p)))
+      (engaged_or_answered a v ((state_in p).engager v) (labelled x v p)))
 
   abbrev pub with_free : ℕ → ℕ → PartData S V → PartData S V
   with_free zero v p = record p { busy = set p.busy zero false }

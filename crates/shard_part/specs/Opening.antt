@@ -7,7 +7,7 @@ use Rattle.road_graph.specs.Roads.{Roads}
 use Rattle.scholten_core.specs.Network.{Network}
 use Rattle.scholten_core.specs.Sums.{one_if}
 use Rattle.shard_part.specs.Plans.{PlanData}
-use Rattle.shard_part.specs.PartState.{Setup, PartData, place_in, network_in, arcs_out, outgoing, total, is, out_room}
+use Rattle.shard_part.specs.PartState.{Setup, PartData, place_in, network_in, arcs_out, outgoing, total, is, outbox_bound}
 use Rattle.shard_part.specs.Moves.{Rows}
 
 -- the source's part is the environment's too
@@ -42,14 +42,14 @@ opened_parts A t k zero = []
 opened_parts A t k (suc n) = opened_part A t k ∷ opened_parts A t (suc k) n
 
 -- a shard of a question, whatever its algebra
-pub record SiteData : Type 0 where
+pub record ShardLayoutData : Type 0 where
   pub roads : Roads
   pub plan : PlanData
   pub source : ℕ
   pub shard : ℕ
 
 -- the question that the shard is of
-abbrev pub question_of : SiteData → Setup (Unit {0})
+abbrev pub question_of : ShardLayoutData → Setup (Unit {0})
 question_of w = record { algebra = tt; roads = w.roads; source = w.source; plan = w.plan }
 
 -- where the arcs out of each vertex begin in the list of all of them, and how many these are
@@ -71,18 +71,18 @@ abbrev pub coming_from : Network → (ℕ → ℕ) → ℕ → ℕ → List ℕ 
 coming_from N place s t = total (λ b. cond (eqb (place (N.tail b)) s) 0 (is t (place (N.tail b))))
 
 -- for each shard so many arcs more as lead from v to it
-abbrev pub CountsOut : SiteData → ℕ → List ℕ → List ℕ → Type 0
+abbrev pub CountsOut : ShardLayoutData → ℕ → List ℕ → List ℕ → Type 0
 CountsOut w v old new = (length new ≡ length old)
     × ((t : ℕ) → t < w.plan.shards → get_or new t 0 ≡ get_or old t 0 + leading_to (network_in (question_of w)) (place_in (question_of w)) t (outgoing (network_in (question_of w)) v))
 
 -- for each other shard so many more as come from it to v
-abbrev pub CountsInto : SiteData → ℕ → List ℕ → List ℕ → Type 0
+abbrev pub CountsInto : ShardLayoutData → ℕ → List ℕ → List ℕ → Type 0
 CountsInto w v old new = (length new ≡ length old)
     × ((t : ℕ) → t < w.plan.shards → get_or new t 0 ≡ get_or old t 0 + coming_from (network_in (question_of w)) (place_in (question_of w)) w.shard t (outgoing (turned (network_in (question_of w))) v))
 
 -- for each shard so many as there are arcs between it and the own one; for the own one, as lie within it
-abbrev pub CountsAll : SiteData → List ℕ → Type 0
-CountsAll w rooms = (length rooms ≡ w.plan.shards) × ((t : ℕ) → t < w.plan.shards → get_or rooms t 0 ≡ out_room (network_in (question_of w)) (place_in (question_of w)) w.shard t)
+abbrev pub CountsAll : ShardLayoutData → List ℕ → Type 0
+CountsAll w capacities = (length capacities ≡ w.plan.shards) × ((t : ℕ) → t < w.plan.shards → get_or capacities t 0 ≡ outbox_bound (network_in (question_of w)) (place_in (question_of w)) w.shard t)
 
 -- the rows of tables in which nothing has happened but that arc 0 may be busy
 abbrev pub idle_rows : {V : Type 0} → List ℕ → List ℕ → ℕ → Bool → Rows V

@@ -7,7 +7,7 @@ use Rattle.path_algebra.specs.Algebra.{Algebra}
 use Rattle.scholten_core.specs.Diffusion.{state_after, count_enabled}
 use Rattle.scholten_core.specs.Accounts.{sent_total, delivered_total, signalled_total, accepted_total}
 use Rattle.shard_part.specs.Tallies.{counted_on}
-use Rattle.shard_part.specs.PartState.{PartData, Setup, network_in, place_in, state_in, flying, part_weight, event_of, Took, TookAll, Holds, Shows}
+use Rattle.shard_part.specs.PartState.{PartData, Setup, network_in, place_in, state_in, in_flight, part_weight, event_of, Took, TookAll, Holds, Shows}
 
 -- an idle arc out of a vertex of the part has been told the vertex's label
 abbrev pub OwnIdleIsTold : {S V : Type 0} → PartData S V → Type 0
@@ -32,8 +32,8 @@ module _ {S V : Type 0} (meaning : S → Algebra V) where
     pub took : TookAll meaning p items q
     pub enabled : count_enabled (meaning p.setup.algebra) (network_in p.setup) (state_after (meaning p.setup.algebra) (network_in p.setup) events) (map event_of items) ≡ n
     pub holds : Holds meaning (state_after (meaning p.setup.algebra) (network_in p.setup) (events ++ map event_of items)) q
-    pub weighs : (h : ℕ → Item V → ℕ) → part_weight h q + flying (network_in p.setup) (place_in p.setup) (state_after (meaning p.setup.algebra) (network_in p.setup) events) h
-        ≡ part_weight h p + flying (network_in p.setup) (place_in p.setup) (state_after (meaning p.setup.algebra) (network_in p.setup) (events ++ map event_of items)) h
+    pub weighs : (h : ℕ → Item V → ℕ) → part_weight h q + in_flight (network_in p.setup) (place_in p.setup) (state_after (meaning p.setup.algebra) (network_in p.setup) events) h
+        ≡ part_weight h p + in_flight (network_in p.setup) (place_in p.setup) (state_after (meaning p.setup.algebra) (network_in p.setup) (events ++ map event_of items)) h
     pub sent : q.sent ≡ counted_on (sent_total (meaning p.setup.algebra) (network_in p.setup) (state_after (meaning p.setup.algebra) (network_in p.setup) events) (map event_of items)) p.sent
     pub delivered : q.delivered ≡ counted_on (delivered_total (meaning p.setup.algebra) (network_in p.setup) (state_after (meaning p.setup.algebra) (network_in p.setup) events) (map event_of items)) p.delivered
     pub signalled : q.signalled ≡ counted_on (signalled_total (meaning p.setup.algebra) (network_in p.setup) (state_after (meaning p.setup.algebra) (network_in p.setup) events) (map event_of items)) p.signalled

@@ -159,8 +159,8 @@ module _ {V : Type 0} (N : Network) (place : ℕ → ℕ) where
   at_place h i = h (place (vertex_of N i)) i
 
   -- the items that stand in a state, each weighed by the shard where it belongs
-  abbrev pub flying : CoreState V → (ℕ → Item V → ℕ) → ℕ
-  flying c h = sum_below (λ b. total (at_place h) (item_of b (c.token b))) (suc N.arcs)
+  abbrev pub in_flight : CoreState V → (ℕ → Item V → ℕ) → ℕ
+  in_flight c h = sum_below (λ b. total (at_place h) (item_of b (c.token b))) (suc N.arcs)
 
 abbrev pub mine : (ℕ → ℕ) → ℕ → ℕ → Bool
 mine place s v = eqb (place v) s
@@ -189,15 +189,15 @@ module _ (N : Network) (place : ℕ → ℕ) where
   touches s b = one_if (eqb (place (N.head b)) s || eqb (place (N.tail b)) s)
 
   -- the arcs with an end in the shard; arc 0 has both at the source's
-  abbrev pub queue_room : ℕ → ℕ
-  queue_room s = sum_below (touches s) (suc N.arcs)
+  abbrev pub queue_bound : ℕ → ℕ
+  queue_bound s = sum_below (touches s) (suc N.arcs)
 
   abbrev pub joins : ℕ → ℕ → ℕ → ℕ
   joins s t b = one_if ((eqb (place (N.head b)) t && eqb (place (N.tail b)) s) || (eqb (place (N.tail b)) t && eqb (place (N.head b)) s))
 
   -- the arcs between two shards
-  abbrev pub out_room : ℕ → ℕ → ℕ
-  out_room s t = sum_below (joins s t) (suc N.arcs)
+  abbrev pub outbox_bound : ℕ → ℕ → ℕ
+  outbox_bound s t = sum_below (joins s t) (suc N.arcs)
 
 -- the same places as lists: each item with the shard that it is at or going to
 module _ {V : Type 0} where
@@ -283,12 +283,12 @@ module _ {S V : Type 0} (A : Algebra V) (N : Network) (place : ℕ → ℕ) wher
   -- and its items are items of c, where they belong, none twice
   pub record HoldsShare (c : CoreState V) (p : PartData S V) : Type 0 where
     pub tables : HoldsTables c p
-    pub weighs : (h : ℕ → Item V → ℕ) → part_weight h p ≤ flying N place c h
+    pub weighs : (h : ℕ → Item V → ℕ) → part_weight h p ≤ in_flight N place c h
 
   -- parts and mailboxes show c: `mail h` weighs what the mailboxes hold
   pub record ShowsIn (parts : List (PartData S V)) (mail : (ℕ → Item V → ℕ) → ℕ) (c : CoreState V) : Type 0 where
     pub tables : All (HoldsTables c) parts
-    pub weighs : (h : ℕ → Item V → ℕ) → total (part_weight h) parts + mail h ≡ flying N place c h
+    pub weighs : (h : ℕ → Item V → ℕ) → total (part_weight h) parts + mail h ≡ in_flight N place c h
     pub apart : (j : ℕ) → total (λ p. is j p.shard) parts ≤ 1
 
 -- as a part's own setup says

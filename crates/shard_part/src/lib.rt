@@ -3,12 +3,12 @@
 
 mod batch;
 pub mod laws;
+mod layout;
 mod part;
 mod plan;
 mod question;
 mod search;
 mod shard;
-mod site;
 mod state;
 mod tables;
 mod tally;

@@ -4,7 +4,7 @@ ghost use Rattle.road_graph.specs.Roads.{HasVertex};
 ghost use Rattle.scholten_core.specs.Network.{network};
 ghost use Rattle.scholten_core.specs.declared.event.Event.{Event};
 ghost use Rattle.scholten_core.specs.Diffusion.{state_after};
-ghost use Rattle.shard_part.specs.PartState.{network_in, place_in, queue_room, out_room, Holds};
+ghost use Rattle.shard_part.specs.PartState.{network_in, place_in, queue_bound, outbox_bound, Holds};
 ghost use Rattle.shard_part.specs.Opening.{opened_part};
 ghost use Rattle.shard_part.specs.Exchange.{Fits};
 ghost use Rattle.shard_part.specs.Part.{TookFront, TookMany, IsRunOn};
@@ -94,7 +94,7 @@ impl<'g, A: PathAlgebra> Part<'g, A> {
         requires other { to ≢ self.old.shard }
         requires shard { to < self.old.setup.plan.shards }
         requires empty { batch.old.items ≡ [] }
-        requires capacity { batch.old.capacity ≡ out_room (network_in self.old.setup) (place_in self.old.setup) self.old.shard to }
+        requires capacity { batch.old.capacity ≡ outbox_bound (network_in self.old.setup) (place_in self.old.setup) self.old.shard to }
         ensures part { self.new ≡ record self.old { outs = set self.old.outs to [] } }
         ensures batch { batch.new ≡ buffer (get_or self.old.outs to []) batch.old.capacity }
     {
@@ -103,7 +103,7 @@ impl<'g, A: PathAlgebra> Part<'g, A> {
 
     /// Appends all items of a batch to the queue, in order, and leaves the batch empty.
     pub fn receive(&mut self, batch: &mut Batch<A::Value>)
-        requires room { length self.old.queue + length batch.old.items ≤ queue_room (network_in self.old.setup) (place_in self.old.setup) self.old.shard }
+        requires room { length self.old.queue + length batch.old.items ≤ queue_bound (network_in self.old.setup) (place_in self.old.setup) self.old.shard }
         requires fits { Fits (A.meaning self.old.setup.algebra) self.old batch.old.items }
         ensures part { self.new ≡ record self.old { queue = self.old.queue ++ batch.old.items } }
         ensures batch { batch.new ≡ buffer [] batch.old.capacity }

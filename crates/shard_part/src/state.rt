@@ -8,7 +8,7 @@ ghost use Rattle.scholten_core.specs.Deficit.{busy_out};
 ghost use Rattle.shard_part.specs.PartState.{network_in, place_in, state_in, own_in, arcs_out, outgoing, vertex_of, maker_of, IsArc, IsClear};
 ghost use Rattle.scholten_core.specs.Network.{WellFormed};
 ghost use Rattle.shard_part.specs.Part.{OwnIdleIsTold, TookFront};
-ghost use Rattle.shard_part.specs.Moves.{IsTallied, IsPlace, IsRow, IsPopped, HandledOne, put_item, counted_made, with_item, with_message, greeted, rested_by, labelled, offered, offered_all, rested, with_value, with_free, with_taken};
+ghost use Rattle.shard_part.specs.Moves.{IsTallied, IsPlace, IsRow, IsPopped, HandledOne, put_item, counted_made, with_item, with_message, engaged_or_answered, rested_by, labelled, offered, offered_all, rested, with_value, with_free, with_taken};
 
 mod exchange;
 mod opening;
@@ -315,13 +315,13 @@ impl<'g, A: PathAlgebra> PartState<'g, A> {
 
 impl<'g, A: PathAlgebra> PartState<'g, A> {
     /// A message on arc a finds the vertex at a place: a neutral one is engaged, another answers.
-    fn greet(&mut self, a: ArcNo, v: Vertex, j: usize)
+    fn engage_or_answer(&mut self, a: ArcNo, v: Vertex, j: usize)
         requires place { IsPlace self.old v j }
         requires vertex { v ≢ 0 }
         requires arc { IsArc (network_in self.old.setup) a }
         requires head { (network_in self.old.setup).head a ≡ v }
         requires clear { IsClear self.old a }
-        ensures { self.new ≡ greeted a v ((state_in self.old).engager v) self.old }
+        ensures { self.new ≡ engaged_or_answered a v ((state_in self.old).engager v) self.old }
     {
         match self.engager_at(v, j) {
             None => self.engage(v, j, a),
@@ -536,7 +536,7 @@ impl<'g, A: PathAlgebra> PartState<'g, A> {
         let v = self.head(a);
         let j = self.place(v);
         let improved = self.improve(v, j, value);
-        self.greet(a, v, j);
+        self.engage_or_answer(a, v, j);
         self.pump_if(v, j, improved);
         self.rest(v, j);
     }

@@ -1,7 +1,7 @@
 //! What a part knows of its vertices and of the arcs out of them, by place.
 ghost use Rattle.std.specs.Prelude.{◌≡◌, ◌<◌, Some, None, false, length, get_or, set, replicate, IfOk};
 
-use crate::site::filled;
+use crate::layout::filled;
 use road_graph::{ArcNo, Vertex};
 use std::alloc::{AllocError, Global};
 use std::marker::Model;

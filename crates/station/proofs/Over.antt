@@ -9,7 +9,7 @@ use Rattle.scholten_core.specs.Diffusion.{CoreState, is_idle}
 use Rattle.scholten_core.specs.Items.{item_of}
 use Rattle.scholten_core.specs.Sums.{sum_below}
 use Rattle.scholten_core.proofs.EveryRun.{ended_is_best}
-use Rattle.shard_part.specs.PartState.{PartData, Setup, network_in, place_in, state_in, token_if, total, flying, at_place, HoldsShare}
+use Rattle.shard_part.specs.PartState.{PartData, Setup, network_in, place_in, state_in, token_if, total, in_flight, at_place, HoldsShare}
 use Rattle.shard_part.specs.Moves.{IsPlanned}
 use Rattle.shard_part.specs.Readings.{IsOwn}
 use Rattle.shard_part.proofs.Weights.{sum_below_same, sum_zero}
@@ -33,7 +33,7 @@ module _ {S V : Type 0} (meaning : S → Algebra V) where
       let c : CoreState V = core_of meaning p.setup events in
       let B = ended_is_best A p.setup.roads p.setup.source L P.roads P.source.0 events h in
       let one : ℕ → Item V → ℕ = λ _ _. 1 in
-      let none' : flying N place c one ≡ 0 = sum_below_same (λ b. total (at_place N place one) (item_of b (c.token b))) (λ _. 0) (suc N.arcs) (λ b lt. ap (λ (k : Token V). total (at_place N place one) (item_of b k)) (Q.0 b)) ∙ sum_zero (λ _. 0) (suc N.arcs) (λ _. refl) in
+      let none' : in_flight N place c one ≡ 0 = sum_below_same (λ b. total (at_place N place one) (item_of b (c.token b))) (λ _. 0) (suc N.arcs) (λ b lt. ap (λ (k : Token V). total (at_place N place one) (item_of b k)) (Q.0 b)) ∙ sum_zero (λ _. 0) (suc N.arcs) (λ _. refl) in
       let w = H.weighs one in record {
         best = λ v own. subst (IsBestLabel A p.setup.roads (p.setup.source ∷ []) v) (sym (H.tables.agree.label v (eq-eqb _ _ own.1))) (B v own.0);
         neutral = λ v own. H.tables.agree.engager v (eq-eqb _ _ own.1) ∙ Q.1 v;

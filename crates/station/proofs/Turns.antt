@@ -7,7 +7,7 @@ use Rattle.scholten_core.specs.declared.event.Event.{Event}
 use Rattle.scholten_core.specs.Diffusion.{state_after}
 use Rattle.scholten_core.proofs.EveryRun.{labels_are_walk_values}
 use Rattle.shard_part.specs.Moves.{IsPlanned}
-use Rattle.shard_part.specs.PartState.{PartData, Setup, network_in, place_in, state_in, flying, part_weight, Holds}
+use Rattle.shard_part.specs.PartState.{PartData, Setup, network_in, place_in, state_in, in_flight, part_weight, Holds}
 use Rattle.shard_part.specs.Part.{TookMany, IsRunOn}
 use Rattle.shard_part.specs.Readings.{IsOwn}
 use Rattle.shard_part.specs.Tallies.{top, counted_on}
@@ -37,7 +37,7 @@ module _ {S V : Type 0} (meaning : S → Algebra V) where
     took = refl;
     enabled = refl;
     holds = subst (λ es. Holds meaning (state_after A N es) p) (sym (append-nil before)) H;
-    weighs = λ h. ap (λ es. part_weight h p + flying N (place_in p.setup) (state_after A N es) h) (sym (append-nil before));
+    weighs = λ h. ap (λ es. part_weight h p + in_flight N (place_in p.setup) (state_after A N es) h) (sym (append-nil before));
     sent = counts_none p.sent v.sent top s.sent;
     delivered = counts_none p.delivered v.delivered top s.delivered;
     signalled = counts_none p.signalled v.signalled top s.signalled;

@@ -58,7 +58,7 @@ impl NumberParser {
 impl LineParser for NumberParser {
     type Value = Vec<u64>;
 
-    ghost way = { record { gives = λ cut s at ls r. GivesBy numbers_rules s.numbers.items (λ v. v.items) cut at ls r; so_far = λ _ _. Unit {0} } };
+    ghost meaning = { record { gives = λ cut s at ls r. GivesBy numbers_rules s.numbers.items (λ v. v.items) cut at ls r; so_far = λ _ _. Unit {0} } };
 
     fn field(&mut self, _slot: &Slot) -> Result<(), LineFault> {
         Ok(())

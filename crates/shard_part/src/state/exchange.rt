@@ -3,7 +3,7 @@ ghost use Rattle.std.specs.Prelude.{◌≡◌, ◌≢◌, ◌+◌, ◌++◌, ◌
 ghost use Rattle.circular_buffer.specs.Buffer.{buffer};
 ghost use Rattle.road_graph.specs.Roads.{HasArc};
 ghost use Rattle.scholten_core.specs.Items.{item_arc};
-ghost use Rattle.shard_part.specs.PartState.{network_in, place_in, queue_room, out_room, part_weight, state_in, names, is};
+ghost use Rattle.shard_part.specs.PartState.{network_in, place_in, queue_bound, outbox_bound, part_weight, state_in, names, is};
 ghost use Rattle.shard_part.specs.Moves.{IsPlace};
 ghost use Rattle.shard_part.specs.Exchange.{Fits, FitsAlone, FitsBefore, MayEngage, Awaits};
 
@@ -20,7 +20,7 @@ impl<'g, A: PathAlgebra> PartState<'g, A> {
         requires other { to ≢ self.old.shard }
         requires shard { to < self.old.setup.plan.shards }
         requires empty { batch.old.items ≡ [] }
-        requires capacity { batch.old.capacity ≡ out_room (network_in self.old.setup) (place_in self.old.setup) self.old.shard to }
+        requires capacity { batch.old.capacity ≡ outbox_bound (network_in self.old.setup) (place_in self.old.setup) self.old.shard to }
         ensures part { self.new ≡ record self.old { outs = set self.old.outs to [] } }
         ensures batch { batch.new ≡ buffer (get_or self.old.outs to []) batch.old.capacity }
     {
@@ -29,7 +29,7 @@ impl<'g, A: PathAlgebra> PartState<'g, A> {
 
     /// Appends all items of a batch to the queue, in order, and leaves the batch empty.
     pub(crate) fn receive(&mut self, batch: &mut Batch<A::Value>)
-        requires room { length self.old.queue + length batch.old.items ≤ queue_room (network_in self.old.setup) (place_in self.old.setup) self.old.shard }
+        requires room { length self.old.queue + length batch.old.items ≤ queue_bound (network_in self.old.setup) (place_in self.old.setup) self.old.shard }
         requires fits { Fits (A.meaning self.old.setup.algebra) self.old batch.old.items }
         ensures part { self.new ≡ record self.old { queue = self.old.queue ++ batch.old.items } }
         ensures batch { batch.new ≡ buffer [] batch.old.capacity }

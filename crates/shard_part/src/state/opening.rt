@@ -9,9 +9,9 @@ ghost use Rattle.shard_part.specs.Moves.{rows_of};
 ghost use Rattle.shard_part.specs.Opening.{opened_part, first_items, idle_rows};
 
 use crate::batch::Batch;
+use crate::layout::{ShardLayout, sum_of};
 use crate::plan::Plan;
 use crate::shard::Shard;
-use crate::site::{Site, sum_of};
 use crate::state::PartState;
 use crate::tables::{ArcTable, Tables, VertexTable};
 use path_algebra::PathAlgebra;
@@ -37,19 +37,19 @@ impl<'g, A: PathAlgebra> PartState<'g, A> {
     {
         // What holds of every graph and every plan is known once one is asked.
         let _known = (graph.vertices(), plan.shards());
-        let site = Site {
+        let layout = ShardLayout {
             graph,
             plan,
             source,
             shard,
         };
-        let first = site.is_first();
-        let own = site.own_vertices(alloc)?;
-        let (offsets, arcs) = site.starts(alloc, &own)?;
-        let mut rooms = site.rooms(alloc, &own)?;
-        let queue = opening_queue(alloc, algebra, sum_of(&rooms), first)?;
-        rooms[shard.0 as usize] = 0;
-        let outs = empty_batches(alloc, &rooms)?;
+        let first = layout.is_first();
+        let own = layout.own_vertices(alloc)?;
+        let (offsets, arcs) = layout.starts(alloc, &own)?;
+        let mut capacities = layout.capacities(alloc, &own)?;
+        let queue = opening_queue(alloc, algebra, sum_of(&capacities), first)?;
+        capacities[shard.0 as usize] = 0;
+        let outs = empty_batches(alloc, &capacities)?;
         let tables = idle_tables(alloc, own, offsets, arcs, first, algebra.origin())?;
         Ok(PartState {
             algebra,

@@ -1,7 +1,7 @@
 //! What may be read of a part.
 ghost use Rattle.std.specs.Prelude.{◌≡◌, ◌≢◌, ◌+◌, ◌<◌, suc, [], get_or, length, leb, IsTrue, ◌↔◌};
 ghost use Rattle.scholten_core.specs.Deficit.{busy_out};
-ghost use Rattle.shard_part.specs.PartState.{network_in, place_in, state_in, queue_room, out_room, IsSound};
+ghost use Rattle.shard_part.specs.PartState.{network_in, place_in, state_in, queue_bound, outbox_bound, IsSound};
 ghost use Rattle.shard_part.specs.Moves.{IsPlanned, IsTallied};
 ghost use Rattle.shard_part.specs.Tallies.{top};
 ghost use Rattle.shard_part.specs.Readings.{IsOwn, has_ended, tally_in};
@@ -50,7 +50,7 @@ impl<'g, A: PathAlgebra> PartState<'g, A> {
     pub fn capacity(&self, to: Shard) -> usize
         requires other { to ≢ self.now.shard }
         requires shard { to < self.now.setup.plan.shards }
-        ensures { result ≡ out_room (network_in self.now.setup) (place_in self.now.setup) self.now.shard to }
+        ensures { result ≡ outbox_bound (network_in self.now.setup) (place_in self.now.setup) self.now.shard to }
     {
         self.outs[to.0 as usize].capacity()
     }
@@ -64,7 +64,7 @@ impl<'g, A: PathAlgebra> PartState<'g, A> {
 
     /// For how many more items the queue has a place. In all it has one for each arc with an end in the shard.
     pub fn room(&self) -> usize
-        ensures { result + length self.now.queue ≡ queue_room (network_in self.now.setup) (place_in self.now.setup) self.now.shard }
+        ensures { result + length self.now.queue ≡ queue_bound (network_in self.now.setup) (place_in self.now.setup) self.now.shard }
     {
         self.queue.capacity() - self.queue.len()
     }

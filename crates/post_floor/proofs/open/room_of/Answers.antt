@@ -1,5 +1,5 @@
 use Rattle.std.proofs.Common.{arith, ◌<◌, ◌/◌, ◌%◌, length, ap, sym, subst, ◌∙◌}
-use Rattle.shard_part.specs.PartState.{network_in, place_in, out_room}
+use Rattle.shard_part.specs.PartState.{network_in, place_in, outbox_bound}
 use Rattle.post_floor.proofs.Opened.{opened_long, pair_below, part_at, cap_own, cap_other}
 use Rattle.post_floor.proofs.open.room_of.Goals as goal
 
@@ -22,4 +22,4 @@ returns-then-from-to g c = cap_own c.args.first.now.setup c.args.shards c.args.k
 
 pub returns-else-from-to : goal.returns-else-from-to
 returns-else-from-to g c = let q = part_at g.A.PathAlgebra.meaning c.args.first.now c.index-parts-from.result c.args.parts.now c.args.shards (c.args.k / 4 / c.args.shards) c.requires.parts (pair_below c.args.shards c.args.k c.requires.word).0 c.index-parts-from.is in
-    c.capacity.ensures ∙ ap (λ u. out_room (network_in u.setup) (place_in u.setup) u.shard (c.args.k / 4 % c.args.shards)) c.deref.ensures ∙ (λ i. out_room (network_in (q.0 i)) (place_in (q.0 i)) (q.1 i) (c.args.k / 4 % c.args.shards)) ∙ cap_other c.args.first.now.setup c.args.shards c.args.k c.requires.shards.0 c.if-from-to.false
+    c.capacity.ensures ∙ ap (λ u. outbox_bound (network_in u.setup) (place_in u.setup) u.shard (c.args.k / 4 % c.args.shards)) c.deref.ensures ∙ (λ i. outbox_bound (network_in (q.0 i)) (place_in (q.0 i)) (q.1 i) (c.args.k / 4 % c.args.shards)) ∙ cap_other c.args.first.now.setup c.args.shards c.args.k c.requires.shards.0 c.if-from-to.false

@@ -1,17 +1,17 @@
 use Rattle.road_text.proofs.WholeTexts.{reads_text, reads_sure}
 use Rattle.road_files.specs.Asked.{asked_of}
 use Rattle.road_files.specs.QuestionFiles.{question_rules}
-use Rattle.road_files.specs.QuestionTakes.{question_way, FitsFile}
+use Rattle.road_files.specs.QuestionTakes.{question_meaning, FitsFile}
 use Rattle.road_files.proofs.QuestionParserLaws.{by_value, by_fault, by_fit}
 use Rattle.road_files.proofs.RoadNumbers.{line_of_questions, questions_end}
 use Rattle.road_files.proofs.question_files.read_asked.Goals as goal
 
 pub returns-clause-reads : goal.returns-clause-reads
 returns-clause-reads g c = let s = c.new.result in let new = c.new.ensures in let e = c.read_whole.ensures in
-    reads_text (question_rules c.args.vertices c.args.only) asked_of question_way s (by_value s new.begun _ _ new.vertices new.only) (by_fault s new.begun _ _ new.vertices new.only)
+    reads_text (question_rules c.args.vertices c.args.only) asked_of question_meaning s (by_value s new.begun _ _ new.vertices new.only) (by_fault s new.begun _ _ new.vertices new.only)
     g.R.RoadRead.left g.R.RoadRead.failures g.R.RoadRead.asked c.args.from.now c.read_whole.new.from 10 19 (line_of_questions c.args.vertices c.args.only) questions_end
     c.read_whole.result e.value e.some_text e.fault e.some_fault e.sound e.told e.untold e.long e.placed e.numbered e.end e.asked
 
 pub returns-clause-fit : goal.returns-clause-fit
 returns-clause-fit g c = let s = c.new.result in let e = c.new.ensures in
-    reads_sure question_way s (FitsFile c.args.vertices c.args.only) (by_fit s e.begun _ _ e.vertices e.only) c.read_whole.result c.read_whole.ensures.some_text
+    reads_sure question_meaning s (FitsFile c.args.vertices c.args.only) (by_fit s e.begun _ _ e.vertices e.only) c.read_whole.result c.read_whole.ensures.some_text

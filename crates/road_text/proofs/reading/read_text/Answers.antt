@@ -1,14 +1,14 @@
 use Rattle.std.proofs.Common.{refl}
 use Rattle.std.proofs.Common.{[], ℕ, take, arith, ◌∙◌, subst}
 use Rattle.std.proofs.lemmas.List.{length-take-le}
-use Rattle.road_text.proofs.StandLaws.{stands_start, stands_more, stands_value, stands_some, stops_at_end, stops_in, some_stops_at_end, some_stops_in}
+use Rattle.road_text.proofs.ReadingLaws.{has_read_start, has_read_more, has_read_value, has_read_some, stops_at_end, stops_in, some_stops_at_end, some_stops_in}
 use Rattle.std.proofs.lemmas.Result.{IfOk-weaker, IfErr-weaker, err_from_is_err_and}
 use Rattle.std.specs.Io.KnownBytes.{Consumes, IsAtEnd}
 use Rattle.road_text.proofs.reading.read_text.Goals as goal
 
 pub loop-init : goal.loop-init
 loop-init g c = record {
-  stands = stands_start g.T.LineParser.way c.args.parser _ c.new-reader.result c.new-reader.ensures.count c.new-reader.ensures.start;
+  has_read = has_read_start g.T.LineParser.meaning c.args.parser _ c.new-reader.result c.new-reader.ensures.count c.new-reader.ensures.start;
   sound = refl;
   counted = omega arith;
   asked = omega arith;
@@ -16,7 +16,7 @@ loop-init g c = record {
 
 pub loop-preserved : goal.loop-preserved
 loop-preserved g c = record {
-  stands = stands_more g.T.LineParser.way c.args.parser _ _ _ c.loop.reader c.feed.new.self _ c.loop.invariant.stands c.in-Ok.ensures.bytes.0 c.in_ok-feed-in-Ok.ensures.count c.in_ok-feed-in-Ok.ensures.ok;
+  has_read = has_read_more g.T.LineParser.meaning c.args.parser _ _ _ c.loop.reader c.feed.new.self _ c.loop.invariant.has_read c.in-Ok.ensures.bytes.0 c.in_ok-feed-in-Ok.ensures.count c.in_ok-feed-in-Ok.ensures.ok;
   sound = c.in-Ok.ensures.sound ∙ c.loop.invariant.sound;
   counted = omega (arith, c.in-Ok.ensures.counted, c.loop.invariant.counted);
   asked = omega (arith, c.in_ok-feed-in-Ok.ensures.count, length-take-le c.in-Ok.n c.read.new.buf c.in-Ok.ensures.bound, c.in-Ok.n-test);
@@ -26,24 +26,24 @@ pub returns-in-Ok-eq0-clause-value : goal.returns-in-Ok-eq0-clause-value
 returns-in-Ok-eq0-clause-value g c =
     let gone : Consumes (g.R.RoadRead.left c.loop.from) (g.R.RoadRead.left c.read.new.self) [] = subst (λ (n : ℕ). Consumes (g.R.RoadRead.left c.loop.from) (g.R.RoadRead.left c.read.new.self) (take n c.read.new.buf)) c.in-Ok-eq0.field-0-test c.in-Ok-eq0.ensures.bytes.0 in
     let ended : IsAtEnd (g.R.RoadRead.left c.read.new.self) = c.in-Ok-eq0.ensures.bytes.1 c.in-Ok-eq0.field-0-test (omega arith) in
-    IfOk-weaker c.finish.result _ _ (λ v h. stands_value g.T.LineParser.way c.args.parser _ _ _ c.loop.reader v c.loop.reader.few_bytes c.loop.invariant.stands gone ended h) c.finish.ensures.ok
+    IfOk-weaker c.finish.result _ _ (λ v h. has_read_value g.T.LineParser.meaning c.args.parser _ _ _ c.loop.reader v c.loop.reader.few_bytes c.loop.invariant.has_read gone ended h) c.finish.ensures.ok
 
 pub returns-in-Ok-eq0-clause-stops : goal.returns-in-Ok-eq0-clause-stops
 returns-in-Ok-eq0-clause-stops g c =
     let gone : Consumes (g.R.RoadRead.left c.loop.from) (g.R.RoadRead.left c.read.new.self) [] = subst (λ (n : ℕ). Consumes (g.R.RoadRead.left c.loop.from) (g.R.RoadRead.left c.read.new.self) (take n c.read.new.buf)) c.in-Ok-eq0.field-0-test c.in-Ok-eq0.ensures.bytes.0 in
     let ended : IsAtEnd (g.R.RoadRead.left c.read.new.self) = c.in-Ok-eq0.ensures.bytes.1 c.in-Ok-eq0.field-0-test (omega arith) in
-    IfErr-weaker c.finish.result _ _ (λ h p. stops_at_end g.T.LineParser.way c.args.parser _ _ _ _ _ c.loop.reader h c.loop.reader.few_bytes (c.in-Ok-eq0.ensures.sound ∙ c.loop.invariant.sound) c.loop.invariant.stands gone ended p) c.finish.ensures.err
+    IfErr-weaker c.finish.result _ _ (λ h p. stops_at_end g.T.LineParser.meaning c.args.parser _ _ _ _ _ c.loop.reader h c.loop.reader.few_bytes (c.in-Ok-eq0.ensures.sound ∙ c.loop.invariant.sound) c.loop.invariant.has_read gone ended p) c.finish.ensures.err
 
 pub returns-in_err-feed-in-Ok-clause-stops : goal.returns-in_err-feed-in-Ok-clause-stops
 returns-in_err-feed-in-Ok-clause-stops g c = let p = err_from_is_err_and c.from_residual.result c.from_residual.ensures.1 in
-    rw (p.1, p.2) (stops_in g.T.LineParser.way c.args.parser _ _ _ _ _ c.loop.reader _ _ (c.in-Ok.ensures.sound ∙ c.loop.invariant.sound) c.loop.invariant.stands c.in-Ok.ensures.bytes.0 c.in_err-feed-in-Ok.ensures.err)
+    rw (p.1, p.2) (stops_in g.T.LineParser.meaning c.args.parser _ _ _ _ _ c.loop.reader _ _ (c.in-Ok.ensures.sound ∙ c.loop.invariant.sound) c.loop.invariant.has_read c.in-Ok.ensures.bytes.0 c.in_err-feed-in-Ok.ensures.err)
 
 pub returns-in-Ok-eq0-clause-some_text : goal.returns-in-Ok-eq0-clause-some_text
-returns-in-Ok-eq0-clause-some_text g c = IfOk-weaker c.finish.result _ _ (λ v h. stands_some g.T.LineParser.way c.args.parser _ _ c.loop.reader v c.loop.reader.few_bytes c.loop.invariant.stands h) c.finish.ensures.ok
+returns-in-Ok-eq0-clause-some_text g c = IfOk-weaker c.finish.result _ _ (λ v h. has_read_some g.T.LineParser.meaning c.args.parser _ _ c.loop.reader v c.loop.reader.few_bytes c.loop.invariant.has_read h) c.finish.ensures.ok
 
 pub returns-in-Ok-eq0-clause-some_stops : goal.returns-in-Ok-eq0-clause-some_stops
-returns-in-Ok-eq0-clause-some_stops g c = IfErr-weaker c.finish.result _ _ (λ h p. some_stops_at_end g.T.LineParser.way c.args.parser _ _ c.loop.reader h c.loop.reader.few_bytes c.loop.invariant.stands p) c.finish.ensures.err
+returns-in-Ok-eq0-clause-some_stops g c = IfErr-weaker c.finish.result _ _ (λ h p. some_stops_at_end g.T.LineParser.meaning c.args.parser _ _ c.loop.reader h c.loop.reader.few_bytes c.loop.invariant.has_read p) c.finish.ensures.err
 
 pub returns-in_err-feed-in-Ok-clause-some_stops : goal.returns-in_err-feed-in-Ok-clause-some_stops
 returns-in_err-feed-in-Ok-clause-some_stops g c = let p = err_from_is_err_and c.from_residual.result c.from_residual.ensures.1 in
-    rw (p.1, p.2) (some_stops_in g.T.LineParser.way c.args.parser _ _ c.loop.reader _ _ c.loop.invariant.stands c.in_err-feed-in-Ok.ensures.err)
+    rw (p.1, p.2) (some_stops_in g.T.LineParser.meaning c.args.parser _ _ c.loop.reader _ _ c.loop.invariant.has_read c.in_err-feed-in-Ok.ensures.err)

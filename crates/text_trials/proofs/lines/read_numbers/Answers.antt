@@ -3,14 +3,14 @@ use Rattle.std.specs.declared.alloc.Global.{Global}
 use Rattle.road_text.specs.declared.faults.ReadFault.{ReadFault}
 use Rattle.road_text.specs.Rules.{reading}
 use Rattle.road_text.specs.Takes.{GivesBy}
-use Rattle.road_text.specs.Way.{Way}
+use Rattle.road_text.specs.Meaning.{Meaning}
 use Rattle.road_text.proofs.WholeTexts.{reads_value, reads_fault}
 use Rattle.text_trials.specs.Numbers.{numbers_rules}
 use Rattle.text_trials.proofs.lines.read_numbers.Goals as goal
 
 -- the numbers so far are all that a line needs to know
-abbrev way : Way (List ℕ) (Vec ℕ Global)
-way = record { gives = λ cut ns at ls r. GivesBy numbers_rules ns (λ v. v.items) cut at ls r; so_far = λ _ _. Unit {0} }
+abbrev meaning : Meaning (List ℕ) (Vec ℕ Global)
+meaning = record { gives = λ cut ns at ls r. GivesBy numbers_rules ns (λ v. v.items) cut at ls r; so_far = λ _ _. Unit {0} }
 
 value_from : (ns : List ℕ) → ns ≡ [] → (cut : Bool) (ls : List (List ℕ)) (v : Vec ℕ Global) → reading cut numbers_rules 1 ns ls ≡ Ok v.items → reading cut numbers_rules 1 [] ls ≡ Ok v.items
 value_from ns none cut ls v h = subst (λ (start : List ℕ). reading cut numbers_rules 1 start ls ≡ Ok v.items) none h
@@ -20,8 +20,8 @@ fault_from ns none cut ls f h = subst (λ (start : List ℕ). reading cut number
 
 pub returns-clause-value : goal.returns-clause-value
 returns-clause-value g c = let ns = c.new.result.items in let none = c.new.ensures.items in
-    reads_value numbers_rules (λ v. v.items) way ns (value_from ns none) (fault_from ns none) (g.R.RoadRead.left c.args.from.now) c.read_whole.result c.read_whole.ensures.value
+    reads_value numbers_rules (λ v. v.items) meaning ns (value_from ns none) (fault_from ns none) (g.R.RoadRead.left c.args.from.now) c.read_whole.result c.read_whole.ensures.value
 
 pub returns-clause-fault : goal.returns-clause-fault
 returns-clause-fault g c = let ns = c.new.result.items in let none = c.new.ensures.items in
-    reads_fault numbers_rules (λ v. v.items) way ns (value_from ns none) (fault_from ns none) (g.R.RoadRead.left c.args.from.now) c.read_whole.result c.read_whole.ensures.fault
+    reads_fault numbers_rules (λ v. v.items) meaning ns (value_from ns none) (fault_from ns none) (g.R.RoadRead.left c.args.from.now) c.read_whole.result c.read_whole.ensures.fault

@@ -15,4 +15,4 @@ pub returns-in-Ok-clause-told : goal.returns-in-Ok-clause-told
 returns-in-Ok-clause-told g c =
     let here : 0 < length c.present-present.result.now.text.items = grind (arith, common_steps) in
     let some : 0 < length (scan_of c.args.self.now.scanner).1.text = subst (λ (w : Word). 0 < length w.text) c.present-present.ensures here in
-    λ line shows. told_on _ (g.T.LineParser.way.so_far c.field.new.self) (scan_of c.args.self.now.scanner) line some (λ fs f p e. c.in-Ok.ensures.told fs f p (c.present-present.ensures ∙ e)) shows
+    λ line shows. told_on _ (g.T.LineParser.meaning.so_far c.field.new.self) (scan_of c.args.self.now.scanner) line some (λ fs f p e. c.in-Ok.ensures.told fs f p (c.present-present.ensures ∙ e)) shows

@@ -21,4 +21,4 @@ returns-clause-ok g c = λ cut rest r h present held.
     c.fields.ensures ∙ ap (λ (s : Scan). s.0) c.close.ensures ∙ ap past c.end_field.ensures.scanner ∙ shows_fields _ _ held.shown in
     let told = c.in_ok-end_field.ensures.told (strip_carriage_return present) held.shown in
     rw (lines_first cut present rest held.whole, ← c.end_field.ensures.rest.2) (c.in_ok-end_field.ensures.same cut c.end_field.new.self.line (strip_carriage_return present ∷ lines cut rest) r
-    (c.in-Ok.ensures.ok cut c.end_field.new.self.line (strip_carriage_return present) (lines cut rest) r shown told (h [] (rw c.restart.ensures (holds_start (g.T.LineParser.way.so_far c.line.new.self) c.in-Ok.ensures.ready)))))
+    (c.in-Ok.ensures.ok cut c.end_field.new.self.line (strip_carriage_return present) (lines cut rest) r shown told (h [] (rw c.restart.ensures (holds_start (g.T.LineParser.meaning.so_far c.line.new.self) c.in-Ok.ensures.ready)))))

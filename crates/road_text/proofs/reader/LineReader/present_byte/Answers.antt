@@ -3,22 +3,22 @@ use Rattle.road_text.specs.Lines.{lines, is_gap}
 use Rattle.road_text.specs.Scans.{Scan, Shows, past}
 use Rattle.road_text.specs.Words.{no_word}
 use Rattle.road_text.specs.Scans.{scan_of}
-use Rattle.road_text.specs.Standing.{Holds}
+use Rattle.road_text.specs.Reading.{Holds}
 use Rattle.road_text.proofs.ScanLaws.{shows_gap, shows_other}
 use Rattle.road_text.proofs.TextLaws.{shows_whole, holds_return, holds_other}
 use Rattle.road_text.proofs.reader.LineReader.present_byte.Goals as goal
 
 pub returns-then-byte-eq13-clause-same : goal.returns-then-byte-eq13-clause-same
 returns-then-byte-eq13-clause-same g c = λ cut rest r h present held.
-    let P = g.T.LineParser.way.so_far c.args.self.now.parser in
+    let P = g.T.LineParser.meaning.so_far c.args.self.now.parser in
     let full : Shows P (scan_of c.add_pending.new.self) present = rw c.add_pending.ensures (shows_whole P c.args.self.now.pending (scan_of c.args.self.now.scanner) present held.pending held.shown) in
     let now : Holds P true true (scan_of c.add_pending.new.self) (present ++ c.args.byte ∷ []) = rw c.if-byte-eq13.true (holds_return P (scan_of c.add_pending.new.self) present full held.whole) in
     rw (← append_assoc present (c.args.byte ∷ []) rest) (h (present ++ c.args.byte ∷ []) now)
 
 pub returns-then-is_gap-clause-same : goal.returns-then-is_gap-clause-same
 returns-then-is_gap-clause-same g c = λ cut rest r h present held.
-    let P = g.T.LineParser.way.so_far c.args.self.now.parser in
-    let Q = g.T.LineParser.way.so_far c.end_field.new.self.parser in
+    let P = g.T.LineParser.meaning.so_far c.args.self.now.parser in
+    let Q = g.T.LineParser.meaning.so_far c.end_field.new.self.parser in
     let full : Shows P (scan_of c.add_pending.new.self) present = rw c.add_pending.ensures (shows_whole P c.args.self.now.pending (scan_of c.args.self.now.scanner) present held.pending held.shown) in
     let gap : is_gap c.args.byte ≡ true = sym c.is_gap.ensures ∙ c.if-is_gap.true in
     let gone : Shows Q (past (scan_of c.add_pending.new.self), no_word) (present ++ c.args.byte ∷ []) = shows_gap P Q (scan_of c.add_pending.new.self) present c.args.byte gap full (c.in_ok-end_field.ensures.told present full) in
@@ -29,7 +29,7 @@ returns-then-is_gap-clause-same g c = λ cut rest r h present held.
 
 pub returns-clause-same : goal.returns-clause-same
 returns-clause-same g c = λ cut rest r h present held.
-    let P = g.T.LineParser.way.so_far c.args.self.now.parser in
+    let P = g.T.LineParser.meaning.so_far c.args.self.now.parser in
     let full : Shows P (scan_of c.add_pending.new.self) present = rw c.add_pending.ensures (shows_whole P c.args.self.now.pending (scan_of c.args.self.now.scanner) present held.pending held.shown) in
     let gap : is_gap c.args.byte ≡ false = sym c.is_gap.ensures ∙ c.if-is_gap.false in
     let now : Holds P true false (scan_of c.go_on.new.self) (present ++ c.args.byte ∷ []) =

@@ -1,12 +1,12 @@
 use Rattle.std.proofs.Common.{◌++◌, List, ℕ, sym, ◌∙◌, subst, append_assoc, true, false}
 use Rattle.road_text.specs.Scans.{Scan, Shows, scan_of, word_with}
-use Rattle.road_text.specs.Standing.{Holds}
+use Rattle.road_text.specs.Reading.{Holds}
 use Rattle.road_text.proofs.TextLaws.{shows_whole, holds_run}
 use Rattle.road_text.proofs.reader.LineReader.present_run.Goals as goal
 
 pub returns-clause-same : goal.returns-clause-same
 returns-clause-same g c = λ cut rest r h present held.
-    let P = g.T.LineParser.way.so_far c.args.self.now.parser in
+    let P = g.T.LineParser.meaning.so_far c.args.self.now.parser in
     let scan = scan_of c.args.self.now.scanner in
     let bytes : List ℕ = c.args.bytes.now in
     let full : Shows P scan present = shows_whole P false scan present (sym c.requires.whole ∙ held.pending) held.shown in

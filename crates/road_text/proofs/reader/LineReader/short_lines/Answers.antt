@@ -1,5 +1,5 @@
 use Rattle.std.proofs.Common.{List, ℕ, arith}
-use Rattle.road_text.proofs.ReaderLaws.{leads_further}
+use Rattle.road_text.proofs.ReaderLaws.{rest_gives_further}
 use Rattle.road_text.proofs.reader.LineReader.short_lines.Goals as goal
 
 pub loop-at-preserved : goal.loop-at-preserved
@@ -7,10 +7,10 @@ loop-at-preserved g c =
     let xs : List ℕ = c.args.bytes.now in
     let old = c.loop-at.invariant in
     record {
-      leads = leads_further g.T.LineParser.way c.args.self.now c.loop-at.self c.short_line-len.new.self xs c.loop-at.at c.short_line-len.result old.leads c.short_line-len.ensures.leads;
+      rest_gives = rest_gives_further g.T.LineParser.meaning c.args.self.now c.loop-at.self c.short_line-len.new.self xs c.loop-at.at c.short_line-len.result old.rest_gives c.short_line-len.ensures.rest_gives;
       count = omega (arith, c.short_line-len.ensures.count, old.count);
       within = omega (arith, c.short_line-len.ensures.bound);
     }
 
-pub returns-then-len-eq0-clause-leads : goal.returns-then-len-eq0-clause-leads
-returns-then-len-eq0-clause-leads g c = λ cut more r h. c.loop-at.invariant.leads cut more r (rw (c.if-len-eq0.true) at (c.short_line-len.ensures.leads cut more r h))
+pub returns-then-len-eq0-clause-rest_gives : goal.returns-then-len-eq0-clause-rest_gives
+returns-then-len-eq0-clause-rest_gives g c = λ cut more r h. c.loop-at.invariant.rest_gives cut more r (rw (c.if-len-eq0.true) at (c.short_line-len.ensures.rest_gives cut more r h))

@@ -1,12 +1,12 @@
 use Rattle.std.proofs.Common.{Bool, ◌≡◌, ℕ, ◌+◌, ◌-◌, ◌≤◌, List, ◌++◌, take, length, Result}
 use Rattle.road_text.specs.declared.faults.ReadFault.{ReadFault}
-use Rattle.road_text.specs.Standing.{Leads}
+use Rattle.road_text.specs.Reading.{RestGives}
 use Rattle.road_text.proofs.reader.LineReader.short_lines.Given as goal
 
 -- what follows gives, the lines so far and then that give; and the bytes are counted
 abbrev pub invariant-loop-at : goal.invariant-loop-at
 invariant-loop-at g l = record {
-  leads : (cut : Bool) (more : List ℕ) (r : Result g.row.T-Value.Denot ReadFault) → Leads cut g.T.LineParser.way l.self more r → Leads cut g.T.LineParser.way l.initial.self (take l.at l.bytes ++ more) r;
+  rest_gives : (cut : Bool) (more : List ℕ) (r : Result g.row.T-Value.Denot ReadFault) → RestGives cut g.T.LineParser.meaning l.self more r → RestGives cut g.T.LineParser.meaning l.initial.self (take l.at l.bytes ++ more) r;
   count : l.self.count ≡ l.initial.self.count + l.at;
   within : l.at ≤ length l.bytes;
 }

@@ -1,6 +1,0 @@
-use Rattle.std.proofs.Common.{◌≡◌, take}
-use Rattle.answer_check.specs.Signs.{all_signs}
-use Rattle.answer_check.proofs.signs.signs_of.Given as goal
-
-abbrev pub invariant-loop-a : goal.invariant-loop-a
-invariant-loop-a g l = l.signs ≡ all_signs (g.A.PathAlgebra.meaning l.algebra) g.A.PathAlgebra.order l.graph l.lines l.line l.value (take l.a-index l.arcs)

@@ -1,7 +1,0 @@
-use Rattle.std.proofs.Common.{◌≡◌, take, false}
-use Rattle.std.specs.List.{list_any}
-use Rattle.answer_check.specs.Signs.{brought, is_there}
-use Rattle.answer_check.proofs.vertices.brings_some.Given as goal
-
-abbrev pub invariant-loop-a : goal.invariant-loop-a
-invariant-loop-a g l = list_any (λ a. is_there (brought (g.A.PathAlgebra.meaning l.algebra) l.graph l.lines a)) (take l.a-index l.arcs) ≡ false

@@ -1,5 +1,5 @@
 -- The first place that a pass over marked lines finds is the first where the answer is wrong; where it finds none, the answer is right.
-use Rattle.std.proofs.Common.{◌≡◌, ℕ, zero, suc, ◌+◌, ◌-◌, ◌<◌, ◌≤◌, ◌^◌, inl, inr, min, Bool, true, false, List, [], ◌∷◌, length, refl, sym, subst, arith, Option, Some, None}
+use Rattle.std.proofs.Common.{◌≡◌, ℕ, zero, suc, ◌+◌, ◌-◌, ◌<◌, ◌≤◌, ◌^◌, ◌⊎◌, inl, inr, min, Bool, true, false, List, [], ◌∷◌, length, refl, sym, subst, arith, Option, Some, None}
 use Rattle.std.specs.Prelude.{IsTrue, Contains, ◌↔◌, option_map}
 use Rattle.std.specs.List.{range_with_len, AllZip}
 use Rattle.rayon.specs.Lists.{first_true}
@@ -22,8 +22,7 @@ use Rattle.answer_check.proofs.Refused.{not_refused}
 module _ (R : ℕ → Bool → Type 0) where
   -- the first of the numbers from a on
   abbrev IsFirstFrom : ℕ → ℕ → Option ℕ → Type 0
-  IsFirstFrom a n None = (k : ℕ) → k < n → R (a + k) false
-  IsFirstFrom a n (Some i) = (i < n) × R (a + i) true × ((k : ℕ) → k < i → R (a + k) false)
+  IsFirstFrom a n = IsFirstNumber n (λ k. R (a + k))
 
   shifted : (a k : ℕ) (b : Bool) → R ((a + 1) + k) b → R (a + suc k) b
   shifted a k b h = let same : (a + 1) + k ≡ a + suc k = omega arith in subst (λ (x : ℕ). R x b) same h
@@ -43,7 +42,7 @@ module _ (R : ℕ → Bool → Type 0) where
       let found : IsFirstFrom a (suc n) (Some (suc i)) = (omega (arith, low), shifted a i true rest.1, λ k lt. none_from a i k h rest.2 lt) in
       subst (λ (j : ℕ). IsFirstFrom a (suc n) (Some j)) next found
 
-  first_from : (a n : ℕ) (bs : List Bool) → n < 2 ^ 64 → AllZip R (range_with_len a n) bs → IsFirstFrom a n (first_true bs)
+  pub first_from : (a n : ℕ) (bs : List Bool) → n < 2 ^ 64 → AllZip R (range_with_len a n) bs → IsFirstNumber n (λ k. R (a + k)) (first_true bs)
   first_from a zero [] short z = λ k lt. absurd (omega (arith, lt))
   first_from a zero (b ∷ bs) short z = absurd z
   first_from a (suc n) [] short z = absurd z
@@ -59,6 +58,18 @@ module _ (R : ℕ → Bool → Type 0) where
 
   pub first_number : (n : ℕ) (bs : List Bool) → n < 2 ^ 64 → AllZip R (range_with_len 0 n) bs → IsFirstNumber n R (first_true bs)
   first_number n bs short z = first_of n (first_true bs) (first_from 0 n bs short z)
+
+  before_or_from : (a k : ℕ) → (k < a) ⊎ (a ≤ k)
+  before_or_from a k = grind (arith)
+
+  -- none below a, and none of the n numbers from a on
+  pub none_further : (a n : ℕ) → ((k : ℕ) → k < a → R k false) → ((k : ℕ) → k < n → R (a + k) false) → (k : ℕ) → k < a + n → R k false
+  none_further a n low high k lt = elim (before_or_from a k) [
+    | inl less ↦ low k less
+    | inr from ↦
+        let back : a + (k - a) ≡ k = omega (arith, from) in
+        subst (λ (x : ℕ). R x false) back (high (k - a) (omega (arith, from, lt)))
+  ]
 
 module _ {V : Type 0} (A : Algebra V) (lawful : IsLawful A) (g : Roads) (lines : List (Option Reached)) where
   pub marked_not_refused : (v : ℕ) (b : Bool) (r : Reason) → IsMarkedRight A g lines v b → IsMarkedRefused A g lines v b r → ⊥

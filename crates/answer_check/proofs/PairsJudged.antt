@@ -2,8 +2,7 @@
 use Rattle.std.proofs.Common.{◌≡◌, ℕ, ◌<◌, List, [], ◌∷◌, sym, subst, arith, Option, Some, None}
 use Rattle.road_graph.specs.Roads.{Roads}
 use Rattle.path_algebra.specs.Algebra.{Algebra, IsLawful}
-use Rattle.path_algebra.specs.Walks.{IsBest, IsUnreached, AreHops}
-use Rattle.route_tree.specs.Told.{IsToldOf}
+use Rattle.path_algebra.specs.Walks.{IsUnreached, AreHops}
 use Rattle.answer_text.specs.Told.{ToldFound}
 use Rattle.answer_text.specs.IsAnswer.{IsBestCode, IsRouteBetween, IsFoundBetween, IsPairAnswer}
 use Rattle.answer_text.proofs.OneAnswer.{code_once, hops_once, route_once}
@@ -67,27 +66,3 @@ module _ {V : Type 0} (A : Algebra V) (lawful : IsLawful A) (g : Roads) (s t : �
         IsJudged (IsPairAnswer A g s t (Some f)) (IsPairRefused A g s t (Some f)) o
     pair_judged f None e = subst (λ (q : ToldFound). IsFoundBetween A g s t q) (sym e) (record { code = code_is; hops = hops_are; route = route_is })
     pair_judged f (Some r) h = (refused f r h.0, λ q lt k. h.1 q lt (other f q k))
-
-  -- what labels and trees tell of a vertex that has a label and hops
-  pub told_parts : (l : Option V) (k u : Option ℕ) (x : V) (j : ℕ) → IsToldOf A g (s ∷ []) t l k u → l ≡ Some x → k ≡ Some j → IsBest A g (s ∷ []) t x × AreHops A g (s ∷ []) t j
-  told_parts None k u x j h e f = let bad : None ≡ Some x = e in absurd (cc)
-  told_parts (Some y) None u x j h e f = let bad : None ≡ Some j = f in absurd (cc)
-  told_parts (Some y) (Some i) None x j h e f = both y i x j h.0 h.1 e f
-    where
-      both : (y : V) (i : ℕ) (x : V) (j : ℕ) → IsBest A g (s ∷ []) t y → AreHops A g (s ∷ []) t i → Some y ≡ Some x → Some i ≡ Some j → IsBest A g (s ∷ []) t x × AreHops A g (s ∷ []) t j
-      both y i x j p q e f =
-          let a : y ≡ x = cc in
-          let b : i ≡ j = cc in
-          (subst (IsBest A g (s ∷ []) t) a p, subst (AreHops A g (s ∷ []) t) b q)
-  told_parts (Some y) (Some i) (Some w) x j h e f =
-      let a : y ≡ x = cc in
-      let b : i ≡ j = cc in
-      (subst (IsBest A g (s ∷ []) t) a h.0, subst (AreHops A g (s ∷ []) t) b h.1)
-
-  -- a vertex without hops is unreached
-  pub unreached_by_hops : (l : Option V) (k u : Option ℕ) → IsToldOf A g (s ∷ []) t l k u → k ≡ None → IsUnreached A g (s ∷ []) t
-  unreached_by_hops None None None h e = h
-  unreached_by_hops None None (Some w) h e = absurd h
-  unreached_by_hops None (Some i) u h e = let bad : Some i ≡ None = e in absurd (cc)
-  unreached_by_hops (Some y) None u h e = absurd h
-  unreached_by_hops (Some y) (Some i) u h e = let bad : Some i ≡ None = e in absurd (cc)

@@ -77,7 +77,7 @@ fn judge_sources<A: PathAlgebra, R: Threads + Sync>(
 }
 
 /// Judges the answer to a question from one vertex to another.
-fn judge_pair<A: PathAlgebra>(
+pub(crate) fn judge_pair<A: PathAlgebra>(
     alloc: Global,
     algebra: A,
     graph: &Graph,

@@ -8,6 +8,7 @@ ghost use Rattle.answer_check.specs.declared.verdict.Verdict.TheVariants.{Valid}
 ghost use Rattle.answer_check.specs.Verdicts.{HasHeader, IsVerdict};
 
 use crate::answers::judge;
+use crate::suspects::right_front;
 use crate::verdict::{Reason, Verdict};
 use answer_text::Answers;
 use path_algebra::{PathAlgebra, laws_hold};
@@ -55,7 +56,8 @@ pub fn check<A: PathAlgebra, R: Threads + Sync>(
             reason: Reason::Mismatch,
         });
     }
-    for i in 0..answers.list.len() {
+    let right = right_front(rt, alloc, algebra, graph, questions, answers);
+    for i in right..answers.list.len() {
         let place = judge(rt, alloc, algebra, graph, questions, i, &answers.list[i])?;
         if let Some(place) = place {
             return Ok(Verdict::Invalid {

@@ -12,6 +12,7 @@ mod numbers;
 mod pairs;
 mod pass;
 mod place;
+mod suspects;
 mod verdict;
 mod vertices;
 

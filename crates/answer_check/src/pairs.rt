@@ -13,7 +13,7 @@ use answer_text::Found;
 use path_algebra::{PathAlgebra, laws_hold};
 use path_plain::solve_one;
 use road_graph::{Graph, Memory, Vertex};
-use route_tree::{labels_and_trees_agree, route, routes_follow_parents, tree};
+use route_tree::{route_between, routes_follow_parents};
 use std::alloc::Global;
 
 /// The first way in which what is told differs from the right code, hops and route.
@@ -45,7 +45,6 @@ pub(crate) fn reason_of_pair<A: PathAlgebra>(
     ensures { IfOk result (IsJudged (IsPairAnswer (A.meaning algebra) graph.now source target (option_map found_of found.now)) (IsPairRefused (A.meaning algebra) graph.now source target (option_map found_of found.now))) }
 {
     laws_hold(algebra);
-    labels_and_trees_agree(algebra);
     routes_follow_parents(algebra);
     let _n = graph.vertices();
     let labels = solve_one(alloc, algebra, graph, source)?;
@@ -60,12 +59,9 @@ pub(crate) fn reason_of_pair<A: PathAlgebra>(
     let Some(value) = labels.of(target) else {
         return Ok(Some(Reason::NotBest));
     };
-    let tree = tree(alloc, algebra, graph, &[source], &labels)?;
-    let Some(hops) = tree.hops(target) else {
+    let Some(right) = route_between(alloc, algebra, graph, source, target, &labels)? else {
         return Ok(Some(Reason::NotBest));
     };
-    let Some(list) = route(alloc, &tree, target)? else {
-        return Ok(Some(Reason::NotBest));
-    };
-    Ok(difference(algebra.code(value), hops, list.as_slice(), found))
+    let list = right.vertices.as_slice();
+    Ok(difference(algebra.code(value), right.hops, list, found))
 }

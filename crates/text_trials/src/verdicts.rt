@@ -251,6 +251,45 @@ fn reasons_against_pairs(rt: HostRuntime) -> Result<(), Fail> {
     assert_verdict(&rt, Shortest, FIVE, back, answers, first)
 }
 
+/// Asserts the verdict on 130 answers to one pair, of which that at a place tells another value.
+fn assert_pairs(
+    rt: &(impl Abort + AllocGlobal + Threads + Sync),
+    wrong: usize,
+    wanted: Verdict,
+) -> Result<(), Fail> {
+    let alloc = rt.alloc();
+    let mut questions = String::new(alloc);
+    let mut answers = String::new(alloc);
+    questions.push_str("p aux sp p2p 130\n")?;
+    answers.push_str("p ans p2p 130 shortest\n")?;
+    for place in 1..131usize {
+        questions.push_str("q 1 4\n")?;
+        let told = if place == wrong {
+            "q 1 4\nd 9 3\nr 1 3 2 4\n"
+        } else {
+            "q 1 4\nd 8 3\nr 1 3 2 4\n"
+        };
+        answers.push_str(told)?;
+    }
+    assert_verdict(
+        rt,
+        Shortest,
+        FIVE,
+        questions.as_str(),
+        answers.as_str(),
+        wanted,
+    )
+}
+
+#[test]
+fn pairs_in_groups(rt: HostRuntime) -> Result<(), Fail> {
+    assert_pairs(&rt, 0, Verdict::Valid)?;
+    assert_pairs(&rt, 1, invalid(1, 4, Reason::NotBest))?;
+    assert_pairs(&rt, 64, invalid(64, 4, Reason::NotBest))?;
+    assert_pairs(&rt, 65, invalid(65, 4, Reason::NotBest))?;
+    assert_pairs(&rt, 130, invalid(130, 4, Reason::NotBest))
+}
+
 #[test]
 fn numbers_of_reasons(rt: HostRuntime) {
     assert_eq!(rt; Reason::Mismatch.number(), 1);

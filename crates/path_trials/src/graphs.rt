@@ -85,6 +85,7 @@ fn tells_each(rt: &impl Abort, graph: &Graph) {
         let a = ArcNo(i as u32 + 1);
         let (arc, turn) = expected[i];
         assert!(rt; graph.arc(a) == arc);
+        assert!(rt; graph.head(a) == arc.head);
         assert!(rt; graph.road(a) == road(arc.head.0, arc.weight));
         assert!(rt; graph.turn(a) == turn);
     }

@@ -6,3 +6,4 @@ pub mod Placing
 pub mod Reading
 pub mod Rising
 pub mod Places
+pub mod Entries

@@ -1,5 +1,5 @@
 -- The elements of a list, from its head on.
-use Rattle.std.proofs.Common.{◌≡◌, ℕ, zero, suc, ◌<◌, ◌⊎◌, inl, inr, List, [], ◌∷◌, length, refl, arith}
+use Rattle.std.proofs.Common.{◌≡◌, zero, suc, ◌<◌, ◌⊎◌, inl, inr, List, [], ◌∷◌, length, refl, arith}
 use Rattle.std.specs.Prelude.{Contains}
 
 pub not_in_empty : {X : Type 0} (x : X) → Contains [] x → ⊥

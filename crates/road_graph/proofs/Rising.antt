@@ -1,8 +1,11 @@
 -- Numbers that rise, by their places.
-use Rattle.std.proofs.Common.{ℕ, zero, suc, ◌<◌, ◌≤◌, List, [], ◌∷◌, length, get_or, arith, inl, inr}
+use Rattle.std.proofs.Common.{◌≡◌, ℕ, zero, suc, ◌<◌, ◌≤◌, List, [], ◌∷◌, length, get_or, refl, ap, sym, ◌∙◌, subst, arith, inl, inr}
 use Rattle.std.proofs.Math.Nat.{eq-or-lt_of_le}
 use Rattle.std.proofs.lemmas.Bool.{cases_lt}
+use Rattle.std.proofs.lemmas.List.{get_or_default}
+use Rattle.std.specs.Prelude.{Contains}
 use Rattle.road_graph.specs.Roads.{IsAscendingFrom}
+use Rattle.road_graph.proofs.Lists.{here, later, head_or_tail, not_in_empty}
 
 pub above : (low : ℕ) (xs : List ℕ) (j : ℕ) → IsAscendingFrom low xs → j < length xs → low < get_or xs j 0
 above low [] j h lt = absurd (omega arith)
@@ -27,3 +30,31 @@ after_by xs i j h inside within lt = elim (cases_lt i j) [
   | inl less ↦ less
   | inr most ↦ let le : j ≤ i = most in let more : get_or xs j 0 ≤ get_or xs i 0 = elim (eq-or-lt_of_le le) [ inl e ↦ (rw e (omega arith)) | inr less ↦ (let up : get_or xs j 0 < get_or xs i 0 = rises 0 xs j i h less inside in omega (arith, up)) ] in absurd (omega (arith, more, lt))
 ]
+
+listed_above : (low : ℕ) (xs : List ℕ) (a : ℕ) → IsAscendingFrom low xs → Contains xs a → low < a
+listed_above low xs a h x = let read : get_or xs x.0 0 ≡ a = get_or_default xs x.0 0 a x.1 ∙ x.2 in let more = above low xs x.0 h x.1 in omega (arith, read, more)
+
+-- rising lists of the same numbers are one list
+pub same_rising : (low : ℕ) (xs ys : List ℕ) → IsAscendingFrom low xs → IsAscendingFrom low ys →
+    ((a : ℕ) → Contains xs a → Contains ys a) → ((a : ℕ) → Contains ys a → Contains xs a) → xs ≡ ys
+same_rising low [] [] up rise there back = refl
+same_rising low [] (y ∷ ys) up rise there back = absurd (not_in_empty y (back y (here y ys)))
+same_rising low (x ∷ xs) [] up rise there back = absurd (not_in_empty x (there x (here x xs)))
+same_rising low (x ∷ xs) (y ∷ ys) up rise there back =
+    let same : x ≡ y = elim (head_or_tail y x ys (there x (here x xs))) [
+      | inl e ↦ sym e
+      | inr after ↦ elim (head_or_tail x y xs (back y (here y ys))) [
+        | inl e ↦ e
+        | inr behind ↦ let less : y < x = listed_above y ys x rise.1 after in let more : x < y = listed_above x xs y up.1 behind in absurd (omega (arith, less, more))
+      ]
+    ] in
+    let rest : xs ≡ ys = same_rising x xs ys up.1 (subst (λ low. IsAscendingFrom low ys) (sym same) rise.1)
+    (λ a in_xs. elim (head_or_tail y a ys (there a (later x a xs in_xs))) [
+      | inl e ↦ let more : x < a = listed_above x xs a up.1 in_xs in absurd (omega (arith, more, e, same))
+      | inr in_ys ↦ in_ys
+    ])
+    (λ a in_ys. elim (head_or_tail x a xs (back a (later y a ys in_ys))) [
+      | inl e ↦ let more : y < a = listed_above y ys a rise.1 in_ys in absurd (omega (arith, more, e, same))
+      | inr in_xs ↦ in_xs
+    ]) in
+    ap (λ z. z ∷ xs) same ∙ ap (λ (zs : List ℕ). y ∷ zs) rest

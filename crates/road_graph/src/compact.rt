@@ -1,21 +1,29 @@
 //! The graph.
 
 ghost use Rattle.std.specs.Prelude.{◌≡◌, ℕ, ◌+◌, ◌-◌, ◌<◌, ◌≤◌, ◌↔◌, ◌^◌, length, slice_index, Contains};
-ghost use Rattle.std.specs.Prelude.{IsTrue, MatchResult, MatchOption};
+ghost use Rattle.std.specs.Prelude.{IsTrue, IfOk, MatchResult, MatchOption};
 ghost use Rattle.road_graph.specs.Roads.{JoinsVertices, IsRoads, IsAscendingFrom};
-ghost use Rattle.road_graph.specs.Making.{IsFirstBad, HasInRow, StandsAt, ArePlaces};
+ghost use Rattle.road_graph.specs.Making.{IsFirstBad, HasInRow, StandsAt};
 
-use crate::rows::{Rows, places_of, roads_at, rows_of, tails_of};
+use crate::rows::{Rows, roads_at, rows_of, tails_of};
 use crate::{ArcNo, GraphFault, Memory, OutRoad, RoadArc, Side, Vertex};
-use std::alloc::Global;
+use std::alloc::{AllocError, Global};
 use std::fmt;
 use std::marker::Model;
 use std::snapshot::Snapshot;
 
+/// What the index tells of an arc: its ends, and where it stands among the arcs that leave its tail.
+#[derive(Debug, Clone, Copy)]
+pub(crate) struct IndexEntry {
+    tail: Vertex,
+    head: Vertex,
+    turn: u32,
+}
+
 /// A directed graph with its arcs by number, by tail and by head.
 ///
 /// It takes 20 bytes for each arc and 8 for each vertex: heads and weights stand once, in the order of the outgoing rows.
-/// Once indexed it takes 4 bytes more for each arc, and an arc is found in its row by one load.
+/// Once indexed it takes 12 bytes more for each arc, and one load tells the ends of an arc and where it stands among those that leave its tail.
 #[derive(Drop)]
 pub struct Graph {
     vertices: u32,
@@ -24,8 +32,8 @@ pub struct Graph {
     out_rows: Rows,
     out_roads: Vec<OutRoad>,
     into_rows: Rows,
-    /// Where each arc stands in the outgoing rows, by number from 1; empty until the graph is indexed.
-    places: Vec<u32>,
+    /// What is to be told of each arc, in the order of their numbers; empty until the graph is indexed.
+    index: Vec<IndexEntry>,
 }
 
 impl fmt::Debug for Graph {
@@ -36,7 +44,7 @@ impl fmt::Debug for Graph {
             .field("out_rows", &self.out_rows)
             .field("out_roads", &self.out_roads)
             .field("into_rows", &self.into_rows)
-            .field("places", &self.places)
+            .field("index", &self.index)
             .finish()
     }
 }
@@ -45,7 +53,7 @@ impl Model for Graph {
     ghost use Rattle.std.specs.Prelude.{◌≡◌};
     ghost use Rattle.std.specs.Prelude.{map};
     ghost use Rattle.road_graph.specs.Roads.{Roads, IsRoads, roads_of};
-    ghost use Rattle.road_graph.specs.Making.{AreRows, ArePlaces, end_of};
+    ghost use Rattle.road_graph.specs.Making.{AreRows, IsIndex, end_of};
     ghost use Rattle.road_graph.specs.declared.Side.TheVariants.{Tail, Head};
 
     ghost Value = { Roads };
@@ -58,7 +66,7 @@ impl Model for Graph {
         × AreRows Head g.vertices g.arcs.value.items g.into_rows.starts.items g.into_rows.numbers.items
         × (g.out_roads.items ≡ roads_of (record { vertices = g.vertices; arcs = g.arcs.value.items }) g.out_rows.numbers.items)
         × (g.tails.items ≡ map (end_of Tail) g.arcs.value.items)
-        × ArePlaces g.out_rows.numbers.items g.places.items };
+        × IsIndex (record { vertices = g.vertices; arcs = g.arcs.value.items }) g.index.items };
 }
 
 fn joins(arc: RoadArc, n: u32) -> bool
@@ -134,21 +142,8 @@ fn find_place(rows: &Rows, tail: Vertex, a: ArcNo) -> usize
     start + place_of(&numbers[start..end], a.0)
 }
 
-/// Where an arc stands in the rows: told by the places, where they are there.
-fn place_in(rows: &Rows, tails: &[Vertex], places: &[u32], a: ArcNo) -> usize
-    requires tail { (1 ≤ a) × (a ≤ length tails.now) }
-    requires row { HasInRow rows.now.starts.items rows.now.numbers.items (slice_index tails.now (a - 1)) a }
-    requires places { ArePlaces rows.now.numbers.items places.now }
-    ensures { StandsAt rows.now.numbers.items a result }
-{
-    if let Some(place) = places.get(a.0 as usize) {
-        return *place as usize;
-    }
-    find_place(rows, tails[a.0 as usize - 1], a)
-}
-
 impl Graph {
-    ghost use Rattle.road_graph.specs.Making.{IsRefusal};
+    ghost use Rattle.road_graph.specs.Making.{IsRefusal, IsIndex};
     ghost use Rattle.road_graph.specs.Roads.{Roads, HasVertex, HasArc, arc_of, road_of};
     ghost use Rattle.road_graph.specs.Roads.{IsTurn, ListsArcsFrom, ListsArcsInto, ListsRoadsFrom};
 
@@ -188,19 +183,41 @@ impl Graph {
             out_rows,
             out_roads,
             into_rows,
-            places: Vec::new(alloc),
+            index: Vec::new(alloc),
         })
     }
 
-    /// Indexes the arcs: from then on `road`, `arc` and `turn` find an arc by one load, in place of a search.
+    /// Indexes the arcs: from then on `tail`, `head` and `turn` read one entry of the index, and `road` and `arc` find their road by it, in place of a search.
     ///
     /// # Errors
     /// Where memory is refused, the graph is as it was.
     pub fn index(&mut self, alloc: Global) -> Result<(), Memory>
         ensures { self.new ≡ self.old }
     {
-        self.places = places_of(alloc, &self.out_rows.numbers)?;
+        self.index = self.entries(alloc)?;
         Ok(())
+    }
+
+    /// The entries of all arcs, in the order of their numbers.
+    fn entries(&self, alloc: Global) -> Result<Vec<IndexEntry>, AllocError>
+        ensures { IfOk result (λ entries. IsIndex self.now entries.items) }
+    {
+        let blank = IndexEntry {
+            tail: Vertex(0),
+            head: Vertex(0),
+            turn: 0,
+        };
+        let mut entries = vec![in alloc; blank; self.tails.len()]?;
+        for (place, number) in self.out_rows.numbers.iter().enumerate() {
+            let at = number.0 as usize - 1;
+            let tail = self.tails[at];
+            entries[at] = IndexEntry {
+                tail,
+                head: self.out_roads[place].head,
+                turn: place as u32 - self.out_rows.starts[tail.0 as usize - 1],
+            };
+        }
+        Ok(entries)
     }
 
     /// How many vertices there are.
@@ -245,7 +262,21 @@ impl Graph {
         requires { HasArc self.now a }
         ensures { result ≡ (arc_of self.now a).tail }
     {
+        if let Some(entry) = self.index.get(a.0 as usize - 1) {
+            return entry.tail;
+        }
         self.tails[a.0 as usize - 1]
+    }
+
+    /// The vertex that an arc enters.
+    pub fn head(&self, a: ArcNo) -> Vertex
+        requires { HasArc self.now a }
+        ensures { result ≡ (arc_of self.now a).head }
+    {
+        if let Some(entry) = self.index.get(a.0 as usize - 1) {
+            return entry.head;
+        }
+        self.road(a).head
     }
 
     /// The head and the weight of an arc.
@@ -253,7 +284,10 @@ impl Graph {
         requires { HasArc self.now a }
         ensures { result ≡ road_of (arc_of self.now a) }
     {
-        self.out_roads[place_in(&self.out_rows, &self.tails, &self.places, a)]
+        if let Some(entry) = self.index.get(a.0 as usize - 1) {
+            return self.roads_from(entry.tail)[entry.turn as usize];
+        }
+        self.out_roads[find_place(&self.out_rows, self.tail(a), a)]
     }
 
     /// Where an arc stands among those that leave its tail, an index into what `out` and `roads_from` give for that.
@@ -261,9 +295,12 @@ impl Graph {
         requires { HasArc self.now a }
         ensures { IsTurn self.now a result }
     {
-        let place = place_in(&self.out_rows, &self.tails, &self.places, a);
-        let (start, _) = range_of(&self.out_rows.starts, self.tail(a));
-        place - start
+        if let Some(entry) = self.index.get(a.0 as usize - 1) {
+            return entry.turn as usize;
+        }
+        let tail = self.tail(a);
+        let (start, _) = range_of(&self.out_rows.starts, tail);
+        find_place(&self.out_rows, tail, a) - start
     }
 
     /// The arcs that leave a vertex, in ascending order.

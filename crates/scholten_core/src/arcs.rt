@@ -29,9 +29,5 @@ pub fn head_of(graph: &Graph, source: Vertex, a: ArcNo) -> Vertex
 {
     // That the arcs of a graph join its vertices is known once its size is read.
     graph.vertices();
-    if a == ENTRY {
-        source
-    } else {
-        graph.road(a).head
-    }
+    if a == ENTRY { source } else { graph.head(a) }
 }

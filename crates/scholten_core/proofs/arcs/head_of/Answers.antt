@@ -10,14 +10,14 @@ returns-then-eq-clause-head c =
 
 pub returns-else-eq-clause-head : goal.returns-else-eq-clause-head
 returns-else-eq-clause-head c =
-    ap (λ r. r.head) c.road.ensures ∙ sym (head-arc c.args.graph.now c.args.source c.args.a (not_entry c.args.a c.eq.result c.eq.ensures c.if-eq.false))
+    c.head.ensures ∙ sym (head-arc c.args.graph.now c.args.source c.args.a (not_entry c.args.a c.eq.result c.eq.ensures c.if-eq.false))
 
 pub returns-else-eq-clause-low : goal.returns-else-eq-clause-low
 returns-else-eq-clause-low c =
     let l : 1 ≤ c.args.a = not_entry c.args.a c.eq.result c.eq.ensures c.if-eq.false in
-    let e = ap (λ r. r.head) c.road.ensures in let h = (c.vertices.ensures.roads.ends c.args.a (l, c.requires.arc)).1.0 in omega (arith, e, h)
+    let e = c.head.ensures in let h = (c.vertices.ensures.roads.ends c.args.a (l, c.requires.arc)).1.0 in omega (arith, e, h)
 
 pub returns-else-eq-clause-within : goal.returns-else-eq-clause-within
 returns-else-eq-clause-within c =
     let l : 1 ≤ c.args.a = not_entry c.args.a c.eq.result c.eq.ensures c.if-eq.false in
-    let e = ap (λ r. r.head) c.road.ensures in let h = (c.vertices.ensures.roads.ends c.args.a (l, c.requires.arc)).1.1 in omega (arith, e, h)
+    let e = c.head.ensures in let h = (c.vertices.ensures.roads.ends c.args.a (l, c.requires.arc)).1.1 in omega (arith, e, h)

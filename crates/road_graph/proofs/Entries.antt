@@ -1,0 +1,106 @@
+-- The entries of the index.
+use Rattle.std.proofs.Common.{◌≡◌, ℕ, ◌+◌, ◌-◌, ◌<◌, ◌≤◌, inl, inr, List, length, map, get_or, set, ap, sym, ◌∙◌, subst, arith, get_or-set_same, get_or-set_other}
+use Rattle.std.proofs.lemmas.Bool.{cases_eq}
+use Rattle.std.proofs.lemmas.List.{get_or-map, get_or_default, length-map}
+use Rattle.road_graph.specs.declared.OutRoad.{OutRoad}
+use Rattle.road_graph.specs.declared.compact.IndexEntry.{IndexEntry}
+use Rattle.road_graph.specs.declared.Side.TheVariants.{Tail}
+use Rattle.road_graph.specs.Roads.{Roads, IsRoads, HasArc, IsTurn, ListsRoadsFrom, arc_of, road_of, roads_of}
+use Rattle.road_graph.specs.Making.{AreRows, IsEntry, IsIndex, end_of}
+use Rattle.road_graph.proofs.Places.{number_is_arc, stands, turn_is}
+use Rattle.road_graph.proofs.Rising.{same_rising}
+
+-- what is read of the tails, and of the roads in the order of the rows
+tail_read : (g : Roads) (tails : List ℕ) → tails ≡ map (end_of Tail) g.arcs → (a : ℕ) → HasArc g a → get_or tails (a - 1) 0 ≡ (arc_of g a).tail
+tail_read g tails are a arc =
+    ap (λ xs. get_or xs (a - 1) 0) are ∙ get_or-map (end_of Tail) g.arcs (a - 1) (record { tail = 0; head = 0; weight = 0 }) 0 (omega (arith, arc.0, arc.1))
+
+road_read : (g : Roads) (numbers : List ℕ) (roads : List OutRoad) → roads ≡ roads_of g numbers → (k : ℕ) → k < length numbers → (d : OutRoad) →
+    get_or roads k d ≡ road_of (arc_of g (get_or numbers k 0))
+road_read g numbers roads are k lt d = ap (λ xs. get_or xs k d) are ∙ get_or-map (λ a. road_of (arc_of g a)) numbers k 0 d lt
+
+-- where an arc stands among those that leave its tail, its road stands among theirs
+road_at_turn : (g : Roads) (a v turn : ℕ) (roads : List OutRoad) → v ≡ (arc_of g a).tail → IsTurn g a turn → ListsRoadsFrom g v roads →
+    (turn < length roads) × ((d : OutRoad) → get_or roads turn d ≡ road_of (arc_of g a))
+road_at_turn g a v turn roads tail is listed =
+    let lists : ListsRoadsFrom g (arc_of g a).tail roads = rw (← tail) listed in
+    let same : is.numbers ≡ lists.0 = same_rising 0 is.numbers lists.0 is.lists.ascending lists.1.ascending
+    (λ b x. (lists.1.complete b).1 ((is.lists.complete b).0 x)) (λ b x. (is.lists.complete b).1 ((lists.1.complete b).0 x)) in
+    let inside : turn < length lists.0 = subst (λ (xs : List ℕ). turn < length xs) same is.inside in
+    let found : get_or lists.0 turn 0 ≡ a = subst (λ (xs : List ℕ). get_or xs turn 0 ≡ a) same is.found in
+    let long = simp length-map at (ap length lists.2) in
+    (omega (arith, long, inside), λ d. road_read g lists.0 roads lists.2 turn inside d ∙ ap (λ b. road_of (arc_of g b)) found)
+
+-- the entry that is read of the index tells where the arc's road stands
+module _ (g : Roads) (index list : List IndexEntry) (same : list ≡ index) (known : IsIndex g index) (a : ℕ) (arc : HasArc g a)
+    (number : ℕ) (is : number ≡ a) (entry : IndexEntry) (lt : number - 1 < length list) (read : entry ≡ get_or list (number - 1) entry) where
+  tells : IsEntry g a entry
+  tells =
+      let here : IsEntry g a (get_or list (a - 1) (record { tail = 0; head = 0; turn = 0 })) = rw same (known a arc (omega (arith, lt, ap length same))) in
+      let at : number - 1 ≡ a - 1 = ap (λ b. b - 1) is in
+      rw (read ∙ get_or_default list (number - 1) entry (record { tail = 0; head = 0; turn = 0 }) lt ∙ ap (λ k. get_or list k (record { tail = 0; head = 0; turn = 0 })) at) here
+
+  pub road_by_entry : (roads : List OutRoad) → ListsRoadsFrom g entry.tail roads → (entry.turn < length roads) × ((d : OutRoad) → get_or roads entry.turn d ≡ road_of (arc_of g a))
+  road_by_entry roads lists = road_at_turn g a entry.tail entry.turn roads tells.tail tells.turn lists
+
+-- the first k numbers have their entries
+abbrev pub AreTold : Roads → List ℕ → List IndexEntry → ℕ → Type 0
+AreTold g numbers entries k = (x : ℕ) → x < k → IsEntry g (get_or numbers x 0) (get_or entries (get_or numbers x 0 - 1) (record { tail = 0; head = 0; turn = 0 }))
+
+module _ (g : Roads) (roads : IsRoads g) (starts numbers tails : List ℕ) (known : AreRows Tail g.vertices g.arcs starts numbers) (are : tails ≡ map (end_of Tail) g.arcs) where
+  pub all_told : (entries : List IndexEntry) (k : ℕ) → length numbers ≤ k → AreTold g numbers entries k → IsIndex g entries
+  all_told entries k all told = λ a arc lt.
+      let at = stands g starts numbers known roads a arc in
+      subst (λ b. IsEntry g b (get_or entries (b - 1) (record { tail = 0; head = 0; turn = 0 }))) at.1.1 (told at.0 (let inside = at.1.0 in omega (arith, inside, all)))
+
+  -- the number at k
+  module _ (list : List ℕ) (same : list ≡ numbers) (k : ℕ) (in_list : k < length list) (number item : ℕ) (read : number ≡ get_or list k item) where
+    lt : k < length numbers
+    lt = rw (← same) in_list
+
+    is : number ≡ get_or numbers k 0
+    is = read ∙ get_or_default list k item 0 in_list ∙ ap (λ xs. get_or xs k 0) same
+
+    arc : HasArc g number
+    arc = rw is (number_is_arc g starts numbers known k lt)
+
+    pub number_some : 1 ≤ number
+    number_some = arc.0
+
+    pub number_inside : number - 1 < length tails
+    number_inside = let most = arc.1 in let long = simp length-map at (ap length are) in omega (arith, arc.0, most, long)
+
+    pub told_more : (entries : List IndexEntry) (entry : IndexEntry) → length entries ≡ length tails → IsEntry g number entry →
+        AreTold g numbers entries k → AreTold g numbers (set entries (number - 1) entry) (k + 1)
+    told_more entries entry long new told = λ x x_lt. elim (cases_eq (get_or numbers x 0) number) [
+      | inl this ↦ rw (this, get_or-set_same entries (number - 1) entry (record { tail = 0; head = 0; turn = 0 }) (let l = number_inside in omega (arith, l, long))) new
+      | inr other ↦
+          let ne : x ≡ k → ⊥ = λ e. other (ap (λ y. get_or numbers y 0) e ∙ sym is) in
+          let below = lt in
+          let first : 1 ≤ get_or numbers x 0 = (number_is_arc g starts numbers known x (omega (arith, below))).0 in
+          let some = number_some in
+          rw (get_or-set_other entries (number - 1) (get_or numbers x 0 - 1) entry (record { tail = 0; head = 0; turn = 0 }) (λ e. other (omega (arith, e, first, some)))) (told x (omega (arith, ne)))
+    ]
+
+    -- its tail, as the tails give it
+    module _ (tail found : ℕ) (tail_at : tail ≡ get_or tails (number - 1) found) where
+      tail_is : tail ≡ (arc_of g number).tail
+      tail_is = tail_at ∙ get_or_default tails (number - 1) found 0 number_inside ∙ tail_read g tails are number arc
+
+      pub tail_some : 1 ≤ tail
+      tail_some = let low = (roads.ends number arc).0.0 in let e = tail_is in omega (arith, low, e)
+
+      pub tail_inside : tail - 1 < length starts
+      tail_inside = let high = (roads.ends number arc).0.1 in let e = tail_is in let count = known.count in omega (arith, high, e, count)
+
+      -- and where its row starts
+      module _ (start start_found : ℕ) (start_at : start ≡ get_or starts (tail - 1) start_found) where
+        turn : (start ≤ k) × IsTurn g number (k - start)
+        turn = turn_is g starts numbers known number tail k start tail_is (lt, sym is) (start_at ∙ get_or_default starts (tail - 1) start_found 0 tail_inside)
+
+        pub start_before : start ≤ k
+        start_before = turn.0
+
+        pub is_entry : (list : List OutRoad) → list ≡ roads_of g numbers → (road : OutRoad) → road ≡ get_or list k road → IsEntry g number (record { tail = tail; head = road.head; turn = k - start })
+        is_entry list is_list road road_at =
+            record { tail = tail_is; head = ap (λ (r : OutRoad). r.head) (road_at ∙ road_read g numbers list is_list k lt road ∙ ap (λ b. road_of (arc_of g b)) (sym is)); turn = turn.1 }

@@ -2,6 +2,7 @@ pub mod Plans
 pub mod Tallies
 pub mod Tables
 pub mod PartState
+pub mod Queue
 pub mod Moves
 pub mod Part
 pub mod Readings

@@ -59,17 +59,10 @@ impl<V: Copy> Batch<V> {
 
     /// Whether an item on an arc stands at an index or behind it.
     pub(crate) fn stands_from(&self, from: usize, arc: ArcNo) -> bool
-        requires { from ≤ length self.now.items }
         ensures { result ≡ leb 1 (counted arc (drop from self.now.items)) }
     {
-        for i in from..self.len() {
-            if let Some(item) = self.get(i) {
-                if arc_of(item) == arc {
-                    return true;
-                }
-            }
-        }
-        false
+        let (one, other) = self.items.as_slices();
+        stands_in(one, from, arc) || stands_in(other, from.saturating_sub(one.len()), arc)
     }
 
     /// Puts an item at the back.
@@ -80,17 +73,6 @@ impl<V: Copy> Batch<V> {
         self.items.push_back(item);
     }
 
-    /// Moves all items of another batch behind its own.
-    pub(crate) fn append(&mut self, other: &mut Batch<V>)
-        requires { length self.old.items + length other.old.items ≤ self.old.capacity }
-        ensures own { self.new ≡ buffer (self.old.items ++ other.old.items) self.old.capacity }
-        ensures other { other.new ≡ buffer [] other.old.capacity }
-    {
-        while let Some(item) = other.pop() {
-            self.push(item);
-        }
-    }
-
     /// Takes the item at the front.
     pub(crate) fn pop(&mut self) -> Option<Item<V>>
         ensures value { result ≡ slice_get self.old.items 0 }
@@ -98,6 +80,18 @@ impl<V: Copy> Batch<V> {
     {
         self.items.pop_front()
     }
+}
+
+/// Whether an item on an arc stands in a list, at an index or behind it.
+pub(crate) fn stands_in<V: Copy>(items: &[Item<V>], from: usize, arc: ArcNo) -> bool
+    ensures { result ≡ leb 1 (counted arc (drop from items.now)) }
+{
+    for i in from..items.len() {
+        if arc_of(items[i]) == arc {
+            return true;
+        }
+    }
+    false
 }
 
 /// The arc that an item is on.

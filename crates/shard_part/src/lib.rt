@@ -7,6 +7,7 @@ mod layout;
 mod part;
 mod plan;
 mod question;
+mod queue;
 mod search;
 mod shard;
 mod state;

@@ -16,6 +16,7 @@ mod readings;
 
 use crate::batch::Batch;
 use crate::plan::Plan;
+use crate::queue::Queue;
 use crate::search::find_vertex;
 use crate::shard::Shard;
 use crate::tables::Tables;
@@ -33,7 +34,7 @@ pub struct PartState<'g, A: PathAlgebra> {
     source: Vertex,
     shard: Shard,
     tables: Tables<A::Value>,
-    queue: Batch<A::Value>,
+    queue: Queue<A::Value>,
     outs: Vec<Batch<A::Value>>,
     sent: u64,
     delivered: u64,

@@ -74,7 +74,7 @@ impl<'g, A: PathAlgebra> PartState<'g, A> {
     fn carries(&self, arc: ArcNo) -> bool
         ensures { result ≡ leb 1 (part_weight (λ _ j. is arc (item_arc j)) self.now) }
     {
-        if self.queue.stands_from(0, arc) {
+        if self.queue.carries(arc) {
             return true;
         }
         for out in &self.outs {

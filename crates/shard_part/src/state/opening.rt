@@ -11,6 +11,7 @@ ghost use Rattle.shard_part.specs.Opening.{opened_part, first_items, idle_rows};
 use crate::batch::Batch;
 use crate::layout::{ShardLayout, sum_of};
 use crate::plan::Plan;
+use crate::queue::Queue;
 use crate::shard::Shard;
 use crate::state::PartState;
 use crate::tables::{ArcTable, Tables, VertexTable};
@@ -74,11 +75,11 @@ fn opening_queue<A: PathAlgebra>(
     algebra: A,
     capacity: usize,
     first: bool,
-) -> Result<Batch<A::Value>, Memory>
+) -> Result<Queue<A::Value>, Memory>
     requires { IsTrue first → 1 ≤ capacity }
     ensures { IfOk result (λ q. q ≡ buffer (first_items (A.meaning algebra) first) capacity) }
 {
-    let mut queue = Batch::empty(alloc, capacity)?;
+    let mut queue = Queue::empty(alloc, capacity)?;
     if first {
         queue.push(Item::Message {
             arc: ENTRY,

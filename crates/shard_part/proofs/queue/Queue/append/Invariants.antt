@@ -1,5 +1,5 @@
 use Rattle.std.proofs.Common.{◌≡◌, ◌++◌, length}
-use Rattle.shard_part.proofs.batch.Batch.append.Given as goal
+use Rattle.shard_part.proofs.queue.Queue.append.Given as goal
 
 abbrev pub invariant-loop-item : goal.invariant-loop-item
 invariant-loop-item g l = record {

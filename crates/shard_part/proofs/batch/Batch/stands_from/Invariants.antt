@@ -1,6 +1,0 @@
-use Rattle.std.proofs.Common.{◌≡◌, drop}
-use Rattle.shard_part.specs.PartState.{counted}
-use Rattle.shard_part.proofs.batch.Batch.stands_from.Given as goal
-
-abbrev pub invariant-loop-i : goal.invariant-loop-i
-invariant-loop-i g l = counted l.arc (drop l.from l.self.items) ≡ counted l.arc (drop l.i l.self.items)

@@ -5,6 +5,7 @@ mod batch;
 pub mod laws;
 mod layout;
 mod part;
+mod place;
 mod plan;
 mod question;
 mod queue;

@@ -15,6 +15,7 @@ mod opening;
 mod readings;
 
 use crate::batch::Batch;
+use crate::place::{ArcPlace, VertexPlace};
 use crate::plan::Plan;
 use crate::queue::Queue;
 use crate::search::find_vertex;
@@ -65,124 +66,113 @@ impl<'g, A: PathAlgebra> PartState<'g, A> {
     }
 
     /// The label of the vertex at a place.
-    fn label_at(&self, v: Vertex, j: usize) -> Option<A::Value>
-        requires { IsPlace self.now v j }
-        ensures { result ≡ (state_in self.now).label v }
+    fn label_at(&self, v: VertexPlace) -> Option<A::Value>
+        requires { IsPlace self.now v.vertex v.at }
+        ensures { result ≡ (state_in self.now).label v.vertex }
     {
-        let _v = v;
-        self.tables.vertices.label(j)
+        self.tables.vertices.label(v.at)
     }
 
     /// The engager of the vertex at a place.
-    fn engager_at(&self, v: Vertex, j: usize) -> Option<ArcNo>
-        requires { IsPlace self.now v j }
-        ensures { result ≡ (state_in self.now).engager v }
+    fn engager_at(&self, v: VertexPlace) -> Option<ArcNo>
+        requires { IsPlace self.now v.vertex v.at }
+        ensures { result ≡ (state_in self.now).engager v.vertex }
     {
-        let _v = v;
-        self.tables.vertices.engager(j)
+        self.tables.vertices.engager(v.at)
     }
 
     /// The label of the vertex at a place becomes another.
-    fn set_label(&mut self, v: Vertex, j: usize, label: A::Value)
-        requires { IsPlace self.old v j }
-        ensures { self.new ≡ record self.old { labels = set self.old.labels v (Some label) } }
+    fn set_label(&mut self, v: VertexPlace, label: A::Value)
+        requires { IsPlace self.old v.vertex v.at }
+        ensures { self.new ≡ record self.old { labels = set self.old.labels v.vertex (Some label) } }
     {
-        let _v = v;
-        self.tables.vertices.set_label(j, label);
+        self.tables.vertices.set_label(v.at, label);
     }
 
     /// The arc a engages its head, the vertex at a place.
-    fn engage(&mut self, v: Vertex, j: usize, a: ArcNo)
-        requires place { IsPlace self.old v j }
+    fn engage(&mut self, v: VertexPlace, a: ArcNo)
+        requires place { IsPlace self.old v.vertex v.at }
         requires arc { IsArc (network_in self.old.setup) a }
-        requires head { (network_in self.old.setup).head a ≡ v }
+        requires head { (network_in self.old.setup).head a ≡ v.vertex }
         requires clear { IsClear self.old a }
-        ensures { self.new ≡ record self.old { engagers = set self.old.engagers v (Some a) } }
+        ensures { self.new ≡ record self.old { engagers = set self.old.engagers v.vertex (Some a) } }
     {
-        let _v = v;
-        self.tables.vertices.set_engager(j, Some(a));
+        self.tables.vertices.set_engager(v.at, Some(a));
     }
 
     /// The vertex at a place lets go of its engager.
-    fn release(&mut self, v: Vertex, j: usize, e: ArcNo)
-        requires place { IsPlace self.old v j }
-        requires vertex { v ≢ 0 }
-        requires engager { (state_in self.old).engager v ≡ Some e }
-        ensures moved { self.new ≡ record self.old { engagers = set self.old.engagers v None } }
+    fn release(&mut self, v: VertexPlace, e: ArcNo)
+        requires place { IsPlace self.old v.vertex v.at }
+        requires vertex { v.vertex ≢ 0 }
+        requires engager { (state_in self.old).engager v.vertex ≡ Some e }
+        ensures moved { self.new ≡ record self.old { engagers = set self.old.engagers v.vertex None } }
         ensures clear { IsClear self.new e }
         ensures arc { IsArc (network_in self.new.setup) e }
         ensures made { place_in self.new.setup ((network_in self.new.setup).head e) ≡ self.new.shard }
     {
-        let _v = v;
         let _e = e;
-        self.tables.vertices.set_engager(j, None);
+        self.tables.vertices.set_engager(v.at, None);
     }
 
     /// Whether the arc at a place is busy.
-    fn is_busy(&self, b: ArcNo, i: usize) -> bool
-        requires { IsRow self.now b i }
-        ensures { result ≡ get_or self.now.busy b false }
+    fn is_busy(&self, b: ArcPlace) -> bool
+        requires { IsRow self.now b.arc b.at }
+        ensures { result ≡ get_or self.now.busy b.arc false }
     {
-        let _b = b;
-        self.tables.arcs.is_busy(i)
+        self.tables.arcs.is_busy(b.at)
     }
 
     /// What the arc at a place was told last.
-    fn told(&self, b: ArcNo, i: usize) -> Option<A::Value>
-        requires { IsRow self.now b i }
-        ensures { result ≡ (state_in self.now).told b }
+    fn told(&self, b: ArcPlace) -> Option<A::Value>
+        requires { IsRow self.now b.arc b.at }
+        ensures { result ≡ (state_in self.now).told b.arc }
     {
-        let _b = b;
-        self.tables.arcs.told(i)
+        self.tables.arcs.told(b.at)
     }
 
     /// The arc at a place is told a label.
-    fn tell(&mut self, b: ArcNo, i: usize, label: Option<A::Value>)
-        requires { IsRow self.old b i }
-        ensures { self.new ≡ record self.old { told = set self.old.told b label } }
+    fn tell(&mut self, b: ArcPlace, label: Option<A::Value>)
+        requires { IsRow self.old b.arc b.at }
+        ensures { self.new ≡ record self.old { told = set self.old.told b.arc label } }
     {
-        let _b = b;
-        self.tables.arcs.tell(i, label);
+        self.tables.arcs.tell(b.at, label);
     }
 
     /// An idle arc becomes busy.
-    fn occupy(&mut self, v: Vertex, j: usize, b: ArcNo, i: usize)
-        requires place { IsPlace self.old v j }
-        requires row { IsRow self.old b i }
-        requires tail { (network_in self.old.setup).tail b ≡ v }
-        requires vertex { v ≢ 0 }
-        requires idle { get_or self.old.busy b false ≡ false }
-        ensures moved { self.new ≡ record self.old { busy = set self.old.busy b true } }
-        ensures clear { IsClear self.new b }
+    fn occupy(&mut self, v: VertexPlace, b: ArcPlace)
+        requires place { IsPlace self.old v.vertex v.at }
+        requires row { IsRow self.old b.arc b.at }
+        requires tail { (network_in self.old.setup).tail b.arc ≡ v.vertex }
+        requires vertex { v.vertex ≢ 0 }
+        requires idle { get_or self.old.busy b.arc false ≡ false }
+        ensures moved { self.new ≡ record self.old { busy = set self.old.busy b.arc true } }
+        ensures clear { IsClear self.new b.arc }
     {
-        let (_v, _b) = (v, b);
-        let deficit = self.tables.vertices.deficit(j);
-        self.tables.arcs.set_busy(i, true);
-        self.tables.vertices.set_deficit(j, deficit + 1);
+        let deficit = self.tables.vertices.deficit(v.at);
+        self.tables.arcs.set_busy(b.at, true);
+        self.tables.vertices.set_deficit(v.at, deficit + 1);
     }
 
     /// An arc whose signal was taken becomes idle.
-    fn free(&mut self, v: Vertex, j: usize, a: ArcNo, i: usize)
-        requires place { IsPlace self.old v j }
-        requires row { IsRow self.old a i }
-        requires tail { (network_in self.old.setup).tail a ≡ v }
-        requires here { place_in self.old.setup v ≡ self.old.shard }
-        requires clear { IsClear self.old a }
-        ensures { self.new ≡ record self.old { busy = set self.old.busy a false } }
+    fn free(&mut self, v: VertexPlace, a: ArcPlace)
+        requires place { IsPlace self.old v.vertex v.at }
+        requires row { IsRow self.old a.arc a.at }
+        requires tail { (network_in self.old.setup).tail a.arc ≡ v.vertex }
+        requires here { place_in self.old.setup v.vertex ≡ self.old.shard }
+        requires clear { IsClear self.old a.arc }
+        ensures { self.new ≡ record self.old { busy = set self.old.busy a.arc false } }
     {
-        let (_v, _a) = (v, a);
-        let deficit = self.tables.vertices.deficit(j);
-        self.tables.arcs.set_busy(i, false);
-        self.tables.vertices.set_deficit(j, deficit - 1);
+        let deficit = self.tables.vertices.deficit(v.at);
+        self.tables.arcs.set_busy(a.at, false);
+        self.tables.vertices.set_deficit(v.at, deficit - 1);
     }
 
     /// How many arcs out of the vertex at a place are busy.
-    fn deficit_at(&self, v: Vertex, j: usize) -> u32
-        requires { IsPlace self.now v j }
-        ensures { result ≡ busy_out (network_in self.now.setup) v (state_in self.now) (suc (length self.now.setup.roads.arcs)) }
+    fn deficit_at(&self, v: VertexPlace) -> u32
+        requires { IsPlace self.now v.vertex v.at }
+        ensures { result ≡ busy_out (network_in self.now.setup) v.vertex (state_in self.now) (suc (length self.now.setup.roads.arcs)) }
     {
-        let _v = v;
-        self.tables.vertices.deficit(j)
+        self.tables.vertices.deficit(v.at)
     }
 
     /// The shard of a vertex, and of the environment that of the source.
@@ -224,23 +214,26 @@ impl<'g, A: PathAlgebra> PartState<'g, A> {
         self.plan.shard_of(head)
     }
 
-    /// The place of a vertex.
-    fn place(&self, v: Vertex) -> usize
+    /// A vertex with its place.
+    fn place(&self, v: Vertex) -> VertexPlace
         requires within { v ≤ self.now.setup.roads.vertices }
         requires here { v ≢ 0 → place_in self.now.setup v ≡ self.now.shard }
-        ensures { IsPlace self.now v result }
+        ensures vertex { result.vertex ≡ v }
+        ensures place { IsPlace self.now result.vertex result.at }
     {
-        find_vertex(&self.tables.own, v)
+        VertexPlace {
+            vertex: v,
+            at: find_vertex(&self.tables.own, v),
+        }
     }
 
     /// The place of the k-th arc out of the vertex at a place.
-    fn row(&self, v: Vertex, j: usize, k: usize) -> usize
-        requires place { IsPlace self.now v j }
-        requires arc { k < length (outgoing (network_in self.now.setup) v) }
-        ensures { IsRow self.now (get_or (outgoing (network_in self.now.setup) v) k 0) result }
+    fn row(&self, v: VertexPlace, k: usize) -> usize
+        requires place { IsPlace self.now v.vertex v.at }
+        requires arc { k < length (outgoing (network_in self.now.setup) v.vertex) }
+        ensures { IsRow self.now (get_or (outgoing (network_in self.now.setup) v.vertex) k 0) result }
     {
-        let _v = v;
-        self.tables.offsets[j] as usize + k
+        self.tables.offsets[v.at] as usize + k
     }
 
     /// Takes the front item off the queue.
@@ -316,215 +309,211 @@ impl<'g, A: PathAlgebra> PartState<'g, A> {
 
 impl<'g, A: PathAlgebra> PartState<'g, A> {
     /// A message on arc a finds the vertex at a place: a neutral one is engaged, another answers.
-    fn engage_or_answer(&mut self, a: ArcNo, v: Vertex, j: usize)
-        requires place { IsPlace self.old v j }
-        requires vertex { v ≢ 0 }
+    fn engage_or_answer(&mut self, a: ArcNo, v: VertexPlace)
+        requires place { IsPlace self.old v.vertex v.at }
+        requires vertex { v.vertex ≢ 0 }
         requires arc { IsArc (network_in self.old.setup) a }
-        requires head { (network_in self.old.setup).head a ≡ v }
+        requires head { (network_in self.old.setup).head a ≡ v.vertex }
         requires clear { IsClear self.old a }
-        ensures { self.new ≡ engaged_or_answered a v ((state_in self.old).engager v) self.old }
+        ensures { self.new ≡ engaged_or_answered a v.vertex ((state_in self.old).engager v.vertex) self.old }
     {
-        match self.engager_at(v, j) {
-            None => self.engage(v, j, a),
+        match self.engager_at(v) {
+            None => self.engage(v, a),
             Some(_) => self.signal(a),
         }
     }
 
     /// The vertex at a place lets go, if it is engaged and no arc out of it is busy.
-    fn rest(&mut self, v: Vertex, j: usize)
-        requires place { IsPlace self.old v j }
-        requires vertex { v ≢ 0 }
-        ensures { self.new ≡ rested (A.meaning self.old.setup.algebra) v self.old }
+    fn rest(&mut self, v: VertexPlace)
+        requires place { IsPlace self.old v.vertex v.at }
+        requires vertex { v.vertex ≢ 0 }
+        ensures { self.new ≡ rested (A.meaning self.old.setup.algebra) v.vertex self.old }
     {
-        if let Some(e) = self.engager_at(v, j) {
-            if self.deficit_at(v, j) == 0 {
-                self.release(v, j, e);
+        if let Some(e) = self.engager_at(v) {
+            if self.deficit_at(v) == 0 {
+                self.release(v, e);
                 self.signal(e);
             }
         }
     }
 
     /// Whether the arc b out of the vertex at a place has to be told its label.
-    fn is_due(&self, v: Vertex, j: usize, b: ArcNo, i: usize) -> bool
-        requires place { IsPlace self.now v j }
-        requires row { IsRow self.now b i }
-        requires tail { (network_in self.now.setup).tail b ≡ v }
-        ensures { result ≡ due (A.meaning self.now.setup.algebra) (network_in self.now.setup) v (state_in self.now) b }
+    fn is_due(&self, v: VertexPlace, b: ArcPlace) -> bool
+        requires place { IsPlace self.now v.vertex v.at }
+        requires row { IsRow self.now b.arc b.at }
+        requires tail { (network_in self.now.setup).tail b.arc ≡ v.vertex }
+        ensures { result ≡ due (A.meaning self.now.setup.algebra) (network_in self.now.setup) v.vertex (state_in self.now) b.arc }
     {
         neither(
-            self.is_busy(b, i),
-            is_same(self.algebra, self.told(b, i), self.label_at(v, j)),
+            self.is_busy(b),
+            is_same(self.algebra, self.told(b), self.label_at(v)),
         )
     }
 
     /// The label of the vertex at a place, extended by the arc b.
-    fn extension(&self, v: Vertex, j: usize, b: ArcNo, weight: u32) -> Option<A::Value>
-        requires place { IsPlace self.now v j }
+    fn extension(&self, v: VertexPlace, b: ArcNo, weight: u32) -> Option<A::Value>
+        requires place { IsPlace self.now v.vertex v.at }
         requires arc { IsArc (network_in self.now.setup) b }
         requires graph { b ≢ 0 }
         requires weight { weight ≡ (arc_of self.now.setup.roads b).weight }
-        ensures { result ≡ extend_label (A.meaning self.now.setup.algebra) ((state_in self.now).label v) ((network_in self.now.setup).weight b) }
+        ensures { result ≡ extend_label (A.meaning self.now.setup.algebra) ((state_in self.now).label v.vertex) ((network_in self.now.setup).weight b) }
     {
         let _b = b;
-        extended(self.algebra, self.label_at(v, j), weight)
+        extended(self.algebra, self.label_at(v), weight)
     }
 
     /// A message goes along the idle arc b, if there is a value.
-    fn message(
-        &mut self,
-        v: Vertex,
-        j: usize,
-        b: ArcNo,
-        i: usize,
-        value: Option<A::Value>,
-        to: Shard,
-    )
-        requires place { IsPlace self.old v j }
-        requires vertex { v ≢ 0 }
-        requires row { IsRow self.old b i }
-        requires tail { (network_in self.old.setup).tail b ≡ v }
-        requires arc { IsArc (network_in self.old.setup) b }
-        requires made { place_in self.old.setup ((network_in self.old.setup).tail b) ≡ self.old.shard }
-        requires shard { to ≡ place_in self.old.setup ((network_in self.old.setup).head b) }
-        requires idle { get_or self.old.busy b false ≡ false }
-        ensures { self.new ≡ with_message b value self.old }
+    fn message(&mut self, v: VertexPlace, b: ArcPlace, value: Option<A::Value>, to: Shard)
+        requires place { IsPlace self.old v.vertex v.at }
+        requires vertex { v.vertex ≢ 0 }
+        requires row { IsRow self.old b.arc b.at }
+        requires tail { (network_in self.old.setup).tail b.arc ≡ v.vertex }
+        requires arc { IsArc (network_in self.old.setup) b.arc }
+        requires made { place_in self.old.setup ((network_in self.old.setup).tail b.arc) ≡ self.old.shard }
+        requires shard { to ≡ place_in self.old.setup ((network_in self.old.setup).head b.arc) }
+        requires idle { get_or self.old.busy b.arc false ≡ false }
+        ensures { self.new ≡ with_message b.arc value self.old }
     {
         if let Some(value) = value {
-            self.occupy(v, j, b, i);
-            self.put(Item::Message { arc: b, value }, to);
+            self.occupy(v, b);
+            self.put(Item::Message { arc: b.arc, value }, to);
         }
     }
 
     /// The due arc b out of the vertex at a place is told its label.
-    fn tell_anew(&mut self, v: Vertex, j: usize, b: ArcNo, i: usize, road: OutRoad)
-        requires place { IsPlace self.old v j }
-        requires vertex { v ≢ 0 }
-        requires row { IsRow self.old b i }
-        requires tail { (network_in self.old.setup).tail b ≡ v }
-        requires arc { IsArc (network_in self.old.setup) b }
-        requires graph { b ≢ 0 }
-        requires road { road ≡ road_of (arc_of self.old.setup.roads b) }
-        requires due { due (A.meaning self.old.setup.algebra) (network_in self.old.setup) v (state_in self.old) b ≡ true }
-        ensures { self.new ≡ offered (A.meaning self.old.setup.algebra) v b self.old }
+    fn tell_anew(&mut self, v: VertexPlace, b: ArcPlace, road: OutRoad)
+        requires place { IsPlace self.old v.vertex v.at }
+        requires vertex { v.vertex ≢ 0 }
+        requires row { IsRow self.old b.arc b.at }
+        requires tail { (network_in self.old.setup).tail b.arc ≡ v.vertex }
+        requires arc { IsArc (network_in self.old.setup) b.arc }
+        requires graph { b.arc ≢ 0 }
+        requires road { road ≡ road_of (arc_of self.old.setup.roads b.arc) }
+        requires due { due (A.meaning self.old.setup.algebra) (network_in self.old.setup) v.vertex (state_in self.old) b.arc ≡ true }
+        ensures { self.new ≡ offered (A.meaning self.old.setup.algebra) v.vertex b.arc self.old }
     {
-        let label = self.label_at(v, j);
-        let value = self.extension(v, j, b, road.weight);
-        let to = self.shard_behind(b, road.head);
-        self.tell(b, i, label);
-        self.message(v, j, b, i, value, to);
+        let label = self.label_at(v);
+        let value = self.extension(v, b.arc, road.weight);
+        let to = self.shard_behind(b.arc, road.head);
+        self.tell(b, label);
+        self.message(v, b, value, to);
     }
 
     /// The arc b out of the vertex at a place is told its label, if it is due.
-    fn offer(&mut self, v: Vertex, j: usize, b: ArcNo, i: usize, road: OutRoad)
-        requires place { IsPlace self.old v j }
-        requires vertex { v ≢ 0 }
-        requires row { IsRow self.old b i }
-        requires tail { (network_in self.old.setup).tail b ≡ v }
-        requires arc { IsArc (network_in self.old.setup) b }
-        requires graph { b ≢ 0 }
-        requires road { road ≡ road_of (arc_of self.old.setup.roads b) }
-        ensures { self.new ≡ offered (A.meaning self.old.setup.algebra) v b self.old }
+    fn offer(&mut self, v: VertexPlace, b: ArcPlace, road: OutRoad)
+        requires place { IsPlace self.old v.vertex v.at }
+        requires vertex { v.vertex ≢ 0 }
+        requires row { IsRow self.old b.arc b.at }
+        requires tail { (network_in self.old.setup).tail b.arc ≡ v.vertex }
+        requires arc { IsArc (network_in self.old.setup) b.arc }
+        requires graph { b.arc ≢ 0 }
+        requires road { road ≡ road_of (arc_of self.old.setup.roads b.arc) }
+        ensures { self.new ≡ offered (A.meaning self.old.setup.algebra) v.vertex b.arc self.old }
     {
-        if self.is_due(v, j, b, i) {
-            self.tell_anew(v, j, b, i, road);
+        if self.is_due(v, b) {
+            self.tell_anew(v, b, road);
         }
     }
 
     /// The same for the k-th arc out of the vertex. Most arcs are not due, and only that of one that is due is looked up.
-    fn offer_again(&mut self, v: Vertex, j: usize, k: usize, b: ArcNo, i: usize)
-        requires place { IsPlace self.old v j }
-        requires vertex { v ≢ 0 }
-        requires inside { k < length (outgoing (network_in self.old.setup) v) }
-        requires turn { get_or (outgoing (network_in self.old.setup) v) k 0 ≡ b }
-        requires row { IsRow self.old b i }
-        requires tail { (network_in self.old.setup).tail b ≡ v }
-        requires arc { IsArc (network_in self.old.setup) b }
-        requires graph { b ≢ 0 }
-        ensures { self.new ≡ offered (A.meaning self.old.setup.algebra) v b self.old }
+    fn offer_again(&mut self, v: VertexPlace, k: usize, b: ArcPlace)
+        requires place { IsPlace self.old v.vertex v.at }
+        requires vertex { v.vertex ≢ 0 }
+        requires inside { k < length (outgoing (network_in self.old.setup) v.vertex) }
+        requires turn { get_or (outgoing (network_in self.old.setup) v.vertex) k 0 ≡ b.arc }
+        requires row { IsRow self.old b.arc b.at }
+        requires tail { (network_in self.old.setup).tail b.arc ≡ v.vertex }
+        requires arc { IsArc (network_in self.old.setup) b.arc }
+        requires graph { b.arc ≢ 0 }
+        ensures { self.new ≡ offered (A.meaning self.old.setup.algebra) v.vertex b.arc self.old }
     {
-        if self.is_due(v, j, b, i) {
-            let road = self.road_at(v, j, k, b);
-            self.tell_anew(v, j, b, i, road);
+        if self.is_due(v, b) {
+            let road = self.road_at(v, k, b.arc);
+            self.tell_anew(v, b, road);
         }
     }
 }
 
 impl<'g, A: PathAlgebra> PartState<'g, A> {
     /// Each due arc out of the vertex at a place is told its label.
-    fn pump(&mut self, v: Vertex, j: usize)
-        requires place { IsPlace self.old v j }
-        requires vertex { v ≢ 0 }
-        ensures { self.new ≡ offered_all (A.meaning self.old.setup.algebra) v (outgoing (network_in self.old.setup) v) self.old }
+    fn pump(&mut self, v: VertexPlace)
+        requires place { IsPlace self.old v.vertex v.at }
+        requires vertex { v.vertex ≢ 0 }
+        ensures { self.new ≡ offered_all (A.meaning self.old.setup.algebra) v.vertex (outgoing (network_in self.old.setup) v.vertex) self.old }
     {
         let graph = self.graph;
-        let outgoing = graph.out(v);
+        let outgoing = graph.out(v.vertex);
         for (k, b) in outgoing.iter().enumerate() {
-            let i = self.row(v, j, k);
-            let road = self.road_at(v, j, k, *b);
-            self.offer(v, j, *b, i, road);
+            let i = self.row(v, k);
+            let road = self.road_at(v, k, *b);
+            self.offer(v, ArcPlace { arc: *b, at: i }, road);
         }
     }
 
     /// The same where the label improved, and nothing else: then each idle arc was told it before.
-    fn pump_if(&mut self, v: Vertex, j: usize, improved: bool)
-        requires place { IsPlace self.old v j }
-        requires vertex { v ≢ 0 }
-        ensures { self.new ≡ cond improved (offered_all (A.meaning self.old.setup.algebra) v (outgoing (network_in self.old.setup) v) self.old) self.old }
+    fn pump_if(&mut self, v: VertexPlace, improved: bool)
+        requires place { IsPlace self.old v.vertex v.at }
+        requires vertex { v.vertex ≢ 0 }
+        ensures { self.new ≡ cond improved (offered_all (A.meaning self.old.setup.algebra) v.vertex (outgoing (network_in self.old.setup) v.vertex) self.old) self.old }
     {
         if improved {
-            self.pump(v, j);
+            self.pump(v);
         }
     }
 
     /// The label of the vertex at a place becomes the value, if that is better.
-    fn improve(&mut self, v: Vertex, j: usize, value: A::Value) -> bool
-        requires { IsPlace self.old v j }
-        ensures improved { result ≡ improves_on (A.meaning self.old.setup.algebra) value ((state_in self.old).label v) }
-        ensures moved { self.new ≡ labelled (A.meaning self.old.setup.algebra) value v self.old }
+    fn improve(&mut self, v: VertexPlace, value: A::Value) -> bool
+        requires { IsPlace self.old v.vertex v.at }
+        ensures improved { result ≡ improves_on (A.meaning self.old.setup.algebra) value ((state_in self.old).label v.vertex) }
+        ensures moved { self.new ≡ labelled (A.meaning self.old.setup.algebra) value v.vertex self.old }
     {
-        let improved = improves(self.algebra, value, self.label_at(v, j));
+        let improved = improves(self.algebra, value, self.label_at(v));
         if improved {
-            self.set_label(v, j, value);
+            self.set_label(v, value);
         }
         improved
     }
 
     /// Where the arc a stands among those out of the vertex at a place.
-    fn turn_of(&self, v: Vertex, j: usize, a: ArcNo) -> usize
-        requires place { IsPlace self.now v j }
+    fn turn_of(&self, v: VertexPlace, a: ArcNo) -> usize
+        requires place { IsPlace self.now v.vertex v.at }
         requires arc { IsArc (network_in self.now.setup) a }
-        requires tail { (network_in self.now.setup).tail a ≡ v }
-        ensures inside { result < length (outgoing (network_in self.now.setup) v) }
-        ensures arc { get_or (outgoing (network_in self.now.setup) v) result 0 ≡ a }
+        requires tail { (network_in self.now.setup).tail a ≡ v.vertex }
+        ensures inside { result < length (outgoing (network_in self.now.setup) v.vertex) }
+        ensures arc { get_or (outgoing (network_in self.now.setup) v.vertex) result 0 ≡ a }
     {
-        let (_v, _j) = (v, j);
+        let _v = v;
         if a.0 == 0 {
             return 0;
         }
         self.graph.turn(a)
     }
 
-    /// The place of the arc a out of the vertex at a place.
-    fn row_of(&self, v: Vertex, j: usize, a: ArcNo) -> usize
-        requires place { IsPlace self.now v j }
+    /// The arc a out of the vertex at a place, with its own place.
+    fn row_of(&self, v: VertexPlace, a: ArcNo) -> ArcPlace
+        requires place { IsPlace self.now v.vertex v.at }
         requires arc { IsArc (network_in self.now.setup) a }
-        requires tail { (network_in self.now.setup).tail a ≡ v }
-        ensures { IsRow self.now a result }
+        requires tail { (network_in self.now.setup).tail a ≡ v.vertex }
+        ensures arc { result.arc ≡ a }
+        ensures row { IsRow self.now result.arc result.at }
     {
-        let k = self.turn_of(v, j, a);
-        self.row(v, j, k)
+        let k = self.turn_of(v, a);
+        ArcPlace {
+            arc: a,
+            at: self.row(v, k),
+        }
     }
 
     /// Head and weight of the arc b, the k-th out of the vertex at a place.
-    fn road_at(&self, v: Vertex, j: usize, k: usize, b: ArcNo) -> OutRoad
-        requires place { IsPlace self.now v j }
-        requires vertex { v ≢ 0 }
-        requires inside { k < length (outgoing (network_in self.now.setup) v) }
-        requires arc { get_or (outgoing (network_in self.now.setup) v) k 0 ≡ b }
+    fn road_at(&self, v: VertexPlace, k: usize, b: ArcNo) -> OutRoad
+        requires place { IsPlace self.now v.vertex v.at }
+        requires vertex { v.vertex ≢ 0 }
+        requires inside { k < length (outgoing (network_in self.now.setup) v.vertex) }
+        requires arc { get_or (outgoing (network_in self.now.setup) v.vertex) k 0 ≡ b }
         ensures { result ≡ road_of (arc_of self.now.setup.roads b) }
     {
-        let (_j, _b) = (j, b);
-        self.graph.roads_from(v)[k]
+        let _b = b;
+        self.graph.roads_from(v.vertex)[k]
     }
 
     /// A message is handled at its head.
@@ -534,12 +523,11 @@ impl<'g, A: PathAlgebra> PartState<'g, A> {
         requires clear { IsClear self.old a }
         ensures { self.new ≡ with_value (A.meaning self.old.setup.algebra) a value ((network_in self.old.setup).head a) self.old }
     {
-        let v = self.head(a);
-        let j = self.place(v);
-        let improved = self.improve(v, j, value);
-        self.engage_or_answer(a, v, j);
-        self.pump_if(v, j, improved);
-        self.rest(v, j);
+        let v = self.place(self.head(a));
+        let improved = self.improve(v, value);
+        self.engage_or_answer(a, v);
+        self.pump_if(v, improved);
+        self.rest(v);
     }
 
     /// A signal is handled at its tail.
@@ -549,14 +537,16 @@ impl<'g, A: PathAlgebra> PartState<'g, A> {
         requires clear { IsClear self.old a }
         ensures { self.new ≡ with_free (A.meaning self.old.setup.algebra) a ((network_in self.old.setup).tail a) self.old }
     {
-        let v = self.tail(a);
-        let j = self.place(v);
-        let k = self.turn_of(v, j, a);
-        let i = self.row(v, j, k);
-        self.free(v, j, a, i);
+        let v = self.place(self.tail(a));
+        let k = self.turn_of(v, a);
+        let b = ArcPlace {
+            arc: a,
+            at: self.row(v, k),
+        };
+        self.free(v, b);
         if a.0 > 0 {
-            self.offer_again(v, j, k, a, i);
-            self.rest(v, j);
+            self.offer_again(v, k, b);
+            self.rest(v);
         }
     }
 }

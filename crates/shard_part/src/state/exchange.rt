@@ -8,6 +8,7 @@ ghost use Rattle.shard_part.specs.Moves.{IsPlace};
 ghost use Rattle.shard_part.specs.Exchange.{Fits, FitsAlone, FitsBefore, MayEngage, Awaits};
 
 use crate::batch::{Batch, arc_of};
+use crate::place::VertexPlace;
 use crate::shard::Shard;
 use crate::state::PartState;
 use path_algebra::PathAlgebra;
@@ -113,11 +114,11 @@ impl<'g, A: PathAlgebra> PartState<'g, A> {
     }
 
     /// Whether an arc engages the vertex at a place.
-    fn engages(&self, v: Vertex, j: usize, arc: ArcNo) -> bool
-        requires { IsPlace self.now v j }
-        ensures { result ≡ names ((state_in self.now).engager v) arc }
+    fn engages(&self, v: VertexPlace, arc: ArcNo) -> bool
+        requires { IsPlace self.now v.vertex v.at }
+        ensures { result ≡ names ((state_in self.now).engager v.vertex) arc }
     {
-        match self.engager_at(v, j) {
+        match self.engager_at(v) {
             Some(engager) => arc == engager,
             None => false,
         }
@@ -129,8 +130,7 @@ impl<'g, A: PathAlgebra> PartState<'g, A> {
         ensures { IsTrue result ↔ MayEngage self.now arc }
     {
         let ends = self.graph.arc(arc);
-        self.leads_here(ends.tail, ends.head)
-            && !self.engages(ends.head, self.place(ends.head), arc)
+        self.leads_here(ends.tail, ends.head) && !self.engages(self.place(ends.head), arc)
     }
 
     /// Whether an arc leaves this shard for another and is busy.
@@ -140,6 +140,6 @@ impl<'g, A: PathAlgebra> PartState<'g, A> {
     {
         let ends = self.graph.arc(arc);
         self.leads_here(ends.head, ends.tail)
-            && self.is_busy(arc, self.row_of(ends.tail, self.place(ends.tail), arc))
+            && self.is_busy(self.row_of(self.place(ends.tail), arc))
     }
 }

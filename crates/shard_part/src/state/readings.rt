@@ -6,6 +6,7 @@ ghost use Rattle.shard_part.specs.Moves.{IsPlanned, IsTallied};
 ghost use Rattle.shard_part.specs.Tallies.{top};
 ghost use Rattle.shard_part.specs.Readings.{IsOwn, has_ended, tally_in};
 
+use crate::place::ArcPlace;
 use crate::question::Question;
 use crate::shard::Shard;
 use crate::state::PartState;
@@ -81,7 +82,7 @@ impl<'g, A: PathAlgebra> PartState<'g, A> {
     pub fn ended(&self) -> bool
         ensures { result ≡ has_ended self.now }
     {
-        self.shard_of(Vertex(0)) == self.shard && !self.is_busy(ENTRY, 0)
+        self.shard_of(Vertex(0)) == self.shard && !self.is_busy(ArcPlace { arc: ENTRY, at: 0 })
     }
 
     /// Whether v is a vertex of this shard.
@@ -96,7 +97,7 @@ impl<'g, A: PathAlgebra> PartState<'g, A> {
         requires { IsOwn self.now v }
         ensures { result ≡ (state_in self.now).label v }
     {
-        self.label_at(v, self.place(v))
+        self.label_at(self.place(v))
     }
 
     /// The arc that engages a vertex of this shard.
@@ -104,7 +105,7 @@ impl<'g, A: PathAlgebra> PartState<'g, A> {
         requires { IsOwn self.now v }
         ensures { result ≡ (state_in self.now).engager v }
     {
-        self.engager_at(v, self.place(v))
+        self.engager_at(self.place(v))
     }
 
     /// How many arcs out of a vertex of this shard are not idle.
@@ -112,7 +113,7 @@ impl<'g, A: PathAlgebra> PartState<'g, A> {
         requires { IsOwn self.now v }
         ensures { result ≡ busy_out (network_in self.now.setup) v (state_in self.now) (suc (length self.now.setup.roads.arcs)) }
     {
-        self.deficit_at(v, self.place(v))
+        self.deficit_at(self.place(v))
     }
 
     /// What has been counted, the environment's message and the acceptance of its signal at the source's part.

@@ -1,5 +1,7 @@
+use Rattle.std.proofs.Common.{ap}
 use Rattle.shard_part.proofs.Moves.{label_read}
+use Rattle.shard_part.specs.Places.{VertexAt}
 use Rattle.shard_part.proofs.state.PartState.label_at.Goals as goal
 
 pub returns : goal.returns
-returns g c = label_read _ c.args.self.now _ _ _ c.args.v c.args.j c.label.result c.self.view_is c.self.invariant c.requires c.label.ensures
+returns g c = label_read _ c.args.self.now _ _ _ c.args.v.vertex c.args.v.at c.label.result c.self.view_is c.self.invariant c.requires (rw (ap (λ (w : VertexAt). w.at) c.v.view_is) at c.label.ensures)

@@ -7,5 +7,5 @@ find_vertex-requires-clause-rises g c = (own_rising _ c.args.self.now _ _ _ c.de
 pub find_vertex-requires-clause-stands : goal.find_vertex-requires-clause-stands
 find_vertex-requires-clause-stands g c = (own_rising _ c.args.self.now _ _ _ c.deref.result.now c.args.v c.self.view_is c.self.invariant c.deref.ensures.value c.requires.within c.requires.here).1
 
-pub returns : goal.returns
-returns g c = place_leaves _ c.args.self.now _ _ _ c.deref.result.now c.args.v c.find_vertex.result c.self.view_is c.self.invariant c.deref.ensures.value c.find_vertex.ensures.inside c.find_vertex.ensures.found
+pub returns-clause-place : goal.returns-clause-place
+returns-clause-place g c = place_leaves _ c.args.self.now _ _ _ c.deref.result.now c.args.v c.find_vertex.result c.self.view_is c.self.invariant c.deref.ensures.value c.find_vertex.ensures.inside c.find_vertex.ensures.found

@@ -7,11 +7,11 @@ pub turn-requires : goal.turn-requires
 turn-requires g c = arc_in_graph _ c.args.self.now _ _ _ c.args.a c.self.view_is c.self.invariant c.requires.arc (λ y. absurd (omega (arith, y)))
 
 pub returns-clause-inside : goal.returns-clause-inside
-returns-clause-inside g c = (turn_found (g.A.PathAlgebra.meaning c.args.self.now.setup.algebra) _ c.args.self.now c.args.v c.args.a c.turn.result c.self.view_is
-    (tail_vertex (g.A.PathAlgebra.meaning c.args.self.now.setup.algebra) _ c.args.self.now _ _ _ c.args.v c.args.j c.args.a c.self.view_is c.self.invariant c.requires.place c.requires.arc c.requires.tail (λ y. absurd (omega (arith, y))))
+returns-clause-inside g c = (turn_found (g.A.PathAlgebra.meaning c.args.self.now.setup.algebra) _ c.args.self.now c.args.v.vertex c.args.a c.turn.result c.self.view_is
+    (tail_vertex (g.A.PathAlgebra.meaning c.args.self.now.setup.algebra) _ c.args.self.now _ _ _ c.args.v.vertex c.args.v.at c.args.a c.self.view_is c.self.invariant c.requires.place c.requires.arc c.requires.tail (λ y. absurd (omega (arith, y))))
     c.requires.tail (λ y. absurd (omega (arith, y))) c.turn.ensures).0
 
 pub returns-clause-arc : goal.returns-clause-arc
-returns-clause-arc g c = (turn_found (g.A.PathAlgebra.meaning c.args.self.now.setup.algebra) _ c.args.self.now c.args.v c.args.a c.turn.result c.self.view_is
-    (tail_vertex (g.A.PathAlgebra.meaning c.args.self.now.setup.algebra) _ c.args.self.now _ _ _ c.args.v c.args.j c.args.a c.self.view_is c.self.invariant c.requires.place c.requires.arc c.requires.tail (λ y. absurd (omega (arith, y))))
+returns-clause-arc g c = (turn_found (g.A.PathAlgebra.meaning c.args.self.now.setup.algebra) _ c.args.self.now c.args.v.vertex c.args.a c.turn.result c.self.view_is
+    (tail_vertex (g.A.PathAlgebra.meaning c.args.self.now.setup.algebra) _ c.args.self.now _ _ _ c.args.v.vertex c.args.v.at c.args.a c.self.view_is c.self.invariant c.requires.place c.requires.arc c.requires.tail (λ y. absurd (omega (arith, y))))
     c.requires.tail (λ y. absurd (omega (arith, y))) c.turn.ensures).1

@@ -1,16 +1,18 @@
 -- An arc is offered a label: the code's steps are the definition's.
-use Rattle.std.proofs.Common.{◌≡◌, ◌≢◌, ℕ, suc, Bool, true, false, not, ◌&&◌, eqb, Option, Some, None, List, length, set, get_or, refl, sym, ap, ◌∙◌, subst, eq-eqb, ne_eqb}
+use Rattle.std.proofs.Common.{◌≡◌, ◌≢◌, ℕ, suc, Bool, true, false, not, ◌&&◌, eqb, Option, Some, None, List, length, set, get_or, refl, sym, ap, ◌∙◌, subst, inr, eq-eqb, ne_eqb}
+use Rattle.std.proofs.lemmas.Bool.{cond-true}
 use Rattle.path_algebra.specs.Algebra.{Algebra}
 use Rattle.scholten_core.specs.declared.item.Item.TheVariants.{Signal as SignalOn}
 use Rattle.scholten_core.specs.Diffusion.{is_idle, is_due, same_label, extend_label, out_idle}
 use Rattle.road_graph.specs.Roads.{arc_of}
 use Rattle.scholten_core.proofs.Networks.{weight-arc}
 use Rattle.scholten_core.specs.Deficit.{busy_out}
+use Rattle.shard_part.specs.Plans.{shard_in}
 use Rattle.shard_part.specs.PartState.{PartData, state_in, token_if, network_in, place_in, IsArc}
-use Rattle.shard_part.proofs.Graphs.{arc_in_graph}
+use Rattle.shard_part.proofs.Graphs.{arc_in_graph, head_told, shard_is}
 use Rattle.shard_part.proofs.Moves.{mine_at}
 use Rattle.scholten_core.proofs.Quick.{out_idle_counted}
-use Rattle.shard_part.specs.Moves.{Rows, IsStored, IsPlace, with_item, rested, rested_by}
+use Rattle.shard_part.specs.Moves.{Rows, IsStored, IsPlace, with_item, with_message, offered, rested, rested_by}
 
 module _ {S V : Type 0} (A : Algebra V) where
   pub due_read : (p : PartData S V) (v b : ℕ) (busy same : Bool) → (network_in p.setup).tail b ≡ v → busy ≡ get_or p.busy b false → same ≡ same_label A ((state_in p).told b) ((state_in p).label v) →
@@ -41,10 +43,23 @@ module _ {S V : Type 0} (A : Algebra V) where
       go true false true e = sym e
       go true false false e = sym e
 
-  pub extension_read : (p old : PartData S V) (r : Rows V) (n : ℕ) (ns : List ℕ) (meaning : S → Algebra V) (label x : Option V) (v b w : ℕ) → p ≡ old → IsStored p r n ns → IsArc (network_in old.setup) b → b ≢ 0 →
-      label ≡ (state_in old).label v → w ≡ (arc_of p.setup.roads b).weight → x ≡ extend_label (meaning p.setup.algebra) label w → x ≡ extend_label (meaning old.setup.algebra) ((state_in old).label v) ((network_in old.setup).weight b)
-  extension_read p old r n ns meaning label x v b w e D ar nz l y h =
-      h ∙ (λ i. extend_label (meaning (e i).setup.algebra) (l i) (((y ∙ sym (weight-arc p.setup.roads b (arc_in_graph p old r n ns b e D ar nz).0)) ∙ ap (λ (u : PartData S V). (network_in u.setup).weight b) e) i))
+  pub weight_told : (p old : PartData S V) (r : Rows V) (n : ℕ) (ns : List ℕ) (b w : ℕ) → p ≡ old → IsStored p r n ns → IsArc (network_in old.setup) b → b ≢ 0 → w ≡ (arc_of old.setup.roads b).weight → w ≡ (network_in old.setup).weight b
+  weight_told p old r n ns b w e D ar nz is =
+      is ∙ ap (λ (u : PartData S V). (arc_of u.setup.roads b).weight) (sym e) ∙ sym (weight-arc p.setup.roads b (arc_in_graph p old r n ns b e D ar nz).0) ∙ ap (λ (u : PartData S V). (network_in u.setup).weight b) e
+
+  -- the shard behind an arc, still so where a value was told
+  pub shard_told : (p old q : PartData S V) (r : Rows V) (n : ℕ) (ns : List ℕ) (b w s : ℕ) (label : Option V) → p ≡ old → IsStored p r n ns → IsArc (network_in old.setup) b → b ≢ 0 → w ≡ (arc_of old.setup.roads b).head → s ≡ shard_in p.setup.plan w →
+      q ≡ record old { told = set old.told b label } → s ≡ place_in q.setup ((network_in q.setup).head b)
+  shard_told p old q r n ns b w s label e D ar nz is h m =
+      let T = head_told p old r n ns b w e D ar nz is in
+      h ∙ shard_is p old r n ns w w e D (inr (T.1.0, refl)) ∙ ap (place_in old.setup) T.0 ∙ ap (λ (u : PartData S V). place_in u.setup ((network_in u.setup).head b)) (sym m)
+
+  -- a due arc is told the label
+  pub told_anew : (p q new : PartData S V) (v b w : ℕ) (label x : Option V) → is_due A (network_in p.setup) v (state_in p) b ≡ true → label ≡ (state_in p).label v → w ≡ (network_in p.setup).weight b → x ≡ extend_label A label w →
+      q ≡ record p { told = set p.told b label } → new ≡ with_message b x q → new ≡ offered A v b p
+  told_anew p q new v b w label x due l y h e m =
+      m ∙ (λ i. with_message b (h i) (e i)) ∙ (λ i. with_message b (extend_label A (l i) (y i)) (record p { told = set p.told b (l i) }))
+      ∙ sym (cond-true (is_due A (network_in p.setup) v (state_in p) b) (with_message b (extend_label A ((state_in p).label v) ((network_in p.setup).weight b)) (record p { told = set p.told b ((state_in p).label v) })) p due)
 
   -- a move of told values leaves places, idle arcs and shards as they are
   pub tail_mine : (p q : PartData S V) (v j b : ℕ) (label : Option V) → q ≡ record p { told = set p.told b label } → IsPlace p v j → v ≢ 0 → (network_in p.setup).tail b ≡ v → place_in q.setup ((network_in q.setup).tail b) ≡ q.shard

@@ -9,7 +9,7 @@ use Rattle.scholten_core.specs.Diffusion.{is_due, extend_label, improves}
 use Rattle.shard_part.specs.PartState.{Setup, PartData, state_in, network_in, outgoing, own_in, IsArc}
 use Rattle.shard_part.specs.Moves.{Rows, IsStored, IsPlace, IsRow, with_message, engaged_or_answered, labelled, offered, offered_all, rested, with_value}
 use Rattle.scholten_core.proofs.Networks.{tail-arc}
-use Rattle.shard_part.proofs.Graphs.{out_is, roads_are, road_is}
+use Rattle.shard_part.proofs.Graphs.{arc_in_graph, out_is, roads_are, road_is}
 use Rattle.shard_part.proofs.Moves.{formed}
 use Rattle.shard_part.proofs.Places.{own_below, outgoing_picked}
 
@@ -99,24 +99,26 @@ module _ {S V : Type 0} where
       ((W.head_in b tn, λ _. tn), λ z. tn (ap (network_in q.setup).tail z ∙ W.tail_zero))
 
   -- an arc among those out of its tail
-  pub tail_vertex : (A : Algebra V) (p old : PartData S V) (r : Rows V) (n : ℕ) (ns : List ℕ) (v j a : ℕ) → p ≡ old → IsStored p r n ns → IsPlace old v j → IsArc (network_in old.setup) a → (network_in old.setup).tail a ≡ v → a ≢ 0 → HasVertex p.setup.roads v
-  tail_vertex A p old r n ns v j a e D P ar t nz = vertex_at A p old r n ns v j e D P (λ z. ar.1 nz (t ∙ z))
+  pub tail_vertex : (p old : PartData S V) (r : Rows V) (n : ℕ) (ns : List ℕ) (a : ℕ) → p ≡ old → IsStored p r n ns → IsArc (network_in old.setup) a → a ≢ 0 → HasVertex p.setup.roads ((network_in old.setup).tail a)
+  tail_vertex p old r n ns a e D ar nz =
+      let g = arc_in_graph p old r n ns a e D ar nz in subst (HasVertex p.setup.roads) (sym (tail-arc p.setup.roads a g.0) ∙ ap (λ (u : PartData S V). (network_in u.setup).tail a) e) (D.planned.roads.ends a g).0
 
   -- where the graph says that an arc stands among those out of its tail
-  pub turn_found : (A : Algebra V) (p old : PartData S V) (v a k : ℕ) → p ≡ old → HasVertex p.setup.roads v → (network_in old.setup).tail a ≡ v → a ≢ 0 → IsTurn p.setup.roads a k →
-      (k < length (outgoing (network_in old.setup) v)) × (get_or (outgoing (network_in old.setup) v) k 0 ≡ a)
-  turn_found A p old v a k e h t nz turn =
+  pub turn_found : (A : Algebra V) (p old : PartData S V) (r : Rows V) (n : ℕ) (ns : List ℕ) (a k : ℕ) → p ≡ old → IsStored p r n ns → IsArc (network_in old.setup) a → a ≢ 0 → IsTurn p.setup.roads a k →
+      (k < length (outgoing (network_in old.setup) ((network_in old.setup).tail a))) × (get_or (outgoing (network_in old.setup) ((network_in old.setup).tail a)) k 0 ≡ a)
+  turn_found A p old r n ns a k e D ar nz turn =
+      let h = tail_vertex p old r n ns a e D ar nz in
       let low : 1 ≤ a = omega arith in
-      let tail : (arc_of p.setup.roads a).tail ≡ v = sym (tail-arc p.setup.roads a low) ∙ ap (λ (u : PartData S V). (network_in u.setup).tail a) e ∙ t in
-      let is = listed_out A p old v turn.numbers e h.0 (subst (λ w. ListsArcsFrom p.setup.roads w turn.numbers) tail turn.lists) in
+      let tail : (arc_of p.setup.roads a).tail ≡ (network_in old.setup).tail a = sym (tail-arc p.setup.roads a low) ∙ ap (λ (u : PartData S V). (network_in u.setup).tail a) e in
+      let is = listed_out A p old ((network_in old.setup).tail a) turn.numbers e h.0 (subst (λ w. ListsArcsFrom p.setup.roads w turn.numbers) tail turn.lists) in
       (subst (λ ys. k < length ys) is turn.inside, ap (λ ys. get_or ys k 0) (sym is) ∙ turn.found)
 
   -- head and weight of the k-th arc out of a vertex
-  pub road_found : (A : Algebra V) (p old : PartData S V) (r : Rows V) (n : ℕ) (ns : List ℕ) (v j k b : ℕ) (rs : List OutRoad) (d : OutRoad) → p ≡ old → IsStored p r n ns → IsPlace old v j → v ≢ 0 → ListsRoadsFrom p.setup.roads v rs →
-      k < length (outgoing (network_in old.setup) v) → get_or (outgoing (network_in old.setup) v) k 0 ≡ b → (k < length rs) × (get_or rs k d ≡ road_of (arc_of old.setup.roads b))
-  road_found A p old r n ns v j k b rs d e D P nz o l h =
+  pub road_found : (A : Algebra V) (p old : PartData S V) (r : Rows V) (n : ℕ) (ns : List ℕ) (v j k : ℕ) (rs : List OutRoad) (d : OutRoad) → p ≡ old → IsStored p r n ns → IsPlace old v j → v ≢ 0 → ListsRoadsFrom p.setup.roads v rs →
+      k < length (outgoing (network_in old.setup) v) → (k < length rs) × (get_or rs k d ≡ road_of (arc_of old.setup.roads (get_or (outgoing (network_in old.setup) v) k 0)))
+  road_found A p old r n ns v j k rs d e D P nz o l =
       let h2 = vertex_at A p old r n ns v j e D P nz in
-      road_is old.setup.roads old.setup.source v k b rs d (roads_are A p.setup.roads p.setup.source v rs h2.0 o ∙ ap (λ (u : PartData S V). roads_of u.setup.roads (outgoing (network_in u.setup) v)) e) l h
+      road_is old.setup.roads old.setup.source v k (get_or (outgoing (network_in old.setup) v) k 0) rs d (roads_are A p.setup.roads p.setup.source v rs h2.0 o ∙ ap (λ (u : PartData S V). roads_of u.setup.roads (outgoing (network_in u.setup) v)) e) l refl
 
   -- a message, step by step
   pub message_handled : (meaning : S → Algebra V) (p p1 p2 p3 p4 : PartData S V) (a v w : ℕ) (x : V) (t : Bool) → v ≡ w → p1 ≡ labelled (meaning p.setup.algebra) x v p → p2 ≡ engaged_or_answered a v ((state_in p1).engager v) p1 →

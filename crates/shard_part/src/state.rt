@@ -1,4 +1,4 @@
-ghost use Rattle.std.specs.Prelude.{◌≡◌, ◌≢◌, ℕ, suc, ◌+◌, ◌<◌, ◌≤◌, [], ◌∷◌, length, get_or, set, Option, Some, None, IfSome, IsTrue, IsFalse, ◌↔◌, true, false, cond, eqb, not, ◌&&◌};
+ghost use Rattle.std.specs.Prelude.{◌≡◌, ◌≢◌, ℕ, suc, ◌+◌, ◌<◌, ◌≤◌, [], ◌∷◌, length, get_or, set, Option, Some, None, IsSome, IfSome, IsTrue, IsFalse, ◌↔◌, true, false, cond, eqb, not, ◌&&◌};
 ghost use Rattle.road_graph.specs.Roads.{HasVertex, arc_of, road_of};
 ghost use Rattle.scholten_core.specs.declared.item.Item.TheVariants.{Signal as SignalOn};
 ghost use Rattle.scholten_core.specs.Diffusion.{out_idle, extend_label, improves as improves_on, is_due as due};
@@ -101,16 +101,15 @@ impl<'g, A: PathAlgebra> PartState<'g, A> {
     }
 
     /// The vertex at a place lets go of its engager.
-    fn release(&mut self, v: VertexPlace, e: ArcNo)
+    fn release(&mut self, v: VertexPlace)
         requires place { IsPlace self.old v.vertex v.at }
         requires vertex { v.vertex ≢ 0 }
-        requires engager { (state_in self.old).engager v.vertex ≡ Some e }
+        requires engaged { IsSome ((state_in self.old).engager v.vertex) }
         ensures moved { self.new ≡ record self.old { engagers = set self.old.engagers v.vertex None } }
-        ensures clear { IsClear self.new e }
-        ensures arc { IsArc (network_in self.new.setup) e }
-        ensures made { place_in self.new.setup ((network_in self.new.setup).head e) ≡ self.new.shard }
+        ensures clear { IfSome ((state_in self.old).engager v.vertex) (λ e. IsClear self.new e) }
+        ensures arc { IfSome ((state_in self.old).engager v.vertex) (λ e. IsArc (network_in self.new.setup) e) }
+        ensures made { IfSome ((state_in self.old).engager v.vertex) (λ e. place_in self.new.setup ((network_in self.new.setup).head e) ≡ self.new.shard) }
     {
-        let _e = e;
         self.tables.vertices.set_engager(v.at, None);
     }
 
@@ -201,17 +200,6 @@ impl<'g, A: PathAlgebra> PartState<'g, A> {
         ensures within { result ≤ self.now.setup.roads.vertices }
     {
         tail_of(self.graph, a)
-    }
-
-    /// The shard that an arc leads to.
-    fn shard_behind(&self, b: ArcNo, head: Vertex) -> Shard
-        requires arc { IsArc (network_in self.now.setup) b }
-        requires graph { b ≢ 0 }
-        requires head { head ≡ (arc_of self.now.setup.roads b).head }
-        ensures { result ≡ place_in self.now.setup ((network_in self.now.setup).head b) }
-    {
-        let _b = b;
-        self.plan.shard_of(head)
     }
 
     /// A vertex with its place.
@@ -331,7 +319,7 @@ impl<'g, A: PathAlgebra> PartState<'g, A> {
     {
         if let Some(e) = self.engager_at(v) {
             if self.deficit_at(v) == 0 {
-                self.release(v, e);
+                self.release(v);
                 self.signal(e);
             }
         }
@@ -348,18 +336,6 @@ impl<'g, A: PathAlgebra> PartState<'g, A> {
             self.is_busy(b),
             is_same(self.algebra, self.told(b), self.label_at(v)),
         )
-    }
-
-    /// The label of the vertex at a place, extended by the arc b.
-    fn extension(&self, v: VertexPlace, b: ArcNo, weight: u32) -> Option<A::Value>
-        requires place { IsPlace self.now v.vertex v.at }
-        requires arc { IsArc (network_in self.now.setup) b }
-        requires graph { b ≢ 0 }
-        requires weight { weight ≡ (arc_of self.now.setup.roads b).weight }
-        ensures { result ≡ extend_label (A.meaning self.now.setup.algebra) ((state_in self.now).label v.vertex) ((network_in self.now.setup).weight b) }
-    {
-        let _b = b;
-        extended(self.algebra, self.label_at(v), weight)
     }
 
     /// A message goes along the idle arc b, if there is a value.
@@ -393,8 +369,8 @@ impl<'g, A: PathAlgebra> PartState<'g, A> {
         ensures { self.new ≡ offered (A.meaning self.old.setup.algebra) v.vertex b.arc self.old }
     {
         let label = self.label_at(v);
-        let value = self.extension(v, b.arc, road.weight);
-        let to = self.shard_behind(b.arc, road.head);
+        let value = extended(self.algebra, label, road.weight);
+        let to = self.plan.shard_of(road.head);
         self.tell(b, label);
         self.message(v, b, value, to);
     }
@@ -428,7 +404,7 @@ impl<'g, A: PathAlgebra> PartState<'g, A> {
         ensures { self.new ≡ offered (A.meaning self.old.setup.algebra) v.vertex b.arc self.old }
     {
         if self.is_due(v, b) {
-            let road = self.road_at(v, k, b.arc);
+            let road = self.road_at(v, k);
             self.tell_anew(v, b, road);
         }
     }
@@ -445,7 +421,7 @@ impl<'g, A: PathAlgebra> PartState<'g, A> {
         let outgoing = graph.out(v.vertex);
         for (k, b) in outgoing.iter().enumerate() {
             let i = self.row(v, k);
-            let road = self.road_at(v, k, *b);
+            let road = self.road_at(v, k);
             self.offer(v, ArcPlace { arc: *b, at: i }, road);
         }
     }
@@ -474,15 +450,12 @@ impl<'g, A: PathAlgebra> PartState<'g, A> {
         improved
     }
 
-    /// Where the arc a stands among those out of the vertex at a place.
-    fn turn_of(&self, v: VertexPlace, a: ArcNo) -> usize
-        requires place { IsPlace self.now v.vertex v.at }
-        requires arc { IsArc (network_in self.now.setup) a }
-        requires tail { (network_in self.now.setup).tail a ≡ v.vertex }
-        ensures inside { result < length (outgoing (network_in self.now.setup) v.vertex) }
-        ensures arc { get_or (outgoing (network_in self.now.setup) v.vertex) result 0 ≡ a }
+    /// Where the arc a stands among those out of its tail.
+    fn turn_of(&self, a: ArcNo) -> usize
+        requires { IsArc (network_in self.now.setup) a }
+        ensures inside { result < length (outgoing (network_in self.now.setup) ((network_in self.now.setup).tail a)) }
+        ensures arc { get_or (outgoing (network_in self.now.setup) ((network_in self.now.setup).tail a)) result 0 ≡ a }
     {
-        let _v = v;
         if a.0 == 0 {
             return 0;
         }
@@ -497,22 +470,20 @@ impl<'g, A: PathAlgebra> PartState<'g, A> {
         ensures arc { result.arc ≡ a }
         ensures row { IsRow self.now result.arc result.at }
     {
-        let k = self.turn_of(v, a);
+        let k = self.turn_of(a);
         ArcPlace {
             arc: a,
             at: self.row(v, k),
         }
     }
 
-    /// Head and weight of the arc b, the k-th out of the vertex at a place.
-    fn road_at(&self, v: VertexPlace, k: usize, b: ArcNo) -> OutRoad
+    /// Head and weight of the k-th arc out of the vertex at a place.
+    fn road_at(&self, v: VertexPlace, k: usize) -> OutRoad
         requires place { IsPlace self.now v.vertex v.at }
         requires vertex { v.vertex ≢ 0 }
         requires inside { k < length (outgoing (network_in self.now.setup) v.vertex) }
-        requires arc { get_or (outgoing (network_in self.now.setup) v.vertex) k 0 ≡ b }
-        ensures { result ≡ road_of (arc_of self.now.setup.roads b) }
+        ensures { result ≡ road_of (arc_of self.now.setup.roads (get_or (outgoing (network_in self.now.setup) v.vertex) k 0)) }
     {
-        let _b = b;
         self.graph.roads_from(v.vertex)[k]
     }
 
@@ -538,7 +509,7 @@ impl<'g, A: PathAlgebra> PartState<'g, A> {
         ensures { self.new ≡ with_free (A.meaning self.old.setup.algebra) a ((network_in self.old.setup).tail a) self.old }
     {
         let v = self.place(self.tail(a));
-        let k = self.turn_of(v, a);
+        let k = self.turn_of(a);
         let b = ArcPlace {
             arc: a,
             at: self.row(v, k),

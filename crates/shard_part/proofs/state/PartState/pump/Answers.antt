@@ -1,5 +1,6 @@
 use Rattle.std.proofs.Common.{refl, sym, ap, ◌∙◌, arith, ◌<◌, ◌≤◌, length}
 use Rattle.std.proofs.lemmas.List.{get_or_read}
+use Rattle.road_graph.specs.Roads.{arc_of, road_of}
 use Rattle.shard_part.specs.Moves.{offered}
 use Rattle.shard_part.proofs.Pumping.{vertex_at, offered_none, inside_of, arc_at, row_found, tail_found, arc_found, listed_out, offered_more, offered_same, pump_done}
 use Rattle.shard_part.specs.Places.{VertexAt}
@@ -17,8 +18,8 @@ row-i-requires-clause-arc g c = λ κs w. inside_of c.args.self.now c.loop-k.sel
 pub road_at-road-requires-clause-inside : goal.road_at-road-requires-clause-inside
 road_at-road-requires-clause-inside g c = λ κs w. inside_of c.args.self.now c.loop-k.self c.args.v.vertex c.loop-k.k c.out-outgoing.result.now (listed_out (g.A.PathAlgebra.meaning c.args.self.now.setup.algebra) _ c.args.self.now c.args.v.vertex c.out-outgoing.result.now c.self.view_is (vertex_at (g.A.PathAlgebra.meaning c.args.self.now.setup.algebra) _ c.args.self.now _ _ _ c.args.v.vertex c.args.v.at c.self.view_is c.self.invariant c.requires.place c.requires.vertex).0 (rw (ap (λ (w : VertexAt). w.vertex) c.v.view_is) at c.out-outgoing.ensures)) c.loop-k.invariant.0 (let z : c.loop-k.k < length c.out-outgoing.result.now = omega arith in z)
 
-pub road_at-road-requires-clause-arc : goal.road_at-road-requires-clause-arc
-road_at-road-requires-clause-arc g c = λ κs w. arc_at c.args.self.now c.loop-k.self c.args.v.vertex c.loop-k.k c.index-outgoing-k.result c.out-outgoing.result.now (listed_out (g.A.PathAlgebra.meaning c.args.self.now.setup.algebra) _ c.args.self.now c.args.v.vertex c.out-outgoing.result.now c.self.view_is (vertex_at (g.A.PathAlgebra.meaning c.args.self.now.setup.algebra) _ c.args.self.now _ _ _ c.args.v.vertex c.args.v.at c.self.view_is c.self.invariant c.requires.place c.requires.vertex).0 (rw (ap (λ (w : VertexAt). w.vertex) c.v.view_is) at c.out-outgoing.ensures)) c.loop-k.invariant.0 (sym (get_or_read c.out-outgoing.result.now c.loop-k.k c.index-outgoing-k.result (let z : c.loop-k.k < length c.out-outgoing.result.now = omega arith in z) c.index-outgoing-k.is 0))
+pub offer-requires-clause-road : goal.offer-requires-clause-road
+offer-requires-clause-road g c = λ κs w. c.road_at-road.ensures ∙ ap (λ b. road_of (arc_of c.loop-k.self.setup.roads b)) (arc_at c.args.self.now c.loop-k.self c.args.v.vertex c.loop-k.k c.index-outgoing-k.result c.out-outgoing.result.now (listed_out (g.A.PathAlgebra.meaning c.args.self.now.setup.algebra) _ c.args.self.now c.args.v.vertex c.out-outgoing.result.now c.self.view_is (vertex_at (g.A.PathAlgebra.meaning c.args.self.now.setup.algebra) _ c.args.self.now _ _ _ c.args.v.vertex c.args.v.at c.self.view_is c.self.invariant c.requires.place c.requires.vertex).0 (rw (ap (λ (w : VertexAt). w.vertex) c.v.view_is) at c.out-outgoing.ensures)) c.loop-k.invariant.0 (sym (get_or_read c.out-outgoing.result.now c.loop-k.k c.index-outgoing-k.result (let z : c.loop-k.k < length c.out-outgoing.result.now = omega arith in z) c.index-outgoing-k.is 0)))
 
 pub offer-requires-clause-row : goal.offer-requires-clause-row
 offer-requires-clause-row g c = λ κs w. row_found c.args.self.now c.loop-k.self c.args.v.vertex c.loop-k.k c.index-outgoing-k.result c.row-i.result c.out-outgoing.result.now (listed_out (g.A.PathAlgebra.meaning c.args.self.now.setup.algebra) _ c.args.self.now c.args.v.vertex c.out-outgoing.result.now c.self.view_is (vertex_at (g.A.PathAlgebra.meaning c.args.self.now.setup.algebra) _ c.args.self.now _ _ _ c.args.v.vertex c.args.v.at c.self.view_is c.self.invariant c.requires.place c.requires.vertex).0 (rw (ap (λ (w : VertexAt). w.vertex) c.v.view_is) at c.out-outgoing.ensures)) c.loop-k.invariant.0 (sym (get_or_read c.out-outgoing.result.now c.loop-k.k c.index-outgoing-k.result (let z : c.loop-k.k < length c.out-outgoing.result.now = omega arith in z) c.index-outgoing-k.is 0)) c.row-i.ensures

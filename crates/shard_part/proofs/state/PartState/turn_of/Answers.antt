@@ -1,17 +1,13 @@
 use Rattle.std.proofs.Common.{arith}
 use Rattle.shard_part.proofs.Graphs.{arc_in_graph}
-use Rattle.shard_part.proofs.Pumping.{tail_vertex, turn_found}
+use Rattle.shard_part.proofs.Pumping.{turn_found}
 use Rattle.shard_part.proofs.state.PartState.turn_of.Goals as goal
 
 pub turn-requires : goal.turn-requires
-turn-requires g c = arc_in_graph _ c.args.self.now _ _ _ c.args.a c.self.view_is c.self.invariant c.requires.arc (λ y. absurd (omega (arith, y)))
+turn-requires g c = arc_in_graph _ c.args.self.now _ _ _ c.args.a c.self.view_is c.self.invariant c.requires (λ y. absurd (omega (arith, y)))
 
 pub returns-clause-inside : goal.returns-clause-inside
-returns-clause-inside g c = (turn_found (g.A.PathAlgebra.meaning c.args.self.now.setup.algebra) _ c.args.self.now c.args.v.vertex c.args.a c.turn.result c.self.view_is
-    (tail_vertex (g.A.PathAlgebra.meaning c.args.self.now.setup.algebra) _ c.args.self.now _ _ _ c.args.v.vertex c.args.v.at c.args.a c.self.view_is c.self.invariant c.requires.place c.requires.arc c.requires.tail (λ y. absurd (omega (arith, y))))
-    c.requires.tail (λ y. absurd (omega (arith, y))) c.turn.ensures).0
+returns-clause-inside g c = (turn_found (g.A.PathAlgebra.meaning c.args.self.now.setup.algebra) _ c.args.self.now _ _ _ c.args.a c.turn.result c.self.view_is c.self.invariant c.requires (λ y. absurd (omega (arith, y))) c.turn.ensures).0
 
 pub returns-clause-arc : goal.returns-clause-arc
-returns-clause-arc g c = (turn_found (g.A.PathAlgebra.meaning c.args.self.now.setup.algebra) _ c.args.self.now c.args.v.vertex c.args.a c.turn.result c.self.view_is
-    (tail_vertex (g.A.PathAlgebra.meaning c.args.self.now.setup.algebra) _ c.args.self.now _ _ _ c.args.v.vertex c.args.v.at c.args.a c.self.view_is c.self.invariant c.requires.place c.requires.arc c.requires.tail (λ y. absurd (omega (arith, y))))
-    c.requires.tail (λ y. absurd (omega (arith, y))) c.turn.ensures).1
+returns-clause-arc g c = (turn_found (g.A.PathAlgebra.meaning c.args.self.now.setup.algebra) _ c.args.self.now _ _ _ c.args.a c.turn.result c.self.view_is c.self.invariant c.requires (λ y. absurd (omega (arith, y))) c.turn.ensures).1

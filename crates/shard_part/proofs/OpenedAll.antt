@@ -15,6 +15,12 @@ module _ {S : Type 0} (t : Setup S) (P : IsPlanned t 0) where
   pub planned_each : (s : ℕ) → s < t.plan.shards → IsPlanned t s
   planned_each s l = record { roads = P.roads; source = P.source; plan = P.plan; covers = P.covers; shard = l }
 
+module _ {S V : Type 0} (A : Algebra V) (t : Setup S) where
+  -- no shard before the first has a part
+  pub shards_past : (j k n : ℕ) → j < k → total (λ (p : PartData S V). is j p.shard) (opened_parts A t k n) ≡ 0
+  shards_past j k zero l = refl
+  shards_past j k (suc n) l = let r = shards_past j (suc k) n (omega (arith, l)) in let z = ap one_if (ne_eqb j k (λ e. omega (arith, e, l))) in omega (arith, r, z)
+
 module _ {S V : Type 0} (A : Algebra V) (t : Setup S) (P : IsPlanned t 0) where
   all_hold : (k n : ℕ) → k + n ≤ t.plan.shards → All (HoldsTables A (network_in t) (place_in t) (opening A (network_in t))) (opened_parts A t k n)
   all_hold k zero l = tt
@@ -48,15 +54,10 @@ module _ {S V : Type 0} (A : Algebra V) (t : Setup S) (P : IsPlanned t 0) where
     | inr w ↦ (let e = w.0 in let z = w.1 in let r = weights_all h (suc k) n (omega (arith, l)) (omega (arith, a, e)) (omega (arith, b)) in omega (arith, z, r))
   ]
 
-  -- no shard before the first has a part
-  pub shards_past : (j k n : ℕ) → j < k → total (λ (p : PartData S V). is j p.shard) (opened_parts A t k n) ≡ 0
-  shards_past j k zero l = refl
-  shards_past j k (suc n) l = let r = shards_past j (suc k) n (omega (arith, l)) in let z = ap one_if (ne_eqb j k (λ e. omega (arith, e, l))) in omega (arith, r, z)
-
   shards_once : (j k n : ℕ) → total (λ (p : PartData S V). is j p.shard) (opened_parts A t k n) ≤ 1
   shards_once j k zero = omega arith
   shards_once j k (suc n) = elim (cases_eq j k) [
-    | inl e ↦ (let r = shards_past j (suc k) n (omega (arith, e)) in let z = ap one_if (eq-eqb j k e) in omega (arith, r, z))
+    | inl e ↦ (let r = shards_past A t j (suc k) n (omega (arith, e)) in let z = ap one_if (eq-eqb j k e) in omega (arith, r, z))
     | inr ne ↦ (let r = shards_once j (suc k) n in let z = ap one_if (ne_eqb j k ne) in omega (arith, r, z))
   ]
 

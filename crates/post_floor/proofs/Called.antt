@@ -1,5 +1,6 @@
 -- What the calls know of their seat between two plain reads and writes of a slot.
 use Rattle.std.proofs.Common.{◌≡◌, ℕ, List, [], ◌∷◌, sym, ap, ◌∙◌, subst, get_or}
+use Rattle.std.proofs.lemmas.Option.{same_Some}
 use Rattle.std.specs.Prelude as std
 use Rattle.atomic_table.specs.Table.{Me, rest}
 use Rattle.circular_buffer.specs.Buffer.{Buffer, buffer}
@@ -33,9 +34,6 @@ pub made_here : {S V : Type 0} (p : PartData S V) (xs : List (Item V)) (to : ℕ
 made_here p [] to a = tt
 made_here p (i ∷ xs) to a = (a.0.1, made_here p xs to a.1)
 
-some_same : {X : Type 0} (x y : X) → std.Some x ≡ std.Some y → x ≡ y
-some_same x y e = cc
-
 -- the outbox of p is in the slot
 pub publishing : {S V : Type 0} (meaning : S → Algebra V) (t : Setup S) (k to : ℕ) (p q : PartData S V) (m m' : Me (Slot V) (View S V)) (x : Slot V) (b b' : Buffer (Item V)) →
     p.setup ≡ t → q ≡ sent_off to p → dest t.plan.shards k ≡ to → origin t.plan.shards k ≡ p.shard → IsSound (network_in p.setup) (place_in p.setup) p → Follows meaning m.0 p → HasEmpty t k m →
@@ -45,7 +43,7 @@ publishing {S} {V} meaning t k to p q m m' x b b' is left dest_is origin_is soun
     let to_is : dest q.setup.plan.shards k ≡ to = ap (λ (u : Setup S). dest u.plan.shards k) qt ∙ dest_is in
     let from_is : origin q.setup.plan.shards k ≡ p.shard = ap (λ (u : Setup S). origin u.plan.shards k) qt ∙ origin_is in
     let was : std.Some b ≡ emptied t k = sym some ∙ found_is k k x (emptied t k) m.1 found empty in
-    let room : b.capacity ≡ cap q.setup k = ap (λ (z : Buffer (Item V)). z.capacity) (some_same b (buffer [] (cap t k)) was) ∙ ap (λ (u : Setup S). cap u k) (sym qt) in
+    let room : b.capacity ≡ cap q.setup k = ap (λ (z : Buffer (Item V)). z.capacity) (same_Some b (buffer [] (cap t k)) was) ∙ ap (λ (u : Setup S). cap u k) (sym qt) in
     let b_is : b' ≡ buffer (get_or p.outs (dest q.setup.plan.shards k) []) (cap q.setup k) = swapped ∙ (λ i. buffer (get_or p.outs (sym to_is i) []) (room i)) in record {
       d = p;
       left = left ∙ ap (λ z. sent_off z p) (sym to_is);

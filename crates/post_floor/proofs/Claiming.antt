@@ -6,12 +6,13 @@ use Rattle.atomic_table.specs.Table.{rest}
 use Rattle.scholten_core.specs.Sums.{sum_below}
 use Rattle.shard_part.specs.PartState.{total, is, All, Setup}
 use Rattle.shard_part.proofs.Weights.{sum_at, sum_zero}
+use Rattle.shard_part.proofs.Showing.{is_self}
 use Rattle.post_floor.specs.declared.view.View.{View}
 use Rattle.post_floor.specs.Boxes.{dest, origin}
 use Rattle.post_floor.specs.Floor.{Slot, emptied, filling, reading}
 use Rattle.post_floor.specs.Plays.{Unclaimed}
 use Rattle.post_floor.specs.Data.{AreOpen, HasEnd}
-use Rattle.post_floor.proofs.Totals.{is_same, is_else}
+use Rattle.post_floor.proofs.Totals.{is_else}
 use Rattle.post_floor.proofs.Opened.{pair_below}
 
 -- numbers that f sends to different numbers below n, none twice, are at most n
@@ -19,16 +20,16 @@ module _ (f : ℕ → ℕ) (P : ℕ → Type 0) (apart : (x y : ℕ) → P x →
   none_there : (x : ℕ) (xs : List ℕ) → P x → All P xs → total (is x) xs ≡ 0 → total (λ y. is (f x) (f y)) xs ≡ 0
   none_there x [] p a z = refl
   none_there x (y ∷ ys) p a z = elim (cases_eq (f x) (f y)) [
-    | inl e ↦ absurd (let q : is x x ≡ is x y = ap (is x) (apart x y p a.0 e) in let s = is_same x in omega (arith, q, s, z))
+    | inl e ↦ absurd (let q : is x x ≡ is x y = ap (is x) (apart x y p a.0 e) in let s = is_self x in omega (arith, q, s, z))
     | inr ne ↦ (let q = is_else (f x) (f y) ne in let r = none_there x ys p a.1 (omega (arith, z)) in omega (arith, q, r))
   ]
 
   once_there : (j : ℕ) (xs : List ℕ) → All P xs → ((k : ℕ) → total (is k) xs ≤ 1) → total (λ y. is j (f y)) xs ≤ 1
   once_there j [] a once = omega arith
   once_there j (x ∷ xs) a once = elim (cases_eq j (f x)) [
-    | inl e ↦ (let o = once x in let s = is_same x in
+    | inl e ↦ (let o = once x in let s = is_self x in
         let n : total (λ y. is j (f y)) xs ≡ 0 = ap (λ z. total (λ y. is z (f y)) xs) e ∙ none_there x xs a.0 a.1 (omega (arith, o, s)) in
-        let m : is j (f x) ≡ is (f x) (f x) = ap (λ z. is z (f x)) e in let q = is_same (f x) in omega (arith, n, m, q))
+        let m : is j (f x) ≡ is (f x) (f x) = ap (λ z. is z (f x)) e in let q = is_self (f x) in omega (arith, n, m, q))
     | inr ne ↦ (let q = is_else j (f x) ne in let r = once_there j xs a.1 (λ k. let o = once k in omega (arith, o)) in omega (arith, q, r))
   ]
 
@@ -37,7 +38,7 @@ module _ (f : ℕ → ℕ) (P : ℕ → Type 0) (apart : (x y : ℕ) → P x →
   spread (x ∷ xs) n a =
       let r = spread xs n a.1 in
       let p = sum_at (λ j. is j (f x) + total (λ y. is j (f y)) xs) (λ j. total (λ y. is j (f y)) xs) (f x) n a.0 (λ j ne. let z = is_else j (f x) ne in omega (arith, z)) in
-      let s = is_same (f x) in omega (arith, r, p, s)
+      let s = is_self (f x) in omega (arith, r, p, s)
 
   each_most : (g : ℕ → ℕ) (n : ℕ) → ((j : ℕ) → g j ≤ 1) → sum_below g n ≤ n
   each_most g zero l = omega arith
@@ -108,7 +109,7 @@ module _ {S V : Type 0} (t : Setup S) (s : ℕ) where
     empty = (refl, o.empty);
     open_now = λ j. let a = o.open_now j in let b = more j in omega (arith, a, b);
     once = λ j. elim (cases_eq j k) [
-      | inl e ↦ (let f : is j k ≡ is k k = ap (λ z. is z k) e in let q = is_same k in let g : total (is j) claims ≡ total (is k) claims = ap (λ z. total (is z) claims) e in
+      | inl e ↦ (let f : is j k ≡ is k k = ap (λ z. is z k) e in let q = is_self k in let g : total (is j) claims ≡ total (is k) claims = ap (λ z. total (is z) claims) e in
           let a = o.open_now k in let x = free.0 in let y = free.1 in omega (arith, f, q, g, a, x, y))
       | inr ne ↦ (let q = is_else j k ne in let a = o.once j in omega (arith, q, a))
     ];

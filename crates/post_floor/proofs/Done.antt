@@ -1,6 +1,6 @@
 -- The steps on the done word keep the rule of the floor.
-use Rattle.std.proofs.Common.{◌≡◌, ℕ, Bool, true, false, not, ◌&&◌, eqb, List, ◌++◌, map, set, get_or, refl, sym, ap, ◌∙◌, subst, inl, inr, arith, length-set, get_or-set_other, get_or-set_same}
-use Rattle.std.proofs.lemmas.Bool.{cases_eq}
+use Rattle.std.proofs.Common.{◌≡◌, ℕ, Bool, true, false, not, eqb, List, ◌++◌, map, set, get_or, refl, sym, ap, ◌∙◌, subst, inl, inr, arith, length-set, get_or-set_other, get_or-set_same}
+use Rattle.std.proofs.lemmas.Bool.{cases_eq, and_parts}
 use mathlib.Core.Option.{Option, none, some}
 use lib.ListN.{get_elem?}
 use Rattle.atomic_table.specs.Table.{step, keeps, Allows}
@@ -8,11 +8,10 @@ use Rattle.atomic_table.proofs.Lists.{at_set}
 use Rattle.path_algebra.specs.Algebra.{Algebra}
 use Rattle.scholten_core.specs.declared.event.Event.{Event}
 use Rattle.scholten_core.specs.declared.item.Item.{Item}
-use Rattle.scholten_core.specs.declared.token.Token.{Token}
-use Rattle.scholten_core.specs.declared.token.Token.TheVariants.{Idle, Message, Held, Signal}
 use Rattle.scholten_core.specs.Network.{WellFormed}
 use Rattle.scholten_core.specs.Diffusion.{CoreState, HasEnded, IsQuiet, is_idle}
 use Rattle.scholten_core.proofs.Ended.{ended}
+use Rattle.scholten_core.proofs.Basics.{idle-true}
 use Rattle.shard_part.specs.PartState.{PartData, Setup, network_in, place_in, token_if, total, is, event_of, TookAll, HoldsShare}
 use Rattle.shard_part.specs.Readings.{has_ended}
 use Rattle.shard_part.proofs.Weights.{sum_below_same}
@@ -27,16 +26,6 @@ use Rattle.post_floor.proofs.Keeps.{gone, went, goes_on, idle_after}
 use Rattle.post_floor.proofs.Steps.{Tab, Seat, ended_more}
 use Rattle.post_floor.proofs.Exchanges.{unchanged}
 
-and_both : (a b : Bool) → a && b ≡ true → (a ≡ true) × (b ≡ true)
-and_both true b e = (refl, e)
-and_both false b e = absurd cc
-
-idle_is : {V : Type 0} (k : Token V) → is_idle k ≡ true → k ≡ Idle
-idle_is Idle e = refl
-idle_is (Message x) e = absurd cc
-idle_is Held e = absurd cc
-idle_is Signal e = absurd cc
-
 not_busy : (V : Type 0) (z : Bool) → not z ≡ true → is_idle (token_if {V = V} z) ≡ true
 not_busy V true e = absurd cc
 not_busy V false e = refl
@@ -45,9 +34,9 @@ module _ {S V : Type 0} (meaning : S → Algebra V) (t : Setup S) where
   -- the source's part knows whether the question has ended
   pub over_is : WellFormed (network_in t) → (d : PartData S V) (c : CoreState V) → d.setup ≡ t → HoldsShare (meaning t.algebra) (network_in t) (place_in t) c d → has_ended d ≡ true → HasEnded c
   over_is W d c e H o =
-      let q = and_both (eqb (place_in d.setup 0) d.shard) (not (get_or d.busy 0 false)) o in
+      let q = and_parts (eqb (place_in d.setup 0) d.shard) (not (get_or d.busy 0 false)) o in
       let here : eqb (place_in t ((network_in t).tail 0)) d.shard ≡ true = ap (λ v. eqb (place_in t v) d.shard) W.tail_zero ∙ ap (λ (u : Setup S). eqb (place_in u 0) d.shard) (sym e) ∙ q.0 in
-      idle_is (c.token 0) (sym (H.tables.agree.idle 0 here) ∙ not_busy V (get_or d.busy 0 false) q.1)
+      idle-true (c.token 0) (sym (H.tables.agree.idle 0 here) ∙ not_busy V (get_or d.busy 0 false) q.1)
 
   ended_at : AllLawful meaning → WellFormed (network_in t) → (p : PartData S V) (events : List Event) → p.setup ≡ t → HoldsShare (meaning t.algebra) (network_in t) (place_in t) (core_of meaning t events) p → HasEnded (core_of meaning t events) → Ended meaning p
   ended_at L W p events e H h =

@@ -15,13 +15,13 @@ use Rattle.scholten_core.proofs.Kept.{Kept as CoreKept}
 use Rattle.shard_part.specs.PartState.{PartData, Setup, network_in, place_in, total, is, All, event_of, TookAll, HoldsShare}
 use Rattle.shard_part.proofs.Weights.{total_append}
 use Rattle.shard_part.proofs.Routed.{outs_none}
-use Rattle.shard_part.proofs.Showing.{AllLawful}
+use Rattle.shard_part.proofs.Showing.{AllLawful, is_self}
 use Rattle.shard_part.specs.Arriving.{MadeAt, joined, MayReceive}
 use Rattle.post_floor.specs.declared.view.View.{View}
 use Rattle.post_floor.specs.Boxes.{box_count, dest, origin}
 use Rattle.post_floor.specs.Floor.{Slot, filling, reading, load_place, box, cap, emptied, core_of, Kept}
 use Rattle.post_floor.specs.Plays.{ShowsPart, Went, at_word, Unclaimed, claim_fill, end_fill, claim_read, end_read, sent_off, HasEmpty, Follows, filled, published, took, cleared}
-use Rattle.post_floor.proofs.Totals.{total_at, is_same, is_else, is_one, without_same, without_else}
+use Rattle.post_floor.proofs.Totals.{total_at, is_else, is_one, without_same, without_else}
 use Rattle.shard_part.specs.Exact.{done_by}
 use Rattle.shard_part.proofs.TakenCounts.{took_same}
 use Rattle.shard_part.proofs.Arriving.{arrives}
@@ -99,7 +99,7 @@ module _ {S V : Type 0} (meaning : S → Algebra V) (t : Setup S) where
             weighs = λ h. let p : box (h (dest t.plan.shards k)) y (get_elem? s.homes k) ≡ 0 = ap (λ (z : ℕ). box (h (dest t.plan.shards k)) z (get_elem? s.homes k)) hit in omega (arith, p);
             fills = λ j ne. let p = is_else j k ne in omega (arith, p);
             reads = λ j ne. refl;
-            fill = let p = is_same k in let q : is 1 y ≡ 0 = ap (is 1) hit in omega (arith, p, q);
+            fill = let p = is_self k in let q : is 1 y ≡ 0 = ap (is 1) hit in omega (arith, p, q);
             read = let q : is 3 y ≡ 0 = ap (is 3) hit in omega (arith, q);
             low = omega arith;
             empty = λ z. absurd (omega (arith, z));
@@ -132,7 +132,7 @@ module _ {S V : Type 0} (meaning : S → Algebra V) (t : Setup S) where
           fills = λ j ne. refl;
           reads = λ j ne. let p = is_else j k ne in omega (arith, p);
           fill = let p : is 1 y ≡ 0 = ap (is 1) hit in omega (arith, p);
-          read = let p = is_same k in let z : is 3 y ≡ 0 = ap (is 3) hit in omega (arith, p, z);
+          read = let p = is_self k in let z : is 3 y ≡ 0 = ap (is 3) hit in omega (arith, p, z);
           low = omega arith;
           empty = λ z. absurd (omega (arith, z));
           full = λ z. absurd (omega (arith, z));

@@ -14,10 +14,10 @@ use Rattle.shard_part.specs.Moves.{IsPlanned}
 use Rattle.shard_part.specs.Opening.{opened_parts}
 use Rattle.shard_part.proofs.Weights.{sum_zero, sum_below_same}
 use Rattle.shard_part.proofs.Opened.{place_below}
-use Rattle.shard_part.proofs.OpenedAll.{opened_show, opened_same}
+use Rattle.shard_part.proofs.OpenedAll.{opened_show, opened_same, shards_past}
 use Rattle.post_floor.specs.declared.view.View.{View}
 use Rattle.post_floor.specs.Boxes.{box_count, dest}
-use Rattle.post_floor.specs.Floor.{Slot, flat, filling, reading, CountsNone, box, mail, emptied, BoxOk, Kept}
+use Rattle.post_floor.specs.Floor.{Slot, flat, CountsNone, box, mail, emptied, BoxOk, Kept}
 use Rattle.post_floor.specs.Seats.{knows}
 use Rattle.post_floor.proofs.Opened.{get_zero}
 
@@ -26,15 +26,11 @@ only v zero u a = some-injective v u a
 only v (suc id) u a = absurd (some-ne-none u (sym a))
 
 module _ {S V : Type 0} (A : Algebra V) (t : Setup S) where
-  none_before : (j k n : ℕ) → j < k → total (λ (p : PartData S V). is j p.shard) (opened_parts A t k n) ≡ 0
-  none_before j k zero l = refl
-  none_before j k (suc n) l = let r = none_before j (suc k) n (omega (arith, l)) in let z = ap one_if (ne_eqb j k (λ e. omega (arith, e, l))) in omega (arith, r, z)
-
   -- each shard has a part
   pub one_each : (j k n : ℕ) → k ≤ j → j < k + n → total (λ (p : PartData S V). is j p.shard) (opened_parts A t k n) ≡ 1
   one_each j k zero l m = absurd (omega (arith, l, m))
   one_each j k (suc n) l m = elim (cases_eq j k) [
-    | inl e ↦ (let r = none_before j (suc k) n (omega (arith, e)) in let z = ap one_if (eq-eqb j k e) in omega (arith, r, z))
+    | inl e ↦ (let r = shards_past A t j (suc k) n (omega (arith, e)) in let z = ap one_if (eq-eqb j k e) in omega (arith, r, z))
     | inr ne ↦ (let r = one_each j (suc k) n (omega (arith, l, ne)) (omega (arith, m)) in let z = ap one_if (ne_eqb j k ne) in omega (arith, r, z))
   ]
 

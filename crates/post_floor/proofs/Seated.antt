@@ -1,38 +1,20 @@
 -- What a call knows of its seat, and that the seat is one again after its step.
 use Rattle.std.proofs.Common.{◌≡◌, ℕ, zero, suc, ◌+◌, ◌*◌, ◌<◌, ◌≤◌, Bool, cond, List, [], ◌∷◌, length, get_or, set, take, drop, refl, sym, ap, ◌∙◌, subst, inl, inr, arith, eq-eqb, ne_eqb, length-set, get_or-set_other}
 use Rattle.std.proofs.lemmas.Bool.{cases_eq}
+use Rattle.std.proofs.lemmas.List.{take_all, same_from_push}
 use Rattle.atomic_table.specs.Seated.{TableId}
 use Rattle.atomic_table.specs.Table.{rest}
 use Rattle.path_algebra.specs.Algebra.{Algebra}
 use Rattle.shard_part.specs.PartState.{PartData, Setup, total, is}
 use Rattle.shard_part.proofs.TakenCounts.{took_same}
+use Rattle.shard_part.proofs.Showing.{is_self}
 use Rattle.post_floor.specs.declared.view.View.{View}
 use Rattle.post_floor.specs.Boxes.{mailbox}
 use Rattle.post_floor.specs.Floor.{Slot, emptied, filling, reading}
 use Rattle.post_floor.specs.Plays.{without, next_slot, Went, at_word, end_fill, end_read, Follows, Unclaimed}
 use Rattle.post_floor.specs.Data.{FloorData, SeatData, AreSlots, HasEnd, AreOpen, IsSeat, IsAt, fill_box, read_box}
-use Rattle.post_floor.proofs.Totals.{is_same, is_else, without_same, without_else}
+use Rattle.post_floor.proofs.Totals.{is_else, without_same, without_else}
 use Rattle.post_floor.proofs.Claiming.{few_claims, claims_more, claims_less}
-
-head_or : {A : Type 0} → A → List A → A
-head_or d [] = d
-head_or d (x ∷ xs) = x
-
-one_same : {A : Type 0} (a b : A) → a ∷ [] ≡ b ∷ [] → a ≡ b
-unfolding head_or
-one_same a b e = ap (head_or a) e
-
--- an entry that was read
-pub entry_is : (xs : List ℕ) (j x : ℕ) → j < length xs → x ≡ get_or xs j x → x ≡ get_or xs j 0
-entry_is [] j x l e = absurd (omega (arith, l))
-entry_is (y ∷ ys) zero x l e = e
-entry_is (y ∷ ys) (suc j) x l e = entry_is ys j x (omega (arith, l)) e
-
-take_all : (n : ℕ) (xs : List ℕ) → length xs ≤ n → take n xs ≡ xs
-take_all zero [] l = refl
-take_all zero (x ∷ xs) l = absurd (omega (arith, l))
-take_all (suc n) [] l = refl
-take_all (suc n) (x ∷ xs) l = ap (λ (z : List ℕ). x ∷ z) (take_all n xs (omega (arith, l)))
 
 -- a next slot that is moved on is a slot
 pub slots_next : (n : ℕ) (next : List ℕ) (j x : ℕ) → AreSlots n next → x ≡ get_or next j 0 → AreSlots n (set next j (next_slot x))
@@ -91,7 +73,7 @@ module _ {S V : Type 0} (meaning : S → Algebra V) (f : FloorData S) (d : SeatD
   seated ff dd count inv at =
       let moved : Follows meaning v p = subst (λ (z : SeatData S V). Follows meaning z.knows p) (sym dd) at.moved in
       let same = took_same meaning moved.1 moved.0 p moved.3 in
-      let b_is : inv.part ≡ moved.0 = one_same inv.part moved.0 (sym inv.parts ∙ moved.2.parts) in
+      let b_is : inv.part ≡ moved.0 = (same_from_push [] [] inv.part moved.0 (sym inv.parts ∙ moved.2.parts)).1 in
       let setup : p.setup ≡ t = at.setup ∙ ap (λ (z : FloorData S). z.question) (sym ff) in
       let of_part : inv.part.setup ≡ t = ap (λ (z : PartData S V). z.setup) b_is ∙ sym same.0 ∙ setup in
       let shards : inv.part.setup.plan.shards ≡ sh = ap (λ (u : Setup S). u.plan.shards) of_part ∙ count in
@@ -184,13 +166,13 @@ in_ring t s v slots claims k out c = let o = out.open_now k in omega (arith, o, 
 -- one claim less to fill, or to read
 pub fill_less : {S V : Type 0} (v : View S V) (k to x j : ℕ) → 0 < filling k v → is j k + (filling j (at_word k x (end_fill to k v)) + reading j (at_word k x (end_fill to k v))) ≡ filling j v + reading j v
 fill_less v k to x j c = elim (cases_eq j k) [
-  | inl e ↦ subst (λ z. is z k + (total (is z) (without k v.fills) + total (is z) v.reads) ≡ total (is z) v.fills + total (is z) v.reads) (sym e) (let w = without_same k v.fills c in let s = is_same k in omega (arith, w, s))
+  | inl e ↦ subst (λ z. is z k + (total (is z) (without k v.fills) + total (is z) v.reads) ≡ total (is z) v.fills + total (is z) v.reads) (sym e) (let w = without_same k v.fills c in let s = is_self k in omega (arith, w, s))
   | inr ne ↦ (let w = without_else j k v.fills ne in let s = is_else j k ne in omega (arith, w, s))
 ]
 
 pub read_less : {S V : Type 0} (v : View S V) (k from x j : ℕ) → 0 < reading k v → is j k + (filling j (at_word k x (end_read from k v)) + reading j (at_word k x (end_read from k v))) ≡ filling j v + reading j v
 read_less v k from x j c = elim (cases_eq j k) [
-  | inl e ↦ subst (λ z. is z k + (total (is z) v.fills + total (is z) (without k v.reads)) ≡ total (is z) v.fills + total (is z) v.reads) (sym e) (let w = without_same k v.reads c in let s = is_same k in omega (arith, w, s))
+  | inl e ↦ subst (λ z. is z k + (total (is z) v.fills + total (is z) (without k v.reads)) ≡ total (is z) v.fills + total (is z) v.reads) (sym e) (let w = without_same k v.reads c in let s = is_self k in omega (arith, w, s))
   | inr ne ↦ (let w = without_else j k v.reads ne in let s = is_else j k ne in omega (arith, w, s))
 ]
 

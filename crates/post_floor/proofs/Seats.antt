@@ -1,5 +1,6 @@
 -- Seats that are cut off and joined keep the rule.
-use Rattle.std.proofs.Common.{◌≡◌, ℕ, ◌+◌, ◌<◌, Bool, true, false, ◌||◌, List, [], ◌∷◌, ◌++◌, set, get_or, refl, sym, ap, ◌∙◌, subst, inl, inr, arith}
+use Rattle.std.proofs.Common.{◌≡◌, ℕ, ◌+◌, ◌<◌, Bool, true, false, ◌||◌, List, [], ◌∷◌, ◌++◌, map, set, get_or, refl, sym, ap, ◌∙◌, subst, inl, inr, arith}
+use Rattle.std.proofs.lemmas.List.{same_from_push}
 use mathlib.Core.Option.{some}
 use lib.ListN.{get_elem?}
 use Rattle.atomic_table.specs.Table.{State, Splits, Joins}
@@ -7,13 +8,14 @@ use Rattle.atomic_table.proofs.Lists.{at_set, at_snoc}
 use Rattle.path_algebra.specs.Algebra.{Algebra}
 use Rattle.shard_part.specs.PartState.{PartData, Setup, network_in, place_in, total, is, All, part_weight, HoldsTables}
 use Rattle.shard_part.proofs.Weights.{total_append}
-use Rattle.shard_part.proofs.Showing.{all_append}
+use Rattle.shard_part.proofs.Showing.{all_append, all_parts}
 use Rattle.post_floor.specs.declared.view.View.{View}
 use Rattle.post_floor.specs.Boxes.{box_count}
 use Rattle.post_floor.specs.Floor.{Slot, flat, filling, reading, CountsNone, BoxOk, core_of, Kept}
 use Rattle.post_floor.specs.Seats.{tail, first_of, cut_left, cut_right, aside_left, aside_right, both, spent}
 use Rattle.post_floor.proofs.Totals.{total_set}
 use Rattle.post_floor.proofs.Parts.{flat_total, flat_each, flat_at}
+use Rattle.post_floor.proofs.Opened.{map_one_more}
 
 pub total_snoc : {A : Type 0} (f : A → ℕ) (xs : List A) (y : A) → total f (xs ++ y ∷ []) ≡ total f xs + f y
 total_snoc f xs y = let p = total_append f xs (y ∷ []) in omega (arith, p)
@@ -183,5 +185,8 @@ module _ {S V : Type 0} (meaning : S → Algebra V) (t : Setup S) where
 
 -- the last of a list leaves
 pub all_front : {A : Type 0} (P : A → Type 0) (xs ys : List A) (x : A) → ys ≡ xs ++ x ∷ [] → All P ys → All P xs × P x
-all_front P [] ys x e p = (tt, (subst (All P) e p).0)
-all_front P (y ∷ xs) ys x e p = let q = subst (All P) e p in let r = all_front P xs (xs ++ x ∷ []) x refl q.1 in ((q.0, r.0), r.1)
+all_front P xs ys x e p = let r = all_parts P xs (x ∷ []) (subst (All P) e p) in (r.0, r.1.0)
+
+-- the last of the seats is that of the last part
+pub last_seat : {X Y : Type 0} (f : X → Y) (ps qs : List X) (p : X) (ds es : List Y) (d : Y) → ps ≡ qs ++ p ∷ [] → ds ≡ map f ps → ds ≡ es ++ d ∷ [] → (es ≡ map f qs) × (d ≡ f p)
+last_seat f ps qs p ds es d e m h = same_from_push es (map f qs) d (f p) (sym h ∙ m ∙ ap (map f) e ∙ sym (map_one_more f qs p))

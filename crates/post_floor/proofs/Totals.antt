@@ -5,6 +5,7 @@ use mathlib.Core.Option.{some, some-injective, some-ne-none}
 use lib.ListN.{get_elem?}
 use Rattle.scholten_core.specs.Sums.{one_if}
 use Rattle.shard_part.specs.PartState.{total, is}
+use Rattle.shard_part.proofs.Showing.{is_self}
 use Rattle.post_floor.specs.Plays.{without}
 
 module _ {A : Type 0} where
@@ -34,9 +35,6 @@ module _ {A : Type 0} where
   total_alone f (x ∷ xs) zero v at z = let p : f x ≡ f v = ap f (some-injective x v at) in let q = total_none f xs (λ i u a. z (suc i) u (λ e. omega (arith, e)) a) in omega (arith, p, q)
   total_alone f (x ∷ xs) (suc id) v at z = let p = z 0 x (λ e. omega (arith, e)) refl in let q = total_alone f xs id v at (λ i u ne a. z (suc i) u (λ e. ne (omega (arith, e))) a) in omega (arith, p, q)
 
-pub is_same : (k : ℕ) → is k k ≡ 1
-is_same k = ap one_if (eq-eqb k k refl)
-
 pub is_else : (j k : ℕ) → j ≢ k → is j k ≡ 0
 is_else j k ne = ap one_if (ne_eqb j k ne)
 
@@ -52,7 +50,7 @@ without_cases k x xs F same else' = elim (cases_eq k x) [
 pub without_same : (k : ℕ) (xs : List ℕ) → 0 < total (is k) xs → total (is k) (without k xs) + 1 ≡ total (is k) xs
 without_same k [] h = absurd (omega (arith, h))
 without_same k (x ∷ xs) h = without_cases k x xs (λ (l : List ℕ). total (is k) l + 1 ≡ is k x + total (is k) xs)
-    (λ e. let p : is k k ≡ is k x = ap (is k) e in let q = is_same k in omega (arith, p, q))
+    (λ e. let p : is k k ≡ is k x = ap (is k) e in let q = is_self k in omega (arith, p, q))
     (λ ne. let z = is_else k x ne in let r = without_same k xs (omega (arith, h, z)) in omega (arith, r, z))
 
 pub without_else : (j k : ℕ) (xs : List ℕ) → j ≢ k → total (is j) (without k xs) ≡ total (is j) xs

@@ -1,6 +1,7 @@
 use Rattle.std.proofs.Common.{rules, arith, ◌≡◌, ◌≢◌, ap, ◌∙◌}
 use Rattle.shard_part.specs.PartState.{is}
-use Rattle.post_floor.proofs.Totals.{is_same, is_else}
+use Rattle.shard_part.proofs.Showing.{is_self}
+use Rattle.post_floor.proofs.Totals.{is_else}
 use Rattle.post_floor.proofs.Closing.{found, not_found}
 use Rattle.post_floor.proofs.close.is_seated.Goals as goal
 
@@ -8,7 +9,7 @@ pub returns-then-eq : goal.returns-then-eq
 returns-then-eq g c =
     let x = c.index-seats-index.result in
     let e : x.shard ≡ c.args.shard = search rules in
-    let one : is c.args.shard x.shard ≡ 1 = ap (is c.args.shard) e ∙ is_same c.args.shard in
+    let one : is c.args.shard x.shard ≡ 1 = ap (is c.args.shard) e ∙ is_self c.args.shard in
     let f = found (λ d. is c.args.shard d.shard) c.args.seats.now c.loop-index.index x c.loop-index-test.true c.index-seats-index.is in
     ((λ _. omega (arith, one, f)), λ _. search rules)
 

@@ -7,8 +7,9 @@ use Rattle.circular_buffer.specs.Buffer.{Buffer}
 use Rattle.post_floor.proofs.Seated.{renamed, claim_here, moved_on}
 use Rattle.post_floor.proofs.Claiming.{first_empty}
 use Rattle.std.specs.Prelude.{set}
+use Rattle.std.proofs.lemmas.List.{get_or_read}
 use Rattle.post_floor.specs.Data.{AreSlots}
-use Rattle.post_floor.proofs.Seated.{seated, entry_is, placed, released, in_ring, slots_next, read_less}
+use Rattle.post_floor.proofs.Seated.{seated, placed, released, in_ring, slots_next, read_less}
 use Rattle.post_floor.proofs.floor.Floor.clear.Goals as goal
 
 pub index-slot-requires : goal.index-slot-requires
@@ -19,7 +20,7 @@ index-slot-requires g c =
 pub word_of-word-requires : goal.word_of-word-requires
 word_of-word-requires g c =
     let z = seated g.A.PathAlgebra.meaning c.args.self.now c.args.seat.now c.args.part.now c.self.inside.table.shared.table_id c.self.inside.table.shared.key c.self.inside.shards c.seat.inside.pass.table_id c.seat.inside.own c.seat.inside.pass.me.0 c.seat.inside.pass.me.1 c.seat.inside.claims.items c.seat.inside.claims.capacity c.seat.inside.next_fill.items c.seat.inside.next_read.items c.self.view_is c.seat.view_is c.self.invariant.1 c.seat.invariant c.requires.at in
-    let at_is = entry_is c.seat.inside.next_read.items c.from.inside.0 c.index-slot.result.now (omega (arith, z.read_slots.long, c.requires.shard, z.asked, c.from.view_is)) c.index-slot.ensures in
+    let at_is = get_or_read c.seat.inside.next_read.items c.from.inside.0 c.index-slot.result.now (omega (arith, z.read_slots.long, c.requires.shard, z.asked, c.from.view_is)) c.index-slot.ensures 0 in
     let slot = at_is ∙ ap (λ j. get_or c.seat.inside.next_read.items j 0) c.from.view_is in
     (c.self.invariant.2, omega (arith, c.requires.shard, z.asked), z.below, subst (λ x. x < 4) (sym slot) (z.read_slots.low c.args.from))
 
@@ -31,7 +32,7 @@ bring-requires-clause-room g c κs within =
 pub bring-requires-clause-claim : goal.bring-requires-clause-claim
 bring-requires-clause-claim g c κs within =
     let z = seated g.A.PathAlgebra.meaning c.args.self.now c.args.seat.now c.args.part.now c.self.inside.table.shared.table_id c.self.inside.table.shared.key c.self.inside.shards c.seat.inside.pass.table_id c.seat.inside.own c.seat.inside.pass.me.0 c.seat.inside.pass.me.1 c.seat.inside.claims.items c.seat.inside.claims.capacity c.seat.inside.next_fill.items c.seat.inside.next_read.items c.self.view_is c.seat.view_is c.self.invariant.1 c.seat.invariant c.requires.at in
-    let at_is = entry_is c.seat.inside.next_read.items c.from.inside.0 c.index-slot.result.now (omega (arith, z.read_slots.long, c.requires.shard, z.asked, c.from.view_is)) c.index-slot.ensures in
+    let at_is = get_or_read c.seat.inside.next_read.items c.from.inside.0 c.index-slot.result.now (omega (arith, z.read_slots.long, c.requires.shard, z.asked, c.from.view_is)) c.index-slot.ensures 0 in
     let slot = at_is ∙ ap (λ j. get_or c.seat.inside.next_read.items j 0) c.from.view_is in
     let box = c.word_of-word.ensures.0 ∙ z.reads c.args.from c.index-slot.result.now slot in
     let claim = claim_here (λ k u. reading k u) c.word_of-word.result _ _ _ box (sym z.knows) c.requires.claim in
@@ -50,7 +51,7 @@ clear_word-requires-clause-slot g c κs within =
 pub clear_word-requires-clause-claim : goal.clear_word-requires-clause-claim
 clear_word-requires-clause-claim g c κs within =
     let z = seated g.A.PathAlgebra.meaning c.args.self.now c.args.seat.now c.args.part.now c.self.inside.table.shared.table_id c.self.inside.table.shared.key c.self.inside.shards c.seat.inside.pass.table_id c.seat.inside.own c.seat.inside.pass.me.0 c.seat.inside.pass.me.1 c.seat.inside.claims.items c.seat.inside.claims.capacity c.seat.inside.next_fill.items c.seat.inside.next_read.items c.self.view_is c.seat.view_is c.self.invariant.1 c.seat.invariant c.requires.at in
-    let at_is = entry_is c.seat.inside.next_read.items c.from.inside.0 c.index-slot.result.now (omega (arith, z.read_slots.long, c.requires.shard, z.asked, c.from.view_is)) c.index-slot.ensures in
+    let at_is = get_or_read c.seat.inside.next_read.items c.from.inside.0 c.index-slot.result.now (omega (arith, z.read_slots.long, c.requires.shard, z.asked, c.from.view_is)) c.index-slot.ensures 0 in
     let slot = at_is ∙ ap (λ j. get_or c.seat.inside.next_read.items j 0) c.from.view_is in
     let box = c.word_of-word.ensures.0 ∙ z.reads c.args.from c.index-slot.result.now slot in
     let claim = claim_here (λ k u. reading k u) c.word_of-word.result _ _ _ box (sym z.knows) c.requires.claim in
@@ -59,7 +60,7 @@ clear_word-requires-clause-claim g c κs within =
 pub next_slot-requires : goal.next_slot-requires
 next_slot-requires g c =
     let z = seated g.A.PathAlgebra.meaning c.args.self.now c.args.seat.now c.args.part.now c.self.inside.table.shared.table_id c.self.inside.table.shared.key c.self.inside.shards c.seat.inside.pass.table_id c.seat.inside.own c.seat.inside.pass.me.0 c.seat.inside.pass.me.1 c.seat.inside.claims.items c.seat.inside.claims.capacity c.seat.inside.next_fill.items c.seat.inside.next_read.items c.self.view_is c.seat.view_is c.self.invariant.1 c.seat.invariant c.requires.at in
-    let at_is = entry_is c.seat.inside.next_read.items c.from.inside.0 c.index-slot.result.now (omega (arith, z.read_slots.long, c.requires.shard, z.asked, c.from.view_is)) c.index-slot.ensures in
+    let at_is = get_or_read c.seat.inside.next_read.items c.from.inside.0 c.index-slot.result.now (omega (arith, z.read_slots.long, c.requires.shard, z.asked, c.from.view_is)) c.index-slot.ensures 0 in
     let slot = at_is ∙ ap (λ j. get_or c.seat.inside.next_read.items j 0) c.from.view_is in
     subst (λ x. x < 4) (sym slot) (z.read_slots.low c.args.from)
 
@@ -76,7 +77,7 @@ returns-clause-at g c =
 pub invariant_of-seat : goal.invariant_of-seat
 invariant_of-seat g c =
     let z = seated g.A.PathAlgebra.meaning c.args.self.now c.args.seat.now c.args.part.now c.self.inside.table.shared.table_id c.self.inside.table.shared.key c.self.inside.shards c.seat.inside.pass.table_id c.seat.inside.own c.seat.inside.pass.me.0 c.seat.inside.pass.me.1 c.seat.inside.claims.items c.seat.inside.claims.capacity c.seat.inside.next_fill.items c.seat.inside.next_read.items c.self.view_is c.seat.view_is c.self.invariant.1 c.seat.invariant c.requires.at in
-    let at_is = entry_is c.seat.inside.next_read.items c.from.inside.0 c.index-slot.result.now (omega (arith, z.read_slots.long, c.requires.shard, z.asked, c.from.view_is)) c.index-slot.ensures in
+    let at_is = get_or_read c.seat.inside.next_read.items c.from.inside.0 c.index-slot.result.now (omega (arith, z.read_slots.long, c.requires.shard, z.asked, c.from.view_is)) c.index-slot.ensures 0 in
     let slot = at_is ∙ ap (λ j. get_or c.seat.inside.next_read.items j 0) c.from.view_is in
     let box = c.word_of-word.ensures.0 ∙ z.reads c.args.from c.index-slot.result.now slot in
     let claim = claim_here (λ k u. reading k u) c.word_of-word.result _ _ _ box (sym z.knows) c.requires.claim in
@@ -88,7 +89,7 @@ invariant_of-seat g c =
 pub returns-clause-told : goal.returns-clause-told
 returns-clause-told g c =
     let z = seated g.A.PathAlgebra.meaning c.args.self.now c.args.seat.now c.args.part.now c.self.inside.table.shared.table_id c.self.inside.table.shared.key c.self.inside.shards c.seat.inside.pass.table_id c.seat.inside.own c.seat.inside.pass.me.0 c.seat.inside.pass.me.1 c.seat.inside.claims.items c.seat.inside.claims.capacity c.seat.inside.next_fill.items c.seat.inside.next_read.items c.self.view_is c.seat.view_is c.self.invariant.1 c.seat.invariant c.requires.at in
-    let at_is = entry_is c.seat.inside.next_read.items c.from.inside.0 c.index-slot.result.now (omega (arith, z.read_slots.long, c.requires.shard, z.asked, c.from.view_is)) c.index-slot.ensures in
+    let at_is = get_or_read c.seat.inside.next_read.items c.from.inside.0 c.index-slot.result.now (omega (arith, z.read_slots.long, c.requires.shard, z.asked, c.from.view_is)) c.index-slot.ensures 0 in
     let slot = at_is ∙ ap (λ j. get_or c.seat.inside.next_read.items j 0) c.from.view_is in
     let box = c.word_of-word.ensures.0 ∙ z.reads c.args.from c.index-slot.result.now slot in
     renamed (λ k u. at_word k 0 (end_read c.args.from k u)) c.word_of-word.result _ _ _ c.args.part.now c.clear_word.new.pass.me.0 box (c.bring.ensures.pass.2 ∙ sym z.knows) (subst (λ o. Went (at_word c.word_of-word.result 0 (end_read o c.word_of-word.result c.bring.new.pass.me.0)) c.args.part.now c.clear_word.new.pass.me.0) (ap (λ u. origin u.plan.shards c.word_of-word.result) z.setup ∙ ap (λ n. origin n c.word_of-word.result) z.count ∙ c.word_of-word.ensures.3) c.clear_word.ensures.told.0)

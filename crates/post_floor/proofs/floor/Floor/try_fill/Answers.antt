@@ -5,7 +5,8 @@ use Rattle.post_floor.specs.Boxes.{origin, box_count}
 use Rattle.circular_buffer.specs.Buffer.{Buffer}
 use Rattle.post_floor.proofs.Seated.{renamed}
 use Rattle.std.proofs.Common.{inl}
-use Rattle.post_floor.proofs.Seated.{seated, entry_is, still, placed, claimed}
+use Rattle.std.proofs.lemmas.List.{get_or_read}
+use Rattle.post_floor.proofs.Seated.{seated, still, placed, claimed}
 use Rattle.post_floor.proofs.floor.Floor.try_fill.Goals as goal
 
 pub index-slot-requires : goal.index-slot-requires
@@ -16,7 +17,7 @@ index-slot-requires g c =
 pub word_of-word-requires : goal.word_of-word-requires
 word_of-word-requires g c =
     let z = seated g.A.PathAlgebra.meaning c.args.self.now c.args.seat.now c.args.part.now c.self.inside.table.shared.table_id c.self.inside.table.shared.key c.self.inside.shards c.seat.inside.pass.table_id c.seat.inside.own c.seat.inside.pass.me.0 c.seat.inside.pass.me.1 c.seat.inside.claims.items c.seat.inside.claims.capacity c.seat.inside.next_fill.items c.seat.inside.next_read.items c.self.view_is c.seat.view_is c.self.invariant.1 c.seat.invariant c.requires.at in
-    let at_is = entry_is c.seat.inside.next_fill.items c.to.inside.0 c.index-slot.result.now (omega (arith, z.fill_slots.long, c.requires.shard, z.asked, c.to.view_is)) c.index-slot.ensures in
+    let at_is = get_or_read c.seat.inside.next_fill.items c.to.inside.0 c.index-slot.result.now (omega (arith, z.fill_slots.long, c.requires.shard, z.asked, c.to.view_is)) c.index-slot.ensures 0 in
     let slot = at_is ∙ ap (λ j. get_or c.seat.inside.next_fill.items j 0) c.to.view_is in
     (c.self.invariant.2, z.below, omega (arith, c.requires.shard, z.asked), subst (λ x. x < 4) (sym slot) (z.fill_slots.low c.args.to))
 
@@ -43,7 +44,7 @@ returns-clause-at g c =
 pub returns-then-fill_word-ne0-clause-told : goal.returns-then-fill_word-ne0-clause-told
 returns-then-fill_word-ne0-clause-told g c =
     let z = seated g.A.PathAlgebra.meaning c.args.self.now c.args.seat.now c.args.part.now c.self.inside.table.shared.table_id c.self.inside.table.shared.key c.self.inside.shards c.seat.inside.pass.table_id c.seat.inside.own c.seat.inside.pass.me.0 c.seat.inside.pass.me.1 c.seat.inside.claims.items c.seat.inside.claims.capacity c.seat.inside.next_fill.items c.seat.inside.next_read.items c.self.view_is c.seat.view_is c.self.invariant.1 c.seat.invariant c.requires.at in
-    let at_is = entry_is c.seat.inside.next_fill.items c.to.inside.0 c.index-slot.result.now (omega (arith, z.fill_slots.long, c.requires.shard, z.asked, c.to.view_is)) c.index-slot.ensures in
+    let at_is = get_or_read c.seat.inside.next_fill.items c.to.inside.0 c.index-slot.result.now (omega (arith, z.fill_slots.long, c.requires.shard, z.asked, c.to.view_is)) c.index-slot.ensures 0 in
     let slot = at_is ∙ ap (λ j. get_or c.seat.inside.next_fill.items j 0) c.to.view_is in
     let box = c.word_of-word.ensures.0 ∙ z.fills c.args.to c.index-slot.result.now slot in
     let t = c.fill_word.ensures.told.1 c.if-fill_word-ne0.true in (c.fill_word.result, c.if-fill_word-ne0.true, renamed (λ k u. at_word k c.fill_word.result u) c.word_of-word.result _ _ _ c.args.part.now c.fill_word.new.pass.me.0 box (sym z.knows) t.0)
@@ -56,7 +57,7 @@ invariant_of-seat-2 g c =
 pub returns-clause-told : goal.returns-clause-told
 returns-clause-told g c =
     let z = seated g.A.PathAlgebra.meaning c.args.self.now c.args.seat.now c.args.part.now c.self.inside.table.shared.table_id c.self.inside.table.shared.key c.self.inside.shards c.seat.inside.pass.table_id c.seat.inside.own c.seat.inside.pass.me.0 c.seat.inside.pass.me.1 c.seat.inside.claims.items c.seat.inside.claims.capacity c.seat.inside.next_fill.items c.seat.inside.next_read.items c.self.view_is c.seat.view_is c.self.invariant.1 c.seat.invariant c.requires.at in
-    let at_is = entry_is c.seat.inside.next_fill.items c.to.inside.0 c.index-slot.result.now (omega (arith, z.fill_slots.long, c.requires.shard, z.asked, c.to.view_is)) c.index-slot.ensures in
+    let at_is = get_or_read c.seat.inside.next_fill.items c.to.inside.0 c.index-slot.result.now (omega (arith, z.fill_slots.long, c.requires.shard, z.asked, c.to.view_is)) c.index-slot.ensures 0 in
     let slot = at_is ∙ ap (λ j. get_or c.seat.inside.next_fill.items j 0) c.to.view_is in
     let box = c.word_of-word.ensures.0 ∙ z.fills c.args.to c.index-slot.result.now slot in
     let t = c.fill_word.ensures.told.0 c.if-fill_word-ne0.false in renamed (λ k u. at_word k 0 (claim_fill k u)) c.word_of-word.result _ _ _ c.args.part.now c.fill_word.new.pass.me.0 box (sym z.knows) t.0

@@ -5,7 +5,8 @@ use Rattle.post_floor.specs.Boxes.{origin, dest, box_count}
 use Rattle.circular_buffer.specs.Buffer.{Buffer}
 use Rattle.post_floor.proofs.Seated.{renamed}
 use Rattle.std.proofs.Common.{inr}
-use Rattle.post_floor.proofs.Seated.{seated, entry_is, still, placed, claimed}
+use Rattle.std.proofs.lemmas.List.{get_or_read}
+use Rattle.post_floor.proofs.Seated.{seated, still, placed, claimed}
 use Rattle.post_floor.proofs.floor.Floor.try_read.Goals as goal
 
 pub index-slot-requires : goal.index-slot-requires
@@ -16,7 +17,7 @@ index-slot-requires g c =
 pub word_of-word-requires : goal.word_of-word-requires
 word_of-word-requires g c =
     let z = seated g.A.PathAlgebra.meaning c.args.self.now c.args.seat.now c.args.part.now c.self.inside.table.shared.table_id c.self.inside.table.shared.key c.self.inside.shards c.seat.inside.pass.table_id c.seat.inside.own c.seat.inside.pass.me.0 c.seat.inside.pass.me.1 c.seat.inside.claims.items c.seat.inside.claims.capacity c.seat.inside.next_fill.items c.seat.inside.next_read.items c.self.view_is c.seat.view_is c.self.invariant.1 c.seat.invariant c.requires.at in
-    let at_is = entry_is c.seat.inside.next_read.items c.from.inside.0 c.index-slot.result.now (omega (arith, z.read_slots.long, c.requires.shard.1, z.asked, c.from.view_is)) c.index-slot.ensures in
+    let at_is = get_or_read c.seat.inside.next_read.items c.from.inside.0 c.index-slot.result.now (omega (arith, z.read_slots.long, c.requires.shard.1, z.asked, c.from.view_is)) c.index-slot.ensures 0 in
     let slot = at_is ∙ ap (λ j. get_or c.seat.inside.next_read.items j 0) c.from.view_is in
     (c.self.invariant.2, omega (arith, c.requires.shard.1, z.asked), z.below, subst (λ x. x < 4) (sym slot) (z.read_slots.low c.args.from))
 
@@ -58,7 +59,7 @@ returns-else-fetch-clause-at g c =
 pub returns-then-fetch-clause-told : goal.returns-then-fetch-clause-told
 returns-then-fetch-clause-told g c =
     let z = seated g.A.PathAlgebra.meaning c.args.self.now c.args.seat.now c.args.part.now c.self.inside.table.shared.table_id c.self.inside.table.shared.key c.self.inside.shards c.seat.inside.pass.table_id c.seat.inside.own c.seat.inside.pass.me.0 c.seat.inside.pass.me.1 c.seat.inside.claims.items c.seat.inside.claims.capacity c.seat.inside.next_fill.items c.seat.inside.next_read.items c.self.view_is c.seat.view_is c.self.invariant.1 c.seat.invariant c.requires.at in
-    let at_is = entry_is c.seat.inside.next_read.items c.from.inside.0 c.index-slot.result.now (omega (arith, z.read_slots.long, c.requires.shard.1, z.asked, c.from.view_is)) c.index-slot.ensures in
+    let at_is = get_or_read c.seat.inside.next_read.items c.from.inside.0 c.index-slot.result.now (omega (arith, z.read_slots.long, c.requires.shard.1, z.asked, c.from.view_is)) c.index-slot.ensures 0 in
     let slot = at_is ∙ ap (λ j. get_or c.seat.inside.next_read.items j 0) c.from.view_is in
     let box = c.word_of-word.ensures.0 ∙ z.reads c.args.from c.index-slot.result.now slot in
     let t = c.if-fetch.ensures.told in (t.0.0, renamed (λ k u. at_word k 2 (claim_read k u)) c.word_of-word.result _ _ _ c.fetch.new.part c.fetch.new.pass.me.0 box (sym z.knows) t.0.1)
@@ -66,7 +67,7 @@ returns-then-fetch-clause-told g c =
 pub returns-else-fetch-clause-told : goal.returns-else-fetch-clause-told
 returns-else-fetch-clause-told g c =
     let z = seated g.A.PathAlgebra.meaning c.args.self.now c.args.seat.now c.args.part.now c.self.inside.table.shared.table_id c.self.inside.table.shared.key c.self.inside.shards c.seat.inside.pass.table_id c.seat.inside.own c.seat.inside.pass.me.0 c.seat.inside.pass.me.1 c.seat.inside.claims.items c.seat.inside.claims.capacity c.seat.inside.next_fill.items c.seat.inside.next_read.items c.self.view_is c.seat.view_is c.self.invariant.1 c.seat.invariant c.requires.at in
-    let at_is = entry_is c.seat.inside.next_read.items c.from.inside.0 c.index-slot.result.now (omega (arith, z.read_slots.long, c.requires.shard.1, z.asked, c.from.view_is)) c.index-slot.ensures in
+    let at_is = get_or_read c.seat.inside.next_read.items c.from.inside.0 c.index-slot.result.now (omega (arith, z.read_slots.long, c.requires.shard.1, z.asked, c.from.view_is)) c.index-slot.ensures 0 in
     let slot = at_is ∙ ap (λ j. get_or c.seat.inside.next_read.items j 0) c.from.view_is in
     let box = c.word_of-word.ensures.0 ∙ z.reads c.args.from c.index-slot.result.now slot in
     let t = c.if-fetch.ensures.told in (t.0.0, t.0.1, t.0.2, renamed (λ k u. at_word k t.0.1 u) c.word_of-word.result _ _ _ c.fetch.new.part c.fetch.new.pass.me.0 box (sym z.knows) t.0.3)

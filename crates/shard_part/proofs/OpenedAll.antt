@@ -16,6 +16,10 @@ module _ {S : Type 0} (t : Setup S) (P : IsPlanned t 0) where
   planned_each s l = record { roads = P.roads; source = P.source; plan = P.plan; covers = P.covers; shard = l }
 
 module _ {S V : Type 0} (A : Algebra V) (t : Setup S) where
+  pub all_same : (k n : ℕ) → All (λ (p : PartData S V). p.setup ≡ t) (opened_parts A t k n)
+  all_same k zero = tt
+  all_same k (suc n) = (refl, all_same (suc k) n)
+
   -- no shard before the first has a part
   pub shards_past : (j k n : ℕ) → j < k → total (λ (p : PartData S V). is j p.shard) (opened_parts A t k n) ≡ 0
   shards_past j k zero l = refl
@@ -25,10 +29,6 @@ module _ {S V : Type 0} (A : Algebra V) (t : Setup S) (P : IsPlanned t 0) where
   all_hold : (k n : ℕ) → k + n ≤ t.plan.shards → All (HoldsTables A (network_in t) (place_in t) (opening A (network_in t))) (opened_parts A t k n)
   all_hold k zero l = tt
   all_hold k (suc n) l = ((opened_holds A t k (planned_each t P k (omega (arith, l)))).tables, all_hold (suc k) n (omega (arith, l)))
-
-  all_same : (k n : ℕ) → All (λ (p : PartData S V). p.setup ≡ t) (opened_parts A t k n)
-  all_same k zero = tt
-  all_same k (suc n) = (refl, all_same (suc k) n)
 
   -- the first message weighs at the source's part alone
   weight_at : (h : ℕ → Item V → ℕ) (k : ℕ) → k < t.plan.shards → ((place_in t 0 ≡ k) × (part_weight h (opened_part A t k) ≡ h (place_in t 0) (MessageOn 0 A.origin))) ⊎ ((place_in t 0 ≢ k) × (part_weight h (opened_part A t k) ≡ 0))
@@ -69,4 +69,4 @@ module _ {S V : Type 0} (A : Algebra V) (t : Setup S) (P : IsPlanned t 0) where
   }
 
   pub opened_same : All (λ (p : PartData S V). p.setup ≡ t) (opened_parts A t 0 t.plan.shards)
-  opened_same = all_same 0 t.plan.shards
+  opened_same = all_same A t 0 t.plan.shards

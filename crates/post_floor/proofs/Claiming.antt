@@ -4,6 +4,7 @@ use Rattle.std.proofs.lemmas.Bool.{cases_eq}
 use Rattle.std.proofs.Math.Nat.{div-add-mod, mod-lt}
 use Rattle.atomic_table.specs.Table.{rest}
 use Rattle.scholten_core.specs.Sums.{sum_below}
+use Rattle.scholten_core.proofs.Sums.{sum_most, sum_ones}
 use Rattle.shard_part.specs.PartState.{total, is, All, Setup}
 use Rattle.shard_part.proofs.Weights.{sum_at, sum_zero}
 use Rattle.shard_part.proofs.Showing.{is_self}
@@ -40,12 +41,8 @@ module _ (f : ℕ → ℕ) (P : ℕ → Type 0) (apart : (x y : ℕ) → P x →
       let p = sum_at (λ j. is j (f x) + total (λ y. is j (f y)) xs) (λ j. total (λ y. is j (f y)) xs) (f x) n a.0 (λ j ne. let z = is_else j (f x) ne in omega (arith, z)) in
       let s = is_self (f x) in omega (arith, r, p, s)
 
-  each_most : (g : ℕ → ℕ) (n : ℕ) → ((j : ℕ) → g j ≤ 1) → sum_below g n ≤ n
-  each_most g zero l = omega arith
-  each_most g (suc n) l = let r = each_most g n l in let q = l n in omega (arith, r, q)
-
   pub at_most : (xs : List ℕ) (n : ℕ) → All P xs → All (λ x. f x < n) xs → ((k : ℕ) → total (is k) xs ≤ 1) → length xs ≤ n
-  at_most xs n a b once = let s = spread xs n b in let m = each_most (λ j. total (λ y. is j (f y)) xs) n (λ j. once_there j xs a once) in omega (arith, s, m)
+  at_most xs n a b once = let s = spread xs n b in let m = sum_most (λ j. total (λ y. is j (f y)) xs) (λ _. 1) n (λ j. once_there j xs a once) in let o = sum_ones n in omega (arith, s, m, o)
 
 -- the place of a mailbox among those with an end at the shard s: first those that come from it, then the others
 place : (n s k : ℕ) → ℕ

@@ -1,6 +1,7 @@
 -- Seats that are cut off and joined keep the rule.
-use Rattle.std.proofs.Common.{◌≡◌, ℕ, ◌+◌, ◌<◌, Bool, true, false, ◌||◌, List, [], ◌∷◌, ◌++◌, map, set, get_or, refl, sym, ap, ◌∙◌, subst, inl, inr, arith}
-use Rattle.std.proofs.lemmas.List.{same_from_push}
+use Rattle.std.proofs.Common.{◌≡◌, ℕ, ◌+◌, ◌<◌, true, List, [], ◌∷◌, ◌++◌, map, set, get_or, refl, sym, ap, ◌∙◌, subst, inl, inr, arith}
+use Rattle.std.proofs.lemmas.Bool.{or_cases}
+use Rattle.std.proofs.lemmas.List.{map_push, same_from_push}
 use mathlib.Core.Option.{some}
 use lib.ListN.{get_elem?}
 use Rattle.atomic_table.specs.Table.{State, Splits, Joins}
@@ -15,7 +16,6 @@ use Rattle.post_floor.specs.Floor.{Slot, flat, filling, reading, CountsNone, Box
 use Rattle.post_floor.specs.Seats.{tail, first_of, cut_left, cut_right, aside_left, aside_right, both, spent}
 use Rattle.post_floor.proofs.Totals.{total_set}
 use Rattle.post_floor.proofs.Parts.{flat_total, flat_each, flat_at}
-use Rattle.post_floor.proofs.Opened.{map_one_more}
 
 pub total_snoc : {A : Type 0} (f : A → ℕ) (xs : List A) (y : A) → total f (xs ++ y ∷ []) ≡ total f xs + f y
 total_snoc f xs y = let p = total_append f xs (y ∷ []) in omega (arith, p)
@@ -39,10 +39,6 @@ none_left (x ∷ xs) ys e = absurd cc
 none_right : {A : Type 0} (xs ys : List A) → xs ++ ys ≡ [] → ys ≡ []
 none_right [] ys e = e
 none_right (x ∷ xs) ys e = absurd cc
-
-either_true : (a b : Bool) (Q : Type 0) → (a ≡ true → Q) → (b ≡ true → Q) → a || b ≡ true → Q
-either_true true b Q f g e = f refl
-either_true false b Q f g e = g e
 
 module _ {S V : Type 0} (meaning : S → Algebra V) (t : Setup S) where
   abbrev St : Type 0
@@ -180,7 +176,7 @@ module _ {S V : Type 0} (meaning : S → Algebra V) (t : Setup S) where
               accepted = (let a = x.accepted in let c' = y.accepted in omega (arith, a, c'));
             })
             (λ q. record { sent = refl; delivered = refl; signalled = refl; accepted = refl });
-        seen = λ D old. where' (λ (u : View S V). u.seen ≡ true → D) old (either_true v.seen w.seen D (old id v at) (old other w was)) (λ z. absurd cc);
+        seen = λ D old. where' (λ (u : View S V). u.seen ≡ true → D) old (λ q. elim (or_cases v.seen w.seen q) [ inl z ↦ old id v at z | inr z ↦ old other w was z ]) (λ z. absurd cc);
       })
 
 -- the last of a list leaves
@@ -189,4 +185,4 @@ all_front P xs ys x e p = let r = all_parts P xs (x ∷ []) (subst (All P) e p) 
 
 -- the last of the seats is that of the last part
 pub last_seat : {X Y : Type 0} (f : X → Y) (ps qs : List X) (p : X) (ds es : List Y) (d : Y) → ps ≡ qs ++ p ∷ [] → ds ≡ map f ps → ds ≡ es ++ d ∷ [] → (es ≡ map f qs) × (d ≡ f p)
-last_seat f ps qs p ds es d e m h = same_from_push es (map f qs) d (f p) (sym h ∙ m ∙ ap (map f) e ∙ sym (map_one_more f qs p))
+last_seat f ps qs p ds es d e m h = same_from_push es (map f qs) d (f p) (sym h ∙ m ∙ ap (map f) e ∙ map_push f qs p)

@@ -1,7 +1,7 @@
 -- Claims that are turned round.
 use Rattle.std.proofs.Common.{◌≡◌, ◌≢◌, ℕ, suc, ◌<◌, ◌≤◌, Bool, true, false, cond, eqb, List, [], ◌∷◌, ◌++◌, length, map, refl, sym, ap, ◌∙◌, subst, inl, inr, arith, eq-eqb, eqb-true, length-append}
 use Rattle.std.proofs.lemmas.Bool.{cases_eq}
-use Rattle.std.proofs.lemmas.List.{map-append}
+use Rattle.std.proofs.lemmas.List.{map_push}
 use Rattle.atomic_table.specs.Table.{rest, turned}
 use Rattle.shard_part.specs.PartState.{total, is, All, Setup}
 use Rattle.shard_part.proofs.Weights.{total_append}
@@ -30,7 +30,7 @@ all_turned P (x ∷ xs) a = all_append P xs (x ∷ []) a.1 (a.0, tt)
 
 pub turned_keys : {X : Type 0} (xs : List (ℕ × X)) → map (λ x. x.0) (turned xs) ≡ cycled (map (λ x. x.0) xs)
 turned_keys [] = refl
-turned_keys (x ∷ xs) = map-append (λ x. x.0) xs (x ∷ [])
+turned_keys (x ∷ xs) = map_push (λ x. x.0) xs x
 
 before_last : (k x : ℕ) (xs : List ℕ) → 0 < total (is k) xs → before k (xs ++ x ∷ []) ≡ before k xs
 before_last k x [] m = absurd (omega (arith, m))

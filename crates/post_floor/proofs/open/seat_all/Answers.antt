@@ -1,8 +1,9 @@
 use Rattle.std.proofs.Common.{◌≡◌, ℕ, ◌+◌, ◌++◌, [], ◌∷◌, map, rules, arith, refl, ap, sym, ◌∙◌, length-append}
+use Rattle.std.proofs.lemmas.List.{map_push}
 use Rattle.post_floor.specs.Seats.{knows, cut_left, cut_right}
 use Rattle.post_floor.specs.Data.{seat_of}
 use Rattle.post_floor.proofs.Seats.{splits}
-use Rattle.post_floor.proofs.Opened.{cut_opened, map_one_more, none_more, opened_long}
+use Rattle.post_floor.proofs.Opened.{cut_opened, none_more, opened_long}
 use Rattle.post_floor.proofs.open.seat_all.Goals as goal
 
 pub split_seat-own-requires : goal.split_seat-own-requires
@@ -25,7 +26,7 @@ loop-shard-preserved g c =
     let id : c.split_seat-own.result.table_id ≡ c.args.table.now.table_id = c.split_seat-own.ensures.3 ∙ inv.6 in
     let shard : c.loop-shard.shard ≡ p.shard = sym (ap (λ p. p.shard) t.3 ∙ inv.3) in (
       inv.0 ++ p ∷ [],
-      c.in_ok-push.ensures.items ∙ (λ i. inv.1 i ++ (c.in_ok-seat.ensures ∙ (λ j. record { floor = id j; shard = shard j; knows = own j })) i ∷ []) ∙ map_one_more (seat_of c.args.table.now.table_id c.args.shards) inv.0 p,
+      c.in_ok-push.ensures.items ∙ (λ i. inv.1 i ++ (c.in_ok-seat.ensures ∙ (λ j. record { floor = id j; shard = shard j; knows = own j })) i ∷ []) ∙ sym (map_push (seat_of c.args.table.now.table_id c.args.shards) inv.0 p),
       ap (λ z. (inv.0 ++ p ∷ []) ++ z.parts) here ∙ t.2,
       length-append inv.0 (p ∷ []) ∙ ap (λ (z : ℕ). z + 1) inv.3,
       ap (λ z. z.1) c.split_seat-own.ensures.2 ∙ inv.4,

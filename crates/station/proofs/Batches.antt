@@ -1,5 +1,5 @@
 -- Batches that came in and outboxes that went off, one after the other.
-use Rattle.std.proofs.Common.{◌≡◌, ◌≢◌, ℕ, suc, ◌+◌, Bool, true, false, List, [], ◌∷◌, ◌++◌, length, get_or, refl, sym, ap, ◌∙◌, subst, arith, length-append}
+use Rattle.std.proofs.Common.{◌≡◌, ◌≢◌, ℕ, ◌+◌, Bool, true, false, List, [], ◌∷◌, ◌++◌, get_or, refl, sym, ap, ◌∙◌, subst, arith, length-append}
 use Rattle.std.specs.Int.{from_bool}
 use Rattle.scholten_core.specs.declared.item.Item.{Item}
 use Rattle.shard_part.specs.PartState.{PartData}
@@ -26,10 +26,3 @@ module _ {S V : Type 0} where
   pub went_off : (b : Bool) (n to : ℕ) (p q r : PartData S V) → AllWentOff n p q → WentOff b to q r → (AllWentOff (n + from_bool b) p r) × (r.shard ≡ q.shard) × (r.setup ≡ q.setup)
   went_off true n to p q r (js, l, s) (ne, o, k) = ((js ++ to ∷ [], length-append js (to ∷ []) ∙ ap (λ z. z + 1) l, sent_last js to p q r s ne o k), ap (λ (z : PartData S V). z.shard) k, ap (λ (z : PartData S V). z.setup) k)
   went_off false n to p q r (js, l, s) k = ((js, l ∙ omega arith, subst (λ z. SentOff js p z) (sym k) s), ap (λ (z : PartData S V). z.shard) k, ap (λ (z : PartData S V). z.setup) k)
-
-  -- nothing came in yet, and nothing went off
-  pub none_in : (p : PartData S V) → AllCameIn 0 p p
-  none_in p = ([], refl, refl)
-
-  pub none_off : (p : PartData S V) → AllWentOff 0 p p
-  none_off p = ([], refl, refl)

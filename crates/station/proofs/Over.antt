@@ -1,5 +1,6 @@
 -- A part that holds its share of an ended state.
 use Rattle.std.proofs.Common.{◌≡◌, ℕ, zero, suc, ◌+◌, ◌<◌, ◌≤◌, Bool, true, false, None, List, [], ◌∷◌, length, get_or, refl, sym, ap, ◌∙◌, subst, arith, eq-eqb}
+use Rattle.std.proofs.lemmas.List.{nil_from_length}
 use Rattle.path_algebra.specs.Algebra.{Algebra, IsLawful}
 use Rattle.path_algebra.specs.Walks.{IsBestLabel}
 use Rattle.scholten_core.specs.declared.item.Item.{Item}
@@ -22,10 +23,6 @@ not_busy : (V : Type 0) (z : Bool) → is_idle (token_if {V = V} z) ≡ true →
 not_busy V true e = absurd cc
 not_busy V false e = refl
 
-empty : {A : Type 0} (xs : List A) → length xs ≤ 0 → xs ≡ []
-empty [] l = refl
-empty (x ∷ xs) l = absurd (omega (arith, l))
-
 module _ {S V : Type 0} (meaning : S → Algebra V) where
   pub is_over : (p : PartData S V) (s : ℕ) → IsLawful (meaning p.setup.algebra) → IsPlanned p.setup s → Ended meaning p → IsOverPart meaning p
   is_over p s L P (events, H, h, Q) =
@@ -38,6 +35,6 @@ module _ {S V : Type 0} (meaning : S → Algebra V) where
         best = λ v own. subst (IsBestLabel A p.setup.roads (p.setup.source ∷ []) v) (sym (H.tables.agree.label v (eq-eqb _ _ own.1))) (B v own.0);
         neutral = λ v own. H.tables.agree.engager v (eq-eqb _ _ own.1) ∙ Q.1 v;
         idle = λ b here. not_busy V (get_or p.busy b false) (H.tables.agree.idle b (eq-eqb _ _ here) ∙ ap is_idle (Q.0 b));
-        queue = empty p.queue (let n = each_one (one p.shard) p.queue (λ i. refl) in omega (arith, w, n, none'));
-        outs = λ j. empty (get_or p.outs j []) (let n = each_one (one (0 + j)) (get_or p.outs j []) (λ i. refl) in let m = outs_member one 0 j p.outs in omega (arith, w, n, m, none'));
+        queue = nil_from_length p.queue (let n = each_one (one p.shard) p.queue (λ i. refl) in omega (arith, w, n, none'));
+        outs = λ j. nil_from_length (get_or p.outs j []) (let n = each_one (one (0 + j)) (get_or p.outs j []) (λ i. refl) in let m = outs_member one 0 j p.outs in omega (arith, w, n, m, none'));
       }

@@ -1,14 +1,15 @@
 -- The places of stations, and the labels at them.
-use Rattle.std.proofs.Common.{◌≡◌, ◌≢◌, ℕ, zero, suc, ◌+◌, ◌-◌, ◌<◌, ◌≤◌, Option, Some, None, List, [], ◌∷◌, ◌++◌, length, get_or, set, refl, sym, ap, ◌∙◌, subst, inl, inr, arith, length-append, get_or-set_same, get_or-set_other}
+use Rattle.std.proofs.Common.{◌≡◌, ℕ, zero, suc, ◌+◌, ◌-◌, ◌<◌, ◌≤◌, Option, Some, None, List, [], ◌∷◌, ◌++◌, length, get_or, set, refl, sym, ap, ◌∙◌, subst, inl, inr, arith, length-append, get_or-set_same, get_or-set_other}
 use Rattle.std.proofs.lemmas.Bool.{cases_eq}
-use Rattle.std.proofs.lemmas.List.{get_or_append_left}
+use Rattle.std.proofs.lemmas.List.{get_or_append_left, get_or_push}
 use Rattle.std.specs.List.{All}
+use Rattle.std.proofs.lemmas.List.Elements.{All-pop}
 use Rattle.shard_part.specs.Moves.{IsPlanned}
 use Rattle.shard_part.specs.PartState.{PartData, Setup, total, is}
-use Rattle.post_floor.proofs.Totals.{is_same}
 use Rattle.shard_part.specs.Plans.{HasPlanned, shard_in}
 use Rattle.shard_part.specs.Readings.{IsOwn}
 use Rattle.shard_part.proofs.Graphs.{place_vertex}
+use Rattle.shard_part.proofs.Showing.{is_self}
 use Rattle.station.specs.Gather.{IsAtPlace, ArePlaces, AreOf}
 use Rattle.station.specs.Station.{StationData}
 
@@ -28,23 +29,14 @@ module _ {S V : Type 0} where
   pub at_place : (t : Setup S) (stations : List (StationData S V)) (j k : ℕ) (x : StationData S V) → x ≡ get_or stations k x → AreOf t stations → IsAtPlace stations j k → (x.part.setup ≡ t) × (x.part.shard ≡ j)
   at_place t stations j k x e own a = (ap (λ (s : StationData S V). s.part.setup) e ∙ own k x a.0, ap (λ (s : StationData S V). s.part.shard) e ∙ a.1 x)
 
--- the item behind all others
-at_end : {X : Type 0} (xs : List X) (x d : X) → get_or (xs ++ x ∷ []) (length xs) d ≡ x
-at_end [] x d = refl
-at_end (y ∷ xs) x d = at_end xs x d
-
 -- the last of a list and the others
 pub front_each : {X : Type 0} (P : X → Type 0) (left rest : List X) (s : X) → left ≡ rest ++ s ∷ [] → All P left → All P rest × P s
-front_each P left rest s e h =
-    let long : length left ≡ length rest + 1 = ap length e ∙ length-append rest (s ∷ []) in (
-      (λ k d l. subst P (ap (λ xs. get_or xs k d) e ∙ get_or_append_left rest (s ∷ []) d k l) (h k d (omega (arith, l, long)))),
-      subst P (ap (λ xs. get_or xs (length rest) s) e ∙ at_end rest s s) (h (length rest) s (omega (arith, long))),
-    )
+front_each P left rest s e h = All-pop P left rest (Some s) e h
 
 -- a station that is there counts
 pub counts_there : {S V : Type 0} (stations : List (StationData S V)) (j k : ℕ) → IsAtPlace stations j k → 0 < total (λ s. is j s.part.shard) stations
 counts_there [] j k a = absurd (let l = a.0 in omega (arith, l))
-counts_there (x ∷ xs) j zero a = let e : is j x.part.shard ≡ 1 = ap (is j) (a.1 x) ∙ is_same j in omega (arith, e)
+counts_there (x ∷ xs) j zero a = let e : is j x.part.shard ≡ 1 = ap (is j) (a.1 x) ∙ is_self j in omega (arith, e)
 counts_there (x ∷ xs) j (suc k) a = let l = a.0 in let h = counts_there xs j k (omega (arith, l), a.1) in omega (arith, h)
 
 -- one more label
@@ -53,7 +45,7 @@ pub labels_more : {V : Type 0} (P : ℕ → Option V → Type 0) (n : ℕ) (xs y
 labels_more P n xs ys x l h p e = (
   ap length e ∙ length-append xs (x ∷ []) ∙ ap (λ m. m + 1) l,
   (λ i m. elim (cases_eq i n) [
-    | inl q ↦ subst (λ j. P (j + 1) (get_or ys j None)) (sym q) (subst (P (n + 1)) (sym (ap (λ zs. get_or zs n None) e ∙ ap (λ j. get_or (xs ++ x ∷ []) j None) (sym l) ∙ at_end xs x None)) p)
+    | inl q ↦ subst (λ j. P (j + 1) (get_or ys j None)) (sym q) (subst (P (n + 1)) (sym (ap (λ zs. get_or zs n None) e ∙ ap (λ j. get_or (xs ++ x ∷ []) j None) (sym l) ∙ get_or_push xs x None (length xs) refl)) p)
     | inr ne ↦ subst (P (i + 1)) (sym (ap (λ zs. get_or zs i None) e ∙ get_or_append_left xs (x ∷ []) None i (omega (arith, m, ne, l)))) (h i (omega (arith, m, ne)))
   ]),
 )

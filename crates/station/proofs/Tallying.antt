@@ -1,5 +1,5 @@
 -- What parts have counted together, and what stands behind it.
-use Rattle.std.proofs.Common.{◌≡◌, ℕ, ◌+◌, ◌≤◌, Bool, true, false, ◌||◌, leb, min, List, [], ◌∷◌, ◌++◌, refl, sym, ap, ◌∙◌, subst, arith, le-leb, leb-true}
+use Rattle.std.proofs.Common.{◌≡◌, ℕ, ◌+◌, Bool, true, false, ◌||◌, leb, min, List, [], ◌∷◌, ◌++◌, refl, sym, ap, ◌∙◌, subst, arith, le-leb, leb-true}
 use Rattle.std.proofs.lemmas.Bool.{leb-false}
 use Rattle.atomic_table.specs.Seated.{TableId}
 use Rattle.scholten_core.specs.Accounts.{Totals}
@@ -8,13 +8,14 @@ use Rattle.shard_part.specs.PartState.{PartData, All, total, is}
 use Rattle.shard_part.specs.Readings.{tally_in}
 use Rattle.shard_part.specs.Tallies.{top, tally_of, together}
 use Rattle.shard_part.proofs.Weights.{total_append}
+use Rattle.shard_part.proofs.Showing.{all_append}
 use Rattle.post_floor.specs.declared.view.View.{View}
 use Rattle.post_floor.specs.Data.{SeatData}
 use Rattle.post_floor.specs.Plays.{ShowsPart}
+use Rattle.post_floor.proofs.Seats.{total_snoc}
 use Rattle.station.specs.Gather.{counts_of}
 use Rattle.station.specs.Handing.{AreHanded}
 use Rattle.station.specs.Station.{StationData}
-use Rattle.station.proofs.Opening.{all_last}
 
 -- a tally is full where a total is at the top: what was full before makes no difference
 full_same : (a l m n o b : Bool) → (a ≡ true → l || m || n || o ≡ true) → (b ≡ true → l || m || n || o ≡ true) → (a || l || m || n || o || b) ≡ (l || m || n || o)
@@ -84,9 +85,6 @@ module _ {S V : Type 0} where
         full = (ap (λ (x : Bool × Bool × Bool × Bool). (leb top n.sent || leb top n.delivered || leb top n.signalled || leb top n.accepted) || x.0 || x.1 || x.2 || x.3 || (leb top p.sent || leb top p.delivered || leb top p.signalled || leb top p.accepted)) (λ j. (l1 j, l2 j, l3 j, l4 j)) ∙ full) i;
       }
 
-  counted_last : (f : SeatData S V → ℕ) (seats : List (SeatData S V)) (d : SeatData S V) → total f (seats ++ d ∷ []) ≡ total f seats + f d
-  counted_last f seats d = let e = total_append f seats (d ∷ []) in omega (arith, e)
-
   pub handed_none : (id : TableId) (all : List (StationData S V)) → AreHanded id all all [] (tally_of (counts_of {S = S} {V = V} []))
   handed_none id all = record { own = tt; seen = tt; shards = λ j. omega arith; counted = refl }
 
@@ -94,18 +92,18 @@ module _ {S V : Type 0} where
   pub handed_more : (id : TableId) (all left rest : List (StationData S V)) (seats more : List (SeatData S V)) (s : StationData S V) (tally sum : Tally) → AreHanded id all left seats tally → left ≡ rest ++ s ∷ [] → more ≡ seats ++ s.seat ∷ []
       → s.seat.floor ≡ id → s.seat.knows.seen ≡ true → s.seat.shard ≡ s.part.shard → ShowsPart s.seat.knows s.part → sum ≡ together (tally_in s.part) tally → AreHanded id all rest more sum
   handed_more id all left rest seats more s tally sum h e m own seen same shows c = record {
-    own = subst (All (λ d. d.floor ≡ id)) (sym m) (all_last (λ d. d.floor ≡ id) seats s.seat h.own own);
-    seen = subst (All (λ d. d.knows.seen ≡ true)) (sym m) (all_last (λ d. d.knows.seen ≡ true) seats s.seat h.seen seen);
+    own = subst (All (λ d. d.floor ≡ id)) (sym m) (all_append (λ d. d.floor ≡ id) seats (s.seat ∷ []) h.own (own, tt));
+    seen = subst (All (λ d. d.knows.seen ≡ true)) (sym m) (all_append (λ d. d.knows.seen ≡ true) seats (s.seat ∷ []) h.seen (seen, tt));
     shards = λ j.
         let a = h.shards j in
-        let b : total (λ d. is j d.shard) more ≡ total (λ d. is j d.shard) seats + is j s.seat.shard = ap (total (λ d. is j d.shard)) m ∙ counted_last (λ d. is j d.shard) seats s.seat in
+        let b : total (λ d. is j d.shard) more ≡ total (λ d. is j d.shard) seats + is j s.seat.shard = ap (total (λ d. is j d.shard)) m ∙ total_snoc (λ d. is j d.shard) seats s.seat in
         let f : StationData S V → ℕ = λ z. is j z.part.shard in
         let u : total f left ≡ total f rest + (f s + 0) = ap (total f) e ∙ total_append f rest (s ∷ []) in
         let k : is j s.seat.shard ≡ is j s.part.shard = ap (is j) same in
         omega (arith, a, b, u, k);
     counted = c ∙ ap (together (tally_in s.part)) h.counted ∙ tally_more s.part s.seat.knows (counts_of seats) (counts_of more) shows
-        (ap (total (λ d. d.knows.sent)) m ∙ counted_last (λ d. d.knows.sent) seats s.seat)
-        (ap (total (λ d. d.knows.delivered)) m ∙ counted_last (λ d. d.knows.delivered) seats s.seat)
-        (ap (total (λ d. d.knows.signalled)) m ∙ counted_last (λ d. d.knows.signalled) seats s.seat)
-        (ap (total (λ d. d.knows.accepted)) m ∙ counted_last (λ d. d.knows.accepted) seats s.seat);
+        (ap (total (λ d. d.knows.sent)) m ∙ total_snoc (λ d. d.knows.sent) seats s.seat)
+        (ap (total (λ d. d.knows.delivered)) m ∙ total_snoc (λ d. d.knows.delivered) seats s.seat)
+        (ap (total (λ d. d.knows.signalled)) m ∙ total_snoc (λ d. d.knows.signalled) seats s.seat)
+        (ap (total (λ d. d.knows.accepted)) m ∙ total_snoc (λ d. d.knows.accepted) seats s.seat);
   }

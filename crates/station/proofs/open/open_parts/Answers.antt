@@ -1,8 +1,9 @@
-use Rattle.std.proofs.Common.{◌≡◌, subst, sym, ap, ◌∙◌, arith}
+use Rattle.std.proofs.Common.{◌≡◌, ◌∷◌, [], subst, sym, ap, ◌∙◌, arith}
 use Rattle.shard_part.specs.PartState.{All}
 use Rattle.shard_part.specs.Opening.{opened_parts}
+use Rattle.shard_part.proofs.Showing.{all_append}
 use Rattle.post_floor.specs.Plays.{Known}
-use Rattle.station.proofs.Opening.{opened_next, known_opened, all_last}
+use Rattle.station.proofs.Opening.{opened_next, known_opened}
 use Rattle.station.proofs.open.open_parts.Goals as goal
 
 pub loop-shard-preserved : goal.loop-shard-preserved
@@ -10,8 +11,8 @@ loop-shard-preserved g c =
     let i = c.loop-shard.invariant in let p = c.in_ok-part.part in let meaning = g.A.PathAlgebra.meaning in let e = c.in_ok-part.ensures in
     record {
       parts = opened_next (meaning c.args.algebra) (record { algebra = c.args.algebra; roads = c.args.graph.now; source = c.args.source; plan = c.args.plan.now }) c.loop-shard.shard c.loop-shard.parts.items c.push.new.list.items p i.parts e.part c.in_ok-push.ensures;
-      known = subst (All (Known meaning)) (sym c.in_ok-push.ensures) (all_last (Known meaning) c.loop-shard.parts.items p i.known
-          (known_opened meaning (record { algebra = c.args.algebra; roads = c.args.graph.now; source = c.args.source; plan = c.args.plan.now }) c.loop-shard.shard p e.part e.share));
+      known = subst (All (Known meaning)) (sym c.in_ok-push.ensures) (all_append (Known meaning) c.loop-shard.parts.items (p ∷ []) i.known
+          (known_opened meaning (record { algebra = c.args.algebra; roads = c.args.graph.now; source = c.args.source; plan = c.args.plan.now }) c.loop-shard.shard p e.part e.share, tt));
     }
 
 pub returns-clause-parts : goal.returns-clause-parts

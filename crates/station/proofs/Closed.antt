@@ -1,13 +1,13 @@
 -- What the seats of an ended question show when its floor is closed.
-use Rattle.std.proofs.Common.{◌≡◌, ℕ, ◌+◌, ◌<◌, ◌≤◌, true, Option, List, [], ◌∷◌, refl, sym, ap, ◌∙◌, subst, arith}
+use Rattle.std.proofs.Common.{◌≡◌, ℕ, ◌+◌, ◌<◌, true, Option, List, [], ◌∷◌, ap, ◌∙◌, arith}
 use Rattle.path_algebra.specs.Algebra.{Algebra}
 use Rattle.path_algebra.specs.Walks.{AreBest}
-use Rattle.scholten_core.specs.Accounts.{Totals, totals_of}
+use Rattle.scholten_core.specs.Accounts.{totals_of}
 use Rattle.scholten_core.proofs.EveryAccount.{totals_are_equal}
 use Rattle.scholten_core.proofs.EveryRun.{ended_is_quiet}
 use Rattle.shard_part.specs.declared.tally.Tally.{Tally}
 use Rattle.shard_part.specs.Moves.{IsPlanned}
-use Rattle.shard_part.specs.PartState.{Setup, network_in, All, total, is}
+use Rattle.shard_part.specs.PartState.{Setup, network_in, All, total}
 use Rattle.shard_part.specs.Tallies.{tally_of}
 use Rattle.shard_part.proofs.Showing.{AllLawful}
 use Rattle.post_floor.specs.declared.view.View.{View}

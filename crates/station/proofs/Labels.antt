@@ -1,10 +1,10 @@
 -- A label stays or improves, whatever items are taken.
-use Rattle.std.proofs.Common.{◌≡◌, ℕ, zero, suc, Bool, true, false, eqb, Option, Some, None, IsTrue, List, [], ◌∷◌, refl, sym, ap, ◌∙◌, subst, ◌⊎◌, inl, inr, eq-eqb}
+use Rattle.std.proofs.Common.{◌≡◌, ℕ, zero, suc, Bool, true, false, Option, Some, None, IsTrue, List, [], ◌∷◌, refl, sym, ap, ◌∙◌, subst, inl, inr, eq-eqb}
 use Rattle.path_algebra.specs.Algebra.{Algebra, IsLawful}
 use Rattle.scholten_core.specs.declared.item.Item.{Item}
 use Rattle.scholten_core.specs.declared.item.Item.TheVariants.{Message as MessageOn, Signal as SignalOn}
 use Rattle.scholten_core.specs.Network.{Network}
-use Rattle.scholten_core.specs.Diffusion.{CoreState, put, better_of, pump, out_idle, freed}
+use Rattle.scholten_core.specs.Diffusion.{CoreState, better_of, pump, out_idle, freed}
 use Rattle.scholten_core.proofs.Basics.{better_tells, put_tells}
 use Rattle.shard_part.specs.Arriving.{joined}
 use Rattle.shard_part.specs.PartState.{PartData, Setup, network_in, place_in, state_in, arrive_here, rest_here, settle_here, settle_tail_here, taken, TookAll}

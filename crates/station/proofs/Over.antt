@@ -1,18 +1,15 @@
 -- A part that holds its share of an ended state.
-use Rattle.std.proofs.Common.{◌≡◌, ℕ, zero, suc, ◌+◌, ◌<◌, ◌≤◌, Bool, true, false, None, List, [], ◌∷◌, length, get_or, refl, sym, ap, ◌∙◌, subst, arith, eq-eqb}
+use Rattle.std.proofs.Common.{◌≡◌, ℕ, suc, ◌+◌, Bool, true, false, [], ◌∷◌, get_or, refl, sym, ap, ◌∙◌, subst, arith, eq-eqb}
 use Rattle.std.proofs.lemmas.List.{nil_from_length}
 use Rattle.path_algebra.specs.Algebra.{Algebra, IsLawful}
 use Rattle.path_algebra.specs.Walks.{IsBestLabel}
 use Rattle.scholten_core.specs.declared.item.Item.{Item}
 use Rattle.scholten_core.specs.declared.token.Token.{Token}
-use Rattle.scholten_core.specs.declared.token.Token.TheVariants.{Idle}
 use Rattle.scholten_core.specs.Diffusion.{CoreState, is_idle}
 use Rattle.scholten_core.specs.Items.{item_of}
-use Rattle.scholten_core.specs.Sums.{sum_below}
 use Rattle.scholten_core.proofs.EveryRun.{ended_is_best}
-use Rattle.shard_part.specs.PartState.{PartData, Setup, network_in, place_in, state_in, token_if, total, in_flight, at_place, HoldsShare}
+use Rattle.shard_part.specs.PartState.{PartData, network_in, place_in, token_if, total, in_flight, at_place}
 use Rattle.shard_part.specs.Moves.{IsPlanned}
-use Rattle.shard_part.specs.Readings.{IsOwn}
 use Rattle.shard_part.proofs.Weights.{sum_below_same, sum_zero}
 use Rattle.shard_part.proofs.Room.{each_one, outs_member}
 use Rattle.post_floor.specs.Floor.{core_of}

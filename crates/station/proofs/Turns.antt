@@ -1,7 +1,7 @@
 -- What a whole turn does, of what its steps do.
-use Rattle.std.proofs.Common.{◌≡◌, ℕ, ◌+◌, ◌-◌, ◌*◌, ◌≤◌, Bool, true, false, Option, Some, None, IfSome, List, [], ◌∷◌, ◌++◌, min, length, refl, sym, ap, ◌∙◌, subst, ◌⊎◌, inl, inr, arith, eq-eqb}
+use Rattle.std.proofs.Common.{◌≡◌, ℕ, ◌+◌, ◌-◌, ◌*◌, ◌≤◌, Bool, true, false, Option, Some, None, IfSome, List, [], ◌∷◌, min, refl, sym, ap, ◌∙◌, subst, ◌⊎◌, inl, inr, arith, eq-eqb}
 use Rattle.std.proofs.lemmas.List.{append-nil}
-use Rattle.path_algebra.specs.Algebra.{Algebra, IsLawful}
+use Rattle.path_algebra.specs.Algebra.{Algebra}
 use Rattle.path_algebra.specs.Walks.{IsWalkValue}
 use Rattle.scholten_core.specs.declared.event.Event.{Event}
 use Rattle.scholten_core.specs.Diffusion.{state_after}
@@ -10,16 +10,15 @@ use Rattle.shard_part.specs.Moves.{IsPlanned}
 use Rattle.shard_part.specs.PartState.{PartData, Setup, network_in, place_in, state_in, in_flight, part_weight, Holds}
 use Rattle.shard_part.specs.Part.{TookMany, IsRunOn}
 use Rattle.shard_part.specs.Readings.{IsOwn}
-use Rattle.shard_part.specs.Tallies.{top, counted_on}
+use Rattle.shard_part.specs.Tallies.{top}
 use Rattle.shard_part.proofs.Showing.{AllLawful}
 use Rattle.post_floor.specs.declared.view.View.{View}
 use Rattle.post_floor.specs.Data.{FloorData, SeatData}
 use Rattle.post_floor.specs.Floor.{core_of}
 use Rattle.post_floor.specs.Plays.{ShowsPart, Known}
-use Rattle.station.specs.declared.turn.Report.{Report}
 use Rattle.station.specs.Station.{StationData, BelongsTo, HasEnded, IsStation}
 use Rattle.station.specs.Steps.{AreReady, AllCameIn, AllWentOff}
-use Rattle.station.specs.Turn.{Turned, received}
+use Rattle.station.specs.Turn.{Turned}
 use Rattle.station.proofs.Labels.{IsLike, no_worse_self, received_like, sent_like, sent_queue, labels_stay}
 
 counts_none : (n m t : ℕ) → n ≡ min m t → n ≡ min (n + 0) t

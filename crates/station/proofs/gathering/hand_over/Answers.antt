@@ -1,4 +1,4 @@
-use Rattle.std.proofs.Common.{◌≡◌, true, ◌∷◌, ◌++◌, [], refl, sym, ap, subst, ◌∙◌, arith}
+use Rattle.std.proofs.Common.{true, ◌∷◌, ◌++◌, [], refl, sym, ap, subst, ◌∙◌, arith}
 use Rattle.shard_part.specs.Readings.{tally_in}
 use Rattle.shard_part.specs.Tallies.{together}
 use Rattle.station.specs.Station.{BelongsTo, StationData}

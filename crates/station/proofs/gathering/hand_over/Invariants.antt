@@ -1,4 +1,4 @@
-use Rattle.std.proofs.Common.{◌≡◌, ◌≤◌, ◌+◌, vec_len, vec_capacity}
+use Rattle.std.proofs.Common.{◌≤◌, ◌+◌, vec_len, vec_capacity}
 use Rattle.std.specs.List.{All}
 use Rattle.station.specs.Handing.{AreHanded}
 use Rattle.station.specs.Station.{BelongsTo}

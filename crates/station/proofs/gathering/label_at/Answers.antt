@@ -1,4 +1,4 @@
-use Rattle.std.proofs.Common.{◌≡◌, ◌<◌, ◌∷◌, [], length, get_or, sym, ap, subst, ◌∙◌}
+use Rattle.std.proofs.Common.{◌<◌, ◌∷◌, [], length, get_or, sym, ap, subst, ◌∙◌}
 use Rattle.path_algebra.specs.Walks.{IsBestLabel}
 use Rattle.shard_part.specs.PartState.{Setup}
 use Rattle.shard_part.specs.Plans.{HasPlanned, PlanData, shard_in}

@@ -1,4 +1,4 @@
-use Rattle.std.proofs.Common.{◌<◌, length, get_or, ◌∙◌, arith, length-set}
+use Rattle.std.proofs.Common.{get_or, ◌∙◌, arith, length-set}
 use Rattle.station.proofs.Places.{places_more}
 use Rattle.station.proofs.gathering.places_of.Goals as goal
 

@@ -5,5 +5,4 @@ pub mod Solved
 pub mod Ended
 pub mod Answered
 pub mod Ran
-pub mod Tolls
 pub mod FaultTexts

@@ -16,8 +16,3 @@ pub use laws::answers_exist;
 pub use run::{run_bundle, run_pair};
 pub use settings::Settings;
 pub use worker_fleet::{Driven, Gate, OpenGate, Outcome, drive};
-
-#[cfg(test)]
-mod tests;
-#[cfg(test)]
-mod tolls;

@@ -21,7 +21,4 @@ pub use options::{Job, Wanted, read_job};
 pub use places::{HostPlaces, Places};
 pub use reports::report;
 pub use verdicts::tell;
-pub use words::{run, run_words};
-
-#[cfg(test)]
-mod tests;
+pub use words::{algebra_of, run, run_words};

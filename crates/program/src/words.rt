@@ -50,7 +50,7 @@ fn usage<W: RoadWrite, E: RoadWrite>(
 }
 
 /// The algebra that is wanted: a fault where its limit is missing, or does not belong.
-pub(crate) fn algebra_of(wanted: &Wanted<'_>) -> Result<Chosen, RunFault>
+pub fn algebra_of(wanted: &Wanted<'_>) -> Result<Chosen, RunFault>
     ensures name { IfOk result (λ chosen. name_of_text wanted.now.algebra.now ≡ Some (name_of chosen)) }
     ensures limit { IfOk result (λ chosen. limit_of chosen ≡ wanted.now.limit) }
     ensures fault { IfErr result (λ f. f ≡ record { number = 43; file = File.NoFile; line = 0 }) }

@@ -5,10 +5,12 @@
 
 #[cfg(test)]
 mod answers;
-pub mod ends;
+mod ends;
 #[cfg(test)]
 mod files;
 #[cfg(test)]
 mod lines;
 #[cfg(test)]
 mod verdicts;
+
+pub use ends::{Pieces, Sheet};

@@ -1,6 +1,6 @@
 //! Questions from the sources of the one before, and from others: each is answered as it is alone.
 use super::{FIVE, assert_answered};
-use crate::Settings;
+use batch_run::Settings;
 use path_algebra::Shortest;
 use std::process::Abort;
 use std::sync::Wait;

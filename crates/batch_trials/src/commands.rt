@@ -1,8 +1,6 @@
 //! The words of a command line, over files and streams in memory.
-use crate::options::{Job, Wanted, read_job};
-use crate::places::Places;
-use crate::words::{algebra_of, run_words};
 use batch_run::{Settings, fault_of_run};
+use program::{Job, Places, Wanted, algebra_of, read_job, run_words};
 use road_text::{Plain, ReadFailed};
 use std::alloc::Global;
 use std::sync::Wait;

@@ -1,11 +1,10 @@
 //! Worked questions with their answers, and what stops a batch.
-mod ends;
 mod faults;
 mod sources;
 mod workers;
 
 use crate::tolls::Tolls;
-use crate::{OpenGate, Settings, run_bundle, run_pair};
+use batch_run::{OpenGate, Settings, run_bundle, run_pair};
 use path_algebra::{Hops, PathAlgebra, Reach, Reliable, Shortest, Widest, Within};
 use road_text::Plain;
 use std::process::Abort;

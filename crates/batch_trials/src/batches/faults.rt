@@ -1,7 +1,6 @@
 //! What stops a batch, and what it leaves.
-use super::ends::{Pieces, Sheet};
 use super::{FIVE, FROM_ONE, SHORTEST};
-use crate::{File, OpenGate, RunFault, Settings, fault_of_run, run_bundle, run_pair};
+use batch_run::{File, OpenGate, RunFault, Settings, fault_of_run, run_bundle, run_pair};
 use path_algebra::Shortest;
 use road_text::{Plain, RoadRead, RoadWrite};
 use std::alloc::Global;
@@ -9,6 +8,7 @@ use std::process::Abort;
 use std::sync::Wait;
 use std::test::Fail;
 use std::thread::Threads;
+use text_trials::{Pieces, Sheet};
 
 /// The outcome of two inputs under the settings that a program has by default.
 fn outcome_of_pair<R: Threads + Wait + Sync, G: RoadRead, Q: RoadRead, W: RoadWrite>(

@@ -11,7 +11,7 @@ pub struct Tolls;
 impl PathAlgebra for Tolls {
     ghost use Rattle.std.specs.Prelude.{refl};
     ghost use Rattle.path_algebra.specs.Laws.{less_is_better};
-    ghost use Rattle.batch_run.specs.Tolls.{tolls, tolls_laws};
+    ghost use Rattle.batch_trials.specs.Tolls.{tolls, tolls_laws};
 
     type Value = u64;
 

@@ -3,7 +3,7 @@ ghost use Rattle.std.specs.List.{All};
 ghost use Rattle.station.specs.Station.{BelongsTo};
 
 use super::{FIVE, FROM_ONE, SHORTEST, assert_answered};
-use crate::{File, Gate, OpenGate, RunFault, Settings, run_bundle};
+use batch_run::{File, Gate, OpenGate, RunFault, Settings, run_bundle};
 use crossbeam_utils::CachePadded;
 use path_algebra::{PathAlgebra, Reach, Shortest, Widest};
 use post_floor::Floor;

@@ -31,6 +31,3 @@ module _ {S V R : Type 0} (rules : Rules S V) (view : R → V) where
   -- the end
   pub gives_value : (s : S) (at : ℕ) (v : R) → rules.end s ≡ Ok (view v) → GivesBy rules s view false at [] (Ok v)
   gives_value s at v e = rw e refl
-
-  pub gives_fault : (s : S) (at n : ℕ) → rules.end s ≡ Err n → GivesBy rules s view false at [] (Err (fault_at at n))
-  gives_fault s at n e = rw e refl

@@ -17,14 +17,6 @@ use Rattle.road_text.proofs.ScanLaws.{held_word-with, no_word_is}
 use Rattle.road_text.proofs.Splits.{take_further, above_digit}
 use Rattle.road_text.proofs.TextLaws.{nothing}
 
--- digits are a word
-pub digits_word : (xs : List ℕ) (n : ℕ) → 0 < n → n ≤ length xs → All (λ b. is_ascii_digit b ≡ true) (take n xs) → IsWord (take n xs)
-digits_word xs n some within h = (omega (arith, length-take-le n xs within, some), λ k d lt. above_digit (get_or (take n xs) k d) (h k d lt))
-
--- the byte behind a front
-pub then_byte : (xs : List ℕ) (n end : ℕ) → n < length xs → get_or xs n 0 ≡ end → take (n + 1) xs ≡ take n xs ++ end ∷ []
-then_byte xs n end lt is = take_more xs n 0 lt ∙ ap (λ b. take n xs ++ b ∷ []) is
-
 -- three words with their ends make the rest of a line
 three_words : (x y z : List ℕ) → ((x ++ 32 ∷ []) ++ (y ++ 32 ∷ [])) ++ (z ++ 10 ∷ []) ≡ (x ++ 32 ∷ (y ++ 32 ∷ z)) ++ 10 ∷ []
 three_words x y z =

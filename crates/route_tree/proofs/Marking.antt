@@ -104,7 +104,3 @@ marked_visits g roads test sources hops level inside known = record {
   where
     in_level : (a j : ℕ) → HasArc g a → label_of hops (arc_of g a).tail ≡ Some j → Contains level (arc_of g a).tail
     in_level a j h e = let ends = (roads.ends a h).0 in (known.only (arc_of g a).tail j ends.0 ends.1 e).2
-
-pub unreached_all : (n : ℕ) → unreached (replicate n None) ≡ n
-unreached_all zero = refl
-unreached_all (suc n) = let f = sum_by-cons is_open None (replicate n None) in let ih = unreached_all n in omega (arith, f, ih)

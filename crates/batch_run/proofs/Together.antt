@@ -65,7 +65,7 @@ opened_shard A t f m first (suc n) k low high = elim (cases_lt first k) as (λ _
 ]
 
 pub shards_opened : {S V : Type 0} (meaning : S → Algebra V) (t : Setup S) (f : FloorData S) (stations : List (StationData S V)) → AreOpened meaning t f stations → (k : ℕ) → k < t.plan.shards → HasShard k stations
-shards_opened meaning t f stations o k low = rw o.stations_are (opened_shard (meaning t.algebra) t f t.plan.shards 0 t.plan.shards k (omega arith) (omega arith))
+shards_opened meaning t f stations o k low = rw o.stations_are (opened_shard (meaning t.question.algebra) t f t.plan.shards 0 t.plan.shards k (omega arith) (omega arith))
 
 module _ {S V W : Type 0} (meaning : S → Algebra V) (setup : ℕ → Setup S) (floors : List (FloorData S)) (questions : List (Vec (StationData S V) W)) (n : ℕ) (same : length floors ≡ n)
     (opened : (q : ℕ) (f : FloorData S) (v : Vec (StationData S V) W) → q < n → AreOpened meaning (setup q) (get_or floors q f) (get_or questions q v).items) where

@@ -18,7 +18,7 @@ pub record IsLayout (roads : Roads) (plan : PlanData) (sources : List ℕ) : Typ
 
 -- a diffusion over a graph and a plan, from a source
 abbrev pub diffusion : {A : Type 0} → A → Roads → PlanData → ℕ → Setup A
-diffusion algebra roads plan source = record { algebra = algebra; roads = roads; source = source; plan = plan }
+diffusion algebra roads plan source = record { question = record { algebra = algebra; roads = roads; source = source }; plan = plan }
 
 -- a diffusion was run to its end on this floor: each of its stations is here, and has ended
 pub record AreEnded {A V : Type 0} (t : Setup A) (floor : FloorData A) (stations : List (StationData A V)) : Type 0 where

@@ -144,7 +144,7 @@ fn gather_labels<'g, A: PathAlgebra>(
     ended: Ended<'g, A>,
 ) -> Result<Labels<A::Value>, AllocError>
     requires { AreEnded ended.floor.question ended.floor ended.stations.items }
-    ensures { IfOk result (λ labels. AreBest (A.meaning ended.entry.floor.question.algebra) ended.entry.floor.question.roads (ended.entry.floor.question.source ∷ []) labels) }
+    ensures { IfOk result (λ labels. AreBest (A.meaning ended.entry.floor.question.question.algebra) ended.entry.floor.question.question.roads (ended.entry.floor.question.question.source ∷ []) labels) }
 {
     let Ended {
         source: _,

@@ -1,64 +1,40 @@
 -- Two parts and two seats as they are opened, and a part that goes on.
-use Rattle.std.proofs.Common.{◌≡◌, ℕ, zero, suc, ◌+◌, List, [], ◌∷◌, ◌++◌, length, map, refl, sym, ap, ◌∙◌, subst, arith, length-append}
+use Rattle.std.proofs.Common.{◌≡◌, ℕ, List, [], ◌∷◌, ◌++◌, map, refl, sym, ap, ◌∙◌, subst}
+use Rattle.std.proofs.lemmas.List.{same_from_push}
 use Rattle.path_algebra.specs.Algebra.{Algebra}
 use Rattle.scholten_core.specs.declared.item.Item.{Item}
-use Rattle.shard_part.specs.PartState.{PartData, Setup, TookAll, All}
-use Rattle.shard_part.specs.Part.{TookMany}
+use Rattle.shard_part.specs.PartState.{PartData, Setup, HandledAll, All}
+use Rattle.shard_part.specs.Part.{HandledMany}
 use Rattle.shard_part.specs.Opening.{opened_part, opened_parts}
 use Rattle.post_floor.specs.Data.{FloorData, SeatData, IsAt, seat_of}
 use Rattle.post_floor.proofs.Opened.{opened_shows}
 
-head_or : {A : Type 0} → A → List A → A
-head_or d [] = d
-head_or d (x ∷ xs) = x
-
-rest_of : {A : Type 0} → List A → List A
-rest_of [] = []
-rest_of (x ∷ xs) = xs
-
-last_one : {A : Type 0} (zs : List A) (y b : A) → b ∷ [] ≡ zs ++ y ∷ [] → (y ≡ b) × (zs ≡ [])
-unfolding head_or rest_of
-last_one [] y b e = (sym (ap (head_or y) e), refl)
-last_one (z ∷ zs) y b e = absurd (let l = ap length e in let k = length-append zs (y ∷ []) in omega (arith, l, k))
-
 -- the last of two
 pub last_two : {A : Type 0} (xs zs : List A) (a b y : A) → xs ≡ a ∷ b ∷ [] → xs ≡ zs ++ y ∷ [] → (y ≡ b) × (zs ≡ a ∷ [])
-unfolding head_or rest_of
-last_two xs [] a b y e f = absurd (let l = ap length (sym e ∙ f) in omega (arith, l))
-last_two xs (z ∷ zs) a b y e f =
-    let g = sym e ∙ f in
-    let r = last_one zs y b (ap rest_of g) in (r.0, λ i. sym (ap (head_or z) g) i ∷ r.1 i)
+last_two xs zs a b y e f = let r = same_from_push zs (a ∷ []) y b (sym f ∙ e) in (r.1, r.0)
 
 pub first_left : {A : Type 0} (zs : List A) (xs : List A) (y b : A) → xs ≡ b ∷ [] → xs ≡ zs ++ y ∷ [] → y ≡ b
-first_left zs xs y b e f = (last_one zs y b (sym e ∙ f)).0
+first_left zs xs y b e f = (same_from_push zs [] y b (sym f ∙ e)).1
 
-took_append : {S V : Type 0} (meaning : S → Algebra V) (items more : List (Item V)) (b p q : PartData S V) → TookAll meaning b items p → TookAll meaning p more q → TookAll meaning b (items ++ more) q
-took_append meaning [] more b p q e T = subst (λ (z : PartData _ _). TookAll meaning z more q) (sym e) T
-took_append meaning (i ∷ items) more b p q (m, one, rest) T = (m, one, took_append meaning items more m p q rest T)
+handled_append : {S V : Type 0} (meaning : S → Algebra V) (items more : List (Item V)) (b p q : PartData S V) → HandledAll meaning b items p → HandledAll meaning p more q → HandledAll meaning b (items ++ more) q
+handled_append meaning [] more b p q e T = subst (λ (z : PartData _ _). HandledAll meaning z more q) (sym e) T
+handled_append meaning (i ∷ items) more b p q (m, one, rest) T = (m, one, handled_append meaning items more m p q rest T)
 
 -- a part that goes on by items of its own is still the seat's
-pub works : {S V : Type 0} (meaning : S → Algebra V) (f : FloorData S) (d : SeatData S V) (p q : PartData S V) (n : ℕ) → IsAt meaning f d p → TookMany meaning p n q → q.setup ≡ p.setup → IsAt meaning f d q
-works meaning f d p q n at T e = record { floor = at.floor; setup = e ∙ at.setup; moved = (at.moved.0, at.moved.1 ++ T.0, at.moved.2, took_append meaning at.moved.1 T.0 at.moved.0 p q at.moved.3 T.2) }
-
--- one part more is opened
-pub opened_more : {S V : Type 0} (A : Algebra V) (t : Setup S) (k n : ℕ) → opened_parts A t k n ++ opened_part A t (k + n) ∷ [] ≡ opened_parts A t k (n + 1)
-opened_more A t k n = go k n ∙ ap (opened_parts A t k) (let e : suc n ≡ n + 1 = omega arith in e)
-  where
-    go : (k n : ℕ) → opened_parts A t k n ++ opened_part A t (k + n) ∷ [] ≡ opened_parts A t k (suc n)
-    go k zero = ap (λ (z : ℕ). opened_part A t z ∷ []) (let e : k + 0 ≡ k = omega arith in e)
-    go k (suc n) = ap (λ (l : List (PartData _ _)). opened_part A t k ∷ l) (ap (λ (z : ℕ). opened_parts A t (suc k) n ++ opened_part A t z ∷ []) (let e : k + suc n ≡ suc k + n = omega arith in e) ∙ go (suc k) n)
+pub works : {S V : Type 0} (meaning : S → Algebra V) (f : FloorData S) (d : SeatData S V) (p q : PartData S V) (n : ℕ) → IsAt meaning f d p → HandledMany meaning p n q → q.setup ≡ p.setup → IsAt meaning f d q
+works meaning f d p q n at T e = record { floor = at.floor; setup = e ∙ at.setup; moved = (at.moved.0, at.moved.1 ++ T.0, at.moved.2, handled_append meaning at.moved.1 T.0 at.moved.0 p q at.moved.3 T.2) }
 
 module _ {S V : Type 0} (meaning : S → Algebra V) (f : FloorData S) (t : Setup S) (n : ℕ) (parts : List (PartData S V)) (seats : List (SeatData S V))
-    (opened : parts ≡ opened_parts (meaning t.algebra) t 0 t.plan.shards) (two : t.plan.shards ≡ 2) (same : All (λ p. p.setup ≡ f.question) parts) (are : seats ≡ map (seat_of f.id n) parts) where
-  pair : parts ≡ opened_part (meaning t.algebra) t 0 ∷ opened_part (meaning t.algebra) t 1 ∷ []
-  pair = opened ∙ ap (opened_parts (meaning t.algebra) t 0) two
+    (opened : parts ≡ opened_parts (meaning t.question.algebra) t 0 t.plan.shards) (two : t.plan.shards ≡ 2) (same : All (λ p. p.setup ≡ f.question) parts) (are : seats ≡ map (seat_of f.id n) parts) where
+  pair : parts ≡ opened_part (meaning t.question.algebra) t 0 ∷ opened_part (meaning t.question.algebra) t 1 ∷ []
+  pair = opened ∙ ap (opened_parts (meaning t.question.algebra) t 0) two
 
-  at_place : (j : ℕ) (d : SeatData S V) (p : PartData S V) → t ≡ f.question → p ≡ opened_part (meaning t.algebra) t j → d ≡ seat_of f.id n (opened_part (meaning t.algebra) t j) → IsAt meaning f d p × (d.shard ≡ j)
+  at_place : (j : ℕ) (d : SeatData S V) (p : PartData S V) → t ≡ f.question → p ≡ opened_part (meaning t.question.algebra) t j → d ≡ seat_of f.id n (opened_part (meaning t.question.algebra) t j) → IsAt meaning f d p × (d.shard ≡ j)
   at_place j d p of_floor p_is d_is = (
     subst (λ (z : SeatData S V × PartData S V). IsAt meaning f z.0 z.1) (λ i. (sym d_is i, sym p_is i)) (record {
       floor = refl;
       setup = of_floor;
-      moved = (opened_part (meaning t.algebra) t j, [], opened_shows (meaning t.algebra) t j n, refl);
+      moved = (opened_part (meaning t.question.algebra) t j, [], opened_shows (meaning t.question.algebra) t j n, refl);
     }),
     ap (λ (z : SeatData S V). z.shard) d_is,
   )

@@ -49,8 +49,8 @@ pub fn opened<'g, A: PathAlgebra>(
     source: u32,
 ) -> (Floor<A>, Vec<Station<'g, A>>)
     ensures own { All (BelongsTo result.0) result.1.items }
-    ensures roads { result.0.question.roads ≡ graph.now }
-    ensures source { result.0.question.source ≡ source }
+    ensures roads { result.0.question.question.roads ≡ graph.now }
+    ensures source { result.0.question.question.source ≡ source }
 {
     assert!(rt; graph.has(Vertex(source)));
     assert!(rt; plan.vertices() == graph.vertices());

@@ -23,7 +23,7 @@ const FIVE: [(u32, u32, u32); 7] = [
 struct Trial<'g, A: PathAlgebra> {
     graph: &'g Graph,
     core: Core<'g, A>,
-    ghost same: { core.problem.roads ≡ graph.now },
+    ghost same: { core.question.roads ≡ graph.now },
 }
 
 impl<'g, A: PathAlgebra> Trial<'g, A> {

@@ -12,7 +12,7 @@ use Rattle.scholten_core.specs.Network.{WellFormed}
 use Rattle.scholten_core.specs.Diffusion.{CoreState, HasEnded, IsQuiet, is_idle}
 use Rattle.scholten_core.proofs.Ended.{ended}
 use Rattle.scholten_core.proofs.Basics.{idle-true}
-use Rattle.shard_part.specs.PartState.{PartData, Setup, network_in, place_in, token_if, total, is, event_of, TookAll, HoldsShare}
+use Rattle.shard_part.specs.PartState.{PartData, Setup, network_in, place_in, token_if, total, is, event_of, HandledAll, HoldsShare}
 use Rattle.shard_part.specs.Readings.{has_ended}
 use Rattle.shard_part.proofs.Weights.{sum_below_same}
 use Rattle.shard_part.proofs.Showing.{AllLawful}
@@ -32,19 +32,19 @@ not_busy V false e = refl
 
 module _ {S V : Type 0} (meaning : S → Algebra V) (t : Setup S) where
   -- the source's part knows whether the question has ended
-  pub over_is : WellFormed (network_in t) → (d : PartData S V) (c : CoreState V) → d.setup ≡ t → HoldsShare (meaning t.algebra) (network_in t) (place_in t) c d → has_ended d ≡ true → HasEnded c
+  pub over_is : WellFormed (network_in t) → (d : PartData S V) (c : CoreState V) → d.setup ≡ t → HoldsShare (meaning t.question.algebra) (network_in t) (place_in t) c d → has_ended d ≡ true → HasEnded c
   over_is W d c e H o =
       let q = and_parts (eqb (place_in d.setup 0) d.shard) (not (get_or d.busy 0 false)) o in
       let here : eqb (place_in t ((network_in t).tail 0)) d.shard ≡ true = ap (λ v. eqb (place_in t v) d.shard) W.tail_zero ∙ ap (λ (u : Setup S). eqb (place_in u 0) d.shard) (sym e) ∙ q.0 in
       idle-true (c.token 0) (sym (H.tables.agree.idle 0 here) ∙ not_busy V (get_or d.busy 0 false) q.1)
 
-  ended_at : AllLawful meaning → WellFormed (network_in t) → (p : PartData S V) (events : List Event) → p.setup ≡ t → HoldsShare (meaning t.algebra) (network_in t) (place_in t) (core_of meaning t events) p → HasEnded (core_of meaning t events) → Ended meaning p
+  ended_at : AllLawful meaning → WellFormed (network_in t) → (p : PartData S V) (events : List Event) → p.setup ≡ t → HoldsShare (meaning t.question.algebra) (network_in t) (place_in t) (core_of meaning t events) p → HasEnded (core_of meaning t events) → Ended meaning p
   ended_at L W p events e H h =
-      let Q : IsQuiet (core_of meaning t events) = (ended (meaning t.algebra) (network_in t) (L t.algebra) W events h).0 in
-      let T = subst (λ (u : Setup S). HoldsShare (meaning u.algebra) (network_in u) (place_in u) (core_of meaning u events) p × HasEnded (core_of meaning u events) × IsQuiet (core_of meaning u events)) (sym e) (H, h, Q) in (events, T.0, T.1, T.2)
+      let Q : IsQuiet (core_of meaning t events) = (ended (meaning t.question.algebra) (network_in t) (L t.question.algebra) W events h).0 in
+      let T = subst (λ (u : Setup S). HoldsShare (meaning u.question.algebra) (network_in u) (place_in u) (core_of meaning u events) p × HasEnded (core_of meaning u events) × IsQuiet (core_of meaning u events)) (sym e) (H, h, Q) in (events, T.0, T.1, T.2)
 
-  known_at : (p : PartData S V) (events : List Event) → p.setup ≡ t → HoldsShare (meaning t.algebra) (network_in t) (place_in t) (core_of meaning t events) p → Known meaning p
-  known_at p events e H = (events, subst (λ (u : Setup S). HoldsShare (meaning u.algebra) (network_in u) (place_in u) (core_of meaning u events) p) (sym e) H)
+  known_at : (p : PartData S V) (events : List Event) → p.setup ≡ t → HoldsShare (meaning t.question.algebra) (network_in t) (place_in t) (core_of meaning t events) p → Known meaning p
+  known_at p events e H = (events, subst (λ (u : Setup S). HoldsShare (meaning u.question.algebra) (network_in u) (place_in u) (core_of meaning u events) p) (sym e) H)
 
   module _ (L : AllLawful meaning) (W : WellFormed (network_in t)) where
     mail_done : (n : ℕ) (ws : List ℕ) (hs : List (Option (Slot V))) (n' : ℕ) (h : ℕ → Item V → ℕ) → mail n (set ws (box_count n) n') hs h ≡ mail n ws hs h
@@ -55,11 +55,11 @@ module _ {S V : Type 0} (meaning : S → Algebra V) (t : Setup S) where
     pub record Note (s : Tab meaning t L W) (r : Kept meaning t s) (id n' : ℕ) (v u : View S V) (b d : PartData S V) (items : List (Item V)) : Type 0 where
       pub at : get_elem? s.views id ≡ some v
       pub one : ShowsPart v b
-      pub moves : TookAll meaning b items d
+      pub moves : HandledAll meaning b items d
       pub fills : u.fills ≡ v.fills
       pub reads : u.reads ≡ v.reads
       pub stays : get_or s.words (box_count t.plan.shards) 0 ≡ 1 → n' ≡ 1
-      pub ends : n' ≡ 1 → HoldsShare (meaning t.algebra) (network_in t) (place_in t) (core_of meaning t (r.events ++ map event_of items)) d → d.setup ≡ t → HasEnded (core_of meaning t (r.events ++ map event_of items))
+      pub ends : n' ≡ 1 → HoldsShare (meaning t.question.algebra) (network_in t) (place_in t) (core_of meaning t (r.events ++ map event_of items)) d → d.setup ≡ t → HasEnded (core_of meaning t (r.events ++ map event_of items))
       pub seen : u.seen ≡ true → n' ≡ 1
 
     pub notes : (s : Tab meaning t L W) (r : Kept meaning t s) (id n' : ℕ) (v u : View S V) (b d : PartData S V) (items : List (Item V)) (c : Note s r id n' v u b d items)

@@ -12,7 +12,7 @@ use Rattle.scholten_core.specs.declared.item.Item.{Item}
 use Rattle.scholten_core.specs.Network.{WellFormed}
 use Rattle.scholten_core.specs.Diffusion.{CoreState}
 use Rattle.scholten_core.proofs.Kept.{Kept as CoreKept}
-use Rattle.shard_part.specs.PartState.{PartData, Setup, network_in, place_in, total, is, All, event_of, TookAll, HoldsShare}
+use Rattle.shard_part.specs.PartState.{PartData, Setup, network_in, place_in, total, is, All, event_of, HandledAll, HoldsShare}
 use Rattle.shard_part.proofs.Weights.{total_append}
 use Rattle.shard_part.proofs.Routed.{outs_none}
 use Rattle.shard_part.proofs.Showing.{AllLawful, is_self}
@@ -23,7 +23,7 @@ use Rattle.post_floor.specs.Floor.{Slot, filling, reading, load_place, box, cap,
 use Rattle.post_floor.specs.Plays.{ShowsPart, Went, at_word, Unclaimed, claim_fill, end_fill, claim_read, end_read, sent_off, HasEmpty, Follows, filled, published, took, cleared}
 use Rattle.post_floor.proofs.Totals.{total_at, is_else, is_one, without_same, without_else}
 use Rattle.shard_part.specs.Exact.{done_by}
-use Rattle.shard_part.proofs.TakenCounts.{took_same}
+use Rattle.shard_part.proofs.TakenCounts.{handled_same}
 use Rattle.shard_part.proofs.Arriving.{arrives}
 use Rattle.post_floor.proofs.Keeps.{gone, Relisted, went, kept_core}
 use Rattle.post_floor.proofs.Steps.{Tab, Seat, changes}
@@ -33,18 +33,18 @@ module _ {S V : Type 0} (meaning : S → Algebra V) (t : Setup S) where
   unchanged d = record { setup = refl; shard = refl; tables = refl; outs = refl; sent = refl; delivered = refl; signalled = refl; accepted = refl }
 
   -- a batch that came from another shard, for a part of this setup
-  arrived : (p : PartData S V) (c : CoreState V) (xs : List (Item V)) (j : ℕ) → AllLawful meaning → p.setup ≡ t → WellFormed (network_in t) → CoreKept (meaning t.algebra) (network_in t) 0 c → j ≢ p.shard → MadeAt t j xs →
-      HoldsShare (meaning t.algebra) (network_in t) (place_in t) c (joined p xs) → MayReceive meaning p xs
+  arrived : (p : PartData S V) (c : CoreState V) (xs : List (Item V)) (j : ℕ) → AllLawful meaning → p.setup ≡ t → WellFormed (network_in t) → CoreKept (meaning t.question.algebra) (network_in t) 0 c → j ≢ p.shard → MadeAt t j xs →
+      HoldsShare (meaning t.question.algebra) (network_in t) (place_in t) c (joined p xs) → MayReceive meaning p xs
   arrived p c xs j L e W K ne made H =
-      let T = subst (λ (u : Setup S). WellFormed (network_in u) × CoreKept (meaning u.algebra) (network_in u) 0 c × MadeAt u j xs × HoldsShare (meaning u.algebra) (network_in u) (place_in u) c (joined p xs)) (sym e) (W, K, made, H) in
-      arrives meaning p (L p.setup.algebra) T.0 c T.1 xs j ne T.2 T.3
+      let T = subst (λ (u : Setup S). WellFormed (network_in u) × CoreKept (meaning u.question.algebra) (network_in u) 0 c × MadeAt u j xs × HoldsShare (meaning u.question.algebra) (network_in u) (place_in u) c (joined p xs)) (sym e) (W, K, made, H) in
+      arrives meaning p (L p.setup.question.algebra) T.0 c T.1 xs j ne T.2 T.3
 
   module _ (L : AllLawful meaning) (W : WellFormed (network_in t)) where
     abbrev Goes : Tab meaning t L W → ℕ → ℕ → Seat meaning t L W → (ℕ → Seat meaning t L W → Type 0) → ℕ → Type 0
     Goes s k id me told n' = (w : View S V) × (a : Act (Slot V)) × Valid s.homes me.1 a × Kept meaning t (stepped s k n' id me.1 w a) × told (get_or s.words k 0) (w, carried_after me.1 a)
 
     -- a step in which no word and no slot moves: the view alone goes on
-    stays : (s : Tab meaning t L W) (r : Kept meaning t s) (id k : ℕ) (me : Seat meaning t L W) (b d : PartData S V) (items : List (Item V)) (T : TookAll meaning b items d) → get_elem? s.views id ≡ some me.0 → ShowsPart me.0 b → k < box_count t.plan.shards
+    stays : (s : Tab meaning t L W) (r : Kept meaning t s) (id k : ℕ) (me : Seat meaning t L W) (b d : PartData S V) (items : List (Item V)) (T : HandledAll meaning b items d) → get_elem? s.views id ≡ some me.0 → ShowsPart me.0 b → k < box_count t.plan.shards
         → Kept meaning t (record { words = set s.words k (get_or s.words k 0); homes = s.homes; views = set s.views id (gone meaning t me.0 (at_word k (get_or s.words k 0) me.0) d (done_by meaning items b d T)) })
     stays s r id k me b d items T at sh lt = let ok = r.boxes k lt in (changes meaning t L W s r id k (get_or s.words k 0) s.homes me.0 (at_word k (get_or s.words k 0) me.0) b d d items (record {
       at = at;
@@ -73,11 +73,11 @@ module _ {S V : Type 0} (meaning : S → Algebra V) (t : Setup S) where
     )
 
     -- the part that the view shows is of the setup
-    setup_of : (s : Tab meaning t L W) (r : Kept meaning t s) (id : ℕ) (v : View S V) (b d : PartData S V) (items : List (Item V)) (T : TookAll meaning b items d) → get_elem? s.views id ≡ some v → ShowsPart v b → d.setup ≡ t
+    setup_of : (s : Tab meaning t L W) (r : Kept meaning t s) (id : ℕ) (v : View S V) (b d : PartData S V) (items : List (Item V)) (T : HandledAll meaning b items d) → get_elem? s.views id ≡ some v → ShowsPart v b → d.setup ≡ t
     setup_of s r id v b d items T at sh =
         let P = Rattle.post_floor.proofs.Parts.stands s.views id v b at sh.parts in
         let same = subst (λ (l : List (PartData S V)). All (λ (p : PartData S V). p.setup ≡ t) l) P.now r.shown.same in
-        (took_same meaning items b d T).0 ∙ (Rattle.shard_part.proofs.Showing.all_parts (λ (p : PartData S V). p.setup ≡ t) P.before (b ∷ P.after) same).1.0
+        (handled_same meaning items b d T).0 ∙ (Rattle.shard_part.proofs.Showing.all_parts (λ (p : PartData S V). p.setup ≡ t) P.before (b ∷ P.after) same).1.0
 
     pub fills : (m id k : ℕ) (me : Seat meaning t L W) (d : PartData S V) → Follows meaning me.0 d → k < box_count t.plan.shards → Allows (Kept meaning t) m id me k (λ z. either (eqb z 0) 1 z) (filled meaning d (step m k 0 1 none) me)
     fills m id k me d (b, items, sh, T) lt s r roomy at small =

@@ -13,10 +13,10 @@ use Rattle.scholten_core.specs.Diffusion.{CoreState, opening, run_from}
 use Rattle.scholten_core.specs.Shares.{Agree}
 use Rattle.scholten_core.proofs.Kept.{Kept as CoreKept, run_kept}
 use Rattle.scholten_core.proofs.Ended.{opening_kept}
-use Rattle.shard_part.specs.PartState.{PartData, Setup, network_in, place_in, state_in, total, is, All, mine, part_weight, event_of, TookAll, HoldsShare, ShowsIn, Shows}
+use Rattle.shard_part.specs.PartState.{PartData, Setup, network_in, place_in, state_in, total, is, All, mine, part_weight, event_of, HandledAll, HoldsShare, ShowsIn, Shows}
 use Rattle.shard_part.proofs.Weights.{total_append}
 use Rattle.shard_part.proofs.Showing.{AllLawful, all_parts, all_append, shown_holds, swap_shown}
-use Rattle.shard_part.proofs.TakenCounts.{run_append, took_same}
+use Rattle.shard_part.proofs.TakenCounts.{run_append, handled_same}
 use Rattle.post_floor.specs.declared.view.View.{View}
 use Rattle.post_floor.specs.Floor.{Slot, flat, AddUp, CountsNone, mail, core_of, Kept}
 use Rattle.post_floor.specs.Plays.{ShowsPart, Went}
@@ -44,7 +44,7 @@ module _ {S V : Type 0} (meaning : S → Algebra V) (t : Setup S) where
     pub signalled : e.signalled ≡ d.signalled
     pub accepted : e.accepted ≡ d.accepted
 
-  pub went : (v u : View S V) (b d e : PartData S V) (items : List (Item V)) (T : TookAll meaning b items d) → ShowsPart v b → Relisted d e → Went u e (gone v u e (done_by meaning items b d T))
+  pub went : (v u : View S V) (b d e : PartData S V) (items : List (Item V)) (T : HandledAll meaning b items d) → ShowsPart v b → Relisted d e → Went u e (gone v u e (done_by meaning items b d T))
   went v u b d e items T s r =
       let R = saturates meaning items b d T (record { sent = v.sent; delivered = v.delivered; signalled = v.signalled; accepted = v.accepted }) (record { sent = s.sent; delivered = s.delivered; signalled = s.signalled; accepted = s.accepted }) in record {
         shows = record { parts = refl; sent = r.sent ∙ R.sent; delivered = r.delivered ∙ R.delivered; signalled = r.signalled ∙ R.signalled; accepted = r.accepted ∙ R.accepted };
@@ -66,23 +66,23 @@ module _ {S V : Type 0} (meaning : S → Algebra V) (t : Setup S) where
   ]
 
   module _ (L : AllLawful meaning) (W : WellFormed (network_in t)) where
-    pub kept_core : (events : List Event) → CoreKept (meaning t.algebra) (network_in t) 0 (core_of meaning t events)
-    kept_core events = run_kept (meaning t.algebra) (network_in t) (L t.algebra) W (opening (meaning t.algebra) (network_in t)) events (opening_kept (meaning t.algebra) (network_in t) W)
+    pub kept_core : (events : List Event) → CoreKept (meaning t.question.algebra) (network_in t) 0 (core_of meaning t events)
+    kept_core events = run_kept (meaning t.question.algebra) (network_in t) (L t.question.algebra) W (opening (meaning t.question.algebra) (network_in t)) events (opening_kept (meaning t.question.algebra) (network_in t) W)
 
     -- what the parts and mailboxes show after one view went on by items of its part and then changed its lists
     pub record After (s : St) (id : ℕ) (w : View S V) (e : PartData S V) (mail' : (ℕ → Item V → ℕ) → ℕ) (events : List Event) : Type 0 where
       pub shown : Shows meaning t (flat (set s.views id w)) mail' (core_of meaning t events)
       pub whole : (j : ℕ) → j < t.plan.shards → total (λ p. is j p.shard) (flat (set s.views id w)) ≡ 1
       pub below : All (λ p. p.shard < t.plan.shards) (flat (set s.views id w))
-      pub counts : AddUp (set s.views id w) (totals_of (meaning t.algebra) (network_in t) events)
-      pub share : HoldsShare (meaning t.algebra) (network_in t) (place_in t) (core_of meaning t events) e
+      pub counts : AddUp (set s.views id w) (totals_of (meaning t.question.algebra) (network_in t) events)
+      pub share : HoldsShare (meaning t.question.algebra) (network_in t) (place_in t) (core_of meaning t events) e
       pub setup : e.setup ≡ t
 
-    pub goes_on : (s : St) (r : Kept meaning t s) (id : ℕ) (v u : View S V) (b d e : PartData S V) (items : List (Item V)) (T : TookAll meaning b items d) (mail' : (ℕ → Item V → ℕ) → ℕ) →
+    pub goes_on : (s : St) (r : Kept meaning t s) (id : ℕ) (v u : View S V) (b d e : PartData S V) (items : List (Item V)) (T : HandledAll meaning b items d) (mail' : (ℕ → Item V → ℕ) → ℕ) →
         get_elem? s.views id ≡ some v → v.parts ≡ b ∷ [] → Relisted d e → ((h : ℕ → Item V → ℕ) → part_weight h e + mail' h ≡ part_weight h d + mail t.plan.shards s.words s.homes h) →
         After s id (gone v u e (done_by meaning items b d T)) e mail' (r.events ++ map event_of items)
     goes_on s r id v u b d e items T mail' at one R weighs =
-        let A = meaning t.algebra in let N = network_in t in
+        let A = meaning t.question.algebra in let N = network_in t in
         let n : Totals = done_by meaning items b d T in
         let w : View S V = gone v u e n in
         let m0 : (ℕ → Item V → ℕ) → ℕ = mail t.plan.shards s.words s.homes in
@@ -92,7 +92,7 @@ module _ {S V : Type 0} (meaning : S → Algebra V) (t : Setup S) where
         let H0 : Shows meaning t (P.before ++ b ∷ P.after) m0 c = subst (λ (l : List (PartData S V)). Shows meaning t l m0 c) P.now r.shown in
         let all0 = all_parts (λ (p : PartData S V). p.setup ≡ t) P.before (b ∷ P.after) H0.same in
         let M = moves meaning L t W items P.before P.after b d m0 c (kept_core r.events) all0.1.0 H0 T in
-        let k = took_same meaning items b d T in
+        let k = handled_same meaning items b d T in
         let c' : CoreState V = run_from A N c more in
         let is_c : c' ≡ core_of meaning t (r.events ++ more) = sym (run_append A N (opening A N) r.events more) in
         let agree : Agree A N (mine (place_in t) d.shard) (state_in d) (state_in e) = subst (Agree A N (mine (place_in t) d.shard) (state_in d)) (sym R.tables) (record { label = λ v m. refl; engager = λ v m. refl; told = λ b m. refl; idle = λ b m. refl }) in

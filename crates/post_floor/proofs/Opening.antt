@@ -44,10 +44,10 @@ module _ {S V : Type 0} (A : Algebra V) (t : Setup S) where
 
 module _ {S V : Type 0} (meaning : S → Algebra V) (t : Setup S) (P : IsPlanned t 0) where
   pub opens : (ws : List ℕ) (xs : List (Slot V)) → ws ≡ replicate (box_count t.plan.shards + 1) 0 → length xs ≡ box_count t.plan.shards → ((k : ℕ) → k < box_count t.plan.shards → get_elem? xs k ≡ some (emptied t k))
-      → Kept meaning t (opening ws xs (knows t.plan.shards (opened_parts (meaning t.algebra) t 0 t.plan.shards)))
+      → Kept meaning t (opening ws xs (knows t.plan.shards (opened_parts (meaning t.question.algebra) t 0 t.plan.shards)))
   opens ws xs zeros wide empty =
       let n : ℕ = t.plan.shards in
-      let ps : List (PartData S V) = opened_parts (meaning t.algebra) t 0 n in
+      let ps : List (PartData S V) = opened_parts (meaning t.question.algebra) t 0 n in
       let v : View S V = knows n ps in
       let hs : List (Option (Slot V)) = map some xs in
       let zero_at : (k : ℕ) → get_or ws k 0 ≡ 0 = λ k. ap (λ (z : List ℕ). get_or z k 0) zeros ∙ get_zero (box_count n + 1) k in
@@ -55,12 +55,12 @@ module _ {S V : Type 0} (meaning : S → Algebra V) (t : Setup S) (P : IsPlanned
       let all : flat (v ∷ []) ≡ ps = append-nil ps in record {
         events = [];
         shown = subst (λ (l : List (PartData S V)). Shows meaning t l (mail n ws hs) (Rattle.post_floor.specs.Floor.core_of meaning t [])) (sym all)
-            (record { same = opened_same (meaning t.algebra) t P; shown = opened_show (meaning t.algebra) t P (mail n ws hs) none' });
-        whole = λ j lt. ap (total (λ (p : PartData S V). is j p.shard)) all ∙ one_each (meaning t.algebra) t j 0 n (omega arith) (omega (arith, lt));
-        below = subst (All (λ (p : PartData S V). p.shard < n)) (sym all) (all_below (meaning t.algebra) t n 0 n (omega arith));
+            (record { same = opened_same (meaning t.question.algebra) t P; shown = opened_show (meaning t.question.algebra) t P (mail n ws hs) none' });
+        whole = λ j lt. ap (total (λ (p : PartData S V). is j p.shard)) all ∙ one_each (meaning t.question.algebra) t j 0 n (omega arith) (omega (arith, lt));
+        below = subst (All (λ (p : PartData S V). p.shard < n)) (sym all) (all_below (meaning t.question.algebra) t n 0 n (omega arith));
         idle = λ id u a none''. subst (λ (z : View S V). z.parts ≡ [] → CountsNone z) (only v id u a) (λ q. record { sent = ap (total (λ (p : PartData S V). p.sent)) q; delivered = refl; signalled = refl; accepted = refl }) none'';
         counts = record {
-          sent = (let a = sent_are (meaning t.algebra) t 0 n in let b = one_each (meaning t.algebra) t (place_in t 0) 0 n (omega arith) (let l = place_below t 0 P 0 in omega (arith, l)) in omega (arith, a, b));
+          sent = (let a = sent_are (meaning t.question.algebra) t 0 n in let b = one_each (meaning t.question.algebra) t (place_in t 0) 0 n (omega arith) (let l = place_below t 0 P 0 in omega (arith, l)) in omega (arith, a, b));
           delivered = refl;
           signalled = refl;
           accepted = refl;

@@ -6,7 +6,7 @@ use Rattle.atomic_table.specs.Seated.{TableId}
 use Rattle.atomic_table.specs.Table.{rest}
 use Rattle.path_algebra.specs.Algebra.{Algebra}
 use Rattle.shard_part.specs.PartState.{PartData, Setup, total, is}
-use Rattle.shard_part.proofs.TakenCounts.{took_same}
+use Rattle.shard_part.proofs.TakenCounts.{handled_same}
 use Rattle.shard_part.proofs.Showing.{is_self}
 use Rattle.post_floor.specs.declared.view.View.{View}
 use Rattle.post_floor.specs.Boxes.{mailbox}
@@ -72,7 +72,7 @@ module _ {S V : Type 0} (meaning : S → Algebra V) (f : FloorData S) (d : SeatD
   pub seated : Base ≡ f → Seat ≡ d → t.plan.shards ≡ sh → IsSeat Seat slots claims room next_fill next_read → IsAt meaning f d p → Seated meaning f d p fid t sh id s v slots claims room next_fill next_read
   seated ff dd count inv at =
       let moved : Follows meaning v p = subst (λ (z : SeatData S V). Follows meaning z.knows p) (sym dd) at.moved in
-      let same = took_same meaning moved.1 moved.0 p moved.3 in
+      let same = handled_same meaning moved.1 moved.0 p moved.3 in
       let b_is : inv.part ≡ moved.0 = (same_from_push [] [] inv.part moved.0 (sym inv.parts ∙ moved.2.parts)).1 in
       let setup : p.setup ≡ t = at.setup ∙ ap (λ (z : FloorData S). z.question) (sym ff) in
       let of_part : inv.part.setup ≡ t = ap (λ (z : PartData S V). z.setup) b_is ∙ sym same.0 ∙ setup in

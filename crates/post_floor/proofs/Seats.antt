@@ -64,7 +64,7 @@ module _ {S V : Type 0} (meaning : S → Algebra V) (t : Setup S) where
         shown = record {
           same = c.all (λ (p : PartData S V). p.setup ≡ t) r.shown.same;
           shown = record {
-            tables = c.all (HoldsTables (meaning t.algebra) (network_in t) (place_in t) (core_of meaning t r.events)) r.shown.shown.tables;
+            tables = c.all (HoldsTables (meaning t.question.algebra) (network_in t) (place_in t) (core_of meaning t r.events)) r.shown.shown.tables;
             weighs = λ h. let w = r.shown.shown.weighs h in let q = flat_same (part_weight h) in omega (arith, w, q);
             apart = λ j. let w = r.shown.shown.apart j in let q = flat_same (λ (p : PartData S V). is j p.shard) in omega (arith, w, q);
           };

@@ -14,7 +14,7 @@ use Rattle.scholten_core.specs.Network.{WellFormed}
 use Rattle.scholten_core.specs.Diffusion.{CoreState, opening, run_from, step as next_state, delivered, accepted, HasEnded, IsQuiet}
 use Rattle.scholten_core.specs.declared.event.Event.TheVariants.{Deliver, Accept}
 use Rattle.scholten_core.proofs.Ended.{ended}
-use Rattle.shard_part.specs.PartState.{PartData, Setup, network_in, place_in, total, is, part_weight, event_of, TookAll, HoldsShare}
+use Rattle.shard_part.specs.PartState.{PartData, Setup, network_in, place_in, total, is, part_weight, event_of, HandledAll, HoldsShare}
 use Rattle.shard_part.proofs.Weights.{sum_at}
 use Rattle.shard_part.proofs.Showing.{AllLawful}
 use Rattle.shard_part.proofs.TakenCounts.{run_append}
@@ -42,15 +42,15 @@ module _ {S V : Type 0} (meaning : S → Algebra V) (t : Setup S) (L : AllLawful
 
   pub ended_more : (events more : List Event) → HasEnded (core_of meaning t events) → HasEnded (core_of meaning t (events ++ more))
   ended_more events more h =
-      let A = meaning t.algebra in let N = network_in t in
-      let Q = (ended A N (L t.algebra) W events h).0 in
+      let A = meaning t.question.algebra in let N = network_in t in
+      let Q = (ended A N (L t.question.algebra) W events h).0 in
       ap (λ (d : CoreState V). d.token 0) (run_append A N (opening A N) events more ∙ quiet_stays A N more (core_of meaning t events) Q) ∙ h
 
   -- Only the mailbox k changes, by the view of the seat id. Its part has gone from b to d by items of its own, and then to e; u is the view but for that.
   pub record Change (s : Tab) (id k n' : ℕ) (homes' : List (Option (Slot V))) (v u : View S V) (b d e : PartData S V) (items : List (Item V)) : Type 0 where
     pub at : get_elem? s.views id ≡ some v
     pub one : v.parts ≡ b ∷ []
-    pub moves : TookAll meaning b items d
+    pub moves : HandledAll meaning b items d
     pub lists : Relisted meaning t d e
     pub below : k < box_count t.plan.shards
     pub long : length homes' ≡ box_count t.plan.shards
@@ -102,7 +102,7 @@ module _ {S V : Type 0} (meaning : S → Algebra V) (t : Setup S) (L : AllLawful
         let g : total (reading j) s.views ≡ total (reading j) (set s.views id New) = let a = total_set (reading j) s.views id v New c.at in let y = c.reads j ne in omega (arith, a, y) in
         subst (λ (z : ℕ × Place V × ℕ × ℕ). BoxOk t j z.0 z.1 z.2 z.3) (λ i. (p i, q i, f i, g i)) (r.boxes j jl)
 
-    pub changes : Kept meaning t (record { words = set s.words k n'; homes = homes'; views = set s.views id New }) × HoldsShare (meaning t.algebra) (network_in t) (place_in t) (core_of meaning t (r.events ++ map event_of items)) e × (e.setup ≡ t)
+    pub changes : Kept meaning t (record { words = set s.words k n'; homes = homes'; views = set s.views id New }) × HoldsShare (meaning t.question.algebra) (network_in t) (place_in t) (core_of meaning t (r.events ++ map event_of items)) e × (e.setup ≡ t)
     changes =
         let n : ℕ = t.plan.shards in
         let G = goes_on meaning t L W s r id v u b d e items c.moves (mail n (set s.words k n') homes') c.at c.one c.lists

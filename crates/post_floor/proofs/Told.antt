@@ -27,7 +27,7 @@ all_told {S} {V} {P} holds m id me k f T d ps told a = subst (λ (l : List P). A
 
 module _ {S V : Type 0} (meaning : S → Algebra V) (t : Setup S) (L : AllLawful meaning) (P : IsPlanned t 0) where
   formed : WellFormed (network_in t)
-  formed = well_formed t.roads t.source P.roads P.source.0
+  formed = well_formed t.question.roads t.question.source P.roads P.source.0
 
   abbrev Seat : Type 0
   Seat = Me (Slot V) (View S V)

@@ -83,4 +83,4 @@ seat_of id n p = record { floor = id; shard = p.shard; knows = knows n (p ∷ []
 
 -- the parts are those of all shards of the plan, in order, as they are opened for one question from the source
 abbrev pub IsFresh : {S V : Type 0} → (S → Algebra V) → PlanData → ℕ → List (PartData S V) → Type 0
-IsFresh {S} meaning plan source parts = (t : Setup S) × (parts ≡ opened_parts (meaning t.algebra) t 0 t.plan.shards) × (t.plan ≡ plan) × (t.source ≡ source)
+IsFresh {S} meaning plan source parts = (t : Setup S) × (parts ≡ opened_parts (meaning t.question.algebra) t 0 t.plan.shards) × (t.plan ≡ plan) × (t.question.source ≡ source)

@@ -90,7 +90,7 @@ pub record BoxOk {S V : Type 0} (t : Setup S) (k w : ℕ) (y : Place V) (fills r
 module _ {S V : Type 0} (meaning : S → Algebra V) (t : Setup S) where
   -- the state that a list of events leads to
   abbrev pub core_of : List Event → CoreState V
-  core_of events = state_after (meaning t.algebra) (network_in t) events
+  core_of events = state_after (meaning t.question.algebra) (network_in t) events
 
   -- What holds between any two steps: some events lead from the opening to a state that all views and all mailboxes show, the views are of all
   -- shards, their counts add up to what the events did, each mailbox is as its word says, and the done word is 1 only where the state has ended.
@@ -100,7 +100,7 @@ module _ {S V : Type 0} (meaning : S → Algebra V) (t : Setup S) where
     pub whole : (j : ℕ) → j < t.plan.shards → total (λ p. is j p.shard) (flat s.views) ≡ 1
     pub below : All (λ p. p.shard < t.plan.shards) (flat s.views)
     pub idle : (id : ℕ) (v : View S V) → get_elem? s.views id ≡ some v → v.parts ≡ [] → CountsNone v
-    pub counts : AddUp s.views (totals_of (meaning t.algebra) (network_in t) events)
+    pub counts : AddUp s.views (totals_of (meaning t.question.algebra) (network_in t) events)
     pub boxes : (k : ℕ) → k < box_count t.plan.shards → BoxOk t k (get_or s.words k 0) (get_elem? s.homes k) (total (filling k) s.views) (total (reading k) s.views)
     pub done : get_or s.words (box_count t.plan.shards) 0 ≡ 1 → HasEnded (core_of events)
     pub seen : (id : ℕ) (v : View S V) → get_elem? s.views id ≡ some v → v.seen ≡ true → get_or s.words (box_count t.plan.shards) 0 ≡ 1
@@ -111,5 +111,5 @@ module _ {S V : Type 0} (meaning : S → Algebra V) (t : Setup S) where
   pub record Settled (v : View S V) (ws : List ℕ) (hs : List (Option (Slot V))) : Type 0 where
     pub events : List Event
     pub shown : Shows meaning t v.parts (mail t.plan.shards ws hs) (core_of events)
-    pub counts : AddUp (v ∷ []) (totals_of (meaning t.algebra) (network_in t) events)
+    pub counts : AddUp (v ∷ []) (totals_of (meaning t.question.algebra) (network_in t) events)
     pub ended : v.seen ≡ true → HasEnded (core_of events)

@@ -8,7 +8,7 @@ use Rattle.scholten_core.specs.declared.event.Event.{Event}
 use Rattle.scholten_core.specs.declared.item.Item.{Item}
 use Rattle.scholten_core.specs.Diffusion.{HasEnded, IsQuiet}
 use Rattle.shard_part.specs.Tallies.{top}
-use Rattle.shard_part.specs.PartState.{Setup, PartData, TookAll, Holds}
+use Rattle.shard_part.specs.PartState.{Setup, PartData, HandledAll, Holds}
 use Rattle.shard_part.specs.Arriving.{MadeAt, joined, MayReceive}
 use Rattle.post_floor.specs.declared.view.View.{View}
 use Rattle.post_floor.specs.Boxes.{origin, dest}
@@ -83,7 +83,7 @@ module _ {S V : Type 0} where
 module _ {S V : Type 0} (meaning : S → Algebra V) where
   -- the part went on from what the view shows, by items of its own
   abbrev pub Follows : View S V → PartData S V → Type 0
-  Follows v d = (b : PartData S V) × (items : List (Item V)) × ShowsPart v b × TookAll meaning b items d
+  Follows v d = (b : PartData S V) × (items : List (Item V)) × ShowsPart v b × HandledAll meaning b items d
 
   -- the part holds its share of a state that some events lead to
   abbrev pub Known : PartData S V → Type 0

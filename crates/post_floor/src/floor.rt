@@ -21,7 +21,7 @@ impl<A: PathAlgebra> TableRule<Option<Batch<A::Value>>, View<A>, Question<A>> fo
 
     ghost holds = { λ k. Kept A.meaning k };
 
-    ghost first = { λ k. knows k.plan.shards (opened_parts (A.meaning k.algebra) k 0 k.plan.shards) };
+    ghost first = { λ k. knows k.plan.shards (opened_parts (A.meaning k.question.algebra) k 0 k.plan.shards) };
 }
 
 /// What one caller knows of a table, and the slots that it has out.

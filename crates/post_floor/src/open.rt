@@ -26,7 +26,7 @@ fn room_of<A: PathAlgebra>(
     shards: usize,
     k: usize,
 ) -> usize
-    requires parts { parts.now ≡ opened_parts (A.meaning first.now.setup.algebra) first.now.setup 0 shards }
+    requires parts { parts.now ≡ opened_parts (A.meaning first.now.setup.question.algebra) first.now.setup 0 shards }
     requires shards { (first.now.setup.plan.shards ≡ shards) × (shards ≤ 64) }
     requires word { k < box_count shards }
     ensures { result ≡ cap first.now.setup k }
@@ -47,7 +47,7 @@ fn batches<A: PathAlgebra>(
     parts: &[Part<'_, A>],
     shards: usize,
 ) -> Result<Vec<Option<Batch<A::Value>>>, AllocError>
-    requires parts { parts.now ≡ opened_parts (A.meaning first.now.setup.algebra) first.now.setup 0 shards }
+    requires parts { parts.now ≡ opened_parts (A.meaning first.now.setup.question.algebra) first.now.setup 0 shards }
     requires shards { (first.now.setup.plan.shards ≡ shards) × (shards ≤ 64) }
     ensures { IfOk result (λ v. (length v.items ≡ box_count shards) × ((k : ℕ) → k < box_count shards → get_elem? v.items k ≡ some (emptied first.now.setup k))) }
 {
@@ -94,8 +94,8 @@ fn seat_all<A: PathAlgebra>(
 ) -> Result<Vec<Seat<A>>, AllocError>
     requires table { (pass.table_id ≡ table.now.table_id) × (0 < table.now.table_id.words) }
     requires shards { (table.now.key.plan.shards ≡ shards) × (shards ≤ 64) }
-    requires parts { pass.me ≡ (knows shards (opened_parts (A.meaning table.now.key.algebra) table.now.key 0 shards), []) }
-    ensures { IfOk result (λ v. v.items ≡ map (seat_of table.now.table_id shards) (opened_parts (A.meaning table.now.key.algebra) table.now.key 0 shards)) }
+    requires parts { pass.me ≡ (knows shards (opened_parts (A.meaning table.now.key.question.algebra) table.now.key 0 shards), []) }
+    ensures { IfOk result (λ v. v.items ≡ map (seat_of table.now.table_id shards) (opened_parts (A.meaning table.now.key.question.algebra) table.now.key 0 shards)) }
 {
     let mut seats = Vec::new(alloc);
     for shard in 0..shards {

@@ -1,16 +1,17 @@
 -- The items that an event makes, against the tokens that it changes.
-use Rattle.std.proofs.Common.{◌≡◌, ◌≢◌, ℕ, Bool, true, false, cond, eqb, ne_eqb, eq-eqb, Option, Some, None, List, [], ◌∷◌, ◌++◌, append-nil, ◌⊎◌, refl, sym, ap, ◌∙◌, subst, inl, inr}
+use Rattle.std.proofs.Common.{◌≡◌, ◌≢◌, ℕ, Bool, true, false, cond, eqb, ne_eqb, eq-eqb, Option, Some, None, List, [], ◌∷◌, ◌++◌, append-nil, ◌⊎◌, refl, sym, ap, ◌∙◌, subst, inl, inr, Contains}
 use Rattle.std.proofs.lemmas.Bool.{cases_eq, cases_Bool, cond-true, cond-false}
 use Rattle.scholten_core.specs.declared.token.Token.{Token}
 use Rattle.scholten_core.specs.declared.token.Token.TheVariants.{Idle, Message, Held, Signal}
 use Rattle.path_algebra.specs.Algebra.{Algebra, IsLawful}
 use Rattle.scholten_core.specs.Network.{Network, WellFormed}
-use Rattle.scholten_core.specs.Diffusion.{CoreState, is_due, out_idle, pump, arrive, rest, released, freed, settle, sent, extend_label, answer_to, Listed}
+use Rattle.scholten_core.specs.Diffusion.{CoreState, is_due, out_idle, pump, arrive, rest, released, freed, settle, sent, extend_label, answer_to}
 use Rattle.scholten_core.specs.declared.item.Item.{Item}
 use Rattle.scholten_core.specs.declared.item.Item.TheVariants.{Message as MessageOn, Signal as SignalOn}
 use Rattle.scholten_core.specs.Items.{item_arc, at, item_of, pump_made, rest_made, settle_made, IsDistinct, IsOutList, Makes}
 use Rattle.scholten_core.proofs.Basics.{due_tells, put_tells, put-same, put-other}
 use Rattle.scholten_core.proofs.Kept.{Kept, pumped, arrive_kept, freed_kept}
+use Rattle.scholten_core.proofs.Contained.{contains_none, contains_cases, contains_first, contains_later}
 
 cond_append : {X : Type 0} (t : Bool) (i : X) (xs ys : List X) → cond t (i ∷ (xs ++ ys)) (xs ++ ys) ≡ cond t (i ∷ xs) xs ++ ys
 cond_append true i xs ys = refl
@@ -61,18 +62,18 @@ module _ {V : Type 0} (A : Algebra V) (N : Network) where
     | inr f ↦ ap (at b) (cond-false _ _ _ f) ∙ at-nil b ∙ sym (cond-false _ _ _ f)
   ]
 
-  pub pump_made_none : (v : ℕ) (d : CoreState V) (xs : List ℕ) (b : ℕ) → (Listed A N b xs → ⊥) → at b (pump_made A N v d xs) ≡ []
+  pub pump_made_none : (v : ℕ) (d : CoreState V) (xs : List ℕ) (b : ℕ) → (Contains xs b → ⊥) → at b (pump_made A N v d xs) ≡ []
   pump_made_none v d [] b h = at-nil b
   pump_made_none v d (u ∷ us) b h = at-append b (due_item v d u) (pump_made A N v d us)
-      ∙ (λ i. due_item_other v d u b (λ e. h (inl (sym e))) i ++ pump_made_none v d us b (λ l. h (inr l)) i)
+      ∙ (λ i. due_item_other v d u b (λ e. h (contains_first b u us (sym e))) i ++ pump_made_none v d us b (λ l. h (contains_later b u us l)) i)
 
-  pub pump_made_at : (v : ℕ) (d : CoreState V) (xs : List ℕ) (b : ℕ) → IsDistinct A N xs → Listed A N b xs → at b (pump_made A N v d xs) ≡ due_item v d b
-  pump_made_at v d [] b D l = absurd l
+  pub pump_made_at : (v : ℕ) (d : CoreState V) (xs : List ℕ) (b : ℕ) → IsDistinct A N xs → Contains xs b → at b (pump_made A N v d xs) ≡ due_item v d b
+  pump_made_at v d [] b D l = absurd (contains_none b l)
   pump_made_at v d (u ∷ us) b D l = elim (cases_eq u b) [
     | inl e ↦ at-append b (due_item v d u) (pump_made A N v d us)
-        ∙ (λ i. at b (due_item v d (e i)) ++ pump_made_none v d us b (λ k. D.0 (subst (λ w. Listed A N w us) (sym e) k)) i)
+        ∙ (λ i. at b (due_item v d (e i)) ++ pump_made_none v d us b (λ k. D.0 (subst (λ w. Contains us w) (sym e) k)) i)
         ∙ ap (λ zs. zs ++ []) (due_item_here v d b) ∙ append-nil (due_item v d b)
-    | inr n ↦ (let k : Listed A N b us = elim l [ inl e ↦ absurd (n (sym e)) | inr k ↦ k ] in
+    | inr n ↦ (let k : Contains us b = elim (contains_cases b u us l) [ inl e ↦ absurd (n (sym e)) | inr k ↦ k ] in
         at-append b (due_item v d u) (pump_made A N v d us) ∙ (λ i. due_item_other v d u b n i ++ pump_made_at v d us b D.1 k i))
   ]
 

@@ -1,4 +1,5 @@
 pub mod Basics
+pub mod Contained
 pub mod Sums
 pub mod Walks
 pub mod Kept

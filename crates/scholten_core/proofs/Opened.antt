@@ -8,7 +8,8 @@ use Rattle.scholten_core.specs.declared.token.Token.{Token}
 use Rattle.scholten_core.specs.declared.token.Token.TheVariants.{Idle, Message}
 use Rattle.scholten_core.specs.Network.{Network, network}
 use Rattle.scholten_core.specs.Diffusion.{CoreState, opening, put, is_idle}
-use Rattle.scholten_core.specs.CoreView.{CoreView, state_of, network_of, network_in, IsCounted, IsQuestion, IsSized, IsRun}
+use Rattle.scholten_core.specs.CoreView.{CoreView, state_of, network_of, IsCounted, IsSized, IsRun}
+use Rattle.scholten_core.specs.Question.{network_in, IsQuestion}
 use Rattle.scholten_core.proofs.Networks.{tail-entry}
 use Rattle.scholten_core.proofs.Written.{put_set}
 use Rattle.scholten_core.proofs.Counted.{counted_more, idle_counted}
@@ -44,16 +45,16 @@ opened_state {V = V} A N labels engagers first tokens told n m l e k s d =
       told = replicate_reads (m + 1) None i;
     })
 
-pub opened_sized : {S V : Type 0} (t : CoreView S V) (first : List (Token V)) (m : Token V) (zeros : List ℕ) → IsQuestion t.problem →
-    t.labels ≡ replicate (t.problem.roads.vertices + 1) None → t.engagers ≡ replicate (t.problem.roads.vertices + 1) None →
-    first ≡ replicate (length t.problem.roads.arcs + 1) Idle → t.tokens ≡ set first 0 m → is_idle m ≡ false → t.told ≡ replicate (length t.problem.roads.arcs + 1) None →
-    zeros ≡ replicate (t.problem.roads.vertices + 1) 0 → t.deficits ≡ set zeros 0 1 → IsSized t
+pub opened_sized : {S V : Type 0} (t : CoreView S V) (first : List (Token V)) (m : Token V) (zeros : List ℕ) → IsQuestion t.question →
+    t.labels ≡ replicate (t.question.roads.vertices + 1) None → t.engagers ≡ replicate (t.question.roads.vertices + 1) None →
+    first ≡ replicate (length t.question.roads.arcs + 1) Idle → t.tokens ≡ set first 0 m → is_idle m ≡ false → t.told ≡ replicate (length t.question.roads.arcs + 1) None →
+    zeros ≡ replicate (t.question.roads.vertices + 1) 0 → t.deficits ≡ set zeros 0 1 → IsSized t
 opened_sized {V = V} t first m zeros Q l e k s b d z y =
-    let long = ap length k ∙ length-replicate {A = Token V} (length t.problem.roads.arcs + 1) Idle in
-    let wide = ap length z ∙ length-replicate (t.problem.roads.vertices + 1) 0 in
+    let long = ap length k ∙ length-replicate {A = Token V} (length t.question.roads.arcs + 1) Idle in
+    let wide = ap length z ∙ length-replicate (t.question.roads.vertices + 1) 0 in
     let none : CoreState V = state_at t.labels t.engagers first t.told in
-    let entry = tail-entry t.problem.roads in
-    let idle = λ (j : ℕ). ap (λ xs. get_or xs j Idle) k ∙ ap (λ f. f j) (replicate_reads (length t.problem.roads.arcs + 1) Idle) in
+    let entry = tail-entry t.question.roads in
+    let idle = λ (j : ℕ). ap (λ xs. get_or xs j Idle) k ∙ ap (λ f. f j) (replicate_reads (length t.question.roads.arcs + 1) Idle) in
     record {
       question = Q;
       labels = ap length l ∙ length-replicate _ _;
@@ -61,17 +62,17 @@ opened_sized {V = V} t first m zeros Q l e k s b d z y =
       tokens = ap length s ∙ length-set first 0 m ∙ long;
       told = ap length d ∙ length-replicate _ _;
       deficits = ap length y ∙ length-set zeros 0 1 ∙ wide;
-      counted = subst (λ xs. IsCounted (network_of t) t.problem.roads.vertices xs (state_of t)) (ap (λ u. set zeros u 1) entry ∙ sym y)
-          (counted_more (network_of t) t.problem.roads.vertices zeros 0 1 (state_at t.labels t.engagers first t.told) (state_of t) (omega arith)
+      counted = subst (λ xs. IsCounted (network_of t) t.question.roads.vertices xs (state_of t)) (ap (λ u. set zeros u 1) entry ∙ sym y)
+          (counted_more (network_of t) t.question.roads.vertices zeros 0 1 (state_at t.labels t.engagers first t.told) (state_of t) (omega arith)
           (λ j n. ap (λ xs. get_or xs j Idle) s ∙ get_or-set_other first 0 j m Idle n)
           (ap is_idle (idle 0))
           (ap (λ xs. is_idle (get_or xs 0 Idle)) s ∙ ap is_idle (get_or-set_same first 0 m Idle (omega (arith, long))) ∙ b)
           (omega (arith, entry, wide))
-          (let r = ap (λ xs. get_or xs ((network_of t).tail 0) 0) z ∙ ap (λ f. f ((network_of t).tail 0)) (replicate_reads (t.problem.roads.vertices + 1) 0) in omega (arith, r))
-          (λ v h. ap (λ xs. get_or xs v 0) z ∙ ap (λ f. f v) (replicate_reads (t.problem.roads.vertices + 1) 0) ∙ sym (idle_counted (network_of t) v (state_at t.labels t.engagers first t.told) idle)));
+          (let r = ap (λ xs. get_or xs ((network_of t).tail 0) 0) z ∙ ap (λ f. f ((network_of t).tail 0)) (replicate_reads (t.question.roads.vertices + 1) 0) in omega (arith, r))
+          (λ v h. ap (λ xs. get_or xs v 0) z ∙ ap (λ f. f v) (replicate_reads (t.question.roads.vertices + 1) 0) ∙ sym (idle_counted (network_of t) v (state_at t.labels t.engagers first t.told) idle)));
     }
 
-pub opened_run : {S V : Type 0} (meaning : S → Algebra V) (t : CoreView S V) (a : S) (g : Roads) (s : ℕ) → t.problem ≡ record { algebra = a; roads = g; source = s } →
+pub opened_run : {S V : Type 0} (meaning : S → Algebra V) (t : CoreView S V) (a : S) (g : Roads) (s : ℕ) → t.question ≡ record { algebra = a; roads = g; source = s } →
     IsRoads g → HasVertex g s → state_of t ≡ opening (meaning a) (network g s) → IsRun meaning t
 opened_run meaning t a g s p R v e = record {
   question = subst IsQuestion (sym p) (record { roads = R; source = v });

@@ -1,15 +1,16 @@
 -- Where nothing has to be sent, nothing has to be looked at.
-use Rattle.std.proofs.Common.{◌≡◌, ◌≢◌, ℕ, zero, suc, ◌+◌, Bool, true, false, cond, not, ◌&&◌, ◌||◌, eqb, Option, Some, None, List, [], ◌∷◌, ◌++◌, refl, sym, ap, ◌∙◌, subst, inl, inr, arith, ne_eqb}
+use Rattle.std.proofs.Common.{◌≡◌, ◌≢◌, ℕ, zero, suc, ◌+◌, Bool, true, false, cond, not, ◌&&◌, ◌||◌, eqb, Option, Some, None, List, [], ◌∷◌, ◌++◌, refl, sym, ap, ◌∙◌, subst, inl, inr, arith, ne_eqb, Contains}
 use Rattle.std.proofs.lemmas.Bool.{cases_eq, cond-false, false≢true, and_right}
 use Rattle.scholten_core.specs.declared.token.Token.TheVariants.{Idle}
 use Rattle.path_algebra.specs.Algebra.{Algebra, IsLawful}
 use Rattle.scholten_core.specs.Network.{Network}
-use Rattle.scholten_core.specs.Diffusion.{CoreState, put, is_idle, is_due, all_below, out_idle, arrive, pump, pump_one, freed, same_label, sent, extend_label, better_of, answer_to, Listed}
+use Rattle.scholten_core.specs.Diffusion.{CoreState, put, is_idle, is_due, all_below, out_idle, arrive, pump, pump_one, freed, same_label, sent, extend_label, better_of, answer_to}
 use Rattle.scholten_core.specs.Sums.{one_if}
 use Rattle.scholten_core.specs.Deficit.{busy_out}
 use Rattle.scholten_core.specs.IdleIsTold.{IdleIsTold}
 use Rattle.scholten_core.specs.Items.{item_of, pump_made, IsDistinct}
 use Rattle.scholten_core.proofs.Basics.{put_tells, put-same, put-other, due_tells, same_self}
+use Rattle.scholten_core.proofs.Contained.{contains_none, contains_cases, contains_first, contains_later}
 
 module _ {V : Type 0} (A : Algebra V) (N : Network) where
   due_differs : (v : ℕ) (d : CoreState V) (b : ℕ) → is_due A N v d b ≡ true → same_label A (d.told b) (d.label v) ≡ true → ⊥
@@ -61,9 +62,9 @@ module _ {V : Type 0} (A : Algebra V) (N : Network) where
     told = λ b. cond-false (is_due A N v d b) (d.label v) (d.told b) (h b) i;
   }
 
-  pub made_nothing : (v : ℕ) (d : CoreState V) (xs : List ℕ) → ((b : ℕ) → Listed A N b xs → is_due A N v d b ≡ false) → pump_made A N v d xs ≡ []
+  pub made_nothing : (v : ℕ) (d : CoreState V) (xs : List ℕ) → ((b : ℕ) → Contains xs b → is_due A N v d b ≡ false) → pump_made A N v d xs ≡ []
   made_nothing v d [] h = refl
-  made_nothing v d (b ∷ xs) h = λ i. cond-false (is_due A N v d b) (item_of b (sent (extend_label A (d.label v) (N.weight b)))) [] (h b (inl refl)) i ++ made_nothing v d xs (λ u l. h u (inr l)) i
+  made_nothing v d (b ∷ xs) h = λ i. cond-false (is_due A N v d b) (item_of b (sent (extend_label A (d.label v) (N.weight b)))) [] (h b (contains_first b b xs refl)) i ++ made_nothing v d xs (λ u l. h u (contains_later u b xs l)) i
 
   put-itself : {X : Type 0} (f g : ℕ → X) (a : ℕ) → ((b : ℕ) → b ≢ a → g b ≡ f b) → g ≡ put f a (g a)
   put-itself f g a h = λ i b. (elim (put_tells f a (g a) b) as (λ _. g b ≡ put f a (g a) b) [ inl k ↦ ap g k.0 ∙ sym k.1 | inr k ↦ h b k.0 ∙ sym k.1 ]) i
@@ -76,12 +77,12 @@ module _ {V : Type 0} (A : Algebra V) (N : Network) where
     told = put-itself d.told (pump A N v d).told a (λ b n. cond-false (is_due A N v d b) (d.label v) (d.told b) (h b n)) i;
   }
 
-  pub made_alone : (v a : ℕ) (d : CoreState V) (xs : List ℕ) → IsDistinct A N xs → Listed A N a xs → ((b : ℕ) → b ≢ a → is_due A N v d b ≡ false) → pump_made A N v d xs ≡ pump_made A N v d (a ∷ [])
-  made_alone v a d [] D l h = absurd l
+  pub made_alone : (v a : ℕ) (d : CoreState V) (xs : List ℕ) → IsDistinct A N xs → Contains xs a → ((b : ℕ) → b ≢ a → is_due A N v d b ≡ false) → pump_made A N v d xs ≡ pump_made A N v d (a ∷ [])
+  made_alone v a d [] D l h = absurd (contains_none a l)
   made_alone v a d (u ∷ us) D l h = elim (cases_eq u a) [
-    | inl e ↦ (let none = made_nothing v d us (λ b k. h b (λ q. D.0 (subst (λ w. Listed A N w us) (q ∙ sym e) k))) in
+    | inl e ↦ (let none = made_nothing v d us (λ b k. h b (λ q. D.0 (subst (λ w. Contains us w) (q ∙ sym e) k))) in
         ap (λ zs. cond (is_due A N v d u) (item_of u (sent (extend_label A (d.label v) (N.weight u)))) [] ++ zs) none ∙ ap (λ w. pump_made A N v d (w ∷ [])) e)
-    | inr n ↦ (let k : Listed A N a us = elim l [ inl e ↦ absurd (n (sym e)) | inr k ↦ k ] in
+    | inr n ↦ (let k : Contains us a = elim (contains_cases a u us l) [ inl e ↦ absurd (n (sym e)) | inr k ↦ k ] in
         (λ i. cond-false (is_due A N v d u) (item_of u (sent (extend_label A (d.label v) (N.weight u)))) [] (h u n) i ++ pump_made A N v d us) ∙ made_alone v a d us D.1 k h)
   ]
 

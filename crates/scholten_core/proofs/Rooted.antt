@@ -1,5 +1,5 @@
 -- The engagement order through each event.
-use Rattle.std.proofs.Common.{◌≡◌, ◌≢◌, ℕ, zero, suc, Bool, true, false, cond, eqb, Option, Some, None, List, [], ◌∷◌, ◌⊎◌, refl, sym, ap, ◌∙◌, subst, inl, inr, arith, eq-eqb, ne_eqb}
+use Rattle.std.proofs.Common.{◌≡◌, ◌≢◌, ℕ, zero, suc, Bool, true, false, cond, eqb, Option, Some, None, List, [], ◌∷◌, ◌⊎◌, refl, sym, ap, ◌∙◌, subst, inl, inr, arith, eq-eqb, ne_eqb, Contains}
 use Rattle.std.proofs.lemmas.Bool.{cases_eq, cond-true, cond-false}
 use Rattle.scholten_core.specs.declared.token.Token.{Token}
 use Rattle.scholten_core.specs.declared.token.Token.TheVariants.{Idle, Message, Held, Signal}
@@ -7,23 +7,24 @@ use Rattle.scholten_core.specs.declared.event.Event.{Event}
 use Rattle.scholten_core.specs.declared.event.Event.TheVariants.{Deliver, Accept}
 use Rattle.path_algebra.specs.Algebra.{Algebra, IsLawful}
 use Rattle.scholten_core.specs.Network.{Network, WellFormed}
-use Rattle.scholten_core.specs.Diffusion.{CoreState, opening, put, pump, arrive, rest, released, freed, settle_tail, delivered, accepted, step, run_from, out_idle, engaged_by, Listed}
+use Rattle.scholten_core.specs.Diffusion.{CoreState, opening, put, pump, arrive, rest, released, freed, settle_tail, delivered, accepted, step, run_from, out_idle, engaged_by}
 use Rattle.scholten_core.specs.Rooted.{IsEngagementOrder, IsRooted}
 use Rattle.scholten_core.proofs.Basics.{put_tells, put-same, put-other, out_idle-at}
 use Rattle.scholten_core.proofs.Kept.{Kept, head_real, arrive_kept, pump_kept, freed_kept, step_kept}
+use Rattle.scholten_core.proofs.Contained.{contains_none, contains_cases, contains_first, contains_later}
 
 module _ {V : Type 0} (A : Algebra V) (N : Network) where
   -- the part of IsRooted that pumping cannot change
   pub Ordered : (ℕ → Option ℕ) → Type 0
-  Ordered f = (order : List ℕ) × IsEngagementOrder A N f order × ((v a : ℕ) → f v ≡ Some a → Listed A N v order)
+  Ordered f = (order : List ℕ) × IsEngagementOrder A N f order × ((v a : ℕ) → f v ≡ Some a → Contains order v)
 
-  order_engaged : (f : ℕ → Option ℕ) (order : List ℕ) (v : ℕ) → IsEngagementOrder A N f order → Listed A N v order → (a : ℕ) × (f v ≡ Some a)
-  order_engaged f [] v o l = absurd l
-  order_engaged f (u ∷ us) v o l = elim l [ inl e ↦ (o.0.0, ap f e ∙ o.0.1) | inr m ↦ order_engaged f us v o.2 m ]
+  order_engaged : (f : ℕ → Option ℕ) (order : List ℕ) (v : ℕ) → IsEngagementOrder A N f order → Contains order v → (a : ℕ) × (f v ≡ Some a)
+  order_engaged f [] v o l = absurd (contains_none v l)
+  order_engaged f (u ∷ us) v o l = elim (contains_cases v u us l) [ inl e ↦ (o.0.0, ap f e ∙ o.0.1) | inr m ↦ order_engaged f us v o.2 m ]
 
-  order_same : (f g : ℕ → Option ℕ) (order : List ℕ) → ((v : ℕ) → Listed A N v order → f v ≡ g v) → IsEngagementOrder A N f order → IsEngagementOrder A N g order
+  order_same : (f g : ℕ → Option ℕ) (order : List ℕ) → ((v : ℕ) → Contains order v → f v ≡ g v) → IsEngagementOrder A N f order → IsEngagementOrder A N g order
   order_same f g [] h o = tt
-  order_same f g (u ∷ us) h o = ((o.0.0, sym (h u (inl refl)) ∙ o.0.1, o.0.2), o.1, order_same f g us (λ v l. h v (inr l)) o.2)
+  order_same f g (u ∷ us) h o = ((o.0.0, sym (h u (contains_first u u us refl)) ∙ o.0.1, o.0.2), o.1, order_same f g us (λ v l. h v (contains_later v u us l)) o.2)
 
   without : ℕ → List ℕ → List ℕ
   without v [] = []
@@ -41,18 +42,18 @@ module _ {V : Type 0} (A : Algebra V) (N : Network) where
   unfolding without
   without-nil v = refl
 
-  listed_without : (v u : ℕ) (us : List ℕ) → u ≢ v → Listed A N u us → Listed A N u (without v us)
-  listed_without v u [] ne l = absurd l
+  listed_without : (v u : ℕ) (us : List ℕ) → u ≢ v → Contains us u → Contains (without v us) u
+  listed_without v u [] ne l = absurd (contains_none u l)
   listed_without v u (w ∷ us) ne l = elim (cases_eq w v) [
-    | inl e ↦ subst (Listed A N u) (sym (without-here v w us e)) (elim l [ inl k ↦ absurd (ne (k ∙ e)) | inr k ↦ listed_without v u us ne k ])
-    | inr n ↦ subst (Listed A N u) (sym (without-there v w us n)) (elim l [ inl k ↦ inl k | inr k ↦ inr (listed_without v u us ne k) ])
+    | inl e ↦ subst (λ ys. Contains ys u) (sym (without-here v w us e)) (elim (contains_cases u w us l) [ inl k ↦ absurd (ne (k ∙ e)) | inr k ↦ listed_without v u us ne k ])
+    | inr n ↦ subst (λ ys. Contains ys u) (sym (without-there v w us n)) (elim (contains_cases u w us l) [ inl k ↦ contains_first u w (without v us) k | inr k ↦ contains_later u w (without v us) (listed_without v u us ne k) ])
   ]
 
-  without_listed : (v u : ℕ) (us : List ℕ) → Listed A N u (without v us) → Listed A N u us
-  without_listed v u [] l = subst (Listed A N u) (without-nil v) l
+  without_listed : (v u : ℕ) (us : List ℕ) → Contains (without v us) u → Contains us u
+  without_listed v u [] l = subst (λ ys. Contains ys u) (without-nil v) l
   without_listed v u (w ∷ us) l = elim (cases_eq w v) [
-    | inl e ↦ inr (without_listed v u us (subst (Listed A N u) (without-here v w us e) l))
-    | inr n ↦ (let k : Listed A N u (w ∷ without v us) = subst (Listed A N u) (without-there v w us n) l in elim k [ inl j ↦ inl j | inr j ↦ inr (without_listed v u us j) ])
+    | inl e ↦ contains_later u w us (without_listed v u us (subst (λ ys. Contains ys u) (without-here v w us e) l))
+    | inr n ↦ (let k : Contains (w ∷ without v us) u = subst (λ ys. Contains ys u) (without-there v w us n) l in elim (contains_cases u w (without v us) k) [ inl j ↦ contains_first u w us j | inr j ↦ contains_later u w us (without_listed v u us j) ])
   ]
 
   order_without : (f : ℕ → Option ℕ) (v : ℕ) → ((u a : ℕ) → f u ≡ Some a → N.tail a ≢ v) → (order : List ℕ) →
@@ -71,14 +72,14 @@ module _ {V : Type 0} (A : Algebra V) (N : Network) where
   engage_ordered : (f : ℕ → Option ℕ) (v a : ℕ) (o : Option ℕ) → f v ≡ o → (N.tail a ≡ 0) ⊎ ((e : ℕ) × (f (N.tail a) ≡ Some e)) → Ordered f → Ordered (put f v (engaged_by o a))
   unfolding Ordered
   engage_ordered f v a None q t O =
-      let new = λ (l : Listed A N v O.0). (let h = order_engaged f O.0 v O.1 l in let g = h.1 in let z : ⊥ = cc in z) in (
+      let new = λ (l : Contains O.0 v). (let h = order_engaged f O.0 v O.1 l in let g = h.1 in let z : ⊥ = cc in z) in (
         v ∷ O.0,
         (
           (a, put-same f v (Some a), elim t [ inl z ↦ inl z | inr h ↦ inr (O.2 (N.tail a) h.0 h.1) ]),
           new,
-          order_same f (put f v (Some a)) O.0 (λ u l. sym (put-other f v (Some a) u (λ e. new (subst (λ w. Listed A N w O.0) e l)))) O.1,
+          order_same f (put f v (Some a)) O.0 (λ u l. sym (put-other f v (Some a) u (λ e. new (subst (λ w. Contains O.0 w) e l)))) O.1,
         ),
-        λ u b h. elim (put_tells f v (Some a) u) [ inl k ↦ inl k.0 | inr k ↦ inr (O.2 u b (sym k.1 ∙ h)) ],
+        λ u b h. elim (put_tells f v (Some a) u) [ inl k ↦ contains_first u v O.0 k.0 | inr k ↦ contains_later u v O.0 (O.2 u b (sym k.1 ∙ h)) ],
       )
   engage_ordered f v a (Some e) q t O =
       let same = λ (u : ℕ). elim (put_tells f v (Some e) u) as (λ _. f u ≡ put f v (Some e) u) [ inl k ↦ ap f k.0 ∙ q ∙ sym k.1 | inr k ↦ sym k.1 ] in
@@ -156,8 +157,8 @@ module _ {V : Type 0} (A : Algebra V) (N : Network) where
   unfolding Ordered
   opening_ordered = ([], tt, λ v a h. cc)
 
-  none_listed : (f : ℕ → Option ℕ) → ((u a : ℕ) → f u ≡ Some a → N.tail a ≢ 0) → (order : List ℕ) → IsEngagementOrder A N f order → (u : ℕ) → Listed A N u order → ⊥
-  none_listed f free [] o u l = l
+  none_listed : (f : ℕ → Option ℕ) → ((u a : ℕ) → f u ≡ Some a → N.tail a ≢ 0) → (order : List ℕ) → IsEngagementOrder A N f order → (u : ℕ) → Contains order u → ⊥
+  none_listed f free [] o u l = contains_none u l
   none_listed f free (v ∷ us) o u l = elim o.0.2 [ inl z ↦ free v o.0.0 o.0.1 z | inr k ↦ none_listed f free us o.2 (N.tail o.0.0) k ]
 
   pub none_engaged : (f : ℕ → Option ℕ) → ((u a : ℕ) → f u ≡ Some a → N.tail a ≢ 0) → Ordered f → (v : ℕ) → f v ≡ None

@@ -1,5 +1,5 @@
 -- The diffusing computation after Dijkstra and Scholten: its state, and what each event does to it.
-use Rattle.std.specs.Prelude.{◌≡◌, ℕ, zero, suc, ◌+◌, Bool, true, false, cond, not, ◌&&◌, ◌||◌, eqb, Option, Some, None, List, [], ◌∷◌, ◌⊎◌}
+use Rattle.std.specs.Prelude.{◌≡◌, ℕ, zero, suc, ◌+◌, Bool, true, false, cond, not, ◌&&◌, ◌||◌, eqb, Option, Some, None, List, [], ◌∷◌}
 use Rattle.scholten_core.specs.declared.token.Token.{Token}
 use Rattle.scholten_core.specs.declared.token.Token.TheVariants.{Idle, Message, Held, Signal}
 use Rattle.scholten_core.specs.declared.event.Event.{Event}
@@ -193,8 +193,3 @@ module _ {V : Type 0} (A : Algebra V) (N : Network) where
   -- the state that a list of events leads to
   abbrev pub state_after : List Event → CoreState V
   state_after events = run_from opening events
-
-  -- v is one of the list
-  abbrev pub Listed : ℕ → List ℕ → Type 0
-  Listed v [] = ⊥
-  Listed v (u ∷ us) = (v ≡ u) ⊎ Listed v us

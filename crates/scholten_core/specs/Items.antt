@@ -1,12 +1,12 @@
 -- Items under way, against the tokens of a state.
-use Rattle.std.specs.Prelude.{◌≡◌, ℕ, Bool, true, false, cond, eqb, Option, Some, None, List, [], ◌∷◌, ◌++◌, ◌⊎◌}
+use Rattle.std.specs.Prelude.{◌≡◌, ℕ, Bool, true, false, cond, eqb, Option, Some, None, List, [], ◌∷◌, ◌++◌, ◌⊎◌, Contains}
 use Rattle.scholten_core.specs.declared.token.Token.{Token}
 use Rattle.scholten_core.specs.declared.token.Token.TheVariants.{Idle, Message, Held, Signal}
 use Rattle.scholten_core.specs.declared.item.Item.{Item}
 use Rattle.scholten_core.specs.declared.item.Item.TheVariants.{Message as MessageOn, Signal as SignalOn}
 use Rattle.path_algebra.specs.Algebra.{Algebra}
 use Rattle.scholten_core.specs.Network.{Network}
-use Rattle.scholten_core.specs.Diffusion.{CoreState, is_due, out_idle, pump, sent, extend_label, Listed}
+use Rattle.scholten_core.specs.Diffusion.{CoreState, is_due, out_idle, pump, sent, extend_label}
 
 -- the arc of an item
 abbrev pub item_arc : {V : Type 0} → Item V → ℕ
@@ -41,13 +41,13 @@ module _ {V : Type 0} (A : Algebra V) (N : Network) where
 
   abbrev pub IsDistinct : List ℕ → Type 0
   IsDistinct [] = Unit {0}
-  IsDistinct (u ∷ us) = (Listed A N u us → ⊥) × IsDistinct us
+  IsDistinct (u ∷ us) = (Contains us u → ⊥) × IsDistinct us
 
   -- the list has exactly the arcs out of v, each once
   pub record IsOutList (v : ℕ) (xs : List ℕ) : Type 0 where
     pub distinct : IsDistinct xs
-    pub all : (b : ℕ) → N.tail b ≡ v → Listed A N b xs
-    pub only : (b : ℕ) → Listed A N b xs → N.tail b ≡ v
+    pub all : (b : ℕ) → N.tail b ≡ v → Contains xs b
+    pub only : (b : ℕ) → Contains xs b → N.tail b ≡ v
 
   -- what an event does at one arc: nothing, or the arc's new items where it had none
   abbrev pub Makes : ℕ → Token V → Token V → List (Item V) → Type 0

@@ -53,7 +53,7 @@ impl<'g, A: PathAlgebra> Core<'g, A> {
         source: Vertex,
     ) -> Result<Core<'g, A>, Memory>
         requires { HasVertex graph.now source }
-        ensures problem { IfOk result (λ c. c.problem ≡ record { algebra = algebra; roads = graph.now; source = source }) }
+        ensures question { IfOk result (λ c. c.question ≡ record { algebra = algebra; roads = graph.now; source = source }) }
         ensures state { IfOk result (λ c. state_of c ≡ opening (A.meaning algebra) (network graph.now source)) }
     {
         let _roads = graph.vertices();
@@ -63,8 +63,8 @@ impl<'g, A: PathAlgebra> Core<'g, A> {
 
     /// The message on an arc is handled at the arc's head. Refused, with nothing changed, where no message stands there.
     pub fn deliver(&mut self, a: ArcNo) -> Result<(), NoMessage>
-        ensures same { self.new.problem ≡ self.old.problem }
-        ensures done { IfOk result (λ _. (is_enabled (state_of self.old) (Deliver a) ≡ true) × (state_of self.new ≡ step (A.meaning self.old.problem.algebra) (network_of self.old) (state_of self.old) (Deliver a))) }
+        ensures same { self.new.question ≡ self.old.question }
+        ensures done { IfOk result (λ _. (is_enabled (state_of self.old) (Deliver a) ≡ true) × (state_of self.new ≡ step (A.meaning self.old.question.algebra) (network_of self.old) (state_of self.old) (Deliver a))) }
         ensures refused { OnErr result ((is_enabled (state_of self.old) (Deliver a) ≡ false) × (self.new ≡ self.old)) }
     {
         laws_hold(self.desk.algebra());
@@ -81,8 +81,8 @@ impl<'g, A: PathAlgebra> Core<'g, A> {
 
     /// The signal on an arc is handled at the arc's tail. Refused, with nothing changed, where no signal stands there.
     pub fn accept(&mut self, a: ArcNo) -> Result<(), NoSignal>
-        ensures same { self.new.problem ≡ self.old.problem }
-        ensures done { IfOk result (λ _. (is_enabled (state_of self.old) (Accept a) ≡ true) × (state_of self.new ≡ step (A.meaning self.old.problem.algebra) (network_of self.old) (state_of self.old) (Accept a))) }
+        ensures same { self.new.question ≡ self.old.question }
+        ensures done { IfOk result (λ _. (is_enabled (state_of self.old) (Accept a) ≡ true) × (state_of self.new ≡ step (A.meaning self.old.question.algebra) (network_of self.old) (state_of self.old) (Accept a))) }
         ensures refused { OnErr result ((is_enabled (state_of self.old) (Accept a) ≡ false) × (self.new ≡ self.old)) }
     {
         laws_hold(self.desk.algebra());
@@ -102,8 +102,8 @@ impl<'g, A: PathAlgebra> Core<'g, A> {
     }
 
     fn apply(&mut self, event: Event) -> bool
-        ensures same { self.new.problem ≡ self.old.problem }
-        ensures state { state_of self.new ≡ step (A.meaning self.old.problem.algebra) (network_of self.old) (state_of self.old) event }
+        ensures same { self.new.question ≡ self.old.question }
+        ensures state { state_of self.new ≡ step (A.meaning self.old.question.algebra) (network_of self.old) (state_of self.old) event }
         ensures enabled { result ≡ is_enabled (state_of self.old) event }
     {
         match event {
@@ -114,9 +114,9 @@ impl<'g, A: PathAlgebra> Core<'g, A> {
 
     /// Applies the events in order, skips those that are not enabled, and says how many were.
     pub fn run(&mut self, events: &[Event]) -> usize
-        ensures same { self.new.problem ≡ self.old.problem }
-        ensures state { state_of self.new ≡ run_from (A.meaning self.old.problem.algebra) (network_of self.old) (state_of self.old) events.now }
-        ensures count { result ≡ count_enabled (A.meaning self.old.problem.algebra) (network_of self.old) (state_of self.old) events.now }
+        ensures same { self.new.question ≡ self.old.question }
+        ensures state { state_of self.new ≡ run_from (A.meaning self.old.question.algebra) (network_of self.old) (state_of self.old) events.now }
+        ensures count { result ≡ count_enabled (A.meaning self.old.question.algebra) (network_of self.old) (state_of self.old) events.now }
     {
         let mut enabled = 0;
         for event in events {
@@ -131,8 +131,8 @@ impl<'g, A: PathAlgebra> Core<'g, A> {
     pub fn ended(&self) -> bool
         ensures ended { IsTrue result ↔ HasEnded (state_of self.now) }
         ensures quiet { IsTrue result → IsQuietState (state_of self.now) }
-        ensures best { IsTrue result → LabelsAreBest (A.meaning self.now.problem.algebra) self.now.problem.roads self.now.problem.source (state_of self.now) }
-        ensures reached { IsReached (A.meaning self.now.problem.algebra) self.now.problem.roads self.now.problem.source (state_of self.now) }
+        ensures best { IsTrue result → LabelsAreBest (A.meaning self.now.question.algebra) self.now.question.roads self.now.question.source (state_of self.now) }
+        ensures reached { IsReached (A.meaning self.now.question.algebra) self.now.question.roads self.now.question.source (state_of self.now) }
     {
         laws_hold(self.desk.algebra());
         self.desk.token(ENTRY).is_idle()
@@ -147,9 +147,9 @@ impl<'g, A: PathAlgebra> Core<'g, A> {
 
     /// The label of a vertex, the value of some walk to it, or none so far.
     pub fn label(&self, v: Vertex) -> Option<A::Value>
-        requires { HasVertex self.now.problem.roads v }
+        requires { HasVertex self.now.question.roads v }
         ensures label { result ≡ (state_of self.now).label v }
-        ensures walk { IfSome result (λ x. IsWalkValue (A.meaning self.now.problem.algebra) self.now.problem.roads (self.now.problem.source ∷ []) v x) }
+        ensures walk { IfSome result (λ x. IsWalkValue (A.meaning self.now.question.algebra) self.now.question.roads (self.now.question.source ∷ []) v x) }
     {
         laws_hold(self.desk.algebra());
         self.desk.label(v)
@@ -157,10 +157,10 @@ impl<'g, A: PathAlgebra> Core<'g, A> {
 
     /// The arc that engages a vertex, none for a neutral one.
     pub fn engager(&self, v: Vertex) -> Option<ArcNo>
-        requires { HasVertex self.now.problem.roads v }
+        requires { HasVertex self.now.question.roads v }
         ensures engager { result ≡ (state_of self.now).engager v }
         ensures held { IfSome result (λ e. ((state_of self.now).token e ≡ Held) × ((network_of self.now).head e ≡ v)) }
-        ensures rooted { IsRooted (A.meaning self.now.problem.algebra) (network_of self.now) (state_of self.now) }
+        ensures rooted { IsRooted (A.meaning self.now.question.algebra) (network_of self.now) (state_of self.now) }
     {
         laws_hold(self.desk.algebra());
         self.desk.engager(v)
@@ -168,9 +168,9 @@ impl<'g, A: PathAlgebra> Core<'g, A> {
 
     /// What stands on an arc; a message has the value of some walk to the arc's head.
     pub fn token(&self, a: ArcNo) -> Token<A::Value>
-        requires { a ≤ length self.now.problem.roads.arcs }
+        requires { a ≤ length self.now.question.roads.arcs }
         ensures token { result ≡ (state_of self.now).token a }
-        ensures walk { (x : A.Value) → result ≡ Token.Message x → IsWalkValue (A.meaning self.now.problem.algebra) self.now.problem.roads (self.now.problem.source ∷ []) ((network_of self.now).head a) x }
+        ensures walk { (x : A.Value) → result ≡ Token.Message x → IsWalkValue (A.meaning self.now.question.algebra) self.now.question.roads (self.now.question.source ∷ []) ((network_of self.now).head a) x }
     {
         laws_hold(self.desk.algebra());
         self.desk.token(a)
@@ -178,7 +178,7 @@ impl<'g, A: PathAlgebra> Core<'g, A> {
 
     /// How many arcs out of a vertex are busy: 0 for a neutral one.
     pub fn deficit(&self, v: Vertex) -> u32
-        requires { HasVertex self.now.problem.roads v }
+        requires { HasVertex self.now.question.roads v }
         ensures { result ≡ deficit (network_of self.now) v (state_of self.now) }
     {
         self.desk.deficit(v)

@@ -36,17 +36,17 @@ is_busy V true e = refl
 is_busy V false e = absurd cc
 
 -- the environment stands where the source does
-entry_place : {S : Type 0} (t : Setup S) → t.source ≢ 0 → place_in t 0 ≡ place_in t t.source
+entry_place : {S : Type 0} (t : Setup S) → t.question.source ≢ 0 → place_in t 0 ≡ place_in t t.question.source
 unfolding place_in
-entry_place t ne = go t.source ne
+entry_place t ne = go t.question.source ne
   where
     go : (s : ℕ) → s ≢ 0 → get_or t.plan.list (s - 1) 0 ≡ get_or (get_or t.plan.list (s - 1) 0 ∷ t.plan.list) s 0
     go zero n = absurd (n refl)
     go (suc s) n = ap (λ z. get_or t.plan.list z 0) (let e : suc s - 1 ≡ s = omega arith in e)
 
-module _ {S V : Type 0} (meaning : S → Algebra V) (p : PartData S V) (L : Lawful (meaning p.setup.algebra)) (W : WellFormed (network_in p.setup)) (c : CoreState V) (K : CoreKept (meaning p.setup.algebra) (network_in p.setup) 0 c) where
+module _ {S V : Type 0} (meaning : S → Algebra V) (p : PartData S V) (L : Lawful (meaning p.setup.question.algebra)) (W : WellFormed (network_in p.setup)) (c : CoreState V) (K : CoreKept (meaning p.setup.question.algebra) (network_in p.setup) 0 c) where
   abbrev Share : List (Item V) → Type 0
-  Share xs = HoldsShare (meaning p.setup.algebra) (network_in p.setup) (place_in p.setup) c (record p { queue = xs })
+  Share xs = HoldsShare (meaning p.setup.question.algebra) (network_in p.setup) (place_in p.setup) c (record p { queue = xs })
 
   -- in whatever order the items stand
   reordered : (xs ys : List (Item V)) → ((f : Item V → ℕ) → total f ys ≡ total f xs) → Share xs → Share ys
@@ -56,13 +56,13 @@ module _ {S V : Type 0} (meaning : S → Algebra V) (p : PartData S V) (L : Lawf
   }
 
   -- an arc between two shards is one of the graph's
-  real_arc : (a : ℕ) → a < suc (network_in p.setup).arcs → place_in p.setup ((network_in p.setup).tail a) ≢ place_in p.setup ((network_in p.setup).head a) → HasArc p.setup.roads a
+  real_arc : (a : ℕ) → a < suc (network_in p.setup).arcs → place_in p.setup ((network_in p.setup).tail a) ≢ place_in p.setup ((network_in p.setup).head a) → HasArc p.setup.question.roads a
   real_arc zero l ne = absurd (ne (ap (place_in p.setup) W.tail_zero ∙ entry_place p.setup W.source_in ∙ ap (place_in p.setup) (sym W.head_zero)))
   real_arc (suc a) l ne = (omega arith, omega (arith, l))
 
-  one_fits : (i : Item V) (rest : List (Item V)) (j : ℕ) → j ≢ p.shard → place_in p.setup (maker_of (network_in p.setup) i) ≡ j → Share (i ∷ rest) → FitsAlone (meaning p.setup.algebra) p i
+  one_fits : (i : Item V) (rest : List (Item V)) (j : ℕ) → j ≢ p.shard → place_in p.setup (maker_of (network_in p.setup) i) ≡ j → Share (i ∷ rest) → FitsAlone (meaning p.setup.question.algebra) p i
   one_fits (MessageOn a x) rest j ne made H =
-      let A = meaning p.setup.algebra in let N = network_in p.setup in
+      let A = meaning p.setup.question.algebra in let N = network_in p.setup in
       let T = front_stands A N (place_in p.setup) L c (record p { queue = MessageOn a x ∷ rest }) (MessageOn a x) rest H refl in
       let tok : c.token a ≡ Message x = is_message a (c.token a) x T.token in
       let away : place_in p.setup (N.tail a) ≢ p.shard = λ q. ne (sym made ∙ q) in (
@@ -71,7 +71,7 @@ module _ {S V : Type 0} (meaning : S → Algebra V) (p : PartData S V) (L : Lawf
         (T.here, away, message_free A N (place_in p.setup) c (record p { queue = MessageOn a x ∷ rest }) a x K H.tables tok (eq-eqb _ _ T.here)),
       )
   one_fits (SignalOn a) rest j ne made H =
-      let A = meaning p.setup.algebra in let N = network_in p.setup in
+      let A = meaning p.setup.question.algebra in let N = network_in p.setup in
       let T = front_stands A N (place_in p.setup) L c (record p { queue = SignalOn a ∷ rest }) (SignalOn a) rest H refl in
       let tok : c.token a ≡ Signal = is_signal a (c.token a) T.token in
       let away : place_in p.setup (N.head a) ≢ p.shard = λ q. ne (sym made ∙ q) in (
@@ -79,7 +79,7 @@ module _ {S V : Type 0} (meaning : S → Algebra V) (p : PartData S V) (L : Lawf
         (T.here, away, is_busy V (get_or p.busy a false) (signal_busy A N (place_in p.setup) c (record p { queue = SignalOn a ∷ rest }) a H.tables tok (eq-eqb _ _ T.here))),
       )
 
-  each_fits : (before xs : List (Item V)) (j : ℕ) → j ≢ p.shard → MadeAt p.setup j xs → Share (before ++ xs) → All (FitsAlone (meaning p.setup.algebra) p) xs
+  each_fits : (before xs : List (Item V)) (j : ℕ) → j ≢ p.shard → MadeAt p.setup j xs → Share (before ++ xs) → All (FitsAlone (meaning p.setup.question.algebra) p) xs
   each_fits before [] j ne made H = tt
   each_fits before (i ∷ xs) j ne made H = (
     one_fits i (before ++ xs) j ne made.0 (reordered (before ++ i ∷ xs) (i ∷ before ++ xs) (λ f. let a = total_append f before (i ∷ xs) in let b = total_append f before xs in omega (arith, a, b)) H),
@@ -87,9 +87,9 @@ module _ {S V : Type 0} (meaning : S → Algebra V) (p : PartData S V) (L : Lawf
   )
 
   -- the queue as it is with the batch
-  pub arrives : (xs : List (Item V)) (j : ℕ) → j ≢ p.shard → MadeAt p.setup j xs → HoldsShare (meaning p.setup.algebra) (network_in p.setup) (place_in p.setup) c (joined p xs) → MayReceive meaning p xs
+  pub arrives : (xs : List (Item V)) (j : ℕ) → j ≢ p.shard → MadeAt p.setup j xs → HoldsShare (meaning p.setup.question.algebra) (network_in p.setup) (place_in p.setup) c (joined p xs) → MayReceive meaning p xs
   arrives xs j ne made H =
-      let A = meaning p.setup.algebra in let N = network_in p.setup in (
+      let A = meaning p.setup.question.algebra in let N = network_in p.setup in (
         (let q = queue_fits A N (place_in p.setup) c (joined p xs) H in let l = length-append p.queue xs in omega (arith, q, l)),
         record {
           apart = λ b. let o = arc_once A N (place_in p.setup) c (joined p xs) b H in let a = total_append (λ j. is b (item_arc j)) p.queue xs in omega (arith, o, a);

@@ -8,9 +8,9 @@ use Rattle.scholten_core.specs.Diffusion.{CoreState, step, run_from}
 use Rattle.scholten_core.specs.Accounts.{Totals, count_sent, count_signalled, sent_total, delivered_total, signalled_total, accepted_total}
 use Rattle.scholten_core.proofs.Kept.{Kept as CoreKept, step_kept}
 use Rattle.shard_part.specs.Tallies.{counted_on, top}
-use Rattle.shard_part.specs.PartState.{PartData, Setup, network_in, place_in, state_in, total, is_told, is_back, made, event_of, TookIn, TookAll, Shows}
+use Rattle.shard_part.specs.PartState.{PartData, Setup, network_in, place_in, state_in, total, is_told, is_back, made, event_of, HandledItemIn, HandledAll, Shows}
 use Rattle.shard_part.specs.Exact.{no_totals, plus, done_by, Saturates, ShowsMoved}
-use Rattle.shard_part.proofs.Showing.{AllLawful, took_shows, shown_holds}
+use Rattle.shard_part.proofs.Showing.{AllLawful, handled_shows, shown_holds}
 use Rattle.shard_part.proofs.TakenCounts.{counts}
 
 module _ {V : Type 0} (A : Algebra V) (N : Network) where
@@ -37,7 +37,7 @@ module _ {S V : Type 0} (meaning : S → Algebra V) where
   moved_on : (v k : ℕ) (l : ℕ) (q : ℕ) → q ≡ min (v + k + l) top → q ≡ min (v + (k + l)) top
   moved_on v k l q e = e ∙ ap (λ z. min z top) (let r : v + k + l ≡ v + (k + l) = omega arith in r)
 
-  pub saturates : (items : List (Item V)) (p q : PartData S V) (T : TookAll meaning p items q) (v : Totals) → Saturates v p → Saturates (plus v (done_by meaning items p q T)) q
+  pub saturates : (items : List (Item V)) (p q : PartData S V) (T : HandledAll meaning p items q) (v : Totals) → Saturates v p → Saturates (plus v (done_by meaning items p q T)) q
   unfolding done_by
   saturates [] p q e v s = subst (Saturates (plus v no_totals)) e (record {
     sent = s.sent ∙ ap (λ z. min z top) (let r : v.sent ≡ v.sent + 0 = omega arith in r);
@@ -46,7 +46,7 @@ module _ {S V : Type 0} (meaning : S → Algebra V) where
     accepted = s.accepted ∙ ap (λ z. min z top) (let r : v.accepted ≡ v.accepted + 0 = omega arith in r);
   })
   saturates (i ∷ is) p q (m, T, rest) v s =
-      let A = meaning p.setup.algebra in let N = network_in p.setup in
+      let A = meaning p.setup.question.algebra in let N = network_in p.setup in
       let one : Totals = record { sent = total is_told (made A N i (state_in p)); delivered = is_told i; signalled = total is_back (made A N i (state_in p)); accepted = is_back i } in
       let R = saturates is m q rest (plus v one) (record {
         sent = saturated _ v.sent p.sent m.sent s.sent T.sent;
@@ -62,17 +62,17 @@ module _ {S V : Type 0} (meaning : S → Algebra V) where
 
   -- one part takes items, and what it did is what their events do
   pub moves : AllLawful meaning → (t : Setup S) → WellFormed (network_in t) → (items : List (Item V)) (before after : List (PartData S V)) (p q : PartData S V) (mail : (ℕ → Item V → ℕ) → ℕ) (c : CoreState V) →
-      CoreKept (meaning t.algebra) (network_in t) 0 c → p.setup ≡ t → Shows meaning t (before ++ p ∷ after) mail c → (T : TookAll meaning p items q) → ShowsMoved meaning t c items (before ++ q ∷ after) mail (done_by meaning items p q T)
+      CoreKept (meaning t.question.algebra) (network_in t) 0 c → p.setup ≡ t → Shows meaning t (before ++ p ∷ after) mail c → (T : HandledAll meaning p items q) → ShowsMoved meaning t c items (before ++ q ∷ after) mail (done_by meaning items p q T)
   unfolding done_by
   moves L t W [] before after p q mail c K e H T = record { shown = subst (λ (u : PartData S V). Shows meaning t (before ++ u ∷ after) mail c) T H; did = refl }
   moves L t W (i ∷ is) before after p q mail c K e H (m, T, rest) =
-      let A = meaning t.algebra in let N = network_in t in
-      let took_in : TookIn (meaning t.algebra) (network_in t) (place_in t) p i m = subst (λ (u : Setup S). TookIn (meaning u.algebra) (network_in u) (place_in u) p i m) e T in
-      let one = took_shows meaning L t W before after p m i mail c K H T in
-      let C = counts A N (place_in t) (L t.algebra) W c p i m K (shown_holds A N (place_in t) before after p mail c H.shown) took_in in
-      let R = moves L t W is before after m q mail (step A N c (event_of i)) (step_kept A N (L t.algebra) W c (event_of i) K) (T.setup ∙ e) one.1 rest in
-      let told : total is_told (made (meaning p.setup.algebra) (network_in p.setup) i (state_in p)) ≡ count_sent A N c (step A N c (event_of i)) = ap (λ (u : Setup S). total is_told (made (meaning u.algebra) (network_in u) i (state_in p))) e ∙ C.sent in
-      let back : total is_back (made (meaning p.setup.algebra) (network_in p.setup) i (state_in p)) ≡ count_signalled A N c (step A N c (event_of i)) = ap (λ (u : Setup S). total is_back (made (meaning u.algebra) (network_in u) i (state_in p))) e ∙ C.signalled in
+      let A = meaning t.question.algebra in let N = network_in t in
+      let handled_in : HandledItemIn (meaning t.question.algebra) (network_in t) (place_in t) p i m = subst (λ (u : Setup S). HandledItemIn (meaning u.question.algebra) (network_in u) (place_in u) p i m) e T in
+      let one = handled_shows meaning L t W before after p m i mail c K H T in
+      let C = counts A N (place_in t) (L t.question.algebra) W c p i m K (shown_holds A N (place_in t) before after p mail c H.shown) handled_in in
+      let R = moves L t W is before after m q mail (step A N c (event_of i)) (step_kept A N (L t.question.algebra) W c (event_of i) K) (T.setup ∙ e) one.1 rest in
+      let told : total is_told (made (meaning p.setup.question.algebra) (network_in p.setup) i (state_in p)) ≡ count_sent A N c (step A N c (event_of i)) = ap (λ (u : Setup S). total is_told (made (meaning u.question.algebra) (network_in u) i (state_in p))) e ∙ C.sent in
+      let back : total is_back (made (meaning p.setup.question.algebra) (network_in p.setup) i (state_in p)) ≡ count_signalled A N c (step A N c (event_of i)) = ap (λ (u : Setup S). total is_back (made (meaning u.question.algebra) (network_in u) i (state_in p))) e ∙ C.signalled in
       record {
         shown = R.shown;
         did = λ j. plus (record { sent = told j; delivered = C.delivered j; signalled = back j; accepted = C.accepted j }) (R.did j);

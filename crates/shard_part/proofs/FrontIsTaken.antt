@@ -1,5 +1,5 @@
 -- What the moves do with the item that was taken from the front is one item taken.
-use Rattle.std.proofs.Common.{◌≡◌, ◌≢◌, ℕ, zero, suc, ◌<◌, ◌≤◌, Bool, true, false, cond, Option, Some, None, List, [], ◌∷◌, ◌++◌, length, set, get_or, refl, sym, ap, ◌∙◌, subst, inl, inr, arith, length-set, get_or-set_same, get_or-set_other, eqb-true, eq-eqb}
+use Rattle.std.proofs.Common.{◌≡◌, ◌≢◌, ℕ, zero, suc, ◌<◌, ◌≤◌, Bool, true, false, cond, Option, Some, None, List, [], ◌∷◌, ◌++◌, length, set, get_or, refl, sym, ap, ◌∙◌, subst, inl, inr, arith, length-set, get_or-set_same, get_or-set_other, eqb-true, eq-eqb, Contains}
 use Rattle.std.proofs.lemmas.Bool.{cond-true, cond-false}
 use Rattle.scholten_core.specs.declared.token.Token.TheVariants.{Idle}
 use Rattle.scholten_core.specs.declared.item.Item.{Item}
@@ -7,11 +7,11 @@ use Rattle.scholten_core.specs.declared.item.Item.TheVariants.{Message as Messag
 use Rattle.path_algebra.specs.Algebra.{Algebra}
 use Rattle.path_algebra.specs.Algebra.{IsLawful as Lawful}
 use Rattle.scholten_core.specs.Network.{Network, WellFormed}
-use Rattle.scholten_core.specs.Diffusion.{CoreState, put, is_idle, is_due, improves, better_of, engaged_by, answer_to, freed, Listed}
+use Rattle.scholten_core.specs.Diffusion.{CoreState, put, is_idle, is_due, improves, better_of, engaged_by, answer_to, freed}
 use Rattle.scholten_core.specs.Items.{item_arc, item_of, pump_made, settle_made, IsDistinct, IsOutList}
 use Rattle.scholten_core.proofs.Basics.{put_tells, due_tells}
 use Rattle.shard_part.specs.Tallies.{counted_on, top}
-use Rattle.shard_part.specs.PartState.{PartData, Setup, Lanes, lanes_of, network_in, place_in, state_in, token_if, total, is_told, is_back, mine, routes, route, outgoing, arrive_here, settle_here, taken, made, vertex_of, IsArc, TookIn}
+use Rattle.shard_part.specs.PartState.{PartData, Setup, Lanes, lanes_of, network_in, place_in, state_in, token_if, total, is_told, is_back, mine, routes, route, outgoing, arrive_here, settle_here, taken, made, vertex_of, IsArc, HandledItemIn}
 use Rattle.shard_part.specs.Moves.{Rows, IsStored, IsPlanned, IsPopped, engaged_or_answered, offered, offered_all, rested, with_value, with_free, with_taken}
 use Rattle.shard_part.specs.Part.{OwnIdleIsTold}
 use Rattle.shard_part.proofs.Spread.{table_long}
@@ -24,13 +24,14 @@ use Rattle.shard_part.proofs.Quick.{quiet_message}
 use Rattle.shard_part.proofs.OffersArePumped.{counted_none, counted_top}
 use Rattle.shard_part.proofs.VertexSettles.{Made, settles, made_after}
 use Rattle.scholten_core.proofs.Written.{put_set}
+use Rattle.scholten_core.proofs.Contained.{contains_none, contains_cases, contains_first}
 
 -- the tables have a place for each vertex and each arc, and no counter is past its top
 pub record IsFit {S V : Type 0} (p : PartData S V) : Type 0 where
-  pub labels : length p.labels ≡ suc p.setup.roads.vertices
-  pub engagers : length p.engagers ≡ suc p.setup.roads.vertices
-  pub busy : length p.busy ≡ suc (length p.setup.roads.arcs)
-  pub told : length p.told ≡ suc (length p.setup.roads.arcs)
+  pub labels : length p.labels ≡ suc p.setup.question.roads.vertices
+  pub engagers : length p.engagers ≡ suc p.setup.question.roads.vertices
+  pub busy : length p.busy ≡ suc (length p.setup.question.roads.arcs)
+  pub told : length p.told ≡ suc (length p.setup.question.roads.arcs)
   pub sent : p.sent ≤ top
   pub delivered : p.delivered ≤ top
   pub signalled : p.signalled ≤ top
@@ -38,10 +39,10 @@ pub record IsFit {S V : Type 0} (p : PartData S V) : Type 0 where
 
 pub stored_fit : {S V : Type 0} (p : PartData S V) (r : Rows V) (n : ℕ) (ns : List ℕ) → IsStored p r n ns → IsFit p
 stored_fit p r n ns D = record {
-  labels = table_long _ r.labels p.labels None (suc p.setup.roads.vertices) D.seen.labels;
-  engagers = table_long _ r.engagers p.engagers None (suc p.setup.roads.vertices) D.seen.engagers;
-  busy = table_long _ r.busy p.busy false (suc (length p.setup.roads.arcs)) D.seen.busy;
-  told = table_long _ r.told p.told None (suc (length p.setup.roads.arcs)) D.seen.told;
+  labels = table_long _ r.labels p.labels None (suc p.setup.question.roads.vertices) D.seen.labels;
+  engagers = table_long _ r.engagers p.engagers None (suc p.setup.question.roads.vertices) D.seen.engagers;
+  busy = table_long _ r.busy p.busy false (suc (length p.setup.question.roads.arcs)) D.seen.busy;
+  told = table_long _ r.told p.told None (suc (length p.setup.question.roads.arcs)) D.seen.told;
   sent = D.tallied.0;
   delivered = D.tallied.1;
   signalled = D.tallied.2;
@@ -53,7 +54,7 @@ unchanged f v x e = λ i b. (elim (put_tells f v x b) as (λ _. f b ≡ put f v 
 
 module _ {V : Type 0} (A : Algebra V) where
   -- an arc that is not listed is not due
-  others_quiet : Lawful A → (N : Network) (v : ℕ) (d : CoreState V) (xs : List ℕ) → IsOutList A N v xs → (b : ℕ) → (Listed A N b xs → ⊥) → is_due A N v d b ≡ false
+  others_quiet : Lawful A → (N : Network) (v : ℕ) (d : CoreState V) (xs : List ℕ) → IsOutList A N v xs → (b : ℕ) → (Contains xs b → ⊥) → is_due A N v d b ≡ false
   others_quiet L N v d xs O b n = elim (due_tells A N L v d b) [ inl k ↦ absurd (n (O.all b k.1)) | inr k ↦ k.0 ]
 
   answer_told : (a : ℕ) (o : Option ℕ) → total is_told (item_of {V = V} a (answer_to o)) ≡ 0
@@ -65,10 +66,10 @@ module _ {S V : Type 0} (A : Algebra V) where
   has_told p T b m n k i = T b (eqb-true _ _ m) n i
 
   -- the arcs out of a vertex are within the tables
-  out_within : (p : PartData S V) → WellFormed (network_in p.setup) → IsFit p → (v : ℕ) → v ≢ 0 → (b : ℕ) → Listed A (network_in p.setup) b (outgoing (network_in p.setup) v) → (b < length p.told) × (b < length p.busy)
+  out_within : (p : PartData S V) → WellFormed (network_in p.setup) → IsFit p → (v : ℕ) → v ≢ 0 → (b : ℕ) → Contains (outgoing (network_in p.setup) v) b → (b < length p.told) × (b < length p.busy)
   out_within p W F v n b l =
       let t : (network_in p.setup).tail b ≡ v = (outgoing_is A (network_in p.setup) W v n).only b l in
-      let r : b ≤ length p.setup.roads.arcs = W.real b (λ z. n (sym t ∙ z)) in
+      let r : b ≤ length p.setup.question.roads.arcs = W.real b (λ z. n (sym t ∙ z)) in
       let e = F.told in
       let f = F.busy in
       (omega (arith, r, e), omega (arith, r, f))
@@ -80,8 +81,8 @@ module _ {S V : Type 0} (A : Algebra V) where
       (λ j. get_or es j None) ≡ put (state_in p).engager ((network_in p.setup).head a) (engaged_by o a) →
       record { queue = qs; outs = os } ≡ routes (network_in p.setup) (place_in p.setup) p.shard (item_of {V = V} a (answer_to o)) (lanes_of p) →
       m ≡ counted_on (total is_back (item_of {V = V} a (answer_to o))) p.signalled →
-      IsDistinct A (network_in p.setup) xs → ((b : ℕ) → Listed A (network_in p.setup) b xs → (b < length p.told) × (b < length p.busy)) →
-      ((b : ℕ) → (Listed A (network_in p.setup) b xs → ⊥) → is_due A (network_in p.setup) ((network_in p.setup).head a) (arrive_here A (network_in p.setup) a x (state_in p)) b ≡ false) →
+      IsDistinct A (network_in p.setup) xs → ((b : ℕ) → Contains xs b → (b < length p.told) × (b < length p.busy)) →
+      ((b : ℕ) → (Contains xs b → ⊥) → is_due A (network_in p.setup) ((network_in p.setup).head a) (arrive_here A (network_in p.setup) a x (state_in p)) b ≡ false) →
       pump_made A (network_in p.setup) ((network_in p.setup).head a) (arrive_here A (network_in p.setup) a x (state_in p)) (outgoing (network_in p.setup) ((network_in p.setup).head a))
       ≡ pump_made A (network_in p.setup) ((network_in p.setup).head a) (arrive_here A (network_in p.setup) a x (state_in p)) xs →
       Made A (taken A (network_in p.setup) (MessageOn a x) (state_in p)) (made A (network_in p.setup) (MessageOn a x) (state_in p)) p
@@ -95,7 +96,7 @@ module _ {S V : Type 0} (A : Algebra V) where
       engager ∙ ap (λ u. put (state_in p).engager ((network_in p.setup).head a) (engaged_by u a)) (sym e) in
       let here : state_in p2 ≡ arrive_here A N a x (state_in p) = λ i. record { label = label i; engager = engages_or_answers i; token = (state_in p).token; told = (state_in p).told } in
       let R = settles A v xs (outgoing N v) p2 F.sent top_m long D within
-      (subst (λ d. (b : ℕ) → (Listed A N b xs → ⊥) → is_due A N v d b ≡ false) (sym here) quiet)
+      (subst (λ d. (b : ℕ) → (Contains xs b → ⊥) → is_due A N v d b ≡ false) (sym here) quiet)
       (subst (λ d. pump_made A N v d (outgoing N v) ≡ pump_made A N v d xs) (sym here) same) in
       let T : Made A (settle_here A N v (arrive_here A N a x (state_in p))) (settle_made A N v (arrive_here A N a x (state_in p)) (outgoing N v)) p2 q =
       subst (λ d. Made A (settle_here A N v d) (settle_made A N v d (outgoing N v)) p2 q) here R in
@@ -104,7 +105,7 @@ module _ {S V : Type 0} (A : Algebra V) where
       (sym (counted_none p.sent F.sent) ∙ ap (λ k. counted_on k p.sent) (sym (answer_told A a o))) back T)
 
   pub message_taken : Lawful A → (p : PartData S V) (a : ℕ) (x : V) → WellFormed (network_in p.setup) → IsFit p → OwnIdleIsTold p → place_in p.setup ((network_in p.setup).head a) ≡ p.shard →
-      (network_in p.setup).head a ≢ 0 → (network_in p.setup).head a ≤ p.setup.roads.vertices →
+      (network_in p.setup).head a ≢ 0 → (network_in p.setup).head a ≤ p.setup.question.roads.vertices →
       Made A (taken A (network_in p.setup) (MessageOn a x) (state_in p)) (made A (network_in p.setup) (MessageOn a x) (state_in p)) p (with_value A a x ((network_in p.setup).head a) p)
   message_taken L p a x W F T here n within = go (improves A x ((state_in p).label v)) refl ((state_in p).engager v) refl
     where
@@ -150,11 +151,11 @@ module _ {S V : Type 0} (A : Algebra V) where
       go false t None e = subst (λ u. Made A (taken A N (MessageOn a x) (state_in p)) (made A N (MessageOn a x) (state_in p)) p (rested A v u)) (offered_none A v (record p { engagers = set p.engagers v (Some a) }))
           (arrived L p a x None p.labels (set p.engagers v (Some a)) p.queue p.outs p.signalled [] F F.signalled
           (let l = length-set p.engagers v (Some a) in omega (arith, l, long_e)) e (old_label t) (put_set p.engagers v (Some a) None long_e) refl (sym (counted_none p.signalled F.signalled))
-          tt (λ b l. absurd l) (λ b _. quiet t b) (made_nothing A N v (arrive_here A N a x (state_in p)) (outgoing N v) (λ b _. quiet t b)))
+          tt (λ b l. absurd (contains_none b l)) (λ b _. quiet t b) (made_nothing A N v (arrive_here A N a x (state_in p)) (outgoing N v) (λ b _. quiet t b)))
       go false t (Some f) e = subst (λ u. Made A (taken A N (MessageOn a x) (state_in p)) (made A N (MessageOn a x) (state_in p)) p (rested A v u)) (offered_none A v (record p { queue = answered.queue; outs = answered.outs; signalled = counted_on 1 p.signalled }))
           (arrived L p a x (Some f) p.labels p.engagers answered.queue answered.outs (counted_on 1 p.signalled) [] F (counted_top 1 p.signalled)
           long_e e (old_label t) (unchanged (state_in p).engager v (Some f) e) refl refl
-          tt (λ b l. absurd l) (λ b _. quiet t b) (made_nothing A N v (arrive_here A N a x (state_in p)) (outgoing N v) (λ b _. quiet t b)))
+          tt (λ b l. absurd (contains_none b l)) (λ b _. quiet t b) (made_nothing A N v (arrive_here A N a x (state_in p)) (outgoing N v) (λ b _. quiet t b)))
 
   offered_alone : (v b : ℕ) (p : PartData S V) → offered_all A v (b ∷ []) p ≡ offered A v b p
   unfolding offered_all
@@ -172,7 +173,7 @@ module _ {S V : Type 0} (A : Algebra V) where
   }
 
   pub signal_taken : Lawful A → (p : PartData S V) (a : ℕ) → WellFormed (network_in p.setup) → IsFit p → OwnIdleIsTold p → place_in p.setup ((network_in p.setup).tail a) ≡ p.shard →
-      (a ≢ 0 → (network_in p.setup).tail a ≢ 0) → (network_in p.setup).tail a ≤ p.setup.roads.vertices →
+      (a ≢ 0 → (network_in p.setup).tail a ≢ 0) → (network_in p.setup).tail a ≤ p.setup.question.roads.vertices →
       Made A (taken A (network_in p.setup) (SignalOn a) (state_in p)) (made A (network_in p.setup) (SignalOn a) (state_in p)) p (with_free A a ((network_in p.setup).tail a) p)
   signal_taken L p zero W F T here n within =
       let e = free_is p 0 (let b = F.busy in omega (arith, b)) in record {
@@ -195,9 +196,9 @@ module _ {S V : Type 0} (A : Algebra V) where
       let in_told : suc k < length p.told = (out_within p W F v nz (suc k) (O.all (suc k) refl)).0 in
       let e = free_is p (suc k) in_busy in
       let quiet : (b : ℕ) → b ≢ suc k → is_due A N v (freed A N (suc k) (state_in p)) b ≡ false = quiet_signal A N L (mine (place_in p.setup) p.shard) (suc k) (state_in p) (eq-eqb _ _ here) nz (has_told p T) in
-      let R = settles A v (suc k ∷ []) (outgoing N v) p1 F.sent F.signalled (let l = F.engagers in omega (arith, l, within)) ((λ l. l), tt)
-      (λ b l. elim l [ inl q ↦ (let s = length-set p.busy (suc k) false in (omega (arith, q, in_told), omega (arith, q, s, in_busy))) | inr z ↦ absurd z ])
-      (subst (λ s. (b : ℕ) → (Listed A N b (suc k ∷ []) → ⊥) → is_due A N v s b ≡ false) (sym e) (λ b m. quiet b (λ q. m (inl q))))
+      let R = settles A v (suc k ∷ []) (outgoing N v) p1 F.sent F.signalled (let l = F.engagers in omega (arith, l, within)) (contains_none (suc k), tt)
+      (λ b l. elim (contains_cases b (suc k) [] l) [ inl q ↦ (let s = length-set p.busy (suc k) false in (omega (arith, q, in_told), omega (arith, q, s, in_busy))) | inr z ↦ absurd (contains_none b z) ])
+      (subst (λ s. (b : ℕ) → (Contains (suc k ∷ []) b → ⊥) → is_due A N v s b ≡ false) (sym e) (λ b m. quiet b (λ q. m (contains_first b (suc k) [] q))))
       (subst (λ s. pump_made A N v s (outgoing N v) ≡ pump_made A N v s (suc k ∷ [])) (sym e) (made_alone A N v (suc k) (freed A N (suc k) (state_in p)) (outgoing N v) O.distinct (O.all (suc k) refl) quiet)) in
       let M : Made A (settle_here A N v (freed A N (suc k) (state_in p))) (settle_made A N v (freed A N (suc k) (state_in p)) (outgoing N v)) p1 (rested A v (offered_all A v (suc k ∷ []) p1)) =
       subst (λ s. Made A (settle_here A N v s) (settle_made A N v s (outgoing N v)) p1 (rested A v (offered_all A v (suc k ∷ []) p1))) e R in
@@ -205,18 +206,18 @@ module _ {S V : Type 0} (A : Algebra V) where
       subst (λ u. Made A (settle_here A N v (freed A N (suc k) (state_in p))) (settle_made A N v (freed A N (suc k) (state_in p)) (outgoing N v)) p1 (rested A v u)) (offered_alone v (suc k) p1) M in
       record { setup = Q.setup; shard = Q.shard; tables = Q.tables; lanes = Q.lanes; sent = Q.sent; signalled = Q.signalled; delivered = Q.delivered; accepted = Q.accepted }
 
-  head_within : (p : PartData S V) → IsPlanned p.setup p.shard → (a : ℕ) → IsArc (network_in p.setup) a → (network_in p.setup).head a ≤ p.setup.roads.vertices
+  head_within : (p : PartData S V) → IsPlanned p.setup p.shard → (a : ℕ) → IsArc (network_in p.setup) a → (network_in p.setup).head a ≤ p.setup.question.roads.vertices
   head_within p P zero r = let e = head_of_entry p.setup P.source in let s = P.source.1 in omega (arith, e, s)
   head_within p P (suc k) r = (head_of_arc p.setup P.roads (suc k) (λ z. omega (arith, z)) r).2
 
-  tail_within : (p : PartData S V) → IsPlanned p.setup p.shard → (a : ℕ) → IsArc (network_in p.setup) a → (network_in p.setup).tail a ≤ p.setup.roads.vertices
+  tail_within : (p : PartData S V) → IsPlanned p.setup p.shard → (a : ℕ) → IsArc (network_in p.setup) a → (network_in p.setup).tail a ≤ p.setup.question.roads.vertices
   tail_within p P zero r = let e = tail_of_entry p.setup in omega (arith, e)
   tail_within p P (suc k) r = (tail_of_arc p.setup P.roads (suc k) (λ z. omega (arith, z)) r).2
 
   -- the item i is taken, where zs stood behind it
-  took : Lawful A → (p : PartData S V) (i : Item V) (zs : List (Item V)) → IsPlanned p.setup p.shard → IsFit p → OwnIdleIsTold p → p.queue ≡ i ∷ zs → IsArc (network_in p.setup) (item_arc i) →
-      place_in p.setup (vertex_of (network_in p.setup) i) ≡ p.shard → TookIn A (network_in p.setup) (place_in p.setup) p i (with_taken A i (record p { queue = zs }))
-  took L p (MessageOn a x) zs P F T front r here =
+  handled : Lawful A → (p : PartData S V) (i : Item V) (zs : List (Item V)) → IsPlanned p.setup p.shard → IsFit p → OwnIdleIsTold p → p.queue ≡ i ∷ zs → IsArc (network_in p.setup) (item_arc i) →
+      place_in p.setup (vertex_of (network_in p.setup) i) ≡ p.shard → HandledItemIn A (network_in p.setup) (place_in p.setup) p i (with_taken A i (record p { queue = zs }))
+  handled L p (MessageOn a x) zs P F T front r here =
       let p0 : PartData S V = record p { queue = zs; delivered = counted_on 1 p.delivered } in
       let M = message_taken L p0 a x (formed p p.shard P) (record { labels = F.labels; engagers = F.engagers; busy = F.busy; told = F.told; sent = F.sent; delivered = counted_top 1 p.delivered; signalled = F.signalled; accepted = F.accepted }) T here r.0 (head_within p P a r) in
       record {
@@ -231,7 +232,7 @@ module _ {S V : Type 0} (A : Algebra V) where
         delivered = M.delivered;
         accepted = M.accepted ∙ sym (counted_none p.accepted F.accepted);
       }
-  took L p (SignalOn a) zs P F T front r here =
+  handled L p (SignalOn a) zs P F T front r here =
       let p0 : PartData S V = record p { queue = zs; accepted = counted_on 1 p.accepted } in
       let M = signal_taken L p0 a (formed p p.shard P) (record { labels = F.labels; engagers = F.engagers; busy = F.busy; told = F.told; sent = F.sent; delivered = F.delivered; signalled = F.signalled; accepted = counted_top 1 p.accepted }) T here r.1 (tail_within p P a r) in
       record {
@@ -248,10 +249,10 @@ module _ {S V : Type 0} (A : Algebra V) where
       }
 
   -- the front item was taken off the queue, and did what it does
-  pub popped_taken : Lawful A → (p m q : PartData S V) (i : Item V) → IsPlanned p.setup p.shard → IsFit p → OwnIdleIsTold p → IsPopped p m i → q ≡ with_taken A i m → TookIn A (network_in p.setup) (place_in p.setup) p i q
+  pub popped_taken : Lawful A → (p m q : PartData S V) (i : Item V) → IsPlanned p.setup p.shard → IsFit p → OwnIdleIsTold p → IsPopped p m i → q ≡ with_taken A i m → HandledItemIn A (network_in p.setup) (place_in p.setup) p i q
   popped_taken L p m q i P F T O e =
       let s : m.setup ≡ p.setup = ap (λ (u : PartData S V). u.setup) O.same in
       let z : m.shard ≡ p.shard = ap (λ (u : PartData S V). u.shard) O.same in
       let r : IsArc (network_in p.setup) (item_arc i) = subst (λ (t : Setup S). IsArc (network_in t) (item_arc i)) s O.arc in
       let here : place_in p.setup (vertex_of (network_in p.setup) i) ≡ p.shard = subst (λ (t : Setup S). place_in t (vertex_of (network_in t) i) ≡ p.shard) s (O.here ∙ z) in
-      subst (TookIn A (network_in p.setup) (place_in p.setup) p i) (ap (with_taken A i) (sym O.same) ∙ sym e) (took L p i m.queue P F T O.front r here)
+      subst (HandledItemIn A (network_in p.setup) (place_in p.setup) p i) (ap (with_taken A i) (sym O.same) ∙ sym e) (handled L p i m.queue P F T O.front r here)

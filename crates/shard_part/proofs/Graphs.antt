@@ -1,44 +1,31 @@
 -- What the graph and the plan say of the network's arcs and places.
-use Rattle.std.proofs.Common.{◌≡◌, ◌≢◌, ℕ, zero, suc, ◌+◌, ◌-◌, ◌<◌, ◌≤◌, List, [], ◌∷◌, length, get_or, take, ◌⊎◌, refl, sym, ap, ◌∙◌, subst, inl, inr, arith}
+use Rattle.std.proofs.Common.{◌≡◌, ◌≢◌, ℕ, zero, suc, ◌+◌, ◌-◌, ◌<◌, ◌≤◌, List, length, get_or, take, ◌⊎◌, refl, sym, ap, ◌∙◌, subst, inl, inr, arith, Contains}
+use Rattle.std.proofs.lemmas.Grind.{get_or_default_zero}
 use Rattle.std.proofs.lemmas.List.{get_or_read, get_or-map, length-map}
-use Rattle.path_algebra.specs.Algebra.{Algebra}
 use Rattle.road_graph.specs.Roads.{Roads, IsRoads, HasVertex, HasArc, ListsArcsFrom, ListsRoadsFrom, arc_of, road_of, roads_of}
 use Rattle.road_graph.specs.declared.OutRoad.{OutRoad}
-use Rattle.scholten_core.specs.Network.{Network, network}
-use Rattle.scholten_core.specs.Diffusion.{Listed}
+use Rattle.scholten_core.specs.Network.{network}
 use Rattle.scholten_core.proofs.Networks.{out_of, real_arc, tail-arc, head-arc, tail-entry, head-entry}
+use Rattle.scholten_core.proofs.Contained.{contains_at, contains_from}
 use Rattle.shard_part.specs.Plans.{shard_in, HasPlanned}
 use Rattle.shard_part.specs.PartState.{Setup, PartData, network_in, place_in, outgoing, IsArc, own_in, arcs_out}
 use Rattle.shard_part.specs.Moves.{Rows, IsStored, IsPlace, IsRow}
-use Rattle.shard_part.specs.Tables.{Rises, StandsIn}
-use Rattle.shard_part.proofs.Ascending.{arcs_are, rising, from_none}
-use Rattle.shard_part.proofs.Places.{arc_at_place, own_rises, own_all}
+use Rattle.std.specs.List.Sorted.{IsStrictlyIncreasing}
+use Rattle.shard_part.proofs.Ascending.{arcs_are}
+use Rattle.shard_part.proofs.Places.{arc_at_place, own_increasing, own_all}
 use Rattle.std.proofs.lemmas.Bool.{cases_eq}
 
-module _ {V : Type 0} (A : Algebra V) (N : Network) where
-  pub listed_in : (b : ℕ) (xs : List ℕ) → Listed A N b xs → (j : ℕ) × (j < length xs) × (get_or xs j 0 ≡ b)
-  listed_in b [] l = absurd l
-  listed_in b (x ∷ xs) l = elim l [
-    | inl e ↦ (0, (let z : 0 < suc (length xs) = omega arith in z), sym e)
-    | inr m ↦ (let r = listed_in b xs m in (suc r.0, (let z = r.1 in omega (arith, z)), r.2))
-  ]
-
-  pub in_listed : (b : ℕ) (xs : List ℕ) (j : ℕ) → j < length xs → get_or xs j 0 ≡ b → Listed A N b xs
-  in_listed b [] j l e = absurd (omega arith)
-  in_listed b (x ∷ xs) zero l e = inl (sym e)
-  in_listed b (x ∷ xs) (suc j) l e = inr (in_listed b xs j (omega arith) e)
-
 -- the graph's list of the arcs out of v is the one list
-pub out_is : {V : Type 0} (A : Algebra V) (g : Roads) (s v : ℕ) (xs : List ℕ) → 1 ≤ v → ListsArcsFrom g v xs → xs ≡ outgoing (network g s) v
-out_is A g s v xs l o =
+pub out_is : (g : Roads) (s v : ℕ) (xs : List ℕ) → 1 ≤ v → ListsArcsFrom g v xs → xs ≡ outgoing (network g s) v
+out_is g s v xs l o =
     let O = out_of g s v xs l o in
-    arcs_are A (network g s) v 0 (suc (length g.arcs)) xs (from_none 0 xs (rising 0 xs o.ascending))
-    (λ b m. let r = listed_in A (network g s) b xs m in (ap (network g s).tail (sym r.2) ∙ O.tail r.0 r.1, (let h = O.high r.0 r.1 in let e = r.2 in omega (arith, h, e))))
-    (λ b t h k. let r = O.all b t in in_listed A (network g s) b xs r.0 r.1 r.2)
+    arcs_are (network g s) v 0 (suc (length g.arcs)) 0 xs o.ascending
+    (λ b m. let r = contains_at b xs m in (ap (network g s).tail (sym r.2) ∙ O.tail r.0 r.1, omega arith, (let h = O.high r.0 r.1 in let e = r.2 in omega (arith, h, e))))
+    (λ b t h k. let r = O.all b t in contains_from b xs r.0 r.1 r.2)
 
 -- its list of heads and weights has those of these arcs, in the same order
-pub roads_are : {V : Type 0} (A : Algebra V) (g : Roads) (s v : ℕ) (rs : List OutRoad) → 1 ≤ v → ListsRoadsFrom g v rs → rs ≡ roads_of g (outgoing (network g s) v)
-roads_are A g s v rs l o = o.2 ∙ ap (roads_of g) (out_is A g s v o.0 l o.1)
+pub roads_are : (g : Roads) (s v : ℕ) (rs : List OutRoad) → 1 ≤ v → ListsRoadsFrom g v rs → rs ≡ roads_of g (outgoing (network g s) v)
+roads_are g s v rs l o = o.2 ∙ ap (roads_of g) (out_is g s v o.0 l o.1)
 
 pub road_is : (g : Roads) (s v k b : ℕ) (rs : List OutRoad) (d : OutRoad) → rs ≡ roads_of g (outgoing (network g s) v) → k < length (outgoing (network g s) v) → get_or (outgoing (network g s) v) k 0 ≡ b → (k < length rs) × (get_or rs k d ≡ road_of (arc_of g b))
 road_is g s v k b rs d e l h = (
@@ -52,33 +39,33 @@ module _ {S : Type 0} (t : Setup S) where
   place_vertex zero l = absurd (omega arith)
   place_vertex (suc v) l = let e : suc v - 1 ≡ v = omega arith in ap (λ k. get_or t.plan.list k 0) (sym e)
 
-  pub place_entry : 1 ≤ t.source → place_in t 0 ≡ shard_in t.plan t.source
+  pub place_entry : 1 ≤ t.question.source → place_in t 0 ≡ shard_in t.plan t.question.source
   unfolding place_in
   place_entry l = refl
 
   -- the place of the vertex that stands for it
-  pub placed_as : (v w : ℕ) → 1 ≤ t.source → ((v ≡ 0) × (w ≡ t.source)) ⊎ ((1 ≤ v) × (w ≡ v)) → place_in t v ≡ shard_in t.plan w
+  pub placed_as : (v w : ℕ) → 1 ≤ t.question.source → ((v ≡ 0) × (w ≡ t.question.source)) ⊎ ((1 ≤ v) × (w ≡ v)) → place_in t v ≡ shard_in t.plan w
   placed_as v w l h = elim h [
     | inl k ↦ ap (place_in t) k.0 ∙ place_entry l ∙ ap (shard_in t.plan) (sym k.1)
     | inr k ↦ place_vertex v k.0 ∙ ap (shard_in t.plan) (sym k.1)
   ]
 
-  pub graph_arc : (b : ℕ) → b ≢ 0 → IsArc (network_in t) b → HasArc t.roads b
-  graph_arc b n r = real_arc t.roads b (r.1 n)
+  pub graph_arc : (b : ℕ) → b ≢ 0 → IsArc (network_in t) b → HasArc t.question.roads b
+  graph_arc b n r = real_arc t.question.roads b (r.1 n)
 
-  pub head_of_arc : IsRoads t.roads → (b : ℕ) → b ≢ 0 → IsArc (network_in t) b → ((network_in t).head b ≡ (arc_of t.roads b).head) × (1 ≤ (network_in t).head b) × ((network_in t).head b ≤ t.roads.vertices)
-  head_of_arc R b n r = let h = graph_arc b n r in let e = head-arc t.roads t.source b h.0 in let j = (R.ends b h).1 in
+  pub head_of_arc : IsRoads t.question.roads → (b : ℕ) → b ≢ 0 → IsArc (network_in t) b → ((network_in t).head b ≡ (arc_of t.question.roads b).head) × (1 ≤ (network_in t).head b) × ((network_in t).head b ≤ t.question.roads.vertices)
+  head_of_arc R b n r = let h = graph_arc b n r in let e = head-arc t.question.roads t.question.source b h.0 in let j = (R.ends b h).1 in
       (e, (let a = j.0 in omega (arith, e, a)), (let a = j.1 in omega (arith, e, a)))
 
-  pub tail_of_arc : IsRoads t.roads → (b : ℕ) → b ≢ 0 → IsArc (network_in t) b → ((network_in t).tail b ≡ (arc_of t.roads b).tail) × (1 ≤ (network_in t).tail b) × ((network_in t).tail b ≤ t.roads.vertices)
-  tail_of_arc R b n r = let h = graph_arc b n r in let e = tail-arc t.roads b h.0 in let j = (R.ends b h).0 in
+  pub tail_of_arc : IsRoads t.question.roads → (b : ℕ) → b ≢ 0 → IsArc (network_in t) b → ((network_in t).tail b ≡ (arc_of t.question.roads b).tail) × (1 ≤ (network_in t).tail b) × ((network_in t).tail b ≤ t.question.roads.vertices)
+  tail_of_arc R b n r = let h = graph_arc b n r in let e = tail-arc t.question.roads b h.0 in let j = (R.ends b h).0 in
       (e, (let a = j.0 in omega (arith, e, a)), (let a = j.1 in omega (arith, e, a)))
 
-  pub head_of_entry : HasVertex t.roads t.source → ((network_in t).head 0 ≡ t.source)
-  head_of_entry h = head-entry t.roads t.source
+  pub head_of_entry : HasVertex t.question.roads t.question.source → ((network_in t).head 0 ≡ t.question.source)
+  head_of_entry h = head-entry t.question.roads t.question.source
 
   pub tail_of_entry : (network_in t).tail 0 ≡ 0
-  tail_of_entry = tail-entry t.roads
+  tail_of_entry = tail-entry t.question.roads
 
 module _ {S V : Type 0} where
   -- where the arcs of a place begin
@@ -96,11 +83,12 @@ module _ {S V : Type 0} where
         }),
       )
 
-  pub own_rising : (p old : PartData S V) (r : Rows V) (n : ℕ) (ns : List ℕ) (xs : List ℕ) (v : ℕ) → p ≡ old → IsStored p r n ns → xs ≡ r.own → v ≤ old.setup.roads.vertices → (v ≢ 0 → place_in old.setup v ≡ old.shard) → Rises xs × StandsIn xs v
+  pub own_rising : (p old : PartData S V) (r : Rows V) (n : ℕ) (ns : List ℕ) (xs : List ℕ) (v : ℕ) → p ≡ old → IsStored p r n ns → xs ≡ r.own → v ≤ old.setup.question.roads.vertices → (v ≢ 0 → place_in old.setup v ≡ old.shard) → IsStrictlyIncreasing xs × Contains xs v
   own_rising p old r n ns xs v e D x l h =
-      subst (λ ys. Rises ys × StandsIn ys v) (sym (x ∙ D.sized.own)) (
-        own_rises p.setup p.shard,
-        own_all p.setup p.shard v (subst (λ (u : PartData S V). v ≤ u.setup.roads.vertices) (sym e) l) (subst (λ (u : PartData S V). v ≢ 0 → place_in u.setup v ≡ u.shard) (sym e) h),
+      let A = own_all p.setup p.shard v (subst (λ (u : PartData S V). v ≤ u.setup.question.roads.vertices) (sym e) l) (subst (λ (u : PartData S V). v ≢ 0 → place_in u.setup v ≡ u.shard) (sym e) h) in
+      subst (λ ys. IsStrictlyIncreasing ys × Contains ys v) (sym (x ∙ D.sized.own)) (
+        own_increasing p.setup p.shard,
+        (A.0, A.1, get_or_default_zero (own_in p.setup p.shard) A.0 v A.1 ∙ A.2),
       )
 
   pub place_leaves : (p old : PartData S V) (r : Rows V) (n : ℕ) (ns : List ℕ) (xs : List ℕ) (v j : ℕ) → p ≡ old → IsStored p r n ns → xs ≡ r.own → j < length xs → get_or xs j 0 ≡ v → IsPlace old v j
@@ -110,30 +98,30 @@ module _ {S V : Type 0} where
   })
 
   -- the head and the tail of an arc, the environment's among them
-  pub arc_in_graph : (p old : PartData S V) (r : Rows V) (n : ℕ) (ns : List ℕ) (a : ℕ) → p ≡ old → IsStored p r n ns → IsArc (network_in old.setup) a → a ≢ 0 → HasArc p.setup.roads a
+  pub arc_in_graph : (p old : PartData S V) (r : Rows V) (n : ℕ) (ns : List ℕ) (a : ℕ) → p ≡ old → IsStored p r n ns → IsArc (network_in old.setup) a → a ≢ 0 → HasArc p.setup.question.roads a
   arc_in_graph p old r n ns a e D h nz = graph_arc p.setup a nz (subst (λ (u : PartData S V). IsArc (network_in u.setup) a) (sym e) h)
 
   -- an arc is the environment's, or one of the graph's
-  pub arc_within : (p old : PartData S V) (a : ℕ) → p ≡ old → IsArc (network_in old.setup) a → a ≤ length p.setup.roads.arcs
+  pub arc_within : (p old : PartData S V) (a : ℕ) → p ≡ old → IsArc (network_in old.setup) a → a ≤ length p.setup.question.roads.arcs
   arc_within p old a e h = elim (cases_eq a 0) [
     | inl z ↦ (omega (arith, z))
     | inr n ↦ (graph_arc p.setup a n (subst (λ (u : PartData S V). IsArc (network_in u.setup) a) (sym e) h)).1
   ]
 
   pub head_arc_is : (p old : PartData S V) (r : Rows V) (n : ℕ) (ns : List ℕ) (a : ℕ) → p ≡ old → IsStored p r n ns → IsArc (network_in old.setup) a → a ≢ 0 →
-      ((arc_of p.setup.roads a).head ≡ (network_in old.setup).head a) × (1 ≤ (arc_of p.setup.roads a).head) × ((arc_of p.setup.roads a).head ≤ old.setup.roads.vertices)
+      ((arc_of p.setup.question.roads a).head ≡ (network_in old.setup).head a) × (1 ≤ (arc_of p.setup.question.roads a).head) × ((arc_of p.setup.question.roads a).head ≤ old.setup.question.roads.vertices)
   head_arc_is p old r n ns a e D h nz =
       let g = arc_in_graph p old r n ns a e D h nz in let j = (D.planned.roads.ends a g).1 in
-      (sym (head-arc p.setup.roads p.setup.source a g.0) ∙ ap (λ (u : PartData S V). (network_in u.setup).head a) e, j.0, subst (λ (u : PartData S V). (arc_of p.setup.roads a).head ≤ u.setup.roads.vertices) e j.1)
+      (sym (head-arc p.setup.question.roads p.setup.question.source a g.0) ∙ ap (λ (u : PartData S V). (network_in u.setup).head a) e, j.0, subst (λ (u : PartData S V). (arc_of p.setup.question.roads a).head ≤ u.setup.question.roads.vertices) e j.1)
 
   -- the head of an arc, as the graph tells it
-  pub head_told : (p old : PartData S V) (r : Rows V) (n : ℕ) (ns : List ℕ) (b w : ℕ) → p ≡ old → IsStored p r n ns → IsArc (network_in old.setup) b → b ≢ 0 → w ≡ (arc_of old.setup.roads b).head →
+  pub head_told : (p old : PartData S V) (r : Rows V) (n : ℕ) (ns : List ℕ) (b w : ℕ) → p ≡ old → IsStored p r n ns → IsArc (network_in old.setup) b → b ≢ 0 → w ≡ (arc_of old.setup.question.roads b).head →
       (w ≡ (network_in old.setup).head b) × HasPlanned p.setup.plan w
   head_told p old r n ns b w e D h nz is =
       let H = head_arc_is p old r n ns b e D h nz in
-      let q : w ≡ (arc_of p.setup.roads b).head = is ∙ ap (λ (u : PartData S V). (arc_of u.setup.roads b).head) (sym e) in
-      let v = ap (λ (u : PartData S V). u.setup.roads.vertices) e in let k = D.planned.covers in let low = H.1 in let high = H.2 in
+      let q : w ≡ (arc_of p.setup.question.roads b).head = is ∙ ap (λ (u : PartData S V). (arc_of u.setup.question.roads b).head) (sym e) in
+      let v = ap (λ (u : PartData S V). u.setup.question.roads.vertices) e in let k = D.planned.covers in let low = H.1 in let high = H.2 in
       (q ∙ H.0, ((omega (arith, q, low)), (omega (arith, q, high, v, k))))
 
-  pub shard_is : (p old : PartData S V) (r : Rows V) (n : ℕ) (ns : List ℕ) (v w : ℕ) → p ≡ old → IsStored p r n ns → ((v ≡ 0) × (w ≡ p.setup.source)) ⊎ ((1 ≤ v) × (w ≡ v)) → shard_in p.setup.plan w ≡ place_in old.setup v
+  pub shard_is : (p old : PartData S V) (r : Rows V) (n : ℕ) (ns : List ℕ) (v w : ℕ) → p ≡ old → IsStored p r n ns → ((v ≡ 0) × (w ≡ p.setup.question.source)) ⊎ ((1 ≤ v) × (w ≡ v)) → shard_in p.setup.plan w ≡ place_in old.setup v
   shard_is p old r n ns v w e D h = sym (placed_as p.setup v w D.planned.source.0 h) ∙ ap (λ (u : PartData S V). place_in u.setup v) e

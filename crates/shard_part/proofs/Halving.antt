@@ -1,23 +1,62 @@
--- A list that rises is halved until one place is left, or its ends tell the place.
-use Rattle.std.proofs.Common.{◌≡◌, ℕ, zero, suc, ◌+◌, ◌-◌, ◌<◌, ◌≤◌, List, length, get_or, ap, ◌∙◌, arith}
-use Rattle.shard_part.specs.Tables.{Rises, StandsIn}
+-- An increasing list is halved until one place is left, or its ends tell the place.
+use Rattle.std.proofs.Common.{◌≡◌, ℕ, zero, suc, ◌+◌, ◌-◌, ◌<◌, ◌≤◌, List, length, get_or, sym, ap, ◌∙◌, inl, inr, arith}
+use Rattle.std.specs.Prelude.{Contains}
+use Rattle.std.specs.List.Sorted.{IsStrictlyIncreasing}
+use Rattle.std.proofs.lemmas.Bool.{cases_lt}
+use Rattle.std.proofs.lemmas.Grind.{get_or_default_zero}
+use Rattle.std.proofs.lemmas.List.Kept.{AllPairs-from_increasing}
 
 -- v is at low or later, and before high
 abbrev pub IsBetween : List ℕ → ℕ → ℕ → ℕ → Type 0
 IsBetween xs v low high = (j : ℕ) × (j < length xs) × (get_or xs j 0 ≡ v) × (low ≤ j) × (j < high) × (high ≤ length xs)
 
+pub between_ends : (xs : List ℕ) (v : ℕ) → Contains xs v → IsBetween xs v 0 (length xs)
+between_ends xs v (j, l, e) = (j, l, sym (get_or_default_zero xs j v l) ∙ e, omega arith, l, omega arith)
+
+-- where the number in the middle is no greater, v is there or later, and else before
+pub from_middle : (xs : List ℕ) (v low high m : ℕ) → IsStrictlyIncreasing xs → IsBetween xs v low high → get_or xs m 0 ≤ v → m < length xs → IsBetween xs v m high
+from_middle xs v low high m h (j, l, e, a, b, n) le within = (j, l, e, later, b, n)
+  where
+    later : m ≤ j
+    later = elim (cases_lt j m) [
+      | inl less ↦ absurd (let r = AllPairs-from_increasing xs h j m 0 less within in omega (arith, r, e, le))
+      | inr most ↦ most
+    ]
+
+pub to_middle : (xs : List ℕ) (v low high m : ℕ) → IsStrictlyIncreasing xs → IsBetween xs v low high → v < get_or xs m 0 → m < length xs → IsBetween xs v low m
+to_middle xs v low high m h (j, l, e, a, b, n) more within = (j, l, e, a, earlier, omega (arith, within))
+  where
+    earlier : j < m
+    earlier = elim (cases_lt j m) [
+      | inl less ↦ less
+      | inr most ↦ absurd (elim (cases_lt m j) [
+        | inl less ↦ (let r = AllPairs-from_increasing xs h m j 0 less l in omega (arith, r, e, more))
+        | inr same ↦ (let q : j ≡ m = omega (arith, most, same) in let r = ap (λ k. get_or xs k 0) q in omega (arith, r, e, more))
+      ])
+    ]
+
 -- d places later it is higher by d at least
-climbs : (xs : List ℕ) → Rises xs → (i d j : ℕ) → i + d ≡ j → j < length xs → get_or xs i 0 + d ≤ get_or xs j 0
+climbs : (xs : List ℕ) → IsStrictlyIncreasing xs → (i d j : ℕ) → i + d ≡ j → j < length xs → get_or xs i 0 + d ≤ get_or xs j 0
 climbs xs h i zero j e l = let q : i ≡ j = omega (arith, e) in let r = ap (λ k. get_or xs k 0) q in omega (arith, r)
 climbs xs h i (suc d) zero e l = absurd (omega (arith, e))
 climbs xs h i (suc d) (suc j) e l =
-    let r = climbs xs h i d j (omega (arith, e)) (omega (arith, l)) in let s = h j (suc j) (omega arith) l in omega (arith, r, s)
+    let r = climbs xs h i d j (omega (arith, e)) (omega (arith, l)) in let s = AllPairs-from_increasing xs h j (suc j) 0 (omega arith) l in omega (arith, r, s)
+
+-- place 1 is no higher than the last, and neither is any number of the list
+pub ends_rise : (xs : List ℕ) (last : ℕ) → IsStrictlyIncreasing xs → last + 1 ≡ length xs → 1 ≤ last → get_or xs 1 0 ≤ get_or xs last 0
+ends_rise xs last h n low = let r = climbs xs h 1 (last - 1) last (omega (arith, low)) (omega (arith, n)) in omega (arith, r)
+
+pub most_is_last : (xs : List ℕ) (v last : ℕ) → IsStrictlyIncreasing xs → Contains xs v → last + 1 ≡ length xs → v ≤ get_or xs last 0
+most_is_last xs v last h (j, l, e) n =
+    let q = get_or_default_zero xs j v l in let r = climbs xs h j (last - j) last (omega (arith, l, n)) (omega (arith, n)) in omega (arith, r, q, e)
 
 -- where from place 1 to the last it rises by 1 at each, a number stands as far behind place 1 as it is above the number there
-pub told_by_ends : (xs : List ℕ) (v last : ℕ) → Rises xs → StandsIn xs v → last + 1 ≡ length xs → 1 ≤ last → get_or xs 1 0 ≤ v → get_or xs last 0 - get_or xs 1 0 + 1 ≡ last → get_or xs (v - get_or xs 1 0 + 1) 0 ≡ v
-told_by_ends xs v last h (zero, l, e) n low up far = absurd (let r = h 0 1 (omega arith) (omega (arith, n, low)) in omega (arith, r, e, up))
+pub told_by_ends : (xs : List ℕ) (v last : ℕ) → IsStrictlyIncreasing xs → Contains xs v → last + 1 ≡ length xs → 1 ≤ last → get_or xs 1 0 ≤ v → get_or xs last 0 - get_or xs 1 0 + 1 ≡ last → get_or xs (v - get_or xs 1 0 + 1) 0 ≡ v
+told_by_ends xs v last h (zero, l, e) n low up far =
+    absurd (let r = AllPairs-from_increasing xs h 0 1 0 (omega arith) (omega (arith, n, low)) in let q = get_or_default_zero xs 0 v l in omega (arith, r, q, e, up))
 told_by_ends xs v last h (suc j, l, e) n low up far =
+    let q = sym (get_or_default_zero xs (suc j) v l) ∙ e in
     let a = climbs xs h 1 j (suc j) (omega arith) l in
     let b = climbs xs h (suc j) (last - suc j) last (omega (arith, l, n)) (omega (arith, n)) in
-    let k : v - get_or xs 1 0 + 1 ≡ suc j = omega (arith, a, b, e, far, l, n) in
-    ap (λ i. get_or xs i 0) k ∙ e
+    let k : v - get_or xs 1 0 + 1 ≡ suc j = omega (arith, a, b, q, far, l, n) in
+    ap (λ i. get_or xs i 0) k ∙ q

@@ -1,12 +1,12 @@
 -- Arcs offered one after the other are the arcs pumped at once.
-use Rattle.std.proofs.Common.{◌≡◌, ◌≢◌, ℕ, ◌+◌, ◌<◌, ◌≤◌, Bool, true, false, cond, Option, Some, None, List, [], ◌∷◌, ◌++◌, length, set, get_or, ◌⊎◌, refl, sym, ap, ◌∙◌, subst, inl, inr, arith, length-set, get_or-set_same, get_or-set_other}
+use Rattle.std.proofs.Common.{◌≡◌, ◌≢◌, ℕ, ◌+◌, ◌<◌, ◌≤◌, Bool, true, false, cond, Option, Some, None, List, [], ◌∷◌, ◌++◌, length, set, get_or, ◌⊎◌, refl, sym, ap, ◌∙◌, subst, inl, inr, arith, length-set, get_or-set_same, get_or-set_other, Contains}
 use Rattle.std.proofs.Math.Nat.{min-le_right, min-eq_left}
 use Rattle.std.proofs.lemmas.Bool.{cases_eq, cond-true, cond-false}
 use Rattle.scholten_core.specs.declared.item.Item.{Item}
 use Rattle.scholten_core.specs.declared.item.Item.TheVariants.{Message as MessageOn}
 use Rattle.path_algebra.specs.Algebra.{Algebra}
 use Rattle.scholten_core.specs.Network.{Network}
-use Rattle.scholten_core.specs.Diffusion.{CoreState, is_idle, is_due, pump, sent, extend_label, Listed}
+use Rattle.scholten_core.specs.Diffusion.{CoreState, is_idle, is_due, pump, sent, extend_label}
 use Rattle.scholten_core.specs.Items.{item_of, pump_made, IsDistinct}
 use Rattle.shard_part.specs.Tallies.{counted_on, top}
 use Rattle.shard_part.specs.PartState.{PartData, Lanes, lanes_of, network_in, place_in, state_in, token_if, total, is_told, is_back, route, routes}
@@ -14,6 +14,7 @@ use Rattle.shard_part.specs.Moves.{with_message, offered_all}
 use Rattle.shard_part.proofs.Weights.{total_append}
 use Rattle.shard_part.proofs.Routed.{routes-append}
 use Rattle.scholten_core.proofs.Basics.{due_idle, due_same, pumped_same}
+use Rattle.scholten_core.proofs.Contained.{contains_none, contains_cases, contains_first, contains_later}
 
 pub counted_none : (n : ℕ) → n ≤ top → counted_on 0 n ≡ n
 counted_none n h = min-eq_left (let e : n + 0 ≤ top = omega (arith, h) in e) ∙ (let z : n + 0 ≡ n = omega arith in z)
@@ -29,13 +30,13 @@ pub counted_append : {X : Type 0} (f : X → ℕ) (xs ys : List X) (a n m : ℕ)
 counted_append f xs ys a n m p q = q ∙ ap (counted_on (total f ys)) p ∙ counted_more (total f xs) (total f ys) a ∙ ap (λ k. counted_on k a) (sym (total_append f xs ys))
 
 module _ {V : Type 0} (A : Algebra V) (N : Network) where
-  pub listed_or : (b : ℕ) (xs : List ℕ) → Listed A N b xs ⊎ (Listed A N b xs → ⊥)
-  listed_or b [] = inr (λ l. l)
+  pub listed_or : (b : ℕ) (xs : List ℕ) → Contains xs b ⊎ (Contains xs b → ⊥)
+  listed_or b [] = inr (contains_none b)
   listed_or b (u ∷ us) = elim (cases_eq b u) [
-    | inl e ↦ inl (inl e)
+    | inl e ↦ inl (contains_first b u us e)
     | inr n ↦ (elim (listed_or b us) [
-      | inl l ↦ inl (inr l)
-      | inr m ↦ inr (λ l. elim l [ inl e ↦ n e | inr k ↦ m k ])
+      | inl l ↦ inl (contains_later b u us l)
+      | inr m ↦ inr (λ l. elim (contains_cases b u us l) [ inl e ↦ n e | inr k ↦ m k ])
     ])
   ]
 
@@ -43,10 +44,10 @@ module _ {V : Type 0} (A : Algebra V) (N : Network) where
   abbrev pub offer_made : ℕ → CoreState V → ℕ → List (Item V)
   offer_made v d b = cond (is_due A N v d b) (item_of b (sent (extend_label A (d.label v) (N.weight b)))) []
 
-  made_same : (v : ℕ) (c d : CoreState V) (xs : List ℕ) → c.label v ≡ d.label v → ((b : ℕ) → Listed A N b xs → (c.token b ≡ d.token b) × (c.told b ≡ d.told b)) → pump_made A N v c xs ≡ pump_made A N v d xs
+  made_same : (v : ℕ) (c d : CoreState V) (xs : List ℕ) → c.label v ≡ d.label v → ((b : ℕ) → Contains xs b → (c.token b ≡ d.token b) × (c.told b ≡ d.told b)) → pump_made A N v c xs ≡ pump_made A N v d xs
   made_same v c d [] r h = refl
-  made_same v c d (b ∷ xs) r h = let k = h b (inl refl) in
-      λ i. cond (due_same A N v c d b k.0 k.1 r i) (item_of b (sent (extend_label A (r i) (N.weight b)))) [] ++ made_same v c d xs r (λ u l. h u (inr l)) i
+  made_same v c d (b ∷ xs) r h = let k = h b (contains_first b b xs refl) in
+      λ i. cond (due_same A N v c d b k.0 k.1 r i) (item_of b (sent (extend_label A (r i) (N.weight b)))) [] ++ made_same v c d xs r (λ u l. h u (contains_later u b xs l)) i
 
   pub made_no_back : (v : ℕ) (d : CoreState V) (xs : List ℕ) → total is_back (pump_made A N v d xs) ≡ 0
   made_no_back v d [] = refl
@@ -68,8 +69,8 @@ module _ {S V : Type 0} (A : Algebra V) where
     pub shard : q.shard ≡ p.shard
     pub labels : q.labels ≡ p.labels
     pub engagers : q.engagers ≡ p.engagers
-    pub done : (b : ℕ) → Listed A (network_in p.setup) b xs → ((state_in q).told b ≡ (pump A (network_in p.setup) v (state_in p)).told b) × (is_idle ((state_in q).token b) ≡ is_idle ((pump A (network_in p.setup) v (state_in p)).token b))
-    pub left : (b : ℕ) → (Listed A (network_in p.setup) b xs → ⊥) → ((state_in q).told b ≡ (state_in p).told b) × ((state_in q).token b ≡ (state_in p).token b)
+    pub done : (b : ℕ) → Contains xs b → ((state_in q).told b ≡ (pump A (network_in p.setup) v (state_in p)).told b) × (is_idle ((state_in q).token b) ≡ is_idle ((pump A (network_in p.setup) v (state_in p)).token b))
+    pub left : (b : ℕ) → (Contains xs b → ⊥) → ((state_in q).told b ≡ (state_in p).told b) × ((state_in q).token b ≡ (state_in p).token b)
     pub lanes : lanes_of q ≡ routes (network_in p.setup) (place_in p.setup) p.shard (pump_made A (network_in p.setup) v (state_in p) xs) (lanes_of p)
     pub sent : q.sent ≡ counted_on (total is_told (pump_made A (network_in p.setup) v (state_in p) xs)) p.sent
     pub signalled : q.signalled ≡ p.signalled
@@ -77,7 +78,7 @@ module _ {S V : Type 0} (A : Algebra V) where
     pub accepted : q.accepted ≡ p.accepted
 
   offers_step : (v b : ℕ) (bs : List ℕ) (p q : PartData S V) (ts : List (Option V)) (fs : List Bool) (qs : List (Item V)) (os : List (List (Item V))) (n : ℕ) →
-      (Listed A (network_in p.setup) b bs → ⊥) →
+      (Contains bs b → ⊥) →
       get_or ts b None ≡ (pump A (network_in p.setup) v (state_in p)).told b → is_idle {V = V} (token_if (get_or fs b false)) ≡ is_idle ((pump A (network_in p.setup) v (state_in p)).token b) →
       ((u : ℕ) → u ≢ b → get_or ts u None ≡ get_or p.told u None) → ((u : ℕ) → u ≢ b → get_or fs u false ≡ get_or p.busy u false) →
       record { queue = qs; outs = os } ≡ routes (network_in p.setup) (place_in p.setup) p.shard (offer_made A (network_in p.setup) v (state_in p) b) (lanes_of p) →
@@ -86,7 +87,7 @@ module _ {S V : Type 0} (A : Algebra V) where
   offers_step v b bs p q ts fs qs os n apart here idle told busy lanes count R =
       let N = network_in p.setup in
       let p1 : PartData S V = record p { told = ts; busy = fs; queue = qs; outs = os; sent = n } in
-      let ne : (u : ℕ) → Listed A N u bs → u ≢ b = λ u l e. apart (subst (λ w. Listed A N w bs) e l) in
+      let ne : (u : ℕ) → Contains bs u → u ≢ b = λ u l e. apart (subst (λ w. Contains bs w) e l) in
       let token : (u : ℕ) → u ≢ b → (state_in p1).token u ≡ (state_in p).token u = λ u w. ap token_if (busy u w) in
       let made : pump_made A N v (state_in p1) bs ≡ pump_made A N v (state_in p) bs = made_same A N v (state_in p1) (state_in p) bs refl (λ u l. (token u (ne u l), told u (ne u l))) in
       record {
@@ -94,14 +95,14 @@ module _ {S V : Type 0} (A : Algebra V) where
         shard = R.shard;
         labels = R.labels;
         engagers = R.engagers;
-        done = λ u l. elim l [
-          | inl e ↦ (let k = R.left u (λ m. apart (subst (λ w. Listed A N w bs) e m)) in (
+        done = λ u l. elim (contains_cases u b bs l) [
+          | inl e ↦ (let k = R.left u (λ m. apart (subst (λ w. Contains bs w) e m)) in (
             k.0 ∙ ap (λ w. get_or ts w None) e ∙ here ∙ ap (pump A N v (state_in p)).told (sym e),
             ap is_idle k.1 ∙ ap (λ w. is_idle {V = V} (token_if (get_or fs w false))) e ∙ idle ∙ ap (λ w. is_idle ((pump A N v (state_in p)).token w)) (sym e),
           ))
           | inr m ↦ (let k = R.done u m in let s = pumped_same A N v (state_in p1) (state_in p) u (token u (ne u m)) (told u (ne u m)) refl in (k.0 ∙ s.1, k.1 ∙ ap is_idle s.0))
         ];
-        left = λ u h. let k = R.left u (λ m. h (inr m)) in let w : u ≢ b = λ e. h (inl e) in (k.0 ∙ told u w, k.1 ∙ token u w);
+        left = λ u h. let k = R.left u (λ m. h (contains_later u b bs m)) in let w : u ≢ b = λ e. h (contains_first u b bs e) in (k.0 ∙ told u w, k.1 ∙ token u w);
         lanes = R.lanes ∙ (λ i. routes N (place_in p.setup) p.shard (made i) (lanes i)) ∙ sym (routes-append N (place_in p.setup) p.shard (offer_made A N v (state_in p) b) (pump_made A N v (state_in p) bs) (lanes_of p));
         sent = counted_append is_told (offer_made A N v (state_in p) b) (pump_made A N v (state_in p) bs) p.sent n q.sent count (R.sent ∙ ap (λ xs. counted_on (total is_told xs) n) made);
         signalled = R.signalled;
@@ -114,7 +115,7 @@ module _ {S V : Type 0} (A : Algebra V) where
   Later v bs p = (ts : List (Option V)) (fs : List Bool) (qs : List (Item V)) (os : List (List (Item V))) (n : ℕ) → n ≤ top → length ts ≡ length p.told → length fs ≡ length p.busy →
       Offers v bs (record p { told = ts; busy = fs; queue = qs; outs = os; sent = n }) (offered_all A v bs (record p { told = ts; busy = fs; queue = qs; outs = os; sent = n }))
 
-  offers_one : (v b : ℕ) (bs : List ℕ) (p : PartData S V) → p.sent ≤ top → b < length p.told → b < length p.busy → (Listed A (network_in p.setup) b bs → ⊥) → Later v bs p →
+  offers_one : (v b : ℕ) (bs : List ℕ) (p : PartData S V) → p.sent ≤ top → b < length p.told → b < length p.busy → (Contains bs b → ⊥) → Later v bs p →
       (t : Bool) → is_due A (network_in p.setup) v (state_in p) b ≡ t → (o : Option V) → extend_label A ((state_in p).label v) ((network_in p.setup).weight b) ≡ o →
       Offers v (b ∷ bs) p (offered_all A v bs (cond t (with_message b o (record p { told = set p.told b ((state_in p).label v) })) p))
   offers_one v b bs p s lt lb apart later false d o e =
@@ -143,14 +144,14 @@ module _ {S V : Type 0} (A : Algebra V) where
       (ap (λ xs. routes N (place_in p.setup) p.shard xs (lanes_of p)) (sym one)) (ap (λ xs. counted_on (total is_told xs) p.sent) (sym one))
       (later (set p.told b ((state_in p).label v)) (set p.busy b true) l.queue l.outs (counted_on 1 p.sent) (counted_top 1 p.sent) (length-set p.told b ((state_in p).label v)) (length-set p.busy b true))
 
-  pub offers : (v : ℕ) (xs : List ℕ) (p : PartData S V) → p.sent ≤ top → IsDistinct A (network_in p.setup) xs → ((b : ℕ) → Listed A (network_in p.setup) b xs → (b < length p.told) × (b < length p.busy)) → Offers v xs p (offered_all A v xs p)
+  pub offers : (v : ℕ) (xs : List ℕ) (p : PartData S V) → p.sent ≤ top → IsDistinct A (network_in p.setup) xs → ((b : ℕ) → Contains xs b → (b < length p.told) × (b < length p.busy)) → Offers v xs p (offered_all A v xs p)
   unfolding offered_all
   offers v [] p s D l = record {
     setup = refl;
     shard = refl;
     labels = refl;
     engagers = refl;
-    done = λ b k. absurd k;
+    done = λ b k. absurd (contains_none b k);
     left = λ b k. (refl, refl);
     lanes = refl;
     sent = sym (counted_none p.sent s);
@@ -158,6 +159,6 @@ module _ {S V : Type 0} (A : Algebra V) where
     delivered = refl;
     accepted = refl;
   }
-  offers v (b ∷ bs) p s D l = offers_one v b bs p s (l b (inl refl)).0 (l b (inl refl)).1 D.0
-      (λ ts fs qs os n h a c. offers v bs (record p { told = ts; busy = fs; queue = qs; outs = os; sent = n }) h D.1 (λ u k. let r = l u (inr k) in let r0 = r.0 in let r1 = r.1 in (omega (arith, r0, a), omega (arith, r1, c))))
+  offers v (b ∷ bs) p s D l = offers_one v b bs p s (l b (contains_first b b bs refl)).0 (l b (contains_first b b bs refl)).1 D.0
+      (λ ts fs qs os n h a c. offers v bs (record p { told = ts; busy = fs; queue = qs; outs = os; sent = n }) h D.1 (λ u k. let r = l u (contains_later u b bs k) in let r0 = r.0 in let r1 = r.1 in (omega (arith, r0, a), omega (arith, r1, c))))
       (is_due A (network_in p.setup) v (state_in p) b) refl (extend_label A ((state_in p).label v) ((network_in p.setup).weight b)) refl

@@ -3,20 +3,22 @@ use Rattle.std.proofs.Common.{◌≡◌, ◌≢◌, ℕ, zero, suc, ◌+◌, ◌
 use Rattle.std.proofs.lemmas.Bool.{cases_eq, cases_lt, cond-true, cond-false}
 use Rattle.std.proofs.lemmas.List.{get_or_append_left, get_or-append-add}
 use Rattle.scholten_core.specs.Network.{Network}
-use Rattle.shard_part.specs.Tables.{IsApart, Rises, placed}
+use Rattle.std.specs.List.Sorted.{IsStrictlyIncreasing}
+use Rattle.std.proofs.lemmas.List.Kept.{AllPairs-from_increasing}
+use Rattle.shard_part.specs.Tables.{IsApart, placed}
 use Rattle.shard_part.specs.PartState.{Setup, place_in, arcs_from, outgoing, own_in, arcs_out}
 
-pub rises_apart : (xs : List ℕ) → Rises xs → IsApart xs
-rises_apart xs h i j l m e = let r = h i j l m in omega (arith, r, e)
+pub increasing_apart : (xs : List ℕ) → IsStrictlyIncreasing xs → IsApart xs
+increasing_apart xs h i j l m e = let r = AllPairs-from_increasing xs h i j 0 l m in omega (arith, r, e)
 
 -- numbers from k on that pass a test
 pub record Picked (pass : ℕ → Type 0) (k n : ℕ) (xs : List ℕ) : Type 0 where
   pub each : (i : ℕ) → i < length xs → pass (get_or xs i 0) × (k ≤ get_or xs i 0) × (get_or xs i 0 < k + n)
   pub all : (v : ℕ) → pass v → k ≤ v → v < k + n → (i : ℕ) × (i < length xs) × (get_or xs i 0 ≡ v)
-  pub rises : Rises xs
+  pub increasing : IsStrictlyIncreasing xs
 
 picked_none : (pass : ℕ → Type 0) (k : ℕ) → Picked pass k 0 []
-picked_none pass k = record { each = λ i l. absurd (omega arith); all = λ v p l m. absurd (omega arith); rises = λ i j l m. absurd (omega arith) }
+picked_none pass k = record { each = λ i l. absurd (omega arith); all = λ v p l m. absurd (omega arith); increasing = λ i l. absurd (omega arith) }
 
 picked_here : (pass : ℕ → Type 0) (k n : ℕ) (xs : List ℕ) → pass k → Picked pass (suc k) n xs → Picked pass k (suc n) (k ∷ xs)
 picked_here pass k n xs p P = record {
@@ -25,17 +27,19 @@ picked_here pass k n xs p P = record {
     | inl e ↦ (0, (let z : 0 < suc (length xs) = omega arith in z), sym e)
     | inr ne ↦ (let r = P.all v q (omega arith) (omega arith) in (suc r.0, (let z = r.1 in omega (arith, z)), r.2))
   ];
-  rises = λ i j l m. rise i j l m;
+  increasing = λ i l. below i l;
 }
   where
     here : (i : ℕ) → i < length (k ∷ xs) → pass (get_or (k ∷ xs) i 0) × (k ≤ get_or (k ∷ xs) i 0) × (get_or (k ∷ xs) i 0 < k + suc n)
     here zero l = (p, (let z : k ≤ k = omega arith in z), omega arith)
     here (suc i) l = let r = P.each i (omega arith) in (r.0, (let z = r.1 in omega (arith, z)), (let z = r.2 in omega (arith, z)))
 
-    rise : (i j : ℕ) → i < j → j < length (k ∷ xs) → get_or (k ∷ xs) i 0 < get_or (k ∷ xs) j 0
-    rise i zero l m = absurd (omega arith)
-    rise zero (suc j) l m = let r = (P.each j (omega arith)).1 in omega (arith, r)
-    rise (suc i) (suc j) l m = P.rises i j (omega arith) (omega arith)
+    below : (i : ℕ) → i + 1 < length (k ∷ xs) → get_or (k ∷ xs) i 0 < get_or (k ∷ xs) (i + 1) 0
+    below zero l = let r = (P.each 0 (omega arith)).1 in omega (arith, r)
+    below (suc i) l =
+        let r = P.increasing i (omega arith) in
+        let here = ap (λ j. get_or xs j 0) (let e : i + 1 ≡ suc i = omega arith in e) in
+        let there = ap (λ j. get_or (k ∷ xs) j 0) (let e : suc i + 1 ≡ suc (suc i) = omega arith in e) in omega (arith, r, here, there)
 
 picked_not : (pass : ℕ → Type 0) (k n : ℕ) (xs : List ℕ) → (pass k → ⊥) → Picked pass (suc k) n xs → Picked pass k (suc n) xs
 picked_not pass k n xs p P = record {
@@ -44,7 +48,7 @@ picked_not pass k n xs p P = record {
     | inl e ↦ absurd (p (subst pass e q))
     | inr ne ↦ P.all v q (omega arith) (omega arith)
   ];
-  rises = P.rises;
+  increasing = P.increasing;
 }
 
 pub placed_picked : (place : ℕ → ℕ) (s k n : ℕ) → Picked (λ v. place v ≡ s) k n (placed place s k n)
@@ -70,26 +74,28 @@ pub outgoing_picked : (N : Network) (v : ℕ) → Picked (λ b. N.tail b ≡ v) 
 outgoing_picked N v = arcs_picked N v 0 (suc N.arcs)
 
 -- the vertices of a shard
-pub own_rises : {S : Type 0} (t : Setup S) (s : ℕ) → Rises (own_in t s)
-own_rises t s i zero l m = absurd (omega arith)
-own_rises t s zero (suc j) l m = let r = ((placed_picked (place_in t) s 1 t.roads.vertices).each j (omega arith)).1 in omega (arith, r)
-own_rises t s (suc i) (suc j) l m = (placed_picked (place_in t) s 1 t.roads.vertices).rises i j (omega arith) (omega arith)
+pub own_increasing : {S : Type 0} (t : Setup S) (s : ℕ) → IsStrictlyIncreasing (own_in t s)
+own_increasing t s zero l = let r = ((placed_picked (place_in t) s 1 t.question.roads.vertices).each 0 (omega arith)).1 in omega (arith, r)
+own_increasing t s (suc i) l =
+    let r = (placed_picked (place_in t) s 1 t.question.roads.vertices).increasing i (omega arith) in
+    let here = ap (λ j. get_or (placed (place_in t) s 1 t.question.roads.vertices) j 0) (let e : i + 1 ≡ suc i = omega arith in e) in
+    let there = ap (λ j. get_or (own_in t s) j 0) (let e : suc i + 1 ≡ suc (suc i) = omega arith in e) in omega (arith, r, here, there)
 
 pub own_apart : {S : Type 0} (t : Setup S) (s : ℕ) → IsApart (own_in t s)
-own_apart t s = rises_apart (own_in t s) (own_rises t s)
+own_apart t s = increasing_apart (own_in t s) (own_increasing t s)
 
-pub own_below : {S : Type 0} (t : Setup S) (s j : ℕ) → j < length (own_in t s) → get_or (own_in t s) j 0 < suc t.roads.vertices
+pub own_below : {S : Type 0} (t : Setup S) (s j : ℕ) → j < length (own_in t s) → get_or (own_in t s) j 0 < suc t.question.roads.vertices
 own_below t s zero l = omega arith
-own_below t s (suc j) l = let r = ((placed_picked (place_in t) s 1 t.roads.vertices).each j (omega arith)).2 in omega (arith, r)
+own_below t s (suc j) l = let r = ((placed_picked (place_in t) s 1 t.question.roads.vertices).each j (omega arith)).2 in omega (arith, r)
 
 -- but for the environment, which stands first
 pub own_placed : {S : Type 0} (t : Setup S) (s j : ℕ) → j < length (own_in t s) → get_or (own_in t s) j 0 ≢ 0 → place_in t (get_or (own_in t s) j 0) ≡ s
 own_placed t s zero l n = absurd (n refl)
-own_placed t s (suc j) l n = ((placed_picked (place_in t) s 1 t.roads.vertices).each j (omega arith)).0
+own_placed t s (suc j) l n = ((placed_picked (place_in t) s 1 t.question.roads.vertices).each j (omega arith)).0
 
-pub own_all : {S : Type 0} (t : Setup S) (s v : ℕ) → v ≤ t.roads.vertices → (v ≢ 0 → place_in t v ≡ s) → (j : ℕ) × (j < length (own_in t s)) × (get_or (own_in t s) j 0 ≡ v)
-own_all t s zero l h = (0, (let z : 0 < suc (length (placed (place_in t) s 1 t.roads.vertices)) = omega arith in z), refl)
-own_all t s (suc v) l h = let r = (placed_picked (place_in t) s 1 t.roads.vertices).all (suc v) (h (λ e. omega (arith, e))) (omega arith) (omega arith) in
+pub own_all : {S : Type 0} (t : Setup S) (s v : ℕ) → v ≤ t.question.roads.vertices → (v ≢ 0 → place_in t v ≡ s) → (j : ℕ) × (j < length (own_in t s)) × (get_or (own_in t s) j 0 ≡ v)
+own_all t s zero l h = (0, (let z : 0 < suc (length (placed (place_in t) s 1 t.question.roads.vertices)) = omega arith in z), refl)
+own_all t s (suc v) l h = let r = (placed_picked (place_in t) s 1 t.question.roads.vertices).all (suc v) (h (λ e. omega (arith, e))) (omega arith) (omega arith) in
     (suc r.0, (let z = r.1 in omega (arith, z)), r.2)
 
 -- the arcs out of a list of vertices
@@ -116,7 +122,7 @@ module _ (N : Network) where
       elim (cases_lt j (length (outgoing N v))) [
         | inl mj ↦ (let mi : i < length (outgoing N v) = omega arith in
             let gi = get_or_append_left (outgoing N v) (arcs_out N vs) 0 i mi in let gj = get_or_append_left (outgoing N v) (arcs_out N vs) 0 j mj in
-            let r = (outgoing_picked N v).rises i j l mj in omega (arith, gi, gj, r, q))
+            let r = AllPairs-from_increasing (outgoing N v) (outgoing_picked N v).increasing i j 0 l mj in omega (arith, gi, gj, r, q))
         | inr mj ↦ (let ej : length (outgoing N v) + (j - length (outgoing N v)) ≡ j = omega arith in
             let gj : get_or (outgoing N v ++ arcs_out N vs) j 0 ≡ get_or (arcs_out N vs) (j - length (outgoing N v)) 0 =
             ap (λ k. get_or (outgoing N v ++ arcs_out N vs) k 0) (sym ej) ∙ get_or-append-add (outgoing N v) (arcs_out N vs) (j - length (outgoing N v)) 0 in

@@ -25,7 +25,7 @@ use Rattle.shard_part.proofs.Rings.{map_read, map_kept, with_queue, with_outs}
 use Rattle.shard_part.proofs.Opened.{arcs_first}
 
 module _ {S V : Type 0} where
-  -- the queue is within its ring
+  -- the queue is within its capacity
   pub queue_within : (A : Algebra V) (p : PartData S V) (r : Rows V) (n : ℕ) (ns : List ℕ) → IsStored p r n ns → length p.queue ≤ n
   queue_within A p r n ns D = let f = sound_fits A (network_in p.setup) (place_in p.setup) (formed p p.shard D.planned) p D.sound in let q = D.roomy.queue in omega (arith, f, q)
 
@@ -121,19 +121,19 @@ module _ {S V : Type 0} where
       ]
     ]
 
-    real_arcs : (p : PartData S V) → IsRoads p.setup.roads → (batch : List (Item V)) → All (FitsAlone A p) batch → All (λ i. (place_in p.setup (vertex_of (network_in p.setup) i) ≡ p.shard) × IsArc (network_in p.setup) (item_arc i)) batch
+    real_arcs : (p : PartData S V) → IsRoads p.setup.question.roads → (batch : List (Item V)) → All (FitsAlone A p) batch → All (λ i. (place_in p.setup (vertex_of (network_in p.setup) i) ≡ p.shard) × IsArc (network_in p.setup) (item_arc i)) batch
     real_arcs p R [] F = tt
     real_arcs p R (i ∷ is') F = (one i F.0, real_arcs p R is' F.1)
       where
-        is_arc : (a : ℕ) → HasArc p.setup.roads a → IsArc (network_in p.setup) a
-        is_arc a h = ((λ e. let j = (R.ends a h).1.0 in let q = head-arc p.setup.roads p.setup.source a h.0 in omega (arith, j, q, e)), (λ _ e. let j = (R.ends a h).0.0 in let q = tail-arc p.setup.roads a h.0 in omega (arith, j, q, e)))
+        is_arc : (a : ℕ) → HasArc p.setup.question.roads a → IsArc (network_in p.setup) a
+        is_arc a h = ((λ e. let j = (R.ends a h).1.0 in let q = head-arc p.setup.question.roads p.setup.question.source a h.0 in omega (arith, j, q, e)), (λ _ e. let j = (R.ends a h).0.0 in let q = tail-arc p.setup.question.roads a h.0 in omega (arith, j, q, e)))
 
         one : (i : Item V) → FitsAlone A p i → (place_in p.setup (vertex_of (network_in p.setup) i) ≡ p.shard) × IsArc (network_in p.setup) (item_arc i)
         one (MessageOn a x) F = (F.2.0, is_arc a F.1)
         one (SignalOn a) F = (F.1.0, is_arc a F.0)
 
     -- a batch that fits joins the queue
-    received_sound : (p : PartData S V) (batch : List (Item V)) → IsRoads p.setup.roads → IsSound (network_in p.setup) (place_in p.setup) p → Fits A p batch → IsSound (network_in p.setup) (place_in p.setup) (record p { queue = p.queue ++ batch })
+    received_sound : (p : PartData S V) (batch : List (Item V)) → IsRoads p.setup.question.roads → IsSound (network_in p.setup) (place_in p.setup) p → Fits A p batch → IsSound (network_in p.setup) (place_in p.setup) (record p { queue = p.queue ++ batch })
     received_sound p batch R D F = record {
       once = λ b. (let o = D.once b in let a = F.apart b in let t = total_append (λ j. is b (item_arc j)) p.queue batch in
           elim (batch_clear p batch b F.each) [ inl z ↦ (omega (arith, o, a, t, z)) | inr z ↦ (let x = z.0 in let y = z.1 in omega (arith, o, a, t, x, y)) ]);
@@ -156,24 +156,24 @@ module _ {S V : Type 0} where
         )
 
 -- which arcs may bring an item
-module _ {S V : Type 0} (p old : PartData S V) (r : Rows V) (n : ℕ) (ns : List ℕ) (a : ℕ) (e : p ≡ old) (D : IsStored p r n ns) (h : HasArc old.setup.roads a) where
-  ends_at : HasArc p.setup.roads a
-  ends_at = subst (λ (u : PartData S V). HasArc u.setup.roads a) (sym e) h
+module _ {S V : Type 0} (p old : PartData S V) (r : Rows V) (n : ℕ) (ns : List ℕ) (a : ℕ) (e : p ≡ old) (D : IsStored p r n ns) (h : HasArc old.setup.question.roads a) where
+  ends_at : HasArc p.setup.question.roads a
+  ends_at = subst (λ (u : PartData S V). HasArc u.setup.question.roads a) (sym e) h
 
   -- its ends are vertices
-  pub ends_within : ((arc_of p.setup.roads a).tail ≤ old.setup.roads.vertices) × ((arc_of p.setup.roads a).head ≤ old.setup.roads.vertices) × (1 ≤ (arc_of p.setup.roads a).tail) × (1 ≤ (arc_of p.setup.roads a).head)
+  pub ends_within : ((arc_of p.setup.question.roads a).tail ≤ old.setup.question.roads.vertices) × ((arc_of p.setup.question.roads a).head ≤ old.setup.question.roads.vertices) × (1 ≤ (arc_of p.setup.question.roads a).tail) × (1 ≤ (arc_of p.setup.question.roads a).head)
   ends_within = let j = D.planned.roads.ends a ends_at in (
-    subst (λ (u : PartData S V). (arc_of p.setup.roads a).tail ≤ u.setup.roads.vertices) e j.0.1,
-    subst (λ (u : PartData S V). (arc_of p.setup.roads a).head ≤ u.setup.roads.vertices) e j.1.1,
+    subst (λ (u : PartData S V). (arc_of p.setup.question.roads a).tail ≤ u.setup.question.roads.vertices) e j.0.1,
+    subst (λ (u : PartData S V). (arc_of p.setup.question.roads a).head ≤ u.setup.question.roads.vertices) e j.1.1,
     j.0.0,
     j.1.0,
   )
 
-  pub tail_is : (arc_of p.setup.roads a).tail ≡ (network_in old.setup).tail a
-  tail_is = sym (tail-arc p.setup.roads a ends_at.0) ∙ ap (λ (u : PartData S V). (network_in u.setup).tail a) e
+  pub tail_is : (arc_of p.setup.question.roads a).tail ≡ (network_in old.setup).tail a
+  tail_is = sym (tail-arc p.setup.question.roads a ends_at.0) ∙ ap (λ (u : PartData S V). (network_in u.setup).tail a) e
 
-  pub head_is : (arc_of p.setup.roads a).head ≡ (network_in old.setup).head a
-  head_is = sym (head-arc p.setup.roads p.setup.source a ends_at.0) ∙ ap (λ (u : PartData S V). (network_in u.setup).head a) e
+  pub head_is : (arc_of p.setup.question.roads a).head ≡ (network_in old.setup).head a
+  head_is = sym (head-arc p.setup.question.roads p.setup.question.source a ends_at.0) ∙ ap (λ (u : PartData S V). (network_in u.setup).head a) e
 
   pub arc_is : IsArc (network_in old.setup) a
   arc_is = let w = ends_within in ((λ z. let q = head_is in let l = w.3 in omega (arith, z, q, l)), (λ _ z. let q = tail_is in let l = w.2 in omega (arith, z, q, l)))

@@ -1,43 +1,37 @@
 -- What is counted of a shard before its tables are made.
-use Rattle.std.proofs.Common.{◌≡◌, ◌≢◌, ℕ, suc, ◌+◌, ◌<◌, ◌≤◌, ◌^◌, Bool, true, false, cond, not, eqb, Some, None, List, [], ◌∷◌, ◌++◌, length, length-append, set, get_or, take, refl, sym, ap, ◌∙◌, subst, inl, inr, arith, eq-eqb, ne_eqb, get_or-set_same, get_or-set_other}
+use Rattle.std.proofs.Common.{◌≡◌, ◌≢◌, ℕ, suc, ◌+◌, ◌<◌, ◌≤◌, ◌^◌, Bool, true, false, cond, not, eqb, List, [], ◌∷◌, ◌++◌, length, length-append, set, get_or, take, refl, sym, ap, ◌∙◌, subst, inl, inr, arith, eq-eqb, ne_eqb, get_or-set_same, get_or-set_other, Contains}
 use Rattle.std.proofs.lemmas.Bool.{cases_eq, cases_lt, cond-true, cond-false, false≢true}
 use Rattle.std.proofs.lemmas.List.{get_or_default, get_or_read, get_or_past, get_or_append_left}
 use Rattle.std.proofs.Math.Seq.{get_or-append_seam}
-use Rattle.path_algebra.specs.Algebra.{Algebra}
-use Rattle.path_algebra.specs.declared.name.AlgebraName.TheVariants.{Reach}
 use Rattle.road_graph.specs.Roads.{Roads, HasVertex, HasArc, ListsArcsFrom, ListsArcsInto, arc_of}
 use Rattle.scholten_core.specs.Network.{Network, network}
-use Rattle.scholten_core.specs.Diffusion.{Listed}
 use Rattle.scholten_core.specs.Sums.{one_if}
 use Rattle.scholten_core.proofs.Networks.{tail-arc, head-arc, tail-entry}
 use Rattle.shard_part.specs.Plans.{shard_in, HasPlanned}
 use Rattle.shard_part.specs.Tables.{placed}
 use Rattle.shard_part.specs.PartState.{network_in, place_in, own_in, arcs_out, outgoing, total, is, outbox_bound}
 use Rattle.shard_part.specs.Moves.{IsPlanned}
-use Rattle.shard_part.specs.Opening.{ShardLayoutData, question_of, is_first, turned, leading_to, coming_from, CountsOut, CountsInto, CountsAll}
-use Rattle.shard_part.proofs.Ascending.{arcs_are, rising, from_none}
-use Rattle.shard_part.proofs.Graphs.{listed_in, in_listed, out_is, place_vertex, place_entry}
+use Rattle.shard_part.specs.Opening.{ShardLayoutData, is_first, turned, leading_to, coming_from, CountsOut, CountsInto, CountsAll}
+use Rattle.shard_part.proofs.Ascending.{arcs_are}
+use Rattle.shard_part.proofs.Graphs.{out_is, place_vertex, place_entry}
 use Rattle.shard_part.proofs.Opened.{entry_alone, place_source}
 use Rattle.shard_part.proofs.Counting.{arcs_out_more, total_whole, total_take, total_most, total_few, out_most, own_arcs_most}
 use Rattle.shard_part.proofs.Places.{own_below, placed_picked}
 use Rattle.shard_part.proofs.CapacitiesByVertex.{seen_at, seen_all, outbox_bound_most}
 use Rattle.scholten_core.proofs.Sums.{one_if-most}
+use Rattle.scholten_core.proofs.Contained.{contains_at, contains_from}
 
--- lists of arcs are the same under every algebra
-any_algebra : Algebra (Unit {0})
-any_algebra = record { name = Reach; is_value = λ _. true; origin = tt; extend = λ x _. Some x; no_worse = λ _ _. true; code = λ _. 0; value_of = λ _. None }
+pub first_is : (w old : ShardLayoutData) (x : ℕ) (b : Bool) → w ≡ old → IsPlanned w.setup w.shard → x ≡ shard_in w.setup.plan w.setup.question.source → b ≡ eqb x w.shard → b ≡ is_first old.setup old.shard
+first_is w old x b e D h q = q ∙ ap (λ k. eqb k w.shard) (h ∙ sym (place_entry w.setup D.source.0)) ∙ ap (λ (u : ShardLayoutData). is_first u.setup u.shard) e
 
-pub first_is : (w old : ShardLayoutData) (x : ℕ) (b : Bool) → w ≡ old → IsPlanned (question_of w) w.shard → x ≡ shard_in w.plan w.source → b ≡ eqb x w.shard → b ≡ is_first (question_of old) old.shard
-first_is w old x b e D h q = q ∙ ap (λ k. eqb k w.shard) (h ∙ sym (place_entry (question_of w) D.source.0)) ∙ ap (λ (u : ShardLayoutData). is_first (question_of u) u.shard) e
+pub has_is : (w old : ShardLayoutData) (v x : ℕ) (b : Bool) → w ≡ old → HasVertex old.setup.question.roads v → x ≡ shard_in w.setup.plan v → b ≡ eqb x w.shard → b ≡ eqb (place_in old.setup v) old.shard
+has_is w old v x b e l h q = q ∙ ap (λ k. eqb k w.shard) (h ∙ sym (place_vertex w.setup v l.0)) ∙ ap (λ (u : ShardLayoutData). eqb (place_in u.setup v) u.shard) e
 
-pub has_is : (w old : ShardLayoutData) (v x : ℕ) (b : Bool) → w ≡ old → HasVertex old.roads v → x ≡ shard_in w.plan v → b ≡ eqb x w.shard → b ≡ eqb (place_in (question_of old) v) old.shard
-has_is w old v x b e l h q = q ∙ ap (λ k. eqb k w.shard) (h ∙ sym (place_vertex (question_of w) v l.0)) ∙ ap (λ (u : ShardLayoutData). eqb (place_in (question_of u) v) u.shard) e
+pub count_out_zero : (w old : ShardLayoutData) (v : ℕ) → w ≡ old → IsPlanned w.setup w.shard → v ≡ 0 → 1 ≡ length (outgoing (network_in old.setup) v)
+count_out_zero w old v e D z = sym (ap length (entry_alone w.setup.question.roads w.setup.question.source D.roads)) ∙ (λ i. length (outgoing (network_in (e i).setup) (sym z i)))
 
-pub count_out_zero : (w old : ShardLayoutData) (v : ℕ) → w ≡ old → IsPlanned (question_of w) w.shard → v ≡ 0 → 1 ≡ length (outgoing (network_in (question_of old)) v)
-count_out_zero w old v e D z = sym (ap length (entry_alone w.roads w.source D.roads)) ∙ (λ i. length (outgoing (network_in (question_of (e i))) (sym z i)))
-
-pub listed_from : (w old : ShardLayoutData) (v : ℕ) (xs : List ℕ) → w ≡ old → 1 ≤ v → ListsArcsFrom w.roads v xs → xs ≡ outgoing (network_in (question_of old)) v
-listed_from w old v xs e l o = out_is any_algebra w.roads w.source v xs l o ∙ ap (λ (u : ShardLayoutData). outgoing (network_in (question_of u)) v) e
+pub listed_from : (w old : ShardLayoutData) (v : ℕ) (xs : List ℕ) → w ≡ old → 1 ≤ v → ListsArcsFrom w.setup.question.roads v xs → xs ≡ outgoing (network_in old.setup) v
+listed_from w old v xs e l o = out_is w.setup.question.roads w.setup.question.source v xs l o ∙ ap (λ (u : ShardLayoutData). outgoing (network_in u.setup) v) e
 
 -- an arc of such a list is one of the graph's
 pub arc_from : (g : Roads) (v j : ℕ) (xs : List ℕ) → ListsArcsFrom g v xs → j < length xs → HasArc g (get_or xs j 0) × ((arc_of g (get_or xs j 0)).tail ≡ v)
@@ -49,26 +43,27 @@ arc_into g v j xs o h = (o.complete (get_or xs j 0)).0 (j, h, get_or_default xs 
 turned_tail : (N : Network) (b : ℕ) → b ≢ 0 → (turned N).tail b ≡ N.head b
 turned_tail N b nz = cond-false (eqb b 0) 0 (N.head b) (ne_eqb b 0 nz)
 
-pub listed_into : (w old : ShardLayoutData) (v : ℕ) (xs : List ℕ) → w ≡ old → 1 ≤ v → ListsArcsInto w.roads v xs → xs ≡ outgoing (turned (network_in (question_of old))) v
+pub listed_into : (w old : ShardLayoutData) (v : ℕ) (xs : List ℕ) → w ≡ old → 1 ≤ v → ListsArcsInto w.setup.question.roads v xs → xs ≡ outgoing (turned (network_in old.setup)) v
 listed_into w old v xs e l o =
-    let N : Network = network w.roads w.source in
-    arcs_are any_algebra (turned (network w.roads w.source)) v 0 (suc (length w.roads.arcs)) xs (from_none 0 xs (rising 0 xs o.ascending)) only all
-    ∙ ap (λ (u : ShardLayoutData). outgoing (turned (network_in (question_of u))) v) e
+    let N : Network = network w.setup.question.roads w.setup.question.source in
+    arcs_are (turned (network w.setup.question.roads w.setup.question.source)) v 0 (suc (length w.setup.question.roads.arcs)) 0 xs o.ascending only all
+    ∙ ap (λ (u : ShardLayoutData). outgoing (turned (network_in u.setup)) v) e
   where
-    only : (b : ℕ) → Listed any_algebra (turned (network w.roads w.source)) b xs → ((turned (network w.roads w.source)).tail b ≡ v) × (b < 0 + suc (length w.roads.arcs))
+    only : (b : ℕ) → Contains xs b → ((turned (network w.setup.question.roads w.setup.question.source)).tail b ≡ v) × (0 ≤ b) × (b < 0 + suc (length w.setup.question.roads.arcs))
     only b m =
-        let r = listed_in any_algebra (turned (network w.roads w.source)) b xs m in
-        let a = subst (λ c. HasArc w.roads c × ((arc_of w.roads c).head ≡ v)) r.2 (arc_into w.roads v r.0 xs o r.1) in (
-          turned_tail (network w.roads w.source) b (λ z. let h = a.0.0 in omega (arith, z, h)) ∙ head-arc w.roads w.source b a.0.0 ∙ a.1,
+        let r = contains_at b xs m in
+        let a = subst (λ c. HasArc w.setup.question.roads c × ((arc_of w.setup.question.roads c).head ≡ v)) r.2 (arc_into w.setup.question.roads v r.0 xs o r.1) in (
+          turned_tail (network w.setup.question.roads w.setup.question.source) b (λ z. let h = a.0.0 in omega (arith, z, h)) ∙ head-arc w.setup.question.roads w.setup.question.source b a.0.0 ∙ a.1,
+          omega arith,
           (let h = a.0.1 in omega (arith, h)),
         )
 
-    all : (b : ℕ) → (turned (network w.roads w.source)).tail b ≡ v → 0 ≤ b → b < 0 + suc (length w.roads.arcs) → Listed any_algebra (turned (network w.roads w.source)) b xs
+    all : (b : ℕ) → (turned (network w.setup.question.roads w.setup.question.source)).tail b ≡ v → 0 ≤ b → b < 0 + suc (length w.setup.question.roads.arcs) → Contains xs b
     all b t k h = elim (cases_eq b 0) [
-      | inl z ↦ absurd (let q : (turned (network w.roads w.source)).tail b ≡ 0 = cond-true {A = ℕ} (eqb b 0) 0 ((network w.roads w.source).head b) (eq-eqb b 0 z) in omega (arith, q, t, l))
-      | inr nz ↦ (let low : 1 ≤ b = omega (arith, nz) in let high : b ≤ length w.roads.arcs = omega (arith, h) in
-          let c = (o.complete b).1 ((low, high), sym (head-arc w.roads w.source b low) ∙ sym (turned_tail (network w.roads w.source) b nz) ∙ t) in
-          in_listed any_algebra (turned (network w.roads w.source)) b xs c.0 c.1 (get_or_default xs c.0 0 b c.1 ∙ c.2))
+      | inl z ↦ absurd (let q : (turned (network w.setup.question.roads w.setup.question.source)).tail b ≡ 0 = cond-true {A = ℕ} (eqb b 0) 0 ((network w.setup.question.roads w.setup.question.source).head b) (eq-eqb b 0 z) in omega (arith, q, t, l))
+      | inr nz ↦ (let low : 1 ≤ b = omega (arith, nz) in let high : b ≤ length w.setup.question.roads.arcs = omega (arith, h) in
+          let c = (o.complete b).1 ((low, high), sym (head-arc w.setup.question.roads w.setup.question.source b low) ∙ sym (turned_tail (network w.setup.question.roads w.setup.question.source) b nz) ∙ t) in
+          contains_from b xs c.0 c.1 (get_or_default xs c.0 0 b c.1 ∙ c.2))
     ]
 
 -- what a test of two shards tells
@@ -87,30 +82,30 @@ add_one capacities to t l = elim (cases_eq t to) [
 ]
 
 -- the ends of an arc are planned
-pub planned_head : (w : ShardLayoutData) (a : ℕ) → IsPlanned (question_of w) w.shard → HasArc w.roads a → HasPlanned w.plan (arc_of w.roads a).head × (shard_in w.plan (arc_of w.roads a).head ≡ place_in (question_of w) ((network_in (question_of w)).head a))
+pub planned_head : (w : ShardLayoutData) (a : ℕ) → IsPlanned w.setup w.shard → HasArc w.setup.question.roads a → HasPlanned w.setup.plan (arc_of w.setup.question.roads a).head × (shard_in w.setup.plan (arc_of w.setup.question.roads a).head ≡ place_in w.setup ((network_in w.setup).head a))
 planned_head w a D h = let j = (D.roads.ends a h).1 in (
   (j.0, (let m = j.1 in let c = D.covers in omega (arith, m, c))),
-  sym (ap (place_in (question_of w)) (head-arc w.roads w.source a h.0) ∙ place_vertex (question_of w) (arc_of w.roads a).head j.0),
+  sym (ap (place_in w.setup) (head-arc w.setup.question.roads w.setup.question.source a h.0) ∙ place_vertex w.setup (arc_of w.setup.question.roads a).head j.0),
 )
 
-pub planned_tail : (w : ShardLayoutData) (a : ℕ) → IsPlanned (question_of w) w.shard → HasArc w.roads a → HasPlanned w.plan (arc_of w.roads a).tail × (shard_in w.plan (arc_of w.roads a).tail ≡ place_in (question_of w) ((network_in (question_of w)).tail a))
+pub planned_tail : (w : ShardLayoutData) (a : ℕ) → IsPlanned w.setup w.shard → HasArc w.setup.question.roads a → HasPlanned w.setup.plan (arc_of w.setup.question.roads a).tail × (shard_in w.setup.plan (arc_of w.setup.question.roads a).tail ≡ place_in w.setup ((network_in w.setup).tail a))
 planned_tail w a D h = let j = (D.roads.ends a h).0 in (
   (j.0, (let m = j.1 in let c = D.covers in omega (arith, m, c))),
-  sym (ap (place_in (question_of w)) (tail-arc w.roads a h.0) ∙ place_vertex (question_of w) (arc_of w.roads a).tail j.0),
+  sym (ap (place_in w.setup) (tail-arc w.setup.question.roads a h.0) ∙ place_vertex w.setup (arc_of w.setup.question.roads a).tail j.0),
 )
 
 -- what was counted of some of the vertices is no more than there are arcs
-pub seen_whole : (w : ShardLayoutData) (t : ℕ) → IsPlanned (question_of w) w.shard →
-    cond (is_first (question_of w) w.shard) (is t w.shard) 0 + total (seen_at (network_in (question_of w)) (place_in (question_of w)) w.shard t) (placed (place_in (question_of w)) w.shard 1 w.roads.vertices) ≡ outbox_bound (network_in (question_of w)) (place_in (question_of w)) w.shard t
-seen_whole w t D = seen_all (network_in (question_of w)) (place_in (question_of w)) w.shard t w.roads.vertices (tail-entry w.roads) (place_source (question_of w) w.shard D)
-    (λ b nz l. let low : 1 ≤ b = omega (arith, nz) in let h : HasArc w.roads b = (low, (let m : b ≤ length w.roads.arcs = omega (arith, l) in m)) in let j = D.roads.ends b h in
-    let p = tail-arc w.roads b low in let q = head-arc w.roads w.source b low in
+pub seen_whole : (w : ShardLayoutData) (t : ℕ) → IsPlanned w.setup w.shard →
+    cond (is_first w.setup w.shard) (is t w.shard) 0 + total (seen_at (network_in w.setup) (place_in w.setup) w.shard t) (placed (place_in w.setup) w.shard 1 w.setup.question.roads.vertices) ≡ outbox_bound (network_in w.setup) (place_in w.setup) w.shard t
+seen_whole w t D = seen_all (network_in w.setup) (place_in w.setup) w.shard t w.setup.question.roads.vertices (tail-entry w.setup.question.roads) (place_source w.setup w.shard D)
+    (λ b nz l. let low : 1 ≤ b = omega (arith, nz) in let h : HasArc w.setup.question.roads b = (low, (let m : b ≤ length w.setup.question.roads.arcs = omega (arith, l) in m)) in let j = D.roads.ends b h in
+    let p = tail-arc w.setup.question.roads b low in let q = head-arc w.setup.question.roads w.setup.question.source b low in
     ((let a = j.0.0 in omega (arith, a, p)), (let a = j.0.1 in omega (arith, a, p)), (let a = j.1.0 in omega (arith, a, q)), (let a = j.1.1 in omega (arith, a, q))))
 
-pub seen_most : (w : ShardLayoutData) (t i : ℕ) → IsPlanned (question_of w) w.shard →
-    cond (is_first (question_of w) w.shard) (is t w.shard) 0 + total (seen_at (network_in (question_of w)) (place_in (question_of w)) w.shard t) (take i (placed (place_in (question_of w)) w.shard 1 w.roads.vertices)) ≤ suc (length w.roads.arcs)
-seen_most w t i D = let a = seen_whole w t D in let b = total_most (seen_at (network_in (question_of w)) (place_in (question_of w)) w.shard t) (placed (place_in (question_of w)) w.shard 1 w.roads.vertices) i in
-    let c = outbox_bound_most (network_in (question_of w)) (place_in (question_of w)) w.shard t in omega (arith, a, b, c)
+pub seen_most : (w : ShardLayoutData) (t i : ℕ) → IsPlanned w.setup w.shard →
+    cond (is_first w.setup w.shard) (is t w.shard) 0 + total (seen_at (network_in w.setup) (place_in w.setup) w.shard t) (take i (placed (place_in w.setup) w.shard 1 w.setup.question.roads.vertices)) ≤ suc (length w.setup.question.roads.arcs)
+seen_most w t i D = let a = seen_whole w t D in let b = total_most (seen_at (network_in w.setup) (place_in w.setup) w.shard t) (placed (place_in w.setup) w.shard 1 w.setup.question.roads.vertices) i in
+    let c = outbox_bound_most (network_in w.setup) (place_in w.setup) w.shard t in omega (arith, a, b, c)
 
 -- each arc counts once at most
 pub leading_few : (N : Network) (place : ℕ → ℕ) (t : ℕ) (xs : List ℕ) → leading_to N place t xs ≤ length xs
@@ -124,14 +119,14 @@ coming_few N place s t xs = total_few (λ b. cond (eqb (place (N.tail b)) s) 0 (
     one false x = one_if-most x
 
 -- what holds of a layout, through its view
-pub planned_at : (w old : ShardLayoutData) → w ≡ old → IsPlanned (question_of w) w.shard → IsPlanned (question_of old) old.shard
-planned_at w old e D = subst (λ (u : ShardLayoutData). IsPlanned (question_of u) u.shard) e D
+pub planned_at : (w old : ShardLayoutData) → w ≡ old → IsPlanned w.setup w.shard → IsPlanned old.setup old.shard
+planned_at w old e D = subst (λ (u : ShardLayoutData). IsPlanned u.setup u.shard) e D
 
-pub from_at : (w old : ShardLayoutData) (v : ℕ) (xs : List ℕ) → w ≡ old → ListsArcsFrom w.roads v xs → ListsArcsFrom old.roads v xs
-from_at w old v xs e o = subst (λ (u : ShardLayoutData). ListsArcsFrom u.roads v xs) e o
+pub from_at : (w old : ShardLayoutData) (v : ℕ) (xs : List ℕ) → w ≡ old → ListsArcsFrom w.setup.question.roads v xs → ListsArcsFrom old.setup.question.roads v xs
+from_at w old v xs e o = subst (λ (u : ShardLayoutData). ListsArcsFrom u.setup.question.roads v xs) e o
 
-pub into_at : (w old : ShardLayoutData) (v : ℕ) (xs : List ℕ) → w ≡ old → ListsArcsInto w.roads v xs → ListsArcsInto old.roads v xs
-into_at w old v xs e o = subst (λ (u : ShardLayoutData). ListsArcsInto u.roads v xs) e o
+pub into_at : (w old : ShardLayoutData) (v : ℕ) (xs : List ℕ) → w ≡ old → ListsArcsInto w.setup.question.roads v xs → ListsArcsInto old.setup.question.roads v xs
+into_at w old v xs e o = subst (λ (u : ShardLayoutData). ListsArcsInto u.setup.question.roads v xs) e o
 
 pub item_from : (g : Roads) (v a i : ℕ) (xs : List ℕ) → ListsArcsFrom g v xs → i < length xs → a ≡ get_or xs i a → HasArc g a
 item_from g v a i xs o l h = subst (HasArc g) (sym (get_or_read xs i a l h 0)) (arc_from g v i xs o l).0
@@ -140,119 +135,119 @@ pub item_into : (g : Roads) (v a i : ℕ) (xs : List ℕ) → ListsArcsInto g v 
 item_into g v a i xs o l h = subst (HasArc g) (sym (get_or_read xs i a l h 0)) (arc_into g v i xs o l).0
 
 -- a count of a vertex's arcs is small
-pub leading_most : (w : ShardLayoutData) (v t i : ℕ) (xs : List ℕ) → 1 ≤ v → ListsArcsFrom w.roads v xs → leading_to (network_in (question_of w)) (place_in (question_of w)) t (take i xs) ≤ suc (length w.roads.arcs)
+pub leading_most : (w : ShardLayoutData) (v t i : ℕ) (xs : List ℕ) → 1 ≤ v → ListsArcsFrom w.setup.question.roads v xs → leading_to (network_in w.setup) (place_in w.setup) t (take i xs) ≤ suc (length w.setup.question.roads.arcs)
 leading_most w v t i xs l o =
-    let a = total_most (λ b. is t (place_in (question_of w) ((network_in (question_of w)).head b))) xs i in
-    let b = leading_few (network_in (question_of w)) (place_in (question_of w)) t xs in
-    let c = ap length (listed_from w w v xs refl l o) in let d = out_most (network_in (question_of w)) v in omega (arith, a, b, c, d)
+    let a = total_most (λ b. is t (place_in w.setup ((network_in w.setup).head b))) xs i in
+    let b = leading_few (network_in w.setup) (place_in w.setup) t xs in
+    let c = ap length (listed_from w w v xs refl l o) in let d = out_most (network_in w.setup) v in omega (arith, a, b, c, d)
 
-pub coming_most : (w : ShardLayoutData) (v t i : ℕ) (xs : List ℕ) → 1 ≤ v → ListsArcsInto w.roads v xs → coming_from (network_in (question_of w)) (place_in (question_of w)) w.shard t (take i xs) ≤ suc (length w.roads.arcs)
+pub coming_most : (w : ShardLayoutData) (v t i : ℕ) (xs : List ℕ) → 1 ≤ v → ListsArcsInto w.setup.question.roads v xs → coming_from (network_in w.setup) (place_in w.setup) w.shard t (take i xs) ≤ suc (length w.setup.question.roads.arcs)
 coming_most w v t i xs l o =
-    let a = total_most (λ b. cond (eqb (place_in (question_of w) ((network_in (question_of w)).tail b)) w.shard) 0 (is t (place_in (question_of w) ((network_in (question_of w)).tail b)))) xs i in
-    let b = coming_few (network_in (question_of w)) (place_in (question_of w)) w.shard t xs in
-    let c = ap length (listed_into w w v xs refl l o) in let d = out_most (turned (network_in (question_of w))) v in omega (arith, a, b, c, d)
+    let a = total_most (λ b. cond (eqb (place_in w.setup ((network_in w.setup).tail b)) w.shard) 0 (is t (place_in w.setup ((network_in w.setup).tail b)))) xs i in
+    let b = coming_few (network_in w.setup) (place_in w.setup) w.shard t xs in
+    let c = ap length (listed_into w w v xs refl l o) in let d = out_most (turned (network_in w.setup)) v in omega (arith, a, b, c, d)
 
 -- one arc more
-pub leading_more : (w : ShardLayoutData) (v a to i : ℕ) (xs capacities first : List ℕ) → IsPlanned (question_of w) w.shard → ListsArcsFrom w.roads v xs → i < length xs → a ≡ get_or xs i a → to ≡ shard_in w.plan (arc_of w.roads a).head → to < length capacities →
-    ((t : ℕ) → t < w.plan.shards → get_or capacities t 0 ≡ get_or first t 0 + leading_to (network_in (question_of w)) (place_in (question_of w)) t (take i xs)) →
-    (t : ℕ) → t < w.plan.shards → get_or (set capacities to (get_or capacities to 0 + 1)) t 0 ≡ get_or first t 0 + leading_to (network_in (question_of w)) (place_in (question_of w)) t (take (i + 1) xs)
+pub leading_more : (w : ShardLayoutData) (v a to i : ℕ) (xs capacities first : List ℕ) → IsPlanned w.setup w.shard → ListsArcsFrom w.setup.question.roads v xs → i < length xs → a ≡ get_or xs i a → to ≡ shard_in w.setup.plan (arc_of w.setup.question.roads a).head → to < length capacities →
+    ((t : ℕ) → t < w.setup.plan.shards → get_or capacities t 0 ≡ get_or first t 0 + leading_to (network_in w.setup) (place_in w.setup) t (take i xs)) →
+    (t : ℕ) → t < w.setup.plan.shards → get_or (set capacities to (get_or capacities to 0 + 1)) t 0 ≡ get_or first t 0 + leading_to (network_in w.setup) (place_in w.setup) t (take (i + 1) xs)
 leading_more w v a to i xs capacities first D o l h q m inv t k =
-    let p = planned_head w a D (item_from w.roads v a i xs o l h) in
+    let p = planned_head w a D (item_from w.setup.question.roads v a i xs o l h) in
     let x = add_one capacities to t m in
     let y = inv t k in
-    let z = total_take (λ b. is t (place_in (question_of w) ((network_in (question_of w)).head b))) xs i 0 l in
-    let u : is t to ≡ is t (place_in (question_of w) ((network_in (question_of w)).head (get_or xs i 0))) = ap (is t) (q ∙ p.1 ∙ ap (λ b. place_in (question_of w) ((network_in (question_of w)).head b)) (get_or_read xs i a l h 0)) in
+    let z = total_take (λ b. is t (place_in w.setup ((network_in w.setup).head b))) xs i 0 l in
+    let u : is t to ≡ is t (place_in w.setup ((network_in w.setup).head (get_or xs i 0))) = ap (is t) (q ∙ p.1 ∙ ap (λ b. place_in w.setup ((network_in w.setup).head b)) (get_or_read xs i a l h 0)) in
     omega (arith, x, y, z, u)
 
-coming_more : (w : ShardLayoutData) (v a i t : ℕ) (xs : List ℕ) (x : ℕ) → i < length xs → a ≡ get_or xs i a → x ≡ cond (eqb (place_in (question_of w) ((network_in (question_of w)).tail a)) w.shard) 0 (is t (place_in (question_of w) ((network_in (question_of w)).tail a))) →
-    coming_from (network_in (question_of w)) (place_in (question_of w)) w.shard t (take (i + 1) xs) ≡ coming_from (network_in (question_of w)) (place_in (question_of w)) w.shard t (take i xs) + x
+coming_more : (w : ShardLayoutData) (v a i t : ℕ) (xs : List ℕ) (x : ℕ) → i < length xs → a ≡ get_or xs i a → x ≡ cond (eqb (place_in w.setup ((network_in w.setup).tail a)) w.shard) 0 (is t (place_in w.setup ((network_in w.setup).tail a))) →
+    coming_from (network_in w.setup) (place_in w.setup) w.shard t (take (i + 1) xs) ≡ coming_from (network_in w.setup) (place_in w.setup) w.shard t (take i xs) + x
 coming_more w v a i t xs x l h q =
-    let f : ℕ → ℕ = λ b. cond (eqb (place_in (question_of w) ((network_in (question_of w)).tail b)) w.shard) 0 (is t (place_in (question_of w) ((network_in (question_of w)).tail b))) in
+    let f : ℕ → ℕ = λ b. cond (eqb (place_in w.setup ((network_in w.setup).tail b)) w.shard) 0 (is t (place_in w.setup ((network_in w.setup).tail b))) in
     let z = total_take f xs i 0 l in let u : x ≡ f (get_or xs i 0) = q ∙ ap f (get_or_read xs i a l h 0) in omega (arith, z, u)
 
-pub coming_other : (w : ShardLayoutData) (v a from i : ℕ) (xs capacities first : List ℕ) → IsPlanned (question_of w) w.shard → ListsArcsInto w.roads v xs → i < length xs → a ≡ get_or xs i a → from ≡ shard_in w.plan (arc_of w.roads a).tail → from ≢ w.shard → from < length capacities →
-    ((t : ℕ) → t < w.plan.shards → get_or capacities t 0 ≡ get_or first t 0 + coming_from (network_in (question_of w)) (place_in (question_of w)) w.shard t (take i xs)) →
-    (t : ℕ) → t < w.plan.shards → get_or (set capacities from (get_or capacities from 0 + 1)) t 0 ≡ get_or first t 0 + coming_from (network_in (question_of w)) (place_in (question_of w)) w.shard t (take (i + 1) xs)
+pub coming_other : (w : ShardLayoutData) (v a from i : ℕ) (xs capacities first : List ℕ) → IsPlanned w.setup w.shard → ListsArcsInto w.setup.question.roads v xs → i < length xs → a ≡ get_or xs i a → from ≡ shard_in w.setup.plan (arc_of w.setup.question.roads a).tail → from ≢ w.shard → from < length capacities →
+    ((t : ℕ) → t < w.setup.plan.shards → get_or capacities t 0 ≡ get_or first t 0 + coming_from (network_in w.setup) (place_in w.setup) w.shard t (take i xs)) →
+    (t : ℕ) → t < w.setup.plan.shards → get_or (set capacities from (get_or capacities from 0 + 1)) t 0 ≡ get_or first t 0 + coming_from (network_in w.setup) (place_in w.setup) w.shard t (take (i + 1) xs)
 coming_other w v a from i xs capacities first D o l h q ne m inv t k =
-    let p : from ≡ place_in (question_of w) ((network_in (question_of w)).tail a) = q ∙ (planned_tail w a D (item_into w.roads v a i xs o l h)).1 in
+    let p : from ≡ place_in w.setup ((network_in w.setup).tail a) = q ∙ (planned_tail w a D (item_into w.setup.question.roads v a i xs o l h)).1 in
     let x = add_one capacities from t m in
     let y = inv t k in
-    let z = coming_more w v a i t xs (is t from) l h (ap (is t) p ∙ sym (cond-false (eqb (place_in (question_of w) ((network_in (question_of w)).tail a)) w.shard) 0 (is t (place_in (question_of w) ((network_in (question_of w)).tail a))) (ne_eqb _ _ (λ e. ne (p ∙ e))))) in
+    let z = coming_more w v a i t xs (is t from) l h (ap (is t) p ∙ sym (cond-false (eqb (place_in w.setup ((network_in w.setup).tail a)) w.shard) 0 (is t (place_in w.setup ((network_in w.setup).tail a))) (ne_eqb _ _ (λ e. ne (p ∙ e))))) in
     omega (arith, x, y, z)
 
-pub coming_own : (w : ShardLayoutData) (v a from i : ℕ) (xs capacities first : List ℕ) → IsPlanned (question_of w) w.shard → ListsArcsInto w.roads v xs → i < length xs → a ≡ get_or xs i a → from ≡ shard_in w.plan (arc_of w.roads a).tail → from ≡ w.shard →
-    ((t : ℕ) → t < w.plan.shards → get_or capacities t 0 ≡ get_or first t 0 + coming_from (network_in (question_of w)) (place_in (question_of w)) w.shard t (take i xs)) →
-    (t : ℕ) → t < w.plan.shards → get_or capacities t 0 ≡ get_or first t 0 + coming_from (network_in (question_of w)) (place_in (question_of w)) w.shard t (take (i + 1) xs)
+pub coming_own : (w : ShardLayoutData) (v a from i : ℕ) (xs capacities first : List ℕ) → IsPlanned w.setup w.shard → ListsArcsInto w.setup.question.roads v xs → i < length xs → a ≡ get_or xs i a → from ≡ shard_in w.setup.plan (arc_of w.setup.question.roads a).tail → from ≡ w.shard →
+    ((t : ℕ) → t < w.setup.plan.shards → get_or capacities t 0 ≡ get_or first t 0 + coming_from (network_in w.setup) (place_in w.setup) w.shard t (take i xs)) →
+    (t : ℕ) → t < w.setup.plan.shards → get_or capacities t 0 ≡ get_or first t 0 + coming_from (network_in w.setup) (place_in w.setup) w.shard t (take (i + 1) xs)
 coming_own w v a from i xs capacities first D o l h q same inv t k =
-    let p : from ≡ place_in (question_of w) ((network_in (question_of w)).tail a) = q ∙ (planned_tail w a D (item_into w.roads v a i xs o l h)).1 in
+    let p : from ≡ place_in w.setup ((network_in w.setup).tail a) = q ∙ (planned_tail w a D (item_into w.setup.question.roads v a i xs o l h)).1 in
     let y = inv t k in
-    let z = coming_more w v a i t xs 0 l h (sym (cond-true {A = ℕ} (eqb (place_in (question_of w) ((network_in (question_of w)).tail a)) w.shard) 0 (is t (place_in (question_of w) ((network_in (question_of w)).tail a))) (eq-eqb _ _ (sym p ∙ same)))) in
+    let z = coming_more w v a i t xs 0 l h (sym (cond-true {A = ℕ} (eqb (place_in w.setup ((network_in w.setup).tail a)) w.shard) 0 (is t (place_in w.setup ((network_in w.setup).tail a))) (eq-eqb _ _ (sym p ∙ same)))) in
     omega (arith, y, z)
 
 -- all arcs of a vertex
-pub leading_done : (w old : ShardLayoutData) (v i : ℕ) (xs capacities first : List ℕ) → w ≡ old → 1 ≤ v → ListsArcsFrom w.roads v xs → length xs ≤ i → length capacities ≡ length first →
-    ((t : ℕ) → t < old.plan.shards → get_or capacities t 0 ≡ get_or first t 0 + leading_to (network_in (question_of old)) (place_in (question_of old)) t (take i xs)) → CountsOut old v first capacities
+pub leading_done : (w old : ShardLayoutData) (v i : ℕ) (xs capacities first : List ℕ) → w ≡ old → 1 ≤ v → ListsArcsFrom w.setup.question.roads v xs → length xs ≤ i → length capacities ≡ length first →
+    ((t : ℕ) → t < old.setup.plan.shards → get_or capacities t 0 ≡ get_or first t 0 + leading_to (network_in old.setup) (place_in old.setup) t (take i xs)) → CountsOut old v first capacities
 leading_done w old v i xs capacities first e l o d long inv = (
   long,
   λ t k. let a = inv t k in
-      let b = total_whole (λ b. is t (place_in (question_of old) ((network_in (question_of old)).head b))) xs i d in
-      let c = ap (leading_to (network_in (question_of old)) (place_in (question_of old)) t) (listed_from w old v xs e l o) in omega (arith, a, b, c),
+      let b = total_whole (λ b. is t (place_in old.setup ((network_in old.setup).head b))) xs i d in
+      let c = ap (leading_to (network_in old.setup) (place_in old.setup) t) (listed_from w old v xs e l o) in omega (arith, a, b, c),
 )
 
-pub coming_done : (w old : ShardLayoutData) (v i : ℕ) (xs capacities first : List ℕ) → w ≡ old → 1 ≤ v → ListsArcsInto w.roads v xs → length xs ≤ i → length capacities ≡ length first →
-    ((t : ℕ) → t < old.plan.shards → get_or capacities t 0 ≡ get_or first t 0 + coming_from (network_in (question_of old)) (place_in (question_of old)) old.shard t (take i xs)) → CountsInto old v first capacities
+pub coming_done : (w old : ShardLayoutData) (v i : ℕ) (xs capacities first : List ℕ) → w ≡ old → 1 ≤ v → ListsArcsInto w.setup.question.roads v xs → length xs ≤ i → length capacities ≡ length first →
+    ((t : ℕ) → t < old.setup.plan.shards → get_or capacities t 0 ≡ get_or first t 0 + coming_from (network_in old.setup) (place_in old.setup) old.shard t (take i xs)) → CountsInto old v first capacities
 coming_done w old v i xs capacities first e l o d long inv = (
   long,
   λ t k. let a = inv t k in
-      let b = total_whole (λ b. cond (eqb (place_in (question_of old) ((network_in (question_of old)).tail b)) old.shard) 0 (is t (place_in (question_of old) ((network_in (question_of old)).tail b)))) xs i d in
-      let c = ap (coming_from (network_in (question_of old)) (place_in (question_of old)) old.shard t) (listed_into w old v xs e l o) in omega (arith, a, b, c),
+      let b = total_whole (λ b. cond (eqb (place_in old.setup ((network_in old.setup).tail b)) old.shard) 0 (is t (place_in old.setup ((network_in old.setup).tail b)))) xs i d in
+      let c = ap (coming_from (network_in old.setup) (place_in old.setup) old.shard t) (listed_into w old v xs e l o) in omega (arith, a, b, c),
 )
 
 -- vertices that were gone through, and what was counted of them
 abbrev pub CountedSo : ShardLayoutData → ℕ → List ℕ → List ℕ → Type 0
-CountedSo w i vs capacities = (t : ℕ) → t < w.plan.shards → get_or capacities t 0 ≡ cond (is_first (question_of w) w.shard) (is t w.shard) 0 + total (seen_at (network_in (question_of w)) (place_in (question_of w)) w.shard t) (take i vs)
+CountedSo w i vs capacities = (t : ℕ) → t < w.setup.plan.shards → get_or capacities t 0 ≡ cond (is_first w.setup w.shard) (is t w.shard) 0 + total (seen_at (network_in w.setup) (place_in w.setup) w.shard t) (take i vs)
 
-pub vertex_of_shard : (w : ShardLayoutData) (v i : ℕ) (vs : List ℕ) → vs ≡ placed (place_in (question_of w)) w.shard 1 w.roads.vertices → i < length vs → v ≡ get_or vs i v → HasVertex w.roads v
+pub vertex_of_shard : (w : ShardLayoutData) (v i : ℕ) (vs : List ℕ) → vs ≡ placed (place_in w.setup) w.shard 1 w.setup.question.roads.vertices → i < length vs → v ≡ get_or vs i v → HasVertex w.setup.question.roads v
 vertex_of_shard w v i vs e l h =
     let r = get_or_read vs i v l h 0 ∙ ap (λ xs. get_or xs i 0) e in
-    let p = (placed_picked (place_in (question_of w)) w.shard 1 w.roads.vertices).each i (subst (λ xs. i < length xs) e l) in
+    let p = (placed_picked (place_in w.setup) w.shard 1 w.setup.question.roads.vertices).each i (subst (λ xs. i < length xs) e l) in
     ((let a = p.1 in omega (arith, a, r)), (let a = p.2 in omega (arith, a, r)))
 
-pub counted_small : (w : ShardLayoutData) (i : ℕ) (vs capacities : List ℕ) → IsPlanned (question_of w) w.shard → vs ≡ placed (place_in (question_of w)) w.shard 1 w.roads.vertices → length capacities ≡ w.plan.shards → CountedSo w i vs capacities → (t : ℕ) → get_or capacities t 0 ≤ 2 ^ 32
-counted_small w i vs capacities D e long inv t = elim (cases_lt t w.plan.shards) [
-  | inl l ↦ (let a = inv t l in let b = seen_most w t i D in let c = ap (λ xs. total (seen_at (network_in (question_of w)) (place_in (question_of w)) w.shard t) (take i xs)) e in let f = D.roads.few_arcs in omega (arith, a, b, c, f))
+pub counted_small : (w : ShardLayoutData) (i : ℕ) (vs capacities : List ℕ) → IsPlanned w.setup w.shard → vs ≡ placed (place_in w.setup) w.shard 1 w.setup.question.roads.vertices → length capacities ≡ w.setup.plan.shards → CountedSo w i vs capacities → (t : ℕ) → get_or capacities t 0 ≤ 2 ^ 32
+counted_small w i vs capacities D e long inv t = elim (cases_lt t w.setup.plan.shards) [
+  | inl l ↦ (let a = inv t l in let b = seen_most w t i D in let c = ap (λ xs. total (seen_at (network_in w.setup) (place_in w.setup) w.shard t) (take i xs)) e in let f = D.roads.few_arcs in omega (arith, a, b, c, f))
   | inr l ↦ (let a = get_or_past capacities t 0 (omega (arith, l, long)) in omega (arith, a))
 ]
 
-pub counted_middle : (w : ShardLayoutData) (v i : ℕ) (vs capacities middle xs : List ℕ) → IsPlanned (question_of w) w.shard → vs ≡ placed (place_in (question_of w)) w.shard 1 w.roads.vertices → length capacities ≡ w.plan.shards → CountedSo w i vs capacities → CountsOut w v capacities middle → (t : ℕ) → get_or middle t 0 ≤ 2 ^ 33
-counted_middle w v i vs capacities middle xs D e long inv out t = elim (cases_lt t w.plan.shards) [
-  | inl l ↦ (let a = counted_small w i vs capacities D e long inv t in let b = out.1 t l in let c = leading_few (network_in (question_of w)) (place_in (question_of w)) t (outgoing (network_in (question_of w)) v) in let d = out_most (network_in (question_of w)) v in let f = D.roads.few_arcs in omega (arith, a, b, c, d, f))
+pub counted_middle : (w : ShardLayoutData) (v i : ℕ) (vs capacities middle xs : List ℕ) → IsPlanned w.setup w.shard → vs ≡ placed (place_in w.setup) w.shard 1 w.setup.question.roads.vertices → length capacities ≡ w.setup.plan.shards → CountedSo w i vs capacities → CountsOut w v capacities middle → (t : ℕ) → get_or middle t 0 ≤ 2 ^ 33
+counted_middle w v i vs capacities middle xs D e long inv out t = elim (cases_lt t w.setup.plan.shards) [
+  | inl l ↦ (let a = counted_small w i vs capacities D e long inv t in let b = out.1 t l in let c = leading_few (network_in w.setup) (place_in w.setup) t (outgoing (network_in w.setup) v) in let d = out_most (network_in w.setup) v in let f = D.roads.few_arcs in omega (arith, a, b, c, d, f))
   | inr l ↦ (let k = out.0 in let a = get_or_past middle t 0 (omega (arith, l, long, k)) in omega (arith, a))
 ]
 
 pub counted_more : (w : ShardLayoutData) (v i : ℕ) (vs capacities middle new : List ℕ) → i < length vs → v ≡ get_or vs i v → CountedSo w i vs capacities → CountsOut w v capacities middle → CountsInto w v middle new → CountedSo w (i + 1) vs new
 counted_more w v i vs capacities middle new l h inv out into t k =
     let a = inv t k in let b = out.1 t k in let c = into.1 t k in
-    let f : ℕ → ℕ = seen_at (network_in (question_of w)) (place_in (question_of w)) w.shard t in
-    let d = total_take (seen_at (network_in (question_of w)) (place_in (question_of w)) w.shard t) vs i 0 l in
-    let e = ap (seen_at (network_in (question_of w)) (place_in (question_of w)) w.shard t) (get_or_read vs i v l h 0) in omega (arith, a, b, c, d, e)
+    let f : ℕ → ℕ = seen_at (network_in w.setup) (place_in w.setup) w.shard t in
+    let d = total_take (seen_at (network_in w.setup) (place_in w.setup) w.shard t) vs i 0 l in
+    let e = ap (seen_at (network_in w.setup) (place_in w.setup) w.shard t) (get_or_read vs i v l h 0) in omega (arith, a, b, c, d, e)
 
-pub counted_all : (w : ShardLayoutData) (i : ℕ) (vs capacities : List ℕ) → IsPlanned (question_of w) w.shard → vs ≡ placed (place_in (question_of w)) w.shard 1 w.roads.vertices → length vs ≤ i → length capacities ≡ w.plan.shards → CountedSo w i vs capacities → CountsAll w capacities
+pub counted_all : (w : ShardLayoutData) (i : ℕ) (vs capacities : List ℕ) → IsPlanned w.setup w.shard → vs ≡ placed (place_in w.setup) w.shard 1 w.setup.question.roads.vertices → length vs ≤ i → length capacities ≡ w.setup.plan.shards → CountedSo w i vs capacities → CountsAll w capacities
 counted_all w i vs capacities D e l long inv = (
   long,
-  λ t k. let a = inv t k in let b = total_whole (seen_at (network_in (question_of w)) (place_in (question_of w)) w.shard t) vs i l in
-      let c = ap (total (seen_at (network_in (question_of w)) (place_in (question_of w)) w.shard t)) e in let d = seen_whole w t D in omega (arith, a, b, c, d),
+  λ t k. let a = inv t k in let b = total_whole (seen_at (network_in w.setup) (place_in w.setup) w.shard t) vs i l in
+      let c = ap (total (seen_at (network_in w.setup) (place_in w.setup) w.shard t)) e in let d = seen_whole w t D in omega (arith, a, b, c, d),
 )
 
-pub counted_none : (w : ShardLayoutData) (vs capacities : List ℕ) → ((t : ℕ) → t < w.plan.shards → get_or capacities t 0 ≡ cond (is_first (question_of w) w.shard) (is t w.shard) 0) → CountedSo w 0 vs capacities
+pub counted_none : (w : ShardLayoutData) (vs capacities : List ℕ) → ((t : ℕ) → t < w.setup.plan.shards → get_or capacities t 0 ≡ cond (is_first w.setup w.shard) (is t w.shard) 0) → CountedSo w 0 vs capacities
 counted_none w vs capacities h t k = let a = h t k in omega (arith, a)
 
 -- where the arcs begin
-pub starts_few : (w : ShardLayoutData) (own : List ℕ) (i : ℕ) → IsPlanned (question_of w) w.shard → own ≡ own_in (question_of w) w.shard → length (arcs_out (network_in (question_of w)) (take i own)) ≤ 2 ^ 27 + 1
-starts_few w own i D e = let a = ap (λ xs. length (arcs_out (network_in (question_of w)) (take i xs))) e in let b = own_arcs_most (network_in (question_of w)) (place_in (question_of w)) w.shard w.roads.vertices i in let f = D.roads.few_arcs in omega (arith, a, b, f)
+pub starts_few : (w : ShardLayoutData) (own : List ℕ) (i : ℕ) → IsPlanned w.setup w.shard → own ≡ own_in w.setup w.shard → length (arcs_out (network_in w.setup) (take i own)) ≤ 2 ^ 27 + 1
+starts_few w own i D e = let a = ap (λ xs. length (arcs_out (network_in w.setup) (take i xs))) e in let b = own_arcs_most (network_in w.setup) (place_in w.setup) w.shard w.setup.question.roads.vertices i in let f = D.roads.few_arcs in omega (arith, a, b, f)
 
-pub own_within : (w : ShardLayoutData) (v i : ℕ) (own : List ℕ) → own ≡ own_in (question_of w) w.shard → i < length own → v ≡ get_or own i v → v ≤ w.roads.vertices
-own_within w v i own e l h = let r = get_or_read own i v l h 0 ∙ ap (λ xs. get_or xs i 0) e in let b = own_below (question_of w) w.shard i (subst (λ xs. i < length xs) e l) in omega (arith, r, b)
+pub own_within : (w : ShardLayoutData) (v i : ℕ) (own : List ℕ) → own ≡ own_in w.setup w.shard → i < length own → v ≡ get_or own i v → v ≤ w.setup.question.roads.vertices
+own_within w v i own e l h = let r = get_or_read own i v l h 0 ∙ ap (λ xs. get_or xs i 0) e in let b = own_below w.setup w.shard i (subst (λ xs. i < length xs) e l) in omega (arith, r, b)
 
 pub starts_next : (N : Network) (own : List ℕ) (v i count more : ℕ) → i < length own → v ≡ get_or own i v → count ≡ length (arcs_out N (take i own)) → more ≡ length (outgoing N v) → count + more ≡ length (arcs_out N (take (i + 1) own))
 starts_next N own v i count more l h c m = let a = arcs_out_more N own i l in let b = ap (λ u. length (outgoing N u)) (get_or_read own i v l h 0) in omega (arith, a, b, c, m)

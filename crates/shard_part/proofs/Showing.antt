@@ -7,11 +7,11 @@ use Rattle.scholten_core.specs.Network.{Network, WellFormed}
 use Rattle.scholten_core.specs.Diffusion.{CoreState, step, is_enabled}
 use Rattle.scholten_core.specs.Sums.{one_if}
 use Rattle.scholten_core.specs.Shares.{Agree}
-use Rattle.shard_part.specs.PartState.{Setup, PartData, network_in, place_in, state_in, total, event_of, part_weight, mail_weight, mine, is, All, TookIn, Took, TookAll, AllEnabled, HoldsTables, HoldsShare, Holds, ShowsIn, Shows}
+use Rattle.shard_part.specs.PartState.{Setup, PartData, network_in, place_in, state_in, total, event_of, part_weight, mail_weight, mine, is, All, HandledItemIn, HandledItem, HandledAll, AllEnabled, HoldsTables, HoldsShare, Holds, ShowsIn, Shows}
 use Rattle.scholten_core.proofs.Kept.{Kept, step_kept}
 use Rattle.shard_part.proofs.Weights.{total_append}
 use Rattle.shard_part.proofs.Routed.{outs_none}
-use Rattle.shard_part.proofs.TakenIsEvent.{took_event}
+use Rattle.shard_part.proofs.TakenIsEvent.{handled_event}
 
 pub all_append : {X : Type 0} (P : X → Type 0) (xs ys : List X) → All P xs → All P ys → All P (xs ++ ys)
 all_append P [] ys p q = q
@@ -42,11 +42,11 @@ module _ {S V : Type 0} (A : Algebra V) (N : Network) (place : ℕ → ℕ) wher
     weighs = λ h. let w = H.weighs h in let s = total_append (part_weight h) before (p ∷ after) in omega (arith, w, s);
   }
 
-  pub took_shown : Lawful A → WellFormed N → (before after : List (PartData S V)) (p q : PartData S V) (i : Item V) (mail : (ℕ → Item V → ℕ) → ℕ) (c : CoreState V) → Kept A N 0 c →
-      ShowsIn A N place (before ++ p ∷ after) mail c → TookIn A N place p i q →
+  pub handled_shown : Lawful A → WellFormed N → (before after : List (PartData S V)) (p q : PartData S V) (i : Item V) (mail : (ℕ → Item V → ℕ) → ℕ) (c : CoreState V) → Kept A N 0 c →
+      ShowsIn A N place (before ++ p ∷ after) mail c → HandledItemIn A N place p i q →
       (is_enabled c (event_of i) ≡ true) × ShowsIn A N place (before ++ q ∷ after) mail (step A N c (event_of i))
-  took_shown L W before after p q i mail c K H T =
-      let E = took_event A N place L W c p i q K (shown_holds before after p mail c H) T in
+  handled_shown L W before after p q i mail c K H T =
+      let E = handled_event A N place L W c p i q K (shown_holds before after p mail c H) T in
       let all = all_parts (HoldsTables A N place c) before (p ∷ after) H.tables in
       let one = H.apart p.shard in
       let split = total_append (λ (r : PartData S V). is p.shard r.shard) before (p ∷ after) in
@@ -116,31 +116,31 @@ module _ {S V : Type 0} (meaning : S → Algebra V) where
   abbrev pub AllLawful : Type 0
   AllLawful = (s : S) → Lawful (meaning s)
 
-  took_at : (t : Setup S) (p : PartData S V) (i : Item V) (q : PartData S V) → p.setup ≡ t → Took meaning p i q → TookIn (meaning t.algebra) (network_in t) (place_in t) p i q
-  took_at t p i q e T = subst (λ u. TookIn (meaning u.algebra) (network_in u) (place_in u) p i q) e T
+  handled_at : (t : Setup S) (p : PartData S V) (i : Item V) (q : PartData S V) → p.setup ≡ t → HandledItem meaning p i q → HandledItemIn (meaning t.question.algebra) (network_in t) (place_in t) p i q
+  handled_at t p i q e T = subst (λ u. HandledItemIn (meaning u.question.algebra) (network_in u) (place_in u) p i q) e T
 
   -- ALL PARTS AND MAILBOXES: one part takes one item
-  pub took_shows : AllLawful → (t : Setup S) → WellFormed (network_in t) → (before after : List (PartData S V)) (p q : PartData S V) (i : Item V) (mail : (ℕ → Item V → ℕ) → ℕ) (c : CoreState V) →
-      Kept (meaning t.algebra) (network_in t) 0 c → Shows meaning t (before ++ p ∷ after) mail c → Took meaning p i q →
-      (is_enabled c (event_of i) ≡ true) × Shows meaning t (before ++ q ∷ after) mail (step (meaning t.algebra) (network_in t) c (event_of i))
-  took_shows L t W before after p q i mail c K H T =
+  pub handled_shows : AllLawful → (t : Setup S) → WellFormed (network_in t) → (before after : List (PartData S V)) (p q : PartData S V) (i : Item V) (mail : (ℕ → Item V → ℕ) → ℕ) (c : CoreState V) →
+      Kept (meaning t.question.algebra) (network_in t) 0 c → Shows meaning t (before ++ p ∷ after) mail c → HandledItem meaning p i q →
+      (is_enabled c (event_of i) ≡ true) × Shows meaning t (before ++ q ∷ after) mail (step (meaning t.question.algebra) (network_in t) c (event_of i))
+  handled_shows L t W before after p q i mail c K H T =
       let all = all_parts (λ (r : PartData S V). r.setup ≡ t) before (p ∷ after) H.same in
-      let R = took_shown (meaning t.algebra) (network_in t) (place_in t) (L t.algebra) W before after p q i mail c K H.shown (took_at t p i q all.1.0 T) in
+      let R = handled_shown (meaning t.question.algebra) (network_in t) (place_in t) (L t.question.algebra) W before after p q i mail c K H.shown (handled_at t p i q all.1.0 T) in
       (R.0, record { same = all_append (λ (r : PartData S V). r.setup ≡ t) before (q ∷ after) all.0 (T.setup ∙ all.1.0, all.1.1); shown = R.1 })
 
   -- ONE PART ALONE: any list of items, for every kept state of which it holds its share
-  pub took_all : AllLawful → (is : List (Item V)) (p q : PartData S V) (c : CoreState V) → WellFormed (network_in p.setup) → Kept (meaning p.setup.algebra) (network_in p.setup) 0 c → Holds meaning c p → TookAll meaning p is q →
+  pub handled_all : AllLawful → (is : List (Item V)) (p q : PartData S V) (c : CoreState V) → WellFormed (network_in p.setup) → Kept (meaning p.setup.question.algebra) (network_in p.setup) 0 c → Holds meaning c p → HandledAll meaning p is q →
       (d : CoreState V) × Holds meaning d q × (q.setup ≡ p.setup) × AllEnabled meaning p.setup c is d
-  took_all L [] p q c W K H e = (c, subst (Holds meaning c) e H, ap (λ r. r.setup) (sym e), refl)
-  took_all L (i ∷ is) p q c W K H (m, T, rest) =
-      let E = took_event (meaning p.setup.algebra) (network_in p.setup) (place_in p.setup) (L p.setup.algebra) W c p i m K H T in
-      let c' : CoreState V = step (meaning p.setup.algebra) (network_in p.setup) c (event_of i) in
+  handled_all L [] p q c W K H e = (c, subst (Holds meaning c) e H, ap (λ r. r.setup) (sym e), refl)
+  handled_all L (i ∷ is) p q c W K H (m, T, rest) =
+      let E = handled_event (meaning p.setup.question.algebra) (network_in p.setup) (place_in p.setup) (L p.setup.question.algebra) W c p i m K H T in
+      let c' : CoreState V = step (meaning p.setup.question.algebra) (network_in p.setup) c (event_of i) in
       let s = sym T.setup in
       let W' = subst (λ t. WellFormed (network_in t)) s W in
-      let K' = subst (λ t. Kept (meaning t.algebra) (network_in t) 0 (step (meaning p.setup.algebra) (network_in p.setup) c (event_of i))) s (step_kept (meaning p.setup.algebra) (network_in p.setup) (L p.setup.algebra) W c (event_of i) K) in
-      let H' : Holds meaning (step (meaning p.setup.algebra) (network_in p.setup) c (event_of i)) m = subst (λ t. HoldsShare (meaning t.algebra) (network_in t) (place_in t) (step (meaning p.setup.algebra) (network_in p.setup) c (event_of i)) m) s E.holds in
-      let R = took_all L is m q (step (meaning p.setup.algebra) (network_in p.setup) c (event_of i)) W' K' H' rest in
-      (R.0, R.1, R.2 ∙ T.setup, (E.enabled, subst (λ t. AllEnabled meaning t (step (meaning p.setup.algebra) (network_in p.setup) c (event_of i)) is R.0) T.setup R.3))
+      let K' = subst (λ t. Kept (meaning t.question.algebra) (network_in t) 0 (step (meaning p.setup.question.algebra) (network_in p.setup) c (event_of i))) s (step_kept (meaning p.setup.question.algebra) (network_in p.setup) (L p.setup.question.algebra) W c (event_of i) K) in
+      let H' : Holds meaning (step (meaning p.setup.question.algebra) (network_in p.setup) c (event_of i)) m = subst (λ t. HoldsShare (meaning t.question.algebra) (network_in t) (place_in t) (step (meaning p.setup.question.algebra) (network_in p.setup) c (event_of i)) m) s E.holds in
+      let R = handled_all L is m q (step (meaning p.setup.question.algebra) (network_in p.setup) c (event_of i)) W' K' H' rest in
+      (R.0, R.1, R.2 ∙ T.setup, (E.enabled, subst (λ t. AllEnabled meaning t (step (meaning p.setup.question.algebra) (network_in p.setup) c (event_of i)) is R.0) T.setup R.3))
 
   pub publish_shows : (t : Setup S) (before after : List (PartData S V)) (p : PartData S V) (to : ℕ) (boxes behind : List (ℕ × List (Item V))) (c : CoreState V) →
       Shows meaning t (before ++ p ∷ after) (mail_weight (boxes ++ (to, []) ∷ behind)) c →
@@ -148,7 +148,7 @@ module _ {S V : Type 0} (meaning : S → Algebra V) where
   publish_shows t before after p to boxes behind c H =
       let all = all_parts (λ (r : PartData S V). r.setup ≡ t) before (p ∷ after) H.same in record {
         same = all_append (λ (r : PartData S V). r.setup ≡ t) before (record p { outs = set p.outs to [] } ∷ after) all.0 (all.1.0, all.1.1);
-        shown = publish_shown (meaning t.algebra) (network_in t) (place_in t) before after p to boxes behind c H.shown;
+        shown = publish_shown (meaning t.question.algebra) (network_in t) (place_in t) before after p to boxes behind c H.shown;
       }
 
   pub receive_shows : (t : Setup S) (before after : List (PartData S V)) (p : PartData S V) (batch : List (Item V)) (boxes behind : List (ℕ × List (Item V))) (c : CoreState V) →
@@ -157,5 +157,5 @@ module _ {S V : Type 0} (meaning : S → Algebra V) where
   receive_shows t before after p batch boxes behind c H =
       let all = all_parts (λ (r : PartData S V). r.setup ≡ t) before (p ∷ after) H.same in record {
         same = all_append (λ (r : PartData S V). r.setup ≡ t) before (record p { queue = p.queue ++ batch } ∷ after) all.0 (all.1.0, all.1.1);
-        shown = receive_shown (meaning t.algebra) (network_in t) (place_in t) before after p batch boxes behind c H.shown;
+        shown = receive_shown (meaning t.question.algebra) (network_in t) (place_in t) before after p batch boxes behind c H.shown;
       }

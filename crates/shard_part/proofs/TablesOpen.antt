@@ -7,52 +7,52 @@ use Rattle.scholten_core.specs.Sums.{sum_below, one_if}
 use Rattle.shard_part.specs.Tables.{placed}
 use Rattle.shard_part.specs.PartState.{Setup, network_in, place_in, own_in, total, outbox_bound, queue_bound}
 use Rattle.shard_part.specs.Moves.{Rows, seen_as, IsPlanned, IsStored}
-use Rattle.shard_part.specs.Opening.{ShardLayoutData, question_of, is_first, first_items, opened_part, idle_rows, AreStarts, CountsAll}
+use Rattle.shard_part.specs.Opening.{ShardLayoutData, is_first, first_items, opened_part, idle_rows, AreStarts, CountsAll}
 use Rattle.shard_part.proofs.Counting.{total_index}
 use Rattle.shard_part.proofs.CapacitiesByVertex.{capacities_sum, queue_bound_most, queue_bound_first}
 use Rattle.shard_part.proofs.Opened.{place_below, place_source, arcs_first, opened_seen, opened_stored}
 
-module _ (w : ShardLayoutData) (P : IsPlanned (question_of w) w.shard) where
-  pub sum_is : (capacities : List ℕ) → CountsAll w capacities → total (λ n. n) capacities ≡ queue_bound (network_in (question_of w)) (place_in (question_of w)) w.shard
+module _ (w : ShardLayoutData) (P : IsPlanned w.setup w.shard) where
+  pub sum_is : (capacities : List ℕ) → CountsAll w capacities → total (λ n. n) capacities ≡ queue_bound (network_in w.setup) (place_in w.setup) w.shard
   sum_is capacities C =
-      total_index capacities (outbox_bound (network_in (question_of w)) (place_in (question_of w)) w.shard) (λ t l. C.1 t (let q = C.0 in omega (arith, q, l)))
-      ∙ ap (sum_below (outbox_bound (network_in (question_of w)) (place_in (question_of w)) w.shard)) C.0
-      ∙ capacities_sum (network_in (question_of w)) (place_in (question_of w)) w.shard w.plan.shards (place_below (question_of w) w.shard P)
+      total_index capacities (outbox_bound (network_in w.setup) (place_in w.setup) w.shard) (λ t l. C.1 t (let q = C.0 in omega (arith, q, l)))
+      ∙ ap (sum_below (outbox_bound (network_in w.setup) (place_in w.setup) w.shard)) C.0
+      ∙ capacities_sum (network_in w.setup) (place_in w.setup) w.shard w.setup.plan.shards (place_below w.setup w.shard P)
 
   pub sum_small : (capacities xs : List ℕ) → CountsAll w capacities → xs ≡ capacities → total (λ n. n) xs ≤ 2 ^ 32
-  sum_small capacities xs C e = let a = sum_is capacities C in let b = ap (total (λ n. n)) e in let m = queue_bound_most (network_in (question_of w)) (place_in (question_of w)) w.shard in let f = P.roads.few_arcs in omega (arith, a, b, m, f)
+  sum_small capacities xs C e = let a = sum_is capacities C in let b = ap (total (λ n. n)) e in let m = queue_bound_most (network_in w.setup) (place_in w.setup) w.shard in let f = P.roads.few_arcs in omega (arith, a, b, m, f)
 
-  pub sum_first : (capacities xs : List ℕ) (sum : ℕ) (first : Bool) → CountsAll w capacities → xs ≡ capacities → sum ≡ total (λ n. n) xs → first ≡ is_first (question_of w) w.shard → first ≡ true → 1 ≤ sum
+  pub sum_first : (capacities xs : List ℕ) (sum : ℕ) (first : Bool) → CountsAll w capacities → xs ≡ capacities → sum ≡ total (λ n. n) xs → first ≡ is_first w.setup w.shard → first ≡ true → 1 ≤ sum
   sum_first capacities xs sum first C e s f t =
       let a = sum_is capacities C in let b = ap (total (λ n. n)) e in
-      let m = queue_bound_first (network_in (question_of w)) (place_in (question_of w)) w.shard (place_source (question_of w) w.shard P ∙ eqb-true (place_in (question_of w) 0) w.shard (sym f ∙ t)) in omega (arith, a, b, s, m)
+      let m = queue_bound_first (network_in w.setup) (place_in w.setup) w.shard (place_source w.setup w.shard P ∙ eqb-true (place_in w.setup 0) w.shard (sym f ∙ t)) in omega (arith, a, b, s, m)
 
-  pub some_arc : (own xs offsets : List ℕ) (arcs : ℕ) → AreStarts (network_in (question_of w)) xs offsets arcs → xs ≡ own → own ≡ own_in (question_of w) w.shard → 1 ≤ arcs
+  pub some_arc : (own xs offsets : List ℕ) (arcs : ℕ) → AreStarts (network_in w.setup) xs offsets arcs → xs ≡ own → own ≡ own_in w.setup w.shard → 1 ≤ arcs
   some_arc own xs offsets arcs B e o =
-      let B2 = subst (λ ys. AreStarts (network_in (question_of w)) ys offsets arcs) (e ∙ o) B in
-      let f = ap length (arcs_first (question_of w) w.shard P) in let c = B2.count_is in omega (arith, f, c)
+      let B2 = subst (λ ys. AreStarts (network_in w.setup) ys offsets arcs) (e ∙ o) B in
+      let f = ap length (arcs_first w.setup w.shard P) in let c = B2.count_is in omega (arith, f, c)
 
 module _ {S : Type 0} (t : Setup S) (s : ℕ) where
   -- the shard of a question, without its algebra
   abbrev pub layout_of : ShardLayoutData
-  layout_of = record { roads = t.roads; plan = t.plan; source = t.source; shard = s }
+  layout_of = record { setup = record { question = record { algebra = tt; roads = t.question.roads; source = t.question.source }; plan = t.plan }; shard = s }
 
-  pub same_place : place_in (question_of layout_of) ≡ place_in t
+  pub same_place : place_in layout_of.setup ≡ place_in t
   unfolding place_in
   same_place = refl
 
-  pub planned_too : IsPlanned (question_of layout_of) s → IsPlanned t s
+  pub planned_too : IsPlanned layout_of.setup s → IsPlanned t s
   planned_too P = record { roads = P.roads; source = P.source; plan = P.plan; covers = P.covers; shard = P.shard }
 
-module _ {S V : Type 0} (A : Algebra V) (t : Setup S) (s : ℕ) (P : IsPlanned (question_of (layout_of t s)) s) (first : Bool) (own xs offsets capacities ys zs ns : List ℕ) (arcs sum sent : ℕ) (rows : Rows V) (queue : Buffer (Item V)) (outs : List (List (Item V)))
-    (F : first ≡ is_first (question_of (layout_of t s)) s) (O : own ≡ own_in (question_of (layout_of t s)) s) (X : xs ≡ own) (B : AreStarts (network_in (question_of (layout_of t s))) xs offsets arcs)
+module _ {S V : Type 0} (A : Algebra V) (t : Setup S) (s : ℕ) (P : IsPlanned (layout_of t s).setup s) (first : Bool) (own xs offsets capacities ys zs ns : List ℕ) (arcs sum sent : ℕ) (rows : Rows V) (queue : Buffer (Item V)) (outs : List (List (Item V)))
+    (F : first ≡ is_first (layout_of t s).setup s) (O : own ≡ own_in (layout_of t s).setup s) (X : xs ≡ own) (B : AreStarts (network_in (layout_of t s).setup) xs offsets arcs)
     (C : CountsAll (layout_of t s) capacities) (Y : ys ≡ capacities) (T : sum ≡ total (λ n. n) ys) (Q : queue ≡ buffer (first_items A first) sum) (Z : zs ≡ set capacities s 0) (I : outs ≡ replicate (length zs) []) (K : ns ≡ zs)
     (R : rows ≡ idle_rows own offsets arcs first) (N : sent ≡ one_if first) where
   first_too : first ≡ is_first t s
   first_too = F ∙ ap (λ f. eqb (f 0) s) (same_place t s)
 
   own_too : own ≡ own_in t s
-  own_too = O ∙ ap (λ f. 0 ∷ placed f s 1 t.roads.vertices) (same_place t s)
+  own_too = O ∙ ap (λ f. 0 ∷ placed f s 1 t.question.roads.vertices) (same_place t s)
 
   starts_too : AreStarts (network_in t) (own_in t s) offsets arcs
   starts_too = subst (λ os. AreStarts (network_in t) os offsets arcs) (X ∙ own_too) B

@@ -17,10 +17,10 @@ use Rattle.scholten_core.proofs.Kept.{Kept, step_kept, run_kept}
 use Rattle.scholten_core.proofs.Ended.{opening_kept}
 use Rattle.scholten_core.proofs.Counts.{accounts}
 use Rattle.shard_part.specs.Tallies.{counted_on, top}
-use Rattle.shard_part.specs.PartState.{PartData, Setup, network_in, place_in, state_in, total, is_told, is_back, made, in_flight, part_weight, event_of, TookIn, TookAll, HoldsShare, Holds}
+use Rattle.shard_part.specs.PartState.{PartData, Setup, network_in, place_in, state_in, total, is_told, is_back, made, in_flight, part_weight, event_of, HandledItemIn, HandledAll, HoldsShare, Holds}
 use Rattle.shard_part.specs.Moves.{IsTallied}
-use Rattle.shard_part.specs.Part.{TookFront, TookMany, IsRunOn}
-use Rattle.shard_part.proofs.TakenIsEvent.{took_event, took_weighs}
+use Rattle.shard_part.specs.Part.{HandledFront, HandledMany, IsRunOn}
+use Rattle.shard_part.proofs.TakenIsEvent.{handled_event, handled_weighs}
 use Rattle.shard_part.proofs.OffersArePumped.{counted_none, counted_more, counted_top}
 use Rattle.scholten_core.proofs.Sums.{sum_same}
 
@@ -65,16 +65,16 @@ module _ {S V : Type 0} (A : Algebra V) (N : Network) (place : ℕ → ℕ) wher
     pub delivered : is_told i ≡ one_if (is_delivery A N c (event_of i))
     pub accepted : is_back i ≡ one_if (is_acceptance A N c (event_of i))
 
-  pub counts : Lawful A → WellFormed N → (c : CoreState V) (p : PartData S V) (i : Item V) (q : PartData S V) → Kept A N 0 c → HoldsShare A N place c p → TookIn A N place p i q → Counts c i p
+  pub counts : Lawful A → WellFormed N → (c : CoreState V) (p : PartData S V) (i : Item V) (q : PartData S V) → Kept A N 0 c → HoldsShare A N place c p → HandledItemIn A N place p i q → Counts c i p
   counts L W c p i q K H T =
-      let E = took_event A N place L W c p i q K H T in
+      let E = handled_event A N place L W c p i q K H T in
       let R = accounts A N L W c (event_of i ∷ []) K in
       let d = told_if A N c i E.enabled in
       let s = back_if A N c i E.enabled in
       record {
-        sent = (let w = took_weighs A N place p i q H.tables.wide T (λ _. is_told) in
+        sent = (let w = handled_weighs A N place p i q H.tables.wide T (λ _. is_told) in
             let b = E.weighs (λ _. is_told) in let r = R.messages in let f = in_flight_told N place c in let g = in_flight_told N place (step A N c (event_of i)) in omega (arith, w, b, r, f, g, d));
-        signalled = (let w = took_weighs A N place p i q H.tables.wide T (λ _. is_back) in
+        signalled = (let w = handled_weighs A N place p i q H.tables.wide T (λ _. is_back) in
             let b = E.weighs (λ _. is_back) in let r = R.signals in let f = in_flight_back N place c in let g = in_flight_back N place (step A N c (event_of i)) in omega (arith, w, b, r, f, g, s));
         delivered = d;
         accepted = s;
@@ -83,21 +83,21 @@ module _ {S V : Type 0} (A : Algebra V) (N : Network) (place : ℕ → ℕ) wher
 module _ {S V : Type 0} (meaning : S → Algebra V) where
   -- items taken one after the other, as events of c
   pub record Runs (t : Setup S) (c : CoreState V) (items : List (Item V)) (p q : PartData S V) : Type 0 where
-    pub enabled : count_enabled (meaning t.algebra) (network_in t) c (map event_of items) ≡ length items
-    pub holds : HoldsShare (meaning t.algebra) (network_in t) (place_in t) (run_from (meaning t.algebra) (network_in t) c (map event_of items)) q
+    pub enabled : count_enabled (meaning t.question.algebra) (network_in t) c (map event_of items) ≡ length items
+    pub holds : HoldsShare (meaning t.question.algebra) (network_in t) (place_in t) (run_from (meaning t.question.algebra) (network_in t) c (map event_of items)) q
     pub setup : q.setup ≡ t
-    pub weighs : (h : ℕ → Item V → ℕ) → part_weight h q + in_flight (network_in t) (place_in t) c h ≡ part_weight h p + in_flight (network_in t) (place_in t) (run_from (meaning t.algebra) (network_in t) c (map event_of items)) h
-    pub sent : q.sent ≡ counted_on (sent_total (meaning t.algebra) (network_in t) c (map event_of items)) p.sent
-    pub delivered : q.delivered ≡ counted_on (delivered_total (meaning t.algebra) (network_in t) c (map event_of items)) p.delivered
-    pub signalled : q.signalled ≡ counted_on (signalled_total (meaning t.algebra) (network_in t) c (map event_of items)) p.signalled
-    pub accepted : q.accepted ≡ counted_on (accepted_total (meaning t.algebra) (network_in t) c (map event_of items)) p.accepted
+    pub weighs : (h : ℕ → Item V → ℕ) → part_weight h q + in_flight (network_in t) (place_in t) c h ≡ part_weight h p + in_flight (network_in t) (place_in t) (run_from (meaning t.question.algebra) (network_in t) c (map event_of items)) h
+    pub sent : q.sent ≡ counted_on (sent_total (meaning t.question.algebra) (network_in t) c (map event_of items)) p.sent
+    pub delivered : q.delivered ≡ counted_on (delivered_total (meaning t.question.algebra) (network_in t) c (map event_of items)) p.delivered
+    pub signalled : q.signalled ≡ counted_on (signalled_total (meaning t.question.algebra) (network_in t) c (map event_of items)) p.signalled
+    pub accepted : q.accepted ≡ counted_on (accepted_total (meaning t.question.algebra) (network_in t) c (map event_of items)) p.accepted
 
   -- a counter after one item and then others
   counter : (k l j a n m : ℕ) → n ≡ counted_on k a → k ≡ l → m ≡ counted_on j n → m ≡ counted_on (l + j) a
   counter k l j a n m p e q = q ∙ ap (counted_on j) (p ∙ ap (λ z. counted_on z a) e) ∙ counted_more l j a
 
-  pub runs : (t : Setup S) → Lawful (meaning t.algebra) → WellFormed (network_in t) → (items : List (Item V)) (p q : PartData S V) (c : CoreState V) → p.setup ≡ t → IsTallied p → Kept (meaning t.algebra) (network_in t) 0 c →
-      HoldsShare (meaning t.algebra) (network_in t) (place_in t) c p → TookAll meaning p items q → Runs t c items p q
+  pub runs : (t : Setup S) → Lawful (meaning t.question.algebra) → WellFormed (network_in t) → (items : List (Item V)) (p q : PartData S V) (c : CoreState V) → p.setup ≡ t → IsTallied p → Kept (meaning t.question.algebra) (network_in t) 0 c →
+      HoldsShare (meaning t.question.algebra) (network_in t) (place_in t) c p → HandledAll meaning p items q → Runs t c items p q
   runs t L W [] p q c e y K H s = subst (Runs t c [] p) s (record {
     enabled = refl;
     holds = H;
@@ -109,42 +109,42 @@ module _ {S V : Type 0} (meaning : S → Algebra V) where
     accepted = sym (counted_none p.accepted y.3);
   })
   runs t L W (i ∷ is) p q c e y K H (m, T, rest) =
-      let A = meaning t.algebra in
+      let A = meaning t.question.algebra in
       let N = network_in t in
-      let took_in : TookIn (meaning t.algebra) (network_in t) (place_in t) p i m = subst (λ u. TookIn (meaning u.algebra) (network_in u) (place_in u) p i m) e T in
-      let E = took_event A N (place_in t) L W c p i m K H took_in in
-      let C = counts A N (place_in t) L W c p i m K H took_in in
+      let handled_in : HandledItemIn (meaning t.question.algebra) (network_in t) (place_in t) p i m = subst (λ u. HandledItemIn (meaning u.question.algebra) (network_in u) (place_in u) p i m) e T in
+      let E = handled_event A N (place_in t) L W c p i m K H handled_in in
+      let C = counts A N (place_in t) L W c p i m K H handled_in in
       let below : IsTallied m = (
         subst (λ n. n ≤ top) (sym T.sent) (counted_top _ p.sent),
         subst (λ n. n ≤ top) (sym T.delivered) (counted_top (is_told i) p.delivered),
         subst (λ n. n ≤ top) (sym T.signalled) (counted_top _ p.signalled),
         subst (λ n. n ≤ top) (sym T.accepted) (counted_top (is_back i) p.accepted),
       ) in
-      let R = runs t L W is m q (step A N c (event_of i)) (took_in.setup ∙ e) below (step_kept A N L W c (event_of i) K) E.holds rest in
+      let R = runs t L W is m q (step A N c (event_of i)) (handled_in.setup ∙ e) below (step_kept A N L W c (event_of i) K) E.holds rest in
       record {
         enabled = (let r = R.enabled in let one = cond-true {A = ℕ} (is_enabled c (event_of i)) 1 0 E.enabled in omega (arith, r, one));
         holds = R.holds;
         setup = R.setup;
         weighs = λ h. let w = E.weighs h in let r = R.weighs h in omega (arith, w, r);
-        sent = counter _ _ (sent_total A N (step A N c (event_of i)) (map event_of is)) p.sent m.sent q.sent took_in.sent C.sent R.sent;
-        delivered = counter _ _ (delivered_total A N (step A N c (event_of i)) (map event_of is)) p.delivered m.delivered q.delivered took_in.delivered C.delivered R.delivered;
-        signalled = counter _ _ (signalled_total A N (step A N c (event_of i)) (map event_of is)) p.signalled m.signalled q.signalled took_in.signalled C.signalled R.signalled;
-        accepted = counter _ _ (accepted_total A N (step A N c (event_of i)) (map event_of is)) p.accepted m.accepted q.accepted took_in.accepted C.accepted R.accepted;
+        sent = counter _ _ (sent_total A N (step A N c (event_of i)) (map event_of is)) p.sent m.sent q.sent handled_in.sent C.sent R.sent;
+        delivered = counter _ _ (delivered_total A N (step A N c (event_of i)) (map event_of is)) p.delivered m.delivered q.delivered handled_in.delivered C.delivered R.delivered;
+        signalled = counter _ _ (signalled_total A N (step A N c (event_of i)) (map event_of is)) p.signalled m.signalled q.signalled handled_in.signalled C.signalled R.signalled;
+        accepted = counter _ _ (accepted_total A N (step A N c (event_of i)) (map event_of is)) p.accepted m.accepted q.accepted handled_in.accepted C.accepted R.accepted;
       }
 
   -- on the state after some events
-  pub run_on : (events : List Event) (p q : PartData S V) (n : ℕ) (items : List (Item V)) → Lawful (meaning p.setup.algebra) → WellFormed (network_in p.setup) → IsTallied p → length items ≡ n → TookAll meaning p items q →
-      Holds meaning (state_after (meaning p.setup.algebra) (network_in p.setup) events) p → IsRunOn meaning events p n q
+  pub run_on : (events : List Event) (p q : PartData S V) (n : ℕ) (items : List (Item V)) → Lawful (meaning p.setup.question.algebra) → WellFormed (network_in p.setup) → IsTallied p → length items ≡ n → HandledAll meaning p items q →
+      Holds meaning (state_after (meaning p.setup.question.algebra) (network_in p.setup) events) p → IsRunOn meaning events p n q
   run_on events p q n items L W y l T H =
-      let A = meaning p.setup.algebra in
+      let A = meaning p.setup.question.algebra in
       let N = network_in p.setup in
       let R = runs p.setup L W items p q (state_after A N events) refl y (run_kept A N L W (opening A N) events (opening_kept A N W)) H T in
       record {
         items = items;
         count = l;
-        took = T;
+        handled = T;
         enabled = R.enabled ∙ l;
-        holds = subst (λ t. HoldsShare (meaning t.algebra) (network_in t) (place_in t) (state_after A N (events ++ map event_of items)) q) (sym R.setup)
+        holds = subst (λ t. HoldsShare (meaning t.question.algebra) (network_in t) (place_in t) (state_after A N (events ++ map event_of items)) q) (sym R.setup)
             (subst (λ d. HoldsShare A N (place_in p.setup) d q) (sym (run_append A N (opening A N) events (map event_of items))) R.holds);
         weighs = subst (λ d. (h : ℕ → Item V → ℕ) → part_weight h q + in_flight N (place_in p.setup) (state_after A N events) h ≡ part_weight h p + in_flight N (place_in p.setup) d h) (sym (run_append A N (opening A N) events (map event_of items))) R.weighs;
         sent = R.sent;
@@ -154,24 +154,24 @@ module _ {S V : Type 0} (meaning : S → Algebra V) where
       }
 
   -- one item more at the end
-  pub took_more : (items : List (Item V)) (i : Item V) (p m q : PartData S V) → TookAll meaning p items m → TookIn (meaning m.setup.algebra) (network_in m.setup) (place_in m.setup) m i q → TookAll meaning p (items ++ i ∷ []) q
-  took_more [] i p m q e T = (q, subst (λ (u : PartData S V). TookIn (meaning u.setup.algebra) (network_in u.setup) (place_in u.setup) u i q) (sym e) T, refl)
-  took_more (j ∷ items) i p m q (u, S1, rest) T = (u, S1, took_more items i u m q rest T)
+  pub handled_more : (items : List (Item V)) (i : Item V) (p m q : PartData S V) → HandledAll meaning p items m → HandledItemIn (meaning m.setup.question.algebra) (network_in m.setup) (place_in m.setup) m i q → HandledAll meaning p (items ++ i ∷ []) q
+  handled_more [] i p m q e T = (q, subst (λ (u : PartData S V). HandledItemIn (meaning u.setup.question.algebra) (network_in u.setup) (place_in u.setup) u i q) (sym e) T, refl)
+  handled_more (j ∷ items) i p m q (u, S1, rest) T = (u, S1, handled_more items i u m q rest T)
 
   -- what many items leave
-  pub took_same : (items : List (Item V)) (p q : PartData S V) → TookAll meaning p items q → (q.setup ≡ p.setup) × (q.shard ≡ p.shard)
-  took_same [] p q e = (ap (λ (u : PartData S V). u.setup) (sym e), ap (λ (u : PartData S V). u.shard) (sym e))
-  took_same (i ∷ items) p q (m, T, rest) = let r = took_same items m q rest in (r.0 ∙ T.setup, r.1 ∙ T.shard)
+  pub handled_same : (items : List (Item V)) (p q : PartData S V) → HandledAll meaning p items q → (q.setup ≡ p.setup) × (q.shard ≡ p.shard)
+  handled_same [] p q e = (ap (λ (u : PartData S V). u.setup) (sym e), ap (λ (u : PartData S V). u.shard) (sym e))
+  handled_same (i ∷ items) p q (m, T, rest) = let r = handled_same items m q rest in (r.0 ∙ T.setup, r.1 ∙ T.shard)
 
   -- one item more was taken
-  pub took_next : (p m q : PartData S V) (n : ℕ) → TookMany meaning p n m → TookFront meaning m q → TookMany meaning p (n + 1) q
-  took_next p m q n (items, l, T) (i, R) = (items ++ i ∷ [], length-append items (i ∷ []) ∙ ap (λ k. k + 1) l, took_more items i p m q T R)
+  pub handled_next : (p m q : PartData S V) (n : ℕ) → HandledMany meaning p n m → HandledFront meaning m q → HandledMany meaning p (n + 1) q
+  handled_next p m q n (items, l, T) (i, R) = (items ++ i ∷ [], length-append items (i ∷ []) ∙ ap (λ k. k + 1) l, handled_more items i p m q T R)
 
-  pub took_many_same : (p q : PartData S V) (n : ℕ) → TookMany meaning p n q → (q.setup ≡ p.setup) × (q.shard ≡ p.shard)
-  took_many_same p q n (items, l, T) = took_same items p q T
+  pub handled_many_same : (p q : PartData S V) (n : ℕ) → HandledMany meaning p n q → (q.setup ≡ p.setup) × (q.shard ≡ p.shard)
+  handled_many_same p q n (items, l, T) = handled_same items p q T
 
   -- many items of a part, on the state after some events
-  pub many_run : (state p q : PartData S V) (a : S) (n : ℕ) → state ≡ p → a ≡ state.setup.algebra → Lawful (meaning a) → WellFormed (network_in state.setup) → IsTallied state → TookMany meaning p n q →
-      (events : List Event) → Holds meaning (state_after (meaning p.setup.algebra) (network_in p.setup) events) p → IsRunOn meaning events p n q
-  many_run state p q a n e l L W y (items, count, T) events H = run_on events p q n items (subst (λ z. Lawful (meaning z)) (l ∙ ap (λ (u : PartData S V). u.setup.algebra) e) L)
+  pub many_run : (state p q : PartData S V) (a : S) (n : ℕ) → state ≡ p → a ≡ state.setup.question.algebra → Lawful (meaning a) → WellFormed (network_in state.setup) → IsTallied state → HandledMany meaning p n q →
+      (events : List Event) → Holds meaning (state_after (meaning p.setup.question.algebra) (network_in p.setup) events) p → IsRunOn meaning events p n q
+  many_run state p q a n e l L W y (items, count, T) events H = run_on events p q n items (subst (λ z. Lawful (meaning z)) (l ∙ ap (λ (u : PartData S V). u.setup.question.algebra) e) L)
       (subst (λ (u : PartData S V). WellFormed (network_in u.setup)) e W) (subst IsTallied e y) count T H

@@ -13,7 +13,7 @@ use Rattle.scholten_core.specs.Diffusion.{CoreState, arrive, freed, step, answer
 use Rattle.scholten_core.specs.Sums.{one_if}
 use Rattle.scholten_core.specs.Items.{item_arc, item_of, settle_made}
 use Rattle.scholten_core.specs.Shares.{Agree}
-use Rattle.shard_part.specs.PartState.{PartData, state_in, total, vertex_of, outgoing, taken, made, arrive_here, in_flight, at_place, event_of, lanes_weight, lanes_of, part_weight, mine, TookIn, HoldsTables, HoldsShare}
+use Rattle.shard_part.specs.PartState.{PartData, state_in, total, vertex_of, outgoing, taken, made, arrive_here, in_flight, at_place, event_of, lanes_weight, lanes_of, part_weight, mine, HandledItemIn, HoldsTables, HoldsShare}
 use Rattle.scholten_core.proofs.Kept.{Kept, head_real}
 use Rattle.scholten_core.proofs.Shares.{agree_then, message_frame, signal_frame, freed_agree}
 use Rattle.shard_part.proofs.Here.{arrive_here_agree, message_here, signal_here}
@@ -134,9 +134,9 @@ module _ {S V : Type 0} (A : Algebra V) (N : Network) (place : ℕ → ℕ) wher
       stands_at A N place L c p.shard i r.0 r.1 (c.token r.0) refl r.2
 
   -- what the part's lists weigh afterwards
-  pub took_weighs : (p : PartData S V) (i : Item V) (q : PartData S V) → ((v : ℕ) → place v < length p.outs) → TookIn A N place p i q → (h : ℕ → Item V → ℕ) →
+  pub handled_weighs : (p : PartData S V) (i : Item V) (q : PartData S V) → ((v : ℕ) → place v < length p.outs) → HandledItemIn A N place p i q → (h : ℕ → Item V → ℕ) →
       part_weight h q + h p.shard i ≡ part_weight h p + total (at_place N place h) (made A N i (state_in p))
-  took_weighs p i q wide T h =
+  handled_weighs p i q wide T h =
       let r = (routed N place p.shard (made A N i (state_in p)) (record { queue = T.rest; outs = p.outs }) wide).weighs h in
       let l = ap (lanes_weight p.shard h) T.lanes in
       let s = ap (λ z. lanes_weight z h (lanes_of q)) T.shard in
@@ -150,11 +150,11 @@ module _ {S V : Type 0} (A : Algebra V) (N : Network) (place : ℕ → ℕ) wher
     pub others : (r : PartData S V) → r.shard ≢ p.shard → HoldsTables A N place c r → HoldsTables A N place (step A N c (event_of i)) r
     pub weighs : (h : ℕ → Item V → ℕ) → part_weight h q + in_flight N place c h ≡ part_weight h p + in_flight N place (step A N c (event_of i)) h
 
-  pub took_event : Lawful A → WellFormed N → (c : CoreState V) (p : PartData S V) (i : Item V) (q : PartData S V) → Kept A N 0 c → HoldsShare A N place c p → TookIn A N place p i q → TakenEvent c p i q
-  took_event L W c p i q K H T =
+  pub handled_event : Lawful A → WellFormed N → (c : CoreState V) (p : PartData S V) (i : Item V) (q : PartData S V) → Kept A N 0 c → HoldsShare A N place c p → HandledItemIn A N place p i q → TakenEvent c p i q
+  handled_event L W c p i q K H T =
       let F = front_stands L c p i T.rest H T.front in
       let E = event_made A N place L W p.shard c (state_in p) i K H.tables.agree F in
-      let balance : (h : ℕ → Item V → ℕ) → part_weight h q + in_flight N place c h ≡ part_weight h p + in_flight N place (step A N c (event_of i)) h = λ h. (let a = E.weighs h in let b = took_weighs p i q H.tables.wide T h in let e : at_place N place h i ≡ h p.shard i = ap (λ z. h z i) F.here in
+      let balance : (h : ℕ → Item V → ℕ) → part_weight h q + in_flight N place c h ≡ part_weight h p + in_flight N place (step A N c (event_of i)) h = λ h. (let a = E.weighs h in let b = handled_weighs p i q H.tables.wide T h in let e : at_place N place h i ≡ h p.shard i = ap (λ z. h z i) F.here in
       omega (arith, a, b, e)) in
       let long : length q.outs ≡ length p.outs = ap (λ l. length l.outs) T.lanes ∙ (routed N place p.shard (made A N i (state_in p)) (record { queue = T.rest; outs = p.outs }) H.tables.wide).long in
       record {

@@ -1,10 +1,10 @@
 -- A vertex settles: the arcs offered and the rest that follows are those of the whole state.
-use Rattle.std.proofs.Common.{◌≡◌, ℕ, ◌<◌, ◌≤◌, Bool, true, false, Option, Some, None, List, [], ◌∷◌, ◌++◌, length, set, get_or, append-nil, refl, sym, ap, ◌∙◌, subst, inl, inr, get_or-set_same, get_or-set_other}
+use Rattle.std.proofs.Common.{◌≡◌, ℕ, ◌<◌, ◌≤◌, Bool, true, false, Option, Some, None, List, [], ◌∷◌, ◌++◌, length, set, get_or, append-nil, refl, sym, ap, ◌∙◌, subst, inl, inr, get_or-set_same, get_or-set_other, Contains}
 use Rattle.std.proofs.lemmas.Bool.{cond-false}
 use Rattle.scholten_core.specs.declared.item.Item.{Item}
 use Rattle.scholten_core.specs.declared.item.Item.TheVariants.{Signal as SignalOn}
 use Rattle.path_algebra.specs.Algebra.{Algebra}
-use Rattle.scholten_core.specs.Diffusion.{CoreState, is_idle, is_due, pump, out_idle, Listed}
+use Rattle.scholten_core.specs.Diffusion.{CoreState, is_idle, is_due, pump, out_idle}
 use Rattle.scholten_core.specs.Items.{pump_made, rest_made, settle_made, IsDistinct}
 use Rattle.scholten_core.specs.Shares.{Agree}
 use Rattle.scholten_core.proofs.Basics.{put_tells}
@@ -32,7 +32,7 @@ module _ {S V : Type 0} (A : Algebra V) where
 
   -- where all arcs but the offered ones are not due, the vertex has pumped
   pumped_by : (v : ℕ) (xs ys : List ℕ) (p q : PartData S V) → p.signalled ≤ top → Offers A v xs p q →
-      ((b : ℕ) → (Listed A (network_in p.setup) b xs → ⊥) → is_due A (network_in p.setup) v (state_in p) b ≡ false) →
+      ((b : ℕ) → (Contains xs b → ⊥) → is_due A (network_in p.setup) v (state_in p) b ≡ false) →
       pump_made A (network_in p.setup) v (state_in p) ys ≡ pump_made A (network_in p.setup) v (state_in p) xs →
       Made (pump A (network_in p.setup) v (state_in p)) (pump_made A (network_in p.setup) v (state_in p) ys) p q
   pumped_by v xs ys p q s R quiet same =
@@ -105,8 +105,8 @@ module _ {S V : Type 0} (A : Algebra V) where
 
   -- a vertex settles: it offers its label to these arcs, where no other is due, and rests
   pub settles : (v : ℕ) (xs ys : List ℕ) (p : PartData S V) → p.sent ≤ top → p.signalled ≤ top → v < length p.engagers → IsDistinct A (network_in p.setup) xs →
-      ((b : ℕ) → Listed A (network_in p.setup) b xs → (b < length p.told) × (b < length p.busy)) →
-      ((b : ℕ) → (Listed A (network_in p.setup) b xs → ⊥) → is_due A (network_in p.setup) v (state_in p) b ≡ false) →
+      ((b : ℕ) → Contains xs b → (b < length p.told) × (b < length p.busy)) →
+      ((b : ℕ) → (Contains xs b → ⊥) → is_due A (network_in p.setup) v (state_in p) b ≡ false) →
       pump_made A (network_in p.setup) v (state_in p) ys ≡ pump_made A (network_in p.setup) v (state_in p) xs →
       Made (settle_here A (network_in p.setup) v (state_in p)) (settle_made A (network_in p.setup) v (state_in p) ys) p (rested A v (offered_all A v xs p))
   settles v xs ys p s g l D within quiet same =

@@ -16,4 +16,4 @@ module _ {S V : Type 0} where
 
   -- the part may receive the batch: it has room, and the batch fits
   abbrev pub MayReceive : (S → Algebra V) → PartData S V → List (Item V) → Type 0
-  MayReceive meaning p xs = (length p.queue + length xs ≤ queue_bound (network_in p.setup) (place_in p.setup) p.shard) × Fits (meaning p.setup.algebra) p xs
+  MayReceive meaning p xs = (length p.queue + length xs ≤ queue_bound (network_in p.setup) (place_in p.setup) p.shard) × Fits (meaning p.setup.question.algebra) p xs

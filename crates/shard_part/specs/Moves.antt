@@ -31,10 +31,10 @@ abbrev pub seen_as : {S V : Type 0} → Setup S → ℕ → Rows V → List (Ite
 seen_as t s r queue outs sent delivered signalled accepted = record {
   setup = t;
   shard = s;
-  labels = spread (own_in t s) r.labels None (suc t.roads.vertices);
-  engagers = spread (own_in t s) r.engagers None (suc t.roads.vertices);
-  busy = spread (arcs_out (network_in t) (own_in t s)) r.busy false (suc (length t.roads.arcs));
-  told = spread (arcs_out (network_in t) (own_in t s)) r.told None (suc (length t.roads.arcs));
+  labels = spread (own_in t s) r.labels None (suc t.question.roads.vertices);
+  engagers = spread (own_in t s) r.engagers None (suc t.question.roads.vertices);
+  busy = spread (arcs_out (network_in t) (own_in t s)) r.busy false (suc (length t.question.roads.arcs));
+  told = spread (arcs_out (network_in t) (own_in t s)) r.told None (suc (length t.question.roads.arcs));
   queue = queue;
   outs = outs;
   sent = sent;
@@ -56,17 +56,17 @@ pub record IsSized {S V : Type 0} (p : PartData S V) (r : Rows V) : Type 0 where
 
 -- and what the part shows are these rows
 pub record IsSeen {S V : Type 0} (p : PartData S V) (r : Rows V) : Type 0 where
-  pub labels : p.labels ≡ spread (own_in p.setup p.shard) r.labels None (suc p.setup.roads.vertices)
-  pub engagers : p.engagers ≡ spread (own_in p.setup p.shard) r.engagers None (suc p.setup.roads.vertices)
-  pub busy : p.busy ≡ spread (arcs_out (network_in p.setup) (own_in p.setup p.shard)) r.busy false (suc (length p.setup.roads.arcs))
-  pub told : p.told ≡ spread (arcs_out (network_in p.setup) (own_in p.setup p.shard)) r.told None (suc (length p.setup.roads.arcs))
+  pub labels : p.labels ≡ spread (own_in p.setup p.shard) r.labels None (suc p.setup.question.roads.vertices)
+  pub engagers : p.engagers ≡ spread (own_in p.setup p.shard) r.engagers None (suc p.setup.question.roads.vertices)
+  pub busy : p.busy ≡ spread (arcs_out (network_in p.setup) (own_in p.setup p.shard)) r.busy false (suc (length p.setup.question.roads.arcs))
+  pub told : p.told ≡ spread (arcs_out (network_in p.setup) (own_in p.setup p.shard)) r.told None (suc (length p.setup.question.roads.arcs))
 
 -- the plan is one of the graph, and the shard and the source are theirs
 pub record IsPlanned {S : Type 0} (t : Setup S) (s : ℕ) : Type 0 where
-  pub roads : IsRoads t.roads
-  pub source : HasVertex t.roads t.source
+  pub roads : IsRoads t.question.roads
+  pub source : HasVertex t.question.roads t.question.source
   pub plan : IsPlan t.plan
-  pub covers : length t.plan.list ≡ t.roads.vertices
+  pub covers : length t.plan.list ≡ t.question.roads.vertices
   pub shard : s < t.plan.shards
 
 -- a queue for every arc with an end in the shard, an outbox for every arc between the two shards
@@ -79,7 +79,7 @@ pub record IsRoomy {S V : Type 0} (p : PartData S V) (queue_capacity : ℕ) (out
 -- the deficit of a vertex is the number of its busy arcs
 abbrev pub IsCounted : {S V : Type 0} → PartData S V → Rows V → Type 0
 IsCounted p r = (j : ℕ) → j < length (own_in p.setup p.shard) →
-    get_or r.deficits j 0 ≡ busy_out (network_in p.setup) (get_or (own_in p.setup p.shard) j 0) (state_in p) (suc (length p.setup.roads.arcs))
+    get_or r.deficits j 0 ≡ busy_out (network_in p.setup) (get_or (own_in p.setup p.shard) j 0) (state_in p) (suc (length p.setup.question.roads.arcs))
 
 -- no counter is past its top
 abbrev pub IsTallied : {S V : Type 0} → PartData S V → Type 0

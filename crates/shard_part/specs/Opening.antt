@@ -3,10 +3,8 @@ use Rattle.std.specs.Prelude.{◌≡◌, ℕ, zero, suc, ◌+◌, ◌<◌, Bool,
 use Rattle.scholten_core.specs.declared.item.Item.{Item}
 use Rattle.scholten_core.specs.declared.item.Item.TheVariants.{Message as MessageOn}
 use Rattle.path_algebra.specs.Algebra.{Algebra}
-use Rattle.road_graph.specs.Roads.{Roads}
 use Rattle.scholten_core.specs.Network.{Network}
 use Rattle.scholten_core.specs.Sums.{one_if}
-use Rattle.shard_part.specs.Plans.{PlanData}
 use Rattle.shard_part.specs.PartState.{Setup, PartData, place_in, network_in, arcs_out, outgoing, total, is, outbox_bound}
 use Rattle.shard_part.specs.Moves.{Rows}
 
@@ -24,10 +22,10 @@ abbrev pub opened_part : {S V : Type 0} → Algebra V → Setup S → ℕ → Pa
 opened_part A t s = record {
   setup = t;
   shard = s;
-  labels = replicate (suc t.roads.vertices) None;
-  engagers = replicate (suc t.roads.vertices) None;
-  busy = set (replicate (suc (length t.roads.arcs)) false) 0 (is_first t s);
-  told = replicate (suc (length t.roads.arcs)) None;
+  labels = replicate (suc t.question.roads.vertices) None;
+  engagers = replicate (suc t.question.roads.vertices) None;
+  busy = set (replicate (suc (length t.question.roads.arcs)) false) 0 (is_first t s);
+  told = replicate (suc (length t.question.roads.arcs)) None;
   queue = first_items A (is_first t s);
   outs = replicate t.plan.shards [];
   sent = one_if (is_first t s);
@@ -43,14 +41,8 @@ opened_parts A t k (suc n) = opened_part A t k ∷ opened_parts A t (suc k) n
 
 -- a shard of a question, whatever its algebra
 pub record ShardLayoutData : Type 0 where
-  pub roads : Roads
-  pub plan : PlanData
-  pub source : ℕ
+  pub setup : Setup (Unit {0})
   pub shard : ℕ
-
--- the question that the shard is of
-abbrev pub question_of : ShardLayoutData → Setup (Unit {0})
-question_of w = record { algebra = tt; roads = w.roads; source = w.source; plan = w.plan }
 
 -- where the arcs out of each vertex begin in the list of all of them, and how many these are
 pub record AreStarts (N : Network) (own offsets : List ℕ) (count : ℕ) : Type 0 where
@@ -73,16 +65,16 @@ coming_from N place s t = total (λ b. cond (eqb (place (N.tail b)) s) 0 (is t (
 -- for each shard so many arcs more as lead from v to it
 abbrev pub CountsOut : ShardLayoutData → ℕ → List ℕ → List ℕ → Type 0
 CountsOut w v old new = (length new ≡ length old)
-    × ((t : ℕ) → t < w.plan.shards → get_or new t 0 ≡ get_or old t 0 + leading_to (network_in (question_of w)) (place_in (question_of w)) t (outgoing (network_in (question_of w)) v))
+    × ((t : ℕ) → t < w.setup.plan.shards → get_or new t 0 ≡ get_or old t 0 + leading_to (network_in w.setup) (place_in w.setup) t (outgoing (network_in w.setup) v))
 
 -- for each other shard so many more as come from it to v
 abbrev pub CountsInto : ShardLayoutData → ℕ → List ℕ → List ℕ → Type 0
 CountsInto w v old new = (length new ≡ length old)
-    × ((t : ℕ) → t < w.plan.shards → get_or new t 0 ≡ get_or old t 0 + coming_from (network_in (question_of w)) (place_in (question_of w)) w.shard t (outgoing (turned (network_in (question_of w))) v))
+    × ((t : ℕ) → t < w.setup.plan.shards → get_or new t 0 ≡ get_or old t 0 + coming_from (network_in w.setup) (place_in w.setup) w.shard t (outgoing (turned (network_in w.setup)) v))
 
 -- for each shard so many as there are arcs between it and the own one; for the own one, as lie within it
 abbrev pub CountsAll : ShardLayoutData → List ℕ → Type 0
-CountsAll w capacities = (length capacities ≡ w.plan.shards) × ((t : ℕ) → t < w.plan.shards → get_or capacities t 0 ≡ outbox_bound (network_in (question_of w)) (place_in (question_of w)) w.shard t)
+CountsAll w capacities = (length capacities ≡ w.setup.plan.shards) × ((t : ℕ) → t < w.setup.plan.shards → get_or capacities t 0 ≡ outbox_bound (network_in w.setup) (place_in w.setup) w.shard t)
 
 -- the rows of tables in which nothing has happened but that arc 0 may be busy
 abbrev pub idle_rows : {V : Type 0} → List ℕ → List ℕ → ℕ → Bool → Rows V

@@ -7,29 +7,27 @@ use Rattle.scholten_core.specs.declared.item.Item.TheVariants.{Message as Messag
 use Rattle.scholten_core.specs.declared.event.Event.{Event}
 use Rattle.scholten_core.specs.declared.event.Event.TheVariants.{Deliver, Accept}
 use Rattle.path_algebra.specs.Algebra.{Algebra}
-use Rattle.scholten_core.specs.Network.{Network, network}
+use Rattle.scholten_core.specs.Network.{Network}
+use Rattle.scholten_core.specs.Question.{Question, network_in as network_asked}
 use Rattle.scholten_core.specs.Diffusion.{CoreState, put, freed, pump, out_idle, better_of, engaged_by, is_idle, answer_to, step, is_enabled}
 use Rattle.scholten_core.specs.Sums.{sum_below, one_if}
 use Rattle.scholten_core.specs.Items.{item_arc, item_of, settle_made}
 use Rattle.scholten_core.specs.Shares.{Agree}
-use Rattle.road_graph.specs.Roads.{Roads}
 use Rattle.shard_part.specs.Plans.{PlanData}
 use Rattle.shard_part.specs.Tallies.{counted_on}
 use Rattle.shard_part.specs.Tables.{placed}
 
 -- the same in all parts of a question
 pub record Setup (S : Type 0) : Type 0 where
-  pub algebra : S
-  pub roads : Roads
-  pub source : ℕ
+  pub question : Question S
   pub plan : PlanData
 
 abbrev pub network_in : {S : Type 0} → Setup S → Network
-network_in t = network t.roads t.source
+network_in t = network_asked t.question
 
 -- the shard of a vertex, and of the environment: that of the source
 unfoldable pub place_in : {S : Type 0} → Setup S → ℕ → ℕ
-place_in t v = get_or (get_or t.plan.list (t.source - 1) 0 ∷ t.plan.list) v 0
+place_in t v = get_or (get_or t.plan.list (t.question.source - 1) 0 ∷ t.plan.list) v 0
 
 pub record PartData (S V : Type 0) : Type 0 where
   pub setup : Setup S
@@ -263,7 +261,7 @@ module _ {S V : Type 0} (N : Network) (place : ℕ → ℕ) where
 
 module _ {S V : Type 0} (A : Algebra V) (N : Network) (place : ℕ → ℕ) where
   -- a part takes the item i from the front of its queue
-  pub record TookIn (p : PartData S V) (i : Item V) (q : PartData S V) : Type 0 where
+  pub record HandledItemIn (p : PartData S V) (i : Item V) (q : PartData S V) : Type 0 where
     pub rest : List (Item V)
     pub front : p.queue ≡ i ∷ rest
     pub setup : q.setup ≡ p.setup
@@ -293,25 +291,25 @@ module _ {S V : Type 0} (A : Algebra V) (N : Network) (place : ℕ → ℕ) wher
 
 -- as a part's own setup says
 module _ {S V : Type 0} (meaning : S → Algebra V) where
-  abbrev pub Took : PartData S V → Item V → PartData S V → Type 0
-  Took p i q = TookIn (meaning p.setup.algebra) (network_in p.setup) (place_in p.setup) p i q
+  abbrev pub HandledItem : PartData S V → Item V → PartData S V → Type 0
+  HandledItem p i q = HandledItemIn (meaning p.setup.question.algebra) (network_in p.setup) (place_in p.setup) p i q
 
   -- a list of items, one after the other
-  abbrev pub TookAll : PartData S V → List (Item V) → PartData S V → Type 0
-  TookAll p [] q = p ≡ q
-  TookAll p (i ∷ is) q = (m : PartData S V) × Took p i m × TookAll m is q
+  abbrev pub HandledAll : PartData S V → List (Item V) → PartData S V → Type 0
+  HandledAll p [] q = p ≡ q
+  HandledAll p (i ∷ is) q = (m : PartData S V) × HandledItem p i m × HandledAll m is q
 
   -- the events of the items, each enabled in its turn, lead from c to d
   abbrev pub AllEnabled : Setup S → CoreState V → List (Item V) → CoreState V → Type 0
   AllEnabled t c [] d = c ≡ d
-  AllEnabled t c (i ∷ is) d = (is_enabled c (event_of i) ≡ true) × AllEnabled t (step (meaning t.algebra) (network_in t) c (event_of i)) is d
+  AllEnabled t c (i ∷ is) d = (is_enabled c (event_of i) ≡ true) × AllEnabled t (step (meaning t.question.algebra) (network_in t) c (event_of i)) is d
 
   abbrev pub Holds : CoreState V → PartData S V → Type 0
-  Holds c p = HoldsShare (meaning p.setup.algebra) (network_in p.setup) (place_in p.setup) c p
+  Holds c p = HoldsShare (meaning p.setup.question.algebra) (network_in p.setup) (place_in p.setup) c p
 
   pub record Shows (t : Setup S) (parts : List (PartData S V)) (mail : (ℕ → Item V → ℕ) → ℕ) (c : CoreState V) : Type 0 where
     pub same : All (λ p. p.setup ≡ t) parts
-    pub shown : ShowsIn (meaning t.algebra) (network_in t) (place_in t) parts mail c
+    pub shown : ShowsIn (meaning t.question.algebra) (network_in t) (place_in t) parts mail c
 
 -- nothing is known of the arc: no item on it, not engaging, not idle
 abbrev pub IsClear : {S V : Type 0} → PartData S V → ℕ → Type 0
@@ -319,7 +317,7 @@ IsClear p a = part_weight (λ _ j. is a (item_arc j)) p + engages (network_in p.
 
 -- the vertices of a shard, ascending; the environment stands first in each
 abbrev pub own_in : {S : Type 0} → Setup S → ℕ → List ℕ
-own_in t s = 0 ∷ placed (place_in t) s 1 t.roads.vertices
+own_in t s = 0 ∷ placed (place_in t) s 1 t.question.roads.vertices
 
 -- the arcs out of the vertices of a list, one vertex after the other
 unfoldable pub arcs_out : Network → List ℕ → List ℕ

@@ -1,5 +1,5 @@
 -- The tables of a shard: a value for each of its vertices and arcs, by place.
-use Rattle.std.specs.Prelude.{◌≡◌, ◌≢◌, ℕ, zero, suc, ◌<◌, Bool, cond, eqb, Option, Some, None, List, [], ◌∷◌, length, map, set, get_or, replicate}
+use Rattle.std.specs.Prelude.{◌≢◌, ℕ, zero, suc, ◌<◌, Bool, cond, eqb, Option, Some, None, List, [], ◌∷◌, length, map, set, get_or, replicate}
 use Rattle.shard_part.specs.declared.tables.VertexRow.{VertexRow}
 use Rattle.shard_part.specs.declared.tables.ArcRow.{ArcRow}
 
@@ -17,14 +17,6 @@ IsApart keys = (i j : ℕ) → i < j → j < length keys → get_or keys i 0 ≢
 unfoldable pub placed : (ℕ → ℕ) → ℕ → ℕ → ℕ → List ℕ
 placed place s k zero = []
 placed place s k (suc n) = cond (eqb (place k) s) (k ∷ placed place s (suc k) n) (placed place s (suc k) n)
-
--- a list that rises
-abbrev pub Rises : List ℕ → Type 0
-Rises xs = (i j : ℕ) → i < j → j < length xs → get_or xs i 0 < get_or xs j 0
-
--- v is one of the list
-abbrev pub StandsIn : List ℕ → ℕ → Type 0
-StandsIn xs v = (j : ℕ) × (j < length xs) × (get_or xs j 0 ≡ v)
 
 -- what is known of the vertices, by place
 pub record VertexLists (V : Type 0) : Type 0 where

@@ -3,8 +3,8 @@ ghost use Rattle.scholten_core.specs.declared.item.Item.{Item};
 ghost use Rattle.scholten_core.specs.declared.event.Event.{Event};
 ghost use Rattle.scholten_core.specs.Network.{WellFormed};
 ghost use Rattle.scholten_core.specs.Diffusion.{CoreState, state_after, step, is_enabled};
-ghost use Rattle.shard_part.specs.PartState.{Setup, PartData, Took, TookAll, AllEnabled, Holds, Shows, event_of, network_in, place_in, mail_weight, on, parts_places, mail_places, place_of_token};
-ghost use Rattle.shard_part.specs.Part.{TookMany, IsShownOn};
+ghost use Rattle.shard_part.specs.PartState.{Setup, PartData, HandledItem, HandledAll, AllEnabled, Holds, Shows, event_of, network_in, place_in, mail_weight, on, parts_places, mail_places, place_of_token};
+ghost use Rattle.shard_part.specs.Part.{HandledMany, IsShownOn};
 ghost use Rattle.shard_part.specs.Moves.{IsPlanned};
 ghost use Rattle.shard_part.specs.Opening.{opened_parts};
 
@@ -13,21 +13,21 @@ use path_algebra::PathAlgebra;
 /// Where all parts and mailboxes show a reached state and one part takes one item, they show what its event leads to.
 pub fn item_is_event<A: PathAlgebra>(_algebra: A)
     ensures { (t : Setup A) (events : List Event) (before after : List (PartData A A.Value)) (p q : PartData A A.Value) (i : Item A.Value) (mail : (ℕ → Item A.Value → ℕ) → ℕ) → WellFormed (network_in t) →
-        Shows A.meaning t (before ++ p ∷ after) mail (state_after (A.meaning t.algebra) (network_in t) events) → Took A.meaning p i q →
-        (is_enabled (state_after (A.meaning t.algebra) (network_in t) events) (event_of i) ≡ true) × Shows A.meaning t (before ++ q ∷ after) mail (step (A.meaning t.algebra) (network_in t) (state_after (A.meaning t.algebra) (network_in t) events) (event_of i)) }
+        Shows A.meaning t (before ++ p ∷ after) mail (state_after (A.meaning t.question.algebra) (network_in t) events) → HandledItem A.meaning p i q →
+        (is_enabled (state_after (A.meaning t.question.algebra) (network_in t) events) (event_of i) ≡ true) × Shows A.meaning t (before ++ q ∷ after) mail (step (A.meaning t.question.algebra) (network_in t) (state_after (A.meaning t.question.algebra) (network_in t) events) (event_of i)) }
 {}
 
 /// Whatever the others hold: a part that takes items makes as many enabled events of every reached state of which it holds its share.
 pub fn items_are_events<A: PathAlgebra>(_algebra: A)
     ensures { (events : List Event) (items : List (Item A.Value)) (p q : PartData A A.Value) → WellFormed (network_in p.setup) →
-        Holds A.meaning (state_after (A.meaning p.setup.algebra) (network_in p.setup) events) p → TookAll A.meaning p items q →
-        (d : CoreState A.Value) × Holds A.meaning d q × (q.setup ≡ p.setup) × AllEnabled A.meaning p.setup (state_after (A.meaning p.setup.algebra) (network_in p.setup) events) items d }
+        Holds A.meaning (state_after (A.meaning p.setup.question.algebra) (network_in p.setup) events) p → HandledAll A.meaning p items q →
+        (d : CoreState A.Value) × Holds A.meaning d q × (q.setup ≡ p.setup) × AllEnabled A.meaning p.setup (state_after (A.meaning p.setup.question.algebra) (network_in p.setup) events) items d }
 {}
 
 /// Where all parts and mailboxes show a reached state and one part takes items, one after the other, they show the state after as many events more, each enabled in its turn.
 pub fn items_are_shown<A: PathAlgebra>(_algebra: A)
     ensures { (t : Setup A) (events : List Event) (before after : List (PartData A A.Value)) (p q : PartData A A.Value) (n : ℕ) (mail : (ℕ → Item A.Value → ℕ) → ℕ) → WellFormed (network_in t) →
-        Shows A.meaning t (before ++ p ∷ after) mail (state_after (A.meaning t.algebra) (network_in t) events) → TookMany A.meaning p n q → IsShownOn A.meaning t events (before ++ q ∷ after) mail n }
+        Shows A.meaning t (before ++ p ∷ after) mail (state_after (A.meaning t.question.algebra) (network_in t) events) → HandledMany A.meaning p n q → IsShownOn A.meaning t events (before ++ q ∷ after) mail n }
 {}
 
 /// What parts and mailboxes show, read: on each arc the items in all places, each with the shard that it is at or going to, are just what its token stands for.
@@ -53,5 +53,5 @@ pub fn receiving_shows_the_same<A: PathAlgebra>(_algebra: A)
 /// The parts of all shards as they are opened show the opening, where no mailbox weighs anything.
 pub fn opened_parts_show_the_opening<A: PathAlgebra>(_algebra: A)
     ensures { (t : Setup A) (mail : (ℕ → Item A.Value → ℕ) → ℕ) → IsPlanned t 0 → ((h : ℕ → Item A.Value → ℕ) → mail h ≡ 0) →
-        Shows A.meaning t (opened_parts (A.meaning t.algebra) t 0 t.plan.shards) mail (state_after (A.meaning t.algebra) (network_in t) []) }
+        Shows A.meaning t (opened_parts (A.meaning t.question.algebra) t 0 t.plan.shards) mail (state_after (A.meaning t.question.algebra) (network_in t) []) }
 {}

@@ -3,7 +3,7 @@ ghost use Rattle.std.specs.Prelude.{◌≡◌, ◌≢◌, ℕ, ◌+◌, ◌<◌,
 ghost use Rattle.road_graph.specs.Roads.{HasVertex, ListsArcsFrom, ListsArcsInto};
 ghost use Rattle.shard_part.specs.Tables.{placed};
 ghost use Rattle.shard_part.specs.PartState.{network_in, place_in, own_in, outgoing, total, is};
-ghost use Rattle.shard_part.specs.Opening.{question_of, is_first, AreStarts, CountsOut, CountsInto, CountsAll};
+ghost use Rattle.shard_part.specs.Opening.{is_first, AreStarts, CountsOut, CountsInto, CountsAll};
 
 use crate::plan::Plan;
 use crate::shard::Shard;
@@ -21,35 +21,35 @@ pub(crate) struct ShardLayout<'g> {
 }
 
 impl<'g> Model for ShardLayout<'g> {
-    ghost use Rattle.shard_part.specs.Opening.{ShardLayoutData, question_of};
+    ghost use Rattle.shard_part.specs.Opening.{ShardLayoutData};
     ghost use Rattle.shard_part.specs.Moves.{IsPlanned};
 
     ghost Value = { ShardLayoutData };
 
-    ghost view = { λ w. record { roads = w.graph.now; plan = w.plan.now; source = w.source; shard = w.shard } };
+    ghost view = { λ w. record { setup = record { question = record { algebra = tt; roads = w.graph.now; source = w.source }; plan = w.plan.now }; shard = w.shard } };
 
-    ghost invariant = { λ w. IsPlanned (question_of (record { roads = w.graph.now; plan = w.plan.now; source = w.source; shard = w.shard })) w.shard };
+    ghost invariant = { λ w. IsPlanned (record { question = record { algebra = tt {0}; roads = w.graph.now; source = w.source }; plan = w.plan.now }) w.shard };
 }
 
 impl<'g> ShardLayout<'g> {
     /// Whether the source is a vertex of the shard.
     pub fn is_first(&self) -> bool
-        ensures { result ≡ is_first (question_of self.now) self.now.shard }
+        ensures { result ≡ is_first self.now.setup self.now.shard }
     {
         self.plan.shard_of(self.source) == self.shard
     }
 
     /// Whether a vertex is one of the shard.
     fn has(&self, v: Vertex) -> bool
-        requires { HasVertex self.now.roads v }
-        ensures { result ≡ eqb (place_in (question_of self.now) v) self.now.shard }
+        requires { HasVertex self.now.setup.question.roads v }
+        ensures { result ≡ eqb (place_in self.now.setup v) self.now.shard }
     {
         self.plan.shard_of(v) == self.shard
     }
 
     /// How many vertices the shard has.
     fn count_own(&self) -> usize
-        ensures count { result ≡ length (placed (place_in (question_of self.now)) self.now.shard 1 self.now.roads.vertices) }
+        ensures count { result ≡ length (placed (place_in self.now.setup) self.now.shard 1 self.now.setup.question.roads.vertices) }
         ensures within { result ≤ 2 ^ 25 }
     {
         let mut count = 0;
@@ -63,7 +63,7 @@ impl<'g> ShardLayout<'g> {
 
     /// The environment, then the vertices of the shard, ascending.
     pub fn own_vertices(&self, alloc: Global) -> Result<Vec<Vertex>, AllocError>
-        ensures { IfOk result (λ own. own.items ≡ own_in (question_of self.now) self.now.shard) }
+        ensures { IfOk result (λ own. own.items ≡ own_in self.now.setup self.now.shard) }
     {
         let mut own = Vec::with_capacity(alloc, self.count_own() + 1)?;
         own.push(Vertex(0))?;
@@ -78,16 +78,16 @@ impl<'g> ShardLayout<'g> {
 
     /// How many arcs leave a vertex, and one leaves the environment.
     fn count_out(&self, v: Vertex) -> usize
-        requires { v ≤ self.now.roads.vertices }
-        ensures { result ≡ length (outgoing (network_in (question_of self.now)) v) }
+        requires { v ≤ self.now.setup.question.roads.vertices }
+        ensures { result ≡ length (outgoing (network_in self.now.setup) v) }
     {
         if v.0 == 0 { 1 } else { self.graph.out(v).len() }
     }
 
     /// Where the arcs out of each own vertex begin, and how many arcs there are in all.
     pub fn starts(&self, alloc: Global, own: &[Vertex]) -> Result<(Vec<u32>, usize), AllocError>
-        requires { own.now ≡ own_in (question_of self.now) self.now.shard }
-        ensures { IfOk result (λ r. AreStarts (network_in (question_of self.now)) own.now r.0.items r.1) }
+        requires { own.now ≡ own_in self.now.setup self.now.shard }
+        ensures { IfOk result (λ r. AreStarts (network_in self.now.setup) own.now r.0.items r.1) }
     {
         // What holds of the layout is known once a field of it is read.
         let _graph = self.graph;
@@ -102,8 +102,8 @@ impl<'g> ShardLayout<'g> {
 
     /// Counts the arcs out of a vertex, each at the shard that it leads to.
     fn add_out(&self, v: Vertex, capacities: &mut [usize])
-        requires vertex { HasVertex self.now.roads v }
-        requires shards { length capacities.old ≡ self.now.plan.shards }
+        requires vertex { HasVertex self.now.setup.question.roads v }
+        requires shards { length capacities.old ≡ self.now.setup.plan.shards }
         requires small { (t : ℕ) → get_or capacities.old t 0 ≤ 2 ^ 32 }
         ensures { CountsOut self.now v capacities.old capacities.new }
     {
@@ -115,8 +115,8 @@ impl<'g> ShardLayout<'g> {
 
     /// Counts the arcs into a vertex from other shards, each at the shard that it comes from.
     fn add_into(&self, v: Vertex, capacities: &mut [usize])
-        requires vertex { HasVertex self.now.roads v }
-        requires shards { length capacities.old ≡ self.now.plan.shards }
+        requires vertex { HasVertex self.now.setup.question.roads v }
+        requires shards { length capacities.old ≡ self.now.setup.plan.shards }
         requires small { (t : ℕ) → get_or capacities.old t 0 ≤ 2 ^ 33 }
         ensures { CountsInto self.now v capacities.old capacities.new }
     {
@@ -130,9 +130,9 @@ impl<'g> ShardLayout<'g> {
 
     /// Counts the arcs out of and into all vertices of the shard.
     fn add_all(&self, vertices: &[Vertex], capacities: &mut [usize])
-        requires vertices { vertices.now ≡ placed (place_in (question_of self.now)) self.now.shard 1 self.now.roads.vertices }
-        requires shards { length capacities.old ≡ self.now.plan.shards }
-        requires first { (t : ℕ) → t < self.now.plan.shards → get_or capacities.old t 0 ≡ cond (is_first (question_of self.now) self.now.shard) (is t self.now.shard) 0 }
+        requires vertices { vertices.now ≡ placed (place_in self.now.setup) self.now.shard 1 self.now.setup.question.roads.vertices }
+        requires shards { length capacities.old ≡ self.now.setup.plan.shards }
+        requires first { (t : ℕ) → t < self.now.setup.plan.shards → get_or capacities.old t 0 ≡ cond (is_first self.now.setup self.now.shard) (is t self.now.shard) 0 }
         ensures { CountsAll self.now capacities.new }
     {
         // What holds of the layout is known once a field of it is read.
@@ -145,7 +145,7 @@ impl<'g> ShardLayout<'g> {
 
     /// How many arcs there are between the shard and each shard; with its own, how many lie within it.
     pub fn capacities(&self, alloc: Global, own: &[Vertex]) -> Result<Vec<usize>, AllocError>
-        requires { own.now ≡ own_in (question_of self.now) self.now.shard }
+        requires { own.now ≡ own_in self.now.setup self.now.shard }
         ensures { IfOk result (λ capacities. CountsAll self.now capacities.items) }
     {
         let mut capacities = filled(alloc, 0, self.plan.shards() as usize)?;

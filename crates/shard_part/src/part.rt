@@ -7,7 +7,7 @@ ghost use Rattle.scholten_core.specs.Diffusion.{state_after};
 ghost use Rattle.shard_part.specs.PartState.{network_in, place_in, queue_bound, outbox_bound, Holds};
 ghost use Rattle.shard_part.specs.Opening.{opened_part};
 ghost use Rattle.shard_part.specs.Exchange.{Fits};
-ghost use Rattle.shard_part.specs.Part.{TookFront, TookMany, IsRunOn};
+ghost use Rattle.shard_part.specs.Part.{HandledFront, HandledMany, IsRunOn};
 
 use crate::batch::Batch;
 use crate::plan::Plan;
@@ -50,7 +50,7 @@ impl<'g, A: PathAlgebra> Part<'g, A> {
         requires source { HasVertex graph.now source }
         requires plan { length plan.now.list ≡ graph.now.vertices }
         requires shard { shard < plan.now.shards }
-        ensures part { IfOk result (λ p. p ≡ opened_part (A.meaning algebra) (record { algebra = algebra; roads = graph.now; source = source; plan = plan.now }) shard) }
+        ensures part { IfOk result (λ p. p ≡ opened_part (A.meaning algebra) (record { question = record { algebra = algebra; roads = graph.now; source = source }; plan = plan.now }) shard) }
         ensures share { IfOk result (λ p. Holds A.meaning (state_after (A.meaning algebra) (network graph.now source) []) p) }
     {
         let state = PartState::open(alloc, algebra, graph, plan, shard, source)?;
@@ -59,7 +59,7 @@ impl<'g, A: PathAlgebra> Part<'g, A> {
 
     /// Takes the front item off the queue and handles it, if there is one.
     fn take_front(&mut self) -> bool
-        ensures taken { IsTrue result → TookFront A.meaning self.old self.new }
+        ensures taken { IsTrue result → HandledFront A.meaning self.old self.new }
         ensures none { IsFalse result → (self.old.queue ≡ []) × (self.new ≡ self.old) }
     {
         self.state.handle_front()
@@ -73,10 +73,10 @@ impl<'g, A: PathAlgebra> Part<'g, A> {
     pub fn handle(&mut self, budget: u32) -> u32
         ensures budget { result ≤ budget }
         ensures all { (result ≡ budget) ⊎ (self.new.queue ≡ []) }
-        ensures taken { TookMany A.meaning self.old result self.new }
+        ensures taken { HandledMany A.meaning self.old result self.new }
         ensures setup { self.new.setup ≡ self.old.setup }
         ensures shard { self.new.shard ≡ self.old.shard }
-        ensures events { (events : List Event) → Holds A.meaning (state_after (A.meaning self.old.setup.algebra) (network_in self.old.setup) events) self.old → IsRunOn A.meaning events self.old result self.new }
+        ensures events { (events : List Event) → Holds A.meaning (state_after (A.meaning self.old.setup.question.algebra) (network_in self.old.setup) events) self.old → IsRunOn A.meaning events self.old result self.new }
     {
         laws_hold(self.state.algebra());
         for taken in 0..budget {
@@ -104,7 +104,7 @@ impl<'g, A: PathAlgebra> Part<'g, A> {
     /// Appends all items of a batch to the queue, in order, and leaves the batch empty.
     pub fn receive(&mut self, batch: &mut Batch<A::Value>)
         requires room { length self.old.queue + length batch.old.items ≤ queue_bound (network_in self.old.setup) (place_in self.old.setup) self.old.shard }
-        requires fits { Fits (A.meaning self.old.setup.algebra) self.old batch.old.items }
+        requires fits { Fits (A.meaning self.old.setup.question.algebra) self.old batch.old.items }
         ensures part { self.new ≡ record self.old { queue = self.old.queue ++ batch.old.items } }
         ensures batch { batch.new ≡ buffer [] batch.old.capacity }
     {

@@ -17,5 +17,5 @@ impl<A> Model for Question<A> {
 
     ghost Value = { Setup A };
 
-    ghost view = { λ q. record { algebra = q.algebra; roads = q.graph.value; source = q.source; plan = q.plan.value } };
+    ghost view = { λ q. record { question = record { algebra = q.algebra; roads = q.graph.value; source = q.source }; plan = q.plan.value } };
 }

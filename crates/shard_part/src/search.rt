@@ -1,12 +1,12 @@
-ghost use Rattle.std.specs.Prelude.{◌≡◌, ℕ, ◌<◌, length, slice_index};
-ghost use Rattle.shard_part.specs.Tables.{Rises, StandsIn};
+ghost use Rattle.std.specs.Prelude.{◌≡◌, ℕ, ◌<◌, length, slice_index, Contains};
+ghost use Rattle.std.specs.List.Sorted.{IsStrictlyIncreasing};
 
 use road_graph::Vertex;
 
-/// Where a vertex stands in a list that rises. Where those after the first follow one another, the list's ends tell it.
+/// Where a vertex stands in an increasing list. Where those after the first follow one another, the list's ends tell it.
 pub(crate) fn find_vertex(list: &[Vertex], v: Vertex) -> usize
-    requires rises { Rises list.now }
-    requires stands { StandsIn list.now v }
+    requires increasing { IsStrictlyIncreasing list.now }
+    requires contained { Contains list.now v }
     ensures inside { result < length list.now }
     ensures found { slice_index list.now result ≡ v }
 {
@@ -20,10 +20,10 @@ pub(crate) fn find_vertex(list: &[Vertex], v: Vertex) -> usize
     halve(list, v)
 }
 
-/// Where a vertex stands in a list that rises, by halving.
+/// Where a vertex stands in an increasing list, by halving.
 fn halve(list: &[Vertex], v: Vertex) -> usize
-    requires rises { Rises list.now }
-    requires stands { StandsIn list.now v }
+    requires increasing { IsStrictlyIncreasing list.now }
+    requires contained { Contains list.now v }
     ensures inside { result < length list.now }
     ensures found { slice_index list.now result ≡ v }
 {

@@ -7,7 +7,7 @@ ghost use Rattle.shard_part.specs.Tallies.{counted_on};
 ghost use Rattle.scholten_core.specs.Deficit.{busy_out};
 ghost use Rattle.shard_part.specs.PartState.{network_in, place_in, state_in, own_in, arcs_out, outgoing, vertex_of, maker_of, IsArc, IsClear};
 ghost use Rattle.scholten_core.specs.Network.{WellFormed};
-ghost use Rattle.shard_part.specs.Part.{OwnIdleIsTold, TookFront};
+ghost use Rattle.shard_part.specs.Part.{OwnIdleIsTold, HandledFront};
 ghost use Rattle.shard_part.specs.Moves.{IsTallied, IsPlace, IsRow, IsPopped, HandledOne, put_item, counted_made, with_item, with_message, engaged_or_answered, rested_by, labelled, offered, offered_all, rested, with_value, with_free, with_taken};
 
 mod exchange;
@@ -26,7 +26,7 @@ use road_graph::{ArcNo, Graph, OutRoad, Vertex};
 use scholten_core::{Item, extended, head_of, improves, is_same, tail_of};
 use std::marker::Model;
 
-/// The tables and rings of one shard, with the moves of which its events are made.
+/// The tables, the queue and the outboxes of one shard, with the moves of which its events are made.
 #[derive(Drop)]
 pub struct PartState<'g, A: PathAlgebra> {
     algebra: A,
@@ -50,15 +50,15 @@ impl<'g, A: PathAlgebra> Model for PartState<'g, A> {
 
     ghost Value = { PartData A A.Value };
 
-    ghost view = { λ p. seen_as (record { algebra = p.algebra; roads = p.graph.now; source = p.source; plan = p.plan.now }) p.shard (rows_of p.tables) p.queue.items (map (λ b. b.items) p.outs.items) p.sent p.delivered p.signalled p.accepted };
+    ghost view = { λ p. seen_as (record { question = record { algebra = p.algebra; roads = p.graph.now; source = p.source }; plan = p.plan.now }) p.shard (rows_of p.tables) p.queue.items (map (λ b. b.items) p.outs.items) p.sent p.delivered p.signalled p.accepted };
 
-    ghost invariant = { λ p. IsStored (seen_as (record { algebra = p.algebra; roads = p.graph.now; source = p.source; plan = p.plan.now }) p.shard (rows_of p.tables) p.queue.items (map (λ b. b.items) p.outs.items) p.sent p.delivered p.signalled p.accepted) (rows_of p.tables) p.queue.capacity (map (λ b. b.capacity) p.outs.items) };
+    ghost invariant = { λ p. IsStored (seen_as (record { question = record { algebra = p.algebra; roads = p.graph.now; source = p.source }; plan = p.plan.now }) p.shard (rows_of p.tables) p.queue.items (map (λ b. b.items) p.outs.items) p.sent p.delivered p.signalled p.accepted) (rows_of p.tables) p.queue.capacity (map (λ b. b.capacity) p.outs.items) };
 }
 
 impl<'g, A: PathAlgebra> PartState<'g, A> {
     /// The algebra of the question.
     pub(crate) fn algebra(&self) -> A
-        ensures algebra { result ≡ self.now.setup.algebra }
+        ensures algebra { result ≡ self.now.setup.question.algebra }
         ensures formed { WellFormed (network_in self.now.setup) }
         ensures tallied { IsTallied self.now }
     {
@@ -169,14 +169,14 @@ impl<'g, A: PathAlgebra> PartState<'g, A> {
     /// How many arcs out of the vertex at a place are busy.
     fn deficit_at(&self, v: VertexPlace) -> u32
         requires { IsPlace self.now v.vertex v.at }
-        ensures { result ≡ busy_out (network_in self.now.setup) v.vertex (state_in self.now) (suc (length self.now.setup.roads.arcs)) }
+        ensures { result ≡ busy_out (network_in self.now.setup) v.vertex (state_in self.now) (suc (length self.now.setup.question.roads.arcs)) }
     {
         self.tables.vertices.deficit(v.at)
     }
 
     /// The shard of a vertex, and of the environment that of the source.
     fn shard_of(&self, v: Vertex) -> Shard
-        requires { v ≤ self.now.setup.roads.vertices }
+        requires { v ≤ self.now.setup.question.roads.vertices }
         ensures { result ≡ place_in self.now.setup v }
     {
         let stands = if v.0 == 0 { self.source } else { v };
@@ -188,7 +188,7 @@ impl<'g, A: PathAlgebra> PartState<'g, A> {
         requires { IsArc (network_in self.now.setup) a }
         ensures head { result ≡ (network_in self.now.setup).head a }
         ensures low { 1 ≤ result }
-        ensures within { result ≤ self.now.setup.roads.vertices }
+        ensures within { result ≤ self.now.setup.question.roads.vertices }
     {
         head_of(self.graph, self.source, a)
     }
@@ -197,14 +197,14 @@ impl<'g, A: PathAlgebra> PartState<'g, A> {
     fn tail(&self, a: ArcNo) -> Vertex
         requires { IsArc (network_in self.now.setup) a }
         ensures tail { result ≡ (network_in self.now.setup).tail a }
-        ensures within { result ≤ self.now.setup.roads.vertices }
+        ensures within { result ≤ self.now.setup.question.roads.vertices }
     {
         tail_of(self.graph, a)
     }
 
     /// A vertex with its place.
     fn place(&self, v: Vertex) -> VertexPlace
-        requires within { v ≤ self.now.setup.roads.vertices }
+        requires within { v ≤ self.now.setup.question.roads.vertices }
         requires here { v ≢ 0 → place_in self.now.setup v ≡ self.now.shard }
         ensures vertex { result.vertex ≡ v }
         ensures place { IsPlace self.now result.vertex result.at }
@@ -315,7 +315,7 @@ impl<'g, A: PathAlgebra> PartState<'g, A> {
     fn rest(&mut self, v: VertexPlace)
         requires place { IsPlace self.old v.vertex v.at }
         requires vertex { v.vertex ≢ 0 }
-        ensures { self.new ≡ rested (A.meaning self.old.setup.algebra) v.vertex self.old }
+        ensures { self.new ≡ rested (A.meaning self.old.setup.question.algebra) v.vertex self.old }
     {
         if let Some(e) = self.engager_at(v) {
             if self.deficit_at(v) == 0 {
@@ -330,7 +330,7 @@ impl<'g, A: PathAlgebra> PartState<'g, A> {
         requires place { IsPlace self.now v.vertex v.at }
         requires row { IsRow self.now b.arc b.at }
         requires tail { (network_in self.now.setup).tail b.arc ≡ v.vertex }
-        ensures { result ≡ due (A.meaning self.now.setup.algebra) (network_in self.now.setup) v.vertex (state_in self.now) b.arc }
+        ensures { result ≡ due (A.meaning self.now.setup.question.algebra) (network_in self.now.setup) v.vertex (state_in self.now) b.arc }
     {
         neither(
             self.is_busy(b),
@@ -364,9 +364,9 @@ impl<'g, A: PathAlgebra> PartState<'g, A> {
         requires tail { (network_in self.old.setup).tail b.arc ≡ v.vertex }
         requires arc { IsArc (network_in self.old.setup) b.arc }
         requires graph { b.arc ≢ 0 }
-        requires road { road ≡ road_of (arc_of self.old.setup.roads b.arc) }
-        requires due { due (A.meaning self.old.setup.algebra) (network_in self.old.setup) v.vertex (state_in self.old) b.arc ≡ true }
-        ensures { self.new ≡ offered (A.meaning self.old.setup.algebra) v.vertex b.arc self.old }
+        requires road { road ≡ road_of (arc_of self.old.setup.question.roads b.arc) }
+        requires due { due (A.meaning self.old.setup.question.algebra) (network_in self.old.setup) v.vertex (state_in self.old) b.arc ≡ true }
+        ensures { self.new ≡ offered (A.meaning self.old.setup.question.algebra) v.vertex b.arc self.old }
     {
         let label = self.label_at(v);
         let value = extended(self.algebra, label, road.weight);
@@ -383,8 +383,8 @@ impl<'g, A: PathAlgebra> PartState<'g, A> {
         requires tail { (network_in self.old.setup).tail b.arc ≡ v.vertex }
         requires arc { IsArc (network_in self.old.setup) b.arc }
         requires graph { b.arc ≢ 0 }
-        requires road { road ≡ road_of (arc_of self.old.setup.roads b.arc) }
-        ensures { self.new ≡ offered (A.meaning self.old.setup.algebra) v.vertex b.arc self.old }
+        requires road { road ≡ road_of (arc_of self.old.setup.question.roads b.arc) }
+        ensures { self.new ≡ offered (A.meaning self.old.setup.question.algebra) v.vertex b.arc self.old }
     {
         if self.is_due(v, b) {
             self.tell_anew(v, b, road);
@@ -401,7 +401,7 @@ impl<'g, A: PathAlgebra> PartState<'g, A> {
         requires tail { (network_in self.old.setup).tail b.arc ≡ v.vertex }
         requires arc { IsArc (network_in self.old.setup) b.arc }
         requires graph { b.arc ≢ 0 }
-        ensures { self.new ≡ offered (A.meaning self.old.setup.algebra) v.vertex b.arc self.old }
+        ensures { self.new ≡ offered (A.meaning self.old.setup.question.algebra) v.vertex b.arc self.old }
     {
         if self.is_due(v, b) {
             let road = self.road_at(v, k);
@@ -415,7 +415,7 @@ impl<'g, A: PathAlgebra> PartState<'g, A> {
     fn pump(&mut self, v: VertexPlace)
         requires place { IsPlace self.old v.vertex v.at }
         requires vertex { v.vertex ≢ 0 }
-        ensures { self.new ≡ offered_all (A.meaning self.old.setup.algebra) v.vertex (outgoing (network_in self.old.setup) v.vertex) self.old }
+        ensures { self.new ≡ offered_all (A.meaning self.old.setup.question.algebra) v.vertex (outgoing (network_in self.old.setup) v.vertex) self.old }
     {
         let graph = self.graph;
         let outgoing = graph.out(v.vertex);
@@ -430,7 +430,7 @@ impl<'g, A: PathAlgebra> PartState<'g, A> {
     fn pump_if(&mut self, v: VertexPlace, improved: bool)
         requires place { IsPlace self.old v.vertex v.at }
         requires vertex { v.vertex ≢ 0 }
-        ensures { self.new ≡ cond improved (offered_all (A.meaning self.old.setup.algebra) v.vertex (outgoing (network_in self.old.setup) v.vertex) self.old) self.old }
+        ensures { self.new ≡ cond improved (offered_all (A.meaning self.old.setup.question.algebra) v.vertex (outgoing (network_in self.old.setup) v.vertex) self.old) self.old }
     {
         if improved {
             self.pump(v);
@@ -440,8 +440,8 @@ impl<'g, A: PathAlgebra> PartState<'g, A> {
     /// The label of the vertex at a place becomes the value, if that is better.
     fn improve(&mut self, v: VertexPlace, value: A::Value) -> bool
         requires { IsPlace self.old v.vertex v.at }
-        ensures improved { result ≡ improves_on (A.meaning self.old.setup.algebra) value ((state_in self.old).label v.vertex) }
-        ensures moved { self.new ≡ labelled (A.meaning self.old.setup.algebra) value v.vertex self.old }
+        ensures improved { result ≡ improves_on (A.meaning self.old.setup.question.algebra) value ((state_in self.old).label v.vertex) }
+        ensures moved { self.new ≡ labelled (A.meaning self.old.setup.question.algebra) value v.vertex self.old }
     {
         let improved = improves(self.algebra, value, self.label_at(v));
         if improved {
@@ -482,7 +482,7 @@ impl<'g, A: PathAlgebra> PartState<'g, A> {
         requires place { IsPlace self.now v.vertex v.at }
         requires vertex { v.vertex ≢ 0 }
         requires inside { k < length (outgoing (network_in self.now.setup) v.vertex) }
-        ensures { result ≡ road_of (arc_of self.now.setup.roads (get_or (outgoing (network_in self.now.setup) v.vertex) k 0)) }
+        ensures { result ≡ road_of (arc_of self.now.setup.question.roads (get_or (outgoing (network_in self.now.setup) v.vertex) k 0)) }
     {
         self.graph.roads_from(v.vertex)[k]
     }
@@ -492,7 +492,7 @@ impl<'g, A: PathAlgebra> PartState<'g, A> {
         requires arc { IsArc (network_in self.old.setup) a }
         requires here { place_in self.old.setup ((network_in self.old.setup).head a) ≡ self.old.shard }
         requires clear { IsClear self.old a }
-        ensures { self.new ≡ with_value (A.meaning self.old.setup.algebra) a value ((network_in self.old.setup).head a) self.old }
+        ensures { self.new ≡ with_value (A.meaning self.old.setup.question.algebra) a value ((network_in self.old.setup).head a) self.old }
     {
         let v = self.place(self.head(a));
         let improved = self.improve(v, value);
@@ -506,7 +506,7 @@ impl<'g, A: PathAlgebra> PartState<'g, A> {
         requires arc { IsArc (network_in self.old.setup) a }
         requires here { place_in self.old.setup ((network_in self.old.setup).tail a) ≡ self.old.shard }
         requires clear { IsClear self.old a }
-        ensures { self.new ≡ with_free (A.meaning self.old.setup.algebra) a ((network_in self.old.setup).tail a) self.old }
+        ensures { self.new ≡ with_free (A.meaning self.old.setup.question.algebra) a ((network_in self.old.setup).tail a) self.old }
     {
         let v = self.place(self.tail(a));
         let k = self.turn_of(a);
@@ -528,7 +528,7 @@ impl<'g, A: PathAlgebra> PartState<'g, A> {
         requires arc { IsArc (network_in self.old.setup) (item_arc item) }
         requires here { place_in self.old.setup (vertex_of (network_in self.old.setup) item) ≡ self.old.shard }
         requires clear { IsClear self.old (item_arc item) }
-        ensures { self.new ≡ with_taken (A.meaning self.old.setup.algebra) item self.old }
+        ensures { self.new ≡ with_taken (A.meaning self.old.setup.question.algebra) item self.old }
     {
         match item {
             Item::Message { arc, value } => {
@@ -544,8 +544,8 @@ impl<'g, A: PathAlgebra> PartState<'g, A> {
 
     /// Handles the front item, if there is one.
     pub(crate) fn handle_front(&mut self) -> bool
-        ensures taken { IsTrue result → HandledOne (A.meaning self.old.setup.algebra) self.old self.new }
-        ensures item { IsTrue result → OwnIdleIsTold self.old → TookFront A.meaning self.old self.new }
+        ensures taken { IsTrue result → HandledOne (A.meaning self.old.setup.question.algebra) self.old self.new }
+        ensures item { IsTrue result → OwnIdleIsTold self.old → HandledFront A.meaning self.old self.new }
         ensures told { OwnIdleIsTold self.old → OwnIdleIsTold self.new }
         ensures none { IsFalse result → (self.old.queue ≡ []) × (self.new ≡ self.old) }
     {

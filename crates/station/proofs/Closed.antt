@@ -31,10 +31,10 @@ module _ {S V : Type 0} where
 
 module _ {S V : Type 0} (meaning : S → Algebra V) (L : AllLawful meaning) where
   -- THE ANSWER
-  pub gathered : (t : Setup S) (s : ℕ) (id : TableId) (all : List (StationData S V)) (seats : List (SeatData S V)) (tally : Tally) (labels : List (Option V)) → IsPlanned t s → AreBest (meaning t.algebra) t.roads (t.source ∷ []) labels
+  pub gathered : (t : Setup S) (s : ℕ) (id : TableId) (all : List (StationData S V)) (seats : List (SeatData S V)) (tally : Tally) (labels : List (Option V)) → IsPlanned t s → AreBest (meaning t.question.algebra) t.question.roads (t.question.source ∷ []) labels
       → AllSeated t.plan.shards seats → AreHanded id all [] seats tally → IsClosed meaning t seats → IsGathered meaning t (record { labels = labels; tally = tally })
   gathered t s id all seats tally labels P best seated h (w, J, words, homes, C) =
-      let A = meaning t.algebra in let T = totals_of A (network_in t) C.events in
+      let A = meaning t.question.algebra in let T = totals_of A (network_in t) C.events in
       let few : 0 < t.plan.shards = let l = P.shard in omega (arith, l) in
       let over = C.ended (seen_there t.plan.shards w spent seats few seated h.seen J) in
       let one : (x y z : ℕ) → x ≡ 0 + y → x + 0 ≡ z → y ≡ z = λ x y z e f. omega (arith, e, f) in
@@ -50,7 +50,7 @@ module _ {S V : Type 0} (meaning : S → Algebra V) (L : AllLawful meaning) wher
         labels = best;
         events = C.events;
         ended = over;
-        quiet = ended_is_quiet A t.roads t.source (L t.algebra) P.roads P.source.0 C.events over;
+        quiet = ended_is_quiet A t.question.roads t.question.source (L t.question.algebra) P.roads P.source.0 C.events over;
         tally = h.counted ∙ ap tally_of same;
-        equal = totals_are_equal A t.roads t.source (L t.algebra) P.roads P.source.0 C.events over;
+        equal = totals_are_equal A t.question.roads t.question.source (L t.question.algebra) P.roads P.source.0 C.events over;
       }

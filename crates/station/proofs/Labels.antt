@@ -7,8 +7,8 @@ use Rattle.scholten_core.specs.Network.{Network}
 use Rattle.scholten_core.specs.Diffusion.{CoreState, better_of, pump, out_idle, freed}
 use Rattle.scholten_core.proofs.Basics.{better_tells, put_tells}
 use Rattle.shard_part.specs.Arriving.{joined}
-use Rattle.shard_part.specs.PartState.{PartData, Setup, network_in, place_in, state_in, arrive_here, rest_here, settle_here, settle_tail_here, taken, TookAll}
-use Rattle.shard_part.specs.Part.{TookMany}
+use Rattle.shard_part.specs.PartState.{PartData, Setup, network_in, place_in, state_in, arrive_here, rest_here, settle_here, settle_tail_here, taken, HandledAll}
+use Rattle.shard_part.specs.Part.{HandledMany}
 use Rattle.shard_part.proofs.Showing.{AllLawful}
 use Rattle.post_floor.specs.Plays.{sent_off}
 use Rattle.station.specs.Turn.{StaysOrImproves, received, SentOff}
@@ -47,13 +47,13 @@ module _ {V : Type 0} (A : Algebra V) where
     one_item L (SignalOn a) d v = same_label L (d.label v) ((taken A N (SignalOn a) d).label v) (ap (λ (f : ℕ → Option V). f v) (tail_label a (N.tail a) (freed A N a d)))
 
 module _ {S V : Type 0} (meaning : S → Algebra V) (L : AllLawful meaning) where
-  all_items : (items : List (Item V)) (p q : PartData S V) (v : ℕ) → place_in p.setup v ≡ p.shard → TookAll meaning p items q → StaysOrImproves (meaning p.setup.algebra) ((state_in p).label v) ((state_in q).label v)
-  all_items [] p q v own e = same_label (meaning p.setup.algebra) (L p.setup.algebra) _ _ (ap (λ (z : PartData S V). (state_in z).label v) (sym e))
-  all_items (i ∷ is) p q v own (m, T, rest) = let A = meaning p.setup.algebra in
+  all_items : (items : List (Item V)) (p q : PartData S V) (v : ℕ) → place_in p.setup v ≡ p.shard → HandledAll meaning p items q → StaysOrImproves (meaning p.setup.question.algebra) ((state_in p).label v) ((state_in q).label v)
+  all_items [] p q v own e = same_label (meaning p.setup.question.algebra) (L p.setup.question.algebra) _ _ (ap (λ (z : PartData S V). (state_in z).label v) (sym e))
+  all_items (i ∷ is) p q v own (m, T, rest) = let A = meaning p.setup.question.algebra in
       let here : place_in m.setup v ≡ m.shard = ap (λ (t : Setup S). place_in t v) T.setup ∙ own ∙ sym T.shard in
-      improved_twice A (L p.setup.algebra) _ ((state_in m).label v) _
-      (subst (λ z. StaysOrImproves A ((state_in p).label v) z) (sym (T.tables.label v (eq-eqb _ _ own))) (one_item A (network_in p.setup) (L p.setup.algebra) i (state_in p) v))
-      (subst (λ (t : Setup S). StaysOrImproves (meaning t.algebra) ((state_in m).label v) ((state_in q).label v)) T.setup (all_items is m q v here rest))
+      improved_twice A (L p.setup.question.algebra) _ ((state_in m).label v) _
+      (subst (λ z. StaysOrImproves A ((state_in p).label v) z) (sym (T.tables.label v (eq-eqb _ _ own))) (one_item A (network_in p.setup) (L p.setup.question.algebra) i (state_in p) v))
+      (subst (λ (t : Setup S). StaysOrImproves (meaning t.question.algebra) ((state_in m).label v) ((state_in q).label v)) T.setup (all_items is m q v here rest))
 
 -- what a batch that comes in, or an outbox that goes off, leaves of a part
 pub record IsLike {S V : Type 0} (p q : PartData S V) : Type 0 where
@@ -76,9 +76,9 @@ module _ {S V : Type 0} where
 
 module _ {S V : Type 0} (meaning : S → Algebra V) (L : AllLawful meaning) where
   -- a part that takes batches, handles items and sends outboxes off
-  pub labels_stay : (p filled emptied q : PartData S V) (n v : ℕ) → IsLike p filled → TookMany meaning filled n emptied → IsLike emptied q → place_in p.setup v ≡ p.shard → StaysOrImproves (meaning p.setup.algebra) ((state_in p).label v) ((state_in q).label v)
+  pub labels_stay : (p filled emptied q : PartData S V) (n v : ℕ) → IsLike p filled → HandledMany meaning filled n emptied → IsLike emptied q → place_in p.setup v ≡ p.shard → StaysOrImproves (meaning p.setup.question.algebra) ((state_in p).label v) ((state_in q).label v)
   labels_stay p filled emptied q n v a (items, l, T) b own =
       let here : place_in filled.setup v ≡ filled.shard = ap (λ (t : Setup S). place_in t v) a.setup ∙ own ∙ sym a.shard in
-      subst (λ z. StaysOrImproves (meaning p.setup.algebra) ((state_in p).label v) z) (sym (b.label v))
-      (subst (λ z. StaysOrImproves (meaning p.setup.algebra) z ((state_in emptied).label v)) (a.label v)
-      (subst (λ (t : Setup S). StaysOrImproves (meaning t.algebra) ((state_in filled).label v) ((state_in emptied).label v)) a.setup (all_items meaning L items filled emptied v here T)))
+      subst (λ z. StaysOrImproves (meaning p.setup.question.algebra) ((state_in p).label v) z) (sym (b.label v))
+      (subst (λ z. StaysOrImproves (meaning p.setup.question.algebra) z ((state_in emptied).label v)) (a.label v)
+      (subst (λ (t : Setup S). StaysOrImproves (meaning t.question.algebra) ((state_in filled).label v) ((state_in emptied).label v)) a.setup (all_items meaning L items filled emptied v here T)))

@@ -25,17 +25,17 @@ opened_next A t n ps qs p e o h =
     h ∙ ap (λ z. z ++ p ∷ []) e ∙ ap (λ z. opened_parts A t 0 n ++ z ∷ []) (o ∙ ap (opened_part A t) a) ∙ one_more A t 0 n ∙ ap (opened_parts A t 0) b
 
 -- a part as it is opened holds its share of the opening
-pub known_opened : {S V : Type 0} (meaning : S → Algebra V) (t : Setup S) (s : ℕ) (p : PartData S V) → p ≡ opened_part (meaning t.algebra) t s → Holds meaning (state_after (meaning t.algebra) (network_in t) []) p → Known meaning p
-known_opened meaning t s p e h = subst (λ z. Known meaning z) (sym e) ([], subst (Holds meaning (state_after (meaning t.algebra) (network_in t) [])) e h)
+pub known_opened : {S V : Type 0} (meaning : S → Algebra V) (t : Setup S) (s : ℕ) (p : PartData S V) → p ≡ opened_part (meaning t.question.algebra) t s → Holds meaning (state_after (meaning t.question.algebra) (network_in t) []) p → Known meaning p
+known_opened meaning t s p e h = subst (λ z. Known meaning z) (sym e) ([], subst (Holds meaning (state_after (meaning t.question.algebra) (network_in t) [])) e h)
 
 pub some_seat : {X Y : Type 0} (f : X → Y) (ps qs : List X) (p : X) (ds : List Y) → ps ≡ qs ++ p ∷ [] → ds ≡ map f ps → ds ≡ [] → ⊥
 some_seat f ps qs p ds e m h = let a = ap length (sym h ∙ m) in let b = length-map ps f in let c = ap length e in let d = length_push qs p in omega (arith, a, b, c, d)
 
 module _ {S V : Type 0} (meaning : S → Algebra V) where
   -- parts as they are opened are fresh
-  pub all_fresh : (f : FloorData S) (t : Setup S) (k n : ℕ) → f.question ≡ t → All (Known meaning) (opened_parts (meaning t.algebra) t k n) → All (IsFreshPart meaning f) (opened_parts (meaning t.algebra) t k n)
+  pub all_fresh : (f : FloorData S) (t : Setup S) (k n : ℕ) → f.question ≡ t → All (Known meaning) (opened_parts (meaning t.question.algebra) t k n) → All (IsFreshPart meaning f) (opened_parts (meaning t.question.algebra) t k n)
   all_fresh f t k zero e h = tt
-  all_fresh f t k (suc n) e h = ((sym e, opened_shows (meaning t.algebra) t k f.question.plan.shards, h.0), all_fresh f t (suc k) n e h.1)
+  all_fresh f t k (suc n) e h = ((sym e, opened_shows (meaning t.question.algebra) t k f.question.plan.shards, h.0), all_fresh f t (suc k) n e h.1)
 
 each : {X : Type 0} (P : X → Type 0) (xs : List X) → All P xs → Each P xs
 each P (x ∷ xs) h zero d l = h.0
@@ -47,18 +47,18 @@ module _ {S V : Type 0} where
   first_setup A f t zero l h = absurd (omega (arith, l))
   first_setup A f t (suc n) l h = sym h.0
 
+  -- the question of the floor is the parts' own
+  pub floor_question : (A : Algebra V) (f : FloorData S) (t : Setup S) (ps : List (PartData S V)) → 1 ≤ t.plan.shards → ps ≡ opened_parts A t 0 t.plan.shards → All (λ p. p.setup ≡ f.question) ps → f.question ≡ t
+  floor_question A f t ps l e h = first_setup A f t t.plan.shards l (subst (All (λ p. p.setup ≡ f.question)) e h)
+
   -- a floor and stations of parts as they are opened
-  pub are_opened : (meaning : S → Algebra V) (f : FloorData S) (t : Setup S) (ps : List (PartData S V)) (stations : List (StationData S V)) → 1 ≤ t.plan.shards → ps ≡ opened_parts (meaning t.algebra) t 0 t.plan.shards
+  pub are_opened : (meaning : S → Algebra V) (f : FloorData S) (t : Setup S) (ps : List (PartData S V)) (stations : List (StationData S V)) → 1 ≤ t.plan.shards → ps ≡ opened_parts (meaning t.question.algebra) t 0 t.plan.shards
       → All (λ p. p.setup ≡ f.question) ps → stations ≡ map (station_of f.id f.question.plan.shards) ps → AreOpened meaning t f stations
   are_opened meaning f t ps stations l e h m =
-      let q : f.question ≡ t = first_setup (meaning t.algebra) f t t.plan.shards l (subst (All (λ p. p.setup ≡ f.question)) e h) in
+      let q : f.question ≡ t = floor_question (meaning t.question.algebra) f t ps l e h in
       let station : PartData S V → StationData S V = station_of f.id f.question.plan.shards in
       record {
         question = q;
         stations_are = m ∙ ap (λ (u : Setup S). map (station_of f.id u.plan.shards) ps) q ∙ ap (map (station_of f.id t.plan.shards)) e;
         own = subst (Each (BelongsTo f)) (sym m) (All-map (BelongsTo f) station ps (All-weaker (λ p. p.setup ≡ f.question) (λ p. BelongsTo f (station p)) (λ p s. record { floor = refl; question = s }) ps (each (λ p. p.setup ≡ f.question) ps h)));
       }
-
-  -- the question of the floor is the parts' own
-  pub floor_question : (A : Algebra V) (f : FloorData S) (t : Setup S) (ps : List (PartData S V)) → 1 ≤ t.plan.shards → ps ≡ opened_parts A t 0 t.plan.shards → All (λ p. p.setup ≡ f.question) ps → f.question ≡ t
-  floor_question A f t ps l e h = first_setup A f t t.plan.shards l (subst (All (λ p. p.setup ≡ f.question)) e h)

@@ -1,9 +1,7 @@
 -- The places of stations, and the labels at them.
-use Rattle.std.proofs.Common.{◌≡◌, ℕ, zero, suc, ◌+◌, ◌-◌, ◌<◌, ◌≤◌, Option, Some, None, List, [], ◌∷◌, ◌++◌, length, get_or, set, refl, sym, ap, ◌∙◌, subst, inl, inr, arith, length-append, get_or-set_same, get_or-set_other}
+use Rattle.std.proofs.Common.{◌≡◌, ℕ, zero, suc, ◌+◌, ◌-◌, ◌<◌, ◌≤◌, Option, None, List, [], ◌∷◌, ◌++◌, length, get_or, set, refl, sym, ap, ◌∙◌, subst, inl, inr, arith, length-append, get_or-set_same, get_or-set_other}
 use Rattle.std.proofs.lemmas.Bool.{cases_eq}
 use Rattle.std.proofs.lemmas.List.{get_or_append_left, get_or_push}
-use Rattle.std.specs.List.{All}
-use Rattle.std.proofs.lemmas.List.Elements.{All-pop}
 use Rattle.shard_part.specs.Moves.{IsPlanned}
 use Rattle.shard_part.specs.PartState.{PartData, Setup, total, is}
 use Rattle.shard_part.specs.Plans.{HasPlanned, shard_in}
@@ -28,10 +26,6 @@ module _ {S V : Type 0} where
   -- the station at a place
   pub at_place : (t : Setup S) (stations : List (StationData S V)) (j k : ℕ) (x : StationData S V) → x ≡ get_or stations k x → AreOf t stations → IsAtPlace stations j k → (x.part.setup ≡ t) × (x.part.shard ≡ j)
   at_place t stations j k x e own a = (ap (λ (s : StationData S V). s.part.setup) e ∙ own k x a.0, ap (λ (s : StationData S V). s.part.shard) e ∙ a.1 x)
-
--- the last of a list and the others
-pub front_each : {X : Type 0} (P : X → Type 0) (left rest : List X) (s : X) → left ≡ rest ++ s ∷ [] → All P left → All P rest × P s
-front_each P left rest s e h = All-pop P left rest (Some s) e h
 
 -- a station that is there counts
 pub counts_there : {S V : Type 0} (stations : List (StationData S V)) (j k : ℕ) → IsAtPlace stations j k → 0 < total (λ s. is j s.part.shard) stations

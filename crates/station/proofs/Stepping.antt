@@ -2,7 +2,7 @@
 use Rattle.std.proofs.Common.{◌≡◌, ℕ, Bool, true, false, cond, List, [], ◌∷◌, get_or, refl, sym, ap, ◌∙◌, eq-eqb}
 use Rattle.path_algebra.specs.Algebra.{Algebra}
 use Rattle.shard_part.specs.PartState.{PartData}
-use Rattle.shard_part.specs.Part.{TookMany}
+use Rattle.shard_part.specs.Part.{HandledMany}
 use Rattle.post_floor.specs.declared.view.View.{View}
 use Rattle.post_floor.specs.Data.{FloorData, SeatData, IsAt, IsSameSeat, fill_box}
 use Rattle.post_floor.specs.Boxes.{mailbox}
@@ -20,7 +20,7 @@ module _ {S V : Type 0} (meaning : S → Algebra V) where
   is_at f d p r = record { floor = r.floor; setup = r.question; moved = stays d.knows p r.shows }
 
   -- the part has handled items
-  pub went_on : (f : FloorData S) (a : SeatData S V) (p q : PartData S V) (n : ℕ) → q.setup ≡ p.setup → q.shard ≡ p.shard → TookMany meaning p n q → AreReady f a p → AreBehind meaning f a q
+  pub went_on : (f : FloorData S) (a : SeatData S V) (p q : PartData S V) (n : ℕ) → q.setup ≡ p.setup → q.shard ≡ p.shard → HandledMany meaning p n q → AreReady f a p → AreBehind meaning f a q
   went_on f a p q n e s (items, l, T) r = record { at = record { floor = r.floor; setup = e ∙ r.question; moved = (p, items, r.shows, T) }; shard = r.shard ∙ sym s; free = r.free }
 
   -- an outbox went into the mailbox, and that was given up

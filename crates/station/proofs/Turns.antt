@@ -8,7 +8,7 @@ use Rattle.scholten_core.specs.Diffusion.{state_after}
 use Rattle.scholten_core.proofs.EveryRun.{labels_are_walk_values}
 use Rattle.shard_part.specs.Moves.{IsPlanned}
 use Rattle.shard_part.specs.PartState.{PartData, Setup, network_in, place_in, state_in, in_flight, part_weight, Holds}
-use Rattle.shard_part.specs.Part.{TookMany, IsRunOn}
+use Rattle.shard_part.specs.Part.{HandledMany, IsRunOn}
 use Rattle.shard_part.specs.Readings.{IsOwn}
 use Rattle.shard_part.specs.Tallies.{top}
 use Rattle.shard_part.proofs.Showing.{AllLawful}
@@ -30,10 +30,10 @@ all_steps a b c d m n k x y z e f = omega (arith, x, y, z, e, f)
 module _ {S V : Type 0} (meaning : S → Algebra V) where
   -- no item was handled
   none_on : (p : PartData S V) (v : View S V) → ShowsPart v p → (before : List Event) → Holds meaning (core_of meaning p.setup before) p → IsRunOn meaning before p 0 p
-  none_on p v s before H = let A = meaning p.setup.algebra in let N = network_in p.setup in record {
+  none_on p v s before H = let A = meaning p.setup.question.algebra in let N = network_in p.setup in record {
     items = [];
     count = refl;
-    took = refl;
+    handled = refl;
     enabled = refl;
     holds = subst (λ es. Holds meaning (state_after A N es) p) (sym (append-nil before)) H;
     weighs = λ h. ap (λ es. part_weight h p + in_flight N (place_in p.setup) (state_after A N es) h) (sym (append-nil before));
@@ -62,7 +62,7 @@ module _ {S V : Type 0} (meaning : S → Algebra V) where
       within = omega arith;
       all = inr (i.over e).part.queue;
     };
-    labels = λ v own x q. (x, q, no_worse_self (meaning s.part.setup.algebra) (L s.part.setup.algebra) x);
+    labels = λ v own x q. (x, q, no_worse_self (meaning s.part.setup.question.algebra) (L s.part.setup.question.algebra) x);
     steps = omega arith;
     report = sym e;
     stays = λ _. (refl, refl);
@@ -70,7 +70,7 @@ module _ {S V : Type 0} (meaning : S → Algebra V) where
 
   -- a turn before the end
   pub turned : AllLawful meaning → (f : FloorData S) (budget handled taken published : ℕ) (s : StationData S V) (a b d : SeatData S V) (filled emptied q : PartData S V) (o : Bool) → s.ended ≡ false
-      → AllCameIn taken s.part filled → emptied.setup ≡ filled.setup → emptied.shard ≡ filled.shard → TookMany meaning filled handled emptied
+      → AllCameIn taken s.part filled → emptied.setup ≡ filled.setup → emptied.shard ≡ filled.shard → HandledMany meaning filled handled emptied
       → ((before : List Event) → Holds meaning (core_of meaning filled.setup before) filled → IsRunOn meaning before filled handled emptied)
       → AllWentOff published emptied q → handled ≤ budget → ((handled ≡ budget) ⊎ (emptied.queue ≡ [])) → AreReady f d q
       → a.knows.steps ≤ s.seat.knows.steps + 2 * (s.part.setup.plan.shards - 1) → b.knows.steps ≤ a.knows.steps + 2 * (emptied.setup.plan.shards - 1) → d.knows.steps ≤ b.knows.steps + 1
@@ -105,7 +105,7 @@ module _ {S V : Type 0} (meaning : S → Algebra V) where
 
   -- the label of a part that holds its share of a state is the value of a walk
   pub walks : AllLawful meaning → (p : PartData S V) (s : ℕ) → IsPlanned p.setup s → Known meaning p → (v : ℕ) → IsOwn p v → (o : Option V) → o ≡ (state_in p).label v
-      → IfSome o (λ x. IsWalkValue (meaning p.setup.algebra) p.setup.roads (p.setup.source ∷ []) v x)
+      → IfSome o (λ x. IsWalkValue (meaning p.setup.question.algebra) p.setup.question.roads (p.setup.question.source ∷ []) v x)
   walks L p s P (events, H) v own None e = tt
   walks L p s P (events, H) v own (Some x) e =
-      labels_are_walk_values (meaning p.setup.algebra) p.setup.roads p.setup.source (L p.setup.algebra) P.roads P.source.0 events v x (sym (H.tables.agree.label v (eq-eqb _ _ own.1)) ∙ sym e)
+      labels_are_walk_values (meaning p.setup.question.algebra) p.setup.question.roads p.setup.question.source (L p.setup.question.algebra) P.roads P.source.0 events v x (sym (H.tables.agree.label v (eq-eqb _ _ own.1)) ∙ sym e)

@@ -47,14 +47,14 @@ module _ {S V : Type 0} where
 -- and is quiet; each counter of the tally is the lesser of its total and its top, full exactly where a total reaches that, and all totals
 -- are the same.
 pub record IsGathered {S V : Type 0} (meaning : S → Algebra V) (t : Setup S) (g : Gathered V) : Type 0 where
-  pub roads : IsRoads t.roads
-  pub source : HasVertex t.roads t.source
-  pub labels : AreBest (meaning t.algebra) t.roads (t.source ∷ []) g.labels
+  pub roads : IsRoads t.question.roads
+  pub source : HasVertex t.question.roads t.question.source
+  pub labels : AreBest (meaning t.question.algebra) t.question.roads (t.question.source ∷ []) g.labels
   pub events : List Event
   pub ended : HasEnded (core_of meaning t events)
   pub quiet : IsQuiet (core_of meaning t events)
-  pub tally : g.tally ≡ tally_of (totals_of (meaning t.algebra) (network_in t) events)
-  pub equal : AreEqualTotals (totals_of (meaning t.algebra) (network_in t) events)
+  pub tally : g.tally ≡ tally_of (totals_of (meaning t.question.algebra) (network_in t) events)
+  pub equal : AreEqualTotals (totals_of (meaning t.question.algebra) (network_in t) events)
 
 -- what seats have counted together
 abbrev pub counts_of : {S V : Type 0} → List (SeatData S V) → Totals

@@ -21,5 +21,5 @@ IsFreshPart meaning f p = (p.setup ≡ f.question) × ShowsPart (knows f.questio
 -- the floor is that of the question, and there is one station of it for each shard, in order, with its part as it is opened
 pub record AreOpened {S V : Type 0} (meaning : S → Algebra V) (t : Setup S) (f : FloorData S) (stations : List (StationData S V)) : Type 0 where
   pub question : f.question ≡ t
-  pub stations_are : stations ≡ map (station_of f.id t.plan.shards) (opened_parts (meaning t.algebra) t 0 t.plan.shards)
+  pub stations_are : stations ≡ map (station_of f.id t.plan.shards) (opened_parts (meaning t.question.algebra) t 0 t.plan.shards)
   pub own : All (BelongsTo f) stations

@@ -30,7 +30,7 @@ IsFree v = (v.fills ≡ []) × (v.reads ≡ [])
 module _ {S V : Type 0} (meaning : S → Algebra V) where
   -- nothing is under way in the part, and each label of its vertices is best: none exactly where no walk has a value
   pub record IsOverPart (p : PartData S V) : Type 0 where
-    pub best : (v : ℕ) → IsOwn p v → IsBestLabel (meaning p.setup.algebra) p.setup.roads (p.setup.source ∷ []) v ((state_in p).label v)
+    pub best : (v : ℕ) → IsOwn p v → IsBestLabel (meaning p.setup.question.algebra) p.setup.question.roads (p.setup.question.source ∷ []) v ((state_in p).label v)
     pub neutral : (v : ℕ) → IsOwn p v → (state_in p).engager v ≡ None
     pub idle : (b : ℕ) → place_in p.setup ((network_in p.setup).tail b) ≡ p.shard → get_or p.busy b false ≡ false
     pub queue : p.queue ≡ []

@@ -5,7 +5,7 @@ use Rattle.scholten_core.specs.declared.event.Event.{Event}
 use Rattle.scholten_core.specs.declared.item.Item.{Item}
 use Rattle.shard_part.specs.Arriving.{joined}
 use Rattle.shard_part.specs.PartState.{PartData, state_in, Holds}
-use Rattle.shard_part.specs.Part.{TookMany, IsRunOn}
+use Rattle.shard_part.specs.Part.{HandledMany, IsRunOn}
 use Rattle.shard_part.specs.Readings.{IsOwn}
 use Rattle.post_floor.specs.Data.{FloorData}
 use Rattle.post_floor.specs.Floor.{core_of}
@@ -37,7 +37,7 @@ module _ {S V : Type 0} (meaning : S → Algebra V) where
     pub filled : PartData S V  -- with the batches
     pub received_all : filled ≡ received p batches
     pub emptied : PartData S V  -- and when the items were handled
-    pub handled : TookMany meaning filled r.handled emptied
+    pub handled : HandledMany meaning filled r.handled emptied
     pub events : (before : List Event) → Holds meaning (core_of meaning filled.setup before) filled → IsRunOn meaning before filled r.handled emptied
     pub outboxes : List ℕ
     pub published : length outboxes ≡ r.published
@@ -50,7 +50,7 @@ module _ {S V : Type 0} (meaning : S → Algebra V) where
     pub own : BelongsTo f after
     pub shard : after.part.shard ≡ before.part.shard
     pub worked : Worked budget before.part r after.part
-    pub labels : (v : ℕ) → IsOwn before.part v → StaysOrImproves (meaning before.part.setup.algebra) ((state_in before.part).label v) ((state_in after.part).label v)
+    pub labels : (v : ℕ) → IsOwn before.part v → StaysOrImproves (meaning before.part.setup.question.algebra) ((state_in before.part).label v) ((state_in after.part).label v)
     pub steps : after.seat.knows.steps ≤ before.seat.knows.steps + 4 * (f.question.plan.shards - 1) + 1
     pub report : r.ended ≡ after.ended
     pub stays : HasEnded before → (after ≡ before) × (r ≡ record { handled = 0; taken = 0; published = 0; ended = true })

@@ -77,7 +77,7 @@ impl<'g, A: PathAlgebra> Finished<'g, A> {
     fn label(&self, v: Vertex) -> Option<A::Value>
         requires vertex { HasPlanned self.now.part.setup.plan v }
         requires own { shard_in self.now.part.setup.plan v ≡ self.now.part.shard }
-        ensures { IsBestLabel (A.meaning self.now.part.setup.algebra) self.now.part.setup.roads (self.now.part.setup.source ∷ []) v result }
+        ensures { IsBestLabel (A.meaning self.now.part.setup.question.algebra) self.now.part.setup.question.roads (self.now.part.setup.question.source ∷ []) v result }
     {
         // What holds of every part.
         let _shard = self.part.shard();
@@ -126,7 +126,7 @@ fn label_at<A: PathAlgebra>(
     requires places { ArePlaces plan.now.shards stations.now places.now }
     requires own { AreOf floor.now.question stations.now }
     requires vertex { HasPlanned plan.now v }
-    ensures { IsBestLabel (A.meaning floor.now.question.algebra) floor.now.question.roads (floor.now.question.source ∷ []) v result }
+    ensures { IsBestLabel (A.meaning floor.now.question.question.algebra) floor.now.question.question.roads (floor.now.question.question.source ∷ []) v result }
 {
     let _shards = plan.shards();
     let k = places[plan.shard_of(v).0 as usize];
@@ -144,8 +144,8 @@ fn label_list<A: PathAlgebra>(
     requires plan { plan.now ≡ floor.now.question.plan }
     requires places { ArePlaces plan.now.shards stations.now places.now }
     requires own { AreOf floor.now.question stations.now }
-    requires covers { length plan.now.list ≡ floor.now.question.roads.vertices }
-    ensures { IfOk result (λ v. AreBest (A.meaning floor.now.question.algebra) floor.now.question.roads (floor.now.question.source ∷ []) v.items) }
+    requires covers { length plan.now.list ≡ floor.now.question.question.roads.vertices }
+    ensures { IfOk result (λ v. AreBest (A.meaning floor.now.question.question.algebra) floor.now.question.question.roads (floor.now.question.question.source ∷ []) v.items) }
 {
     let mut list = Vec::with_capacity(alloc, plan.vertices() as usize)?;
     for v in 0..plan.vertices() {
@@ -202,7 +202,7 @@ fn collect<A: PathAlgebra>(
     requires planned { IsPlanned floor.now.question 0 }
     ensures planned { IsPlanned floor.now.question 0 }
     ensures there { IfOk result (λ _. (j : ℕ) → j < floor.now.question.plan.shards → IsThere stations.now j) }
-    ensures labels { IfOk result (λ r. AreBest (A.meaning floor.now.question.algebra) floor.now.question.roads (floor.now.question.source ∷ []) r.0.items) }
+    ensures labels { IfOk result (λ r. AreBest (A.meaning floor.now.question.question.algebra) floor.now.question.question.roads (floor.now.question.question.source ∷ []) r.0.items) }
     ensures seats { IfOk result (λ r. (r.1.items ≡ []) × (vec_len r.1 + length stations.now ≤ vec_capacity r.1)) }
     ensures refused { IfErr result (IsWhy floor.now.question.plan.shards stations.now) }
 {

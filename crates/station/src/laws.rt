@@ -9,6 +9,6 @@ ghost use Rattle.station.specs.Gather.{IsGathered, each_shows};
 
 /// For reachability, whatever the schedule: each counter of the answer shows one, and one more for each arc whose tail is reached.
 pub fn reach_counts_each_arc_once()
-    ensures { (t : Setup Reach) (g : Gathered (Unit {0})) → IsGathered (λ _. reach) t g → (marked : ℕ → Bool) → AreMarksOfReached reach t.roads t.source marked →
-        g.tally ≡ each_shows (1 + count_marked t.roads marked) }
+    ensures { (t : Setup Reach) (g : Gathered (Unit {0})) → IsGathered (λ _. reach) t g → (marked : ℕ → Bool) → AreMarksOfReached reach t.question.roads t.question.source marked →
+        g.tally ≡ each_shows (1 + count_marked t.question.roads marked) }
 {}

@@ -32,7 +32,7 @@ fn open_parts<'g, A: PathAlgebra>(
 ) -> Result<Vec<Part<'g, A>>, Memory>
     requires source { HasVertex graph.now source }
     requires plan { length plan.now.list ≡ graph.now.vertices }
-    ensures parts { IfOk result (λ v. v.items ≡ opened_parts (A.meaning algebra) (record { algebra = algebra; roads = graph.now; source = source; plan = plan.now }) 0 plan.now.shards) }
+    ensures parts { IfOk result (λ v. v.items ≡ opened_parts (A.meaning algebra) (record { question = record { algebra = algebra; roads = graph.now; source = source }; plan = plan.now }) 0 plan.now.shards) }
     ensures known { IfOk result (λ v. All (Known A.meaning) v.items) }
 {
     let mut parts = Vec::new(alloc);
@@ -77,7 +77,7 @@ pub fn open_question<'g, A: PathAlgebra>(
 ) -> Result<(Floor<A>, Vec<Station<'g, A>>), Memory>
     requires source { HasVertex graph.now source }
     requires plan { length plan.now.list ≡ graph.now.vertices }
-    ensures { IfOk result (λ r. AreOpened A.meaning (record { algebra = algebra; roads = graph.now; source = source; plan = plan.now }) r.0 r.1.items) }
+    ensures { IfOk result (λ r. AreOpened A.meaning (record { question = record { algebra = algebra; roads = graph.now; source = source }; plan = plan.now }) r.0 r.1.items) }
 {
     let _shards = plan.shards();
     let parts = open_parts(alloc, algebra, graph, plan, source)?;

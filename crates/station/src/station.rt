@@ -122,7 +122,7 @@ impl<'g, A: PathAlgebra> Station<'g, A> {
     pub fn peek(&self, v: Vertex) -> Option<A::Value>
         requires { IsOwn self.now.part v }
         ensures label { result ≡ (state_in self.now.part).label v }
-        ensures walk { IfSome result (λ x. IsWalkValue (A.meaning self.now.part.setup.algebra) self.now.part.setup.roads (self.now.part.setup.source ∷ []) v x) }
+        ensures walk { IfSome result (λ x. IsWalkValue (A.meaning self.now.part.setup.question.algebra) self.now.part.setup.question.roads (self.now.part.setup.question.source ∷ []) v x) }
     {
         // What holds of every part.
         let _shard = self.part.shard();

@@ -31,7 +31,7 @@ impl<'g, A: PathAlgebra> Desk<'g, A> {
         source: Vertex,
     ) -> Result<Desk<'g, A>, Memory>
         requires { HasVertex graph.now source }
-        ensures problem { IfOk result (λ c. c.problem ≡ record { algebra = algebra; roads = graph.now; source = source }) }
+        ensures question { IfOk result (λ c. c.question ≡ record { algebra = algebra; roads = graph.now; source = source }) }
         ensures state { IfOk result (λ c. state_of c ≡ opening (A.meaning algebra) (network graph.now source)) }
     {
         let vertices = graph.vertices() as usize + 1;

@@ -13,9 +13,9 @@ use road_graph::{ArcNo, Vertex};
 impl<'g, A: PathAlgebra> Desk<'g, A> {
     /// Each due arc out of a vertex is sent the label, in ascending order.
     fn pump(&mut self, v: Vertex)
-        requires vertex { HasVertex self.old.problem.roads v }
-        ensures same { self.new.problem ≡ self.old.problem }
-        ensures state { state_of self.new ≡ pump (A.meaning self.old.problem.algebra) (network_of self.old) v (state_of self.old) }
+        requires vertex { HasVertex self.old.question.roads v }
+        ensures same { self.new.question ≡ self.old.question }
+        ensures state { state_of self.new ≡ pump (A.meaning self.old.question.algebra) (network_of self.old) v (state_of self.old) }
     {
         let graph = self.graph;
         let outgoing = graph.out(v);
@@ -26,12 +26,12 @@ impl<'g, A: PathAlgebra> Desk<'g, A> {
 
     /// A message is taken and the head pumps. Only an improved label is news for the arcs out.
     pub fn take_message(&mut self, a: ArcNo, v: Vertex, value: A::Value)
-        requires vertex { HasVertex self.old.problem.roads v }
+        requires vertex { HasVertex self.old.question.roads v }
         requires head { v ≡ (network_of self.old).head a }
         requires busy { is_idle ((state_of self.old).token a) ≡ false }
         requires told { IdleIsTold (network_of self.old) (state_of self.old) }
-        ensures same { self.new.problem ≡ self.old.problem }
-        ensures state { state_of self.new ≡ pump (A.meaning self.old.problem.algebra) (network_of self.old) v (arrive (A.meaning self.old.problem.algebra) (network_of self.old) a value (state_of self.old)) }
+        ensures same { self.new.question ≡ self.old.question }
+        ensures state { state_of self.new ≡ pump (A.meaning self.old.question.algebra) (network_of self.old) v (arrive (A.meaning self.old.question.algebra) (network_of self.old) a value (state_of self.old)) }
     {
         laws_hold(self.algebra);
         if self.arrive(a, v, value) {
@@ -42,12 +42,12 @@ impl<'g, A: PathAlgebra> Desk<'g, A> {
     /// A signal is taken and the tail pumps. Only the signal's own arc can be due.
     pub fn take_signal(&mut self, a: ArcNo, v: Vertex)
         requires low { 1 ≤ a }
-        requires vertex { HasVertex self.old.problem.roads v }
+        requires vertex { HasVertex self.old.question.roads v }
         requires tail { v ≡ (network_of self.old).tail a }
         requires busy { is_idle ((state_of self.old).token a) ≡ false }
         requires told { IdleIsTold (network_of self.old) (state_of self.old) }
-        ensures same { self.new.problem ≡ self.old.problem }
-        ensures state { state_of self.new ≡ pump (A.meaning self.old.problem.algebra) (network_of self.old) v (freed (A.meaning self.old.problem.algebra) (network_of self.old) a (state_of self.old)) }
+        ensures same { self.new.question ≡ self.old.question }
+        ensures state { state_of self.new ≡ pump (A.meaning self.old.question.algebra) (network_of self.old) v (freed (A.meaning self.old.question.algebra) (network_of self.old) a (state_of self.old)) }
     {
         laws_hold(self.algebra);
         self.free(a, v);

@@ -33,7 +33,7 @@ impl<'g, A: PathAlgebra> PartState<'g, A> {
         requires source { HasVertex graph.now source }
         requires plan { length plan.now.list ≡ graph.now.vertices }
         requires shard { shard < plan.now.shards }
-        ensures part { IfOk result (λ d. d ≡ opened_part (A.meaning algebra) (record { algebra = algebra; roads = graph.now; source = source; plan = plan.now }) shard) }
+        ensures part { IfOk result (λ d. d ≡ opened_part (A.meaning algebra) (record { question = record { algebra = algebra; roads = graph.now; source = source }; plan = plan.now }) shard) }
         ensures share { IfOk result (λ d. Holds A.meaning (state_after (A.meaning algebra) (network graph.now source) []) d) }
     {
         // What holds of every graph and every plan is known once one is asked.

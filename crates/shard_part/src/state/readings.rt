@@ -111,7 +111,7 @@ impl<'g, A: PathAlgebra> PartState<'g, A> {
     /// How many arcs out of a vertex of this shard are not idle.
     pub fn deficit(&self, v: Vertex) -> u32
         requires { IsOwn self.now v }
-        ensures { result ≡ busy_out (network_in self.now.setup) v (state_in self.now) (suc (length self.now.setup.roads.arcs)) }
+        ensures { result ≡ busy_out (network_in self.now.setup) v (state_in self.now) (suc (length self.now.setup.question.roads.arcs)) }
     {
         self.deficit_at(self.place(v))
     }

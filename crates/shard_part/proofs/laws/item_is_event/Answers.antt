@@ -2,11 +2,11 @@ use Rattle.shard_part.specs.PartState.{network_in}
 use Rattle.scholten_core.specs.Diffusion.{opening, state_after}
 use Rattle.scholten_core.proofs.Ended.{opening_kept}
 use Rattle.scholten_core.proofs.Kept.{run_kept}
-use Rattle.shard_part.proofs.Showing.{took_shows}
+use Rattle.shard_part.proofs.Showing.{handled_shows}
 use Rattle.shard_part.proofs.laws.item_is_event.Goals as goal
 
 pub returns : goal.returns
-returns g c = λ t events before after p q i mail w shows took.
+returns g c = λ t events before after p q i mail w shows handled.
     let laws = g.met.A.PathAlgebra g.world.𝓛 g.world.𝓜 g.world.𝓡 ((λ s x. x), (λ x. x), (λ x. x), λ x. x) in
-    took_shows g.A.PathAlgebra.meaning laws.lawful t w before after p q i mail (state_after (g.A.PathAlgebra.meaning t.algebra) (network_in t) events)
-    (run_kept (g.A.PathAlgebra.meaning t.algebra) (network_in t) (laws.lawful t.algebra) w (opening (g.A.PathAlgebra.meaning t.algebra) (network_in t)) events (opening_kept (g.A.PathAlgebra.meaning t.algebra) (network_in t) w)) shows took
+    handled_shows g.A.PathAlgebra.meaning laws.lawful t w before after p q i mail (state_after (g.A.PathAlgebra.meaning t.question.algebra) (network_in t) events)
+    (run_kept (g.A.PathAlgebra.meaning t.question.algebra) (network_in t) (laws.lawful t.question.algebra) w (opening (g.A.PathAlgebra.meaning t.question.algebra) (network_in t)) events (opening_kept (g.A.PathAlgebra.meaning t.question.algebra) (network_in t) w)) shows handled

@@ -13,9 +13,9 @@ unreachable-requires g c =
 pub returns-in-Ok-close-clause-gathered : goal.returns-in-Ok-close-clause-gathered
 returns-in-Ok-close-clause-gathered g c =
     let laws = g.met.A.PathAlgebra g.world.𝓛 g.world.𝓜 g.world.𝓡 ((λ s x. x), (λ x. x), (λ x. x), λ x. x) in
-    let f = c.args.floor in let A = g.A.PathAlgebra.meaning f.question.algebra in let closed = c.in-Ok-close.ensures.closed in
+    let f = c.args.floor in let A = g.A.PathAlgebra.meaning f.question.question.algebra in let closed = c.in-Ok-close.ensures.closed in
     let there = subst (λ ss. (j : ℕ) → j < f.question.plan.shards → IsThere ss j) c.deref.ensures.value c.in-Ok.ensures.there in (
       there,
       gathered g.A.PathAlgebra.meaning laws.lawful f.question 0 f.id c.args.stations.items c.hand_over-seats.result.0.items c.hand_over-seats.result.1 c.from_vec-labels.result c.in-Ok.ensures.planned
-          (subst (AreBest A f.question.roads (f.question.source ∷ [])) (sym c.from_vec-labels.ensures) c.in-Ok.ensures.labels) closed.0 c.hand_over-seats.ensures closed.1,
+          (subst (AreBest A f.question.question.roads (f.question.question.source ∷ [])) (sym c.from_vec-labels.ensures) c.in-Ok.ensures.labels) closed.0 c.hand_over-seats.ensures closed.1,
     )

@@ -1,8 +1,8 @@
-use Rattle.std.proofs.Common.{true, ◌∷◌, ◌++◌, [], refl, sym, ap, subst, ◌∙◌, arith}
+use Rattle.std.proofs.Common.{Some, true, ◌∷◌, ◌++◌, [], refl, sym, ap, subst, ◌∙◌, arith}
 use Rattle.shard_part.specs.Readings.{tally_in}
 use Rattle.shard_part.specs.Tallies.{together}
 use Rattle.station.specs.Station.{BelongsTo, StationData}
-use Rattle.station.proofs.Places.{front_each}
+use Rattle.std.proofs.lemmas.List.Elements.{All-pop}
 use Rattle.station.specs.Handing.{AreHanded}
 use Rattle.station.proofs.Tallying.{handed_none, handed_more}
 use Rattle.station.proofs.gathering.hand_over.Goals as goal
@@ -18,7 +18,7 @@ pub loop-station-preserved : goal.loop-station-preserved
 loop-station-preserved g c =
     let i = c.loop-station.invariant in let x = c.station.inside in let s : StationData _ _ = record { part = x.part; seat = x.seat; ended = true } in let v = c.station.invariant.0 in let f = c.args.floor.now in
     let e = c.in-Some.ensures.items ∙ ap (λ z. c.pop.new.self.items ++ z ∷ []) (sym c.station.view_is) in
-    let own = front_each (BelongsTo f) c.loop-station.stations.items c.pop.new.self.items s e i.own in
+    let own = All-pop (BelongsTo f) c.loop-station.stations.items c.pop.new.self.items (Some s) e i.own in
     record {
       own = own.0;
       handed = handed_more f.id c.args.stations.items c.loop-station.stations.items c.pop.new.self.items c.loop-station.seats.items c.push.new.self.items s c.loop-station.tally c.add.new.self i.handed e c.in-Ok.ensures.items

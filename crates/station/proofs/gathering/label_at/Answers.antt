@@ -28,4 +28,4 @@ returns g c =
     let q = c.args.floor.now.question in let j = c.shard_of.result in let places = c.args.places.now in
     let at = subst (λ z. IsAtPlace c.args.stations.now j (get_or places z 0)) (sym c.k.view_is) (c.requires.places j c.shard_of.ensures.within) in
     let e = at_place q c.args.stations.now j (get_or places c.k.inside.0 0) c.index-stations-k.result c.index-stations-k.is c.requires.own at in
-    subst (λ t. IsBestLabel (g.A.PathAlgebra.meaning t.algebra) t.roads (t.source ∷ []) c.args.v c.label.result) e.0 c.label.ensures
+    subst (λ t. IsBestLabel (g.A.PathAlgebra.meaning t.question.algebra) t.question.roads (t.question.source ∷ []) c.args.v c.label.result) e.0 c.label.ensures

@@ -1,7 +1,7 @@
 use Rattle.std.proofs.Common.{◌≡◌, ◌++◌, ◌∷◌, [], subst, sym, rules}
 use Rattle.shard_part.specs.PartState.{All}
 use Rattle.post_floor.specs.Data.{IsAt, seat_of}
-use Rattle.engine_trials.proofs.Places.{all_but_last, last_seat}
+use Rattle.post_floor.proofs.Seats.{all_front, last_seat}
 use Rattle.engine_trials.proofs.mailboxes.chain.paired.Goals as goal
 
 pub loop-part-preserved : goal.loop-part-preserved
@@ -10,7 +10,7 @@ loop-part-preserved g c =
     let popped : c.loop-part.seats.items ≡ c.pop-in-Some.new.self.items ++ d ∷ [] = search rules in
     let pushed : c.push_front.new.self.items ≡ (d, p) ∷ c.loop-part.places.items = search rules in
     let s = last_seat (seat_of f.id f.question.plan.shards) c.loop-part.parts.items c.pop.new.self.items p c.loop-part.seats.items c.pop-in-Some.new.self.items d c.in-Some.ensures.items i.seats popped in
-    let a = all_but_last (λ q. IsAt g.A.PathAlgebra.meaning f (seat_of f.id f.question.plan.shards q) q) c.loop-part.parts.items c.pop.new.self.items p c.in-Some.ensures.items i.at in
+    let a = all_front (λ q. IsAt g.A.PathAlgebra.meaning f (seat_of f.id f.question.plan.shards q) q) c.pop.new.self.items c.loop-part.parts.items p c.in-Some.ensures.items i.at in
     record {
       seats = s.0;
       at = a.0;

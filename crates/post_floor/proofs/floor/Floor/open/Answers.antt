@@ -21,7 +21,7 @@ pub new-requires : goal.new-requires
 new-requires g c = let f = c.requires.fresh in let o0 = opened_first g.A.PathAlgebra.meaning f.0 c.args.parts.now c.args.plan.now c.index-parts-0.result c.shards-shards.result f.1 f.2 c.shards-shards.ensures.count c.shards-shards.ensures.within.0 c.index-parts-0.is in
     let q_is = (c.question-question.ensures ∙ ap (λ u. u.setup) c.deref-2.ensures) in
     let x = c.index-parts-0.result.setup in let n = o0.2 in
-    subst (λ u. Kept g.A.PathAlgebra.meaning u (opening c.as_slice.result.now c.in_ok-slots.slots.items (knows u.plan.shards (opened_parts (g.A.PathAlgebra.meaning u.algebra) u 0 u.plan.shards)))) (sym q_is)
+    subst (λ u. Kept g.A.PathAlgebra.meaning u (opening c.as_slice.result.now c.in_ok-slots.slots.items (knows u.plan.shards (opened_parts (g.A.PathAlgebra.meaning u.question.algebra) u 0 u.plan.shards)))) (sym q_is)
     (opens g.A.PathAlgebra.meaning x (subst (IsPlanned x) o0.3 (subst (λ u. IsPlanned u.setup u.shard) c.deref.ensures c.shard-shard.ensures.planned)) c.as_slice.result.now c.in_ok-slots.slots.items
     (c.as_slice.ensures.value ∙ c.in_ok-words.ensures.items_if_clones_equal (λ y e. search rules) ∙ ap (λ k. replicate (box_count k + 1) 0) (sym n))
     (c.in_ok-slots.ensures.0 ∙ ap box_count (sym n))
@@ -38,7 +38,7 @@ seat_all-requires-clause-parts g c κs within =
     let f = c.requires.fresh in let o0 = opened_first g.A.PathAlgebra.meaning f.0 c.args.parts.now c.args.plan.now c.index-parts-0.result c.shards-shards.result f.1 f.2 c.shards-shards.ensures.count c.shards-shards.ensures.within.0 c.index-parts-0.is in
     let ok = c.in-Ok.ensures.ok in let key = ok.5 ∙ (c.question-question.ensures ∙ ap (λ u. u.setup) c.deref-2.ensures) in
     let sh = ap (λ u. u.plan.shards) (c.question-question.ensures ∙ ap (λ u. u.setup) c.deref-2.ensures) ∙ o0.2 in
-    ok.4 ∙ (λ i. (knows (sh i) (opened_parts (g.A.PathAlgebra.meaning (sym ok.5 i).algebra) (sym ok.5 i) 0 (sh i)), []))
+    ok.4 ∙ (λ i. (knows (sh i) (opened_parts (g.A.PathAlgebra.meaning (sym ok.5 i).question.algebra) (sym ok.5 i) 0 (sh i)), []))
 
 pub invariant_of-result : goal.invariant_of-result
 invariant_of-result g c =
@@ -65,4 +65,4 @@ pub returns-clause-seats : goal.returns-clause-seats
 returns-clause-seats g c =
     let f = c.requires.fresh in let o0 = opened_first g.A.PathAlgebra.meaning f.0 c.args.parts.now c.args.plan.now c.index-parts-0.result c.shards-shards.result f.1 f.2 c.shards-shards.ensures.count c.shards-shards.ensures.within.0 c.index-parts-0.is in
     let ok = c.in-Ok.ensures.ok in let key = ok.5 ∙ (c.question-question.ensures ∙ ap (λ u. u.setup) c.deref-2.ensures) in
-    c.in_ok-seats.ensures ∙ (λ i. map (seat_of c.in-Ok.table.shared.table_id (c.shards-shards.ensures.count i)) (opened_parts (g.A.PathAlgebra.meaning (key i).algebra) (key i) 0 c.shards-shards.result)) ∙ ap (map (seat_of c.in-Ok.table.shared.table_id c.args.plan.now.shards)) (sym o0.1)
+    c.in_ok-seats.ensures ∙ (λ i. map (seat_of c.in-Ok.table.shared.table_id (c.shards-shards.ensures.count i)) (opened_parts (g.A.PathAlgebra.meaning (key i).question.algebra) (key i) 0 c.shards-shards.result)) ∙ ap (map (seat_of c.in-Ok.table.shared.table_id c.args.plan.now.shards)) (sym o0.1)

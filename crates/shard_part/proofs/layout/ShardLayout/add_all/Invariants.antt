@@ -4,6 +4,6 @@ use Rattle.shard_part.proofs.layout.ShardLayout.add_all.Given as goal
 
 abbrev pub invariant-loop-v : goal.invariant-loop-v
 invariant-loop-v l = record {
-  long : length l.capacities ≡ l.self.plan.shards;
+  long : length l.capacities ≡ l.self.setup.plan.shards;
   counts : CountedSo l.self l.v-index l.vertices l.capacities;
 }

@@ -12,7 +12,7 @@ arc-requires c = item_into _ c.args.v c.a-item.result c.loop-a.a-index c.into-a-
 
 pub overflow_add-capacities : goal.overflow_add-capacities
 overflow_add-capacities c =
-    let l : c.from.inside.0 < c.args.self.now.plan.shards = (let v = c.from.view_is in let w = c.shard_of-from.ensures.within in let e = ap (λ (u : ShardLayoutData). u.plan.shards) c.self.view_is in omega (arith, v, w, e)) in
+    let l : c.from.inside.0 < c.args.self.now.setup.plan.shards = (let v = c.from.view_is in let w = c.shard_of-from.ensures.within in let e = ap (λ (u : ShardLayoutData). u.setup.plan.shards) c.self.view_is in omega (arith, v, w, e)) in
     let i = c.loop-a.invariant.counts c.from.inside.0 l in
     let m = coming_most c.args.self.now c.args.v c.from.inside.0 c.loop-a.a-index c.into-a-items.result.now c.requires.vertex.0 (into_at _ c.args.self.now c.args.v c.into-a-items.result.now c.self.view_is c.into-a-items.ensures) in
     let s = c.requires.small c.from.inside.0 in
@@ -20,8 +20,8 @@ overflow_add-capacities c =
 
 pub loop-a-preserved : goal.loop-a-preserved
 loop-a-preserved c =
-    let l : c.from.inside.0 < length c.loop-a.capacities = (let v = c.from.view_is in let w = c.shard_of-from.ensures.within in let e = ap (λ (u : ShardLayoutData). u.plan.shards) c.self.view_is in let a = c.loop-a.invariant.long in let b = c.requires.shards in omega (arith, v, w, e, a, b)) in
-    let is_from = c.from.view_is ∙ c.shard_of-from.ensures.shard ∙ ap (λ (r : RoadArc). shard_in c.self.inside.plan.now r.tail) c.arc.ensures ∙ ap (λ (u : ShardLayoutData). shard_in u.plan (arc_of u.roads c.a-item.result).tail) c.self.view_is in
+    let l : c.from.inside.0 < length c.loop-a.capacities = (let v = c.from.view_is in let w = c.shard_of-from.ensures.within in let e = ap (λ (u : ShardLayoutData). u.setup.plan.shards) c.self.view_is in let a = c.loop-a.invariant.long in let b = c.requires.shards in omega (arith, v, w, e, a, b)) in
+    let is_from = c.from.view_is ∙ c.shard_of-from.ensures.shard ∙ ap (λ (r : RoadArc). shard_in c.self.inside.plan.now r.tail) c.arc.ensures ∙ ap (λ (u : ShardLayoutData). shard_in u.setup.plan (arc_of u.setup.question.roads c.a-item.result).tail) c.self.view_is in
     let own = ap (λ (u : ShardLayoutData). u.shard) c.self.view_is in
     let D = planned_at _ c.args.self.now c.self.view_is c.self.invariant in
     let o = into_at _ c.args.self.now c.args.v c.into-a-items.result.now c.self.view_is c.into-a-items.ensures in

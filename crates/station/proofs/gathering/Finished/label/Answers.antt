@@ -15,5 +15,5 @@ pub returns : goal.returns
 returns g c =
     let p = c.self.inside.part in let meaning = g.A.PathAlgebra.meaning in
     let own = own_of p _ c.args.v (subst (λ u. IsPlanned u.setup u.shard) c.deref.ensures c.shard-shard.ensures.planned) (subst (λ z. HasPlanned z.part.setup.plan c.args.v) (sym c.self.view_is) c.requires.vertex) (subst (λ z. shard_in z.part.setup.plan c.args.v ≡ z.part.shard) (sym c.self.view_is) c.requires.own) in
-    subst (λ z. IsBestLabel (meaning z.part.setup.algebra) z.part.setup.roads (z.part.setup.source ∷ []) c.args.v c.label.result) c.self.view_is
-    (subst (IsBestLabel (meaning p.setup.algebra) p.setup.roads (p.setup.source ∷ []) c.args.v) (sym (c.label.ensures ∙ ap (λ u. (state_in u).label c.args.v) c.deref-2.ensures)) ((c.self.invariant.0.over refl).part.best c.args.v own))
+    subst (λ z. IsBestLabel (meaning z.part.setup.question.algebra) z.part.setup.question.roads (z.part.setup.question.source ∷ []) c.args.v c.label.result) c.self.view_is
+    (subst (IsBestLabel (meaning p.setup.question.algebra) p.setup.question.roads (p.setup.question.source ∷ []) c.args.v) (sym (c.label.ensures ∙ ap (λ u. (state_in u).label c.args.v) c.deref-2.ensures)) ((c.self.invariant.0.over refl).part.best c.args.v own))

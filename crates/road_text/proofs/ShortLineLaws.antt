@@ -1,8 +1,7 @@
 -- A line of a letter and three numbers, as it is read in one go.
-use Rattle.std.proofs.Common.{◌≡◌, ℕ, ◌+◌, ◌-◌, ◌<◌, ◌≤◌, List, [], ◌∷◌, ◌++◌, length, take, drop, filter, get_or, Bool, true, false, Some, Result, refl, sym, ap, ◌∙◌, subst, arith, append_assoc, append-nil, All}
-use Rattle.std.proofs.lemmas.List.{take_more, length-take-le, length-append}
+use Rattle.std.proofs.Common.{◌≡◌, ℕ, ◌+◌, ◌-◌, ◌≤◌, List, [], ◌∷◌, ◌++◌, length, take, drop, filter, get_or, Bool, false, Some, Result, refl, sym, ap, ◌∙◌, subst, arith, append_assoc, append-nil}
+use Rattle.std.proofs.lemmas.List.{length-append}
 use Rattle.std.specs.List.{slice_split, join_with_byte}
-use Rattle.std.specs.Char.{is_ascii_digit}
 use Rattle.road_text.specs.declared.faults.ReadFault.{ReadFault}
 use Rattle.road_text.specs.declared.reader.LineReader.{LineReader}
 use Rattle.road_text.specs.Lines.{lines, is_gap, has_bytes}
@@ -14,7 +13,7 @@ use Rattle.road_text.specs.Meaning.{Meaning}
 use Rattle.road_text.specs.Words.{Word, held_word}
 use Rattle.road_text.proofs.RoundTrip.{fields_join, line_again}
 use Rattle.road_text.proofs.ScanLaws.{held_word-with, no_word_is}
-use Rattle.road_text.proofs.Splits.{take_further, above_digit}
+use Rattle.road_text.proofs.Splits.{take_further}
 use Rattle.road_text.proofs.TextLaws.{nothing}
 
 -- three words with their ends make the rest of a line

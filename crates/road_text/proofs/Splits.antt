@@ -65,9 +65,6 @@ All-one P b h (suc k) d lt = absurd (omega arith)
 pub plain_digit : (b : ℕ) → is_ascii_digit b ≡ true → is_plain b ≡ true
 plain_digit b digit = grind (arith, digit)
 
-pub above_digit : (b : ℕ) → is_ascii_digit b ≡ true → 32 < b
-above_digit b digit = grind (arith, digit)
-
 -- a piece at the front of the rest
 pub take_further : (at n : ℕ) (xs more : List ℕ) → take (at + n) xs ++ more ≡ take at xs ++ (take n (take (length xs - at) (drop at xs)) ++ more)
 take_further at n xs more = rw (take_rest xs at) (ap (λ x. x ++ more) (take-add at n xs) ∙ append_assoc (take at xs) (take n (drop at xs)) more)

@@ -10,6 +10,7 @@ use Rattle.road_graph.proofs.Lists.{here, later}
 use Rattle.road_graph.proofs.Options.{same_some}
 use Rattle.path_algebra.specs.Algebra.{Algebra, IsLawful}
 use Rattle.path_algebra.specs.Walks.{label_of}
+use Rattle.path_algebra.proofs.Least.{same_no_worse}
 use Rattle.answer_text.specs.declared.answers.Reached.{Reached}
 use Rattle.answer_check.specs.declared.evidence.Evidence.{Evidence}
 use Rattle.answer_check.specs.declared.verdict.Reason.{Reason}
@@ -59,7 +60,7 @@ module _ {V : Type 0} (A : Algebra V) (lawful : IsLawful A) where
       at false c e f = let bad : false ≡ true = rw e at h in absurd (cc)
 
   same_itself : (y : V) → is_same A.no_worse y y ≡ true
-  same_itself y = elim (lawful.ordered.total y y) [ inl e ↦ rw e refl | inr e ↦ rw e refl ]
+  same_itself y = let e = same_no_worse A.no_worse lawful.ordered y in rw e refl
 
   module _ (g : Roads) (lines : List (Option Reached)) where
     offers_by : (a : ℕ) → HasArc g a → (b : Reached × V) (l : Option Reached) → label_of lines (arc_of g a).tail ≡ l → candidate_from A l (arc_of g a).weight ≡ Some b →

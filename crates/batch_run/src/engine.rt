@@ -143,8 +143,8 @@ fn gather_labels<'g, A: PathAlgebra>(
     alloc: Global,
     ended: Ended<'g, A>,
 ) -> Result<Labels<A::Value>, AllocError>
-    requires { AreEnded ended.floor.question ended.floor ended.stations.items }
-    ensures { IfOk result (λ labels. AreBest (A.meaning ended.entry.floor.question.question.algebra) ended.entry.floor.question.question.roads (ended.entry.floor.question.question.source ∷ []) labels) }
+    requires { AreEnded ended.floor.setup ended.floor ended.stations.items }
+    ensures { IfOk result (λ labels. AreBest (A.meaning ended.entry.floor.setup.question.algebra) ended.entry.floor.setup.question.roads (ended.entry.floor.setup.question.source ∷ []) labels) }
 {
     let Ended {
         source: _,

@@ -3,7 +3,9 @@ use Rattle.std.proofs.Common.{◌≡◌, ℕ, List, [], ◌∷◌, ◌++◌, map
 use Rattle.std.proofs.lemmas.List.{same_from_push}
 use Rattle.path_algebra.specs.Algebra.{Algebra}
 use Rattle.scholten_core.specs.declared.item.Item.{Item}
-use Rattle.shard_part.specs.PartState.{PartData, Setup, HandledAll, All}
+use Rattle.shard_part.specs.PartState.{PartData, Setup}
+use Rattle.shard_part.specs.Handling.{HandledAll}
+use Rattle.shard_part.specs.Weights.{All}
 use Rattle.shard_part.specs.Part.{HandledMany}
 use Rattle.shard_part.specs.Opening.{opened_part, opened_parts}
 use Rattle.post_floor.specs.Data.{FloorData, SeatData, IsAt, seat_of}
@@ -25,11 +27,11 @@ pub works : {S V : Type 0} (meaning : S → Algebra V) (f : FloorData S) (d : Se
 works meaning f d p q n at T e = record { floor = at.floor; setup = e ∙ at.setup; moved = (at.moved.0, at.moved.1 ++ T.0, at.moved.2, handled_append meaning at.moved.1 T.0 at.moved.0 p q at.moved.3 T.2) }
 
 module _ {S V : Type 0} (meaning : S → Algebra V) (f : FloorData S) (t : Setup S) (n : ℕ) (parts : List (PartData S V)) (seats : List (SeatData S V))
-    (opened : parts ≡ opened_parts (meaning t.question.algebra) t 0 t.plan.shards) (two : t.plan.shards ≡ 2) (same : All (λ p. p.setup ≡ f.question) parts) (are : seats ≡ map (seat_of f.id n) parts) where
+    (opened : parts ≡ opened_parts (meaning t.question.algebra) t 0 t.plan.shards) (two : t.plan.shards ≡ 2) (same : All (λ p. p.setup ≡ f.setup) parts) (are : seats ≡ map (seat_of f.id n) parts) where
   pair : parts ≡ opened_part (meaning t.question.algebra) t 0 ∷ opened_part (meaning t.question.algebra) t 1 ∷ []
   pair = opened ∙ ap (opened_parts (meaning t.question.algebra) t 0) two
 
-  at_place : (j : ℕ) (d : SeatData S V) (p : PartData S V) → t ≡ f.question → p ≡ opened_part (meaning t.question.algebra) t j → d ≡ seat_of f.id n (opened_part (meaning t.question.algebra) t j) → IsAt meaning f d p × (d.shard ≡ j)
+  at_place : (j : ℕ) (d : SeatData S V) (p : PartData S V) → t ≡ f.setup → p ≡ opened_part (meaning t.question.algebra) t j → d ≡ seat_of f.id n (opened_part (meaning t.question.algebra) t j) → IsAt meaning f d p × (d.shard ≡ j)
   at_place j d p of_floor p_is d_is = (
     subst (λ (z : SeatData S V × PartData S V). IsAt meaning f z.0 z.1) (λ i. (sym d_is i, sym p_is i)) (record {
       floor = refl;
@@ -39,8 +41,8 @@ module _ {S V : Type 0} (meaning : S → Algebra V) (f : FloorData S) (t : Setup
     ap (λ (z : SeatData S V). z.shard) d_is,
   )
 
-  of_floor : t ≡ f.question
-  of_floor = (subst (All (λ (p : PartData S V). p.setup ≡ f.question)) pair same).0
+  of_floor : t ≡ f.setup
+  of_floor = (subst (All (λ (p : PartData S V). p.setup ≡ f.setup)) pair same).0
 
   -- the two seats and parts that come off their lists
   pub both_places : (ss : List (SeatData S V)) (ss' : List (SeatData S V)) (ps ps' : List (PartData S V)) (d0 d1 : SeatData S V) (p0 p1 : PartData S V) →

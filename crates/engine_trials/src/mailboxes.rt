@@ -55,7 +55,7 @@ fn two_places<'g, A: PathAlgebra>(
 ) -> (Floor<A>, (Seat<A>, Part<'g, A>), (Seat<A>, Part<'g, A>))
     ensures first { IsAt A.meaning result.0 result.1.0 result.1.1 × (result.1.0.shard ≡ 0) }
     ensures second { IsAt A.meaning result.0 result.2.0 result.2.1 × (result.2.0.shard ≡ 1) }
-    ensures shards { result.0.question.plan.shards ≡ 2 }
+    ensures shards { result.0.setup.plan.shards ≡ 2 }
 {
     assert!(rt; ground.plan.shards() == 2);
     let mut parts = parts_of(rt, algebra, ground);
@@ -84,7 +84,7 @@ fn send<A: PathAlgebra>(
     to: Shard,
 ) -> bool
     requires at { IsAt A.meaning floor.now seat.old part.old }
-    requires to { (to ≢ seat.old.shard) × (to < floor.now.question.plan.shards) }
+    requires to { (to ≢ seat.old.shard) × (to < floor.now.setup.plan.shards) }
     ensures at { IsAt A.meaning floor.now seat.new part.new }
     ensures shard { seat.new.shard ≡ seat.old.shard }
 {
@@ -104,7 +104,7 @@ fn fetch<A: PathAlgebra>(
     from: Shard,
 ) -> bool
     requires at { IsAt A.meaning floor.now seat.old part.old }
-    requires from { (from ≢ seat.old.shard) × (from < floor.now.question.plan.shards) }
+    requires from { (from ≢ seat.old.shard) × (from < floor.now.setup.plan.shards) }
     ensures at { IsAt A.meaning floor.now seat.new part.new }
     ensures shard { seat.new.shard ≡ seat.old.shard }
 {

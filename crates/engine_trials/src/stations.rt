@@ -49,8 +49,8 @@ pub fn opened<'g, A: PathAlgebra>(
     source: u32,
 ) -> (Floor<A>, Vec<Station<'g, A>>)
     ensures own { All (BelongsTo result.0) result.1.items }
-    ensures roads { result.0.question.question.roads ≡ graph.now }
-    ensures source { result.0.question.question.source ≡ source }
+    ensures roads { result.0.setup.question.roads ≡ graph.now }
+    ensures source { result.0.setup.question.source ≡ source }
 {
     assert!(rt; graph.has(Vertex(source)));
     assert!(rt; plan.vertices() == graph.vertices());
@@ -175,7 +175,7 @@ fn gathered_again<A: PathAlgebra>(
     back: Ungathered<'_, A>,
 ) -> Gathered<A::Value>
     requires { All (BelongsTo back.floor) back.stations.items }
-    ensures { IsGathered A.meaning back.entry.floor.question result }
+    ensures { IsGathered A.meaning back.entry.floor.setup result }
 {
     let Ungathered {
         why,
@@ -196,7 +196,7 @@ fn gathered<A: PathAlgebra>(
     done: Vec<Finished<'_, A>>,
 ) -> Gathered<A::Value>
     requires { All (BelongsTo floor) done.items }
-    ensures { IsGathered A.meaning floor.question result }
+    ensures { IsGathered A.meaning floor.setup result }
 {
     match gather(rt.alloc(), floor, done) {
         Ok(gathered) => gathered,

@@ -6,14 +6,14 @@ use Rattle.path_algebra.specs.Algebra.{Algebra, IsLawful}
 use Rattle.path_algebra.specs.Walks.{IsWalk, Extends, IsWalkValue, IsBest, IsBestLabel, AreBest, IsTight, label_of, is_tight, is_tight_between, is_reached_by}
 use Rattle.path_algebra.specs.Open.{AnswersBestOpen}
 use Rattle.path_algebra.proofs.Walks.{walk_value_is_value, IsWalkValue-extend}
-use Rattle.path_algebra.proofs.Least.{best_open}
+use Rattle.path_algebra.proofs.Least.{same_no_worse, best_open}
 
 module _ {V : Type 0} (A : Algebra V) (lawful : IsLawful A) (g : Roads) (roads : IsRoads g) where
   -- no arc of a walk makes a value better
   pub never_better_along : (s : ℕ) (p : List ℕ) (v : ℕ) (x y : V) → IsWalk g s p v → IsTrue (A.is_value x) →
       Extends A g x p y → IsTrue (A.no_worse x y)
   never_better_along s [] v x y w h ex =
-      subst (λ (z : V). IsTrue (A.no_worse x z)) ex (elim (lawful.ordered.total x x) [ inl e ↦ e | inr e ↦ e ])
+      subst (λ (z : V). IsTrue (A.no_worse x z)) ex (same_no_worse A.no_worse lawful.ordered x)
   never_better_along s (a ∷ p) v x y w h ex =
       let fits : (arc_of g a).weight < 2 ^ 32 = roads.weights a w.0 in
       lawful.ordered.transitive x ex.0 y (lawful.never_better x (arc_of g a).weight ex.0 h fits ex.1)
@@ -75,7 +75,7 @@ module _ {V : Type 0} (A : Algebra V) (lawful : IsLawful A) (g : Roads) (roads :
           λ t.
               let l = best_is_label (arc_of g a).tail t.tail ends.0 t.tail_best in
               let m = best_is_label (arc_of g a).head t.head ends.1 t.head_best in
-              rw (l, m, t.extends) (elim (lawful.ordered.total t.head t.head) [ inl r ↦ r | inr r ↦ r ]),
+              rw (l, m, t.extends) (same_no_worse A.no_worse lawful.ordered t.head),
         )
 
     module _ (in_s : (s : ℕ) → Contains sources s → HasVertex g s) (marks : List Bool)

@@ -7,6 +7,7 @@ use Rattle.std.specs.declared.cmp.Ordering.{Ordering}
 use Rattle.std.specs.declared.cmp.Ordering.TheVariants.{Less, Equal, Greater}
 use Rattle.std.proofs.Common.{refl, ap, inl, inr}
 use Rattle.path_algebra.specs.Algebra.{IsOrder}
+use Rattle.path_algebra.proofs.Least.{other_no_worse}
 
 -- the order of a heap: a value is greater where it is better
 abbrev pub value_cmp : {V : Type 0} → (V → V → Bool) → V → V → Ordering
@@ -35,9 +36,6 @@ module _ {V : Type 0} (no_worse : V → V → Bool) (ordered : IsOrder no_worse)
   equal_of true false e = cc
   equal_of false q e = cc
 
-  other : (a b : V) → no_worse a b ≡ false → IsTrue (no_worse b a)
-  other a b n = elim (ordered.total a b) [ inl h ↦ cc | inr h ↦ h ]
-
   is_false : (b : Bool) → (b ≡ true → ⊥) → b ≡ false
   is_false true h = absurd (h refl)
   is_false false h = refl
@@ -47,7 +45,7 @@ module _ {V : Type 0} (no_worse : V → V → Bool) (ordered : IsOrder no_worse)
       let x = less_of (no_worse a b) (no_worse b a) e in
       let y = less_of (no_worse b c) (no_worse c b) f in
       less_from (no_worse a c) (no_worse c a) (is_false (no_worse a c) (λ t.
-      let u : no_worse a b ≡ true = ordered.transitive a c b t (other b c y) in cc))
+      let u : no_worse a b ≡ true = ordered.transitive a c b t (other_no_worse no_worse ordered b c y) in cc))
 
   pub value_congr : (a b c : V) → value_cmp no_worse a b ≡ Equal → value_cmp no_worse a c ≡ value_cmp no_worse b c
   value_congr a b c e =

@@ -6,7 +6,9 @@ use Rattle.atomic_table.specs.Table.{Me, rest}
 use Rattle.circular_buffer.specs.Buffer.{Buffer, buffer}
 use Rattle.path_algebra.specs.Algebra.{Algebra}
 use Rattle.scholten_core.specs.declared.item.Item.{Item}
-use Rattle.shard_part.specs.PartState.{PartData, Setup, network_in, place_in, vertex_of, maker_of, IsArc, IsSound, All}
+use Rattle.shard_part.specs.PartState.{PartData, Setup, network_in, place_in, vertex_of, maker_of, IsArc}
+use Rattle.shard_part.specs.Sound.{IsSound}
+use Rattle.shard_part.specs.Weights.{All}
 use Rattle.scholten_core.specs.Items.{item_arc}
 use Rattle.shard_part.specs.Arriving.{MadeAt}
 use Rattle.post_floor.specs.declared.view.View.{View}

@@ -5,7 +5,8 @@ use Rattle.std.proofs.Math.Nat.{div-add-mod, mod-lt}
 use Rattle.atomic_table.specs.Table.{rest}
 use Rattle.scholten_core.specs.Sums.{sum_below}
 use Rattle.scholten_core.proofs.Sums.{sum_most, sum_ones}
-use Rattle.shard_part.specs.PartState.{total, is, All, Setup}
+use Rattle.shard_part.specs.Weights.{total, is, All}
+use Rattle.shard_part.specs.PartState.{Setup}
 use Rattle.shard_part.proofs.Weights.{sum_at, sum_zero}
 use Rattle.shard_part.proofs.Showing.{is_self}
 use Rattle.post_floor.specs.declared.view.View.{View}

@@ -12,7 +12,10 @@ use Rattle.scholten_core.specs.Network.{WellFormed}
 use Rattle.scholten_core.specs.Diffusion.{CoreState, HasEnded, IsQuiet, is_idle}
 use Rattle.scholten_core.proofs.Ended.{ended}
 use Rattle.scholten_core.proofs.Basics.{idle-true}
-use Rattle.shard_part.specs.PartState.{PartData, Setup, network_in, place_in, token_if, total, is, event_of, HandledAll, HoldsShare}
+use Rattle.shard_part.specs.PartState.{PartData, Setup, network_in, place_in, token_if, event_of}
+use Rattle.shard_part.specs.Weights.{total, is}
+use Rattle.shard_part.specs.Handling.{HandledAll}
+use Rattle.shard_part.specs.Shows.{HoldsShare}
 use Rattle.shard_part.specs.Readings.{has_ended}
 use Rattle.shard_part.proofs.Weights.{sum_below_same}
 use Rattle.shard_part.proofs.Showing.{AllLawful}

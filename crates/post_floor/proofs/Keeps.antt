@@ -13,7 +13,10 @@ use Rattle.scholten_core.specs.Diffusion.{CoreState, opening, run_from}
 use Rattle.scholten_core.specs.Shares.{Agree}
 use Rattle.scholten_core.proofs.Kept.{Kept as CoreKept, run_kept}
 use Rattle.scholten_core.proofs.Ended.{opening_kept}
-use Rattle.shard_part.specs.PartState.{PartData, Setup, network_in, place_in, state_in, total, is, All, mine, part_weight, event_of, HandledAll, HoldsShare, ShowsIn, Shows}
+use Rattle.shard_part.specs.PartState.{PartData, Setup, network_in, place_in, state_in, mine, event_of}
+use Rattle.shard_part.specs.Weights.{total, is, All, part_weight}
+use Rattle.shard_part.specs.Handling.{HandledAll}
+use Rattle.shard_part.specs.Shows.{HoldsShare, ShowsIn, Shows}
 use Rattle.shard_part.proofs.Weights.{total_append}
 use Rattle.shard_part.proofs.Showing.{AllLawful, all_parts, all_append, shown_holds, swap_shown}
 use Rattle.shard_part.proofs.TakenCounts.{run_append, handled_same}

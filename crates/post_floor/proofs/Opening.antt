@@ -9,7 +9,9 @@ use Rattle.atomic_table.proofs.Lists.{at_map}
 use Rattle.path_algebra.specs.Algebra.{Algebra}
 use Rattle.scholten_core.specs.declared.item.Item.{Item}
 use Rattle.scholten_core.specs.Sums.{one_if}
-use Rattle.shard_part.specs.PartState.{PartData, Setup, place_in, total, is, All, Shows}
+use Rattle.shard_part.specs.PartState.{PartData, Setup, place_in}
+use Rattle.shard_part.specs.Weights.{total, is, All}
+use Rattle.shard_part.specs.Shows.{Shows}
 use Rattle.shard_part.specs.Moves.{IsPlanned}
 use Rattle.shard_part.specs.Opening.{opened_parts}
 use Rattle.shard_part.proofs.Weights.{sum_zero, sum_below_same}

@@ -5,7 +5,8 @@ use Rattle.std.proofs.lemmas.List.{take_all, same_from_push}
 use Rattle.atomic_table.specs.Seated.{TableId}
 use Rattle.atomic_table.specs.Table.{rest}
 use Rattle.path_algebra.specs.Algebra.{Algebra}
-use Rattle.shard_part.specs.PartState.{PartData, Setup, total, is}
+use Rattle.shard_part.specs.PartState.{PartData, Setup}
+use Rattle.shard_part.specs.Weights.{total, is}
 use Rattle.shard_part.proofs.TakenCounts.{handled_same}
 use Rattle.shard_part.proofs.Showing.{is_self}
 use Rattle.post_floor.specs.declared.view.View.{View}
@@ -45,7 +46,7 @@ pub record Seated {S V : Type 0} (meaning : S → Algebra V) (f : FloorData S) (
   pub moved : Follows meaning v p
   pub shard : p.shard ≡ s
   pub count : t.plan.shards ≡ sh
-  pub asked : f.question.plan.shards ≡ sh
+  pub asked : f.setup.plan.shards ≡ sh
   pub below : s < sh
   pub fill : v.next_fill ≡ next_fill
   pub read : v.next_read ≡ next_read
@@ -59,7 +60,7 @@ pub record Seated {S V : Type 0} (meaning : S → Algebra V) (f : FloorData S) (
   pub knows : d.knows ≡ v
   pub same : d.shard ≡ s
   pub id_is : fid ≡ f.id
-  pub question_is : t ≡ f.question
+  pub setup_is : t ≡ f.setup
 
 module _ {S V : Type 0} (meaning : S → Algebra V) (f : FloorData S) (d : SeatData S V) (p : PartData S V) (fid : TableId) (t : Setup S) (sh : ℕ) (id : TableId) (s : ℕ) (v : View S V)
     (slots : List (ℕ × Slot V)) (claims : List ℕ) (room : ℕ) (next_fill next_read : List ℕ) where
@@ -67,14 +68,14 @@ module _ {S V : Type 0} (meaning : S → Algebra V) (f : FloorData S) (d : SeatD
   Seat = record { floor = id; shard = s; knows = v }
 
   abbrev Base : FloorData S
-  Base = record { id = fid; question = t }
+  Base = record { id = fid; setup = t }
 
   pub seated : Base ≡ f → Seat ≡ d → t.plan.shards ≡ sh → IsSeat Seat slots claims room next_fill next_read → IsAt meaning f d p → Seated meaning f d p fid t sh id s v slots claims room next_fill next_read
   seated ff dd count inv at =
       let moved : Follows meaning v p = subst (λ (z : SeatData S V). Follows meaning z.knows p) (sym dd) at.moved in
       let same = handled_same meaning moved.1 moved.0 p moved.3 in
       let b_is : inv.part ≡ moved.0 = (same_from_push [] [] inv.part moved.0 (sym inv.parts ∙ moved.2.parts)).1 in
-      let setup : p.setup ≡ t = at.setup ∙ ap (λ (z : FloorData S). z.question) (sym ff) in
+      let setup : p.setup ≡ t = at.setup ∙ ap (λ (z : FloorData S). z.setup) (sym ff) in
       let of_part : inv.part.setup ≡ t = ap (λ (z : PartData S V). z.setup) b_is ∙ sym same.0 ∙ setup in
       let shards : inv.part.setup.plan.shards ≡ sh = ap (λ (u : Setup S). u.plan.shards) of_part ∙ count in
       let out : AreOpen t s v slots claims = subst (λ (u : Setup S). AreOpen u s v slots claims) of_part inv.claims_open in
@@ -84,7 +85,7 @@ module _ {S V : Type 0} (meaning : S → Algebra V) (f : FloorData S) (d : SeatD
         moved = moved;
         shard = same.1 ∙ ap (λ (z : PartData S V). z.shard) (sym b_is) ∙ inv.shard;
         count = count;
-        asked = ap (λ (z : FloorData S). z.question.plan.shards) (sym ff) ∙ count;
+        asked = ap (λ (z : FloorData S). z.setup.plan.shards) (sym ff) ∙ count;
         below = subst (λ z. s < z) shards inv.below;
         fill = inv.fill;
         read = inv.read;
@@ -100,7 +101,7 @@ module _ {S V : Type 0} (meaning : S → Algebra V) (f : FloorData S) (d : SeatD
         knows = ap (λ (z : SeatData S V). z.knows) (sym dd);
         same = ap (λ (z : SeatData S V). z.shard) (sym dd);
         id_is = ap (λ (z : FloorData S). z.id) ff;
-        question_is = ap (λ (z : FloorData S). z.question) ff;
+        setup_is = ap (λ (z : FloorData S). z.setup) ff;
       }
 
   module _ (z : Seated meaning f d p fid t sh id s v slots claims room next_fill next_read) where
@@ -123,7 +124,7 @@ module _ {S V : Type 0} (meaning : S → Algebra V) (f : FloorData S) (d : SeatD
 
     -- the part is shown, so the seat is ready for the next call
     pub placed : (id' : TableId) (u w : View S V) (q : PartData S V) → id' ≡ id → q.setup ≡ t → Went u q w → IsAt meaning f (record { floor = id'; shard = s; knows = w }) q
-    placed id' u w q same setup went = record { floor = same ∙ z.table ∙ z.id_is; setup = setup ∙ z.question_is; moved = (q, [], went.shows, refl) }
+    placed id' u w q same setup went = record { floor = same ∙ z.table ∙ z.id_is; setup = setup ∙ z.setup_is; moved = (q, [], went.shows, refl) }
 
     -- no claim changed
     pub still : (id' : TableId) (u w : View S V) (q : PartData S V) (slots' : List (ℕ × Slot V)) → q.setup ≡ t → q.shard ≡ s → Went u q w → u.fills ≡ v.fills → u.reads ≡ v.reads → u.next_fill ≡ v.next_fill → u.next_read ≡ v.next_read → slots' ≡ slots →

@@ -7,7 +7,9 @@ use lib.ListN.{get_elem?}
 use Rattle.atomic_table.specs.Table.{State, Splits, Joins}
 use Rattle.atomic_table.proofs.Lists.{at_set, at_snoc}
 use Rattle.path_algebra.specs.Algebra.{Algebra}
-use Rattle.shard_part.specs.PartState.{PartData, Setup, network_in, place_in, total, is, All, part_weight, HoldsTables}
+use Rattle.shard_part.specs.PartState.{PartData, Setup, network_in, place_in}
+use Rattle.shard_part.specs.Weights.{total, is, All, part_weight}
+use Rattle.shard_part.specs.Shows.{HoldsTables}
 use Rattle.shard_part.proofs.Weights.{total_append}
 use Rattle.shard_part.proofs.Showing.{all_append, all_parts}
 use Rattle.post_floor.specs.declared.view.View.{View}

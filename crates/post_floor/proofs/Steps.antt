@@ -14,7 +14,10 @@ use Rattle.scholten_core.specs.Network.{WellFormed}
 use Rattle.scholten_core.specs.Diffusion.{CoreState, opening, run_from, step as next_state, delivered, accepted, HasEnded, IsQuiet}
 use Rattle.scholten_core.specs.declared.event.Event.TheVariants.{Deliver, Accept}
 use Rattle.scholten_core.proofs.Ended.{ended}
-use Rattle.shard_part.specs.PartState.{PartData, Setup, network_in, place_in, total, is, part_weight, event_of, HandledAll, HoldsShare}
+use Rattle.shard_part.specs.PartState.{PartData, Setup, network_in, place_in, event_of}
+use Rattle.shard_part.specs.Weights.{total, is, part_weight}
+use Rattle.shard_part.specs.Handling.{HandledAll}
+use Rattle.shard_part.specs.Shows.{HoldsShare}
 use Rattle.shard_part.proofs.Weights.{sum_at}
 use Rattle.shard_part.proofs.Showing.{AllLawful}
 use Rattle.shard_part.proofs.TakenCounts.{run_append}

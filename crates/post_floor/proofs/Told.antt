@@ -10,7 +10,8 @@ use Rattle.scholten_core.specs.Network.{WellFormed}
 use Rattle.scholten_core.proofs.Networks.{well_formed}
 use Rattle.shard_part.specs.Moves.{IsPlanned}
 use Rattle.shard_part.specs.Readings.{has_ended}
-use Rattle.shard_part.specs.PartState.{PartData, Setup, network_in, All}
+use Rattle.shard_part.specs.PartState.{PartData, Setup, network_in}
+use Rattle.shard_part.specs.Weights.{All}
 use Rattle.shard_part.proofs.Showing.{AllLawful}
 use Rattle.shard_part.specs.Arriving.{MadeAt}
 use Rattle.post_floor.specs.declared.view.View.{View}

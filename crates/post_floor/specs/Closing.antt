@@ -2,7 +2,8 @@
 use Rattle.std.specs.Prelude.{◌≡◌, ℕ, ◌+◌, ◌<◌, true, List}
 use mathlib.Core.Option.{Option}
 use Rattle.path_algebra.specs.Algebra.{Algebra}
-use Rattle.shard_part.specs.PartState.{Setup, PartData, total, is, All}
+use Rattle.shard_part.specs.PartState.{Setup, PartData}
+use Rattle.shard_part.specs.Weights.{total, is, All}
 use Rattle.post_floor.specs.declared.view.View.{View}
 use Rattle.post_floor.specs.Floor.{Slot, Settled}
 use Rattle.post_floor.specs.Seats.{spent}

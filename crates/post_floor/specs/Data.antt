@@ -2,7 +2,8 @@
 use Rattle.std.specs.Prelude.{◌≡◌, ◌⊎◌, ℕ, ◌+◌, ◌*◌, ◌<◌, ◌≤◌, List, [], ◌∷◌, length, get_or, map}
 use Rattle.atomic_table.specs.Seated.{TableId}
 use Rattle.path_algebra.specs.Algebra.{Algebra}
-use Rattle.shard_part.specs.PartState.{Setup, PartData, total, is, All}
+use Rattle.shard_part.specs.PartState.{Setup, PartData}
+use Rattle.shard_part.specs.Weights.{total, is, All}
 use Rattle.shard_part.specs.Moves.{IsPlanned}
 use Rattle.post_floor.specs.declared.view.View.{View}
 use Rattle.post_floor.specs.Boxes.{box_count, mailbox, dest, origin}
@@ -12,10 +13,10 @@ use Rattle.post_floor.specs.Seats.{knows}
 use Rattle.shard_part.specs.Plans.{PlanData}
 use Rattle.shard_part.specs.Opening.{opened_parts}
 
--- a floor: which it is, and the question that its parts share
+-- a floor: which it is, and the question and plan that its parts share
 pub record FloorData (S : Type 0) : Type 0 where
   pub id : TableId
-  pub question : Setup S
+  pub setup : Setup S
 
 -- a seat: which floor it is at, the shard of its part, and what it knows
 pub record SeatData (S V : Type 0) : Type 0 where
@@ -61,16 +62,16 @@ pub record IsSeat {S V : Type 0} (d : SeatData S V) (slots : List (ℕ × Slot V
 
 -- the mailbox from the seat's shard to another that it fills next
 abbrev pub fill_box : {S V : Type 0} → FloorData S → SeatData S V → ℕ → ℕ
-fill_box f d to = mailbox f.question.plan.shards d.shard to (get_or d.knows.next_fill to 0)
+fill_box f d to = mailbox f.setup.plan.shards d.shard to (get_or d.knows.next_fill to 0)
 
 -- the mailbox from another shard to the seat's that it reads next
 abbrev pub read_box : {S V : Type 0} → FloorData S → SeatData S V → ℕ → ℕ
-read_box f d from = mailbox f.question.plan.shards from d.shard (get_or d.knows.next_read from 0)
+read_box f d from = mailbox f.setup.plan.shards from d.shard (get_or d.knows.next_read from 0)
 
 -- the seat is one of the floor's, the part is of its question, and since the seat's last step the part moved on by items of its own alone
 pub record IsAt {S V : Type 0} (meaning : S → Algebra V) (f : FloorData S) (d : SeatData S V) (p : PartData S V) : Type 0 where
   pub floor : d.floor ≡ f.id
-  pub setup : p.setup ≡ f.question
+  pub setup : p.setup ≡ f.setup
   pub moved : Follows meaning d.knows p
 
 -- it is the same seat

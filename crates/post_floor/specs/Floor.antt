@@ -11,7 +11,10 @@ use Rattle.scholten_core.specs.declared.item.Item.{Item}
 use Rattle.scholten_core.specs.Accounts.{Totals, totals_of}
 use Rattle.scholten_core.specs.Diffusion.{CoreState, state_after, HasEnded}
 use Rattle.scholten_core.specs.Sums.{sum_below}
-use Rattle.shard_part.specs.PartState.{Setup, PartData, network_in, place_in, total, is, All, outbox_bound, Shows}
+use Rattle.shard_part.specs.PartState.{Setup, PartData, network_in, place_in}
+use Rattle.shard_part.specs.Weights.{total, is, All}
+use Rattle.shard_part.specs.Capacities.{outbox_bound}
+use Rattle.shard_part.specs.Shows.{Shows}
 use Rattle.shard_part.specs.Arriving.{MadeAt}
 use Rattle.post_floor.specs.declared.view.View.{View}
 use Rattle.post_floor.specs.Boxes.{box_count, dest, origin}

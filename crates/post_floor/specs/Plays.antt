@@ -8,7 +8,9 @@ use Rattle.scholten_core.specs.declared.event.Event.{Event}
 use Rattle.scholten_core.specs.declared.item.Item.{Item}
 use Rattle.scholten_core.specs.Diffusion.{HasEnded, IsQuiet}
 use Rattle.shard_part.specs.Tallies.{top}
-use Rattle.shard_part.specs.PartState.{Setup, PartData, HandledAll, Holds}
+use Rattle.shard_part.specs.PartState.{Setup, PartData}
+use Rattle.shard_part.specs.Handling.{HandledAll}
+use Rattle.shard_part.specs.Shows.{Holds}
 use Rattle.shard_part.specs.Arriving.{MadeAt, joined, MayReceive}
 use Rattle.post_floor.specs.declared.view.View.{View}
 use Rattle.post_floor.specs.Boxes.{origin, dest}

@@ -1,7 +1,8 @@
 -- Seats that are cut off and joined.
 use Rattle.std.specs.Prelude.{ℕ, ◌+◌, false, ◌||◌, List, [], ◌∷◌, ◌++◌, replicate}
 use Rattle.atomic_table.specs.Table.{Me}
-use Rattle.shard_part.specs.PartState.{PartData, total}
+use Rattle.shard_part.specs.PartState.{PartData}
+use Rattle.shard_part.specs.Weights.{total}
 use Rattle.post_floor.specs.declared.view.View.{View}
 
 abbrev pub tail : {A : Type 0} → List A → List A

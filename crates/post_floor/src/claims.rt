@@ -2,7 +2,8 @@
 ghost use Rattle.std.specs.Prelude.{◌≡◌, ◌∷◌, ℕ, ◌<◌, ◌≤◌, length, map};
 ghost use Rattle.atomic_table.specs.Table.{rest};
 ghost use Rattle.circular_buffer.specs.Buffer.{buffer};
-ghost use Rattle.shard_part.specs.PartState.{Setup, total, is};
+ghost use Rattle.shard_part.specs.PartState.{Setup};
+ghost use Rattle.shard_part.specs.Weights.{total, is};
 ghost use Rattle.post_floor.specs.declared.view.View.{View};
 ghost use Rattle.post_floor.specs.Claims.{cycled, first_is};
 ghost use Rattle.post_floor.specs.Data.{AreOpen};

@@ -1,7 +1,8 @@
 //! A floor is closed with all its seats.
 ghost use Rattle.std.specs.Prelude.{◌≡◌, ℕ, ◌+◌, ◌<◌, ◌≤◌, ◌↔◌, List, [], ◌∷◌, length, IsTrue, IfOk, IfErr};
 ghost use Rattle.std.specs.Mem.Slots.{IsFull};
-ghost use Rattle.shard_part.specs.PartState.{PartData, total, is, All};
+ghost use Rattle.shard_part.specs.PartState.{PartData};
+ghost use Rattle.shard_part.specs.Weights.{total, is, All};
 ghost use Rattle.post_floor.specs.Seats.{spent};
 ghost use Rattle.post_floor.specs.Closing.{AllSeated, AreJoined, IsClosed};
 
@@ -92,8 +93,8 @@ impl<A: PathAlgebra> Floor<A> {
     /// What the seats know together and what the mailboxes hold shows one state, to which some events lead from the opening, and the seats' counts are what these events did.
     pub fn close(self, mut seats: Vec<Seat<A>>) -> Result<Closed, (Floor<A>, Vec<Seat<A>>)>
         requires seats { All (λ d. d.floor ≡ self.id) seats.items }
-        ensures closed { IfOk result (λ _. AllSeated self.question.plan.shards seats.items × IsClosed A.meaning self.question seats.items) }
-        ensures refused { IfErr result (λ r. (AllSeated self.question.plan.shards seats.items → ⊥) × (r.0 ≡ self) × (r.1 ≡ seats)) }
+        ensures closed { IfOk result (λ _. AllSeated self.setup.plan.shards seats.items × IsClosed A.meaning self.setup seats.items) }
+        ensures refused { IfErr result (λ r. (AllSeated self.setup.plan.shards seats.items → ⊥) × (r.0 ≡ self) × (r.1 ≡ seats)) }
     {
         let Floor { table, shards } = self;
         if !all_seated(&seats, shards) {

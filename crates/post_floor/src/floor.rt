@@ -49,7 +49,7 @@ impl<A: PathAlgebra> Model for Floor<A> {
 
     ghost Value = { FloorData A };
 
-    ghost view = { λ f. record { id = f.table.shared.table_id; question = f.table.shared.key } };
+    ghost view = { λ f. record { id = f.table.shared.table_id; setup = f.table.shared.key } };
 
     ghost invariant = { λ f. IsSized f.table.shared.table_id f.table.shared.key × (f.table.shared.key.plan.shards ≡ f.shards) × (f.shards ≤ 64) };
 }

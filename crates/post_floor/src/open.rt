@@ -2,7 +2,8 @@
 ghost use Rattle.std.specs.Prelude.{◌≡◌, ◌≢◌, ℕ, ◌+◌, ◌*◌, ◌<◌, ◌≤◌, List, [], ◌∷◌, length, map, IfOk};
 ghost use mathlib.Core.Option.{some};
 ghost use lib.ListN.{get_elem?};
-ghost use Rattle.shard_part.specs.PartState.{Setup, PartData, All};
+ghost use Rattle.shard_part.specs.PartState.{Setup, PartData};
+ghost use Rattle.shard_part.specs.Weights.{All};
 ghost use Rattle.shard_part.specs.Opening.{opened_part, opened_parts};
 ghost use Rattle.post_floor.specs.Boxes.{box_count};
 ghost use Rattle.post_floor.specs.Floor.{cap, emptied};
@@ -116,7 +117,7 @@ impl<A: PathAlgebra> Floor<A> {
         parts: &[Part<'_, A>],
     ) -> Result<(Floor<A>, Vec<Seat<A>>), Memory>
         requires fresh { IsFresh A.meaning plan.now _source parts.now }
-        ensures floor { IfOk result (λ r. (r.0.question.plan ≡ plan.now) × All (λ p. p.setup ≡ r.0.question) parts.now) }
+        ensures floor { IfOk result (λ r. (r.0.setup.plan ≡ plan.now) × All (λ p. p.setup ≡ r.0.setup) parts.now) }
         ensures seats { IfOk result (λ r. r.1.items ≡ map (seat_of r.0.id plan.now.shards) parts.now) }
     {
         let shards = plan.shards() as usize;

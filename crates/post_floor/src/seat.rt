@@ -47,7 +47,7 @@ impl<A: PathAlgebra> Floor<A> {
     /// Sets the next word to a shard to 1 where it is 0: the mailbox is this seat's to fill.
     pub fn try_fill(&self, seat: &mut Seat<A>, part: &Part<'_, A>, to: Shard) -> bool
         requires at { IsAt A.meaning self.now seat.old part.now }
-        requires shard { to < self.now.question.plan.shards }
+        requires shard { to < self.now.setup.plan.shards }
         ensures seat { IsSameSeat seat.old seat.new }
         ensures at { IsAt A.meaning self.now seat.new part.now }
         ensures told { FillTold result part.now (fill_box self.now seat.old to) seat.old.knows seat.new.knows }
@@ -65,7 +65,7 @@ impl<A: PathAlgebra> Floor<A> {
     /// Moves the outbox to a shard into the mailbox that is being filled for it, and sets its word to 2.
     pub fn publish(&self, seat: &mut Seat<A>, part: &mut Part<'_, A>, to: Shard)
         requires at { IsAt A.meaning self.now seat.old part.old }
-        requires shard { (to ≢ seat.old.shard) × (to < self.now.question.plan.shards) }
+        requires shard { (to ≢ seat.old.shard) × (to < self.now.setup.plan.shards) }
         // A `try_fill` to this shard was true, and no `publish` to it came since.
         requires claim { 0 < filling (fill_box self.now seat.old to) seat.old.knows }
         ensures seat { IsSameSeat seat.old seat.new }
@@ -86,7 +86,7 @@ impl<A: PathAlgebra> Floor<A> {
     /// Sets the next word from a shard to 3 where it is 2, and takes the batch of its mailbox into the queue.
     pub fn try_read(&self, seat: &mut Seat<A>, part: &mut Part<'_, A>, from: Shard) -> bool
         requires at { IsAt A.meaning self.now seat.old part.old }
-        requires shard { (from ≢ seat.old.shard) × (from < self.now.question.plan.shards) }
+        requires shard { (from ≢ seat.old.shard) × (from < self.now.setup.plan.shards) }
         ensures seat { IsSameSeat seat.old seat.new }
         ensures at { IsAt A.meaning self.now seat.new part.new }
         ensures told { ReadTold result part.old part.new (read_box self.now seat.old from) seat.old.knows seat.new.knows }
@@ -105,7 +105,7 @@ impl<A: PathAlgebra> Floor<A> {
     /// Sets the word of the mailbox that was read from a shard to 0.
     pub fn clear(&self, seat: &mut Seat<A>, part: &Part<'_, A>, from: Shard)
         requires at { IsAt A.meaning self.now seat.old part.now }
-        requires shard { from < self.now.question.plan.shards }
+        requires shard { from < self.now.setup.plan.shards }
         // A `try_read` from this shard was true, and no `clear` from it came since.
         requires claim { 0 < reading (read_box self.now seat.old from) seat.old.knows }
         ensures seat { IsSameSeat seat.old seat.new }
@@ -128,7 +128,7 @@ impl<A: PathAlgebra> Floor<A> {
         requires ended { has_ended part.now ≡ true }
         ensures seat { IsSameSeat seat.old seat.new }
         ensures at { IsAt A.meaning self.now seat.new part.now }
-        ensures told { LookTold A.meaning true part.now (box_count self.now.question.plan.shards) seat.old.knows seat.new.knows }
+        ensures told { LookTold A.meaning true part.now (box_count self.now.setup.plan.shards) seat.old.knows seat.new.knows }
     {
         announce_word::<A, Brand>(&self.table.shared, &mut seat.pass, part, self.done_word());
     }
@@ -138,14 +138,14 @@ impl<A: PathAlgebra> Floor<A> {
         requires at { IsAt A.meaning self.now seat.old part.now }
         ensures seat { IsSameSeat seat.old seat.new }
         ensures at { IsAt A.meaning self.now seat.new part.now }
-        ensures told { LookTold A.meaning result part.now (box_count self.now.question.plan.shards) seat.old.knows seat.new.knows }
+        ensures told { LookTold A.meaning result part.now (box_count self.now.setup.plan.shards) seat.old.knows seat.new.knows }
     {
         look_word::<A, Brand>(&self.table.shared, &mut seat.pass, part, self.done_word()) == 1
     }
 
     /// The number of the done word.
     fn done_word(&self) -> usize
-        ensures { result ≡ box_count self.now.question.plan.shards }
+        ensures { result ≡ box_count self.now.setup.plan.shards }
     {
         self.shards * self.shards * 4
     }

@@ -1,11 +1,14 @@
 -- Numbers that rise, by their places.
-use Rattle.std.proofs.Common.{◌≡◌, ℕ, zero, suc, ◌<◌, ◌≤◌, List, [], ◌∷◌, length, get_or, refl, ap, sym, ◌∙◌, subst, arith, inl, inr}
+use Rattle.std.proofs.Common.{◌≡◌, ℕ, zero, suc, ◌<◌, ◌≤◌, ◌⊎◌, Result, Ok, Err, List, [], ◌∷◌, length, get_or, refl, ap, sym, ◌∙◌, subst, arith, inl, inr}
 use Rattle.std.proofs.Math.Nat.{eq-or-lt_of_le}
 use Rattle.std.proofs.lemmas.Bool.{cases_lt}
 use Rattle.std.proofs.lemmas.List.{get_or_default}
+use Rattle.std.proofs.lemmas.List.Sorted.{searched}
+use Rattle.std.specs.List.Sorted.{IsBinarySearchResult}
+use Rattle.std.specs.Ordering.{nat_cmp}
 use Rattle.std.specs.Prelude.{Contains}
 use Rattle.road_graph.specs.Roads.{IsAscendingFrom}
-use Rattle.road_graph.proofs.Lists.{here, later, head_or_tail, not_in_empty}
+use Rattle.road_graph.proofs.Lists.{here, later, head_or_tail, not_in_empty, element_place}
 
 pub above : (low : ℕ) (xs : List ℕ) (j : ℕ) → IsAscendingFrom low xs → j < length xs → low < get_or xs j 0
 above low [] j h lt = absurd (omega arith)
@@ -18,20 +21,31 @@ rises low (x ∷ xs) i zero h lt within = absurd (omega arith)
 rises low (x ∷ xs) zero (suc j) h lt within = above x xs j h.1 (omega arith)
 rises low (x ∷ xs) (suc i) (suc j) h lt within = rises x xs i j h.1 (omega arith) (omega arith)
 
--- what is no greater than the number at j stands no later, and what is greater stands later
-pub before_by : (xs : List ℕ) (i j : ℕ) → IsAscendingFrom 0 xs → i < length xs → j < length xs → get_or xs i 0 ≤ get_or xs j 0 → i ≤ j
-before_by xs i j h inside within le = elim (cases_lt j i) [
-  | inl less ↦ let more : get_or xs j 0 < get_or xs i 0 = rises 0 xs j i h less inside in absurd (omega (arith, more, le))
-  | inr most ↦ most
+not_falling : (xs : List ℕ) → IsAscendingFrom 0 xs → (i j : ℕ) → i ≤ j → j < length xs → get_or xs i 0 ≤ get_or xs j 0
+not_falling xs up i j le within = elim (eq-or-lt_of_le le) [
+  | inl e ↦ let same = ap (λ k. get_or xs k 0) e in omega (arith, same)
+  | inr less ↦ let more = rises 0 xs i j up less within in omega (arith, more)
 ]
 
-pub after_by : (xs : List ℕ) (i j : ℕ) → IsAscendingFrom 0 xs → i < length xs → j < length xs → get_or xs i 0 < get_or xs j 0 → i < j
-after_by xs i j h inside within lt = elim (cases_lt i j) [
-  | inl less ↦ less
-  | inr most ↦ let le : j ≤ i = most in let more : get_or xs j 0 ≤ get_or xs i 0 = elim (eq-or-lt_of_le le) [ inl e ↦ (rw e (omega arith)) | inr less ↦ (let up : get_or xs j 0 < get_or xs i 0 = rises 0 xs j i h less inside in omega (arith, up)) ] in absurd (omega (arith, more, lt))
-]
+-- a binary search in a list that does not fall finds a number that the list has
+pub found : (xs : List ℕ) (x : ℕ) (r : Result ℕ ℕ) (at : ℕ) → ((i j : ℕ) → i ≤ j → j < length xs → get_or xs i 0 ≤ get_or xs j 0) → Contains xs x →
+    IsBinarySearchResult (λ y. nat_cmp y x) xs r → (r ≡ Ok at) ⊎ (r ≡ Err at) → (at < length xs) × (get_or xs at 0 ≡ x)
+found xs x r at up has h (inl e) = searched xs x (Ok at) (subst (IsBinarySearchResult (λ y. nat_cmp y x) xs) e h) up
+found xs x r at up has h (inr e) =
+    let parted = searched xs x (Err at) (subst (IsBinarySearchResult (λ y. nat_cmp y x) xs) e h) up in
+    let place = element_place 0 x xs has in
+    let read = place.2 in
+    absurd (elim (cases_lt place.0 at) [
+      | inl before ↦ let less = parted.1 place.0 before in omega (arith, less, read)
+      | inr behind ↦ let more = parted.2 place.0 behind place.1 in omega (arith, more, read)
+    ])
 
-listed_above : (low : ℕ) (xs : List ℕ) (a : ℕ) → IsAscendingFrom low xs → Contains xs a → low < a
+-- and in a rising one
+pub found_rising : (xs : List ℕ) (x : ℕ) (r : Result ℕ ℕ) (at : ℕ) → IsAscendingFrom 0 xs → Contains xs x →
+    IsBinarySearchResult (λ y. nat_cmp y x) xs r → (r ≡ Ok at) ⊎ (r ≡ Err at) → (at < length xs) × (get_or xs at 0 ≡ x)
+found_rising xs x r at up = found xs x r at (not_falling xs up)
+
+pub listed_above : (low : ℕ) (xs : List ℕ) (a : ℕ) → IsAscendingFrom low xs → Contains xs a → low < a
 listed_above low xs a h x = let read : get_or xs x.0 0 ≡ a = get_or_default xs x.0 0 a x.1 ∙ x.2 in let more = above low xs x.0 h x.1 in omega (arith, read, more)
 
 -- rising lists of the same numbers are one list

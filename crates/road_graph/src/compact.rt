@@ -106,25 +106,16 @@ fn range_of(starts: &[u32], v: Vertex) -> (usize, usize)
     )
 }
 
-/// Where a number stands in a row, by halving.
-fn place_of(row: &[ArcNo], number: u32) -> usize
+/// Where an arc stands in a row.
+fn place_of(row: &[ArcNo], a: ArcNo) -> usize
     requires ascending { IsAscendingFrom 0 row.now }
-    requires listed { Contains row.now number }
+    requires listed { Contains row.now a }
     ensures place { result < length row.now }
-    ensures number { slice_index row.now result ≡ number }
+    ensures number { slice_index row.now result ≡ a }
 {
-    let mut low = 0;
-    let mut high = row.len();
-    while low + 1 < high {
-        let middle = low + (high - low) / 2;
-        let here = row[middle];
-        if here.0 <= number {
-            low = middle;
-        } else {
-            high = middle;
-        }
+    match row.binary_search(&a) {
+        Ok(at) | Err(at) => at,
     }
-    low
 }
 
 /// Where an arc stands in the rows, looked for in that of its tail. Where arcs are numbered in the order of the rows, it is found at the first look.
@@ -139,7 +130,7 @@ fn find_place(rows: &Rows, tail: Vertex, a: ArcNo) -> usize
         return guess;
     }
     let (start, end) = range_of(&rows.starts, tail);
-    start + place_of(&numbers[start..end], a.0)
+    start + place_of(&numbers[start..end], a)
 }
 
 impl Graph {

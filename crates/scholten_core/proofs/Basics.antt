@@ -3,6 +3,7 @@ use Rattle.std.proofs.Common.{◌≡◌, ◌≢◌, ℕ, zero, suc, ◌<◌, ◌
 use Rattle.std.proofs.lemmas.Bool.{cases_eq, cases_Bool, and_parts, and_from, false≢true, cond-true, cond-false, and_left, and_right, not_from_true, not_from_false, or_cases, not-true}
 use Rattle.scholten_core.specs.declared.token.Token.{Token}
 use Rattle.scholten_core.specs.declared.token.Token.TheVariants.{Idle, Message, Held, Signal}
+use Rattle.path_algebra.proofs.Least.{same_no_worse}
 use Rattle.path_algebra.specs.Algebra.{Algebra, IsLawful}
 use Rattle.scholten_core.specs.Network.{Network}
 use Rattle.scholten_core.specs.Diffusion.{CoreState, put, is_idle, all_below, is_due, out_idle, same_label, pump, sent, extend_label, better_of}
@@ -40,9 +41,6 @@ all_below-at p (suc n) k h l =
     ]
 
 module _ {V : Type 0} (A : Algebra V) (N : Network) where
-  self : IsLawful A → (x : V) → A.no_worse x x ≡ true
-  self L x = elim (L.ordered.total x x) [ inl h ↦ h | inr h ↦ h ]
-
   pub use_same : IsLawful A → (o p : Option V) → same_label A o p ≡ true → o ≡ p
   use_same L None None h = refl
   use_same L None (Some y) h = absurd (false≢true h)
@@ -65,7 +63,7 @@ module _ {V : Type 0} (A : Algebra V) (N : Network) where
 
   pub same_self : IsLawful A → (o : Option V) → same_label A o o ≡ true
   same_self L None = refl
-  same_self L (Some x) = and_from _ _ (self L x) (self L x)
+  same_self L (Some x) = and_from _ _ (same_no_worse A.no_worse L.ordered x) (same_no_worse A.no_worse L.ordered x)
 
   pub not_due : (v : ℕ) (c : CoreState V) (b : ℕ) → N.tail b ≢ v → is_due A N v c b ≡ false
   unfolding is_due
@@ -101,14 +99,14 @@ module _ {V : Type 0} (A : Algebra V) (N : Network) where
 
   pub better_tells : IsLawful A → (x : V) (o : Option V) →
       (z : V) × (better_of A x o ≡ Some z) × (A.no_worse z x ≡ true) × ((y : V) → o ≡ Some y → A.no_worse z y ≡ true) × ((z ≡ x) ⊎ (o ≡ Some z))
-  better_tells L x None = (x, refl, self L x, λ y e. cc, inl refl)
+  better_tells L x None = (x, refl, same_no_worse A.no_worse L.ordered x, λ y e. cc, inl refl)
   better_tells L x (Some y) = go (A.no_worse x y) (A.no_worse y x) refl refl
     where
       go : (s t : Bool) → A.no_worse x y ≡ s → A.no_worse y x ≡ t →
           (z : V) × (cond (s && not t) (Some x) (Some y) ≡ Some z) × (A.no_worse z x ≡ true) × ((u : V) → Some y ≡ Some u → A.no_worse z u ≡ true) × ((z ≡ x) ⊎ (Some y ≡ Some z))
-      go true true p q = (y, refl, q, λ u e. let f : y ≡ u = cc in subst (λ w. A.no_worse y w ≡ true) f (self L y), inr refl)
-      go true false p q = (x, refl, self L x, λ u e. let f : y ≡ u = cc in subst (λ w. A.no_worse x w ≡ true) f p, inl refl)
-      go false true p q = (y, refl, q, λ u e. let f : y ≡ u = cc in subst (λ w. A.no_worse y w ≡ true) f (self L y), inr refl)
+      go true true p q = (y, refl, q, λ u e. let f : y ≡ u = cc in subst (λ w. A.no_worse y w ≡ true) f (same_no_worse A.no_worse L.ordered y), inr refl)
+      go true false p q = (x, refl, same_no_worse A.no_worse L.ordered x, λ u e. let f : y ≡ u = cc in subst (λ w. A.no_worse x w ≡ true) f p, inl refl)
+      go false true p q = (y, refl, q, λ u e. let f : y ≡ u = cc in subst (λ w. A.no_worse y w ≡ true) f (same_no_worse A.no_worse L.ordered y), inr refl)
       go false false p q = absurd (elim (L.ordered.total x y) [ inl h ↦ false≢true (sym p ∙ h) | inr h ↦ false≢true (sym q ∙ h) ])
 
   pub out_idle-at : (v : ℕ) (c : CoreState V) → out_idle A N v c ≡ true → (b : ℕ) → b ≤ N.arcs → N.tail b ≡ v → c.token b ≡ Idle

@@ -11,7 +11,7 @@ use Rattle.scholten_core.specs.declared.item.Item.TheVariants.{Message as Messag
 use Rattle.scholten_core.specs.Items.{item_arc, at, item_of, pump_made, rest_made, settle_made, IsDistinct, IsOutList, Makes}
 use Rattle.scholten_core.proofs.Basics.{due_tells, put_tells, put-same, put-other}
 use Rattle.scholten_core.proofs.Kept.{Kept, pumped, arrive_kept, freed_kept}
-use Rattle.scholten_core.proofs.Contained.{contains_none, contains_cases, contains_first, contains_later}
+use Rattle.road_graph.proofs.Lists.{not_in_empty, here_as, later, head_or_tail}
 
 cond_append : {X : Type 0} (t : Bool) (i : X) (xs ys : List X) → cond t (i ∷ (xs ++ ys)) (xs ++ ys) ≡ cond t (i ∷ xs) xs ++ ys
 cond_append true i xs ys = refl
@@ -65,15 +65,15 @@ module _ {V : Type 0} (A : Algebra V) (N : Network) where
   pub pump_made_none : (v : ℕ) (d : CoreState V) (xs : List ℕ) (b : ℕ) → (Contains xs b → ⊥) → at b (pump_made A N v d xs) ≡ []
   pump_made_none v d [] b h = at-nil b
   pump_made_none v d (u ∷ us) b h = at-append b (due_item v d u) (pump_made A N v d us)
-      ∙ (λ i. due_item_other v d u b (λ e. h (contains_first b u us (sym e))) i ++ pump_made_none v d us b (λ l. h (contains_later b u us l)) i)
+      ∙ (λ i. due_item_other v d u b (λ e. h (here_as b u us (sym e))) i ++ pump_made_none v d us b (λ l. h (later u b us l)) i)
 
   pub pump_made_at : (v : ℕ) (d : CoreState V) (xs : List ℕ) (b : ℕ) → IsDistinct A N xs → Contains xs b → at b (pump_made A N v d xs) ≡ due_item v d b
-  pump_made_at v d [] b D l = absurd (contains_none b l)
+  pump_made_at v d [] b D l = absurd (not_in_empty b l)
   pump_made_at v d (u ∷ us) b D l = elim (cases_eq u b) [
     | inl e ↦ at-append b (due_item v d u) (pump_made A N v d us)
         ∙ (λ i. at b (due_item v d (e i)) ++ pump_made_none v d us b (λ k. D.0 (subst (λ w. Contains us w) (sym e) k)) i)
         ∙ ap (λ zs. zs ++ []) (due_item_here v d b) ∙ append-nil (due_item v d b)
-    | inr n ↦ (let k : Contains us b = elim (contains_cases b u us l) [ inl e ↦ absurd (n (sym e)) | inr k ↦ k ] in
+    | inr n ↦ (let k : Contains us b = elim (head_or_tail u b us l) [ inl e ↦ absurd (n e) | inr k ↦ k ] in
         at-append b (due_item v d u) (pump_made A N v d us) ∙ (λ i. due_item_other v d u b n i ++ pump_made_at v d us b D.1 k i))
   ]
 

@@ -1,5 +1,4 @@
 pub mod Basics
-pub mod Contained
 pub mod Sums
 pub mod Walks
 pub mod Kept

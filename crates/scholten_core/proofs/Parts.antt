@@ -10,7 +10,7 @@ use Rattle.scholten_core.specs.declared.item.Item.{Item}
 use Rattle.scholten_core.specs.declared.item.Item.TheVariants.{Message as MessageOn, Signal as SignalOn}
 use Rattle.scholten_core.specs.Items.{item_of, pump_made, rest_made, settle_made, IsOutList}
 use Rattle.scholten_core.proofs.Shares.{pump_agree, due_agree, out_idle_agree}
-use Rattle.scholten_core.proofs.Contained.{contains_first, contains_later}
+use Rattle.road_graph.proofs.Lists.{here, later}
 
 module _ {V : Type 0} (A : Algebra V) (N : Network) where
   pub token_told : (a : ℕ) (x : V) (zs : List (Item V)) (t : Token V) → item_of a t ≡ MessageOn a x ∷ zs → t ≡ Message x
@@ -30,8 +30,8 @@ module _ {V : Type 0} (A : Algebra V) (N : Network) where
       pump_made A N v d xs ≡ pump_made A N v c xs
   pump_made_agree mine v c d m G [] h = refl
   pump_made_agree mine v c d m G (b ∷ xs) h = λ i.
-      cond (due_agree A N mine v c d b m (ap mine (h b (contains_first b b xs refl)) ∙ m) G i) (item_of b (sent (extend_label A (G.label v m i) (N.weight b)))) []
-      ++ pump_made_agree mine v c d m G xs (λ u l. h u (contains_later u b xs l)) i
+      cond (due_agree A N mine v c d b m (ap mine (h b (here b xs)) ∙ m) G i) (item_of b (sent (extend_label A (G.label v m i) (N.weight b)))) []
+      ++ pump_made_agree mine v c d m G xs (λ u l. h u (later b u xs l)) i
 
   pub settle_made_agree : (mine : ℕ → Bool) (v : ℕ) (c d : CoreState V) → mine v ≡ true → Agree A N mine c d → (xs : List ℕ) → IsOutList A N v xs → settle_made A N v d xs ≡ settle_made A N v c xs
   settle_made_agree mine v c d m G xs O = λ i.

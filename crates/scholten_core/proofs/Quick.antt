@@ -10,7 +10,7 @@ use Rattle.scholten_core.specs.Deficit.{busy_out}
 use Rattle.scholten_core.specs.IdleIsTold.{IdleIsTold}
 use Rattle.scholten_core.specs.Items.{item_of, pump_made, IsDistinct}
 use Rattle.scholten_core.proofs.Basics.{put_tells, put-same, put-other, due_tells, same_self}
-use Rattle.scholten_core.proofs.Contained.{contains_none, contains_cases, contains_first, contains_later}
+use Rattle.road_graph.proofs.Lists.{not_in_empty, here, later, head_or_tail}
 
 module _ {V : Type 0} (A : Algebra V) (N : Network) where
   due_differs : (v : ℕ) (d : CoreState V) (b : ℕ) → is_due A N v d b ≡ true → same_label A (d.told b) (d.label v) ≡ true → ⊥
@@ -64,7 +64,7 @@ module _ {V : Type 0} (A : Algebra V) (N : Network) where
 
   pub made_nothing : (v : ℕ) (d : CoreState V) (xs : List ℕ) → ((b : ℕ) → Contains xs b → is_due A N v d b ≡ false) → pump_made A N v d xs ≡ []
   made_nothing v d [] h = refl
-  made_nothing v d (b ∷ xs) h = λ i. cond-false (is_due A N v d b) (item_of b (sent (extend_label A (d.label v) (N.weight b)))) [] (h b (contains_first b b xs refl)) i ++ made_nothing v d xs (λ u l. h u (contains_later u b xs l)) i
+  made_nothing v d (b ∷ xs) h = λ i. cond-false (is_due A N v d b) (item_of b (sent (extend_label A (d.label v) (N.weight b)))) [] (h b (here b xs)) i ++ made_nothing v d xs (λ u l. h u (later b u xs l)) i
 
   put-itself : {X : Type 0} (f g : ℕ → X) (a : ℕ) → ((b : ℕ) → b ≢ a → g b ≡ f b) → g ≡ put f a (g a)
   put-itself f g a h = λ i b. (elim (put_tells f a (g a) b) as (λ _. g b ≡ put f a (g a) b) [ inl k ↦ ap g k.0 ∙ sym k.1 | inr k ↦ h b k.0 ∙ sym k.1 ]) i
@@ -78,11 +78,11 @@ module _ {V : Type 0} (A : Algebra V) (N : Network) where
   }
 
   pub made_alone : (v a : ℕ) (d : CoreState V) (xs : List ℕ) → IsDistinct A N xs → Contains xs a → ((b : ℕ) → b ≢ a → is_due A N v d b ≡ false) → pump_made A N v d xs ≡ pump_made A N v d (a ∷ [])
-  made_alone v a d [] D l h = absurd (contains_none a l)
+  made_alone v a d [] D l h = absurd (not_in_empty a l)
   made_alone v a d (u ∷ us) D l h = elim (cases_eq u a) [
     | inl e ↦ (let none = made_nothing v d us (λ b k. h b (λ q. D.0 (subst (λ w. Contains us w) (q ∙ sym e) k))) in
         ap (λ zs. cond (is_due A N v d u) (item_of u (sent (extend_label A (d.label v) (N.weight u)))) [] ++ zs) none ∙ ap (λ w. pump_made A N v d (w ∷ [])) e)
-    | inr n ↦ (let k : Contains us a = elim (contains_cases a u us l) [ inl e ↦ absurd (n (sym e)) | inr k ↦ k ] in
+    | inr n ↦ (let k : Contains us a = elim (head_or_tail u a us l) [ inl e ↦ absurd (n e) | inr k ↦ k ] in
         (λ i. cond-false (is_due A N v d u) (item_of u (sent (extend_label A (d.label v) (N.weight u)))) [] (h u n) i ++ pump_made A N v d us) ∙ made_alone v a d us D.1 k h)
   ]
 

@@ -11,7 +11,7 @@ use Rattle.scholten_core.specs.Diffusion.{CoreState, opening, put, pump, arrive,
 use Rattle.scholten_core.specs.Rooted.{IsEngagementOrder, IsRooted}
 use Rattle.scholten_core.proofs.Basics.{put_tells, put-same, put-other, out_idle-at}
 use Rattle.scholten_core.proofs.Kept.{Kept, head_real, arrive_kept, pump_kept, freed_kept, step_kept}
-use Rattle.scholten_core.proofs.Contained.{contains_none, contains_cases, contains_first, contains_later}
+use Rattle.road_graph.proofs.Lists.{not_in_empty, here, here_as, later, head_or_tail}
 
 module _ {V : Type 0} (A : Algebra V) (N : Network) where
   -- the part of IsRooted that pumping cannot change
@@ -19,12 +19,12 @@ module _ {V : Type 0} (A : Algebra V) (N : Network) where
   Ordered f = (order : List ℕ) × IsEngagementOrder A N f order × ((v a : ℕ) → f v ≡ Some a → Contains order v)
 
   order_engaged : (f : ℕ → Option ℕ) (order : List ℕ) (v : ℕ) → IsEngagementOrder A N f order → Contains order v → (a : ℕ) × (f v ≡ Some a)
-  order_engaged f [] v o l = absurd (contains_none v l)
-  order_engaged f (u ∷ us) v o l = elim (contains_cases v u us l) [ inl e ↦ (o.0.0, ap f e ∙ o.0.1) | inr m ↦ order_engaged f us v o.2 m ]
+  order_engaged f [] v o l = absurd (not_in_empty v l)
+  order_engaged f (u ∷ us) v o l = elim (head_or_tail u v us l) [ inl e ↦ (o.0.0, ap f (sym e) ∙ o.0.1) | inr m ↦ order_engaged f us v o.2 m ]
 
   order_same : (f g : ℕ → Option ℕ) (order : List ℕ) → ((v : ℕ) → Contains order v → f v ≡ g v) → IsEngagementOrder A N f order → IsEngagementOrder A N g order
   order_same f g [] h o = tt
-  order_same f g (u ∷ us) h o = ((o.0.0, sym (h u (contains_first u u us refl)) ∙ o.0.1, o.0.2), o.1, order_same f g us (λ v l. h v (contains_later v u us l)) o.2)
+  order_same f g (u ∷ us) h o = ((o.0.0, sym (h u (here u us)) ∙ o.0.1, o.0.2), o.1, order_same f g us (λ v l. h v (later u v us l)) o.2)
 
   without : ℕ → List ℕ → List ℕ
   without v [] = []
@@ -43,17 +43,17 @@ module _ {V : Type 0} (A : Algebra V) (N : Network) where
   without-nil v = refl
 
   listed_without : (v u : ℕ) (us : List ℕ) → u ≢ v → Contains us u → Contains (without v us) u
-  listed_without v u [] ne l = absurd (contains_none u l)
+  listed_without v u [] ne l = absurd (not_in_empty u l)
   listed_without v u (w ∷ us) ne l = elim (cases_eq w v) [
-    | inl e ↦ subst (λ ys. Contains ys u) (sym (without-here v w us e)) (elim (contains_cases u w us l) [ inl k ↦ absurd (ne (k ∙ e)) | inr k ↦ listed_without v u us ne k ])
-    | inr n ↦ subst (λ ys. Contains ys u) (sym (without-there v w us n)) (elim (contains_cases u w us l) [ inl k ↦ contains_first u w (without v us) k | inr k ↦ contains_later u w (without v us) (listed_without v u us ne k) ])
+    | inl e ↦ subst (λ ys. Contains ys u) (sym (without-here v w us e)) (elim (head_or_tail w u us l) [ inl k ↦ absurd (ne (sym k ∙ e)) | inr k ↦ listed_without v u us ne k ])
+    | inr n ↦ subst (λ ys. Contains ys u) (sym (without-there v w us n)) (elim (head_or_tail w u us l) [ inl k ↦ here_as u w (without v us) (sym k) | inr k ↦ later w u (without v us) (listed_without v u us ne k) ])
   ]
 
   without_listed : (v u : ℕ) (us : List ℕ) → Contains (without v us) u → Contains us u
   without_listed v u [] l = subst (λ ys. Contains ys u) (without-nil v) l
   without_listed v u (w ∷ us) l = elim (cases_eq w v) [
-    | inl e ↦ contains_later u w us (without_listed v u us (subst (λ ys. Contains ys u) (without-here v w us e) l))
-    | inr n ↦ (let k : Contains (w ∷ without v us) u = subst (λ ys. Contains ys u) (without-there v w us n) l in elim (contains_cases u w (without v us) k) [ inl j ↦ contains_first u w us j | inr j ↦ contains_later u w us (without_listed v u us j) ])
+    | inl e ↦ later w u us (without_listed v u us (subst (λ ys. Contains ys u) (without-here v w us e) l))
+    | inr n ↦ (let k : Contains (w ∷ without v us) u = subst (λ ys. Contains ys u) (without-there v w us n) l in elim (head_or_tail w u (without v us) k) [ inl j ↦ here_as u w us (sym j) | inr j ↦ later w u us (without_listed v u us j) ])
   ]
 
   order_without : (f : ℕ → Option ℕ) (v : ℕ) → ((u a : ℕ) → f u ≡ Some a → N.tail a ≢ v) → (order : List ℕ) →
@@ -79,7 +79,7 @@ module _ {V : Type 0} (A : Algebra V) (N : Network) where
           new,
           order_same f (put f v (Some a)) O.0 (λ u l. sym (put-other f v (Some a) u (λ e. new (subst (λ w. Contains O.0 w) e l)))) O.1,
         ),
-        λ u b h. elim (put_tells f v (Some a) u) [ inl k ↦ contains_first u v O.0 k.0 | inr k ↦ contains_later u v O.0 (O.2 u b (sym k.1 ∙ h)) ],
+        λ u b h. elim (put_tells f v (Some a) u) [ inl k ↦ here_as u v O.0 k.0 | inr k ↦ later v u O.0 (O.2 u b (sym k.1 ∙ h)) ],
       )
   engage_ordered f v a (Some e) q t O =
       let same = λ (u : ℕ). elim (put_tells f v (Some e) u) as (λ _. f u ≡ put f v (Some e) u) [ inl k ↦ ap f k.0 ∙ q ∙ sym k.1 | inr k ↦ sym k.1 ] in
@@ -158,7 +158,7 @@ module _ {V : Type 0} (A : Algebra V) (N : Network) where
   opening_ordered = ([], tt, λ v a h. cc)
 
   none_listed : (f : ℕ → Option ℕ) → ((u a : ℕ) → f u ≡ Some a → N.tail a ≢ 0) → (order : List ℕ) → IsEngagementOrder A N f order → (u : ℕ) → Contains order u → ⊥
-  none_listed f free [] o u l = contains_none u l
+  none_listed f free [] o u l = not_in_empty u l
   none_listed f free (v ∷ us) o u l = elim o.0.2 [ inl z ↦ free v o.0.0 o.0.1 z | inr k ↦ none_listed f free us o.2 (N.tail o.0.0) k ]
 
   pub none_engaged : (f : ℕ → Option ℕ) → ((u a : ℕ) → f u ≡ Some a → N.tail a ≢ 0) → Ordered f → (v : ℕ) → f v ≡ None

@@ -12,7 +12,9 @@ use Rattle.scholten_core.specs.Diffusion.{CoreState, is_idle}
 use Rattle.scholten_core.specs.Items.{item_arc, item_of}
 use Rattle.scholten_core.proofs.Kept.{Kept as CoreKept}
 use Rattle.scholten_core.proofs.Walks.{walk_value_is_value}
-use Rattle.shard_part.specs.PartState.{PartData, Setup, network_in, place_in, token_if, total, maker_of, is, All, HoldsShare}
+use Rattle.shard_part.specs.PartState.{PartData, Setup, network_in, place_in, token_if, maker_of}
+use Rattle.shard_part.specs.Weights.{total, is, All}
+use Rattle.shard_part.specs.Shows.{HoldsShare}
 use Rattle.shard_part.specs.Exchange.{FitsAlone}
 use Rattle.shard_part.proofs.Weights.{total_append}
 use Rattle.shard_part.proofs.Room.{queue_fits, arc_once, message_free, signal_busy}

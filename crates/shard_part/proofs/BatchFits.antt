@@ -8,7 +8,8 @@ use Rattle.path_algebra.specs.Algebra.{Algebra}
 use Rattle.scholten_core.specs.declared.item.Item.{Item}
 use Rattle.scholten_core.specs.Items.{item_arc}
 use Rattle.scholten_core.specs.Sums.{one_if}
-use Rattle.shard_part.specs.PartState.{PartData, total, counted, is, part_weight, outs_weight}
+use Rattle.shard_part.specs.PartState.{PartData}
+use Rattle.shard_part.specs.Weights.{total, counted, is, part_weight, outs_weight}
 use Rattle.shard_part.specs.Moves.{Rows, IsStored}
 use Rattle.shard_part.specs.Exchange.{Fits, FitsAlone, FitsBefore}
 use Rattle.shard_part.proofs.Rings.{map_read}

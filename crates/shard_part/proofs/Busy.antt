@@ -8,7 +8,10 @@ use Rattle.scholten_core.specs.Sums.{one_if}
 use Rattle.scholten_core.specs.Items.{item_arc}
 use Rattle.shard_part.specs.Tables.{spread}
 use Rattle.scholten_core.specs.Deficit.{busy_out}
-use Rattle.shard_part.specs.PartState.{PartData, state_in, token_if, network_in, place_in, own_in, arcs_out, is, engages, idles, part_weight, IsSound, IsClear}
+use Rattle.shard_part.specs.PartState.{PartData, state_in, token_if, network_in, place_in}
+use Rattle.shard_part.specs.Outgoing.{own_in, arcs_out}
+use Rattle.shard_part.specs.Weights.{is, part_weight}
+use Rattle.shard_part.specs.Sound.{engages, idles, IsSound, IsClear}
 use Rattle.shard_part.specs.Moves.{Rows, IsCounted, IsStored, IsPlace, IsRow}
 use Rattle.shard_part.proofs.Weights.{sum_at, sum_below_same}
 use Rattle.shard_part.proofs.Counting.{own_arcs_most}

@@ -4,7 +4,9 @@ use Rattle.std.proofs.lemmas.Bool.{cases_eq, cases_Bool, cond-true, cond-false, 
 use Rattle.scholten_core.specs.Network.{Network}
 use Rattle.scholten_core.specs.Sums.{sum_below, one_if}
 use Rattle.shard_part.specs.Tables.{placed}
-use Rattle.shard_part.specs.PartState.{total, is, outgoing, touches, joins, queue_bound, outbox_bound}
+use Rattle.shard_part.specs.Weights.{total, is}
+use Rattle.shard_part.specs.Outgoing.{outgoing}
+use Rattle.shard_part.specs.Capacities.{touches, joins, queue_bound, outbox_bound}
 use Rattle.shard_part.specs.Opening.{turned, leading_to, coming_from}
 use Rattle.shard_part.proofs.Counting.{total_same, total_both, sum_swap, total_swap, total_out, placed_none, placed_once}
 use Rattle.scholten_core.proofs.Sums.{one_if-most, sum_same, sum_zero, sum_ones, sum_add, sum_most, sum_term, sum_one}

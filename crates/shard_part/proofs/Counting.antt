@@ -4,7 +4,8 @@ use Rattle.std.proofs.lemmas.Bool.{cases_eq, cases_lt, cases_Bool, cond-true, co
 use Rattle.scholten_core.specs.Network.{Network}
 use Rattle.scholten_core.specs.Sums.{sum_below}
 use Rattle.shard_part.specs.Tables.{placed}
-use Rattle.shard_part.specs.PartState.{total, arcs_from, outgoing, arcs_out}
+use Rattle.shard_part.specs.Weights.{total}
+use Rattle.shard_part.specs.Outgoing.{arcs_from, outgoing, arcs_out}
 use Rattle.scholten_core.proofs.Sums.{sum_zero, sum_ones, sum_add, sum_most}
 
 module _ {X : Type 0} (f : X → ℕ) where

@@ -8,7 +8,10 @@ use Rattle.scholten_core.specs.Diffusion.{CoreState, step, run_from}
 use Rattle.scholten_core.specs.Accounts.{Totals, count_sent, count_signalled, sent_total, delivered_total, signalled_total, accepted_total}
 use Rattle.scholten_core.proofs.Kept.{Kept as CoreKept, step_kept}
 use Rattle.shard_part.specs.Tallies.{counted_on, top}
-use Rattle.shard_part.specs.PartState.{PartData, Setup, network_in, place_in, state_in, total, is_told, is_back, made, event_of, HandledItemIn, HandledAll, Shows}
+use Rattle.shard_part.specs.PartState.{PartData, Setup, network_in, place_in, state_in, event_of}
+use Rattle.shard_part.specs.Weights.{total, is_told, is_back}
+use Rattle.shard_part.specs.Handling.{made, HandledItemIn, HandledAll}
+use Rattle.shard_part.specs.Shows.{Shows}
 use Rattle.shard_part.specs.Exact.{no_totals, plus, done_by, Saturates, ShowsMoved}
 use Rattle.shard_part.proofs.Showing.{AllLawful, handled_shows, shown_holds}
 use Rattle.shard_part.proofs.TakenCounts.{counts}

@@ -11,7 +11,10 @@ use Rattle.scholten_core.specs.Diffusion.{CoreState, put, is_idle, is_due, impro
 use Rattle.scholten_core.specs.Items.{item_arc, item_of, pump_made, settle_made, IsDistinct, IsOutList}
 use Rattle.scholten_core.proofs.Basics.{put_tells, due_tells}
 use Rattle.shard_part.specs.Tallies.{counted_on, top}
-use Rattle.shard_part.specs.PartState.{PartData, Setup, Lanes, lanes_of, network_in, place_in, state_in, token_if, total, is_told, is_back, mine, routes, route, outgoing, arrive_here, settle_here, taken, made, vertex_of, IsArc, HandledItemIn}
+use Rattle.shard_part.specs.PartState.{PartData, Setup, network_in, place_in, state_in, token_if, mine, vertex_of, IsArc}
+use Rattle.shard_part.specs.Weights.{Lanes, lanes_of, total, is_told, is_back}
+use Rattle.shard_part.specs.Handling.{routes, route, arrive_here, settle_here, taken, made, HandledItemIn}
+use Rattle.shard_part.specs.Outgoing.{outgoing}
 use Rattle.shard_part.specs.Moves.{Rows, IsStored, IsPlanned, IsPopped, engaged_or_answered, offered, offered_all, rested, with_value, with_free, with_taken}
 use Rattle.shard_part.specs.Part.{OwnIdleIsTold}
 use Rattle.shard_part.proofs.Spread.{table_long}
@@ -24,7 +27,7 @@ use Rattle.shard_part.proofs.Quick.{quiet_message}
 use Rattle.shard_part.proofs.OffersArePumped.{counted_none, counted_top}
 use Rattle.shard_part.proofs.VertexSettles.{Made, settles, made_after}
 use Rattle.scholten_core.proofs.Written.{put_set}
-use Rattle.scholten_core.proofs.Contained.{contains_none, contains_cases, contains_first}
+use Rattle.road_graph.proofs.Lists.{not_in_empty, here_as, head_or_tail}
 
 -- the tables have a place for each vertex and each arc, and no counter is past its top
 pub record IsFit {S V : Type 0} (p : PartData S V) : Type 0 where
@@ -151,11 +154,11 @@ module _ {S V : Type 0} (A : Algebra V) where
       go false t None e = subst (λ u. Made A (taken A N (MessageOn a x) (state_in p)) (made A N (MessageOn a x) (state_in p)) p (rested A v u)) (offered_none A v (record p { engagers = set p.engagers v (Some a) }))
           (arrived L p a x None p.labels (set p.engagers v (Some a)) p.queue p.outs p.signalled [] F F.signalled
           (let l = length-set p.engagers v (Some a) in omega (arith, l, long_e)) e (old_label t) (put_set p.engagers v (Some a) None long_e) refl (sym (counted_none p.signalled F.signalled))
-          tt (λ b l. absurd (contains_none b l)) (λ b _. quiet t b) (made_nothing A N v (arrive_here A N a x (state_in p)) (outgoing N v) (λ b _. quiet t b)))
+          tt (λ b l. absurd (not_in_empty b l)) (λ b _. quiet t b) (made_nothing A N v (arrive_here A N a x (state_in p)) (outgoing N v) (λ b _. quiet t b)))
       go false t (Some f) e = subst (λ u. Made A (taken A N (MessageOn a x) (state_in p)) (made A N (MessageOn a x) (state_in p)) p (rested A v u)) (offered_none A v (record p { queue = answered.queue; outs = answered.outs; signalled = counted_on 1 p.signalled }))
           (arrived L p a x (Some f) p.labels p.engagers answered.queue answered.outs (counted_on 1 p.signalled) [] F (counted_top 1 p.signalled)
           long_e e (old_label t) (unchanged (state_in p).engager v (Some f) e) refl refl
-          tt (λ b l. absurd (contains_none b l)) (λ b _. quiet t b) (made_nothing A N v (arrive_here A N a x (state_in p)) (outgoing N v) (λ b _. quiet t b)))
+          tt (λ b l. absurd (not_in_empty b l)) (λ b _. quiet t b) (made_nothing A N v (arrive_here A N a x (state_in p)) (outgoing N v) (λ b _. quiet t b)))
 
   offered_alone : (v b : ℕ) (p : PartData S V) → offered_all A v (b ∷ []) p ≡ offered A v b p
   unfolding offered_all
@@ -196,9 +199,9 @@ module _ {S V : Type 0} (A : Algebra V) where
       let in_told : suc k < length p.told = (out_within p W F v nz (suc k) (O.all (suc k) refl)).0 in
       let e = free_is p (suc k) in_busy in
       let quiet : (b : ℕ) → b ≢ suc k → is_due A N v (freed A N (suc k) (state_in p)) b ≡ false = quiet_signal A N L (mine (place_in p.setup) p.shard) (suc k) (state_in p) (eq-eqb _ _ here) nz (has_told p T) in
-      let R = settles A v (suc k ∷ []) (outgoing N v) p1 F.sent F.signalled (let l = F.engagers in omega (arith, l, within)) (contains_none (suc k), tt)
-      (λ b l. elim (contains_cases b (suc k) [] l) [ inl q ↦ (let s = length-set p.busy (suc k) false in (omega (arith, q, in_told), omega (arith, q, s, in_busy))) | inr z ↦ absurd (contains_none b z) ])
-      (subst (λ s. (b : ℕ) → (Contains (suc k ∷ []) b → ⊥) → is_due A N v s b ≡ false) (sym e) (λ b m. quiet b (λ q. m (contains_first b (suc k) [] q))))
+      let R = settles A v (suc k ∷ []) (outgoing N v) p1 F.sent F.signalled (let l = F.engagers in omega (arith, l, within)) (not_in_empty (suc k), tt)
+      (λ b l. elim (head_or_tail (suc k) b [] l) [ inl q ↦ (let s = length-set p.busy (suc k) false in (omega (arith, q, in_told), omega (arith, q, s, in_busy))) | inr z ↦ absurd (not_in_empty b z) ])
+      (subst (λ s. (b : ℕ) → (Contains (suc k ∷ []) b → ⊥) → is_due A N v s b ≡ false) (sym e) (λ b m. quiet b (λ q. m (here_as b (suc k) [] q))))
       (subst (λ s. pump_made A N v s (outgoing N v) ≡ pump_made A N v s (suc k ∷ [])) (sym e) (made_alone A N v (suc k) (freed A N (suc k) (state_in p)) (outgoing N v) O.distinct (O.all (suc k) refl) quiet)) in
       let M : Made A (settle_here A N v (freed A N (suc k) (state_in p))) (settle_made A N v (freed A N (suc k) (state_in p)) (outgoing N v)) p1 (rested A v (offered_all A v (suc k ∷ []) p1)) =
       subst (λ s. Made A (settle_here A N v s) (settle_made A N v s (outgoing N v)) p1 (rested A v (offered_all A v (suc k ∷ []) p1))) e R in

@@ -8,7 +8,7 @@ use Rattle.path_algebra.specs.Algebra.{IsLawful as Lawful}
 use Rattle.scholten_core.specs.Network.{Network, WellFormed}
 use Rattle.scholten_core.specs.Diffusion.{CoreState, is_idle, pump, out_idle, arrive, released, freed, settle, settle_tail, delivered, accepted, step, answer_to}
 use Rattle.scholten_core.specs.Shares.{Agree}
-use Rattle.shard_part.specs.PartState.{arrive_here, rest_here, settle_here, settle_tail_here, taken}
+use Rattle.shard_part.specs.Handling.{arrive_here, rest_here, settle_here, settle_tail_here, taken}
 use Rattle.scholten_core.proofs.Basics.{put_tells, put-at, put-other}
 use Rattle.scholten_core.proofs.Kept.{Kept, arrive_kept, freed_kept}
 use Rattle.scholten_core.proofs.Counts.{held_pumped}

@@ -11,13 +11,15 @@ use Rattle.scholten_core.specs.Network.{Network, WellFormed}
 use Rattle.scholten_core.specs.Diffusion.{CoreState, settle, arrive, freed, step, delivered, accepted, answer_to}
 use Rattle.scholten_core.specs.Sums.{sum_below}
 use Rattle.scholten_core.specs.Items.{at, item_of, Makes, IsOutList, settle_made, IsDistinct}
-use Rattle.shard_part.specs.PartState.{total, outgoing, arcs_from, made, in_flight, at_place}
+use Rattle.shard_part.specs.Weights.{total, in_flight, at_place}
+use Rattle.shard_part.specs.Outgoing.{outgoing, arcs_from}
+use Rattle.shard_part.specs.Handling.{made}
 use Rattle.scholten_core.proofs.Basics.{put-same, put-other}
 use Rattle.scholten_core.proofs.Kept.{Kept, step_kept}
 use Rattle.scholten_core.proofs.Items.{at-nil, message_makes, signal_makes}
 use Rattle.shard_part.proofs.Weights.{sum_at, total_by_arc}
 use Rattle.scholten_core.proofs.Sums.{sum_add}
-use Rattle.scholten_core.proofs.Contained.{contains_none, contains_cases, contains_first, contains_later}
+use Rattle.road_graph.proofs.Lists.{not_in_empty, here_as, later, head_or_tail}
 
 module _ {V : Type 0} (A : Algebra V) (N : Network) where
   -- arcs past the last are idle
@@ -49,9 +51,9 @@ module _ {V : Type 0} (A : Algebra V) (N : Network) where
 
   -- the arcs out of a vertex
   arcs_from-least : (v k n b : ℕ) → Contains (arcs_from N v k n) b → k ≤ b
-  arcs_from-least v k zero b l = absurd (contains_none b l)
+  arcs_from-least v k zero b l = absurd (not_in_empty b l)
   arcs_from-least v k (suc n) b l = elim (cases_Bool (eqb (N.tail k) v)) [
-    | inl t ↦ (elim (contains_cases b k (arcs_from N v (suc k) n) (subst (λ ys. Contains ys b) (cond-true (eqb (N.tail k) v) (k ∷ arcs_from N v (suc k) n) (arcs_from N v (suc k) n) t) l)) [
+    | inl t ↦ (elim (head_or_tail k b (arcs_from N v (suc k) n) (subst (λ ys. Contains ys b) (cond-true (eqb (N.tail k) v) (k ∷ arcs_from N v (suc k) n) (arcs_from N v (suc k) n) t) l)) [
       | inl e ↦ (omega (arith, e))
       | inr m ↦ (let r = arcs_from-least v (suc k) n b m in omega (arith, r))
     ])
@@ -59,10 +61,10 @@ module _ {V : Type 0} (A : Algebra V) (N : Network) where
   ]
 
   arcs_from-only : (v k n b : ℕ) → Contains (arcs_from N v k n) b → N.tail b ≡ v
-  arcs_from-only v k zero b l = absurd (contains_none b l)
+  arcs_from-only v k zero b l = absurd (not_in_empty b l)
   arcs_from-only v k (suc n) b l = elim (cases_Bool (eqb (N.tail k) v)) [
-    | inl t ↦ (elim (contains_cases b k (arcs_from N v (suc k) n) (subst (λ ys. Contains ys b) (cond-true (eqb (N.tail k) v) (k ∷ arcs_from N v (suc k) n) (arcs_from N v (suc k) n) t) l)) [
-      | inl e ↦ ap N.tail e ∙ eqb-true (N.tail k) v t
+    | inl t ↦ (elim (head_or_tail k b (arcs_from N v (suc k) n) (subst (λ ys. Contains ys b) (cond-true (eqb (N.tail k) v) (k ∷ arcs_from N v (suc k) n) (arcs_from N v (suc k) n) t) l)) [
+      | inl e ↦ ap N.tail (sym e) ∙ eqb-true (N.tail k) v t
       | inr m ↦ arcs_from-only v (suc k) n b m
     ])
     | inr f ↦ arcs_from-only v (suc k) n b (subst (λ ys. Contains ys b) (cond-false (eqb (N.tail k) v) (k ∷ arcs_from N v (suc k) n) (arcs_from N v (suc k) n) f) l)
@@ -71,9 +73,9 @@ module _ {V : Type 0} (A : Algebra V) (N : Network) where
   arcs_from-all : (v k n b : ℕ) → N.tail b ≡ v → k ≤ b → b < k + n → Contains (arcs_from N v k n) b
   arcs_from-all v k zero b e l h = absurd (omega (arith, l, h))
   arcs_from-all v k (suc n) b e l h = elim (cases_eq b k) [
-    | inl q ↦ subst (λ ys. Contains ys b) (sym (cond-true (eqb (N.tail k) v) (k ∷ arcs_from N v (suc k) n) (arcs_from N v (suc k) n) (eq-eqb (N.tail k) v (ap N.tail (sym q) ∙ e)))) (contains_first b k (arcs_from N v (suc k) n) q)
+    | inl q ↦ subst (λ ys. Contains ys b) (sym (cond-true (eqb (N.tail k) v) (k ∷ arcs_from N v (suc k) n) (arcs_from N v (suc k) n) (eq-eqb (N.tail k) v (ap N.tail (sym q) ∙ e)))) (here_as b k (arcs_from N v (suc k) n) q)
     | inr ne ↦ (let r = arcs_from-all v (suc k) n b e (omega (arith, l, ne)) (omega (arith, h)) in elim (cases_Bool (eqb (N.tail k) v)) [
-      | inl t ↦ subst (λ ys. Contains ys b) (sym (cond-true (eqb (N.tail k) v) (k ∷ arcs_from N v (suc k) n) (arcs_from N v (suc k) n) t)) (contains_later b k (arcs_from N v (suc k) n) r)
+      | inl t ↦ subst (λ ys. Contains ys b) (sym (cond-true (eqb (N.tail k) v) (k ∷ arcs_from N v (suc k) n) (arcs_from N v (suc k) n) t)) (later k b (arcs_from N v (suc k) n) r)
       | inr f ↦ subst (λ ys. Contains ys b) (sym (cond-false (eqb (N.tail k) v) (k ∷ arcs_from N v (suc k) n) (arcs_from N v (suc k) n) f)) r
     ])
   ]

@@ -17,7 +17,7 @@ pub mod Moves
 pub mod Busy
 pub mod Rings
 pub mod Graphs
-pub mod Halving
+pub mod Increasing
 pub mod Offers
 pub mod Pumping
 pub mod OffersArePumped

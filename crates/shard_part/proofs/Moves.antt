@@ -6,7 +6,10 @@ use Rattle.scholten_core.specs.Sums.{one_if}
 use Rattle.scholten_core.specs.Items.{item_arc}
 use Rattle.scholten_core.proofs.Networks.{well_formed}
 use Rattle.shard_part.specs.Tables.{spread, IsApart}
-use Rattle.shard_part.specs.PartState.{PartData, state_in, network_in, place_in, own_in, arcs_out, is, names, engages, idles, part_weight, IsArc, IsSound, IsClear}
+use Rattle.shard_part.specs.PartState.{PartData, state_in, network_in, place_in, IsArc}
+use Rattle.shard_part.specs.Outgoing.{own_in, arcs_out}
+use Rattle.shard_part.specs.Weights.{is, part_weight}
+use Rattle.shard_part.specs.Sound.{names, engages, idles, IsSound, IsClear}
 use Rattle.shard_part.specs.Moves.{Rows, IsPlanned, IsStored, IsPlace, IsRow}
 use Rattle.shard_part.proofs.Spread.{table_read, table_write, table_long}
 use Rattle.shard_part.proofs.Places.{own_apart, own_below, own_placed, arcs_apart, arc_owner}

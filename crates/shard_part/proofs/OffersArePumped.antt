@@ -9,12 +9,14 @@ use Rattle.scholten_core.specs.Network.{Network}
 use Rattle.scholten_core.specs.Diffusion.{CoreState, is_idle, is_due, pump, sent, extend_label}
 use Rattle.scholten_core.specs.Items.{item_of, pump_made, IsDistinct}
 use Rattle.shard_part.specs.Tallies.{counted_on, top}
-use Rattle.shard_part.specs.PartState.{PartData, Lanes, lanes_of, network_in, place_in, state_in, token_if, total, is_told, is_back, route, routes}
+use Rattle.shard_part.specs.PartState.{PartData, network_in, place_in, state_in, token_if}
+use Rattle.shard_part.specs.Weights.{Lanes, lanes_of, total, is_told, is_back}
+use Rattle.shard_part.specs.Handling.{route, routes}
 use Rattle.shard_part.specs.Moves.{with_message, offered_all}
 use Rattle.shard_part.proofs.Weights.{total_append}
 use Rattle.shard_part.proofs.Routed.{routes-append}
 use Rattle.scholten_core.proofs.Basics.{due_idle, due_same, pumped_same}
-use Rattle.scholten_core.proofs.Contained.{contains_none, contains_cases, contains_first, contains_later}
+use Rattle.road_graph.proofs.Lists.{not_in_empty, here, here_as, later, head_or_tail}
 
 pub counted_none : (n : ℕ) → n ≤ top → counted_on 0 n ≡ n
 counted_none n h = min-eq_left (let e : n + 0 ≤ top = omega (arith, h) in e) ∙ (let z : n + 0 ≡ n = omega arith in z)
@@ -31,12 +33,12 @@ counted_append f xs ys a n m p q = q ∙ ap (counted_on (total f ys)) p ∙ coun
 
 module _ {V : Type 0} (A : Algebra V) (N : Network) where
   pub listed_or : (b : ℕ) (xs : List ℕ) → Contains xs b ⊎ (Contains xs b → ⊥)
-  listed_or b [] = inr (contains_none b)
+  listed_or b [] = inr (not_in_empty b)
   listed_or b (u ∷ us) = elim (cases_eq b u) [
-    | inl e ↦ inl (contains_first b u us e)
+    | inl e ↦ inl (here_as b u us e)
     | inr n ↦ (elim (listed_or b us) [
-      | inl l ↦ inl (contains_later b u us l)
-      | inr m ↦ inr (λ l. elim (contains_cases b u us l) [ inl e ↦ n e | inr k ↦ m k ])
+      | inl l ↦ inl (later u b us l)
+      | inr m ↦ inr (λ l. elim (head_or_tail u b us l) [ inl e ↦ n (sym e) | inr k ↦ m k ])
     ])
   ]
 
@@ -46,8 +48,8 @@ module _ {V : Type 0} (A : Algebra V) (N : Network) where
 
   made_same : (v : ℕ) (c d : CoreState V) (xs : List ℕ) → c.label v ≡ d.label v → ((b : ℕ) → Contains xs b → (c.token b ≡ d.token b) × (c.told b ≡ d.told b)) → pump_made A N v c xs ≡ pump_made A N v d xs
   made_same v c d [] r h = refl
-  made_same v c d (b ∷ xs) r h = let k = h b (contains_first b b xs refl) in
-      λ i. cond (due_same A N v c d b k.0 k.1 r i) (item_of b (sent (extend_label A (r i) (N.weight b)))) [] ++ made_same v c d xs r (λ u l. h u (contains_later u b xs l)) i
+  made_same v c d (b ∷ xs) r h = let k = h b (here b xs) in
+      λ i. cond (due_same A N v c d b k.0 k.1 r i) (item_of b (sent (extend_label A (r i) (N.weight b)))) [] ++ made_same v c d xs r (λ u l. h u (later b u xs l)) i
 
   pub made_no_back : (v : ℕ) (d : CoreState V) (xs : List ℕ) → total is_back (pump_made A N v d xs) ≡ 0
   made_no_back v d [] = refl
@@ -95,14 +97,14 @@ module _ {S V : Type 0} (A : Algebra V) where
         shard = R.shard;
         labels = R.labels;
         engagers = R.engagers;
-        done = λ u l. elim (contains_cases u b bs l) [
-          | inl e ↦ (let k = R.left u (λ m. apart (subst (λ w. Contains bs w) e m)) in (
-            k.0 ∙ ap (λ w. get_or ts w None) e ∙ here ∙ ap (pump A N v (state_in p)).told (sym e),
-            ap is_idle k.1 ∙ ap (λ w. is_idle {V = V} (token_if (get_or fs w false))) e ∙ idle ∙ ap (λ w. is_idle ((pump A N v (state_in p)).token w)) (sym e),
+        done = λ u l. elim (head_or_tail b u bs l) [
+          | inl e ↦ (let k = R.left u (λ m. apart (subst (λ w. Contains bs w) (sym e) m)) in (
+            k.0 ∙ ap (λ w. get_or ts w None) (sym e) ∙ here ∙ ap (pump A N v (state_in p)).told e,
+            ap is_idle k.1 ∙ ap (λ w. is_idle {V = V} (token_if (get_or fs w false))) (sym e) ∙ idle ∙ ap (λ w. is_idle ((pump A N v (state_in p)).token w)) e,
           ))
           | inr m ↦ (let k = R.done u m in let s = pumped_same A N v (state_in p1) (state_in p) u (token u (ne u m)) (told u (ne u m)) refl in (k.0 ∙ s.1, k.1 ∙ ap is_idle s.0))
         ];
-        left = λ u h. let k = R.left u (λ m. h (contains_later u b bs m)) in let w : u ≢ b = λ e. h (contains_first u b bs e) in (k.0 ∙ told u w, k.1 ∙ token u w);
+        left = λ u h. let k = R.left u (λ m. h (later b u bs m)) in let w : u ≢ b = λ e. h (here_as u b bs e) in (k.0 ∙ told u w, k.1 ∙ token u w);
         lanes = R.lanes ∙ (λ i. routes N (place_in p.setup) p.shard (made i) (lanes i)) ∙ sym (routes-append N (place_in p.setup) p.shard (offer_made A N v (state_in p) b) (pump_made A N v (state_in p) bs) (lanes_of p));
         sent = counted_append is_told (offer_made A N v (state_in p) b) (pump_made A N v (state_in p) bs) p.sent n q.sent count (R.sent ∙ ap (λ xs. counted_on (total is_told xs) n) made);
         signalled = R.signalled;
@@ -151,7 +153,7 @@ module _ {S V : Type 0} (A : Algebra V) where
     shard = refl;
     labels = refl;
     engagers = refl;
-    done = λ b k. absurd (contains_none b k);
+    done = λ b k. absurd (not_in_empty b k);
     left = λ b k. (refl, refl);
     lanes = refl;
     sent = sym (counted_none p.sent s);
@@ -159,6 +161,6 @@ module _ {S V : Type 0} (A : Algebra V) where
     delivered = refl;
     accepted = refl;
   }
-  offers v (b ∷ bs) p s D l = offers_one v b bs p s (l b (contains_first b b bs refl)).0 (l b (contains_first b b bs refl)).1 D.0
-      (λ ts fs qs os n h a c. offers v bs (record p { told = ts; busy = fs; queue = qs; outs = os; sent = n }) h D.1 (λ u k. let r = l u (contains_later u b bs k) in let r0 = r.0 in let r1 = r.1 in (omega (arith, r0, a), omega (arith, r1, c))))
+  offers v (b ∷ bs) p s D l = offers_one v b bs p s (l b (here b bs)).0 (l b (here b bs)).1 D.0
+      (λ ts fs qs os n h a c. offers v bs (record p { told = ts; busy = fs; queue = qs; outs = os; sent = n }) h D.1 (λ u k. let r = l u (later b u bs k) in let r0 = r.0 in let r1 = r.1 in (omega (arith, r0, a), omega (arith, r1, c))))
       (is_due A (network_in p.setup) v (state_in p) b) refl (extend_label A ((state_in p).label v) ((network_in p.setup).weight b)) refl

@@ -15,7 +15,12 @@ use Rattle.scholten_core.proofs.Basics.{put-at, put-other}
 use Rattle.scholten_core.proofs.Networks.{tail-arc, head-entry, tail-entry}
 use Rattle.shard_part.specs.Tables.{spread, placed}
 use Rattle.scholten_core.specs.Deficit.{busy_out}
-use Rattle.shard_part.specs.PartState.{Setup, PartData, network_in, place_in, state_in, token_if, own_in, arcs_out, arcs_from, outgoing, total, outs_weight, part_weight, engages, idles, names, is, All, vertex_of, maker_of, at_place, in_flight, IsArc, IsSound, HoldsShare, queue_bound, outbox_bound}
+use Rattle.shard_part.specs.PartState.{Setup, PartData, network_in, place_in, state_in, token_if, vertex_of, maker_of, IsArc}
+use Rattle.shard_part.specs.Outgoing.{own_in, arcs_out, arcs_from, outgoing}
+use Rattle.shard_part.specs.Weights.{total, outs_weight, part_weight, is, All, at_place, in_flight}
+use Rattle.shard_part.specs.Sound.{engages, idles, names, IsSound}
+use Rattle.shard_part.specs.Shows.{HoldsShare}
+use Rattle.shard_part.specs.Capacities.{queue_bound, outbox_bound}
 use Rattle.shard_part.specs.Moves.{Rows, seen_as, IsPlanned, IsCounted, IsStored}
 use Rattle.shard_part.specs.Opening.{is_first, first_items, opened_part, AreStarts, idle_rows}
 use Rattle.shard_part.proofs.Weights.{sum_at, sum_zero}

@@ -6,7 +6,9 @@ use Rattle.scholten_core.specs.declared.item.Item.{Item}
 use Rattle.scholten_core.specs.declared.item.Item.TheVariants.{Message as MessageOn}
 use Rattle.scholten_core.specs.Diffusion.{opening}
 use Rattle.scholten_core.specs.Sums.{one_if}
-use Rattle.shard_part.specs.PartState.{Setup, PartData, network_in, place_in, total, part_weight, is, All, HoldsTables, ShowsIn}
+use Rattle.shard_part.specs.PartState.{Setup, PartData, network_in, place_in}
+use Rattle.shard_part.specs.Weights.{total, part_weight, is, All}
+use Rattle.shard_part.specs.Shows.{HoldsTables, ShowsIn}
 use Rattle.shard_part.specs.Moves.{IsPlanned}
 use Rattle.shard_part.specs.Opening.{first_items, opened_part, opened_parts}
 use Rattle.shard_part.proofs.Opened.{place_below, opened_weight, opening_weight, opened_holds}

@@ -6,7 +6,8 @@ use Rattle.scholten_core.specs.Network.{Network}
 use Rattle.std.specs.List.Sorted.{IsStrictlyIncreasing}
 use Rattle.std.proofs.lemmas.List.Kept.{AllPairs-from_increasing}
 use Rattle.shard_part.specs.Tables.{IsApart, placed}
-use Rattle.shard_part.specs.PartState.{Setup, place_in, arcs_from, outgoing, own_in, arcs_out}
+use Rattle.shard_part.specs.PartState.{Setup, place_in}
+use Rattle.shard_part.specs.Outgoing.{arcs_from, outgoing, own_in, arcs_out}
 
 pub increasing_apart : (xs : List ℕ) → IsStrictlyIncreasing xs → IsApart xs
 increasing_apart xs h i j l m e = let r = AllPairs-from_increasing xs h i j 0 l m in omega (arith, r, e)

@@ -6,7 +6,8 @@ use Rattle.road_graph.specs.declared.OutRoad.{OutRoad}
 use Rattle.road_graph.specs.Roads.{HasVertex, IsTurn, ListsArcsFrom, ListsRoadsFrom, arc_of, road_of, roads_of}
 use Rattle.scholten_core.specs.Network.{WellFormed}
 use Rattle.scholten_core.specs.Diffusion.{is_due, extend_label, improves}
-use Rattle.shard_part.specs.PartState.{Setup, PartData, state_in, network_in, outgoing, own_in, IsArc}
+use Rattle.shard_part.specs.PartState.{Setup, PartData, state_in, network_in, IsArc}
+use Rattle.shard_part.specs.Outgoing.{outgoing, own_in}
 use Rattle.shard_part.specs.Moves.{Rows, IsStored, IsPlace, IsRow, with_message, engaged_or_answered, labelled, offered, offered_all, rested, with_value}
 use Rattle.scholten_core.proofs.Networks.{tail-arc}
 use Rattle.shard_part.proofs.Graphs.{arc_in_graph, out_is, roads_are, road_is}

@@ -8,7 +8,7 @@ use Rattle.path_algebra.specs.Algebra.{Algebra}
 use Rattle.path_algebra.specs.Algebra.{IsLawful as Lawful}
 use Rattle.scholten_core.specs.Network.{Network, WellFormed}
 use Rattle.scholten_core.specs.Diffusion.{CoreState, is_due, out_idle, pump, freed, better_of}
-use Rattle.shard_part.specs.PartState.{arrive_here, rest_here, settle_here, settle_tail_here, taken}
+use Rattle.shard_part.specs.Handling.{arrive_here, rest_here, settle_here, settle_tail_here, taken}
 use Rattle.scholten_core.proofs.Basics.{put-same, put-other}
 use Rattle.scholten_core.proofs.Kept.{pumped}
 use Rattle.scholten_core.proofs.Quick.{HasTold, told_not_due}

@@ -12,7 +12,10 @@ use Rattle.scholten_core.specs.Diffusion.{is_idle}
 use Rattle.scholten_core.specs.Items.{item_arc}
 use Rattle.scholten_core.specs.Sums.{one_if}
 use Rattle.scholten_core.proofs.Networks.{tail-arc, head-arc}
-use Rattle.shard_part.specs.PartState.{PartData, network_in, place_in, state_in, token_if, vertex_of, maker_of, IsArc, IsSound, queue_bound, outbox_bound, counted, is, names, All, engages, idles}
+use Rattle.shard_part.specs.PartState.{PartData, network_in, place_in, state_in, token_if, vertex_of, maker_of, IsArc}
+use Rattle.shard_part.specs.Sound.{IsSound, names, engages, idles}
+use Rattle.shard_part.specs.Capacities.{queue_bound, outbox_bound}
+use Rattle.shard_part.specs.Weights.{counted, is, All}
 use Rattle.shard_part.specs.Moves.{Rows, IsStored, IsRow}
 use Rattle.shard_part.specs.Exchange.{Fits, FitsAlone, MayEngage, Awaits}
 use Rattle.shard_part.specs.Readings.{has_ended}

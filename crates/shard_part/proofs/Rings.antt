@@ -7,7 +7,10 @@ use Rattle.circular_buffer.specs.Buffer.{Buffer, buffer}
 use Rattle.scholten_core.specs.declared.item.Item.{Item}
 use Rattle.path_algebra.specs.Algebra.{Algebra}
 use Rattle.scholten_core.specs.Items.{item_arc}
-use Rattle.shard_part.specs.PartState.{PartData, Lanes, lanes_of, network_in, place_in, vertex_of, maker_of, route, IsArc, IsClear, IsSound, total, is, All}
+use Rattle.shard_part.specs.PartState.{PartData, network_in, place_in, vertex_of, maker_of, IsArc}
+use Rattle.shard_part.specs.Weights.{Lanes, lanes_of, total, is, All}
+use Rattle.shard_part.specs.Handling.{route}
+use Rattle.shard_part.specs.Sound.{IsClear, IsSound}
 use Rattle.shard_part.specs.Moves.{Rows, IsStored, put_item, IsPopped}
 use Rattle.shard_part.proofs.Sound.{put_sound}
 use Rattle.shard_part.proofs.RingsSuffice.{sound_fits, sound_out_fits}

@@ -7,7 +7,10 @@ use Rattle.path_algebra.specs.Algebra.{Algebra}
 use Rattle.scholten_core.specs.Network.{Network, WellFormed}
 use Rattle.scholten_core.specs.Sums.{sum_below, one_if}
 use Rattle.scholten_core.specs.Items.{item_arc, at}
-use Rattle.shard_part.specs.PartState.{PartData, total, counted, is, All, IsArc, IsSound, vertex_of, touches, queue_bound, joins, outbox_bound, maker_of}
+use Rattle.shard_part.specs.PartState.{PartData, IsArc, vertex_of, maker_of}
+use Rattle.shard_part.specs.Weights.{total, counted, is, All}
+use Rattle.shard_part.specs.Sound.{IsSound}
+use Rattle.shard_part.specs.Capacities.{touches, queue_bound, joins, outbox_bound}
 use Rattle.scholten_core.proofs.Items.{at-skip, at-nil}
 use Rattle.shard_part.proofs.Weights.{total_by_arc}
 use Rattle.shard_part.proofs.Room.{each_one, outs_member}

@@ -9,7 +9,10 @@ use Rattle.scholten_core.specs.Network.{Network}
 use Rattle.scholten_core.specs.Diffusion.{CoreState, is_idle}
 use Rattle.scholten_core.specs.Sums.{sum_below, one_if}
 use Rattle.scholten_core.specs.Items.{item_arc, item_of}
-use Rattle.shard_part.specs.PartState.{PartData, state_in, total, outs_weight, part_weight, at_place, is, mine, HoldsShare, HoldsTables, touches, queue_bound}
+use Rattle.shard_part.specs.PartState.{PartData, state_in, mine}
+use Rattle.shard_part.specs.Weights.{total, outs_weight, part_weight, at_place, is}
+use Rattle.shard_part.specs.Shows.{HoldsShare, HoldsTables}
+use Rattle.shard_part.specs.Capacities.{touches, queue_bound}
 use Rattle.scholten_core.proofs.Kept.{Kept}
 use Rattle.shard_part.proofs.Showing.{is_self}
 use Rattle.scholten_core.proofs.Sums.{sum_most}

@@ -3,7 +3,9 @@ use Rattle.std.proofs.Common.{◌≡◌, ℕ, zero, suc, ◌+◌, ◌<◌, Bool,
 use Rattle.std.proofs.lemmas.Bool.{cases_eq}
 use Rattle.scholten_core.specs.declared.item.Item.{Item}
 use Rattle.scholten_core.specs.Network.{Network}
-use Rattle.shard_part.specs.PartState.{Lanes, total, outs_weight, lanes_weight, vertex_of, route, routes, at_place}
+use Rattle.shard_part.specs.Weights.{Lanes, total, outs_weight, lanes_weight, at_place}
+use Rattle.shard_part.specs.PartState.{vertex_of}
+use Rattle.shard_part.specs.Handling.{route, routes}
 use Rattle.shard_part.proofs.Weights.{total_append}
 
 module _ {V : Type 0} where

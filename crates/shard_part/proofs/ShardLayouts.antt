@@ -9,7 +9,10 @@ use Rattle.scholten_core.specs.Sums.{one_if}
 use Rattle.scholten_core.proofs.Networks.{tail-arc, head-arc, tail-entry}
 use Rattle.shard_part.specs.Plans.{shard_in, HasPlanned}
 use Rattle.shard_part.specs.Tables.{placed}
-use Rattle.shard_part.specs.PartState.{network_in, place_in, own_in, arcs_out, outgoing, total, is, outbox_bound}
+use Rattle.shard_part.specs.PartState.{network_in, place_in}
+use Rattle.shard_part.specs.Outgoing.{own_in, arcs_out, outgoing}
+use Rattle.shard_part.specs.Weights.{total, is}
+use Rattle.shard_part.specs.Capacities.{outbox_bound}
 use Rattle.shard_part.specs.Moves.{IsPlanned}
 use Rattle.shard_part.specs.Opening.{ShardLayoutData, is_first, turned, leading_to, coming_from, CountsOut, CountsInto, CountsAll}
 use Rattle.shard_part.proofs.Ascending.{arcs_are}
@@ -19,7 +22,7 @@ use Rattle.shard_part.proofs.Counting.{arcs_out_more, total_whole, total_take, t
 use Rattle.shard_part.proofs.Places.{own_below, placed_picked}
 use Rattle.shard_part.proofs.CapacitiesByVertex.{seen_at, seen_all, outbox_bound_most}
 use Rattle.scholten_core.proofs.Sums.{one_if-most}
-use Rattle.scholten_core.proofs.Contained.{contains_at, contains_from}
+use Rattle.road_graph.proofs.Lists.{element_place, element_at}
 
 pub first_is : (w old : ShardLayoutData) (x : ℕ) (b : Bool) → w ≡ old → IsPlanned w.setup w.shard → x ≡ shard_in w.setup.plan w.setup.question.source → b ≡ eqb x w.shard → b ≡ is_first old.setup old.shard
 first_is w old x b e D h q = q ∙ ap (λ k. eqb k w.shard) (h ∙ sym (place_entry w.setup D.source.0)) ∙ ap (λ (u : ShardLayoutData). is_first u.setup u.shard) e
@@ -51,7 +54,7 @@ listed_into w old v xs e l o =
   where
     only : (b : ℕ) → Contains xs b → ((turned (network w.setup.question.roads w.setup.question.source)).tail b ≡ v) × (0 ≤ b) × (b < 0 + suc (length w.setup.question.roads.arcs))
     only b m =
-        let r = contains_at b xs m in
+        let r = element_place 0 b xs m in
         let a = subst (λ c. HasArc w.setup.question.roads c × ((arc_of w.setup.question.roads c).head ≡ v)) r.2 (arc_into w.setup.question.roads v r.0 xs o r.1) in (
           turned_tail (network w.setup.question.roads w.setup.question.source) b (λ z. let h = a.0.0 in omega (arith, z, h)) ∙ head-arc w.setup.question.roads w.setup.question.source b a.0.0 ∙ a.1,
           omega arith,
@@ -63,7 +66,7 @@ listed_into w old v xs e l o =
       | inl z ↦ absurd (let q : (turned (network w.setup.question.roads w.setup.question.source)).tail b ≡ 0 = cond-true {A = ℕ} (eqb b 0) 0 ((network w.setup.question.roads w.setup.question.source).head b) (eq-eqb b 0 z) in omega (arith, q, t, l))
       | inr nz ↦ (let low : 1 ≤ b = omega (arith, nz) in let high : b ≤ length w.setup.question.roads.arcs = omega (arith, h) in
           let c = (o.complete b).1 ((low, high), sym (head-arc w.setup.question.roads w.setup.question.source b low) ∙ sym (turned_tail (network w.setup.question.roads w.setup.question.source) b nz) ∙ t) in
-          contains_from b xs c.0 c.1 (get_or_default xs c.0 0 b c.1 ∙ c.2))
+          element_at 0 b xs c.0 c.1 (get_or_default xs c.0 0 b c.1 ∙ c.2))
     ]
 
 -- what a test of two shards tells

@@ -7,7 +7,10 @@ use Rattle.scholten_core.specs.Network.{Network, WellFormed}
 use Rattle.scholten_core.specs.Diffusion.{CoreState, step, is_enabled}
 use Rattle.scholten_core.specs.Sums.{one_if}
 use Rattle.scholten_core.specs.Shares.{Agree}
-use Rattle.shard_part.specs.PartState.{Setup, PartData, network_in, place_in, state_in, total, event_of, part_weight, mail_weight, mine, is, All, HandledItemIn, HandledItem, HandledAll, AllEnabled, HoldsTables, HoldsShare, Holds, ShowsIn, Shows}
+use Rattle.shard_part.specs.PartState.{Setup, PartData, network_in, place_in, state_in, event_of, mine}
+use Rattle.shard_part.specs.Weights.{total, part_weight, mail_weight, is, All}
+use Rattle.shard_part.specs.Handling.{HandledItemIn, HandledItem, HandledAll}
+use Rattle.shard_part.specs.Shows.{AllEnabled, HoldsTables, HoldsShare, Holds, ShowsIn, Shows}
 use Rattle.scholten_core.proofs.Kept.{Kept, step_kept}
 use Rattle.shard_part.proofs.Weights.{total_append}
 use Rattle.shard_part.proofs.Routed.{outs_none}

@@ -6,7 +6,10 @@ use Rattle.path_algebra.specs.Algebra.{Algebra}
 use Rattle.scholten_core.specs.Network.{Network, WellFormed}
 use Rattle.scholten_core.specs.Sums.{one_if}
 use Rattle.scholten_core.specs.Items.{item_arc}
-use Rattle.shard_part.specs.PartState.{PartData, Lanes, lanes_of, state_in, engages, idles, is, All, IsArc, IsSound, part_weight, vertex_of, maker_of, route}
+use Rattle.shard_part.specs.PartState.{PartData, state_in, IsArc, vertex_of, maker_of}
+use Rattle.shard_part.specs.Weights.{Lanes, lanes_of, is, All, part_weight}
+use Rattle.shard_part.specs.Sound.{engages, idles, IsSound}
+use Rattle.shard_part.specs.Handling.{route}
 use Rattle.shard_part.proofs.Showing.{all_append}
 use Rattle.shard_part.proofs.Routed.{routed}
 

@@ -5,7 +5,10 @@ use Rattle.path_algebra.specs.Algebra.{Algebra}
 use Rattle.scholten_core.specs.declared.item.Item.{Item}
 use Rattle.scholten_core.specs.Sums.{sum_below, one_if}
 use Rattle.shard_part.specs.Tables.{placed}
-use Rattle.shard_part.specs.PartState.{Setup, network_in, place_in, own_in, total, outbox_bound, queue_bound}
+use Rattle.shard_part.specs.PartState.{Setup, network_in, place_in}
+use Rattle.shard_part.specs.Outgoing.{own_in}
+use Rattle.shard_part.specs.Weights.{total}
+use Rattle.shard_part.specs.Capacities.{outbox_bound, queue_bound}
 use Rattle.shard_part.specs.Moves.{Rows, seen_as, IsPlanned, IsStored}
 use Rattle.shard_part.specs.Opening.{ShardLayoutData, is_first, first_items, opened_part, idle_rows, AreStarts, CountsAll}
 use Rattle.shard_part.proofs.Counting.{total_index}

@@ -17,7 +17,10 @@ use Rattle.scholten_core.proofs.Kept.{Kept, step_kept, run_kept}
 use Rattle.scholten_core.proofs.Ended.{opening_kept}
 use Rattle.scholten_core.proofs.Counts.{accounts}
 use Rattle.shard_part.specs.Tallies.{counted_on, top}
-use Rattle.shard_part.specs.PartState.{PartData, Setup, network_in, place_in, state_in, total, is_told, is_back, made, in_flight, part_weight, event_of, HandledItemIn, HandledAll, HoldsShare, Holds}
+use Rattle.shard_part.specs.PartState.{PartData, Setup, network_in, place_in, state_in, event_of}
+use Rattle.shard_part.specs.Weights.{total, is_told, is_back, in_flight, part_weight}
+use Rattle.shard_part.specs.Handling.{made, HandledItemIn, HandledAll}
+use Rattle.shard_part.specs.Shows.{HoldsShare, Holds}
 use Rattle.shard_part.specs.Moves.{IsTallied}
 use Rattle.shard_part.specs.Part.{HandledFront, HandledMany, IsRunOn}
 use Rattle.shard_part.proofs.TakenIsEvent.{handled_event, handled_weighs}

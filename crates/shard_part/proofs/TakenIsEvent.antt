@@ -7,13 +7,18 @@ use Rattle.scholten_core.specs.declared.event.Event.TheVariants.{Accept}
 use Rattle.scholten_core.specs.declared.item.Item.{Item}
 use Rattle.scholten_core.specs.declared.item.Item.TheVariants.{Message as MessageOn, Signal as SignalOn}
 use Rattle.path_algebra.specs.Algebra.{Algebra}
+use Rattle.path_algebra.proofs.Least.{same_no_worse}
 use Rattle.path_algebra.specs.Algebra.{IsLawful as Lawful}
 use Rattle.scholten_core.specs.Network.{Network, WellFormed}
 use Rattle.scholten_core.specs.Diffusion.{CoreState, arrive, freed, step, answer_to, is_enabled, is_message, is_signal}
 use Rattle.scholten_core.specs.Sums.{one_if}
 use Rattle.scholten_core.specs.Items.{item_arc, item_of, settle_made}
 use Rattle.scholten_core.specs.Shares.{Agree}
-use Rattle.shard_part.specs.PartState.{PartData, state_in, total, vertex_of, outgoing, taken, made, arrive_here, in_flight, at_place, event_of, lanes_weight, lanes_of, part_weight, mine, HandledItemIn, HoldsTables, HoldsShare}
+use Rattle.shard_part.specs.PartState.{PartData, state_in, vertex_of, event_of, mine}
+use Rattle.shard_part.specs.Weights.{total, in_flight, at_place, lanes_weight, lanes_of, part_weight}
+use Rattle.shard_part.specs.Outgoing.{outgoing}
+use Rattle.shard_part.specs.Handling.{taken, made, arrive_here, HandledItemIn}
+use Rattle.shard_part.specs.Shows.{HoldsTables, HoldsShare}
 use Rattle.scholten_core.proofs.Kept.{Kept, head_real}
 use Rattle.scholten_core.proofs.Shares.{agree_then, message_frame, signal_frame, freed_agree}
 use Rattle.shard_part.proofs.Here.{arrive_here_agree, message_here, signal_here}
@@ -32,10 +37,7 @@ module _ {V : Type 0} (A : Algebra V) where
 
   same_self : Lawful A → (i : Item V) → same_item i i ≡ true
   unfolding same_item
-  same_self L (MessageOn a x) = and_from _ _ (eq-eqb a a refl) (and_from _ _ (worse x) (worse x))
-    where
-      worse : (x : V) → A.no_worse x x ≡ true
-      worse x = elim (L.ordered.total x x) [ inl h ↦ h | inr h ↦ h ]
+  same_self L (MessageOn a x) = and_from _ _ (eq-eqb a a refl) (and_from _ _ (same_no_worse A.no_worse L.ordered x) (same_no_worse A.no_worse L.ordered x))
   same_self L (SignalOn a) = eq-eqb a a refl
 
   same_true : Lawful A → (i j : Item V) → same_item i j ≡ true → j ≡ i

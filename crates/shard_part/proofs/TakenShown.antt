@@ -9,7 +9,9 @@ use Rattle.scholten_core.specs.Network.{WellFormed}
 use Rattle.scholten_core.specs.Diffusion.{CoreState, step, run_from, opening, state_after, count_enabled, is_enabled}
 use Rattle.scholten_core.proofs.Kept.{Kept, step_kept, run_kept}
 use Rattle.scholten_core.proofs.Ended.{opening_kept}
-use Rattle.shard_part.specs.PartState.{PartData, Setup, network_in, event_of, HandledAll, Shows}
+use Rattle.shard_part.specs.PartState.{PartData, Setup, network_in, event_of}
+use Rattle.shard_part.specs.Handling.{HandledAll}
+use Rattle.shard_part.specs.Shows.{Shows}
 use Rattle.shard_part.specs.Part.{HandledMany, IsShownOn}
 use Rattle.shard_part.proofs.Showing.{AllLawful, handled_shows}
 use Rattle.shard_part.proofs.TakenCounts.{run_append}

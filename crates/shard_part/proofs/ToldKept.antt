@@ -6,7 +6,8 @@ use Rattle.path_algebra.specs.Algebra.{IsLawful as Lawful}
 use Rattle.scholten_core.specs.Network.{WellFormed}
 use Rattle.scholten_core.specs.Diffusion.{is_idle}
 use Rattle.scholten_core.proofs.Basics.{idle-true}
-use Rattle.shard_part.specs.PartState.{PartData, Setup, network_in, place_in, state_in, mine, taken, HandledItem, HandledItemIn}
+use Rattle.shard_part.specs.PartState.{PartData, Setup, network_in, place_in, state_in, mine}
+use Rattle.shard_part.specs.Handling.{taken, HandledItem, HandledItemIn}
 use Rattle.shard_part.specs.Moves.{Rows, IsStored, IsPlanned, IsPopped, with_taken}
 use Rattle.shard_part.specs.Part.{OwnIdleIsTold}
 use Rattle.shard_part.specs.Opening.{opened_part}

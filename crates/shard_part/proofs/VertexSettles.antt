@@ -10,7 +10,9 @@ use Rattle.scholten_core.specs.Shares.{Agree}
 use Rattle.scholten_core.proofs.Basics.{put_tells}
 use Rattle.scholten_core.proofs.Shares.{out_idle_agree}
 use Rattle.shard_part.specs.Tallies.{counted_on, top}
-use Rattle.shard_part.specs.PartState.{PartData, lanes_of, network_in, place_in, state_in, total, is_told, is_back, routes, rest_here, settle_here}
+use Rattle.shard_part.specs.PartState.{PartData, network_in, place_in, state_in}
+use Rattle.shard_part.specs.Weights.{lanes_of, total, is_told, is_back}
+use Rattle.shard_part.specs.Handling.{routes, rest_here, settle_here}
 use Rattle.shard_part.specs.Moves.{offered_all, rested, rested_by}
 use Rattle.shard_part.proofs.Routed.{routes-append}
 use Rattle.shard_part.proofs.OffersArePumped.{counted_none, counted_append, counted_top, listed_or, made_no_back, Offers, offers}

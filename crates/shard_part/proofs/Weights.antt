@@ -6,7 +6,7 @@ use Rattle.path_algebra.specs.Algebra.{Algebra}
 use Rattle.scholten_core.specs.Network.{Network}
 use Rattle.scholten_core.specs.Sums.{sum_below}
 use Rattle.scholten_core.specs.Items.{item_arc, at}
-use Rattle.shard_part.specs.PartState.{total}
+use Rattle.shard_part.specs.Weights.{total}
 use Rattle.scholten_core.proofs.Items.{at-first, at-skip, at-nil}
 pub use Rattle.scholten_core.proofs.Sums.{sum_below_same, sum_at, sum_zero}
 

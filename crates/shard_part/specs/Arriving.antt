@@ -2,7 +2,9 @@
 use Rattle.std.specs.Prelude.{◌≡◌, ℕ, ◌+◌, ◌≤◌, List, ◌++◌, length}
 use Rattle.scholten_core.specs.declared.item.Item.{Item}
 use Rattle.path_algebra.specs.Algebra.{Algebra}
-use Rattle.shard_part.specs.PartState.{PartData, Setup, network_in, place_in, maker_of, All, queue_bound}
+use Rattle.shard_part.specs.PartState.{PartData, Setup, network_in, place_in, maker_of}
+use Rattle.shard_part.specs.Weights.{All}
+use Rattle.shard_part.specs.Capacities.{queue_bound}
 use Rattle.shard_part.specs.Exchange.{Fits}
 
 module _ {S V : Type 0} where

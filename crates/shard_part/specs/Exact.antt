@@ -7,7 +7,10 @@ use Rattle.scholten_core.specs.Network.{Network}
 use Rattle.scholten_core.specs.Diffusion.{CoreState, run_from}
 use Rattle.scholten_core.specs.Accounts.{Totals, sent_total, delivered_total, signalled_total, accepted_total}
 use Rattle.shard_part.specs.Tallies.{top}
-use Rattle.shard_part.specs.PartState.{PartData, Setup, network_in, state_in, total, is_told, is_back, made, event_of, HandledAll, Shows}
+use Rattle.shard_part.specs.PartState.{PartData, Setup, network_in, state_in, event_of}
+use Rattle.shard_part.specs.Weights.{total, is_told, is_back}
+use Rattle.shard_part.specs.Handling.{made, HandledAll}
+use Rattle.shard_part.specs.Shows.{Shows}
 
 abbrev pub no_totals : Totals
 no_totals = record { sent = 0; delivered = 0; signalled = 0; accepted = 0 }

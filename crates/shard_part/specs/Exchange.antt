@@ -5,7 +5,8 @@ use Rattle.scholten_core.specs.declared.item.Item.TheVariants.{Message as Messag
 use Rattle.path_algebra.specs.Algebra.{Algebra}
 use Rattle.road_graph.specs.Roads.{HasArc}
 use Rattle.scholten_core.specs.Items.{item_arc}
-use Rattle.shard_part.specs.PartState.{PartData, network_in, place_in, state_in, counted, part_weight, is, All}
+use Rattle.shard_part.specs.PartState.{PartData, network_in, place_in, state_in}
+use Rattle.shard_part.specs.Weights.{counted, part_weight, is, All}
 
 -- the arc comes from another shard into this one and is no engager here
 abbrev pub MayEngage : {S V : Type 0} → PartData S V → ℕ → Type 0

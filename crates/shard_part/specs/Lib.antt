@@ -3,6 +3,13 @@ pub mod Plans
 pub mod Tallies
 pub mod Tables
 pub mod PartState
+pub mod Weights
+pub mod Outgoing
+pub mod Capacities
+pub mod Sound
+pub mod ItemPlaces
+pub mod Handling
+pub mod Shows
 pub mod Queue
 pub mod Moves
 pub mod Part

@@ -10,7 +10,12 @@ use Rattle.shard_part.specs.Plans.{IsPlan}
 use Rattle.shard_part.specs.Tallies.{counted_on, top}
 use Rattle.shard_part.specs.Tables.{spread}
 use Rattle.scholten_core.specs.Deficit.{busy_out}
-use Rattle.shard_part.specs.PartState.{PartData, Setup, lanes_of, network_in, place_in, state_in, own_in, arcs_out, outgoing, route, IsSound, queue_bound, outbox_bound, IsArc, IsClear, vertex_of}
+use Rattle.shard_part.specs.PartState.{PartData, Setup, network_in, place_in, state_in, IsArc, vertex_of}
+use Rattle.shard_part.specs.Weights.{lanes_of}
+use Rattle.shard_part.specs.Outgoing.{own_in, arcs_out, outgoing}
+use Rattle.shard_part.specs.Handling.{route}
+use Rattle.shard_part.specs.Sound.{IsSound, IsClear}
+use Rattle.shard_part.specs.Capacities.{queue_bound, outbox_bound}
 use Rattle.shard_part.specs.declared.tables.Tables.{Tables}
 
 -- the values of the tables, by place

@@ -5,7 +5,10 @@ use Rattle.scholten_core.specs.declared.item.Item.TheVariants.{Message as Messag
 use Rattle.path_algebra.specs.Algebra.{Algebra}
 use Rattle.scholten_core.specs.Network.{Network}
 use Rattle.scholten_core.specs.Sums.{one_if}
-use Rattle.shard_part.specs.PartState.{Setup, PartData, place_in, network_in, arcs_out, outgoing, total, is, outbox_bound}
+use Rattle.shard_part.specs.PartState.{Setup, PartData, place_in, network_in}
+use Rattle.shard_part.specs.Outgoing.{arcs_out, outgoing}
+use Rattle.shard_part.specs.Weights.{total, is}
+use Rattle.shard_part.specs.Capacities.{outbox_bound}
 use Rattle.shard_part.specs.Moves.{Rows}
 
 -- the source's part is the environment's too

@@ -7,7 +7,10 @@ use Rattle.path_algebra.specs.Algebra.{Algebra}
 use Rattle.scholten_core.specs.Diffusion.{state_after, count_enabled}
 use Rattle.scholten_core.specs.Accounts.{sent_total, delivered_total, signalled_total, accepted_total}
 use Rattle.shard_part.specs.Tallies.{counted_on}
-use Rattle.shard_part.specs.PartState.{PartData, Setup, network_in, place_in, state_in, in_flight, part_weight, event_of, HandledItem, HandledAll, Holds, Shows}
+use Rattle.shard_part.specs.PartState.{PartData, Setup, network_in, place_in, state_in, event_of}
+use Rattle.shard_part.specs.Weights.{in_flight, part_weight}
+use Rattle.shard_part.specs.Handling.{HandledItem, HandledAll}
+use Rattle.shard_part.specs.Shows.{Holds, Shows}
 
 -- an idle arc out of a vertex of the part has been told the vertex's label
 abbrev pub OwnIdleIsTold : {S V : Type 0} → PartData S V → Type 0

@@ -2,7 +2,9 @@
 ghost use Rattle.std.specs.Prelude.{◌≡◌, ◌≢◌, ℕ, ◌+◌, ◌<◌, ◌≤◌, ◌^◌, eqb, cond, get_or, length, replicate, IfOk};
 ghost use Rattle.road_graph.specs.Roads.{HasVertex, ListsArcsFrom, ListsArcsInto};
 ghost use Rattle.shard_part.specs.Tables.{placed};
-ghost use Rattle.shard_part.specs.PartState.{network_in, place_in, own_in, outgoing, total, is};
+ghost use Rattle.shard_part.specs.PartState.{network_in, place_in};
+ghost use Rattle.shard_part.specs.Outgoing.{own_in, outgoing};
+ghost use Rattle.shard_part.specs.Weights.{total, is};
 ghost use Rattle.shard_part.specs.Opening.{is_first, AreStarts, CountsOut, CountsInto, CountsAll};
 
 use crate::plan::Plan;

@@ -1,6 +1,6 @@
 ghost use Rattle.std.specs.Prelude.{◌≡◌, ◌+◌, ◌<◌, ◌≤◌, ◌++◌, [], ◌∷◌, length, drop, slice_get, leb, IfOk, vec_capacity};
 ghost use Rattle.circular_buffer.specs.Buffer.{buffer};
-ghost use Rattle.shard_part.specs.PartState.{counted};
+ghost use Rattle.shard_part.specs.Weights.{counted};
 
 use crate::batch::{Batch, stands_in};
 use road_graph::{ArcNo, Memory};

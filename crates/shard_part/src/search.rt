@@ -17,26 +17,7 @@ pub(crate) fn find_vertex(list: &[Vertex], v: Vertex) -> usize
             return (v.0 - low.0) as usize + 1;
         }
     }
-    halve(list, v)
-}
-
-/// Where a vertex stands in an increasing list, by halving.
-fn halve(list: &[Vertex], v: Vertex) -> usize
-    requires increasing { IsStrictlyIncreasing list.now }
-    requires contained { Contains list.now v }
-    ensures inside { result < length list.now }
-    ensures found { slice_index list.now result ≡ v }
-{
-    let mut low = 0;
-    let mut high = list.len();
-    while high - low > 1 {
-        let middle = low + (high - low) / 2;
-        let there = list[middle];
-        if there.0 <= v.0 {
-            low = middle;
-        } else {
-            high = middle;
-        }
+    match list.binary_search(&v) {
+        Ok(at) | Err(at) => at,
     }
-    low
 }

@@ -7,7 +7,8 @@ use Rattle.scholten_core.proofs.EveryAccount.{totals_are_equal}
 use Rattle.scholten_core.proofs.EveryRun.{ended_is_quiet}
 use Rattle.shard_part.specs.declared.tally.Tally.{Tally}
 use Rattle.shard_part.specs.Moves.{IsPlanned}
-use Rattle.shard_part.specs.PartState.{Setup, network_in, All, total}
+use Rattle.shard_part.specs.PartState.{Setup, network_in}
+use Rattle.shard_part.specs.Weights.{All, total}
 use Rattle.shard_part.specs.Tallies.{tally_of}
 use Rattle.shard_part.proofs.Showing.{AllLawful}
 use Rattle.post_floor.specs.declared.view.View.{View}

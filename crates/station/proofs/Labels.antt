@@ -1,24 +1,23 @@
 -- A label stays or improves, whatever items are taken.
 use Rattle.std.proofs.Common.{◌≡◌, ℕ, zero, suc, Bool, true, false, Option, Some, None, IsTrue, List, [], ◌∷◌, refl, sym, ap, ◌∙◌, subst, inl, inr, eq-eqb}
 use Rattle.path_algebra.specs.Algebra.{Algebra, IsLawful}
+use Rattle.path_algebra.proofs.Least.{same_no_worse}
 use Rattle.scholten_core.specs.declared.item.Item.{Item}
 use Rattle.scholten_core.specs.declared.item.Item.TheVariants.{Message as MessageOn, Signal as SignalOn}
 use Rattle.scholten_core.specs.Network.{Network}
 use Rattle.scholten_core.specs.Diffusion.{CoreState, better_of, pump, out_idle, freed}
 use Rattle.scholten_core.proofs.Basics.{better_tells, put_tells}
 use Rattle.shard_part.specs.Arriving.{joined}
-use Rattle.shard_part.specs.PartState.{PartData, Setup, network_in, place_in, state_in, arrive_here, rest_here, settle_here, settle_tail_here, taken, HandledAll}
+use Rattle.shard_part.specs.PartState.{PartData, Setup, network_in, place_in, state_in}
+use Rattle.shard_part.specs.Handling.{arrive_here, rest_here, settle_here, settle_tail_here, taken, HandledAll}
 use Rattle.shard_part.specs.Part.{HandledMany}
 use Rattle.shard_part.proofs.Showing.{AllLawful}
 use Rattle.post_floor.specs.Plays.{sent_off}
 use Rattle.station.specs.Turn.{StaysOrImproves, received, SentOff}
 
 module _ {V : Type 0} (A : Algebra V) where
-  pub no_worse_self : IsLawful A → (x : V) → IsTrue (A.no_worse x x)
-  no_worse_self L x = elim (L.ordered.total x x) [ inl h ↦ h | inr h ↦ h ]
-
   same_label : IsLawful A → (a b : Option V) → b ≡ a → StaysOrImproves A a b
-  same_label L a b e x q = (x, e ∙ q, no_worse_self L x)
+  same_label L a b e x q = (x, e ∙ q, same_no_worse A.no_worse L.ordered x)
 
   improved_twice : IsLawful A → (a b c : Option V) → StaysOrImproves A a b → StaysOrImproves A b c → StaysOrImproves A a c
   improved_twice L a b c s t x q = let (y, p, n) = s x q in let (z, r, m) = t y p in (z, r, L.ordered.transitive z y x m n)
@@ -39,7 +38,7 @@ module _ {V : Type 0} (A : Algebra V) where
     arrived : IsLawful A → (a : ℕ) (x : V) (d : CoreState V) (v : ℕ) → StaysOrImproves A (d.label v) ((arrive_here A N a x d).label v)
     arrived L a x d v y q = elim (put_tells d.label (N.head a) (better_of A x (d.label (N.head a))) v) [
       | inl h ↦ (let (z, e, n, better, o) = better_tells A N L x (d.label (N.head a)) in (z, h.1 ∙ e, better y (ap d.label (sym h.0) ∙ q)))
-      | inr h ↦ (y, h.1 ∙ q, no_worse_self L y)
+      | inr h ↦ (y, h.1 ∙ q, same_no_worse A.no_worse L.ordered y)
     ]
 
     one_item : IsLawful A → (i : Item V) (d : CoreState V) (v : ℕ) → StaysOrImproves A (d.label v) ((taken A N i d).label v)

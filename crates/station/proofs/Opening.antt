@@ -5,7 +5,9 @@ use Rattle.std.proofs.lemmas.List.{length-map, length_push}
 use Rattle.std.proofs.lemmas.List.Elements.{All-map, All-weaker}
 use Rattle.path_algebra.specs.Algebra.{Algebra}
 use Rattle.shard_part.specs.Opening.{opened_part, opened_parts}
-use Rattle.shard_part.specs.PartState.{PartData, Setup, All, Holds, network_in}
+use Rattle.shard_part.specs.PartState.{PartData, Setup, network_in}
+use Rattle.shard_part.specs.Weights.{All}
+use Rattle.shard_part.specs.Shows.{Holds}
 use Rattle.scholten_core.specs.Diffusion.{state_after}
 use Rattle.post_floor.specs.Data.{FloorData}
 use Rattle.post_floor.specs.Plays.{Known}
@@ -33,9 +35,9 @@ some_seat f ps qs p ds e m h = let a = ap length (sym h ∙ m) in let b = length
 
 module _ {S V : Type 0} (meaning : S → Algebra V) where
   -- parts as they are opened are fresh
-  pub all_fresh : (f : FloorData S) (t : Setup S) (k n : ℕ) → f.question ≡ t → All (Known meaning) (opened_parts (meaning t.question.algebra) t k n) → All (IsFreshPart meaning f) (opened_parts (meaning t.question.algebra) t k n)
+  pub all_fresh : (f : FloorData S) (t : Setup S) (k n : ℕ) → f.setup ≡ t → All (Known meaning) (opened_parts (meaning t.question.algebra) t k n) → All (IsFreshPart meaning f) (opened_parts (meaning t.question.algebra) t k n)
   all_fresh f t k zero e h = tt
-  all_fresh f t k (suc n) e h = ((sym e, opened_shows (meaning t.question.algebra) t k f.question.plan.shards, h.0), all_fresh f t (suc k) n e h.1)
+  all_fresh f t k (suc n) e h = ((sym e, opened_shows (meaning t.question.algebra) t k f.setup.plan.shards, h.0), all_fresh f t (suc k) n e h.1)
 
 each : {X : Type 0} (P : X → Type 0) (xs : List X) → All P xs → Each P xs
 each P (x ∷ xs) h zero d l = h.0
@@ -43,22 +45,22 @@ each P (x ∷ xs) h (suc i) d l = each P xs h.1 i d (omega (arith, l))
 each P [] h i d l = absurd (omega (arith, l))
 
 module _ {S V : Type 0} where
-  first_setup : (A : Algebra V) (f : FloorData S) (t : Setup S) (n : ℕ) → 1 ≤ n → All (λ p. p.setup ≡ f.question) (opened_parts A t 0 n) → f.question ≡ t
+  first_setup : (A : Algebra V) (f : FloorData S) (t : Setup S) (n : ℕ) → 1 ≤ n → All (λ p. p.setup ≡ f.setup) (opened_parts A t 0 n) → f.setup ≡ t
   first_setup A f t zero l h = absurd (omega (arith, l))
   first_setup A f t (suc n) l h = sym h.0
 
   -- the question of the floor is the parts' own
-  pub floor_question : (A : Algebra V) (f : FloorData S) (t : Setup S) (ps : List (PartData S V)) → 1 ≤ t.plan.shards → ps ≡ opened_parts A t 0 t.plan.shards → All (λ p. p.setup ≡ f.question) ps → f.question ≡ t
-  floor_question A f t ps l e h = first_setup A f t t.plan.shards l (subst (All (λ p. p.setup ≡ f.question)) e h)
+  pub floor_question : (A : Algebra V) (f : FloorData S) (t : Setup S) (ps : List (PartData S V)) → 1 ≤ t.plan.shards → ps ≡ opened_parts A t 0 t.plan.shards → All (λ p. p.setup ≡ f.setup) ps → f.setup ≡ t
+  floor_question A f t ps l e h = first_setup A f t t.plan.shards l (subst (All (λ p. p.setup ≡ f.setup)) e h)
 
   -- a floor and stations of parts as they are opened
   pub are_opened : (meaning : S → Algebra V) (f : FloorData S) (t : Setup S) (ps : List (PartData S V)) (stations : List (StationData S V)) → 1 ≤ t.plan.shards → ps ≡ opened_parts (meaning t.question.algebra) t 0 t.plan.shards
-      → All (λ p. p.setup ≡ f.question) ps → stations ≡ map (station_of f.id f.question.plan.shards) ps → AreOpened meaning t f stations
+      → All (λ p. p.setup ≡ f.setup) ps → stations ≡ map (station_of f.id f.setup.plan.shards) ps → AreOpened meaning t f stations
   are_opened meaning f t ps stations l e h m =
-      let q : f.question ≡ t = floor_question (meaning t.question.algebra) f t ps l e h in
-      let station : PartData S V → StationData S V = station_of f.id f.question.plan.shards in
+      let q : f.setup ≡ t = floor_question (meaning t.question.algebra) f t ps l e h in
+      let station : PartData S V → StationData S V = station_of f.id f.setup.plan.shards in
       record {
         question = q;
         stations_are = m ∙ ap (λ (u : Setup S). map (station_of f.id u.plan.shards) ps) q ∙ ap (map (station_of f.id t.plan.shards)) e;
-        own = subst (Each (BelongsTo f)) (sym m) (All-map (BelongsTo f) station ps (All-weaker (λ p. p.setup ≡ f.question) (λ p. BelongsTo f (station p)) (λ p s. record { floor = refl; question = s }) ps (each (λ p. p.setup ≡ f.question) ps h)));
+        own = subst (Each (BelongsTo f)) (sym m) (All-map (BelongsTo f) station ps (All-weaker (λ p. p.setup ≡ f.setup) (λ p. BelongsTo f (station p)) (λ p s. record { floor = refl; question = s }) ps (each (λ p. p.setup ≡ f.setup) ps h)));
       }

@@ -8,7 +8,8 @@ use Rattle.scholten_core.specs.declared.token.Token.{Token}
 use Rattle.scholten_core.specs.Diffusion.{CoreState, is_idle}
 use Rattle.scholten_core.specs.Items.{item_of}
 use Rattle.scholten_core.proofs.EveryRun.{ended_is_best}
-use Rattle.shard_part.specs.PartState.{PartData, network_in, place_in, token_if, total, in_flight, at_place}
+use Rattle.shard_part.specs.PartState.{PartData, network_in, place_in, token_if}
+use Rattle.shard_part.specs.Weights.{total, in_flight, at_place}
 use Rattle.shard_part.specs.Moves.{IsPlanned}
 use Rattle.shard_part.proofs.Weights.{sum_below_same, sum_zero}
 use Rattle.shard_part.proofs.Room.{each_one, outs_member}

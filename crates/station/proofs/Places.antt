@@ -3,7 +3,8 @@ use Rattle.std.proofs.Common.{◌≡◌, ℕ, zero, suc, ◌+◌, ◌-◌, ◌<�
 use Rattle.std.proofs.lemmas.Bool.{cases_eq}
 use Rattle.std.proofs.lemmas.List.{get_or_append_left, get_or_push}
 use Rattle.shard_part.specs.Moves.{IsPlanned}
-use Rattle.shard_part.specs.PartState.{PartData, Setup, total, is}
+use Rattle.shard_part.specs.PartState.{PartData, Setup}
+use Rattle.shard_part.specs.Weights.{total, is}
 use Rattle.shard_part.specs.Plans.{HasPlanned, shard_in}
 use Rattle.shard_part.specs.Readings.{IsOwn}
 use Rattle.shard_part.proofs.Graphs.{place_vertex}

@@ -28,7 +28,7 @@ module _ {S V : Type 0} (meaning : S → Algebra V) where
       → Went (at_word (fill_box f b to) 2 (end_fill to (fill_box f b to) b.knows)) q c.knows → AreBehind meaning f c q
   fill_done f a b c p q to r ab w e bc g =
       let k = fill_box f a to in
-      let same : fill_box f b to ≡ k = ap (λ (s : ℕ). mailbox f.question.plan.shards s to (get_or b.knows.next_fill to 0)) ab.1 ∙ ap (λ (xs : List ℕ). mailbox f.question.plan.shards a.shard to (get_or xs to 0)) w.next_fill in
+      let same : fill_box f b to ≡ k = ap (λ (s : ℕ). mailbox f.setup.plan.shards s to (get_or b.knows.next_fill to 0)) ab.1 ∙ ap (λ (xs : List ℕ). mailbox f.setup.plan.shards a.shard to (get_or xs to 0)) w.next_fill in
       record {
         at = record { floor = bc.0 ∙ ab.0 ∙ r.at.floor; setup = ap (λ (z : PartData S V). z.setup) e ∙ r.at.setup; moved = stays c.knows q g.shows };
         shard = bc.1 ∙ ab.1 ∙ r.shard ∙ sym (ap (λ (z : PartData S V). z.shard) e);

@@ -4,7 +4,8 @@ use Rattle.std.proofs.lemmas.Bool.{leb-false}
 use Rattle.atomic_table.specs.Seated.{TableId}
 use Rattle.scholten_core.specs.Accounts.{Totals}
 use Rattle.shard_part.specs.declared.tally.Tally.{Tally}
-use Rattle.shard_part.specs.PartState.{PartData, All, total, is}
+use Rattle.shard_part.specs.PartState.{PartData}
+use Rattle.shard_part.specs.Weights.{All, total, is}
 use Rattle.shard_part.specs.Readings.{tally_in}
 use Rattle.shard_part.specs.Tallies.{top, tally_of, together}
 use Rattle.shard_part.proofs.Weights.{total_append}

@@ -2,12 +2,15 @@
 use Rattle.std.proofs.Common.{◌≡◌, ℕ, ◌+◌, ◌-◌, ◌*◌, ◌≤◌, Bool, true, false, Option, Some, None, IfSome, List, [], ◌∷◌, min, refl, sym, ap, ◌∙◌, subst, ◌⊎◌, inl, inr, arith, eq-eqb}
 use Rattle.std.proofs.lemmas.List.{append-nil}
 use Rattle.path_algebra.specs.Algebra.{Algebra}
+use Rattle.path_algebra.proofs.Least.{same_no_worse}
 use Rattle.path_algebra.specs.Walks.{IsWalkValue}
 use Rattle.scholten_core.specs.declared.event.Event.{Event}
 use Rattle.scholten_core.specs.Diffusion.{state_after}
 use Rattle.scholten_core.proofs.EveryRun.{labels_are_walk_values}
 use Rattle.shard_part.specs.Moves.{IsPlanned}
-use Rattle.shard_part.specs.PartState.{PartData, Setup, network_in, place_in, state_in, in_flight, part_weight, Holds}
+use Rattle.shard_part.specs.PartState.{PartData, Setup, network_in, place_in, state_in}
+use Rattle.shard_part.specs.Weights.{in_flight, part_weight}
+use Rattle.shard_part.specs.Shows.{Holds}
 use Rattle.shard_part.specs.Part.{HandledMany, IsRunOn}
 use Rattle.shard_part.specs.Readings.{IsOwn}
 use Rattle.shard_part.specs.Tallies.{top}
@@ -19,7 +22,7 @@ use Rattle.post_floor.specs.Plays.{ShowsPart, Known}
 use Rattle.station.specs.Station.{StationData, BelongsTo, HasEnded, IsStation}
 use Rattle.station.specs.Steps.{AreReady, AllCameIn, AllWentOff}
 use Rattle.station.specs.Turn.{Turned}
-use Rattle.station.proofs.Labels.{IsLike, no_worse_self, received_like, sent_like, sent_queue, labels_stay}
+use Rattle.station.proofs.Labels.{IsLike, received_like, sent_like, sent_queue, labels_stay}
 
 counts_none : (n m t : ℕ) → n ≡ min m t → n ≡ min (n + 0) t
 counts_none n m t e = omega (arith, e)
@@ -62,7 +65,7 @@ module _ {S V : Type 0} (meaning : S → Algebra V) where
       within = omega arith;
       all = inr (i.over e).part.queue;
     };
-    labels = λ v own x q. (x, q, no_worse_self (meaning s.part.setup.question.algebra) (L s.part.setup.question.algebra) x);
+    labels = λ v own x q. (x, q, same_no_worse (meaning s.part.setup.question.algebra).no_worse (L s.part.setup.question.algebra).ordered x);
     steps = omega arith;
     report = sym e;
     stays = λ _. (refl, refl);
@@ -97,7 +100,7 @@ module _ {S V : Type 0} (meaning : S → Algebra V) where
           all = elim all [ inl h ↦ inl h | inr h ↦ inr (sent_queue js emptied q je ∙ h) ];
         };
         labels = λ v own. labels_stay meaning L s.part filled emptied q handled v before T after own.1;
-        steps = all_steps s.seat.knows.steps a.knows.steps b.knows.steps d.knows.steps s.part.setup.plan.shards emptied.setup.plan.shards f.question.plan.shards x y z
+        steps = all_steps s.seat.knows.steps a.knows.steps b.knows.steps d.knows.steps s.part.setup.plan.shards emptied.setup.plan.shards f.setup.plan.shards x y z
             (ap (λ (t : Setup S). t.plan.shards) (sym whole ∙ ready.question)) (ap (λ (t : Setup S). t.plan.shards) (sym after.setup ∙ ready.question));
         report = refl;
         stays = λ e. absurd cc;

@@ -8,7 +8,8 @@ use Rattle.scholten_core.specs.declared.event.Event.{Event}
 use Rattle.scholten_core.specs.Accounts.{Totals, totals_of, AreEqualTotals}
 use Rattle.scholten_core.specs.Diffusion.{HasEnded, IsQuiet}
 use Rattle.shard_part.specs.declared.tally.Tally.{Tally}
-use Rattle.shard_part.specs.PartState.{Setup, network_in, total}
+use Rattle.shard_part.specs.PartState.{Setup, network_in}
+use Rattle.shard_part.specs.Weights.{total}
 use Rattle.shard_part.specs.Tallies.{tally_of}
 use Rattle.post_floor.specs.Data.{SeatData}
 use Rattle.post_floor.specs.Floor.{core_of}

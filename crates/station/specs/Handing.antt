@@ -2,7 +2,7 @@
 use Rattle.std.specs.Prelude.{◌≡◌, ℕ, ◌+◌, true, List}
 use Rattle.atomic_table.specs.Seated.{TableId}
 use Rattle.shard_part.specs.declared.tally.Tally.{Tally}
-use Rattle.shard_part.specs.PartState.{All, total, is}
+use Rattle.shard_part.specs.Weights.{All, total, is}
 use Rattle.shard_part.specs.Tallies.{tally_of}
 use Rattle.post_floor.specs.Data.{SeatData}
 use Rattle.station.specs.Gather.{counts_of}

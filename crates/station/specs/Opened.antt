@@ -16,10 +16,10 @@ station_of id n p = record { part = p; seat = seat_of id n p; ended = false }
 
 -- the part is of the floor's question, its seat shows it, and it holds its share of a state
 abbrev pub IsFreshPart : {S V : Type 0} → (S → Algebra V) → FloorData S → PartData S V → Type 0
-IsFreshPart meaning f p = (p.setup ≡ f.question) × ShowsPart (knows f.question.plan.shards (p ∷ [])) p × Known meaning p
+IsFreshPart meaning f p = (p.setup ≡ f.setup) × ShowsPart (knows f.setup.plan.shards (p ∷ [])) p × Known meaning p
 
 -- the floor is that of the question, and there is one station of it for each shard, in order, with its part as it is opened
 pub record AreOpened {S V : Type 0} (meaning : S → Algebra V) (t : Setup S) (f : FloorData S) (stations : List (StationData S V)) : Type 0 where
-  pub question : f.question ≡ t
+  pub question : f.setup ≡ t
   pub stations_are : stations ≡ map (station_of f.id t.plan.shards) (opened_parts (meaning t.question.algebra) t 0 t.plan.shards)
   pub own : All (BelongsTo f) stations

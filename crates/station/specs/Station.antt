@@ -17,7 +17,7 @@ pub record StationData (S V : Type 0) : Type 0 where
 -- the station was opened together with the floor
 pub record BelongsTo {S V : Type 0} (f : FloorData S) (s : StationData S V) : Type 0 where
   pub floor : s.seat.floor ≡ f.id
-  pub question : s.part.setup ≡ f.question
+  pub question : s.part.setup ≡ f.setup
 
 -- its last turn reported the end
 abbrev pub HasEnded : {S V : Type 0} → StationData S V → Type 0

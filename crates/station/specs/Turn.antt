@@ -4,7 +4,8 @@ use Rattle.path_algebra.specs.Algebra.{Algebra}
 use Rattle.scholten_core.specs.declared.event.Event.{Event}
 use Rattle.scholten_core.specs.declared.item.Item.{Item}
 use Rattle.shard_part.specs.Arriving.{joined}
-use Rattle.shard_part.specs.PartState.{PartData, state_in, Holds}
+use Rattle.shard_part.specs.PartState.{PartData, state_in}
+use Rattle.shard_part.specs.Shows.{Holds}
 use Rattle.shard_part.specs.Part.{HandledMany, IsRunOn}
 use Rattle.shard_part.specs.Readings.{IsOwn}
 use Rattle.post_floor.specs.Data.{FloorData}
@@ -51,6 +52,6 @@ module _ {S V : Type 0} (meaning : S → Algebra V) where
     pub shard : after.part.shard ≡ before.part.shard
     pub worked : Worked budget before.part r after.part
     pub labels : (v : ℕ) → IsOwn before.part v → StaysOrImproves (meaning before.part.setup.question.algebra) ((state_in before.part).label v) ((state_in after.part).label v)
-    pub steps : after.seat.knows.steps ≤ before.seat.knows.steps + 4 * (f.question.plan.shards - 1) + 1
+    pub steps : after.seat.knows.steps ≤ before.seat.knows.steps + 4 * (f.setup.plan.shards - 1) + 1
     pub report : r.ended ≡ after.ended
     pub stays : HasEnded before → (after ≡ before) × (r ≡ record { handled = 0; taken = 0; published = 0; ended = true })

@@ -122,11 +122,11 @@ fn label_at<A: PathAlgebra>(
     places: &[usize; 64],
     v: Vertex,
 ) -> Option<A::Value>
-    requires plan { plan.now ≡ floor.now.question.plan }
+    requires plan { plan.now ≡ floor.now.setup.plan }
     requires places { ArePlaces plan.now.shards stations.now places.now }
-    requires own { AreOf floor.now.question stations.now }
+    requires own { AreOf floor.now.setup stations.now }
     requires vertex { HasPlanned plan.now v }
-    ensures { IsBestLabel (A.meaning floor.now.question.question.algebra) floor.now.question.question.roads (floor.now.question.question.source ∷ []) v result }
+    ensures { IsBestLabel (A.meaning floor.now.setup.question.algebra) floor.now.setup.question.roads (floor.now.setup.question.source ∷ []) v result }
 {
     let _shards = plan.shards();
     let k = places[plan.shard_of(v).0 as usize];
@@ -141,11 +141,11 @@ fn label_list<A: PathAlgebra>(
     stations: &[Finished<'_, A>],
     places: &[usize; 64],
 ) -> Result<Vec<Option<A::Value>>, AllocError>
-    requires plan { plan.now ≡ floor.now.question.plan }
+    requires plan { plan.now ≡ floor.now.setup.plan }
     requires places { ArePlaces plan.now.shards stations.now places.now }
-    requires own { AreOf floor.now.question stations.now }
-    requires covers { length plan.now.list ≡ floor.now.question.question.roads.vertices }
-    ensures { IfOk result (λ v. AreBest (A.meaning floor.now.question.question.algebra) floor.now.question.question.roads (floor.now.question.question.source ∷ []) v.items) }
+    requires own { AreOf floor.now.setup stations.now }
+    requires covers { length plan.now.list ≡ floor.now.setup.question.roads.vertices }
+    ensures { IfOk result (λ v. AreBest (A.meaning floor.now.setup.question.algebra) floor.now.setup.question.roads (floor.now.setup.question.source ∷ []) v.items) }
 {
     let mut list = Vec::with_capacity(alloc, plan.vertices() as usize)?;
     for v in 0..plan.vertices() {
@@ -187,7 +187,7 @@ fn hand_over<'g, A: PathAlgebra>(
 fn plan_of<'g, A: PathAlgebra>(floor: &Floor<A>, stations: &[Finished<'g, A>]) -> &'g Plan
     requires own { All (BelongsTo floor.now) stations.now }
     requires some { 0 < length stations.now }
-    ensures { result.now ≡ floor.now.question.plan }
+    ensures { result.now ≡ floor.now.setup.plan }
 {
     stations[0].plan()
 }
@@ -199,12 +199,12 @@ fn collect<A: PathAlgebra>(
     stations: &[Finished<'_, A>],
 ) -> Result<(Vec<Option<A::Value>>, Vec<Seat<A>>), Why>
     requires own { All (BelongsTo floor.now) stations.now }
-    requires planned { IsPlanned floor.now.question 0 }
-    ensures planned { IsPlanned floor.now.question 0 }
-    ensures there { IfOk result (λ _. (j : ℕ) → j < floor.now.question.plan.shards → IsThere stations.now j) }
-    ensures labels { IfOk result (λ r. AreBest (A.meaning floor.now.question.question.algebra) floor.now.question.question.roads (floor.now.question.question.source ∷ []) r.0.items) }
+    requires planned { IsPlanned floor.now.setup 0 }
+    ensures planned { IsPlanned floor.now.setup 0 }
+    ensures there { IfOk result (λ _. (j : ℕ) → j < floor.now.setup.plan.shards → IsThere stations.now j) }
+    ensures labels { IfOk result (λ r. AreBest (A.meaning floor.now.setup.question.algebra) floor.now.setup.question.roads (floor.now.setup.question.source ∷ []) r.0.items) }
     ensures seats { IfOk result (λ r. (r.1.items ≡ []) × (vec_len r.1 + length stations.now ≤ vec_capacity r.1)) }
-    ensures refused { IfErr result (IsWhy floor.now.question.plan.shards stations.now) }
+    ensures refused { IfErr result (IsWhy floor.now.setup.plan.shards stations.now) }
 {
     if stations.is_empty() {
         return Err(Why::Missing(Shard(0)));
@@ -230,8 +230,8 @@ pub fn gather<'g, A: PathAlgebra>(
     stations: Vec<Finished<'g, A>>,
 ) -> Result<Gathered<A::Value>, Ungathered<'g, A>>
     requires { All (BelongsTo floor) stations.items }
-    ensures gathered { IfOk result (λ g. ((j : ℕ) → j < floor.question.plan.shards → IsThere stations.entry.items j) × IsGathered A.meaning floor.question g) }
-    ensures refused { IfErr result (λ u. (u.floor ≡ floor) × (u.stations.items ≡ stations.entry.items) × IsWhy floor.question.plan.shards stations.entry.items u.why) }
+    ensures gathered { IfOk result (λ g. ((j : ℕ) → j < floor.setup.plan.shards → IsThere stations.entry.items j) × IsGathered A.meaning floor.setup g) }
+    ensures refused { IfErr result (λ u. (u.floor ≡ floor) × (u.stations.items ≡ stations.entry.items) × IsWhy floor.setup.plan.shards stations.entry.items u.why) }
 {
     match collect(alloc, &floor, &stations) {
         Ok((labels, seats)) => {

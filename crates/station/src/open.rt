@@ -1,7 +1,7 @@
 //! Opening a question.
 ghost use Rattle.std.specs.Prelude.{◌≡◌, ◌<◌, [], ◌∷◌, ◌++◌, length, IfOk, OnOk, map};
 ghost use Rattle.road_graph.specs.Roads.{HasVertex};
-ghost use Rattle.shard_part.specs.PartState.{All};
+ghost use Rattle.shard_part.specs.Weights.{All};
 ghost use Rattle.shard_part.specs.Opening.{opened_parts};
 ghost use Rattle.post_floor.specs.Data.{seat_of};
 ghost use Rattle.post_floor.specs.Plays.{Known};
@@ -51,10 +51,10 @@ fn pair<'g, A: PathAlgebra>(
     mut parts: Vec<Part<'g, A>>,
     mut seats: Vec<Seat<A>>,
 ) -> Result<Vec<Station<'g, A>>, AllocError>
-    requires plan { plan.now ≡ floor.now.question.plan }
+    requires plan { plan.now ≡ floor.now.setup.plan }
     requires parts { All (IsFreshPart A.meaning floor.now) parts.items }
-    requires seats { seats.items ≡ map (seat_of floor.now.id floor.now.question.plan.shards) parts.items }
-    ensures { IfOk result (λ v. v.items ≡ map (station_of floor.now.id floor.now.question.plan.shards) parts.entry.items) }
+    requires seats { seats.items ≡ map (seat_of floor.now.id floor.now.setup.plan.shards) parts.items }
+    ensures { IfOk result (λ v. v.items ≡ map (station_of floor.now.id floor.now.setup.plan.shards) parts.entry.items) }
 {
     let mut stations = Vec::new(alloc);
     while let Some(part) = parts.pop() {

@@ -39,10 +39,10 @@ impl<'g, A: PathAlgebra> Model for Station<'g, A> {
 impl<'g, A: PathAlgebra> Station<'g, A> {
     /// A part that was just opened, with its seat.
     pub(crate) fn new(floor: &Floor<A>, plan: &'g Plan, part: Part<'g, A>, seat: Seat<A>) -> Self
-        requires plan { plan.now ≡ floor.now.question.plan }
+        requires plan { plan.now ≡ floor.now.setup.plan }
         requires part { IsFreshPart A.meaning floor.now part }
-        requires seat { seat ≡ seat_of floor.now.id floor.now.question.plan.shards part }
-        ensures { result ≡ station_of floor.now.id floor.now.question.plan.shards part.entry }
+        requires seat { seat ≡ seat_of floor.now.id floor.now.setup.plan.shards part }
+        ensures { result ≡ station_of floor.now.id floor.now.setup.plan.shards part.entry }
     {
         Station {
             part,

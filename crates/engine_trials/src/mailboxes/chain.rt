@@ -1,6 +1,6 @@
 //! A chain of vertices over 64 shards, run to its end on one thread.
 ghost use Rattle.std.specs.Prelude.{◌≡◌, ◌<◌, ◌≤◌, ◌+◌, ◌∷◌, [], map, length};
-ghost use Rattle.shard_part.specs.PartState.{All};
+ghost use Rattle.shard_part.specs.Weights.{All};
 ghost use Rattle.post_floor.specs.Data.{IsAt, seat_of};
 
 use super::{Ground, fetch, parts_of, send, work};
@@ -32,8 +32,8 @@ fn paired<'g, A: PathAlgebra>(
     mut seats: Vec<Seat<A>>,
     mut parts: Vec<Part<'g, A>>,
 ) -> VecDeque<(Seat<A>, Part<'g, A>)>
-    requires seats { seats.items ≡ map (seat_of floor.now.id floor.now.question.plan.shards) parts.items }
-    requires at { All (λ p. IsAt A.meaning floor.now (seat_of floor.now.id floor.now.question.plan.shards p) p) parts.items }
+    requires seats { seats.items ≡ map (seat_of floor.now.id floor.now.setup.plan.shards) parts.items }
+    requires at { All (λ p. IsAt A.meaning floor.now (seat_of floor.now.id floor.now.setup.plan.shards p) p) parts.items }
     ensures { All (λ x. IsAt A.meaning floor.now x.0 x.1) result.items }
 {
     let mut places = VecDeque::new(rt.alloc());
@@ -50,7 +50,7 @@ fn places<'g, A: PathAlgebra>(
     algebra: A,
     ground: &'g Ground,
 ) -> (Floor<A>, VecDeque<(Seat<A>, Part<'g, A>)>)
-    ensures plan { result.0.question.plan ≡ ground.now.plan }
+    ensures plan { result.0.setup.plan ≡ ground.now.plan }
     ensures at { All (λ x. IsAt A.meaning result.0 x.0 x.1) result.1.items }
 {
     let parts = parts_of(rt, algebra, ground);
@@ -68,7 +68,7 @@ fn fetch_other<A: PathAlgebra>(
     from: Shard,
 )
     requires at { IsAt A.meaning floor.now seat.old part.old }
-    requires from { from < floor.now.question.plan.shards }
+    requires from { from < floor.now.setup.plan.shards }
     ensures { IsAt A.meaning floor.now seat.new part.new }
 {
     if from == seat.shard() {
@@ -85,7 +85,7 @@ fn send_other<A: PathAlgebra>(
     to: Shard,
 )
     requires at { IsAt A.meaning floor.now seat.old part.old }
-    requires to { to < floor.now.question.plan.shards }
+    requires to { to < floor.now.setup.plan.shards }
     ensures { IsAt A.meaning floor.now seat.new part.new }
 {
     if to == seat.shard() || part.outgoing(to) == 0 {
@@ -101,7 +101,7 @@ fn turn<A: PathAlgebra>(
     seat: &mut Seat<A>,
     part: &mut Part<'_, A>,
 ) -> bool
-    requires plan { floor.now.question.plan ≡ plan.now }
+    requires plan { floor.now.setup.plan ≡ plan.now }
     requires at { IsAt A.meaning floor.now seat.old part.old }
     ensures { IsAt A.meaning floor.now seat.new part.new }
 {
@@ -126,7 +126,7 @@ fn round<'g, A: PathAlgebra>(
     plan: &Plan,
     places: &mut VecDeque<(Seat<A>, Part<'g, A>)>,
 ) -> bool
-    requires plan { floor.now.question.plan ≡ plan.now }
+    requires plan { floor.now.setup.plan ≡ plan.now }
     requires at { All (λ x. IsAt A.meaning floor.now x.0 x.1) places.old.items }
     ensures { All (λ x. IsAt A.meaning floor.now x.0 x.1) places.new.items }
 {
@@ -148,7 +148,7 @@ fn run<'g, A: PathAlgebra>(
     places: &mut VecDeque<(Seat<A>, Part<'g, A>)>,
     rounds: u32,
 )
-    requires plan { floor.now.question.plan ≡ plan.now }
+    requires plan { floor.now.setup.plan ≡ plan.now }
     requires at { All (λ x. IsAt A.meaning floor.now x.0 x.1) places.old.items }
     ensures { All (λ x. IsAt A.meaning floor.now x.0 x.1) places.new.items }
 {

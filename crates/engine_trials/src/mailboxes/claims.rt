@@ -16,7 +16,7 @@ fn both_at_once<A: PathAlgebra>(
     other: Shard,
 ) -> bool
     requires at { IsAt A.meaning floor.now seat.old part.old }
-    requires other { (other ≢ seat.old.shard) × (other < floor.now.question.plan.shards) }
+    requires other { (other ≢ seat.old.shard) × (other < floor.now.setup.plan.shards) }
     ensures at { IsAt A.meaning floor.now seat.new part.new }
     ensures shard { seat.new.shard ≡ seat.old.shard }
 {

@@ -3,7 +3,10 @@ ghost use Rattle.std.specs.Prelude.{◌≡◌, ◌≢◌, ◌+◌, ◌++◌, ◌
 ghost use Rattle.circular_buffer.specs.Buffer.{buffer};
 ghost use Rattle.road_graph.specs.Roads.{HasArc};
 ghost use Rattle.scholten_core.specs.Items.{item_arc};
-ghost use Rattle.shard_part.specs.PartState.{network_in, place_in, queue_bound, outbox_bound, part_weight, state_in, names, is};
+ghost use Rattle.shard_part.specs.PartState.{network_in, place_in, state_in};
+ghost use Rattle.shard_part.specs.Capacities.{queue_bound, outbox_bound};
+ghost use Rattle.shard_part.specs.Weights.{part_weight, is};
+ghost use Rattle.shard_part.specs.Sound.{names};
 ghost use Rattle.shard_part.specs.Moves.{IsPlace};
 ghost use Rattle.shard_part.specs.Exchange.{Fits, FitsAlone, FitsBefore, MayEngage, Awaits};
 

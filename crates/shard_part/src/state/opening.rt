@@ -4,7 +4,7 @@ ghost use Rattle.circular_buffer.specs.Buffer.{buffer};
 ghost use Rattle.road_graph.specs.Roads.{HasVertex};
 ghost use Rattle.scholten_core.specs.Network.{network};
 ghost use Rattle.scholten_core.specs.Diffusion.{state_after};
-ghost use Rattle.shard_part.specs.PartState.{Holds};
+ghost use Rattle.shard_part.specs.Shows.{Holds};
 ghost use Rattle.shard_part.specs.Moves.{rows_of};
 ghost use Rattle.shard_part.specs.Opening.{opened_part, first_items, idle_rows};
 

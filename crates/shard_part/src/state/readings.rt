@@ -1,7 +1,9 @@
 //! What may be read of a part.
 ghost use Rattle.std.specs.Prelude.{◌≡◌, ◌≢◌, ◌+◌, ◌<◌, suc, [], get_or, length, leb, IsTrue, ◌↔◌};
 ghost use Rattle.scholten_core.specs.Deficit.{busy_out};
-ghost use Rattle.shard_part.specs.PartState.{network_in, place_in, state_in, queue_bound, outbox_bound, IsSound};
+ghost use Rattle.shard_part.specs.PartState.{network_in, place_in, state_in};
+ghost use Rattle.shard_part.specs.Capacities.{queue_bound, outbox_bound};
+ghost use Rattle.shard_part.specs.Sound.{IsSound};
 ghost use Rattle.shard_part.specs.Moves.{IsPlanned, IsTallied};
 ghost use Rattle.shard_part.specs.Tallies.{top};
 ghost use Rattle.shard_part.specs.Readings.{IsOwn, has_ended, tally_in};

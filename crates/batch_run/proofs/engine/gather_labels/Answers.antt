@@ -10,5 +10,5 @@ gather-requires-after_bounds g c κs within = rw c.in_ok-finished.ensures c.requ
 pub unreachable-requires : goal.unreachable-requires
 unreachable-requires g c =
     let stations = c.in_ok-finished.finished.items in
-    let why = subst (λ (w : Why). IsWhy c.args.ended.floor.question.plan.shards stations w) c.in-Missing.is c.in-Err.ensures.refused.2 in
+    let why = subst (λ (w : Why). IsWhy c.args.ended.floor.setup.plan.shards stations w) c.in-Missing.is c.in-Err.ensures.refused.2 in
     not_missing c.in-Missing.field-0 stations (rw c.in_ok-finished.ensures (c.requires.all c.in-Missing.field-0 why.0)) why.1

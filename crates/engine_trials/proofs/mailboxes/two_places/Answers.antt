@@ -1,5 +1,5 @@
 use Rattle.std.proofs.Common.{rules, ◌≡◌, ◌++◌, ◌∷◌, [], ap, ◌∙◌, map}
-use Rattle.shard_part.specs.PartState.{All}
+use Rattle.shard_part.specs.Weights.{All}
 use Rattle.post_floor.specs.Data.{seat_of}
 use Rattle.engine_trials.proofs.TwoPlaces.{both_places}
 use Rattle.engine_trials.proofs.mailboxes.two_places.Goals as goal
@@ -12,7 +12,7 @@ returns-clause-first g c =
     let f = c.parts_of-parts.ensures in
     let r = c.expect-floor.result in
     let two : c.args.ground.now.plan.shards ≡ 2 = search rules in
-    let same : All (λ p. p.setup ≡ c.expect-floor.result.0.question) c.deref.result.now = search rules in
+    let same : All (λ p. p.setup ≡ c.expect-floor.result.0.setup) c.deref.result.now = search rules in
     let are : c.expect-floor.result.1.items ≡ map (seat_of c.expect-floor.result.0.id c.args.ground.now.plan.shards) c.deref.result.now = search rules in
     let s1 : c.expect-floor.result.1.items ≡ c.pop.new.self.items ++ c.expect-seat_1.result ∷ [] = search rules in
     let s0 : c.pop.new.self.items ≡ c.pop-2.new.self.items ++ c.expect-seat_0.result ∷ [] = search rules in
@@ -26,7 +26,7 @@ returns-clause-second g c =
     let f = c.parts_of-parts.ensures in
     let r = c.expect-floor.result in
     let two : c.args.ground.now.plan.shards ≡ 2 = search rules in
-    let same : All (λ p. p.setup ≡ c.expect-floor.result.0.question) c.deref.result.now = search rules in
+    let same : All (λ p. p.setup ≡ c.expect-floor.result.0.setup) c.deref.result.now = search rules in
     let are : c.expect-floor.result.1.items ≡ map (seat_of c.expect-floor.result.0.id c.args.ground.now.plan.shards) c.deref.result.now = search rules in
     let s1 : c.expect-floor.result.1.items ≡ c.pop.new.self.items ++ c.expect-seat_1.result ∷ [] = search rules in
     let s0 : c.pop.new.self.items ≡ c.pop-2.new.self.items ++ c.expect-seat_0.result ∷ [] = search rules in

@@ -1,6 +1,7 @@
 use Rattle.std.proofs.Common.{◌≡◌, ◌<◌, ◌≤◌, length, map}
 use Rattle.std.specs.Prelude.{ℕ}
-use Rattle.shard_part.specs.PartState.{Setup, total, is}
+use Rattle.shard_part.specs.PartState.{Setup}
+use Rattle.shard_part.specs.Weights.{total, is}
 use Rattle.post_floor.specs.declared.view.View.{View}
 use Rattle.post_floor.specs.Claims.{before}
 use Rattle.post_floor.specs.Data.{AreOpen}

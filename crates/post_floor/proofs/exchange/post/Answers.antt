@@ -1,5 +1,6 @@
 use Rattle.std.proofs.Common.{◌∙◌, ap, rules, subst}
-use Rattle.shard_part.specs.PartState.{network_in, place_in, IsSound}
+use Rattle.shard_part.specs.PartState.{network_in, place_in}
+use Rattle.shard_part.specs.Sound.{IsSound}
 use Rattle.post_floor.proofs.Called.{has_now, publishing}
 use Rattle.post_floor.proofs.exchange.post.Goals as goal
 

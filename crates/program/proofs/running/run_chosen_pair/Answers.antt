@@ -1,21 +1,61 @@
-use Rattle.std.proofs.Common.{◌≡◌, ◌⊎◌, inl, ℕ, List, Option, Result, Ok, Err, sym, subst}
-use Rattle.std.specs.Prelude.{IfErr}
-use Rattle.road_graph.specs.Roads.{Roads}
-use Rattle.road_files.specs.Asked.{Asked}
-use Rattle.batch_run.specs.declared.faults.RunFault.{RunFault}
 use Rattle.batch_run.specs.Ran.{IsPairOf}
-use Rattle.program.specs.declared.chosen.Chosen.{Chosen}
 use Rattle.program.specs.declared.chosen.Chosen.TheVariants.{Shortest, Widest, Reach, Hops, Reliable, Within}
-use Rattle.program.specs.Under.{WholeUnder}
+use Rattle.program.proofs.Stalled.{stalled_under}
 use Rattle.program.proofs.running.run_chosen_pair.Goals as goal
 
--- what a limit of turns leaves under one algebra, it leaves under the one that was chosen
-stalled_under : (IsRead : Roads → Asked → Type 0) (old new : Option (List ℕ)) (More : Type 0) (chosen one : Chosen) → chosen ≡ one → (r : Result (Unit {0}) RunFault) →
-    IfErr r (λ f. (f.number ≡ 40) ⊎ (f.number ≡ 41) → WholeUnder one IsRead old new × More) → IfErr r (λ f. f.number ≡ 40 → WholeUnder chosen IsRead old new × More)
-stalled_under IsRead old new More chosen one is (Ok u) left = tt
-stalled_under IsRead old new More chosen one is (Err f) left = λ stalled.
-    let both = left (inl stalled) in
-    (subst (λ it. WholeUnder it IsRead old new) (sym is) both.0, both.1)
+pub returns-in-Shortest-clause-done : goal.returns-in-Shortest-clause-done
+returns-in-Shortest-clause-done g c = rw (c.in-Shortest.is) c.run_pair.ensures.done
+
+pub returns-in-Widest-clause-done : goal.returns-in-Widest-clause-done
+returns-in-Widest-clause-done g c = rw (c.in-Widest.is) c.run_pair-in-Widest.ensures.done
+
+pub returns-in-Reach-clause-done : goal.returns-in-Reach-clause-done
+returns-in-Reach-clause-done g c = rw (c.in-Reach.is) c.run_pair-in-Reach.ensures.done
+
+pub returns-in-Hops-clause-done : goal.returns-in-Hops-clause-done
+returns-in-Hops-clause-done g c = rw (c.in-Hops.is) c.run_pair-in-Hops.ensures.done
+
+pub returns-in-Reliable-clause-done : goal.returns-in-Reliable-clause-done
+returns-in-Reliable-clause-done g c = rw (c.in-Reliable.is) c.run_pair-in-Reliable.ensures.done
+
+pub returns-in-Within-clause-done : goal.returns-in-Within-clause-done
+returns-in-Within-clause-done g c = rw (c.in-Within.is) c.run_pair-in-Within.ensures.done
+
+pub returns-in-Shortest-clause-begun : goal.returns-in-Shortest-clause-begun
+returns-in-Shortest-clause-begun g c = rw (c.in-Shortest.is) c.run_pair.ensures.begun
+
+pub returns-in-Widest-clause-begun : goal.returns-in-Widest-clause-begun
+returns-in-Widest-clause-begun g c = rw (c.in-Widest.is) c.run_pair-in-Widest.ensures.begun
+
+pub returns-in-Reach-clause-begun : goal.returns-in-Reach-clause-begun
+returns-in-Reach-clause-begun g c = rw (c.in-Reach.is) c.run_pair-in-Reach.ensures.begun
+
+pub returns-in-Hops-clause-begun : goal.returns-in-Hops-clause-begun
+returns-in-Hops-clause-begun g c = rw (c.in-Hops.is) c.run_pair-in-Hops.ensures.begun
+
+pub returns-in-Reliable-clause-begun : goal.returns-in-Reliable-clause-begun
+returns-in-Reliable-clause-begun g c = rw (c.in-Reliable.is) c.run_pair-in-Reliable.ensures.begun
+
+pub returns-in-Within-clause-begun : goal.returns-in-Within-clause-begun
+returns-in-Within-clause-begun g c = rw (c.in-Within.is) c.run_pair-in-Within.ensures.begun
+
+pub returns-in-Shortest-clause-whole : goal.returns-in-Shortest-clause-whole
+returns-in-Shortest-clause-whole g c = rw (c.in-Shortest.is) c.run_pair.ensures.whole
+
+pub returns-in-Widest-clause-whole : goal.returns-in-Widest-clause-whole
+returns-in-Widest-clause-whole g c = rw (c.in-Widest.is) c.run_pair-in-Widest.ensures.whole
+
+pub returns-in-Reach-clause-whole : goal.returns-in-Reach-clause-whole
+returns-in-Reach-clause-whole g c = rw (c.in-Reach.is) c.run_pair-in-Reach.ensures.whole
+
+pub returns-in-Hops-clause-whole : goal.returns-in-Hops-clause-whole
+returns-in-Hops-clause-whole g c = rw (c.in-Hops.is) c.run_pair-in-Hops.ensures.whole
+
+pub returns-in-Reliable-clause-whole : goal.returns-in-Reliable-clause-whole
+returns-in-Reliable-clause-whole g c = rw (c.in-Reliable.is) c.run_pair-in-Reliable.ensures.whole
+
+pub returns-in-Within-clause-whole : goal.returns-in-Within-clause-whole
+returns-in-Within-clause-whole g c = rw (c.in-Within.is) c.run_pair-in-Within.ensures.whole
 
 pub returns-in-Shortest-clause-stopped : goal.returns-in-Shortest-clause-stopped
 returns-in-Shortest-clause-stopped g c = stalled_under (IsPairOf (g.G.RoadRead.left c.args.graph.now) (g.Q.RoadRead.left c.args.questions.now)) (g.W.RoadWrite.written c.args.out.now) (g.W.RoadWrite.written c.run_pair.new.out) _ c.args.chosen Shortest c.in-Shortest.is c.run_pair.result c.run_pair.ensures.stopped
@@ -34,21 +74,3 @@ returns-in-Reliable-clause-stopped g c = stalled_under (IsPairOf (g.G.RoadRead.l
 
 pub returns-in-Within-clause-stopped : goal.returns-in-Within-clause-stopped
 returns-in-Within-clause-stopped g c = stalled_under (IsPairOf (g.G.RoadRead.left c.args.graph.now) (g.Q.RoadRead.left c.args.questions.now)) (g.W.RoadWrite.written c.args.out.now) (g.W.RoadWrite.written c.run_pair-in-Within.new.out) _ c.args.chosen (Within c.in-Within.algebra) c.in-Within.is c.run_pair-in-Within.result c.run_pair-in-Within.ensures.stopped
-
-pub returns-in-Within-clause-whole : goal.returns-in-Within-clause-whole
-returns-in-Within-clause-whole g c = rw (c.in-Within.is) c.run_pair-in-Within.ensures.whole
-
-pub returns-in-Shortest-clause-whole : goal.returns-in-Shortest-clause-whole
-returns-in-Shortest-clause-whole g c = rw (c.in-Shortest.is) c.run_pair.ensures.whole
-
-pub returns-in-Widest-clause-whole : goal.returns-in-Widest-clause-whole
-returns-in-Widest-clause-whole g c = rw (c.in-Widest.is) c.run_pair-in-Widest.ensures.whole
-
-pub returns-in-Reach-clause-whole : goal.returns-in-Reach-clause-whole
-returns-in-Reach-clause-whole g c = rw (c.in-Reach.is) c.run_pair-in-Reach.ensures.whole
-
-pub returns-in-Hops-clause-whole : goal.returns-in-Hops-clause-whole
-returns-in-Hops-clause-whole g c = rw (c.in-Hops.is) c.run_pair-in-Hops.ensures.whole
-
-pub returns-in-Reliable-clause-whole : goal.returns-in-Reliable-clause-whole
-returns-in-Reliable-clause-whole g c = rw (c.in-Reliable.is) c.run_pair-in-Reliable.ensures.whole

@@ -1,5 +1,5 @@
 use Rattle.std.proofs.Common.{◌≡◌, drop}
-use Rattle.shard_part.specs.PartState.{counted}
+use Rattle.shard_part.specs.Weights.{counted}
 use Rattle.shard_part.proofs.batch.stands_in.Given as goal
 
 abbrev pub invariant-loop-i : goal.invariant-loop-i

@@ -1,5 +1,5 @@
 use Rattle.std.proofs.Common.{◌≡◌, take}
-use Rattle.shard_part.specs.PartState.{total}
+use Rattle.shard_part.specs.Weights.{total}
 use Rattle.shard_part.proofs.layout.sum_of.Given as goal
 
 abbrev pub invariant-loop-number : goal.invariant-loop-number

@@ -1,5 +1,5 @@
 use Rattle.std.proofs.Common.{◌≡◌, ◌∷◌, [], subst, sym, ap, ◌∙◌, arith}
-use Rattle.shard_part.specs.PartState.{All}
+use Rattle.shard_part.specs.Weights.{All}
 use Rattle.shard_part.specs.Opening.{opened_parts}
 use Rattle.shard_part.proofs.Showing.{all_append}
 use Rattle.post_floor.specs.Plays.{Known}

@@ -1,5 +1,5 @@
 use Rattle.std.proofs.Common.{◌≡◌}
-use Rattle.shard_part.specs.PartState.{All}
+use Rattle.shard_part.specs.Weights.{All}
 use Rattle.shard_part.specs.Opening.{opened_parts}
 use Rattle.post_floor.specs.Plays.{Known}
 use Rattle.station.proofs.open.open_parts.Given as goal

@@ -1,5 +1,6 @@
 use Rattle.std.proofs.Common.{◌≡◌, List, ◌++◌, map, reverse, vec_len}
-use Rattle.shard_part.specs.PartState.{All, PartData}
+use Rattle.shard_part.specs.Weights.{All}
+use Rattle.shard_part.specs.PartState.{PartData}
 use Rattle.post_floor.specs.Data.{seat_of}
 use Rattle.station.specs.Opened.{IsFreshPart, station_of}
 use Rattle.station.proofs.open.pair.Given as goal
@@ -7,8 +8,8 @@ use Rattle.station.proofs.open.pair.Given as goal
 abbrev pub invariant-loop-part : goal.invariant-loop-part
 invariant-loop-part g l = record {
   fresh : All (IsFreshPart g.A.PathAlgebra.meaning l.floor) l.parts.items;
-  seats : l.seats.items ≡ map (seat_of l.floor.id l.floor.question.plan.shards) l.parts.items;
-  paired : (qs : List (PartData g.row.A.Denot g.row.A-Value.Denot)) × (reverse l.stations.items ≡ map (station_of l.floor.id l.floor.question.plan.shards) qs) × (l.parts.items ++ qs ≡ l.fn.parts.items);
+  seats : l.seats.items ≡ map (seat_of l.floor.id l.floor.setup.plan.shards) l.parts.items;
+  paired : (qs : List (PartData g.row.A.Denot g.row.A-Value.Denot)) × (reverse l.stations.items ≡ map (station_of l.floor.id l.floor.setup.plan.shards) qs) × (l.parts.items ++ qs ≡ l.fn.parts.items);
 }
 
 abbrev pub decreases-loop-part : goal.decreases-loop-part

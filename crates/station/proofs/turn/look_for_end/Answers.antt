@@ -14,4 +14,4 @@ pub returns-clause-over : goal.returns-clause-over
 returns-clause-over g c =
     let laws = g.met.A.PathAlgebra g.world.𝓛 g.world.𝓜 g.world.𝓡 ((λ s x. x), (λ x. x), (λ x. x), λ x. x) in
     λ e. is_over g.A.PathAlgebra.meaning c.args.part.now _ (laws.lawful c.args.part.now.setup.question.algebra) (subst (λ u. IsPlanned u.setup u.shard) c.deref.ensures c.shard-shard.ensures.planned)
-    (look_ended g.A.PathAlgebra.meaning c.look.result c.args.part.now (box_count c.args.floor.now.question.plan.shards) c.args.seat.now.knows c.look.new.seat.knows c.look.ensures.told e)
+    (look_ended g.A.PathAlgebra.meaning c.look.result c.args.part.now (box_count c.args.floor.now.setup.plan.shards) c.args.seat.now.knows c.look.new.seat.knows c.look.ensures.told e)

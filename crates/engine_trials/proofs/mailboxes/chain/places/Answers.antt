@@ -1,5 +1,5 @@
 use Rattle.std.proofs.Common.{◌≡◌, subst, sym, ◌∙◌, rules}
-use Rattle.shard_part.specs.PartState.{All}
+use Rattle.shard_part.specs.Weights.{All}
 use Rattle.post_floor.specs.Data.{IsAt, seat_of}
 use Rattle.engine_trials.proofs.Places.{opened_at}
 use Rattle.engine_trials.proofs.mailboxes.chain.places.Goals as goal
@@ -10,6 +10,6 @@ open-opened-requires-clause-fresh g c κs within = let f = c.parts_of-parts.ensu
 pub paired-places-requires-clause-at : goal.paired-places-requires-clause-at
 paired-places-requires-clause-at g c κs within =
     let t = c.parts_of-parts.ensures in let f = c.expect-floor.result.0 in
-    let same : All (λ p. p.setup ≡ c.expect-floor.result.0.question) c.deref.result.now = search rules in
-    subst (All (λ p. IsAt g.A.PathAlgebra.meaning f (seat_of f.id f.question.plan.shards p) p)) (sym t.1)
-    (opened_at g.A.PathAlgebra.meaning f t.0 f.question.plan.shards 0 t.0.plan.shards (subst (All (λ p. p.setup ≡ f.question)) (c.deref.ensures.value ∙ t.1) same))
+    let same : All (λ p. p.setup ≡ c.expect-floor.result.0.setup) c.deref.result.now = search rules in
+    subst (All (λ p. IsAt g.A.PathAlgebra.meaning f (seat_of f.id f.setup.plan.shards p) p)) (sym t.1)
+    (opened_at g.A.PathAlgebra.meaning f t.0 f.setup.plan.shards 0 t.0.plan.shards (subst (All (λ p. p.setup ≡ f.setup)) (c.deref.ensures.value ∙ t.1) same))

@@ -1,5 +1,5 @@
 use Rattle.std.proofs.Common.{◌≡◌, ◌++◌, ◌∷◌, [], subst, sym, rules}
-use Rattle.shard_part.specs.PartState.{All}
+use Rattle.shard_part.specs.Weights.{All}
 use Rattle.shard_part.proofs.Showing.{all_append}
 use Rattle.post_floor.specs.Data.{IsAt}
 use Rattle.engine_trials.proofs.mailboxes.chain.round.Goals as goal

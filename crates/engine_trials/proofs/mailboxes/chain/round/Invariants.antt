@@ -1,4 +1,4 @@
-use Rattle.shard_part.specs.PartState.{All}
+use Rattle.shard_part.specs.Weights.{All}
 use Rattle.post_floor.specs.Data.{IsAt}
 use Rattle.engine_trials.proofs.mailboxes.chain.round.Given as goal
 

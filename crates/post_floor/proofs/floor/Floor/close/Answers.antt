@@ -1,6 +1,6 @@
 use Rattle.std.proofs.Common.{rules, arith, ◌≡◌, ◌<◌, ℕ, ap, sym, ◌∙◌, subst, IsTrue}
 use Rattle.std.specs.Mem.Slots.{slots_items}
-use Rattle.shard_part.specs.PartState.{total, is}
+use Rattle.shard_part.specs.Weights.{total, is}
 use Rattle.post_floor.specs.Floor.{Settled}
 use Rattle.post_floor.specs.Closing.{AllSeated}
 use Rattle.post_floor.proofs.Closing.{settles, join_last}
@@ -8,8 +8,8 @@ use Rattle.post_floor.proofs.floor.Floor.close.Goals as goal
 
 pub returns-clause-closed : goal.returns-clause-closed
 returns-clause-closed g c =
-    let question : c.self.inside.table.shared.key ≡ c.args.self.question = ap (λ f. f.question) c.self.view_is in
-    let count : c.args.self.question.plan.shards ≡ c.self.inside.shards = ap (λ u. u.plan.shards) (sym question) ∙ c.self.invariant.1 in
+    let question : c.self.inside.table.shared.key ≡ c.args.self.setup = ap (λ f. f.setup) c.self.view_is in
+    let count : c.args.self.setup.plan.shards ≡ c.self.inside.shards = ap (λ u. u.plan.shards) (sym question) ∙ c.self.invariant.1 in
     let yes : IsTrue c.all_seated.result = search rules in
     let seated : AllSeated c.self.inside.shards c.args.seats.items = subst (AllSeated c.self.inside.shards) c.deref.ensures.value (c.all_seated.ensures.0 yes) in
     let w = c.join_all-pass.result.me.0 in

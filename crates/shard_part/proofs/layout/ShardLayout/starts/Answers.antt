@@ -1,5 +1,6 @@
 use Rattle.std.proofs.Common.{◌+◌, length, arith, ap, refl}
-use Rattle.shard_part.specs.PartState.{network_in, arcs_out}
+use Rattle.shard_part.specs.PartState.{network_in}
+use Rattle.shard_part.specs.Outgoing.{arcs_out}
 use Rattle.shard_part.proofs.ShardLayouts.{planned_at, starts_few, own_within, starts_next, starts_more}
 use Rattle.shard_part.proofs.layout.ShardLayout.starts.Goals as goal
 

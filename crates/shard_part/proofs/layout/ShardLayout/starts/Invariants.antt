@@ -1,5 +1,6 @@
 use Rattle.std.proofs.Common.{◌≡◌, ◌<◌, ℕ, length, get_or, take}
-use Rattle.shard_part.specs.PartState.{network_in, arcs_out}
+use Rattle.shard_part.specs.PartState.{network_in}
+use Rattle.shard_part.specs.Outgoing.{arcs_out}
 use Rattle.shard_part.proofs.layout.ShardLayout.starts.Given as goal
 
 abbrev pub invariant-loop-v : goal.invariant-loop-v

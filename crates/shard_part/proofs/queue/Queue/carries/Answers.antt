@@ -1,5 +1,5 @@
 use Rattle.std.proofs.Common.{ap, ◌∙◌, leb, drop}
-use Rattle.shard_part.specs.PartState.{counted}
+use Rattle.shard_part.specs.Weights.{counted}
 use Rattle.shard_part.proofs.BatchFits.{in_one, in_other}
 use Rattle.shard_part.proofs.queue.Queue.carries.Goals as goal
 

@@ -1,7 +1,8 @@
 use Rattle.shard_part.proofs.Offers.{rested_then, rested_busy}
 use Rattle.std.proofs.Common.{◌≡◌, ℕ, Option, sym, ap, subst, ◌∙◌, arith}
 use Rattle.std.specs.Prelude.{is_some, IfSome}
-use Rattle.shard_part.specs.PartState.{network_in, place_in, IsArc, IsClear}
+use Rattle.shard_part.specs.PartState.{network_in, place_in, IsArc}
+use Rattle.shard_part.specs.Sound.{IsClear}
 use Rattle.shard_part.proofs.state.PartState.rest.Goals as goal
 
 pub release-requires-clause-engaged : goal.release-requires-clause-engaged

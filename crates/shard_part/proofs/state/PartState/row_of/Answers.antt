@@ -1,5 +1,6 @@
 use Rattle.std.proofs.Common.{◌<◌, length, get_or, sym, ap, subst, ◌∙◌}
-use Rattle.shard_part.specs.PartState.{network_in, outgoing}
+use Rattle.shard_part.specs.PartState.{network_in}
+use Rattle.shard_part.specs.Outgoing.{outgoing}
 use Rattle.shard_part.specs.Moves.{IsRow}
 use Rattle.shard_part.proofs.state.PartState.row_of.Goals as goal
 

@@ -1,38 +1,22 @@
--- An increasing list is halved until one place is left, or its ends tell the place.
-use Rattle.std.proofs.Common.{◌≡◌, ℕ, zero, suc, ◌+◌, ◌-◌, ◌<◌, ◌≤◌, List, length, get_or, sym, ap, ◌∙◌, inl, inr, arith}
+-- Where a number stands in an increasing list: a binary search finds it, or the ends of the list tell it.
+use Rattle.std.proofs.Common.{◌≡◌, ℕ, zero, suc, ◌+◌, ◌-◌, ◌<◌, ◌≤◌, ◌⊎◌, Result, Ok, Err, List, length, get_or, sym, ap, ◌∙◌, inl, inr, arith}
 use Rattle.std.specs.Prelude.{Contains}
-use Rattle.std.specs.List.Sorted.{IsStrictlyIncreasing}
-use Rattle.std.proofs.lemmas.Bool.{cases_lt}
+use Rattle.std.specs.List.Sorted.{IsStrictlyIncreasing, IsBinarySearchResult}
+use Rattle.std.specs.Ordering.{nat_cmp}
+use Rattle.std.proofs.Math.Nat.{eq-or-lt_of_le}
 use Rattle.std.proofs.lemmas.Grind.{get_or_default_zero}
 use Rattle.std.proofs.lemmas.List.Kept.{AllPairs-from_increasing}
+use Rattle.road_graph.proofs.Rising.{found}
 
--- v is at low or later, and before high
-abbrev pub IsBetween : List ℕ → ℕ → ℕ → ℕ → Type 0
-IsBetween xs v low high = (j : ℕ) × (j < length xs) × (get_or xs j 0 ≡ v) × (low ≤ j) × (j < high) × (high ≤ length xs)
-
-pub between_ends : (xs : List ℕ) (v : ℕ) → Contains xs v → IsBetween xs v 0 (length xs)
-between_ends xs v (j, l, e) = (j, l, sym (get_or_default_zero xs j v l) ∙ e, omega arith, l, omega arith)
-
--- where the number in the middle is no greater, v is there or later, and else before
-pub from_middle : (xs : List ℕ) (v low high m : ℕ) → IsStrictlyIncreasing xs → IsBetween xs v low high → get_or xs m 0 ≤ v → m < length xs → IsBetween xs v m high
-from_middle xs v low high m h (j, l, e, a, b, n) le within = (j, l, e, later, b, n)
+-- a binary search in an increasing list finds a number that the list has
+pub found_increasing : (xs : List ℕ) (x : ℕ) (r : Result ℕ ℕ) (at : ℕ) → IsStrictlyIncreasing xs → Contains xs x →
+    IsBinarySearchResult (λ y. nat_cmp y x) xs r → (r ≡ Ok at) ⊎ (r ≡ Err at) → (at < length xs) × (get_or xs at 0 ≡ x)
+found_increasing xs x r at up = found xs x r at not_falling
   where
-    later : m ≤ j
-    later = elim (cases_lt j m) [
-      | inl less ↦ absurd (let r = AllPairs-from_increasing xs h j m 0 less within in omega (arith, r, e, le))
-      | inr most ↦ most
-    ]
-
-pub to_middle : (xs : List ℕ) (v low high m : ℕ) → IsStrictlyIncreasing xs → IsBetween xs v low high → v < get_or xs m 0 → m < length xs → IsBetween xs v low m
-to_middle xs v low high m h (j, l, e, a, b, n) more within = (j, l, e, a, earlier, omega (arith, within))
-  where
-    earlier : j < m
-    earlier = elim (cases_lt j m) [
-      | inl less ↦ less
-      | inr most ↦ absurd (elim (cases_lt m j) [
-        | inl less ↦ (let r = AllPairs-from_increasing xs h m j 0 less l in omega (arith, r, e, more))
-        | inr same ↦ (let q : j ≡ m = omega (arith, most, same) in let r = ap (λ k. get_or xs k 0) q in omega (arith, r, e, more))
-      ])
+    not_falling : (i j : ℕ) → i ≤ j → j < length xs → get_or xs i 0 ≤ get_or xs j 0
+    not_falling i j le within = elim (eq-or-lt_of_le le) [
+      | inl e ↦ (let same = ap (λ k. get_or xs k 0) e in omega (arith, same))
+      | inr less ↦ (let more = AllPairs-from_increasing xs up i j 0 less within in omega (arith, more))
     ]
 
 -- d places later it is higher by d at least

@@ -1,0 +1,23 @@
+-- The vertices of a shard, and the arcs out of them.
+use Rattle.std.specs.Prelude.{ℕ, zero, suc, ◌+◌, ◌-◌, cond, eqb, List, [], ◌∷◌, ◌++◌}
+use Rattle.scholten_core.specs.Network.{Network}
+use Rattle.shard_part.specs.Tables.{placed}
+use Rattle.shard_part.specs.PartState.{Setup, place_in}
+
+module _ (N : Network) where
+  -- of the numbers k, k + 1, .., k + n - 1, the arcs out of v
+  abbrev pub arcs_from : ℕ → ℕ → ℕ → List ℕ
+  arcs_from v k zero = []
+  arcs_from v k (suc n) = cond (eqb (N.tail k) v) (k ∷ arcs_from v (suc k) n) (arcs_from v (suc k) n)
+
+  abbrev pub outgoing : ℕ → List ℕ
+  outgoing v = arcs_from v 0 (suc N.arcs)
+
+-- the vertices of a shard, ascending; the environment stands first in each
+abbrev pub own_in : {S : Type 0} → Setup S → ℕ → List ℕ
+own_in t s = 0 ∷ placed (place_in t) s 1 t.question.roads.vertices
+
+-- the arcs out of the vertices of a list, one vertex after the other
+unfoldable pub arcs_out : Network → List ℕ → List ℕ
+arcs_out N [] = []
+arcs_out N (v ∷ vs) = outgoing N v ++ arcs_out N vs

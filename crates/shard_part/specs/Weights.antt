@@ -1,0 +1,73 @@
+-- Sums over items: weights tell which items stand where, with no word on their order.
+use Rattle.std.specs.Prelude.{ℕ, suc, ◌+◌, eqb, List, [], ◌∷◌}
+use Rattle.scholten_core.specs.declared.item.Item.{Item}
+use Rattle.scholten_core.specs.declared.item.Item.TheVariants.{Message as MessageOn, Signal as SignalOn}
+use Rattle.scholten_core.specs.Network.{Network}
+use Rattle.scholten_core.specs.Diffusion.{CoreState}
+use Rattle.scholten_core.specs.Sums.{sum_below, one_if}
+use Rattle.scholten_core.specs.Items.{item_arc, item_of}
+use Rattle.shard_part.specs.PartState.{PartData, vertex_of}
+
+-- the sum of the weights of all entries
+abbrev pub total : {X : Type 0} → (X → ℕ) → List X → ℕ
+total f [] = 0
+total f (x ∷ xs) = f x + total f xs
+
+-- one where the numbers are the same
+abbrev pub is : ℕ → ℕ → ℕ
+is j k = one_if (eqb j k)
+
+-- how many of the items stand on the arc b
+abbrev pub counted : {V : Type 0} → ℕ → List (Item V) → ℕ
+counted b is' = total (λ j. is b (item_arc j)) is'
+
+-- each entry has the property
+abbrev pub All : {X : Type 0} → (X → Type 0) → List X → Type 0
+All P [] = Unit {0}
+All P (x ∷ xs) = P x × All P xs
+
+-- one for each message, and for each signal
+abbrev pub is_told : {V : Type 0} → Item V → ℕ
+is_told (MessageOn a x) = 1
+is_told (SignalOn a) = 0
+
+abbrev pub is_back : {V : Type 0} → Item V → ℕ
+is_back (MessageOn a x) = 0
+is_back (SignalOn a) = 1
+
+-- the queue and the outboxes of a part
+pub record Lanes (V : Type 0) : Type 0 where
+  pub queue : List (Item V)
+  pub outs : List (List (Item V))
+
+module _ {V : Type 0} where
+  -- the outbox i is weighed by h i
+  abbrev pub outs_weight : (ℕ → Item V → ℕ) → ℕ → List (List (Item V)) → ℕ
+  outs_weight h k [] = 0
+  outs_weight h k (o ∷ os) = total (h k) o + outs_weight h (suc k) os
+
+  -- and the queue by h s, where s is the own shard
+  abbrev pub lanes_weight : ℕ → (ℕ → Item V → ℕ) → Lanes V → ℕ
+  lanes_weight s h l = total (h s) l.queue + outs_weight h 0 l.outs
+
+module _ {S V : Type 0} where
+  -- those of the part p
+  abbrev pub lanes_of : PartData S V → Lanes V
+  lanes_of p = record { queue = p.queue; outs = p.outs }
+
+  -- all items of the part, each weighed with the shard that it is at or going to
+  abbrev pub part_weight : (ℕ → Item V → ℕ) → PartData S V → ℕ
+  part_weight h p = lanes_weight p.shard h (lanes_of p)
+
+-- mailboxes, each with the shard that it leads to
+abbrev pub mail_weight : {V : Type 0} → List (ℕ × List (Item V)) → (ℕ → Item V → ℕ) → ℕ
+mail_weight ms h = total (λ m. total (h m.0) m.1) ms
+
+module _ {V : Type 0} (N : Network) (place : ℕ → ℕ) where
+  -- an item where it belongs
+  abbrev pub at_place : (ℕ → Item V → ℕ) → Item V → ℕ
+  at_place h i = h (place (vertex_of N i)) i
+
+  -- the items that stand in a state, each weighed by the shard where it belongs
+  abbrev pub in_flight : CoreState V → (ℕ → Item V → ℕ) → ℕ
+  in_flight c h = sum_below (λ b. total (at_place h) (item_of b (c.token b))) (suc N.arcs)

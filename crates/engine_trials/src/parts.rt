@@ -139,31 +139,69 @@ fn two_parts_by_hand(rt: HostRuntime) {
     let plan = Plan::blocks(rt.alloc(), 2, 2).expect(&rt, "memory");
     let mut first = open(&rt, Shortest, &graph, &plan, 0);
     let mut second = open(&rt, Shortest, &graph, &plan, 1);
-    assert!(rt; first.queued() == 1 && second.queued() == 0);
-    assert!(rt; first.room() == 1 && second.room() == 1);
-    assert!(rt; !first.ended() && !second.ended());
-    assert!(rt; first.holds(Vertex(1)) && !first.holds(Vertex(2)) && !first.holds(Vertex(3)));
+    source_alone_has_an_item(&rt, &first, &second);
     assert!(rt; first.handle(1) == 1);
-    assert!(rt; label(&rt, &first, 1) == Some(0));
-    assert!(rt; engager(&rt, &first, 1) == Some(ArcNo(0)));
-    assert!(rt; deficit(&rt, &first, 1) == 1);
-    assert!(rt; outgoing(&rt, &first, 1) == 1);
+    source_is_engaged(&rt, &first);
     let batch = taken_out(&rt, &mut first, 1);
-    assert!(rt; batch.len() == 1 && batch.capacity() == 1);
-    assert!(rt; batch.get(0).is_some() && batch.get(1).is_none());
-    assert!(rt; outgoing(&rt, &first, 1) == 0);
-    assert!(rt; second.fits(&batch) && !first.fits(&batch));
+    one_message_for_the_second(&rt, &batch, &first, &second);
     put_in(&rt, &mut second, batch);
     assert!(rt; second.handle(1) == 1);
-    assert!(rt; label(&rt, &second, 2) == Some(7));
-    assert!(rt; engager(&rt, &second, 2).is_none());
-    assert!(rt; deficit(&rt, &second, 2) == 0);
-    assert!(rt; outgoing(&rt, &second, 0) == 1);
+    target_has_answered(&rt, &second);
     let batch = taken_out(&rt, &mut second, 0);
     assert!(rt; !second.fits(&batch));
     put_in(&rt, &mut first, batch);
     assert!(rt; first.handle(5) == 2);
-    assert!(rt; first.ended() && !second.ended());
+    assert!(rt; first.ended());
+    assert!(rt; !second.ended());
+}
+
+/// Before any event the message of the environment waits at the source's part, and nothing elsewhere.
+fn source_alone_has_an_item(
+    rt: &impl Abort,
+    first: &Part<'_, Shortest>,
+    second: &Part<'_, Shortest>,
+) {
+    assert!(rt; first.queued() == 1);
+    assert!(rt; second.queued() == 0);
+    assert!(rt; first.room() == 1);
+    assert!(rt; second.room() == 1);
+    assert!(rt; !first.ended());
+    assert!(rt; !second.ended());
+    assert!(rt; first.holds(Vertex(1)));
+    assert!(rt; !first.holds(Vertex(2)));
+    assert!(rt; !first.holds(Vertex(3)));
+}
+
+/// The source took the environment's message, and told vertex 2.
+fn source_is_engaged(rt: &impl Abort, first: &Part<'_, Shortest>) {
+    assert!(rt; label(rt, first, 1) == Some(0));
+    assert!(rt; engager(rt, first, 1) == Some(ArcNo(0)));
+    assert!(rt; deficit(rt, first, 1) == 1);
+    assert!(rt; outgoing(rt, first, 1) == 1);
+}
+
+/// What the first part sends is one message, and fits the second alone.
+fn one_message_for_the_second(
+    rt: &impl Abort,
+    batch: &Batch<u64>,
+    first: &Part<'_, Shortest>,
+    second: &Part<'_, Shortest>,
+) {
+    assert!(rt; batch.len() == 1);
+    assert!(rt; batch.capacity() == 1);
+    assert!(rt; batch.get(0).is_some());
+    assert!(rt; batch.get(1).is_none());
+    assert!(rt; outgoing(rt, first, 1) == 0);
+    assert!(rt; second.fits(batch));
+    assert!(rt; !first.fits(batch));
+}
+
+/// Vertex 2 took its message, and has sent the signal back.
+fn target_has_answered(rt: &impl Abort, second: &Part<'_, Shortest>) {
+    assert!(rt; label(rt, second, 2) == Some(7));
+    assert!(rt; engager(rt, second, 2).is_none());
+    assert!(rt; deficit(rt, second, 2) == 0);
+    assert!(rt; outgoing(rt, second, 0) == 1);
 }
 
 #[test]

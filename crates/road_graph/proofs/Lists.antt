@@ -25,6 +25,3 @@ only_element only x h = elim (head_or_tail only x [] h) [ inl same ↦ same | in
 -- the places are read with any default
 pub element_place : {X : Type 0} (none x : X) (xs : List X) → Contains xs x → (j : ℕ) × (j < length xs) × (get_or xs j none ≡ x)
 element_place none x xs (j, inside, e) = (j, inside, get_or_default xs j none x inside ∙ e)
-
-pub element_at : {X : Type 0} (none x : X) (xs : List X) (j : ℕ) → j < length xs → get_or xs j none ≡ x → Contains xs x
-element_at none x xs j inside e = (j, inside, get_or_default xs j x none inside ∙ e)

@@ -21,29 +21,24 @@ rises low (x ∷ xs) i zero h lt within = absurd (omega arith)
 rises low (x ∷ xs) zero (suc j) h lt within = above x xs j h.1 (omega arith)
 rises low (x ∷ xs) (suc i) (suc j) h lt within = rises x xs i j h.1 (omega arith) (omega arith)
 
-not_falling : (xs : List ℕ) → IsAscendingFrom 0 xs → (i j : ℕ) → i ≤ j → j < length xs → get_or xs i 0 ≤ get_or xs j 0
+not_falling : (xs : List ℕ) → ((i j : ℕ) → i < j → j < length xs → get_or xs i 0 < get_or xs j 0) → (i j : ℕ) → i ≤ j → j < length xs → get_or xs i 0 ≤ get_or xs j 0
 not_falling xs up i j le within = elim (eq-or-lt_of_le le) [
   | inl e ↦ let same = ap (λ k. get_or xs k 0) e in omega (arith, same)
-  | inr less ↦ let more = rises 0 xs i j up less within in omega (arith, more)
+  | inr less ↦ let more = up i j less within in omega (arith, more)
 ]
 
--- a binary search in a list that does not fall finds a number that the list has
-pub found : (xs : List ℕ) (x : ℕ) (r : Result ℕ ℕ) (at : ℕ) → ((i j : ℕ) → i ≤ j → j < length xs → get_or xs i 0 ≤ get_or xs j 0) → Contains xs x →
+-- a binary search among numbers that rise finds one that is there
+pub found : (xs : List ℕ) (x : ℕ) (r : Result ℕ ℕ) (at : ℕ) → ((i j : ℕ) → i < j → j < length xs → get_or xs i 0 < get_or xs j 0) → Contains xs x →
     IsBinarySearchResult (λ y. nat_cmp y x) xs r → (r ≡ Ok at) ⊎ (r ≡ Err at) → (at < length xs) × (get_or xs at 0 ≡ x)
-found xs x r at up has h (inl e) = searched xs x (Ok at) (subst (IsBinarySearchResult (λ y. nat_cmp y x) xs) e h) up
+found xs x r at up has h (inl e) = searched xs x (Ok at) (subst (IsBinarySearchResult (λ y. nat_cmp y x) xs) e h) (not_falling xs up)
 found xs x r at up has h (inr e) =
-    let parted = searched xs x (Err at) (subst (IsBinarySearchResult (λ y. nat_cmp y x) xs) e h) up in
+    let parted = searched xs x (Err at) (subst (IsBinarySearchResult (λ y. nat_cmp y x) xs) e h) (not_falling xs up) in
     let place = element_place 0 x xs has in
     let read = place.2 in
     absurd (elim (cases_lt place.0 at) [
       | inl before ↦ let less = parted.1 place.0 before in omega (arith, less, read)
       | inr behind ↦ let more = parted.2 place.0 behind place.1 in omega (arith, more, read)
     ])
-
--- and in a rising one
-pub found_rising : (xs : List ℕ) (x : ℕ) (r : Result ℕ ℕ) (at : ℕ) → IsAscendingFrom 0 xs → Contains xs x →
-    IsBinarySearchResult (λ y. nat_cmp y x) xs r → (r ≡ Ok at) ⊎ (r ≡ Err at) → (at < length xs) × (get_or xs at 0 ≡ x)
-found_rising xs x r at up = found xs x r at (not_falling xs up)
 
 pub listed_above : (low : ℕ) (xs : List ℕ) (a : ℕ) → IsAscendingFrom low xs → Contains xs a → low < a
 listed_above low xs a h x = let read : get_or xs x.0 0 ≡ a = get_or_default xs x.0 0 a x.1 ∙ x.2 in let more = above low xs x.0 h x.1 in omega (arith, read, more)

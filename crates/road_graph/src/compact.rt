@@ -113,6 +113,7 @@ fn place_of(row: &[ArcNo], a: ArcNo) -> usize
     ensures place { result < length row.now }
     ensures number { slice_index row.now result ≡ a }
 {
+    // The row has the arc, so it is found: a place to put it in is never answered.
     match row.binary_search(&a) {
         Ok(at) | Err(at) => at,
     }

@@ -6,7 +6,8 @@ use Rattle.road_graph.specs.Roads.{Roads, IsRoads, HasVertex, HasArc, ListsArcsF
 use Rattle.road_graph.specs.declared.OutRoad.{OutRoad}
 use Rattle.scholten_core.specs.Network.{network}
 use Rattle.scholten_core.proofs.Networks.{out_of, real_arc, tail-arc, head-arc, tail-entry, head-entry}
-use Rattle.road_graph.proofs.Lists.{element_place, element_at}
+use Rattle.road_graph.proofs.Lists.{element_place}
+use Rattle.std.proofs.lemmas.List.Elements.{Contains-get_or}
 use Rattle.shard_part.specs.Plans.{shard_in, HasPlanned}
 use Rattle.shard_part.specs.PartState.{Setup, PartData, network_in, place_in, IsArc}
 use Rattle.shard_part.specs.Outgoing.{outgoing, own_in, arcs_out}
@@ -22,7 +23,7 @@ out_is g s v xs l o =
     let O = out_of g s v xs l o in
     arcs_are (network g s) v 0 (suc (length g.arcs)) 0 xs o.ascending
     (λ b m. let r = element_place 0 b xs m in (ap (network g s).tail (sym r.2) ∙ O.tail r.0 r.1, omega arith, (let h = O.high r.0 r.1 in let e = r.2 in omega (arith, h, e))))
-    (λ b t h k. let r = O.all b t in element_at 0 b xs r.0 r.1 r.2)
+    (λ b t h k. let r = O.all b t in subst (Contains xs) r.2 (Contains-get_or xs r.0 0 r.1))
 
 -- its list of heads and weights has those of these arcs, in the same order
 pub roads_are : (g : Roads) (s v : ℕ) (rs : List OutRoad) → 1 ≤ v → ListsRoadsFrom g v rs → rs ≡ roads_of g (outgoing (network g s) v)

@@ -1,9 +1,8 @@
 -- Where a number stands in an increasing list: a binary search finds it, or the ends of the list tell it.
-use Rattle.std.proofs.Common.{◌≡◌, ℕ, zero, suc, ◌+◌, ◌-◌, ◌<◌, ◌≤◌, ◌⊎◌, Result, Ok, Err, List, length, get_or, sym, ap, ◌∙◌, inl, inr, arith}
+use Rattle.std.proofs.Common.{◌≡◌, ℕ, zero, suc, ◌+◌, ◌-◌, ◌<◌, ◌≤◌, ◌⊎◌, Result, Ok, Err, List, length, get_or, sym, ap, ◌∙◌, arith}
 use Rattle.std.specs.Prelude.{Contains}
 use Rattle.std.specs.List.Sorted.{IsStrictlyIncreasing, IsBinarySearchResult}
 use Rattle.std.specs.Ordering.{nat_cmp}
-use Rattle.std.proofs.Math.Nat.{eq-or-lt_of_le}
 use Rattle.std.proofs.lemmas.Grind.{get_or_default_zero}
 use Rattle.std.proofs.lemmas.List.Kept.{AllPairs-from_increasing}
 use Rattle.road_graph.proofs.Rising.{found}
@@ -11,13 +10,7 @@ use Rattle.road_graph.proofs.Rising.{found}
 -- a binary search in an increasing list finds a number that the list has
 pub found_increasing : (xs : List ℕ) (x : ℕ) (r : Result ℕ ℕ) (at : ℕ) → IsStrictlyIncreasing xs → Contains xs x →
     IsBinarySearchResult (λ y. nat_cmp y x) xs r → (r ≡ Ok at) ⊎ (r ≡ Err at) → (at < length xs) × (get_or xs at 0 ≡ x)
-found_increasing xs x r at up = found xs x r at not_falling
-  where
-    not_falling : (i j : ℕ) → i ≤ j → j < length xs → get_or xs i 0 ≤ get_or xs j 0
-    not_falling i j le within = elim (eq-or-lt_of_le le) [
-      | inl e ↦ (let same = ap (λ k. get_or xs k 0) e in omega (arith, same))
-      | inr less ↦ (let more = AllPairs-from_increasing xs up i j 0 less within in omega (arith, more))
-    ]
+found_increasing xs x r at up = found xs x r at (λ i j less within. AllPairs-from_increasing xs up i j 0 less within)
 
 -- d places later it is higher by d at least
 climbs : (xs : List ℕ) → IsStrictlyIncreasing xs → (i d j : ℕ) → i + d ≡ j → j < length xs → get_or xs i 0 + d ≤ get_or xs j 0

@@ -22,7 +22,7 @@ use Rattle.shard_part.proofs.Counting.{arcs_out_more, total_whole, total_take, t
 use Rattle.shard_part.proofs.Places.{own_below, placed_picked}
 use Rattle.shard_part.proofs.CapacitiesByVertex.{seen_at, seen_all, outbox_bound_most}
 use Rattle.scholten_core.proofs.Sums.{one_if-most}
-use Rattle.road_graph.proofs.Lists.{element_place, element_at}
+use Rattle.road_graph.proofs.Lists.{element_place}
 
 pub first_is : (w old : ShardLayoutData) (x : ℕ) (b : Bool) → w ≡ old → IsPlanned w.setup w.shard → x ≡ shard_in w.setup.plan w.setup.question.source → b ≡ eqb x w.shard → b ≡ is_first old.setup old.shard
 first_is w old x b e D h q = q ∙ ap (λ k. eqb k w.shard) (h ∙ sym (place_entry w.setup D.source.0)) ∙ ap (λ (u : ShardLayoutData). is_first u.setup u.shard) e
@@ -65,8 +65,7 @@ listed_into w old v xs e l o =
     all b t k h = elim (cases_eq b 0) [
       | inl z ↦ absurd (let q : (turned (network w.setup.question.roads w.setup.question.source)).tail b ≡ 0 = cond-true {A = ℕ} (eqb b 0) 0 ((network w.setup.question.roads w.setup.question.source).head b) (eq-eqb b 0 z) in omega (arith, q, t, l))
       | inr nz ↦ (let low : 1 ≤ b = omega (arith, nz) in let high : b ≤ length w.setup.question.roads.arcs = omega (arith, h) in
-          let c = (o.complete b).1 ((low, high), sym (head-arc w.setup.question.roads w.setup.question.source b low) ∙ sym (turned_tail (network w.setup.question.roads w.setup.question.source) b nz) ∙ t) in
-          element_at 0 b xs c.0 c.1 (get_or_default xs c.0 0 b c.1 ∙ c.2))
+          (o.complete b).1 ((low, high), sym (head-arc w.setup.question.roads w.setup.question.source b low) ∙ sym (turned_tail (network w.setup.question.roads w.setup.question.source) b nz) ∙ t))
     ]
 
 -- what a test of two shards tells

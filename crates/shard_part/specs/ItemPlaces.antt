@@ -19,14 +19,16 @@ module _ {V : Type 0} where
   outs_places k [] = []
   outs_places k (o ∷ os) = with_shard k o ++ outs_places (suc k) os
 
-  -- those of a part, of parts, and of mailboxes
+  -- those of a part
   abbrev pub part_places : {S : Type 0} → PartData S V → List (ℕ × Item V)
   part_places p = with_shard p.shard p.queue ++ outs_places 0 p.outs
 
+  -- those of several parts
   abbrev pub parts_places : {S : Type 0} → List (PartData S V) → List (ℕ × Item V)
   parts_places [] = []
   parts_places (p ∷ ps) = part_places p ++ parts_places ps
 
+  -- those of mailboxes, each with the shard that it leads to
   abbrev pub mail_places : List (ℕ × List (Item V)) → List (ℕ × Item V)
   mail_places [] = []
   mail_places (m ∷ ms) = with_shard m.0 m.1 ++ mail_places ms

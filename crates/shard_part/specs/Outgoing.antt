@@ -1,5 +1,5 @@
 -- The vertices of a shard, and the arcs out of them.
-use Rattle.std.specs.Prelude.{ℕ, zero, suc, ◌+◌, ◌-◌, cond, eqb, List, [], ◌∷◌, ◌++◌}
+use Rattle.std.specs.Prelude.{ℕ, zero, suc, cond, eqb, List, [], ◌∷◌, ◌++◌}
 use Rattle.scholten_core.specs.Network.{Network}
 use Rattle.shard_part.specs.Tables.{placed}
 use Rattle.shard_part.specs.PartState.{Setup, place_in}
@@ -10,6 +10,7 @@ module _ (N : Network) where
   arcs_from v k zero = []
   arcs_from v k (suc n) = cond (eqb (N.tail k) v) (k ∷ arcs_from v (suc k) n) (arcs_from v (suc k) n)
 
+  -- the arcs out of v, ascending
   abbrev pub outgoing : ℕ → List ℕ
   outgoing v = arcs_from v 0 (suc N.arcs)
 

@@ -26,11 +26,12 @@ abbrev pub All : {X : Type 0} → (X → Type 0) → List X → Type 0
 All P [] = Unit {0}
 All P (x ∷ xs) = P x × All P xs
 
--- one for each message, and for each signal
+-- one for a message
 abbrev pub is_told : {V : Type 0} → Item V → ℕ
 is_told (MessageOn a x) = 1
 is_told (SignalOn a) = 0
 
+-- one for a signal
 abbrev pub is_back : {V : Type 0} → Item V → ℕ
 is_back (MessageOn a x) = 0
 is_back (SignalOn a) = 1
@@ -59,7 +60,7 @@ module _ {S V : Type 0} where
   abbrev pub part_weight : (ℕ → Item V → ℕ) → PartData S V → ℕ
   part_weight h p = lanes_weight p.shard h (lanes_of p)
 
--- mailboxes, each with the shard that it leads to
+-- what mailboxes hold, each weighed with the shard that it leads to
 abbrev pub mail_weight : {V : Type 0} → List (ℕ × List (Item V)) → (ℕ → Item V → ℕ) → ℕ
 mail_weight ms h = total (λ m. total (h m.0) m.1) ms
 

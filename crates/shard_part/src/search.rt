@@ -17,6 +17,7 @@ pub(crate) fn find_vertex(list: &[Vertex], v: Vertex) -> usize
             return (v.0 - low.0) as usize + 1;
         }
     }
+    // The list has the vertex, so it is found: a place to put it in is never answered.
     match list.binary_search(&v) {
         Ok(at) | Err(at) => at,
     }

@@ -32,13 +32,13 @@ road_at_turn g a v turn roads tail is listed =
     (omega (arith, long, inside), λ d. road_read g lists.0 roads lists.2 turn inside d ∙ ap (λ b. road_of (arc_of g b)) found)
 
 -- the entry that is read of the index tells where the arc's road stands
-module _ (g : Roads) (index list : List IndexEntry) (same : list ≡ index) (known : IsIndex g index) (a : ℕ) (arc : HasArc g a)
-    (number : ℕ) (is : number ≡ a) (entry : IndexEntry) (lt : number - 1 < length list) (read : entry ≡ get_or list (number - 1) entry) where
+module _ (g : Roads) (entries : List IndexEntry) (known : IsIndex g entries) (a : ℕ) (arc : HasArc g a)
+    (number : ℕ) (is : number ≡ a) (entry : IndexEntry) (read : entry ≡ get_or entries (number - 1) entry) where
   tells : IsEntry g a entry
   tells =
-      let here : IsEntry g a (get_or list (a - 1) (record { tail = 0; head = 0; turn = 0 })) = rw same (known a arc (omega (arith, lt, ap length same))) in
       let at : number - 1 ≡ a - 1 = ap (λ b. b - 1) is in
-      rw (read ∙ get_or_default list (number - 1) entry (record { tail = 0; head = 0; turn = 0 }) lt ∙ ap (λ k. get_or list k (record { tail = 0; head = 0; turn = 0 })) at) here
+      let lt : number - 1 < length entries = (let count = known.count in omega (arith, arc.0, arc.1, is, count)) in
+      rw (read ∙ get_or_default entries (number - 1) entry (record { tail = 0; head = 0; turn = 0 }) lt ∙ ap (λ k. get_or entries k (record { tail = 0; head = 0; turn = 0 })) at) (known.tells a arc)
 
   pub road_by_entry : (roads : List OutRoad) → ListsRoadsFrom g entry.tail roads → (entry.turn < length roads) × ((d : OutRoad) → get_or roads entry.turn d ≡ road_of (arc_of g a))
   road_by_entry roads lists = road_at_turn g a entry.tail entry.turn roads tells.tail tells.turn lists
@@ -48,10 +48,13 @@ abbrev pub AreTold : Roads → List ℕ → List IndexEntry → ℕ → Type 0
 AreTold g numbers entries k = (x : ℕ) → x < k → IsEntry g (get_or numbers x 0) (get_or entries (get_or numbers x 0 - 1) (record { tail = 0; head = 0; turn = 0 }))
 
 module _ (g : Roads) (roads : IsRoads g) (starts numbers tails : List ℕ) (known : AreRows Tail g.vertices g.arcs starts numbers) (are : tails ≡ map (end_of Tail) g.arcs) where
-  pub all_told : (entries : List IndexEntry) (k : ℕ) → length numbers ≤ k → AreTold g numbers entries k → IsIndex g entries
-  all_told entries k all told = λ a arc lt.
-      let at = stands g starts numbers known roads a arc in
-      subst (λ b. IsEntry g b (get_or entries (b - 1) (record { tail = 0; head = 0; turn = 0 }))) at.1.1 (told at.0 (let inside = at.1.0 in omega (arith, inside, all)))
+  pub all_told : (entries : List IndexEntry) (k : ℕ) → length numbers ≤ k → length entries ≡ length tails → AreTold g numbers entries k → IsIndex g entries
+  all_told entries k all long told = record {
+    count = long ∙ simp length-map at (ap length are);
+    tells = λ a arc.
+        let at = stands g starts numbers known roads a arc in
+        subst (λ b. IsEntry g b (get_or entries (b - 1) (record { tail = 0; head = 0; turn = 0 }))) at.1.1 (told at.0 (let inside = at.1.0 in omega (arith, inside, all)));
+  }
 
   -- the number at k
   module _ (list : List ℕ) (same : list ≡ numbers) (k : ℕ) (in_list : k < length list) (number item : ℕ) (read : number ≡ get_or list k item) where

@@ -1,6 +1,6 @@
 //! The graph.
 
-ghost use Rattle.std.specs.Prelude.{◌≡◌, ℕ, ◌+◌, ◌-◌, ◌<◌, ◌≤◌, ◌↔◌, ◌^◌, length, slice_index, Contains};
+ghost use Rattle.std.specs.Prelude.{◌≡◌, ℕ, ◌+◌, ◌-◌, ◌<◌, ◌≤◌, ◌↔◌, ◌^◌, length, map, slice_index, Contains};
 ghost use Rattle.std.specs.Prelude.{IsTrue, IfOk, MatchResult, MatchOption};
 ghost use Rattle.road_graph.specs.Roads.{JoinsVertices, IsRoads, IsAscendingFrom};
 ghost use Rattle.road_graph.specs.Making.{IsFirstBad, HasInRow, StandsAt};
@@ -20,40 +20,45 @@ pub(crate) struct IndexEntry {
     turn: u32,
 }
 
+/// How the ends of an arc are told by its number.
+#[derive(Debug, Drop)]
+enum Ends {
+    /// By its tail alone: its head is looked for in the row of that.
+    Tails(Vec<Vertex>),
+    /// By an entry for each arc: the graph is indexed.
+    Index(Vec<IndexEntry>),
+}
+
 /// A directed graph with its arcs by number, by tail and by head.
 ///
 /// It takes 20 bytes for each arc and 8 for each vertex: heads and weights stand once, in the order of the outgoing rows.
-/// Once indexed it takes 12 bytes more for each arc, and one load tells the ends of an arc and where it stands among those that leave its tail.
+/// Once indexed it takes 8 bytes more for each arc, and one load tells the ends of an arc and where it stands among those that leave its tail.
 #[derive(Drop)]
 pub struct Graph {
     vertices: u32,
     arcs: Snapshot<Vec<RoadArc>>,
-    tails: Vec<Vertex>,
     out_rows: Rows,
     out_roads: Vec<OutRoad>,
     into_rows: Rows,
-    /// What is to be told of each arc, in the order of their numbers; empty until the graph is indexed.
-    index: Vec<IndexEntry>,
+    ends: Ends,
 }
 
 impl fmt::Debug for Graph {
     fn fmt<F: fmt::Write>(&self, f: &mut fmt::Formatter<F>) -> fmt::Result {
         f.debug_struct("Graph")
             .field("vertices", &self.vertices)
-            .field("tails", &self.tails)
             .field("out_rows", &self.out_rows)
             .field("out_roads", &self.out_roads)
             .field("into_rows", &self.into_rows)
-            .field("index", &self.index)
+            .field("ends", &self.ends)
             .finish()
     }
 }
 
 impl Model for Graph {
     ghost use Rattle.std.specs.Prelude.{◌≡◌};
-    ghost use Rattle.std.specs.Prelude.{map};
     ghost use Rattle.road_graph.specs.Roads.{Roads, IsRoads, roads_of};
-    ghost use Rattle.road_graph.specs.Making.{AreRows, IsIndex, end_of};
+    ghost use Rattle.road_graph.specs.Making.{AreRows, IsEnds};
     ghost use Rattle.road_graph.specs.declared.Side.TheVariants.{Tail, Head};
 
     ghost Value = { Roads };
@@ -65,8 +70,7 @@ impl Model for Graph {
         × AreRows Tail g.vertices g.arcs.value.items g.out_rows.starts.items g.out_rows.numbers.items
         × AreRows Head g.vertices g.arcs.value.items g.into_rows.starts.items g.into_rows.numbers.items
         × (g.out_roads.items ≡ roads_of (record { vertices = g.vertices; arcs = g.arcs.value.items }) g.out_rows.numbers.items)
-        × (g.tails.items ≡ map (end_of Tail) g.arcs.value.items)
-        × IsIndex (record { vertices = g.vertices; arcs = g.arcs.value.items }) g.index.items };
+        × IsEnds (record { vertices = g.vertices; arcs = g.arcs.value.items }) g.ends };
 }
 
 fn joins(arc: RoadArc, n: u32) -> bool
@@ -135,7 +139,8 @@ fn find_place(rows: &Rows, tail: Vertex, a: ArcNo) -> usize
 }
 
 impl Graph {
-    ghost use Rattle.road_graph.specs.Making.{IsRefusal, IsIndex};
+    ghost use Rattle.road_graph.specs.Making.{IsRefusal, IsIndex, end_of};
+    ghost use Rattle.road_graph.specs.declared.Side.TheVariants.{Tail};
     ghost use Rattle.road_graph.specs.Roads.{Roads, HasVertex, HasArc, arc_of, road_of};
     ghost use Rattle.road_graph.specs.Roads.{IsTurn, ListsArcsFrom, ListsArcsInto, ListsRoadsFrom};
 
@@ -171,11 +176,10 @@ impl Graph {
         Ok(Graph {
             vertices: n,
             arcs: Snapshot::of(&arcs),
-            tails,
             out_rows,
             out_roads,
             into_rows,
-            index: Vec::new(alloc),
+            ends: Ends::Tails(tails),
         })
     }
 
@@ -186,12 +190,15 @@ impl Graph {
     pub fn index(&mut self, alloc: Global) -> Result<(), Memory>
         ensures { self.new ≡ self.old }
     {
-        self.index = self.entries(alloc)?;
+        if let Ends::Tails(tails) = &self.ends {
+            self.ends = Ends::Index(self.entries(alloc, tails)?);
+        }
         Ok(())
     }
 
     /// The entries of all arcs, in the order of their numbers.
-    fn entries(&self, alloc: Global) -> Result<Vec<IndexEntry>, AllocError>
+    fn entries(&self, alloc: Global, tails: &[Vertex]) -> Result<Vec<IndexEntry>, AllocError>
+        requires { tails.now ≡ map (end_of Tail) self.now.arcs }
         ensures { IfOk result (λ entries. IsIndex self.now entries.items) }
     {
         let blank = IndexEntry {
@@ -199,10 +206,10 @@ impl Graph {
             head: Vertex(0),
             turn: 0,
         };
-        let mut entries = vec![in alloc; blank; self.tails.len()]?;
+        let mut entries = vec![in alloc; blank; tails.len()]?;
         for (place, number) in self.out_rows.numbers.iter().enumerate() {
             let at = number.0 as usize - 1;
-            let tail = self.tails[at];
+            let tail = tails[at];
             entries[at] = IndexEntry {
                 tail,
                 head: self.out_roads[place].head,
@@ -225,7 +232,7 @@ impl Graph {
     pub fn arcs(&self) -> usize
         ensures { result ≡ length self.now.arcs }
     {
-        self.tails.len()
+        self.out_roads.len()
     }
 
     /// Whether v is a vertex of this graph.
@@ -254,10 +261,10 @@ impl Graph {
         requires { HasArc self.now a }
         ensures { result ≡ (arc_of self.now a).tail }
     {
-        if let Some(entry) = self.index.get(a.0 as usize - 1) {
-            return entry.tail;
+        match &self.ends {
+            Ends::Tails(tails) => tails[a.0 as usize - 1],
+            Ends::Index(entries) => entries[a.0 as usize - 1].tail,
         }
-        self.tails[a.0 as usize - 1]
     }
 
     /// The vertex that an arc enters.
@@ -265,10 +272,10 @@ impl Graph {
         requires { HasArc self.now a }
         ensures { result ≡ (arc_of self.now a).head }
     {
-        if let Some(entry) = self.index.get(a.0 as usize - 1) {
-            return entry.head;
+        match &self.ends {
+            Ends::Tails(_) => self.road(a).head,
+            Ends::Index(entries) => entries[a.0 as usize - 1].head,
         }
-        self.road(a).head
     }
 
     /// The head and the weight of an arc.
@@ -276,10 +283,13 @@ impl Graph {
         requires { HasArc self.now a }
         ensures { result ≡ road_of (arc_of self.now a) }
     {
-        if let Some(entry) = self.index.get(a.0 as usize - 1) {
-            return self.roads_from(entry.tail)[entry.turn as usize];
+        match &self.ends {
+            Ends::Tails(_) => self.out_roads[find_place(&self.out_rows, self.tail(a), a)],
+            Ends::Index(entries) => {
+                let entry = entries[a.0 as usize - 1];
+                self.roads_from(entry.tail)[entry.turn as usize]
+            }
         }
-        self.out_roads[find_place(&self.out_rows, self.tail(a), a)]
     }
 
     /// Where an arc stands among those that leave its tail, an index into what `out` and `roads_from` give for that.
@@ -287,12 +297,14 @@ impl Graph {
         requires { HasArc self.now a }
         ensures { IsTurn self.now a result }
     {
-        if let Some(entry) = self.index.get(a.0 as usize - 1) {
-            return entry.turn as usize;
+        match &self.ends {
+            Ends::Tails(_) => {
+                let tail = self.tail(a);
+                let (start, _) = range_of(&self.out_rows.starts, tail);
+                find_place(&self.out_rows, tail, a) - start
+            }
+            Ends::Index(entries) => entries[a.0 as usize - 1].turn as usize,
         }
-        let tail = self.tail(a);
-        let (start, _) = range_of(&self.out_rows.starts, tail);
-        find_place(&self.out_rows, tail, a) - start
     }
 
     /// The arcs that leave a vertex, in ascending order.

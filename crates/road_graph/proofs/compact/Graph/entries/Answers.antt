@@ -8,43 +8,42 @@ use Rattle.road_graph.proofs.compact.Graph.entries.Goals as goal
 pub overflow_sub-at : goal.overflow_sub-at
 overflow_sub-at c =
     let G : Roads = record { vertices = c.self.inside.vertices; arcs = c.self.inside.arcs.value.items } in
-    number_some G c.self.invariant.0 c.self.inside.out_rows.starts.items c.self.inside.out_rows.numbers.items c.self.inside.tails.items c.self.invariant.1 c.self.invariant.4
+    number_some G c.self.invariant.0 c.self.inside.out_rows.starts.items c.self.inside.out_rows.numbers.items c.args.tails.now c.self.invariant.1 c.loop-place.invariant.are
     c.deref-number-items.result.now c.deref-number-items.ensures.value c.loop-place.place c.loop-place-test.true c.number.inside.0 c.number-item.result (c.number.view_is ∙ c.number-item.is)
 
-pub index-tail-requires : goal.index-tail-requires
-index-tail-requires c =
+pub bounds-tails-at : goal.bounds-tails-at
+bounds-tails-at c =
     let G : Roads = record { vertices = c.self.inside.vertices; arcs = c.self.inside.arcs.value.items } in
-    let l = number_inside G c.self.invariant.0 c.self.inside.out_rows.starts.items c.self.inside.out_rows.numbers.items c.self.inside.tails.items c.self.invariant.1 c.self.invariant.4
-    c.deref-number-items.result.now c.deref-number-items.ensures.value c.loop-place.place c.loop-place-test.true c.number.inside.0 c.number-item.result (c.number.view_is ∙ c.number-item.is) in
-    omega (arith, l, c.self.inside.tails.ok.0)
+    number_inside G c.self.invariant.0 c.self.inside.out_rows.starts.items c.self.inside.out_rows.numbers.items c.args.tails.now c.self.invariant.1 c.loop-place.invariant.are
+    c.deref-number-items.result.now c.deref-number-items.ensures.value c.loop-place.place c.loop-place-test.true c.number.inside.0 c.number-item.result (c.number.view_is ∙ c.number-item.is)
 
 pub overflow_sub-tail-inside : goal.overflow_sub-tail-inside
 overflow_sub-tail-inside c =
     let G : Roads = record { vertices = c.self.inside.vertices; arcs = c.self.inside.arcs.value.items } in
-    tail_some G c.self.invariant.0 c.self.inside.out_rows.starts.items c.self.inside.out_rows.numbers.items c.self.inside.tails.items c.self.invariant.1 c.self.invariant.4
+    tail_some G c.self.invariant.0 c.self.inside.out_rows.starts.items c.self.inside.out_rows.numbers.items c.args.tails.now c.self.invariant.1 c.loop-place.invariant.are
     c.deref-number-items.result.now c.deref-number-items.ensures.value c.loop-place.place c.loop-place-test.true c.number.inside.0 c.number-item.result (c.number.view_is ∙ c.number-item.is)
-    c.tail.inside.0 c.index-tail.result.now (c.tail.view_is ∙ c.index-tail.ensures)
+    c.tail.inside.0 c.index-tails-at.result (c.tail.view_is ∙ c.index-tails-at.is)
 
 pub index-requires-in-loop-place : goal.index-requires-in-loop-place
 index-requires-in-loop-place c =
     let G : Roads = record { vertices = c.self.inside.vertices; arcs = c.self.inside.arcs.value.items } in
-    let l = tail_inside G c.self.invariant.0 c.self.inside.out_rows.starts.items c.self.inside.out_rows.numbers.items c.self.inside.tails.items c.self.invariant.1 c.self.invariant.4
+    let l = tail_inside G c.self.invariant.0 c.self.inside.out_rows.starts.items c.self.inside.out_rows.numbers.items c.args.tails.now c.self.invariant.1 c.loop-place.invariant.are
     c.deref-number-items.result.now c.deref-number-items.ensures.value c.loop-place.place c.loop-place-test.true c.number.inside.0 c.number-item.result (c.number.view_is ∙ c.number-item.is)
-    c.tail.inside.0 c.index-tail.result.now (c.tail.view_is ∙ c.index-tail.ensures) in
+    c.tail.inside.0 c.index-tails-at.result (c.tail.view_is ∙ c.index-tails-at.is) in
     omega (arith, l, c.self.inside.out_rows.starts.ok.0)
 
 pub overflow_sub-place : goal.overflow_sub-place
 overflow_sub-place c =
     let G : Roads = record { vertices = c.self.inside.vertices; arcs = c.self.inside.arcs.value.items } in
-    start_before G c.self.invariant.0 c.self.inside.out_rows.starts.items c.self.inside.out_rows.numbers.items c.self.inside.tails.items c.self.invariant.1 c.self.invariant.4
+    start_before G c.self.invariant.0 c.self.inside.out_rows.starts.items c.self.inside.out_rows.numbers.items c.args.tails.now c.self.invariant.1 c.loop-place.invariant.are
     c.deref-number-items.result.now c.deref-number-items.ensures.value c.loop-place.place c.loop-place-test.true c.number.inside.0 c.number-item.result (c.number.view_is ∙ c.number-item.is)
-    c.tail.inside.0 c.index-tail.result.now (c.tail.view_is ∙ c.index-tail.ensures)
+    c.tail.inside.0 c.index-tails-at.result (c.tail.view_is ∙ c.index-tails-at.is)
     c.index-in-loop-place.result.now c.index-in-loop-place.result.now c.index-in-loop-place.ensures
 
 pub index_mut-requires : goal.index_mut-requires
 index_mut-requires c =
     let G : Roads = record { vertices = c.self.inside.vertices; arcs = c.self.inside.arcs.value.items } in
-    let l = number_inside G c.self.invariant.0 c.self.inside.out_rows.starts.items c.self.inside.out_rows.numbers.items c.self.inside.tails.items c.self.invariant.1 c.self.invariant.4
+    let l = number_inside G c.self.invariant.0 c.self.inside.out_rows.starts.items c.self.inside.out_rows.numbers.items c.args.tails.now c.self.invariant.1 c.loop-place.invariant.are
     c.deref-number-items.result.now c.deref-number-items.ensures.value c.loop-place.place c.loop-place-test.true c.number.inside.0 c.number-item.result (c.number.view_is ∙ c.number-item.is) in
     omega (arith, l, c.loop-place.invariant.count, c.loop-place.entries.ok.0)
 
@@ -54,16 +53,17 @@ loop-place-preserved c =
     let number = c.number.inside.0 in
     let turn = c.loop-place.place - c.index-in-loop-place.result.now in
     let new = subst (λ tail. IsEntry G number (record { tail = tail; head = c.index.result.now.head; turn = turn })) c.tail.view_is
-    (is_entry G c.self.invariant.0 c.self.inside.out_rows.starts.items c.self.inside.out_rows.numbers.items c.self.inside.tails.items c.self.invariant.1 c.self.invariant.4
+    (is_entry G c.self.invariant.0 c.self.inside.out_rows.starts.items c.self.inside.out_rows.numbers.items c.args.tails.now c.self.invariant.1 c.loop-place.invariant.are
     c.deref-number-items.result.now c.deref-number-items.ensures.value c.loop-place.place c.loop-place-test.true c.number.inside.0 c.number-item.result (c.number.view_is ∙ c.number-item.is)
-    c.tail.inside.0 c.index-tail.result.now (c.tail.view_is ∙ c.index-tail.ensures)
+    c.tail.inside.0 c.index-tails-at.result (c.tail.view_is ∙ c.index-tails-at.is)
     c.index-in-loop-place.result.now c.index-in-loop-place.result.now c.index-in-loop-place.ensures
     c.self.inside.out_roads.items c.self.invariant.3 c.index.result.now c.index.ensures) in
     record {
+      are = c.loop-place.invariant.are;
       count = simp length-set c.loop-place.invariant.count;
-      told = told_more G c.self.invariant.0 c.self.inside.out_rows.starts.items c.self.inside.out_rows.numbers.items c.self.inside.tails.items c.self.invariant.1 c.self.invariant.4
+      told = told_more G c.self.invariant.0 c.self.inside.out_rows.starts.items c.self.inside.out_rows.numbers.items c.args.tails.now c.self.invariant.1 c.loop-place.invariant.are
           c.deref-number-items.result.now c.deref-number-items.ensures.value c.loop-place.place c.loop-place-test.true c.number.inside.0 c.number-item.result (c.number.view_is ∙ c.number-item.is)
-          c.loop-place.entries.items (record { tail = c.index-tail.result.now; head = c.index.result.now.head; turn = turn }) c.loop-place.invariant.count new c.loop-place.invariant.told;
+          c.loop-place.entries.items (record { tail = c.index-tails-at.result; head = c.index.result.now.head; turn = turn }) c.loop-place.invariant.count new c.loop-place.invariant.told;
     }
 
 pub returns : goal.returns
@@ -71,4 +71,4 @@ returns c =
     let G : Roads = record { vertices = c.self.inside.vertices; arcs = c.self.inside.arcs.value.items } in
     let is : G ≡ c.args.self.now = c.self.view_is in
     subst (λ (h : Roads). IsIndex h c.loop-place.entries.items) is
-    (all_told G c.self.invariant.0 c.self.inside.out_rows.starts.items c.self.inside.out_rows.numbers.items c.self.inside.tails.items c.self.invariant.1 c.self.invariant.4 c.loop-place.entries.items c.loop-place.place (rw (← c.deref-number-items.ensures.value) c.loop-place-test.false) c.loop-place.invariant.told)
+    (all_told G c.self.invariant.0 c.self.inside.out_rows.starts.items c.self.inside.out_rows.numbers.items c.args.tails.now c.self.invariant.1 c.loop-place.invariant.are c.loop-place.entries.items c.loop-place.place (rw (← c.deref-number-items.ensures.value) c.loop-place-test.false) c.loop-place.invariant.count c.loop-place.invariant.told)

@@ -1,21 +1,22 @@
-use Rattle.std.proofs.Common.{◌≡◌, ◌∙◌, subst, sym, arith}
+use Rattle.std.proofs.Common.{◌≡◌, ◌∙◌, subst, sym}
 use Rattle.road_graph.specs.Roads.{Roads, HasArc, arc_of}
-use Rattle.road_graph.specs.Making.{IsIndex}
+use Rattle.road_graph.specs.Making.{IsEnds, IsIndex}
 use Rattle.road_graph.proofs.Places.{has_in_row}
 use Rattle.road_graph.proofs.Entries.{road_by_entry}
 use Rattle.road_graph.proofs.compact.Graph.road.Goals as goal
 
 pub bounds-roads_from-entry : goal.bounds-roads_from-entry
 bounds-roads_from-entry c =
-    let known = subst (λ (h : Roads). IsIndex h c.self.inside.index.items) c.self.view_is c.self.invariant.5 in
-    (road_by_entry c.args.self.now c.self.inside.index.items c.deref.result.now c.deref.ensures.value known c.args.a c.requires c.a.inside.0 c.a.view_is
-    c.in-Some.entry.now (omega (arith, c.in-Some.ensures)) c.in-Some.ensures.lookup.1 c.roads_from.result.now c.roads_from.ensures).0
+    let known = subst (λ (h : Roads). IsIndex h c.in-Index.entries.items) c.self.view_is
+    (subst (λ ends. IsEnds (record { vertices = c.self.inside.vertices; arcs = c.self.inside.arcs.value.items }) ends) c.in-Index.is c.self.invariant.4) in
+    (road_by_entry c.args.self.now c.in-Index.entries.items known c.args.a c.requires c.a.inside.0 c.a.view_is c.index-entry.result.now c.index-entry.ensures c.roads_from.result.now c.roads_from.ensures).0
 
-pub returns-in-Some : goal.returns-in-Some
-returns-in-Some c =
-    let known = subst (λ (h : Roads). IsIndex h c.self.inside.index.items) c.self.view_is c.self.invariant.5 in
-    c.index-roads_from-entry.is ∙ (road_by_entry c.args.self.now c.self.inside.index.items c.deref.result.now c.deref.ensures.value known c.args.a c.requires c.a.inside.0 c.a.view_is
-    c.in-Some.entry.now (omega (arith, c.in-Some.ensures)) c.in-Some.ensures.lookup.1 c.roads_from.result.now c.roads_from.ensures).1 c.index-roads_from-entry.result
+pub returns-in-Index : goal.returns-in-Index
+returns-in-Index c =
+    let known = subst (λ (h : Roads). IsIndex h c.in-Index.entries.items) c.self.view_is
+    (subst (λ ends. IsEnds (record { vertices = c.self.inside.vertices; arcs = c.self.inside.arcs.value.items }) ends) c.in-Index.is c.self.invariant.4) in
+    c.index-roads_from-entry.is ∙
+    (road_by_entry c.args.self.now c.in-Index.entries.items known c.args.a c.requires c.a.inside.0 c.a.view_is c.index-entry.result.now c.index-entry.ensures c.roads_from.result.now c.roads_from.ensures).1 c.index-roads_from-entry.result
 
 pub find_place-requires-clause-row : goal.find_place-requires-clause-row
 find_place-requires-clause-row c =

@@ -18,15 +18,15 @@ overflow_sub-result c =
     let is : G ≡ c.args.self.now = c.self.view_is in
     let v = c.tail-tail.result in
     let tail : v ≡ (arc_of G c.args.a).tail = subst (λ (h : Roads). v ≡ (arc_of h c.args.a).tail) (sym is) c.tail-tail.ensures in
-    let start : c.range_of-start.result.0 ≡ get_or c.self.inside.out_rows.starts.items (v - 1) 0 = rw (← c.deref-2.ensures.value) c.range_of-start.ensures.start in
+    let start : c.range_of-start.result.0 ≡ get_or c.self.inside.out_rows.starts.items (v - 1) 0 = rw (← c.deref.ensures.value) c.range_of-start.ensures.start in
     (turn_is G c.self.inside.out_rows.starts.items c.self.inside.out_rows.numbers.items c.self.invariant.1 c.args.a v c.find_place.result c.range_of-start.result.0 tail c.find_place.ensures start).0
 
-pub returns : goal.returns
-returns c =
+pub returns-in-Tails : goal.returns-in-Tails
+returns-in-Tails c =
     let G : Roads = record { vertices = c.self.inside.vertices; arcs = c.self.inside.arcs.value.items } in
     let is : G ≡ c.args.self.now = c.self.view_is in
     let v = c.tail-tail.result in
     let tail : v ≡ (arc_of G c.args.a).tail = subst (λ (h : Roads). v ≡ (arc_of h c.args.a).tail) (sym is) c.tail-tail.ensures in
-    let start : c.range_of-start.result.0 ≡ get_or c.self.inside.out_rows.starts.items (v - 1) 0 = rw (← c.deref-2.ensures.value) c.range_of-start.ensures.start in
+    let start : c.range_of-start.result.0 ≡ get_or c.self.inside.out_rows.starts.items (v - 1) 0 = rw (← c.deref.ensures.value) c.range_of-start.ensures.start in
     subst (λ (h : Roads). IsTurn h c.args.a (c.find_place.result - c.range_of-start.result.0)) is
     (turn_is G c.self.inside.out_rows.starts.items c.self.inside.out_rows.numbers.items c.self.invariant.1 c.args.a v c.find_place.result c.range_of-start.result.0 tail c.find_place.ensures start).1

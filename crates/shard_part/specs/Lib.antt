@@ -14,6 +14,7 @@ pub mod Queue
 pub mod Moves
 pub mod Part
 pub mod Readings
+pub mod Closed
 pub mod Exchange
 pub mod Opening
 pub mod Arriving

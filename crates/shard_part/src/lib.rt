@@ -2,6 +2,7 @@
 #![tactic(auto)]
 
 mod batch;
+mod closed;
 pub mod laws;
 mod layout;
 mod part;
@@ -16,6 +17,7 @@ mod tables;
 mod tally;
 
 pub use batch::Batch;
+pub use closed::ClosedPart;
 pub use part::Part;
 pub use plan::{Plan, PlanFault};
 pub use question::Question;

@@ -12,6 +12,7 @@ ghost use Rattle.shard_part.specs.Exchange.{Fits};
 ghost use Rattle.shard_part.specs.Part.{HandledFront, HandledMany, IsRunOn};
 
 use crate::batch::Batch;
+use crate::closed::ClosedPart;
 use crate::plan::Plan;
 use crate::shard::Shard;
 use crate::state::PartState;
@@ -111,6 +112,14 @@ impl<'g, A: PathAlgebra> Part<'g, A> {
         ensures batch { batch.new ≡ buffer [] batch.old.capacity }
     {
         self.state.receive(batch)
+    }
+
+    /// Lets the tables of arcs, the queue and the outboxes go, and keeps the labels of the vertices and the counts.
+    pub fn close(self) -> ClosedPart<'g, A>
+        ensures { result ≡ self.entry }
+    {
+        let Part { state } = self;
+        ClosedPart::of(state)
     }
 }
 

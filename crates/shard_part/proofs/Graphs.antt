@@ -1,7 +1,7 @@
 -- What the graph and the plan say of the network's arcs and places.
 use Rattle.std.proofs.Common.{◌≡◌, ◌≢◌, ℕ, zero, suc, ◌+◌, ◌-◌, ◌<◌, ◌≤◌, List, length, get_or, take, ◌⊎◌, refl, sym, ap, ◌∙◌, subst, inl, inr, arith, Contains}
 use Rattle.std.proofs.lemmas.Grind.{get_or_default_zero}
-use Rattle.std.proofs.lemmas.List.{get_or_read, get_or-map, length-map}
+use Rattle.std.proofs.lemmas.List.{get_or-map, length-map}
 use Rattle.road_graph.specs.Roads.{Roads, IsRoads, HasVertex, HasArc, ListsArcsFrom, ListsRoadsFrom, arc_of, road_of, roads_of}
 use Rattle.road_graph.specs.declared.OutRoad.{OutRoad}
 use Rattle.scholten_core.specs.Network.{network}
@@ -71,13 +71,13 @@ module _ {S : Type 0} (t : Setup S) where
 
 module _ {S V : Type 0} where
   -- where the arcs of a place begin
-  pub row_leaves : (p old : PartData S V) (r : Rows V) (n : ℕ) (ns : List ℕ) (v j k d : ℕ) → p ≡ old → IsStored p r n ns → IsPlace old v j → k < length (outgoing (network_in old.setup) v) → d ≡ get_or r.offsets j d →
+  pub row_leaves : (p old : PartData S V) (r : Rows V) (n : ℕ) (ns : List ℕ) (v j k d : ℕ) → p ≡ old → IsStored p r n ns → IsPlace old v j → k < length (outgoing (network_in old.setup) v) → d ≡ get_or r.offsets j 0 →
       (d + k < length r.busy) × IsRow old (get_or (outgoing (network_in old.setup) v) k 0) (d + k)
   row_leaves p old r n ns v j k d e D Q l h =
       let P : IsPlace p v j = subst (λ (u : PartData S V). IsPlace u v j) (sym e) Q in
       let l2 : k < length (outgoing (network_in p.setup) (get_or (own_in p.setup p.shard) j 0)) = subst (λ w. k < length (outgoing (network_in p.setup) w)) (sym P.vertex) (subst (λ (u : PartData S V). k < length (outgoing (network_in u.setup) v)) (sym e) l) in
       let A = arc_at_place (network_in p.setup) (own_in p.setup p.shard) j k P.inside l2 in
-      let o : d ≡ length (arcs_out (network_in p.setup) (take j (own_in p.setup p.shard))) = get_or_read r.offsets j d (let q = D.sized.offsets in let z = P.inside in omega (arith, q, z)) h 0 ∙ D.sized.starts j P.inside in (
+      let o : d ≡ length (arcs_out (network_in p.setup) (take j (own_in p.setup p.shard))) = h ∙ D.sized.starts j P.inside in (
         (let a = A.0 in let b = D.sized.busy in omega (arith, a, b, o)),
         subst (λ (u : PartData S V). IsRow u (get_or (outgoing (network_in u.setup) v) k 0) (d + k)) e (record {
           inside = (let a = A.0 in omega (arith, a, o));

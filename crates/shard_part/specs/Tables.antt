@@ -1,7 +1,8 @@
 -- The tables of a shard: a value for each of its vertices and arcs, by place.
+use Rattle.std.specs.Simd.Lanes.{zip2}
 use Rattle.std.specs.Prelude.{◌≢◌, ℕ, zero, suc, ◌<◌, Bool, cond, eqb, Option, Some, None, List, [], ◌∷◌, length, map, set, get_or, replicate}
 use Rattle.shard_part.specs.declared.tables.VertexRow.{VertexRow}
-use Rattle.shard_part.specs.declared.tables.ArcRow.{ArcRow}
+use Rattle.shard_part.specs.declared.tables.ArcMarks.{ArcMarks}
 
 -- the list of n entries in which the j-th value stands at the j-th key, and `none` elsewhere
 unfoldable pub spread : {X : Type 0} → List ℕ → List X → X → ℕ → List X
@@ -23,6 +24,7 @@ pub record VertexLists (V : Type 0) : Type 0 where
   pub labels : List (Option V)
   pub engagers : List (Option ℕ)
   pub deficits : List ℕ
+  pub offsets : List ℕ
 
 -- what is known of the arcs, by place
 pub record ArcLists (V : Type 0) : Type 0 where
@@ -33,14 +35,18 @@ pub record ArcLists (V : Type 0) : Type 0 where
 abbrev pub label_in : {V : Type 0} → VertexRow V → Option V
 label_in r = cond r.labelled (Some r.value) None
 
--- what the arc of a row was told, if it was told anything
-abbrev pub told_in : {V : Type 0} → ArcRow V → Option V
-told_in r = cond r.told (Some r.value) None
+-- the engager in a row, if there is one
+abbrev pub engager_in : {V : Type 0} → VertexRow V → Option ℕ
+engager_in r = cond r.engaged (Some r.engager) None
+
+-- what an arc of these marks was told, if it was told anything
+abbrev pub told_in : {V : Type 0} → ArcMarks → V → Option V
+told_in m label = cond m.told (Some label) None
 
 -- rows of vertices, as a list for each thing that is known of them
 abbrev pub vertex_lists : {V : Type 0} → List (VertexRow V) → VertexLists V
-vertex_lists rows = record { labels = map label_in rows; engagers = map (λ r. r.engager) rows; deficits = map (λ r. r.deficit) rows }
+vertex_lists rows = record { labels = map label_in rows; engagers = map engager_in rows; deficits = map (λ r. r.deficit) rows; offsets = map (λ r. r.offset) rows }
 
--- rows of arcs, likewise
-abbrev pub arc_lists : {V : Type 0} → List (ArcRow V) → ArcLists V
-arc_lists rows = record { busy = map (λ r. r.busy) rows; told = map told_in rows }
+-- marks and labels of arcs, likewise
+abbrev pub arc_lists : {V : Type 0} → List ArcMarks → List V → ArcLists V
+arc_lists marks labels = record { busy = map (λ m. m.busy) marks; told = zip2 told_in marks labels }

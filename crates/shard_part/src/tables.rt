@@ -3,6 +3,7 @@ ghost use Rattle.std.specs.Prelude.{◌≡◌, ◌<◌, Some, None, false, lengt
 
 use crate::layout::filled;
 use road_graph::{ArcNo, Vertex};
+use scholten_core::ENTRY;
 use std::alloc::{AllocError, Global};
 use std::marker::Model;
 
@@ -11,8 +12,6 @@ use std::marker::Model;
 pub struct Tables<V> {
     /// The environment, then the vertices of the shard, ascending.
     pub own: Vec<Vertex>,
-    /// Where the arcs out of each vertex begin in `arcs`.
-    pub offsets: Vec<u32>,
     pub vertices: VertexTable<V>,
     pub arcs: ArcTable<V>,
 }
@@ -22,17 +21,19 @@ pub struct Tables<V> {
 pub struct VertexRow<V> {
     /// Its label, if it has one, and else any value.
     pub value: V,
-    pub engager: Option<ArcNo>,
+    /// Its engager, if it has one, and else any arc.
+    pub engager: ArcNo,
     /// How many arcs out of it are busy.
     pub deficit: u32,
+    /// Where the arcs out of it begin in the table of arcs.
+    pub offset: u32,
     pub labelled: bool,
+    pub engaged: bool,
 }
 
-/// What is known of one arc.
+/// What is known of one arc, but for the label that it was told.
 #[derive(Clone, Copy)]
-pub struct ArcRow<V> {
-    /// What it was told last, if it was told anything, and else any value.
-    pub value: V,
+pub struct ArcMarks {
     pub told: bool,
     pub busy: bool,
 }
@@ -43,10 +44,12 @@ pub struct VertexTable<V> {
     rows: Vec<VertexRow<V>>,
 }
 
-/// What is known of the arcs, all of one together.
+/// What is known of the arcs: the marks of many lie in one place of memory, and a label is loaded only where an arc was told one.
 #[derive(Drop)]
 pub struct ArcTable<V> {
-    rows: Vec<ArcRow<V>>,
+    marks: Vec<ArcMarks>,
+    /// What each arc was told last, if it was told anything, and else any value.
+    labels: Vec<V>,
 }
 
 impl<V> Model for VertexTable<V> {
@@ -58,25 +61,32 @@ impl<V> Model for VertexTable<V> {
 }
 
 impl<V> Model for ArcTable<V> {
+    ghost use Rattle.std.specs.Prelude.{◌≡◌, length};
     ghost use Rattle.shard_part.specs.Tables.{ArcLists, arc_lists};
 
     ghost Value = { ArcLists V };
 
-    ghost view = { λ t. arc_lists t.rows.items };
+    ghost view = { λ t. arc_lists t.marks.items t.labels.items };
+
+    ghost invariant = { λ t. length t.marks.items ≡ length t.labels.items };
 }
 
 impl<V: Copy> VertexTable<V> {
-    /// So many vertices without a label and an engager, none of whose arcs is busy. The value stands in for labels.
-    pub fn idle(alloc: Global, n: usize, value: V) -> Result<VertexTable<V>, AllocError>
-        ensures { IfOk result (λ t. t ≡ record { labels = replicate n None; engagers = replicate n None; deficits = replicate n 0 }) }
+    /// Vertices without a label and an engager, none of whose arcs is busy, by where their arcs begin. The value stands in for labels.
+    pub fn idle(alloc: Global, offsets: &[u32], value: V) -> Result<VertexTable<V>, AllocError>
+        ensures { IfOk result (λ t. t ≡ record { labels = replicate (length offsets.now) None; engagers = replicate (length offsets.now) None; deficits = replicate (length offsets.now) 0; offsets = offsets.now }) }
     {
-        let row = VertexRow {
-            value,
-            engager: None,
-            deficit: 0,
-            labelled: false,
-        };
-        let rows = filled(alloc, row, n)?;
+        let mut rows = Vec::with_capacity(alloc, offsets.len())?;
+        for offset in offsets {
+            rows.push(VertexRow {
+                value,
+                engager: ENTRY,
+                deficit: 0,
+                offset: *offset,
+                labelled: false,
+                engaged: false,
+            })?;
+        }
         Ok(VertexTable { rows })
     }
 
@@ -107,7 +117,8 @@ impl<V: Copy> VertexTable<V> {
         requires { j < length self.now.engagers }
         ensures { result ≡ get_or self.now.engagers j None }
     {
-        self.rows[j].engager
+        let row = self.rows[j];
+        if row.engaged { Some(row.engager) } else { None }
     }
 
     /// Its engager becomes another.
@@ -115,7 +126,12 @@ impl<V: Copy> VertexTable<V> {
         requires { j < length self.old.engagers }
         ensures { self.new ≡ record self.old { engagers = set self.old.engagers j engager } }
     {
-        self.rows[j].engager = engager;
+        let row = self.rows[j];
+        self.rows[j] = VertexRow {
+            engager: engager.unwrap_or(row.engager),
+            engaged: engager.is_some(),
+            ..row
+        };
     }
 
     /// How many arcs out of the vertex at a place are busy.
@@ -133,6 +149,14 @@ impl<V: Copy> VertexTable<V> {
     {
         self.rows[j].deficit = deficit;
     }
+
+    /// Where the arcs out of the vertex at a place begin in the table of arcs.
+    pub fn offset(&self, j: usize) -> u32
+        requires { j < length self.now.offsets }
+        ensures { result ≡ get_or self.now.offsets j 0 }
+    {
+        self.rows[j].offset
+    }
 }
 
 impl<V: Copy> ArcTable<V> {
@@ -140,13 +164,14 @@ impl<V: Copy> ArcTable<V> {
     pub fn idle(alloc: Global, n: usize, value: V) -> Result<ArcTable<V>, AllocError>
         ensures { IfOk result (λ t. t ≡ record { busy = replicate n false; told = replicate n None }) }
     {
-        let row = ArcRow {
-            value,
+        let marks = ArcMarks {
             told: false,
             busy: false,
         };
-        let rows = filled(alloc, row, n)?;
-        Ok(ArcTable { rows })
+        Ok(ArcTable {
+            marks: filled(alloc, marks, n)?,
+            labels: filled(alloc, value, n)?,
+        })
     }
 
     /// Whether the arc at a place is busy.
@@ -154,7 +179,7 @@ impl<V: Copy> ArcTable<V> {
         requires { i < length self.now.busy }
         ensures { result ≡ get_or self.now.busy i false }
     {
-        self.rows[i].busy
+        self.marks[i].busy
     }
 
     /// It becomes busy, or idle.
@@ -162,7 +187,7 @@ impl<V: Copy> ArcTable<V> {
         requires { i < length self.old.busy }
         ensures { self.new ≡ record self.old { busy = set self.old.busy i busy } }
     {
-        self.rows[i].busy = busy;
+        self.marks[i].busy = busy;
     }
 
     /// What the arc at a place was told last.
@@ -170,8 +195,11 @@ impl<V: Copy> ArcTable<V> {
         requires { i < length self.now.told }
         ensures { result ≡ get_or self.now.told i None }
     {
-        let row = self.rows[i];
-        if row.told { Some(row.value) } else { None }
+        if self.marks[i].told {
+            Some(self.labels[i])
+        } else {
+            None
+        }
     }
 
     /// It is told a label, or that there is none.
@@ -179,11 +207,12 @@ impl<V: Copy> ArcTable<V> {
         requires { i < length self.old.told }
         ensures { self.new ≡ record self.old { told = set self.old.told i label } }
     {
-        let row = self.rows[i];
-        self.rows[i] = ArcRow {
-            value: label.unwrap_or(row.value),
-            told: label.is_some(),
-            ..row
-        };
+        match label {
+            Some(value) => {
+                self.labels[i] = value;
+                self.marks[i].told = true;
+            }
+            None => self.marks[i].told = false,
+        }
     }
 }

@@ -12,14 +12,14 @@ use crate::open::push;
 use path_algebra::{Labels, PathAlgebra};
 use post_floor::{Floor, Seat};
 use road_graph::Vertex;
-use shard_part::{Part, Plan, Shard, Tally};
+use shard_part::{ClosedPart, Plan, Shard, Tally};
 use std::alloc::{AllocError, Global};
 use std::marker::Model;
 
-/// A station whose last turn reported the end.
+/// A station whose last turn reported the end. Of its part there are the labels and the counts; the tables of arcs, the queue and the outboxes were let go.
 #[derive(Drop)]
 pub struct Finished<'g, A: PathAlgebra> {
-    pub(crate) part: Part<'g, A>,
+    pub(crate) part: ClosedPart<'g, A>,
     pub(crate) seat: Seat<A>,
     pub(crate) plan: &'g Plan,
 }

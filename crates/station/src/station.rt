@@ -79,7 +79,7 @@ impl<'g, A: PathAlgebra> Station<'g, A> {
         }
     }
 
-    /// What `gather` takes of a station whose last turn reported the end. Another comes back as it was.
+    /// What `gather` takes of a station whose last turn reported the end: the tables of arcs, the queue and the outboxes are let go. Another comes back as it was.
     pub fn finish(self) -> Result<Finished<'g, A>, Station<'g, A>>
         ensures finished { IfOk result (λ f. HasEnded self.entry × (f ≡ self.entry)) }
         ensures back { IfErr result (λ s. (HasEnded self.entry → ⊥) × (s ≡ self.entry)) }
@@ -93,7 +93,11 @@ impl<'g, A: PathAlgebra> Station<'g, A> {
             plan,
             ended: _,
         } = self;
-        Ok(Finished { part, seat, plan })
+        Ok(Finished {
+            part: part.close(),
+            seat,
+            plan,
+        })
     }
 
     /// Whether its last turn reported the end.

@@ -51,7 +51,7 @@ impl<'g, A: PathAlgebra> PartState<'g, A> {
         let queue = opening_queue(alloc, algebra, sum_of(&capacities), first)?;
         capacities[shard.0 as usize] = 0;
         let outs = empty_batches(alloc, &capacities)?;
-        let tables = idle_tables(alloc, own, offsets, arcs, first, algebra.origin())?;
+        let tables = idle_tables(alloc, own, &offsets, arcs, first, algebra.origin())?;
         Ok(PartState {
             algebra,
             graph,
@@ -108,22 +108,22 @@ fn empty_batches<V: Copy>(alloc: Global, capacities: &[usize]) -> Result<Vec<Bat
 fn idle_tables<V: Copy>(
     alloc: Global,
     own: Vec<Vertex>,
-    offsets: Vec<u32>,
+    offsets: &[u32],
     arcs: usize,
     entry: bool,
     value: V,
 ) -> Result<Tables<V>, AllocError>
     requires vertices { 1 ≤ length own.items }
+    requires offsets { length offsets.now ≡ length own.items }
     requires arcs { 1 ≤ arcs }
-    ensures { IfOk result (λ t. rows_of t ≡ idle_rows own.items offsets.items arcs entry) }
+    ensures { IfOk result (λ t. rows_of t ≡ idle_rows own.items offsets.now arcs entry) }
 {
-    let mut vertices = VertexTable::idle(alloc, own.len(), value)?;
+    let mut vertices = VertexTable::idle(alloc, offsets, value)?;
     let mut arcs = ArcTable::idle(alloc, arcs, value)?;
     vertices.set_deficit(0, u32::from(entry));
     arcs.set_busy(0, entry);
     Ok(Tables {
         own,
-        offsets,
         vertices,
         arcs,
     })

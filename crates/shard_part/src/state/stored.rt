@@ -50,7 +50,7 @@ impl<'g, A: PathAlgebra> PartState<'g, A> {
         requires arc { k < length (outgoing (network_in self.now.setup) v.vertex) }
         ensures { IsRow self.now (get_or (outgoing (network_in self.now.setup) v.vertex) k 0) result }
     {
-        self.tables.offsets[v.at] as usize + k
+        self.tables.vertices.offset(v.at) as usize + k
     }
 
     /// Where the arc a stands among those out of its tail.

@@ -1,5 +1,4 @@
 use Rattle.std.proofs.Common.{Some, true, ◌∷◌, ◌++◌, [], refl, sym, ap, subst, ◌∙◌, arith}
-use Rattle.shard_part.specs.Readings.{tally_in}
 use Rattle.shard_part.specs.Tallies.{together}
 use Rattle.station.specs.Station.{BelongsTo, StationData}
 use Rattle.std.proofs.lemmas.List.Elements.{All-pop}
@@ -22,6 +21,6 @@ loop-station-preserved g c =
     record {
       own = own.0;
       handed = handed_more f.id c.args.stations.items c.loop-station.stations.items c.pop.new.self.items c.loop-station.seats.items c.push.new.self.items s c.loop-station.tally c.add.new.self i.handed e c.in-Ok.ensures.items
-          own.1.floor (v.over refl).seen v.shard v.shows (c.add.ensures ∙ ap (λ z. together z c.loop-station.tally) (c.tally.ensures ∙ ap tally_in c.deref.ensures));
+          own.1.floor (v.over refl).seen v.shard v.shows (c.add.ensures ∙ ap (λ z. together z c.loop-station.tally) c.tally.ensures);
       room = let a = c.in-Some.ensures.cases in let b = c.in-Ok.ensures.len in let d = c.in-Ok.ensures.capacity in let r = i.room in omega (arith, a, b, d, r);
     }

@@ -29,7 +29,7 @@ pub record Rows (V : Type 0) : Type 0 where
   pub told : List (Option V)
 
 abbrev pub rows_of : {V : Type 0} → Tables V → Rows V
-rows_of t = record { own = t.own.items; offsets = t.vertices.offsets; labels = t.vertices.labels; engagers = t.vertices.engagers; deficits = t.vertices.deficits; busy = t.arcs.busy; told = t.arcs.told }
+rows_of t = record { own = t.own; offsets = t.vertices.offsets; labels = t.vertices.labels; engagers = t.vertices.engagers; deficits = t.vertices.deficits; busy = t.arcs.busy; told = t.arcs.told }
 
 -- the part that the tables and rings of a shard are seen as: each value stands at the number that it belongs to
 abbrev pub seen_as : {S V : Type 0} → Setup S → ℕ → Rows V → List (Item V) → List (List (Item V)) → ℕ → ℕ → ℕ → ℕ → PartData S V

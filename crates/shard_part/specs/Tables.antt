@@ -1,6 +1,8 @@
 -- The tables of a shard: a value for each of its vertices and arcs, by place.
 use Rattle.std.specs.Simd.Lanes.{zip2}
-use Rattle.std.specs.Prelude.{◌≢◌, ℕ, zero, suc, ◌<◌, Bool, cond, eqb, Option, Some, None, List, [], ◌∷◌, length, map, set, get_or, replicate}
+use Rattle.std.specs.Prelude.{◌≡◌, ◌≢◌, ℕ, zero, suc, ◌+◌, ◌<◌, Bool, cond, eqb, Option, Some, None, List, [], ◌∷◌, length, map, set, get_or, replicate}
+use Rattle.shard_part.specs.declared.own.Places.{Places}
+use Rattle.shard_part.specs.declared.own.Places.TheVariants.{Run, Listed}
 use Rattle.shard_part.specs.declared.tables.VertexRow.{VertexRow}
 use Rattle.shard_part.specs.declared.tables.ArcMarks.{ArcMarks}
 
@@ -13,6 +15,15 @@ spread (k ∷ keys) (x ∷ values) none n = set (spread keys values none n) k x
 -- no two keys are the same
 abbrev pub IsApart : List ℕ → Type 0
 IsApart keys = (i j : ℕ) → i < j → j < length keys → get_or keys i 0 ≢ get_or keys j 0
+
+-- from the second on, the numbers of a list are start, start + 1, ..
+abbrev pub IsRun : ℕ → List ℕ → Type 0
+IsRun start xs = (1 < length xs) × ((j : ℕ) → suc j < length xs → get_or xs (suc j) 0 ≡ start + j)
+
+-- the places of these numbers are told by where they begin, since from the second on they follow one another, or by a list of them
+abbrev pub TellsPlaces : Places → List ℕ → Type 0
+TellsPlaces (Run start) xs = IsRun start xs
+TellsPlaces (Listed list) xs = list.items ≡ xs
 
 -- of the numbers k, k + 1, .., k + n - 1, those at the place s
 unfoldable pub placed : (ℕ → ℕ) → ℕ → ℕ → ℕ → List ℕ

@@ -5,7 +5,7 @@ ghost use Rattle.shard_part.specs.Sound.{IsSound};
 ghost use Rattle.shard_part.specs.Moves.{IsPlanned, IsTallied};
 ghost use Rattle.shard_part.specs.Readings.{IsOwn, tally_in};
 
-use crate::search::find_vertex;
+use crate::own::OwnVertices;
 use crate::shard::Shard;
 use crate::state::PartState;
 use crate::tables::{Tables, VertexTable};
@@ -21,8 +21,7 @@ pub struct ClosedPart<'g, A: PathAlgebra> {
     /// The part as it was, for contracts.
     part: Snapshot<PartState<'g, A>>,
     shard: Shard,
-    /// The environment, then the vertices of the shard, ascending.
-    own: Vec<Vertex>,
+    own: OwnVertices,
     vertices: VertexTable<A::Value>,
     tally: Tally,
 }
@@ -35,7 +34,7 @@ impl<'g, A: PathAlgebra> Model for ClosedPart<'g, A> {
 
     ghost view = { λ c. c.part.value };
 
-    ghost invariant = { λ c. IsClosedPart c.part.value c.shard c.own.items c.vertices.labels c.tally };
+    ghost invariant = { λ c. IsClosedPart c.part.value c.shard c.own c.vertices.labels c.tally };
 }
 
 impl<'g, A: PathAlgebra> ClosedPart<'g, A> {
@@ -72,7 +71,7 @@ impl<'g, A: PathAlgebra> ClosedPart<'g, A> {
         requires { IsOwn self.now v }
         ensures { result ≡ (state_in self.now).label v }
     {
-        self.vertices.label(find_vertex(&self.own, v))
+        self.vertices.label(self.own.find(v))
     }
 
     /// What the part counted, the environment's message and the acceptance of its signal at the source's part.

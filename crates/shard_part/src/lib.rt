@@ -5,6 +5,7 @@ mod batch;
 mod closed;
 pub mod laws;
 mod layout;
+mod own;
 mod part;
 mod place;
 mod plan;

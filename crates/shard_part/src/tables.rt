@@ -2,7 +2,8 @@
 ghost use Rattle.std.specs.Prelude.{◌≡◌, ◌<◌, Some, None, false, length, get_or, set, replicate, IfOk};
 
 use crate::layout::filled;
-use road_graph::{ArcNo, Vertex};
+use crate::own::OwnVertices;
+use road_graph::ArcNo;
 use scholten_core::ENTRY;
 use std::alloc::{AllocError, Global};
 use std::marker::Model;
@@ -10,8 +11,7 @@ use std::marker::Model;
 /// The tables of a part.
 #[derive(Drop)]
 pub struct Tables<V> {
-    /// The environment, then the vertices of the shard, ascending.
-    pub own: Vec<Vertex>,
+    pub own: OwnVertices,
     pub vertices: VertexTable<V>,
     pub arcs: ArcTable<V>,
 }

@@ -1,5 +1,6 @@
 //! A part as it is opened.
 ghost use Rattle.std.specs.Prelude.{◌≡◌, ℕ, ◌≤◌, ◌<◌, [], map, length, replicate, IsTrue, IfOk};
+ghost use Rattle.std.specs.List.Sorted.{IsStrictlyIncreasing};
 ghost use Rattle.circular_buffer.specs.Buffer.{buffer};
 ghost use Rattle.road_graph.specs.Roads.{HasVertex};
 ghost use Rattle.scholten_core.specs.Network.{network};
@@ -10,6 +11,7 @@ ghost use Rattle.shard_part.specs.Opening.{opened_part, first_items, idle_rows};
 
 use crate::batch::Batch;
 use crate::layout::{ShardLayout, sum_of};
+use crate::own::OwnVertices;
 use crate::plan::Plan;
 use crate::queue::Queue;
 use crate::shard::Shard;
@@ -114,6 +116,7 @@ fn idle_tables<V: Copy>(
     value: V,
 ) -> Result<Tables<V>, AllocError>
     requires vertices { 1 ≤ length own.items }
+    requires increasing { IsStrictlyIncreasing own.items }
     requires offsets { length offsets.now ≡ length own.items }
     requires arcs { 1 ≤ arcs }
     ensures { IfOk result (λ t. rows_of t ≡ idle_rows own.items offsets.now arcs entry) }
@@ -123,7 +126,7 @@ fn idle_tables<V: Copy>(
     vertices.set_deficit(0, u32::from(entry));
     arcs.set_busy(0, entry);
     Ok(Tables {
-        own,
+        own: OwnVertices::of(own),
         vertices,
         arcs,
     })

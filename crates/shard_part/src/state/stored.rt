@@ -8,7 +8,6 @@ ghost use Rattle.shard_part.specs.Sound.{IsClear};
 ghost use Rattle.shard_part.specs.Moves.{IsPlace, IsRow};
 
 use crate::place::{ArcPlace, VertexPlace};
-use crate::search::find_vertex;
 use crate::shard::Shard;
 use crate::state::PartState;
 use path_algebra::PathAlgebra;
@@ -25,7 +24,7 @@ impl<'g, A: PathAlgebra> PartState<'g, A> {
     {
         VertexPlace {
             vertex: v,
-            at: find_vertex(&self.tables.own, v),
+            at: self.tables.own.find(v),
         }
     }
 

@@ -1,4 +1,5 @@
 use Rattle.std.proofs.Common.{◌≡◌, rules, ap, sym, ◌∙◌, length, set, map, subst}
+use Rattle.std.specs.List.Sorted.{IsStrictlyIncreasing}
 use Rattle.scholten_core.specs.Network.{network}
 use Rattle.scholten_core.specs.Diffusion.{opening}
 use Rattle.scholten_core.specs.Sums.{one_if}
@@ -6,6 +7,7 @@ use Rattle.shard_part.specs.PartState.{PartData, place_in}
 use Rattle.shard_part.specs.Shows.{HoldsShare}
 use Rattle.shard_part.specs.Moves.{rows_of}
 use Rattle.shard_part.specs.Opening.{idle_rows}
+use Rattle.shard_part.proofs.Places.{own_increasing}
 use Rattle.shard_part.proofs.TablesOpen.{sum_small, sum_first, some_arc, made_seen, made_stored}
 use Rattle.shard_part.proofs.Opened.{opened_holds}
 use Rattle.shard_part.proofs.state.PartState.open.Goals as goal
@@ -23,6 +25,9 @@ opening_queue-requires-after_bounds g c κs within = λ z. sum_first (record { s
 pub idle_tables-requires-clause-arcs : goal.idle_tables-requires-clause-arcs
 idle_tables-requires-clause-arcs g c = some_arc (record { setup = record { question = record { algebra = tt; roads = c.args.graph.now; source = c.args.source }; plan = c.args.plan.now }; shard = c.args.shard }) (record { roads = c.vertices.ensures.roads; source = c.requires.source; plan = c.shards.ensures.plan; covers = c.requires.plan; shard = c.requires.shard })
     c.in_ok-own.own.items c.deref.result.now c.in_ok-offsets.offsets.items c.in_ok-offsets.arcs c.in_ok-offsets.ensures c.deref.ensures.value c.in_ok-own.ensures
+
+pub idle_tables-requires-clause-increasing : goal.idle_tables-requires-clause-increasing
+idle_tables-requires-clause-increasing g c = subst IsStrictlyIncreasing (sym c.in_ok-own.ensures) (own_increasing (record { question = record { algebra = tt; roads = c.args.graph.now; source = c.args.source }; plan = c.args.plan.now }) c.args.shard)
 
 pub idle_tables-requires-clause-offsets : goal.idle_tables-requires-clause-offsets
 idle_tables-requires-clause-offsets g c = ap length c.deref-5.ensures.value ∙ c.in_ok-offsets.ensures.long ∙ ap length c.deref.ensures.value

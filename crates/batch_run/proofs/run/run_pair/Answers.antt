@@ -1,18 +1,22 @@
 use Rattle.std.proofs.Common.{◌≡◌, ◌≢◌, ◌⊎◌, inl, inr, ℕ, List, Option, Result, Ok, Err, arith, rules}
-use Rattle.std.specs.Prelude.{IfErr}
+use Rattle.std.specs.Prelude.{IfErr, OnOk}
 use Rattle.std.proofs.lemmas.Result.{IfErr-weaker}
 use Rattle.road_graph.specs.Roads.{Roads}
 use Rattle.road_files.specs.Asked.{Asked, asked_of}
 use Rattle.path_algebra.specs.Algebra.{Algebra}
 use Rattle.batch_run.specs.declared.faults.RunFault.{RunFault}
 use Rattle.batch_run.specs.declared.faults.File.TheVariants.{NoFile}
-use Rattle.batch_run.specs.Answered.{WroteWhole}
-use Rattle.batch_run.specs.Ran.{BegunWhole, IsPairOf, IsPassedOn}
+use Rattle.batch_run.specs.Answered.{WroteAllOrFront, WroteWhole}
+use Rattle.batch_run.specs.Ran.{BegunWhole, Done, IsPairOf, IsPassedOn}
 use Rattle.batch_run.proofs.run.run_pair.Goals as goal
 
 module _ {V : Type 0} (A : Algebra V) (IsRead : Roads → Asked → Type 0) (g : Roads) (asked : Asked) (read : IsRead g asked) (old new : Option (List ℕ)) where
   begun : WroteWhole A g asked old new → BegunWhole A IsRead old new
   begun wrote = record { graph = g; asked = asked; read = read; wrote = wrote }
+
+  done : (r : Result (Unit {0}) RunFault) → WroteAllOrFront A g asked old new r → OnOk r (Done A IsRead old new)
+  done (Ok u) wrote = record { graph = g; asked = asked; read = read; wrote = wrote }
+  done (Err f) front = tt
 
   begun_without_memory : (r : Result (Unit {0}) RunFault) → IfErr r (λ f. f.number ≢ 42 → WroteWhole A g asked old new) → IfErr r (λ f. f.file ≡ NoFile → f.number ≡ 3 → BegunWhole A IsRead old new)
   begun_without_memory r = IfErr-weaker r _ _ (λ f wrote file three. begun (wrote (λ e. absurd (omega (arith, three, e)))))
@@ -26,6 +30,11 @@ module _ {V : Type 0} (A : Algebra V) (IsRead : Roads → Asked → Type 0) (g :
         | inr e ↦ λ z. absurd (omega (arith, e, z))
       ] in
       (begun (wrote other), passed other)
+
+pub returns-clause-done : goal.returns-clause-done
+returns-clause-done g c =
+    let read : IsPairOf (g.G.RoadRead.left c.args.graph_in.now) (g.Q.RoadRead.left c.args.questions_in.now) c.in-Ok.graph (asked_of c.in-Ok-read_questions.questions) = search rules in
+    done _ _ _ _ read _ _ c.answer_and_flush.result c.answer_and_flush.ensures.text
 
 pub returns-clause-whole : goal.returns-clause-whole
 returns-clause-whole g c =

@@ -19,6 +19,7 @@ enum Places {
 /// The environment, then the vertices of a shard, ascending.
 #[derive(Drop)]
 pub struct OwnVertices {
+    /// All of them, for contracts.
     all: Snapshot<Vec<Vertex>>,
     places: Places,
 }

@@ -38,14 +38,14 @@ module _ (g : Roads) (entries : List IndexEntry) (known : IsIndex g entries) (a 
   tells =
       let at : number - 1 ≡ a - 1 = ap (λ b. b - 1) is in
       let lt : number - 1 < length entries = (let count = known.count in omega (arith, arc.0, arc.1, is, count)) in
-      rw (read ∙ get_or_default entries (number - 1) entry (record { tail = 0; head = 0; turn = 0 }) lt ∙ ap (λ k. get_or entries k (record { tail = 0; head = 0; turn = 0 })) at) (known.tells a arc)
+      rw (read ∙ get_or_default entries (number - 1) entry (record { tail = 0; turn = 0 }) lt ∙ ap (λ k. get_or entries k (record { tail = 0; turn = 0 })) at) (known.tells a arc)
 
   pub road_by_entry : (roads : List OutRoad) → ListsRoadsFrom g entry.tail roads → (entry.turn < length roads) × ((d : OutRoad) → get_or roads entry.turn d ≡ road_of (arc_of g a))
   road_by_entry roads lists = road_at_turn g a entry.tail entry.turn roads tells.tail tells.turn lists
 
 -- the first k numbers have their entries
 abbrev pub AreTold : Roads → List ℕ → List IndexEntry → ℕ → Type 0
-AreTold g numbers entries k = (x : ℕ) → x < k → IsEntry g (get_or numbers x 0) (get_or entries (get_or numbers x 0 - 1) (record { tail = 0; head = 0; turn = 0 }))
+AreTold g numbers entries k = (x : ℕ) → x < k → IsEntry g (get_or numbers x 0) (get_or entries (get_or numbers x 0 - 1) (record { tail = 0; turn = 0 }))
 
 module _ (g : Roads) (roads : IsRoads g) (starts numbers tails : List ℕ) (known : AreRows Tail g.vertices g.arcs starts numbers) (are : tails ≡ map (end_of Tail) g.arcs) where
   pub all_told : (entries : List IndexEntry) (k : ℕ) → length numbers ≤ k → length entries ≡ length tails → AreTold g numbers entries k → IsIndex g entries
@@ -53,7 +53,7 @@ module _ (g : Roads) (roads : IsRoads g) (starts numbers tails : List ℕ) (know
     count = long ∙ simp length-map at (ap length are);
     tells = λ a arc.
         let at = stands g starts numbers known roads a arc in
-        subst (λ b. IsEntry g b (get_or entries (b - 1) (record { tail = 0; head = 0; turn = 0 }))) at.1.1 (told at.0 (let inside = at.1.0 in omega (arith, inside, all)));
+        subst (λ b. IsEntry g b (get_or entries (b - 1) (record { tail = 0; turn = 0 }))) at.1.1 (told at.0 (let inside = at.1.0 in omega (arith, inside, all)));
   }
 
   -- the number at k
@@ -76,13 +76,13 @@ module _ (g : Roads) (roads : IsRoads g) (starts numbers tails : List ℕ) (know
     pub told_more : (entries : List IndexEntry) (entry : IndexEntry) → length entries ≡ length tails → IsEntry g number entry →
         AreTold g numbers entries k → AreTold g numbers (set entries (number - 1) entry) (k + 1)
     told_more entries entry long new told = λ x x_lt. elim (cases_eq (get_or numbers x 0) number) [
-      | inl this ↦ rw (this, get_or-set_same entries (number - 1) entry (record { tail = 0; head = 0; turn = 0 }) (let l = number_inside in omega (arith, l, long))) new
+      | inl this ↦ rw (this, get_or-set_same entries (number - 1) entry (record { tail = 0; turn = 0 }) (let l = number_inside in omega (arith, l, long))) new
       | inr other ↦
           let ne : x ≡ k → ⊥ = λ e. other (ap (λ y. get_or numbers y 0) e ∙ sym is) in
           let below = lt in
           let first : 1 ≤ get_or numbers x 0 = (number_is_arc g starts numbers known x (omega (arith, below))).0 in
           let some = number_some in
-          rw (get_or-set_other entries (number - 1) (get_or numbers x 0 - 1) entry (record { tail = 0; head = 0; turn = 0 }) (λ e. other (omega (arith, e, first, some)))) (told x (omega (arith, ne)))
+          rw (get_or-set_other entries (number - 1) (get_or numbers x 0 - 1) entry (record { tail = 0; turn = 0 }) (λ e. other (omega (arith, e, first, some)))) (told x (omega (arith, ne)))
     ]
 
     -- its tail, as the tails give it
@@ -104,6 +104,5 @@ module _ (g : Roads) (roads : IsRoads g) (starts numbers tails : List ℕ) (know
         pub start_before : start ≤ k
         start_before = turn.0
 
-        pub is_entry : (list : List OutRoad) → list ≡ roads_of g numbers → (road : OutRoad) → road ≡ get_or list k road → IsEntry g number (record { tail = tail; head = road.head; turn = k - start })
-        is_entry list is_list road road_at =
-            record { tail = tail_is; head = ap (λ (r : OutRoad). r.head) (road_at ∙ road_read g numbers list is_list k lt road ∙ ap (λ b. road_of (arc_of g b)) (sym is)); turn = turn.1 }
+        pub is_entry : IsEntry g number (record { tail = tail; turn = k - start })
+        is_entry = record { tail = tail_is; turn = turn.1 }

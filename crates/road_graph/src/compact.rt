@@ -12,11 +12,10 @@ use std::fmt;
 use std::marker::Model;
 use std::snapshot::Snapshot;
 
-/// What the index tells of an arc: its ends, and where it stands among the arcs that leave its tail.
+/// What the index tells of an arc: its tail, and where it stands among the arcs that leave that.
 #[derive(Debug, Clone, Copy)]
 pub(crate) struct IndexEntry {
     tail: Vertex,
-    head: Vertex,
     turn: u32,
 }
 
@@ -32,7 +31,7 @@ enum Ends {
 /// A directed graph with its arcs by number, by tail and by head.
 ///
 /// It takes 20 bytes for each arc and 8 for each vertex: heads and weights stand once, in the order of the outgoing rows.
-/// Once indexed it takes 8 bytes more for each arc, and one load tells the ends of an arc and where it stands among those that leave its tail.
+/// Once indexed it takes 4 bytes more for each arc, and one load tells the tail of an arc and where it stands among those that leave it.
 #[derive(Drop)]
 pub struct Graph {
     vertices: u32,
@@ -183,7 +182,7 @@ impl Graph {
         })
     }
 
-    /// Indexes the arcs: from then on `tail`, `head` and `turn` read one entry of the index, and `road` and `arc` find their road by it, in place of a search.
+    /// Indexes the arcs: from then on `tail` and `turn` read one entry of the index, and `head`, `road` and `arc` find their road by it, in place of a search.
     ///
     /// # Errors
     /// Where memory is refused, the graph is as it was.
@@ -203,7 +202,6 @@ impl Graph {
     {
         let blank = IndexEntry {
             tail: Vertex(0),
-            head: Vertex(0),
             turn: 0,
         };
         let mut entries = vec![in alloc; blank; tails.len()]?;
@@ -212,7 +210,6 @@ impl Graph {
             let tail = tails[at];
             entries[at] = IndexEntry {
                 tail,
-                head: self.out_roads[place].head,
                 turn: place as u32 - self.out_rows.starts[tail.0 as usize - 1],
             };
         }
@@ -272,10 +269,7 @@ impl Graph {
         requires { HasArc self.now a }
         ensures { result ≡ (arc_of self.now a).head }
     {
-        match &self.ends {
-            Ends::Tails(_) => self.road(a).head,
-            Ends::Index(entries) => entries[a.0 as usize - 1].head,
-        }
+        self.road(a).head
     }
 
     /// The head and the weight of an arc.

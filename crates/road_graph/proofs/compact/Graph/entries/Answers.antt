@@ -24,8 +24,8 @@ overflow_sub-tail-inside c =
     c.deref-number-items.result.now c.deref-number-items.ensures.value c.loop-place.place c.loop-place-test.true c.number.inside.0 c.number-item.result (c.number.view_is ∙ c.number-item.is)
     c.tail.inside.0 c.index-tails-at.result (c.tail.view_is ∙ c.index-tails-at.is)
 
-pub index-requires-in-loop-place : goal.index-requires-in-loop-place
-index-requires-in-loop-place c =
+pub index-requires : goal.index-requires
+index-requires c =
     let G : Roads = record { vertices = c.self.inside.vertices; arcs = c.self.inside.arcs.value.items } in
     let l = tail_inside G c.self.invariant.0 c.self.inside.out_rows.starts.items c.self.inside.out_rows.numbers.items c.args.tails.now c.self.invariant.1 c.loop-place.invariant.are
     c.deref-number-items.result.now c.deref-number-items.ensures.value c.loop-place.place c.loop-place-test.true c.number.inside.0 c.number-item.result (c.number.view_is ∙ c.number-item.is)
@@ -38,7 +38,7 @@ overflow_sub-place c =
     start_before G c.self.invariant.0 c.self.inside.out_rows.starts.items c.self.inside.out_rows.numbers.items c.args.tails.now c.self.invariant.1 c.loop-place.invariant.are
     c.deref-number-items.result.now c.deref-number-items.ensures.value c.loop-place.place c.loop-place-test.true c.number.inside.0 c.number-item.result (c.number.view_is ∙ c.number-item.is)
     c.tail.inside.0 c.index-tails-at.result (c.tail.view_is ∙ c.index-tails-at.is)
-    c.index-in-loop-place.result.now c.index-in-loop-place.result.now c.index-in-loop-place.ensures
+    c.index.result.now c.index.result.now c.index.ensures
 
 pub index_mut-requires : goal.index_mut-requires
 index_mut-requires c =
@@ -51,19 +51,18 @@ pub loop-place-preserved : goal.loop-place-preserved
 loop-place-preserved c =
     let G : Roads = record { vertices = c.self.inside.vertices; arcs = c.self.inside.arcs.value.items } in
     let number = c.number.inside.0 in
-    let turn = c.loop-place.place - c.index-in-loop-place.result.now in
-    let new = subst (λ tail. IsEntry G number (record { tail = tail; head = c.index.result.now.head; turn = turn })) c.tail.view_is
+    let turn = c.loop-place.place - c.index.result.now in
+    let new = subst (λ tail. IsEntry G number (record { tail = tail; turn = turn })) c.tail.view_is
     (is_entry G c.self.invariant.0 c.self.inside.out_rows.starts.items c.self.inside.out_rows.numbers.items c.args.tails.now c.self.invariant.1 c.loop-place.invariant.are
     c.deref-number-items.result.now c.deref-number-items.ensures.value c.loop-place.place c.loop-place-test.true c.number.inside.0 c.number-item.result (c.number.view_is ∙ c.number-item.is)
     c.tail.inside.0 c.index-tails-at.result (c.tail.view_is ∙ c.index-tails-at.is)
-    c.index-in-loop-place.result.now c.index-in-loop-place.result.now c.index-in-loop-place.ensures
-    c.self.inside.out_roads.items c.self.invariant.3 c.index.result.now c.index.ensures) in
+    c.index.result.now c.index.result.now c.index.ensures) in
     record {
       are = c.loop-place.invariant.are;
       count = simp length-set c.loop-place.invariant.count;
       told = told_more G c.self.invariant.0 c.self.inside.out_rows.starts.items c.self.inside.out_rows.numbers.items c.args.tails.now c.self.invariant.1 c.loop-place.invariant.are
           c.deref-number-items.result.now c.deref-number-items.ensures.value c.loop-place.place c.loop-place-test.true c.number.inside.0 c.number-item.result (c.number.view_is ∙ c.number-item.is)
-          c.loop-place.entries.items (record { tail = c.index-tails-at.result; head = c.index.result.now.head; turn = turn }) c.loop-place.invariant.count new c.loop-place.invariant.told;
+          c.loop-place.entries.items (record { tail = c.index-tails-at.result; turn = turn }) c.loop-place.invariant.count new c.loop-place.invariant.told;
     }
 
 pub returns : goal.returns

@@ -79,6 +79,26 @@ module _ {V : Type 0} where
       })
       ∙ ap (λ (t : VertexLists V). record t { deficits = set t.deficits j n }) e
 
+  pub offset_written : (rows : List (VertexRow V)) (now : VertexLists V) (j : ℕ) (x : VertexRow V) (n : ℕ) → vertex_lists rows ≡ now → x ≡ get_or rows j x →
+      vertex_lists (set rows j (record x { offset = n })) ≡ record now { offsets = set now.offsets j n }
+  offset_written rows now j x n e h =
+      (λ i. record {
+        labels = map-set_same label_in rows j (record x { offset = n }) x (ap label_in h) i;
+        engagers = map-set_same engager_in rows j (record x { offset = n }) x (ap engager_in h) i;
+        deficits = map-set_same (λ r. r.deficit) rows j (record x { offset = n }) x (ap (λ r. r.deficit) h) i;
+        offsets = map-set (λ r. r.offset) rows j (record x { offset = n }) i;
+      })
+      ∙ ap (λ (t : VertexLists V). record t { offsets = set t.offsets j n }) e
+
+  pub vertices_idle : (rows : List (VertexRow V)) (n : ℕ) (v : V) → rows ≡ replicate n (record { value = v; engager = 0; deficit = 0; offset = 0; labelled = false; engaged = false }) →
+      vertex_lists rows ≡ record { labels = replicate n None; engagers = replicate n None; deficits = replicate n 0; offsets = replicate n 0 }
+  vertices_idle rows n v e = ap vertex_lists e ∙ (λ i. record {
+    labels = map_replicate label_in n (record { value = v; engager = 0; deficit = 0; offset = 0; labelled = false; engaged = false }) i;
+    engagers = map_replicate engager_in n (record { value = v; engager = 0; deficit = 0; offset = 0; labelled = false; engaged = false }) i;
+    deficits = map_replicate (λ (r : VertexRow V). r.deficit) n (record { value = v; engager = 0; deficit = 0; offset = 0; labelled = false; engaged = false }) i;
+    offsets = map_replicate (λ (r : VertexRow V). r.offset) n (record { value = v; engager = 0; deficit = 0; offset = 0; labelled = false; engaged = false }) i;
+  })
+
   pub busy_written : (marks : List ArcMarks) (labels : List V) (now : ArcLists V) (i : ℕ) (x : ArcMarks) (b : Bool) → arc_lists marks labels ≡ now → x ≡ get_or marks i x →
       arc_lists (set marks i (record x { busy = b })) labels ≡ record now { busy = set now.busy i b }
   busy_written marks labels now i x b e h =

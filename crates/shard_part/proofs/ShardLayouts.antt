@@ -1,12 +1,14 @@
 -- What is counted of a shard before its tables are made.
-use Rattle.std.proofs.Common.{◌≡◌, ◌≢◌, ℕ, suc, ◌+◌, ◌<◌, ◌≤◌, ◌^◌, Bool, true, false, cond, not, eqb, List, [], ◌∷◌, ◌++◌, length, length-append, set, get_or, take, refl, sym, ap, ◌∙◌, subst, inl, inr, arith, eq-eqb, ne_eqb, get_or-set_same, get_or-set_other, Contains}
+use Rattle.std.proofs.Common.{◌≡◌, ◌≢◌, ℕ, suc, ◌+◌, ◌-◌, ◌<◌, ◌≤◌, ◌^◌, Bool, true, false, cond, not, eqb, List, ◌∷◌, length, set, get_or, take, refl, sym, ap, ◌∙◌, subst, inl, inr, arith, eq-eqb, ne_eqb, get_or-set_same, get_or-set_other, Contains}
 use Rattle.std.proofs.lemmas.Bool.{cases_eq, cases_lt, cond-true, cond-false, false≢true}
-use Rattle.std.proofs.lemmas.List.{get_or_default, get_or_read, get_or_past, get_or_append_left}
-use Rattle.std.proofs.Math.Seq.{get_or-append_seam}
+use Rattle.std.proofs.lemmas.List.{take_all, get_or_default, get_or_read, get_or_past}
 use Rattle.road_graph.specs.Roads.{Roads, HasVertex, HasArc, ListsArcsFrom, ListsArcsInto, arc_of}
 use Rattle.scholten_core.specs.Network.{Network, network}
 use Rattle.scholten_core.specs.Sums.{one_if}
 use Rattle.scholten_core.proofs.Networks.{tail-arc, head-arc, tail-entry}
+use Rattle.std.specs.List.{range_with_len}
+use Rattle.shard_part.specs.declared.layout.Extent.{Extent}
+use Rattle.shard_part.proofs.Increasing.{follow_first}
 use Rattle.shard_part.specs.Plans.{shard_in, HasPlanned}
 use Rattle.shard_part.specs.Tables.{placed}
 use Rattle.shard_part.specs.PartState.{network_in, place_in}
@@ -14,11 +16,11 @@ use Rattle.shard_part.specs.Outgoing.{own_in, arcs_out, outgoing}
 use Rattle.shard_part.specs.Weights.{total, is}
 use Rattle.shard_part.specs.Capacities.{outbox_bound}
 use Rattle.shard_part.specs.Moves.{IsPlanned}
-use Rattle.shard_part.specs.Opening.{ShardLayoutData, is_first, turned, leading_to, coming_from, CountsOut, CountsInto, CountsAll}
+use Rattle.shard_part.specs.Opening.{ShardLayoutData, is_first, IsExtent, turned, leading_to, coming_from, CountsOut, CountsInto, CountsAll}
 use Rattle.shard_part.proofs.Ascending.{arcs_are}
 use Rattle.shard_part.proofs.Graphs.{out_is, place_vertex, place_entry}
-use Rattle.shard_part.proofs.Opened.{entry_alone, place_source}
-use Rattle.shard_part.proofs.Counting.{arcs_out_more, total_whole, total_take, total_most, total_few, out_most, own_arcs_most}
+use Rattle.shard_part.proofs.Opened.{entry_alone, arcs_first, place_source}
+use Rattle.shard_part.proofs.Counting.{placed_start, placed_long, arcs_out_more, total_whole, total_take, total_most, total_few, out_most, own_arcs_most}
 use Rattle.shard_part.proofs.Places.{own_below, placed_picked}
 use Rattle.shard_part.proofs.CapacitiesByVertex.{seen_at, seen_all, outbox_bound_most}
 use Rattle.scholten_core.proofs.Sums.{one_if-most}
@@ -205,62 +207,89 @@ coming_done w old v i xs capacities first e l o d long inv = (
       let c = ap (coming_from (network_in old.setup) (place_in old.setup) old.shard t) (listed_into w old v xs e l o) in omega (arith, a, b, c),
 )
 
+-- between which numbers those of a shard lie
+pub extent_none : (place : ℕ → ℕ) (s : ℕ) → IsExtent (placed place s 1 0) (record { first = 1; last = 0; count = 0 })
+extent_none place s = subst (λ vs. IsExtent vs (record { first = 1; last = 0; count = 0 })) (sym (placed_start place s)) (record { first = refl; last = refl; count = refl })
+
+pub extent_within : (place : ℕ → ℕ) (s n : ℕ) (e : Extent) → n ≤ 2 ^ 25 → IsExtent (placed place s 1 n) e → (1 ≤ e.first) × (e.first ≤ 2 ^ 26) × (e.last ≤ 2 ^ 26) × (e.count ≤ 2 ^ 26)
+extent_within place s n e m E =
+    let long = placed_long place s 1 n in let a = E.first in let b = E.last in let c = E.count in
+    elim (cases_eq (length (placed place s 1 n)) 0) [
+      | inl z ↦ (let f = get_or_past (placed place s 1 n) 0 1 (omega (arith, z)) in let g = get_or_past (placed place s 1 n) (length (placed place s 1 n) - 1) 0 (omega (arith, z)) in
+          (omega (arith, a, f), omega (arith, a, f), omega (arith, b, g), omega (arith, c, z)))
+      | inr nz ↦ (let p = (placed_picked place s 1 n).each 0 (omega (arith, nz)) in let q = (placed_picked place s 1 n).each (length (placed place s 1 n) - 1) (omega (arith, nz)) in
+          let f = get_or_default (placed place s 1 n) 0 1 0 (omega (arith, nz)) in let low = p.1 in let high = p.2 in let top = q.2 in
+          (omega (arith, a, f, low), omega (arith, a, f, high, m), omega (arith, b, top, m), omega (arith, c, long, m)))
+    ]
+
+-- where they follow one another, the own vertices are told without a list
+pub own_run : (w : ShardLayoutData) (e : Extent) → IsExtent (placed (place_in w.setup) w.shard 1 w.setup.question.roads.vertices) e → e.first + e.count ≡ e.last + 1 → 0 ∷ range_with_len e.first e.count ≡ own_in w.setup w.shard
+own_run w e E run =
+    let c = E.count in
+    ap (λ xs. 0 ∷ xs) (ap (range_with_len e.first) E.count ∙ sym (follow_first (placed (place_in w.setup) w.shard 1 w.setup.question.roads.vertices) e.first e.last (placed_picked (place_in w.setup) w.shard 1 w.setup.question.roads.vertices).increasing E.first E.last (omega (arith, run, c))))
+
 -- vertices that were gone through, and what was counted of them
-abbrev pub CountedSo : ShardLayoutData → ℕ → List ℕ → List ℕ → Type 0
-CountedSo w i vs capacities = (t : ℕ) → t < w.setup.plan.shards → get_or capacities t 0 ≡ cond (is_first w.setup w.shard) (is t w.shard) 0 + total (seen_at (network_in w.setup) (place_in w.setup) w.shard t) (take i vs)
+abbrev pub CountedSo : ShardLayoutData → ℕ → List ℕ → Type 0
+CountedSo w i capacities = (t : ℕ) → t < w.setup.plan.shards → get_or capacities t 0 ≡ cond (is_first w.setup w.shard) (is t w.shard) 0 + total (seen_at (network_in w.setup) (place_in w.setup) w.shard t) (take i (placed (place_in w.setup) w.shard 1 w.setup.question.roads.vertices))
 
-pub vertex_of_shard : (w : ShardLayoutData) (v i : ℕ) (vs : List ℕ) → vs ≡ placed (place_in w.setup) w.shard 1 w.setup.question.roads.vertices → i < length vs → v ≡ get_or vs i v → HasVertex w.setup.question.roads v
-vertex_of_shard w v i vs e l h =
-    let r = get_or_read vs i v l h 0 ∙ ap (λ xs. get_or xs i 0) e in
-    let p = (placed_picked (place_in w.setup) w.shard 1 w.setup.question.roads.vertices).each i (subst (λ xs. i < length xs) e l) in
-    ((let a = p.1 in omega (arith, a, r)), (let a = p.2 in omega (arith, a, r)))
-
-pub counted_small : (w : ShardLayoutData) (i : ℕ) (vs capacities : List ℕ) → IsPlanned w.setup w.shard → vs ≡ placed (place_in w.setup) w.shard 1 w.setup.question.roads.vertices → length capacities ≡ w.setup.plan.shards → CountedSo w i vs capacities → (t : ℕ) → get_or capacities t 0 ≤ 2 ^ 32
-counted_small w i vs capacities D e long inv t = elim (cases_lt t w.setup.plan.shards) [
-  | inl l ↦ (let a = inv t l in let b = seen_most w t i D in let c = ap (λ xs. total (seen_at (network_in w.setup) (place_in w.setup) w.shard t) (take i xs)) e in let f = D.roads.few_arcs in omega (arith, a, b, c, f))
+pub counted_small : (w : ShardLayoutData) (i : ℕ) (capacities : List ℕ) → IsPlanned w.setup w.shard → length capacities ≡ w.setup.plan.shards → CountedSo w i capacities → (t : ℕ) → get_or capacities t 0 ≤ 2 ^ 32
+counted_small w i capacities D long inv t = elim (cases_lt t w.setup.plan.shards) [
+  | inl l ↦ (let a = inv t l in let b = seen_most w t i D in let f = D.roads.few_arcs in omega (arith, a, b, f))
   | inr l ↦ (let a = get_or_past capacities t 0 (omega (arith, l, long)) in omega (arith, a))
 ]
 
-pub counted_middle : (w : ShardLayoutData) (v i : ℕ) (vs capacities middle xs : List ℕ) → IsPlanned w.setup w.shard → vs ≡ placed (place_in w.setup) w.shard 1 w.setup.question.roads.vertices → length capacities ≡ w.setup.plan.shards → CountedSo w i vs capacities → CountsOut w v capacities middle → (t : ℕ) → get_or middle t 0 ≤ 2 ^ 33
-counted_middle w v i vs capacities middle xs D e long inv out t = elim (cases_lt t w.setup.plan.shards) [
-  | inl l ↦ (let a = counted_small w i vs capacities D e long inv t in let b = out.1 t l in let c = leading_few (network_in w.setup) (place_in w.setup) t (outgoing (network_in w.setup) v) in let d = out_most (network_in w.setup) v in let f = D.roads.few_arcs in omega (arith, a, b, c, d, f))
+pub counted_middle : (w : ShardLayoutData) (v i : ℕ) (capacities middle : List ℕ) → IsPlanned w.setup w.shard → length capacities ≡ w.setup.plan.shards → CountedSo w i capacities → CountsOut w v capacities middle → (t : ℕ) → get_or middle t 0 ≤ 2 ^ 33
+counted_middle w v i capacities middle D long inv out t = elim (cases_lt t w.setup.plan.shards) [
+  | inl l ↦ (let a = counted_small w i capacities D long inv t in let b = out.1 t l in let c = leading_few (network_in w.setup) (place_in w.setup) t (outgoing (network_in w.setup) v) in let d = out_most (network_in w.setup) v in let f = D.roads.few_arcs in omega (arith, a, b, c, d, f))
   | inr l ↦ (let k = out.0 in let a = get_or_past middle t 0 (omega (arith, l, long, k)) in omega (arith, a))
 ]
 
-pub counted_more : (w : ShardLayoutData) (v i : ℕ) (vs capacities middle new : List ℕ) → i < length vs → v ≡ get_or vs i v → CountedSo w i vs capacities → CountsOut w v capacities middle → CountsInto w v middle new → CountedSo w (i + 1) vs new
-counted_more w v i vs capacities middle new l h inv out into t k =
-    let a = inv t k in let b = out.1 t k in let c = into.1 t k in
-    let f : ℕ → ℕ = seen_at (network_in w.setup) (place_in w.setup) w.shard t in
-    let d = total_take (seen_at (network_in w.setup) (place_in w.setup) w.shard t) vs i 0 l in
-    let e = ap (seen_at (network_in w.setup) (place_in w.setup) w.shard t) (get_or_read vs i v l h 0) in omega (arith, a, b, c, d, e)
-
-pub counted_all : (w : ShardLayoutData) (i : ℕ) (vs capacities : List ℕ) → IsPlanned w.setup w.shard → vs ≡ placed (place_in w.setup) w.shard 1 w.setup.question.roads.vertices → length vs ≤ i → length capacities ≡ w.setup.plan.shards → CountedSo w i vs capacities → CountsAll w capacities
-counted_all w i vs capacities D e l long inv = (
+pub counted_all : (w : ShardLayoutData) (i : ℕ) (capacities : List ℕ) → IsPlanned w.setup w.shard → length (placed (place_in w.setup) w.shard 1 w.setup.question.roads.vertices) ≤ i → length capacities ≡ w.setup.plan.shards → CountedSo w i capacities → CountsAll w capacities
+counted_all w i capacities D l long inv = (
   long,
-  λ t k. let a = inv t k in let b = total_whole (seen_at (network_in w.setup) (place_in w.setup) w.shard t) vs i l in
-      let c = ap (total (seen_at (network_in w.setup) (place_in w.setup) w.shard t)) e in let d = seen_whole w t D in omega (arith, a, b, c, d),
+  λ t k. let a = inv t k in let b = total_whole (seen_at (network_in w.setup) (place_in w.setup) w.shard t) (placed (place_in w.setup) w.shard 1 w.setup.question.roads.vertices) i l in
+      let d = seen_whole w t D in omega (arith, a, b, d),
 )
 
-pub counted_none : (w : ShardLayoutData) (vs capacities : List ℕ) → ((t : ℕ) → t < w.setup.plan.shards → get_or capacities t 0 ≡ cond (is_first w.setup w.shard) (is t w.shard) 0) → CountedSo w 0 vs capacities
-counted_none w vs capacities h t k = let a = h t k in omega (arith, a)
+pub counted_none : (w : ShardLayoutData) (capacities : List ℕ) → ((t : ℕ) → t < w.setup.plan.shards → get_or capacities t 0 ≡ cond (is_first w.setup w.shard) (is t w.shard) 0) → CountedSo w 0 capacities
+counted_none w capacities h t k = let a = h t k in omega (arith, a)
+
+-- the vertex at a place behind the environment's
+module _ (w : ShardLayoutData) (own : List ℕ) (same : own ≡ own_in w.setup w.shard) (j v : ℕ) (behind : 1 ≤ j) (inside : j < length own) (read : v ≡ get_or own j 0) where
+  vertex_read : (j - 1 < length (placed (place_in w.setup) w.shard 1 w.setup.question.roads.vertices)) × (v ≡ get_or (placed (place_in w.setup) w.shard 1 w.setup.question.roads.vertices) (j - 1) 0)
+  vertex_read = let e : j ≡ suc (j - 1) = omega (arith, behind) in let l = ap length same in
+      ((omega (arith, inside, behind, l)), read ∙ (λ i. get_or (same i) (e i) 0))
+
+  pub vertex_of_shard : HasVertex w.setup.question.roads v
+  vertex_of_shard =
+      let p = (placed_picked (place_in w.setup) w.shard 1 w.setup.question.roads.vertices).each (j - 1) vertex_read.0 in let r = vertex_read.1 in
+      ((let a = p.1 in omega (arith, a, r)), (let a = p.2 in omega (arith, a, r)))
+
+  pub counted_more : (capacities middle new : List ℕ) → CountedSo w (j - 1) capacities → CountsOut w v capacities middle → CountsInto w v middle new → CountedSo w (j + 1 - 1) new
+  counted_more capacities middle new inv out into t k =
+      let a = inv t k in let b = out.1 t k in let c = into.1 t k in
+      let d = total_take (seen_at (network_in w.setup) (place_in w.setup) w.shard t) (placed (place_in w.setup) w.shard 1 w.setup.question.roads.vertices) (j - 1) 0 vertex_read.0 in
+      let e = ap (seen_at (network_in w.setup) (place_in w.setup) w.shard t) vertex_read.1 in
+      let g = ap (λ n. total (seen_at (network_in w.setup) (place_in w.setup) w.shard t) (take n (placed (place_in w.setup) w.shard 1 w.setup.question.roads.vertices))) (let z : j + 1 - 1 ≡ j - 1 + 1 = omega (arith, behind) in z) in
+      omega (arith, a, b, c, d, e, g)
 
 -- where the arcs begin
+pub some_arc : (w : ShardLayoutData) (own : List ℕ) (n i : ℕ) → IsPlanned w.setup w.shard → own ≡ own_in w.setup w.shard → length own ≤ i → n ≡ length (arcs_out (network_in w.setup) (take i own)) → 1 ≤ n
+some_arc w own n i D e l c =
+    let f = ap length (arcs_first w.setup w.shard D) in let a = ap (λ xs. length (arcs_out (network_in w.setup) xs)) (take_all i own l ∙ e) in omega (arith, f, a, c)
+
 pub starts_few : (w : ShardLayoutData) (own : List ℕ) (i : ℕ) → IsPlanned w.setup w.shard → own ≡ own_in w.setup w.shard → length (arcs_out (network_in w.setup) (take i own)) ≤ 2 ^ 27 + 1
 starts_few w own i D e = let a = ap (λ xs. length (arcs_out (network_in w.setup) (take i xs))) e in let b = own_arcs_most (network_in w.setup) (place_in w.setup) w.shard w.setup.question.roads.vertices i in let f = D.roads.few_arcs in omega (arith, a, b, f)
 
-pub own_within : (w : ShardLayoutData) (v i : ℕ) (own : List ℕ) → own ≡ own_in w.setup w.shard → i < length own → v ≡ get_or own i v → v ≤ w.setup.question.roads.vertices
-own_within w v i own e l h = let r = get_or_read own i v l h 0 ∙ ap (λ xs. get_or xs i 0) e in let b = own_below w.setup w.shard i (subst (λ xs. i < length xs) e l) in omega (arith, r, b)
+pub own_within : (w : ShardLayoutData) (v i : ℕ) (own : List ℕ) → own ≡ own_in w.setup w.shard → i < length own → v ≡ get_or own i 0 → v ≤ w.setup.question.roads.vertices
+own_within w v i own e l h = let r = h ∙ ap (λ xs. get_or xs i 0) e in let b = own_below w.setup w.shard i (subst (λ xs. i < length xs) e l) in omega (arith, r, b)
 
-pub starts_next : (N : Network) (own : List ℕ) (v i count more : ℕ) → i < length own → v ≡ get_or own i v → count ≡ length (arcs_out N (take i own)) → more ≡ length (outgoing N v) → count + more ≡ length (arcs_out N (take (i + 1) own))
-starts_next N own v i count more l h c m = let a = arcs_out_more N own i l in let b = ap (λ u. length (outgoing N u)) (get_or_read own i v l h 0) in omega (arith, a, b, c, m)
+pub starts_next : (N : Network) (own : List ℕ) (v i count more : ℕ) → i < length own → v ≡ get_or own i 0 → count ≡ length (arcs_out N (take i own)) → more ≡ length (outgoing N v) → count + more ≡ length (arcs_out N (take (i + 1) own))
+starts_next N own v i count more l h c m = let a = arcs_out_more N own i l in let b = ap (λ u. length (outgoing N u)) h in omega (arith, a, b, c, m)
 
-pub starts_more : (N : Network) (own offsets new : List ℕ) (count i : ℕ) → new ≡ offsets ++ count ∷ [] → length offsets ≡ i → count ≡ length (arcs_out N (take i own)) → ((j : ℕ) → j < i → get_or offsets j 0 ≡ length (arcs_out N (take j own))) →
-    (length new ≡ i + 1) × ((j : ℕ) → j < i + 1 → get_or new j 0 ≡ length (arcs_out N (take j own)))
-starts_more N own offsets new count i e long c h = (
-  (let a = ap length e in let b = length-append offsets (count ∷ []) in omega (arith, a, b, long)),
-  λ j l. elim (cases_lt j i) [
-    | inl m ↦ ap (λ xs. get_or xs j 0) e ∙ get_or_append_left offsets (count ∷ []) 0 j (omega (arith, m, long)) ∙ h j m
-    | inr m ↦ (let q : j ≡ length offsets = omega (arith, l, m, long) in
-        ap (λ xs. get_or xs j 0) e ∙ ap (λ k. get_or (offsets ++ count ∷ []) k 0) q ∙ get_or-append_seam offsets count [] 0 ∙ c ∙ ap (λ k. length (arcs_out N (take k own))) (sym long ∙ sym q))
-  ],
-)
+pub starts_more : (N : Network) (own offsets : List ℕ) (count i : ℕ) → i < length offsets → count ≡ length (arcs_out N (take i own)) → ((j : ℕ) → j < i → get_or offsets j 0 ≡ length (arcs_out N (take j own))) →
+    (j : ℕ) → j < i + 1 → get_or (set offsets i count) j 0 ≡ length (arcs_out N (take j own))
+starts_more N own offsets count i inside c h j l = elim (cases_eq j i) [
+  | inl e ↦ ap (λ k. get_or (set offsets i count) k 0) e ∙ get_or-set_same offsets i count 0 inside ∙ c ∙ ap (λ k. length (arcs_out N (take k own))) (sym e)
+  | inr n ↦ get_or-set_other offsets i j count 0 n ∙ h j (omega (arith, l, n))
+]

@@ -10,10 +10,10 @@ use Rattle.shard_part.specs.Outgoing.{own_in}
 use Rattle.shard_part.specs.Weights.{total}
 use Rattle.shard_part.specs.Capacities.{outbox_bound, queue_bound}
 use Rattle.shard_part.specs.Moves.{Rows, seen_as, IsPlanned, IsStored}
-use Rattle.shard_part.specs.Opening.{ShardLayoutData, is_first, first_items, opened_part, idle_rows, AreStarts, CountsAll}
+use Rattle.shard_part.specs.Opening.{ShardLayoutData, is_first, first_items, opened_part, idle_rows, AreIdle, AreStarts, CountsAll}
 use Rattle.shard_part.proofs.Counting.{total_index}
 use Rattle.shard_part.proofs.CapacitiesByVertex.{capacities_sum, queue_bound_most, queue_bound_first}
-use Rattle.shard_part.proofs.Opened.{place_below, place_source, arcs_first, opened_seen, opened_stored}
+use Rattle.shard_part.proofs.Opened.{place_below, place_source, opened_seen, opened_stored}
 
 module _ (w : ShardLayoutData) (P : IsPlanned w.setup w.shard) where
   pub sum_is : (capacities : List ℕ) → CountsAll w capacities → total (λ n. n) capacities ≡ queue_bound (network_in w.setup) (place_in w.setup) w.shard
@@ -30,11 +30,6 @@ module _ (w : ShardLayoutData) (P : IsPlanned w.setup w.shard) where
       let a = sum_is capacities C in let b = ap (total (λ n. n)) e in
       let m = queue_bound_first (network_in w.setup) (place_in w.setup) w.shard (place_source w.setup w.shard P ∙ eqb-true (place_in w.setup 0) w.shard (sym f ∙ t)) in omega (arith, a, b, s, m)
 
-  pub some_arc : (own xs offsets : List ℕ) (arcs : ℕ) → AreStarts (network_in w.setup) xs offsets arcs → xs ≡ own → own ≡ own_in w.setup w.shard → 1 ≤ arcs
-  some_arc own xs offsets arcs B e o =
-      let B2 = subst (λ ys. AreStarts (network_in w.setup) ys offsets arcs) (e ∙ o) B in
-      let f = ap length (arcs_first w.setup w.shard P) in let c = B2.count_is in omega (arith, f, c)
-
 module _ {S : Type 0} (t : Setup S) (s : ℕ) where
   -- the shard of a question, without its algebra
   abbrev pub layout_of : ShardLayoutData
@@ -47,28 +42,31 @@ module _ {S : Type 0} (t : Setup S) (s : ℕ) where
   pub planned_too : IsPlanned layout_of.setup s → IsPlanned t s
   planned_too P = record { roads = P.roads; source = P.source; plan = P.plan; covers = P.covers; shard = P.shard }
 
-module _ {S V : Type 0} (A : Algebra V) (t : Setup S) (s : ℕ) (P : IsPlanned (layout_of t s).setup s) (first : Bool) (own xs offsets capacities ys zs ns : List ℕ) (arcs sum sent : ℕ) (rows : Rows V) (queue : Buffer (Item V)) (outs : List (List (Item V)))
-    (F : first ≡ is_first (layout_of t s).setup s) (O : own ≡ own_in (layout_of t s).setup s) (X : xs ≡ own) (B : AreStarts (network_in (layout_of t s).setup) xs offsets arcs)
+module _ {S V : Type 0} (A : Algebra V) (t : Setup S) (s : ℕ) (P : IsPlanned (layout_of t s).setup s) (first : Bool) (capacities ys zs ns : List ℕ) (sum sent : ℕ) (rows : Rows V) (queue : Buffer (Item V)) (outs : List (List (Item V)))
+    (F : first ≡ is_first (layout_of t s).setup s) (R : AreIdle (layout_of t s) rows)
     (C : CountsAll (layout_of t s) capacities) (Y : ys ≡ capacities) (T : sum ≡ total (λ n. n) ys) (Q : queue ≡ buffer (first_items A first) sum) (Z : zs ≡ set capacities s 0) (I : outs ≡ replicate (length zs) []) (K : ns ≡ zs)
-    (R : rows ≡ idle_rows own offsets arcs first) (N : sent ≡ one_if first) where
+    (N : sent ≡ one_if first) where
   first_too : first ≡ is_first t s
   first_too = F ∙ ap (λ f. eqb (f 0) s) (same_place t s)
 
-  own_too : own ≡ own_in t s
-  own_too = O ∙ ap (λ f. 0 ∷ placed f s 1 t.question.roads.vertices) (same_place t s)
+  own_too : own_in (layout_of t s).setup s ≡ own_in t s
+  own_too = ap (λ f. 0 ∷ placed f s 1 t.question.roads.vertices) (same_place t s)
 
-  starts_too : AreStarts (network_in t) (own_in t s) offsets arcs
-  starts_too = subst (λ os. AreStarts (network_in t) os offsets arcs) (X ∙ own_too) B
+  starts_too : AreStarts (network_in t) (own_in t s) R.offsets R.arcs
+  starts_too = subst (λ os. AreStarts (network_in t) os R.offsets R.arcs) own_too R.starts
+
+  rows_too : rows ≡ idle_rows (own_in t s) R.offsets R.arcs (is_first t s)
+  rows_too = R.rows_are ∙ (λ i. idle_rows (own_too i) R.offsets R.arcs (eqb (same_place t s i 0) s))
 
   long : length zs ≡ t.plan.shards
   long = ap length Z ∙ length-set capacities s 0 ∙ C.0
 
   pub made_seen : seen_as t s rows queue.items outs sent 0 0 0 ≡ opened_part A t s
-  made_seen = opened_seen A t s (planned_too t s P) rows offsets arcs queue.items outs sent starts_too (R ∙ (λ i. idle_rows (own_too i) offsets arcs (first_too i)))
+  made_seen = opened_seen A t s (planned_too t s P) rows R.offsets R.arcs queue.items outs sent starts_too rows_too
       (ap (λ q. q.items) Q ∙ ap (first_items A) first_too) (I ∙ ap (λ n. replicate n []) long) (N ∙ ap one_if first_too)
 
   pub made_stored : IsStored (seen_as t s rows queue.items outs sent 0 0 0) rows queue.capacity ns
-  made_stored = opened_stored A t s (planned_too t s P) rows offsets arcs queue.items outs sent queue.capacity ns starts_too (R ∙ (λ i. idle_rows (own_too i) offsets arcs (first_too i)))
+  made_stored = opened_stored A t s (planned_too t s P) rows R.offsets R.arcs queue.items outs sent queue.capacity ns starts_too rows_too
       (ap (λ q. q.items) Q ∙ ap (first_items A) first_too) (I ∙ ap (λ n. replicate n []) long) (N ∙ ap one_if first_too)
       (ap (λ q. q.capacity) Q ∙ T ∙ ap (total (λ n. n)) Y ∙ sum_is (layout_of t s) P capacities C ∙ ap (λ f. queue_bound (network_in t) f s) (same_place t s))
       (ap length K ∙ long)

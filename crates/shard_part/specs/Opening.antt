@@ -1,12 +1,13 @@
 -- What a part is when it is opened.
-use Rattle.std.specs.Prelude.{◌≡◌, ℕ, zero, suc, ◌+◌, ◌<◌, Bool, true, false, cond, eqb, None, List, [], ◌∷◌, length, set, get_or, replicate, take}
+use Rattle.std.specs.Prelude.{◌≡◌, ℕ, zero, suc, ◌+◌, ◌-◌, ◌<◌, Bool, true, false, cond, eqb, None, List, [], ◌∷◌, length, set, get_or, replicate, take}
 use Rattle.scholten_core.specs.declared.item.Item.{Item}
 use Rattle.scholten_core.specs.declared.item.Item.TheVariants.{Message as MessageOn}
 use Rattle.path_algebra.specs.Algebra.{Algebra}
 use Rattle.scholten_core.specs.Network.{Network}
 use Rattle.scholten_core.specs.Sums.{one_if}
+use Rattle.shard_part.specs.declared.layout.Extent.{Extent}
 use Rattle.shard_part.specs.PartState.{Setup, PartData, place_in, network_in}
-use Rattle.shard_part.specs.Outgoing.{arcs_out, outgoing}
+use Rattle.shard_part.specs.Outgoing.{own_in, arcs_out, outgoing}
 use Rattle.shard_part.specs.Weights.{total, is}
 use Rattle.shard_part.specs.Capacities.{outbox_bound}
 use Rattle.shard_part.specs.Moves.{Rows}
@@ -46,6 +47,12 @@ opened_parts A t k (suc n) = opened_part A t k ∷ opened_parts A t (suc k) n
 pub record ShardLayoutData : Type 0 where
   pub setup : Setup (Unit {0})
   pub shard : ℕ
+
+-- the first and the last vertex of an ascending list, 1 and 0 where it has none, and how many it has
+pub record IsExtent (vs : List ℕ) (e : Extent) : Type 0 where
+  pub first : e.first ≡ get_or vs 0 1
+  pub last : e.last ≡ get_or vs (length vs - 1) 0
+  pub count : e.count ≡ length vs
 
 -- where the arcs out of each vertex begin in the list of all of them, and how many these are
 pub record AreStarts (N : Network) (own offsets : List ℕ) (count : ℕ) : Type 0 where
@@ -90,3 +97,10 @@ idle_rows own offsets arcs entry = record {
   busy = set (replicate arcs false) 0 entry;
   told = replicate arcs None;
 }
+
+-- the rows are those of the shard's tables before any event, for some offsets that tell where the arcs of each vertex begin
+pub record AreIdle {V : Type 0} (w : ShardLayoutData) (rows : Rows V) : Type 0 where
+  pub offsets : List ℕ
+  pub arcs : ℕ
+  pub starts : AreStarts (network_in w.setup) (own_in w.setup w.shard) offsets arcs
+  pub rows_are : rows ≡ idle_rows (own_in w.setup w.shard) offsets arcs (is_first w.setup w.shard)

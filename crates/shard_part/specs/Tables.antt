@@ -1,6 +1,7 @@
 -- The tables of a shard: a value for each of its vertices and arcs, by place.
 use Rattle.std.specs.Simd.Lanes.{zip2}
-use Rattle.std.specs.Prelude.{◌≡◌, ◌≢◌, ℕ, zero, suc, ◌+◌, ◌<◌, Bool, cond, eqb, Option, Some, None, List, [], ◌∷◌, length, map, set, get_or, replicate}
+use Rattle.std.specs.Prelude.{◌≢◌, ℕ, zero, suc, ◌+◌, ◌<◌, ◌≤◌, ◌^◌, Bool, cond, eqb, Option, Some, None, ⊤, List, [], ◌∷◌, length, map, set, get_or, replicate}
+use Rattle.std.specs.List.{range_with_len}
 use Rattle.shard_part.specs.declared.own.Places.{Places}
 use Rattle.shard_part.specs.declared.own.Places.TheVariants.{Run, Listed}
 use Rattle.shard_part.specs.declared.tables.VertexRow.{VertexRow}
@@ -16,14 +17,15 @@ spread (k ∷ keys) (x ∷ values) none n = set (spread keys values none n) k x
 abbrev pub IsApart : List ℕ → Type 0
 IsApart keys = (i j : ℕ) → i < j → j < length keys → get_or keys i 0 ≢ get_or keys j 0
 
--- from the second on, the numbers of a list are start, start + 1, ..
-abbrev pub IsRun : ℕ → List ℕ → Type 0
-IsRun start xs = (1 < length xs) × ((j : ℕ) → suc j < length xs → get_or xs (suc j) 0 ≡ start + j)
+-- the environment and the vertices that are told: so many from the first on, or those of a list
+abbrev pub listed : Places → List ℕ
+listed (Run first count) = 0 ∷ range_with_len first count
+listed (Listed list) = list.items
 
--- the places of these numbers are told by where they begin, since from the second on they follow one another, or by a list of them
-abbrev pub TellsPlaces : Places → List ℕ → Type 0
-TellsPlaces (Run start) xs = IsRun start xs
-TellsPlaces (Listed list) xs = list.items ≡ xs
+-- the environment is not in the run, and each number of that fits its type
+abbrev pub IsWithin : Places → Type 0
+IsWithin (Run first count) = (1 ≤ first) × (first + count ≤ 2 ^ 32)
+IsWithin (Listed list) = ⊤
 
 -- of the numbers k, k + 1, .., k + n - 1, those at the place s
 unfoldable pub placed : (ℕ → ℕ) → ℕ → ℕ → ℕ → List ℕ

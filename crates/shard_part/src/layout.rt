@@ -1,17 +1,49 @@
 //! What a part is made for, and what is counted before its tables are made.
-ghost use Rattle.std.specs.Prelude.{◌≡◌, ◌≢◌, ℕ, ◌+◌, ◌<◌, ◌≤◌, ◌^◌, eqb, cond, get_or, length, replicate, IfOk};
+ghost use Rattle.std.specs.Prelude.{◌≡◌, ◌↔◌, ◌++◌, List, [], ◌∷◌, IsTrue, ◌≢◌, ℕ, ◌+◌, ◌<◌, ◌≤◌, ◌^◌, eqb, cond, get_or, length, replicate, IfOk};
 ghost use Rattle.road_graph.specs.Roads.{HasVertex, ListsArcsFrom, ListsArcsInto};
 ghost use Rattle.shard_part.specs.Tables.{placed};
 ghost use Rattle.shard_part.specs.PartState.{network_in, place_in};
 ghost use Rattle.shard_part.specs.Outgoing.{own_in, outgoing};
 ghost use Rattle.shard_part.specs.Weights.{total, is};
-ghost use Rattle.shard_part.specs.Opening.{is_first, AreStarts, CountsOut, CountsInto, CountsAll};
+ghost use Rattle.shard_part.specs.Opening.{is_first, IsExtent, AreStarts, CountsOut, CountsInto, CountsAll};
 
+use crate::own::OwnVertices;
 use crate::plan::Plan;
 use crate::shard::Shard;
+use crate::tables::VertexTable;
 use road_graph::{Graph, Vertex};
 use std::alloc::{AllocError, Global};
 use std::marker::Model;
+
+/// Between which vertices those of a shard lie, and how many they are. Where there is none, from 1 to 0.
+#[derive(Clone, Copy)]
+struct Extent {
+    first: Vertex,
+    last: Vertex,
+    count: u32,
+}
+
+impl Extent {
+    /// With one more vertex behind the others.
+    fn up_to(self, v: Vertex) -> Extent
+        requires { self.count < 2 ^ 26 }
+        ensures { (vs : List ℕ) → IsExtent vs self → IsExtent (vs ++ v ∷ []) result }
+    {
+        Extent {
+            first: if self.count == 0 { v } else { self.first },
+            last: v,
+            count: self.count + 1,
+        }
+    }
+
+    /// Whether they follow one another.
+    fn is_run(self) -> bool
+        requires { (self.first ≤ 2 ^ 26) × (self.last ≤ 2 ^ 26) × (self.count ≤ 2 ^ 26) }
+        ensures { IsTrue result ↔ self.first + self.count ≡ self.last + 1 }
+    {
+        self.first.0 + self.count == self.last.0 + 1
+    }
+}
 
 /// A shard of a question, whatever its algebra.
 #[derive(Debug, Drop)]
@@ -49,25 +81,43 @@ impl<'g> ShardLayout<'g> {
         self.plan.shard_of(v) == self.shard
     }
 
-    /// How many vertices the shard has.
-    fn count_own(&self) -> usize
-        ensures count { result ≡ length (placed (place_in self.now.setup) self.now.shard 1 self.now.setup.question.roads.vertices) }
-        ensures within { result ≤ 2 ^ 25 }
+    /// Between which vertices those of the shard lie, and how many they are.
+    fn extent(&self) -> Extent
+        ensures extent { IsExtent (placed (place_in self.now.setup) self.now.shard 1 self.now.setup.question.roads.vertices) result }
+        ensures within { (1 ≤ result.first) × (result.first ≤ 2 ^ 26) × (result.last ≤ 2 ^ 26) × (result.count ≤ 2 ^ 26) }
     {
-        let mut count = 0;
+        let mut extent = Extent {
+            first: Vertex(1),
+            last: Vertex(0),
+            count: 0,
+        };
         for i in 0..self.graph.vertices() {
-            if self.has(Vertex(i + 1)) {
-                count += 1;
+            let v = Vertex(i + 1);
+            if self.has(v) {
+                extent = extent.up_to(v);
             }
         }
-        count
+        extent
     }
 
     /// The environment, then the vertices of the shard, ascending.
-    pub fn own_vertices(&self, alloc: Global) -> Result<Vec<Vertex>, AllocError>
+    pub fn own_vertices(&self, alloc: Global) -> Result<OwnVertices, AllocError>
+        ensures { IfOk result (λ own. own ≡ own_in self.now.setup self.now.shard) }
+    {
+        let extent = self.extent();
+        let Extent { first, count, .. } = extent;
+        if extent.is_run() {
+            return Ok(OwnVertices::run(first, count));
+        }
+        let own = self.list_own(alloc, count as usize + 1)?;
+        Ok(OwnVertices::listed(own))
+    }
+
+    /// The list of them, which may come to be so long.
+    fn list_own(&self, alloc: Global, capacity: usize) -> Result<Vec<Vertex>, AllocError>
         ensures { IfOk result (λ own. own.items ≡ own_in self.now.setup self.now.shard) }
     {
-        let mut own = Vec::with_capacity(alloc, self.count_own() + 1)?;
+        let mut own = Vec::with_capacity(alloc, capacity)?;
         own.push(Vertex(0))?;
         for i in 0..self.graph.vertices() {
             let v = Vertex(i + 1);
@@ -86,20 +136,23 @@ impl<'g> ShardLayout<'g> {
         if v.0 == 0 { 1 } else { self.graph.out(v).len() }
     }
 
-    /// Where the arcs out of each own vertex begin, and how many arcs there are in all.
-    pub fn starts(&self, alloc: Global, own: &[Vertex]) -> Result<(Vec<u32>, usize), AllocError>
-        requires { own.now ≡ own_in self.now.setup self.now.shard }
-        ensures { IfOk result (λ r. AreStarts (network_in self.now.setup) own.now r.0.items r.1) }
+    /// Writes where the arcs out of each own vertex begin, and tells how many arcs there are in all.
+    pub fn write_starts<V: Copy>(&self, own: &OwnVertices, vertices: &mut VertexTable<V>) -> usize
+        requires own { own.now ≡ own_in self.now.setup self.now.shard }
+        requires long { length vertices.old.offsets ≡ length own.now }
+        ensures rest { vertices.new ≡ record vertices.old { offsets = vertices.new.offsets } }
+        ensures starts { AreStarts (network_in self.now.setup) own.now vertices.new.offsets result }
+        // The environment has one.
+        ensures some { 1 ≤ result }
     {
         // What holds of the layout is known once a field of it is read.
         let _graph = self.graph;
-        let mut offsets = Vec::with_capacity(alloc, own.len())?;
         let mut count = 0;
-        for v in own {
-            offsets.push(count as u32)?;
-            count += self.count_out(*v);
+        for j in 0..own.len() {
+            vertices.set_offset(j, count as u32);
+            count += self.count_out(own.vertex(j));
         }
-        Ok((offsets, count))
+        count
     }
 
     /// Counts the arcs out of a vertex, each at the shard that it leads to.
@@ -131,22 +184,23 @@ impl<'g> ShardLayout<'g> {
     }
 
     /// Counts the arcs out of and into all vertices of the shard.
-    fn add_all(&self, vertices: &[Vertex], capacities: &mut [usize])
-        requires vertices { vertices.now ≡ placed (place_in self.now.setup) self.now.shard 1 self.now.setup.question.roads.vertices }
+    fn add_all(&self, own: &OwnVertices, capacities: &mut [usize])
+        requires own { own.now ≡ own_in self.now.setup self.now.shard }
         requires shards { length capacities.old ≡ self.now.setup.plan.shards }
         requires first { (t : ℕ) → t < self.now.setup.plan.shards → get_or capacities.old t 0 ≡ cond (is_first self.now.setup self.now.shard) (is t self.now.shard) 0 }
         ensures { CountsAll self.now capacities.new }
     {
         // What holds of the layout is known once a field of it is read.
         let _graph = self.graph;
-        for v in vertices {
-            self.add_out(*v, capacities);
-            self.add_into(*v, capacities);
+        for j in 1..own.len() {
+            let v = own.vertex(j);
+            self.add_out(v, capacities);
+            self.add_into(v, capacities);
         }
     }
 
     /// How many arcs there are between the shard and each shard; with its own, how many lie within it.
-    pub fn capacities(&self, alloc: Global, own: &[Vertex]) -> Result<Vec<usize>, AllocError>
+    pub fn capacities(&self, alloc: Global, own: &OwnVertices) -> Result<Vec<usize>, AllocError>
         requires { own.now ≡ own_in self.now.setup self.now.shard }
         ensures { IfOk result (λ capacities. CountsAll self.now capacities.items) }
     {
@@ -154,7 +208,7 @@ impl<'g> ShardLayout<'g> {
         if self.is_first() {
             capacities[self.shard.0 as usize] = 1;
         }
-        self.add_all(&own[1..], &mut capacities);
+        self.add_all(own, &mut capacities);
         Ok(capacities)
     }
 }

@@ -11,7 +11,6 @@ mod place;
 mod plan;
 mod question;
 mod queue;
-mod search;
 mod shard;
 mod state;
 mod tables;

@@ -1,57 +1,76 @@
 //! The vertices of a part, and where each stands among them.
-ghost use Rattle.std.specs.Prelude.{◌≡◌, ◌+◌, ◌-◌, ◌<◌, ◌≤◌, length, slice_index, Contains};
+ghost use Rattle.std.specs.Prelude.{◌≡◌, ◌∷◌, ◌+◌, ◌-◌, ◌<◌, ◌≤◌, ◌^◌, length, get_or, slice_index, Contains};
+ghost use Rattle.std.specs.List.{range_with_len};
 ghost use Rattle.std.specs.List.Sorted.{IsStrictlyIncreasing};
 
-use crate::search::{find_vertex, start_of_run};
 use road_graph::Vertex;
 use std::marker::Model;
-use std::snapshot::Snapshot;
 
-/// How the place of a vertex is told.
+/// How the vertices of a shard are told.
 #[derive(Drop)]
 enum Places {
-    /// By how far it is from the first vertex of the shard, since they follow one another: no list is kept.
-    Run(Vertex),
-    /// By the list of them all, in which it is looked for.
+    /// By the first of them and how many they are, since they follow one another: no list is made.
+    Run { first: Vertex, count: u32 },
+    /// By a list of them behind the environment, in which one is looked for.
     Listed(Vec<Vertex>),
 }
 
 /// The environment, then the vertices of a shard, ascending.
 #[derive(Drop)]
 pub struct OwnVertices {
-    /// All of them, for contracts.
-    all: Snapshot<Vec<Vertex>>,
     places: Places,
 }
 
 impl Model for OwnVertices {
     ghost use Rattle.std.specs.Prelude.{ℕ, List};
-    ghost use Rattle.shard_part.specs.Tables.{TellsPlaces};
+    ghost use Rattle.shard_part.specs.Tables.{listed, IsWithin};
 
     ghost Value = { List ℕ };
 
-    ghost view = { λ o. o.all.value.items };
+    ghost view = { λ o. listed o.places };
 
-    ghost invariant = { λ o. TellsPlaces o.places o.all.value.items };
+    ghost invariant = { λ o. IsWithin o.places };
 }
 
 impl OwnVertices {
-    /// Those of an increasing list.
-    pub fn of(list: Vec<Vertex>) -> OwnVertices
-        requires increasing { IsStrictlyIncreasing list.items }
-        requires filled { 1 ≤ length list.items }
+    /// The environment, then so many vertices from the first on.
+    pub fn run(first: Vertex, count: u32) -> OwnVertices
+        requires vertex { 1 ≤ first }
+        requires within { first + count ≤ 2 ^ 32 }
+        ensures { result ≡ 0 ∷ range_with_len first count }
+    {
+        OwnVertices {
+            places: Places::Run { first, count },
+        }
+    }
+
+    /// Those of a list.
+    pub fn listed(list: Vec<Vertex>) -> OwnVertices
         ensures { result ≡ list.items }
     {
-        let all = Snapshot::of(&list);
-        match start_of_run(&list) {
-            Some(start) => OwnVertices {
-                all,
-                places: Places::Run(start),
-            },
-            None => OwnVertices {
-                all,
-                places: Places::Listed(list),
-            },
+        OwnVertices {
+            places: Places::Listed(list),
+        }
+    }
+
+    /// How many they are, with the environment.
+    pub fn len(&self) -> usize
+        ensures { result ≡ length self.now }
+    {
+        match &self.places {
+            Places::Run { count, .. } => *count as usize + 1,
+            Places::Listed(list) => list.len(),
+        }
+    }
+
+    /// The vertex at a place.
+    pub fn vertex(&self, j: usize) -> Vertex
+        requires { j < length self.now }
+        ensures { result ≡ get_or self.now j 0 }
+    {
+        match &self.places {
+            Places::Run { first, .. } => vertex_in_run(*first, j),
+            Places::Listed(list) => list[j],
         }
     }
 
@@ -63,20 +82,46 @@ impl OwnVertices {
         ensures found { slice_index self.now result ≡ v }
     {
         match &self.places {
-            Places::Run(start) => place_in_run(*start, v),
+            Places::Run { first, .. } => place_in_run(*first, v),
             Places::Listed(list) => find_vertex(list, v),
         }
     }
 }
 
-/// How far a vertex is behind the one before the first of the shard; the environment stands first.
-fn place_in_run(start: Vertex, v: Vertex) -> usize
-    ensures behind { start ≤ v → result ≡ v - start + 1 }
-    ensures before { v < start → result ≡ 0 }
+/// The vertex at a place of a run; the environment stands before the first.
+fn vertex_in_run(first: Vertex, j: usize) -> Vertex
+    requires { first + j ≤ 2 ^ 32 }
+    ensures environment { j ≡ 0 → result ≡ 0 }
+    ensures behind { 1 ≤ j → result ≡ first + (j - 1) }
 {
-    if start.0 <= v.0 {
-        (v.0 - start.0) as usize + 1
+    if j == 0 {
+        Vertex(0)
+    } else {
+        Vertex(first.0 + (j - 1) as u32)
+    }
+}
+
+/// How far a vertex is behind the one before the first of a run; the environment stands first.
+fn place_in_run(first: Vertex, v: Vertex) -> usize
+    ensures behind { first ≤ v → result ≡ v - first + 1 }
+    ensures before { v < first → result ≡ 0 }
+{
+    if first.0 <= v.0 {
+        (v.0 - first.0) as usize + 1
     } else {
         0
+    }
+}
+
+/// Where a vertex stands in an increasing list.
+fn find_vertex(list: &[Vertex], v: Vertex) -> usize
+    requires increasing { IsStrictlyIncreasing list.now }
+    requires contained { Contains list.now v }
+    ensures inside { result < length list.now }
+    ensures found { slice_index list.now result ≡ v }
+{
+    // The list has the vertex, so it is found: a place to put it in is never answered.
+    match list.binary_search(&v) {
+        Ok(at) | Err(at) => at,
     }
 }

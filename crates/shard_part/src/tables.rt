@@ -72,22 +72,21 @@ impl<V> Model for ArcTable<V> {
 }
 
 impl<V: Copy> VertexTable<V> {
-    /// Vertices without a label and an engager, none of whose arcs is busy, by where their arcs begin. The value stands in for labels.
-    pub fn idle(alloc: Global, offsets: &[u32], value: V) -> Result<VertexTable<V>, AllocError>
-        ensures { IfOk result (λ t. t ≡ record { labels = replicate (length offsets.now) None; engagers = replicate (length offsets.now) None; deficits = replicate (length offsets.now) 0; offsets = offsets.now }) }
+    /// So many vertices without a label and an engager, none of whose arcs is busy. The value stands in for labels, and 0 for where their arcs begin.
+    pub fn idle(alloc: Global, n: usize, value: V) -> Result<VertexTable<V>, AllocError>
+        ensures { IfOk result (λ t. t ≡ record { labels = replicate n None; engagers = replicate n None; deficits = replicate n 0; offsets = replicate n 0 }) }
     {
-        let mut rows = Vec::with_capacity(alloc, offsets.len())?;
-        for offset in offsets {
-            rows.push(VertexRow {
-                value,
-                engager: ENTRY,
-                deficit: 0,
-                offset: *offset,
-                labelled: false,
-                engaged: false,
-            })?;
-        }
-        Ok(VertexTable { rows })
+        let row = VertexRow {
+            value,
+            engager: ENTRY,
+            deficit: 0,
+            offset: 0,
+            labelled: false,
+            engaged: false,
+        };
+        Ok(VertexTable {
+            rows: filled(alloc, row, n)?,
+        })
     }
 
     /// The label of the vertex at a place.
@@ -156,6 +155,14 @@ impl<V: Copy> VertexTable<V> {
         ensures { result ≡ get_or self.now.offsets j 0 }
     {
         self.rows[j].offset
+    }
+
+    /// They begin elsewhere.
+    pub fn set_offset(&mut self, j: usize, offset: u32)
+        requires { j < length self.old.offsets }
+        ensures { self.new ≡ record self.old { offsets = set self.old.offsets j offset } }
+    {
+        self.rows[j].offset = offset;
     }
 }
 

@@ -1,13 +1,13 @@
 //! A part as it is opened.
 ghost use Rattle.std.specs.Prelude.{◌≡◌, ℕ, ◌≤◌, ◌<◌, [], map, length, replicate, IsTrue, IfOk};
-ghost use Rattle.std.specs.List.Sorted.{IsStrictlyIncreasing};
 ghost use Rattle.circular_buffer.specs.Buffer.{buffer};
 ghost use Rattle.road_graph.specs.Roads.{HasVertex};
 ghost use Rattle.scholten_core.specs.Network.{network};
 ghost use Rattle.scholten_core.specs.Diffusion.{state_after};
 ghost use Rattle.shard_part.specs.Shows.{Holds};
 ghost use Rattle.shard_part.specs.Moves.{rows_of};
-ghost use Rattle.shard_part.specs.Opening.{opened_part, first_items, idle_rows};
+ghost use Rattle.shard_part.specs.Outgoing.{own_in};
+ghost use Rattle.shard_part.specs.Opening.{opened_part, first_items, AreIdle};
 
 use crate::batch::Batch;
 use crate::layout::{ShardLayout, sum_of};
@@ -48,12 +48,12 @@ impl<'g, A: PathAlgebra> PartState<'g, A> {
         };
         let first = layout.is_first();
         let own = layout.own_vertices(alloc)?;
-        let (offsets, arcs) = layout.starts(alloc, &own)?;
-        let mut capacities = layout.capacities(alloc, &own)?;
+        // What stays when a part is closed is made first, so that what is let go lies in one piece behind it.
+        let tables = idle_tables(alloc, &layout, own, algebra.origin())?;
+        let mut capacities = layout.capacities(alloc, &tables.own)?;
         let queue = opening_queue(alloc, algebra, sum_of(&capacities), first)?;
         capacities[shard.0 as usize] = 0;
         let outs = empty_batches(alloc, &capacities)?;
-        let tables = idle_tables(alloc, own, &offsets, arcs, first, algebra.origin())?;
         Ok(PartState {
             algebra,
             graph,
@@ -109,24 +109,21 @@ fn empty_batches<V: Copy>(alloc: Global, capacities: &[usize]) -> Result<Vec<Bat
 /// Tables in which nothing has happened but that arc 0 may be busy. The value stands in for those that are not there yet.
 fn idle_tables<V: Copy>(
     alloc: Global,
-    own: Vec<Vertex>,
-    offsets: &[u32],
-    arcs: usize,
-    entry: bool,
+    layout: &ShardLayout,
+    own: OwnVertices,
     value: V,
 ) -> Result<Tables<V>, AllocError>
-    requires vertices { 1 ≤ length own.items }
-    requires increasing { IsStrictlyIncreasing own.items }
-    requires offsets { length offsets.now ≡ length own.items }
-    requires arcs { 1 ≤ arcs }
-    ensures { IfOk result (λ t. rows_of t ≡ idle_rows own.items offsets.now arcs entry) }
+    requires { own ≡ own_in layout.now.setup layout.now.shard }
+    ensures { IfOk result (λ t. AreIdle layout.now (rows_of t)) }
 {
-    let mut vertices = VertexTable::idle(alloc, offsets, value)?;
-    let mut arcs = ArcTable::idle(alloc, arcs, value)?;
+    let entry = layout.is_first();
+    let mut vertices = VertexTable::idle(alloc, own.len(), value)?;
+    let count = layout.write_starts(&own, &mut vertices);
+    let mut arcs = ArcTable::idle(alloc, count, value)?;
     vertices.set_deficit(0, u32::from(entry));
     arcs.set_busy(0, entry);
     Ok(Tables {
-        own: OwnVertices::of(own),
+        own,
         vertices,
         arcs,
     })

@@ -1,5 +1,5 @@
 use Rattle.shard_part.proofs.Increasing.{found_increasing}
-use Rattle.shard_part.proofs.search.find_vertex.Goals as goal
+use Rattle.shard_part.proofs.own.find_vertex.Goals as goal
 
 pub returns-in-Ok-2-clause-inside : goal.returns-in-Ok-2-clause-inside
 returns-in-Ok-2-clause-inside c = (found_increasing c.args.list.now c.args.v c.binary_search.result c.in-Ok.at c.requires.increasing c.requires.contained c.binary_search.ensures.position c.in-Ok.is).0

@@ -1,14 +1,13 @@
 -- What is counted of a shard before its tables are made.
 use Rattle.std.proofs.Common.{◌≡◌, ◌≢◌, ℕ, suc, ◌+◌, ◌-◌, ◌<◌, ◌≤◌, ◌^◌, Bool, true, false, cond, not, eqb, List, ◌∷◌, length, set, get_or, take, refl, sym, ap, ◌∙◌, subst, inl, inr, arith, eq-eqb, ne_eqb, get_or-set_same, get_or-set_other, Contains}
+use Rattle.std.specs.List.{range_with_len}
 use Rattle.std.proofs.lemmas.Bool.{cases_eq, cases_lt, cond-true, cond-false, false≢true}
 use Rattle.std.proofs.lemmas.List.{take_all, get_or_default, get_or_read, get_or_past}
 use Rattle.road_graph.specs.Roads.{Roads, HasVertex, HasArc, ListsArcsFrom, ListsArcsInto, arc_of}
 use Rattle.scholten_core.specs.Network.{Network, network}
 use Rattle.scholten_core.specs.Sums.{one_if}
 use Rattle.scholten_core.proofs.Networks.{tail-arc, head-arc, tail-entry}
-use Rattle.std.specs.List.{range_with_len}
 use Rattle.shard_part.specs.declared.layout.Extent.{Extent}
-use Rattle.shard_part.proofs.Increasing.{follow_first}
 use Rattle.shard_part.specs.Plans.{shard_in, HasPlanned}
 use Rattle.shard_part.specs.Tables.{placed}
 use Rattle.shard_part.specs.PartState.{network_in, place_in}
@@ -18,6 +17,7 @@ use Rattle.shard_part.specs.Capacities.{outbox_bound}
 use Rattle.shard_part.specs.Moves.{IsPlanned}
 use Rattle.shard_part.specs.Opening.{ShardLayoutData, is_first, IsExtent, turned, leading_to, coming_from, CountsOut, CountsInto, CountsAll}
 use Rattle.shard_part.proofs.Ascending.{arcs_are}
+use Rattle.shard_part.proofs.Increasing.{follow_first}
 use Rattle.shard_part.proofs.Graphs.{out_is, place_vertex, place_entry}
 use Rattle.shard_part.proofs.Opened.{entry_alone, arcs_first, place_source}
 use Rattle.shard_part.proofs.Counting.{placed_start, placed_long, arcs_out_more, total_whole, total_take, total_most, total_few, out_most, own_arcs_most}

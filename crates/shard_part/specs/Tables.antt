@@ -1,6 +1,6 @@
 -- The tables of a shard: a value for each of its vertices and arcs, by place.
 use Rattle.std.specs.Simd.Lanes.{zip2}
-use Rattle.std.specs.Prelude.{◌≢◌, ℕ, zero, suc, ◌+◌, ◌<◌, ◌≤◌, ◌^◌, Bool, cond, eqb, Option, Some, None, ⊤, List, [], ◌∷◌, length, map, set, get_or, replicate}
+use Rattle.std.specs.Prelude.{◌≢◌, ℕ, zero, suc, ◌+◌, ◌<◌, ◌≤◌, ◌^◌, Bool, cond, eqb, Option, Some, None, List, [], ◌∷◌, length, map, set, get_or, replicate, ⊤}
 use Rattle.std.specs.List.{range_with_len}
 use Rattle.shard_part.specs.declared.own.Places.{Places}
 use Rattle.shard_part.specs.declared.own.Places.TheVariants.{Run, Listed}

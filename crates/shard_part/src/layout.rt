@@ -1,5 +1,5 @@
 //! What a part is made for, and what is counted before its tables are made.
-ghost use Rattle.std.specs.Prelude.{◌≡◌, ◌↔◌, ◌++◌, List, [], ◌∷◌, IsTrue, ◌≢◌, ℕ, ◌+◌, ◌<◌, ◌≤◌, ◌^◌, eqb, cond, get_or, length, replicate, IfOk};
+ghost use Rattle.std.specs.Prelude.{◌≡◌, ◌≢◌, ◌↔◌, ℕ, ◌+◌, ◌<◌, ◌≤◌, ◌^◌, eqb, cond, List, [], ◌∷◌, ◌++◌, get_or, length, replicate, IsTrue, IfOk};
 ghost use Rattle.road_graph.specs.Roads.{HasVertex, ListsArcsFrom, ListsArcsInto};
 ghost use Rattle.shard_part.specs.Tables.{placed};
 ghost use Rattle.shard_part.specs.PartState.{network_in, place_in};

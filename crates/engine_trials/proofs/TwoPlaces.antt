@@ -31,15 +31,13 @@ module _ {S V : Type 0} (meaning : S → Algebra V) (f : FloorData S) (t : Setup
   pair : parts ≡ opened_part (meaning t.question.algebra) t 0 ∷ opened_part (meaning t.question.algebra) t 1 ∷ []
   pair = opened ∙ ap (opened_parts (meaning t.question.algebra) t 0) two
 
-  at_place : (j : ℕ) (d : SeatData S V) (p : PartData S V) → t ≡ f.setup → p ≡ opened_part (meaning t.question.algebra) t j → d ≡ seat_of f.id n (opened_part (meaning t.question.algebra) t j) → IsAt meaning f d p × (d.shard ≡ j)
-  at_place j d p of_floor p_is d_is = (
-    subst (λ (z : SeatData S V × PartData S V). IsAt meaning f z.0 z.1) (λ i. (sym d_is i, sym p_is i)) (record {
-      floor = refl;
-      setup = of_floor;
-      moved = (opened_part (meaning t.question.algebra) t j, [], opened_shows (meaning t.question.algebra) t j n, refl);
-    }),
-    ap (λ (z : SeatData S V). z.shard) d_is,
-  )
+  at_place : (j : ℕ) (d : SeatData S V) (p : PartData S V) → t ≡ f.setup → p ≡ opened_part (meaning t.question.algebra) t j → d ≡ seat_of f.id n (opened_part (meaning t.question.algebra) t j) → IsAt meaning f d p
+  at_place j d p of_floor p_is d_is =
+      subst (λ (z : SeatData S V × PartData S V). IsAt meaning f z.0 z.1) (λ i. (sym d_is i, sym p_is i)) (record {
+        floor = refl;
+        setup = of_floor;
+        moved = (opened_part (meaning t.question.algebra) t j, [], opened_shows (meaning t.question.algebra) t j n, refl);
+      })
 
   of_floor : t ≡ f.setup
   of_floor = (subst (All (λ (p : PartData S V). p.setup ≡ f.setup)) pair same).0
@@ -47,7 +45,7 @@ module _ {S V : Type 0} (meaning : S → Algebra V) (f : FloorData S) (t : Setup
   -- the two seats and parts that come off their lists
   pub both_places : (ss : List (SeatData S V)) (ss' : List (SeatData S V)) (ps ps' : List (PartData S V)) (d0 d1 : SeatData S V) (p0 p1 : PartData S V) →
       seats ≡ ss ++ d1 ∷ [] → ss ≡ ss' ++ d0 ∷ [] → parts ≡ ps ++ p1 ∷ [] → ps ≡ ps' ++ p0 ∷ [] →
-      (IsAt meaning f d0 p0 × (d0.shard ≡ 0)) × (IsAt meaning f d1 p1 × (d1.shard ≡ 1))
+      IsAt meaning f d0 p0 × IsAt meaning f d1 p1
   both_places ss ss' ps ps' d0 d1 p0 p1 s1 s0 q1 q0 =
       let S2 = last_two seats ss _ _ d1 (are ∙ ap (map (seat_of f.id n)) pair) s1 in
       let P2 = last_two parts ps _ _ p1 pair q1 in

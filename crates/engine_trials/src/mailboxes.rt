@@ -1,6 +1,4 @@
 //! Two parts that send each other batches through a floor.
-ghost use Rattle.std.specs.Prelude.{◌≡◌, ◌≢◌, ℕ, ◌<◌, ◌≤◌, true, false, IsTrue};
-ghost use Rattle.shard_part.specs.Readings.{has_ended};
 ghost use Rattle.post_floor.specs.Data.{IsAt, IsFresh};
 
 mod chain;
@@ -53,9 +51,8 @@ fn two_places<'g, A: PathAlgebra>(
     algebra: A,
     ground: &'g Ground,
 ) -> (Floor<A>, (Seat<A>, Part<'g, A>), (Seat<A>, Part<'g, A>))
-    ensures first { IsAt A.meaning result.0 result.1.0 result.1.1 × (result.1.0.shard ≡ 0) }
-    ensures second { IsAt A.meaning result.0 result.2.0 result.2.1 × (result.2.0.shard ≡ 1) }
-    ensures shards { result.0.setup.plan.shards ≡ 2 }
+    ensures first { IsAt A.meaning result.0 result.1.0 result.1.1 }
+    ensures second { IsAt A.meaning result.0 result.2.0 result.2.1 }
 {
     assert!(rt; ground.plan.shards() == 2);
     let mut parts = parts_of(rt, algebra, ground);
@@ -70,24 +67,25 @@ fn two_places<'g, A: PathAlgebra>(
 
 /// Handles what waits.
 fn work<A: PathAlgebra>(floor: &Floor<A>, seat: &Seat<A>, part: &mut Part<'_, A>) -> u32
-    requires at { IsAt A.meaning floor.now seat.now part.old }
+    requires { IsAt A.meaning floor.now seat.now part.old }
     ensures { IsAt A.meaning floor.now seat.now part.new }
 {
     part.handle(4096)
 }
 
-/// Fills the next mailbox to another shard and publishes it, if it is free.
+/// Fills the next mailbox to a shard and publishes it, if it is another shard's and free.
 fn send<A: PathAlgebra>(
     floor: &Floor<A>,
     seat: &mut Seat<A>,
     part: &mut Part<'_, A>,
     to: Shard,
 ) -> bool
-    requires at { IsAt A.meaning floor.now seat.old part.old }
-    requires to { (to ≢ seat.old.shard) × (to < floor.now.setup.plan.shards) }
-    ensures at { IsAt A.meaning floor.now seat.new part.new }
-    ensures shard { seat.new.shard ≡ seat.old.shard }
+    requires { IsAt A.meaning floor.now seat.old part.old }
+    ensures { IsAt A.meaning floor.now seat.new part.new }
 {
+    if to == seat.shard() || !part.is_other(to) {
+        return false;
+    }
     if floor.try_fill(seat, part, to) {
         floor.publish(seat, part, to);
         true
@@ -96,18 +94,19 @@ fn send<A: PathAlgebra>(
     }
 }
 
-/// Reads the next mailbox from another shard and gives it back, if it is full.
+/// Reads the next mailbox from a shard and gives it back, if it is another shard's and full.
 fn fetch<A: PathAlgebra>(
     floor: &Floor<A>,
     seat: &mut Seat<A>,
     part: &mut Part<'_, A>,
     from: Shard,
 ) -> bool
-    requires at { IsAt A.meaning floor.now seat.old part.old }
-    requires from { (from ≢ seat.old.shard) × (from < floor.now.setup.plan.shards) }
-    ensures at { IsAt A.meaning floor.now seat.new part.new }
-    ensures shard { seat.new.shard ≡ seat.old.shard }
+    requires { IsAt A.meaning floor.now seat.old part.old }
+    ensures { IsAt A.meaning floor.now seat.new part.new }
 {
+    if from == seat.shard() || !part.is_other(from) {
+        return false;
+    }
     if floor.try_read(seat, part, from) {
         floor.clear(seat, part, from);
         true

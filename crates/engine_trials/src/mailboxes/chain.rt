@@ -1,5 +1,5 @@
 //! A chain of vertices over 64 shards, run to its end on one thread.
-ghost use Rattle.std.specs.Prelude.{◌≡◌, ◌<◌, ◌≤◌, ◌+◌, ◌∷◌, [], map, length};
+ghost use Rattle.std.specs.Prelude.{◌≡◌, map};
 ghost use Rattle.shard_part.specs.Weights.{All};
 ghost use Rattle.post_floor.specs.Data.{IsAt, seat_of};
 
@@ -50,8 +50,7 @@ fn places<'g, A: PathAlgebra>(
     algebra: A,
     ground: &'g Ground,
 ) -> (Floor<A>, VecDeque<(Seat<A>, Part<'g, A>)>)
-    ensures plan { result.0.setup.plan ≡ ground.now.plan }
-    ensures at { All (λ x. IsAt A.meaning result.0 x.0 x.1) result.1.items }
+    ensures { All (λ x. IsAt A.meaning result.0 x.0 x.1) result.1.items }
 {
     let parts = parts_of(rt, algebra, ground);
     let opened = Floor::open(rt.alloc(), &ground.plan, Vertex(1), &parts);
@@ -60,38 +59,19 @@ fn places<'g, A: PathAlgebra>(
     (floor, places)
 }
 
-/// Takes what has come from a shard, if it is another one.
-fn fetch_other<A: PathAlgebra>(
-    floor: &Floor<A>,
-    seat: &mut Seat<A>,
-    part: &mut Part<'_, A>,
-    from: Shard,
-)
-    requires at { IsAt A.meaning floor.now seat.old part.old }
-    requires from { from < floor.now.setup.plan.shards }
-    ensures { IsAt A.meaning floor.now seat.new part.new }
-{
-    if from == seat.shard() {
-        return;
-    }
-    fetch(floor, seat, part, from);
-}
-
 /// Sends what waits for a shard, if it is another one and something waits.
-fn send_other<A: PathAlgebra>(
+fn send_waiting<A: PathAlgebra>(
     floor: &Floor<A>,
     seat: &mut Seat<A>,
     part: &mut Part<'_, A>,
     to: Shard,
 )
-    requires at { IsAt A.meaning floor.now seat.old part.old }
-    requires to { to < floor.now.setup.plan.shards }
+    requires { IsAt A.meaning floor.now seat.old part.old }
     ensures { IsAt A.meaning floor.now seat.new part.new }
 {
-    if to == seat.shard() || part.outgoing(to) == 0 {
-        return;
+    if part.is_other(to) && part.outgoing(to) > 0 {
+        send(floor, seat, part, to);
     }
-    send(floor, seat, part, to);
 }
 
 /// Takes what has come, handles what waits, sends what is for others, and tells whether the end is known.
@@ -101,16 +81,15 @@ fn turn<A: PathAlgebra>(
     seat: &mut Seat<A>,
     part: &mut Part<'_, A>,
 ) -> bool
-    requires plan { floor.now.setup.plan ≡ plan.now }
-    requires at { IsAt A.meaning floor.now seat.old part.old }
+    requires { IsAt A.meaning floor.now seat.old part.old }
     ensures { IsAt A.meaning floor.now seat.new part.new }
 {
     for from in 0..plan.shards() {
-        fetch_other(floor, seat, part, Shard(from));
+        fetch(floor, seat, part, Shard(from));
     }
     work(floor, seat, part);
     for to in 0..plan.shards() {
-        send_other(floor, seat, part, Shard(to));
+        send_waiting(floor, seat, part, Shard(to));
     }
     if part.ended() {
         floor.announce(seat, part);
@@ -126,8 +105,7 @@ fn round<'g, A: PathAlgebra>(
     plan: &Plan,
     places: &mut VecDeque<(Seat<A>, Part<'g, A>)>,
 ) -> bool
-    requires plan { floor.now.setup.plan ≡ plan.now }
-    requires at { All (λ x. IsAt A.meaning floor.now x.0 x.1) places.old.items }
+    requires { All (λ x. IsAt A.meaning floor.now x.0 x.1) places.old.items }
     ensures { All (λ x. IsAt A.meaning floor.now x.0 x.1) places.new.items }
 {
     let mut ended = true;
@@ -148,8 +126,7 @@ fn run<'g, A: PathAlgebra>(
     places: &mut VecDeque<(Seat<A>, Part<'g, A>)>,
     rounds: u32,
 )
-    requires plan { floor.now.setup.plan ≡ plan.now }
-    requires at { All (λ x. IsAt A.meaning floor.now x.0 x.1) places.old.items }
+    requires { All (λ x. IsAt A.meaning floor.now x.0 x.1) places.old.items }
     ensures { All (λ x. IsAt A.meaning floor.now x.0 x.1) places.new.items }
 {
     for _ in 0..rounds {

@@ -1,5 +1,4 @@
 //! A seat that holds two claims at once, and one that is open when the floor is closed.
-ghost use Rattle.std.specs.Prelude.{◌≡◌, ◌≢◌, ◌<◌};
 ghost use Rattle.post_floor.specs.Data.{IsAt};
 
 use super::{fetch, send, two_places, two_vertices, work};
@@ -15,11 +14,12 @@ fn both_at_once<A: PathAlgebra>(
     part: &mut Part<'_, A>,
     other: Shard,
 ) -> bool
-    requires at { IsAt A.meaning floor.now seat.old part.old }
-    requires other { (other ≢ seat.old.shard) × (other < floor.now.setup.plan.shards) }
-    ensures at { IsAt A.meaning floor.now seat.new part.new }
-    ensures shard { seat.new.shard ≡ seat.old.shard }
+    requires { IsAt A.meaning floor.now seat.old part.old }
+    ensures { IsAt A.meaning floor.now seat.new part.new }
 {
+    if other == seat.shard() || !part.is_other(other) {
+        return false;
+    }
     if !floor.try_fill(seat, part, other) {
         return false;
     }
@@ -44,6 +44,7 @@ fn two_claims_at_once(rt: HostRuntime) {
     assert!(rt; work(&floor, &seat_1, &mut part_1) == 1);
     assert!(rt; part_1.holds(Vertex(2)));
     assert!(rt; part_1.label(Vertex(2)) == Some(7));
+    assert!(rt; part_1.is_other(Shard(0)));
     assert!(rt; floor.try_fill(&mut seat_1, &part_1, Shard(0)));
     let seats = vec![in rt.alloc(); seat_0, seat_1].expect(&rt, "memory");
     assert!(rt; floor.close(seats).is_ok());

@@ -1,5 +1,5 @@
 //! Two threads that pass one batch.
-ghost use Rattle.std.specs.Prelude.{◌≡◌, ◌≢◌, IfSome};
+ghost use Rattle.std.specs.Prelude.{◌≡◌, IfSome};
 ghost use Rattle.post_floor.specs.Data.{IsAt};
 
 use super::{fetch, send, two_places, two_vertices, work};
@@ -27,8 +27,7 @@ fn take_part<'g, A: PathAlgebra>(
     mut seat: Seat<A>,
     mut part: Part<'g, A>,
 ) -> (Seat<A>, Part<'g, A>)
-    requires at { IsAt A.meaning floor.now seat part }
-    requires shards { floor.now.setup.plan.shards ≡ 2 }
+    requires { IsAt A.meaning floor.now seat part }
     ensures { IsAt A.meaning floor.now result.0 result.1 }
 {
     if seat.shard() == Shard(0) {
@@ -43,9 +42,7 @@ fn take_part<'g, A: PathAlgebra>(
 
 /// Waits for a batch of the first shard.
 fn await_batch<A: PathAlgebra>(floor: &Floor<A>, seat: &mut Seat<A>, part: &mut Part<'_, A>)
-    requires at { IsAt A.meaning floor.now seat.old part.old }
-    requires shard { seat.old.shard ≢ 0 }
-    requires shards { floor.now.setup.plan.shards ≡ 2 }
+    requires { IsAt A.meaning floor.now seat.old part.old }
     ensures { IsAt A.meaning floor.now seat.new part.new }
 {
     for _ in 0..1_000_000_000 {
@@ -63,15 +60,14 @@ fn start<'s, 'g: 's, E, A: PathAlgebra>(
     seat: Seat<A>,
     part: Part<'g, A>,
 ) -> Option<PromisedHandle<(Seat<A>, Part<'g, A>), Errand<'s, A>>>
-    requires at { IsAt A.meaning floor.now seat part }
-    requires shards { floor.now.setup.plan.shards ≡ 2 }
+    requires { IsAt A.meaning floor.now seat part }
     ensures { IfSome result (λ h. h.promise.floor.now ≡ floor.entry.now) }
 {
     let errand = Errand { floor };
     let started = scope.spawn_with(
         errand,
         move || -> (Seat<A>, Part<'_, A>)
-            requires { IsAt A.meaning floor.now seat part × (floor.now.setup.plan.shards ≡ 2) }
+            requires { IsAt A.meaning floor.now seat part }
             ensures { IsAt A.meaning floor.entry.now result.0 result.1 }
         { take_part(floor, seat, part) },
     );
@@ -87,14 +83,13 @@ fn on_two_threads<'g, A: PathAlgebra, R: Threads + Wait>(
 ) -> Option<((Seat<A>, Part<'g, A>), (Seat<A>, Part<'g, A>))>
     requires first { IsAt A.meaning floor.now first.0 first.1 }
     requires second { IsAt A.meaning floor.now second.0 second.1 }
-    requires shards { floor.now.setup.plan.shards ≡ 2 }
     ensures { IfSome result (λ x. IsAt A.meaning floor.now x.0.0 x.0.1 × IsAt A.meaning floor.now x.1.0 x.1.1) }
 {
     thread::scope(
         thread::scope_env(),
         rt,
         move |scope| -> Option<((Seat<A>, Part<'_, A>), (Seat<A>, Part<'_, A>))>
-            requires { IsAt A.meaning floor.now first.0 first.1 × IsAt A.meaning floor.now second.0 second.1 × (floor.now.setup.plan.shards ≡ 2) }
+            requires { IsAt A.meaning floor.now first.0 first.1 × IsAt A.meaning floor.now second.0 second.1 }
             ensures { IfSome result (λ x. IsAt A.meaning floor.entry.now x.0.0 x.0.1 × IsAt A.meaning floor.entry.now x.1.0 x.1.1) }
         {
             let (seat_0, part_0) = first;

@@ -82,7 +82,7 @@ module _ {S V W : Type 0} (meaning : S → Algebra V) (setup : ℕ → Setup S) 
       → ((q : ℕ) (d : Vec (StationData S V) W) → q < n → All (IsDone floors q) (get_or lists q d).items)
       → (q : ℕ) (f : FloorData S) (v : Vec (StationData S V) W) → q < n → AreEnded (setup q) (get_or floors q f) (get_or lists q v).items
   run_ended lists all done q f v low = record {
-    question = (opened q f v low).question;
+    setup = (opened q f v low).setup;
     own = λ k s below. let d = done q v low k s below in let e = get_or_from_slice_get floors q d.0.floor f d.0.is_floor in rw e d.0.own;
     ended = λ k s below. (done q v low k s below).1;
     all = λ k inside. all q k v v low (shards_opened meaning (setup q) (get_or floors q f) (get_or questions q v).items (opened q f v low) k inside);

@@ -22,7 +22,7 @@ diffusion algebra roads plan source = record { question = record { algebra = alg
 
 -- a diffusion was run to its end on this floor: each of its stations is here, and has ended
 pub record AreEnded {A V : Type 0} (t : Setup A) (floor : FloorData A) (stations : List (StationData A V)) : Type 0 where
-  pub question : floor.setup ≡ t
+  pub setup : floor.setup ≡ t
   pub own : All (BelongsTo floor) stations
   pub ended : All (λ s. s.ended ≡ true) stations
   pub all : (k : ℕ) → k < t.plan.shards → HasShard k stations

@@ -50,17 +50,17 @@ module _ {S V : Type 0} where
   first_setup A f t (suc n) l h = sym h.0
 
   -- the question of the floor is the parts' own
-  pub floor_question : (A : Algebra V) (f : FloorData S) (t : Setup S) (ps : List (PartData S V)) → 1 ≤ t.plan.shards → ps ≡ opened_parts A t 0 t.plan.shards → All (λ p. p.setup ≡ f.setup) ps → f.setup ≡ t
-  floor_question A f t ps l e h = first_setup A f t t.plan.shards l (subst (All (λ p. p.setup ≡ f.setup)) e h)
+  pub floor_setup : (A : Algebra V) (f : FloorData S) (t : Setup S) (ps : List (PartData S V)) → 1 ≤ t.plan.shards → ps ≡ opened_parts A t 0 t.plan.shards → All (λ p. p.setup ≡ f.setup) ps → f.setup ≡ t
+  floor_setup A f t ps l e h = first_setup A f t t.plan.shards l (subst (All (λ p. p.setup ≡ f.setup)) e h)
 
   -- a floor and stations of parts as they are opened
   pub are_opened : (meaning : S → Algebra V) (f : FloorData S) (t : Setup S) (ps : List (PartData S V)) (stations : List (StationData S V)) → 1 ≤ t.plan.shards → ps ≡ opened_parts (meaning t.question.algebra) t 0 t.plan.shards
       → All (λ p. p.setup ≡ f.setup) ps → stations ≡ map (station_of f.id f.setup.plan.shards) ps → AreOpened meaning t f stations
   are_opened meaning f t ps stations l e h m =
-      let q : f.setup ≡ t = floor_question (meaning t.question.algebra) f t ps l e h in
+      let q : f.setup ≡ t = floor_setup (meaning t.question.algebra) f t ps l e h in
       let station : PartData S V → StationData S V = station_of f.id f.setup.plan.shards in
       record {
-        question = q;
+        setup = q;
         stations_are = m ∙ ap (λ (u : Setup S). map (station_of f.id u.plan.shards) ps) q ∙ ap (map (station_of f.id t.plan.shards)) e;
-        own = subst (Each (BelongsTo f)) (sym m) (All-map (BelongsTo f) station ps (All-weaker (λ p. p.setup ≡ f.setup) (λ p. BelongsTo f (station p)) (λ p s. record { floor = refl; question = s }) ps (each (λ p. p.setup ≡ f.setup) ps h)));
+        own = subst (Each (BelongsTo f)) (sym m) (All-map (BelongsTo f) station ps (All-weaker (λ p. p.setup ≡ f.setup) (λ p. BelongsTo f (station p)) (λ p s. record { floor = refl; setup = s }) ps (each (λ p. p.setup ≡ f.setup) ps h)));
       }

@@ -17,11 +17,11 @@ module _ {S V : Type 0} (meaning : S → Algebra V) where
   stays v p s = (p, [], s, refl)
 
   pub is_at : (f : FloorData S) (d : SeatData S V) (p : PartData S V) → AreReady f d p → IsAt meaning f d p
-  is_at f d p r = record { floor = r.floor; setup = r.question; moved = stays d.knows p r.shows }
+  is_at f d p r = record { floor = r.floor; setup = r.setup; moved = stays d.knows p r.shows }
 
   -- the part has handled items
   pub went_on : (f : FloorData S) (a : SeatData S V) (p q : PartData S V) (n : ℕ) → q.setup ≡ p.setup → q.shard ≡ p.shard → HandledMany meaning p n q → AreReady f a p → AreBehind meaning f a q
-  went_on f a p q n e s (items, l, T) r = record { at = record { floor = r.floor; setup = e ∙ r.question; moved = (p, items, r.shows, T) }; shard = r.shard ∙ sym s; free = r.free }
+  went_on f a p q n e s (items, l, T) r = record { at = record { floor = r.floor; setup = e ∙ r.setup; moved = (p, items, r.shows, T) }; shard = r.shard ∙ sym s; free = r.free }
 
   -- an outbox went into the mailbox, and that was given up
   pub fill_done : (f : FloorData S) (a b c : SeatData S V) (p q : PartData S V) (to : ℕ) → AreBehind meaning f a p → IsSameSeat a b → FillTold true p (fill_box f a to) a.knows b.knows → q ≡ sent_off to p → IsSameSeat b c
@@ -48,7 +48,7 @@ module _ {S V : Type 0} (meaning : S → Algebra V) where
 
   -- a batch has been taken
   pub read_begun : (f : FloorData S) (a b : SeatData S V) (p q : PartData S V) (k : ℕ) → AreReady f a p → IsSameSeat a b → ReadTold true p q k a.knows b.knows → IsAt meaning f b q
-  read_begun f a b p q k r ab (x, w) = record { floor = ab.0 ∙ r.floor; setup = ap (λ (z : PartData S V). z.setup) x.1 ∙ r.question; moved = stays b.knows q w.shows }
+  read_begun f a b p q k r ab (x, w) = record { floor = ab.0 ∙ r.floor; setup = ap (λ (z : PartData S V). z.setup) x.1 ∙ r.setup; moved = stays b.knows q w.shows }
 
   -- the part has looked, and seen the end
   pub look_ended : (o : Bool) (p : PartData S V) (k : ℕ) (v w : View S V) → LookTold meaning o p k v w → o ≡ true → Ended meaning p

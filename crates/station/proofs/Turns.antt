@@ -83,7 +83,7 @@ module _ {S V : Type 0} (meaning : S → Algebra V) where
       let after : IsLike emptied q = sent_like js emptied q je in
       let whole : q.setup ≡ s.part.setup = after.setup ∙ es ∙ before.setup in
       record {
-        own = record { floor = ready.floor; question = ready.question };
+        own = record { floor = ready.floor; setup = ready.setup };
         shard = after.shard ∙ ss ∙ before.shard;
         worked = record {
           batches = bs;
@@ -101,7 +101,7 @@ module _ {S V : Type 0} (meaning : S → Algebra V) where
         };
         labels = λ v own. labels_stay meaning L s.part filled emptied q handled v before T after own.1;
         steps = all_steps s.seat.knows.steps a.knows.steps b.knows.steps d.knows.steps s.part.setup.plan.shards emptied.setup.plan.shards f.setup.plan.shards x y z
-            (ap (λ (t : Setup S). t.plan.shards) (sym whole ∙ ready.question)) (ap (λ (t : Setup S). t.plan.shards) (sym after.setup ∙ ready.question));
+            (ap (λ (t : Setup S). t.plan.shards) (sym whole ∙ ready.setup)) (ap (λ (t : Setup S). t.plan.shards) (sym after.setup ∙ ready.setup));
         report = refl;
         stays = λ e. absurd cc;
       }

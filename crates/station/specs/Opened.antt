@@ -20,6 +20,6 @@ IsFreshPart meaning f p = (p.setup ≡ f.setup) × ShowsPart (knows f.setup.plan
 
 -- the floor is that of the question, and there is one station of it for each shard, in order, with its part as it is opened
 pub record AreOpened {S V : Type 0} (meaning : S → Algebra V) (t : Setup S) (f : FloorData S) (stations : List (StationData S V)) : Type 0 where
-  pub question : f.setup ≡ t
+  pub setup : f.setup ≡ t
   pub stations_are : stations ≡ map (station_of f.id t.plan.shards) (opened_parts (meaning t.question.algebra) t 0 t.plan.shards)
   pub own : All (BelongsTo f) stations

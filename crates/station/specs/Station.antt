@@ -1,5 +1,5 @@
 -- A station between two turns: a part with its seat on the floor.
-use Rattle.std.specs.Prelude.{◌≡◌, ℕ, Bool, true, false, None, List, [], ◌∷◌, get_or}
+use Rattle.std.specs.Prelude.{◌≡◌, ℕ, Bool, true, false, None, [], ◌∷◌, get_or}
 use Rattle.path_algebra.specs.Algebra.{Algebra}
 use Rattle.path_algebra.specs.Walks.{IsBestLabel}
 use Rattle.shard_part.specs.PartState.{PartData, network_in, place_in, state_in}
@@ -17,7 +17,7 @@ pub record StationData (S V : Type 0) : Type 0 where
 -- the station was opened together with the floor
 pub record BelongsTo {S V : Type 0} (f : FloorData S) (s : StationData S V) : Type 0 where
   pub floor : s.seat.floor ≡ f.id
-  pub question : s.part.setup ≡ f.setup
+  pub setup : s.part.setup ≡ f.setup
 
 -- its last turn reported the end
 abbrev pub HasEnded : {S V : Type 0} → StationData S V → Type 0

@@ -13,7 +13,7 @@ module _ {S V : Type 0} where
   -- the seat is one of the floor's, and shows the part, which is of its question; no mailbox is in its hands
   pub record AreReady (f : FloorData S) (d : SeatData S V) (p : PartData S V) : Type 0 where
     pub floor : d.floor ≡ f.id
-    pub question : p.setup ≡ f.setup
+    pub setup : p.setup ≡ f.setup
     pub shard : d.shard ≡ p.shard
     pub free : IsFree d.knows
     pub shows : ShowsPart d.knows p

@@ -2,7 +2,7 @@ use Rattle.std.proofs.Common.{◌≡◌, ◌≤◌, subst, sym, refl, ◌∙◌}
 use Rattle.shard_part.specs.Weights.{All}
 use Rattle.post_floor.specs.Plays.{Known}
 use Rattle.station.specs.Opened.{IsFreshPart}
-use Rattle.station.proofs.Opening.{all_fresh, floor_question, are_opened}
+use Rattle.station.proofs.Opening.{all_fresh, floor_setup, are_opened}
 use Rattle.station.proofs.open.open_question.Goals as goal
 
 pub open-requires-clause-fresh : goal.open-requires-clause-fresh
@@ -11,7 +11,7 @@ open-requires-clause-fresh g c κs within = (record { question = record { algebr
 pub pair-requires-clause-parts : goal.pair-requires-clause-parts
 pair-requires-clause-parts g c κs within =
     let meaning = g.A.PathAlgebra.meaning in let e = c.in_ok-parts.ensures in let f = c.in_ok-floor.floor in
-    let q = floor_question (meaning c.args.algebra) f (record { question = record { algebra = c.args.algebra; roads = c.args.graph.now; source = c.args.source }; plan = c.args.plan.now }) c.in_ok-parts.parts.items
+    let q = floor_setup (meaning c.args.algebra) f (record { question = record { algebra = c.args.algebra; roads = c.args.graph.now; source = c.args.source }; plan = c.args.plan.now }) c.in_ok-parts.parts.items
     (subst (λ n. 1 ≤ n) c.shards-shards.ensures.count c.shards-shards.ensures.within.0) e.parts (subst (All (λ p. p.setup ≡ f.setup)) c.deref.ensures.value c.in_ok-floor.ensures.floor.1) in
     subst (All (IsFreshPart meaning f)) (sym e.parts) (all_fresh meaning f (record { question = record { algebra = c.args.algebra; roads = c.args.graph.now; source = c.args.source }; plan = c.args.plan.now }) 0 c.args.plan.now.shards q
     (subst (All (Known meaning)) e.parts e.known))

@@ -49,7 +49,7 @@ module _ {S V : Type 0} where
   first_setup A f t zero l h = absurd (omega (arith, l))
   first_setup A f t (suc n) l h = sym h.0
 
-  -- the question of the floor is the parts' own
+  -- the setup of the floor is the parts' own
   pub floor_setup : (A : Algebra V) (f : FloorData S) (t : Setup S) (ps : List (PartData S V)) → 1 ≤ t.plan.shards → ps ≡ opened_parts A t 0 t.plan.shards → All (λ p. p.setup ≡ f.setup) ps → f.setup ≡ t
   floor_setup A f t ps l e h = first_setup A f t t.plan.shards l (subst (All (λ p. p.setup ≡ f.setup)) e h)
 

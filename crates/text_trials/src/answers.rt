@@ -11,6 +11,7 @@ use path_algebra::AlgebraName;
 use road_files::Kind;
 use road_text::{Line, Plain, RoadWrite, WriteFault};
 use std::alloc::Global;
+use std::process::Abort;
 use std::test::Fail;
 
 const SHORTEST: &[u8] =
@@ -222,130 +223,103 @@ fn a_writer_that_fails_at_each_byte(rt: HostRuntime) -> Result<(), Fail> {
     Ok(())
 }
 
+/// Asserts of texts that are read over so many vertices the number and the line of the fault, or twice 0.
+fn assert_outcomes(rt: &(impl Abort + AllocGlobal), cases: &[(&str, u32, (u8, u64))]) {
+    for (text, n, wanted) in cases {
+        assert_eq!(rt; outcome(rt.alloc(), text.as_bytes(), *n), *wanted, "{text}");
+    }
+}
+
 #[test]
 fn answers_read_back(rt: HostRuntime) {
-    let alloc = rt.alloc();
-    assert_eq!(rt;
-        read_and_written(alloc, SHORTEST, 5).bytes.as_slice(),
-        SHORTEST
+    for text in [SHORTEST, PAIRS, SEVERAL] {
+        let again = read_and_written(rt.alloc(), text, 5);
+        assert_eq!(rt; again.bytes.as_slice(), text);
+    }
+    assert_outcomes(
+        &rt,
+        &[
+            (
+                "p ans ss 1 shortest\ns 1\nd 1 0 0 0\nd 2 3 2 3\nd 3 1 1 1\nd 4 8 3 2\n",
+                5,
+                (36, 7),
+            ),
+            (
+                "p ans ss 1 shortest\ns 1\nd 1 0 0 0\nd 2 3 2 3\nd 3 1 1 1\nd 4 8 3 2\nu 4\n",
+                5,
+                (32, 7),
+            ),
+            ("p ans ss 1 fast\n", 5, (31, 1)),
+            ("", 5, (30, 1)),
+        ],
     );
-    assert_eq!(rt; read_and_written(alloc, PAIRS, 5).bytes.as_slice(), PAIRS);
-    assert_eq!(rt;
-        read_and_written(alloc, SEVERAL, 5).bytes.as_slice(),
-        SEVERAL
-    );
-    assert_eq!(rt;
-        outcome(
-            alloc,
-            b"p ans ss 1 shortest\ns 1\nd 1 0 0 0\nd 2 3 2 3\nd 3 1 1 1\nd 4 8 3 2\n",
-            5
-        ),
-        (36, 7)
-    );
-    assert_eq!(rt;
-        outcome(
-            alloc,
-            b"p ans ss 1 shortest\ns 1\nd 1 0 0 0\nd 2 3 2 3\nd 3 1 1 1\nd 4 8 3 2\nu 4\n",
-            5
-        ),
-        (32, 7)
-    );
-    assert_eq!(rt; outcome(alloc, b"p ans ss 1 fast\n", 5), (31, 1));
-    assert_eq!(rt; outcome(alloc, b"", 5), (30, 1));
 }
 
 #[test]
 fn faults_of_headers(rt: HostRuntime) {
-    let alloc = rt.alloc();
-    assert_eq!(rt; outcome(alloc, b"c\n\ns 1\n", 1), (30, 3));
-    assert_eq!(rt; outcome(alloc, b"pp ans ss 1 own\n", 1), (30, 1));
-    assert_eq!(rt; outcome(alloc, b"p ans ss 1\n", 1), (31, 1));
-    assert_eq!(rt; outcome(alloc, b"p aux ss 1 own\n", 1), (31, 1));
-    assert_eq!(rt; outcome(alloc, b"p ans sp 1 own\n", 1), (31, 1));
-    assert_eq!(rt; outcome(alloc, b"p ans ss x owner\n", 1), (31, 1));
-    assert_eq!(rt; outcome(alloc, b"p ans ss x within\n", 1), (34, 1));
-    assert_eq!(rt; outcome(alloc, b"p ans ss 1048577 within\n", 1), (35, 1));
-    assert_eq!(rt; outcome(alloc, b"p ans ss 1048576 within\n", 1), (36, 2));
-    assert_eq!(rt; outcome(alloc, b"p ans ss 0 reliable\n", 1), (0, 0));
+    assert_outcomes(
+        &rt,
+        &[
+            ("c\n\ns 1\n", 1, (30, 3)),
+            ("pp ans ss 1 own\n", 1, (30, 1)),
+            ("p ans ss 1\n", 1, (31, 1)),
+            ("p aux ss 1 own\n", 1, (31, 1)),
+            ("p ans sp 1 own\n", 1, (31, 1)),
+            ("p ans ss x owner\n", 1, (31, 1)),
+            ("p ans ss x within\n", 1, (34, 1)),
+            ("p ans ss 1048577 within\n", 1, (35, 1)),
+            ("p ans ss 1048576 within\n", 1, (36, 2)),
+            ("p ans ss 0 reliable\n", 1, (0, 0)),
+        ],
+    );
 }
 
 #[test]
 fn faults_of_lines(rt: HostRuntime) {
-    let alloc = rt.alloc();
-    assert_eq!(rt; outcome(alloc, b"p ans ss 1 own\nq 1 2\n", 1), (32, 2));
-    assert_eq!(rt;
-        outcome(alloc, b"p ans ss 1 own\np ans ss 1 own\n", 1),
-        (32, 2)
+    assert_outcomes(
+        &rt,
+        &[
+            ("p ans ss 1 own\nq 1 2\n", 1, (32, 2)),
+            ("p ans ss 1 own\np ans ss 1 own\n", 1, (32, 2)),
+            ("p ans ss 1 own\ns 1 2\n", 1, (33, 2)),
+            ("p ans ss 1 own\ns -1\n", 1, (34, 2)),
+            ("p ans ss 1 own\ns 4294967296\n", 1, (35, 2)),
+            ("p ans ss 1 own\ns 1\ndd 1\n", 1, (32, 3)),
+            ("p ans ss 1 own\ns 1\nd 2 x 0 0\n", 1, (34, 3)),
+            (
+                "p ans ss 1 own\ns 1\nd 2 18446744073709551616 x 0\n",
+                1,
+                (35, 3),
+            ),
+            (
+                "p ans ss 1 own\ns 1\nd 1 18446744073709551615 4294967295 007\n",
+                1,
+                (0, 0),
+            ),
+            ("p ans ss 1 own\ns 1\nu 1\nc\n\nu 1\n", 1, (32, 6)),
+            ("p ans ss 1 own\ns 1\n", 0, (0, 0)),
+            ("p ans ss 1 own\ns 1\nu 1\n", 0, (32, 3)),
+        ],
     );
-    assert_eq!(rt; outcome(alloc, b"p ans ss 1 own\ns 1 2\n", 1), (33, 2));
-    assert_eq!(rt; outcome(alloc, b"p ans ss 1 own\ns -1\n", 1), (34, 2));
-    assert_eq!(rt;
-        outcome(alloc, b"p ans ss 1 own\ns 4294967296\n", 1),
-        (35, 2)
-    );
-    assert_eq!(rt; outcome(alloc, b"p ans ss 1 own\ns 1\ndd 1\n", 1), (32, 3));
-    assert_eq!(rt;
-        outcome(alloc, b"p ans ss 1 own\ns 1\nd 2 x 0 0\n", 1),
-        (34, 3)
-    );
-    assert_eq!(rt;
-        outcome(
-            alloc,
-            b"p ans ss 1 own\ns 1\nd 2 18446744073709551616 x 0\n",
-            1
-        ),
-        (35, 3)
-    );
-    assert_eq!(rt;
-        outcome(
-            alloc,
-            b"p ans ss 1 own\ns 1\nd 1 18446744073709551615 4294967295 007\n",
-            1
-        ),
-        (0, 0)
-    );
-    assert_eq!(rt;
-        outcome(alloc, b"p ans ss 1 own\ns 1\nu 1\nc\n\nu 1\n", 1),
-        (32, 6)
-    );
-    assert_eq!(rt; outcome(alloc, b"p ans ss 1 own\ns 1\n", 0), (0, 0));
-    assert_eq!(rt; outcome(alloc, b"p ans ss 1 own\ns 1\nu 1\n", 0), (32, 3));
 }
 
 #[test]
 fn faults_of_lists(rt: HostRuntime) {
-    let alloc = rt.alloc();
-    assert_eq!(rt; outcome(alloc, b"p ans ms 1 own\nm\n", 0), (33, 2));
-    assert_eq!(rt;
-        outcome(alloc, b"p ans ms 1 own\nm 1 2 3 4 5 6 7 8\n", 0),
-        (0, 0)
-    );
-    assert_eq!(rt;
-        outcome(alloc, b"p ans ms 1 own\nm 1 2 3 4 5 6 7 x 4294967296\n", 0),
-        (34, 2)
-    );
-    assert_eq!(rt;
-        outcome(alloc, b"p ans p2p 1 own\nq 1 4\nd 8 3\nr\n", 0),
-        (33, 4)
-    );
-    assert_eq!(rt;
-        outcome(
-            alloc,
-            b"p ans p2p 1 own\nq 1 4\nd 8 3\nr 1 2 3 4 5 6 7 8 4294967296 x\n",
-            0
-        ),
-        (35, 4)
-    );
-    assert_eq!(rt;
-        outcome(alloc, b"p ans p2p 1 own\nq 1 4\nu 1\n", 0),
-        (33, 3)
-    );
-    assert_eq!(rt;
-        outcome(alloc, b"p ans p2p 1 own\nq 1 4\nr 1 4\n", 0),
-        (32, 3)
-    );
-    assert_eq!(rt;
-        outcome(alloc, b"p ans p2p 1 own\nq 1 4\nd 8 3\n", 0),
-        (36, 4)
+    assert_outcomes(
+        &rt,
+        &[
+            ("p ans ms 1 own\nm\n", 0, (33, 2)),
+            ("p ans ms 1 own\nm 1 2 3 4 5 6 7 8\n", 0, (0, 0)),
+            ("p ans ms 1 own\nm 1 2 3 4 5 6 7 x 4294967296\n", 0, (34, 2)),
+            ("p ans p2p 1 own\nq 1 4\nd 8 3\nr\n", 0, (33, 4)),
+            (
+                "p ans p2p 1 own\nq 1 4\nd 8 3\nr 1 2 3 4 5 6 7 8 4294967296 x\n",
+                0,
+                (35, 4),
+            ),
+            ("p ans p2p 1 own\nq 1 4\nu 1\n", 0, (33, 3)),
+            ("p ans p2p 1 own\nq 1 4\nr 1 4\n", 0, (32, 3)),
+            ("p ans p2p 1 own\nq 1 4\nd 8 3\n", 0, (36, 4)),
+        ],
     );
 }

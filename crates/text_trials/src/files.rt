@@ -8,6 +8,7 @@ use road_files::{
 };
 use road_text::{Plain, ReadFailed, RoadRead};
 use std::alloc::{AllocError, Global};
+use std::process::Abort;
 use std::test::Fail;
 
 const BUNDLE: &[u8] =
@@ -30,6 +31,13 @@ fn graph_fault(alloc: Global, bytes: &[u8]) -> (u8, u64) {
     (number, line)
 }
 
+/// Asserts of graphs the number and the line of the fault.
+fn assert_graph_faults(rt: &(impl Abort + AllocGlobal), cases: &[(&str, (u8, u64))]) {
+    for (text, wanted) in cases {
+        assert_eq!(rt; graph_fault(rt.alloc(), text.as_bytes()), *wanted, "{text}");
+    }
+}
+
 fn write_questions(to: &mut Plain<Vec<u8>>, questions: &Questions) {
     let _wrote = match questions {
         Questions::Sources(sources) => write_ss(to, sources),
@@ -50,9 +58,12 @@ fn questions(alloc: Global, bytes: &[u8]) -> (Vec<u8>, u8, u64) {
     }
 }
 
-fn questions_fault(alloc: Global, bytes: &[u8]) -> (u8, u64) {
-    let (_text, number, line) = questions(alloc, bytes);
-    (number, line)
+/// Asserts of questions over five vertices the number and the line of the fault.
+fn assert_questions_faults(rt: &(impl Abort + AllocGlobal), cases: &[(&str, (u8, u64))]) {
+    for (text, wanted) in cases {
+        let (_text, number, line) = questions(rt.alloc(), text.as_bytes());
+        assert_eq!(rt; (number, line), *wanted, "{text}");
+    }
 }
 
 /// The spelling of what a bundle has, and 0, or the fault's number and line.
@@ -70,9 +81,12 @@ fn bundle(alloc: Global, bytes: &[u8], piece: usize, fails: bool) -> (Vec<u8>, u
     }
 }
 
-fn bundle_fault(alloc: Global, bytes: &[u8]) -> (u8, u64) {
-    let (_text, number, line) = bundle(alloc, bytes, 5, false);
-    (number, line)
+/// Asserts of bundles the number and the line of the fault.
+fn assert_bundle_faults(rt: &(impl Abort + AllocGlobal), cases: &[(&str, (u8, u64))]) {
+    for (text, wanted) in cases {
+        let (_text, number, line) = bundle(rt.alloc(), text.as_bytes(), 5, false);
+        assert_eq!(rt; (number, line), *wanted, "{text}");
+    }
 }
 
 #[test]
@@ -91,83 +105,100 @@ fn greatest_weight_and_limits(rt: HostRuntime) {
     let (written, number, _line) = graph(alloc, greatest);
     assert_eq!(rt; number, 0);
     assert_eq!(rt; written.as_slice(), greatest.as_slice());
-    assert_eq!(rt;
-        graph_fault(alloc, b"p sp 2 1\na 1 2 4294967296\n"),
-        (16, 2)
+    assert_graph_faults(
+        &rt,
+        &[
+            ("p sp 2 1\na 1 2 4294967296\n", (16, 2)),
+            ("p sp 33554433 0\n", (16, 1)),
+            ("p sp 33554433 x\n", (16, 1)),
+            ("p sp x 134217729\n", (15, 1)),
+            ("p sp 1 134217729\n", (16, 1)),
+            ("p sp 33554432 134217728\n", (19, 2)),
+        ],
     );
-    assert_eq!(rt; graph_fault(alloc, b"p sp 33554433 0\n"), (16, 1));
-    assert_eq!(rt; graph_fault(alloc, b"p sp 33554433 x\n"), (16, 1));
-    assert_eq!(rt; graph_fault(alloc, b"p sp x 134217729\n"), (15, 1));
-    assert_eq!(rt; graph_fault(alloc, b"p sp 1 134217729\n"), (16, 1));
-    assert_eq!(rt; graph_fault(alloc, b"p sp 33554432 134217728\n"), (19, 2));
-    assert_eq!(rt; questions_fault(alloc, b"p aux sp ss 1048577\n"), (16, 1));
-    assert_eq!(rt; questions_fault(alloc, b"p aux sp ss 1048576\n"), (19, 2));
+    assert_questions_faults(
+        &rt,
+        &[
+            ("p aux sp ss 1048577\n", (16, 1)),
+            ("p aux sp ss 1048576\n", (19, 2)),
+        ],
+    );
 }
 
 #[test]
 fn too_few_and_too_many_arcs(rt: HostRuntime) {
-    let alloc = rt.alloc();
-    assert_eq!(rt; graph_fault(alloc, b"p sp 2 2\na 1 2 3\n"), (19, 3));
-    assert_eq!(rt;
-        graph_fault(alloc, b"p sp 2 2\na 1 2 3\na 1 2 3\na 1 2 3\n"),
-        (18, 4)
+    assert_graph_faults(
+        &rt,
+        &[
+            ("p sp 2 2\na 1 2 3\n", (19, 3)),
+            ("p sp 2 2\na 1 2 3\na 1 2 3\na 1 2 3\n", (18, 4)),
+            ("", (10, 1)),
+        ],
     );
-    assert_eq!(rt; graph_fault(alloc, b""), (10, 1));
 }
 
 #[test]
 fn faults_of_one_line(rt: HostRuntime) {
-    let alloc = rt.alloc();
-    assert_eq!(rt; graph_fault(alloc, b"p sp 2 1\na 1 2 -3\n"), (15, 2));
-    assert_eq!(rt; graph_fault(alloc, b"p sp 2 1\na 0 2 3\n"), (17, 2));
-    assert_eq!(rt; graph_fault(alloc, b"p sp 2 1\na 1 2\n"), (14, 2));
-    assert_eq!(rt; graph_fault(alloc, b"p sp 2 1\na 9 x 3\n"), (17, 2));
-    assert_eq!(rt; graph_fault(alloc, b"p sp 2 1\nx 1 2 3\n"), (13, 2));
-    assert_eq!(rt; graph_fault(alloc, b"p sp 2 1\np sp 2 1\n"), (11, 2));
-    assert_eq!(rt; graph_fault(alloc, b"a 1 2 3\np sp 2 1\n"), (10, 1));
-    assert_eq!(rt; graph_fault(alloc, b"p max 2 1\n"), (12, 1));
-    assert_eq!(rt; graph_fault(alloc, b"s 1\n"), (13, 1));
-    assert_eq!(rt; questions_fault(alloc, b"m x\n"), (10, 1));
-    assert_eq!(rt; questions_fault(alloc, b"a 1 2 3\n"), (13, 1));
-    assert_eq!(rt; questions_fault(alloc, b"p aux sp xy 1\n"), (12, 1));
-    assert_eq!(rt; questions_fault(alloc, b"p aux sp ss 1\nq 1 2\n"), (13, 2));
-    assert_eq!(rt; questions_fault(alloc, b"p aux sp p2p 1\nq 1\n"), (14, 2));
-    assert_eq!(rt; questions_fault(alloc, b"p aux sp p2p 1\nq 1 6\n"), (17, 2));
-    assert_eq!(rt;
-        questions_fault(alloc, b"p aux sp p2p 1\nq 1 2\nq x\n"),
-        (18, 3)
+    assert_graph_faults(
+        &rt,
+        &[
+            ("p sp 2 1\na 1 2 -3\n", (15, 2)),
+            ("p sp 2 1\na 0 2 3\n", (17, 2)),
+            ("p sp 2 1\na 1 2\n", (14, 2)),
+            ("p sp 2 1\na 9 x 3\n", (17, 2)),
+            ("p sp 2 1\nx 1 2 3\n", (13, 2)),
+            ("p sp 2 1\np sp 2 1\n", (11, 2)),
+            ("a 1 2 3\np sp 2 1\n", (10, 1)),
+            ("p max 2 1\n", (12, 1)),
+            ("s 1\n", (13, 1)),
+        ],
+    );
+    assert_questions_faults(
+        &rt,
+        &[
+            ("m x\n", (10, 1)),
+            ("a 1 2 3\n", (13, 1)),
+            ("p aux sp xy 1\n", (12, 1)),
+            ("p aux sp ss 1\nq 1 2\n", (13, 2)),
+            ("p aux sp p2p 1\nq 1\n", (14, 2)),
+            ("p aux sp p2p 1\nq 1 6\n", (17, 2)),
+            ("p aux sp p2p 1\nq 1 2\nq x\n", (18, 3)),
+        ],
     );
 }
 
 #[test]
 fn bundle_boundaries(rt: HostRuntime) {
-    let alloc = rt.alloc();
-    assert_eq!(rt; bundle_fault(alloc, b"p sp 1 0\n"), (10, 2));
-    assert_eq!(rt; bundle_fault(alloc, b"p sp 2 1\np aux sp ss 0\n"), (19, 2));
-    assert_eq!(rt; bundle_fault(alloc, b"p aux sp ss 0\n"), (10, 1));
-    assert_eq!(rt; bundle_fault(alloc, b"p sp 2 1\np aux\n"), (19, 2));
-    assert_eq!(rt; bundle_fault(alloc, b"p sp 1 0\np aux\n"), (12, 2));
-    assert_eq!(rt; bundle_fault(alloc, b"p sp 1 0\np auxx sp ss 0\n"), (11, 2));
-    assert_eq!(rt; bundle_fault(alloc, b"p sp 1 0\ns 1\n"), (13, 2));
-    assert_eq!(rt;
-        bundle_fault(alloc, b"p sp 0 0\np aux sp ss 1\ns 1\n"),
-        (17, 3)
+    assert_bundle_faults(
+        &rt,
+        &[
+            ("p sp 1 0\n", (10, 2)),
+            ("p sp 2 1\np aux sp ss 0\n", (19, 2)),
+            ("p aux sp ss 0\n", (10, 1)),
+            ("p sp 2 1\np aux\n", (19, 2)),
+            ("p sp 1 0\np aux\n", (12, 2)),
+            ("p sp 1 0\np auxx sp ss 0\n", (11, 2)),
+            ("p sp 1 0\ns 1\n", (13, 2)),
+            ("p sp 0 0\np aux sp ss 1\ns 1\n", (17, 3)),
+            ("p sp 1 0\np aux sp ss 0\np sp 1 0\n", (11, 3)),
+        ],
     );
-    assert_eq!(rt;
-        bundle_fault(alloc, b"p sp 1 0\np aux sp ss 0\np sp 1 0\n"),
-        (11, 3)
-    );
-    let (written, number, _line) = bundle(alloc, b"p sp 1 0\np aux sp ss 0\n", 9, false);
+    let empty = b"p sp 1 0\np aux sp ss 0\n";
+    let (written, number, _line) = bundle(rt.alloc(), empty, 9, false);
     assert_eq!(rt; number, 0);
-    assert_eq!(rt; written.as_slice(), b"p sp 1 0\np aux sp ss 0\n".as_slice());
+    assert_eq!(rt; written.as_slice(), empty.as_slice());
 }
 
 #[test]
 fn carriage_returns_and_odd_bytes(rt: HostRuntime) {
-    let alloc = rt.alloc();
-    assert_eq!(rt; graph_fault(alloc, b"p sp 2 1\na 1\r 2 3\n"), (15, 2));
-    assert_eq!(rt; graph_fault(alloc, b"p sp 2 1\na 1 2 3\r\r\n"), (15, 2));
-    assert_eq!(rt; graph_fault(alloc, b"p sp 2 1\n\xff\n"), (13, 2));
+    assert_graph_faults(
+        &rt,
+        &[
+            ("p sp 2 1\na 1\r 2 3\n", (15, 2)),
+            ("p sp 2 1\na 1 2 3\r\r\n", (15, 2)),
+        ],
+    );
+    assert_eq!(rt; graph_fault(rt.alloc(), b"p sp 2 1\n\xff\n"), (13, 2));
 }
 
 #[test]
@@ -234,14 +265,13 @@ fn one_source_as_several(rt: HostRuntime) {
     let (written, number, _line) = questions(alloc, repeated);
     assert_eq!(rt; number, 0);
     assert_eq!(rt; written.as_slice(), repeated.as_slice());
-    assert_eq!(rt; questions_fault(alloc, b"p aux sp ms 1\nm\n"), (14, 2));
-    assert_eq!(rt;
-        questions_fault(alloc, b"p aux sp ms 1\nm 1 1 x 1 1 1 9 1 1 6\n"),
-        (15, 2)
-    );
-    assert_eq!(rt;
-        questions_fault(alloc, b"p aux sp ms 1\nm 1 1 1 1 1 1 1 1 1 6\n"),
-        (17, 2)
+    assert_questions_faults(
+        &rt,
+        &[
+            ("p aux sp ms 1\nm\n", (14, 2)),
+            ("p aux sp ms 1\nm 1 1 x 1 1 1 9 1 1 6\n", (15, 2)),
+            ("p aux sp ms 1\nm 1 1 1 1 1 1 1 1 1 6\n", (17, 2)),
+        ],
     );
     let pairs = b"p aux sp p2p 2\nq 1 4\nq 5 5\n";
     let (again, none, _line) = questions(alloc, pairs);

@@ -15,6 +15,7 @@ use road_text::{
 };
 use std::alloc::Global;
 use std::io::{self, Write};
+use std::process::Abort;
 use std::test::Fail;
 
 /// Takes lines `n NUMBER`.
@@ -162,82 +163,90 @@ fn a_reader_that_fails(rt: HostRuntime) {
     }
 }
 
+/// Asserts of texts, each read in pieces of so many bytes, the sum of their numbers, or the fault's number and line.
+fn assert_outcomes(
+    rt: &(impl Abort + AllocGlobal),
+    piece: usize,
+    cases: &[(&str, Result<u64, (u8, u64)>)],
+)
+    requires { 0 < piece }
+{
+    for (text, wanted) in cases {
+        assert_eq!(rt;
+            outcome(rt.alloc(), text.as_bytes(), piece, false),
+            *wanted,
+            "{text}"
+        );
+    }
+}
+
 #[test]
 fn faults_in_order(rt: HostRuntime) {
-    let alloc = rt.alloc();
-    assert_eq!(rt; outcome(alloc, b"", 9, true), Err((1, 0)));
-    assert_eq!(rt; outcome(alloc, b"", 9, false), Ok(0));
-    assert_eq!(rt; outcome(alloc, b"n 1\nm 1 x\n", 9, false), Err((13, 2)));
-    assert_eq!(rt; outcome(alloc, b"\n\nn 1 x\nm\n", 9, false), Err((14, 3)));
-    assert_eq!(rt; outcome(alloc, b"n x\nm\n", 9, true), Err((15, 1)));
-    assert_eq!(rt; outcome(alloc, b"n +1", 9, false), Err((15, 1)));
-    assert_eq!(rt; outcome(alloc, b"nn 1", 9, false), Err((13, 1)));
-    assert_eq!(rt;
-        outcome(alloc, b"nnnnnnnnnnnnnnnnn 1", 9, false),
-        Err((13, 1))
-    );
-    assert_eq!(rt;
-        outcome(alloc, b"n 1 1 1 1 1 1 1 1 1", 9, false),
-        Err((14, 1))
+    assert_eq!(rt; outcome(rt.alloc(), b"", 9, true), Err((1, 0)));
+    assert_eq!(rt; outcome(rt.alloc(), b"n x\nm\n", 9, true), Err((15, 1)));
+    assert_outcomes(
+        &rt,
+        9,
+        &[
+            ("", Ok(0)),
+            ("n 1\nm 1 x\n", Err((13, 2))),
+            ("\n\nn 1 x\nm\n", Err((14, 3))),
+            ("n +1", Err((15, 1))),
+            ("nn 1", Err((13, 1))),
+            ("nnnnnnnnnnnnnnnnn 1", Err((13, 1))),
+            ("n 1 1 1 1 1 1 1 1 1", Err((14, 1))),
+        ],
     );
 }
 
 #[test]
 fn numbers_at_the_top(rt: HostRuntime) {
-    let alloc = rt.alloc();
-    assert_eq!(rt;
-        outcome(alloc, b"n 18446744073709551615", 5, false),
-        Ok(18_446_744_073_709_551_615)
+    assert_outcomes(
+        &rt,
+        5,
+        &[
+            ("n 18446744073709551615", Ok(18_446_744_073_709_551_615)),
+            (
+                "n 000000000000000000000018446744073709551615",
+                Ok(18_446_744_073_709_551_615),
+            ),
+            ("n 18446744073709551616", Err((16, 1))),
+            ("n 184467440737095516150", Err((16, 1))),
+        ],
     );
-    assert_eq!(rt;
-        outcome(
-            alloc,
-            b"n 000000000000000000000018446744073709551615",
-            5,
-            false
-        ),
-        Ok(18_446_744_073_709_551_615)
-    );
-    assert_eq!(rt;
-        outcome(alloc, b"n 18446744073709551616", 5, false),
-        Err((16, 1))
-    );
-    assert_eq!(rt;
-        outcome(alloc, b"n 184467440737095516150", 5, false),
-        Err((16, 1))
-    );
-    assert_eq!(rt;
-        outcome(
-            alloc,
-            b"n 99999999999999999999999999999999999999999999",
-            70,
-            false
-        ),
-        Err((16, 1))
-    );
-    assert_eq!(rt;
-        outcome(
-            alloc,
-            b"n 9999999999999999999999999999999999999999999x",
-            70,
-            false
-        ),
-        Err((15, 1))
+    assert_outcomes(
+        &rt,
+        70,
+        &[
+            (
+                "n 99999999999999999999999999999999999999999999",
+                Err((16, 1)),
+            ),
+            (
+                "n 9999999999999999999999999999999999999999999x",
+                Err((15, 1)),
+            ),
+        ],
     );
 }
 
 #[test]
 fn carriage_returns_and_odd_bytes(rt: HostRuntime) {
-    let alloc = rt.alloc();
-    assert_eq!(rt; outcome(alloc, b"n 1\r", 1, false), Ok(1));
-    assert_eq!(rt; outcome(alloc, b"\r\n\r\nn 1", 1, false), Ok(1));
-    assert_eq!(rt; outcome(alloc, b"n 1\r\r\n", 1, false), Err((15, 1)));
-    assert_eq!(rt; outcome(alloc, b"\r\r\n", 1, false), Err((13, 1)));
-    assert_eq!(rt; outcome(alloc, b"n\r1\n", 1, false), Err((13, 1)));
-    assert_eq!(rt; outcome(alloc, b"n \r1\n", 1, false), Err((15, 1)));
-    assert_eq!(rt; outcome(alloc, b"n 1\x0b\n", 1, false), Err((15, 1)));
-    assert_eq!(rt; outcome(alloc, b"n 1 \x00\n", 1, false), Err((14, 1)));
-    assert_eq!(rt; outcome(alloc, b"\xff\n", 1, false), Err((13, 1)));
+    assert_outcomes(
+        &rt,
+        1,
+        &[
+            ("n 1\r", Ok(1)),
+            ("\r\n\r\nn 1", Ok(1)),
+            ("n 1\r\r\n", Err((15, 1))),
+            ("\r\r\n", Err((13, 1))),
+            ("n\r1\n", Err((13, 1))),
+            ("n \r1\n", Err((15, 1))),
+            ("n 1\x0b\n", Err((15, 1))),
+            ("n 1 \x00\n", Err((14, 1))),
+        ],
+    );
+    assert_eq!(rt; outcome(rt.alloc(), b"\xff\n", 1, false), Err((13, 1)));
 }
 
 #[test]

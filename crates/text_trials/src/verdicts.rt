@@ -161,19 +161,28 @@ fn checker_names_the_place(rt: HostRuntime) -> Result<(), Fail> {
 
 #[test]
 fn places_in_order(rt: HostRuntime) -> Result<(), Fail> {
-    let other_source = "d 1 0 0 1\nd 2 3 2 3\nd 3 1 1 1\nd 4 8 3 2\nu 5\n";
-    assert_lines(&rt, FIVE, other_source, invalid(1, 1, Reason::Mismatch))?;
-    let other_hops = "d 1 0 0 0\nd 2 3 3 3\nd 3 1 1 1\nd 4 8 3 2\nu 5\n";
-    assert_lines(&rt, FIVE, other_hops, invalid(1, 2, Reason::OtherHops))?;
-    let other_parent = "d 1 0 0 0\nd 2 3 2 3\nd 3 1 1 9\nd 4 8 3 2\nu 5\n";
-    assert_lines(&rt, FIVE, other_parent, invalid(1, 3, Reason::NoParent))?;
+    for (lines, wanted) in [
+        (
+            "d 1 0 0 1\nd 2 3 2 3\nd 3 1 1 1\nd 4 8 3 2\nu 5\n",
+            invalid(1, 1, Reason::Mismatch),
+        ),
+        (
+            "d 1 0 0 0\nd 2 3 3 3\nd 3 1 1 1\nd 4 8 3 2\nu 5\n",
+            invalid(1, 2, Reason::OtherHops),
+        ),
+        (
+            "d 1 0 0 0\nd 2 3 2 3\nd 3 1 1 9\nd 4 8 3 2\nu 5\n",
+            invalid(1, 3, Reason::NoParent),
+        ),
+    ] {
+        assert_lines(&rt, FIVE, lines, wanted)?;
+    }
     let widest = format!(in rt.alloc(); "p ans ss 1 widest\ns 1\n{LINES}")?;
     let whole = invalid(0, 0, Reason::Mismatch);
     assert_verdict(&rt, Shortest, FIVE, FROM_ONE, widest.as_str(), whole)?;
-    let none = "p ans ss 0 shortest\n";
-    assert_verdict(&rt, Shortest, FIVE, FROM_ONE, none, whole)?;
-    let pair = "p ans p2p 1 shortest\nq 1 4\nu\n";
-    assert_verdict(&rt, Shortest, FIVE, FROM_ONE, pair, whole)?;
+    for answers in ["p ans ss 0 shortest\n", "p ans p2p 1 shortest\nq 1 4\nu\n"] {
+        assert_verdict(&rt, Shortest, FIVE, FROM_ONE, answers, whole)?;
+    }
     let from_two = format!(in rt.alloc(); "p ans ss 1 shortest\ns 2\n{LINES}")?;
     let first = invalid(1, 0, Reason::Mismatch);
     assert_verdict(&rt, Shortest, FIVE, FROM_ONE, from_two.as_str(), first)
@@ -193,58 +202,76 @@ fn questions_go_before_vertices(rt: HostRuntime) -> Result<(), Fail> {
 
 #[test]
 fn checker_reasons(rt: HostRuntime) -> Result<(), Fail> {
-    let longer = "d 1 0 0 0\nd 2 4 1 1\nd 3 1 1 1\nd 4 8 3 2\nu 5\n";
-    assert_lines(&rt, FIVE, longer, invalid(1, 2, Reason::NotBest))?;
-    let no_value = "d 1 0 0 0\nd 2 18446744073709551615 2 3\nd 3 1 1 1\nd 4 8 3 2\nu 5\n";
-    assert_lines(&rt, FIVE, no_value, invalid(1, 2, Reason::NoParent))?;
-    let shorter = "d 1 0 0 0\nd 2 2 2 3\nd 3 1 1 1\nd 4 7 3 2\nu 5\n";
-    assert_lines(&rt, FIVE, shorter, invalid(1, 2, Reason::NoParent))?;
-    let unreached = "d 1 0 0 0\nd 2 3 2 3\nd 3 1 1 1\nu 4\nu 5\n";
-    assert_lines(&rt, FIVE, unreached, invalid(1, 4, Reason::HasWalk))?;
     let around = "p sp 3 4\na 1 2 0\na 2 3 0\na 3 2 0\na 1 3 0\n";
-    let far = "d 1 0 0 0\nd 2 0 2 3\nd 3 0 1 1\n";
-    assert_lines(&rt, around, far, invalid(1, 2, Reason::OtherHops))?;
     let apart = "p sp 3 2\na 2 3 0\na 3 2 0\n";
-    let by_each_other = "d 1 0 0 0\nd 2 7 1 3\nd 3 7 0 2\n";
-    assert_lines(&rt, apart, by_each_other, invalid(1, 3, Reason::OtherHops))?;
     let twice = "p sp 4 4\na 1 2 1\na 1 3 1\na 2 4 1\na 3 4 1\n";
-    let greater = "d 1 0 0 0\nd 2 1 1 1\nd 3 1 1 1\nd 4 2 2 3\n";
-    assert_lines(&rt, twice, greater, invalid(1, 4, Reason::LesserParent))?;
+    for (graph, lines, wanted) in [
+        (
+            FIVE,
+            "d 1 0 0 0\nd 2 4 1 1\nd 3 1 1 1\nd 4 8 3 2\nu 5\n",
+            invalid(1, 2, Reason::NotBest),
+        ),
+        (
+            FIVE,
+            "d 1 0 0 0\nd 2 18446744073709551615 2 3\nd 3 1 1 1\nd 4 8 3 2\nu 5\n",
+            invalid(1, 2, Reason::NoParent),
+        ),
+        (
+            FIVE,
+            "d 1 0 0 0\nd 2 2 2 3\nd 3 1 1 1\nd 4 7 3 2\nu 5\n",
+            invalid(1, 2, Reason::NoParent),
+        ),
+        (
+            FIVE,
+            "d 1 0 0 0\nd 2 3 2 3\nd 3 1 1 1\nu 4\nu 5\n",
+            invalid(1, 4, Reason::HasWalk),
+        ),
+        (
+            around,
+            "d 1 0 0 0\nd 2 0 2 3\nd 3 0 1 1\n",
+            invalid(1, 2, Reason::OtherHops),
+        ),
+        (
+            apart,
+            "d 1 0 0 0\nd 2 7 1 3\nd 3 7 0 2\n",
+            invalid(1, 3, Reason::OtherHops),
+        ),
+        (
+            twice,
+            "d 1 0 0 0\nd 2 1 1 1\nd 3 1 1 1\nd 4 2 2 3\n",
+            invalid(1, 4, Reason::LesserParent),
+        ),
+    ] {
+        assert_lines(&rt, graph, lines, wanted)?;
+    }
     let two = "p aux sp ms 1\nm 4 5\n";
-    let answers =
-        "p ans ms 1 shortest\nm 4 5\nd 1 3 1 5\nd 2 6 3 3\nd 3 4 2 1\nd 4 0 0 0\nd 5 1 0 0\n";
-    let fifth = invalid(1, 1, Reason::NoParent);
-    assert_verdict(&rt, Shortest, FIVE, two, answers, fifth)?;
-    let answers =
-        "p ans ms 1 shortest\nm 4 5\nd 1 3 1 5\nd 2 6 3 3\nd 3 4 2 1\nd 4 0 0 1\nd 5 0 0 0\n";
-    let fourth = invalid(1, 4, Reason::Mismatch);
-    assert_verdict(&rt, Shortest, FIVE, two, answers, fourth)
+    for (told, wanted) in [
+        ("d 4 0 0 0\nd 5 1 0 0\n", invalid(1, 1, Reason::NoParent)),
+        ("d 4 0 0 1\nd 5 0 0 0\n", invalid(1, 4, Reason::Mismatch)),
+    ] {
+        let answers = format!(in rt.alloc();
+            "p ans ms 1 shortest\nm 4 5\nd 1 3 1 5\nd 2 6 3 3\nd 3 4 2 1\n{told}"
+        )?;
+        assert_verdict(&rt, Shortest, FIVE, two, answers.as_str(), wanted)?;
+    }
+    Ok(())
 }
 
 #[test]
 fn reasons_against_pairs(rt: HostRuntime) -> Result<(), Fail> {
-    assert_pair(&rt, "q 1 4\nu\n", invalid(1, 4, Reason::HasWalk))?;
-    assert_pair(
-        &rt,
-        "q 1 4\nd 9 2\nr 1 3 4\n",
-        invalid(1, 4, Reason::NotBest),
-    )?;
-    assert_pair(
-        &rt,
-        "q 1 4\nd 8 2\nr 1 2 4\n",
-        invalid(1, 4, Reason::OtherHops),
-    )?;
-    assert_pair(
-        &rt,
-        "q 1 4\nd 8 3\nr 1 2 3 4\n",
-        invalid(1, 4, Reason::OtherRoute),
-    )?;
-    assert_pair(
-        &rt,
-        "q 1 4\nd 8 3\nr 1 3 2\n",
-        invalid(1, 4, Reason::OtherRoute),
-    )?;
-    assert_pair(&rt, "q 4 1\nu\n", invalid(1, 0, Reason::Mismatch))?;
+    for (told, wanted) in [
+        ("q 1 4\nu\n", invalid(1, 4, Reason::HasWalk)),
+        ("q 1 4\nd 9 2\nr 1 3 4\n", invalid(1, 4, Reason::NotBest)),
+        ("q 1 4\nd 8 2\nr 1 2 4\n", invalid(1, 4, Reason::OtherHops)),
+        (
+            "q 1 4\nd 8 3\nr 1 2 3 4\n",
+            invalid(1, 4, Reason::OtherRoute),
+        ),
+        ("q 1 4\nd 8 3\nr 1 3 2\n", invalid(1, 4, Reason::OtherRoute)),
+        ("q 4 1\nu\n", invalid(1, 0, Reason::Mismatch)),
+    ] {
+        assert_pair(&rt, told, wanted)?;
+    }
     let back = "p aux sp p2p 1\nq 4 1\n";
     let answers = "p ans p2p 1 shortest\nq 4 1\nd 0 1\nr 4 1\n";
     let first = invalid(1, 1, Reason::NotBest);
@@ -284,21 +311,25 @@ fn assert_pairs(
 #[test]
 fn pairs_in_groups(rt: HostRuntime) -> Result<(), Fail> {
     assert_pairs(&rt, 0, Verdict::Valid)?;
-    assert_pairs(&rt, 1, invalid(1, 4, Reason::NotBest))?;
-    assert_pairs(&rt, 64, invalid(64, 4, Reason::NotBest))?;
-    assert_pairs(&rt, 65, invalid(65, 4, Reason::NotBest))?;
-    assert_pairs(&rt, 130, invalid(130, 4, Reason::NotBest))
+    for wrong in [1, 64, 65, 130] {
+        assert_pairs(&rt, wrong, invalid(wrong, 4, Reason::NotBest))?;
+    }
+    Ok(())
 }
 
 #[test]
 fn numbers_of_reasons(rt: HostRuntime) {
-    assert_eq!(rt; Reason::Mismatch.number(), 1);
-    assert_eq!(rt; Reason::NotBest.number(), 2);
-    assert_eq!(rt; Reason::NoParent.number(), 3);
-    assert_eq!(rt; Reason::OtherHops.number(), 4);
-    assert_eq!(rt; Reason::LesserParent.number(), 5);
-    assert_eq!(rt; Reason::HasWalk.number(), 6);
-    assert_eq!(rt; Reason::OtherRoute.number(), 7);
+    for (reason, number) in [
+        (Reason::Mismatch, 1),
+        (Reason::NotBest, 2),
+        (Reason::NoParent, 3),
+        (Reason::OtherHops, 4),
+        (Reason::LesserParent, 5),
+        (Reason::HasWalk, 6),
+        (Reason::OtherRoute, 7),
+    ] {
+        assert_eq!(rt; reason.number(), number);
+    }
 }
 
 #[test]

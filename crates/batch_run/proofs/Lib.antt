@@ -4,6 +4,7 @@ pub mod ToldLines
 pub mod Progress
 pub mod Existing
 pub mod Fronts
+pub mod OfInputs
 pub mod Together
 pub mod Laid
 pub mod Moved

@@ -107,6 +107,19 @@ module _ {S V W : Type 0} (algebra : S) (roads : Roads) (plan : PlanData) (sourc
   last_ended stations source e at =
       rw e (subst (λ x. AreEnded (diffusion algebra roads plan x) f l.items) at (last_of EndedAt fs gs ls ms f l is_f is_l same (λ q e k low s. each q s e k low) source))
 
+-- what holds of all of a list holds of those at its beginning, and of its last
+pub all_before : {X : Type 0} (P : X → Type 0) (ys xs zs : List X) → ys ≡ xs ++ zs → All P ys → All P xs
+all_before P ys xs zs e h = λ k d below.
+    let at : get_or ys k d ≡ get_or xs k d = grind (arith, common_steps) in
+    let low : k < length ys = grind (arith, common_steps) in
+    rw at at (h k d low)
+
+pub last_of_all : {X : Type 0} (P : X → Type 0) (ys xs : List X) (x : X) → ys ≡ xs ++ x ∷ [] → All P ys → P x
+last_of_all P ys xs x e h =
+    let at : get_or ys (length xs) x ≡ x = grind (arith, common_steps) in
+    let low : length xs < length ys = grind (arith, common_steps) in
+    rw at at (h (length xs) x low)
+
 -- the source at a place behind the first
 pub source_behind : (x y : ℕ) (xs : List ℕ) (n m : ℕ) → n ≡ suc m → m < length xs → y ≡ get_or xs m y → get_or (x ∷ xs) n y ≡ y
 source_behind x y xs n m e low is = rw e (sym is)

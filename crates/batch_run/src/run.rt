@@ -1,10 +1,10 @@
 //! Runs a batch from bytes to bytes.
-ghost use Rattle.std.specs.Prelude.{◌≡◌, ◌≢◌, ℕ, ◌+◌, ◌≤◌, ◌<◌, ◌↔◌, ◌⊎◌, [], false, Ok, Err, OnOk, IfErr, length};
+ghost use Rattle.std.specs.Prelude.{◌≡◌, ◌≢◌, ℕ, ◌+◌, ◌≤◌, ◌<◌, ◌↔◌, ◌⊎◌, [], false, Ok, Err, IfOk, OnOk, IfErr, length};
 ghost use Rattle.std.specs.Io.KnownBytes.{IsAtEnd, Keeps};
 ghost use Rattle.road_files.specs.Asked.{AreQuestionsOf, asked_of};
 ghost use Rattle.batch_run.specs.Answered.{WroteAllOrFirst, WroteAllOrFront, WroteWhole};
 ghost use Rattle.batch_run.specs.InRange.{AreInRange};
-ghost use Rattle.batch_run.specs.Ran.{IsPassedOn, Done, Begun, BegunWhole, IsPairOf, IsBundleOf, IsGraphFault, IsQuestionsFault, IsBundleFault, IsFaultOf, IsLater};
+ghost use Rattle.batch_run.specs.Ran.{IsPassedOn, Done, Begun, BegunWhole, IsPairOf, IsBundleOf, IsGraphFault, IsQuestionsFault, IsBundleFault, IsFaultOf, IsLater, IsRoadNumber};
 
 use crate::answering::answer_at;
 use crate::engine::{Ahead, Batch, indexed, prepare};
@@ -109,18 +109,18 @@ fn answer_and_flush<A: PathAlgebra, W: RoadWrite, R: Threads + Wait + Sync, T: G
     alloc: Global,
     algebra: A,
     graph: Graph,
-    questions: &Questions,
+    questions: Questions,
     out: &mut W,
     settings: &Settings,
     gate: &T,
 ) -> Result<(), RunFault>
-    requires within { AreQuestionsOf graph.vertices questions.now }
+    requires within { AreQuestionsOf graph.vertices questions }
     requires settings { AreInRange settings.now }
-    ensures text { WroteAllOrFront (A.meaning algebra) graph (asked_of questions.now) (W.written out.old) (W.written out.new) result }
+    ensures text { WroteAllOrFront (A.meaning algebra) graph (asked_of questions) (W.written out.old) (W.written out.new) result }
     ensures passed_on { OnOk result (W.held out.new ≡ []) }
     ensures sound { OnOk result (W.failures out.new ≡ W.failures out.old) }
     ensures later { IfErr result (λ f. IsLater settings.now (T.is_always_open gate.now) f × (f.number ≡ 42 → W.failures out.old < W.failures out.new)) }
-    ensures whole { IfErr result (λ f. f.number ≢ 42 → WroteWhole (A.meaning algebra) graph (asked_of questions.now) (W.written out.old) (W.written out.new)) }
+    ensures whole { IfErr result (λ f. f.number ≢ 42 → WroteWhole (A.meaning algebra) graph (asked_of questions) (W.written out.old) (W.written out.new)) }
     ensures once { IfErr result (λ f. f.number ≢ 42 → W.failures out.new ≤ W.failures out.old + 1) }
     ensures flushed { IfErr result (λ f. f.number ≢ 42 → IsPassedOn (W.held out.new) (W.failures out.old) (W.failures out.new)) }
 {
@@ -128,8 +128,37 @@ fn answer_and_flush<A: PathAlgebra, W: RoadWrite, R: Threads + Wait + Sync, T: G
     first_answers_begin_all(algebra);
     let _n = graph.vertices();
     let graph = indexed(alloc, graph, settings);
-    let answered = answer_all(rt, alloc, algebra, &graph, questions, out, settings, gate);
+    let answered = answer_all(rt, alloc, algebra, &graph, &questions, out, settings, gate);
     flush_all(out, answered)
+}
+
+/// Reads a graph from one input and questions over it from another, and tells the first fault.
+fn read_pair<G: RoadRead, Q: RoadRead>(
+    alloc: Global,
+    graph_in: &mut G,
+    questions_in: &mut Q,
+) -> Result<(Graph, Questions), RunFault>
+    ensures read { IfOk result (λ r. IsPairOf (G.left graph_in.old) (Q.left questions_in.old) r.0 (asked_of r.1)) }
+    ensures within { IfOk result (λ r. AreQuestionsOf r.0.vertices r.1) }
+    ensures sound { OnOk result ((G.failures graph_in.new ≡ G.failures graph_in.old) × (Q.failures questions_in.new ≡ Q.failures questions_in.old)) }
+    ensures ends { OnOk result (IsAtEnd (G.left graph_in.new) × IsAtEnd (Q.left questions_in.new)) }
+    ensures graph { IfErr result (λ f. f.file ≡ File.Graph → IsGraphFault (G.left graph_in.old) f) }
+    ensures questions { IfErr result (λ f. f.file ≡ File.Questions → IsQuestionsFault (G.left graph_in.old) (Q.left questions_in.old) f) }
+    ensures read_graph { (result ≡ Err (record { number = 1; file = File.Graph; line = 0 })) ↔ (G.failures graph_in.new ≢ G.failures graph_in.old) }
+    ensures read_questions { (result ≡ Err (record { number = 1; file = File.Questions; line = 0 })) ↔ (Q.failures questions_in.new ≢ Q.failures questions_in.old) }
+    ensures kinds { IfErr result (λ f. ((f.file ≡ File.Graph) ⊎ (f.file ≡ File.Questions)) × IsRoadNumber f.number) }
+    ensures placed { IfErr result (λ f. f.number ≤ 3 → f.line ≡ 0) }
+    ensures asked { G.asked graph_in.new ≤ G.asked graph_in.old + 4294967297 }
+    ensures asked_questions { Q.asked questions_in.new ≤ Q.asked questions_in.old + 4294967297 }
+{
+    let graph = match read_gr(alloc, graph_in) {
+        Ok(graph) => graph,
+        Err(fault) => return Err(fault_in(File::Graph, fault)),
+    };
+    match read_questions(alloc, questions_in, graph.vertices()) {
+        Ok(questions) => Ok((graph, questions)),
+        Err(fault) => Err(fault_in(File::Questions, fault)),
+    }
 }
 
 /// Answers the questions of one input over the graph of another, and writes the answers.
@@ -193,15 +222,11 @@ pub fn run_pair<
     if !settings.are_in_range() {
         return Err(fault_of_run(SETTINGS));
     }
-    let graph = match read_gr(alloc, graph_in) {
-        Ok(graph) => graph,
-        Err(fault) => return Err(fault_in(File::Graph, fault)),
+    let (graph, questions) = match read_pair(alloc, graph_in, questions_in) {
+        Ok(read) => read,
+        Err(fault) => return Err(fault),
     };
-    let questions = match read_questions(alloc, questions_in, graph.vertices()) {
-        Ok(questions) => questions,
-        Err(fault) => return Err(fault_in(File::Questions, fault)),
-    };
-    answer_and_flush(rt, alloc, algebra, graph, &questions, out, settings, gate)
+    answer_and_flush(rt, alloc, algebra, graph, questions, out, settings, gate)
 }
 
 /// Answers the questions of a bundle, a graph and questions over it in one input, as `run_pair` does.
@@ -249,5 +274,5 @@ pub fn run_bundle<A: PathAlgebra, B: RoadRead, W: RoadWrite, R: Threads + Wait +
         Ok(read) => read,
         Err(fault) => return Err(fault_in(File::Bundle, fault)),
     };
-    answer_and_flush(rt, alloc, algebra, graph, &questions, out, settings, gate)
+    answer_and_flush(rt, alloc, algebra, graph, questions, out, settings, gate)
 }

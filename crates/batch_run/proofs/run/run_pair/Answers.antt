@@ -1,47 +1,95 @@
-use Rattle.std.proofs.Common.{◌≡◌, ◌≢◌, ◌⊎◌, inl, inr, ℕ, List, Option, Result, Ok, Err, arith, rules}
-use Rattle.std.specs.Prelude.{IfErr, OnOk}
-use Rattle.std.proofs.lemmas.Result.{IfErr-weaker}
-use Rattle.road_graph.specs.Roads.{Roads}
-use Rattle.road_files.specs.Asked.{Asked, asked_of}
-use Rattle.path_algebra.specs.Algebra.{Algebra}
-use Rattle.batch_run.specs.declared.faults.RunFault.{RunFault}
-use Rattle.batch_run.specs.declared.faults.File.TheVariants.{NoFile}
-use Rattle.batch_run.specs.Answered.{WroteAllOrFront, WroteWhole}
-use Rattle.batch_run.specs.Ran.{BegunWhole, Done, IsPairOf, IsPassedOn}
+use Rattle.std.proofs.Common.{arith, ◌≡◌, inl, inr, refl}
+use Rattle.std.proofs.lemmas.Result.{IfErr-at_err, IfErr-weaker}
+use Rattle.batch_run.specs.declared.faults.File.TheVariants.{Graph, Questions}
+use Rattle.batch_run.proofs.OfInputs.{done, settings, of_no_input, no_failed_read, kinds, placed, stalled, gated, in_no_input, of_no_setting, begun, begun_without_memory, at_memory, begun_when_stopped, in_an_input, of_no_run}
 use Rattle.batch_run.proofs.run.run_pair.Goals as goal
 
-module _ {V : Type 0} (A : Algebra V) (IsRead : Roads → Asked → Type 0) (g : Roads) (asked : Asked) (read : IsRead g asked) (old new : Option (List ℕ)) where
-  begun : WroteWhole A g asked old new → BegunWhole A IsRead old new
-  begun wrote = record { graph = g; asked = asked; read = read; wrote = wrote }
-
-  done : (r : Result (Unit {0}) RunFault) → WroteAllOrFront A g asked old new r → OnOk r (Done A IsRead old new)
-  done (Ok u) wrote = record { graph = g; asked = asked; read = read; wrote = wrote }
-  done (Err f) front = tt
-
-  begun_without_memory : (r : Result (Unit {0}) RunFault) → IfErr r (λ f. f.number ≢ 42 → WroteWhole A g asked old new) → IfErr r (λ f. f.file ≡ NoFile → f.number ≡ 3 → BegunWhole A IsRead old new)
-  begun_without_memory r = IfErr-weaker r _ _ (λ f wrote file three. begun (wrote (λ e. absurd (omega (arith, three, e)))))
-
-  begun_when_stopped : (r : Result (Unit {0}) RunFault) (kept : List ℕ) (before after : ℕ) → IfErr r (λ f. f.number ≢ 42 → WroteWhole A g asked old new) → IfErr r (λ f. f.number ≢ 42 → IsPassedOn kept before after) →
-      IfErr r (λ f. (f.number ≡ 40) ⊎ (f.number ≡ 41) → BegunWhole A IsRead old new × IsPassedOn kept before after)
-  begun_when_stopped (Ok u) kept before after wrote passed = tt
-  begun_when_stopped (Err f) kept before after wrote passed = λ cause.
-      let other : f.number ≢ 42 = elim cause [
-        | inl e ↦ λ z. absurd (omega (arith, e, z))
-        | inr e ↦ λ z. absurd (omega (arith, e, z))
-      ] in
-      (begun (wrote other), passed other)
-
 pub returns-clause-done : goal.returns-clause-done
-returns-clause-done g c =
-    let read : IsPairOf (g.G.RoadRead.left c.args.graph_in.now) (g.Q.RoadRead.left c.args.questions_in.now) c.in-Ok.graph (asked_of c.in-Ok-read_questions.questions) = search rules in
-    done _ _ _ _ read _ _ c.answer_and_flush.result c.answer_and_flush.ensures.text
+returns-clause-done g c = done _ _ _ _ c.in-Ok.ensures.read _ _ c.answer_and_flush.result c.answer_and_flush.ensures.text
+
+pub returns-clause-settings : goal.returns-clause-settings
+returns-clause-settings g c = settings c.args.settings.now (g.T.Gate.is_always_open c.args.gate.now) _ _ c.answer_and_flush.result c.answer_and_flush.ensures.later (c.are_in_range.ensures.0 c.if-not-are_in_range.false)
+
+pub returns-clause-graph : goal.returns-clause-graph
+returns-clause-graph g c = of_no_input c.args.settings.now (g.T.Gate.is_always_open c.args.gate.now) _ _ c.answer_and_flush.result c.answer_and_flush.ensures.later Graph _ (λ e. cc)
+
+pub returns-clause-questions : goal.returns-clause-questions
+returns-clause-questions g c = of_no_input c.args.settings.now (g.T.Gate.is_always_open c.args.gate.now) _ _ c.answer_and_flush.result c.answer_and_flush.ensures.later Questions _ (λ e. cc)
+
+pub returns-clause-read_graph : goal.returns-clause-read_graph
+returns-clause-read_graph g c = no_failed_read c.args.settings.now (g.T.Gate.is_always_open c.args.gate.now) _ _ c.answer_and_flush.result c.answer_and_flush.ensures.later Graph _ _ (λ e. cc) c.in-Ok.ensures.sound.0
+
+pub returns-clause-read_questions : goal.returns-clause-read_questions
+returns-clause-read_questions g c = no_failed_read c.args.settings.now (g.T.Gate.is_always_open c.args.gate.now) _ _ c.answer_and_flush.result c.answer_and_flush.ensures.later Questions _ _ (λ e. cc) c.in-Ok.ensures.sound.1
+
+pub returns-clause-write : goal.returns-clause-write
+returns-clause-write g c = IfErr-weaker c.answer_and_flush.result _ _ (λ f l. l.1) c.answer_and_flush.ensures.later
+
+pub returns-clause-kinds : goal.returns-clause-kinds
+returns-clause-kinds g c = kinds c.args.settings.now (g.T.Gate.is_always_open c.args.gate.now) _ _ c.answer_and_flush.result c.answer_and_flush.ensures.later _
+
+pub returns-clause-placed : goal.returns-clause-placed
+returns-clause-placed g c = placed c.args.settings.now (g.T.Gate.is_always_open c.args.gate.now) _ _ c.answer_and_flush.result c.answer_and_flush.ensures.later
+
+pub returns-clause-stalled : goal.returns-clause-stalled
+returns-clause-stalled g c = stalled c.args.settings.now (g.T.Gate.is_always_open c.args.gate.now) _ _ c.answer_and_flush.result c.answer_and_flush.ensures.later
+
+pub returns-clause-gated : goal.returns-clause-gated
+returns-clause-gated g c = gated c.args.settings.now (g.T.Gate.is_always_open c.args.gate.now) _ _ c.answer_and_flush.result c.answer_and_flush.ensures.later
+
+pub returns-clause-nothing : goal.returns-clause-nothing
+returns-clause-nothing g c = in_no_input c.args.settings.now (g.T.Gate.is_always_open c.args.gate.now) _ _ c.answer_and_flush.result c.answer_and_flush.ensures.later _
+
+pub returns-clause-unwritten : goal.returns-clause-unwritten
+returns-clause-unwritten g c = in_no_input c.args.settings.now (g.T.Gate.is_always_open c.args.gate.now) _ _ c.answer_and_flush.result c.answer_and_flush.ensures.later _
+
+pub returns-clause-untouched : goal.returns-clause-untouched
+returns-clause-untouched g c = of_no_setting c.args.settings.now (g.T.Gate.is_always_open c.args.gate.now) _ _ c.answer_and_flush.result c.answer_and_flush.ensures.later _
+
+pub returns-clause-begun : goal.returns-clause-begun
+returns-clause-begun g c = begun _ _ _ _ c.in-Ok.ensures.read _ _ c.answer_and_flush.result c.answer_and_flush.ensures.text
 
 pub returns-clause-whole : goal.returns-clause-whole
-returns-clause-whole g c =
-    let read : IsPairOf (g.G.RoadRead.left c.args.graph_in.now) (g.Q.RoadRead.left c.args.questions_in.now) c.in-Ok.graph (asked_of c.in-Ok-read_questions.questions) = search rules in
-    begun_without_memory _ _ _ _ read _ _ c.answer_and_flush.result c.answer_and_flush.ensures.whole
+returns-clause-whole g c = begun_without_memory _ _ _ _ c.in-Ok.ensures.read _ _ c.answer_and_flush.result c.answer_and_flush.ensures.whole
+
+pub returns-clause-flushed : goal.returns-clause-flushed
+returns-clause-flushed g c = at_memory c.answer_and_flush.result _ c.answer_and_flush.ensures.flushed
+
+pub returns-clause-once : goal.returns-clause-once
+returns-clause-once g c = at_memory c.answer_and_flush.result _ c.answer_and_flush.ensures.once
 
 pub returns-clause-stopped : goal.returns-clause-stopped
-returns-clause-stopped g c =
-    let read : IsPairOf (g.G.RoadRead.left c.args.graph_in.now) (g.Q.RoadRead.left c.args.questions_in.now) c.in-Ok.graph (asked_of c.in-Ok-read_questions.questions) = search rules in
-    begun_when_stopped _ _ _ _ read _ _ c.answer_and_flush.result _ _ _ c.answer_and_flush.ensures.whole c.answer_and_flush.ensures.flushed
+returns-clause-stopped g c = begun_when_stopped _ _ _ _ c.in-Ok.ensures.read _ _ c.answer_and_flush.result _ _ _ c.answer_and_flush.ensures.whole c.answer_and_flush.ensures.flushed
+
+pub returns-in-Err-clause-settings : goal.returns-in-Err-clause-settings
+returns-in-Err-clause-settings g c = (λ e. absurd (of_no_run c.in-Err.fault c.in-Err.ensures.kinds 43 (omega arith) (IfErr-at_err (λ f. c.in-Err.fault.number ≡ f.number) e refl)), λ no. absurd (no (c.are_in_range.ensures.0 c.if-not-are_in_range.false)))
+
+pub returns-in-Err-clause-write : goal.returns-in-Err-clause-write
+returns-in-Err-clause-write g c = λ e. absurd (of_no_run c.in-Err.fault c.in-Err.ensures.kinds 42 (omega arith) e)
+
+pub returns-in-Err-clause-kinds : goal.returns-in-Err-clause-kinds
+returns-in-Err-clause-kinds g c = inl c.in-Err.ensures.kinds
+
+pub returns-in-Err-clause-stalled : goal.returns-in-Err-clause-stalled
+returns-in-Err-clause-stalled g c = λ e. absurd (of_no_run c.in-Err.fault c.in-Err.ensures.kinds 40 (omega arith) e)
+
+pub returns-in-Err-clause-gated : goal.returns-in-Err-clause-gated
+returns-in-Err-clause-gated g c = λ e. absurd (of_no_run c.in-Err.fault c.in-Err.ensures.kinds 41 (omega arith) e)
+
+pub returns-in-Err-clause-untouched : goal.returns-in-Err-clause-untouched
+returns-in-Err-clause-untouched g c = λ e. absurd (of_no_run c.in-Err.fault c.in-Err.ensures.kinds 43 (omega arith) e)
+
+pub returns-in-Err-clause-begun : goal.returns-in-Err-clause-begun
+returns-in-Err-clause-begun g c = λ e. absurd (in_an_input c.in-Err.fault c.in-Err.ensures.kinds e)
+
+pub returns-in-Err-clause-whole : goal.returns-in-Err-clause-whole
+returns-in-Err-clause-whole g c = λ e. absurd (in_an_input c.in-Err.fault c.in-Err.ensures.kinds e)
+
+pub returns-in-Err-clause-flushed : goal.returns-in-Err-clause-flushed
+returns-in-Err-clause-flushed g c = λ e. absurd (in_an_input c.in-Err.fault c.in-Err.ensures.kinds e)
+
+pub returns-in-Err-clause-once : goal.returns-in-Err-clause-once
+returns-in-Err-clause-once g c = λ e. absurd (in_an_input c.in-Err.fault c.in-Err.ensures.kinds e)
+
+pub returns-in-Err-clause-stopped : goal.returns-in-Err-clause-stopped
+returns-in-Err-clause-stopped g c = λ stop. absurd (elim stop [ inl e ↦ of_no_run c.in-Err.fault c.in-Err.ensures.kinds 40 (omega arith) e | inr e ↦ of_no_run c.in-Err.fault c.in-Err.ensures.kinds 41 (omega arith) e ])

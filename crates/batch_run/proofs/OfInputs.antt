@@ -1,0 +1,99 @@
+-- What a run promises of inputs that were read, from what answering them promises.
+use Rattle.std.proofs.Common.{◌≡◌, ◌≢◌, ◌⊎◌, ◌↔◌, ◌<◌, ◌≤◌, inl, inr, ℕ, List, Option, Result, Ok, Err, false, refl, sym, ◌∙◌, arith}
+use Rattle.std.specs.Prelude.{IfErr, OnOk}
+use Rattle.std.proofs.lemmas.Result.{IfErr-at_err, IfErr-weaker}
+use Rattle.road_graph.specs.Roads.{Roads}
+use Rattle.road_files.specs.Asked.{Asked}
+use Rattle.path_algebra.specs.Algebra.{Algebra}
+use Rattle.batch_run.specs.declared.faults.RunFault.{RunFault}
+use Rattle.batch_run.specs.declared.faults.File.{File}
+use Rattle.batch_run.specs.declared.faults.File.TheVariants.{Graph, Questions, NoFile}
+use Rattle.batch_run.specs.declared.settings.Settings.{Settings}
+use Rattle.batch_run.specs.Answered.{WroteAllOrFront, WroteWhole}
+use Rattle.batch_run.specs.InRange.{AreInRange}
+use Rattle.batch_run.specs.Ran.{Begun, BegunWhole, Done, IsFaultOf, IsLater, IsPassedOn, IsRoadNumber}
+
+-- what holds after each fault but a failed write holds where memory was refused
+pub at_memory : (r : Result (Unit {0}) RunFault) (P : Type 0) → IfErr r (λ f. f.number ≢ 42 → P) → IfErr r (λ f. f.file ≡ NoFile → f.number ≡ 3 → P)
+at_memory r P = IfErr-weaker r _ _ (λ f holds file three. holds (λ e. absurd (omega (arith, three, e))))
+
+module _ {V : Type 0} (A : Algebra V) (IsRead : Roads → Asked → Type 0) (g : Roads) (asked : Asked) (read : IsRead g asked) (old new : Option (List ℕ)) where
+  begun_whole : WroteWhole A g asked old new → BegunWhole A IsRead old new
+  begun_whole wrote = record { graph = g; asked = asked; read = read; wrote = wrote }
+
+  pub done : (r : Result (Unit {0}) RunFault) → WroteAllOrFront A g asked old new r → OnOk r (Done A IsRead old new)
+  done (Ok u) wrote = record { graph = g; asked = asked; read = read; wrote = wrote }
+  done (Err f) front = tt
+
+  pub begun : (r : Result (Unit {0}) RunFault) → WroteAllOrFront A g asked old new r → IfErr r (λ f. f.file ≡ NoFile → f.number ≢ 43 → Begun A IsRead old new)
+  begun (Ok u) wrote = tt
+  begun (Err f) front = λ file other. record { graph = g; asked = asked; read = read; wrote = front }
+
+  pub begun_without_memory : (r : Result (Unit {0}) RunFault) → IfErr r (λ f. f.number ≢ 42 → WroteWhole A g asked old new) → IfErr r (λ f. f.file ≡ NoFile → f.number ≡ 3 → BegunWhole A IsRead old new)
+  begun_without_memory r wrote = at_memory r (BegunWhole A IsRead old new) (IfErr-weaker r _ _ (λ f whole other. begun_whole (whole other)) wrote)
+
+  pub begun_when_stopped : (r : Result (Unit {0}) RunFault) (kept : List ℕ) (before after : ℕ) → IfErr r (λ f. f.number ≢ 42 → WroteWhole A g asked old new) → IfErr r (λ f. f.number ≢ 42 → IsPassedOn kept before after) →
+      IfErr r (λ f. (f.number ≡ 40) ⊎ (f.number ≡ 41) → BegunWhole A IsRead old new × IsPassedOn kept before after)
+  begun_when_stopped (Ok u) kept before after wrote passed = tt
+  begun_when_stopped (Err f) kept before after wrote passed = λ cause.
+      let other : f.number ≢ 42 = elim cause [
+        | inl e ↦ λ z. absurd (omega (arith, e, z))
+        | inr e ↦ λ z. absurd (omega (arith, e, z))
+      ] in
+      (begun_whole (wrote other), passed other)
+
+-- a fault that comes when the inputs have been read is of no input and of no setting, and says why it came
+module _ (s : Settings) (is_open : Type 0) (before after : ℕ) where
+  later_kind : (f : RunFault) → IsLater s is_open f → (inputs : File → Type 0) → IsFaultOf inputs f
+  later_kind f l inputs = grind arith
+
+  later_no_setting : (f : RunFault) → IsLater s is_open f → f.number ≢ 43
+  later_no_setting f l = grind arith
+
+  later_stalled : (f : RunFault) → IsLater s is_open f → f.number ≡ 40 → s.plain ≡ false
+  later_stalled f l = grind arith
+
+  later_gated : (f : RunFault) → IsLater s is_open f → f.number ≡ 41 → (s.plain ≡ false) × (is_open → ⊥)
+  later_gated f l = grind arith
+
+  module _ (r : Result (Unit {0}) RunFault) (later : IfErr r (λ f. IsLater s is_open f × (f.number ≡ 42 → before < after))) where
+    pub settings : AreInRange s → (r ≡ Err (record { number = 43; file = NoFile; line = 0 })) ↔ (AreInRange s → ⊥)
+    settings inside = (λ e. absurd (later_no_setting _ ((IfErr-at_err _ e later).0) refl), λ no. absurd (no inside))
+
+    pub of_no_input : (input : File) (P : RunFault → Type 0) → input ≢ NoFile → IfErr r (λ f. f.file ≡ input → P f)
+    of_no_input input P other = IfErr-weaker r _ _ (λ f l e. absurd (other (sym e ∙ l.0.0))) later
+
+    pub no_failed_read : (input : File) (was is : ℕ) → input ≢ NoFile → is ≡ was → (r ≡ Err (record { number = 1; file = input; line = 0 })) ↔ (is ≢ was)
+    no_failed_read input was is other same = (λ e. absurd (other ((IfErr-at_err _ e later).0.0)), λ failed. absurd (failed same))
+
+    pub kinds : (inputs : File → Type 0) → IfErr r (IsFaultOf inputs)
+    kinds inputs = IfErr-weaker r _ _ (λ f l. later_kind f l.0 inputs) later
+
+    pub placed : IfErr r (λ f. f.number ≤ 3 → f.line ≡ 0)
+    placed = IfErr-weaker r _ _ (λ f l low. l.0.1) later
+
+    pub stalled : IfErr r (λ f. f.number ≡ 40 → s.plain ≡ false)
+    stalled = IfErr-weaker r _ _ (λ f l. later_stalled f l.0) later
+
+    pub gated : IfErr r (λ f. f.number ≡ 41 → (s.plain ≡ false) × (is_open → ⊥))
+    gated = IfErr-weaker r _ _ (λ f l. later_gated f l.0) later
+
+    pub in_no_input : (P : Type 0) → IfErr r (λ f. f.file ≢ NoFile → P)
+    in_no_input P = IfErr-weaker r _ _ (λ f l e. absurd (e l.0.0)) later
+
+    pub of_no_setting : (P : Type 0) → IfErr r (λ f. f.number ≡ 43 → P)
+    of_no_setting P = IfErr-weaker r _ _ (λ f l e. absurd (later_no_setting f l.0 e)) later
+
+-- a fault of an input is none of the run's own
+module _ (f : RunFault) (kind : ((f.file ≡ Graph) ⊎ (f.file ≡ Questions)) × IsRoadNumber f.number) where
+  low : f.number ≤ 19
+  low = grind arith
+
+  pub in_an_input : f.file ≢ NoFile
+  in_an_input = λ e. elim kind.0 [
+    | inl is ↦ let bad : Graph ≡ NoFile = sym is ∙ e in cc
+    | inr is ↦ let bad : Questions ≡ NoFile = sym is ∙ e in cc
+  ]
+
+  pub of_no_run : (n : ℕ) → 20 ≤ n → f.number ≢ n
+  of_no_run n high = λ e. omega (arith, low, high, e)

@@ -1,0 +1,18 @@
+use Rattle.batch_run.specs.Ended.{IsEnded}
+use Rattle.batch_run.proofs.Together.{all_before, last_of_all}
+use Rattle.batch_run.proofs.engine.ended_from.Goals as goal
+
+pub returns-then-eq-clause-ended : goal.returns-then-eq-clause-ended
+returns-then-eq-clause-ended g c = last_of_all (IsEnded {V = g.row.A-Value.Denot} c.args.batch.now.algebra c.args.batch.now.graph.now c.args.plan.now) _ _ c.in-Some.ended c.in-Some.ensures.items c.requires.ready
+
+pub returns-then-eq-clause-ready : goal.returns-then-eq-clause-ready
+returns-then-eq-clause-ready g c = all_before (IsEnded {V = g.row.A-Value.Denot} c.args.batch.now.algebra c.args.batch.now.graph.now c.args.plan.now) _ _ _ c.pop.ensures.items c.requires.ready
+
+pub returns-in_err-first-clause-ready : goal.returns-in_err-first-clause-ready
+returns-in_err-first-clause-ready g c = all_before (IsEnded {V = g.row.A-Value.Denot} c.args.batch.now.algebra c.args.batch.now.graph.now c.args.plan.now) _ _ _ c.pop.ensures.items c.requires.ready
+
+pub returns-clause-ready : goal.returns-clause-ready
+returns-clause-ready g c = c.in_ok-first.ensures.rest
+
+pub returns-clause-ended : goal.returns-clause-ended
+returns-clause-ended g c = c.in_ok-first.ensures.first

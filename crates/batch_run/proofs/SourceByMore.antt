@@ -1,5 +1,5 @@
 -- Best labels from the first sources of a list, and those from the next, merge to those from one source more.
-use Rattle.std.proofs.Common.{◌≡◌, ℕ, ◌+◌, ◌<◌, List, [], ◌∷◌, ◌++◌, length, get_or, take, ap, sym, ◌∙◌, Option, Bool}
+use Rattle.std.proofs.Common.{arith, ◌≡◌, ℕ, ◌+◌, ◌<◌, ◌≤◌, List, [], ◌∷◌, ◌++◌, length, get_or, take, ap, sym, ◌∙◌, Option, Bool}
 use Rattle.std.proofs.lemmas.List.{take_more}
 use Rattle.road_graph.specs.Roads.{Roads}
 use Rattle.path_algebra.specs.Algebra.{Algebra, IsLawful}
@@ -12,3 +12,7 @@ pub source_more : {V : Type 0} (A : Algebra V) (lawful : IsLawful A) (g : Roads)
 source_more A lawful g order same xs i x ls ms ns lt is h k n eq =
     let longer : take (i + 1) xs ≡ take i xs ++ x ∷ [] = take_more xs i x lt ∙ ap (λ (y : ℕ). take i xs ++ y ∷ []) (sym is) in
     rw longer (merged_are_best A lawful g (take i xs) (x ∷ []) ls ms ns h k n (rw same eq))
+
+pub first_source : (xs : List ℕ) (x : ℕ) → 1 ≤ length xs → x ≡ get_or xs 0 x → take 1 xs ≡ x ∷ []
+first_source [] x some is = absurd (omega (arith, some))
+first_source (y ∷ ys) x some is = ap (λ (z : ℕ). z ∷ []) (sym is)

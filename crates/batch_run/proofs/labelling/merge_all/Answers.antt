@@ -1,5 +1,20 @@
-use Rattle.batch_run.proofs.SourceByMore.{source_more}
+use Rattle.std.proofs.Common.{List, ℕ, subst}
+use Rattle.std.proofs.lemmas.List.{take_all}
+use Rattle.path_algebra.specs.Walks.{AreBest}
+use Rattle.batch_run.proofs.SourceByMore.{first_source, source_more}
 use Rattle.batch_run.proofs.labelling.merge_all.Goals as goal
+
+pub next_labels-requires-clause-source : goal.next_labels-requires-clause-source
+next_labels-requires-clause-source g c κs within = rw c.index-sources-0.is (c.requires.inside 0 c.index-sources-0.result c.requires.some)
+
+pub loop-i-init : goal.loop-i-init
+loop-i-init g c = record {
+  best = rw (first_source c.args.sources.now c.index-sources-0.result c.requires.some c.index-sources-0.is) c.in_ok-labels.ensures.labels;
+  ready = c.next_labels.ensures.ready;
+}
+
+pub next_labels-requires-in-loop-i-clause-source : goal.next_labels-requires-in-loop-i-clause-source
+next_labels-requires-in-loop-i-clause-source g c κs within = rw c.index-sources-i.is (c.requires.inside c.loop-i.i c.index-sources-i.result c.loop-i-test.true)
 
 pub loop-i-preserved : goal.loop-i-preserved
 loop-i-preserved g c = record {
@@ -8,3 +23,6 @@ loop-i-preserved g c = record {
       c.loop-i.invariant.best c.in_ok-other.ensures.labels c.merge.ensures.count c.merge.ensures.labels;
   ready = c.next_labels-in-loop-i.ensures.ready;
 }
+
+pub returns-clause-labels : goal.returns-clause-labels
+returns-clause-labels g c = subst (λ (xs : List ℕ). AreBest (g.A.PathAlgebra.meaning c.args.batch.now.algebra) c.args.batch.now.graph.now xs c.loop-i.labels) (take_all c.loop-i.i c.args.sources.now c.loop-i-test.false) c.loop-i.invariant.best

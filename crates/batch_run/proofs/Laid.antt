@@ -24,14 +24,23 @@ module _ (q : Questions) (i : ℕ) where
   within : {X : Type 0} (f : X → Question) (xs : List X) (p : Questions) → (asked_of p).questions ≡ map f xs → q ≡ p → i < length (asked_of q).questions → i < length xs
   within f xs p is e low = rw (sym (length-map xs f)) (subst (λ (l : List Question). i < length l) (ap (λ (y : Questions). (asked_of y).questions) e ∙ is) low)
 
+  pub in_sources : (vs : Vec ℕ Global) → q ≡ variants.Sources vs → i < length (asked_of q).questions → i < length vs.items
+  in_sources vs = within of_source vs.items (variants.Sources vs) refl
+
+  pub in_pairs : (ps : Vec (ℕ × ℕ) Global) → q ≡ variants.Pairs ps → i < length (asked_of q).questions → i < length ps.items
+  in_pairs ps = within of_pair ps.items (variants.Pairs ps) refl
+
+  pub in_lists : (ls : Vec (Vec ℕ Global) Global) → q ≡ variants.Multi ls → i < length (asked_of q).questions → i < length ls.items
+  in_lists ls = within of_list ls.items (variants.Multi ls) refl
+
   pub source_at : (vs : Vec ℕ Global) (x : ℕ) → q ≡ variants.Sources vs → i < length (asked_of q).questions → x ≡ get_or vs.items i x → (d : Question) → sources_of (get_or (asked_of q).questions i d) ≡ x ∷ []
-  source_at vs x e low is d = ap (λ y. sources_of (get_or (asked_of y).questions i d)) e ∙ ap sources_of (get_or-map of_source vs.items i x d (within of_source vs.items (variants.Sources vs) refl e low)) ∙ ap (λ (y : ℕ). y ∷ []) (sym is)
+  source_at vs x e low is d = ap (λ y. sources_of (get_or (asked_of y).questions i d)) e ∙ ap sources_of (get_or-map of_source vs.items i x d (in_sources vs e low)) ∙ ap (λ (y : ℕ). y ∷ []) (sym is)
 
   pub pair_at : (ps : Vec (ℕ × ℕ) Global) (p : ℕ × ℕ) → q ≡ variants.Pairs ps → i < length (asked_of q).questions → p ≡ get_or ps.items i p → (d : Question) → sources_of (get_or (asked_of q).questions i d) ≡ p.0 ∷ []
-  pair_at ps p e low is d = ap (λ y. sources_of (get_or (asked_of y).questions i d)) e ∙ ap sources_of (get_or-map of_pair ps.items i p d (within of_pair ps.items (variants.Pairs ps) refl e low)) ∙ ap (λ (y : ℕ × ℕ). y.0 ∷ []) (sym is)
+  pair_at ps p e low is d = ap (λ y. sources_of (get_or (asked_of y).questions i d)) e ∙ ap sources_of (get_or-map of_pair ps.items i p d (in_pairs ps e low)) ∙ ap (λ (y : ℕ × ℕ). y.0 ∷ []) (sym is)
 
   pub list_at : (ls : Vec (Vec ℕ Global) Global) (l : Vec ℕ Global) → q ≡ variants.Multi ls → i < length (asked_of q).questions → l ≡ get_or ls.items i l → (d : Question) → sources_of (get_or (asked_of q).questions i d) ≡ l.items
-  list_at ls l e low is d = ap (λ y. sources_of (get_or (asked_of y).questions i d)) e ∙ ap sources_of (get_or-map of_list ls.items i l d (within of_list ls.items (variants.Multi ls) refl e low)) ∙ ap (λ (y : Vec ℕ Global). y.items) (sym is)
+  list_at ls l e low is d = ap (λ y. sources_of (get_or (asked_of y).questions i d)) e ∙ ap sources_of (get_or-map of_list ls.items i l d (in_lists ls e low)) ∙ ap (λ (y : Vec ℕ Global). y.items) (sym is)
 
 -- questions from one source, or from several, are no pairs
 pub sources_no_pairs : (q : Questions) (vs : Vec ℕ Global) → q ≡ variants.Sources vs → (asked_of q).kind ≢ kinds.Pairs
@@ -43,14 +52,14 @@ lists_no_pairs q ls is e = let bad : kinds.Multi ≡ kinds.Pairs = sym (ap (λ (
 -- the sources of each question are some, and vertices of the graph
 pub asked_within : (n : ℕ) (q : Questions) (i : ℕ) → AskWithin n q → i < length (asked_of q).questions → (d : Question) → (1 ≤ length (sources_of (get_or (asked_of q).questions i d))) × All (IsVertexOf n) (sources_of (get_or (asked_of q).questions i d))
 asked_within n (variants.Sources vs) i w low d =
-    let at = within (variants.Sources vs) i of_source vs.items (variants.Sources vs) refl refl low in
+    let at = in_sources (variants.Sources vs) i vs refl low in
     subst (λ (y : Question). (1 ≤ length (sources_of y)) × All (IsVertexOf n) (sources_of y)) (sym (get_or-map of_source vs.items i 0 d at)) (omega arith, All-cons (IsVertexOf n) (get_or vs.items i 0) [] (w i 0 at) (All-nil (IsVertexOf n)))
 asked_within n (variants.Pairs ps) i w low d =
-    let at = within (variants.Pairs ps) i of_pair ps.items (variants.Pairs ps) refl refl low in
+    let at = in_pairs (variants.Pairs ps) i ps refl low in
     subst (λ (y : Question). (1 ≤ length (sources_of y)) × All (IsVertexOf n) (sources_of y)) (sym (get_or-map of_pair ps.items i (0, 0) d at))
     (omega arith, All-cons (IsVertexOf n) (get_or ps.items i (0, 0)).0 [] ((w i (0, 0) at).0) (All-nil (IsVertexOf n)))
 asked_within n (variants.Multi ls) i w low d =
-    let at = within (variants.Multi ls) i of_list ls.items (variants.Multi ls) refl refl low in
+    let at = in_lists (variants.Multi ls) i ls refl low in
     let one = any_of ls.items i at in
     subst (λ (y : Question). (1 ≤ length (sources_of y)) × All (IsVertexOf n) (sources_of y)) (sym (get_or-map of_list ls.items i one d at)) ((w i one at).some, (w i one at).vertices)
 

@@ -1,9 +1,19 @@
+use Rattle.std.proofs.Common.{arith}
 use Rattle.road_files.specs.Asked.{FromSource}
-use Rattle.batch_run.proofs.Laid.{source_at, pair_at, list_at, sources_no_pairs, lists_no_pairs}
+use Rattle.batch_run.proofs.Laid.{in_sources, in_pairs, in_lists, source_at, pair_at, list_at, sources_no_pairs, lists_no_pairs}
 use Rattle.batch_run.proofs.answering.answer_at.Goals as goal
 
 pub kept_tree-tree-requires : goal.kept_tree-tree-requires
 kept_tree-tree-requires g c = (c.requires.solved (FromSource 0)).kept (sources_no_pairs c.args.questions.now c.in-Sources.sources c.in-Sources.is)
+
+pub index-requires : goal.index-requires
+index-requires g c = let low = in_sources c.args.questions.now c.args.i c.in-Sources.sources c.in-Sources.is c.requires.place in omega (arith, low, c.in-Sources.sources.ok.0)
+
+pub index-requires-in-Pairs : goal.index-requires-in-Pairs
+index-requires-in-Pairs g c = let low = in_pairs c.args.questions.now c.args.i c.in-Pairs.pairs c.in-Pairs.is c.requires.place in omega (arith, low, c.in-Pairs.pairs.ok.0)
+
+pub index-requires-in-Multi : goal.index-requires-in-Multi
+index-requires-in-Multi g c = let low = in_lists c.args.questions.now c.args.i c.in-Multi.lists c.in-Multi.is c.requires.place in omega (arith, low, c.in-Multi.lists.ok.0)
 
 pub answer_source-requires-clause-labels : goal.answer_source-requires-clause-labels
 answer_source-requires-clause-labels g c κs within =

@@ -1,11 +1,29 @@
-use Rattle.std.proofs.Common.{◌≡◌, ◌∙◌, [], ◌∷◌, Bool, subst, sym}
+use Rattle.std.proofs.Common.{arith, ◌≡◌, ◌∙◌, [], ◌∷◌, Bool, subst, sym}
 use Rattle.std.specs.Bool.{Decides}
 use Rattle.std.proofs.lemmas.Bool.Decides.{Decides-eqb}
 use Rattle.std.proofs.lemmas.Slice.Eq.{slice_eq-Decides}
 use Rattle.road_files.specs.Asked.{asked_of}
-use Rattle.batch_run.proofs.Laid.{source_at, pair_at, list_at}
+use Rattle.batch_run.proofs.Laid.{in_sources, in_pairs, in_lists, source_at, pair_at, list_at}
 use Rattle.batch_run.proofs.SameSources.{Decides-one, same_sources}
 use Rattle.batch_run.proofs.solving.have_same_sources.Goals as goal
+
+pub index-requires : goal.index-requires
+index-requires c = let low = in_sources c.args.questions.now c.args.i c.in-Sources.sources c.in-Sources.is c.requires.first in omega (arith, low, c.in-Sources.sources.ok.0)
+
+pub index-requires-in-Sources : goal.index-requires-in-Sources
+index-requires-in-Sources c = let low = in_sources c.args.questions.now c.args.j c.in-Sources.sources c.in-Sources.is c.requires.second in omega (arith, low, c.in-Sources.sources.ok.0)
+
+pub index-requires-in-Pairs : goal.index-requires-in-Pairs
+index-requires-in-Pairs c = let low = in_pairs c.args.questions.now c.args.i c.in-Pairs.pairs c.in-Pairs.is c.requires.first in omega (arith, low, c.in-Pairs.pairs.ok.0)
+
+pub index-requires-in-Pairs-2 : goal.index-requires-in-Pairs-2
+index-requires-in-Pairs-2 c = let low = in_pairs c.args.questions.now c.args.j c.in-Pairs.pairs c.in-Pairs.is c.requires.second in omega (arith, low, c.in-Pairs.pairs.ok.0)
+
+pub index-requires-in-Multi : goal.index-requires-in-Multi
+index-requires-in-Multi c = let low = in_lists c.args.questions.now c.args.i c.in-Multi.lists c.in-Multi.is c.requires.first in omega (arith, low, c.in-Multi.lists.ok.0)
+
+pub index-requires-in-Multi-2 : goal.index-requires-in-Multi-2
+index-requires-in-Multi-2 c = let low = in_lists c.args.questions.now c.args.j c.in-Multi.lists c.in-Multi.is c.requires.second in omega (arith, low, c.in-Multi.lists.ok.0)
 
 pub returns-in-Sources : goal.returns-in-Sources
 returns-in-Sources c =

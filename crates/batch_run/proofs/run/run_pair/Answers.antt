@@ -1,5 +1,5 @@
 use Rattle.std.proofs.Common.{arith, ◌≡◌, inl, inr, refl}
-use Rattle.std.proofs.lemmas.Result.{IfErr-at_err, IfErr-weaker}
+use Rattle.std.proofs.lemmas.Result.{IfErr-at_err, IfErr-weaker, on_ok_weaker}
 use Rattle.batch_run.specs.declared.faults.File.TheVariants.{Graph, Questions}
 use Rattle.batch_run.proofs.OfInputs.{done, settings, of_no_input, no_failed_read, kinds, placed, stalled, gated, in_no_input, of_no_setting, begun, begun_without_memory, at_memory, begun_when_stopped, in_an_input, of_no_run}
 use Rattle.batch_run.proofs.run.run_pair.Goals as goal
@@ -93,3 +93,18 @@ returns-in-Err-clause-once g c = λ e. absurd (in_an_input c.in-Err.fault c.in-E
 
 pub returns-in-Err-clause-stopped : goal.returns-in-Err-clause-stopped
 returns-in-Err-clause-stopped g c = λ stop. absurd (elim stop [ inl e ↦ of_no_run c.in-Err.fault c.in-Err.ensures.kinds 40 (omega arith) e | inr e ↦ of_no_run c.in-Err.fault c.in-Err.ensures.kinds 41 (omega arith) e ])
+
+pub returns-in-Err-clause-graph : goal.returns-in-Err-clause-graph
+returns-in-Err-clause-graph g c = c.in-Err.ensures.graph
+
+pub returns-in-Err-clause-questions : goal.returns-in-Err-clause-questions
+returns-in-Err-clause-questions g c = c.in-Err.ensures.questions
+
+pub returns-in-Err-clause-placed : goal.returns-in-Err-clause-placed
+returns-in-Err-clause-placed g c = c.in-Err.ensures.placed
+
+pub returns-clause-sound : goal.returns-clause-sound
+returns-clause-sound g c = on_ok_weaker c.answer_and_flush.result (λ written. (c.in-Ok.ensures.sound.0, c.in-Ok.ensures.sound.1, written)) c.answer_and_flush.ensures.sound
+
+pub returns-clause-ends : goal.returns-clause-ends
+returns-clause-ends g c = on_ok_weaker c.answer_and_flush.result (λ _. c.in-Ok.ensures.ends) c.answer_and_flush.ensures.sound

@@ -13,9 +13,6 @@ loop-i-init g c = record {
   ready = c.next_labels.ensures.ready;
 }
 
-pub next_labels-requires-in-loop-i-clause-source : goal.next_labels-requires-in-loop-i-clause-source
-next_labels-requires-in-loop-i-clause-source g c κs within = rw c.index-sources-i.is (c.requires.inside c.loop-i.i c.index-sources-i.result c.loop-i-test.true)
-
 pub loop-i-preserved : goal.loop-i-preserved
 loop-i-preserved g c = record {
   best = source_more (g.A.PathAlgebra.meaning c.args.batch.now.algebra) c.laws_hold.ensures.lawful c.args.batch.now.graph.now g.A.PathAlgebra.order c.laws_hold.ensures.order

@@ -1,11 +1,12 @@
 //! Values worked out by hand, and each public call once.
+use crate::graphs::graph_of;
 use path_algebra::{
     AlgebraName, Hops, Labels, PathAlgebra, Reach, Reliable, Shortest, Widest, Within,
     best_values_are_unique, closed_labels_are_best, laws_hold, merged_labels_are_best,
     names_are_read_back, shortest_values_are_least_sums, tight_arcs_reach,
 };
-use road_graph::{Graph, RoadArc, Vertex};
-use std::test::Fail;
+use road_graph::Vertex;
+use std::process::Abort;
 
 const GREATEST_WEIGHT: u32 = 4294967295;
 
@@ -24,103 +25,150 @@ fn code_along<A: PathAlgebra>(algebra: A, weights: &[u32]) -> Option<u64> {
     Some(algebra.code(value))
 }
 
+/// Asserts the code of the value of a walk over arcs of these weights.
+fn assert_code<A: PathAlgebra>(rt: &impl Abort, algebra: A, weights: &[u32], wanted: Option<u64>) {
+    assert_eq!(rt; code_along(algebra, weights), wanted);
+}
+
+/// Asserts the value of a walk of this value and one more arc.
+fn assert_extended<A: PathAlgebra<Value = u64>>(
+    rt: &impl Abort,
+    algebra: A,
+    value: u64,
+    weight: u32,
+    wanted: Option<u64>,
+) {
+    assert_eq!(rt; algebra.extend(value, weight), wanted);
+}
+
 #[test]
 fn least_and_greatest_weights(rt: HostRuntime) {
     let two_greatest = [GREATEST_WEIGHT, GREATEST_WEIGHT];
-    assert_eq!(rt; code_along(Shortest, &[]), Some(0));
-    assert_eq!(rt; code_along(Shortest, &[1, 2, 5]), Some(8));
-    assert_eq!(rt; code_along(Shortest, &two_greatest), Some(8589934590));
-    assert_eq!(rt; Shortest.extend(HELD - 5, 4), Some(HELD - 1));
-    assert_eq!(rt; Shortest.extend(HELD - 5, GREATEST_WEIGHT), Some(HELD));
-    assert_eq!(rt; code_along(Hops, &[7, 0, GREATEST_WEIGHT]), Some(3));
-    assert_eq!(rt; Hops.extend(HELD, 0), Some(HELD));
-    assert_eq!(rt; code_along(Widest, &[]), Some(4294967296));
-    assert_eq!(rt; code_along(Widest, &two_greatest), Some(4294967295));
-    assert_eq!(rt; code_along(Widest, &[4, 5]), Some(4));
-    assert_eq!(rt; code_along(Widest, &[GREATEST_WEIGHT, 0]), Some(0));
-    assert_eq!(rt; code_along(Reach, &[0, GREATEST_WEIGHT]), Some(0));
-    assert_eq!(rt; code_along(Reliable, &[GREATEST_WEIGHT, 0]), Some(0));
+    assert_code(&rt, Shortest, &[], Some(0));
+    assert_code(&rt, Shortest, &[1, 2, 5], Some(8));
+    assert_code(&rt, Shortest, &two_greatest, Some(8589934590));
+    assert_extended(&rt, Shortest, HELD - 5, 4, Some(HELD - 1));
+    assert_extended(&rt, Shortest, HELD - 5, GREATEST_WEIGHT, Some(HELD));
+    assert_code(&rt, Hops, &[7, 0, GREATEST_WEIGHT], Some(3));
+    assert_extended(&rt, Hops, HELD, 0, Some(HELD));
+    assert_code(&rt, Widest, &[], Some(4294967296));
+    assert_code(&rt, Widest, &two_greatest, Some(4294967295));
+    assert_code(&rt, Widest, &[4, 5], Some(4));
+    assert_code(&rt, Widest, &[GREATEST_WEIGHT, 0], Some(0));
+    assert_code(&rt, Reach, &[0, GREATEST_WEIGHT], Some(0));
+    assert_code(&rt, Reliable, &[GREATEST_WEIGHT, 0], Some(0));
 }
 
 #[test]
 fn reliable_rounds_down(rt: HostRuntime) {
-    assert_eq!(rt; code_along(Reliable, &[]), Some(1000000000000));
-    assert_eq!(rt; code_along(Reliable, &[900001]), Some(900001000000));
-    assert_eq!(rt; code_along(Reliable, &[900001, 500001]), Some(450001400001));
-    assert_eq!(rt; code_along(Reliable, &[400000]), Some(400000000000));
-    assert_eq!(rt;
-        code_along(Reliable, &[900001, 500001, 700001]),
-        Some(315001430002)
-    );
-    assert_eq!(rt;
-        code_along(Reliable, &[900001, 500001, 700001, 2000000]),
-        Some(315001430002)
-    );
-    assert!(rt;
-        Reliable::no_worse(450001400001, 400000000000)
-            && !Reliable::no_worse(400000000000, 450001400001)
-    );
+    assert_code(&rt, Reliable, &[], Some(1000000000000));
+    assert_code(&rt, Reliable, &[900001], Some(900001000000));
+    assert_code(&rt, Reliable, &[900001, 500001], Some(450001400001));
+    assert_code(&rt, Reliable, &[400000], Some(400000000000));
+    let three = [900001, 500001, 700001];
+    assert_code(&rt, Reliable, &three, Some(315001430002));
+    let four = [900001, 500001, 700001, 2000000];
+    assert_code(&rt, Reliable, &four, Some(315001430002));
+    assert!(rt; Reliable::no_worse(450001400001, 400000000000));
+    assert!(rt; !Reliable::no_worse(400000000000, 450001400001));
 }
 
 #[test]
-fn within_a_limit(rt: HostRuntime) -> Result<(), Fail> {
-    let five = Within::new(5).ok_or("refused")?;
-    assert_eq!(rt; code_along(five, &[1, 2]), Some(3));
-    assert_eq!(rt; code_along(five, &[1, 2, 2]), Some(5));
-    assert_eq!(rt; code_along(five, &[1, 2, 5]), None);
-    let none = Within::new(0).ok_or("refused")?;
-    assert_eq!(rt; code_along(none, &[0, 0]), Some(0));
-    assert_eq!(rt; code_along(none, &[1]), None);
-    let greatest = Within::new(HELD).ok_or("refused")?;
-    assert_eq!(rt; greatest.extend(HELD, 0), Some(HELD));
-    assert_eq!(rt; greatest.extend(HELD, 1), None);
+fn within_a_limit(rt: HostRuntime) {
+    let five = Within::new(5).expect(&rt, "refused");
+    assert_code(&rt, five, &[1, 2], Some(3));
+    assert_code(&rt, five, &[1, 2, 2], Some(5));
+    assert_code(&rt, five, &[1, 2, 5], None);
+    let none = Within::new(0).expect(&rt, "refused");
+    assert_code(&rt, none, &[0, 0], Some(0));
+    assert_code(&rt, none, &[1], None);
+    let greatest = Within::new(HELD).expect(&rt, "refused");
+    assert_extended(&rt, greatest, HELD, 0, Some(HELD));
+    assert_extended(&rt, greatest, HELD, 1, None);
     assert!(rt; Within::new(HELD + 1).is_none());
-    Ok(())
+}
+
+/// Asserts that a number is a value, and another one is none.
+fn assert_values<A: PathAlgebra<Value = u64>>(
+    rt: &impl Abort,
+    algebra: A,
+    value: u64,
+    beyond: u64,
+) {
+    assert!(rt; algebra.is_value(value));
+    assert!(rt; !algebra.is_value(beyond));
+}
+
+/// Asserts that a number is the code of the same value, and another one is no code.
+fn assert_own_code<A: PathAlgebra<Value = u64>>(
+    rt: &impl Abort,
+    algebra: A,
+    code: u64,
+    beyond: u64,
+) {
+    assert!(rt; algebra.value_of(code) == Some(code));
+    assert!(rt; algebra.value_of(beyond) == None);
+}
+
+/// Asserts which algebra a word names.
+fn assert_name(rt: &impl Abort, word: &[u8], wanted: Option<AlgebraName>) {
+    assert!(rt; AlgebraName::from_text(word) == wanted);
 }
 
 #[test]
 fn codes_and_names(rt: HostRuntime) {
-    assert!(rt; Shortest.is_value(HELD) && !Shortest.is_value(HELD + 1));
-    assert!(rt; Hops.value_of(HELD) == Some(HELD) && Hops.value_of(HELD + 1) == None);
-    assert!(rt;
-        Widest.value_of(4294967296) == Some(4294967296) && Widest.value_of(4294967297) == None
-    );
-    assert!(rt; Reliable.is_value(1000000000000) && !Reliable.is_value(1000000000001));
-    assert!(rt; Reach.value_of(0) == Some(()) && Reach.value_of(1) == None);
+    assert_values(&rt, Shortest, HELD, HELD + 1);
+    assert_values(&rt, Reliable, 1000000000000, 1000000000001);
+    assert_own_code(&rt, Hops, HELD, HELD + 1);
+    assert_own_code(&rt, Widest, 4294967296, 4294967297);
+    assert!(rt; Reach.value_of(0) == Some(()));
+    assert!(rt; Reach.value_of(1) == None);
     assert_eq!(rt; Reliable.name().text(), "reliable");
-    assert!(rt; AlgebraName::from_text(b"within") == Some(AlgebraName::Within));
-    assert!(rt; AlgebraName::from_text(b"fast") == None);
-    assert!(rt; AlgebraName::from_text(b"") == None);
+    assert_name(&rt, b"within", Some(AlgebraName::Within));
+    assert_name(&rt, b"fast", None);
+    assert_name(&rt, b"", None);
+}
+
+/// The labels of these values, vertex by vertex.
+fn labels_of(rt: &(impl Abort + AllocGlobal), values: &[Option<u64>]) -> Labels<u64> {
+    let mut list = Vec::new(rt.alloc());
+    list.extend_from_slice(values).expect(rt, "memory");
+    Labels::from_vec(list)
+}
+
+/// Merges labels of as many vertices into the first ones.
+fn merge<A: PathAlgebra>(
+    rt: &impl Abort,
+    algebra: A,
+    labels: &mut Labels<A::Value>,
+    other: &Labels<A::Value>,
+) {
+    assert!(rt; labels.vertices() == other.vertices());
+    labels.merge(algebra, other);
+}
+
+/// Asserts the labels, vertex by vertex.
+fn assert_labels(rt: &impl Abort, labels: &Labels<u64>, wanted: &[Option<u64>]) {
+    assert!(rt; labels.vertices() == wanted.len());
+    assert!(rt; wanted.len() < 100);
+    for i in 0..wanted.len() {
+        assert!(rt; labels.of(Vertex(i as u32 + 1)) == wanted[i]);
+    }
 }
 
 #[test]
-fn labels_merge(rt: HostRuntime) -> Result<(), Fail> {
-    let alloc = rt.alloc();
-    let mut labels = Labels::from_vec(vec![in alloc; Some(3), None, Some(5), None]?);
-    let other = Labels::from_vec(vec![in alloc; Some(4), Some(1), Some(2), None]?);
-    assert!(rt; labels.vertices() == 4 && other.vertices() == 4);
-    labels.merge(Shortest, &other);
-    assert_eq!(rt; labels.of(Vertex(1)), Some(3));
-    assert_eq!(rt; labels.of(Vertex(2)), Some(1));
-    assert_eq!(rt; labels.of(Vertex(3)), Some(2));
-    assert_eq!(rt; labels.of(Vertex(4)), None);
-    Ok(())
+fn labels_merge(rt: HostRuntime) {
+    let mut labels = labels_of(&rt, &[Some(3), None, Some(5), None]);
+    let other = labels_of(&rt, &[Some(4), Some(1), Some(2), None]);
+    assert!(rt; labels.vertices() == 4);
+    assert!(rt; other.vertices() == 4);
+    merge(&rt, Shortest, &mut labels, &other);
+    assert_labels(&rt, &labels, &[Some(3), Some(1), Some(2), None]);
 }
 
 #[test]
-fn theorems_may_be_cited(rt: HostRuntime) -> Result<(), Fail> {
-    let alloc = rt.alloc();
-    let arcs = vec![in alloc;
-        RoadArc {
-            tail: Vertex(1),
-            head: Vertex(2),
-            weight: 7
-        },
-    ]?;
-    let graph = match Graph::new(alloc, 2, arcs) {
-        Ok(graph) => graph,
-        Err(_) => panic!(rt; "the graph was refused"),
-    };
+fn theorems_may_be_cited(rt: HostRuntime) {
+    let graph = graph_of(&rt, 2, &[(1, 2, 7)]);
     laws_hold(Widest);
     names_are_read_back();
     best_values_are_unique(Widest);
@@ -128,5 +176,4 @@ fn theorems_may_be_cited(rt: HostRuntime) -> Result<(), Fail> {
     tight_arcs_reach(Widest, &graph);
     merged_labels_are_best(Widest);
     shortest_values_are_least_sums(&graph);
-    Ok(())
 }

@@ -2,20 +2,30 @@
 
 ghost use Rattle.std.specs.Prelude.{◌≡◌};
 
+use crate::graphs::{FIVE, graph_of, push_both};
 use path_algebra::{PathAlgebra, Shortest, Within};
-use road_graph::{ArcNo, Graph, RoadArc, Vertex};
+use road_graph::{ArcNo, Graph, Vertex};
 use scholten_core::{Core, Event, Token};
 use std::process::Abort;
 
-/// Five vertices, with a self-loop at 4; no arc leads to 5.
-const FIVE: [(u32, u32, u32); 7] = [
-    (1, 2, 4),
-    (1, 3, 1),
-    (3, 2, 2),
-    (2, 4, 5),
-    (3, 4, 8),
-    (4, 4, 0),
-    (5, 1, 3),
+/// The events of a question over one arc.
+const ONCE: [Event; 4] = [
+    Event::Deliver(ArcNo(0)),
+    Event::Deliver(ArcNo(1)),
+    Event::Accept(ArcNo(1)),
+    Event::Accept(ArcNo(0)),
+];
+
+/// The same, and all of them once more.
+const TWICE: [Event; 8] = [
+    Event::Deliver(ArcNo(0)),
+    Event::Deliver(ArcNo(1)),
+    Event::Accept(ArcNo(1)),
+    Event::Accept(ArcNo(0)),
+    Event::Deliver(ArcNo(0)),
+    Event::Deliver(ArcNo(1)),
+    Event::Accept(ArcNo(1)),
+    Event::Accept(ArcNo(0)),
 ];
 
 /// A core beside the graph that it runs on.
@@ -54,9 +64,30 @@ impl<'g, A: PathAlgebra> Trial<'g, A> {
         self.core.token(ArcNo(a))
     }
 
+    /// Whether the arc had a message, which is delivered then.
+    fn deliver(&mut self, a: u32) -> bool {
+        self.core.deliver(ArcNo(a)).is_ok()
+    }
+
+    /// Whether the arc had a signal, which is accepted then.
+    fn accept(&mut self, a: u32) -> bool {
+        self.core.accept(ArcNo(a)).is_ok()
+    }
+
     /// The event of an arc, where one is enabled.
     fn step(&mut self, a: u32) -> bool {
-        self.core.deliver(ArcNo(a)).is_ok() || self.core.accept(ArcNo(a)).is_ok()
+        if self.deliver(a) {
+            return true;
+        }
+        self.accept(a)
+    }
+
+    fn ended(&self) -> bool {
+        self.core.ended()
+    }
+
+    fn quiet(&self) -> bool {
+        self.core.quiet()
     }
 
     /// The event of the least enabled arc, if there is one.
@@ -79,91 +110,115 @@ impl<'g, A: PathAlgebra> Trial<'g, A> {
         false
     }
 
+    /// Events until none is enabled, at order 0 of the least arc, at 1 of the greatest, and at 2 of both in turn.
+    fn run_in_order(&mut self, order: u32) {
+        for turn in 0..1_000 {
+            let least = order == 0 || (order == 2 && turn % 2 == 0);
+            let stepped = if least {
+                self.step_least(8)
+            } else {
+                self.step_greatest(8)
+            };
+            if !stepped {
+                return;
+            }
+        }
+    }
+
     /// Goes over all arcs, round after round, until the question has ended.
     fn run_to_the_end(&mut self, rt: &impl Abort, arcs: u32) {
         for _round in 0..10_000 {
             for a in 0..arcs {
                 self.step(a);
             }
-            if self.core.ended() {
+            if self.ended() {
                 return;
             }
         }
-        assert!(rt; self.core.ended());
+        assert!(rt; self.ended());
     }
 }
 
-/// The graph of these tails, heads and weights.
-fn graph_of(rt: &(impl Abort + AllocGlobal), n: u32, arcs: &[(u32, u32, u32)]) -> Graph {
-    let mut list = Vec::new(rt.alloc());
-    for (tail, head, weight) in arcs {
-        let arc = RoadArc {
-            tail: Vertex(*tail),
-            head: Vertex(*head),
-            weight: *weight,
-        };
-        list.push(arc).expect(rt, "memory");
+/// Asserts what stands on an arc.
+fn assert_token<A: PathAlgebra<Value = u64>>(
+    rt: &impl Abort,
+    trial: &Trial<'_, A>,
+    a: u32,
+    wanted: Token<u64>,
+) {
+    assert!(rt; trial.token(rt, a) == wanted);
+}
+
+/// Asserts the labels of some vertices.
+fn assert_labels<A: PathAlgebra<Value = u64>>(
+    rt: &impl Abort,
+    trial: &Trial<'_, A>,
+    wanted: &[(u32, Option<u64>)],
+) {
+    for (v, label) in wanted {
+        assert!(rt; trial.label(rt, *v) == *label, "at {v}");
     }
-    assert!(rt; n < 1_000_000 && list.len() < 1_000_000);
-    match Graph::new(rt.alloc(), n, list) {
-        Ok(graph) => graph,
-        Err(_) => panic!(rt; "refused"),
-    }
+}
+
+/// Asserts the arc that engages a vertex.
+fn assert_engager<A: PathAlgebra>(
+    rt: &impl Abort,
+    trial: &Trial<'_, A>,
+    v: u32,
+    wanted: Option<ArcNo>,
+) {
+    assert!(rt; trial.engager(rt, v) == wanted);
+}
+
+/// Asserts how many of these events happen, each in its turn.
+fn assert_run<A: PathAlgebra>(
+    rt: &impl Abort,
+    trial: &mut Trial<'_, A>,
+    events: &[Event],
+    wanted: usize,
+) {
+    assert!(rt; trial.core.run(events) == wanted);
 }
 
 #[test]
 fn core_step_by_step(rt: HostRuntime) {
     let graph = graph_of(&rt, 2, &[(1, 2, 7)]);
     let mut trial = Trial::open(&rt, Shortest, &graph);
-    assert!(rt; trial.token(&rt, 0) == Token::Message(0));
-    assert!(rt; trial.core.deliver(ArcNo(1)).is_err());
-    assert!(rt; trial.core.deliver(ArcNo(0)).is_ok());
-    assert!(rt; trial.label(&rt, 1) == Some(0));
-    assert!(rt; trial.engager(&rt, 1) == Some(ArcNo(0)));
-    assert!(rt; trial.token(&rt, 0) == Token::Held);
-    assert!(rt; trial.token(&rt, 1) == Token::Message(7));
+    assert_token(&rt, &trial, 0, Token::Message(0));
+    assert!(rt; !trial.deliver(1));
+    assert!(rt; trial.deliver(0));
+    assert_labels(&rt, &trial, &[(1, Some(0))]);
+    assert_engager(&rt, &trial, 1, Some(ArcNo(0)));
+    assert_token(&rt, &trial, 0, Token::Held);
+    assert_token(&rt, &trial, 1, Token::Message(7));
     assert!(rt; trial.deficit(&rt, 1) == 1);
-    assert!(rt; trial.core.accept(ArcNo(0)).is_err());
-    assert!(rt; trial.core.deliver(ArcNo(1)).is_ok());
-    assert!(rt; trial.label(&rt, 2) == Some(7));
-    assert!(rt; trial.engager(&rt, 2).is_none());
-    assert!(rt; trial.token(&rt, 1) == Token::Signal);
-    assert!(rt; trial.core.accept(ArcNo(1)).is_ok());
-    assert!(rt; trial.token(&rt, 1) == Token::Idle);
-    assert!(rt; trial.engager(&rt, 1).is_none());
-    assert!(rt; trial.token(&rt, 0) == Token::Signal);
-    assert!(rt; !trial.core.ended() && !trial.core.quiet());
-    assert!(rt; trial.core.accept(ArcNo(0)).is_ok());
-    assert!(rt; trial.core.ended() && trial.core.quiet());
-    assert!(rt; trial.core.deliver(ArcNo(2)).is_err());
-    assert!(rt; trial.core.accept(ArcNo(4_000_000_000)).is_err());
+    assert!(rt; !trial.accept(0));
+    assert!(rt; trial.deliver(1));
+    assert_labels(&rt, &trial, &[(2, Some(7))]);
+    assert_engager(&rt, &trial, 2, None);
+    assert_token(&rt, &trial, 1, Token::Signal);
+    assert!(rt; trial.accept(1));
+    assert_token(&rt, &trial, 1, Token::Idle);
+    assert_engager(&rt, &trial, 1, None);
+    assert_token(&rt, &trial, 0, Token::Signal);
+    assert!(rt; !trial.ended());
+    assert!(rt; !trial.quiet());
+    assert!(rt; trial.accept(0));
+    assert!(rt; trial.ended());
+    assert!(rt; trial.quiet());
+    assert!(rt; !trial.deliver(2));
+    assert!(rt; !trial.accept(4_000_000_000));
 }
 
 #[test]
 fn events_are_counted_once(rt: HostRuntime) {
     let graph = graph_of(&rt, 2, &[(1, 2, 7)]);
-    let once = [
-        Event::Deliver(ArcNo(0)),
-        Event::Deliver(ArcNo(1)),
-        Event::Accept(ArcNo(1)),
-        Event::Accept(ArcNo(0)),
-    ];
-    let twice = [
-        Event::Deliver(ArcNo(0)),
-        Event::Deliver(ArcNo(1)),
-        Event::Accept(ArcNo(1)),
-        Event::Accept(ArcNo(0)),
-        Event::Deliver(ArcNo(0)),
-        Event::Deliver(ArcNo(1)),
-        Event::Accept(ArcNo(1)),
-        Event::Accept(ArcNo(0)),
-    ];
     let mut trial = Trial::open(&rt, Shortest, &graph);
-    assert!(rt; trial.core.run(&once) == 4);
-    assert!(rt; trial.core.ended());
+    assert_run(&rt, &mut trial, &ONCE, 4);
+    assert!(rt; trial.ended());
     let mut trial = Trial::open(&rt, Shortest, &graph);
-    assert!(rt; trial.core.run(&twice) == 4);
-    assert!(rt; trial.core.quiet());
+    assert_run(&rt, &mut trial, &TWICE, 4);
+    assert!(rt; trial.quiet());
 }
 
 #[test]
@@ -171,27 +226,19 @@ fn three_orders_of_events(rt: HostRuntime) {
     let graph = graph_of(&rt, 5, &FIVE);
     for order in 0..3 {
         let mut trial = Trial::open(&rt, Shortest, &graph);
-        for turn in 0..1_000 {
-            let least = order == 0 || (order == 2 && turn % 2 == 0);
-            let stepped = if least {
-                trial.step_least(8)
-            } else {
-                trial.step_greatest(8)
-            };
-            if !stepped {
-                break;
-            }
-        }
-        assert!(rt; trial.core.quiet(), "in order {order}");
-        for (v, wanted) in [
-            (1, Some(0)),
-            (2, Some(3)),
-            (3, Some(1)),
-            (4, Some(8)),
-            (5, None),
-        ] {
-            assert!(rt; trial.label(&rt, v) == wanted, "in order {order} at {v}");
-        }
+        trial.run_in_order(order);
+        assert!(rt; trial.quiet());
+        assert_labels(
+            &rt,
+            &trial,
+            &[
+                (1, Some(0)),
+                (2, Some(3)),
+                (3, Some(1)),
+                (4, Some(8)),
+                (5, None),
+            ],
+        );
     }
 }
 
@@ -200,12 +247,14 @@ fn limit_zero_core(rt: HostRuntime) {
     let graph = graph_of(&rt, 5, &FIVE);
     let algebra = Within::new(0).expect(&rt, "a small limit");
     let mut trial = Trial::open(&rt, algebra, &graph);
-    assert!(rt; trial.core.deliver(ArcNo(0)).is_ok());
-    assert!(rt; trial.core.accept(ArcNo(0)).is_ok());
-    assert!(rt; trial.core.ended());
-    for (v, wanted) in [(1, Some(0)), (2, None), (3, None), (4, None), (5, None)] {
-        assert!(rt; trial.label(&rt, v) == wanted, "at {v}");
-    }
+    assert!(rt; trial.deliver(0));
+    assert!(rt; trial.accept(0));
+    assert!(rt; trial.ended());
+    assert_labels(
+        &rt,
+        &trial,
+        &[(1, Some(0)), (2, None), (3, None), (4, None), (5, None)],
+    );
 }
 
 /// A hub with 40,000 leaves, each joined to it both ways.
@@ -213,14 +262,12 @@ fn limit_zero_core(rt: HostRuntime) {
 fn star_of_forty_thousand_leaves(rt: HostRuntime) {
     let mut arcs = Vec::new(rt.alloc());
     for leaf in 2..40_002 {
-        arcs.push((1, leaf, 5)).expect(&rt, "memory");
-        arcs.push((leaf, 1, 5)).expect(&rt, "memory");
+        push_both(&rt, &mut arcs, (1, leaf), (5, 5));
     }
     let graph = graph_of(&rt, 40_001, &arcs);
     let mut trial = Trial::open(&rt, Shortest, &graph);
     trial.run_to_the_end(&rt, 80_001);
-    assert!(rt; trial.label(&rt, 1) == Some(0));
-    assert!(rt; trial.label(&rt, 40_001) == Some(5));
+    assert_labels(&rt, &trial, &[(1, Some(0)), (40_001, Some(5))]);
 }
 
 /// A grid of 64 times 64 vertices, cheap to the right and down and dear to the left and up.
@@ -231,18 +278,15 @@ fn two_way_grid(rt: HostRuntime) {
         for column in 0..64_u32 {
             let here = row * 64 + column + 1;
             if column < 63 {
-                arcs.push((here, here + 1, 1)).expect(&rt, "memory");
-                arcs.push((here + 1, here, 3)).expect(&rt, "memory");
+                push_both(&rt, &mut arcs, (here, here + 1), (1, 3));
             }
             if row < 63 {
-                arcs.push((here, here + 64, 1)).expect(&rt, "memory");
-                arcs.push((here + 64, here, 3)).expect(&rt, "memory");
+                push_both(&rt, &mut arcs, (here, here + 64), (1, 3));
             }
         }
     }
     let graph = graph_of(&rt, 4_096, &arcs);
     let mut trial = Trial::open(&rt, Shortest, &graph);
     trial.run_to_the_end(&rt, 16_129);
-    assert!(rt; trial.label(&rt, 4_096) == Some(126));
-    assert!(rt; trial.label(&rt, 64) == Some(63));
+    assert_labels(&rt, &trial, &[(4_096, Some(126)), (64, Some(63))]);
 }

@@ -3,6 +3,42 @@ use road_graph::{ArcNo, Graph, GraphFault, OutRoad, RoadArc, Vertex};
 use std::alloc::Global;
 use std::process::Abort;
 
+/// Five vertices, with a self-loop at 4; no arc leads to 5.
+pub(crate) const FIVE: [(u32, u32, u32); 7] = [
+    (1, 2, 4),
+    (1, 3, 1),
+    (3, 2, 2),
+    (2, 4, 5),
+    (3, 4, 8),
+    (4, 4, 0),
+    (5, 1, 3),
+];
+
+/// The graph of these tails, heads and weights.
+pub(crate) fn graph_of(rt: &(impl Abort + AllocGlobal), n: u32, arcs: &[(u32, u32, u32)]) -> Graph {
+    let mut list = Vec::new(rt.alloc());
+    for (tail, head, weight) in arcs {
+        list.push(arc(*tail, *head, *weight)).expect(rt, "memory");
+    }
+    assert!(rt; n < 1_000_000);
+    assert!(rt; list.len() < 1_000_000);
+    match Graph::new(rt.alloc(), n, list) {
+        Ok(graph) => graph,
+        Err(_) => panic!(rt; "refused"),
+    }
+}
+
+/// Adds an arc from one vertex to another, and one back.
+pub(crate) fn push_both(
+    rt: &impl Abort,
+    arcs: &mut Vec<(u32, u32, u32)>,
+    (tail, head): (u32, u32),
+    (there, back): (u32, u32),
+) {
+    arcs.push((tail, head, there)).expect(rt, "memory");
+    arcs.push((head, tail, back)).expect(rt, "memory");
+}
+
 fn arc(tail: u32, head: u32, weight: u32) -> RoadArc {
     RoadArc {
         tail: Vertex(tail),
@@ -45,29 +81,52 @@ fn five_vertices(alloc: Global) -> Option<Graph> {
     Graph::new(alloc, 5, arcs).ok()
 }
 
+/// Asserts that these are the arcs of these numbers.
+fn assert_numbers(rt: &impl Abort, arcs: &[ArcNo], wanted: &[u32]) {
+    assert!(rt; arcs.len() == wanted.len());
+    for i in 0..wanted.len() {
+        assert!(rt; arcs[i] == ArcNo(wanted[i]));
+    }
+}
+
+/// Asserts which arcs leave a vertex, and which enter it.
+fn assert_rows(rt: &impl Abort, graph: &Graph, v: u32, out: &[u32], into: &[u32]) {
+    assert!(rt; graph.has(Vertex(v)));
+    assert_numbers(rt, graph.out(Vertex(v)), out);
+    assert_numbers(rt, graph.into(Vertex(v)), into);
+}
+
+/// Asserts how many vertices and arcs a graph has.
+fn assert_sizes(rt: &impl Abort, graph: &Graph, vertices: u32, arcs: usize) {
+    assert!(rt; graph.vertices() == vertices);
+    assert!(rt; graph.arcs() == arcs);
+    assert!(rt; !graph.has(Vertex(0)));
+    assert!(rt; !graph.has(Vertex(vertices.wrapping_add(1))));
+}
+
+/// Asserts which arc has a number.
+fn assert_arc(rt: &impl Abort, graph: &Graph, number: u32, wanted: RoadArc) {
+    assert!(rt; 1 <= number && number as usize <= graph.arcs());
+    assert!(rt; graph.arc(ArcNo(number)) == wanted);
+}
+
+/// Asserts which roads leave a vertex.
+fn assert_roads(rt: &impl Abort, graph: &Graph, v: u32, wanted: &[OutRoad]) {
+    assert!(rt; graph.has(Vertex(v)));
+    assert!(rt; graph.roads_from(Vertex(v)) == wanted);
+}
+
 #[test]
 fn rows_by_tail_and_head(rt: HostRuntime) {
     let graph = five_vertices(rt.alloc()).expect(&rt, "memory");
-    // By a reference, since `into` of a value is that of `Into`.
-    let graph = &graph;
-    assert!(rt; graph.vertices() == 5 && graph.arcs() == 6);
-    assert!(rt; !graph.has(Vertex(0)) && !graph.has(Vertex(6)));
-    assert!(rt; graph.arc(ArcNo(4)) == arc(1, 3, 1));
-    assert!(rt;
-        graph.has(Vertex(1))
-            && graph.has(Vertex(2))
-            && graph.has(Vertex(3))
-            && graph.has(Vertex(4))
-            && graph.has(Vertex(5))
-    );
-    assert!(rt; graph.out(Vertex(1)) == [ArcNo(2), ArcNo(4), ArcNo(6)].as_slice());
-    assert!(rt; graph.out(Vertex(2)).is_empty() && graph.into(Vertex(5)).is_empty());
-    assert!(rt; graph.into(Vertex(3)) == [ArcNo(4), ArcNo(6)].as_slice());
-    assert!(rt;
-        graph.out(Vertex(4)) == [ArcNo(3)].as_slice()
-            && graph.into(Vertex(4)) == [ArcNo(3)].as_slice()
-    );
-    assert!(rt; graph.roads_from(Vertex(1)) == [road(2, 4), road(3, 1), road(3, 9)].as_slice());
+    assert_sizes(&rt, &graph, 5, 6);
+    assert_arc(&rt, &graph, 4, arc(1, 3, 1));
+    assert_rows(&rt, &graph, 1, &[2, 4, 6], &[5]);
+    assert_rows(&rt, &graph, 2, &[], &[1, 2]);
+    assert_rows(&rt, &graph, 3, &[1], &[4, 6]);
+    assert_rows(&rt, &graph, 4, &[3], &[3]);
+    assert_rows(&rt, &graph, 5, &[5], &[]);
+    assert_roads(&rt, &graph, 1, &[road(2, 4), road(3, 1), road(3, 9)]);
 }
 
 /// The graph tells of each of its arcs what it is, and where it stands among those that leave its tail.
@@ -113,5 +172,5 @@ fn empty_graph(rt: HostRuntime) {
         Ok(graph) => graph,
         Err(_) => panic!(rt; "refused"),
     };
-    assert!(rt; graph.vertices() == 0 && graph.arcs() == 0 && !graph.has(Vertex(1)));
+    assert_sizes(&rt, &graph, 0, 0);
 }

@@ -1,10 +1,11 @@
 //! Routes between two vertices, worked out by hand, and all of those of small graphs against the whole tree's.
 
-use crate::trees::{FIVE, graph_of};
+use crate::graphs::{FIVE, graph_of};
+use crate::trees::{assert_vertices, tree_from};
 use path_algebra::{Hops, PathAlgebra, Reach, Reliable, Shortest, Widest, Within};
 use path_plain::solve_one;
 use road_graph::{Graph, Vertex};
-use route_tree::{PairRoute, Tree, route, route_between, tree};
+use route_tree::{PairRoute, Tree, route, route_between};
 use std::process::Abort;
 
 /// The route between two vertices, or none.
@@ -16,7 +17,8 @@ fn found_between<A: PathAlgebra>(
     target: u32,
 ) -> Option<PairRoute> {
     let (source, target) = (Vertex(source), Vertex(target));
-    assert!(rt; graph.has(source) && graph.has(target));
+    assert!(rt; graph.has(source));
+    assert!(rt; graph.has(target));
     let labels = solve_one(rt.alloc(), algebra, graph, source).expect(rt, "memory");
     route_between(rt.alloc(), algebra, graph, source, target, &labels).expect(rt, "memory")
 }
@@ -32,11 +34,8 @@ fn assert_between<A: PathAlgebra>(
 ) {
     match found_between(rt, algebra, graph, source, target) {
         Some(found) => {
-            assert!(rt; found.vertices.len() == wanted.len());
             assert!(rt; wanted.len() as u64 == found.hops as u64 + 1);
-            for i in 0..wanted.len() {
-                assert!(rt; found.vertices[i].0 == wanted[i]);
-            }
+            assert_vertices(rt, &found.vertices, wanted);
         }
         None => assert!(rt; wanted.is_empty()),
     }
@@ -49,19 +48,16 @@ fn assert_of_tree(
     target: Vertex,
     found: &Option<PairRoute>,
 ) {
-    assert!(rt; 1 <= target.0 && target.0 as usize <= tree.vertices());
+    assert!(rt; 1 <= target.0);
+    assert!(rt; target.0 as usize <= tree.vertices());
     let wanted = route(rt.alloc(), tree, target).expect(rt, "memory");
-    match (wanted, found) {
-        (Some(wanted), Some(found)) => {
-            assert!(rt; tree.hops(target) == Some(found.hops));
-            assert!(rt; wanted.len() == found.vertices.len());
-            for i in 0..wanted.len() {
-                assert!(rt; found.vertices[i] == wanted[i]);
-            }
-        }
-        (None, None) => {}
-        _ => panic!(rt; "one of the two is none"),
-    }
+    let Some(found) = found else {
+        assert!(rt; wanted.is_none());
+        return;
+    };
+    let wanted = wanted.expect(rt, "a route in the tree");
+    assert!(rt; tree.hops(target) == Some(found.hops));
+    assert!(rt; found.vertices.as_slice() == wanted.as_slice());
 }
 
 /// Whether the routes from a vertex to all are those of its tree.
@@ -69,24 +65,19 @@ fn assert_all_from<A: PathAlgebra>(
     rt: &(impl Abort + AllocGlobal),
     algebra: A,
     graph: &Graph,
-    source: Vertex,
+    source: u32,
 ) {
-    assert!(rt; graph.has(source));
-    let labels = solve_one(rt.alloc(), algebra, graph, source).expect(rt, "memory");
-    let tree = tree(rt.alloc(), algebra, graph, &[source], &labels).expect(rt, "memory");
-    for v in 1..=graph.vertices() {
-        let target = Vertex(v);
-        let found = route_between(rt.alloc(), algebra, graph, source, target, &labels).expect(
-            rt, "memory",
-        );
-        assert_of_tree(rt, &tree, target, &found);
+    let tree = tree_from(rt, algebra, graph, source);
+    for target in 1..=graph.vertices() {
+        let found = found_between(rt, algebra, graph, source, target);
+        assert_of_tree(rt, &tree, Vertex(target), &found);
     }
 }
 
 /// Whether the routes of all pairs are those of the trees.
 fn assert_all<A: PathAlgebra>(rt: &(impl Abort + AllocGlobal), algebra: A, graph: &Graph) {
     for s in 1..=graph.vertices() {
-        assert_all_from(rt, algebra, graph, Vertex(s));
+        assert_all_from(rt, algebra, graph, s);
     }
 }
 

@@ -2,34 +2,12 @@
 
 ghost use Rattle.std.specs.Prelude.{◌≡◌, length};
 
+use crate::graphs::{FIVE, graph_of, push_both};
 use path_algebra::{Hops, Labels, PathAlgebra, Reach, Reliable, Shortest, Widest, Within};
 use path_plain::{best_values_exist, solve_from, solve_one};
-use road_graph::{Graph, RoadArc, Vertex};
+use road_graph::{Graph, Vertex};
 use std::alloc::Global;
-use std::test::Fail;
-
-fn arc(tail: u32, head: u32, weight: u32) -> RoadArc {
-    RoadArc {
-        tail: Vertex(tail),
-        head: Vertex(head),
-        weight,
-    }
-}
-
-/// Two ways to 2, two to 4, a loop at 4, and nothing that enters 5.
-fn five_vertices(alloc: Global) -> Option<Graph> {
-    let arcs = vec![in alloc;
-        arc(1, 2, 4),
-        arc(1, 3, 1),
-        arc(3, 2, 2),
-        arc(2, 4, 5),
-        arc(3, 4, 8),
-        arc(4, 4, 0),
-        arc(5, 1, 3),
-    ]
-    .ok()?;
-    Graph::new(alloc, 5, arcs).ok()
-}
+use std::process::Abort;
 
 /// The codes of labels, vertex by vertex, or none for want of memory.
 fn codes_of<A: PathAlgebra>(
@@ -70,122 +48,142 @@ fn shortest_from(alloc: Global, graph: &Graph, sources: [Vertex; 3]) -> Option<V
     codes_of(alloc, Shortest, graph, &labels)
 }
 
-#[test]
-fn five_vertices_shortest(rt: HostRuntime) -> Result<(), Fail> {
-    let alloc = rt.alloc();
-    let graph = five_vertices(alloc).ok_or("no graph")?;
-    let found = codes(alloc, Shortest, &graph).ok_or("no labels")?;
-    assert!(rt; found.as_slice() == [Some(0), Some(3), Some(1), Some(8), None].as_slice());
-    best_values_exist(Shortest);
-    Ok(())
+/// Asserts the codes of the labels from vertex 1, vertex by vertex.
+fn assert_codes<A: PathAlgebra>(
+    rt: &(impl Abort + AllocGlobal),
+    algebra: A,
+    graph: &Graph,
+    wanted: &[Option<u64>],
+) {
+    let found = codes(rt.alloc(), algebra, graph).expect(rt, "no labels");
+    assert!(rt; found.as_slice() == wanted);
+}
+
+/// Asserts the codes of the shortest sums in the five vertices from three sources, vertex by vertex.
+fn assert_codes_from(
+    rt: &(impl Abort + AllocGlobal),
+    sources: [Vertex; 3],
+    wanted: &[Option<u64>],
+) {
+    let graph = graph_of(rt, 5, &FIVE);
+    let found = shortest_from(rt.alloc(), &graph, sources).expect(rt, "no labels");
+    assert!(rt; found.as_slice() == wanted);
 }
 
 #[test]
-fn five_vertices_widest(rt: HostRuntime) -> Result<(), Fail> {
-    let alloc = rt.alloc();
-    let graph = five_vertices(alloc).ok_or("no graph")?;
-    let found = codes(alloc, Widest, &graph).ok_or("no labels")?;
-    assert!(rt; found.as_slice() == [Some(4294967296), Some(4), Some(1), Some(4), None].as_slice());
-    Ok(())
-}
-
-#[test]
-fn five_vertices_reach(rt: HostRuntime) -> Result<(), Fail> {
-    let alloc = rt.alloc();
-    let graph = five_vertices(alloc).ok_or("no graph")?;
-    let found = codes(alloc, Reach, &graph).ok_or("no labels")?;
-    assert!(rt; found.as_slice() == [Some(0), Some(0), Some(0), Some(0), None].as_slice());
-    Ok(())
-}
-
-#[test]
-fn five_vertices_hops(rt: HostRuntime) -> Result<(), Fail> {
-    let alloc = rt.alloc();
-    let graph = five_vertices(alloc).ok_or("no graph")?;
-    let found = codes(alloc, Hops, &graph).ok_or("no labels")?;
-    assert!(rt; found.as_slice() == [Some(0), Some(1), Some(1), Some(2), None].as_slice());
-    Ok(())
-}
-
-#[test]
-fn reliable_rounds_down(rt: HostRuntime) -> Result<(), Fail> {
-    let alloc = rt.alloc();
-    let arcs = vec![in alloc;
-        arc(1, 2, 900001),
-        arc(2, 3, 500001),
-        arc(1, 3, 400000),
-        arc(3, 4, 700001),
-        arc(4, 5, 2000000),
-    ]?;
-    let graph = Graph::new(alloc, 5, arcs).ok().ok_or("no graph")?;
-    let found = codes(alloc, Reliable, &graph).ok_or("no labels")?;
-    assert!(rt;
-        found.as_slice()
-            == [
-                Some(1000000000000),
-                Some(900001000000),
-                Some(450001400001),
-                Some(315001430002),
-                Some(315001430002)
-            ]
-            .as_slice()
+fn five_vertices_shortest(rt: HostRuntime) {
+    assert_codes(
+        &rt,
+        Shortest,
+        &graph_of(&rt, 5, &FIVE),
+        &[Some(0), Some(3), Some(1), Some(8), None],
     );
-    Ok(())
+    best_values_exist(Shortest);
 }
 
 #[test]
-fn within_a_limit(rt: HostRuntime) -> Result<(), Fail> {
-    let alloc = rt.alloc();
-    let graph = five_vertices(alloc).ok_or("no graph")?;
-    let five = Within::new(5).ok_or("no limit")?;
-    let found = codes(alloc, five, &graph).ok_or("no labels")?;
-    assert!(rt; found.as_slice() == [Some(0), Some(3), Some(1), None, None].as_slice());
-    let none = Within::new(0).ok_or("no limit")?;
-    let found = codes(alloc, none, &graph).ok_or("no labels")?;
-    assert!(rt; found.as_slice() == [Some(0), None, None, None, None].as_slice());
-    Ok(())
+fn five_vertices_widest(rt: HostRuntime) {
+    assert_codes(
+        &rt,
+        Widest,
+        &graph_of(&rt, 5, &FIVE),
+        &[Some(4294967296), Some(4), Some(1), Some(4), None],
+    );
 }
 
 #[test]
-fn several_sources(rt: HostRuntime) -> Result<(), Fail> {
-    let alloc = rt.alloc();
-    let graph = five_vertices(alloc).ok_or("no graph")?;
-    let repeated = [Vertex(4), Vertex(5), Vertex(4)];
-    let found = shortest_from(alloc, &graph, repeated).ok_or("no labels")?;
-    assert!(rt; found.as_slice() == [Some(3), Some(6), Some(4), Some(0), Some(0)].as_slice());
-    let repeated = [Vertex(5), Vertex(5), Vertex(2)];
-    let found = shortest_from(alloc, &graph, repeated).ok_or("no labels")?;
-    assert!(rt; found.as_slice() == [Some(3), Some(0), Some(4), Some(5), Some(0)].as_slice());
-    Ok(())
+fn five_vertices_reach(rt: HostRuntime) {
+    assert_codes(
+        &rt,
+        Reach,
+        &graph_of(&rt, 5, &FIVE),
+        &[Some(0), Some(0), Some(0), Some(0), None],
+    );
 }
 
 #[test]
-fn one_source_as_several(rt: HostRuntime) -> Result<(), Fail> {
-    let alloc = rt.alloc();
-    let graph = five_vertices(alloc).ok_or("no graph")?;
-    let found = shortest_from(alloc, &graph, [Vertex(1); 3]).ok_or("no labels")?;
-    assert!(rt; found.as_slice() == [Some(0), Some(3), Some(1), Some(8), None].as_slice());
-    Ok(())
+fn five_vertices_hops(rt: HostRuntime) {
+    assert_codes(
+        &rt,
+        Hops,
+        &graph_of(&rt, 5, &FIVE),
+        &[Some(0), Some(1), Some(1), Some(2), None],
+    );
+}
+
+#[test]
+fn reliable_rounds_down(rt: HostRuntime) {
+    let graph = graph_of(
+        &rt,
+        5,
+        &[
+            (1, 2, 900001),
+            (2, 3, 500001),
+            (1, 3, 400000),
+            (3, 4, 700001),
+            (4, 5, 2000000),
+        ],
+    );
+    assert_codes(
+        &rt,
+        Reliable,
+        &graph,
+        &[
+            Some(1000000000000),
+            Some(900001000000),
+            Some(450001400001),
+            Some(315001430002),
+            Some(315001430002),
+        ],
+    );
+}
+
+#[test]
+fn within_a_limit(rt: HostRuntime) {
+    let graph = graph_of(&rt, 5, &FIVE);
+    let five = Within::new(5).expect(&rt, "no limit");
+    assert_codes(&rt, five, &graph, &[Some(0), Some(3), Some(1), None, None]);
+    let none = Within::new(0).expect(&rt, "no limit");
+    assert_codes(&rt, none, &graph, &[Some(0), None, None, None, None]);
+}
+
+#[test]
+fn several_sources(rt: HostRuntime) {
+    assert_codes_from(
+        &rt,
+        [Vertex(4), Vertex(5), Vertex(4)],
+        &[Some(3), Some(6), Some(4), Some(0), Some(0)],
+    );
+    assert_codes_from(
+        &rt,
+        [Vertex(5), Vertex(5), Vertex(2)],
+        &[Some(3), Some(0), Some(4), Some(5), Some(0)],
+    );
+}
+
+#[test]
+fn one_source_as_several(rt: HostRuntime) {
+    assert_codes_from(
+        &rt,
+        [Vertex(1); 3],
+        &[Some(0), Some(3), Some(1), Some(8), None],
+    );
 }
 
 /// A ring of 5,000 vertices with arcs of weight 1 both ways: each vertex is reached by the shorter way round.
 #[test]
-fn a_large_ring(rt: HostRuntime) -> Result<(), Fail> {
-    let alloc = rt.alloc();
-    let mut arcs = Vec::new(alloc);
+fn a_large_ring(rt: HostRuntime) {
+    let mut arcs = Vec::new(rt.alloc());
     for v in 1..5000u32 {
-        arcs.push(arc(v, v + 1, 1))?;
-        arcs.push(arc(v + 1, v, 1))?;
+        push_both(&rt, &mut arcs, (v, v + 1), (1, 1));
     }
-    arcs.push(arc(5000, 1, 1))?;
-    arcs.push(arc(1, 5000, 1))?;
+    push_both(&rt, &mut arcs, (5000, 1), (1, 1));
     assert!(rt; arcs.len() == 10000);
-    let graph = Graph::new(alloc, 5000, arcs).ok().ok_or("no graph")?;
-    let found = codes(alloc, Shortest, &graph).ok_or("no labels")?;
+    let graph = graph_of(&rt, 5000, &arcs);
+    let found = codes(rt.alloc(), Shortest, &graph).expect(&rt, "no labels");
     for (i, code) in found.as_slice().iter().enumerate() {
         let steps = i.min(5000usize.saturating_sub(i));
         assert!(rt; *code == Some(steps as u64));
     }
     assert!(rt; found.len() == 5000);
-    Ok(())
 }

@@ -4,44 +4,16 @@ ghost use Rattle.std.specs.Prelude.{◌≡◌, ◌≤◌, [], ◌∷◌, IfOk};
 ghost use Rattle.road_graph.specs.Roads.{HasVertex};
 ghost use Rattle.path_algebra.specs.Walks.{AreBest};
 
+use crate::graphs::{FIVE, graph_of};
 use path_algebra::{Labels, PathAlgebra, Reach, Shortest, Widest, Within, merged_labels_are_best};
 use path_plain::solve_one;
-use road_graph::{Graph, Memory, RoadArc, Vertex};
+use road_graph::{Graph, Memory, Vertex};
 use route_tree::{
     Tree, hops_tell_reached, labels_and_trees_agree, route, routes_follow_parents, tree,
     trees_exist,
 };
 use std::alloc::Global;
 use std::process::Abort;
-
-/// Five vertices, with a self-loop at 4; no arc leads to 5.
-pub(crate) const FIVE: [(u32, u32, u32); 7] = [
-    (1, 2, 4),
-    (1, 3, 1),
-    (3, 2, 2),
-    (2, 4, 5),
-    (3, 4, 8),
-    (4, 4, 0),
-    (5, 1, 3),
-];
-
-/// The graph of these tails, heads and weights.
-pub(crate) fn graph_of(rt: &(impl Abort + AllocGlobal), n: u32, arcs: &[(u32, u32, u32)]) -> Graph {
-    let mut list = Vec::new(rt.alloc());
-    for (tail, head, weight) in arcs {
-        let arc = RoadArc {
-            tail: Vertex(*tail),
-            head: Vertex(*head),
-            weight: *weight,
-        };
-        list.push(arc).expect(rt, "memory");
-    }
-    assert!(rt; n < 100 && list.len() < 100);
-    match Graph::new(rt.alloc(), n, list) {
-        Ok(graph) => graph,
-        Err(_) => panic!(rt; "refused"),
-    }
-}
 
 /// Whether each vertex has these hops and this parent, where 0 stands for none.
 fn assert_tree(rt: &(impl Abort + AllocGlobal), found: &Tree, wanted: &[(Option<u32>, u32)]) {
@@ -59,7 +31,7 @@ fn assert_tree(rt: &(impl Abort + AllocGlobal), found: &Tree, wanted: &[(Option<
 }
 
 /// The tree of the best labels from one source.
-fn tree_from<A: PathAlgebra>(
+pub(crate) fn tree_from<A: PathAlgebra>(
     rt: &(impl Abort + AllocGlobal),
     algebra: A,
     graph: &Graph,
@@ -71,16 +43,31 @@ fn tree_from<A: PathAlgebra>(
     tree(rt.alloc(), algebra, graph, &[source], &labels).expect(rt, "memory")
 }
 
-/// Whether the route to a vertex goes through these.
+/// Asserts the hops and the parents in the tree of the best labels from one source, where 0 stands for none.
+fn assert_tree_from<A: PathAlgebra>(
+    rt: &(impl Abort + AllocGlobal),
+    algebra: A,
+    graph: &Graph,
+    source: u32,
+    wanted: &[(Option<u32>, u32)],
+) {
+    assert_tree(rt, &tree_from(rt, algebra, graph, source), wanted);
+}
+
+/// Asserts that a list has these vertices.
+pub(crate) fn assert_vertices(rt: &impl Abort, found: &[Vertex], wanted: &[u32]) {
+    assert!(rt; found.len() == wanted.len());
+    for i in 0..wanted.len() {
+        assert!(rt; found[i] == Vertex(wanted[i]));
+    }
+}
+
+/// Asserts that the route to a vertex goes through these.
 fn assert_route(rt: &(impl Abort + AllocGlobal), found: &Tree, target: u32, wanted: &[u32]) {
-    assert!(rt; 1 <= target && target as usize <= found.vertices());
+    assert!(rt; 1 <= target);
+    assert!(rt; target as usize <= found.vertices());
     match route(rt.alloc(), found, Vertex(target)).expect(rt, "memory") {
-        Some(list) => {
-            assert!(rt; list.len() == wanted.len());
-            for i in 0..wanted.len() {
-                assert!(rt; list[i].0 == wanted[i]);
-            }
-        }
+        Some(list) => assert_vertices(rt, &list, wanted),
         None => assert!(rt; wanted.is_empty()),
     }
 }
@@ -110,10 +97,11 @@ fn five_vertices_shortest(rt: HostRuntime) {
 
 #[test]
 fn five_vertices_reach(rt: HostRuntime) {
-    let found = tree_from(&rt, Reach, &graph_of(&rt, 5, &FIVE), 1);
-    assert_tree(
+    assert_tree_from(
         &rt,
-        &found,
+        Reach,
+        &graph_of(&rt, 5, &FIVE),
+        1,
         &[
             (Some(0), 0),
             (Some(1), 1),
@@ -127,8 +115,13 @@ fn five_vertices_reach(rt: HostRuntime) {
 #[test]
 fn tight_cycle(rt: HostRuntime) {
     let graph = graph_of(&rt, 3, &[(1, 2, 0), (2, 3, 0), (3, 2, 0), (1, 3, 0)]);
-    let found = tree_from(&rt, Shortest, &graph, 1);
-    assert_tree(&rt, &found, &[(Some(0), 0), (Some(1), 1), (Some(1), 1)]);
+    assert_tree_from(
+        &rt,
+        Shortest,
+        &graph,
+        1,
+        &[(Some(0), 0), (Some(1), 1), (Some(1), 1)],
+    );
 }
 
 #[test]
@@ -147,10 +140,11 @@ fn zero_weights_and_parallel_arcs(rt: HostRuntime) {
             (1, 4, 1),
         ],
     );
-    let found = tree_from(&rt, Shortest, &graph, 3);
-    assert_tree(
+    assert_tree_from(
         &rt,
-        &found,
+        Shortest,
+        &graph,
+        3,
         &[(Some(2), 2), (Some(1), 3), (Some(0), 0), (Some(1), 3)],
     );
 }
@@ -162,10 +156,11 @@ fn wide_walk_with_untight_first_arc(rt: HostRuntime) {
         5,
         &[(1, 2, 5), (2, 3, 5), (3, 4, 5), (1, 4, 4), (4, 5, 3)],
     );
-    let found = tree_from(&rt, Widest, &graph, 1);
-    assert_tree(
+    assert_tree_from(
         &rt,
-        &found,
+        Widest,
+        &graph,
+        1,
         &[
             (Some(0), 0),
             (Some(1), 1),
@@ -179,10 +174,11 @@ fn wide_walk_with_untight_first_arc(rt: HostRuntime) {
 #[test]
 fn within_a_limit(rt: HostRuntime) {
     let within = Within::new(5).expect(&rt, "limit");
-    let found = tree_from(&rt, within, &graph_of(&rt, 5, &FIVE), 1);
-    assert_tree(
+    assert_tree_from(
         &rt,
-        &found,
+        within,
+        &graph_of(&rt, 5, &FIVE),
+        1,
         &[
             (Some(0), 0),
             (Some(2), 3),
@@ -212,16 +208,24 @@ fn solve_two<A: PathAlgebra>(
     Ok(labels)
 }
 
+/// The tree of the best labels from two sources.
+fn tree_from_two<A: PathAlgebra>(
+    rt: &(impl Abort + AllocGlobal),
+    algebra: A,
+    graph: &Graph,
+    sources: [Vertex; 2],
+) -> Tree {
+    let [s, t] = sources;
+    assert!(rt; graph.has(s));
+    assert!(rt; graph.has(t));
+    let labels = solve_two(rt.alloc(), algebra, graph, s, t).expect(rt, "memory");
+    tree(rt.alloc(), algebra, graph, &[s, t], &labels).expect(rt, "memory")
+}
+
 #[test]
 fn several_sources(rt: HostRuntime) {
     let graph = graph_of(&rt, 5, &FIVE);
-    let sources = [Vertex(4), Vertex(5)];
-    assert!(rt; graph.has(Vertex(4)));
-    assert!(rt; graph.has(Vertex(5)));
-    let labels = solve_two(rt.alloc(), Shortest, &graph, Vertex(4), Vertex(5)).expect(
-        &rt, "memory",
-    );
-    let found = tree(rt.alloc(), Shortest, &graph, &sources, &labels).expect(&rt, "memory");
+    let found = tree_from_two(&rt, Shortest, &graph, [Vertex(4), Vertex(5)]);
     assert_tree(
         &rt,
         &found,

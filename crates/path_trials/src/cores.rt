@@ -180,34 +180,53 @@ fn assert_run<A: PathAlgebra>(
     assert!(rt; trial.core.run(events) == wanted);
 }
 
+/// Asserts how many arcs out of a vertex are busy.
+fn assert_deficit<A: PathAlgebra>(rt: &impl Abort, trial: &Trial<'_, A>, v: u32, wanted: u32) {
+    assert!(rt; trial.deficit(rt, v) == wanted);
+}
+
+/// Asserts whether an arc has a message, which is delivered then.
+fn assert_deliver<A: PathAlgebra>(rt: &impl Abort, trial: &mut Trial<'_, A>, a: u32, wanted: bool) {
+    assert!(rt; trial.deliver(a) == wanted);
+}
+
+/// Asserts whether an arc has a signal, which is accepted then.
+fn assert_accept<A: PathAlgebra>(rt: &impl Abort, trial: &mut Trial<'_, A>, a: u32, wanted: bool) {
+    assert!(rt; trial.accept(a) == wanted);
+}
+
+/// Asserts whether the question has ended, with every arc idle.
+fn assert_ended<A: PathAlgebra>(rt: &impl Abort, trial: &Trial<'_, A>, wanted: bool) {
+    assert!(rt; trial.ended() == wanted);
+    assert!(rt; trial.quiet() == wanted);
+}
+
 #[test]
 fn core_step_by_step(rt: HostRuntime) {
     let graph = graph_of(&rt, 2, &[(1, 2, 7)]);
     let mut trial = Trial::open(&rt, Shortest, &graph);
     assert_token(&rt, &trial, 0, Token::Message(0));
-    assert!(rt; !trial.deliver(1));
-    assert!(rt; trial.deliver(0));
+    assert_deliver(&rt, &mut trial, 1, false);
+    assert_deliver(&rt, &mut trial, 0, true);
     assert_labels(&rt, &trial, &[(1, Some(0))]);
     assert_engager(&rt, &trial, 1, Some(ArcNo(0)));
     assert_token(&rt, &trial, 0, Token::Held);
     assert_token(&rt, &trial, 1, Token::Message(7));
-    assert!(rt; trial.deficit(&rt, 1) == 1);
-    assert!(rt; !trial.accept(0));
-    assert!(rt; trial.deliver(1));
+    assert_deficit(&rt, &trial, 1, 1);
+    assert_accept(&rt, &mut trial, 0, false);
+    assert_deliver(&rt, &mut trial, 1, true);
     assert_labels(&rt, &trial, &[(2, Some(7))]);
     assert_engager(&rt, &trial, 2, None);
     assert_token(&rt, &trial, 1, Token::Signal);
-    assert!(rt; trial.accept(1));
+    assert_accept(&rt, &mut trial, 1, true);
     assert_token(&rt, &trial, 1, Token::Idle);
     assert_engager(&rt, &trial, 1, None);
     assert_token(&rt, &trial, 0, Token::Signal);
-    assert!(rt; !trial.ended());
-    assert!(rt; !trial.quiet());
-    assert!(rt; trial.accept(0));
-    assert!(rt; trial.ended());
-    assert!(rt; trial.quiet());
-    assert!(rt; !trial.deliver(2));
-    assert!(rt; !trial.accept(4_000_000_000));
+    assert_ended(&rt, &trial, false);
+    assert_accept(&rt, &mut trial, 0, true);
+    assert_ended(&rt, &trial, true);
+    assert_deliver(&rt, &mut trial, 2, false);
+    assert_accept(&rt, &mut trial, 4_000_000_000, false);
 }
 
 #[test]
@@ -215,10 +234,10 @@ fn events_are_counted_once(rt: HostRuntime) {
     let graph = graph_of(&rt, 2, &[(1, 2, 7)]);
     let mut trial = Trial::open(&rt, Shortest, &graph);
     assert_run(&rt, &mut trial, &ONCE, 4);
-    assert!(rt; trial.ended());
+    assert_ended(&rt, &trial, true);
     let mut trial = Trial::open(&rt, Shortest, &graph);
     assert_run(&rt, &mut trial, &TWICE, 4);
-    assert!(rt; trial.quiet());
+    assert_ended(&rt, &trial, true);
 }
 
 #[test]
@@ -227,7 +246,7 @@ fn three_orders_of_events(rt: HostRuntime) {
     for order in 0..3 {
         let mut trial = Trial::open(&rt, Shortest, &graph);
         trial.run_in_order(order);
-        assert!(rt; trial.quiet());
+        assert_ended(&rt, &trial, true);
         assert_labels(
             &rt,
             &trial,
@@ -247,9 +266,9 @@ fn limit_zero_core(rt: HostRuntime) {
     let graph = graph_of(&rt, 5, &FIVE);
     let algebra = Within::new(0).expect(&rt, "a small limit");
     let mut trial = Trial::open(&rt, algebra, &graph);
-    assert!(rt; trial.deliver(0));
-    assert!(rt; trial.accept(0));
-    assert!(rt; trial.ended());
+    assert_deliver(&rt, &mut trial, 0, true);
+    assert_accept(&rt, &mut trial, 0, true);
+    assert_ended(&rt, &trial, true);
     assert_labels(
         &rt,
         &trial,

@@ -1,3 +1,2 @@
-pub mod TwoPlaces
 pub mod Places
 pub mod Passing

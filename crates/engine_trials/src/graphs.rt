@@ -1,6 +1,7 @@
-//! The graphs that the tests ask about.
+//! The graphs that the tests ask about, and their plans. What is refused memory is asked for once more.
 
 use road_graph::{Graph, RoadArc, Vertex};
+use shard_part::Plan;
 use std::alloc::Global;
 use std::process::Abort;
 
@@ -17,6 +18,13 @@ pub const FIVE: [(u32, u32, u32); 7] = [
 
 /// What the least sums from vertex 1 of the five are.
 pub const SHORTEST: [Option<u64>; 5] = [Some(0), Some(3), Some(1), Some(8), None];
+
+/// A graph, and a plan of it.
+#[derive(Drop)]
+pub struct Ground {
+    pub graph: Graph,
+    pub plan: Plan,
+}
 
 /// The graph of these tails, heads and weights, or none where memory was refused.
 fn asked(alloc: Global, n: u32, arcs: &[(u32, u32, u32)]) -> Option<Graph> {
@@ -35,8 +43,8 @@ fn asked(alloc: Global, n: u32, arcs: &[(u32, u32, u32)]) -> Option<Graph> {
     Graph::new(alloc, n, list).ok()
 }
 
-/// The graph of these tails, heads and weights. What is refused memory is asked for once more.
-pub fn graph_of(rt: &(impl Abort + AllocGlobal), n: u32, arcs: &[(u32, u32, u32)]) -> Graph {
+/// The graph of these tails, heads and weights.
+fn graph_of(rt: &(impl Abort + AllocGlobal), n: u32, arcs: &[(u32, u32, u32)]) -> Graph {
     match asked(rt.alloc(), n, arcs) {
         Some(graph) => graph,
         None => asked(rt.alloc(), n, arcs).expect(rt, "a graph"),
@@ -55,4 +63,26 @@ pub fn chain_of(rt: &(impl Abort + AllocGlobal), n: u32, weight: u32) -> Graph {
         arcs.push((tail, tail + 1, weight)).expect(rt, "memory");
     }
     graph_of(rt, n, &arcs)
+}
+
+/// Vertices 1 to n in blocks.
+pub fn blocks_of(rt: &(impl Abort + AllocGlobal), n: u32, shards: u8) -> Plan {
+    assert!(rt; n <= 1_000_000);
+    assert!(rt; 1 <= shards);
+    assert!(rt; shards <= 64);
+    match Plan::blocks(rt.alloc(), n, shards) {
+        Ok(plan) => plan,
+        Err(_) => Plan::blocks(rt.alloc(), n, shards).expect(rt, "memory"),
+    }
+}
+
+/// A graph in blocks.
+pub fn ground_of(rt: &(impl Abort + AllocGlobal), graph: Graph, shards: u8) -> Ground {
+    let plan = blocks_of(rt, graph.vertices(), shards);
+    Ground { graph, plan }
+}
+
+/// Two vertices, each in a shard of its own, and an arc of weight 7 from the first to the second.
+pub fn two_vertices(rt: &(impl Abort + AllocGlobal)) -> Ground {
+    ground_of(rt, graph_of(rt, 2, &[(1, 2, 7)]), 2)
 }

@@ -1,68 +1,72 @@
 //! Two parts that send each other batches through a floor.
-ghost use Rattle.post_floor.specs.Data.{IsAt, IsFresh};
+ghost use Rattle.std.specs.Prelude.{◌≡◌, ◌≢◌, ◌<◌, IsTrue, map};
+ghost use Rattle.shard_part.specs.Weights.{All};
+ghost use Rattle.post_floor.specs.Data.{IsAt, seat_of};
 
 mod chain;
 mod claims;
 mod threads;
 
-use crate::graphs::graph_of;
+use crate::graphs::{Ground, two_vertices};
+use crate::parts::parts_of;
+use claims::{claim, swap};
 use path_algebra::{PathAlgebra, Shortest};
 use post_floor::{Floor, Seat};
-use road_graph::{Graph, Vertex};
-use shard_part::{Part, Plan, Shard};
+use road_graph::Vertex;
+use shard_part::{Part, Shard};
+use std::collections::VecDeque;
 use std::process::Abort;
 
-/// A graph, and a plan of it.
-#[derive(Drop)]
-struct Ground {
-    graph: Graph,
-    plan: Plan,
-}
+/// A seat at a floor, and the part that it is for.
+type Place<'g, A> = (Seat<A>, Part<'g, A>);
 
-/// Two vertices, each in a shard of its own, and an arc of weight 7 from the first to the second.
-fn two_vertices(rt: &(impl Abort + AllocGlobal)) -> Ground {
-    let graph = graph_of(rt, 2, &[(1, 2, 7)]);
-    let plan = Plan::blocks(rt.alloc(), 2, 2).expect(rt, "memory");
-    Ground { graph, plan }
-}
-
-/// The parts of all shards, with source 1.
-fn parts_of<'g, A: PathAlgebra>(
+/// The seats with their parts, in order.
+fn paired<'g, A: PathAlgebra>(
     rt: &(impl Abort + AllocGlobal),
-    algebra: A,
-    ground: &'g Ground,
-) -> Vec<Part<'g, A>>
-    ensures { IsFresh A.meaning ground.now.plan 1 result.items }
+    floor: &Floor<A>,
+    mut seats: Vec<Seat<A>>,
+    mut parts: Vec<Part<'g, A>>,
+) -> VecDeque<Place<'g, A>>
+    requires seats { seats.items ≡ map (seat_of floor.now.id floor.now.setup.plan.shards) parts.items }
+    requires at { All (λ p. IsAt A.meaning floor.now (seat_of floor.now.id floor.now.setup.plan.shards p) p) parts.items }
+    ensures { All (λ x. IsAt A.meaning floor.now x.0 x.1) result.items }
 {
-    let (graph, plan) = (&ground.graph, &ground.plan);
-    assert!(rt; graph.has(Vertex(1)));
-    assert!(rt; plan.vertices() == graph.vertices());
-    let mut parts = Vec::new(rt.alloc());
-    for shard in 0..plan.shards() {
-        let part = Part::open(rt.alloc(), algebra, graph, plan, Shard(shard), Vertex(1));
-        parts.push(part.expect(rt, "memory")).expect(rt, "memory");
+    let mut places = VecDeque::new(rt.alloc());
+    while let Some(part) = parts.pop() {
+        let seat = seats.pop().expect(rt, "a seat");
+        places.push_front((seat, part)).expect(rt, "memory");
     }
-    parts
+    places
 }
 
-/// A floor of two shards, and a seat and a part for each.
-fn two_places<'g, A: PathAlgebra>(
+/// A floor, and a seat and a part for each shard, in order.
+fn places<'g, A: PathAlgebra>(
     rt: &(impl Abort + AllocGlobal),
     algebra: A,
     ground: &'g Ground,
-) -> (Floor<A>, (Seat<A>, Part<'g, A>), (Seat<A>, Part<'g, A>))
-    ensures first { IsAt A.meaning result.0 result.1.0 result.1.1 }
-    ensures second { IsAt A.meaning result.0 result.2.0 result.2.1 }
+) -> (Floor<A>, VecDeque<Place<'g, A>>)
+    ensures { All (λ x. IsAt A.meaning result.0 x.0 x.1) result.1.items }
 {
-    assert!(rt; ground.plan.shards() == 2);
-    let mut parts = parts_of(rt, algebra, ground);
+    let parts = parts_of(rt, algebra, ground);
     let opened = Floor::open(rt.alloc(), &ground.plan, Vertex(1), &parts);
-    let (floor, mut seats) = opened.expect(rt, "memory");
-    let seat_1 = seats.pop().expect(rt, "a seat");
-    let seat_0 = seats.pop().expect(rt, "a seat");
-    let part_1 = parts.pop().expect(rt, "a part");
-    let part_0 = parts.pop().expect(rt, "a part");
-    (floor, (seat_0, part_0), (seat_1, part_1))
+    let (floor, seats) = opened.expect(rt, "memory");
+    let places = paired(rt, &floor, seats, parts);
+    (floor, places)
+}
+
+/// The two places of a list.
+fn both_of<'g, A: PathAlgebra>(
+    rt: &impl Abort,
+    floor: &Floor<A>,
+    mut places: VecDeque<Place<'g, A>>,
+) -> (Place<'g, A>, Place<'g, A>)
+    requires { All (λ x. IsAt A.meaning floor.now x.0 x.1) places.items }
+    ensures { IsAt A.meaning floor.now result.0.0 result.0.1 × IsAt A.meaning floor.now result.1.0 result.1.1 }
+{
+    assert!(rt; places.len() == 2);
+    let first = places.pop_front().expect(rt, "a place");
+    let second = places.pop_front().expect(rt, "a place");
+    (first, second)
 }
 
 /// Handles what waits.
@@ -71,6 +75,13 @@ fn work<A: PathAlgebra>(floor: &Floor<A>, seat: &Seat<A>, part: &mut Part<'_, A>
     ensures { IsAt A.meaning floor.now seat.now part.new }
 {
     part.handle(4096)
+}
+
+/// Whether a shard is another one than a place's own.
+fn is_other<A: PathAlgebra>(seat: &Seat<A>, part: &Part<'_, A>, shard: Shard) -> bool
+    ensures { IsTrue result → (shard ≢ seat.now.shard) × (shard ≢ part.now.shard) × (shard < part.now.setup.plan.shards) }
+{
+    shard != seat.shard() && part.is_other(shard)
 }
 
 /// Fills the next mailbox to a shard and publishes it, if it is another shard's and free.
@@ -83,15 +94,14 @@ fn send<A: PathAlgebra>(
     requires { IsAt A.meaning floor.now seat.old part.old }
     ensures { IsAt A.meaning floor.now seat.new part.new }
 {
-    if to == seat.shard() || !part.is_other(to) {
+    if !is_other(seat, part, to) {
         return false;
     }
-    if floor.try_fill(seat, part, to) {
-        floor.publish(seat, part, to);
-        true
-    } else {
-        false
+    if !floor.try_fill(seat, part, to) {
+        return false;
     }
+    floor.publish(seat, part, to);
+    true
 }
 
 /// Reads the next mailbox from a shard and gives it back, if it is another shard's and full.
@@ -104,56 +114,179 @@ fn fetch<A: PathAlgebra>(
     requires { IsAt A.meaning floor.now seat.old part.old }
     ensures { IsAt A.meaning floor.now seat.new part.new }
 {
-    if from == seat.shard() || !part.is_other(from) {
+    if !is_other(seat, part, from) {
         return false;
     }
-    if floor.try_read(seat, part, from) {
-        floor.clear(seat, part, from);
-        true
+    if !floor.try_read(seat, part, from) {
+        return false;
+    }
+    floor.clear(seat, part, from);
+    true
+}
+
+/// Tells the others that the question has ended, if the part knows it.
+fn announce<A: PathAlgebra>(floor: &Floor<A>, seat: &mut Seat<A>, part: &Part<'_, A>) -> bool
+    requires { IsAt A.meaning floor.now seat.old part.now }
+    ensures { IsAt A.meaning floor.now seat.new part.now }
+{
+    if !part.ended() {
+        return false;
+    }
+    floor.announce(seat, part);
+    true
+}
+
+/// What a place does at a floor of two shards, with what is to come of it.
+#[derive(Clone, Copy)]
+enum Step {
+    /// It handles what waits, so many items.
+    Work(u32),
+    /// It sends a batch, if a mailbox is free.
+    Send(bool),
+    /// It fetches a batch, if a mailbox is full.
+    Fetch(bool),
+    /// It sends a batch and fetches one at once, if it can do both.
+    Swap(bool),
+    /// It claims a mailbox to fill, if one is free, and leaves it open.
+    Claim(bool),
+    /// It tells the other of the end, which its part knows.
+    Announce,
+    /// It looks whether the other told of the end.
+    Look(bool),
+    /// It shows the label of a vertex.
+    Show(u32, Option<u64>),
+}
+
+/// Whether a vertex of a part has this label.
+fn shows<A: PathAlgebra<Value = u64>>(part: &Part<'_, A>, v: Vertex, label: Option<u64>) -> bool {
+    part.holds(v) && part.label(v) == label
+}
+
+/// Takes a step, and tells whether what is wanted came of it.
+fn comes_of<A: PathAlgebra<Value = u64>>(
+    floor: &Floor<A>,
+    seat: &mut Seat<A>,
+    part: &mut Part<'_, A>,
+    step: &Step,
+) -> bool
+    requires { IsAt A.meaning floor.now seat.old part.old }
+    ensures { IsAt A.meaning floor.now seat.new part.new }
+{
+    let other = if seat.shard() == Shard(0) {
+        Shard(1)
     } else {
-        false
+        Shard(0)
+    };
+    match step {
+        Step::Work(items) => work(floor, seat, part) == *items,
+        Step::Send(free) => send(floor, seat, part, other) == *free,
+        Step::Fetch(full) => fetch(floor, seat, part, other) == *full,
+        Step::Swap(both) => swap(floor, seat, part, other) == *both,
+        Step::Claim(free) => claim(floor, seat, part, other) == *free,
+        Step::Announce => announce(floor, seat, part),
+        Step::Look(told) => floor.look(seat, part) == *told,
+        Step::Show(v, label) => shows(part, Vertex(*v), *label),
     }
 }
 
-#[test]
-fn four_slots_then_full(rt: HostRuntime) {
-    let ground = two_vertices(&rt);
-    let (floor, (mut seat_0, mut part_0), (mut seat_1, mut part_1)) = two_places(
-        &rt, Shortest, &ground,
-    );
-    assert!(rt; send(&floor, &mut seat_0, &mut part_0, Shard(1)));
-    assert!(rt; send(&floor, &mut seat_0, &mut part_0, Shard(1)));
-    assert!(rt; send(&floor, &mut seat_0, &mut part_0, Shard(1)));
-    assert!(rt; send(&floor, &mut seat_0, &mut part_0, Shard(1)));
-    assert!(rt; !send(&floor, &mut seat_0, &mut part_0, Shard(1)));
-    assert!(rt; fetch(&floor, &mut seat_1, &mut part_1, Shard(0)));
-    assert!(rt; send(&floor, &mut seat_0, &mut part_0, Shard(1)));
-    assert!(rt; !floor.look(&mut seat_1, &part_1));
+/// Takes steps, and asserts that what is wanted comes of each.
+fn assert_steps<A: PathAlgebra<Value = u64>>(
+    rt: &impl Abort,
+    floor: &Floor<A>,
+    seat: &mut Seat<A>,
+    part: &mut Part<'_, A>,
+    steps: &[Step],
+)
+    requires { IsAt A.meaning floor.now seat.old part.old }
+    ensures { IsAt A.meaning floor.now seat.new part.new }
+{
+    for (i, step) in steps.iter().enumerate() {
+        assert!(rt; comes_of(floor, seat, part, step), "step {i}");
+    }
 }
 
-#[test]
-fn announce_and_look(rt: HostRuntime) {
-    let ground = two_vertices(&rt);
-    let (floor, (mut seat_0, mut part_0), (mut seat_1, mut part_1)) = two_places(
-        &rt, Shortest, &ground,
-    );
-    assert!(rt; work(&floor, &seat_0, &mut part_0) == 1);
-    assert!(rt; send(&floor, &mut seat_0, &mut part_0, Shard(1)));
-    assert!(rt; fetch(&floor, &mut seat_1, &mut part_1, Shard(0)));
-    assert!(rt; work(&floor, &seat_1, &mut part_1) == 1);
-    assert!(rt; send(&floor, &mut seat_1, &mut part_1, Shard(0)));
-    assert!(rt; !floor.look(&mut seat_1, &part_1));
-    assert!(rt; fetch(&floor, &mut seat_0, &mut part_0, Shard(1)));
-    assert!(rt; work(&floor, &seat_0, &mut part_0) == 2);
-    assert!(rt; part_0.ended());
-    floor.announce(&mut seat_0, &part_0);
-    assert!(rt; floor.look(&mut seat_1, &part_1));
-    assert!(rt; seat_0.shard() == Shard(0) && seat_1.shard() == Shard(1));
-    let seats = vec![in rt.alloc(); seat_0].expect(&rt, "memory");
+/// The first place of a list takes steps, and goes to the end.
+fn assert_turn<A: PathAlgebra<Value = u64>>(
+    rt: &impl Abort,
+    floor: &Floor<A>,
+    places: &mut VecDeque<Place<'_, A>>,
+    steps: &[Step],
+)
+    requires { All (λ x. IsAt A.meaning floor.now x.0 x.1) places.old.items }
+    ensures { All (λ x. IsAt A.meaning floor.now x.0 x.1) places.new.items }
+{
+    let (mut seat, mut part) = places.pop_front().expect(rt, "a place");
+    assert_steps(rt, floor, &mut seat, &mut part, steps);
+    places.push_back((seat, part)).expect(rt, "memory");
+}
+
+/// Asserts that a floor is closed by both of its seats, and not by one alone.
+fn assert_closes<A: PathAlgebra>(
+    rt: &(impl Abort + AllocGlobal),
+    floor: Floor<A>,
+    first: Place<'_, A>,
+    second: Place<'_, A>,
+)
+    requires first { IsAt A.meaning floor first.0 first.1 }
+    requires second { IsAt A.meaning floor second.0 second.1 }
+{
+    let (seat_0, _part_0) = first;
+    let (seat_1, _part_1) = second;
+    assert!(rt; seat_0.shard() == Shard(0));
+    assert!(rt; seat_1.shard() == Shard(1));
+    let seats = vec![in rt.alloc(); seat_0].expect(rt, "memory");
     let Err((floor, mut seats)) = floor.close(seats) else {
         panic!(rt; "closed with a seat missing")
     };
     assert!(rt; seats.len() == 1);
-    seats.push(seat_1).expect(&rt, "memory");
+    seats.push(seat_1).expect(rt, "memory");
     assert!(rt; floor.close(seats).is_ok());
+}
+
+/// Lets two places take steps in turn, and asserts what comes of each, and that both close the floor.
+fn assert_turns<A: PathAlgebra<Value = u64>>(
+    rt: &(impl Abort + AllocGlobal),
+    algebra: A,
+    ground: &Ground,
+    turns: &[&[Step]],
+) {
+    let (floor, mut places) = places(rt, algebra, ground);
+    for steps in turns {
+        assert_turn(rt, &floor, &mut places, steps);
+    }
+    let (first, second) = both_of(rt, &floor, places);
+    assert_closes(rt, floor, first, second);
+}
+
+#[test]
+fn four_slots_then_full(rt: HostRuntime) {
+    let turns: [&[Step]; 4] = [
+        &[
+            Step::Send(true),
+            Step::Send(true),
+            Step::Send(true),
+            Step::Send(true),
+            Step::Send(false),
+        ],
+        &[Step::Fetch(true)],
+        &[Step::Send(true)],
+        &[Step::Look(false)],
+    ];
+    assert_turns(&rt, Shortest, &two_vertices(&rt), &turns);
+}
+
+#[test]
+fn announce_and_look(rt: HostRuntime) {
+    let turns: [&[Step]; 4] = [
+        &[Step::Work(1), Step::Send(true)],
+        &[
+            Step::Fetch(true),
+            Step::Work(1),
+            Step::Send(true),
+            Step::Look(false),
+        ],
+        &[Step::Fetch(true), Step::Work(2), Step::Announce],
+        &[Step::Look(true)],
+    ];
+    assert_turns(&rt, Shortest, &two_vertices(&rt), &turns);
 }

@@ -1,44 +1,87 @@
 //! Plans, counters, and parts worked out by hand.
+ghost use Rattle.post_floor.specs.Data.{IsFresh};
 
-ghost use Rattle.std.specs.Prelude.{◌≡◌, ◌≤◌};
-
-use crate::graphs::{chain_of, five, graph_of};
+use crate::graphs::{Ground, blocks_of, chain_of, five, ground_of, two_vertices};
 use path_algebra::{PathAlgebra, Shortest, Within};
-use road_graph::{ArcNo, Graph, Vertex};
+use road_graph::{ArcNo, Vertex};
 use shard_part::{Batch, Part, Plan, PlanFault, Shard, Tally};
 use std::process::Abort;
 
-/// The part of a shard with source 1.
-fn open<'g, A: PathAlgebra>(
+/// The parts of all shards, with source 1.
+pub fn parts_of<'g, A: PathAlgebra>(
     rt: &(impl Abort + AllocGlobal),
     algebra: A,
-    graph: &'g Graph,
-    plan: &'g Plan,
-    shard: u8,
-) -> Part<'g, A> {
-    assert!(rt; graph.has(Vertex(1)) && plan.vertices() == graph.vertices());
-    assert!(rt; shard < plan.shards());
-    Part::open(rt.alloc(), algebra, graph, plan, Shard(shard), Vertex(1)).expect(rt, "memory")
+    ground: &'g Ground,
+) -> Vec<Part<'g, A>>
+    ensures { IsFresh A.meaning ground.now.plan 1 result.items }
+{
+    let (graph, plan) = (&ground.graph, &ground.plan);
+    assert!(rt; graph.has(Vertex(1)));
+    assert!(rt; plan.vertices() == graph.vertices());
+    let mut parts = Vec::new(rt.alloc());
+    for shard in 0..plan.shards() {
+        let part = Part::open(rt.alloc(), algebra, graph, plan, Shard(shard), Vertex(1));
+        parts.push(part.expect(rt, "memory")).expect(rt, "memory");
+    }
+    parts
 }
 
-fn label<A: PathAlgebra>(rt: &impl Abort, part: &Part<'_, A>, v: u32) -> Option<A::Value> {
+/// Asserts the label of a vertex of a part.
+fn assert_label<A: PathAlgebra<Value = u64>>(
+    rt: &impl Abort,
+    part: &Part<'_, A>,
+    v: u32,
+    wanted: Option<u64>,
+) {
     assert!(rt; part.holds(Vertex(v)));
-    part.label(Vertex(v))
+    assert!(rt; part.label(Vertex(v)) == wanted);
 }
 
-fn engager<A: PathAlgebra>(rt: &impl Abort, part: &Part<'_, A>, v: u32) -> Option<ArcNo> {
+/// Asserts the arc that engages a vertex of a part, and how many arcs out of the vertex are busy.
+fn assert_engaged<A: PathAlgebra>(
+    rt: &impl Abort,
+    part: &Part<'_, A>,
+    v: u32,
+    engager: Option<ArcNo>,
+    deficit: u32,
+) {
     assert!(rt; part.holds(Vertex(v)));
-    part.engager(Vertex(v))
+    assert!(rt; part.engager(Vertex(v)) == engager);
+    assert!(rt; part.deficit(Vertex(v)) == deficit);
 }
 
-fn deficit<A: PathAlgebra>(rt: &impl Abort, part: &Part<'_, A>, v: u32) -> u32 {
-    assert!(rt; part.holds(Vertex(v)));
-    part.deficit(Vertex(v))
-}
-
-fn outgoing<A: PathAlgebra>(rt: &impl Abort, part: &Part<'_, A>, to: u8) -> usize {
+/// Asserts how many items wait for another shard.
+fn assert_outgoing<A: PathAlgebra>(rt: &impl Abort, part: &Part<'_, A>, to: u8, wanted: usize) {
     assert!(rt; part.is_other(Shard(to)));
-    part.outgoing(Shard(to))
+    assert!(rt; part.outgoing(Shard(to)) == wanted);
+}
+
+/// Asserts whether a part knows that the question has ended.
+fn assert_ended<A: PathAlgebra>(rt: &impl Abort, part: &Part<'_, A>, wanted: bool) {
+    assert!(rt; part.ended() == wanted);
+}
+
+/// Asserts the four counts of a tally that is not full.
+pub fn assert_counts(rt: &impl Abort, tally: Tally, wanted: [u64; 4]) {
+    let [sent, delivered, signalled, accepted] = wanted;
+    let wanted = Tally {
+        sent,
+        delivered,
+        signalled,
+        accepted,
+        full: false,
+    };
+    assert!(rt; tally == wanted);
+}
+
+/// Asserts how many items a part handles, of so many that it may.
+fn assert_handled<A: PathAlgebra>(
+    rt: &impl Abort,
+    part: &mut Part<'_, A>,
+    budget: u32,
+    wanted: u32,
+) {
+    assert!(rt; part.handle(budget) == wanted);
 }
 
 /// What a part has sent to another shard.
@@ -55,22 +98,27 @@ fn taken_out<A: PathAlgebra>(
 
 /// A batch comes to the part that it leads to.
 fn put_in<A: PathAlgebra>(rt: &impl Abort, part: &mut Part<'_, A>, mut batch: Batch<A::Value>) {
-    assert!(rt; part.fits(&batch) && batch.len() <= part.room());
+    assert!(rt; part.fits(&batch));
+    assert!(rt; batch.len() <= part.room());
     let capacity = batch.capacity();
     part.receive(&mut batch);
-    assert!(rt; batch.len() == 0 && batch.capacity() == capacity);
+    assert!(rt; batch.len() == 0);
+    assert!(rt; batch.capacity() == capacity);
 }
 
-/// The four counts of a tally that is not full.
-fn counts_are<A: PathAlgebra>(rt: &impl Abort, part: &Part<'_, A>, wanted: [u64; 4]) {
-    let tally = part.tally();
-    assert!(rt; !tally.full);
-    assert!(rt; tally.sent == wanted[0] && tally.delivered == wanted[1]);
-    assert!(rt; tally.signalled == wanted[2] && tally.accepted == wanted[3]);
+/// What a part has sent to another shard comes to the part of that shard.
+fn pass<A: PathAlgebra>(
+    rt: &(impl Abort + AllocGlobal),
+    from: &mut Part<'_, A>,
+    to: u8,
+    into: &mut Part<'_, A>,
+) {
+    let batch = taken_out(rt, from, to);
+    put_in(rt, into, batch);
 }
 
-/// The shard of each vertex, from vertex 1 on.
-fn shards_are(rt: &impl Abort, plan: &Plan, wanted: &[u8]) {
+/// Asserts the shard of each vertex, from vertex 1 on.
+fn assert_shards(rt: &impl Abort, plan: &Plan, wanted: &[u8]) {
     assert!(rt; plan.vertices() as usize == wanted.len());
     for (i, shard) in wanted.iter().enumerate() {
         assert!(rt; i < 1000 && i < plan.vertices() as usize);
@@ -80,43 +128,43 @@ fn shards_are(rt: &impl Abort, plan: &Plan, wanted: &[u8]) {
 
 #[test]
 fn blocks_of_a_plan(rt: HostRuntime) {
-    let plan = Plan::blocks(rt.alloc(), 5, 3).expect(&rt, "memory");
-    shards_are(&rt, &plan, &[0, 0, 1, 1, 2]);
-    let plan = Plan::blocks(rt.alloc(), 2, 64).expect(&rt, "memory");
-    shards_are(&rt, &plan, &[0, 32]);
-    let plan = Plan::blocks(rt.alloc(), 0, 4).expect(&rt, "memory");
-    assert!(rt; plan.shards() == 4 && plan.vertices() == 0);
+    assert_shards(&rt, &blocks_of(&rt, 5, 3), &[0, 0, 1, 1, 2]);
+    assert_shards(&rt, &blocks_of(&rt, 2, 64), &[0, 32]);
+    let plan = blocks_of(&rt, 0, 4);
+    assert!(rt; plan.shards() == 4);
+    assert!(rt; plan.vertices() == 0);
+}
+
+/// The plan of two shards that a table gives, or why it gives none, and the table.
+fn in_two(rt: &impl Abort, table: Vec<u8>) -> Result<Plan, (PlanFault, Vec<u8>)> {
+    assert!(rt; table.len() <= 1000);
+    Plan::table(2, table)
 }
 
 #[test]
 fn refusals_hand_back(rt: HostRuntime) {
-    let mut list = Vec::new(rt.alloc());
-    for shard in 0..3 {
-        list.push(shard).expect(&rt, "memory");
-    }
-    assert!(rt; list.len() <= 1000);
-    let (fault, mut list) = match Plan::table(2, list) {
-        Ok(_) => panic!(rt; "taken"),
-        Err(refused) => refused,
+    let table = vec![in rt.alloc(); 0u8, 1, 2].expect(&rt, "memory");
+    let Err((fault, mut table)) = in_two(&rt, table) else {
+        panic!(rt; "taken")
     };
-    assert!(rt; fault == PlanFault::BadShard(Vertex(3)) && list.len() == 3);
-    assert!(rt; list.pop() == Some(2));
-    assert!(rt; list.len() <= 1000);
-    match Plan::table(2, list) {
-        Ok(plan) => shards_are(&rt, &plan, &[0, 1]),
-        Err(_) => panic!(rt; "refused"),
-    }
+    assert!(rt; fault == PlanFault::BadShard(Vertex(3)));
+    assert!(rt; table.len() == 3);
+    assert!(rt; table.pop() == Some(2));
+    let Ok(plan) = in_two(&rt, table) else {
+        panic!(rt; "refused")
+    };
+    assert_shards(&rt, &plan, &[0, 1]);
 }
 
 #[test]
 fn counter_stops_at_its_top(rt: HostRuntime) {
     let mut tally = Tally::new();
-    tally.add_sent(u64::MAX - 1);
-    assert!(rt; tally.sent == u64::MAX - 1 && !tally.full);
-    tally.add_sent(1);
-    assert!(rt; tally.sent == u64::MAX && tally.full);
-    tally.add_sent(1);
-    assert!(rt; tally.sent == u64::MAX && tally.full);
+    let top = u64::MAX;
+    for (more, sent, full) in [(top - 1, top - 1, false), (1, top, true), (1, top, true)] {
+        tally.add_sent(more);
+        assert!(rt; tally.sent == sent);
+        assert!(rt; tally.full == full);
+    }
 }
 
 #[test]
@@ -129,111 +177,137 @@ fn tallies_are_joined(rt: HostRuntime) {
     other.add_accepted(1);
     other.add_sent(1);
     one.add(&other);
-    assert!(rt; one.sent == 5 && one.delivered == 3 && one.signalled == 2 && one.accepted == 1);
-    assert!(rt; !one.full);
+    assert_counts(&rt, one, [5, 3, 2, 1]);
 }
 
-#[test]
-fn two_parts_by_hand(rt: HostRuntime) {
-    let graph = graph_of(&rt, 2, &[(1, 2, 7)]);
-    let plan = Plan::blocks(rt.alloc(), 2, 2).expect(&rt, "memory");
-    let mut first = open(&rt, Shortest, &graph, &plan, 0);
-    let mut second = open(&rt, Shortest, &graph, &plan, 1);
-    source_alone_has_an_item(&rt, &first, &second);
-    assert!(rt; first.handle(1) == 1);
-    source_is_engaged(&rt, &first);
-    let batch = taken_out(&rt, &mut first, 1);
-    one_message_for_the_second(&rt, &batch, &first, &second);
-    put_in(&rt, &mut second, batch);
-    assert!(rt; second.handle(1) == 1);
-    target_has_answered(&rt, &second);
-    let batch = taken_out(&rt, &mut second, 0);
-    assert!(rt; !second.fits(&batch));
-    put_in(&rt, &mut first, batch);
-    assert!(rt; first.handle(5) == 2);
-    assert!(rt; first.ended());
-    assert!(rt; !second.ended());
+/// Asserts that so many items wait at a part, which has room for one more and knows of no end.
+fn assert_waiting<A: PathAlgebra>(rt: &impl Abort, part: &Part<'_, A>, queued: usize) {
+    assert!(rt; part.queued() == queued);
+    assert!(rt; part.room() == 1);
+    assert!(rt; !part.ended());
 }
 
-/// Before any event the message of the environment waits at the source's part, and nothing elsewhere.
-fn source_alone_has_an_item(
-    rt: &impl Abort,
-    first: &Part<'_, Shortest>,
-    second: &Part<'_, Shortest>,
-) {
-    assert!(rt; first.queued() == 1);
-    assert!(rt; second.queued() == 0);
-    assert!(rt; first.room() == 1);
-    assert!(rt; second.room() == 1);
-    assert!(rt; !first.ended());
-    assert!(rt; !second.ended());
-    assert!(rt; first.holds(Vertex(1)));
-    assert!(rt; !first.holds(Vertex(2)));
-    assert!(rt; !first.holds(Vertex(3)));
+/// Asserts whether each of some vertices is one of a part's.
+fn assert_holds<A: PathAlgebra>(rt: &impl Abort, part: &Part<'_, A>, wanted: &[(u32, bool)]) {
+    for (v, held) in wanted {
+        assert!(rt; part.holds(Vertex(*v)) == *held);
+    }
 }
 
-/// The source took the environment's message, and told vertex 2.
-fn source_is_engaged(rt: &impl Abort, first: &Part<'_, Shortest>) {
-    assert!(rt; label(rt, first, 1) == Some(0));
-    assert!(rt; engager(rt, first, 1) == Some(ArcNo(0)));
-    assert!(rt; deficit(rt, first, 1) == 1);
-    assert!(rt; outgoing(rt, first, 1) == 1);
-}
-
-/// What the first part sends is one message, and fits the second alone.
-fn one_message_for_the_second(
-    rt: &impl Abort,
-    batch: &Batch<u64>,
-    first: &Part<'_, Shortest>,
-    second: &Part<'_, Shortest>,
-) {
+/// Asserts that a batch is one item, with no room for another.
+fn assert_single<V: Copy>(rt: &impl Abort, batch: &Batch<V>) {
     assert!(rt; batch.len() == 1);
     assert!(rt; batch.capacity() == 1);
     assert!(rt; batch.get(0).is_some());
     assert!(rt; batch.get(1).is_none());
-    assert!(rt; outgoing(rt, first, 1) == 0);
-    assert!(rt; second.fits(batch));
-    assert!(rt; !first.fits(batch));
 }
 
-/// Vertex 2 took its message, and has sent the signal back.
-fn target_has_answered(rt: &impl Abort, second: &Part<'_, Shortest>) {
-    assert!(rt; label(rt, second, 2) == Some(7));
-    assert!(rt; engager(rt, second, 2).is_none());
-    assert!(rt; deficit(rt, second, 2) == 0);
-    assert!(rt; outgoing(rt, second, 0) == 1);
+/// Asserts whether a part can take a batch.
+fn assert_fits<A: PathAlgebra>(
+    rt: &impl Abort,
+    part: &Part<'_, A>,
+    batch: &Batch<A::Value>,
+    wanted: bool,
+) {
+    assert!(rt; part.fits(batch) == wanted);
+}
+
+/// The source takes the environment's message, and tells vertex 2.
+fn message_goes_over<A: PathAlgebra<Value = u64>>(
+    rt: &(impl Abort + AllocGlobal),
+    first: &mut Part<'_, A>,
+    second: &mut Part<'_, A>,
+) {
+    assert_handled(rt, first, 1, 1);
+    assert_label(rt, first, 1, Some(0));
+    assert_engaged(rt, first, 1, Some(ArcNo(0)), 1);
+    assert_outgoing(rt, first, 1, 1);
+    let batch = taken_out(rt, first, 1);
+    assert_outgoing(rt, first, 1, 0);
+    assert_single(rt, &batch);
+    assert_fits(rt, first, &batch, false);
+    assert_fits(rt, second, &batch, true);
+    put_in(rt, second, batch);
+}
+
+/// Vertex 2 takes its message, and sends the signal back, with which the question ends.
+fn signal_comes_back<A: PathAlgebra<Value = u64>>(
+    rt: &(impl Abort + AllocGlobal),
+    first: &mut Part<'_, A>,
+    second: &mut Part<'_, A>,
+) {
+    assert_handled(rt, second, 1, 1);
+    assert_label(rt, second, 2, Some(7));
+    assert_engaged(rt, second, 2, None, 0);
+    assert_outgoing(rt, second, 0, 1);
+    let batch = taken_out(rt, second, 0);
+    assert_fits(rt, second, &batch, false);
+    put_in(rt, first, batch);
+    assert_handled(rt, first, 5, 2);
+}
+
+/// Asserts what two parts do by hand, step by step.
+fn assert_by_hand<A: PathAlgebra<Value = u64>>(
+    rt: &(impl Abort + AllocGlobal),
+    parts: &mut [Part<'_, A>],
+) {
+    let (first, rest) = parts.split_first_mut().expect(rt, "two parts");
+    let second = rest.first_mut().expect(rt, "two parts");
+    assert_waiting(rt, first, 1);
+    assert_waiting(rt, second, 0);
+    assert_holds(rt, first, &[(1, true), (2, false), (3, false)]);
+    message_goes_over(rt, first, second);
+    signal_comes_back(rt, first, second);
+    assert_ended(rt, first, true);
+    assert_ended(rt, second, false);
+}
+
+#[test]
+fn two_parts_by_hand(rt: HostRuntime) {
+    let ground = two_vertices(&rt);
+    assert_by_hand(&rt, &mut parts_of(&rt, Shortest, &ground));
+}
+
+/// Asserts the counts of two parts before a message goes over and a signal comes back, and after it.
+fn assert_tallies<A: PathAlgebra>(rt: &(impl Abort + AllocGlobal), parts: &mut [Part<'_, A>]) {
+    let (first, rest) = parts.split_first_mut().expect(rt, "two parts");
+    let second = rest.first_mut().expect(rt, "two parts");
+    assert_counts(rt, first.tally(), [1, 0, 0, 0]);
+    assert_counts(rt, second.tally(), [0, 0, 0, 0]);
+    assert_handled(rt, first, 9, 1);
+    pass(rt, first, 1, second);
+    assert_handled(rt, second, 9, 1);
+    pass(rt, second, 0, first);
+    assert_handled(rt, first, 9, 2);
+    assert_counts(rt, first.tally(), [2, 1, 1, 2]);
+    assert_counts(rt, second.tally(), [0, 1, 1, 0]);
 }
 
 #[test]
 fn tallies_of_two_parts(rt: HostRuntime) {
-    let graph = graph_of(&rt, 2, &[(1, 2, 7)]);
-    let plan = Plan::blocks(rt.alloc(), 2, 2).expect(&rt, "memory");
-    let mut first = open(&rt, Shortest, &graph, &plan, 0);
-    let mut second = open(&rt, Shortest, &graph, &plan, 1);
-    counts_are(&rt, &first, [1, 0, 0, 0]);
-    counts_are(&rt, &second, [0, 0, 0, 0]);
-    assert!(rt; first.handle(9) == 1);
-    let batch = taken_out(&rt, &mut first, 1);
-    put_in(&rt, &mut second, batch);
-    assert!(rt; second.handle(9) == 1);
-    let batch = taken_out(&rt, &mut second, 0);
-    put_in(&rt, &mut first, batch);
-    assert!(rt; first.handle(9) == 2);
-    counts_are(&rt, &first, [2, 1, 1, 2]);
-    counts_are(&rt, &second, [0, 1, 1, 0]);
+    let ground = two_vertices(&rt);
+    assert_tallies(&rt, &mut parts_of(&rt, Shortest, &ground));
+}
+
+/// Asserts that the first part alone ends the question, and sends nothing to two others.
+fn assert_ends_alone<A: PathAlgebra<Value = u64>>(rt: &impl Abort, parts: &mut [Part<'_, A>]) {
+    let [first, _, _] = parts else {
+        panic!(rt; "not three parts")
+    };
+    assert_handled(rt, first, 9, 2);
+    assert_ended(rt, first, true);
+    assert_label(rt, first, 1, Some(0));
+    assert_label(rt, first, 2, None);
+    assert_outgoing(rt, first, 1, 0);
+    assert_outgoing(rt, first, 2, 0);
+    assert_counts(rt, first.tally(), [1, 1, 1, 1]);
 }
 
 #[test]
 fn limit_zero_in_parts(rt: HostRuntime) {
-    let graph = five(&rt);
-    let plan = Plan::blocks(rt.alloc(), 5, 3).expect(&rt, "memory");
+    let ground = ground_of(&rt, five(&rt), 3);
     let algebra = Within::new(0).expect(&rt, "a small limit");
-    let mut first = open(&rt, algebra, &graph, &plan, 0);
-    assert!(rt; first.handle(9) == 2);
-    assert!(rt; first.ended());
-    assert!(rt; label(&rt, &first, 1) == Some(0) && label(&rt, &first, 2).is_none());
-    assert!(rt; outgoing(&rt, &first, 1) == 0 && outgoing(&rt, &first, 2) == 0);
-    counts_are(&rt, &first, [1, 1, 1, 1]);
+    assert_ends_alone(&rt, &mut parts_of(&rt, algebra, &ground));
 }
 
 /// For how many items the queue and the outboxes of a part have room.
@@ -247,17 +321,24 @@ fn rings_of<A: PathAlgebra>(part: &Part<'_, A>, shards: u8) -> usize {
     sum
 }
 
+/// For how many items the queues and the outboxes of so many parts of a chain have room.
+fn rings_of_chain<A: PathAlgebra>(
+    rt: &(impl Abort + AllocGlobal),
+    algebra: A,
+    n: u32,
+    shards: u8,
+) -> usize {
+    let ground = ground_of(rt, chain_of(rt, n, 1), shards);
+    let mut sum: usize = 0;
+    for part in &parts_of(rt, algebra, &ground) {
+        sum = sum.saturating_add(rings_of(part, shards));
+    }
+    sum
+}
+
 #[test]
 fn parts_reserve_for_their_own(rt: HostRuntime) {
-    let graph = chain_of(&rt, 100_000, 1);
-    let whole_plan = Plan::blocks(rt.alloc(), 100_000, 1).expect(&rt, "memory");
-    let whole = rings_of(&open(&rt, Shortest, &graph, &whole_plan, 0), 1);
-    let plan = Plan::blocks(rt.alloc(), 100_000, 64).expect(&rt, "memory");
-    let mut parts: usize = 0;
-    for shard in 0..64 {
-        let part = open(&rt, Shortest, &graph, &plan, shard);
-        parts = parts.saturating_add(rings_of(&part, 64));
-    }
     // An item on each of 99,999 arcs and on arc 0; 63 arcs lead from one shard to the next.
-    assert!(rt; whole == 100_000 && parts == 100_000 + 3 * 63);
+    assert!(rt; rings_of_chain(&rt, Shortest, 100_000, 1) == 100_000);
+    assert!(rt; rings_of_chain(&rt, Shortest, 100_000, 64) == 100_000 + 3 * 63);
 }

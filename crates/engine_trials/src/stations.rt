@@ -3,29 +3,22 @@ ghost use Rattle.std.specs.Prelude.{◌≡◌, ℕ, ◌+◌, ◌<◌, Bool, [], 
 ghost use Rattle.std.specs.List.{All};
 ghost use Rattle.path_algebra.specs.Given.{reach};
 ghost use Rattle.scholten_core.specs.Accounts.{AreMarksOfReached, count_marked};
+ghost use Rattle.shard_part.specs.PartState.{Setup};
 ghost use Rattle.station.specs.Gather.{IsGathered, each_shows};
 ghost use Rattle.station.specs.Station.{BelongsTo};
 
 mod threads;
 
-use crate::graphs::{SHORTEST, five};
+use crate::graphs::{SHORTEST, blocks_of, five};
+use crate::parts::assert_counts;
 use path_algebra::{Hops, PathAlgebra, Reach, Reliable, Shortest, Widest, Within};
 use post_floor::Floor;
 use road_graph::{Graph, Vertex};
-use shard_part::{Plan, Shard, Tally};
+use shard_part::{Plan, Shard};
 use station::{
     Finished, Gathered, Station, Ungathered, Why, gather, open_question, reach_counts_each_arc_once,
 };
 use std::process::Abort;
-
-/// The five vertices in blocks.
-pub fn blocks(rt: &(impl Abort + AllocGlobal), shards: u8) -> Plan {
-    assert!(rt; 1 <= shards && shards <= 64);
-    match Plan::blocks(rt.alloc(), 5, shards) {
-        Ok(plan) => plan,
-        Err(_) => Plan::blocks(rt.alloc(), 5, shards).expect(rt, "memory"),
-    }
-}
 
 /// The five vertices in three shards, as a table says.
 fn by_table(rt: &(impl Abort + AllocGlobal)) -> Plan {
@@ -204,24 +197,26 @@ fn gathered<A: PathAlgebra>(
     }
 }
 
-/// The answer of a question over the five vertices, after so many turns.
+/// The answer of a question, after so many turns.
 fn answered<A: PathAlgebra>(
     rt: &(impl Abort + AllocGlobal),
     algebra: A,
+    graph: &Graph,
     plan: &Plan,
     source: u32,
     budget: u32,
     turns: usize,
-) -> Gathered<A::Value> {
-    let graph = five(rt);
-    let (floor, stations) = opened(rt, algebra, &graph, plan, source);
+) -> Gathered<A::Value>
+    ensures { (q : Setup A) × IsGathered A.meaning q result × (q.question.roads ≡ graph.now) × (q.question.source ≡ source) }
+{
+    let (floor, stations) = opened(rt, algebra, graph, plan, source);
     let stations = turned(rt, &floor, stations, budget, turns);
     let done = finished(rt, &floor, stations);
     gathered(rt, floor, done)
 }
 
-/// The label of each vertex, by the code of its value.
-fn labels_are<A: PathAlgebra>(
+/// Asserts the label of each of the five vertices, by the code of its value.
+fn assert_labels<A: PathAlgebra>(
     rt: &impl Abort,
     algebra: A,
     gathered: &Gathered<A::Value>,
@@ -237,52 +232,59 @@ fn labels_are<A: PathAlgebra>(
     }
 }
 
-/// All four counts of a question that has ended.
-fn counts_are(rt: &impl Abort, tally: Tally, wanted: u64) {
-    assert!(rt; tally.sent == wanted && tally.delivered == wanted);
-    assert!(rt; tally.signalled == wanted && tally.accepted == wanted);
-    assert!(rt; !tally.full);
+/// Asserts the labels of the five vertices from vertex 1, after so many turns.
+fn assert_answer<A: PathAlgebra>(
+    rt: &(impl Abort + AllocGlobal),
+    algebra: A,
+    plan: &Plan,
+    budget: u32,
+    turns: usize,
+    wanted: [Option<u64>; 5],
+) {
+    let gathered = answered(rt, algebra, &five(rt), plan, 1, budget, turns);
+    assert_labels(rt, algebra, &gathered, wanted);
 }
 
 #[test]
 fn stations_in_turn(rt: HostRuntime) {
-    let gathered = answered(&rt, Shortest, &blocks(&rt, 3), 1, 1, 200);
-    labels_are(&rt, Shortest, &gathered, SHORTEST);
+    assert_answer(&rt, Shortest, &blocks_of(&rt, 5, 3), 1, 200, SHORTEST);
 }
 
-#[test]
-fn ends_within_two_hundred_turns(rt: HostRuntime) {
-    let graph = five(&rt);
-    let plan = blocks(&rt, 3);
-    let (floor, stations) = opened(&rt, Shortest, &graph, &plan, 1);
-    let stations = turned(&rt, &floor, stations, 1, 200);
-    for station in &stations {
+/// Asserts that all stations of a question from vertex 1 have ended, after so many turns.
+fn assert_all_ended<A: PathAlgebra>(
+    rt: &(impl Abort + AllocGlobal),
+    algebra: A,
+    graph: &Graph,
+    plan: &Plan,
+    turns: usize,
+) {
+    let (floor, stations) = opened(rt, algebra, graph, plan, 1);
+    for station in &turned(rt, &floor, stations, 1, turns) {
         assert!(rt; station.ended());
     }
 }
 
 #[test]
+fn ends_within_two_hundred_turns(rt: HostRuntime) {
+    assert_all_ended(&rt, Shortest, &five(&rt), &blocks_of(&rt, 5, 3), 200);
+}
+
+#[test]
 fn any_plan(rt: HostRuntime) {
     for shards in [1, 2, 5, 64] {
-        let gathered = answered(&rt, Shortest, &blocks(&rt, shards), 1, 1024, 1000);
-        labels_are(&rt, Shortest, &gathered, SHORTEST);
+        let plan = blocks_of(&rt, 5, shards);
+        assert_answer(&rt, Shortest, &plan, 1024, 1000, SHORTEST);
     }
-    let gathered = answered(&rt, Shortest, &by_table(&rt), 1, 2, 200);
-    labels_are(&rt, Shortest, &gathered, SHORTEST);
+    assert_answer(&rt, Shortest, &by_table(&rt), 2, 200, SHORTEST);
 }
 
 #[test]
 fn each_algebra(rt: HostRuntime) {
-    let plan = blocks(&rt, 3);
+    let plan = blocks_of(&rt, 5, 3);
     let widest = [Some(4_294_967_296), Some(4), Some(1), Some(4), None];
-    labels_are(
-        &rt,
-        Widest,
-        &answered(&rt, Widest, &plan, 1, 3, 200),
-        widest,
-    );
+    assert_answer(&rt, Widest, &plan, 3, 200, widest);
     let hops = [Some(0), Some(1), Some(1), Some(2), None];
-    labels_are(&rt, Hops, &answered(&rt, Hops, &plan, 1, 3, 200), hops);
+    assert_answer(&rt, Hops, &plan, 3, 200, hops);
     let reliable = [
         Some(1_000_000_000_000),
         Some(4_000_000),
@@ -290,15 +292,9 @@ fn each_algebra(rt: HostRuntime) {
         Some(20),
         None,
     ];
-    labels_are(
-        &rt,
-        Reliable,
-        &answered(&rt, Reliable, &plan, 1, 3, 200),
-        reliable,
-    );
-    let within = Within { limit: 5 };
+    assert_answer(&rt, Reliable, &plan, 3, 200, reliable);
     let near = [Some(0), Some(3), Some(1), None, None];
-    labels_are(&rt, within, &answered(&rt, within, &plan, 1, 3, 200), near);
+    assert_answer(&rt, Within { limit: 5 }, &plan, 3, 200, near);
 }
 
 /// The answer of reachability: in every schedule each counter shows one, and one more for each arc whose tail is reached.
@@ -311,69 +307,98 @@ fn reached(
 ) -> Gathered<()>
     ensures { (marked : ℕ → Bool) → AreMarksOfReached reach graph.now source marked → result.tally ≡ each_shows (1 + count_marked graph.now marked) }
 {
-    let (floor, stations) = opened(rt, Reach, graph, plan, source);
-    let stations = turned(rt, &floor, stations, budget, 200);
-    let done = finished(rt, &floor, stations);
-    let gathered = gathered(rt, floor, done);
+    let gathered = answered(rt, Reach, graph, plan, source, budget, 200);
     reach_counts_each_arc_once();
     gathered
 }
 
+/// Asserts which of the five vertices are reached from a vertex, and what each counter shows.
+fn assert_reached(
+    rt: &(impl Abort + AllocGlobal),
+    plan: &Plan,
+    source: u32,
+    budget: u32,
+    wanted: [Option<u64>; 5],
+    count: u64,
+) {
+    let gathered = reached(rt, &five(rt), plan, source, budget);
+    assert_labels(rt, Reach, &gathered, wanted);
+    assert_counts(rt, gathered.tally, [count; 4]);
+}
+
 #[test]
 fn reach_accounts(rt: HostRuntime) {
-    let graph = five(&rt);
+    let plan = blocks_of(&rt, 5, 3);
+    let wanted = [Some(0), Some(0), Some(0), Some(0), None];
     for budget in [1, 2, 1000] {
-        let gathered = reached(&rt, &graph, &blocks(&rt, 3), 1, budget);
-        labels_are(
-            &rt,
-            Reach,
-            &gathered,
-            [Some(0), Some(0), Some(0), Some(0), None],
-        );
-        counts_are(&rt, gathered.tally, 7);
+        assert_reached(&rt, &plan, 1, budget, wanted, 7);
     }
-    let gathered = reached(&rt, &graph, &by_table(&rt), 1, 1);
-    counts_are(&rt, gathered.tally, 7);
+    assert_reached(&rt, &by_table(&rt), 1, 1, wanted, 7);
 }
 
 #[test]
 fn reach_accounts_from_other_sources(rt: HostRuntime) {
-    let graph = five(&rt);
-    let plan = blocks(&rt, 3);
-    counts_are(&rt, reached(&rt, &graph, &plan, 4, 1).tally, 2);
-    counts_are(&rt, reached(&rt, &graph, &plan, 5, 1).tally, 8);
+    let plan = blocks_of(&rt, 5, 3);
+    let four_alone = [None, None, None, Some(0), None];
+    assert_reached(&rt, &plan, 4, 1, four_alone, 2);
+    assert_reached(&rt, &plan, 5, 1, [Some(0); 5], 8);
 }
 
 /// The label of a vertex, as a station shows it.
-fn peeked<A: PathAlgebra>(rt: &impl Abort, station: &Station<'_, A>, v: u32) -> Option<A::Value> {
+pub fn peeked<A: PathAlgebra>(
+    rt: &impl Abort,
+    station: &Station<'_, A>,
+    v: u32,
+) -> Option<A::Value> {
     assert!(rt; station.holds(Vertex(v)));
     station.peek(Vertex(v))
+}
+
+/// Asserts that a label that was there before is there, and no greater.
+fn assert_no_greater(rt: &impl Abort, now: Option<u64>, before: Option<u64>) {
+    if let Some(before) = before {
+        let now = now.expect(rt, "a label");
+        assert!(rt; now <= before);
+    }
+}
+
+/// Asserts that the label of a vertex of the second of three stations never grows, and what it is in the end.
+fn assert_never_grows<A: PathAlgebra<Value = u64>>(
+    rt: &impl Abort,
+    floor: &Floor<A>,
+    stations: Vec<Station<'_, A>>,
+    v: u32,
+    wanted: Option<u64>,
+)
+    requires { All (BelongsTo floor.now) stations.items }
+{
+    let mut stations = stations;
+    let mut last = None;
+    for turn in 0..200 {
+        stations = turned_once(rt, floor, stations, turn % 3, 1);
+        assert!(rt; stations.len() == 3);
+        assert!(rt; stations[1].shard() == Shard(1));
+        let label = peeked(rt, &stations[1], v);
+        assert_no_greater(rt, label, last);
+        last = label;
+    }
+    assert!(rt; last == wanted);
 }
 
 #[test]
 fn peek_never_grows(rt: HostRuntime) {
     let graph = five(&rt);
-    let plan = blocks(&rt, 3);
+    let plan = blocks_of(&rt, 5, 3);
     let (floor, stations) = opened(&rt, Shortest, &graph, &plan, 1);
-    let mut stations = stations;
-    let mut last = None;
-    for turn in 0..200 {
-        stations = turned_once(&rt, &floor, stations, turn % 3, 1);
-        assert!(rt; stations.len() == 3 && stations[1].shard() == Shard(1));
-        let label = peeked(&rt, &stations[1], 4);
-        if let Some(before) = last {
-            assert!(rt; label.is_some_and(|now| now <= before));
-        }
-        last = label;
-    }
-    assert!(rt; last == Some(8));
+    assert_never_grows(&rt, &floor, stations, 4, Some(8));
 }
 
-/// What comes back where the station of shard 1 is missing, and of no shard before it.
+/// What comes back where the station of shard 1 is missing, and of no shard before it: so many stations.
 fn refused<'g, A: PathAlgebra>(
     rt: &(impl Abort + AllocGlobal),
     floor: Floor<A>,
     done: Vec<Finished<'g, A>>,
+    wanted: usize,
 ) -> (Floor<A>, Vec<Finished<'g, A>>)
     requires { All (BelongsTo floor) done.items }
     ensures floor { result.0 ≡ floor }
@@ -388,37 +413,60 @@ fn refused<'g, A: PathAlgebra>(
         stations,
     } = back;
     assert!(rt; why == Why::Missing(Shard(1)));
+    assert!(rt; stations.len() == wanted);
     (floor, stations)
+}
+
+/// The answer of three stations, asked for in vain of the first, and of the first and the third.
+fn gathered_at_last<A: PathAlgebra>(
+    rt: &(impl Abort + AllocGlobal),
+    floor: Floor<A>,
+    stations: Vec<Station<'_, A>>,
+) -> Gathered<A::Value>
+    requires { All (BelongsTo floor) stations.items }
+{
+    let mut stations = stations;
+    let third = last_of(rt, &floor, &mut stations);
+    let second = last_of(rt, &floor, &mut stations);
+    let done = finished(rt, &floor, stations);
+    let (floor, done) = refused(rt, floor, done, 1);
+    let done = with_one_more(rt, &floor, done, third);
+    let (floor, done) = refused(rt, floor, done, 2);
+    let done = with_one_more(rt, &floor, done, second);
+    gathered(rt, floor, done)
+}
+
+/// Asserts the labels of the five vertices from vertex 1, gathered after two refusals.
+fn assert_gathered_at_last<A: PathAlgebra>(
+    rt: &(impl Abort + AllocGlobal),
+    algebra: A,
+    plan: &Plan,
+    wanted: [Option<u64>; 5],
+) {
+    let graph = five(rt);
+    let (floor, stations) = opened(rt, algebra, &graph, plan, 1);
+    let stations = turned(rt, &floor, stations, 1, 200);
+    let gathered = gathered_at_last(rt, floor, stations);
+    assert_labels(rt, algebra, &gathered, wanted);
 }
 
 #[test]
 fn refusals_hand_back(rt: HostRuntime) {
-    let graph = five(&rt);
-    let plan = blocks(&rt, 3);
-    let (floor, stations) = opened(&rt, Shortest, &graph, &plan, 1);
-    let mut stations = turned(&rt, &floor, stations, 1, 200);
-    let third = last_of(&rt, &floor, &mut stations);
-    let second = last_of(&rt, &floor, &mut stations);
-    let done = finished(&rt, &floor, stations);
-    let (floor, done) = refused(&rt, floor, done);
-    assert!(rt; done.len() == 1);
-    let done = with_one_more(&rt, &floor, done, third);
-    let (floor, done) = refused(&rt, floor, done);
-    assert!(rt; done.len() == 2);
-    let done = with_one_more(&rt, &floor, done, second);
-    labels_are(&rt, Shortest, &gathered(&rt, floor, done), SHORTEST);
+    assert_gathered_at_last(&rt, Shortest, &blocks_of(&rt, 5, 3), SHORTEST);
+}
+
+/// Asserts that a station that never turned is not finished, and comes back.
+fn assert_unfinished<A: PathAlgebra>(rt: &impl Abort, station: Station<'_, A>, shard: Shard) {
+    let station = station.finish().err().expect(rt, "an unfinished station");
+    assert!(rt; !station.ended());
+    assert!(rt; station.shard() == shard);
 }
 
 #[test]
 fn finish_before_any_turn(rt: HostRuntime) {
     let graph = five(&rt);
-    let plan = blocks(&rt, 3);
+    let plan = blocks_of(&rt, 5, 3);
     let (_floor, mut stations) = opened(&rt, Shortest, &graph, &plan, 1);
-    let Some(station) = stations.pop() else {
-        panic!(rt; "none")
-    };
-    let Err(station) = station.finish() else {
-        panic!(rt; "finished")
-    };
-    assert!(rt; !station.ended() && station.shard() == Shard(2));
+    let station = stations.pop().expect(&rt, "a station");
+    assert_unfinished(&rt, station, Shard(2));
 }

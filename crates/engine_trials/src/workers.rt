@@ -4,11 +4,12 @@ ghost use Rattle.std.specs.List.{All};
 ghost use Rattle.station.specs.Station.{BelongsTo};
 ghost use Rattle.worker_fleet.specs.Turns.{IsPlaced};
 
-use crate::graphs::{SHORTEST, five};
-use crate::stations::{blocks, opened};
+use crate::graphs::{SHORTEST, blocks_of, five};
+use crate::stations::{opened, peeked};
 use path_algebra::{PathAlgebra, Shortest};
 use post_floor::Floor;
 use road_graph::Vertex;
+use shard_part::Plan;
 use station::Station;
 use std::process::Abort;
 use worker_fleet::{OpenGate, Outcome, drive};
@@ -51,26 +52,48 @@ fn driven<'g, A: PathAlgebra>(
 }
 
 /// The label of a vertex, at the station that holds it.
-fn label_of(rt: &impl Abort, stations: &[(usize, Station<'_, Shortest>)], v: u32) -> Option<u64> {
+fn label_of<A: PathAlgebra>(
+    rt: &impl Abort,
+    stations: &[(usize, Station<'_, A>)],
+    v: u32,
+) -> Option<A::Value> {
     for (_, station) in stations {
         if station.holds(Vertex(v)) {
-            return station.peek(Vertex(v));
+            return peeked(rt, station, v);
         }
     }
     panic!(rt; "no station holds it")
 }
 
+/// Asserts the labels of the five vertices.
+fn assert_labels<A: PathAlgebra<Value = u64>>(
+    rt: &impl Abort,
+    stations: &[(usize, Station<'_, A>)],
+    wanted: [Option<u64>; 5],
+) {
+    for v in 0..5 {
+        let label = label_of(rt, stations, v as u32 + 1);
+        assert!(rt; label == wanted[v]);
+    }
+}
+
+/// Asserts the labels of the five vertices from vertex 1, by a worker that stops every three turns.
+fn assert_driven<A: PathAlgebra<Value = u64>>(
+    rt: &(impl Abort + AllocGlobal),
+    algebra: A,
+    plan: &Plan,
+    wanted: [Option<u64>; 5],
+) {
+    let graph = five(rt);
+    let (floor, stations) = opened(rt, algebra, &graph, plan, 1);
+    let stations = placed(rt, &floor, stations);
+    let ended = driven(rt, &[floor], stations);
+    assert_labels(rt, &ended, wanted);
+}
+
 #[test]
 fn drives_on_after_each_limit(rt: HostRuntime) {
-    let graph = five(&rt);
     for shards in [1, 2, 3] {
-        let plan = blocks(&rt, shards);
-        let (floor, stations) = opened(&rt, Shortest, &graph, &plan, 1);
-        let stations = placed(&rt, &floor, stations);
-        let ended = driven(&rt, &[floor], stations);
-        for v in 0..5 {
-            let label = label_of(&rt, &ended, v as u32 + 1);
-            assert!(rt; label == SHORTEST[v]);
-        }
+        assert_driven(&rt, Shortest, &blocks_of(&rt, 5, shards), SHORTEST);
     }
 }

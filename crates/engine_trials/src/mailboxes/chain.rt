@@ -1,10 +1,9 @@
 //! A chain of vertices over 64 shards, run to its end on one thread.
-ghost use Rattle.std.specs.Prelude.{◌≡◌, map};
 ghost use Rattle.shard_part.specs.Weights.{All};
-ghost use Rattle.post_floor.specs.Data.{IsAt, seat_of};
+ghost use Rattle.post_floor.specs.Data.{IsAt};
 
-use super::{Ground, fetch, parts_of, send, work};
-use crate::graphs::chain_of;
+use super::{Place, announce, fetch, places, send, work};
+use crate::graphs::{Ground, chain_of, ground_of};
 use path_algebra::{PathAlgebra, Shortest};
 use post_floor::{Floor, Seat};
 use road_graph::Vertex;
@@ -20,43 +19,12 @@ const WEIGHT: u32 = 3;
 
 /// A chain from vertex 1 on, in 64 blocks.
 fn chain(rt: &(impl Abort + AllocGlobal)) -> Ground {
-    let graph = chain_of(rt, VERTICES, WEIGHT);
-    let plan = Plan::blocks(rt.alloc(), VERTICES, 64).expect(rt, "memory");
-    Ground { graph, plan }
+    ground_of(rt, chain_of(rt, VERTICES, WEIGHT), 64)
 }
 
-/// The seats with their parts, in order.
-fn paired<'g, A: PathAlgebra>(
-    rt: &(impl Abort + AllocGlobal),
-    floor: &Floor<A>,
-    mut seats: Vec<Seat<A>>,
-    mut parts: Vec<Part<'g, A>>,
-) -> VecDeque<(Seat<A>, Part<'g, A>)>
-    requires seats { seats.items ≡ map (seat_of floor.now.id floor.now.setup.plan.shards) parts.items }
-    requires at { All (λ p. IsAt A.meaning floor.now (seat_of floor.now.id floor.now.setup.plan.shards p) p) parts.items }
-    ensures { All (λ x. IsAt A.meaning floor.now x.0 x.1) result.items }
-{
-    let mut places = VecDeque::new(rt.alloc());
-    while let Some(part) = parts.pop() {
-        let seat = seats.pop().expect(rt, "a seat");
-        places.push_front((seat, part)).expect(rt, "memory");
-    }
-    places
-}
-
-/// A floor, and a seat and a part for each shard, in order.
-fn places<'g, A: PathAlgebra>(
-    rt: &(impl Abort + AllocGlobal),
-    algebra: A,
-    ground: &'g Ground,
-) -> (Floor<A>, VecDeque<(Seat<A>, Part<'g, A>)>)
-    ensures { All (λ x. IsAt A.meaning result.0 x.0 x.1) result.1.items }
-{
-    let parts = parts_of(rt, algebra, ground);
-    let opened = Floor::open(rt.alloc(), &ground.plan, Vertex(1), &parts);
-    let (floor, seats) = opened.expect(rt, "memory");
-    let places = paired(rt, &floor, seats, parts);
-    (floor, places)
+/// Whether something waits for a shard that is another one.
+fn waits_for<A: PathAlgebra>(part: &Part<'_, A>, to: Shard) -> bool {
+    part.is_other(to) && part.outgoing(to) > 0
 }
 
 /// Sends what waits for a shard, if it is another one and something waits.
@@ -69,7 +37,7 @@ fn send_waiting<A: PathAlgebra>(
     requires { IsAt A.meaning floor.now seat.old part.old }
     ensures { IsAt A.meaning floor.now seat.new part.new }
 {
-    if part.is_other(to) && part.outgoing(to) > 0 {
+    if waits_for(part, to) {
         send(floor, seat, part, to);
     }
 }
@@ -91,11 +59,7 @@ fn turn<A: PathAlgebra>(
     for to in 0..plan.shards() {
         send_waiting(floor, seat, part, Shard(to));
     }
-    if part.ended() {
-        floor.announce(seat, part);
-        return true;
-    }
-    floor.look(seat, part)
+    announce(floor, seat, part) || floor.look(seat, part)
 }
 
 /// One turn at each place, in order, and whether all of them know the end.
@@ -103,7 +67,7 @@ fn round<'g, A: PathAlgebra>(
     rt: &(impl Abort + AllocGlobal),
     floor: &Floor<A>,
     plan: &Plan,
-    places: &mut VecDeque<(Seat<A>, Part<'g, A>)>,
+    places: &mut VecDeque<Place<'g, A>>,
 ) -> bool
     requires { All (λ x. IsAt A.meaning floor.now x.0 x.1) places.old.items }
     ensures { All (λ x. IsAt A.meaning floor.now x.0 x.1) places.new.items }
@@ -123,7 +87,7 @@ fn run<'g, A: PathAlgebra>(
     rt: &(impl Abort + AllocGlobal),
     floor: &Floor<A>,
     plan: &Plan,
-    places: &mut VecDeque<(Seat<A>, Part<'g, A>)>,
+    places: &mut VecDeque<Place<'g, A>>,
     rounds: u32,
 )
     requires { All (λ x. IsAt A.meaning floor.now x.0 x.1) places.old.items }
@@ -138,10 +102,7 @@ fn run<'g, A: PathAlgebra>(
 }
 
 /// The label of a vertex, as the part of its shard has it.
-fn label_of<A: PathAlgebra>(
-    places: &VecDeque<(Seat<A>, Part<'_, A>)>,
-    v: Vertex,
-) -> Option<A::Value> {
+fn label_of<A: PathAlgebra>(places: &VecDeque<Place<'_, A>>, v: Vertex) -> Option<A::Value> {
     for (_, part) in places {
         if part.holds(v) {
             return part.label(v);
@@ -150,14 +111,27 @@ fn label_of<A: PathAlgebra>(
     None
 }
 
-#[test]
-fn chain_over_64_shards(rt: HostRuntime) {
-    let ground = chain(&rt);
-    let (floor, mut places) = places(&rt, Shortest, &ground);
-    assert!(rt; places.len() == 64);
-    run(&rt, &floor, &ground.plan, &mut places, 1000);
+/// Asserts that each vertex has its distance along the chain for a label.
+fn assert_distances<A: PathAlgebra<Value = u64>>(rt: &impl Abort, places: &VecDeque<Place<'_, A>>) {
     for arcs in 0..VERTICES {
-        let label = label_of(&places, Vertex(arcs + 1));
+        let label = label_of(places, Vertex(arcs + 1));
         assert!(rt; label == Some(u64::from(arcs * WEIGHT)));
     }
+}
+
+/// Runs the chain to its end, and asserts the distances.
+fn assert_chain<A: PathAlgebra<Value = u64>>(
+    rt: &(impl Abort + AllocGlobal),
+    algebra: A,
+    ground: &Ground,
+) {
+    let (floor, mut places) = places(rt, algebra, ground);
+    assert!(rt; places.len() == 64);
+    run(rt, &floor, &ground.plan, &mut places, 1000);
+    assert_distances(rt, &places);
+}
+
+#[test]
+fn chain_over_64_shards(rt: HostRuntime) {
+    assert_chain(&rt, Shortest, &chain(&rt));
 }

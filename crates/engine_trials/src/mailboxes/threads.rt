@@ -2,11 +2,13 @@
 ghost use Rattle.std.specs.Prelude.{◌≡◌, IfSome};
 ghost use Rattle.post_floor.specs.Data.{IsAt};
 
-use super::{fetch, send, two_places, two_vertices, work};
+use super::{Place, assert_closes, both_of, fetch, places, send, shows, work};
+use crate::graphs::{Ground, two_vertices};
 use path_algebra::{PathAlgebra, Shortest};
 use post_floor::{Floor, Seat};
 use road_graph::Vertex;
 use shard_part::{Part, Shard};
+use std::process::Abort;
 use std::sync::Wait;
 use std::thread;
 use std::thread::{Promise, PromisedHandle, Scope, Threads};
@@ -17,34 +19,33 @@ struct Errand<'a, A: PathAlgebra> {
     floor: &'a Floor<A>,
 }
 
-impl<'a, 'g, A: PathAlgebra> Promise<(Seat<A>, Part<'g, A>)> for Errand<'a, A> {
+impl<'a, 'g, A: PathAlgebra> Promise<Place<'g, A>> for Errand<'a, A> {
     ghost kept_by = { λ p x. IsAt A.meaning p.floor.now x.0 x.1 };
 }
 
-/// The first shard handles what waits and sends what comes of it; the second waits for it and handles it.
+/// The second shard waits for a batch, each handles what waits, and the first sends what comes of it to the second.
 fn take_part<'g, A: PathAlgebra>(
     floor: &Floor<A>,
     mut seat: Seat<A>,
     mut part: Part<'g, A>,
-) -> (Seat<A>, Part<'g, A>)
+) -> Place<'g, A>
     requires { IsAt A.meaning floor.now seat part }
     ensures { IsAt A.meaning floor.now result.0 result.1 }
 {
-    if seat.shard() == Shard(0) {
-        work(floor, &seat, &mut part);
-        send(floor, &mut seat, &mut part, Shard(1));
-        return (seat, part);
-    }
     await_batch(floor, &mut seat, &mut part);
     work(floor, &seat, &mut part);
+    send(floor, &mut seat, &mut part, Shard(1));
     (seat, part)
 }
 
-/// Waits for a batch of the first shard.
+/// Waits for a batch of the first shard, at another one.
 fn await_batch<A: PathAlgebra>(floor: &Floor<A>, seat: &mut Seat<A>, part: &mut Part<'_, A>)
     requires { IsAt A.meaning floor.now seat.old part.old }
     ensures { IsAt A.meaning floor.now seat.new part.new }
 {
+    if seat.shard() == Shard(0) {
+        return;
+    }
     for _ in 0..1_000_000_000 {
         if fetch(floor, seat, part, Shard(0)) {
             return;
@@ -59,14 +60,14 @@ fn start<'s, 'g: 's, E, A: PathAlgebra>(
     floor: &'s Floor<A>,
     seat: Seat<A>,
     part: Part<'g, A>,
-) -> Option<PromisedHandle<(Seat<A>, Part<'g, A>), Errand<'s, A>>>
+) -> Option<PromisedHandle<Place<'g, A>, Errand<'s, A>>>
     requires { IsAt A.meaning floor.now seat part }
     ensures { IfSome result (λ h. h.promise.floor.now ≡ floor.entry.now) }
 {
     let errand = Errand { floor };
     let started = scope.spawn_with(
         errand,
-        move || -> (Seat<A>, Part<'_, A>)
+        move || -> Place<'_, A>
             requires { IsAt A.meaning floor.now seat part }
             ensures { IsAt A.meaning floor.entry.now result.0 result.1 }
         { take_part(floor, seat, part) },
@@ -74,45 +75,58 @@ fn start<'s, 'g: 's, E, A: PathAlgebra>(
     started.ok()
 }
 
-/// Two seats and parts, each on a thread of its own.
-fn on_two_threads<'g, A: PathAlgebra, R: Threads + Wait>(
+/// Two places, each on a thread of its own.
+fn on_two_threads<'g, A: PathAlgebra, R: Threads + Wait + Abort>(
     rt: &R,
     floor: &Floor<A>,
-    first: (Seat<A>, Part<'g, A>),
-    second: (Seat<A>, Part<'g, A>),
-) -> Option<((Seat<A>, Part<'g, A>), (Seat<A>, Part<'g, A>))>
+    first: Place<'g, A>,
+    second: Place<'g, A>,
+) -> (Place<'g, A>, Place<'g, A>)
     requires first { IsAt A.meaning floor.now first.0 first.1 }
     requires second { IsAt A.meaning floor.now second.0 second.1 }
-    ensures { IfSome result (λ x. IsAt A.meaning floor.now x.0.0 x.0.1 × IsAt A.meaning floor.now x.1.0 x.1.1) }
+    ensures { IsAt A.meaning floor.now result.0.0 result.0.1 × IsAt A.meaning floor.now result.1.0 result.1.1 }
 {
     thread::scope(
         thread::scope_env(),
         rt,
-        move |scope| -> Option<((Seat<A>, Part<'_, A>), (Seat<A>, Part<'_, A>))>
+        move |scope| -> (Place<'_, A>, Place<'_, A>)
             requires { IsAt A.meaning floor.now first.0 first.1 × IsAt A.meaning floor.now second.0 second.1 }
-            ensures { IfSome result (λ x. IsAt A.meaning floor.entry.now x.0.0 x.0.1 × IsAt A.meaning floor.entry.now x.1.0 x.1.1) }
+            ensures { IsAt A.meaning floor.entry.now result.0.0 result.0.1 × IsAt A.meaning floor.entry.now result.1.0 result.1.1 }
         {
             let (seat_0, part_0) = first;
             let (seat_1, part_1) = second;
-            let second = start(scope, floor, seat_1, part_1)?;
-            let first = start(scope, floor, seat_0, part_0)?;
-            Some((first.join(rt), second.join(rt)))
+            let second = start(scope, floor, seat_1, part_1).expect(rt, "no thread");
+            let first = start(scope, floor, seat_0, part_0).expect(rt, "no thread");
+            (first.join(rt), second.join(rt))
         },
     )
 }
 
+/// Asserts that the first part sent two messages, the opening's among them, and that the second took one.
+fn assert_passed<A: PathAlgebra<Value = u64>>(
+    rt: &impl Abort,
+    first: &Part<'_, A>,
+    second: &Part<'_, A>,
+) {
+    assert!(rt; first.tally().sent == 2);
+    assert!(rt; second.tally().delivered == 1);
+    assert!(rt; shows(second, Vertex(2), Some(7)));
+}
+
+/// Lets two threads pass a batch, and asserts what came of it, and that both close the floor.
+fn assert_passes<A: PathAlgebra<Value = u64>, R: Threads + Wait + Abort + AllocGlobal>(
+    rt: &R,
+    algebra: A,
+    ground: &Ground,
+) {
+    let (floor, places) = places(rt, algebra, ground);
+    let (first, second) = both_of(rt, &floor, places);
+    let (first, second) = on_two_threads(rt, &floor, first, second);
+    assert_passed(rt, &first.1, &second.1);
+    assert_closes(rt, floor, first, second);
+}
+
 #[test]
 fn two_threads_pass_a_batch(rt: HostRuntime) {
-    let ground = two_vertices(&rt);
-    let (floor, first, second) = two_places(&rt, Shortest, &ground);
-    let Some(((seat_0, part_0), (seat_1, part_1))) = on_two_threads(&rt, &floor, first, second)
-    else {
-        panic!(rt; "no thread")
-    };
-    assert!(rt; seat_0.shard() == Shard(0) && seat_1.shard() == Shard(1));
-    assert!(rt; part_0.tally().sent == 2 && part_1.tally().delivered == 1);
-    assert!(rt; part_1.holds(Vertex(2)));
-    assert!(rt; part_1.label(Vertex(2)) == Some(7));
-    let seats = vec![in rt.alloc(); seat_0, seat_1].expect(&rt, "memory");
-    assert!(rt; floor.close(seats).is_ok());
+    assert_passes(&rt, Shortest, &two_vertices(&rt));
 }

@@ -1,4 +1,4 @@
-use Rattle.engine_trials.proofs.TwoPlaces.{works}
+use Rattle.engine_trials.proofs.Places.{works}
 use Rattle.engine_trials.proofs.mailboxes.work.Goals as goal
 
 pub returns : goal.returns

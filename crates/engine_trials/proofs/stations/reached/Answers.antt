@@ -7,7 +7,7 @@ use Rattle.engine_trials.proofs.stations.reached.Goals as goal
 
 pub returns : goal.returns
 returns g c = λ marked M.
-    let q = c.opened-floor.result.0.setup in let e = c.opened-floor.ensures in
-    let there = subst (λ (r : Roads). AreMarksOfReached reach r c.args.source marked) (sym e.roads) M in
-    c.reach_counts_each_arc_once.ensures q c.gathered-gathered.result c.gathered-gathered.ensures marked (subst (λ s. AreMarksOfReached reach q.question.roads s marked) (sym e.source) there)
-    ∙ ap (λ (r : Roads). each_shows (1 + count_marked r marked)) e.roads
+    let e = c.answered-gathered.ensures in let q = e.0 in
+    let there = subst (λ (r : Roads). AreMarksOfReached reach r c.args.source marked) (sym e.2) M in
+    c.reach_counts_each_arc_once.ensures q c.answered-gathered.result e.1 marked (subst (λ s. AreMarksOfReached reach q.question.roads s marked) (sym e.3) there)
+    ∙ ap (λ (r : Roads). each_shows (1 + count_marked r marked)) e.2

@@ -1,4 +1,4 @@
-use Rattle.std.proofs.Common.{◌<◌, length, rules}
+use Rattle.std.proofs.Common.{rules}
 use Rattle.std.proofs.lemmas.List.Elements.{All-set}
 use Rattle.station.specs.Station.{BelongsTo}
 use Rattle.engine_trials.proofs.stations.turned_once.Goals as goal

@@ -2,7 +2,7 @@ use Rattle.std.proofs.Common.{rules, ◌≡◌, ◌++◌, ◌∷◌, [], ap, ◌
 use Rattle.shard_part.specs.PartState.{Setup}
 use Rattle.shard_part.specs.Opening.{opened_part, opened_parts}
 use Rattle.station.proofs.Opening.{opened_next}
-use Rattle.engine_trials.proofs.mailboxes.parts_of.Goals as goal
+use Rattle.engine_trials.proofs.parts.parts_of.Goals as goal
 
 pub loop-shard-preserved : goal.loop-shard-preserved
 loop-shard-preserved g c =

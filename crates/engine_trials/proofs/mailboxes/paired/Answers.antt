@@ -2,7 +2,7 @@ use Rattle.std.proofs.Common.{◌≡◌, ◌++◌, ◌∷◌, [], subst, sym, ru
 use Rattle.shard_part.specs.Weights.{All}
 use Rattle.post_floor.specs.Data.{IsAt, seat_of}
 use Rattle.post_floor.proofs.Seats.{all_front, last_seat}
-use Rattle.engine_trials.proofs.mailboxes.chain.paired.Goals as goal
+use Rattle.engine_trials.proofs.mailboxes.paired.Goals as goal
 
 pub loop-part-preserved : goal.loop-part-preserved
 loop-part-preserved g c =

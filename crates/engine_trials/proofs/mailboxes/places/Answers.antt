@@ -2,7 +2,7 @@ use Rattle.std.proofs.Common.{◌≡◌, subst, sym, ◌∙◌, rules}
 use Rattle.shard_part.specs.Weights.{All}
 use Rattle.post_floor.specs.Data.{IsAt, seat_of}
 use Rattle.engine_trials.proofs.Places.{opened_at}
-use Rattle.engine_trials.proofs.mailboxes.chain.places.Goals as goal
+use Rattle.engine_trials.proofs.mailboxes.places.Goals as goal
 
 pub open-opened-requires-clause-fresh : goal.open-opened-requires-clause-fresh
 open-opened-requires-clause-fresh g c κs within = let f = c.parts_of-parts.ensures in (f.0, c.deref.ensures.value ∙ f.1, f.2, f.3)

@@ -1,7 +1,7 @@
 use Rattle.std.proofs.Common.{◌≡◌, map, vec_len}
 use Rattle.shard_part.specs.Weights.{All}
 use Rattle.post_floor.specs.Data.{IsAt, seat_of}
-use Rattle.engine_trials.proofs.mailboxes.chain.paired.Given as goal
+use Rattle.engine_trials.proofs.mailboxes.paired.Given as goal
 
 abbrev pub invariant-loop-part : goal.invariant-loop-part
 invariant-loop-part g l = record {

@@ -1,54 +1,67 @@
 //! The words of a command line, over files and streams in memory.
+use crate::texts::joined;
 use batch_run::{Settings, fault_of_run};
 use program::{Job, Places, Wanted, algebra_of, read_job, run_words};
 use road_text::{Plain, ReadFailed};
-use std::alloc::Global;
+use std::alloc::{AllocError, Global};
+use std::process::Abort;
 use std::sync::Wait;
-use std::test::Fail;
 use std::thread::Threads;
 
-/// What a command line says, in words: the job, or whether it asks for help or is wrong.
-fn told(alloc: Global, line: &str) -> Result<String, Fail> {
-    let mut words = Vec::new(alloc);
+/// The words of a command line.
+fn words_of(rt: &(impl Abort + AllocGlobal), line: &str) -> Vec<String> {
+    let mut words = Vec::new(rt.alloc());
     for word in line.split(' ') {
-        words.push(String::from_str(alloc, word)?)?;
+        let owned = String::from_str(rt.alloc(), word).expect(rt, "memory");
+        words.push(owned).expect(rt, "memory");
     }
-    Ok(match read_job(alloc, words.as_slice()) {
-        Ok(
-            Some(
-                Job::Solve {
-                    graph,
-                    questions,
-                    wanted,
-                },
-            ),
-        ) => {
+    words
+}
+
+/// What a job is, in words.
+fn job_told(alloc: Global, job: &Job<'_>) -> Result<String, AllocError> {
+    match job {
+        Job::Solve {
+            graph,
+            questions,
+            wanted,
+        } => {
             format!(in alloc;
                 "solve {graph} {questions} {} {:?}",
                 wanted.algebra, wanted.limit
-            )?
+            )
         }
-        Ok(Some(Job::Bundle { wanted })) => {
-            format!(in alloc; "bundle {} {:?}", wanted.algebra, wanted.limit)?
+        Job::Bundle { wanted } => {
+            format!(in alloc; "bundle {} {:?}", wanted.algebra, wanted.limit)
         }
-        Ok(
-            Some(
-                Job::Check {
-                    graph,
-                    questions,
-                    answers,
-                    limit,
-                },
-            ),
-        ) => format!(in alloc; "check {graph} {questions} {answers} {:?}", limit)?,
-        Ok(None) => String::from_str(alloc, "nothing")?,
-        Err(error) => String::from_str(alloc, if error.use_stderr() { "wrong" } else { "help" })?,
-    })
+        Job::Check {
+            graph,
+            questions,
+            answers,
+            limit,
+        } => format!(in alloc; "check {graph} {questions} {answers} {limit:?}"),
+    }
+}
+
+/// What a command line says, in words: the job, or whether it asks for help or is wrong.
+fn told(alloc: Global, words: &[String]) -> Result<String, AllocError> {
+    match read_job(alloc, words) {
+        Ok(Some(job)) => job_told(alloc, &job),
+        Ok(None) => String::from_str(alloc, "nothing"),
+        Err(error) => String::from_str(alloc, if error.use_stderr() { "wrong" } else { "help" }),
+    }
+}
+
+/// Asserts what a command line says, in words.
+fn assert_told(rt: &(impl Abort + AllocGlobal), line: &str, wanted: &str) {
+    let words = words_of(rt, line);
+    let found = told(rt.alloc(), words.as_slice()).expect(rt, "memory");
+    assert_eq!(rt; found.as_str(), wanted);
 }
 
 #[test]
-fn command_lines(rt: HostRuntime) -> Result<(), Fail> {
-    for (line, wanted) in [
+fn command_lines(rt: HostRuntime) {
+    for &(line, wanted) in &[
         ("diffuse bundle", "bundle shortest None"),
         ("diffuse bundle --algebra widest", "bundle widest None"),
         ("diffuse solve g q", "solve g q shortest None"),
@@ -85,29 +98,42 @@ fn command_lines(rt: HostRuntime) -> Result<(), Fail> {
         ("diffuse --version", "help"),
         ("diffuse solve --help", "help"),
     ] {
-        assert_eq!(rt; told(rt.alloc(), line)?.as_str(), wanted);
+        assert_told(&rt, line, wanted);
     }
-    Ok(())
 }
 
-/// How questions are run, as a command line says, in words; or `wrong`.
-fn settings_told(alloc: Global, line: &str) -> Result<String, Fail> {
-    let words = words_of(alloc, line)?;
-    Ok(match read_job(alloc, words.as_slice()) {
-        Ok(Some(Job::Bundle { wanted })) => {
-            let s = wanted.settings;
-            format!(in alloc;
-                "{} {} {} {} {} {}",
-                s.workers, s.shards, s.width, s.budget, s.turns, s.plain
-            )?
-        }
-        _ => String::from_str(alloc, "wrong")?,
-    })
+/// How questions are run, in words.
+fn settings_told(alloc: Global, settings: &Settings) -> Result<String, AllocError> {
+    let Settings {
+        workers,
+        shards,
+        width,
+        budget,
+        turns,
+        plain,
+    } = *settings;
+    format!(in alloc; "{workers} {shards} {width} {budget} {turns} {plain}")
+}
+
+/// How a bundle is run, as a command line says, in words; or `wrong`.
+fn bundle_told(alloc: Global, words: &[String]) -> Result<String, AllocError> {
+    match read_job(alloc, words) {
+        Ok(Some(Job::Bundle { wanted })) => settings_told(alloc, &wanted.settings),
+        _ => String::from_str(alloc, "wrong"),
+    }
+}
+
+/// Asserts how a bundle is run under these options, in words.
+fn assert_settings(rt: &(impl Abort + AllocGlobal), options: &str, wanted: &str) {
+    let line = joined(rt, &["diffuse bundle ", options]);
+    let words = words_of(rt, line.as_str());
+    let found = bundle_told(rt.alloc(), words.as_slice()).expect(rt, "memory");
+    assert_eq!(rt; found.as_str(), wanted);
 }
 
 #[test]
-fn settings_of_a_command_line(rt: HostRuntime) -> Result<(), Fail> {
-    for (options, wanted) in [
+fn settings_of_a_command_line(rt: HostRuntime) {
+    for &(options, wanted) in &[
         ("--workers 4", "4 4 1 1024 1000000000000 false"),
         ("--workers 1 --plain", "1 4 1 1024 1000000000000 true"),
         ("--workers 64 --shards 1", "64 1 1 1024 1000000000000 false"),
@@ -126,15 +152,30 @@ fn settings_of_a_command_line(rt: HostRuntime) -> Result<(), Fail> {
         ("--turns x", "wrong"),
         ("--plain yes", "wrong"),
     ] {
-        let line = format!(in rt.alloc(); "diffuse bundle {options}")?;
-        assert_eq!(rt; settings_told(rt.alloc(), line.as_str())?.as_str(), wanted);
+        assert_settings(&rt, options, wanted);
     }
-    Ok(())
+}
+
+/// Which algebra a name and a limit ask for, in words, or `refused`.
+fn algebra_told(rt: &(impl Abort + AllocGlobal), algebra: &str, limit: Option<u64>) -> String {
+    let settings = Settings::default();
+    let told = match algebra_of(&Wanted {
+        algebra,
+        limit,
+        settings,
+    }) {
+        Ok(chosen) => format!(in rt.alloc(); "Ok({chosen:?})"),
+        Err(fault) => {
+            assert_eq!(rt; fault, fault_of_run(43));
+            String::from_str(rt.alloc(), "refused")
+        }
+    };
+    told.expect(rt, "memory")
 }
 
 #[test]
-fn algebras_and_limits(rt: HostRuntime) -> Result<(), Fail> {
-    for (algebra, limit, wanted) in [
+fn algebras_and_limits(rt: HostRuntime) {
+    for &(algebra, limit, wanted) in &[
         ("shortest", None, "Ok(Shortest)"),
         ("widest", None, "Ok(Widest)"),
         ("reach", None, "Ok(Reach)"),
@@ -146,20 +187,8 @@ fn algebras_and_limits(rt: HostRuntime) -> Result<(), Fail> {
         ("shortest", Some(5), "refused"),
         ("own", None, "refused"),
     ] {
-        let found = match algebra_of(&Wanted {
-            algebra,
-            limit,
-            settings: Settings::default(),
-        }) {
-            Ok(chosen) => format!(in rt.alloc(); "Ok({chosen:?})")?,
-            Err(fault) => {
-                assert_eq!(rt; fault, fault_of_run(43));
-                String::from_str(rt.alloc(), "refused")?
-            }
-        };
-        assert_eq!(rt; found.as_str(), wanted);
+        assert_eq!(rt; algebra_told(&rt, algebra, limit).as_str(), wanted);
     }
-    Ok(())
 }
 
 /// Five vertices, of which the last is reached from nowhere.
@@ -206,6 +235,65 @@ const FILES: &[(&str, &str)] = &[
     ("36", "p ans ss 1 shortest\n"),
 ];
 
+/// Commands over `FILES`, each with what it writes and reports, and its exit status.
+const COMMANDS: &[(&str, &str, &str, u8)] = &[
+    ("solve g q", SHORTEST, "", 0),
+    ("solve --algebra widest g q", WIDEST, "", 0),
+    ("solve g q --algebra within --limit 0", WITHIN, "", 0),
+    ("solve q g", "", "diffuse: fault 12 graph line 1\n", 3),
+    ("solve g g", "", "diffuse: fault 12 questions line 1\n", 3),
+    ("solve none q", "", "diffuse: fault 1 graph\n", 3),
+    ("solve q none", "", "diffuse: fault 1 questions\n", 3),
+    ("solve g q --limit 0", "", "diffuse: fault 43\n", 2),
+    ("solve g q --algebra within", "", "diffuse: fault 43\n", 2),
+    ("solve g q --plain", SHORTEST, "", 0),
+    (
+        "solve g q --workers 64 --shards 64 --width 64 --budget 1",
+        SHORTEST,
+        "",
+        0,
+    ),
+    (
+        "solve g q --turns 0",
+        "p ans ss 1 shortest\n",
+        "diffuse: fault 40\n",
+        6,
+    ),
+    ("solve g q --turns 0 --plain", SHORTEST, "", 0),
+    ("check g q right", "valid\n", "", 0),
+    ("check g q wide", "valid\n", "", 0),
+    ("check g q within --limit 0", "valid\n", "", 0),
+    ("check g q within --limit 1", "invalid 1 3 6\n", "", 1),
+    ("check g q wrong", "invalid 1 4 2\n", "", 1),
+    ("check g q own", "", "diffuse: fault 31 answers\n", 3),
+    (
+        "check g q own --limit 5",
+        "",
+        "diffuse: fault 31 answers\n",
+        3,
+    ),
+    ("check g q right --limit 5", "", "diffuse: fault 43\n", 2),
+    ("check g q within", "", "diffuse: fault 43\n", 2),
+    ("check none q right", "", "diffuse: fault 1 graph\n", 3),
+    ("check q none right", "", "diffuse: fault 1 questions\n", 3),
+    ("check q g none", "", "diffuse: fault 1 answers\n", 3),
+    ("check q q 30", "", "diffuse: fault 12 graph line 1\n", 3),
+    (
+        "check g g 30",
+        "",
+        "diffuse: fault 12 questions line 1\n",
+        3,
+    ),
+    ("check g q 30", "", "diffuse: fault 30 answers line 1\n", 3),
+    ("check g q 31", "", "diffuse: fault 31 answers line 1\n", 3),
+    ("check g q 32", "", "diffuse: fault 32 answers line 2\n", 3),
+    ("check g q 33", "", "diffuse: fault 33 answers line 2\n", 3),
+    ("check g q 34", "", "diffuse: fault 34 answers line 2\n", 3),
+    ("check g q 35", "", "diffuse: fault 35 answers line 1\n", 3),
+    ("check g q 36", "", "diffuse: fault 36 answers line 2\n", 3),
+    ("--version", "diffuse 1.0.0\n", "", 0),
+];
+
 /// Files and a standard input in memory.
 #[derive(Drop)]
 struct Shelf<'a> {
@@ -231,122 +319,78 @@ impl<'a> Places for Shelf<'a> {
     }
 }
 
-/// The words of a command line.
-fn words_of(alloc: Global, line: &str) -> Result<Vec<String>, Fail> {
-    let mut words = Vec::new(alloc);
-    for word in line.split(' ') {
-        words.push(String::from_str(alloc, word)?)?;
-    }
-    Ok(words)
+/// What a command line with this standard input writes and reports, and its exit status.
+fn run_line(
+    rt: &(impl Abort + Threads + Wait + AllocGlobal + Sync),
+    line: &str,
+    given: &str,
+) -> (Vec<u8>, Vec<u8>, u8) {
+    let words = words_of(rt, line);
+    let mut out = Plain::new(Vec::new(rt.alloc()));
+    let mut errors = Plain::new(Vec::new(rt.alloc()));
+    let shelf = Shelf { given };
+    let status = run_words(rt, &shelf, words.as_slice(), &mut out, &mut errors);
+    (out.into_inner(), errors.into_inner(), status)
 }
 
 /// Asserts what a command line with this standard input writes and reports, and its exit status.
 fn assert_run(
-    rt: &(impl std::process::Abort + Threads + Wait + AllocGlobal + Sync),
+    rt: &(impl Abort + Threads + Wait + AllocGlobal + Sync),
     line: &str,
     given: &str,
     wanted: (&str, &str, u8),
-) -> Result<(), Fail> {
-    let alloc = rt.alloc();
-    let words = words_of(alloc, line)?;
-    let mut out = Plain::new(Vec::new(alloc));
-    let mut errors = Plain::new(Vec::new(alloc));
-    let status = run_words(
-        rt,
-        &Shelf { given },
-        words.as_slice(),
-        &mut out,
-        &mut errors,
-    );
-    assert_eq!(rt; out.into_inner().as_slice(), wanted.0.as_bytes());
-    assert_eq!(rt; errors.into_inner().as_slice(), wanted.1.as_bytes());
+) {
+    let (out, errors, status) = run_line(rt, line, given);
+    assert_eq!(rt; out.as_slice(), wanted.0.as_bytes());
+    assert_eq!(rt; errors.as_slice(), wanted.1.as_bytes());
     assert_eq!(rt; status, wanted.2);
-    Ok(())
+}
+
+/// Asserts what a command writes and reports, and its exit status.
+fn assert_command(
+    rt: &(impl Abort + Threads + Wait + AllocGlobal + Sync),
+    command: &str,
+    wanted: (&str, &str, u8),
+) {
+    let line = joined(rt, &["diffuse ", command]);
+    assert_run(rt, line.as_str(), "", wanted);
 }
 
 #[test]
-fn commands_and_statuses(rt: HostRuntime) -> Result<(), Fail> {
-    for (line, out, errors, status) in [
-        ("solve g q", SHORTEST, "", 0),
-        ("solve --algebra widest g q", WIDEST, "", 0),
-        ("solve g q --algebra within --limit 0", WITHIN, "", 0),
-        ("solve q g", "", "diffuse: fault 12 graph line 1\n", 3),
-        ("solve g g", "", "diffuse: fault 12 questions line 1\n", 3),
-        ("solve none q", "", "diffuse: fault 1 graph\n", 3),
-        ("solve q none", "", "diffuse: fault 1 questions\n", 3),
-        ("solve g q --limit 0", "", "diffuse: fault 43\n", 2),
-        ("solve g q --algebra within", "", "diffuse: fault 43\n", 2),
-        ("solve g q --plain", SHORTEST, "", 0),
-        (
-            "solve g q --workers 64 --shards 64 --width 64 --budget 1",
-            SHORTEST,
-            "",
-            0,
-        ),
-        (
-            "solve g q --turns 0",
-            "p ans ss 1 shortest\n",
-            "diffuse: fault 40\n",
-            6,
-        ),
-        ("solve g q --turns 0 --plain", SHORTEST, "", 0),
-        ("check g q right", "valid\n", "", 0),
-        ("check g q wide", "valid\n", "", 0),
-        ("check g q within --limit 0", "valid\n", "", 0),
-        ("check g q within --limit 1", "invalid 1 3 6\n", "", 1),
-        ("check g q wrong", "invalid 1 4 2\n", "", 1),
-        ("check g q own", "", "diffuse: fault 31 answers\n", 3),
-        (
-            "check g q own --limit 5",
-            "",
-            "diffuse: fault 31 answers\n",
-            3,
-        ),
-        ("check g q right --limit 5", "", "diffuse: fault 43\n", 2),
-        ("check g q within", "", "diffuse: fault 43\n", 2),
-        ("check none q right", "", "diffuse: fault 1 graph\n", 3),
-        ("check q none right", "", "diffuse: fault 1 questions\n", 3),
-        ("check q g none", "", "diffuse: fault 1 answers\n", 3),
-        ("check q q 30", "", "diffuse: fault 12 graph line 1\n", 3),
-        (
-            "check g g 30",
-            "",
-            "diffuse: fault 12 questions line 1\n",
-            3,
-        ),
-        ("check g q 30", "", "diffuse: fault 30 answers line 1\n", 3),
-        ("check g q 31", "", "diffuse: fault 31 answers line 1\n", 3),
-        ("check g q 32", "", "diffuse: fault 32 answers line 2\n", 3),
-        ("check g q 33", "", "diffuse: fault 33 answers line 2\n", 3),
-        ("check g q 34", "", "diffuse: fault 34 answers line 2\n", 3),
-        ("check g q 35", "", "diffuse: fault 35 answers line 1\n", 3),
-        ("check g q 36", "", "diffuse: fault 36 answers line 2\n", 3),
-        ("--version", "diffuse 1.0.0\n", "", 0),
-    ] {
-        let line = format!(in rt.alloc(); "diffuse {line}")?;
-        assert_run(&rt, line.as_str(), "", (out, errors, status))?;
+fn commands_and_statuses(rt: HostRuntime) {
+    for &(command, out, errors, status) in COMMANDS {
+        assert_command(&rt, command, (out, errors, status));
     }
-    Ok(())
+}
+
+/// Asserts that a bundle is reported to have this fault at this place.
+fn assert_misread(
+    rt: &(impl Abort + Threads + Wait + AllocGlobal + Sync),
+    given: &str,
+    place: &str,
+) {
+    let reported = joined(rt, &["diffuse: fault ", place, "\n"]);
+    let wanted = ("", reported.as_str(), 3);
+    assert_run(rt, "diffuse bundle", given, wanted);
 }
 
 #[test]
-fn bundles_and_statuses(rt: HostRuntime) -> Result<(), Fail> {
-    let alloc = rt.alloc();
-    let text = format!(in alloc; "{FIVE}{FROM_ONE}")?;
-    assert_run(&rt, "diffuse bundle", text.as_str(), (SHORTEST, "", 0))?;
+fn bundles_and_statuses(rt: HostRuntime) {
+    let text = joined(&rt, &[FIVE, FROM_ONE]);
+    assert_run(&rt, "diffuse bundle", text.as_str(), (SHORTEST, "", 0));
     assert_run(
         &rt,
         "diffuse bundle --algebra hops",
         text.as_str(),
         (HOPS, "", 0),
-    )?;
+    );
     assert_run(
         &rt,
         "diffuse bundle --limit 5",
         text.as_str(),
         ("", "diffuse: fault 43\n", 2),
-    )?;
-    for (given, place) in [
+    );
+    for &(given, place) in &[
         ("p sp 1 0\n", "10 bundle line 2"),
         ("p sp 1 0\np sp 1 0\n", "11 bundle line 2"),
         ("p sp 1\n", "12 bundle line 1"),
@@ -358,43 +402,54 @@ fn bundles_and_statuses(rt: HostRuntime) -> Result<(), Fail> {
         ("p sp 1 0\na 1 1 0\n", "18 bundle line 2"),
         ("p sp 1 1\n", "19 bundle line 2"),
     ] {
-        let reported = format!(in alloc; "diffuse: fault {place}\n")?;
-        assert_run(&rt, "diffuse bundle", given, ("", reported.as_str(), 3))?;
+        assert_misread(&rt, given, place);
     }
-    Ok(())
+}
+
+/// Asserts that an output without room for what a command line writes is reported.
+fn assert_no_room(rt: &(impl Abort + Threads + Wait + AllocGlobal + Sync), line: &str) {
+    let words = words_of(rt, line);
+    let mut room = [0u8; 3];
+    let mut out = Plain::new(&mut room[..]);
+    let mut errors = Plain::new(Vec::new(rt.alloc()));
+    let shelf = Shelf { given: "" };
+    let status = run_words(rt, &shelf, words.as_slice(), &mut out, &mut errors);
+    assert_eq!(rt;
+        errors.into_inner().as_slice(),
+        "diffuse: fault 42\n".as_bytes()
+    );
+    assert_eq!(rt; status, 5);
 }
 
 #[test]
-fn an_output_without_room(rt: HostRuntime) -> Result<(), Fail> {
-    let alloc = rt.alloc();
-    for line in ["diffuse solve g q", "diffuse check g q right"] {
-        let words = words_of(alloc, line)?;
-        let mut room = [0u8; 3];
-        let mut out = Plain::new(&mut room[..]);
-        let mut errors = Plain::new(Vec::new(alloc));
-        let shelf = Shelf { given: "" };
-        let status = run_words(&rt, &shelf, words.as_slice(), &mut out, &mut errors);
-        assert_eq!(rt;
-            errors.into_inner().as_slice(),
-            "diffuse: fault 42\n".as_bytes()
-        );
-        assert_eq!(rt; status, 5);
-    }
-    Ok(())
+fn an_output_without_room(rt: HostRuntime) {
+    assert_no_room(&rt, "diffuse solve g q");
+    assert_no_room(&rt, "diffuse check g q right");
 }
 
 /// Asserts that help, or what is said of wrong usage, has lines of at most 80 bytes.
-fn assert_narrow(rt: &(impl std::process::Abort + AllocGlobal), text: &[u8]) {
+fn assert_narrow(rt: &(impl Abort + AllocGlobal), text: &[u8]) {
     assert!(rt; !text.is_empty());
     for line in text.split(|b| *b == 10) {
         assert!(rt; line.len() <= 80);
     }
 }
 
+/// Asserts the exit status of a command line that asks for help or is wrong, and that narrow lines go to one output alone.
+fn assert_help(rt: &(impl Abort + Threads + Wait + AllocGlobal + Sync), line: &str, wanted: u8) {
+    let (out, errors, status) = run_line(rt, line, "");
+    assert_eq!(rt; status, wanted);
+    let (reported, quiet) = match status {
+        0 => (out, errors),
+        _ => (errors, out),
+    };
+    assert!(rt; quiet.is_empty());
+    assert_narrow(rt, reported.as_slice());
+}
+
 #[test]
-fn help_and_usage(rt: HostRuntime) -> Result<(), Fail> {
-    let alloc = rt.alloc();
-    for (line, wanted) in [
+fn help_and_usage(rt: HostRuntime) {
+    for &(line, wanted) in &[
         ("diffuse --help", 0),
         ("diffuse -h", 0),
         ("diffuse help check", 0),
@@ -406,18 +461,6 @@ fn help_and_usage(rt: HostRuntime) -> Result<(), Fail> {
         ("diffuse solve g", 2),
         ("diffuse bundle --algebra own", 2),
     ] {
-        let words = words_of(alloc, line)?;
-        let mut out = Plain::new(Vec::new(alloc));
-        let mut errors = Plain::new(Vec::new(alloc));
-        let shelf = Shelf { given: "" };
-        let status = run_words(&rt, &shelf, words.as_slice(), &mut out, &mut errors);
-        assert_eq!(rt; status, wanted);
-        let (reported, quiet) = match status {
-            0 => (out.into_inner(), errors.into_inner()),
-            _ => (errors.into_inner(), out.into_inner()),
-        };
-        assert!(rt; quiet.is_empty());
-        assert_narrow(&rt, reported.as_slice());
+        assert_help(&rt, line, wanted);
     }
-    Ok(())
 }

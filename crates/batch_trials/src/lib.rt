@@ -8,4 +8,6 @@ mod batches;
 #[cfg(test)]
 mod commands;
 #[cfg(test)]
+mod texts;
+#[cfg(test)]
 mod tolls;

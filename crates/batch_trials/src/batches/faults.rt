@@ -1,73 +1,74 @@
 //! What stops a batch, and what it leaves.
-use super::{FIVE, FROM_ONE, SHORTEST};
+use super::{FIVE, FROM_ONE, SHORTEST, assert_ended};
+use crate::texts::joined;
 use batch_run::{File, OpenGate, RunFault, Settings, fault_of_run, run_bundle, run_pair};
 use path_algebra::Shortest;
 use road_text::{Plain, RoadRead, RoadWrite};
 use std::alloc::Global;
 use std::process::Abort;
 use std::sync::Wait;
-use std::test::Fail;
 use std::thread::Threads;
 use text_trials::{Pieces, Sheet};
 
-/// The outcome of two inputs under the settings that a program has by default.
+/// The outcome of two inputs.
 fn outcome_of_pair<R: Threads + Wait + Sync, G: RoadRead, Q: RoadRead, W: RoadWrite>(
     rt: &R,
     alloc: Global,
+    settings: &Settings,
     graph: &mut G,
     questions: &mut Q,
     out: &mut W,
 ) -> Result<(), RunFault> {
     run_pair(
-        rt,
-        alloc,
-        Shortest,
-        graph,
-        questions,
-        out,
-        &Settings::default(),
-        &OpenGate,
+        rt, alloc, Shortest, graph, questions, out, settings, &OpenGate,
     )
 }
 
-/// The outcome of one input under the settings that a program has by default.
+/// The outcome of one input.
 fn outcome<R: Threads + Wait + Sync, B: RoadRead, W: RoadWrite>(
     rt: &R,
     alloc: Global,
+    settings: &Settings,
     input: &mut B,
     out: &mut W,
 ) -> Result<(), RunFault> {
-    run_bundle(
-        rt,
-        alloc,
-        Shortest,
-        input,
-        out,
-        &Settings::default(),
-        &OpenGate,
-    )
+    run_bundle(rt, alloc, Shortest, input, out, settings, &OpenGate)
 }
 
 fn fault(number: u8, file: File, line: u64) -> Result<(), RunFault> {
     Err(RunFault { number, file, line })
 }
 
+/// Asserts that two inputs are refused with this fault before anything is written.
+fn assert_pair_refused<G: RoadRead, Q: RoadRead>(
+    rt: &(impl Abort + AllocGlobal + Threads + Wait + Sync),
+    settings: &Settings,
+    graph: &mut G,
+    questions: &mut Q,
+    out: &mut Sheet,
+    wanted: Result<(), RunFault>,
+) {
+    let refused = outcome_of_pair(rt, rt.alloc(), settings, graph, questions, out);
+    assert_eq!(rt; refused, wanted);
+    assert!(rt; out.bytes.is_empty());
+}
+
 /// Asserts that one input is refused with this fault before anything is written.
 fn assert_refused(
     rt: &(impl Abort + AllocGlobal + Threads + Wait + Sync),
+    settings: &Settings,
     input: &mut Pieces<'_>,
-    number: u8,
-    line: u64,
+    out: &mut Sheet,
+    wanted: Result<(), RunFault>,
 ) {
-    let mut out = Sheet::new(rt.alloc(), 100, true);
-    let refused = outcome(rt, rt.alloc(), input, &mut out);
-    assert_eq!(rt; refused, fault(number, File::Bundle, line));
+    let refused = outcome(rt, rt.alloc(), settings, input, out);
+    assert_eq!(rt; refused, wanted);
     assert!(rt; out.bytes.is_empty());
 }
 
 #[test]
 fn faults_of_two_inputs(rt: HostRuntime) {
-    for (graph, questions, number, file, line) in [
+    for &(graph, questions, number, file, line) in &[
         ("p sp 2 1\na 1 2 4294967296\n", FROM_ONE, 16, File::Graph, 2),
         ("p sp 33554433 0\n", FROM_ONE, 16, File::Graph, 1),
         ("p sp 33554432 134217728\n", FROM_ONE, 19, File::Graph, 2),
@@ -82,18 +83,20 @@ fn faults_of_two_inputs(rt: HostRuntime) {
         ("p sp 5 0\n", "p aux sp ss 1\ns 6\n", 17, File::Questions, 2),
         ("p sp 1 0\n", "p aux sp ms 1\nm\n", 14, File::Questions, 2),
     ] {
-        let mut out = Plain::new(Vec::new(rt.alloc()));
-        let mut first = Plain::new(graph.as_bytes());
-        let mut second = Plain::new(questions.as_bytes());
-        let refused = outcome_of_pair(&rt, rt.alloc(), &mut first, &mut second, &mut out);
-        assert_eq!(rt; refused, fault(number, file, line));
-        assert!(rt; out.into_inner().is_empty());
+        assert_pair_refused(
+            &rt,
+            &Settings::default(),
+            &mut Plain::new(graph.as_bytes()),
+            &mut Plain::new(questions.as_bytes()),
+            &mut Sheet::new(rt.alloc(), 100, true),
+            fault(number, file, line),
+        );
     }
 }
 
 #[test]
 fn faults_of_a_bundle(rt: HostRuntime) {
-    for (text, number, line) in [
+    for &(text, number, line) in &[
         ("p sp 1 0\n", 10, 2),
         ("p sp 2 1\np aux sp ss 0\n", 19, 2),
         ("p aux sp ss 0\n", 10, 1),
@@ -102,11 +105,25 @@ fn faults_of_a_bundle(rt: HostRuntime) {
     ] {
         assert_refused(
             &rt,
+            &Settings::default(),
             &mut Pieces::new(text.as_bytes(), 7, false),
-            number,
-            line,
+            &mut Sheet::new(rt.alloc(), 100, true),
+            fault(number, File::Bundle, line),
         );
     }
+}
+
+/// Asserts that settings are refused, of two inputs and of one, before anything is read or written.
+fn assert_settings_refused(
+    rt: &(impl Abort + AllocGlobal + Threads + Wait + Sync),
+    settings: &Settings,
+) {
+    let mut one = Pieces::new(b"", 1, true);
+    let mut two = Pieces::new(b"", 1, true);
+    let mut out = Sheet::new(rt.alloc(), 100, false);
+    let wanted = Err(fault_of_run(43));
+    assert_pair_refused(rt, settings, &mut one, &mut two, &mut out, wanted);
+    assert_refused(rt, settings, &mut one, &mut out, wanted);
 }
 
 #[test]
@@ -132,109 +149,110 @@ fn settings_out_of_range(rt: HostRuntime) {
             ..good
         },
     ] {
-        let mut out = Sheet::new(rt.alloc(), 100, false);
-        let mut one = Pieces::new(b"", 1, true);
-        let mut two = Pieces::new(b"", 1, true);
-        let refused = run_pair(
-            &rt,
-            rt.alloc(),
-            Shortest,
-            &mut one,
-            &mut two,
-            &mut out,
-            &settings,
-            &OpenGate,
-        );
-        assert_eq!(rt; refused, Err(fault_of_run(43)));
-        let refused = run_bundle(
-            &rt,
-            rt.alloc(),
-            Shortest,
-            &mut one,
-            &mut out,
-            &settings,
-            &OpenGate,
-        );
-        assert_eq!(rt; refused, Err(fault_of_run(43)));
-        assert!(rt; out.bytes.is_empty());
+        assert_settings_refused(&rt, &settings);
     }
 }
 
+/// Asserts that one input is answered as `FROM_ONE` over `FIVE` is.
+fn assert_accepted(
+    rt: &(impl Abort + AllocGlobal + Threads + Wait + Sync),
+    input: &mut Pieces<'_>,
+) {
+    let mut out = Plain::new(Vec::new(rt.alloc()));
+    let answered = outcome(rt, rt.alloc(), &Settings::default(), input, &mut out);
+    assert_ended(rt, (answered, out.into_inner()), Ok(()), SHORTEST);
+}
+
 #[test]
-fn pieces_of_any_size(rt: HostRuntime) -> Result<(), Fail> {
-    let alloc = rt.alloc();
-    let text = format!(in alloc; "{FIVE}{FROM_ONE}")?;
+fn pieces_of_any_size(rt: HostRuntime) {
+    let text = joined(&rt, &[FIVE, FROM_ONE]);
     for piece in [1, 2, 3, 65_535, 65_536] {
-        let mut out = Plain::new(Vec::new(alloc));
-        let answered = outcome(
-            &rt,
-            alloc,
-            &mut Pieces::new(text.as_bytes(), piece, false),
-            &mut out,
-        );
-        assert_eq!(rt; answered, Ok(()));
-        assert_eq!(rt; out.into_inner().as_slice(), SHORTEST.as_bytes());
+        assert_accepted(&rt, &mut Pieces::new(text.as_bytes(), piece, false));
     }
-    Ok(())
+}
+
+/// Asserts that one input which fails behind these bytes is refused for it.
+fn assert_unread(rt: &(impl Abort + AllocGlobal + Threads + Wait + Sync), front: &[u8]) {
+    assert_refused(
+        rt,
+        &Settings::default(),
+        &mut Pieces::new(front, 7, true),
+        &mut Sheet::new(rt.alloc(), 100, true),
+        fault(1, File::Bundle, 0),
+    );
+}
+
+/// Asserts that two inputs of which the second fails, and perhaps the first, are refused for one of them.
+fn assert_pair_unread(
+    rt: &(impl Abort + AllocGlobal + Threads + Wait + Sync),
+    graph_fails: bool,
+    file: File,
+) {
+    assert_pair_refused(
+        rt,
+        &Settings::default(),
+        &mut Pieces::new(FIVE.as_bytes(), 7, graph_fails),
+        &mut Pieces::new(FROM_ONE.as_bytes(), 7, true),
+        &mut Sheet::new(rt.alloc(), 100, true),
+        fault(1, file, 0),
+    );
 }
 
 #[test]
-fn a_reader_that_fails(rt: HostRuntime) -> Result<(), Fail> {
-    let alloc = rt.alloc();
-    let text = format!(in alloc; "{FIVE}{FROM_ONE}")?;
+fn a_reader_that_fails(rt: HostRuntime) {
+    let text = joined(&rt, &[FIVE, FROM_ONE]);
     let bytes = text.as_bytes();
     for end in 0..=bytes.len() {
-        assert_refused(&rt, &mut Pieces::new(&bytes[..end], 7, true), 1, 0);
+        assert_unread(&rt, &bytes[..end]);
     }
-    for (graph_fails, file) in [(true, File::Graph), (false, File::Questions)] {
-        let mut out = Sheet::new(alloc, 100, true);
-        let mut first = Pieces::new(FIVE.as_bytes(), 7, graph_fails);
-        let mut second = Pieces::new(FROM_ONE.as_bytes(), 7, true);
-        let refused = outcome_of_pair(&rt, alloc, &mut first, &mut second, &mut out);
-        assert_eq!(rt; refused, fault(1, file, 0));
-        assert!(rt; out.bytes.is_empty());
-    }
-    Ok(())
+    assert_pair_unread(&rt, true, File::Graph);
+    assert_pair_unread(&rt, false, File::Questions);
+}
+
+/// Asserts that one input of these bytes is refused for what it says, or lacks, before anything is written.
+fn assert_cut_short(rt: &(impl Abort + AllocGlobal + Threads + Wait + Sync), front: &[u8]) {
+    let mut out = Sheet::new(rt.alloc(), 100, true);
+    let mut input = Pieces::new(front, 7, false);
+    let refused = outcome(rt, rt.alloc(), &Settings::default(), &mut input, &mut out);
+    let numbered = match refused {
+        Err(f) => f.number == 19 || (10 <= f.number && f.number <= 16),
+        Ok(()) => false,
+    };
+    assert!(rt; numbered);
+    assert!(rt; out.bytes.is_empty());
 }
 
 #[test]
-fn a_text_that_is_cut_short(rt: HostRuntime) -> Result<(), Fail> {
-    let alloc = rt.alloc();
-    let text = format!(in alloc; "{FIVE}{FROM_ONE}")?;
+fn a_text_that_is_cut_short(rt: HostRuntime) {
+    let text = joined(&rt, &[FIVE, FROM_ONE]);
     let bytes = text.as_bytes();
     for end in 0..bytes.len().saturating_sub(1) {
-        let mut out = Sheet::new(alloc, 100, true);
-        let refused = outcome(
-            &rt,
-            alloc,
-            &mut Pieces::new(&bytes[..end], 7, false),
-            &mut out,
-        );
-        let numbered = match refused {
-            Err(f) => f.number == 19 || (10 <= f.number && f.number <= 16),
-            Ok(()) => false,
-        };
-        assert!(rt; numbered && out.bytes.is_empty());
+        assert_cut_short(&rt, &bytes[..end]);
     }
-    Ok(())
+}
+
+/// Asserts that a writer with room for this front of the answers takes just that, and how the batch ends.
+fn assert_front(
+    rt: &(impl Abort + AllocGlobal + Threads + Wait + Sync),
+    text: &str,
+    front: &[u8],
+    flushes: bool,
+) {
+    let mut out = Sheet::new(rt.alloc(), front.len(), flushes);
+    let mut input = Plain::new(text.as_bytes());
+    let ended = outcome(rt, rt.alloc(), &Settings::default(), &mut input, &mut out);
+    let whole = flushes && front.len() == SHORTEST.len();
+    let wanted = if whole { Ok(()) } else { Err(fault_of_run(42)) };
+    assert_eq!(rt; ended, wanted);
+    assert_eq!(rt; out.bytes.as_slice(), front);
 }
 
 #[test]
-fn a_writer_that_fails(rt: HostRuntime) -> Result<(), Fail> {
-    let alloc = rt.alloc();
-    let text = format!(in alloc; "{FIVE}{FROM_ONE}")?;
+fn a_writer_that_fails(rt: HostRuntime) {
+    let text = joined(&rt, &[FIVE, FROM_ONE]);
     let wanted = SHORTEST.as_bytes();
     for room in 0..=wanted.len() {
-        for flushes in [false, true] {
-            let mut out = Sheet::new(alloc, room, flushes);
-            let ended = outcome(&rt, alloc, &mut Plain::new(text.as_bytes()), &mut out);
-            if room == wanted.len() && flushes {
-                assert_eq!(rt; ended, Ok(()));
-            } else {
-                assert_eq!(rt; ended, Err(fault_of_run(42)));
-            }
-            assert_eq!(rt; out.bytes.as_slice(), &wanted[..room]);
-        }
+        assert_front(&rt, text.as_str(), &wanted[..room], false);
+        assert_front(&rt, text.as_str(), &wanted[..room], true);
     }
-    Ok(())
 }

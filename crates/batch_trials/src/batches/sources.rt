@@ -1,10 +1,10 @@
 //! Questions from the sources of the one before, and from others: each is answered as it is alone.
-use super::{FIVE, assert_answered};
+use super::{FIVE, assert_both_ways};
+use crate::texts::joined;
 use batch_run::Settings;
 use path_algebra::Shortest;
 use std::process::Abort;
 use std::sync::Wait;
-use std::test::Fail;
 use std::thread::Threads;
 
 /// Asserts that questions over `FIVE` have this answer, with workers and without, however many are under way together.
@@ -12,75 +12,68 @@ fn assert_each(
     rt: &(impl Abort + AllocGlobal + Threads + Wait + Sync),
     questions: &str,
     wanted: &str,
-) -> Result<(), Fail> {
-    for plain in [false, true] {
-        for width in [1, 2, 3, 4, 5, 64] {
-            let settings = Settings {
-                width,
-                plain,
-                ..Settings::default()
-            };
-            assert_answered(rt, Shortest, &settings, FIVE, questions, wanted)?;
-        }
+) {
+    for width in [1, 2, 3, 4, 5, 64] {
+        let settings = Settings {
+            width,
+            ..Settings::default()
+        };
+        assert_both_ways(rt, Shortest, &settings, FIVE, questions, wanted);
     }
-    Ok(())
 }
 
 #[test]
-fn the_same_source_and_others(rt: HostRuntime) -> Result<(), Fail> {
+fn the_same_source_and_others(rt: HostRuntime) {
     let one = "s 1\nd 1 0 0 0\nd 2 3 2 3\nd 3 1 1 1\nd 4 8 3 2\nu 5\n";
     let four = "s 4\nu 1\nu 2\nu 3\nd 4 0 0 0\nu 5\n";
     let five = "s 5\nd 1 3 1 5\nd 2 6 3 3\nd 3 4 2 1\nd 4 11 4 2\nd 5 0 0 0\n";
-    let wanted = format!(in rt.alloc();
-        "p ans ss 7 shortest\n{one}{one}{five}{one}{four}{four}{five}"
-    )?;
+    let header = "p ans ss 7 shortest\n";
+    let wanted = joined(&rt, &[header, one, one, five, one, four, four, five]);
     assert_each(
         &rt,
         "p aux sp ss 7\ns 1\ns 1\ns 5\ns 1\ns 4\ns 4\ns 5\n",
         wanted.as_str(),
-    )
+    );
 }
 
 #[test]
-fn pairs_from_one_source(rt: HostRuntime) -> Result<(), Fail> {
+fn pairs_from_one_source(rt: HostRuntime) {
     assert_each(
         &rt,
         "p aux sp p2p 7\nq 1 4\nq 1 2\nq 5 2\nq 5 5\nq 1 3\nq 4 1\nq 1 5\n",
         "p ans p2p 7 shortest\nq 1 4\nd 8 3\nr 1 3 2 4\nq 1 2\nd 3 2\nr 1 3 2\nq 5 2\nd 6 3\nr 5 1 3 2\nq 5 5\nd 0 0\nr 5\nq 1 3\nd 1 1\nr 1 3\nq 4 1\nu\nq 1 5\nu\n",
-    )
+    );
 }
 
 #[test]
-fn the_same_sources_and_others(rt: HostRuntime) -> Result<(), Fail> {
+fn the_same_sources_and_others(rt: HostRuntime) {
     let nearest = "d 1 3 1 5\nd 2 6 3 3\nd 3 4 2 1\nd 4 0 0 0\nd 5 0 0 0\n";
     let from_one = "d 1 0 0 0\nd 2 3 2 3\nd 3 1 1 1\nd 4 8 3 2\nu 5\n";
-    let wanted = format!(in rt.alloc();
-        "p ans ms 6 shortest\nm 1 1\n{from_one}m 1 1\n{from_one}m 1\n{from_one}m 4 5\n{nearest}m 5 4\n{nearest}m 4 5\n{nearest}"
-    )?;
+    let header = "p ans ms 6 shortest\n";
+    let wanted = joined(
+        &rt,
+        &[
+            header, "m 1 1\n", from_one, "m 1 1\n", from_one, "m 1\n", from_one, "m 4 5\n",
+            nearest, "m 5 4\n", nearest, "m 4 5\n", nearest,
+        ],
+    );
     assert_each(
         &rt,
         "p aux sp ms 6\nm 1 1\nm 1 1\nm 1\nm 4 5\nm 5 4\nm 4 5\n",
         wanted.as_str(),
-    )
+    );
 }
 
 #[test]
-fn a_near_target_and_a_far_one(rt: HostRuntime) -> Result<(), Fail> {
+fn a_near_target_and_a_far_one(rt: HostRuntime) {
     let graph = "p sp 9 4\na 7 8 2\na 8 9 3\na 7 1 4\na 9 1 0\n";
-    for (width, plain) in [(1, false), (2, false), (1, true), (2, true)] {
+    let questions = "p aux sp p2p 2\nq 7 1\nq 7 9\n";
+    let wanted = "p ans p2p 2 shortest\nq 7 1\nd 4 1\nr 7 1\nq 7 9\nd 5 2\nr 7 8 9\n";
+    for width in [1, 2] {
         let settings = Settings {
             width,
-            plain,
             ..Settings::default()
         };
-        assert_answered(
-            &rt,
-            Shortest,
-            &settings,
-            graph,
-            "p aux sp p2p 2\nq 7 1\nq 7 9\n",
-            "p ans p2p 2 shortest\nq 7 1\nd 4 1\nr 7 1\nq 7 9\nd 5 2\nr 7 8 9\n",
-        )?;
+        assert_both_ways(&rt, Shortest, &settings, graph, questions, wanted);
     }
-    Ok(())
 }

@@ -2,8 +2,11 @@
 ghost use Rattle.std.specs.List.{All};
 ghost use Rattle.station.specs.Station.{BelongsTo};
 
-use super::{FIVE, FROM_ONE, SHORTEST, assert_answered};
-use batch_run::{File, Gate, OpenGate, RunFault, Settings, run_bundle};
+use super::{
+    FIVE, FROM_ONE, SHORTEST, SHORTEST_THRICE, THRICE, assert_answered, assert_ended, run_at,
+};
+use crate::texts::joined;
+use batch_run::{File, Gate, OpenGate, RunFault, Settings};
 use crossbeam_utils::CachePadded;
 use path_algebra::{PathAlgebra, Reach, Shortest, Widest};
 use post_floor::Floor;
@@ -12,15 +15,10 @@ use road_graph::{Graph, Vertex};
 use road_text::Plain;
 use shard_part::Plan;
 use station::{Station, open_question};
-use std::alloc::Global;
 use std::process::Abort;
 use std::sync::Wait;
 use std::sync::atomic::{AtomicU64, Ordering};
-use std::test::Fail;
 use std::thread::Threads;
-
-/// Three questions from the same source.
-const THRICE: &str = "p aux sp ss 3\ns 1\ns 1\ns 1\n";
 
 /// A cycle of tight arcs.
 const CYCLE: &str = "p sp 3 4\na 1 2 0\na 2 3 0\na 3 2 0\na 1 3 0\n";
@@ -48,6 +46,9 @@ const TWICE: &str = "p aux sp ms 1\nm 1 1\n";
 /// What `TWICE` over `FIVE` is answered.
 const FROM_TWICE: &str =
     "p ans ms 1 shortest\nm 1 1\nd 1 0 0 0\nd 2 3 2 3\nd 3 1 1 1\nd 4 8 3 2\nu 5\n";
+
+/// What is written before the first answer to `FROM_ONE`.
+const HEADER: &str = "p ans ss 1 shortest\n";
 
 /// One worker, one shard, one item a turn.
 const SLOW: Settings = Settings {
@@ -82,6 +83,14 @@ impl Counting {
             asked: AtomicU64::new(0),
             greatest: AtomicU64::new(0),
         }
+    }
+
+    /// How often it was asked, and the greatest turn.
+    fn counts(&self) -> (u64, u64) {
+        (
+            self.asked.load(Ordering::SeqCst),
+            self.greatest.load(Ordering::SeqCst),
+        )
     }
 }
 
@@ -137,19 +146,43 @@ impl Gate for Meeting {
     }
 }
 
-/// How a bundle ends at a gate, and what it has written.
-fn run_at<A: PathAlgebra, R: Threads + Wait + Sync, T: Gate>(
-    rt: &R,
-    alloc: Global,
-    algebra: A,
-    text: &str,
+/// A place for the mark of each of two workers.
+fn unmarked() -> [CachePadded<AtomicU64>; 2] {
+    [
+        CachePadded::new(AtomicU64::new(0)),
+        CachePadded::new(AtomicU64::new(0)),
+    ]
+}
+
+impl Meeting {
+    fn new(tries: u64) -> Meeting {
+        Meeting {
+            marks: unmarked(),
+            seconds: unmarked(),
+            tries,
+        }
+    }
+}
+
+/// Asserts that each of two workers has made its mark.
+fn assert_marked(rt: &impl Abort, marks: &[CachePadded<AtomicU64>; 2]) {
+    for mark in marks {
+        assert_eq!(rt; mark.load(Ordering::SeqCst), 1);
+    }
+}
+
+/// Asserts how questions over `FIVE` end as a bundle at a gate, and what they have written.
+fn assert_ends<T: Gate>(
+    rt: &(impl Abort + AllocGlobal + Threads + Wait + Sync),
+    questions: &str,
     settings: &Settings,
     gate: &T,
-) -> (Result<(), RunFault>, Vec<u8>) {
-    let mut out = Plain::new(Vec::new(alloc));
-    let mut input = Plain::new(text.as_bytes());
-    let ended = run_bundle(rt, alloc, algebra, &mut input, &mut out, settings, gate);
-    (ended, out.into_inner())
+    wanted: Result<(), RunFault>,
+    written: &str,
+) {
+    let text = joined(rt, &[FIVE, questions]);
+    let ended = run_at(rt, rt.alloc(), Shortest, text.as_str(), settings, gate);
+    assert_ended(rt, ended, wanted, written);
 }
 
 /// One turn of a station, with one item.
@@ -219,6 +252,14 @@ fn turns_to_the_end<'g, A: PathAlgebra>(
     panic!(rt; "not ended")
 }
 
+/// The graph of a text.
+fn graph_of(rt: &(impl Abort + AllocGlobal), text: &str) -> Graph {
+    match read_gr(rt.alloc(), &mut Plain::new(text.as_bytes())) {
+        Ok(graph) => graph,
+        Err(_) => panic!(rt; "refused"),
+    }
+}
+
 /// How many turns the stations of a question from the first vertex make with nobody to drive them.
 fn turns_alone<A: PathAlgebra>(
     rt: &(impl Abort + AllocGlobal),
@@ -233,29 +274,35 @@ fn turns_alone<A: PathAlgebra>(
     turns_to_the_end(rt, &floor, stations)
 }
 
+/// How often the gate of one worker is asked until a question from the first vertex is answered.
+fn turns_asked<A: PathAlgebra>(
+    rt: &(impl Abort + AllocGlobal + Threads + Wait + Sync),
+    algebra: A,
+    graph: &str,
+    shards: u8,
+) -> u64 {
+    let text = joined(rt, &[graph, FROM_ONE]);
+    let gate = Counting::new();
+    let settings = Settings {
+        shards: u64::from(shards),
+        ..SLOW
+    };
+    let (ended, _) = run_at(rt, rt.alloc(), algebra, text.as_str(), &settings, &gate);
+    assert_eq!(rt; ended, Ok(()));
+    gate.counts().0
+}
+
 /// Asserts that the gate of one worker is asked as often as the stations of a question turn when nobody drives them.
 fn assert_turns_agree<A: PathAlgebra>(
     rt: &(impl Abort + AllocGlobal + Threads + Wait + Sync),
     algebra: A,
     graph: &str,
-) -> Result<(), Fail> {
-    let alloc = rt.alloc();
-    let text = format!(in alloc; "{graph}{FROM_ONE}")?;
-    let Ok(roads) = read_gr(alloc, &mut Plain::new(graph.as_bytes())) else {
-        panic!(rt; "refused")
-    };
+) {
+    let roads = graph_of(rt, graph);
     for shards in [1u8, 3, 5] {
-        let gate = Counting::new();
-        let settings = Settings {
-            shards: u64::from(shards),
-            ..SLOW
-        };
-        let (ended, _) = run_at(rt, alloc, algebra, text.as_str(), &settings, &gate);
-        assert_eq!(rt; ended, Ok(()));
-        let alone = turns_alone(rt, algebra, &roads, shards);
-        assert_eq!(rt; gate.asked.load(Ordering::SeqCst), alone);
+        let asked = turns_asked(rt, algebra, graph, shards);
+        assert_eq!(rt; asked, turns_alone(rt, algebra, &roads, shards));
     }
-    Ok(())
 }
 
 fn stopped(number: u8) -> Result<(), RunFault> {
@@ -266,195 +313,159 @@ fn stopped(number: u8) -> Result<(), RunFault> {
     })
 }
 
-#[test]
-fn any_workers_and_shards(rt: HostRuntime) -> Result<(), Fail> {
-    for workers in [1, 2, 5, 64] {
-        for shards in [1, 5, 64] {
-            let settings = Settings {
-                workers,
-                shards,
-                ..Settings::default()
-            };
-            assert_answered(&rt, Shortest, &settings, FIVE, FROM_ONE, SHORTEST)?;
-            assert_answered(&rt, Shortest, &settings, CYCLE, FROM_ONE, AROUND)?;
-            assert_answered(&rt, Widest, &settings, WALK, FROM_ONE, WIDEST)?;
-            assert_answered(&rt, Shortest, &settings, FIVE, SEVERAL, NEAREST)?;
-        }
+/// Asserts that settings change no answer to a question from one source, or from several.
+fn assert_unchanged(rt: &(impl Abort + AllocGlobal + Threads + Wait + Sync), settings: &Settings) {
+    assert_answered(rt, Shortest, settings, FIVE, FROM_ONE, SHORTEST);
+    assert_answered(rt, Shortest, settings, CYCLE, FROM_ONE, AROUND);
+    assert_answered(rt, Widest, settings, WALK, FROM_ONE, WIDEST);
+    assert_answered(rt, Shortest, settings, FIVE, SEVERAL, NEAREST);
+}
+
+/// Asserts that so many workers change no answer, over any number of shards.
+fn assert_workers(rt: &(impl Abort + AllocGlobal + Threads + Wait + Sync), workers: u64) {
+    for shards in [1, 5, 64] {
+        let settings = Settings {
+            workers,
+            shards,
+            ..Settings::default()
+        };
+        assert_unchanged(rt, &settings);
     }
-    Ok(())
 }
 
 #[test]
-fn plain_writes_the_same(rt: HostRuntime) -> Result<(), Fail> {
+fn any_workers_and_shards(rt: HostRuntime) {
+    for workers in [1, 2, 5, 64] {
+        assert_workers(&rt, workers);
+    }
+}
+
+#[test]
+fn plain_writes_the_same(rt: HostRuntime) {
     let settings = Settings {
         plain: true,
         turns: 0,
         ..Settings::default()
     };
-    assert_answered(&rt, Shortest, &settings, FIVE, FROM_ONE, SHORTEST)?;
-    assert_answered(&rt, Widest, &settings, WALK, FROM_ONE, WIDEST)?;
-    assert_answered(&rt, Shortest, &settings, FIVE, SEVERAL, NEAREST)?;
-    assert_answered(&rt, Shortest, &settings, FIVE, TWICE, FROM_TWICE)?;
-    let text = format!(in rt.alloc(); "{FIVE}{FROM_ONE}")?;
-    let (ended, _) = run_at(&rt, rt.alloc(), Shortest, text.as_str(), &settings, &Closed);
-    assert_eq!(rt; ended, Ok(()));
-    Ok(())
+    assert_unchanged(&rt, &settings);
+    assert_answered(&rt, Shortest, &settings, FIVE, TWICE, FROM_TWICE);
+    assert_ends(&rt, FROM_ONE, &settings, &Closed, Ok(()), SHORTEST);
 }
 
 #[test]
-fn any_width_and_budget(rt: HostRuntime) -> Result<(), Fail> {
-    for (width, budget) in [(1, 1), (2, 1), (3, 2), (64, 65_536)] {
+fn any_width_and_budget(rt: HostRuntime) {
+    for &(width, budget) in &[(1, 1), (2, 1), (3, 2), (64, 65_536)] {
         let settings = Settings {
             width,
             budget,
             shards: 3,
             ..Settings::default()
         };
-        assert_answered(&rt, Shortest, &settings, FIVE, FROM_ONE, SHORTEST)?;
-        assert_answered(&rt, Shortest, &settings, FIVE, SEVERAL, NEAREST)?;
+        assert_unchanged(&rt, &settings);
     }
-    Ok(())
+}
+
+/// Whether a question is answered; if not, asserts that the limit of turns has stopped it behind the header.
+fn is_answered(
+    rt: &(impl Abort + AllocGlobal + Threads + Wait + Sync),
+    settings: &Settings,
+) -> bool {
+    let text = joined(rt, &[FIVE, FROM_ONE]);
+    let ended = run_at(rt, rt.alloc(), Shortest, text.as_str(), settings, &OpenGate);
+    let answered = ended.0.is_ok();
+    if answered {
+        assert_ended(rt, ended, Ok(()), SHORTEST);
+    } else {
+        assert_ended(rt, ended, stopped(40), HEADER);
+    }
+    answered
 }
 
 #[test]
-fn turn_limits(rt: HostRuntime) -> Result<(), Fail> {
-    let text = format!(in rt.alloc(); "{FIVE}{FROM_ONE}")?;
-    let header = "p ans ss 1 shortest\n";
-    for (turns, wanted, written) in [
-        (0, stopped(40), header),
-        (17, stopped(40), header),
-        (18, Ok(()), SHORTEST),
-    ] {
+fn turn_limits(rt: HostRuntime) {
+    for &(turns, wanted) in &[(0, false), (17, false), (18, true)] {
         let settings = Settings { turns, ..SLOW };
-        let (ended, out) = run_at(
-            &rt,
-            rt.alloc(),
-            Shortest,
-            text.as_str(),
-            &settings,
-            &OpenGate,
-        );
-        assert_eq!(rt; ended, wanted);
-        assert_eq!(rt; out.as_slice(), written.as_bytes());
+        assert_eq!(rt; is_answered(&rt, &settings), wanted);
     }
-    Ok(())
 }
 
 #[test]
-fn every_turn_limit(rt: HostRuntime) -> Result<(), Fail> {
-    let text = format!(in rt.alloc(); "{FIVE}{FROM_ONE}")?;
+fn every_turn_limit(rt: HostRuntime) {
     for turns in 0..=200 {
         let settings = Settings {
             shards: 3,
             turns,
             ..SLOW
         };
-        let (ended, out) = run_at(
-            &rt,
-            rt.alloc(),
-            Shortest,
-            text.as_str(),
-            &settings,
-            &OpenGate,
-        );
-        if ended == Ok(()) {
-            assert_eq!(rt; out.as_slice(), SHORTEST.as_bytes());
-        } else {
-            assert!(rt; turns < 200);
-            assert_eq!(rt; ended, stopped(40));
-            assert_eq!(rt; out.as_slice(), b"p ans ss 1 shortest\n".as_slice());
-        }
+        let answered = is_answered(&rt, &settings);
+        assert!(rt; answered || turns < 200);
     }
-    Ok(())
 }
 
 #[test]
-fn no_turn_for_no_question(rt: HostRuntime) -> Result<(), Fail> {
+fn no_turn_for_no_question(rt: HostRuntime) {
     let settings = Settings { turns: 0, ..SLOW };
     let text = "p sp 1 0\np aux sp ss 0\n";
-    let (ended, out) = run_at(&rt, rt.alloc(), Shortest, text, &settings, &Closed);
-    assert_eq!(rt; ended, Ok(()));
-    assert_eq!(rt; out.as_slice(), b"p ans ss 0 shortest\n".as_slice());
-    Ok(())
+    let ended = run_at(&rt, rt.alloc(), Shortest, text, &settings, &Closed);
+    assert_ended(&rt, ended, Ok(()), "p ans ss 0 shortest\n");
 }
 
 #[test]
-fn a_gate_that_closes(rt: HostRuntime) -> Result<(), Fail> {
-    let text = format!(in rt.alloc(); "{FIVE}{FROM_ONE}")?;
+fn a_gate_that_closes(rt: HostRuntime) {
+    let settings = Settings { shards: 3, ..SLOW };
     for turn in 1..=5 {
-        let settings = Settings { shards: 3, ..SLOW };
-        let gate = ClosedAt(turn);
-        let (ended, out) = run_at(&rt, rt.alloc(), Shortest, text.as_str(), &settings, &gate);
-        assert_eq!(rt; ended, stopped(41));
-        assert_eq!(rt; out.as_slice(), b"p ans ss 1 shortest\n".as_slice());
+        assert_ends(
+            &rt,
+            FROM_ONE,
+            &settings,
+            &ClosedAt(turn),
+            stopped(41),
+            HEADER,
+        );
     }
-    Ok(())
 }
 
 #[test]
-fn turns_agree(rt: HostRuntime) -> Result<(), Fail> {
-    assert_turns_agree(&rt, Shortest, FIVE)?;
-    assert_turns_agree(&rt, Widest, FIVE)?;
-    assert_turns_agree(&rt, Reach, FIVE)?;
-    assert_turns_agree(&rt, Shortest, CYCLE)?;
-    assert_turns_agree(&rt, Widest, WALK)
+fn turns_agree(rt: HostRuntime) {
+    assert_turns_agree(&rt, Shortest, FIVE);
+    assert_turns_agree(&rt, Widest, FIVE);
+    assert_turns_agree(&rt, Reach, FIVE);
+    assert_turns_agree(&rt, Shortest, CYCLE);
+    assert_turns_agree(&rt, Widest, WALK);
 }
 
 #[test]
-fn a_closed_gate(rt: HostRuntime) -> Result<(), Fail> {
-    let text = format!(in rt.alloc(); "{FIVE}{THRICE}")?;
+fn a_closed_gate(rt: HostRuntime) {
     for workers in [1, 2, 64] {
         let settings = Settings {
             workers,
             ..Settings::default()
         };
-        let (ended, out) = run_at(&rt, rt.alloc(), Shortest, text.as_str(), &settings, &Closed);
-        assert_eq!(rt; ended, stopped(41));
-        assert_eq!(rt; out.as_slice(), b"p ans ss 3 shortest\n".as_slice());
+        let header = "p ans ss 3 shortest\n";
+        assert_ends(&rt, THRICE, &settings, &Closed, stopped(41), header);
     }
-    Ok(())
 }
 
 #[test]
-fn gates_are_asked_once_a_turn(rt: HostRuntime) -> Result<(), Fail> {
-    let text = format!(in rt.alloc(); "{FIVE}{THRICE}")?;
-    for (width, greatest) in [(1, 18), (2, 36)] {
+fn gates_are_asked_once_a_turn(rt: HostRuntime) {
+    for &(width, greatest) in &[(1, 18), (2, 36)] {
         let gate = Counting::new();
         let settings = Settings { width, ..SLOW };
-        let (ended, _) = run_at(&rt, rt.alloc(), Shortest, text.as_str(), &settings, &gate);
-        assert_eq!(rt; ended, Ok(()));
-        assert_eq!(rt; gate.asked.load(Ordering::SeqCst), 54);
-        assert_eq!(rt; gate.greatest.load(Ordering::SeqCst), greatest);
+        assert_ends(&rt, THRICE, &settings, &gate, Ok(()), SHORTEST_THRICE);
+        assert_eq!(rt; gate.counts(), (54, greatest));
     }
-    Ok(())
 }
 
 #[test]
-fn two_workers_meet(rt: HostRuntime) -> Result<(), Fail> {
-    let text = format!(in rt.alloc(); "{FIVE}{FROM_ONE}")?;
-    let gate = Meeting {
-        marks: [
-            CachePadded::new(AtomicU64::new(0)),
-            CachePadded::new(AtomicU64::new(0)),
-        ],
-        seconds: [
-            CachePadded::new(AtomicU64::new(0)),
-            CachePadded::new(AtomicU64::new(0)),
-        ],
-        tries: 1_000_000_000,
-    };
+fn two_workers_meet(rt: HostRuntime) {
+    let gate = Meeting::new(1_000_000_000);
     let settings = Settings {
         workers: 2,
         shards: 2,
         turns: 1_000_000_000,
         ..Settings::default()
     };
-    let (ended, out) = run_at(&rt, rt.alloc(), Shortest, text.as_str(), &settings, &gate);
-    assert_eq!(rt; ended, Ok(()));
-    assert_eq!(rt; out.as_slice(), SHORTEST.as_bytes());
-    for me in [0, 1] {
-        assert_eq!(rt; gate.marks[me].load(Ordering::SeqCst), 1);
-        assert_eq!(rt; gate.seconds[me].load(Ordering::SeqCst), 1);
-    }
-    Ok(())
+    assert_ends(&rt, FROM_ONE, &settings, &gate, Ok(()), SHORTEST);
+    assert_marked(&rt, &gate.marks);
+    assert_marked(&rt, &gate.seconds);
 }

@@ -31,6 +31,18 @@ fn graph_fault(alloc: Global, bytes: &[u8]) -> (u8, u64) {
     (number, line)
 }
 
+/// Asserts of a graph the number and the line of the fault.
+fn assert_graph_fault(rt: &(impl Abort + AllocGlobal), text: &[u8], wanted: (u8, u64)) {
+    assert_eq!(rt; graph_fault(rt.alloc(), text), wanted);
+}
+
+/// Asserts that a graph is read, and how it is written again.
+fn assert_graph(rt: &(impl Abort + AllocGlobal), text: &[u8], again: &[u8]) {
+    let (written, number, _line) = graph(rt.alloc(), text);
+    assert_eq!(rt; number, 0);
+    assert_eq!(rt; written.as_slice(), again);
+}
+
 /// Asserts of graphs the number and the line of the fault.
 fn assert_graph_faults(rt: &(impl Abort + AllocGlobal), cases: &[(&str, (u8, u64))]) {
     for (text, wanted) in cases {
@@ -58,6 +70,13 @@ fn questions(alloc: Global, bytes: &[u8]) -> (Vec<u8>, u8, u64) {
     }
 }
 
+/// Asserts that questions over five vertices are read, and written again as they were.
+fn assert_questions(rt: &(impl Abort + AllocGlobal), text: &[u8]) {
+    let (written, number, _line) = questions(rt.alloc(), text);
+    assert_eq!(rt; number, 0);
+    assert_eq!(rt; written.as_slice(), text);
+}
+
 /// Asserts of questions over five vertices the number and the line of the fault.
 fn assert_questions_faults(rt: &(impl Abort + AllocGlobal), cases: &[(&str, (u8, u64))]) {
     for (text, wanted) in cases {
@@ -81,6 +100,15 @@ fn bundle(alloc: Global, bytes: &[u8], piece: usize, fails: bool) -> (Vec<u8>, u
     }
 }
 
+/// Asserts that a bundle is read in pieces of so many bytes, and how it is written again.
+fn assert_bundle(rt: &(impl Abort + AllocGlobal), text: &[u8], piece: usize, again: &[u8])
+    requires { 0 < piece }
+{
+    let (written, number, _line) = bundle(rt.alloc(), text, piece, false);
+    assert_eq!(rt; number, 0);
+    assert_eq!(rt; written.as_slice(), again);
+}
+
 /// Asserts of bundles the number and the line of the fault.
 fn assert_bundle_faults(rt: &(impl Abort + AllocGlobal), cases: &[(&str, (u8, u64))]) {
     for (text, wanted) in cases {
@@ -93,18 +121,13 @@ fn assert_bundle_faults(rt: &(impl Abort + AllocGlobal), cases: &[(&str, (u8, u6
 fn lenient_spelling(rt: HostRuntime) {
     let text =
         b"c\r\np sp 5 7\r\nc graph contains 5 nodes\r\n\r\na 1 2 4\r\na 1 03 1\r\na\t3\t2\t2\r\na 2 4 5\r\na 3 4 8\r\na 4 4 0\r\na 5 1 3\r\np aux sp ss 1\r\ns 1";
-    let (written, number, _line) = bundle(rt.alloc(), text, 7, false);
-    assert_eq!(rt; number, 0);
-    assert_eq!(rt; written.as_slice(), BUNDLE);
+    assert_bundle(&rt, text, 7, BUNDLE);
 }
 
 #[test]
 fn greatest_weight_and_limits(rt: HostRuntime) {
-    let alloc = rt.alloc();
     let greatest = b"p sp 2 1\na 1 2 4294967295\n";
-    let (written, number, _line) = graph(alloc, greatest);
-    assert_eq!(rt; number, 0);
-    assert_eq!(rt; written.as_slice(), greatest.as_slice());
+    assert_graph(&rt, greatest, greatest);
     assert_graph_faults(
         &rt,
         &[
@@ -184,9 +207,7 @@ fn bundle_boundaries(rt: HostRuntime) {
         ],
     );
     let empty = b"p sp 1 0\np aux sp ss 0\n";
-    let (written, number, _line) = bundle(rt.alloc(), empty, 9, false);
-    assert_eq!(rt; number, 0);
-    assert_eq!(rt; written.as_slice(), empty.as_slice());
+    assert_bundle(&rt, empty, 9, empty);
 }
 
 #[test]
@@ -198,15 +219,13 @@ fn carriage_returns_and_odd_bytes(rt: HostRuntime) {
             ("p sp 2 1\na 1 2 3\r\r\n", (15, 2)),
         ],
     );
-    assert_eq!(rt; graph_fault(rt.alloc(), b"p sp 2 1\n\xff\n"), (13, 2));
+    assert_graph_fault(&rt, b"p sp 2 1\n\xff\n", (13, 2));
 }
 
 #[test]
 fn pieces_of_any_size(rt: HostRuntime) {
     for piece in [1, 2, 3, 65_535, 65_536] {
-        let (written, number, _line) = bundle(rt.alloc(), BUNDLE, piece, false);
-        assert_eq!(rt; number, 0);
-        assert_eq!(rt; written.as_slice(), BUNDLE);
+        assert_bundle(&rt, BUNDLE, piece, BUNDLE);
     }
 }
 
@@ -245,26 +264,20 @@ fn long_text(alloc: Global, front: &[u8], byte: u8, back: &[u8]) -> Result<Vec<u
 fn very_long_lines(rt: HostRuntime) -> Result<(), Fail> {
     let alloc = rt.alloc();
     let zeros = long_text(alloc, b"p sp 2 1\na 1 2 ", b'0', b"7\n")?;
-    let (written, number, _line) = graph(alloc, &zeros);
-    assert_eq!(rt; number, 0);
-    assert_eq!(rt; written.as_slice(), b"p sp 2 1\na 1 2 7\n".as_slice());
+    assert_graph(&rt, &zeros, b"p sp 2 1\na 1 2 7\n");
     let nines = long_text(alloc, b"p sp 2 1\na 1 2 ", b'9', b"\n")?;
-    assert_eq!(rt; graph_fault(alloc, &nines), (16, 2));
+    assert_graph_fault(&rt, &nines, (16, 2));
     let mut moved = long_text(alloc, b"c", b'x', b"\n")?;
     moved.extend_from_slice(nines.as_slice())?;
-    assert_eq!(rt; graph_fault(alloc, &moved), (16, 3));
+    assert_graph_fault(&rt, &moved, (16, 3));
     let comment = long_text(alloc, b"c", b'x', b"\np sp 2 1\na 1 2 -\n")?;
-    assert_eq!(rt; graph_fault(alloc, &comment), (15, 3));
+    assert_graph_fault(&rt, &comment, (15, 3));
     Ok(())
 }
 
 #[test]
 fn one_source_as_several(rt: HostRuntime) {
-    let alloc = rt.alloc();
-    let repeated = b"p aux sp ms 1\nm 1 1\n";
-    let (written, number, _line) = questions(alloc, repeated);
-    assert_eq!(rt; number, 0);
-    assert_eq!(rt; written.as_slice(), repeated.as_slice());
+    assert_questions(&rt, b"p aux sp ms 1\nm 1 1\n");
     assert_questions_faults(
         &rt,
         &[
@@ -273,10 +286,7 @@ fn one_source_as_several(rt: HostRuntime) {
             ("p aux sp ms 1\nm 1 1 1 1 1 1 1 1 1 6\n", (17, 2)),
         ],
     );
-    let pairs = b"p aux sp p2p 2\nq 1 4\nq 5 5\n";
-    let (again, none, _line) = questions(alloc, pairs);
-    assert_eq!(rt; none, 0);
-    assert_eq!(rt; again.as_slice(), pairs.as_slice());
+    assert_questions(&rt, b"p aux sp p2p 2\nq 1 4\nq 5 5\n");
 }
 
 #[test]

@@ -249,49 +249,53 @@ fn carriage_returns_and_odd_bytes(rt: HostRuntime) {
     assert_eq!(rt; outcome(rt.alloc(), b"\xff\n", 1, false), Err((13, 1)));
 }
 
+/// Asserts how a write or a flush ended, and what the sheet has then.
+fn assert_wrote(
+    rt: &impl Abort,
+    ended: Result<(), WriteFault>,
+    wanted: Result<(), WriteFault>,
+    sheet: &Sheet,
+    text: &[u8],
+) {
+    assert_eq!(rt; ended, wanted);
+    assert_eq!(rt; sheet.bytes.as_slice(), text);
+}
+
 #[test]
 fn writers_of_lines(rt: HostRuntime) {
     let mut sheet = Sheet::new();
     let mut line = Line::new();
     line.push_str("d");
     push_spaced(&mut line, 18_446_744_073_709_551_615);
-    assert_eq!(rt; write_bytes(&mut sheet, line.as_str().as_bytes()), Ok(()));
-    assert_eq!(rt;
-        sheet.bytes.as_slice(),
-        b"d 18446744073709551615".as_slice()
-    );
-    assert_eq!(rt; write_list(&mut sheet, b"r", &[0, 70, 5]), Ok(()));
-    assert_eq!(rt;
-        sheet.bytes.as_slice(),
-        b"d 18446744073709551615r 0 70 5\n".as_slice()
-    );
-    assert_eq!(rt; write_list(&mut sheet, b"m", &[1]), Err(WriteFault));
-    assert_eq!(rt;
-        sheet.bytes.as_slice(),
-        b"d 18446744073709551615r 0 70 5\nm".as_slice()
-    );
-    assert_eq!(rt; write_bytes(&mut sheet, b""), Ok(()));
+    let ended = write_bytes(&mut sheet, line.as_str().as_bytes());
+    assert_wrote(&rt, ended, Ok(()), &sheet, b"d 18446744073709551615");
+    let ended = write_list(&mut sheet, b"r", &[0, 70, 5]);
+    let both = b"d 18446744073709551615r 0 70 5\n";
+    assert_wrote(&rt, ended, Ok(()), &sheet, both);
+    let ended = write_list(&mut sheet, b"m", &[1]);
+    let full = b"d 18446744073709551615r 0 70 5\nm";
+    assert_wrote(&rt, ended, Err(WriteFault), &sheet, full);
+    let ended = write_bytes(&mut sheet, b"");
+    assert_wrote(&rt, ended, Ok(()), &sheet, full);
 }
 
 #[test]
 fn gathers_and_passes_on(rt: HostRuntime) -> Result<(), Fail> {
     let mut buffered = Buffered::new(rt.alloc(), Sheet::new())?;
     for _ in 0..3 {
-        assert_eq!(rt; write_bytes(&mut buffered, b"0123456789"), Ok(()));
+        let ended = write_bytes(&mut buffered, b"0123456789");
+        assert_wrote(&rt, ended, Ok(()), buffered.inner(), b"");
     }
-    assert_eq!(rt; buffered.inner().bytes.as_slice(), b"".as_slice());
-    assert_eq!(rt; buffered.flush(), Ok(()));
-    assert_eq!(rt;
-        buffered.inner().bytes.as_slice(),
-        b"012345678901234567890123456789".as_slice()
-    );
-    assert_eq!(rt; write_bytes(&mut buffered, b"abcd"), Ok(()));
-    assert_eq!(rt; buffered.flush(), Err(WriteFault));
-    assert_eq!(rt;
-        buffered.inner().bytes.as_slice(),
-        b"012345678901234567890123456789ab".as_slice()
-    );
-    assert_eq!(rt; buffered.flush(), Err(WriteFault));
+    let ended = buffered.flush();
+    let thirty = b"012345678901234567890123456789";
+    assert_wrote(&rt, ended, Ok(()), buffered.inner(), thirty);
+    let ended = write_bytes(&mut buffered, b"abcd");
+    assert_wrote(&rt, ended, Ok(()), buffered.inner(), thirty);
+    for _ in 0..2 {
+        let ended = buffered.flush();
+        let full = b"012345678901234567890123456789ab";
+        assert_wrote(&rt, ended, Err(WriteFault), buffered.inner(), full);
+    }
     Ok(())
 }
 

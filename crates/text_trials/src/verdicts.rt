@@ -1,10 +1,15 @@
 //! Verdicts on answers that are right, and on answers with one place changed.
 
+ghost use Rattle.std.specs.Prelude.{IfOk};
+ghost use Rattle.road_files.specs.Asked.{AskWithin};
+
 use answer_check::{Reason, Verdict, check, right_lines_are_certified};
-use answer_text::read_answers;
+use answer_text::{Answers, read_answers};
 use path_algebra::{PathAlgebra, Reach, Shortest, Widest, Within};
-use road_files::{read_gr, read_questions};
+use road_files::{Questions, read_gr, read_questions};
+use road_graph::Graph;
 use road_text::Plain;
+use std::alloc::Global;
 use std::process::Abort;
 use std::test::Fail;
 use std::thread::Threads;
@@ -18,6 +23,35 @@ const FROM_ONE: &str = "p aux sp ss 1\ns 1\n";
 /// What `FROM_ONE` over `FIVE` is answered under the least sum of weights.
 const LINES: &str = "d 1 0 0 0\nd 2 3 2 3\nd 3 1 1 1\nd 4 8 3 2\nu 5\n";
 
+/// A graph, questions over it, and answers for it.
+#[derive(Drop)]
+struct Inputs {
+    graph: Graph,
+    questions: Questions,
+    answers: Answers,
+}
+
+/// What three texts say, of which each has no fault.
+fn inputs_of(alloc: Global, graph: &str, questions: &str, answers: &str) -> Result<Inputs, Fail>
+    ensures { IfOk result (λ i. AskWithin i.graph.vertices i.questions) }
+{
+    let graph = read_gr(alloc, &mut Plain::new(graph.as_bytes()))
+        .ok()
+        .ok_or("no graph")?;
+    let n = graph.vertices();
+    let questions = read_questions(alloc, &mut Plain::new(questions.as_bytes()), n)
+        .ok()
+        .ok_or("no questions")?;
+    let answers = read_answers(alloc, &mut Plain::new(answers.as_bytes()), n)
+        .ok()
+        .ok_or("no answers")?;
+    Ok(Inputs {
+        graph,
+        questions,
+        answers,
+    })
+}
+
 /// Asserts the verdict that a number of checks give, each the same.
 fn assert_verdicts<A: PathAlgebra>(
     rt: &(impl Abort + AllocGlobal + Threads + Sync),
@@ -29,18 +63,10 @@ fn assert_verdicts<A: PathAlgebra>(
     times: u32,
 ) -> Result<(), Fail> {
     let alloc = rt.alloc();
-    let graph = read_gr(alloc, &mut Plain::new(graph.as_bytes()))
-        .ok()
-        .ok_or("no graph")?;
-    let n = graph.vertices();
-    let questions = read_questions(alloc, &mut Plain::new(questions.as_bytes()), n)
-        .ok()
-        .ok_or("no questions")?;
-    let answers = read_answers(alloc, &mut Plain::new(answers.as_bytes()), n)
-        .ok()
-        .ok_or("no answers")?;
+    let inputs = inputs_of(alloc, graph, questions, answers)?;
     for _ in 0..times {
-        let verdict = check(rt, alloc, algebra, &graph, &questions, &answers);
+        let (graph, questions) = (&inputs.graph, &inputs.questions);
+        let verdict = check(rt, alloc, algebra, graph, questions, &inputs.answers);
         assert_eq!(rt; verdict, Ok(wanted));
     }
     Ok(())
@@ -118,9 +144,34 @@ fn right_answers(rt: HostRuntime) -> Result<(), Fail> {
     )
 }
 
+/// Asserts the verdict on what is told of vertex 4 where the five vertices are asked for what is reached.
+fn assert_reached(
+    rt: &(impl Abort + AllocGlobal + Threads + Sync),
+    fourth: &str,
+    wanted: Verdict,
+) -> Result<(), Fail> {
+    let answers = format!(in rt.alloc();
+        "p ans ss 1 reach\ns 1\nd 1 0 0 0\nd 2 0 1 1\nd 3 0 1 1\n{fourth}\nu 5\n"
+    )?;
+    assert_verdict(rt, Reach, FIVE, FROM_ONE, answers.as_str(), wanted)
+}
+
+/// Asserts the verdict on three pairs, of which the first is told this route.
+fn assert_route(
+    rt: &(impl Abort + AllocGlobal + Threads + Sync),
+    route: &str,
+    wanted: Verdict,
+) -> Result<(), Fail> {
+    let pairs = "p aux sp p2p 3\nq 1 4\nq 4 1\nq 5 5\n";
+    let answers = format!(in rt.alloc();
+        "p ans p2p 3 shortest\nq 1 4\nd 8 3\n{route}\nq 4 1\nu\nq 5 5\nd 0 0\nr 5\n"
+    )?;
+    assert_verdict(rt, Shortest, FIVE, pairs, answers.as_str(), wanted)
+}
+
 #[test]
 fn checker_names_the_place(rt: HostRuntime) -> Result<(), Fail> {
-    for (lines, wanted) in [
+    for &(lines, wanted) in &[
         (LINES, Verdict::Valid),
         (
             "d 1 0 0 0\nd 2 3 2 3\nd 3 1 1 1\nd 4 9 2 3\nu 5\n",
@@ -137,31 +188,15 @@ fn checker_names_the_place(rt: HostRuntime) -> Result<(), Fail> {
     ] {
         assert_lines(&rt, FIVE, lines, wanted)?;
     }
-    for (fourth, wanted) in [
-        ("d 4 0 2 2", Verdict::Valid),
-        ("d 4 0 2 3", invalid(1, 4, Reason::LesserParent)),
-    ] {
-        let answers = format!(in rt.alloc();
-            "p ans ss 1 reach\ns 1\nd 1 0 0 0\nd 2 0 1 1\nd 3 0 1 1\n{fourth}\nu 5\n"
-        )?;
-        assert_verdict(&rt, Reach, FIVE, FROM_ONE, answers.as_str(), wanted)?;
-    }
-    let pairs = "p aux sp p2p 3\nq 1 4\nq 4 1\nq 5 5\n";
-    for (route, wanted) in [
-        ("r 1 3 2 4", Verdict::Valid),
-        ("r 1 2 4", invalid(1, 4, Reason::OtherRoute)),
-    ] {
-        let answers = format!(in rt.alloc();
-            "p ans p2p 3 shortest\nq 1 4\nd 8 3\n{route}\nq 4 1\nu\nq 5 5\nd 0 0\nr 5\n"
-        )?;
-        assert_verdict(&rt, Shortest, FIVE, pairs, answers.as_str(), wanted)?;
-    }
-    Ok(())
+    assert_reached(&rt, "d 4 0 2 2", Verdict::Valid)?;
+    assert_reached(&rt, "d 4 0 2 3", invalid(1, 4, Reason::LesserParent))?;
+    assert_route(&rt, "r 1 3 2 4", Verdict::Valid)?;
+    assert_route(&rt, "r 1 2 4", invalid(1, 4, Reason::OtherRoute))
 }
 
 #[test]
 fn places_in_order(rt: HostRuntime) -> Result<(), Fail> {
-    for (lines, wanted) in [
+    for &(lines, wanted) in &[
         (
             "d 1 0 0 1\nd 2 3 2 3\nd 3 1 1 1\nd 4 8 3 2\nu 5\n",
             invalid(1, 1, Reason::Mismatch),
@@ -205,7 +240,7 @@ fn checker_reasons(rt: HostRuntime) -> Result<(), Fail> {
     let around = "p sp 3 4\na 1 2 0\na 2 3 0\na 3 2 0\na 1 3 0\n";
     let apart = "p sp 3 2\na 2 3 0\na 3 2 0\n";
     let twice = "p sp 4 4\na 1 2 1\na 1 3 1\na 2 4 1\na 3 4 1\n";
-    for (graph, lines, wanted) in [
+    for &(graph, lines, wanted) in &[
         (
             FIVE,
             "d 1 0 0 0\nd 2 4 1 1\nd 3 1 1 1\nd 4 8 3 2\nu 5\n",
@@ -245,7 +280,7 @@ fn checker_reasons(rt: HostRuntime) -> Result<(), Fail> {
         assert_lines(&rt, graph, lines, wanted)?;
     }
     let two = "p aux sp ms 1\nm 4 5\n";
-    for (told, wanted) in [
+    for &(told, wanted) in &[
         ("d 4 0 0 0\nd 5 1 0 0\n", invalid(1, 1, Reason::NoParent)),
         ("d 4 0 0 1\nd 5 0 0 0\n", invalid(1, 4, Reason::Mismatch)),
     ] {
@@ -259,7 +294,7 @@ fn checker_reasons(rt: HostRuntime) -> Result<(), Fail> {
 
 #[test]
 fn reasons_against_pairs(rt: HostRuntime) -> Result<(), Fail> {
-    for (told, wanted) in [
+    for &(told, wanted) in &[
         ("q 1 4\nu\n", invalid(1, 4, Reason::HasWalk)),
         ("q 1 4\nd 9 2\nr 1 3 4\n", invalid(1, 4, Reason::NotBest)),
         ("q 1 4\nd 8 2\nr 1 2 4\n", invalid(1, 4, Reason::OtherHops)),
@@ -319,7 +354,7 @@ fn pairs_in_groups(rt: HostRuntime) -> Result<(), Fail> {
 
 #[test]
 fn numbers_of_reasons(rt: HostRuntime) {
-    for (reason, number) in [
+    for &(reason, number) in &[
         (Reason::Mismatch, 1),
         (Reason::NotBest, 2),
         (Reason::NoParent, 3),
@@ -332,9 +367,8 @@ fn numbers_of_reasons(rt: HostRuntime) {
     }
 }
 
-#[test]
-fn first_of_two_wrong_codes(rt: HostRuntime) -> Result<(), Fail> {
-    let alloc = rt.alloc();
+/// A chain of 5000 vertices and answers for it, of which those for vertices 3000 and 4000 tell another value.
+fn chain_with_two_wrong_codes(alloc: Global) -> Result<(String, String), Fail> {
     let mut graph = format!(in alloc; "p sp 5000 4999\n")?;
     let mut answers = format!(in alloc; "p ans ss 1 shortest\ns 1\nd 1 0 0 0\n")?;
     for v in 1..5000u32 {
@@ -347,6 +381,12 @@ fn first_of_two_wrong_codes(rt: HostRuntime) -> Result<(), Fail> {
         graph.push_str(format!(in alloc; "a {v} {head} 1\n")?.as_str())?;
         answers.push_str(format!(in alloc; "d {head} {code} {v} {v}\n")?.as_str())?;
     }
+    Ok((graph, answers))
+}
+
+#[test]
+fn first_of_two_wrong_codes(rt: HostRuntime) -> Result<(), Fail> {
+    let (graph, answers) = chain_with_two_wrong_codes(rt.alloc())?;
     let place = invalid(1, 3000, Reason::NotBest);
     assert_verdicts(
         &rt,

@@ -1,4 +1,4 @@
-//! The graphs that the tests ask about, and their plans. What is refused memory is asked for once more.
+//! The graphs that the tests ask about, and their plans.
 
 use road_graph::{Graph, RoadArc, Vertex};
 use shard_part::Plan;
@@ -43,7 +43,7 @@ fn asked(alloc: Global, n: u32, arcs: &[(u32, u32, u32)]) -> Option<Graph> {
     Graph::new(alloc, n, list).ok()
 }
 
-/// The graph of these tails, heads and weights.
+/// The graph of these tails, heads and weights. What is refused memory is asked for once more.
 fn graph_of(rt: &(impl Abort + AllocGlobal), n: u32, arcs: &[(u32, u32, u32)]) -> Graph {
     match asked(rt.alloc(), n, arcs) {
         Some(graph) => graph,
@@ -65,7 +65,7 @@ pub fn chain_of(rt: &(impl Abort + AllocGlobal), n: u32, weight: u32) -> Graph {
     graph_of(rt, n, &arcs)
 }
 
-/// Vertices 1 to n in blocks.
+/// Vertices 1 to n in blocks. What is refused memory is asked for once more.
 pub fn blocks_of(rt: &(impl Abort + AllocGlobal), n: u32, shards: u8) -> Plan {
     assert!(rt; n <= 1_000_000);
     assert!(rt; 1 <= shards);

@@ -1,6 +1,5 @@
 //! Verdicts on answers that are right, and on answers with one place changed.
 
-ghost use Rattle.std.specs.Prelude.{IfOk};
 ghost use Rattle.road_files.specs.Asked.{AskWithin};
 
 use answer_check::{Reason, Verdict, check, right_lines_are_certified};
@@ -23,33 +22,30 @@ const FROM_ONE: &str = "p aux sp ss 1\ns 1\n";
 /// What `FROM_ONE` over `FIVE` is answered under the least sum of weights.
 const LINES: &str = "d 1 0 0 0\nd 2 3 2 3\nd 3 1 1 1\nd 4 8 3 2\nu 5\n";
 
-/// A graph, questions over it, and answers for it.
-#[derive(Drop)]
-struct Inputs {
-    graph: Graph,
-    questions: Questions,
-    answers: Answers,
+/// The graph of a text that has no fault.
+fn graph_of(rt: &(impl Abort + AllocGlobal), text: &str) -> Graph {
+    match read_gr(rt.alloc(), &mut Plain::new(text.as_bytes())) {
+        Ok(graph) => graph,
+        Err(_) => panic!(rt; "no graph"),
+    }
 }
 
-/// What three texts say, of which each has no fault.
-fn inputs_of(alloc: Global, graph: &str, questions: &str, answers: &str) -> Result<Inputs, Fail>
-    ensures { IfOk result (λ i. AskWithin i.graph.vertices i.questions) }
+/// The questions over n vertices of a text that has no fault.
+fn questions_of(rt: &(impl Abort + AllocGlobal), text: &str, n: u32) -> Questions
+    ensures { AskWithin n result }
 {
-    let graph = read_gr(alloc, &mut Plain::new(graph.as_bytes()))
-        .ok()
-        .ok_or("no graph")?;
-    let n = graph.vertices();
-    let questions = read_questions(alloc, &mut Plain::new(questions.as_bytes()), n)
-        .ok()
-        .ok_or("no questions")?;
-    let answers = read_answers(alloc, &mut Plain::new(answers.as_bytes()), n)
-        .ok()
-        .ok_or("no answers")?;
-    Ok(Inputs {
-        graph,
-        questions,
-        answers,
-    })
+    match read_questions(rt.alloc(), &mut Plain::new(text.as_bytes()), n) {
+        Ok(questions) => questions,
+        Err(_) => panic!(rt; "no questions"),
+    }
+}
+
+/// The answers over n vertices of a text that has no fault.
+fn answers_of(rt: &(impl Abort + AllocGlobal), text: &str, n: u32) -> Answers {
+    match read_answers(rt.alloc(), &mut Plain::new(text.as_bytes()), n) {
+        Ok(answers) => answers,
+        Err(_) => panic!(rt; "no answers"),
+    }
 }
 
 /// Asserts the verdict that a number of checks give, each the same.
@@ -61,15 +57,15 @@ fn assert_verdicts<A: PathAlgebra>(
     answers: &str,
     wanted: Verdict,
     times: u32,
-) -> Result<(), Fail> {
-    let alloc = rt.alloc();
-    let inputs = inputs_of(alloc, graph, questions, answers)?;
+) {
+    let graph = graph_of(rt, graph);
+    let n = graph.vertices();
+    let questions = questions_of(rt, questions, n);
+    let answers = answers_of(rt, answers, n);
     for _ in 0..times {
-        let (graph, questions) = (&inputs.graph, &inputs.questions);
-        let verdict = check(rt, alloc, algebra, graph, questions, &inputs.answers);
+        let verdict = check(rt, rt.alloc(), algebra, &graph, &questions, &answers);
         assert_eq!(rt; verdict, Ok(wanted));
     }
-    Ok(())
 }
 
 /// Asserts the verdict on answers to questions over a graph.
@@ -80,8 +76,8 @@ fn assert_verdict<A: PathAlgebra>(
     questions: &str,
     answers: &str,
     wanted: Verdict,
-) -> Result<(), Fail> {
-    assert_verdicts(rt, algebra, graph, questions, answers, wanted, 1)
+) {
+    assert_verdicts(rt, algebra, graph, questions, answers, wanted, 1);
 }
 
 /// The verdict that names this place.
@@ -101,7 +97,8 @@ fn assert_lines(
     wanted: Verdict,
 ) -> Result<(), Fail> {
     let answers = format!(in rt.alloc(); "p ans ss 1 shortest\ns 1\n{lines}")?;
-    assert_verdict(rt, Shortest, graph, FROM_ONE, answers.as_str(), wanted)
+    assert_verdict(rt, Shortest, graph, FROM_ONE, answers.as_str(), wanted);
+    Ok(())
 }
 
 /// Asserts the verdict on what is told of the pair 1 and 4 of the five vertices.
@@ -112,7 +109,8 @@ fn assert_pair(
 ) -> Result<(), Fail> {
     let answers = format!(in rt.alloc(); "p ans p2p 1 shortest\n{told}")?;
     let question = "p aux sp p2p 1\nq 1 4\n";
-    assert_verdict(rt, Shortest, FIVE, question, answers.as_str(), wanted)
+    assert_verdict(rt, Shortest, FIVE, question, answers.as_str(), wanted);
+    Ok(())
 }
 
 #[test]
@@ -122,17 +120,17 @@ fn right_answers(rt: HostRuntime) -> Result<(), Fail> {
     assert_pair(&rt, "q 1 4\nd 8 3\nr 1 3 2 4\n", Verdict::Valid)?;
     let pairs = "p aux sp p2p 2\nq 4 1\nq 5 5\n";
     let answers = "p ans p2p 2 shortest\nq 4 1\nu\nq 5 5\nd 0 0\nr 5\n";
-    assert_verdict(&rt, Shortest, FIVE, pairs, answers, Verdict::Valid)?;
+    assert_verdict(&rt, Shortest, FIVE, pairs, answers, Verdict::Valid);
     let multi = "p aux sp ms 2\nm 4 5\nm 5 2\n";
     let answers =
         "p ans ms 2 shortest\nm 4 5\nd 1 3 1 5\nd 2 6 3 3\nd 3 4 2 1\nd 4 0 0 0\nd 5 0 0 0\nm 5 2\nd 1 3 1 5\nd 2 0 0 0\nd 3 4 2 1\nd 4 5 1 2\nd 5 0 0 0\n";
-    assert_verdict(&rt, Shortest, FIVE, multi, answers, Verdict::Valid)?;
+    assert_verdict(&rt, Shortest, FIVE, multi, answers, Verdict::Valid);
     let within = Within::new(5).ok_or("no limit")?;
     let answers = "p ans ss 1 within\ns 1\nd 1 0 0 0\nd 2 3 2 3\nd 3 1 1 1\nu 4\nu 5\n";
-    assert_verdict(&rt, within, FIVE, FROM_ONE, answers, Verdict::Valid)?;
+    assert_verdict(&rt, within, FIVE, FROM_ONE, answers, Verdict::Valid);
     let answers =
         "p ans ss 1 widest\ns 1\nd 1 4294967296 0 0\nd 2 4 1 1\nd 3 1 1 1\nd 4 4 2 2\nu 5\n";
-    assert_verdict(&rt, Widest, FIVE, FROM_ONE, answers, Verdict::Valid)?;
+    assert_verdict(&rt, Widest, FIVE, FROM_ONE, answers, Verdict::Valid);
     let nothing = "p aux sp ss 0\n";
     assert_verdict(
         &rt,
@@ -141,7 +139,8 @@ fn right_answers(rt: HostRuntime) -> Result<(), Fail> {
         nothing,
         "p ans ss 0 shortest\n",
         Verdict::Valid,
-    )
+    );
+    Ok(())
 }
 
 /// Asserts the verdict on what is told of vertex 4 where the five vertices are asked for what is reached.
@@ -153,7 +152,8 @@ fn assert_reached(
     let answers = format!(in rt.alloc();
         "p ans ss 1 reach\ns 1\nd 1 0 0 0\nd 2 0 1 1\nd 3 0 1 1\n{fourth}\nu 5\n"
     )?;
-    assert_verdict(rt, Reach, FIVE, FROM_ONE, answers.as_str(), wanted)
+    assert_verdict(rt, Reach, FIVE, FROM_ONE, answers.as_str(), wanted);
+    Ok(())
 }
 
 /// Asserts the verdict on three pairs, of which the first is told this route.
@@ -166,7 +166,8 @@ fn assert_route(
     let answers = format!(in rt.alloc();
         "p ans p2p 3 shortest\nq 1 4\nd 8 3\n{route}\nq 4 1\nu\nq 5 5\nd 0 0\nr 5\n"
     )?;
-    assert_verdict(rt, Shortest, FIVE, pairs, answers.as_str(), wanted)
+    assert_verdict(rt, Shortest, FIVE, pairs, answers.as_str(), wanted);
+    Ok(())
 }
 
 #[test]
@@ -214,13 +215,14 @@ fn places_in_order(rt: HostRuntime) -> Result<(), Fail> {
     }
     let widest = format!(in rt.alloc(); "p ans ss 1 widest\ns 1\n{LINES}")?;
     let whole = invalid(0, 0, Reason::Mismatch);
-    assert_verdict(&rt, Shortest, FIVE, FROM_ONE, widest.as_str(), whole)?;
+    assert_verdict(&rt, Shortest, FIVE, FROM_ONE, widest.as_str(), whole);
     for answers in ["p ans ss 0 shortest\n", "p ans p2p 1 shortest\nq 1 4\nu\n"] {
-        assert_verdict(&rt, Shortest, FIVE, FROM_ONE, answers, whole)?;
+        assert_verdict(&rt, Shortest, FIVE, FROM_ONE, answers, whole);
     }
     let from_two = format!(in rt.alloc(); "p ans ss 1 shortest\ns 2\n{LINES}")?;
     let first = invalid(1, 0, Reason::Mismatch);
-    assert_verdict(&rt, Shortest, FIVE, FROM_ONE, from_two.as_str(), first)
+    assert_verdict(&rt, Shortest, FIVE, FROM_ONE, from_two.as_str(), first);
+    Ok(())
 }
 
 #[test]
@@ -229,10 +231,11 @@ fn questions_go_before_vertices(rt: HostRuntime) -> Result<(), Fail> {
     let unreached = "d 1 0 0 0\nd 2 3 2 3\nd 3 1 1 1\nd 4 8 3 2\nd 5 0 0 0\n";
     let answers = format!(in rt.alloc(); "p ans ss 2 shortest\ns 1\n{unreached}s 4\n{LINES}")?;
     let fifth = invalid(1, 5, Reason::NoParent);
-    assert_verdict(&rt, Shortest, FIVE, two, answers.as_str(), fifth)?;
+    assert_verdict(&rt, Shortest, FIVE, two, answers.as_str(), fifth);
     let answers = format!(in rt.alloc(); "p ans ss 2 shortest\ns 1\n{LINES}s 4\n{unreached}")?;
     let second = invalid(2, 0, Reason::Mismatch);
-    assert_verdict(&rt, Shortest, FIVE, two, answers.as_str(), second)
+    assert_verdict(&rt, Shortest, FIVE, two, answers.as_str(), second);
+    Ok(())
 }
 
 #[test]
@@ -287,7 +290,7 @@ fn checker_reasons(rt: HostRuntime) -> Result<(), Fail> {
         let answers = format!(in rt.alloc();
             "p ans ms 1 shortest\nm 4 5\nd 1 3 1 5\nd 2 6 3 3\nd 3 4 2 1\n{told}"
         )?;
-        assert_verdict(&rt, Shortest, FIVE, two, answers.as_str(), wanted)?;
+        assert_verdict(&rt, Shortest, FIVE, two, answers.as_str(), wanted);
     }
     Ok(())
 }
@@ -310,7 +313,8 @@ fn reasons_against_pairs(rt: HostRuntime) -> Result<(), Fail> {
     let back = "p aux sp p2p 1\nq 4 1\n";
     let answers = "p ans p2p 1 shortest\nq 4 1\nd 0 1\nr 4 1\n";
     let first = invalid(1, 1, Reason::NotBest);
-    assert_verdict(&rt, Shortest, FIVE, back, answers, first)
+    assert_verdict(&rt, Shortest, FIVE, back, answers, first);
+    Ok(())
 }
 
 /// Asserts the verdict on 130 answers to one pair, of which that at a place tells another value.
@@ -340,7 +344,8 @@ fn assert_pairs(
         questions.as_str(),
         answers.as_str(),
         wanted,
-    )
+    );
+    Ok(())
 }
 
 #[test]
@@ -396,5 +401,6 @@ fn first_of_two_wrong_codes(rt: HostRuntime) -> Result<(), Fail> {
         answers.as_str(),
         place,
         50,
-    )
+    );
+    Ok(())
 }

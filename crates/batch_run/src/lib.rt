@@ -13,6 +13,6 @@ mod telling;
 
 pub use faults::{File, RunFault, SETTINGS, WRITE, fault_in, fault_of_run};
 pub use laws::answers_exist;
-pub use run::{run_bundle, run_pair};
+pub use run::{read_pair, run_bundle, run_pair};
 pub use settings::Settings;
 pub use worker_fleet::{Driven, Gate, OpenGate, Outcome, drive};

@@ -132,8 +132,9 @@ fn answer_and_flush<A: PathAlgebra, W: RoadWrite, R: Threads + Wait + Sync, T: G
     flush_all(out, answered)
 }
 
-/// Reads a graph from one input and questions over it from another, and tells the first fault.
-fn read_pair<G: RoadRead, Q: RoadRead>(
+/// Reads a graph from one input and questions over it from another, and tells the first fault. Each input is asked at most
+/// 2^32 + 1 times.
+pub fn read_pair<G: RoadRead, Q: RoadRead>(
     alloc: Global,
     graph_in: &mut G,
     questions_in: &mut Q,

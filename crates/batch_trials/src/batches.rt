@@ -5,7 +5,7 @@ mod workers;
 
 use crate::texts::joined;
 use crate::tolls::Tolls;
-use batch_run::{Gate, OpenGate, RunFault, Settings, run_bundle, run_pair};
+use batch_run::{Gate, OpenGate, RunFault, Settings, read_pair, run_bundle, run_pair};
 use path_algebra::{Hops, PathAlgebra, Reach, Reliable, Shortest, Widest, Within};
 use road_text::Plain;
 use std::alloc::Global;
@@ -121,6 +121,19 @@ fn assert_both_ways<A: PathAlgebra>(
     for plain in [false, true] {
         let settings = Settings { plain, ..*settings };
         assert_answered(rt, algebra, &settings, graph, questions, wanted);
+    }
+}
+
+#[test]
+fn two_inputs_are_read(rt: HostRuntime) {
+    let mut graph = Plain::new(FIVE.as_bytes());
+    let mut questions = Plain::new(THRICE.as_bytes());
+    match read_pair(rt.alloc(), &mut graph, &mut questions) {
+        Ok((graph, questions)) => {
+            assert_eq!(rt; (graph.vertices(), graph.arcs()), (5, 7));
+            assert_eq!(rt; questions.len(), 3);
+        }
+        Err(_) => panic!(rt; "a fault"),
     }
 }
 

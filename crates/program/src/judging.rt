@@ -12,9 +12,9 @@ use crate::chosen::{Chosen, choose, with_algebra};
 use crate::verdicts::tell;
 use answer_check::{Verdict, check};
 use answer_text::{Answers, read_answers};
-use batch_run::{File, RunFault, SETTINGS, fault_in, fault_of_run};
+use batch_run::{File, RunFault, SETTINGS, fault_in, fault_of_run, read_pair};
 use path_algebra::AlgebraName;
-use road_files::{Questions, read_gr, read_questions};
+use road_files::Questions;
 use road_graph::{Graph, Memory};
 use road_text::{MEMORY, RoadRead, RoadWrite};
 use std::alloc::Global;
@@ -90,13 +90,9 @@ fn read_inputs<G: RoadRead, Q: RoadRead, S: RoadRead>(
     ensures asked_questions { Q.asked questions_in.new ≤ Q.asked questions_in.old + 4294967297 }
     ensures asked_answers { S.asked answers_in.new ≤ S.asked answers_in.old + 4294967297 }
 {
-    let graph = match read_gr(alloc, graph_in) {
-        Ok(graph) => graph,
-        Err(fault) => return Err(fault_in(File::Graph, fault)),
-    };
-    let questions = match read_questions(alloc, questions_in, graph.vertices()) {
-        Ok(questions) => questions,
-        Err(fault) => return Err(fault_in(File::Questions, fault)),
+    let (graph, questions) = match read_pair(alloc, graph_in, questions_in) {
+        Ok(read) => read,
+        Err(fault) => return Err(fault),
     };
     match read_answers(alloc, answers_in, graph.vertices()) {
         Ok(answers) => Ok(Inputs {

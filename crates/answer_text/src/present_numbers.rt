@@ -132,7 +132,6 @@ impl PresentNumbers {
     }
 
     /// The vertices of `r V1 ..`.
-    #[tactic(auto, unfolding(crate::specs::AnswerFiles::route_line))]
     pub fn route(&mut self, alloc: Global, slots: &[Slot]) -> Result<Vec<u32>, LineFault>
         ensures { MatchResult result (λ v. route_line (map word_in slots.now) self.old.count (numbers_given self.old) ≡ Ok v.items) (Breaks (route_line (map word_in slots.now) self.old.count (numbers_given self.old))) }
     {

@@ -15,7 +15,6 @@ use road_text::{Line, RoadWrite, WriteFault, write_bytes, write_list};
 pub const MAX_ANSWERS: u32 = 1_048_576;
 
 /// Writes the header before `count` answers.
-#[tactic(auto, unfolding(crate::specs::AnswerText::header_text))]
 pub fn write_header<W: RoadWrite>(
     to: &mut W,
     kind: Kind,

@@ -58,7 +58,6 @@ fn write_lines<A: PathAlgebra, W: RoadWrite>(
 }
 
 /// Writes the answer to a question from one source.
-#[tactic(auto, using(road_text::proofs::WriteLaws::wrote_then, road_text::proofs::WriteLaws::fell_first), unfolding(answer_text::specs::AnswerText::answer_text))]
 pub(crate) fn write_source<A: PathAlgebra, W: RoadWrite>(
     to: &mut W,
     algebra: A,

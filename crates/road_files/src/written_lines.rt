@@ -48,7 +48,6 @@ pub fn line_of_problem(kind: Kind, count: u64) -> Line
 }
 
 /// The line of a source.
-#[tactic(auto, unfolding(road_text::specs::Texts::spelled))]
 pub fn fill_source(line: &mut Line, source: Vertex)
     ensures { line.new.bytes ≡ spelled (question_words (FromSource source)) }
 {
@@ -59,7 +58,6 @@ pub fn fill_source(line: &mut Line, source: Vertex)
 }
 
 /// The line of a pair.
-#[tactic(auto, unfolding(road_text::specs::Texts::spelled))]
 pub fn fill_pair(line: &mut Line, pair: (Vertex, Vertex))
     ensures { line.new.bytes ≡ spelled (question_words (BetweenPair pair.0 pair.1)) }
 {

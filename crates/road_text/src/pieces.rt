@@ -38,7 +38,6 @@ fn write_numbers<W: RoadWrite>(to: &mut W, numbers: &[u32]) -> Result<(), WriteF
 }
 
 /// Writes a line of a word and numbers, or a front of it. It takes no memory, however long the list is.
-#[tactic(auto, using(crate::proofs::ListLaws::list_then, crate::proofs::ListLaws::list_fell))]
 pub fn write_list<W: RoadWrite>(to: &mut W, word: &[u8], numbers: &[u32]) -> Result<(), WriteFault>
     ensures { WritesText W.written W.failures to.old to.new (spelled (list_words word.now numbers.now)) result }
 {

@@ -32,7 +32,6 @@ impl Default for Slot {
 
 impl Slot {
     /// Takes one byte more of the field.
-    #[tactic(auto, unfolding(crate::specs::Scans::word_on))]
     pub fn add(&mut self, byte: u8)
         ensures { word_in self.new ≡ word_on (word_in self.old) byte }
     {

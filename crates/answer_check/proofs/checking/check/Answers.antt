@@ -1,4 +1,5 @@
 use Rattle.std.proofs.Common.{rules, ◌≡◌, ◌+◌, ◌<◌, ◌≤◌, length, arith, sym, ap, ◌∙◌, true, false, Option, Some, None, Ok}
+use Rattle.std.proofs.lemmas.Grind.{common_steps}
 use Rattle.std.proofs.lemmas.List.{length-map}
 use Rattle.road_files.specs.Asked.{asked_of}
 use Rattle.answer_text.specs.Told.{told_of, told_list_of}
@@ -80,3 +81,6 @@ returns-clause-valid g c =
     let asked = asked_of c.args.questions.now in
     let told = told_list_of c.args.answers.now in
     both_clauses A graph c.laws_hold.ensures.lawful c.vertices-n.ensures.roads asked told (asks_of graph c.args.questions.now c.requires) Valid (returns-clause-verdict g c)
+
+pub overflow_step-i : goal.overflow_step-i
+overflow_step-i g c = grind (arith, common_steps)

@@ -1,4 +1,5 @@
-use Rattle.std.proofs.Common.{rules, ◌≡◌, get_or, Some, None, sym, ◌∙◌}
+use Rattle.std.proofs.Common.{rules, ◌≡◌, get_or, Some, None, sym, ◌∙◌, arith}
+use Rattle.std.proofs.lemmas.Grind.{common_steps}
 use Rattle.std.proofs.lemmas.List.Elements.{Contains-get_or}
 use Rattle.path_algebra.specs.Walks.{label_of}
 use Rattle.std.proofs.Common.{true}
@@ -29,3 +30,6 @@ returns-in-Some-value_told g c =
     let code = decoded_is A c.laws_hold.ensures.lawful c.in-Some.line.code c.in-Some-value_told.value told in
     let judged = evidence_judges A c.laws_hold.ensures.lawful c.args.graph.now c.args.lines.now c.args.v c.into-arcs.result.now c.into-arcs.ensures c.in-Some.line c.in-Some-value_told.value code in
     rw (here, c.reason.ensures, c.evidence_of.ensures, ← c.laws_hold.ensures.order) judged
+
+pub returns-in-None : goal.returns-in-None
+returns-in-None g c = grind (arith, common_steps)

@@ -1,3 +1,5 @@
+use Rattle.std.proofs.Common.{arith}
+use Rattle.std.proofs.lemmas.Grind.{common_steps}
 use Rattle.batch_run.specs.Ended.{IsEnded}
 use Rattle.batch_run.proofs.Together.{all_before, last_of_all}
 use Rattle.batch_run.proofs.engine.ended_from.Goals as goal
@@ -16,3 +18,6 @@ returns-clause-ready g c = c.in_ok-first.ensures.rest
 
 pub returns-clause-ended : goal.returns-clause-ended
 returns-clause-ended g c = c.in_ok-first.ensures.first
+
+pub returns-then-eq-clause-source : goal.returns-then-eq-clause-source
+returns-then-eq-clause-source g c = grind (arith, common_steps)

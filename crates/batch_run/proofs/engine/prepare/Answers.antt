@@ -1,4 +1,5 @@
-use Rattle.std.proofs.Common.{◌∙◌}
+use Rattle.std.proofs.Common.{◌∙◌, arith}
+use Rattle.std.proofs.lemmas.Grind.{common_steps}
 use Rattle.batch_run.proofs.engine.prepare.Goals as goal
 
 pub returns-clause-layout : goal.returns-clause-layout
@@ -6,3 +7,6 @@ returns-clause-layout c = record {
   planned = c.in_ok-plan.ensures.vertices ∙ c.vertices.ensures.count;
   within = c.in_ok-sources.ensures c.args.graph.now.vertices c.requires.within.within;
 }
+
+pub returns-clause-plain : goal.returns-clause-plain
+returns-clause-plain c = grind (arith, common_steps)

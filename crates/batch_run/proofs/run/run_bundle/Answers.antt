@@ -1,3 +1,5 @@
+use Rattle.std.proofs.Common.{arith}
+use Rattle.std.proofs.lemmas.Grind.{common_steps}
 use Rattle.std.proofs.lemmas.Result.{IfErr-weaker}
 use Rattle.batch_run.specs.declared.faults.File.TheVariants.{Bundle}
 use Rattle.batch_run.proofs.OfInputs.{done, settings, of_no_input, no_failed_read, kinds, placed, stalled, gated, in_no_input, of_no_setting, begun, begun_without_memory, at_memory, begun_when_stopped}
@@ -53,3 +55,6 @@ returns-clause-once g c = at_memory c.answer_and_flush.result _ c.answer_and_flu
 
 pub returns-clause-stopped : goal.returns-clause-stopped
 returns-clause-stopped g c = begun_when_stopped _ _ _ _ c.in-Ok.ensures.reads.value _ _ c.answer_and_flush.result _ _ _ c.answer_and_flush.ensures.whole c.answer_and_flush.ensures.flushed
+
+pub returns-in-Err-clause-read : goal.returns-in-Err-clause-read
+returns-in-Err-clause-read g c = grind (arith, common_steps)

@@ -1,4 +1,5 @@
-use Rattle.std.proofs.Common.{◌∙◌}
+use Rattle.std.proofs.Common.{◌∙◌, arith}
+use Rattle.std.proofs.lemmas.Grind.{common_steps}
 use Rattle.post_floor.proofs.Called.{first_is, has_now}
 use Rattle.post_floor.proofs.exchange.fetch.Goals as goal
 
@@ -7,3 +8,6 @@ exchange-requires g c = let t = c.take_word.ensures.told.0 c.if-take_word-ne2.fa
 
 pub exchange-requires-2 : goal.exchange-requires-2
 exchange-requires-2 g c = (c.exchange.ensures.0 ∙ c.take_word.ensures.pass.0 ∙ c.requires.pass, (_, has_now _ _ _ _ c.exchange.new.seat.me c.exchange.ensures.3))
+
+pub returns-clause-told : goal.returns-clause-told
+returns-clause-told g c = grind (arith, common_steps)

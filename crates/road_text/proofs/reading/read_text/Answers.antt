@@ -1,4 +1,5 @@
 use Rattle.std.proofs.Common.{refl}
+use Rattle.std.proofs.lemmas.Grind.{common_steps}
 use Rattle.std.proofs.Common.{[], ℕ, take, arith, ◌∙◌, subst}
 use Rattle.std.proofs.lemmas.List.{length-take-le}
 use Rattle.road_text.proofs.ReadingLaws.{has_read_start, has_read_more, has_read_value, has_read_some, stops_at_end, stops_in, some_stops_at_end, some_stops_in}
@@ -47,3 +48,6 @@ returns-in-Ok-eq0-clause-some_stops g c = IfErr-weaker c.finish.result _ _ (λ h
 pub returns-in_err-feed-in-Ok-clause-some_stops : goal.returns-in_err-feed-in-Ok-clause-some_stops
 returns-in_err-feed-in-Ok-clause-some_stops g c = let p = err_from_is_err_and c.from_residual.result c.from_residual.ensures.1 in
     rw (p.1, p.2) (some_stops_in g.T.LineParser.meaning c.args.parser _ _ c.loop.reader _ _ c.loop.invariant.has_read c.in_err-feed-in-Ok.ensures.err)
+
+pub returns-in-Err-clause-value : goal.returns-in-Err-clause-value
+returns-in-Err-clause-value g c = grind (arith, common_steps)

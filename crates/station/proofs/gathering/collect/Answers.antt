@@ -1,4 +1,5 @@
-use Rattle.std.proofs.Common.{◌<◌, get_or, sym, subst}
+use Rattle.std.proofs.Common.{◌<◌, get_or, sym, subst, arith}
+use Rattle.std.proofs.lemmas.Grind.{common_steps}
 use Rattle.shard_part.specs.Plans.{PlanData}
 use Rattle.station.proofs.gathering.collect.Goals as goal
 
@@ -10,3 +11,6 @@ returns-in_default-with_capacity-clause-refused g c = λ j l. (get_or c.in-Ok.pl
 
 pub returns-clause-there : goal.returns-clause-there
 returns-clause-there g c = λ j l. (get_or c.in-Ok.places j 0, c.in-Ok.ensures j (subst (λ (P : PlanData). j < P.shards) (sym c.plan_of-plan.ensures) l))
+
+pub returns-in-Err-clause-refused : goal.returns-in-Err-clause-refused
+returns-in-Err-clause-refused g c = grind (arith, common_steps)

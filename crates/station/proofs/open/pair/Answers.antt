@@ -1,4 +1,5 @@
-use Rattle.std.proofs.Common.{◌++◌, ◌∷◌, [], reverse, sym, rules, ap, ◌∙◌}
+use Rattle.std.proofs.Common.{◌++◌, ◌∷◌, [], reverse, sym, rules, ap, ◌∙◌, arith}
+use Rattle.std.proofs.lemmas.Grind.{common_steps}
 use Rattle.std.proofs.lemmas.List.{append-nil, append_assoc, reverse-append}
 use Rattle.post_floor.specs.Data.{seat_of}
 use Rattle.station.specs.Opened.{IsFreshPart, station_of}
@@ -31,3 +32,6 @@ loop-part-preserved g c =
         sym (append_assoc c.pop.new.self.items (p ∷ []) qs) ∙ ap (λ z. z ++ qs) (sym c.in-Some.ensures.items) ∙ i.paired.2,
       );
     }
+
+pub returns : goal.returns
+returns g c = grind (arith, common_steps)

@@ -1,4 +1,5 @@
 use Rattle.std.proofs.Common.{◌≤◌, arith}
+use Rattle.std.proofs.lemmas.Grind.{common_steps}
 use Rattle.std.proofs.Math.Nat.{mul-le-mul}
 use Rattle.path_algebra.proofs.reliable.ReliablePathAlgebra.extend.Goals as goal
 
@@ -7,3 +8,6 @@ overflow_mul-product c =
     let a : c.min.result ≤ 1000000000000 = omega (arith, c.min.ensures) in
     let b : c.min-2.result ≤ 1000000 = omega (arith, c.min-2.ensures) in
     omega (arith, mul-le-mul a b)
+
+pub returns : goal.returns
+returns c = grind (arith, common_steps)

@@ -1,4 +1,5 @@
 use Rattle.std.proofs.Common.{◌≡◌, ◌-◌, ◌<◌, length, ◌∙◌, arith, refl, sym, None, get_or}
+use Rattle.std.proofs.lemmas.Grind.{common_steps}
 use Rattle.std.proofs.lemmas.List.{get_or_default}
 use Rattle.path_plain.proofs.Steps.{search_offers}
 use Rattle.path_plain.proofs.Waiting.{worse_than_offered, none_is_worse}
@@ -20,3 +21,6 @@ invariant_of-self-then-is_better g c =
       | in-None w ↦ none_is_worse g.A.PathAlgebra.order old c.args.z (get_or_default labels k None c.index.result.now lt ∙ sym c.index.ensures ∙ w.in-None.is)
     ])
     c.in_ok-push.ensures.items refl refl
+
+pub returns-else-is_better-clause-labels : goal.returns-else-is_better-clause-labels
+returns-else-is_better-clause-labels g c = grind (arith, common_steps)

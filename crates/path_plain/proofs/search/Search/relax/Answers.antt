@@ -1,4 +1,5 @@
 use Rattle.std.proofs.Common.{◌≡◌, [], length, drop, arith, sym, ap, subst, ◌∙◌}
+use Rattle.std.proofs.lemmas.Grind.{common_steps}
 use Rattle.std.proofs.Math.ListN.{drop_of_length-le}
 use Rattle.path_plain.specs.Searching.{SearchState, Relaxes}
 use Rattle.path_plain.proofs.Relaxing.{relaxed_by_roads, relaxed_is, head_in, roads_short}
@@ -26,3 +27,6 @@ pub returns-clause-few : goal.returns-clause-few
 returns-clause-few g c =
     let here : length c.self.inside.graph.now.arcs ≡ length c.args.self.now.roads.arcs = λ i. length ((c.self.view_is i).roads.arcs) in
     omega (arith, roads_short c.self.inside.graph.now c.args.v c.roads_from-road-items.result.now c.roads_from-road-items.ensures, c.loop-road.invariant.few, c.loop-road.auto.road-index-end, here)
+
+pub loop-road-preserved : goal.loop-road-preserved
+loop-road-preserved g c = grind (arith, common_steps)

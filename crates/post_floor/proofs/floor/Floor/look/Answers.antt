@@ -1,4 +1,5 @@
-use Rattle.std.proofs.Common.{refl, ℕ}
+use Rattle.std.proofs.Common.{refl, ℕ, arith}
+use Rattle.std.proofs.lemmas.Grind.{common_steps}
 use Rattle.post_floor.specs.Plays.{at_word, see}
 use Rattle.post_floor.proofs.Seated.{still, placed}
 use Rattle.std.proofs.Common.{inl, inr}
@@ -26,3 +27,6 @@ invariant_of-seat g c =
       | inl e ↦ still _ _ _ _ _ _ _ _ _ _ _ _ _ _ _ z c.look_word.new.pass.table_id (at_word _ 1 (see c.seat.inside.pass.me.0)) c.look_word.new.pass.me.0 c.args.part.now c.look_word.new.pass.me.1 z.setup z.shard (t.0 e).0 refl refl refl refl t.2
       | inr ne ↦ still _ _ _ _ _ _ _ _ _ _ _ _ _ _ _ z c.look_word.new.pass.table_id (at_word _ c.look_word.result c.seat.inside.pass.me.0) c.look_word.new.pass.me.0 c.args.part.now c.look_word.new.pass.me.1 z.setup z.shard (t.1 ne).0 refl refl refl refl t.2
     ]
+
+pub returns-clause-told : goal.returns-clause-told
+returns-clause-told g c = grind (arith, common_steps)

@@ -1,4 +1,5 @@
-use Rattle.std.proofs.Common.{◌≡◌, ℕ, List, [], ◌++◌, Result, Ok, Err, OnOk, length, take, drop, sym, ap, ◌∙◌, le_of_eq, drop_of_length-le, take-append-drop}
+use Rattle.std.proofs.Common.{◌≡◌, ℕ, List, [], ◌++◌, Result, Ok, Err, OnOk, length, take, drop, sym, ap, ◌∙◌, le_of_eq, drop_of_length-le, take-append-drop, arith}
+use Rattle.std.proofs.lemmas.Grind.{common_steps}
 use Rattle.std.proofs.KnownBytes.{append_known-moved}
 use Rattle.road_text.proofs.buffered.Buffered.pass_on.Goals as goal
 
@@ -18,3 +19,6 @@ returns-clause-bytes g c =
     let held = c.as_slice.result.now in
     let rest = c.remove_front.ensures.items ∙ ap (drop n) (sym c.as_slice.ensures.value) in
     append_known-moved _ _ _ _ _ c.write_out-written.ensures.bytes (sym c.as_slice.ensures.value ∙ sym (take-append-drop n held) ∙ ap (λ l. take n held ++ l) (sym rest))
+
+pub returns-clause-room : goal.returns-clause-room
+returns-clause-room g c = grind (arith, common_steps)

@@ -1,0 +1,9 @@
+use Rattle.std.proofs.Common.{arith}
+use Rattle.std.proofs.lemmas.Grind.{common_steps}
+use Rattle.answer_check.proofs.evidence.evidence_by.Goals as goal
+
+pub returns-else-same-4 : goal.returns-else-same-4
+returns-else-same-4 g c = grind (arith, common_steps)
+
+pub returns-else-tail-line-2 : goal.returns-else-tail-line-2
+returns-else-tail-line-2 g c = grind (arith, common_steps)

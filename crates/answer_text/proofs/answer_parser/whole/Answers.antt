@@ -1,0 +1,6 @@
+use Rattle.std.proofs.Common.{arith}
+use Rattle.std.proofs.lemmas.Grind.{common_steps}
+use Rattle.answer_text.proofs.answer_parser.whole.Goals as goal
+
+pub returns-in-Between : goal.returns-in-Between
+returns-in-Between c = grind (arith, common_steps)

@@ -1,0 +1,6 @@
+use Rattle.std.proofs.Common.{arith}
+use Rattle.std.proofs.lemmas.Grind.{common_steps}
+use Rattle.answer_text.proofs.taken_answers.TakenAnswers.question.Goals as goal
+
+pub returns-in-Sources : goal.returns-in-Sources
+returns-in-Sources c = grind (arith, common_steps)

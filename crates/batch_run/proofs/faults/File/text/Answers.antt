@@ -1,0 +1,6 @@
+use Rattle.std.proofs.Common.{arith}
+use Rattle.std.proofs.lemmas.Grind.{common_steps}
+use Rattle.batch_run.proofs.faults.File.text.Goals as goal
+
+pub returns-in-Questions : goal.returns-in-Questions
+returns-in-Questions c = grind (arith, common_steps)

@@ -56,7 +56,7 @@ class Plain(Case):
             "diffuse": [programs["diffuse"], "solve", self.files.graph, questions, "--plain"],
             BASELINE: [programs["heap_dijkstra"], self.files.graph, questions],
         }
-        if PEER in programs and self.kind == ONE_SOURCE:
+        if PEER in programs and self.kind == ONE_SOURCE and self.files.marked:
             commands[PEER] = [programs[PEER], "-q", self.files.marked]
         return commands
 

@@ -29,6 +29,10 @@ pub record IsBest {V : Type 0} (A : Algebra V) (g : Roads) (sources : List ℕ) 
   pub attained : IsWalkValue A g sources v x
   pub least : (y : V) → IsWalkValue A g sources v y → IsTrue (A.no_worse x y)
 
+-- the code of the best value at v
+abbrev pub IsBestCode : {V : Type 0} → Algebra V → Roads → List ℕ → ℕ → ℕ → Type 0
+IsBestCode {V} A g sources v code = (x : V) × IsBest A g sources v x × (code ≡ A.code x)
+
 -- no walk to v has a value
 abbrev pub IsUnreached : {V : Type 0} → Algebra V → Roads → List ℕ → ℕ → Type 0
 IsUnreached {V} A g sources v = (y : V) → IsWalkValue A g sources v y → ⊥

@@ -1,10 +1,11 @@
 //! Theorems over walks and labels, each the contract of a function that computes nothing: a caller
 //! calls it where its own proof needs the theorem.
 ghost use Rattle.std.specs.Prelude.{◌≡◌, ℕ, ◌↔◌, ◌++◌, List, All, Bool, Option, Some, IsTrue, length};
-ghost use Rattle.road_graph.specs.Roads.{Roads, HasVertex};
+ghost use Rattle.road_graph.specs.Roads.{Roads, IsRoads, HasVertex};
 ghost use Rattle.path_algebra.specs.Algebra.{IsLawful};
 ghost use Rattle.path_algebra.specs.Given.{shortest};
 ghost use Rattle.path_algebra.specs.Names.{name_text, name_of_text};
+ghost use Rattle.path_algebra.specs.SimpleWalks.{ListsSimpleWalks, simple_walks};
 ghost use Rattle.path_algebra.specs.Walks.{better_label, label_of, AreBest, AreClosed, AreMarksOfTight, IsBest, IsLeastSum, IsWalkValue, is_marked};
 
 use crate::algebra::PathAlgebra;
@@ -78,3 +79,10 @@ pub fn shortest_values_are_least_sums(graph: &Graph)
 {
     let _n = graph.vertices();
 }
+
+/// The simple walks from the source to a vertex are finitely many: `simple_walks` lists exactly
+/// these, each once.
+pub fn simple_walks_are_listed()
+    ensures { (g : Roads) (s v : ℕ) → IsRoads g → HasVertex g s →
+        ListsSimpleWalks g s v (simple_walks g s v) }
+{}

@@ -23,7 +23,7 @@ pub use hops::Hops;
 pub use labels::Labels;
 pub use laws::{
     best_values_are_unique, closed_labels_are_best, laws_hold, merged_labels_are_best,
-    names_are_read_back, shortest_values_are_least_sums, tight_arcs_reach,
+    names_are_read_back, shortest_values_are_least_sums, simple_walks_are_listed, tight_arcs_reach,
 };
 pub use name::AlgebraName;
 pub use reach::Reach;

@@ -8,6 +8,8 @@ mod algebras;
 #[cfg(test)]
 mod cores;
 #[cfg(test)]
+mod ends;
+#[cfg(test)]
 mod graphs;
 #[cfg(test)]
 mod pairs;

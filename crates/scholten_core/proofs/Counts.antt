@@ -251,6 +251,14 @@ module _ {V : Type 0} (A : Algebra V) (N : Network) where
       let x = R.messages in let y = R.held in let z = R.signals in let a = one_message in let b = no_held in let d = no_signal in
       ((omega (arith, x, m, a)), (omega (arith, y, h, b)), (omega (arith, z, s, d)))
 
+  -- no more is delivered than was sent, and no more is accepted than was delivered
+  pub never_more : IsLawful A → WellFormed N → (es : List Event) →
+      (delivered_total A N (opening A N) es ≤ 1 + sent_total A N (opening A N) es) × (accepted_total A N (opening A N) es ≤ delivered_total A N (opening A N) es)
+  never_more L W es =
+      let R = accounts L W (opening A N) es (opening_kept A N W) in
+      let x = R.messages in let y = R.held in let z = R.signals in let a = one_message in let b = no_held in let d = no_signal in
+      (omega (arith, x, a), omega (arith, y, z, b, d))
+
   -- messages sent on an arc against the changes of its tail's label
 
   abbrev slack : CoreState V → ℕ → ℕ

@@ -1,12 +1,12 @@
 -- What is promised of every reached state, and of every ended one, in the words of the graph's walks.
-use Rattle.std.proofs.Common.{◌≡◌, ℕ, ◌≤◌, Option, Some, None, List, [], ◌∷◌, refl}
+use Rattle.std.proofs.Common.{◌≡◌, ℕ, ◌≤◌, Option, Some, None, List, [], ◌∷◌, refl, sym, ap, ◌∙◌}
 use Rattle.road_graph.specs.Roads.{Roads, IsRoads}
 use Rattle.path_algebra.specs.Algebra.{Algebra, IsLawful}
 use Rattle.path_algebra.specs.Walks.{IsBestLabel}
 use Rattle.scholten_core.specs.declared.event.Event.{Event}
 use Rattle.scholten_core.specs.Network.{network, head_of}
 use Rattle.scholten_core.specs.Diffusion.{CoreState, state_after, HasEnded, IsQuiet}
-use Rattle.scholten_core.specs.Rooted.{IsRooted, NeutralIsIdle}
+use Rattle.scholten_core.specs.Rooted.{IsRooted, NeutralIsIdle, HeldIsEngager}
 use Rattle.scholten_core.specs.Reached.{LabelsAreWalkValues, MessagesAreWalkValues, EntryIsOrigin, LabelsAreBest}
 use Rattle.scholten_core.proofs.Networks.{well_formed}
 use Rattle.scholten_core.proofs.SharedWalks.{value_in_graph, value_in_network}
@@ -31,6 +31,11 @@ module _ {V : Type 0} (A : Algebra V) (g : Roads) (s : ℕ) where
 
   pub neutral_is_idle : IsLawful A → IsRoads g → 1 ≤ s → (es : List Event) → NeutralIsIdle A (network g s) (state_after A (network g s) es)
   neutral_is_idle L R l es = (run_kept_at L R l es).neutral_idle
+
+  pub held_is_engager : IsLawful A → IsRoads g → 1 ≤ s → (es : List Event) → HeldIsEngager A (network g s) (state_after A (network g s) es)
+  held_is_engager L R l es v a =
+      let K = run_kept_at L R l es in
+      ((λ q. K.engager_held v a q), (λ h. ap (state_after A (network g s) es).engager (sym h.1) ∙ K.held_engager a h.0))
 
   -- a solved state in the words of the graph
   solved_best : IsRoads g → (c : CoreState V) → IsSolved A (network g s) c → LabelsAreBest A g s c

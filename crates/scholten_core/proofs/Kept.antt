@@ -93,7 +93,7 @@ module _ {V : Type 0} (A : Algebra V) (N : Network) where
         | inr h ↦ (m.0, h.1 ∙ m.1, m.2)
       ]
 
-  AtMost_arrived : IsLawful A → (a : ℕ) (x : V) (c : CoreState V) → AtMost A N (arrive A N a x c).label (N.head a) x
+  pub AtMost_arrived : IsLawful A → (a : ℕ) (x : V) (c : CoreState V) → AtMost A N (arrive A N a x c).label (N.head a) x
   AtMost_arrived L a x c = let t = better_tells A N L x (c.label (N.head a)) in
       (t.0, put-same c.label (N.head a) (better_of A x (c.label (N.head a))) ∙ t.1, t.2)
 

@@ -23,3 +23,10 @@ pub mod Opened
 pub mod GraphReads
 pub mod RunReads
 pub mod EveryAccount
+pub mod Busy
+pub mod Trails
+pub mod SimpleWalks
+pub mod Falling
+pub mod Finite
+pub mod Ending
+pub mod Schedules

@@ -5,9 +5,11 @@ use Rattle.path_algebra.specs.Walks.{IsWalkValue}
 use Rattle.scholten_core.specs.declared.token.Token.TheVariants.{Idle, Message, Held}
 use Rattle.scholten_core.specs.Diffusion.{IsQuiet}
 use Rattle.scholten_core.specs.Rooted.{IsRooted}
+use Rattle.scholten_core.specs.Progress.{CanGoOn}
 use Rattle.scholten_core.specs.Reached.{LabelsAreBest}
 use Rattle.scholten_core.specs.CoreView.{CoreView, state_of, network_of, IsRun}
 use Rattle.scholten_core.proofs.EveryRun.{labels_are_walk_values, messages_are_walk_values, runs_are_rooted, run_kept_at, ended_is_quiet, ended_is_best}
+use Rattle.scholten_core.proofs.Ending.{run_goes_on}
 
 module _ {S V : Type 0} (meaning : S → Algebra V) (t old : CoreView S V) (e : t ≡ old) (L : IsLawful (meaning t.question.algebra)) (R : IsRun meaning t) where
   pub label_walk : (v : ℕ) (o : Option V) → o ≡ (state_of t).label v → IfSome o (λ x. IsWalkValue (meaning old.question.algebra) old.question.roads (old.question.source ∷ []) v x)
@@ -40,3 +42,8 @@ module _ {S V : Type 0} (meaning : S → Algebra V) (t old : CoreView S V) (e : 
   best_at q = subst (λ u. LabelsAreBest (meaning u.question.algebra) u.question.roads u.question.source (state_of u)) e
       (subst (LabelsAreBest (meaning t.question.algebra) t.question.roads t.question.source) (sym R.reached.1)
       (ended_is_best (meaning t.question.algebra) t.question.roads t.question.source L R.question.roads R.question.source.0 R.reached.0 (ap (λ c. c.token 0) (sym R.reached.1) ∙ q)))
+
+  pub going_at : ((state_of t).token 0 ≡ Idle → ⊥) → CanGoOn (network_of old) (state_of old)
+  going_at q = subst (λ u. CanGoOn (network_of u) (state_of u)) e
+      (subst (CanGoOn (network_of t)) (sym R.reached.1)
+      (run_goes_on (meaning t.question.algebra) t.question.roads t.question.source L R.question.roads R.question.source.0 R.reached.0 (λ i. q (ap (λ c. c.token 0) R.reached.1 ∙ i))))

@@ -32,7 +32,7 @@ module _ {V : Type 0} (A : Algebra V) (g : Roads) (s : ℕ) where
       go None q f rest = absurd (let n = along-none A (network g s) p in cc)
       go (Some z) q f rest = (z, ap (A.extend x) (sym (weight-arc g a w.0.0)) ∙ q, rest z f)
 
-  along_extends : (u : ℕ) (p : List ℕ) (v : ℕ) (x y : V) → IsWalk g u p v → Extends A g x p y → along A (network g s) (Some x) p ≡ Some y
+  pub along_extends : (u : ℕ) (p : List ℕ) (v : ℕ) (x y : V) → IsWalk g u p v → Extends A g x p y → along A (network g s) (Some x) p ≡ Some y
   along_extends u [] v x y w e = ap Some e
   along_extends u (a ∷ p) v x y w e =
       ap (λ o. along A (network g s) o p) (ap (A.extend x) (weight-arc g a w.0.0) ∙ e.1) ∙ along_extends (arc_of g a).head p v e.0 y w.2 e.2

@@ -9,4 +9,6 @@ pub mod Shares
 pub mod Items
 pub mod IdleIsTold
 pub mod Reached
+pub mod SimpleWalks
+pub mod Progress
 pub mod CoreView

@@ -1,5 +1,5 @@
 -- The engaged vertices as a tree whose root is the environment.
-use Rattle.std.specs.Prelude.{◌≡◌, ℕ, Option, Some, None, List, [], ◌∷◌, ◌⊎◌, Contains}
+use Rattle.std.specs.Prelude.{◌≡◌, ◌↔◌, ℕ, Option, Some, None, List, [], ◌∷◌, ◌⊎◌, Contains}
 use Rattle.scholten_core.specs.declared.token.Token.TheVariants.{Idle, Held}
 use Rattle.path_algebra.specs.Algebra.{Algebra}
 use Rattle.scholten_core.specs.Network.{Network}
@@ -19,3 +19,7 @@ module _ {V : Type 0} (A : Algebra V) (N : Network) where
   -- a neutral vertex has no busy arc out
   abbrev pub NeutralIsIdle : CoreState V → Type 0
   NeutralIsIdle c = (b : ℕ) → (b ≡ 0 → ⊥) → c.engager (N.tail b) ≡ None → c.token b ≡ Idle
+
+  -- an arc engages a vertex exactly if it is held and leads there
+  abbrev pub HeldIsEngager : CoreState V → Type 0
+  HeldIsEngager c = (v a : ℕ) → (c.engager v ≡ Some a) ↔ ((c.token a ≡ Held) × (N.head a ≡ v))

@@ -7,6 +7,7 @@ ghost use Rattle.scholten_core.specs.declared.event.Event.TheVariants.{Deliver, 
 ghost use Rattle.scholten_core.specs.Network.{network};
 ghost use Rattle.scholten_core.specs.Diffusion.{opening, step, run_from, is_enabled, count_enabled, HasEnded, IsQuiet as IsQuietState};
 ghost use Rattle.scholten_core.specs.Deficit.{deficit};
+ghost use Rattle.scholten_core.specs.Progress.{CanGoOn};
 ghost use Rattle.scholten_core.specs.Rooted.{IsRooted};
 ghost use Rattle.scholten_core.specs.Reached.{IsReached, LabelsAreBest};
 ghost use Rattle.scholten_core.specs.CoreView.{state_of, network_of};
@@ -127,11 +128,13 @@ impl<'g, A: PathAlgebra> Core<'g, A> {
         enabled
     }
 
-    /// Whether the signal on arc 0 has been accepted. Then nothing is under way, and each label is best.
+    /// Whether the signal on arc 0 has been accepted. Then nothing is under way, and each label is
+    /// best; until then there is an arc at which `deliver` or `accept` succeeds.
     pub fn ended(&self) -> bool
         ensures ended { IsTrue result ↔ HasEnded (state_of self.now) }
         ensures quiet { IsTrue result → IsQuietState (state_of self.now) }
         ensures best { IsTrue result → LabelsAreBest (A.meaning self.now.question.algebra) self.now.question.roads self.now.question.source (state_of self.now) }
+        ensures going { (IsTrue result → ⊥) → CanGoOn (network_of self.now) (state_of self.now) }
         ensures reached { IsReached (A.meaning self.now.question.algebra) self.now.question.roads self.now.question.source (state_of self.now) }
     {
         laws_hold(self.desk.algebra());

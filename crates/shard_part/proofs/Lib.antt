@@ -38,3 +38,4 @@ pub mod Sharing
 pub mod Exact
 pub mod Arriving
 pub mod Records
+pub mod UnderWay

@@ -10,6 +10,7 @@ pub mod Sound
 pub mod ItemPlaces
 pub mod Handling
 pub mod Shows
+pub mod Waiting
 pub mod Queue
 pub mod Moves
 pub mod Part

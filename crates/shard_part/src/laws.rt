@@ -1,12 +1,13 @@
-ghost use Rattle.std.specs.Prelude.{◌≡◌, ◌<◌, suc, ℕ, true, List, [], ◌++◌, ◌∷◌, set, get_or};
+ghost use Rattle.std.specs.Prelude.{◌≡◌, ◌↔◌, ◌⊎◌, ◌<◌, suc, ℕ, true, List, [], ◌++◌, ◌∷◌, set, get_or};
 ghost use Rattle.scholten_core.specs.declared.item.Item.{Item};
 ghost use Rattle.scholten_core.specs.declared.event.Event.{Event};
 ghost use Rattle.scholten_core.specs.Network.{WellFormed};
-ghost use Rattle.scholten_core.specs.Diffusion.{CoreState, state_after, step, is_enabled};
+ghost use Rattle.scholten_core.specs.Diffusion.{CoreState, state_after, step, is_enabled, HasEnded};
 ghost use Rattle.shard_part.specs.PartState.{Setup, PartData, event_of, network_in, place_in};
 ghost use Rattle.shard_part.specs.Handling.{HandledItem, HandledAll};
 ghost use Rattle.shard_part.specs.Shows.{AllEnabled, Holds, Shows};
 ghost use Rattle.shard_part.specs.Weights.{mail_weight};
+ghost use Rattle.shard_part.specs.Waiting.{items_waiting, QueueWaits, OutboxWaits, MailWaits};
 ghost use Rattle.shard_part.specs.ItemPlaces.{on, parts_places, mail_places, place_of_token};
 ghost use Rattle.shard_part.specs.Part.{HandledMany, IsShownOn};
 ghost use Rattle.shard_part.specs.Moves.{IsPlanned};
@@ -58,4 +59,25 @@ pub fn receiving_shows_the_same<A: PathAlgebra>(_algebra: A)
 pub fn opened_parts_show_the_opening<A: PathAlgebra>(_algebra: A)
     ensures { (t : Setup A) (mail : (ℕ → Item A.Value → ℕ) → ℕ) → IsPlanned t 0 → ((h : ℕ → Item A.Value → ℕ) → mail h ≡ 0) →
         Shows A.meaning t (opened_parts (A.meaning t.question.algebra) t 0 t.plan.shards) mail (state_after (A.meaning t.question.algebra) (network_in t) []) }
+{}
+
+/// Where all parts and mailboxes show a reached state, it has ended exactly where no item waits.
+pub fn ended_is_empty<A: PathAlgebra>(_algebra: A)
+    ensures { (t : Setup A) (events : List Event) (parts : List (PartData A A.Value))
+        (mail : (ℕ → Item A.Value → ℕ) → ℕ) → WellFormed (network_in t) →
+        Shows A.meaning t parts mail
+        (state_after (A.meaning t.question.algebra) (network_in t) events) →
+        HasEnded (state_after (A.meaning t.question.algebra) (network_in t) events)
+        ↔ (items_waiting parts mail ≡ 0) }
+{}
+
+/// Where all parts and mailboxes show a reached state, it has ended, or an item waits in a queue,
+/// in an outbox or in a mailbox. So until the end some turn has something to do.
+pub fn an_item_waits_until_the_end<A: PathAlgebra>(_algebra: A)
+    ensures { (t : Setup A) (events : List Event) (parts : List (PartData A A.Value))
+        (mail : (ℕ → Item A.Value → ℕ) → ℕ) → WellFormed (network_in t) →
+        Shows A.meaning t parts mail
+        (state_after (A.meaning t.question.algebra) (network_in t) events) →
+        HasEnded (state_after (A.meaning t.question.algebra) (network_in t) events)
+        ⊎ (QueueWaits parts ⊎ (OutboxWaits parts ⊎ MailWaits mail)) }
 {}

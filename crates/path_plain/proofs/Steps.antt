@@ -11,7 +11,7 @@ use Rattle.path_algebra.specs.Walks.{AreBest}
 use Rattle.path_plain.proofs.Rounds.{Between, unsettled, round, ending}
 use Rattle.path_plain.specs.Order.{open_cmp}
 use Rattle.path_plain.specs.Searching.{SearchState, IsSearch, IsSameSearch, Relaxes, Advances, Proceeds}
-use Rattle.path_plain.proofs.Waiting.{queue_offer, queue_skip, queue_settle, queue_best}
+use Rattle.path_plain.proofs.Waiting.{queue_offer, queue_skip, queue_settle, queue_best, queue_first}
 
 module _ {K V : Type 0} (value : K → V) (place : K → ℕ) (order : V → V → Bool) (ordered : IsOrder order) (g : Roads) (labels : List (Option V)) (settled : List Bool) (items : List K)
     (known : IsSearch value place order g labels settled items) where
@@ -48,7 +48,7 @@ module _ {K V : Type 0} (value : K → V) (place : K → ℕ) (order : V → V �
     }
 
     -- the top entry of an open vertex: this one is settled
-    pub settles_one : {C : Type 0} (algebra : C) (A : Algebra V) (now : SearchState C V) → get_or settled (place top) false ≡ false → IsUpperBound (open_cmp value order) top items →
+    pub settles_one : {C : Type 0} (algebra : C) (A : Algebra V) (now : SearchState C V) → get_or settled (place top) false ≡ false → IsUpperBound (open_cmp value place order) top items →
         IsSameSearch (record { algebra = algebra; roads = g; labels = labels; settled = set settled (place top) true; waiting = length rest }) now →
         Relaxes A g (place top + 1) (value top) labels now.labels → now.waiting ≤ length rest + length g.arcs → length rest + 1 ≡ length items →
         Proceeds order A true (record { algebra = algebra; roads = g; labels = labels; settled = settled; waiting = length items }) now
@@ -58,7 +58,8 @@ module _ {K V : Type 0} (value : K → V) (place : K → ℕ) (order : V → V �
       advances = inl (record {
         index = place top;
         value = value top;
-        best = queue_best value place order ordered labels settled items known.queue top rest moved o upper;
+        best = queue_best value place order ordered labels settled items known.queue top rest moved upper o;
+        first = queue_first value place order ordered labels settled items known.queue top rest moved upper;
         marks = same.settled;
         relaxes = pass;
         few = omega (arith, few, less);

@@ -12,8 +12,9 @@ use Rattle.road_graph.specs.Roads.{Roads, IsAscendingFrom, ListsArcsFrom}
 use Rattle.road_graph.proofs.Lists.{head_or_tail, here, later}
 use Rattle.path_algebra.specs.Algebra.{IsOrder}
 use Rattle.path_algebra.specs.Open.{IsBestOpen}
-use Rattle.path_plain.specs.Order.{open_cmp}
+use Rattle.path_plain.specs.Order.{by_place, told, open_cmp}
 use Rattle.path_plain.specs.Queue.{IsQueue}
+use Rattle.path_plain.specs.Ties.{IsFirstOfEquals}
 
 not_less : (p q : Bool) → is_lt (cond p (cond q Equal Greater) Less) ≡ false → IsTrue p
 not_less true q h = refl
@@ -83,22 +84,35 @@ module _ {K V : Type 0} (value : K → V) (place : K → ℕ) (no_worse : V → 
       ];
     }
 
-    -- the top entry is the best open vertex
-    pub queue_best : get_or settled (place top) false ≡ false → IsUpperBound (open_cmp value no_worse) top items →
-        IsBestOpen no_worse labels settled (length labels) (place top) (value top)
-    queue_best o upper =
-        let was = known.entries top top_in in
-        let cover = known.covers (place top) was.1.0 was.0 o was.1.1 in
-        let passed : K → Type 0 = λ x. is_lt (open_cmp value no_worse top x) ≡ false in
-        let worse : (e : K) → Contains items e → IsTrue (no_worse (value top) (value e)) =
-        λ e h. not_less (no_worse (value top) (value e)) (no_worse (value e) (value top)) (All-contains passed items e (All-from_recursion passed items upper) h) in
-        let same : was.1.0 ≡ value top = ordered.antisymmetric was.1.0 (value top) was.1.2 (subst (λ (v : V). IsTrue (no_worse (value top) v)) cover.2 (worse cover.0 cover.1)) in
-        record {
-          below = was.0;
-          is_open = o;
-          label = was.1.1 ∙ ap (λ (v : V). Some v) same;
-          least = λ j j_lt y j_open e. let c = known.covers j y j_lt j_open e in subst (λ (v : V). IsTrue (no_worse (value top) v)) c.2 (worse c.0 c.1);
-        }
+    module _ (upper : IsUpperBound (open_cmp value place no_worse) top items) where
+      -- no entry is better than the top, and none that is as good has a lesser place
+      ahead : (e : K) → Contains items e → IsTrue (no_worse (value top) (value e)) × (IsTrue (no_worse (value e) (value top)) → place top ≤ place e)
+      ahead e h =
+          let passed : K → Type 0 = λ x. is_lt (open_cmp value place no_worse top x) ≡ false in
+          let p : passed e = All-contains passed items e (All-from_recursion passed items upper) h in
+          told no_worse (value top, place top) (value e, place e)
+          (not_less (by_place no_worse (value top, place top) (value e, place e)) (by_place no_worse (value e, place e) (value top, place top)) p)
+
+      -- the top entry is the best open vertex
+      pub queue_best : get_or settled (place top) false ≡ false → IsBestOpen no_worse labels settled (length labels) (place top) (value top)
+      queue_best o =
+          let was = known.entries top top_in in
+          let cover = known.covers (place top) was.1.0 was.0 o was.1.1 in
+          let same : was.1.0 ≡ value top = ordered.antisymmetric was.1.0 (value top) was.1.2 (subst (λ (v : V). IsTrue (no_worse (value top) v)) cover.2 (ahead cover.0 cover.1).0) in
+          record {
+            below = was.0;
+            is_open = o;
+            label = was.1.1 ∙ ap (λ (v : V). Some v) same;
+            least = λ j j_lt y j_open e. let c = known.covers j y j_lt j_open e in subst (λ (v : V). IsTrue (no_worse (value top) v)) c.2 (ahead c.0 c.1).0;
+          }
+
+      -- and the least of those with its value
+      pub queue_first : IsFirstOfEquals labels settled (place top) (value top)
+      queue_first j j_lt j_open e =
+          let c = known.covers j (value top) j_lt j_open e in
+          let self : IsTrue (no_worse (value top) (value top)) = elim (ordered.total (value top) (value top)) [ inl r ↦ r | inr r ↦ r ] in
+          let back : IsTrue (no_worse (value c.0) (value top)) = subst (λ (v : V). IsTrue (no_worse v (value top))) (sym c.2) self in
+          subst (λ (k : ℕ). place top ≤ k) c.3 ((ahead c.0 c.1).1 back)
 
 pub worse_than_offered : {V : Type 0} (no_worse : V → V → Bool) (ordered : IsOrder no_worse) (old : Option V) (w z : V) (answer better : Bool) →
     old ≡ Some w → answer ≡ no_worse w z → better ≡ not answer → better ≡ true → (y : V) → old ≡ Some y → IsTrue (no_worse z y)

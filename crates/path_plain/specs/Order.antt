@@ -1,11 +1,13 @@
 -- The order of the open vertices in a heap.
-use Rattle.std.specs.Prelude.{◌≡◌, ◌⊎◌, Bool, true, false, cond, IsTrue}
+use Rattle.std.specs.Prelude.{◌≡◌, ℕ, ◌≤◌, ◌⊎◌, Bool, true, false, cond, leb, IsTrue}
 use Rattle.std.specs.Ordering.{ordering_reverse, on}
 use Rattle.std.specs.Cmp.{IsTotalOrder}
 use Rattle.std.proofs.lemmas.Cmp.{on_total}
 use Rattle.std.specs.declared.cmp.Ordering.{Ordering}
 use Rattle.std.specs.declared.cmp.Ordering.TheVariants.{Less, Equal, Greater}
-use Rattle.std.proofs.Common.{refl, ap, inl, inr}
+use Rattle.std.proofs.Common.{refl, ap, inl, inr, arith}
+use Rattle.std.proofs.lemmas.Bool.{leb-true, le-leb}
+use Rattle.std.proofs.lemmas.Bool.Decides.{leb_tells}
 use Rattle.path_algebra.specs.Algebra.{IsOrder}
 use Rattle.path_algebra.proofs.Least.{other_no_worse}
 
@@ -55,9 +57,75 @@ module _ {V : Type 0} (no_worse : V → V → Bool) (ordered : IsOrder no_worse)
   pub value_total : IsTotalOrder (value_cmp no_worse)
   value_total = record { antisymm = value_antisymm; trans = value_trans; congr = value_congr }
 
--- entries by their values
-abbrev pub open_cmp : {K V : Type 0} → (K → V) → (V → V → Bool) → K → K → Ordering
-open_cmp value no_worse = on value (value_cmp no_worse)
+-- no worse in value, and where both values are as good no greater place
+abbrev pub by_place : {V : Type 0} → (V → V → Bool) → V × ℕ → V × ℕ → Bool
+by_place no_worse a b = cond (no_worse a.0 b.0) (cond (no_worse b.0 a.0) (leb a.1 b.1) true) false
 
-pub open_total : {K V : Type 0} (value : K → V) (no_worse : V → V → Bool) → IsOrder no_worse → IsTotalOrder (open_cmp value no_worse)
-open_total value no_worse ordered = on_total value (value_total no_worse ordered)
+split : (p q r : Bool) → IsTrue (cond p (cond q r true) false) → IsTrue p × (IsTrue q → IsTrue r)
+split true true r h = (refl, λ _. h)
+split true false r h = (refl, λ k. cc)
+split false q r h = cc
+
+join : (p q r : Bool) → IsTrue p → (IsTrue q → IsTrue r) → IsTrue (cond p (cond q r true) false)
+join true true r h k = k refl
+join true false r h k = refl
+join false q r h k = cc
+
+either : (a b : ℕ) → (a ≤ b) ⊎ (b ≤ a)
+either a b = elim (leb_tells a b) [ inl h ↦ inl h.1 | inr h ↦ (let l = h.1 in inr (omega (arith, l))) ]
+
+module _ {V : Type 0} (no_worse : V → V → Bool) where
+  -- what it says
+  pub told : (a b : V × ℕ) → IsTrue (by_place no_worse a b) → IsTrue (no_worse a.0 b.0) × (IsTrue (no_worse b.0 a.0) → a.1 ≤ b.1)
+  told a b h =
+      let s = split (no_worse a.0 b.0) (no_worse b.0 a.0) (leb a.1 b.1) h in
+      (s.0, λ k. leb-true a.1 b.1 (s.1 k))
+
+  pub tells : (a b : V × ℕ) → IsTrue (no_worse a.0 b.0) → (IsTrue (no_worse b.0 a.0) → a.1 ≤ b.1) → IsTrue (by_place no_worse a b)
+  tells a b h k = join (no_worse a.0 b.0) (no_worse b.0 a.0) (leb a.1 b.1) h (λ t. le-leb a.1 b.1 (k t))
+
+  module _ (ordered : IsOrder no_worse) where
+    total_of : (p q : Bool) → IsTrue p ⊎ IsTrue q → (a b : ℕ) →
+        IsTrue (cond p (cond q (leb a b) true) false) ⊎ IsTrue (cond q (cond p (leb b a) true) false)
+    total_of true true h a b = elim (either a b) [ inl l ↦ inl (le-leb a b l) | inr l ↦ inr (le-leb b a l) ]
+    total_of true false h a b = inl refl
+    total_of false true h a b = inr refl
+    total_of false false h a b = elim h [ inl e ↦ cc | inr e ↦ cc ]
+
+    pub by_place_order : IsOrder (by_place no_worse)
+    by_place_order = record {
+      total = λ a b. total_of (no_worse a.0 b.0) (no_worse b.0 a.0) (ordered.total a.0 b.0) a.1 b.1;
+      transitive = λ a b c h k.
+          let s = told a b h in
+          let t = told b c k in
+          tells a c (ordered.transitive a.0 b.0 c.0 s.0 t.0) (λ back.
+          let l = s.1 (ordered.transitive b.0 c.0 a.0 t.0 back) in
+          let m = t.1 (ordered.transitive c.0 a.0 b.0 back s.0) in
+          omega (arith, l, m));
+      antisymmetric = λ a b h k.
+          let s = told a b h in
+          let t = told b a k in
+          let first : a.0 ≡ b.0 = ordered.antisymmetric a.0 b.0 s.0 t.0 in
+          let l = s.1 t.0 in
+          let m = t.1 s.0 in
+          let second : a.1 ≡ b.1 = omega (arith, l, m) in
+          λ i. (first i, second i);
+    }
+
+-- entries by their values, and where these tie the lesser place is greater: equal only if both are equal
+abbrev pub open_cmp : {K V : Type 0} → (K → V) → (K → ℕ) → (V → V → Bool) → K → K → Ordering
+open_cmp value place no_worse = on (λ o. (value o, place o)) (value_cmp (by_place no_worse))
+
+pub open_total : {K V : Type 0} (value : K → V) (place : K → ℕ) (no_worse : V → V → Bool) → IsOrder no_worse → IsTotalOrder (open_cmp value place no_worse)
+open_total value place no_worse ordered = on_total (λ o. (value o, place o)) (value_total (by_place no_worse) (by_place_order no_worse ordered))
+
+-- only entries of the same value and the same place are equal
+pub open_equal : {K V : Type 0} (value : K → V) (place : K → ℕ) (no_worse : V → V → Bool) → IsOrder no_worse → (a b : K) →
+    open_cmp value place no_worse a b ≡ Equal → (value a ≡ value b) × (place a ≡ place b)
+open_equal {V = V} value place no_worse ordered a b e =
+    let x : V × ℕ = (value a, place a) in
+    let y : V × ℕ = (value b, place b) in
+    let order = by_place_order no_worse ordered in
+    let both = equal_of (by_place no_worse) order (by_place no_worse x y) (by_place no_worse y x) e in
+    let same : x ≡ y = order.antisymmetric x y both.0 both.1 in
+    (ap (λ (p : V × ℕ). p.0) same, ap (λ (p : V × ℕ). p.1) same)

@@ -5,6 +5,7 @@ use Rattle.path_algebra.specs.Algebra.{Algebra}
 use Rattle.path_algebra.specs.Walks.{relaxed}
 use Rattle.path_algebra.specs.Open.{IsBestOpen, AnswersBestOpen}
 use Rattle.path_plain.specs.Queue.{IsQueue}
+use Rattle.path_plain.specs.Ties.{IsFirstOfEquals}
 
 -- the label of each vertex, which are settled, and how many entries wait in the queue
 pub record SearchState (A V : Type 0) : Type 0 where
@@ -32,11 +33,12 @@ pub record IsSameSearch {A V : Type 0} (old new : SearchState A V) : Type 0 wher
 abbrev pub Relaxes : {V : Type 0} → Algebra V → Roads → ℕ → V → List (Option V) → List (Option V) → Type 0
 Relaxes A g v x labels labels' = (numbers : List ℕ) × ListsArcsFrom g v numbers × (labels' ≡ relaxed A g x labels numbers)
 
--- the best open vertex is settled, and what its arcs improve joins the queue
+-- the best open vertex is settled, the least if values tie, and what its arcs improve joins the queue
 pub record Settles {A V : Type 0} (no_worse : V → V → Bool) (meaning : Algebra V) (old new : SearchState A V) : Type 0 where
   pub index : ℕ
   pub value : V
   pub best : IsBestOpen no_worse old.labels old.settled (length old.labels) index value
+  pub first : IsFirstOfEquals old.labels old.settled index value
   pub marks : new.settled ≡ slice_set old.settled index true
   pub relaxes : Relaxes meaning old.roads (index + 1) value old.labels new.labels
   pub few : new.waiting ≤ old.waiting + length old.roads.arcs

@@ -1,4 +1,4 @@
-//! The queue of open vertices: a heap with the best value on top.
+//! The queue of open vertices: a heap with the best value on top, and if values tie the least vertex.
 
 ghost use Rattle.std.specs.Prelude.{◌≡◌, ◌+◌, ◌∷◌, [], length, refl, OnOk, OnErr, IfSome, IfNone};
 ghost use Rattle.std.specs.Cmp.{partial_order_from_total, partial_equiv_from_equiv, eq_by_cmp_equiv};
@@ -16,7 +16,7 @@ use std::marker::Model;
 
 /// A vertex, by its place among the labels, with a value that it was offered.
 ///
-/// Better values are greater, and the place does not count.
+/// Better values are greater, and if values tie lesser places are: only an entry with the same two is equal.
 #[derive(Drop)]
 pub(crate) struct Open<A: PathAlgebra> {
     pub(crate) value: A::Value,
@@ -24,9 +24,9 @@ pub(crate) struct Open<A: PathAlgebra> {
 }
 
 impl<A: PathAlgebra> Ord for Open<A> {
-    ghost cmp = { open_cmp (λ o. o.value) A.order };
+    ghost cmp = { open_cmp (λ o. o.value) (λ o. o.place) A.order };
 
-    ghost total = { open_total (λ o. o.value) A.order A.ordered };
+    ghost total = { open_total (λ o. o.value) (λ o. o.place) A.order A.ordered };
 
     ghost matches_partial_cmp = { λ x y. refl };
 
@@ -34,9 +34,14 @@ impl<A: PathAlgebra> Ord for Open<A> {
 
     fn cmp(&self, other: &Self) -> Ordering {
         let (a, b) = (self.value, other.value);
+        let (i, j) = (self.place, other.place);
         if !A::no_worse(a, b) {
             Ordering::Less
         } else if !A::no_worse(b, a) {
+            Ordering::Greater
+        } else if i > j {
+            Ordering::Less
+        } else if i < j {
             Ordering::Greater
         } else {
             Ordering::Equal
@@ -45,9 +50,9 @@ impl<A: PathAlgebra> Ord for Open<A> {
 }
 
 impl<A: PathAlgebra> PartialOrd for Open<A> {
-    ghost partial_cmp = { as_partial_cmp (open_cmp (λ o. o.value) A.order) };
+    ghost partial_cmp = { as_partial_cmp (open_cmp (λ o. o.value) (λ o. o.place) A.order) };
 
-    ghost laws = { partial_order_from_total (open_total (λ o. o.value) A.order A.ordered) };
+    ghost laws = { partial_order_from_total (open_total (λ o. o.value) (λ o. o.place) A.order A.ordered) };
 
     fn partial_cmp(&self, other: &Self) -> Option<Ordering> {
         Some(self.cmp(other))
@@ -55,9 +60,9 @@ impl<A: PathAlgebra> PartialOrd for Open<A> {
 }
 
 impl<A: PathAlgebra> PartialEq for Open<A> {
-    ghost eq = { eq_by_cmp (open_cmp (λ o. o.value) A.order) };
+    ghost eq = { eq_by_cmp (open_cmp (λ o. o.value) (λ o. o.place) A.order) };
 
-    ghost laws = { partial_equiv_from_equiv (eq_by_cmp_equiv (open_total (λ o. o.value) A.order A.ordered)) };
+    ghost laws = { partial_equiv_from_equiv (eq_by_cmp_equiv (open_total (λ o. o.value) (λ o. o.place) A.order A.ordered)) };
 
     fn eq(&self, other: &Self) -> bool {
         self.cmp(other).is_eq()
@@ -65,10 +70,10 @@ impl<A: PathAlgebra> PartialEq for Open<A> {
 }
 
 impl<A: PathAlgebra> Eq for Open<A> {
-    ghost laws = { eq_by_cmp_equiv (open_total (λ o. o.value) A.order A.ordered) };
+    ghost laws = { eq_by_cmp_equiv (open_total (λ o. o.value) (λ o. o.place) A.order A.ordered) };
 }
 
-/// Open vertices with the values that they were offered, a heap with the best value on top.
+/// Open vertices with the values that they were offered, a heap with the first on top.
 #[derive(Drop)]
 pub(crate) struct Queue<A: PathAlgebra> {
     heap: BinaryHeap<Open<A>>,
@@ -84,7 +89,7 @@ impl<A: PathAlgebra> Model for Queue<A> {
 
     ghost view = { λ q. heap_items q.heap };
 
-    ghost invariant = { λ q. IsHeap (open_cmp (λ o. o.value) A.order) (heap_items q.heap) };
+    ghost invariant = { λ q. IsHeap (open_cmp (λ o. o.value) (λ o. o.place) A.order) (heap_items q.heap) };
 }
 
 impl<A: PathAlgebra> Queue<A> {
@@ -110,7 +115,7 @@ impl<A: PathAlgebra> Queue<A> {
         Ok(())
     }
 
-    /// Takes an entry of the best value in the queue, if there is any.
+    /// Takes the first entry of the queue, if there is any: of the best value, and of the least place among equals.
     pub(crate) fn pop(&mut self) -> Option<(A::Value, usize)>
         ensures items { IfSome result
             (λ x. IsPermutation self.old (record { value = x.0; place = x.1 } ∷ self.new)) }
@@ -118,7 +123,7 @@ impl<A: PathAlgebra> Queue<A> {
         ensures none { IfNone result (self.old ≡ []) }
         ensures empty { IfNone result (self.new ≡ []) }
         ensures best { IfSome result
-            (λ x. IsUpperBound (open_cmp (λ o. o.value) A.order) (record { value = x.0; place = x.1 }) self.old) }
+            (λ x. IsUpperBound (open_cmp (λ o. o.value) (λ o. o.place) A.order) (record { value = x.0; place = x.1 }) self.old) }
     {
         let best = self.heap.pop()?;
         Some((best.value, best.place))

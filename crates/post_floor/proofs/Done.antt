@@ -27,7 +27,7 @@ use Rattle.post_floor.proofs.Totals.{total_set}
 use Rattle.shard_part.specs.Exact.{done_by}
 use Rattle.post_floor.proofs.Keeps.{gone, went, goes_on, idle_after}
 use Rattle.post_floor.proofs.Steps.{Tab, Seat, ended_more}
-use Rattle.post_floor.proofs.Exchanges.{unchanged}
+use Rattle.post_floor.proofs.Exchanges.{unchanged, known_at}
 
 not_busy : (V : Type 0) (z : Bool) → not z ≡ true → is_idle (token_if {V = V} z) ≡ true
 not_busy V true e = absurd cc
@@ -45,9 +45,6 @@ module _ {S V : Type 0} (meaning : S → Algebra V) (t : Setup S) where
   ended_at L W p events e H h =
       let Q : IsQuiet (core_of meaning t events) = (ended (meaning t.question.algebra) (network_in t) (L t.question.algebra) W events h).0 in
       let T = subst (λ (u : Setup S). HoldsShare (meaning u.question.algebra) (network_in u) (place_in u) (core_of meaning u events) p × HasEnded (core_of meaning u events) × IsQuiet (core_of meaning u events)) (sym e) (H, h, Q) in (events, T.0, T.1, T.2)
-
-  known_at : (p : PartData S V) (events : List Event) → p.setup ≡ t → HoldsShare (meaning t.question.algebra) (network_in t) (place_in t) (core_of meaning t events) p → Known meaning p
-  known_at p events e H = (events, subst (λ (u : Setup S). HoldsShare (meaning u.question.algebra) (network_in u) (place_in u) (core_of meaning u events) p) (sym e) H)
 
   module _ (L : AllLawful meaning) (W : WellFormed (network_in t)) where
     mail_done : (n : ℕ) (ws : List ℕ) (hs : List (Option (Slot V))) (n' : ℕ) (h : ℕ → Item V → ℕ) → mail n (set ws (box_count n) n') hs h ≡ mail n ws hs h
@@ -91,7 +88,7 @@ module _ {S V : Type 0} (meaning : S → Algebra V) (t : Setup S) where
             roomy = r.roomy;
           },
           (λ e. ended_at L W d (r.events ++ map event_of items) G.setup G.share (over e)),
-          known_at d (r.events ++ map event_of items) G.setup G.share,
+          known_at meaning t d (r.events ++ map event_of items) G.setup G.share,
         )
 
     pub announces : (m id : ℕ) (me : Seat meaning t L W) (d : PartData S V) → Follows meaning me.0 d → has_ended d ≡ true

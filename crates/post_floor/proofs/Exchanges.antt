@@ -1,5 +1,5 @@
 -- The kinds of steps, each as the table asks for it.
-use Rattle.std.proofs.Common.{◌≡◌, ◌≢◌, ℕ, ◌+◌, ◌<◌, eqb, List, [], ◌∷◌, ◌++◌, length, map, set, get_or, refl, sym, ap, ◌∙◌, subst, arith, length-set}
+use Rattle.std.proofs.Common.{◌≡◌, ◌≢◌, ℕ, ◌+◌, ◌<◌, eqb, List, [], ◌∷◌, ◌++◌, length, map, set, get_or, refl, sym, ap, ◌∙◌, subst, inl, inr, arith, length-set}
 use Rattle.std.specs.Prelude as std
 use mathlib.Core.Option.{Option, none, some}
 use lib.ListN.{get_elem?}
@@ -9,6 +9,7 @@ use Rattle.atomic_table.proofs.Lists.{set_here, set_else, exchanged}
 use Rattle.circular_buffer.specs.Buffer.{buffer}
 use Rattle.path_algebra.specs.Algebra.{Algebra}
 use Rattle.scholten_core.specs.declared.item.Item.{Item}
+use Rattle.scholten_core.specs.declared.event.Event.{Event}
 use Rattle.scholten_core.specs.Network.{WellFormed}
 use Rattle.scholten_core.specs.Diffusion.{CoreState}
 use Rattle.scholten_core.proofs.Kept.{Kept as CoreKept}
@@ -23,7 +24,7 @@ use Rattle.shard_part.specs.Arriving.{MadeAt, joined, MayReceive}
 use Rattle.post_floor.specs.declared.view.View.{View}
 use Rattle.post_floor.specs.Boxes.{box_count, dest, origin}
 use Rattle.post_floor.specs.Floor.{Slot, filling, reading, load_place, box, cap, emptied, core_of, Kept}
-use Rattle.post_floor.specs.Plays.{ShowsPart, Went, at_word, Unclaimed, claim_fill, end_fill, claim_read, end_read, sent_off, HasEmpty, Follows, filled, published, took, cleared}
+use Rattle.post_floor.specs.Plays.{ShowsPart, Went, at_word, Unclaimed, claim_fill, end_fill, claim_read, end_read, sent_off, HasEmpty, Follows, Known, filled, published, took, cleared}
 use Rattle.post_floor.proofs.Totals.{total_at, is_else, is_one, without_same, without_else}
 use Rattle.shard_part.specs.Exact.{done_by}
 use Rattle.shard_part.proofs.TakenCounts.{handled_same}
@@ -41,6 +42,10 @@ module _ {S V : Type 0} (meaning : S → Algebra V) (t : Setup S) where
   arrived p c xs j L e W K ne made H =
       let T = subst (λ (u : Setup S). WellFormed (network_in u) × CoreKept (meaning u.question.algebra) (network_in u) 0 c × MadeAt u j xs × HoldsShare (meaning u.question.algebra) (network_in u) (place_in u) c (joined p xs)) (sym e) (W, K, made, H) in
       arrives meaning p (L p.setup.question.algebra) T.0 c T.1 xs j ne T.2 T.3
+
+  -- a part that holds its share of the state after these events
+  pub known_at : (p : PartData S V) (events : List Event) → p.setup ≡ t → HoldsShare (meaning t.question.algebra) (network_in t) (place_in t) (core_of meaning t events) p → Known meaning p
+  known_at p events e H = (events, subst (λ (u : Setup S). HoldsShare (meaning u.question.algebra) (network_in u) (place_in u) (core_of meaning u events) p) (sym e) H)
 
   module _ (L : AllLawful meaning) (W : WellFormed (network_in t)) where
     abbrev Goes : Tab meaning t L W → ℕ → ℕ → Seat meaning t L W → (ℕ → Seat meaning t L W → Type 0) → ℕ → Type 0
@@ -65,6 +70,7 @@ module _ {S V : Type 0} (meaning : S → Algebra V) (t : Setup S) where
       low = ok.low;
       empty = ok.empty_home;
       full = ok.full_home;
+      out = ok.out;
       seen = refl;
     })).0
 
@@ -107,6 +113,7 @@ module _ {S V : Type 0} (meaning : S → Algebra V) (t : Setup S) where
             low = omega arith;
             empty = λ z. absurd (omega (arith, z));
             full = λ z. absurd (omega (arith, z));
+            out = λ _. set_here s.homes k none (let l = r.roomy in omega (arith, l, lt));
             seen = refl;
           })).0,
           ((λ z. (went meaning t me.0 u b d d items T sh (unchanged d), ap (λ (x : Setup S). (k, emptied x k) ∷ me.1) (sym e), unclaimed s r id k me.0 at lt (ap (is 1) hit) (ap (is 3) hit))), λ ne. absurd (ne hit)),
@@ -139,6 +146,7 @@ module _ {S V : Type 0} (meaning : S → Algebra V) (t : Setup S) where
           low = omega arith;
           empty = λ z. absurd (omega (arith, z));
           full = λ z. absurd (omega (arith, z));
+          out = λ _. set_here s.homes k none (let l = r.roomy in omega (arith, l, lt));
           seen = refl;
         }) in (
           gone meaning t me.0 u q (done_by meaning items b d T),
@@ -152,6 +160,7 @@ module _ {S V : Type 0} (meaning : S → Algebra V) (t : Setup S) where
               ap (λ (x : Setup S). (k, std.Some (buffer xs (cap x k))) ∷ me.1) (sym e),
               arrived d (core_of meaning t (r.events ++ map event_of items)) xs (origin t.plan.shards k) L e W (kept_core meaning t L W (r.events ++ map event_of items)) from full.2 C.1,
               unclaimed s r id k me.0 at lt (ap (is 1) hit) (ap (is 3) hit),
+              known_at q (r.events ++ map event_of items) C.2 C.1,
             )),
             λ ne. absurd (ne hit),
           ),
@@ -192,6 +201,7 @@ module _ {S V : Type 0} (meaning : S → Algebra V) (t : Setup S) where
           low = omega arith;
           empty = λ z. absurd (omega (arith, z));
           full = λ z. (xs, here, made);
+          out = λ z. elim z [ inl q ↦ absurd (omega (arith, q)) | inr q ↦ absurd (omega (arith, q)) ];
           seen = refl;
         }) in (
           gone meaning t me.0 u q (done_by meaning items b d T),
@@ -227,6 +237,7 @@ module _ {S V : Type 0} (meaning : S → Algebra V) (t : Setup S) where
           low = omega arith;
           empty = λ z. here;
           full = λ z. absurd (omega (arith, z));
+          out = λ z. elim z [ inl q ↦ absurd (omega (arith, q)) | inr q ↦ absurd (omega (arith, q)) ];
           seen = refl;
         }) in (
           gone meaning t me.0 u d (done_by meaning items b d T),

@@ -1,5 +1,5 @@
 -- Each step keeps the rule of the floor.
-use Rattle.std.proofs.Common.{◌≡◌, ℕ, suc, ◌+◌, ◌<◌, List, [], ◌∷◌, ◌++◌, length, map, set, refl, sym, ap, ◌∙◌, subst, inl, inr, arith}
+use Rattle.std.proofs.Common.{◌≡◌, ℕ, ◌+◌, ◌<◌, List, [], ◌∷◌, ◌++◌, length, map, set, refl, sym, ap, ◌∙◌, subst, inl, inr, arith}
 use mathlib.Core.Option.{some}
 use lib.ListN.{get_elem?}
 use Rattle.atomic_table.specs.Table.{State}
@@ -32,9 +32,9 @@ module _ {S V : Type 0} (meaning : S → Algebra V) (t : Setup S) where
   abbrev St : Type 0
   St = State (Slot V) (View S V)
 
-  -- the view after a step: it is u, but shows e, has counted n more than v, and made a step more
+  -- the view after a step: it is u, but shows e, and has counted n more than v
   abbrev pub gone : View S V → View S V → PartData S V → Totals → View S V
-  gone v u e n = record u { parts = e ∷ []; steps = suc u.steps; sent = v.sent + n.sent; delivered = v.delivered + n.delivered; signalled = v.signalled + n.signalled; accepted = v.accepted + n.accepted }
+  gone v u e n = record u { parts = e ∷ []; sent = v.sent + n.sent; delivered = v.delivered + n.delivered; signalled = v.signalled + n.signalled; accepted = v.accepted + n.accepted }
 
   -- the lists of e differ from those of d, and nothing else
   pub record Relisted (d e : PartData S V) : Type 0 where
@@ -55,10 +55,8 @@ module _ {S V : Type 0} (meaning : S → Algebra V) (t : Setup S) where
         reads = refl;
         next_fill = refl;
         next_read = refl;
-        word = refl;
-        number = refl;
-        seen = refl;
         steps = refl;
+        seen = refl;
       }
 
   pub idle_after : (views : List (View S V)) (id : ℕ) (w : View S V) (e : PartData S V) → w.parts ≡ e ∷ [] → ((i : ℕ) (y : View S V) → get_elem? views i ≡ some y → y.parts ≡ [] → CountsNone y) →

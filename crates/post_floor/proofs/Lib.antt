@@ -14,3 +14,4 @@ pub mod Opening
 pub mod Opened
 pub mod Closing
 pub mod Carrying
+pub mod Quiet

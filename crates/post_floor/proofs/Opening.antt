@@ -73,6 +73,7 @@ module _ {S V : Type 0} (meaning : S → Algebra V) (t : Setup S) (P : IsPlanned
           reads_is = refl;
           empty_home = λ _. at_map (λ y. some y) xs k (emptied t k) (empty k lt);
           full_home = λ e. absurd (omega (arith, e));
+          out = λ z. elim z [ inl e ↦ absurd (omega (arith, e)) | inr e ↦ absurd (omega (arith, e)) ];
         });
         done = λ e. absurd (let z = zero_at (box_count n) in omega (arith, e, z));
         seen = λ id u a sn. let f : false ≡ true = ap (λ (z : View S V). z.seen) (only v id u a) ∙ sn in absurd cc;

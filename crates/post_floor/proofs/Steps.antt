@@ -1,8 +1,8 @@
 -- Each of the steps on a mailbox keeps the rule of the floor.
-use Rattle.std.proofs.Common.{◌≡◌, ◌≢◌, ℕ, ◌+◌, ◌<◌, List, [], ◌∷◌, ◌++◌, length, map, set, get_or, refl, sym, ap, ◌∙◌, subst, inl, inr, arith, length-set, get_or-set_other, get_or-set_same}
+use Rattle.std.proofs.Common.{◌≡◌, ◌≢◌, ◌⊎◌, ℕ, ◌+◌, ◌<◌, List, [], ◌∷◌, ◌++◌, length, map, set, get_or, refl, sym, ap, ◌∙◌, subst, inl, inr, arith, length-set, get_or-set_other, get_or-set_same}
 use Rattle.std.specs.Prelude as std
 use Rattle.std.proofs.lemmas.Bool.{cases_eq}
-use mathlib.Core.Option.{Option, some}
+use mathlib.Core.Option.{Option, none, some}
 use lib.ListN.{get_elem?}
 use Rattle.atomic_table.specs.Table.{State, Me}
 use Rattle.atomic_table.proofs.Lists.{at_set}
@@ -66,6 +66,7 @@ module _ {S V : Type 0} (meaning : S → Algebra V) (t : Setup S) (L : AllLawful
     pub low : n' < 4
     pub empty : n' ≡ 0 → get_elem? homes' k ≡ some (some (emptied t k))
     pub full : n' ≡ 2 → (xs : List (Item V)) × (get_elem? homes' k ≡ some (some (std.Some (buffer xs (cap t k))))) × MadeAt t (origin t.plan.shards k) xs
+    pub out : (n' ≡ 1) ⊎ (n' ≡ 3) → get_elem? homes' k ≡ some none
     pub seen : u.seen ≡ v.seen
 
   box_else : (ws : List ℕ) (hs hs' : List (Option (Slot V))) (k n' j : ℕ) (f : Item V → ℕ) → j ≢ k → get_elem? hs' j ≡ get_elem? hs j → box f (get_or (set ws k n') j 0) (get_elem? hs' j) ≡ box f (get_or ws j 0) (get_elem? hs j)
@@ -95,6 +96,7 @@ module _ {S V : Type 0} (meaning : S → Algebra V) (t : Setup S) (L : AllLawful
           reads_is = let p = total_set (reading k) s.views id v New c.at in let q = ok.reads_is in let f = c.read in omega (arith, p, q, f);
           empty_home = c.empty;
           full_home = c.full;
+          out = c.out;
         })
 
     box_there : (j : ℕ) → j < box_count t.plan.shards → j ≢ k → BoxOk t j (get_or (set s.words k n') j 0) (get_elem? homes' j) (total (filling j) (set s.views id New)) (total (reading j) (set s.views id New))

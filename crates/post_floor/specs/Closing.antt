@@ -1,6 +1,6 @@
 -- Seats that are joined when a floor is closed.
-use Rattle.std.specs.Prelude.{◌≡◌, ℕ, ◌+◌, ◌<◌, true, List}
-use mathlib.Core.Option.{Option}
+use Rattle.std.specs.Prelude.{◌≡◌, ℕ, ◌+◌, ◌<◌, true, List, map}
+use mathlib.Core.Option.{some}
 use Rattle.path_algebra.specs.Algebra.{Algebra}
 use Rattle.shard_part.specs.PartState.{Setup, PartData}
 use Rattle.shard_part.specs.Weights.{total, is, All}
@@ -24,6 +24,11 @@ pub record AreJoined {S V : Type 0} (w v : View S V) (seats : List (SeatData S V
   pub seen : v.seen ≡ true → w.seen ≡ true
   pub all_seen : All (λ d. d.knows.seen ≡ true → w.seen ≡ true) seats
 
--- what all seats of a floor know together, with what the mailboxes hold, shows one reached state
-abbrev pub IsClosed : {S V : Type 0} → (S → Algebra V) → Setup S → List (SeatData S V) → Type 0
-IsClosed {S} {V} meaning t seats = (w : View S V) × AreJoined w spent seats × (words : List ℕ) × (homes : List (Option (Slot V))) × Settled meaning t w words homes
+-- a closed floor: its words and slots as they were at the end
+pub record ClosedData (V : Type 0) : Type 0 where
+  pub words : List ℕ
+  pub slots : List (Slot V)
+
+-- what all seats of a floor know together, with what the mailboxes held at the end, shows one reached state, their counts are what its events did, and it has ended if the done word is 1 or one seat has seen that
+abbrev pub IsClosed : {S V : Type 0} → (S → Algebra V) → Setup S → List (SeatData S V) → ClosedData V → Type 0
+IsClosed {S} {V} meaning t seats d = (w : View S V) × AreJoined w spent seats × Settled meaning t w d.words (map some d.slots)

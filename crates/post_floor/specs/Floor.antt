@@ -1,5 +1,5 @@
 -- What views and mailboxes show, and the rule of the floor.
-use Rattle.std.specs.Prelude.{◌≡◌, ◌≢◌, ℕ, zero, suc, ◌+◌, ◌<◌, ◌≤◌, Bool, true, false, cond, eqb, List, [], ◌∷◌, ◌++◌, length, set, get_or}
+use Rattle.std.specs.Prelude.{◌≡◌, ◌≢◌, ◌⊎◌, ℕ, zero, suc, ◌+◌, ◌<◌, ◌≤◌, Bool, true, false, cond, eqb, List, [], ◌∷◌, ◌++◌, length, set, get_or}
 use Rattle.std.specs.Prelude as std
 use mathlib.Core.Option.{Option, none, some}
 use lib.ListN.{get_elem?}
@@ -9,10 +9,11 @@ use Rattle.path_algebra.specs.Algebra.{Algebra}
 use Rattle.scholten_core.specs.declared.event.Event.{Event}
 use Rattle.scholten_core.specs.declared.item.Item.{Item}
 use Rattle.scholten_core.specs.Accounts.{Totals, totals_of}
-use Rattle.scholten_core.specs.Diffusion.{CoreState, state_after, HasEnded}
+use Rattle.scholten_core.specs.Diffusion.{CoreState, state_after, HasEnded, IsQuiet}
+use Rattle.scholten_core.specs.Reached.{LabelsAreBest}
 use Rattle.scholten_core.specs.Sums.{sum_below}
 use Rattle.shard_part.specs.PartState.{Setup, PartData, network_in, place_in}
-use Rattle.shard_part.specs.Weights.{total, is, All}
+use Rattle.shard_part.specs.Weights.{total, is, All, part_weight}
 use Rattle.shard_part.specs.Capacities.{outbox_bound}
 use Rattle.shard_part.specs.Shows.{Shows}
 use Rattle.shard_part.specs.Arriving.{MadeAt}
@@ -89,6 +90,8 @@ pub record BoxOk {S V : Type 0} (t : Setup S) (k w : ℕ) (y : Place V) (fills r
   pub reads_is : reads ≡ is 3 w
   pub empty_home : w ≡ 0 → y ≡ some (some (emptied t k))
   pub full_home : w ≡ 2 → (xs : List (Item V)) × (y ≡ some (some (std.Some (buffer xs (cap t k))))) × MadeAt t (origin t.plan.shards k) xs
+  -- it is out with the seat that fills or reads it
+  pub out : (w ≡ 1) ⊎ (w ≡ 3) → y ≡ some none
 
 module _ {S V : Type 0} (meaning : S → Algebra V) (t : Setup S) where
   -- the state that a list of events leads to
@@ -110,9 +113,18 @@ module _ {S V : Type 0} (meaning : S → Algebra V) (t : Setup S) where
     pub wide : length s.words ≡ box_count t.plan.shards + 1
     pub roomy : length s.homes ≡ box_count t.plan.shards
 
-  -- one view has all parts of a question: with the mailboxes it shows a state that some events lead to, its counts are what these did, and if it has seen the done word at 1, the state has ended
+  -- one view has all parts of a question: with the mailboxes it shows a state that some events lead to, its counts are what these did, and if the done word is 1, or it has seen that, the state has ended
   pub record Settled (v : View S V) (ws : List ℕ) (hs : List (Option (Slot V))) : Type 0 where
     pub events : List Event
     pub shown : Shows meaning t v.parts (mail t.plan.shards ws hs) (core_of events)
     pub counts : AddUp (v ∷ []) (totals_of (meaning t.question.algebra) (network_in t) events)
-    pub ended : v.seen ≡ true → HasEnded (core_of events)
+    pub done : get_or ws (box_count t.plan.shards) 0 ≡ 1 → HasEnded (core_of events)
+    pub seen : v.seen ≡ true → HasEnded (core_of events)
+
+  -- after these events all is over: parts and mailboxes show a state that has ended and is quiet, its labels are best, and no queue, outbox or mailbox holds an item
+  pub record ShowsQuiet (parts : List (PartData S V)) (mailed : (ℕ → Item V → ℕ) → ℕ) (events : List Event) : Type 0 where
+    pub shown : Shows meaning t parts mailed (core_of events)
+    pub ended : HasEnded (core_of events)
+    pub quiet : IsQuiet (core_of events)
+    pub best : LabelsAreBest (meaning t.question.algebra) t.question.roads t.question.source (core_of events)
+    pub empty : total (part_weight (λ _ _. 1)) parts + mailed (λ _ _. 1) ≡ 0

@@ -1,5 +1,5 @@
 -- What a seat knows of its part, and what the steps tell.
-use Rattle.std.specs.Prelude.{◌≡◌, ◌≢◌, ℕ, zero, suc, ◌+◌, Bool, true, false, cond, eqb, List, [], ◌∷◌, set, get_or, min}
+use Rattle.std.specs.Prelude.{◌≡◌, ◌≢◌, ℕ, ◌+◌, Bool, true, false, cond, eqb, List, [], ◌∷◌, ◌++◌, set, get_or, min}
 use Rattle.std.specs.Prelude as std
 use Rattle.atomic_table.specs.Table.{Me, Step, rest}
 use Rattle.circular_buffer.specs.Buffer.{buffer}
@@ -34,21 +34,19 @@ module _ {S V : Type 0} where
     pub signalled : p.signalled ≡ min v.signalled top
     pub accepted : p.accepted ≡ min v.accepted top
 
-  -- the view w is u after one step more, and shows p
+  -- the view w is u, but shows p as it is now, with its counts
   pub record Went (u : View S V) (p : PartData S V) (w : View S V) : Type 0 where
     pub shows : ShowsPart w p
     pub fills : w.fills ≡ u.fills
     pub reads : w.reads ≡ u.reads
     pub next_fill : w.next_fill ≡ u.next_fill
     pub next_read : w.next_read ≡ u.next_read
-    pub word : w.word ≡ u.word
-    pub number : w.number ≡ u.number
+    pub steps : w.steps ≡ u.steps
     pub seen : w.seen ≡ u.seen
-    pub steps : w.steps ≡ suc u.steps
 
-  -- its last step found the number x in the word k, or stored it there
+  -- it made one step more, which found the number x in the word k, or stored it there
   abbrev pub at_word : ℕ → ℕ → View S V → View S V
-  at_word k x v = record v { word = k; number = x }
+  at_word k x v = record v { steps = v.steps ++ record { word = k; number = x } ∷ [] }
 
   -- it begins to fill the mailbox k
   abbrev pub claim_fill : ℕ → View S V → View S V
@@ -105,7 +103,7 @@ module _ {S V : Type 0} (meaning : S → Algebra V) where
 
   abbrev pub took : PartData S V → Step (Slot V) → Me (Slot V) (View S V) → ℕ → Me (Slot V) (View S V) → Type 0
   took p st m r m' =
-      (r ≡ 2 → (xs : List (Item V)) × Went (at_word st.word 2 (claim_read st.word m.0)) (joined p xs) m'.0 × (m'.1 ≡ (st.word, std.Some (buffer xs (cap p.setup st.word))) ∷ m.1) × MayReceive meaning p xs × Unclaimed st.word m.0)
+      (r ≡ 2 → (xs : List (Item V)) × Went (at_word st.word 2 (claim_read st.word m.0)) (joined p xs) m'.0 × (m'.1 ≡ (st.word, std.Some (buffer xs (cap p.setup st.word))) ∷ m.1) × MayReceive meaning p xs × Unclaimed st.word m.0 × Known (joined p xs))
       × (r ≢ 2 → Went (at_word st.word r m.0) p m'.0 × (m'.1 ≡ m.1))
 
   abbrev pub cleared : PartData S V → Step (Slot V) → Me (Slot V) (View S V) → ℕ → Me (Slot V) (View S V) → Type 0
@@ -131,18 +129,17 @@ module _ {S V : Type 0} where
   FillTold true p k v w = Went (at_word k 0 (claim_fill k v)) p w
   FillTold false p k v w = (x : ℕ) × (x ≢ 0) × Went (at_word k x v) p w
 
-  -- what a try_read of the mailbox k tells, where the part p becomes q: a true one found 2 in its word, the batch is in the queue, and the seat reads the mailbox now; a false one found another number
+module _ {S V : Type 0} (meaning : S → Algebra V) where
+  -- what a try_read of the mailbox k tells, where the part p becomes q: a true one found 2 in its word, the batch is in the queue, the seat reads the mailbox now, and the part, with its batch, holds its share of a state that some events lead to; a false one found another number
   abbrev pub ReadTold : Bool → PartData S V → PartData S V → ℕ → View S V → View S V → Type 0
-  ReadTold true p q k v w = ((xs : List (Item V)) × (q ≡ joined p xs)) × Went (at_word k 2 (claim_read k v)) q w
+  ReadTold true p q k v w = ((xs : List (Item V)) × (q ≡ joined p xs)) × Went (at_word k 2 (claim_read k v)) q w × Known meaning q
   ReadTold false p q k v w = (q ≡ p) × (x : ℕ) × (x ≢ 2) × Went (at_word k x v) q w
 
-module _ {S V : Type 0} (meaning : S → Algebra V) where
   -- what a look at the done word k tells: a true one found 1 there, and the part holds its share of an ended state; a false one found another number
   abbrev pub LookTold : Bool → PartData S V → ℕ → View S V → View S V → Type 0
   LookTold true p k v w = Went (at_word k 1 (see v)) p w × Ended meaning p
   LookTold false p k v w = (x : ℕ) × (x ≢ 1) × Went (at_word k x v) p w × Known meaning p
 
-module _ {S V : Type 0} where
   -- what fetching the batch of the mailbox k tells: where it succeeds, the slot is out with the seat, and empty
   abbrev pub FetchTold : Bool → PartData S V → PartData S V → ℕ → Me (Slot V) (View S V) → Me (Slot V) (View S V) → Type 0
   FetchTold true p q k m m' = ReadTold true p q k m.0 m'.0 × (m'.1 ≡ (k, emptied q.setup k) ∷ m.1) × Unclaimed k m.0

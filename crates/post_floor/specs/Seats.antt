@@ -27,7 +27,7 @@ module _ {S V : Type 0} where
 
   -- the claims stay, and the rest goes to a new seat
   abbrev pub aside_left : View S V → View S V
-  aside_left v = record v { parts = []; next_fill = []; next_read = []; steps = 0; sent = 0; delivered = 0; signalled = 0; accepted = 0 }
+  aside_left v = record v { parts = []; next_fill = []; next_read = []; steps = []; sent = 0; delivered = 0; signalled = 0; accepted = 0 }
 
   abbrev pub aside_right : View S V → View S V
   aside_right v = record v { fills = []; reads = [] }
@@ -39,9 +39,7 @@ module _ {S V : Type 0} where
     reads = v.reads ++ w.reads;
     next_fill = v.next_fill ++ w.next_fill;
     next_read = v.next_read ++ w.next_read;
-    word = v.word;
-    number = v.number;
-    steps = v.steps + w.steps;
+    steps = v.steps ++ w.steps;
     seen = v.seen || w.seen;
     sent = v.sent + w.sent;
     delivered = v.delivered + w.delivered;
@@ -50,11 +48,11 @@ module _ {S V : Type 0} where
   }
 
   abbrev pub spent : View S V
-  spent = record { parts = []; fills = []; reads = []; next_fill = []; next_read = []; word = 0; number = 0; steps = 0; seen = false; sent = 0; delivered = 0; signalled = 0; accepted = 0 }
+  spent = record { parts = []; fills = []; reads = []; next_fill = []; next_read = []; steps = []; seen = false; sent = 0; delivered = 0; signalled = 0; accepted = 0 }
 
   -- parts of n shards as they are opened
   abbrev pub knows : ℕ → List (PartData S V) → View S V
-  knows n ps = record { parts = ps; fills = []; reads = []; next_fill = replicate n 0; next_read = replicate n 0; word = 0; number = 0; steps = 0; seen = false; sent = total (λ p. p.sent) ps; delivered = 0; signalled = 0; accepted = 0 }
+  knows n ps = record { parts = ps; fills = []; reads = []; next_fill = replicate n 0; next_read = replicate n 0; steps = []; seen = false; sent = total (λ p. p.sent) ps; delivered = 0; signalled = 0; accepted = 0 }
 
   -- the seat of one part, as it is opened
   abbrev pub lone : {X : Type 0} → ℕ → PartData S V → Me X (View S V)

@@ -1,6 +1,6 @@
 //! A floor is closed with all its seats.
 ghost use Rattle.std.specs.Prelude.{◌≡◌, ℕ, ◌+◌, ◌<◌, ◌≤◌, ◌↔◌, List, [], ◌∷◌, length, IsTrue, IfOk, IfErr};
-ghost use Rattle.std.specs.Mem.Slots.{IsFull};
+ghost use Rattle.std.specs.Mem.Slots.{IsFull, slots_items};
 ghost use Rattle.shard_part.specs.PartState.{PartData};
 ghost use Rattle.shard_part.specs.Weights.{total, is, All};
 ghost use Rattle.post_floor.specs.Seats.{spent};
@@ -12,10 +12,38 @@ use crate::seat::Seat;
 use path_algebra::PathAlgebra;
 use shard_part::{Batch, Shard};
 use std::alloc::Global;
+use std::marker::Model;
+use std::snapshot::Snapshot;
+
+/// The table of a floor that is closed.
+type End<V> = atomic_table::Closed<Option<Batch<V>>, Global>;
 
 /// A floor that was closed. Nothing is left of it but what `close` promises.
-#[derive(Clone, Copy, Debug, PartialEq, Eq)]
-pub struct Closed;
+#[derive(Drop)]
+pub struct Closed<A: PathAlgebra> {
+    /// The words and the batches as they were at the end, for contracts.
+    end: Snapshot<End<A::Value>>,
+}
+
+impl<A: PathAlgebra> Model for Closed<A> {
+    ghost use Rattle.std.specs.Mem.Slots.{slots_items};
+    ghost use Rattle.post_floor.specs.Closing.{ClosedData};
+
+    ghost Value = { ClosedData A.Value };
+
+    ghost view = { λ c. record { words = slots_items c.end.value.words; slots = slots_items c.end.value.slots } };
+}
+
+impl<A: PathAlgebra> Closed<A> {
+    /// What a closed table holds.
+    fn of(table: &End<A::Value>) -> Closed<A>
+        ensures { result ≡ record { words = slots_items table.now.words; slots = slots_items table.now.slots } }
+    {
+        Closed {
+            end: Snapshot::of(table),
+        }
+    }
+}
 
 /// Whether a shard's seat is among them.
 fn is_seated<A: PathAlgebra>(seats: &[Seat<A>], shard: Shard) -> bool
@@ -78,7 +106,7 @@ fn join_all<A: PathAlgebra>(
 }
 
 /// Takes the batches out of a table that is closed, and frees it.
-fn free<V: Drop>(mut closed: atomic_table::Closed<Option<Batch<V>>, Global>)
+fn free<V: Drop>(mut closed: End<V>)
     requires { IsFull closed.slots }
 {
     for index in 0..closed.slot_count() {
@@ -90,10 +118,10 @@ fn free<V: Drop>(mut closed: atomic_table::Closed<Option<Batch<V>>, Global>)
 impl<A: PathAlgebra> Floor<A> {
     /// Closes the floor with the seats of all its shards, whatever claims they have open. Where a shard's seat is missing, floor and seats come back as they were.
     ///
-    /// What the seats know together and what the mailboxes hold shows one state, to which some events lead from the opening, and the seats' counts are what these events did.
-    pub fn close(self, mut seats: Vec<Seat<A>>) -> Result<Closed, (Floor<A>, Vec<Seat<A>>)>
+    /// What the seats know together and what the mailboxes held at the end shows one state, to which some events lead from the opening. The seats' counts are what these events did, and the state has ended if the done word is 1 or a seat has seen that.
+    pub fn close(self, mut seats: Vec<Seat<A>>) -> Result<Closed<A>, (Floor<A>, Vec<Seat<A>>)>
         requires seats { All (λ d. d.floor ≡ self.id) seats.items }
-        ensures closed { IfOk result (λ _. AllSeated self.setup.plan.shards seats.items × IsClosed A.meaning self.setup seats.items) }
+        ensures closed { IfOk result (λ r. AllSeated self.setup.plan.shards seats.items × IsClosed A.meaning self.setup seats.items r) }
         ensures refused { IfErr result (λ r. (AllSeated self.setup.plan.shards seats.items → ⊥) × (r.0 ≡ self) × (r.1 ≡ seats)) }
     {
         let Floor { table, shards } = self;
@@ -104,7 +132,9 @@ impl<A: PathAlgebra> Floor<A> {
             unreachable!()
         };
         let pass = join_all(&table.shared, pass_of(last), seats);
-        free(table.close_with(pass));
-        Ok(Closed)
+        let end = table.close_with(pass);
+        let closed = Closed::of(&end);
+        free(end);
+        Ok(closed)
     }
 }

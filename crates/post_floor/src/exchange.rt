@@ -59,7 +59,7 @@ pub(crate) fn fetch<A: PathAlgebra>(
     requires to { dest table.now.key.plan.shards word ≡ part.old.shard }
     requires from { origin table.now.key.plan.shards word ≢ part.old.shard }
     ensures pass { (pass.new.table_id ≡ pass.old.table_id) × (pass.new.id ≡ pass.old.id) }
-    ensures told { FetchTold result part.old part.new word pass.old.me pass.new.me }
+    ensures told { FetchTold A.meaning result part.old part.new word pass.old.me pass.new.me }
 {
     if take_word::<A, Brand>(table, pass, part, word) != 2 {
         return false;

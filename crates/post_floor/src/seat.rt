@@ -89,7 +89,7 @@ impl<A: PathAlgebra> Floor<A> {
         requires shard { (from ≢ seat.old.shard) × (from < self.now.setup.plan.shards) }
         ensures seat { IsSameSeat seat.old seat.new }
         ensures at { IsAt A.meaning self.now seat.new part.new }
-        ensures told { ReadTold result part.old part.new (read_box self.now seat.old from) seat.old.knows seat.new.knows }
+        ensures told { ReadTold A.meaning result part.old part.new (read_box self.now seat.old from) seat.old.knows seat.new.knows }
     {
         let shards = self.shards;
         let slot = seat.next_read[from.0 as usize];

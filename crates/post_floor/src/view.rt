@@ -2,6 +2,14 @@ use path_algebra::PathAlgebra;
 use shard_part::Part;
 use std::collections::LinkedList;
 
+/// A step on a word, for contracts alone.
+pub struct WordStep {
+    /// The word.
+    pub word: u64,
+    /// The number that the step found in the word, or stored there.
+    pub number: u64,
+}
+
 /// What a seat knows, for contracts alone: no value of it is made, so its numbers have no range.
 pub struct View<A: PathAlgebra> {
     /// Its part, as of the seat's last step.
@@ -14,12 +22,8 @@ pub struct View<A: PathAlgebra> {
     pub next_fill: LinkedList<u64>,
     /// For each shard, which of the four slots from it is read next.
     pub next_read: LinkedList<u64>,
-    /// The word of its last step.
-    pub word: u64,
-    /// The number that this step found in the word, or stored there.
-    pub number: u64,
-    /// How many steps on words it made.
-    pub steps: u64,
+    /// Its steps on words, in order.
+    pub steps: LinkedList<WordStep>,
     /// It has seen the done word at 1.
     pub seen: bool,
     /// How many messages its part sent, exactly.

@@ -1,12 +1,15 @@
 -- Batches that came in and outboxes that went off, one after the other.
 use Rattle.std.proofs.Common.{◌≡◌, ◌≢◌, ℕ, ◌+◌, Bool, true, false, List, [], ◌∷◌, ◌++◌, get_or, refl, sym, ap, ◌∙◌, subst, arith, length-append}
+use Rattle.std.proofs.lemmas.List.{append-nil}
 use Rattle.std.specs.Int.{from_bool}
+use Rattle.path_algebra.specs.Algebra.{Algebra}
 use Rattle.scholten_core.specs.declared.item.Item.{Item}
 use Rattle.shard_part.specs.PartState.{PartData}
-use Rattle.post_floor.specs.Plays.{sent_off}
+use Rattle.post_floor.specs.Plays.{Known, sent_off}
 use Rattle.shard_part.specs.Arriving.{joined}
 use Rattle.station.specs.Turn.{received, SentOff}
-use Rattle.station.specs.Steps.{CameIn, AllCameIn, WentOff, AllWentOff}
+use Rattle.station.specs.Tries.{if_found}
+use Rattle.station.specs.Steps.{CameIn, AllCameIn, WentOff}
 
 module _ {S V : Type 0} where
   received_last : (p : PartData S V) (bs : List (List (Item V))) (b : List (Item V)) → received p (bs ++ b ∷ []) ≡ joined (received p bs) b
@@ -17,12 +20,20 @@ module _ {S V : Type 0} where
   sent_last [] to p q r s n o e = (subst (λ (z : PartData S V). to ≢ z.shard) (sym s) n, subst (λ (z : PartData S V). get_or z.outs to [] ≢ []) (sym s) o, ap (sent_off to) s ∙ sym e)
   sent_last (j ∷ js) to p q r s n o e = (s.0, s.1, sent_last js to (sent_off j p) q r s.2 n o e)
 
-  -- one more may have come in
-  pub came_in : (b : Bool) (n : ℕ) (p q r : PartData S V) → AllCameIn n p q → CameIn b q r → (AllCameIn (n + from_bool b) p r) × (r.shard ≡ q.shard) × (r.setup ≡ q.setup)
-  came_in true n p q r (bs, l, e) (xs, k) = ((bs ++ xs ∷ [], length-append bs (xs ∷ []) ∙ ap (λ z. z + 1) l, k ∙ ap (λ z. joined z xs) e ∙ sym (received_last p bs xs)), ap (λ (z : PartData S V). z.shard) k, ap (λ (z : PartData S V). z.setup) k)
-  came_in false n p q r (bs, l, e) k = ((bs, l ∙ omega arith, k ∙ e), ap (λ (z : PartData S V). z.shard) k, ap (λ (z : PartData S V). z.setup) k)
-
   -- one more may have gone off
-  pub went_off : (b : Bool) (n to : ℕ) (p q r : PartData S V) → AllWentOff n p q → WentOff b to q r → (AllWentOff (n + from_bool b) p r) × (r.shard ≡ q.shard) × (r.setup ≡ q.setup)
-  went_off true n to p q r (js, l, s) (ne, o, k) = ((js ++ to ∷ [], length-append js (to ∷ []) ∙ ap (λ z. z + 1) l, sent_last js to p q r s ne o k), ap (λ (z : PartData S V). z.shard) k, ap (λ (z : PartData S V). z.setup) k)
-  went_off false n to p q r (js, l, s) k = ((js, l ∙ omega arith, subst (λ z. SentOff js p z) (sym k) s), ap (λ (z : PartData S V). z.shard) k, ap (λ (z : PartData S V). z.setup) k)
+  pub went_off : (b : Bool) (js : List ℕ) (to : ℕ) (p q r : PartData S V) → SentOff js p q → WentOff b to q r → SentOff (js ++ if_found b to) p r
+  went_off true js to p q r s (ne, o, k) = sent_last js to p q r s ne o k
+  went_off false js to p q r s k = subst (λ is. SentOff is p r) (sym (append-nil js)) (subst (λ z. SentOff js p z) (sym k) s)
+
+  -- the part stays that of its question and shard
+  pub off_like : (b : Bool) (to : ℕ) (q r : PartData S V) → WentOff b to q r → (r.shard ≡ q.shard) × (r.setup ≡ q.setup)
+  off_like true to q r (ne, o, k) = (ap (λ (z : PartData S V). z.shard) k, ap (λ (z : PartData S V). z.setup) k)
+  off_like false to q r k = (ap (λ (z : PartData S V). z.shard) k, ap (λ (z : PartData S V). z.setup) k)
+
+  module _ (meaning : S → Algebra V) where
+    -- one more may have come in
+    pub came_in : (b : Bool) (n : ℕ) (p q r : PartData S V) → AllCameIn meaning n p q → CameIn meaning b q r → (AllCameIn meaning (n + from_bool b) p r) × (r.shard ≡ q.shard) × (r.setup ≡ q.setup)
+    came_in true n p q r (bs, l, e, K) ((xs, k), known) =
+        ((bs ++ xs ∷ [], length-append bs (xs ∷ []) ∙ ap (λ z. z + 1) l, k ∙ ap (λ z. joined z xs) e ∙ sym (received_last p bs xs), known), ap (λ (z : PartData S V). z.shard) k, ap (λ (z : PartData S V). z.setup) k)
+    came_in false n p q r (bs, l, e, K) k =
+        ((bs, l ∙ omega arith, k ∙ e, subst (Known meaning) (sym k) K), ap (λ (z : PartData S V). z.shard) k, ap (λ (z : PartData S V). z.setup) k)

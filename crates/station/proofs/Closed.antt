@@ -1,5 +1,6 @@
 -- What the seats of an ended question show when its floor is closed.
 use Rattle.std.proofs.Common.{◌≡◌, ℕ, ◌+◌, ◌<◌, true, Option, List, [], ◌∷◌, ap, ◌∙◌, arith}
+use mathlib.Core.Option as opt
 use Rattle.path_algebra.specs.Algebra.{Algebra}
 use Rattle.path_algebra.specs.Walks.{AreBest}
 use Rattle.scholten_core.specs.Accounts.{totals_of}
@@ -12,8 +13,9 @@ use Rattle.shard_part.specs.Weights.{All, total}
 use Rattle.shard_part.specs.Tallies.{tally_of}
 use Rattle.shard_part.proofs.Showing.{AllLawful}
 use Rattle.post_floor.specs.declared.view.View.{View}
-use Rattle.post_floor.specs.Closing.{AllSeated, AreJoined, IsClosed}
+use Rattle.post_floor.specs.Closing.{AllSeated, AreJoined}
 use Rattle.post_floor.specs.Data.{SeatData}
+use Rattle.post_floor.specs.Floor.{Slot, Settled}
 use Rattle.post_floor.specs.Seats.{spent}
 use Rattle.station.specs.Gather.{counts_of, IsGathered, IsThere}
 use Rattle.station.specs.Handing.{AreHanded}
@@ -32,12 +34,12 @@ module _ {S V : Type 0} where
 
 module _ {S V : Type 0} (meaning : S → Algebra V) (L : AllLawful meaning) where
   -- THE ANSWER
-  pub gathered : (t : Setup S) (s : ℕ) (id : TableId) (all : List (StationData S V)) (seats : List (SeatData S V)) (tally : Tally) (labels : List (Option V)) → IsPlanned t s → AreBest (meaning t.question.algebra) t.question.roads (t.question.source ∷ []) labels
-      → AllSeated t.plan.shards seats → AreHanded id all [] seats tally → IsClosed meaning t seats → IsGathered meaning t (record { labels = labels; tally = tally })
-  gathered t s id all seats tally labels P best seated h (w, J, words, homes, C) =
+  pub gathered : (t : Setup S) (s : ℕ) (id : TableId) (all : List (StationData S V)) (seats : List (SeatData S V)) (tally : Tally) (labels : List (Option V)) (w : View S V) (words : List ℕ) (homes : List (opt.Option (Slot V))) → IsPlanned t s → AreBest (meaning t.question.algebra) t.question.roads (t.question.source ∷ []) labels
+      → AllSeated t.plan.shards seats → AreHanded id all [] seats tally → AreJoined w spent seats → Settled meaning t w words homes → IsGathered meaning t (record { labels = labels; tally = tally })
+  gathered t s id all seats tally labels w words homes P best seated h J C =
       let A = meaning t.question.algebra in let T = totals_of A (network_in t) C.events in
       let few : 0 < t.plan.shards = let l = P.shard in omega (arith, l) in
-      let over = C.ended (seen_there t.plan.shards w spent seats few seated h.seen J) in
+      let over = C.seen (seen_there t.plan.shards w spent seats few seated h.seen J) in
       let one : (x y z : ℕ) → x ≡ 0 + y → x + 0 ≡ z → y ≡ z = λ x y z e f. omega (arith, e, f) in
       let same : counts_of seats ≡ T = λ i. record {
         sent = one w.sent (total (λ d. d.knows.sent) seats) T.sent J.sent C.counts.sent i;

@@ -1,5 +1,7 @@
 pub mod Batches
 pub mod Counted
+pub mod Trying
+pub mod Through
 pub mod Stepping
 pub mod Over
 pub mod Labels

@@ -47,8 +47,8 @@ module _ {S V : Type 0} (meaning : S → Algebra V) where
   }
 
   -- a batch has been taken
-  pub read_begun : (f : FloorData S) (a b : SeatData S V) (p q : PartData S V) (k : ℕ) → AreReady f a p → IsSameSeat a b → ReadTold true p q k a.knows b.knows → IsAt meaning f b q
-  read_begun f a b p q k r ab (x, w) = record { floor = ab.0 ∙ r.floor; setup = ap (λ (z : PartData S V). z.setup) x.1 ∙ r.setup; moved = stays b.knows q w.shows }
+  pub read_begun : (f : FloorData S) (a b : SeatData S V) (p q : PartData S V) (k : ℕ) → AreReady f a p → IsSameSeat a b → ReadTold meaning true p q k a.knows b.knows → IsAt meaning f b q
+  read_begun f a b p q k r ab (x, w, K) = record { floor = ab.0 ∙ r.floor; setup = ap (λ (z : PartData S V). z.setup) x.1 ∙ r.setup; moved = stays b.knows q w.shows }
 
   -- the part has looked, and seen the end
   pub look_ended : (o : Bool) (p : PartData S V) (k : ℕ) (v w : View S V) → LookTold meaning o p k v w → o ≡ true → Ended meaning p

@@ -1,5 +1,5 @@
 -- What a whole turn does, of what its steps do.
-use Rattle.std.proofs.Common.{◌≡◌, ℕ, ◌+◌, ◌-◌, ◌*◌, ◌≤◌, Bool, true, false, Option, Some, None, IfSome, List, [], ◌∷◌, min, refl, sym, ap, ◌∙◌, subst, ◌⊎◌, inl, inr, arith, eq-eqb}
+use Rattle.std.proofs.Common.{◌≡◌, ◌≢◌, ℕ, ◌+◌, ◌-◌, ◌*◌, ◌<◌, ◌≤◌, Bool, true, false, Option, Some, None, IfSome, List, [], ◌∷◌, length, get_or, min, refl, sym, ap, ◌∙◌, subst, ◌⊎◌, inl, inr, arith, eq-eqb, length-append}
 use Rattle.std.proofs.lemmas.List.{append-nil}
 use Rattle.path_algebra.specs.Algebra.{Algebra}
 use Rattle.path_algebra.proofs.Least.{same_no_worse}
@@ -16,19 +16,54 @@ use Rattle.shard_part.specs.Readings.{IsOwn}
 use Rattle.shard_part.specs.Tallies.{top}
 use Rattle.shard_part.proofs.Showing.{AllLawful}
 use Rattle.post_floor.specs.declared.view.View.{View}
-use Rattle.post_floor.specs.Data.{FloorData, SeatData}
+use Rattle.post_floor.specs.Boxes.{box_count, mailbox}
+use Rattle.post_floor.specs.Data.{FloorData, SeatData, fill_box, read_box}
 use Rattle.post_floor.specs.Floor.{core_of}
 use Rattle.post_floor.specs.Plays.{ShowsPart, Known}
 use Rattle.station.specs.Station.{StationData, BelongsTo, HasEnded, IsStation}
-use Rattle.station.specs.Steps.{AreReady, AllCameIn, AllWentOff}
-use Rattle.station.specs.Turn.{Turned}
+use Rattle.station.specs.declared.turn.Report.{Report}
+use Rattle.station.specs.Steps.{AreReady, AllCameIn, AllTriedFrom, AllTriedTo, Looked}
+use Rattle.post_floor.specs.declared.view.WordStep.{WordStep}
+use Rattle.station.specs.Tries.{at, AreTries, used}
+use Rattle.station.specs.Turn.{Turned, Tried}
+use Rattle.station.proofs.Trying.{few_tries}
 use Rattle.station.proofs.Labels.{IsLike, received_like, sent_like, sent_queue, labels_stay}
 
 counts_none : (n m t : ℕ) → n ≡ min m t → n ≡ min (n + 0) t
 counts_none n m t e = omega (arith, e)
 
-all_steps : (a b c d m n k : ℕ) → b ≤ a + 2 * (m - 1) → c ≤ b + 2 * (n - 1) → d ≤ c + 1 → m ≡ k → n ≡ k → d ≤ a + 4 * (k - 1) + 1
-all_steps a b c d m n k x y z e f = omega (arith, x, y, z, e, f)
+all_steps : (a b c d k : ℕ) → b ≤ a + 2 * (k - 1) → c ≤ b + 2 * (k - 1) → d ≡ c + 1 → d ≤ a + 4 * (k - 1) + 1
+all_steps a b c d k x y z = omega (arith, x, y, z)
+
+module _ {S V : Type 0} where
+  -- all steps of a turn
+  all_tried : (f : FloorData S) (handled taken published : ℕ) (c a b d : SeatData S V) (p q : PartData S V) (o : Bool)
+      → AllTriedFrom f f.setup.plan.shards taken c a → (to : AllTriedTo f f.setup.plan.shards published p q a b) → Looked f o b d
+      → Tried f c p (record { handled = handled; taken = taken; published = published; ended = o }) to.outboxes d
+  all_tried f handled taken published c a b d p q o from to look =
+      let n = f.setup.plan.shards in
+      record {
+        full = from.full;
+        taken = from.taken;
+        read = a.knows.steps;
+        reads = from.tries;
+        filled = b.knows.steps;
+        fills = subst (λ (x : ℕ × List ℕ). AreTries 0 2 (λ j. (j ≢ x.0) × (get_or p.outs j [] ≢ [])) (λ j. mailbox n x.0 j (get_or x.1 j 0)) n to.outboxes a.knows.steps b.knows.steps) (λ i. (from.shard i, from.next_fill i)) to.tries;
+        number = look.number;
+        looked = look.step;
+        end_is = look.end_is;
+        next_read = look.next_read ∙ to.next_read ∙ from.next_read;
+        next_fill = look.next_fill ∙ to.next_fill ∙ ap (used to.outboxes) from.next_fill;
+      }
+
+  -- at most four for each other shard, and one
+  few_steps : (f : FloorData S) (c : SeatData S V) (p : PartData S V) (r : Report) (outboxes : List ℕ) (d : SeatData S V) → c.shard < f.setup.plan.shards → Tried f c p r outboxes d
+      → length d.knows.steps ≤ length c.knows.steps + 4 * (f.setup.plan.shards - 1) + 1
+  few_steps f c p r outboxes d l t =
+      let n = f.setup.plan.shards in
+      let reads = few_tries 2 0 (λ j. j ≢ c.shard) (read_box f c) c.shard (λ ne. ne refl) n l t.full c.knows.steps t.read t.reads in
+      let fills = few_tries 0 2 (λ j. (j ≢ c.shard) × (get_or p.outs j [] ≢ [])) (fill_box f c) c.shard (λ ne. ne.0 refl) n l outboxes t.read t.filled t.fills in
+      all_steps (length c.knows.steps) (length t.read) (length t.filled) (length d.knows.steps) n reads fills (ap (λ (xs : List WordStep). length xs) t.looked ∙ length-append t.filled (at (box_count n) t.number ∷ []))
 
 module _ {S V : Type 0} (meaning : S → Algebra V) where
   -- no item was handled
@@ -58,7 +93,9 @@ module _ {S V : Type 0} (meaning : S → Algebra V) where
       received_all = refl;
       emptied = s.part;
       handled = ([], refl, refl);
-      events = none_on s.part s.seat.knows i.shows;
+      known = i.known;
+      events = none_on s.part s.seat.knows i.shows i.known.0 i.known.1;
+      in_each = none_on s.part s.seat.knows i.shows;
       outboxes = [];
       published = refl;
       sent = refl;
@@ -66,6 +103,7 @@ module _ {S V : Type 0} (meaning : S → Algebra V) where
       all = inr (i.over e).part.queue;
     };
     labels = λ v own x q. (x, q, same_no_worse (meaning s.part.setup.question.algebra).no_worse (L s.part.setup.question.algebra).ordered x);
+    tried = λ q. absurd (let z = sym e ∙ q in cc);
     steps = omega arith;
     report = sym e;
     stays = λ _. (refl, refl);
@@ -73,15 +111,15 @@ module _ {S V : Type 0} (meaning : S → Algebra V) where
 
   -- a turn before the end
   pub turned : AllLawful meaning → (f : FloorData S) (budget handled taken published : ℕ) (s : StationData S V) (a b d : SeatData S V) (filled emptied q : PartData S V) (o : Bool) → s.ended ≡ false
-      → AllCameIn taken s.part filled → emptied.setup ≡ filled.setup → emptied.shard ≡ filled.shard → HandledMany meaning filled handled emptied
+      → AllCameIn meaning taken s.part filled → emptied.setup ≡ filled.setup → emptied.shard ≡ filled.shard → HandledMany meaning filled handled emptied
       → ((before : List Event) → Holds meaning (core_of meaning filled.setup before) filled → IsRunOn meaning before filled handled emptied)
-      → AllWentOff published emptied q → handled ≤ budget → ((handled ≡ budget) ⊎ (emptied.queue ≡ [])) → AreReady f d q
-      → a.knows.steps ≤ s.seat.knows.steps + 2 * (s.part.setup.plan.shards - 1) → b.knows.steps ≤ a.knows.steps + 2 * (emptied.setup.plan.shards - 1) → d.knows.steps ≤ b.knows.steps + 1
+      → handled ≤ budget → ((handled ≡ budget) ⊎ (emptied.queue ≡ [])) → AreReady f d q → s.seat.shard < f.setup.plan.shards
+      → AllTriedFrom f f.setup.plan.shards taken s.seat a → AllTriedTo f f.setup.plan.shards published emptied q a b → Looked f o b d
       → Turned meaning f budget s (record { handled = handled; taken = taken; published = published; ended = o }) (record { part = q; seat = d; ended = o })
-  turned L f budget handled taken published s a b d filled emptied q o going (bs, bl, be) es ss T E (js, jl, je) within all ready x y z =
+  turned L f budget handled taken published s a b d filled emptied q o going (bs, bl, be, K) es ss T E within all ready own from to look =
       let before : IsLike s.part filled = subst (λ p. IsLike s.part p) (sym be) (received_like bs s.part) in
-      let after : IsLike emptied q = sent_like js emptied q je in
-      let whole : q.setup ≡ s.part.setup = after.setup ∙ es ∙ before.setup in
+      let after : IsLike emptied q = sent_like to.outboxes emptied q to.sent in
+      let tried = all_tried f handled taken published s.seat a b d emptied q o from to look in
       record {
         own = record { floor = ready.floor; setup = ready.setup };
         shard = after.shard ∙ ss ∙ before.shard;
@@ -92,16 +130,18 @@ module _ {S V : Type 0} (meaning : S → Algebra V) where
           received_all = be;
           emptied = emptied;
           handled = T;
-          events = E;
-          outboxes = js;
-          published = jl;
-          sent = je;
+          known = K;
+          events = E K.0 K.1;
+          in_each = E;
+          outboxes = to.outboxes;
+          published = to.published;
+          sent = to.sent;
           within = within;
-          all = elim all [ inl h ↦ inl h | inr h ↦ inr (sent_queue js emptied q je ∙ h) ];
+          all = elim all [ inl h ↦ inl h | inr h ↦ inr (sent_queue to.outboxes emptied q to.sent ∙ h) ];
         };
         labels = λ v own. labels_stay meaning L s.part filled emptied q handled v before T after own.1;
-        steps = all_steps s.seat.knows.steps a.knows.steps b.knows.steps d.knows.steps s.part.setup.plan.shards emptied.setup.plan.shards f.setup.plan.shards x y z
-            (ap (λ (t : Setup S). t.plan.shards) (sym whole ∙ ready.setup)) (ap (λ (t : Setup S). t.plan.shards) (sym after.setup ∙ ready.setup));
+        tried = λ _. tried;
+        steps = few_steps f s.seat emptied _ to.outboxes d own tried;
         report = refl;
         stays = λ e. absurd cc;
       }

@@ -1,5 +1,6 @@
 pub mod Station
 pub mod Turn
+pub mod Tries
 pub mod Steps
 pub mod Opened
 pub mod Gather

@@ -1,12 +1,14 @@
 -- A station within a turn.
-use Rattle.std.specs.Prelude.{◌≡◌, ◌≢◌, ℕ, Bool, true, false, List, [], length, get_or}
+use Rattle.std.specs.Prelude.{◌≡◌, ◌≢◌, ℕ, Bool, true, false, eqb, List, [], ◌∷◌, ◌++◌, length, get_or}
 use Rattle.path_algebra.specs.Algebra.{Algebra}
 use Rattle.scholten_core.specs.declared.item.Item.{Item}
 use Rattle.shard_part.specs.Arriving.{joined}
 use Rattle.shard_part.specs.PartState.{PartData}
-use Rattle.post_floor.specs.Data.{FloorData, SeatData, IsAt}
-use Rattle.post_floor.specs.Plays.{ShowsPart, sent_off}
+use Rattle.post_floor.specs.Boxes.{box_count}
+use Rattle.post_floor.specs.Data.{FloorData, SeatData, IsAt, fill_box, read_box}
+use Rattle.post_floor.specs.Plays.{ShowsPart, Known, sent_off}
 use Rattle.station.specs.Station.{IsFree}
+use Rattle.station.specs.Tries.{at, if_found, IsTry, AreTries, used}
 use Rattle.station.specs.Turn.{received, SentOff}
 
 module _ {S V : Type 0} where
@@ -24,20 +26,58 @@ module _ {S V : Type 0} where
     pub shard : d.shard ≡ p.shard
     pub free : IsFree d.knows
 
-  -- a batch came in, or nothing did
-  abbrev pub CameIn : Bool → PartData S V → PartData S V → Type 0
-  CameIn true p q = (xs : List (Item V)) × (q ≡ joined p xs)
-  CameIn false p q = q ≡ p
-
-  -- so many batches came in
-  abbrev pub AllCameIn : ℕ → PartData S V → PartData S V → Type 0
-  AllCameIn n p q = (batches : List (List (Item V))) × (length batches ≡ n) × (q ≡ received p batches)
-
   -- the outbox to another shard was sent off, and was not empty, or nothing was
   abbrev pub WentOff : Bool → ℕ → PartData S V → PartData S V → Type 0
   WentOff true to p q = (to ≢ p.shard) × (get_or p.outs to [] ≢ []) × (q ≡ sent_off to p)
   WentOff false to p q = q ≡ p
 
-  -- so many outboxes were sent off
-  abbrev pub AllWentOff : ℕ → PartData S V → PartData S V → Type 0
-  AllWentOff n p q = (outboxes : List ℕ) × (length outboxes ≡ n) × SentOff outboxes p q
+  -- the next mailbox from a shard was tried, if it is another one
+  pub record TriedFrom (f : FloorData S) (from : ℕ) (found : Bool) (d e : SeatData S V) : Type 0 where
+    pub shard : e.shard ≡ d.shard
+    pub try : IsTry 2 0 (from ≢ d.shard) (read_box f d from) found d.knows.steps e.knows.steps
+    pub next_read : e.knows.next_read ≡ used (if_found found from) d.knows.next_read
+    pub next_fill : e.knows.next_fill ≡ d.knows.next_fill
+
+  -- the next mailbox from each other one of the first n shards was tried, and so many were found full
+  pub record AllTriedFrom (f : FloorData S) (n count : ℕ) (d e : SeatData S V) : Type 0 where
+    pub shard : e.shard ≡ d.shard
+    pub full : List ℕ
+    pub taken : length full ≡ count
+    pub tries : AreTries 2 0 (λ j. j ≢ d.shard) (read_box f d) n full d.knows.steps e.knows.steps
+    pub next_read : e.knows.next_read ≡ used full d.knows.next_read
+    pub next_fill : e.knows.next_fill ≡ d.knows.next_fill
+
+  -- the next mailbox to a shard was tried, if it is another one and something waits for it in the part
+  pub record TriedTo (f : FloorData S) (to : ℕ) (found : Bool) (p : PartData S V) (d e : SeatData S V) : Type 0 where
+    pub shard : e.shard ≡ d.shard
+    pub try : IsTry 0 2 ((to ≢ d.shard) × (get_or p.outs to [] ≢ [])) (fill_box f d to) found d.knows.steps e.knows.steps
+    pub next_fill : e.knows.next_fill ≡ used (if_found found to) d.knows.next_fill
+    pub next_read : e.knows.next_read ≡ d.knows.next_read
+
+  -- the next mailbox to each other one of the first n shards for which something waits was tried, and so many outboxes were sent off
+  pub record AllTriedTo (f : FloorData S) (n count : ℕ) (p q : PartData S V) (d e : SeatData S V) : Type 0 where
+    pub shard : e.shard ≡ d.shard
+    pub outboxes : List ℕ
+    pub published : length outboxes ≡ count
+    pub sent : SentOff outboxes p q
+    pub tries : AreTries 0 2 (λ j. (j ≢ d.shard) × (get_or p.outs j [] ≢ [])) (fill_box f d) n outboxes d.knows.steps e.knows.steps
+    pub next_fill : e.knows.next_fill ≡ used outboxes d.knows.next_fill
+    pub next_read : e.knows.next_read ≡ d.knows.next_read
+
+  -- one step was made at the done word, and whether it showed 1
+  pub record Looked (f : FloorData S) (ended : Bool) (d e : SeatData S V) : Type 0 where
+    pub number : ℕ
+    pub step : e.knows.steps ≡ d.knows.steps ++ at (box_count f.setup.plan.shards) number ∷ []
+    pub end_is : ended ≡ eqb number 1
+    pub next_read : e.knows.next_read ≡ d.knows.next_read
+    pub next_fill : e.knows.next_fill ≡ d.knows.next_fill
+
+module _ {S V : Type 0} (meaning : S → Algebra V) where
+  -- a batch came in, with which the part holds its share of a state, or nothing did
+  abbrev pub CameIn : Bool → PartData S V → PartData S V → Type 0
+  CameIn true p q = ((xs : List (Item V)) × (q ≡ joined p xs)) × Known meaning q
+  CameIn false p q = q ≡ p
+
+  -- so many batches came in, and with them the part holds its share of a state
+  abbrev pub AllCameIn : ℕ → PartData S V → PartData S V → Type 0
+  AllCameIn n p q = (batches : List (List (Item V))) × (length batches ≡ n) × (q ≡ received p batches) × Known meaning q

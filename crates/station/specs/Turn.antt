@@ -1,5 +1,5 @@
 -- What one turn does to a station.
-use Rattle.std.specs.Prelude.{◌≡◌, ◌≢◌, ◌⊎◌, ℕ, ◌+◌, ◌-◌, ◌*◌, ◌≤◌, true, Option, Some, IsTrue, List, [], ◌∷◌, length, get_or}
+use Rattle.std.specs.Prelude.{◌≡◌, ◌≢◌, ◌⊎◌, ℕ, ◌+◌, ◌-◌, ◌*◌, ◌≤◌, true, false, eqb, Option, Some, IsTrue, List, [], ◌∷◌, ◌++◌, length, get_or}
 use Rattle.path_algebra.specs.Algebra.{Algebra}
 use Rattle.scholten_core.specs.declared.event.Event.{Event}
 use Rattle.scholten_core.specs.declared.item.Item.{Item}
@@ -8,11 +8,14 @@ use Rattle.shard_part.specs.PartState.{PartData, state_in}
 use Rattle.shard_part.specs.Shows.{Holds}
 use Rattle.shard_part.specs.Part.{HandledMany, IsRunOn}
 use Rattle.shard_part.specs.Readings.{IsOwn}
-use Rattle.post_floor.specs.Data.{FloorData}
+use Rattle.post_floor.specs.Boxes.{box_count}
+use Rattle.post_floor.specs.Data.{FloorData, SeatData, fill_box, read_box}
 use Rattle.post_floor.specs.Floor.{core_of}
-use Rattle.post_floor.specs.Plays.{sent_off}
+use Rattle.post_floor.specs.Plays.{Known, sent_off}
 use Rattle.station.specs.declared.turn.Report.{Report}
 use Rattle.station.specs.Station.{StationData, BelongsTo, HasEnded}
+use Rattle.post_floor.specs.declared.view.WordStep.{WordStep}
+use Rattle.station.specs.Tries.{at, AreTries, used}
 
 -- a label that stays or improves: a value stays one, and the later one is no worse
 abbrev pub StaysOrImproves : {V : Type 0} → Algebra V → Option V → Option V → Type 0
@@ -29,9 +32,25 @@ module _ {S V : Type 0} where
   SentOff [] p q = p ≡ q
   SentOff (to ∷ shards) p q = (to ≢ p.shard) × (get_or p.outs to [] ≢ []) × SentOff shards (sent_off to p) q
 
+  -- The steps of one turn on words, where p is the part when its items were handled. The next mailbox from each other shard was tried, in order, and where it was
+  -- found full (2), it was emptied and 0 stored; then the next one to each other shard for which something waited in p, and where it was found free (0), the
+  -- outbox went into it and 2 was stored; then one step was made at the done word. There were no others.
+  pub record Tried (f : FloorData S) (before : SeatData S V) (p : PartData S V) (r : Report) (outboxes : List ℕ) (after : SeatData S V) : Type 0 where
+    pub full : List ℕ  -- the shards whose mailbox was found full
+    pub taken : length full ≡ r.taken
+    pub read : List WordStep  -- the steps made when all had been read
+    pub reads : AreTries 2 0 (λ j. j ≢ before.shard) (read_box f before) f.setup.plan.shards full before.knows.steps read
+    pub filled : List WordStep  -- and when all had been filled
+    pub fills : AreTries 0 2 (λ j. (j ≢ before.shard) × (get_or p.outs j [] ≢ [])) (fill_box f before) f.setup.plan.shards outboxes read filled
+    pub number : ℕ  -- what the done word showed last
+    pub looked : after.knows.steps ≡ filled ++ at (box_count f.setup.plan.shards) number ∷ []
+    pub end_is : r.ended ≡ eqb number 1
+    pub next_read : after.knows.next_read ≡ used full before.knows.next_read
+    pub next_fill : after.knows.next_fill ≡ used outboxes before.knows.next_fill
+
 module _ {S V : Type 0} (meaning : S → Algebra V) where
-  -- The part took batches, handled items of its queue one after the other, and sent outboxes off. The items were handled by core events, as many:
-  -- whatever state the part held its share of when it had the batches, the events are enabled there, each in its turn.
+  -- The part took batches, handled items of its queue one after the other, and sent outboxes off. With the batches it held its share of a state that some events
+  -- lead to. The items were handled by core events, as many: there, and in every state of which the part held its share, they are enabled, each in its turn.
   pub record Worked (budget : ℕ) (p : PartData S V) (r : Report) (q : PartData S V) : Type 0 where
     pub batches : List (List (Item V))
     pub taken : length batches ≡ r.taken
@@ -39,7 +58,9 @@ module _ {S V : Type 0} (meaning : S → Algebra V) where
     pub received_all : filled ≡ received p batches
     pub emptied : PartData S V  -- and when the items were handled
     pub handled : HandledMany meaning filled r.handled emptied
-    pub events : (before : List Event) → Holds meaning (core_of meaning filled.setup before) filled → IsRunOn meaning before filled r.handled emptied
+    pub known : Known meaning filled
+    pub events : IsRunOn meaning known.0 filled r.handled emptied
+    pub in_each : (before : List Event) → Holds meaning (core_of meaning filled.setup before) filled → IsRunOn meaning before filled r.handled emptied
     pub outboxes : List ℕ
     pub published : length outboxes ≡ r.published
     pub sent : SentOff outboxes emptied q
@@ -52,6 +73,7 @@ module _ {S V : Type 0} (meaning : S → Algebra V) where
     pub shard : after.part.shard ≡ before.part.shard
     pub worked : Worked budget before.part r after.part
     pub labels : (v : ℕ) → IsOwn before.part v → StaysOrImproves (meaning before.part.setup.question.algebra) ((state_in before.part).label v) ((state_in after.part).label v)
-    pub steps : after.seat.knows.steps ≤ before.seat.knows.steps + 4 * (f.setup.plan.shards - 1) + 1
+    pub tried : before.ended ≡ false → Tried f before.seat worked.emptied r worked.outboxes after.seat
+    pub steps : length after.seat.knows.steps ≤ length before.seat.knows.steps + 4 * (f.setup.plan.shards - 1) + 1
     pub report : r.ended ≡ after.ended
     pub stays : HasEnded before → (after ≡ before) × (r ≡ record { handled = 0; taken = 0; published = 0; ended = true })

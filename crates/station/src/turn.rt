@@ -1,8 +1,8 @@
 //! The steps of one turn.
-ghost use Rattle.std.specs.Prelude.{◌≡◌, ◌≢◌, true, ◌+◌, ◌-◌, ◌*◌, ◌<◌, ◌≤◌, IsTrue};
+ghost use Rattle.std.specs.Prelude.{◌≡◌, true, ◌<◌, IsTrue};
 ghost use Rattle.post_floor.specs.Plays.{Ended, Known};
 ghost use Rattle.station.specs.Station.{IsOverPart};
-ghost use Rattle.station.specs.Steps.{AreReady, AreBehind, CameIn, AllCameIn, WentOff, AllWentOff};
+ghost use Rattle.station.specs.Steps.{AreReady, AreBehind, CameIn, AllCameIn, TriedFrom, AllTriedFrom, WentOff, TriedTo, AllTriedTo, Looked};
 
 use path_algebra::PathAlgebra;
 use post_floor::{Floor, Seat};
@@ -31,9 +31,8 @@ fn read_from<A: PathAlgebra>(
     requires ready { AreReady floor.now seat.old part.old }
     requires from { from < part.old.setup.plan.shards }
     ensures ready { AreReady floor.now seat.new part.new }
-    ensures part { CameIn result part.old part.new }
-    ensures steps { seat.new.knows.steps ≤ seat.old.knows.steps + 2 }
-    ensures own { from ≡ part.old.shard → seat.new.knows.steps ≡ seat.old.knows.steps }
+    ensures part { CameIn A.meaning result part.old part.new }
+    ensures tried { TriedFrom floor.now from result seat.old seat.new }
 {
     if from == part.shard() {
         return false;
@@ -54,9 +53,11 @@ pub(crate) fn read_all<A: PathAlgebra>(
 ) -> u32
     requires ready { AreReady floor.now seat.old part.old }
     requires plan { plan.now ≡ part.old.setup.plan }
+    requires known { Known A.meaning part.old }
     ensures ready { AreReady floor.now seat.new part.new }
-    ensures part { AllCameIn result part.old part.new }
-    ensures steps { seat.new.knows.steps ≤ seat.old.knows.steps + 2 * (part.old.setup.plan.shards - 1) }
+    ensures part { AllCameIn A.meaning result part.old part.new }
+    ensures tried { AllTriedFrom floor.now floor.now.setup.plan.shards result seat.old seat.new }
+    ensures own { seat.old.shard < floor.now.setup.plan.shards }
 {
     let _own = part.shard();
     let mut taken = 0;
@@ -77,8 +78,7 @@ fn fill_to<A: PathAlgebra>(
     requires to { to < part.old.setup.plan.shards }
     ensures behind { AreBehind A.meaning floor.now seat.new part.new }
     ensures part { WentOff result to part.old part.new }
-    ensures steps { seat.new.knows.steps ≤ seat.old.knows.steps + 2 }
-    ensures own { to ≡ part.old.shard → seat.new.knows.steps ≡ seat.old.knows.steps }
+    ensures tried { TriedTo floor.now to result part.old seat.old seat.new }
 {
     if to == part.shard() || part.outgoing(to) == 0 {
         return false;
@@ -100,8 +100,7 @@ pub(crate) fn fill_all<A: PathAlgebra>(
     requires behind { AreBehind A.meaning floor.now seat.old part.old }
     requires plan { plan.now ≡ part.old.setup.plan }
     ensures behind { AreBehind A.meaning floor.now seat.new part.new }
-    ensures part { AllWentOff result part.old part.new }
-    ensures steps { seat.new.knows.steps ≤ seat.old.knows.steps + 2 * (part.old.setup.plan.shards - 1) }
+    ensures tried { AllTriedTo floor.now floor.now.setup.plan.shards result part.old part.new seat.old seat.new }
 {
     let _own = part.shard();
     let mut published = 0;
@@ -119,7 +118,7 @@ pub(crate) fn look_for_end<A: PathAlgebra>(
 ) -> bool
     requires behind { AreBehind A.meaning floor.now seat.old part.now }
     ensures ready { AreReady floor.now seat.new part.now }
-    ensures steps { seat.new.knows.steps ≤ seat.old.knows.steps + 1 }
+    ensures looked { Looked floor.now result seat.old seat.new }
     ensures known { Known A.meaning part.now }
     ensures seen { IsTrue result → seat.new.knows.seen ≡ true }
     ensures ended { IsTrue result → Ended A.meaning part.now }

@@ -2,6 +2,7 @@ use Rattle.std.proofs.Common.{arith}
 use Rattle.std.proofs.lemmas.Grind.{common_steps}
 use Rattle.post_floor.specs.Data.{read_box}
 use Rattle.station.proofs.Stepping.{is_at, read_begun}
+use Rattle.station.proofs.Through.{own_from, full_from, missed_from}
 use Rattle.station.proofs.turn.read_from.Goals as goal
 
 pub try_read-full-requires-clause-at : goal.try_read-full-requires-clause-at

@@ -1,5 +1,5 @@
-use Rattle.std.proofs.Common.{rules, arith, ◌≡◌, ◌<◌, ℕ, ap, sym, ◌∙◌, subst, IsTrue}
-use Rattle.std.specs.Mem.Slots.{slots_items}
+use Rattle.std.proofs.Common.{map, rules, arith, ◌≡◌, ◌<◌, ℕ, ap, sym, ◌∙◌, subst, IsTrue}
+use mathlib.Core.Option.{some}
 use Rattle.shard_part.specs.Weights.{total, is}
 use Rattle.post_floor.specs.Floor.{Settled}
 use Rattle.post_floor.specs.Closing.{AllSeated}
@@ -16,6 +16,12 @@ returns-clause-closed g c =
     let joined = join_last w c.pass_of.result.me.0 c.pop.new.self.items c.args.seats.items c.in-Some.last c.in-Some.ensures.items c.pass_of.ensures.pass.1 c.pass_of.ensures.part c.join_all-pass.ensures.joined in
     let full : (j : ℕ) → j < c.self.inside.table.shared.key.plan.shards → 0 < total (λ p. is j p.shard) w.parts = λ j lt.
     let s = seated j (subst (λ n. j < n) c.self.invariant.1 lt) in let t = joined.shards j in omega (arith, s, t) in
-    let words = slots_items c.close_with.result.words in
-    let last = settles g.A.PathAlgebra.meaning c.self.inside.table.shared.key c.join_all-pass.result.id w _ _ full c.close_with.ensures.values.2 in
-    ((λ j lt. seated j (subst (λ n. j < n) count lt)), (w, joined, words, last.0, subst (λ u. Settled g.A.PathAlgebra.meaning u w words last.0) question last.1))
+    let last = settles g.A.PathAlgebra.meaning c.self.inside.table.shared.key c.join_all-pass.result.id w _ _ full c.close_with-end.ensures.values.2 in (
+      (λ j lt. seated j (subst (λ n. j < n) count lt)),
+      (
+        w,
+        joined,
+        subst (λ u. Settled g.A.PathAlgebra.meaning u w c.of-closed.result.words (map some c.of-closed.result.slots)) question
+            (subst (λ d. Settled g.A.PathAlgebra.meaning c.self.inside.table.shared.key w d.words (map some d.slots)) (sym c.of-closed.ensures) last),
+      ),
+    )

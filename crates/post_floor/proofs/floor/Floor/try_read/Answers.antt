@@ -62,7 +62,7 @@ returns-then-fetch-clause-told g c =
     let at_is = get_or_read c.seat.inside.next_read.items c.from.inside.0 c.index-slot.result.now (omega (arith, z.read_slots.long, c.requires.shard.1, z.asked, c.from.view_is)) c.index-slot.ensures 0 in
     let slot = at_is ∙ ap (λ j. get_or c.seat.inside.next_read.items j 0) c.from.view_is in
     let box = c.word_of-word.ensures.0 ∙ z.reads c.args.from c.index-slot.result.now slot in
-    let t = c.if-fetch.ensures.told in (t.0.0, renamed (λ k u. at_word k 2 (claim_read k u)) c.word_of-word.result _ _ _ c.fetch.new.part c.fetch.new.pass.me.0 box (sym z.knows) t.0.1)
+    let t = c.if-fetch.ensures.told in (t.0.0, renamed (λ k u. at_word k 2 (claim_read k u)) c.word_of-word.result _ _ _ c.fetch.new.part c.fetch.new.pass.me.0 box (sym z.knows) t.0.1, t.0.2)
 
 pub returns-else-fetch-clause-told : goal.returns-else-fetch-clause-told
 returns-else-fetch-clause-told g c =

@@ -25,4 +25,4 @@ returns-clause-turned g c =
     (record { part = c.fill_all-published.new.part; seat = c.look_for_end-self-inside.new.seat; ended = c.look_for_end-self-inside.result })) c.self.view_is
     (turned g.A.PathAlgebra.meaning laws.lawful c.args.floor.now c.args.budget c.handle-handled.result c.read_all-taken.result c.fill_all-published.result (record { part = i.part; seat = i.seat; ended = i.ended })
     c.read_all-taken.new.seat c.fill_all-published.new.seat c.look_for_end-self-inside.new.seat c.read_all-taken.new.part c.handle-handled.new.self c.fill_all-published.new.part c.look_for_end-self-inside.result c.if-self.false
-    c.read_all-taken.ensures.part h.setup h.shard h.taken h.events c.fill_all-published.ensures.part h.budget h.all e.ready c.read_all-taken.ensures.steps c.fill_all-published.ensures.steps e.steps)
+    c.read_all-taken.ensures.part h.setup h.shard h.taken h.events h.budget h.all e.ready c.read_all-taken.ensures.own c.read_all-taken.ensures.tried c.fill_all-published.ensures.tried e.looked)

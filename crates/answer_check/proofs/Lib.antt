@@ -6,3 +6,4 @@ pub mod FirstPlaces
 pub mod Marks
 pub mod PairsJudged
 pub mod FirstWrong
+pub mod OneVerdict

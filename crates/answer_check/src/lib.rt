@@ -17,5 +17,5 @@ mod verdict;
 mod vertices;
 
 pub use checking::check;
-pub use laws::right_lines_are_certified;
+pub use laws::{right_lines_are_certified, verdicts_are_one};
 pub use verdict::{Reason, Verdict};

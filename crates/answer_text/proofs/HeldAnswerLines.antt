@@ -1,5 +1,5 @@
 -- What is kept of a line is enough for the rules of an answer text.
-use Rattle.std.proofs.Common.{◌≡◌, ℕ, zero, suc, ◌+◌, ◌<◌, min, List, [], ◌∷◌, length, take, drop, map, Option, Some, None, Result, Bool, true, false, ◌&&◌, ◌||◌, eqb, nat_lt, ◌⊎◌, inl, inr, refl, sym, ap, ◌∙◌, arith, lit<, codes}
+use Rattle.std.proofs.Common.{◌≡◌, ℕ, zero, suc, ◌+◌, ◌<◌, min, List, [], ◌∷◌, length, take, drop, map, Option, Some, None, Result, Bool, true, false, ◌&&◌, eqb, nat_lt, ◌⊎◌, inl, inr, refl, sym, ap, ◌∙◌, arith, lit<, codes}
 use Rattle.std.proofs.lemmas.Bool.{ne_eqb, cases_lt, lt-ltb, le-ltb, or_left, or_right}
 use Rattle.std.proofs.lemmas.Bool.Decides.{nat_tests}
 use Rattle.std.proofs.lemmas.List.{length-map}

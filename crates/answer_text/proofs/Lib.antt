@@ -7,4 +7,6 @@ pub mod ListFields
 pub mod HeldAnswerLines
 pub mod AnswerParserLaws
 pub mod ReadAgain
+pub mod FewHops
+pub mod RightIsWritable
 pub mod AnswerNumbers

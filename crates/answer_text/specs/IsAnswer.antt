@@ -2,14 +2,11 @@
 use Rattle.std.specs.Prelude.{◌≡◌, ℕ, ◌⊎◌, List, [], ◌∷◌, length, Contains, Option, Some, None, ⊤}
 use Rattle.road_graph.specs.Roads.{Roads, HasVertex}
 use Rattle.path_algebra.specs.Algebra.{Algebra}
-use Rattle.path_algebra.specs.Walks.{IsBest, IsUnreached, AreHops, IsParent, label_of, IsParentChain}
+use Rattle.path_algebra.specs.Walks.{IsUnreached, AreHops, IsParent, label_of, IsParentChain}
+pub use Rattle.path_algebra.specs.Walks.{IsBestCode}
 use Rattle.answer_text.specs.declared.answers.Reached.{Reached}
 use Rattle.road_files.specs.Asked.{Question, FromSource, BetweenPair, FromSources, Asked}
 use Rattle.answer_text.specs.Told.{ToldFound, Told, ToldSource, ToldPair, ToldMulti, ToldList}
-
--- the number is the code of the best value at v
-abbrev pub IsBestCode : {V : Type 0} → Algebra V → Roads → List ℕ → ℕ → ℕ → Type 0
-IsBestCode {V} A g sources v code = (x : V) × IsBest A g sources v x × (code ≡ A.code x)
 
 -- 0 at a source, and elsewhere the least of the nearer vertices
 abbrev pub IsParentOrZero : {V : Type 0} → Algebra V → Roads → List ℕ → ℕ → ℕ → Type 0

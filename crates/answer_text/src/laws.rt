@@ -1,7 +1,8 @@
 //! Theorems over answers, each the contract of a function that computes nothing.
 ghost use Rattle.std.specs.Prelude.{◌≡◌, ℕ, ◌≤◌, ◌++◌, List, Ok, length, take};
-ghost use Rattle.road_graph.specs.Roads.{Roads};
-ghost use Rattle.road_files.specs.Asked.{Asked, Question};
+ghost use Rattle.road_graph.specs.Roads.{Roads, IsRoads};
+ghost use Rattle.road_files.specs.Asked.{AreQuestionsOf, Asked, Question, asked_of};
+ghost use Rattle.road_files.specs.declared.questions.Questions.{Questions};
 ghost use Rattle.answer_text.specs.AnswerText.{answers_text, blocks_text, header_text};
 ghost use Rattle.answer_text.specs.IsAnswer.{AreAnswers, IsAnswer, IsAnswerList};
 ghost use Rattle.answer_text.specs.AnswerFiles.{answer_rules};
@@ -41,3 +42,11 @@ pub fn first_answers_begin_all<A: PathAlgebra>(algebra: A)
 pub fn written_answers_are_read_again()
     ensures { (t : ToldList) → AreWritable t → length (answers_text t) ≤ 4294967296 → text_read (answer_rules t.n) (answers_text t) ≡ Ok t }
 {}
+
+/// The text of the right answers to questions over a graph is read as just these, up to the length that a text may have.
+pub fn right_answers_are_read_again<A: PathAlgebra>(algebra: A)
+    ensures { (g : Roads) (q : Questions) (t : ToldList) → IsRoads g → AreQuestionsOf g.vertices q → IsAnswerList (A.meaning algebra) g (asked_of q) t → length (answers_text t) ≤ 4294967296 →
+        text_read (answer_rules t.n) (answers_text t) ≡ Ok t }
+{
+    laws_hold(algebra);
+}

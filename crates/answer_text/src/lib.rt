@@ -15,7 +15,8 @@ mod writing;
 
 pub use answers::{Answer, Answers, Found, Reached};
 pub use laws::{
-    an_answer_is_one, answers_are_one, first_answers_begin_all, written_answers_are_read_again,
+    an_answer_is_one, answers_are_one, first_answers_begin_all, right_answers_are_read_again,
+    written_answers_are_read_again,
 };
 pub use reading::read_answers;
 pub use writing::{

@@ -11,3 +11,4 @@ pub mod GraphAgain
 pub mod QuestionsAgain
 pub mod BundleAgain
 pub mod RoadNumbers
+pub mod GraphIsSaid

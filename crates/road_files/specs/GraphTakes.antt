@@ -1,5 +1,5 @@
 -- What the parser of a graph file holds, as the rules have it.
-use Rattle.std.specs.Prelude.{ℕ, ◌<◌, ◌≤◌, length, List, Option, option_map, Result, Bool}
+use Rattle.std.specs.Prelude.{◌≡◌, ℕ, ◌<◌, ◌≤◌, length, List, Option, option_map, IfSome, Result, Bool}
 use Rattle.road_graph.specs.Roads.{Roads}
 use Rattle.road_text.specs.declared.faults.ReadFault.{ReadFault}
 use Rattle.road_text.specs.Takes.{GivesBy}
@@ -19,9 +19,13 @@ pub record FitsArc (roads : RoadsSoFar) (tail head weight : ℕ) : Type 0 where
   pub head_in : (1 ≤ head) × (head ≤ roads.vertices)
   pub weight_in : weight ≤ 4294967295
 
--- the same, where a problem line was read
+-- what was announced and taken, where a problem line was read
 abbrev pub taken_of : GraphParser → Option RoadsSoFar
 taken_of s = option_map roads_so_far s.taken
+
+-- no room is made for arcs before the first of them is read, whatever was announced
+abbrev pub HoldsNoRoom : Option TakenRoads → Type 0
+HoldsNoRoom taken = IfSome taken (λ t. t.arcs.cap ≡ 0)
 
 -- the lines from a number on give this
 abbrev pub GivesRoads : Bool → GraphParser → ℕ → List (List ℕ) → Result Roads ReadFault → Type 0

@@ -8,3 +8,4 @@ pub mod QuestionTakes
 pub mod BundleFiles
 pub mod BundleTakes
 pub mod WrittenFiles
+pub mod GraphLines

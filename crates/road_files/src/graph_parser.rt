@@ -1,5 +1,5 @@
 //! Takes the lines of a graph file.
-ghost use Rattle.std.specs.Prelude.{◌≡◌, ◌<◌, ◌≤◌, ◌++◌, ◌∷◌, [], length, map, refl, OnOk, IfOk, IfErr, MatchResult, option_map, true, false, ℕ, List, Ok};
+ghost use Rattle.std.specs.Prelude.{◌≡◌, ◌<◌, ◌≤◌, ◌++◌, ◌∷◌, [], None, length, map, refl, OnOk, IfOk, IfErr, MatchResult, option_map, true, false, ℕ, List, Ok};
 ghost use Rattle.road_graph.specs.Roads.{JoinsVertices};
 ghost use Rattle.road_text.specs.Slots.{word_in};
 ghost use Rattle.road_text.specs.Lines.{fields};
@@ -7,7 +7,7 @@ ghost use Rattle.road_text.specs.ShortLines.{HasShortFields};
 ghost use Rattle.road_text.specs.Takes.{Leaves, Breaks};
 ghost use Rattle.road_text.specs.Words.{word_of};
 ghost use Rattle.road_files.specs.GraphFiles.{one_arc, gr_problem, gr_arc, gr_line, gr_whole, graph_read};
-ghost use Rattle.road_files.specs.GraphTakes.{roads_so_far, FitsArc};
+ghost use Rattle.road_files.specs.GraphTakes.{roads_so_far, FitsArc, HoldsNoRoom};
 
 use crate::number_fields::number_up_to;
 use crate::rules::{BAD_PROBLEM, NO_PROBLEM, SECOND_PROBLEM, UNKNOWN_LINE};
@@ -41,7 +41,8 @@ impl GraphParser {
 
     #[tactic(auto, unfolding(crate::specs::GraphFiles::gr_problem))]
     fn problem(&mut self, slots: &[Slot]) -> Result<(), LineFault>
-        ensures { Leaves (gr_problem (taken_of self.old) (map word_in slots.now)) result (taken_of self.new) }
+        ensures line { Leaves (gr_problem (taken_of self.old) (map word_in slots.now)) result (taken_of self.new) }
+        ensures unreserved { OnOk result (HoldsNoRoom self.new.taken) }
     {
         match &self.taken {
             Some(_) => return Err(LineFault::Broken(SECOND_PROBLEM)),
@@ -87,7 +88,8 @@ impl GraphParser {
     /// Takes a line by its first six fields.
     #[tactic(auto, unfolding(crate::specs::GraphFiles::gr_line))]
     pub fn take(&mut self, slots: &[Slot]) -> Result<(), LineFault>
-        ensures { Leaves (gr_line (taken_of self.old) (map word_in slots.now)) result (taken_of self.new) }
+        ensures line { Leaves (gr_line (taken_of self.old) (map word_in slots.now)) result (taken_of self.new) }
+        ensures unreserved { OnOk result (self.old.taken ≡ None → HoldsNoRoom self.new.taken) }
     {
         if slots.is_empty() || slots[0].begins_with(b'c') {
             return Ok(());

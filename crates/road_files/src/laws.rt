@@ -1,11 +1,13 @@
-//! Laws over the definitions: what is written is read again.
-ghost use Rattle.std.specs.Prelude.{◌≡◌, ◌≢◌, ℕ, ◌≤◌, ◌++◌, Ok, length, Option, true};
+//! Laws over the definitions: what is written is read again, and what the lines of a graph say is the graph.
+ghost use Rattle.std.specs.Prelude.{◌≡◌, ◌≢◌, ℕ, ◌≤◌, ◌++◌, List, Ok, length, Option, true, false};
 ghost use Rattle.road_graph.specs.Roads.{Roads, IsRoads};
+ghost use Rattle.road_text.specs.Lines.{lines};
 ghost use Rattle.road_text.specs.Rules.{text_read};
 ghost use Rattle.road_files.specs.declared.questions.Questions.{Questions};
 ghost use Rattle.road_files.specs.Asked.{asked_of, AreQuestionsOf};
 ghost use Rattle.road_files.specs.BundleFiles.{bundle_rules};
 ghost use Rattle.road_files.specs.GraphFiles.{gr_rules};
+ghost use Rattle.road_files.specs.GraphLines.{SayGraph};
 ghost use Rattle.road_files.specs.QuestionFiles.{question_rules, may_be};
 ghost use Rattle.road_files.specs.WrittenFiles.{gr_text, questions_text};
 
@@ -33,4 +35,10 @@ pub fn bundle_read_again()
     ensures value { (g : Roads) (q : Questions) → IsRoads g → AreQuestionsOf g.vertices q → length (gr_text g ++ questions_text (asked_of q)) ≤ 4294967296 →
         text_read bundle_rules (gr_text g ++ questions_text (asked_of q)) ≡ Ok (g, asked_of q) }
     ensures short { (g : Roads) (q : Questions) → IsRoads g → AreQuestionsOf g.vertices q → (asked_of q).kind ≢ Kind.Multi → length (gr_text g ++ questions_text (asked_of q)) ≤ 4294967296 }
+{}
+
+/// The arcs of a text that is read as a graph are those of its arc lines, in order, and its one problem line says how many
+/// vertices and arcs there are.
+pub fn lines_say_the_graph()
+    ensures { (bytes : List ℕ) (g : Roads) → text_read gr_rules bytes ≡ Ok g → SayGraph (lines false bytes) g }
 {}

@@ -20,7 +20,7 @@ mod written_lines;
 
 pub use bundle_files::read_bundle;
 pub use graph_files::read_gr;
-pub use laws::{bundle_read_again, graph_read_again, questions_read_again};
+pub use laws::{bundle_read_again, graph_read_again, lines_say_the_graph, questions_read_again};
 pub use question_files::{read_ms, read_p2p, read_questions, read_ss};
 pub use questions::{Kind, Questions};
 pub use writing::{write_gr, write_ms, write_p2p, write_ss};

@@ -1,5 +1,5 @@
 -- A fault of a text is the first one: that of the least line that breaks a rule, else that of the end.
-use Rattle.std.proofs.Common.{◌≡◌, ℕ, ◌+◌, List, [], ◌∷◌, ◌++◌, length, take, Bool, true, false, cond, nat_lt, Ok, Err, Result, inl, inr, refl, sym, ap, ◌∙◌, subst, arith}
+use Rattle.std.proofs.Common.{◌≡◌, ℕ, ◌+◌, ◌≤◌, List, [], ◌∷◌, ◌++◌, length, take, Bool, true, false, cond, nat_lt, Ok, Err, Result, inl, inr, refl, sym, ap, ◌∙◌, subst, arith}
 use Rattle.std.specs.Bool.{MatchBool}
 use Rattle.road_text.specs.declared.faults.ReadFault.{ReadFault}
 use Rattle.road_text.specs.Lines.{lines, fields}
@@ -100,3 +100,14 @@ module _ {S V : Type 0} (rules : Rules S V) where
           → cond b (reading true rules 1 rules.start (lines true (take 4294967296 text))) (reading false rules 1 rules.start (lines false text)) ≡ Err f
       by_length true e = finds true 1 rules.start (lines true (take 4294967296 text)) f e
       by_length false e = finds false 1 rules.start (lines false text) f e
+
+  none_at : (at : ℕ) (s : S) (l : List ℕ) (ls : List (List ℕ)) → 1 ≤ at → (r : Result S ℕ)
+      → ((t : S) → reading true rules (at + 1) t ls ≡ Err too_long → (reached : S) × (state_after rules t ls ≡ Ok reached))
+      → (at_line at r >>= λ t. reading true rules (at + 1) t ls) ≡ Err too_long → (reached : S) × ((r >>= λ t. state_after rules t ls) ≡ Ok reached)
+  none_at at s l ls le (Ok t) more h = more t h
+  none_at at s l ls le (Err n) more h = let p = fault_parts {V = V} n at too_long h in absurd (omega (arith, le, p.1))
+
+  -- where a text that is cut short is too long and no more, no line breaks a rule
+  pub breaks_none : (at : ℕ) (s : S) (ls : List (List ℕ)) → 1 ≤ at → reading true rules at s ls ≡ Err too_long → (reached : S) × (state_after rules s ls ≡ Ok reached)
+  breaks_none at s [] le h = (s, refl)
+  breaks_none at s (l ∷ ls) le h = none_at at s l ls le (rules.line s (fields l)) (λ t p. breaks_none (at + 1) t ls (omega (arith, le)) p) h

@@ -14,3 +14,4 @@ pub mod RoundTrip
 pub mod ShortLineLaws
 pub mod OwnNumbers
 pub mod WholeTexts
+pub mod FrontNumbers

@@ -69,7 +69,7 @@ module _ {T V : Type 0} (meaning : Meaning T V) (s t : LineReader T) where
     pub halts_in : (h : Halt) → Halts meaning t (get_or bytes i 0 ∷ []) h → Halts meaning s bytes h
     halts_in Read p = p
     halts_in TooLong p = halts_in_cut p
-    halts_in Memory p = p
+    halts_in Memory p = omega (arith, p, e)
     halts_in (Broken x) p = halts_in_broken x p
 
 module _ {T V : Type 0} (meaning : Meaning T V) (s : LineReader T) where
@@ -83,7 +83,7 @@ module _ {T V : Type 0} (meaning : Meaning T V) (s : LineReader T) where
   pub byte_broken : (t : LineReader T) (b : ℕ) (h : Halt) → s.count < 4294967296 → LineHalts meaning s (b ∷ []) h → Halts meaning s (b ∷ []) h
   byte_broken t b Read lt p = p
   byte_broken t b TooLong lt p = absurd p
-  byte_broken t b Memory lt p = p
+  byte_broken t b Memory lt p = lt
   byte_broken t b (Broken f) lt p = (b ∷ [], [], refl, omega arith, p)
 
 -- what the rest gives from one place in a piece, from a later one

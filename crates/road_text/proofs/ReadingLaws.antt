@@ -1,7 +1,7 @@
 -- What a reader of lines has read, from the first byte to the last.
 use Rattle.std.proofs.Common.{◌≡◌, ℕ, ◌+◌, ◌-◌, ◌<◌, ◌≤◌, List, [], ◌++◌, length, take, Bool, true, false, Option, Some, None, Result, Ok, Err, IfSome, refl, sym, ap, ◌∙◌, arith, length-append, append-nil, append_assoc, nat_lt}
 use Rattle.std.specs.Bool.{MatchBool}
-use Rattle.std.specs.Io.KnownBytes.{Consumes, IsAtEnd}
+use Rattle.std.specs.Io.KnownBytes.{Consumes, Keeps, IsAtEnd}
 use Rattle.std.proofs.lemmas.Bool.{lt-ltb, le-ltb}
 use Rattle.std.proofs.Math.Seq.{take-append_seam}
 use Rattle.road_text.proofs.Splits.{take-append_past}
@@ -9,10 +9,12 @@ use Rattle.road_text.specs.declared.faults.ReadFault.{ReadFault}
 use Rattle.road_text.specs.declared.faults.Halt.{Halt}
 use Rattle.road_text.specs.declared.faults.Halt.TheVariants.{Read, TooLong, Memory, Broken}
 use Rattle.road_text.specs.declared.reader.LineReader.{LineReader}
+use Rattle.road_text.specs.Reads.{FailsAfter, RunsOutAfter}
 use Rattle.road_text.specs.Rules.{too_long}
+use Rattle.road_text.proofs.ReaderLaws.{cut_here}
 use Rattle.road_text.specs.Meaning.{Meaning}
 use Rattle.road_text.specs.Lines.{lines}
-use Rattle.road_text.specs.Reading.{RestGives, Halts, HaltsAtEnd, CutShort, BreaksOff, TextGives, SomeTextGives, HasTaken, HasRead, Stops, SomeTextStops}
+use Rattle.road_text.specs.Reading.{RestGives, Halts, HaltsAtEnd, CutShort, BreaksOff, TextGives, SomeTextGives, HasTaken, HasRead, Stops, SomeTextStops, IsUnbroken, StopsAfter}
 
 module _ {T V : Type 0} (meaning : Meaning T V) (parser : T) where
   pub has_read_start : (left : Option (List ℕ)) (s : LineReader T) → s.count ≡ 0 → ((cut : Bool) (bytes : List ℕ) (r : Result V ReadFault) → RestGives cut meaning s bytes r → meaning.gives cut parser 1 (lines cut bytes) r) → HasRead meaning parser left left s
@@ -115,3 +117,41 @@ module _ {T V : Type 0} (meaning : Meaning T V) (parser : T) where
   some_stops_at_end left old s h few p q =
       let (done, b) = has_taken_some left old s p in
       told_stops done h (stops_at_end (Some done) (Some []) (Some []) 0 0 s h few refl (done, sym (append-nil done), b) refl refl q)
+
+  -- what was taken before reading stopped is unbroken
+  module _ (law : (t : T) (at : ℕ) → meaning.gives true t at [] (Err too_long)) where
+    unbroken : (done : List ℕ) (s : LineReader T) → HasTaken meaning parser done s → IsUnbroken meaning parser done
+    unbroken done s (n, g) = rw (← append-nil done) (g true [] (Err too_long) (cut_here meaning s law))
+
+    pub fails_after : (left old new : Option (List ℕ)) (s : LineReader T) → HasRead meaning parser left old s → Keeps old new → FailsAfter (IsUnbroken meaning parser) left new
+    fails_after None old new s (done, b) k = (done, tt, unbroken done s b)
+    fails_after (Some all) None new s p k = absurd p
+    fails_after (Some all) (Some rest) None s p k = absurd k
+    fails_after (Some all) (Some rest) (Some more) s (done, a, b) k = (done, a ∙ ap (λ x. done ++ x) (sym k), unbroken done s b)
+
+    pub runs_out_after : (left old new : Option (List ℕ)) (s : LineReader T) (piece : List ℕ) → HasRead meaning parser left old s → Consumes old new piece → length piece ≤ 65536 → s.count + length piece ≤ 4294967296
+        → RunsOutAfter (IsUnbroken meaning parser) left new
+    runs_out_after None old new s piece (done, b) c short fits = record { before = done; last = piece; taken = tt; unbroken = unbroken done s b; one_read = short; fits = omega (arith, fits, b.0, length-append done piece) }
+    runs_out_after (Some all) None new s piece p c short fits = absurd p
+    runs_out_after (Some all) (Some rest) None s piece p c short fits = absurd c
+    runs_out_after (Some all) (Some rest) (Some more) s piece (done, a, b) c short fits = record {
+      before = done;
+      last = piece;
+      taken = a ∙ ap (λ x. done ++ x) c ∙ sym (append_assoc done piece more);
+      unbroken = unbroken done s b;
+      one_read = short;
+      fits = omega (arith, fits, b.0, length-append done piece);
+    }
+
+    pub stops_after_in : (left old new : Option (List ℕ)) (before after : ℕ) (s : LineReader T) (piece : List ℕ) (h : Halt) → HasRead meaning parser left old s → Consumes old new piece → length piece ≤ 65536 → (s.count < 4294967296 → s.count + length piece ≤ 4294967296)
+        → Halts meaning s piece h → StopsAfter meaning parser left new before after h
+    stops_after_in left old new before after s piece Read p c short fits q = absurd q
+    stops_after_in left old new before after s piece TooLong p c short fits q = tt
+    stops_after_in left old new before after s piece Memory p c short fits q = runs_out_after left old new s piece p c short (fits q)
+    stops_after_in left old new before after s piece (Broken f) p c short fits q = tt
+
+    pub stops_after_end : (left old new : Option (List ℕ)) (before after : ℕ) (s : LineReader T) (h : Halt) → s.count ≤ 4294967296 → HasRead meaning parser left old s → Consumes old new [] → HaltsAtEnd meaning s h → StopsAfter meaning parser left new before after h
+    stops_after_end left old new before after s Read few p c q = absurd q
+    stops_after_end left old new before after s TooLong few p c q = tt
+    stops_after_end left old new before after s Memory few p c q = runs_out_after left old new s [] p c (omega arith) (omega (arith, few))
+    stops_after_end left old new before after s (Broken f) few p c q = tt

@@ -16,7 +16,7 @@ use Rattle.std.proofs.lemmas.List.Splits.{slice_split_at, slice_split_none}
 use Rattle.road_text.specs.Lines.{lines, fields, number, is_gap, is_line_end, has_bytes}
 use Rattle.road_text.specs.Texts.{spelled, text_of, IsWord}
 
-own : IsNumeralModel (λ ds. all_ascii_digits ds ≡ true) (digits_value 10)
+pub own : IsNumeralModel (λ ds. all_ascii_digits ds ≡ true) (digits_value 10)
 own = numerals_by_value _ tells_all_ascii_digits
 
 pub decimal_is_number : (n : ℕ) → n < 2 ^ 64 → number (decimal n) ≡ Some n

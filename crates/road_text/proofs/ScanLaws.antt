@@ -65,7 +65,7 @@ held_word-push f b = rw (number-push f b) (cc (take-push 9 f b, held_more (is_as
 number_held : (f : List ℕ) (b : ℕ) → number_on (option_map (λ n. min n 18446744073709551616) (number f)) b ≡ option_map (λ n. min n 18446744073709551616) (number (f ++ b ∷ []))
 number_held f b = rw (number-push f b) (held_more (is_ascii_digit b) (number f) b)
 
-number_with_held : (f bytes : List ℕ) → number_with (option_map (λ n. min n 18446744073709551616) (number f)) bytes ≡ option_map (λ n. min n 18446744073709551616) (number (f ++ bytes))
+pub number_with_held : (f bytes : List ℕ) → number_with (option_map (λ n. min n 18446744073709551616) (number f)) bytes ≡ option_map (λ n. min n 18446744073709551616) (number (f ++ bytes))
 number_with_held f [] = ap (λ x. option_map (λ n. min n 18446744073709551616) (number x)) (sym (append-nil f))
 number_with_held f (b ∷ bytes) =
     ap (λ o. number_with o bytes) (number_held f b) ∙ number_with_held (f ++ b ∷ []) bytes

@@ -7,6 +7,7 @@ use Rattle.road_text.specs.declared.faults.Halt.TheVariants.{Read, TooLong, Memo
 use Rattle.road_text.specs.declared.reader.LineReader.{LineReader}
 use Rattle.road_text.specs.Meaning.{Meaning}
 use Rattle.road_text.specs.Lines.{lines, is_line_end, has_bytes}
+use Rattle.road_text.specs.Reads.{FailsAfter, RunsOutAfter}
 use Rattle.road_text.specs.Rules.{too_long}
 use Rattle.road_text.specs.Scans.{scan_of}
 use Rattle.road_text.specs.Scans.{Shows, Scan}
@@ -52,7 +53,7 @@ BreaksOff meaning s bytes f = (front after : List ℕ) × (bytes ≡ front ++ af
 abbrev pub Halts : {T V : Type 0} → Meaning T V → LineReader T → List ℕ → Halt → Type 0
 Halts meaning s bytes Read = ⊥
 Halts meaning s bytes TooLong = CutShort meaning s bytes
-Halts meaning s bytes Memory = ⊤
+Halts meaning s bytes Memory = s.count < 4294967296
 Halts meaning s bytes (Broken f) = BreaksOff meaning s bytes f
 
 -- why it stopped at the end of the text
@@ -100,3 +101,14 @@ SomeTextStops meaning parser Read = ⊤
 SomeTextStops meaning parser TooLong = SomeTextGives meaning parser (Err too_long)
 SomeTextStops meaning parser Memory = ⊤
 SomeTextStops meaning parser (Broken f) = SomeTextGives meaning parser (Err f)
+
+-- no line of these bytes has a fault: a text that is cut short behind them is too long and no more
+abbrev pub IsUnbroken : {T V : Type 0} → Meaning T V → T → List ℕ → Type 0
+IsUnbroken meaning parser bytes = meaning.gives true parser 1 (lines true bytes) (Err too_long)
+
+-- what was read before reading stopped for what is no fault of the text: a read that failed, once, or want of memory
+abbrev pub StopsAfter : {T V : Type 0} → Meaning T V → T → Option (List ℕ) → Option (List ℕ) → ℕ → ℕ → Halt → Type 0
+StopsAfter meaning parser left rest before after Read = (after ≡ before + 1) × FailsAfter (IsUnbroken meaning parser) left rest
+StopsAfter meaning parser left rest before after TooLong = ⊤
+StopsAfter meaning parser left rest before after Memory = RunsOutAfter (IsUnbroken meaning parser) left rest
+StopsAfter meaning parser left rest before after (Broken f) = ⊤

@@ -1,9 +1,10 @@
 -- What a reader of whole texts promises. It is said of the bytes that were left to read and are left now, where the
 -- reader tells them, and of its failures and of the reads that were asked for, before and after.
-use Rattle.std.specs.Prelude.{◌≡◌, ◌≢◌, ℕ, ◌+◌, ◌<◌, ◌≤◌, ◌⊎◌, List, length, Option, IfSome, Result, Ok, Err, IfOk, IfErr, OnOk}
-use Rattle.std.specs.Io.KnownBytes.{IsAtEnd}
+use Rattle.std.specs.Prelude.{◌≡◌, ◌≢◌, ℕ, ◌+◌, ◌<◌, ◌≤◌, ◌⊎◌, List, ◌++◌, length, true, Option, IfSome, Result, Ok, Err, IfOk, IfErr, OnOk}
+use Rattle.std.specs.Io.KnownBytes.{Consumes, IsAtEnd}
 use Rattle.road_text.specs.declared.faults.ReadFault.{ReadFault}
-use Rattle.road_text.specs.Rules.{Rules, text_read}
+use Rattle.road_text.specs.Lines.{lines}
+use Rattle.road_text.specs.Rules.{Rules, text_read, state_after}
 
 -- the value is the text's
 abbrev pub ReadsValue : {S V A : Type 0} → Rules S V → (A → V) → Option (List ℕ) → Result A ReadFault → Type 0
@@ -24,6 +25,35 @@ TellsFailure before after result = IfErr result (λ f. f.number ≡ 1 → after 
 -- and only there
 abbrev pub TellsNoOther : {A : Type 0} → ℕ → ℕ → Result A ReadFault → Type 0
 TellsNoOther before after result = IfErr result (λ f. f.number ≢ 1 → after ≡ before)
+
+-- and then one read failed: none was tried again
+abbrev pub FailsOnce : {A : Type 0} → ℕ → ℕ → Result A ReadFault → Type 0
+FailsOnce before after result = IfErr result (λ f. f.number ≡ 1 → after ≡ before + 1)
+
+-- no line that ends within these bytes breaks a rule
+abbrev pub BreaksNone : {S V : Type 0} → Rules S V → List ℕ → Type 0
+BreaksNone {S = S} rules bytes = (reached : S) × (state_after rules rules.start (lines true bytes) ≡ Ok reached)
+
+-- the bytes that were taken before a read failed are unbroken
+abbrev pub FailsAfter : (List ℕ → Type 0) → Option (List ℕ) → Option (List ℕ) → Type 0
+FailsAfter Unbroken left rest = (taken : List ℕ) × Consumes left rest taken × Unbroken taken
+
+-- the bytes that were taken before memory ran out are unbroken, but for those of the last read, and they all fit
+pub record RunsOutAfter (Unbroken : List ℕ → Type 0) (left rest : Option (List ℕ)) : Type 0 where
+  pub before : List ℕ
+  pub last : List ℕ
+  pub taken : Consumes left rest (before ++ last)
+  pub unbroken : Unbroken before
+  pub one_read : length last ≤ 65536
+  pub fits : length (before ++ last) ≤ 4294967296
+
+-- fault 1 comes after bytes of which no line breaks a rule
+abbrev pub FailsUnbroken : {S V A : Type 0} → Rules S V → Option (List ℕ) → Option (List ℕ) → Result A ReadFault → Type 0
+FailsUnbroken rules left rest result = IfErr result (λ f. f.number ≡ 1 → FailsAfter (BreaksNone rules) left rest)
+
+-- fault 3 comes after such bytes and within the first 2 ^ 32, so it is told of no text for being too long
+abbrev pub RunsOutUnbroken : {S V A : Type 0} → Rules S V → Option (List ℕ) → Option (List ℕ) → Result A ReadFault → Type 0
+RunsOutUnbroken rules left rest result = IfErr result (λ f. f.number ≡ 3 → RunsOutAfter (BreaksNone rules) left rest)
 
 -- fault 2 comes beyond 2 ^ 32 bytes alone
 abbrev pub IsTooLong : {A : Type 0} → Option (List ℕ) → Result A ReadFault → Type 0
@@ -60,3 +90,6 @@ pub record ReadsText {S V A X : Type 0} (bytes : X → Option (List ℕ)) (faile
   pub numbered : IsReadNumber least greatest result
   pub end : OnOk result (IsAtEnd (bytes new))
   pub asked : reads new ≤ reads old + 4294967297
+  pub once : FailsOnce (failed old) (failed new) result
+  pub before_failure : FailsUnbroken rules (bytes old) (bytes new) result
+  pub before_memory : RunsOutUnbroken rules (bytes old) (bytes new) result

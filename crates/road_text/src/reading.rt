@@ -1,19 +1,37 @@
 //! Reads a text from a reader.
-ghost use Rattle.std.specs.Prelude.{◌≡◌, ◌≢◌, ℕ, ◌+◌, ◌≤◌, [], Ok, Err, OnOk, IfOk, IfErr, IfSome};
+ghost use Rattle.std.specs.Prelude.{◌≡◌, ◌≢◌, ℕ, ◌+◌, ◌≤◌, ◌<◌, [], Ok, Err, OnOk, IfOk, IfErr, IfSome};
 ghost use Rattle.std.specs.Io.KnownBytes.{IsAtEnd};
-ghost use Rattle.road_text.specs.Reads.{TellsFailure, TellsNoOther, IsTooLong, IsPlaced, IsReadNumber};
-ghost use Rattle.road_text.specs.Reading.{Stops, TextGives, SomeTextGives, SomeTextStops, IsNumbered};
+ghost use Rattle.road_text.specs.Reads.{TellsFailure, TellsNoOther, FailsOnce, FailsAfter, RunsOutAfter, IsTooLong, IsPlaced, IsReadNumber};
+ghost use Rattle.road_text.specs.Reading.{Stops, StopsAfter, IsUnbroken, TextGives, SomeTextGives, SomeTextStops, IsNumbered};
 
 use crate::ends::RoadRead;
 use crate::faults::{Halt, MEMORY, READ_FAILED, ReadFault, TOO_LONG};
 use crate::line_parser::LineParser;
-use crate::reader::LineReader;
+use crate::reader::{LineReader, MAX_BYTES};
 
 /// The bytes that are asked for at once.
 const BUFFER: usize = 65_536;
 
 /// Each read but the last gives a byte, and a text has at most 2 ^ 32.
 const MAX_READS: u64 = 4_294_967_297;
+
+/// How many bytes are asked for next: as many as still fit, or one that does not.
+fn next_piece(count: u64) -> usize
+    requires { count ≤ 4294967296 }
+    ensures some { 0 < result }
+    ensures bound { result ≤ 65536 }
+    ensures fits { count < 4294967296 → count + result ≤ 4294967296 }
+{
+    let room = MAX_BYTES - count;
+    if room == 0 {
+        return 1;
+    }
+    if room < BUFFER as u64 {
+        room as usize
+    } else {
+        BUFFER
+    }
+}
 
 /// What the text gives that the reader has left.
 pub fn read_text<R: RoadRead, T: LineParser>(from: &mut R, parser: T) -> Result<T::Value, Halt>
@@ -25,15 +43,17 @@ pub fn read_text<R: RoadRead, T: LineParser>(from: &mut R, parser: T) -> Result<
     ensures asked { R.asked from.new ≤ R.asked from.old + 4294967297 }
     ensures stops { IfErr result (λ h. Stops T.meaning parser (R.left from.old) (R.failures from.old) (R.failures from.new) h) }
     ensures some_stops { IfErr result (SomeTextStops T.meaning parser) }
+    ensures stops_after { IfErr result (λ h. StopsAfter T.meaning parser (R.left from.old) (R.left from.new) (R.failures from.old) (R.failures from.new) h) }
     ensures numbered { IfErr result IsNumbered }
 {
     let mut reader = LineReader::new(parser);
     let mut buffer = [0u8; BUFFER];
     for _ in 0..MAX_READS {
-        match from.read(&mut buffer) {
+        let piece = &mut buffer[..next_piece(reader.count)];
+        match from.read(piece) {
             Err(_) => return Err(Halt::Read),
             Ok(0) => return reader.finish(),
-            Ok(n) => reader.feed(&buffer[..n])?,
+            Ok(n) => reader.feed(&piece[..n])?,
         }
     }
     unreachable!()
@@ -57,6 +77,9 @@ pub fn read_whole<R: RoadRead, T: LineParser>(
     ensures numbered { IsReadNumber 10 255 result }
     ensures end { OnOk result (IsAtEnd (R.left from.new)) }
     ensures asked { R.asked from.new ≤ R.asked from.old + 4294967297 }
+    ensures once { FailsOnce (R.failures from.old) (R.failures from.new) result }
+    ensures before_failure { IfErr result (λ f. f.number ≡ 1 → FailsAfter (IsUnbroken T.meaning parser) (R.left from.old) (R.left from.new)) }
+    ensures before_memory { IfErr result (λ f. f.number ≡ 3 → RunsOutAfter (IsUnbroken T.meaning parser) (R.left from.old) (R.left from.new)) }
 {
     match read_text(from, parser) {
         Ok(value) => Ok(value),

@@ -48,10 +48,9 @@ fn digit_on(number: u64, digit: u8) -> u64
     number * 10 + u64::from(digit - b'0')
 }
 
-/// How many digits stand at the front, while the number with them is small, and that number. It is where most of the
-/// time of reading goes: most fields are such numbers, and one register holds them.
+/// How many digits stand at the front, while the number with them is small, and that number: one register holds it.
 #[inline(always)]
-pub fn digits(bytes: &[u8], number: u64) -> (usize, u64)
+fn digits(bytes: &[u8], number: u64) -> (usize, u64)
     ensures bound { result.0 ≤ length bytes.now }
     ensures digits { All (λ b. is_ascii_digit b ≡ true) (take result.0 bytes.now) }
     ensures plain { All (λ b. is_plain b ≡ true) (take result.0 bytes.now) }

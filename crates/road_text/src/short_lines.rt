@@ -1,8 +1,10 @@
 //! Lines of a letter and three numbers, which are most lines of large texts, taken in one go.
-ghost use Rattle.std.specs.Prelude.{◌≡◌, ◌<◌, ◌≤◌, length, take, IfSome};
+ghost use Rattle.std.specs.Prelude.{◌≡◌, ◌<◌, ◌≤◌, length, take, IfSome, true, All, Some};
+ghost use Rattle.std.specs.Char.{is_ascii_digit};
+ghost use Rattle.road_text.specs.Scans.{number_with};
 ghost use Rattle.road_text.specs.ShortLines.{IsNumberThen, IsShortLine};
 
-use crate::runs::digits;
+use core::dec2flt::read_digits;
 
 /// A line of a letter and three numbers, with one space between them.
 #[derive(Clone, Copy)]
@@ -13,13 +15,30 @@ pub struct ShortLine {
     pub len: usize,
 }
 
+/// The digits that a number of 64 bits always has room for.
+const MOST_DIGITS: usize = 19;
+
+/// How many digits stand at the front, and the number that they write, eight bytes at a time; none where they are too many.
+#[inline(always)]
+fn front_number(bytes: &[u8]) -> (usize, u64)
+    ensures bound { result.0 ≤ length bytes.now }
+    ensures digits { All (λ b. is_ascii_digit b ≡ true) (take result.0 bytes.now) }
+    ensures number { Some result.1 ≡ number_with (Some 0) (take result.0 bytes.now) }
+{
+    let (front, number) = read_digits(bytes, 0, 0);
+    if front > MOST_DIGITS {
+        return (0, 0);
+    }
+    (front, number)
+}
+
 /// The number of the digits at the front, where this byte comes behind them, and how many bytes that makes.
 #[inline(always)]
 fn number_then(bytes: &[u8], end: u8) -> Option<(u64, usize)>
     ensures bound { IfSome result (λ r. r.1 ≤ length bytes.now) }
     ensures number { IfSome result (λ r. IsNumberThen (take r.1 bytes.now) end r.0) }
 {
-    let (front, number) = digits(bytes, 0);
+    let (front, number) = front_number(bytes);
     if front == 0 || front == bytes.len() || bytes[front] != end {
         return None;
     }

@@ -5,11 +5,15 @@
 
 #[cfg(test)]
 mod answers;
+#[cfg(test)]
+mod digits;
 mod ends;
 #[cfg(test)]
 mod files;
 #[cfg(test)]
 mod lines;
+#[cfg(test)]
+mod long_texts;
 #[cfg(test)]
 mod verdicts;
 

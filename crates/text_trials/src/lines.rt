@@ -231,6 +231,27 @@ fn numbers_at_the_top(rt: HostRuntime) {
 }
 
 #[test]
+fn numbers_of_any_length(rt: HostRuntime) {
+    for piece in 1..=24 {
+        assert_outcomes(
+            &rt,
+            piece,
+            &[
+                ("n 1234567\n", Ok(1_234_567)),
+                ("n 12345678\n", Ok(12_345_678)),
+                ("n 123456789\n", Ok(123_456_789)),
+                ("n 123456789012345\n", Ok(123_456_789_012_345)),
+                ("n 1234567890123456\n", Ok(1_234_567_890_123_456)),
+                ("n 12345678901234567\n", Ok(12_345_678_901_234_567)),
+                ("n 1234567890123456789\n", Ok(1_234_567_890_123_456_789)),
+                ("n 12345678901234567890\n", Ok(12_345_678_901_234_567_890)),
+                ("n 123456789012345678901\n", Err((16, 1))),
+            ],
+        );
+    }
+}
+
+#[test]
 fn carriage_returns_and_odd_bytes(rt: HostRuntime) {
     assert_outcomes(
         &rt,

@@ -11,7 +11,7 @@ use Rattle.road_files.proofs.bundle_files.read_bundle.Goals as goal
 pub returns-clause-reads : goal.returns-clause-reads
 returns-clause-reads g c = let s = c.new.result in let start = c.new.ensures.start in let e = c.read_whole.ensures in
     reads_text bundle_rules bundle_of bundle_meaning s (by_value s start) (by_fault s start) g.R.RoadRead.left g.R.RoadRead.failures g.R.RoadRead.asked c.args.from.now c.read_whole.new.from 10 19 (λ t fs. bundles_line t (map word_of fs)) bundles_end
-    c.read_whole.result e.value e.some_text e.fault e.some_fault e.sound e.told e.untold e.long e.placed e.numbered e.end e.asked
+    c.read_whole.result e.value e.some_text e.fault e.some_fault e.sound e.told e.untold e.long e.placed e.numbered e.end e.asked e.once e.before_failure e.before_memory
 
 pub returns-clause-fit : goal.returns-clause-fit
 returns-clause-fit g c = let s = c.new.result in let e = c.new.ensures.start in

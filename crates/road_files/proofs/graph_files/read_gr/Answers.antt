@@ -10,4 +10,4 @@ use Rattle.road_files.proofs.graph_files.read_gr.Goals as goal
 pub returns : goal.returns
 returns g c = let s = c.new.result in let e = c.read_whole.ensures in
     reads_text gr_rules (λ x. x) graph_meaning s (by_value s c.new.ensures) (by_fault s c.new.ensures) g.R.RoadRead.left g.R.RoadRead.failures g.R.RoadRead.asked c.args.from.now c.read_whole.new.from 10 19 (λ t fs. graph_line t (map word_of fs)) graph_end
-    c.read_whole.result e.value e.some_text e.fault e.some_fault e.sound e.told e.untold e.long e.placed e.numbered e.end e.asked
+    c.read_whole.result e.value e.some_text e.fault e.some_fault e.sound e.told e.untold e.long e.placed e.numbered e.end e.asked e.once e.before_failure e.before_memory

@@ -2,7 +2,7 @@ use Rattle.std.proofs.Common.{refl}
 use Rattle.std.proofs.lemmas.Grind.{common_steps}
 use Rattle.std.proofs.Common.{[], ℕ, take, arith, ◌∙◌, subst}
 use Rattle.std.proofs.lemmas.List.{length-take-le}
-use Rattle.road_text.proofs.ReadingLaws.{has_read_start, has_read_more, has_read_value, has_read_some, stops_at_end, stops_in, some_stops_at_end, some_stops_in}
+use Rattle.road_text.proofs.ReadingLaws.{has_read_start, has_read_more, has_read_value, has_read_some, stops_at_end, stops_in, some_stops_at_end, some_stops_in, fails_after, stops_after_in, stops_after_end}
 use Rattle.std.proofs.lemmas.Result.{IfOk-weaker, IfErr-weaker, err_from_is_err_and}
 use Rattle.std.specs.Io.KnownBytes.{Consumes, IsAtEnd}
 use Rattle.road_text.proofs.reading.read_text.Goals as goal
@@ -26,13 +26,13 @@ loop-preserved g c = record {
 pub returns-in-Ok-eq0-clause-value : goal.returns-in-Ok-eq0-clause-value
 returns-in-Ok-eq0-clause-value g c =
     let gone : Consumes (g.R.RoadRead.left c.loop.from) (g.R.RoadRead.left c.read.new.self) [] = subst (λ (n : ℕ). Consumes (g.R.RoadRead.left c.loop.from) (g.R.RoadRead.left c.read.new.self) (take n c.read.new.buf)) c.in-Ok-eq0.field-0-test c.in-Ok-eq0.ensures.bytes.0 in
-    let ended : IsAtEnd (g.R.RoadRead.left c.read.new.self) = c.in-Ok-eq0.ensures.bytes.1 c.in-Ok-eq0.field-0-test (omega arith) in
+    let ended : IsAtEnd (g.R.RoadRead.left c.read.new.self) = c.in-Ok-eq0.ensures.bytes.1 c.in-Ok-eq0.field-0-test (omega (arith, c.next_piece.ensures.some, length-take-le c.next_piece.result c.loop.buffer (omega (arith, c.next_piece.ensures.bound)))) in
     IfOk-weaker c.finish.result _ _ (λ v h. has_read_value g.T.LineParser.meaning c.args.parser _ _ _ c.loop.reader v c.loop.reader.few_bytes c.loop.invariant.has_read gone ended h) c.finish.ensures.ok
 
 pub returns-in-Ok-eq0-clause-stops : goal.returns-in-Ok-eq0-clause-stops
 returns-in-Ok-eq0-clause-stops g c =
     let gone : Consumes (g.R.RoadRead.left c.loop.from) (g.R.RoadRead.left c.read.new.self) [] = subst (λ (n : ℕ). Consumes (g.R.RoadRead.left c.loop.from) (g.R.RoadRead.left c.read.new.self) (take n c.read.new.buf)) c.in-Ok-eq0.field-0-test c.in-Ok-eq0.ensures.bytes.0 in
-    let ended : IsAtEnd (g.R.RoadRead.left c.read.new.self) = c.in-Ok-eq0.ensures.bytes.1 c.in-Ok-eq0.field-0-test (omega arith) in
+    let ended : IsAtEnd (g.R.RoadRead.left c.read.new.self) = c.in-Ok-eq0.ensures.bytes.1 c.in-Ok-eq0.field-0-test (omega (arith, c.next_piece.ensures.some, length-take-le c.next_piece.result c.loop.buffer (omega (arith, c.next_piece.ensures.bound)))) in
     IfErr-weaker c.finish.result _ _ (λ h p. stops_at_end g.T.LineParser.meaning c.args.parser _ _ _ _ _ c.loop.reader h c.loop.reader.few_bytes (c.in-Ok-eq0.ensures.sound ∙ c.loop.invariant.sound) c.loop.invariant.has_read gone ended p) c.finish.ensures.err
 
 pub returns-in_err-feed-in-Ok-clause-stops : goal.returns-in_err-feed-in-Ok-clause-stops
@@ -51,3 +51,20 @@ returns-in_err-feed-in-Ok-clause-some_stops g c = let p = err_from_is_err_and c.
 
 pub returns-in-Err-clause-value : goal.returns-in-Err-clause-value
 returns-in-Err-clause-value g c = grind (arith, common_steps)
+
+pub returns-in-Err-clause-stops_after : goal.returns-in-Err-clause-stops_after
+returns-in-Err-clause-stops_after g c =
+    (omega (arith, c.in-Err.ensures.failed, c.loop.invariant.sound), fails_after g.T.LineParser.meaning c.args.parser g.met.T.LineParser.stops_short _ _ _ c.loop.reader c.loop.invariant.has_read c.in-Err.ensures.bytes)
+
+pub returns-in-Ok-eq0-clause-stops_after : goal.returns-in-Ok-eq0-clause-stops_after
+returns-in-Ok-eq0-clause-stops_after g c =
+    let gone : Consumes (g.R.RoadRead.left c.loop.from) (g.R.RoadRead.left c.read.new.self) [] = subst (λ (n : ℕ). Consumes (g.R.RoadRead.left c.loop.from) (g.R.RoadRead.left c.read.new.self) (take n c.read.new.buf)) c.in-Ok-eq0.field-0-test c.in-Ok-eq0.ensures.bytes.0 in
+    IfErr-weaker c.finish.result _ _ (λ h p. stops_after_end g.T.LineParser.meaning c.args.parser g.met.T.LineParser.stops_short _ _ _ _ _ c.loop.reader h c.loop.reader.few_bytes c.loop.invariant.has_read gone p) c.finish.ensures.err
+
+pub returns-in_err-feed-in-Ok-clause-stops_after : goal.returns-in_err-feed-in-Ok-clause-stops_after
+returns-in_err-feed-in-Ok-clause-stops_after g c =
+    let p = err_from_is_err_and c.from_residual.result c.from_residual.ensures.1 in
+    let asked = length-take-le c.next_piece.result c.loop.buffer (omega (arith, c.next_piece.ensures.bound)) in
+    let taken = length-take-le c.in-Ok.n c.read.new.buf c.in-Ok.ensures.bound in
+    rw (p.1, p.2) (stops_after_in g.T.LineParser.meaning c.args.parser g.met.T.LineParser.stops_short _ _ _ _ _ c.loop.reader _ _ c.loop.invariant.has_read c.in-Ok.ensures.bytes.0
+    (omega (arith, asked, taken, c.in-Ok.ensures.bound, c.next_piece.ensures.bound)) (λ some. omega (arith, asked, taken, c.in-Ok.ensures.bound, c.next_piece.ensures.fits some)) c.in_err-feed-in-Ok.ensures.err)

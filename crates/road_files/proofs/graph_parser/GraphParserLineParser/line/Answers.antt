@@ -6,9 +6,9 @@ use Rattle.road_files.proofs.GraphParserLaws.{line_rule}
 use Rattle.road_files.proofs.graph_parser.GraphParserLineParser.line.Goals as goal
 
 pub returns-clause-ok : goal.returns-clause-ok
-returns-clause-ok c = on_ok c.take.result _ _ c.take.ensures
+returns-clause-ok c = on_ok c.take.result _ _ c.take.ensures.line
     (λ e cut at l rest r shown _ h. gives_taken gr_rules (λ g. g) (taken_of c.args.self.now) (taken_of c.take.new.self) cut at l rest r (line_rule c.args.self.now c.args.slots.now l shown ∙ e) h)
 
 pub returns-clause-broken : goal.returns-clause-broken
 returns-clause-broken c = λ rule is cut at l rest shown _.
-    gives_broken gr_rules (λ g. g) (taken_of c.args.self.now) cut at l rest rule.number (line_rule c.args.self.now c.args.slots.now l shown ∙ (rw is at c.take.ensures))
+    gives_broken gr_rules (λ g. g) (taken_of c.args.self.now) cut at l rest rule.number (line_rule c.args.self.now c.args.slots.now l shown ∙ (rw is at c.take.ensures.line))

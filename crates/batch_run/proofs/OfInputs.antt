@@ -1,5 +1,5 @@
 -- What a run promises of inputs that were read, from what answering them promises.
-use Rattle.std.proofs.Common.{◌≡◌, ◌≢◌, ◌⊎◌, ◌↔◌, ◌<◌, ◌≤◌, inl, inr, ℕ, List, Option, Result, Ok, Err, false, refl, sym, ◌∙◌, arith}
+use Rattle.std.proofs.Common.{◌≡◌, ◌≢◌, ◌⊎◌, ◌↔◌, ◌<◌, ◌≤◌, inl, inr, ℕ, List, Option, Result, Ok, Err, true, false, refl, sym, ◌∙◌, arith}
 use Rattle.std.specs.Prelude.{IfErr, OnOk}
 use Rattle.std.proofs.lemmas.Result.{IfErr-at_err, IfErr-weaker}
 use Rattle.road_graph.specs.Roads.{Roads}
@@ -11,6 +11,7 @@ use Rattle.batch_run.specs.declared.faults.File.TheVariants.{Graph, Questions, N
 use Rattle.batch_run.specs.declared.settings.Settings.{Settings}
 use Rattle.batch_run.specs.Answered.{WroteAllOrFront, WroteWhole}
 use Rattle.batch_run.specs.InRange.{AreInRange}
+use Rattle.batch_run.specs.Stopping.{IsAlwaysOpen}
 use Rattle.batch_run.specs.Ran.{Begun, BegunWhole, Done, IsFaultOf, IsLater, IsPassedOn, IsRoadNumber}
 
 -- what holds after each fault but a failed write holds where memory was refused
@@ -75,8 +76,8 @@ module _ (s : Settings) (is_open : Type 0) (before after : ℕ) where
     pub stalled : IfErr r (λ f. f.number ≡ 40 → s.plain ≡ false)
     stalled = IfErr-weaker r _ _ (λ f l. later_stalled f l.0) later
 
-    pub gated : IfErr r (λ f. f.number ≡ 41 → (s.plain ≡ false) × (is_open → ⊥))
-    gated = IfErr-weaker r _ _ (λ f l. later_gated f l.0) later
+    pub gated : IfErr r (λ f. f.number ≡ 41 → (s.plain ≡ false) × (IsAlwaysOpen (λ _ _ answer. is_open → answer ≡ true) → ⊥))
+    gated = IfErr-weaker r _ _ (λ f l e. let why = later_gated f l.0 e in (why.0, λ always. always 0 0 (λ o. absurd (why.1 o)))) later
 
     pub in_no_input : (P : Type 0) → IfErr r (λ f. f.file ≢ NoFile → P)
     in_no_input P = IfErr-weaker r _ _ (λ f l e. absurd (e l.0.0)) later

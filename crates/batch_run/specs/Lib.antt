@@ -6,3 +6,5 @@ pub mod Ended
 pub mod Answered
 pub mod Ran
 pub mod FaultTexts
+pub mod Stopping
+pub mod Runs

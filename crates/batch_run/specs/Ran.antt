@@ -2,7 +2,7 @@
 use Rattle.std.specs.Prelude.{◌≡◌, ◌≢◌, ℕ, ◌<◌, ◌≤◌, ◌⊎◌, false, List, [], Option, None, Ok, Err, IfSome}
 use Rattle.road_graph.specs.Roads.{Roads}
 use Rattle.road_text.specs.Reads.{IsNumberFrom}
-use Rattle.road_text.specs.Rules.{text_read}
+use Rattle.road_text.specs.Rules.{Rules, text_read}
 use Rattle.road_files.specs.Asked.{Asked}
 use Rattle.road_files.specs.GraphFiles.{gr_rules}
 use Rattle.road_files.specs.QuestionFiles.{question_rules}
@@ -14,14 +14,19 @@ use Rattle.batch_run.specs.declared.settings.Settings.{Settings}
 use Rattle.batch_run.specs.declared.faults.File.TheVariants.{NoFile}
 use Rattle.batch_run.specs.Answered.{WroteAnswers, WroteFront, WroteWhole}
 
--- two inputs, where they are told, are the texts of this graph and of these questions over it
-pub record IsPairOf (graph questions : Option (List ℕ)) (g : Roads) (asked : Asked) : Type 0 where
-  pub graph_is : IfSome graph (λ b. text_read gr_rules b ≡ Ok g)
-  pub questions_are : IfSome questions (λ b. text_read (question_rules g.vertices None) b ≡ Ok asked)
+-- the value is what the input spells; and it is what some text spells, also where the input does not tell its bytes
+pub record IsReadAs {S V : Type 0} (rules : Rules S V) (input : Option (List ℕ)) (value : V) : Type 0 where
+  pub told : IfSome input (λ b. text_read rules b ≡ Ok value)
+  pub some_text : (b : List ℕ) × (text_read rules b ≡ Ok value)
 
--- an input, where it is told, is the text of this graph and of these questions over it
+-- two inputs spell this graph, and these questions over it
+pub record IsPairOf (graph questions : Option (List ℕ)) (g : Roads) (asked : Asked) : Type 0 where
+  pub graph_is : IsReadAs gr_rules graph g
+  pub questions_are : IsReadAs (question_rules g.vertices None) questions asked
+
+-- an input spells this graph and these questions over it
 abbrev pub IsBundleOf : Option (List ℕ) → Roads → Asked → Type 0
-IsBundleOf input g asked = IfSome input (λ b. text_read bundle_rules b ≡ Ok (g, asked))
+IsBundleOf input g asked = IsReadAs bundle_rules input (g, asked)
 
 -- the answers to what was read were written, whole
 pub record Done {V : Type 0} (A : Algebra V) (IsRead : Roads → Asked → Type 0) (old new : Option (List ℕ)) : Type 0 where
@@ -55,7 +60,7 @@ IsGraphFault graph f = IsTextFault f → IfSome graph (λ b. text_read gr_rules 
 -- the graph has none, and the questions have this one
 abbrev pub IsQuestionsFault : Option (List ℕ) → Option (List ℕ) → RunFault → Type 0
 IsQuestionsFault graph questions f =
-    (g : Roads) × IfSome graph (λ b. text_read gr_rules b ≡ Ok g)
+    (g : Roads) × IsReadAs gr_rules graph g
     × (IsTextFault f → IfSome questions (λ b. text_read (question_rules g.vertices None) b ≡ Err (record { number = f.number; line = f.line })))
 
 -- the bundle has this fault

@@ -1,9 +1,10 @@
 //! Runs a batch from bytes to bytes.
-ghost use Rattle.std.specs.Prelude.{◌≡◌, ◌≢◌, ℕ, ◌+◌, ◌≤◌, ◌<◌, ◌↔◌, ◌⊎◌, [], false, Ok, Err, IfOk, OnOk, IfErr, length};
+ghost use Rattle.std.specs.Prelude.{◌≡◌, ◌≢◌, ℕ, ◌+◌, ◌≤◌, ◌<◌, ◌↔◌, ◌⊎◌, [], true, false, Ok, Err, IfOk, OnOk, IfErr, length};
 ghost use Rattle.std.specs.Io.KnownBytes.{IsAtEnd, Keeps};
 ghost use Rattle.road_files.specs.Asked.{AreQuestionsOf, asked_of};
 ghost use Rattle.batch_run.specs.Answered.{WroteAllOrFirst, WroteAllOrFront, WroteWhole};
 ghost use Rattle.batch_run.specs.InRange.{AreInRange};
+ghost use Rattle.batch_run.specs.Runs.{RanPair, RanBundle, input, output};
 ghost use Rattle.batch_run.specs.Ran.{IsPassedOn, Done, Begun, BegunWhole, IsPairOf, IsBundleOf, IsGraphFault, IsQuestionsFault, IsBundleFault, IsFaultOf, IsLater, IsRoadNumber};
 
 use crate::answering::answer_at;
@@ -189,36 +190,10 @@ pub fn run_pair<
     settings: &Settings,
     gate: &T,
 ) -> Result<(), RunFault>
-    ensures done { OnOk result (Done (A.meaning algebra) (IsPairOf (G.left graph_in.old) (Q.left questions_in.old)) (W.written out.old) (W.written out.new)) }
-    ensures passed_on { OnOk result (W.held out.new ≡ []) }
-    ensures sound { OnOk result ((G.failures graph_in.new ≡ G.failures graph_in.old) × (Q.failures questions_in.new ≡ Q.failures questions_in.old) × (W.failures out.new ≡ W.failures out.old)) }
-
-    // Which fault is told, and what stood in the input.
-    ensures settings { (result ≡ Err (record { number = 43; file = File.NoFile; line = 0 })) ↔ (AreInRange settings.now → ⊥) }
-    ensures graph { IfErr result (λ f. f.file ≡ File.Graph → IsGraphFault (G.left graph_in.old) f) }
-    ensures questions { IfErr result (λ f. f.file ≡ File.Questions → IsQuestionsFault (G.left graph_in.old) (Q.left questions_in.old) f) }
-    ensures read_graph { (result ≡ Err (record { number = 1; file = File.Graph; line = 0 })) ↔ (G.failures graph_in.new ≢ G.failures graph_in.old) }
-    ensures read_questions { (result ≡ Err (record { number = 1; file = File.Questions; line = 0 })) ↔ (Q.failures questions_in.new ≢ Q.failures questions_in.old) }
-    ensures write { IfErr result (λ f. f.number ≡ 42 → W.failures out.old < W.failures out.new) }
-    ensures kinds { IfErr result (λ f. IsFaultOf (λ file. (file ≡ File.Graph) ⊎ (file ≡ File.Questions)) f) }
-    ensures placed { IfErr result (λ f. f.number ≤ 3 → f.line ≡ 0) }
-    ensures stalled { IfErr result (λ f. f.number ≡ 40 → settings.now.plain ≡ false) }
-    ensures gated { IfErr result (λ f. f.number ≡ 41 → (settings.now.plain ≡ false) × (T.is_always_open gate.now → ⊥)) }
-
-    // What a fault leaves.
-    ensures nothing { IfErr result (λ f. f.file ≢ File.NoFile → Keeps (W.written out.old) (W.written out.new)) }
-    ensures unwritten { IfErr result (λ f. f.file ≢ File.NoFile → out.new ≡ out.old) }
-    ensures untouched { IfErr result (λ f. f.number ≡ 43 → (graph_in.new ≡ graph_in.old) × (questions_in.new ≡ questions_in.old) × (out.new ≡ out.old)) }
-    ensures begun { IfErr result (λ f. f.file ≡ File.NoFile → f.number ≢ 43 → Begun (A.meaning algebra) (IsPairOf (G.left graph_in.old) (Q.left questions_in.old)) (W.written out.old) (W.written out.new)) }
-    ensures whole { IfErr result (λ f. f.file ≡ File.NoFile → f.number ≡ 3 → BegunWhole (A.meaning algebra) (IsPairOf (G.left graph_in.old) (Q.left questions_in.old)) (W.written out.old) (W.written out.new)) }
-    ensures flushed { IfErr result (λ f. f.file ≡ File.NoFile → f.number ≡ 3 → IsPassedOn (W.held out.new) (W.failures out.old) (W.failures out.new)) }
-    ensures once { IfErr result (λ f. f.file ≡ File.NoFile → f.number ≡ 3 → W.failures out.new ≤ W.failures out.old + 1) }
-    ensures stopped { IfErr result (λ f. (f.number ≡ 40) ⊎ (f.number ≡ 41) → BegunWhole (A.meaning algebra) (IsPairOf (G.left graph_in.old) (Q.left questions_in.old)) (W.written out.old) (W.written out.new) × IsPassedOn (W.held out.new) (W.failures out.old) (W.failures out.new)) }
-
-    // What is asked of the inputs.
-    ensures ends { OnOk result (IsAtEnd (G.left graph_in.new) × IsAtEnd (Q.left questions_in.new)) }
-    ensures asked { G.asked graph_in.new ≤ G.asked graph_in.old + 4294967297 }
-    ensures asked_questions { Q.asked questions_in.new ≤ Q.asked questions_in.old + 4294967297 }
+    ensures ran { RanPair (A.meaning algebra) settings.now (λ _ _ answer. T.is_always_open gate.now → answer ≡ true)
+        (input G.left G.failures G.asked graph_in.old) (input G.left G.failures G.asked graph_in.new)
+        (input Q.left Q.failures Q.asked questions_in.old) (input Q.left Q.failures Q.asked questions_in.new)
+        (output W.written W.held W.failures out.old) (output W.written W.held W.failures out.new) result }
 {
     if !settings.are_in_range() {
         return Err(fault_of_run(SETTINGS));
@@ -235,43 +210,19 @@ pub fn run_bundle<A: PathAlgebra, B: RoadRead, W: RoadWrite, R: Threads + Wait +
     rt: &R,
     alloc: Global,
     algebra: A,
-    input: &mut B,
+    bundle: &mut B,
     out: &mut W,
     settings: &Settings,
     gate: &T,
 ) -> Result<(), RunFault>
-    ensures done { OnOk result (Done (A.meaning algebra) (IsBundleOf (B.left input.old)) (W.written out.old) (W.written out.new)) }
-    ensures passed_on { OnOk result (W.held out.new ≡ []) }
-    ensures sound { OnOk result ((B.failures input.new ≡ B.failures input.old) × (W.failures out.new ≡ W.failures out.old)) }
-
-    // Which fault is told, and what stood in the input.
-    ensures settings { (result ≡ Err (record { number = 43; file = File.NoFile; line = 0 })) ↔ (AreInRange settings.now → ⊥) }
-    ensures bundle { IfErr result (λ f. f.file ≡ File.Bundle → IsBundleFault (B.left input.old) f) }
-    ensures read { (result ≡ Err (record { number = 1; file = File.Bundle; line = 0 })) ↔ (B.failures input.new ≢ B.failures input.old) }
-    ensures write { IfErr result (λ f. f.number ≡ 42 → W.failures out.old < W.failures out.new) }
-    ensures kinds { IfErr result (λ f. IsFaultOf (λ file. file ≡ File.Bundle) f) }
-    ensures placed { IfErr result (λ f. f.number ≤ 3 → f.line ≡ 0) }
-    ensures stalled { IfErr result (λ f. f.number ≡ 40 → settings.now.plain ≡ false) }
-    ensures gated { IfErr result (λ f. f.number ≡ 41 → (settings.now.plain ≡ false) × (T.is_always_open gate.now → ⊥)) }
-
-    // What a fault leaves.
-    ensures nothing { IfErr result (λ f. f.file ≢ File.NoFile → Keeps (W.written out.old) (W.written out.new)) }
-    ensures unwritten { IfErr result (λ f. f.file ≢ File.NoFile → out.new ≡ out.old) }
-    ensures untouched { IfErr result (λ f. f.number ≡ 43 → (input.new ≡ input.old) × (out.new ≡ out.old)) }
-    ensures begun { IfErr result (λ f. f.file ≡ File.NoFile → f.number ≢ 43 → Begun (A.meaning algebra) (IsBundleOf (B.left input.old)) (W.written out.old) (W.written out.new)) }
-    ensures whole { IfErr result (λ f. f.file ≡ File.NoFile → f.number ≡ 3 → BegunWhole (A.meaning algebra) (IsBundleOf (B.left input.old)) (W.written out.old) (W.written out.new)) }
-    ensures flushed { IfErr result (λ f. f.file ≡ File.NoFile → f.number ≡ 3 → IsPassedOn (W.held out.new) (W.failures out.old) (W.failures out.new)) }
-    ensures once { IfErr result (λ f. f.file ≡ File.NoFile → f.number ≡ 3 → W.failures out.new ≤ W.failures out.old + 1) }
-    ensures stopped { IfErr result (λ f. (f.number ≡ 40) ⊎ (f.number ≡ 41) → BegunWhole (A.meaning algebra) (IsBundleOf (B.left input.old)) (W.written out.old) (W.written out.new) × IsPassedOn (W.held out.new) (W.failures out.old) (W.failures out.new)) }
-
-    // What is asked of the input.
-    ensures end { OnOk result (IsAtEnd (B.left input.new)) }
-    ensures asked { B.asked input.new ≤ B.asked input.old + 4294967297 }
+    ensures ran { RanBundle (A.meaning algebra) settings.now (λ _ _ answer. T.is_always_open gate.now → answer ≡ true)
+        (input B.left B.failures B.asked bundle.old) (input B.left B.failures B.asked bundle.new)
+        (output W.written W.held W.failures out.old) (output W.written W.held W.failures out.new) result }
 {
     if !settings.are_in_range() {
         return Err(fault_of_run(SETTINGS));
     }
-    let (graph, questions) = match read_bundle(alloc, input) {
+    let (graph, questions) = match read_bundle(alloc, bundle) {
         Ok(read) => read,
         Err(fault) => return Err(fault_in(File::Bundle, fault)),
     };

@@ -2,7 +2,7 @@
 use crate::texts::joined;
 use batch_run::{Settings, fault_of_run};
 use program::{Job, Places, Wanted, algebra_of, read_job, run_words};
-use road_text::{Plain, ReadFailed};
+use road_text::{Buffered, Plain, ReadFailed};
 use std::alloc::{AllocError, Global};
 use std::process::Abort;
 use std::sync::Wait;
@@ -244,6 +244,14 @@ const COMMANDS: &[(&str, &str, &str, u8)] = &[
     ("solve g g", "", "diffuse: fault 12 questions line 1\n", 3),
     ("solve none q", "", "diffuse: fault 1 graph\n", 3),
     ("solve q none", "", "diffuse: fault 1 questions\n", 3),
+    ("solve none none", "", "diffuse: fault 1 graph\n", 3),
+    ("solve none q --limit 0", "", "diffuse: fault 43\n", 2),
+    (
+        "solve none q --algebra within",
+        "",
+        "diffuse: fault 43\n",
+        2,
+    ),
     ("solve g q --limit 0", "", "diffuse: fault 43\n", 2),
     ("solve g q --algebra within", "", "diffuse: fault 43\n", 2),
     ("solve g q --plain", SHORTEST, "", 0),
@@ -276,7 +284,10 @@ const COMMANDS: &[(&str, &str, &str, u8)] = &[
     ("check g q within", "", "diffuse: fault 43\n", 2),
     ("check none q right", "", "diffuse: fault 1 graph\n", 3),
     ("check q none right", "", "diffuse: fault 1 questions\n", 3),
+    ("check none none none", "", "diffuse: fault 1 graph\n", 3),
+    ("check q none none", "", "diffuse: fault 1 questions\n", 3),
     ("check q g none", "", "diffuse: fault 1 answers\n", 3),
+    ("check q g 30", "", "diffuse: fault 12 graph line 1\n", 3),
     ("check q q 30", "", "diffuse: fault 12 graph line 1\n", 3),
     (
         "check g g 30",
@@ -305,7 +316,7 @@ impl<'a> Places for Shelf<'a> {
 
     type Given = Plain<&'a [u8]>;
 
-    fn open(&self, path: &str) -> Result<Plain<&'static [u8]>, ReadFailed> {
+    fn open(&mut self, path: &str) -> Result<Plain<&'static [u8]>, ReadFailed> {
         for (name, text) in FILES {
             if *name == path {
                 return Ok(Plain::new(text.as_bytes()));
@@ -328,8 +339,8 @@ fn run_line(
     let words = words_of(rt, line);
     let mut out = Plain::new(Vec::new(rt.alloc()));
     let mut errors = Plain::new(Vec::new(rt.alloc()));
-    let shelf = Shelf { given };
-    let status = run_words(rt, &shelf, words.as_slice(), &mut out, &mut errors);
+    let mut shelf = Shelf { given };
+    let status = run_words(rt, &mut shelf, words.as_slice(), &mut out, &mut errors);
     (out.into_inner(), errors.into_inner(), status)
 }
 
@@ -390,6 +401,12 @@ fn bundles_and_statuses(rt: HostRuntime) {
         text.as_str(),
         ("", "diffuse: fault 43\n", 2),
     );
+    assert_run(
+        &rt,
+        "diffuse bundle --turns 0",
+        text.as_str(),
+        ("p ans ss 1 shortest\n", "diffuse: fault 40\n", 6),
+    );
     for &(given, place) in &[
         ("p sp 1 0\n", "10 bundle line 2"),
         ("p sp 1 0\np sp 1 0\n", "11 bundle line 2"),
@@ -412,8 +429,8 @@ fn assert_no_room(rt: &(impl Abort + Threads + Wait + AllocGlobal + Sync), line:
     let mut room = [0u8; 3];
     let mut out = Plain::new(&mut room[..]);
     let mut errors = Plain::new(Vec::new(rt.alloc()));
-    let shelf = Shelf { given: "" };
-    let status = run_words(rt, &shelf, words.as_slice(), &mut out, &mut errors);
+    let mut shelf = Shelf { given: "" };
+    let status = run_words(rt, &mut shelf, words.as_slice(), &mut out, &mut errors);
     assert_eq!(rt;
         errors.into_inner().as_slice(),
         "diffuse: fault 42\n".as_bytes()
@@ -425,6 +442,21 @@ fn assert_no_room(rt: &(impl Abort + Threads + Wait + AllocGlobal + Sync), line:
 fn an_output_without_room(rt: HostRuntime) {
     assert_no_room(&rt, "diffuse solve g q");
     assert_no_room(&rt, "diffuse check g q right");
+    assert_no_room(&rt, "diffuse --help");
+    assert_no_room(&rt, "diffuse --version");
+}
+
+#[test]
+fn the_version_is_passed_on(rt: HostRuntime) {
+    let words = words_of(&rt, "diffuse --version");
+    let mut room = [0u8; 14];
+    let mut errors = Plain::new(Vec::new(rt.alloc()));
+    let mut shelf = Shelf { given: "" };
+    let mut out = Buffered::new(rt.alloc(), Plain::new(&mut room[..])).expect(&rt, "memory");
+    let status = run_words(&rt, &mut shelf, words.as_slice(), &mut out, &mut errors);
+    drop(out);
+    assert_eq!(rt; status, 0);
+    assert_eq!(rt; &room[..], "diffuse 1.0.0\n".as_bytes());
 }
 
 /// Asserts that help, or what is said of wrong usage, has lines of at most 80 bytes.

@@ -1,3 +1,3 @@
+pub mod Opening
 pub mod Told
-pub mod Moments
-pub mod Stalled
+pub mod Ungated

@@ -1,30 +1,67 @@
 -- What judging leaves, between two moments of its inputs and its output.
-use Rattle.std.specs.Prelude.{◌≡◌, ◌≢◌, ℕ, ◌+◌, ◌≤◌, ◌<◌, ◌↔◌, ◌⊎◌, [], Option, Result, Err, OnOk, IfOk, IfErr}
+use Rattle.std.specs.Prelude.{◌≡◌, ◌≢◌, ℕ, ◌+◌, ◌≤◌, ◌<◌, ◌↔◌, ◌⊎◌, [], Option, Result, Ok, Err, OnOk, IfOk, IfErr}
 use Rattle.std.specs.Io.KnownBytes.{Appends}
 use Rattle.answer_check.specs.declared.verdict.Verdict.{Verdict}
 use Rattle.batch_run.specs.declared.faults.File.TheVariants.{Graph, Questions, Answers, NoFile}
 use Rattle.batch_run.specs.declared.faults.RunFault.{RunFault}
 use Rattle.batch_run.specs.Ran.{IsGraphFault, IsQuestionsFault}
-use Rattle.program.specs.Runs.{Input, Output}
-use Rattle.program.specs.Verdicts.{IsJudged, IsAnswersFault, IsOwnFault, IsLimitFault, IsReadingFault, verdict_text}
+use Rattle.program.specs.Reports.{EndsAs}
+use Rattle.batch_run.specs.Runs.{Input, Output}
+use Rattle.program.specs.Verdicts.{IsJudged, IsAnswersFault, IsOwnFault, IsLimitFault, IsReadingFault, verdict_text, verdict_status}
 
--- the one verdict on the answers of one input to the questions of another over the graph of a third was written, or this fault stopped it
-pub record RanCheck (limit : Option ℕ) (graph graph_after questions questions_after answers answers_after : Input) (out out_after : Output) (outcome : Result Verdict RunFault) : Type 0 where
-  pub judged : IfOk outcome (IsJudged graph.left questions.left answers.left limit)
-  pub told : IfOk outcome (λ verdict. Appends out.written out_after.written (verdict_text verdict))
-  pub passed_on : OnOk outcome (out_after.held ≡ [])
-  pub sound : OnOk outcome ((graph_after.failures ≡ graph.failures) × (questions_after.failures ≡ questions.failures) × (answers_after.failures ≡ answers.failures) × (out_after.failures ≡ out.failures))
-  pub graph_fault : IfErr outcome (λ f. f.file ≡ Graph → IsGraphFault graph.left f)
-  pub questions_fault : IfErr outcome (λ f. f.file ≡ Questions → IsQuestionsFault graph.left questions.left f)
-  pub answers_fault : IfErr outcome (λ f. f.file ≡ Answers → IsAnswersFault graph.left questions.left answers.left f ⊎ IsOwnFault graph.left questions.left answers.left f)
-  pub limit_fault : IfErr outcome (λ f. f.number ≡ 43 → IsLimitFault graph.left questions.left answers.left limit)
-  pub read_graph : (outcome ≡ Err (record { number = 1; file = Graph; line = 0 })) ↔ (graph_after.failures ≢ graph.failures)
-  pub read_questions : (outcome ≡ Err (record { number = 1; file = Questions; line = 0 })) ↔ (questions_after.failures ≢ questions.failures)
-  pub read_answers : (outcome ≡ Err (record { number = 1; file = Answers; line = 0 })) ↔ (answers_after.failures ≢ answers.failures)
-  pub write : IfErr outcome (λ f. f.number ≡ 42 → out.failures < out_after.failures)
-  pub unwritten : IfErr outcome (λ f. f.number ≢ 42 → out_after ≡ out)
-  pub kinds : IfErr outcome (λ f. IsReadingFault f ⊎ ((f.file ≡ NoFile) × (f.line ≡ 0) × ((f.number ≡ 3) ⊎ ((f.number ≡ 42) ⊎ (f.number ≡ 43)))))
+-- the answers of one input to the questions of another over the graph of a third were judged, or this fault stopped it
+pub record RanJudge {G Q S : Type 0} (given : Option ℕ) (first first_after : Input G) (second second_after : Input Q) (third third_after : Input S) (outcome : Result Verdict RunFault) : Type 0 where
+  -- the one verdict on what the inputs spell
+  pub judged : IfOk outcome (IsJudged first.left second.left third.left given)
+  -- no read failed
+  pub sound : OnOk outcome ((first_after.failures ≡ first.failures) × (second_after.failures ≡ second.failures) × (third_after.failures ≡ third.failures))
+  -- a fault of the graph is its first one
+  pub graph : IfErr outcome (λ f. f.file ≡ Graph → IsGraphFault first.left f)
+  -- a fault of the questions is their first one, over a graph that has none
+  pub questions : IfErr outcome (λ f. f.file ≡ Questions → IsQuestionsFault first.left second.left f)
+  -- a fault of the answers is their first one, or they name an algebra of a caller's own; the graph and the questions have none
+  pub answers : IfErr outcome (λ f. f.file ≡ Answers → IsAnswersFault first.left second.left third.left f ⊎ IsOwnFault first.left second.left third.left f)
+  -- 43 is told only of a limit that does not go with the algebra that the answers name
+  pub limit : IfErr outcome (λ f. f.number ≡ 43 → IsLimitFault first.left second.left third.left given)
+  -- 1 is told of the graph exactly if a read of it failed
+  pub read_graph : (outcome ≡ Err (record { number = 1; file = Graph; line = 0 })) ↔ (first_after.failures ≢ first.failures)
+  -- of the questions exactly if one of them did
+  pub read_questions : (outcome ≡ Err (record { number = 1; file = Questions; line = 0 })) ↔ (second_after.failures ≢ second.failures)
+  -- and of the answers exactly if one of them did
+  pub read_answers : (outcome ≡ Err (record { number = 1; file = Answers; line = 0 })) ↔ (third_after.failures ≢ third.failures)
+  -- a fault is one of an input, with a number of its own, or want of memory or a limit
+  pub kinds : IfErr outcome (λ f. IsReadingFault f ⊎ ((f.file ≡ NoFile) × (f.line ≡ 0) × ((f.number ≡ 3) ⊎ (f.number ≡ 43))))
+  -- 1 to 3 stand in no line
   pub placed : IfErr outcome (λ f. f.number ≤ 3 → f.line ≡ 0)
-  pub asked : graph_after.asked ≤ graph.asked + 4294967297
-  pub asked_questions : questions_after.asked ≤ questions.asked + 4294967297
-  pub asked_answers : answers_after.asked ≤ answers.asked + 4294967297
+  -- the answers are read last: after a fault of the graph or of the questions they are as they were
+  pub last : IfErr outcome (λ f. (f.file ≡ Graph) ⊎ (f.file ≡ Questions) → third_after ≡ third)
+  -- at most 2 ^ 32 + 1 reads of the graph were asked for
+  pub asked : first_after.asked ≤ first.asked + 4294967297
+  -- of the questions
+  pub asked_questions : second_after.asked ≤ second.asked + 4294967297
+  -- and of the answers
+  pub asked_answers : third_after.asked ≤ third.asked + 4294967297
+
+-- telling a verdict: its line was written, whole, and the output holds nothing back; or a write failed, and that is fault 42
+abbrev pub IsTold : {W : Type 0} → Verdict → Output W → Output W → Result Verdict RunFault → Type 0
+IsTold verdict out out_after (Ok told) = (told ≡ verdict) × Appends out.written out_after.written (verdict_text verdict) × (out_after.held ≡ []) × (out_after.failures ≡ out.failures)
+IsTold verdict out out_after (Err f) = (f ≡ record { number = 42; file = NoFile; line = 0 }) × (out.failures < out_after.failures)
+
+-- a verdict is told; and after a fault of judging the output is as it was
+abbrev pub IsToldOrFault : {W : Type 0} → Result Verdict RunFault → Output W → Output W → Result Verdict RunFault → Type 0
+IsToldOrFault (Ok verdict) out out_after outcome = IsTold verdict out out_after outcome
+IsToldOrFault (Err f) out out_after outcome = (outcome ≡ Err f) × (out_after ≡ out)
+
+-- the answers of one input to the questions of another over the graph of a third were judged, and the verdict was told; or this fault stopped it
+pub record RanCheck {G Q S W : Type 0} (given : Option ℕ) (first first_after : Input G) (second second_after : Input Q) (third third_after : Input S) (out out_after : Output W) (outcome : Result Verdict RunFault) : Type 0 where
+  -- what judging came to
+  pub verdict : Result Verdict RunFault
+  pub judged : RanJudge given first first_after second second_after third third_after verdict
+  -- and how that was told
+  pub told : IsToldOrFault verdict out out_after outcome
+
+-- a command that judges three inputs: what it leaves, and how it ends
+pub record Checks {G Q S W E : Type 0} (given : Option ℕ) (first first_after : Input G) (second second_after : Input Q) (third third_after : Input S) (out out_after : Output W) (errors errors_after : Output E) (result : ℕ) : Type 0 where
+  pub outcome : Result Verdict RunFault
+  pub ran : RanCheck given first first_after second second_after third third_after out out_after outcome
+  pub ends : EndsAs verdict_status errors.written errors_after.written errors.failures errors_after.failures outcome result

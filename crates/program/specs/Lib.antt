@@ -4,3 +4,5 @@ pub mod Reports
 pub mod Runs
 pub mod Verdicts
 pub mod Judgements
+pub mod Files
+pub mod Jobs

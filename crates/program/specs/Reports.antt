@@ -21,7 +21,11 @@ status_of number =
 abbrev pub IsReported : Option (List ℕ) → Option (List ℕ) → ℕ → ℕ → List ℕ → Type 0
 IsReported old new before after text = Left old new before after text [] ⊎ Fell old new before after text
 
+-- a fault ends a command: its line is written on the error output, and the exit status is its own
+abbrev pub ReportsFault : RunFault → Option (List ℕ) → Option (List ℕ) → ℕ → ℕ → ℕ → Type 0
+ReportsFault f old new before after result = (result ≡ status_of f.number) × IsReported old new before after (fault_text f)
+
 -- the exit status of an outcome: a fault has its own, and its line is written on the error output; else nothing is written there
 abbrev pub EndsAs : {A : Type 0} → (A → ℕ) → Option (List ℕ) → Option (List ℕ) → ℕ → ℕ → Result A RunFault → ℕ → Type 0
 EndsAs status old new before after (Ok x) result = (result ≡ status x) × (new ≡ old) × (after ≡ before)
-EndsAs status old new before after (Err f) result = (result ≡ status_of f.number) × IsReported old new before after (fault_text f)
+EndsAs status old new before after (Err f) result = ReportsFault f old new before after result

@@ -1,79 +1,38 @@
--- What answering leaves, between two moments of its inputs and its output.
-use Rattle.std.specs.Prelude.{◌≡◌, ◌≢◌, ℕ, ◌+◌, ◌≤◌, ◌<◌, ◌↔◌, ◌⊎◌, false, List, [], Option, Result, Err, OnOk, IfErr}
-use Rattle.std.specs.Io.KnownBytes.{IsAtEnd}
-use Rattle.batch_run.specs.declared.faults.File.TheVariants.{Graph, Questions, Bundle, NoFile}
+-- What answering leaves under the algebra that was chosen, between two moments of its inputs and its output, and how it ends.
+use Rattle.std.specs.Prelude.{◌≡◌, ◌≢◌, ℕ, Bool, true, Result, IfErr}
 use Rattle.batch_run.specs.declared.faults.RunFault.{RunFault}
 use Rattle.batch_run.specs.declared.settings.Settings.{Settings}
-use Rattle.batch_run.specs.InRange.{AreInRange}
-use Rattle.batch_run.specs.Ran.{IsPassedOn, IsPairOf, IsBundleOf, IsGraphFault, IsQuestionsFault, IsBundleFault, IsFaultOf}
+use Rattle.batch_run.specs.Runs.{Input, Output, RanPair, RanBundle}
 use Rattle.program.specs.declared.chosen.Chosen.{Chosen}
-use Rattle.program.specs.Under.{DoneUnder, BegunUnder, WholeUnder}
+use Rattle.program.specs.Reports.{EndsAs}
+use Rattle.program.specs.Under.{Under}
 
--- an input at a moment: the bytes that it has left, where it tells them, how many reads failed, and how many were asked for
-pub record Input : Type 0 where
-  pub left : Option (List ℕ)
-  pub failures : ℕ
-  pub asked : ℕ
-
--- an output at a moment: the bytes that it took, where it tells them, the last of them that it still holds, and how many writes failed
-pub record Output : Type 0 where
-  pub written : Option (List ℕ)
-  pub held : List ℕ
-  pub failures : ℕ
-
--- an input of this
-abbrev pub input : Option (List ℕ) → ℕ → ℕ → Input
-input left failures asked = record { left = left; failures = failures; asked = asked }
-
--- an output of this
-abbrev pub output : Option (List ℕ) → List ℕ → ℕ → Output
-output written held failures = record { written = written; held = held; failures = failures }
+-- the gate of the program is always open: whichever worker asks before whichever turn, its answer is true
+abbrev pub is_open : ℕ → ℕ → Bool → Type 0
+is_open worker turn answer = Unit {0} → answer ≡ true
 
 -- the questions of one input were answered over the graph of another, or this fault stopped it
-pub record RanPair (chosen : Chosen) (settings : Settings) (graph graph_after questions questions_after : Input) (out out_after : Output) (outcome : Result (Unit {0}) RunFault) : Type 0 where
-  pub done : OnOk outcome (DoneUnder chosen (IsPairOf graph.left questions.left) out.written out_after.written)
-  pub passed_on : OnOk outcome (out_after.held ≡ [])
-  pub sound : OnOk outcome ((graph_after.failures ≡ graph.failures) × (questions_after.failures ≡ questions.failures) × (out_after.failures ≡ out.failures))
-  pub settings_fault : (outcome ≡ Err (record { number = 43; file = NoFile; line = 0 })) ↔ (AreInRange settings → ⊥)
-  pub graph_fault : IfErr outcome (λ f. f.file ≡ Graph → IsGraphFault graph.left f)
-  pub questions_fault : IfErr outcome (λ f. f.file ≡ Questions → IsQuestionsFault graph.left questions.left f)
-  pub read_graph : (outcome ≡ Err (record { number = 1; file = Graph; line = 0 })) ↔ (graph_after.failures ≢ graph.failures)
-  pub read_questions : (outcome ≡ Err (record { number = 1; file = Questions; line = 0 })) ↔ (questions_after.failures ≢ questions.failures)
-  pub write : IfErr outcome (λ f. f.number ≡ 42 → out.failures < out_after.failures)
-  pub kinds : IfErr outcome (λ f. IsFaultOf (λ file. (file ≡ Graph) ⊎ (file ≡ Questions)) f)
-  pub placed : IfErr outcome (λ f. f.number ≤ 3 → f.line ≡ 0)
-  pub stalled : IfErr outcome (λ f. f.number ≡ 40 → settings.plain ≡ false)
+pub record RanPairUnder {G Q W : Type 0} (chosen : Chosen) (settings : Settings) (graph graph_after : Input G) (questions questions_after : Input Q) (out out_after : Output W) (outcome : Result (Unit {0}) RunFault) : Type 0 where
+  -- all that a batch leaves under the algebra that was chosen
+  pub batch : Under chosen (λ V A. RanPair A settings is_open graph graph_after questions questions_after out out_after outcome)
+  -- and no gate stopped it
   pub ungated : IfErr outcome (λ f. f.number ≢ 41)
-  pub unwritten : IfErr outcome (λ f. f.file ≢ NoFile → out_after ≡ out)
-  pub untouched : IfErr outcome (λ f. f.number ≡ 43 → (graph_after ≡ graph) × (questions_after ≡ questions) × (out_after ≡ out))
-  pub begun : IfErr outcome (λ f. f.file ≡ NoFile → f.number ≢ 43 → BegunUnder chosen (IsPairOf graph.left questions.left) out.written out_after.written)
-  pub whole : IfErr outcome (λ f. f.file ≡ NoFile → f.number ≡ 3 → WholeUnder chosen (IsPairOf graph.left questions.left) out.written out_after.written)
-  pub flushed : IfErr outcome (λ f. f.file ≡ NoFile → f.number ≡ 3 → IsPassedOn out_after.held out.failures out_after.failures)
-  pub once : IfErr outcome (λ f. f.file ≡ NoFile → f.number ≡ 3 → out_after.failures ≤ out.failures + 1)
-  pub stopped : IfErr outcome (λ f. f.number ≡ 40 → WholeUnder chosen (IsPairOf graph.left questions.left) out.written out_after.written × IsPassedOn out_after.held out.failures out_after.failures)
-  pub ends : OnOk outcome (IsAtEnd graph_after.left × IsAtEnd questions_after.left)
-  pub asked : graph_after.asked ≤ graph.asked + 4294967297
-  pub asked_questions : questions_after.asked ≤ questions.asked + 4294967297
 
 -- the questions of a bundle were answered, or this fault stopped it
-pub record RanBundle (chosen : Chosen) (settings : Settings) (input input_after : Input) (out out_after : Output) (outcome : Result (Unit {0}) RunFault) : Type 0 where
-  pub done : OnOk outcome (DoneUnder chosen (IsBundleOf input.left) out.written out_after.written)
-  pub passed_on : OnOk outcome (out_after.held ≡ [])
-  pub sound : OnOk outcome ((input_after.failures ≡ input.failures) × (out_after.failures ≡ out.failures))
-  pub settings_fault : (outcome ≡ Err (record { number = 43; file = NoFile; line = 0 })) ↔ (AreInRange settings → ⊥)
-  pub bundle_fault : IfErr outcome (λ f. f.file ≡ Bundle → IsBundleFault input.left f)
-  pub read : (outcome ≡ Err (record { number = 1; file = Bundle; line = 0 })) ↔ (input_after.failures ≢ input.failures)
-  pub write : IfErr outcome (λ f. f.number ≡ 42 → out.failures < out_after.failures)
-  pub kinds : IfErr outcome (λ f. IsFaultOf (λ file. file ≡ Bundle) f)
-  pub placed : IfErr outcome (λ f. f.number ≤ 3 → f.line ≡ 0)
-  pub stalled : IfErr outcome (λ f. f.number ≡ 40 → settings.plain ≡ false)
+pub record RanBundleUnder {B W : Type 0} (chosen : Chosen) (settings : Settings) (text text_after : Input B) (out out_after : Output W) (outcome : Result (Unit {0}) RunFault) : Type 0 where
+  -- all that a batch leaves under the algebra that was chosen
+  pub batch : Under chosen (λ V A. RanBundle A settings is_open text text_after out out_after outcome)
+  -- and no gate stopped it
   pub ungated : IfErr outcome (λ f. f.number ≢ 41)
-  pub unwritten : IfErr outcome (λ f. f.file ≢ NoFile → out_after ≡ out)
-  pub untouched : IfErr outcome (λ f. f.number ≡ 43 → (input_after ≡ input) × (out_after ≡ out))
-  pub begun : IfErr outcome (λ f. f.file ≡ NoFile → f.number ≢ 43 → BegunUnder chosen (IsBundleOf input.left) out.written out_after.written)
-  pub whole : IfErr outcome (λ f. f.file ≡ NoFile → f.number ≡ 3 → WholeUnder chosen (IsBundleOf input.left) out.written out_after.written)
-  pub flushed : IfErr outcome (λ f. f.file ≡ NoFile → f.number ≡ 3 → IsPassedOn out_after.held out.failures out_after.failures)
-  pub once : IfErr outcome (λ f. f.file ≡ NoFile → f.number ≡ 3 → out_after.failures ≤ out.failures + 1)
-  pub stopped : IfErr outcome (λ f. f.number ≡ 40 → WholeUnder chosen (IsBundleOf input.left) out.written out_after.written × IsPassedOn out_after.held out.failures out_after.failures)
-  pub end : OnOk outcome (IsAtEnd input_after.left)
-  pub asked : input_after.asked ≤ input.asked + 4294967297
+
+-- a command that answers a pair of inputs: what it leaves, and how it ends
+pub record Solves {G Q W E : Type 0} (chosen : Chosen) (settings : Settings) (graph graph_after : Input G) (questions questions_after : Input Q) (out out_after : Output W) (errors errors_after : Output E) (result : ℕ) : Type 0 where
+  pub outcome : Result (Unit {0}) RunFault
+  pub ran : RanPairUnder chosen settings graph graph_after questions questions_after out out_after outcome
+  pub ends : EndsAs (λ _. 0) errors.written errors_after.written errors.failures errors_after.failures outcome result
+
+-- a command that answers a bundle: what it leaves, and how it ends
+pub record Bundles {B W E : Type 0} (chosen : Chosen) (settings : Settings) (input input_after : Input B) (out out_after : Output W) (errors errors_after : Output E) (result : ℕ) : Type 0 where
+  pub outcome : Result (Unit {0}) RunFault
+  pub ran : RanBundleUnder chosen settings input input_after out out_after outcome
+  pub ends : EndsAs (λ _. 0) errors.written errors_after.written errors.failures errors_after.failures outcome result

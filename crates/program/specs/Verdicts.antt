@@ -1,5 +1,5 @@
 -- What a verdict on answers promises of the three inputs, and how it is told.
-use Rattle.std.specs.Prelude.{◌≡◌, ◌≢◌, ℕ, ◌⊎◌, List, [], ◌∷◌, Option, None, Ok, Err, IfSome, codes, decimal}
+use Rattle.std.specs.Prelude.{◌≡◌, ◌≢◌, ℕ, ◌⊎◌, List, [], ◌∷◌, Option, None, Err, IfSome, codes, decimal}
 use Rattle.road_graph.specs.Roads.{Roads}
 use Rattle.road_text.specs.Reads.{IsNumberFrom}
 use Rattle.road_text.specs.Rules.{text_read}
@@ -16,7 +16,7 @@ use Rattle.answer_check.specs.Reasons.{reason_number}
 use Rattle.answer_check.specs.Verdicts.{IsVerdict}
 use Rattle.batch_run.specs.declared.faults.RunFault.{RunFault}
 use Rattle.batch_run.specs.declared.faults.File.TheVariants.{Graph, Questions, Answers}
-use Rattle.batch_run.specs.Ran.{IsPairOf, IsTextFault, IsRoadNumber}
+use Rattle.batch_run.specs.Ran.{IsPairOf, IsReadAs, IsTextFault, IsRoadNumber}
 use Rattle.program.specs.declared.chosen.Chosen.{Chosen}
 use Rattle.program.specs.Under.{Under}
 use Rattle.program.specs.Choices.{name_of, limit_of, GoTogether}
@@ -25,11 +25,11 @@ use Rattle.program.specs.Choices.{name_of, limit_of, GoTogether}
 abbrev pub IsVerdictUnder : Chosen → Roads → Asked → ToldList → Verdict → Type 0
 IsVerdictUnder chosen g asked told verdict = Under chosen (λ V A. IsVerdict A g asked told verdict)
 
--- three inputs, where they are told, are the texts of this graph, of these questions over it, and of these answers for it
+-- three inputs spell this graph, these questions over it, and these answers for it
 pub record AreInputs (graph questions answers : Option (List ℕ)) (g : Roads) (asked : Asked) (told : ToldList) : Type 0 where
-  pub graph_is : IfSome graph (λ b. text_read gr_rules b ≡ Ok g)
-  pub questions_are : IfSome questions (λ b. text_read (question_rules g.vertices None) b ≡ Ok asked)
-  pub answers_are : IfSome answers (λ b. text_read (answer_rules g.vertices) b ≡ Ok told)
+  pub graph_is : IsReadAs gr_rules graph g
+  pub questions_are : IsReadAs (question_rules g.vertices None) questions asked
+  pub answers_are : IsReadAs (answer_rules g.vertices) answers told
 
 -- this is the verdict on the answers that were read, under the algebra that they name and the limit
 pub record IsJudged (graph questions answers : Option (List ℕ)) (limit : Option ℕ) (verdict : Verdict) : Type 0 where

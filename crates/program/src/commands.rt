@@ -1,11 +1,7 @@
 //! The commands over streams: each gives the exit status, and reports a fault in one line on the error output.
-ghost use Rattle.std.specs.Prelude.{ℕ, Result};
-ghost use Rattle.answer_check.specs.declared.verdict.Verdict.{Verdict};
-ghost use Rattle.batch_run.specs.declared.faults.RunFault.{RunFault};
-ghost use Rattle.program.specs.Reports.{EndsAs};
-ghost use Rattle.program.specs.Runs.{RanPair, RanBundle, input, output};
-ghost use Rattle.program.specs.Judgements.{RanCheck};
-ghost use Rattle.program.specs.Verdicts.{verdict_status};
+ghost use Rattle.batch_run.specs.Runs.{input, output};
+ghost use Rattle.program.specs.Runs.{Solves, Bundles};
+ghost use Rattle.program.specs.Judgements.{Checks};
 
 use crate::chosen::Chosen;
 use crate::judging::judge_and_tell;
@@ -29,11 +25,11 @@ pub fn solve<R: Threads + Wait + Sync, G: RoadRead, Q: RoadRead, W: RoadWrite, E
     out: &mut W,
     errors: &mut E,
 ) -> u8
-    ensures { (outcome : Result (Unit {0}) RunFault) × RanPair chosen settings.now
-        (input (G.left graph_in.old) (G.failures graph_in.old) (G.asked graph_in.old)) (input (G.left graph_in.new) (G.failures graph_in.new) (G.asked graph_in.new))
-        (input (Q.left questions_in.old) (Q.failures questions_in.old) (Q.asked questions_in.old)) (input (Q.left questions_in.new) (Q.failures questions_in.new) (Q.asked questions_in.new))
-        (output (W.written out.old) (W.held out.old) (W.failures out.old)) (output (W.written out.new) (W.held out.new) (W.failures out.new)) outcome
-        × EndsAs (λ _. 0) (E.written errors.old) (E.written errors.new) (E.failures errors.old) (E.failures errors.new) outcome result }
+    ensures { Solves chosen settings.now
+        (input G.left G.failures G.asked graph_in.old) (input G.left G.failures G.asked graph_in.new)
+        (input Q.left Q.failures Q.asked questions_in.old) (input Q.left Q.failures Q.asked questions_in.new)
+        (output W.written W.held W.failures out.old) (output W.written W.held W.failures out.new)
+        (output E.written E.held E.failures errors.old) (output E.written E.held E.failures errors.new) result }
 {
     let outcome = run_chosen_pair(rt, alloc, chosen, graph_in, questions_in, out, settings);
     end_with(errors, outcome)
@@ -49,10 +45,10 @@ pub fn bundle<R: Threads + Wait + Sync, B: RoadRead, W: RoadWrite, E: RoadWrite>
     out: &mut W,
     errors: &mut E,
 ) -> u8
-    ensures { (outcome : Result (Unit {0}) RunFault) × RanBundle chosen settings.now
-        (input (B.left text.old) (B.failures text.old) (B.asked text.old)) (input (B.left text.new) (B.failures text.new) (B.asked text.new))
-        (output (W.written out.old) (W.held out.old) (W.failures out.old)) (output (W.written out.new) (W.held out.new) (W.failures out.new)) outcome
-        × EndsAs (λ _. 0) (E.written errors.old) (E.written errors.new) (E.failures errors.old) (E.failures errors.new) outcome result }
+    ensures { Bundles chosen settings.now
+        (input B.left B.failures B.asked text.old) (input B.left B.failures B.asked text.new)
+        (output W.written W.held W.failures out.old) (output W.written W.held W.failures out.new)
+        (output E.written E.held E.failures errors.old) (output E.written E.held E.failures errors.new) result }
 {
     let outcome = run_chosen_bundle(rt, alloc, chosen, text, out, settings);
     end_with(errors, outcome)
@@ -70,12 +66,12 @@ pub fn check<R: Threads + Sync, G: RoadRead, Q: RoadRead, S: RoadRead, W: RoadWr
     out: &mut W,
     errors: &mut E,
 ) -> u8
-    ensures { (outcome : Result Verdict RunFault) × RanCheck limit
-        (input (G.left graph_in.old) (G.failures graph_in.old) (G.asked graph_in.old)) (input (G.left graph_in.new) (G.failures graph_in.new) (G.asked graph_in.new))
-        (input (Q.left questions_in.old) (Q.failures questions_in.old) (Q.asked questions_in.old)) (input (Q.left questions_in.new) (Q.failures questions_in.new) (Q.asked questions_in.new))
-        (input (S.left answers_in.old) (S.failures answers_in.old) (S.asked answers_in.old)) (input (S.left answers_in.new) (S.failures answers_in.new) (S.asked answers_in.new))
-        (output (W.written out.old) (W.held out.old) (W.failures out.old)) (output (W.written out.new) (W.held out.new) (W.failures out.new)) outcome
-        × EndsAs verdict_status (E.written errors.old) (E.written errors.new) (E.failures errors.old) (E.failures errors.new) outcome result }
+    ensures { Checks limit
+        (input G.left G.failures G.asked graph_in.old) (input G.left G.failures G.asked graph_in.new)
+        (input Q.left Q.failures Q.asked questions_in.old) (input Q.left Q.failures Q.asked questions_in.new)
+        (input S.left S.failures S.asked answers_in.old) (input S.left S.failures S.asked answers_in.new)
+        (output W.written W.held W.failures out.old) (output W.written W.held W.failures out.new)
+        (output E.written E.held E.failures errors.old) (output E.written E.held E.failures errors.new) result }
 {
     let outcome = judge_and_tell(rt, alloc, graph_in, questions_in, answers_in, limit, out);
     end_check(errors, outcome)

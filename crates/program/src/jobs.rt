@@ -1,5 +1,7 @@
 //! The commands over files by their names. All files are opened, in the order of the words, before one is read.
-ghost use Rattle.std.specs.Prelude.{◌≡◌, ◌≢◌, IfErr};
+ghost use Rattle.std.specs.Prelude.{◌≡◌, [], ◌∷◌, IfOk, IfErr, OnOk};
+ghost use Rattle.batch_run.specs.Runs.{output};
+ghost use Rattle.program.specs.Files.{IsMissing, OpensEach, SolvesFiles, BundlesGiven, ChecksFiles, missing};
 
 use crate::chosen::Chosen;
 use crate::commands::{bundle, check, solve};
@@ -12,8 +14,10 @@ use std::sync::Wait;
 use std::thread::Threads;
 
 /// Opens a file, and reports which could not be opened.
-fn open<P: Places>(places: &P, path: &str, file: File) -> Result<P::File, RunFault>
-    ensures { IfErr result (λ f. f ≡ record { number = 1; file = file; line = 0 }) }
+fn open<P: Places>(places: &mut P, path: &str, file: File) -> Result<P::File, RunFault>
+    ensures opens { P.opens places.old path.now places.new }
+    ensures unread { IfOk result (λ opened. P.File.asked opened ≡ 0) }
+    ensures fault { IfErr result (λ f. f ≡ missing file) }
 {
     match places.open(path) {
         Ok(opened) => Ok(opened),
@@ -27,29 +31,34 @@ fn open<P: Places>(places: &P, path: &str, file: File) -> Result<P::File, RunFau
 
 /// Opens the files of a graph and of questions, in this order.
 fn open_both<P: Places>(
-    places: &P,
+    places: &mut P,
     graph: &str,
     questions: &str,
 ) -> Result<(P::File, P::File), RunFault>
-    ensures graph { IfErr result (λ f. f.file ≢ File.Questions → f ≡ record { number = 1; file = File.Graph; line = 0 }) }
-    ensures questions { IfErr result (λ f. f.file ≡ File.Questions → f ≡ record { number = 1; file = File.Questions; line = 0 }) }
+    ensures order { OnOk result (OpensEach P.opens (graph.now ∷ questions.now ∷ []) places.old places.new) }
+    ensures unread { IfOk result (λ both. (P.File.asked both.0 ≡ 0) × (P.File.asked both.1 ≡ 0)) }
+    ensures missing { IfErr result (IsMissing P.opens graph.now questions.now places.old places.new) }
 {
-    let graph = open(places, graph, File::Graph)?;
-    let questions = open(places, questions, File::Questions)?;
-    Ok((graph, questions))
+    let first = open(places, graph, File::Graph)?;
+    let second = open(places, questions, File::Questions)?;
+    Ok((first, second))
 }
 
 /// Answers the questions of one file over the graph of another, and gives the exit status.
 pub fn solve_files<R: Threads + Wait + Sync, P: Places, W: RoadWrite, E: RoadWrite>(
     rt: &R,
     alloc: Global,
-    places: &P,
+    places: &mut P,
     chosen: Chosen,
     settings: &Settings,
     names: (&str, &str),
     out: &mut W,
     errors: &mut E,
-) -> u8 {
+) -> u8
+    ensures { SolvesFiles P.File P.opens chosen settings.now names.entry.0.now names.entry.1.now places.old places.new
+        (output W.written W.held W.failures out.old) (output W.written W.held W.failures out.new)
+        (output E.written E.held E.failures errors.old) (output E.written E.held E.failures errors.new) result }
+{
     let (mut graph, mut questions) = match open_both(places, names.0, names.1) {
         Ok(files) => files,
         Err(fault) => return report(errors, fault),
@@ -75,7 +84,11 @@ pub fn bundle_given<R: Threads + Wait + Sync, P: Places, W: RoadWrite, E: RoadWr
     settings: &Settings,
     out: &mut W,
     errors: &mut E,
-) -> u8 {
+) -> u8
+    ensures { BundlesGiven P.Given chosen settings.now places.now places.now
+        (output W.written W.held W.failures out.old) (output W.written W.held W.failures out.new)
+        (output E.written E.held E.failures errors.old) (output E.written E.held E.failures errors.new) result }
+{
     let mut text = places.given();
     bundle(rt, alloc, chosen, settings, &mut text, out, errors)
 }
@@ -84,12 +97,16 @@ pub fn bundle_given<R: Threads + Wait + Sync, P: Places, W: RoadWrite, E: RoadWr
 pub fn check_files<R: Threads + Sync, P: Places, W: RoadWrite, E: RoadWrite>(
     rt: &R,
     alloc: Global,
-    places: &P,
+    places: &mut P,
     names: (&str, &str, &str),
     limit: Option<u64>,
     out: &mut W,
     errors: &mut E,
-) -> u8 {
+) -> u8
+    ensures { ChecksFiles P.File P.opens limit names.entry.0.now names.entry.1.now names.entry.2.now places.old places.new
+        (output W.written W.held W.failures out.old) (output W.written W.held W.failures out.new)
+        (output E.written E.held E.failures errors.old) (output E.written E.held E.failures errors.new) result }
+{
     let (mut graph, mut questions) = match open_both(places, names.0, names.1) {
         Ok(files) => files,
         Err(fault) => return report(errors, fault),

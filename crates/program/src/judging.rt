@@ -1,12 +1,13 @@
 //! Judges answers, from bytes to a verdict.
-ghost use Rattle.std.specs.Prelude.{◌≡◌, ◌≢◌, ◌+◌, ◌≤◌, ◌<◌, ◌↔◌, ◌⊎◌, [], Err, IfOk, IfErr, OnOk};
-ghost use Rattle.std.specs.Io.KnownBytes.{Appends};
+ghost use Rattle.std.specs.Prelude.{◌≡◌, ◌≢◌, ◌+◌, ◌≤◌, ◌↔◌, ◌⊎◌, Err, IfOk, IfErr, OnOk};
 ghost use Rattle.road_files.specs.Asked.{AskWithin, asked_of};
 ghost use Rattle.path_algebra.specs.declared.name.AlgebraName.TheVariants.{Own};
 ghost use Rattle.answer_text.specs.Told.{told_list_of};
 ghost use Rattle.batch_run.specs.Ran.{IsGraphFault, IsQuestionsFault};
 ghost use Rattle.program.specs.Choices.{GoTogether, limit_of, name_of};
-ghost use Rattle.program.specs.Verdicts.{AreInputs, IsAnswersFault, IsJudged, IsLimitFault, IsOwnFault, IsVerdictUnder, IsReadingFault, verdict_text};
+ghost use Rattle.program.specs.Judgements.{RanCheck, RanJudge};
+ghost use Rattle.batch_run.specs.Runs.{input, output};
+ghost use Rattle.program.specs.Verdicts.{AreInputs, IsAnswersFault, IsVerdictUnder, IsReadingFault};
 
 use crate::chosen::{Chosen, choose, with_algebra};
 use crate::verdicts::tell;
@@ -86,6 +87,7 @@ fn read_inputs<G: RoadRead, Q: RoadRead, S: RoadRead>(
     ensures read_answers { (result ≡ Err (record { number = 1; file = File.Answers; line = 0 })) ↔ (S.failures answers_in.new ≢ S.failures answers_in.old) }
     ensures kinds { IfErr result IsReadingFault }
     ensures placed { IfErr result (λ f. f.number ≤ 3 → f.line ≡ 0) }
+    ensures last { IfErr result (λ f. (f.file ≡ File.Graph) ⊎ (f.file ≡ File.Questions) → answers_in.new ≡ answers_in.old) }
     ensures asked { G.asked graph_in.new ≤ G.asked graph_in.old + 4294967297 }
     ensures asked_questions { Q.asked questions_in.new ≤ Q.asked questions_in.old + 4294967297 }
     ensures asked_answers { S.asked answers_in.new ≤ S.asked answers_in.old + 4294967297 }
@@ -115,27 +117,19 @@ pub fn judge<R: Threads + Sync, G: RoadRead, Q: RoadRead, S: RoadRead>(
     answers_in: &mut S,
     limit: Option<u64>,
 ) -> Result<Verdict, RunFault>
-    ensures judged { IfOk result (IsJudged (G.left graph_in.old) (Q.left questions_in.old) (S.left answers_in.old) limit) }
-    ensures sound { OnOk result ((G.failures graph_in.new ≡ G.failures graph_in.old) × (Q.failures questions_in.new ≡ Q.failures questions_in.old) × (S.failures answers_in.new ≡ S.failures answers_in.old)) }
-
-    // Which fault is reported, and what stood in the inputs.
-    ensures graph { IfErr result (λ f. f.file ≡ File.Graph → IsGraphFault (G.left graph_in.old) f) }
-    ensures questions { IfErr result (λ f. f.file ≡ File.Questions → IsQuestionsFault (G.left graph_in.old) (Q.left questions_in.old) f) }
-    ensures answers { IfErr result (λ f. f.file ≡ File.Answers → IsAnswersFault (G.left graph_in.old) (Q.left questions_in.old) (S.left answers_in.old) f ⊎ IsOwnFault (G.left graph_in.old) (Q.left questions_in.old) (S.left answers_in.old) f) }
-    ensures limit { IfErr result (λ f. f.number ≡ 43 → IsLimitFault (G.left graph_in.old) (Q.left questions_in.old) (S.left answers_in.old) limit) }
-    ensures read_graph { (result ≡ Err (record { number = 1; file = File.Graph; line = 0 })) ↔ (G.failures graph_in.new ≢ G.failures graph_in.old) }
-    ensures read_questions { (result ≡ Err (record { number = 1; file = File.Questions; line = 0 })) ↔ (Q.failures questions_in.new ≢ Q.failures questions_in.old) }
-    ensures read_answers { (result ≡ Err (record { number = 1; file = File.Answers; line = 0 })) ↔ (S.failures answers_in.new ≢ S.failures answers_in.old) }
-    ensures kinds { IfErr result (λ f. IsReadingFault f ⊎ ((f.file ≡ File.NoFile) × (f.line ≡ 0) × ((f.number ≡ 3) ⊎ (f.number ≡ 43)))) }
-    ensures placed { IfErr result (λ f. f.number ≤ 3 → f.line ≡ 0) }
-
-    // What is asked of the inputs.
-    ensures asked { G.asked graph_in.new ≤ G.asked graph_in.old + 4294967297 }
-    ensures asked_questions { Q.asked questions_in.new ≤ Q.asked questions_in.old + 4294967297 }
-    ensures asked_answers { S.asked answers_in.new ≤ S.asked answers_in.old + 4294967297 }
+    ensures { RanJudge limit
+        (input G.left G.failures G.asked graph_in.old) (input G.left G.failures G.asked graph_in.new)
+        (input Q.left Q.failures Q.asked questions_in.old) (input Q.left Q.failures Q.asked questions_in.new)
+        (input S.left S.failures S.asked answers_in.old) (input S.left S.failures S.asked answers_in.new) result }
 {
-    let inputs = read_inputs(alloc, graph_in, questions_in, answers_in)?;
-    let chosen = algebra_named(inputs.answers.name, limit)?;
+    let inputs = match read_inputs(alloc, graph_in, questions_in, answers_in) {
+        Ok(inputs) => inputs,
+        Err(fault) => return Err(fault),
+    };
+    let chosen = match algebra_named(inputs.answers.name, limit) {
+        Ok(chosen) => chosen,
+        Err(fault) => return Err(fault),
+    };
     match judge_under(
         rt,
         alloc,
@@ -165,28 +159,11 @@ pub(crate) fn judge_and_tell<
     limit: Option<u64>,
     out: &mut W,
 ) -> Result<Verdict, RunFault>
-    ensures judged { IfOk result (IsJudged (G.left graph_in.old) (Q.left questions_in.old) (S.left answers_in.old) limit) }
-    ensures told { IfOk result (λ verdict. Appends (W.written out.old) (W.written out.new) (verdict_text verdict)) }
-    ensures passed_on { OnOk result (W.held out.new ≡ []) }
-    ensures sound { OnOk result ((G.failures graph_in.new ≡ G.failures graph_in.old) × (Q.failures questions_in.new ≡ Q.failures questions_in.old) × (S.failures answers_in.new ≡ S.failures answers_in.old) × (W.failures out.new ≡ W.failures out.old)) }
-
-    // Which fault is reported, and what stood in the inputs.
-    ensures graph { IfErr result (λ f. f.file ≡ File.Graph → IsGraphFault (G.left graph_in.old) f) }
-    ensures questions { IfErr result (λ f. f.file ≡ File.Questions → IsQuestionsFault (G.left graph_in.old) (Q.left questions_in.old) f) }
-    ensures answers { IfErr result (λ f. f.file ≡ File.Answers → IsAnswersFault (G.left graph_in.old) (Q.left questions_in.old) (S.left answers_in.old) f ⊎ IsOwnFault (G.left graph_in.old) (Q.left questions_in.old) (S.left answers_in.old) f) }
-    ensures limit { IfErr result (λ f. f.number ≡ 43 → IsLimitFault (G.left graph_in.old) (Q.left questions_in.old) (S.left answers_in.old) limit) }
-    ensures read_graph { (result ≡ Err (record { number = 1; file = File.Graph; line = 0 })) ↔ (G.failures graph_in.new ≢ G.failures graph_in.old) }
-    ensures read_questions { (result ≡ Err (record { number = 1; file = File.Questions; line = 0 })) ↔ (Q.failures questions_in.new ≢ Q.failures questions_in.old) }
-    ensures read_answers { (result ≡ Err (record { number = 1; file = File.Answers; line = 0 })) ↔ (S.failures answers_in.new ≢ S.failures answers_in.old) }
-    ensures write { IfErr result (λ f. f.number ≡ 42 → W.failures out.old < W.failures out.new) }
-    ensures unwritten { IfErr result (λ f. f.number ≢ 42 → out.new ≡ out.old) }
-    ensures kinds { IfErr result (λ f. IsReadingFault f ⊎ ((f.file ≡ File.NoFile) × (f.line ≡ 0) × ((f.number ≡ 3) ⊎ ((f.number ≡ 42) ⊎ (f.number ≡ 43))))) }
-    ensures placed { IfErr result (λ f. f.number ≤ 3 → f.line ≡ 0) }
-
-    // What is asked of the inputs.
-    ensures asked { G.asked graph_in.new ≤ G.asked graph_in.old + 4294967297 }
-    ensures asked_questions { Q.asked questions_in.new ≤ Q.asked questions_in.old + 4294967297 }
-    ensures asked_answers { S.asked answers_in.new ≤ S.asked answers_in.old + 4294967297 }
+    ensures { RanCheck limit
+        (input G.left G.failures G.asked graph_in.old) (input G.left G.failures G.asked graph_in.new)
+        (input Q.left Q.failures Q.asked questions_in.old) (input Q.left Q.failures Q.asked questions_in.new)
+        (input S.left S.failures S.asked answers_in.old) (input S.left S.failures S.asked answers_in.new)
+        (output W.written W.held W.failures out.old) (output W.written W.held W.failures out.new) result }
 {
     let verdict = match judge(rt, alloc, graph_in, questions_in, answers_in, limit) {
         Ok(verdict) => verdict,

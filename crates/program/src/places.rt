@@ -1,4 +1,6 @@
 //! Where the words of a command line lead: files by their names, and standard input.
+ghost use Rattle.std.specs.Prelude.{◌≡◌, ℕ, List, IfOk};
+
 use road_text::{Plain, ReadFailed, RoadRead};
 use std::fs;
 use std::rt::Files;
@@ -11,11 +13,17 @@ pub trait Places {
     /// Standard input.
     type Given: RoadRead + Drop;
 
-    /// Opens the file of a name.
-    fn open(&self, path: &str) -> Result<Self::File, ReadFailed>;
+    // That trying to open the file of this name, once, leads from the first state to the second, where these tell it.
+    ghost opens: { Self → List ℕ → Self → Type 0 } = { λ _ _ _. Unit {0} };
 
-    /// Standard input.
-    fn given(&self) -> Self::Given;
+    /// Opens the file of a name. Nothing has been read of it.
+    fn open(&mut self, path: &str) -> Result<Self::File, ReadFailed>
+        ensures opens { opens self.old path.now self.new }
+        ensures unread { IfOk result (λ file. Self.File.asked file ≡ 0) };
+
+    /// Standard input. Nothing has been read of it.
+    fn given(&self) -> Self::Given
+        ensures unread { Self.Given.asked result ≡ 0 };
 }
 
 /// The files and the standard input of the system.
@@ -29,7 +37,7 @@ impl<R: Files + Input> Places for HostPlaces<'_, R> {
 
     type Given = Plain<R::Reader>;
 
-    fn open(&self, path: &str) -> Result<Plain<R::File>, ReadFailed> {
+    fn open(&mut self, path: &str) -> Result<Plain<R::File>, ReadFailed> {
         match fs::File::open(self.rt, path) {
             Ok(file) => Ok(Plain::new(file)),
             Err(_) => Err(ReadFailed),

@@ -1,6 +1,6 @@
 //! How a fault is reported: its line, and the exit status.
 ghost use Rattle.std.specs.Prelude.{◌≡◌};
-ghost use Rattle.program.specs.Reports.{EndsAs, IsReported, fault_text, status_of};
+ghost use Rattle.program.specs.Reports.{EndsAs, ReportsFault, fault_text, status_of};
 
 use batch_run::RunFault;
 use road_text::{Line, RoadWrite, push_number, write_bytes};
@@ -36,8 +36,7 @@ pub(crate) fn status_of(number: u8) -> u8
 
 /// Writes the line of a fault, and gives the exit status. Where the line cannot be written, the status stays.
 pub fn report<E: RoadWrite>(errors: &mut E, fault: RunFault) -> u8
-    ensures status { result ≡ status_of fault.number }
-    ensures reported { IsReported (E.written errors.old) (E.written errors.new) (E.failures errors.old) (E.failures errors.new) (fault_text fault) }
+    ensures { ReportsFault fault (E.written errors.old) (E.written errors.new) (E.failures errors.old) (E.failures errors.new) result }
 {
     let _ = write_bytes(errors, line_of_fault(fault).as_str().as_bytes());
     status_of(fault.number)

@@ -1,14 +1,18 @@
 //! Does what the words of a command line say.
-ghost use Rattle.std.specs.Prelude.{◌≡◌, Some, IfOk, IfErr, OnErr};
+ghost use Rattle.std.specs.Prelude.{◌≡◌, [], Some, IfOk, IfErr, OnErr};
+ghost use Rattle.clap.specs.Values.{kind_of};
 ghost use Rattle.path_algebra.specs.Names.{name_of_text};
 ghost use Rattle.program.specs.Choices.{CannotBe, limit_of, name_of};
+ghost use Rattle.program.specs.Files.{BundlesGiven, SolvesFiles};
+ghost use Rattle.program.specs.Jobs.{Chooses, Complains, DoesJob, DoesWords, IsSaid, Reaches};
+ghost use Rattle.batch_run.specs.Runs.{output};
 
 use crate::chosen::{Chosen, choose};
 use crate::jobs::{bundle_given, check_files, solve_files};
 use crate::options::{Job, Wanted, read_job};
 use crate::places::{HostPlaces, Places};
-use crate::reports::report;
-use batch_run::{File, RunFault, SETTINGS, fault_of_run};
+use crate::reports::{end_with, report};
+use batch_run::{File, RunFault, SETTINGS, WRITE, fault_of_run};
 use clap::Error;
 use clap::error::ErrorKind;
 use path_algebra::AlgebraName;
@@ -26,13 +30,38 @@ const USAGE: u8 = 2;
 /// What is said of a command line that is no text.
 const NO_TEXT: &[u8] = b"error: a word of the command line is no text\n";
 
+/// Writes a text on the output, and passes it on.
+fn show<W: RoadWrite>(out: &mut W, text: &[u8]) -> Result<(), RunFault>
+    ensures { Reaches text.now (output W.written W.held W.failures out.old) (output W.written W.held W.failures out.new) result }
+{
+    match write_bytes(out, text) {
+        Ok(()) => match out.flush() {
+            Ok(()) => Ok(()),
+            Err(_) => Err(fault_of_run(WRITE)),
+        },
+        Err(_) => Err(fault_of_run(WRITE)),
+    }
+}
+
+/// Says on the error output what is wrong with a command line, and gives its status.
+fn complain<E: RoadWrite>(errors: &mut E, text: &[u8]) -> u8
+    ensures { Complains text.now (output E.written E.held E.failures errors.old) (output E.written E.held E.failures errors.new) result }
+{
+    let _ = write_bytes(errors, text);
+    USAGE
+}
+
 /// Writes what the command line's parser says: help on the output, a usage fault on the error output.
 fn usage<W: RoadWrite, E: RoadWrite>(
     alloc: Global,
     error: &Error,
     out: &mut W,
     errors: &mut E,
-) -> u8 {
+) -> u8
+    ensures { IsSaid (kind_of error.now)
+        (output W.written W.held W.failures out.old) (output W.written W.held W.failures out.new)
+        (output E.written E.held E.failures errors.old) (output E.written E.held E.failures errors.new) result }
+{
     if error.kind() == ErrorKind::OutOfMemory {
         return report(errors, fault_of_run(MEMORY));
     }
@@ -41,12 +70,10 @@ fn usage<W: RoadWrite, E: RoadWrite>(
     };
     let text = text.as_str().as_bytes();
     if error.use_stderr() {
-        let _ = write_bytes(errors, text);
-        return USAGE;
+        return complain(errors, text);
     }
-    let _ = write_bytes(out, text);
-    let _ = out.flush();
-    0
+    let outcome = show(out, text);
+    end_with(errors, outcome)
 }
 
 /// The algebra that is wanted: a fault where its limit is missing, or does not belong.
@@ -65,47 +92,89 @@ pub fn algebra_of(wanted: &Wanted<'_>) -> Result<Chosen, RunFault>
     }
 }
 
+/// Solves as it is wanted, and gives the exit status.
+fn solve_wanted<R: AllocGlobal + Threads + Wait + Sync, P: Places, W: RoadWrite, E: RoadWrite>(
+    rt: &R,
+    places: &mut P,
+    names: (&str, &str),
+    wanted: &Wanted<'_>,
+    out: &mut W,
+    errors: &mut E,
+) -> u8
+    ensures { Chooses (name_of_text wanted.now.algebra.now) wanted.now.limit
+        (λ chosen. SolvesFiles P.File P.opens chosen wanted.now.settings names.entry.0.now names.entry.1.now places.old places.new
+        (output W.written W.held W.failures out.old) (output W.written W.held W.failures out.new)
+        (output E.written E.held E.failures errors.old) (output E.written E.held E.failures errors.new) result)
+        places.old places.new
+        (output W.written W.held W.failures out.old) (output W.written W.held W.failures out.new)
+        (output E.written E.held E.failures errors.old) (output E.written E.held E.failures errors.new) result }
+{
+    let chosen = match algebra_of(wanted) {
+        Ok(chosen) => chosen,
+        Err(fault) => return report(errors, fault),
+    };
+    solve_files(
+        rt,
+        rt.alloc(),
+        places,
+        chosen,
+        &wanted.settings,
+        names,
+        out,
+        errors,
+    )
+}
+
+/// Answers the bundle on standard input as it is wanted, and gives the exit status.
+fn bundle_wanted<R: AllocGlobal + Threads + Wait + Sync, P: Places, W: RoadWrite, E: RoadWrite>(
+    rt: &R,
+    places: &P,
+    wanted: &Wanted<'_>,
+    out: &mut W,
+    errors: &mut E,
+) -> u8
+    ensures { Chooses (name_of_text wanted.now.algebra.now) wanted.now.limit
+        (λ chosen. BundlesGiven P.Given chosen wanted.now.settings places.now places.now
+        (output W.written W.held W.failures out.old) (output W.written W.held W.failures out.new)
+        (output E.written E.held E.failures errors.old) (output E.written E.held E.failures errors.new) result)
+        places.now places.now
+        (output W.written W.held W.failures out.old) (output W.written W.held W.failures out.new)
+        (output E.written E.held E.failures errors.old) (output E.written E.held E.failures errors.new) result }
+{
+    let chosen = match algebra_of(wanted) {
+        Ok(chosen) => chosen,
+        Err(fault) => return report(errors, fault),
+    };
+    bundle_given(
+        rt,
+        rt.alloc(),
+        places,
+        chosen,
+        &wanted.settings,
+        out,
+        errors,
+    )
+}
+
 /// Does a job, and gives the exit status.
 fn perform<R: AllocGlobal + Threads + Wait + Sync, P: Places, W: RoadWrite, E: RoadWrite>(
     rt: &R,
-    places: &P,
+    places: &mut P,
     job: &Job<'_>,
     out: &mut W,
     errors: &mut E,
-) -> u8 {
+) -> u8
+    ensures { DoesJob P.File P.Given P.opens job.now places.old places.new
+        (output W.written W.held W.failures out.old) (output W.written W.held W.failures out.new)
+        (output E.written E.held E.failures errors.old) (output E.written E.held E.failures errors.new) result }
+{
     match job {
         Job::Solve {
             graph,
             questions,
             wanted,
-        } => match algebra_of(wanted) {
-            Ok(chosen) => {
-                let names = (*graph, *questions);
-                solve_files(
-                    rt,
-                    rt.alloc(),
-                    places,
-                    chosen,
-                    &wanted.settings,
-                    names,
-                    out,
-                    errors,
-                )
-            }
-            Err(fault) => report(errors, fault),
-        },
-        Job::Bundle { wanted } => match algebra_of(wanted) {
-            Ok(chosen) => bundle_given(
-                rt,
-                rt.alloc(),
-                places,
-                chosen,
-                &wanted.settings,
-                out,
-                errors,
-            ),
-            Err(fault) => report(errors, fault),
-        },
+        } => solve_wanted(rt, places, (*graph, *questions), wanted, out, errors),
+        Job::Bundle { wanted } => bundle_wanted(rt, places, wanted, out, errors),
         Job::Check {
             graph,
             questions,
@@ -121,11 +190,15 @@ fn perform<R: AllocGlobal + Threads + Wait + Sync, P: Places, W: RoadWrite, E: R
 /// Does what the words of a command line say, the program's own first, and gives the exit status.
 pub fn run_words<R: AllocGlobal + Threads + Wait + Sync, P: Places, W: RoadWrite, E: RoadWrite>(
     rt: &R,
-    places: &P,
+    places: &mut P,
     words: &[String],
     out: &mut W,
     errors: &mut E,
-) -> u8 {
+) -> u8
+    ensures { DoesWords P.File P.Given P.opens places.old places.new
+        (output W.written W.held W.failures out.old) (output W.written W.held W.failures out.new)
+        (output E.written E.held E.failures errors.old) (output E.written E.held E.failures errors.new) result }
+{
     match read_job(rt.alloc(), words) {
         Ok(Some(job)) => perform(rt, places, &job, out, errors),
         Ok(None) => USAGE,
@@ -144,12 +217,14 @@ where
             if error.kind() == io::ErrorKind::OutOfMemory {
                 return report(errors, fault_of_run(MEMORY));
             }
-            let _ = write_bytes(errors, NO_TEXT);
-            return USAGE;
+            return complain(errors, NO_TEXT);
         }
     };
     match words {
-        Ok(words) => run_words(rt, &HostPlaces { rt }, words.as_slice(), out, errors),
+        Ok(words) => {
+            let mut places = HostPlaces { rt };
+            run_words(rt, &mut places, words.as_slice(), out, errors)
+        }
         Err(_) => report(errors, fault_of_run(MEMORY)),
     }
 }

@@ -1,14 +1,15 @@
-use Rattle.std.proofs.Common.{arith, ◌≡◌, IfSome, Ok, None, subst}
+use Rattle.std.proofs.Common.{arith, None, subst}
 use Rattle.std.proofs.lemmas.Grind.{common_steps}
-use Rattle.road_text.specs.Rules.{text_read}
 use Rattle.road_files.specs.Asked.{asked_of}
 use Rattle.road_files.specs.QuestionFiles.{question_rules}
+use Rattle.batch_run.specs.Ran.{IsReadAs}
 use Rattle.batch_run.proofs.run.read_pair.Goals as goal
 
 pub returns-in-Ok-read_questions-clause-read : goal.returns-in-Ok-read_questions-clause-read
 returns-in-Ok-read_questions-clause-read g c = record {
-  graph_is = c.in-Ok.ensures.value;
-  questions_are = subst (λ n. IfSome (g.Q.RoadRead.left c.args.questions_in.now) (λ b. text_read (question_rules n None) b ≡ Ok (asked_of c.in-Ok-read_questions.questions))) c.vertices.ensures.count c.in-Ok-read_questions.ensures.reads.value;
+  graph_is = record { told = c.in-Ok.ensures.value; some_text = c.in-Ok.ensures.some_text };
+  questions_are = subst (λ n. IsReadAs (question_rules n None) (g.Q.RoadRead.left c.args.questions_in.now) (asked_of c.in-Ok-read_questions.questions)) c.vertices.ensures.count
+      (record { told = c.in-Ok-read_questions.ensures.reads.value; some_text = c.in-Ok-read_questions.ensures.reads.some_text });
 }
 
 pub returns-in-Err-clause-questions : goal.returns-in-Err-clause-questions

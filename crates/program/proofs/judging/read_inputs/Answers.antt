@@ -1,10 +1,11 @@
-use Rattle.std.proofs.Common.{◌≡◌, IfSome, Ok, Err, subst, arith}
+use Rattle.std.proofs.Common.{◌≡◌, IfSome, Err, subst, arith}
 use Rattle.std.proofs.lemmas.Grind.{common_steps}
 use Rattle.std.proofs.Math.Path.{subst⁻¹}
 use Rattle.road_text.specs.Rules.{text_read}
 use Rattle.road_files.specs.Asked.{asked_of}
 use Rattle.answer_text.specs.AnswerFiles.{answer_rules}
 use Rattle.answer_text.specs.Told.{told_list_of}
+use Rattle.batch_run.specs.Ran.{IsReadAs}
 use Rattle.program.specs.Verdicts.{IsAnswersFault}
 use Rattle.program.proofs.judging.read_inputs.Goals as goal
 
@@ -12,7 +13,8 @@ pub returns-in-Ok-read_answers-clause-read : goal.returns-in-Ok-read_answers-cla
 returns-in-Ok-read_answers-clause-read g c = record {
   graph_is = c.in-Ok.ensures.read.graph_is;
   questions_are = c.in-Ok.ensures.read.questions_are;
-  answers_are = subst (λ n. IfSome (g.S.RoadRead.left c.args.answers_in.now) (λ b. text_read (answer_rules n) b ≡ Ok (told_list_of c.in-Ok-read_answers.answers))) c.vertices.ensures.count c.in-Ok-read_answers.ensures.value;
+  answers_are = subst (λ n. IsReadAs (answer_rules n) (g.S.RoadRead.left c.args.answers_in.now) (told_list_of c.in-Ok-read_answers.answers)) c.vertices.ensures.count
+      (record { told = c.in-Ok-read_answers.ensures.value; some_text = c.in-Ok-read_answers.ensures.some_text });
 }
 
 pub returns-in-Err-read_answers-clause-answers : goal.returns-in-Err-read_answers-clause-answers

@@ -2,5 +2,5 @@ use Rattle.std.proofs.Common.{◌∙◌}
 use Rattle.program.proofs.Told.{wrote_reported}
 use Rattle.program.proofs.reports.report.Goals as goal
 
-pub returns-clause-reported : goal.returns-clause-reported
-returns-clause-reported g c = wrote_reported _ _ _ _ _ _ (c.as_bytes.ensures.value ∙ c.as_str.ensures.value ∙ c.line_of_fault.ensures) c.write_bytes.result c.write_bytes.ensures
+pub returns : goal.returns
+returns g c = (c.status_of.ensures, wrote_reported _ _ _ _ _ _ (c.as_bytes.ensures.value ∙ c.as_str.ensures.value ∙ c.line_of_fault.ensures) c.write_bytes.result c.write_bytes.ensures)

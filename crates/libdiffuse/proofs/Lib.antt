@@ -1,0 +1,3 @@
+mod Filling
+pub mod Telling
+pub mod Values

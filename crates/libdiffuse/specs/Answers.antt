@@ -1,0 +1,58 @@
+-- What a status tells, and what is told beside it.
+use Rattle.std.specs.Prelude.{◌≡◌, ℕ, ◌+◌, ◌<◌, ◌⊎◌, [], ◌∷◌, List, ℤ, pos, length, take, Option, Some, None}
+use Rattle.road_graph.specs.Roads.{Roads, IsRoads, HasVertex}
+use Rattle.path_algebra.specs.Algebra.{Algebra}
+use Rattle.path_algebra.specs.Walks.{IsBestCode, AreHops, IsUnreached}
+use Rattle.libdiffuse.specs.Lent.{lent}
+use Rattle.libdiffuse.specs.declared.DiffuseArc.{DiffuseArc}
+use Rattle.route_tree.specs.Told.{IsParentRoute}
+
+-- the status is one of these
+abbrev pub IsOneOf : List ℕ → ℤ → Type 0
+IsOneOf [] status = ⊥
+IsOneOf (n ∷ ns) status = (status ≡ pos n) ⊎ IsOneOf ns status
+
+-- there are more vertices or arcs than a graph may have
+abbrev pub IsTooLarge : ℕ → List DiffuseArc → Type 0
+IsTooLarge vertices arcs = (33554432 < vertices) ⊎ (134217728 < length arcs)
+
+-- why no graph was made: there was no memory, too much was lent, or an arc has an end that is no vertex
+pub record IsFault (vertices : ℕ) (arcs : List DiffuseArc) (status : ℤ) : Type 0 where
+  pub one_of : IsOneOf (3 ∷ 16 ∷ 17 ∷ []) status
+  pub limit : status ≡ pos 16 → IsTooLarge vertices arcs
+  pub bad : status ≡ pos 17 → IsRoads (lent vertices arcs) → ⊥
+
+-- what holds of the graph that a handle has, if it has one
+abbrev pub OfGraph : Option Roads → (Roads → Type 0) → Type 0
+OfGraph None P = Unit {0}
+OfGraph (Some g) P = P g
+
+-- each list has a place for each of n vertices
+abbrev pub HavePlaces : ℕ → List ℕ → List ℕ → List ℕ → Type 0
+HavePlaces n codes hops parents = (length codes ≡ n) × (length hops ≡ n) × (length parents ≡ n)
+
+-- both are vertices
+abbrev pub HasBoth : Roads → ℕ → ℕ → Type 0
+HasBoth g source target = HasVertex g source × HasVertex g target
+
+-- there is a walk: the route is told, or is longer than the room for it
+abbrev pub IsFound : ℤ → Type 0
+IsFound status = (status ≡ pos 0) ⊎ (status ≡ pos 2)
+
+-- no walk from the source to the target has a value
+pub record IsNoRoute {V : Type 0} (A : Algebra V) (g : Roads) (source target : ℕ) : Type 0 where
+  pub unreached : IsUnreached A g (source ∷ []) target
+
+-- the code of the best value from a source to a target, the least hops, and the route by least parents, of that length
+pub record IsRouteFound {V : Type 0} (A : Algebra V) (g : Roads) (source target code hops : ℕ) (route : List ℕ) : Type 0 where
+  pub best : IsBestCode A g (source ∷ []) target code
+  pub near : AreHops A g (source ∷ []) target hops
+  pub parents : IsParentRoute A g (source ∷ []) target route
+  pub count : length route ≡ hops + 1
+
+-- what the status of a route tells, and what stands in the caller's places then
+pub record TellsRoute {V : Type 0} (A : Algebra V) (g : Roads) (source target : ℕ) (status : ℤ) (code hops : ℕ) (room : List ℕ) : Type 0 where
+  pub best : IsFound status → IsBestCode A g (source ∷ []) target code
+  pub near : IsFound status → AreHops A g (source ∷ []) target hops
+  pub route : status ≡ pos 0 → IsParentRoute A g (source ∷ []) target (take (hops + 1) room)
+  pub none : status ≡ pos 1 → IsNoRoute A g source target

@@ -1,0 +1,5 @@
+pub mod Answers
+pub mod Choice
+pub mod Holding
+pub mod Lent
+pub mod Tree

@@ -1,0 +1,63 @@
+//! A graph behind a pointer that C keeps.
+
+ghost use Rattle.std.specs.Prelude.{◌≡◌, Option, Some, None, true};
+ghost use Rattle.std.specs.Arc.{arc_value};
+ghost use Rattle.road_graph.specs.Roads.{Roads};
+ghost use Rattle.libdiffuse.specs.Holding.{has_graph};
+
+use crate::loose::Loose;
+use road_graph::Graph;
+use std::alloc::Global;
+use std::marker::{Model, Send};
+use std::ptr::null_mut;
+use std::sync::Arc;
+
+/// Nothing, or an owner of a graph in a block of the heap. It cannot be dropped, so the owner is not lost.
+#[repr(C)]
+pub struct Held {
+    at: *mut u8,
+    pub ghost roads: { Option Roads },
+}
+
+impl Model for Held {
+    ghost use Rattle.libdiffuse.specs.Holding.{held_at};
+
+    ghost also_owns = { λ h. held_at h.at h.roads };
+}
+
+// What it owns may go to another thread, and so may a handle of it.
+unsafe impl Send for Held {}
+
+/// Holds nothing.
+pub(crate) fn nothing() -> Held
+    ensures { result.roads ≡ None }
+{
+    Held { at: null_mut() }
+}
+
+/// Holds an owner of a graph.
+pub(crate) fn hold(owner: Loose<Arc<Graph>, Global>) -> Held
+    ensures { result.roads ≡ Some (arc_value owner.value) }
+{
+    let Loose { at, alloc: _ } = owner;
+    Held { at: at as *mut u8 }
+}
+
+/// Hands the owner back.
+pub(crate) fn release(alloc: Global, held: Held) -> Loose<Arc<Graph>, Global>
+    requires { has_graph held.roads ≡ true }
+    ensures { held.roads ≡ Some (arc_value result.value) }
+{
+    let Held { at } = held;
+    Loose {
+        at: at as *mut Arc<Graph>,
+        alloc,
+    }
+}
+
+/// Lets go of what holds nothing.
+pub(crate) fn discard(held: Held)
+    requires { held.roads ≡ None }
+{
+    let Held { at: _ } = held;
+}

@@ -1,0 +1,124 @@
+//! A route that is told through what the caller lends.
+
+ghost use Rattle.std.specs.Prelude.{◌≡◌, ◌≤◌, ◌<◌, ◌+◌, ◌∷◌, [], length, take, pos, IfOk, MatchOption};
+ghost use Rattle.road_graph.specs.Roads.{HasVertex};
+ghost use Rattle.libdiffuse.specs.Answers.{IsFound, IsOneOf, IsNoRoute, IsRouteFound, TellsRoute, HasBoth};
+ghost use Rattle.libdiffuse.specs.Choice.{IsAlgebra, OfAlgebra};
+
+use crate::choice::with_algebra;
+use crate::status::{DONE, MEMORY, NO_ALGEBRA, NO_ROOM, NO_ROUTE, NO_VERTEX};
+use path_algebra::PathAlgebra;
+use path_plain::solve_one;
+use road_graph::{Graph, Memory, Vertex};
+use route_tree::{PairRoute, route_between};
+use std::alloc::Global;
+
+/// The best code and the route; none if no walk to the target has a value.
+fn find<A: PathAlgebra>(
+    alloc: Global,
+    algebra: A,
+    graph: &Graph,
+    source: Vertex,
+    target: Vertex,
+) -> Result<Option<(u64, PairRoute)>, Memory>
+    requires source { HasVertex graph.now source }
+    requires target { HasVertex graph.now target }
+    ensures { IfOk result (λ o. MatchOption o (IsNoRoute (A.meaning algebra) graph.now source target)
+        (λ r. IsRouteFound (A.meaning algebra) graph.now source target r.0 r.1.hops r.1.vertices.items)) }
+{
+    let _n = graph.vertices();
+    let labels = solve_one(alloc, algebra, graph, source)?;
+    let Some(route) = route_between(alloc, algebra, graph, source, target, &labels)? else {
+        return Ok(None);
+    };
+    match labels.of(target) {
+        Some(value) => Ok(Some((algebra.code(value), route))),
+        None => Ok(None),
+    }
+}
+
+/// Copies the vertices of a route into the room.
+fn copy(list: &[Vertex], room: &mut [u32])
+    requires { length list.now ≤ length room.old }
+    ensures { take (length list.now) room.new ≡ list.now }
+{
+    for i in 0..list.len() {
+        let v = list[i];
+        room[i] = v.0;
+    }
+}
+
+/// Tells a route, if the room is long enough.
+fn tell(route: &PairRoute, room: &mut [u32]) -> i32
+    requires { length route.now.vertices.items ≡ route.now.hops + 1 }
+    ensures found { IsFound result }
+    ensures route { result ≡ pos 0 → take (route.now.hops + 1) room.new ≡ route.now.vertices.items }
+    ensures short { result ≡ pos 2 → length room.old < route.now.hops + 1 }
+    ensures kept { result ≡ pos 2 → room.new ≡ room.old }
+{
+    if room.len() < route.vertices.len() {
+        return NO_ROOM;
+    }
+    copy(&route.vertices, room);
+    DONE
+}
+
+/// Finds a route and tells it.
+fn answer<A: PathAlgebra>(
+    alloc: Global,
+    algebra: A,
+    graph: &Graph,
+    source: Vertex,
+    target: Vertex,
+    code: &mut u64,
+    hops: &mut u32,
+    room: &mut [u32],
+) -> i32
+    requires { HasBoth graph.now source target }
+    ensures tells { TellsRoute (A.meaning algebra) graph.now source target result code.new hops.new room.new }
+    ensures short { result ≡ pos 2 → length room.old < hops.new + 1 }
+    ensures room { (result ≡ pos 0 → ⊥) → room.new ≡ room.old }
+    ensures places { (IsFound result → ⊥) → (code.new ≡ code.old) × (hops.new ≡ hops.old) }
+    ensures status { IsOneOf (0 ∷ 1 ∷ 2 ∷ 3 ∷ []) result }
+{
+    match find(alloc, algebra, graph, source, target) {
+        Ok(Some((value, route))) => {
+            *code = value;
+            *hops = route.hops;
+            tell(&route, room)
+        }
+        Ok(None) => NO_ROUTE,
+        Err(Memory) => MEMORY,
+    }
+}
+
+/// Finds a route by the algebra of a number and tells it, if there is such an algebra and both are vertices.
+pub(crate) fn answer_by(
+    alloc: Global,
+    number: u32,
+    limit: u64,
+    graph: &Graph,
+    source: Vertex,
+    target: Vertex,
+    code: &mut u64,
+    hops: &mut u32,
+    room: &mut [u32],
+) -> i32
+    ensures tells { OfAlgebra number limit (λ V A. TellsRoute A graph.now source target result code.new hops.new room.new) }
+    ensures short { result ≡ pos 2 → length room.old < hops.new + 1 }
+    ensures room { (result ≡ pos 0 → ⊥) → room.new ≡ room.old }
+    ensures places { (IsFound result → ⊥) → (code.new ≡ code.old) × (hops.new ≡ hops.old) }
+    ensures vertex { result ≡ pos 17 → HasBoth graph.now source target → ⊥ }
+    ensures algebra { result ≡ pos 43 → IsAlgebra number limit → ⊥ }
+    ensures status { IsOneOf (0 ∷ 1 ∷ 2 ∷ 3 ∷ 17 ∷ 43 ∷ []) result }
+{
+    if !graph.has(source) || !graph.has(target) {
+        return NO_VERTEX;
+    }
+    with_algebra!(
+        number,
+        limit,
+        NO_ALGEBRA,
+        |algebra| answer(alloc, algebra, graph, source, target, code, hops, room)
+    )
+}

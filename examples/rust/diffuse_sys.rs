@@ -1,0 +1,44 @@
+//! The C interface, as `include/diffuse.h` has it.
+
+#[repr(C)]
+#[derive(Clone, Copy)]
+pub struct Arc {
+    pub tail: u32,
+    pub head: u32,
+    pub weight: u32,
+}
+
+#[repr(C)]
+pub struct Handle {
+    pub at: *mut u8,
+    pub is_open: bool,
+}
+
+unsafe extern "C" {
+    pub fn diffuse_graph_open(vertices: u32, arcs: *const Arc, n_arcs: usize, graph: *mut Handle) -> i32;
+    pub fn diffuse_graph_close(graph: *mut Handle);
+    pub fn diffuse_graph_route(
+        graph: *mut Handle,
+        algebra: u32,
+        limit: u64,
+        source: u32,
+        target: u32,
+        code: *mut u64,
+        hops: *mut u32,
+        room: *mut u32,
+        n_room: usize,
+    ) -> i32;
+    pub fn diffuse_graph_tree(
+        graph: *mut Handle,
+        algebra: u32,
+        limit: u64,
+        sources: *const u32,
+        n_sources: usize,
+        codes: *mut u64,
+        n_codes: usize,
+        hops: *mut u32,
+        n_hops: usize,
+        parents: *mut u32,
+        n_parents: usize,
+    ) -> i32;
+}

@@ -16,7 +16,7 @@ class Case:
 
     def __init__(self, files, kind):
         self.files, self.kind = files, kind
-        self.taken, self.told = {}, {}
+        self.taken, self.noted = {}, {}
 
     def title(self):
         return "%s, %s" % (self.files.name, self.kind)
@@ -31,7 +31,7 @@ class Case:
         turn %= len(commands)
         answers = {name: os.path.join(folder, name + ".answer") for name, _ in commands}
         for name, command in commands[turn:] + commands[:turn]:
-            taken, self.told[name] = measured(programs["measure"], command, answers[name])
+            taken, self.noted[name] = measured(programs["measure"], command, answers[name])
             self.taken.setdefault(name, []).append(taken)
         for name in answers:
             if name not in ("diffuse", PEER):
@@ -43,7 +43,7 @@ class Case:
         return statistics.median(taken[what] for taken in self.taken[name])
 
     def ratios(self, other, what):
-        """What diffuse took for one that the other took in the same round; none where the other did not run."""
+        """What diffuse took for one that the other took in the same round; none if the other did not run."""
         return [ours[what] / theirs[what] for ours, theirs in zip(self.taken["diffuse"], self.taken.get(other, []))]
 
 
@@ -101,7 +101,7 @@ class Engine(Case):
 
     def messages(self):
         """How many messages the plain C++ program handled in the last round: with one worker, just those of diffuse."""
-        return int(self.told[DIFFUSING])
+        return int(self.noted[DIFFUSING])
 
 
 def messages_needed(programs, files, messages):
@@ -126,15 +126,15 @@ def measured(measure, command, answer):
 
 
 def check_launcher(measure):
-    """Stops where the peak that is told of a small program counts what this script holds."""
+    """Stops if the peak of a small program counts what this script holds."""
     ballast = b"\1" * (200 << 20)
     peak = measured(measure, ["/bin/true"], os.devnull)[0][PEAK]
     if peak * 10 > len(ballast):
-        stop("the launcher tells a peak of %d bytes for /bin/true, so its figures of memory are wrong" % peak)
+        stop("the launcher reports a peak of %d bytes for /bin/true, so its figures of memory are wrong" % peak)
 
 
 def compare(title, ours, theirs):
-    """Stops where two answers differ in a byte, and leaves both."""
+    """Stops if two answers differ in a byte, and leaves both."""
     filecmp.clear_cache()
     if filecmp.cmp(ours, theirs, shallow=False):
         return

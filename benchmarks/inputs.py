@@ -16,7 +16,7 @@ def stop(message):
     sys.exit("benchmarks/run: " + message)
 
 
-def tell(message):
+def note(message):
     print(message, file=sys.stderr, flush=True)
 
 
@@ -37,7 +37,7 @@ def build(folder):
     for name in SOURCES:
         source, paths[name] = os.path.join(HERE, name + ".cpp"), os.path.join(folder, name)
         if not (is_newer(paths[name], source) and is_newer(paths[name], common)):
-            tell("building " + name)
+            note("building " + name)
             subprocess.run([compiler(), "-O2", "-std=c++17", "-pthread", "-o", paths[name], source], check=True)
     return paths
 
@@ -100,11 +100,11 @@ class Roads(Files):
 
     def write(self, path, roads, words):
         if not is_newer(path, roads):
-            tell("making " + os.path.basename(path))
+            note("making " + os.path.basename(path))
             write_by([roads] + words, path)
 
     def mark(self):
-        """The same graph with the line `n SOURCE`, by which LEMON is told where to begin."""
+        """The same graph with the line `n SOURCE`, by which LEMON knows where to begin."""
         with open(self.one_source) as questions:
             source = [line.split()[1] for line in questions if line.startswith("s ")][0]
         with open(self.graph, "rb") as graph, open(self.marked + ".part", "wb") as marked:
@@ -128,7 +128,7 @@ class Shape(Files):
     def make(self, folder):
         self.at(os.path.join(folder, "%s_%d" % (self.shape.__name__, self.size)))
         if not is_newer(self.graph, __file__):
-            tell("making " + os.path.basename(self.graph))
+            note("making " + os.path.basename(self.graph))
             arcs = self.shape(self.size)[2]
             write_lines(self.lines(arcs), self.graph)
             write_lines(["p aux sp ss 1\n", "s 1\n"], self.one_source)
@@ -145,7 +145,7 @@ def star(leaves):
 
 
 def chain(length):
-    """Arcs one behind the other."""
+    """Arcs one after the other."""
     return length + 1, length, ((v, v + 1, v % 1009) for v in range(1, length + 1))
 
 

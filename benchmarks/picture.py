@@ -3,7 +3,7 @@ import math
 
 from cases import BASELINE, DIFFUSING, TIME, WALL
 
-# The batch of the plain solver that stands beside the workers.
+# The batch of the plain solver that is drawn beside the workers.
 FIVE_IN_TURN = "five sources", 1
 
 INK, PALE = "#222222", "#dddddd"

@@ -6,13 +6,16 @@ from cases import BASELINE, DIFFUSING, TIME, WALL
 # The batch of the plain solver that is drawn beside the workers.
 FIVE_IN_TURN = "five sources", 1
 
+# Where the entries of the list of inks begin.
+LEGEND = 75, 245, 480, 660
+
 INK, PALE = "#222222", "#dddddd"
 WORKERS, SAME_RULE, PLAIN, HEAP = ("#c02a1b", "diffuse, workers"), ("#e09a2b", "the same rule in plain C++"), (
     "#1b5fc0", "diffuse --plain"), ("#3a8f3a", "baseline")
 
 
 def text(x, y, words, ink=INK, size=13, anchor="middle"):
-    return ('<text x="%.0f" y="%.0f" fill="%s" font-size="%d" text-anchor="%s" dominant-baseline="middle">%s</text>'
+    return ('<text x="%.0f" y="%.0f" dy="0.35em" fill="%s" font-size="%d" text-anchor="%s">%s</text>'
             % (x, y, ink, size, anchor, words))
 
 
@@ -99,8 +102,7 @@ def by_vertices(plan):
 def picture(plan):
     """Both panels, with one list of what the inks mean."""
     body = by_workers(plan).drawn() + by_vertices(plan).drawn()
-    for k, (ink, words) in enumerate((WORKERS, SAME_RULE, PLAIN, HEAP)):
-        x = 60 + 195 * k
+    for (ink, words), x in zip((WORKERS, SAME_RULE, PLAIN, HEAP), LEGEND):
         body += [line(x, 345, x + 22, 345, ink, 3), text(x + 28, 345, words, anchor="start")]
     return ('<svg xmlns="http://www.w3.org/2000/svg" viewBox="0 0 830 370" width="830" height="370" font-family="sans-serif">\n'
             '<rect width="830" height="370" fill="white"/>\n' + "\n".join(body) + "\n</svg>\n")

@@ -2,9 +2,10 @@
 
    What each call promises is proved of the library itself; docs/EMBEDDING.md says what that means, and what a caller owes.
 
-   A caller owes: each pointer is valid for so many elements; the places of one call do not overlap; a handle began as
-   DIFFUSE_CLOSED and was changed by these calls alone; no copy of it is used; one call at a time has it. A handle may go
-   from one thread to another. For calls at one time, give each thread a handle of its own by diffuse_graph_share. */
+   A caller owes: each pointer is valid for as many elements as the number after it says, and is not null even for none; the
+   places of one call do not overlap; a handle began as DIFFUSE_CLOSED, which is all zero, and was changed by these calls
+   alone; no copy of it is used; one call at a time has it. A handle may go from one thread to another. For calls at one
+   time, give each thread a handle of its own by diffuse_graph_share. */
 #ifndef DIFFUSE_H
 #define DIFFUSE_H
 #include <stdbool.h>
@@ -23,47 +24,84 @@ struct diffuse_graph {
 };
 #define DIFFUSE_CLOSED { NULL, false }
 
-#if !defined(__cplusplus) && __STDC_VERSION__ >= 201112L
-_Static_assert(sizeof(struct diffuse_arc) == 12, "an arc is three numbers of 32 bits");
-_Static_assert(offsetof(struct diffuse_arc, head) == 4, "the head is the second of them");
-_Static_assert(offsetof(struct diffuse_arc, weight) == 8, "the weight is the third of them");
-_Static_assert(sizeof(struct diffuse_graph) == 16, "a handle is two words of 64 bits");
-_Static_assert(offsetof(struct diffuse_graph, is_open) == 8, "whether it is open is in the second");
+#if defined(__cplusplus)
+#define DIFFUSE_ASSERT static_assert
+#elif __STDC_VERSION__ >= 201112L
+#define DIFFUSE_ASSERT _Static_assert
+#endif
+#ifdef DIFFUSE_ASSERT
+DIFFUSE_ASSERT(sizeof(void *) == 8 && sizeof(size_t) == 8, "pointers and lengths have 64 bits");
+DIFFUSE_ASSERT(sizeof(bool) == 1, "a truth value is one byte");
+DIFFUSE_ASSERT(sizeof(struct diffuse_arc) == 12, "an arc is three numbers of 32 bits");
+DIFFUSE_ASSERT(offsetof(struct diffuse_arc, tail) == 0, "the tail is the first of them");
+DIFFUSE_ASSERT(offsetof(struct diffuse_arc, head) == 4, "the head is the second");
+DIFFUSE_ASSERT(offsetof(struct diffuse_arc, weight) == 8, "the weight is the third");
+DIFFUSE_ASSERT(sizeof(struct diffuse_graph) == 16, "a handle is two words of 64 bits");
+DIFFUSE_ASSERT(offsetof(struct diffuse_graph, at) == 0, "a pointer is the first of them");
+DIFFUSE_ASSERT(offsetof(struct diffuse_graph, is_open) == 8, "whether it is open is in the second");
+#undef DIFFUSE_ASSERT
 #endif
 
-/* What a call answers. After every one but DIFFUSE_DONE and DIFFUSE_NO_ROOM nothing was written, and the handle is as it was. */
+/* What a call answers. A call answers no other status than is listed with it.
+
+   After DIFFUSE_DONE the answer is written. After a refusal the handle is as it was and nothing is written but what tells the
+   refusal: code and hops of a route that found too little room, vertex and reason of a wrong tree, the line of a faulty text. */
 enum diffuse_status {
     DIFFUSE_DONE = 0,
-    DIFFUSE_NO_ROUTE = 1,    /* no walk that has a value leads from the source to the target */
-    DIFFUSE_NO_ROOM = 2,     /* the room for a route is too short; or a list has not just one place for each vertex */
-    DIFFUSE_MEMORY = 3,      /* out of memory */
-    DIFFUSE_IS_CLOSED = 4,   /* the handle has no graph */
-    DIFFUSE_IS_OPEN = 5,     /* the handle that was to be opened has a graph already */
-    DIFFUSE_LIMIT = 16,      /* more than 2^25 vertices or 2^27 arcs */
-    DIFFUSE_NO_VERTEX = 17,  /* a source, a target or an end of an arc is no vertex of the graph */
-    DIFFUSE_NO_ALGEBRA = 43  /* there is no such algebra, or its limit is above 2^63 */
+    DIFFUSE_NO_ROUTE = 1,        /* no walk that has a value leads from the source to the target */
+    DIFFUSE_NO_ROOM = 2,         /* route: the route is longer than the room for it; tree and check: a list has not just one
+                                    place for each vertex; read: the text is longer than 2^32 bytes */
+    DIFFUSE_MEMORY = 3,          /* out of memory */
+    DIFFUSE_IS_CLOSED = 4,       /* the handle has no graph */
+    DIFFUSE_IS_OPEN = 5,         /* the handle that was to be opened has a graph already */
+    DIFFUSE_WRONG = 6,           /* check: the lists are not the tree */
+    DIFFUSE_NO_PROBLEM = 10,     /* read: a line before the problem line, or no problem line */
+    DIFFUSE_SECOND_PROBLEM = 11, /* read: a second problem line */
+    DIFFUSE_BAD_PROBLEM = 12,    /* read: a problem line that is not `p sp VERTICES ARCS` */
+    DIFFUSE_UNKNOWN_LINE = 13,   /* read: a line that begins with none of c, p and a */
+    DIFFUSE_FIELDS = 14,         /* read: an arc line with another number of fields than four */
+    DIFFUSE_NOT_A_NUMBER = 15,   /* read: a field that is no number where one belongs */
+    DIFFUSE_LIMIT = 16,          /* open: more than 2^25 vertices or 2^27 arcs; read: a number above its limit */
+    DIFFUSE_NO_VERTEX = 17,      /* a source, a target or an end of an arc is no vertex of the graph */
+    DIFFUSE_TOO_MANY = 18,       /* read: more arc lines than announced */
+    DIFFUSE_TOO_FEW = 19,        /* read: fewer arc lines than announced */
+    DIFFUSE_NO_ALGEBRA = 43      /* there is no such algebra, or its limit is above 2^63 */
 };
 
-/* What is best, and what a code is. */
+/* What is best, and what a code is. The limit of a call is read by DIFFUSE_WITHIN alone. */
 enum diffuse_algebra {
-    DIFFUSE_SHORTEST = 0,    /* the least sum of weights; the code is the sum, at most 2^63 */
-    DIFFUSE_WIDEST = 1,      /* the greatest least weight; the code is that weight, and 2^32 at a source */
-    DIFFUSE_REACH = 2,       /* any walk; the code is 0 */
-    DIFFUSE_HOPS = 3,        /* the fewest arcs; the code is their number */
-    DIFFUSE_RELIABLE = 4,    /* the greatest product of weights in parts of 10^6; the code is in parts of 10^12 */
-    DIFFUSE_WITHIN = 5       /* the least sum of weights up to the limit; the code is the sum. The others have no limit */
+    DIFFUSE_SHORTEST = 0, /* the least sum of weights; the code is the sum, in the unit of the weights, at most 2^63 */
+    DIFFUSE_WIDEST = 1,   /* the greatest least weight; the code is that weight, and 2^32 at a source */
+    DIFFUSE_REACH = 2,    /* any walk; the code is 0 */
+    DIFFUSE_HOPS = 3,     /* the fewest arcs; the code is their number */
+    DIFFUSE_RELIABLE = 4, /* the greatest product of probabilities; a weight is in millionths, the code in parts of 10^12 */
+    DIFFUSE_WITHIN = 5    /* the least sum of weights that is at most the limit; the code is the sum */
 };
 
-/* The code of a vertex to which no walk that has a value leads. */
+/* Why the line of a vertex, which is its code, hops and parent, is wrong: the numbers of the program's checker. */
+enum diffuse_reason {
+    DIFFUSE_NOT_A_SOURCE_LINE = 1, /* a source has not the code of no arcs, 0 hops and parent 0 */
+    DIFFUSE_NOT_BEST = 2,          /* an arc gives a better value */
+    DIFFUSE_NO_PARENT = 3,         /* the code is that of no value, or the parent does not give this value */
+    DIFFUSE_OTHER_HOPS = 4,        /* the hops are not one more than the parent's, or a vertex gives the value with fewer */
+    DIFFUSE_LESSER_PARENT = 5,     /* a lesser vertex could be the parent */
+    DIFFUSE_HAS_WALK = 6           /* the vertex is told to be unreached, and an arc gives it a value */
+};
+
+/* The code of a vertex to which no walk that has a value leads; its hops and its parent are 0. */
 #define DIFFUSE_UNREACHED UINT64_MAX
 
 #ifdef __cplusplus
 extern "C" {
 #endif
 
-/* Opens a closed handle with the graph of these arcs, which may be changed or freed afterwards.
-   0, 3, 5, 16 or 17. */
+/* Opens a closed handle with the graph of these arcs, which may be changed or freed afterwards. 0, 3, 5, 16 or 17. */
 int32_t diffuse_graph_open(uint32_t vertices, const struct diffuse_arc *arcs, size_t n_arcs, struct diffuse_graph *graph);
+
+/* Opens a closed handle with the graph of a .gr text of the 9th DIMACS challenge, which may be changed or freed afterwards.
+   If the text has a fault, the status is the number of the first one, and *line its line, counted from 1, or 0 for
+   DIFFUSE_NO_ROOM. 0, 2, 3, 5 or 10 to 19. */
+int32_t diffuse_graph_read(const uint8_t *bytes, size_t n_bytes, struct diffuse_graph *graph, uint64_t *line);
 
 /* Opens a second, closed handle with the graph of an open one. 0, 3, 4 or 5. */
 int32_t diffuse_graph_share(struct diffuse_graph *graph, struct diffuse_graph *second);
@@ -86,6 +124,14 @@ int32_t diffuse_graph_route(struct diffuse_graph *graph, uint32_t algebra, uint6
 int32_t diffuse_graph_tree(struct diffuse_graph *graph, uint32_t algebra, uint64_t limit,
                            const uint32_t *sources, size_t n_sources, uint64_t *codes, size_t n_codes,
                            uint32_t *hops, size_t n_hops, uint32_t *parents, size_t n_parents);
+
+/* Whether these lists are what diffuse_graph_tree writes, by the same algebra, limit and sources. Nothing is solved: each line
+   is judged by those of the vertices that an arc leads from. If the lists are not the tree, the answer is DIFFUSE_WRONG; then
+   *vertex is the first vertex whose line the others refute, and *reason the first reason. 0, 2, 3, 4, 6, 17 or 43. */
+int32_t diffuse_graph_check(struct diffuse_graph *graph, uint32_t algebra, uint64_t limit,
+                            const uint32_t *sources, size_t n_sources, const uint64_t *codes, size_t n_codes,
+                            const uint32_t *hops, size_t n_hops, const uint32_t *parents, size_t n_parents,
+                            uint32_t *vertex, uint32_t *reason);
 
 /* The library's version: 10,000 times the first number, 100 times the second, and the third; 1.0.0 is 10000. */
 uint32_t diffuse_version(void);

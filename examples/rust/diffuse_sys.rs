@@ -16,7 +16,11 @@ pub struct Handle {
 
 unsafe extern "C" {
     pub fn diffuse_graph_open(vertices: u32, arcs: *const Arc, n_arcs: usize, graph: *mut Handle) -> i32;
+    pub fn diffuse_graph_read(bytes: *const u8, n_bytes: usize, graph: *mut Handle, line: *mut u64) -> i32;
+    pub fn diffuse_graph_share(graph: *mut Handle, second: *mut Handle) -> i32;
     pub fn diffuse_graph_close(graph: *mut Handle);
+    pub fn diffuse_graph_vertices(graph: *mut Handle) -> u32;
+    pub fn diffuse_graph_arcs(graph: *mut Handle) -> usize;
     pub fn diffuse_graph_route(
         graph: *mut Handle,
         algebra: u32,
@@ -41,4 +45,20 @@ unsafe extern "C" {
         parents: *mut u32,
         n_parents: usize,
     ) -> i32;
+    pub fn diffuse_graph_check(
+        graph: *mut Handle,
+        algebra: u32,
+        limit: u64,
+        sources: *const u32,
+        n_sources: usize,
+        codes: *const u64,
+        n_codes: usize,
+        hops: *const u32,
+        n_hops: usize,
+        parents: *const u32,
+        n_parents: usize,
+        vertex: *mut u32,
+        reason: *mut u32,
+    ) -> i32;
+    pub fn diffuse_version() -> u32;
 }

@@ -1,10 +1,10 @@
 -- What a status tells, and what is told beside it.
-use Rattle.std.specs.Prelude.{◌≡◌, ℕ, ◌+◌, ◌<◌, ◌⊎◌, [], ◌∷◌, List, ℤ, pos, length, take, Option, Some, None}
+use Rattle.std.specs.Prelude.{◌≡◌, ℕ, ◌+◌, ◌<◌, ◌⊎◌, ◌↔◌, [], ◌∷◌, List, ℤ, pos, length, take, Option, Some, None}
 use Rattle.road_graph.specs.Roads.{Roads, IsRoads, HasVertex}
 use Rattle.path_algebra.specs.Algebra.{Algebra}
 use Rattle.path_algebra.specs.Walks.{IsBestCode, AreHops, IsUnreached}
 use Rattle.libdiffuse.specs.Lent.{lent}
-use Rattle.libdiffuse.specs.declared.DiffuseArc.{DiffuseArc}
+use Rattle.libdiffuse.specs.declared.arcs.DiffuseArc.{DiffuseArc}
 use Rattle.route_tree.specs.Told.{IsParentRoute}
 
 -- the status is one of these
@@ -16,10 +16,15 @@ IsOneOf (n ∷ ns) status = (status ≡ pos n) ⊎ IsOneOf ns status
 abbrev pub IsTooLarge : ℕ → List DiffuseArc → Type 0
 IsTooLarge vertices arcs = (33554432 < vertices) ⊎ (134217728 < length arcs)
 
+-- a graph can be made: there are not too many of them, and each end of an arc is a vertex
+pub record Fits (vertices : ℕ) (arcs : List DiffuseArc) : Type 0 where
+  pub small : IsTooLarge vertices arcs → ⊥
+  pub roads : IsRoads (lent vertices arcs)
+
 -- why no graph was made: there was no memory, too much was lent, or an arc has an end that is no vertex
 pub record IsFault (vertices : ℕ) (arcs : List DiffuseArc) (status : ℤ) : Type 0 where
   pub one_of : IsOneOf (3 ∷ 16 ∷ 17 ∷ []) status
-  pub limit : status ≡ pos 16 → IsTooLarge vertices arcs
+  pub limit : (status ≡ pos 16) ↔ IsTooLarge vertices arcs
   pub bad : status ≡ pos 17 → IsRoads (lent vertices arcs) → ⊥
 
 -- what holds of the graph that a handle has, if it has one

@@ -2,7 +2,7 @@
 use Rattle.std.specs.Prelude.{ℕ, List, map}
 use Rattle.road_graph.specs.Roads.{Roads}
 use Rattle.road_graph.specs.declared.RoadArc.{RoadArc}
-use Rattle.libdiffuse.specs.declared.DiffuseArc.{DiffuseArc}
+use Rattle.libdiffuse.specs.declared.arcs.DiffuseArc.{DiffuseArc}
 
 -- the arc of the graph that a lent arc stands for
 abbrev pub road_of : DiffuseArc → RoadArc

@@ -1,6 +1,6 @@
 //! A route that is told through what the caller lends.
 
-ghost use Rattle.std.specs.Prelude.{◌≡◌, ◌≤◌, ◌<◌, ◌+◌, ◌∷◌, [], length, take, pos, IfOk, MatchOption};
+ghost use Rattle.std.specs.Prelude.{◌≡◌, ◌≤◌, ◌<◌, ◌+◌, ◌↔◌, ◌∷◌, [], length, take, pos, IfOk, MatchOption};
 ghost use Rattle.road_graph.specs.Roads.{HasVertex};
 ghost use Rattle.libdiffuse.specs.Answers.{IsFound, IsOneOf, IsNoRoute, IsRouteFound, TellsRoute, HasBoth};
 ghost use Rattle.libdiffuse.specs.Choice.{IsAlgebra, OfAlgebra};
@@ -54,6 +54,7 @@ fn tell(route: &PairRoute, room: &mut [u32]) -> i32
     ensures found { IsFound result }
     ensures route { result ≡ pos 0 → take (route.now.hops + 1) room.new ≡ route.now.vertices.items }
     ensures short { result ≡ pos 2 → length room.old < route.now.hops + 1 }
+    ensures long { result ≡ pos 0 → route.now.hops + 1 ≤ length room.old }
     ensures kept { result ≡ pos 2 → room.new ≡ room.old }
 {
     if room.len() < route.vertices.len() {
@@ -77,6 +78,7 @@ fn answer<A: PathAlgebra>(
     requires { HasBoth graph.now source target }
     ensures tells { TellsRoute (A.meaning algebra) graph.now source target result code.new hops.new room.new }
     ensures short { result ≡ pos 2 → length room.old < hops.new + 1 }
+    ensures long { result ≡ pos 0 → hops.new + 1 ≤ length room.old }
     ensures room { (result ≡ pos 0 → ⊥) → room.new ≡ room.old }
     ensures places { (IsFound result → ⊥) → (code.new ≡ code.old) × (hops.new ≡ hops.old) }
     ensures status { IsOneOf (0 ∷ 1 ∷ 2 ∷ 3 ∷ []) result }
@@ -106,10 +108,11 @@ pub(crate) fn answer_by(
 ) -> i32
     ensures tells { OfAlgebra number limit (λ V A. TellsRoute A graph.now source target result code.new hops.new room.new) }
     ensures short { result ≡ pos 2 → length room.old < hops.new + 1 }
+    ensures long { result ≡ pos 0 → hops.new + 1 ≤ length room.old }
     ensures room { (result ≡ pos 0 → ⊥) → room.new ≡ room.old }
     ensures places { (IsFound result → ⊥) → (code.new ≡ code.old) × (hops.new ≡ hops.old) }
-    ensures vertex { result ≡ pos 17 → HasBoth graph.now source target → ⊥ }
-    ensures algebra { result ≡ pos 43 → IsAlgebra number limit → ⊥ }
+    ensures vertex { (result ≡ pos 17) ↔ (HasBoth graph.now source target → ⊥) }
+    ensures algebra { (result ≡ pos 43) ↔ (HasBoth graph.now source target × (IsAlgebra number limit → ⊥)) }
     ensures status { IsOneOf (0 ∷ 1 ∷ 2 ∷ 3 ∷ 17 ∷ 43 ∷ []) result }
 {
     if !graph.has(source) || !graph.has(target) {

@@ -12,6 +12,8 @@ pub(crate) const MEMORY: i32 = 3;
 pub(crate) const CLOSED: i32 = 4;
 /// The handle has a graph already.
 pub(crate) const OPEN: i32 = 5;
+/// The lists do not tell the tree.
+pub(crate) const WRONG: i32 = 6;
 /// There are too many vertices or arcs.
 pub(crate) const LIMIT: i32 = 16;
 /// A vertex or an arc's end is out of range.

@@ -1,24 +1,24 @@
 //! A tree that is told in three lists of the caller's.
 
-ghost use Rattle.std.specs.Prelude.{◌≡◌, ◌∷◌, [], length, pos, OnOk, IfOk, IfErr, MatchOption, IfSome};
+ghost use Rattle.std.specs.Prelude.{◌≡◌, ◌∷◌, [], pos, IfOk};
 ghost use Rattle.std.specs.List.{All};
 ghost use Rattle.road_graph.specs.Roads.{HasVertex};
 ghost use Rattle.path_algebra.specs.Walks.{AreBest};
 ghost use Rattle.route_tree.specs.Tree.{IsTree};
+ghost use Rattle.answer_text.specs.IsAnswer.{IsLine};
 ghost use Rattle.libdiffuse.specs.Answers.{HavePlaces, IsOneOf};
-ghost use Rattle.libdiffuse.specs.Choice.{IsAlgebra, OfAlgebra};
-ghost use Rattle.libdiffuse.specs.Tree.{IsToldAt, IsToldTree, HasLowCodes, number_for, code_for};
+ghost use Rattle.libdiffuse.specs.Choice.{OfAlgebra};
+ghost use Rattle.libdiffuse.specs.Tree.{IsToldTree, TellsRefusals, HasLowCodes, line_of, number_for, code_for};
 
 use crate::choice::with_algebra;
+use crate::lines::NO_CODE;
+use crate::sources::{are_vertices, vertices_of};
 use crate::status::{DONE, MEMORY, NO_ALGEBRA, NO_ROOM, NO_VERTEX};
 use path_algebra::{Labels, PathAlgebra, laws_hold};
 use path_plain::solve_from;
 use road_graph::{Graph, Memory, Vertex};
 use route_tree::{Tree, labels_and_trees_agree, tree};
-use std::alloc::{AllocError, Global};
-
-/// What stands for a vertex without a value.
-const NO_CODE: u64 = u64::MAX;
+use std::alloc::Global;
 
 fn code_for<A: PathAlgebra>(algebra: A, value: Option<A::Value>) -> u64
     ensures { result ≡ code_for (A.meaning algebra) value }
@@ -60,7 +60,7 @@ fn numbers_of<A: PathAlgebra>(
     requires vertex { HasVertex graph.now v }
     requires best { AreBest (A.meaning algebra) graph.now sources.now labels.now }
     requires tree { IsTree (A.meaning algebra) graph.now sources.now tree.now }
-    ensures { IsToldAt (A.meaning algebra) graph.now sources.now v result.0 result.1 result.2 }
+    ensures { IsLine (A.meaning algebra) graph.now sources.now v (line_of result.0 result.1 result.2) }
 {
     let _n = graph.vertices();
     laws_hold(algebra);
@@ -120,7 +120,7 @@ fn answer<A: PathAlgebra>(
     alloc: Global,
     algebra: A,
     graph: &Graph,
-    sources: &[Vertex],
+    sources: &[u32],
     codes: &mut [u64],
     hops: &mut [u32],
     parents: &mut [u32],
@@ -132,69 +132,19 @@ fn answer<A: PathAlgebra>(
     ensures kept { (result ≡ pos 0 → ⊥) → (codes.new ≡ codes.old) × (hops.new ≡ hops.old) × (parents.new ≡ parents.old) }
     ensures status { IsOneOf (0 ∷ 3 ∷ []) result }
 {
-    match solve(alloc, algebra, graph, sources) {
+    let Ok(list) = vertices_of(alloc, sources) else {
+        return MEMORY;
+    };
+    match solve(alloc, algebra, graph, &list) {
         Ok((labels, tree)) => {
-            tell(
-                algebra, graph, sources, &labels, &tree, codes, hops, parents,
-            );
+            tell(algebra, graph, &list, &labels, &tree, codes, hops, parents);
             DONE
         }
         Err(Memory) => MEMORY,
     }
 }
 
-/// The vertices of these numbers; none if one is no vertex.
-fn vertices_of(
-    alloc: Global,
-    graph: &Graph,
-    numbers: &[u32],
-) -> Result<Option<Vec<Vertex>>, AllocError>
-    ensures list { IfOk result (λ o. IfSome o (λ list. list.items ≡ numbers.now)) }
-    ensures all { IfOk result (λ o. IfSome o (λ list. All (HasVertex graph.now) list.items)) }
-    ensures none { IfOk result (λ o. MatchOption o (All (HasVertex graph.now) numbers.now → ⊥) (λ _. Unit {0})) }
-{
-    let mut list = Vec::with_capacity(alloc, numbers.len())?;
-    for i in 0..numbers.len() {
-        let v = Vertex(numbers[i]);
-        if !graph.has(v) {
-            return Ok(None);
-        }
-        list.push(v)?;
-    }
-    Ok(Some(list))
-}
-
-/// Finds a tree by the algebra of a number and tells it, if each list has a place for each vertex and there is such an algebra.
-fn answer_by(
-    alloc: Global,
-    number: u32,
-    limit: u64,
-    graph: &Graph,
-    sources: &[Vertex],
-    codes: &mut [u64],
-    hops: &mut [u32],
-    parents: &mut [u32],
-) -> i32
-    requires sources { All (HasVertex graph.now) sources.now }
-    ensures tree { OfAlgebra number limit (λ V A. result ≡ pos 0 → IsToldTree A graph.now sources.now codes.new hops.new parents.new) }
-    ensures kept { (result ≡ pos 0 → ⊥) → (codes.new ≡ codes.old) × (hops.new ≡ hops.old) × (parents.new ≡ parents.old) }
-    ensures places { result ≡ pos 2 → HavePlaces graph.now.vertices codes.old hops.old parents.old → ⊥ }
-    ensures algebra { result ≡ pos 43 → IsAlgebra number limit → ⊥ }
-    ensures status { IsOneOf (0 ∷ 2 ∷ 3 ∷ 43 ∷ []) result }
-{
-    let n = graph.vertices() as usize;
-    if codes.len() != n || hops.len() != n || parents.len() != n {
-        return NO_ROOM;
-    }
-    with_algebra!(
-        number,
-        limit,
-        NO_ALGEBRA,
-        |algebra| answer(alloc, algebra, graph, sources, codes, hops, parents)
-    )
-}
-
-/// As `answer_by`, if each source is a vertex.
+/// Finds a tree by the algebra of a number and tells it, if each source is a vertex, each list has a place for each vertex and there is such an algebra.
 pub(crate) fn answer_tree(
     alloc: Global,
     number: u32,
@@ -207,14 +157,20 @@ pub(crate) fn answer_tree(
 ) -> i32
     ensures tree { OfAlgebra number limit (λ V A. result ≡ pos 0 → IsToldTree A graph.now sources.now codes.new hops.new parents.new) }
     ensures kept { (result ≡ pos 0 → ⊥) → (codes.new ≡ codes.old) × (hops.new ≡ hops.old) × (parents.new ≡ parents.old) }
-    ensures places { result ≡ pos 2 → HavePlaces graph.now.vertices codes.old hops.old parents.old → ⊥ }
-    ensures vertex { result ≡ pos 17 → All (HasVertex graph.now) sources.now → ⊥ }
-    ensures algebra { result ≡ pos 43 → IsAlgebra number limit → ⊥ }
+    ensures refusals { TellsRefusals graph.now number limit sources.now codes.old hops.old parents.old result }
     ensures status { IsOneOf (0 ∷ 2 ∷ 3 ∷ 17 ∷ 43 ∷ []) result }
 {
-    match vertices_of(alloc, graph, sources) {
-        Ok(Some(list)) => answer_by(alloc, number, limit, graph, &list, codes, hops, parents),
-        Ok(None) => NO_VERTEX,
-        Err(AllocError) => MEMORY,
+    if !are_vertices(graph, sources) {
+        return NO_VERTEX;
     }
+    let n = graph.vertices() as usize;
+    if codes.len() != n || hops.len() != n || parents.len() != n {
+        return NO_ROOM;
+    }
+    with_algebra!(
+        number,
+        limit,
+        NO_ALGEBRA,
+        |algebra| answer(alloc, algebra, graph, sources, codes, hops, parents)
+    )
 }

@@ -1,0 +1,109 @@
+//! The calls that open and close handles, and tell how large a graph is.
+
+ghost use Rattle.std.specs.Prelude.{◌≡◌, ◌≢◌, ◌↔◌, ◌∷◌, [], length, pos, MatchOption, Some, None, true};
+ghost use Rattle.road_graph.specs.Roads.{IsRoads};
+ghost use Rattle.libdiffuse.specs.Answers.{IsOneOf, IsTooLarge};
+ghost use Rattle.libdiffuse.specs.Holding.{has_graph};
+ghost use Rattle.libdiffuse.specs.Lent.{lent};
+
+use crate::arcs::DiffuseArc;
+use crate::handle::{DiffuseGraph, put, take};
+use crate::opening::owner_of;
+use crate::owners::another;
+use crate::status::{CLOSED, DONE, MEMORY, OPEN};
+use std::alloc::{AllocError, Global};
+
+/// Opens a closed handle with the graph of these arcs. They may be changed or freed afterwards.
+#[unsafe(no_mangle)]
+pub extern "C" fn diffuse_graph_open(
+    alloc: Global,
+    vertices: u32,
+    arcs: &[DiffuseArc],
+    handle: &mut DiffuseGraph,
+) -> i32
+    ensures graph { result ≡ pos 0 → handle.new.held.roads ≡ Some (lent vertices arcs.now) }
+    ensures kept { result ≢ pos 0 → handle.new.held.roads ≡ handle.old.held.roads }
+    ensures status { IsOneOf (0 ∷ 3 ∷ 5 ∷ 16 ∷ 17 ∷ []) result }
+    ensures open { (result ≡ pos 5) ↔ (has_graph handle.old.held.roads ≡ true) }
+    ensures limit { (result ≡ pos 16) ↔ ((handle.old.held.roads ≡ None) × IsTooLarge vertices arcs.now) }
+    ensures roads { result ≡ pos 0 → IsRoads (lent vertices arcs.now) }
+    ensures bad { result ≡ pos 17 → IsRoads (lent vertices arcs.now) → ⊥ }
+{
+    if handle.is_open {
+        return OPEN;
+    }
+    match owner_of(alloc, vertices, arcs) {
+        Ok(owner) => {
+            put(handle, owner);
+            DONE
+        }
+        Err(status) => status,
+    }
+}
+
+/// Opens a closed handle with the graph of an open one. Each may then be used on a thread of its own.
+#[unsafe(no_mangle)]
+pub extern "C" fn diffuse_graph_share(
+    alloc: Global,
+    handle: &mut DiffuseGraph,
+    second: &mut DiffuseGraph,
+) -> i32
+    ensures kept { handle.new.held.roads ≡ handle.old.held.roads }
+    ensures graph { result ≡ pos 0 → second.new.held.roads ≡ handle.old.held.roads }
+    ensures unchanged { result ≢ pos 0 → second.new.held.roads ≡ second.old.held.roads }
+    ensures status { IsOneOf (0 ∷ 3 ∷ 4 ∷ 5 ∷ []) result }
+    ensures open { (result ≡ pos 5) ↔ (has_graph second.old.held.roads ≡ true) }
+    ensures closed { (result ≡ pos 4) ↔ ((second.old.held.roads ≡ None) × (handle.old.held.roads ≡ None)) }
+{
+    if second.is_open {
+        return OPEN;
+    }
+    let Some(owner) = take(alloc, handle) else {
+        return CLOSED;
+    };
+    let status = match another(alloc, &owner) {
+        Ok(other) => {
+            put(second, other);
+            DONE
+        }
+        Err(AllocError) => MEMORY,
+    };
+    put(handle, owner);
+    status
+}
+
+/// Closes a handle. The graph is freed with the last handle that has it; a closed handle stays closed.
+#[unsafe(no_mangle)]
+pub extern "C" fn diffuse_graph_close(alloc: Global, handle: &mut DiffuseGraph)
+    ensures { handle.new.held.roads ≡ None }
+{
+    let _owner = take(alloc, handle);
+}
+
+/// How many vertices the graph of a handle has; 0 if it is closed.
+#[unsafe(no_mangle)]
+pub extern "C" fn diffuse_graph_vertices(alloc: Global, handle: &mut DiffuseGraph) -> u32
+    ensures kept { handle.new.held.roads ≡ handle.old.held.roads }
+    ensures count { MatchOption handle.old.held.roads (result ≡ 0) (λ g. result ≡ g.vertices) }
+{
+    let Some(owner) = take(alloc, handle) else {
+        return 0;
+    };
+    let count = owner.vertices();
+    put(handle, owner);
+    count
+}
+
+/// How many arcs the graph of a handle has; 0 if it is closed.
+#[unsafe(no_mangle)]
+pub extern "C" fn diffuse_graph_arcs(alloc: Global, handle: &mut DiffuseGraph) -> usize
+    ensures kept { handle.new.held.roads ≡ handle.old.held.roads }
+    ensures count { MatchOption handle.old.held.roads (result ≡ 0) (λ g. result ≡ length g.arcs) }
+{
+    let Some(owner) = take(alloc, handle) else {
+        return 0;
+    };
+    let count = owner.arcs();
+    put(handle, owner);
+    count
+}

@@ -1,0 +1,141 @@
+//! The check of a tree that is told in three lists.
+
+ghost use Rattle.std.specs.Prelude.{◌≡◌, ℕ, ◌≤◌, ◌∷◌, [], ◌↔◌, length, pos, All, Contains, IfOk, IsTrue, MatchOption};
+ghost use Rattle.road_graph.specs.Roads.{HasVertex};
+ghost use Rattle.path_algebra.specs.Walks.{is_marked};
+ghost use Rattle.answer_check.specs.Reasons.{reason_number};
+ghost use Rattle.libdiffuse.specs.Answers.{HavePlaces, IsOneOf};
+ghost use Rattle.libdiffuse.specs.Choice.{OfAlgebra};
+ghost use Rattle.libdiffuse.specs.Tree.{lines_of, IsToldTree, IsFirstWrong, IsFirstPlace, TellsRefusals};
+
+use crate::choice::with_algebra;
+use crate::sources::are_vertices;
+use crate::status::{DONE, MEMORY, NO_ALGEBRA, NO_ROOM, NO_VERTEX, WRONG};
+use crate::vertices::reason_at;
+use answer_check::Reason;
+use path_algebra::{PathAlgebra, laws_hold};
+use road_graph::{Graph, Vertex};
+use std::alloc::{AllocError, Global};
+
+/// A mark for each of n vertices that tells whether it is one of the sources.
+fn marks_of(alloc: Global, n: usize, sources: &[u32]) -> Result<Vec<bool>, AllocError>
+    requires { All (λ s. (1 ≤ s) × (s ≤ n)) sources.now }
+    ensures count { IfOk result (λ marks. length marks.items ≡ n) }
+    ensures marks { IfOk result (λ marks. (v : ℕ) → 1 ≤ v → v ≤ n → IsTrue (is_marked marks.items v) ↔ Contains sources.now v) }
+{
+    let mut marks = vec![in alloc; false; n]?;
+    for source in sources {
+        marks[*source as usize - 1] = true;
+    }
+    Ok(marks)
+}
+
+/// The first vertex whose line something speaks against, with the first reason, if marks tell the sources.
+fn first_place<A: PathAlgebra>(
+    algebra: A,
+    graph: &Graph,
+    codes: &[u64],
+    hops: &[u32],
+    parents: &[u32],
+    marks: &[bool],
+) -> Option<(Vertex, Reason)>
+    requires places { HavePlaces graph.now.vertices codes.now hops.now parents.now }
+    requires marks { length marks.now ≡ graph.now.vertices }
+    ensures { IsFirstPlace (A.meaning algebra) graph.now (lines_of codes.now hops.now parents.now) marks.now result }
+{
+    laws_hold(algebra);
+    let _n = graph.vertices();
+    for i in 0..marks.len() {
+        let v = Vertex(i as u32 + 1);
+        if let Some(reason) = reason_at(algebra, graph, codes, hops, parents, marks, v) {
+            return Some((v, reason));
+        }
+    }
+    None
+}
+
+/// The first wrong vertex, with the first reason; none if the lists tell the tree.
+fn judge<A: PathAlgebra>(
+    alloc: Global,
+    algebra: A,
+    graph: &Graph,
+    sources: &[u32],
+    codes: &[u64],
+    hops: &[u32],
+    parents: &[u32],
+) -> Result<Option<(Vertex, Reason)>, AllocError>
+    requires sources { All (HasVertex graph.now) sources.now }
+    requires places { HavePlaces graph.now.vertices codes.now hops.now parents.now }
+    ensures { IfOk result (λ o. MatchOption o (IsToldTree (A.meaning algebra) graph.now sources.now codes.now hops.now parents.now)
+        (λ p. IsFirstWrong (A.meaning algebra) graph.now sources.now codes.now hops.now parents.now p.0 (reason_number p.1))) }
+{
+    laws_hold(algebra);
+    let marks = marks_of(alloc, graph.vertices() as usize, sources)?;
+    Ok(first_place(algebra, graph, codes, hops, parents, &marks))
+}
+
+/// Judges a tree and tells where it is wrong.
+fn answer<A: PathAlgebra>(
+    alloc: Global,
+    algebra: A,
+    graph: &Graph,
+    sources: &[u32],
+    codes: &[u64],
+    hops: &[u32],
+    parents: &[u32],
+    vertex: &mut u32,
+    reason: &mut u32,
+) -> i32
+    requires sources { All (HasVertex graph.now) sources.now }
+    requires places { HavePlaces graph.now.vertices codes.now hops.now parents.now }
+    ensures right { result ≡ pos 0 → IsToldTree (A.meaning algebra) graph.now sources.now codes.now hops.now parents.now }
+    ensures wrong { result ≡ pos 6 → IsFirstWrong (A.meaning algebra) graph.now sources.now codes.now hops.now parents.now vertex.new reason.new }
+    ensures kept { (result ≡ pos 6 → ⊥) → (vertex.new ≡ vertex.old) × (reason.new ≡ reason.old) }
+    ensures status { IsOneOf (0 ∷ 3 ∷ 6 ∷ []) result }
+{
+    match judge(alloc, algebra, graph, sources, codes, hops, parents) {
+        Ok(None) => DONE,
+        Ok(Some((v, against))) => {
+            *vertex = v.0;
+            *reason = against.number();
+            WRONG
+        }
+        Err(AllocError) => MEMORY,
+    }
+}
+
+/// As `answer`, by the algebra of a number, if each source is a vertex, each list has a place for each vertex and there is such an algebra.
+pub(crate) fn check_tree(
+    alloc: Global,
+    number: u32,
+    limit: u64,
+    graph: &Graph,
+    sources: &[u32],
+    codes: &[u64],
+    hops: &[u32],
+    parents: &[u32],
+    vertex: &mut u32,
+    reason: &mut u32,
+) -> i32
+    ensures right { OfAlgebra number limit (λ V A. result ≡ pos 0 → IsToldTree A graph.now sources.now codes.now hops.now parents.now) }
+    ensures wrong { OfAlgebra number limit (λ V A. result ≡ pos 6 → IsFirstWrong A graph.now sources.now codes.now hops.now parents.now vertex.new reason.new) }
+    ensures kept { (result ≡ pos 6 → ⊥) → (vertex.new ≡ vertex.old) × (reason.new ≡ reason.old) }
+    ensures refusals { TellsRefusals graph.now number limit sources.now codes.now hops.now parents.now result }
+    ensures status { IsOneOf (0 ∷ 2 ∷ 3 ∷ 6 ∷ 17 ∷ 43 ∷ []) result }
+{
+    if !are_vertices(graph, sources) {
+        return NO_VERTEX;
+    }
+    let n = graph.vertices() as usize;
+    if codes.len() != n || hops.len() != n || parents.len() != n {
+        return NO_ROOM;
+    }
+    with_algebra!(
+        number,
+        limit,
+        NO_ALGEBRA,
+        |algebra| answer(
+            alloc, algebra, graph, sources, codes, hops, parents, vertex, reason
+        )
+    )
+}

@@ -1,0 +1,63 @@
+//! A graph that is made of lent arcs.
+
+ghost use Rattle.std.specs.Prelude.{◌≡◌, ◌≤◌, ◌∷◌, [], length, pos, IfOk, IfErr};
+ghost use Rattle.std.specs.Arc.{arc_value};
+ghost use Rattle.road_graph.specs.Roads.{IsRoads};
+ghost use Rattle.libdiffuse.specs.Answers.{Fits, IsFault, IsOneOf};
+ghost use Rattle.libdiffuse.specs.Lent.{lent};
+
+use crate::arcs::{DiffuseArc, roads_of};
+use crate::owners::owned;
+use crate::status::{LIMIT, MEMORY, NO_VERTEX};
+use road_graph::{Graph, GraphFault, RoadArc};
+use std::alloc::{AllocError, Global};
+use std::sync::Arc;
+
+fn new_graph(alloc: Global, vertices: u32, list: Vec<RoadArc>) -> Result<Graph, i32>
+    requires few_vertices { vertices ≤ 33554432 }
+    requires few_arcs { length list.items ≤ 134217728 }
+    ensures graph { IfOk result (λ g. g ≡ record { vertices = vertices; arcs = list.items }) }
+    ensures roads { IfOk result (λ g. IsRoads (record { vertices = vertices; arcs = list.items })) }
+    ensures status { IfErr result (λ n. IsOneOf (3 ∷ 17 ∷ []) n) }
+    ensures bad { IfErr result (λ n. n ≡ pos 17 → IsRoads (record { vertices = vertices; arcs = list.items }) → ⊥) }
+{
+    match Graph::new(alloc, vertices, list) {
+        Ok(graph) => {
+            let _n = graph.vertices();
+            Ok(graph)
+        }
+        Err((GraphFault::BadEnd(_), _)) => Err(NO_VERTEX),
+        Err((GraphFault::Memory, _)) => Err(MEMORY),
+    }
+}
+
+fn graph_of(alloc: Global, vertices: u32, arcs: &[DiffuseArc]) -> Result<Graph, i32>
+    ensures graph { IfOk result (λ g. g ≡ lent vertices arcs.now) }
+    ensures fits { IfOk result (λ g. Fits vertices arcs.now) }
+    ensures fault { IfErr result (λ n. IsFault vertices arcs.now n) }
+{
+    if vertices > 33_554_432 || arcs.len() > 134_217_728 {
+        return Err(LIMIT);
+    }
+    let Ok(list) = roads_of(alloc, arcs) else {
+        return Err(MEMORY);
+    };
+    new_graph(alloc, vertices, list)
+}
+
+/// An owner of the graph of these arcs, or the status that tells why there is none.
+pub(crate) fn owner_of(
+    alloc: Global,
+    vertices: u32,
+    arcs: &[DiffuseArc],
+) -> Result<Box<Arc<Graph>>, i32>
+    ensures graph { IfOk result (λ b. arc_value b.value ≡ lent vertices arcs.now) }
+    ensures fits { IfOk result (λ b. Fits vertices arcs.now) }
+    ensures fault { IfErr result (λ n. IsFault vertices arcs.now n) }
+{
+    let graph = graph_of(alloc, vertices, arcs)?;
+    match owned(alloc, graph) {
+        Ok(owner) => Ok(owner),
+        Err(AllocError) => Err(MEMORY),
+    }
+}

@@ -1,0 +1,113 @@
+//! A graph that is read from a text in memory.
+
+ghost use Rattle.std.specs.Prelude.{◌≡◌, ◌⊎◌, ◌≢◌, ◌↔◌, ◌∷◌, [], pos, true, Ok, Some, IfOk, IfErr};
+ghost use Rattle.std.specs.Arc.{arc_value};
+ghost use Rattle.road_text.specs.Rules.{text_read};
+ghost use Rattle.road_files.specs.GraphFiles.{gr_rules};
+ghost use Rattle.libdiffuse.specs.Answers.{IsOneOf};
+ghost use Rattle.libdiffuse.specs.Holding.{has_graph};
+ghost use Rattle.libdiffuse.specs.Texts.{IsGraphOf, IsFaultOf, IsFaultTold};
+
+use crate::handle::{DiffuseGraph, put};
+use crate::owners::owned;
+use crate::status::{DONE, MEMORY, OPEN};
+use ghost_count::Count;
+use road_files::read_gr;
+use road_graph::Graph;
+use road_text::{ReadFailed, ReadFault, RoadRead};
+use std::alloc::{AllocError, Global};
+use std::sync::Arc;
+
+/// Bytes in memory. No read of them fails.
+#[derive(Drop)]
+struct InMemory<'a> {
+    rest: &'a [u8],
+    reads: Count,
+}
+
+impl RoadRead for InMemory<'_> {
+    ghost left = { λ m. Some m.rest.now };
+
+    ghost failures = { λ _. 0 };
+
+    ghost asked = { λ m. m.reads.total };
+
+    fn read(&mut self, buf: &mut [u8]) -> Result<usize, ReadFailed> {
+        self.reads = self.reads.next();
+        let mut taken = self.rest.len();
+        if buf.len() < taken {
+            taken = buf.len();
+        }
+        let (front, rest) = self.rest.split_at(taken);
+        buf[..taken].copy_from_slice(front);
+        self.rest = rest;
+        Ok(taken)
+    }
+}
+
+/// The graph of a text.
+fn read_graph(alloc: Global, bytes: &[u8]) -> Result<Graph, ReadFault>
+    ensures graph { IfOk result (λ g. text_read gr_rules bytes.now ≡ Ok g) }
+    ensures fault { IfErr result (λ f. IsFaultOf bytes.now f) }
+{
+    let mut text = InMemory {
+        rest: bytes,
+        reads: Count::new(),
+    };
+    read_gr(alloc, &mut text)
+}
+
+/// An owner of the graph of a text, or why there is none.
+fn owner_read(alloc: Global, bytes: &[u8]) -> Result<Box<Arc<Graph>>, ReadFault>
+    ensures graph { IfOk result (λ b. text_read gr_rules bytes.now ≡ Ok (arc_value b.value)) }
+    ensures fault { IfErr result (λ f. IsFaultOf bytes.now f) }
+{
+    let graph = read_graph(alloc, bytes)?;
+    match owned(alloc, graph) {
+        Ok(owner) => Ok(owner),
+        Err(AllocError) => Err(ReadFault {
+            number: road_text::MEMORY,
+            line: 0,
+        }),
+    }
+}
+
+/// The status of a fault; one of the text tells its line too.
+fn tell_fault(fault: ReadFault, line: &mut u64) -> i32
+    ensures memory { fault.number ≡ 3 → (result ≡ pos 3) × (line.new ≡ line.old) }
+    ensures fault { fault.number ≢ 3 → (result ≡ pos fault.number) × (line.new ≡ fault.line) }
+{
+    if fault.number == road_text::MEMORY {
+        return MEMORY;
+    }
+    *line = fault.line;
+    i32::from(fault.number)
+}
+
+/// Opens a closed handle with the graph of a .gr text, which may be changed or freed afterwards.
+///
+/// If the text has a fault, the status is the number of the first one, and its line is told: from 1 on, or 0 if it is no line's.
+#[unsafe(no_mangle)]
+pub extern "C" fn diffuse_graph_read(
+    alloc: Global,
+    bytes: &[u8],
+    handle: &mut DiffuseGraph,
+    line: &mut u64,
+) -> i32
+    ensures graph { result ≡ pos 0 → IsGraphOf bytes.now handle.new.held.roads }
+    ensures kept { result ≢ pos 0 → handle.new.held.roads ≡ handle.old.held.roads }
+    ensures status { IsOneOf (0 ∷ 3 ∷ 5 ∷ []) result ⊎ IsFaultTold bytes.now result line.new }
+    ensures line { IsOneOf (0 ∷ 3 ∷ 5 ∷ []) result → line.new ≡ line.old }
+    ensures open { (result ≡ pos 5) ↔ (has_graph handle.old.held.roads ≡ true) }
+{
+    if handle.is_open {
+        return OPEN;
+    }
+    match owner_read(alloc, bytes) {
+        Ok(owner) => {
+            put(handle, owner);
+            DONE
+        }
+        Err(fault) => tell_fault(fault, line),
+    }
+}

@@ -1,0 +1,154 @@
+/* What other languages' callers cannot show: threads on one graph, refused memory, and graphs that are opened and closed.
+
+   Link with -Wl,--wrap=malloc,--wrap=realloc and -pthread. c_library beside this file says what each must print. */
+#include <diffuse.h>
+#include <malloc.h>
+#include <pthread.h>
+#include <stdio.h>
+#include <stdlib.h>
+#include <string.h>
+
+static const struct diffuse_arc ARCS[] = {{1, 2, 4}, {1, 3, 1}, {3, 2, 2}, {2, 4, 5}, {3, 4, 8}, {4, 4, 0}, {5, 1, 3}};
+static const char TEXT[] = "p sp 5 7\na 1 2 4\na 1 3 1\na 3 2 2\na 2 4 5\na 3 4 8\na 4 4 0\na 5 1 3\n";
+
+/* Growths of memory until one is refused; below 0 none is. */
+static long growths_left = -1;
+static int was_refused;
+
+void *__real_malloc(size_t);
+void *__real_realloc(void *, size_t);
+
+static int refused(void) {
+    if (growths_left < 0 || growths_left-- > 0) return 0;
+    return was_refused = 1;
+}
+
+void *__wrap_malloc(size_t n) { return refused() ? NULL : __real_malloc(n); }
+void *__wrap_realloc(void *p, size_t n) { return refused() ? NULL : __real_realloc(p, n); }
+
+/* All that calls write to. */
+struct places {
+    struct diffuse_graph graph, second;
+    uint64_t line, code, codes[5];
+    uint32_t length, route[5], hops[5], parents[5], vertex, reason;
+};
+
+static const uint32_t SOURCE = 1;
+
+enum call { OPEN, READ, SHARE, ROUTE, TREE, CHECK, CALLS };
+static const char *const NAMES[] = {"open", "read", "share", "route", "tree", "check"};
+
+static int32_t make(enum call call, struct places *p) {
+    switch (call) {
+    case OPEN: return diffuse_graph_open(5, ARCS, 7, &p->graph);
+    case READ: return diffuse_graph_read((const uint8_t *)TEXT, sizeof TEXT - 1, &p->graph, &p->line);
+    case SHARE: return diffuse_graph_share(&p->graph, &p->second);
+    case ROUTE: return diffuse_graph_route(&p->graph, DIFFUSE_SHORTEST, 0, 1, 4, &p->code, &p->length, p->route, 5);
+    case TREE: return diffuse_graph_tree(&p->graph, DIFFUSE_SHORTEST, 0, &SOURCE, 1, p->codes, 5, p->hops, 5, p->parents, 5);
+    default: return diffuse_graph_check(&p->graph, DIFFUSE_SHORTEST, 0, &SOURCE, 1, p->codes, 5, p->hops, 5, p->parents, 5,
+                                        &p->vertex, &p->reason);
+    }
+}
+
+/* Places as they are before a call: with an open graph unless the call opens it, and with a tree where one is checked. */
+static int begin(enum call call, struct places *p) {
+    *p = (struct places){.graph = DIFFUSE_CLOSED, .second = DIFFUSE_CLOSED, .line = 7, .code = 7, .length = 7, .vertex = 7};
+    if (call > READ && make(OPEN, p) != DIFFUSE_DONE) return 0;
+    return call != CHECK || make(TREE, p) == DIFFUSE_DONE;
+}
+
+static void end(struct places *p) {
+    diffuse_graph_close(&p->graph);
+    diffuse_graph_close(&p->second);
+}
+
+/* Whether a call left handles and places as they were. */
+static int is_same(const struct places *p, const struct places *before) {
+    return p->graph.at == before->graph.at && p->graph.is_open == before->graph.is_open
+        && p->second.at == before->second.at && p->second.is_open == before->second.is_open
+        && memcmp(&p->line, &before->line, sizeof *p - offsetof(struct places, line)) == 0;
+}
+
+/* Refuses the first growth of memory of a call, then the second and so on, until a call meets no refusal. A refused call must
+   leave all as it was, and the same call must succeed afterwards. Tells how many growths there are, or -1. */
+static long refuse(enum call call) {
+    for (long n = 0;; n++) {
+        struct places p, before;
+        if (!begin(call, &p)) return -1;
+        before = p;
+        was_refused = 0;
+        growths_left = n;
+        int32_t status = make(call, &p);
+        growths_left = -1;
+        if (status == DIFFUSE_MEMORY) {
+            if (!was_refused || !is_same(&p, &before)) return -1;
+            status = make(call, &p);
+        }
+        if (status != DIFFUSE_DONE) return -1;
+        end(&p);
+        if (!was_refused) return n;
+    }
+}
+
+static int refusals(void) {
+    int wrong = 0;
+    for (int call = OPEN; call < CALLS; call++) {
+        long growths = refuse(call);
+        printf("%s %s\n", NAMES[call], growths > 0 ? "refused" : "wrong");
+        wrong |= growths <= 0;
+    }
+    return wrong;
+}
+
+/* Each answer of a thread that has a graph of its own handle. */
+static void *ask(void *at) {
+    struct places p = {.graph = *(struct diffuse_graph *)at, .second = DIFFUSE_CLOSED};
+    long right = 0;
+    for (int i = 0; i < 1000; i++) {
+        int done = make(ROUTE, &p) == DIFFUSE_DONE && make(TREE, &p) == DIFFUSE_DONE && make(CHECK, &p) == DIFFUSE_DONE;
+        right += done && p.code == 8 && p.length == 3 && p.codes[1] == 3 && p.parents[3] == 2;
+    }
+    end(&p);
+    return (void *)right;
+}
+
+static int threads(void) {
+    struct diffuse_graph graph = DIFFUSE_CLOSED, each[4] = {DIFFUSE_CLOSED, DIFFUSE_CLOSED, DIFFUSE_CLOSED, DIFFUSE_CLOSED};
+    pthread_t started[4];
+    void *right;
+    if (diffuse_graph_open(5, ARCS, 7, &graph) != DIFFUSE_DONE) return 1;
+    for (int i = 0; i < 4; i++) {
+        if (diffuse_graph_share(&graph, &each[i]) != DIFFUSE_DONE) return 1;
+        if (pthread_create(&started[i], NULL, ask, &each[i]) != 0) return 1;
+    }
+    diffuse_graph_close(&graph); /* the threads keep the graph */
+    for (int i = 0; i < 4; i++) {
+        pthread_join(started[i], &right);
+        printf("%ld\n", (long)right);
+    }
+    return 0;
+}
+
+/* Opens and closes so many graphs and tells how many bytes more are in use at the end than after the first. */
+static int opens(long count) {
+    size_t first = 0, in_use = 0;
+    for (long i = 0; i < count; i++) {
+        struct places p;
+        if (!begin(i % 2 ? READ : CHECK, &p)) return 1;
+        if (i % 2 && make(READ, &p) != DIFFUSE_DONE) return 1;
+        if (make(SHARE, &p) != DIFFUSE_DONE || make(ROUTE, &p) != DIFFUSE_DONE) return 1;
+        end(&p);
+        in_use = mallinfo2().uordblks;
+        if (i == 1) first = in_use;
+    }
+    printf("%zu bytes more\n", in_use - first);
+    return 0;
+}
+
+int main(int count, char **words) {
+    if (count == 2 && strcmp(words[1], "refusals") == 0) return refusals();
+    if (count == 2 && strcmp(words[1], "threads") == 0) return threads();
+    if (count == 3 && strcmp(words[1], "opens") == 0) return opens(atol(words[2]));
+    fprintf(stderr, "usage: c_library refusals | threads | opens COUNT\n");
+    return 2;
+}

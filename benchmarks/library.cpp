@@ -1,4 +1,4 @@
-// Trees and routes from graphs that are kept in memory, by libdiffuse, by the plain program and, where they are installed, by
+// Trees and routes from graphs that are kept in memory, by libdiffuse, by the plain program and, if they are installed, by
 // Boost and LEMON:
 //
 //     library GRAPH ROUNDS

@@ -3,7 +3,7 @@
     python3 benchmarks/library.py --prefix PREFIX [--rounds N] [--small]      PREFIX is where examples/c/install put the library
 
 All of them answer in one run of library.cpp. A ratio is what one took for one that the plain program took. Boost and LEMON
-(Debian: libboost-graph-dev, liblemon-dev) are measured where they are installed; they find no least hops or parents.
+(Debian: libboost-graph-dev, liblemon-dev) are measured if they are installed; they find no least hops or parents.
 """
 import argparse
 import os
@@ -17,7 +17,7 @@ SIZES = [("New York", (264346, 733846)), ("Florida", (1070376, 2712798))]
 
 
 class Measured:
-    """What library.cpp tells of one library: bytes of its graph, and microseconds."""
+    """What library.cpp reports of one library: bytes of its graph, and microseconds."""
 
     def __init__(self, line):
         self.name, *numbers, self.check = line.split()
@@ -29,7 +29,7 @@ def build(folder, prefix):
     path = os.path.join(folder, "library")
     source, archive = os.path.join(inputs.HERE, "library.cpp"), os.path.join(prefix, "lib", "libdiffuse.a")
     words = [compiler(), "-O2", "-std=c++17", "-I", os.path.join(prefix, "include"), "-o", path, source, archive]
-    subprocess.run(words + ["-lemon"] if os.path.exists("/usr/include/lemon") else words, check=True)
+    subprocess.run(words + (["-llemon"] if os.path.exists("/usr/include/lemon") else []), check=True)
     return path
 
 
@@ -60,7 +60,7 @@ def library_table(folder, prefix, rounds, small=False):
     lines = ["| Size | Library | Open, ms | Tree, ms | Ratio | Route, ms | Ratio | Graph, MB | Ratio |", "|---|---|---|---|---|---|---|---|---|"]
     roads, program = inputs.build(folder)["roads"], build(folder, prefix)
     for name, (vertices, arcs) in SIZES:
-        graph = Roads(name, (vertices // 100, arcs // 100) if small else (vertices, arcs))
+        graph = Roads(name, (vertices // 100, arcs // 200 * 2) if small else (vertices, arcs))
         graph.make(folder, roads, False)
         tell("measuring " + name)
         peers = measured(program, graph.graph, rounds)

@@ -44,7 +44,7 @@ DIFFUSE_ASSERT(offsetof(struct diffuse_graph, is_open) == 8, "whether it is open
 
 /* What a call answers. A call answers no other status than is listed with it.
 
-   After DIFFUSE_DONE the answer is written. After a refusal the handle is as it was and nothing is written but what tells the
+   After DIFFUSE_DONE the answer is written. After a refusal the handle is as it was and nothing is written but what explains the
    refusal: code and hops of a route that found too little room, vertex and reason of a wrong tree, the line of a faulty text. */
 enum diffuse_status {
     DIFFUSE_DONE = 0,
@@ -60,7 +60,7 @@ enum diffuse_status {
     DIFFUSE_BAD_PROBLEM = 12,    /* read: a problem line that is not `p sp VERTICES ARCS` */
     DIFFUSE_UNKNOWN_LINE = 13,   /* read: a line that begins with none of c, p and a */
     DIFFUSE_FIELDS = 14,         /* read: an arc line with another number of fields than four */
-    DIFFUSE_NOT_A_NUMBER = 15,   /* read: a field that is no number where one belongs */
+    DIFFUSE_NOT_A_NUMBER = 15,   /* read: a field that should be a number and is none */
     DIFFUSE_LIMIT = 16,          /* open: more than 2^25 vertices or 2^27 arcs; read: a number above its limit */
     DIFFUSE_NO_VERTEX = 17,      /* a source, a target or an end of an arc is no vertex of the graph */
     DIFFUSE_TOO_MANY = 18,       /* read: more arc lines than announced */
@@ -85,7 +85,7 @@ enum diffuse_reason {
     DIFFUSE_NO_PARENT = 3,         /* the code is that of no value, or the parent does not give this value */
     DIFFUSE_OTHER_HOPS = 4,        /* the hops are not one more than the parent's, or a vertex gives the value with fewer */
     DIFFUSE_LESSER_PARENT = 5,     /* a lesser vertex could be the parent */
-    DIFFUSE_HAS_WALK = 6           /* the vertex is told to be unreached, and an arc gives it a value */
+    DIFFUSE_HAS_WALK = 6           /* the vertex is reported unreached, and an arc gives it a value */
 };
 
 /* The code of a vertex to which no walk that has a value leads; its hops and its parent are 0. */

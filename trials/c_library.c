@@ -50,7 +50,7 @@ static int32_t make(enum call call, struct places *p) {
     }
 }
 
-/* Places as they are before a call: with an open graph unless the call opens it, and with a tree where one is checked. */
+/* Places as they are before a call: with an open graph unless the call opens it, and with a tree if one is checked. */
 static int begin(enum call call, struct places *p) {
     *p = (struct places){.graph = DIFFUSE_CLOSED, .second = DIFFUSE_CLOSED, .line = 7, .code = 7, .length = 7, .vertex = 7};
     if (call > READ && make(OPEN, p) != DIFFUSE_DONE) return 0;
@@ -70,7 +70,7 @@ static int is_same(const struct places *p, const struct places *before) {
 }
 
 /* Refuses the first growth of memory of a call, then the second and so on, until a call meets no refusal. A refused call must
-   leave all as it was, and the same call must succeed afterwards. Tells how many growths there are, or -1. */
+   leave all as it was, and the same call must succeed afterwards. The result is how many growths there are, or -1. */
 static long refuse(enum call call) {
     for (long n = 0;; n++) {
         struct places p, before;
@@ -129,7 +129,7 @@ static int threads(void) {
     return 0;
 }
 
-/* Opens and closes so many graphs, and tells how many bytes more are in use at the end than after the first hundred, when the
+/* Opens and closes so many graphs, and reports how many bytes more are in use at the end than after the first hundred, when the
    allocator has filled its lists of free blocks. */
 static int opens(long count) {
     size_t first = 0, in_use = 0;

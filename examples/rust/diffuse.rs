@@ -128,7 +128,7 @@ impl Graph {
         Ok(tree)
     }
 
-    /// None if this is the tree from these sources, else where it is wrong.
+    /// None if this is the tree from these sources, else the first place that is wrong.
     pub fn check(&mut self, algebra: Algebra, sources: &[u32], tree: &Tree) -> Result<Option<Wrong>, Refused> {
         let (number, limit) = algebra.number_and_limit();
         let mut wrong = Wrong { vertex: 0, reason: 0 };

@@ -147,6 +147,7 @@ class Graph:
         return None
 
     def close(self):
+        """Frees the graph with the last that shares it. A closed graph refuses every call, and stays closed."""
         _library.diffuse_graph_close(byref(self._at))
 
     def _question(self, sources, algebra, limit):
@@ -157,6 +158,9 @@ class Graph:
         status = getattr(_library, f"diffuse_graph_{call}")(*arguments)
         if status != DONE:
             raise Refused(status)
+
+    def __del__(self):
+        self.close()
 
     def __enter__(self):
         return self

@@ -1,4 +1,4 @@
--- What a status tells, and what is told beside it.
+-- What a status means, and what is written with it.
 use Rattle.std.specs.Prelude.{◌≡◌, ℕ, ◌+◌, ◌<◌, ◌⊎◌, ◌↔◌, [], ◌∷◌, List, ℤ, pos, length, take, Option, Some, None}
 use Rattle.road_graph.specs.Roads.{Roads, IsRoads, HasVertex}
 use Rattle.path_algebra.specs.Algebra.{Algebra}
@@ -40,7 +40,7 @@ HavePlaces n codes hops parents = (length codes ≡ n) × (length hops ≡ n) ×
 abbrev pub HasBoth : Roads → ℕ → ℕ → Type 0
 HasBoth g source target = HasVertex g source × HasVertex g target
 
--- there is a walk: the route is told, or is longer than the room for it
+-- there is a walk: the route is written, or is longer than the room for it
 abbrev pub IsFound : ℤ → Type 0
 IsFound status = (status ≡ pos 0) ⊎ (status ≡ pos 2)
 
@@ -55,7 +55,7 @@ pub record IsRouteFound {V : Type 0} (A : Algebra V) (g : Roads) (source target 
   pub parents : IsParentRoute A g (source ∷ []) target route
   pub count : length route ≡ hops + 1
 
--- what the status of a route tells, and what stands in the caller's places then
+-- what the status of a route means, and what is in the caller's places then
 pub record TellsRoute {V : Type 0} (A : Algebra V) (g : Roads) (source target : ℕ) (status : ℤ) (code hops : ℕ) (room : List ℕ) : Type 0 where
   pub best : IsFound status → IsBestCode A g (source ∷ []) target code
   pub near : IsFound status → AreHops A g (source ∷ []) target hops

@@ -1,4 +1,4 @@
--- A tree that is told in three lists, with a number each for a vertex, and where such lists are wrong.
+-- A tree in three lists, with a number each for a vertex, and the first vertex at which such lists are wrong.
 use Rattle.std.specs.Prelude.{◌≡◌, ◌↔◌, ℕ, ◌==◌, ◌&&◌, if◌then◌else◌, ℤ, pos, true, List, [], ◌∷◌, All, Bool, Option, Some, None}
 use Rattle.road_graph.specs.Roads.{Roads, HasVertex}
 use Rattle.path_algebra.specs.Algebra.{Algebra}
@@ -25,7 +25,7 @@ lines_of (c ∷ cs) [] ps = []
 lines_of (c ∷ cs) (h ∷ hs) [] = []
 lines_of (c ∷ cs) (h ∷ hs) (p ∷ ps) = line_of c h p ∷ lines_of cs hs ps
 
--- the lists tell the tree: each has a place for each vertex, and they spell the right lines
+-- the lists are the tree: each has a place for each vertex, and they spell the right lines
 pub record IsToldTree {V : Type 0} (A : Algebra V) (g : Roads) (sources codes hops parents : List ℕ) : Type 0 where
   pub places : HavePlaces g.vertices codes hops parents
   pub lines : AreLines A g sources (lines_of codes hops parents)

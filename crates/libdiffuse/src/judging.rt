@@ -1,4 +1,4 @@
-//! The check of a tree that is told in three lists.
+//! The check of a tree in three lists.
 
 ghost use Rattle.std.specs.Prelude.{◌≡◌, ℕ, ◌≤◌, ◌∷◌, [], ◌↔◌, length, pos, All, Contains, IfOk, IsTrue, MatchOption};
 ghost use Rattle.road_graph.specs.Roads.{HasVertex};
@@ -54,7 +54,7 @@ fn first_place<A: PathAlgebra>(
     None
 }
 
-/// The first wrong vertex, with the first reason; none if the lists tell the tree.
+/// The first wrong vertex, with the first reason; none if the lists are the tree.
 fn judge<A: PathAlgebra>(
     alloc: Global,
     algebra: A,
@@ -74,7 +74,7 @@ fn judge<A: PathAlgebra>(
     Ok(first_place(algebra, graph, codes, hops, parents, &marks))
 }
 
-/// Judges a tree and tells where it is wrong.
+/// Judges a tree and reports the first wrong vertex.
 fn answer<A: PathAlgebra>(
     alloc: Global,
     algebra: A,

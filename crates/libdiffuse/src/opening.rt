@@ -45,7 +45,7 @@ fn graph_of(alloc: Global, vertices: u32, arcs: &[DiffuseArc]) -> Result<Graph, 
     new_graph(alloc, vertices, list)
 }
 
-/// An owner of the graph of these arcs, or the status that tells why there is none.
+/// An owner of the graph of these arcs, or the status that says why there is none.
 pub(crate) fn owner_of(
     alloc: Global,
     vertices: u32,

@@ -15,7 +15,7 @@ use std::alloc::Global;
 
 /// The best value from a source to a target, as a code, the least hops, and the route by least parents, by the algebra of a number.
 ///
-/// If the room is too short, code and hops are told all the same, and hops + 1 places are wanted.
+/// If the room is too short, code and hops are written all the same, and hops + 1 places are wanted.
 #[unsafe(no_mangle)]
 pub extern "C" fn diffuse_graph_route(
     alloc: Global,
@@ -77,9 +77,9 @@ pub extern "C" fn diffuse_graph_tree(
     status
 }
 
-/// Whether these lists are what `diffuse_graph_tree` tells, without solving.
+/// Whether these lists are what `diffuse_graph_tree` writes, without solving.
 ///
-/// If they are not, the first vertex whose line its neighbours refute is told, with the number of the first reason.
+/// If they are not, the first vertex whose line its neighbours refute is reported, with the number of the first reason.
 #[unsafe(no_mangle)]
 pub extern "C" fn diffuse_graph_check(
     alloc: Global,

@@ -72,7 +72,7 @@ fn owner_read(alloc: Global, bytes: &[u8]) -> Result<Box<Arc<Graph>>, ReadFault>
     }
 }
 
-/// The status of a fault; one of the text tells its line too.
+/// The status of a fault. That of the text comes with its line.
 fn tell_fault(fault: ReadFault, line: &mut u64) -> i32
     ensures memory { fault.number ≡ 3 → (result ≡ pos 3) × (line.new ≡ line.old) }
     ensures fault { fault.number ≢ 3 → (result ≡ pos fault.number) × (line.new ≡ fault.line) }
@@ -86,7 +86,7 @@ fn tell_fault(fault: ReadFault, line: &mut u64) -> i32
 
 /// Opens a closed handle with the graph of a .gr text, which may be changed or freed afterwards.
 ///
-/// If the text has a fault, the status is the number of the first one, and its line is told: from 1 on, or 0 if it is no line's.
+/// If the text has a fault, the status is the number of the first one, and its line is written: from 1 on, or 0 if it is no line's.
 #[unsafe(no_mangle)]
 pub extern "C" fn diffuse_graph_read(
     alloc: Global,

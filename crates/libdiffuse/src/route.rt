@@ -1,4 +1,4 @@
-//! A route that is told through what the caller lends.
+//! A route that is written to what the caller lends.
 
 ghost use Rattle.std.specs.Prelude.{◌≡◌, ◌≤◌, ◌<◌, ◌+◌, ◌↔◌, ◌∷◌, [], length, take, pos, IfOk, MatchOption};
 ghost use Rattle.road_graph.specs.Roads.{HasVertex};
@@ -48,7 +48,7 @@ fn copy(list: &[Vertex], room: &mut [u32])
     }
 }
 
-/// Tells a route, if the room is long enough.
+/// Writes a route, if the room is long enough.
 fn tell(route: &PairRoute, room: &mut [u32]) -> i32
     requires { length route.now.vertices.items ≡ route.now.hops + 1 }
     ensures found { IsFound result }
@@ -64,7 +64,7 @@ fn tell(route: &PairRoute, room: &mut [u32]) -> i32
     DONE
 }
 
-/// Finds a route and tells it.
+/// Finds a route and writes it.
 fn answer<A: PathAlgebra>(
     alloc: Global,
     algebra: A,
@@ -94,7 +94,7 @@ fn answer<A: PathAlgebra>(
     }
 }
 
-/// Finds a route by the algebra of a number and tells it, if there is such an algebra and both are vertices.
+/// Finds a route by the algebra of a number and writes it, if there is such an algebra and both are vertices.
 pub(crate) fn answer_by(
     alloc: Global,
     number: u32,

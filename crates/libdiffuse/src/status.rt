@@ -1,18 +1,18 @@
 //! The numbers that calls answer with.
 
-/// The answer is told.
+/// The answer is written.
 pub(crate) const DONE: i32 = 0;
 /// No walk leads there that has a value.
 pub(crate) const NO_ROUTE: i32 = 1;
 /// The room for the answer is too short, or a list has not a place for each vertex.
 pub(crate) const NO_ROOM: i32 = 2;
-/// Memory was refused.
+/// Out of memory.
 pub(crate) const MEMORY: i32 = 3;
 /// The handle has no graph.
 pub(crate) const CLOSED: i32 = 4;
 /// The handle has a graph already.
 pub(crate) const OPEN: i32 = 5;
-/// The lists do not tell the tree.
+/// The lists are not the tree.
 pub(crate) const WRONG: i32 = 6;
 /// There are too many vertices or arcs.
 pub(crate) const LIMIT: i32 = 16;

@@ -69,7 +69,7 @@ fn assert_tree(rt: &impl Abort, alloc: Global, handle: &mut DiffuseGraph) {
     assert_eq!(rt; parents, [0, 3, 1, 2, 0]);
 }
 
-/// A check of lists from vertex 1 by the shortest walks has this status, and tells this vertex and reason.
+/// A check of lists from vertex 1 by the shortest walks has this status, and reports this vertex and reason.
 fn assert_check(
     rt: &impl Abort,
     alloc: Global,
@@ -95,7 +95,7 @@ fn assert_check(
     assert_eq!(rt; (status, vertex, reason), wanted);
 }
 
-/// The tree of the five vertices is right, and each of six changes is told.
+/// The tree of the five vertices is right, and each of six changes is reported.
 fn assert_checks(rt: &impl Abort, alloc: Global, handle: &mut DiffuseGraph) {
     let none = u64::MAX;
     let (codes, hops, parents) = ([0, 3, 1, 8, none], [0, 2, 1, 3, 0], [0, 3, 1, 2, 0]);

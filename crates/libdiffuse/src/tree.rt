@@ -1,4 +1,4 @@
-//! A tree that is told in three lists of the caller's.
+//! A tree that is written to three lists of the caller's.
 
 ghost use Rattle.std.specs.Prelude.{◌≡◌, ◌∷◌, [], pos, IfOk};
 ghost use Rattle.std.specs.List.{All};
@@ -72,7 +72,7 @@ fn numbers_of<A: PathAlgebra>(
     )
 }
 
-/// Tells a tree in three lists.
+/// Writes a tree to three lists.
 fn tell<A: PathAlgebra>(
     algebra: A,
     graph: &Graph,
@@ -115,7 +115,7 @@ fn solve<A: PathAlgebra>(
     Ok((labels, tree))
 }
 
-/// Finds a tree and tells it.
+/// Finds a tree and writes it.
 fn answer<A: PathAlgebra>(
     alloc: Global,
     algebra: A,
@@ -144,7 +144,7 @@ fn answer<A: PathAlgebra>(
     }
 }
 
-/// Finds a tree by the algebra of a number and tells it, if each source is a vertex, each list has a place for each vertex and there is such an algebra.
+/// Finds a tree by the algebra of a number and writes it, if each source is a vertex, each list has a place for each vertex and there is such an algebra.
 pub(crate) fn answer_tree(
     alloc: Global,
     number: u32,

@@ -40,6 +40,7 @@ fn job_told(alloc: Global, job: &Job<'_>) -> Result<String, AllocError> {
             answers,
             limit,
         } => format!(in alloc; "check {graph} {questions} {answers} {limit:?}"),
+        Job::Faults { numbers } => format!(in alloc; "faults {:?}", numbers.as_slice()),
     }
 }
 
@@ -92,6 +93,18 @@ fn command_lines(rt: HostRuntime) {
         ("diffuse check g q", "wrong"),
         ("diffuse check g q a more", "wrong"),
         ("diffuse check g q a --algebra hops", "wrong"),
+        ("diffuse solve - q", "solve - q shortest None"),
+        ("diffuse check g q ./-", "check g q ./- None"),
+        ("diffuse faults", "faults []"),
+        ("diffuse faults 13", "faults [13]"),
+        ("diffuse faults 42 1 42", "faults [42, 1, 42]"),
+        ("diffuse help faults", "faults []"),
+        ("diffuse help faults 13", "wrong"),
+        ("diffuse faults x", "wrong"),
+        ("diffuse faults -1", "wrong"),
+        ("diffuse faults 13 --plain", "wrong"),
+        ("diffuse faults --help", "help"),
+        ("diffuse help solve", "help"),
         ("diffuse --help", "help"),
         ("diffuse check --help", "help"),
         ("diffuse -h", "help"),
@@ -233,6 +246,8 @@ const FILES: &[(&str, &str)] = &[
     ("34", "p ans ss 1 shortest\ns x\n"),
     ("35", "p ans ss 1048577 shortest\n"),
     ("36", "p ans ss 1 shortest\n"),
+    ("./-", FROM_ONE),
+    ("-", "never opened by this name\n"),
 ];
 
 /// Commands over `FILES`, each with what it writes and reports, and its exit status.
@@ -302,8 +317,40 @@ const COMMANDS: &[(&str, &str, &str, u8)] = &[
     ("check g q 34", "", "diffuse: fault 34 answers line 2\n", 3),
     ("check g q 35", "", "diffuse: fault 35 answers line 1\n", 3),
     ("check g q 36", "", "diffuse: fault 36 answers line 2\n", 3),
-    ("--version", "diffuse 1.0.0\n", "", 0),
+    ("solve g -", "", "diffuse: fault 10 questions line 1\n", 3),
+    ("solve ./- q", "", "diffuse: fault 12 graph line 1\n", 3),
+    ("solve - none", "", "diffuse: fault 1 questions\n", 3),
+    ("solve none -", "", "diffuse: fault 1 graph\n", 3),
+    ("solve - -", "", GIVEN_TWICE, 2),
+    ("check g - -", "", GIVEN_TWICE, 2),
+    ("check - q -", "", GIVEN_TWICE, 2),
+    ("check - - none", "", GIVEN_TWICE, 2),
+    ("check - - -", "", GIVEN_TWICE, 2),
+    ("solve - - --limit 5", "", "diffuse: fault 43\n", 2),
+    ("faults 13", THIRTEEN, "", 0),
+    ("faults 42 13", FORTY_TWO_AND_THIRTEEN, "", 0),
+    ("faults 13 14 4", "", NO_SUCH_FAULT, 2),
+    ("faults 0", "", NO_SUCH_FAULT, 2),
+    ("faults 18446744073709551615", "", NO_SUCH_FAULT, 2),
+    ("--version", VERSION, "", 0),
 ];
+
+/// What is said of standard input that is named twice.
+const GIVEN_TWICE: &str = "error: `-` is standard input, and serves for one of the files\n";
+
+/// What is said of a number that is no fault's.
+const NO_SUCH_FAULT: &str = "error: no fault has this number; `diffuse faults` lists them\n";
+
+/// The version of the program, and the line of the toolchain.
+const VERSION: &str = "diffuse 1.0.0 (rattle-kit-13b)\n";
+
+/// What is said of fault 13.
+const THIRTEEN: &str =
+    "fault 13: a line that this file does not have\n  example: `x 1 2 3` in a graph, `q 1 2` in a .ss file\n  cause: in line 1 of a graph, a compressed file: give `<(zcat FILE)`\n";
+
+/// What is said of faults 42 and 13, in this order.
+const FORTY_TWO_AND_THIRTEEN: &str =
+    "fault 42: the output could not be written\n  example: `diffuse solve roads.gr roads.ss > /dev/full`\n  cause: a full disk, or a reader that has gone, as `head` in `| head`\nfault 13: a line that this file does not have\n  example: `x 1 2 3` in a graph, `q 1 2` in a .ss file\n  cause: in line 1 of a graph, a compressed file: give `<(zcat FILE)`\n";
 
 /// Files and a standard input in memory.
 #[derive(Drop)]
@@ -371,6 +418,49 @@ fn assert_command(
 fn commands_and_statuses(rt: HostRuntime) {
     for &(command, out, errors, status) in COMMANDS {
         assert_command(&rt, command, (out, errors, status));
+    }
+}
+
+#[test]
+fn standard_input_by_its_name(rt: HostRuntime) {
+    for &(line, given, wanted) in &[
+        ("diffuse solve - q", FIVE, SHORTEST),
+        ("diffuse solve g -", FROM_ONE, SHORTEST),
+        ("diffuse solve g ./-", FIVE, SHORTEST),
+        ("diffuse solve --plain - ./-", FIVE, SHORTEST),
+        ("diffuse check - q right", FIVE, "valid\n"),
+        ("diffuse check g - right", FROM_ONE, "valid\n"),
+        ("diffuse check g q -", SHORTEST, "valid\n"),
+    ] {
+        assert_run(&rt, line, given, (wanted, "", 0));
+    }
+}
+
+/// Asserts that the table of faults has a row for each of these numbers, in this order, and no other.
+fn assert_table(rt: &(impl Abort + AllocGlobal), table: &str, numbers: &[u8]) {
+    let mut rows = numbers.iter();
+    for line in table.split('\n') {
+        if line.starts_with("fault ") {
+            let number = rows.next().expect(rt, "a row too many");
+            let heading = format!(in rt.alloc(); "fault {number}: ").expect(rt, "memory");
+            assert!(rt; line.starts_with(heading.as_str()));
+        }
+    }
+    assert!(rt; rows.next().is_none());
+}
+
+#[test]
+fn the_table_of_faults(rt: HostRuntime) {
+    let numbers: [u8; 24] = [
+        1, 2, 3, 10, 11, 12, 13, 14, 15, 16, 17, 18, 19, 30, 31, 32, 33, 34, 35, 36, 40, 41, 42, 43,
+    ];
+    for line in ["diffuse faults", "diffuse help faults"] {
+        let (out, errors, status) = run_line(&rt, line, "");
+        assert_eq!(rt; status, 0);
+        assert!(rt; errors.is_empty());
+        assert_narrow(&rt, out.as_slice());
+        let table = str::from_utf8(out.as_slice()).expect(&rt, "text");
+        assert_table(&rt, table, &numbers);
     }
 }
 
@@ -444,19 +534,21 @@ fn an_output_without_room(rt: HostRuntime) {
     assert_no_room(&rt, "diffuse check g q right");
     assert_no_room(&rt, "diffuse --help");
     assert_no_room(&rt, "diffuse --version");
+    assert_no_room(&rt, "diffuse faults 13");
+    assert_no_room(&rt, "diffuse help faults");
 }
 
 #[test]
 fn the_version_is_passed_on(rt: HostRuntime) {
     let words = words_of(&rt, "diffuse --version");
-    let mut room = [0u8; 14];
+    let mut room = [0u8; 31];
     let mut errors = Plain::new(Vec::new(rt.alloc()));
     let mut shelf = Shelf { given: "" };
     let mut out = Buffered::new(rt.alloc(), Plain::new(&mut room[..])).expect(&rt, "memory");
     let status = run_words(&rt, &mut shelf, words.as_slice(), &mut out, &mut errors);
     drop(out);
     assert_eq!(rt; status, 0);
-    assert_eq!(rt; &room[..], "diffuse 1.0.0\n".as_bytes());
+    assert_eq!(rt; &room[..], VERSION.as_bytes());
 }
 
 /// Asserts that help, or what is said of wrong usage, has lines of at most 80 bytes.
@@ -489,6 +581,10 @@ fn help_and_usage(rt: HostRuntime) {
         ("diffuse solve -h", 0),
         ("diffuse bundle --help", 0),
         ("diffuse check --help", 0),
+        ("diffuse faults --help", 0),
+        ("diffuse faults", 0),
+        ("diffuse faults 4", 2),
+        ("diffuse solve - -", 2),
         ("diffuse", 2),
         ("diffuse solve g", 2),
         ("diffuse bundle --algebra own", 2),

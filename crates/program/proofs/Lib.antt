@@ -1,3 +1,4 @@
 pub mod Opening
 pub mod Told
 pub mod Ungated
+mod Asking

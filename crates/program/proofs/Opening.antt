@@ -1,31 +1,21 @@
--- Files that are opened one after the other.
+-- Inputs that are opened one after the other.
 use Rattle.std.proofs.Common.{◌≡◌, ◌⊎◌, inl, inr, ℕ, List, [], ◌∷◌, refl, subst}
-use Rattle.batch_run.specs.declared.faults.File.TheVariants.{Graph, Questions, Answers}
+use Rattle.batch_run.specs.declared.faults.File.TheVariants.{Graph, Questions}
 use Rattle.batch_run.specs.declared.faults.RunFault.{RunFault}
 use Rattle.batch_run.specs.Runs.{Output}
 use Rattle.program.specs.Reports.{ReportsFault}
-use Rattle.program.specs.Files.{Opens, OpensEach, IsMissing, CannotOpen, missing}
+use Rattle.program.specs.Files.{Opens, OpensEach, OpensInput, IsMissing, CannotOpen}
 
--- a third file is opened behind two
-pub opens_third : {P : Type 0} (opens : Opens P) (a b c : List ℕ) (old mid new : P) → OpensEach opens (a ∷ b ∷ []) old mid → opens mid c new → OpensEach opens (a ∷ b ∷ c ∷ []) old new
+-- a third input is opened after two
+pub opens_third : {P : Type 0} (opens : Opens P) (a b c : List ℕ) (old mid new : P) → OpensEach opens (a ∷ b ∷ []) old mid → OpensInput opens c mid new → OpensEach opens (a ∷ b ∷ c ∷ []) old new
 opens_third opens a b c old mid new (one, first, (both, second, is)) third =
-    (one, first, (both, second, (new, subst (λ it. opens it c new) is third, refl)))
+    (one, first, (both, second, (new, subst (λ it. OpensInput opens c it new) is third, refl)))
 
--- a graph or questions that can't be opened, and the report of it, are what is promised of the first or of the second file
+-- a graph or questions that can't be opened, and the report of it, are what is promised of the first or of the second input
 pub missing_pair : {P W E : Type 0} (opens : Opens P) (graph questions : List ℕ) (places places_after : P) (out : Output W) (errors errors_after : Output E) (f : RunFault) (result : ℕ) (More : Type 0) →
     IsMissing opens graph questions places places_after f → ReportsFault f errors.written errors_after.written errors.failures errors_after.failures result →
-    CannotOpen opens (graph ∷ []) Graph places places_after out out errors errors_after result ⊎ (CannotOpen opens (graph ∷ questions ∷ []) Questions places places_after out out errors errors_after result ⊎ More)
+    CannotOpen opens [] graph Graph places places_after out out errors errors_after result ⊎ (CannotOpen opens (graph ∷ []) questions Questions places places_after out out errors errors_after result ⊎ More)
 missing_pair opens graph questions places places_after out errors errors_after f result More (inl first) ends =
-    inl (record { order = first.1; unwritten = refl; ends = subst (λ it. ReportsFault it errors.written errors_after.written errors.failures errors_after.failures result) first.0 ends })
+    inl (record { order = first.2; named = first.1; unwritten = refl; ends = subst (λ it. ReportsFault it errors.written errors_after.written errors.failures errors_after.failures result) first.0 ends })
 missing_pair opens graph questions places places_after out errors errors_after f result More (inr second) ends =
-    inr (inl (record { order = second.1; unwritten = refl; ends = subst (λ it. ReportsFault it errors.written errors_after.written errors.failures errors_after.failures result) second.0 ends }))
-
--- a third file can't be opened, and that is reported
-pub missing_third : {P W E : Type 0} (opens : Opens P) (a b c : List ℕ) (old mid new : P) (out : Output W) (errors errors_after : Output E) (f : RunFault) (result : ℕ) →
-    OpensEach opens (a ∷ b ∷ []) old mid → opens mid c new → f ≡ missing Answers → ReportsFault f errors.written errors_after.written errors.failures errors_after.failures result →
-    CannotOpen opens (a ∷ b ∷ c ∷ []) Answers old new out out errors errors_after result
-missing_third opens a b c old mid new out errors errors_after f result two third is ends = record {
-  order = opens_third opens a b c old mid new two third;
-  unwritten = refl;
-  ends = subst (λ it. ReportsFault it errors.written errors_after.written errors.failures errors_after.failures result) is ends;
-}
+    inr (inl (record { order = second.2; named = second.1; unwritten = refl; ends = subst (λ it. ReportsFault it errors.written errors_after.written errors.failures errors_after.failures result) second.0 ends }))

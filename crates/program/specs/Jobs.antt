@@ -1,24 +1,20 @@
 -- What the words of a command line lead to.
-use Rattle.std.specs.Prelude.{◌≡◌, ◌≢◌, ℕ, ◌⊎◌, ◌<◌, List, [], Option, Some, Result, Ok, Err}
-use Rattle.std.specs.Io.KnownBytes.{Appends}
+use Rattle.std.specs.Prelude.{◌≡◌, ◌≢◌, ℕ, ◌⊎◌, List, Option, Some, Result}
 use Rattle.clap.specs.declared.error.kind.ErrorKind.{ErrorKind}
 use Rattle.clap.specs.declared.error.kind.ErrorKind.TheVariants.{DisplayHelp, DisplayVersion}
 use Rattle.path_algebra.specs.declared.name.AlgebraName.{AlgebraName}
 use Rattle.path_algebra.specs.Names.{name_of_text}
-use Rattle.batch_run.specs.declared.faults.File.TheVariants.{NoFile}
 use Rattle.batch_run.specs.declared.faults.RunFault.{RunFault}
 use Rattle.program.specs.declared.chosen.Chosen.{Chosen}
 use Rattle.program.specs.declared.options.Wanted.{Wanted}
 use Rattle.program.specs.declared.options.Job.{Job}
-use Rattle.program.specs.declared.options.Job.TheVariants.{Solve, Bundle, Check}
+use Rattle.program.specs.declared.options.Job.TheVariants.{Solve, Bundle, Check, Faults}
+use Rattle.program.specs.declared.fault_table.TheConstants.{FAULTS}
 use Rattle.program.specs.Choices.{CannotBe, limit_of, name_of}
-use Rattle.program.specs.Reports.{EndsAs, IsReported, ReportsFault}
+use Rattle.program.specs.Reports.{EndsAs, IsUsage, Reaches, ReportsFault, run_fault}
+use Rattle.program.specs.Explained.{Explains}
 use Rattle.batch_run.specs.Runs.{Output}
 use Rattle.program.specs.Files.{Opens, SolvesFiles, BundlesGiven, ChecksFiles}
-
--- a fault of the run, with no file and no line
-abbrev pub run_fault : ℕ → RunFault
-run_fault number = record { number = number; file = NoFile; line = 0 }
 
 -- the algebra of this name with this limit
 abbrev pub IsChosen : Option AlgebraName → Option ℕ → Chosen → Type 0
@@ -40,19 +36,16 @@ Chooses name limit Done places places_after out out_after errors errors_after re
 abbrev pub DoesJob : (F I : Type 0) → {P W E : Type 0} → Opens P → Job → P → P → Output W → Output W → Output E → Output E → ℕ → Type 0
 DoesJob F I opens (Solve graph questions wanted) places places_after out out_after errors errors_after result =
     Chooses (name_of_text wanted.algebra.now) wanted.limit
-    (λ chosen. SolvesFiles F opens chosen wanted.settings graph.now questions.now places places_after out out_after errors errors_after result)
+    (λ chosen. SolvesFiles F I opens chosen wanted.settings graph.now questions.now places places_after out out_after errors errors_after result)
     places places_after out out_after errors errors_after result
 DoesJob F I opens (Bundle wanted) places places_after out out_after errors errors_after result =
     Chooses (name_of_text wanted.algebra.now) wanted.limit
     (λ chosen. BundlesGiven I chosen wanted.settings places places_after out out_after errors errors_after result)
     places places_after out out_after errors errors_after result
 DoesJob F I opens (Check graph questions answers limit) places places_after out out_after errors errors_after result =
-    ChecksFiles F opens limit graph.now questions.now answers.now places places_after out out_after errors errors_after result
-
--- a text was written on the output, whole, and nothing is held back; or a write failed, and that is fault 42
-abbrev pub Reaches : {W : Type 0} → List ℕ → Output W → Output W → Result (Unit {0}) RunFault → Type 0
-Reaches text out out_after (Ok _) = Appends out.written out_after.written text × (out_after.held ≡ []) × (out_after.failures ≡ out.failures)
-Reaches text out out_after (Err f) = (f ≡ run_fault 42) × (out.failures < out_after.failures)
+    ChecksFiles F I opens limit graph.now questions.now answers.now places places_after out out_after errors errors_after result
+DoesJob F I opens (Faults numbers) places places_after out out_after errors errors_after result =
+    (places_after ≡ places) × Explains FAULTS.now numbers.items out out_after errors errors_after result
 
 -- some text reached the output, with status 0; or it could not be written, which is reported as fault 42
 pub record IsShown {W E : Type 0} (out out_after : Output W) (errors errors_after : Output E) (result : ℕ) : Type 0 where
@@ -60,16 +53,6 @@ pub record IsShown {W E : Type 0} (out out_after : Output W) (errors errors_afte
   pub outcome : Result (Unit {0}) RunFault
   pub reaches : Reaches text out out_after outcome
   pub ends : EndsAs (λ _. 0) errors.written errors_after.written errors.failures errors_after.failures outcome result
-
--- what is wrong was said on the error output, and the status is that of wrong usage
-abbrev pub Complains : {E : Type 0} → List ℕ → Output E → Output E → ℕ → Type 0
-Complains text errors errors_after result = (result ≡ 2) × IsReported errors.written errors_after.written errors.failures errors_after.failures text
-
--- some text was said on the error output alone, with status 2
-pub record IsUsage {W E : Type 0} (out out_after : Output W) (errors errors_after : Output E) (result : ℕ) : Type 0 where
-  pub text : List ℕ
-  pub unwritten : out_after ≡ out
-  pub complains : Complains text errors errors_after result
 
 -- words that are wrong, and ask neither for help nor for the version
 abbrev pub AreWrong : ErrorKind → Type 0

@@ -4,5 +4,7 @@ pub mod Reports
 pub mod Runs
 pub mod Verdicts
 pub mod Judgements
+pub mod Opened
 pub mod Files
+pub mod Explained
 pub mod Jobs

@@ -1,8 +1,11 @@
--- How a command ends: the line that reports a fault, and the exit status.
-use Rattle.std.specs.Prelude.{◌≡◌, ℕ, ◌⊎◌, List, [], ◌∷◌, ◌++◌, Option, Result, Ok, Err, codes, decimal, nat_eq, if◌then◌else◌, ◌||◌}
+-- How a command ends: what it shows, the line that reports a fault, and the exit status.
+use Rattle.std.specs.Prelude.{◌≡◌, ℕ, ◌⊎◌, ◌<◌, List, [], ◌∷◌, ◌++◌, Option, Result, Ok, Err, codes, decimal, nat_eq, if◌then◌else◌, ◌||◌}
+use Rattle.std.specs.Io.KnownBytes.{Appends}
 use Rattle.road_text.specs.Written.{Left, Fell}
+use Rattle.batch_run.specs.declared.faults.File.TheVariants.{NoFile}
 use Rattle.batch_run.specs.declared.faults.RunFault.{RunFault}
 use Rattle.batch_run.specs.FaultTexts.{file_text, line_text}
+use Rattle.batch_run.specs.Runs.{Output}
 
 -- the line that reports a fault
 abbrev pub fault_text : RunFault → List ℕ
@@ -29,3 +32,22 @@ ReportsFault f old new before after result = (result ≡ status_of f.number) × 
 abbrev pub EndsAs : {A : Type 0} → (A → ℕ) → Option (List ℕ) → Option (List ℕ) → ℕ → ℕ → Result A RunFault → ℕ → Type 0
 EndsAs status old new before after (Ok x) result = (result ≡ status x) × (new ≡ old) × (after ≡ before)
 EndsAs status old new before after (Err f) result = ReportsFault f old new before after result
+
+-- a fault of the run, with no file and no line
+abbrev pub run_fault : ℕ → RunFault
+run_fault number = record { number = number; file = NoFile; line = 0 }
+
+-- a text was written on the output, whole, and nothing is held back; or a write failed, and that is fault 42
+abbrev pub Reaches : {W : Type 0} → List ℕ → Output W → Output W → Result (Unit {0}) RunFault → Type 0
+Reaches text out out_after (Ok _) = Appends out.written out_after.written text × (out_after.held ≡ []) × (out_after.failures ≡ out.failures)
+Reaches text out out_after (Err f) = (f ≡ run_fault 42) × (out.failures < out_after.failures)
+
+-- what is wrong was said on the error output, and the status is that of wrong usage
+abbrev pub Complains : {E : Type 0} → List ℕ → Output E → Output E → ℕ → Type 0
+Complains text errors errors_after result = (result ≡ 2) × IsReported errors.written errors_after.written errors.failures errors_after.failures text
+
+-- some text was said on the error output alone, with status 2
+pub record IsUsage {W E : Type 0} (out out_after : Output W) (errors errors_after : Output E) (result : ℕ) : Type 0 where
+  pub text : List ℕ
+  pub unwritten : out_after ≡ out
+  pub complains : Complains text errors errors_after result

@@ -1,8 +1,8 @@
-//! What help says, in lines of at most 80 columns.
+//! What help says, in lines of at most 80 columns. What the faults mean stands in their table.
 
-// What the exit statuses mean, between these lines.
+// What the exit statuses mean, behind these lines.
 macro_rules! with_statuses {
-    ($($before:literal)*; $($after:literal)*) => {
+    ($($before:literal)*) => {
         concat!(
             $($before,)*
             "Exit statuses:\n",
@@ -14,49 +14,19 @@ macro_rules! with_statuses {
             "  5  the output could not be written: fault 42\n",
             "  6  stopped: faults 40 and 41\n",
             "A fault is one line on standard error: `diffuse: fault N FILE line L`.\n",
-            $($after,)*
+            "`diffuse faults N` says what it means, and what it usually comes from."
         )
     };
 }
 
-// What the exit statuses and the numbers of faults mean, behind these lines.
-macro_rules! with_faults {
-    ($($before:literal)*) => {
-        with_statuses!(
-            $($before)*;
-            "\n"
-            "Numbers of faults:\n"
-            "   1  the input could not be opened or read\n"
-            "   2  the input has more than 4294967296 bytes\n"
-            "   3  memory was refused\n"
-            "  10  no problem line before this line, or none at all\n"
-            "  11  a second problem line\n"
-            "  12  a problem line with wrong fields or words\n"
-            "  13  a line of no known kind\n"
-            "  14  a wrong number of fields\n"
-            "  15  not a number\n"
-            "  16  a number that is too large\n"
-            "  17  no such vertex\n"
-            "  18  more lines than the problem line announces\n"
-            "  19  fewer lines than the problem line announces\n"
-            "  30  answers that do not begin with a header\n"
-            "  31  a header with wrong fields or words, or an algebra that is not here\n"
-            "  32  a line of answers where it does not belong\n"
-            "  33  a wrong number of fields in a line of answers\n"
-            "  34  not a number, in answers\n"
-            "  35  a number that is too large, in answers\n"
-            "  36  answers that end before the last one is whole\n"
-            "  40  a worker reached its limit of turns\n"
-            "  41  a gate stopped a worker (never in this program)\n"
-            "  42  the output could not be written\n"
-            "  43  `--limit` without `within`, `within` without `--limit`, or a setting\n"
-            "      out of its range"
-        )
-    };
-}
+/// The version of the program, and the line of the toolchain that proves it.
+pub const VERSION: &str = "1.0.0 (rattle-kit-13b)";
 
-/// The version of the program.
-pub const VERSION: &str = "1.0.0";
+/// What the program is for.
+pub const PURPOSE: &str = concat!(
+    "Answers questions over road graphs: shortest, widest, reach, hops, reliable and\n",
+    "within (shortest up to a limit). It is proved that what it answers is right",
+);
 
 /// The names of the algebras.
 pub const ALGEBRA: &str = concat!(
@@ -65,21 +35,24 @@ pub const ALGEBRA: &str = concat!(
     "  widest    the greatest least weight\n",
     "  reach     any walk\n",
     "  hops      the fewest arcs\n",
-    "  reliable  the greatest product of weights, in parts of a million\n",
+    "  reliable  the greatest product of chances: weights are in parts of\n",
+    "            10^6, values in parts of 10^12. A product below 10^-12 is 0\n",
+    "            (some 261 arcs of 0.9); after it hops alone choose\n",
     "  within    the least sum of weights, up to `--limit`",
 );
 
 /// The names of the algebras, in short.
 pub const NAMES: &str = concat!(
     "Names: shortest, widest, reach, hops, reliable, within (with --limit).\n",
-    "`--help` says what they mean, and lists the exit statuses and faults.",
+    "`--help` says what they mean, and lists the exit statuses.",
 );
 
 /// What a graph's file is.
 pub const GRAPH: &str = concat!(
     "A road graph, a .gr file of the 9th DIMACS Implementation Challenge:\n",
     "`p sp VERTICES ARCS`, then a line `a FROM TO WEIGHT` for each arc.\n",
-    "`<(zcat FILE.gz)` serves, and /dev/stdin for one of the files",
+    "`<(zcat FILE.gz)` serves. `-` is standard input, and serves for one of\n",
+    "the files; a file of that name is `./-`",
 );
 
 /// What a file of questions is.
@@ -109,26 +82,30 @@ pub const LIMIT_OF_ANSWERS: &str = concat!(
     "other is fault 43",
 );
 
+/// The one-thread solver.
+pub const PLAIN: &str = concat!(
+    "The fast way; leave it out to run the diffusing computation. With it\n",
+    "`--workers`, `--shards`, `--budget` and `--turns` say nothing, though\n",
+    "they must be in their ranges",
+);
+
+/// How many questions are run together.
+pub const WIDTH: &str = concat!(
+    "Questions under way together, 1 to 64; memory grows with it. With\n",
+    "`--plain` so many are solved side by side, on all processors",
+);
+
 /// How many threads there are.
 pub const WORKERS: &str = "Threads that turn the shards of the questions, 1 to 64";
 
 /// How many parts a question is cut into.
 pub const SHARDS: &str = "Parts that the vertices are cut into, 1 to 64";
 
-/// How many questions are run together.
-pub const WIDTH: &str = "Questions run together, 1 to 64; memory grows with it";
-
 /// How much a shard does before the next has its turn.
 pub const BUDGET: &str = "Messages and signals of a shard in a turn, 1 to 65536";
 
 /// How long a worker goes on.
-pub const TURNS: &str = "Turns of a worker in a group, then fault 40";
-
-/// The one-thread solver.
-pub const PLAIN: &str = concat!(
-    "A heap for each question in place of workers: the same answers,\n",
-    "and the faster way wherever the graph fits one memory",
-);
+pub const TURNS: &str = "Turns of a worker in a group, then fault 40; 0 to 10^12";
 
 /// What a bundle is.
 pub const BUNDLE: &str = concat!(
@@ -136,8 +113,8 @@ pub const BUNDLE: &str = concat!(
     "file, and then those of a .ss, .p2p or .ms file",
 );
 
-/// How answers are read, and what the exit statuses and faults mean.
-pub const ANSWERS: &str = with_faults!(
+/// How answers are read, and what the exit statuses mean.
+pub const ANSWERS: &str = with_statuses!(
     "Standard output has one line for each vertex V: `d V VALUE HOPS PARENT` where\n"
     "V is reached, `u V` where it is not. For a pair it has `d VALUE HOPS` and\n"
     "`r V1 .. Vk`, the route, or `u` where there is none.\n"
@@ -147,11 +124,11 @@ pub const ANSWERS: &str = with_faults!(
 /// How a verdict is read, in short.
 pub const VERDICT: &str = concat!(
     "Prints `valid`, or `invalid Q V R`: answer Q is wrong at vertex V.\n",
-    "`--help` lists the reasons R, the exit statuses and the faults.",
+    "`--help` lists the reasons R and the exit statuses.",
 );
 
-/// How a verdict is read, and what the exit statuses and faults mean.
-pub const VERDICTS: &str = with_faults!(
+/// How a verdict is read, and what the exit statuses mean.
+pub const VERDICTS: &str = with_statuses!(
     "Prints `valid`, with exit status 0, or `invalid Q V R`, with exit status 1: the\n"
     "first wrong place is in answer Q, at vertex V, for reason R. Reasons:\n"
     "  1  another header, question or source, or another number of lines\n"
@@ -161,12 +138,20 @@ pub const VERDICTS: &str = with_faults!(
     "  5  a lesser parent gives the same\n"
     "  6  unreached, although a walk leads there\n"
     "  7  another route\n"
-    "Q and V are 0 where the whole is meant.\n"
+    "Q and V are 0 where the whole is meant. It asks for this program's choice among\n"
+    "equal routes, least hops and then least parent: the right values of another\n"
+    "program may be `invalid` by reason 4 or 5.\n"
     "\n"
 );
 
 /// What the exit statuses mean.
-pub const STATUSES: &str = with_statuses!(; "`diffuse --help` lists the numbers.");
+pub const STATUSES: &str = with_statuses!();
 
-/// What the exit statuses and the numbers of faults mean.
-pub const FAULTS: &str = with_faults!();
+/// Which faults are explained.
+pub const NUMBERS: &str = "Numbers of faults, as `13` or `12 13`; without a number all of them";
+
+/// Where the numbers of faults are met.
+pub const EXPLAINED: &str = concat!(
+    "A fault is one line on standard error, as `diffuse: fault 13 graph line 1`.\n",
+    "A number that is no fault's is wrong usage, with exit status 2.",
+);

@@ -1,26 +1,50 @@
-//! The commands over files by their names. All files are opened, in the order of the words, before one is read.
-ghost use Rattle.std.specs.Prelude.{◌≡◌, [], ◌∷◌, IfOk, IfErr, OnOk};
+//! The commands over inputs by their names: files, or standard input, whose name is `-`. All are opened, in the order of
+//! the words, before one is read.
+ghost use Rattle.std.specs.Prelude.{◌≡◌, ◌≢◌, ◌↔◌, [], ◌∷◌, IfOk, IfErr, IsTrue, OnOk, map};
 ghost use Rattle.batch_run.specs.Runs.{output};
-ghost use Rattle.program.specs.Files.{IsMissing, OpensEach, SolvesFiles, BundlesGiven, ChecksFiles, missing};
+ghost use Rattle.program.specs.Files.{IsMissing, OpensEach, OpensInput, SolvesFiles, BundlesGiven, ChecksFiles, missing};
+ghost use Rattle.program.specs.Opened.{IsGivenOnce, IsNamed, given_name, told_of};
 
 use crate::chosen::Chosen;
 use crate::commands::{bundle, check, solve};
+use crate::opened::Opened;
 use crate::places::Places;
-use crate::reports::report;
+use crate::reports::{complain, report};
 use batch_run::{File, RunFault, Settings};
 use road_text::{READ_FAILED, RoadWrite};
 use std::alloc::Global;
 use std::sync::Wait;
 use std::thread::Threads;
 
-/// Opens a file, and reports which could not be opened.
-fn open<P: Places>(places: &mut P, path: &str, file: File) -> Result<P::File, RunFault>
-    ensures opens { P.opens places.old path.now places.new }
-    ensures unread { IfOk result (λ opened. P.File.asked opened ≡ 0) }
-    ensures fault { IfErr result (λ f. f ≡ missing file) }
+/// The name of standard input.
+const GIVEN: &str = "-";
+
+/// What is said if standard input is named more than once.
+const GIVEN_TWICE: &[u8] = b"error: `-` is standard input, and serves for one of the files\n";
+
+/// Whether standard input is named at most once.
+fn is_given_once(names: &[&str]) -> bool
+    ensures { IsTrue result ↔ IsGivenOnce (map (λ name. name.now) names.now) }
 {
+    names.iter().filter(|name| GIVEN == **name).count() <= 1
+}
+
+/// Opens the input of a name, and reports which could not be opened.
+fn open<P: Places>(
+    places: &mut P,
+    path: &str,
+    file: File,
+) -> Result<Opened<P::File, P::Given>, RunFault>
+    ensures opens { OpensInput P.opens path.now places.old places.new }
+    ensures named { IfOk result (IsNamed path.now) }
+    ensures unread { IfOk result (λ opened. told_of P.File.asked P.Given.asked opened ≡ 0) }
+    ensures fault { IfErr result (λ f. (f ≡ missing file) × (path.now ≢ given_name)) }
+{
+    if path == GIVEN {
+        return Ok(Opened::Given(places.given()));
+    }
     match places.open(path) {
-        Ok(opened) => Ok(opened),
+        Ok(opened) => Ok(Opened::File(opened)),
         Err(_) => Err(RunFault {
             number: READ_FAILED,
             file,
@@ -29,14 +53,15 @@ fn open<P: Places>(places: &mut P, path: &str, file: File) -> Result<P::File, Ru
     }
 }
 
-/// Opens the files of a graph and of questions, in this order.
+/// Opens the inputs of a graph and of questions, in this order.
 fn open_both<P: Places>(
     places: &mut P,
     graph: &str,
     questions: &str,
-) -> Result<(P::File, P::File), RunFault>
+) -> Result<(Opened<P::File, P::Given>, Opened<P::File, P::Given>), RunFault>
     ensures order { OnOk result (OpensEach P.opens (graph.now ∷ questions.now ∷ []) places.old places.new) }
-    ensures unread { IfOk result (λ both. (P.File.asked both.0 ≡ 0) × (P.File.asked both.1 ≡ 0)) }
+    ensures named { IfOk result (λ both. IsNamed graph.now both.0 × IsNamed questions.now both.1) }
+    ensures unread { IfOk result (λ both. (told_of P.File.asked P.Given.asked both.0 ≡ 0) × (told_of P.File.asked P.Given.asked both.1 ≡ 0)) }
     ensures missing { IfErr result (IsMissing P.opens graph.now questions.now places.old places.new) }
 {
     let first = open(places, graph, File::Graph)?;
@@ -44,7 +69,7 @@ fn open_both<P: Places>(
     Ok((first, second))
 }
 
-/// Answers the questions of one file over the graph of another, and gives the exit status.
+/// Answers the questions of one input over the graph of another, and gives the exit status.
 pub fn solve_files<R: Threads + Wait + Sync, P: Places, W: RoadWrite, E: RoadWrite>(
     rt: &R,
     alloc: Global,
@@ -55,10 +80,13 @@ pub fn solve_files<R: Threads + Wait + Sync, P: Places, W: RoadWrite, E: RoadWri
     out: &mut W,
     errors: &mut E,
 ) -> u8
-    ensures { SolvesFiles P.File P.opens chosen settings.now names.entry.0.now names.entry.1.now places.old places.new
+    ensures { SolvesFiles P.File P.Given P.opens chosen settings.now names.entry.0.now names.entry.1.now places.old places.new
         (output W.written W.held W.failures out.old) (output W.written W.held W.failures out.new)
         (output E.written E.held E.failures errors.old) (output E.written E.held E.failures errors.new) result }
 {
+    if !is_given_once(&[names.0, names.1]) {
+        return complain(errors, GIVEN_TWICE);
+    }
     let (mut graph, mut questions) = match open_both(places, names.0, names.1) {
         Ok(files) => files,
         Err(fault) => return report(errors, fault),
@@ -93,7 +121,7 @@ pub fn bundle_given<R: Threads + Wait + Sync, P: Places, W: RoadWrite, E: RoadWr
     bundle(rt, alloc, chosen, settings, &mut text, out, errors)
 }
 
-/// Judges the answers of one file to the questions of another over the graph of a third, and gives the exit status.
+/// Judges the answers of one input to the questions of another over the graph of a third, and gives the exit status.
 pub fn check_files<R: Threads + Sync, P: Places, W: RoadWrite, E: RoadWrite>(
     rt: &R,
     alloc: Global,
@@ -103,10 +131,13 @@ pub fn check_files<R: Threads + Sync, P: Places, W: RoadWrite, E: RoadWrite>(
     out: &mut W,
     errors: &mut E,
 ) -> u8
-    ensures { ChecksFiles P.File P.opens limit names.entry.0.now names.entry.1.now names.entry.2.now places.old places.new
+    ensures { ChecksFiles P.File P.Given P.opens limit names.entry.0.now names.entry.1.now names.entry.2.now places.old places.new
         (output W.written W.held W.failures out.old) (output W.written W.held W.failures out.new)
         (output E.written E.held E.failures errors.old) (output E.written E.held E.failures errors.new) result }
 {
+    if !is_given_once(&[names.0, names.1, names.2]) {
+        return complain(errors, GIVEN_TWICE);
+    }
     let (mut graph, mut questions) = match open_both(places, names.0, names.1) {
         Ok(files) => files,
         Err(fault) => return report(errors, fault),

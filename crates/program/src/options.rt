@@ -1,7 +1,8 @@
 //! What the command line says.
 use crate::help::{
-    ALGEBRA, ANSWERS, BUDGET, BUNDLE, FAULTS, GRAPH, JUDGED, LIMIT, LIMIT_OF_ANSWERS, NAMES, PLAIN,
-    QUESTIONS, SHARDS, STATUSES, TURNS, VERDICT, VERDICTS, VERSION, WIDTH, WORKERS,
+    ALGEBRA, ANSWERS, BUDGET, BUNDLE, EXPLAINED, GRAPH, JUDGED, LIMIT, LIMIT_OF_ANSWERS, NAMES,
+    NUMBERS, PLAIN, PURPOSE, QUESTIONS, SHARDS, STATUSES, TURNS, VERDICT, VERDICTS, VERSION, WIDTH,
+    WORKERS,
 };
 use batch_run::Settings;
 use clap::builder::ValueParser;
@@ -28,7 +29,7 @@ pub struct Wanted<'a> {
 /// What is to be done.
 #[derive(Drop)]
 pub enum Job<'a> {
-    /// Answer the questions of one file over the graph of another.
+    /// Answer the questions of one input over the graph of another, by their names.
     Solve {
         graph: &'a str,
         questions: &'a str,
@@ -38,12 +39,16 @@ pub enum Job<'a> {
     Bundle {
         wanted: Wanted<'a>,
     },
-    /// Judge the answers of a file to the questions of another over the graph of a third.
+    /// Judge the answers of one input to the questions of another over the graph of a third, by their names.
     Check {
         graph: &'a str,
         questions: &'a str,
         answers: &'a str,
         limit: Option<u64>,
+    },
+    /// Explain the faults of these numbers, and without a number all.
+    Faults {
+        numbers: Vec<u64>,
     },
 }
 
@@ -79,21 +84,23 @@ fn number<'a>(
         .help(help)
 }
 
-/// How the questions are run.
-fn engine<'a>(alloc: Global, command: Command<'a>) -> Result<Command<'a>, AllocError> {
+/// How the questions are run: what is best, and by which solver.
+fn settings<'a>(alloc: Global, command: Command<'a>) -> Result<Command<'a>, AllocError> {
     command
-        .arg(number(alloc, "workers", 1, 64, "4", WORKERS))?
-        .arg(number(alloc, "shards", 1, 64, "4", SHARDS))?
-        .arg(number(alloc, "width", 1, 64, "1", WIDTH))?
-        .arg(number(alloc, "budget", 1, 65_536, "1024", BUDGET))?
-        .arg(number(alloc, "turns", 0, 1_000_000_000_000, "1000000000000", TURNS))?
         .arg(
             Arg::new(alloc, "plain")
                 .long("plain")
                 .action(ArgAction::SetTrue)
                 .next_line_help(true)
                 .help(PLAIN),
-        )
+        )?
+        .arg(algebra(alloc))?
+        .arg(limit(alloc, LIMIT))?
+        .arg(number(alloc, "width", 1, 64, "1", WIDTH))?
+        .arg(number(alloc, "workers", 1, 64, "4", WORKERS))?
+        .arg(number(alloc, "shards", 1, 64, "4", SHARDS))?
+        .arg(number(alloc, "budget", 1, 65_536, "1024", BUDGET))?
+        .arg(number(alloc, "turns", 0, 1_000_000_000_000, "1000000000000", TURNS))
 }
 
 fn limit<'a>(alloc: Global, help: &'a str) -> Arg<'a> {
@@ -122,10 +129,8 @@ fn solve<'a>(alloc: Global) -> Result<Command<'a>, AllocError> {
         .after_help(NAMES)
         .after_long_help(ANSWERS)
         .arg(file(alloc, "GRAPH", "A road graph, a .gr file", GRAPH))?
-        .arg(file(alloc, "QUESTIONS", "A .ss, .p2p or .ms file", QUESTIONS))?
-        .arg(algebra(alloc))?
-        .arg(limit(alloc, LIMIT))?;
-    engine(alloc, command)
+        .arg(file(alloc, "QUESTIONS", "A .ss, .p2p or .ms file", QUESTIONS))?;
+    settings(alloc, command)
 }
 
 fn bundle<'a>(alloc: Global) -> Result<Command<'a>, AllocError> {
@@ -133,10 +138,8 @@ fn bundle<'a>(alloc: Global) -> Result<Command<'a>, AllocError> {
         .about("Answers a graph and its questions from standard input")
         .long_about(BUNDLE)
         .after_help(NAMES)
-        .after_long_help(ANSWERS)
-        .arg(algebra(alloc))?
-        .arg(limit(alloc, LIMIT))?;
-    engine(alloc, command)
+        .after_long_help(ANSWERS);
+    settings(alloc, command)
 }
 
 fn check<'a>(alloc: Global) -> Result<Command<'a>, AllocError> {
@@ -150,18 +153,30 @@ fn check<'a>(alloc: Global) -> Result<Command<'a>, AllocError> {
         .arg(limit(alloc, LIMIT_OF_ANSWERS))
 }
 
+fn faults<'a>(alloc: Global) -> Result<Command<'a>, AllocError> {
+    Command::new(alloc, "faults")
+        .about("Explains faults: what each means, an example, and the usual cause")
+        .after_help(EXPLAINED)
+        .arg(
+            Arg::new(alloc, "N")
+                .num_args(0..)
+                .action(ArgAction::Append)
+                .value_parser(ValueParser::unsigned(0, u64::MAX))
+                .next_line_help(true)
+                .help(NUMBERS),
+        )
+}
+
 fn command<'a>(alloc: Global) -> Result<Command<'a>, AllocError> {
     Command::new(alloc, "diffuse")
         .version(VERSION)
-        .about(
-            "Answers questions over road graphs: shortest, widest, reachability, hop,\nreliability and limited ones; every answer is proved",
-        )
+        .about(PURPOSE)
         .after_help(STATUSES)
-        .after_long_help(FAULTS)
         .subcommand_required(true)
         .subcommand(solve(alloc)?)?
         .subcommand(bundle(alloc)?)?
-        .subcommand(check(alloc)?)
+        .subcommand(check(alloc)?)?
+        .subcommand(faults(alloc)?)
 }
 
 fn text_of<'a>(matches: &ArgMatches<'a>, name: &str) -> &'a str {
@@ -192,8 +207,30 @@ fn wanted_of<'a>(matches: &ArgMatches<'a>) -> Wanted<'a> {
     }
 }
 
+fn numbers_of(alloc: Global, matches: &ArgMatches<'_>, name: &str) -> Result<Vec<u64>, AllocError> {
+    let mut numbers = Vec::new(alloc);
+    if let Some(found) = matches.get_many::<u64>(name) {
+        for number in found {
+            numbers.push(number.unwrap_or(0))?;
+        }
+    }
+    Ok(numbers)
+}
+
+/// Whether the words are `help faults`, which asks for the table itself.
+fn ask_for_all_faults(words: &[String]) -> bool {
+    match words {
+        [_, help, faults] => help.as_str() == "help" && faults.as_str() == "faults",
+        _ => false,
+    }
+}
+
 /// Reads the words of a command line, the program's own first. Errors are usage faults, help, or want of memory.
 pub fn read_job<'a>(alloc: Global, words: &'a [String]) -> Result<Option<Job<'a>>, Error> {
+    if ask_for_all_faults(words) {
+        let numbers = Vec::new(alloc);
+        return Ok(Some(Job::Faults { numbers }));
+    }
     let matches = command(alloc)?.try_get_matches_from(words)?;
     Ok(match matches.subcommand() {
         Some(("solve", found)) => Some(Job::Solve {
@@ -209,6 +246,9 @@ pub fn read_job<'a>(alloc: Global, words: &'a [String]) -> Result<Option<Job<'a>
             questions: text_of(found, "QUESTIONS"),
             answers: text_of(found, "ANSWERS"),
             limit: found.get_one::<u64>("limit"),
+        }),
+        Some(("faults", found)) => Some(Job::Faults {
+            numbers: numbers_of(alloc, found, "N")?,
         }),
         _ => None,
     })

@@ -1,9 +1,13 @@
-//! How a fault is reported: its line, and the exit status.
+//! How a command ends: what it shows, the line of a fault, and the exit status.
 ghost use Rattle.std.specs.Prelude.{◌≡◌};
-ghost use Rattle.program.specs.Reports.{EndsAs, ReportsFault, fault_text, status_of};
+ghost use Rattle.batch_run.specs.Runs.{output};
+ghost use Rattle.program.specs.Reports.{Complains, EndsAs, Reaches, ReportsFault, fault_text, status_of};
 
-use batch_run::RunFault;
+use batch_run::{RunFault, WRITE, fault_of_run};
 use road_text::{Line, RoadWrite, push_number, write_bytes};
+
+/// The exit status of wrong usage.
+pub(crate) const USAGE: u8 = 2;
 
 /// The line that reports a fault.
 pub(crate) fn line_of_fault(fault: RunFault) -> Line
@@ -50,4 +54,25 @@ pub(crate) fn end_with<E: RoadWrite>(errors: &mut E, outcome: Result<(), RunFaul
         Ok(()) => 0,
         Err(fault) => report(errors, fault),
     }
+}
+
+/// Writes a text on the output, and passes it on.
+pub(crate) fn show<W: RoadWrite>(out: &mut W, text: &[u8]) -> Result<(), RunFault>
+    ensures { Reaches text.now (output W.written W.held W.failures out.old) (output W.written W.held W.failures out.new) result }
+{
+    match write_bytes(out, text) {
+        Ok(()) => match out.flush() {
+            Ok(()) => Ok(()),
+            Err(_) => Err(fault_of_run(WRITE)),
+        },
+        Err(_) => Err(fault_of_run(WRITE)),
+    }
+}
+
+/// Says on the error output what is wrong with a command line, and gives the exit status.
+pub(crate) fn complain<E: RoadWrite>(errors: &mut E, text: &[u8]) -> u8
+    ensures { Complains text.now (output E.written E.held E.failures errors.old) (output E.written E.held E.failures errors.new) result }
+{
+    let _ = write_bytes(errors, text);
+    USAGE
 }

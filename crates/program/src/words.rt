@@ -4,19 +4,21 @@ ghost use Rattle.clap.specs.Values.{kind_of};
 ghost use Rattle.path_algebra.specs.Names.{name_of_text};
 ghost use Rattle.program.specs.Choices.{CannotBe, limit_of, name_of};
 ghost use Rattle.program.specs.Files.{BundlesGiven, SolvesFiles};
-ghost use Rattle.program.specs.Jobs.{Chooses, Complains, DoesJob, DoesWords, IsSaid, Reaches};
+ghost use Rattle.program.specs.Jobs.{Chooses, DoesJob, DoesWords, IsSaid};
 ghost use Rattle.batch_run.specs.Runs.{output};
 
 use crate::chosen::{Chosen, choose};
+use crate::fault_table::FAULTS;
+use crate::faults::explain;
 use crate::jobs::{bundle_given, check_files, solve_files};
 use crate::options::{Job, Wanted, read_job};
 use crate::places::{HostPlaces, Places};
-use crate::reports::{end_with, report};
-use batch_run::{File, RunFault, SETTINGS, WRITE, fault_of_run};
+use crate::reports::{USAGE, complain, end_with, report, show};
+use batch_run::{File, RunFault, SETTINGS, fault_of_run};
 use clap::Error;
 use clap::error::ErrorKind;
 use path_algebra::AlgebraName;
-use road_text::{Buffered, MEMORY, Plain, RoadWrite, write_bytes};
+use road_text::{Buffered, MEMORY, Plain, RoadWrite};
 use std::alloc::{AllocError, Global};
 use std::io::Write;
 use std::rt::{Env, Files};
@@ -24,32 +26,8 @@ use std::sync::Wait;
 use std::thread::Threads;
 use std::{env, io};
 
-/// The exit status of a wrong command line.
-const USAGE: u8 = 2;
-
 /// What is said of a command line that is no text.
 const NO_TEXT: &[u8] = b"error: a word of the command line is no text\n";
-
-/// Writes a text on the output, and passes it on.
-fn show<W: RoadWrite>(out: &mut W, text: &[u8]) -> Result<(), RunFault>
-    ensures { Reaches text.now (output W.written W.held W.failures out.old) (output W.written W.held W.failures out.new) result }
-{
-    match write_bytes(out, text) {
-        Ok(()) => match out.flush() {
-            Ok(()) => Ok(()),
-            Err(_) => Err(fault_of_run(WRITE)),
-        },
-        Err(_) => Err(fault_of_run(WRITE)),
-    }
-}
-
-/// Says on the error output what is wrong with a command line, and gives its status.
-fn complain<E: RoadWrite>(errors: &mut E, text: &[u8]) -> u8
-    ensures { Complains text.now (output E.written E.held E.failures errors.old) (output E.written E.held E.failures errors.new) result }
-{
-    let _ = write_bytes(errors, text);
-    USAGE
-}
 
 /// Writes what the command line's parser says: help on the output, a usage fault on the error output.
 fn usage<W: RoadWrite, E: RoadWrite>(
@@ -102,7 +80,7 @@ fn solve_wanted<R: AllocGlobal + Threads + Wait + Sync, P: Places, W: RoadWrite,
     errors: &mut E,
 ) -> u8
     ensures { Chooses (name_of_text wanted.now.algebra.now) wanted.now.limit
-        (λ chosen. SolvesFiles P.File P.opens chosen wanted.now.settings names.entry.0.now names.entry.1.now places.old places.new
+        (λ chosen. SolvesFiles P.File P.Given P.opens chosen wanted.now.settings names.entry.0.now names.entry.1.now places.old places.new
         (output W.written W.held W.failures out.old) (output W.written W.held W.failures out.new)
         (output E.written E.held E.failures errors.old) (output E.written E.held E.failures errors.new) result)
         places.old places.new
@@ -184,6 +162,7 @@ fn perform<R: AllocGlobal + Threads + Wait + Sync, P: Places, W: RoadWrite, E: R
             let names = (*graph, *questions, *answers);
             check_files(rt, rt.alloc(), places, names, *limit, out, errors)
         }
+        Job::Faults { numbers } => explain(rt.alloc(), FAULTS, numbers.as_slice(), out, errors),
     }
 }
 

@@ -1,10 +1,11 @@
 -- Inputs that are opened one after the other.
-use Rattle.std.proofs.Common.{◌≡◌, ◌⊎◌, inl, inr, ℕ, List, [], ◌∷◌, refl, subst}
-use Rattle.batch_run.specs.declared.faults.File.TheVariants.{Graph, Questions}
+use Rattle.std.proofs.Common.{◌≡◌, ◌≢◌, ◌⊎◌, inl, inr, ℕ, List, [], ◌∷◌, refl, subst}
+use Rattle.batch_run.specs.declared.faults.File.TheVariants.{Graph, Questions, Answers}
 use Rattle.batch_run.specs.declared.faults.RunFault.{RunFault}
 use Rattle.batch_run.specs.Runs.{Output}
 use Rattle.program.specs.Reports.{ReportsFault}
-use Rattle.program.specs.Files.{Opens, OpensEach, OpensInput, IsMissing, CannotOpen}
+use Rattle.program.specs.Files.{Opens, OpensEach, OpensInput, IsMissing, CannotOpen, missing}
+use Rattle.program.specs.Opened.{given_name}
 
 -- a third input is opened after two
 pub opens_third : {P : Type 0} (opens : Opens P) (a b c : List ℕ) (old mid new : P) → OpensEach opens (a ∷ b ∷ []) old mid → OpensInput opens c mid new → OpensEach opens (a ∷ b ∷ c ∷ []) old new
@@ -19,3 +20,14 @@ missing_pair opens graph questions places places_after out errors errors_after f
     inl (record { order = first.2; named = first.1; unwritten = refl; ends = subst (λ it. ReportsFault it errors.written errors_after.written errors.failures errors_after.failures result) first.0 ends })
 missing_pair opens graph questions places places_after out errors errors_after f result More (inr second) ends =
     inr (inl (record { order = second.2; named = second.1; unwritten = refl; ends = subst (λ it. ReportsFault it errors.written errors_after.written errors.failures errors_after.failures result) second.0 ends }))
+
+-- a third input can't be opened, and that is reported
+pub missing_third : {P W E : Type 0} (opens : Opens P) (a b c : List ℕ) (old mid new : P) (out : Output W) (errors errors_after : Output E) (f : RunFault) (result : ℕ) →
+    OpensEach opens (a ∷ b ∷ []) old mid → OpensInput opens c mid new → c ≢ given_name → f ≡ missing Answers → ReportsFault f errors.written errors_after.written errors.failures errors_after.failures result →
+    CannotOpen opens (a ∷ b ∷ []) c Answers old new out out errors errors_after result
+missing_third opens a b c old mid new out errors errors_after f result two third named is ends = record {
+  order = opens_third opens a b c old mid new two third;
+  named = named;
+  unwritten = refl;
+  ends = subst (λ it. ReportsFault it errors.written errors_after.written errors.failures errors_after.failures result) is ends;
+}

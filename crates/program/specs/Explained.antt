@@ -12,6 +12,14 @@ row_text row =
     ++ 10 ∷ codes "  example: " ++ row.example.now
     ++ 10 ∷ codes "  cause: " ++ row.cause.now ++ 10 ∷ []
 
+-- the numbers of the faults, in order
+abbrev pub fault_numbers : List ℕ
+fault_numbers = 1 ∷ 2 ∷ 3 ∷ 10 ∷ 11 ∷ 12 ∷ 13 ∷ 14 ∷ 15 ∷ 16 ∷ 17 ∷ 18 ∷ 19 ∷ 30 ∷ 31 ∷ 32 ∷ 33 ∷ 34 ∷ 35 ∷ 36 ∷ 40 ∷ 41 ∷ 42 ∷ 43 ∷ []
+
+-- a table with one row for each fault, in the order of their numbers
+abbrev pub IsFaultTable : List FaultRow → Type 0
+IsFaultTable table = map (λ row. row.number) table ≡ fault_numbers
+
 -- a row of this table, with this number
 abbrev pub IsRowOf : List FaultRow → ℕ → FaultRow → Type 0
 IsRowOf table number row = (row.number ≡ number) × Contains table row

@@ -9,10 +9,10 @@ use Rattle.program.specs.declared.chosen.Chosen.{Chosen}
 use Rattle.program.specs.declared.options.Wanted.{Wanted}
 use Rattle.program.specs.declared.options.Job.{Job}
 use Rattle.program.specs.declared.options.Job.TheVariants.{Solve, Bundle, Check, Faults}
-use Rattle.program.specs.declared.fault_table.TheConstants.{FAULTS}
+use Rattle.program.specs.declared.faults.FaultRow.{FaultRow}
 use Rattle.program.specs.Choices.{CannotBe, limit_of, name_of}
 use Rattle.program.specs.Reports.{EndsAs, IsUsage, Reaches, ReportsFault, run_fault}
-use Rattle.program.specs.Explained.{Explains}
+use Rattle.program.specs.Explained.{Explains, IsFaultTable}
 use Rattle.batch_run.specs.Runs.{Output}
 use Rattle.program.specs.Files.{Opens, SolvesFiles, BundlesGiven, ChecksFiles}
 
@@ -45,7 +45,7 @@ DoesJob F I opens (Bundle wanted) places places_after out out_after errors error
 DoesJob F I opens (Check graph questions answers limit) places places_after out out_after errors errors_after result =
     ChecksFiles F I opens limit graph.now questions.now answers.now places places_after out out_after errors errors_after result
 DoesJob F I opens (Faults numbers) places places_after out out_after errors errors_after result =
-    (places_after ≡ places) × Explains FAULTS.now numbers.items out out_after errors errors_after result
+    (places_after ≡ places) × ((table : List FaultRow) × IsFaultTable table × Explains table numbers.items out out_after errors errors_after result)
 
 -- some text reached the output, with status 0; or it could not be written, which is reported as fault 42
 pub record IsShown {W E : Type 0} (out out_after : Output W) (errors errors_after : Output E) (result : ℕ) : Type 0 where

@@ -1,8 +1,10 @@
 //! The table of faults.
+ghost use Rattle.program.specs.Explained.{IsFaultTable};
+
 use crate::faults::FaultRow;
 
-/// Each fault that a command can end with, by its number.
-pub const FAULTS: &[FaultRow] = &[
+/// The faults that a command can end with, and the one of a caller's gate.
+const FAULTS: &[FaultRow] = &[
     FaultRow {
         number: 1,
         meaning: "an input could not be opened or read",
@@ -160,3 +162,10 @@ pub const FAULTS: &[FaultRow] = &[
         ),
     },
 ];
+
+/// What is known of each fault, in the order of their numbers.
+pub fn all_faults() -> &'static [FaultRow]
+    ensures { IsFaultTable result.now }
+{
+    FAULTS
+}

@@ -92,7 +92,8 @@ pub const PLAIN: &str = concat!(
 /// How many questions are run together.
 pub const WIDTH: &str = concat!(
     "Questions under way together, 1 to 64; memory grows with it. With\n",
-    "`--plain` so many are solved side by side, on all processors",
+    "`--plain` they are solved side by side, on all\n",
+    "processors",
 );
 
 /// How many threads there are.
@@ -105,7 +106,7 @@ pub const SHARDS: &str = "Parts that the vertices are cut into, 1 to 64";
 pub const BUDGET: &str = "Messages and signals of a shard in a turn, 1 to 65536";
 
 /// How long a worker goes on.
-pub const TURNS: &str = "Turns of a worker in a group, then fault 40; 0 to 10^12";
+pub const TURNS: &str = "Turns of a worker in a group, then fault 40";
 
 /// What a bundle is.
 pub const BUNDLE: &str = concat!(

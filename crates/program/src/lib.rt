@@ -18,7 +18,7 @@ mod words;
 
 pub use chosen::{Chosen, choose};
 pub use commands::{bundle, check, solve};
-pub use fault_table::FAULTS;
+pub use fault_table::all_faults;
 pub use faults::{FaultRow, explain};
 pub use jobs::{bundle_given, check_files, solve_files};
 pub use judging::judge;

@@ -8,7 +8,7 @@ ghost use Rattle.program.specs.Jobs.{Chooses, DoesJob, DoesWords, IsSaid};
 ghost use Rattle.batch_run.specs.Runs.{output};
 
 use crate::chosen::{Chosen, choose};
-use crate::fault_table::FAULTS;
+use crate::fault_table::all_faults;
 use crate::faults::explain;
 use crate::jobs::{bundle_given, check_files, solve_files};
 use crate::options::{Job, Wanted, read_job};
@@ -162,7 +162,9 @@ fn perform<R: AllocGlobal + Threads + Wait + Sync, P: Places, W: RoadWrite, E: R
             let names = (*graph, *questions, *answers);
             check_files(rt, rt.alloc(), places, names, *limit, out, errors)
         }
-        Job::Faults { numbers } => explain(rt.alloc(), FAULTS, numbers.as_slice(), out, errors),
+        Job::Faults { numbers } => {
+            explain(rt.alloc(), all_faults(), numbers.as_slice(), out, errors)
+        }
     }
 }
 

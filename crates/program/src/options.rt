@@ -128,7 +128,12 @@ fn solve<'a>(alloc: Global) -> Result<Command<'a>, AllocError> {
         .about("Answers the questions of a file over the graph of another")
         .after_help(NAMES)
         .after_long_help(ANSWERS)
-        .arg(file(alloc, "GRAPH", "A road graph, a .gr file", GRAPH))?
+        .arg(file(
+            alloc,
+            "GRAPH",
+            "A road graph, a .gr file; `-` is standard input",
+            GRAPH,
+        ))?
         .arg(file(alloc, "QUESTIONS", "A .ss, .p2p or .ms file", QUESTIONS))?;
     settings(alloc, command)
 }
@@ -147,7 +152,12 @@ fn check<'a>(alloc: Global) -> Result<Command<'a>, AllocError> {
         .about("Judges answers, whoever made them, and tells the first wrong place")
         .after_help(VERDICT)
         .after_long_help(VERDICTS)
-        .arg(file(alloc, "GRAPH", "A road graph, a .gr file", GRAPH))?
+        .arg(file(
+            alloc,
+            "GRAPH",
+            "A road graph, a .gr file; `-` is standard input",
+            GRAPH,
+        ))?
         .arg(file(alloc, "QUESTIONS", "A .ss, .p2p or .ms file", QUESTIONS))?
         .arg(file(alloc, "ANSWERS", "The answers to judge", JUDGED))?
         .arg(limit(alloc, LIMIT_OF_ANSWERS))

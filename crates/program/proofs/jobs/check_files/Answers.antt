@@ -17,15 +17,18 @@ returns-in-Err-open g c =
 pub returns : goal.returns
 returns g c =
     let once : IsGivenOnce (c.args.names.0.now ∷ c.args.names.1.now ∷ c.args.names.2.now ∷ []) = search rules in
-    inr (once, inr (inr (inr (record {
-      order = opens_third g.P.Places.opens c.args.names.0.now c.args.names.1.now c.args.names.2.now c.args.places.now c.open_both.new.places c.open.new.places c.in-Ok.ensures.order c.open.ensures.opens;
-      first = _;
-      first_after = _;
-      second = _;
-      second_after = _;
-      third = _;
-      third_after = _;
-      named = (c.in-Ok.ensures.named.0, c.in-Ok.ensures.named.1, c.in-Ok-open.ensures.named);
-      unread = (c.in-Ok.ensures.unread.0, c.in-Ok.ensures.unread.1, c.in-Ok-open.ensures.unread);
-      checks = c.check.ensures;
-    }))))
+    inr (
+      once,
+      inr (inr (inr (record {
+        order = opens_third g.P.Places.opens c.args.names.0.now c.args.names.1.now c.args.names.2.now c.args.places.now c.open_both.new.places c.open.new.places c.in-Ok.ensures.order c.open.ensures.opens;
+        first = _;
+        first_after = _;
+        second = _;
+        second_after = _;
+        third = _;
+        third_after = _;
+        named = (c.in-Ok.ensures.named.0, c.in-Ok.ensures.named.1, c.in-Ok-open.ensures.named);
+        unread = (c.in-Ok.ensures.unread.0, c.in-Ok.ensures.unread.1, c.in-Ok-open.ensures.unread);
+        checks = c.check.ensures;
+      }))),
+    )

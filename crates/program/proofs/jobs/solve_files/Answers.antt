@@ -11,13 +11,16 @@ returns-in-Err g c =
 pub returns : goal.returns
 returns g c =
     let once : IsGivenOnce (c.args.names.0.now ∷ c.args.names.1.now ∷ []) = search rules in
-    inr (once, inr (inr (record {
-      order = c.in-Ok.ensures.order;
-      first = _;
-      first_after = _;
-      second = _;
-      second_after = _;
-      named = c.in-Ok.ensures.named;
-      unread = c.in-Ok.ensures.unread;
-      solves = c.solve.ensures;
-    })))
+    inr (
+      once,
+      inr (inr (record {
+        order = c.in-Ok.ensures.order;
+        first = _;
+        first_after = _;
+        second = _;
+        second_after = _;
+        named = c.in-Ok.ensures.named;
+        unread = c.in-Ok.ensures.unread;
+        solves = c.solve.ensures;
+      })),
+    )

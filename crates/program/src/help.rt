@@ -36,8 +36,8 @@ pub const ALGEBRA: &str = concat!(
     "  reach     any walk\n",
     "  hops      the fewest arcs\n",
     "  reliable  the greatest product of chances: weights are in parts of\n",
-    "            10^6, values in parts of 10^12. A product below 10^-12 is 0\n",
-    "            (some 261 arcs of 0.9); after it hops alone choose\n",
+    "            10^6, values in parts of 10^12. A product below 10^-12 is\n",
+    "            0 (some 261 arcs of 0.9); after it hops alone choose\n",
     "  within    the least sum of weights, up to `--limit`",
 );
 

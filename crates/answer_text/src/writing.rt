@@ -7,6 +7,7 @@ ghost use Rattle.answer_text.specs.Told.{found_of, told_list_of, told_of};
 
 use crate::answers::{Answer, Answers, Found, Reached};
 use crate::lines::{fill_vertex, line_of_found, line_of_header, line_of_pair, line_of_source};
+use crate::vertex_lines::VertexLine;
 use path_algebra::AlgebraName;
 use road_files::Kind;
 use road_text::{Line, RoadWrite, WriteFault, write_bytes, write_list};
@@ -26,14 +27,14 @@ pub fn write_header<W: RoadWrite>(
     write_bytes(to, line_of_header(kind, count, name).as_str().as_bytes())
 }
 
-/// Writes the first line of an answer from one source. `write_vertex` writes the lines that follow it.
+/// Writes the first line of an answer from one source. `write_vertex_line` writes the lines that follow it.
 pub fn write_source_line<W: RoadWrite>(to: &mut W, source: u32) -> Result<(), WriteFault>
     ensures { WritesText W.written W.failures to.old to.new (spelled (source_words source)) result }
 {
     write_bytes(to, line_of_source(source).as_str().as_bytes())
 }
 
-/// Writes the first line of an answer from several sources. `write_vertex` writes the lines that follow it.
+/// Writes the first line of an answer from several sources. `write_vertex_line` writes the lines that follow it.
 pub fn write_sources_line<W: RoadWrite>(to: &mut W, sources: &[u32]) -> Result<(), WriteFault>
     ensures { WritesText W.written W.failures to.old to.new (spelled (list_words (codes "m") sources.now)) result }
 {
@@ -53,15 +54,28 @@ pub fn write_vertex<W: RoadWrite>(
     write_bytes(to, line.as_str().as_bytes())
 }
 
+/// Writes the line of a vertex. `line` is room for the text of it, whatever it holds: one serves for all vertices.
+pub fn write_vertex_line<W: RoadWrite>(
+    to: &mut W,
+    line: &mut VertexLine,
+    vertex: u64,
+    reached: Option<Reached>,
+) -> Result<(), WriteFault>
+    ensures { WritesText W.written W.failures to.old to.new (spelled (vertex_words vertex reached)) result }
+{
+    line.fill(vertex, reached);
+    write_bytes(to, line.as_bytes())
+}
+
 // Writes the lines of all vertices.
 fn write_vertices<W: RoadWrite>(to: &mut W, lines: &[Option<Reached>]) -> Result<(), WriteFault>
     ensures { WritesText W.written W.failures to.old to.new (text_of (vertex_lines 1 lines.now)) result }
 {
     let mut vertex: u64 = 0;
-    let mut text = Line::new();
+    let mut text = VertexLine::new();
     for line in lines {
         vertex += 1;
-        write_vertex(to, &mut text, vertex, *line)?;
+        write_vertex_line(to, &mut text, vertex, *line)?;
     }
     Ok(())
 }

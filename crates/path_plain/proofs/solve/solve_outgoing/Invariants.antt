@@ -1,6 +1,6 @@
 use Rattle.std.proofs.Common.{◌≡◌, ◌+◌, ◌*◌, length}
 use Rattle.path_plain.proofs.Rounds.{Between, unsettled}
-use Rattle.path_plain.proofs.solve.solve_from.Given as goal
+use Rattle.path_plain.proofs.solve.solve_outgoing.Given as goal
 
 abbrev pub invariant-loop-search : goal.invariant-loop-search
 invariant-loop-search g l = record {

@@ -1,6 +1,6 @@
 use Rattle.std.proofs.Common.{ℕ, ◌≤◌, ◌<◌, ◌^◌}
 use Rattle.road_graph.specs.Roads.{JoinsVertices, arc_of}
-use Rattle.road_graph.proofs.compact.first_bad.Given as goal
+use Rattle.road_graph.proofs.bad_ends.first_bad.Given as goal
 
 abbrev pub invariant-loop-i : goal.invariant-loop-i
 invariant-loop-i l = record {

@@ -2,7 +2,7 @@ use Rattle.std.proofs.Common.{◌∙◌, subst, true, false}
 use Rattle.path_plain.specs.Searching.{Proceeds}
 use Rattle.path_plain.proofs.Rounds.{starting}
 use Rattle.path_plain.proofs.Steps.{next_round, last_round, comes_nearer}
-use Rattle.path_plain.proofs.solve.solve_from.Goals as goal
+use Rattle.path_plain.proofs.solve.solve_outgoing.Goals as goal
 
 pub loop-search-init : goal.loop-search-init
 loop-search-init g c = record {

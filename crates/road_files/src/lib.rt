@@ -4,7 +4,9 @@
 mod bundle_files;
 mod bundle_parser;
 mod bundle_part;
+mod from_arcs;
 mod graph_files;
+mod graph_maker;
 mod graph_parser;
 mod laws;
 mod number_fields;
@@ -18,8 +20,9 @@ mod taken_roads;
 mod writing;
 mod written_lines;
 
-pub use bundle_files::read_bundle;
-pub use graph_files::read_gr;
+pub use bundle_files::{read_bundle, read_bundle_as};
+pub use from_arcs::FromArcs;
+pub use graph_files::{read_gr, read_gr_as};
 pub use laws::{bundle_read_again, graph_read_again, lines_say_the_graph, questions_read_again};
 pub use question_files::{read_ms, read_p2p, read_questions, read_ss};
 pub use questions::{Kind, Questions};

@@ -8,3 +8,4 @@ pub mod Rising
 pub mod Places
 pub mod Entries
 pub mod OneRows
+pub mod Reversing

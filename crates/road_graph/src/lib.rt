@@ -8,12 +8,14 @@
 
 mod bad_ends;
 mod compact;
+mod in_graph;
 mod index;
 mod lookup;
 mod out_graph;
 mod rows;
 
 pub use compact::Graph;
+pub use in_graph::InGraph;
 pub use out_graph::OutGraph;
 use std::alloc::AllocError;
 use std::marker::Model;

@@ -2,7 +2,7 @@
 
 ghost use Rattle.std.specs.Prelude.{◌≡◌, ℕ, ◌+◌, ◌-◌, ◌<◌, ◌≤◌, ◌↔◌, ◌^◌, List, length, IsTrue, MatchResult};
 ghost use Rattle.road_graph.specs.Roads.{IsRoads};
-ghost use Rattle.road_graph.specs.Making.{AreRoadRows, AreNumbers};
+ghost use Rattle.road_graph.specs.Making.{AreRoadRows, AreNumbers, AreStarts};
 
 use crate::bad_ends::first_bad;
 use crate::rows::{range_of, road_rows_of};
@@ -129,7 +129,8 @@ impl OutGraph {
     /// Where the row of each vertex starts, and the end of the last.
     #[inline]
     pub(crate) fn starts(&self) -> &[u32]
-        ensures { (numbers : List ℕ) → AreNumbers Tail self.now numbers → AreRows Tail self.now.vertices self.now.arcs result.now numbers }
+        ensures some { AreStarts Tail self.now result.now }
+        ensures all { (numbers : List ℕ) → AreNumbers Tail self.now numbers → AreRows Tail self.now.vertices self.now.arcs result.now numbers }
     {
         self.starts.as_slice()
     }

@@ -2,8 +2,8 @@
 ghost use Rattle.std.specs.Prelude.{◌≡◌, ◌<◌, ◌≤◌, Some, length};
 
 use answer_text::{
-    Answer, Answers, Found, Reached, read_answers, write_answer, write_answers, write_header,
-    write_source_line, write_sources_line, write_vertex,
+    Answer, Answers, Found, Reached, VertexLine, read_answers, write_answer, write_answers,
+    write_header, write_source_line, write_sources_line, write_vertex, write_vertex_line,
 };
 use arrayvec::ArrayVec;
 use ghost_count::Count;
@@ -16,6 +16,9 @@ use std::test::Fail;
 
 const SHORTEST: &[u8] =
     b"p ans ss 1 shortest\ns 1\nd 1 0 0 0\nd 2 3 2 3\nd 3 1 1 1\nd 4 8 3 2\nu 5\n";
+
+const LONGEST: &[u8] =
+    b"d 18446744073709551615 18446744073709551615 4294967295 4294967295\nu 10\n";
 
 const PAIRS: &[u8] =
     b"p ans p2p 3 shortest\nq 1 4\nd 8 3\nr 1 3 2 4\nq 4 1\nu\nq 5 5\nd 0 0\nr 5\n";
@@ -207,6 +210,21 @@ fn several_sources(rt: HostRuntime) -> Result<(), Fail> {
     assert_eq!(rt; sheet.bytes.as_slice(), SEVERAL);
     assert_eq!(rt; write_source_line(&mut sheet, 7), Ok(()));
     Ok(())
+}
+
+/// The longest line of a vertex: each number is the greatest of its type.
+#[test]
+fn the_longest_line_of_a_vertex(rt: HostRuntime) {
+    let mut sheet = Sheet::new(256, 7);
+    let mut line = VertexLine::new();
+    let longest = Some(Reached {
+        code: u64::MAX,
+        hops: u32::MAX,
+        parent: u32::MAX,
+    });
+    assert_eq!(rt; write_vertex_line(&mut sheet, &mut line, u64::MAX, longest), Ok(()));
+    assert_eq!(rt; write_vertex_line(&mut sheet, &mut line, 10, None), Ok(()));
+    assert_eq!(rt; sheet.bytes.as_slice(), LONGEST);
 }
 
 #[test]

@@ -1,6 +1,6 @@
 use Rattle.path_algebra.proofs.Walks.{all_inside}
 use Rattle.route_tree.proofs.Trees.{tree_is}
-use Rattle.route_tree.proofs.tight_tree.tree.Goals as goal
+use Rattle.route_tree.proofs.tight_tree.tree_outgoing.Goals as goal
 
 pub returns : goal.returns
 returns g c =

@@ -153,7 +153,13 @@ fn rows_by_one_side_alone(rt: HostRuntime) {
     let leaving = [road(2, 4), road(3, 1), road(3, 9)];
     assert_ways(&rt, (out, &into), 1, &leaving, &[road(5, 3)]);
     assert_ways(&rt, (out, &into), 2, &[], &[road(1, 4), road(3, 2)]);
-    assert_ways(&rt, (out, &into), 3, &[road(2, 2)], &[road(1, 1), road(1, 9)]);
+    assert_ways(
+        &rt,
+        (out, &into),
+        3,
+        &[road(2, 2)],
+        &[road(1, 1), road(1, 9)],
+    );
     assert_ways(&rt, (out, &into), 4, &[road(4, 0)], &[road(4, 0)]);
     assert_ways(&rt, (out, &into), 5, &[road(1, 3)], &[]);
 }

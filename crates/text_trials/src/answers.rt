@@ -17,8 +17,7 @@ use std::test::Fail;
 const SHORTEST: &[u8] =
     b"p ans ss 1 shortest\ns 1\nd 1 0 0 0\nd 2 3 2 3\nd 3 1 1 1\nd 4 8 3 2\nu 5\n";
 
-const LONGEST: &[u8] =
-    b"d 18446744073709551615 18446744073709551615 4294967295 4294967295\nu 10\n";
+const LONGEST: &[u8] = b"d 18446744073709551615 18446744073709551615 4294967295 4294967295\nu 10\n";
 
 const PAIRS: &[u8] =
     b"p ans p2p 3 shortest\nq 1 4\nd 8 3\nr 1 3 2 4\nq 4 1\nu\nq 5 5\nd 0 0\nr 5\n";
@@ -222,7 +221,10 @@ fn the_longest_line_of_a_vertex(rt: HostRuntime) {
         hops: u32::MAX,
         parent: u32::MAX,
     });
-    assert_eq!(rt; write_vertex_line(&mut sheet, &mut line, u64::MAX, longest), Ok(()));
+    assert_eq!(rt;
+        write_vertex_line(&mut sheet, &mut line, u64::MAX, longest),
+        Ok(())
+    );
     assert_eq!(rt; write_vertex_line(&mut sheet, &mut line, 10, None), Ok(()));
     assert_eq!(rt; sheet.bytes.as_slice(), LONGEST);
 }

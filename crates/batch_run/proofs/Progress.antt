@@ -24,7 +24,7 @@ use Rattle.batch_run.specs.declared.settings.Settings.{Settings}
 use Rattle.worker_fleet.specs.declared.group.GroupFault.{GroupFault}
 use Rattle.worker_fleet.specs.declared.group.GroupFault.TheVariants as group
 use Rattle.batch_run.specs.Answered.{WroteAnswer, WroteAnswers, begun_text, WroteFirst, WroteWhole, WroteAllOrFirst, fault_of_answer, fault_of_group}
-use Rattle.batch_run.specs.Ran.{IsLater}
+use Rattle.batch_run.specs.Ran.{IsLater, IsPlainLater}
 
 -- the first i questions were answered, and the answers written
 pub record Progress {V : Type 0} (A : Algebra V) (g : Roads) (asked : Asked) (i : ℕ) (old new : Option (List ℕ)) (before after : ℕ) : Type 0 where
@@ -108,6 +108,11 @@ module _ {V : Type 0} (A : Algebra V) (g : Roads) (asked : Asked) where
     fault_later variants.Memory h s is_open = ((refl, refl, inl refl), λ e. absurd (omega (arith, e)))
     fault_later variants.Write h s is_open = ((refl, refl, inr (inr (inr refl))), λ e. omega (arith, h.2.failed, p.left.sound))
 
+    -- the same, where the plain solver answers
+    pub plain_later : (u : Unanswered) → WroteAnswer A g (get_or asked.questions i q) mid new m a (Err u) → IsPlainLater (fault_of_answer u) × ((fault_of_answer u).number ≡ 42 → b < a)
+    plain_later variants.Memory h = ((refl, refl, inl refl), λ e. absurd (omega (arith, e)))
+    plain_later variants.Write h = ((refl, refl, inr refl), λ e. omega (arith, h.2.failed, p.left.sound))
+
     -- memory was refused between two answers, and no write failed
     pub whole : (u : Unanswered) → WroteAnswer A g (get_or asked.questions i q) mid new m a (Err u) → (fault_of_answer u).number ≢ 42 → WroteWhole A g asked old new
     whole variants.Memory h ne = subst (WroteWhole A g asked old) (sym h.0) (stop_whole i old mid b m p)
@@ -180,3 +185,8 @@ pub group_later : {X : Type 0} (s : Settings) (is_open : Type 0) (layout : Optio
 group_later s is_open layout group.Memory p n o = (refl, refl, inl refl)
 group_later s is_open layout group.Stalled p n o = (refl, refl, inr (inl (refl, false_from_ne_true s.plain (λ e. let bad : group.Stalled ≡ group.Memory = n (p e) in cc))))
 group_later s is_open layout group.Gated p n o = (refl, refl, inr (inr (inl (refl, false_from_ne_true s.plain (λ e. let bad : group.Gated ≡ group.Memory = n (p e) in cc), λ always. o always refl))))
+
+-- where the plain solver answers there is no other fault
+pub plain_is_later : (s : Settings) (is_open : Type 0) (X : RunFault → Type 0) (r : Result (Unit {0}) RunFault) → IfErr r (λ f. IsPlainLater f × X f) → IfErr r (λ f. IsLater s is_open f × X f)
+plain_is_later s is_open X (Ok u) h = tt
+plain_is_later s is_open X (Err f) h = ((h.0.0, h.0.1, elim h.0.2 [ inl memory ↦ inl memory | inr write ↦ inr (inr (inr write)) ]), h.1)

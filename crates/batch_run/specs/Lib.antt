@@ -8,3 +8,5 @@ pub mod Ran
 pub mod FaultTexts
 pub mod Stopping
 pub mod Runs
+pub mod Ways
+pub mod BatchGraphs

@@ -82,6 +82,10 @@ abbrev pub IsLater : Settings → Type 0 → RunFault → Type 0
 IsLater s is_open f = (f.file ≡ NoFile) × (f.line ≡ 0)
     × ((f.number ≡ 3) ⊎ (((f.number ≡ 40) × (s.plain ≡ false)) ⊎ (((f.number ≡ 41) × (s.plain ≡ false) × (is_open → ⊥)) ⊎ (f.number ≡ 42))))
 
+-- a fault that comes then, where the plain solver answers: memory or a write
+abbrev pub IsPlainLater : RunFault → Type 0
+IsPlainLater f = (f.file ≡ NoFile) × (f.line ≡ 0) × ((f.number ≡ 3) ⊎ (f.number ≡ 42))
+
 -- nothing is held back: all was passed on, or passing it on failed
 abbrev pub IsPassedOn : List ℕ → ℕ → ℕ → Type 0
 IsPassedOn held before after = (held ≡ []) ⊎ (before < after)

@@ -12,12 +12,13 @@ ghost use Rattle.batch_run.specs.Solved.{IsSolvedFor};
 use crate::faults::Unanswered;
 use crate::solving::Solved;
 use crate::telling::{write_source, write_sources};
+use crate::ways::Ways;
 use answer_text::{Answer, Found, write_answer};
 use path_algebra::{Labels, PathAlgebra};
 use road_files::Questions;
-use road_graph::{Graph, Memory, Vertex};
+use road_graph::{Memory, Vertex};
 use road_text::RoadWrite;
-use route_tree::{Tree, route_between, routes_follow_parents};
+use route_tree::{Tree, routes_follow_parents};
 use std::alloc::{AllocError, Global};
 
 /// The numbers of vertices.
@@ -32,10 +33,10 @@ fn numbers_of(alloc: Global, vertices: &[Vertex]) -> Result<Vec<u32>, AllocError
 }
 
 /// The best value, the hops and the route of a target, where its label stands.
-fn found_at<A: PathAlgebra>(
+fn found_at<'g, A: PathAlgebra>(
     alloc: Global,
     algebra: A,
-    graph: &Graph,
+    graph: &Ways<'g>,
     source: Vertex,
     target: Vertex,
     labels: &Labels<A::Value>,
@@ -50,7 +51,7 @@ fn found_at<A: PathAlgebra>(
     let Some(value) = labels.of(target) else {
         return Ok(None);
     };
-    let Some(route) = route_between(alloc, algebra, graph, source, target, labels)? else {
+    let Some(route) = graph.route(alloc, algebra, source, target, labels)? else {
         return Ok(None);
     };
     Ok(Some(Found {
@@ -61,10 +62,10 @@ fn found_at<A: PathAlgebra>(
 }
 
 /// Writes the right answer to a question from one vertex to another.
-fn answer_pair<A: PathAlgebra, W: RoadWrite>(
+fn answer_pair<'g, A: PathAlgebra, W: RoadWrite>(
     alloc: Global,
     algebra: A,
-    graph: &Graph,
+    graph: &Ways<'g>,
     pair: (Vertex, Vertex),
     labels: &Labels<A::Value>,
     out: &mut W,
@@ -90,9 +91,9 @@ fn answer_pair<A: PathAlgebra, W: RoadWrite>(
 }
 
 /// Writes the right answer to a question from one source to all vertices, by the tree of its best labels.
-fn answer_source<A: PathAlgebra, W: RoadWrite>(
+fn answer_source<'g, A: PathAlgebra, W: RoadWrite>(
     algebra: A,
-    graph: &Graph,
+    graph: &Ways<'g>,
     source: Vertex,
     labels: &Labels<A::Value>,
     tree: &Tree,
@@ -110,10 +111,10 @@ fn answer_source<A: PathAlgebra, W: RoadWrite>(
 }
 
 /// Writes the right answer to a question from several sources to all vertices, by the tree of its best labels.
-fn answer_sources<A: PathAlgebra, W: RoadWrite>(
+fn answer_sources<'g, A: PathAlgebra, W: RoadWrite>(
     alloc: Global,
     algebra: A,
-    graph: &Graph,
+    graph: &Ways<'g>,
     sources: &[Vertex],
     labels: &Labels<A::Value>,
     tree: &Tree,
@@ -135,10 +136,10 @@ fn answer_sources<A: PathAlgebra, W: RoadWrite>(
 }
 
 /// Writes the right answer to the question at a place, given its best labels, and their tree unless it is a pair.
-pub(crate) fn answer_at<A: PathAlgebra, W: RoadWrite>(
+pub(crate) fn answer_at<'g, A: PathAlgebra, W: RoadWrite>(
     alloc: Global,
     algebra: A,
-    graph: &Graph,
+    graph: &Ways<'g>,
     questions: &Questions,
     i: usize,
     solved: &Solved<A::Value>,

@@ -2,14 +2,17 @@
 #![tactic(auto)]
 
 mod answering;
+mod batch_graph;
 mod engine;
 mod faults;
 mod labelling;
 mod laws;
+mod plainly;
 mod run;
 mod settings;
 mod solving;
 mod telling;
+mod ways;
 
 pub use faults::{File, RunFault, SETTINGS, WRITE, fault_in, fault_of_run};
 pub use laws::answers_exist;

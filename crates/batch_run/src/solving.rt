@@ -13,12 +13,13 @@ ghost use Rattle.batch_run.specs.Sources.{sources_of};
 
 use crate::engine::{Ahead, Batch, Layout};
 use crate::labelling::merge_all;
+use crate::settings::Settings;
 use path_algebra::{Labels, PathAlgebra};
-use path_plain::solve_from;
+use path_plain::solve_outgoing;
 use rayon::prelude::*;
 use road_files::Questions;
-use road_graph::{Graph, Memory, Vertex};
-use route_tree::{Tree, tree};
+use road_graph::{Memory, OutGraph, Vertex};
+use route_tree::{Tree, tree_outgoing};
 use std::alloc::{AllocError, Global};
 use std::sync::Wait;
 use std::thread::Threads;
@@ -98,7 +99,7 @@ fn solved_like<V: Copy>(solved: &[Solved<V>], questions: &Questions, i: usize) -
 fn tree_unless_pair<A: PathAlgebra>(
     alloc: Global,
     algebra: A,
-    graph: &Graph,
+    graph: &OutGraph,
     questions: &Questions,
     sources: &[Vertex],
     labels: &Labels<A::Value>,
@@ -111,7 +112,7 @@ fn tree_unless_pair<A: PathAlgebra>(
     match questions {
         Questions::Pairs(_) => Ok(None),
         Questions::Sources(_) | Questions::Multi(_) => {
-            let made = tree(alloc, algebra, graph, sources, labels)?;
+            let made = tree_outgoing(alloc, algebra, graph, sources, labels)?;
             Ok(Some(made))
         }
     }
@@ -121,7 +122,7 @@ fn tree_unless_pair<A: PathAlgebra>(
 fn solve<A: PathAlgebra>(
     alloc: Global,
     algebra: A,
-    graph: &Graph,
+    graph: &OutGraph,
     questions: &Questions,
     i: usize,
 ) -> Result<Solved<A::Value>, Memory>
@@ -131,7 +132,7 @@ fn solve<A: PathAlgebra>(
 {
     let list = sources_at(alloc, questions, i)?;
     let sources = list.as_slice();
-    let labels = solve_from(alloc, algebra, graph, sources)?;
+    let labels = solve_outgoing(alloc, algebra, graph, sources)?;
     let tree = tree_unless_pair(alloc, algebra, graph, questions, sources, &labels)?;
     Ok(Solved {
         place: i,
@@ -171,7 +172,7 @@ fn solve_each<A: PathAlgebra, R: Threads + Sync>(
     rt: &R,
     alloc: Global,
     algebra: A,
-    graph: &Graph,
+    graph: &OutGraph,
     questions: &Questions,
     places: &[usize],
 ) -> Result<Vec<Solved<A::Value>>, Memory>
@@ -194,26 +195,29 @@ fn solve_each<A: PathAlgebra, R: Threads + Sync>(
 
 /// Which of those that are solved answers the question at a place. Where none has its sources, the plain solver solves it, and side
 /// by side those that follow it with other sources, as many as the width in all; it alone, where memory does not suffice for all.
-fn solve_plainly<'g, A: PathAlgebra, R: Threads + Sync, T>(
-    batch: &Batch<'g, A, R, T>,
+pub(crate) fn solve_plainly<A: PathAlgebra, R: Threads + Sync>(
+    rt: &R,
+    alloc: Global,
+    algebra: A,
+    graph: &OutGraph,
+    settings: &Settings,
     questions: &Questions,
     i: usize,
     solved: &mut Vec<Solved<A::Value>>,
 ) -> Result<usize, Memory>
-    requires settings { AreInRange batch.now.settings.now }
-    requires within { AreQuestionsOf batch.now.graph.now.vertices questions.now }
+    requires settings { AreInRange settings.now }
+    requires within { AreQuestionsOf graph.now.vertices questions.now }
     requires place { i < length (asked_of questions.now).questions }
-    requires solved { All (IsSolved (A.meaning batch.now.algebra) batch.now.graph.now (asked_of questions.now)) solved.old.items }
+    requires solved { All (IsSolved (A.meaning algebra) graph.now (asked_of questions.now)) solved.old.items }
     ensures inside { IfOk result (λ k. k < length solved.new.items) }
-    ensures answers { IfOk result (HoldsAt (IsSolvedFor (A.meaning batch.now.algebra) batch.now.graph.now (asked_of questions.now) i) solved.new.items) }
-    ensures solved { All (IsSolved (A.meaning batch.now.algebra) batch.now.graph.now (asked_of questions.now)) solved.new.items }
+    ensures answers { IfOk result (HoldsAt (IsSolvedFor (A.meaning algebra) graph.now (asked_of questions.now) i) solved.new.items) }
+    ensures solved { All (IsSolved (A.meaning algebra) graph.now (asked_of questions.now)) solved.new.items }
 {
     if let Some(k) = solved_like(solved.as_slice(), questions, i) {
         return Ok(k);
     }
     solved.clear();
-    let (rt, alloc, algebra, graph) = (batch.rt, batch.alloc, batch.algebra, batch.graph);
-    let places = places_from(alloc, questions, i, batch.settings.width as usize)?;
+    let places = places_from(alloc, questions, i, settings.width as usize)?;
     if let Ok(group) = solve_each(rt, alloc, algebra, graph, questions, places.as_slice()) {
         *solved = group;
         return Ok(0);
@@ -242,7 +246,7 @@ fn solve_by_stations<'g, A: PathAlgebra, R: Threads + Wait, T: Gate>(
     let list = sources_at(batch.alloc, questions, i)?;
     let sources = list.as_slice();
     let labels = merge_all(batch, layout, ahead, sources)?;
-    let (alloc, algebra, graph) = (batch.alloc, batch.algebra, batch.graph);
+    let (alloc, algebra, graph) = (batch.alloc, batch.algebra, batch.graph.outgoing());
     let Ok(tree) = tree_unless_pair(alloc, algebra, graph, questions, sources, &labels) else {
         return Err(GroupFault::Memory);
     };
@@ -285,9 +289,13 @@ pub(crate) fn solved_at<'g, A: PathAlgebra, R: Threads + Wait + Sync, T: Gate>(
             }
             Ok(0)
         }
-        None => match solve_plainly(batch, questions, i, solved) {
-            Ok(k) => Ok(k),
-            Err(_) => Err(GroupFault::Memory),
-        },
+        None => {
+            let (rt, alloc, algebra) = (batch.rt, batch.alloc, batch.algebra);
+            let (graph, settings) = (batch.graph.outgoing(), batch.settings);
+            match solve_plainly(rt, alloc, algebra, graph, settings, questions, i, solved) {
+                Ok(k) => Ok(k),
+                Err(_) => Err(GroupFault::Memory),
+            }
+        }
     }
 }

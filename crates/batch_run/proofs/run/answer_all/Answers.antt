@@ -1,6 +1,8 @@
-use Rattle.std.proofs.Common.{rules, arith, ap, Err, sym, subst, ◌∙◌}
+use Rattle.std.proofs.Common.{rules, arith, ap, Err, sym, subst, ◌∙◌, get_or}
+use Rattle.road_graph.specs.Roads.{Roads}
 use Rattle.road_files.specs.Asked.{asked_of, FromSource}
 use Rattle.std.proofs.lemmas.List.Elements.{All-nil}
+use Rattle.batch_run.specs.Answered.{WroteAnswer}
 use Rattle.batch_run.specs.Solved.{IsSolved, IsSolvedFor}
 use Rattle.batch_run.specs.declared.solving.Solved.{Solved}
 use Rattle.batch_run.proofs.Progress.{start, stop, stop_whole, header_fell, answered, unanswered, fault_later, group_later, whole, unfailed, more_failed, end}
@@ -41,25 +43,31 @@ returns-in-Err-solved_at-clause-more g c = let e = c.loop-i.invariant.progress.l
 
 pub answer_at-requires-clause-solved : goal.answer_at-requires-clause-solved
 answer_at-requires-clause-solved g c κs within =
-    subst (λ (s : Solved g.row.A-Value.Denot). IsSolvedFor (g.A.PathAlgebra.meaning c.args.algebra) c.args.graph.now (asked_of c.args.questions.now) c.loop-i.i s)
-    (sym c.index.ensures) (c.in-Ok-solved_at.ensures.answers c.index.result.now)
+    rw c.whole-ways.ensures (subst (λ (s : Solved g.row.A-Value.Denot). IsSolvedFor (g.A.PathAlgebra.meaning c.args.algebra) c.args.graph.now (asked_of c.args.questions.now) c.loop-i.i s)
+    (sym c.index.ensures) (c.in-Ok-solved_at.ensures.answers c.index.result.now))
+
+pub answer_at-requires-clause-within : goal.answer_at-requires-clause-within
+answer_at-requires-clause-within g c κs within = rw c.whole-ways.ensures c.requires.within
 
 pub returns-in-Err-answer_at-clause-text : goal.returns-in-Err-answer_at-clause-text
 returns-in-Err-answer_at-clause-text g c = unanswered (g.A.PathAlgebra.meaning c.args.algebra) c.args.graph.now (asked_of c.args.questions.now) c.loop-i.i _ _ _ _ _ _
-    (search rules) (FromSource 0) c.loop-i.invariant.progress c.in-Err-answer_at.unanswered (c.in-Err-answer_at.ensures (FromSource 0))
+    (search rules) (FromSource 0) c.loop-i.invariant.progress c.in-Err-answer_at.unanswered (subst (λ (r : Roads). WroteAnswer (g.A.PathAlgebra.meaning c.args.algebra) r (get_or (asked_of c.args.questions.now).questions c.loop-i.i (FromSource 0)) (g.W.RoadWrite.written c.loop-i.out) (g.W.RoadWrite.written c.answer_at.new.out) (g.W.RoadWrite.failures c.loop-i.out) (g.W.RoadWrite.failures c.answer_at.new.out) (Err c.in-Err-answer_at.unanswered))
+    c.whole-ways.ensures (c.in-Err-answer_at.ensures (FromSource 0)))
 
 pub returns-in-Err-answer_at-clause-later : goal.returns-in-Err-answer_at-clause-later
 returns-in-Err-answer_at-clause-later g c = rw (c.fault_of_answer.ensures) (fault_later (g.A.PathAlgebra.meaning c.args.algebra) c.args.graph.now (asked_of c.args.questions.now) c.loop-i.i _ _ _ _ _ _
-    (search rules) (FromSource 0) c.loop-i.invariant.progress c.in-Err-answer_at.unanswered (c.in-Err-answer_at.ensures (FromSource 0)) c.args.settings.now (g.T.Gate.is_always_open c.args.gate.now))
+    (search rules) (FromSource 0) c.loop-i.invariant.progress c.in-Err-answer_at.unanswered (subst (λ (r : Roads). WroteAnswer (g.A.PathAlgebra.meaning c.args.algebra) r (get_or (asked_of c.args.questions.now).questions c.loop-i.i (FromSource 0)) (g.W.RoadWrite.written c.loop-i.out) (g.W.RoadWrite.written c.answer_at.new.out) (g.W.RoadWrite.failures c.loop-i.out) (g.W.RoadWrite.failures c.answer_at.new.out) (Err c.in-Err-answer_at.unanswered))
+    c.whole-ways.ensures (c.in-Err-answer_at.ensures (FromSource 0))) c.args.settings.now (g.T.Gate.is_always_open c.args.gate.now))
 
 pub returns-in-Err-answer_at-clause-more : goal.returns-in-Err-answer_at-clause-more
 returns-in-Err-answer_at-clause-more g c = more_failed (g.A.PathAlgebra.meaning c.args.algebra) c.args.graph.now (asked_of c.args.questions.now) c.loop-i.i _ _ _ _ _ _
-    (search rules) (FromSource 0) c.loop-i.invariant.progress c.in-Err-answer_at.unanswered (c.in-Err-answer_at.ensures (FromSource 0))
+    (search rules) (FromSource 0) c.loop-i.invariant.progress c.in-Err-answer_at.unanswered (subst (λ (r : Roads). WroteAnswer (g.A.PathAlgebra.meaning c.args.algebra) r (get_or (asked_of c.args.questions.now).questions c.loop-i.i (FromSource 0)) (g.W.RoadWrite.written c.loop-i.out) (g.W.RoadWrite.written c.answer_at.new.out) (g.W.RoadWrite.failures c.loop-i.out) (g.W.RoadWrite.failures c.answer_at.new.out) (Err c.in-Err-answer_at.unanswered))
+    c.whole-ways.ensures (c.in-Err-answer_at.ensures (FromSource 0)))
 
 pub loop-i-preserved : goal.loop-i-preserved
 loop-i-preserved g c = record {
   progress = answered (g.A.PathAlgebra.meaning c.args.algebra) c.args.graph.now (asked_of c.args.questions.now) c.loop-i.i _ _ _ _ _ _
-      (search rules) (FromSource 0) c.loop-i.invariant.progress (c.in-Ok-answer_at.ensures (FromSource 0));
+      (search rules) (FromSource 0) c.loop-i.invariant.progress (rw c.whole-ways.ensures at (c.in-Ok-answer_at.ensures (FromSource 0)));
   ready = c.solved_at.ensures.ready;
   solved = c.solved_at.ensures.solved;
 }
@@ -69,8 +77,10 @@ returns-clause-text g c = end (g.A.PathAlgebra.meaning c.args.algebra) c.args.gr
 
 pub returns-in-Err-answer_at-clause-whole : goal.returns-in-Err-answer_at-clause-whole
 returns-in-Err-answer_at-clause-whole g c = rw (c.fault_of_answer.ensures) (whole (g.A.PathAlgebra.meaning c.args.algebra) c.args.graph.now (asked_of c.args.questions.now) c.loop-i.i _ _ _ _ _ _
-    (search rules) (FromSource 0) c.loop-i.invariant.progress c.in-Err-answer_at.unanswered (c.in-Err-answer_at.ensures (FromSource 0)))
+    (search rules) (FromSource 0) c.loop-i.invariant.progress c.in-Err-answer_at.unanswered (subst (λ (r : Roads). WroteAnswer (g.A.PathAlgebra.meaning c.args.algebra) r (get_or (asked_of c.args.questions.now).questions c.loop-i.i (FromSource 0)) (g.W.RoadWrite.written c.loop-i.out) (g.W.RoadWrite.written c.answer_at.new.out) (g.W.RoadWrite.failures c.loop-i.out) (g.W.RoadWrite.failures c.answer_at.new.out) (Err c.in-Err-answer_at.unanswered))
+    c.whole-ways.ensures (c.in-Err-answer_at.ensures (FromSource 0))))
 
 pub returns-in-Err-answer_at-clause-unfailed : goal.returns-in-Err-answer_at-clause-unfailed
 returns-in-Err-answer_at-clause-unfailed g c = rw (c.fault_of_answer.ensures) (unfailed (g.A.PathAlgebra.meaning c.args.algebra) c.args.graph.now (asked_of c.args.questions.now) c.loop-i.i _ _ _ _ _ _
-    (search rules) (FromSource 0) c.loop-i.invariant.progress c.in-Err-answer_at.unanswered (c.in-Err-answer_at.ensures (FromSource 0)))
+    (search rules) (FromSource 0) c.loop-i.invariant.progress c.in-Err-answer_at.unanswered (subst (λ (r : Roads). WroteAnswer (g.A.PathAlgebra.meaning c.args.algebra) r (get_or (asked_of c.args.questions.now).questions c.loop-i.i (FromSource 0)) (g.W.RoadWrite.written c.loop-i.out) (g.W.RoadWrite.written c.answer_at.new.out) (g.W.RoadWrite.failures c.loop-i.out) (g.W.RoadWrite.failures c.answer_at.new.out) (Err c.in-Err-answer_at.unanswered))
+    c.whole-ways.ensures (c.in-Err-answer_at.ensures (FromSource 0))))

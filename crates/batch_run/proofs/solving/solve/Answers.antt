@@ -8,8 +8,8 @@ use Rattle.route_tree.specs.Tree.{IsTree}
 use Rattle.batch_run.proofs.Laid.{asked_within}
 use Rattle.batch_run.proofs.solving.solve.Goals as goal
 
-pub solve_from-requires-after_bounds : goal.solve_from-requires-after_bounds
-solve_from-requires-after_bounds g c κs within =
+pub solve_outgoing-requires-after_bounds : goal.solve_outgoing-requires-after_bounds
+solve_outgoing-requires-after_bounds g c κs within =
     subst (λ (vs : List ℕ). All (HasVertex c.args.graph.now) vs) (sym (c.as_slice-sources.ensures.value ∙ c.in_ok-list.ensures (FromSource 0)))
     (asked_within c.args.graph.now.vertices c.args.questions.now c.args.i c.requires.within.within c.requires.place (FromSource 0)).1
 

@@ -20,8 +20,8 @@ merge_all-requires-clause-inside g c κs within =
 
 pub tree_unless_pair-requires-clause-sources : goal.tree_unless_pair-requires-clause-sources
 tree_unless_pair-requires-clause-sources g c κs within =
-    subst (λ (vs : List ℕ). All (HasVertex c.args.batch.now.graph.now) vs) (sym (c.as_slice-sources.ensures.value ∙ c.in_ok-list.ensures (FromSource 0)))
-    (asked_within c.args.batch.now.graph.now.vertices c.args.questions.now c.args.i c.requires.within.within c.requires.place (FromSource 0)).1
+    rw c.outgoing-graph.ensures (subst (λ (vs : List ℕ). All (HasVertex c.args.batch.now.graph.now) vs) (sym (c.as_slice-sources.ensures.value ∙ c.in_ok-list.ensures (FromSource 0)))
+    (asked_within c.args.batch.now.graph.now.vertices c.args.questions.now c.args.i c.requires.within.within c.requires.place (FromSource 0)).1)
 
 pub returns-clause-solved : goal.returns-clause-solved
 returns-clause-solved g c =
@@ -32,7 +32,7 @@ returns-clause-solved g c =
           let from = c.as_slice-sources.ensures.value ∙ c.in_ok-list.ensures d in
           record {
             labels = subst (λ (vs : List ℕ). AreBest A c.args.batch.now.graph.now vs c.in_ok-labels.labels) from c.in_ok-labels.ensures.labels;
-            tree = subst (λ (vs : List ℕ). IfSome c.in-Ok.tree (IsTree A c.args.batch.now.graph.now vs)) from c.in-Ok.ensures.tree;
+            tree = subst (λ (vs : List ℕ). IfSome c.in-Ok.tree (IsTree A c.args.batch.now.graph.now vs)) from (rw c.outgoing-graph.ensures at c.in-Ok.ensures.tree);
             kept = c.in-Ok.ensures.kept;
           };
     }

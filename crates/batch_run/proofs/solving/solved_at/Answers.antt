@@ -11,3 +11,6 @@ pub returns-in-Ok-clause-solved : goal.returns-in-Ok-clause-solved
 returns-in-Ok-clause-solved g c =
     alone_solved (g.A.PathAlgebra.meaning c.args.batch.now.algebra) c.args.batch.now.graph.now (asked_of c.args.questions.now) c.args.i c.in_ok-next-in-Some.next c.clear.new.self.items c.push.new.self.items
     c.in_ok-next-in-Some.ensures.solved c.clear.ensures.items c.in-Ok.ensures.items c.requires.place
+
+pub returns-in-Ok-solve_plainly-clause-answers : goal.returns-in-Ok-solve_plainly-clause-answers
+returns-in-Ok-solve_plainly-clause-answers g c = rw c.outgoing-graph.ensures at c.in-Ok-solve_plainly.ensures.answers

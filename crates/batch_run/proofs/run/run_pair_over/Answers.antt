@@ -1,7 +1,7 @@
 use Rattle.std.proofs.lemmas.Result.{IfErr-weaker, on_ok_weaker}
 use Rattle.batch_run.specs.declared.faults.File.TheVariants.{Graph, Questions}
 use Rattle.batch_run.proofs.OfInputs.{done, settings, of_no_input, no_failed_read, kinds, placed, stalled, gated, in_no_input, of_no_setting, begun, begun_without_memory, at_memory, begun_when_stopped}
-use Rattle.batch_run.proofs.run.run_pair.Goals as goal
+use Rattle.batch_run.proofs.run.run_pair_over.Goals as goal
 
 pub returns : goal.returns
 returns g c = record {
@@ -28,7 +28,7 @@ returns g c = record {
     once = at_memory c.answer_and_flush.result _ c.answer_and_flush.ensures.once;
     stopped = begun_when_stopped _ _ _ _ c.in-Ok.ensures.read _ _ c.answer_and_flush.result _ _ _ c.answer_and_flush.ensures.whole c.answer_and_flush.ensures.flushed;
     ends = on_ok_weaker c.answer_and_flush.result (λ _. c.in-Ok.ensures.ends) c.answer_and_flush.ensures.sound;
-    asked = c.read_pair.ensures.asked;
-    asked_questions = c.read_pair.ensures.asked_questions;
+    asked = c.read_pair_as.ensures.asked;
+    asked_questions = c.read_pair_as.ensures.asked_questions;
   };
 }

@@ -1,7 +1,7 @@
 use Rattle.std.proofs.lemmas.Result.{IfErr-weaker, on_ok_weaker}
 use Rattle.batch_run.specs.declared.faults.File.TheVariants.{Bundle}
 use Rattle.batch_run.proofs.OfInputs.{done, settings, of_no_input, no_failed_read, kinds, placed, stalled, gated, in_no_input, of_no_setting, begun, begun_without_memory, at_memory, begun_when_stopped}
-use Rattle.batch_run.proofs.run.run_bundle.Goals as goal
+use Rattle.batch_run.proofs.run.run_bundle_over.Goals as goal
 
 pub returns : goal.returns
 returns g c = record {
@@ -26,6 +26,6 @@ returns g c = record {
     once = at_memory c.answer_and_flush.result _ c.answer_and_flush.ensures.once;
     stopped = begun_when_stopped _ _ _ _ (record { told = c.in-Ok.ensures.reads.value; some_text = c.in-Ok.ensures.reads.some_text }) _ _ c.answer_and_flush.result _ _ _ c.answer_and_flush.ensures.whole c.answer_and_flush.ensures.flushed;
     end = on_ok_weaker c.answer_and_flush.result (λ _. c.in-Ok.ensures.reads.end) c.answer_and_flush.ensures.sound;
-    asked = c.read_bundle.ensures.reads.asked;
+    asked = c.read_bundle_as.ensures.reads.asked;
   };
 }

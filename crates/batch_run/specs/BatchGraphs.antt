@@ -1,0 +1,9 @@
+-- Graphs over which a batch is answered, as plain data.
+use Rattle.road_graph.specs.Roads.{Roads}
+use Rattle.batch_run.specs.declared.batch_graph.BatchGraph.{BatchGraph}
+use Rattle.batch_run.specs.declared.batch_graph.BatchGraph.TheVariants.{Whole, Outgoing}
+
+-- the graph, of whichever kind it is
+abbrev pub roads_in : BatchGraph → Roads
+roads_in (Whole g) = g
+roads_in (Outgoing g) = g

@@ -1,4 +1,6 @@
 pub mod Moved
+mod Rounds
+pub mod Stopped
 pub mod Placed
 pub mod Pushed
 pub mod Erranded

@@ -4,3 +4,4 @@ pub mod Drives
 pub mod Errands
 pub mod Dealt
 pub mod Groups
+pub mod Stops

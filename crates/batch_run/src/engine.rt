@@ -1,14 +1,17 @@
 //! Labels by diffusions that are run on threads, several together.
-ghost use Rattle.std.specs.Prelude.{◌≡◌, ◌≢◌, ℕ, ◌+◌, ◌≤◌, ◌<◌, [], ◌∷◌, ◌++◌, length, get_or, true, IfOk, IfSome, None, Err, vec_len};
-ghost use Rattle.std.specs.List.{All};
+ghost use Rattle.std.specs.Prelude.{◌≡◌, ℕ, ◌+◌, ◌≤◌, ◌<◌, [], ◌∷◌, ◌++◌, length, get_or, map, true, IfOk, IfErr, IfSome, None, vec_len};
+ghost use Rattle.std.specs.List.{All, flat_map};
 ghost use Rattle.road_graph.specs.Roads.{HasVertex};
-ghost use Rattle.road_files.specs.Asked.{AreQuestionsOf, AskWithin, IsPairOf, IsVertexOf};
+ghost use Rattle.road_files.specs.Asked.{AreQuestionsOf, asked_of};
 ghost use Rattle.path_algebra.specs.Walks.{AreBest};
 ghost use Rattle.station.specs.Opened.{AreOpened};
+ghost use Rattle.worker_fleet.specs.Stops.{Says};
 ghost use Rattle.batch_run.specs.Ended.{AreEnded, IsEnded, IsLayout, diffusion};
 ghost use Rattle.batch_run.specs.InRange.{AreInRange};
+ghost use Rattle.batch_run.specs.Sources.{sources_of};
 
 use crate::settings::Settings;
+use crate::solving::copied;
 use path_algebra::{Labels, PathAlgebra};
 use post_floor::Floor;
 use road_files::Questions;
@@ -55,7 +58,7 @@ pub(crate) struct Ahead<'g, A: PathAlgebra> {
 
 /// The first vertex of each pair.
 fn starts_of(alloc: Global, pairs: &[(Vertex, Vertex)]) -> Result<Vec<Vertex>, AllocError>
-    ensures { IfOk result (λ v. (n : ℕ) → All (IsPairOf n) pairs.now → All (IsVertexOf n) v.items) }
+    ensures { IfOk result (λ v. v.items ≡ map (λ pair. pair.0) pairs.now) }
 {
     let mut starts = Vec::new(alloc);
     for (source, _) in pairs {
@@ -66,7 +69,7 @@ fn starts_of(alloc: Global, pairs: &[(Vertex, Vertex)]) -> Result<Vec<Vertex>, A
 
 /// The vertices of all lists, one after the other.
 fn all_of(alloc: Global, lists: &[Vec<Vertex>]) -> Result<Vec<Vertex>, AllocError>
-    ensures { IfOk result (λ v. (n : ℕ) → All (λ list. All (IsVertexOf n) list.items) lists.now → All (IsVertexOf n) v.items) }
+    ensures { IfOk result (λ v. v.items ≡ flat_map (λ list. list.items) lists.now) }
 {
     let mut vertices = Vec::new(alloc);
     for list in lists {
@@ -77,14 +80,10 @@ fn all_of(alloc: Global, lists: &[Vec<Vertex>]) -> Result<Vec<Vertex>, AllocErro
 
 /// The sources of all questions, in order.
 fn all_sources(alloc: Global, questions: &Questions) -> Result<Vec<Vertex>, AllocError>
-    ensures { IfOk result (λ v. (n : ℕ) → AskWithin n questions.now → All (IsVertexOf n) v.items) }
+    ensures { IfOk result (λ v. v.items ≡ flat_map sources_of (asked_of questions.now).questions) }
 {
     match questions {
-        Questions::Sources(sources) => {
-            let mut all = Vec::new(alloc);
-            all.extend_from_slice(sources.as_slice())?;
-            Ok(all)
-        }
+        Questions::Sources(sources) => copied(alloc, sources.as_slice()),
         Questions::Pairs(pairs) => starts_of(alloc, pairs.as_slice()),
         Questions::Multi(lists) => all_of(alloc, lists.as_slice()),
     }
@@ -110,6 +109,7 @@ pub(crate) fn prepare(
     requires within { AreQuestionsOf graph.now.vertices questions.now }
     requires settings { AreInRange settings.now }
     ensures layout { IfOk result (λ g. IfSome g (λ g. IsLayout graph.now g.plan g.sources.items)) }
+    ensures sources { IfOk result (λ g. IfSome g (λ g. g.sources.items ≡ flat_map sources_of (asked_of questions.now).questions)) }
     ensures plain { settings.now.plain ≡ true → IfOk result (λ g. g ≡ None) }
 {
     if settings.plain {
@@ -233,7 +233,7 @@ fn run_together<'g, A: PathAlgebra, R: Threads + Wait, T: Gate>(
     ensures source { IfOk result (λ r. r.0.source ≡ source) }
     ensures first { IfOk result (λ r. IsEnded batch.now.algebra batch.now.graph.now plan.now r.0) }
     ensures rest { IfOk result (λ r. All (IsEnded batch.now.algebra batch.now.graph.now plan.now) r.1.items) }
-    ensures open { T.is_always_open batch.now.gate.now → result ≢ Err GroupFault.Gated }
+    ensures says { IfErr result (Says (T.may_answer batch.now.gate.now) batch.now.settings.now.workers batch.now.settings.now.turns) }
 {
     let alloc = batch.alloc;
     let sources = beginning_with(alloc, source, rest)?;
@@ -276,7 +276,7 @@ fn ended_from<'g, A: PathAlgebra, R: Threads + Wait, T: Gate>(
     ensures source { IfOk result (λ e. e.source ≡ source) }
     ensures ended { IfOk result (IsEnded batch.now.algebra batch.now.graph.now plan.now) }
     ensures ready { All (IsEnded batch.now.algebra batch.now.graph.now plan.now) ready.new.items }
-    ensures open { T.is_always_open batch.now.gate.now → result ≢ Err GroupFault.Gated }
+    ensures says { IfErr result (Says (T.may_answer batch.now.gate.now) batch.now.settings.now.workers batch.now.settings.now.turns) }
 {
     if let Some(ended) = ready.pop() {
         if ended.source == source {
@@ -301,7 +301,7 @@ pub(crate) fn next_labels<'g, A: PathAlgebra, R: Threads + Wait, T: Gate>(
     requires ready { All (IsEnded batch.now.algebra batch.now.graph.now layout.now.plan) ahead.old.ended.items }
     ensures labels { IfOk result (λ labels. AreBest (A.meaning batch.now.algebra) batch.now.graph.now (source ∷ []) labels) }
     ensures ready { All (IsEnded batch.now.algebra batch.now.graph.now layout.now.plan) ahead.new.ended.items }
-    ensures open { T.is_always_open batch.now.gate.now → result ≢ Err GroupFault.Gated }
+    ensures says { IfErr result (Says (T.may_answer batch.now.gate.now) batch.now.settings.now.workers batch.now.settings.now.turns) }
 {
     let sources = layout.sources.as_slice();
     let width = batch.settings.width as usize;

@@ -1,7 +1,8 @@
 //! Best labels from a list of sources, by stations.
-ghost use Rattle.std.specs.Prelude.{◌≢◌, ◌≤◌, length, All, IfOk, Err};
+ghost use Rattle.std.specs.Prelude.{◌≤◌, length, All, IfOk, IfErr};
 ghost use Rattle.road_graph.specs.Roads.{HasVertex};
 ghost use Rattle.path_algebra.specs.Walks.{AreBest};
+ghost use Rattle.worker_fleet.specs.Stops.{Says};
 ghost use Rattle.batch_run.specs.Ended.{IsEnded, IsLayout};
 ghost use Rattle.batch_run.specs.InRange.{AreInRange};
 
@@ -26,7 +27,7 @@ pub(crate) fn merge_all<'g, A: PathAlgebra, R: Threads + Wait, T: Gate>(
     requires ready { All (IsEnded batch.now.algebra batch.now.graph.now layout.now.plan) ahead.old.ended.items }
     ensures labels { IfOk result (λ labels. AreBest (A.meaning batch.now.algebra) batch.now.graph.now sources.now labels) }
     ensures ready { All (IsEnded batch.now.algebra batch.now.graph.now layout.now.plan) ahead.new.ended.items }
-    ensures open { T.is_always_open batch.now.gate.now → result ≢ Err GroupFault.Gated }
+    ensures says { IfErr result (Says (T.may_answer batch.now.gate.now) batch.now.settings.now.workers batch.now.settings.now.turns) }
 {
     laws_hold(batch.algebra);
     let mut labels = next_labels(batch, layout, ahead, sources[0])?;

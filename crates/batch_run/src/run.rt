@@ -1,5 +1,5 @@
 //! Runs a batch from bytes to bytes.
-ghost use Rattle.std.specs.Prelude.{◌≡◌, ◌≢◌, ℕ, ◌+◌, ◌≤◌, ◌<◌, ◌↔◌, ◌⊎◌, [], true, false, Ok, Err, IfOk, OnOk, IfErr, length};
+ghost use Rattle.std.specs.Prelude.{◌≡◌, ◌≢◌, ℕ, ◌+◌, ◌≤◌, ◌<◌, ◌↔◌, ◌⊎◌, [], Ok, Err, IfOk, OnOk, IfErr, length};
 ghost use Rattle.std.specs.Io.KnownBytes.{IsAtEnd, Keeps};
 ghost use Rattle.road_files.specs.Asked.{AreQuestionsOf, asked_of};
 ghost use Rattle.batch_run.specs.Answered.{WroteAllOrFirst, WroteAllOrFront, WroteWhole};
@@ -40,7 +40,7 @@ fn answer_all<A: PathAlgebra, W: RoadWrite, R: Threads + Wait + Sync, T: Gate>(
     requires settings { AreInRange settings.now }
     ensures text { WroteAllOrFirst (A.meaning algebra) graph.now (asked_of questions.now) (W.written out.old) (W.written out.new) result }
     ensures sound { OnOk result (W.failures out.new ≡ W.failures out.old) }
-    ensures later { IfErr result (λ f. IsLater settings.now (T.is_always_open gate.now) f × (f.number ≡ 42 → W.failures out.old < W.failures out.new)) }
+    ensures later { IfErr result (λ f. IsLater settings.now (T.may_answer gate.now) f × (f.number ≡ 42 → W.failures out.old < W.failures out.new)) }
     ensures whole { IfErr result (λ f. f.number ≢ 42 → WroteWhole (A.meaning algebra) graph.now (asked_of questions.now) (W.written out.old) (W.written out.new)) }
     ensures unfailed { IfErr result (λ f. f.number ≢ 42 → W.failures out.new ≡ W.failures out.old) }
     ensures more { W.failures out.old ≤ W.failures out.new }
@@ -120,7 +120,7 @@ fn answer_and_flush<A: PathAlgebra, W: RoadWrite, R: Threads + Wait + Sync, T: G
     ensures text { WroteAllOrFront (A.meaning algebra) graph (asked_of questions) (W.written out.old) (W.written out.new) result }
     ensures passed_on { OnOk result (W.held out.new ≡ []) }
     ensures sound { OnOk result (W.failures out.new ≡ W.failures out.old) }
-    ensures later { IfErr result (λ f. IsLater settings.now (T.is_always_open gate.now) f × (f.number ≡ 42 → W.failures out.old < W.failures out.new)) }
+    ensures later { IfErr result (λ f. IsLater settings.now (T.may_answer gate.now) f × (f.number ≡ 42 → W.failures out.old < W.failures out.new)) }
     ensures whole { IfErr result (λ f. f.number ≢ 42 → WroteWhole (A.meaning algebra) graph (asked_of questions) (W.written out.old) (W.written out.new)) }
     ensures once { IfErr result (λ f. f.number ≢ 42 → W.failures out.new ≤ W.failures out.old + 1) }
     ensures flushed { IfErr result (λ f. f.number ≢ 42 → IsPassedOn (W.held out.new) (W.failures out.old) (W.failures out.new)) }
@@ -190,7 +190,7 @@ pub fn run_pair<
     settings: &Settings,
     gate: &T,
 ) -> Result<(), RunFault>
-    ensures ran { RanPair (A.meaning algebra) settings.now (λ _ _ answer. T.is_always_open gate.now → answer ≡ true)
+    ensures ran { RanPair (A.meaning algebra) settings.now (T.may_answer gate.now)
         (input G.left G.failures G.asked graph_in.old) (input G.left G.failures G.asked graph_in.new)
         (input Q.left Q.failures Q.asked questions_in.old) (input Q.left Q.failures Q.asked questions_in.new)
         (output W.written W.held W.failures out.old) (output W.written W.held W.failures out.new) result }
@@ -215,7 +215,7 @@ pub fn run_bundle<A: PathAlgebra, B: RoadRead, W: RoadWrite, R: Threads + Wait +
     settings: &Settings,
     gate: &T,
 ) -> Result<(), RunFault>
-    ensures ran { RanBundle (A.meaning algebra) settings.now (λ _ _ answer. T.is_always_open gate.now → answer ≡ true)
+    ensures ran { RanBundle (A.meaning algebra) settings.now (T.may_answer gate.now)
         (input B.left B.failures B.asked bundle.old) (input B.left B.failures B.asked bundle.new)
         (output W.written W.held W.failures out.old) (output W.written W.held W.failures out.new) result }
 {

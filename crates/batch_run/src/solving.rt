@@ -1,11 +1,12 @@
 //! Best labels of a question, and their tree; with the plain solver, of several side by side.
-ghost use Rattle.std.specs.Prelude.{◌≡◌, ◌≢◌, ◌≤◌, ◌<◌, ◌↔◌, ◌∷◌, List, ℕ, length, slice_index_or, All, HoldsAt, IfOk, IfErr, IfSome, IsSome, None, Some, Err, IsTrue};
+ghost use Rattle.std.specs.Prelude.{◌≡◌, ◌≢◌, ◌≤◌, ◌<◌, ◌↔◌, ◌∷◌, List, ℕ, length, slice_index_or, All, HoldsAt, IfOk, IfErr, IfSome, IsSome, None, Some, IsTrue};
 ghost use Rattle.std.specs.List.{AllZip};
 ghost use Rattle.road_graph.specs.Roads.{HasVertex};
 ghost use Rattle.path_algebra.specs.Walks.{AreBest};
 ghost use Rattle.route_tree.specs.Tree.{IsTree};
 ghost use Rattle.road_files.specs.Asked.{AreQuestionsOf, Question, asked_of};
 ghost use Rattle.road_files.specs.declared.questions.Kind.TheVariants.{Pairs};
+ghost use Rattle.worker_fleet.specs.Stops.{Says};
 ghost use Rattle.batch_run.specs.Ended.{AreReady, IsEnded, IsLayout};
 ghost use Rattle.batch_run.specs.InRange.{AreInRange};
 ghost use Rattle.batch_run.specs.Solved.{IsSolved, IsSolvedAt, IsSolvedFor};
@@ -46,7 +47,7 @@ impl<V: Copy> Solved<V> {
 }
 
 /// The same vertices in a list of its own.
-fn copied(alloc: Global, vertices: &[Vertex]) -> Result<Vec<Vertex>, AllocError>
+pub(crate) fn copied(alloc: Global, vertices: &[Vertex]) -> Result<Vec<Vertex>, AllocError>
     ensures { IfOk result (λ v. v.items ≡ vertices.now) }
 {
     let mut list = Vec::new(alloc);
@@ -237,7 +238,7 @@ fn solve_by_stations<'g, A: PathAlgebra, R: Threads + Wait, T: Gate>(
     requires ready { All (IsEnded batch.now.algebra batch.now.graph.now layout.now.plan) ahead.old.ended.items }
     ensures solved { IfOk result (IsSolvedAt (A.meaning batch.now.algebra) batch.now.graph.now (asked_of questions.now) i) }
     ensures ready { All (IsEnded batch.now.algebra batch.now.graph.now layout.now.plan) ahead.new.ended.items }
-    ensures open { T.is_always_open batch.now.gate.now → result ≢ Err GroupFault.Gated }
+    ensures says { IfErr result (Says (T.may_answer batch.now.gate.now) batch.now.settings.now.workers batch.now.settings.now.turns) }
 {
     let list = sources_at(batch.alloc, questions, i)?;
     let sources = list.as_slice();
@@ -273,7 +274,7 @@ pub(crate) fn solved_at<'g, A: PathAlgebra, R: Threads + Wait + Sync, T: Gate>(
     ensures solved { All (IsSolved (A.meaning batch.now.algebra) batch.now.graph.now (asked_of questions.now)) solved.new.items }
     ensures ready { AreReady batch.now.algebra batch.now.graph.now layout.entry ahead.new.ended.items }
     ensures plain { layout.entry ≡ None → IfErr result (λ f. f ≡ GroupFault.Memory) }
-    ensures open { T.is_always_open batch.now.gate.now → result ≢ Err GroupFault.Gated }
+    ensures says { IfErr result (Says (T.may_answer batch.now.gate.now) batch.now.settings.now.workers batch.now.settings.now.turns) }
 {
     match layout {
         Some(layout) => {

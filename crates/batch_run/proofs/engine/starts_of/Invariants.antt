@@ -1,7 +1,5 @@
-use Rattle.std.proofs.Common.{ℕ}
-use Rattle.std.specs.List.{All}
-use Rattle.road_files.specs.Asked.{IsPairOf, IsVertexOf}
+use Rattle.std.proofs.Common.{◌≡◌, ℕ, map, take}
 use Rattle.batch_run.proofs.engine.starts_of.Given as goal
 
 abbrev pub invariant-loop-source : goal.invariant-loop-source
-invariant-loop-source l = (n : ℕ) → All (IsPairOf n) l.pairs → All (IsVertexOf n) l.starts.items
+invariant-loop-source l = l.starts.items ≡ map (λ (pair : ℕ × ℕ). pair.0) (take l.source-index l.pairs)

@@ -28,7 +28,7 @@ returns-in-Err-solved_at-clause-text g c = stop (g.A.PathAlgebra.meaning c.args.
 
 pub returns-in-Err-solved_at-clause-later : goal.returns-in-Err-solved_at-clause-later
 returns-in-Err-solved_at-clause-later g c = rw c.fault_of_group.ensures
-    (group_later c.args.settings.now (g.T.Gate.is_always_open c.args.gate.now) c.as_ref-layout.result c.in-Err-solved_at.fault (λ e. none_behind c.as_ref-layout.result (c.as_ref-layout.ensures.value ∙ c.in-Ok-prepare.ensures.plain e)) c.in-Err-solved_at.ensures.plain (λ always e. c.in-Err-solved_at.ensures.open always (ap Err e)), λ e. absurd (no_write c.in-Err-solved_at.fault e))
+    (group_later c.args.settings.now (g.T.Gate.may_answer c.args.gate.now) c.as_ref-layout.result c.in-Err-solved_at.fault (λ e. none_behind c.as_ref-layout.result (c.as_ref-layout.ensures.value ∙ c.in-Ok-prepare.ensures.plain e)) c.in-Err-solved_at.ensures.plain c.in-Err-solved_at.ensures.says, λ e. absurd (no_write c.in-Err-solved_at.fault e))
 
 pub returns-in-Err-solved_at-clause-whole : goal.returns-in-Err-solved_at-clause-whole
 returns-in-Err-solved_at-clause-whole g c = λ ne. stop_whole (g.A.PathAlgebra.meaning c.args.algebra) c.args.graph.now (asked_of c.args.questions.now) c.loop-i.i _ _ _ _ c.loop-i.invariant.progress
@@ -50,7 +50,7 @@ returns-in-Err-answer_at-clause-text g c = unanswered (g.A.PathAlgebra.meaning c
 
 pub returns-in-Err-answer_at-clause-later : goal.returns-in-Err-answer_at-clause-later
 returns-in-Err-answer_at-clause-later g c = rw (c.fault_of_answer.ensures) (fault_later (g.A.PathAlgebra.meaning c.args.algebra) c.args.graph.now (asked_of c.args.questions.now) c.loop-i.i _ _ _ _ _ _
-    (search rules) (FromSource 0) c.loop-i.invariant.progress c.in-Err-answer_at.unanswered (c.in-Err-answer_at.ensures (FromSource 0)) c.args.settings.now (g.T.Gate.is_always_open c.args.gate.now))
+    (search rules) (FromSource 0) c.loop-i.invariant.progress c.in-Err-answer_at.unanswered (c.in-Err-answer_at.ensures (FromSource 0)) c.args.settings.now (g.T.Gate.may_answer c.args.gate.now))
 
 pub returns-in-Err-answer_at-clause-more : goal.returns-in-Err-answer_at-clause-more
 returns-in-Err-answer_at-clause-more g c = more_failed (g.A.PathAlgebra.meaning c.args.algebra) c.args.graph.now (asked_of c.args.questions.now) c.loop-i.i _ _ _ _ _ _

@@ -1,5 +1,5 @@
-use Rattle.batch_trials.proofs.batches.workers.turned_each.Goals as goal
-use Rattle.batch_trials.proofs.batches.workers.turned_each.Goals.{then-not-ended, else-not-ended}
+use Rattle.batch_trials.proofs.batches.turns.turned_each.Goals as goal
+use Rattle.batch_trials.proofs.batches.turns.turned_each.Goals.{then-not-ended, else-not-ended}
 
 pub loop-k-preserved : goal.loop-k-preserved
 loop-k-preserved g c = elim c.if-not-ended.branch [

@@ -11,7 +11,7 @@ use Rattle.shard_part.proofs.Weights.{sum_at, sum_zero}
 use Rattle.shard_part.proofs.Showing.{is_self}
 use Rattle.post_floor.specs.declared.view.View.{View}
 use Rattle.post_floor.specs.Boxes.{dest, origin}
-use Rattle.post_floor.specs.Floor.{Slot, emptied, filling, reading}
+use Rattle.post_floor.specs.Floor.{Slot, empty_slot, fill_claims, read_claims}
 use Rattle.post_floor.specs.Plays.{Unclaimed}
 use Rattle.post_floor.specs.Data.{AreOpen, HasEnd}
 use Rattle.post_floor.proofs.Totals.{is_else}
@@ -101,7 +101,7 @@ module _ {S V : Type 0} (t : Setup S) (s : ℕ) where
 
   -- one mailbox more
   pub claims_more : (v w : View S V) (slots : List (ℕ × Slot V)) (claims : List ℕ) (k : ℕ) → AreOpen t s v slots claims → Unclaimed k v → HasEnd t.plan.shards s k →
-      ((j : ℕ) → filling j w + reading j w ≡ is j k + (filling j v + reading j v)) → AreOpen t s w ((k, emptied t k) ∷ slots) (k ∷ claims)
+      ((j : ℕ) → fill_claims j w + read_claims j w ≡ is j k + (fill_claims j v + read_claims j v)) → AreOpen t s w ((k, empty_slot t k) ∷ slots) (k ∷ claims)
   claims_more v w slots claims k o free end more = record {
     keys = ap (λ (z : List ℕ). k ∷ z) o.keys;
     empty = (refl, o.empty);
@@ -120,7 +120,7 @@ module _ {S V : Type 0} (t : Setup S) (s : ℕ) where
 
   -- one less
   pub claims_less : (v w : View S V) (slots : List (ℕ × Slot V)) (claims : List ℕ) (k : ℕ) (y : Slot V) → AreOpen t s v slots claims → slots ≡ (k, y) ∷ rest slots →
-      ((j : ℕ) → is j k + (filling j w + reading j w) ≡ filling j v + reading j v) → AreOpen t s w (rest slots) (drop 1 claims)
+      ((j : ℕ) → is j k + (fill_claims j w + read_claims j w) ≡ fill_claims j v + read_claims j v) → AreOpen t s w (rest slots) (drop 1 claims)
   unfolding first_key
   claims_less v w [] claims k y o first less = absurd cc
   claims_less v w (x ∷ xs) claims k y o first less =
@@ -136,7 +136,8 @@ module _ {S V : Type 0} (t : Setup S) (s : ℕ) where
       })
 
   -- the slot that was taken last is empty
-  pub first_empty : (v : View S V) (slots : List (ℕ × Slot V)) (claims : List ℕ) (k : ℕ) (y : Slot V) → AreOpen t s v slots claims → slots ≡ (k, y) ∷ rest slots → slots ≡ (k, emptied t k) ∷ rest slots
+  pub first_empty : (v : View S V) (slots : List (ℕ × Slot V)) (claims : List ℕ) (k : ℕ) (y : Slot V) → AreOpen t s v slots claims
+      → slots ≡ (k, y) ∷ rest slots → slots ≡ (k, empty_slot t k) ∷ rest slots
   unfolding first_key
   first_empty v [] claims k y o first = absurd cc
-  first_empty v (x ∷ xs) claims k y o first = let is_k : x.0 ≡ k = ap (first_key 0) first in λ i. (is_k i, (o.empty.0 ∙ ap (emptied t) is_k) i) ∷ xs
+  first_empty v (x ∷ xs) claims k y o first = let is_k : x.0 ≡ k = ap (first_key 0) first in λ i. (is_k i, (o.empty.0 ∙ ap (empty_slot t) is_k) i) ∷ xs

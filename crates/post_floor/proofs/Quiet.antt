@@ -14,7 +14,8 @@ use Rattle.shard_part.proofs.UnderWay.{ended_empty}
 use Rattle.post_floor.specs.Floor.{core_of, ShowsQuiet}
 
 module _ {S V : Type 0} (meaning : S → Algebra V) (t : Setup S) (L : AllLawful meaning) (P : IsPlanned t 0) where
-  pub all_over : (ps : List (PartData S V)) (mailed : (ℕ → Item V → ℕ) → ℕ) (events : List Event) → Shows meaning t ps mailed (core_of meaning t events) → HasEnded (core_of meaning t events) → ShowsQuiet meaning t ps mailed events
+  pub all_over : (ps : List (PartData S V)) (mailed : (ℕ → Item V → ℕ) → ℕ) (events : List Event)
+      → Shows meaning t ps mailed (core_of meaning t events) → HasEnded (core_of meaning t events) → ShowsQuiet meaning t ps mailed events
   all_over ps mailed events shows h =
       let A = meaning t.question.algebra in
       let W = well_formed t.question.roads t.question.source P.roads P.source.0 in record {

@@ -8,7 +8,7 @@ use Rattle.scholten_core.specs.declared.event.Event.{Event}
 use Rattle.scholten_core.specs.Diffusion.{state_after}
 use Rattle.scholten_core.proofs.EveryRun.{labels_are_walk_values}
 use Rattle.shard_part.specs.Moves.{IsPlanned}
-use Rattle.shard_part.specs.PartState.{PartData, Setup, network_in, place_in, state_in}
+use Rattle.shard_part.specs.PartState.{PartData, network_in, place_in, state_in}
 use Rattle.shard_part.specs.Weights.{in_flight, part_weight}
 use Rattle.shard_part.specs.Shows.{Holds}
 use Rattle.shard_part.specs.Part.{HandledMany, IsRunOn}
@@ -19,7 +19,7 @@ use Rattle.post_floor.specs.declared.view.View.{View}
 use Rattle.post_floor.specs.Boxes.{box_count, mailbox}
 use Rattle.post_floor.specs.Data.{FloorData, SeatData, fill_box, read_box}
 use Rattle.post_floor.specs.Floor.{core_of}
-use Rattle.post_floor.specs.Plays.{ShowsPart, Known}
+use Rattle.post_floor.specs.Plays.{ShowsPart, HoldsReachedShare}
 use Rattle.station.specs.Station.{StationData, BelongsTo, HasEnded, IsStation}
 use Rattle.station.specs.declared.turn.Report.{Report}
 use Rattle.station.specs.Steps.{AreReady, AllCameIn, AllTriedFrom, AllTriedTo, Looked}
@@ -48,7 +48,8 @@ module _ {S V : Type 0} where
         read = a.knows.steps;
         reads = from.tries;
         filled = b.knows.steps;
-        fills = subst (λ (x : ℕ × List ℕ). AreTries 0 2 (λ j. (j ≢ x.0) × (get_or p.outs j [] ≢ [])) (λ j. mailbox n x.0 j (get_or x.1 j 0)) n to.outboxes a.knows.steps b.knows.steps) (λ i. (from.shard i, from.next_fill i)) to.tries;
+        fills = subst (λ (x : ℕ × List ℕ). AreTries 0 2 (λ j. (j ≢ x.0) × (get_or p.outs j [] ≢ [])) (λ j. mailbox n x.0 j (get_or x.1 j 0)) n
+            to.outboxes a.knows.steps b.knows.steps) (λ i. (from.shard i, from.next_fill i)) to.tries;
         number = look.number;
         looked = look.step;
         end_is = look.end_is;
@@ -63,7 +64,8 @@ module _ {S V : Type 0} where
       let n = f.setup.plan.shards in
       let reads = few_tries 2 0 (λ j. j ≢ c.shard) (read_box f c) c.shard (λ ne. ne refl) n l t.full c.knows.steps t.read t.reads in
       let fills = few_tries 0 2 (λ j. (j ≢ c.shard) × (get_or p.outs j [] ≢ [])) (fill_box f c) c.shard (λ ne. ne.0 refl) n l outboxes t.read t.filled t.fills in
-      all_steps (length c.knows.steps) (length t.read) (length t.filled) (length d.knows.steps) n reads fills (ap (λ (xs : List WordStep). length xs) t.looked ∙ length-append t.filled (at (box_count n) t.number ∷ []))
+      all_steps (length c.knows.steps) (length t.read) (length t.filled) (length d.knows.steps) n reads fills
+      (ap (λ (xs : List WordStep). length xs) t.looked ∙ length-append t.filled (at (box_count n) t.number ∷ []))
 
 module _ {S V : Type 0} (meaning : S → Algebra V) where
   -- no item was handled
@@ -82,7 +84,8 @@ module _ {S V : Type 0} (meaning : S → Algebra V) where
   }
 
   -- a turn after the end
-  pub rested : AllLawful meaning → (f : FloorData S) (budget : ℕ) (s : StationData S V) → IsStation meaning s → HasEnded s → BelongsTo f s → Turned meaning f budget s (record { handled = 0; taken = 0; published = 0; ended = true }) s
+  pub rested : AllLawful meaning → (f : FloorData S) (budget : ℕ) (s : StationData S V) → IsStation meaning s → HasEnded s → BelongsTo f s
+      → Turned meaning f budget s (record { handled = 0; taken = 0; published = 0; ended = true }) s
   rested L f budget s i e b = record {
     own = b;
     shard = refl;
@@ -147,8 +150,9 @@ module _ {S V : Type 0} (meaning : S → Algebra V) where
       }
 
   -- the label of a part that holds its share of a state is the value of a walk
-  pub walks : AllLawful meaning → (p : PartData S V) (s : ℕ) → IsPlanned p.setup s → Known meaning p → (v : ℕ) → IsOwn p v → (o : Option V) → o ≡ (state_in p).label v
+  pub walks : AllLawful meaning → (p : PartData S V) (s : ℕ) → IsPlanned p.setup s → HoldsReachedShare meaning p → (v : ℕ) → IsOwn p v → (o : Option V) → o ≡ (state_in p).label v
       → IfSome o (λ x. IsWalkValue (meaning p.setup.question.algebra) p.setup.question.roads (p.setup.question.source ∷ []) v x)
   walks L p s P (events, H) v own None e = tt
   walks L p s P (events, H) v own (Some x) e =
-      labels_are_walk_values (meaning p.setup.question.algebra) p.setup.question.roads p.setup.question.source (L p.setup.question.algebra) P.roads P.source.0 events v x (sym (H.tables.agree.label v (eq-eqb _ _ own.1)) ∙ sym e)
+      labels_are_walk_values (meaning p.setup.question.algebra) p.setup.question.roads p.setup.question.source (L p.setup.question.algebra) P.roads
+      P.source.0 events v x (sym (H.tables.agree.label v (eq-eqb _ _ own.1)) ∙ sym e)

@@ -8,9 +8,10 @@ ghost use Rattle.station.specs.Station.{BelongsTo, IsOver, HasEnded};
 ghost use Rattle.station.specs.Opened.{IsFreshPart, station_of};
 ghost use Rattle.station.specs.Turn.{Turned};
 
-use crate::gathering::Finished;
+use crate::finished::Finished;
 use crate::turn::{Report, fill_all, look_for_end, read_all};
 use path_algebra::PathAlgebra;
+use post_floor::laws::part_holds;
 use post_floor::{Floor, Seat};
 use road_graph::Vertex;
 use shard_part::{Part, Plan, Shard};
@@ -126,10 +127,11 @@ impl<'g, A: PathAlgebra> Station<'g, A> {
     pub fn peek(&self, v: Vertex) -> Option<A::Value>
         requires { IsOwn self.now.part v }
         ensures label { result ≡ (state_in self.now.part).label v }
-        ensures walk { IfSome result (λ x. IsWalkValue (A.meaning self.now.part.setup.question.algebra) self.now.part.setup.question.roads (self.now.part.setup.question.source ∷ []) v x) }
+        ensures walk { IfSome result
+            (λ x. IsWalkValue (A.meaning self.now.part.setup.question.algebra)
+            self.now.part.setup.question.roads (self.now.part.setup.question.source ∷ []) v x) }
     {
-        // What holds of every part.
-        let _shard = self.part.shard();
+        part_holds(&self.part);
         self.part.label(v)
     }
 }

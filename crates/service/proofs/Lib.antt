@@ -7,3 +7,5 @@ mod ServiceLaws
 mod EndLaws
 mod ServeLaws
 mod Pieces
+mod AnswerLaws
+mod RunLaws

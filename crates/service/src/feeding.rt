@@ -2,17 +2,23 @@
 ghost use Rattle.std.specs.Prelude.{◌≡◌, ℕ, ◌+◌, [], ◌++◌, List, map, min, OnOk, OnErr, Err, ◌≤◌};
 ghost use Rattle.road_text.specs.Cuts.{IsLine, IsPresent};
 ghost use Rattle.road_files.specs.RequestTakes.{RequestSoFar, state_of, ended_of};
+ghost use Rattle.service.specs.Answering.{MayAnswer};
 ghost use Rattle.service.specs.Fed.{held_line, HasTaken, LineEnded, Fed, FedPart, FedLong, LastFed, LastFedPart, Finished, FinishedPart, RepliedOrFell, goes_on, count_after};
 ghost use Rattle.road_text.specs.Rules.{at_line};
 ghost use Rattle.road_files.specs.ServiceText.{ServiceState, service_end};
 
-use crate::answers::Answers;
-use crate::replies::{send_done, send_fault};
+use crate::batch_answers::BatchAnswers;
+use crate::fault_lines::send_fault;
+use crate::replies::send_done;
 use crate::service::Service;
+use batch_run::Gate;
+use path_algebra::PathAlgebra;
 use road_files::rules::TOO_FEW;
 use road_files::{LineDone, RequestParser};
 use road_text::{LineCutter, MAX_BYTES, RoadWrite, WriteFault};
 use std::alloc::Global;
+use std::sync::Wait;
+use std::thread::Threads;
 
 /// Why bytes were not taken.
 #[derive(Clone, Copy, Debug, PartialEq, Eq)]
@@ -48,14 +54,16 @@ impl Service {
     }
 
     /// Gives the line that has ended to its request, and replies to what ends with it.
-    fn end_line<A: Answers, W: RoadWrite>(
+    fn end_line<A: PathAlgebra, R: Threads + Wait + Sync, T: Gate, W: RoadWrite>(
         &mut self,
-        answers: &A,
+        answers: &BatchAnswers<'_, A, R, T>,
         out: &mut W,
     ) -> Result<(), WriteFault>
-        requires { self.old.cutter.taker.questions.list.vertices ≡ A.vertices answers.now }
+        requires { self.old.cutter.taker.questions.list.vertices ≡ answers.now.graph.now.vertices }
         ensures ended { (at : ℕ) (line : List ℕ) → self.old.line ≡ held_line at → IsLine RequestSoFar self.old.cutter line →
-            LineEnded (A.texts answers.now) at line self.old self.new
+            LineEnded
+            (MayAnswer (A.meaning answers.now.algebra) answers.now.settings.now
+            (T.is_always_open answers.now.gate.now) answers.now.graph.now) at line self.old self.new
             (W.written out.old) (W.written out.new) (W.failures out.old) (W.failures out.new) result }
         ensures ready { IsPresent RequestSoFar self.new.cutter [] }
         ensures line { self.new.line ≡ min (self.old.line + 1) 18446744073709551615 }
@@ -71,18 +79,24 @@ impl Service {
     }
 
     /// Takes the next bytes, and replies to just those requests that the bytes so far make whole, in order.
-    pub fn feed<A: Answers, W: RoadWrite>(
+    pub fn feed<A: PathAlgebra, R: Threads + Wait + Sync, T: Gate, W: RoadWrite>(
         &mut self,
-        answers: &A,
+        answers: &BatchAnswers<'_, A, R, T>,
         bytes: &[u8],
         out: &mut W,
     ) -> Result<(), Unfed>
-        requires { self.old.cutter.taker.questions.list.vertices ≡ A.vertices answers.now }
-        ensures fed { OnOk result (Fed (A.texts answers.now) self.old self.new bytes.now
+        requires { self.old.cutter.taker.questions.list.vertices ≡ answers.now.graph.now.vertices }
+        ensures fed { OnOk result (Fed
+            (MayAnswer (A.meaning answers.now.algebra) answers.now.settings.now
+            (T.is_always_open answers.now.gate.now) answers.now.graph.now) self.old self.new bytes.now
             (W.written out.old) (W.written out.new) (W.failures out.old) (W.failures out.new)) }
-        ensures fell { result ≡ Err Unfed.Write → FedPart (A.texts answers.now) self.old self.new bytes.now
+        ensures fell { result ≡ Err Unfed.Write → FedPart
+            (MayAnswer (A.meaning answers.now.algebra) answers.now.settings.now
+            (T.is_always_open answers.now.gate.now) answers.now.graph.now) self.old self.new bytes.now
             (W.written out.old) (W.written out.new) (W.failures out.old) (W.failures out.new) }
-        ensures long { result ≡ Err Unfed.TooLong → FedLong (A.texts answers.now) self.old self.new bytes.now
+        ensures long { result ≡ Err Unfed.TooLong → FedLong
+            (MayAnswer (A.meaning answers.now.algebra) answers.now.settings.now
+            (T.is_always_open answers.now.gate.now) answers.now.graph.now) self.old self.new bytes.now
             (W.written out.old) (W.written out.new) (W.failures out.old) (W.failures out.new) }
         ensures passed_on { OnOk result (W.held out.old ≡ [] → W.held out.new ≡ []) }
         ensures vertices { self.new.cutter.taker.questions.list.vertices ≡ self.old.cutter.taker.questions.list.vertices }
@@ -108,15 +122,19 @@ impl Service {
     }
 
     /// Takes the end, and the last line, if it has no LF.
-    fn end_lines<A: Answers, W: RoadWrite>(
+    fn end_lines<A: PathAlgebra, R: Threads + Wait + Sync, T: Gate, W: RoadWrite>(
         &mut self,
-        answers: &A,
+        answers: &BatchAnswers<'_, A, R, T>,
         out: &mut W,
     ) -> Result<(), WriteFault>
-        requires { self.old.cutter.taker.questions.list.vertices ≡ A.vertices answers.now }
-        ensures fed { OnOk result (LastFed (A.texts answers.now) self.old self.new
+        requires { self.old.cutter.taker.questions.list.vertices ≡ answers.now.graph.now.vertices }
+        ensures fed { OnOk result (LastFed
+            (MayAnswer (A.meaning answers.now.algebra) answers.now.settings.now
+            (T.is_always_open answers.now.gate.now) answers.now.graph.now) self.old self.new
             (W.written out.old) (W.written out.new) (W.failures out.old) (W.failures out.new)) }
-        ensures fell { OnErr result (LastFedPart (A.texts answers.now) self.old self.new
+        ensures fell { OnErr result (LastFedPart
+            (MayAnswer (A.meaning answers.now.algebra) answers.now.settings.now
+            (T.is_always_open answers.now.gate.now) answers.now.graph.now) self.old self.new
             (W.written out.old) (W.written out.new) (W.failures out.old) (W.failures out.new)) }
         ensures passed_on { OnOk result (W.held out.old ≡ [] → W.held out.new ≡ []) }
         ensures vertices { self.new.cutter.taker.questions.list.vertices ≡ self.old.cutter.taker.questions.list.vertices }
@@ -128,13 +146,15 @@ impl Service {
     }
 
     /// Replies to the request that goes on, if one does: it has too few lines.
-    fn end_request<A: Answers, W: RoadWrite>(
+    fn end_request<A: PathAlgebra, R: Threads + Wait + Sync, T: Gate, W: RoadWrite>(
         &self,
-        _answers: &A,
+        _answers: &BatchAnswers<'_, A, R, T>,
         out: &mut W,
     ) -> Result<(), WriteFault>
         ensures replied { (at : ℕ) → self.now.line ≡ held_line at →
-            RepliedOrFell (A.texts _answers.now) (map (at_line at) (service_end (state_of self.now.cutter.taker)))
+            RepliedOrFell
+            (MayAnswer (A.meaning _answers.now.algebra) _answers.now.settings.now
+            (T.is_always_open _answers.now.gate.now) _answers.now.graph.now) (map (at_line at) (service_end (state_of self.now.cutter.taker)))
             (W.written out.old) (W.written out.new) (W.failures out.old) (W.failures out.new) result }
         ensures passed_on { OnOk result (W.held out.old ≡ [] → W.held out.new ≡ []) }
     {
@@ -145,15 +165,19 @@ impl Service {
     }
 
     /// Takes the end, and replies to the requests that it makes whole.
-    pub fn finish<A: Answers, W: RoadWrite>(
+    pub fn finish<A: PathAlgebra, R: Threads + Wait + Sync, T: Gate, W: RoadWrite>(
         mut self,
-        answers: &A,
+        answers: &BatchAnswers<'_, A, R, T>,
         out: &mut W,
     ) -> Result<(), WriteFault>
-        requires { self.cutter.taker.questions.list.vertices ≡ A.vertices answers.now }
-        ensures finished { OnOk result (Finished (A.texts answers.now) self
+        requires { self.cutter.taker.questions.list.vertices ≡ answers.now.graph.now.vertices }
+        ensures finished { OnOk result (Finished
+            (MayAnswer (A.meaning answers.now.algebra) answers.now.settings.now
+            (T.is_always_open answers.now.gate.now) answers.now.graph.now) self
             (W.written out.old) (W.written out.new) (W.failures out.old) (W.failures out.new)) }
-        ensures fell { OnErr result (FinishedPart (A.texts answers.now) self
+        ensures fell { OnErr result (FinishedPart
+            (MayAnswer (A.meaning answers.now.algebra) answers.now.settings.now
+            (T.is_always_open answers.now.gate.now) answers.now.graph.now) self
             (W.written out.old) (W.written out.new) (W.failures out.old) (W.failures out.new)) }
         ensures passed_on { OnOk result (W.held out.old ≡ [] → W.held out.new ≡ []) }
     {

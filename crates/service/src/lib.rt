@@ -1,16 +1,15 @@
-//! A service's requests as they come, and their replies: each as soon as its request is whole.
+//! A service over a graph from bytes to bytes: the graph is read once, and each request is answered
+//! as soon as it is whole.
 #![tactic(auto)]
 
-mod answers;
+mod batch_answers;
+mod fault_lines;
 mod feeding;
 mod laws;
 mod replies;
+mod run;
 mod service;
 mod serving;
 
-pub use answers::Answers;
-pub use feeding::Unfed;
 pub use laws::{files_are_requests, lines_do_what_is_said, requests_are_texts, requests_stay};
-pub use replies::write_fault;
-pub use service::Service;
-pub use serving::{Stopped, serve};
+pub use run::run_service;

@@ -4,51 +4,27 @@ ghost use Rattle.road_text.specs.Rules.{at_line, fault_at};
 ghost use Rattle.road_text.specs.Written.{WritesText};
 ghost use Rattle.road_files.specs.Asked.{asked_of, AreQuestionsOf};
 ghost use Rattle.road_files.specs.RequestTakes.{EndFits, ended_list, ended_of};
-ghost use Rattle.service.specs.Replies.{fault_text, held_line, reported_line, RepliedOrFell};
+ghost use Rattle.service.specs.Answering.{MayAnswer};
+ghost use Rattle.service.specs.Replies.{held_line, reported_line, RepliedOrFell};
 
-use crate::answers::Answers;
+use crate::batch_answers::BatchAnswers;
+use crate::fault_lines::send_fault;
+use batch_run::Gate;
+use path_algebra::PathAlgebra;
 use road_files::rules::TOO_FEW;
 use road_files::{Ended, LineDone, Questions};
-use road_text::{Line, MEMORY, RoadWrite, WriteFault, push_spaced, write_bytes};
-
-/// The line that tells a fault.
-#[tactic(auto, unfolding(road_text::specs::Texts::spelled, crate::specs::Replies::fault_text))]
-fn line_of_fault(number: u8, line: u64) -> Line
-    ensures { result.bytes ≡ fault_text number line }
-{
-    let mut text = Line::new();
-    text.push_str("f");
-    push_spaced(&mut text, u64::from(number));
-    push_spaced(&mut text, line);
-    text.push_str("\n");
-    text
-}
-
-/// Writes the line of a fault, `f NUMBER LINE`.
-pub fn write_fault<W: RoadWrite>(out: &mut W, number: u8, line: u64) -> Result<(), WriteFault>
-    ensures { WritesText W.written W.failures out.old out.new (fault_text number line) result }
-{
-    let text = line_of_fault(number, line);
-    write_bytes(out, text.as_str().as_bytes())
-}
-
-/// Writes the line of a fault, and passes it on.
-pub(crate) fn send_fault<W: RoadWrite>(out: &mut W, number: u8, line: u64) -> Result<(), WriteFault>
-    ensures wrote { WritesText W.written W.failures out.old out.new (fault_text number line) result }
-    ensures passed_on { OnOk result (W.held out.new ≡ []) }
-{
-    write_fault(out, number, line)?;
-    out.flush()
-}
+use road_text::{MEMORY, RoadWrite, WriteFault};
+use std::sync::Wait;
+use std::thread::Threads;
 
 /// Writes an answer, and passes it on.
-fn send_answer<A: Answers, W: RoadWrite>(
-    answers: &A,
+fn send_answer<A: PathAlgebra, R: Threads + Wait + Sync, T: Gate, W: RoadWrite>(
+    answers: &BatchAnswers<'_, A, R, T>,
     questions: &Questions,
     out: &mut W,
 ) -> Result<(), WriteFault>
-    requires { AreQuestionsOf (A.vertices answers.now) questions.now }
-    ensures wrote { (text : List ℕ) × A.texts answers.now (asked_of questions.now) text × WritesText W.written W.failures out.old out.new text result }
+    requires { AreQuestionsOf (answers.now.graph.now.vertices) questions.now }
+    ensures wrote { (text : List ℕ) × MayAnswer (A.meaning answers.now.algebra) answers.now.settings.now (T.is_always_open answers.now.gate.now) answers.now.graph.now (asked_of questions.now) text × WritesText W.written W.failures out.old out.new text result }
     ensures passed_on { OnOk result (W.held out.new ≡ []) }
 {
     answers.answer(questions, out)?;
@@ -66,15 +42,17 @@ fn reported_line(number: u8, line: u64) -> u64
 }
 
 /// Replies to a request that has ended with this line.
-fn send_end<A: Answers, W: RoadWrite>(
-    answers: &A,
+fn send_end<A: PathAlgebra, R: Threads + Wait + Sync, T: Gate, W: RoadWrite>(
+    answers: &BatchAnswers<'_, A, R, T>,
     ended: Option<Ended>,
     line: u64,
     out: &mut W,
 ) -> Result<(), WriteFault>
-    requires { EndFits (A.vertices answers.now) ended }
+    requires { EndFits (answers.now.graph.now.vertices) ended }
     ensures replied { (at : ℕ) → line ≡ held_line at →
-        RepliedOrFell (A.texts answers.now) (map (at_line at) (ended_list ended))
+        RepliedOrFell
+        (MayAnswer (A.meaning answers.now.algebra) answers.now.settings.now
+        (T.is_always_open answers.now.gate.now) answers.now.graph.now) (map (at_line at) (ended_list ended))
         (W.written out.old) (W.written out.new) (W.failures out.old) (W.failures out.new) result }
     ensures passed_on { OnOk result (W.held out.old ≡ [] → W.held out.new ≡ []) }
 {
@@ -86,15 +64,17 @@ fn send_end<A: Answers, W: RoadWrite>(
 }
 
 /// Replies to the requests that have ended with a line.
-pub(crate) fn send_done<A: Answers, W: RoadWrite>(
-    answers: &A,
+pub(crate) fn send_done<A: PathAlgebra, R: Threads + Wait + Sync, T: Gate, W: RoadWrite>(
+    answers: &BatchAnswers<'_, A, R, T>,
     done: LineDone,
     line: u64,
     out: &mut W,
 ) -> Result<(), WriteFault>
-    requires { EndFits (A.vertices answers.now) done.ended }
+    requires { EndFits (answers.now.graph.now.vertices) done.ended }
     ensures replied { (at : ℕ) → line ≡ held_line at →
-        RepliedOrFell (A.texts answers.now) (map (at_line at) (ended_of done))
+        RepliedOrFell
+        (MayAnswer (A.meaning answers.now.algebra) answers.now.settings.now
+        (T.is_always_open answers.now.gate.now) answers.now.graph.now) (map (at_line at) (ended_of done))
         (W.written out.old) (W.written out.new) (W.failures out.old) (W.failures out.new) result }
     ensures passed_on { OnOk result (W.held out.old ≡ [] → W.held out.new ≡ []) }
 {

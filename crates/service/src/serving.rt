@@ -1,21 +1,25 @@
 //! Serves an input to its end.
 ghost use Rattle.std.specs.Prelude.{◌≡◌, ◌≢◌, ℕ, ◌≤◌, ◌+◌, [], length, IfOk, OnOk, OnErr, Err};
 ghost use Rattle.std.specs.Io.KnownBytes.{IsAtEnd, ReadConsumes};
+ghost use Rattle.service.specs.Answering.{MayAnswer};
 ghost use Rattle.service.specs.Fed.{Served, ServedPrefix, ServedPart};
 
-use crate::answers::Answers;
+use crate::batch_answers::BatchAnswers;
 use crate::feeding::Unfed;
 use crate::service::Service;
+use batch_run::Gate;
+use path_algebra::PathAlgebra;
 use road_text::{ReadFailed, RoadRead, RoadWrite};
 use std::alloc::Global;
 use std::sync::Wait;
+use std::thread::Threads;
 
 /// The bytes that are asked for at once.
 const BUFFER: usize = 65_536;
 
 /// Why a service ended before its input.
 #[derive(Clone, Copy, Debug, PartialEq, Eq)]
-pub enum Stopped {
+pub(crate) enum Stopped {
     /// A read failed.
     Read,
     /// A write or a flush failed.
@@ -40,22 +44,36 @@ fn ask<I: RoadRead, W: RoadWrite>(
 }
 
 /// Replies to all requests of an input over a graph with this number of vertices, to each as soon as it is whole.
-pub fn serve<A: Answers, I: RoadRead, W: RoadWrite, R: Wait>(
+pub(crate) fn serve<
+    A: PathAlgebra,
+    I: RoadRead,
+    W: RoadWrite,
+    R: Threads + Wait + Sync,
+    T: Gate,
+>(
     rt: &R,
     alloc: Global,
     vertices: u32,
-    answers: &A,
+    answers: &BatchAnswers<'_, A, R, T>,
     input: &mut I,
     out: &mut W,
 ) -> Result<(), Stopped>
-    requires { vertices ≡ A.vertices answers.now }
-    ensures served { OnOk result (Served (A.texts answers.now) vertices (I.left input.old)
+    requires { vertices ≡ answers.now.graph.now.vertices }
+    ensures served { OnOk result (Served
+        (MayAnswer (A.meaning answers.now.algebra) answers.now.settings.now
+        (T.is_always_open answers.now.gate.now) answers.now.graph.now) vertices (I.left input.old)
         (W.written out.old) (W.written out.new) (W.failures out.old) (W.failures out.new)) }
-    ensures read { result ≡ Err Stopped.Read → ServedPrefix (A.texts answers.now) vertices (I.left input.old)
+    ensures read { result ≡ Err Stopped.Read → ServedPrefix
+        (MayAnswer (A.meaning answers.now.algebra) answers.now.settings.now
+        (T.is_always_open answers.now.gate.now) answers.now.graph.now) vertices (I.left input.old)
         (W.written out.old) (W.written out.new) (W.failures out.old) (W.failures out.new) × (I.failures input.new ≡ I.failures input.old + 1) }
-    ensures write { result ≡ Err Stopped.Write → ServedPart (A.texts answers.now) vertices (I.left input.old)
+    ensures write { result ≡ Err Stopped.Write → ServedPart
+        (MayAnswer (A.meaning answers.now.algebra) answers.now.settings.now
+        (T.is_always_open answers.now.gate.now) answers.now.graph.now) vertices (I.left input.old)
         (W.written out.old) (W.written out.new) (W.failures out.old) (W.failures out.new) }
-    ensures long { result ≡ Err Stopped.TooLong → ServedPrefix (A.texts answers.now) vertices (I.left input.old)
+    ensures long { result ≡ Err Stopped.TooLong → ServedPrefix
+        (MayAnswer (A.meaning answers.now.algebra) answers.now.settings.now
+        (T.is_always_open answers.now.gate.now) answers.now.graph.now) vertices (I.left input.old)
         (W.written out.old) (W.written out.new) (W.failures out.old) (W.failures out.new) }
     ensures passed_on { OnOk result (W.held out.new ≡ []) }
     ensures end { OnOk result (IsAtEnd (I.left input.new)) }

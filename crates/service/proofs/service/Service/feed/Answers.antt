@@ -7,11 +7,12 @@ use Rattle.std.proofs.lemmas.List.{take_all}
 use Rattle.std.proofs.lemmas.List.{length-take-le}
 use Rattle.service.proofs.Pieces.{next_prefix, next_all, next_within, next_fits}
 use Rattle.service.proofs.ServiceLaws.{fed_none, fed_stay, fed_line, fed_part, fed_long}
+use Rattle.service.specs.Answering.{MayAnswer}
 use Rattle.service.proofs.service.Service.feed.Goals as goal
 
 pub loop-at-init : goal.loop-at-init
 loop-at-init g c = record {
-  fed = fed_none (g.A.Answers.texts c.args.answers.now) c.args.self.now (g.W.RoadWrite.written c.args.out.now) (g.W.RoadWrite.failures c.args.out.now);
+  fed = fed_none (MayAnswer (g.A.PathAlgebra.meaning c.args.answers.now.algebra) c.args.answers.now.settings.now (g.T.Gate.is_always_open c.args.answers.now.gate.now) c.args.answers.now.graph.now) c.args.self.now (g.W.RoadWrite.written c.args.out.now) (g.W.RoadWrite.failures c.args.out.now);
   held = λ h. h;
   vertices = refl;
   within = omega arith;
@@ -19,7 +20,7 @@ loop-at-init g c = record {
 
 pub loop-at-preserved-in-Ok : goal.loop-at-preserved-in-Ok
 loop-at-preserved-in-Ok g c =
-    let texts = g.A.Answers.texts c.args.answers.now in
+    let texts = (MayAnswer (g.A.PathAlgebra.meaning c.args.answers.now.algebra) c.args.answers.now.settings.now (g.T.Gate.is_always_open c.args.answers.now.gate.now) c.args.answers.now.graph.now) in
     let xs : List ℕ = c.args.bytes.now in
     let at : ℕ = c.loop-at.at in
     let m : ℕ = at + c.min.result - at in
@@ -42,7 +43,7 @@ loop-at-preserved-in-Ok g c =
 
 pub returns-in-Err-clause-fell : goal.returns-in-Err-clause-fell
 returns-in-Err-clause-fell g c = λ is.
-    let texts = g.A.Answers.texts c.args.answers.now in
+    let texts = (MayAnswer (g.A.PathAlgebra.meaning c.args.answers.now.algebra) c.args.answers.now.settings.now (g.T.Gate.is_always_open c.args.answers.now.gate.now) c.args.answers.now.graph.now) in
     let xs : List ℕ = c.args.bytes.now in
     let at : ℕ = c.loop-at.at in
     let m : ℕ = at + c.min.result - at in
@@ -59,7 +60,7 @@ returns-in-Err-clause-fell g c = λ is.
 
 pub loop-at-preserved : goal.loop-at-preserved
 loop-at-preserved g c =
-    let texts = g.A.Answers.texts c.args.answers.now in
+    let texts = (MayAnswer (g.A.PathAlgebra.meaning c.args.answers.now.algebra) c.args.answers.now.settings.now (g.T.Gate.is_always_open c.args.answers.now.gate.now) c.args.answers.now.graph.now) in
     let xs : List ℕ = c.args.bytes.now in
     let at : ℕ = c.loop-at.at in
     let m : ℕ = at + c.min.result - at in
@@ -79,10 +80,10 @@ loop-at-preserved g c =
     }
 
 pub returns-clause-fed : goal.returns-clause-fed
-returns-clause-fed g c = subst (λ (x : List ℕ). Fed (g.A.Answers.texts c.args.answers.now) c.args.self.now c.loop-at.self x (g.W.RoadWrite.written c.args.out.now) (g.W.RoadWrite.written c.loop-at.out) (g.W.RoadWrite.failures c.args.out.now) (g.W.RoadWrite.failures c.loop-at.out))
+returns-clause-fed g c = subst (λ (x : List ℕ). Fed (MayAnswer (g.A.PathAlgebra.meaning c.args.answers.now.algebra) c.args.answers.now.settings.now (g.T.Gate.is_always_open c.args.answers.now.gate.now) c.args.answers.now.graph.now) c.args.self.now c.loop-at.self x (g.W.RoadWrite.written c.args.out.now) (g.W.RoadWrite.written c.loop-at.out) (g.W.RoadWrite.failures c.args.out.now) (g.W.RoadWrite.failures c.loop-at.out))
     (take_all c.loop-at.at c.args.bytes.now c.loop-at-test.false) c.loop-at.invariant.fed
 
 pub returns-then-room-eq0-clause-long : goal.returns-then-room-eq0-clause-long
 returns-then-room-eq0-clause-long g c = λ is.
-    fed_long (g.A.Answers.texts c.args.answers.now) c.args.self.now c.loop-at.self c.args.bytes.now c.loop-at.at (g.W.RoadWrite.written c.args.out.now) (g.W.RoadWrite.written c.loop-at.out) (g.W.RoadWrite.failures c.args.out.now) (g.W.RoadWrite.failures c.loop-at.out)
+    fed_long (MayAnswer (g.A.PathAlgebra.meaning c.args.answers.now.algebra) c.args.answers.now.settings.now (g.T.Gate.is_always_open c.args.answers.now.gate.now) c.args.answers.now.graph.now) c.args.self.now c.loop-at.self c.args.bytes.now c.loop-at.at (g.W.RoadWrite.written c.args.out.now) (g.W.RoadWrite.written c.loop-at.out) (g.W.RoadWrite.failures c.args.out.now) (g.W.RoadWrite.failures c.loop-at.out)
     c.loop-at-test.true (omega (arith, c.if-room-eq0.true, c.loop-at.self.few_bytes)) c.loop-at.invariant.fed

@@ -7,7 +7,6 @@ ghost use Rattle.road_text.specs.Lines.{fields, has_bytes};
 use crate::field_taker::FieldTaker;
 use crate::runs::run;
 use crate::scanner::{Scanner, is_gap};
-use crate::slots::Slot;
 
 /// Takes bytes up to a line's end, and hands on the fields of the line.
 #[derive(Drop)]
@@ -20,7 +19,6 @@ pub struct LineCutter<T> {
 
 impl<T: FieldTaker> LineCutter<T> {
     ghost use Rattle.road_text.specs.Scans.{scan_of, Shows, is_plain, number_with};
-    ghost use Rattle.road_text.specs.Takes.{ShowsLine};
     ghost use Rattle.road_text.specs.Cuts.{IsPresent, IsLine, EndsLine, StaysInLine};
 
     /// A line begins.
@@ -36,13 +34,6 @@ impl<T: FieldTaker> LineCutter<T> {
         }
     }
 
-    /// The first six fields of the line that has ended.
-    pub fn fields(&self) -> &[Slot]
-        ensures { (line : List ℕ) → IsLine T.so_far self.now line → ShowsLine result.now line }
-    {
-        self.scanner.fields()
-    }
-
     /// A new line begins.
     pub fn restart(&mut self)
         ensures taker { self.new.taker ≡ self.old.taker }
@@ -53,7 +44,7 @@ impl<T: FieldTaker> LineCutter<T> {
         self.pending = false;
     }
 
-    // Gives the present field, if it has bytes, to the taker.
+    /// Gives the present field, if it has bytes, to the taker.
     fn end_field(&mut self)
         ensures told { (line : List ℕ) → Shows (T.so_far self.old.taker) (scan_of self.old.scanner) line → T.so_far self.new.taker (fields line) }
         ensures scanner { scan_of self.new.scanner ≡ scan_of self.old.scanner }
@@ -67,7 +58,7 @@ impl<T: FieldTaker> LineCutter<T> {
         self.taker.field(present);
     }
 
-    // Takes the next byte of the present line.
+    /// Takes the next byte of the present line.
     fn present_byte(&mut self, byte: u8)
         requires { byte ≢ 10 }
         ensures present { (present : List ℕ) → IsPresent T.so_far self.old present → IsPresent T.so_far self.new (present ++ byte ∷ []) }
@@ -88,8 +79,8 @@ impl<T: FieldTaker> LineCutter<T> {
         self.scanner.go_on(byte);
     }
 
-    // Takes the bytes at the front that go on with the present field, and says how many they are. It takes none where a
-    // CR is pending: `present_byte` does then.
+    /// Takes the bytes at the front that go on with the present field, and says how many they are. It takes none where a
+    /// CR is pending: `present_byte` does then.
     #[inline(always)]
     fn front_run(&mut self, bytes: &[u8]) -> usize
         ensures bound { result ≤ length bytes.now }
@@ -104,7 +95,7 @@ impl<T: FieldTaker> LineCutter<T> {
         front
     }
 
-    // Takes some bytes that all go on with the present field, with which it is this number.
+    /// Takes some bytes that all go on with the present field, with which it is this number.
     fn present_run(&mut self, bytes: &[u8], number: Option<u128>)
         requires some { 0 < length bytes.now }
         requires plain { All (λ b. is_plain b ≡ true) bytes.now }
@@ -117,7 +108,7 @@ impl<T: FieldTaker> LineCutter<T> {
         self.scanner.add_run(bytes, number);
     }
 
-    // The present line ends.
+    /// The present line ends.
     fn end_line(&mut self)
         ensures line { (present : List ℕ) → IsPresent T.so_far self.old present → IsLine T.so_far self.new (strip_carriage_return present) }
         ensures kept { T.kept self.old.taker self.new.taker }

@@ -1,0 +1,9 @@
+mod RequestLaws
+mod TextLaws
+mod FileLaws
+mod Examples
+mod FedLaws
+mod ServiceLaws
+mod EndLaws
+mod ServeLaws
+mod Pieces

@@ -1,0 +1,4 @@
+pub mod RequestTexts
+pub mod Files
+pub mod Replies
+pub mod Fed

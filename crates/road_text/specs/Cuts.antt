@@ -1,13 +1,23 @@
 -- How bytes are cut into lines.
-use Rattle.std.specs.Prelude.{◌≡◌, ℕ, List, [], ◌∷◌, ◌++◌, length, map, take, All, false}
+use Rattle.std.specs.Prelude.{◌≡◌, ◌==◌, ◌-◌, ℕ, List, [], ◌∷◌, ◌++◌, length, map, take, All, Bool, false, slice_index}
 use Rattle.std.specs.Str.Lines.{strip_carriage_return}
 use Rattle.road_text.specs.declared.line_cutter.LineCutter.{LineCutter}
-use Rattle.road_text.specs.Lines.{fields, is_line_end}
-use Rattle.road_text.specs.Reading.{Holds}
-use Rattle.road_text.specs.Scans.{scan_of}
+use Rattle.road_text.specs.Lines.{fields, has_bytes, is_line_end}
+use Rattle.road_text.specs.Scans.{Scan, Shows, scan_of}
 use Rattle.road_text.specs.Words.{held_word}
 
--- these are the bytes since the last line's end
+-- whether the last byte is a CR
+abbrev pub ends_in_return : List ℕ → Bool
+ends_in_return line = slice_index line (length line - 1) == 13
+
+-- these are the bytes since the last line's end: whether there are any, whether a CR is pending, and the record
+pub record Holds (told_of : List (List ℕ) → Type 0) (any late : Bool) (scan : Scan) (present : List ℕ) : Type 0 where
+  pub begun : any ≡ has_bytes present
+  pub pending : late ≡ ends_in_return present
+  pub shown : Shows told_of scan (strip_carriage_return present)
+  pub whole : All (λ b. is_line_end b ≡ false) present
+
+-- the same, as a cutter keeps it
 abbrev pub IsPresent : {T : Type 0} → (T → List (List ℕ) → Type 0) → LineCutter T → List ℕ → Type 0
 IsPresent so_far s present = Holds (so_far s.taker) s.begun s.pending (scan_of s.scanner) present
 

@@ -6,6 +6,7 @@ mod buffered;
 mod ends;
 mod faults;
 mod field_taker;
+mod fields_of;
 mod laws;
 mod line_cutter;
 mod line_parser;

@@ -2,7 +2,7 @@ use Rattle.std.proofs.Common.{◌≡◌, ◌∷◌, [], ◌++◌, ap, ◌∙◌,
 use Rattle.road_text.specs.Lines.{is_gap}
 use Rattle.road_text.specs.Scans.{Scan, Shows, past, scan_of}
 use Rattle.road_text.specs.Words.{no_word}
-use Rattle.road_text.specs.Reading.{Holds}
+use Rattle.road_text.specs.Cuts.{Holds}
 use Rattle.road_text.proofs.ScanLaws.{shows_gap, shows_other}
 use Rattle.road_text.proofs.TextLaws.{shows_whole, holds_return, holds_other}
 use Rattle.road_text.proofs.line_cutter.LineCutter.present_byte.Goals as goal

@@ -1,6 +1,6 @@
 use Rattle.std.proofs.Common.{◌++◌, List, ℕ, sym, ◌∙◌, subst, true, false}
 use Rattle.road_text.specs.Scans.{Scan, Shows, scan_of, word_with}
-use Rattle.road_text.specs.Reading.{Holds}
+use Rattle.road_text.specs.Cuts.{Holds}
 use Rattle.road_text.proofs.TextLaws.{shows_whole, holds_run}
 use Rattle.road_text.proofs.line_cutter.LineCutter.present_run.Goals as goal
 

@@ -1,4 +1,4 @@
-use Rattle.std.proofs.Common.{rules, ◌≡◌, ◌<◌, ◌+◌, List, ℕ, length, arith}
+use Rattle.std.proofs.Common.{◌<◌, ◌+◌, List, ℕ, length, arith}
 use Rattle.road_text.proofs.CutterLaws.{run_on, byte_on, line_ends}
 use Rattle.road_text.proofs.line_cutter.LineCutter.to_line_end.Goals as goal
 

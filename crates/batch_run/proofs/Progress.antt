@@ -117,6 +117,10 @@ module _ {V : Type 0} (A : Algebra V) (g : Roads) (asked : Asked) where
     unfailed variants.Memory h ne = h.1 ∙ p.left.sound
     unfailed variants.Write h ne = absurd (ne refl)
 
+    pub one_failed : (u : Unanswered) → WroteAnswer A g (get_or asked.questions i q) mid new m a (Err u) → (fault_of_answer u).number ≡ 42 → a ≡ b + 1
+    one_failed variants.Memory h e = absurd (omega (arith, e))
+    one_failed variants.Write h e = omega (arith, h.2.failed, p.left.sound)
+
     pub more_failed : (u : Unanswered) → WroteAnswer A g (get_or asked.questions i q) mid new m a (Err u) → b ≤ a
     more_failed variants.Memory h = omega (arith, h.1, p.left.sound)
     more_failed variants.Write h = omega (arith, h.2.failed, p.left.sound)

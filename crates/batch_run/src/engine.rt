@@ -91,7 +91,7 @@ fn all_sources(alloc: Global, questions: &Questions) -> Result<Vec<Vertex>, Allo
 }
 
 /// The graph, indexed where workers are to answer. Where memory is refused for that, they look for arcs instead.
-pub(crate) fn indexed(alloc: Global, mut graph: Graph, settings: &Settings) -> Graph
+pub fn indexed(alloc: Global, mut graph: Graph, settings: &Settings) -> Graph
     ensures { result ≡ graph }
 {
     if !settings.plain {

@@ -25,8 +25,8 @@ use std::sync::Wait;
 use std::thread::Threads;
 use worker_fleet::Gate;
 
-/// Answers all questions in order, and stops at the first fault.
-fn answer_all<A: PathAlgebra, W: RoadWrite, R: Threads + Wait + Sync, T: Gate>(
+/// Answers all questions over a graph in order, writes the answers, and stops at the first fault. Nothing is flushed.
+pub fn answer_all<A: PathAlgebra, W: RoadWrite, R: Threads + Wait + Sync, T: Gate>(
     rt: &R,
     alloc: Global,
     algebra: A,
@@ -43,6 +43,7 @@ fn answer_all<A: PathAlgebra, W: RoadWrite, R: Threads + Wait + Sync, T: Gate>(
     ensures later { IfErr result (λ f. IsLater settings.now (T.is_always_open gate.now) f × (f.number ≡ 42 → W.failures out.old < W.failures out.new)) }
     ensures whole { IfErr result (λ f. f.number ≢ 42 → WroteWhole (A.meaning algebra) graph.now (asked_of questions.now) (W.written out.old) (W.written out.new)) }
     ensures unfailed { IfErr result (λ f. f.number ≢ 42 → W.failures out.new ≡ W.failures out.old) }
+    ensures failed { IfErr result (λ f. f.number ≡ 42 → W.failures out.new ≡ W.failures out.old + 1) }
     ensures more { W.failures out.old ≤ W.failures out.new }
 {
     let count = questions.len() as u32;

@@ -3,7 +3,7 @@ use Rattle.road_files.specs.Asked.{asked_of, FromSource}
 use Rattle.std.proofs.lemmas.List.Elements.{All-nil}
 use Rattle.batch_run.specs.Solved.{IsSolved, IsSolvedFor}
 use Rattle.batch_run.specs.declared.solving.Solved.{Solved}
-use Rattle.batch_run.proofs.Progress.{start, stop, stop_whole, header_fell, answered, unanswered, fault_later, group_later, whole, unfailed, more_failed, end}
+use Rattle.batch_run.proofs.Progress.{start, stop, stop_whole, header_fell, answered, unanswered, fault_later, group_later, whole, unfailed, one_failed, more_failed, end}
 use Rattle.batch_run.proofs.Laid.{ready_at_first, none_behind, no_write}
 use Rattle.batch_run.proofs.run.answer_all.Goals as goal
 
@@ -73,4 +73,11 @@ returns-in-Err-answer_at-clause-whole g c = rw (c.fault_of_answer.ensures) (whol
 
 pub returns-in-Err-answer_at-clause-unfailed : goal.returns-in-Err-answer_at-clause-unfailed
 returns-in-Err-answer_at-clause-unfailed g c = rw (c.fault_of_answer.ensures) (unfailed (g.A.PathAlgebra.meaning c.args.algebra) c.args.graph.now (asked_of c.args.questions.now) c.loop-i.i _ _ _ _ _ _
+    (search rules) (FromSource 0) c.loop-i.invariant.progress c.in-Err-answer_at.unanswered (c.in-Err-answer_at.ensures (FromSource 0)))
+
+pub returns-in-Err-solved_at-clause-failed : goal.returns-in-Err-solved_at-clause-failed
+returns-in-Err-solved_at-clause-failed g c = rw c.fault_of_group.ensures (λ e. absurd (no_write c.in-Err-solved_at.fault e))
+
+pub returns-in-Err-answer_at-clause-failed : goal.returns-in-Err-answer_at-clause-failed
+returns-in-Err-answer_at-clause-failed g c = rw (c.fault_of_answer.ensures) (one_failed (g.A.PathAlgebra.meaning c.args.algebra) c.args.graph.now (asked_of c.args.questions.now) c.loop-i.i _ _ _ _ _ _
     (search rules) (FromSource 0) c.loop-i.invariant.progress c.in-Err-answer_at.unanswered (c.in-Err-answer_at.ensures (FromSource 0)))

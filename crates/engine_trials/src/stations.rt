@@ -16,7 +16,8 @@ use post_floor::Floor;
 use road_graph::{Graph, Vertex};
 use shard_part::{Plan, Shard};
 use station::{
-    Finished, Gathered, Station, Ungathered, Why, gather, open_question, reach_counts_each_arc_once,
+    Finished, GatherFault, Gathered, Station, Ungathered, gather, open_question,
+    reach_counts_each_arc_once,
 };
 use std::process::Abort;
 
@@ -171,11 +172,11 @@ fn gathered_again<A: PathAlgebra>(
     ensures { IsGathered A.meaning back.entry.floor.setup result }
 {
     let Ungathered {
-        why,
+        fault,
         floor,
         stations,
     } = back;
-    assert!(rt; why == Why::Memory);
+    assert!(rt; fault == GatherFault::Memory);
     match gather(rt.alloc(), floor, stations) {
         Ok(gathered) => gathered,
         Err(_) => panic!(rt; "not gathered"),
@@ -408,11 +409,11 @@ fn refused<'g, A: PathAlgebra>(
         panic!(rt; "gathered")
     };
     let Ungathered {
-        why,
+        fault,
         floor,
         stations,
     } = back;
-    assert!(rt; why == Why::Missing(Shard(1)));
+    assert!(rt; fault == GatherFault::Missing(Shard(1)));
     assert!(rt; stations.len() == wanted);
     (floor, stations)
 }

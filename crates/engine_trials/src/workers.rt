@@ -1,10 +1,10 @@
-//! Workers that stop at a limit of turns, and go on.
-ghost use Rattle.std.specs.Prelude.{◌∷◌, []};
+//! Workers that stop at a limit of turns or at their gate, and go on.
+ghost use Rattle.std.specs.Prelude.{◌≤◌, ◌↔◌, IsTrue, ◌∷◌, []};
 ghost use Rattle.std.specs.List.{All};
 ghost use Rattle.station.specs.Station.{BelongsTo};
 ghost use Rattle.worker_fleet.specs.Turns.{IsPlaced};
 
-use crate::graphs::{SHORTEST, blocks_of, five};
+use crate::graphs::{SHORTEST, blocks_of, chain_of, five};
 use crate::stations::{opened, peeked};
 use path_algebra::{PathAlgebra, Shortest};
 use post_floor::Floor;
@@ -12,7 +12,18 @@ use road_graph::Vertex;
 use shard_part::Plan;
 use station::Station;
 use std::process::Abort;
-use worker_fleet::{OpenGate, Outcome, drive};
+use worker_fleet::{Gate, OpenGate, Outcome, drive};
+
+/// A gate that lets each worker make so many turns.
+struct TurnsAtMost(u64);
+
+impl Gate for TurnsAtMost {
+    ghost may_answer = { λ gate _ turn answer. IsTrue answer ↔ turn ≤ gate.0 };
+
+    fn before(&self, _worker: u64, turn: u64) -> bool {
+        turn <= self.0
+    }
+}
 
 /// Stations beside the place of their floor, the only one.
 fn placed<'g, A: PathAlgebra>(
@@ -89,6 +100,47 @@ fn assert_driven<A: PathAlgebra<Value = u64>>(
     let stations = placed(rt, &floor, stations);
     let ended = driven(rt, &[floor], stations);
     assert_labels(rt, &ended, wanted);
+}
+
+/// Asserts that one worker drives a chain of so many vertices over 64 shards to its end, and that each vertex has its distance.
+fn assert_chain<A: PathAlgebra<Value = u64>>(
+    rt: &(impl Abort + AllocGlobal),
+    algebra: A,
+    vertices: u32,
+) {
+    let graph = chain_of(rt, vertices, 3);
+    let plan = blocks_of(rt, vertices, 64);
+    let (floor, stations) = opened(rt, algebra, &graph, &plan, 1);
+    let stations = placed(rt, &floor, stations);
+    let back = drive(&[floor], stations, 0, 1024, 1_000_000, &OpenGate);
+    assert!(rt; back.outcome == Outcome::Ended);
+    assert!(rt; back.stations.len() == 64);
+    for arcs in 0..vertices {
+        let label = label_of(rt, &back.stations, arcs + 1);
+        assert!(rt; label == Some(u64::from(arcs) * 3));
+    }
+}
+
+/// Asserts that a gate that lets two turns pass stops a worker after two.
+fn assert_gated<A: PathAlgebra>(rt: &(impl Abort + AllocGlobal), algebra: A) {
+    let graph = five(rt);
+    let plan = blocks_of(rt, 5, 2);
+    let (floor, stations) = opened(rt, algebra, &graph, &plan, 1);
+    let stations = placed(rt, &floor, stations);
+    let back = drive(&[floor], stations, 0, 1, 1000, &TurnsAtMost(2));
+    assert!(rt; back.outcome == Outcome::Gated);
+    assert!(rt; back.turns == 2);
+    assert!(rt; back.stations.len() == 2);
+}
+
+#[test]
+fn stops_where_the_gate_closes(rt: HostRuntime) {
+    assert_gated(&rt, Shortest);
+}
+
+#[test]
+fn drives_a_chain_over_64_shards(rt: HostRuntime) {
+    assert_chain(&rt, Shortest, 320);
 }
 
 #[test]

@@ -11,7 +11,7 @@ use Rattle.shard_part.proofs.Weights.{sum_at, sum_zero}
 use Rattle.shard_part.proofs.Showing.{is_self}
 use Rattle.post_floor.specs.declared.view.View.{View}
 use Rattle.post_floor.specs.Boxes.{dest, origin}
-use Rattle.post_floor.specs.Floor.{Slot, emptied, filling, reading}
+use Rattle.post_floor.specs.Floor.{Slot, empty_slot, fill_claims, read_claims}
 use Rattle.post_floor.specs.Plays.{Unclaimed}
 use Rattle.post_floor.specs.Data.{AreOpen, HasEnd}
 use Rattle.post_floor.proofs.Totals.{is_else}
@@ -35,15 +35,15 @@ module _ (f : ℕ → ℕ) (P : ℕ → Type 0) (apart : (x y : ℕ) → P x →
     | inr ne ↦ (let q = is_else j (f x) ne in let r = once_there j xs a.1 (λ k. let o = once k in omega (arith, o)) in omega (arith, q, r))
   ]
 
-  spread : (xs : List ℕ) (n : ℕ) → All (λ x. f x < n) xs → sum_below (λ j. total (λ y. is j (f y)) xs) n ≡ length xs
-  spread [] n a = sum_zero (λ _. 0) n (λ _. refl)
-  spread (x ∷ xs) n a =
-      let r = spread xs n a.1 in
+  scatter : (xs : List ℕ) (n : ℕ) → All (λ x. f x < n) xs → sum_below (λ j. total (λ y. is j (f y)) xs) n ≡ length xs
+  scatter [] n a = sum_zero (λ _. 0) n (λ _. refl)
+  scatter (x ∷ xs) n a =
+      let r = scatter xs n a.1 in
       let p = sum_at (λ j. is j (f x) + total (λ y. is j (f y)) xs) (λ j. total (λ y. is j (f y)) xs) (f x) n a.0 (λ j ne. let z = is_else j (f x) ne in omega (arith, z)) in
       let s = is_self (f x) in omega (arith, r, p, s)
 
   pub at_most : (xs : List ℕ) (n : ℕ) → All P xs → All (λ x. f x < n) xs → ((k : ℕ) → total (is k) xs ≤ 1) → length xs ≤ n
-  at_most xs n a b once = let s = spread xs n b in let m = sum_most (λ j. total (λ y. is j (f y)) xs) (λ _. 1) n (λ j. once_there j xs a once) in let o = sum_ones n in omega (arith, s, m, o)
+  at_most xs n a b once = let s = scatter xs n b in let m = sum_most (λ j. total (λ y. is j (f y)) xs) (λ _. 1) n (λ j. once_there j xs a once) in let o = sum_ones n in omega (arith, s, m, o)
 
 -- the place of a mailbox among those with an end at the shard s: first those that come from it, then the others
 place : (n s k : ℕ) → ℕ
@@ -101,7 +101,7 @@ module _ {S V : Type 0} (t : Setup S) (s : ℕ) where
 
   -- one mailbox more
   pub claims_more : (v w : View S V) (slots : List (ℕ × Slot V)) (claims : List ℕ) (k : ℕ) → AreOpen t s v slots claims → Unclaimed k v → HasEnd t.plan.shards s k →
-      ((j : ℕ) → filling j w + reading j w ≡ is j k + (filling j v + reading j v)) → AreOpen t s w ((k, emptied t k) ∷ slots) (k ∷ claims)
+      ((j : ℕ) → fill_claims j w + read_claims j w ≡ is j k + (fill_claims j v + read_claims j v)) → AreOpen t s w ((k, empty_slot t k) ∷ slots) (k ∷ claims)
   claims_more v w slots claims k o free end more = record {
     keys = ap (λ (z : List ℕ). k ∷ z) o.keys;
     empty = (refl, o.empty);
@@ -120,7 +120,7 @@ module _ {S V : Type 0} (t : Setup S) (s : ℕ) where
 
   -- one less
   pub claims_less : (v w : View S V) (slots : List (ℕ × Slot V)) (claims : List ℕ) (k : ℕ) (y : Slot V) → AreOpen t s v slots claims → slots ≡ (k, y) ∷ rest slots →
-      ((j : ℕ) → is j k + (filling j w + reading j w) ≡ filling j v + reading j v) → AreOpen t s w (rest slots) (drop 1 claims)
+      ((j : ℕ) → is j k + (fill_claims j w + read_claims j w) ≡ fill_claims j v + read_claims j v) → AreOpen t s w (rest slots) (drop 1 claims)
   unfolding first_key
   claims_less v w [] claims k y o first less = absurd cc
   claims_less v w (x ∷ xs) claims k y o first less =
@@ -136,7 +136,8 @@ module _ {S V : Type 0} (t : Setup S) (s : ℕ) where
       })
 
   -- the slot that was taken last is empty
-  pub first_empty : (v : View S V) (slots : List (ℕ × Slot V)) (claims : List ℕ) (k : ℕ) (y : Slot V) → AreOpen t s v slots claims → slots ≡ (k, y) ∷ rest slots → slots ≡ (k, emptied t k) ∷ rest slots
+  pub first_empty : (v : View S V) (slots : List (ℕ × Slot V)) (claims : List ℕ) (k : ℕ) (y : Slot V) → AreOpen t s v slots claims
+      → slots ≡ (k, y) ∷ rest slots → slots ≡ (k, empty_slot t k) ∷ rest slots
   unfolding first_key
   first_empty v [] claims k y o first = absurd cc
-  first_empty v (x ∷ xs) claims k y o first = let is_k : x.0 ≡ k = ap (first_key 0) first in λ i. (is_k i, (o.empty.0 ∙ ap (emptied t) is_k) i) ∷ xs
+  first_empty v (x ∷ xs) claims k y o first = let is_k : x.0 ≡ k = ap (first_key 0) first in λ i. (is_k i, (o.empty.0 ∙ ap (empty_slot t) is_k) i) ∷ xs

@@ -4,7 +4,7 @@ use Rattle.std.specs.Prelude as std
 use mathlib.Core.Option.{Option, none, some}
 use lib.ListN.{get_elem?}
 use prog.Atomic.{either}
-use Rattle.atomic_table.specs.Table.{step, Act, keeps, takes, gives, Allows, Valid, stepped, rest, carried_after, put_back}
+use Rattle.atomic_table.specs.Table.{Act, keeps, takes, gives, Allows, Valid, stepped, rest, carried_after, put_back}
 use Rattle.atomic_table.proofs.Lists.{set_here, set_else, exchanged}
 use Rattle.circular_buffer.specs.Buffer.{buffer}
 use Rattle.path_algebra.specs.Algebra.{Algebra}
@@ -16,44 +16,54 @@ use Rattle.scholten_core.proofs.Kept.{Kept as CoreKept}
 use Rattle.shard_part.specs.PartState.{PartData, Setup, network_in, place_in, event_of}
 use Rattle.shard_part.specs.Weights.{total, is, All}
 use Rattle.shard_part.specs.Handling.{HandledAll}
-use Rattle.shard_part.specs.Shows.{HoldsShare}
+use Rattle.shard_part.specs.Represents.{HoldsShareIn}
 use Rattle.shard_part.proofs.Weights.{total_append}
 use Rattle.shard_part.proofs.Routed.{outs_none}
 use Rattle.shard_part.proofs.Showing.{AllLawful, is_self}
 use Rattle.shard_part.specs.Arriving.{MadeAt, joined, MayReceive}
 use Rattle.post_floor.specs.declared.view.View.{View}
-use Rattle.post_floor.specs.Boxes.{box_count, dest, origin}
-use Rattle.post_floor.specs.Floor.{Slot, filling, reading, load_place, box, cap, emptied, core_of, Kept}
-use Rattle.post_floor.specs.Plays.{ShowsPart, Went, at_word, Unclaimed, claim_fill, end_fill, claim_read, end_read, sent_off, HasEmpty, Follows, Known, filled, published, took, cleared}
+use Rattle.post_floor.specs.Boxes.{empty, filling, full, reading, box_count, dest, origin}
+use Rattle.post_floor.specs.Floor.{Slot, fill_claims, read_claims, load_place, box, mailbox_capacity, empty_slot, core_of, FloorInvariant}
+use Rattle.post_floor.specs.Plays.{IsViewOf, StepsTo, at_word, Unclaimed, begin_fill, end_fill, begin_read, end_read, published_to, HasEmpty, ViewLags, HoldsReachedShare, FillStep, PublishStep, ReadStep, ClearStep}
 use Rattle.post_floor.proofs.Totals.{total_at, is_else, is_one, without_same, without_else}
 use Rattle.shard_part.specs.Exact.{done_by}
 use Rattle.shard_part.proofs.TakenCounts.{handled_same}
 use Rattle.shard_part.proofs.Arriving.{arrives}
 use Rattle.post_floor.proofs.Keeps.{gone, Relisted, went, kept_core}
-use Rattle.post_floor.proofs.Steps.{Tab, Seat, changes}
+use Rattle.post_floor.proofs.Changes.{Tab, Seat, changes}
 
 module _ {S V : Type 0} (meaning : S → Algebra V) (t : Setup S) where
   pub unchanged : (d : PartData S V) → Relisted meaning t d d
   unchanged d = record { setup = refl; shard = refl; tables = refl; outs = refl; sent = refl; delivered = refl; signalled = refl; accepted = refl }
 
   -- a batch that came from another shard, for a part of this setup
-  arrived : (p : PartData S V) (c : CoreState V) (xs : List (Item V)) (j : ℕ) → AllLawful meaning → p.setup ≡ t → WellFormed (network_in t) → CoreKept (meaning t.question.algebra) (network_in t) 0 c → j ≢ p.shard → MadeAt t j xs →
-      HoldsShare (meaning t.question.algebra) (network_in t) (place_in t) c (joined p xs) → MayReceive meaning p xs
+  arrived : (p : PartData S V) (c : CoreState V) (xs : List (Item V)) (j : ℕ) → AllLawful meaning → p.setup ≡ t → WellFormed (network_in t)
+      → CoreKept (meaning t.question.algebra) (network_in t) 0 c → j ≢ p.shard → MadeAt t j xs →
+      HoldsShareIn (meaning t.question.algebra) (network_in t) (place_in t) c (joined p xs) → MayReceive meaning p xs
   arrived p c xs j L e W K ne made H =
-      let T = subst (λ (u : Setup S). WellFormed (network_in u) × CoreKept (meaning u.question.algebra) (network_in u) 0 c × MadeAt u j xs × HoldsShare (meaning u.question.algebra) (network_in u) (place_in u) c (joined p xs)) (sym e) (W, K, made, H) in
+      let T = subst (λ (u : Setup S). WellFormed (network_in u) × CoreKept (meaning u.question.algebra) (network_in u) 0 c × MadeAt u j xs
+      × HoldsShareIn (meaning u.question.algebra) (network_in u) (place_in u) c (joined p xs)) (sym e) (W, K, made, H) in
       arrives meaning p (L p.setup.question.algebra) T.0 c T.1 xs j ne T.2 T.3
 
   -- a part that holds its share of the state after these events
-  pub known_at : (p : PartData S V) (events : List Event) → p.setup ≡ t → HoldsShare (meaning t.question.algebra) (network_in t) (place_in t) (core_of meaning t events) p → Known meaning p
-  known_at p events e H = (events, subst (λ (u : Setup S). HoldsShare (meaning u.question.algebra) (network_in u) (place_in u) (core_of meaning u events) p) (sym e) H)
+  pub known_at : (p : PartData S V) (events : List Event) → p.setup ≡ t
+      → HoldsShareIn (meaning t.question.algebra) (network_in t) (place_in t) (core_of meaning t events) p → HoldsReachedShare meaning p
+  known_at p events e H = (events, subst (λ (u : Setup S). HoldsShareIn (meaning u.question.algebra) (network_in u) (place_in u) (core_of meaning u events) p) (sym e) H)
 
   module _ (L : AllLawful meaning) (W : WellFormed (network_in t)) where
     abbrev Goes : Tab meaning t L W → ℕ → ℕ → Seat meaning t L W → (ℕ → Seat meaning t L W → Type 0) → ℕ → Type 0
-    Goes s k id me told n' = (w : View S V) × (a : Act (Slot V)) × Valid s.homes me.1 a × Kept meaning t (stepped s k n' id me.1 w a) × told (get_or s.words k 0) (w, carried_after me.1 a)
+    Goes s k id me told n' = (w : View S V) × (a : Act (Slot V)) × Valid s.homes me.1 a × FloorInvariant meaning t (stepped s k n' id me.1 w a) × told (get_or s.words k 0) (w, carried_after me.1 a)
 
     -- a step in which no word and no slot moves: the view alone goes on
-    stays : (s : Tab meaning t L W) (r : Kept meaning t s) (id k : ℕ) (me : Seat meaning t L W) (b d : PartData S V) (items : List (Item V)) (T : HandledAll meaning b items d) → get_elem? s.views id ≡ some me.0 → ShowsPart me.0 b → k < box_count t.plan.shards
-        → Kept meaning t (record { words = set s.words k (get_or s.words k 0); homes = s.homes; views = set s.views id (gone meaning t me.0 (at_word k (get_or s.words k 0) me.0) d (done_by meaning items b d T)) })
+    stays : (s : Tab meaning t L W) (r : FloorInvariant meaning t s) (id k : ℕ) (me : Seat meaning t L W) (b d : PartData S V) (items : List (Item V))
+        (T : HandledAll meaning b items d) → get_elem? s.views id ≡ some me.0 → IsViewOf me.0 b → k < box_count t.plan.shards
+        → FloorInvariant meaning t
+        (record {
+          words = set s.words k (get_or s.words k 0);
+          homes = s.homes;
+          views = set s.views id
+              (gone meaning t me.0 (at_word k (get_or s.words k 0) me.0) d (done_by meaning items b d T));
+        })
     stays s r id k me b d items T at sh lt = let ok = r.boxes k lt in (changes meaning t L W s r id k (get_or s.words k 0) s.homes me.0 (at_word k (get_or s.words k 0) me.0) b d d items (record {
       at = at;
       one = sh.parts;
@@ -75,29 +85,32 @@ module _ {S V : Type 0} (meaning : S → Algebra V) (t : Setup S) where
     })).0
 
     -- a mailbox that is neither being filled nor being read has no claim
-    unclaimed : (s : Tab meaning t L W) (r : Kept meaning t s) (id k : ℕ) (v : View S V) → get_elem? s.views id ≡ some v → k < box_count t.plan.shards → is 1 (get_or s.words k 0) ≡ 0 → is 3 (get_or s.words k 0) ≡ 0 → Unclaimed k v
+    unclaimed : (s : Tab meaning t L W) (r : FloorInvariant meaning t s) (id k : ℕ) (v : View S V) → get_elem? s.views id ≡ some v
+        → k < box_count t.plan.shards → is filling (get_or s.words k 0) ≡ 0 → is reading (get_or s.words k 0) ≡ 0 → Unclaimed k v
     unclaimed s r id k v at lt no_fill no_read = let ok = r.boxes k lt in (
-      (let p = total_at (filling k) s.views id v at in let z = ok.fills_is in omega (arith, p, z, no_fill)),
-      (let p = total_at (reading k) s.views id v at in let z = ok.reads_is in omega (arith, p, z, no_read)),
+      (let p = total_at (fill_claims k) s.views id v at in let z = ok.fills_is in omega (arith, p, z, no_fill)),
+      (let p = total_at (read_claims k) s.views id v at in let z = ok.reads_is in omega (arith, p, z, no_read)),
     )
 
     -- the part that the view shows is of the setup
-    setup_of : (s : Tab meaning t L W) (r : Kept meaning t s) (id : ℕ) (v : View S V) (b d : PartData S V) (items : List (Item V)) (T : HandledAll meaning b items d) → get_elem? s.views id ≡ some v → ShowsPart v b → d.setup ≡ t
+    setup_of : (s : Tab meaning t L W) (r : FloorInvariant meaning t s) (id : ℕ) (v : View S V) (b d : PartData S V) (items : List (Item V))
+        (T : HandledAll meaning b items d) → get_elem? s.views id ≡ some v → IsViewOf v b → d.setup ≡ t
     setup_of s r id v b d items T at sh =
         let P = Rattle.post_floor.proofs.Parts.stands s.views id v b at sh.parts in
         let same = subst (λ (l : List (PartData S V)). All (λ (p : PartData S V). p.setup ≡ t) l) P.now r.shown.same in
         (handled_same meaning items b d T).0 ∙ (Rattle.shard_part.proofs.Showing.all_parts (λ (p : PartData S V). p.setup ≡ t) P.before (b ∷ P.after) same).1.0
 
-    pub fills : (m id k : ℕ) (me : Seat meaning t L W) (d : PartData S V) → Follows meaning me.0 d → k < box_count t.plan.shards → Allows (Kept meaning t) m id me k (λ z. either (eqb z 0) 1 z) (filled meaning d (step m k 0 1 none) me)
+    pub fills : (m id k : ℕ) (me : Seat meaning t L W) (d : PartData S V) → ViewLags meaning me.0 d → k < box_count t.plan.shards
+        → Allows (FloorInvariant meaning t) m id me k (λ z. either (eqb z empty) filling z) (FillStep meaning d k me)
     fills m id k me d (b, items, sh, T) lt s r roomy at small =
-        let y : ℕ = get_or s.words k 0 in let ok = r.boxes k lt in let told = filled meaning d (step m k 0 1 none) me in
+        let y : ℕ = get_or s.words k 0 in let ok = r.boxes k lt in let told = FillStep meaning d k me in
         let e = setup_of s r id me.0 b d items T at sh in
-        exchanged y 0 1 (Goes s k id me told)
-        (λ hit. let homes' : List (Option (Slot V)) = set s.homes k none in let u : View S V = at_word k 0 (claim_fill k me.0) in (
+        exchanged y empty filling (Goes s k id me told)
+        (λ hit. let homes' : List (Option (Slot V)) = set s.homes k none in let u : View S V = at_word k empty (begin_fill k me.0) in (
           gone meaning t me.0 u d (done_by meaning items b d T),
-          takes k (emptied t k),
+          takes k (empty_slot t k),
           ok.empty_home hit,
-          (changes meaning t L W s r id k 1 homes' me.0 u b d d items (record {
+          (changes meaning t L W s r id k filling homes' me.0 u b d d items (record {
             at = at;
             one = sh.parts;
             moves = T;
@@ -108,28 +121,41 @@ module _ {S V : Type 0} (meaning : S → Algebra V) (t : Setup S) where
             weighs = λ h. let p : box (h (dest t.plan.shards k)) y (get_elem? s.homes k) ≡ 0 = ap (λ (z : ℕ). box (h (dest t.plan.shards k)) z (get_elem? s.homes k)) hit in omega (arith, p);
             fills = λ j ne. let p = is_else j k ne in omega (arith, p);
             reads = λ j ne. refl;
-            fill = let p = is_self k in let q : is 1 y ≡ 0 = ap (is 1) hit in omega (arith, p, q);
-            read = let q : is 3 y ≡ 0 = ap (is 3) hit in omega (arith, q);
+            fill = let p = is_self k in let q : is filling y ≡ 0 = ap (is filling) hit in omega (arith, p, q);
+            read = let q : is reading y ≡ 0 = ap (is reading) hit in omega (arith, q);
             low = omega arith;
             empty = λ z. absurd (omega (arith, z));
             full = λ z. absurd (omega (arith, z));
             out = λ _. set_here s.homes k none (let l = r.roomy in omega (arith, l, lt));
             seen = refl;
           })).0,
-          ((λ z. (went meaning t me.0 u b d d items T sh (unchanged d), ap (λ (x : Setup S). (k, emptied x k) ∷ me.1) (sym e), unclaimed s r id k me.0 at lt (ap (is 1) hit) (ap (is 3) hit))), λ ne. absurd (ne hit)),
+          (
+            (λ z. (
+              went meaning t me.0 u b d d items T sh (unchanged d),
+              ap (λ (x : Setup S). (k, empty_slot x k) ∷ me.1) (sym e),
+              unclaimed s r id k me.0 at lt (ap (is filling) hit) (ap (is reading) hit),
+            )),
+            λ ne. absurd (ne hit),
+          ),
         ))
-        (λ miss. (gone meaning t me.0 (at_word k y me.0) d (done_by meaning items b d T), keeps, tt, stays s r id k me b d items T at sh lt, ((λ z. absurd (miss z)), λ ne. (went meaning t me.0 (at_word k y me.0) b d d items T sh (unchanged d), refl))))
+        (λ miss. (
+          gone meaning t me.0 (at_word k y me.0) d (done_by meaning items b d T),
+          keeps,
+          tt,
+          stays s r id k me b d items T at sh lt,
+          ((λ z. absurd (miss z)), λ ne. (went meaning t me.0 (at_word k y me.0) b d d items T sh (unchanged d), refl)),
+        ))
 
-    pub takes_batch : (m id k : ℕ) (me : Seat meaning t L W) (d : PartData S V) → Follows meaning me.0 d → k < box_count t.plan.shards → dest t.plan.shards k ≡ d.shard → origin t.plan.shards k ≢ d.shard →
-        Allows (Kept meaning t) m id me k (λ z. either (eqb z 2) 3 z) (took meaning d (step m k 2 3 none) me)
-    takes_batch m id k me d (b, items, sh, T) lt to from s r roomy at small =
-        let y : ℕ = get_or s.words k 0 in let ok = r.boxes k lt in let told = took meaning d (step m k 2 3 none) me in
+    pub reads : (m id k : ℕ) (me : Seat meaning t L W) (d : PartData S V) → ViewLags meaning me.0 d → k < box_count t.plan.shards → dest t.plan.shards k ≡ d.shard → origin t.plan.shards k ≢ d.shard →
+        Allows (FloorInvariant meaning t) m id me k (λ z. either (eqb z full) reading z) (ReadStep meaning d k me)
+    reads m id k me d (b, items, sh, T) lt to from s r roomy at small =
+        let y : ℕ = get_or s.words k 0 in let ok = r.boxes k lt in let told = ReadStep meaning d k me in
         let e = setup_of s r id me.0 b d items T at sh in
-        exchanged y 2 3 (Goes s k id me told)
-        (λ hit. let full = ok.full_home hit in let xs : List (Item V) = full.0 in let homes' : List (Option (Slot V)) = set s.homes k none in let u : View S V = at_word k 2 (claim_read k me.0) in
+        exchanged y full reading (Goes s k id me told)
+        (λ hit. let held = ok.full_home hit in let xs : List (Item V) = held.0 in let homes' : List (Option (Slot V)) = set s.homes k none in let u : View S V = at_word k full (begin_read k me.0) in
         let q : PartData S V = joined d xs in
         let lists : Relisted meaning t d q = record { setup = refl; shard = refl; tables = refl; outs = refl; sent = refl; delivered = refl; signalled = refl; accepted = refl } in
-        let C = changes meaning t L W s r id k 3 homes' me.0 u b d q items (record {
+        let C = changes meaning t L W s r id k reading homes' me.0 u b d q items (record {
           at = at;
           one = sh.parts;
           moves = T;
@@ -137,12 +163,13 @@ module _ {S V : Type 0} (meaning : S → Algebra V) (t : Setup S) where
           below = lt;
           long = length-set s.homes k none ∙ r.roomy;
           others = λ j ne. set_else s.homes k j none ne;
-          weighs = λ h. let f : Item V → ℕ = h (dest t.plan.shards k) in let p : box f y (get_elem? s.homes k) ≡ total f xs = (λ i. box f (hit i) (full.1 i)) in let a = total_append (h d.shard) d.queue xs in
+          weighs = λ h. let f : Item V → ℕ = h (dest t.plan.shards k) in
+              let p : box f y (get_elem? s.homes k) ≡ total f xs = (λ i. box f (hit i) (held.1 i)) in let a = total_append (h d.shard) d.queue xs in
               let z : total f xs ≡ total (h d.shard) xs = ap (λ (j : ℕ). total (h j) xs) to in omega (arith, p, a, z);
           fills = λ j ne. refl;
           reads = λ j ne. let p = is_else j k ne in omega (arith, p);
-          fill = let p : is 1 y ≡ 0 = ap (is 1) hit in omega (arith, p);
-          read = let p = is_self k in let z : is 3 y ≡ 0 = ap (is 3) hit in omega (arith, p, z);
+          fill = let p : is filling y ≡ 0 = ap (is filling) hit in omega (arith, p);
+          read = let p = is_self k in let z : is reading y ≡ 0 = ap (is reading) hit in omega (arith, p, z);
           low = omega arith;
           empty = λ z. absurd (omega (arith, z));
           full = λ z. absurd (omega (arith, z));
@@ -150,54 +177,62 @@ module _ {S V : Type 0} (meaning : S → Algebra V) (t : Setup S) where
           seen = refl;
         }) in (
           gone meaning t me.0 u q (done_by meaning items b d T),
-          takes k (std.Some (buffer xs (cap t k))),
-          full.1,
+          takes k (std.Some (buffer xs (mailbox_capacity t k))),
+          held.1,
           C.0,
           (
             (λ z. (
               xs,
               went meaning t me.0 u b d q items T sh lists,
-              ap (λ (x : Setup S). (k, std.Some (buffer xs (cap x k))) ∷ me.1) (sym e),
-              arrived d (core_of meaning t (r.events ++ map event_of items)) xs (origin t.plan.shards k) L e W (kept_core meaning t L W (r.events ++ map event_of items)) from full.2 C.1,
-              unclaimed s r id k me.0 at lt (ap (is 1) hit) (ap (is 3) hit),
+              ap (λ (x : Setup S). (k, std.Some (buffer xs (mailbox_capacity x k))) ∷ me.1) (sym e),
+              arrived d (core_of meaning t (r.events ++ map event_of items)) xs (origin t.plan.shards k) L e W (kept_core meaning t L W (r.events ++ map event_of items)) from held.2 C.1,
+              unclaimed s r id k me.0 at lt (ap (is filling) hit) (ap (is reading) hit),
               known_at q (r.events ++ map event_of items) C.2 C.1,
             )),
             λ ne. absurd (ne hit),
           ),
         ))
-        (λ miss. (gone meaning t me.0 (at_word k y me.0) d (done_by meaning items b d T), keeps, tt, stays s r id k me b d items T at sh lt, ((λ z. absurd (miss z)), λ ne. (went meaning t me.0 (at_word k y me.0) b d d items T sh (unchanged d), refl))))
+        (λ miss. (
+          gone meaning t me.0 (at_word k y me.0) d (done_by meaning items b d T),
+          keeps,
+          tt,
+          stays s r id k me b d items T at sh lt,
+          ((λ z. absurd (miss z)), λ ne. (went meaning t me.0 (at_word k y me.0) b d d items T sh (unchanged d), refl)),
+        ))
 
-    pub publishes : (m id k : ℕ) (me : Seat meaning t L W) (d : PartData S V) → Follows meaning me.0 d → k < box_count t.plan.shards →
-        me.1 ≡ (k, std.Some (buffer (get_or d.outs (dest t.plan.shards k) []) (cap t k))) ∷ rest me.1 → MadeAt t (origin t.plan.shards k) (get_or d.outs (dest t.plan.shards k) []) → 0 < filling k me.0 →
-        Allows (Kept meaning t) m id me k (λ _. 2) (λ _. published meaning (sent_off (dest t.plan.shards k) d) (step m k 2 0 none) me 2)
+    pub publishes : (m id k : ℕ) (me : Seat meaning t L W) (d : PartData S V) → ViewLags meaning me.0 d → k < box_count t.plan.shards →
+        me.1 ≡ (k, std.Some (buffer (get_or d.outs (dest t.plan.shards k) []) (mailbox_capacity t k))) ∷ rest me.1
+        → MadeAt t (origin t.plan.shards k) (get_or d.outs (dest t.plan.shards k) []) → 0 < fill_claims k me.0 →
+        Allows (FloorInvariant meaning t) m id me k (λ _. full) (λ _. PublishStep meaning (published_to (dest t.plan.shards k) d) k me)
     publishes m id k me d (b, items, sh, T) lt held made claim s r roomy at small =
         let y : ℕ = get_or s.words k 0 in let ok = r.boxes k lt in
         let e = setup_of s r id me.0 b d items T at sh in
         let to : ℕ = dest t.plan.shards k in
         let xs : List (Item V) = get_or d.outs to [] in
-        let q : PartData S V = sent_off to d in
+        let q : PartData S V = published_to to d in
         let lists : Relisted meaning t d q = record { setup = refl; shard = refl; tables = refl; outs = length-set d.outs to []; sent = refl; delivered = refl; signalled = refl; accepted = refl } in
         let homes' : List (Option (Slot V)) = put_back s.homes me.1 in
-        let homes_are : homes' ≡ set s.homes k (some (std.Some (buffer xs (cap t k)))) = ap (put_back s.homes) held in
-        let here : get_elem? homes' k ≡ some (some (std.Some (buffer xs (cap t k)))) = ap (λ (z : List (Option (Slot V))). get_elem? z k) homes_are ∙ set_here s.homes k (some (std.Some (buffer xs (cap t k)))) (let l = r.roomy in omega (arith, l, lt)) in
-        let was : 1 ≡ y = is_one 1 y (let p = total_at (filling k) s.views id me.0 at in let z = ok.fills_is in omega (arith, p, z, claim)) in
-        let u : View S V = at_word k 2 (end_fill to k me.0) in
-        let C = changes meaning t L W s r id k 2 homes' me.0 u b d q items (record {
+        let homes_are : homes' ≡ set s.homes k (some (std.Some (buffer xs (mailbox_capacity t k)))) = ap (put_back s.homes) held in
+        let here : get_elem? homes' k ≡ some (some (std.Some (buffer xs (mailbox_capacity t k)))) = ap (λ (z : List (Option (Slot V))). get_elem? z k)
+        homes_are ∙ set_here s.homes k (some (std.Some (buffer xs (mailbox_capacity t k)))) (let l = r.roomy in omega (arith, l, lt)) in
+        let was : filling ≡ y = is_one filling y (let p = total_at (fill_claims k) s.views id me.0 at in let z = ok.fills_is in omega (arith, p, z, claim)) in
+        let u : View S V = at_word k full (end_fill to k me.0) in
+        let C = changes meaning t L W s r id k full homes' me.0 u b d q items (record {
           at = at;
           one = sh.parts;
           moves = T;
           lists = lists;
           below = lt;
-          long = ap length homes_are ∙ length-set s.homes k (some (std.Some (buffer xs (cap t k)))) ∙ r.roomy;
-          others = λ j ne. ap (λ (z : List (Option (Slot V))). get_elem? z j) homes_are ∙ set_else s.homes k j (some (std.Some (buffer xs (cap t k)))) ne;
+          long = ap length homes_are ∙ length-set s.homes k (some (std.Some (buffer xs (mailbox_capacity t k)))) ∙ r.roomy;
+          others = λ j ne. ap (λ (z : List (Option (Slot V))). get_elem? z j) homes_are ∙ set_else s.homes k j (some (std.Some (buffer xs (mailbox_capacity t k)))) ne;
           weighs = λ h. let f : Item V → ℕ = h to in let p : box f y (get_elem? s.homes k) ≡ 0 = ap (λ (z : ℕ). box f z (get_elem? s.homes k)) (sym was) in
               let g : load_place f (get_elem? homes' k) ≡ total f xs = ap (load_place f) here in
               let o = outs_none h 0 to d.outs in
               let z : total (h (0 + to)) xs ≡ total (h to) xs = ap (λ (i : ℕ). total (h i) xs) (let w : 0 + to ≡ to = omega arith in w) in omega (arith, p, g, o, z);
           fills = λ j ne. without_else j k me.0.fills ne;
           reads = λ j ne. refl;
-          fill = let p = without_same k me.0.fills claim in let z : is 1 y ≡ 1 = ap (is 1) (sym was) in omega (arith, p, z);
-          read = let z : is 3 y ≡ 0 = ap (is 3) (sym was) in omega (arith, z);
+          fill = let p = without_same k me.0.fills claim in let z : is filling y ≡ 1 = ap (is filling) (sym was) in omega (arith, p, z);
+          read = let z : is reading y ≡ 0 = ap (is reading) (sym was) in omega (arith, z);
           low = omega arith;
           empty = λ z. absurd (omega (arith, z));
           full = λ z. (xs, here, made);
@@ -208,32 +243,37 @@ module _ {S V : Type 0} (meaning : S → Algebra V) (t : Setup S) where
           gives,
           tt,
           C.0,
-          (subst (λ (x : Setup S). Went (at_word k 2 (end_fill (dest x.plan.shards k) k me.0)) q (gone meaning t me.0 u q (done_by meaning items b d T))) (sym e) (went meaning t me.0 u b d q items T sh lists), refl),
+          (
+            subst (λ (x : Setup S). StepsTo (at_word k full (end_fill (dest x.plan.shards k) k me.0)) q
+                (gone meaning t me.0 u q (done_by meaning items b d T))) (sym e) (went meaning t me.0 u b d q items T sh lists),
+            refl,
+          ),
         )
 
-    pub clears : (m id k : ℕ) (me : Seat meaning t L W) (d : PartData S V) → Follows meaning me.0 d → k < box_count t.plan.shards → HasEmpty t k me → 0 < reading k me.0 →
-        Allows (Kept meaning t) m id me k (λ _. 0) (λ _. cleared meaning d (step m k 0 0 none) me 0)
+    pub clears : (m id k : ℕ) (me : Seat meaning t L W) (d : PartData S V) → ViewLags meaning me.0 d → k < box_count t.plan.shards → HasEmpty t k me → 0 < read_claims k me.0 →
+        Allows (FloorInvariant meaning t) m id me k (λ _. empty) (λ _. ClearStep meaning d k me)
     clears m id k me d (b, items, sh, T) lt held claim s r roomy at small =
         let y : ℕ = get_or s.words k 0 in let ok = r.boxes k lt in
         let e = setup_of s r id me.0 b d items T at sh in
         let homes' : List (Option (Slot V)) = put_back s.homes me.1 in
-        let homes_are : homes' ≡ set s.homes k (some (emptied t k)) = ap (put_back s.homes) held in
-        let here : get_elem? homes' k ≡ some (some (emptied t k)) = ap (λ (z : List (Option (Slot V))). get_elem? z k) homes_are ∙ set_here s.homes k (some (emptied t k)) (let l = r.roomy in omega (arith, l, lt)) in
-        let was : 3 ≡ y = is_one 3 y (let p = total_at (reading k) s.views id me.0 at in let z = ok.reads_is in omega (arith, p, z, claim)) in
-        let u : View S V = at_word k 0 (end_read (origin t.plan.shards k) k me.0) in
-        let C = changes meaning t L W s r id k 0 homes' me.0 u b d d items (record {
+        let homes_are : homes' ≡ set s.homes k (some (empty_slot t k)) = ap (put_back s.homes) held in
+        let here : get_elem? homes' k ≡ some (some (empty_slot t k)) = ap (λ (z : List (Option (Slot V))). get_elem? z k) homes_are
+        ∙ set_here s.homes k (some (empty_slot t k)) (let l = r.roomy in omega (arith, l, lt)) in
+        let was : reading ≡ y = is_one reading y (let p = total_at (read_claims k) s.views id me.0 at in let z = ok.reads_is in omega (arith, p, z, claim)) in
+        let u : View S V = at_word k empty (end_read (origin t.plan.shards k) k me.0) in
+        let C = changes meaning t L W s r id k empty homes' me.0 u b d d items (record {
           at = at;
           one = sh.parts;
           moves = T;
           lists = unchanged d;
           below = lt;
-          long = ap length homes_are ∙ length-set s.homes k (some (emptied t k)) ∙ r.roomy;
-          others = λ j ne. ap (λ (z : List (Option (Slot V))). get_elem? z j) homes_are ∙ set_else s.homes k j (some (emptied t k)) ne;
+          long = ap length homes_are ∙ length-set s.homes k (some (empty_slot t k)) ∙ r.roomy;
+          others = λ j ne. ap (λ (z : List (Option (Slot V))). get_elem? z j) homes_are ∙ set_else s.homes k j (some (empty_slot t k)) ne;
           weighs = λ h. let f : Item V → ℕ = h (dest t.plan.shards k) in let p : box f y (get_elem? s.homes k) ≡ 0 = ap (λ (z : ℕ). box f z (get_elem? s.homes k)) (sym was) in omega (arith, p);
           fills = λ j ne. refl;
           reads = λ j ne. without_else j k me.0.reads ne;
-          fill = let z : is 1 y ≡ 0 = ap (is 1) (sym was) in omega (arith, z);
-          read = let p = without_same k me.0.reads claim in let z : is 3 y ≡ 1 = ap (is 3) (sym was) in omega (arith, p, z);
+          fill = let z : is filling y ≡ 0 = ap (is filling) (sym was) in omega (arith, z);
+          read = let p = without_same k me.0.reads claim in let z : is reading y ≡ 1 = ap (is reading) (sym was) in omega (arith, p, z);
           low = omega arith;
           empty = λ z. here;
           full = λ z. absurd (omega (arith, z));
@@ -244,5 +284,9 @@ module _ {S V : Type 0} (meaning : S → Algebra V) (t : Setup S) where
           gives,
           tt,
           C.0,
-          (subst (λ (x : Setup S). Went (at_word k 0 (end_read (origin x.plan.shards k) k me.0)) d (gone meaning t me.0 u d (done_by meaning items b d T))) (sym e) (went meaning t me.0 u b d d items T sh (unchanged d)), refl),
+          (
+            subst (λ (x : Setup S). StepsTo (at_word k empty (end_read (origin x.plan.shards k) k me.0)) d
+                (gone meaning t me.0 u d (done_by meaning items b d T))) (sym e) (went meaning t me.0 u b d d items T sh (unchanged d)),
+            refl,
+          ),
         )

@@ -16,13 +16,13 @@ use Rattle.scholten_core.proofs.Ended.{opening_kept}
 use Rattle.shard_part.specs.PartState.{PartData, Setup, network_in, place_in, state_in, mine, event_of}
 use Rattle.shard_part.specs.Weights.{total, is, All, part_weight}
 use Rattle.shard_part.specs.Handling.{HandledAll}
-use Rattle.shard_part.specs.Shows.{HoldsShare, ShowsIn, Shows}
+use Rattle.shard_part.specs.Represents.{HoldsShareIn, RepresentsIn, Represents}
 use Rattle.shard_part.proofs.Weights.{total_append}
 use Rattle.shard_part.proofs.Showing.{AllLawful, all_parts, all_append, shown_holds, swap_shown}
 use Rattle.shard_part.proofs.TakenCounts.{run_append, handled_same}
 use Rattle.post_floor.specs.declared.view.View.{View}
-use Rattle.post_floor.specs.Floor.{Slot, flat, AddUp, CountsNone, mail, core_of, Kept}
-use Rattle.post_floor.specs.Plays.{ShowsPart, Went}
+use Rattle.post_floor.specs.Floor.{Slot, flat, AddUp, CountsNone, in_transit, core_of, FloorInvariant}
+use Rattle.post_floor.specs.Plays.{IsViewOf, StepsTo}
 use Rattle.post_floor.proofs.Totals.{total_set}
 use Rattle.post_floor.proofs.Parts.{stands}
 use Rattle.shard_part.specs.Exact.{totals_from, done_by}
@@ -47,9 +47,10 @@ module _ {S V : Type 0} (meaning : S → Algebra V) (t : Setup S) where
     pub signalled : e.signalled ≡ d.signalled
     pub accepted : e.accepted ≡ d.accepted
 
-  pub went : (v u : View S V) (b d e : PartData S V) (items : List (Item V)) (T : HandledAll meaning b items d) → ShowsPart v b → Relisted d e → Went u e (gone v u e (done_by meaning items b d T))
+  pub went : (v u : View S V) (b d e : PartData S V) (items : List (Item V)) (T : HandledAll meaning b items d) → IsViewOf v b → Relisted d e → StepsTo u e (gone v u e (done_by meaning items b d T))
   went v u b d e items T s r =
-      let R = saturates meaning items b d T (record { sent = v.sent; delivered = v.delivered; signalled = v.signalled; accepted = v.accepted }) (record { sent = s.sent; delivered = s.delivered; signalled = s.signalled; accepted = s.accepted }) in record {
+      let R = saturates meaning items b d T (record { sent = v.sent; delivered = v.delivered; signalled = v.signalled; accepted = v.accepted })
+      (record { sent = s.sent; delivered = s.delivered; signalled = s.signalled; accepted = s.accepted }) in record {
         shows = record { parts = refl; sent = r.sent ∙ R.sent; delivered = r.delivered ∙ R.delivered; signalled = r.signalled ∙ R.signalled; accepted = r.accepted ∙ R.accepted };
         fills = refl;
         reads = refl;
@@ -68,51 +69,64 @@ module _ {S V : Type 0} (meaning : S → Algebra V) (t : Setup S) where
 
   module _ (L : AllLawful meaning) (W : WellFormed (network_in t)) where
     pub kept_core : (events : List Event) → CoreKept (meaning t.question.algebra) (network_in t) 0 (core_of meaning t events)
-    kept_core events = run_kept (meaning t.question.algebra) (network_in t) (L t.question.algebra) W (opening (meaning t.question.algebra) (network_in t)) events (opening_kept (meaning t.question.algebra) (network_in t) W)
+    kept_core events = run_kept (meaning t.question.algebra) (network_in t) (L t.question.algebra) W
+        (opening (meaning t.question.algebra) (network_in t)) events (opening_kept (meaning t.question.algebra) (network_in t) W)
 
     -- what the parts and mailboxes show after one view went on by items of its part and then changed its lists
     pub record After (s : St) (id : ℕ) (w : View S V) (e : PartData S V) (mail' : (ℕ → Item V → ℕ) → ℕ) (events : List Event) : Type 0 where
-      pub shown : Shows meaning t (flat (set s.views id w)) mail' (core_of meaning t events)
+      pub shown : Represents meaning t (flat (set s.views id w)) mail' (core_of meaning t events)
       pub whole : (j : ℕ) → j < t.plan.shards → total (λ p. is j p.shard) (flat (set s.views id w)) ≡ 1
       pub below : All (λ p. p.shard < t.plan.shards) (flat (set s.views id w))
       pub counts : AddUp (set s.views id w) (totals_of (meaning t.question.algebra) (network_in t) events)
-      pub share : HoldsShare (meaning t.question.algebra) (network_in t) (place_in t) (core_of meaning t events) e
+      pub share : HoldsShareIn (meaning t.question.algebra) (network_in t) (place_in t) (core_of meaning t events) e
       pub setup : e.setup ≡ t
 
-    pub goes_on : (s : St) (r : Kept meaning t s) (id : ℕ) (v u : View S V) (b d e : PartData S V) (items : List (Item V)) (T : HandledAll meaning b items d) (mail' : (ℕ → Item V → ℕ) → ℕ) →
-        get_elem? s.views id ≡ some v → v.parts ≡ b ∷ [] → Relisted d e → ((h : ℕ → Item V → ℕ) → part_weight h e + mail' h ≡ part_weight h d + mail t.plan.shards s.words s.homes h) →
+    pub goes_on : (s : St) (r : FloorInvariant meaning t s) (id : ℕ) (v u : View S V) (b d e : PartData S V) (items : List (Item V)) (T : HandledAll meaning b items d) (mail' : (ℕ → Item V → ℕ) → ℕ) →
+        get_elem? s.views id ≡ some v → v.parts ≡ b ∷ [] → Relisted d e → ((h : ℕ → Item V → ℕ) → part_weight h e + mail' h ≡ part_weight h d + in_transit t.plan.shards s.words s.homes h) →
         After s id (gone v u e (done_by meaning items b d T)) e mail' (r.events ++ map event_of items)
     goes_on s r id v u b d e items T mail' at one R weighs =
         let A = meaning t.question.algebra in let N = network_in t in
         let n : Totals = done_by meaning items b d T in
         let w : View S V = gone v u e n in
-        let m0 : (ℕ → Item V → ℕ) → ℕ = mail t.plan.shards s.words s.homes in
+        let m0 : (ℕ → Item V → ℕ) → ℕ = in_transit t.plan.shards s.words s.homes in
         let c : CoreState V = core_of meaning t r.events in
         let more : List Event = map event_of items in
         let P = stands s.views id v b at one in
-        let H0 : Shows meaning t (P.before ++ b ∷ P.after) m0 c = subst (λ (l : List (PartData S V)). Shows meaning t l m0 c) P.now r.shown in
+        let H0 : Represents meaning t (P.before ++ b ∷ P.after) m0 c = subst (λ (l : List (PartData S V)). Represents meaning t l m0 c) P.now r.shown in
         let all0 = all_parts (λ (p : PartData S V). p.setup ≡ t) P.before (b ∷ P.after) H0.same in
         let M = moves meaning L t W items P.before P.after b d m0 c (kept_core r.events) all0.1.0 H0 T in
         let k = handled_same meaning items b d T in
         let c' : CoreState V = run_from A N c more in
         let is_c : c' ≡ core_of meaning t (r.events ++ more) = sym (run_append A N (opening A N) r.events more) in
-        let agree : Agree A N (mine (place_in t) d.shard) (state_in d) (state_in e) = subst (Agree A N (mine (place_in t) d.shard) (state_in d)) (sym R.tables) (record { label = λ v m. refl; engager = λ v m. refl; told = λ b m. refl; idle = λ b m. refl }) in
-        let sw : ShowsIn A N (place_in t) (P.before ++ e ∷ P.after) mail' c' = swap_shown A N (place_in t) P.before P.after d e m0 mail' c' M.shown.shown R.shard agree R.outs weighs in
+        let agree : Agree A N (mine (place_in t) d.shard) (state_in d) (state_in e) = subst (Agree A N (mine (place_in t) d.shard) (state_in d))
+        (sym R.tables) (record { label = λ v m. refl; engager = λ v m. refl; told = λ b m. refl; idle = λ b m. refl }) in
+        let sw : RepresentsIn A N (place_in t) (P.before ++ e ∷ P.after) mail' c' = swap_shown A N (place_in t) P.before P.after d e m0 mail' c' M.shown.shown R.shard agree R.outs weighs in
         let setup : e.setup ≡ t = R.setup ∙ k.0 ∙ all0.1.0 in
-        let sw' : Shows meaning t (P.before ++ e ∷ P.after) mail' c' = record { same = all_append (λ (p : PartData S V). p.setup ≡ t) P.before (e ∷ P.after) all0.0 (setup, all0.1.1); shown = sw } in
+        let sw' : Represents meaning t (P.before ++ e ∷ P.after) mail' c' =
+        record { same = all_append (λ (p : PartData S V). p.setup ≡ t) P.before (e ∷ P.after) all0.0 (setup, all0.1.1); shown = sw } in
         let views' : flat (set s.views id w) ≡ P.before ++ e ∷ P.after = P.then w e refl in record {
-          shown = subst (λ (d' : CoreState V). Shows meaning t (flat (set s.views id w)) mail' d') is_c (subst (λ (l : List (PartData S V)). Shows meaning t l mail' c') (sym views') sw');
+          shown = subst (λ (d' : CoreState V). Represents meaning t (flat (set s.views id w)) mail' d') is_c (subst (λ (l : List (PartData S V)). Represents meaning t l mail' c') (sym views') sw');
           whole = λ j lt. let f : PartData S V → ℕ = λ p. is j p.shard in
               let o = r.whole j lt in let x = ap (total f) P.now in let y = ap (total f) views' in let x' = total_append f P.before (b ∷ P.after) in let y' = total_append f P.before (e ∷ P.after) in
               let z : f e ≡ f b = ap (is j) (R.shard ∙ k.1) in omega (arith, o, x, y, x', y', z);
           below = (let B = all_parts (λ (p : PartData S V). p.shard < t.plan.shards) P.before (b ∷ P.after) (subst (All (λ (p : PartData S V). p.shard < t.plan.shards)) P.now r.below) in
-              subst (All (λ (p : PartData S V). p.shard < t.plan.shards)) (sym views') (all_append (λ (p : PartData S V). p.shard < t.plan.shards) P.before (e ∷ P.after) B.0 (subst (λ z. z < t.plan.shards) (sym (R.shard ∙ k.1)) B.1.0, B.1.1)));
+              subst (All (λ (p : PartData S V). p.shard < t.plan.shards)) (sym views')
+              (all_append (λ (p : PartData S V). p.shard < t.plan.shards) P.before (e ∷ P.after) B.0
+              (subst (λ z. z < t.plan.shards) (sym (R.shard ∙ k.1)) B.1.0, B.1.1)));
           counts = record {
-            sent = (let a = total_set (λ (z : View S V). z.sent) s.views id v w at in let q = r.counts.sent in let m = sent_more A N (opening A N) r.events more in let z : n.sent ≡ (totals_from A N c more).sent = ap (λ (y : Totals). y.sent) M.did in omega (arith, a, q, m, z));
-            delivered = (let a = total_set (λ (z : View S V). z.delivered) s.views id v w at in let q = r.counts.delivered in let m = delivered_more A N (opening A N) r.events more in let z : n.delivered ≡ (totals_from A N c more).delivered = ap (λ (y : Totals). y.delivered) M.did in omega (arith, a, q, m, z));
-            signalled = (let a = total_set (λ (z : View S V). z.signalled) s.views id v w at in let q = r.counts.signalled in let m = signalled_more A N (opening A N) r.events more in let z : n.signalled ≡ (totals_from A N c more).signalled = ap (λ (y : Totals). y.signalled) M.did in omega (arith, a, q, m, z));
-            accepted = (let a = total_set (λ (z : View S V). z.accepted) s.views id v w at in let q = r.counts.accepted in let m = accepted_more A N (opening A N) r.events more in let z : n.accepted ≡ (totals_from A N c more).accepted = ap (λ (y : Totals). y.accepted) M.did in omega (arith, a, q, m, z));
+            sent = (let a = total_set (λ (z : View S V). z.sent) s.views id v w at in let q = r.counts.sent in
+                let m = sent_more A N (opening A N) r.events more in
+                let z : n.sent ≡ (totals_from A N c more).sent = ap (λ (y : Totals). y.sent) M.did in omega (arith, a, q, m, z));
+            delivered = (let a = total_set (λ (z : View S V). z.delivered) s.views id v w at in let q = r.counts.delivered in
+                let m = delivered_more A N (opening A N) r.events more in
+                let z : n.delivered ≡ (totals_from A N c more).delivered = ap (λ (y : Totals). y.delivered) M.did in omega (arith, a, q, m, z));
+            signalled = (let a = total_set (λ (z : View S V). z.signalled) s.views id v w at in let q = r.counts.signalled in
+                let m = signalled_more A N (opening A N) r.events more in
+                let z : n.signalled ≡ (totals_from A N c more).signalled = ap (λ (y : Totals). y.signalled) M.did in omega (arith, a, q, m, z));
+            accepted = (let a = total_set (λ (z : View S V). z.accepted) s.views id v w at in let q = r.counts.accepted in
+                let m = accepted_more A N (opening A N) r.events more in
+                let z : n.accepted ≡ (totals_from A N c more).accepted = ap (λ (y : Totals). y.accepted) M.did in omega (arith, a, q, m, z));
           };
-          share = subst (λ (d' : CoreState V). HoldsShare A N (place_in t) d' e) is_c (shown_holds A N (place_in t) P.before P.after e mail' c' sw);
+          share = subst (λ (d' : CoreState V). HoldsShareIn A N (place_in t) d' e) is_c (shown_holds A N (place_in t) P.before P.after e mail' c' sw);
           setup = setup;
         }

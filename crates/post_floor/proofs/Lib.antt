@@ -1,17 +1,17 @@
-pub mod Totals
-pub mod Parts
-pub mod Keeps
-pub mod Steps
-pub mod Exchanges
-pub mod Done
-pub mod Told
-pub mod Called
-pub mod Turning
-pub mod Claiming
+mod Totals
+mod Parts
+mod Keeps
+mod Changes
+mod Exchanges
+mod Done
+mod Told
+mod Called
+mod Turning
+mod Claiming
 pub mod Seats
-pub mod Seated
-pub mod Opening
+mod Seated
+mod Opening
 pub mod Opened
-pub mod Closing
+mod Closing
 pub mod Carrying
-pub mod Quiet
+mod Quiet

@@ -11,7 +11,7 @@ use Rattle.scholten_core.specs.declared.item.Item.{Item}
 use Rattle.scholten_core.specs.Sums.{one_if}
 use Rattle.shard_part.specs.PartState.{PartData, Setup, place_in}
 use Rattle.shard_part.specs.Weights.{total, is, All}
-use Rattle.shard_part.specs.Shows.{Shows}
+use Rattle.shard_part.specs.Represents.{Represents}
 use Rattle.shard_part.specs.Moves.{IsPlanned}
 use Rattle.shard_part.specs.Opening.{opened_parts}
 use Rattle.shard_part.proofs.Weights.{sum_zero, sum_below_same}
@@ -19,7 +19,7 @@ use Rattle.shard_part.proofs.Opened.{place_below}
 use Rattle.shard_part.proofs.OpenedAll.{opened_show, opened_same, shards_past}
 use Rattle.post_floor.specs.declared.view.View.{View}
 use Rattle.post_floor.specs.Boxes.{box_count, dest}
-use Rattle.post_floor.specs.Floor.{Slot, flat, CountsNone, box, mail, emptied, BoxOk, Kept}
+use Rattle.post_floor.specs.Floor.{Slot, flat, CountsNone, box, in_transit, empty_slot, MailboxInvariant, FloorInvariant}
 use Rattle.post_floor.specs.Seats.{knows}
 use Rattle.post_floor.proofs.Opened.{get_zero}
 
@@ -45,33 +45,40 @@ module _ {S V : Type 0} (A : Algebra V) (t : Setup S) where
   all_below m k (suc n) l = ((omega (arith, l)), all_below m (suc k) n (omega (arith, l)))
 
 module _ {S V : Type 0} (meaning : S → Algebra V) (t : Setup S) (P : IsPlanned t 0) where
-  pub opens : (ws : List ℕ) (xs : List (Slot V)) → ws ≡ replicate (box_count t.plan.shards + 1) 0 → length xs ≡ box_count t.plan.shards → ((k : ℕ) → k < box_count t.plan.shards → get_elem? xs k ≡ some (emptied t k))
-      → Kept meaning t (opening ws xs (knows t.plan.shards (opened_parts (meaning t.question.algebra) t 0 t.plan.shards)))
+  pub opens : (ws : List ℕ) (xs : List (Slot V)) → ws ≡ replicate (box_count t.plan.shards + 1) 0 → length xs ≡ box_count t.plan.shards
+      → ((k : ℕ) → k < box_count t.plan.shards → get_elem? xs k ≡ some (empty_slot t k))
+      → FloorInvariant meaning t (opening ws xs (knows t.plan.shards (opened_parts (meaning t.question.algebra) t 0 t.plan.shards)))
   opens ws xs zeros wide empty =
       let n : ℕ = t.plan.shards in
       let ps : List (PartData S V) = opened_parts (meaning t.question.algebra) t 0 n in
       let v : View S V = knows n ps in
       let hs : List (Option (Slot V)) = map some xs in
       let zero_at : (k : ℕ) → get_or ws k 0 ≡ 0 = λ k. ap (λ (z : List ℕ). get_or z k 0) zeros ∙ get_zero (box_count n + 1) k in
-      let none' : (h : ℕ → Item V → ℕ) → mail n ws hs h ≡ 0 = λ h. sum_below_same (λ k. box (h (dest n k)) (get_or ws k 0) (get_elem? hs k)) (λ _. 0) (box_count n) (λ k lt. ap (λ (z : ℕ). box (h (dest n k)) z (get_elem? hs k)) (zero_at k)) ∙ sum_zero (λ _. 0) (box_count n) (λ _. refl) in
+      let none' : (h : ℕ → Item V → ℕ)
+      → in_transit n ws hs h ≡ 0 =
+      λ h. sum_below_same (λ k. box (h (dest n k)) (get_or ws k 0) (get_elem? hs k)) (λ _. 0) (box_count n)
+      (λ k lt. ap (λ (z : ℕ). box (h (dest n k)) z (get_elem? hs k)) (zero_at k)) ∙ sum_zero (λ _. 0) (box_count n) (λ _. refl) in
       let all : flat (v ∷ []) ≡ ps = append-nil ps in record {
         events = [];
-        shown = subst (λ (l : List (PartData S V)). Shows meaning t l (mail n ws hs) (Rattle.post_floor.specs.Floor.core_of meaning t [])) (sym all)
-            (record { same = opened_same (meaning t.question.algebra) t P; shown = opened_show (meaning t.question.algebra) t P (mail n ws hs) none' });
+        shown = subst (λ (l : List (PartData S V)). Represents meaning t l (in_transit n ws hs) (Rattle.post_floor.specs.Floor.core_of meaning t [])) (sym all)
+            (record { same = opened_same (meaning t.question.algebra) t P; shown = opened_show (meaning t.question.algebra) t P (in_transit n ws hs) none' });
         whole = λ j lt. ap (total (λ (p : PartData S V). is j p.shard)) all ∙ one_each (meaning t.question.algebra) t j 0 n (omega arith) (omega (arith, lt));
         below = subst (All (λ (p : PartData S V). p.shard < n)) (sym all) (all_below (meaning t.question.algebra) t n 0 n (omega arith));
-        idle = λ id u a none''. subst (λ (z : View S V). z.parts ≡ [] → CountsNone z) (only v id u a) (λ q. record { sent = ap (total (λ (p : PartData S V). p.sent)) q; delivered = refl; signalled = refl; accepted = refl }) none'';
+        idle = λ id u a none''. subst (λ (z : View S V). z.parts ≡ [] → CountsNone z) (only v id u a)
+            (λ q. record { sent = ap (total (λ (p : PartData S V). p.sent)) q; delivered = refl; signalled = refl; accepted = refl }) none'';
         counts = record {
-          sent = (let a = sent_are (meaning t.question.algebra) t 0 n in let b = one_each (meaning t.question.algebra) t (place_in t 0) 0 n (omega arith) (let l = place_below t 0 P 0 in omega (arith, l)) in omega (arith, a, b));
+          sent = (let a = sent_are (meaning t.question.algebra) t 0 n in
+              let b = one_each (meaning t.question.algebra) t (place_in t 0) 0 n (omega arith) (let l = place_below t 0 P 0 in omega (arith, l)) in
+              omega (arith, a, b));
           delivered = refl;
           signalled = refl;
           accepted = refl;
         };
-        boxes = λ k lt. subst (λ (z : ℕ). BoxOk t k z (get_elem? hs k) 0 0) (sym (zero_at k)) (record {
+        boxes = λ k lt. subst (λ (z : ℕ). MailboxInvariant t k z (get_elem? hs k) 0 0) (sym (zero_at k)) (record {
           low = omega arith;
           fills_is = refl;
           reads_is = refl;
-          empty_home = λ _. at_map (λ y. some y) xs k (emptied t k) (empty k lt);
+          empty_home = λ _. at_map (λ y. some y) xs k (empty_slot t k) (empty k lt);
           full_home = λ e. absurd (omega (arith, e));
           out = λ z. elim z [ inl e ↦ absurd (omega (arith, e)) | inr e ↦ absurd (omega (arith, e)) ];
         });

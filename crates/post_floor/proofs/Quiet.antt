@@ -8,13 +8,14 @@ use Rattle.scholten_core.proofs.EveryRun.{ended_is_quiet, ended_is_best}
 use Rattle.scholten_core.proofs.Networks.{well_formed}
 use Rattle.shard_part.specs.PartState.{PartData, Setup, network_in, place_in}
 use Rattle.shard_part.specs.Moves.{IsPlanned}
-use Rattle.shard_part.specs.Shows.{Shows}
+use Rattle.shard_part.specs.Represents.{Represents}
 use Rattle.shard_part.proofs.Showing.{AllLawful}
 use Rattle.shard_part.proofs.UnderWay.{ended_empty}
-use Rattle.post_floor.specs.Floor.{core_of, ShowsQuiet}
+use Rattle.post_floor.specs.Floor.{core_of, RepresentsQuiet}
 
 module _ {S V : Type 0} (meaning : S → Algebra V) (t : Setup S) (L : AllLawful meaning) (P : IsPlanned t 0) where
-  pub all_over : (ps : List (PartData S V)) (mailed : (ℕ → Item V → ℕ) → ℕ) (events : List Event) → Shows meaning t ps mailed (core_of meaning t events) → HasEnded (core_of meaning t events) → ShowsQuiet meaning t ps mailed events
+  pub all_over : (ps : List (PartData S V)) (mailed : (ℕ → Item V → ℕ) → ℕ) (events : List Event)
+      → Represents meaning t ps mailed (core_of meaning t events) → HasEnded (core_of meaning t events) → RepresentsQuiet meaning t ps mailed events
   all_over ps mailed events shows h =
       let A = meaning t.question.algebra in
       let W = well_formed t.question.roads t.question.source P.roads P.source.0 in record {

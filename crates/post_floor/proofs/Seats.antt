@@ -9,12 +9,12 @@ use Rattle.atomic_table.proofs.Lists.{at_set, at_snoc}
 use Rattle.path_algebra.specs.Algebra.{Algebra}
 use Rattle.shard_part.specs.PartState.{PartData, Setup, network_in, place_in}
 use Rattle.shard_part.specs.Weights.{total, is, All, part_weight}
-use Rattle.shard_part.specs.Shows.{HoldsTables}
+use Rattle.shard_part.specs.Represents.{HoldsTables}
 use Rattle.shard_part.proofs.Weights.{total_append}
 use Rattle.shard_part.proofs.Showing.{all_append, all_parts}
 use Rattle.post_floor.specs.declared.view.View.{View}
 use Rattle.post_floor.specs.Boxes.{box_count}
-use Rattle.post_floor.specs.Floor.{Slot, flat, filling, reading, CountsNone, BoxOk, core_of, Kept}
+use Rattle.post_floor.specs.Floor.{Slot, flat, fill_claims, read_claims, CountsNone, MailboxInvariant, core_of, FloorInvariant}
 use Rattle.post_floor.specs.Seats.{tail, first_of, cut_left, cut_right, aside_left, aside_right, both, spent}
 use Rattle.post_floor.proofs.Totals.{total_set}
 use Rattle.post_floor.proofs.Parts.{flat_total, flat_each, flat_at}
@@ -50,8 +50,8 @@ module _ {S V : Type 0} (meaning : S → Algebra V) (t : Setup S) where
   pub record Reseats (s : St) (views' : List (View S V)) : Type 1 where
     pub all : (Q : PartData S V → Type 0) → All Q (flat s.views) → All Q (flat views')
     pub parts : (f : PartData S V → ℕ) → total (λ (v : View S V). total f v.parts) views' ≡ total (λ (v : View S V). total f v.parts) s.views
-    pub fills : (j : ℕ) → total (filling j) views' ≡ total (filling j) s.views
-    pub reads : (j : ℕ) → total (reading j) views' ≡ total (reading j) s.views
+    pub fills : (j : ℕ) → total (fill_claims j) views' ≡ total (fill_claims j) s.views
+    pub reads : (j : ℕ) → total (read_claims j) views' ≡ total (read_claims j) s.views
     pub sent : total (λ (v : View S V). v.sent) views' ≡ total (λ (v : View S V). v.sent) s.views
     pub delivered : total (λ (v : View S V). v.delivered) views' ≡ total (λ (v : View S V). v.delivered) s.views
     pub signalled : total (λ (v : View S V). v.signalled) views' ≡ total (λ (v : View S V). v.signalled) s.views
@@ -59,7 +59,7 @@ module _ {S V : Type 0} (meaning : S → Algebra V) (t : Setup S) where
     pub idle : ((id : ℕ) (v : View S V) → get_elem? s.views id ≡ some v → v.parts ≡ [] → CountsNone v) → (id : ℕ) (v : View S V) → get_elem? views' id ≡ some v → v.parts ≡ [] → CountsNone v
     pub seen : (D : Type 0) → ((id : ℕ) (v : View S V) → get_elem? s.views id ≡ some v → v.seen ≡ true → D) → (id : ℕ) (v : View S V) → get_elem? views' id ≡ some v → v.seen ≡ true → D
 
-  reseated : (s : St) (r : Kept meaning t s) (views' : List (View S V)) → Reseats s views' → Kept meaning t (record { words = s.words; homes = s.homes; views = views' })
+  reseated : (s : St) (r : FloorInvariant meaning t s) (views' : List (View S V)) → Reseats s views' → FloorInvariant meaning t (record { words = s.words; homes = s.homes; views = views' })
   reseated s r views' c =
       let flat_same : (f : PartData S V → ℕ) → total f (flat views') ≡ total f (flat s.views) = λ f. flat_total f views' ∙ c.parts f ∙ sym (flat_total f s.views) in record {
         events = r.events;
@@ -75,7 +75,7 @@ module _ {S V : Type 0} (meaning : S → Algebra V) (t : Setup S) where
         below = c.all (λ (p : PartData S V). p.shard < t.plan.shards) r.below;
         idle = c.idle r.idle;
         counts = record { sent = c.sent ∙ r.counts.sent; delivered = c.delivered ∙ r.counts.delivered; signalled = c.signalled ∙ r.counts.signalled; accepted = c.accepted ∙ r.counts.accepted };
-        boxes = λ j jl. subst (λ (z : ℕ × ℕ). BoxOk t j (get_or s.words j 0) (get_elem? s.homes j) z.0 z.1) (λ i. (sym (c.fills j) i, sym (c.reads j) i)) (r.boxes j jl);
+        boxes = λ j jl. subst (λ (z : ℕ × ℕ). MailboxInvariant t j (get_or s.words j 0) (get_elem? s.homes j) z.0 z.1) (λ i. (sym (c.fills j) i, sym (c.reads j) i)) (r.boxes j jl);
         done = r.done;
         seen = c.seen (get_or s.words (box_count t.plan.shards) 0 ≡ 1) r.seen;
         wide = r.wide;
@@ -86,8 +86,8 @@ module _ {S V : Type 0} (meaning : S → Algebra V) (t : Setup S) where
   pub record Cuts (v l w : View S V) : Type 1 where
     pub all : (Q : PartData S V → Type 0) → All Q v.parts → All Q l.parts × All Q w.parts
     pub parts : (f : PartData S V → ℕ) → total f l.parts + total f w.parts ≡ total f v.parts
-    pub fills : (j : ℕ) → filling j l + filling j w ≡ filling j v
-    pub reads : (j : ℕ) → reading j l + reading j w ≡ reading j v
+    pub fills : (j : ℕ) → fill_claims j l + fill_claims j w ≡ fill_claims j v
+    pub reads : (j : ℕ) → read_claims j l + read_claims j w ≡ read_claims j v
     pub sent : l.sent + w.sent ≡ v.sent
     pub delivered : l.delivered + w.delivered ≡ v.delivered
     pub signalled : l.signalled + w.signalled ≡ v.signalled
@@ -96,11 +96,13 @@ module _ {S V : Type 0} (meaning : S → Algebra V) (t : Setup S) where
     pub seen_left : l.seen ≡ v.seen
     pub seen_right : w.seen ≡ v.seen
 
-  pub splits_as : (id : ℕ) (v l w : View S V) → Cuts v l w → Splits (Kept meaning t) id v l w
+  pub splits_as : (id : ℕ) (v l w : View S V) → Cuts v l w → Splits (FloorInvariant meaning t) id v l w
   splits_as id v l w c s r at =
       let views' : List (View S V) = set s.views id l ++ w ∷ [] in
-      let sums : (f : View S V → ℕ) → f l + f w ≡ f v → total f views' ≡ total f s.views = λ f e. let p = total_snoc f (set s.views id l) w in let q = total_set f s.views id v l at in omega (arith, p, q, e) in
-      let where' : (Q : View S V → Type 0) → ((i : ℕ) (u : View S V) → get_elem? s.views i ≡ some u → Q u) → Q l → Q w → (i : ℕ) (u : View S V) → get_elem? views' i ≡ some u → Q u = λ Q old ql qw i u e.
+      let sums : (f : View S V → ℕ) → f l + f w ≡ f v → total f views' ≡ total f s.views = λ f e. let p = total_snoc f (set s.views id l) w in
+      let q = total_set f s.views id v l at in omega (arith, p, q, e) in
+      let where' : (Q : View S V → Type 0) → ((i : ℕ) (u : View S V) → get_elem? s.views i ≡ some u → Q u) → Q l → Q w → (i : ℕ) (u : View S V)
+      → get_elem? views' i ≡ some u → Q u = λ Q old ql qw i u e.
       elim (at_snoc (set s.views id l) w u i e) [
         | inl e' ↦ elim (at_set s.views id i l u e') [ inl z ↦ subst Q z.1 ql | inr z ↦ old i u z.1 ]
         | inr z ↦ subst Q z qw
@@ -108,8 +110,8 @@ module _ {S V : Type 0} (meaning : S → Algebra V) (t : Setup S) where
       reseated s r views' (record {
         all = λ Q a. let cut = c.all Q (flat_at Q s.views id v a at) in flat_each Q views' (where' (λ (u : View S V). All Q u.parts) (λ i u e. flat_at Q s.views i u a e) cut.0 cut.1);
         parts = λ f. sums (λ (u : View S V). total f u.parts) (c.parts f);
-        fills = λ j. sums (filling j) (c.fills j);
-        reads = λ j. sums (reading j) (c.reads j);
+        fills = λ j. sums (fill_claims j) (c.fills j);
+        reads = λ j. sums (read_claims j) (c.reads j);
         sent = sums (λ (u : View S V). u.sent) c.sent;
         delivered = sums (λ (u : View S V). u.delivered) c.delivered;
         signalled = sums (λ (u : View S V). u.signalled) c.signalled;
@@ -118,12 +120,13 @@ module _ {S V : Type 0} (meaning : S → Algebra V) (t : Setup S) where
         seen = λ D old. where' (λ (u : View S V). u.seen ≡ true → D) old (λ e. old id v at (sym c.seen_left ∙ e)) (λ e. old id v at (sym c.seen_right ∙ e));
       })
 
-  pub splits : (id : ℕ) (v : View S V) → v.sent ≡ total (λ p. p.sent) v.parts → v.fills ≡ [] → v.reads ≡ [] → v.delivered ≡ 0 → v.signalled ≡ 0 → v.accepted ≡ 0 → Splits (Kept meaning t) id v (cut_left v) (cut_right v)
+  pub splits : (id : ℕ) (v : View S V) → v.sent ≡ total (λ p. p.sent) v.parts → v.fills ≡ [] → v.reads ≡ [] → v.delivered ≡ 0 → v.signalled ≡ 0
+      → v.accepted ≡ 0 → Splits (FloorInvariant meaning t) id v (cut_left v) (cut_right v)
   splits id v sent fills reads none1 none2 none3 = splits_as id v (cut_left v) (cut_right v) (record {
     all = λ Q a. (all_tail Q v.parts a, all_first Q v.parts a);
     parts = λ f. total_cut f v.parts;
-    fills = λ j. let z : filling j v ≡ 0 = ap (total (is j)) fills in omega (arith, z);
-    reads = λ j. let z : reading j v ≡ 0 = ap (total (is j)) reads in omega (arith, z);
+    fills = λ j. let z : fill_claims j v ≡ 0 = ap (total (is j)) fills in omega (arith, z);
+    reads = λ j. let z : read_claims j v ≡ 0 = ap (total (is j)) reads in omega (arith, z);
     sent = total_cut (λ (p : PartData S V). p.sent) v.parts ∙ sym sent;
     delivered = omega (arith, none1);
     signalled = omega (arith, none2);
@@ -136,7 +139,7 @@ module _ {S V : Type 0} (meaning : S → Algebra V) (t : Setup S) where
     seen_right = refl;
   })
 
-  pub splits_aside : (id : ℕ) (v : View S V) → Splits (Kept meaning t) id v (aside_left v) (aside_right v)
+  pub splits_aside : (id : ℕ) (v : View S V) → Splits (FloorInvariant meaning t) id v (aside_left v) (aside_right v)
   splits_aside id v = splits_as id v (aside_left v) (aside_right v) (record {
     all = λ Q a. (tt, a);
     parts = λ f. omega arith;
@@ -146,26 +149,34 @@ module _ {S V : Type 0} (meaning : S → Algebra V) (t : Setup S) where
     delivered = omega arith;
     signalled = omega arith;
     accepted = omega arith;
-    idle = λ old. ((λ e. record { sent = refl; delivered = refl; signalled = refl; accepted = refl }), λ e. let q = old e in record { sent = q.sent; delivered = q.delivered; signalled = q.signalled; accepted = q.accepted });
+    idle = λ old. (
+      (λ e. record { sent = refl; delivered = refl; signalled = refl; accepted = refl }),
+      λ e. let q = old e in
+          record { sent = q.sent; delivered = q.delivered; signalled = q.signalled; accepted = q.accepted },
+    );
     seen_left = refl;
     seen_right = refl;
   })
 
-  pub joins : (id : ℕ) (v : View S V) (other : ℕ) (w : View S V) → Joins (Kept meaning t) id v other w (both v w) spent
+  pub joins : (id : ℕ) (v : View S V) (other : ℕ) (w : View S V) → Joins (FloorInvariant meaning t) id v other w (both v w) spent
   joins id v other w s r at ne at' =
       let b : View S V = both v w in let e : View S V = spent in let views1 : List (View S V) = set s.views id b in let views' : List (View S V) = set views1 other e in
       let was : get_elem? s.views other ≡ some w = elim (at_set s.views id other b w at') [ inl z ↦ absurd (ne z.0) | inr z ↦ z.1 ] in
-      let sums : (f : View S V → ℕ) → f b ≡ f v + f w → f e ≡ 0 → total f views' ≡ total f s.views = λ f p q. let y = total_set f s.views id v b at in let z = total_set f views1 other w e at' in omega (arith, y, z, p, q) in
-      let where' : (Q : View S V → Type 0) → ((i : ℕ) (u : View S V) → get_elem? s.views i ≡ some u → Q u) → Q b → Q e → (i : ℕ) (u : View S V) → get_elem? views' i ≡ some u → Q u = λ Q old qb qe i u a.
+      let sums : (f : View S V → ℕ) → f b ≡ f v + f w → f e ≡ 0 → total f views' ≡ total f s.views = λ f p q. let y = total_set f s.views id v b at in
+      let z = total_set f views1 other w e at' in omega (arith, y, z, p, q) in
+      let where' : (Q : View S V → Type 0) → ((i : ℕ) (u : View S V) → get_elem? s.views i ≡ some u → Q u) → Q b → Q e → (i : ℕ) (u : View S V)
+      → get_elem? views' i ≡ some u → Q u = λ Q old qb qe i u a.
       elim (at_set views1 other i e u a) [
         | inl z ↦ subst Q z.1 qe
         | inr z ↦ elim (at_set s.views id i b u z.1) [ inl y ↦ subst Q y.1 qb | inr y ↦ old i u y.1 ]
       ] in
       reseated s r views' (record {
-        all = λ Q a. flat_each Q views' (where' (λ (u : View S V). All Q u.parts) (λ i u e'. flat_at Q s.views i u a e') (all_append Q v.parts w.parts (flat_at Q s.views id v a at) (flat_at Q s.views other w a was)) tt);
+        all = λ Q a. flat_each Q views'
+            (where' (λ (u : View S V). All Q u.parts) (λ i u e'. flat_at Q s.views i u a e')
+            (all_append Q v.parts w.parts (flat_at Q s.views id v a at) (flat_at Q s.views other w a was)) tt);
         parts = λ f. sums (λ (u : View S V). total f u.parts) (total_append f v.parts w.parts) refl;
-        fills = λ j. sums (filling j) (total_append (is j) v.fills w.fills) refl;
-        reads = λ j. sums (reading j) (total_append (is j) v.reads w.reads) refl;
+        fills = λ j. sums (fill_claims j) (total_append (is j) v.fills w.fills) refl;
+        reads = λ j. sums (read_claims j) (total_append (is j) v.reads w.reads) refl;
         sent = sums (λ (u : View S V). u.sent) refl refl;
         delivered = sums (λ (u : View S V). u.delivered) refl refl;
         signalled = sums (λ (u : View S V). u.signalled) refl refl;

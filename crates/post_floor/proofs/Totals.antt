@@ -33,7 +33,8 @@ module _ {A : Type 0} where
   pub total_alone : (f : A → ℕ) (vs : List A) (id : ℕ) (v : A) → get_elem? vs id ≡ some v → ((i : ℕ) (u : A) → i ≢ id → get_elem? vs i ≡ some u → f u ≡ 0) → total f vs ≡ f v
   total_alone f [] id v at z = absurd (some-ne-none v (sym at))
   total_alone f (x ∷ xs) zero v at z = let p : f x ≡ f v = ap f (some-injective x v at) in let q = total_none f xs (λ i u a. z (suc i) u (λ e. omega (arith, e)) a) in omega (arith, p, q)
-  total_alone f (x ∷ xs) (suc id) v at z = let p = z 0 x (λ e. omega (arith, e)) refl in let q = total_alone f xs id v at (λ i u ne a. z (suc i) u (λ e. ne (omega (arith, e))) a) in omega (arith, p, q)
+  total_alone f (x ∷ xs) (suc id) v at z = let p = z 0 x (λ e. omega (arith, e)) refl in
+      let q = total_alone f xs id v at (λ i u ne a. z (suc i) u (λ e. ne (omega (arith, e))) a) in omega (arith, p, q)
 
 pub is_else : (j k : ℕ) → j ≢ k → is j k ≡ 0
 is_else j k ne = ap one_if (ne_eqb j k ne)

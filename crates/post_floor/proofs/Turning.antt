@@ -8,7 +8,7 @@ use Rattle.shard_part.specs.PartState.{Setup}
 use Rattle.shard_part.proofs.Weights.{total_append}
 use Rattle.shard_part.proofs.Showing.{all_append}
 use Rattle.post_floor.specs.declared.view.View.{View}
-use Rattle.post_floor.specs.Floor.{Slot, emptied}
+use Rattle.post_floor.specs.Floor.{Slot, empty_slot}
 use Rattle.post_floor.specs.Claims.{cycled, before, first_is}
 use Rattle.post_floor.specs.Data.{AreOpen, HasEnd}
 use Rattle.post_floor.proofs.Totals.{is_else}
@@ -57,7 +57,7 @@ first_here k (x ∷ xs) e = (x.1, λ i. (eqb-true x.0 k e i, x.1) ∷ xs)
 pub turned_open : {S V : Type 0} (t : Setup S) (s : ℕ) (v : View S V) (slots : List (ℕ × Slot V)) (claims : List ℕ) → AreOpen t s v slots claims → AreOpen t s v (turned slots) (cycled claims)
 turned_open t s v slots claims o = record {
   keys = turned_keys slots ∙ ap cycled o.keys;
-  empty = all_turned (λ x. x.1 ≡ emptied t x.0) slots o.empty;
+  empty = all_turned (λ x. x.1 ≡ empty_slot t x.0) slots o.empty;
   open_now = λ k. cycled_total (is k) claims ∙ o.open_now k;
   once = λ k. subst (λ (z : ℕ). z ≤ 1) (sym (cycled_total (is k) claims)) (o.once k);
   own = all_cycled (HasEnd t.plan.shards s) claims o.own;

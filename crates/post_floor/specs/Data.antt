@@ -1,14 +1,20 @@
 -- What callers see of a floor and of a seat.
 use Rattle.std.specs.Prelude.{◌≡◌, ◌⊎◌, ℕ, ◌+◌, ◌*◌, ◌<◌, ◌≤◌, List, [], ◌∷◌, length, get_or, map}
+use Rattle.std.specs.Prelude as std
+use mathlib.Core.Option.{some}
+use lib.ListN.{get_elem?}
 use Rattle.atomic_table.specs.Seated.{TableId}
+use Rattle.atomic_table.specs.Table.{Me, rest}
+use Rattle.circular_buffer.specs.Buffer.{buffer}
 use Rattle.path_algebra.specs.Algebra.{Algebra}
 use Rattle.shard_part.specs.PartState.{Setup, PartData}
 use Rattle.shard_part.specs.Weights.{total, is, All}
+use Rattle.shard_part.specs.Arriving.{MadeAt}
 use Rattle.shard_part.specs.Moves.{IsPlanned}
 use Rattle.post_floor.specs.declared.view.View.{View}
-use Rattle.post_floor.specs.Boxes.{box_count, mailbox, dest, origin}
-use Rattle.post_floor.specs.Floor.{Slot, emptied, filling, reading}
-use Rattle.post_floor.specs.Plays.{Follows}
+use Rattle.post_floor.specs.Boxes.{slots_per_pair, box_count, mailbox, dest, origin}
+use Rattle.post_floor.specs.Floor.{Slot, mailbox_capacity, empty_slot, fill_claims, read_claims}
+use Rattle.post_floor.specs.Plays.{ViewLags, published_to}
 use Rattle.post_floor.specs.Seats.{knows}
 use Rattle.shard_part.specs.Plans.{PlanData}
 use Rattle.shard_part.specs.Opening.{opened_parts}
@@ -24,16 +30,38 @@ pub record SeatData (S V : Type 0) : Type 0 where
   pub shard : ℕ
   pub knows : View S V
 
--- the table has four words and four slots for each ordered pair of the question's shards, and the done word
+-- the table has a word and a slot for each mailbox between the question's shards, and the done word
 pub record IsSized {S : Type 0} (id : TableId) (t : Setup S) : Type 0 where
   pub words : id.words ≡ box_count t.plan.shards + 1
   pub slots : id.slots ≡ box_count t.plan.shards
   pub planned : IsPlanned t 0
 
+-- a pass is of a table of the question's size, and the part went on from what it knows by items of its own
+pub record AtTable {S V : Type 0} (meaning : S → Algebra V) (id : TableId) (t : Setup S) (pass : TableId) (v : View S V) (p : PartData S V) : Type 0 where
+  pub sized : IsSized id t
+  pub own : pass ≡ id
+  pub moved : ViewLags meaning v p
+
+-- The part d is at the table, and e is what is left of it: the slot k was taken last, and has what d had for the mailbox's shard.
+pub record Publishing {S V : Type 0} (meaning : S → Algebra V) (id : TableId) (t : Setup S) (pass : TableId) (k : ℕ) (e : PartData S V) (m : Me (Slot V) (View S V)) : Type 0 where
+  pub d : PartData S V
+  pub at : AtTable meaning id t pass m.0 d
+  pub left : e ≡ published_to (dest t.plan.shards k) d
+  pub slot : m.1 ≡ (k, std.Some (buffer (get_or d.outs (dest t.plan.shards k) []) (mailbox_capacity t k))) ∷ rest m.1
+  pub made : MadeAt t (origin t.plan.shards k) (get_or d.outs (dest t.plan.shards k) [])
+
+-- the parts of the first n shards of a question, in order, as they are opened
+abbrev pub first_parts : {S V : Type 0} → (S → Algebra V) → Setup S → ℕ → List (PartData S V)
+first_parts meaning t n = opened_parts (meaning t.question.algebra) t 0 n
+
+-- the slots of all mailboxes between n shards, each empty
+abbrev pub AreEmptySlots : {S V : Type 0} → Setup S → ℕ → List (Slot V) → Type 0
+AreEmptySlots t n slots = (length slots ≡ box_count n) × ((k : ℕ) → k < box_count n → get_elem? slots k ≡ some (empty_slot t k))
+
 -- a next slot for each of n shards
 pub record AreSlots (n : ℕ) (next : List ℕ) : Type 0 where
   pub long : length next ≡ n
-  pub low : (j : ℕ) → get_or next j 0 < 4
+  pub low : (j : ℕ) → get_or next j 0 < slots_per_pair
 
 -- one end of the mailbox is at the shard s
 abbrev pub HasEnd : ℕ → ℕ → ℕ → Type 0
@@ -42,8 +70,8 @@ HasEnd n s k = (k < box_count n) × ((origin n k ≡ s) ⊎ (dest n k ≡ s))
 -- the slots that a seat has out: those of the mailboxes that it fills or reads, in the order of its claims, each empty, none twice
 pub record AreOpen {S V : Type 0} (t : Setup S) (s : ℕ) (v : View S V) (slots : List (ℕ × Slot V)) (claims : List ℕ) : Type 0 where
   pub keys : map (λ x. x.0) slots ≡ claims
-  pub empty : All (λ x. x.1 ≡ emptied t x.0) slots
-  pub open_now : (k : ℕ) → total (is k) claims ≡ filling k v + reading k v
+  pub empty : All (λ x. x.1 ≡ empty_slot t x.0) slots
+  pub open_now : (k : ℕ) → total (is k) claims ≡ fill_claims k v + read_claims k v
   pub once : (k : ℕ) → total (is k) claims ≤ 1
   pub own : All (HasEnd t.plan.shards s) claims
 
@@ -72,7 +100,7 @@ read_box f d from = mailbox f.setup.plan.shards from d.shard (get_or d.knows.nex
 pub record IsAt {S V : Type 0} (meaning : S → Algebra V) (f : FloorData S) (d : SeatData S V) (p : PartData S V) : Type 0 where
   pub floor : d.floor ≡ f.id
   pub setup : p.setup ≡ f.setup
-  pub moved : Follows meaning d.knows p
+  pub moved : ViewLags meaning d.knows p
 
 -- it is the same seat
 abbrev pub IsSameSeat : {S V : Type 0} → SeatData S V → SeatData S V → Type 0
@@ -84,4 +112,4 @@ seat_of id n p = record { floor = id; shard = p.shard; knows = knows n (p ∷ []
 
 -- the parts are those of all shards of the plan, in order, as they are opened for one question from the source
 abbrev pub IsFresh : {S V : Type 0} → (S → Algebra V) → PlanData → ℕ → List (PartData S V) → Type 0
-IsFresh {S} meaning plan source parts = (t : Setup S) × (parts ≡ opened_parts (meaning t.question.algebra) t 0 t.plan.shards) × (t.plan ≡ plan) × (t.question.source ≡ source)
+IsFresh {S} meaning plan source parts = (t : Setup S) × (parts ≡ first_parts meaning t t.plan.shards) × (t.plan ≡ plan) × (t.question.source ≡ source)

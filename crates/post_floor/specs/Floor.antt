@@ -1,5 +1,5 @@
 -- What views and mailboxes show, and the rule of the floor.
-use Rattle.std.specs.Prelude.{◌≡◌, ◌≢◌, ◌⊎◌, ℕ, zero, suc, ◌+◌, ◌<◌, ◌≤◌, Bool, true, false, cond, eqb, List, [], ◌∷◌, ◌++◌, length, set, get_or}
+use Rattle.std.specs.Prelude.{◌≡◌, ◌⊎◌, ℕ, ◌+◌, ◌<◌, ◌≤◌, true, cond, eqb, List, [], ◌∷◌, ◌++◌, length, get_or}
 use Rattle.std.specs.Prelude as std
 use mathlib.Core.Option.{Option, none, some}
 use lib.ListN.{get_elem?}
@@ -15,10 +15,10 @@ use Rattle.scholten_core.specs.Sums.{sum_below}
 use Rattle.shard_part.specs.PartState.{Setup, PartData, network_in, place_in}
 use Rattle.shard_part.specs.Weights.{total, is, All, part_weight}
 use Rattle.shard_part.specs.Capacities.{outbox_bound}
-use Rattle.shard_part.specs.Shows.{Shows}
+use Rattle.shard_part.specs.Represents.{Represents}
 use Rattle.shard_part.specs.Arriving.{MadeAt}
 use Rattle.post_floor.specs.declared.view.View.{View}
-use Rattle.post_floor.specs.Boxes.{box_count, dest, origin}
+use Rattle.post_floor.specs.Boxes.{empty, filling, full, reading, done_now, box_count, dest, origin}
 
 -- what a slot holds: its batch, or nothing while a call has it in its hands
 abbrev pub Slot : Type 0 → Type 0
@@ -34,11 +34,12 @@ module _ {S V : Type 0} where
   flat [] = []
   flat (v ∷ vs) = v.parts ++ flat vs
 
-  abbrev pub filling : ℕ → View S V → ℕ
-  filling k v = total (is k) v.fills
+  -- how many claims a view has to fill the mailbox k, and to read it
+  abbrev pub fill_claims : ℕ → View S V → ℕ
+  fill_claims k v = total (is k) v.fills
 
-  abbrev pub reading : ℕ → View S V → ℕ
-  reading k v = total (is k) v.reads
+  abbrev pub read_claims : ℕ → View S V → ℕ
+  read_claims k v = total (is k) v.reads
 
   -- the counts of the views add up to these
   pub record AddUp (views : List (View S V)) (n : Totals) : Type 0 where
@@ -67,31 +68,31 @@ module _ {V : Type 0} where
   load_place f none = 0
   load_place f (some y) = load_home f y
 
-  -- a mailbox counts as its batch where its word is 2
+  -- a mailbox counts as its batch where it is full
   abbrev pub box : (Item V → ℕ) → ℕ → Place V → ℕ
-  box f w y = cond (eqb w 2) (load_place f y) 0
+  box f w y = cond (eqb w full) (load_place f y) 0
 
   -- what the mailboxes weigh
-  abbrev pub mail : ℕ → List ℕ → List (Option (Slot V)) → (ℕ → Item V → ℕ) → ℕ
-  mail n ws hs h = sum_below (λ k. box (h (dest n k)) (get_or ws k 0) (get_elem? hs k)) (box_count n)
+  abbrev pub in_transit : ℕ → List ℕ → List (Option (Slot V)) → (ℕ → Item V → ℕ) → ℕ
+  in_transit n ws hs h = sum_below (λ k. box (h (dest n k)) (get_or ws k 0) (get_elem? hs k)) (box_count n)
 
 -- how many items a mailbox may hold: one for each arc between its shards
-abbrev pub cap : {S : Type 0} → Setup S → ℕ → ℕ
-cap t k = cond (eqb (origin t.plan.shards k) (dest t.plan.shards k)) 0 (outbox_bound (network_in t) (place_in t) (origin t.plan.shards k) (dest t.plan.shards k))
+abbrev pub mailbox_capacity : {S : Type 0} → Setup S → ℕ → ℕ
+mailbox_capacity t k = cond (eqb (origin t.plan.shards k) (dest t.plan.shards k)) 0 (outbox_bound (network_in t) (place_in t) (origin t.plan.shards k) (dest t.plan.shards k))
 
 -- an empty batch of the mailbox's capacity
-abbrev pub emptied : {S V : Type 0} → Setup S → ℕ → Slot V
-emptied t k = std.Some (buffer [] (cap t k))
+abbrev pub empty_slot : {S V : Type 0} → Setup S → ℕ → Slot V
+empty_slot t k = std.Some (buffer [] (mailbox_capacity t k))
 
 -- one mailbox: its word, its slot, and how many claims views have on it
-pub record BoxOk {S V : Type 0} (t : Setup S) (k w : ℕ) (y : Place V) (fills reads : ℕ) : Type 0 where
-  pub low : w < 4
-  pub fills_is : fills ≡ is 1 w
-  pub reads_is : reads ≡ is 3 w
-  pub empty_home : w ≡ 0 → y ≡ some (some (emptied t k))
-  pub full_home : w ≡ 2 → (xs : List (Item V)) × (y ≡ some (some (std.Some (buffer xs (cap t k))))) × MadeAt t (origin t.plan.shards k) xs
+pub record MailboxInvariant {S V : Type 0} (t : Setup S) (k w : ℕ) (y : Place V) (fills reads : ℕ) : Type 0 where
+  pub low : w ≤ reading
+  pub fills_is : fills ≡ is filling w
+  pub reads_is : reads ≡ is reading w
+  pub empty_home : w ≡ empty → y ≡ some (some (empty_slot t k))
+  pub full_home : w ≡ full → (xs : List (Item V)) × (y ≡ some (some (std.Some (buffer xs (mailbox_capacity t k))))) × MadeAt t (origin t.plan.shards k) xs
   -- it is out with the seat that fills or reads it
-  pub out : (w ≡ 1) ⊎ (w ≡ 3) → y ≡ some none
+  pub out : (w ≡ filling) ⊎ (w ≡ reading) → y ≡ some none
 
 module _ {S V : Type 0} (meaning : S → Algebra V) (t : Setup S) where
   -- the state that a list of events leads to
@@ -99,31 +100,31 @@ module _ {S V : Type 0} (meaning : S → Algebra V) (t : Setup S) where
   core_of events = state_after (meaning t.question.algebra) (network_in t) events
 
   -- What holds between any two steps: some events lead from the opening to a state that all views and all mailboxes show, the views are of all
-  -- shards, their counts add up to what the events did, each mailbox is as its word says, and the done word is 1 only where the state has ended.
-  pub record Kept (s : State (Slot V) (View S V)) : Type 0 where
+  -- shards, their counts add up to what the events did, each mailbox is as its word says, and the done word says so only if the state has ended.
+  pub record FloorInvariant (s : State (Slot V) (View S V)) : Type 0 where
     pub events : List Event
-    pub shown : Shows meaning t (flat s.views) (mail t.plan.shards s.words s.homes) (core_of events)
+    pub shown : Represents meaning t (flat s.views) (in_transit t.plan.shards s.words s.homes) (core_of events)
     pub whole : (j : ℕ) → j < t.plan.shards → total (λ p. is j p.shard) (flat s.views) ≡ 1
     pub below : All (λ p. p.shard < t.plan.shards) (flat s.views)
     pub idle : (id : ℕ) (v : View S V) → get_elem? s.views id ≡ some v → v.parts ≡ [] → CountsNone v
     pub counts : AddUp s.views (totals_of (meaning t.question.algebra) (network_in t) events)
-    pub boxes : (k : ℕ) → k < box_count t.plan.shards → BoxOk t k (get_or s.words k 0) (get_elem? s.homes k) (total (filling k) s.views) (total (reading k) s.views)
-    pub done : get_or s.words (box_count t.plan.shards) 0 ≡ 1 → HasEnded (core_of events)
-    pub seen : (id : ℕ) (v : View S V) → get_elem? s.views id ≡ some v → v.seen ≡ true → get_or s.words (box_count t.plan.shards) 0 ≡ 1
+    pub boxes : (k : ℕ) → k < box_count t.plan.shards → MailboxInvariant t k (get_or s.words k 0) (get_elem? s.homes k) (total (fill_claims k) s.views) (total (read_claims k) s.views)
+    pub done : get_or s.words (box_count t.plan.shards) 0 ≡ done_now → HasEnded (core_of events)
+    pub seen : (id : ℕ) (v : View S V) → get_elem? s.views id ≡ some v → v.seen ≡ true → get_or s.words (box_count t.plan.shards) 0 ≡ done_now
     pub wide : length s.words ≡ box_count t.plan.shards + 1
     pub roomy : length s.homes ≡ box_count t.plan.shards
 
-  -- one view has all parts of a question: with the mailboxes it shows a state that some events lead to, its counts are what these did, and if the done word is 1, or it has seen that, the state has ended
-  pub record Settled (v : View S V) (ws : List ℕ) (hs : List (Option (Slot V))) : Type 0 where
+  -- one view has all parts of a question: with the mailboxes it shows a state that some events lead to, its counts are what these did, and if the done word says so, or it has seen that, the state has ended
+  pub record FinalView (v : View S V) (ws : List ℕ) (hs : List (Option (Slot V))) : Type 0 where
     pub events : List Event
-    pub shown : Shows meaning t v.parts (mail t.plan.shards ws hs) (core_of events)
+    pub shown : Represents meaning t v.parts (in_transit t.plan.shards ws hs) (core_of events)
     pub counts : AddUp (v ∷ []) (totals_of (meaning t.question.algebra) (network_in t) events)
-    pub done : get_or ws (box_count t.plan.shards) 0 ≡ 1 → HasEnded (core_of events)
+    pub done : get_or ws (box_count t.plan.shards) 0 ≡ done_now → HasEnded (core_of events)
     pub seen : v.seen ≡ true → HasEnded (core_of events)
 
   -- after these events all is over: parts and mailboxes show a state that has ended and is quiet, its labels are best, and no queue, outbox or mailbox holds an item
-  pub record ShowsQuiet (parts : List (PartData S V)) (mailed : (ℕ → Item V → ℕ) → ℕ) (events : List Event) : Type 0 where
-    pub shown : Shows meaning t parts mailed (core_of events)
+  pub record RepresentsQuiet (parts : List (PartData S V)) (mailed : (ℕ → Item V → ℕ) → ℕ) (events : List Event) : Type 0 where
+    pub shown : Represents meaning t parts mailed (core_of events)
     pub ended : HasEnded (core_of events)
     pub quiet : IsQuiet (core_of events)
     pub best : LabelsAreBest (meaning t.question.algebra) t.question.roads t.question.source (core_of events)

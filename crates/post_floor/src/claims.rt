@@ -8,7 +8,7 @@ ghost use Rattle.post_floor.specs.declared.view.View.{View};
 ghost use Rattle.post_floor.specs.Claims.{cycled, first_is};
 ghost use Rattle.post_floor.specs.Data.{AreOpen};
 
-use crate::floor::Pass;
+use crate::table::Pass;
 use circular_buffer::HeapCircularBuffer;
 use path_algebra::PathAlgebra;
 
@@ -41,9 +41,12 @@ pub(crate) fn bring<A: PathAlgebra>(
     requires keys { map (λ x. x.0) pass.old.me.1 ≡ claims.old.items }
     requires room { length claims.old.items ≤ claims.old.capacity }
     requires claim { 0 < total (is word) claims.old.items }
-    ensures pass { (pass.new.table_id ≡ pass.old.table_id) × (pass.new.id ≡ pass.old.id) × (pass.new.me.0 ≡ pass.old.me.0) }
-    ensures room { (claims.new.capacity ≡ claims.old.capacity) × (length claims.new.items ≡ length claims.old.items) }
-    ensures open { (t : Setup A) (s : ℕ) (v : View A A.Value) → AreOpen t s v pass.old.me.1 claims.old.items → AreOpen t s v pass.new.me.1 claims.new.items }
+    ensures pass { (pass.new.table_id ≡ pass.old.table_id) × (pass.new.id ≡ pass.old.id) ×
+        (pass.new.me.0 ≡ pass.old.me.0) }
+    ensures room { (claims.new.capacity ≡ claims.old.capacity) ×
+        (length claims.new.items ≡ length claims.old.items) }
+    ensures open { (t : Setup A) (s : ℕ) (v : View A A.Value) →
+        AreOpen t s v pass.old.me.1 claims.old.items → AreOpen t s v pass.new.me.1 claims.new.items }
     ensures first { (y : _) × (pass.new.me.1 ≡ (word, y) ∷ rest pass.new.me.1) }
 {
     while !is_first(claims, word) {

@@ -1,14 +1,13 @@
-//! A floor is closed with all its seats.
-ghost use Rattle.std.specs.Prelude.{◌≡◌, ℕ, ◌+◌, ◌<◌, ◌≤◌, ◌↔◌, List, [], ◌∷◌, length, IsTrue, IfOk, IfErr};
+//! What a floor is closed with: all its seats.
+ghost use Rattle.std.specs.Prelude.{◌≡◌, ◌<◌, ◌≤◌, ◌↔◌, [], ◌∷◌, IsTrue};
 ghost use Rattle.std.specs.Mem.Slots.{IsFull, slots_items};
 ghost use Rattle.shard_part.specs.PartState.{PartData};
 ghost use Rattle.shard_part.specs.Weights.{total, is, All};
-ghost use Rattle.post_floor.specs.Seats.{spent};
-ghost use Rattle.post_floor.specs.Closing.{AllSeated, AreJoined, IsClosed};
+ghost use Rattle.post_floor.specs.Closing.{AllSeated, AreJoined};
 
-use crate::floor::{Floor, Mailboxes, Pass};
 use crate::plays::{Aside, Cut};
 use crate::seat::Seat;
+use crate::table::{Mailboxes, Pass};
 use path_algebra::PathAlgebra;
 use shard_part::{Batch, Shard};
 use std::alloc::Global;
@@ -16,7 +15,7 @@ use std::marker::Model;
 use std::snapshot::Snapshot;
 
 /// The table of a floor that is closed.
-type End<V> = atomic_table::Closed<Option<Batch<V>>, Global>;
+pub(crate) type End<V> = atomic_table::Closed<Option<Batch<V>>, Global>;
 
 /// A floor that was closed. Nothing is left of it but what `close` promises.
 #[derive(Drop)]
@@ -36,8 +35,9 @@ impl<A: PathAlgebra> Model for Closed<A> {
 
 impl<A: PathAlgebra> Closed<A> {
     /// What a closed table holds.
-    fn of(table: &End<A::Value>) -> Closed<A>
-        ensures { result ≡ record { words = slots_items table.now.words; slots = slots_items table.now.slots } }
+    pub(crate) fn of(table: &End<A::Value>) -> Closed<A>
+        ensures { result ≡ record
+            { words = slots_items table.now.words; slots = slots_items table.now.slots } }
     {
         Closed {
             end: Snapshot::of(table),
@@ -58,7 +58,7 @@ fn is_seated<A: PathAlgebra>(seats: &[Seat<A>], shard: Shard) -> bool
 }
 
 /// Whether the seats of all shards are among them.
-fn all_seated<A: PathAlgebra>(seats: &[Seat<A>], shards: usize) -> bool
+pub(crate) fn all_seated<A: PathAlgebra>(seats: &[Seat<A>], shards: usize) -> bool
     requires { shards ≤ 64 }
     ensures { IsTrue result ↔ AllSeated shards seats.now }
 {
@@ -71,7 +71,7 @@ fn all_seated<A: PathAlgebra>(seats: &[Seat<A>], shards: usize) -> bool
 }
 
 /// What the caller of a seat knows, without the seat's own lists.
-fn pass_of<A: PathAlgebra>(seat: Seat<A>) -> Pass<A>
+pub(crate) fn pass_of<A: PathAlgebra>(seat: Seat<A>) -> Pass<A>
     ensures pass { (result.table_id ≡ seat.floor) × (result.me.0 ≡ seat.knows) }
     ensures part { (p : PartData A A.Value) × (seat.knows.parts ≡ p ∷ []) × (p.shard ≡ seat.shard) }
 {
@@ -86,7 +86,7 @@ fn pass_of<A: PathAlgebra>(seat: Seat<A>) -> Pass<A>
 }
 
 /// Joins all seats into one pass.
-fn join_all<A: PathAlgebra>(
+pub(crate) fn join_all<A: PathAlgebra>(
     table: &Mailboxes<A>,
     mut all: Pass<A>,
     mut seats: Vec<Seat<A>>,
@@ -106,35 +106,11 @@ fn join_all<A: PathAlgebra>(
 }
 
 /// Takes the batches out of a table that is closed, and frees it.
-fn free<V: Drop>(mut closed: End<V>)
+pub(crate) fn free<V: Drop>(mut closed: End<V>)
     requires { IsFull closed.slots }
 {
     for index in 0..closed.slot_count() {
         drop(closed.take(index));
     }
     closed.free();
-}
-
-impl<A: PathAlgebra> Floor<A> {
-    /// Closes the floor with the seats of all its shards, whatever claims they have open. Where a shard's seat is missing, floor and seats come back as they were.
-    ///
-    /// What the seats know together and what the mailboxes held at the end shows one state, to which some events lead from the opening. The seats' counts are what these events did, and the state has ended if the done word is 1 or a seat has seen that.
-    pub fn close(self, mut seats: Vec<Seat<A>>) -> Result<Closed<A>, (Floor<A>, Vec<Seat<A>>)>
-        requires seats { All (λ d. d.floor ≡ self.id) seats.items }
-        ensures closed { IfOk result (λ r. AllSeated self.setup.plan.shards seats.items × IsClosed A.meaning self.setup seats.items r) }
-        ensures refused { IfErr result (λ r. (AllSeated self.setup.plan.shards seats.items → ⊥) × (r.0 ≡ self) × (r.1 ≡ seats)) }
-    {
-        let Floor { table, shards } = self;
-        if !all_seated(&seats, shards) {
-            return Err((Floor { table, shards }, seats));
-        }
-        let Some(last) = seats.pop() else {
-            unreachable!()
-        };
-        let pass = join_all(&table.shared, pass_of(last), seats);
-        let end = table.close_with(pass);
-        let closed = Closed::of(&end);
-        free(end);
-        Ok(closed)
-    }
 }

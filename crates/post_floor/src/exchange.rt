@@ -1,40 +1,40 @@
 //! Batches that move between a part and a mailbox.
-ghost use Rattle.std.specs.Prelude.{◌≡◌, ◌≢◌, true, ℕ, ◌<◌, List};
+ghost use Rattle.std.specs.Prelude.{◌≡◌, ◌≢◌, true, ◌<◌};
 ghost use Rattle.atomic_table.specs.Table.{rest};
-ghost use Rattle.post_floor.specs.Boxes.{box_count, dest, origin};
-ghost use Rattle.post_floor.specs.Floor.{filling};
-ghost use Rattle.post_floor.specs.Plays.{Follows, HasEmpty, Went, at_word, end_fill, sent_off, FetchTold};
-ghost use Rattle.post_floor.specs.Data.{IsSized};
+ghost use Rattle.post_floor.specs.Boxes.{box_count, dest, origin, IsBetween};
+ghost use Rattle.post_floor.specs.Floor.{fill_claims};
+ghost use Rattle.post_floor.specs.Plays.{HasEmpty, PublishOutcome, published_to, BatchOutcome};
+ghost use Rattle.post_floor.specs.Data.{AtTable};
 
-use crate::floor::{Mailboxes, Pass};
-use crate::words::{publish_word, take_word};
+use crate::mailbox::FULL;
+use crate::steps::{publish_word, read_word};
+use crate::table::{Mailboxes, Pass};
 use path_algebra::PathAlgebra;
+use shard_part::laws::part_holds;
 use shard_part::{Part, Shard};
 use std::marker::Brand;
 
-/// Moves an outbox into the slot of a mailbox that is being filled, and sets its word to 2.
-pub(crate) fn post<A: PathAlgebra>(
+/// Moves an outbox into the slot of a mailbox that is being filled, which is full then.
+pub(crate) fn publish_batch<A: PathAlgebra>(
     table: &Mailboxes<A>,
     pass: &mut Pass<A>,
     part: &mut Part<'_, A>,
     to: Shard,
     word: usize,
 )
-    requires table { IsSized table.now.table_id table.now.key }
-    requires pass { pass.old.table_id ≡ table.now.table_id }
+    requires at { AtTable A.meaning table.now.table_id table.now.key pass.old.table_id pass.old.me.0
+        part.old }
     requires setup { part.old.setup ≡ table.now.key }
-    requires moved { Follows A.meaning pass.old.me.0 part.old }
-    requires word { word < box_count table.now.key.plan.shards }
-    requires to { (dest table.now.key.plan.shards word ≡ to) × (to ≢ part.old.shard) × (to < table.now.key.plan.shards) }
-    requires from { origin table.now.key.plan.shards word ≡ part.old.shard }
-    requires claim { 0 < filling word pass.old.me.0 }
+    requires to { (to ≢ part.old.shard) × (to < table.now.key.plan.shards) }
+    requires between { IsBetween table.now.key.plan.shards part.old.shard to word }
+    requires claim { 0 < fill_claims word pass.old.me.0 }
     requires held { HasEmpty table.now.key word pass.old.me }
     ensures pass { (pass.new.table_id ≡ pass.old.table_id) × (pass.new.id ≡ pass.old.id) }
-    ensures part { part.new ≡ sent_off to part.old }
-    ensures told { Went (at_word word 2 (end_fill to word pass.old.me.0)) part.new pass.new.me.0 × (pass.new.me.1 ≡ rest pass.old.me.1) }
+    ensures part { part.new ≡ published_to to part.old }
+    ensures told { PublishOutcome to part.new word pass.old.me.0 pass.new.me.0 ×
+        (pass.new.me.1 ≡ rest pass.old.me.1) }
 {
-    // For the proof: what holds of every part.
-    let _shard = part.shard();
+    part_holds(part);
     let mut batch = table.exchange(pass, word, None).unwrap();
     part.swap_outbox(to, &mut batch);
     match table.exchange(pass, word, Some(batch)) {
@@ -44,24 +44,23 @@ pub(crate) fn post<A: PathAlgebra>(
     publish_word::<A, Brand>(table, pass, part, word);
 }
 
-/// Sets the word of a mailbox to 3 where it was 2, and takes its batch into the queue.
-pub(crate) fn fetch<A: PathAlgebra>(
+/// Whether a mailbox is full. Then it is being read, and its batch goes into the queue.
+pub(crate) fn read_batch<A: PathAlgebra>(
     table: &Mailboxes<A>,
     pass: &mut Pass<A>,
     part: &mut Part<'_, A>,
     word: usize,
 ) -> bool
-    requires table { IsSized table.now.table_id table.now.key }
-    requires pass { pass.old.table_id ≡ table.now.table_id }
+    requires at { AtTable A.meaning table.now.table_id table.now.key pass.old.table_id pass.old.me.0
+        part.old }
     requires setup { part.old.setup ≡ table.now.key }
-    requires moved { Follows A.meaning pass.old.me.0 part.old }
     requires word { word < box_count table.now.key.plan.shards }
     requires to { dest table.now.key.plan.shards word ≡ part.old.shard }
     requires from { origin table.now.key.plan.shards word ≢ part.old.shard }
     ensures pass { (pass.new.table_id ≡ pass.old.table_id) × (pass.new.id ≡ pass.old.id) }
-    ensures told { FetchTold A.meaning result part.old part.new word pass.old.me pass.new.me }
+    ensures told { BatchOutcome A.meaning result part.old part.new word pass.old.me pass.new.me }
 {
-    if take_word::<A, Brand>(table, pass, part, word) != 2 {
+    if read_word::<A, Brand>(table, pass, part, word) != FULL {
         return false;
     }
     let mut batch = table.exchange(pass, word, None).unwrap();

@@ -1,42 +1,32 @@
-ghost use Rattle.std.specs.Prelude.{◌≡◌, ◌<◌, ◌≤◌, ℕ};
-ghost use Rattle.post_floor.specs.Boxes.{box_count, mailbox, dest, origin};
-ghost use Rattle.post_floor.specs.Plays.{next_slot};
+//! The floor of a question: opened, used by seats step by step, and closed.
+ghost use Rattle.std.specs.Prelude.{◌≡◌, ◌≢◌, true, ◌<◌, map, IfOk, IfErr};
+ghost use Rattle.shard_part.specs.Readings.{has_ended};
+ghost use Rattle.shard_part.specs.Weights.{All};
+ghost use Rattle.post_floor.specs.Boxes.{box_count};
+ghost use Rattle.post_floor.specs.Closing.{AllSeated, IsClosed};
+ghost use Rattle.post_floor.specs.Data.{IsAt, IsFresh, IsSameSeat, fill_box, read_box, seat_of};
+ghost use Rattle.post_floor.specs.Floor.{fill_claims, read_claims};
+ghost use Rattle.post_floor.specs.Plays.{FillOutcome, PublishOutcome, ReadOutcome, ClearOutcome, LookOutcome, published_to};
 
+use crate::claims::bring;
+use crate::close::{Closed, all_seated, free, join_all, pass_of};
+use crate::exchange::{publish_batch, read_batch};
+use crate::mailbox::{DONE, EMPTY, mailbox_count, next_slot, word_of};
+use crate::open::{batches, seat_all};
+use crate::seat::Seat;
+use crate::steps::{announce_word, clear_word, fill_word, look_word};
+use crate::table::FloorRule;
 use crate::view::View;
-use atomic_table::{Shared, Table, TableRule};
+use atomic_table::Table;
 use path_algebra::PathAlgebra;
-use shard_part::{Batch, Question, Shard};
+use road_graph::{Memory, Vertex};
+use shard_part::laws::part_holds;
+use shard_part::{Batch, Part, Plan, Question, Shard};
 use std::alloc::Global;
-use std::marker::{Model, PhantomData};
-
-/// What holds between any two steps on the words of a floor, whoever makes them: some events lead from the opening to a state that all views and all mailboxes show.
-pub struct FloorRule<A> {
-    of: PhantomData<A>,
-}
-
-impl<A: PathAlgebra> TableRule<Option<Batch<A::Value>>, View<A>, Question<A>> for FloorRule<A> {
-    ghost use Rattle.shard_part.specs.Opening.{opened_parts};
-    ghost use Rattle.post_floor.specs.Floor.{Kept};
-    ghost use Rattle.post_floor.specs.Seats.{knows};
-
-    ghost holds = { λ k. Kept A.meaning k };
-
-    ghost first = { λ k. knows k.plan.shards (opened_parts (A.meaning k.question.algebra) k 0 k.plan.shards) };
-}
-
-/// What one caller knows of a table, and the slots that it has out.
-pub(crate) type Pass<A> = atomic_table::Seat<Option<Batch<<A as PathAlgebra>::Value>>, View<A>>;
-
-/// The words and slots of a floor, to be shared.
-pub(crate) type Mailboxes<A> = Shared<
-    Option<Batch<<A as PathAlgebra>::Value>>,
-    View<A>,
-    Question<A>,
-    FloorRule<A>,
->;
+use std::marker::{Brand, Model};
 
 /// The mailboxes between the parts of a question: four words and four slots for each ordered pair of shards, and one done word.
-/// A word is 0 where its slot is empty, 1 while it is being filled, 2 where it is full and 3 while it is being read.
+/// A word says whether its slot is empty, being filled, full or being read.
 #[derive(Drop)]
 pub struct Floor<A: PathAlgebra> {
     pub(crate) table: Table<Option<Batch<A::Value>>, View<A>, Question<A>, FloorRule<A>, Global>,
@@ -54,19 +44,170 @@ impl<A: PathAlgebra> Model for Floor<A> {
     ghost invariant = { λ f. IsSized f.table.shared.table_id f.table.shared.key × (f.table.shared.key.plan.shards ≡ f.shards) × (f.shards ≤ 64) };
 }
 
-/// The number of a mailbox.
-#[tactic(auto, unfolding(crate::specs::Boxes::dest, crate::specs::Boxes::origin))]
-pub(crate) fn word_of(shards: usize, from: Shard, to: Shard, slot: u8) -> usize
-    requires { (shards ≤ 64) × (from < shards) × (to < shards) × (slot < 4) }
-    ensures { (result ≡ mailbox shards from to slot) × (result < box_count shards) × (dest shards result ≡ to) × (origin shards result ≡ from) }
-{
-    (from.0 as usize * shards + to.0 as usize) * 4 + slot as usize
-}
+impl<A: PathAlgebra> Floor<A> {
+    /// A floor with empty mailboxes, and a seat for each part, in order. The parts are those of all shards of the plan, as they were opened for one question from the source.
+    /// Each mailbox has room for an item on each arc between its two shards: no later call takes memory.
+    pub fn open(
+        alloc: Global,
+        plan: &Plan,
+        _source: Vertex,
+        parts: &[Part<'_, A>],
+    ) -> Result<(Floor<A>, Vec<Seat<A>>), Memory>
+        requires fresh { IsFresh A.meaning plan.now _source parts.now }
+        ensures floor { IfOk result (λ r. (r.0.setup.plan ≡ plan.now) ×
+            All (λ p. p.setup ≡ r.0.setup) parts.now) }
+        ensures seats { IfOk result
+            (λ r. r.1.items ≡ map (seat_of r.0.id plan.now.shards) parts.now) }
+    {
+        let shards = plan.shards() as usize;
+        let first = &parts[0];
+        part_holds(first);
+        let words = Vec::from_elem(alloc, 0u64, mailbox_count(shards) + 1)?;
+        let slots = batches(alloc, first, parts, shards)?;
+        let question = first.question();
+        let Ok((table, pass)) = Table::new(alloc, words.as_slice(), slots, &question) else {
+            return Err(Memory);
+        };
+        let seats = seat_all(alloc, &table.shared, pass, shards)?;
+        Ok((Floor { table, shards }, seats))
+    }
 
-/// The slot after this one; after the fourth comes the first.
-pub(crate) fn next_slot(slot: u8) -> u8
-    requires { slot < 4 }
-    ensures { result ≡ next_slot slot }
-{
-    if slot == 3 { 0 } else { slot + 1 }
+    /// Whether the next mailbox to a shard is empty. Then it is this seat's to fill.
+    pub fn try_fill(&self, seat: &mut Seat<A>, part: &Part<'_, A>, to: Shard) -> bool
+        requires at { IsAt A.meaning self.now seat.old part.now }
+        requires shard { to < self.now.setup.plan.shards }
+        ensures seat { IsSameSeat seat.old seat.new }
+        ensures at { IsAt A.meaning self.now seat.new part.now }
+        ensures told { FillOutcome result part.now (fill_box self.now seat.old to) seat.old.knows
+            seat.new.knows }
+    {
+        let shards = self.shards;
+        let slot = seat.next_fill[to.0 as usize];
+        let word = word_of(shards, seat.own, to, slot);
+        if fill_word::<A, Brand>(&self.table.shared, &mut seat.pass, part, word) != EMPTY {
+            return false;
+        }
+        seat.claims.push_front(word);
+        true
+    }
+
+    /// Moves the outbox to a shard into the mailbox that is being filled for it, which is full then.
+    pub fn publish(&self, seat: &mut Seat<A>, part: &mut Part<'_, A>, to: Shard)
+        requires at { IsAt A.meaning self.now seat.old part.old }
+        requires shard { (to ≢ seat.old.shard) × (to < self.now.setup.plan.shards) }
+        // A `try_fill` to this shard was true, and no `publish` to it came since.
+        requires claim { 0 < fill_claims (fill_box self.now seat.old to) seat.old.knows }
+        ensures seat { IsSameSeat seat.old seat.new }
+        ensures at { IsAt A.meaning self.now seat.new part.new }
+        ensures part { part.new ≡ published_to to part.old }
+        ensures told { PublishOutcome to part.new (fill_box self.now seat.old to) seat.old.knows
+            seat.new.knows }
+    {
+        let shards = self.shards;
+        let at = to.0 as usize;
+        let slot = seat.next_fill[at];
+        let word = word_of(shards, seat.own, to, slot);
+        bring(&mut seat.pass, &mut seat.claims, word);
+        publish_batch(&self.table.shared, &mut seat.pass, part, to, word);
+        seat.claims.pop_front();
+        seat.next_fill[at] = next_slot(slot);
+    }
+
+    /// Whether the next mailbox from a shard is full. Then its batch goes into the queue, and the seat reads it.
+    pub fn try_read(&self, seat: &mut Seat<A>, part: &mut Part<'_, A>, from: Shard) -> bool
+        requires at { IsAt A.meaning self.now seat.old part.old }
+        requires shard { (from ≢ seat.old.shard) × (from < self.now.setup.plan.shards) }
+        ensures seat { IsSameSeat seat.old seat.new }
+        ensures at { IsAt A.meaning self.now seat.new part.new }
+        ensures told { ReadOutcome A.meaning result part.old part.new
+            (read_box self.now seat.old from) seat.old.knows seat.new.knows }
+    {
+        let shards = self.shards;
+        let slot = seat.next_read[from.0 as usize];
+        let word = word_of(shards, from, seat.own, slot);
+        if read_batch(&self.table.shared, &mut seat.pass, part, word) {
+            seat.claims.push_front(word);
+            true
+        } else {
+            false
+        }
+    }
+
+    /// The mailbox that was read from a shard is empty again.
+    pub fn clear(&self, seat: &mut Seat<A>, part: &Part<'_, A>, from: Shard)
+        requires at { IsAt A.meaning self.now seat.old part.now }
+        requires shard { from < self.now.setup.plan.shards }
+        // A `try_read` from this shard was true, and no `clear` from it came since.
+        requires claim { 0 < read_claims (read_box self.now seat.old from) seat.old.knows }
+        ensures seat { IsSameSeat seat.old seat.new }
+        ensures at { IsAt A.meaning self.now seat.new part.now }
+        ensures told { ClearOutcome from part.now (read_box self.now seat.old from) seat.old.knows
+            seat.new.knows }
+    {
+        let shards = self.shards;
+        let at = from.0 as usize;
+        let slot = seat.next_read[at];
+        let word = word_of(shards, from, seat.own, slot);
+        bring(&mut seat.pass, &mut seat.claims, word);
+        clear_word::<A, Brand>(&self.table.shared, &mut seat.pass, part, word);
+        seat.claims.pop_front();
+        seat.next_read[at] = next_slot(slot);
+    }
+
+    /// Announces the end: the question has ended, and its part knows it.
+    pub fn announce(&self, seat: &mut Seat<A>, part: &Part<'_, A>)
+        requires at { IsAt A.meaning self.now seat.old part.now }
+        requires ended { has_ended part.now ≡ true }
+        ensures seat { IsSameSeat seat.old seat.new }
+        ensures at { IsAt A.meaning self.now seat.new part.now }
+        ensures told { LookOutcome A.meaning true part.now (box_count self.now.setup.plan.shards)
+            seat.old.knows seat.new.knows }
+    {
+        announce_word::<A, Brand>(
+            &self.table.shared,
+            &mut seat.pass,
+            part,
+            mailbox_count(self.shards),
+        );
+    }
+
+    /// Whether the end was announced. Then the state that the floor shows has ended and is quiet, and the part holds its share of it.
+    pub fn look(&self, seat: &mut Seat<A>, part: &Part<'_, A>) -> bool
+        requires at { IsAt A.meaning self.now seat.old part.now }
+        ensures seat { IsSameSeat seat.old seat.new }
+        ensures at { IsAt A.meaning self.now seat.new part.now }
+        ensures told { LookOutcome A.meaning result part.now (box_count self.now.setup.plan.shards)
+            seat.old.knows seat.new.knows }
+    {
+        look_word::<A, Brand>(
+            &self.table.shared,
+            &mut seat.pass,
+            part,
+            mailbox_count(self.shards),
+        ) == DONE
+    }
+
+    /// Closes the floor with the seats of all its shards, whatever claims they have open. Where a shard's seat is missing, floor and seats come back as they were.
+    ///
+    /// What the seats know together and what the mailboxes held at the end shows one state, to which some events lead from the opening. The seats' counts are what these events did, and the state has ended if that was announced or a seat has seen it.
+    pub fn close(self, mut seats: Vec<Seat<A>>) -> Result<Closed<A>, (Floor<A>, Vec<Seat<A>>)>
+        requires seats { All (λ d. d.floor ≡ self.id) seats.items }
+        ensures closed { IfOk result (λ r. AllSeated self.setup.plan.shards seats.items ×
+            IsClosed A.meaning self.setup seats.items r) }
+        ensures refused { IfErr result (λ r. (AllSeated self.setup.plan.shards seats.items → ⊥) ×
+            (r.0 ≡ self) × (r.1 ≡ seats)) }
+    {
+        let Floor { table, shards } = self;
+        if !all_seated(&seats, shards) {
+            return Err((Floor { table, shards }, seats));
+        }
+        let Some(last) = seats.pop() else {
+            unreachable!()
+        };
+        let pass = join_all(&table.shared, pass_of(last), seats);
+        let end = table.close_with(pass);
+        let closed = Closed::of(&end);
+        free(end);
+        Ok(closed)
+    }
 }

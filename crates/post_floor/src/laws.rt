@@ -1,4 +1,4 @@
-//! Theorems over every floor, each the contract of a function that computes nothing: a caller calls it where its own proof needs the theorem.
+//! A theorem over every floor: a caller calls it where its own proof needs what it promises.
 ghost use Rattle.std.specs.Prelude.{◌≡◌, ℕ, true, List};
 ghost use mathlib.Core.Option.{Option, some};
 ghost use lib.ListN.{get_elem?};
@@ -7,14 +7,19 @@ ghost use Rattle.scholten_core.specs.declared.event.Event.{Event};
 ghost use Rattle.shard_part.specs.PartState.{Setup};
 ghost use Rattle.shard_part.specs.Moves.{IsPlanned};
 ghost use Rattle.post_floor.specs.declared.view.View.{View};
-ghost use Rattle.post_floor.specs.Floor.{Slot, flat, mail, Kept, Settled, ShowsQuiet};
+ghost use Rattle.post_floor.specs.Floor.{Slot, flat, in_transit, FloorInvariant, FinalView, RepresentsQuiet};
 
 use path_algebra::PathAlgebra;
 
 /// Wherever the rule of the floor holds and a view has seen the done word at 1, all is over: the state that all views and all mailboxes show has ended and is quiet, its labels are best, and no queue, outbox or mailbox holds an item.
 pub fn seen_floors_are_quiet<A: PathAlgebra>(_algebra: A)
-    ensures kept { (t : Setup A) (s : State (Slot A.Value) (View A A.Value)) → IsPlanned t 0 → Kept A.meaning t s → (id : ℕ) (v : View A A.Value) → get_elem? s.views id ≡ some v → v.seen ≡ true →
-        (events : List Event) × ShowsQuiet A.meaning t (flat s.views) (mail t.plan.shards s.words s.homes) events }
-    ensures settled { (t : Setup A) (v : View A A.Value) (words : List ℕ) (homes : List (Option (Slot A.Value))) → IsPlanned t 0 → Settled A.meaning t v words homes → v.seen ≡ true →
-        (events : List Event) × ShowsQuiet A.meaning t v.parts (mail t.plan.shards words homes) events }
+    ensures kept { (t : Setup A) (s : State (Slot A.Value) (View A A.Value)) → IsPlanned t 0 →
+        FloorInvariant A.meaning t s → (id : ℕ) (v : View A
+        A.Value) → get_elem? s.views id ≡ some v → v.seen ≡ true →
+        (events : List Event) × RepresentsQuiet A.meaning t (flat s.views) (in_transit t.plan.shards s.words s.homes) events }
+    ensures settled { (t : Setup A) (v : View A A.Value) (words : List ℕ)
+        (homes : List
+        (Option (Slot A.Value))) → IsPlanned t 0 → FinalView A.meaning t v words homes →
+        v.seen ≡ true →
+        (events : List Event) × RepresentsQuiet A.meaning t v.parts (in_transit t.plan.shards words homes) events }
 {}

@@ -6,13 +6,16 @@ mod close;
 mod exchange;
 mod floor;
 pub mod laws;
+mod mailbox;
 mod open;
 mod plays;
 mod seat;
+mod steps;
+mod table;
 mod view;
-mod words;
 
 pub use close::Closed;
-pub use floor::{Floor, FloorRule};
+pub use floor::Floor;
 pub use seat::Seat;
+pub use table::FloorRule;
 pub use view::{View, WordStep};

@@ -1,3 +1,4 @@
+//! What a seat knows, for contracts alone.
 use path_algebra::PathAlgebra;
 use shard_part::Part;
 use std::collections::LinkedList;

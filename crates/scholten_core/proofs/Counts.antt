@@ -174,9 +174,12 @@ module _ {V : Type 0} (A : Algebra V) (N : Network) where
   balanced c u d s h =
       let n = suc N.arcs in
       record {
-        messages = sym (sum_add (λ b. message_if (u.token b)) d (suc N.arcs)) ∙ sum_same _ _ (suc N.arcs) (λ b. (h b).messages) ∙ sum_add (λ b. message_if (c.token b)) (λ b. new_message (c.token b) (u.token b)) (suc N.arcs);
-        held = sym (sum_add (λ b. held_if (u.token b)) (λ b. new_signal (c.token b) (u.token b)) (suc N.arcs)) ∙ sum_same _ _ (suc N.arcs) (λ b. (h b).held) ∙ sum_add (λ b. held_if (c.token b)) d (suc N.arcs);
-        signals = sym (sum_add (λ b. signal_if (u.token b)) s (suc N.arcs)) ∙ sum_same _ _ (suc N.arcs) (λ b. (h b).signals) ∙ sum_add (λ b. signal_if (c.token b)) (λ b. new_signal (c.token b) (u.token b)) (suc N.arcs);
+        messages = sym (sum_add (λ b. message_if (u.token b)) d (suc N.arcs)) ∙ sum_same _ _ (suc N.arcs) (λ b. (h b).messages)
+            ∙ sum_add (λ b. message_if (c.token b)) (λ b. new_message (c.token b) (u.token b)) (suc N.arcs);
+        held = sym (sum_add (λ b. held_if (u.token b)) (λ b. new_signal (c.token b) (u.token b)) (suc N.arcs))
+            ∙ sum_same _ _ (suc N.arcs) (λ b. (h b).held) ∙ sum_add (λ b. held_if (c.token b)) d (suc N.arcs);
+        signals = sym (sum_add (λ b. signal_if (u.token b)) s (suc N.arcs)) ∙ sum_same _ _ (suc N.arcs) (λ b. (h b).signals)
+            ∙ sum_add (λ b. signal_if (c.token b)) (λ b. new_signal (c.token b) (u.token b)) (suc N.arcs);
       }
 
   balanced_as : (c u : CoreState V) (d e s t : ℕ) → d ≡ e → s ≡ t → Balanced c u d s → Balanced c u e t
@@ -189,16 +192,22 @@ module _ {V : Type 0} (A : Algebra V) (N : Network) where
   ]
 
   deliver_balanced : IsLawful A → WellFormed N → (a : ℕ) (c : CoreState V) (t : Token V) → c.token a ≡ t → Kept A N 0 c → Balanced c (delivered A N a c t) (one_if (is_message t)) 0
-  deliver_balanced L W a c Idle q K = balanced_as c c _ 0 _ 0 (sum_zero (λ b. 0) (suc N.arcs) (λ b. refl)) (sum_zero (λ b. 0) (suc N.arcs) (λ b. refl)) (balanced c c (λ b. 0) (λ b. 0) (λ b. balance_same (c.token b)))
+  deliver_balanced L W a c Idle q K = balanced_as c c _ 0 _ 0 (sum_zero (λ b. 0) (suc N.arcs) (λ b. refl))
+      (sum_zero (λ b. 0) (suc N.arcs) (λ b. refl)) (balanced c c (λ b. 0) (λ b. 0) (λ b. balance_same (c.token b)))
   deliver_balanced L W a c (Message x) q K = balanced_as c _ _ 1 _ 0 (sum_one a (suc N.arcs) (busy_real W a c K (λ z. cc))) (sum_zero (λ b. 0) (suc N.arcs) (λ b. refl))
       (balanced c (settle A N (N.head a) (arrive A N a x c)) (λ b. one_if (eqb b a)) (λ b. 0) (deliver_balance L W a x c q K))
-  deliver_balanced L W a c Held q K = balanced_as c c _ 0 _ 0 (sum_zero (λ b. 0) (suc N.arcs) (λ b. refl)) (sum_zero (λ b. 0) (suc N.arcs) (λ b. refl)) (balanced c c (λ b. 0) (λ b. 0) (λ b. balance_same (c.token b)))
-  deliver_balanced L W a c Signal q K = balanced_as c c _ 0 _ 0 (sum_zero (λ b. 0) (suc N.arcs) (λ b. refl)) (sum_zero (λ b. 0) (suc N.arcs) (λ b. refl)) (balanced c c (λ b. 0) (λ b. 0) (λ b. balance_same (c.token b)))
+  deliver_balanced L W a c Held q K = balanced_as c c _ 0 _ 0 (sum_zero (λ b. 0) (suc N.arcs) (λ b. refl))
+      (sum_zero (λ b. 0) (suc N.arcs) (λ b. refl)) (balanced c c (λ b. 0) (λ b. 0) (λ b. balance_same (c.token b)))
+  deliver_balanced L W a c Signal q K = balanced_as c c _ 0 _ 0 (sum_zero (λ b. 0) (suc N.arcs) (λ b. refl))
+      (sum_zero (λ b. 0) (suc N.arcs) (λ b. refl)) (balanced c c (λ b. 0) (λ b. 0) (λ b. balance_same (c.token b)))
 
   accept_balanced : IsLawful A → WellFormed N → (a : ℕ) (c : CoreState V) (t : Token V) → c.token a ≡ t → Kept A N 0 c → Balanced c (accepted A N a c t) 0 (one_if (is_signal t))
-  accept_balanced L W a c Idle q K = balanced_as c c _ 0 _ 0 (sum_zero (λ b. 0) (suc N.arcs) (λ b. refl)) (sum_zero (λ b. 0) (suc N.arcs) (λ b. refl)) (balanced c c (λ b. 0) (λ b. 0) (λ b. balance_same (c.token b)))
-  accept_balanced L W a c (Message x) q K = balanced_as c c _ 0 _ 0 (sum_zero (λ b. 0) (suc N.arcs) (λ b. refl)) (sum_zero (λ b. 0) (suc N.arcs) (λ b. refl)) (balanced c c (λ b. 0) (λ b. 0) (λ b. balance_same (c.token b)))
-  accept_balanced L W a c Held q K = balanced_as c c _ 0 _ 0 (sum_zero (λ b. 0) (suc N.arcs) (λ b. refl)) (sum_zero (λ b. 0) (suc N.arcs) (λ b. refl)) (balanced c c (λ b. 0) (λ b. 0) (λ b. balance_same (c.token b)))
+  accept_balanced L W a c Idle q K = balanced_as c c _ 0 _ 0 (sum_zero (λ b. 0) (suc N.arcs) (λ b. refl)) (sum_zero (λ b. 0) (suc N.arcs) (λ b. refl))
+      (balanced c c (λ b. 0) (λ b. 0) (λ b. balance_same (c.token b)))
+  accept_balanced L W a c (Message x) q K = balanced_as c c _ 0 _ 0 (sum_zero (λ b. 0) (suc N.arcs) (λ b. refl))
+      (sum_zero (λ b. 0) (suc N.arcs) (λ b. refl)) (balanced c c (λ b. 0) (λ b. 0) (λ b. balance_same (c.token b)))
+  accept_balanced L W a c Held q K = balanced_as c c _ 0 _ 0 (sum_zero (λ b. 0) (suc N.arcs) (λ b. refl)) (sum_zero (λ b. 0) (suc N.arcs) (λ b. refl))
+      (balanced c c (λ b. 0) (λ b. 0) (λ b. balance_same (c.token b)))
   accept_balanced L W a c Signal q K = balanced_as c _ _ 0 _ 1 (sum_zero (λ b. 0) (suc N.arcs) (λ b. refl)) (sum_one a (suc N.arcs) (busy_real W a c K (λ z. cc)))
       (balanced c (settle_tail A N a (N.tail a) (freed A N a c)) (λ b. 0) (λ b. one_if (eqb b a)) (accept_balance L W a c q K))
 
@@ -233,10 +242,12 @@ module _ {V : Type 0} (A : Algebra V) (N : Network) where
       ∙ sum_one 0 (suc N.arcs) (omega arith)
 
   no_held : helds_in (opening A N) ≡ 0
-  no_held = sum_zero (λ b. held_if ((opening A N).token b)) (suc N.arcs) (λ b. elim (put_tells (λ _. Idle) 0 (Message A.origin) b) [ inl k ↦ ap (λ t. held_if t) k.1 | inr k ↦ ap (λ t. held_if t) k.1 ])
+  no_held = sum_zero (λ b. held_if ((opening A N).token b)) (suc N.arcs)
+      (λ b. elim (put_tells (λ _. Idle) 0 (Message A.origin) b) [ inl k ↦ ap (λ t. held_if t) k.1 | inr k ↦ ap (λ t. held_if t) k.1 ])
 
   no_signal : signals_in (opening A N) ≡ 0
-  no_signal = sum_zero (λ b. signal_if ((opening A N).token b)) (suc N.arcs) (λ b. elim (put_tells (λ _. Idle) 0 (Message A.origin) b) [ inl k ↦ ap (λ t. signal_if t) k.1 | inr k ↦ ap (λ t. signal_if t) k.1 ])
+  no_signal = sum_zero (λ b. signal_if ((opening A N).token b)) (suc N.arcs)
+      (λ b. elim (put_tells (λ _. Idle) 0 (Message A.origin) b) [ inl k ↦ ap (λ t. signal_if t) k.1 | inr k ↦ ap (λ t. signal_if t) k.1 ])
 
   -- in an ended run the four totals are equal, the opening's message counted
   pub all_equal : IsLawful A → WellFormed N → (es : List Event) → (state_after A N es).token 0 ≡ Idle →
@@ -309,7 +320,9 @@ module _ {V : Type 0} (A : Algebra V) (N : Network) where
         | inr k ↦ (let t : (settle A N v d).told b ≡ d.told b = told ∙ cond-false (is_due A N v d b) _ _ k.0 in
             let z : slack (settle A N v d) b ≡ slack d b = λ i. one_if (not (same_label A (t i) (label i))) in
             let u : (pump A N v d).token b ≡ d.token b = cond-false (is_due A N v d b) _ _ k.0 in
-            let s : sends c (settle A N v d) b ≡ 0 = no_send _ _ (λ q. m (elim (released_changes v (pump A N v d) (d.engager v) (out_idle A N v (pump A N v d)) b (λ e r. held_pumped L v d e (h e r))) [
+            let s : sends c (settle A N v d) b ≡ 0 = no_send _ _
+            (λ q. m (elim (released_changes v (pump A N v d) (d.engager v) (out_idle A N v (pump A N v d)) b
+            (λ e r. held_pumped L v d e (h e r))) [
               | inl j ↦ ap is_message (sym u) ∙ ap is_message (sym j) ∙ q
               | inr j ↦ absurd (let g = ap is_message (sym j.1) ∙ q in false≢true g)
             ])) in
@@ -341,7 +354,12 @@ module _ {V : Type 0} (A : Algebra V) (N : Network) where
   accept_sends : IsLawful A → WellFormed N → (a k : ℕ) (c : CoreState V) → c.token a ≡ Signal → Kept A N 0 c → (b : ℕ) →
       sends c (settle_tail A N k (N.tail a) (freed A N a c)) b + slack (settle_tail A N k (N.tail a) (freed A N a c)) b ≤ slack c b
   accept_sends L W a zero c q K b =
-      let z : sends c (freed A N a c) b ≡ 0 = no_send _ _ (λ r. elim (put_tells c.token a Idle b) [ inl k ↦ absurd (false≢true (ap is_message (sym k.1) ∙ r)) | inr k ↦ ap is_message (sym k.1) ∙ r ]) in
+      let z : sends c (freed A N a c) b ≡ 0 = no_send _ _
+      (λ r. elim (put_tells c.token a Idle b) [
+        | inl k ↦ absurd (false≢true (ap is_message (sym k.1) ∙ r))
+        | inr k ↦ ap is_message (sym k.1)
+            ∙ r
+      ]) in
       omega (arith, z)
   accept_sends L W a (suc k) c q K b = settle_sends L (N.tail a) c (freed A N a c) b
       (λ r. elim (put_tells c.token a Idle b) [ inl k ↦ absurd (false≢true (ap is_message (sym k.1) ∙ r)) | inr k ↦ ap is_message (sym k.1) ∙ r ])

@@ -57,6 +57,7 @@ module _ (g : Roads) (s : ℕ) where
       let split = sum_first (λ b. one_if (is_some ((state_after reach (network g s) es).label ((network g s).tail b)))) (length g.arcs) in
       omega (arith, first, each, all, split)
     where
-      no_entry_label : Kept reach (network g s) 0 (state_after reach (network g s) es) → (o : Option (Unit {0})) → (state_after reach (network g s) es).label 0 ≡ o → (state_after reach (network g s) es).label 0 ≡ None
+      no_entry_label : Kept reach (network g s) 0 (state_after reach (network g s) es) → (o : Option (Unit {0}))
+          → (state_after reach (network g s) es).label 0 ≡ o → (state_after reach (network g s) es).label 0 ≡ None
       no_entry_label K None h = h
       no_entry_label K (Some x) h = absurd (let w = K.label_walk 0 x h in walk_end reach (network g s) (well_formed g s R S.0) s w.0 0 (λ z. let l = S.0 in omega (arith, l, z)) w.1 refl)

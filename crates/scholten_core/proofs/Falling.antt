@@ -118,7 +118,8 @@ module _ {V : Type 0} (A : Algebra V) (g : Roads) (s : ℕ) where
   step_falls : IsLawful A → IsRoads g → 1 ≤ s → (v : ℕ) (walks : List (List ℕ)) → HasSimpleWalks g s v walks → (c : CoreState V) (e : Event) → Trails A (network g s) (step A (network g s) c e) →
       one_if (not (same_label A (c.label v) ((step A (network g s) c e).label v))) + left A (network g s) walks ((step A (network g s) c e).label v) ≤ left A (network g s) walks (c.label v)
   step_falls L R l v walks H c e T = elim (step_better A (network g s) c e v) [
-    | inl k ↦ (let a : one_if (not (same_label A (c.label v) ((step A (network g s) c e).label v))) ≡ 0 = ap (λ o. one_if (not (same_label A (c.label v) o))) k ∙ ap (λ t. one_if (not t)) (same_self A (network g s) L (c.label v)) in
+    | inl k ↦ (let a : one_if (not (same_label A (c.label v) ((step A (network g s) c e).label v)))
+        ≡ 0 = ap (λ o. one_if (not (same_label A (c.label v) o))) k ∙ ap (λ t. one_if (not t)) (same_self A (network g s) L (c.label v)) in
         let b = ap (left A (network g s) walks) k in
         omega (arith, a, b))
     | inr k ↦ (let t = T.label v k.0 k.1 in
@@ -129,7 +130,8 @@ module _ {V : Type 0} (A : Algebra V) (g : Roads) (s : ℕ) where
         omega (arith, f, a, b))
   ]
 
-  run_falls : IsLawful A → IsRoads g → 1 ≤ s → (v : ℕ) (walks : List (List ℕ)) → HasSimpleWalks g s v walks → (c : CoreState V) (es : List Event) → Kept A (network g s) 0 c → Trails A (network g s) c →
+  run_falls : IsLawful A → IsRoads g → 1 ≤ s → (v : ℕ) (walks : List (List ℕ)) → HasSimpleWalks g s v walks → (c : CoreState V) (es : List Event)
+      → Kept A (network g s) 0 c → Trails A (network g s) c →
       label_changes A (network g s) v c es ≤ left A (network g s) walks (c.label v)
   run_falls L R l v walks H c [] K T = omega arith
   run_falls L R l v walks H c (e ∷ es) K T =

@@ -90,7 +90,8 @@ module _ {V : Type 0} (A : Algebra V) (N : Network) where
       Makes A N b (d.token b) ((settle A N v d).token b) (at b (settle_made A N v d xs))
   settle_makes L v d xs b O h =
       let split = at-append b (pump_made A N v d xs) (rest_made A N (d.engager v) (out_idle A N v (pump A N v d))) in
-      let held = λ (e : ℕ) (q : d.engager v ≡ Some e). elim (pumped A N L v d e) as (λ _. (pump A N v d).token e ≡ Held) [ inl k ↦ absurd (let g = h e q in let j = k.1 in cc) | inr k ↦ k.0 ∙ h e q ] in
+      let held = λ (e : ℕ) (q : d.engager v ≡ Some e). elim (pumped A N L v d e) as (λ _. (pump A N v d).token e
+      ≡ Held) [ inl k ↦ absurd (let g = h e q in let j = k.1 in cc) | inr k ↦ k.0 ∙ h e q ] in
       elim (due_tells A N L v d b) [
         | inl k ↦ (let p : at b (pump_made A N v d xs) ≡ item_of b ((pump A N v d).token b) =
             pump_made_at v d xs b O.distinct (O.all b k.1) ∙ cond-true _ _ _ k.0 ∙ ap (item_of b) (sym (cond-true (is_due A N v d b) _ _ k.0)) in
@@ -116,7 +117,8 @@ module _ {V : Type 0} (A : Algebra V) (N : Network) where
   -- a delivery: its own arc has what its new token stands for, each other arc nothing or its new items
   pub message_makes : IsLawful A → WellFormed N → (a : ℕ) (x : V) (c : CoreState V) (xs : List ℕ) → c.token a ≡ Message x → Kept A N 0 c → IsOutList A N (N.head a) xs →
       (at a (item_of a (answer_to (c.engager (N.head a))) ++ settle_made A N (N.head a) (arrive A N a x c) xs) ≡ item_of a ((settle A N (N.head a) (arrive A N a x c)).token a))
-      × ((b : ℕ) → b ≢ a → Makes A N b (c.token b) ((settle A N (N.head a) (arrive A N a x c)).token b) (at b (item_of a (answer_to (c.engager (N.head a))) ++ settle_made A N (N.head a) (arrive A N a x c) xs)))
+      × ((b : ℕ) → b ≢ a → Makes A N b (c.token b) ((settle A N (N.head a) (arrive A N a x c)).token b)
+      (at b (item_of a (answer_to (c.engager (N.head a))) ++ settle_made A N (N.head a) (arrive A N a x c) xs)))
   message_makes L W a x c xs q K O =
       let kept_next = arrive_kept A N L W a x c q K in
       let S = λ (b : ℕ). settle_makes L (N.head a) (arrive A N a x c) xs b O (λ e r. (kept_next.engager_held (N.head a) e r).0) in

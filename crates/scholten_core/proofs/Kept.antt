@@ -143,7 +143,8 @@ module _ {V : Type 0} (A : Algebra V) (N : Network) where
         source_heard = elim K.source_heard [
           | inl m ↦ elim (token 0) [
             | inl h ↦ inr (let s : x ≡ A.origin = (let g = h.0 in cc) in
-                subst (λ w. AtMost A N (arrive A N a x c).label w A.origin) (ap N.head (sym h.0) ∙ W.head_zero) (subst (λ w. AtMost A N (arrive A N a x c).label (N.head a) w) s (AtMost_arrived L a x c)))
+                subst (λ w. AtMost A N (arrive A N a x c).label w A.origin) (ap N.head (sym h.0) ∙ W.head_zero)
+                (subst (λ w. AtMost A N (arrive A N a x c).label (N.head a) w) s (AtMost_arrived L a x c)))
             | inr h ↦ inl (h.1 ∙ m)
           ]
           | inr m ↦ inr (AtMost_arrive L a x c N.source A.origin m)

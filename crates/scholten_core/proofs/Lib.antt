@@ -2,31 +2,31 @@ pub mod Basics
 pub mod Sums
 pub mod Walks
 pub mod Kept
-pub mod Rooted
+mod Rooted
 pub mod Ended
 pub mod Shares
 pub mod Items
 pub mod Parts
 pub mod Counts
-pub mod Reach
+mod Reach
 pub mod Networks
-pub mod SharedWalks
+mod SharedWalks
 pub mod EveryRun
 pub mod Quick
-pub mod Counted
+mod Counted
 pub mod Written
-pub mod Sized
-pub mod Offered
-pub mod Pumping
-pub mod CoreSteps
-pub mod Opened
-pub mod GraphReads
-pub mod RunReads
+mod Sized
+mod Offered
+mod Pumping
+mod CoreSteps
+mod Opened
+mod GraphReads
+mod RunReads
 pub mod EveryAccount
 pub mod Busy
-pub mod Trails
-pub mod SimpleWalks
-pub mod Falling
-pub mod Finite
-pub mod Ending
-pub mod Schedules
+mod Trails
+mod SimpleWalks
+mod Falling
+mod Finite
+mod Ending
+mod Schedules

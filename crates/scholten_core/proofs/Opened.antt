@@ -41,7 +41,8 @@ opened_state {V = V} A N labels engagers first tokens told n m l e k s d =
     ∙ (λ i. record {
       label = replicate_reads n None i;
       engager = replicate_reads n None i;
-      token = (put_set (replicate (m + 1) Idle) 0 (Message A.origin) Idle (let q = length-replicate {A = Token V} (m + 1) Idle in omega (arith, q)) ∙ ap (λ f. put f 0 (Message A.origin)) (replicate_reads (m + 1) Idle)) i;
+      token = (put_set (replicate (m + 1) Idle) 0 (Message A.origin) Idle (let q = length-replicate {A = Token V} (m + 1) Idle in omega (arith, q))
+          ∙ ap (λ f. put f 0 (Message A.origin)) (replicate_reads (m + 1) Idle)) i;
       told = replicate_reads (m + 1) None i;
     })
 
@@ -69,7 +70,8 @@ opened_sized {V = V} t first m zeros Q l e k s b d z y =
           (ap (λ xs. is_idle (get_or xs 0 Idle)) s ∙ ap is_idle (get_or-set_same first 0 m Idle (omega (arith, long))) ∙ b)
           (omega (arith, entry, wide))
           (let r = ap (λ xs. get_or xs ((network_of t).tail 0) 0) z ∙ ap (λ f. f ((network_of t).tail 0)) (replicate_reads (t.question.roads.vertices + 1) 0) in omega (arith, r))
-          (λ v h. ap (λ xs. get_or xs v 0) z ∙ ap (λ f. f v) (replicate_reads (t.question.roads.vertices + 1) 0) ∙ sym (idle_counted (network_of t) v (state_at t.labels t.engagers first t.told) idle)));
+          (λ v h. ap (λ xs. get_or xs v 0) z ∙ ap (λ f. f v) (replicate_reads (t.question.roads.vertices + 1) 0)
+          ∙ sym (idle_counted (network_of t) v (state_at t.labels t.engagers first t.told) idle)));
     }
 
 pub opened_run : {S V : Type 0} (meaning : S → Algebra V) (t : CoreView S V) (a : S) (g : Roads) (s : ℕ) → t.question ≡ record { algebra = a; roads = g; source = s } →

@@ -64,7 +64,8 @@ module _ {V : Type 0} (A : Algebra V) (N : Network) where
 
   pub made_nothing : (v : ℕ) (d : CoreState V) (xs : List ℕ) → ((b : ℕ) → Contains xs b → is_due A N v d b ≡ false) → pump_made A N v d xs ≡ []
   made_nothing v d [] h = refl
-  made_nothing v d (b ∷ xs) h = λ i. cond-false (is_due A N v d b) (item_of b (sent (extend_label A (d.label v) (N.weight b)))) [] (h b (here b xs)) i ++ made_nothing v d xs (λ u l. h u (later b u xs l)) i
+  made_nothing v d (b ∷ xs) h = λ i. cond-false (is_due A N v d b) (item_of b (sent (extend_label A (d.label v) (N.weight b)))) [] (h b (here b xs)) i
+      ++ made_nothing v d xs (λ u l. h u (later b u xs l)) i
 
   put-itself : {X : Type 0} (f g : ℕ → X) (a : ℕ) → ((b : ℕ) → b ≢ a → g b ≡ f b) → g ≡ put f a (g a)
   put-itself f g a h = λ i b. (elim (put_tells f a (g a) b) as (λ _. g b ≡ put f a (g a) b) [ inl k ↦ ap g k.0 ∙ sym k.1 | inr k ↦ h b k.0 ∙ sym k.1 ]) i

@@ -87,7 +87,8 @@ module _ {V : Type 0} (A : Algebra V) (N : Network) where
               let s : one_if (is_message ((settle A N v d).token b) && not (is_message (c.token b))) ≡ 1 = (λ i. one_if (is_message (q i) && not (m k.2 i))) in
               let l = one_if-most (is_some ((settle A N v d).told b)) in omega (arith, s, l))
         ])
-        | inr k ↦ (let z : one_if (is_some ((settle A N v d).told b)) ≡ one_if (is_some (c.told b)) = ap (λ o. one_if (is_some o)) (told ∙ cond-false (is_due A N v d b) _ _ k.0 ∙ t) in omega (arith, z))
+        | inr k ↦ (let z : one_if (is_some ((settle A N v d).told b)) ≡ one_if (is_some (c.told b)) = ap (λ o. one_if (is_some o)) (told
+            ∙ cond-false (is_due A N v d b) _ _ k.0 ∙ t) in omega (arith, z))
       ]
 
   busy_answer : (o : Option ℕ) → answer_to {V = V} o ≡ Idle → ⊥

@@ -46,14 +46,16 @@ module _ {V : Type 0} (A : Algebra V) (N : Network) where
   listed_without v u [] ne l = absurd (not_in_empty u l)
   listed_without v u (w ∷ us) ne l = elim (cases_eq w v) [
     | inl e ↦ subst (λ ys. Contains ys u) (sym (without-here v w us e)) (elim (head_or_tail w u us l) [ inl k ↦ absurd (ne (sym k ∙ e)) | inr k ↦ listed_without v u us ne k ])
-    | inr n ↦ subst (λ ys. Contains ys u) (sym (without-there v w us n)) (elim (head_or_tail w u us l) [ inl k ↦ here_as u w (without v us) (sym k) | inr k ↦ later w u (without v us) (listed_without v u us ne k) ])
+    | inr n ↦ subst (λ ys. Contains ys u) (sym (without-there v w us n))
+        (elim (head_or_tail w u us l) [ inl k ↦ here_as u w (without v us) (sym k) | inr k ↦ later w u (without v us) (listed_without v u us ne k) ])
   ]
 
   without_listed : (v u : ℕ) (us : List ℕ) → Contains (without v us) u → Contains us u
   without_listed v u [] l = subst (λ ys. Contains ys u) (without-nil v) l
   without_listed v u (w ∷ us) l = elim (cases_eq w v) [
     | inl e ↦ later w u us (without_listed v u us (subst (λ ys. Contains ys u) (without-here v w us e) l))
-    | inr n ↦ (let k : Contains (w ∷ without v us) u = subst (λ ys. Contains ys u) (without-there v w us n) l in elim (head_or_tail w u (without v us) k) [ inl j ↦ here_as u w us (sym j) | inr j ↦ later w u us (without_listed v u us j) ])
+    | inr n ↦ (let k : Contains (w ∷ without v us) u = subst (λ ys. Contains ys u) (without-there v w us n) l in
+        elim (head_or_tail w u (without v us) k) [ inl j ↦ here_as u w us (sym j) | inr j ↦ later w u us (without_listed v u us j) ])
   ]
 
   order_without : (f : ℕ → Option ℕ) (v : ℕ) → ((u a : ℕ) → f u ≡ Some a → N.tail a ≢ v) → (order : List ℕ) →

@@ -26,7 +26,8 @@ module _ {S V : Type 0} (meaning : S → Algebra V) (t old : CoreView S V) (e : 
   pub engager_held : (v : ℕ) (o : Option ℕ) → o ≡ (state_of t).engager v → IfSome o (λ a. ((state_of old).token a ≡ Held) × ((network_of old).head a ≡ v))
   engager_held v None q = tt
   engager_held v (Some a) q =
-      let h = (run_kept_at (meaning t.question.algebra) t.question.roads t.question.source L R.question.roads R.question.source.0 R.reached.0).engager_held v a (ap (λ c. c.engager v) (sym R.reached.1) ∙ sym q) in
+      let h = (run_kept_at (meaning t.question.algebra) t.question.roads t.question.source L R.question.roads R.question.source.0
+      R.reached.0).engager_held v a (ap (λ c. c.engager v) (sym R.reached.1) ∙ sym q) in
       subst (λ u. ((state_of u).token a ≡ Held) × ((network_of u).head a ≡ v)) e (ap (λ c. c.token a) R.reached.1 ∙ h.0, h.1)
 
   pub rooted_at : IsRooted (meaning old.question.algebra) (network_of old) (state_of old)

@@ -132,7 +132,8 @@ module _ {V : Type 0} (A : Algebra V) (N : Network) where
       (rest_frame other v 0 (pump A N v c) f (pump_kept A N L W v a c n en K))
 
   -- a delivery at v leaves every other shard's share
-  pub message_frame : IsLawful A → WellFormed N → (other : ℕ → Bool) (a : ℕ) (x : V) (c : CoreState V) → other (N.head a) ≡ false → c.token a ≡ Message x → Kept A N 0 c → Agree A N other c (step A N c (Deliver a))
+  pub message_frame : IsLawful A → WellFormed N → (other : ℕ → Bool) (a : ℕ) (x : V) (c : CoreState V) → other (N.head a) ≡ false
+      → c.token a ≡ Message x → Kept A N 0 c → Agree A N other c (step A N c (Deliver a))
   message_frame L W other a x c f q K =
       let e = engaged_some (c.engager (N.head a)) a in
       subst (λ t. Agree A N other c (delivered A N a c t)) (sym q)

@@ -98,8 +98,10 @@ freed_sized t a i v j x y z p q h m b r e =
     }
 
 -- an idle arc out of v gets a message, and is told
-pub sent_sized : {S V : Type 0} (t : CoreView S V) (a i i2 v j x y : ℕ) (token : Token V) (label : Option V) → IsSized t → i ≡ a → j ≡ v → (network_of t).tail a ≡ v → v ≤ t.question.roads.vertices → a ≤ length t.question.roads.arcs →
-    is_idle ((state_of t).token a) ≡ true → is_idle token ≡ false → y ≡ get_or t.deficits j y → x ≡ y + 1 → IsSized (record t { tokens = set t.tokens i token; told = set t.told i2 label; deficits = set t.deficits j x })
+pub sent_sized : {S V : Type 0} (t : CoreView S V) (a i i2 v j x y : ℕ) (token : Token V) (label : Option V) → IsSized t → i ≡ a → j ≡ v
+    → (network_of t).tail a ≡ v → v ≤ t.question.roads.vertices → a ≤ length t.question.roads.arcs →
+    is_idle ((state_of t).token a) ≡ true → is_idle token ≡ false → y ≡ get_or t.deficits j y → x ≡ y + 1
+    → IsSized (record t { tokens = set t.tokens i token; told = set t.told i2 label; deficits = set t.deficits j x })
 sent_sized t a i i2 v j x y token label z p q h m w b n r e =
     let long = z.deficits in
     let wide = z.tokens in
@@ -111,7 +113,8 @@ sent_sized t a i i2 v j x y token label z p q h m w b n r e =
       tokens = length-set t.tokens i token ∙ z.tokens;
       told = length-set t.told i2 label ∙ z.told;
       deficits = length-set t.deficits j x ∙ z.deficits;
-      counted = subst (λ u. (r : ℕ) → r ≤ t.question.roads.vertices → get_or (set t.deficits u x) r 0 ≡ deficit (network_of t) r (state_of (record t { tokens = set t.tokens i token }))) (sym (q ∙ sym h))
+      counted = subst (λ u. (r : ℕ) → r ≤ t.question.roads.vertices
+          → get_or (set t.deficits u x) r 0 ≡ deficit (network_of t) r (state_of (record t { tokens = set t.tokens i token }))) (sym (q ∙ sym h))
           (counted_more (network_of t) t.question.roads.vertices t.deficits a x (state_of t) (state_of (record t { tokens = set t.tokens i token })) (omega (arith, w))
           (tokens_else t.tokens i a token p) b (ap is_idle (token_here t.tokens i a token p (omega (arith, w, wide))) ∙ n)
           (omega (arith, h, m, long)) (let read = reads t.deficits j v y q (omega (arith, m, long)) r in omega (arith, e, same, read)) z.counted);

@@ -29,7 +29,8 @@ module _ {V : Type 0} (A : Algebra V) (N : Network) where
   trail_value L W label (a ∷ p) v x t = L.extend_is_value t.0 (N.weight a) x (trail_value L W label p (N.tail a) t.0 t.1) (W.weighs a t.2) t.4
 
   -- a label no worse than y is no worse than y extended
-  further : IsLawful A → WellFormed N → (label : ℕ → Option V) (v : ℕ) (y : V) (a : ℕ) (x : V) → A.is_value y ≡ true → N.tail a ≢ 0 → A.extend y (N.weight a) ≡ Some x → AtMost A N label v y → AtMost A N label v x
+  further : IsLawful A → WellFormed N → (label : ℕ → Option V) (v : ℕ) (y : V) (a : ℕ) (x : V) → A.is_value y ≡ true → N.tail a ≢ 0
+      → A.extend y (N.weight a) ≡ Some x → AtMost A N label v y → AtMost A N label v x
   further L W label v y a x iy r e m = (m.0, m.1, L.ordered.transitive m.0 y x m.2 (L.never_better y (N.weight a) x iy (W.weighs a r) e))
 
   -- at each vertex of the trail the label is no worse than the trail's value

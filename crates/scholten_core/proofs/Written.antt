@@ -118,11 +118,18 @@ module _ {S V : Type 0} (A : Algebra V) (N : Network) where
       ∙ due_told t old v b label due x1
     where
       due_told : (t old : CoreView S V) (v b : ℕ) (label : Option V) → is_due A N v (state_of old) b ≡ true → label ≡ (state_of old).label v →
-          record { label = (state_of old).label; engager = (state_of old).engager; token = put (state_of old).token b (sent (extend_label A label (N.weight b))); told = put (state_of old).told b ((state_of old).label v) } ≡ pump_one A N v b (state_of old)
+          record {
+            label = (state_of old).label;
+            engager = (state_of old).engager;
+            token = put (state_of old).token b (sent (extend_label A label (N.weight b)));
+            told = put (state_of old).told b ((state_of old).label v);
+          } ≡ pump_one A N v b (state_of old)
       due_told t old v b label due x1 = (λ k. record {
         label = (state_of old).label;
         engager = (state_of old).engager;
-        token = put (state_of old).token b ((ap (λ o. sent (extend_label A o (N.weight b))) x1 ∙ sym (cond-true (is_due A N v (state_of old) b) (sent (extend_label A ((state_of old).label v) (N.weight b))) ((state_of old).token b) due)) k);
+        token = put (state_of old).token b ((ap (λ o. sent (extend_label A o (N.weight b))) x1
+            ∙ sym (cond-true (is_due A N v (state_of old) b) (sent (extend_label A ((state_of old).label v) (N.weight b)))
+            ((state_of old).token b) due)) k);
         told = put (state_of old).told b (sym (cond-true (is_due A N v (state_of old) b) ((state_of old).label v) ((state_of old).told b) due) k);
       })
 
@@ -137,6 +144,8 @@ module _ {S V : Type 0} (A : Algebra V) (N : Network) where
       ∙ (λ k. record {
         label = (state_of old).label;
         engager = (state_of old).engager;
-        token = put (state_of old).token b ((idle-true ((state_of old).token b) idle ∙ ap sent x2 ∙ ap (λ o. sent (extend_label A o (N.weight b))) x1 ∙ sym (cond-true (is_due A N v (state_of old) b) (sent (extend_label A ((state_of old).label v) (N.weight b))) ((state_of old).token b) due)) k);
+        token = put (state_of old).token b ((idle-true ((state_of old).token b) idle ∙ ap sent x2 ∙ ap (λ o. sent (extend_label A o (N.weight b))) x1
+            ∙ sym (cond-true (is_due A N v (state_of old) b) (sent (extend_label A ((state_of old).label v) (N.weight b)))
+            ((state_of old).token b) due)) k);
         told = put (state_of old).told b (sym (cond-true (is_due A N v (state_of old) b) ((state_of old).label v) ((state_of old).told b) due) k);
       })

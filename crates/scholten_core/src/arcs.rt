@@ -3,6 +3,7 @@ ghost use Rattle.std.specs.Prelude.{◌≡◌, ◌≤◌, length};
 ghost use Rattle.road_graph.specs.Roads.{HasVertex};
 ghost use Rattle.scholten_core.specs.Network.{tail_of as tail_in, head_of as head_in};
 
+use crate::laws::roads_hold;
 use road_graph::{ArcNo, Graph, Vertex};
 
 /// The arc from the environment to the source.
@@ -14,8 +15,7 @@ pub fn tail_of(graph: &Graph, a: ArcNo) -> Vertex
     ensures tail { result ≡ tail_in graph.now a }
     ensures within { result ≤ graph.now.vertices }
 {
-    // That the arcs of a graph join its vertices is known once its size is read.
-    graph.vertices();
+    roads_hold(graph);
     if a == ENTRY { Vertex(0) } else { graph.tail(a) }
 }
 
@@ -27,7 +27,6 @@ pub fn head_of(graph: &Graph, source: Vertex, a: ArcNo) -> Vertex
     ensures low { 1 ≤ result }
     ensures within { result ≤ graph.now.vertices }
 {
-    // That the arcs of a graph join its vertices is known once its size is read.
-    graph.vertices();
+    roads_hold(graph);
     if a == ENTRY { source } else { graph.head(a) }
 }

@@ -1,3 +1,5 @@
+//! Events of the computation.
+
 use road_graph::ArcNo;
 
 /// One event of the computation. Arc 0 leads from the environment to the source.

@@ -1,3 +1,4 @@
+//! Whether something stands on an arc.
 ghost use Rattle.std.specs.Prelude.{◌≡◌};
 ghost use Rattle.scholten_core.specs.Diffusion.{is_idle};
 

@@ -1,3 +1,5 @@
+//! What is under way on an arc, as it waits in a queue.
+
 use road_graph::ArcNo;
 
 /// What is under way on an arc, as it stands in a queue: a message or a signal.

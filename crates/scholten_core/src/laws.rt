@@ -1,5 +1,5 @@
-//! Theorems over every run, each the contract of a function that computes nothing: a caller calls
-//! it where its own proof needs the theorem.
+//! A fact of every graph, and theorems over every run, each the contract of a function that computes nothing: a
+//! caller calls it where its own proof needs what it promises.
 ghost use Rattle.std.specs.Prelude.{◌≡◌, ℕ, ◌+◌, ◌*◌, ◌≤◌, ◌⊎◌, Bool, false, List, length};
 ghost use Rattle.road_graph.specs.Roads.{Roads, IsRoads, HasVertex};
 ghost use Rattle.path_algebra.specs.Given.{reach};
@@ -14,6 +14,14 @@ ghost use Rattle.scholten_core.specs.Progress.{CanGoOn, CanEnd, state_at, IsBusy
 ghost use Rattle.scholten_core.specs.Accounts.{totals_of, sent_on, label_changes, AreEqualTotals, AreMarksOfReached, count_marked};
 
 use path_algebra::{PathAlgebra, laws_hold};
+use road_graph::Graph;
+
+/// What holds of every graph: its arcs join its vertices, and it has no more of either than it may have.
+pub fn roads_hold(graph: &Graph)
+    ensures { IsRoads graph.now }
+{
+    graph.vertices();
+}
 
 /// In every order of events: each label and each message is the value of a walk, the engaged
 /// vertices hang together from the source, an arc is held exactly if it engages its head, and a

@@ -6,7 +6,7 @@
 #![tactic(auto)]
 
 mod arcs;
-mod desk;
+mod core_tables;
 mod event;
 mod idle;
 mod item;
@@ -22,6 +22,7 @@ pub use laws::{
     a_run_is_never_stuck, ended_runs_are_best, ended_totals_are_equal, every_question_can_end,
     every_run_is_finite, every_run_is_sound, every_schedule_ends,
     labels_are_values_of_simple_walks, messages_follow_label_changes, reach_sends_once_an_arc,
+    roads_hold,
 };
 pub use running::{Core, NoMessage, NoSignal};
 pub use token::Token;

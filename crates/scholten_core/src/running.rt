@@ -1,4 +1,4 @@
-//! The core itself: a desk whose state some list of events leads to.
+//! The core itself: tables that show a state to which some list of events leads.
 ghost use Rattle.std.specs.Prelude.{◌≡◌, ℕ, ◌≤◌, ◌<◌, ◌+◌, ◌^◌, ◌↔◌, ◌∷◌, [], length, IfOk, OnErr, IfSome, IsTrue, true, false};
 ghost use Rattle.road_graph.specs.Roads.{HasVertex};
 ghost use Rattle.path_algebra.specs.Walks.{IsWalkValue};
@@ -13,8 +13,9 @@ ghost use Rattle.scholten_core.specs.Reached.{IsReached, LabelsAreBest};
 ghost use Rattle.scholten_core.specs.CoreView.{state_of, network_of};
 
 use crate::arcs::ENTRY;
-use crate::desk::Desk;
+use crate::core_tables::CoreTables;
 use crate::event::Event;
+use crate::laws::roads_hold;
 use crate::token::Token;
 use path_algebra::{PathAlgebra, laws_hold};
 use road_graph::{ArcNo, Graph, Memory, Vertex};
@@ -32,7 +33,7 @@ pub struct NoSignal;
 /// The diffusing computation of one question: which labels are best over all walks from a source?
 #[derive(Drop)]
 pub struct Core<'g, A: PathAlgebra> {
-    desk: Desk<'g, A>,
+    tables: CoreTables<'g, A>,
 }
 
 impl<'g, A: PathAlgebra> Model for Core<'g, A> {
@@ -40,9 +41,9 @@ impl<'g, A: PathAlgebra> Model for Core<'g, A> {
 
     ghost Value = { CoreView A A.Value };
 
-    ghost view = { λ c. c.desk };
+    ghost view = { λ c. c.tables };
 
-    ghost invariant = { λ c. IsRun A.meaning c.desk };
+    ghost invariant = { λ c. IsRun A.meaning c.tables };
 }
 
 impl<'g, A: PathAlgebra> Core<'g, A> {
@@ -57,9 +58,9 @@ impl<'g, A: PathAlgebra> Core<'g, A> {
         ensures question { IfOk result (λ c. c.question ≡ record { algebra = algebra; roads = graph.now; source = source }) }
         ensures state { IfOk result (λ c. state_of c ≡ opening (A.meaning algebra) (network graph.now source)) }
     {
-        let _roads = graph.vertices();
-        let desk = Desk::open(alloc, algebra, graph, source)?;
-        Ok(Core { desk })
+        roads_hold(graph);
+        let tables = CoreTables::open(alloc, algebra, graph, source)?;
+        Ok(Core { tables })
     }
 
     /// The message on an arc is handled at the arc's head. Refused, with nothing changed, where no message stands there.
@@ -68,12 +69,12 @@ impl<'g, A: PathAlgebra> Core<'g, A> {
         ensures done { IfOk result (λ _. (is_enabled (state_of self.old) (Deliver a) ≡ true) × (state_of self.new ≡ step (A.meaning self.old.question.algebra) (network_of self.old) (state_of self.old) (Deliver a))) }
         ensures refused { OnErr result ((is_enabled (state_of self.old) (Deliver a) ≡ false) × (self.new ≡ self.old)) }
     {
-        laws_hold(self.desk.algebra());
-        match self.desk.token(a) {
+        laws_hold(self.tables.algebra());
+        match self.tables.token(a) {
             Token::Message(value) => {
-                let v = self.desk.head(a);
-                self.desk.take_message(a, v, value);
-                self.desk.rest(v);
+                let v = self.tables.head(a);
+                self.tables.take_message(a, v, value);
+                self.tables.rest(v);
                 Ok(())
             }
             _ => Err(NoMessage),
@@ -86,15 +87,15 @@ impl<'g, A: PathAlgebra> Core<'g, A> {
         ensures done { IfOk result (λ _. (is_enabled (state_of self.old) (Accept a) ≡ true) × (state_of self.new ≡ step (A.meaning self.old.question.algebra) (network_of self.old) (state_of self.old) (Accept a))) }
         ensures refused { OnErr result ((is_enabled (state_of self.old) (Accept a) ≡ false) × (self.new ≡ self.old)) }
     {
-        laws_hold(self.desk.algebra());
-        match self.desk.token(a) {
+        laws_hold(self.tables.algebra());
+        match self.tables.token(a) {
             Token::Signal => {
-                let v = self.desk.tail(a);
+                let v = self.tables.tail(a);
                 if a == ENTRY {
-                    self.desk.free(a, v);
+                    self.tables.free(a, v);
                 } else {
-                    self.desk.take_signal(a, v);
-                    self.desk.rest(v);
+                    self.tables.take_signal(a, v);
+                    self.tables.rest(v);
                 }
                 Ok(())
             }
@@ -102,6 +103,7 @@ impl<'g, A: PathAlgebra> Core<'g, A> {
         }
     }
 
+    /// Applies an event, and says whether it was enabled.
     fn apply(&mut self, event: Event) -> bool
         ensures same { self.new.question ≡ self.old.question }
         ensures state { state_of self.new ≡ step (A.meaning self.old.question.algebra) (network_of self.old) (state_of self.old) event }
@@ -137,8 +139,8 @@ impl<'g, A: PathAlgebra> Core<'g, A> {
         ensures going { (IsTrue result → ⊥) → CanGoOn (network_of self.now) (state_of self.now) }
         ensures reached { IsReached (A.meaning self.now.question.algebra) self.now.question.roads self.now.question.source (state_of self.now) }
     {
-        laws_hold(self.desk.algebra());
-        self.desk.token(ENTRY).is_idle()
+        laws_hold(self.tables.algebra());
+        self.tables.token(ENTRY).is_idle()
     }
 
     /// Whether every arc is idle and every vertex neutral.
@@ -154,8 +156,8 @@ impl<'g, A: PathAlgebra> Core<'g, A> {
         ensures label { result ≡ (state_of self.now).label v }
         ensures walk { IfSome result (λ x. IsWalkValue (A.meaning self.now.question.algebra) self.now.question.roads (self.now.question.source ∷ []) v x) }
     {
-        laws_hold(self.desk.algebra());
-        self.desk.label(v)
+        laws_hold(self.tables.algebra());
+        self.tables.label(v)
     }
 
     /// The arc that engages a vertex, none for a neutral one.
@@ -165,8 +167,8 @@ impl<'g, A: PathAlgebra> Core<'g, A> {
         ensures held { IfSome result (λ e. ((state_of self.now).token e ≡ Held) × ((network_of self.now).head e ≡ v)) }
         ensures rooted { IsRooted (A.meaning self.now.question.algebra) (network_of self.now) (state_of self.now) }
     {
-        laws_hold(self.desk.algebra());
-        self.desk.engager(v)
+        laws_hold(self.tables.algebra());
+        self.tables.engager(v)
     }
 
     /// What stands on an arc; a message has the value of some walk to the arc's head.
@@ -175,8 +177,8 @@ impl<'g, A: PathAlgebra> Core<'g, A> {
         ensures token { result ≡ (state_of self.now).token a }
         ensures walk { (x : A.Value) → result ≡ Token.Message x → IsWalkValue (A.meaning self.now.question.algebra) self.now.question.roads (self.now.question.source ∷ []) ((network_of self.now).head a) x }
     {
-        laws_hold(self.desk.algebra());
-        self.desk.token(a)
+        laws_hold(self.tables.algebra());
+        self.tables.token(a)
     }
 
     /// How many arcs out of a vertex are busy: 0 for a neutral one.
@@ -184,6 +186,6 @@ impl<'g, A: PathAlgebra> Core<'g, A> {
         requires { HasVertex self.now.question.roads v }
         ensures { result ≡ deficit (network_of self.now) v (state_of self.now) }
     {
-        self.desk.deficit(v)
+        self.tables.deficit(v)
     }
 }

@@ -1,3 +1,5 @@
+//! What stands on an arc.
+
 /// What stands on an arc.
 #[derive(Clone, Copy, Debug, PartialEq, Eq)]
 pub enum Token<V> {

@@ -14,7 +14,7 @@ use Rattle.scholten_core.proofs.Kept.{Kept as CoreKept}
 use Rattle.scholten_core.proofs.Walks.{walk_value_is_value}
 use Rattle.shard_part.specs.PartState.{PartData, Setup, network_in, place_in, token_if, maker_of}
 use Rattle.shard_part.specs.Weights.{total, is, All}
-use Rattle.shard_part.specs.Shows.{HoldsShare}
+use Rattle.shard_part.specs.Represents.{HoldsShareIn}
 use Rattle.shard_part.specs.Exchange.{FitsAlone}
 use Rattle.shard_part.proofs.Weights.{total_append}
 use Rattle.shard_part.proofs.Room.{queue_fits, arc_once, message_free, signal_busy}
@@ -46,9 +46,10 @@ entry_place t ne = go t.question.source ne
     go zero n = absurd (n refl)
     go (suc s) n = ap (λ z. get_or t.plan.list z 0) (let e : suc s - 1 ≡ s = omega arith in e)
 
-module _ {S V : Type 0} (meaning : S → Algebra V) (p : PartData S V) (L : Lawful (meaning p.setup.question.algebra)) (W : WellFormed (network_in p.setup)) (c : CoreState V) (K : CoreKept (meaning p.setup.question.algebra) (network_in p.setup) 0 c) where
+module _ {S V : Type 0} (meaning : S → Algebra V) (p : PartData S V) (L : Lawful (meaning p.setup.question.algebra))
+    (W : WellFormed (network_in p.setup)) (c : CoreState V) (K : CoreKept (meaning p.setup.question.algebra) (network_in p.setup) 0 c) where
   abbrev Share : List (Item V) → Type 0
-  Share xs = HoldsShare (meaning p.setup.question.algebra) (network_in p.setup) (place_in p.setup) c (record p { queue = xs })
+  Share xs = HoldsShareIn (meaning p.setup.question.algebra) (network_in p.setup) (place_in p.setup) c (record p { queue = xs })
 
   -- in whatever order the items stand
   reordered : (xs ys : List (Item V)) → ((f : Item V → ℕ) → total f ys ≡ total f xs) → Share xs → Share ys
@@ -89,7 +90,8 @@ module _ {S V : Type 0} (meaning : S → Algebra V) (p : PartData S V) (L : Lawf
   )
 
   -- the queue as it is with the batch
-  pub arrives : (xs : List (Item V)) (j : ℕ) → j ≢ p.shard → MadeAt p.setup j xs → HoldsShare (meaning p.setup.question.algebra) (network_in p.setup) (place_in p.setup) c (joined p xs) → MayReceive meaning p xs
+  pub arrives : (xs : List (Item V)) (j : ℕ) → j ≢ p.shard → MadeAt p.setup j xs
+      → HoldsShareIn (meaning p.setup.question.algebra) (network_in p.setup) (place_in p.setup) c (joined p xs) → MayReceive meaning p xs
   arrives xs j ne made H =
       let A = meaning p.setup.question.algebra in let N = network_in p.setup in (
         (let q = queue_fits A N (place_in p.setup) c (joined p xs) H in let l = length-append p.queue xs in omega (arith, q, l)),

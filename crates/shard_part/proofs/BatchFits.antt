@@ -8,9 +8,9 @@ use Rattle.path_algebra.specs.Algebra.{Algebra}
 use Rattle.scholten_core.specs.declared.item.Item.{Item}
 use Rattle.scholten_core.specs.Items.{item_arc}
 use Rattle.scholten_core.specs.Sums.{one_if}
-use Rattle.shard_part.specs.PartState.{PartData}
+use Rattle.shard_part.specs.PartState.{PartData, network_in, place_in}
 use Rattle.shard_part.specs.Weights.{total, counted, is, part_weight, outs_weight}
-use Rattle.shard_part.specs.Moves.{Rows, IsStored}
+use Rattle.shard_part.specs.LocalInvariant.{LocalInvariant}
 use Rattle.shard_part.specs.Exchange.{Fits, FitsAlone, FitsBefore}
 use Rattle.shard_part.proofs.Rings.{map_read}
 use Rattle.shard_part.proofs.Weights.{total_append}
@@ -52,9 +52,11 @@ drop_pieces zero m (x ∷ one) other e = ap (λ k. x ∷ one ++ drop k other) (l
 drop_pieces (suc n) m (x ∷ one) other e = drop_pieces n m one other (omega (arith, e))
 
 -- while a batch still has an item, there is room for it
-pub append_room : {X : Type 0} (own other own_first other_first : List X) (x : X) (capacity first : ℕ) → own ++ other ≡ own_first ++ other_first → capacity ≡ first → length own_first + length other_first ≤ first → Some x ≡ slice_get other 0 → length own < capacity
+pub append_room : {X : Type 0} (own other own_first other_first : List X) (x : X) (capacity first : ℕ) → own ++ other ≡ own_first ++ other_first
+    → capacity ≡ first → length own_first + length other_first ≤ first → Some x ≡ slice_get other 0 → length own < capacity
 append_room own [] own_first other_first x capacity first j c l h = absurd (let q : Some x ≡ None = h in cc)
-append_room own (y ∷ other) own_first other_first x capacity first j c l h = let a = ap length j in let b = length-append own (y ∷ other) in let d = length-append own_first other_first in omega (arith, a, b, c, d, l)
+append_room own (y ∷ other) own_first other_first x capacity first j c l h = let a = ap length j in let b = length-append own (y ∷ other) in
+    let d = length-append own_first other_first in omega (arith, a, b, c, d, l)
 
 module _ {V : Type 0} where
   -- an item on the arc stands in a list of two pieces: in the one, or not there and in the other
@@ -97,7 +99,8 @@ module _ {S V : Type 0} (A : Algebra V) (p : PartData S V) where
   each_fits one [] F = record { apart = λ b. (let o = one b in omega (arith, o)); each = tt }
   each_fits one (i ∷ is') F = let R = each_fits one is' F.1 in record {
     apart = λ b. elim (cases_eq b (item_arc i)) [
-      | inl e ↦ (let c = ap (λ k. counted k is') e ∙ F.0.0 in let w = ap (λ k. part_weight (λ _ j. is k (item_arc j)) p) e ∙ F.0.1 in let o = ap one_if (eq-eqb b (item_arc i) e) in omega (arith, c, w, o))
+      | inl e ↦ (let c = ap (λ k. counted k is') e ∙ F.0.0 in let w = ap (λ k. part_weight (λ _ j. is k (item_arc j)) p) e ∙ F.0.1 in
+          let o = ap one_if (eq-eqb b (item_arc i) e) in omega (arith, c, w, o))
       | inr n ↦ (let c = R.apart b in let o = ap one_if (ne_eqb b (item_arc i) n) in omega (arith, c, o))
     ];
     each = (F.0.2, R.each);
@@ -118,11 +121,21 @@ module _ {S V : Type 0} (A : Algebra V) (p : PartData S V) where
   before_twice i rest a x e h t = ((λ z. absurd (false≢true z)), (λ f. absurd (false≢true (sym (is_none (counted a rest) (ap (λ k. counted k rest) e ∙ f.0)) ∙ sym h ∙ t))))
 
   pub before_carried : (i : Item V) (rest : List (Item V)) (a : ℕ) (x : Bool) → a ≡ item_arc i → x ≡ leb 1 (part_weight (λ _ j. is a (item_arc j)) p) → x ≡ true → IsTrue false ↔ FitsBefore A p i rest
-  before_carried i rest a x e h t = ((λ z. absurd (false≢true z)), (λ f. absurd (false≢true (sym (is_none (part_weight (λ _ j. is a (item_arc j)) p) (ap (λ k. part_weight (λ _ j. is k (item_arc j)) p) e ∙ f.1)) ∙ sym h ∙ t))))
+  before_carried i rest a x e h t = (
+    (λ z. absurd (false≢true z)),
+    (λ f. absurd (false≢true (sym (is_none (part_weight (λ _ j. is a (item_arc j)) p) (ap (λ k. part_weight (λ _ j. is k (item_arc j)) p) e ∙ f.1))
+        ∙ sym h ∙ t))),
+  )
 
-  pub before_alone : (i : Item V) (rest : List (Item V)) (a : ℕ) (x y z : Bool) → a ≡ item_arc i → x ≡ leb 1 (counted a rest) → x ≡ false → y ≡ leb 1 (part_weight (λ _ j. is a (item_arc j)) p) → y ≡ false → (IsTrue z ↔ FitsAlone A p i) → IsTrue z ↔ FitsBefore A p i rest
+  pub before_alone : (i : Item V) (rest : List (Item V)) (a : ℕ) (x y z : Bool) → a ≡ item_arc i → x ≡ leb 1 (counted a rest) → x ≡ false
+      → y ≡ leb 1 (part_weight (λ _ j. is a (item_arc j)) p) → y ≡ false → (IsTrue z ↔ FitsAlone A p i) → IsTrue z ↔ FitsBefore A p i rest
   before_alone i rest a x y z e h f k g l = (
-    (λ t. (ap (λ b. counted b rest) (sym e) ∙ none_of (counted a rest) (sym h ∙ f), ap (λ b. part_weight (λ _ j. is b (item_arc j)) p) (sym e) ∙ none_of (part_weight (λ _ j. is a (item_arc j)) p) (sym k ∙ g), l.0 t)),
+    (λ t. (
+      ap (λ b. counted b rest) (sym e) ∙ none_of (counted a rest) (sym h ∙ f),
+      ap (λ b. part_weight (λ _ j. is b (item_arc j)) p) (sym e)
+          ∙ none_of (part_weight (λ _ j. is a (item_arc j)) p) (sym k ∙ g),
+      l.0 t,
+    )),
     (λ F. l.1 F.2),
   )
 
@@ -133,22 +146,22 @@ module _ {S V : Type 0} (A : Algebra V) (p : PartData S V) where
   pub same_start : (batch : List (Item V)) → IsSame batch 0
   same_start batch = (subst FitsEach (drop_none batch), subst FitsEach (sym (drop_none batch)))
 
-  pub same_next : (batch : List (Item V)) (i : ℕ) (x : Item V) (b : Bool) → IsSame batch i → slice_get batch i ≡ Some x → (IsTrue b ↔ FitsBefore A p x (drop (i + 1) batch)) → b ≡ true → IsSame batch (i + 1)
+  pub same_next : (batch : List (Item V)) (i : ℕ) (x : Item V) (b : Bool) → IsSame batch i → slice_get batch i ≡ Some x
+      → (IsTrue b ↔ FitsBefore A p x (drop (i + 1) batch)) → b ≡ true → IsSame batch (i + 1)
   same_next batch i x b I e l t = ((λ F. I.0 (each_next batch i x e (l.0 t) F)), (λ F. (each_rest batch i x e (I.1 F)).1))
 
-  pub same_bad : (batch : List (Item V)) (i : ℕ) (x : Item V) (b : Bool) → IsSame batch i → slice_get batch i ≡ Some x → (IsTrue b ↔ FitsBefore A p x (drop (i + 1) batch)) → b ≡ false → IsTrue false ↔ Fits A p batch
+  pub same_bad : (batch : List (Item V)) (i : ℕ) (x : Item V) (b : Bool) → IsSame batch i → slice_get batch i ≡ Some x
+      → (IsTrue b ↔ FitsBefore A p x (drop (i + 1) batch)) → b ≡ false → IsTrue false ↔ Fits A p batch
   same_bad batch i x b I e l f = ((λ z. absurd (false≢true z)), (λ F. absurd (false≢true (sym f ∙ l.1 (each_rest batch i x e (I.1 (fits_each batch F))).0))))
 
 module _ {S V : Type 0} where
   -- of each arc the part holds one item at most
-  pub holds_one : (p : PartData S V) (r : Rows V) (n : ℕ) (ns : List ℕ) → IsStored p r n ns → (b : ℕ) → part_weight (λ _ j. is b (item_arc j)) p ≤ 1
-  holds_one p r n ns D b = let o = D.sound.once b in omega (arith, o)
+  pub fits_from : (A : Algebra V) (p : PartData S V) (batch : List (Item V)) → LocalInvariant (network_in p.setup) (place_in p.setup) p → FitsEach A p batch → Fits A p batch
+  fits_from A p batch L F = each_fits A p (λ b. let o = L.once b in omega (arith, o)) batch F
 
-  pub fits_from : (A : Algebra V) (p old : PartData S V) (r : Rows V) (n : ℕ) (ns : List ℕ) (batch : List (Item V)) → p ≡ old → IsStored p r n ns → FitsEach A old batch → Fits A old batch
-  fits_from A p old r n ns batch e D F = each_fits A old (λ b. subst (λ (u : PartData S V). part_weight (λ _ j. is b (item_arc j)) u ≤ 1) e (holds_one p r n ns D b)) batch F
-
-  pub same_done : (A : Algebra V) (p old : PartData S V) (r : Rows V) (n : ℕ) (ns : List ℕ) (batch : List (Item V)) (i : ℕ) → p ≡ old → IsStored p r n ns → IsSame A old batch i → length batch ≤ i → IsTrue true ↔ Fits A old batch
-  same_done A p old r n ns batch i e D I l = ((λ _. fits_from A p old r n ns batch e D (I.0 (each_done A old batch i l))), (λ _. refl))
+  pub same_done : (A : Algebra V) (p : PartData S V) (batch : List (Item V)) (i : ℕ) → LocalInvariant (network_in p.setup) (place_in p.setup) p
+      → IsSame A p batch i → length batch ≤ i → IsTrue true ↔ Fits A p batch
+  same_done A p batch i L I l = ((λ _. fits_from A p batch L (I.0 (each_done A p batch i l))), (λ _. refl))
 
 -- whether an item on an arc stands in the queue or an outbox
 module _ {S V : Type 0} (b : ℕ) (p : PartData S V) where
@@ -158,18 +171,21 @@ module _ {S V : Type 0} (b : ℕ) (p : PartData S V) where
       let n : k < length p.outs = (let a = length-map rs its in let c = ap length e in omega (arith, a, c, l)) in
       drop_more p.outs k [] n ∙ ap (λ o. o ∷ drop (k + 1) p.outs) (ap (λ os. get_or os k []) (sym e) ∙ map_read its rs k [] x l h)
 
-  pub carried_out : {X : Type 0} (its : X → List (Item V)) (rs : List X) (k : ℕ) (x : X) (y : Bool) → map its rs ≡ p.outs → k < length rs → x ≡ get_or rs k x → outs_counted b p.outs ≡ outs_counted b (drop k p.outs) → y ≡ leb 1 (counted b (drop 0 (its x))) → y ≡ true →
+  pub carried_out : {X : Type 0} (its : X → List (Item V)) (rs : List X) (k : ℕ) (x : X) (y : Bool) → map its rs ≡ p.outs → k < length rs
+      → x ≡ get_or rs k x → outs_counted b p.outs ≡ outs_counted b (drop k p.outs) → y ≡ leb 1 (counted b (drop 0 (its x))) → y ≡ true →
       true ≡ leb 1 (part_weight (λ _ j. is b (item_arc j)) p)
   carried_out its rs k x y e l h i q t =
       let a = leb-true 1 (counted b (drop 0 (its x))) (sym q ∙ t) in let d = ap (counted b) (drop_none (its x)) in let o = ap (outs_counted b) (out_at its rs k x e l h) in let c = counted_in b p in
       sym (le-leb 1 (part_weight (λ _ j. is b (item_arc j)) p) (omega (arith, a, d, o, c, i)))
 
-  pub outs_next : {X : Type 0} (its : X → List (Item V)) (rs : List X) (k : ℕ) (x : X) (y : Bool) → map its rs ≡ p.outs → k < length rs → x ≡ get_or rs k x → outs_counted b p.outs ≡ outs_counted b (drop k p.outs) → y ≡ leb 1 (counted b (drop 0 (its x))) → y ≡ false →
+  pub outs_next : {X : Type 0} (its : X → List (Item V)) (rs : List X) (k : ℕ) (x : X) (y : Bool) → map its rs ≡ p.outs → k < length rs
+      → x ≡ get_or rs k x → outs_counted b p.outs ≡ outs_counted b (drop k p.outs) → y ≡ leb 1 (counted b (drop 0 (its x))) → y ≡ false →
       outs_counted b p.outs ≡ outs_counted b (drop (k + 1) p.outs)
   outs_next its rs k x y e l h i q f =
       let a = none_of (counted b (drop 0 (its x))) (sym q ∙ f) in let d = ap (counted b) (drop_none (its x)) in let o = ap (outs_counted b) (out_at its rs k x e l h) in omega (arith, a, d, o, i)
 
-  pub carried_none : {X : Type 0} (its : X → List (Item V)) (rs : List X) (k : ℕ) → map its rs ≡ p.outs → length rs ≤ k → counted b p.queue ≡ 0 → outs_counted b p.outs ≡ outs_counted b (drop k p.outs) → false ≡ leb 1 (part_weight (λ _ j. is b (item_arc j)) p)
+  pub carried_none : {X : Type 0} (its : X → List (Item V)) (rs : List X) (k : ℕ) → map its rs ≡ p.outs → length rs ≤ k → counted b p.queue ≡ 0
+      → outs_counted b p.outs ≡ outs_counted b (drop k p.outs) → false ≡ leb 1 (part_weight (λ _ j. is b (item_arc j)) p)
   carried_none its rs k e l z i =
       let n : length p.outs ≤ k = (let a = length-map rs its in let c = ap length e in omega (arith, a, c, l)) in
       let d = ap (outs_counted b) (drop_all k p.outs n) in let c = counted_in b p in sym (is_none (part_weight (λ _ j. is b (item_arc j)) p) (omega (arith, z, i, d, c)))

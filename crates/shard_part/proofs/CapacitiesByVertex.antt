@@ -28,8 +28,10 @@ joins_seen s t a h = elim (cases_Bool (eqb a s)) [
     ]
   ]
   | inr p ↦ elim (cases_Bool (eqb h s)) [
-    | inl r ↦ (λ i. one_if ((eqb h t && p i) || (eqb a t && r i))) ∙ only (eqb h t) (eqb a t) ∙ sym (cond-false (eqb a s) (one_if (eqb h t)) (cond (eqb h s) (one_if (eqb a t)) 0) p ∙ cond-true (eqb h s) (one_if (eqb a t)) 0 r)
-    | inr r ↦ (λ i. one_if ((eqb h t && p i) || (eqb a t && r i))) ∙ nothing (eqb h t) (eqb a t) ∙ sym (cond-false (eqb a s) (one_if (eqb h t)) (cond (eqb h s) (one_if (eqb a t)) 0) p ∙ cond-false (eqb h s) (one_if (eqb a t)) 0 r)
+    | inl r ↦ (λ i. one_if ((eqb h t && p i) || (eqb a t && r i))) ∙ only (eqb h t) (eqb a t)
+        ∙ sym (cond-false (eqb a s) (one_if (eqb h t)) (cond (eqb h s) (one_if (eqb a t)) 0) p ∙ cond-true (eqb h s) (one_if (eqb a t)) 0 r)
+    | inr r ↦ (λ i. one_if ((eqb h t && p i) || (eqb a t && r i))) ∙ nothing (eqb h t) (eqb a t)
+        ∙ sym (cond-false (eqb a s) (one_if (eqb h t)) (cond (eqb h s) (one_if (eqb a t)) 0) p ∙ cond-false (eqb h s) (one_if (eqb a t)) 0 r)
   ]
 ]
   where
@@ -73,10 +75,15 @@ seen_twice s t a h = elim (cases_Bool (eqb a s)) [
 -- over all shards an arc is seen once where it has an end in s
 pub seen_sum : (s a h m : ℕ) → a < m → h < m → sum_below (λ t. seen_from s t a h) m ≡ one_if (eqb h s || eqb a s)
 seen_sum s a h m la lh = elim (cases_Bool (eqb a s)) [
-  | inl p ↦ sum_same (λ t. seen_from s t a h) (λ t. one_if (eqb t h)) m (λ t. cond-true (eqb a s) (one_if (eqb h t)) (cond (eqb h s) (one_if (eqb a t)) 0) p ∙ turn h t) ∙ sum_one h m lh ∙ sym (ap (λ z. one_if (eqb h s || z)) p ∙ right (eqb h s))
+  | inl p ↦ sum_same (λ t. seen_from s t a h) (λ t. one_if (eqb t h)) m
+      (λ t. cond-true (eqb a s) (one_if (eqb h t)) (cond (eqb h s) (one_if (eqb a t)) 0) p ∙ turn h t) ∙ sum_one h m lh
+      ∙ sym (ap (λ z. one_if (eqb h s || z)) p ∙ right (eqb h s))
   | inr p ↦ elim (cases_Bool (eqb h s)) [
-    | inl r ↦ sum_same (λ t. seen_from s t a h) (λ t. one_if (eqb t a)) m (λ t. cond-false (eqb a s) (one_if (eqb h t)) (cond (eqb h s) (one_if (eqb a t)) 0) p ∙ cond-true (eqb h s) (one_if (eqb a t)) 0 r ∙ turn a t) ∙ sum_one a m la ∙ sym (ap (λ z. one_if (z || eqb a s)) r)
-    | inr r ↦ sum_same (λ t. seen_from s t a h) (λ t. 0) m (λ t. cond-false (eqb a s) (one_if (eqb h t)) (cond (eqb h s) (one_if (eqb a t)) 0) p ∙ cond-false (eqb h s) (one_if (eqb a t)) 0 r) ∙ sum_zero (λ t. 0) m (λ k. refl) ∙ sym (λ i. one_if (r i || p i))
+    | inl r ↦ sum_same (λ t. seen_from s t a h) (λ t. one_if (eqb t a)) m
+        (λ t. cond-false (eqb a s) (one_if (eqb h t)) (cond (eqb h s) (one_if (eqb a t)) 0) p ∙ cond-true (eqb h s) (one_if (eqb a t)) 0 r ∙ turn a t)
+        ∙ sum_one a m la ∙ sym (ap (λ z. one_if (z || eqb a s)) r)
+    | inr r ↦ sum_same (λ t. seen_from s t a h) (λ t. 0) m (λ t. cond-false (eqb a s) (one_if (eqb h t)) (cond (eqb h s) (one_if (eqb a t)) 0) p
+        ∙ cond-false (eqb h s) (one_if (eqb a t)) 0 r) ∙ sum_zero (λ t. 0) m (λ k. refl) ∙ sym (λ i. one_if (r i || p i))
   ]
 ]
   where
@@ -119,7 +126,9 @@ module _ (N : Network) (place : ℕ → ℕ) where
       sum_at_first f g (suc n) h = let p = sum_at_first f g n (λ b nz l. h b nz (omega (arith, l))) in let q = h (suc n) (λ e. omega (arith, e)) (omega arith) in omega (arith, p, q)
 
       each : (b : ℕ) → b ≢ 0 → (1 ≤ N.tail b) × (N.tail b ≤ n) × (1 ≤ N.head b) × (N.head b ≤ n) →
-          total (λ v. cond (eqb (N.tail b) v) (is t (place (N.head b))) 0) (placed place s 1 n) + total (λ v. cond (eqb ((turned N).tail b) v) (cond (eqb (place (N.tail b)) s) 0 (is t (place (N.tail b)))) 0) (placed place s 1 n) ≡ joins N place s t b
+          total (λ v. cond (eqb (N.tail b) v) (is t (place (N.head b))) 0) (placed place s 1 n) + total
+          (λ v. cond (eqb ((turned N).tail b) v) (cond (eqb (place (N.tail b)) s) 0 (is t (place (N.tail b)))) 0) (placed place s 1 n)
+          ≡ joins N place s t b
       each b nz E =
           let o = placed_once place s (N.tail b) (is t (place (N.head b))) 1 n E.0 (let l = E.1 in omega (arith, l)) in
           let k : (turned N).tail b ≡ N.head b = cond-false (eqb b 0) 0 (N.head b) (ne_eqb b 0 nz) in
@@ -128,23 +137,30 @@ module _ (N : Network) (place : ℕ → ℕ) where
           let x = seen_twice s t (place (N.tail b)) (place (N.head b)) in
           let y = joins_seen s t (place (N.tail b)) (place (N.head b)) in omega (arith, o, i, x, y)
 
-      first : total (λ v. cond (eqb (N.tail 0) v) (is t (place (N.head 0))) 0) (placed place s 1 n) + total (λ v. cond (eqb ((turned N).tail 0) v) (cond (eqb (place (N.tail 0)) s) 0 (is t (place (N.tail 0)))) 0) (placed place s 1 n) ≡ 0
+      first : total (λ v. cond (eqb (N.tail 0) v) (is t (place (N.head 0))) 0) (placed place s 1 n) + total
+          (λ v. cond (eqb ((turned N).tail 0) v) (cond (eqb (place (N.tail 0)) s) 0 (is t (place (N.tail 0)))) 0) (placed place s 1 n) ≡ 0
       first = let a = ap (λ y. total (λ v. cond (eqb y v) (is t (place (N.head 0))) 0) (placed place s 1 n)) tz ∙ placed_none place s 0 (is t (place (N.head 0))) 1 n (omega arith) in
           let b = placed_none place s 0 (cond (eqb (place (N.tail 0)) s) 0 (is t (place (N.tail 0)))) 1 n (omega arith) in omega (arith, a, b)
 
       entry : joins N place s t 0 ≡ cond (eqb (place 0) s) (is t s) 0
       entry = joins_seen s t (place (N.tail 0)) (place (N.head 0)) ∙ (λ i. seen_from s t (place (tz i)) (hz i)) ∙ elim (cases_Bool (eqb (place 0) s)) [
-        | inl p ↦ cond-true (eqb (place 0) s) (one_if (eqb (place 0) t)) (cond (eqb (place 0) s) (one_if (eqb (place 0) t)) 0) p ∙ ap (λ z. one_if (eqb z t)) (eqb-true (place 0) s p) ∙ turn s t ∙ sym (cond-true (eqb (place 0) s) (is t s) 0 p)
-        | inr p ↦ cond-false (eqb (place 0) s) (one_if (eqb (place 0) t)) (cond (eqb (place 0) s) (one_if (eqb (place 0) t)) 0) p ∙ cond-false (eqb (place 0) s) (one_if (eqb (place 0) t)) 0 p ∙ sym (cond-false (eqb (place 0) s) (is t s) 0 p)
+        | inl p ↦ cond-true (eqb (place 0) s) (one_if (eqb (place 0) t)) (cond (eqb (place 0) s) (one_if (eqb (place 0) t)) 0) p
+            ∙ ap (λ z. one_if (eqb z t)) (eqb-true (place 0) s p) ∙ turn s t ∙ sym (cond-true (eqb (place 0) s) (is t s) 0 p)
+        | inr p ↦ cond-false (eqb (place 0) s) (one_if (eqb (place 0) t)) (cond (eqb (place 0) s) (one_if (eqb (place 0) t)) 0) p
+            ∙ cond-false (eqb (place 0) s) (one_if (eqb (place 0) t)) 0 p ∙ sym (cond-false (eqb (place 0) s) (is t s) 0 p)
       ]
 
   -- no room is wider than there are arcs
   pub outbox_bound_most : (s t : ℕ) → outbox_bound N place s t ≤ suc N.arcs
-  outbox_bound_most s t = let m = sum_most (joins N place s t) (λ b. 1) (suc N.arcs) (λ b. one_if-most ((eqb (place (N.head b)) t && eqb (place (N.tail b)) s) || (eqb (place (N.tail b)) t && eqb (place (N.head b)) s))) in let o = sum_ones (suc N.arcs) in omega (arith, m, o)
+  outbox_bound_most s t = let m = sum_most (joins N place s t) (λ b. 1) (suc N.arcs)
+      (λ b. one_if-most ((eqb (place (N.head b)) t && eqb (place (N.tail b)) s) || (eqb (place (N.tail b)) t && eqb (place (N.head b)) s))) in
+      let o = sum_ones (suc N.arcs) in omega (arith, m, o)
 
   pub queue_bound_most : (s : ℕ) → queue_bound N place s ≤ suc N.arcs
-  queue_bound_most s = let m = sum_most (touches N place s) (λ b. 1) (suc N.arcs) (λ b. one_if-most (eqb (place (N.head b)) s || eqb (place (N.tail b)) s)) in let o = sum_ones (suc N.arcs) in omega (arith, m, o)
+  queue_bound_most s = let m = sum_most (touches N place s) (λ b. 1) (suc N.arcs)
+      (λ b. one_if-most (eqb (place (N.head b)) s || eqb (place (N.tail b)) s)) in let o = sum_ones (suc N.arcs) in omega (arith, m, o)
 
   -- there is a place for the environment's message
   pub queue_bound_first : (s : ℕ) → place (N.head 0) ≡ s → 1 ≤ queue_bound N place s
-  queue_bound_first s e = let m = sum_term (touches N place s) 0 (suc N.arcs) (omega arith) in let o : touches N place s 0 ≡ 1 = ap (λ z. one_if (z || eqb (place (N.tail 0)) s)) (eq-eqb (place (N.head 0)) s e) in omega (arith, m, o)
+  queue_bound_first s e = let m = sum_term (touches N place s) 0 (suc N.arcs) (omega arith) in
+      let o : touches N place s 0 ≡ 1 = ap (λ z. one_if (z || eqb (place (N.tail 0)) s)) (eq-eqb (place (N.head 0)) s e) in omega (arith, m, o)

@@ -62,20 +62,27 @@ total_swap f (v ∷ vs) n = let p = total_swap f vs n in let q = sum_add (f v) (
 
 -- the arcs out of one vertex, among all
 pub total_arcs : (N : Network) (f : ℕ → ℕ) (v k n : ℕ) → sum_below (λ b. cond (eqb (N.tail b) v) (f b) 0) k + total f (arcs_from N v k n) ≡ sum_below (λ b. cond (eqb (N.tail b) v) (f b) 0) (k + n)
-total_arcs N f v k zero = let e : k + 0 ≡ k = omega arith in let q : sum_below (λ b. cond (eqb (N.tail b) v) (f b) 0) (k + 0) ≡ sum_below (λ b. cond (eqb (N.tail b) v) (f b) 0) k = ap (sum_below (λ b. cond (eqb (N.tail b) v) (f b) 0)) e in omega (arith, q)
+total_arcs N f v k zero = let e : k + 0 ≡ k = omega arith in let q : sum_below (λ b. cond (eqb (N.tail b) v) (f b) 0) (k + 0)
+    ≡ sum_below (λ b. cond (eqb (N.tail b) v) (f b) 0) k = ap (sum_below (λ b. cond (eqb (N.tail b) v) (f b) 0)) e in omega (arith, q)
 total_arcs N f v k (suc n) =
     let p = total_arcs N f v (suc k) n in
-    let q : sum_below (λ b. cond (eqb (N.tail b) v) (f b) 0) (k + suc n) ≡ sum_below (λ b. cond (eqb (N.tail b) v) (f b) 0) (suc k + n) = ap (sum_below (λ b. cond (eqb (N.tail b) v) (f b) 0)) (let z : k + suc n ≡ suc k + n = omega arith in z) in
+    let q : sum_below (λ b. cond (eqb (N.tail b) v) (f b) 0) (k + suc n) ≡ sum_below (λ b. cond (eqb (N.tail b) v) (f b) 0) (suc k + n) = ap
+    (sum_below (λ b. cond (eqb (N.tail b) v) (f b) 0)) (let z : k + suc n ≡ suc k + n = omega arith in z) in
     elim (cases_Bool (eqb (N.tail k) v)) [
-      | inl t ↦ (let a : total f (arcs_from N v k (suc n)) ≡ f k + total f (arcs_from N v (suc k) n) = ap (total f) (cond-true (eqb (N.tail k) v) (k ∷ arcs_from N v (suc k) n) (arcs_from N v (suc k) n) t) in
+      | inl t ↦ (let a : total f (arcs_from N v k (suc n))
+          ≡ f k + total f (arcs_from N v (suc k) n) = ap (total f)
+          (cond-true (eqb (N.tail k) v) (k ∷ arcs_from N v (suc k) n) (arcs_from N v (suc k) n) t) in
           let c : cond (eqb (N.tail k) v) (f k) 0 ≡ f k = cond-true (eqb (N.tail k) v) (f k) 0 t in omega (arith, p, q, a, c))
-      | inr t ↦ (let a : total f (arcs_from N v k (suc n)) ≡ total f (arcs_from N v (suc k) n) = ap (total f) (cond-false (eqb (N.tail k) v) (k ∷ arcs_from N v (suc k) n) (arcs_from N v (suc k) n) t) in
+      | inr t ↦ (let a : total f (arcs_from N v k (suc n))
+          ≡ total f (arcs_from N v (suc k) n) = ap (total f)
+          (cond-false (eqb (N.tail k) v) (k ∷ arcs_from N v (suc k) n) (arcs_from N v (suc k) n) t) in
           let c : cond (eqb (N.tail k) v) (f k) 0 ≡ 0 = cond-false (eqb (N.tail k) v) (f k) 0 t in omega (arith, p, q, a, c))
     ]
 
 pub total_out : (N : Network) (f : ℕ → ℕ) (v : ℕ) → total f (outgoing N v) ≡ sum_below (λ b. cond (eqb (N.tail b) v) (f b) 0) (suc N.arcs)
 total_out N f v = let p = total_arcs N f v 0 (suc N.arcs) in
-    let e : sum_below (λ b. cond (eqb (N.tail b) v) (f b) 0) (0 + suc N.arcs) ≡ sum_below (λ b. cond (eqb (N.tail b) v) (f b) 0) (suc N.arcs) = ap (sum_below (λ b. cond (eqb (N.tail b) v) (f b) 0)) (let z : 0 + suc N.arcs ≡ suc N.arcs = omega arith in z) in omega (arith, p, e)
+    let e : sum_below (λ b. cond (eqb (N.tail b) v) (f b) 0) (0 + suc N.arcs) ≡ sum_below (λ b. cond (eqb (N.tail b) v) (f b) 0) (suc N.arcs) = ap
+    (sum_below (λ b. cond (eqb (N.tail b) v) (f b) 0)) (let z : 0 + suc N.arcs ≡ suc N.arcs = omega arith in z) in omega (arith, p, e)
 
 cond_most : (b : Bool) (x : ℕ) → cond b x 0 ≤ x
 cond_most true x = omega arith
@@ -93,9 +100,11 @@ placed_none place s w x k zero l = refl
 placed_none place s w x k (suc n) l = let p = placed_none place s w x (suc k) n (omega arith) in
     let z = cond-false (eqb w k) x 0 (ne_eqb w k (λ e. omega (arith, e, l))) in
     elim (cases_Bool (eqb (place k) s)) [
-      | inl t ↦ (let a : total (λ v. cond (eqb w v) x 0) (cond (eqb (place k) s) (k ∷ placed place s (suc k) n) (placed place s (suc k) n)) ≡ cond (eqb w k) x 0 + total (λ v. cond (eqb w v) x 0) (placed place s (suc k) n) =
+      | inl t ↦ (let a : total (λ v. cond (eqb w v) x 0) (cond (eqb (place k) s) (k ∷ placed place s (suc k) n) (placed place s (suc k) n))
+          ≡ cond (eqb w k) x 0 + total (λ v. cond (eqb w v) x 0) (placed place s (suc k) n) =
           ap (total (λ v. cond (eqb w v) x 0)) (cond-true (eqb (place k) s) (k ∷ placed place s (suc k) n) (placed place s (suc k) n) t) in omega (arith, p, z, a))
-      | inr t ↦ (let a : total (λ v. cond (eqb w v) x 0) (cond (eqb (place k) s) (k ∷ placed place s (suc k) n) (placed place s (suc k) n)) ≡ total (λ v. cond (eqb w v) x 0) (placed place s (suc k) n) =
+      | inr t ↦ (let a : total (λ v. cond (eqb w v) x 0) (cond (eqb (place k) s) (k ∷ placed place s (suc k) n) (placed place s (suc k) n))
+          ≡ total (λ v. cond (eqb w v) x 0) (placed place s (suc k) n) =
           ap (total (λ v. cond (eqb w v) x 0)) (cond-false (eqb (place k) s) (k ∷ placed place s (suc k) n) (placed place s (suc k) n) t) in omega (arith, p, a))
     ]
 
@@ -105,9 +114,11 @@ placed_past place s w x k zero l = refl
 placed_past place s w x k (suc n) l = let p = placed_past place s w x (suc k) n (omega arith) in
     let z = cond-false (eqb w k) x 0 (ne_eqb w k (λ e. omega (arith, e, l))) in
     elim (cases_Bool (eqb (place k) s)) [
-      | inl t ↦ (let a : total (λ v. cond (eqb w v) x 0) (cond (eqb (place k) s) (k ∷ placed place s (suc k) n) (placed place s (suc k) n)) ≡ cond (eqb w k) x 0 + total (λ v. cond (eqb w v) x 0) (placed place s (suc k) n) =
+      | inl t ↦ (let a : total (λ v. cond (eqb w v) x 0) (cond (eqb (place k) s) (k ∷ placed place s (suc k) n) (placed place s (suc k) n))
+          ≡ cond (eqb w k) x 0 + total (λ v. cond (eqb w v) x 0) (placed place s (suc k) n) =
           ap (total (λ v. cond (eqb w v) x 0)) (cond-true (eqb (place k) s) (k ∷ placed place s (suc k) n) (placed place s (suc k) n) t) in omega (arith, p, z, a))
-      | inr t ↦ (let a : total (λ v. cond (eqb w v) x 0) (cond (eqb (place k) s) (k ∷ placed place s (suc k) n) (placed place s (suc k) n)) ≡ total (λ v. cond (eqb w v) x 0) (placed place s (suc k) n) =
+      | inr t ↦ (let a : total (λ v. cond (eqb w v) x 0) (cond (eqb (place k) s) (k ∷ placed place s (suc k) n) (placed place s (suc k) n))
+          ≡ total (λ v. cond (eqb w v) x 0) (placed place s (suc k) n) =
           ap (total (λ v. cond (eqb w v) x 0)) (cond-false (eqb (place k) s) (k ∷ placed place s (suc k) n) (placed place s (suc k) n) t) in omega (arith, p, a))
     ]
 
@@ -117,19 +128,23 @@ placed_once place s w x k zero l m = absurd (omega arith)
 placed_once place s w x k (suc n) l m = elim (cases_eq w k) [
   | inl e ↦ (let z = cond-true (eqb w k) x 0 (eq-eqb w k e) in let r = placed_none place s w x (suc k) n (omega (arith, e)) in
       elim (cases_Bool (eqb (place k) s)) [
-        | inl t ↦ (let a : total (λ v. cond (eqb w v) x 0) (cond (eqb (place k) s) (k ∷ placed place s (suc k) n) (placed place s (suc k) n)) ≡ cond (eqb w k) x 0 + total (λ v. cond (eqb w v) x 0) (placed place s (suc k) n) =
+        | inl t ↦ (let a : total (λ v. cond (eqb w v) x 0) (cond (eqb (place k) s) (k ∷ placed place s (suc k) n) (placed place s (suc k) n))
+            ≡ cond (eqb w k) x 0 + total (λ v. cond (eqb w v) x 0) (placed place s (suc k) n) =
             ap (total (λ v. cond (eqb w v) x 0)) (cond-true (eqb (place k) s) (k ∷ placed place s (suc k) n) (placed place s (suc k) n) t) in
             let g : cond (eqb (place w) s) x 0 ≡ x = ap (λ y. cond (eqb (place y) s) x 0) e ∙ cond-true (eqb (place k) s) x 0 t in omega (arith, z, r, a, g))
-        | inr t ↦ (let a : total (λ v. cond (eqb w v) x 0) (cond (eqb (place k) s) (k ∷ placed place s (suc k) n) (placed place s (suc k) n)) ≡ total (λ v. cond (eqb w v) x 0) (placed place s (suc k) n) =
+        | inr t ↦ (let a : total (λ v. cond (eqb w v) x 0) (cond (eqb (place k) s) (k ∷ placed place s (suc k) n) (placed place s (suc k) n))
+            ≡ total (λ v. cond (eqb w v) x 0) (placed place s (suc k) n) =
             ap (total (λ v. cond (eqb w v) x 0)) (cond-false (eqb (place k) s) (k ∷ placed place s (suc k) n) (placed place s (suc k) n) t) in
             let g : cond (eqb (place w) s) x 0 ≡ 0 = ap (λ y. cond (eqb (place y) s) x 0) e ∙ cond-false (eqb (place k) s) x 0 t in omega (arith, r, a, g))
       ])
   | inr ne ↦ (let p = placed_once place s w x (suc k) n (omega (arith, ne)) (omega arith) in
       let z = cond-false (eqb w k) x 0 (ne_eqb w k ne) in
       elim (cases_Bool (eqb (place k) s)) [
-        | inl t ↦ (let a : total (λ v. cond (eqb w v) x 0) (cond (eqb (place k) s) (k ∷ placed place s (suc k) n) (placed place s (suc k) n)) ≡ cond (eqb w k) x 0 + total (λ v. cond (eqb w v) x 0) (placed place s (suc k) n) =
+        | inl t ↦ (let a : total (λ v. cond (eqb w v) x 0) (cond (eqb (place k) s) (k ∷ placed place s (suc k) n) (placed place s (suc k) n))
+            ≡ cond (eqb w k) x 0 + total (λ v. cond (eqb w v) x 0) (placed place s (suc k) n) =
             ap (total (λ v. cond (eqb w v) x 0)) (cond-true (eqb (place k) s) (k ∷ placed place s (suc k) n) (placed place s (suc k) n) t) in omega (arith, p, z, a))
-        | inr t ↦ (let a : total (λ v. cond (eqb w v) x 0) (cond (eqb (place k) s) (k ∷ placed place s (suc k) n) (placed place s (suc k) n)) ≡ total (λ v. cond (eqb w v) x 0) (placed place s (suc k) n) =
+        | inr t ↦ (let a : total (λ v. cond (eqb w v) x 0) (cond (eqb (place k) s) (k ∷ placed place s (suc k) n) (placed place s (suc k) n))
+            ≡ total (λ v. cond (eqb w v) x 0) (placed place s (suc k) n) =
             ap (total (λ v. cond (eqb w v) x 0)) (cond-false (eqb (place k) s) (k ∷ placed place s (suc k) n) (placed place s (suc k) n) t) in omega (arith, p, a))
       ])
 ]
@@ -190,7 +205,8 @@ pub own_arcs_most : (N : Network) (place : ℕ → ℕ) (s n i : ℕ) → length
 own_arcs_most N place s n i =
     let a = arcs_out_long N (take i (0 ∷ placed place s 1 n)) in
     let b = total_most (λ v. length (outgoing N v)) (0 ∷ placed place s 1 n) i in
-    let c = total_same (λ v. length (outgoing N v)) (λ v. sum_below (λ b. cond (eqb (N.tail b) v) 1 0) (suc N.arcs)) (0 ∷ placed place s 1 n) (λ v. sym (total_ones (outgoing N v)) ∙ total_out N (λ x. 1) v) in
+    let c = total_same (λ v. length (outgoing N v)) (λ v. sum_below (λ b. cond (eqb (N.tail b) v) 1 0) (suc N.arcs)) (0 ∷ placed place s 1 n)
+    (λ v. sym (total_ones (outgoing N v)) ∙ total_out N (λ x. 1) v) in
     let d = total_swap (λ v b. cond (eqb (N.tail b) v) 1 0) (0 ∷ placed place s 1 n) (suc N.arcs) in
     let e = sum_most (λ b. total (λ v. cond (eqb (N.tail b) v) 1 0) (0 ∷ placed place s 1 n)) (λ b. 1) (suc N.arcs) (λ b. at_most (N.tail b)) in
     let f = sum_ones (suc N.arcs) in omega (arith, a, b, c, d, e, f)

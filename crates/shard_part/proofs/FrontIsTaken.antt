@@ -12,10 +12,10 @@ use Rattle.scholten_core.specs.Items.{item_arc, item_of, pump_made, settle_made,
 use Rattle.scholten_core.proofs.Basics.{put_tells, due_tells}
 use Rattle.shard_part.specs.Tallies.{counted_on, top}
 use Rattle.shard_part.specs.PartState.{PartData, Setup, network_in, place_in, state_in, token_if, mine, vertex_of, IsArc}
-use Rattle.shard_part.specs.Weights.{Lanes, lanes_of, total, is_told, is_back}
+use Rattle.shard_part.specs.Weights.{Channels, channels_of, total, message_weight, signal_weight}
 use Rattle.shard_part.specs.Handling.{routes, route, arrive_here, settle_here, taken, made, HandledItemIn}
 use Rattle.shard_part.specs.Outgoing.{outgoing}
-use Rattle.shard_part.specs.Moves.{Rows, IsStored, IsPlanned, IsPopped, engaged_or_answered, offered, offered_all, rested, with_value, with_free, with_taken}
+use Rattle.shard_part.specs.Moves.{Rows, RepInvariant, IsPlanned, IsPopped, engaged_or_answered, offered, offered_all, rested, with_value, with_free, with_taken}
 use Rattle.shard_part.specs.Part.{OwnIdleIsTold}
 use Rattle.shard_part.proofs.Spread.{table_long}
 use Rattle.shard_part.proofs.InFlight.{outgoing_is}
@@ -40,7 +40,7 @@ pub record IsFit {S V : Type 0} (p : PartData S V) : Type 0 where
   pub signalled : p.signalled ≤ top
   pub accepted : p.accepted ≤ top
 
-pub stored_fit : {S V : Type 0} (p : PartData S V) (r : Rows V) (n : ℕ) (ns : List ℕ) → IsStored p r n ns → IsFit p
+pub stored_fit : {S V : Type 0} (p : PartData S V) (r : Rows V) (n : ℕ) (ns : List ℕ) → RepInvariant p r n ns → IsFit p
 stored_fit p r n ns D = record {
   labels = table_long _ r.labels p.labels None (suc p.setup.question.roads.vertices) D.seen.labels;
   engagers = table_long _ r.engagers p.engagers None (suc p.setup.question.roads.vertices) D.seen.engagers;
@@ -60,7 +60,7 @@ module _ {V : Type 0} (A : Algebra V) where
   others_quiet : Lawful A → (N : Network) (v : ℕ) (d : CoreState V) (xs : List ℕ) → IsOutList A N v xs → (b : ℕ) → (Contains xs b → ⊥) → is_due A N v d b ≡ false
   others_quiet L N v d xs O b n = elim (due_tells A N L v d b) [ inl k ↦ absurd (n (O.all b k.1)) | inr k ↦ k.0 ]
 
-  answer_told : (a : ℕ) (o : Option ℕ) → total is_told (item_of {V = V} a (answer_to o)) ≡ 0
+  answer_told : (a : ℕ) (o : Option ℕ) → total message_weight (item_of {V = V} a (answer_to o)) ≡ 0
   answer_told a None = refl
   answer_told a (Some e) = refl
 
@@ -82,15 +82,15 @@ module _ {S V : Type 0} (A : Algebra V) where
       IsFit p → m ≤ top → (network_in p.setup).head a < length es → (state_in p).engager ((network_in p.setup).head a) ≡ o →
       (λ j. get_or ls j None) ≡ put (state_in p).label ((network_in p.setup).head a) (better_of A x ((state_in p).label ((network_in p.setup).head a))) →
       (λ j. get_or es j None) ≡ put (state_in p).engager ((network_in p.setup).head a) (engaged_by o a) →
-      record { queue = qs; outs = os } ≡ routes (network_in p.setup) (place_in p.setup) p.shard (item_of {V = V} a (answer_to o)) (lanes_of p) →
-      m ≡ counted_on (total is_back (item_of {V = V} a (answer_to o))) p.signalled →
+      record { queue = qs; outs = os } ≡ routes (network_in p.setup) (place_in p.setup) p.shard (item_of {V = V} a (answer_to o)) (channels_of p) →
+      m ≡ counted_on (total signal_weight (item_of {V = V} a (answer_to o))) p.signalled →
       IsDistinct A (network_in p.setup) xs → ((b : ℕ) → Contains xs b → (b < length p.told) × (b < length p.busy)) →
       ((b : ℕ) → (Contains xs b → ⊥) → is_due A (network_in p.setup) ((network_in p.setup).head a) (arrive_here A (network_in p.setup) a x (state_in p)) b ≡ false) →
       pump_made A (network_in p.setup) ((network_in p.setup).head a) (arrive_here A (network_in p.setup) a x (state_in p)) (outgoing (network_in p.setup) ((network_in p.setup).head a))
       ≡ pump_made A (network_in p.setup) ((network_in p.setup).head a) (arrive_here A (network_in p.setup) a x (state_in p)) xs →
       Made A (taken A (network_in p.setup) (MessageOn a x) (state_in p)) (made A (network_in p.setup) (MessageOn a x) (state_in p)) p
       (rested A ((network_in p.setup).head a) (offered_all A ((network_in p.setup).head a) xs (record p { labels = ls; engagers = es; queue = qs; outs = os; signalled = m })))
-  arrived L p a x o ls es qs os m xs F top_m long e label engager lanes back D within quiet same =
+  arrived L p a x o ls es qs os m xs F top_m long e label engager channels back D within quiet same =
       let N = network_in p.setup in
       let v = (network_in p.setup).head a in
       let p2 : PartData S V = record p { labels = ls; engagers = es; queue = qs; outs = os; signalled = m } in
@@ -104,7 +104,7 @@ module _ {S V : Type 0} (A : Algebra V) where
       let T : Made A (settle_here A N v (arrive_here A N a x (state_in p))) (settle_made A N v (arrive_here A N a x (state_in p)) (outgoing N v)) p2 q =
       subst (λ d. Made A (settle_here A N v d) (settle_made A N v d (outgoing N v)) p2 q) here R in
       subst (λ u. Made A (taken A N (MessageOn a x) (state_in p)) (item_of a (answer_to u) ++ settle_made A N v (arrive_here A N a x (state_in p)) (outgoing N v)) p q) (sym e)
-      (made_after A (taken A N (MessageOn a x) (state_in p)) (item_of a (answer_to o)) (settle_made A N v (arrive_here A N a x (state_in p)) (outgoing N v)) p q ls es qs os p.sent m lanes
+      (made_after A (taken A N (MessageOn a x) (state_in p)) (item_of a (answer_to o)) (settle_made A N v (arrive_here A N a x (state_in p)) (outgoing N v)) p q ls es qs os p.sent m channels
       (sym (counted_none p.sent F.sent) ∙ ap (λ k. counted_on k p.sent) (sym (answer_told A a o))) back T)
 
   pub message_taken : Lawful A → (p : PartData S V) (a : ℕ) (x : V) → WellFormed (network_in p.setup) → IsFit p → OwnIdleIsTold p → place_in p.setup ((network_in p.setup).head a) ≡ p.shard →
@@ -139,23 +139,26 @@ module _ {S V : Type 0} (A : Algebra V) where
       old_label : improves A x ((state_in p).label v) ≡ false → (λ j. get_or p.labels j None) ≡ put (state_in p).label v (better_of A x ((state_in p).label v))
       old_label t = unchanged (state_in p).label v (better_of A x ((state_in p).label v)) (sym (worse t))
 
-      answered : Lanes V
-      answered = route N (place_in p.setup) p.shard (SignalOn a) (lanes_of p)
+      answered : Channels V
+      answered = route N (place_in p.setup) p.shard (SignalOn a) (channels_of p)
 
       go : (t : Bool) → improves A x ((state_in p).label v) ≡ t → (o : Option ℕ) → (state_in p).engager v ≡ o →
           Made A (taken A N (MessageOn a x) (state_in p)) (made A N (MessageOn a x) (state_in p)) p
-          (rested A v (cond t (offered_all A v (outgoing N v) (engaged_or_answered a v o (cond t (record p { labels = set p.labels v (Some x) }) p))) (engaged_or_answered a v o (cond t (record p { labels = set p.labels v (Some x) }) p))))
+          (rested A v (cond t (offered_all A v (outgoing N v) (engaged_or_answered a v o (cond t (record p { labels = set p.labels v (Some x) }) p)))
+          (engaged_or_answered a v o (cond t (record p { labels = set p.labels v (Some x) }) p))))
       go true t None e = arrived L p a x None (set p.labels v (Some x)) (set p.engagers v (Some a)) p.queue p.outs p.signalled (outgoing N v) F F.signalled
           (let l = length-set p.engagers v (Some a) in omega (arith, l, long_e)) e (new_label t) (put_set p.engagers v (Some a) None long_e) refl (sym (counted_none p.signalled F.signalled))
           O.distinct (out_within p W F v n) (others_quiet A L N v (arrive_here A N a x (state_in p)) (outgoing N v) O) refl
       go true t (Some f) e = arrived L p a x (Some f) (set p.labels v (Some x)) p.engagers answered.queue answered.outs (counted_on 1 p.signalled) (outgoing N v) F (counted_top 1 p.signalled)
           long_e e (new_label t) (unchanged (state_in p).engager v (Some f) e) refl refl
           O.distinct (out_within p W F v n) (others_quiet A L N v (arrive_here A N a x (state_in p)) (outgoing N v) O) refl
-      go false t None e = subst (λ u. Made A (taken A N (MessageOn a x) (state_in p)) (made A N (MessageOn a x) (state_in p)) p (rested A v u)) (offered_none A v (record p { engagers = set p.engagers v (Some a) }))
+      go false t None e = subst (λ u. Made A (taken A N (MessageOn a x) (state_in p)) (made A N (MessageOn a x) (state_in p)) p (rested A v u))
+          (offered_none A v (record p { engagers = set p.engagers v (Some a) }))
           (arrived L p a x None p.labels (set p.engagers v (Some a)) p.queue p.outs p.signalled [] F F.signalled
           (let l = length-set p.engagers v (Some a) in omega (arith, l, long_e)) e (old_label t) (put_set p.engagers v (Some a) None long_e) refl (sym (counted_none p.signalled F.signalled))
           tt (λ b l. absurd (not_in_empty b l)) (λ b _. quiet t b) (made_nothing A N v (arrive_here A N a x (state_in p)) (outgoing N v) (λ b _. quiet t b)))
-      go false t (Some f) e = subst (λ u. Made A (taken A N (MessageOn a x) (state_in p)) (made A N (MessageOn a x) (state_in p)) p (rested A v u)) (offered_none A v (record p { queue = answered.queue; outs = answered.outs; signalled = counted_on 1 p.signalled }))
+      go false t (Some f) e = subst (λ u. Made A (taken A N (MessageOn a x) (state_in p)) (made A N (MessageOn a x) (state_in p)) p (rested A v u))
+          (offered_none A v (record p { queue = answered.queue; outs = answered.outs; signalled = counted_on 1 p.signalled }))
           (arrived L p a x (Some f) p.labels p.engagers answered.queue answered.outs (counted_on 1 p.signalled) [] F (counted_top 1 p.signalled)
           long_e e (old_label t) (unchanged (state_in p).engager v (Some f) e) refl refl
           tt (λ b l. absurd (not_in_empty b l)) (λ b _. quiet t b) (made_nothing A N v (arrive_here A N a x (state_in p)) (outgoing N v) (λ b _. quiet t b)))
@@ -183,7 +186,7 @@ module _ {S V : Type 0} (A : Algebra V) where
         setup = refl;
         shard = refl;
         tables = record { label = λ v _. refl; engager = λ v _. refl; told = λ b _. refl; idle = λ b _. ap (λ d. is_idle (d.token b)) e };
-        lanes = refl;
+        channels = refl;
         sent = sym (counted_none p.sent F.sent);
         signalled = sym (counted_none p.signalled F.signalled);
         delivered = refl;
@@ -198,16 +201,18 @@ module _ {S V : Type 0} (A : Algebra V) where
       let in_busy : suc k < length p.busy = (out_within p W F v nz (suc k) (O.all (suc k) refl)).1 in
       let in_told : suc k < length p.told = (out_within p W F v nz (suc k) (O.all (suc k) refl)).0 in
       let e = free_is p (suc k) in_busy in
-      let quiet : (b : ℕ) → b ≢ suc k → is_due A N v (freed A N (suc k) (state_in p)) b ≡ false = quiet_signal A N L (mine (place_in p.setup) p.shard) (suc k) (state_in p) (eq-eqb _ _ here) nz (has_told p T) in
+      let quiet : (b : ℕ) → b ≢ suc k → is_due A N v (freed A N (suc k) (state_in p)) b ≡ false = quiet_signal A N L (mine (place_in p.setup) p.shard)
+      (suc k) (state_in p) (eq-eqb _ _ here) nz (has_told p T) in
       let R = settles A v (suc k ∷ []) (outgoing N v) p1 F.sent F.signalled (let l = F.engagers in omega (arith, l, within)) (not_in_empty (suc k), tt)
       (λ b l. elim (head_or_tail (suc k) b [] l) [ inl q ↦ (let s = length-set p.busy (suc k) false in (omega (arith, q, in_told), omega (arith, q, s, in_busy))) | inr z ↦ absurd (not_in_empty b z) ])
       (subst (λ s. (b : ℕ) → (Contains (suc k ∷ []) b → ⊥) → is_due A N v s b ≡ false) (sym e) (λ b m. quiet b (λ q. m (here_as b (suc k) [] q))))
-      (subst (λ s. pump_made A N v s (outgoing N v) ≡ pump_made A N v s (suc k ∷ [])) (sym e) (made_alone A N v (suc k) (freed A N (suc k) (state_in p)) (outgoing N v) O.distinct (O.all (suc k) refl) quiet)) in
+      (subst (λ s. pump_made A N v s (outgoing N v) ≡ pump_made A N v s (suc k ∷ [])) (sym e)
+      (made_alone A N v (suc k) (freed A N (suc k) (state_in p)) (outgoing N v) O.distinct (O.all (suc k) refl) quiet)) in
       let M : Made A (settle_here A N v (freed A N (suc k) (state_in p))) (settle_made A N v (freed A N (suc k) (state_in p)) (outgoing N v)) p1 (rested A v (offered_all A v (suc k ∷ []) p1)) =
       subst (λ s. Made A (settle_here A N v s) (settle_made A N v s (outgoing N v)) p1 (rested A v (offered_all A v (suc k ∷ []) p1))) e R in
       let Q : Made A (settle_here A N v (freed A N (suc k) (state_in p))) (settle_made A N v (freed A N (suc k) (state_in p)) (outgoing N v)) p1 (rested A v (offered A v (suc k) p1)) =
       subst (λ u. Made A (settle_here A N v (freed A N (suc k) (state_in p))) (settle_made A N v (freed A N (suc k) (state_in p)) (outgoing N v)) p1 (rested A v u)) (offered_alone v (suc k) p1) M in
-      record { setup = Q.setup; shard = Q.shard; tables = Q.tables; lanes = Q.lanes; sent = Q.sent; signalled = Q.signalled; delivered = Q.delivered; accepted = Q.accepted }
+      record { setup = Q.setup; shard = Q.shard; tables = Q.tables; channels = Q.channels; sent = Q.sent; signalled = Q.signalled; delivered = Q.delivered; accepted = Q.accepted }
 
   head_within : (p : PartData S V) → IsPlanned p.setup p.shard → (a : ℕ) → IsArc (network_in p.setup) a → (network_in p.setup).head a ≤ p.setup.question.roads.vertices
   head_within p P zero r = let e = head_of_entry p.setup P.source in let s = P.source.1 in omega (arith, e, s)
@@ -222,14 +227,24 @@ module _ {S V : Type 0} (A : Algebra V) where
       place_in p.setup (vertex_of (network_in p.setup) i) ≡ p.shard → HandledItemIn A (network_in p.setup) (place_in p.setup) p i (with_taken A i (record p { queue = zs }))
   handled L p (MessageOn a x) zs P F T front r here =
       let p0 : PartData S V = record p { queue = zs; delivered = counted_on 1 p.delivered } in
-      let M = message_taken L p0 a x (formed p p.shard P) (record { labels = F.labels; engagers = F.engagers; busy = F.busy; told = F.told; sent = F.sent; delivered = counted_top 1 p.delivered; signalled = F.signalled; accepted = F.accepted }) T here r.0 (head_within p P a r) in
+      let M = message_taken L p0 a x (formed p p.shard P)
+      (record {
+        labels = F.labels;
+        engagers = F.engagers;
+        busy = F.busy;
+        told = F.told;
+        sent = F.sent;
+        delivered = counted_top 1 p.delivered;
+        signalled = F.signalled;
+        accepted = F.accepted;
+      }) T here r.0 (head_within p P a r) in
       record {
         rest = zs;
         front = front;
         setup = M.setup;
         shard = M.shard;
         tables = record { label = λ v _. M.tables.label v refl; engager = λ v _. M.tables.engager v refl; told = λ b _. M.tables.told b refl; idle = λ b _. M.tables.idle b refl };
-        lanes = M.lanes;
+        channels = M.channels;
         sent = M.sent;
         signalled = M.signalled;
         delivered = M.delivered;
@@ -237,14 +252,23 @@ module _ {S V : Type 0} (A : Algebra V) where
       }
   handled L p (SignalOn a) zs P F T front r here =
       let p0 : PartData S V = record p { queue = zs; accepted = counted_on 1 p.accepted } in
-      let M = signal_taken L p0 a (formed p p.shard P) (record { labels = F.labels; engagers = F.engagers; busy = F.busy; told = F.told; sent = F.sent; delivered = F.delivered; signalled = F.signalled; accepted = counted_top 1 p.accepted }) T here r.1 (tail_within p P a r) in
+      let M = signal_taken L p0 a (formed p p.shard P) (record {
+        labels = F.labels;
+        engagers = F.engagers;
+        busy = F.busy;
+        told = F.told;
+        sent = F.sent;
+        delivered = F.delivered;
+        signalled = F.signalled;
+        accepted = counted_top 1 p.accepted;
+      }) T here r.1 (tail_within p P a r) in
       record {
         rest = zs;
         front = front;
         setup = M.setup;
         shard = M.shard;
         tables = record { label = λ v _. M.tables.label v refl; engager = λ v _. M.tables.engager v refl; told = λ b _. M.tables.told b refl; idle = λ b _. M.tables.idle b refl };
-        lanes = M.lanes;
+        channels = M.channels;
         sent = M.sent;
         signalled = M.signalled;
         delivered = M.delivered ∙ sym (counted_none p.delivered F.delivered);
@@ -252,7 +276,8 @@ module _ {S V : Type 0} (A : Algebra V) where
       }
 
   -- the front item was taken off the queue, and did what it does
-  pub popped_taken : Lawful A → (p m q : PartData S V) (i : Item V) → IsPlanned p.setup p.shard → IsFit p → OwnIdleIsTold p → IsPopped p m i → q ≡ with_taken A i m → HandledItemIn A (network_in p.setup) (place_in p.setup) p i q
+  pub popped_taken : Lawful A → (p m q : PartData S V) (i : Item V) → IsPlanned p.setup p.shard → IsFit p → OwnIdleIsTold p → IsPopped p m i
+      → q ≡ with_taken A i m → HandledItemIn A (network_in p.setup) (place_in p.setup) p i q
   popped_taken L p m q i P F T O e =
       let s : m.setup ≡ p.setup = ap (λ (u : PartData S V). u.setup) O.same in
       let z : m.shard ≡ p.shard = ap (λ (u : PartData S V). u.shard) O.same in

@@ -10,8 +10,8 @@ use Rattle.road_graph.proofs.Lists.{element_place}
 use Rattle.std.proofs.lemmas.List.Elements.{Contains-get_or}
 use Rattle.shard_part.specs.Plans.{shard_in, HasPlanned}
 use Rattle.shard_part.specs.PartState.{Setup, PartData, network_in, place_in, IsArc}
-use Rattle.shard_part.specs.Outgoing.{outgoing, own_in, arcs_out}
-use Rattle.shard_part.specs.Moves.{Rows, IsStored, IsPlace, IsRow}
+use Rattle.shard_part.specs.Outgoing.{outgoing, local_vertices, arcs_out}
+use Rattle.shard_part.specs.Moves.{Rows, RepInvariant, IsPlace, IsRow}
 use Rattle.std.specs.List.Sorted.{IsStrictlyIncreasing}
 use Rattle.shard_part.proofs.Ascending.{arcs_are}
 use Rattle.shard_part.proofs.Places.{arc_at_place, own_increasing, own_all}
@@ -29,7 +29,8 @@ out_is g s v xs l o =
 pub roads_are : (g : Roads) (s v : ℕ) (rs : List OutRoad) → 1 ≤ v → ListsRoadsFrom g v rs → rs ≡ roads_of g (outgoing (network g s) v)
 roads_are g s v rs l o = o.2 ∙ ap (roads_of g) (out_is g s v o.0 l o.1)
 
-pub road_is : (g : Roads) (s v k b : ℕ) (rs : List OutRoad) (d : OutRoad) → rs ≡ roads_of g (outgoing (network g s) v) → k < length (outgoing (network g s) v) → get_or (outgoing (network g s) v) k 0 ≡ b → (k < length rs) × (get_or rs k d ≡ road_of (arc_of g b))
+pub road_is : (g : Roads) (s v k b : ℕ) (rs : List OutRoad) (d : OutRoad) → rs ≡ roads_of g (outgoing (network g s) v)
+    → k < length (outgoing (network g s) v) → get_or (outgoing (network g s) v) k 0 ≡ b → (k < length rs) × (get_or rs k d ≡ road_of (arc_of g b))
 road_is g s v k b rs d e l h = (
   (let z = ap (λ (ys : List OutRoad). length ys) e in let y = length-map (outgoing (network g s) v) (λ a. road_of (arc_of g a)) in omega (arith, z, y, l)),
   ap (λ ys. get_or ys k d) e ∙ get_or-map (λ a. road_of (arc_of g a)) (outgoing (network g s) v) k 0 d l ∙ ap (λ a. road_of (arc_of g a)) h,
@@ -55,11 +56,13 @@ module _ {S : Type 0} (t : Setup S) where
   pub graph_arc : (b : ℕ) → b ≢ 0 → IsArc (network_in t) b → HasArc t.question.roads b
   graph_arc b n r = real_arc t.question.roads b (r.1 n)
 
-  pub head_of_arc : IsRoads t.question.roads → (b : ℕ) → b ≢ 0 → IsArc (network_in t) b → ((network_in t).head b ≡ (arc_of t.question.roads b).head) × (1 ≤ (network_in t).head b) × ((network_in t).head b ≤ t.question.roads.vertices)
+  pub head_of_arc : IsRoads t.question.roads → (b : ℕ) → b ≢ 0 → IsArc (network_in t) b → ((network_in t).head b ≡ (arc_of t.question.roads b).head)
+      × (1 ≤ (network_in t).head b) × ((network_in t).head b ≤ t.question.roads.vertices)
   head_of_arc R b n r = let h = graph_arc b n r in let e = head-arc t.question.roads t.question.source b h.0 in let j = (R.ends b h).1 in
       (e, (let a = j.0 in omega (arith, e, a)), (let a = j.1 in omega (arith, e, a)))
 
-  pub tail_of_arc : IsRoads t.question.roads → (b : ℕ) → b ≢ 0 → IsArc (network_in t) b → ((network_in t).tail b ≡ (arc_of t.question.roads b).tail) × (1 ≤ (network_in t).tail b) × ((network_in t).tail b ≤ t.question.roads.vertices)
+  pub tail_of_arc : IsRoads t.question.roads → (b : ℕ) → b ≢ 0 → IsArc (network_in t) b → ((network_in t).tail b ≡ (arc_of t.question.roads b).tail)
+      × (1 ≤ (network_in t).tail b) × ((network_in t).tail b ≤ t.question.roads.vertices)
   tail_of_arc R b n r = let h = graph_arc b n r in let e = tail-arc t.question.roads b h.0 in let j = (R.ends b h).0 in
       (e, (let a = j.0 in omega (arith, e, a)), (let a = j.1 in omega (arith, e, a)))
 
@@ -71,36 +74,41 @@ module _ {S : Type 0} (t : Setup S) where
 
 module _ {S V : Type 0} where
   -- where the arcs of a place begin
-  pub row_leaves : (p old : PartData S V) (r : Rows V) (n : ℕ) (ns : List ℕ) (v j k d : ℕ) → p ≡ old → IsStored p r n ns → IsPlace old v j → k < length (outgoing (network_in old.setup) v) → d ≡ get_or r.offsets j 0 →
+  pub row_leaves : (p old : PartData S V) (r : Rows V) (n : ℕ) (ns : List ℕ) (v j k d : ℕ) → p ≡ old → RepInvariant p r n ns → IsPlace old v j
+      → k < length (outgoing (network_in old.setup) v) → d ≡ get_or r.offsets j 0 →
       (d + k < length r.busy) × IsRow old (get_or (outgoing (network_in old.setup) v) k 0) (d + k)
   row_leaves p old r n ns v j k d e D Q l h =
       let P : IsPlace p v j = subst (λ (u : PartData S V). IsPlace u v j) (sym e) Q in
-      let l2 : k < length (outgoing (network_in p.setup) (get_or (own_in p.setup p.shard) j 0)) = subst (λ w. k < length (outgoing (network_in p.setup) w)) (sym P.vertex) (subst (λ (u : PartData S V). k < length (outgoing (network_in u.setup) v)) (sym e) l) in
-      let A = arc_at_place (network_in p.setup) (own_in p.setup p.shard) j k P.inside l2 in
-      let o : d ≡ length (arcs_out (network_in p.setup) (take j (own_in p.setup p.shard))) = h ∙ D.sized.starts j P.inside in (
+      let l2 : k < length (outgoing (network_in p.setup) (get_or (local_vertices p.setup p.shard) j 0)) = subst
+      (λ w. k < length (outgoing (network_in p.setup) w)) (sym P.vertex)
+      (subst (λ (u : PartData S V). k < length (outgoing (network_in u.setup) v)) (sym e) l) in
+      let A = arc_at_place (network_in p.setup) (local_vertices p.setup p.shard) j k P.inside l2 in
+      let o : d ≡ length (arcs_out (network_in p.setup) (take j (local_vertices p.setup p.shard))) = h ∙ D.sized.starts j P.inside in (
         (let a = A.0 in let b = D.sized.busy in omega (arith, a, b, o)),
         subst (λ (u : PartData S V). IsRow u (get_or (outgoing (network_in u.setup) v) k 0) (d + k)) e (record {
           inside = (let a = A.0 in omega (arith, a, o));
-          arc = ap (λ i. get_or (arcs_out (network_in p.setup) (own_in p.setup p.shard)) (i + k) 0) o ∙ A.1 ∙ ap (λ w. get_or (outgoing (network_in p.setup) w) k 0) P.vertex;
+          arc = ap (λ i. get_or (arcs_out (network_in p.setup) (local_vertices p.setup p.shard)) (i + k) 0) o ∙ A.1 ∙ ap (λ w. get_or (outgoing (network_in p.setup) w) k 0) P.vertex;
         }),
       )
 
-  pub own_rising : (p old : PartData S V) (r : Rows V) (n : ℕ) (ns : List ℕ) (xs : List ℕ) (v : ℕ) → p ≡ old → IsStored p r n ns → xs ≡ r.own → v ≤ old.setup.question.roads.vertices → (v ≢ 0 → place_in old.setup v ≡ old.shard) → IsStrictlyIncreasing xs × Contains xs v
+  pub own_rising : (p old : PartData S V) (r : Rows V) (n : ℕ) (ns : List ℕ) (xs : List ℕ) (v : ℕ) → p ≡ old → RepInvariant p r n ns → xs ≡ r.own
+      → v ≤ old.setup.question.roads.vertices → (v ≢ 0 → place_in old.setup v ≡ old.shard) → IsStrictlyIncreasing xs × Contains xs v
   own_rising p old r n ns xs v e D x l h =
       let A = own_all p.setup p.shard v (subst (λ (u : PartData S V). v ≤ u.setup.question.roads.vertices) (sym e) l) (subst (λ (u : PartData S V). v ≢ 0 → place_in u.setup v ≡ u.shard) (sym e) h) in
       subst (λ ys. IsStrictlyIncreasing ys × Contains ys v) (sym (x ∙ D.sized.own)) (
         own_increasing p.setup p.shard,
-        (A.0, A.1, get_or_default_zero (own_in p.setup p.shard) A.0 v A.1 ∙ A.2),
+        (A.0, A.1, get_or_default_zero (local_vertices p.setup p.shard) A.0 v A.1 ∙ A.2),
       )
 
-  pub place_leaves : (p old : PartData S V) (r : Rows V) (n : ℕ) (ns : List ℕ) (xs : List ℕ) (v j : ℕ) → p ≡ old → IsStored p r n ns → xs ≡ r.own → j < length xs → get_or xs j 0 ≡ v → IsPlace old v j
+  pub place_leaves : (p old : PartData S V) (r : Rows V) (n : ℕ) (ns : List ℕ) (xs : List ℕ) (v j : ℕ) → p ≡ old → RepInvariant p r n ns → xs ≡ r.own
+      → j < length xs → get_or xs j 0 ≡ v → IsPlace old v j
   place_leaves p old r n ns xs v j e D x l h = subst (λ (u : PartData S V). IsPlace u v j) e (record {
     inside = subst (λ ys. j < length ys) (x ∙ D.sized.own) l;
     vertex = ap (λ ys. get_or ys j 0) (sym (x ∙ D.sized.own)) ∙ h;
   })
 
   -- the head and the tail of an arc, the environment's among them
-  pub arc_in_graph : (p old : PartData S V) (r : Rows V) (n : ℕ) (ns : List ℕ) (a : ℕ) → p ≡ old → IsStored p r n ns → IsArc (network_in old.setup) a → a ≢ 0 → HasArc p.setup.question.roads a
+  pub arc_in_graph : (p old : PartData S V) (r : Rows V) (n : ℕ) (ns : List ℕ) (a : ℕ) → p ≡ old → RepInvariant p r n ns → IsArc (network_in old.setup) a → a ≢ 0 → HasArc p.setup.question.roads a
   arc_in_graph p old r n ns a e D h nz = graph_arc p.setup a nz (subst (λ (u : PartData S V). IsArc (network_in u.setup) a) (sym e) h)
 
   -- an arc is the environment's, or one of the graph's
@@ -110,14 +118,19 @@ module _ {S V : Type 0} where
     | inr n ↦ (graph_arc p.setup a n (subst (λ (u : PartData S V). IsArc (network_in u.setup) a) (sym e) h)).1
   ]
 
-  pub head_arc_is : (p old : PartData S V) (r : Rows V) (n : ℕ) (ns : List ℕ) (a : ℕ) → p ≡ old → IsStored p r n ns → IsArc (network_in old.setup) a → a ≢ 0 →
-      ((arc_of p.setup.question.roads a).head ≡ (network_in old.setup).head a) × (1 ≤ (arc_of p.setup.question.roads a).head) × ((arc_of p.setup.question.roads a).head ≤ old.setup.question.roads.vertices)
+  pub head_arc_is : (p old : PartData S V) (r : Rows V) (n : ℕ) (ns : List ℕ) (a : ℕ) → p ≡ old → RepInvariant p r n ns → IsArc (network_in old.setup) a → a ≢ 0 →
+      ((arc_of p.setup.question.roads a).head ≡ (network_in old.setup).head a) × (1 ≤ (arc_of p.setup.question.roads a).head)
+      × ((arc_of p.setup.question.roads a).head ≤ old.setup.question.roads.vertices)
   head_arc_is p old r n ns a e D h nz =
-      let g = arc_in_graph p old r n ns a e D h nz in let j = (D.planned.roads.ends a g).1 in
-      (sym (head-arc p.setup.question.roads p.setup.question.source a g.0) ∙ ap (λ (u : PartData S V). (network_in u.setup).head a) e, j.0, subst (λ (u : PartData S V). (arc_of p.setup.question.roads a).head ≤ u.setup.question.roads.vertices) e j.1)
+      let g = arc_in_graph p old r n ns a e D h nz in let j = (D.planned.roads.ends a g).1 in (
+        sym (head-arc p.setup.question.roads p.setup.question.source a g.0) ∙ ap (λ (u : PartData S V). (network_in u.setup).head a) e,
+        j.0,
+        subst (λ (u : PartData S V). (arc_of p.setup.question.roads a).head ≤ u.setup.question.roads.vertices) e j.1,
+      )
 
   -- the head of an arc, as the graph tells it
-  pub head_told : (p old : PartData S V) (r : Rows V) (n : ℕ) (ns : List ℕ) (b w : ℕ) → p ≡ old → IsStored p r n ns → IsArc (network_in old.setup) b → b ≢ 0 → w ≡ (arc_of old.setup.question.roads b).head →
+  pub head_told : (p old : PartData S V) (r : Rows V) (n : ℕ) (ns : List ℕ) (b w : ℕ) → p ≡ old → RepInvariant p r n ns
+      → IsArc (network_in old.setup) b → b ≢ 0 → w ≡ (arc_of old.setup.question.roads b).head →
       (w ≡ (network_in old.setup).head b) × HasPlanned p.setup.plan w
   head_told p old r n ns b w e D h nz is =
       let H = head_arc_is p old r n ns b e D h nz in
@@ -125,5 +138,6 @@ module _ {S V : Type 0} where
       let v = ap (λ (u : PartData S V). u.setup.question.roads.vertices) e in let k = D.planned.covers in let low = H.1 in let high = H.2 in
       (q ∙ H.0, ((omega (arith, q, low)), (omega (arith, q, high, v, k))))
 
-  pub shard_is : (p old : PartData S V) (r : Rows V) (n : ℕ) (ns : List ℕ) (v w : ℕ) → p ≡ old → IsStored p r n ns → ((v ≡ 0) × (w ≡ p.setup.question.source)) ⊎ ((1 ≤ v) × (w ≡ v)) → shard_in p.setup.plan w ≡ place_in old.setup v
+  pub shard_is : (p old : PartData S V) (r : Rows V) (n : ℕ) (ns : List ℕ) (v w : ℕ) → p ≡ old → RepInvariant p r n ns
+      → ((v ≡ 0) × (w ≡ p.setup.question.source)) ⊎ ((1 ≤ v) × (w ≡ v)) → shard_in p.setup.plan w ≡ place_in old.setup v
   shard_is p old r n ns v w e D h = sym (placed_as p.setup v w D.planned.source.0 h) ∙ ap (λ (u : PartData S V). place_in u.setup v) e

@@ -41,7 +41,8 @@ module _ {V : Type 0} (A : Algebra V) (N : Network) where
       ]) in
       let by = total_by_arc A N f (suc N.arcs) is none in
       let add = sum_add (λ b. total f (item_of b (c.token b))) (λ b. total f (at b is)) (suc N.arcs) in
-      let differ = sum_at (λ b. total f (item_of b (d.token b))) (λ b. total f (item_of b (c.token b)) + total f (at b is)) a (suc N.arcs) lt (λ b ne. (elim (other b ne) as (λ _. total f (item_of b (d.token b)) ≡ total f (item_of b (c.token b)) + total f (at b is)) [
+      let differ = sum_at (λ b. total f (item_of b (d.token b))) (λ b. total f (item_of b (c.token b)) + total f (at b is)) a (suc N.arcs) lt
+      (λ b ne. (elim (other b ne) as (λ _. total f (item_of b (d.token b)) ≡ total f (item_of b (c.token b)) + total f (at b is)) [
         | inl k ↦ (let p = ap (λ t. total f (item_of b t)) k.0 in let q = ap (total f) k.1 in omega (arith, p, q))
         | inr k ↦ (let p = ap (total f) k.0 in let q = ap (total f) k.1 in omega (arith, p, q))
       ])) in
@@ -73,7 +74,8 @@ module _ {V : Type 0} (A : Algebra V) (N : Network) where
   arcs_from-all : (v k n b : ℕ) → N.tail b ≡ v → k ≤ b → b < k + n → Contains (arcs_from N v k n) b
   arcs_from-all v k zero b e l h = absurd (omega (arith, l, h))
   arcs_from-all v k (suc n) b e l h = elim (cases_eq b k) [
-    | inl q ↦ subst (λ ys. Contains ys b) (sym (cond-true (eqb (N.tail k) v) (k ∷ arcs_from N v (suc k) n) (arcs_from N v (suc k) n) (eq-eqb (N.tail k) v (ap N.tail (sym q) ∙ e)))) (here_as b k (arcs_from N v (suc k) n) q)
+    | inl q ↦ subst (λ ys. Contains ys b) (sym (cond-true (eqb (N.tail k) v) (k ∷ arcs_from N v (suc k) n) (arcs_from N v (suc k) n)
+        (eq-eqb (N.tail k) v (ap N.tail (sym q) ∙ e)))) (here_as b k (arcs_from N v (suc k) n) q)
     | inr ne ↦ (let r = arcs_from-all v (suc k) n b e (omega (arith, l, ne)) (omega (arith, h)) in elim (cases_Bool (eqb (N.tail k) v)) [
       | inl t ↦ subst (λ ys. Contains ys b) (sym (cond-true (eqb (N.tail k) v) (k ∷ arcs_from N v (suc k) n) (arcs_from N v (suc k) n) t)) (later k b (arcs_from N v (suc k) n) r)
       | inr f ↦ subst (λ ys. Contains ys b) (sym (cond-false (eqb (N.tail k) v) (k ∷ arcs_from N v (suc k) n) (arcs_from N v (suc k) n) f)) r
@@ -83,7 +85,8 @@ module _ {V : Type 0} (A : Algebra V) (N : Network) where
   arcs_from-distinct : (v k n : ℕ) → IsDistinct A N (arcs_from N v k n)
   arcs_from-distinct v k zero = tt
   arcs_from-distinct v k (suc n) = elim (cases_Bool (eqb (N.tail k) v)) [
-    | inl t ↦ subst (IsDistinct A N) (sym (cond-true (eqb (N.tail k) v) (k ∷ arcs_from N v (suc k) n) (arcs_from N v (suc k) n) t)) ((λ l. let r = arcs_from-least v (suc k) n k l in omega (arith, r)), arcs_from-distinct v (suc k) n)
+    | inl t ↦ subst (IsDistinct A N) (sym (cond-true (eqb (N.tail k) v) (k ∷ arcs_from N v (suc k) n) (arcs_from N v (suc k) n) t))
+        ((λ l. let r = arcs_from-least v (suc k) n k l in omega (arith, r)), arcs_from-distinct v (suc k) n)
     | inr f ↦ subst (IsDistinct A N) (sym (cond-false (eqb (N.tail k) v) (k ∷ arcs_from N v (suc k) n) (arcs_from N v (suc k) n) f)) (arcs_from-distinct v (suc k) n)
   ]
 
@@ -96,12 +99,18 @@ module _ {V : Type 0} (A : Algebra V) (N : Network) where
 
   module _ (place : ℕ → ℕ) where
     pub message_weighs : Lawful A → WellFormed N → (a : ℕ) (x : V) (c : CoreState V) (h : ℕ → Item V → ℕ) → a < suc N.arcs → N.head a ≢ 0 → c.token a ≡ Message x → Kept A N 0 c →
-        in_flight N place (step A N c (Deliver a)) h + at_place N place h (MessageOn a x) ≡ in_flight N place c h + total (at_place N place h) (item_of a (answer_to (c.engager (N.head a))) ++ settle_made A N (N.head a) (arrive A N a x c) (outgoing N (N.head a)))
+        in_flight N place (step A N c (Deliver a)) h + at_place N place h (MessageOn a x)
+        ≡ in_flight N place c h + total (at_place N place h) (item_of a (answer_to (c.engager (N.head a)))
+        ++ settle_made A N (N.head a) (arrive A N a x c) (outgoing N (N.head a)))
     message_weighs L W a x c h lt hn q K =
         let M = message_makes A N L W a x c (outgoing N (N.head a)) q K (outgoing_is W (N.head a) hn) in
         let to : step A N c (Deliver a) ≡ settle A N (N.head a) (arrive A N a x c) = ap (delivered A N a c) q in
-        subst (λ d. in_flight N place d h + at_place N place h (MessageOn a x) ≡ in_flight N place c h + total (at_place N place h) (item_of a (answer_to (c.engager (N.head a))) ++ settle_made A N (N.head a) (arrive A N a x c) (outgoing N (N.head a)))) (sym to)
-        (event_weighs (at_place N place h) c (settle A N (N.head a) (arrive A N a x c)) a (MessageOn a x) (item_of a (answer_to (c.engager (N.head a))) ++ settle_made A N (N.head a) (arrive A N a x c) (outgoing N (N.head a))) lt (past_idle W c K)
+        subst (λ d. in_flight N place d h + at_place N place h (MessageOn a x)
+        ≡ in_flight N place c h + total (at_place N place h) (item_of a (answer_to (c.engager (N.head a)))
+        ++ settle_made A N (N.head a) (arrive A N a x c) (outgoing N (N.head a)))) (sym to)
+        (event_weighs (at_place N place h) c (settle A N (N.head a) (arrive A N a x c)) a (MessageOn a x)
+        (item_of a (answer_to (c.engager (N.head a))) ++ settle_made A N (N.head a) (arrive A N a x c) (outgoing N (N.head a))) lt
+        (past_idle W c K)
         (subst (λ d. (b : ℕ) → suc N.arcs ≤ b → d.token b ≡ Idle) to (past_idle W (step A N c (Deliver a)) (step_kept A N L W c (Deliver a) K)))
         (ap (item_of a) q) M.0 M.1)
 

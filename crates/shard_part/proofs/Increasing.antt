@@ -22,7 +22,8 @@ climbs xs h i (suc d) (suc j) e l =
     let r = climbs xs h i d j (omega (arith, e)) (omega (arith, l)) in let s = AllPairs-from_increasing xs h j (suc j) 0 (omega arith) l in omega (arith, r, s)
 
 -- where the first and the last are as far apart as there are places between, the numbers follow one another
-pub follow_first : (xs : List ℕ) (first last : ℕ) → IsStrictlyIncreasing xs → first ≡ get_or xs 0 1 → last ≡ get_or xs (length xs - 1) 0 → first + length xs ≡ last + 1 → xs ≡ range_with_len first (length xs)
+pub follow_first : (xs : List ℕ) (first last : ℕ) → IsStrictlyIncreasing xs → first ≡ get_or xs 0 1 → last ≡ get_or xs (length xs - 1) 0
+    → first + length xs ≡ last + 1 → xs ≡ range_with_len first (length xs)
 follow_first xs first last h low high far = same_number_lists xs (range_with_len first (length xs)) (sym (length-range_with_len first (length xs))) (λ k l.
     let a = climbs xs h 0 k k (omega arith) l in
     let b = climbs xs h k (length xs - 1 - k) (length xs - 1) (omega (arith, l)) (omega (arith, l)) in

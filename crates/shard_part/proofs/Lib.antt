@@ -1,41 +1,41 @@
 pub mod Weights
-pub mod InFlight
-pub mod Here
-pub mod Quick
+mod InFlight
+mod Here
+mod Quick
 pub mod Routed
-pub mod TakenIsEvent
+mod TakenIsEvent
 pub mod Showing
 pub mod Room
-pub mod Sound
-pub mod RingsSuffice
-pub mod Ascending
-pub mod Readable
-pub mod Blocks
-pub mod Spread
-pub mod Places
-pub mod Moves
-pub mod Busy
-pub mod Rings
+mod Sound
+mod RingsSuffice
+mod Ascending
+mod Readable
+mod Blocks
+mod Spread
+mod Places
+mod Moves
+mod Busy
+mod Rings
 pub mod Graphs
-pub mod Increasing
-pub mod Offers
-pub mod Pumping
-pub mod OffersArePumped
-pub mod VertexSettles
-pub mod FrontIsTaken
-pub mod ToldKept
+mod Increasing
+mod Offers
+mod Pumping
+mod OffersArePumped
+mod VertexSettles
+mod FrontIsTaken
+mod ToldKept
 pub mod TakenCounts
-pub mod TakenShown
+mod TakenShown
 pub mod Counting
-pub mod CapacitiesByVertex
+mod CapacitiesByVertex
 pub mod Opened
-pub mod Receiving
-pub mod ShardLayouts
-pub mod BatchFits
-pub mod TablesOpen
+mod Receiving
+mod ShardLayouts
+mod BatchFits
+mod TablesOpen
 pub mod OpenedAll
 pub mod Sharing
 pub mod Exact
 pub mod Arriving
-pub mod Records
+mod Records
 pub mod UnderWay

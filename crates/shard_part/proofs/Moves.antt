@@ -5,12 +5,12 @@ use Rattle.scholten_core.specs.Network.{WellFormed}
 use Rattle.scholten_core.specs.Sums.{one_if}
 use Rattle.scholten_core.specs.Items.{item_arc}
 use Rattle.scholten_core.proofs.Networks.{well_formed}
-use Rattle.shard_part.specs.Tables.{spread, IsApart}
+use Rattle.shard_part.specs.Tables.{scatter, IsApart}
 use Rattle.shard_part.specs.PartState.{PartData, state_in, network_in, place_in, IsArc}
-use Rattle.shard_part.specs.Outgoing.{own_in, arcs_out}
+use Rattle.shard_part.specs.Outgoing.{local_vertices, arcs_out}
 use Rattle.shard_part.specs.Weights.{is, part_weight}
-use Rattle.shard_part.specs.Sound.{names, engages, idles, IsSound, IsClear}
-use Rattle.shard_part.specs.Moves.{Rows, IsPlanned, IsStored, IsPlace, IsRow}
+use Rattle.shard_part.specs.LocalInvariant.{names, engages, idles, LocalInvariant, IsClear}
+use Rattle.shard_part.specs.Moves.{Rows, IsPlanned, RepInvariant, IsPlace, IsRow}
 use Rattle.shard_part.proofs.Spread.{table_read, table_write, table_long}
 use Rattle.shard_part.proofs.Places.{own_apart, own_below, own_placed, arcs_apart, arc_owner}
 use Rattle.scholten_core.proofs.Sums.{one_if-most}
@@ -29,54 +29,81 @@ module _ {S V : Type 0} where
   below p v j P = let b = own_below p.setup p.shard j P.inside in let e = P.vertex in omega (arith, b, e)
 
   pub arc_below : (p : PartData S V) (b i : ℕ) → IsRow p b i → b < suc (length p.setup.question.roads.arcs)
-  arc_below p b i P = let o = (arc_owner (network_in p.setup) (own_in p.setup p.shard) i P.inside).3 in let e = P.arc in omega (arith, o, e)
+  arc_below p b i P = let o = (arc_owner (network_in p.setup) (local_vertices p.setup p.shard) i P.inside).3 in let e = P.arc in omega (arith, o, e)
 
-  pub apart : (p : PartData S V) → IsApart (arcs_out (network_in p.setup) (own_in p.setup p.shard))
-  apart p = arcs_apart (network_in p.setup) (own_in p.setup p.shard) (own_apart p.setup p.shard)
+  pub apart : (p : PartData S V) → IsApart (arcs_out (network_in p.setup) (local_vertices p.setup p.shard))
+  apart p = arcs_apart (network_in p.setup) (local_vertices p.setup p.shard) (own_apart p.setup p.shard)
 
   -- a vertex with a place is of the shard
   pub mine_at : (p : PartData S V) (v j : ℕ) → IsPlace p v j → v ≢ 0 → place_in p.setup v ≡ p.shard
   mine_at p v j P nz = subst (λ k. place_in p.setup k ≡ p.shard) P.vertex (own_placed p.setup p.shard j P.inside (λ w. nz (sym P.vertex ∙ w)))
 
   -- reads
-  pub label_read : (p old : PartData S V) (r : Rows V) (n : ℕ) (ns : List ℕ) (v j : ℕ) (x : Option V) → p ≡ old → IsStored p r n ns → IsPlace old v j → x ≡ get_or r.labels j None → x ≡ get_or old.labels v None
+  pub label_read : (p old : PartData S V) (r : Rows V) (n : ℕ) (ns : List ℕ) (v j : ℕ) (x : Option V) → p ≡ old → RepInvariant p r n ns
+      → IsPlace old v j → x ≡ get_or r.labels j None → x ≡ get_or old.labels v None
   label_read p old r n ns v j x e D Q h = let P = place_at p old v j e Q in
-      table_read (own_in p.setup p.shard) r.labels p.labels None (suc p.setup.question.roads.vertices) j v x D.seen.labels (own_apart p.setup p.shard) P.inside D.sized.labels P.vertex (below p v j P) h
+      table_read (local_vertices p.setup p.shard) r.labels p.labels None (suc p.setup.question.roads.vertices) j v x D.seen.labels
+      (own_apart p.setup p.shard) P.inside D.sized.labels P.vertex (below p v j P) h
       ∙ ap (λ (u : PartData S V). get_or u.labels v None) e
 
-  pub engager_read : (p old : PartData S V) (r : Rows V) (n : ℕ) (ns : List ℕ) (v j : ℕ) (x : Option ℕ) → p ≡ old → IsStored p r n ns → IsPlace old v j → x ≡ get_or r.engagers j None → x ≡ get_or old.engagers v None
+  pub engager_read : (p old : PartData S V) (r : Rows V) (n : ℕ) (ns : List ℕ) (v j : ℕ) (x : Option ℕ) → p ≡ old → RepInvariant p r n ns
+      → IsPlace old v j → x ≡ get_or r.engagers j None → x ≡ get_or old.engagers v None
   engager_read p old r n ns v j x e D Q h = let P = place_at p old v j e Q in
-      table_read (own_in p.setup p.shard) r.engagers p.engagers None (suc p.setup.question.roads.vertices) j v x D.seen.engagers (own_apart p.setup p.shard) P.inside D.sized.engagers P.vertex (below p v j P) h
+      table_read (local_vertices p.setup p.shard) r.engagers p.engagers None (suc p.setup.question.roads.vertices) j v x D.seen.engagers
+      (own_apart p.setup p.shard) P.inside D.sized.engagers P.vertex (below p v j P) h
       ∙ ap (λ (u : PartData S V). get_or u.engagers v None) e
 
-  pub busy_read : (p old : PartData S V) (r : Rows V) (n : ℕ) (ns : List ℕ) (b i : ℕ) (x : Bool) → p ≡ old → IsStored p r n ns → IsRow old b i → x ≡ get_or r.busy i false → x ≡ get_or old.busy b false
+  pub busy_read : (p old : PartData S V) (r : Rows V) (n : ℕ) (ns : List ℕ) (b i : ℕ) (x : Bool) → p ≡ old → RepInvariant p r n ns → IsRow old b i
+      → x ≡ get_or r.busy i false → x ≡ get_or old.busy b false
   busy_read p old r n ns b i x e D Q h = let P = row_at p old b i e Q in
-      table_read (arcs_out (network_in p.setup) (own_in p.setup p.shard)) r.busy p.busy false (suc (length p.setup.question.roads.arcs)) i b x D.seen.busy (apart p) P.inside D.sized.busy P.arc (arc_below p b i P) h
+      table_read (arcs_out (network_in p.setup) (local_vertices p.setup p.shard)) r.busy p.busy false
+      (suc (length p.setup.question.roads.arcs)) i b x D.seen.busy (apart p) P.inside D.sized.busy P.arc (arc_below p b i P) h
       ∙ ap (λ (u : PartData S V). get_or u.busy b false) e
 
-  pub told_read : (p old : PartData S V) (r : Rows V) (n : ℕ) (ns : List ℕ) (b i : ℕ) (x : Option V) → p ≡ old → IsStored p r n ns → IsRow old b i → x ≡ get_or r.told i None → x ≡ get_or old.told b None
+  pub told_read : (p old : PartData S V) (r : Rows V) (n : ℕ) (ns : List ℕ) (b i : ℕ) (x : Option V) → p ≡ old → RepInvariant p r n ns → IsRow old b i
+      → x ≡ get_or r.told i None → x ≡ get_or old.told b None
   told_read p old r n ns b i x e D Q h = let P = row_at p old b i e Q in
-      table_read (arcs_out (network_in p.setup) (own_in p.setup p.shard)) r.told p.told None (suc (length p.setup.question.roads.arcs)) i b x D.seen.told (apart p) P.inside D.sized.told P.arc (arc_below p b i P) h
+      table_read (arcs_out (network_in p.setup) (local_vertices p.setup p.shard)) r.told p.told None
+      (suc (length p.setup.question.roads.arcs)) i b x D.seen.told (apart p) P.inside D.sized.told P.arc (arc_below p b i P) h
       ∙ ap (λ (u : PartData S V). get_or u.told b None) e
 
   -- a label is written
-  pub label_leaves : (p old : PartData S V) (r : Rows V) (n : ℕ) (ns : List ℕ) (v j : ℕ) (x : Option V) → p ≡ old → IsStored p r n ns → IsPlace old v j →
-      record p { labels = spread (own_in p.setup p.shard) (set r.labels j x) None (suc p.setup.question.roads.vertices) } ≡ record old { labels = set old.labels v x }
+  pub label_leaves : (p old : PartData S V) (r : Rows V) (n : ℕ) (ns : List ℕ) (v j : ℕ) (x : Option V) → p ≡ old → RepInvariant p r n ns → IsPlace old v j →
+      record p { labels = scatter (local_vertices p.setup p.shard) (set r.labels j x) None (suc p.setup.question.roads.vertices) } ≡ record old { labels = set old.labels v x }
   label_leaves p old r n ns v j x e D Q = let P = place_at p old v j e Q in
-      ap (λ (ys : List (Option V)). record p { labels = ys }) (table_write (own_in p.setup p.shard) r.labels p.labels None (suc p.setup.question.roads.vertices) j v x D.seen.labels (own_apart p.setup p.shard) P.inside D.sized.labels P.vertex)
+      ap (λ (ys : List (Option V)). record p { labels = ys })
+      (table_write (local_vertices p.setup p.shard) r.labels p.labels None (suc p.setup.question.roads.vertices) j v x D.seen.labels
+      (own_apart p.setup p.shard) P.inside D.sized.labels P.vertex)
       ∙ ap (λ (u : PartData S V). record u { labels = set u.labels v x }) e
 
-  pub told_leaves : (p old : PartData S V) (r : Rows V) (n : ℕ) (ns : List ℕ) (b i : ℕ) (x : Option V) → p ≡ old → IsStored p r n ns → IsRow old b i →
-      record p { told = spread (arcs_out (network_in p.setup) (own_in p.setup p.shard)) (set r.told i x) None (suc (length p.setup.question.roads.arcs)) } ≡ record old { told = set old.told b x }
+  pub told_leaves : (p old : PartData S V) (r : Rows V) (n : ℕ) (ns : List ℕ) (b i : ℕ) (x : Option V) → p ≡ old → RepInvariant p r n ns → IsRow old b i →
+      record p {
+        told = scatter (arcs_out (network_in p.setup) (local_vertices p.setup p.shard)) (set r.told i x) None
+            (suc (length p.setup.question.roads.arcs));
+      } ≡ record old { told = set old.told b x }
   told_leaves p old r n ns b i x e D Q = let P = row_at p old b i e Q in
-      ap (λ (ys : List (Option V)). record p { told = ys }) (table_write (arcs_out (network_in p.setup) (own_in p.setup p.shard)) r.told p.told None (suc (length p.setup.question.roads.arcs)) i b x D.seen.told (apart p) P.inside D.sized.told P.arc)
+      ap (λ (ys : List (Option V)). record p { told = ys })
+      (table_write (arcs_out (network_in p.setup) (local_vertices p.setup p.shard)) r.told p.told None
+      (suc (length p.setup.question.roads.arcs)) i b x D.seen.told (apart p) P.inside D.sized.told P.arc)
       ∙ ap (λ (u : PartData S V). record u { told = set u.told b x }) e
 
-  pub told_keeps : (p : PartData S V) (r : Rows V) (n : ℕ) (ns : List ℕ) (i : ℕ) (x : Option V) → IsStored p r n ns →
-      IsStored (record p { told = spread (arcs_out (network_in p.setup) (own_in p.setup p.shard)) (set r.told i x) None (suc (length p.setup.question.roads.arcs)) }) (record r { told = set r.told i x }) n ns
+  pub told_keeps : (p : PartData S V) (r : Rows V) (n : ℕ) (ns : List ℕ) (i : ℕ) (x : Option V) → RepInvariant p r n ns →
+      RepInvariant (record p {
+        told = scatter (arcs_out (network_in p.setup) (local_vertices p.setup p.shard)) (set r.told i x) None
+            (suc (length p.setup.question.roads.arcs));
+      }) (record r { told = set r.told i x }) n ns
   told_keeps p r n ns i x D = record {
     planned = D.planned;
-    sized = record { own = D.sized.own; offsets = D.sized.offsets; starts = D.sized.starts; labels = D.sized.labels; engagers = D.sized.engagers; deficits = D.sized.deficits; busy = D.sized.busy; told = length-set r.told i x ∙ D.sized.told };
+    sized = record {
+      own = D.sized.own;
+      offsets = D.sized.offsets;
+      starts = D.sized.starts;
+      labels = D.sized.labels;
+      engagers = D.sized.engagers;
+      deficits = D.sized.deficits;
+      busy = D.sized.busy;
+      told = length-set r.told i x ∙ D.sized.told;
+    };
     seen = record { labels = D.seen.labels; engagers = D.seen.engagers; busy = D.seen.busy; told = refl };
     counts = D.counts;
     sound = record { once = D.sound.once; leads = D.sound.leads; here = D.sound.here; gone = D.sound.gone; wide = D.sound.wide };
@@ -85,52 +112,79 @@ module _ {S V : Type 0} where
   }
 
   -- an engager is written
-  engagers_written : (p : PartData S V) (r : Rows V) (n : ℕ) (ns : List ℕ) (v j : ℕ) (x : Option ℕ) → IsStored p r n ns → IsPlace p v j →
-      spread (own_in p.setup p.shard) (set r.engagers j x) None (suc p.setup.question.roads.vertices) ≡ set p.engagers v x
-  engagers_written p r n ns v j x D P = table_write (own_in p.setup p.shard) r.engagers p.engagers None (suc p.setup.question.roads.vertices) j v x D.seen.engagers (own_apart p.setup p.shard) P.inside D.sized.engagers P.vertex
+  engagers_written : (p : PartData S V) (r : Rows V) (n : ℕ) (ns : List ℕ) (v j : ℕ) (x : Option ℕ) → RepInvariant p r n ns → IsPlace p v j →
+      scatter (local_vertices p.setup p.shard) (set r.engagers j x) None (suc p.setup.question.roads.vertices) ≡ set p.engagers v x
+  engagers_written p r n ns v j x D P = table_write (local_vertices p.setup p.shard) r.engagers p.engagers None
+      (suc p.setup.question.roads.vertices) j v x D.seen.engagers (own_apart p.setup p.shard) P.inside D.sized.engagers P.vertex
 
-  pub engager_leaves : (p old : PartData S V) (r : Rows V) (n : ℕ) (ns : List ℕ) (v j : ℕ) (x : Option ℕ) → p ≡ old → IsStored p r n ns → IsPlace old v j →
-      record p { engagers = spread (own_in p.setup p.shard) (set r.engagers j x) None (suc p.setup.question.roads.vertices) } ≡ record old { engagers = set old.engagers v x }
+  pub engager_leaves : (p old : PartData S V) (r : Rows V) (n : ℕ) (ns : List ℕ) (v j : ℕ) (x : Option ℕ) → p ≡ old → RepInvariant p r n ns → IsPlace old v j →
+      record p { engagers = scatter (local_vertices p.setup p.shard) (set r.engagers j x) None (suc p.setup.question.roads.vertices) } ≡ record old { engagers = set old.engagers v x }
   engager_leaves p old r n ns v j x e D Q =
       ap (λ (ys : List (Option ℕ)). record p { engagers = ys }) (engagers_written p r n ns v j x D (place_at p old v j e Q)) ∙ ap (λ (u : PartData S V). record u { engagers = set u.engagers v x }) e
 
   -- the engaged arcs then
   engages_then : (p : PartData S V) (v : ℕ) (x : Option ℕ) (b : ℕ) → v < length p.engagers →
-      (((network_in p.setup).head b ≡ v) × (engages (network_in p.setup) (place_in p.setup) p.shard (state_in (record p { engagers = set p.engagers v x })) b ≡ one_if (eqb (place_in p.setup ((network_in p.setup).head b)) p.shard && names x b)))
-      ⊎ (((network_in p.setup).head b ≢ v) × (engages (network_in p.setup) (place_in p.setup) p.shard (state_in (record p { engagers = set p.engagers v x })) b ≡ engages (network_in p.setup) (place_in p.setup) p.shard (state_in p) b))
+      (((network_in p.setup).head b ≡ v) × (engages (network_in p.setup) (place_in p.setup) p.shard
+      (state_in (record p { engagers = set p.engagers v x })) b
+      ≡ one_if (eqb (place_in p.setup ((network_in p.setup).head b)) p.shard && names x b)))
+      ⊎ (((network_in p.setup).head b ≢ v) × (engages (network_in p.setup) (place_in p.setup) p.shard
+      (state_in (record p { engagers = set p.engagers v x })) b ≡ engages (network_in p.setup) (place_in p.setup) p.shard (state_in p) b))
   engages_then p v x b l = elim (cases_eq ((network_in p.setup).head b) v) [
-    | inl e ↦ inl (e, ap (λ z. one_if (eqb (place_in p.setup ((network_in p.setup).head b)) p.shard && names z b)) (ap (λ m. get_or (set p.engagers v x) m None) e ∙ get_or-set_same p.engagers v x None l))
+    | inl e ↦ inl (
+      e,
+      ap (λ z. one_if (eqb (place_in p.setup ((network_in p.setup).head b)) p.shard && names z b))
+          (ap (λ m. get_or (set p.engagers v x) m None) e ∙ get_or-set_same p.engagers v x None l),
+    )
     | inr ne ↦ inr (ne, ap (λ z. one_if (eqb (place_in p.setup ((network_in p.setup).head b)) p.shard && names z b)) (get_or-set_other p.engagers v ((network_in p.setup).head b) x None ne))
   ]
 
-  keep_engagers : (p : PartData S V) (r : Rows V) (n : ℕ) (ns : List ℕ) (v j : ℕ) (x : Option ℕ) → IsStored p r n ns → IsPlace p v j → IsSound (network_in p.setup) (place_in p.setup) (record p { engagers = set p.engagers v x }) →
-      IsStored (record p { engagers = spread (own_in p.setup p.shard) (set r.engagers j x) None (suc p.setup.question.roads.vertices) }) (record r { engagers = set r.engagers j x }) n ns
+  keep_engagers : (p : PartData S V) (r : Rows V) (n : ℕ) (ns : List ℕ) (v j : ℕ) (x : Option ℕ) → RepInvariant p r n ns → IsPlace p v j
+      → LocalInvariant (network_in p.setup) (place_in p.setup) (record p { engagers = set p.engagers v x }) →
+      RepInvariant (record p { engagers = scatter (local_vertices p.setup p.shard) (set r.engagers j x) None (suc p.setup.question.roads.vertices) }) (record r { engagers = set r.engagers j x }) n ns
   keep_engagers p r n ns v j x D P s = record {
     planned = D.planned;
-    sized = record { own = D.sized.own; offsets = D.sized.offsets; starts = D.sized.starts; labels = D.sized.labels; engagers = length-set r.engagers j x ∙ D.sized.engagers; deficits = D.sized.deficits; busy = D.sized.busy; told = D.sized.told };
+    sized = record {
+      own = D.sized.own;
+      offsets = D.sized.offsets;
+      starts = D.sized.starts;
+      labels = D.sized.labels;
+      engagers = length-set r.engagers j x ∙ D.sized.engagers;
+      deficits = D.sized.deficits;
+      busy = D.sized.busy;
+      told = D.sized.told;
+    };
     seen = record { labels = D.seen.labels; engagers = refl; busy = D.seen.busy; told = D.seen.told };
     counts = D.counts;
-    sound = subst (λ (ys : List (Option ℕ)). IsSound (network_in p.setup) (place_in p.setup) (record p { engagers = ys })) (sym (engagers_written p r n ns v j x D P)) s;
+    sound = subst (λ (ys : List (Option ℕ)). LocalInvariant (network_in p.setup) (place_in p.setup) (record p { engagers = ys })) (sym (engagers_written p r n ns v j x D P)) s;
     roomy = record { queue = D.roomy.queue; boxes = D.roomy.boxes; rings = D.roomy.rings; outs = D.roomy.outs };
     tallied = D.tallied;
   }
 
-  pub engage_keeps : (p old : PartData S V) (r : Rows V) (n : ℕ) (ns : List ℕ) (v j a : ℕ) → p ≡ old → IsStored p r n ns → IsPlace old v j → IsArc (network_in old.setup) a → (network_in old.setup).head a ≡ v → IsClear old a →
-      IsStored (record p { engagers = spread (own_in p.setup p.shard) (set r.engagers j (Some a)) None (suc p.setup.question.roads.vertices) }) (record r { engagers = set r.engagers j (Some a) }) n ns
+  pub engage_keeps : (p old : PartData S V) (r : Rows V) (n : ℕ) (ns : List ℕ) (v j a : ℕ) → p ≡ old → RepInvariant p r n ns → IsPlace old v j
+      → IsArc (network_in old.setup) a → (network_in old.setup).head a ≡ v → IsClear old a →
+      RepInvariant (record p {
+        engagers = scatter (local_vertices p.setup p.shard) (set r.engagers j (Some a)) None
+            (suc p.setup.question.roads.vertices);
+      }) (record r { engagers = set r.engagers j (Some a) }) n ns
   engage_keeps p old r n ns v j a e D Q ar h z =
       let P = place_at p old v j e Q in
       let ar2 : IsArc (network_in p.setup) a = subst (λ (u : PartData S V). IsArc (network_in u.setup) a) (sym e) ar in
       let h2 : (network_in p.setup).head a ≡ v = subst (λ (u : PartData S V). (network_in u.setup).head a ≡ v) (sym e) h in
       let z2 : IsClear p a = subst (λ (u : PartData S V). IsClear u a) (sym e) z in
-      let l : v < length p.engagers = (let q = table_long (own_in p.setup p.shard) r.engagers p.engagers None (suc p.setup.question.roads.vertices) D.seen.engagers in let b = below p v j P in omega (arith, q, b)) in
+      let l : v < length p.engagers = (let q = table_long (local_vertices p.setup p.shard) r.engagers p.engagers None
+      (suc p.setup.question.roads.vertices) D.seen.engagers in let b = below p v j P in omega (arith, q, b)) in
       keep_engagers p r n ns v j (Some a) D P (record {
         once = λ b. (let o = D.sound.once b in elim (engages_then p v (Some a) b l) [
           | inr k ↦ (let q = k.1 in omega (arith, o, q))
           | inl k ↦ (let q = k.1 in elim (cases_eq b a) [
-            | inl eb ↦ (let z3 : part_weight (λ _ i. is b (item_arc i)) p + engages (network_in p.setup) (place_in p.setup) p.shard (state_in p) b + idles (network_in p.setup) (place_in p.setup) p.shard (state_in p) b ≡ 0 =
-                subst (λ c. part_weight (λ _ i. is c (item_arc i)) p + engages (network_in p.setup) (place_in p.setup) p.shard (state_in p) c + idles (network_in p.setup) (place_in p.setup) p.shard (state_in p) c ≡ 0) (sym eb) z2 in
+            | inl eb ↦ (let z3 : part_weight (λ _ i. is b (item_arc i)) p + engages (network_in p.setup) (place_in p.setup) p.shard
+                (state_in p) b + idles (network_in p.setup) (place_in p.setup) p.shard (state_in p) b ≡ 0 =
+                subst (λ c. part_weight (λ _ i. is c (item_arc i)) p + engages (network_in p.setup) (place_in p.setup) p.shard (state_in p) c + idles
+                (network_in p.setup) (place_in p.setup) p.shard (state_in p) c ≡ 0) (sym eb) z2 in
                 let m = one_if-most (eqb (place_in p.setup ((network_in p.setup).head b)) p.shard && names (Some a) b) in omega (arith, q, z3, m))
-            | inr nb ↦ (let f : one_if (eqb (place_in p.setup ((network_in p.setup).head b)) p.shard && names (Some a) b) ≤ 0 = (let m = and_most_right (eqb (place_in p.setup ((network_in p.setup).head b)) p.shard) (eqb b a) in let g = ap one_if (ne_eqb b a nb) in omega (arith, m, g)) in omega (arith, o, q, f))
+            | inr nb ↦ (let f : one_if (eqb (place_in p.setup ((network_in p.setup).head b)) p.shard && names (Some a) b)
+                ≤ 0 = (let m = and_most_right (eqb (place_in p.setup ((network_in p.setup).head b)) p.shard) (eqb b a) in
+                let g = ap one_if (ne_eqb b a nb) in omega (arith, m, g)) in omega (arith, o, q, f))
           ])
         ]);
         leads = λ u c m q. elim (cases_eq u v) [
@@ -149,8 +203,8 @@ module _ {S V : Type 0} where
       and_most_right false true = omega arith
       and_most_right false false = omega arith
 
-  release_sound : (p : PartData S V) (v e : ℕ) → IsSound (network_in p.setup) (place_in p.setup) p → v < length p.engagers → place_in p.setup v ≡ p.shard → (state_in p).engager v ≡ Some e →
-      IsSound (network_in p.setup) (place_in p.setup) (record p { engagers = set p.engagers v None }) × IsClear (record p { engagers = set p.engagers v None }) e
+  release_sound : (p : PartData S V) (v e : ℕ) → LocalInvariant (network_in p.setup) (place_in p.setup) p → v < length p.engagers → place_in p.setup v ≡ p.shard → (state_in p).engager v ≡ Some e →
+      LocalInvariant (network_in p.setup) (place_in p.setup) (record p { engagers = set p.engagers v None }) × IsClear (record p { engagers = set p.engagers v None }) e
   release_sound p v e D l m q = (
     record {
       once = λ b. (let o = D.once b in elim (engages_then p v None b l) [
@@ -183,13 +237,17 @@ module _ {S V : Type 0} where
       true_and : (t : Bool) → t ≡ true → one_if (true && t) ≡ 1
       true_and t e = ap (λ z. one_if (true && z)) e
 
-  pub release_keeps : (p old : PartData S V) (r : Rows V) (n : ℕ) (ns : List ℕ) (v j e : ℕ) → p ≡ old → IsStored p r n ns → IsPlace old v j → v ≢ 0 → (state_in old).engager v ≡ Some e →
-      IsStored (record p { engagers = spread (own_in p.setup p.shard) (set r.engagers j None) None (suc p.setup.question.roads.vertices) }) (record r { engagers = set r.engagers j None }) n ns
-      × IsClear (record p { engagers = spread (own_in p.setup p.shard) (set r.engagers j None) None (suc p.setup.question.roads.vertices) }) e
+  pub release_keeps : (p old : PartData S V) (r : Rows V) (n : ℕ) (ns : List ℕ) (v j e : ℕ) → p ≡ old → RepInvariant p r n ns → IsPlace old v j → v ≢ 0 → (state_in old).engager v ≡ Some e →
+      RepInvariant (record p {
+        engagers = scatter (local_vertices p.setup p.shard) (set r.engagers j None) None
+            (suc p.setup.question.roads.vertices);
+      }) (record r { engagers = set r.engagers j None }) n ns
+      × IsClear (record p { engagers = scatter (local_vertices p.setup p.shard) (set r.engagers j None) None (suc p.setup.question.roads.vertices) }) e
       × IsArc (network_in p.setup) e × (place_in p.setup ((network_in p.setup).head e) ≡ p.shard)
   release_keeps p old r n ns v j a e D Q nz q =
       let P = place_at p old v j e Q in
-      let l : v < length p.engagers = (let w = table_long (own_in p.setup p.shard) r.engagers p.engagers None (suc p.setup.question.roads.vertices) D.seen.engagers in let b = below p v j P in omega (arith, w, b)) in
+      let l : v < length p.engagers = (let w = table_long (local_vertices p.setup p.shard) r.engagers p.engagers None
+      (suc p.setup.question.roads.vertices) D.seen.engagers in let b = below p v j P in omega (arith, w, b)) in
       let m : place_in p.setup v ≡ p.shard = subst (λ k. place_in p.setup k ≡ p.shard) P.vertex (own_placed p.setup p.shard j P.inside (λ w. nz (sym P.vertex ∙ w))) in
       let q2 : (state_in p).engager v ≡ Some a = subst (λ (u : PartData S V). (state_in u).engager v ≡ Some a) (sym e) q in
       let R = release_sound p v a D.sound l m q2 in (

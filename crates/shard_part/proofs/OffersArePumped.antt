@@ -10,7 +10,7 @@ use Rattle.scholten_core.specs.Diffusion.{CoreState, is_idle, is_due, pump, sent
 use Rattle.scholten_core.specs.Items.{item_of, pump_made, IsDistinct}
 use Rattle.shard_part.specs.Tallies.{counted_on, top}
 use Rattle.shard_part.specs.PartState.{PartData, network_in, place_in, state_in, token_if}
-use Rattle.shard_part.specs.Weights.{Lanes, lanes_of, total, is_told, is_back}
+use Rattle.shard_part.specs.Weights.{Channels, channels_of, total, message_weight, signal_weight}
 use Rattle.shard_part.specs.Handling.{route, routes}
 use Rattle.shard_part.specs.Moves.{with_message, offered_all}
 use Rattle.shard_part.proofs.Weights.{total_append}
@@ -46,20 +46,21 @@ module _ {V : Type 0} (A : Algebra V) (N : Network) where
   abbrev pub offer_made : ℕ → CoreState V → ℕ → List (Item V)
   offer_made v d b = cond (is_due A N v d b) (item_of b (sent (extend_label A (d.label v) (N.weight b)))) []
 
-  made_same : (v : ℕ) (c d : CoreState V) (xs : List ℕ) → c.label v ≡ d.label v → ((b : ℕ) → Contains xs b → (c.token b ≡ d.token b) × (c.told b ≡ d.told b)) → pump_made A N v c xs ≡ pump_made A N v d xs
+  made_same : (v : ℕ) (c d : CoreState V) (xs : List ℕ) → c.label v ≡ d.label v
+      → ((b : ℕ) → Contains xs b → (c.token b ≡ d.token b) × (c.told b ≡ d.told b)) → pump_made A N v c xs ≡ pump_made A N v d xs
   made_same v c d [] r h = refl
   made_same v c d (b ∷ xs) r h = let k = h b (here b xs) in
       λ i. cond (due_same A N v c d b k.0 k.1 r i) (item_of b (sent (extend_label A (r i) (N.weight b)))) [] ++ made_same v c d xs r (λ u l. h u (later b u xs l)) i
 
-  pub made_no_back : (v : ℕ) (d : CoreState V) (xs : List ℕ) → total is_back (pump_made A N v d xs) ≡ 0
+  pub made_no_back : (v : ℕ) (d : CoreState V) (xs : List ℕ) → total signal_weight (pump_made A N v d xs) ≡ 0
   made_no_back v d [] = refl
   made_no_back v d (b ∷ xs) =
       let r = made_no_back v d xs in
-      let a = total_append is_back (offer_made v d b) (pump_made A N v d xs) in
+      let a = total_append signal_weight (offer_made v d b) (pump_made A N v d xs) in
       let o = one (is_due A N v d b) (extend_label A (d.label v) (N.weight b)) in
       omega (arith, r, a, o)
     where
-      one : (t : Bool) (o : Option V) → total is_back (cond t (item_of b (sent o)) []) ≡ 0
+      one : (t : Bool) (o : Option V) → total signal_weight (cond t (item_of b (sent o)) []) ≡ 0
       one false o = refl
       one true None = refl
       one true (Some y) = refl
@@ -71,10 +72,11 @@ module _ {S V : Type 0} (A : Algebra V) where
     pub shard : q.shard ≡ p.shard
     pub labels : q.labels ≡ p.labels
     pub engagers : q.engagers ≡ p.engagers
-    pub done : (b : ℕ) → Contains xs b → ((state_in q).told b ≡ (pump A (network_in p.setup) v (state_in p)).told b) × (is_idle ((state_in q).token b) ≡ is_idle ((pump A (network_in p.setup) v (state_in p)).token b))
+    pub done : (b : ℕ) → Contains xs b → ((state_in q).told b ≡ (pump A (network_in p.setup) v (state_in p)).told b)
+        × (is_idle ((state_in q).token b) ≡ is_idle ((pump A (network_in p.setup) v (state_in p)).token b))
     pub left : (b : ℕ) → (Contains xs b → ⊥) → ((state_in q).told b ≡ (state_in p).told b) × ((state_in q).token b ≡ (state_in p).token b)
-    pub lanes : lanes_of q ≡ routes (network_in p.setup) (place_in p.setup) p.shard (pump_made A (network_in p.setup) v (state_in p) xs) (lanes_of p)
-    pub sent : q.sent ≡ counted_on (total is_told (pump_made A (network_in p.setup) v (state_in p) xs)) p.sent
+    pub channels : channels_of q ≡ routes (network_in p.setup) (place_in p.setup) p.shard (pump_made A (network_in p.setup) v (state_in p) xs) (channels_of p)
+    pub sent : q.sent ≡ counted_on (total message_weight (pump_made A (network_in p.setup) v (state_in p) xs)) p.sent
     pub signalled : q.signalled ≡ p.signalled
     pub delivered : q.delivered ≡ p.delivered
     pub accepted : q.accepted ≡ p.accepted
@@ -83,10 +85,10 @@ module _ {S V : Type 0} (A : Algebra V) where
       (Contains bs b → ⊥) →
       get_or ts b None ≡ (pump A (network_in p.setup) v (state_in p)).told b → is_idle {V = V} (token_if (get_or fs b false)) ≡ is_idle ((pump A (network_in p.setup) v (state_in p)).token b) →
       ((u : ℕ) → u ≢ b → get_or ts u None ≡ get_or p.told u None) → ((u : ℕ) → u ≢ b → get_or fs u false ≡ get_or p.busy u false) →
-      record { queue = qs; outs = os } ≡ routes (network_in p.setup) (place_in p.setup) p.shard (offer_made A (network_in p.setup) v (state_in p) b) (lanes_of p) →
-      n ≡ counted_on (total is_told (offer_made A (network_in p.setup) v (state_in p) b)) p.sent →
+      record { queue = qs; outs = os } ≡ routes (network_in p.setup) (place_in p.setup) p.shard (offer_made A (network_in p.setup) v (state_in p) b) (channels_of p) →
+      n ≡ counted_on (total message_weight (offer_made A (network_in p.setup) v (state_in p) b)) p.sent →
       Offers v bs (record p { told = ts; busy = fs; queue = qs; outs = os; sent = n }) q → Offers v (b ∷ bs) p q
-  offers_step v b bs p q ts fs qs os n apart here idle told busy lanes count R =
+  offers_step v b bs p q ts fs qs os n apart here idle told busy channels count R =
       let N = network_in p.setup in
       let p1 : PartData S V = record p { told = ts; busy = fs; queue = qs; outs = os; sent = n } in
       let ne : (u : ℕ) → Contains bs u → u ≢ b = λ u l e. apart (subst (λ w. Contains bs w) e l) in
@@ -105,8 +107,10 @@ module _ {S V : Type 0} (A : Algebra V) where
           | inr m ↦ (let k = R.done u m in let s = pumped_same A N v (state_in p1) (state_in p) u (token u (ne u m)) (told u (ne u m)) refl in (k.0 ∙ s.1, k.1 ∙ ap is_idle s.0))
         ];
         left = λ u h. let k = R.left u (λ m. h (later b u bs m)) in let w : u ≢ b = λ e. h (here_as u b bs e) in (k.0 ∙ told u w, k.1 ∙ token u w);
-        lanes = R.lanes ∙ (λ i. routes N (place_in p.setup) p.shard (made i) (lanes i)) ∙ sym (routes-append N (place_in p.setup) p.shard (offer_made A N v (state_in p) b) (pump_made A N v (state_in p) bs) (lanes_of p));
-        sent = counted_append is_told (offer_made A N v (state_in p) b) (pump_made A N v (state_in p) bs) p.sent n q.sent count (R.sent ∙ ap (λ xs. counted_on (total is_told xs) n) made);
+        channels = R.channels ∙ (λ i. routes N (place_in p.setup) p.shard (made i) (channels i))
+            ∙ sym (routes-append N (place_in p.setup) p.shard (offer_made A N v (state_in p) b) (pump_made A N v (state_in p) bs) (channels_of p));
+        sent = counted_append message_weight (offer_made A N v (state_in p) b) (pump_made A N v (state_in p) bs) p.sent n q.sent count (R.sent
+            ∙ ap (λ xs. counted_on (total message_weight xs) n) made);
         signalled = R.signalled;
         delivered = R.delivered;
         accepted = R.accepted;
@@ -124,7 +128,8 @@ module _ {S V : Type 0} (A : Algebra V) where
       let N = network_in p.setup in
       let none : offer_made A N v (state_in p) b ≡ [] = cond-false _ _ _ d in
       offers_step v b bs p (offered_all A v bs p) p.told p.busy p.queue p.outs p.sent apart (sym (cond-false _ _ _ d)) (ap is_idle (sym (cond-false _ _ _ d))) (λ u w. refl) (λ u w. refl)
-      (ap (λ xs. routes N (place_in p.setup) p.shard xs (lanes_of p)) (sym none)) (sym (counted_none p.sent s) ∙ ap (λ xs. counted_on (total is_told xs) p.sent) (sym none)) (later p.told p.busy p.queue p.outs p.sent s refl refl)
+      (ap (λ xs. routes N (place_in p.setup) p.shard xs (channels_of p)) (sym none)) (sym (counted_none p.sent s)
+      ∙ ap (λ xs. counted_on (total message_weight xs) p.sent) (sym none)) (later p.told p.busy p.queue p.outs p.sent s refl refl)
   offers_one v b bs p s lt lb apart later true d None e =
       let N = network_in p.setup in
       let none : offer_made A N v (state_in p) b ≡ [] = cond-true _ _ _ d ∙ ap (λ o. item_of b (sent o)) e in
@@ -132,21 +137,23 @@ module _ {S V : Type 0} (A : Algebra V) where
       (get_or-set_same p.told b ((state_in p).label v) None lt ∙ sym (cond-true _ _ _ d))
       (due_idle A N v (state_in p) b d ∙ ap is_idle (sym (cond-true _ _ _ d ∙ ap sent e)))
       (λ u w. get_or-set_other p.told b u ((state_in p).label v) None w) (λ u w. refl)
-      (ap (λ xs. routes N (place_in p.setup) p.shard xs (lanes_of p)) (sym none)) (sym (counted_none p.sent s) ∙ ap (λ xs. counted_on (total is_told xs) p.sent) (sym none))
+      (ap (λ xs. routes N (place_in p.setup) p.shard xs (channels_of p)) (sym none)) (sym (counted_none p.sent s) ∙ ap (λ xs. counted_on (total message_weight xs) p.sent) (sym none))
       (later (set p.told b ((state_in p).label v)) p.busy p.queue p.outs p.sent s (length-set p.told b ((state_in p).label v)) refl)
   offers_one v b bs p s lt lb apart later true d (Some y) e =
       let N = network_in p.setup in
       let one : offer_made A N v (state_in p) b ≡ MessageOn b y ∷ [] = cond-true _ _ _ d ∙ ap (λ o. item_of b (sent o)) e in
-      let l : Lanes V = route N (place_in p.setup) p.shard (MessageOn b y) (lanes_of p) in
+      let l : Channels V = route N (place_in p.setup) p.shard (MessageOn b y) (channels_of p) in
       offers_step v b bs p (offered_all A v bs (record p { told = set p.told b ((state_in p).label v); busy = set p.busy b true; queue = l.queue; outs = l.outs; sent = counted_on 1 p.sent }))
       (set p.told b ((state_in p).label v)) (set p.busy b true) l.queue l.outs (counted_on 1 p.sent) apart
       (get_or-set_same p.told b ((state_in p).label v) None lt ∙ sym (cond-true _ _ _ d))
       (ap (λ f. is_idle {V = V} (token_if f)) (get_or-set_same p.busy b true false lb) ∙ ap is_idle (sym (cond-true _ _ _ d ∙ ap sent e)))
       (λ u w. get_or-set_other p.told b u ((state_in p).label v) None w) (λ u w. get_or-set_other p.busy b u true false w)
-      (ap (λ xs. routes N (place_in p.setup) p.shard xs (lanes_of p)) (sym one)) (ap (λ xs. counted_on (total is_told xs) p.sent) (sym one))
-      (later (set p.told b ((state_in p).label v)) (set p.busy b true) l.queue l.outs (counted_on 1 p.sent) (counted_top 1 p.sent) (length-set p.told b ((state_in p).label v)) (length-set p.busy b true))
+      (ap (λ xs. routes N (place_in p.setup) p.shard xs (channels_of p)) (sym one)) (ap (λ xs. counted_on (total message_weight xs) p.sent) (sym one))
+      (later (set p.told b ((state_in p).label v)) (set p.busy b true) l.queue l.outs (counted_on 1 p.sent) (counted_top 1 p.sent)
+      (length-set p.told b ((state_in p).label v)) (length-set p.busy b true))
 
-  pub offers : (v : ℕ) (xs : List ℕ) (p : PartData S V) → p.sent ≤ top → IsDistinct A (network_in p.setup) xs → ((b : ℕ) → Contains xs b → (b < length p.told) × (b < length p.busy)) → Offers v xs p (offered_all A v xs p)
+  pub offers : (v : ℕ) (xs : List ℕ) (p : PartData S V) → p.sent ≤ top → IsDistinct A (network_in p.setup) xs
+      → ((b : ℕ) → Contains xs b → (b < length p.told) × (b < length p.busy)) → Offers v xs p (offered_all A v xs p)
   unfolding offered_all
   offers v [] p s D l = record {
     setup = refl;
@@ -155,12 +162,13 @@ module _ {S V : Type 0} (A : Algebra V) where
     engagers = refl;
     done = λ b k. absurd (not_in_empty b k);
     left = λ b k. (refl, refl);
-    lanes = refl;
+    channels = refl;
     sent = sym (counted_none p.sent s);
     signalled = refl;
     delivered = refl;
     accepted = refl;
   }
   offers v (b ∷ bs) p s D l = offers_one v b bs p s (l b (here b bs)).0 (l b (here b bs)).1 D.0
-      (λ ts fs qs os n h a c. offers v bs (record p { told = ts; busy = fs; queue = qs; outs = os; sent = n }) h D.1 (λ u k. let r = l u (later b u bs k) in let r0 = r.0 in let r1 = r.1 in (omega (arith, r0, a), omega (arith, r1, c))))
+      (λ ts fs qs os n h a c. offers v bs (record p { told = ts; busy = fs; queue = qs; outs = os; sent = n }) h D.1
+      (λ u k. let r = l u (later b u bs k) in let r0 = r.0 in let r1 = r.1 in (omega (arith, r0, a), omega (arith, r1, c))))
       (is_due A (network_in p.setup) v (state_in p) b) refl (extend_label A ((state_in p).label v) ((network_in p.setup).weight b)) refl

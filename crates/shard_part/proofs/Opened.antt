@@ -13,15 +13,15 @@ use Rattle.scholten_core.specs.Items.{item_arc, item_of}
 use Rattle.scholten_core.specs.Sums.{one_if}
 use Rattle.scholten_core.proofs.Basics.{put-at, put-other}
 use Rattle.scholten_core.proofs.Networks.{tail-arc, head-entry, tail-entry}
-use Rattle.shard_part.specs.Tables.{spread, placed}
+use Rattle.shard_part.specs.Tables.{scatter, placed}
 use Rattle.scholten_core.specs.Deficit.{busy_out}
 use Rattle.shard_part.specs.PartState.{Setup, PartData, network_in, place_in, state_in, token_if, vertex_of, maker_of, IsArc}
-use Rattle.shard_part.specs.Outgoing.{own_in, arcs_out, arcs_from, outgoing}
+use Rattle.shard_part.specs.Outgoing.{local_vertices, arcs_out, arcs_from, outgoing}
 use Rattle.shard_part.specs.Weights.{total, outs_weight, part_weight, is, All, at_place, in_flight}
-use Rattle.shard_part.specs.Sound.{engages, idles, names, IsSound}
-use Rattle.shard_part.specs.Shows.{HoldsShare}
+use Rattle.shard_part.specs.LocalInvariant.{engages, idles, names, LocalInvariant}
+use Rattle.shard_part.specs.Represents.{HoldsShareIn}
 use Rattle.shard_part.specs.Capacities.{queue_bound, outbox_bound}
-use Rattle.shard_part.specs.Moves.{Rows, seen_as, IsPlanned, IsCounted, IsStored}
+use Rattle.shard_part.specs.Moves.{Rows, abstraction, IsPlanned, IsCounted, RepInvariant}
 use Rattle.shard_part.specs.Opening.{is_first, first_items, opened_part, AreStarts, idle_rows}
 use Rattle.shard_part.proofs.Weights.{sum_at, sum_zero}
 use Rattle.shard_part.proofs.Places.{own_apart}
@@ -40,17 +40,17 @@ module _ {X : Type 0} where
   set_same (suc n) x zero = refl
   set_same (suc n) x (suc k) = ap (λ ys. x ∷ ys) (set_same n x k)
 
-  pub spread_same : (keys : List ℕ) (m : ℕ) (d : X) (n : ℕ) → spread keys (replicate m d) d n ≡ replicate n d
-  unfolding spread
+  pub spread_same : (keys : List ℕ) (m : ℕ) (d : X) (n : ℕ) → scatter keys (replicate m d) d n ≡ replicate n d
+  unfolding scatter
   spread_same [] m d n = refl
   spread_same (k ∷ keys) zero d n = refl
   spread_same (k ∷ keys) (suc m) d n = ap (λ ys. set ys k d) (spread_same keys m d n) ∙ set_same n d k
 
   -- one value at the front of rows that are all the same
-  pub spread_front : (keys rest : List ℕ) (m : ℕ) (d x : X) (n : ℕ) → keys ≡ 0 ∷ rest → 1 ≤ m → spread keys (set (replicate m d) 0 x) d n ≡ set (replicate n d) 0 x
-  unfolding spread
+  pub spread_front : (keys rest : List ℕ) (m : ℕ) (d x : X) (n : ℕ) → keys ≡ 0 ∷ rest → 1 ≤ m → scatter keys (set (replicate m d) 0 x) d n ≡ set (replicate n d) 0 x
+  unfolding scatter
   spread_front keys rest zero d x n e l = absurd (omega arith)
-  spread_front keys rest (suc m) d x n e l = ap (λ ks. spread ks (set (replicate (suc m) d) 0 x) d n) e ∙ ap (λ ys. set ys 0 x) (spread_same rest m d n)
+  spread_front keys rest (suc m) d x n e l = ap (λ ks. scatter ks (set (replicate (suc m) d) 0 x) d n) e ∙ ap (λ ys. set ys 0 x) (spread_same rest m d n)
 
   pub front_read : (n : ℕ) (d x : X) → 1 ≤ n → get_or (set (replicate n d) 0 x) 0 d ≡ x
   front_read n d x l = get_or-set_same (replicate n d) 0 x d (let e = length-replicate n d in omega (arith, e, l))
@@ -87,7 +87,7 @@ module _ {S : Type 0} (t : Setup S) (s : ℕ) (P : IsPlanned t s) where
   pub place_source : place_in t ((network_in t).head 0) ≡ place_in t 0
   place_source = ap (place_in t) (head-entry t.question.roads t.question.source) ∙ place_vertex t t.question.source P.source.0 ∙ sym (place_entry t P.source.0)
 
-  pub arcs_first : arcs_out (network_in t) (own_in t s) ≡ 0 ∷ arcs_out (network_in t) (placed (place_in t) s 1 t.question.roads.vertices)
+  pub arcs_first : arcs_out (network_in t) (local_vertices t s) ≡ 0 ∷ arcs_out (network_in t) (placed (place_in t) s 1 t.question.roads.vertices)
   unfolding arcs_out
   arcs_first = ap (λ xs. xs ++ arcs_out (network_in t) (placed (place_in t) s 1 t.question.roads.vertices)) (entry_alone t.question.roads t.question.source P.roads)
 
@@ -105,9 +105,13 @@ module _ {S V : Type 0} (A : Algebra V) (t : Setup S) (s : ℕ) (P : IsPlanned t
   busy_alone : (v : ℕ) → busy_out (network_in t) v (state_in (opened_part A t s)) (suc (length t.question.roads.arcs)) ≡ one_if (eqb ((network_in t).tail 0) v && is_first t s)
   busy_alone v =
       let f : ℕ → ℕ = λ b. one_if (eqb ((network_in t).tail b) v && not (is_idle (token_if {V = V} (get_or (opened_part A t s).busy b false)))) in
-      let d = sum_at f (λ b. 0) 0 (suc (length t.question.roads.arcs)) (omega arith) (λ b nz. ap (λ z. one_if (eqb ((network_in t).tail b) v && not (is_idle (token_if {V = V} z)))) (other_token b nz) ∙ and_none (eqb ((network_in t).tail b) v)) in
+      let d = sum_at f (λ b. 0) 0 (suc (length t.question.roads.arcs)) (omega arith)
+      (λ b nz. ap (λ z. one_if (eqb ((network_in t).tail b) v && not (is_idle (token_if {V = V} z)))) (other_token b nz)
+      ∙ and_none (eqb ((network_in t).tail b) v)) in
       let z = sum_zero (λ b. 0) (suc (length t.question.roads.arcs)) (λ k. refl) in
-      let e : f 0 ≡ one_if (eqb ((network_in t).tail 0) v && is_first t s) = ap (λ z. one_if (eqb ((network_in t).tail 0) v && not (is_idle (token_if {V = V} z)))) entry_token ∙ ap (λ z. one_if (eqb ((network_in t).tail 0) v && z)) (busy_is (is_first t s)) in
+      let e : f 0 ≡ one_if (eqb ((network_in t).tail 0) v && is_first t s) = ap
+      (λ z. one_if (eqb ((network_in t).tail 0) v && not (is_idle (token_if {V = V} z)))) entry_token
+      ∙ ap (λ z. one_if (eqb ((network_in t).tail 0) v && z)) (busy_is (is_first t s)) in
       omega (arith, d, z, e)
     where
       and_none : (x : Bool) → one_if (x && false) ≡ 0
@@ -118,29 +122,34 @@ module _ {S V : Type 0} (A : Algebra V) (t : Setup S) (s : ℕ) (P : IsPlanned t
       busy_is true = refl
       busy_is false = refl
 
-  opened_counted : (r : Rows V) → r.deficits ≡ set (replicate (length (own_in t s)) 0) 0 (one_if (is_first t s)) → IsCounted (opened_part A t s) r
+  opened_counted : (r : Rows V) → r.deficits ≡ set (replicate (length (local_vertices t s)) 0) 0 (one_if (is_first t s)) → IsCounted (opened_part A t s) r
   opened_counted r e zero l =
-      ap (λ xs. get_or xs 0 0) e ∙ front_read (length (own_in t s)) 0 (one_if (is_first t s)) (omega arith)
+      ap (λ xs. get_or xs 0 0) e ∙ front_read (length (local_vertices t s)) 0 (one_if (is_first t s)) (omega arith)
       ∙ sym (busy_alone 0 ∙ ap (λ z. one_if (z && is_first t s)) (eq-eqb ((network_in t).tail 0) 0 (tail-entry t.question.roads)) ∙ and_first (is_first t s))
     where
       and_first : (x : Bool) → one_if (true && x) ≡ one_if x
       and_first x = refl
   opened_counted r e (suc j) l =
-      ap (λ xs. get_or xs (suc j) 0) e ∙ behind_read (length (own_in t s)) 0 (one_if (is_first t s)) (suc j) (λ z. omega (arith, z))
-      ∙ sym (busy_alone (get_or (own_in t s) (suc j) 0) ∙ ap (λ z. one_if (z && is_first t s)) (ne_eqb ((network_in t).tail 0) (get_or (own_in t s) (suc j) 0) (λ z. own_apart t s 0 (suc j) (omega arith) l (sym (tail-entry t.question.roads) ∙ z))))
+      ap (λ xs. get_or xs (suc j) 0) e ∙ behind_read (length (local_vertices t s)) 0 (one_if (is_first t s)) (suc j) (λ z. omega (arith, z))
+      ∙ sym (busy_alone (get_or (local_vertices t s) (suc j) 0)
+      ∙ ap (λ z. one_if (z && is_first t s)) (ne_eqb ((network_in t).tail 0) (get_or (local_vertices t s) (suc j) 0)
+      (λ z. own_apart t s 0 (suc j) (omega arith) l (sym (tail-entry t.question.roads) ∙ z))))
 
   -- nothing but the first message weighs
   pub opened_weight : (h : ℕ → Item V → ℕ) → part_weight h (opened_part A t s) ≡ total (h s) (first_items A (is_first t s))
   opened_weight h = let z = no_weight h 0 t.plan.shards in omega (arith, z)
 
-  opened_sound : IsSound (network_in t) (place_in t) (opened_part A t s)
+  opened_sound : LocalInvariant (network_in t) (place_in t) (opened_part A t s)
   opened_sound = record {
     once = λ b. (let w = opened_weight (λ _ j. is b (item_arc j)) in
-        let g : engages (network_in t) (place_in t) s (state_in (opened_part A t s)) b ≡ 0 = ap (λ z. one_if (eqb (place_in t ((network_in t).head b)) s && names z b)) (reads_same (suc t.question.roads.vertices) None ((network_in t).head b)) ∙ none (eqb (place_in t ((network_in t).head b)) s) in
+        let g : engages (network_in t) (place_in t) s (state_in (opened_part A t s)) b
+        ≡ 0 = ap (λ z. one_if (eqb (place_in t ((network_in t).head b)) s && names z b))
+        (reads_same (suc t.question.roads.vertices) None ((network_in t).head b)) ∙ none (eqb (place_in t ((network_in t).head b)) s) in
         let k = alone b (is_first t s) refl in omega (arith, w, g, k));
     leads = λ v e m q. absurd (let z : None ≡ Some e = sym (reads_same (suc t.question.roads.vertices) None v) ∙ q in cc);
     here = first_here (is_first t s) refl;
-    gone = λ k. subst (All (λ i. (place_in t (vertex_of (network_in t) i) ≡ k) × (place_in t (maker_of (network_in t) i) ≡ s) × IsArc (network_in t) (item_arc i))) (sym (reads_same t.plan.shards [] k)) tt;
+    gone = λ k. subst (All (λ i. (place_in t (vertex_of (network_in t) i) ≡ k) × (place_in t (maker_of (network_in t) i) ≡ s)
+        × IsArc (network_in t) (item_arc i))) (sym (reads_same t.plan.shards [] k)) tt;
     wide = λ v. (let b = place_below t s P v in let l = length-replicate {A = List (Item V)} t.plan.shards [] in omega (arith, b, l));
   }
     where
@@ -162,17 +171,22 @@ module _ {S V : Type 0} (A : Algebra V) (t : Setup S) (s : ℕ) (P : IsPlanned t
       first_here true e = ((place_source t s P ∙ eqb-true (place_in t 0) s (sym e), entry_arc t s P), tt)
 
   -- the tables are the rows of this part
-  pub opened_seen : (r : Rows V) (offsets : List ℕ) (arcs : ℕ) (queue : List (Item V)) (outs : List (List (Item V))) (sent : ℕ) → AreStarts (network_in t) (own_in t s) offsets arcs → r ≡ idle_rows (own_in t s) offsets arcs (is_first t s) →
-      queue ≡ first_items A (is_first t s) → outs ≡ replicate t.plan.shards [] → sent ≡ one_if (is_first t s) → seen_as t s r queue outs sent 0 0 0 ≡ opened_part A t s
+  pub opened_seen : (r : Rows V) (offsets : List ℕ) (arcs : ℕ) (queue : List (Item V)) (outs : List (List (Item V))) (sent : ℕ)
+      → AreStarts (network_in t) (local_vertices t s) offsets arcs → r ≡ idle_rows (local_vertices t s) offsets arcs (is_first t s) →
+      queue ≡ first_items A (is_first t s) → outs ≡ replicate t.plan.shards [] → sent ≡ one_if (is_first t s) → abstraction t s r queue outs sent 0 0 0 ≡ opened_part A t s
   opened_seen r offsets arcs queue outs sent B e q o n = λ i. record {
     setup = t;
     shard = s;
-    labels = (ap (λ (u : Rows V). spread (own_in t s) u.labels None (suc t.question.roads.vertices)) e ∙ spread_same (own_in t s) (length (own_in t s)) None (suc t.question.roads.vertices)) i;
-    engagers = (ap (λ (u : Rows V). spread (own_in t s) u.engagers None (suc t.question.roads.vertices)) e ∙ spread_same (own_in t s) (length (own_in t s)) None (suc t.question.roads.vertices)) i;
-    busy = (ap (λ (u : Rows V). spread (arcs_out (network_in t) (own_in t s)) u.busy false (suc (length t.question.roads.arcs))) e
-        ∙ spread_front (arcs_out (network_in t) (own_in t s)) (arcs_out (network_in t) (placed (place_in t) s 1 t.question.roads.vertices)) arcs false (is_first t s) (suc (length t.question.roads.arcs)) (arcs_first t s P)
+    labels = (ap (λ (u : Rows V). scatter (local_vertices t s) u.labels None (suc t.question.roads.vertices)) e
+        ∙ spread_same (local_vertices t s) (length (local_vertices t s)) None (suc t.question.roads.vertices)) i;
+    engagers = (ap (λ (u : Rows V). scatter (local_vertices t s) u.engagers None (suc t.question.roads.vertices)) e
+        ∙ spread_same (local_vertices t s) (length (local_vertices t s)) None (suc t.question.roads.vertices)) i;
+    busy = (ap (λ (u : Rows V). scatter (arcs_out (network_in t) (local_vertices t s)) u.busy false (suc (length t.question.roads.arcs))) e
+        ∙ spread_front (arcs_out (network_in t) (local_vertices t s)) (arcs_out (network_in t) (placed (place_in t) s 1 t.question.roads.vertices))
+        arcs false (is_first t s) (suc (length t.question.roads.arcs)) (arcs_first t s P)
         (let l = ap length (arcs_first t s P) in let c = B.count_is in omega (arith, l, c))) i;
-    told = (ap (λ (u : Rows V). spread (arcs_out (network_in t) (own_in t s)) u.told None (suc (length t.question.roads.arcs))) e ∙ spread_same (arcs_out (network_in t) (own_in t s)) arcs None (suc (length t.question.roads.arcs))) i;
+    told = (ap (λ (u : Rows V). scatter (arcs_out (network_in t) (local_vertices t s)) u.told None (suc (length t.question.roads.arcs))) e
+        ∙ spread_same (arcs_out (network_in t) (local_vertices t s)) arcs None (suc (length t.question.roads.arcs))) i;
     queue = q i;
     outs = o i;
     sent = n i;
@@ -181,13 +195,14 @@ module _ {S V : Type 0} (A : Algebra V) (t : Setup S) (s : ℕ) (P : IsPlanned t
     accepted = 0;
   }
 
-  pub opened_stored : (r : Rows V) (offsets : List ℕ) (arcs : ℕ) (queue : List (Item V)) (outs : List (List (Item V))) (sent n : ℕ) (ns : List ℕ) → AreStarts (network_in t) (own_in t s) offsets arcs → r ≡ idle_rows (own_in t s) offsets arcs (is_first t s) →
+  pub opened_stored : (r : Rows V) (offsets : List ℕ) (arcs : ℕ) (queue : List (Item V)) (outs : List (List (Item V))) (sent n : ℕ) (ns : List ℕ)
+      → AreStarts (network_in t) (local_vertices t s) offsets arcs → r ≡ idle_rows (local_vertices t s) offsets arcs (is_first t s) →
       queue ≡ first_items A (is_first t s) → outs ≡ replicate t.plan.shards [] → sent ≡ one_if (is_first t s) →
       n ≡ queue_bound (network_in t) (place_in t) s → length ns ≡ t.plan.shards → ((k : ℕ) → k ≢ s → k < t.plan.shards → get_or ns k 0 ≡ outbox_bound (network_in t) (place_in t) s k) →
-      IsStored (seen_as t s r queue outs sent 0 0 0) r n ns
+      RepInvariant (abstraction t s r queue outs sent 0 0 0) r n ns
   opened_stored r offsets arcs queue outs sent n ns B e q o c room long caps =
       let E = opened_seen r offsets arcs queue outs sent B e q o c in
-      subst (λ (u : PartData S V). IsStored u r n ns) (sym E) (record {
+      subst (λ (u : PartData S V). RepInvariant u r n ns) (sym E) (record {
         planned = P;
         sized = record {
           own = ap (λ (u : Rows V). u.own) e;
@@ -195,7 +210,7 @@ module _ {S V : Type 0} (A : Algebra V) (t : Setup S) (s : ℕ) (P : IsPlanned t
           starts = λ j l. ap (λ (u : Rows V). get_or u.offsets j 0) e ∙ B.starts j l;
           labels = ap (λ (u : Rows V). length u.labels) e ∙ length-replicate _ _;
           engagers = ap (λ (u : Rows V). length u.engagers) e ∙ length-replicate _ _;
-          deficits = ap (λ (u : Rows V). length u.deficits) e ∙ length-set (replicate (length (own_in t s)) 0) 0 (one_if (is_first t s)) ∙ length-replicate _ _;
+          deficits = ap (λ (u : Rows V). length u.deficits) e ∙ length-set (replicate (length (local_vertices t s)) 0) 0 (one_if (is_first t s)) ∙ length-replicate _ _;
           busy = ap (λ (u : Rows V). length u.busy) e ∙ length-set (replicate arcs false) 0 (is_first t s) ∙ length-replicate _ _ ∙ B.count_is;
           told = ap (λ (u : Rows V). length u.told) e ∙ length-replicate _ _ ∙ B.count_is;
         };
@@ -220,13 +235,15 @@ module _ {S V : Type 0} (A : Algebra V) (t : Setup S) (s : ℕ) (P : IsPlanned t
   pub opening_weight : (h : ℕ → Item V → ℕ) → in_flight (network_in t) (place_in t) (opening A (network_in t)) h ≡ h (place_in t 0) (MessageOn 0 A.origin)
   opening_weight h =
       let f : ℕ → ℕ = λ b. total (at_place (network_in t) (place_in t) h) (item_of b (put (λ _. Idle) 0 (Message A.origin) b)) in
-      let d = sum_at f (λ b. 0) 0 (suc (length t.question.roads.arcs)) (omega arith) (λ b nz. ap (λ k. total (at_place (network_in t) (place_in t) h) (item_of b k)) (put-other (λ _. Idle) 0 (Message A.origin) b nz)) in
+      let d = sum_at f (λ b. 0) 0 (suc (length t.question.roads.arcs)) (omega arith)
+      (λ b nz. ap (λ k. total (at_place (network_in t) (place_in t) h) (item_of b k)) (put-other (λ _. Idle) 0 (Message A.origin) b nz)) in
       let z = sum_zero (λ b. 0) (suc (length t.question.roads.arcs)) (λ k. refl) in
-      let o : f 0 ≡ h (place_in t ((network_in t).head 0)) (MessageOn 0 A.origin) + 0 = ap (λ k. total (at_place (network_in t) (place_in t) h) (item_of 0 k)) (put-at (λ _. Idle) 0 (Message A.origin) 0 refl) in
+      let o : f 0 ≡ h (place_in t ((network_in t).head 0)) (MessageOn 0 A.origin) + 0 = ap
+      (λ k. total (at_place (network_in t) (place_in t) h) (item_of 0 k)) (put-at (λ _. Idle) 0 (Message A.origin) 0 refl) in
       let p = ap (λ y. h y (MessageOn 0 A.origin)) (place_source t s P) in omega (arith, d, z, o, p)
 
   -- and it holds its share of the opening
-  pub opened_holds : HoldsShare A (network_in t) (place_in t) (opening A (network_in t)) (opened_part A t s)
+  pub opened_holds : HoldsShareIn A (network_in t) (place_in t) (opening A (network_in t)) (opened_part A t s)
   opened_holds = record {
     tables = record {
       agree = record {

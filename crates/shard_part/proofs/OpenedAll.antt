@@ -8,7 +8,7 @@ use Rattle.scholten_core.specs.Diffusion.{opening}
 use Rattle.scholten_core.specs.Sums.{one_if}
 use Rattle.shard_part.specs.PartState.{Setup, PartData, network_in, place_in}
 use Rattle.shard_part.specs.Weights.{total, part_weight, is, All}
-use Rattle.shard_part.specs.Shows.{HoldsTables, ShowsIn}
+use Rattle.shard_part.specs.Represents.{HoldsTables, RepresentsIn}
 use Rattle.shard_part.specs.Moves.{IsPlanned}
 use Rattle.shard_part.specs.Opening.{first_items, opened_part, opened_parts}
 use Rattle.shard_part.proofs.Opened.{place_below, opened_weight, opening_weight, opened_holds}
@@ -33,7 +33,9 @@ module _ {S V : Type 0} (A : Algebra V) (t : Setup S) (P : IsPlanned t 0) where
   all_hold k (suc n) l = ((opened_holds A t k (planned_each t P k (omega (arith, l)))).tables, all_hold (suc k) n (omega (arith, l)))
 
   -- the first message weighs at the source's part alone
-  weight_at : (h : ℕ → Item V → ℕ) (k : ℕ) → k < t.plan.shards → ((place_in t 0 ≡ k) × (part_weight h (opened_part A t k) ≡ h (place_in t 0) (MessageOn 0 A.origin))) ⊎ ((place_in t 0 ≢ k) × (part_weight h (opened_part A t k) ≡ 0))
+  weight_at : (h : ℕ → Item V → ℕ) (k : ℕ) → k < t.plan.shards
+      → ((place_in t 0 ≡ k) × (part_weight h (opened_part A t k) ≡ h (place_in t 0) (MessageOn 0 A.origin)))
+      ⊎ ((place_in t 0 ≢ k) × (part_weight h (opened_part A t k) ≡ 0))
   weight_at h k l = elim (cases_eq (place_in t 0) k) [
     | inl e ↦ inl (e, opened_weight A t k (planned_each t P k l) h ∙ ap (λ f. total (h k) (first_items A f)) (eq-eqb (place_in t 0) k e) ∙ one (h k) ∙ ap (λ j. h j (MessageOn 0 A.origin)) (sym e))
     | inr n ↦ inr (n, opened_weight A t k (planned_each t P k l) h ∙ ap (λ f. total (h k) (first_items A f)) (ne_eqb (place_in t 0) k n))
@@ -49,7 +51,8 @@ module _ {S V : Type 0} (A : Algebra V) (t : Setup S) (P : IsPlanned t 0) where
     | inr w ↦ (let z = w.1 in omega (arith, r, z))
   ]
 
-  weights_all : (h : ℕ → Item V → ℕ) (k n : ℕ) → k + n ≤ t.plan.shards → k ≤ place_in t 0 → place_in t 0 < k + n → total (part_weight h) (opened_parts A t k n) ≡ h (place_in t 0) (MessageOn 0 A.origin)
+  weights_all : (h : ℕ → Item V → ℕ) (k n : ℕ) → k + n ≤ t.plan.shards → k ≤ place_in t 0 → place_in t 0 < k + n
+      → total (part_weight h) (opened_parts A t k n) ≡ h (place_in t 0) (MessageOn 0 A.origin)
   weights_all h k zero l a b = absurd (omega (arith, a, b))
   weights_all h k (suc n) l a b = elim (weight_at h k (omega (arith, l))) [
     | inl w ↦ (let e = w.0 in let z = w.1 in let r = weights_past h (suc k) n (omega (arith, l)) (omega (arith, e)) in omega (arith, z, r))
@@ -63,10 +66,11 @@ module _ {S V : Type 0} (A : Algebra V) (t : Setup S) (P : IsPlanned t 0) where
     | inr ne ↦ (let r = shards_once j (suc k) n in let z = ap one_if (ne_eqb j k ne) in omega (arith, r, z))
   ]
 
-  pub opened_show : (mail : (ℕ → Item V → ℕ) → ℕ) → ((h : ℕ → Item V → ℕ) → mail h ≡ 0) → ShowsIn A (network_in t) (place_in t) (opened_parts A t 0 t.plan.shards) mail (opening A (network_in t))
+  pub opened_show : (mail : (ℕ → Item V → ℕ) → ℕ) → ((h : ℕ → Item V → ℕ) → mail h ≡ 0) → RepresentsIn A (network_in t) (place_in t) (opened_parts A t 0 t.plan.shards) mail (opening A (network_in t))
   opened_show mail none = record {
     tables = all_hold 0 t.plan.shards (omega arith);
-    weighs = λ h. (let w = weights_all h 0 t.plan.shards (omega arith) (omega arith) (let b = place_below t 0 P 0 in omega (arith, b)) in let f = opening_weight A t 0 P h in let z = none h in omega (arith, w, f, z));
+    weighs = λ h. (let w = weights_all h 0 t.plan.shards (omega arith) (omega arith) (let b = place_below t 0 P 0 in omega (arith, b)) in
+        let f = opening_weight A t 0 P h in let z = none h in omega (arith, w, f, z));
     apart = λ j. shards_once j 0 t.plan.shards;
   }
 

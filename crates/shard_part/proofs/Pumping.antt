@@ -7,8 +7,8 @@ use Rattle.road_graph.specs.Roads.{HasVertex, IsTurn, ListsArcsFrom, ListsRoadsF
 use Rattle.scholten_core.specs.Network.{WellFormed}
 use Rattle.scholten_core.specs.Diffusion.{is_due, extend_label, improves}
 use Rattle.shard_part.specs.PartState.{Setup, PartData, state_in, network_in, IsArc}
-use Rattle.shard_part.specs.Outgoing.{outgoing, own_in}
-use Rattle.shard_part.specs.Moves.{Rows, IsStored, IsPlace, IsRow, with_message, engaged_or_answered, labelled, offered, offered_all, rested, with_value}
+use Rattle.shard_part.specs.Outgoing.{outgoing, local_vertices}
+use Rattle.shard_part.specs.Moves.{Rows, RepInvariant, IsPlace, IsRow, with_message, engaged_or_answered, labelled, offered, offered_all, rested, with_value}
 use Rattle.scholten_core.proofs.Networks.{tail-arc}
 use Rattle.shard_part.proofs.Graphs.{arc_in_graph, out_is, roads_are, road_is}
 use Rattle.shard_part.proofs.Moves.{formed}
@@ -38,12 +38,12 @@ module _ {S V : Type 0} (A : Algebra V) where
 
   pub place_same : (p q : PartData S V) (v j : ℕ) → q.setup ≡ p.setup → q.shard ≡ p.shard → IsPlace p v j → IsPlace q v j
   place_same p q v j e s P = record {
-    inside = subst (λ (t : Setup S). j < length (own_in t q.shard)) (sym e) (subst (λ k. j < length (own_in p.setup k)) (sym s) P.inside);
-    vertex = (λ i. get_or (own_in (e i) (s i)) j 0) ∙ P.vertex;
+    inside = subst (λ (t : Setup S). j < length (local_vertices t q.shard)) (sym e) (subst (λ k. j < length (local_vertices p.setup k)) (sym s) P.inside);
+    vertex = (λ i. get_or (local_vertices (e i) (s i)) j 0) ∙ P.vertex;
   }
 
   -- the graph has the vertex at a place
-  pub vertex_at : (p old : PartData S V) (r : Rows V) (n : ℕ) (ns : List ℕ) (v j : ℕ) → p ≡ old → IsStored p r n ns → IsPlace old v j → v ≢ 0 → HasVertex p.setup.question.roads v
+  pub vertex_at : (p old : PartData S V) (r : Rows V) (n : ℕ) (ns : List ℕ) (v j : ℕ) → p ≡ old → RepInvariant p r n ns → IsPlace old v j → v ≢ 0 → HasVertex p.setup.question.roads v
   vertex_at p old r n ns v j e D Q nz =
       let P : IsPlace p v j = subst (λ (u : PartData S V). IsPlace u v j) (sym e) Q in
       ((omega (arith, nz)), (let b = own_below p.setup p.shard j P.inside in let w = P.vertex in omega (arith, b, w)))
@@ -57,7 +57,8 @@ module _ {S V : Type 0} (A : Algebra V) where
   offered_all_same v (b ∷ bs) p = let r = offered_all_same v bs (offered A v b p) in let q = offered_same v b p in (r.0 ∙ q.0, r.1 ∙ q.1)
 
   -- one arc more was offered
-  pub offered_more : (p mid new : PartData S V) (v b k : ℕ) (xs : List ℕ) → k < length xs → b ≡ get_or xs k b → mid ≡ offered_all A v (take k xs) p → new ≡ offered A v b mid → new ≡ offered_all A v (take (k + 1) xs) p
+  pub offered_more : (p mid new : PartData S V) (v b k : ℕ) (xs : List ℕ) → k < length xs → b ≡ get_or xs k b → mid ≡ offered_all A v (take k xs) p
+      → new ≡ offered A v b mid → new ≡ offered_all A v (take (k + 1) xs) p
   offered_more p mid new v b k xs l h m w =
       w ∙ ap (offered A v b) m ∙ sym (offered_all-snoc v (take k xs) b p) ∙ ap (λ ys. offered_all A v ys p) (ap (λ (z : ℕ). take k xs ++ z ∷ []) (get_or_read xs k b l h 0) ∙ sym (take_more xs k 0 l))
 
@@ -87,25 +88,31 @@ module _ {S V : Type 0} where
   pub arc_at : (p q : PartData S V) (v k b : ℕ) (xs : List ℕ) → xs ≡ outgoing (network_in p.setup) v → q.setup ≡ p.setup → get_or xs k 0 ≡ b → get_or (outgoing (network_in q.setup) v) k 0 ≡ b
   arc_at p q v k b xs e s h = (λ j. get_or (outgoing (network_in (s j)) v) k 0) ∙ ap (λ ys. get_or ys k 0) (sym e) ∙ h
 
-  pub row_found : (p q : PartData S V) (v k b i : ℕ) (xs : List ℕ) → xs ≡ outgoing (network_in p.setup) v → q.setup ≡ p.setup → get_or xs k 0 ≡ b → IsRow q (get_or (outgoing (network_in q.setup) v) k 0) i → IsRow q b i
+  pub row_found : (p q : PartData S V) (v k b i : ℕ) (xs : List ℕ) → xs ≡ outgoing (network_in p.setup) v → q.setup ≡ p.setup → get_or xs k 0 ≡ b
+      → IsRow q (get_or (outgoing (network_in q.setup) v) k 0) i → IsRow q b i
   row_found p q v k b i xs e s h R = subst (λ z. IsRow q z i) (arc_at p q v k b xs e s h) R
 
   pub tail_found : (p q : PartData S V) (v k b : ℕ) (xs : List ℕ) → xs ≡ outgoing (network_in p.setup) v → q.setup ≡ p.setup → k < length xs → get_or xs k 0 ≡ b → (network_in q.setup).tail b ≡ v
-  tail_found p q v k b xs e s l h = ap (λ (t : Setup S). (network_in t).tail b) s ∙ ap (network_in p.setup).tail (sym h ∙ ap (λ ys. get_or ys k 0) e) ∙ ((outgoing_picked (network_in p.setup) v).each k (subst (λ ys. k < length ys) e l)).0
+  tail_found p q v k b xs e s l h = ap (λ (t : Setup S). (network_in t).tail b) s ∙ ap (network_in p.setup).tail (sym h ∙ ap (λ ys. get_or ys k 0) e)
+      ∙ ((outgoing_picked (network_in p.setup) v).each k (subst (λ ys. k < length ys) e l)).0
 
-  pub arc_found : (u p q : PartData S V) (r : Rows V) (n : ℕ) (ns : List ℕ) (v b : ℕ) → u ≡ p → IsStored u r n ns → q.setup ≡ p.setup → v ≢ 0 → (network_in q.setup).tail b ≡ v → IsArc (network_in q.setup) b × (b ≢ 0)
+  pub arc_found : (u p q : PartData S V) (r : Rows V) (n : ℕ) (ns : List ℕ) (v b : ℕ) → u ≡ p → RepInvariant u r n ns → q.setup ≡ p.setup → v ≢ 0
+      → (network_in q.setup).tail b ≡ v → IsArc (network_in q.setup) b × (b ≢ 0)
   arc_found u p q r n ns v b e D s nz t =
       let W : WellFormed (network_in q.setup) = subst (λ (x : Setup S). WellFormed (network_in x)) (ap (λ (y : PartData S V). y.setup) e ∙ sym s) (formed u u.shard D.planned) in
       let tn : (network_in q.setup).tail b ≢ 0 = λ z. nz (sym t ∙ z) in
       ((W.head_in b tn, λ _. tn), λ z. tn (ap (network_in q.setup).tail z ∙ W.tail_zero))
 
   -- an arc among those out of its tail
-  pub tail_vertex : (p old : PartData S V) (r : Rows V) (n : ℕ) (ns : List ℕ) (a : ℕ) → p ≡ old → IsStored p r n ns → IsArc (network_in old.setup) a → a ≢ 0 → HasVertex p.setup.question.roads ((network_in old.setup).tail a)
+  pub tail_vertex : (p old : PartData S V) (r : Rows V) (n : ℕ) (ns : List ℕ) (a : ℕ) → p ≡ old → RepInvariant p r n ns
+      → IsArc (network_in old.setup) a → a ≢ 0 → HasVertex p.setup.question.roads ((network_in old.setup).tail a)
   tail_vertex p old r n ns a e D ar nz =
-      let g = arc_in_graph p old r n ns a e D ar nz in subst (HasVertex p.setup.question.roads) (sym (tail-arc p.setup.question.roads a g.0) ∙ ap (λ (u : PartData S V). (network_in u.setup).tail a) e) (D.planned.roads.ends a g).0
+      let g = arc_in_graph p old r n ns a e D ar nz in subst (HasVertex p.setup.question.roads) (sym (tail-arc p.setup.question.roads a g.0)
+      ∙ ap (λ (u : PartData S V). (network_in u.setup).tail a) e) (D.planned.roads.ends a g).0
 
   -- where the graph says that an arc stands among those out of its tail
-  pub turn_found : (A : Algebra V) (p old : PartData S V) (r : Rows V) (n : ℕ) (ns : List ℕ) (a k : ℕ) → p ≡ old → IsStored p r n ns → IsArc (network_in old.setup) a → a ≢ 0 → IsTurn p.setup.question.roads a k →
+  pub turn_found : (A : Algebra V) (p old : PartData S V) (r : Rows V) (n : ℕ) (ns : List ℕ) (a k : ℕ) → p ≡ old → RepInvariant p r n ns
+      → IsArc (network_in old.setup) a → a ≢ 0 → IsTurn p.setup.question.roads a k →
       (k < length (outgoing (network_in old.setup) ((network_in old.setup).tail a))) × (get_or (outgoing (network_in old.setup) ((network_in old.setup).tail a)) k 0 ≡ a)
   turn_found A p old r n ns a k e D ar nz turn =
       let h = tail_vertex p old r n ns a e D ar nz in
@@ -115,14 +122,18 @@ module _ {S V : Type 0} where
       (subst (λ ys. k < length ys) is turn.inside, ap (λ ys. get_or ys k 0) (sym is) ∙ turn.found)
 
   -- head and weight of the k-th arc out of a vertex
-  pub road_found : (A : Algebra V) (p old : PartData S V) (r : Rows V) (n : ℕ) (ns : List ℕ) (v j k : ℕ) (rs : List OutRoad) (d : OutRoad) → p ≡ old → IsStored p r n ns → IsPlace old v j → v ≢ 0 → ListsRoadsFrom p.setup.question.roads v rs →
+  pub road_found : (A : Algebra V) (p old : PartData S V) (r : Rows V) (n : ℕ) (ns : List ℕ) (v j k : ℕ) (rs : List OutRoad) (d : OutRoad) → p ≡ old
+      → RepInvariant p r n ns → IsPlace old v j → v ≢ 0 → ListsRoadsFrom p.setup.question.roads v rs →
       k < length (outgoing (network_in old.setup) v) → (k < length rs) × (get_or rs k d ≡ road_of (arc_of old.setup.question.roads (get_or (outgoing (network_in old.setup) v) k 0)))
   road_found A p old r n ns v j k rs d e D P nz o l =
       let h2 = vertex_at A p old r n ns v j e D P nz in
-      road_is old.setup.question.roads old.setup.question.source v k (get_or (outgoing (network_in old.setup) v) k 0) rs d (roads_are p.setup.question.roads p.setup.question.source v rs h2.0 o ∙ ap (λ (u : PartData S V). roads_of u.setup.question.roads (outgoing (network_in u.setup) v)) e) l refl
+      road_is old.setup.question.roads old.setup.question.source v k (get_or (outgoing (network_in old.setup) v) k 0) rs d
+      (roads_are p.setup.question.roads p.setup.question.source v rs h2.0 o
+      ∙ ap (λ (u : PartData S V). roads_of u.setup.question.roads (outgoing (network_in u.setup) v)) e) l refl
 
   -- a message, step by step
-  pub message_handled : (meaning : S → Algebra V) (p p1 p2 p3 p4 : PartData S V) (a v w : ℕ) (x : V) (t : Bool) → v ≡ w → p1 ≡ labelled (meaning p.setup.question.algebra) x v p → p2 ≡ engaged_or_answered a v ((state_in p1).engager v) p1 →
+  pub message_handled : (meaning : S → Algebra V) (p p1 p2 p3 p4 : PartData S V) (a v w : ℕ) (x : V) (t : Bool) → v ≡ w
+      → p1 ≡ labelled (meaning p.setup.question.algebra) x v p → p2 ≡ engaged_or_answered a v ((state_in p1).engager v) p1 →
       t ≡ improves (meaning p.setup.question.algebra) x ((state_in p).label v) → p3 ≡ cond t (offered_all (meaning p2.setup.question.algebra) v (outgoing (network_in p2.setup) v) p2) p2 →
       p4 ≡ rested (meaning p3.setup.question.algebra) v p3 → p4 ≡ with_value (meaning p.setup.question.algebra) a x w p
   message_handled meaning p p1 p2 p3 p4 a v w x t vw e1 e2 et e3 e4 =
@@ -132,12 +143,16 @@ module _ {S V : Type 0} where
       let s2 : p2.setup ≡ p.setup = ap (λ (u : PartData S V). u.setup) e2 ∙ (engaged_or_answered_same (meaning p.setup.question.algebra) a v ((state_in p1).engager v) p1).0 ∙ s1 in
       let s3 : p3.setup ≡ p.setup = ap (λ (u : PartData S V). u.setup) e3 ∙ (pumped_same (meaning p2.setup.question.algebra) t v (outgoing (network_in p2.setup) v) p2).0 ∙ s2 in
       let q2 : p2 ≡ engaged_or_answered a v ((state_in p).engager v) (labelled (meaning p.setup.question.algebra) x v p) = e2 ∙ (λ i. engaged_or_answered a v (g1 i) (e1 i)) in
-      let q3 : p3 ≡ cond (improves (meaning p.setup.question.algebra) x ((state_in p).label v)) (offered_all (meaning p.setup.question.algebra) v (outgoing (network_in p.setup) v) (engaged_or_answered a v ((state_in p).engager v) (labelled (meaning p.setup.question.algebra) x v p))) (engaged_or_answered a v ((state_in p).engager v) (labelled (meaning p.setup.question.algebra) x v p)) =
+      let q3 : p3 ≡ cond (improves (meaning p.setup.question.algebra) x ((state_in p).label v))
+      (offered_all (meaning p.setup.question.algebra) v (outgoing (network_in p.setup) v)
+      (engaged_or_answered a v ((state_in p).engager v) (labelled (meaning p.setup.question.algebra) x v p)))
+      (engaged_or_answered a v ((state_in p).engager v) (labelled (meaning p.setup.question.algebra) x v p)) =
       e3 ∙ (λ i. cond (et i) (offered_all (meaning (s2 i).question.algebra) v (outgoing (network_in (s2 i)) v) (q2 i)) (q2 i)) in
       e4 ∙ (λ i. rested (meaning (s3 i).question.algebra) v (q3 i)) ∙ ap (λ z. with_value (meaning p.setup.question.algebra) a x z p) vw
 
   -- the part stays of its shard and setup
-  pub message_keeps : (meaning : S → Algebra V) (p p1 p2 p3 : PartData S V) (a v j : ℕ) (x : V) (t : Bool) → p1 ≡ labelled (meaning p.setup.question.algebra) x v p → p2 ≡ engaged_or_answered a v ((state_in p1).engager v) p1 →
+  pub message_keeps : (meaning : S → Algebra V) (p p1 p2 p3 : PartData S V) (a v j : ℕ) (x : V) (t : Bool)
+      → p1 ≡ labelled (meaning p.setup.question.algebra) x v p → p2 ≡ engaged_or_answered a v ((state_in p1).engager v) p1 →
       p3 ≡ cond t (offered_all (meaning p2.setup.question.algebra) v (outgoing (network_in p2.setup) v) p2) p2 → IsPlace p v j → IsPlace p3 v j
   message_keeps meaning p p1 p2 p3 a v j x t e1 e2 e3 P =
       let L = improve_same (meaning p.setup.question.algebra) x v p in

@@ -44,7 +44,8 @@ module _ {V : Type 0} (A : Algebra V) (N : Network) where
       go (suc k) e = settle_told L mine (N.tail a) (freed A N a d) (freed_told mine a d H)
 
   -- a message that does not improve: no arc is due, so the pump does nothing
-  pub quiet_message : Lawful A → (mine : ℕ → Bool) (a : ℕ) (x : V) (d : CoreState V) → mine (N.head a) ≡ true → N.head a ≢ 0 → HasTold A N mine 0 d → better_of A x (d.label (N.head a)) ≡ d.label (N.head a) →
+  pub quiet_message : Lawful A → (mine : ℕ → Bool) (a : ℕ) (x : V) (d : CoreState V) → mine (N.head a) ≡ true → N.head a ≢ 0 → HasTold A N mine 0 d
+      → better_of A x (d.label (N.head a)) ≡ d.label (N.head a) →
       (b : ℕ) → is_due A N (N.head a) (arrive_here A N a x d) b ≡ false
   quiet_message L mine a x d m n H same b = told_not_due A N L (N.head a) (arrive_here A N a x d) b
       (λ e i. H b (ap mine e ∙ m) (λ z. n (sym e ∙ z)) (λ z. n (sym e ∙ z)) i ∙ ap d.label e ∙ sym same ∙ sym (put-same d.label (N.head a) (better_of A x (d.label (N.head a)))))

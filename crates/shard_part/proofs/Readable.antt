@@ -11,7 +11,7 @@ use Rattle.scholten_core.specs.Diffusion.{CoreState}
 use Rattle.scholten_core.specs.Items.{item_arc, item_of}
 use Rattle.shard_part.specs.PartState.{PartData}
 use Rattle.shard_part.specs.Weights.{total, outs_weight, part_weight, mail_weight, at_place, in_flight, is}
-use Rattle.shard_part.specs.Shows.{ShowsIn}
+use Rattle.shard_part.specs.Represents.{RepresentsIn}
 use Rattle.shard_part.specs.ItemPlaces.{with_shard, outs_places, part_places, parts_places, mail_places, on, place_of_token}
 use Rattle.shard_part.proofs.Weights.{total_append, sum_at, sum_zero}
 use Rattle.shard_part.proofs.TakenIsEvent.{marks, marks_self, marks_true}
@@ -87,7 +87,7 @@ module _ {V : Type 0} (N : Network) (place : ℕ → ℕ) where
 
 module _ {S V : Type 0} (A : Algebra V) (N : Network) (place : ℕ → ℕ) where
   -- on each arc, the items in all places together, each with the shard that it is at or going to, are just what the arc's token stands for
-  pub places_read : Lawful A → (parts : List (PartData S V)) (ms : List (ℕ × List (Item V))) (c : CoreState V) → ShowsIn A N place parts (mail_weight ms) c → (b : ℕ) → b < suc N.arcs →
+  pub places_read : Lawful A → (parts : List (PartData S V)) (ms : List (ℕ × List (Item V))) (c : CoreState V) → RepresentsIn A N place parts (mail_weight ms) c → (b : ℕ) → b < suc N.arcs →
       on b (parts_places parts ++ mail_places ms) ≡ place_of_token N place b (c.token b)
   places_read L parts ms c H b lt = go (c.token b) refl
     where

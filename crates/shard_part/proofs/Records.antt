@@ -57,7 +57,8 @@ module _ {V : Type 0} where
       })
       ∙ ap (λ (t : VertexLists V). record t { labels = set t.labels j (Some v) }) e
 
-  pub engager_written : (rows : List (VertexRow V)) (now : VertexLists V) (j : ℕ) (x : VertexRow V) (y : Option ℕ) (a : ℕ) (t : Bool) → vertex_lists rows ≡ now → x ≡ get_or rows j x → a ≡ unwrap_or y x.engager → t ≡ is_some y →
+  pub engager_written : (rows : List (VertexRow V)) (now : VertexLists V) (j : ℕ) (x : VertexRow V) (y : Option ℕ) (a : ℕ) (t : Bool)
+      → vertex_lists rows ≡ now → x ≡ get_or rows j x → a ≡ unwrap_or y x.engager → t ≡ is_some y →
       vertex_lists (set rows j (record x { engager = a; engaged = t })) ≡ record now { engagers = set now.engagers j y }
   engager_written rows now j x y a t e h u w =
       (λ i. record {
@@ -109,7 +110,8 @@ module _ {V : Type 0} where
       ∙ ap (λ (t : ArcLists V). record t { busy = set t.busy i b }) e
 
   -- what an arc in the list was told is read of its marks, and of its label if it was told one
-  pub arc_inside : (marks : List ArcMarks) (labels : List V) (now : ArcLists V) (i : ℕ) → length marks ≡ length labels → arc_lists marks labels ≡ now → i < length now.told → (i < length marks) × (i < length labels)
+  pub arc_inside : (marks : List ArcMarks) (labels : List V) (now : ArcLists V) (i : ℕ) → length marks ≡ length labels → arc_lists marks labels ≡ now
+      → i < length now.told → (i < length marks) × (i < length labels)
   arc_inside marks labels now i long e l =
       let all = length-zip2 told_in marks labels long in
       let told = ap (λ (t : ArcLists V). length t.told) e in
@@ -121,7 +123,8 @@ module _ {V : Type 0} where
       let inside = arc_inside marks labels now i long e l in
       (λ k. cond (sym t k) (Some x) None) ∙ (λ k. told_in (at k) (read k)) ∙ sym (get_or-zip2 told_in marks labels i m x None inside.0 inside.1) ∙ ap (λ (t : ArcLists V). get_or t.told i None) e
 
-  pub untold_read : (marks : List ArcMarks) (labels : List V) (now : ArcLists V) (i : ℕ) (m : ArcMarks) → arc_lists marks labels ≡ now → m ≡ get_or marks i m → m.told ≡ false → None ≡ get_or now.told i None
+  pub untold_read : (marks : List ArcMarks) (labels : List V) (now : ArcLists V) (i : ℕ) (m : ArcMarks) → arc_lists marks labels ≡ now
+      → m ≡ get_or marks i m → m.told ≡ false → None ≡ get_or now.told i None
   untold_read marks labels now i m e at f = sym (none marks labels i at) ∙ ap (λ (t : ArcLists V). get_or t.told i None) e
     where
       none : (marks : List ArcMarks) (labels : List V) (i : ℕ) → m ≡ get_or marks i m → get_or (zip2 told_in marks labels) i None ≡ None

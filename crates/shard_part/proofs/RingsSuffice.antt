@@ -9,7 +9,7 @@ use Rattle.scholten_core.specs.Sums.{sum_below, one_if}
 use Rattle.scholten_core.specs.Items.{item_arc, at}
 use Rattle.shard_part.specs.PartState.{PartData, IsArc, vertex_of, maker_of}
 use Rattle.shard_part.specs.Weights.{total, counted, is, All}
-use Rattle.shard_part.specs.Sound.{IsSound}
+use Rattle.shard_part.specs.LocalInvariant.{LocalInvariant}
 use Rattle.shard_part.specs.Capacities.{touches, queue_bound, joins, outbox_bound}
 use Rattle.scholten_core.proofs.Items.{at-skip, at-nil}
 use Rattle.shard_part.proofs.Weights.{total_by_arc}
@@ -20,8 +20,12 @@ count_at : {V : Type 0} (b : ℕ) (xs : List (Item V)) → counted b xs ≡ leng
 unfolding at
 count_at b [] = refl
 count_at b (i ∷ xs) = elim (cases_eq (item_arc i) b) [
-  | inl e ↦ (let q = ap one_if (eq-eqb b (item_arc i) (sym e)) in let r = ap length (cond-true (eqb (item_arc i) b) (i ∷ at b xs) (at b xs) (eq-eqb (item_arc i) b e)) in let p = count_at b xs in omega (arith, q, r, p))
-  | inr n ↦ (let q = ap one_if (ne_eqb b (item_arc i) (λ e. n (sym e))) in let r = ap length (cond-false (eqb (item_arc i) b) (i ∷ at b xs) (at b xs) (ne_eqb (item_arc i) b n)) in let p = count_at b xs in omega (arith, q, r, p))
+  | inl e ↦ (let q = ap one_if (eq-eqb b (item_arc i) (sym e)) in
+      let r = ap length (cond-true (eqb (item_arc i) b) (i ∷ at b xs) (at b xs) (eq-eqb (item_arc i) b e)) in let p = count_at b xs in
+      omega (arith, q, r, p))
+  | inr n ↦ (let q = ap one_if (ne_eqb b (item_arc i) (λ e. n (sym e))) in
+      let r = ap length (cond-false (eqb (item_arc i) b) (i ∷ at b xs) (at b xs) (ne_eqb (item_arc i) b n)) in let p = count_at b xs in
+      omega (arith, q, r, p))
 ]
 
 -- a list of items, no arc twice, each on an arc for which there is room
@@ -85,9 +89,9 @@ module _ {V : Type 0} (A : Algebra V) (N : Network) (place : ℕ → ℕ) where
 
 module _ {S V : Type 0} (A : Algebra V) (N : Network) (place : ℕ → ℕ) where
   -- with no core in sight
-  pub sound_fits : WellFormed N → (p : PartData S V) → IsSound N place p → length p.queue ≤ queue_bound N place p.shard
+  pub sound_fits : WellFormed N → (p : PartData S V) → LocalInvariant N place p → length p.queue ≤ queue_bound N place p.shard
   sound_fits W p H = lists_fit A N (touches N place p.shard) W p.queue (queue_counts A N place p.shard p.queue H.here) (λ b. let o = H.once b in omega (arith, o))
 
-  pub sound_out_fits : WellFormed N → (p : PartData S V) → IsSound N place p → (t : ℕ) → length (get_or p.outs t []) ≤ outbox_bound N place p.shard t
+  pub sound_out_fits : WellFormed N → (p : PartData S V) → LocalInvariant N place p → (t : ℕ) → length (get_or p.outs t []) ≤ outbox_bound N place p.shard t
   sound_out_fits W p H t = lists_fit A N (joins N place p.shard t) W (get_or p.outs t []) (outbox_counts A N place p.shard t (get_or p.outs t []) (H.gone t))
       (λ b. let o = H.once b in let m = outs_member (λ _ j. is b (item_arc j)) 0 t p.outs in omega (arith, o, m))

@@ -11,7 +11,7 @@ use Rattle.scholten_core.specs.Sums.{sum_below, one_if}
 use Rattle.scholten_core.specs.Items.{item_arc, item_of}
 use Rattle.shard_part.specs.PartState.{PartData, state_in, mine}
 use Rattle.shard_part.specs.Weights.{total, outs_weight, part_weight, at_place, is}
-use Rattle.shard_part.specs.Shows.{HoldsShare, HoldsTables}
+use Rattle.shard_part.specs.Represents.{HoldsShareIn, HoldsTables}
 use Rattle.shard_part.specs.Capacities.{touches, queue_bound}
 use Rattle.scholten_core.proofs.Kept.{Kept}
 use Rattle.shard_part.proofs.Showing.{is_self}
@@ -48,7 +48,9 @@ each_one f (x ∷ xs) h = let p = each_one f xs h in let q = h x in omega (arith
 pub outs_member : {V : Type 0} (h : ℕ → Item V → ℕ) (k t : ℕ) (os : List (List (Item V))) → total (h (k + t)) (get_or os t []) ≤ outs_weight h k os
 outs_member h k t [] = omega arith
 outs_member h k zero (o ∷ os) = let q : total (h (k + 0)) o ≡ total (h k) o = ap (λ z. total (h z) o) (let e : k + 0 ≡ k = omega arith in e) in omega (arith, q)
-outs_member h k (suc t) (o ∷ os) = let p = outs_member h (suc k) t os in let q : total (h (k + suc t)) (get_or os t []) ≡ total (h (suc k + t)) (get_or os t []) = ap (λ z. total (h z) (get_or os t [])) (let e : k + suc t ≡ suc k + t = omega arith in e) in omega (arith, p, q)
+outs_member h k (suc t) (o ∷ os) = let p = outs_member h (suc k) t os in
+    let q : total (h (k + suc t)) (get_or os t []) ≡ total (h (suc k + t)) (get_or os t []) = ap (λ z. total (h z) (get_or os t []))
+    (let e : k + suc t ≡ suc k + t = omega arith in e) in omega (arith, p, q)
 
 module _ {V : Type 0} (N : Network) (place : ℕ → ℕ) where
   abbrev at_shard : ℕ → ℕ → Item V → ℕ
@@ -65,7 +67,7 @@ module _ {V : Type 0} (N : Network) (place : ℕ → ℕ) where
 
 module _ {S V : Type 0} (A : Algebra V) (N : Network) (place : ℕ → ℕ) where
   -- the queue never outgrows its capacity. With the queue joined by a batch: what `receive` asks as room
-  pub queue_fits : (c : CoreState V) (p : PartData S V) → HoldsShare A N place c p → length p.queue ≤ queue_bound N place p.shard
+  pub queue_fits : (c : CoreState V) (p : PartData S V) → HoldsShareIn A N place c p → length p.queue ≤ queue_bound N place p.shard
   queue_fits c p H =
       let w = H.weighs (at_shard N place p.shard) in
       let n = each_one (at_shard N place p.shard p.shard) p.queue (λ i. is_self p.shard) in
@@ -73,7 +75,7 @@ module _ {S V : Type 0} (A : Algebra V) (N : Network) (place : ℕ → ℕ) wher
       omega (arith, w, n, m)
 
   -- no arc twice
-  pub arc_once : (c : CoreState V) (p : PartData S V) (a : ℕ) → HoldsShare A N place c p → part_weight (on_arc N place a) p ≤ 1
+  pub arc_once : (c : CoreState V) (p : PartData S V) (a : ℕ) → HoldsShareIn A N place c p → part_weight (on_arc N place a) p ≤ 1
   arc_once c p a H =
       let w = H.weighs (on_arc N place a) in
       let m = sum_of_one (λ b. total (at_place N place (on_arc N place a)) (item_of b (c.token b))) a (suc N.arcs) (λ b n. off b (λ e. n (sym e)) (c.token b)) (here (c.token a)) in
@@ -92,7 +94,8 @@ module _ {S V : Type 0} (A : Algebra V) (N : Network) (place : ℕ → ℕ) wher
       here Signal = let q = is_self a in omega (arith, q)
 
   -- a message's arc engages nothing here, a signal's arc is busy here
-  pub message_free : (c : CoreState V) (p : PartData S V) (a : ℕ) (x : V) → Kept A N 0 c → HoldsTables A N place c p → c.token a ≡ Message x → mine place p.shard (N.head a) ≡ true → (state_in p).engager (N.head a) ≢ Some a
+  pub message_free : (c : CoreState V) (p : PartData S V) (a : ℕ) (x : V) → Kept A N 0 c → HoldsTables A N place c p → c.token a ≡ Message x
+      → mine place p.shard (N.head a) ≡ true → (state_in p).engager (N.head a) ≢ Some a
   message_free c p a x K H q m e = let h = (K.engager_held (N.head a) a (sym (H.agree.engager (N.head a) m) ∙ e)).0 in let g = sym q ∙ h in cc
 
   pub signal_busy : (c : CoreState V) (p : PartData S V) (a : ℕ) → HoldsTables A N place c p → c.token a ≡ Signal → mine place p.shard (N.tail a) ≡ true → is_idle ((state_in p).token a) ≡ false

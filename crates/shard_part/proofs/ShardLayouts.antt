@@ -11,7 +11,7 @@ use Rattle.shard_part.specs.declared.layout.Extent.{Extent}
 use Rattle.shard_part.specs.Plans.{shard_in, HasPlanned}
 use Rattle.shard_part.specs.Tables.{placed}
 use Rattle.shard_part.specs.PartState.{network_in, place_in}
-use Rattle.shard_part.specs.Outgoing.{own_in, arcs_out, outgoing}
+use Rattle.shard_part.specs.Outgoing.{local_vertices, arcs_out, outgoing}
 use Rattle.shard_part.specs.Weights.{total, is}
 use Rattle.shard_part.specs.Capacities.{outbox_bound}
 use Rattle.shard_part.specs.Moves.{IsPlanned}
@@ -26,10 +26,12 @@ use Rattle.shard_part.proofs.CapacitiesByVertex.{seen_at, seen_all, outbox_bound
 use Rattle.scholten_core.proofs.Sums.{one_if-most}
 use Rattle.road_graph.proofs.Lists.{element_place}
 
-pub first_is : (w old : ShardLayoutData) (x : ℕ) (b : Bool) → w ≡ old → IsPlanned w.setup w.shard → x ≡ shard_in w.setup.plan w.setup.question.source → b ≡ eqb x w.shard → b ≡ is_first old.setup old.shard
+pub first_is : (w old : ShardLayoutData) (x : ℕ) (b : Bool) → w ≡ old → IsPlanned w.setup w.shard → x ≡ shard_in w.setup.plan w.setup.question.source
+    → b ≡ eqb x w.shard → b ≡ is_first old.setup old.shard
 first_is w old x b e D h q = q ∙ ap (λ k. eqb k w.shard) (h ∙ sym (place_entry w.setup D.source.0)) ∙ ap (λ (u : ShardLayoutData). is_first u.setup u.shard) e
 
-pub has_is : (w old : ShardLayoutData) (v x : ℕ) (b : Bool) → w ≡ old → HasVertex old.setup.question.roads v → x ≡ shard_in w.setup.plan v → b ≡ eqb x w.shard → b ≡ eqb (place_in old.setup v) old.shard
+pub has_is : (w old : ShardLayoutData) (v x : ℕ) (b : Bool) → w ≡ old → HasVertex old.setup.question.roads v → x ≡ shard_in w.setup.plan v
+    → b ≡ eqb x w.shard → b ≡ eqb (place_in old.setup v) old.shard
 has_is w old v x b e l h q = q ∙ ap (λ k. eqb k w.shard) (h ∙ sym (place_vertex w.setup v l.0)) ∙ ap (λ (u : ShardLayoutData). eqb (place_in u.setup v) u.shard) e
 
 pub count_out_zero : (w old : ShardLayoutData) (v : ℕ) → w ≡ old → IsPlanned w.setup w.shard → v ≡ 0 → 1 ≡ length (outgoing (network_in old.setup) v)
@@ -65,7 +67,9 @@ listed_into w old v xs e l o =
 
     all : (b : ℕ) → (turned (network w.setup.question.roads w.setup.question.source)).tail b ≡ v → 0 ≤ b → b < 0 + suc (length w.setup.question.roads.arcs) → Contains xs b
     all b t k h = elim (cases_eq b 0) [
-      | inl z ↦ absurd (let q : (turned (network w.setup.question.roads w.setup.question.source)).tail b ≡ 0 = cond-true {A = ℕ} (eqb b 0) 0 ((network w.setup.question.roads w.setup.question.source).head b) (eq-eqb b 0 z) in omega (arith, q, t, l))
+      | inl z ↦ absurd (let q : (turned (network w.setup.question.roads w.setup.question.source)).tail b
+          ≡ 0 = cond-true {A = ℕ} (eqb b 0) 0 ((network w.setup.question.roads w.setup.question.source).head b) (eq-eqb b 0 z) in
+          omega (arith, q, t, l))
       | inr nz ↦ (let low : 1 ≤ b = omega (arith, nz) in let high : b ≤ length w.setup.question.roads.arcs = omega (arith, h) in
           (o.complete b).1 ((low, high), sym (head-arc w.setup.question.roads w.setup.question.source b low) ∙ sym (turned_tail (network w.setup.question.roads w.setup.question.source) b nz) ∙ t))
     ]
@@ -80,19 +84,25 @@ agrees b x y h f = elim (cases_eq x y) [ inl e ↦ e | inr n ↦ absurd (false�
 -- a counter goes up by one
 pub add_one : (capacities : List ℕ) (to t : ℕ) → to < length capacities → get_or (set capacities to (get_or capacities to 0 + 1)) t 0 ≡ get_or capacities t 0 + is t to
 add_one capacities to t l = elim (cases_eq t to) [
-  | inl e ↦ (let a : get_or (set capacities to (get_or capacities to 0 + 1)) t 0 ≡ get_or capacities to 0 + 1 = ap (λ k. get_or (set capacities to (get_or capacities to 0 + 1)) k 0) e ∙ get_or-set_same capacities to (get_or capacities to 0 + 1) 0 l in
+  | inl e ↦ (let a : get_or (set capacities to (get_or capacities to 0 + 1)) t 0
+      ≡ get_or capacities to 0 + 1 = ap (λ k. get_or (set capacities to (get_or capacities to 0 + 1)) k 0) e
+      ∙ get_or-set_same capacities to (get_or capacities to 0 + 1) 0 l in
       let b = ap (λ k. get_or capacities k 0) e in let o = ap one_if (eq-eqb t to e) in omega (arith, a, b, o))
   | inr n ↦ (let a = get_or-set_other capacities to t (get_or capacities to 0 + 1) 0 n in let o = ap one_if (ne_eqb t to n) in omega (arith, a, o))
 ]
 
 -- the ends of an arc are planned
-pub planned_head : (w : ShardLayoutData) (a : ℕ) → IsPlanned w.setup w.shard → HasArc w.setup.question.roads a → HasPlanned w.setup.plan (arc_of w.setup.question.roads a).head × (shard_in w.setup.plan (arc_of w.setup.question.roads a).head ≡ place_in w.setup ((network_in w.setup).head a))
+pub planned_head : (w : ShardLayoutData) (a : ℕ) → IsPlanned w.setup w.shard → HasArc w.setup.question.roads a
+    → HasPlanned w.setup.plan (arc_of w.setup.question.roads a).head
+    × (shard_in w.setup.plan (arc_of w.setup.question.roads a).head ≡ place_in w.setup ((network_in w.setup).head a))
 planned_head w a D h = let j = (D.roads.ends a h).1 in (
   (j.0, (let m = j.1 in let c = D.covers in omega (arith, m, c))),
   sym (ap (place_in w.setup) (head-arc w.setup.question.roads w.setup.question.source a h.0) ∙ place_vertex w.setup (arc_of w.setup.question.roads a).head j.0),
 )
 
-pub planned_tail : (w : ShardLayoutData) (a : ℕ) → IsPlanned w.setup w.shard → HasArc w.setup.question.roads a → HasPlanned w.setup.plan (arc_of w.setup.question.roads a).tail × (shard_in w.setup.plan (arc_of w.setup.question.roads a).tail ≡ place_in w.setup ((network_in w.setup).tail a))
+pub planned_tail : (w : ShardLayoutData) (a : ℕ) → IsPlanned w.setup w.shard → HasArc w.setup.question.roads a
+    → HasPlanned w.setup.plan (arc_of w.setup.question.roads a).tail
+    × (shard_in w.setup.plan (arc_of w.setup.question.roads a).tail ≡ place_in w.setup ((network_in w.setup).tail a))
 planned_tail w a D h = let j = (D.roads.ends a h).0 in (
   (j.0, (let m = j.1 in let c = D.covers in omega (arith, m, c))),
   sym (ap (place_in w.setup) (tail-arc w.setup.question.roads a h.0) ∙ place_vertex w.setup (arc_of w.setup.question.roads a).tail j.0),
@@ -100,15 +110,21 @@ planned_tail w a D h = let j = (D.roads.ends a h).0 in (
 
 -- what was counted of some of the vertices is no more than there are arcs
 pub seen_whole : (w : ShardLayoutData) (t : ℕ) → IsPlanned w.setup w.shard →
-    cond (is_first w.setup w.shard) (is t w.shard) 0 + total (seen_at (network_in w.setup) (place_in w.setup) w.shard t) (placed (place_in w.setup) w.shard 1 w.setup.question.roads.vertices) ≡ outbox_bound (network_in w.setup) (place_in w.setup) w.shard t
+    cond (is_first w.setup w.shard) (is t w.shard) 0 + total (seen_at (network_in w.setup) (place_in w.setup) w.shard t)
+    (placed (place_in w.setup) w.shard 1 w.setup.question.roads.vertices) ≡ outbox_bound (network_in w.setup) (place_in w.setup) w.shard t
 seen_whole w t D = seen_all (network_in w.setup) (place_in w.setup) w.shard t w.setup.question.roads.vertices (tail-entry w.setup.question.roads) (place_source w.setup w.shard D)
-    (λ b nz l. let low : 1 ≤ b = omega (arith, nz) in let h : HasArc w.setup.question.roads b = (low, (let m : b ≤ length w.setup.question.roads.arcs = omega (arith, l) in m)) in let j = D.roads.ends b h in
+    (λ b nz l. let low : 1 ≤ b = omega (arith, nz) in let h : HasArc w.setup.question.roads b = (
+      low,
+      (let m : b ≤ length w.setup.question.roads.arcs = omega (arith, l) in m),
+    ) in let j = D.roads.ends b h in
     let p = tail-arc w.setup.question.roads b low in let q = head-arc w.setup.question.roads w.setup.question.source b low in
     ((let a = j.0.0 in omega (arith, a, p)), (let a = j.0.1 in omega (arith, a, p)), (let a = j.1.0 in omega (arith, a, q)), (let a = j.1.1 in omega (arith, a, q))))
 
 pub seen_most : (w : ShardLayoutData) (t i : ℕ) → IsPlanned w.setup w.shard →
-    cond (is_first w.setup w.shard) (is t w.shard) 0 + total (seen_at (network_in w.setup) (place_in w.setup) w.shard t) (take i (placed (place_in w.setup) w.shard 1 w.setup.question.roads.vertices)) ≤ suc (length w.setup.question.roads.arcs)
-seen_most w t i D = let a = seen_whole w t D in let b = total_most (seen_at (network_in w.setup) (place_in w.setup) w.shard t) (placed (place_in w.setup) w.shard 1 w.setup.question.roads.vertices) i in
+    cond (is_first w.setup w.shard) (is t w.shard) 0 + total (seen_at (network_in w.setup) (place_in w.setup) w.shard t)
+    (take i (placed (place_in w.setup) w.shard 1 w.setup.question.roads.vertices)) ≤ suc (length w.setup.question.roads.arcs)
+seen_most w t i D = let a = seen_whole w t D in let b = total_most (seen_at (network_in w.setup) (place_in w.setup) w.shard t)
+    (placed (place_in w.setup) w.shard 1 w.setup.question.roads.vertices) i in
     let c = outbox_bound_most (network_in w.setup) (place_in w.setup) w.shard t in omega (arith, a, b, c)
 
 -- each arc counts once at most
@@ -139,20 +155,24 @@ pub item_into : (g : Roads) (v a i : ℕ) (xs : List ℕ) → ListsArcsInto g v 
 item_into g v a i xs o l h = subst (HasArc g) (sym (get_or_read xs i a l h 0)) (arc_into g v i xs o l).0
 
 -- a count of a vertex's arcs is small
-pub leading_most : (w : ShardLayoutData) (v t i : ℕ) (xs : List ℕ) → 1 ≤ v → ListsArcsFrom w.setup.question.roads v xs → leading_to (network_in w.setup) (place_in w.setup) t (take i xs) ≤ suc (length w.setup.question.roads.arcs)
+pub leading_most : (w : ShardLayoutData) (v t i : ℕ) (xs : List ℕ) → 1 ≤ v → ListsArcsFrom w.setup.question.roads v xs
+    → leading_to (network_in w.setup) (place_in w.setup) t (take i xs) ≤ suc (length w.setup.question.roads.arcs)
 leading_most w v t i xs l o =
     let a = total_most (λ b. is t (place_in w.setup ((network_in w.setup).head b))) xs i in
     let b = leading_few (network_in w.setup) (place_in w.setup) t xs in
     let c = ap length (listed_from w w v xs refl l o) in let d = out_most (network_in w.setup) v in omega (arith, a, b, c, d)
 
-pub coming_most : (w : ShardLayoutData) (v t i : ℕ) (xs : List ℕ) → 1 ≤ v → ListsArcsInto w.setup.question.roads v xs → coming_from (network_in w.setup) (place_in w.setup) w.shard t (take i xs) ≤ suc (length w.setup.question.roads.arcs)
+pub coming_most : (w : ShardLayoutData) (v t i : ℕ) (xs : List ℕ) → 1 ≤ v → ListsArcsInto w.setup.question.roads v xs
+    → coming_from (network_in w.setup) (place_in w.setup) w.shard t (take i xs) ≤ suc (length w.setup.question.roads.arcs)
 coming_most w v t i xs l o =
     let a = total_most (λ b. cond (eqb (place_in w.setup ((network_in w.setup).tail b)) w.shard) 0 (is t (place_in w.setup ((network_in w.setup).tail b)))) xs i in
     let b = coming_few (network_in w.setup) (place_in w.setup) w.shard t xs in
     let c = ap length (listed_into w w v xs refl l o) in let d = out_most (turned (network_in w.setup)) v in omega (arith, a, b, c, d)
 
 -- one arc more
-pub leading_more : (w : ShardLayoutData) (v a to i : ℕ) (xs capacities first : List ℕ) → IsPlanned w.setup w.shard → ListsArcsFrom w.setup.question.roads v xs → i < length xs → a ≡ get_or xs i a → to ≡ shard_in w.setup.plan (arc_of w.setup.question.roads a).head → to < length capacities →
+pub leading_more : (w : ShardLayoutData) (v a to i : ℕ) (xs capacities first : List ℕ) → IsPlanned w.setup w.shard
+    → ListsArcsFrom w.setup.question.roads v xs → i < length xs → a ≡ get_or xs i a
+    → to ≡ shard_in w.setup.plan (arc_of w.setup.question.roads a).head → to < length capacities →
     ((t : ℕ) → t < w.setup.plan.shards → get_or capacities t 0 ≡ get_or first t 0 + leading_to (network_in w.setup) (place_in w.setup) t (take i xs)) →
     (t : ℕ) → t < w.setup.plan.shards → get_or (set capacities to (get_or capacities to 0 + 1)) t 0 ≡ get_or first t 0 + leading_to (network_in w.setup) (place_in w.setup) t (take (i + 1) xs)
 leading_more w v a to i xs capacities first D o l h q m inv t k =
@@ -163,29 +183,38 @@ leading_more w v a to i xs capacities first D o l h q m inv t k =
     let u : is t to ≡ is t (place_in w.setup ((network_in w.setup).head (get_or xs i 0))) = ap (is t) (q ∙ p.1 ∙ ap (λ b. place_in w.setup ((network_in w.setup).head b)) (get_or_read xs i a l h 0)) in
     omega (arith, x, y, z, u)
 
-coming_more : (w : ShardLayoutData) (v a i t : ℕ) (xs : List ℕ) (x : ℕ) → i < length xs → a ≡ get_or xs i a → x ≡ cond (eqb (place_in w.setup ((network_in w.setup).tail a)) w.shard) 0 (is t (place_in w.setup ((network_in w.setup).tail a))) →
+coming_more : (w : ShardLayoutData) (v a i t : ℕ) (xs : List ℕ) (x : ℕ) → i < length xs → a ≡ get_or xs i a
+    → x ≡ cond (eqb (place_in w.setup ((network_in w.setup).tail a)) w.shard) 0 (is t (place_in w.setup ((network_in w.setup).tail a))) →
     coming_from (network_in w.setup) (place_in w.setup) w.shard t (take (i + 1) xs) ≡ coming_from (network_in w.setup) (place_in w.setup) w.shard t (take i xs) + x
 coming_more w v a i t xs x l h q =
     let f : ℕ → ℕ = λ b. cond (eqb (place_in w.setup ((network_in w.setup).tail b)) w.shard) 0 (is t (place_in w.setup ((network_in w.setup).tail b))) in
     let z = total_take f xs i 0 l in let u : x ≡ f (get_or xs i 0) = q ∙ ap f (get_or_read xs i a l h 0) in omega (arith, z, u)
 
-pub coming_other : (w : ShardLayoutData) (v a from i : ℕ) (xs capacities first : List ℕ) → IsPlanned w.setup w.shard → ListsArcsInto w.setup.question.roads v xs → i < length xs → a ≡ get_or xs i a → from ≡ shard_in w.setup.plan (arc_of w.setup.question.roads a).tail → from ≢ w.shard → from < length capacities →
+pub coming_other : (w : ShardLayoutData) (v a from i : ℕ) (xs capacities first : List ℕ) → IsPlanned w.setup w.shard
+    → ListsArcsInto w.setup.question.roads v xs → i < length xs → a ≡ get_or xs i a
+    → from ≡ shard_in w.setup.plan (arc_of w.setup.question.roads a).tail → from ≢ w.shard → from < length capacities →
     ((t : ℕ) → t < w.setup.plan.shards → get_or capacities t 0 ≡ get_or first t 0 + coming_from (network_in w.setup) (place_in w.setup) w.shard t (take i xs)) →
-    (t : ℕ) → t < w.setup.plan.shards → get_or (set capacities from (get_or capacities from 0 + 1)) t 0 ≡ get_or first t 0 + coming_from (network_in w.setup) (place_in w.setup) w.shard t (take (i + 1) xs)
+    (t : ℕ) → t < w.setup.plan.shards → get_or (set capacities from (get_or capacities from 0 + 1)) t 0
+    ≡ get_or first t 0 + coming_from (network_in w.setup) (place_in w.setup) w.shard t (take (i + 1) xs)
 coming_other w v a from i xs capacities first D o l h q ne m inv t k =
     let p : from ≡ place_in w.setup ((network_in w.setup).tail a) = q ∙ (planned_tail w a D (item_into w.setup.question.roads v a i xs o l h)).1 in
     let x = add_one capacities from t m in
     let y = inv t k in
-    let z = coming_more w v a i t xs (is t from) l h (ap (is t) p ∙ sym (cond-false (eqb (place_in w.setup ((network_in w.setup).tail a)) w.shard) 0 (is t (place_in w.setup ((network_in w.setup).tail a))) (ne_eqb _ _ (λ e. ne (p ∙ e))))) in
+    let z = coming_more w v a i t xs (is t from) l h (ap (is t) p
+    ∙ sym (cond-false (eqb (place_in w.setup ((network_in w.setup).tail a)) w.shard) 0 (is t (place_in w.setup ((network_in w.setup).tail a)))
+    (ne_eqb _ _ (λ e. ne (p ∙ e))))) in
     omega (arith, x, y, z)
 
-pub coming_own : (w : ShardLayoutData) (v a from i : ℕ) (xs capacities first : List ℕ) → IsPlanned w.setup w.shard → ListsArcsInto w.setup.question.roads v xs → i < length xs → a ≡ get_or xs i a → from ≡ shard_in w.setup.plan (arc_of w.setup.question.roads a).tail → from ≡ w.shard →
+pub coming_own : (w : ShardLayoutData) (v a from i : ℕ) (xs capacities first : List ℕ) → IsPlanned w.setup w.shard
+    → ListsArcsInto w.setup.question.roads v xs → i < length xs → a ≡ get_or xs i a
+    → from ≡ shard_in w.setup.plan (arc_of w.setup.question.roads a).tail → from ≡ w.shard →
     ((t : ℕ) → t < w.setup.plan.shards → get_or capacities t 0 ≡ get_or first t 0 + coming_from (network_in w.setup) (place_in w.setup) w.shard t (take i xs)) →
     (t : ℕ) → t < w.setup.plan.shards → get_or capacities t 0 ≡ get_or first t 0 + coming_from (network_in w.setup) (place_in w.setup) w.shard t (take (i + 1) xs)
 coming_own w v a from i xs capacities first D o l h q same inv t k =
     let p : from ≡ place_in w.setup ((network_in w.setup).tail a) = q ∙ (planned_tail w a D (item_into w.setup.question.roads v a i xs o l h)).1 in
     let y = inv t k in
-    let z = coming_more w v a i t xs 0 l h (sym (cond-true {A = ℕ} (eqb (place_in w.setup ((network_in w.setup).tail a)) w.shard) 0 (is t (place_in w.setup ((network_in w.setup).tail a))) (eq-eqb _ _ (sym p ∙ same)))) in
+    let z = coming_more w v a i t xs 0 l h (sym (cond-true {A = ℕ} (eqb (place_in w.setup ((network_in w.setup).tail a)) w.shard) 0
+    (is t (place_in w.setup ((network_in w.setup).tail a))) (eq-eqb _ _ (sym p ∙ same)))) in
     omega (arith, y, z)
 
 -- all arcs of a vertex
@@ -199,7 +228,8 @@ leading_done w old v i xs capacities first e l o d long inv = (
 )
 
 pub coming_done : (w old : ShardLayoutData) (v i : ℕ) (xs capacities first : List ℕ) → w ≡ old → 1 ≤ v → ListsArcsInto w.setup.question.roads v xs → length xs ≤ i → length capacities ≡ length first →
-    ((t : ℕ) → t < old.setup.plan.shards → get_or capacities t 0 ≡ get_or first t 0 + coming_from (network_in old.setup) (place_in old.setup) old.shard t (take i xs)) → CountsInto old v first capacities
+    ((t : ℕ) → t < old.setup.plan.shards → get_or capacities t 0
+    ≡ get_or first t 0 + coming_from (network_in old.setup) (place_in old.setup) old.shard t (take i xs)) → CountsInto old v first capacities
 coming_done w old v i xs capacities first e l o d long inv = (
   long,
   λ t k. let a = inv t k in
@@ -223,39 +253,51 @@ extent_within place s n e m E =
     ]
 
 -- where they follow one another, the own vertices are told without a list
-pub own_run : (w : ShardLayoutData) (e : Extent) → IsExtent (placed (place_in w.setup) w.shard 1 w.setup.question.roads.vertices) e → e.first + e.count ≡ e.last + 1 → 0 ∷ range_with_len e.first e.count ≡ own_in w.setup w.shard
+pub own_run : (w : ShardLayoutData) (e : Extent) → IsExtent (placed (place_in w.setup) w.shard 1 w.setup.question.roads.vertices) e
+    → e.first + e.count ≡ e.last + 1 → 0 ∷ range_with_len e.first e.count ≡ local_vertices w.setup w.shard
 own_run w e E run =
     let c = E.count in
-    ap (λ xs. 0 ∷ xs) (ap (range_with_len e.first) E.count ∙ sym (follow_first (placed (place_in w.setup) w.shard 1 w.setup.question.roads.vertices) e.first e.last (placed_picked (place_in w.setup) w.shard 1 w.setup.question.roads.vertices).increasing E.first E.last (omega (arith, run, c))))
+    ap (λ xs. 0 ∷ xs) (ap (range_with_len e.first) E.count
+    ∙ sym (follow_first (placed (place_in w.setup) w.shard 1 w.setup.question.roads.vertices) e.first e.last
+    (placed_picked (place_in w.setup) w.shard 1 w.setup.question.roads.vertices).increasing E.first E.last (omega (arith, run, c))))
 
 -- vertices that were gone through, and what was counted of them
 abbrev pub CountedSo : ShardLayoutData → ℕ → List ℕ → Type 0
-CountedSo w i capacities = (t : ℕ) → t < w.setup.plan.shards → get_or capacities t 0 ≡ cond (is_first w.setup w.shard) (is t w.shard) 0 + total (seen_at (network_in w.setup) (place_in w.setup) w.shard t) (take i (placed (place_in w.setup) w.shard 1 w.setup.question.roads.vertices))
+CountedSo w i capacities = (t : ℕ) → t < w.setup.plan.shards
+    → get_or capacities t 0 ≡ cond (is_first w.setup w.shard) (is t w.shard) 0 + total (seen_at (network_in w.setup) (place_in w.setup) w.shard t)
+    (take i (placed (place_in w.setup) w.shard 1 w.setup.question.roads.vertices))
 
-pub counted_small : (w : ShardLayoutData) (i : ℕ) (capacities : List ℕ) → IsPlanned w.setup w.shard → length capacities ≡ w.setup.plan.shards → CountedSo w i capacities → (t : ℕ) → get_or capacities t 0 ≤ 2 ^ 32
+pub counted_small : (w : ShardLayoutData) (i : ℕ) (capacities : List ℕ) → IsPlanned w.setup w.shard → length capacities ≡ w.setup.plan.shards
+    → CountedSo w i capacities → (t : ℕ) → get_or capacities t 0 ≤ 2 ^ 32
 counted_small w i capacities D long inv t = elim (cases_lt t w.setup.plan.shards) [
   | inl l ↦ (let a = inv t l in let b = seen_most w t i D in let f = D.roads.few_arcs in omega (arith, a, b, f))
   | inr l ↦ (let a = get_or_past capacities t 0 (omega (arith, l, long)) in omega (arith, a))
 ]
 
-pub counted_middle : (w : ShardLayoutData) (v i : ℕ) (capacities middle : List ℕ) → IsPlanned w.setup w.shard → length capacities ≡ w.setup.plan.shards → CountedSo w i capacities → CountsOut w v capacities middle → (t : ℕ) → get_or middle t 0 ≤ 2 ^ 33
+pub counted_middle : (w : ShardLayoutData) (v i : ℕ) (capacities middle : List ℕ) → IsPlanned w.setup w.shard
+    → length capacities ≡ w.setup.plan.shards → CountedSo w i capacities → CountsOut w v capacities middle → (t : ℕ) → get_or middle t 0 ≤ 2 ^ 33
 counted_middle w v i capacities middle D long inv out t = elim (cases_lt t w.setup.plan.shards) [
-  | inl l ↦ (let a = counted_small w i capacities D long inv t in let b = out.1 t l in let c = leading_few (network_in w.setup) (place_in w.setup) t (outgoing (network_in w.setup) v) in let d = out_most (network_in w.setup) v in let f = D.roads.few_arcs in omega (arith, a, b, c, d, f))
+  | inl l ↦ (let a = counted_small w i capacities D long inv t in let b = out.1 t l in
+      let c = leading_few (network_in w.setup) (place_in w.setup) t (outgoing (network_in w.setup) v) in let d = out_most (network_in w.setup) v in
+      let f = D.roads.few_arcs in omega (arith, a, b, c, d, f))
   | inr l ↦ (let k = out.0 in let a = get_or_past middle t 0 (omega (arith, l, long, k)) in omega (arith, a))
 ]
 
-pub counted_all : (w : ShardLayoutData) (i : ℕ) (capacities : List ℕ) → IsPlanned w.setup w.shard → length (placed (place_in w.setup) w.shard 1 w.setup.question.roads.vertices) ≤ i → length capacities ≡ w.setup.plan.shards → CountedSo w i capacities → CountsAll w capacities
+pub counted_all : (w : ShardLayoutData) (i : ℕ) (capacities : List ℕ) → IsPlanned w.setup w.shard
+    → length (placed (place_in w.setup) w.shard 1 w.setup.question.roads.vertices) ≤ i → length capacities ≡ w.setup.plan.shards
+    → CountedSo w i capacities → CountsAll w capacities
 counted_all w i capacities D l long inv = (
   long,
   λ t k. let a = inv t k in let b = total_whole (seen_at (network_in w.setup) (place_in w.setup) w.shard t) (placed (place_in w.setup) w.shard 1 w.setup.question.roads.vertices) i l in
       let d = seen_whole w t D in omega (arith, a, b, d),
 )
 
-pub counted_none : (w : ShardLayoutData) (capacities : List ℕ) → ((t : ℕ) → t < w.setup.plan.shards → get_or capacities t 0 ≡ cond (is_first w.setup w.shard) (is t w.shard) 0) → CountedSo w 0 capacities
+pub counted_none : (w : ShardLayoutData) (capacities : List ℕ)
+    → ((t : ℕ) → t < w.setup.plan.shards → get_or capacities t 0 ≡ cond (is_first w.setup w.shard) (is t w.shard) 0) → CountedSo w 0 capacities
 counted_none w capacities h t k = let a = h t k in omega (arith, a)
 
 -- the vertex at a place behind the environment's
-module _ (w : ShardLayoutData) (own : List ℕ) (same : own ≡ own_in w.setup w.shard) (j v : ℕ) (behind : 1 ≤ j) (inside : j < length own) (read : v ≡ get_or own j 0) where
+module _ (w : ShardLayoutData) (own : List ℕ) (same : own ≡ local_vertices w.setup w.shard) (j v : ℕ) (behind : 1 ≤ j) (inside : j < length own) (read : v ≡ get_or own j 0) where
   vertex_read : (j - 1 < length (placed (place_in w.setup) w.shard 1 w.setup.question.roads.vertices)) × (v ≡ get_or (placed (place_in w.setup) w.shard 1 w.setup.question.roads.vertices) (j - 1) 0)
   vertex_read = let e : j ≡ suc (j - 1) = omega (arith, behind) in let l = ap length same in
       ((omega (arith, inside, behind, l)), read ∙ (λ i. get_or (same i) (e i) 0))
@@ -270,24 +312,31 @@ module _ (w : ShardLayoutData) (own : List ℕ) (same : own ≡ own_in w.setup w
       let a = inv t k in let b = out.1 t k in let c = into.1 t k in
       let d = total_take (seen_at (network_in w.setup) (place_in w.setup) w.shard t) (placed (place_in w.setup) w.shard 1 w.setup.question.roads.vertices) (j - 1) 0 vertex_read.0 in
       let e = ap (seen_at (network_in w.setup) (place_in w.setup) w.shard t) vertex_read.1 in
-      let g = ap (λ n. total (seen_at (network_in w.setup) (place_in w.setup) w.shard t) (take n (placed (place_in w.setup) w.shard 1 w.setup.question.roads.vertices))) (let z : j + 1 - 1 ≡ j - 1 + 1 = omega (arith, behind) in z) in
+      let g = ap (λ n. total (seen_at (network_in w.setup) (place_in w.setup) w.shard t)
+      (take n (placed (place_in w.setup) w.shard 1 w.setup.question.roads.vertices))) (let z : j + 1 - 1 ≡ j - 1 + 1 = omega (arith, behind) in
+      z) in
       omega (arith, a, b, c, d, e, g)
 
 -- where the arcs begin
-pub some_arc : (w : ShardLayoutData) (own : List ℕ) (n i : ℕ) → IsPlanned w.setup w.shard → own ≡ own_in w.setup w.shard → length own ≤ i → n ≡ length (arcs_out (network_in w.setup) (take i own)) → 1 ≤ n
+pub some_arc : (w : ShardLayoutData) (own : List ℕ) (n i : ℕ) → IsPlanned w.setup w.shard → own ≡ local_vertices w.setup w.shard → length own ≤ i
+    → n ≡ length (arcs_out (network_in w.setup) (take i own)) → 1 ≤ n
 some_arc w own n i D e l c =
     let f = ap length (arcs_first w.setup w.shard D) in let a = ap (λ xs. length (arcs_out (network_in w.setup) xs)) (take_all i own l ∙ e) in omega (arith, f, a, c)
 
-pub starts_few : (w : ShardLayoutData) (own : List ℕ) (i : ℕ) → IsPlanned w.setup w.shard → own ≡ own_in w.setup w.shard → length (arcs_out (network_in w.setup) (take i own)) ≤ 2 ^ 27 + 1
-starts_few w own i D e = let a = ap (λ xs. length (arcs_out (network_in w.setup) (take i xs))) e in let b = own_arcs_most (network_in w.setup) (place_in w.setup) w.shard w.setup.question.roads.vertices i in let f = D.roads.few_arcs in omega (arith, a, b, f)
+pub starts_few : (w : ShardLayoutData) (own : List ℕ) (i : ℕ) → IsPlanned w.setup w.shard → own ≡ local_vertices w.setup w.shard → length (arcs_out (network_in w.setup) (take i own)) ≤ 2 ^ 27 + 1
+starts_few w own i D e = let a = ap (λ xs. length (arcs_out (network_in w.setup) (take i xs))) e in
+    let b = own_arcs_most (network_in w.setup) (place_in w.setup) w.shard w.setup.question.roads.vertices i in let f = D.roads.few_arcs in
+    omega (arith, a, b, f)
 
-pub own_within : (w : ShardLayoutData) (v i : ℕ) (own : List ℕ) → own ≡ own_in w.setup w.shard → i < length own → v ≡ get_or own i 0 → v ≤ w.setup.question.roads.vertices
+pub own_within : (w : ShardLayoutData) (v i : ℕ) (own : List ℕ) → own ≡ local_vertices w.setup w.shard → i < length own → v ≡ get_or own i 0 → v ≤ w.setup.question.roads.vertices
 own_within w v i own e l h = let r = h ∙ ap (λ xs. get_or xs i 0) e in let b = own_below w.setup w.shard i (subst (λ xs. i < length xs) e l) in omega (arith, r, b)
 
-pub starts_next : (N : Network) (own : List ℕ) (v i count more : ℕ) → i < length own → v ≡ get_or own i 0 → count ≡ length (arcs_out N (take i own)) → more ≡ length (outgoing N v) → count + more ≡ length (arcs_out N (take (i + 1) own))
+pub starts_next : (N : Network) (own : List ℕ) (v i count more : ℕ) → i < length own → v ≡ get_or own i 0 → count ≡ length (arcs_out N (take i own))
+    → more ≡ length (outgoing N v) → count + more ≡ length (arcs_out N (take (i + 1) own))
 starts_next N own v i count more l h c m = let a = arcs_out_more N own i l in let b = ap (λ u. length (outgoing N u)) h in omega (arith, a, b, c, m)
 
-pub starts_more : (N : Network) (own offsets : List ℕ) (count i : ℕ) → i < length offsets → count ≡ length (arcs_out N (take i own)) → ((j : ℕ) → j < i → get_or offsets j 0 ≡ length (arcs_out N (take j own))) →
+pub starts_more : (N : Network) (own offsets : List ℕ) (count i : ℕ) → i < length offsets → count ≡ length (arcs_out N (take i own))
+    → ((j : ℕ) → j < i → get_or offsets j 0 ≡ length (arcs_out N (take j own))) →
     (j : ℕ) → j < i + 1 → get_or (set offsets i count) j 0 ≡ length (arcs_out N (take j own))
 starts_more N own offsets count i inside c h j l = elim (cases_eq j i) [
   | inl e ↦ ap (λ k. get_or (set offsets i count) k 0) e ∙ get_or-set_same offsets i count 0 inside ∙ c ∙ ap (λ k. length (arcs_out N (take k own))) (sym e)

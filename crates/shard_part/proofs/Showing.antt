@@ -10,7 +10,7 @@ use Rattle.scholten_core.specs.Shares.{Agree}
 use Rattle.shard_part.specs.PartState.{Setup, PartData, network_in, place_in, state_in, event_of, mine}
 use Rattle.shard_part.specs.Weights.{total, part_weight, mail_weight, is, All}
 use Rattle.shard_part.specs.Handling.{HandledItemIn, HandledItem, HandledAll}
-use Rattle.shard_part.specs.Shows.{AllEnabled, HoldsTables, HoldsShare, Holds, ShowsIn, Shows}
+use Rattle.shard_part.specs.Represents.{AllEnabled, HoldsTables, HoldsShareIn, HoldsShare, RepresentsIn, Represents}
 use Rattle.scholten_core.proofs.Kept.{Kept, step_kept}
 use Rattle.shard_part.proofs.Weights.{total_append}
 use Rattle.shard_part.proofs.Routed.{outs_none}
@@ -39,15 +39,16 @@ module _ {S V : Type 0} where
 
 module _ {S V : Type 0} (A : Algebra V) (N : Network) (place : ℕ → ℕ) where
   -- each shown part holds its share
-  pub shown_holds : (before after : List (PartData S V)) (p : PartData S V) (mail : (ℕ → Item V → ℕ) → ℕ) (c : CoreState V) → ShowsIn A N place (before ++ p ∷ after) mail c → HoldsShare A N place c p
+  pub shown_holds : (before after : List (PartData S V)) (p : PartData S V) (mail : (ℕ → Item V → ℕ) → ℕ) (c : CoreState V)
+      → RepresentsIn A N place (before ++ p ∷ after) mail c → HoldsShareIn A N place c p
   shown_holds before after p mail c H = record {
     tables = (all_parts (HoldsTables A N place c) before (p ∷ after) H.tables).1.0;
     weighs = λ h. let w = H.weighs h in let s = total_append (part_weight h) before (p ∷ after) in omega (arith, w, s);
   }
 
   pub handled_shown : Lawful A → WellFormed N → (before after : List (PartData S V)) (p q : PartData S V) (i : Item V) (mail : (ℕ → Item V → ℕ) → ℕ) (c : CoreState V) → Kept A N 0 c →
-      ShowsIn A N place (before ++ p ∷ after) mail c → HandledItemIn A N place p i q →
-      (is_enabled c (event_of i) ≡ true) × ShowsIn A N place (before ++ q ∷ after) mail (step A N c (event_of i))
+      RepresentsIn A N place (before ++ p ∷ after) mail c → HandledItemIn A N place p i q →
+      (is_enabled c (event_of i) ≡ true) × RepresentsIn A N place (before ++ q ∷ after) mail (step A N c (event_of i))
   handled_shown L W before after p q i mail c K H T =
       let E = handled_event A N place L W c p i q K (shown_holds before after p mail c H) T in
       let all = all_parts (HoldsTables A N place c) before (p ∷ after) H.tables in
@@ -57,20 +58,24 @@ module _ {S V : Type 0} (A : Algebra V) (N : Network) (place : ℕ → ℕ) wher
         E.enabled,
         record {
           tables = all_append (HoldsTables A N place (step A N c (event_of i))) before (q ∷ after)
-              (all_with (HoldsTables A N place c) (λ (r : PartData S V). r.shard ≢ p.shard) (HoldsTables A N place (step A N c (event_of i))) before (λ r t n. E.others r n t) all.0 (apart_from p.shard before (omega (arith, one, split, self)))) (
+              (all_with (HoldsTables A N place c) (λ (r : PartData S V). r.shard ≢ p.shard) (HoldsTables A N place (step A N c (event_of i))) before
+              (λ r t n. E.others r n t) all.0 (apart_from p.shard before (omega (arith, one, split, self)))) (
                 E.holds.tables,
-                all_with (HoldsTables A N place c) (λ (r : PartData S V). r.shard ≢ p.shard) (HoldsTables A N place (step A N c (event_of i))) after (λ r t n. E.others r n t) all.1.1 (apart_from p.shard after (omega (arith, one, split, self))),
+                all_with (HoldsTables A N place c) (λ (r : PartData S V). r.shard ≢ p.shard) (HoldsTables A N place (step A N c (event_of i))) after
+                    (λ r t n. E.others r n t) all.1.1 (apart_from p.shard after (omega (arith, one, split, self))),
               );
-          weighs = λ h. let w = H.weighs h in let b = E.weighs h in let s = total_append (part_weight h) before (p ∷ after) in let t = total_append (part_weight h) before (q ∷ after) in omega (arith, w, b, s, t);
-          apart = λ j. let w = H.apart j in let s = total_append (λ (r : PartData S V). is j r.shard) before (p ∷ after) in let t = total_append (λ (r : PartData S V). is j r.shard) before (q ∷ after) in
+          weighs = λ h. let w = H.weighs h in let b = E.weighs h in let s = total_append (part_weight h) before (p ∷ after) in
+              let t = total_append (part_weight h) before (q ∷ after) in omega (arith, w, b, s, t);
+          apart = λ j. let w = H.apart j in let s = total_append (λ (r : PartData S V). is j r.shard) before (p ∷ after) in
+              let t = total_append (λ (r : PartData S V). is j r.shard) before (q ∷ after) in
               let e : is j q.shard ≡ is j p.shard = ap (is j) T.shard in omega (arith, w, s, t, e);
         },
       )
 
   -- lists and mailboxes change, and what they weigh together stays: the same state is shown
-  pub swap_shown : (before after : List (PartData S V)) (p q : PartData S V) (mail mail' : (ℕ → Item V → ℕ) → ℕ) (c : CoreState V) → ShowsIn A N place (before ++ p ∷ after) mail c →
+  pub swap_shown : (before after : List (PartData S V)) (p q : PartData S V) (mail mail' : (ℕ → Item V → ℕ) → ℕ) (c : CoreState V) → RepresentsIn A N place (before ++ p ∷ after) mail c →
       q.shard ≡ p.shard → Agree A N (mine place p.shard) (state_in p) (state_in q) → length q.outs ≡ length p.outs → ((h : ℕ → Item V → ℕ) → part_weight h q + mail' h ≡ part_weight h p + mail h) →
-      ShowsIn A N place (before ++ q ∷ after) mail' c
+      RepresentsIn A N place (before ++ q ∷ after) mail' c
   swap_shown before after p q mail mail' c H shard tables long weights =
       let all = all_parts (HoldsTables A N place c) before (p ∷ after) H.tables in
       let G = all.1.0.agree in record {
@@ -86,15 +91,17 @@ module _ {S V : Type 0} (A : Algebra V) (N : Network) (place : ℕ → ℕ) wher
           },
           all.1.1,
         );
-        weighs = λ h. let w = H.weighs h in let b = weights h in let s = total_append (part_weight h) before (p ∷ after) in let t = total_append (part_weight h) before (q ∷ after) in omega (arith, w, b, s, t);
-        apart = λ j. let w = H.apart j in let s = total_append (λ (r : PartData S V). is j r.shard) before (p ∷ after) in let t = total_append (λ (r : PartData S V). is j r.shard) before (q ∷ after) in
+        weighs = λ h. let w = H.weighs h in let b = weights h in let s = total_append (part_weight h) before (p ∷ after) in
+            let t = total_append (part_weight h) before (q ∷ after) in omega (arith, w, b, s, t);
+        apart = λ j. let w = H.apart j in let s = total_append (λ (r : PartData S V). is j r.shard) before (p ∷ after) in
+            let t = total_append (λ (r : PartData S V). is j r.shard) before (q ∷ after) in
             let e : is j q.shard ≡ is j p.shard = ap (is j) shard in omega (arith, w, s, t, e);
       }
 
   -- a batch moves from the outbox to `to` into an empty mailbox
   pub publish_shown : (before after : List (PartData S V)) (p : PartData S V) (to : ℕ) (boxes behind : List (ℕ × List (Item V))) (c : CoreState V) →
-      ShowsIn A N place (before ++ p ∷ after) (mail_weight (boxes ++ (to, []) ∷ behind)) c →
-      ShowsIn A N place (before ++ record p { outs = set p.outs to [] } ∷ after) (mail_weight (boxes ++ (to, get_or p.outs to []) ∷ behind)) c
+      RepresentsIn A N place (before ++ p ∷ after) (mail_weight (boxes ++ (to, []) ∷ behind)) c →
+      RepresentsIn A N place (before ++ record p { outs = set p.outs to [] } ∷ after) (mail_weight (boxes ++ (to, get_or p.outs to []) ∷ behind)) c
   publish_shown before after p to boxes behind c H =
       swap_shown before after p (record p { outs = set p.outs to [] }) (mail_weight (boxes ++ (to, []) ∷ behind)) (mail_weight (boxes ++ (to, get_or p.outs to []) ∷ behind)) c H refl
       (record { label = λ v m. refl; engager = λ v m. refl; told = λ b m. refl; idle = λ b m. refl }) (length-set p.outs to [])
@@ -105,8 +112,8 @@ module _ {S V : Type 0} (A : Algebra V) (N : Network) (place : ℕ → ℕ) wher
 
   -- and from a mailbox into the queue of the part that it leads to
   pub receive_shown : (before after : List (PartData S V)) (p : PartData S V) (batch : List (Item V)) (boxes behind : List (ℕ × List (Item V))) (c : CoreState V) →
-      ShowsIn A N place (before ++ p ∷ after) (mail_weight (boxes ++ (p.shard, batch) ∷ behind)) c →
-      ShowsIn A N place (before ++ record p { queue = p.queue ++ batch } ∷ after) (mail_weight (boxes ++ (p.shard, []) ∷ behind)) c
+      RepresentsIn A N place (before ++ p ∷ after) (mail_weight (boxes ++ (p.shard, batch) ∷ behind)) c →
+      RepresentsIn A N place (before ++ record p { queue = p.queue ++ batch } ∷ after) (mail_weight (boxes ++ (p.shard, []) ∷ behind)) c
   receive_shown before after p batch boxes behind c H =
       swap_shown before after p (record p { queue = p.queue ++ batch }) (mail_weight (boxes ++ (p.shard, batch) ∷ behind)) (mail_weight (boxes ++ (p.shard, []) ∷ behind)) c H refl
       (record { label = λ v m. refl; engager = λ v m. refl; told = λ b m. refl; idle = λ b m. refl }) refl
@@ -124,30 +131,35 @@ module _ {S V : Type 0} (meaning : S → Algebra V) where
 
   -- ALL PARTS AND MAILBOXES: one part takes one item
   pub handled_shows : AllLawful → (t : Setup S) → WellFormed (network_in t) → (before after : List (PartData S V)) (p q : PartData S V) (i : Item V) (mail : (ℕ → Item V → ℕ) → ℕ) (c : CoreState V) →
-      Kept (meaning t.question.algebra) (network_in t) 0 c → Shows meaning t (before ++ p ∷ after) mail c → HandledItem meaning p i q →
-      (is_enabled c (event_of i) ≡ true) × Shows meaning t (before ++ q ∷ after) mail (step (meaning t.question.algebra) (network_in t) c (event_of i))
+      Kept (meaning t.question.algebra) (network_in t) 0 c → Represents meaning t (before ++ p ∷ after) mail c → HandledItem meaning p i q →
+      (is_enabled c (event_of i) ≡ true) × Represents meaning t (before ++ q ∷ after) mail (step (meaning t.question.algebra) (network_in t) c (event_of i))
   handled_shows L t W before after p q i mail c K H T =
       let all = all_parts (λ (r : PartData S V). r.setup ≡ t) before (p ∷ after) H.same in
       let R = handled_shown (meaning t.question.algebra) (network_in t) (place_in t) (L t.question.algebra) W before after p q i mail c K H.shown (handled_at t p i q all.1.0 T) in
       (R.0, record { same = all_append (λ (r : PartData S V). r.setup ≡ t) before (q ∷ after) all.0 (T.setup ∙ all.1.0, all.1.1); shown = R.1 })
 
   -- ONE PART ALONE: any list of items, for every kept state of which it holds its share
-  pub handled_all : AllLawful → (is : List (Item V)) (p q : PartData S V) (c : CoreState V) → WellFormed (network_in p.setup) → Kept (meaning p.setup.question.algebra) (network_in p.setup) 0 c → Holds meaning c p → HandledAll meaning p is q →
-      (d : CoreState V) × Holds meaning d q × (q.setup ≡ p.setup) × AllEnabled meaning p.setup c is d
-  handled_all L [] p q c W K H e = (c, subst (Holds meaning c) e H, ap (λ r. r.setup) (sym e), refl)
+  pub handled_all : AllLawful → (is : List (Item V)) (p q : PartData S V) (c : CoreState V) → WellFormed (network_in p.setup)
+      → Kept (meaning p.setup.question.algebra) (network_in p.setup) 0 c → HoldsShare meaning c p → HandledAll meaning p is q →
+      (d : CoreState V) × HoldsShare meaning d q × (q.setup ≡ p.setup) × AllEnabled meaning p.setup c is d
+  handled_all L [] p q c W K H e = (c, subst (HoldsShare meaning c) e H, ap (λ r. r.setup) (sym e), refl)
   handled_all L (i ∷ is) p q c W K H (m, T, rest) =
       let E = handled_event (meaning p.setup.question.algebra) (network_in p.setup) (place_in p.setup) (L p.setup.question.algebra) W c p i m K H T in
       let c' : CoreState V = step (meaning p.setup.question.algebra) (network_in p.setup) c (event_of i) in
       let s = sym T.setup in
       let W' = subst (λ t. WellFormed (network_in t)) s W in
-      let K' = subst (λ t. Kept (meaning t.question.algebra) (network_in t) 0 (step (meaning p.setup.question.algebra) (network_in p.setup) c (event_of i))) s (step_kept (meaning p.setup.question.algebra) (network_in p.setup) (L p.setup.question.algebra) W c (event_of i) K) in
-      let H' : Holds meaning (step (meaning p.setup.question.algebra) (network_in p.setup) c (event_of i)) m = subst (λ t. HoldsShare (meaning t.question.algebra) (network_in t) (place_in t) (step (meaning p.setup.question.algebra) (network_in p.setup) c (event_of i)) m) s E.holds in
+      let K' = subst (λ t. Kept (meaning t.question.algebra) (network_in t) 0
+      (step (meaning p.setup.question.algebra) (network_in p.setup) c (event_of i))) s
+      (step_kept (meaning p.setup.question.algebra) (network_in p.setup) (L p.setup.question.algebra) W c (event_of i) K) in
+      let H' : HoldsShare meaning (step (meaning p.setup.question.algebra) (network_in p.setup) c (event_of i)) m = subst
+      (λ t. HoldsShareIn (meaning t.question.algebra) (network_in t) (place_in t)
+      (step (meaning p.setup.question.algebra) (network_in p.setup) c (event_of i)) m) s E.holds in
       let R = handled_all L is m q (step (meaning p.setup.question.algebra) (network_in p.setup) c (event_of i)) W' K' H' rest in
       (R.0, R.1, R.2 ∙ T.setup, (E.enabled, subst (λ t. AllEnabled meaning t (step (meaning p.setup.question.algebra) (network_in p.setup) c (event_of i)) is R.0) T.setup R.3))
 
   pub publish_shows : (t : Setup S) (before after : List (PartData S V)) (p : PartData S V) (to : ℕ) (boxes behind : List (ℕ × List (Item V))) (c : CoreState V) →
-      Shows meaning t (before ++ p ∷ after) (mail_weight (boxes ++ (to, []) ∷ behind)) c →
-      Shows meaning t (before ++ record p { outs = set p.outs to [] } ∷ after) (mail_weight (boxes ++ (to, get_or p.outs to []) ∷ behind)) c
+      Represents meaning t (before ++ p ∷ after) (mail_weight (boxes ++ (to, []) ∷ behind)) c →
+      Represents meaning t (before ++ record p { outs = set p.outs to [] } ∷ after) (mail_weight (boxes ++ (to, get_or p.outs to []) ∷ behind)) c
   publish_shows t before after p to boxes behind c H =
       let all = all_parts (λ (r : PartData S V). r.setup ≡ t) before (p ∷ after) H.same in record {
         same = all_append (λ (r : PartData S V). r.setup ≡ t) before (record p { outs = set p.outs to [] } ∷ after) all.0 (all.1.0, all.1.1);
@@ -155,8 +167,8 @@ module _ {S V : Type 0} (meaning : S → Algebra V) where
       }
 
   pub receive_shows : (t : Setup S) (before after : List (PartData S V)) (p : PartData S V) (batch : List (Item V)) (boxes behind : List (ℕ × List (Item V))) (c : CoreState V) →
-      Shows meaning t (before ++ p ∷ after) (mail_weight (boxes ++ (p.shard, batch) ∷ behind)) c →
-      Shows meaning t (before ++ record p { queue = p.queue ++ batch } ∷ after) (mail_weight (boxes ++ (p.shard, []) ∷ behind)) c
+      Represents meaning t (before ++ p ∷ after) (mail_weight (boxes ++ (p.shard, batch) ∷ behind)) c →
+      Represents meaning t (before ++ record p { queue = p.queue ++ batch } ∷ after) (mail_weight (boxes ++ (p.shard, []) ∷ behind)) c
   receive_shows t before after p batch boxes behind c H =
       let all = all_parts (λ (r : PartData S V). r.setup ≡ t) before (p ∷ after) H.same in record {
         same = all_append (λ (r : PartData S V). r.setup ≡ t) before (record p { queue = p.queue ++ batch } ∷ after) all.0 (all.1.0, all.1.1);

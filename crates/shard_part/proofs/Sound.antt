@@ -7,8 +7,8 @@ use Rattle.scholten_core.specs.Network.{Network, WellFormed}
 use Rattle.scholten_core.specs.Sums.{one_if}
 use Rattle.scholten_core.specs.Items.{item_arc}
 use Rattle.shard_part.specs.PartState.{PartData, state_in, IsArc, vertex_of, maker_of}
-use Rattle.shard_part.specs.Weights.{Lanes, lanes_of, is, All, part_weight}
-use Rattle.shard_part.specs.Sound.{engages, idles, IsSound}
+use Rattle.shard_part.specs.Weights.{Channels, channels_of, is, All, part_weight}
+use Rattle.shard_part.specs.LocalInvariant.{engages, idles, LocalInvariant}
 use Rattle.shard_part.specs.Handling.{route}
 use Rattle.shard_part.proofs.Showing.{all_append}
 use Rattle.shard_part.proofs.Routed.{routed}
@@ -23,14 +23,16 @@ module _ {V : Type 0} (N : Network) (place : ℕ → ℕ) (s : ℕ) where
   abbrev pub Gone : ℕ → Item V → Type 0
   Gone t i = (place (vertex_of N i) ≡ t) × (place (maker_of N i) ≡ s) × IsArc N (item_arc i)
 
-  abbrev pub Sorted : Lanes V → Type 0
+  abbrev pub Sorted : Channels V → Type 0
   Sorted l = All Here l.queue × ((t : ℕ) → All (Gone t) (get_or l.outs t []))
 
-  pub route_sorted : (i : Item V) (l : Lanes V) → ((v : ℕ) → place v < length l.outs) → IsArc N (item_arc i) → Mine i → Sorted l → Sorted (route N place s i l)
+  pub route_sorted : (i : Item V) (l : Channels V) → ((v : ℕ) → place v < length l.outs) → IsArc N (item_arc i) → Mine i → Sorted l → Sorted (route N place s i l)
   route_sorted i l w a m S = elim (cases_eq (place (vertex_of N i)) s) [
-    | inl e ↦ subst (λ t. Sorted (cond t (record { queue = l.queue ++ i ∷ []; outs = l.outs }) (record { queue = l.queue; outs = set l.outs (place (vertex_of N i)) (get_or l.outs (place (vertex_of N i)) [] ++ i ∷ []) })))
+    | inl e ↦ subst (λ t. Sorted (cond t (record { queue = l.queue ++ i ∷ []; outs = l.outs })
+        (record { queue = l.queue; outs = set l.outs (place (vertex_of N i)) (get_or l.outs (place (vertex_of N i)) [] ++ i ∷ []) })))
         (sym (eq-eqb (place (vertex_of N i)) s e)) (all_append Here l.queue (i ∷ []) S.0 ((e, a), tt), S.1)
-    | inr n ↦ subst (λ t. Sorted (cond t (record { queue = l.queue ++ i ∷ []; outs = l.outs }) (record { queue = l.queue; outs = set l.outs (place (vertex_of N i)) (get_or l.outs (place (vertex_of N i)) [] ++ i ∷ []) })))
+    | inr n ↦ subst (λ t. Sorted (cond t (record { queue = l.queue ++ i ∷ []; outs = l.outs })
+        (record { queue = l.queue; outs = set l.outs (place (vertex_of N i)) (get_or l.outs (place (vertex_of N i)) [] ++ i ∷ []) })))
         (sym (ne_eqb (place (vertex_of N i)) s n)) (
           S.0,
           λ t. elim (cases_eq t (place (vertex_of N i))) [
@@ -43,15 +45,18 @@ module _ {V : Type 0} (N : Network) (place : ℕ → ℕ) (s : ℕ) where
   ]
 
 -- One item more, on an arc of which nothing is known: the part stays sound. So do the moves of the running code, each by itself.
-pub put_sound : {S V : Type 0} (A : Algebra V) (N : Network) (place : ℕ → ℕ) → WellFormed N → (p : PartData S V) (i : Item V) → IsSound N place p → IsArc N (item_arc i) → place (maker_of N i) ≡ p.shard →
+pub put_sound : {S V : Type 0} (A : Algebra V) (N : Network) (place : ℕ → ℕ) → WellFormed N → (p : PartData S V) (i : Item V)
+    → LocalInvariant N place p → IsArc N (item_arc i) → place (maker_of N i) ≡ p.shard →
     part_weight (λ _ j. is (item_arc i) (item_arc j)) p + engages N place p.shard (state_in p) (item_arc i) + idles N place p.shard (state_in p) (item_arc i) ≡ 0 →
-    IsSound N place (record p { queue = (route N place p.shard i (lanes_of p)).queue; outs = (route N place p.shard i (lanes_of p)).outs })
+    LocalInvariant N place (record p { queue = (route N place p.shard i (channels_of p)).queue; outs = (route N place p.shard i (channels_of p)).outs })
 put_sound A N place W p i H r m z =
-    let R = routed N place p.shard (i ∷ []) (lanes_of p) H.wide in
-    let T = route_sorted N place p.shard i (lanes_of p) H.wide r m (H.here, H.gone) in record {
+    let R = routed N place p.shard (i ∷ []) (channels_of p) H.wide in
+    let T = route_sorted N place p.shard i (channels_of p) H.wide r m (H.here, H.gone) in record {
       once = λ b. (let w = R.weighs (λ _ j. is b (item_arc j)) in let o = H.once b in elim (cases_eq b (item_arc i)) [
         | inl e ↦ (let one : is b (item_arc i) ≡ 1 = ap one_if (eq-eqb b (item_arc i) e) in
-            let z2 : part_weight (λ _ j. is b (item_arc j)) p + engages N place p.shard (state_in p) b + idles N place p.shard (state_in p) b ≡ 0 = subst (λ k. part_weight (λ _ j. is k (item_arc j)) p + engages N place p.shard (state_in p) k + idles N place p.shard (state_in p) k ≡ 0) (sym e) z in
+            let z2 : part_weight (λ _ j. is b (item_arc j)) p + engages N place p.shard (state_in p) b + idles N place p.shard (state_in p) b
+            ≡ 0 = subst (λ k. part_weight (λ _ j. is k (item_arc j)) p + engages N place p.shard (state_in p) k + idles N place p.shard
+            (state_in p) k ≡ 0) (sym e) z in
             omega (arith, w, o, one, z2))
         | inr n ↦ (let none : is b (item_arc i) ≡ 0 = ap one_if (ne_eqb b (item_arc i) n) in omega (arith, w, o, none))
       ]);

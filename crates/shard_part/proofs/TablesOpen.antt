@@ -6,10 +6,10 @@ use Rattle.scholten_core.specs.declared.item.Item.{Item}
 use Rattle.scholten_core.specs.Sums.{sum_below, one_if}
 use Rattle.shard_part.specs.Tables.{placed}
 use Rattle.shard_part.specs.PartState.{Setup, network_in, place_in}
-use Rattle.shard_part.specs.Outgoing.{own_in}
+use Rattle.shard_part.specs.Outgoing.{local_vertices}
 use Rattle.shard_part.specs.Weights.{total}
 use Rattle.shard_part.specs.Capacities.{outbox_bound, queue_bound}
-use Rattle.shard_part.specs.Moves.{Rows, seen_as, IsPlanned, IsStored}
+use Rattle.shard_part.specs.Moves.{Rows, abstraction, IsPlanned, RepInvariant}
 use Rattle.shard_part.specs.Opening.{ShardLayoutData, is_first, first_items, opened_part, idle_rows, AreIdle, AreStarts, CountsAll}
 use Rattle.shard_part.proofs.Counting.{total_index}
 use Rattle.shard_part.proofs.CapacitiesByVertex.{capacities_sum, queue_bound_most, queue_bound_first}
@@ -23,7 +23,8 @@ module _ (w : ShardLayoutData) (P : IsPlanned w.setup w.shard) where
       ∙ capacities_sum (network_in w.setup) (place_in w.setup) w.shard w.setup.plan.shards (place_below w.setup w.shard P)
 
   pub sum_small : (capacities xs : List ℕ) → CountsAll w capacities → xs ≡ capacities → total (λ n. n) xs ≤ 2 ^ 32
-  sum_small capacities xs C e = let a = sum_is capacities C in let b = ap (total (λ n. n)) e in let m = queue_bound_most (network_in w.setup) (place_in w.setup) w.shard in let f = P.roads.few_arcs in omega (arith, a, b, m, f)
+  sum_small capacities xs C e = let a = sum_is capacities C in let b = ap (total (λ n. n)) e in
+      let m = queue_bound_most (network_in w.setup) (place_in w.setup) w.shard in let f = P.roads.few_arcs in omega (arith, a, b, m, f)
 
   pub sum_first : (capacities xs : List ℕ) (sum : ℕ) (first : Bool) → CountsAll w capacities → xs ≡ capacities → sum ≡ total (λ n. n) xs → first ≡ is_first w.setup w.shard → first ≡ true → 1 ≤ sum
   sum_first capacities xs sum first C e s f t =
@@ -42,30 +43,32 @@ module _ {S : Type 0} (t : Setup S) (s : ℕ) where
   pub planned_too : IsPlanned layout_of.setup s → IsPlanned t s
   planned_too P = record { roads = P.roads; source = P.source; plan = P.plan; covers = P.covers; shard = P.shard }
 
-module _ {S V : Type 0} (A : Algebra V) (t : Setup S) (s : ℕ) (P : IsPlanned (layout_of t s).setup s) (first : Bool) (capacities ys zs ns : List ℕ) (sum sent : ℕ) (rows : Rows V) (queue : Buffer (Item V)) (outs : List (List (Item V)))
+module _ {S V : Type 0} (A : Algebra V) (t : Setup S) (s : ℕ) (P : IsPlanned (layout_of t s).setup s) (first : Bool) (capacities ys zs ns : List ℕ)
+    (sum sent : ℕ) (rows : Rows V) (queue : Buffer (Item V)) (outs : List (List (Item V)))
     (F : first ≡ is_first (layout_of t s).setup s) (R : AreIdle (layout_of t s) rows)
-    (C : CountsAll (layout_of t s) capacities) (Y : ys ≡ capacities) (T : sum ≡ total (λ n. n) ys) (Q : queue ≡ buffer (first_items A first) sum) (Z : zs ≡ set capacities s 0) (I : outs ≡ replicate (length zs) []) (K : ns ≡ zs)
+    (C : CountsAll (layout_of t s) capacities) (Y : ys ≡ capacities) (T : sum ≡ total (λ n. n) ys) (Q : queue ≡ buffer (first_items A first) sum)
+    (Z : zs ≡ set capacities s 0) (I : outs ≡ replicate (length zs) []) (K : ns ≡ zs)
     (N : sent ≡ one_if first) where
   first_too : first ≡ is_first t s
   first_too = F ∙ ap (λ f. eqb (f 0) s) (same_place t s)
 
-  own_too : own_in (layout_of t s).setup s ≡ own_in t s
+  own_too : local_vertices (layout_of t s).setup s ≡ local_vertices t s
   own_too = ap (λ f. 0 ∷ placed f s 1 t.question.roads.vertices) (same_place t s)
 
-  starts_too : AreStarts (network_in t) (own_in t s) R.offsets R.arcs
+  starts_too : AreStarts (network_in t) (local_vertices t s) R.offsets R.arcs
   starts_too = subst (λ os. AreStarts (network_in t) os R.offsets R.arcs) own_too R.starts
 
-  rows_too : rows ≡ idle_rows (own_in t s) R.offsets R.arcs (is_first t s)
+  rows_too : rows ≡ idle_rows (local_vertices t s) R.offsets R.arcs (is_first t s)
   rows_too = R.rows_are ∙ (λ i. idle_rows (own_too i) R.offsets R.arcs (eqb (same_place t s i 0) s))
 
   long : length zs ≡ t.plan.shards
   long = ap length Z ∙ length-set capacities s 0 ∙ C.0
 
-  pub made_seen : seen_as t s rows queue.items outs sent 0 0 0 ≡ opened_part A t s
+  pub made_seen : abstraction t s rows queue.items outs sent 0 0 0 ≡ opened_part A t s
   made_seen = opened_seen A t s (planned_too t s P) rows R.offsets R.arcs queue.items outs sent starts_too rows_too
       (ap (λ q. q.items) Q ∙ ap (first_items A) first_too) (I ∙ ap (λ n. replicate n []) long) (N ∙ ap one_if first_too)
 
-  pub made_stored : IsStored (seen_as t s rows queue.items outs sent 0 0 0) rows queue.capacity ns
+  pub made_stored : RepInvariant (abstraction t s rows queue.items outs sent 0 0 0) rows queue.capacity ns
   made_stored = opened_stored A t s (planned_too t s P) rows R.offsets R.arcs queue.items outs sent queue.capacity ns starts_too rows_too
       (ap (λ q. q.items) Q ∙ ap (first_items A) first_too) (I ∙ ap (λ n. replicate n []) long) (N ∙ ap one_if first_too)
       (ap (λ q. q.capacity) Q ∙ T ∙ ap (total (λ n. n)) Y ∙ sum_is (layout_of t s) P capacities C ∙ ap (λ f. queue_bound (network_in t) f s) (same_place t s))

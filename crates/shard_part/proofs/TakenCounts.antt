@@ -18,9 +18,9 @@ use Rattle.scholten_core.proofs.Ended.{opening_kept}
 use Rattle.scholten_core.proofs.Counts.{accounts}
 use Rattle.shard_part.specs.Tallies.{counted_on, top}
 use Rattle.shard_part.specs.PartState.{PartData, Setup, network_in, place_in, state_in, event_of}
-use Rattle.shard_part.specs.Weights.{total, is_told, is_back, in_flight, part_weight}
+use Rattle.shard_part.specs.Weights.{total, message_weight, signal_weight, in_flight, part_weight}
 use Rattle.shard_part.specs.Handling.{made, HandledItemIn, HandledAll}
-use Rattle.shard_part.specs.Shows.{HoldsShare, Holds}
+use Rattle.shard_part.specs.Represents.{HoldsShareIn, HoldsShare}
 use Rattle.shard_part.specs.Moves.{IsTallied}
 use Rattle.shard_part.specs.Part.{HandledFront, HandledMany, IsRunOn}
 use Rattle.shard_part.proofs.TakenIsEvent.{handled_event, handled_weighs}
@@ -29,30 +29,30 @@ use Rattle.scholten_core.proofs.Sums.{sum_same}
 
 module _ {V : Type 0} (N : Network) (place : ℕ → ℕ) where
   -- the messages under way are those that stand, and so are the signals
-  in_flight_told : (c : CoreState V) → in_flight N place c (λ _. is_told) ≡ sum_below (λ b. one_if (is_message (c.token b))) (suc N.arcs)
+  in_flight_told : (c : CoreState V) → in_flight N place c (λ _. message_weight) ≡ sum_below (λ b. one_if (is_message (c.token b))) (suc N.arcs)
   in_flight_told c = sum_same _ _ (suc N.arcs) (λ b. one b (c.token b))
     where
-      one : (b : ℕ) (t : Token V) → total is_told (item_of b t) ≡ one_if (is_message t)
+      one : (b : ℕ) (t : Token V) → total message_weight (item_of b t) ≡ one_if (is_message t)
       one b Idle = refl
       one b (Message x) = refl
       one b Held = refl
       one b Signal = refl
 
-  in_flight_back : (c : CoreState V) → in_flight N place c (λ _. is_back) ≡ sum_below (λ b. one_if (is_signal (c.token b))) (suc N.arcs)
+  in_flight_back : (c : CoreState V) → in_flight N place c (λ _. signal_weight) ≡ sum_below (λ b. one_if (is_signal (c.token b))) (suc N.arcs)
   in_flight_back c = sum_same _ _ (suc N.arcs) (λ b. one b (c.token b))
     where
-      one : (b : ℕ) (t : Token V) → total is_back (item_of b t) ≡ one_if (is_signal t)
+      one : (b : ℕ) (t : Token V) → total signal_weight (item_of b t) ≡ one_if (is_signal t)
       one b Idle = refl
       one b (Message x) = refl
       one b Held = refl
       one b Signal = refl
 
 module _ {V : Type 0} (A : Algebra V) (N : Network) where
-  told_if : (c : CoreState V) (i : Item V) → is_enabled c (event_of i) ≡ true → is_told i ≡ one_if (is_delivery A N c (event_of i))
+  told_if : (c : CoreState V) (i : Item V) → is_enabled c (event_of i) ≡ true → message_weight i ≡ one_if (is_delivery A N c (event_of i))
   told_if c (MessageOn a x) e = ap one_if (sym e)
   told_if c (SignalOn a) e = refl
 
-  back_if : (c : CoreState V) (i : Item V) → is_enabled c (event_of i) ≡ true → is_back i ≡ one_if (is_acceptance A N c (event_of i))
+  back_if : (c : CoreState V) (i : Item V) → is_enabled c (event_of i) ≡ true → signal_weight i ≡ one_if (is_acceptance A N c (event_of i))
   back_if c (MessageOn a x) e = refl
   back_if c (SignalOn a) e = ap one_if (sym e)
 
@@ -63,22 +63,24 @@ module _ {V : Type 0} (A : Algebra V) (N : Network) where
 module _ {S V : Type 0} (A : Algebra V) (N : Network) (place : ℕ → ℕ) where
   -- the counts of one item are those of its event
   pub record Counts (c : CoreState V) (i : Item V) (p : PartData S V) : Type 0 where
-    pub sent : total is_told (made A N i (state_in p)) ≡ count_sent A N c (step A N c (event_of i))
-    pub signalled : total is_back (made A N i (state_in p)) ≡ count_signalled A N c (step A N c (event_of i))
-    pub delivered : is_told i ≡ one_if (is_delivery A N c (event_of i))
-    pub accepted : is_back i ≡ one_if (is_acceptance A N c (event_of i))
+    pub sent : total message_weight (made A N i (state_in p)) ≡ count_sent A N c (step A N c (event_of i))
+    pub signalled : total signal_weight (made A N i (state_in p)) ≡ count_signalled A N c (step A N c (event_of i))
+    pub delivered : message_weight i ≡ one_if (is_delivery A N c (event_of i))
+    pub accepted : signal_weight i ≡ one_if (is_acceptance A N c (event_of i))
 
-  pub counts : Lawful A → WellFormed N → (c : CoreState V) (p : PartData S V) (i : Item V) (q : PartData S V) → Kept A N 0 c → HoldsShare A N place c p → HandledItemIn A N place p i q → Counts c i p
+  pub counts : Lawful A → WellFormed N → (c : CoreState V) (p : PartData S V) (i : Item V) (q : PartData S V) → Kept A N 0 c → HoldsShareIn A N place c p → HandledItemIn A N place p i q → Counts c i p
   counts L W c p i q K H T =
       let E = handled_event A N place L W c p i q K H T in
       let R = accounts A N L W c (event_of i ∷ []) K in
       let d = told_if A N c i E.enabled in
       let s = back_if A N c i E.enabled in
       record {
-        sent = (let w = handled_weighs A N place p i q H.tables.wide T (λ _. is_told) in
-            let b = E.weighs (λ _. is_told) in let r = R.messages in let f = in_flight_told N place c in let g = in_flight_told N place (step A N c (event_of i)) in omega (arith, w, b, r, f, g, d));
-        signalled = (let w = handled_weighs A N place p i q H.tables.wide T (λ _. is_back) in
-            let b = E.weighs (λ _. is_back) in let r = R.signals in let f = in_flight_back N place c in let g = in_flight_back N place (step A N c (event_of i)) in omega (arith, w, b, r, f, g, s));
+        sent = (let w = handled_weighs A N place p i q H.tables.wide T (λ _. message_weight) in
+            let b = E.weighs (λ _. message_weight) in let r = R.messages in let f = in_flight_told N place c in
+            let g = in_flight_told N place (step A N c (event_of i)) in omega (arith, w, b, r, f, g, d));
+        signalled = (let w = handled_weighs A N place p i q H.tables.wide T (λ _. signal_weight) in
+            let b = E.weighs (λ _. signal_weight) in let r = R.signals in let f = in_flight_back N place c in
+            let g = in_flight_back N place (step A N c (event_of i)) in omega (arith, w, b, r, f, g, s));
         delivered = d;
         accepted = s;
       }
@@ -87,9 +89,10 @@ module _ {S V : Type 0} (meaning : S → Algebra V) where
   -- items taken one after the other, as events of c
   pub record Runs (t : Setup S) (c : CoreState V) (items : List (Item V)) (p q : PartData S V) : Type 0 where
     pub enabled : count_enabled (meaning t.question.algebra) (network_in t) c (map event_of items) ≡ length items
-    pub holds : HoldsShare (meaning t.question.algebra) (network_in t) (place_in t) (run_from (meaning t.question.algebra) (network_in t) c (map event_of items)) q
+    pub holds : HoldsShareIn (meaning t.question.algebra) (network_in t) (place_in t) (run_from (meaning t.question.algebra) (network_in t) c (map event_of items)) q
     pub setup : q.setup ≡ t
-    pub weighs : (h : ℕ → Item V → ℕ) → part_weight h q + in_flight (network_in t) (place_in t) c h ≡ part_weight h p + in_flight (network_in t) (place_in t) (run_from (meaning t.question.algebra) (network_in t) c (map event_of items)) h
+    pub weighs : (h : ℕ → Item V → ℕ) → part_weight h q + in_flight (network_in t) (place_in t) c h
+        ≡ part_weight h p + in_flight (network_in t) (place_in t) (run_from (meaning t.question.algebra) (network_in t) c (map event_of items)) h
     pub sent : q.sent ≡ counted_on (sent_total (meaning t.question.algebra) (network_in t) c (map event_of items)) p.sent
     pub delivered : q.delivered ≡ counted_on (delivered_total (meaning t.question.algebra) (network_in t) c (map event_of items)) p.delivered
     pub signalled : q.signalled ≡ counted_on (signalled_total (meaning t.question.algebra) (network_in t) c (map event_of items)) p.signalled
@@ -99,8 +102,10 @@ module _ {S V : Type 0} (meaning : S → Algebra V) where
   counter : (k l j a n m : ℕ) → n ≡ counted_on k a → k ≡ l → m ≡ counted_on j n → m ≡ counted_on (l + j) a
   counter k l j a n m p e q = q ∙ ap (counted_on j) (p ∙ ap (λ z. counted_on z a) e) ∙ counted_more l j a
 
-  pub runs : (t : Setup S) → Lawful (meaning t.question.algebra) → WellFormed (network_in t) → (items : List (Item V)) (p q : PartData S V) (c : CoreState V) → p.setup ≡ t → IsTallied p → Kept (meaning t.question.algebra) (network_in t) 0 c →
-      HoldsShare (meaning t.question.algebra) (network_in t) (place_in t) c p → HandledAll meaning p items q → Runs t c items p q
+  pub runs : (t : Setup S) → Lawful (meaning t.question.algebra) → WellFormed (network_in t)
+      → (items : List (Item V)) (p q : PartData S V) (c : CoreState V) → p.setup ≡ t → IsTallied p
+      → Kept (meaning t.question.algebra) (network_in t) 0 c →
+      HoldsShareIn (meaning t.question.algebra) (network_in t) (place_in t) c p → HandledAll meaning p items q → Runs t c items p q
   runs t L W [] p q c e y K H s = subst (Runs t c [] p) s (record {
     enabled = refl;
     holds = H;
@@ -119,9 +124,9 @@ module _ {S V : Type 0} (meaning : S → Algebra V) where
       let C = counts A N (place_in t) L W c p i m K H handled_in in
       let below : IsTallied m = (
         subst (λ n. n ≤ top) (sym T.sent) (counted_top _ p.sent),
-        subst (λ n. n ≤ top) (sym T.delivered) (counted_top (is_told i) p.delivered),
+        subst (λ n. n ≤ top) (sym T.delivered) (counted_top (message_weight i) p.delivered),
         subst (λ n. n ≤ top) (sym T.signalled) (counted_top _ p.signalled),
-        subst (λ n. n ≤ top) (sym T.accepted) (counted_top (is_back i) p.accepted),
+        subst (λ n. n ≤ top) (sym T.accepted) (counted_top (signal_weight i) p.accepted),
       ) in
       let R = runs t L W is m q (step A N c (event_of i)) (handled_in.setup ∙ e) below (step_kept A N L W c (event_of i) K) E.holds rest in
       record {
@@ -136,8 +141,9 @@ module _ {S V : Type 0} (meaning : S → Algebra V) where
       }
 
   -- on the state after some events
-  pub run_on : (events : List Event) (p q : PartData S V) (n : ℕ) (items : List (Item V)) → Lawful (meaning p.setup.question.algebra) → WellFormed (network_in p.setup) → IsTallied p → length items ≡ n → HandledAll meaning p items q →
-      Holds meaning (state_after (meaning p.setup.question.algebra) (network_in p.setup) events) p → IsRunOn meaning events p n q
+  pub run_on : (events : List Event) (p q : PartData S V) (n : ℕ) (items : List (Item V)) → Lawful (meaning p.setup.question.algebra)
+      → WellFormed (network_in p.setup) → IsTallied p → length items ≡ n → HandledAll meaning p items q →
+      HoldsShare meaning (state_after (meaning p.setup.question.algebra) (network_in p.setup) events) p → IsRunOn meaning events p n q
   run_on events p q n items L W y l T H =
       let A = meaning p.setup.question.algebra in
       let N = network_in p.setup in
@@ -147,9 +153,10 @@ module _ {S V : Type 0} (meaning : S → Algebra V) where
         count = l;
         handled = T;
         enabled = R.enabled ∙ l;
-        holds = subst (λ t. HoldsShare (meaning t.question.algebra) (network_in t) (place_in t) (state_after A N (events ++ map event_of items)) q) (sym R.setup)
-            (subst (λ d. HoldsShare A N (place_in p.setup) d q) (sym (run_append A N (opening A N) events (map event_of items))) R.holds);
-        weighs = subst (λ d. (h : ℕ → Item V → ℕ) → part_weight h q + in_flight N (place_in p.setup) (state_after A N events) h ≡ part_weight h p + in_flight N (place_in p.setup) d h) (sym (run_append A N (opening A N) events (map event_of items))) R.weighs;
+        holds = subst (λ t. HoldsShareIn (meaning t.question.algebra) (network_in t) (place_in t) (state_after A N (events ++ map event_of items)) q) (sym R.setup)
+            (subst (λ d. HoldsShareIn A N (place_in p.setup) d q) (sym (run_append A N (opening A N) events (map event_of items))) R.holds);
+        weighs = subst (λ d. (h : ℕ → Item V → ℕ) → part_weight h q + in_flight N (place_in p.setup) (state_after A N events) h
+            ≡ part_weight h p + in_flight N (place_in p.setup) d h) (sym (run_append A N (opening A N) events (map event_of items))) R.weighs;
         sent = R.sent;
         delivered = R.delivered;
         signalled = R.signalled;
@@ -157,7 +164,8 @@ module _ {S V : Type 0} (meaning : S → Algebra V) where
       }
 
   -- one item more at the end
-  pub handled_more : (items : List (Item V)) (i : Item V) (p m q : PartData S V) → HandledAll meaning p items m → HandledItemIn (meaning m.setup.question.algebra) (network_in m.setup) (place_in m.setup) m i q → HandledAll meaning p (items ++ i ∷ []) q
+  pub handled_more : (items : List (Item V)) (i : Item V) (p m q : PartData S V) → HandledAll meaning p items m
+      → HandledItemIn (meaning m.setup.question.algebra) (network_in m.setup) (place_in m.setup) m i q → HandledAll meaning p (items ++ i ∷ []) q
   handled_more [] i p m q e T = (q, subst (λ (u : PartData S V). HandledItemIn (meaning u.setup.question.algebra) (network_in u.setup) (place_in u.setup) u i q) (sym e) T, refl)
   handled_more (j ∷ items) i p m q (u, S1, rest) T = (u, S1, handled_more items i u m q rest T)
 
@@ -174,7 +182,8 @@ module _ {S V : Type 0} (meaning : S → Algebra V) where
   handled_many_same p q n (items, l, T) = handled_same items p q T
 
   -- many items of a part, on the state after some events
-  pub many_run : (state p q : PartData S V) (a : S) (n : ℕ) → state ≡ p → a ≡ state.setup.question.algebra → Lawful (meaning a) → WellFormed (network_in state.setup) → IsTallied state → HandledMany meaning p n q →
-      (events : List Event) → Holds meaning (state_after (meaning p.setup.question.algebra) (network_in p.setup) events) p → IsRunOn meaning events p n q
+  pub many_run : (state p q : PartData S V) (a : S) (n : ℕ) → state ≡ p → a ≡ state.setup.question.algebra → Lawful (meaning a)
+      → WellFormed (network_in state.setup) → IsTallied state → HandledMany meaning p n q →
+      (events : List Event) → HoldsShare meaning (state_after (meaning p.setup.question.algebra) (network_in p.setup) events) p → IsRunOn meaning events p n q
   many_run state p q a n e l L W y (items, count, T) events H = run_on events p q n items (subst (λ z. Lawful (meaning z)) (l ∙ ap (λ (u : PartData S V). u.setup.question.algebra) e) L)
       (subst (λ (u : PartData S V). WellFormed (network_in u.setup)) e W) (subst IsTallied e y) count T H

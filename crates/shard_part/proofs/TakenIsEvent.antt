@@ -15,10 +15,10 @@ use Rattle.scholten_core.specs.Sums.{one_if}
 use Rattle.scholten_core.specs.Items.{item_arc, item_of, settle_made}
 use Rattle.scholten_core.specs.Shares.{Agree}
 use Rattle.shard_part.specs.PartState.{PartData, state_in, vertex_of, event_of, mine}
-use Rattle.shard_part.specs.Weights.{total, in_flight, at_place, lanes_weight, lanes_of, part_weight}
+use Rattle.shard_part.specs.Weights.{total, in_flight, at_place, channels_weight, channels_of, part_weight}
 use Rattle.shard_part.specs.Outgoing.{outgoing}
 use Rattle.shard_part.specs.Handling.{taken, made, arrive_here, HandledItemIn}
-use Rattle.shard_part.specs.Shows.{HoldsTables, HoldsShare}
+use Rattle.shard_part.specs.Represents.{HoldsTables, HoldsShareIn}
 use Rattle.scholten_core.proofs.Kept.{Kept, head_real}
 use Rattle.scholten_core.proofs.Shares.{agree_then, message_frame, signal_frame, freed_agree}
 use Rattle.shard_part.proofs.Here.{arrive_here_agree, message_here, signal_here}
@@ -100,7 +100,9 @@ module _ {V : Type 0} (A : Algebra V) (N : Network) (place : ℕ → ℕ) where
       let hn = head_real A N W 0 a c K (λ z. let g = q in cc) in
       let O = outgoing_is A N W (N.head a) hn in
       let same : made A N (MessageOn a x) d ≡ item_of a (answer_to (c.engager (N.head a))) ++ settle_made A N (N.head a) (arrive A N a x c) (outgoing N (N.head a)) = λ k.
-      item_of a (answer_to {V = V} (G.engager (N.head a) m k)) ++ settle_made_agree A N (mine place s) (N.head a) (arrive A N a x c) (arrive_here A N a x d) m (arrive_here_agree A N (mine place s) a x c d m q G) (outgoing N (N.head a)) O k in
+      item_of a (answer_to {V = V} (G.engager (N.head a) m k))
+      ++ settle_made_agree A N (mine place s) (N.head a) (arrive A N a x c) (arrive_here A N a x d) m
+      (arrive_here_agree A N (mine place s) a x c d m q G) (outgoing N (N.head a)) O k in
       record {
         enabled = ap is_message q;
         agree = message_here A N L W (mine place s) a x c d m q K G;
@@ -123,11 +125,12 @@ module _ {V : Type 0} (A : Algebra V) (N : Network) (place : ℕ → ℕ) where
       weigh (suc k) q m lt h =
           let tn : N.tail (suc k) ≢ 0 = λ z. (let idle = K.neutral_idle (suc k) (λ y. omega (arith, y)) (ap c.engager z ∙ K.env_neutral) in let g = sym q ∙ idle in cc) in
           let O = outgoing_is A N W (N.tail (suc k)) tn in
-          let same : made A N (SignalOn (suc k)) d ≡ made A N (SignalOn (suc k)) c = settle_made_agree A N (mine place s) (N.tail (suc k)) (freed A N (suc k) c) (freed A N (suc k) d) m (freed_agree A N (mine place s) (suc k) c d G) (outgoing N (N.tail (suc k))) O in
+          let same : made A N (SignalOn (suc k)) d ≡ made A N (SignalOn (suc k)) c = settle_made_agree A N (mine place s) (N.tail (suc k))
+          (freed A N (suc k) c) (freed A N (suc k) d) m (freed_agree A N (mine place s) (suc k) c d G) (outgoing N (N.tail (suc k))) O in
           signal_weighs A N place L W k c h lt tn q K ∙ ap (λ zs. in_flight N place c h + total (at_place N place h) zs) (sym same)
 
 module _ {S V : Type 0} (A : Algebra V) (N : Network) (place : ℕ → ℕ) where
-  pub front_stands : Lawful A → (c : CoreState V) (p : PartData S V) (i : Item V) (rest : List (Item V)) → HoldsShare A N place c p → p.queue ≡ i ∷ rest → Stands A N place c p.shard i
+  pub front_stands : Lawful A → (c : CoreState V) (p : PartData S V) (i : Item V) (rest : List (Item V)) → HoldsShareIn A N place c p → p.queue ≡ i ∷ rest → Stands A N place c p.shard i
   front_stands L c p i rest H e =
       let w = H.weighs (marks A p.shard i) in
       let q : total (marks A p.shard i p.shard) p.queue ≡ marks A p.shard i p.shard i + total (marks A p.shard i p.shard) rest = ap (total (marks A p.shard i p.shard)) e in
@@ -140,25 +143,29 @@ module _ {S V : Type 0} (A : Algebra V) (N : Network) (place : ℕ → ℕ) wher
       part_weight h q + h p.shard i ≡ part_weight h p + total (at_place N place h) (made A N i (state_in p))
   handled_weighs p i q wide T h =
       let r = (routed N place p.shard (made A N i (state_in p)) (record { queue = T.rest; outs = p.outs }) wide).weighs h in
-      let l = ap (lanes_weight p.shard h) T.lanes in
-      let s = ap (λ z. lanes_weight z h (lanes_of q)) T.shard in
+      let l = ap (channels_weight p.shard h) T.channels in
+      let s = ap (λ z. channels_weight z h (channels_of q)) T.shard in
       let f = ap (total (h p.shard)) T.front in
       omega (arith, r, l, s, f)
 
   -- ONE PART: for every kept state of which it holds its share
   pub record TakenEvent (c : CoreState V) (p : PartData S V) (i : Item V) (q : PartData S V) : Type 0 where
     pub enabled : is_enabled c (event_of i) ≡ true
-    pub holds : HoldsShare A N place (step A N c (event_of i)) q
+    pub holds : HoldsShareIn A N place (step A N c (event_of i)) q
     pub others : (r : PartData S V) → r.shard ≢ p.shard → HoldsTables A N place c r → HoldsTables A N place (step A N c (event_of i)) r
     pub weighs : (h : ℕ → Item V → ℕ) → part_weight h q + in_flight N place c h ≡ part_weight h p + in_flight N place (step A N c (event_of i)) h
 
-  pub handled_event : Lawful A → WellFormed N → (c : CoreState V) (p : PartData S V) (i : Item V) (q : PartData S V) → Kept A N 0 c → HoldsShare A N place c p → HandledItemIn A N place p i q → TakenEvent c p i q
+  pub handled_event : Lawful A → WellFormed N → (c : CoreState V) (p : PartData S V) (i : Item V) (q : PartData S V) → Kept A N 0 c
+      → HoldsShareIn A N place c p → HandledItemIn A N place p i q → TakenEvent c p i q
   handled_event L W c p i q K H T =
       let F = front_stands L c p i T.rest H T.front in
       let E = event_made A N place L W p.shard c (state_in p) i K H.tables.agree F in
-      let balance : (h : ℕ → Item V → ℕ) → part_weight h q + in_flight N place c h ≡ part_weight h p + in_flight N place (step A N c (event_of i)) h = λ h. (let a = E.weighs h in let b = handled_weighs p i q H.tables.wide T h in let e : at_place N place h i ≡ h p.shard i = ap (λ z. h z i) F.here in
+      let balance : (h : ℕ → Item V → ℕ) → part_weight h q + in_flight N place c h ≡ part_weight h p + in_flight N place (step A N c (event_of i)) h =
+      λ h. (let a = E.weighs h in let b = handled_weighs p i q H.tables.wide T h in
+      let e : at_place N place h i ≡ h p.shard i = ap (λ z. h z i) F.here in
       omega (arith, a, b, e)) in
-      let long : length q.outs ≡ length p.outs = ap (λ l. length l.outs) T.lanes ∙ (routed N place p.shard (made A N i (state_in p)) (record { queue = T.rest; outs = p.outs }) H.tables.wide).long in
+      let long : length q.outs ≡ length p.outs = ap (λ l. length l.outs) T.channels
+      ∙ (routed N place p.shard (made A N i (state_in p)) (record { queue = T.rest; outs = p.outs }) H.tables.wide).long in
       record {
         enabled = E.enabled;
         holds = record {

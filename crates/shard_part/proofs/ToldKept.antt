@@ -8,7 +8,7 @@ use Rattle.scholten_core.specs.Diffusion.{is_idle}
 use Rattle.scholten_core.proofs.Basics.{idle-true}
 use Rattle.shard_part.specs.PartState.{PartData, Setup, network_in, place_in, state_in, mine}
 use Rattle.shard_part.specs.Handling.{taken, HandledItem, HandledItemIn}
-use Rattle.shard_part.specs.Moves.{Rows, IsStored, IsPlanned, IsPopped, with_taken}
+use Rattle.shard_part.specs.Moves.{Rows, RepInvariant, IsPlanned, IsPopped, with_taken}
 use Rattle.shard_part.specs.Part.{OwnIdleIsTold}
 use Rattle.shard_part.specs.Opening.{opened_part}
 use Rattle.shard_part.proofs.Quick.{taken_told}
@@ -18,7 +18,8 @@ use Rattle.shard_part.proofs.VertexSettles.{of_one_shard}
 use Rattle.shard_part.proofs.Opened.{reads_same}
 
 module _ {S V : Type 0} (A : Algebra V) where
-  pub told_kept : Lawful A → (p : PartData S V) (i : Item V) (q : PartData S V) → WellFormed (network_in p.setup) → OwnIdleIsTold p → HandledItemIn A (network_in p.setup) (place_in p.setup) p i q → OwnIdleIsTold q
+  pub told_kept : Lawful A → (p : PartData S V) (i : Item V) (q : PartData S V) → WellFormed (network_in p.setup) → OwnIdleIsTold p
+      → HandledItemIn A (network_in p.setup) (place_in p.setup) p i q → OwnIdleIsTold q
   told_kept L p i q W T R =
       let N = network_in p.setup in
       let H = taken_told A N L W (mine (place_in p.setup) p.shard) i (state_in p) (has_told A p T) in
@@ -37,15 +38,17 @@ opened_told A p t s e = subst OwnIdleIsTold (sym e) (untold (opened_part A t s) 
 
 -- of a part whose front item was taken off the queue and handled
 module _ {S V : Type 0} (meaning : S → Algebra V) where
-  pub stored_formed : (p old : PartData S V) (r : Rows V) (n : ℕ) (ns : List ℕ) → p ≡ old → IsStored p r n ns → WellFormed (network_in old.setup)
+  pub stored_formed : (p old : PartData S V) (r : Rows V) (n : ℕ) (ns : List ℕ) → p ≡ old → RepInvariant p r n ns → WellFormed (network_in old.setup)
   stored_formed p old r n ns e D = subst (λ (u : PartData S V). WellFormed (network_in u.setup)) e (formed p p.shard D.planned)
 
-  pub front_taken : (p old m q : PartData S V) (r : Rows V) (n : ℕ) (ns : List ℕ) (i : Item V) → p ≡ old → IsStored p r n ns → Lawful (meaning p.setup.question.algebra) → IsPopped old m i → q ≡ with_taken (meaning old.setup.question.algebra) i m → OwnIdleIsTold old →
+  pub front_taken : (p old m q : PartData S V) (r : Rows V) (n : ℕ) (ns : List ℕ) (i : Item V) → p ≡ old → RepInvariant p r n ns
+      → Lawful (meaning p.setup.question.algebra) → IsPopped old m i → q ≡ with_taken (meaning old.setup.question.algebra) i m → OwnIdleIsTold old →
       HandledItem meaning old i q
   front_taken p old m q r n ns i e D L O w T = popped_taken (meaning old.setup.question.algebra) (subst (λ (u : PartData S V). Lawful (meaning u.setup.question.algebra)) e L) old m q i
       (subst (λ (u : PartData S V). IsPlanned u.setup u.shard) e D.planned) (subst IsFit e (stored_fit p r n ns D)) T O w
 
-  pub front_told : (p old m q : PartData S V) (r : Rows V) (n : ℕ) (ns : List ℕ) (i : Item V) → p ≡ old → IsStored p r n ns → Lawful (meaning p.setup.question.algebra) → IsPopped old m i → q ≡ with_taken (meaning old.setup.question.algebra) i m → OwnIdleIsTold old →
+  pub front_told : (p old m q : PartData S V) (r : Rows V) (n : ℕ) (ns : List ℕ) (i : Item V) → p ≡ old → RepInvariant p r n ns
+      → Lawful (meaning p.setup.question.algebra) → IsPopped old m i → q ≡ with_taken (meaning old.setup.question.algebra) i m → OwnIdleIsTold old →
       OwnIdleIsTold q
   front_told p old m q r n ns i e D L O w T = told_kept (meaning old.setup.question.algebra) (subst (λ (u : PartData S V). Lawful (meaning u.setup.question.algebra)) e L) old i q
       (stored_formed p old r n ns e D) T (front_taken p old m q r n ns i e D L O w T)

@@ -11,7 +11,7 @@ use Rattle.scholten_core.proofs.Basics.{put_tells}
 use Rattle.scholten_core.proofs.Shares.{out_idle_agree}
 use Rattle.shard_part.specs.Tallies.{counted_on, top}
 use Rattle.shard_part.specs.PartState.{PartData, network_in, place_in, state_in}
-use Rattle.shard_part.specs.Weights.{lanes_of, total, is_told, is_back}
+use Rattle.shard_part.specs.Weights.{channels_of, total, message_weight, signal_weight}
 use Rattle.shard_part.specs.Handling.{routes, rest_here, settle_here}
 use Rattle.shard_part.specs.Moves.{offered_all, rested, rested_by}
 use Rattle.shard_part.proofs.Routed.{routes-append}
@@ -26,9 +26,9 @@ module _ {S V : Type 0} (A : Algebra V) where
     pub setup : q.setup ≡ p.setup
     pub shard : q.shard ≡ p.shard
     pub tables : Agree A (network_in p.setup) everywhere d (state_in q)
-    pub lanes : lanes_of q ≡ routes (network_in p.setup) (place_in p.setup) p.shard xs (lanes_of p)
-    pub sent : q.sent ≡ counted_on (total is_told xs) p.sent
-    pub signalled : q.signalled ≡ counted_on (total is_back xs) p.signalled
+    pub channels : channels_of q ≡ routes (network_in p.setup) (place_in p.setup) p.shard xs (channels_of p)
+    pub sent : q.sent ≡ counted_on (total message_weight xs) p.sent
+    pub signalled : q.signalled ≡ counted_on (total signal_weight xs) p.signalled
     pub delivered : q.delivered ≡ p.delivered
     pub accepted : q.accepted ≡ p.accepted
 
@@ -53,9 +53,9 @@ module _ {S V : Type 0} (A : Algebra V) where
             | inr n ↦ ap is_idle ((R.left b n).1 ∙ sym (cond-false _ _ _ (quiet b n)))
           ];
         };
-        lanes = R.lanes ∙ ap (λ zs. routes N (place_in p.setup) p.shard zs (lanes_of p)) (sym same);
-        sent = R.sent ∙ ap (λ zs. counted_on (total is_told zs) p.sent) (sym same);
-        signalled = R.signalled ∙ sym (counted_none p.signalled s) ∙ ap (λ k. counted_on k p.signalled) (sym (ap (total is_back) same ∙ made_no_back A N v (state_in p) xs));
+        channels = R.channels ∙ ap (λ zs. routes N (place_in p.setup) p.shard zs (channels_of p)) (sym same);
+        sent = R.sent ∙ ap (λ zs. counted_on (total message_weight zs) p.sent) (sym same);
+        signalled = R.signalled ∙ sym (counted_none p.signalled s) ∙ ap (λ k. counted_on k p.signalled) (sym (ap (total signal_weight) same ∙ made_no_back A N v (state_in p) xs));
         delivered = R.delivered;
         accepted = R.accepted;
       }
@@ -84,9 +84,11 @@ module _ {S V : Type 0} (A : Algebra V) where
       told = M.tables.told;
       idle = M.tables.idle;
     };
-    lanes = ap (routes (network_in p.setup) (place_in p.setup) p.shard (SignalOn e ∷ [])) M.lanes ∙ sym (routes-append (network_in p.setup) (place_in p.setup) p.shard xs (SignalOn e ∷ []) (lanes_of p));
-    sent = counted_append is_told xs (SignalOn e ∷ []) p.sent q.sent q.sent M.sent (sym (counted_none q.sent (subst (λ n. n ≤ top) (sym M.sent) (counted_top (total is_told xs) p.sent))));
-    signalled = counted_append is_back xs (SignalOn e ∷ []) p.signalled q.signalled (counted_on 1 q.signalled) M.signalled refl;
+    channels = ap (routes (network_in p.setup) (place_in p.setup) p.shard (SignalOn e ∷ [])) M.channels
+        ∙ sym (routes-append (network_in p.setup) (place_in p.setup) p.shard xs (SignalOn e ∷ []) (channels_of p));
+    sent = counted_append message_weight xs (SignalOn e ∷ []) p.sent q.sent q.sent M.sent
+        (sym (counted_none q.sent (subst (λ n. n ≤ top) (sym M.sent) (counted_top (total message_weight xs) p.sent))));
+    signalled = counted_append signal_weight xs (SignalOn e ∷ []) p.signalled q.signalled (counted_on 1 q.signalled) M.signalled refl;
     delivered = M.delivered;
     accepted = M.accepted;
   }
@@ -97,7 +99,8 @@ module _ {S V : Type 0} (A : Algebra V) where
   rests v ys p q l M =
       let N = network_in p.setup in
       let e = of_one_shard p q M.setup M.shard in
-      let M' : Made (pump A N v (state_in p)) (pump_made A N v (state_in p) ys) p (record q { setup = p.setup; shard = p.shard }) = subst (Made (pump A N v (state_in p)) (pump_made A N v (state_in p) ys) p) e M in
+      let M' : Made (pump A N v (state_in p)) (pump_made A N v (state_in p) ys) p (record q { setup = p.setup; shard = p.shard }) = subst
+      (Made (pump A N v (state_in p)) (pump_made A N v (state_in p) ys) p) e M in
       let o : (state_in q).engager v ≡ (state_in p).engager v = M'.tables.engager v refl in
       let t : out_idle A N v (state_in q) ≡ out_idle A N v (pump A N v (state_in p)) = out_idle_agree A N everywhere v (pump A N v (state_in p)) (state_in q) refl M'.tables in
       let R = rest_by v ((state_in p).engager v) (out_idle A N v (pump A N v (state_in p))) (pump A N v (state_in p)) (pump_made A N v (state_in p) ys) p q l M' in
@@ -117,15 +120,16 @@ module _ {S V : Type 0} (A : Algebra V) where
 
   -- items made before
   pub made_after : (d : CoreState V) (xs ys : List (Item V)) (p q : PartData S V) (ls : List (Option V)) (es : List (Option ℕ)) (qs : List (Item V)) (os : List (List (Item V))) (n m : ℕ) →
-      record { queue = qs; outs = os } ≡ routes (network_in p.setup) (place_in p.setup) p.shard xs (lanes_of p) → n ≡ counted_on (total is_told xs) p.sent → m ≡ counted_on (total is_back xs) p.signalled →
+      record { queue = qs; outs = os } ≡ routes (network_in p.setup) (place_in p.setup) p.shard xs (channels_of p)
+      → n ≡ counted_on (total message_weight xs) p.sent → m ≡ counted_on (total signal_weight xs) p.signalled →
       Made d ys (record p { labels = ls; engagers = es; queue = qs; outs = os; sent = n; signalled = m }) q → Made d (xs ++ ys) p q
-  made_after d xs ys p q ls es qs os n m lanes sends signals M = record {
+  made_after d xs ys p q ls es qs os n m channels sends signals M = record {
     setup = M.setup;
     shard = M.shard;
     tables = M.tables;
-    lanes = M.lanes ∙ ap (routes (network_in p.setup) (place_in p.setup) p.shard ys) lanes ∙ sym (routes-append (network_in p.setup) (place_in p.setup) p.shard xs ys (lanes_of p));
-    sent = counted_append is_told xs ys p.sent n q.sent sends M.sent;
-    signalled = counted_append is_back xs ys p.signalled m q.signalled signals M.signalled;
+    channels = M.channels ∙ ap (routes (network_in p.setup) (place_in p.setup) p.shard ys) channels ∙ sym (routes-append (network_in p.setup) (place_in p.setup) p.shard xs ys (channels_of p));
+    sent = counted_append message_weight xs ys p.sent n q.sent sends M.sent;
+    signalled = counted_append signal_weight xs ys p.signalled m q.signalled signals M.signalled;
     delivered = M.delivered;
     accepted = M.accepted;
   }

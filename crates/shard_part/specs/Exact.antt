@@ -8,9 +8,9 @@ use Rattle.scholten_core.specs.Diffusion.{CoreState, run_from}
 use Rattle.scholten_core.specs.Accounts.{Totals, sent_total, delivered_total, signalled_total, accepted_total}
 use Rattle.shard_part.specs.Tallies.{top}
 use Rattle.shard_part.specs.PartState.{PartData, Setup, network_in, state_in, event_of}
-use Rattle.shard_part.specs.Weights.{total, is_told, is_back}
+use Rattle.shard_part.specs.Weights.{total, message_weight, signal_weight}
 use Rattle.shard_part.specs.Handling.{made, HandledAll}
-use Rattle.shard_part.specs.Shows.{Shows}
+use Rattle.shard_part.specs.Represents.{Represents}
 
 abbrev pub no_totals : Totals
 no_totals = record { sent = 0; delivered = 0; signalled = 0; accepted = 0 }
@@ -34,9 +34,9 @@ module _ {S V : Type 0} (meaning : S → Algebra V) where
   unfoldable pub done_by : (items : List (Item V)) (p q : PartData S V) → HandledAll meaning p items q → Totals
   done_by [] p q e = no_totals
   done_by (i ∷ is) p q (m, T, rest) =
-      plus (record { sent = total is_told (made (meaning p.setup.question.algebra) (network_in p.setup) i (state_in p)); delivered = is_told i; signalled = total is_back (made (meaning p.setup.question.algebra) (network_in p.setup) i (state_in p)); accepted = is_back i }) (done_by is m q rest)
+      plus (record { sent = total message_weight (made (meaning p.setup.question.algebra) (network_in p.setup) i (state_in p)); delivered = message_weight i; signalled = total signal_weight (made (meaning p.setup.question.algebra) (network_in p.setup) i (state_in p)); accepted = signal_weight i }) (done_by is m q rest)
 
   -- parts and mailboxes show the state after the events of the items, and n is what these events do
-  pub record ShowsMoved (t : Setup S) (c : CoreState V) (items : List (Item V)) (parts : List (PartData S V)) (mail : (ℕ → Item V → ℕ) → ℕ) (n : Totals) : Type 0 where
-    pub shown : Shows meaning t parts mail (run_from (meaning t.question.algebra) (network_in t) c (map event_of items))
+  pub record RepresentsMoved (t : Setup S) (c : CoreState V) (items : List (Item V)) (parts : List (PartData S V)) (mail : (ℕ → Item V → ℕ) → ℕ) (n : Totals) : Type 0 where
+    pub shown : Represents meaning t parts mail (run_from (meaning t.question.algebra) (network_in t) c (map event_of items))
     pub did : n ≡ totals_from (meaning t.question.algebra) (network_in t) c (map event_of items)

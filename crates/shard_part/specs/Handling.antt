@@ -9,7 +9,7 @@ use Rattle.scholten_core.specs.Items.{item_of, settle_made}
 use Rattle.scholten_core.specs.Shares.{Agree}
 use Rattle.shard_part.specs.Tallies.{counted_on}
 use Rattle.shard_part.specs.PartState.{network_in, place_in, PartData, state_in, vertex_of, mine}
-use Rattle.shard_part.specs.Weights.{total, is_told, is_back, Lanes, lanes_of}
+use Rattle.shard_part.specs.Weights.{total, message_weight, signal_weight, Channels, channels_of}
 use Rattle.shard_part.specs.Outgoing.{outgoing}
 
 module _ {V : Type 0} (A : Algebra V) (N : Network) where
@@ -54,13 +54,13 @@ module _ {V : Type 0} (A : Algebra V) (N : Network) where
 
 module _ {V : Type 0} (N : Network) (place : ℕ → ℕ) where
   -- an item for the shard s itself goes to the back of the queue, another to the back of that outbox
-  abbrev pub route : ℕ → Item V → Lanes V → Lanes V
+  abbrev pub route : ℕ → Item V → Channels V → Channels V
   route s i l = cond (eqb (place (vertex_of N i)) s)
       (record { queue = l.queue ++ i ∷ []; outs = l.outs })
       (record { queue = l.queue; outs = set l.outs (place (vertex_of N i)) (get_or l.outs (place (vertex_of N i)) [] ++ i ∷ []) })
 
   -- items one after the other
-  abbrev pub routes : ℕ → List (Item V) → Lanes V → Lanes V
+  abbrev pub routes : ℕ → List (Item V) → Channels V → Channels V
   routes s [] l = l
   routes s (i ∷ is) l = routes s is (route s i l)
 
@@ -72,11 +72,11 @@ module _ {S V : Type 0} (A : Algebra V) (N : Network) (place : ℕ → ℕ) wher
     pub setup : q.setup ≡ p.setup
     pub shard : q.shard ≡ p.shard
     pub tables : Agree A N (mine place p.shard) (taken A N i (state_in p)) (state_in q)
-    pub lanes : lanes_of q ≡ routes N place p.shard (made A N i (state_in p)) (record { queue = rest; outs = p.outs })
-    pub sent : q.sent ≡ counted_on (total is_told (made A N i (state_in p))) p.sent
-    pub signalled : q.signalled ≡ counted_on (total is_back (made A N i (state_in p))) p.signalled
-    pub delivered : q.delivered ≡ counted_on (is_told i) p.delivered
-    pub accepted : q.accepted ≡ counted_on (is_back i) p.accepted
+    pub channels : channels_of q ≡ routes N place p.shard (made A N i (state_in p)) (record { queue = rest; outs = p.outs })
+    pub sent : q.sent ≡ counted_on (total message_weight (made A N i (state_in p))) p.sent
+    pub signalled : q.signalled ≡ counted_on (total signal_weight (made A N i (state_in p))) p.signalled
+    pub delivered : q.delivered ≡ counted_on (message_weight i) p.delivered
+    pub accepted : q.accepted ≡ counted_on (signal_weight i) p.accepted
 
 -- as a part's own setup says
 module _ {S V : Type 0} (meaning : S → Algebra V) where

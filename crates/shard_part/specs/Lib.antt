@@ -6,10 +6,10 @@ pub mod PartState
 pub mod Weights
 pub mod Outgoing
 pub mod Capacities
-pub mod Sound
+pub mod LocalInvariant
 pub mod ItemPlaces
 pub mod Handling
-pub mod Shows
+pub mod Represents
 pub mod Waiting
 pub mod Queue
 pub mod Moves

@@ -8,13 +8,13 @@ use Rattle.scholten_core.specs.Diffusion.{improves, is_due, extend_label, out_id
 use Rattle.scholten_core.specs.Items.{item_arc}
 use Rattle.shard_part.specs.Plans.{IsPlan}
 use Rattle.shard_part.specs.Tallies.{counted_on, top}
-use Rattle.shard_part.specs.Tables.{spread}
+use Rattle.shard_part.specs.Tables.{scatter}
 use Rattle.scholten_core.specs.Deficit.{busy_out}
 use Rattle.shard_part.specs.PartState.{PartData, Setup, network_in, place_in, state_in, IsArc, vertex_of}
-use Rattle.shard_part.specs.Weights.{lanes_of}
-use Rattle.shard_part.specs.Outgoing.{own_in, arcs_out, outgoing}
+use Rattle.shard_part.specs.Weights.{channels_of}
+use Rattle.shard_part.specs.Outgoing.{local_vertices, arcs_out, outgoing}
 use Rattle.shard_part.specs.Handling.{route}
-use Rattle.shard_part.specs.Sound.{IsSound, IsClear}
+use Rattle.shard_part.specs.LocalInvariant.{LocalInvariant, IsClear}
 use Rattle.shard_part.specs.Capacities.{queue_bound, outbox_bound}
 use Rattle.shard_part.specs.declared.tables.Tables.{Tables}
 
@@ -32,14 +32,14 @@ abbrev pub rows_of : {V : Type 0} → Tables V → Rows V
 rows_of t = record { own = t.own; offsets = t.vertices.offsets; labels = t.vertices.labels; engagers = t.vertices.engagers; deficits = t.vertices.deficits; busy = t.arcs.busy; told = t.arcs.told }
 
 -- the part that the tables and rings of a shard are seen as: each value stands at the number that it belongs to
-abbrev pub seen_as : {S V : Type 0} → Setup S → ℕ → Rows V → List (Item V) → List (List (Item V)) → ℕ → ℕ → ℕ → ℕ → PartData S V
-seen_as t s r queue outs sent delivered signalled accepted = record {
+abbrev pub abstraction : {S V : Type 0} → Setup S → ℕ → Rows V → List (Item V) → List (List (Item V)) → ℕ → ℕ → ℕ → ℕ → PartData S V
+abstraction t s r queue outs sent delivered signalled accepted = record {
   setup = t;
   shard = s;
-  labels = spread (own_in t s) r.labels None (suc t.question.roads.vertices);
-  engagers = spread (own_in t s) r.engagers None (suc t.question.roads.vertices);
-  busy = spread (arcs_out (network_in t) (own_in t s)) r.busy false (suc (length t.question.roads.arcs));
-  told = spread (arcs_out (network_in t) (own_in t s)) r.told None (suc (length t.question.roads.arcs));
+  labels = scatter (local_vertices t s) r.labels None (suc t.question.roads.vertices);
+  engagers = scatter (local_vertices t s) r.engagers None (suc t.question.roads.vertices);
+  busy = scatter (arcs_out (network_in t) (local_vertices t s)) r.busy false (suc (length t.question.roads.arcs));
+  told = scatter (arcs_out (network_in t) (local_vertices t s)) r.told None (suc (length t.question.roads.arcs));
   queue = queue;
   outs = outs;
   sent = sent;
@@ -50,21 +50,21 @@ seen_as t s r queue outs sent delivered signalled accepted = record {
 
 -- the tables have a row for each vertex of the shard, and one for each arc out of these
 pub record IsSized {S V : Type 0} (p : PartData S V) (r : Rows V) : Type 0 where
-  pub own : r.own ≡ own_in p.setup p.shard
-  pub offsets : length r.offsets ≡ length (own_in p.setup p.shard)
-  pub starts : (j : ℕ) → j < length (own_in p.setup p.shard) → get_or r.offsets j 0 ≡ length (arcs_out (network_in p.setup) (take j (own_in p.setup p.shard)))
-  pub labels : length r.labels ≡ length (own_in p.setup p.shard)
-  pub engagers : length r.engagers ≡ length (own_in p.setup p.shard)
-  pub deficits : length r.deficits ≡ length (own_in p.setup p.shard)
-  pub busy : length r.busy ≡ length (arcs_out (network_in p.setup) (own_in p.setup p.shard))
-  pub told : length r.told ≡ length (arcs_out (network_in p.setup) (own_in p.setup p.shard))
+  pub own : r.own ≡ local_vertices p.setup p.shard
+  pub offsets : length r.offsets ≡ length (local_vertices p.setup p.shard)
+  pub starts : (j : ℕ) → j < length (local_vertices p.setup p.shard) → get_or r.offsets j 0 ≡ length (arcs_out (network_in p.setup) (take j (local_vertices p.setup p.shard)))
+  pub labels : length r.labels ≡ length (local_vertices p.setup p.shard)
+  pub engagers : length r.engagers ≡ length (local_vertices p.setup p.shard)
+  pub deficits : length r.deficits ≡ length (local_vertices p.setup p.shard)
+  pub busy : length r.busy ≡ length (arcs_out (network_in p.setup) (local_vertices p.setup p.shard))
+  pub told : length r.told ≡ length (arcs_out (network_in p.setup) (local_vertices p.setup p.shard))
 
 -- and what the part shows are these rows
 pub record IsSeen {S V : Type 0} (p : PartData S V) (r : Rows V) : Type 0 where
-  pub labels : p.labels ≡ spread (own_in p.setup p.shard) r.labels None (suc p.setup.question.roads.vertices)
-  pub engagers : p.engagers ≡ spread (own_in p.setup p.shard) r.engagers None (suc p.setup.question.roads.vertices)
-  pub busy : p.busy ≡ spread (arcs_out (network_in p.setup) (own_in p.setup p.shard)) r.busy false (suc (length p.setup.question.roads.arcs))
-  pub told : p.told ≡ spread (arcs_out (network_in p.setup) (own_in p.setup p.shard)) r.told None (suc (length p.setup.question.roads.arcs))
+  pub labels : p.labels ≡ scatter (local_vertices p.setup p.shard) r.labels None (suc p.setup.question.roads.vertices)
+  pub engagers : p.engagers ≡ scatter (local_vertices p.setup p.shard) r.engagers None (suc p.setup.question.roads.vertices)
+  pub busy : p.busy ≡ scatter (arcs_out (network_in p.setup) (local_vertices p.setup p.shard)) r.busy false (suc (length p.setup.question.roads.arcs))
+  pub told : p.told ≡ scatter (arcs_out (network_in p.setup) (local_vertices p.setup p.shard)) r.told None (suc (length p.setup.question.roads.arcs))
 
 -- the plan is one of the graph, and the shard and the source are theirs
 pub record IsPlanned {S : Type 0} (t : Setup S) (s : ℕ) : Type 0 where
@@ -83,31 +83,31 @@ pub record IsRoomy {S V : Type 0} (p : PartData S V) (queue_capacity : ℕ) (out
 
 -- the deficit of a vertex is the number of its busy arcs
 abbrev pub IsCounted : {S V : Type 0} → PartData S V → Rows V → Type 0
-IsCounted p r = (j : ℕ) → j < length (own_in p.setup p.shard) →
-    get_or r.deficits j 0 ≡ busy_out (network_in p.setup) (get_or (own_in p.setup p.shard) j 0) (state_in p) (suc (length p.setup.question.roads.arcs))
+IsCounted p r = (j : ℕ) → j < length (local_vertices p.setup p.shard) →
+    get_or r.deficits j 0 ≡ busy_out (network_in p.setup) (get_or (local_vertices p.setup p.shard) j 0) (state_in p) (suc (length p.setup.question.roads.arcs))
 
 -- no counter is past its top
 abbrev pub IsTallied : {S V : Type 0} → PartData S V → Type 0
 IsTallied p = (p.sent ≤ top) × (p.delivered ≤ top) × (p.signalled ≤ top) × (p.accepted ≤ top)
 
-pub record IsStored {S V : Type 0} (p : PartData S V) (r : Rows V) (queue_capacity : ℕ) (out_capacities : List ℕ) : Type 0 where
+pub record RepInvariant {S V : Type 0} (p : PartData S V) (r : Rows V) (queue_capacity : ℕ) (out_capacities : List ℕ) : Type 0 where
   pub planned : IsPlanned p.setup p.shard
   pub sized : IsSized p r
   pub seen : IsSeen p r
   pub counts : IsCounted p r
-  pub sound : IsSound (network_in p.setup) (place_in p.setup) p
+  pub sound : LocalInvariant (network_in p.setup) (place_in p.setup) p
   pub roomy : IsRoomy p queue_capacity out_capacities
   pub tallied : IsTallied p
 
 -- the vertex v is the part's, at the place j
 pub record IsPlace {S V : Type 0} (p : PartData S V) (v j : ℕ) : Type 0 where
-  pub inside : j < length (own_in p.setup p.shard)
-  pub vertex : get_or (own_in p.setup p.shard) j 0 ≡ v
+  pub inside : j < length (local_vertices p.setup p.shard)
+  pub vertex : get_or (local_vertices p.setup p.shard) j 0 ≡ v
 
 -- the arc b leaves a vertex of the part, and its flags stand at the place i
 pub record IsRow {S V : Type 0} (p : PartData S V) (b i : ℕ) : Type 0 where
-  pub inside : i < length (arcs_out (network_in p.setup) (own_in p.setup p.shard))
-  pub arc : get_or (arcs_out (network_in p.setup) (own_in p.setup p.shard)) i 0 ≡ b
+  pub inside : i < length (arcs_out (network_in p.setup) (local_vertices p.setup p.shard))
+  pub arc : get_or (arcs_out (network_in p.setup) (local_vertices p.setup p.shard)) i 0 ≡ b
 
 -- the item i went from the front of the queue
 pub record IsPopped {S V : Type 0} (old new : PartData S V) (i : Item V) : Type 0 where
@@ -121,8 +121,8 @@ module _ {S V : Type 0} where
   -- an item is put where it belongs
   abbrev pub put_item : Item V → PartData S V → PartData S V
   put_item i p = record p {
-    queue = (route (network_in p.setup) (place_in p.setup) p.shard i (lanes_of p)).queue;
-    outs = (route (network_in p.setup) (place_in p.setup) p.shard i (lanes_of p)).outs;
+    queue = (route (network_in p.setup) (place_in p.setup) p.shard i (channels_of p)).queue;
+    outs = (route (network_in p.setup) (place_in p.setup) p.shard i (channels_of p)).outs;
   }
 
   -- and counted

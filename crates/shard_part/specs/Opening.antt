@@ -7,7 +7,7 @@ use Rattle.scholten_core.specs.Network.{Network}
 use Rattle.scholten_core.specs.Sums.{one_if}
 use Rattle.shard_part.specs.declared.layout.Extent.{Extent}
 use Rattle.shard_part.specs.PartState.{Setup, PartData, place_in, network_in}
-use Rattle.shard_part.specs.Outgoing.{own_in, arcs_out, outgoing}
+use Rattle.shard_part.specs.Outgoing.{local_vertices, arcs_out, outgoing}
 use Rattle.shard_part.specs.Weights.{total, is}
 use Rattle.shard_part.specs.Capacities.{outbox_bound}
 use Rattle.shard_part.specs.Moves.{Rows}
@@ -102,5 +102,5 @@ idle_rows own offsets arcs entry = record {
 pub record AreIdle {V : Type 0} (w : ShardLayoutData) (rows : Rows V) : Type 0 where
   pub offsets : List ℕ
   pub arcs : ℕ
-  pub starts : AreStarts (network_in w.setup) (own_in w.setup w.shard) offsets arcs
-  pub rows_are : rows ≡ idle_rows (own_in w.setup w.shard) offsets arcs (is_first w.setup w.shard)
+  pub starts : AreStarts (network_in w.setup) (local_vertices w.setup w.shard) offsets arcs
+  pub rows_are : rows ≡ idle_rows (local_vertices w.setup w.shard) offsets arcs (is_first w.setup w.shard)

@@ -15,8 +15,8 @@ module _ (N : Network) where
   outgoing v = arcs_from v 0 (suc N.arcs)
 
 -- the vertices of a shard, ascending; the environment stands first in each
-abbrev pub own_in : {S : Type 0} → Setup S → ℕ → List ℕ
-own_in t s = 0 ∷ placed (place_in t) s 1 t.question.roads.vertices
+abbrev pub local_vertices : {S : Type 0} → Setup S → ℕ → List ℕ
+local_vertices t s = 0 ∷ placed (place_in t) s 1 t.question.roads.vertices
 
 -- the arcs out of the vertices of a list, one vertex after the other
 unfoldable pub arcs_out : Network → List ℕ → List ℕ

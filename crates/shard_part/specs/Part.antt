@@ -10,7 +10,7 @@ use Rattle.shard_part.specs.Tallies.{counted_on}
 use Rattle.shard_part.specs.PartState.{PartData, Setup, network_in, place_in, state_in, event_of}
 use Rattle.shard_part.specs.Weights.{in_flight, part_weight}
 use Rattle.shard_part.specs.Handling.{HandledItem, HandledAll}
-use Rattle.shard_part.specs.Shows.{Holds, Shows}
+use Rattle.shard_part.specs.Represents.{HoldsShare, Represents}
 
 -- an idle arc out of a vertex of the part has been told the vertex's label
 abbrev pub OwnIdleIsTold : {S V : Type 0} → PartData S V → Type 0
@@ -34,7 +34,7 @@ module _ {S V : Type 0} (meaning : S → Algebra V) where
     pub count : length items ≡ n
     pub handled : HandledAll meaning p items q
     pub enabled : count_enabled (meaning p.setup.question.algebra) (network_in p.setup) (state_after (meaning p.setup.question.algebra) (network_in p.setup) events) (map event_of items) ≡ n
-    pub holds : Holds meaning (state_after (meaning p.setup.question.algebra) (network_in p.setup) (events ++ map event_of items)) q
+    pub holds : HoldsShare meaning (state_after (meaning p.setup.question.algebra) (network_in p.setup) (events ++ map event_of items)) q
     pub weighs : (h : ℕ → Item V → ℕ) → part_weight h q + in_flight (network_in p.setup) (place_in p.setup) (state_after (meaning p.setup.question.algebra) (network_in p.setup) events) h
         ≡ part_weight h p + in_flight (network_in p.setup) (place_in p.setup) (state_after (meaning p.setup.question.algebra) (network_in p.setup) (events ++ map event_of items)) h
     pub sent : q.sent ≡ counted_on (sent_total (meaning p.setup.question.algebra) (network_in p.setup) (state_after (meaning p.setup.question.algebra) (network_in p.setup) events) (map event_of items)) p.sent
@@ -47,4 +47,4 @@ module _ {S V : Type 0} (meaning : S → Algebra V) where
     pub more : List Event
     pub count : length more ≡ n
     pub enabled : count_enabled (meaning t.question.algebra) (network_in t) (state_after (meaning t.question.algebra) (network_in t) events) more ≡ n
-    pub shown : Shows meaning t parts mail (state_after (meaning t.question.algebra) (network_in t) (events ++ more))
+    pub shown : Represents meaning t parts mail (state_after (meaning t.question.algebra) (network_in t) (events ++ more))

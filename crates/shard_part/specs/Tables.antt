@@ -8,10 +8,10 @@ use Rattle.shard_part.specs.declared.tables.VertexRow.{VertexRow}
 use Rattle.shard_part.specs.declared.tables.ArcMarks.{ArcMarks}
 
 -- the list of n entries in which the j-th value stands at the j-th key, and `none` elsewhere
-unfoldable pub spread : {X : Type 0} → List ℕ → List X → X → ℕ → List X
-spread [] values none n = replicate n none
-spread (k ∷ keys) [] none n = replicate n none
-spread (k ∷ keys) (x ∷ values) none n = set (spread keys values none n) k x
+unfoldable pub scatter : {X : Type 0} → List ℕ → List X → X → ℕ → List X
+scatter [] values none n = replicate n none
+scatter (k ∷ keys) [] none n = replicate n none
+scatter (k ∷ keys) (x ∷ values) none n = set (scatter keys values none n) k x
 
 -- no two keys are the same
 abbrev pub IsApart : List ℕ → Type 0

@@ -27,17 +27,17 @@ All P [] = Unit {0}
 All P (x ∷ xs) = P x × All P xs
 
 -- one for a message
-abbrev pub is_told : {V : Type 0} → Item V → ℕ
-is_told (MessageOn a x) = 1
-is_told (SignalOn a) = 0
+abbrev pub message_weight : {V : Type 0} → Item V → ℕ
+message_weight (MessageOn a x) = 1
+message_weight (SignalOn a) = 0
 
 -- one for a signal
-abbrev pub is_back : {V : Type 0} → Item V → ℕ
-is_back (MessageOn a x) = 0
-is_back (SignalOn a) = 1
+abbrev pub signal_weight : {V : Type 0} → Item V → ℕ
+signal_weight (MessageOn a x) = 0
+signal_weight (SignalOn a) = 1
 
 -- the queue and the outboxes of a part
-pub record Lanes (V : Type 0) : Type 0 where
+pub record Channels (V : Type 0) : Type 0 where
   pub queue : List (Item V)
   pub outs : List (List (Item V))
 
@@ -48,17 +48,17 @@ module _ {V : Type 0} where
   outs_weight h k (o ∷ os) = total (h k) o + outs_weight h (suc k) os
 
   -- and the queue by h s, where s is the own shard
-  abbrev pub lanes_weight : ℕ → (ℕ → Item V → ℕ) → Lanes V → ℕ
-  lanes_weight s h l = total (h s) l.queue + outs_weight h 0 l.outs
+  abbrev pub channels_weight : ℕ → (ℕ → Item V → ℕ) → Channels V → ℕ
+  channels_weight s h l = total (h s) l.queue + outs_weight h 0 l.outs
 
 module _ {S V : Type 0} where
   -- those of the part p
-  abbrev pub lanes_of : PartData S V → Lanes V
-  lanes_of p = record { queue = p.queue; outs = p.outs }
+  abbrev pub channels_of : PartData S V → Channels V
+  channels_of p = record { queue = p.queue; outs = p.outs }
 
   -- all items of the part, each weighed with the shard that it is at or going to
   abbrev pub part_weight : (ℕ → Item V → ℕ) → PartData S V → ℕ
-  part_weight h p = lanes_weight p.shard h (lanes_of p)
+  part_weight h p = channels_weight p.shard h (channels_of p)
 
 -- what mailboxes hold, each weighed with the shard that it leads to
 abbrev pub mail_weight : {V : Type 0} → List (ℕ × List (Item V)) → (ℕ → Item V → ℕ) → ℕ

@@ -1,3 +1,4 @@
+//! A ring of items, in which they go from one shard to another.
 ghost use Rattle.std.specs.Prelude.{◌≡◌, ◌+◌, ◌<◌, ◌≤◌, ◌++◌, [], ◌∷◌, length, drop, slice_get, leb, IfOk};
 ghost use Rattle.circular_buffer.specs.Buffer.{buffer};
 ghost use Rattle.scholten_core.specs.Items.{item_arc};

@@ -1,7 +1,7 @@
 //! What is left of a part whose question is over.
 ghost use Rattle.std.specs.Prelude.{◌≡◌};
 ghost use Rattle.shard_part.specs.PartState.{network_in, place_in, state_in};
-ghost use Rattle.shard_part.specs.Sound.{IsSound};
+ghost use Rattle.shard_part.specs.LocalInvariant.{LocalInvariant};
 ghost use Rattle.shard_part.specs.Moves.{IsPlanned, IsTallied};
 ghost use Rattle.shard_part.specs.Readings.{IsOwn, tally_in};
 
@@ -60,7 +60,7 @@ impl<'g, A: PathAlgebra> ClosedPart<'g, A> {
         ensures shard { result ≡ self.now.shard }
         // What holds of every part, for callers that lean on it.
         ensures planned { IsPlanned self.now.setup self.now.shard }
-        ensures sound { IsSound (network_in self.now.setup) (place_in self.now.setup) self.now }
+        ensures sound { LocalInvariant (network_in self.now.setup) (place_in self.now.setup) self.now }
         ensures tallied { IsTallied self.now }
     {
         self.shard

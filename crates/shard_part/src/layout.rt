@@ -1,9 +1,10 @@
 //! What a part is made for, and what is counted before its tables are made.
-ghost use Rattle.std.specs.Prelude.{◌≡◌, ◌≢◌, ◌↔◌, ℕ, ◌+◌, ◌<◌, ◌≤◌, ◌^◌, eqb, cond, List, [], ◌∷◌, ◌++◌, get_or, length, replicate, IsTrue, IfOk};
+ghost use Rattle.std.specs.Prelude.{◌≡◌, ◌≢◌, ◌↔◌, ℕ, ◌+◌, ◌<◌, ◌≤◌, ◌^◌, eqb, cond, List, [], ◌∷◌, ◌++◌, get_or, length, IsTrue, IfOk};
 ghost use Rattle.road_graph.specs.Roads.{HasVertex, ListsArcsFrom, ListsArcsInto};
 ghost use Rattle.shard_part.specs.Tables.{placed};
 ghost use Rattle.shard_part.specs.PartState.{network_in, place_in};
-ghost use Rattle.shard_part.specs.Outgoing.{own_in, outgoing};
+ghost use Rattle.shard_part.specs.Outgoing.{local_vertices, outgoing};
+ghost use Rattle.shard_part.specs.Moves.{IsPlanned};
 ghost use Rattle.shard_part.specs.Weights.{total, is};
 ghost use Rattle.shard_part.specs.Opening.{is_first, IsExtent, AreStarts, CountsOut, CountsInto, CountsAll};
 
@@ -73,6 +74,13 @@ impl<'g> ShardLayout<'g> {
         self.plan.shard_of(self.source) == self.shard
     }
 
+    /// What holds of every layout: the plan is one of the graph, and the shard and the source are theirs.
+    fn holds(&self)
+        ensures { IsPlanned self.now.setup self.now.shard }
+    {
+        let _graph = self.graph; // the invariant is known of a value that is read
+    }
+
     /// Whether a vertex is one of the shard.
     fn has(&self, v: Vertex) -> bool
         requires { HasVertex self.now.setup.question.roads v }
@@ -102,7 +110,7 @@ impl<'g> ShardLayout<'g> {
 
     /// The environment, then the vertices of the shard, ascending.
     pub fn own_vertices(&self, alloc: Global) -> Result<OwnVertices, AllocError>
-        ensures { IfOk result (λ own. own ≡ own_in self.now.setup self.now.shard) }
+        ensures { IfOk result (λ own. own ≡ local_vertices self.now.setup self.now.shard) }
     {
         let extent = self.extent();
         let Extent { first, count, .. } = extent;
@@ -115,7 +123,7 @@ impl<'g> ShardLayout<'g> {
 
     /// The list of them, which may come to be so long.
     fn list_own(&self, alloc: Global, capacity: usize) -> Result<Vec<Vertex>, AllocError>
-        ensures { IfOk result (λ own. own.items ≡ own_in self.now.setup self.now.shard) }
+        ensures { IfOk result (λ own. own.items ≡ local_vertices self.now.setup self.now.shard) }
     {
         let mut own = Vec::with_capacity(alloc, capacity)?;
         own.push(Vertex(0))?;
@@ -138,15 +146,14 @@ impl<'g> ShardLayout<'g> {
 
     /// Writes where the arcs out of each own vertex begin, and tells how many arcs there are in all.
     pub fn write_starts<V: Copy>(&self, own: &OwnVertices, vertices: &mut VertexTable<V>) -> usize
-        requires own { own.now ≡ own_in self.now.setup self.now.shard }
+        requires own { own.now ≡ local_vertices self.now.setup self.now.shard }
         requires long { length vertices.old.offsets ≡ length own.now }
         ensures rest { vertices.new ≡ record vertices.old { offsets = vertices.new.offsets } }
         ensures starts { AreStarts (network_in self.now.setup) own.now vertices.new.offsets result }
         // The environment has one.
         ensures some { 1 ≤ result }
     {
-        // What holds of the layout is known once a field of it is read.
-        let _graph = self.graph;
+        self.holds();
         let mut count = 0;
         for j in 0..own.len() {
             vertices.set_offset(j, count as u32);
@@ -185,13 +192,12 @@ impl<'g> ShardLayout<'g> {
 
     /// Counts the arcs out of and into all vertices of the shard.
     fn add_all(&self, own: &OwnVertices, capacities: &mut [usize])
-        requires own { own.now ≡ own_in self.now.setup self.now.shard }
+        requires own { own.now ≡ local_vertices self.now.setup self.now.shard }
         requires shards { length capacities.old ≡ self.now.setup.plan.shards }
         requires first { (t : ℕ) → t < self.now.setup.plan.shards → get_or capacities.old t 0 ≡ cond (is_first self.now.setup self.now.shard) (is t self.now.shard) 0 }
         ensures { CountsAll self.now capacities.new }
     {
-        // What holds of the layout is known once a field of it is read.
-        let _graph = self.graph;
+        self.holds();
         for j in 1..own.len() {
             let v = own.vertex(j);
             self.add_out(v, capacities);
@@ -201,10 +207,10 @@ impl<'g> ShardLayout<'g> {
 
     /// How many arcs there are between the shard and each shard; with its own, how many lie within it.
     pub fn capacities(&self, alloc: Global, own: &OwnVertices) -> Result<Vec<usize>, AllocError>
-        requires { own.now ≡ own_in self.now.setup self.now.shard }
+        requires { own.now ≡ local_vertices self.now.setup self.now.shard }
         ensures { IfOk result (λ capacities. CountsAll self.now capacities.items) }
     {
-        let mut capacities = filled(alloc, 0, self.plan.shards() as usize)?;
+        let mut capacities = vec![in alloc; 0usize; self.plan.shards() as usize]?;
         if self.is_first() {
             capacities[self.shard.0 as usize] = 1;
         }
@@ -223,15 +229,4 @@ pub(crate) fn sum_of(numbers: &[usize]) -> usize
         sum += *number;
     }
     sum
-}
-
-/// One value n times.
-pub(crate) fn filled<T: Copy>(alloc: Global, value: T, n: usize) -> Result<Vec<T>, AllocError>
-    ensures { IfOk result (λ v. v.items ≡ replicate n value) }
-{
-    let mut all = Vec::with_capacity(alloc, n)?;
-    for _i in 0..n {
-        all.push(value)?;
-    }
-    Ok(all)
 }

@@ -1,3 +1,4 @@
+//! One shard's part of a question: opened, run item by item, and closed.
 ghost use Rattle.std.specs.Prelude.{◌≡◌, ◌≢◌, ◌⊎◌, ◌+◌, ◌<◌, ◌≤◌, List, [], ◌++◌, length, get_or, set, IfOk, IsTrue, IsFalse};
 ghost use Rattle.circular_buffer.specs.Buffer.{buffer};
 ghost use Rattle.road_graph.specs.Roads.{HasVertex};
@@ -6,7 +7,7 @@ ghost use Rattle.scholten_core.specs.declared.event.Event.{Event};
 ghost use Rattle.scholten_core.specs.Diffusion.{state_after};
 ghost use Rattle.shard_part.specs.PartState.{network_in, place_in};
 ghost use Rattle.shard_part.specs.Capacities.{queue_bound, outbox_bound};
-ghost use Rattle.shard_part.specs.Shows.{Holds};
+ghost use Rattle.shard_part.specs.Represents.{HoldsShare};
 ghost use Rattle.shard_part.specs.Opening.{opened_part};
 ghost use Rattle.shard_part.specs.Exchange.{Fits};
 ghost use Rattle.shard_part.specs.Part.{HandledFront, HandledMany, IsRunOn};
@@ -54,7 +55,7 @@ impl<'g, A: PathAlgebra> Part<'g, A> {
         requires plan { length plan.now.list ≡ graph.now.vertices }
         requires shard { shard < plan.now.shards }
         ensures part { IfOk result (λ p. p ≡ opened_part (A.meaning algebra) (record { question = record { algebra = algebra; roads = graph.now; source = source }; plan = plan.now }) shard) }
-        ensures share { IfOk result (λ p. Holds A.meaning (state_after (A.meaning algebra) (network graph.now source) []) p) }
+        ensures share { IfOk result (λ p. HoldsShare A.meaning (state_after (A.meaning algebra) (network graph.now source) []) p) }
     {
         let state = PartState::open(alloc, algebra, graph, plan, shard, source)?;
         Ok(Part { state })
@@ -79,7 +80,7 @@ impl<'g, A: PathAlgebra> Part<'g, A> {
         ensures taken { HandledMany A.meaning self.old result self.new }
         ensures setup { self.new.setup ≡ self.old.setup }
         ensures shard { self.new.shard ≡ self.old.shard }
-        ensures events { (events : List Event) → Holds A.meaning (state_after (A.meaning self.old.setup.question.algebra) (network_in self.old.setup) events) self.old → IsRunOn A.meaning events self.old result self.new }
+        ensures events { (events : List Event) → HoldsShare A.meaning (state_after (A.meaning self.old.setup.question.algebra) (network_in self.old.setup) events) self.old → IsRunOn A.meaning events self.old result self.new }
     {
         laws_hold(self.state.algebra());
         for taken in 0..budget {

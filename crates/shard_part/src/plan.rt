@@ -1,3 +1,4 @@
+//! Which shard each vertex belongs to.
 ghost use Rattle.std.specs.Prelude.{◌≡◌, ℕ, ◌+◌, ◌-◌, ◌*◌, ◌/◌, ◌<◌, ◌≤◌, ◌^◌, length, slice_index_or, IfOk, MatchResult, MatchOption};
 ghost use Rattle.shard_part.specs.Plans.{PlanData, IsPlan, shard_in, HasPlanned, IsBlocks, IsFirstBad, IsBad, IsBelow};
 

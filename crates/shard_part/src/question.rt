@@ -1,3 +1,5 @@
+//! A question and its plan, as contracts know them.
+
 use crate::plan::Plan;
 use road_graph::{Graph, Vertex};
 use std::marker::Model;

@@ -1,3 +1,4 @@
+//! The queue of a part.
 ghost use Rattle.std.specs.Prelude.{◌≡◌, ◌+◌, ◌<◌, ◌≤◌, ◌++◌, [], ◌∷◌, length, drop, slice_get, leb, IfOk, vec_capacity};
 ghost use Rattle.circular_buffer.specs.Buffer.{buffer};
 ghost use Rattle.shard_part.specs.Weights.{counted};

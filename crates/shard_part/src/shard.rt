@@ -1,3 +1,5 @@
+//! The number of a shard.
+
 use std::marker::Model;
 
 /// A shard, numbered from 0.

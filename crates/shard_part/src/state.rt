@@ -1,8 +1,9 @@
 //! One shard's part of a diffusing computation, as it is stored.
 ghost use Rattle.std.specs.Prelude.{◌≡◌};
-ghost use Rattle.shard_part.specs.PartState.{network_in};
+ghost use Rattle.shard_part.specs.PartState.{network_in, place_in};
 ghost use Rattle.scholten_core.specs.Network.{WellFormed};
-ghost use Rattle.shard_part.specs.Moves.{IsTallied};
+ghost use Rattle.shard_part.specs.Moves.{IsPlanned, IsTallied};
+ghost use Rattle.shard_part.specs.LocalInvariant.{LocalInvariant};
 
 mod events;
 mod exchange;
@@ -40,13 +41,13 @@ pub struct PartState<'g, A: PathAlgebra> {
 impl<'g, A: PathAlgebra> Model for PartState<'g, A> {
     ghost use Rattle.std.specs.Prelude.{map};
     ghost use Rattle.shard_part.specs.PartState.{PartData};
-    ghost use Rattle.shard_part.specs.Moves.{seen_as, rows_of, IsStored};
+    ghost use Rattle.shard_part.specs.Moves.{abstraction, rows_of, RepInvariant};
 
     ghost Value = { PartData A A.Value };
 
-    ghost view = { λ p. seen_as (record { question = record { algebra = p.algebra; roads = p.graph.now; source = p.source }; plan = p.plan.now }) p.shard (rows_of p.tables) p.queue.items (map (λ b. b.items) p.outs.items) p.sent p.delivered p.signalled p.accepted };
+    ghost view = { λ p. abstraction (record { question = record { algebra = p.algebra; roads = p.graph.now; source = p.source }; plan = p.plan.now }) p.shard (rows_of p.tables) p.queue.items (map (λ b. b.items) p.outs.items) p.sent p.delivered p.signalled p.accepted };
 
-    ghost invariant = { λ p. IsStored (seen_as (record { question = record { algebra = p.algebra; roads = p.graph.now; source = p.source }; plan = p.plan.now }) p.shard (rows_of p.tables) p.queue.items (map (λ b. b.items) p.outs.items) p.sent p.delivered p.signalled p.accepted) (rows_of p.tables) p.queue.capacity (map (λ b. b.capacity) p.outs.items) };
+    ghost invariant = { λ p. RepInvariant (abstraction (record { question = record { algebra = p.algebra; roads = p.graph.now; source = p.source }; plan = p.plan.now }) p.shard (rows_of p.tables) p.queue.items (map (λ b. b.items) p.outs.items) p.sent p.delivered p.signalled p.accepted) (rows_of p.tables) p.queue.capacity (map (λ b. b.capacity) p.outs.items) };
 }
 
 impl<'g, A: PathAlgebra> PartState<'g, A> {
@@ -57,5 +58,16 @@ impl<'g, A: PathAlgebra> PartState<'g, A> {
         ensures tallied { IsTallied self.now }
     {
         self.algebra
+    }
+
+    /// Which shard it is.
+    pub fn shard(&self) -> Shard
+        ensures shard { result ≡ self.now.shard }
+        // What holds of every part, for callers that lean on it.
+        ensures planned { IsPlanned self.now.setup self.now.shard }
+        ensures sound { LocalInvariant (network_in self.now.setup) (place_in self.now.setup) self.now }
+        ensures tallied { IsTallied self.now }
+    {
+        self.shard
     }
 }

@@ -1,7 +1,6 @@
 //! What a part knows of its vertices and of the arcs out of them, by place.
 ghost use Rattle.std.specs.Prelude.{◌≡◌, ◌<◌, Some, None, false, length, get_or, set, replicate, IfOk};
 
-use crate::layout::filled;
 use crate::own::OwnVertices;
 use road_graph::ArcNo;
 use scholten_core::ENTRY;
@@ -84,9 +83,8 @@ impl<V: Copy> VertexTable<V> {
             labelled: false,
             engaged: false,
         };
-        Ok(VertexTable {
-            rows: filled(alloc, row, n)?,
-        })
+        let rows = filled(alloc, row, n)?;
+        Ok(VertexTable { rows })
     }
 
     /// The label of the vertex at a place.
@@ -175,10 +173,9 @@ impl<V: Copy> ArcTable<V> {
             told: false,
             busy: false,
         };
-        Ok(ArcTable {
-            marks: filled(alloc, marks, n)?,
-            labels: filled(alloc, value, n)?,
-        })
+        let marks = filled(alloc, marks, n)?;
+        let labels = filled(alloc, value, n)?;
+        Ok(ArcTable { marks, labels })
     }
 
     /// Whether the arc at a place is busy.
@@ -222,4 +219,15 @@ impl<V: Copy> ArcTable<V> {
             None => self.marks[i].told = false,
         }
     }
+}
+
+/// One value n times, by copies: that a clone of it is the same is not known of every type.
+fn filled<T: Copy>(alloc: Global, value: T, n: usize) -> Result<Vec<T>, AllocError>
+    ensures { IfOk result (λ v. v.items ≡ replicate n value) }
+{
+    let mut all = Vec::with_capacity(alloc, n)?;
+    for _i in 0..n {
+        all.push(value)?;
+    }
+    Ok(all)
 }

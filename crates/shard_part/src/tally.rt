@@ -1,3 +1,4 @@
+//! Counts of what was sent, delivered, signalled and accepted.
 ghost use Rattle.std.specs.Prelude.{◌≡◌, ℕ, ◌+◌, ◌-◌, ◌^◌, leb, false};
 ghost use Rattle.shard_part.specs.Tallies.{more_sent, more_delivered, more_signalled, more_accepted, together};
 

@@ -5,7 +5,7 @@ use Rattle.std.specs.Int.{from_bool}
 use Rattle.path_algebra.specs.Algebra.{Algebra}
 use Rattle.scholten_core.specs.declared.item.Item.{Item}
 use Rattle.shard_part.specs.PartState.{PartData}
-use Rattle.post_floor.specs.Plays.{Known, sent_off}
+use Rattle.post_floor.specs.Plays.{HoldsReachedShare, published_to}
 use Rattle.shard_part.specs.Arriving.{joined}
 use Rattle.station.specs.Turn.{received, SentOff}
 use Rattle.station.specs.Tries.{if_found}
@@ -16,9 +16,9 @@ module _ {S V : Type 0} where
   received_last p [] b = refl
   received_last p (c ∷ bs) b = received_last (joined p c) bs b
 
-  sent_last : (js : List ℕ) (to : ℕ) (p q r : PartData S V) → SentOff js p q → to ≢ q.shard → get_or q.outs to [] ≢ [] → r ≡ sent_off to q → SentOff (js ++ to ∷ []) p r
-  sent_last [] to p q r s n o e = (subst (λ (z : PartData S V). to ≢ z.shard) (sym s) n, subst (λ (z : PartData S V). get_or z.outs to [] ≢ []) (sym s) o, ap (sent_off to) s ∙ sym e)
-  sent_last (j ∷ js) to p q r s n o e = (s.0, s.1, sent_last js to (sent_off j p) q r s.2 n o e)
+  sent_last : (js : List ℕ) (to : ℕ) (p q r : PartData S V) → SentOff js p q → to ≢ q.shard → get_or q.outs to [] ≢ [] → r ≡ published_to to q → SentOff (js ++ to ∷ []) p r
+  sent_last [] to p q r s n o e = (subst (λ (z : PartData S V). to ≢ z.shard) (sym s) n, subst (λ (z : PartData S V). get_or z.outs to [] ≢ []) (sym s) o, ap (published_to to) s ∙ sym e)
+  sent_last (j ∷ js) to p q r s n o e = (s.0, s.1, sent_last js to (published_to j p) q r s.2 n o e)
 
   -- one more may have gone off
   pub went_off : (b : Bool) (js : List ℕ) (to : ℕ) (p q r : PartData S V) → SentOff js p q → WentOff b to q r → SentOff (js ++ if_found b to) p r
@@ -33,7 +33,10 @@ module _ {S V : Type 0} where
   module _ (meaning : S → Algebra V) where
     -- one more may have come in
     pub came_in : (b : Bool) (n : ℕ) (p q r : PartData S V) → AllCameIn meaning n p q → CameIn meaning b q r → (AllCameIn meaning (n + from_bool b) p r) × (r.shard ≡ q.shard) × (r.setup ≡ q.setup)
-    came_in true n p q r (bs, l, e, K) ((xs, k), known) =
-        ((bs ++ xs ∷ [], length-append bs (xs ∷ []) ∙ ap (λ z. z + 1) l, k ∙ ap (λ z. joined z xs) e ∙ sym (received_last p bs xs), known), ap (λ (z : PartData S V). z.shard) k, ap (λ (z : PartData S V). z.setup) k)
+    came_in true n p q r (bs, l, e, K) ((xs, k), known) = (
+      (bs ++ xs ∷ [], length-append bs (xs ∷ []) ∙ ap (λ z. z + 1) l, k ∙ ap (λ z. joined z xs) e ∙ sym (received_last p bs xs), known),
+      ap (λ (z : PartData S V). z.shard) k,
+      ap (λ (z : PartData S V). z.setup) k,
+    )
     came_in false n p q r (bs, l, e, K) k =
-        ((bs, l ∙ omega arith, k ∙ e, subst (Known meaning) (sym k) K), ap (λ (z : PartData S V). z.shard) k, ap (λ (z : PartData S V). z.setup) k)
+        ((bs, l ∙ omega arith, k ∙ e, subst (HoldsReachedShare meaning) (sym k) K), ap (λ (z : PartData S V). z.shard) k, ap (λ (z : PartData S V). z.setup) k)

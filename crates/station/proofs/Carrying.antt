@@ -22,6 +22,7 @@ module _ (A V : RattleType) (h : Ghosts A.Denot V.Denot) where
   station_send κ a v = search (sendable, part_send, seat_send, Plan-sync) depth 40
 
   -- what a thread is given that turns one station: the station, its floor, and a budget
-  pub turner_send : (c : clone.Ghosts A.Denot) (d : clone.Ghosts V.Denot) (ν : List ℕ) (κ ℓ : NamedLft) → IsSend A → IsSend V → IsSync A → IsSync V → IsSend (TupleAt ν (ShrRef ℓ.mir ℓ.lft (Floor.the_row A V h c d) ∷ Station.the_row κ A V h ∷ UInt w32 ∷ []))
+  pub turner_send : (c : clone.Ghosts A.Denot) (d : clone.Ghosts V.Denot) (ν : List ℕ) (κ ℓ : NamedLft) → IsSend A → IsSend V → IsSync A → IsSync V
+      → IsSend (TupleAt ν (ShrRef ℓ.mir ℓ.lft (Floor.the_row A V h c d) ∷ Station.the_row κ A V h ∷ UInt w32 ∷ []))
   turner_send c d ν κ ℓ a v y z = tuple_send ν (ShrRef ℓ.mir ℓ.lft (Floor.the_row A V h c d) ∷ Station.the_row κ A V h ∷ UInt w32 ∷ [])
       (shr_send ℓ.mir ℓ.lft (Floor.the_row A V h c d) (floor_sync A V h c d a v y z), (station_send κ a v, (u32_send, tt)))

@@ -15,7 +15,7 @@ use Rattle.shard_part.proofs.Showing.{AllLawful}
 use Rattle.post_floor.specs.declared.view.View.{View}
 use Rattle.post_floor.specs.Closing.{AllSeated, AreJoined}
 use Rattle.post_floor.specs.Data.{SeatData}
-use Rattle.post_floor.specs.Floor.{Slot, Settled}
+use Rattle.post_floor.specs.Floor.{Slot, FinalView}
 use Rattle.post_floor.specs.Seats.{spent}
 use Rattle.station.specs.Gather.{counts_of, IsGathered, IsThere}
 use Rattle.station.specs.Handing.{AreHanded}
@@ -25,7 +25,8 @@ use Rattle.atomic_table.specs.Seated.{TableId}
 
 module _ {S V : Type 0} where
   -- all shards have a seat where all stations were there
-  pub all_seated : (id : TableId) (n : ℕ) (all : List (StationData S V)) (seats : List (SeatData S V)) (tally : Tally) → ((j : ℕ) → j < n → IsThere all j) → AreHanded id all [] seats tally → AllSeated n seats
+  pub all_seated : (id : TableId) (n : ℕ) (all : List (StationData S V)) (seats : List (SeatData S V)) (tally : Tally)
+      → ((j : ℕ) → j < n → IsThere all j) → AreHanded id all [] seats tally → AllSeated n seats
   all_seated id n all seats tally there h j l = let t = there j l in let a = counts_there all j t.0 t.1 in let b = h.shards j in omega (arith, a, b)
 
   seen_there : (n : ℕ) (w v : View S V) (seats : List (SeatData S V)) → 0 < n → AllSeated n seats → All (λ d. d.knows.seen ≡ true) seats → AreJoined w v seats → w.seen ≡ true
@@ -34,8 +35,10 @@ module _ {S V : Type 0} where
 
 module _ {S V : Type 0} (meaning : S → Algebra V) (L : AllLawful meaning) where
   -- THE ANSWER
-  pub gathered : (t : Setup S) (s : ℕ) (id : TableId) (all : List (StationData S V)) (seats : List (SeatData S V)) (tally : Tally) (labels : List (Option V)) (w : View S V) (words : List ℕ) (homes : List (opt.Option (Slot V))) → IsPlanned t s → AreBest (meaning t.question.algebra) t.question.roads (t.question.source ∷ []) labels
-      → AllSeated t.plan.shards seats → AreHanded id all [] seats tally → AreJoined w spent seats → Settled meaning t w words homes → IsGathered meaning t (record { labels = labels; tally = tally })
+  pub gathered : (t : Setup S) (s : ℕ) (id : TableId) (all : List (StationData S V)) (seats : List (SeatData S V)) (tally : Tally)
+      (labels : List (Option V)) (w : View S V) (words : List ℕ) (homes : List (opt.Option (Slot V))) → IsPlanned t s
+      → AreBest (meaning t.question.algebra) t.question.roads (t.question.source ∷ []) labels
+      → AllSeated t.plan.shards seats → AreHanded id all [] seats tally → AreJoined w spent seats → FinalView meaning t w words homes → IsGathered meaning t (record { labels = labels; tally = tally })
   gathered t s id all seats tally labels w words homes P best seated h J C =
       let A = meaning t.question.algebra in let T = totals_of A (network_in t) C.events in
       let few : 0 < t.plan.shards = let l = P.shard in omega (arith, l) in

@@ -12,7 +12,7 @@ use Rattle.shard_part.specs.PartState.{PartData, Setup, network_in, place_in, st
 use Rattle.shard_part.specs.Handling.{arrive_here, rest_here, settle_here, settle_tail_here, taken, HandledAll}
 use Rattle.shard_part.specs.Part.{HandledMany}
 use Rattle.shard_part.proofs.Showing.{AllLawful}
-use Rattle.post_floor.specs.Plays.{sent_off}
+use Rattle.post_floor.specs.Plays.{published_to}
 use Rattle.station.specs.Turn.{StaysOrImproves, received, SentOff}
 
 module _ {V : Type 0} (A : Algebra V) where
@@ -46,7 +46,8 @@ module _ {V : Type 0} (A : Algebra V) where
     one_item L (SignalOn a) d v = same_label L (d.label v) ((taken A N (SignalOn a) d).label v) (ap (λ (f : ℕ → Option V). f v) (tail_label a (N.tail a) (freed A N a d)))
 
 module _ {S V : Type 0} (meaning : S → Algebra V) (L : AllLawful meaning) where
-  all_items : (items : List (Item V)) (p q : PartData S V) (v : ℕ) → place_in p.setup v ≡ p.shard → HandledAll meaning p items q → StaysOrImproves (meaning p.setup.question.algebra) ((state_in p).label v) ((state_in q).label v)
+  all_items : (items : List (Item V)) (p q : PartData S V) (v : ℕ) → place_in p.setup v ≡ p.shard → HandledAll meaning p items q
+      → StaysOrImproves (meaning p.setup.question.algebra) ((state_in p).label v) ((state_in q).label v)
   all_items [] p q v own e = same_label (meaning p.setup.question.algebra) (L p.setup.question.algebra) _ _ (ap (λ (z : PartData S V). (state_in z).label v) (sym e))
   all_items (i ∷ is) p q v own (m, T, rest) = let A = meaning p.setup.question.algebra in
       let here : place_in m.setup v ≡ m.shard = ap (λ (t : Setup S). place_in t v) T.setup ∙ own ∙ sym T.shard in
@@ -67,15 +68,21 @@ module _ {S V : Type 0} where
 
   pub sent_queue : (js : List ℕ) (p q : PartData S V) → SentOff js p q → q.queue ≡ p.queue
   sent_queue [] p q e = ap (λ (z : PartData S V). z.queue) (sym e)
-  sent_queue (j ∷ js) p q s = sent_queue js (sent_off j p) q s.2
+  sent_queue (j ∷ js) p q s = sent_queue js (published_to j p) q s.2
 
   pub sent_like : (js : List ℕ) (p q : PartData S V) → SentOff js p q → IsLike p q
-  sent_like [] p q e = record { setup = ap (λ (z : PartData S V). z.setup) (sym e); shard = ap (λ (z : PartData S V). z.shard) (sym e); label = λ v. ap (λ (z : PartData S V). (state_in z).label v) (sym e) }
-  sent_like (j ∷ js) p q s = let r = sent_like js (sent_off j p) q s.2 in record { setup = r.setup; shard = r.shard; label = r.label }
+  sent_like [] p q e = record {
+    setup = ap (λ (z : PartData S V). z.setup) (sym e);
+    shard = ap (λ (z : PartData S V). z.shard) (sym e);
+    label = λ v. ap
+        (λ (z : PartData S V). (state_in z).label v) (sym e);
+  }
+  sent_like (j ∷ js) p q s = let r = sent_like js (published_to j p) q s.2 in record { setup = r.setup; shard = r.shard; label = r.label }
 
 module _ {S V : Type 0} (meaning : S → Algebra V) (L : AllLawful meaning) where
   -- a part that takes batches, handles items and sends outboxes off
-  pub labels_stay : (p filled emptied q : PartData S V) (n v : ℕ) → IsLike p filled → HandledMany meaning filled n emptied → IsLike emptied q → place_in p.setup v ≡ p.shard → StaysOrImproves (meaning p.setup.question.algebra) ((state_in p).label v) ((state_in q).label v)
+  pub labels_stay : (p filled emptied q : PartData S V) (n v : ℕ) → IsLike p filled → HandledMany meaning filled n emptied → IsLike emptied q
+      → place_in p.setup v ≡ p.shard → StaysOrImproves (meaning p.setup.question.algebra) ((state_in p).label v) ((state_in q).label v)
   labels_stay p filled emptied q n v a (items, l, T) b own =
       let here : place_in filled.setup v ≡ filled.shard = ap (λ (t : Setup S). place_in t v) a.setup ∙ own ∙ sym a.shard in
       subst (λ z. StaysOrImproves (meaning p.setup.question.algebra) ((state_in p).label v) z) (sym (b.label v))

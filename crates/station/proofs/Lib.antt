@@ -1,14 +1,14 @@
-pub mod Batches
-pub mod Counted
-pub mod Trying
-pub mod Through
-pub mod Stepping
-pub mod Over
-pub mod Labels
-pub mod Turns
+mod Batches
+mod Counted
+mod Trying
+mod Through
+mod Stepping
+mod Over
+mod Labels
+mod Turns
 pub mod Opening
 pub mod Carrying
-pub mod Places
-pub mod Tallying
-pub mod Closed
-pub mod Reached
+mod Places
+mod Tallying
+mod Closed
+mod Reached

@@ -32,7 +32,8 @@ marked_at_most g marked =
     let m = sum_most (λ b. one_if (marked (suc b))) (λ b. 1) (length g.arcs) (λ b. one_if-most (marked (suc b))) in
     let o = sum_ones (length g.arcs) in omega (arith, m, o)
 
-pub once_an_arc : {S : Type 0} (t : Setup S) (g : Gathered (Unit {0})) → IsGathered (λ _. reach) t g → (marked : ℕ → Bool) → AreMarksOfReached reach t.question.roads t.question.source marked → g.tally ≡ each_shows (1 + count_marked t.question.roads marked)
+pub once_an_arc : {S : Type 0} (t : Setup S) (g : Gathered (Unit {0})) → IsGathered (λ _. reach) t g → (marked : ℕ → Bool)
+    → AreMarksOfReached reach t.question.roads t.question.source marked → g.tally ≡ each_shows (1 + count_marked t.question.roads marked)
 once_an_arc t g G marked M =
     let sent = reach_sends_once t.question.roads t.question.source G.roads G.source G.events G.ended marked M in
     let most = marked_at_most t.question.roads marked in let few = G.roads.few_arcs in

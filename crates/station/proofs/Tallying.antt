@@ -12,7 +12,7 @@ use Rattle.shard_part.proofs.Weights.{total_append}
 use Rattle.shard_part.proofs.Showing.{all_append}
 use Rattle.post_floor.specs.declared.view.View.{View}
 use Rattle.post_floor.specs.Data.{SeatData}
-use Rattle.post_floor.specs.Plays.{ShowsPart}
+use Rattle.post_floor.specs.Plays.{IsViewOf}
 use Rattle.post_floor.proofs.Seats.{total_snoc}
 use Rattle.station.specs.Gather.{counts_of}
 use Rattle.station.specs.Handing.{AreHanded}
@@ -62,7 +62,8 @@ module _ (t : ℕ) where
 
 module _ {S V : Type 0} where
   -- the tally of some counts and of a part's is that of all of them
-  pub tally_more : (p : PartData S V) (v : View S V) (n m : Totals) → ShowsPart v p → m.sent ≡ n.sent + v.sent → m.delivered ≡ n.delivered + v.delivered → m.signalled ≡ n.signalled + v.signalled → m.accepted ≡ n.accepted + v.accepted
+  pub tally_more : (p : PartData S V) (v : View S V) (n m : Totals) → IsViewOf v p → m.sent ≡ n.sent + v.sent
+      → m.delivered ≡ n.delivered + v.delivered → m.signalled ≡ n.signalled + v.signalled → m.accepted ≡ n.accepted + v.accepted
       → together (tally_in p) (tally_of n) ≡ tally_of m
   tally_more p v n m s a b c d =
       let l : (x y z k : ℕ) → k ≡ min y top → z ≡ x + y → leb top (min x top + k) ≡ leb top z = λ x y z k q e. ap (λ j. leb top (min x top + j)) q ∙ reaches_both top x y ∙ ap (leb top) (sym e) in
@@ -71,27 +72,32 @@ module _ {S V : Type 0} where
       let l3 = l n.signalled v.signalled m.signalled p.signalled s.signalled c in let l4 = l n.accepted v.accepted m.accepted p.accepted s.accepted d in
       let left : (x y z : ℕ) → z ≡ x + y → leb top x ≡ true → leb top z ≡ true = λ x y z e q. ap (leb top) e ∙ reaches_left top x y q in
       let right : (x y z k : ℕ) → k ≡ min y top → z ≡ x + y → leb top k ≡ true → leb top z ≡ true = λ x y z k q e r. ap (leb top) e ∙ reaches_right top x y (ap (leb top) (sym q) ∙ r) in
-      let full : (leb top n.sent || leb top n.delivered || leb top n.signalled || leb top n.accepted) || leb top m.sent || leb top m.delivered || leb top m.signalled || leb top m.accepted || (leb top p.sent || leb top p.delivered || leb top p.signalled || leb top p.accepted)
+      let full : (leb top n.sent || leb top n.delivered || leb top n.signalled || leb top n.accepted) || leb top m.sent || leb top m.delivered || leb
+      top m.signalled || leb top m.accepted || (leb top p.sent || leb top p.delivered || leb top p.signalled || leb top p.accepted)
       ≡ (leb top m.sent || leb top m.delivered || leb top m.signalled || leb top m.accepted) =
       full_same _ (leb top m.sent) (leb top m.delivered) (leb top m.signalled) (leb top m.accepted) _
       (one_of (leb top n.sent) (leb top n.delivered) (leb top n.signalled) (leb top n.accepted) (leb top m.sent) (leb top m.delivered) (leb top m.signalled) (leb top m.accepted)
       (left n.sent v.sent m.sent a) (left n.delivered v.delivered m.delivered b) (left n.signalled v.signalled m.signalled c) (left n.accepted v.accepted m.accepted d))
       (one_of (leb top p.sent) (leb top p.delivered) (leb top p.signalled) (leb top p.accepted) (leb top m.sent) (leb top m.delivered) (leb top m.signalled) (leb top m.accepted)
-      (right n.sent v.sent m.sent p.sent s.sent a) (right n.delivered v.delivered m.delivered p.delivered s.delivered b) (right n.signalled v.signalled m.signalled p.signalled s.signalled c) (right n.accepted v.accepted m.accepted p.accepted s.accepted d)) in
+      (right n.sent v.sent m.sent p.sent s.sent a) (right n.delivered v.delivered m.delivered p.delivered s.delivered b)
+      (right n.signalled v.signalled m.signalled p.signalled s.signalled c) (right n.accepted v.accepted m.accepted p.accepted s.accepted d)) in
       λ i. record {
         sent = sum n.sent v.sent m.sent p.sent s.sent a i;
         delivered = sum n.delivered v.delivered m.delivered p.delivered s.delivered b i;
         signalled = sum n.signalled v.signalled m.signalled p.signalled s.signalled c i;
         accepted = sum n.accepted v.accepted m.accepted p.accepted s.accepted d i;
-        full = (ap (λ (x : Bool × Bool × Bool × Bool). (leb top n.sent || leb top n.delivered || leb top n.signalled || leb top n.accepted) || x.0 || x.1 || x.2 || x.3 || (leb top p.sent || leb top p.delivered || leb top p.signalled || leb top p.accepted)) (λ j. (l1 j, l2 j, l3 j, l4 j)) ∙ full) i;
+        full = (ap (λ (x : Bool × Bool × Bool × Bool). (leb top n.sent || leb top n.delivered || leb top n.signalled || leb top n.accepted) || x.0 ||
+            x.1 || x.2 || x.3 || (leb top p.sent || leb top p.delivered || leb top p.signalled || leb top p.accepted)) (λ j. (l1 j, l2 j, l3 j, l4 j))
+            ∙ full) i;
       }
 
   pub handed_none : (id : TableId) (all : List (StationData S V)) → AreHanded id all all [] (tally_of (counts_of {S = S} {V = V} []))
   handed_none id all = record { own = tt; seen = tt; shards = λ j. omega arith; counted = refl }
 
   -- one more seat is handed over
-  pub handed_more : (id : TableId) (all left rest : List (StationData S V)) (seats more : List (SeatData S V)) (s : StationData S V) (tally sum : Tally) → AreHanded id all left seats tally → left ≡ rest ++ s ∷ [] → more ≡ seats ++ s.seat ∷ []
-      → s.seat.floor ≡ id → s.seat.knows.seen ≡ true → s.seat.shard ≡ s.part.shard → ShowsPart s.seat.knows s.part → sum ≡ together (tally_in s.part) tally → AreHanded id all rest more sum
+  pub handed_more : (id : TableId) (all left rest : List (StationData S V)) (seats more : List (SeatData S V)) (s : StationData S V)
+      (tally sum : Tally) → AreHanded id all left seats tally → left ≡ rest ++ s ∷ [] → more ≡ seats ++ s.seat ∷ []
+      → s.seat.floor ≡ id → s.seat.knows.seen ≡ true → s.seat.shard ≡ s.part.shard → IsViewOf s.seat.knows s.part → sum ≡ together (tally_in s.part) tally → AreHanded id all rest more sum
   handed_more id all left rest seats more s tally sum h e m own seen same shows c = record {
     own = subst (All (λ d. d.floor ≡ id)) (sym m) (all_append (λ d. d.floor ≡ id) seats (s.seat ∷ []) h.own (own, tt));
     seen = subst (All (λ d. d.knows.seen ≡ true)) (sym m) (all_append (λ d. d.knows.seen ≡ true) seats (s.seat ∷ []) h.seen (seen, tt));

@@ -1,13 +1,12 @@
 -- The mailboxes of all other shards, one after the other.
-use Rattle.std.proofs.Common.{◌≡◌, ◌≢◌, ℕ, suc, ◌+◌, Bool, true, false, eqb, List, [], ◌∷◌, ◌++◌, length, get_or, refl, sym, ap, ◌∙◌, subst, inl, inr, arith, length-append, append_assoc, ne_eqb}
+use Rattle.std.proofs.Common.{◌≡◌, ◌≢◌, ℕ, suc, ◌+◌, Bool, true, false, List, [], ◌∷◌, ◌++◌, length, get_or, refl, sym, ap, ◌∙◌, subst, inl, inr, arith, length-append, append_assoc, ne_eqb}
 use Rattle.std.specs.Int.{from_bool}
 use Rattle.path_algebra.specs.Algebra.{Algebra}
 use Rattle.scholten_core.specs.declared.item.Item.{Item}
 use Rattle.shard_part.specs.PartState.{PartData}
-use Rattle.post_floor.specs.declared.view.View.{View}
 use Rattle.post_floor.specs.Boxes.{box_count, mailbox}
 use Rattle.post_floor.specs.Data.{FloorData, SeatData, IsSameSeat, fill_box, read_box}
-use Rattle.post_floor.specs.Plays.{Went, at_word, end_fill, end_read, FillTold, ReadTold, LookTold}
+use Rattle.post_floor.specs.Plays.{StepsTo, at_word, end_fill, end_read, FillOutcome, ReadOutcome, LookOutcome}
 use Rattle.post_floor.specs.declared.view.WordStep.{WordStep}
 use Rattle.station.specs.Tries.{at, if_found, IsTry, AreTries, used}
 use Rattle.station.specs.Steps.{TriedFrom, AllTriedFrom, WentOff, TriedTo, AllTriedTo, Looked}
@@ -34,8 +33,9 @@ module _ {S V : Type 0} where
 
   module _ (meaning : S → Algebra V) where
     -- a mailbox was found full, and cleared
-    pub full_from : (f : FloorData S) (from : ℕ) (p q : PartData S V) (a b c : SeatData S V) → from ≢ a.shard → IsSameSeat a b → ReadTold meaning true p q (read_box f a from) a.knows b.knows → IsSameSeat b c
-        → Went (at_word (read_box f b from) 0 (end_read from (read_box f b from) b.knows)) q c.knows → TriedFrom f from true a c
+    pub full_from : (f : FloorData S) (from : ℕ) (p q : PartData S V) (a b c : SeatData S V) → from ≢ a.shard → IsSameSeat a b
+        → ReadOutcome meaning true p q (read_box f a from) a.knows b.knows → IsSameSeat b c
+        → StepsTo (at_word (read_box f b from) 0 (end_read from (read_box f b from) b.knows)) q c.knows → TriedFrom f from true a c
     full_from f from p q a b c ne ab (x, w, K) bc g =
         let same = read_same f from a b ab.1 w.next_read in
         record {
@@ -46,11 +46,12 @@ module _ {S V : Type 0} where
         }
 
     -- a mailbox was not full
-    pub missed_from : (f : FloorData S) (from : ℕ) (p q : PartData S V) (a b : SeatData S V) → from ≢ a.shard → IsSameSeat a b → ReadTold meaning false p q (read_box f a from) a.knows b.knows → TriedFrom f from false a b
+    pub missed_from : (f : FloorData S) (from : ℕ) (p q : PartData S V) (a b : SeatData S V) → from ≢ a.shard → IsSameSeat a b
+        → ReadOutcome meaning false p q (read_box f a from) a.knows b.knows → TriedFrom f from false a b
     missed_from f from p q a b ne ab (e, x, n, w) = record { shard = ab.1; try = inl (ne, x, n, w.steps); next_read = w.next_read; next_fill = w.next_fill }
 
     -- the done word showed something
-    pub looked : (f : FloorData S) (b : Bool) (p : PartData S V) (d e : SeatData S V) → LookTold meaning b p (box_count f.setup.plan.shards) d.knows e.knows → Looked f b d e
+    pub looked : (f : FloorData S) (b : Bool) (p : PartData S V) (d e : SeatData S V) → LookOutcome meaning b p (box_count f.setup.plan.shards) d.knows e.knows → Looked f b d e
     looked f true p d e (w, E) = record { number = 1; step = w.steps; end_is = refl; next_read = w.next_read; next_fill = w.next_fill }
     looked f false p d e (x, n, w, K) = record { number = x; step = w.steps; end_is = sym (ne_eqb x 1 n); next_read = w.next_read; next_fill = w.next_fill }
 
@@ -59,8 +60,9 @@ module _ {S V : Type 0} where
   none_to f to p d free = record { shard = refl; try = inr (free, refl); next_fill = refl; next_read = refl }
 
   -- a mailbox was found free, and filled
-  pub free_to : (f : FloorData S) (to : ℕ) (p q : PartData S V) (a b c : SeatData S V) → (to ≢ a.shard) × (get_or p.outs to [] ≢ []) → IsSameSeat a b → FillTold true p (fill_box f a to) a.knows b.knows → IsSameSeat b c
-      → Went (at_word (fill_box f b to) 2 (end_fill to (fill_box f b to) b.knows)) q c.knows → TriedTo f to true p a c
+  pub free_to : (f : FloorData S) (to : ℕ) (p q : PartData S V) (a b c : SeatData S V) → (to ≢ a.shard) × (get_or p.outs to [] ≢ []) → IsSameSeat a b
+      → FillOutcome true p (fill_box f a to) a.knows b.knows → IsSameSeat b c
+      → StepsTo (at_word (fill_box f b to) 2 (end_fill to (fill_box f b to) b.knows)) q c.knows → TriedTo f to true p a c
   free_to f to p q a b c due ab w bc g =
       let same = fill_same f to a b ab.1 w.next_fill in
       record {
@@ -71,7 +73,8 @@ module _ {S V : Type 0} where
       }
 
   -- a mailbox was not free
-  pub missed_to : (f : FloorData S) (to : ℕ) (p : PartData S V) (a b : SeatData S V) → (to ≢ a.shard) × (get_or p.outs to [] ≢ []) → IsSameSeat a b → FillTold false p (fill_box f a to) a.knows b.knows → TriedTo f to false p a b
+  pub missed_to : (f : FloorData S) (to : ℕ) (p : PartData S V) (a b : SeatData S V) → (to ≢ a.shard) × (get_or p.outs to [] ≢ []) → IsSameSeat a b
+      → FillOutcome false p (fill_box f a to) a.knows b.knows → TriedTo f to false p a b
   missed_to f to p a b due ab (x, n, w) = record { shard = ab.1; try = inl (due, x, n, w.steps); next_fill = w.next_fill; next_read = w.next_read }
 
   -- no shard has been gone to yet
@@ -99,7 +102,8 @@ module _ {S V : Type 0} where
         next_fill = o.next_fill ∙ r.next_fill;
       }
 
-  pub to_more : (f : FloorData S) (to count : ℕ) (b : Bool) (p q m : PartData S V) (c d e : SeatData S V) → AllTriedTo f to count p q c d → WentOff b to q m → TriedTo f to b q d e → AllTriedTo f (to + 1) (count + from_bool b) p m c e
+  pub to_more : (f : FloorData S) (to count : ℕ) (b : Bool) (p q m : PartData S V) (c d e : SeatData S V) → AllTriedTo f to count p q c d
+      → WentOff b to q m → TriedTo f to b q d e → AllTriedTo f (to + 1) (count + from_bool b) p m c e
   to_more f to count b p q m c d e r off o =
       let n = f.setup.plan.shards in
       let due : ℕ → Type 0 = λ j. (j ≢ c.shard) × (get_or p.outs j [] ≢ []) in

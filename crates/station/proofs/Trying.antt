@@ -1,8 +1,7 @@
 -- Mailboxes that are tried one after the other.
-use Rattle.std.proofs.Common.{◌≡◌, ◌≢◌, ◌⊎◌, ℕ, zero, suc, ◌+◌, ◌-◌, ◌*◌, ◌<◌, ◌≤◌, Bool, true, false, List, [], ◌∷◌, ◌++◌, length, set, get_or, refl, sym, ap, ◌∙◌, subst, inl, inr, arith, length-append}
-use Rattle.std.proofs.lemmas.List.{get_or-set_other, append-nil}
-use Rattle.std.specs.List.{All}
-use Rattle.post_floor.specs.Plays.{next_slot, sent_off}
+use Rattle.std.proofs.Common.{◌≡◌, ℕ, zero, suc, ◌+◌, ◌-◌, ◌*◌, ◌<◌, ◌≤◌, Bool, true, false, List, [], ◌∷◌, ◌++◌, length, set, get_or, refl, sym, ap, ◌∙◌, subst, inl, inr, arith, length-append}
+use Rattle.std.proofs.lemmas.List.{get_or-set_other}
+use Rattle.post_floor.specs.Plays.{next_slot, published_to}
 use Rattle.shard_part.specs.PartState.{PartData}
 use Rattle.station.specs.Turn.{SentOff}
 use Rattle.station.proofs.Counted.{before_own, after_own}
@@ -33,7 +32,7 @@ module _ {S V : Type 0} where
   -- the outbox to a shard to which nothing was sent off is as it was
   pub sent_other : (n : ℕ) (js : List ℕ) (p q : PartData S V) → SentOff js p q → AreBelow n js → get_or q.outs n [] ≡ get_or p.outs n []
   sent_other n [] p q e t = ap (λ (z : PartData S V). get_or z.outs n []) (sym e)
-  sent_other n (j ∷ js) p q s (l, t) = sent_other n js (sent_off j p) q s.2 t ∙ get_or-set_other p.outs j n [] [] (λ e. absurd (omega (arith, l, e)))
+  sent_other n (j ∷ js) p q s (l, t) = sent_other n js (published_to j p) q s.2 t ∙ get_or-set_other p.outs j n [] [] (λ e. absurd (omega (arith, l, e)))
 
 module _ (wanted stored : ℕ) (due : ℕ → Type 0) (box : ℕ → ℕ) where
   pub tries_below : (n : ℕ) (found : List ℕ) (before after : List WordStep) → AreTries wanted stored due box n found before after → AreBelow n found
@@ -58,5 +57,6 @@ module _ (wanted stored : ℕ) (due : ℕ → Type 0) (box : ℕ → ℕ) where
       )
 
   -- two steps for each other shard at most
-  pub few_tries : (own : ℕ) → (due own → ⊥) → (n : ℕ) → own < n → (found : List ℕ) (before after : List WordStep) → AreTries wanted stored due box n found before after → length after ≤ length before + 2 * (n - 1)
+  pub few_tries : (own : ℕ) → (due own → ⊥) → (n : ℕ) → own < n → (found : List ℕ) (before after : List WordStep)
+      → AreTries wanted stored due box n found before after → length after ≤ length before + 2 * (n - 1)
   few_tries own not_due n l found before after t = let r = (few own not_due n found before after t).1 l in omega (arith, r, l)

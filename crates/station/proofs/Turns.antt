@@ -8,9 +8,9 @@ use Rattle.scholten_core.specs.declared.event.Event.{Event}
 use Rattle.scholten_core.specs.Diffusion.{state_after}
 use Rattle.scholten_core.proofs.EveryRun.{labels_are_walk_values}
 use Rattle.shard_part.specs.Moves.{IsPlanned}
-use Rattle.shard_part.specs.PartState.{PartData, Setup, network_in, place_in, state_in}
+use Rattle.shard_part.specs.PartState.{PartData, network_in, place_in, state_in}
 use Rattle.shard_part.specs.Weights.{in_flight, part_weight}
-use Rattle.shard_part.specs.Shows.{Holds}
+use Rattle.shard_part.specs.Represents.{HoldsShare}
 use Rattle.shard_part.specs.Part.{HandledMany, IsRunOn}
 use Rattle.shard_part.specs.Readings.{IsOwn}
 use Rattle.shard_part.specs.Tallies.{top}
@@ -19,7 +19,7 @@ use Rattle.post_floor.specs.declared.view.View.{View}
 use Rattle.post_floor.specs.Boxes.{box_count, mailbox}
 use Rattle.post_floor.specs.Data.{FloorData, SeatData, fill_box, read_box}
 use Rattle.post_floor.specs.Floor.{core_of}
-use Rattle.post_floor.specs.Plays.{ShowsPart, Known}
+use Rattle.post_floor.specs.Plays.{IsViewOf, HoldsReachedShare}
 use Rattle.station.specs.Station.{StationData, BelongsTo, HasEnded, IsStation}
 use Rattle.station.specs.declared.turn.Report.{Report}
 use Rattle.station.specs.Steps.{AreReady, AllCameIn, AllTriedFrom, AllTriedTo, Looked}
@@ -48,7 +48,8 @@ module _ {S V : Type 0} where
         read = a.knows.steps;
         reads = from.tries;
         filled = b.knows.steps;
-        fills = subst (λ (x : ℕ × List ℕ). AreTries 0 2 (λ j. (j ≢ x.0) × (get_or p.outs j [] ≢ [])) (λ j. mailbox n x.0 j (get_or x.1 j 0)) n to.outboxes a.knows.steps b.knows.steps) (λ i. (from.shard i, from.next_fill i)) to.tries;
+        fills = subst (λ (x : ℕ × List ℕ). AreTries 0 2 (λ j. (j ≢ x.0) × (get_or p.outs j [] ≢ [])) (λ j. mailbox n x.0 j (get_or x.1 j 0)) n
+            to.outboxes a.knows.steps b.knows.steps) (λ i. (from.shard i, from.next_fill i)) to.tries;
         number = look.number;
         looked = look.step;
         end_is = look.end_is;
@@ -63,17 +64,18 @@ module _ {S V : Type 0} where
       let n = f.setup.plan.shards in
       let reads = few_tries 2 0 (λ j. j ≢ c.shard) (read_box f c) c.shard (λ ne. ne refl) n l t.full c.knows.steps t.read t.reads in
       let fills = few_tries 0 2 (λ j. (j ≢ c.shard) × (get_or p.outs j [] ≢ [])) (fill_box f c) c.shard (λ ne. ne.0 refl) n l outboxes t.read t.filled t.fills in
-      all_steps (length c.knows.steps) (length t.read) (length t.filled) (length d.knows.steps) n reads fills (ap (λ (xs : List WordStep). length xs) t.looked ∙ length-append t.filled (at (box_count n) t.number ∷ []))
+      all_steps (length c.knows.steps) (length t.read) (length t.filled) (length d.knows.steps) n reads fills
+      (ap (λ (xs : List WordStep). length xs) t.looked ∙ length-append t.filled (at (box_count n) t.number ∷ []))
 
 module _ {S V : Type 0} (meaning : S → Algebra V) where
   -- no item was handled
-  none_on : (p : PartData S V) (v : View S V) → ShowsPart v p → (before : List Event) → Holds meaning (core_of meaning p.setup before) p → IsRunOn meaning before p 0 p
+  none_on : (p : PartData S V) (v : View S V) → IsViewOf v p → (before : List Event) → HoldsShare meaning (core_of meaning p.setup before) p → IsRunOn meaning before p 0 p
   none_on p v s before H = let A = meaning p.setup.question.algebra in let N = network_in p.setup in record {
     items = [];
     count = refl;
     handled = refl;
     enabled = refl;
-    holds = subst (λ es. Holds meaning (state_after A N es) p) (sym (append-nil before)) H;
+    holds = subst (λ es. HoldsShare meaning (state_after A N es) p) (sym (append-nil before)) H;
     weighs = λ h. ap (λ es. part_weight h p + in_flight N (place_in p.setup) (state_after A N es) h) (sym (append-nil before));
     sent = counts_none p.sent v.sent top s.sent;
     delivered = counts_none p.delivered v.delivered top s.delivered;
@@ -82,7 +84,8 @@ module _ {S V : Type 0} (meaning : S → Algebra V) where
   }
 
   -- a turn after the end
-  pub rested : AllLawful meaning → (f : FloorData S) (budget : ℕ) (s : StationData S V) → IsStation meaning s → HasEnded s → BelongsTo f s → Turned meaning f budget s (record { handled = 0; taken = 0; published = 0; ended = true }) s
+  pub rested : AllLawful meaning → (f : FloorData S) (budget : ℕ) (s : StationData S V) → IsStation meaning s → HasEnded s → BelongsTo f s
+      → Turned meaning f budget s (record { handled = 0; taken = 0; published = 0; ended = true }) s
   rested L f budget s i e b = record {
     own = b;
     shard = refl;
@@ -112,7 +115,7 @@ module _ {S V : Type 0} (meaning : S → Algebra V) where
   -- a turn before the end
   pub turned : AllLawful meaning → (f : FloorData S) (budget handled taken published : ℕ) (s : StationData S V) (a b d : SeatData S V) (filled emptied q : PartData S V) (o : Bool) → s.ended ≡ false
       → AllCameIn meaning taken s.part filled → emptied.setup ≡ filled.setup → emptied.shard ≡ filled.shard → HandledMany meaning filled handled emptied
-      → ((before : List Event) → Holds meaning (core_of meaning filled.setup before) filled → IsRunOn meaning before filled handled emptied)
+      → ((before : List Event) → HoldsShare meaning (core_of meaning filled.setup before) filled → IsRunOn meaning before filled handled emptied)
       → handled ≤ budget → ((handled ≡ budget) ⊎ (emptied.queue ≡ [])) → AreReady f d q → s.seat.shard < f.setup.plan.shards
       → AllTriedFrom f f.setup.plan.shards taken s.seat a → AllTriedTo f f.setup.plan.shards published emptied q a b → Looked f o b d
       → Turned meaning f budget s (record { handled = handled; taken = taken; published = published; ended = o }) (record { part = q; seat = d; ended = o })
@@ -147,8 +150,9 @@ module _ {S V : Type 0} (meaning : S → Algebra V) where
       }
 
   -- the label of a part that holds its share of a state is the value of a walk
-  pub walks : AllLawful meaning → (p : PartData S V) (s : ℕ) → IsPlanned p.setup s → Known meaning p → (v : ℕ) → IsOwn p v → (o : Option V) → o ≡ (state_in p).label v
+  pub walks : AllLawful meaning → (p : PartData S V) (s : ℕ) → IsPlanned p.setup s → HoldsReachedShare meaning p → (v : ℕ) → IsOwn p v → (o : Option V) → o ≡ (state_in p).label v
       → IfSome o (λ x. IsWalkValue (meaning p.setup.question.algebra) p.setup.question.roads (p.setup.question.source ∷ []) v x)
   walks L p s P (events, H) v own None e = tt
   walks L p s P (events, H) v own (Some x) e =
-      labels_are_walk_values (meaning p.setup.question.algebra) p.setup.question.roads p.setup.question.source (L p.setup.question.algebra) P.roads P.source.0 events v x (sym (H.tables.agree.label v (eq-eqb _ _ own.1)) ∙ sym e)
+      labels_are_walk_values (meaning p.setup.question.algebra) p.setup.question.roads p.setup.question.source (L p.setup.question.algebra) P.roads
+      P.source.0 events v x (sym (H.tables.agree.label v (eq-eqb _ _ own.1)) ∙ sym e)

@@ -1,9 +1,8 @@
 -- The stations of an ended question, and the answer that is gathered from them.
-use Rattle.std.specs.Prelude.{◌≡◌, ◌≢◌, ℕ, ◌<◌, false, List, [], ◌∷◌, length, get_or}
+use Rattle.std.specs.Prelude.{◌≡◌, ◌≢◌, ℕ, ◌<◌, false, List, length, get_or}
 use Rattle.std.specs.List.{All, HoldsAt}
 use Rattle.road_graph.specs.Roads.{IsRoads, HasVertex}
 use Rattle.path_algebra.specs.Algebra.{Algebra}
-use Rattle.path_algebra.specs.Walks.{AreBest}
 use Rattle.scholten_core.specs.declared.event.Event.{Event}
 use Rattle.scholten_core.specs.Accounts.{Totals, totals_of, AreEqualTotals}
 use Rattle.scholten_core.specs.Diffusion.{HasEnded, IsQuiet}
@@ -14,9 +13,9 @@ use Rattle.shard_part.specs.Tallies.{tally_of}
 use Rattle.post_floor.specs.Data.{SeatData}
 use Rattle.post_floor.specs.Floor.{core_of}
 use Rattle.station.specs.declared.gathering.Gathered.{Gathered}
-use Rattle.station.specs.declared.gathering.Why.{Why}
-use Rattle.station.specs.declared.gathering.Why.TheVariants.{Missing, Memory}
-use Rattle.station.specs.Station.{StationData}
+use Rattle.station.specs.declared.gathering.GatherFault.{GatherFault}
+use Rattle.station.specs.declared.gathering.GatherFault.TheVariants.{Missing, Memory}
+use Rattle.station.specs.Station.{StationData, AreBestFor}
 
 module _ {S V : Type 0} where
   -- the station at k is that of the shard j
@@ -39,10 +38,18 @@ module _ {S V : Type 0} where
   abbrev pub AreOf : Setup S → List (StationData S V) → Type 0
   AreOf t stations = All (λ s. s.part.setup ≡ t) stations
 
+  -- the stations of the first n shards are among these
+  abbrev pub AllThere : ℕ → List (StationData S V) → Type 0
+  AllThere n stations = (j : ℕ) → j < n → IsThere stations j
+
+  -- j is the least of n shards whose station is missing
+  abbrev pub IsFirstMissing : ℕ → List (StationData S V) → ℕ → Type 0
+  IsFirstMissing n stations j = (j < n) × IsMissing stations j × AllThere j stations
+
   -- why the answer was not gathered: a shard's station is missing, the least such shard; or all are there, and there was no memory
-  abbrev pub IsWhy : ℕ → List (StationData S V) → Why → Type 0
-  IsWhy n stations (Missing j) = (j < n) × IsMissing stations j × ((i : ℕ) → i < j → IsThere stations i)
-  IsWhy n stations Memory = (j : ℕ) → j < n → IsThere stations j
+  abbrev pub IsGatherFault : ℕ → List (StationData S V) → GatherFault → Type 0
+  IsGatherFault n stations (Missing j) = IsFirstMissing n stations j
+  IsGatherFault n stations Memory = AllThere n stations
 
 -- The question is about a graph, from one of its vertices. Labels are best. Some events, counted in full, lead to a state that has ended
 -- and is quiet; each counter of the tally is the lesser of its total and its top, full exactly where a total reaches that, and all totals
@@ -50,7 +57,7 @@ module _ {S V : Type 0} where
 pub record IsGathered {S V : Type 0} (meaning : S → Algebra V) (t : Setup S) (g : Gathered V) : Type 0 where
   pub roads : IsRoads t.question.roads
   pub source : HasVertex t.question.roads t.question.source
-  pub labels : AreBest (meaning t.question.algebra) t.question.roads (t.question.source ∷ []) g.labels
+  pub labels : AreBestFor meaning t g.labels
   pub events : List Event
   pub ended : HasEnded (core_of meaning t events)
   pub quiet : IsQuiet (core_of meaning t events)

@@ -3,12 +3,17 @@ use Rattle.std.specs.Prelude.{◌≡◌, ℕ, false, List, [], ◌∷◌, map}
 use Rattle.std.specs.List.{All}
 use Rattle.atomic_table.specs.Seated.{TableId}
 use Rattle.path_algebra.specs.Algebra.{Algebra}
+use Rattle.road_graph.specs.Roads.{Roads}
+use Rattle.shard_part.specs.Plans.{PlanData}
 use Rattle.shard_part.specs.PartState.{Setup, PartData}
-use Rattle.shard_part.specs.Opening.{opened_parts}
-use Rattle.post_floor.specs.Data.{FloorData, seat_of}
-use Rattle.post_floor.specs.Plays.{ShowsPart, Known}
+use Rattle.post_floor.specs.Data.{FloorData, seat_of, first_parts}
+use Rattle.post_floor.specs.Plays.{IsViewOf, HoldsReachedShare}
 use Rattle.post_floor.specs.Seats.{knows}
 use Rattle.station.specs.Station.{StationData, BelongsTo}
+
+-- what all parts of a question share, by its algebra, roads, source and plan
+abbrev pub setup_of : {S : Type 0} → S → Roads → ℕ → PlanData → Setup S
+setup_of algebra roads source plan = record { question = record { algebra = algebra; roads = roads; source = source }; plan = plan }
 
 -- the station of a part as it is opened, at a floor of n shards
 abbrev pub station_of : {S V : Type 0} → TableId → ℕ → PartData S V → StationData S V
@@ -16,10 +21,10 @@ station_of id n p = record { part = p; seat = seat_of id n p; ended = false }
 
 -- the part is of the floor's question, its seat shows it, and it holds its share of a state
 abbrev pub IsFreshPart : {S V : Type 0} → (S → Algebra V) → FloorData S → PartData S V → Type 0
-IsFreshPart meaning f p = (p.setup ≡ f.setup) × ShowsPart (knows f.setup.plan.shards (p ∷ [])) p × Known meaning p
+IsFreshPart meaning f p = (p.setup ≡ f.setup) × IsViewOf (knows f.setup.plan.shards (p ∷ [])) p × HoldsReachedShare meaning p
 
 -- the floor is that of the question, and there is one station of it for each shard, in order, with its part as it is opened
 pub record AreOpened {S V : Type 0} (meaning : S → Algebra V) (t : Setup S) (f : FloorData S) (stations : List (StationData S V)) : Type 0 where
   pub setup : f.setup ≡ t
-  pub stations_are : stations ≡ map (station_of f.id t.plan.shards) (opened_parts (meaning t.question.algebra) t 0 t.plan.shards)
+  pub stations_are : stations ≡ map (station_of f.id t.plan.shards) (first_parts meaning t t.plan.shards)
   pub own : All (BelongsTo f) stations

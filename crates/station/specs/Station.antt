@@ -1,11 +1,11 @@
 -- A station between two turns: a part with its seat on the floor.
-use Rattle.std.specs.Prelude.{◌≡◌, ℕ, Bool, true, false, None, [], ◌∷◌, get_or}
+use Rattle.std.specs.Prelude.{◌≡◌, ℕ, Bool, true, false, Option, None, List, [], ◌∷◌, get_or}
 use Rattle.path_algebra.specs.Algebra.{Algebra}
-use Rattle.path_algebra.specs.Walks.{IsBestLabel}
-use Rattle.shard_part.specs.PartState.{PartData, network_in, place_in, state_in}
+use Rattle.path_algebra.specs.Walks.{IsBestLabel, AreBest}
+use Rattle.shard_part.specs.PartState.{Setup, PartData, network_in, place_in, state_in}
 use Rattle.shard_part.specs.Readings.{IsOwn}
 use Rattle.post_floor.specs.declared.view.View.{View}
-use Rattle.post_floor.specs.Plays.{ShowsPart, Known, Ended}
+use Rattle.post_floor.specs.Plays.{IsViewOf, HoldsReachedShare, HoldsEndedShare}
 use Rattle.post_floor.specs.Data.{FloorData, SeatData}
 
 -- a part, its seat, and whether its last turn reported the end
@@ -13,6 +13,14 @@ pub record StationData (S V : Type 0) : Type 0 where
   pub part : PartData S V
   pub seat : SeatData S V
   pub ended : Bool
+
+-- the label is best for the vertex v of a question: none if no walk to it has a value
+abbrev pub IsBestFor : {S V : Type 0} → (S → Algebra V) → Setup S → ℕ → Option V → Type 0
+IsBestFor meaning t v o = IsBestLabel (meaning t.question.algebra) t.question.roads (t.question.source ∷ []) v o
+
+-- one label for each vertex of a question, each of them best
+abbrev pub AreBestFor : {S V : Type 0} → (S → Algebra V) → Setup S → List (Option V) → Type 0
+AreBestFor meaning t labels = AreBest (meaning t.question.algebra) t.question.roads (t.question.source ∷ []) labels
 
 -- the station was opened together with the floor
 pub record BelongsTo {S V : Type 0} (f : FloorData S) (s : StationData S V) : Type 0 where
@@ -30,7 +38,7 @@ IsFree v = (v.fills ≡ []) × (v.reads ≡ [])
 module _ {S V : Type 0} (meaning : S → Algebra V) where
   -- nothing is under way in the part, and each label of its vertices is best: none exactly where no walk has a value
   pub record IsOverPart (p : PartData S V) : Type 0 where
-    pub best : (v : ℕ) → IsOwn p v → IsBestLabel (meaning p.setup.question.algebra) p.setup.question.roads (p.setup.question.source ∷ []) v ((state_in p).label v)
+    pub best : (v : ℕ) → IsOwn p v → IsBestFor meaning p.setup v ((state_in p).label v)
     pub neutral : (v : ℕ) → IsOwn p v → (state_in p).engager v ≡ None
     pub idle : (b : ℕ) → place_in p.setup ((network_in p.setup).tail b) ≡ p.shard → get_or p.busy b false ≡ false
     pub queue : p.queue ≡ []
@@ -40,14 +48,14 @@ module _ {S V : Type 0} (meaning : S → Algebra V) where
   -- each label of its vertices is best, and nothing is under way in it.
   pub record IsOver (s : StationData S V) : Type 0 where
     pub seen : s.seat.knows.seen ≡ true
-    pub ended : Ended meaning s.part
+    pub ended : HoldsEndedShare meaning s.part
     pub part : IsOverPart s.part
 
   -- What holds of every station between two turns: its view shows its part, no mailbox is in its hands, the part holds its share of
   -- a state that some events lead to, and where the last turn reported the end, the question is over.
   pub record IsStation (s : StationData S V) : Type 0 where
     pub shard : s.seat.shard ≡ s.part.shard
-    pub shows : ShowsPart s.seat.knows s.part
+    pub shows : IsViewOf s.seat.knows s.part
     pub free : IsFree s.seat.knows
-    pub known : Known meaning s.part
+    pub known : HoldsReachedShare meaning s.part
     pub over : HasEnded s → IsOver s

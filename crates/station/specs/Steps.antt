@@ -6,7 +6,7 @@ use Rattle.shard_part.specs.Arriving.{joined}
 use Rattle.shard_part.specs.PartState.{PartData}
 use Rattle.post_floor.specs.Boxes.{box_count}
 use Rattle.post_floor.specs.Data.{FloorData, SeatData, IsAt, fill_box, read_box}
-use Rattle.post_floor.specs.Plays.{ShowsPart, Known, sent_off}
+use Rattle.post_floor.specs.Plays.{IsViewOf, HoldsReachedShare, published_to}
 use Rattle.station.specs.Station.{IsFree}
 use Rattle.station.specs.Tries.{at, if_found, IsTry, AreTries, used}
 use Rattle.station.specs.Turn.{received, SentOff}
@@ -18,7 +18,7 @@ module _ {S V : Type 0} where
     pub setup : p.setup ≡ f.setup
     pub shard : d.shard ≡ p.shard
     pub free : IsFree d.knows
-    pub shows : ShowsPart d.knows p
+    pub shows : IsViewOf d.knows p
 
   -- the same, but the part may have gone on by items of its own since the view showed it
   pub record AreBehind (meaning : S → Algebra V) (f : FloorData S) (d : SeatData S V) (p : PartData S V) : Type 0 where
@@ -28,7 +28,7 @@ module _ {S V : Type 0} where
 
   -- the outbox to another shard was sent off, and was not empty, or nothing was
   abbrev pub WentOff : Bool → ℕ → PartData S V → PartData S V → Type 0
-  WentOff true to p q = (to ≢ p.shard) × (get_or p.outs to [] ≢ []) × (q ≡ sent_off to p)
+  WentOff true to p q = (to ≢ p.shard) × (get_or p.outs to [] ≢ []) × (q ≡ published_to to p)
   WentOff false to p q = q ≡ p
 
   -- the next mailbox from a shard was tried, if it is another one
@@ -75,9 +75,9 @@ module _ {S V : Type 0} where
 module _ {S V : Type 0} (meaning : S → Algebra V) where
   -- a batch came in, with which the part holds its share of a state, or nothing did
   abbrev pub CameIn : Bool → PartData S V → PartData S V → Type 0
-  CameIn true p q = ((xs : List (Item V)) × (q ≡ joined p xs)) × Known meaning q
+  CameIn true p q = ((xs : List (Item V)) × (q ≡ joined p xs)) × HoldsReachedShare meaning q
   CameIn false p q = q ≡ p
 
   -- so many batches came in, and with them the part holds its share of a state
   abbrev pub AllCameIn : ℕ → PartData S V → PartData S V → Type 0
-  AllCameIn n p q = (batches : List (List (Item V))) × (length batches ≡ n) × (q ≡ received p batches) × Known meaning q
+  AllCameIn n p q = (batches : List (List (Item V))) × (length batches ≡ n) × (q ≡ received p batches) × HoldsReachedShare meaning q

@@ -5,13 +5,13 @@ use Rattle.scholten_core.specs.declared.event.Event.{Event}
 use Rattle.scholten_core.specs.declared.item.Item.{Item}
 use Rattle.shard_part.specs.Arriving.{joined}
 use Rattle.shard_part.specs.PartState.{PartData, state_in}
-use Rattle.shard_part.specs.Shows.{Holds}
+use Rattle.shard_part.specs.Represents.{HoldsShare}
 use Rattle.shard_part.specs.Part.{HandledMany, IsRunOn}
 use Rattle.shard_part.specs.Readings.{IsOwn}
 use Rattle.post_floor.specs.Boxes.{box_count}
 use Rattle.post_floor.specs.Data.{FloorData, SeatData, fill_box, read_box}
 use Rattle.post_floor.specs.Floor.{core_of}
-use Rattle.post_floor.specs.Plays.{Known, sent_off}
+use Rattle.post_floor.specs.Plays.{HoldsReachedShare, published_to}
 use Rattle.station.specs.declared.turn.Report.{Report}
 use Rattle.station.specs.Station.{StationData, BelongsTo, HasEnded}
 use Rattle.post_floor.specs.declared.view.WordStep.{WordStep}
@@ -30,7 +30,7 @@ module _ {S V : Type 0} where
   -- the outboxes to these shards, each another than the own, were sent off one after the other, and none was empty
   abbrev pub SentOff : List ℕ → PartData S V → PartData S V → Type 0
   SentOff [] p q = p ≡ q
-  SentOff (to ∷ shards) p q = (to ≢ p.shard) × (get_or p.outs to [] ≢ []) × SentOff shards (sent_off to p) q
+  SentOff (to ∷ shards) p q = (to ≢ p.shard) × (get_or p.outs to [] ≢ []) × SentOff shards (published_to to p) q
 
   -- The steps of one turn on words, where p is the part when its items were handled. The next mailbox from each other shard was tried, in order, and where it was
   -- found full (2), it was emptied and 0 stored; then the next one to each other shard for which something waited in p, and where it was found free (0), the
@@ -58,9 +58,9 @@ module _ {S V : Type 0} (meaning : S → Algebra V) where
     pub received_all : filled ≡ received p batches
     pub emptied : PartData S V  -- and when the items were handled
     pub handled : HandledMany meaning filled r.handled emptied
-    pub known : Known meaning filled
+    pub known : HoldsReachedShare meaning filled
     pub events : IsRunOn meaning known.0 filled r.handled emptied
-    pub in_each : (before : List Event) → Holds meaning (core_of meaning filled.setup before) filled → IsRunOn meaning before filled r.handled emptied
+    pub in_each : (before : List Event) → HoldsShare meaning (core_of meaning filled.setup before) filled → IsRunOn meaning before filled r.handled emptied
     pub outboxes : List ℕ
     pub published : length outboxes ≡ r.published
     pub sent : SentOff outboxes emptied q

@@ -2,15 +2,15 @@
 ghost use Rattle.std.specs.Prelude.{◌≡◌, ◌<◌, [], ◌∷◌, ◌++◌, length, IfOk, OnOk, map};
 ghost use Rattle.road_graph.specs.Roads.{HasVertex};
 ghost use Rattle.shard_part.specs.Weights.{All};
-ghost use Rattle.shard_part.specs.Opening.{opened_parts};
-ghost use Rattle.post_floor.specs.Data.{seat_of};
-ghost use Rattle.post_floor.specs.Plays.{Known};
-ghost use Rattle.station.specs.Opened.{AreOpened, IsFreshPart, station_of};
+ghost use Rattle.post_floor.specs.Data.{seat_of, first_parts};
+ghost use Rattle.post_floor.specs.Plays.{HoldsReachedShare};
+ghost use Rattle.station.specs.Opened.{AreOpened, IsFreshPart, setup_of, station_of};
 
 use crate::station::Station;
 use path_algebra::PathAlgebra;
 use post_floor::{Floor, Seat};
 use road_graph::{Graph, Memory, Vertex};
+use shard_part::laws::plan_holds;
 use shard_part::{Part, Plan, Shard};
 use std::alloc::{AllocError, Global};
 
@@ -32,8 +32,10 @@ fn open_parts<'g, A: PathAlgebra>(
 ) -> Result<Vec<Part<'g, A>>, Memory>
     requires source { HasVertex graph.now source }
     requires plan { length plan.now.list ≡ graph.now.vertices }
-    ensures parts { IfOk result (λ v. v.items ≡ opened_parts (A.meaning algebra) (record { question = record { algebra = algebra; roads = graph.now; source = source }; plan = plan.now }) 0 plan.now.shards) }
-    ensures known { IfOk result (λ v. All (Known A.meaning) v.items) }
+    ensures parts { IfOk result
+        (λ v. v.items ≡ first_parts A.meaning (setup_of algebra graph.now source plan.now)
+        plan.now.shards) }
+    ensures known { IfOk result (λ v. All (HoldsReachedShare A.meaning) v.items) }
 {
     let mut parts = Vec::new(alloc);
     for shard in 0..plan.shards() {
@@ -53,8 +55,11 @@ fn pair<'g, A: PathAlgebra>(
 ) -> Result<Vec<Station<'g, A>>, AllocError>
     requires plan { plan.now ≡ floor.now.setup.plan }
     requires parts { All (IsFreshPart A.meaning floor.now) parts.items }
-    requires seats { seats.items ≡ map (seat_of floor.now.id floor.now.setup.plan.shards) parts.items }
-    ensures { IfOk result (λ v. v.items ≡ map (station_of floor.now.id floor.now.setup.plan.shards) parts.entry.items) }
+    requires seats { seats.items ≡ map (seat_of floor.now.id floor.now.setup.plan.shards)
+        parts.items }
+    ensures { IfOk result
+        (λ v. v.items ≡ map (station_of floor.now.id floor.now.setup.plan.shards)
+        parts.entry.items) }
 {
     let mut stations = Vec::new(alloc);
     while let Some(part) = parts.pop() {
@@ -77,9 +82,10 @@ pub fn open_question<'g, A: PathAlgebra>(
 ) -> Result<(Floor<A>, Vec<Station<'g, A>>), Memory>
     requires source { HasVertex graph.now source }
     requires plan { length plan.now.list ≡ graph.now.vertices }
-    ensures { IfOk result (λ r. AreOpened A.meaning (record { question = record { algebra = algebra; roads = graph.now; source = source }; plan = plan.now }) r.0 r.1.items) }
+    ensures { IfOk result
+        (λ r. AreOpened A.meaning (setup_of algebra graph.now source plan.now) r.0 r.1.items) }
 {
-    let _shards = plan.shards();
+    plan_holds(plan);
     let parts = open_parts(alloc, algebra, graph, plan, source)?;
     let (floor, seats) = Floor::open(alloc, plan, source, &parts)?;
     let stations = pair(alloc, &floor, plan, parts, seats)?;

@@ -1,19 +1,17 @@
 //! A part with its seat, which may be sent to another thread.
-ghost use Rattle.std.specs.Prelude.{◌≡◌, true, IsTrue, IfOk, IfErr, IfSome, ◌∷◌, [], ◌↔◌};
-ghost use Rattle.path_algebra.specs.Walks.{IsWalkValue};
-ghost use Rattle.shard_part.specs.PartState.{state_in};
-ghost use Rattle.shard_part.specs.Readings.{IsOwn};
+ghost use Rattle.std.specs.Prelude.{◌≡◌, true, IsTrue, IfOk, IfErr};
 ghost use Rattle.post_floor.specs.Data.{seat_of};
 ghost use Rattle.station.specs.Station.{BelongsTo, IsOver, HasEnded};
 ghost use Rattle.station.specs.Opened.{IsFreshPart, station_of};
 ghost use Rattle.station.specs.Turn.{Turned};
 
-use crate::gathering::Finished;
+mod readings;
+
+use crate::finished::Finished;
 use crate::turn::{Report, fill_all, look_for_end, read_all};
 use path_algebra::PathAlgebra;
 use post_floor::{Floor, Seat};
-use road_graph::Vertex;
-use shard_part::{Part, Plan, Shard};
+use shard_part::{Part, Plan};
 use std::marker::Model;
 
 /// One shard's part of a question, with its seat on the floor that all parts share.
@@ -98,38 +96,5 @@ impl<'g, A: PathAlgebra> Station<'g, A> {
             seat,
             plan,
         })
-    }
-
-    /// Whether its last turn reported the end.
-    pub fn ended(&self) -> bool
-        ensures ended { result ≡ self.now.ended }
-        ensures over { IsTrue result → IsOver A.meaning self.now }
-    {
-        self.ended // as its last turn reported
-    }
-
-    /// Which shard it is.
-    pub fn shard(&self) -> Shard
-        ensures { result ≡ self.now.part.shard }
-    {
-        self.part.shard() // its number in the plan
-    }
-
-    /// Whether v is a vertex of its shard.
-    pub fn holds(&self, v: Vertex) -> bool
-        ensures { IsTrue result ↔ IsOwn self.now.part v }
-    {
-        self.part.holds(v)
-    }
-
-    /// The label of a vertex of its shard, at any moment: the value of some walk to it, or none.
-    pub fn peek(&self, v: Vertex) -> Option<A::Value>
-        requires { IsOwn self.now.part v }
-        ensures label { result ≡ (state_in self.now.part).label v }
-        ensures walk { IfSome result (λ x. IsWalkValue (A.meaning self.now.part.setup.question.algebra) self.now.part.setup.question.roads (self.now.part.setup.question.source ∷ []) v x) }
-    {
-        // What holds of every part.
-        let _shard = self.part.shard();
-        self.part.label(v)
     }
 }

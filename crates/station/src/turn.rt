@@ -1,11 +1,12 @@
 //! The steps of one turn.
 ghost use Rattle.std.specs.Prelude.{◌≡◌, true, ◌<◌, IsTrue};
-ghost use Rattle.post_floor.specs.Plays.{Ended, Known};
+ghost use Rattle.post_floor.specs.Plays.{HoldsEndedShare, HoldsReachedShare};
 ghost use Rattle.station.specs.Station.{IsOverPart};
 ghost use Rattle.station.specs.Steps.{AreReady, AreBehind, CameIn, AllCameIn, TriedFrom, AllTriedFrom, WentOff, TriedTo, AllTriedTo, Looked};
 
 use path_algebra::PathAlgebra;
 use post_floor::{Floor, Seat};
+use shard_part::laws::part_holds;
 use shard_part::{Part, Plan, Shard};
 
 /// What one turn did.
@@ -53,13 +54,13 @@ pub(crate) fn read_all<A: PathAlgebra>(
 ) -> u32
     requires ready { AreReady floor.now seat.old part.old }
     requires plan { plan.now ≡ part.old.setup.plan }
-    requires known { Known A.meaning part.old }
+    requires known { HoldsReachedShare A.meaning part.old }
     ensures ready { AreReady floor.now seat.new part.new }
     ensures part { AllCameIn A.meaning result part.old part.new }
     ensures tried { AllTriedFrom floor.now floor.now.setup.plan.shards result seat.old seat.new }
     ensures own { seat.old.shard < floor.now.setup.plan.shards }
 {
-    let _own = part.shard();
+    part_holds(part);
     let mut taken = 0;
     for from in 0..plan.shards() {
         taken += u32::from(read_from(floor, seat, part, Shard(from)));
@@ -100,9 +101,10 @@ pub(crate) fn fill_all<A: PathAlgebra>(
     requires behind { AreBehind A.meaning floor.now seat.old part.old }
     requires plan { plan.now ≡ part.old.setup.plan }
     ensures behind { AreBehind A.meaning floor.now seat.new part.new }
-    ensures tried { AllTriedTo floor.now floor.now.setup.plan.shards result part.old part.new seat.old seat.new }
+    ensures tried { AllTriedTo floor.now floor.now.setup.plan.shards result part.old part.new
+        seat.old seat.new }
 {
-    let _own = part.shard();
+    part_holds(part);
     let mut published = 0;
     for to in 0..plan.shards() {
         published += u32::from(fill_to(floor, seat, part, Shard(to)));
@@ -119,13 +121,12 @@ pub(crate) fn look_for_end<A: PathAlgebra>(
     requires behind { AreBehind A.meaning floor.now seat.old part.now }
     ensures ready { AreReady floor.now seat.new part.now }
     ensures looked { Looked floor.now result seat.old seat.new }
-    ensures known { Known A.meaning part.now }
+    ensures known { HoldsReachedShare A.meaning part.now }
     ensures seen { IsTrue result → seat.new.knows.seen ≡ true }
-    ensures ended { IsTrue result → Ended A.meaning part.now }
+    ensures ended { IsTrue result → HoldsEndedShare A.meaning part.now }
     ensures over { IsTrue result → IsOverPart A.meaning part.now }
 {
-    // What holds of every part.
-    let _shard = part.shard();
+    part_holds(part);
     if part.ended() {
         floor.announce(seat, part);
         return true;

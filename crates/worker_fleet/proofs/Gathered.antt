@@ -53,7 +53,8 @@ module _ {X : Type 0} where
       (found.0, found.1, later (λ p. (p.0 ≡ group) × Q p.1) (nat_eq at found.0) (group, x) (dealt n found.0 (following n at) group xs) found.2)
 
   module _ {Z : Type 0} where
-    pub share_all : (P : ℕ × X → Type 0) (n w first : ℕ) (groups : List (Vec X Z)) → ((q : ℕ) (d : Vec X Z) → q < length groups → All (λ x. P (first + q, x)) (get_or groups q d).items) → All P (share_of n w first groups)
+    pub share_all : (P : ℕ × X → Type 0) (n w first : ℕ) (groups : List (Vec X Z))
+        → ((q : ℕ) (d : Vec X Z) → q < length groups → All (λ x. P (first + q, x)) (get_or groups q d).items) → All P (share_of n w first groups)
     unfolding share_of
     share_all P n w first [] h = All-nil P
     share_all P n w first (g ∷ gs) h =
@@ -100,9 +101,12 @@ module _ {A V : Type 0} where
   pub gathered_all : (P : ℕ × StationData A V → Type 0) (q : ℕ) (rs : List (Driven A V)) → All (λ r. All P r.stations.items) rs → All (λ s. P (q, s)) (gathered q rs)
   unfolding gathered
   gathered_all P q [] h = All-nil (λ s. P (q, s))
-  gathered_all P q (r ∷ rs) h = All-append (λ s. P (q, s)) (of_group q r.stations.items) (gathered q rs) (group_all P q r.stations.items (All-head (λ r. All P r.stations.items) r rs h)) (gathered_all P q rs (All-tail (λ r. All P r.stations.items) r rs h))
+  gathered_all P q (r ∷ rs) h = All-append (λ s. P (q, s)) (of_group q r.stations.items) (gathered q rs)
+      (group_all P q r.stations.items (All-head (λ r. All P r.stations.items) r rs h))
+      (gathered_all P q rs (All-tail (λ r. All P r.stations.items) r rs h))
 
-  pub gathered_some : (Q : StationData A V → Type 0) (q : ℕ) (rs : List (Driven A V)) (w : ℕ) (d : Driven A V) → w < length rs → Some_of (λ p. (p.0 ≡ q) × Q p.1) (get_or rs w d).stations.items → Some_of Q (gathered q rs)
+  pub gathered_some : (Q : StationData A V → Type 0) (q : ℕ) (rs : List (Driven A V)) (w : ℕ) (d : Driven A V) → w < length rs
+      → Some_of (λ p. (p.0 ≡ q) × Q p.1) (get_or rs w d).stations.items → Some_of Q (gathered q rs)
   unfolding gathered
   gathered_some Q q [] w d low h = absurd (omega arith)
   gathered_some Q q (r ∷ rs) zero d low h = Some_of-left Q (of_group q r.stations.items) (gathered q rs) (group_some Q q r.stations.items h)

@@ -1,15 +1,17 @@
 -- What a group comes to, from what each worker did with its share.
-use Rattle.std.proofs.Common.{◌≡◌, ◌≢◌, ℕ, ◌<◌, ◌+◌, ◌∙◌, List, [], ◌∷◌, length, get_or, arith, true, Vec}
+use Rattle.std.proofs.Common.{◌≡◌, ℕ, ◌<◌, ◌+◌, ◌∙◌, Bool, List, [], ◌∷◌, length, get_or, arith, true, Vec}
 use Rattle.std.specs.List.{All}
 use Rattle.std.proofs.lemmas.Option.{slice_get_within}
 use Rattle.path_algebra.specs.Algebra.{Algebra}
 use Rattle.post_floor.specs.Data.{FloorData}
 use Rattle.station.specs.Station.{StationData}
 use Rattle.worker_fleet.specs.declared.driving.Driven.{Driven}
-use Rattle.worker_fleet.specs.declared.driving.Outcome.TheVariants.{Gated, Ended}
+use Rattle.worker_fleet.specs.declared.driving.Outcome.TheVariants.{Ended}
 use Rattle.worker_fleet.specs.Dealt.{share_of}
 use Rattle.worker_fleet.specs.Drives.{Drives}
+use Rattle.worker_fleet.specs.declared.group.GroupFault.{GroupFault}
 use Rattle.worker_fleet.specs.Groups.{gathered, Some_of, HasShard, IsDone}
+use Rattle.worker_fleet.specs.Stops.{IsFirstStop, IsStop}
 use Rattle.worker_fleet.specs.Turns.{NextOn, IsPlaced, HasEnded}
 use Rattle.worker_fleet.proofs.Carried.{MovesEach-some, MovesEach-all}
 use Rattle.worker_fleet.proofs.Gathered.{share_all, share_some, gathered_all, gathered_some}
@@ -20,14 +22,11 @@ pub one_of : {X : Type 0} (xs : List X) → 0 < length xs → X
 one_of [] h = absurd (omega (arith, h))
 one_of (x ∷ xs) h = x
 
-module _ {A V Z : Type 0} (meaning : A → Algebra V) (floors : List (FloorData A)) (budget limit workers : ℕ) (is_open : Type 0)
+module _ {A V Z : Type 0} (meaning : A → Algebra V) (floors : List (FloorData A)) (budget limit workers : ℕ) (answers : ℕ → ℕ → Bool → Type 0)
     (shares : List (Vec (ℕ × StationData A V) Z)) (rs : List (Driven A V)) (some : Vec (ℕ × StationData A V) Z) (count : length rs ≡ length shares)
-    (each : (k : ℕ) (s : Vec (ℕ × StationData A V) Z) (r : Driven A V) → k < length shares → Drives meaning floors budget limit is_open (get_or shares k s).items (get_or rs k r)) where
-  did : (k : ℕ) (r : Driven A V) → k < length rs → Drives meaning floors budget limit is_open (get_or shares k some).items (get_or rs k r)
+    (each : (k : ℕ) (s : Vec (ℕ × StationData A V) Z) (r : Driven A V) → k < length shares → Drives meaning floors budget limit answers k (get_or shares k s).items (get_or rs k r)) where
+  did : (k : ℕ) (r : Driven A V) → k < length rs → Drives meaning floors budget limit answers k (get_or shares k some).items (get_or rs k r)
   did k r low = each k some r (omega (arith, count, low))
-
-  pub not_gated : is_open → All (λ r. r.outcome ≢ Gated) rs
-  not_gated o = λ k r low. (did k r low).gated o
 
   all_ended : All (λ r. r.outcome ≡ Ended) rs → All (λ r. All HasEnded r.stations.items) rs
   all_ended h = λ k r low. (did k r low).ended.0 (h k r low)
@@ -43,7 +42,20 @@ module _ {A V Z : Type 0} (meaning : A → Algebra V) (floors : List (FloorData 
     pub all_done : All (λ r. r.outcome ≡ Ended) rs → (q : ℕ) → All (IsDone floors q) (gathered q rs)
     all_done h q = gathered_all (λ p. IsPlaced floors p × (p.1.ended ≡ true)) q rs (λ k r low j p below. (all_placed k r low j p below, all_ended h k r low j p below))
 
-  pub none_lost : {W : Type 0} (questions : List (Vec (StationData A V) W)) → ((w : ℕ) (d : Vec (ℕ × StationData A V) Z) → w < workers → (get_or shares w d).items ≡ share_of workers w 0 questions) → length shares ≡ workers → 0 < workers
+  pub is_stop : {W : Type 0} (questions : List (Vec (StationData A V) W))
+      → ((w : ℕ) (d : Vec (ℕ × StationData A V) Z) → w < workers → (get_or shares w d).items ≡ share_of workers w 0 questions)
+      → length shares ≡ workers
+      → (fault : GroupFault) → IsFirstStop rs fault → IsStop meaning floors budget limit workers answers questions fault
+  is_stop questions dealt all fault first = record {
+    all = rs;
+    count = count ∙ all;
+    drove = λ w d low. rw (dealt w some low) at (each w some d (omega (arith, low, all)));
+    first = first;
+  }
+
+  pub none_lost : {W : Type 0} (questions : List (Vec (StationData A V) W))
+      → ((w : ℕ) (d : Vec (ℕ × StationData A V) Z) → w < workers → (get_or shares w d).items ≡ share_of workers w 0 questions)
+      → length shares ≡ workers → 0 < workers
       → (q k : ℕ) (d : Vec (StationData A V) W) → q < length questions → HasShard k (get_or questions q d).items → HasShard k (gathered q rs)
   none_lost questions dealt all working q k d low h =
       let found = share_some (λ s. s.part.shard ≡ k) workers 0 questions q d working low h in

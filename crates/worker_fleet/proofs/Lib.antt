@@ -1,10 +1,12 @@
-pub mod Moved
+mod Moved
+mod Rounds
+pub mod Stopped
 pub mod Placed
-pub mod Pushed
-pub mod Erranded
-pub mod PushedAt
+mod Pushed
+mod Assigned
+mod PushedAt
 pub mod Rests
-pub mod Gathered
+mod Gathered
 pub mod Carried
-pub mod Grouped
-pub mod Carrying
+mod Grouped
+mod Carrying

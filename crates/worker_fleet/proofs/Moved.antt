@@ -1,7 +1,8 @@
 -- One more step of one of the things that are moved.
-use Rattle.std.proofs.Common.{◌≡◌, ℕ, zero, suc, ◌+◌, ◌<◌, List, [], ◌∷◌, length, get_or, set, refl, ap, ◌∙◌, arith, add-one}
+use Rattle.std.proofs.Common.{◌≡◌, ◌≢◌, ℕ, zero, suc, ◌+◌, ◌<◌, List, [], ◌∷◌, length, get_or, set, refl, ap, arith, add-one}
 use Rattle.std.specs.Prelude.{sum, slice_get, Some, None}
 use Rattle.std.proofs.lemmas.List.Sums.{sum_by-set, sum_by-cons}
+use Rattle.std.proofs.lemmas.Grind.{common_steps}
 use Rattle.std.proofs.lemmas.Option.{slice_get_read}
 use Rattle.worker_fleet.specs.Moves.{still, then, MovesEach}
 
@@ -18,7 +19,7 @@ module _ {X : Type 0} (S : X → X → Type 0) where
   MovesEach-none [] = tt
   MovesEach-none (x ∷ xs) = (still, MovesEach-none xs)
 
-  pub MovesEach-more : (ns : List ℕ) (xs ys : List X) (i : ℕ) (y z : X) → MovesEach S ns xs ys → slice_get ys i ≡ Some y → S y z → MovesEach S (more_at ns i) xs (set ys i z)
+  MovesEach-more : (ns : List ℕ) (xs ys : List X) (i : ℕ) (y z : X) → MovesEach S ns xs ys → slice_get ys i ≡ Some y → S y z → MovesEach S (more_at ns i) xs (set ys i z)
   unfolding MovesEach more_at
   MovesEach-more [] [] [] i y z m at s = let no : None ≡ Some y = at in cc
   MovesEach-more (n ∷ ns) (x ∷ xs) (w ∷ ys) zero y z m at s =
@@ -29,6 +30,20 @@ module _ {X : Type 0} (S : X → X → Type 0) where
   MovesEach-more [] (x ∷ xs) ys i y z m at s = absurd m
   MovesEach-more (n ∷ ns) [] ys i y z m at s = absurd m
   MovesEach-more (n ∷ ns) (x ∷ xs) [] i y z m at s = absurd m
+
+pub zeros-at : {X : Type 0} (xs : List X) (i : ℕ) → get_or (zeros xs) i 0 ≡ 0
+unfolding zeros
+zeros-at [] i = refl
+zeros-at (x ∷ xs) zero = refl
+zeros-at (x ∷ xs) (suc i) = zeros-at xs i
+
+pub more-here : (ns : List ℕ) (i : ℕ) → i < length ns → get_or (more_at ns i) i 0 ≡ get_or ns i 0 + 1
+unfolding more_at
+more-here ns i low = grind (arith, common_steps)
+
+pub more-there : (ns : List ℕ) (i j : ℕ) → j ≢ i → get_or (more_at ns i) j 0 ≡ get_or ns j 0
+unfolding more_at
+more-there ns i j ne = grind (arith, common_steps)
 
 pub sum-zeros : {X : Type 0} (xs : List X) → sum (zeros xs) ≡ 0
 unfolding zeros
@@ -48,15 +63,7 @@ MovesEach-length S [] (x ∷ xs) ys m = absurd m
 MovesEach-length S (n ∷ ns) [] ys m = absurd m
 MovesEach-length S (n ∷ ns) (x ∷ xs) [] m = absurd m
 
--- xs was moved to ys by so many steps together
-abbrev pub MovedBy : {X : Type 0} → (X → X → Type 0) → ℕ → List X → List X → Type 0
-MovedBy S n xs ys = (counts : List ℕ) × MovesEach S counts xs ys × (sum counts ≡ n)
-
-pub MovedBy-none : {X : Type 0} (S : X → X → Type 0) (xs : List X) → MovedBy S 0 xs xs
-MovedBy-none S xs = (zeros xs, MovesEach-none S xs, sum-zeros xs)
-
-pub MovedBy-more : {X : Type 0} (S : X → X → Type 0) (n : ℕ) (xs ys : List X) (i : ℕ) (y z : X) → i < length ys → y ≡ get_or ys i y → S y z → MovedBy S n xs ys → MovedBy S (n + 1) xs (set ys i z)
-MovedBy-more S n xs ys i y z low at s m =
-    let len = MovesEach-length S m.0 xs ys m.1 in
-    let inside : i < length m.0 = omega arith in
-    (more_at m.0 i, MovesEach-more S m.0 xs ys i y z m.1 (slice_get_read ys (length ys) i y refl low at) s, sum-more m.0 i inside ∙ ap (λ k. k + 1) m.2)
+-- one thing of ys was moved by a step more, as it was read there
+pub MovesEach-read : {X : Type 0} (S : X → X → Type 0) (ns : List ℕ) (xs ys : List X) (i : ℕ) (y z : X) → i < length ys → y ≡ get_or ys i y → S y z
+    → MovesEach S ns xs ys → MovesEach S (more_at ns i) xs (set ys i z)
+MovesEach-read S ns xs ys i y z low at s m = MovesEach-more S ns xs ys i y z m (slice_get_read ys (length ys) i y refl low at) s

@@ -6,7 +6,8 @@ use Rattle.post_floor.specs.Data.{FloorData}
 use Rattle.station.specs.Station.{StationData}
 use Rattle.worker_fleet.specs.Turns.{NextOn, IsPlaced, HasEnded, IsOpen}
 
-pub IsPlaced-next : {A V : Type 0} (meaning : A → Algebra V) (floors : List (FloorData A)) (budget : ℕ) (p q : ℕ × StationData A V) → IsPlaced floors p → NextOn meaning floors budget p q → IsPlaced floors q
+pub IsPlaced-next : {A V : Type 0} (meaning : A → Algebra V) (floors : List (FloorData A)) (budget : ℕ) (p q : ℕ × StationData A V)
+    → IsPlaced floors p → NextOn meaning floors budget p q → IsPlaced floors q
 IsPlaced-next meaning floors budget p q h n = record { floor = n.floor; is_floor = rw n.place n.is_floor; own = n.turned.own }
 
 pub open_not_ended : {A V : Type 0} (xs : List (ℕ × StationData A V)) (k : ℕ) → k < length xs → HoldsAt IsOpen xs k → All HasEnded xs → ⊥

@@ -1,6 +1,7 @@
 pub mod Moves
 pub mod Turns
 pub mod Drives
-pub mod Errands
+pub mod Assigned
 pub mod Dealt
 pub mod Groups
+pub mod Stops

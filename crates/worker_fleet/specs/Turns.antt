@@ -1,5 +1,6 @@
 -- A station beside the place of its floor, and what a turn does.
-use Rattle.std.specs.Prelude.{◌≡◌, ℕ, List, true, false, slice_get, Some}
+use Rattle.std.specs.Prelude.{◌≡◌, ◌⊎◌, ℕ, ◌+◌, ◌<◌, ◌≤◌, List, length, true, false, slice_get, slice_index, Some}
+use Rattle.std.specs.List.{AllWithin, HoldsAt}
 use Rattle.path_algebra.specs.Algebra.{Algebra}
 use Rattle.post_floor.specs.Data.{FloorData}
 use Rattle.station.specs.declared.turn.Report.{Report}
@@ -27,3 +28,15 @@ HasEnded p = p.1.ended ≡ true
 -- the station has not
 abbrev pub IsOpen : {A V : Type 0} → ℕ × StationData A V → Type 0
 IsOpen p = p.1.ended ≡ false
+
+-- the station at place k is the next that has not ended: from the place `at` on, and if there is none, from the first
+pub record IsNextOpen {A V : Type 0} (stations : List (ℕ × StationData A V)) (at k : ℕ) : Type 0 where
+  pub inside : k < length stations
+  pub here : HoldsAt IsOpen stations k
+  pub nearest : ((at ≤ k) × AllWithin HasEnded stations at k) ⊎ ((k < at) × AllWithin HasEnded stations at (length stations) × AllWithin HasEnded stations 0 k)
+
+-- Stations took so many turns each, round and round in the order of the list: none has made two turns more than one that has not ended, and none has made more
+-- than an earlier one that has not ended.
+pub record TookTurns {A V : Type 0} (counts : List ℕ) (stations : List (ℕ × StationData A V)) : Type 0 where
+  pub fair : (i j : ℕ) → j < length stations → HoldsAt IsOpen stations j → slice_index counts i ≤ slice_index counts j + 1
+  pub in_order : (i j : ℕ) → i < j → i < length stations → HoldsAt IsOpen stations i → slice_index counts j ≤ slice_index counts i

@@ -1,7 +1,7 @@
 //! The loop of one worker.
-ghost use Rattle.std.specs.Prelude.{◌≡◌, ◌≢◌, ℕ, ◌<◌, ◌≤◌, length, false, None, IfSome, IfNone};
+ghost use Rattle.std.specs.Prelude.{◌≡◌, ◌≢◌, ◌<◌, ◌≤◌, length, false, None, IfSome, IfNone};
 ghost use Rattle.std.specs.List.{All, AllWithin, HoldsAt};
-ghost use Rattle.worker_fleet.specs.Turns.{NextOn, IsPlaced, HasEnded, IsOpen};
+ghost use Rattle.worker_fleet.specs.Turns.{NextOn, IsPlaced, HasEnded, IsOpen, IsNextOpen};
 ghost use Rattle.worker_fleet.specs.Drives.{Drives};
 
 use crate::gate::Gate;
@@ -41,7 +41,9 @@ fn first_open<A: PathAlgebra>(
 ) -> Option<usize>
     requires { (from ≤ to) × (to ≤ length stations.now) }
     ensures none { IfNone result (AllWithin HasEnded stations.now from to) }
-    ensures some { IfSome result (λ k. (k < to) × HoldsAt IsOpen stations.now k) }
+    ensures within { IfSome result (λ k. (from ≤ k) × (k < to)) }
+    ensures here { IfSome result (HoldsAt IsOpen stations.now) }
+    ensures first { IfSome result (AllWithin HasEnded stations.now from) }
 {
     for k in from..to {
         let (_, station) = &stations[k];
@@ -56,7 +58,7 @@ fn first_open<A: PathAlgebra>(
 fn next_open<A: PathAlgebra>(stations: &[(usize, Station<'_, A>)], at: usize) -> Option<usize>
     requires { at ≤ length stations.now }
     ensures none { IfNone result (All HasEnded stations.now) }
-    ensures some { IfSome result (λ k. (k < length stations.now) × HoldsAt IsOpen stations.now k) }
+    ensures some { IfSome result (IsNextOpen stations.now at) }
 {
     match first_open(stations, at, stations.len()) {
         Some(k) => Some(k),
@@ -103,7 +105,7 @@ pub(crate) fn drive_unless<'g, A: PathAlgebra, G: Gate>(
     called_off: Option<&AtomicBool>,
 ) -> Option<Driven<'g, A>>
     requires { All (IsPlaced floors.now) stations.items }
-    ensures drives { IfSome result (Drives A.meaning floors.now budget limit (G.is_always_open gate.now) stations.entry.items) }
+    ensures drives { IfSome result (Drives A.meaning floors.now budget limit (G.may_answer gate.now) worker stations.entry.items) }
     ensures some { called_off.entry ≡ None → result ≢ None }
 {
     let mut stations = stations;
@@ -161,7 +163,7 @@ pub fn drive<'g, A: PathAlgebra, G: Gate>(
     gate: &G,
 ) -> Driven<'g, A>
     requires { All (IsPlaced floors.now) stations.items }
-    ensures { Drives A.meaning floors.now budget limit (G.is_always_open gate.now) stations.entry.items result }
+    ensures { Drives A.meaning floors.now budget limit (G.may_answer gate.now) worker stations.entry.items result }
 {
     match drive_unless(floors, stations, worker, budget, limit, gate, None) {
         Some(driven) => driven,

@@ -1,6 +1,6 @@
 //! Workers on threads of their own.
 ghost use Rattle.std.specs.Prelude.{◌≡◌, ℕ, ◌<◌, IfOk, IfSome, vec_len, slice_index_or, IsTrue};
-ghost use Rattle.worker_fleet.specs.Errands.{IsErrand};
+ghost use Rattle.worker_fleet.specs.Assigned.{IsAssigned};
 
 use std::alloc::{AllocError, Global};
 use std::snapshot::Snapshot;
@@ -9,8 +9,8 @@ use std::thread;
 use std::thread::{Promise, PromisedHandle, Scope, Threads};
 
 /// What is asked of all workers together.
-pub trait Task<J, T> {
-    // What the worker of this number may answer to this job.
+pub trait Assignment<J, T> {
+    /// What the worker of this number may answer to this job.
     ghost answers: { Self → ℕ → J → T → Type 0 };
 
     /// Tells those that work already that not all could be started, so that they need not go on.
@@ -19,14 +19,14 @@ pub trait Task<J, T> {
 
 /// What a worker is started with, by which its answer is known.
 #[derive(Drop)]
-pub struct Errand<'a, J, K> {
-    task: &'a K,
+pub struct Assigned<'a, J, K> {
+    assignment: &'a K,
     worker: u64,
     job: Snapshot<J>,
 }
 
-impl<'a, J, T, K: Task<J, T>> Promise<T> for Errand<'a, J, K> {
-    ghost kept_by = { λ p r. K.answers p.task.now p.worker p.job.value r };
+impl<'a, J, T, K: Assignment<J, T>> Promise<T> for Assigned<'a, J, K> {
+    ghost kept_by = { λ p r. K.answers p.assignment.now p.worker p.job.value r };
 }
 
 /// Starts one worker.
@@ -35,26 +35,26 @@ fn start_one<
     E,
     J: Send + Drop + 's,
     T: Send + Drop + 's,
-    K: Task<J, T>,
+    K: Assignment<J, T>,
     W: Fn(u64, J) -> T + Sync,
 >(
     scope: &Scope<'s, E>,
-    task: &'s K,
+    assignment: &'s K,
     work: &'s W,
     worker: u64,
     job: J,
-) -> Option<PromisedHandle<T, Errand<'s, J, K>>>
+) -> Option<PromisedHandle<T, Assigned<'s, J, K>>>
     requires can { W.pre work.now worker job }
-    requires does { (r : T) → W.post work.now worker job r → K.answers task.now worker job r }
-    ensures { IfSome result (λ h. IsErrand task.entry.now worker job h.promise) }
+    requires does { (r : T) → W.post work.now worker job r → K.answers assignment.now worker job r }
+    ensures { IfSome result (λ h. IsAssigned assignment.entry.now worker job h.promise) }
 {
-    let errand = Errand {
-        task,
+    let assigned = Assigned {
+        assignment,
         worker,
         job: Snapshot::of(&job),
     };
     let started = scope.spawn_with(
-        errand,
+        assigned,
         move || -> T
             requires { W.pre work.now worker job }
             ensures { W.post work.entry.now worker job result }
@@ -72,24 +72,24 @@ fn start_all<
     E,
     J: Send + Drop + 's,
     T: Send + Drop + 's,
-    K: Task<J, T>,
+    K: Assignment<J, T>,
     W: Fn(u64, J) -> T + Sync,
 >(
     scope: &Scope<'s, E>,
     alloc: Global,
-    task: &'s K,
+    assignment: &'s K,
     work: &'s W,
     jobs: Vec<J>,
-) -> Result<(Vec<PromisedHandle<T, Errand<'s, J, K>>>, bool), AllocError>
+) -> Result<(Vec<PromisedHandle<T, Assigned<'s, J, K>>>, bool), AllocError>
     requires can { (k : ℕ) (job : J) → k < vec_len jobs → job ≡ slice_index_or jobs.items k job → W.pre work.now k job }
-    requires does { (k : ℕ) (job : J) (r : T) → W.post work.now k job r → K.answers task.now k job r }
+    requires does { (k : ℕ) (job : J) (r : T) → W.post work.now k job r → K.answers assignment.now k job r }
     ensures all { IfOk result (λ r. IsTrue r.1 → vec_len r.0 ≡ vec_len jobs) }
-    ensures errands { IfOk result (λ r. (k : ℕ) (h : _) (job : J) → k < vec_len r.0 → IsErrand task.entry.now k (slice_index_or jobs.items k job) (slice_index_or r.0.items k h).promise) }
+    ensures assigned { IfOk result (λ r. (k : ℕ) (h : _) (job : J) → k < vec_len r.0 → IsAssigned assignment.entry.now k (slice_index_or jobs.items k job) (slice_index_or r.0.items k h).promise) }
 {
     let mut handles = Vec::with_capacity(alloc, jobs.len())?;
     let mut worker = 0u64;
     for job in jobs {
-        let Some(handle) = start_one(scope, task, work, worker, job) else {
+        let Some(handle) = start_one(scope, assignment, work, worker, job) else {
             return Ok((handles, false));
         };
         handles.push(handle).unwrap();
@@ -99,9 +99,9 @@ fn start_all<
 }
 
 /// Joins each worker and forgets what it answers.
-fn join_and_drop<'s, J: Drop, T: Drop, K: Task<J, T>, R: Threads>(
+fn join_and_drop<'s, J: Drop, T: Drop, K: Assignment<J, T>, R: Threads>(
     rt: &R,
-    handles: Vec<PromisedHandle<T, Errand<'s, J, K>>>,
+    handles: Vec<PromisedHandle<T, Assigned<'s, J, K>>>,
 ) {
     for handle in handles {
         drop(handle.join(rt));
@@ -109,15 +109,15 @@ fn join_and_drop<'s, J: Drop, T: Drop, K: Task<J, T>, R: Threads>(
 }
 
 /// Joins all workers. Where one was not started, or memory is wanted, their answers are dropped.
-fn join_all<'s, J: Drop, T: Drop, K: Task<J, T>, R: Threads>(
+fn join_all<'s, J: Drop, T: Drop, K: Assignment<J, T>, R: Threads>(
     rt: &R,
-    handles: Vec<PromisedHandle<T, Errand<'s, J, K>>>,
+    handles: Vec<PromisedHandle<T, Assigned<'s, J, K>>>,
     all: bool,
 ) -> Result<Vec<T>, AllocError>
     ensures started { IfOk result (λ _. IsTrue all) }
     ensures len { IfOk result (λ v. vec_len v ≡ vec_len handles.entry) }
     ensures each { IfOk result (λ v. (k : ℕ) (r : T) → k < vec_len handles.entry
-        → (h : _) × (h ≡ slice_index_or handles.entry.items k h) × K.answers h.promise.task.now h.promise.worker h.promise.job.value (slice_index_or v.items k r)) }
+        → (h : _) × (h ≡ slice_index_or handles.entry.items k h) × K.answers h.promise.assignment.now h.promise.worker h.promise.job.value (slice_index_or v.items k r)) }
 {
     if !all {
         join_and_drop(rt, handles);
@@ -139,27 +139,27 @@ fn join_all<'s, J: Drop, T: Drop, K: Task<J, T>, R: Threads>(
 pub fn run_each<
     J: Send + Drop,
     T: Send + Drop,
-    K: Task<J, T>,
+    K: Assignment<J, T>,
     W: Fn(u64, J) -> T + Sync,
     R: Threads + Wait,
->(rt: &R, alloc: Global, jobs: Vec<J>, task: &K, work: &W) -> Result<Vec<T>, AllocError>
+>(rt: &R, alloc: Global, jobs: Vec<J>, assignment: &K, work: &W) -> Result<Vec<T>, AllocError>
     requires can { (k : ℕ) (job : J) → k < vec_len jobs → job ≡ slice_index_or jobs.items k job → W.pre work.now k job }
-    requires does { (k : ℕ) (job : J) (r : T) → W.post work.now k job r → K.answers task.now k job r }
+    requires does { (k : ℕ) (job : J) (r : T) → W.post work.now k job r → K.answers assignment.now k job r }
     ensures len { IfOk result (λ v. vec_len v ≡ vec_len jobs) }
-    ensures each { IfOk result (λ v. (k : ℕ) (job : J) (r : T) → k < vec_len jobs → K.answers task.now k (slice_index_or jobs.items k job) (slice_index_or v.items k r)) }
+    ensures each { IfOk result (λ v. (k : ℕ) (job : J) (r : T) → k < vec_len jobs → K.answers assignment.now k (slice_index_or jobs.items k job) (slice_index_or v.items k r)) }
 {
     thread::scope(
         thread::scope_env(),
         rt,
         move |scope| -> Result<Vec<T>, AllocError>
             requires can { (k : ℕ) (job : J) → k < vec_len jobs → job ≡ slice_index_or jobs.items k job → W.pre work.now k job }
-            requires does { (k : ℕ) (job : J) (r : T) → W.post work.now k job r → K.answers task.now k job r }
+            requires does { (k : ℕ) (job : J) (r : T) → W.post work.now k job r → K.answers assignment.now k job r }
             ensures len { IfOk result (λ v. vec_len v ≡ vec_len jobs) }
-            ensures each { IfOk result (λ v. (k : ℕ) (job : J) (r : T) → k < vec_len jobs → K.answers task.entry.now k (slice_index_or jobs.items k job) (slice_index_or v.items k r)) }
+            ensures each { IfOk result (λ v. (k : ℕ) (job : J) (r : T) → k < vec_len jobs → K.answers assignment.entry.now k (slice_index_or jobs.items k job) (slice_index_or v.items k r)) }
         {
-            let (handles, all) = start_all(scope, alloc, task, work, jobs)?;
+            let (handles, all) = start_all(scope, alloc, assignment, work, jobs)?;
             if !all {
-                task.call_off();
+                assignment.call_off();
             }
             join_all(rt, handles, all)
         },

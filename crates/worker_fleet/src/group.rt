@@ -1,13 +1,14 @@
 //! The stations of a group of questions, dealt to workers, run to their end, and put together again.
-ghost use Rattle.std.specs.Prelude.{◌≡◌, ◌≢◌, ℕ, ◌<◌, length, map, true, IfOk, IfNone, IfSome, Err, Some, vec_len, slice_index_or};
+ghost use Rattle.std.specs.Prelude.{◌≡◌, ◌⊎◌, ℕ, ◌<◌, length, map, IfOk, IfErr, IfNone, IfSome, Some, vec_len, slice_index_or};
 ghost use Rattle.std.specs.List.{All};
 ghost use Rattle.worker_fleet.specs.Turns.{IsPlaced};
 ghost use Rattle.worker_fleet.specs.Drives.{Drives};
 ghost use Rattle.worker_fleet.specs.Groups.{gathered, HasShard, IsDone};
+ghost use Rattle.worker_fleet.specs.Stops.{IsFirstStop, IsStop};
 
 use crate::dealing::{deal_all, empty_lists, put_all};
 use crate::driving::{Driven, Outcome, drive_unless};
-use crate::fleet::{Task, run_each};
+use crate::fleet::{Assignment, run_each};
 use crate::gate::Gate;
 use path_algebra::PathAlgebra;
 use post_floor::Floor;
@@ -40,7 +41,7 @@ impl From<AllocError> for GroupFault {
 
 /// What all workers of a group are told.
 #[derive(Drop)]
-struct Orders<'a, A: PathAlgebra, G: Gate> {
+struct GroupAssignment<'a, A: PathAlgebra, G: Gate> {
     floors: &'a [Floor<A>],
     budget: u32,
     limit: u64,
@@ -48,9 +49,11 @@ struct Orders<'a, A: PathAlgebra, G: Gate> {
     called_off: &'a AtomicBool,
 }
 
-impl<'a, 'g, A: PathAlgebra, G: Gate> Task<Vec<(usize, Station<'g, A>)>, Option<Driven<'g, A>>>
-    for Orders<'a, A, G> {
-    ghost answers = { λ o _ stations r. IfSome r (Drives A.meaning o.floors.now o.budget o.limit (G.is_always_open o.gate.now) stations.items) };
+impl<'a, 'g, A: PathAlgebra, G: Gate> Assignment<
+    Vec<(usize, Station<'g, A>)>,
+    Option<Driven<'g, A>>,
+> for GroupAssignment<'a, A, G> {
+    ghost answers = { λ o worker stations r. IfSome r (Drives A.meaning o.floors.now o.budget o.limit (G.may_answer o.gate.now) worker stations.items) };
 
     fn call_off(&self) {
         self.called_off.store(true, Ordering::Relaxed);
@@ -86,10 +89,10 @@ fn drive_each<'g, A: PathAlgebra, G: Gate, R: Threads + Wait>(
 ) -> Result<Vec<Driven<'g, A>>, AllocError>
     requires { All (λ share. All (IsPlaced floors.now) share.items) shares.items }
     ensures len { IfOk result (λ v. vec_len v ≡ vec_len shares.entry) }
-    ensures each { IfOk result (λ v. (k : ℕ) (share : _) (r : _) → k < vec_len shares.entry → Drives A.meaning floors.now budget limit (G.is_always_open gate.now) (slice_index_or shares.entry.items k share).items (slice_index_or v.items k r)) }
+    ensures each { IfOk result (λ v. (k : ℕ) (share : _) (r : _) → k < vec_len shares.entry → Drives A.meaning floors.now budget limit (G.may_answer gate.now) k (slice_index_or shares.entry.items k share).items (slice_index_or v.items k r)) }
 {
     let called_off = &AtomicBool::new(false);
-    let orders = Orders {
+    let assignment = GroupAssignment {
         floors,
         budget,
         limit,
@@ -100,10 +103,10 @@ fn drive_each<'g, A: PathAlgebra, G: Gate, R: Threads + Wait>(
         rt,
         alloc,
         shares,
-        &orders,
+        &assignment,
         &move |worker: u64, stations: Vec<(usize, Station<'_, A>)>| -> Option<Driven<'_, A>>
             requires { All (IsPlaced floors.now) stations.items }
-            ensures { IfSome result (Drives A.meaning floors.entry.now budget limit (G.is_always_open gate.entry.now) stations.entry.items) }
+            ensures { IfSome result (Drives A.meaning floors.entry.now budget limit (G.may_answer gate.entry.now) worker stations.entry.items) }
         {
             drive_unless(
                 floors,
@@ -120,13 +123,13 @@ fn drive_each<'g, A: PathAlgebra, G: Gate, R: Threads + Wait>(
     Ok(driven)
 }
 
-/// Why the first worker stopped that did not end.
+/// Why the least numbered worker stopped, of those that stopped before the end.
 fn first_stop<A: PathAlgebra>(answers: &[Driven<'_, A>]) -> Option<GroupFault>
-    ensures gated { All (λ r. r.outcome ≢ Outcome.Gated) answers.now → result ≢ Some GroupFault.Gated }
+    ensures some { IfSome result (IsFirstStop answers.now) }
     ensures none { IfNone result (All (λ r. r.outcome ≡ Outcome.Ended) answers.now) }
 {
-    for driven in answers {
-        match driven.outcome {
+    for worker in 0..answers.len() {
+        match answers[worker].outcome {
             Outcome::Ended => {}
             Outcome::Stalled => return Some(GroupFault::Stalled),
             Outcome::Gated => return Some(GroupFault::Gated),
@@ -157,6 +160,24 @@ fn put_together<'g, A: PathAlgebra>(
     Ok(lists)
 }
 
+/// The stations of each question, if all workers came to the end; else why the least numbered that did not stopped.
+fn end_group<'g, A: PathAlgebra>(
+    alloc: Global,
+    answers: Vec<Driven<'g, A>>,
+    width: usize,
+) -> Result<Vec<Vec<Station<'g, A>>>, GroupFault>
+    requires { All (λ r. All (λ p. p.0 < width) r.stations.items) answers.items }
+    ensures len { IfOk result (λ v. vec_len v ≡ width) }
+    ensures put { IfOk result (λ v. (q : ℕ) (d : _) → q < width → (slice_index_or v.items q d).items ≡ gathered q answers.entry.items) }
+    ensures ended { IfOk result (λ _. All (λ r. r.outcome ≡ Outcome.Ended) answers.entry.items) }
+    ensures fault { IfErr result (λ f. ((f ≡ GroupFault.Memory) × All (λ r. r.outcome ≡ Outcome.Ended) answers.entry.items) ⊎ IsFirstStop answers.entry.items f) }
+{
+    if let Some(fault) = first_stop(answers.as_slice()) {
+        return Err(fault);
+    }
+    Ok(put_together(alloc, answers, width)?)
+}
+
 /// Runs the stations of a group of questions to their end, dealt round to workers on threads of their own.
 ///
 /// Worker w has, of each question, each of its stations whose number is w modulo `workers`, question by question and in
@@ -178,13 +199,10 @@ pub fn run_group<'g, A: PathAlgebra, G: Gate, R: Threads + Wait>(
     ensures len { IfOk result (λ v. vec_len v ≡ vec_len questions.entry) }
     ensures all { IfOk result (λ v. (q k : ℕ) (d e : _) → q < vec_len questions.entry → HasShard k (slice_index_or questions.entry.items q d).items → HasShard k (slice_index_or v.items q e).items) }
     ensures done { IfOk result (λ v. (q : ℕ) (d : _) → q < vec_len questions.entry → All (IsDone floors.now q) (slice_index_or v.items q d).items) }
-    ensures open { G.is_always_open gate.now → result ≢ Err GroupFault.Gated }
+    ensures fault { IfErr result (λ f. (f ≡ GroupFault.Memory) ⊎ IsStop A.meaning floors.now budget limit workers (G.may_answer gate.now) questions.entry.items f) }
 {
     let width = questions.len();
     let shares = deal_all(alloc, questions, workers)?;
     let answers = drive_each(rt, alloc, floors, shares, budget, limit, gate)?;
-    if let Some(fault) = first_stop(answers.as_slice()) {
-        return Err(fault);
-    }
-    Ok(put_together(alloc, answers, width)?)
+    end_group(alloc, answers, width)
 }

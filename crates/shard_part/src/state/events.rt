@@ -4,7 +4,7 @@ ghost use Rattle.scholten_core.specs.Diffusion.{improves as improves_on};
 ghost use Rattle.scholten_core.specs.Items.{item_arc};
 ghost use Rattle.shard_part.specs.Tallies.{counted_on};
 ghost use Rattle.shard_part.specs.PartState.{network_in, place_in, state_in, vertex_of, IsArc};
-ghost use Rattle.shard_part.specs.Sound.{IsClear};
+ghost use Rattle.shard_part.specs.LocalInvariant.{IsClear};
 ghost use Rattle.shard_part.specs.Part.{OwnIdleIsTold, HandledFront};
 ghost use Rattle.shard_part.specs.Moves.{IsPlace, IsPopped, HandledOne, engaged_or_answered, labelled, rested, with_value, with_free, with_taken};
 

@@ -6,11 +6,12 @@ ghost use Rattle.scholten_core.specs.Items.{item_arc};
 ghost use Rattle.shard_part.specs.PartState.{network_in, place_in, state_in};
 ghost use Rattle.shard_part.specs.Capacities.{queue_bound, outbox_bound};
 ghost use Rattle.shard_part.specs.Weights.{part_weight, is};
-ghost use Rattle.shard_part.specs.Sound.{names};
+ghost use Rattle.shard_part.specs.LocalInvariant.{names};
 ghost use Rattle.shard_part.specs.Moves.{IsPlace};
 ghost use Rattle.shard_part.specs.Exchange.{Fits, FitsAlone, FitsBefore, MayEngage, Awaits};
 
 use crate::batch::{Batch, arc_of};
+use crate::laws::state_holds;
 use crate::place::VertexPlace;
 use crate::shard::Shard;
 use crate::state::PartState;
@@ -47,8 +48,7 @@ impl<'g, A: PathAlgebra> PartState<'g, A> {
     pub fn fits(&self, batch: &Batch<A::Value>) -> bool
         ensures { IsTrue result ↔ Fits (A.meaning self.now.setup.question.algebra) self.now batch.now.items }
     {
-        // What holds of the state is known once a field of it is read.
-        let _graph = self.graph;
+        state_holds(self);
         for i in 0..batch.len() {
             if let Some(item) = batch.get(i) {
                 if !self.fits_before(item, batch, i + 1) {

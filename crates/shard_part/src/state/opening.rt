@@ -4,12 +4,13 @@ ghost use Rattle.circular_buffer.specs.Buffer.{buffer};
 ghost use Rattle.road_graph.specs.Roads.{HasVertex};
 ghost use Rattle.scholten_core.specs.Network.{network};
 ghost use Rattle.scholten_core.specs.Diffusion.{state_after};
-ghost use Rattle.shard_part.specs.Shows.{Holds};
+ghost use Rattle.shard_part.specs.Represents.{HoldsShare};
 ghost use Rattle.shard_part.specs.Moves.{rows_of};
-ghost use Rattle.shard_part.specs.Outgoing.{own_in};
+ghost use Rattle.shard_part.specs.Outgoing.{local_vertices};
 ghost use Rattle.shard_part.specs.Opening.{opened_part, first_items, AreIdle};
 
 use crate::batch::Batch;
+use crate::laws::plan_holds;
 use crate::layout::{ShardLayout, sum_of};
 use crate::own::OwnVertices;
 use crate::plan::Plan;
@@ -19,7 +20,7 @@ use crate::state::PartState;
 use crate::tables::{ArcTable, Tables, VertexTable};
 use path_algebra::PathAlgebra;
 use road_graph::{Graph, Memory, Vertex};
-use scholten_core::{ENTRY, Item};
+use scholten_core::{ENTRY, Item, roads_hold};
 use std::alloc::{AllocError, Global};
 
 impl<'g, A: PathAlgebra> PartState<'g, A> {
@@ -36,10 +37,10 @@ impl<'g, A: PathAlgebra> PartState<'g, A> {
         requires plan { length plan.now.list ≡ graph.now.vertices }
         requires shard { shard < plan.now.shards }
         ensures part { IfOk result (λ d. d ≡ opened_part (A.meaning algebra) (record { question = record { algebra = algebra; roads = graph.now; source = source }; plan = plan.now }) shard) }
-        ensures share { IfOk result (λ d. Holds A.meaning (state_after (A.meaning algebra) (network graph.now source) []) d) }
+        ensures share { IfOk result (λ d. HoldsShare A.meaning (state_after (A.meaning algebra) (network graph.now source) []) d) }
     {
-        // What holds of every graph and every plan is known once one is asked.
-        let _known = (graph.vertices(), plan.shards());
+        roads_hold(graph);
+        plan_holds(plan);
         let layout = ShardLayout {
             graph,
             plan,
@@ -113,7 +114,7 @@ fn idle_tables<V: Copy>(
     own: OwnVertices,
     value: V,
 ) -> Result<Tables<V>, AllocError>
-    requires { own ≡ own_in layout.now.setup layout.now.shard }
+    requires { own ≡ local_vertices layout.now.setup layout.now.shard }
     ensures { IfOk result (λ t. AreIdle layout.now (rows_of t)) }
 {
     let entry = layout.is_first();

@@ -3,8 +3,6 @@ ghost use Rattle.std.specs.Prelude.{◌≡◌, ◌≢◌, ◌+◌, ◌<◌, suc,
 ghost use Rattle.scholten_core.specs.Deficit.{busy_out};
 ghost use Rattle.shard_part.specs.PartState.{network_in, place_in, state_in};
 ghost use Rattle.shard_part.specs.Capacities.{queue_bound, outbox_bound};
-ghost use Rattle.shard_part.specs.Sound.{IsSound};
-ghost use Rattle.shard_part.specs.Moves.{IsPlanned, IsTallied};
 ghost use Rattle.shard_part.specs.Tallies.{top};
 ghost use Rattle.shard_part.specs.Readings.{IsOwn, has_ended, tally_in};
 
@@ -19,17 +17,6 @@ use scholten_core::ENTRY;
 use std::snapshot::Snapshot;
 
 impl<'g, A: PathAlgebra> PartState<'g, A> {
-    /// Which shard it is.
-    pub fn shard(&self) -> Shard
-        ensures shard { result ≡ self.now.shard }
-        // What holds of every part, for callers that lean on it.
-        ensures planned { IsPlanned self.now.setup self.now.shard }
-        ensures sound { IsSound (network_in self.now.setup) (place_in self.now.setup) self.now }
-        ensures tallied { IsTallied self.now }
-    {
-        self.shard // its number in the plan
-    }
-
     /// The question that it is a part of.
     pub fn question(&self) -> Question<A>
         ensures { result ≡ self.now.setup }
@@ -42,7 +29,7 @@ impl<'g, A: PathAlgebra> PartState<'g, A> {
         }
     }
 
-    /// Whether a shard is another one than this.
+    /// Whether a shard is another one than this: the test of what `capacity` and `swap_outbox` require.
     pub fn is_other(&self, to: Shard) -> bool
         ensures { IsTrue result ↔ (to ≢ self.now.shard) × (to < self.now.setup.plan.shards) }
     {

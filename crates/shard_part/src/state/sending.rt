@@ -6,7 +6,7 @@ ghost use Rattle.scholten_core.specs.Diffusion.{is_due as due};
 ghost use Rattle.scholten_core.specs.Items.{item_arc};
 ghost use Rattle.shard_part.specs.PartState.{network_in, place_in, state_in, vertex_of, maker_of, IsArc};
 ghost use Rattle.shard_part.specs.Outgoing.{outgoing};
-ghost use Rattle.shard_part.specs.Sound.{IsClear};
+ghost use Rattle.shard_part.specs.LocalInvariant.{IsClear};
 ghost use Rattle.shard_part.specs.Moves.{IsPlace, IsRow, put_item, counted_made, with_item, with_message, offered, offered_all};
 
 use crate::place::{ArcPlace, VertexPlace};

@@ -4,7 +4,7 @@ ghost use Rattle.road_graph.specs.Roads.{arc_of, road_of};
 ghost use Rattle.scholten_core.specs.Deficit.{busy_out};
 ghost use Rattle.shard_part.specs.PartState.{network_in, place_in, state_in, IsArc};
 ghost use Rattle.shard_part.specs.Outgoing.{outgoing};
-ghost use Rattle.shard_part.specs.Sound.{IsClear};
+ghost use Rattle.shard_part.specs.LocalInvariant.{IsClear};
 ghost use Rattle.shard_part.specs.Moves.{IsPlace, IsRow};
 
 use crate::place::{ArcPlace, VertexPlace};

@@ -9,7 +9,8 @@ use Rattle.post_floor.proofs.claims.bring.Goals as goal
 
 pub loop-claims-smaller : goal.loop-claims-smaller
 loop-claims-smaller g c = let t : c.turn_claims.new.claims.items ≡ cycled c.loop-claims.claims.items = ap (λ (b : Buffer ℕ). b.items) c.turn_claims.ensures in let inv = c.loop-claims.invariant in
-    subst (λ (z : List ℕ). before c.args.word z < before c.args.word c.loop-claims.claims.items) (sym t) (cycled_before c.args.word c.loop-claims.claims.items inv.claim (sym c.is_first.ensures ∙ c.loop-claims-test.true))
+    subst (λ (z : List ℕ). before c.args.word z < before c.args.word c.loop-claims.claims.items) (sym t)
+    (cycled_before c.args.word c.loop-claims.claims.items inv.claim (sym c.is_first.ensures ∙ c.loop-claims-test.true))
 
 pub loop-claims-preserved : goal.loop-claims-preserved
 loop-claims-preserved g c =
@@ -25,7 +26,9 @@ loop-claims-preserved g c =
       id = m.1 ∙ inv.id;
       view = ap (λ z. z.0) m.2 ∙ inv.view;
       claim = subst (λ (z : ℕ). 0 < z) (sym (cycled_total (is c.args.word) c.loop-claims.claims.items) ∙ ap (total (is c.args.word)) (sym t)) inv.claim;
-      open_still = λ u s v o. subst (λ (l : List ℕ). AreOpen u s v c.turn.new.self.me.1 l) (sym t) (subst (λ (l : List (ℕ × Slot g.row.A-Value.Denot)). AreOpen u s v l (cycled c.loop-claims.claims.items)) (sym (ap (λ z. z.1) m.2)) (turned_open u s v c.loop-claims.pass.me.1 c.loop-claims.claims.items (inv.open_still u s v o)));
+      open_still = λ u s v o. subst (λ (l : List ℕ). AreOpen u s v c.turn.new.self.me.1 l) (sym t)
+          (subst (λ (l : List (ℕ × Slot g.row.A-Value.Denot)). AreOpen u s v l (cycled c.loop-claims.claims.items)) (sym (ap (λ z. z.1) m.2))
+          (turned_open u s v c.loop-claims.pass.me.1 c.loop-claims.claims.items (inv.open_still u s v o)));
     }
 
 pub returns-clause-first : goal.returns-clause-first

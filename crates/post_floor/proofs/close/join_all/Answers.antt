@@ -11,8 +11,14 @@ split_seat-free-requires g c = let inv = c.loop-seat.invariant in
 
 pub join_seat-requires : goal.join_seat-requires
 join_seat-requires g c = let inv = c.loop-seat.invariant in
-    let q = all_front (λ d. d.floor ≡ c.args.table.now.table_id) c.pop.new.self.items c.loop-seat.seats.items c.in-Some.seat c.in-Some.ensures.items inv.1 in
-    (inv.0, c.split_seat-free.ensures.3 ∙ c.pass_of-own.ensures.pass.0 ∙ q.1, ap (λ z. z.1) c.split_seat-free.ensures.4, c.requires.pass.1, joins g.A.PathAlgebra.meaning c.args.table.now.key c.loop-seat.all.id c.loop-seat.all.me.0 c.split_seat-free.result.id c.split_seat-free.result.me.0)
+    let q = all_front (λ d. d.floor ≡ c.args.table.now.table_id) c.pop.new.self.items c.loop-seat.seats.items c.in-Some.seat c.in-Some.ensures.items inv.1 in (
+      inv.0,
+      c.split_seat-free.ensures.3 ∙ c.pass_of-own.ensures.pass.0
+          ∙ q.1,
+      ap (λ z. z.1) c.split_seat-free.ensures.4,
+      c.requires.pass.1,
+      joins g.A.PathAlgebra.meaning c.args.table.now.key c.loop-seat.all.id c.loop-seat.all.me.0 c.split_seat-free.result.id c.split_seat-free.result.me.0,
+    )
 
 pub loop-seat-preserved : goal.loop-seat-preserved
 loop-seat-preserved g c = let inv = c.loop-seat.invariant in
@@ -20,7 +26,8 @@ loop-seat-preserved g c = let inv = c.loop-seat.invariant in
       c.join_seat.ensures.0 ∙ inv.0,
       q.0,
       λ w J. inv.2 w (join_one w c.loop-seat.all.me.0 c.join_seat.new.seat.me.0 c.pop.new.self.items c.loop-seat.seats.items c.in-Some.seat c.in-Some.ensures.items
-          (ap (λ z. z.0) c.join_seat.ensures.2 ∙ ap (λ z. both c.loop-seat.all.me.0 z.0) c.split_seat-free.ensures.4 ∙ ap (λ z. both c.loop-seat.all.me.0 (aside_right z)) c.pass_of-own.ensures.pass.1) c.pass_of-own.ensures.part J),
+          (ap (λ z. z.0) c.join_seat.ensures.2 ∙ ap (λ z. both c.loop-seat.all.me.0 z.0) c.split_seat-free.ensures.4
+          ∙ ap (λ z. both c.loop-seat.all.me.0 (aside_right z)) c.pass_of-own.ensures.pass.1) c.pass_of-own.ensures.part J),
     )
 
 pub returns-clause-joined : goal.returns-clause-joined

@@ -15,9 +15,9 @@ returns-else-eq-clause-head c =
 pub returns-else-eq-clause-low : goal.returns-else-eq-clause-low
 returns-else-eq-clause-low c =
     let l : 1 ≤ c.args.a = not_entry c.args.a c.eq.result c.eq.ensures c.if-eq.false in
-    let e = c.head.ensures in let h = (c.vertices.ensures.roads.ends c.args.a (l, c.requires.arc)).1.0 in omega (arith, e, h)
+    let e = c.head.ensures in let h = (c.roads_hold.ensures.ends c.args.a (l, c.requires.arc)).1.0 in omega (arith, e, h)
 
 pub returns-else-eq-clause-within : goal.returns-else-eq-clause-within
 returns-else-eq-clause-within c =
     let l : 1 ≤ c.args.a = not_entry c.args.a c.eq.result c.eq.ensures c.if-eq.false in
-    let e = c.head.ensures in let h = (c.vertices.ensures.roads.ends c.args.a (l, c.requires.arc)).1.1 in omega (arith, e, h)
+    let e = c.head.ensures in let h = (c.roads_hold.ensures.ends c.args.a (l, c.requires.arc)).1.1 in omega (arith, e, h)

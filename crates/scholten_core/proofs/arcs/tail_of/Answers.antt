@@ -13,4 +13,4 @@ returns-else-eq-clause-tail c = c.tail.ensures ∙ sym (tail-arc c.args.graph.no
 pub returns-else-eq-clause-within : goal.returns-else-eq-clause-within
 returns-else-eq-clause-within c =
     let l : 1 ≤ c.args.a = not_entry c.args.a c.eq.result c.eq.ensures c.if-eq.false in
-    let e = c.tail.ensures in let h = (c.vertices.ensures.roads.ends c.args.a (l, c.requires)).0.1 in omega (arith, e, h)
+    let e = c.tail.ensures in let h = (c.roads_hold.ensures.ends c.args.a (l, c.requires)).0.1 in omega (arith, e, h)

@@ -9,4 +9,6 @@ pub returns : goal.returns
 returns g c = λ events items p q w holds handled.
     let laws = g.met.A.PathAlgebra g.world.𝓛 g.world.𝓜 g.world.𝓡 ((λ s x. x), (λ x. x), (λ x. x), λ x. x) in
     handled_all g.A.PathAlgebra.meaning laws.lawful items p q (state_after (g.A.PathAlgebra.meaning p.setup.question.algebra) (network_in p.setup) events) w
-    (run_kept (g.A.PathAlgebra.meaning p.setup.question.algebra) (network_in p.setup) (laws.lawful p.setup.question.algebra) w (opening (g.A.PathAlgebra.meaning p.setup.question.algebra) (network_in p.setup)) events (opening_kept (g.A.PathAlgebra.meaning p.setup.question.algebra) (network_in p.setup) w)) holds handled
+    (run_kept (g.A.PathAlgebra.meaning p.setup.question.algebra) (network_in p.setup) (laws.lawful p.setup.question.algebra) w
+    (opening (g.A.PathAlgebra.meaning p.setup.question.algebra) (network_in p.setup)) events
+    (opening_kept (g.A.PathAlgebra.meaning p.setup.question.algebra) (network_in p.setup) w)) holds handled

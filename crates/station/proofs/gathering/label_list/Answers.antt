@@ -6,7 +6,8 @@ use Rattle.station.proofs.gathering.label_list.Goals as goal
 pub loop-v-preserved : goal.loop-v-preserved
 loop-v-preserved g c =
     let q = c.args.floor.now.setup in let i = c.loop-v.invariant in
-    let m = labels_more (IsBestLabel (g.A.PathAlgebra.meaning q.question.algebra) q.question.roads (q.question.source ∷ [])) c.loop-v.v c.loop-v.list.items c.push.new.list.items c.label_at.result i.long i.best c.label_at.ensures c.in_ok-push.ensures in
+    let m = labels_more (IsBestLabel (g.A.PathAlgebra.meaning q.question.algebra) q.question.roads (q.question.source ∷ [])) c.loop-v.v
+    c.loop-v.list.items c.push.new.list.items c.label_at.result i.long i.best c.label_at.ensures c.in_ok-push.ensures in
     record { long = m.0; best = m.1 }
 
 pub returns : goal.returns
@@ -16,5 +17,7 @@ returns g c =
     let all : c.loop-v.v ≡ q.question.roads.vertices = omega (arith, low, high, n, k) in
     record {
       count = i.long ∙ all;
-      best = λ v h. let l = h.1 in label_before (IsBestLabel (g.A.PathAlgebra.meaning q.question.algebra) q.question.roads (q.question.source ∷ [])) c.loop-v.v c.loop-v.list.items i.best v h.0 (omega (arith, l, all));
+      best = λ v h. let l = h.1 in
+          label_before (IsBestLabel (g.A.PathAlgebra.meaning q.question.algebra) q.question.roads (q.question.source ∷ [])) c.loop-v.v
+          c.loop-v.list.items i.best v h.0 (omega (arith, l, all));
     }

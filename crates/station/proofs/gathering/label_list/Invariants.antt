@@ -5,5 +5,7 @@ use Rattle.station.proofs.gathering.label_list.Given as goal
 abbrev pub invariant-loop-v : goal.invariant-loop-v
 invariant-loop-v g l = record {
   long : length l.list.items ≡ l.v;
-  best : (i : ℕ) → i < l.v → IsBestLabel (g.A.PathAlgebra.meaning l.floor.setup.question.algebra) l.floor.setup.question.roads (l.floor.setup.question.source ∷ []) (i + 1) (get_or l.list.items i None);
+  best : (i : ℕ) → i < l.v
+      → IsBestLabel (g.A.PathAlgebra.meaning l.floor.setup.question.algebra) l.floor.setup.question.roads (l.floor.setup.question.source ∷ []) (i + 1)
+      (get_or l.list.items i None);
 }

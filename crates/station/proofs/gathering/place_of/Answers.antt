@@ -10,7 +10,8 @@ returns-then-is_of g c =
 pub loop-k-preserved : goal.loop-k-preserved
 loop-k-preserved g c =
     AllWithin-more (λ s. s.part.shard ≢ c.args.shard) c.args.stations.now 0 c.loop-k.k c.loop-k.invariant
-    (at_read c.args.stations.now (λ s. s.part.shard ≢ c.args.shard) c.loop-k.k c.index-stations-k.result (omega arith) c.index-stations-k.is (λ e. false≢true (sym c.if-is_of.false ∙ c.is_of.ensures.1 e)))
+    (at_read c.args.stations.now (λ s. s.part.shard ≢ c.args.shard) c.loop-k.k c.index-stations-k.result (omega arith) c.index-stations-k.is
+    (λ e. false≢true (sym c.if-is_of.false ∙ c.is_of.ensures.1 e)))
 
 pub returns : goal.returns
 returns g c = λ k d low. c.loop-k.invariant k d (omega arith) (omega arith)

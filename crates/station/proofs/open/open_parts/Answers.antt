@@ -2,7 +2,7 @@ use Rattle.std.proofs.Common.{◌≡◌, ◌∷◌, [], subst, sym, ap, ◌∙�
 use Rattle.shard_part.specs.Weights.{All}
 use Rattle.shard_part.specs.Opening.{opened_parts}
 use Rattle.shard_part.proofs.Showing.{all_append}
-use Rattle.post_floor.specs.Plays.{Known}
+use Rattle.post_floor.specs.Plays.{HoldsReachedShare}
 use Rattle.station.proofs.Opening.{opened_next, known_opened}
 use Rattle.station.proofs.open.open_parts.Goals as goal
 
@@ -10,13 +10,21 @@ pub loop-shard-preserved : goal.loop-shard-preserved
 loop-shard-preserved g c =
     let i = c.loop-shard.invariant in let p = c.in_ok-part.part in let meaning = g.A.PathAlgebra.meaning in let e = c.in_ok-part.ensures in
     record {
-      parts = opened_next (meaning c.args.algebra) (record { question = record { algebra = c.args.algebra; roads = c.args.graph.now; source = c.args.source }; plan = c.args.plan.now }) c.loop-shard.shard c.loop-shard.parts.items c.push.new.list.items p i.parts e.part c.in_ok-push.ensures;
-      known = subst (All (Known meaning)) (sym c.in_ok-push.ensures) (all_append (Known meaning) c.loop-shard.parts.items (p ∷ []) i.known
-          (known_opened meaning (record { question = record { algebra = c.args.algebra; roads = c.args.graph.now; source = c.args.source }; plan = c.args.plan.now }) c.loop-shard.shard p e.part e.share, tt));
+      parts = opened_next (meaning c.args.algebra)
+          (record { question = record { algebra = c.args.algebra; roads = c.args.graph.now; source = c.args.source }; plan = c.args.plan.now })
+          c.loop-shard.shard c.loop-shard.parts.items c.push.new.list.items p i.parts e.part c.in_ok-push.ensures;
+      known = subst (All (HoldsReachedShare meaning)) (sym c.in_ok-push.ensures) (all_append (HoldsReachedShare meaning) c.loop-shard.parts.items (p ∷ []) i.known (
+        known_opened meaning
+            (record { question = record { algebra = c.args.algebra; roads = c.args.graph.now; source = c.args.source }; plan = c.args.plan.now })
+            c.loop-shard.shard p e.part e.share,
+        tt,
+      ));
     }
 
 pub returns-clause-parts : goal.returns-clause-parts
 returns-clause-parts g c =
     let low = c.loop-shard-test.false in let high = c.loop-shard.auto.shard-end in let n = c.shards-shard-end.ensures.count in
     let last : c.loop-shard.shard ≡ c.args.plan.now.shards = omega (arith, low, high, n) in
-    c.loop-shard.invariant.parts ∙ ap (opened_parts (g.A.PathAlgebra.meaning c.args.algebra) (record { question = record { algebra = c.args.algebra; roads = c.args.graph.now; source = c.args.source }; plan = c.args.plan.now }) 0) last
+    c.loop-shard.invariant.parts
+    ∙ ap (opened_parts (g.A.PathAlgebra.meaning c.args.algebra)
+    (record { question = record { algebra = c.args.algebra; roads = c.args.graph.now; source = c.args.source }; plan = c.args.plan.now }) 0) last

@@ -15,7 +15,8 @@ loop-to-preserved g c =
     record {
       behind = e.behind;
       tried = subst (λ z. AllTriedTo c.args.floor.now (c.loop-to.to + 1) (c.loop-to.published + z) c.args.part.now c.fill_to.new.part c.args.seat.now c.fill_to.new.seat) (sym c.from-published.ensures)
-          (to_more c.args.floor.now c.loop-to.to c.loop-to.published c.fill_to.result c.args.part.now c.loop-to.part c.fill_to.new.part c.args.seat.now c.loop-to.seat c.fill_to.new.seat i.tried e.part e.tried);
+          (to_more c.args.floor.now c.loop-to.to c.loop-to.published c.fill_to.result c.args.part.now c.loop-to.part c.fill_to.new.part
+          c.args.seat.now c.loop-to.seat c.fill_to.new.seat i.tried e.part e.tried);
       setup = m.1 ∙ i.setup;
       shard = m.0 ∙ i.shard;
       count = let o = one_at_most c.fill_to.result in let n = i.count in let k = c.from-published.ensures in omega (arith, o, n, k);

@@ -2,7 +2,6 @@ use Rattle.std.proofs.Common.{arith}
 use Rattle.std.proofs.lemmas.Grind.{common_steps}
 use Rattle.post_floor.specs.Data.{read_box}
 use Rattle.station.proofs.Stepping.{is_at, read_begun}
-use Rattle.station.proofs.Through.{own_from, full_from, missed_from}
 use Rattle.station.proofs.turn.read_from.Goals as goal
 
 pub try_read-full-requires-clause-at : goal.try_read-full-requires-clause-at
@@ -10,7 +9,8 @@ try_read-full-requires-clause-at g c κs within = is_at g.A.PathAlgebra.meaning 
 
 pub clear-requires-clause-at : goal.clear-requires-clause-at
 clear-requires-clause-at g c κs within =
-    read_begun g.A.PathAlgebra.meaning c.args.floor.now c.args.seat.now c.try_read-full.new.seat c.args.part.now c.try_read-full.new.part (read_box c.args.floor.now c.args.seat.now c.args.from) c.requires.ready c.try_read-full.ensures.seat c.if-full.ensures.told
+    read_begun g.A.PathAlgebra.meaning c.args.floor.now c.args.seat.now c.try_read-full.new.seat c.args.part.now c.try_read-full.new.part
+    (read_box c.args.floor.now c.args.seat.now c.args.from) c.requires.ready c.try_read-full.ensures.seat c.if-full.ensures.told
 
 pub returns-then-full-clause-ready : goal.returns-then-full-clause-ready
 returns-then-full-clause-ready g c = grind (arith, common_steps)

@@ -10,5 +10,6 @@ invariant-loop-thing g l =
       next : (goal.iterator-loop-thing g).can_next l.thing-iterator × (goal.iterator-loop-thing g).is_finite l.thing-iterator;
       worker : l.worker < n;
       len : vec_len l.shares ≡ n;
-      dealt : (w : ℕ) (d : _) → w < n → (get_or l.shares.items w d).items ++ dealt n w l.worker l.group (into_iter_items l.thing-iterator) ≡ (get_or l.initial.shares.items w d).items ++ dealt n w 0 l.group l.fn.things.items;
+      dealt : (w : ℕ) (d : _) → w < n → (get_or l.shares.items w d).items ++ dealt n w l.worker l.group (into_iter_items l.thing-iterator)
+          ≡ (get_or l.initial.shares.items w d).items ++ dealt n w 0 l.group l.fn.things.items;
     }

@@ -1,5 +1,5 @@
 use Rattle.std.proofs.Common.{rules, arith, ◌≡◌, ◌+◌, length, get_or, vec_len}
-use Rattle.worker_fleet.specs.Errands.{IsErrand}
+use Rattle.worker_fleet.specs.Assigned.{IsAssigned}
 use Rattle.worker_fleet.proofs.Pushed.{AllPairs-push}
 use Rattle.worker_fleet.proofs.fleet.start_all.Goals as goal
 
@@ -23,7 +23,7 @@ loop-job-preserved g c =
       number = search rules;
       counted = search rules;
       left = λ k d below. let h = was.left (k + 1) d in grind rules;
-      errands = λ k d e below. AllPairs-push (λ i s h. IsErrand c.args.task.now i s h.promise)
+      assigned = λ k d e below. AllPairs-push (λ i s h. IsAssigned c.args.assignment.now i s h.promise)
           c.args.jobs.items c.loop-job.handles.items c.push.new.self.items c.in-Some.job c.in-Some-start_one.handle
-          (search rules) (λ d. let h = was.left 0 d in grind rules) (rw number at one) (λ i h s low. was.errands i h s (search rules)) k d e (search rules);
+          (search rules) (λ d. let h = was.left 0 d in grind rules) (rw number at one) (λ i h s low. was.assigned i h s (search rules)) k d e (search rules);
     }

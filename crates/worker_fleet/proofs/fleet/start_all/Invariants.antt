@@ -1,6 +1,6 @@
 use Rattle.std.proofs.Common.{◌≡◌, ℕ, ◌<◌, ◌≤◌, ◌+◌, get_or, vec_len, vec_capacity}
 use Rattle.std.specs.Vec.Iter.{into_iter_items, into_iter_len}
-use Rattle.worker_fleet.specs.Errands.{IsErrand}
+use Rattle.worker_fleet.specs.Assigned.{IsAssigned}
 use Rattle.worker_fleet.proofs.fleet.start_all.Given as goal
 
 abbrev pub invariant-loop-job : goal.invariant-loop-job
@@ -11,5 +11,5 @@ invariant-loop-job g l =
       number : l.worker ≡ done;
       counted : done + into_iter_len rest ≡ vec_len l.fn.jobs;
       left : (k : ℕ) (d : _) → k < into_iter_len rest → get_or (into_iter_items rest) k d ≡ get_or l.fn.jobs.items (done + k) d;
-      errands : (k : ℕ) (h job : _) → k < done → IsErrand l.task k (get_or l.fn.jobs.items k job) (get_or l.handles.items k h).promise;
+      assigned : (k : ℕ) (h job : _) → k < done → IsAssigned l.assignment k (get_or l.fn.jobs.items k job) (get_or l.handles.items k h).promise;
     }

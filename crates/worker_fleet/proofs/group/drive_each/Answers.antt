@@ -1,4 +1,4 @@
-use Rattle.std.proofs.Common.{rules, ◌≡◌, ◌<◌, get_or, length, Some}
+use Rattle.std.proofs.Common.{rules, ◌<◌, length, Some}
 use Rattle.std.proofs.lemmas.List.{get_or-map, length-map}
 use denote.Exit.{no}
 use denote.Param.{copied}

@@ -1,7 +1,7 @@
 use Rattle.std.proofs.Common.{map, refl, sym, ap, ◌∙◌, subst}
 use Rattle.shard_part.specs.PartState.{PartData}
 use Rattle.shard_part.specs.Readings.{tally_in}
-use Rattle.shard_part.specs.Moves.{IsStored, rows_of}
+use Rattle.shard_part.specs.Moves.{RepInvariant, rows_of}
 use Rattle.shard_part.proofs.closed.ClosedPart.of.Goals as goal
 
 pub invariant_of-result : goal.invariant_of-result
@@ -11,7 +11,7 @@ invariant_of-result g c =
       rows = rows_of s.tables;
       queue_capacity = s.queue.capacity;
       out_capacities = map (λ b. b.capacity) s.outs.items;
-      stored = subst (λ (u : PartData _ _). IsStored u (rows_of s.tables) s.queue.capacity (map (λ b. b.capacity) s.outs.items)) same c.state.invariant;
+      stored = subst (λ (u : PartData _ _). RepInvariant u (rows_of s.tables) s.queue.capacity (map (λ b. b.capacity) s.outs.items)) same c.state.invariant;
       shard_is = ap (λ (u : PartData _ _). u.shard) same;
       own_are = refl;
       labels_are = refl;

@@ -6,5 +6,6 @@ use Rattle.shard_part.proofs.layout.ShardLayout.add_into.Given as goal
 abbrev pub invariant-loop-a : goal.invariant-loop-a
 invariant-loop-a l = record {
   long : length l.capacities ≡ length l.fn.capacities;
-  counts : (t : ℕ) → t < l.self.setup.plan.shards → get_or l.capacities t 0 ≡ get_or l.fn.capacities t 0 + coming_from (network_in l.self.setup) (place_in l.self.setup) l.self.shard t (take l.a-index l.a-items);
+  counts : (t : ℕ) → t < l.self.setup.plan.shards → get_or l.capacities t 0 ≡ get_or l.fn.capacities t 0 + coming_from (network_in l.self.setup)
+      (place_in l.self.setup) l.self.shard t (take l.a-index l.a-items);
 }

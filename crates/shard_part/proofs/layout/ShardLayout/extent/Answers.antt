@@ -21,7 +21,8 @@ loop-i-preserved c = elim c.if-has.branch [
       (subst (λ vs. IsExtent vs w.up_to-extent.result) (sym (placed_then (place_in c.args.self.now.setup) c.args.self.now.shard c.loop-i.i (c.loop-i.i + 1) refl (sym c.has.ensures ∙ w.if-has.true)))
       (w.up_to-extent.ensures (placed (place_in c.args.self.now.setup) c.args.self.now.shard 1 c.loop-i.i) c.loop-i.invariant))
   | else-has w ↦ subst (λ e. IsExtent (placed (place_in c.args.self.now.setup) c.args.self.now.shard 1 (c.loop-i.i + 1)) e) (sym w.extent-is)
-      (subst (λ vs. IsExtent vs c.loop-i.extent) (sym (placed_else (place_in c.args.self.now.setup) c.args.self.now.shard c.loop-i.i (c.loop-i.i + 1) refl (sym c.has.ensures ∙ w.if-has.false))) c.loop-i.invariant)
+      (subst (λ vs. IsExtent vs c.loop-i.extent) (sym (placed_else (place_in c.args.self.now.setup) c.args.self.now.shard c.loop-i.i
+      (c.loop-i.i + 1) refl (sym c.has.ensures ∙ w.if-has.false))) c.loop-i.invariant)
 ]
 
 pub returns-clause-within : goal.returns-clause-within

@@ -11,5 +11,7 @@ pub loop-i-preserved : goal.loop-i-preserved
 loop-i-preserved c = elim c.if-has.branch [
   | then-has+in_ok-push-2 w ↦ ap (λ v. v.items) w.own-is ∙ w.in_ok-push-2.ensures.items ∙ ap (λ xs. xs ++ (c.loop-i.i + 1) ∷ []) c.loop-i.invariant
       ∙ sym (ap (λ xs. 0 ∷ xs) (placed_then (place_in c.args.self.now.setup) c.args.self.now.shard c.loop-i.i (c.loop-i.i + 1) refl (sym c.has.ensures ∙ w.if-has.true)))
-  | else-has w ↦ ap (λ v. v.items) w.own-is ∙ c.loop-i.invariant ∙ sym (ap (λ xs. 0 ∷ xs) (placed_else (place_in c.args.self.now.setup) c.args.self.now.shard c.loop-i.i (c.loop-i.i + 1) refl (sym c.has.ensures ∙ w.if-has.false)))
+  | else-has w ↦ ap (λ v. v.items) w.own-is ∙ c.loop-i.invariant
+      ∙ sym (ap (λ xs. 0 ∷ xs) (placed_else (place_in c.args.self.now.setup) c.args.self.now.shard c.loop-i.i (c.loop-i.i + 1) refl (sym c.has.ensures
+      ∙ w.if-has.false)))
 ]

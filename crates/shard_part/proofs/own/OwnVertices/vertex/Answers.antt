@@ -14,5 +14,6 @@ vertex_in_run-requires c =
 pub returns-in-Run : goal.returns-in-Run
 returns-in-Run c =
     let e : c.args.self.now ≡ 0 ∷ range_with_len c.in-Run.first c.in-Run.count = sym c.self.view_is ∙ ap listed c.in-Run.is in
-    run_read c.in-Run.first c.in-Run.count c.args.j c.vertex_in_run.result (subst (λ (xs : List ℕ). c.args.j < length xs) e c.requires) c.vertex_in_run.ensures.environment c.vertex_in_run.ensures.behind
+    run_read c.in-Run.first c.in-Run.count c.args.j c.vertex_in_run.result (subst (λ (xs : List ℕ). c.args.j < length xs) e c.requires)
+    c.vertex_in_run.ensures.environment c.vertex_in_run.ensures.behind
     ∙ ap (λ (xs : List ℕ). get_or xs c.args.j 0) (sym e)

@@ -10,7 +10,8 @@ pub loop-out-preserved : goal.loop-out-preserved
 loop-out-preserved g c = (
   c.loop-out.invariant.0,
   outs_next c.args.arc c.args.self.now (λ b. b.items) c.deref-out-items.result.now c.loop-out.out-index c.out-item.result c.stands_from.result
-      (ap (map (λ b. b.items)) c.deref-out-items.ensures.value ∙ ap (λ p. p.outs) c.self.view_is) c.loop-out-test.true c.out-item.is c.loop-out.invariant.1 c.stands_from.ensures c.if-stands_from.false,
+      (ap (map (λ b. b.items)) c.deref-out-items.ensures.value ∙ ap (λ p. p.outs) c.self.view_is) c.loop-out-test.true c.out-item.is
+      c.loop-out.invariant.1 c.stands_from.ensures c.if-stands_from.false,
 )
 
 pub returns : goal.returns

@@ -8,4 +8,6 @@ pub row-requires-clause-arc : goal.row-requires-clause-arc
 row-requires-clause-arc g c = λ κs w. subst (λ v. c.turn_of-k.result < length (outgoing (network_in c.args.self.now.setup) v)) c.requires.tail c.turn_of-k.ensures.inside
 
 pub returns-clause-row : goal.returns-clause-row
-returns-clause-row g c = subst (λ b. IsRow c.args.self.now b c.row.result) (ap (λ v. get_or (outgoing (network_in c.args.self.now.setup) v) c.turn_of-k.result 0) (sym c.requires.tail) ∙ c.turn_of-k.ensures.arc) c.row.ensures
+returns-clause-row g c = subst (λ b. IsRow c.args.self.now b c.row.result)
+    (ap (λ v. get_or (outgoing (network_in c.args.self.now.setup) v) c.turn_of-k.result 0) (sym c.requires.tail)
+    ∙ c.turn_of-k.ensures.arc) c.row.ensures

@@ -1,6 +1,5 @@
 use Rattle.std.proofs.Common.{subst, sym, ap, ◌∙◌, IfSome, ◌∷◌, []}
 use Rattle.path_algebra.specs.Walks.{IsWalkValue}
-use Rattle.shard_part.specs.Moves.{IsPlanned}
 use Rattle.shard_part.specs.PartState.{state_in}
 use Rattle.shard_part.specs.Readings.{IsOwn}
 use Rattle.station.proofs.Turns.{walks}
@@ -9,5 +8,9 @@ use Rattle.station.proofs.station.Station.peek.Goals as goal
 pub returns-clause-walk : goal.returns-clause-walk
 returns-clause-walk g c =
     let laws = g.met.A.PathAlgebra g.world.𝓛 g.world.𝓜 g.world.𝓡 ((λ s x. x), (λ x. x), (λ x. x), λ x. x) in
-    subst (λ z. IfSome c.label.result (λ x. IsWalkValue (g.A.PathAlgebra.meaning z.part.setup.question.algebra) z.part.setup.question.roads (z.part.setup.question.source ∷ []) c.args.v x)) c.self.view_is
-    (walks g.A.PathAlgebra.meaning laws.lawful c.self.inside.part _ (subst (λ u. IsPlanned u.setup u.shard) c.deref.ensures c.shard-shard.ensures.planned) c.self.invariant.0.known c.args.v (subst (λ z. IsOwn z.part c.args.v) (sym c.self.view_is) c.requires) c.label.result (c.label.ensures ∙ ap (λ u. (state_in u).label c.args.v) c.deref-2.ensures))
+    subst (λ z. IfSome c.label.result
+    (λ x. IsWalkValue (g.A.PathAlgebra.meaning z.part.setup.question.algebra) z.part.setup.question.roads (z.part.setup.question.source ∷ [])
+    c.args.v x)) c.self.view_is
+    (walks g.A.PathAlgebra.meaning laws.lawful c.self.inside.part _ c.part_holds.ensures.planned c.self.invariant.0.known c.args.v
+    (subst (λ z. IsOwn z.part c.args.v) (sym c.self.view_is) c.requires) c.label.result
+    (c.label.ensures ∙ ap (λ u. (state_in u).label c.args.v) c.deref.ensures))

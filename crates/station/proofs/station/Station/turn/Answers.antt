@@ -15,14 +15,23 @@ returns-then-self-clause-turned g c =
 
 pub fill_all-published-requires-clause-behind : goal.fill_all-published-requires-clause-behind
 fill_all-published-requires-clause-behind g c κs within = let h = c.handle-handled.ensures in
-    went_on g.A.PathAlgebra.meaning c.args.floor.now c.read_all-taken.new.seat c.read_all-taken.new.part c.handle-handled.new.self c.handle-handled.result h.setup h.shard h.taken c.read_all-taken.ensures.ready
+    went_on g.A.PathAlgebra.meaning c.args.floor.now c.read_all-taken.new.seat c.read_all-taken.new.part c.handle-handled.new.self
+    c.handle-handled.result h.setup h.shard h.taken c.read_all-taken.ensures.ready
 
 pub returns-clause-turned : goal.returns-clause-turned
 returns-clause-turned g c =
     let laws = g.met.A.PathAlgebra g.world.𝓛 g.world.𝓜 g.world.𝓡 ((λ s x. x), (λ x. x), (λ x. x), λ x. x) in
     let i = c.self.inside in let h = c.handle-handled.ensures in let e = c.look_for_end-self-inside.ensures in
-    subst (λ z. Turned g.A.PathAlgebra.meaning c.args.floor.now c.args.budget z (record { handled = c.handle-handled.result; taken = c.read_all-taken.result; published = c.fill_all-published.result; ended = c.look_for_end-self-inside.result })
+    subst (λ z. Turned g.A.PathAlgebra.meaning c.args.floor.now c.args.budget z
+    (record {
+      handled = c.handle-handled.result;
+      taken = c.read_all-taken.result;
+      published = c.fill_all-published.result;
+      ended = c.look_for_end-self-inside.result;
+    })
     (record { part = c.fill_all-published.new.part; seat = c.look_for_end-self-inside.new.seat; ended = c.look_for_end-self-inside.result })) c.self.view_is
-    (turned g.A.PathAlgebra.meaning laws.lawful c.args.floor.now c.args.budget c.handle-handled.result c.read_all-taken.result c.fill_all-published.result (record { part = i.part; seat = i.seat; ended = i.ended })
-    c.read_all-taken.new.seat c.fill_all-published.new.seat c.look_for_end-self-inside.new.seat c.read_all-taken.new.part c.handle-handled.new.self c.fill_all-published.new.part c.look_for_end-self-inside.result c.if-self.false
+    (turned g.A.PathAlgebra.meaning laws.lawful c.args.floor.now c.args.budget c.handle-handled.result c.read_all-taken.result
+    c.fill_all-published.result (record { part = i.part; seat = i.seat; ended = i.ended })
+    c.read_all-taken.new.seat c.fill_all-published.new.seat c.look_for_end-self-inside.new.seat c.read_all-taken.new.part c.handle-handled.new.self
+    c.fill_all-published.new.part c.look_for_end-self-inside.result c.if-self.false
     c.read_all-taken.ensures.part h.setup h.shard h.taken h.events h.budget h.all e.ready c.read_all-taken.ensures.own c.read_all-taken.ensures.tried c.fill_all-published.ensures.tried e.looked)

@@ -1,5 +1,0 @@
-use Rattle.std.proofs.Common.{[], ◌∷◌}
-use Rattle.post_floor.proofs.exchange.post.Given as goal
-
-abbrev pub ghosts-publish_word : goal.ghosts-publish_word
-ghosts-publish_word g a = record { parts = a.part.now ∷ [] }

@@ -1,8 +1,0 @@
-use Rattle.std.proofs.Common.{rules, arith}
-use Rattle.post_floor.proofs.Told.{looks_told}
-use Rattle.post_floor.proofs.words.look_word.Goals as goal
-
-pub load-requires : goal.load-requires
-load-requires g c =
-    let laws = g.met.A.PathAlgebra g.world.𝓛 g.world.𝓜 g.world.𝓡 ((λ s x. x), (λ x. x), (λ x. x), λ x. x) in
-    (search rules, omega (arith, c.requires.table.words, c.requires.done), looks_told g.A.PathAlgebra.meaning c.args.table.now.key laws.lawful c.requires.table.planned _ _ _ _ _ _ c.requires.done c.requires.told c.requires.moved)

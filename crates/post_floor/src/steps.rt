@@ -1,0 +1,123 @@
+//! One atomic step each. The part is picked for the proof: `W` has it, alone in a list.
+ghost use Rattle.std.specs.Prelude.{◌≡◌, ◌≢◌, true, ◌<◌, [], ◌∷◌};
+ghost use Rattle.shard_part.specs.Readings.{has_ended};
+ghost use Rattle.post_floor.specs.Boxes.{box_count, dest, origin};
+ghost use Rattle.post_floor.specs.Floor.{fill_claims, read_claims};
+ghost use Rattle.post_floor.specs.Plays.{HasEmpty, FillStep, PublishStep, ReadStep, ClearStep, LookStep, AnnounceStep};
+ghost use Rattle.post_floor.specs.Data.{AtTable, Publishing};
+
+use crate::mailbox::{DONE, EMPTY, FILLING, FULL, READING};
+use crate::plays::{Announce, Clear, Fill, Look, OfPart, Publish, Read};
+use crate::table::{Mailboxes, Pass};
+use path_algebra::PathAlgebra;
+use shard_part::Part;
+
+/// A mailbox that is empty is being filled.
+pub(crate) fn fill_word<A: PathAlgebra, W: OfPart<A, A::Value>>(
+    table: &Mailboxes<A>,
+    pass: &mut Pass<A>,
+    part: &Part<'_, A>,
+    word: usize,
+) -> u64
+    requires told { W.parts ≡ part.now ∷ [] }
+    requires at { AtTable A.meaning table.now.table_id table.now.key pass.old.table_id pass.old.me.0
+        part.now }
+    requires word { word < box_count table.now.key.plan.shards }
+    ensures pass { (pass.new.table_id ≡ pass.old.table_id) × (pass.new.id ≡ pass.old.id) }
+    ensures told { FillStep A.meaning part.now word pass.old.me result pass.new.me }
+{
+    table.compare_exchange::<Fill<W>>(pass, word, EMPTY, FILLING)
+}
+
+/// A mailbox with the part's outbox in its slot is full.
+pub(crate) fn publish_word<A: PathAlgebra, W: OfPart<A, A::Value>>(
+    table: &Mailboxes<A>,
+    pass: &mut Pass<A>,
+    part: &Part<'_, A>,
+    word: usize,
+)
+    requires told { W.parts ≡ part.now ∷ [] }
+    requires batch { Publishing A.meaning table.now.table_id table.now.key pass.old.table_id word
+        part.now pass.old.me }
+    requires claim { 0 < fill_claims word pass.old.me.0 }
+    requires word { word < box_count table.now.key.plan.shards }
+    ensures pass { (pass.new.table_id ≡ pass.old.table_id) × (pass.new.id ≡ pass.old.id) }
+    ensures told { PublishStep A.meaning part.now word pass.old.me pass.new.me }
+{
+    table.store::<Publish<W>>(pass, word, FULL);
+}
+
+/// A mailbox that is full is being read.
+pub(crate) fn read_word<A: PathAlgebra, W: OfPart<A, A::Value>>(
+    table: &Mailboxes<A>,
+    pass: &mut Pass<A>,
+    part: &Part<'_, A>,
+    word: usize,
+) -> u64
+    requires told { W.parts ≡ part.now ∷ [] }
+    requires at { AtTable A.meaning table.now.table_id table.now.key pass.old.table_id pass.old.me.0
+        part.now }
+    requires word { word < box_count table.now.key.plan.shards }
+    requires to { dest table.now.key.plan.shards word ≡ part.now.shard }
+    requires from { origin table.now.key.plan.shards word ≢ part.now.shard }
+    ensures pass { (pass.new.table_id ≡ pass.old.table_id) × (pass.new.id ≡ pass.old.id) }
+    ensures told { ReadStep A.meaning part.now word pass.old.me result pass.new.me }
+{
+    table.compare_exchange::<Read<W>>(pass, word, FULL, READING)
+}
+
+/// A mailbox whose slot is empty again is empty.
+pub(crate) fn clear_word<A: PathAlgebra, W: OfPart<A, A::Value>>(
+    table: &Mailboxes<A>,
+    pass: &mut Pass<A>,
+    part: &Part<'_, A>,
+    word: usize,
+)
+    requires told { W.parts ≡ part.now ∷ [] }
+    requires at { AtTable A.meaning table.now.table_id table.now.key pass.old.table_id pass.old.me.0
+        part.now }
+    requires slot { HasEmpty table.now.key word pass.old.me }
+    requires claim { 0 < read_claims word pass.old.me.0 }
+    requires word { word < box_count table.now.key.plan.shards }
+    ensures pass { (pass.new.table_id ≡ pass.old.table_id) × (pass.new.id ≡ pass.old.id) }
+    ensures told { ClearStep A.meaning part.now word pass.old.me pass.new.me }
+{
+    table.store::<Clear<W>>(pass, word, EMPTY);
+}
+
+/// Reads the done word.
+pub(crate) fn look_word<A: PathAlgebra, W: OfPart<A, A::Value>>(
+    table: &Mailboxes<A>,
+    pass: &mut Pass<A>,
+    part: &Part<'_, A>,
+    done: usize,
+) -> u64
+    requires told { W.parts ≡ part.now ∷ [] }
+    requires at { AtTable A.meaning table.now.table_id table.now.key pass.old.table_id pass.old.me.0
+        part.now }
+    requires done { done ≡ box_count table.now.key.plan.shards }
+    ensures pass { (pass.new.table_id ≡ pass.old.table_id) × (pass.new.id ≡ pass.old.id) }
+    ensures told { LookStep A.meaning part.now (box_count table.now.key.plan.shards) pass.old.me
+        result pass.new.me }
+{
+    table.load::<Look<W>>(pass, done)
+}
+
+/// Announces the end in the done word.
+pub(crate) fn announce_word<A: PathAlgebra, W: OfPart<A, A::Value>>(
+    table: &Mailboxes<A>,
+    pass: &mut Pass<A>,
+    part: &Part<'_, A>,
+    done: usize,
+)
+    requires told { W.parts ≡ part.now ∷ [] }
+    requires at { AtTable A.meaning table.now.table_id table.now.key pass.old.table_id pass.old.me.0
+        part.now }
+    requires ended { has_ended part.now ≡ true }
+    requires done { done ≡ box_count table.now.key.plan.shards }
+    ensures pass { (pass.new.table_id ≡ pass.old.table_id) × (pass.new.id ≡ pass.old.id) }
+    ensures told { AnnounceStep A.meaning part.now (box_count table.now.key.plan.shards) pass.old.me
+        pass.new.me }
+{
+    table.store::<Announce<W>>(pass, done, DONE);
+}

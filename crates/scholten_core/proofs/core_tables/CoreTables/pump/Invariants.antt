@@ -1,0 +1,10 @@
+use Rattle.std.proofs.Common.{◌≡◌}
+use Rattle.scholten_core.specs.CoreView.{network_of, state_of}
+use Rattle.scholten_core.proofs.Offered.{Offered}
+use Rattle.scholten_core.proofs.core_tables.CoreTables.pump.Given as goal
+
+abbrev pub invariant-loop-b : goal.invariant-loop-b
+invariant-loop-b g l = record {
+  same : l.self.question ≡ l.initial.self.question;
+  offered : Offered (g.A.PathAlgebra.meaning l.initial.self.question.algebra) (network_of l.initial.self) l.v l.outgoing l.b-index (state_of l.initial.self) (state_of l.self);
+}

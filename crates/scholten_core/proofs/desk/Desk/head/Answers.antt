@@ -1,6 +1,0 @@
-use Rattle.std.proofs.Common.{ap, ◌∙◌}
-use Rattle.scholten_core.specs.Network.{head_of}
-use Rattle.scholten_core.proofs.desk.Desk.head.Goals as goal
-
-pub returns-clause-head : goal.returns-clause-head
-returns-clause-head g c = c.head_of.ensures.head ∙ ap (λ u. head_of u.question.roads u.question.source c.args.a) c.self.view_is

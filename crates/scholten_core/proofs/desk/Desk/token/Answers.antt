@@ -1,6 +1,0 @@
-use Rattle.std.proofs.Common.{arith}
-use Rattle.std.proofs.lemmas.Grind.{common_steps}
-use Rattle.scholten_core.proofs.desk.Desk.token.Goals as goal
-
-pub returns-else-a-len : goal.returns-else-a-len
-returns-else-a-len g c = grind (arith, common_steps)

@@ -1,0 +1,19 @@
+use Rattle.std.proofs.Common.{◌≡◌, ◌∷◌, [], refl, sym, subst}
+use Rattle.path_algebra.specs.Walks.{IsBestLabel}
+use Rattle.shard_part.specs.Plans.{HasPlanned, shard_in}
+use Rattle.station.proofs.Places.{own_of}
+use Rattle.station.proofs.finished.Finished.label.Goals as goal
+
+pub label-requires-after_bounds : goal.label-requires-after_bounds
+label-requires-after_bounds g c κs within = own_of c.self.inside.part _ c.args.v c.closed_part_holds.ensures.planned
+    (subst (λ z. HasPlanned z.part.setup.plan c.args.v) (sym c.self.view_is) c.requires.vertex) (subst (λ z. shard_in z.part.setup.plan c.args.v ≡ z.part.shard) (sym c.self.view_is) c.requires.own)
+
+pub returns : goal.returns
+returns g c =
+    let p = c.self.inside.part in let meaning = g.A.PathAlgebra.meaning in
+    let own = own_of p _ c.args.v c.closed_part_holds.ensures.planned
+    (subst (λ z. HasPlanned z.part.setup.plan c.args.v) (sym c.self.view_is) c.requires.vertex)
+    (subst (λ z. shard_in z.part.setup.plan c.args.v ≡ z.part.shard) (sym c.self.view_is) c.requires.own) in
+    subst (λ z. IsBestLabel (meaning z.part.setup.question.algebra) z.part.setup.question.roads (z.part.setup.question.source ∷ []) c.args.v c.label.result) c.self.view_is
+    (subst (IsBestLabel (meaning p.setup.question.algebra) p.setup.question.roads (p.setup.question.source ∷ []) c.args.v) (sym c.label.ensures)
+    ((c.self.invariant.0.over refl).part.best c.args.v own))

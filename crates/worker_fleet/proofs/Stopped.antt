@@ -1,0 +1,36 @@
+-- What the fault of a group says of its workers and their gate.
+use Rattle.std.proofs.Common.{ℕ, ◌<◌, Bool, List, get_or, subst, Vec, arith}
+use Rattle.path_algebra.specs.Algebra.{Algebra}
+use Rattle.post_floor.specs.Data.{FloorData}
+use Rattle.station.specs.Station.{StationData}
+use Rattle.worker_fleet.specs.declared.group.GroupFault.{GroupFault}
+use Rattle.worker_fleet.specs.declared.group.GroupFault.TheVariants.{Memory, Stalled, Gated}
+use Rattle.worker_fleet.specs.Drives.{LetsTurn}
+use Rattle.worker_fleet.specs.Stops.{IsStop, Says}
+use Rattle.worker_fleet.proofs.Grouped.{one_of}
+
+module _ {A V Z : Type 0} (meaning : A → Algebra V) (floors : List (FloorData A)) (budget limit workers : ℕ) (answers : ℕ → ℕ → Bool → Type 0) (questions : List (Vec (StationData A V) Z)) where
+  pub IsStop-says : (fault : GroupFault) → IsStop meaning floors budget limit workers answers questions fault → Says answers workers limit fault
+  IsStop-says Memory s = tt
+  IsStop-says Stalled s =
+      let below : s.first.worker < workers = omega (arith, s.count, s.first.inside) in
+      let d = one_of s.all (omega (arith, s.first.inside)) in
+      let drove = s.drove s.first.worker d below in
+      record {
+        worker = s.first.worker;
+        below = below;
+        asked = subst (λ (n : ℕ). LetsTurn answers s.first.worker n) (drove.stalled (s.first.stopped d)) drove.asked;
+      }
+  IsStop-says Gated s =
+      let below : s.first.worker < workers = omega (arith, s.count, s.first.inside) in
+      let d = one_of s.all (omega (arith, s.first.inside)) in
+      let drove = s.drove s.first.worker d below in
+      let closed = drove.gated (s.first.stopped d) in
+      record {
+        worker = s.first.worker;
+        turns = (get_or s.all s.first.worker d).turns;
+        below = below;
+        within = closed.0;
+        asked = drove.asked;
+        closed = closed.1;
+      }

@@ -1,0 +1,53 @@
+-- Why a group of questions is not run to its end.
+use Rattle.std.specs.Prelude.{◌≡◌, ℕ, ◌+◌, ◌<◌, Bool, false, List, length, Vec, slice_index_or}
+use Rattle.std.specs.List.{AllWithin, HoldsAt}
+use Rattle.path_algebra.specs.Algebra.{Algebra}
+use Rattle.post_floor.specs.Data.{FloorData}
+use Rattle.station.specs.Station.{StationData}
+use Rattle.worker_fleet.specs.declared.driving.Driven.{Driven}
+use Rattle.worker_fleet.specs.declared.driving.Outcome.TheVariants as outcomes
+use Rattle.worker_fleet.specs.declared.group.GroupFault.{GroupFault}
+use Rattle.worker_fleet.specs.declared.group.GroupFault.TheVariants.{Memory, Stalled, Gated}
+use Rattle.worker_fleet.specs.Dealt.{share_of}
+use Rattle.worker_fleet.specs.Drives.{Drives, LetsTurn}
+
+-- the worker stopped before the end, and this fault says why
+abbrev pub StopsBy : {A V : Type 0} → GroupFault → Driven A V → Type 0
+StopsBy Memory r = ⊥
+StopsBy Stalled r = r.outcome ≡ outcomes.Stalled
+StopsBy Gated r = r.outcome ≡ outcomes.Gated
+
+-- of all these workers the least numbered that stopped before the end did so by this fault
+pub record IsFirstStop {A V : Type 0} (all : List (Driven A V)) (fault : GroupFault) : Type 0 where
+  pub worker : ℕ
+  pub inside : worker < length all
+  pub stopped : HoldsAt (StopsBy fault) all worker
+  pub earlier : AllWithin (λ r. r.outcome ≡ outcomes.Ended) all 0 worker
+
+-- each worker drove its share of the questions' stations, and the least numbered that stopped before the end did so by this fault
+pub record IsStop {A V Z : Type 0} (meaning : A → Algebra V) (floors : List (FloorData A)) (budget limit workers : ℕ) (answers : ℕ → ℕ → Bool → Type 0) (questions : List (Vec (StationData A V) Z)) (fault : GroupFault) : Type 0 where
+  pub all : List (Driven A V)
+  pub count : length all ≡ workers
+  pub drove : (w : ℕ) (d : Driven A V) → w < workers → Drives meaning floors budget limit answers w (share_of workers w 0 questions) (slice_index_or all w d)
+  pub first : IsFirstStop all fault
+
+-- some worker of so many made each turn up to the limit
+pub record Stalls (answers : ℕ → ℕ → Bool → Type 0) (workers limit : ℕ) : Type 0 where
+  pub worker : ℕ
+  pub below : worker < workers
+  pub asked : LetsTurn answers worker limit
+
+-- some worker of so many made its first turns, fewer than the limit, and was answered false before the next
+pub record Closes (answers : ℕ → ℕ → Bool → Type 0) (workers limit : ℕ) : Type 0 where
+  pub worker : ℕ
+  pub turns : ℕ
+  pub below : worker < workers
+  pub within : turns < limit
+  pub asked : LetsTurn answers worker turns
+  pub closed : answers worker (turns + 1) false
+
+-- what such a fault says of the workers and their gate: of want of memory, or of a thread, nothing
+abbrev pub Says : (ℕ → ℕ → Bool → Type 0) → (workers limit : ℕ) → GroupFault → Type 0
+Says answers workers limit Memory = Unit {0}
+Says answers workers limit Stalled = Stalls answers workers limit
+Says answers workers limit Gated = Closes answers workers limit

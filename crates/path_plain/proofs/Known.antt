@@ -27,7 +27,7 @@ pub record Search {V : Type 0} (A : Algebra V) (g : Roads) (sources : List ℕ) 
   pub current : (a : ℕ) → Contains pending a → HasArc g a × IsSettled settled (arc_of g a).tail × (label_of labels (arc_of g a).tail ≡ Some x)
 
 module _ {V : Type 0} (A : Algebra V) (lawful : IsLawful A) (g : Roads) (roads : IsRoads g) (sources : List ℕ) where
-  none_settled : (v : ℕ) → HasVertex g v → IsSettled (replicate g.vertices false) v → ⊥
+  pub none_settled : (v : ℕ) → HasVertex g v → IsSettled (replicate g.vertices false) v → ⊥
   none_settled v in_v h =
       let f : get_or (replicate g.vertices false) (v - 1) false ≡ false = get_or-replicate g.vertices (v - 1) false false (omega (arith, in_v.0, in_v.1)) in
       let bad : false ≡ true = sym f ∙ h in cc
@@ -47,13 +47,13 @@ module _ {V : Type 0} (A : Algebra V) (lawful : IsLawful A) (g : Roads) (roads :
 
 module _ {V : Type 0} (A : Algebra V) (lawful : IsLawful A) (g : Roads) (roads : IsRoads g) (sources : List ℕ) (labels : List (Option V)) (settled : List Bool) (x y : V) (i : ℕ) (out : List ℕ)
     (known : Search A g sources labels settled x []) (best : IsBestOpen A.no_worse labels settled g.vertices i y) (lists : ListsArcsFrom g (i + 1) out) where
-  picked : (v : ℕ) → HasVertex g v → IsSettled (set settled i true) v → ((v ≡ i + 1) × (label_of labels v ≡ Some y)) ⊎ (IsSettled settled v)
+  pub picked : (v : ℕ) → HasVertex g v → IsSettled (set settled i true) v → ((v ≡ i + 1) × (label_of labels v ≡ Some y)) ⊎ (IsSettled settled v)
   picked v in_v h = elim (cases_eq (v - 1) i) [
     | inl same ↦ inl (omega (arith, in_v.0), ap (λ (j : ℕ). get_or labels j None) same ∙ best.label)
     | inr other ↦ inr (sym (get_or-set_other settled i (v - 1) true false other) ∙ h)
   ]
 
-  not_picked : (v : ℕ) → get_or (set settled i true) (v - 1) false ≡ false → get_or settled (v - 1) false ≡ false
+  pub not_picked : (v : ℕ) → get_or (set settled i true) (v - 1) false ≡ false → get_or settled (v - 1) false ≡ false
   not_picked v h = elim (cases_eq (v - 1) i) [
     | inl same ↦ let lt : i < length settled = omega (arith, best.below, known.settled_count) in
         let t : get_or (set settled i true) (v - 1) false ≡ true = rw same (get_or-set_same settled i true false lt) in
@@ -61,7 +61,7 @@ module _ {V : Type 0} (A : Algebra V) (lawful : IsLawful A) (g : Roads) (roads :
     | inr other ↦ sym (get_or-set_other settled i (v - 1) true false other) ∙ h
   ]
 
-  now_settled : IsSettled (set settled i true) (i + 1)
+  pub now_settled : IsSettled (set settled i true) (i + 1)
   now_settled =
       let lt : i < length settled = omega (arith, best.below, known.settled_count) in
       let e : (i + 1) - 1 ≡ i = omega arith in

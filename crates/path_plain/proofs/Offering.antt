@@ -163,7 +163,7 @@ module _ {V : Type 0} (A : Algebra V) (lawful : IsLawful A) (g : Roads) (roads :
     current = λ b h. known.current b (suc h.0, omega (arith, h.1), h.2);
   }
 
-  search_arc : (labels : List (Option V)) (a : ℕ) (rest : List ℕ) → Search A g sources labels settled x (a ∷ rest) → (o : Option V) → A.extend x (arc_of g a).weight ≡ o →
+  pub search_arc : (labels : List (Option V)) (a : ℕ) (rest : List ℕ) → Search A g sources labels settled x (a ∷ rest) → (o : Option V) → A.extend x (arc_of g a).weight ≡ o →
       Search A g sources (offered_if A.no_worse labels (arc_of g a).head o) settled x rest
   search_arc labels a rest known None ex = search_refused labels a rest known ex
   search_arc labels a rest known (Some z) ex = search_offer A lawful g roads sources inside settled x labels a rest known z ex

@@ -12,7 +12,7 @@ use Rattle.road_graph.specs.Roads.{Roads, IsAscendingFrom, ListsArcsFrom}
 use Rattle.road_graph.proofs.Lists.{head_or_tail, here, later}
 use Rattle.path_algebra.specs.Algebra.{IsOrder}
 use Rattle.path_algebra.specs.Open.{IsBestOpen}
-use Rattle.path_plain.specs.Order.{by_place, told, open_cmp}
+use Rattle.path_plain.specs.Order.{by_number, told, open_cmp}
 use Rattle.path_plain.specs.Queue.{IsQueue}
 use Rattle.path_plain.specs.Ties.{IsFirstOfEquals}
 
@@ -91,7 +91,7 @@ module _ {K V : Type 0} (value : K → V) (place : K → ℕ) (no_worse : V → 
           let passed : K → Type 0 = λ x. is_lt (open_cmp value place no_worse top x) ≡ false in
           let p : passed e = All-contains passed items e (All-from_recursion passed items upper) h in
           told no_worse (value top, place top) (value e, place e)
-          (not_less (by_place no_worse (value top, place top) (value e, place e)) (by_place no_worse (value e, place e) (value top, place top)) p)
+          (not_less (by_number no_worse (value top, place top) (value e, place e)) (by_number no_worse (value e, place e) (value top, place top)) p)
 
       -- the top entry is the best open vertex
       pub queue_best : get_or settled (place top) false ≡ false → IsBestOpen no_worse labels settled (length labels) (place top) (value top)

@@ -57,9 +57,9 @@ module _ {V : Type 0} (no_worse : V → V → Bool) (ordered : IsOrder no_worse)
   pub value_total : IsTotalOrder (value_cmp no_worse)
   value_total = record { antisymm = value_antisymm; trans = value_trans; congr = value_congr }
 
--- no worse in value, and where both values are as good no greater place
-abbrev pub by_place : {V : Type 0} → (V → V → Bool) → V × ℕ → V × ℕ → Bool
-by_place no_worse a b = cond (no_worse a.0 b.0) (cond (no_worse b.0 a.0) (leb a.1 b.1) true) false
+-- no worse in value, and where both values are as good no greater number
+abbrev pub by_number : {V : Type 0} → (V → V → Bool) → V × ℕ → V × ℕ → Bool
+by_number no_worse a b = cond (no_worse a.0 b.0) (cond (no_worse b.0 a.0) (leb a.1 b.1) true) false
 
 split : (p q r : Bool) → IsTrue (cond p (cond q r true) false) → IsTrue p × (IsTrue q → IsTrue r)
 split true true r h = (refl, λ _. h)
@@ -76,12 +76,12 @@ either a b = elim (leb_tells a b) [ inl h ↦ inl h.1 | inr h ↦ (let l = h.1 i
 
 module _ {V : Type 0} (no_worse : V → V → Bool) where
   -- what it says
-  pub told : (a b : V × ℕ) → IsTrue (by_place no_worse a b) → IsTrue (no_worse a.0 b.0) × (IsTrue (no_worse b.0 a.0) → a.1 ≤ b.1)
+  pub told : (a b : V × ℕ) → IsTrue (by_number no_worse a b) → IsTrue (no_worse a.0 b.0) × (IsTrue (no_worse b.0 a.0) → a.1 ≤ b.1)
   told a b h =
       let s = split (no_worse a.0 b.0) (no_worse b.0 a.0) (leb a.1 b.1) h in
       (s.0, λ k. leb-true a.1 b.1 (s.1 k))
 
-  pub tells : (a b : V × ℕ) → IsTrue (no_worse a.0 b.0) → (IsTrue (no_worse b.0 a.0) → a.1 ≤ b.1) → IsTrue (by_place no_worse a b)
+  pub tells : (a b : V × ℕ) → IsTrue (no_worse a.0 b.0) → (IsTrue (no_worse b.0 a.0) → a.1 ≤ b.1) → IsTrue (by_number no_worse a b)
   tells a b h k = join (no_worse a.0 b.0) (no_worse b.0 a.0) (leb a.1 b.1) h (λ t. le-leb a.1 b.1 (k t))
 
   module _ (ordered : IsOrder no_worse) where
@@ -92,8 +92,8 @@ module _ {V : Type 0} (no_worse : V → V → Bool) where
     total_of false true h a b = inr refl
     total_of false false h a b = elim h [ inl e ↦ cc | inr e ↦ cc ]
 
-    pub by_place_order : IsOrder (by_place no_worse)
-    by_place_order = record {
+    pub by_number_order : IsOrder (by_number no_worse)
+    by_number_order = record {
       total = λ a b. total_of (no_worse a.0 b.0) (no_worse b.0 a.0) (ordered.total a.0 b.0) a.1 b.1;
       transitive = λ a b c h k.
           let s = told a b h in
@@ -114,10 +114,10 @@ module _ {V : Type 0} (no_worse : V → V → Bool) where
 
 -- entries by their values, and where these tie the lesser place is greater: equal only if both are equal
 abbrev pub open_cmp : {K V : Type 0} → (K → V) → (K → ℕ) → (V → V → Bool) → K → K → Ordering
-open_cmp value place no_worse = on (λ o. (value o, place o)) (value_cmp (by_place no_worse))
+open_cmp value place no_worse = on (λ o. (value o, place o)) (value_cmp (by_number no_worse))
 
 pub open_total : {K V : Type 0} (value : K → V) (place : K → ℕ) (no_worse : V → V → Bool) → IsOrder no_worse → IsTotalOrder (open_cmp value place no_worse)
-open_total value place no_worse ordered = on_total (λ o. (value o, place o)) (value_total (by_place no_worse) (by_place_order no_worse ordered))
+open_total value place no_worse ordered = on_total (λ o. (value o, place o)) (value_total (by_number no_worse) (by_number_order no_worse ordered))
 
 -- only entries of the same value and the same place are equal
 pub open_equal : {K V : Type 0} (value : K → V) (place : K → ℕ) (no_worse : V → V → Bool) → IsOrder no_worse → (a b : K) →
@@ -125,7 +125,7 @@ pub open_equal : {K V : Type 0} (value : K → V) (place : K → ℕ) (no_worse 
 open_equal {V = V} value place no_worse ordered a b e =
     let x : V × ℕ = (value a, place a) in
     let y : V × ℕ = (value b, place b) in
-    let order = by_place_order no_worse ordered in
-    let both = equal_of (by_place no_worse) order (by_place no_worse x y) (by_place no_worse y x) e in
+    let order = by_number_order no_worse ordered in
+    let both = equal_of (by_number no_worse) order (by_number no_worse x y) (by_number no_worse y x) e in
     let same : x ≡ y = order.antisymmetric x y both.0 both.1 in
     (ap (λ (p : V × ℕ). p.0) same, ap (λ (p : V × ℕ). p.1) same)

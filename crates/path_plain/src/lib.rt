@@ -9,4 +9,4 @@ mod search;
 mod solve;
 
 pub use laws::best_values_exist;
-pub use solve::{solve_from, solve_one};
+pub use solve::{solve_from, solve_one, solve_outgoing};

@@ -35,13 +35,14 @@ impl<A: PathAlgebra> Ord for Open<A> {
     fn cmp(&self, other: &Self) -> Ordering {
         let (a, b) = (self.value, other.value);
         let (i, j) = (self.place, other.place);
-        if !A::no_worse(a, b) {
+        let (above, below) = (A::no_worse(a, b), A::no_worse(b, a));
+        let ties = above & below;
+        // Chosen without a jump: which value is better cannot be foreseen.
+        let is_less = if ties { i > j } else { !above };
+        let is_greater = if ties { i < j } else { !below };
+        if is_less {
             Ordering::Less
-        } else if !A::no_worse(b, a) {
-            Ordering::Greater
-        } else if i > j {
-            Ordering::Less
-        } else if i < j {
+        } else if is_greater {
             Ordering::Greater
         } else {
             Ordering::Equal

@@ -8,7 +8,7 @@ ghost use Rattle.path_plain.specs.Searching.{IsSameSearch, Relaxes, Proceeds};
 
 use crate::queue::Queue;
 use path_algebra::{Labels, PathAlgebra, laws_hold};
-use road_graph::{Graph, Memory, Vertex};
+use road_graph::{Memory, OutGraph, Vertex};
 use std::alloc::Global;
 use std::marker::Model;
 
@@ -16,7 +16,7 @@ use std::marker::Model;
 #[derive(Drop)]
 pub(crate) struct Search<'g, A: PathAlgebra> {
     algebra: A,
-    graph: &'g Graph,
+    graph: &'g OutGraph,
     labels: Vec<Option<A::Value>>,
     settled: Vec<bool>,
     queue: Queue<A>,
@@ -38,7 +38,7 @@ impl<'g, A: PathAlgebra> Search<'g, A> {
     pub(crate) fn open(
         alloc: Global,
         algebra: A,
-        graph: &'g Graph,
+        graph: &'g OutGraph,
         sources: &[Vertex],
     ) -> Result<Self, Memory>
         requires { All (HasVertex graph.now) sources.now }

@@ -6,16 +6,16 @@ ghost use Rattle.path_algebra.specs.Walks.{AreBest};
 
 use crate::search::Search;
 use path_algebra::{Labels, PathAlgebra, laws_hold};
-use road_graph::{Graph, Memory, Vertex};
+use road_graph::{Graph, Memory, OutGraph, Vertex};
 use std::alloc::Global;
 
 /// The best value of each vertex over all walks from some source of the list, and none where no walk has a value. Sources may repeat.
 ///
 /// Vertices are settled best first, each once; an entry of the queue that has become stale is dropped when it comes up.
-pub fn solve_from<A: PathAlgebra>(
+pub fn solve_outgoing<A: PathAlgebra>(
     alloc: Global,
     algebra: A,
-    graph: &Graph,
+    graph: &OutGraph,
     sources: &[Vertex],
 ) -> Result<Labels<A::Value>, Memory>
     requires { All (HasVertex graph.now) sources.now }
@@ -26,6 +26,19 @@ pub fn solve_from<A: PathAlgebra>(
     let mut search = Search::open(alloc, algebra, graph, sources)?;
     while search.settle_next()? {}
     Ok(search.into_labels())
+}
+
+/// The same, in a graph that has its arcs by number and by head too.
+pub fn solve_from<A: PathAlgebra>(
+    alloc: Global,
+    algebra: A,
+    graph: &Graph,
+    sources: &[Vertex],
+) -> Result<Labels<A::Value>, Memory>
+    requires { All (HasVertex graph.now) sources.now }
+    ensures { IfOk result (λ labels. AreBest (A.meaning algebra) graph.now sources.now labels) }
+{
+    solve_outgoing(alloc, algebra, graph.outgoing(), sources)
 }
 
 /// The best value of each vertex over all walks from the source, and none where no walk has a value.

@@ -1,5 +1,5 @@
 //! Graphs by arcs, by tail and by head, with what was worked out by hand.
-use road_graph::{ArcNo, Graph, GraphFault, OutRoad, RoadArc, Vertex};
+use road_graph::{ArcNo, Graph, GraphFault, InGraph, OutGraph, OutRoad, RoadArc, Vertex};
 use std::alloc::Global;
 use std::process::Abort;
 
@@ -127,6 +127,57 @@ fn rows_by_tail_and_head(rt: HostRuntime) {
     assert_rows(&rt, &graph, 4, &[3], &[3]);
     assert_rows(&rt, &graph, 5, &[5], &[]);
     assert_roads(&rt, &graph, 1, &[road(2, 4), road(3, 1), road(3, 9)]);
+}
+
+/// Asserts which roads leave a vertex, and of the arcs that enter it the tails and weights.
+fn assert_ways(
+    rt: &impl Abort,
+    (out, into): (&OutGraph, &InGraph),
+    v: u32,
+    leaving: &[OutRoad],
+    entering: &[OutRoad],
+) {
+    assert!(rt; out.has(Vertex(v)));
+    assert!(rt; out.roads_from(Vertex(v)) == leaving);
+    assert!(rt; 1 <= v && v <= into.vertices());
+    assert!(rt; into.roads_into(Vertex(v)) == entering);
+}
+
+#[test]
+fn rows_by_one_side_alone(rt: HostRuntime) {
+    let graph = five_vertices(rt.alloc()).expect(&rt, "memory");
+    let out = graph.outgoing();
+    let into = InGraph::of(rt.alloc(), out).expect(&rt, "memory");
+    assert!(rt; out.vertices() == 5);
+    assert!(rt; out.arcs() == 6);
+    let leaving = [road(2, 4), road(3, 1), road(3, 9)];
+    assert_ways(&rt, (out, &into), 1, &leaving, &[road(5, 3)]);
+    assert_ways(&rt, (out, &into), 2, &[], &[road(1, 4), road(3, 2)]);
+    assert_ways(
+        &rt,
+        (out, &into),
+        3,
+        &[road(2, 2)],
+        &[road(1, 1), road(1, 9)],
+    );
+    assert_ways(&rt, (out, &into), 4, &[road(4, 0)], &[road(4, 0)]);
+    assert_ways(&rt, (out, &into), 5, &[road(1, 3)], &[]);
+}
+
+/// A graph of outgoing rows refuses the same arcs.
+#[test]
+fn outgoing_refusals_hand_back(rt: HostRuntime) {
+    let alloc = rt.alloc();
+    let arcs = vec![in alloc; arc(1, 2, 7), arc(3, 1, 8)].expect(&rt, "memory");
+    let (fault, back) = match OutGraph::new(alloc, 2, arcs) {
+        Ok(_) => panic!(rt; "taken"),
+        Err(refusal) => refusal,
+    };
+    assert!(rt; fault == GraphFault::BadEnd(ArcNo(2)));
+    assert!(rt; back.as_slice() == [arc(1, 2, 7), arc(3, 1, 8)].as_slice());
+    let taken = OutGraph::new(alloc, 3, back).ok().expect(&rt, "memory");
+    assert!(rt; taken.has(Vertex(3)));
+    assert!(rt; taken.roads_from(Vertex(3)) == [road(1, 8)].as_slice());
 }
 
 /// The graph tells of each of its arcs what it is, and where it stands among those that leave its tail.

@@ -3,9 +3,9 @@
 use crate::graphs::{FIVE, graph_of};
 use crate::trees::{assert_vertices, tree_from};
 use path_algebra::{Hops, PathAlgebra, Reach, Reliable, Shortest, Widest, Within};
-use path_plain::solve_one;
-use road_graph::{Graph, Vertex};
-use route_tree::{PairRoute, Tree, route, route_between};
+use path_plain::{solve_one, solve_outgoing};
+use road_graph::{Graph, InGraph, OutGraph, Vertex};
+use route_tree::{PairRoute, Tree, route, route_between, route_outgoing};
 use std::process::Abort;
 
 /// The route between two vertices, or none.
@@ -21,6 +21,22 @@ fn found_between<A: PathAlgebra>(
     assert!(rt; graph.has(target));
     let labels = solve_one(rt.alloc(), algebra, graph, source).expect(rt, "memory");
     route_between(rt.alloc(), algebra, graph, source, target, &labels).expect(rt, "memory")
+}
+
+/// The same, over rows by tail and rows by head alone.
+fn found_outgoing<A: PathAlgebra>(
+    rt: &(impl Abort + AllocGlobal),
+    algebra: A,
+    graph: &OutGraph,
+    source: u32,
+    target: u32,
+) -> Option<PairRoute> {
+    let (source, target) = (Vertex(source), Vertex(target));
+    assert!(rt; graph.has(source));
+    assert!(rt; graph.has(target));
+    let back = InGraph::of(rt.alloc(), graph).expect(rt, "memory");
+    let labels = solve_outgoing(rt.alloc(), algebra, graph, &[source]).expect(rt, "memory");
+    route_outgoing(rt.alloc(), algebra, graph, &back, source, target, &labels).expect(rt, "memory")
 }
 
 /// Whether the route between two vertices goes through these; through none where no walk has a value.
@@ -70,6 +86,8 @@ fn assert_all_from<A: PathAlgebra>(
     let tree = tree_from(rt, algebra, graph, source);
     for target in 1..=graph.vertices() {
         let found = found_between(rt, algebra, graph, source, target);
+        assert_of_tree(rt, &tree, Vertex(target), &found);
+        let found = found_outgoing(rt, algebra, graph.outgoing(), source, target);
         assert_of_tree(rt, &tree, Vertex(target), &found);
     }
 }

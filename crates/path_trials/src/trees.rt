@@ -7,13 +7,14 @@ ghost use Rattle.path_algebra.specs.Walks.{AreBest};
 use crate::graphs::{FIVE, graph_of};
 use path_algebra::{Labels, PathAlgebra, Reach, Shortest, Widest, Within, merged_labels_are_best};
 use path_plain::solve_one;
-use road_graph::{Graph, Memory, Vertex};
+use road_graph::{Graph, Memory, OutGraph, Vertex};
 use route_tree::{
     Tree, hops_tell_reached, labels_and_trees_agree, route, routes_follow_parents, tree,
     trees_exist,
 };
 use std::alloc::Global;
 use std::process::Abort;
+use tree_search::solve_with_tree;
 
 /// Whether each vertex has these hops and this parent, where 0 stands for none.
 fn assert_tree(rt: &(impl Abort + AllocGlobal), found: &Tree, wanted: &[(Option<u32>, u32)]) {
@@ -43,7 +44,21 @@ pub(crate) fn tree_from<A: PathAlgebra>(
     tree(rt.alloc(), algebra, graph, &[source], &labels).expect(rt, "memory")
 }
 
-/// Asserts the hops and the parents in the tree of the best labels from one source, where 0 stands for none.
+/// The tree that one search from a source finds with the best labels.
+fn searched_from<A: PathAlgebra>(
+    rt: &(impl Abort + AllocGlobal),
+    algebra: A,
+    graph: &OutGraph,
+    source: u32,
+) -> Tree {
+    let source = Vertex(source);
+    assert!(rt; graph.has(source));
+    let (_, found) = solve_with_tree(rt.alloc(), algebra, graph, &[source]).expect(rt, "memory");
+    found
+}
+
+/// Asserts the hops and the parents in the tree of the best labels from one source, where 0 is none: in one that is found from
+/// the labels, and in one that is found with them.
 fn assert_tree_from<A: PathAlgebra>(
     rt: &(impl Abort + AllocGlobal),
     algebra: A,
@@ -52,6 +67,8 @@ fn assert_tree_from<A: PathAlgebra>(
     wanted: &[(Option<u32>, u32)],
 ) {
     assert_tree(rt, &tree_from(rt, algebra, graph, source), wanted);
+    let searched = searched_from(rt, algebra, graph.outgoing(), source);
+    assert_tree(rt, &searched, wanted);
 }
 
 /// Asserts that a list has these vertices.

@@ -3,7 +3,7 @@ use Rattle.std.proofs.Common.{◌≡◌, ℕ, ◌+◌, ◌-◌, ◌<◌, ◌≤�
 use Rattle.std.proofs.lemmas.Bool.{cases_eq}
 use Rattle.std.proofs.lemmas.List.{get_or-map, get_or_default, length-map}
 use Rattle.road_graph.specs.declared.OutRoad.{OutRoad}
-use Rattle.road_graph.specs.declared.compact.IndexEntry.{IndexEntry}
+use Rattle.road_graph.specs.declared.index.IndexEntry.{IndexEntry}
 use Rattle.road_graph.specs.declared.Side.TheVariants.{Tail}
 use Rattle.road_graph.specs.Roads.{Roads, IsRoads, HasArc, IsTurn, ListsRoadsFrom, arc_of, road_of, roads_of}
 use Rattle.road_graph.specs.Making.{AreRows, IsEntry, IsIndex, end_of}
@@ -15,7 +15,7 @@ tail_read : (g : Roads) (tails : List ℕ) → tails ≡ map (end_of Tail) g.arc
 tail_read g tails are a arc =
     ap (λ xs. get_or xs (a - 1) 0) are ∙ get_or-map (end_of Tail) g.arcs (a - 1) (record { tail = 0; head = 0; weight = 0 }) 0 (omega (arith, arc.0, arc.1))
 
-road_read : (g : Roads) (numbers : List ℕ) (roads : List OutRoad) → roads ≡ roads_of g numbers → (k : ℕ) → k < length numbers → (d : OutRoad) →
+pub road_read : (g : Roads) (numbers : List ℕ) (roads : List OutRoad) → roads ≡ roads_of g numbers → (k : ℕ) → k < length numbers → (d : OutRoad) →
     get_or roads k d ≡ road_of (arc_of g (get_or numbers k 0))
 road_read g numbers roads are k lt d = ap (λ xs. get_or xs k d) are ∙ get_or-map (λ a. road_of (arc_of g a)) numbers k 0 d lt
 

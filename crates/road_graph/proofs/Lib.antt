@@ -7,3 +7,5 @@ pub mod Reading
 pub mod Rising
 pub mod Places
 pub mod Entries
+pub mod OneRows
+pub mod Reversing

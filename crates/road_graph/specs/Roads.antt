@@ -64,3 +64,20 @@ roads_of g numbers = map (λ a. road_of (arc_of g a)) numbers
 -- the roads of exactly the arcs that leave v, in ascending order of the arcs' numbers
 abbrev pub ListsRoadsFrom : Roads → ℕ → List OutRoad → Type 0
 ListsRoadsFrom g v roads = (numbers : List ℕ) × ListsArcsFrom g v numbers × (roads ≡ roads_of g numbers)
+
+-- an arc turned round
+abbrev pub turned : RoadArc → RoadArc
+turned a = record { tail = a.head; head = a.tail; weight = a.weight }
+
+-- on the same vertices r has the arcs of g turned round, each once, in any order
+pub record IsReversed (g r : Roads) : Type 0 where
+  pub vertices : r.vertices ≡ g.vertices
+  pub numbers : List ℕ
+  pub complete : (a : ℕ) → Contains numbers a ↔ HasArc g a
+  pub count : length numbers ≡ length g.arcs
+  pub arcs : r.arcs ≡ map (λ a. turned (arc_of g a)) numbers
+
+-- the roads of exactly the arcs that enter v, each turned round, in any order
+abbrev pub ListsRoadsInto : Roads → ℕ → List OutRoad → Type 0
+ListsRoadsInto g v roads =
+    (numbers : List ℕ) × ((a : ℕ) → Contains numbers a ↔ (HasArc g a × ((arc_of g a).head ≡ v))) × (roads ≡ map (λ a. road_of (turned (arc_of g a))) numbers)

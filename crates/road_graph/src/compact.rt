@@ -1,23 +1,16 @@
 //! The graph.
 
-ghost use Rattle.std.specs.Prelude.{◌≡◌, ℕ, ◌+◌, ◌-◌, ◌<◌, ◌≤◌, ◌↔◌, ◌^◌, length, map, slice_index, Contains};
-ghost use Rattle.std.specs.Prelude.{IsTrue, IfOk, MatchResult, MatchOption};
-ghost use Rattle.road_graph.specs.Roads.{JoinsVertices, IsRoads, IsAscendingFrom};
-ghost use Rattle.road_graph.specs.Making.{IsFirstBad, HasInRow, StandsAt};
+ghost use Rattle.std.specs.Prelude.{◌≡◌, ◌≤◌, ◌↔◌, ◌^◌, length, IsTrue, MatchResult};
+ghost use Rattle.road_graph.specs.Roads.{IsRoads};
 
-use crate::rows::{Rows, roads_at, rows_of, tails_of};
+use crate::bad_ends::first_bad;
+use crate::index::{IndexEntry, entries_of};
+use crate::lookup::{out_in, road_in, turn_in};
+use crate::out_graph::OutGraph;
+use crate::rows::{Rows, roads_at, row_of, rows_of, tails_of};
 use crate::{ArcNo, GraphFault, Memory, OutRoad, RoadArc, Side, Vertex};
-use std::alloc::{AllocError, Global};
-use std::fmt;
+use std::alloc::Global;
 use std::marker::Model;
-use std::snapshot::Snapshot;
-
-/// What the index tells of an arc: its tail, and where it stands among the arcs that leave that.
-#[derive(Debug, Clone, Copy)]
-pub(crate) struct IndexEntry {
-    tail: Vertex,
-    turn: u32,
-}
 
 /// How the ends of an arc are told by its number.
 #[derive(Debug, Drop)]
@@ -32,114 +25,32 @@ enum Ends {
 ///
 /// It takes 20 bytes for each arc and 8 for each vertex: heads and weights stand once, in the order of the outgoing rows.
 /// Once indexed it takes 4 bytes more for each arc, and one load tells the tail of an arc and where it stands among those that leave it.
-#[derive(Drop)]
+#[derive(Debug, Drop)]
 pub struct Graph {
-    vertices: u32,
-    arcs: Snapshot<Vec<RoadArc>>,
-    out_rows: Rows,
-    out_roads: Vec<OutRoad>,
+    out: OutGraph,
+    out_numbers: Vec<ArcNo>,
     into_rows: Rows,
     ends: Ends,
 }
 
-impl fmt::Debug for Graph {
-    fn fmt<F: fmt::Write>(&self, f: &mut fmt::Formatter<F>) -> fmt::Result {
-        f.debug_struct("Graph")
-            .field("vertices", &self.vertices)
-            .field("out_rows", &self.out_rows)
-            .field("out_roads", &self.out_roads)
-            .field("into_rows", &self.into_rows)
-            .field("ends", &self.ends)
-            .finish()
-    }
-}
-
 impl Model for Graph {
-    ghost use Rattle.std.specs.Prelude.{◌≡◌};
-    ghost use Rattle.road_graph.specs.Roads.{Roads, IsRoads, roads_of};
-    ghost use Rattle.road_graph.specs.Making.{AreRows, IsEnds};
+    ghost use Rattle.road_graph.specs.Roads.{Roads, IsRoads};
+    ghost use Rattle.road_graph.specs.Making.{AreRows, AreNumbers, IsEnds};
     ghost use Rattle.road_graph.specs.declared.Side.TheVariants.{Tail, Head};
 
     ghost Value = { Roads };
 
-    ghost view = { λ g. record { vertices = g.vertices; arcs = g.arcs.value.items } };
+    ghost view = { λ g. g.out };
 
     ghost invariant = { λ g.
-        IsRoads (record { vertices = g.vertices; arcs = g.arcs.value.items })
-        × AreRows Tail g.vertices g.arcs.value.items g.out_rows.starts.items g.out_rows.numbers.items
-        × AreRows Head g.vertices g.arcs.value.items g.into_rows.starts.items g.into_rows.numbers.items
-        × (g.out_roads.items ≡ roads_of (record { vertices = g.vertices; arcs = g.arcs.value.items }) g.out_rows.numbers.items)
-        × IsEnds (record { vertices = g.vertices; arcs = g.arcs.value.items }) g.ends };
-}
-
-fn joins(arc: RoadArc, n: u32) -> bool
-    ensures joins { IsTrue result ↔ JoinsVertices n arc }
-    ensures fits { arc.weight < 2 ^ 32 }
-{
-    // That a weight fits its type is known once it is read.
-    let _weight = arc.weight;
-    let (tail, head) = (arc.tail.0, arc.head.0);
-    1 <= tail && tail <= n && 1 <= head && head <= n
-}
-
-/// The first arc with an end outside 1 to n.
-fn first_bad(n: u32, arcs: &[RoadArc]) -> Option<ArcNo>
-    requires few_vertices { n ≤ 2 ^ 25 }
-    requires few_arcs { length arcs.now ≤ 2 ^ 27 }
-    ensures { MatchOption result (IsRoads (record { vertices = n; arcs = arcs.now })) (IsFirstBad n arcs.now) }
-{
-    for (i, arc) in arcs.iter().enumerate() {
-        if !joins(*arc, n) {
-            return Some(ArcNo(i as u32 + 1));
-        }
-    }
-    None
-}
-
-/// Where the row of a vertex starts and ends.
-fn range_of(starts: &[u32], v: Vertex) -> (usize, usize)
-    requires low { 1 ≤ v }
-    requires high { v < length starts.now }
-    ensures start { result.0 ≡ slice_index starts.now (v - 1) }
-    ensures end { result.1 ≡ slice_index starts.now v }
-{
-    (
-        starts[v.0 as usize - 1] as usize,
-        starts[v.0 as usize] as usize,
-    )
-}
-
-/// Where an arc stands in a row.
-fn place_of(row: &[ArcNo], a: ArcNo) -> usize
-    requires ascending { IsAscendingFrom 0 row.now }
-    requires listed { Contains row.now a }
-    ensures place { result < length row.now }
-    ensures number { slice_index row.now result ≡ a }
-{
-    // The row has the arc, so it is found: a place to put it in is never answered.
-    match row.binary_search(&a) {
-        Ok(at) | Err(at) => at,
-    }
-}
-
-/// Where an arc stands in the rows, looked for in that of its tail. Where arcs are numbered in the order of the rows, it is found at the first look.
-fn find_place(rows: &Rows, tail: Vertex, a: ArcNo) -> usize
-    requires low { 1 ≤ a }
-    requires row { HasInRow rows.now.starts.items rows.now.numbers.items tail a }
-    ensures { StandsAt rows.now.numbers.items a result }
-{
-    let numbers = &rows.numbers;
-    let guess = a.0 as usize - 1;
-    if guess < numbers.len() && numbers[guess] == a {
-        return guess;
-    }
-    let (start, end) = range_of(&rows.starts, tail);
-    start + place_of(&numbers[start..end], a)
+        IsRoads g.out
+        × AreNumbers Tail g.out g.out_numbers.items
+        × AreRows Head g.out.vertices g.out.arcs g.into_rows.starts.items g.into_rows.numbers.items
+        × IsEnds g.out g.ends };
 }
 
 impl Graph {
-    ghost use Rattle.road_graph.specs.Making.{IsRefusal, IsIndex, end_of};
-    ghost use Rattle.road_graph.specs.declared.Side.TheVariants.{Tail};
+    ghost use Rattle.road_graph.specs.Making.{IsRefusal};
     ghost use Rattle.road_graph.specs.Roads.{Roads, HasVertex, HasArc, arc_of, road_of};
     ghost use Rattle.road_graph.specs.Roads.{IsTurn, ListsArcsFrom, ListsArcsInto, ListsRoadsFrom};
 
@@ -163,7 +74,7 @@ impl Graph {
         let Ok(out_rows) = rows_of(alloc, n, &arcs, Side::Tail) else {
             return Err((GraphFault::Memory, arcs));
         };
-        let Ok(out_roads) = roads_at(alloc, &arcs, &out_rows.numbers) else {
+        let Ok(roads) = roads_at(alloc, &arcs, &out_rows.numbers) else {
             return Err((GraphFault::Memory, arcs));
         };
         let Ok(into_rows) = rows_of(alloc, n, &arcs, Side::Head) else {
@@ -173,10 +84,8 @@ impl Graph {
             return Err((GraphFault::Memory, arcs));
         };
         Ok(Graph {
-            vertices: n,
-            arcs: Snapshot::of(&arcs),
-            out_rows,
-            out_roads,
+            out: OutGraph::of_rows(n, &arcs, out_rows.starts, roads),
+            out_numbers: out_rows.numbers,
             into_rows,
             ends: Ends::Tails(tails),
         })
@@ -190,30 +99,9 @@ impl Graph {
         ensures { self.new ≡ self.old }
     {
         if let Ends::Tails(tails) = &self.ends {
-            self.ends = Ends::Index(self.entries(alloc, tails)?);
+            self.ends = Ends::Index(entries_of(alloc, &self.out, &self.out_numbers, tails)?);
         }
         Ok(())
-    }
-
-    /// The entries of all arcs, in the order of their numbers.
-    fn entries(&self, alloc: Global, tails: &[Vertex]) -> Result<Vec<IndexEntry>, AllocError>
-        requires { tails.now ≡ map (end_of Tail) self.now.arcs }
-        ensures { IfOk result (λ entries. IsIndex self.now entries.items) }
-    {
-        let blank = IndexEntry {
-            tail: Vertex(0),
-            turn: 0,
-        };
-        let mut entries = vec![in alloc; blank; tails.len()]?;
-        for (place, number) in self.out_rows.numbers.iter().enumerate() {
-            let at = number.0 as usize - 1;
-            let tail = tails[at];
-            entries[at] = IndexEntry {
-                tail,
-                turn: place as u32 - self.out_rows.starts[tail.0 as usize - 1],
-            };
-        }
-        Ok(entries)
     }
 
     /// How many vertices there are.
@@ -222,21 +110,21 @@ impl Graph {
         // What holds of every graph, for callers that lean on it.
         ensures roads { IsRoads self.now }
     {
-        self.vertices
+        self.out.vertices()
     }
 
     /// How many arcs there are.
     pub fn arcs(&self) -> usize
         ensures { result ≡ length self.now.arcs }
     {
-        self.out_roads.len()
+        self.out.arcs()
     }
 
     /// Whether v is a vertex of this graph.
     pub fn has(&self, v: Vertex) -> bool
         ensures { IsTrue result ↔ HasVertex self.now v }
     {
-        1 <= v.0 && v.0 <= self.vertices
+        self.out.has(v)
     }
 
     /// The arc of a number.
@@ -278,7 +166,7 @@ impl Graph {
         ensures { result ≡ road_of (arc_of self.now a) }
     {
         match &self.ends {
-            Ends::Tails(_) => self.out_roads[find_place(&self.out_rows, self.tail(a), a)],
+            Ends::Tails(_) => road_in(&self.out, &self.out_numbers, self.tail(a), a),
             Ends::Index(entries) => {
                 let entry = entries[a.0 as usize - 1];
                 self.roads_from(entry.tail)[entry.turn as usize]
@@ -292,11 +180,7 @@ impl Graph {
         ensures { IsTurn self.now a result }
     {
         match &self.ends {
-            Ends::Tails(_) => {
-                let tail = self.tail(a);
-                let (start, _) = range_of(&self.out_rows.starts, tail);
-                find_place(&self.out_rows, tail, a) - start
-            }
+            Ends::Tails(_) => turn_in(&self.out, &self.out_numbers, self.tail(a), a),
             Ends::Index(entries) => entries[a.0 as usize - 1].turn as usize,
         }
     }
@@ -306,8 +190,7 @@ impl Graph {
         requires { HasVertex self.now v }
         ensures { ListsArcsFrom self.now v result.now }
     {
-        let (start, end) = range_of(&self.out_rows.starts, v);
-        &self.out_rows.numbers[start..end]
+        out_in(&self.out, &self.out_numbers, v)
     }
 
     /// The arcs that enter a vertex, in ascending order.
@@ -315,8 +198,7 @@ impl Graph {
         requires { HasVertex self.now v }
         ensures { ListsArcsInto self.now v result.now }
     {
-        let (start, end) = range_of(&self.into_rows.starts, v);
-        &self.into_rows.numbers[start..end]
+        row_of(&self.into_rows.starts, &self.into_rows.numbers, v)
     }
 
     /// The heads and weights of the arcs that leave a vertex, in the order of `out`.
@@ -324,7 +206,13 @@ impl Graph {
         requires { HasVertex self.now v }
         ensures { ListsRoadsFrom self.now v result.now }
     {
-        let (start, end) = range_of(&self.out_rows.starts, v);
-        &self.out_roads[start..end]
+        self.out.roads_from(v)
+    }
+
+    /// The same graph with its arcs by tail alone.
+    pub fn outgoing(&self) -> &OutGraph
+        ensures { result.now ≡ self.now }
+    {
+        &self.out
     }
 }

@@ -2,13 +2,21 @@
 //!
 //! Vertices and arcs are numbered from 1. For each direction the numbers of the arcs stand in one
 //! list, vertex by vertex, and a list of offsets says where the row of each vertex starts. Heads and
-//! weights stand in the order of the outgoing rows too, for whoever goes along all of them.
+//! weights stand in the order of the outgoing rows too, for whoever goes along all of them: with the
+//! offsets of these rows they are a graph by themselves, `OutGraph`.
 #![tactic(auto)]
 
+mod bad_ends;
 mod compact;
+mod in_graph;
+mod index;
+mod lookup;
+mod out_graph;
 mod rows;
 
 pub use compact::Graph;
+pub use in_graph::InGraph;
+pub use out_graph::OutGraph;
 use std::alloc::AllocError;
 use std::marker::Model;
 

@@ -1,11 +1,12 @@
 -- The search from a target back.
-use Rattle.std.proofs.Common.{add-one, ◌≡◌, ℕ, suc, ◌+◌, ◌-◌, ◌<◌, ◌≤◌, ◌⊎◌, inl, inr, Bool, true, false, cond, List, [], ◌∷◌, ◌++◌, length, get_or, set, replicate, drop, drop-cons, refl, ap, sym, ◌∙◌, subst, arith, get_or-set_same, get_or-set_other, length-set}
+use Rattle.std.proofs.Common.{add-one, ◌≡◌, ℕ, suc, ◌+◌, ◌-◌, ◌<◌, ◌≤◌, ◌⊎◌, inl, inr, Bool, true, false, cond, List, [], ◌∷◌, ◌++◌, length, get_or, set, replicate, drop, drop-cons, map, refl, ap, sym, ◌∙◌, subst, arith, get_or-set_same, get_or-set_other, length-set}
 use Rattle.std.proofs.Math.ListN.{drop_of_length-le}
 use Rattle.std.proofs.lemmas.Bool.{cases_eq}
-use Rattle.std.proofs.lemmas.List.{get_or-replicate, length-replicate}
+use Rattle.std.proofs.lemmas.List.{get_or-replicate, length-replicate, length-map, get_or-map, get_or_default}
 use Rattle.std.proofs.lemmas.List.Elements.{All-nil, All-cons, All-head, All-tail, Contains-append_left, Contains-append_right, Contains-append_cases}
-use Rattle.std.specs.Prelude.{IsTrue, Contains, All}
-use Rattle.road_graph.specs.Roads.{Roads, IsRoads, HasArc, HasVertex, arc_of, ListsArcsInto}
+use Rattle.std.specs.Prelude.{IsTrue, Contains, All, ◌↔◌}
+use Rattle.road_graph.specs.declared.OutRoad.{OutRoad}
+use Rattle.road_graph.specs.Roads.{Roads, IsRoads, HasArc, HasVertex, arc_of, road_of, turned}
 use Rattle.road_graph.proofs.Lists.{not_in_empty, head_or_tail, here, later}
 use Rattle.path_algebra.specs.Walks.{IsWalk, is_marked}
 use Rattle.route_tree.specs.Regions.{IsWithin, Covers, VisitingBack}
@@ -59,7 +60,7 @@ module _ (g : Roads) (roads : IsRoads g) (test : ℕ → Bool) (target : ℕ) wh
 
   module _ (k : ℕ) (marks : List Bool) where
     -- the first vertex that waits gives way to its arcs
-    pub back_open : (v : ℕ) (pending next arcs : List ℕ) → ListsArcsInto g v arcs → VisitingBack g test target k marks (v ∷ pending) [] next →
+    pub back_open : (v : ℕ) (pending next arcs : List ℕ) → ((a : ℕ) → Contains arcs a ↔ (HasArc g a × ((arc_of g a).head ≡ v))) → VisitingBack g test target k marks (v ∷ pending) [] next →
         VisitingBack g test target k marks pending arcs next
     back_open v pending next arcs lists known = record {
       count = known.count;
@@ -67,11 +68,11 @@ module _ (g : Roads) (roads : IsRoads g) (test : ℕ → Bool) (target : ℕ) wh
       complete = known.complete;
       pending_at = λ u h. known.pending_at u (later v u pending h);
       next_at = known.next_at;
-      arcs_at = λ a h. let f = (lists.complete a).0 h in (f.0, subst (λ (u : ℕ). IsWithin g test target k u) (sym f.1) ((known.pending_at v (here v pending)).1));
+      arcs_at = λ a h. let f = (lists a).0 h in (f.0, subst (λ (u : ℕ). IsWithin g test target k u) (sym f.1) ((known.pending_at v (here v pending)).1));
       closed = λ a h t m. elim (known.closed a h t m) [
         | inl none ↦ absurd (not_in_empty a none)
         | inr r ↦ elim r [
-          | inl waits ↦ elim (head_or_tail v (arc_of g a).head pending waits) [ inl same ↦ inl ((lists.complete a).1 (h, sym same)) | inr q ↦ inr (inl q) ]
+          | inl waits ↦ elim (head_or_tail v (arc_of g a).head pending waits) [ inl same ↦ inl ((lists a).1 (h, sym same)) | inr q ↦ inr (inl q) ]
           | inr s ↦ inr (inr s)
         ]
       ];
@@ -254,3 +255,16 @@ module _ (g : Roads) (test : ℕ → Bool) (target k : ℕ) (marks : List Bool) 
   level_once level next i v marks' next' lt is goes known =
       let cut : drop i level ≡ v ∷ drop (i + 1) level = rw add-one (drop-cons level i v lt ∙ ap (λ (b : ℕ). b ∷ drop (suc i) level) (sym is)) in
       goes (drop (i + 1) level) (rw cut at known)
+
+-- the arc at a place of a row, as it is turned round
+module _ (g : Roads) (numbers : List ℕ) (row : List OutRoad) (v : ℕ) (lists : (a : ℕ) → Contains numbers a ↔ (HasArc g a × ((arc_of g a).head ≡ v))) (are : row ≡ map (λ a. road_of (turned (arc_of g a))) numbers) where
+  pub as_long : length row ≡ length numbers
+  as_long = rw are (simp length-map)
+
+  pub turned_at : (i : ℕ) (r : OutRoad) → i < length row → r ≡ get_or row i r →
+      HasArc g (get_or numbers i 0) × ((arc_of g (get_or numbers i 0)).head ≡ v) × (r ≡ road_of (turned (arc_of g (get_or numbers i 0))))
+  turned_at i r lt is =
+      let in_numbers : i < length numbers = omega (arith, as_long) in
+      let at : get_or row i r ≡ road_of (turned (arc_of g (get_or numbers i 0))) = ap (λ (o : List OutRoad). get_or o i r) are ∙ get_or-map (λ a. road_of (turned (arc_of g a))) numbers i 0 r in_numbers in
+      let has = (lists (get_or numbers i 0)).0 (i, in_numbers, get_or_default numbers i (get_or numbers i 0) 0 in_numbers) in
+      (has.0, has.1, is ∙ at)

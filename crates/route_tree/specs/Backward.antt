@@ -1,6 +1,6 @@
 -- The state of a search from a target back over tight arcs, and its steps.
 use Rattle.std.specs.Prelude.{◌≡◌, ℕ, ◌+◌, List, [], ◌∷◌, length, All, Bool, false, cond, Option}
-use Rattle.road_graph.specs.Roads.{Roads, IsRoads, HasVertex, arc_of}
+use Rattle.road_graph.specs.Roads.{Roads, IsRoads, HasVertex}
 use Rattle.path_algebra.specs.Algebra.{Algebra}
 use Rattle.path_algebra.specs.Walks.{label_of, is_marked, is_tight, is_tight_between}
 use Rattle.route_tree.specs.Regions.{VisitingBack}
@@ -23,11 +23,9 @@ pub record IsBackward {V : Type 0} (g : Roads) (labels : List (Option V)) (marks
 abbrev pub passes_back : {A V : Type 0} → Algebra V → BackwardState A V → ℕ → Bool
 passes_back meaning s = is_tight meaning s.over.roads s.over.labels
 
--- whether the tail of an arc, whose head has this label, is found
-abbrev pub finds_tail : {A V : Type 0} → Algebra V → BackwardState A V → ℕ → Option V → Bool
-finds_tail meaning s a far =
-    cond (is_marked s.marks (arc_of s.over.roads a).tail) false
-    (is_tight_between meaning (label_of s.over.labels (arc_of s.over.roads a).tail) (arc_of s.over.roads a).weight far)
+-- whether the tail of an arc of this weight, whose head has this label, is found
+abbrev pub finds_tail : {A V : Type 0} → Algebra V → BackwardState A V → ℕ → ℕ → Option V → Bool
+finds_tail meaning s tail weight far = cond (is_marked s.marks tail) false (is_tight_between meaning (label_of s.over.labels tail) weight far)
 
 -- v is visited, whatever waits after it
 abbrev pub VisitsBack : {A V : Type 0} → Algebra V → ℕ → BackwardState A V → BackwardState A V → Type 0

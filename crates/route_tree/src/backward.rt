@@ -1,23 +1,24 @@
 //! The search from a target back over tight arcs, level by level, for the vertices that a route to it may go through.
 
 ghost use Rattle.std.specs.Prelude.{◌≡◌, ◌+◌, ◌-◌, ◌≤◌, ◌<◌, [], ◌∷◌, ◌++◌, All, IfOk, OnOk, cond, eqb, false, length, replicate, slice_set, true};
-ghost use Rattle.road_graph.specs.Roads.{HasArc, HasVertex, arc_of};
+ghost use Rattle.road_graph.specs.Roads.{HasVertex};
 ghost use Rattle.path_algebra.specs.Walks.{is_marked, is_tight};
 ghost use Rattle.route_tree.specs.Regions.{Covers, unmarked};
 ghost use Rattle.route_tree.specs.Backward.{VisitsBack, VisitsAllBack, VisitsLevelBack, finds_tail};
 
+use crate::entering::Entering;
 use crate::tightness::is_tight;
 use path_algebra::{Labels, PathAlgebra};
-use road_graph::{ArcNo, Graph, Memory, Vertex};
+use road_graph::{Memory, OutRoad, Vertex};
 use std::alloc::{AllocError, Global};
 use std::marker::Model;
 use std::mem;
 
 /// The search while it goes on.
 #[derive(Drop)]
-struct Backward<'g, A: PathAlgebra> {
+struct Backward<'g, A: PathAlgebra, G: Entering> {
     algebra: A,
-    graph: &'g Graph,
+    graph: &'g G,
     labels: &'g Labels<A::Value>,
     /// Whether a vertex was found.
     marks: Vec<bool>,
@@ -25,32 +26,32 @@ struct Backward<'g, A: PathAlgebra> {
     next: Vec<Vertex>,
 }
 
-impl<'g, A: PathAlgebra> Model for Backward<'g, A> {
+impl<'g, A: PathAlgebra, G: Entering> Model for Backward<'g, A, G> {
     ghost use Rattle.route_tree.specs.Backward.{BackwardState, IsBackward};
 
     ghost Value = { BackwardState A A.Value };
 
-    ghost view = { λ s. record { over = record { algebra = s.algebra; roads = s.graph.now; labels = s.labels.now }; marks = s.marks.items; next = s.next.items } };
+    ghost view = { λ s. record { over = record { algebra = s.algebra; roads = G.roads s.graph.now; labels = s.labels.now }; marks = s.marks.items; next = s.next.items } };
 
-    ghost invariant = { λ s. IsBackward s.graph.now s.labels.now s.marks.items s.next.items };
+    ghost invariant = { λ s. IsBackward (G.roads s.graph.now) s.labels.now s.marks.items s.next.items };
 }
 
-impl<'g, A: PathAlgebra> Backward<'g, A> {
+impl<'g, A: PathAlgebra, G: Entering> Backward<'g, A, G> {
     /// A search by which the target alone is found.
     fn open(
         alloc: Global,
         algebra: A,
-        graph: &'g Graph,
+        graph: &'g G,
         labels: &'g Labels<A::Value>,
         target: Vertex,
     ) -> Result<Self, Memory>
-        requires target { HasVertex graph.now target }
-        requires labels { length labels.now ≡ graph.now.vertices }
-        ensures over { IfOk result (λ s. s.over ≡ record { algebra = algebra; roads = graph.now; labels = labels.now }) }
-        ensures marks { IfOk result (λ s. s.marks ≡ slice_set (replicate graph.now.vertices false) (target - 1) true) }
+        requires target { HasVertex (G.roads graph.now) target }
+        requires labels { length labels.now ≡ (G.roads graph.now).vertices }
+        ensures over { IfOk result (λ s. s.over ≡ record { algebra = algebra; roads = G.roads graph.now; labels = labels.now }) }
+        ensures marks { IfOk result (λ s. s.marks ≡ slice_set (replicate (G.roads graph.now).vertices false) (target - 1) true) }
         ensures next { IfOk result (λ s. s.next ≡ target ∷ []) }
     {
-        let mut marks = vec![in alloc; false; graph.vertices() as usize]?;
+        let mut marks = vec![in alloc; false; graph.count() as usize]?;
         marks[target.0 as usize - 1] = true;
         let mut next = Vec::new(alloc);
         next.push(target).map_err(AllocError::from)?;
@@ -85,47 +86,46 @@ impl<'g, A: PathAlgebra> Backward<'g, A> {
         Ok(())
     }
 
-    /// Goes back along one arc, whose head has this label.
-    fn try_arc(&mut self, a: ArcNo, far: Option<A::Value>) -> Result<(), Memory>
-        requires arc { HasArc self.old.over.roads a }
-        ensures marks { OnOk result (self.new.marks ≡ cond (finds_tail (A.meaning self.old.over.algebra) self.old a far) (slice_set self.old.marks ((arc_of self.old.over.roads a).tail - 1) true) self.old.marks) }
-        ensures next { OnOk result (self.new.next ≡ cond (finds_tail (A.meaning self.old.over.algebra) self.old a far) (self.old.next ++ ((arc_of self.old.over.roads a).tail ∷ [])) self.old.next) }
+    /// Goes along an arc that is turned round, from a vertex that has this label.
+    fn try_road(&mut self, road: OutRoad, far: Option<A::Value>) -> Result<(), Memory>
+        requires { HasVertex self.old.over.roads road.head }
+        ensures marks { OnOk result (self.new.marks ≡ cond (finds_tail (A.meaning self.old.over.algebra) self.old road.head road.weight far) (slice_set self.old.marks (road.head - 1) true) self.old.marks) }
+        ensures next { OnOk result (self.new.next ≡ cond (finds_tail (A.meaning self.old.over.algebra) self.old road.head road.weight far) (self.old.next ++ (road.head ∷ [])) self.old.next) }
         ensures over { OnOk result (self.new.over ≡ self.old.over) }
         ensures size { OnOk result (unmarked self.new.marks + length self.new.next ≡ unmarked self.old.marks + length self.old.next) }
     {
-        let (algebra, graph) = (self.algebra, self.graph);
-        let tail = graph.tail(a);
-        if !self.has(tail) && is_tight(algebra, self.labels.of(tail), graph.road(a).weight, far) {
+        let tail = road.head;
+        if !self.has(tail) && is_tight(self.algebra, self.labels.of(tail), road.weight, far) {
             self.mark(tail)
         } else {
             Ok(())
         }
     }
 
-    /// Visits a vertex: goes back along the arcs that enter it.
-    fn visit(&mut self, v: Vertex) -> Result<(), Memory>
+    /// Visits a vertex: goes back along the arcs that enter it, for which `row` is room.
+    fn visit(&mut self, v: Vertex, row: &mut Vec<OutRoad>) -> Result<(), Memory>
         requires { HasVertex self.old.over.roads v }
         ensures visits { OnOk result (VisitsBack (A.meaning self.old.over.algebra) v self.old self.new) }
         ensures over { OnOk result (self.new.over ≡ self.old.over) }
         ensures size { OnOk result (unmarked self.new.marks + length self.new.next ≡ unmarked self.old.marks + length self.old.next) }
     {
-        let graph = self.graph;
         let far = self.labels.of(v);
-        for a in graph.into(v) {
-            self.try_arc(*a, far)?;
+        self.graph.list_into(v, row)?;
+        for road in row.as_slice() {
+            self.try_road(*road, far)?;
         }
         Ok(())
     }
 
     /// Visits each vertex of a list.
-    fn visit_all(&mut self, list: &[Vertex]) -> Result<(), Memory>
+    fn visit_all(&mut self, list: &[Vertex], row: &mut Vec<OutRoad>) -> Result<(), Memory>
         requires { All (HasVertex self.old.over.roads) list.now }
         ensures visits { OnOk result (VisitsAllBack (A.meaning self.old.over.algebra) list.now self.old self.new) }
         ensures over { OnOk result (self.new.over ≡ self.old.over) }
         ensures size { OnOk result (unmarked self.new.marks + length self.new.next ≡ unmarked self.old.marks + length self.old.next) }
     {
         for v in list {
-            self.visit(*v)?;
+            self.visit(*v, row)?;
         }
         Ok(())
     }
@@ -138,14 +138,14 @@ impl<'g, A: PathAlgebra> Backward<'g, A> {
     }
 
     /// Visits the vertices that were found last; those that are found then are one arc further from the target.
-    fn visit_level(&mut self, alloc: Global) -> Result<(), Memory>
+    fn visit_level(&mut self, alloc: Global, row: &mut Vec<OutRoad>) -> Result<(), Memory>
         requires waiting { 1 ≤ length self.old.next }
         ensures visits { OnOk result (VisitsLevelBack (A.meaning self.old.over.algebra) self.old self.new) }
         ensures over { OnOk result (self.new.over ≡ self.old.over) }
         ensures fewer { OnOk result (unmarked self.new.marks + length self.new.next < unmarked self.old.marks + length self.old.next) }
     {
         let level = mem::replace(&mut self.next, Vec::new(alloc));
-        self.visit_all(&level)
+        self.visit_all(&level, row)
     }
 
     /// The marks.
@@ -157,23 +157,24 @@ impl<'g, A: PathAlgebra> Backward<'g, A> {
 }
 
 /// Marks of the vertices from which walks of tight arcs lead to the target, level by level until the source is among them.
-pub(crate) fn marks_back<A: PathAlgebra>(
+pub(crate) fn marks_back<A: PathAlgebra, G: Entering>(
     alloc: Global,
     algebra: A,
-    graph: &Graph,
+    graph: &G,
     labels: &Labels<A::Value>,
     source: Vertex,
     target: Vertex,
 ) -> Result<Vec<bool>, Memory>
-    requires source { HasVertex graph.now source }
-    requires target { HasVertex graph.now target }
-    requires labels { length labels.now ≡ graph.now.vertices }
-    ensures { IfOk result (λ marks. Covers graph.now (is_tight (A.meaning algebra) graph.now labels.now) source target marks.items) }
+    requires source { HasVertex (G.roads graph.now) source }
+    requires target { HasVertex (G.roads graph.now) target }
+    requires labels { length labels.now ≡ (G.roads graph.now).vertices }
+    ensures { IfOk result (λ marks. Covers (G.roads graph.now) (is_tight (A.meaning algebra) (G.roads graph.now) labels.now) source target marks.items) }
 {
-    let _n = graph.vertices();
+    let _n = graph.count();
+    let mut row = Vec::new(alloc);
     let mut search = Backward::open(alloc, algebra, graph, labels, target)?;
     while !search.is_done() && !search.has(source) {
-        search.visit_level(alloc)?;
+        search.visit_level(alloc, &mut row)?;
     }
     Ok(search.into_marks())
 }

@@ -10,7 +10,7 @@ use crate::region::Region;
 use crate::slot::NumberSlot;
 use crate::tightness::is_tight;
 use path_algebra::{Labels, PathAlgebra};
-use road_graph::{Graph, Memory, OutRoad, Vertex};
+use road_graph::{Memory, OutGraph, OutRoad, Vertex};
 use std::alloc::{AllocError, Global};
 use std::marker::Model;
 use std::mem;
@@ -19,7 +19,7 @@ use std::mem;
 #[derive(Drop)]
 pub(crate) struct BreadthFirst<'g, A: PathAlgebra> {
     algebra: A,
-    graph: &'g Graph,
+    graph: &'g OutGraph,
     labels: &'g Labels<A::Value>,
     region: &'g Region,
     hops: Vec<NumberSlot>,
@@ -56,7 +56,7 @@ impl<'g, A: PathAlgebra> BreadthFirst<'g, A> {
     pub(crate) fn open(
         alloc: Global,
         algebra: A,
-        graph: &'g Graph,
+        graph: &'g OutGraph,
         labels: &'g Labels<A::Value>,
         region: &'g Region,
         sources: &[Vertex],

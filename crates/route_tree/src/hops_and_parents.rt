@@ -27,6 +27,14 @@ impl Model for Tree {
 impl Tree {
     ghost use Rattle.route_tree.specs.Tree.{hops_of, parent_of, IsLinked};
 
+    /// The tree of these hops and parents, by a solver that found them while it searched.
+    pub fn from_parts(hops: Vec<NumberSlot>, parents: Vec<NumberSlot>) -> Self
+        requires { IsLinked (record { hops = hops.items; parents = parents.items }) }
+        ensures { result ≡ record { hops = hops.items; parents = parents.items } }
+    {
+        Tree { hops, parents }
+    }
+
     /// The number of vertices, which are 1 to this number.
     pub fn vertices(&self) -> usize
         ensures count { result ≡ length self.now.hops }

@@ -8,6 +8,7 @@
 
 mod backward;
 mod breadth_first;
+mod entering;
 mod hops_and_parents;
 mod laws;
 mod region;
@@ -18,5 +19,6 @@ mod tightness;
 
 pub use hops_and_parents::Tree;
 pub use laws::{hops_tell_reached, labels_and_trees_agree, routes_follow_parents, trees_exist};
-pub use routes::{PairRoute, route, route_between};
-pub use tight_tree::tree;
+pub use routes::{PairRoute, route, route_between, route_outgoing};
+pub use slot::NumberSlot;
+pub use tight_tree::{tree, tree_outgoing};

@@ -7,11 +7,12 @@ ghost use Rattle.route_tree.specs.Told.{IsParentRoute};
 ghost use Rattle.route_tree.specs.Tree.{IsRoute, hops_of};
 
 use crate::backward::marks_back;
+use crate::entering::Entering;
 use crate::hops_and_parents::Tree;
 use crate::region::Region;
 use crate::tight_tree::tree_into;
 use path_algebra::{Labels, PathAlgebra, laws_hold};
-use road_graph::{Graph, Memory, Vertex};
+use road_graph::{Graph, InGraph, Memory, OutGraph, Vertex};
 use std::alloc::{AllocError, Global};
 
 fn push(list: &mut Vec<Vertex>, v: Vertex) -> Result<(), Memory>
@@ -52,6 +53,38 @@ pub struct PairRoute {
     pub vertices: Vec<Vertex>,
 }
 
+/// The route from a source to a target in a graph that has its arcs by tail, and by head where `back` is it.
+fn route_in<A: PathAlgebra, G: Entering>(
+    alloc: Global,
+    algebra: A,
+    graph: &OutGraph,
+    back: &G,
+    source: Vertex,
+    target: Vertex,
+    labels: &Labels<A::Value>,
+) -> Result<Option<PairRoute>, Memory>
+    requires back { G.roads back.now ≡ graph.now }
+    requires source { HasVertex graph.now source }
+    requires target { HasVertex graph.now target }
+    requires labels { AreBest (A.meaning algebra) graph.now (source ∷ []) labels.now }
+    ensures { IfOk result (λ found. MatchOption found (IsUnreached (A.meaning algebra) graph.now (source ∷ []) target)
+        (λ r. AreHops (A.meaning algebra) graph.now (source ∷ []) target r.hops
+        × IsParentRoute (A.meaning algebra) graph.now (source ∷ []) target r.vertices.items
+        × (length r.vertices.items ≡ r.hops + 1))) }
+{
+    laws_hold(algebra);
+    let _n = graph.vertices();
+    let region = Region::marked(marks_back(alloc, algebra, back, labels, source, target)?);
+    let tree = tree_into(alloc, algebra, graph, labels, &region, &[source])?;
+    let Some(hops) = tree.hops(target) else {
+        return Ok(None);
+    };
+    let Some(vertices) = route(alloc, &tree, target)? else {
+        return Ok(None);
+    };
+    Ok(Some(PairRoute { hops, vertices }))
+}
+
 /// The route from a source to a target, for labels that are best from that source; none where no walk has a value.
 /// The only error is want of memory.
 ///
@@ -73,15 +106,35 @@ pub fn route_between<A: PathAlgebra>(
         × IsParentRoute (A.meaning algebra) graph.now (source ∷ []) target r.vertices.items
         × (length r.vertices.items ≡ r.hops + 1))) }
 {
-    laws_hold(algebra);
-    let _n = graph.vertices();
-    let region = Region::marked(marks_back(alloc, algebra, graph, labels, source, target)?);
-    let tree = tree_into(alloc, algebra, graph, labels, &region, &[source])?;
-    let Some(hops) = tree.hops(target) else {
-        return Ok(None);
-    };
-    let Some(vertices) = route(alloc, &tree, target)? else {
-        return Ok(None);
-    };
-    Ok(Some(PairRoute { hops, vertices }))
+    route_in(
+        alloc,
+        algebra,
+        graph.outgoing(),
+        graph,
+        source,
+        target,
+        labels,
+    )
+}
+
+/// The same, in a graph that has its arcs by tail alone, with `back`, which has them by head.
+pub fn route_outgoing<A: PathAlgebra>(
+    alloc: Global,
+    algebra: A,
+    graph: &OutGraph,
+    back: &InGraph,
+    source: Vertex,
+    target: Vertex,
+    labels: &Labels<A::Value>,
+) -> Result<Option<PairRoute>, Memory>
+    requires back { back.now ≡ graph.now }
+    requires source { HasVertex graph.now source }
+    requires target { HasVertex graph.now target }
+    requires labels { AreBest (A.meaning algebra) graph.now (source ∷ []) labels.now }
+    ensures { IfOk result (λ found. MatchOption found (IsUnreached (A.meaning algebra) graph.now (source ∷ []) target)
+        (λ r. AreHops (A.meaning algebra) graph.now (source ∷ []) target r.hops
+        × IsParentRoute (A.meaning algebra) graph.now (source ∷ []) target r.vertices.items
+        × (length r.vertices.items ≡ r.hops + 1))) }
+{
+    route_in(alloc, algebra, graph, back, source, target, labels)
 }

@@ -9,7 +9,7 @@ const EMPTY: u32 = u32::MAX;
 
 /// A number below 2^32 - 1, or none. It takes half the room of an `Option<u32>`.
 #[derive(Clone, Copy)]
-pub(crate) struct NumberSlot(u32);
+pub struct NumberSlot(u32);
 
 impl Model for NumberSlot {
     ghost use Rattle.std.specs.Prelude.{ℕ, Option};
@@ -26,14 +26,14 @@ impl Model for NumberSlot {
 
 impl NumberSlot {
     /// No number.
-    pub(crate) fn none() -> Self
+    pub fn none() -> Self
         ensures { result ≡ None }
     {
         NumberSlot(EMPTY)
     }
 
     /// This number.
-    pub(crate) fn some(n: u32) -> Self
+    pub fn some(n: u32) -> Self
         requires { n < 4294967295 }
         ensures { result ≡ Some n }
     {
@@ -41,7 +41,7 @@ impl NumberSlot {
     }
 
     /// The number, if there is one.
-    pub(crate) fn get(self) -> Option<u32>
+    pub fn get(self) -> Option<u32>
         ensures { result ≡ self }
     {
         if self.0 == EMPTY { None } else { Some(self.0) }

@@ -11,14 +11,14 @@ use crate::breadth_first::BreadthFirst;
 use crate::hops_and_parents::Tree;
 use crate::region::Region;
 use path_algebra::{Labels, PathAlgebra, laws_hold};
-use road_graph::{Graph, Memory, Vertex};
+use road_graph::{Graph, Memory, OutGraph, Vertex};
 use std::alloc::Global;
 
 /// The least hops and the least parents over the tight arcs that lead into a region.
 pub(crate) fn tree_into<A: PathAlgebra>(
     alloc: Global,
     algebra: A,
-    graph: &Graph,
+    graph: &OutGraph,
     labels: &Labels<A::Value>,
     region: &Region,
     sources: &[Vertex],
@@ -40,10 +40,10 @@ pub(crate) fn tree_into<A: PathAlgebra>(
 /// The hops and parents of labels that are best from the sources, as a solver gives them. Sources may repeat. The only error is want of memory.
 ///
 /// Each arc that leaves a reached vertex is looked at once; the tree keeps two numbers a vertex.
-pub fn tree<A: PathAlgebra>(
+pub fn tree_outgoing<A: PathAlgebra>(
     alloc: Global,
     algebra: A,
-    graph: &Graph,
+    graph: &OutGraph,
     sources: &[Vertex],
     labels: &Labels<A::Value>,
 ) -> Result<Tree, Memory>
@@ -55,4 +55,19 @@ pub fn tree<A: PathAlgebra>(
     let _n = graph.vertices();
     let tree = tree_into(alloc, algebra, graph, labels, &Region::all(), sources)?;
     Ok(tree)
+}
+
+/// The same, in a graph that has its arcs by number and by head too.
+pub fn tree<A: PathAlgebra>(
+    alloc: Global,
+    algebra: A,
+    graph: &Graph,
+    sources: &[Vertex],
+    labels: &Labels<A::Value>,
+) -> Result<Tree, Memory>
+    requires sources { All (HasVertex graph.now) sources.now }
+    requires labels { AreBest (A.meaning algebra) graph.now sources.now labels.now }
+    ensures { IfOk result (λ tree. IsTree (A.meaning algebra) graph.now sources.now tree) }
+{
+    tree_outgoing(alloc, algebra, graph.outgoing(), sources, labels)
 }

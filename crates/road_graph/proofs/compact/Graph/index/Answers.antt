@@ -4,6 +4,3 @@ use Rattle.road_graph.proofs.compact.Graph.index.Goals as goal
 
 pub invariant_of-self : goal.invariant_of-self
 invariant_of-self c = grind (arith, common_steps)
-
-pub invariant_of-self-in_ok-entries-2 : goal.invariant_of-self-in_ok-entries-2
-invariant_of-self-in_ok-entries-2 c = grind (arith, common_steps)

@@ -1,15 +1,19 @@
-use Rattle.std.proofs.Common.{◌≡◌, ◌-◌, take, drop, subst, sym, get_or}
+use Rattle.std.proofs.Common.{◌≡◌, ◌-◌, List, ℕ, take, drop, refl, subst, sym, get_or}
 use Rattle.road_graph.specs.Roads.{Roads, HasVertex, ListsArcsInto}
+use Rattle.road_graph.specs.Making.{AreRows}
+use Rattle.road_graph.specs.declared.Side.TheVariants.{Head}
 use Rattle.road_graph.proofs.Reading.{row_lists_into}
 use Rattle.road_graph.proofs.compact.Graph.into.Goals as goal
 
 pub returns : goal.returns
 returns c =
-    let G : Roads = record { vertices = c.self.inside.vertices; arcs = c.self.inside.arcs.value.items } in
+    let G : Roads = c.self.inside.out in
     let is : G ≡ c.args.self.now = c.self.view_is in
     let in_v : HasVertex G c.args.v = subst (λ (h : Roads). HasVertex h c.args.v) (sym is) c.requires in
-    let starts = c.self.inside.into_rows.starts.items in
-    let start : c.range_of-start.result.0 ≡ get_or starts (c.args.v - 1) 0 = rw (← c.deref.ensures.value) c.range_of-start.ensures.start in
-    let past : c.range_of-start.result.1 ≡ get_or starts c.args.v 0 = rw (← c.deref.ensures.value) c.range_of-start.ensures.end in
-    subst (λ (h : Roads). ListsArcsInto h c.args.v (take (c.range_of-start.result.1 - c.range_of-start.result.0) (drop c.range_of-start.result.0 c.deref-2.result.now))) is
-    (row_lists_into G c.args.v in_v starts c.self.inside.into_rows.numbers.items c.range_of-start.result.0 c.range_of-start.result.1 start past c.deref-2.result.now c.deref-2.ensures.value c.self.invariant.2)
+    let starts = c.deref.result.now in
+    let start = get_or starts (c.args.v - 1) 0 in
+    let past = get_or starts c.args.v 0 in
+    let rows = subst (λ (xs : List ℕ). AreRows Head G.vertices G.arcs xs c.self.inside.into_rows.numbers.items) (sym c.deref.ensures.value) c.self.invariant.2 in
+    subst (λ (xs : List ℕ). ListsArcsInto c.args.self.now c.args.v xs) (sym c.row_of.ensures)
+    (subst (λ (h : Roads). ListsArcsInto h c.args.v (take (past - start) (drop start c.deref-2.result.now))) is
+    (row_lists_into G c.args.v in_v starts c.self.inside.into_rows.numbers.items start past refl refl c.deref-2.result.now c.deref-2.ensures.value rows))

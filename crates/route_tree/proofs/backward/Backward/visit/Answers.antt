@@ -1,49 +1,63 @@
-use Rattle.std.proofs.Common.{◌≡◌, refl, ap, sym, ◌∙◌, arith, subst}
-use Rattle.road_graph.specs.Roads.{Roads, IsRoads, HasArc, ListsArcsInto, arc_of}
+use Rattle.std.proofs.Common.{◌≡◌, ◌<◌, length, refl, ap, sym, ◌∙◌, arith, subst, get_or}
+use Rattle.std.proofs.lemmas.List.{get_or_default}
+use Rattle.road_graph.specs.Roads.{Roads, IsRoads, HasVertex, ListsRoadsInto, arc_of}
+use Rattle.road_graph.specs.declared.OutRoad.{OutRoad}
 use Rattle.path_algebra.specs.Walks.{label_of}
 use Rattle.route_tree.specs.Backward.{passes_back}
-use Rattle.route_tree.proofs.VisitingBack.{back_open, back_once, row_done}
+use Rattle.route_tree.proofs.VisitingBack.{back_open, back_once, row_done, as_long, turned_at}
 use Rattle.route_tree.proofs.backward.Backward.visit.Goals as goal
 
-pub loop-a-init : goal.loop-a-init
-loop-a-init g c =
+pub loop-road-init : goal.loop-road-init
+loop-road-init g c =
     let s = c.args.self.now in
     let roads = subst (λ (g : Roads). IsRoads g) (λ i. (c.self.view_is i).over.roads) c.self.invariant.roads in
     record {
-      goes = λ target k pending lists known. back_open s.over.roads roads (passes_back (g.A.PathAlgebra.meaning s.over.algebra) s) target k _ c.args.v pending _ _ lists known;
+      goes = λ target k pending numbers lists are known. back_open s.over.roads roads (passes_back (g.A.PathAlgebra.meaning s.over.algebra) s) target k _ c.args.v pending _ _ lists known;
       over = refl;
       size = refl;
     }
 
-pub try_arc-requires-clause-arc : goal.try_arc-requires-clause-arc
-try_arc-requires-clause-arc g c κs within =
-    let here : c.self.inside.graph.now ≡ c.args.self.now.over.roads = λ i. (c.self.view_is i).over.roads in
-    let there : c.loop-a.self.over.roads ≡ c.args.self.now.over.roads = λ i. (c.loop-a.invariant.over i).roads in
-    subst (λ (g : Roads). HasArc g c.a-item.result) (here ∙ sym there) (((c.into-a-items.ensures.complete c.a-item.result).0 (c.loop-a.a-index, c.loop-a-test.true, sym c.a-item.is)).0)
+pub try_road-requires-after_bounds : goal.try_road-requires-after_bounds
+try_road-requires-after_bounds g c κs within =
+    let roads = g.G.Entering.roads c.self.inside.graph.now in
+    let lists = c.in_ok-list_into.ensures in
+    let at = turned_at roads lists.0 c.as_slice-road-items.result.now c.args.v lists.1 (c.as_slice-road-items.ensures.value ∙ lists.2) c.loop-road.road-index c.road-item.result c.loop-road-test.true c.road-item.is in
+    let in_graph = subst (λ (r : OutRoad). HasVertex roads r.head) (sym at.2) ((c.self.invariant.roads.ends (get_or lists.0 c.loop-road.road-index 0) at.0).0) in
+    let here : roads ≡ c.args.self.now.over.roads = λ i. (c.self.view_is i).over.roads in
+    let there : c.loop-road.self.over.roads ≡ c.args.self.now.over.roads = λ i. (c.loop-road.invariant.over i).roads in
+    subst (λ (g : Roads). HasVertex g c.road-item.result.head) (here ∙ sym there) in_graph
 
-pub loop-a-preserved : goal.loop-a-preserved
-loop-a-preserved g c =
+pub loop-road-preserved : goal.loop-road-preserved
+loop-road-preserved g c =
     let s = c.args.self.now in
-    let over = c.loop-a.invariant.over in
+    let over = c.loop-road.invariant.over in
     let meaning = g.A.PathAlgebra.meaning s.over.algebra in
     let roads = subst (λ (g : Roads). IsRoads g) (λ i. (c.self.view_is i).over.roads) c.self.invariant.roads in
-    let lists = subst (λ (g : Roads). ListsArcsInto g c.args.v c.into-a-items.result.now) (λ i. (c.self.view_is i).over.roads) c.into-a-items.ensures in
-    let a = c.a-item.result in
-    let enters = ((lists.complete a).0 (c.loop-a.a-index, c.loop-a-test.true, sym c.a-item.is)).1 in
+    let r = c.road-item.result in
     let here : c.of-far.result ≡ label_of s.over.labels c.args.v = c.of-far.ensures ∙ (λ i. label_of (c.self.view_is i).over.labels c.args.v) in
-    let far : c.of-far.result ≡ label_of s.over.labels (arc_of s.over.roads a).head = here ∙ ap (label_of s.over.labels) (sym enters) in
     record {
-      goes = λ target k pending arcs known. back_once s.over.roads roads (passes_back meaning s) target k c.loop-a.self.marks pending c.loop-a.self.next
-          c.into-a-items.result.now c.loop-a.a-index a _ _ c.loop-a-test.true c.a-item.is (rw (over, far) at c.in_ok-try_arc.ensures.marks) (rw (over, far) at c.in_ok-try_arc.ensures.next)
-          (c.loop-a.invariant.goes target k pending arcs known);
-      over = c.in_ok-try_arc.ensures.over ∙ over;
-      size = c.in_ok-try_arc.ensures.size ∙ c.loop-a.invariant.size;
+      goes = λ target k pending numbers lists are known.
+          let row = c.as_slice-road-items.result.now in
+          let index = c.loop-road.road-index in
+          let a = get_or numbers index 0 in
+          let at = turned_at s.over.roads numbers row c.args.v lists are index r c.loop-road-test.true c.road-item.is in
+          let n = as_long s.over.roads numbers row c.args.v lists are in
+          let lt : index < length numbers = omega (arith, n) in
+          let far : c.of-far.result ≡ label_of s.over.labels (arc_of s.over.roads a).head = here ∙ ap (label_of s.over.labels) (sym at.1) in
+          back_once s.over.roads roads (passes_back meaning s) target k c.loop-road.self.marks pending c.loop-road.self.next
+          numbers index a _ _ lt (get_or_default numbers index 0 a lt) (rw (over, at.2, far) at c.in_ok-try_road.ensures.marks) (rw (over, at.2, far) at c.in_ok-try_road.ensures.next)
+          (c.loop-road.invariant.goes target k pending numbers lists are known);
+      over = c.in_ok-try_road.ensures.over ∙ over;
+      size = c.in_ok-try_road.ensures.size ∙ c.loop-road.invariant.size;
     }
 
 pub returns-clause-visits : goal.returns-clause-visits
 returns-clause-visits g c =
     let s = c.args.self.now in
     let roads = subst (λ (g : Roads). IsRoads g) (λ i. (c.self.view_is i).over.roads) c.self.invariant.roads in
-    let lists = subst (λ (g : Roads). ListsArcsInto g c.args.v c.into-a-items.result.now) (λ i. (c.self.view_is i).over.roads) c.into-a-items.ensures in
-    λ target k pending known. row_done s.over.roads roads (passes_back (g.A.PathAlgebra.meaning s.over.algebra) s) target k c.loop-a.self.marks pending c.loop-a.self.next
-    c.into-a-items.result.now c.loop-a.a-index (omega arith) (c.loop-a.invariant.goes target k pending lists known)
+    let row = c.as_slice-road-items.result.now in
+    let lists = subst (λ (g : Roads). ListsRoadsInto g c.args.v row) (λ i. (c.self.view_is i).over.roads)
+    (subst (λ xs. ListsRoadsInto (g.G.Entering.roads c.self.inside.graph.now) c.args.v xs) (sym c.as_slice-road-items.ensures.value) c.in_ok-list_into.ensures) in
+    let n = as_long s.over.roads lists.0 row c.args.v lists.1 lists.2 in
+    λ target k pending known. row_done s.over.roads roads (passes_back (g.A.PathAlgebra.meaning s.over.algebra) s) target k c.loop-road.self.marks pending c.loop-road.self.next
+    lists.0 c.loop-road.road-index (omega (arith, n)) (c.loop-road.invariant.goes target k pending lists.0 lists.1 lists.2 known)

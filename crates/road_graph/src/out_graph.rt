@@ -1,0 +1,145 @@
+//! A graph with its arcs by tail alone.
+
+ghost use Rattle.std.specs.Prelude.{◌≡◌, ℕ, ◌+◌, ◌-◌, ◌<◌, ◌≤◌, ◌↔◌, ◌^◌, List, length, IsTrue, MatchResult};
+ghost use Rattle.road_graph.specs.Roads.{IsRoads};
+ghost use Rattle.road_graph.specs.Making.{AreRoadRows, AreNumbers, AreStarts};
+
+use crate::bad_ends::first_bad;
+use crate::rows::{range_of, road_rows_of};
+use crate::{GraphFault, OutRoad, RoadArc, Vertex};
+use std::alloc::Global;
+use std::fmt;
+use std::marker::Model;
+use std::snapshot::Snapshot;
+
+/// A directed graph with its arcs by tail: heads and weights, and no number of an arc.
+///
+/// It takes 8 bytes for each arc and 4 for each vertex.
+#[derive(Drop)]
+pub struct OutGraph {
+    vertices: u32,
+    arcs: Snapshot<Vec<RoadArc>>,
+    starts: Vec<u32>,
+    roads: Vec<OutRoad>,
+}
+
+impl fmt::Debug for OutGraph {
+    fn fmt<F: fmt::Write>(&self, f: &mut fmt::Formatter<F>) -> fmt::Result {
+        f.debug_struct("OutGraph")
+            .field("vertices", &self.vertices)
+            .field("starts", &self.starts)
+            .field("roads", &self.roads)
+            .finish()
+    }
+}
+
+impl Model for OutGraph {
+    ghost use Rattle.road_graph.specs.Roads.{Roads, IsRoads};
+    ghost use Rattle.road_graph.specs.Making.{AreRoadRows};
+
+    ghost Value = { Roads };
+
+    ghost view = { λ g. record { vertices = g.vertices; arcs = g.arcs.value.items } };
+
+    ghost invariant = { λ g.
+        IsRoads (record { vertices = g.vertices; arcs = g.arcs.value.items })
+        × AreRoadRows g.vertices g.arcs.value.items g.starts.items g.roads.items };
+}
+
+impl OutGraph {
+    ghost use Rattle.road_graph.specs.Making.{AreRows, IsRefusal};
+    ghost use Rattle.road_graph.specs.declared.Side.TheVariants.{Tail};
+    ghost use Rattle.road_graph.specs.Roads.{HasVertex, ListsRoadsFrom, roads_of};
+
+    /// The graph of exactly these arcs on the vertices 1 to n.
+    ///
+    /// # Errors
+    /// The arcs come back with the first arc that has an end outside 1 to n, or else with `Memory`.
+    pub fn new(
+        alloc: Global,
+        n: u32,
+        arcs: Vec<RoadArc>,
+    ) -> Result<OutGraph, (GraphFault, Vec<RoadArc>)>
+        requires few_vertices { n ≤ 2 ^ 25 }
+        requires few_arcs { length arcs.items ≤ 2 ^ 27 }
+        ensures { MatchResult result (λ g. g ≡ record { vertices = n; arcs = arcs.items })
+            (λ e. IsRefusal n arcs.items e.0 × (e.1.items ≡ arcs.items)) }
+    {
+        if let Some(a) = first_bad(n, &arcs) {
+            return Err((GraphFault::BadEnd(a), arcs));
+        }
+        let Ok(rows) = road_rows_of(alloc, n, &arcs) else {
+            return Err((GraphFault::Memory, arcs));
+        };
+        Ok(OutGraph::of_rows(n, &arcs, rows.starts, rows.roads))
+    }
+
+    /// The graph of arcs whose rows these are.
+    pub(crate) fn of_rows(
+        n: u32,
+        arcs: &Vec<RoadArc>,
+        starts: Vec<u32>,
+        roads: Vec<OutRoad>,
+    ) -> OutGraph
+        requires roads { IsRoads (record { vertices = n; arcs = arcs.now.items }) }
+        requires rows { AreRoadRows n arcs.now.items starts.items roads.items }
+        ensures { result ≡ record { vertices = n; arcs = arcs.now.items } }
+    {
+        OutGraph {
+            vertices: n,
+            arcs: Snapshot::of(arcs),
+            starts,
+            roads,
+        }
+    }
+
+    /// How many vertices there are.
+    pub fn vertices(&self) -> u32
+        ensures count { result ≡ self.now.vertices }
+        // What holds of every graph, for callers that lean on it.
+        ensures roads { IsRoads self.now }
+    {
+        self.vertices
+    }
+
+    /// How many arcs there are.
+    pub fn arcs(&self) -> usize
+        ensures { result ≡ length self.now.arcs }
+    {
+        self.roads.len()
+    }
+
+    /// Whether v is a vertex of this graph.
+    pub fn has(&self, v: Vertex) -> bool
+        ensures { IsTrue result ↔ HasVertex self.now v }
+    {
+        1 <= v.0 && v.0 <= self.vertices
+    }
+
+    /// The heads and weights of the arcs that leave a vertex, in ascending order of the arcs' numbers.
+    #[inline]
+    pub fn roads_from(&self, v: Vertex) -> &[OutRoad]
+        requires { HasVertex self.now v }
+        ensures { ListsRoadsFrom self.now v result.now }
+    {
+        let (start, end) = range_of(&self.starts, v);
+        &self.roads[start..end]
+    }
+
+    /// Where the row of each vertex starts, and the end of the last.
+    #[inline]
+    pub(crate) fn starts(&self) -> &[u32]
+        ensures some { AreStarts Tail self.now result.now }
+        ensures all { (numbers : List ℕ) → AreNumbers Tail self.now numbers → AreRows Tail self.now.vertices self.now.arcs result.now numbers }
+    {
+        self.starts.as_slice()
+    }
+
+    /// The heads and weights of all arcs, row after row.
+    #[inline]
+    pub(crate) fn roads(&self) -> &[OutRoad]
+        ensures { (numbers : List ℕ) → AreNumbers Tail self.now numbers → result.now ≡ roads_of self.now numbers }
+    {
+        self.roads.as_slice()
+    }
+}

@@ -1,0 +1,58 @@
+//! Graphs along whose arcs a search can go back.
+
+ghost use Rattle.std.specs.Prelude.{◌≡◌, ◌++◌, OnOk, map};
+ghost use Rattle.road_graph.specs.Roads.{Roads, IsRoads, HasArc, HasVertex, ListsRoadsInto, arc_of, road_of, turned};
+
+use road_graph::{Graph, InGraph, Memory, OutRoad, Vertex};
+use std::alloc::AllocError;
+
+/// A graph along whose arcs a search can go back.
+pub(crate) trait Entering {
+    // The graph that it is.
+    ghost roads: { Self → Roads };
+
+    /// How many vertices there are.
+    fn count(&self) -> u32
+        ensures count { result ≡ (roads self.now).vertices }
+        ensures roads { IsRoads (roads self.now) };
+
+    /// Makes the list that of the arcs that enter a vertex, each turned round: its tail, where a road has its head, and its weight.
+    fn list_into(&self, v: Vertex, list: &mut Vec<OutRoad>) -> Result<(), Memory>
+        requires { HasVertex (roads self.now) v }
+        ensures { OnOk result (ListsRoadsInto (roads self.now) v list.new.items) };
+}
+
+impl Entering for Graph {
+    ghost roads = { λ g. g };
+
+    fn count(&self) -> u32 {
+        self.vertices()
+    }
+
+    fn list_into(&self, v: Vertex, list: &mut Vec<OutRoad>) -> Result<(), Memory> {
+        list.clear();
+        for a in self.into(v) {
+            let road = OutRoad {
+                head: self.tail(*a),
+                weight: self.road(*a).weight,
+            };
+            list.push(road).map_err(AllocError::from)?;
+        }
+        Ok(())
+    }
+}
+
+impl Entering for InGraph {
+    ghost roads = { λ g. g };
+
+    fn count(&self) -> u32 {
+        self.vertices()
+    }
+
+    fn list_into(&self, v: Vertex, list: &mut Vec<OutRoad>) -> Result<(), Memory> {
+        list.clear();
+        list.extend_from_slice(self.roads_into(v))
+            .map_err(AllocError::from)?;
+        Ok(())
+    }
+}

@@ -1,0 +1,136 @@
+-- Reading the marks of vertices, and what an offer does to one.
+use Rattle.std.proofs.Common.{◌≡◌, ℕ, ◌-◌, ◌≤◌, ◌⊎◌, inl, inr, Bool, true, false, cond, not, leb, List, map, set, refl, ap, sym, ◌∙◌, subst, arith, Option, Some, None}
+use Rattle.std.proofs.Math.ListN.{get_or-map}
+use Rattle.std.proofs.lemmas.List.{map-set, set-get_or}
+use Rattle.std.proofs.lemmas.Bool.{cases_Bool}
+use Rattle.std.proofs.lemmas.Bool.Decides.{leb_tells}
+use Rattle.std.specs.Prelude.{IsTrue, option_map}
+use Rattle.path_algebra.specs.Algebra.{IsOrder}
+use Rattle.path_algebra.specs.Walks.{label_of, improved, offered}
+use Rattle.path_algebra.proofs.Least.{other_no_worse}
+use Rattle.tree_search.specs.Marks.{key_of, values_in, is_better, is_lesser, marked}
+use Rattle.path_plain.specs.Order.{by_number, told, by_number_order}
+use Rattle.tree_search.specs.declared.mark.Mark.{Mark}
+
+-- an option is empty or holds something
+pub is_some : {X : Type 0} (o : Option X) → (o ≡ None) ⊎ ((m : X) × (o ≡ Some m))
+is_some None = inl refl
+is_some (Some m) = inr (m, refl)
+
+module _ {X Y : Type 0} (f : X → Y) (xs : List (Option X)) (v : ℕ) where
+  read_at : label_of (map (option_map f) xs) v ≡ option_map f (label_of xs v)
+  read_at = get_or-map (option_map f) xs (v - 1) None
+
+  pub read : (m : X) → label_of xs v ≡ Some m → label_of (map (option_map f) xs) v ≡ Some (f m)
+  read m e = read_at ∙ ap (option_map f) e
+
+  pub read_none : label_of xs v ≡ None → label_of (map (option_map f) xs) v ≡ None
+  read_none e = read_at ∙ ap (option_map f) e
+
+  holds : (o : Option X) (y : Y) → option_map f o ≡ Some y → (m : X) × (o ≡ Some m) × (f m ≡ y)
+  holds None y e = cc
+  holds (Some m) y e = (m, refl, cc)
+
+  pub found : (y : Y) → label_of (map (option_map f) xs) v ≡ Some y → (m : X) × (label_of xs v ≡ Some m) × (f m ≡ y)
+  found y e = holds (label_of xs v) y (sym read_at ∙ e)
+
+-- an offer leaves all as it was: the old mark has no worse a key, and where the keys are the same no greater a parent
+pub record IsKept {V : Type 0} (no_worse : V → V → Bool) (marks : List (Option (Mark V))) (v : ℕ) (new : Mark V) : Type 0 where
+  pub same : marked no_worse marks v new ≡ marks
+  pub old : Mark V
+  pub at : label_of marks v ≡ Some old
+  pub fine : IsTrue (by_number no_worse (key_of old) (key_of new))
+  pub parent : IsTrue (by_number no_worse (key_of new) (key_of old)) → old.parent ≤ new.parent
+
+-- it stays: no mark that was there had a better key, or as good a one with a lesser parent
+pub record IsTaken {V : Type 0} (no_worse : V → V → Bool) (marks : List (Option (Mark V))) (v : ℕ) (new : Mark V) : Type 0 where
+  pub is : marked no_worse marks v new ≡ set marks (v - 1) (Some new)
+  pub over : (old : Mark V) → label_of marks v ≡ Some old →
+      IsTrue (by_number no_worse (key_of new) (key_of old)) × (IsTrue (by_number no_worse (key_of old) (key_of new)) → new.parent ≤ old.parent)
+
+module _ {V : Type 0} (no_worse : V → V → Bool) (ordered : IsOrder no_worse) (marks : List (Option (Mark V))) (v : ℕ) (new : Mark V) where
+  first_way : (p q : Bool) → p ≡ true → is_better no_worse (label_of marks v) new ≡ p → is_lesser no_worse (label_of marks v) new ≡ q →
+      marked no_worse marks v new ≡ set marks (v - 1) (Some new)
+  first_way p q t e f = ap (λ (b : Bool). cond b (set marks (v - 1) (Some new)) (cond (is_lesser no_worse (label_of marks v) new) (set marks (v - 1) (Some new)) marks)) (e ∙ t)
+
+  second_way : is_better no_worse (label_of marks v) new ≡ false → is_lesser no_worse (label_of marks v) new ≡ true →
+      marked no_worse marks v new ≡ set marks (v - 1) (Some new)
+  second_way e f =
+      ap (λ (b : Bool). cond b (set marks (v - 1) (Some new)) (cond (is_lesser no_worse (label_of marks v) new) (set marks (v - 1) (Some new)) marks)) e
+      ∙ ap (λ (b : Bool). cond b (set marks (v - 1) (Some new)) marks) f
+
+  third_way : is_better no_worse (label_of marks v) new ≡ false → is_lesser no_worse (label_of marks v) new ≡ false → marked no_worse marks v new ≡ marks
+  third_way e f =
+      ap (λ (b : Bool). cond b (set marks (v - 1) (Some new)) (cond (is_lesser no_worse (label_of marks v) new) (set marks (v - 1) (Some new)) marks)) e
+      ∙ ap (λ (b : Bool). cond b (set marks (v - 1) (Some new)) marks) f
+
+  outcome_of : (o : Option (Mark V)) → label_of marks v ≡ o → IsKept no_worse marks v new ⊎ IsTaken no_worse marks v new
+  outcome_of None e = inr (record {
+    is = first_way true (is_lesser no_worse (label_of marks v) new) refl (ap (λ (o : Option (Mark V)). is_better no_worse o new) e) refl;
+    over = λ old f. let bad : None ≡ Some old = sym e ∙ f in cc;
+  })
+  outcome_of (Some old) e =
+      let better : is_better no_worse (label_of marks v) new ≡ not (by_number no_worse (key_of old) (key_of new)) = ap (λ (o : Option (Mark V)). is_better no_worse o new) e in
+      let lesser : is_lesser no_worse (label_of marks v) new ≡ cond (by_number no_worse (key_of new) (key_of old)) (not (leb old.parent new.parent)) false = ap (λ (o : Option (Mark V)). is_lesser no_worse o new) e in
+      let this : (other : Mark V) → label_of marks v ≡ Some other → old ≡ other = λ other f. (let both : Some old ≡ Some other = sym e ∙ f in cc) in
+      elim (cases_Bool (by_number no_worse (key_of old) (key_of new))) [
+        | inr worse ↦ inr (record {
+          is = first_way true (is_lesser no_worse (label_of marks v) new) refl (better ∙ ap not worse) refl;
+          over = λ other f. subst (λ (m : Mark V). IsTrue (by_number no_worse (key_of new) (key_of m)) × (IsTrue (by_number no_worse (key_of m) (key_of new)) → new.parent ≤ m.parent)) (this other f)
+              (other_no_worse (by_number no_worse) (by_number_order no_worse ordered) (key_of old) (key_of new) worse, λ k. (let bad : true ≡ false = sym k ∙ worse in cc));
+        })
+        | inl fine ↦ elim (cases_Bool (by_number no_worse (key_of new) (key_of old))) [
+          | inr less ↦ inl (record {
+            same = third_way (better ∙ ap not fine) (lesser ∙ ap (λ (b : Bool). cond b (not (leb old.parent new.parent)) false) less);
+            old = old;
+            at = e;
+            fine = fine;
+            parent = λ k. let bad : true ≡ false = sym k ∙ less in cc;
+          })
+          | inl both ↦ elim (leb_tells old.parent new.parent) [
+            | inl kept ↦ inl (record {
+              same = third_way (better ∙ ap not fine) (lesser ∙ ap (λ (b : Bool). cond b (not (leb old.parent new.parent)) false) both ∙ ap not kept.0);
+              old = old;
+              at = e;
+              fine = fine;
+              parent = λ k. kept.1;
+            })
+            | inr put ↦ inr (record {
+              is = second_way (better ∙ ap not fine) (lesser ∙ ap (λ (b : Bool). cond b (not (leb old.parent new.parent)) false) both ∙ ap not put.0);
+              over = λ other f. subst (λ (m : Mark V). IsTrue (by_number no_worse (key_of new) (key_of m)) × (IsTrue (by_number no_worse (key_of m) (key_of new)) → new.parent ≤ m.parent)) (this other f)
+                  (both, λ k. let l = put.1 in omega (arith, l));
+            })
+          ]
+        ]
+      ]
+
+  pub outcome : IsKept no_worse marks v new ⊎ IsTaken no_worse marks v new
+  outcome = outcome_of (label_of marks v) refl
+
+  -- what is offered is no worse: the label becomes its value
+  taken_label : (o : Option (Mark V)) → ((old : Mark V) → o ≡ Some old → IsTrue (no_worse new.value old.value)) → improved no_worse (option_map (λ (m : Mark V). m.value) o) new.value ≡ Some new.value
+  taken_label None over = refl
+  taken_label (Some old) over = elim (cases_Bool (no_worse old.value new.value)) [
+    | inr worse ↦ rw worse refl
+    | inl kept ↦ let same : old.value ≡ new.value = ordered.antisymmetric old.value new.value kept (over old refl) in rw kept (ap (λ (y : V). Some y) same)
+  ]
+
+  kept_label : (old : Mark V) → IsTrue (no_worse old.value new.value) → improved no_worse (Some old.value) new.value ≡ Some old.value
+  kept_label old h = rw h refl
+
+  label_is : label_of (values_in marks) v ≡ option_map (λ (m : Mark V). m.value) (label_of marks v)
+  label_is = get_or-map (option_map (λ (m : Mark V). m.value)) marks (v - 1) None
+
+  -- an offer of a mark is an offer of its value
+  pub values_marked : values_in (marked no_worse marks v new) ≡ offered no_worse (values_in marks) v new.value
+  values_marked = elim outcome [
+    | inl kept ↦
+        let here : label_of (values_in marks) v ≡ Some kept.old.value = read (λ (m : Mark V). m.value) marks v kept.old kept.at in
+        let stays : improved no_worse (label_of (values_in marks) v) new.value ≡ label_of (values_in marks) v =
+        ap (λ (o : Option V). improved no_worse o new.value) here ∙ kept_label kept.old (told no_worse (key_of kept.old) (key_of new) kept.fine).0 ∙ sym here in
+        ap values_in kept.same ∙ sym (ap (λ (o : Option V). set (values_in marks) (v - 1) o) stays ∙ set-get_or (values_in marks) (v - 1) None)
+    | inr taken ↦
+        let becomes : improved no_worse (label_of (values_in marks) v) new.value ≡ Some new.value =
+        ap (λ (o : Option V). improved no_worse o new.value) label_is ∙ taken_label (label_of marks v) (λ old e. (told no_worse (key_of new) (key_of old) (taken.over old e).0).0) in
+        ap values_in taken.is ∙ map-set (option_map (λ (m : Mark V). m.value)) marks (v - 1) (Some new) ∙ sym (ap (λ (o : Option V). set (values_in marks) (v - 1) o) becomes)
+  ]

@@ -1,0 +1,14 @@
+use Rattle.std.proofs.Common.{◌≡◌, ◌+◌, ◌*◌, length}
+use Rattle.tree_search.specs.Marks.{unsettled}
+use Rattle.tree_search.proofs.Rounds.{Between}
+use Rattle.tree_search.proofs.solve.solve_in_one_search.Given as goal
+
+abbrev pub invariant-loop-search : goal.invariant-loop-search
+invariant-loop-search g l = record {
+  algebra : l.search.algebra ≡ l.fn.algebra;
+  graph : l.search.roads ≡ l.graph;
+  between : Between (g.A.PathAlgebra.meaning l.fn.algebra) l.graph l.sources l.search.marks l.search.settled;
+}
+
+abbrev pub decreases-loop-search : goal.decreases-loop-search
+decreases-loop-search g l = unsettled l.search.settled * (length l.graph.arcs + 1) + l.search.waiting

@@ -1,0 +1,68 @@
+-- A search with hops and parents, and how it proceeds.
+use Rattle.std.specs.Prelude.{◌≡◌, ℕ, ◌+◌, ◌<◌, ◌≤◌, ◌⊎◌, List, length, Bool, true, false, Option, Some, None, slice_set, slice_index_or}
+use Rattle.road_graph.specs.Roads.{Roads, IsRoads, ListsArcsFrom}
+use Rattle.path_algebra.specs.Algebra.{Algebra}
+use Rattle.path_algebra.specs.Open.{IsBestOpen, AnswersBestOpen}
+use Rattle.path_plain.specs.Queue.{IsQueue}
+use Rattle.tree_search.specs.Marks.{keys_in, relaxed_marks, unsettled}
+use Rattle.path_plain.specs.Order.{by_number}
+use Rattle.tree_search.specs.declared.mark.Mark.{Mark}
+
+-- the mark of each vertex, which are settled, and how many entries wait in the queue
+pub record SearchState (A V : Type 0) : Type 0 where
+  pub algebra : A
+  pub roads : Roads
+  pub marks : List (Option (Mark V))
+  pub settled : List Bool
+  pub waiting : ℕ
+
+-- no mark has more hops than there are settled vertices
+abbrev pub HaveFewHops : {V : Type 0} → Roads → List (Option (Mark V)) → List Bool → Type 0
+HaveFewHops {V} g marks settled = (i : ℕ) (m : Mark V) → slice_index_or marks i None ≡ Some m → m.hops + unsettled settled ≤ g.vertices
+
+-- a mark for each vertex of a graph, and the queue of the open vertices
+pub record IsSearch {K V : Type 0} (key : K → V × ℕ) (place : K → ℕ) (no_worse : V → V → Bool)
+    (g : Roads) (marks : List (Option (Mark V))) (settled : List Bool) (items : List K) : Type 0 where
+  pub roads : IsRoads g
+  pub marks_count : length marks ≡ g.vertices
+  pub settled_count : length settled ≡ g.vertices
+  pub few_hops : HaveFewHops g marks settled
+  pub queue : IsQueue key place (by_number no_worse) (keys_in marks) settled items
+
+-- nothing more is settled, in the same graph by the same algebra
+pub record IsSameSearch {A V : Type 0} (old new : SearchState A V) : Type 0 where
+  pub algebra : new.algebra ≡ old.algebra
+  pub roads : new.roads ≡ old.roads
+  pub settled : new.settled ≡ old.settled
+
+-- the marks after v, with x and h hops, was extended along each arc that leaves it
+abbrev pub Relaxes : {V : Type 0} → Algebra V → Roads → ℕ → V → ℕ → List (Option (Mark V)) → List (Option (Mark V)) → Type 0
+Relaxes A g v x h marks marks' = (numbers : List ℕ) × ListsArcsFrom g v numbers × (marks' ≡ relaxed_marks A g v x h marks numbers)
+
+-- the open vertex of the best key is settled, and what its arcs improve joins the queue
+pub record Settles {A V : Type 0} (no_worse : V → V → Bool) (meaning : Algebra V) (old new : SearchState A V) : Type 0 where
+  pub index : ℕ
+  pub value : V
+  pub hops : ℕ
+  pub best : IsBestOpen (by_number no_worse) (keys_in old.marks) old.settled (length (keys_in old.marks)) index (value, hops)
+  pub marks : new.settled ≡ slice_set old.settled index true
+  pub relaxes : Relaxes meaning old.roads (index + 1) value hops old.marks new.marks
+  pub few : new.waiting ≤ old.waiting + length old.roads.arcs
+
+-- an entry of a settled vertex is dropped
+pub record Drops {A V : Type 0} (old new : SearchState A V) : Type 0 where
+  pub marks : new.marks ≡ old.marks
+  pub settled : new.settled ≡ old.settled
+  pub fewer : new.waiting < old.waiting
+
+-- one entry is taken, or no open vertex has a mark
+abbrev pub Advances : {A V : Type 0} → (V → V → Bool) → Algebra V → Bool → SearchState A V → SearchState A V → Type 0
+Advances no_worse meaning true old new = Settles no_worse meaning old new ⊎ Drops old new
+Advances no_worse meaning false old new =
+    (new.marks ≡ old.marks) × AnswersBestOpen (by_number no_worse) (keys_in old.marks) old.settled (length (keys_in old.marks)) None
+
+-- a step in the same graph by the same algebra
+pub record Proceeds {A V : Type 0} (no_worse : V → V → Bool) (meaning : Algebra V) (more : Bool) (old new : SearchState A V) : Type 0 where
+  pub algebra : new.algebra ≡ old.algebra
+  pub roads : new.roads ≡ old.roads
+  pub advances : Advances no_worse meaning more old new

@@ -1,0 +1,138 @@
+//! The queue of open vertices: a heap with the best value on top, then the fewest hops, then the least vertex.
+
+ghost use Rattle.std.specs.Prelude.{◌≡◌, ◌+◌, ◌*◌, ◌∷◌, [], length, refl, OnOk, OnErr, IfSome, IfNone};
+ghost use Rattle.std.specs.Cmp.{partial_order_from_total, partial_equiv_from_equiv, eq_by_cmp_equiv};
+ghost use Rattle.std.specs.Ordering.{eq_by_cmp, as_partial_cmp};
+ghost use Rattle.std.specs.BinaryHeap.{heap_items, IsHeap, IsUpperBound};
+ghost use Rattle.std.specs.List.Sorted.{IsPermutation};
+ghost use Rattle.path_plain.specs.Order.{open_cmp, open_total, by_number, by_number_order};
+
+use path_algebra::PathAlgebra;
+use road_graph::Memory;
+use std::alloc::{AllocError, Global};
+use std::cmp::Ordering;
+use std::collections::BinaryHeap;
+use std::marker::Model;
+
+/// A vertex, by its place among the marks, with a value and hops that it was offered.
+///
+/// Better values are greater, then fewer hops, then lesser places: only an entry with the same three is equal.
+#[derive(Drop)]
+pub(crate) struct Open<A: PathAlgebra> {
+    pub(crate) value: A::Value,
+    pub(crate) hops: u32,
+    pub(crate) place: u32,
+}
+
+/// One number for hops and place: the lesser, the fewer hops, and where these tie the lesser place.
+fn rank(hops: u32, place: u32) -> u64
+    ensures { result ≡ hops * 4294967296 + place }
+{
+    u64::from(hops) * 4294967296 + u64::from(place)
+}
+
+impl<A: PathAlgebra> Ord for Open<A> {
+    ghost cmp = { open_cmp (λ o. (o.value, o.hops)) (λ o. o.place) (by_number A.order) };
+
+    ghost total = { open_total (λ o. (o.value, o.hops)) (λ o. o.place) (by_number A.order) (by_number_order A.order A.ordered) };
+
+    ghost matches_partial_cmp = { λ x y. refl };
+
+    ghost matches_eq = { λ x y. refl };
+
+    fn cmp(&self, other: &Self) -> Ordering {
+        let (a, b) = (self.value, other.value);
+        let (j, k) = (rank(self.hops, self.place), rank(other.hops, other.place));
+        let (above, below) = (A::no_worse(a, b), A::no_worse(b, a));
+        let ties = above & below;
+        // Chosen without a jump: which value is better cannot be foreseen.
+        let is_less = if ties { j > k } else { !above };
+        let is_greater = if ties { j < k } else { !below };
+        if is_less {
+            Ordering::Less
+        } else if is_greater {
+            Ordering::Greater
+        } else {
+            Ordering::Equal
+        }
+    }
+}
+
+impl<A: PathAlgebra> PartialOrd for Open<A> {
+    ghost partial_cmp = { as_partial_cmp (open_cmp (λ o. (o.value, o.hops)) (λ o. o.place) (by_number A.order)) };
+
+    ghost laws = { partial_order_from_total (open_total (λ o. (o.value, o.hops)) (λ o. o.place) (by_number A.order) (by_number_order A.order A.ordered)) };
+
+    fn partial_cmp(&self, other: &Self) -> Option<Ordering> {
+        Some(self.cmp(other))
+    }
+}
+
+impl<A: PathAlgebra> PartialEq for Open<A> {
+    ghost eq = { eq_by_cmp (open_cmp (λ o. (o.value, o.hops)) (λ o. o.place) (by_number A.order)) };
+
+    ghost laws = { partial_equiv_from_equiv (eq_by_cmp_equiv (open_total (λ o. (o.value, o.hops)) (λ o. o.place) (by_number A.order) (by_number_order A.order A.ordered))) };
+
+    fn eq(&self, other: &Self) -> bool {
+        self.cmp(other).is_eq()
+    }
+}
+
+impl<A: PathAlgebra> Eq for Open<A> {
+    ghost laws = { eq_by_cmp_equiv (open_total (λ o. (o.value, o.hops)) (λ o. o.place) (by_number A.order) (by_number_order A.order A.ordered)) };
+}
+
+/// Open vertices with the values and hops that they were offered.
+#[derive(Drop)]
+pub(crate) struct Queue<A: PathAlgebra> {
+    heap: BinaryHeap<Open<A>>,
+}
+
+impl<A: PathAlgebra> Model for Queue<A> {
+    ghost use Rattle.std.specs.Prelude.{List};
+    ghost use Rattle.std.specs.BinaryHeap.{heap_items, IsHeap};
+    ghost use Rattle.path_plain.specs.Order.{open_cmp, by_number};
+    ghost use Rattle.tree_search.specs.declared.queue.Open.{Open};
+
+    ghost Value = { List (Open A A.Value) };
+
+    ghost view = { λ q. heap_items q.heap };
+
+    ghost invariant = { λ q. IsHeap (open_cmp (λ o. (o.value, o.hops)) (λ o. o.place) (by_number A.order)) (heap_items q.heap) };
+}
+
+impl<A: PathAlgebra> Queue<A> {
+    /// A queue of nothing.
+    pub(crate) fn new(alloc: Global) -> Self
+        ensures { result ≡ [] }
+    {
+        Queue {
+            heap: BinaryHeap::new(alloc),
+        }
+    }
+
+    /// Puts an entry into the queue.
+    pub(crate) fn push(&mut self, value: A::Value, hops: u32, place: u32) -> Result<(), Memory>
+        ensures items { OnOk result
+            (IsPermutation (record { value = value; hops = hops; place = place } ∷ self.old) self.new) }
+        ensures len { OnOk result (length self.new ≡ length self.old + 1) }
+        ensures kept { OnErr result (self.new ≡ self.old) }
+    {
+        self.heap
+            .push(Open { value, hops, place })
+            .map_err(AllocError::from)?;
+        Ok(())
+    }
+
+    /// Takes the first entry of the queue, if there is any: the best value, the fewest hops, the least place.
+    pub(crate) fn pop(&mut self) -> Option<Open<A>>
+        ensures items { IfSome result (λ x. IsPermutation self.old (x ∷ self.new)) }
+        ensures len { IfSome result (λ x. length self.new + 1 ≡ length self.old) }
+        ensures none { IfNone result (self.old ≡ []) }
+        ensures empty { IfNone result (self.new ≡ []) }
+        ensures best { IfSome result
+            (λ x. IsUpperBound (open_cmp (λ o. (o.value, o.hops)) (λ o. o.place) (by_number A.order)) x self.old) }
+    {
+        self.heap.pop()
+    }
+}

@@ -1,0 +1,69 @@
+//! Best values from a list of sources, with their hops and parents.
+
+ghost use Rattle.std.specs.Prelude.{All, IfOk};
+ghost use Rattle.road_graph.specs.Roads.{HasVertex};
+ghost use Rattle.path_algebra.specs.Walks.{AreBest};
+ghost use Rattle.route_tree.specs.Tree.{IsTree};
+
+use crate::search::Search;
+use path_algebra::{AlgebraName, Labels, PathAlgebra, laws_hold};
+use path_plain::solve_outgoing;
+use road_graph::{Memory, OutGraph, Vertex};
+use route_tree::{Tree, tree_outgoing};
+use std::alloc::Global;
+
+/// Labels and tree by one search, which finds hops and parents with the values.
+fn solve_in_one_search<A: PathAlgebra>(
+    alloc: Global,
+    algebra: A,
+    graph: &OutGraph,
+    sources: &[Vertex],
+) -> Result<(Labels<A::Value>, Tree), Memory>
+    requires { All (HasVertex graph.now) sources.now }
+    ensures labels { IfOk result (λ s. AreBest (A.meaning algebra) graph.now sources.now s.0) }
+    ensures tree { IfOk result (λ s. IsTree (A.meaning algebra) graph.now sources.now s.1) }
+{
+    laws_hold(algebra);
+    let _roads_hold = graph.vertices();
+    let mut search = Search::open(alloc, algebra, graph, sources)?;
+    while search.settle_next()? {}
+    Ok(search.into_labels_and_tree())
+}
+
+/// Labels by a search, and their tree by a pass over the tight arcs.
+fn solve_in_two_passes<A: PathAlgebra>(
+    alloc: Global,
+    algebra: A,
+    graph: &OutGraph,
+    sources: &[Vertex],
+) -> Result<(Labels<A::Value>, Tree), Memory>
+    requires { All (HasVertex graph.now) sources.now }
+    ensures labels { IfOk result (λ s. AreBest (A.meaning algebra) graph.now sources.now s.0) }
+    ensures tree { IfOk result (λ s. IsTree (A.meaning algebra) graph.now sources.now s.1) }
+{
+    let labels = solve_outgoing(alloc, algebra, graph, sources)?;
+    let tree = tree_outgoing(alloc, algebra, graph, sources, &labels)?;
+    Ok((labels, tree))
+}
+
+/// The best value of each vertex over all walks from some source of the list, and none where no walk has a value; with the tree of these values. Sources may repeat. The only error is want of memory.
+///
+/// One search finds both, except for `Reach` and `Widest`: if most values tie, a heap by hops too costs more than a pass over the arcs.
+/// Beside the labels and the tree it takes a byte a vertex, and the queue.
+pub fn solve_with_tree<A: PathAlgebra>(
+    alloc: Global,
+    algebra: A,
+    graph: &OutGraph,
+    sources: &[Vertex],
+) -> Result<(Labels<A::Value>, Tree), Memory>
+    requires { All (HasVertex graph.now) sources.now }
+    ensures labels { IfOk result (λ s. AreBest (A.meaning algebra) graph.now sources.now s.0) }
+    ensures tree { IfOk result (λ s. IsTree (A.meaning algebra) graph.now sources.now s.1) }
+{
+    match algebra.name() {
+        AlgebraName::Reach | AlgebraName::Widest => {
+            solve_in_two_passes(alloc, algebra, graph, sources)
+        }
+        _ => solve_in_one_search(alloc, algebra, graph, sources),
+    }
+}

@@ -1,11 +1,11 @@
 -- What the evidence of all arcs into a vertex means: the line is right, or it tells the first reason against it.
 use Rattle.std.proofs.Common.{◌≡◌, ℕ, ◌+◌, ◌<◌, ◌≤◌, ◌^◌, inl, inr, Bool, true, false, not, ◌&&◌, nat_eq, nat_lt, List, [], ◌∷◌, get_or, refl, ap, sym, ◌∙◌, subst, arith, Option, Some, None}
-use Rattle.std.specs.Prelude.{IsTrue, Contains}
+use Rattle.std.specs.Prelude.{IsTrue, Contains, ◌↔◌}
 use Rattle.std.specs.List.{list_any}
 use Rattle.std.proofs.Common.{eqb-true, eq-eqb}
 use Rattle.std.proofs.lemmas.Bool.{eqb-false, lt-ltb, ltb-true, ltb-false, and_parts, not-true, not-false}
 use Rattle.std.proofs.lemmas.List.Folds.{list_any_at}
-use Rattle.road_graph.specs.Roads.{Roads, HasArc, arc_of, ListsArcsInto}
+use Rattle.road_graph.specs.Roads.{Roads, HasArc, arc_of}
 use Rattle.road_graph.proofs.Lists.{here, later}
 use Rattle.road_graph.proofs.Options.{same_some}
 use Rattle.path_algebra.specs.Algebra.{Algebra, IsLawful}
@@ -19,6 +19,10 @@ use Rattle.answer_check.specs.Reasons.{IsCodeOf, Offers, Gives, IsRefused, IsJud
 use Rattle.answer_check.specs.Certificates.{IsSupported, IsRightLine}
 use Rattle.answer_check.specs.Evidence.{decoded, extended, beside, candidate_from, candidate, is_same, evidence_by, evidence_of, all_evidence, reason_by, is_there}
 use Rattle.answer_check.proofs.Certified.{code_of_one}
+
+-- the list has exactly the arcs that enter v
+abbrev pub AreInto : Roads → ℕ → List ℕ → Type 0
+AreInto g v arcs = (a : ℕ) → Contains arcs a ↔ (HasArc g a × ((arc_of g a).head ≡ v))
 
 found_at_head : (p : ℕ → Bool) (x : ℕ) (xs : List ℕ) (b : Bool) → p x ≡ b → list_any p (x ∷ xs) ≡ true →
     (list_any p xs ≡ true → (a : ℕ) × Contains xs a × (p a ≡ true)) → (a : ℕ) × Contains (x ∷ xs) a × (p a ≡ true)
@@ -103,7 +107,7 @@ module _ {V : Type 0} (A : Algebra V) (lawful : IsLawful A) where
     on_candidate test u None = false
     on_candidate test u (Some b) = test u b.0 b.1
 
-    module _ (v : ℕ) (arcs : List ℕ) (into : ListsArcsInto g v arcs) (test : ℕ → Reached → V → Bool) (field : ℕ → Bool)
+    module _ (v : ℕ) (arcs : List ℕ) (into : AreInto g v arcs) (test : ℕ → Reached → V → Bool) (field : ℕ → Bool)
         (is : (a : ℕ) → field a ≡ on_candidate test (arc_of g a).tail (candidate A g lines a)) where
       found_by : (a : ℕ) → HasArc g a → (arc_of g a).head ≡ v → (o : Option (Reached × V)) → candidate A g lines a ≡ o → on_candidate test (arc_of g a).tail o ≡ true →
           (u : ℕ) × (near : Reached) × (z : V) × Offers A g lines u v near z × (test u near z ≡ true)
@@ -114,13 +118,13 @@ module _ {V : Type 0} (A : Algebra V) (lawful : IsLawful A) where
       found : list_any field arcs ≡ true → (u : ℕ) × (near : Reached) × (z : V) × Offers A g lines u v near z × (test u near z ≡ true)
       found h =
           let a = any_found field arcs h in
-          let arc = (into.complete a.0).0 a.1 in
+          let arc = (into a.0).0 a.1 in
           found_by a.0 arc.0 arc.1 (candidate A g lines a.0) refl (sym (is a.0) ∙ a.2)
 
       -- where no arc passes, nothing is offered that does
       missed : list_any field arcs ≡ false → (u : ℕ) (near : Reached) (z : V) → Offers A g lines u v near z → test u near z ≡ false
       missed h u near z b =
-          let listed = (into.complete b.arc).1 (b.is_arc, b.head_is) in
+          let listed = (into b.arc).1 (b.is_arc, b.head_is) in
           let none = any_missed field arcs h b.arc listed in
           let shown : on_candidate test (arc_of g b.arc).tail (candidate A g lines b.arc) ≡ false = sym (is b.arc) ∙ none in
           let here : test (arc_of g b.arc).tail near z ≡ false = subst (λ (o : Option (Reached × V)). on_candidate test (arc_of g b.arc).tail o ≡ false) (offers_candidate u v near z b) shown in
@@ -142,7 +146,7 @@ no_earlier A g lines v r n few f2 f3 f4 LesserParent lt h = omega (arith, few, l
 no_earlier A g lines v r n few f2 f3 f4 HasWalk lt h = h
 no_earlier A g lines v r n few f2 f3 f4 OtherRoute lt h = h
 
-module _ {V : Type 0} (A : Algebra V) (lawful : IsLawful A) (g : Roads) (lines : List (Option Reached)) (v : ℕ) (arcs : List ℕ) (into : ListsArcsInto g v arcs) (r : Reached) (y : V) (code : IsCodeOf A r.code y) where
+module _ {V : Type 0} (A : Algebra V) (lawful : IsLawful A) (g : Roads) (lines : List (Option Reached)) (v : ℕ) (arcs : List ℕ) (into : AreInto g v arcs) (r : Reached) (y : V) (code : IsCodeOf A r.code y) where
   abbrev better : ℕ → Reached → V → Bool
   better u near z = not (A.no_worse y z)
 
@@ -309,7 +313,7 @@ module _ {V : Type 0} (A : Algebra V) (lawful : IsLawful A) (g : Roads) (lines :
   pub evidence_judges : Judged (reason_by shown)
   evidence_judges = by_better shown.better refl
 
-module _ {V : Type 0} (A : Algebra V) (lawful : IsLawful A) (g : Roads) (lines : List (Option Reached)) (v : ℕ) (arcs : List ℕ) (into : ListsArcsInto g v arcs) where
+module _ {V : Type 0} (A : Algebra V) (lawful : IsLawful A) (g : Roads) (lines : List (Option Reached)) (v : ℕ) (arcs : List ℕ) (into : AreInto g v arcs) where
   there_is : (u : ℕ) (o : Option (Reached × V)) → is_there o ≡ on_candidate A lawful g lines (λ _ _ _. true) u o
   there_is u None = refl
   there_is u (Some b) = refl
@@ -328,3 +332,8 @@ module _ {V : Type 0} (A : Algebra V) (lawful : IsLawful A) (g : Roads) (lines :
   walk_judged h =
       let f = found A lawful g lines v arcs into (λ _ _ _. true) (λ a. is_there (candidate A g lines a)) (λ a. there_is (arc_of g a).tail (candidate A g lines a)) h in
       ((f.0, f.1, f.2, f.3), before_walk)
+
+  -- where no arc offers a value, an unreached line is right
+  pub walk_missed : list_any (λ a. is_there (candidate A g lines a)) arcs ≡ false → IsRightLine A g lines v None
+  walk_missed h u near z b =
+      let none : true ≡ false = missed A lawful g lines v arcs into (λ _ _ _. true) (λ a. is_there (candidate A g lines a)) (λ a. there_is (arc_of g a).tail (candidate A g lines a)) h u near z b in cc

@@ -9,13 +9,12 @@ ghost use Rattle.answer_check.specs.Verdicts.{IsWrongIn};
 ghost use Rattle.answer_check.specs.Places.{IsJudgedAt};
 
 use crate::lines::judge_lines;
-use crate::numbers::are_numbers;
 use crate::pairs::reason_of_pair;
 use crate::place::Place;
 use crate::verdict::Reason;
 use answer_text::Answer;
 use path_algebra::PathAlgebra;
-use road_files::Questions;
+use road_files::{Questions, are_same};
 use road_graph::{Graph, Memory, Vertex};
 use std::alloc::Global;
 use std::thread::Threads;
@@ -45,7 +44,7 @@ fn judge_source<A: PathAlgebra, R: Threads + Sync>(
     else {
         return Ok(Some(MISMATCH));
     };
-    if *named != source.0 || lines.len() != graph.vertices() as usize {
+    if named.0 != source.0 || lines.len() != graph.vertices() as usize {
         return Ok(Some(MISMATCH));
     }
     judge_lines(rt, alloc, algebra, graph, &[source], lines.as_slice())
@@ -70,7 +69,7 @@ fn judge_sources<A: PathAlgebra, R: Threads + Sync>(
     else {
         return Ok(Some(MISMATCH));
     };
-    if !are_numbers(sources, named.as_slice()) || lines.len() != graph.vertices() as usize {
+    if !are_same(sources, named.as_slice()) || lines.len() != graph.vertices() as usize {
         return Ok(Some(MISMATCH));
     }
     judge_lines(rt, alloc, algebra, graph, sources, lines.as_slice())
@@ -97,7 +96,7 @@ pub(crate) fn judge_pair<A: PathAlgebra>(
     else {
         return Ok(Some(MISMATCH));
     };
-    if *from != source.0 || *to != target.0 {
+    if from.0 != source.0 || to.0 != target.0 {
         return Ok(Some(MISMATCH));
     }
     let reason = reason_of_pair(alloc, algebra, graph, source, target, found)?;

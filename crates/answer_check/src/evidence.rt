@@ -12,17 +12,17 @@ use road_graph::{ArcNo, Graph, Vertex};
 
 /// What arcs into a vertex show of its line.
 #[derive(Clone, Copy)]
-pub(crate) struct Evidence {
+pub struct Evidence {
     /// One gives a better value.
-    better: bool,
+    pub better: bool,
     /// One gives this value, from the parent.
-    supported: bool,
+    pub supported: bool,
     /// One gives this value, from the parent, whose hops are not one less.
-    astray: bool,
+    pub astray: bool,
     /// One gives this value, with fewer hops.
-    nearer: bool,
+    pub nearer: bool,
     /// One gives this value with these hops, from a vertex less than the parent.
-    lesser: bool,
+    pub lesser: bool,
 }
 
 impl Evidence {
@@ -30,7 +30,7 @@ impl Evidence {
     ghost use Rattle.answer_check.specs.Evidence.{either, reason_by};
 
     /// What no arc shows.
-    fn none() -> Evidence
+    pub fn none() -> Evidence
         ensures { result ≡ record { better = false; supported = false; astray = false; nearer = false; lesser = false } }
     {
         Evidence {
@@ -43,7 +43,7 @@ impl Evidence {
     }
 
     /// What either shows.
-    fn or(self, other: Evidence) -> Evidence
+    pub fn or(self, other: Evidence) -> Evidence
         ensures { result ≡ either self other }
     {
         Evidence {
@@ -56,7 +56,7 @@ impl Evidence {
     }
 
     /// The first reason against the line, if there is one.
-    pub(crate) fn reason(self) -> Option<Reason>
+    pub fn reason(self) -> Option<Reason>
         ensures { result ≡ reason_by self }
     {
         if self.better {
@@ -74,14 +74,14 @@ impl Evidence {
 }
 
 /// The value that a line tells, if its code is one's.
-pub(crate) fn value_told<A: PathAlgebra>(algebra: A, line: Reached) -> Option<A::Value>
+pub fn value_told<A: PathAlgebra>(algebra: A, line: Reached) -> Option<A::Value>
     ensures { result ≡ decoded (A.meaning algebra) line.code }
 {
     algebra.value_of(line.code)
 }
 
-/// The line of an arc's tail, and the value that it tells taken along the arc; none where it tells no value, or the arc refuses it.
-pub(crate) fn candidate<A: PathAlgebra>(
+/// The line of an arc's tail, and the value that it tells taken along the arc; none if it tells no value, or the arc refuses it.
+pub fn candidate<A: PathAlgebra>(
     algebra: A,
     near: Option<Reached>,
     weight: u32,
@@ -95,7 +95,7 @@ pub(crate) fn candidate<A: PathAlgebra>(
 }
 
 /// What one arc from `tail` shows of a line that tells a value, by what it offers.
-fn evidence_by<A: PathAlgebra>(
+pub fn evidence_by<A: PathAlgebra>(
     tail: Vertex,
     line: Reached,
     value: A::Value,

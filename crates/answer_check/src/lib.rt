@@ -8,7 +8,6 @@ mod checking;
 mod evidence;
 mod laws;
 mod lines;
-mod numbers;
 mod pairs;
 mod pass;
 mod place;
@@ -17,5 +16,8 @@ mod verdict;
 mod vertices;
 
 pub use checking::check;
+pub use evidence::{Evidence, candidate, evidence_by, value_told};
 pub use laws::{right_lines_are_certified, verdicts_are_one};
+pub use lines::marks_of;
 pub use verdict::{Reason, Verdict};
+pub use vertices::is_source_line;

@@ -15,8 +15,11 @@ use road_graph::{Graph, Memory, Vertex};
 use std::alloc::{AllocError, Global};
 use std::thread::Threads;
 
-/// A mark for each vertex that tells whether it is one of the sources.
-fn marks_of(alloc: Global, n: usize, sources: &[Vertex]) -> Result<Vec<bool>, AllocError>
+/// A mark for each of n vertices that tells whether it is one of the sources.
+///
+/// # Errors
+/// Want of memory.
+pub fn marks_of(alloc: Global, n: usize, sources: &[Vertex]) -> Result<Vec<bool>, AllocError>
     requires { All (λ s. (1 ≤ s) × (s ≤ n)) sources.now }
     ensures count { IfOk result (λ marks. length marks.items ≡ n) }
     ensures marks { IfOk result (λ marks. (v : ℕ) → 1 ≤ v → v ≤ n → IsTrue (is_marked marks.items v) ↔ Contains sources.now v) }

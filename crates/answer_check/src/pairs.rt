@@ -7,11 +7,11 @@ ghost use Rattle.answer_check.specs.Reasons.{IsPairRefused, IsJudged};
 ghost use Rattle.answer_text.specs.IsAnswer.{IsPairAnswer};
 ghost use Rattle.answer_check.specs.Pairs.{IsOther};
 
-use crate::numbers::are_numbers;
 use crate::verdict::Reason;
 use answer_text::Found;
 use path_algebra::{PathAlgebra, laws_hold};
 use path_plain::solve_one;
+use road_files::are_same;
 use road_graph::{Graph, Memory, Vertex};
 use route_tree::{route_between, routes_follow_parents};
 use std::alloc::Global;
@@ -24,7 +24,7 @@ fn difference(code: u64, hops: u32, list: &[Vertex], found: &Found) -> Option<Re
         Some(Reason::NotBest)
     } else if found.hops != hops {
         Some(Reason::OtherHops)
-    } else if !are_numbers(list, found.route.as_slice()) {
+    } else if !are_same(list, found.route.as_slice()) {
         Some(Reason::OtherRoute)
     } else {
         None

@@ -15,8 +15,8 @@ use answer_text::Reached;
 use path_algebra::{PathAlgebra, laws_hold};
 use road_graph::{ArcNo, Graph, Vertex};
 
-/// Whether this is what has to stand at a source.
-fn is_source_line<A: PathAlgebra>(algebra: A, line: Option<Reached>) -> bool
+/// Whether this is the line of a source.
+pub fn is_source_line<A: PathAlgebra>(algebra: A, line: Option<Reached>) -> bool
     ensures { IsTrue result ↔ (line ≡ source_line (A.meaning algebra)) }
 {
     match line {

@@ -11,6 +11,7 @@ use crate::number_fields::{code_of, number_of};
 use crate::rules::{BAD_HEADER, FIELDS, MISPLACED};
 use path_algebra::AlgebraName;
 use road_files::Kind;
+use road_graph::Vertex;
 use road_text::{LineFault, Slot};
 
 /// Whether the line begins with this word.
@@ -45,7 +46,7 @@ pub fn name_of(slot: &Slot) -> Result<AlgebraName, LineFault>
 
 /// `s SOURCE`.
 #[tactic(auto, unfolding(crate::specs::AnswerFiles::source_line))]
-pub fn source_in(slots: &[Slot]) -> Result<u32, LineFault>
+pub fn source_in(slots: &[Slot]) -> Result<Vertex, LineFault>
     ensures { Agrees (source_line (map word_in slots.now)) result }
 {
     if !begins(slots, b"s") {
@@ -54,12 +55,12 @@ pub fn source_in(slots: &[Slot]) -> Result<u32, LineFault>
     if slots.len() != 2 {
         return Err(LineFault::Broken(FIELDS));
     }
-    number_of(&slots[1])
+    Ok(Vertex(number_of(&slots[1])?))
 }
 
 /// `q SOURCE TARGET`.
 #[tactic(auto, unfolding(crate::specs::AnswerFiles::pair_line))]
-pub fn pair_in(slots: &[Slot]) -> Result<(u32, u32), LineFault>
+pub fn pair_in(slots: &[Slot]) -> Result<(Vertex, Vertex), LineFault>
     ensures { Agrees (pair_line (map word_in slots.now)) result }
 {
     if !begins(slots, b"q") {
@@ -70,7 +71,7 @@ pub fn pair_in(slots: &[Slot]) -> Result<(u32, u32), LineFault>
     }
     let source = number_of(&slots[1])?;
     let target = number_of(&slots[2])?;
-    Ok((source, target))
+    Ok((Vertex(source), Vertex(target)))
 }
 
 // `d V CODE HOPS PARENT`, where V is the next vertex.

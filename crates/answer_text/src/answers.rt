@@ -2,6 +2,7 @@
 
 use path_algebra::AlgebraName;
 use road_files::Kind;
+use road_graph::Vertex;
 
 /// What is said of a vertex that some walk reaches.
 #[derive(Clone, Copy, Debug, PartialEq, Eq)]
@@ -22,23 +23,23 @@ pub struct Found {
     /// The number of arcs of the route.
     pub hops: u32,
     /// The vertices of the route, source and target included.
-    pub route: Vec<u32>,
+    pub route: Vec<Vertex>,
 }
 
 /// The answer to one question. Entry `i` of `lines` is of vertex `i + 1`; none stands where no walk has a value.
 #[derive(Debug, Drop)]
 pub enum Answer {
     Source {
-        source: u32,
+        source: Vertex,
         lines: Vec<Option<Reached>>,
     },
     Pair {
-        source: u32,
-        target: u32,
+        source: Vertex,
+        target: Vertex,
         found: Option<Found>,
     },
     Multi {
-        sources: Vec<u32>,
+        sources: Vec<Vertex>,
         lines: Vec<Option<Reached>>,
     },
 }

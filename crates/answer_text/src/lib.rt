@@ -11,6 +11,7 @@ mod present_numbers;
 mod reading;
 pub mod rules;
 mod taken_answers;
+mod vertex_lines;
 mod writing;
 
 pub use answers::{Answer, Answers, Found, Reached};
@@ -19,7 +20,8 @@ pub use laws::{
     written_answers_are_read_again,
 };
 pub use reading::read_answers;
+pub use vertex_lines::VertexLine;
 pub use writing::{
     MAX_ANSWERS, write_answer, write_answers, write_header, write_source_line, write_sources_line,
-    write_vertex,
+    write_vertex_line,
 };

@@ -9,6 +9,7 @@ ghost use Rattle.answer_text.specs.AnswerTakes.{SoFar, numbers_given, one_number
 use crate::answer_lines::begins;
 use crate::number_fields::number_of;
 use crate::rules::{FIELDS, MISPLACED};
+use road_graph::Vertex;
 use road_text::{LineFault, Rule, Slot};
 use std::alloc::Global;
 
@@ -28,7 +29,7 @@ pub struct PresentNumbers {
     /// Whether it is `r`, behind which any number of fields may stand.
     pub is_route: bool,
     /// The numbers behind it, up to the first field that is none; behind `m` the first 1,024 alone.
-    pub numbers: Vec<u32>,
+    pub numbers: Vec<Vertex>,
     /// The rule that this field breaks.
     pub broken: Option<Rule>,
 }
@@ -73,7 +74,7 @@ impl PresentNumbers {
             return Ok(());
         }
         match number_of(slot) {
-            Ok(number) => match self.numbers.push(number) {
+            Ok(number) => match self.numbers.push(Vertex(number)) {
                 Ok(()) => Ok(()),
                 Err(_) => Err(LineFault::Memory),
             },
@@ -107,7 +108,7 @@ impl PresentNumbers {
     }
 
     // The numbers of the present line, given whether its letter belongs here and whether it has enough fields.
-    fn whole(&mut self, alloc: Global, letter: bool, enough: bool) -> Result<Vec<u32>, LineFault>
+    fn whole(&mut self, alloc: Global, letter: bool, enough: bool) -> Result<Vec<Vertex>, LineFault>
         ensures { MatchResult result (λ v. list_line letter enough (numbers_given self.old) ≡ Ok v.items) (Breaks (list_line letter enough (numbers_given self.old))) }
     {
         if !letter {
@@ -124,7 +125,7 @@ impl PresentNumbers {
 
     /// The sources of `m SOURCE ..`.
     #[tactic(auto, unfolding(crate::specs::AnswerFiles::sources_line))]
-    pub fn sources(&mut self, alloc: Global, slots: &[Slot]) -> Result<Vec<u32>, LineFault>
+    pub fn sources(&mut self, alloc: Global, slots: &[Slot]) -> Result<Vec<Vertex>, LineFault>
         ensures { MatchResult result (λ v. sources_line (map word_in slots.now) self.old.count (numbers_given self.old) ≡ Ok v.items) (Breaks (sources_line (map word_in slots.now) self.old.count (numbers_given self.old))) }
     {
         let enough = 1 < self.count && self.count <= MAX_FIELDS;
@@ -132,7 +133,7 @@ impl PresentNumbers {
     }
 
     /// The vertices of `r V1 ..`.
-    pub fn route(&mut self, alloc: Global, slots: &[Slot]) -> Result<Vec<u32>, LineFault>
+    pub fn route(&mut self, alloc: Global, slots: &[Slot]) -> Result<Vec<Vertex>, LineFault>
         ensures { MatchResult result (λ v. route_line (map word_in slots.now) self.old.count (numbers_given self.old) ≡ Ok v.items) (Breaks (route_line (map word_in slots.now) self.old.count (numbers_given self.old))) }
     {
         let enough = 1 < self.count;

@@ -14,6 +14,7 @@ use crate::rules::{BAD_HEADER, MISPLACED, NO_HEADER};
 use crate::writing::MAX_ANSWERS;
 use path_algebra::AlgebraName;
 use road_files::Kind;
+use road_graph::Vertex;
 use road_text::{LineFault, Slot};
 use std::alloc::Global;
 
@@ -23,13 +24,13 @@ pub enum Awaited {
     /// Nothing: the next line names a question.
     Between,
     /// The source, and some lines of vertices.
-    Source(u32),
+    Source(Vertex),
     /// The sources, and some lines of vertices.
     Sources,
     /// The source and the target.
-    Pair(u32, u32),
+    Pair(Vertex, Vertex),
     /// The same, with code and hops.
-    Found(u32, u32, u64, u32),
+    Found(Vertex, Vertex, u64, u32),
 }
 
 /// What the header says, the answers that are whole, and the present one.
@@ -44,7 +45,7 @@ pub struct TakenAnswers {
     pub list: Vec<Answer>,
     pub awaited: Awaited,
     /// The sources of the present answer, where it has several.
-    pub sources: Vec<u32>,
+    pub sources: Vec<Vertex>,
     /// The lines of vertices of the present answer.
     pub lines: Vec<Option<Reached>>,
 }
@@ -96,7 +97,7 @@ impl TakenAnswers {
     }
 
     // The present answer is from this source and has the lines that are there: they are all, or more are to come.
-    fn set_source(&mut self, n: u32, source: u32) -> Result<(), LineFault>
+    fn set_source(&mut self, n: u32, source: Vertex) -> Result<(), LineFault>
         ensures set { OnOk result (answers_so_far self.new ≡ with_lines n (answers_so_far self.old) (OneSource source) self.old.lines.items) }
         ensures memory { IfErr result (λ e. e ≡ LineFault.Memory) }
     {
@@ -175,7 +176,7 @@ impl TakenAnswers {
     }
 
     // The line of the next vertex, from one source.
-    fn vertex_from(&mut self, n: u32, slots: &[Slot], source: u32) -> Result<(), LineFault>
+    fn vertex_from(&mut self, n: u32, slots: &[Slot], source: Vertex) -> Result<(), LineFault>
         ensures { Leaves (answer_line n (answers_so_far self.old) (map word_in slots.now) 0 (Ok []) (InLines (OneSource source) self.old.lines.items)) result (answers_so_far self.new) }
     {
         let line = vertex_in(slots, self.lines.len() as u64 + 1)?;
@@ -197,7 +198,7 @@ impl TakenAnswers {
     }
 
     // The value of a pair.
-    fn value(&mut self, slots: &[Slot], source: u32, target: u32) -> Result<(), LineFault>
+    fn value(&mut self, slots: &[Slot], source: Vertex, target: Vertex) -> Result<(), LineFault>
         ensures { Leaves (answer_line 0 (answers_so_far self.old) (map word_in slots.now) 0 (Ok []) (AfterPair source target)) result (answers_so_far self.new) }
     {
         match found_in(slots)? {
@@ -218,8 +219,8 @@ impl TakenAnswers {
         &mut self,
         slots: &[Slot],
         present: &mut PresentNumbers,
-        source: u32,
-        target: u32,
+        source: Vertex,
+        target: Vertex,
         code: u64,
         hops: u32,
     ) -> Result<(), LineFault>
@@ -242,7 +243,8 @@ impl TakenAnswers {
     ) -> Result<(), LineFault>
         ensures { Leaves (answer_line n (answers_so_far self.old) (map word_in slots.now) present.old.count (numbers_given present.old) (answers_so_far self.old).stage) result (answers_so_far self.new) }
     {
-        match self.awaited {
+        let awaited = self.awaited;
+        match awaited {
             Awaited::Between => self.question(n, slots, present),
             Awaited::Source(source) => self.vertex_from(n, slots, source),
             Awaited::Sources => self.vertex_from_many(n, slots),

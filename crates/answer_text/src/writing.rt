@@ -6,10 +6,12 @@ ghost use Rattle.answer_text.specs.AnswerText.{answer_text, answers_text, blocks
 ghost use Rattle.answer_text.specs.Told.{found_of, told_list_of, told_of};
 
 use crate::answers::{Answer, Answers, Found, Reached};
-use crate::lines::{fill_vertex, line_of_found, line_of_header, line_of_pair, line_of_source};
+use crate::lines::{line_of_found, line_of_header, line_of_pair, line_of_source};
+use crate::vertex_lines::VertexLine;
 use path_algebra::AlgebraName;
-use road_files::Kind;
-use road_text::{Line, RoadWrite, WriteFault, write_bytes, write_list};
+use road_files::{Kind, write_list};
+use road_graph::Vertex;
+use road_text::{RoadWrite, WriteFault, write_bytes};
 
 /// The most answers that a text may have.
 pub const MAX_ANSWERS: u32 = 1_048_576;
@@ -26,31 +28,31 @@ pub fn write_header<W: RoadWrite>(
     write_bytes(to, line_of_header(kind, count, name).as_str().as_bytes())
 }
 
-/// Writes the first line of an answer from one source. `write_vertex` writes the lines that follow it.
-pub fn write_source_line<W: RoadWrite>(to: &mut W, source: u32) -> Result<(), WriteFault>
+/// Writes the first line of an answer from one source. `write_vertex_line` writes the lines that follow it.
+pub fn write_source_line<W: RoadWrite>(to: &mut W, source: Vertex) -> Result<(), WriteFault>
     ensures { WritesText W.written W.failures to.old to.new (spelled (source_words source)) result }
 {
     write_bytes(to, line_of_source(source).as_str().as_bytes())
 }
 
-/// Writes the first line of an answer from several sources. `write_vertex` writes the lines that follow it.
-pub fn write_sources_line<W: RoadWrite>(to: &mut W, sources: &[u32]) -> Result<(), WriteFault>
+/// Writes the first line of an answer from several sources. `write_vertex_line` writes the lines that follow it.
+pub fn write_sources_line<W: RoadWrite>(to: &mut W, sources: &[Vertex]) -> Result<(), WriteFault>
     ensures { WritesText W.written W.failures to.old to.new (spelled (list_words (codes "m") sources.now)) result }
 {
     write_list(to, b"m", sources)
 }
 
 /// Writes the line of a vertex. `line` is room for the text of it, whatever it holds: one serves for all vertices.
-pub fn write_vertex<W: RoadWrite>(
+pub fn write_vertex_line<W: RoadWrite>(
     to: &mut W,
-    line: &mut Line,
+    line: &mut VertexLine,
     vertex: u64,
     reached: Option<Reached>,
 ) -> Result<(), WriteFault>
     ensures { WritesText W.written W.failures to.old to.new (spelled (vertex_words vertex reached)) result }
 {
-    fill_vertex(line, vertex, reached);
-    write_bytes(to, line.as_str().as_bytes())
+    line.fill(vertex, reached);
+    write_bytes(to, line.as_bytes())
 }
 
 // Writes the lines of all vertices.
@@ -58,10 +60,10 @@ fn write_vertices<W: RoadWrite>(to: &mut W, lines: &[Option<Reached>]) -> Result
     ensures { WritesText W.written W.failures to.old to.new (text_of (vertex_lines 1 lines.now)) result }
 {
     let mut vertex: u64 = 0;
-    let mut text = Line::new();
+    let mut text = VertexLine::new();
     for line in lines {
         vertex += 1;
-        write_vertex(to, &mut text, vertex, *line)?;
+        write_vertex_line(to, &mut text, vertex, *line)?;
     }
     Ok(())
 }
@@ -70,7 +72,7 @@ fn write_vertices<W: RoadWrite>(to: &mut W, lines: &[Option<Reached>]) -> Result
 #[tactic(auto, using(road_text::proofs::WriteLaws::wrote_then, road_text::proofs::WriteLaws::fell_first))]
 fn write_source<W: RoadWrite>(
     to: &mut W,
-    source: u32,
+    source: Vertex,
     lines: &[Option<Reached>],
 ) -> Result<(), WriteFault>
     ensures { WritesText W.written W.failures to.old to.new (spelled (source_words source) ++ text_of (vertex_lines 1 lines.now)) result }
@@ -83,7 +85,7 @@ fn write_source<W: RoadWrite>(
 #[tactic(auto, using(road_text::proofs::WriteLaws::wrote_then, road_text::proofs::WriteLaws::fell_first))]
 fn write_multi<W: RoadWrite>(
     to: &mut W,
-    sources: &[u32],
+    sources: &[Vertex],
     lines: &[Option<Reached>],
 ) -> Result<(), WriteFault>
     ensures { WritesText W.written W.failures to.old to.new (spelled (list_words (codes "m") sources.now) ++ text_of (vertex_lines 1 lines.now)) result }
@@ -92,7 +94,11 @@ fn write_multi<W: RoadWrite>(
     write_vertices(to, lines)
 }
 
-fn write_pair_line<W: RoadWrite>(to: &mut W, source: u32, target: u32) -> Result<(), WriteFault>
+fn write_pair_line<W: RoadWrite>(
+    to: &mut W,
+    source: Vertex,
+    target: Vertex,
+) -> Result<(), WriteFault>
     ensures { WritesText W.written W.failures to.old to.new (spelled (pair_words source target)) result }
 {
     write_bytes(to, line_of_pair(source, target).as_str().as_bytes())
@@ -116,7 +122,7 @@ fn write_found<W: RoadWrite>(
     to: &mut W,
     code: u64,
     hops: u32,
-    route: &[u32],
+    route: &[Vertex],
 ) -> Result<(), WriteFault>
     ensures { WritesText W.written W.failures to.old to.new (text_of (found_words code hops ∷ list_words (codes "r") route.now ∷ [])) result }
 {
@@ -127,8 +133,8 @@ fn write_found<W: RoadWrite>(
 // Writes the answer of a pair.
 fn write_pair<W: RoadWrite>(
     to: &mut W,
-    source: u32,
-    target: u32,
+    source: Vertex,
+    target: Vertex,
     found: &Option<Found>,
 ) -> Result<(), WriteFault>
     ensures { WritesText W.written W.failures to.old to.new (text_of (pair_words source target ∷ found_lines (option_map found_of found.now))) result }

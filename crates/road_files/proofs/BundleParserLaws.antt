@@ -15,14 +15,13 @@ use Rattle.road_text.proofs.WordLaws.{held, held_words, short_word}
 use Rattle.road_files.specs.declared.questions.Questions.{Questions}
 use Rattle.road_files.specs.declared.bundle_part.BundlePart.{BundlePart}
 use Rattle.road_files.specs.declared.bundle_part.BundlePart.TheVariants as parts
-use Rattle.road_files.specs.declared.bundle_parser.BundleParser.{BundleParser}
 use Rattle.road_files.specs.Asked.{AreQuestionsOf}
 use Rattle.road_files.specs.declared.graph_parser.GraphParser.{GraphParser}
 use Rattle.road_files.specs.GraphFiles.{RoadsSoFar, gr_line}
 use Rattle.road_files.specs.GraphTakes.{roads_so_far, taken_of}
 use Rattle.road_files.specs.QuestionFiles.{question_line, question_line_of}
 use Rattle.road_files.specs.QuestionTakes.{sources_given, begun_of}
-use Rattle.road_files.specs.BundleFiles.{InGraph, InQuestions, begins_questions, bundle_line, bundle_of, bundle_rules}
+use Rattle.road_files.specs.BundleFiles.{InGraph, InQuestions, begins_questions, bundle_line, bundle_with, bundle_rules}
 use Rattle.road_files.specs.BundleTakes.{bundle_so_far, kept_line, PartSoFar, GivesBundle}
 use Rattle.road_files.proofs.GraphParserLaws.{few}
 use Rattle.road_files.proofs.HeldGraphLines.{line_held}
@@ -67,12 +66,12 @@ short_rule p g new l letter tail head weight was a h taken =
     ap (λ b. bundle_line b (map word_of (fields l))) was ∙ rw (none, taken) refl
 
 -- what a new parser gives is the text's by the rules
-module _ (s : BundleParser) (start : bundle_so_far s.part ≡ InGraph None) where
-  pub by_value : (cut : Bool) (ls : List (List ℕ)) (b : Roads × Questions) → GivesBundle cut s 1 ls (Ok b) → reading cut bundle_rules 1 (InGraph None) ls ≡ Ok (bundle_of b)
-  by_value cut ls b h = subst (λ o. reading cut bundle_rules 1 o ls ≡ Ok (bundle_of b)) start h.0
+module _ {G : Type 0} (roads : G → Roads) (p : BundlePart) (start : bundle_so_far p ≡ InGraph None) where
+  pub by_value : (cut : Bool) (ls : List (List ℕ)) (b : G × Questions) → GivesBundle roads cut p 1 ls (Ok b) → reading cut bundle_rules 1 (InGraph None) ls ≡ Ok (bundle_with roads b)
+  by_value cut ls b h = subst (λ o. reading cut bundle_rules 1 o ls ≡ Ok (bundle_with roads b)) start h.0
 
-  pub by_fault : (cut : Bool) (ls : List (List ℕ)) (f : ReadFault) → GivesBundle cut s 1 ls (Err f) → reading cut bundle_rules 1 (InGraph None) ls ≡ Err f
+  pub by_fault : (cut : Bool) (ls : List (List ℕ)) (f : ReadFault) → GivesBundle roads cut p 1 ls (Err f) → reading cut bundle_rules 1 (InGraph None) ls ≡ Err f
   by_fault cut ls f h = subst (λ o. reading cut bundle_rules 1 o ls ≡ Err f) start h.0
 
-  pub by_fit : (cut : Bool) (ls : List (List ℕ)) (b : Roads × Questions) → GivesBundle cut s 1 ls (Ok b) → AreQuestionsOf b.0.vertices b.1
+  pub by_fit : (cut : Bool) (ls : List (List ℕ)) (b : G × Questions) → GivesBundle roads cut p 1 ls (Ok b) → AreQuestionsOf (roads b.0).vertices b.1
   by_fit cut ls b h = h.1

@@ -26,11 +26,11 @@ pub line_rule : (s : GraphParser) (slots : List Slot) (l : List ℕ) → ShowsLi
 line_rule s slots l shown = gr_line_kept (taken_of s) (map word_in slots) (fields l) (few s.taken) shown
 
 -- what a new parser gives is the text's by the rules
-module _ (s : GraphParser) (none : taken_of s ≡ None) where
-  pub by_value : (cut : Bool) (ls : List (List ℕ)) (v : Roads) → GivesRoads cut s 1 ls (Ok v) → reading cut gr_rules 1 None ls ≡ Ok v
-  by_value cut ls v h = subst (λ o. reading cut gr_rules 1 o ls ≡ Ok v) none h
+module _ {G : Type 0} (roads : G → Roads) (s : GraphParser) (none : taken_of s ≡ None) where
+  pub by_value : (cut : Bool) (ls : List (List ℕ)) (v : G) → GivesRoads roads cut s 1 ls (Ok v) → reading cut gr_rules 1 None ls ≡ Ok (roads v)
+  by_value cut ls v h = subst (λ o. reading cut gr_rules 1 o ls ≡ Ok (roads v)) none h
 
-  pub by_fault : (cut : Bool) (ls : List (List ℕ)) (f : ReadFault) → GivesRoads cut s 1 ls (Err f) → reading cut gr_rules 1 None ls ≡ Err f
+  pub by_fault : (cut : Bool) (ls : List (List ℕ)) (f : ReadFault) → GivesRoads roads cut s 1 ls (Err f) → reading cut gr_rules 1 None ls ≡ Err f
   by_fault cut ls f h = subst (λ o. reading cut gr_rules 1 o ls ≡ Err f) none h
 
 -- an arc line, by its words

@@ -12,3 +12,5 @@ pub mod QuestionsAgain
 pub mod BundleAgain
 pub mod RoadNumbers
 pub mod GraphIsSaid
+pub mod RequestParserLaws
+pub mod QuestionSources

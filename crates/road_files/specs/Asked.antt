@@ -1,5 +1,5 @@
 -- What questions ask, as plain data: numbers and lists.
-use Rattle.std.specs.Prelude.{ℕ, ◌≤◌, List, length, map, All, Vec}
+use Rattle.std.specs.Prelude.{ℕ, ◌≤◌, List, [], ◌∷◌, length, map, All, Vec}
 use Rattle.std.specs.declared.alloc.Global.{Global}
 use Rattle.std.specs.Coded.{Π_prop}
 pub use Rattle.road_files.specs.Vertices.{IsVertexOf, IsPairOf, AreSourcesOf}
@@ -14,6 +14,12 @@ pub data Question : Type 0 where
   FromSource : (source : ℕ) → Question
   BetweenPair : (source target : ℕ) → Question
   FromSources : (sources : List ℕ) → Question
+
+-- the sources of a question: each is where a diffusion of its own begins
+abbrev pub sources_of : Question → List ℕ
+sources_of (FromSource s) = s ∷ []
+sources_of (BetweenPair s t) = s ∷ []
+sources_of (FromSources ss) = ss
 
 -- the questions of a file
 pub record Asked : Type 0 where

@@ -12,6 +12,10 @@ use Rattle.road_files.specs.QuestionFiles.{AskedSoFar, question_problem, questio
 abbrev pub bundle_of : Roads × Questions → Roads × Asked
 bundle_of b = (b.0, asked_of b.1)
 
+-- the same of a graph that is these roads
+abbrev pub bundle_with : {G : Type 0} → (G → Roads) → G × Questions → Roads × Asked
+bundle_with roads b = (roads b.0, asked_of b.1)
+
 -- the part that is read, and what was read so far
 pub data BundleSoFar : Type 0 where
   InGraph : (graph : Option RoadsSoFar) → BundleSoFar

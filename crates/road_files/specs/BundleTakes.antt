@@ -8,11 +8,10 @@ use Rattle.road_text.specs.Words.{Word}
 use Rattle.road_files.specs.declared.questions.Questions.{Questions}
 use Rattle.road_files.specs.declared.bundle_part.BundlePart.{BundlePart}
 use Rattle.road_files.specs.declared.bundle_part.BundlePart.TheVariants as parts
-use Rattle.road_files.specs.declared.bundle_parser.BundleParser.{BundleParser}
 use Rattle.road_files.specs.Asked.{AreQuestionsOf}
 use Rattle.road_files.specs.GraphTakes.{roads_so_far, taken_of}
 use Rattle.road_files.specs.QuestionTakes.{SoFar, sources_given, begun_of}
-use Rattle.road_files.specs.BundleFiles.{BundleSoFar, InGraph, InQuestions, begins_questions, first_question_line, graph_part_line, question_part_line, bundle_of, bundle_rules}
+use Rattle.road_files.specs.BundleFiles.{BundleSoFar, InGraph, InQuestions, begins_questions, first_question_line, graph_part_line, question_part_line, bundle_with, bundle_rules}
 
 -- what was read so far, by the part that is read
 abbrev pub bundle_so_far : BundlePart → BundleSoFar
@@ -29,10 +28,10 @@ abbrev pub PartSoFar : BundlePart → List (List ℕ) → Type 0
 PartSoFar (parts.Graph g) fs = ⊤
 PartSoFar (parts.Questions p) fs = SoFar p.questions.list fs
 
--- the lines from a number on give this
-abbrev pub GivesBundle : Bool → BundleParser → ℕ → List (List ℕ) → Result (Roads × Questions) ReadFault → Type 0
-GivesBundle cut s at ls r = GivesBy bundle_rules (bundle_so_far s.part) bundle_of cut at ls r × IfOk r (λ b. AreQuestionsOf b.0.vertices b.1)
+-- the lines from a number on give this, where the graph that is made is these roads
+abbrev pub GivesBundle : {G : Type 0} → (G → Roads) → Bool → BundlePart → ℕ → List (List ℕ) → Result (G × Questions) ReadFault → Type 0
+GivesBundle roads cut p at ls r = GivesBy bundle_rules (bundle_so_far p) (bundle_with roads) cut at ls r × IfOk r (λ b. AreQuestionsOf (roads b.0).vertices b.1)
 
 -- the fields of a list are kept before its line ends
-abbrev pub bundle_meaning : Meaning BundleParser (Roads × Questions)
-bundle_meaning = record { gives = GivesBundle; so_far = λ s fs. PartSoFar s.part fs }
+abbrev pub bundle_meaning : {S G : Type 0} → (S → BundlePart) → (G → Roads) → Meaning S (G × Questions)
+bundle_meaning part roads = record { gives = λ cut s at ls r. GivesBundle roads cut (part s) at ls r; so_far = λ s fs. PartSoFar (part s) fs }

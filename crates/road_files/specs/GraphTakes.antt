@@ -27,10 +27,10 @@ taken_of s = option_map roads_so_far s.taken
 abbrev pub HoldsNoRoom : Option TakenRoads → Type 0
 HoldsNoRoom taken = IfSome taken (λ t. t.arcs.cap ≡ 0)
 
--- the lines from a number on give this
-abbrev pub GivesRoads : Bool → GraphParser → ℕ → List (List ℕ) → Result Roads ReadFault → Type 0
-GivesRoads cut s at ls r = GivesBy gr_rules (taken_of s) (λ g. g) cut at ls r
+-- the lines from a number on give this, where the graph that is made is these roads
+abbrev pub GivesRoads : {G : Type 0} → (G → Roads) → Bool → GraphParser → ℕ → List (List ℕ) → Result G ReadFault → Type 0
+GivesRoads roads cut s at ls r = GivesBy gr_rules (taken_of s) roads cut at ls r
 
 -- no field is kept before its line ends
-abbrev pub graph_meaning : Meaning GraphParser Roads
-graph_meaning = record { gives = GivesRoads; so_far = λ _ _. Unit {0} }
+abbrev pub graph_meaning : {S G : Type 0} → (S → GraphParser) → (G → Roads) → Meaning S G
+graph_meaning parser roads = record { gives = λ cut s at ls r. GivesRoads roads cut (parser s) at ls r; so_far = λ _ _. Unit {0} }

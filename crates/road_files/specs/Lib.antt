@@ -9,3 +9,5 @@ pub mod BundleFiles
 pub mod BundleTakes
 pub mod WrittenFiles
 pub mod GraphLines
+pub mod ServiceText
+pub mod RequestTakes

@@ -1,5 +1,5 @@
 -- What the parser of a question file holds, as the rules have it.
-use Rattle.std.specs.Prelude.{◌≡◌, ℕ, ◌≤◌, min, List, length, drop, map, Bool, true, Option, Some, None, option_map, Result, Ok, Err, IfOk}
+use Rattle.std.specs.Prelude.{◌≡◌, ℕ, ◌≤◌, min, List, [], ◌∷◌, length, drop, map, Bool, true, Option, Some, None, option_map, Result, Ok, Err, IfOk}
 use Rattle.road_text.specs.declared.faults.ReadFault.{ReadFault}
 use Rattle.road_text.specs.declared.faults.Rule.{Rule}
 use Rattle.road_text.specs.Takes.{GivesBy}
@@ -10,7 +10,7 @@ use Rattle.road_files.specs.declared.questions.Questions.{Questions}
 use Rattle.road_files.specs.declared.present_list.PresentList.{PresentList}
 use Rattle.road_files.specs.declared.taken_questions.TakenQuestions.{TakenQuestions}
 use Rattle.road_files.specs.declared.question_parser.QuestionParser.{QuestionParser}
-use Rattle.road_files.specs.Asked.{asked_of, AreQuestionsOf}
+use Rattle.road_files.specs.Asked.{Asked, asked_of, AreQuestionsOf}
 use Rattle.road_files.specs.QuestionFiles.{AskedSoFar, vertices_in, begins_list, may_be, question_rules}
 
 -- the sources that were listed, or the first fault among them
@@ -48,3 +48,8 @@ GivesQuestions cut s at ls r = GivesBy (question_rules s.list.vertices s.only) (
 -- the fields of a list are kept before its line ends
 abbrev pub question_meaning : Meaning QuestionParser Questions
 question_meaning = record { gives = GivesQuestions; so_far = λ s fs. SoFar s.list fs }
+
+-- the questions that have ended, if any
+abbrev pub asked_list : Option Questions → List (Result Asked ℕ)
+asked_list None = []
+asked_list (Some q) = Ok (asked_of q) ∷ []

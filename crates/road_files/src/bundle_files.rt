@@ -2,13 +2,25 @@
 ghost use Rattle.std.specs.Prelude.{IfOk};
 ghost use Rattle.road_text.specs.Reads.{ReadsText};
 ghost use Rattle.road_files.specs.Asked.{AreQuestionsOf};
-ghost use Rattle.road_files.specs.BundleFiles.{bundle_of, bundle_rules};
+ghost use Rattle.road_files.specs.BundleFiles.{bundle_of, bundle_with, bundle_rules};
 
 use crate::bundle_parser::BundleParser;
+use crate::from_arcs::FromArcs;
 use crate::questions::Questions;
 use road_graph::Graph;
 use road_text::{ReadFault, RoadRead, read_whole};
 use std::alloc::Global;
+
+/// The graph, as a graph of any kind, and the questions of a bundle.
+pub fn read_bundle_as<R: RoadRead, G: FromArcs>(
+    alloc: Global,
+    from: &mut R,
+) -> Result<(G, Questions), ReadFault>
+    ensures reads { ReadsText R.left R.failures R.asked from.old from.new bundle_rules (bundle_with G.roads) 10 19 result }
+    ensures fit { IfOk result (λ b. AreQuestionsOf (G.roads b.0).vertices b.1) }
+{
+    read_whole(from, BundleParser::new(alloc))
+}
 
 /// The graph and the questions of a bundle.
 pub fn read_bundle<R: RoadRead>(
@@ -18,5 +30,5 @@ pub fn read_bundle<R: RoadRead>(
     ensures reads { ReadsText R.left R.failures R.asked from.old from.new bundle_rules bundle_of 10 19 result }
     ensures fit { IfOk result (λ b. AreQuestionsOf b.0.vertices b.1) }
 {
-    read_whole(from, BundleParser::new(alloc))
+    read_bundle_as(alloc, from)
 }

@@ -10,13 +10,14 @@ ghost use Rattle.road_files.specs.GraphTakes.{roads_so_far, taken_of};
 ghost use Rattle.road_files.specs.QuestionTakes.{SoFar, sources_given, begun_of};
 
 use crate::bundle_part::{BundlePart, QuestionPart};
+use crate::from_arcs::FromArcs;
 use crate::graph_parser::GraphParser;
 use crate::questions::Questions;
 use crate::rules::NO_PROBLEM;
 use crate::taken_roads::TakenRoads;
-use road_graph::Graph;
 use road_text::{LineFault, LineParser, Slot};
 use std::alloc::Global;
+use std::marker::PhantomData;
 
 // Whether a line ends the graph part.
 #[tactic(auto, unfolding(crate::specs::BundleFiles::begins_questions))]
@@ -36,14 +37,15 @@ fn no_questions(graph: GraphParser) -> LineFault
     }
 }
 
-/// Takes the lines of a bundle.
+/// Takes the lines of a bundle, and makes a graph and questions of what they say.
 #[derive(Drop)]
-pub struct BundleParser {
+pub struct BundleParser<G> {
     pub alloc: Global,
     pub part: BundlePart,
+    pub made: PhantomData<G>,
 }
 
-impl BundleParser {
+impl<G: FromArcs> BundleParser<G> {
     ghost use Rattle.road_files.specs.BundleTakes.{bundle_so_far, kept_line, PartSoFar};
 
     /// No line was taken yet.
@@ -54,6 +56,7 @@ impl BundleParser {
         BundleParser {
             alloc,
             part: BundlePart::Graph(GraphParser::new(alloc)),
+            made: PhantomData,
         }
     }
 
@@ -75,12 +78,12 @@ impl BundleParser {
     }
 }
 
-impl LineParser for BundleParser {
+impl<G: FromArcs> LineParser for BundleParser<G> {
     ghost use Rattle.road_files.specs.BundleTakes.{bundle_meaning};
 
-    type Value = (Graph, Questions);
+    type Value = (G, Questions);
 
-    ghost meaning = { bundle_meaning };
+    ghost meaning = { bundle_meaning (λ s. s.part) G.roads };
 
     fn field(&mut self, slot: &Slot) -> Result<(), LineFault> {
         match &mut self.part {
@@ -100,7 +103,7 @@ impl LineParser for BundleParser {
         }
     }
 
-    fn finish(self) -> Result<(Graph, Questions), LineFault> {
+    fn finish(self) -> Result<(G, Questions), LineFault> {
         let part = self.part;
         match part {
             BundlePart::Graph(graph) => Err(no_questions(graph)),

@@ -6,11 +6,11 @@ ghost use Rattle.road_text.specs.Takes.{Leaves, Breaks};
 ghost use Rattle.road_files.specs.Asked.{asked_of, AreQuestionsOf};
 ghost use Rattle.road_files.specs.BundleFiles.{InGraph, InQuestions, first_question_line, question_part_line, bundle_end};
 
+use crate::from_arcs::FromArcs;
 use crate::graph_parser::GraphParser;
 use crate::question_parser::QuestionParser;
 use crate::questions::Questions;
 use crate::taken_roads::TakenRoads;
-use road_graph::Graph;
 use road_text::{LineFault, Slot};
 use std::alloc::Global;
 
@@ -49,9 +49,9 @@ impl QuestionPart {
     }
 
     /// The graph and the questions, where all announced ones are there.
-    pub fn whole(self, alloc: Global) -> Result<(Graph, Questions), LineFault>
-        ensures rule { MatchResult result (λ b. bundle_end (InQuestions (roads_so_far self.roads) (begun_of self.questions)) ≡ Ok (b.0, asked_of b.1)) (Breaks (bundle_end (InQuestions (roads_so_far self.roads) (begun_of self.questions)))) }
-        ensures fit { IfOk result (λ b. AreQuestionsOf b.0.vertices b.1) }
+    pub fn whole<G: FromArcs>(self, alloc: Global) -> Result<(G, Questions), LineFault>
+        ensures rule { MatchResult result (λ b. bundle_end (InQuestions (roads_so_far self.roads) (begun_of self.questions)) ≡ Ok (G.roads b.0, asked_of b.1)) (Breaks (bundle_end (InQuestions (roads_so_far self.roads) (begun_of self.questions)))) }
+        ensures fit { IfOk result (λ b. AreQuestionsOf (G.roads b.0).vertices b.1) }
     {
         let QuestionPart { roads, questions } = self;
         let questions = questions.whole()?;

@@ -12,8 +12,7 @@ ghost use Rattle.road_files.specs.GraphTakes.{roads_so_far, FitsArc, HoldsNoRoom
 use crate::number_fields::number_up_to;
 use crate::rules::{BAD_PROBLEM, NO_PROBLEM, SECOND_PROBLEM, UNKNOWN_LINE};
 use crate::taken_roads::TakenRoads;
-use road_graph::Graph;
-use road_text::{LineFault, LineParser, Slot};
+use road_text::{LineFault, Slot};
 use std::alloc::Global;
 
 /// The most vertices of a graph.
@@ -102,31 +101,4 @@ impl GraphParser {
         }
         Err(LineFault::Broken(UNKNOWN_LINE))
     }
-}
-
-impl LineParser for GraphParser {
-    ghost use Rattle.road_files.specs.GraphTakes.{graph_meaning};
-
-    type Value = Graph;
-
-    ghost meaning = { graph_meaning };
-
-    fn field(&mut self, _slot: &Slot) -> Result<(), LineFault> {
-        Ok(())
-    }
-
-    fn line(&mut self, slots: &[Slot]) -> Result<(), LineFault> {
-        self.take(slots)
-    }
-
-    fn short_line(&mut self, letter: u8, numbers: (u64, u64, u64)) -> bool {
-        self.short(letter, numbers)
-    }
-
-    fn finish(self) -> Result<Graph, LineFault> {
-        let roads = TakenRoads::whole(self.taken)?;
-        roads.build(self.alloc)
-    }
-
-    ghost stops_short = { λ s at. refl };
 }

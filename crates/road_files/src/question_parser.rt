@@ -60,6 +60,9 @@ pub struct QuestionParser {
 
 impl QuestionParser {
     ghost use Rattle.road_files.specs.QuestionTakes.{SoFar, sources_given, begun_of, FitsFile};
+    ghost use Rattle.road_files.specs.Asked.{AreQuestionsOf};
+    ghost use Rattle.road_files.specs.ServiceText.{whole_or_on, Gives};
+    ghost use Rattle.road_files.specs.QuestionTakes.{asked_list};
 
     /// No line was taken yet, of questions over a graph with this number of vertices.
     pub fn new(alloc: Global, vertices: u32, only: Option<Kind>) -> Self
@@ -157,6 +160,25 @@ impl QuestionParser {
             return self.sources();
         }
         Err(LineFault::Broken(UNKNOWN_LINE))
+    }
+
+    /// The questions, where all announced ones are there; others may begin then.
+    pub fn take_whole(&mut self) -> Option<Questions>
+        ensures step { whole_or_on (begun_of self.old) (question_end (begun_of self.old)) ≡ record { ended = asked_list result; next = Gives (begun_of self.new) } }
+        ensures fit { IfSome result (AreQuestionsOf self.old.list.vertices) }
+        ensures only { self.new.only ≡ self.old.only }
+        ensures list { self.new.list ≡ self.old.list }
+    {
+        match self.begun.take() {
+            None => None,
+            Some(begun) => {
+                if begun.questions.len() < begun.announced as usize {
+                    self.begun = Some(begun);
+                    return None;
+                }
+                Some(begun.questions)
+            }
+        }
     }
 
     /// The questions, where all announced ones are there.

@@ -1,4 +1,5 @@
 //! Questions over a road graph as they are held in memory.
+ghost use Rattle.std.specs.Prelude.{◌≡◌, ◌↔◌, IsTrue};
 
 use road_graph::Vertex;
 use road_text::Slot;
@@ -49,6 +50,13 @@ impl Kind {
     }
 }
 
+/// Whether two lists have the same vertices, in the same order.
+pub fn are_same(these: &[Vertex], those: &[Vertex]) -> bool
+    ensures { IsTrue result ↔ (these.now ≡ those.now) }
+{
+    these == those
+}
+
 /// The questions of a file, in order.
 #[derive(Debug, Drop)]
 pub enum Questions {
@@ -61,8 +69,8 @@ pub enum Questions {
 }
 
 impl Questions {
-    ghost use Rattle.std.specs.Prelude.{◌≡◌, ◌↔◌, [], length, IsTrue};
-    ghost use Rattle.road_files.specs.Asked.{asked_of};
+    ghost use Rattle.std.specs.Prelude.{◌≡◌, ◌<◌, ◌↔◌, [], length, slice_index_or, IsTrue};
+    ghost use Rattle.road_files.specs.Asked.{Question, asked_of, sources_of};
 
     /// How many questions there are.
     pub fn len(&self) -> usize
@@ -80,6 +88,18 @@ impl Questions {
         ensures { IsTrue result ↔ ((asked_of self.now).questions ≡ []) }
     {
         self.len() == 0
+    }
+
+    /// The sources of the question at an index, in order.
+    pub fn sources(&self, i: usize) -> &[Vertex]
+        requires { i < length (asked_of self.now).questions }
+        ensures { (default : Question) → result.now ≡ sources_of (slice_index_or (asked_of self.now).questions i default) }
+    {
+        match self {
+            Questions::Sources(sources) => std::slice::from_ref(&sources[i]),
+            Questions::Pairs(pairs) => std::slice::from_ref(&pairs[i].0),
+            Questions::Multi(lists) => lists[i].as_slice(),
+        }
     }
 
     /// Their kind.

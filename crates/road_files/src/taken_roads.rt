@@ -5,9 +5,10 @@ ghost use Rattle.road_text.specs.Slots.{word_in};
 ghost use Rattle.road_text.specs.Takes.{Leaves, Breaks};
 ghost use Rattle.road_files.specs.GraphFiles.{one_arc, gr_whole, graph_read};
 
+use crate::from_arcs::FromArcs;
 use crate::number_fields::{number_up_to, vertex_of};
 use crate::rules::{FIELDS, NO_PROBLEM, TOO_FEW, TOO_MANY};
-use road_graph::{Graph, GraphFault, RoadArc, Vertex};
+use road_graph::{RoadArc, Vertex};
 use road_text::{LineFault, Slot};
 use std::alloc::Global;
 
@@ -98,14 +99,13 @@ impl TakenRoads {
     }
 
     /// The graph of the arcs that were taken.
-    pub fn build(self, alloc: Global) -> Result<Graph, LineFault>
-        ensures graph { IfOk result (λ g. g ≡ graph_read (roads_so_far self)) }
+    pub fn build<G: FromArcs>(self, alloc: Global) -> Result<G, LineFault>
+        ensures graph { IfOk result (λ g. G.roads g ≡ graph_read (roads_so_far self)) }
         ensures memory { IfErr result (λ e. e ≡ LineFault.Memory) }
     {
-        match Graph::new(alloc, self.vertices, self.arcs) {
+        match G::from_arcs(alloc, self.vertices, self.arcs) {
             Ok(graph) => Ok(graph),
-            Err((GraphFault::Memory, _)) => Err(LineFault::Memory),
-            Err((GraphFault::BadEnd(_), _)) => unreachable!(),
+            Err(_) => Err(LineFault::Memory),
         }
     }
 }

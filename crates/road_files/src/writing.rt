@@ -1,5 +1,5 @@
 //! Writes road graphs and questions, each file in its one spelling. No writer takes memory.
-ghost use Rattle.std.specs.Prelude.{◌≡◌, ◌≤◌, ◌+◌, ◌∷◌, ℕ, List, length, map, codes};
+ghost use Rattle.std.specs.Prelude.{◌≡◌, ◌≤◌, ◌+◌, ◌∷◌, ℕ, List, length, map};
 ghost use Rattle.road_graph.specs.Roads.{Roads};
 ghost use Rattle.road_text.specs.Texts.{spelled, list_words, spaced, text_of};
 ghost use Rattle.road_text.specs.Written.{WritesText};
@@ -87,20 +87,24 @@ fn write_vertices<W: RoadWrite>(to: &mut W, vertices: &[Vertex]) -> Result<(), W
     write_bytes(to, b"\n")
 }
 
-// Writes the line of a list of sources.
+/// Writes a line of a word and vertices, or a prefix of it. It takes no memory, however long the list is.
 #[tactic(auto, using(road_text::proofs::ListLaws::list_then, road_text::proofs::ListLaws::list_fell))]
-fn write_list<W: RoadWrite>(to: &mut W, sources: &[Vertex]) -> Result<(), WriteFault>
-    ensures { WritesText W.written W.failures to.old to.new (spelled (list_words (codes "m") sources.now)) result }
+pub fn write_list<W: RoadWrite>(
+    to: &mut W,
+    word: &[u8],
+    vertices: &[Vertex],
+) -> Result<(), WriteFault>
+    ensures { WritesText W.written W.failures to.old to.new (spelled (list_words word.now vertices.now)) result }
 {
-    write_bytes(to, b"m")?;
-    write_vertices(to, sources)
+    write_bytes(to, word)?;
+    write_vertices(to, vertices)
 }
 
 fn write_lists<W: RoadWrite>(to: &mut W, lists: &[Vec<Vertex>]) -> Result<(), WriteFault>
     ensures { WritesText W.written W.failures to.old to.new (text_of (map question_words (map of_list lists.now))) result }
 {
     for list in lists {
-        write_list(to, list)?;
+        write_list(to, b"m", list)?;
     }
     Ok(())
 }

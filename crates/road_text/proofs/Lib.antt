@@ -15,3 +15,4 @@ pub mod ShortLineLaws
 pub mod OwnNumbers
 pub mod WholeTexts
 pub mod FrontNumbers
+pub mod CutterLaws

@@ -3,11 +3,14 @@ use Rattle.std.proofs.Common.{◌≡◌, ℕ, ◌+◌, ◌-◌, ◌≤◌, List,
 use Rattle.std.proofs.lemmas.List.{length-append}
 use Rattle.std.specs.List.{slice_split, join_with_byte}
 use Rattle.road_text.specs.declared.faults.ReadFault.{ReadFault}
+use Rattle.road_text.specs.declared.fields_of.FieldsOf.{FieldsOf}
+use Rattle.road_text.specs.declared.line_cutter.LineCutter.{LineCutter}
 use Rattle.road_text.specs.declared.reader.LineReader.{LineReader}
 use Rattle.road_text.specs.Lines.{lines, is_gap, has_bytes}
 use Rattle.road_text.specs.Scans.{Scan, Shows, scan_of, number_with, word_with}
 use Rattle.road_text.specs.ShortLines.{IsNumberThen, IsShortLine, HasShortFields}
-use Rattle.road_text.specs.Reading.{RestGives, Holds}
+use Rattle.road_text.specs.Cuts.{IsPresent}
+use Rattle.road_text.specs.Reading.{RestGives, SoFarOf}
 use Rattle.road_text.specs.Texts.{spelled, IsWord}
 use Rattle.road_text.specs.Meaning.{Meaning}
 use Rattle.road_text.specs.Words.{Word, held_word}
@@ -83,18 +86,22 @@ begins_again P Q scan ready h = record {
 }
 
 -- a line that was taken whole
-module _ {T V : Type 0} (meaning : Meaning T V) (s : LineReader T) (t : T) (fresh : s.begun ≡ false) (ready : meaning.so_far t []) (bytes : List ℕ) (letter first second third : ℕ) (line : IsShortLine bytes letter first second third)
-    (taken : (cut : Bool) (at : ℕ) (l : List ℕ) (rest : List (List ℕ)) (r : Result V ReadFault) → HasShortFields l letter first second third → meaning.gives cut t (at + 1) rest r → meaning.gives cut s.parser at (l ∷ rest) r) where
-  starts : (present : List ℕ) → Holds (meaning.so_far s.parser) s.begun s.pending (scan_of s.scanner) present → present ≡ [] → Holds (meaning.so_far t) s.begun s.pending (scan_of s.scanner) []
+module _ {T V : Type 0} (meaning : Meaning T V) (s : LineReader T) (t : T) (fresh : s.cutter.begun ≡ false) (ready : meaning.so_far t []) (bytes : List ℕ) (letter first second third : ℕ) (line : IsShortLine bytes letter first second third)
+    (taken : (cut : Bool) (at : ℕ) (l : List ℕ) (rest : List (List ℕ)) (r : Result V ReadFault) → HasShortFields l letter first second third → meaning.gives cut t (at + 1) rest r → meaning.gives cut s.cutter.taker.parser at (l ∷ rest) r) where
+  -- the cutter, with this parser
+  abbrev pub with_parser : LineCutter (FieldsOf T)
+  with_parser = record s.cutter { taker = record { parser = t; refused = s.cutter.taker.refused } }
+
+  starts : (present : List ℕ) → IsPresent (SoFarOf meaning) s.cutter present → present ≡ [] → IsPresent (SoFarOf meaning) with_parser []
   starts present h none =
-      let now : Holds (meaning.so_far s.parser) s.begun s.pending (scan_of s.scanner) [] = subst (Holds (meaning.so_far s.parser) s.begun s.pending (scan_of s.scanner)) none h in
-      record { begun = now.begun; pending = now.pending; shown = begins_again (meaning.so_far s.parser) (meaning.so_far t) (scan_of s.scanner) ready now.shown; whole = now.whole }
+      let now : IsPresent (SoFarOf meaning) s.cutter [] = subst (IsPresent (SoFarOf meaning) s.cutter) none h in
+      record { begun = now.begun; pending = now.pending; shown = begins_again (SoFarOf meaning s.cutter.taker) (SoFarOf meaning with_parser.taker) (scan_of s.cutter.scanner) (λ _. ready) now.shown; whole = now.whole }
 
   pub taken_whole : (cut : Bool) (more : List ℕ) (r : Result V ReadFault)
-      → ((present : List ℕ) → Holds (meaning.so_far t) s.begun s.pending (scan_of s.scanner) present → meaning.gives cut t (s.line + 1) (lines cut (present ++ more)) r) → RestGives cut meaning s (bytes ++ more) r
+      → ((present : List ℕ) → IsPresent (SoFarOf meaning) with_parser present → meaning.gives cut t (s.line + 1) (lines cut (present ++ more)) r) → RestGives cut meaning s (bytes ++ more) r
   taken_whole cut more r h = λ present held.
       let words = (letter ∷ []) ∷ line.one ∷ line.two ∷ line.three ∷ [] in
-      let none : present ≡ [] = nothing s.pending (scan_of s.scanner) present (rw fresh at held) in
+      let none : present ≡ [] = nothing s.cutter.pending (scan_of s.cutter.scanner) present (rw fresh at held) in
       let read : lines cut (present ++ (bytes ++ more)) ≡ join_with_byte 32 words ∷ lines cut more =
       ap (λ p. lines cut (p ++ (bytes ++ more))) none ∙ ap (λ b. lines cut (b ++ more)) line.is ∙ line_again cut words more (line.words.0, (line.words.1, (line.words.2, (line.words.3, tt)))) in
       rw read (taken cut s.line (join_with_byte 32 words) (lines cut more) r (short_fields bytes letter first second third line) (h [] (starts present held none)))

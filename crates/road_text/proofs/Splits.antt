@@ -1,8 +1,8 @@
 -- The parts of a text that grows at its end.
-use Rattle.std.proofs.lemmas.List.{take_more, take_rest}
+use Rattle.std.proofs.lemmas.List.{take_rest}
 use lib.Seq.{take-add}
 use Rattle.std.proofs.Math.Seq.{take-append-add}
-use Rattle.std.proofs.Common.{◌≡◌, ◌<◌, List, [], ◌∷◌, ◌++◌, length, Bool, true, false, cond, refl, ap, arith, ℕ, ◌-◌, take, ◌≤◌, ◌∙◌, All, zero, suc, get_or, drop, ◌+◌, append_assoc}
+use Rattle.std.proofs.Common.{◌≡◌, ◌<◌, List, [], ◌∷◌, ◌++◌, length, Bool, true, false, cond, refl, ap, arith, ℕ, ◌-◌, take, ◌≤◌, ◌∙◌, All, zero, suc, drop, ◌+◌, append_assoc}
 use Rattle.std.specs.List.{slice_split, onto_first}
 use Rattle.std.specs.Char.{is_ascii_digit}
 use Rattle.road_text.specs.Scans.{is_plain}
@@ -68,6 +68,3 @@ plain_digit b digit = grind (arith, digit)
 -- a piece at the front of the rest
 pub take_further : (at n : ℕ) (xs more : List ℕ) → take (at + n) xs ++ more ≡ take at xs ++ (take n (take (length xs - at) (drop at xs)) ++ more)
 take_further at n xs more = rw (take_rest xs at) (ap (λ x. x ++ more) (take-add at n xs) ∙ append_assoc (take at xs) (take n (drop at xs)) more)
-
-pub one_further : (at : ℕ) (xs more : List ℕ) → at < length xs → take (at + 1) xs ++ more ≡ take at xs ++ (get_or xs at 0 ∷ more)
-one_further at xs more lt = ap (λ x. x ++ more) (take_more xs at 0 lt) ∙ append_assoc (take at xs) (get_or xs at 0 ∷ []) more

@@ -1,5 +1,5 @@
 -- The lines of a text, as its bytes come.
-use Rattle.std.proofs.Common.{◌≡◌, ◌≢◌, ℕ, suc, ◌-◌, ◌<◌, List, [], ◌∷◌, ◌++◌, length, take, get_or, Bool, true, false, cond, eqb, ◌||◌, ◌==◌, ◌+◌, refl, sym, ap, ◌∙◌, subst, arith, append-nil, length-append}
+use Rattle.std.proofs.Common.{◌≡◌, ◌≢◌, ℕ, suc, ◌-◌, ◌<◌, List, [], ◌∷◌, ◌++◌, length, take, get_or, Bool, true, false, cond, eqb, ◌||◌, ◌==◌, ◌+◌, refl, sym, ap, ◌∙◌, subst, arith, length-append}
 use Rattle.std.specs.List.{slice_split, All}
 use Rattle.std.specs.Str.Lines.{strip_carriage_return}
 use Rattle.std.proofs.lemmas.List.Splits.{slice_split_at, slice_split_none, length-slice_split}
@@ -10,7 +10,7 @@ use Rattle.std.proofs.lemmas.List.{get_or-append-add}
 use Rattle.road_text.specs.Lines.{lines, lines_of_parts, is_line_end, has_bytes, is_gap}
 use Rattle.road_text.specs.Scans.{Shows, Scan, scan_on, word_with, is_plain}
 use Rattle.road_text.specs.Words.{no_word}
-use Rattle.road_text.specs.Reading.{Holds, ends_in_return}
+use Rattle.road_text.specs.Cuts.{Holds, ends_in_return}
 use Rattle.road_text.proofs.Splits.{All-one}
 use Rattle.road_text.proofs.ScanLaws.{shows_start, shows_on, shows_run}
 
@@ -136,7 +136,11 @@ pub nothing : {P : List (List ℕ) → Type 0} (late : Bool) (scan : Scan) (pres
 nothing late scan [] h = refl
 nothing late scan (b ∷ present) h = cc (h.begun)
 
--- at the end a line that is begun ends as by an LF
-pub lines_closed : {P : List (List ℕ) → Type 0} (late : Bool) (scan : Scan) (present : List ℕ) → Holds P true late scan present → lines false (present ++ 10 ∷ []) ≡ lines false (present ++ [])
-lines_closed late scan [] h = cc (h.begun)
-lines_closed late scan (b ∷ present) h = lines_first false (b ∷ present) [] h.whole ∙ ap (λ ls. strip_carriage_return (b ∷ present) ∷ ls) lines_none ∙ sym (lines_last b present h.whole) ∙ ap (lines false) (sym (append-nil (b ∷ present)))
+-- the lines of a text with one line that has no end, and of one with none
+pub lines_of_last : (present : List ℕ) → has_bytes present ≡ true → All (λ b. is_line_end b ≡ false) present → lines false present ≡ strip_carriage_return present ∷ []
+lines_of_last [] e h = cc
+lines_of_last (b ∷ present) e h = lines_last b present h
+
+pub lines_of_none : (present : List ℕ) → has_bytes present ≡ false → lines false present ≡ []
+lines_of_none [] e = lines_none
+lines_of_none (b ∷ present) e = cc

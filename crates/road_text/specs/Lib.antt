@@ -10,3 +10,4 @@ pub mod Written
 pub mod Scans
 pub mod Reading
 pub mod ShortLines
+pub mod Cuts

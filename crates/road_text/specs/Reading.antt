@@ -1,31 +1,28 @@
 -- What a reader of lines has read of a text, and what the rest of it gives.
-use Rattle.std.specs.Prelude.{◌≡◌, ℕ, ◌+◌, ◌<◌, List, [], ◌++◌, Bool, false, Result, Err, All, slice_index, ◌-◌, ◌==◌, length, ⊤, Option, Some, None, IfSome, ◌≢◌, true, take, nat_lt, ◌≤◌, MatchBool}
-use Rattle.std.specs.Str.Lines.{strip_carriage_return}
+use Rattle.std.specs.Prelude.{◌≡◌, ℕ, ◌+◌, ◌<◌, List, [], ◌∷◌, ◌++◌, Bool, false, Result, Ok, Err, length, ⊤, Option, Some, None, IfSome, ◌≢◌, true, take, nat_lt, ◌≤◌, MatchBool}
 use Rattle.road_text.specs.declared.faults.ReadFault.{ReadFault}
 use Rattle.road_text.specs.declared.faults.Halt.{Halt}
 use Rattle.road_text.specs.declared.faults.Halt.TheVariants.{Read, TooLong, Memory, Broken}
+use Rattle.road_text.specs.declared.fields_of.FieldsOf.{FieldsOf}
 use Rattle.road_text.specs.declared.reader.LineReader.{LineReader}
 use Rattle.road_text.specs.Meaning.{Meaning}
-use Rattle.road_text.specs.Lines.{lines, is_line_end, has_bytes}
+use Rattle.road_text.specs.Cuts.{IsPresent}
+use Rattle.road_text.specs.Lines.{lines}
 use Rattle.road_text.specs.Reads.{FailsAfter, RunsOutAfter}
 use Rattle.road_text.specs.Rules.{too_long}
-use Rattle.road_text.specs.Scans.{scan_of}
-use Rattle.road_text.specs.Scans.{Shows, Scan}
 
--- whether the last byte is a CR
-abbrev pub ends_in_return : List ℕ → Bool
-ends_in_return line = slice_index line (length line - 1) == 13
+-- these may be the fields of the present line so far, unless memory was refused for one
+abbrev pub SoFarOf : {T V : Type 0} → Meaning T V → FieldsOf T → List (List ℕ) → Type 0
+SoFarOf meaning s fs = s.refused ≡ false → meaning.so_far s.parser fs
 
--- these are the bytes since the last line's end: whether there are any, whether a CR is pending, and the record
-pub record Holds (told_of : List (List ℕ) → Type 0) (any late : Bool) (scan : Scan) (present : List ℕ) : Type 0 where
-  pub begun : any ≡ has_bytes present
-  pub pending : late ≡ ends_in_return present
-  pub shown : Shows told_of scan (strip_carriage_return present)
-  pub whole : All (λ b. is_line_end b ≡ false) present
+-- unless memory was refused, it was not before, and what lines give is as it was
+abbrev pub KeepsGiven : {T V : Type 0} → Meaning T V → FieldsOf T → FieldsOf T → Type 0
+KeepsGiven {V = V} meaning s t = t.refused ≡ false → (s.refused ≡ false)
+    × ((cut : Bool) (at : ℕ) (ls : List (List ℕ)) (r : Result V ReadFault) → meaning.gives cut t.parser at ls r → meaning.gives cut s.parser at ls r)
 
 -- the bytes that follow here give this, as the whole text or as one that is cut short
 abbrev pub RestGives : {T V : Type 0} → Bool → Meaning T V → LineReader T → List ℕ → Result V ReadFault → Type 0
-RestGives cut meaning s rest r = (present : List ℕ) → Holds (meaning.so_far s.parser) s.begun s.pending (scan_of s.scanner) present → meaning.gives cut s.parser s.line (lines cut (present ++ rest)) r
+RestGives cut meaning s rest r = (present : List ℕ) → IsPresent (SoFarOf meaning) s.cutter present → meaning.gives cut s.cutter.taker.parser s.line (lines cut (present ++ rest)) r
 
 -- a rule's number is at least 10, and a byte
 abbrev pub IsNumbered : Halt → Type 0
@@ -34,12 +31,20 @@ IsNumbered TooLong = ⊤
 IsNumbered Memory = ⊤
 IsNumbered (Broken f) = (10 ≤ f.number) × (f.number ≤ 255)
 
--- why a line's end was not taken
-abbrev pub LineHalts : {T V : Type 0} → Meaning T V → LineReader T → List ℕ → Halt → Type 0
-LineHalts meaning s bytes Read = ⊥
-LineHalts meaning s bytes TooLong = ⊥
-LineHalts meaning s bytes Memory = ⊤
-LineHalts meaning s bytes (Broken f) = (cut : Bool) (rest : List ℕ) → RestGives cut meaning s (bytes ++ rest) (Err f)
+-- why a line is not taken
+abbrev pub IsOfLine : Halt → Type 0
+IsOfLine Read = ⊥
+IsOfLine TooLong = ⊥
+IsOfLine Memory = ⊤
+IsOfLine (Broken f) = ⊤
+
+-- a line is taken, or why it is not
+abbrev pub LineGoes : {A T V : Type 0} → Meaning T V → T → T → ℕ → List ℕ → Result A Halt → Type 0
+LineGoes {V = V} meaning old new line l (Ok _) = (cut : Bool) (rest : List (List ℕ)) (r : Result V ReadFault) → meaning.gives cut new (line + 1) rest r → meaning.gives cut old line (l ∷ rest) r
+LineGoes meaning old new line l (Err Read) = ⊤
+LineGoes meaning old new line l (Err TooLong) = ⊤
+LineGoes meaning old new line l (Err Memory) = ⊤
+LineGoes meaning old new line l (Err (Broken f)) = (cut : Bool) (rest : List (List ℕ)) → meaning.gives cut old line (l ∷ rest) (Err f)
 
 -- these bytes and no more fit, and they are cut short
 abbrev pub CutShort : {T V : Type 0} → Meaning T V → LineReader T → List ℕ → Type 0
@@ -63,12 +68,12 @@ HaltsAtEnd meaning s TooLong = ⊥
 HaltsAtEnd meaning s Memory = ⊤
 HaltsAtEnd meaning s (Broken f) = RestGives false meaning s [] (Err f)
 
--- the same, where no line is begun
-abbrev pub EndHalts : {T V : Type 0} → Meaning T V → LineReader T → Halt → Type 0
-EndHalts meaning s Read = ⊥
-EndHalts meaning s TooLong = ⊥
-EndHalts meaning s Memory = ⊤
-EndHalts meaning s (Broken f) = meaning.gives false s.parser s.line [] (Err f)
+-- why the end was not taken, from a line on
+abbrev pub EndHalts : {T V : Type 0} → Meaning T V → T → ℕ → Halt → Type 0
+EndHalts meaning parser line Read = ⊥
+EndHalts meaning parser line TooLong = ⊥
+EndHalts meaning parser line Memory = ⊤
+EndHalts meaning parser line (Broken f) = meaning.gives false parser line [] (Err f)
 
 -- a text of any length gives this
 abbrev pub TextGives : {T V : Type 0} → Meaning T V → T → List ℕ → Result V ReadFault → Type 0

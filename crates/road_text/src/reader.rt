@@ -1,12 +1,12 @@
-//! The line machine: takes a text byte by byte, and hands on its fields and lines.
-ghost use Rattle.std.specs.Prelude.{◌≡◌, ◌≢◌, ℕ, ◌+◌, ◌≤◌, List, [], ◌∷◌, ◌++◌, Result, Ok, OnOk, IfOk, IfErr, length, take, true, false, Bool, ◌<◌, All};
+//! The line machine: takes a text piece by piece, and hands on its fields and lines.
+ghost use Rattle.std.specs.Prelude.{◌≡◌, ℕ, ◌+◌, ◌≤◌, ◌<◌, List, [], ◌∷◌, ◌++◌, Result, Ok, OnOk, IfOk, IfErr, length, take, true, false, Bool};
 ghost use Rattle.road_text.specs.declared.faults.ReadFault.{ReadFault};
-ghost use Rattle.road_text.specs.Lines.{lines, fields};
+ghost use Rattle.road_text.specs.Lines.{lines};
 
 use crate::faults::{Halt, LineFault, ReadFault};
+use crate::fields_of::FieldsOf;
+use crate::line_cutter::LineCutter;
 use crate::line_parser::LineParser;
-use crate::runs::run;
-use crate::scanner::{Scanner, is_gap};
 use crate::short_lines::short_line;
 
 /// The most bytes that a text may have: 2 ^ 32.
@@ -15,145 +15,82 @@ pub const MAX_BYTES: u64 = 4_294_967_296;
 /// Reads a text line by line.
 #[derive(Drop)]
 pub struct LineReader<T> {
-    pub parser: T,
-    pub scanner: Scanner,
-    pub begun: bool,
-    pub pending: bool,
+    pub cutter: LineCutter<FieldsOf<T>>,
     pub line: u64,
     pub count: u64,
     ghost few_lines: { line ≤ count + 1 },
-    ghost present_counts: { begun ≡ true → line ≤ count },
     ghost few_bytes: { count ≤ 4294967296 },
 }
 
 impl<T: LineParser> LineReader<T> {
-    ghost use Rattle.road_text.specs.Scans.{scan_of, Shows, is_plain, number_with};
-    ghost use Rattle.road_text.specs.Reading.{RestGives, LineHalts, Halts, HaltsAtEnd, EndHalts, IsNumbered};
+    ghost use Rattle.road_text.specs.Cuts.{IsLine, IsPresent};
+    ghost use Rattle.road_text.specs.Reading.{SoFarOf, RestGives, IsOfLine, LineGoes, Halts, HaltsAtEnd, EndHalts, IsNumbered};
 
     pub fn new(parser: T) -> Self
         requires { T.meaning.so_far parser [] }
         ensures count { result.count ≡ 0 }
+        ensures given { result.cutter.taker.refused ≡ false }
         ensures start { (cut : Bool) (bytes : List ℕ) (r : Result T.Value ReadFault) → RestGives cut T.meaning result bytes r → T.meaning.gives cut parser 1 (lines cut bytes) r }
     {
         LineReader {
-            parser,
-            scanner: Scanner::new(),
-            begun: false,
-            pending: false,
+            cutter: LineCutter::new(FieldsOf {
+                parser,
+                refused: false,
+            }),
             line: 1,
             count: 0,
         }
     }
 
-    fn end_line(&mut self) -> Result<(), Halt>
-        requires { self.old.line ≤ self.old.count }
-        ensures ok { OnOk result ((cut : Bool) (rest : List ℕ) (r : Result T.Value ReadFault) → RestGives cut T.meaning self.new rest r → RestGives cut T.meaning self.old (10 ∷ rest) r) }
-        ensures count { self.new.count ≡ self.old.count }
-        ensures closed { OnOk result (self.new.begun ≡ false) }
-        ensures err { IfErr result (λ h. LineHalts T.meaning self.old (10 ∷ []) h) }
+    /// Gives the line that has ended to the parser.
+    fn give_line(&mut self) -> Result<(), Halt>
+        requires { self.old.cutter.taker.refused ≡ false }
+        ensures line { (l : List ℕ) → IsLine (SoFarOf T.meaning) self.old.cutter l → LineGoes T.meaning self.old.cutter.taker.parser self.new.cutter.taker.parser self.old.line l result }
+        ensures ready { OnOk result (T.meaning.so_far self.new.cutter.taker.parser []) }
+        ensures rest { (self.new.line ≡ self.old.line) × (self.new.count ≡ self.old.count) × (self.new.cutter.taker.refused ≡ false) }
+        ensures kinds { IfErr result IsOfLine }
         ensures numbered { IfErr result IsNumbered }
     {
-        self.end_field()?;
-        self.scanner.close();
-        match self.parser.line(self.scanner.fields()) {
-            Ok(()) => {}
-            Err(LineFault::Memory) => return Err(Halt::Memory),
-            Err(LineFault::Broken(rule)) => {
-                return Err(Halt::Broken(ReadFault {
-                    number: rule.number,
-                    line: self.line,
-                }));
-            }
+        match self.cutter.taker.parser.line(self.cutter.scanner.fields()) {
+            Ok(()) => Ok(()),
+            Err(LineFault::Memory) => Err(Halt::Memory),
+            Err(LineFault::Broken(rule)) => Err(Halt::Broken(ReadFault {
+                number: rule.number,
+                line: self.line,
+            })),
         }
-        self.scanner.restart();
-        self.begun = false;
-        self.pending = false;
+    }
+
+    /// Gives the line that has ended to the parser, and begins the next.
+    fn end_line(&mut self) -> Result<(), Halt>
+        requires given { self.old.cutter.taker.refused ≡ false }
+        requires counted { self.old.line ≤ self.old.count }
+        ensures line { (l : List ℕ) → IsLine (SoFarOf T.meaning) self.old.cutter l → LineGoes T.meaning self.old.cutter.taker.parser self.new.cutter.taker.parser self.old.line l result }
+        ensures ready { OnOk result (IsPresent (SoFarOf T.meaning) self.new.cutter []) }
+        ensures next { OnOk result ((self.new.line ≡ self.old.line + 1) × (self.new.cutter.taker.refused ≡ false)) }
+        ensures count { self.new.count ≡ self.old.count }
+        ensures kinds { IfErr result IsOfLine }
+        ensures numbered { IfErr result IsNumbered }
+    {
+        match self.give_line() {
+            Ok(()) => {}
+            Err(halt) => return Err(halt),
+        }
+        self.cutter.restart();
         self.line += 1;
         Ok(())
     }
 
-    // Gives the present field, if it has bytes, to the parser.
-    fn end_field(&mut self) -> Result<(), Halt>
-        ensures same { OnOk result ((cut : Bool) (at : ℕ) (ls : List (List ℕ)) (r : Result T.Value ReadFault) → T.meaning.gives cut self.new.parser at ls r → T.meaning.gives cut self.old.parser at ls r) }
-        ensures told { OnOk result ((line : List ℕ) → Shows (T.meaning.so_far self.old.parser) (scan_of self.old.scanner) line → T.meaning.so_far self.new.parser (fields line)) }
-        ensures scanner { scan_of self.new.scanner ≡ scan_of self.old.scanner }
-        ensures rest { (self.new.begun ≡ self.old.begun) × (self.new.pending ≡ self.old.pending) × (self.new.line ≡ self.old.line) × (self.new.count ≡ self.old.count) }
-        ensures memory { IfErr result (λ e. e ≡ Halt.Memory) }
-    {
-        let present = self.scanner.present();
-        if present.text.is_empty() {
-            return Ok(());
-        }
-        match self.parser.field(present) {
-            Ok(()) => Ok(()),
-            Err(_) => Err(Halt::Memory),
-        }
-    }
-
-    // Takes the next byte of the present line.
-    fn present_byte(&mut self, byte: u8) -> Result<(), Halt>
-        requires other { byte ≢ 10 }
-        requires counted { self.old.line ≤ self.old.count }
-        ensures same { OnOk result ((cut : Bool) (rest : List ℕ) (r : Result T.Value ReadFault) → RestGives cut T.meaning self.new rest r → RestGives cut T.meaning self.old (byte ∷ rest) r) }
-        ensures count { self.new.count ≡ self.old.count }
-        ensures memory { IfErr result (λ e. e ≡ Halt.Memory) }
-    {
-        self.scanner.add_pending(self.pending);
-        self.begun = true;
-        if byte == b'\r' {
-            self.pending = true;
-            return Ok(());
-        }
-        self.pending = false;
-        if is_gap(byte) {
-            self.end_field()?;
-            self.scanner.close();
-            return Ok(());
-        }
-        self.scanner.go_on(byte);
-        Ok(())
-    }
-
-    // Takes some bytes that all go on with the present field, with which it is this number.
-    fn present_run(&mut self, bytes: &[u8], number: Option<u128>)
-        requires some { 0 < length bytes.now }
-        requires plain { All (λ b. is_plain b ≡ true) bytes.now }
-        requires number { number ≡ number_with (scan_of self.old.scanner).1.number bytes.now }
-        requires whole { self.old.pending ≡ false }
-        requires room { self.old.count + length bytes.now ≤ 4294967296 }
-        ensures same { (cut : Bool) (rest : List ℕ) (r : Result T.Value ReadFault) → RestGives cut T.meaning self.new rest r → RestGives cut T.meaning self.old (bytes.now ++ rest) r }
-        ensures count { self.new.count ≡ self.old.count + length bytes.now }
-    {
-        self.count += bytes.len() as u64;
-        self.begun = true;
-        self.scanner.add_run(bytes, number);
-    }
-
-    // Takes the bytes at the front that go on with the present field, and says how many they are. It takes none where a
-    // CR is pending, or where they do not fit: `byte` does then.
-    #[inline(always)]
-    fn front_run(&mut self, bytes: &[u8]) -> usize
-        ensures bound { result ≤ length bytes.now }
-        ensures rest_gives { (cut : Bool) (more : List ℕ) (r : Result T.Value ReadFault) → RestGives cut T.meaning self.new more r → RestGives cut T.meaning self.old (take result bytes.now ++ more) r }
-        ensures count { self.new.count ≡ self.old.count + result }
-    {
-        let (front, number) = run(bytes, self.scanner.present().number);
-        if front == 0 || self.pending || front as u64 > MAX_BYTES - self.count {
-            return 0;
-        }
-        self.present_run(&bytes[..front], number);
-        front
-    }
-
-    // Takes the line at the front, where it is a letter and three numbers and the parser is quick with it, and says how
-    // many bytes that were.
+    /// Takes the line at the front, where it is a letter and three numbers and the parser is quick with it, and says how
+    /// many bytes that were.
     #[inline(always)]
     fn short_line(&mut self, bytes: &[u8]) -> usize
         ensures bound { result ≤ length bytes.now }
         ensures rest_gives { (cut : Bool) (more : List ℕ) (r : Result T.Value ReadFault) → RestGives cut T.meaning self.new more r → RestGives cut T.meaning self.old (take result bytes.now ++ more) r }
         ensures count { self.new.count ≡ self.old.count + result }
+        ensures given { self.new.cutter.taker.refused ≡ self.old.cutter.taker.refused }
     {
-        if self.begun {
+        if self.cutter.begun {
             return 0;
         }
         let Some(short) = short_line(bytes) else {
@@ -162,7 +99,12 @@ impl<T: LineParser> LineReader<T> {
         if short.len as u64 > MAX_BYTES - self.count {
             return 0;
         }
-        if !self.parser.short_line(short.letter, short.numbers) {
+        if !self
+            .cutter
+            .taker
+            .parser
+            .short_line(short.letter, short.numbers)
+        {
             return 0;
         }
         self.count += short.len as u64;
@@ -170,12 +112,13 @@ impl<T: LineParser> LineReader<T> {
         short.len
     }
 
-    // Takes such lines as long as they come.
+    /// Takes such lines as long as they come.
     #[inline(always)]
     fn short_lines(&mut self, bytes: &[u8]) -> usize
         ensures bound { result ≤ length bytes.now }
         ensures rest_gives { (cut : Bool) (more : List ℕ) (r : Result T.Value ReadFault) → RestGives cut T.meaning self.new more r → RestGives cut T.meaning self.old (take result bytes.now ++ more) r }
         ensures count { self.new.count ≡ self.old.count + result }
+        ensures given { self.new.cutter.taker.refused ≡ self.old.cutter.taker.refused }
     {
         let mut at = 0;
         while at < bytes.len() {
@@ -188,51 +131,66 @@ impl<T: LineParser> LineReader<T> {
         at
     }
 
-    /// Takes the next byte.
-    pub fn byte(&mut self, byte: u8) -> Result<(), Halt>
-        ensures ok { OnOk result ((cut : Bool) (rest : List ℕ) (r : Result T.Value ReadFault) → RestGives cut T.meaning self.new rest r → RestGives cut T.meaning self.old (byte ∷ rest) r) }
-        ensures count { OnOk result (self.new.count ≡ self.old.count + 1) }
-        ensures err { IfErr result (λ h. Halts T.meaning self.old (byte ∷ []) h) }
+    /// Takes bytes up to the first line's end, or all where none ends, as many as fit; and says how many they are.
+    fn next_line(&mut self, bytes: &[u8]) -> Result<usize, Halt>
+        requires given { self.old.cutter.taker.refused ≡ false }
+        requires some { 0 < length bytes.now }
+        ensures bound { IfOk result (λ n. (0 < n) × (n ≤ length bytes.now)) }
+        ensures rest_gives { IfOk result (λ n. (cut : Bool) (more : List ℕ) (r : Result T.Value ReadFault) → RestGives cut T.meaning self.new more r → RestGives cut T.meaning self.old (take n bytes.now ++ more) r) }
+        ensures count { IfOk result (λ n. self.new.count ≡ self.old.count + n) }
+        ensures given { OnOk result (self.new.cutter.taker.refused ≡ false) }
+        ensures err { IfErr result (λ h. Halts T.meaning self.old bytes.now h) }
         ensures numbered { IfErr result IsNumbered }
     {
-        if self.count == MAX_BYTES {
+        let room = (MAX_BYTES - self.count) as usize;
+        if room == 0 {
             return Err(Halt::TooLong);
         }
-        self.count += 1;
-        if byte == b'\n' {
-            return self.end_line();
+        let to = room.min(bytes.len());
+        let (taken, ended) = self.cutter.to_line_end(&bytes[..to]);
+        self.count += taken as u64;
+        if self.cutter.taker.refused {
+            return Err(Halt::Memory);
         }
-        self.present_byte(byte)
+        if !ended {
+            return Ok(taken);
+        }
+        match self.end_line() {
+            Ok(()) => Ok(taken),
+            Err(halt) => Err(halt),
+        }
     }
 
     /// Takes the next bytes.
     pub fn feed(&mut self, bytes: &[u8]) -> Result<(), Halt>
+        requires { self.old.cutter.taker.refused ≡ false }
         ensures ok { OnOk result ((cut : Bool) (rest : List ℕ) (r : Result T.Value ReadFault) → RestGives cut T.meaning self.new rest r → RestGives cut T.meaning self.old (bytes.now ++ rest) r) }
         ensures count { OnOk result (self.new.count ≡ self.old.count + length bytes.now) }
+        ensures given { OnOk result (self.new.cutter.taker.refused ≡ false) }
         ensures err { IfErr result (λ h. Halts T.meaning self.old bytes.now h) }
         ensures numbered { IfErr result IsNumbered }
     {
         let mut at = 0;
         while at < bytes.len() {
             at += self.short_lines(&bytes[at..]);
-            at += self.front_run(&bytes[at..]);
             if at == bytes.len() {
                 return Ok(());
             }
-            self.byte(bytes[at])?;
-            at += 1;
+            match self.next_line(&bytes[at..]) {
+                Ok(taken) => at += taken,
+                Err(halt) => return Err(halt),
+            }
         }
         Ok(())
     }
 
-    // Takes the end where no line is begun.
-    fn end(self) -> Result<T::Value, Halt>
-        ensures ok { IfOk result (λ v. T.meaning.gives false self.parser self.line [] (Ok v)) }
-        ensures err { IfErr result (λ h. EndHalts T.meaning self h) }
+    /// Takes the end, where no line is begun and the next has this number.
+    fn end(self, line: u64) -> Result<T::Value, Halt>
+        ensures ok { IfOk result (λ v. T.meaning.gives false self.cutter.taker.parser line [] (Ok v)) }
+        ensures err { IfErr result (λ h. EndHalts T.meaning self.cutter.taker.parser line h) }
         ensures numbered { IfErr result IsNumbered }
     {
-        let line = self.line;
-        match self.parser.finish() {
+        match self.cutter.taker.parser.finish() {
             Ok(value) => Ok(value),
             Err(LineFault::Memory) => Err(Halt::Memory),
             Err(LineFault::Broken(rule)) => Err(Halt::Broken(ReadFault {
@@ -244,14 +202,22 @@ impl<T: LineParser> LineReader<T> {
 
     /// Takes the end.
     pub fn finish(mut self) -> Result<T::Value, Halt>
+        requires { self.cutter.taker.refused ≡ false }
         ensures ok { IfOk result (λ v. RestGives false T.meaning self [] (Ok v)) }
         ensures err { IfErr result (λ h. HaltsAtEnd T.meaning self h) }
         ensures numbered { IfErr result IsNumbered }
     {
-        if !self.begun {
-            return self.end();
+        let ended = self.cutter.to_end();
+        if self.cutter.taker.refused {
+            return Err(Halt::Memory);
         }
-        self.end_line()?;
-        self.end()
+        let line = self.line;
+        if !ended {
+            return self.end(line);
+        }
+        match self.give_line() {
+            Ok(()) => self.end(line + 1),
+            Err(halt) => Err(halt),
+        }
     }
 }

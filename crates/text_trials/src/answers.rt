@@ -2,13 +2,14 @@
 ghost use Rattle.std.specs.Prelude.{◌≡◌, ◌<◌, ◌≤◌, Some, length};
 
 use answer_text::{
-    Answer, Answers, Found, Reached, read_answers, write_answer, write_answers, write_header,
-    write_source_line, write_sources_line, write_vertex,
+    Answer, Answers, Found, Reached, VertexLine, read_answers, write_answer, write_answers,
+    write_header, write_source_line, write_sources_line, write_vertex_line,
 };
 use arrayvec::ArrayVec;
 use ghost_count::Count;
 use path_algebra::AlgebraName;
 use road_files::Kind;
+use road_graph::Vertex;
 use road_text::{Line, Plain, RoadWrite, WriteFault};
 use std::alloc::Global;
 use std::process::Abort;
@@ -16,6 +17,8 @@ use std::test::Fail;
 
 const SHORTEST: &[u8] =
     b"p ans ss 1 shortest\ns 1\nd 1 0 0 0\nd 2 3 2 3\nd 3 1 1 1\nd 4 8 3 2\nu 5\n";
+
+const LONGEST: &[u8] = b"d 18446744073709551615 18446744073709551615 4294967295 4294967295\nu 10\n";
 
 const PAIRS: &[u8] =
     b"p ans p2p 3 shortest\nq 1 4\nd 8 3\nr 1 3 2 4\nq 4 1\nu\nq 5 5\nd 0 0\nr 5\n";
@@ -92,31 +95,40 @@ fn shortest_answers(alloc: Global) -> Result<Answers, Fail> {
         name: AlgebraName::Shortest,
         kind: Kind::Sources,
         n: 5,
-        list: vec![in alloc; Answer::Source { source: 1, lines }]?,
+        list: vec![in alloc;
+            Answer::Source {
+                source: Vertex(1),
+                lines
+            },
+        ]?,
     })
 }
 
-fn found(code: u64, hops: u32, route: Vec<u32>) -> Option<Found> {
+fn found(code: u64, hops: u32, route: Vec<Vertex>) -> Option<Found> {
     Some(Found { code, hops, route })
 }
 
 fn pair_answers(alloc: Global) -> Result<Answers, Fail> {
-    let there = found(8, 3, vec![in alloc; 1, 3, 2, 4]?);
-    let here = found(0, 0, vec![in alloc; 5]?);
+    let there = found(
+        8,
+        3,
+        vec![in alloc; Vertex(1), Vertex(3), Vertex(2), Vertex(4)]?,
+    );
+    let here = found(0, 0, vec![in alloc; Vertex(5)]?);
     let list = vec![in alloc;
         Answer::Pair {
-            source: 1,
-            target: 4,
+            source: Vertex(1),
+            target: Vertex(4),
             found: there
         },
         Answer::Pair {
-            source: 4,
-            target: 1,
+            source: Vertex(4),
+            target: Vertex(1),
             found: None
         },
         Answer::Pair {
-            source: 5,
-            target: 5,
+            source: Vertex(5),
+            target: Vertex(5),
             found: here
         },
     ]?;
@@ -179,7 +191,7 @@ fn several_sources(rt: HostRuntime) -> Result<(), Fail> {
         reached(0, 0, 0),
     ]?;
     let first = Answer::Multi {
-        sources: vec![in alloc; 4, 5]?,
+        sources: vec![in alloc; Vertex(4), Vertex(5)]?,
         lines,
     };
     assert_eq!(rt;
@@ -187,8 +199,11 @@ fn several_sources(rt: HostRuntime) -> Result<(), Fail> {
         Ok(())
     );
     assert_eq!(rt; write_answer(&mut sheet, &first), Ok(()));
-    assert_eq!(rt; write_sources_line(&mut sheet, &[5, 2]), Ok(()));
-    let mut line = Line::new();
+    assert_eq!(rt;
+        write_sources_line(&mut sheet, &[Vertex(5), Vertex(2)]),
+        Ok(())
+    );
+    let mut line = VertexLine::new();
     let last = [
         reached(3, 1, 5),
         reached(0, 0, 0),
@@ -200,13 +215,31 @@ fn several_sources(rt: HostRuntime) -> Result<(), Fail> {
     for reached in last {
         vertex = u64::wrapping_add(vertex, 1);
         assert_eq!(rt;
-            write_vertex(&mut sheet, &mut line, vertex, reached),
+            write_vertex_line(&mut sheet, &mut line, vertex, reached),
             Ok(())
         );
     }
     assert_eq!(rt; sheet.bytes.as_slice(), SEVERAL);
-    assert_eq!(rt; write_source_line(&mut sheet, 7), Ok(()));
+    assert_eq!(rt; write_source_line(&mut sheet, Vertex(7)), Ok(()));
     Ok(())
+}
+
+/// The longest line of a vertex: each number is the greatest of its type.
+#[test]
+fn the_longest_line_of_a_vertex(rt: HostRuntime) {
+    let mut sheet = Sheet::new(256, 7);
+    let mut line = VertexLine::new();
+    let longest = Some(Reached {
+        code: u64::MAX,
+        hops: u32::MAX,
+        parent: u32::MAX,
+    });
+    assert_eq!(rt;
+        write_vertex_line(&mut sheet, &mut line, u64::MAX, longest),
+        Ok(())
+    );
+    assert_eq!(rt; write_vertex_line(&mut sheet, &mut line, 10, None), Ok(()));
+    assert_eq!(rt; sheet.bytes.as_slice(), LONGEST);
 }
 
 #[test]

@@ -9,9 +9,11 @@ use crate::ends::Pieces;
 use arrayvec::ArrayVec;
 use ghost_count::Count;
 use road_files::rules::{FIELDS, NOT_A_NUMBER, TOO_LARGE, UNKNOWN_LINE};
+use road_files::write_list;
+use road_graph::Vertex;
 use road_text::{
     Buffered, Line, LineFault, LineParser, Plain, ReadFailed, ReadFault, RoadRead, RoadWrite, Slot,
-    WriteFault, push_spaced, read_whole, write_bytes, write_list,
+    WriteFault, push_spaced, read_whole, write_bytes,
 };
 use std::alloc::Global;
 use std::io::{self, Write};
@@ -290,10 +292,10 @@ fn writers_of_lines(rt: HostRuntime) {
     push_spaced(&mut line, 18_446_744_073_709_551_615);
     let ended = write_bytes(&mut sheet, line.as_str().as_bytes());
     assert_wrote(&rt, ended, Ok(()), &sheet, b"d 18446744073709551615");
-    let ended = write_list(&mut sheet, b"r", &[0, 70, 5]);
+    let ended = write_list(&mut sheet, b"r", &[Vertex(0), Vertex(70), Vertex(5)]);
     let both = b"d 18446744073709551615r 0 70 5\n";
     assert_wrote(&rt, ended, Ok(()), &sheet, both);
-    let ended = write_list(&mut sheet, b"m", &[1]);
+    let ended = write_list(&mut sheet, b"m", &[Vertex(1)]);
     let full = b"d 18446744073709551615r 0 70 5\nm";
     assert_wrote(&rt, ended, Err(WriteFault), &sheet, full);
     let ended = write_bytes(&mut sheet, b"");
@@ -329,7 +331,10 @@ fn ends_of_std(rt: HostRuntime) -> Result<(), Fail> {
         Err(_) => assert!(rt; false),
     }
     let mut written = Plain::new(Vec::new(alloc));
-    assert_eq!(rt; write_list(&mut written, b"m", &[4, 5]), Ok(()));
+    assert_eq!(rt;
+        write_list(&mut written, b"m", &[Vertex(4), Vertex(5)]),
+        Ok(())
+    );
     assert_eq!(rt; written.flush(), Ok(()));
     assert_eq!(rt; written.into_inner().as_slice(), b"m 4 5\n".as_slice());
     Ok(())

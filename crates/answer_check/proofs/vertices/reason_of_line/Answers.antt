@@ -16,7 +16,7 @@ returns-then-has_walk g c =
     let A = g.A.PathAlgebra.meaning c.args.algebra in
     let here : label_of c.args.lines.now c.args.v ≡ None = search rules in
     let found : list_any (λ a. is_there (candidate A c.args.graph.now c.args.lines.now a)) c.into-arcs.result.now ≡ true = sym c.offers_some-has_walk.ensures ∙ c.if-has_walk.true in
-    let judged = walk_judged A c.laws_hold.ensures.lawful c.args.graph.now c.args.lines.now c.args.v c.into-arcs.result.now c.into-arcs.ensures found in
+    let judged = walk_judged A c.laws_hold.ensures.lawful c.args.graph.now c.args.lines.now c.args.v c.into-arcs.result.now c.into-arcs.ensures.complete found in
     rw here judged
 
 pub evidence_of-requires-clause-arcs : goal.evidence_of-requires-clause-arcs
@@ -28,7 +28,7 @@ returns-in-Some-value_told g c =
     let here : label_of c.args.lines.now c.args.v ≡ Some c.in-Some.line = search rules in
     let told : decoded A c.in-Some.line.code ≡ Some c.in-Some-value_told.value = search rules in
     let code = decoded_is A c.laws_hold.ensures.lawful c.in-Some.line.code c.in-Some-value_told.value told in
-    let judged = evidence_judges A c.laws_hold.ensures.lawful c.args.graph.now c.args.lines.now c.args.v c.into-arcs.result.now c.into-arcs.ensures c.in-Some.line c.in-Some-value_told.value code in
+    let judged = evidence_judges A c.laws_hold.ensures.lawful c.args.graph.now c.args.lines.now c.args.v c.into-arcs.result.now c.into-arcs.ensures.complete c.in-Some.line c.in-Some-value_told.value code in
     rw (here, c.reason.ensures, c.evidence_of.ensures, ← c.laws_hold.ensures.order) judged
 
 pub returns-in-None : goal.returns-in-None

@@ -13,6 +13,7 @@ loop-init g c = record {
   sound = refl;
   counted = omega arith;
   asked = omega arith;
+  given = c.new-reader.ensures.given;
 }
 
 pub loop-preserved : goal.loop-preserved
@@ -20,6 +21,7 @@ loop-preserved g c = record {
   has_read = has_read_more g.T.LineParser.meaning c.args.parser _ _ _ c.loop.reader c.feed.new.self _ c.loop.invariant.has_read c.in-Ok.ensures.bytes.0 c.in_ok-feed-in-Ok.ensures.count c.in_ok-feed-in-Ok.ensures.ok;
   sound = c.in-Ok.ensures.sound ∙ c.loop.invariant.sound;
   counted = omega (arith, c.in-Ok.ensures.counted, c.loop.invariant.counted);
+  given = c.in_ok-feed-in-Ok.ensures.given;
   asked = omega (arith, c.in_ok-feed-in-Ok.ensures.count, length-take-le c.in-Ok.n c.read.new.buf c.in-Ok.ensures.bound, c.in-Ok.n-test);
 }
 

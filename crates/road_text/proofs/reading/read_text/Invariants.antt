@@ -1,4 +1,4 @@
-use Rattle.std.proofs.Common.{◌≡◌, ◌≤◌, ◌+◌}
+use Rattle.std.proofs.Common.{◌≡◌, ◌≤◌, ◌+◌, false}
 use Rattle.road_text.specs.Reading.{HasRead}
 use Rattle.road_text.proofs.reading.read_text.Given as goal
 
@@ -9,4 +9,5 @@ invariant-loop g l = record {
   sound : g.R.RoadRead.failures l.from ≡ g.R.RoadRead.failures l.initial.from;
   counted : g.R.RoadRead.asked l.from ≡ g.R.RoadRead.asked l.initial.from + l.counter;
   asked : l.counter ≤ l.reader.count;
+  given : l.reader.cutter.taker.refused ≡ false;
 }

@@ -1,4 +1,4 @@
-use Rattle.std.proofs.Common.{Bool, ◌≡◌, ℕ, ◌+◌, ◌-◌, ◌≤◌, List, ◌++◌, take, length, Result}
+use Rattle.std.proofs.Common.{Bool, ◌≡◌, ℕ, ◌+◌, ◌-◌, ◌≤◌, List, ◌++◌, take, length, Result, false}
 use Rattle.road_text.specs.declared.faults.ReadFault.{ReadFault}
 use Rattle.road_text.specs.Reading.{RestGives}
 use Rattle.road_text.proofs.reader.LineReader.feed.Given as goal
@@ -8,6 +8,7 @@ abbrev pub invariant-loop-at : goal.invariant-loop-at
 invariant-loop-at g l = record {
   rest_gives : (cut : Bool) (more : List ℕ) (r : Result g.row.T-Value.Denot ReadFault) → RestGives cut g.T.LineParser.meaning l.self more r → RestGives cut g.T.LineParser.meaning l.initial.self (take l.at l.bytes ++ more) r;
   count : l.self.count ≡ l.initial.self.count + l.at;
+  given : l.self.cutter.taker.refused ≡ false;
   within : l.at ≤ length l.bytes;
 }
 

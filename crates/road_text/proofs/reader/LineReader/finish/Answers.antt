@@ -1,20 +1,19 @@
-use Rattle.std.proofs.Common.{[], false, Ok}
-use Rattle.std.proofs.lemmas.Result.{IfOk-weaker, IfErr-weaker, err_from_is_err_and}
-use Rattle.road_text.proofs.ReaderLaws.{rest_gives_ended, end_halts, rest_gives_closed, line_halts_end, end_halts_closed}
+use Rattle.std.proofs.lemmas.Result.{IfOk-weaker, IfErr-weaker}
+use Rattle.std.proofs.Common.{Ok}
+use Rattle.road_text.proofs.ReaderLaws.{rest_gives_end, end_halts, last_gives, last_end_halts, last_halts}
 use Rattle.road_text.proofs.reader.LineReader.finish.Goals as goal
 
-pub returns-then-not-self-clause-ok : goal.returns-then-not-self-clause-ok
-returns-then-not-self-clause-ok g c = IfOk-weaker c.end.result _ _ (λ v h. rest_gives_ended g.T.LineParser.meaning c.args.self (Ok v) c.if-not-self.true h) c.end.ensures.ok
+pub returns-then-not-ended-clause-ok : goal.returns-then-not-ended-clause-ok
+returns-then-not-ended-clause-ok g c = IfOk-weaker c.end.result _ _ (λ v h. rest_gives_end g.T.LineParser.meaning c.args.self c.to_end-ended.new.self c.to_end-ended.ensures.kept c.if-self.false (Ok v) (c.to_end-ended.ensures.none c.if-not-ended.true) h) c.end.ensures.ok
 
-pub returns-then-not-self-clause-err : goal.returns-then-not-self-clause-err
-returns-then-not-self-clause-err g c = IfErr-weaker c.end.result _ _ (λ h p. end_halts g.T.LineParser.meaning c.args.self h c.if-not-self.true p) c.end.ensures.err
+pub returns-then-not-ended-clause-err : goal.returns-then-not-ended-clause-err
+returns-then-not-ended-clause-err g c = IfErr-weaker c.end.result _ _ (λ h p. end_halts g.T.LineParser.meaning c.args.self c.to_end-ended.new.self c.to_end-ended.ensures.kept c.if-self.false h (c.to_end-ended.ensures.none c.if-not-ended.true) p) c.end.ensures.err
 
-pub returns-in_err-end_line-clause-err : goal.returns-in_err-end_line-clause-err
-returns-in_err-end_line-clause-err g c = let p = err_from_is_err_and c.from_residual.result c.from_residual.ensures.1 in rw (p.1, p.2) (line_halts_end g.T.LineParser.meaning c.args.self _ c.if-not-self.false c.in_err-end_line.ensures.err)
+pub returns-in-Ok-clause-ok : goal.returns-in-Ok-clause-ok
+returns-in-Ok-clause-ok g c = IfOk-weaker c.end-in-Ok.result _ _ (λ v h. last_gives g.T.LineParser.meaning c.args.self c.to_end-ended.new.self c.to_end-ended.ensures.kept c.if-self.false {A = Unit {0}} c.give_line.new.self.cutter.taker.parser (c.to_end-ended.ensures.ended c.if-not-ended.false) tt (Ok v) (λ l here. c.in-Ok.ensures.line l here) h) c.end-in-Ok.ensures.ok
 
-pub returns-clause-ok : goal.returns-clause-ok
-returns-clause-ok g c = IfOk-weaker c.end-2.result _ _ (λ v h. rest_gives_closed g.T.LineParser.meaning c.args.self (Ok v) c.if-not-self.false
-    (c.in_ok-end_line.ensures.ok false [] (Ok v) (rest_gives_ended g.T.LineParser.meaning c.end_line.new.self (Ok v) c.in_ok-end_line.ensures.closed h))) c.end-2.ensures.ok
+pub returns-in-Ok-clause-err : goal.returns-in-Ok-clause-err
+returns-in-Ok-clause-err g c = IfErr-weaker c.end-in-Ok.result _ _ (λ h p. last_end_halts g.T.LineParser.meaning c.args.self c.to_end-ended.new.self c.to_end-ended.ensures.kept c.if-self.false {A = Unit {0}} c.give_line.new.self.cutter.taker.parser (c.to_end-ended.ensures.ended c.if-not-ended.false) tt h (λ l here. c.in-Ok.ensures.line l here) p) c.end-in-Ok.ensures.err
 
-pub returns-clause-err : goal.returns-clause-err
-returns-clause-err g c = IfErr-weaker c.end-2.result _ _ (λ h p. end_halts_closed g.T.LineParser.meaning c.args.self c.end_line.new.self h c.if-not-self.false c.in_ok-end_line.ensures.closed (c.in_ok-end_line.ensures.ok false []) p) c.end-2.ensures.err
+pub returns-in-Err-clause-err : goal.returns-in-Err-clause-err
+returns-in-Err-clause-err g c = last_halts g.T.LineParser.meaning c.args.self c.to_end-ended.new.self c.to_end-ended.ensures.kept c.if-self.false c.give_line.new.self.cutter.taker.parser (c.to_end-ended.ensures.ended c.if-not-ended.false) c.in-Err.halt c.give_line.result c.in-Err.is c.in-Err.ensures.kinds (λ l here. c.give_line.ensures.line l here)

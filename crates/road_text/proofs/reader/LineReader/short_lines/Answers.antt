@@ -1,4 +1,4 @@
-use Rattle.std.proofs.Common.{List, ℕ, arith}
+use Rattle.std.proofs.Common.{List, ℕ, arith, ◌∙◌}
 use Rattle.road_text.proofs.ReaderLaws.{rest_gives_further}
 use Rattle.road_text.proofs.reader.LineReader.short_lines.Goals as goal
 
@@ -9,6 +9,7 @@ loop-at-preserved g c =
     record {
       rest_gives = rest_gives_further g.T.LineParser.meaning c.args.self.now c.loop-at.self c.short_line-len.new.self xs c.loop-at.at c.short_line-len.result old.rest_gives c.short_line-len.ensures.rest_gives;
       count = omega (arith, c.short_line-len.ensures.count, old.count);
+      given = c.short_line-len.ensures.given ∙ old.given;
       within = omega (arith, c.short_line-len.ensures.bound);
     }
 

@@ -1,0 +1,59 @@
+//! Graphs that are made of their arcs.
+ghost use Rattle.std.specs.Prelude.{◌≡◌, ◌≤◌, ◌^◌, length, All, IfOk};
+ghost use Rattle.road_graph.specs.Roads.{IsRoads, JoinsVertices, Roads};
+
+use road_graph::{Graph, GraphFault, Memory, OutGraph, RoadArc};
+use std::alloc::Global;
+
+/// A graph that is made of its arcs.
+pub trait FromArcs: Drop {
+    // The graph that it is.
+    ghost roads: { Self → Roads };
+
+    /// The graph of exactly these arcs on the vertices 1 to n.
+    ///
+    /// # Errors
+    /// Want of memory.
+    fn from_arcs(alloc: Global, n: u32, arcs: Vec<RoadArc>) -> Result<Self, Memory>
+        requires few_vertices { n ≤ 2 ^ 25 }
+        requires few_arcs { length arcs.items ≤ 2 ^ 27 }
+        requires joined { All (JoinsVertices n) arcs.items }
+        ensures { IfOk result (λ g. roads g ≡ record { vertices = n; arcs = arcs.items }) };
+
+    /// How many vertices there are.
+    fn count_vertices(&self) -> u32
+        ensures count { result ≡ (roads self.now).vertices }
+        ensures roads { IsRoads (roads self.now) };
+}
+
+impl FromArcs for Graph {
+    ghost roads = { λ g. g };
+
+    fn from_arcs(alloc: Global, n: u32, arcs: Vec<RoadArc>) -> Result<Graph, Memory> {
+        match Graph::new(alloc, n, arcs) {
+            Ok(graph) => Ok(graph),
+            Err((GraphFault::Memory, _)) => Err(Memory),
+            Err((GraphFault::BadEnd(_), _)) => unreachable!(),
+        }
+    }
+
+    fn count_vertices(&self) -> u32 {
+        self.vertices()
+    }
+}
+
+impl FromArcs for OutGraph {
+    ghost roads = { λ g. g };
+
+    fn from_arcs(alloc: Global, n: u32, arcs: Vec<RoadArc>) -> Result<OutGraph, Memory> {
+        match OutGraph::new(alloc, n, arcs) {
+            Ok(graph) => Ok(graph),
+            Err((GraphFault::Memory, _)) => Err(Memory),
+            Err((GraphFault::BadEnd(_), _)) => unreachable!(),
+        }
+    }
+
+    fn count_vertices(&self) -> u32 {
+        self.vertices()
+    }
+}

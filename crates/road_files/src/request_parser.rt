@@ -1,0 +1,178 @@
+//! Takes the lines of a service, whose requests are question texts in a row.
+ghost use Rattle.std.specs.Prelude.{◌≡◌, ℕ, ◌∷◌, [], List, true, false, None, Some, Ok, Err, IfSome, refl, ◌⊎◌};
+ghost use Rattle.std.proofs.Common.{◌∙◌};
+ghost use Rattle.road_text.specs.Lines.{fields};
+ghost use Rattle.road_text.specs.Takes.{ShowsLine};
+ghost use Rattle.road_files.specs.Asked.{AreQuestionsOf};
+ghost use Rattle.road_files.specs.QuestionTakes.{begun_of};
+ghost use Rattle.road_files.specs.ServiceText.{ServiceState, Gives, Passes, begins_request, GiveMay, LineMay, service_end};
+
+use crate::question_parser::QuestionParser;
+use crate::questions::Questions;
+use road_text::{FieldTaker, LineFault, MEMORY, Slot};
+use std::alloc::Global;
+
+/// What a request that has ended came to: its questions, or the number of its fault.
+#[derive(Drop)]
+pub enum Ended {
+    Asked(Questions),
+    Fault(u8),
+}
+
+/// What a line did.
+#[derive(Drop)]
+pub struct LineDone {
+    /// Whether a request that had too few lines ended before it.
+    pub early: bool,
+    /// The request that ended with it.
+    pub ended: Option<Ended>,
+}
+
+/// Takes the lines of a service.
+#[derive(Drop)]
+pub struct RequestParser {
+    pub questions: QuestionParser,
+    /// Whether lines are passed over, up to the next problem line.
+    pub passing: bool,
+    /// Whether memory was refused for the present line.
+    pub refused: bool,
+}
+
+// Whether a line begins a request.
+fn begins(slots: &[Slot]) -> bool
+    ensures { (l : List ℕ) → ShowsLine slots.now l → result ≡ begins_request (fields l) }
+{
+    !slots.is_empty() && slots[0].is_word(b"p")
+}
+
+impl RequestParser {
+    ghost use Rattle.road_files.specs.RequestTakes.{state_of, ended_of, ended_list, RequestSoFar, KeepsState, EndFits};
+
+    /// No line was taken yet, of a service over a graph with this number of vertices.
+    pub fn new(alloc: Global, vertices: u32) -> Self
+        ensures state { state_of result ≡ Gives None }
+        ensures vertices { result.questions.list.vertices ≡ vertices }
+        ensures any { result.questions.only ≡ None }
+        ensures ready { RequestSoFar result [] }
+    {
+        RequestParser {
+            questions: QuestionParser::new(alloc, vertices, None),
+            passing: false,
+            refused: false,
+        }
+    }
+
+    // The request has this fault: lines are passed over from here on.
+    fn fall(&mut self, number: u8) -> Option<Ended>
+        ensures ended { result ≡ Some (Ended.Fault number) }
+        ensures state { state_of self.new ≡ Passes }
+        ensures rest { (self.new.questions.list ≡ self.old.questions.list) × (self.new.questions.only ≡ self.old.questions.only) }
+    {
+        self.questions.begun = None;
+        self.passing = true;
+        Some(Ended::Fault(number))
+    }
+
+    // Gives a line to the request.
+    fn give(&mut self, slots: &[Slot]) -> Option<Ended>
+        requires any { self.old.questions.only ≡ None }
+        ensures step { (l : List ℕ) → ShowsLine slots.now l → RequestSoFar self.old (fields l) → GiveMay self.old.questions.list.vertices (fields l) (begun_of self.old.questions) (record { ended = ended_list result; next = state_of self.new }) }
+        ensures fit { EndFits self.old.questions.list.vertices result }
+        ensures vertices { self.new.questions.list.vertices ≡ self.old.questions.list.vertices }
+        ensures any { self.new.questions.only ≡ None }
+    {
+        if self.refused {
+            return self.fall(MEMORY);
+        }
+        match self.questions.take(slots) {
+            Err(LineFault::Memory) => self.fall(MEMORY),
+            Err(LineFault::Broken(rule)) => self.fall(rule.number),
+            Ok(()) => {
+                self.passing = false;
+                match self.questions.take_whole() {
+                    Some(asked) => Some(Ended::Asked(asked)),
+                    None => None,
+                }
+            }
+        }
+    }
+
+    // Takes a line, which begins a request if it is said to.
+    fn take(&mut self, slots: &[Slot], begins: bool) -> LineDone
+        requires any { self.old.questions.only ≡ None }
+        ensures step { (l : List ℕ) → ShowsLine slots.now l → begins ≡ begins_request (fields l) → RequestSoFar self.old (fields l) → LineMay self.old.questions.list.vertices (state_of self.old) (fields l) (record { ended = ended_of result; next = state_of self.new }) }
+        ensures fit { EndFits self.old.questions.list.vertices result.ended }
+        ensures vertices { self.new.questions.list.vertices ≡ self.old.questions.list.vertices }
+        ensures any { self.new.questions.only ≡ None }
+    {
+        if self.passing {
+            if !begins {
+                return LineDone {
+                    early: false,
+                    ended: None,
+                };
+            }
+            self.questions.begun = None;
+            return LineDone {
+                early: false,
+                ended: self.give(slots),
+            };
+        }
+        if !begins || self.questions.begun.is_none() {
+            return LineDone {
+                early: false,
+                ended: self.give(slots),
+            };
+        }
+        self.questions.begun = None;
+        LineDone {
+            early: true,
+            ended: self.give(slots),
+        }
+    }
+
+    /// Whether a request goes on.
+    pub fn is_open(&self) -> bool
+        ensures open { result ≡ true → service_end (state_of self.now) ≡ Err 19 ∷ [] }
+        ensures none { result ≡ false → service_end (state_of self.now) ≡ [] }
+    {
+        !self.passing && self.questions.begun.is_some()
+    }
+
+    /// Takes the present line, all of whose fields were taken: these are the first six.
+    pub fn line(&mut self, slots: &[Slot]) -> LineDone
+        requires any { self.old.questions.only ≡ None }
+        ensures step { (l : List ℕ) → ShowsLine slots.now l → RequestSoFar self.old (fields l) → LineMay self.old.questions.list.vertices (state_of self.old) (fields l) (record { ended = ended_of result; next = state_of self.new }) }
+        ensures fit { EndFits self.old.questions.list.vertices result.ended }
+        ensures ready { RequestSoFar self.new [] }
+        ensures vertices { self.new.questions.list.vertices ≡ self.old.questions.list.vertices }
+        ensures any { self.new.questions.only ≡ None }
+    {
+        let done = self.take(slots, begins(slots));
+        self.questions.list.restart();
+        self.refused = false;
+        done
+    }
+}
+
+impl FieldTaker for RequestParser {
+    ghost use Rattle.road_files.specs.RequestTakes.{RequestSoFar, KeepsState};
+
+    ghost so_far = { RequestSoFar };
+
+    ghost kept = { KeepsState };
+
+    fn field(&mut self, slot: &Slot) {
+        if self.refused {
+            return;
+        }
+        match self.questions.list.field(slot) {
+            Ok(()) => {}
+            Err(_) => self.refused = true,
+        }
+    }
+
+    ghost kept_still = { λ s. (refl, refl, refl) };
+
+    ghost kept_on = { λ s t u p q. (q.0 ∙ p.0, q.1 ∙ p.1, q.2 ∙ p.2) };
+}

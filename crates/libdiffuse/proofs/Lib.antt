@@ -1,3 +1,4 @@
+pub mod Entering
 pub mod FaultNumbers
 pub mod Filling
 pub mod Judged

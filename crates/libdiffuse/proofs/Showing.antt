@@ -1,30 +1,48 @@
--- What is shown by one arc more, and the reason that all arcs show.
-use Rattle.std.proofs.Common.{◌≡◌, ℕ, ◌+◌, ◌<◌, List, Bool, ◌||◌, length, get_or, take, ap, ◌∙◌, sym}
-use Rattle.std.specs.Prelude.{Option}
+-- What is shown by one arc more, and that roads turned round show what their arcs do.
+use Rattle.std.proofs.Common.{◌≡◌, ℕ, ◌+◌, ◌<◌, List, [], ◌∷◌, Bool, ◌||◌, length, get_or, take, map, ap, ◌∙◌, refl, sym, Option}
 use Rattle.std.specs.List.{list_any}
 use Rattle.std.proofs.lemmas.List.Folds.{list_any_more}
-use Rattle.road_graph.specs.Roads.{Roads, arc_of}
+use Rattle.road_graph.specs.Roads.{Roads, arc_of, road_of, turned}
+use Rattle.road_graph.specs.declared.OutRoad.{OutRoad}
 use Rattle.path_algebra.specs.Algebra.{Algebra}
 use Rattle.answer_text.specs.declared.answers.Reached.{Reached}
-use Rattle.answer_check.specs.Evidence.{candidate, evidence_of, all_evidence, reason_by}
-use Rattle.libdiffuse.specs.declared.evidence.Shown.{Shown}
-use Rattle.libdiffuse.specs.Shown.{IsShownBy, IsShownOf, either_shown, reason_shown}
+use Rattle.answer_check.specs.declared.evidence.Evidence.{Evidence}
+use Rattle.answer_check.specs.Evidence.{candidate, all_evidence, either, is_there}
+use Rattle.libdiffuse.specs.Shown.{offered_by, shown_by, all_shown}
 
-joined : (p : ℕ → Bool) (arcs : List ℕ) (i a : ℕ) → i < length arcs → a ≡ get_or arcs i a → (b c : Bool) → b ≡ list_any p (take i arcs) → c ≡ p a →
-    (b || c) ≡ list_any p (take (i + 1) arcs)
-joined p arcs i a lt e b c eb ec =
-    rw (eb, ec) (sym (list_any_more p arcs i a lt ∙ ap (λ (x : ℕ). list_any p (take i arcs) || p x) (sym e)))
+one_more : (p : OutRoad → Bool) (roads : List OutRoad) (i : ℕ) (r : OutRoad) → i < length roads → r ≡ get_or roads i r → list_any p (take (i + 1) roads) ≡ (list_any p (take i roads) || p r)
+one_more p roads i r lt e = list_any_more p roads i r lt ∙ ap (λ (x : OutRoad). list_any p (take i roads) || p x) (sym e)
 
-module _ {V : Type 0} (A : Algebra V) (no_worse : V → V → Bool) (g : Roads) (lines : List (Option Reached)) (r : Reached) (y : V) where
-  pub shown_more : (arcs : List ℕ) (i a : ℕ) → i < length arcs → a ≡ get_or arcs i a → (s t : Shown) → IsShownOf A no_worse g lines r y (take i arcs) s →
-      IsShownBy no_worse (arc_of g a).tail r y (candidate A g lines a) t → IsShownOf A no_worse g lines r y (take (i + 1) arcs) (either_shown s t)
-  shown_more arcs i a lt e s t old new = record {
-    better = joined (λ x. (evidence_of A no_worse g lines r y x).better) arcs i a lt e s.better t.better old.better new.better;
-    supported = joined (λ x. (evidence_of A no_worse g lines r y x).supported) arcs i a lt e s.supported t.supported old.supported new.supported;
-    astray = joined (λ x. (evidence_of A no_worse g lines r y x).astray) arcs i a lt e s.astray t.astray old.astray new.astray;
-    nearer = joined (λ x. (evidence_of A no_worse g lines r y x).nearer) arcs i a lt e s.nearer t.nearer old.nearer new.nearer;
-    lesser = joined (λ x. (evidence_of A no_worse g lines r y x).lesser) arcs i a lt e s.lesser t.lesser old.lesser new.lesser;
-  }
+-- the roads, turned round, of the arcs of a list
+abbrev pub entering : Roads → List ℕ → List OutRoad
+entering g numbers = map (λ a. road_of (turned (arc_of g a))) numbers
 
-  pub reason_of_all : (arcs : List ℕ) (s : Shown) → IsShownOf A no_worse g lines r y arcs s → reason_shown s ≡ reason_by (all_evidence A no_worse g lines r y arcs)
-  reason_of_all arcs s all = λ j. reason_by (record { better = all.better j; supported = all.supported j; astray = all.astray j; nearer = all.nearer j; lesser = all.lesser j })
+any_entering : (g : Roads) (p : OutRoad → Bool) (numbers : List ℕ) → list_any p (entering g numbers) ≡ list_any (λ a. p (road_of (turned (arc_of g a)))) numbers
+any_entering g p [] = refl
+any_entering g p (a ∷ numbers) = ap (λ (b : Bool). p (road_of (turned (arc_of g a))) || b) (any_entering g p numbers)
+
+module _ {V : Type 0} (A : Algebra V) (no_worse : V → V → Bool) (lines : List (Option Reached)) (line : Reached) (y : V) where
+  pub shown_more : (roads : List OutRoad) (i : ℕ) (r : OutRoad) → i < length roads → r ≡ get_or roads i r →
+      all_shown A no_worse lines line y (take (i + 1) roads) ≡ either (all_shown A no_worse lines line y (take i roads)) (shown_by A no_worse lines line y r)
+  shown_more roads i r lt e =
+      let test : (Evidence → Bool) → OutRoad → Bool = λ field x. field (shown_by A no_worse lines line y x) in
+      let better = one_more (test (λ s. s.better)) roads i r lt e in
+      let supported = one_more (test (λ s. s.supported)) roads i r lt e in
+      let astray = one_more (test (λ s. s.astray)) roads i r lt e in
+      let nearer = one_more (test (λ s. s.nearer)) roads i r lt e in
+      let lesser = one_more (test (λ s. s.lesser)) roads i r lt e in
+      rw (better, supported, astray, nearer, lesser) refl
+
+  pub shown_of_arcs : (g : Roads) (numbers : List ℕ) → all_shown A no_worse lines line y (entering g numbers) ≡ all_evidence A no_worse g lines line y numbers
+  shown_of_arcs g numbers =
+      let test : (Evidence → Bool) → OutRoad → Bool = λ field x. field (shown_by A no_worse lines line y x) in
+      let better = any_entering g (test (λ s. s.better)) numbers in
+      let supported = any_entering g (test (λ s. s.supported)) numbers in
+      let astray = any_entering g (test (λ s. s.astray)) numbers in
+      let nearer = any_entering g (test (λ s. s.nearer)) numbers in
+      let lesser = any_entering g (test (λ s. s.lesser)) numbers in
+      rw (better, supported, astray, nearer, lesser) refl
+
+pub offered_of_arcs : {V : Type 0} (A : Algebra V) (lines : List (Option Reached)) (g : Roads) (numbers : List ℕ) →
+    list_any (λ r. is_there (offered_by A lines r)) (entering g numbers) ≡ list_any (λ a. is_there (candidate A g lines a)) numbers
+offered_of_arcs A lines g numbers = any_entering g (λ r. is_there (offered_by A lines r)) numbers

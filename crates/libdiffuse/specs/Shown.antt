@@ -1,38 +1,27 @@
--- What arcs show of a line, as the rules of the checker count it.
-use Rattle.std.specs.Prelude.{◌≡◌, ℕ, ◌||◌, List, Bool, Option}
-use Rattle.road_graph.specs.Roads.{Roads}
+-- What arcs show of the line of the vertex that they enter, each told by its road turned round, as the rules of the checker count it.
+use Rattle.std.specs.Prelude.{List, Bool, Option}
+use Rattle.std.specs.List.{list_any}
+use Rattle.road_graph.specs.declared.OutRoad.{OutRoad}
 use Rattle.path_algebra.specs.Algebra.{Algebra}
+use Rattle.path_algebra.specs.Walks.{label_of}
 use Rattle.answer_text.specs.declared.answers.Reached.{Reached}
-use Rattle.answer_check.specs.declared.verdict.Reason.{Reason}
-use Rattle.answer_check.specs.Evidence.{evidence_by, all_evidence, reason_by}
-use Rattle.libdiffuse.specs.declared.evidence.Shown.{Shown}
+use Rattle.answer_check.specs.declared.evidence.Evidence.{Evidence}
+use Rattle.answer_check.specs.Evidence.{candidate_from, evidence_by}
 
--- what one arc from u shows of a line r that tells the value y, by what it offers
-pub record IsShownBy {V : Type 0} (no_worse : V → V → Bool) (u : ℕ) (r : Reached) (y : V) (offer : Option (Reached × V)) (s : Shown) : Type 0 where
-  pub better : s.better ≡ (evidence_by no_worse u r y offer).better
-  pub supported : s.supported ≡ (evidence_by no_worse u r y offer).supported
-  pub astray : s.astray ≡ (evidence_by no_worse u r y offer).astray
-  pub nearer : s.nearer ≡ (evidence_by no_worse u r y offer).nearer
-  pub lesser : s.lesser ≡ (evidence_by no_worse u r y offer).lesser
+-- what an arc offers to the vertex that it enters
+abbrev pub offered_by : {V : Type 0} → Algebra V → List (Option Reached) → OutRoad → Option (Reached × V)
+offered_by A lines r = candidate_from A (label_of lines r.head) r.weight
+
+-- what one arc shows of a line that tells the value y
+abbrev pub shown_by : {V : Type 0} → Algebra V → (V → V → Bool) → List (Option Reached) → Reached → V → OutRoad → Evidence
+shown_by A no_worse lines line y r = evidence_by no_worse r.head line y (offered_by A lines r)
 
 -- what some arc of a list shows
-pub record IsShownOf {V : Type 0} (A : Algebra V) (no_worse : V → V → Bool) (g : Roads) (lines : List (Option Reached)) (r : Reached) (y : V) (arcs : List ℕ) (s : Shown) : Type 0 where
-  pub better : s.better ≡ (all_evidence A no_worse g lines r y arcs).better
-  pub supported : s.supported ≡ (all_evidence A no_worse g lines r y arcs).supported
-  pub astray : s.astray ≡ (all_evidence A no_worse g lines r y arcs).astray
-  pub nearer : s.nearer ≡ (all_evidence A no_worse g lines r y arcs).nearer
-  pub lesser : s.lesser ≡ (all_evidence A no_worse g lines r y arcs).lesser
-
--- what either shows
-abbrev pub either_shown : Shown → Shown → Shown
-either_shown s t = record {
-  better = s.better || t.better;
-  supported = s.supported || t.supported;
-  astray = s.astray || t.astray;
-  nearer = s.nearer || t.nearer;
-  lesser = s.lesser || t.lesser;
+abbrev pub all_shown : {V : Type 0} → Algebra V → (V → V → Bool) → List (Option Reached) → Reached → V → List OutRoad → Evidence
+all_shown A no_worse lines line y roads = record {
+  better = list_any (λ r. (shown_by A no_worse lines line y r).better) roads;
+  supported = list_any (λ r. (shown_by A no_worse lines line y r).supported) roads;
+  astray = list_any (λ r. (shown_by A no_worse lines line y r).astray) roads;
+  nearer = list_any (λ r. (shown_by A no_worse lines line y r).nearer) roads;
+  lesser = list_any (λ r. (shown_by A no_worse lines line y r).lesser) roads;
 }
-
--- the first reason that is shown
-abbrev pub reason_shown : Shown → Option Reason
-reason_shown s = reason_by (record { better = s.better; supported = s.supported; astray = s.astray; nearer = s.nearer; lesser = s.lesser })

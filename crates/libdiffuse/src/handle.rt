@@ -6,7 +6,7 @@ ghost use Rattle.libdiffuse.specs.Holding.{has_graph};
 
 use crate::held::{Held, discard, hold, nothing, release};
 use crate::loose::Loose;
-use road_graph::Graph;
+use road_graph::OutGraph;
 use std::alloc::Global;
 use std::mem;
 use std::sync::Arc;
@@ -30,7 +30,7 @@ pub(crate) fn closed() -> DiffuseGraph
 }
 
 /// An open one, with this owner.
-fn opened(owner: Box<Arc<Graph>>) -> DiffuseGraph
+fn opened(owner: Box<Arc<OutGraph>>) -> DiffuseGraph
     ensures { result.held.roads ≡ Some (arc_value owner.value) }
 {
     DiffuseGraph {
@@ -40,7 +40,7 @@ fn opened(owner: Box<Arc<Graph>>) -> DiffuseGraph
 }
 
 /// Takes the owner out, if there is one. The handle is closed then.
-pub(crate) fn take(alloc: Global, handle: &mut DiffuseGraph) -> Option<Box<Arc<Graph>>>
+pub(crate) fn take(alloc: Global, handle: &mut DiffuseGraph) -> Option<Box<Arc<OutGraph>>>
     ensures graph { MatchOption result (handle.old.held.roads ≡ None) (λ b. handle.old.held.roads ≡ Some (arc_value b.value)) }
     ensures closed { handle.new.held.roads ≡ None }
 {
@@ -54,7 +54,7 @@ pub(crate) fn take(alloc: Global, handle: &mut DiffuseGraph) -> Option<Box<Arc<G
 }
 
 /// Puts an owner into a closed handle.
-pub(crate) fn put(handle: &mut DiffuseGraph, owner: Box<Arc<Graph>>)
+pub(crate) fn put(handle: &mut DiffuseGraph, owner: Box<Arc<OutGraph>>)
     requires { handle.old.held.roads ≡ None }
     ensures { handle.new.held.roads ≡ Some (arc_value owner.value) }
 {

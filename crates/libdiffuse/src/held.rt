@@ -6,7 +6,7 @@ ghost use Rattle.road_graph.specs.Roads.{Roads};
 ghost use Rattle.libdiffuse.specs.Holding.{has_graph};
 
 use crate::loose::Loose;
-use road_graph::Graph;
+use road_graph::OutGraph;
 use std::alloc::Global;
 use std::marker::{Model, Send};
 use std::ptr::null_mut;
@@ -36,7 +36,7 @@ pub(crate) fn nothing() -> Held
 }
 
 /// Holds an owner of a graph.
-pub(crate) fn hold(owner: Loose<Arc<Graph>, Global>) -> Held
+pub(crate) fn hold(owner: Loose<Arc<OutGraph>, Global>) -> Held
     ensures { result.roads ≡ Some (arc_value owner.value) }
 {
     let Loose { at, alloc: _ } = owner;
@@ -44,13 +44,13 @@ pub(crate) fn hold(owner: Loose<Arc<Graph>, Global>) -> Held
 }
 
 /// Hands the owner back.
-pub(crate) fn release(alloc: Global, held: Held) -> Loose<Arc<Graph>, Global>
+pub(crate) fn release(alloc: Global, held: Held) -> Loose<Arc<OutGraph>, Global>
     requires { has_graph held.roads ≡ true }
     ensures { held.roads ≡ Some (arc_value result.value) }
 {
     let Held { at } = held;
     Loose {
-        at: at as *mut Arc<Graph>,
+        at: at as *mut Arc<OutGraph>,
         alloc,
     }
 }

@@ -1,39 +1,25 @@
 //! The check of a tree in three lists.
 
-ghost use Rattle.std.specs.Prelude.{◌≡◌, ℕ, ◌≤◌, ◌∷◌, [], ◌↔◌, length, pos, All, Contains, IfOk, IsTrue, MatchOption};
+ghost use Rattle.std.specs.Prelude.{◌≡◌, ◌∷◌, [], length, pos, All, IfOk, MatchOption};
 ghost use Rattle.road_graph.specs.Roads.{HasVertex};
-ghost use Rattle.path_algebra.specs.Walks.{is_marked};
 ghost use Rattle.answer_check.specs.Reasons.{reason_number};
 ghost use Rattle.libdiffuse.specs.Answers.{HavePlaces, IsOneOf};
 ghost use Rattle.libdiffuse.specs.Choice.{OfAlgebra};
 ghost use Rattle.libdiffuse.specs.Tree.{lines_of, IsToldTree, IsFirstWrong, IsFirstPlace, TellsRefusals};
 
 use crate::choice::with_algebra;
-use crate::sources::are_vertices;
+use crate::sources::{are_vertices, vertices_of};
 use crate::status::{DONE, MEMORY, NO_ALGEBRA, NO_ROOM, NO_VERTEX, WRONG};
 use crate::vertices::reason_at;
-use answer_check::Reason;
+use answer_check::{Reason, marks_of};
 use path_algebra::{PathAlgebra, laws_hold};
-use road_graph::{Graph, Vertex};
-use std::alloc::{AllocError, Global};
-
-/// A mark for each of n vertices that tells whether it is one of the sources.
-fn marks_of(alloc: Global, n: usize, sources: &[u32]) -> Result<Vec<bool>, AllocError>
-    requires { All (λ s. (1 ≤ s) × (s ≤ n)) sources.now }
-    ensures count { IfOk result (λ marks. length marks.items ≡ n) }
-    ensures marks { IfOk result (λ marks. (v : ℕ) → 1 ≤ v → v ≤ n → IsTrue (is_marked marks.items v) ↔ Contains sources.now v) }
-{
-    let mut marks = vec![in alloc; false; n]?;
-    for source in sources {
-        marks[*source as usize - 1] = true;
-    }
-    Ok(marks)
-}
+use road_graph::{InGraph, Memory, OutGraph, Vertex};
+use std::alloc::Global;
 
 /// The first vertex whose line something speaks against, with the first reason, if marks tell the sources.
 fn first_place<A: PathAlgebra>(
     algebra: A,
-    graph: &Graph,
+    graph: &InGraph,
     codes: &[u64],
     hops: &[u32],
     parents: &[u32],
@@ -58,27 +44,29 @@ fn first_place<A: PathAlgebra>(
 fn judge<A: PathAlgebra>(
     alloc: Global,
     algebra: A,
-    graph: &Graph,
+    graph: &OutGraph,
     sources: &[u32],
     codes: &[u64],
     hops: &[u32],
     parents: &[u32],
-) -> Result<Option<(Vertex, Reason)>, AllocError>
+) -> Result<Option<(Vertex, Reason)>, Memory>
     requires sources { All (HasVertex graph.now) sources.now }
     requires places { HavePlaces graph.now.vertices codes.now hops.now parents.now }
     ensures { IfOk result (λ o. MatchOption o (IsToldTree (A.meaning algebra) graph.now sources.now codes.now hops.now parents.now)
         (λ p. IsFirstWrong (A.meaning algebra) graph.now sources.now codes.now hops.now parents.now p.0 (reason_number p.1))) }
 {
     laws_hold(algebra);
-    let marks = marks_of(alloc, graph.vertices() as usize, sources)?;
-    Ok(first_place(algebra, graph, codes, hops, parents, &marks))
+    let list = vertices_of(alloc, sources)?;
+    let marks = marks_of(alloc, graph.vertices() as usize, &list)?;
+    let back = InGraph::of(alloc, graph)?;
+    Ok(first_place(algebra, &back, codes, hops, parents, &marks))
 }
 
 /// Judges a tree and reports the first wrong vertex.
 fn answer<A: PathAlgebra>(
     alloc: Global,
     algebra: A,
-    graph: &Graph,
+    graph: &OutGraph,
     sources: &[u32],
     codes: &[u64],
     hops: &[u32],
@@ -100,7 +88,7 @@ fn answer<A: PathAlgebra>(
             *reason = against.number();
             WRONG
         }
-        Err(AllocError) => MEMORY,
+        Err(Memory) => MEMORY,
     }
 }
 
@@ -109,7 +97,7 @@ pub(crate) fn check_tree(
     alloc: Global,
     number: u32,
     limit: u64,
-    graph: &Graph,
+    graph: &OutGraph,
     sources: &[u32],
     codes: &[u64],
     hops: &[u32],

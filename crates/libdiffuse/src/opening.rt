@@ -9,11 +9,11 @@ ghost use Rattle.libdiffuse.specs.Lent.{lent};
 use crate::arcs::{DiffuseArc, roads_of};
 use crate::owners::owned;
 use crate::status::{LIMIT, MEMORY, NO_VERTEX};
-use road_graph::{Graph, GraphFault, RoadArc};
+use road_graph::{GraphFault, OutGraph, RoadArc};
 use std::alloc::{AllocError, Global};
 use std::sync::Arc;
 
-fn new_graph(alloc: Global, vertices: u32, list: Vec<RoadArc>) -> Result<Graph, i32>
+fn new_graph(alloc: Global, vertices: u32, list: Vec<RoadArc>) -> Result<OutGraph, i32>
     requires few_vertices { vertices ≤ 33554432 }
     requires few_arcs { length list.items ≤ 134217728 }
     ensures graph { IfOk result (λ g. g ≡ record { vertices = vertices; arcs = list.items }) }
@@ -21,7 +21,7 @@ fn new_graph(alloc: Global, vertices: u32, list: Vec<RoadArc>) -> Result<Graph, 
     ensures status { IfErr result (λ n. IsOneOf (3 ∷ 17 ∷ []) n) }
     ensures bad { IfErr result (λ n. n ≡ pos 17 → IsRoads (record { vertices = vertices; arcs = list.items }) → ⊥) }
 {
-    match Graph::new(alloc, vertices, list) {
+    match OutGraph::new(alloc, vertices, list) {
         Ok(graph) => {
             let _n = graph.vertices();
             Ok(graph)
@@ -31,7 +31,7 @@ fn new_graph(alloc: Global, vertices: u32, list: Vec<RoadArc>) -> Result<Graph, 
     }
 }
 
-fn graph_of(alloc: Global, vertices: u32, arcs: &[DiffuseArc]) -> Result<Graph, i32>
+fn graph_of(alloc: Global, vertices: u32, arcs: &[DiffuseArc]) -> Result<OutGraph, i32>
     ensures graph { IfOk result (λ g. g ≡ lent vertices arcs.now) }
     ensures fits { IfOk result (λ g. Fits vertices arcs.now) }
     ensures fault { IfErr result (λ n. IsFault vertices arcs.now n) }
@@ -50,7 +50,7 @@ pub(crate) fn owner_of(
     alloc: Global,
     vertices: u32,
     arcs: &[DiffuseArc],
-) -> Result<Box<Arc<Graph>>, i32>
+) -> Result<Box<Arc<OutGraph>>, i32>
     ensures graph { IfOk result (λ b. arc_value b.value ≡ lent vertices arcs.now) }
     ensures fits { IfOk result (λ b. Fits vertices arcs.now) }
     ensures fault { IfErr result (λ n. IsFault vertices arcs.now n) }

@@ -3,12 +3,12 @@
 ghost use Rattle.std.specs.Prelude.{◌≡◌, IfOk};
 ghost use Rattle.std.specs.Arc.{arc_value};
 
-use road_graph::Graph;
+use road_graph::OutGraph;
 use std::alloc::{AllocError, Global};
 use std::sync::Arc;
 
 /// The first owner of a graph.
-pub(crate) fn owned(alloc: Global, graph: Graph) -> Result<Box<Arc<Graph>>, AllocError>
+pub(crate) fn owned(alloc: Global, graph: OutGraph) -> Result<Box<Arc<OutGraph>>, AllocError>
     ensures { IfOk result (λ b. arc_value b.value ≡ graph) }
 {
     let owner = Arc::new(alloc, graph).map_err(AllocError::from)?;
@@ -16,7 +16,10 @@ pub(crate) fn owned(alloc: Global, graph: Graph) -> Result<Box<Arc<Graph>>, Allo
 }
 
 /// One more owner of the same graph.
-pub(crate) fn another(alloc: Global, owner: &Arc<Graph>) -> Result<Box<Arc<Graph>>, AllocError>
+pub(crate) fn another(
+    alloc: Global,
+    owner: &Arc<OutGraph>,
+) -> Result<Box<Arc<OutGraph>>, AllocError>
     ensures { IfOk result (λ b. arc_value b.value ≡ arc_value owner.now) }
 {
     let second = Arc::try_clone(owner)?;

@@ -12,8 +12,8 @@ use crate::handle::{DiffuseGraph, put};
 use crate::owners::owned;
 use crate::status::{DONE, MEMORY, OPEN};
 use ghost_count::Count;
-use road_files::read_gr;
-use road_graph::Graph;
+use road_files::read_gr_as;
+use road_graph::OutGraph;
 use road_text::{ReadFailed, ReadFault, RoadRead};
 use std::alloc::{AllocError, Global};
 use std::sync::Arc;
@@ -46,7 +46,7 @@ impl RoadRead for InMemory<'_> {
 }
 
 /// The graph of a text.
-fn read_graph(alloc: Global, bytes: &[u8]) -> Result<Graph, ReadFault>
+fn read_graph(alloc: Global, bytes: &[u8]) -> Result<OutGraph, ReadFault>
     ensures graph { IfOk result (λ g. text_read gr_rules bytes.now ≡ Ok g) }
     ensures fault { IfErr result (λ f. IsFaultOf bytes.now f) }
 {
@@ -54,11 +54,11 @@ fn read_graph(alloc: Global, bytes: &[u8]) -> Result<Graph, ReadFault>
         rest: bytes,
         reads: Count::new(),
     };
-    read_gr(alloc, &mut text)
+    read_gr_as(alloc, &mut text)
 }
 
 /// An owner of the graph of a text, or why there is none.
-fn owner_read(alloc: Global, bytes: &[u8]) -> Result<Box<Arc<Graph>>, ReadFault>
+fn owner_read(alloc: Global, bytes: &[u8]) -> Result<Box<Arc<OutGraph>>, ReadFault>
     ensures graph { IfOk result (λ b. text_read gr_rules bytes.now ≡ Ok (arc_value b.value)) }
     ensures fault { IfErr result (λ f. IsFaultOf bytes.now f) }
 {

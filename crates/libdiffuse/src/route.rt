@@ -8,16 +8,16 @@ ghost use Rattle.libdiffuse.specs.Choice.{IsAlgebra, OfAlgebra};
 use crate::choice::with_algebra;
 use crate::status::{DONE, MEMORY, NO_ALGEBRA, NO_ROOM, NO_ROUTE, NO_VERTEX};
 use path_algebra::PathAlgebra;
-use path_plain::solve_one;
-use road_graph::{Graph, Memory, Vertex};
-use route_tree::{PairRoute, route_between};
+use path_plain::solve_outgoing;
+use road_graph::{InGraph, Memory, OutGraph, Vertex};
+use route_tree::{PairRoute, route_outgoing};
 use std::alloc::Global;
 
 /// The best code and the route; none if no walk to the target has a value.
 fn find<A: PathAlgebra>(
     alloc: Global,
     algebra: A,
-    graph: &Graph,
+    graph: &OutGraph,
     source: Vertex,
     target: Vertex,
 ) -> Result<Option<(u64, PairRoute)>, Memory>
@@ -27,8 +27,9 @@ fn find<A: PathAlgebra>(
         (λ r. IsRouteFound (A.meaning algebra) graph.now source target r.0 r.1.hops r.1.vertices.items)) }
 {
     let _n = graph.vertices();
-    let labels = solve_one(alloc, algebra, graph, source)?;
-    let Some(route) = route_between(alloc, algebra, graph, source, target, &labels)? else {
+    let labels = solve_outgoing(alloc, algebra, graph, &[source])?;
+    let back = InGraph::of(alloc, graph)?;
+    let Some(route) = route_outgoing(alloc, algebra, graph, &back, source, target, &labels)? else {
         return Ok(None);
     };
     match labels.of(target) {
@@ -68,7 +69,7 @@ fn tell(route: &PairRoute, room: &mut [u32]) -> i32
 fn answer<A: PathAlgebra>(
     alloc: Global,
     algebra: A,
-    graph: &Graph,
+    graph: &OutGraph,
     source: Vertex,
     target: Vertex,
     code: &mut u64,
@@ -99,7 +100,7 @@ pub(crate) fn answer_by(
     alloc: Global,
     number: u32,
     limit: u64,
-    graph: &Graph,
+    graph: &OutGraph,
     source: Vertex,
     target: Vertex,
     code: &mut u64,

@@ -4,11 +4,11 @@ ghost use Rattle.std.specs.Prelude.{◌≡◌, ◌↔◌, IfOk, IsTrue};
 ghost use Rattle.std.specs.List.{All};
 ghost use Rattle.road_graph.specs.Roads.{HasVertex};
 
-use road_graph::{Graph, Vertex};
+use road_graph::{OutGraph, Vertex};
 use std::alloc::{AllocError, Global};
 
 /// Whether each number is a vertex.
-pub(crate) fn are_vertices(graph: &Graph, numbers: &[u32]) -> bool
+pub(crate) fn are_vertices(graph: &OutGraph, numbers: &[u32]) -> bool
     ensures { IsTrue result ↔ All (HasVertex graph.now) numbers.now }
 {
     for number in numbers {

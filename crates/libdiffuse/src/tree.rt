@@ -15,10 +15,10 @@ use crate::lines::NO_CODE;
 use crate::sources::{are_vertices, vertices_of};
 use crate::status::{DONE, MEMORY, NO_ALGEBRA, NO_ROOM, NO_VERTEX};
 use path_algebra::{Labels, PathAlgebra, laws_hold};
-use path_plain::solve_from;
-use road_graph::{Graph, Memory, Vertex};
-use route_tree::{Tree, labels_and_trees_agree, tree};
+use road_graph::{Memory, OutGraph, Vertex};
+use route_tree::{Tree, labels_and_trees_agree};
 use std::alloc::Global;
+use tree_search::solve_with_tree;
 
 fn code_for<A: PathAlgebra>(algebra: A, value: Option<A::Value>) -> u64
     ensures { result ≡ code_for (A.meaning algebra) value }
@@ -50,7 +50,7 @@ fn parent_for(parent: Option<Vertex>) -> u32
 /// The three numbers of a vertex.
 fn numbers_of<A: PathAlgebra>(
     algebra: A,
-    graph: &Graph,
+    graph: &OutGraph,
     sources: &[Vertex],
     labels: &Labels<A::Value>,
     tree: &Tree,
@@ -75,7 +75,7 @@ fn numbers_of<A: PathAlgebra>(
 /// Writes a tree to three lists.
 fn tell<A: PathAlgebra>(
     algebra: A,
-    graph: &Graph,
+    graph: &OutGraph,
     sources: &[Vertex],
     labels: &Labels<A::Value>,
     tree: &Tree,
@@ -99,27 +99,11 @@ fn tell<A: PathAlgebra>(
     }
 }
 
-/// Labels and tree from these sources.
-fn solve<A: PathAlgebra>(
-    alloc: Global,
-    algebra: A,
-    graph: &Graph,
-    sources: &[Vertex],
-) -> Result<(Labels<A::Value>, Tree), Memory>
-    requires { All (HasVertex graph.now) sources.now }
-    ensures best { IfOk result (λ r. AreBest (A.meaning algebra) graph.now sources.now r.0) }
-    ensures tree { IfOk result (λ r. IsTree (A.meaning algebra) graph.now sources.now r.1) }
-{
-    let labels = solve_from(alloc, algebra, graph, sources)?;
-    let tree = tree(alloc, algebra, graph, sources, &labels)?;
-    Ok((labels, tree))
-}
-
 /// Finds a tree and writes it.
 fn answer<A: PathAlgebra>(
     alloc: Global,
     algebra: A,
-    graph: &Graph,
+    graph: &OutGraph,
     sources: &[u32],
     codes: &mut [u64],
     hops: &mut [u32],
@@ -135,7 +119,7 @@ fn answer<A: PathAlgebra>(
     let Ok(list) = vertices_of(alloc, sources) else {
         return MEMORY;
     };
-    match solve(alloc, algebra, graph, &list) {
+    match solve_with_tree(alloc, algebra, graph, &list) {
         Ok((labels, tree)) => {
             tell(algebra, graph, &list, &labels, &tree, codes, hops, parents);
             DONE
@@ -149,7 +133,7 @@ pub(crate) fn answer_tree(
     alloc: Global,
     number: u32,
     limit: u64,
-    graph: &Graph,
+    graph: &OutGraph,
     sources: &[u32],
     codes: &mut [u64],
     hops: &mut [u32],

@@ -7,5 +7,7 @@ pub mod Fronts
 pub mod OfInputs
 pub mod Together
 pub mod Laid
+mod Planned
 pub mod Moved
 pub mod SameSources
+mod Reporting

@@ -1,17 +1,17 @@
 -- What a run promises of inputs that were read, from what answering them promises.
-use Rattle.std.proofs.Common.{◌≡◌, ◌≢◌, ◌⊎◌, ◌↔◌, ◌<◌, ◌≤◌, inl, inr, ℕ, List, Option, Result, Ok, Err, true, false, refl, sym, ◌∙◌, arith}
+use Rattle.std.proofs.Common.{◌≡◌, ◌≢◌, ◌⊎◌, ◌↔◌, ◌<◌, ◌≤◌, inl, inr, ℕ, List, Option, Result, Ok, Err, Bool, false, refl, sym, ◌∙◌, arith}
 use Rattle.std.specs.Prelude.{IfErr, OnOk}
 use Rattle.std.proofs.lemmas.Result.{IfErr-at_err, IfErr-weaker}
 use Rattle.road_graph.specs.Roads.{Roads}
 use Rattle.road_files.specs.Asked.{Asked}
 use Rattle.path_algebra.specs.Algebra.{Algebra}
+use Rattle.batch_run.specs.Stopping.{Stalls, Closes}
 use Rattle.batch_run.specs.declared.faults.RunFault.{RunFault}
 use Rattle.batch_run.specs.declared.faults.File.{File}
 use Rattle.batch_run.specs.declared.faults.File.TheVariants.{Graph, Questions, NoFile}
 use Rattle.batch_run.specs.declared.settings.Settings.{Settings}
 use Rattle.batch_run.specs.Answered.{WroteAllOrFront, WroteWhole}
 use Rattle.batch_run.specs.InRange.{AreInRange}
-use Rattle.batch_run.specs.Stopping.{IsAlwaysOpen}
 use Rattle.batch_run.specs.Ran.{Begun, BegunWhole, Done, IsFaultOf, IsLater, IsPassedOn, IsRoadNumber}
 
 -- what holds after each fault but a failed write holds where memory was refused
@@ -44,20 +44,26 @@ module _ {V : Type 0} (A : Algebra V) (IsRead : Roads → Asked → Type 0) (g :
       (begun_whole (wrote other), passed other)
 
 -- a fault that comes when the inputs have been read is of no input and of no setting, and says why it came
-module _ (s : Settings) (is_open : Type 0) (before after : ℕ) where
-  later_kind : (f : RunFault) → IsLater s is_open f → (inputs : File → Type 0) → IsFaultOf inputs f
+module _ (s : Settings) (answers : ℕ → ℕ → Bool → Type 0) (before after : ℕ) where
+  later_kind : (f : RunFault) → IsLater s answers f → (inputs : File → Type 0) → IsFaultOf inputs f
   later_kind f l inputs = grind arith
 
-  later_no_setting : (f : RunFault) → IsLater s is_open f → f.number ≢ 43
+  later_no_setting : (f : RunFault) → IsLater s answers f → f.number ≢ 43
   later_no_setting f l = grind arith
 
-  later_stalled : (f : RunFault) → IsLater s is_open f → f.number ≡ 40 → s.plain ≡ false
-  later_stalled f l = grind arith
+  later_stalled : (f : RunFault) → IsLater s answers f → f.number ≡ 40 → (s.plain ≡ false) × Stalls answers s.workers s.turns
+  later_stalled f (file, line, inl memory) e = absurd (omega (arith, memory, e))
+  later_stalled f (file, line, inr (inl stalled)) e = (stalled.1, stalled.2)
+  later_stalled f (file, line, inr (inr (inl gated))) e = absurd (omega (arith, gated.0, e))
+  later_stalled f (file, line, inr (inr (inr write))) e = absurd (omega (arith, write, e))
 
-  later_gated : (f : RunFault) → IsLater s is_open f → f.number ≡ 41 → (s.plain ≡ false) × (is_open → ⊥)
-  later_gated f l = grind arith
+  later_gated : (f : RunFault) → IsLater s answers f → f.number ≡ 41 → (s.plain ≡ false) × Closes answers s.workers s.turns
+  later_gated f (file, line, inl memory) e = absurd (omega (arith, memory, e))
+  later_gated f (file, line, inr (inl stalled)) e = absurd (omega (arith, stalled.0, e))
+  later_gated f (file, line, inr (inr (inl gated))) e = (gated.1, gated.2)
+  later_gated f (file, line, inr (inr (inr write))) e = absurd (omega (arith, write, e))
 
-  module _ (r : Result (Unit {0}) RunFault) (later : IfErr r (λ f. IsLater s is_open f × (f.number ≡ 42 → before < after))) where
+  module _ (r : Result (Unit {0}) RunFault) (later : IfErr r (λ f. IsLater s answers f × (f.number ≡ 42 → before < after))) where
     pub settings : AreInRange s → (r ≡ Err (record { number = 43; file = NoFile; line = 0 })) ↔ (AreInRange s → ⊥)
     settings inside = (λ e. absurd (later_no_setting _ ((IfErr-at_err _ e later).0) refl), λ no. absurd (no inside))
 
@@ -73,11 +79,11 @@ module _ (s : Settings) (is_open : Type 0) (before after : ℕ) where
     pub placed : IfErr r (λ f. f.number ≤ 3 → f.line ≡ 0)
     placed = IfErr-weaker r _ _ (λ f l low. l.0.1) later
 
-    pub stalled : IfErr r (λ f. f.number ≡ 40 → s.plain ≡ false)
+    pub stalled : IfErr r (λ f. f.number ≡ 40 → (s.plain ≡ false) × Stalls answers s.workers s.turns)
     stalled = IfErr-weaker r _ _ (λ f l. later_stalled f l.0) later
 
-    pub gated : IfErr r (λ f. f.number ≡ 41 → (s.plain ≡ false) × (IsAlwaysOpen (λ _ _ answer. is_open → answer ≡ true) → ⊥))
-    gated = IfErr-weaker r _ _ (λ f l e. let why = later_gated f l.0 e in (why.0, λ always. always 0 0 (λ o. absurd (why.1 o)))) later
+    pub gated : IfErr r (λ f. f.number ≡ 41 → (s.plain ≡ false) × Closes answers s.workers s.turns)
+    gated = IfErr-weaker r _ _ (λ f l. later_gated f l.0) later
 
     pub in_no_input : (P : Type 0) → IfErr r (λ f. f.file ≢ NoFile → P)
     in_no_input P = IfErr-weaker r _ _ (λ f l e. absurd (e l.0.0)) later

@@ -1,5 +1,5 @@
 -- A batch on its way: the first questions were answered, and their answers written.
-use Rattle.std.proofs.Common.{◌≡◌, ◌≢◌, true, ℕ, ◌+◌, ◌<◌, ◌≤◌, List, [], ◌∷◌, ◌++◌, length, take, get_or, Option, None, Result, Ok, Err, inl, inr, ◌⊎◌, refl, sym, ap, ◌∙◌, subst, append_assoc, append-nil, arith}
+use Rattle.std.proofs.Common.{◌≡◌, ◌≢◌, true, ℕ, ◌+◌, ◌<◌, ◌≤◌, List, [], ◌∷◌, ◌++◌, length, take, get_or, Option, None, Result, Ok, Err, Bool, inl, inr, ◌⊎◌, refl, sym, ap, ◌∙◌, subst, append_assoc, append-nil, arith}
 use Rattle.std.proofs.lemmas.Bool.{false_from_ne_true}
 use Rattle.std.proofs.lemmas.List.{take_all, take_more}
 use Rattle.std.specs.Io.KnownBytes.{Appends, Keeps}
@@ -24,7 +24,8 @@ use Rattle.batch_run.specs.declared.settings.Settings.{Settings}
 use Rattle.worker_fleet.specs.declared.group.GroupFault.{GroupFault}
 use Rattle.worker_fleet.specs.declared.group.GroupFault.TheVariants as group
 use Rattle.batch_run.specs.Answered.{WroteAnswer, WroteAnswers, begun_text, WroteFirst, WroteWhole, WroteAllOrFirst, fault_of_answer, fault_of_group}
-use Rattle.batch_run.specs.Ran.{IsLater}
+use Rattle.worker_fleet.specs.Stops.{Says}
+use Rattle.batch_run.specs.Ran.{IsLater, IsPlainLater}
 
 -- the first i questions were answered, and the answers written
 pub record Progress {V : Type 0} (A : Algebra V) (g : Roads) (asked : Asked) (i : ℕ) (old new : Option (List ℕ)) (before after : ℕ) : Type 0 where
@@ -104,9 +105,14 @@ module _ {V : Type 0} (A : Algebra V) (g : Roads) (asked : Asked) where
 
     -- then memory was refused, or a write failed and was counted
     pub fault_later : (u : Unanswered) → WroteAnswer A g (get_or asked.questions i q) mid new m a (Err u) →
-        (s : Settings) (is_open : Type 0) → IsLater s is_open (fault_of_answer u) × ((fault_of_answer u).number ≡ 42 → b < a)
-    fault_later variants.Memory h s is_open = ((refl, refl, inl refl), λ e. absurd (omega (arith, e)))
-    fault_later variants.Write h s is_open = ((refl, refl, inr (inr (inr refl))), λ e. omega (arith, h.2.failed, p.left.sound))
+        (s : Settings) (answers : ℕ → ℕ → Bool → Type 0) → IsLater s answers (fault_of_answer u) × ((fault_of_answer u).number ≡ 42 → b < a)
+    fault_later variants.Memory h s answers = ((refl, refl, inl refl), λ e. absurd (omega (arith, e)))
+    fault_later variants.Write h s answers = ((refl, refl, inr (inr (inr refl))), λ e. omega (arith, h.2.failed, p.left.sound))
+
+    -- the same, where the plain solver answers
+    pub plain_later : (u : Unanswered) → WroteAnswer A g (get_or asked.questions i q) mid new m a (Err u) → IsPlainLater (fault_of_answer u) × ((fault_of_answer u).number ≡ 42 → b < a)
+    plain_later variants.Memory h = ((refl, refl, inl refl), λ e. absurd (omega (arith, e)))
+    plain_later variants.Write h = ((refl, refl, inr refl), λ e. omega (arith, h.2.failed, p.left.sound))
 
     -- memory was refused between two answers, and no write failed
     pub whole : (u : Unanswered) → WroteAnswer A g (get_or asked.questions i q) mid new m a (Err u) → (fault_of_answer u).number ≢ 42 → WroteWhole A g asked old new
@@ -116,6 +122,10 @@ module _ {V : Type 0} (A : Algebra V) (g : Roads) (asked : Asked) where
     pub unfailed : (u : Unanswered) → WroteAnswer A g (get_or asked.questions i q) mid new m a (Err u) → (fault_of_answer u).number ≢ 42 → a ≡ b
     unfailed variants.Memory h ne = h.1 ∙ p.left.sound
     unfailed variants.Write h ne = absurd (ne refl)
+
+    pub one_failed : (u : Unanswered) → WroteAnswer A g (get_or asked.questions i q) mid new m a (Err u) → (fault_of_answer u).number ≡ 42 → a ≡ b + 1
+    one_failed variants.Memory h e = absurd (omega (arith, e))
+    one_failed variants.Write h e = omega (arith, h.2.failed, p.left.sound)
 
     pub more_failed : (u : Unanswered) → WroteAnswer A g (get_or asked.questions i q) mid new m a (Err u) → b ≤ a
     more_failed variants.Memory h = omega (arith, h.1, p.left.sound)
@@ -174,9 +184,14 @@ module _ {V : Type 0} (A : Algebra V) (g : Roads) (asked : Asked) where
   flushed_whole F Y Z old mid new keeps write answered (Err f) was (inl e) = λ ne. whole_kept old mid new keeps (subst (λ x. IfErr x (λ h. h.number ≢ 42 → WroteWhole A g asked old mid)) e was ne)
   flushed_whole F Y Z old mid new keeps write answered (Err f) was (inr (x, e, y)) = λ ne. absurd (ne (ap (λ (h : RunFault). h.number) x ∙ write))
 
--- labels were not found: memory or a thread was refused; or, where stations answer, a worker stopped, and at a gate only if it is not always open
-pub group_later : {X : Type 0} (s : Settings) (is_open : Type 0) (layout : Option X) (f : GroupFault) → (s.plain ≡ true → layout ≡ None) → (layout ≡ None → f ≡ group.Memory) → (is_open → f ≢ group.Gated) →
-    IsLater s is_open (fault_of_group f)
-group_later s is_open layout group.Memory p n o = (refl, refl, inl refl)
-group_later s is_open layout group.Stalled p n o = (refl, refl, inr (inl (refl, false_from_ne_true s.plain (λ e. let bad : group.Stalled ≡ group.Memory = n (p e) in cc))))
-group_later s is_open layout group.Gated p n o = (refl, refl, inr (inr (inl (refl, false_from_ne_true s.plain (λ e. let bad : group.Gated ≡ group.Memory = n (p e) in cc), λ always. o always refl))))
+-- labels were not found: memory or a thread was refused; or, if stations answer, a worker stopped
+pub group_later : {X : Type 0} (s : Settings) (answers : ℕ → ℕ → Bool → Type 0) (layout : Option X) (f : GroupFault) → (s.plain ≡ true → layout ≡ None) → (layout ≡ None → f ≡ group.Memory) → Says answers s.workers s.turns f →
+    IsLater s answers (fault_of_group f)
+group_later s answers layout group.Memory p n says = (refl, refl, inl refl)
+group_later s answers layout group.Stalled p n says = (refl, refl, inr (inl (refl, false_from_ne_true s.plain (λ e. let bad : group.Stalled ≡ group.Memory = n (p e) in cc), says)))
+group_later s answers layout group.Gated p n says = (refl, refl, inr (inr (inl (refl, false_from_ne_true s.plain (λ e. let bad : group.Gated ≡ group.Memory = n (p e) in cc), says))))
+
+-- where the plain solver answers there is no other fault
+pub plain_is_later : (s : Settings) (answers : ℕ → ℕ → Bool → Type 0) (X : RunFault → Type 0) (r : Result (Unit {0}) RunFault) → IfErr r (λ f. IsPlainLater f × X f) → IfErr r (λ f. IsLater s answers f × X f)
+plain_is_later s answers X (Ok u) h = tt
+plain_is_later s answers X (Err f) h = ((h.0.0, h.0.1, elim h.0.2 [ inl memory ↦ inl memory | inr write ↦ inr (inr (inr write)) ]), h.1)

@@ -1,13 +1,11 @@
 -- What is solved for one question, for those with the same sources, and for several side by side.
-use Rattle.std.proofs.Common.{arith, ◌≡◌, ℕ, ◌<◌, List, [], ◌∷◌, ◌++◌, length, get_or, map, All, HoldsAt, Vec, Global, subst, sym, ap, ◌∙◌, Bool, true}
+use Rattle.std.proofs.Common.{arith, ◌≡◌, ℕ, ◌<◌, List, [], ◌∷◌, ◌++◌, length, get_or, map, All, HoldsAt, Vec, Global, subst, sym, ap, ◌∙◌}
 use Rattle.std.proofs.lemmas.List.Elements.{All-nil, All-cons, All-head, All-tail}
-use Rattle.std.specs.Bool.{Decides}
 use Rattle.std.specs.List.{AllZip}
 use Rattle.std.specs.Prelude.{Result, Ok, Err, IfOk, MatchResult, Contains}
 use Rattle.road_graph.specs.Roads.{Roads}
-use Rattle.road_files.specs.Asked.{Question, Asked, FromSource}
+use Rattle.road_files.specs.Asked.{Question, Asked, sources_of}
 use Rattle.path_algebra.specs.Algebra.{Algebra}
-use Rattle.batch_run.specs.Sources.{sources_of}
 use Rattle.batch_run.specs.Solved.{IsSolved, IsSolvedAt, IsSolvedFor, IsSolvedFrom}
 use Rattle.batch_run.specs.declared.solving.Solved.{Solved}
 
@@ -70,13 +68,3 @@ pub gathered : {S E : Type 0} (Holds : ℕ → S → Type 0) (places : List ℕ)
     → MatchResult v (λ c. (ss : List S) × (rs ≡ map Ok ss) × (c.items ≡ ss)) (λ e. Contains rs (Err e)) → IfOk v (λ c. AllZip Holds places c.items)
 gathered Holds places rs (Ok c) each (ss, were, is) = rw is (all_ok _ Holds places ss (subst (λ l. AllZip (λ k r. IfOk r (Holds k)) places l) were each))
 gathered Holds places rs (Err e) each h = tt
-
--- whether two lists of one are the same
-pub Decides-one : (b : Bool) (x y : ℕ) → Decides b (x ≡ y) → Decides b (x ∷ [] ≡ y ∷ [])
-Decides-one b x y h = (λ yes. ap (λ (v : ℕ). v ∷ []) (h.0 yes), λ e. h.1 (ap (λ (l : List ℕ). get_or l 0 0) e))
-
--- whether two questions have the same sources
-pub same_sources : (asked : List Question) (i j : ℕ) (b : Bool) (xs ys : List ℕ) → Decides b (xs ≡ ys) → ((d : Question) → sources_of (get_or asked i d) ≡ xs) → ((d : Question) → sources_of (get_or asked j d) ≡ ys)
-    → (b ≡ true → (d : Question) → sources_of (get_or asked i d) ≡ sources_of (get_or asked j d)) × (((d : Question) → sources_of (get_or asked i d) ≡ sources_of (get_or asked j d)) → b ≡ true)
-same_sources asked i j b xs ys h at_i at_j =
-    (λ yes d. at_i d ∙ h.0 yes ∙ sym (at_j d), λ same. h.1 (sym (at_i (FromSource 0)) ∙ same (FromSource 0) ∙ at_j (FromSource 0)))

@@ -15,6 +15,7 @@ use Rattle.worker_fleet.specs.Groups.{HasShard, IsDone, Some_of}
 use Rattle.worker_fleet.specs.Turns.{IsPlaced}
 use Rattle.road_graph.specs.Roads.{Roads}
 use Rattle.shard_part.specs.Plans.{PlanData}
+use Rattle.road_files.proofs.QuestionSources.{any_of}
 use Rattle.batch_run.specs.Ended.{AreEnded, diffusion}
 
 -- one more of each of two lists
@@ -49,11 +50,6 @@ module _ {F L : Type 0} (R : ℕ → F → L → Type 0) (fs gs : List F) (ls ms
       let el : get_or ls q k ≡ get_or ms q k = grind (arith, common_steps) in
       let low : q < length fs = grind (arith, common_steps) in
       rw (ef, el) at (each q e k low)
-
--- an element of a list that has one
-pub any_of : {X : Type 0} (xs : List X) (q : ℕ) → q < length xs → X
-any_of [] q h = absurd (omega (arith, h))
-any_of (x ∷ xs) q h = x
 
 -- as they are opened there is a station for each shard
 opened_shard : {S V : Type 0} (A : Algebra V) (t : Setup S) (f : FloorData S) (m first n k : ℕ) → first ≤ k → k < first + n → HasShard k (map (station_of f.id m) (opened_parts A t first n))

@@ -1,6 +1,5 @@
 pub mod InRange
 pub mod Told
-pub mod Sources
 pub mod Solved
 pub mod Ended
 pub mod Answered
@@ -8,3 +7,6 @@ pub mod Ran
 pub mod FaultTexts
 pub mod Stopping
 pub mod Runs
+pub mod Ways
+pub mod BatchGraphs
+pub mod Reports

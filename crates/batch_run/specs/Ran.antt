@@ -1,5 +1,5 @@
 -- What a batch promises of its inputs and its output.
-use Rattle.std.specs.Prelude.{◌≡◌, ◌≢◌, ℕ, ◌<◌, ◌≤◌, ◌⊎◌, false, List, [], Option, None, Ok, Err, IfSome}
+use Rattle.std.specs.Prelude.{◌≡◌, ◌≢◌, ℕ, ◌<◌, ◌≤◌, ◌⊎◌, Bool, false, List, [], Option, None, Ok, Err, IfSome}
 use Rattle.road_graph.specs.Roads.{Roads}
 use Rattle.road_text.specs.Reads.{IsNumberFrom}
 use Rattle.road_text.specs.Rules.{Rules, text_read}
@@ -8,6 +8,7 @@ use Rattle.road_files.specs.GraphFiles.{gr_rules}
 use Rattle.road_files.specs.QuestionFiles.{question_rules}
 use Rattle.road_files.specs.BundleFiles.{bundle_rules}
 use Rattle.path_algebra.specs.Algebra.{Algebra}
+use Rattle.batch_run.specs.Stopping.{Stalls, Closes}
 use Rattle.batch_run.specs.declared.faults.RunFault.{RunFault}
 use Rattle.batch_run.specs.declared.faults.File.{File}
 use Rattle.batch_run.specs.declared.settings.Settings.{Settings}
@@ -77,10 +78,15 @@ IsFaultOf inputs f =
     (inputs f.file × IsRoadNumber f.number)
     ⊎ ((f.file ≡ NoFile) × (f.line ≡ 0) × ((f.number ≡ 3) ⊎ ((f.number ≡ 40) ⊎ ((f.number ≡ 41) ⊎ ((f.number ≡ 42) ⊎ (f.number ≡ 43))))))
 
--- a fault that comes when the inputs have been read: memory or a thread, a write; and where stations answer, a limit of turns, or a gate that is not always open
-abbrev pub IsLater : Settings → Type 0 → RunFault → Type 0
-IsLater s is_open f = (f.file ≡ NoFile) × (f.line ≡ 0)
-    × ((f.number ≡ 3) ⊎ (((f.number ≡ 40) × (s.plain ≡ false)) ⊎ (((f.number ≡ 41) × (s.plain ≡ false) × (is_open → ⊥)) ⊎ (f.number ≡ 42))))
+-- a fault that comes when the inputs have been read: memory or a thread, a write; and if stations answer, a worker that made all turns of the limit, or one whose gate
+-- answered false before
+abbrev pub IsLater : Settings → (ℕ → ℕ → Bool → Type 0) → RunFault → Type 0
+IsLater s answers f = (f.file ≡ NoFile) × (f.line ≡ 0)
+    × ((f.number ≡ 3) ⊎ (((f.number ≡ 40) × (s.plain ≡ false) × Stalls answers s.workers s.turns) ⊎ (((f.number ≡ 41) × (s.plain ≡ false) × Closes answers s.workers s.turns) ⊎ (f.number ≡ 42))))
+
+-- a fault that comes then, where the plain solver answers: memory or a write
+abbrev pub IsPlainLater : RunFault → Type 0
+IsPlainLater f = (f.file ≡ NoFile) × (f.line ≡ 0) × ((f.number ≡ 3) ⊎ (f.number ≡ 42))
 
 -- nothing is held back: all was passed on, or passing it on failed
 abbrev pub IsPassedOn : List ℕ → ℕ → ℕ → Type 0

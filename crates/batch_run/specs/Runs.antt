@@ -2,12 +2,12 @@
 use Rattle.std.specs.Prelude.{◌≡◌, ◌≢◌, ℕ, ◌+◌, ◌≤◌, ◌<◌, ◌↔◌, ◌⊎◌, Bool, false, List, [], Option, Result, Err, OnOk, IfErr}
 use Rattle.std.specs.Io.KnownBytes.{IsAtEnd, Keeps}
 use Rattle.path_algebra.specs.Algebra.{Algebra}
+use Rattle.batch_run.specs.Stopping.{Stalls, Closes}
 use Rattle.batch_run.specs.declared.faults.File.TheVariants.{Graph, Questions, Bundle, NoFile}
 use Rattle.batch_run.specs.declared.faults.RunFault.{RunFault}
 use Rattle.batch_run.specs.declared.settings.Settings.{Settings}
 use Rattle.batch_run.specs.InRange.{AreInRange}
 use Rattle.batch_run.specs.Ran.{Done, Begun, BegunWhole, IsPassedOn, IsPairOf, IsBundleOf, IsGraphFault, IsQuestionsFault, IsBundleFault, IsFaultOf}
-use Rattle.batch_run.specs.Stopping.{IsAlwaysOpen}
 
 -- an input at a moment: its state, the bytes that it has left, where it tells them, how many reads failed, and how many were asked for
 pub record Input (X : Type 0) : Type 0 where
@@ -55,10 +55,10 @@ pub record RanPair {V G Q W : Type 0} (A : Algebra V) (how : Settings) (answers 
   pub kinds : IfErr outcome (λ f. IsFaultOf (λ file. (file ≡ Graph) ⊎ (file ≡ Questions)) f)
   -- 1 to 3 stand in no line
   pub placed : IfErr outcome (λ f. f.number ≤ 3 → f.line ≡ 0)
-  -- 40 is told only where stations answer
-  pub stalled : IfErr outcome (λ f. f.number ≡ 40 → how.plain ≡ false)
-  -- 41 is told only where stations answer, and the gate is not always open
-  pub gated : IfErr outcome (λ f. f.number ≡ 41 → (how.plain ≡ false) × (IsAlwaysOpen answers → ⊥))
+  -- 40 is reported only if stations answer, and some worker made each turn up to the limit
+  pub stalled : IfErr outcome (λ f. f.number ≡ 40 → (how.plain ≡ false) × Stalls answers how.workers how.turns)
+  -- 41 is reported only if stations answer, and the gate answered some worker false before a turn up to the limit
+  pub gated : IfErr outcome (λ f. f.number ≡ 41 → (how.plain ≡ false) × Closes answers how.workers how.turns)
   -- after a fault of an input nothing was written
   pub nothing : IfErr outcome (λ f. f.file ≢ NoFile → Keeps out.written out_after.written)
   -- the output was not even touched
@@ -102,10 +102,10 @@ pub record RanBundle {V B W : Type 0} (A : Algebra V) (how : Settings) (answers 
   pub kinds : IfErr outcome (λ f. IsFaultOf (λ file. file ≡ Bundle) f)
   -- 1 to 3 stand in no line
   pub placed : IfErr outcome (λ f. f.number ≤ 3 → f.line ≡ 0)
-  -- 40 is told only where stations answer
-  pub stalled : IfErr outcome (λ f. f.number ≡ 40 → how.plain ≡ false)
-  -- 41 is told only where stations answer, and the gate is not always open
-  pub gated : IfErr outcome (λ f. f.number ≡ 41 → (how.plain ≡ false) × (IsAlwaysOpen answers → ⊥))
+  -- 40 is reported only if stations answer, and some worker made each turn up to the limit
+  pub stalled : IfErr outcome (λ f. f.number ≡ 40 → (how.plain ≡ false) × Stalls answers how.workers how.turns)
+  -- 41 is reported only if stations answer, and the gate answered some worker false before a turn up to the limit
+  pub gated : IfErr outcome (λ f. f.number ≡ 41 → (how.plain ≡ false) × Closes answers how.workers how.turns)
   -- after a fault of the bundle nothing was written
   pub nothing : IfErr outcome (λ f. f.file ≢ NoFile → Keeps out.written out_after.written)
   -- the output was not even touched

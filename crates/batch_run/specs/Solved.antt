@@ -1,13 +1,12 @@
 -- Questions that are solved: best labels from their sources, and the tree of these unless the questions are pairs.
 use Rattle.std.specs.Prelude.{◌≡◌, ◌≢◌, ℕ, ◌<◌, List, length, get_or, IfSome, IsSome}
 use Rattle.road_graph.specs.Roads.{Roads}
-use Rattle.road_files.specs.Asked.{Asked, Question}
+use Rattle.road_files.specs.Asked.{Asked, Question, sources_of}
 use Rattle.road_files.specs.declared.questions.Kind.{Kind}
 use Rattle.road_files.specs.declared.questions.Kind.TheVariants.{Pairs}
 use Rattle.path_algebra.specs.Algebra.{Algebra}
 use Rattle.path_algebra.specs.Walks.{AreBest}
 use Rattle.route_tree.specs.Tree.{IsTree}
-use Rattle.batch_run.specs.Sources.{sources_of}
 use Rattle.batch_run.specs.declared.solving.Solved.{Solved}
 
 -- the labels are best from these sources, and a tree is theirs; there is one, unless the questions are pairs

@@ -1,6 +1,2 @@
--- What stops a batch where stations answer. A gate may give a worker, before a turn of it, this answer.
-use Rattle.std.specs.Prelude.{ℕ, Bool, false}
-
--- the gate answers no worker false
-abbrev pub IsAlwaysOpen : (ℕ → ℕ → Bool → Type 0) → Type 0
-IsAlwaysOpen answers = (worker turn : ℕ) → answers worker turn false → ⊥
+-- What stops a batch if stations answer, where `answers` says what a gate may answer to a worker before a turn of it.
+pub use Rattle.worker_fleet.specs.Stops.{Stalls, Closes}

@@ -12,30 +12,20 @@ ghost use Rattle.batch_run.specs.Solved.{IsSolvedFor};
 use crate::faults::Unanswered;
 use crate::solving::Solved;
 use crate::telling::{write_source, write_sources};
+use crate::ways::Ways;
 use answer_text::{Answer, Found, write_answer};
 use path_algebra::{Labels, PathAlgebra};
 use road_files::Questions;
-use road_graph::{Graph, Memory, Vertex};
+use road_graph::{Memory, Vertex};
 use road_text::RoadWrite;
-use route_tree::{Tree, route_between, routes_follow_parents};
-use std::alloc::{AllocError, Global};
-
-/// The numbers of vertices.
-fn numbers_of(alloc: Global, vertices: &[Vertex]) -> Result<Vec<u32>, AllocError>
-    ensures { IfOk result (λ numbers. numbers.items ≡ vertices.now) }
-{
-    let mut numbers = Vec::new(alloc);
-    for vertex in vertices {
-        numbers.push(vertex.0)?;
-    }
-    Ok(numbers)
-}
+use route_tree::{Tree, routes_follow_parents};
+use std::alloc::Global;
 
 /// The best value, the hops and the route of a target, where its label stands.
-fn found_at<A: PathAlgebra>(
+fn found_at<'g, A: PathAlgebra>(
     alloc: Global,
     algebra: A,
-    graph: &Graph,
+    graph: &Ways<'g>,
     source: Vertex,
     target: Vertex,
     labels: &Labels<A::Value>,
@@ -50,21 +40,21 @@ fn found_at<A: PathAlgebra>(
     let Some(value) = labels.of(target) else {
         return Ok(None);
     };
-    let Some(route) = route_between(alloc, algebra, graph, source, target, labels)? else {
+    let Some(route) = graph.route(alloc, algebra, source, target, labels)? else {
         return Ok(None);
     };
     Ok(Some(Found {
         code: algebra.code(value),
         hops: route.hops,
-        route: numbers_of(alloc, route.vertices.as_slice())?,
+        route: route.vertices,
     }))
 }
 
 /// Writes the right answer to a question from one vertex to another.
-fn answer_pair<A: PathAlgebra, W: RoadWrite>(
+fn answer_pair<'g, A: PathAlgebra, W: RoadWrite>(
     alloc: Global,
     algebra: A,
-    graph: &Graph,
+    graph: &Ways<'g>,
     pair: (Vertex, Vertex),
     labels: &Labels<A::Value>,
     out: &mut W,
@@ -79,8 +69,8 @@ fn answer_pair<A: PathAlgebra, W: RoadWrite>(
         return Err(Unanswered::Memory);
     };
     let answer = Answer::Pair {
-        source: source.0,
-        target: target.0,
+        source,
+        target,
         found,
     };
     match write_answer(out, &answer) {
@@ -90,9 +80,9 @@ fn answer_pair<A: PathAlgebra, W: RoadWrite>(
 }
 
 /// Writes the right answer to a question from one source to all vertices, by the tree of its best labels.
-fn answer_source<A: PathAlgebra, W: RoadWrite>(
+fn answer_source<'g, A: PathAlgebra, W: RoadWrite>(
     algebra: A,
-    graph: &Graph,
+    graph: &Ways<'g>,
     source: Vertex,
     labels: &Labels<A::Value>,
     tree: &Tree,
@@ -110,10 +100,9 @@ fn answer_source<A: PathAlgebra, W: RoadWrite>(
 }
 
 /// Writes the right answer to a question from several sources to all vertices, by the tree of its best labels.
-fn answer_sources<A: PathAlgebra, W: RoadWrite>(
-    alloc: Global,
+fn answer_sources<'g, A: PathAlgebra, W: RoadWrite>(
     algebra: A,
-    graph: &Graph,
+    graph: &Ways<'g>,
     sources: &[Vertex],
     labels: &Labels<A::Value>,
     tree: &Tree,
@@ -123,22 +112,18 @@ fn answer_sources<A: PathAlgebra, W: RoadWrite>(
     requires tree { IsTree (A.meaning algebra) graph.now sources.now tree.now }
     ensures { WroteAnswer (A.meaning algebra) graph.now (FromSources sources.now) (W.written out.old) (W.written out.new) (W.failures out.old) (W.failures out.new) result }
 {
-    let Ok(numbers) = numbers_of(alloc, sources) else {
-        return Err(Unanswered::Memory);
-    };
     let n = graph.vertices();
-    let numbers = numbers.as_slice();
-    match write_sources(out, algebra, n, numbers, labels, tree) {
+    match write_sources(out, algebra, n, sources, labels, tree) {
         Ok(()) => Ok(()),
         Err(_) => Err(Unanswered::Write),
     }
 }
 
 /// Writes the right answer to the question at a place, given its best labels, and their tree unless it is a pair.
-pub(crate) fn answer_at<A: PathAlgebra, W: RoadWrite>(
+pub(crate) fn answer_at<'g, A: PathAlgebra, W: RoadWrite>(
     alloc: Global,
     algebra: A,
-    graph: &Graph,
+    graph: &Ways<'g>,
     questions: &Questions,
     i: usize,
     solved: &Solved<A::Value>,
@@ -158,15 +143,7 @@ pub(crate) fn answer_at<A: PathAlgebra, W: RoadWrite>(
         Questions::Pairs(pairs) => answer_pair(alloc, algebra, graph, pairs[i], labels, out),
         Questions::Multi(lists) => {
             let tree = solved.kept_tree();
-            answer_sources(
-                alloc,
-                algebra,
-                graph,
-                lists[i].as_slice(),
-                labels,
-                tree,
-                out,
-            )
+            answer_sources(algebra, graph, lists[i].as_slice(), labels, tree, out)
         }
     }
 }

@@ -1,20 +1,24 @@
 //! Labels by diffusions that are run on threads, several together.
-ghost use Rattle.std.specs.Prelude.{◌≡◌, ◌≢◌, ℕ, ◌+◌, ◌≤◌, ◌<◌, [], ◌∷◌, ◌++◌, length, get_or, true, IfOk, IfSome, None, Err, vec_len};
-ghost use Rattle.std.specs.List.{All};
+ghost use Rattle.std.specs.Prelude.{◌≡◌, ℕ, ◌+◌, ◌≤◌, ◌<◌, [], ◌∷◌, ◌++◌, length, get_or, map, true, IfOk, IfErr, OnOk, OnErr, IfSome, None, is_none, vec_len};
+ghost use Rattle.std.specs.List.{All, flat_map};
 ghost use Rattle.road_graph.specs.Roads.{HasVertex};
-ghost use Rattle.road_files.specs.Asked.{AreQuestionsOf, AskWithin, IsPairOf, IsVertexOf};
+ghost use Rattle.road_files.specs.Asked.{AreQuestionsOf, asked_of, sources_of};
 ghost use Rattle.path_algebra.specs.Walks.{AreBest};
+ghost use Rattle.station.specs.Gather.{IsGathered};
 ghost use Rattle.station.specs.Opened.{AreOpened};
+ghost use Rattle.worker_fleet.specs.Stops.{Says};
 ghost use Rattle.batch_run.specs.Ended.{AreEnded, IsEnded, IsLayout, diffusion};
 ghost use Rattle.batch_run.specs.InRange.{AreInRange};
+ghost use Rattle.batch_run.specs.Reports.{Account, Reported};
 
 use crate::settings::Settings;
+use crate::watcher::{Report, Watcher};
 use path_algebra::{Labels, PathAlgebra};
 use post_floor::Floor;
 use road_files::Questions;
 use road_graph::{Graph, Memory, Vertex};
 use shard_part::Plan;
-use station::{Finished, Station, Why, gather, open_question};
+use station::{Finished, GatherFault, Gathered, Station, gather, open_question};
 use std::alloc::{AllocError, Global};
 use std::sync::Wait;
 use std::thread::Threads;
@@ -53,45 +57,19 @@ pub(crate) struct Ahead<'g, A: PathAlgebra> {
     pub(crate) ended: Vec<Ended<'g, A>>,
 }
 
-/// The first vertex of each pair.
-fn starts_of(alloc: Global, pairs: &[(Vertex, Vertex)]) -> Result<Vec<Vertex>, AllocError>
-    ensures { IfOk result (λ v. (n : ℕ) → All (IsPairOf n) pairs.now → All (IsVertexOf n) v.items) }
-{
-    let mut starts = Vec::new(alloc);
-    for (source, _) in pairs {
-        starts.push(*source)?;
-    }
-    Ok(starts)
-}
-
-/// The vertices of all lists, one after the other.
-fn all_of(alloc: Global, lists: &[Vec<Vertex>]) -> Result<Vec<Vertex>, AllocError>
-    ensures { IfOk result (λ v. (n : ℕ) → All (λ list. All (IsVertexOf n) list.items) lists.now → All (IsVertexOf n) v.items) }
-{
-    let mut vertices = Vec::new(alloc);
-    for list in lists {
-        vertices.extend_from_slice(list.as_slice())?;
-    }
-    Ok(vertices)
-}
-
 /// The sources of all questions, in order.
 fn all_sources(alloc: Global, questions: &Questions) -> Result<Vec<Vertex>, AllocError>
-    ensures { IfOk result (λ v. (n : ℕ) → AskWithin n questions.now → All (IsVertexOf n) v.items) }
+    ensures { IfOk result (λ v. v.items ≡ flat_map sources_of (asked_of questions.now).questions) }
 {
-    match questions {
-        Questions::Sources(sources) => {
-            let mut all = Vec::new(alloc);
-            all.extend_from_slice(sources.as_slice())?;
-            Ok(all)
-        }
-        Questions::Pairs(pairs) => starts_of(alloc, pairs.as_slice()),
-        Questions::Multi(lists) => all_of(alloc, lists.as_slice()),
+    let mut sources = Vec::new(alloc);
+    for i in 0..questions.len() {
+        sources.extend_from_slice(questions.sources(i))?;
     }
+    Ok(sources)
 }
 
 /// The graph, indexed where workers are to answer. Where memory is refused for that, they look for arcs instead.
-pub(crate) fn indexed(alloc: Global, mut graph: Graph, settings: &Settings) -> Graph
+pub fn indexed(alloc: Global, mut graph: Graph, settings: &Settings) -> Graph
     ensures { result ≡ graph }
 {
     if !settings.plain {
@@ -110,7 +88,9 @@ pub(crate) fn prepare(
     requires within { AreQuestionsOf graph.now.vertices questions.now }
     requires settings { AreInRange settings.now }
     ensures layout { IfOk result (λ g. IfSome g (λ g. IsLayout graph.now g.plan g.sources.items)) }
+    ensures sources { IfOk result (λ g. IfSome g (λ g. g.sources.items ≡ flat_map sources_of (asked_of questions.now).questions)) }
     ensures plain { settings.now.plain ≡ true → IfOk result (λ g. g ≡ None) }
+    ensures kind { IfOk result (λ g. is_none g ≡ settings.now.plain) }
 {
     if settings.plain {
         return Ok(None);
@@ -118,6 +98,17 @@ pub(crate) fn prepare(
     let plan = Plan::blocks(alloc, graph.vertices(), settings.shards as u8)?;
     let sources = all_sources(alloc, questions)?;
     Ok(Some(Layout { plan, sources }))
+}
+
+/// How many diffusions a batch has: none where the plain solver answers.
+pub(crate) fn diffusions_of(layout: Option<&Layout>) -> u64
+    ensures none { layout.entry ≡ None → result ≡ 0 }
+    ensures some { IfSome layout.entry (λ g. result ≡ length g.now.sources.items) }
+{
+    match layout {
+        Some(layout) => layout.sources.len() as u64,
+        None => 0,
+    }
 }
 
 /// Stations that have ended, ready to be gathered.
@@ -138,13 +129,13 @@ fn finish_all<'g, A: PathAlgebra>(
     Ok(finished)
 }
 
-/// The labels of a diffusion that was run to its end.
-fn gather_labels<'g, A: PathAlgebra>(
+/// The labels and the counts of a diffusion that was run to its end.
+fn gather_ended<'g, A: PathAlgebra>(
     alloc: Global,
     ended: Ended<'g, A>,
-) -> Result<Labels<A::Value>, AllocError>
+) -> Result<Gathered<A::Value>, AllocError>
     requires { AreEnded ended.floor.setup ended.floor ended.stations.items }
-    ensures { IfOk result (λ labels. AreBest (A.meaning ended.entry.floor.setup.question.algebra) ended.entry.floor.setup.question.roads (ended.entry.floor.setup.question.source ∷ []) labels) }
+    ensures { IfOk result (IsGathered A.meaning ended.entry.floor.setup) }
 {
     let Ended {
         source: _,
@@ -153,10 +144,10 @@ fn gather_labels<'g, A: PathAlgebra>(
     } = ended;
     let finished = finish_all(alloc, stations)?;
     match gather(alloc, floor, finished) {
-        Ok(gathered) => Ok(gathered.labels),
-        Err(ungathered) => match ungathered.why {
-            Why::Memory => Err(AllocError),
-            Why::Missing(_) => unreachable!(),
+        Ok(gathered) => Ok(gathered),
+        Err(ungathered) => match ungathered.fault {
+            GatherFault::Memory => Err(AllocError),
+            GatherFault::Missing(_) => unreachable!(),
         },
     }
 }
@@ -233,7 +224,7 @@ fn run_together<'g, A: PathAlgebra, R: Threads + Wait, T: Gate>(
     ensures source { IfOk result (λ r. r.0.source ≡ source) }
     ensures first { IfOk result (λ r. IsEnded batch.now.algebra batch.now.graph.now plan.now r.0) }
     ensures rest { IfOk result (λ r. All (IsEnded batch.now.algebra batch.now.graph.now plan.now) r.1.items) }
-    ensures open { T.is_always_open batch.now.gate.now → result ≢ Err GroupFault.Gated }
+    ensures says { IfErr result (Says (T.may_answer batch.now.gate.now) batch.now.settings.now.workers batch.now.settings.now.turns) }
 {
     let alloc = batch.alloc;
     let sources = beginning_with(alloc, source, rest)?;
@@ -276,7 +267,7 @@ fn ended_from<'g, A: PathAlgebra, R: Threads + Wait, T: Gate>(
     ensures source { IfOk result (λ e. e.source ≡ source) }
     ensures ended { IfOk result (IsEnded batch.now.algebra batch.now.graph.now plan.now) }
     ensures ready { All (IsEnded batch.now.algebra batch.now.graph.now plan.now) ready.new.items }
-    ensures open { T.is_always_open batch.now.gate.now → result ≢ Err GroupFault.Gated }
+    ensures says { IfErr result (Says (T.may_answer batch.now.gate.now) batch.now.settings.now.workers batch.now.settings.now.turns) }
 {
     if let Some(ended) = ready.pop() {
         if ended.source == source {
@@ -288,12 +279,14 @@ fn ended_from<'g, A: PathAlgebra, R: Threads + Wait, T: Gate>(
     Ok(first)
 }
 
-/// The labels of the next diffusion of a batch, which is one from this source.
-pub(crate) fn next_labels<'g, A: PathAlgebra, R: Threads + Wait, T: Gate>(
+/// The labels of the next diffusion of a batch, which is one from this source for a question. It is reported with its counts.
+pub(crate) fn next_labels<'g, A: PathAlgebra, R: Threads + Wait, T: Gate, O: Watcher>(
     batch: &Batch<'g, A, R, T>,
     layout: &'g Layout,
     ahead: &mut Ahead<'g, A>,
+    question: u32,
     source: Vertex,
+    watcher: &mut O,
 ) -> Result<Labels<A::Value>, GroupFault>
     requires settings { AreInRange batch.now.settings.now }
     requires source { HasVertex batch.now.graph.now source }
@@ -301,7 +294,9 @@ pub(crate) fn next_labels<'g, A: PathAlgebra, R: Threads + Wait, T: Gate>(
     requires ready { All (IsEnded batch.now.algebra batch.now.graph.now layout.now.plan) ahead.old.ended.items }
     ensures labels { IfOk result (λ labels. AreBest (A.meaning batch.now.algebra) batch.now.graph.now (source ∷ []) labels) }
     ensures ready { All (IsEnded batch.now.algebra batch.now.graph.now layout.now.plan) ahead.new.ended.items }
-    ensures open { T.is_always_open batch.now.gate.now → result ≢ Err GroupFault.Gated }
+    ensures says { IfErr result (Says (T.may_answer batch.now.gate.now) batch.now.settings.now.workers batch.now.settings.now.turns) }
+    ensures reported { OnOk result (Reported (A.meaning batch.now.algebra) batch.now.graph.now O.may_become (Account question source ∷ []) watcher.old watcher.new) }
+    ensures unreported { OnErr result (watcher.new ≡ watcher.old) }
 {
     let sources = layout.sources.as_slice();
     let width = batch.settings.width as usize;
@@ -315,5 +310,13 @@ pub(crate) fn next_labels<'g, A: PathAlgebra, R: Threads + Wait, T: Gate>(
         source,
         &sources[from..to],
     )?;
-    Ok(gather_labels(batch.alloc, ended)?)
+    let gathered = gather_ended(batch.alloc, ended)?;
+    let Gathered { labels, tally } = gathered;
+    let report = Report::Gathered {
+        question,
+        source,
+        tally,
+    };
+    watcher.report(report);
+    Ok(labels)
 }

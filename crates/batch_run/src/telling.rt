@@ -6,10 +6,10 @@ ghost use Rattle.answer_text.specs.AnswerText.{answer_text, vertex_lines};
 ghost use Rattle.answer_text.specs.Told.{ToldSource, ToldMulti};
 ghost use Rattle.batch_run.specs.Told.{told_line, told_lines};
 
-use answer_text::{Reached, write_source_line, write_sources_line, write_vertex};
+use answer_text::{Reached, VertexLine, write_source_line, write_sources_line, write_vertex_line};
 use path_algebra::{Labels, PathAlgebra};
 use road_graph::Vertex;
-use road_text::{Line, RoadWrite, WriteFault};
+use road_text::{RoadWrite, WriteFault};
 use route_tree::Tree;
 
 /// What is told of a vertex.
@@ -46,13 +46,13 @@ fn write_lines<A: PathAlgebra, W: RoadWrite>(
     requires hops { length tree.now.hops ≡ n }
     ensures { WritesText W.written W.failures to.old to.new (text_of (vertex_lines 1 (told_lines (A.meaning algebra) labels.now tree.now n))) result }
 {
-    let mut text = Line::new();
+    let mut text = VertexLine::new();
     for v in 0..n {
         let vertex = Vertex(v + 1);
         let hops = tree.hops(vertex);
         let parent = tree.parent(vertex);
         let line = line_of(algebra, labels.of(vertex), hops, parent);
-        write_vertex(to, &mut text, u64::from(v) + 1, line)?;
+        write_vertex_line(to, &mut text, u64::from(v) + 1, line)?;
     }
     Ok(())
 }
@@ -70,7 +70,7 @@ pub(crate) fn write_source<A: PathAlgebra, W: RoadWrite>(
     requires hops { length tree.now.hops ≡ n }
     ensures { WritesText W.written W.failures to.old to.new (answer_text (ToldSource source (told_lines (A.meaning algebra) labels.now tree.now n))) result }
 {
-    write_source_line(to, source.0)?;
+    write_source_line(to, source)?;
     write_lines(to, algebra, n, labels, tree)
 }
 
@@ -79,7 +79,7 @@ pub(crate) fn write_sources<A: PathAlgebra, W: RoadWrite>(
     to: &mut W,
     algebra: A,
     n: u32,
-    sources: &[u32],
+    sources: &[Vertex],
     labels: &Labels<A::Value>,
     tree: &Tree,
 ) -> Result<(), WriteFault>

@@ -1,6 +1,7 @@
 use Rattle.std.proofs.Common.{arith}
 use Rattle.road_files.specs.Asked.{FromSource}
-use Rattle.batch_run.proofs.Laid.{in_sources, in_pairs, in_lists, source_at, pair_at, list_at, sources_no_pairs, lists_no_pairs}
+use Rattle.road_files.proofs.QuestionSources.{in_sources, in_pairs, in_lists, source_at, pair_at, list_at}
+use Rattle.batch_run.proofs.Laid.{sources_no_pairs, lists_no_pairs}
 use Rattle.batch_run.proofs.answering.answer_at.Goals as goal
 
 pub kept_tree-tree-requires : goal.kept_tree-tree-requires

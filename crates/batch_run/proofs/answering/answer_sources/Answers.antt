@@ -1,23 +1,23 @@
-use Rattle.std.proofs.Common.{◌∙◌}
+use Rattle.std.proofs.Common.{refl}
 use Rattle.answer_text.specs.Told.{ToldMulti}
 use Rattle.batch_run.specs.Told.{told_lines}
 use Rattle.batch_run.proofs.ToldLines.{lines_are_right}
 use Rattle.batch_run.proofs.answering.answer_sources.Goals as goal
 
-pub returns-in-Ok-write_sources : goal.returns-in-Ok-write_sources
-returns-in-Ok-write_sources g c =
+pub returns-in-Ok : goal.returns-in-Ok
+returns-in-Ok g c =
     let A = g.A.PathAlgebra.meaning c.args.algebra in
     let tree = c.args.tree.now in
     let labels = c.args.labels.now in
     let n = c.vertices-n.result in
     let right = lines_are_right A c.args.graph.now c.args.sources.now labels tree n c.vertices-n.ensures.count c.requires.labels c.requires.tree in
-    (ToldMulti c.as_slice-numbers.result.now (told_lines A labels tree n), (c.as_slice-numbers.ensures.value ∙ c.in-Ok.ensures, right), c.in-Ok-write_sources.ensures)
+    (ToldMulti c.args.sources.now (told_lines A labels tree n), (refl, right), c.in-Ok.ensures)
 
-pub returns : goal.returns
-returns g c =
+pub returns-in-Err : goal.returns-in-Err
+returns-in-Err g c =
     let A = g.A.PathAlgebra.meaning c.args.algebra in
     let tree = c.args.tree.now in
     let labels = c.args.labels.now in
     let n = c.vertices-n.result in
     let right = lines_are_right A c.args.graph.now c.args.sources.now labels tree n c.vertices-n.ensures.count c.requires.labels c.requires.tree in
-    (ToldMulti c.as_slice-numbers.result.now (told_lines A labels tree n), (c.as_slice-numbers.ensures.value ∙ c.in-Ok.ensures, right), c.in-Err.ensures)
+    (ToldMulti c.args.sources.now (told_lines A labels tree n), (refl, right), c.in-Err.ensures)

@@ -1,4 +1,4 @@
-use Rattle.std.proofs.Common.{rules, ◌≡◌, ◌+◌, [], ◌∷◌, length, ◌∙◌}
+use Rattle.std.proofs.Common.{rules, ◌≡◌, ◌+◌, [], ◌∷◌, length}
 use Rattle.path_algebra.specs.Walks.{AreHops}
 use Rattle.route_tree.specs.Told.{IsParentRoute}
 use Rattle.batch_run.proofs.LinesAreRight.{unreached_by_label, best_by_label}
@@ -18,5 +18,5 @@ returns g c =
     record {
       code = (c.in-Some.value, best_by_label _ _ _ c.args.target c.of.result _ c.in-Some.value (c.requires.labels.best c.args.target c.requires.target) c.of.ensures (search rules), c.code.ensures);
       hops = between.0;
-      route = (route.0, (c.in_ok-numbers_of.ensures ∙ c.as_slice.ensures.value ∙ route.1), route.2);
+      route = route;
     }

@@ -1,11 +1,8 @@
-use Rattle.std.proofs.Common.{subst}
-use Rattle.std.proofs.lemmas.Result.{IfOk-weaker}
-use Rattle.road_files.specs.Asked.{AskWithin}
+use Rattle.std.proofs.Common.{◌++◌, ap, ◌∙◌, rules}
+use Rattle.road_files.specs.Asked.{asked_of, sources_of, FromSource}
+use Rattle.batch_run.proofs.Planned.{flat_more}
 use Rattle.batch_run.proofs.engine.all_sources.Goals as goal
 
-pub returns-in-Pairs : goal.returns-in-Pairs
-returns-in-Pairs c = IfOk-weaker c.starts_of.result _ _ (λ v h n within. h n (rw c.as_slice-in-Pairs.ensures.value (subst (AskWithin n) c.in-Pairs.is within))) c.starts_of.ensures
-
-pub returns-in-Multi : goal.returns-in-Multi
-returns-in-Multi c = IfOk-weaker c.all_of.result _ _ (λ v h n within.
-    let w = subst (AskWithin n) c.in-Multi.is within in h n (rw c.as_slice-in-Multi.ensures.value (λ k d low. (w k d low).vertices))) c.all_of.ensures
+pub loop-i-preserved : goal.loop-i-preserved
+loop-i-preserved c = flat_more sources_of (asked_of c.args.questions.now).questions c.loop-i.i (FromSource 0) (search rules)
+    c.loop-i.sources.items _ c.loop-i.invariant (c.in_ok-extend_from_slice.ensures.items ∙ ap (λ xs. c.loop-i.sources.items ++ xs) (c.sources.ensures (FromSource 0)))

@@ -1,5 +1,7 @@
-use Rattle.std.proofs.Common.{rules, arith, ◌≡◌, ◌∙◌, ◌+◌, ◌-◌, ◌∷◌, suc, ap, subst, get_or, length, refl}
+use Rattle.std.proofs.Common.{inl, inr, rules, arith, ◌≡◌, ◌∙◌, ◌+◌, ◌-◌, ◌∷◌, suc, ap, subst, get_or, length, refl}
 use Rattle.std.proofs.lemmas.List.Elements.{All-nil, All-push}
+use Rattle.std.proofs.lemmas.Result.{err_from_is_err_and}
+use Rattle.worker_fleet.proofs.Stopped.{IsStop-says}
 use Rattle.batch_run.specs.declared.engine.Ended.{Ended}
 use Rattle.batch_run.specs.Ended.{AreEnded, IsEnded, diffusion}
 use Rattle.batch_run.proofs.Together.{opened_placed, run_ended, longer, others_ended, last_ended, source_behind}
@@ -71,3 +73,11 @@ returns-clause-first g c =
     let place : length c.take_last.new.floors.items ≡ 0 = omega (arith, nf, was.floors, over, end) in
     last_ended c.args.batch.now.algebra c.args.batch.now.graph.now c.args.plan.now (c.args.source ∷ c.args.rest.now) _ _ _ _ _ _ last.floors last.lists.1 same was.each c.take_last.result.stations.items c.take_last.result.source last.lists.2
     (rw (place, last.source) refl)
+
+pub returns-in_err-lists-clause-says : goal.returns-in_err-lists-clause-says
+returns-in_err-lists-clause-says g c =
+    let p = err_from_is_err_and c.from_residual-in_err-lists.result c.from_residual-in_err-lists.ensures.1 in
+    rw (p.1, p.2) (elim c.in_err-lists.ensures.fault [
+      | inl memory ↦ rw memory tt
+      | inr stop ↦ IsStop-says _ _ _ _ _ _ _ _ stop
+    ])

@@ -1,21 +1,16 @@
-use Rattle.std.proofs.Common.{◌∙◌, refl, sym, subst, List, ℕ}
+use Rattle.std.proofs.Common.{refl, sym, subst, List, ℕ}
 use Rattle.std.specs.Prelude.{IfSome}
 use Rattle.std.specs.List.{All}
 use Rattle.road_graph.specs.Roads.{HasVertex}
 use Rattle.road_files.specs.Asked.{FromSource}
 use Rattle.path_algebra.specs.Walks.{AreBest}
 use Rattle.route_tree.specs.Tree.{IsTree}
-use Rattle.batch_run.proofs.Laid.{asked_within}
+use Rattle.road_files.proofs.QuestionSources.{asked_within}
 use Rattle.batch_run.proofs.solving.solve.Goals as goal
 
-pub solve_from-requires-after_bounds : goal.solve_from-requires-after_bounds
-solve_from-requires-after_bounds g c κs within =
-    subst (λ (vs : List ℕ). All (HasVertex c.args.graph.now) vs) (sym (c.as_slice-sources.ensures.value ∙ c.in_ok-list.ensures (FromSource 0)))
-    (asked_within c.args.graph.now.vertices c.args.questions.now c.args.i c.requires.within.within c.requires.place (FromSource 0)).1
-
-pub tree_unless_pair-requires-clause-sources : goal.tree_unless_pair-requires-clause-sources
-tree_unless_pair-requires-clause-sources g c κs within =
-    subst (λ (vs : List ℕ). All (HasVertex c.args.graph.now) vs) (sym (c.as_slice-sources.ensures.value ∙ c.in_ok-list.ensures (FromSource 0)))
+pub search-requires-clause-sources : goal.search-requires-clause-sources
+search-requires-clause-sources g c κs within =
+    subst (λ (vs : List ℕ). All (HasVertex c.args.graph.now) vs) (sym (c.sources-sources.ensures (FromSource 0)))
     (asked_within c.args.graph.now.vertices c.args.questions.now c.args.i c.requires.within.within c.requires.place (FromSource 0)).1
 
 pub returns : goal.returns
@@ -24,10 +19,10 @@ returns g c =
     record {
       place = refl;
       solved = λ d.
-          let from = c.as_slice-sources.ensures.value ∙ c.in_ok-list.ensures d in
+          let from = c.sources-sources.ensures d in
           record {
-            labels = subst (λ (vs : List ℕ). AreBest A c.args.graph.now vs c.in_ok-labels.labels) from c.in_ok-labels.ensures;
-            tree = subst (λ (vs : List ℕ). IfSome c.in_ok-tree.tree (IsTree A c.args.graph.now vs)) from c.in_ok-tree.ensures.tree;
-            kept = c.in_ok-tree.ensures.kept;
+            labels = subst (λ (vs : List ℕ). AreBest A c.args.graph.now vs c.in_ok-labels.labels) from c.in_ok-labels.ensures.labels;
+            tree = subst (λ (vs : List ℕ). IfSome c.in_ok-labels.tree (IsTree A c.args.graph.now vs)) from c.in_ok-labels.ensures.tree;
+            kept = c.in_ok-labels.ensures.kept;
           };
     }

@@ -1,0 +1,104 @@
+//! What a batch is answered over: a graph for workers, or one for the plain solver.
+ghost use Rattle.std.specs.Prelude.{◌≡◌, ◌≢◌, ◌≤◌, ◌<◌, Bool, true, false, OnOk, IfErr, OnErr};
+ghost use Rattle.road_files.specs.Asked.{AreQuestionsOf, asked_of};
+ghost use Rattle.batch_run.specs.Answered.{WroteAllOrFirst, WroteWhole};
+ghost use Rattle.batch_run.specs.BatchGraphs.{is_outgoing, roads_in};
+ghost use Rattle.batch_run.specs.InRange.{AreInRange};
+ghost use Rattle.batch_run.specs.Ran.{IsLater};
+ghost use Rattle.batch_run.specs.Reports.{Reported, ReportedPrefix, batch_due};
+
+use crate::batch::answer_all_watched;
+use crate::engine::indexed;
+use crate::faults::RunFault;
+use crate::plainly::answer_plainly;
+use crate::settings::Settings;
+use crate::watcher::Watcher;
+use path_algebra::PathAlgebra;
+use road_files::{FromArcs, Questions};
+use road_graph::{Graph, OutGraph};
+use road_text::RoadWrite;
+use std::alloc::Global;
+use std::sync::Wait;
+use std::thread::Threads;
+use worker_fleet::Gate;
+
+/// A graph over which a batch is answered.
+#[derive(Drop)]
+pub(crate) enum BatchGraph {
+    /// Over this one workers answer.
+    Whole(Graph),
+    /// Over this one the plain solver does.
+    Outgoing(OutGraph),
+}
+
+/// A kind of graph over which a batch is answered.
+pub(crate) trait Answerable: FromArcs {
+    // Whether the plain solver answers over it.
+    ghost is_plain: { Bool };
+
+    /// The graph, of whichever kind it is.
+    fn into_batch(self) -> BatchGraph
+        ensures roads { roads_in result ≡ Self.roads self }
+        ensures kind { is_outgoing result ≡ is_plain };
+}
+
+impl Answerable for Graph {
+    ghost is_plain = { false };
+
+    fn into_batch(self) -> BatchGraph {
+        BatchGraph::Whole(self)
+    }
+}
+
+impl Answerable for OutGraph {
+    ghost is_plain = { true };
+
+    fn into_batch(self) -> BatchGraph {
+        BatchGraph::Outgoing(self)
+    }
+}
+
+/// Answers all questions in order, and stops at the first fault. The graph is indexed where workers are to answer.
+pub(crate) fn answer_over<
+    A: PathAlgebra,
+    W: RoadWrite,
+    R: Threads + Wait + Sync,
+    T: Gate,
+    O: Watcher,
+>(
+    rt: &R,
+    alloc: Global,
+    algebra: A,
+    graph: BatchGraph,
+    questions: &Questions,
+    out: &mut W,
+    settings: &Settings,
+    gate: &T,
+    watcher: &mut O,
+) -> Result<(), RunFault>
+    requires within { AreQuestionsOf (roads_in graph).vertices questions.now }
+    requires settings { AreInRange settings.now }
+    requires kind { settings.now.plain ≡ is_outgoing graph }
+    ensures text { WroteAllOrFirst (A.meaning algebra) (roads_in graph) (asked_of questions.now) (W.written out.old) (W.written out.new) result }
+    ensures sound { OnOk result (W.failures out.new ≡ W.failures out.old) }
+    ensures later { IfErr result (λ f. IsLater settings.now (T.may_answer gate.now) f × (f.number ≡ 42 → W.failures out.old < W.failures out.new)) }
+    ensures whole { IfErr result (λ f. f.number ≢ 42 → WroteWhole (A.meaning algebra) (roads_in graph) (asked_of questions.now) (W.written out.old) (W.written out.new)) }
+    ensures unfailed { IfErr result (λ f. f.number ≢ 42 → W.failures out.new ≡ W.failures out.old) }
+    ensures more { W.failures out.old ≤ W.failures out.new }
+    ensures reported { OnOk result (Reported (A.meaning algebra) (roads_in graph) O.may_become (batch_due settings.now.plain (asked_of questions.now).questions) watcher.old watcher.new) }
+    ensures begun { OnErr result (ReportedPrefix (A.meaning algebra) (roads_in graph) O.may_become (batch_due settings.now.plain (asked_of questions.now).questions) watcher.old watcher.new) }
+{
+    match graph {
+        BatchGraph::Whole(graph) => {
+            let graph = indexed(alloc, graph, settings);
+            answer_all_watched(
+                rt, alloc, algebra, &graph, questions, out, settings, gate, watcher,
+            )
+        }
+        BatchGraph::Outgoing(graph) => {
+            answer_plainly(
+                rt, alloc, algebra, &graph, questions, out, settings, watcher,
+            )
+        }
+    }
+}

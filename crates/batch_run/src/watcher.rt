@@ -1,0 +1,45 @@
+//! What a batch reports while it runs, and to whom.
+ghost use Rattle.batch_run.specs.declared.watcher.Report.{Report};
+
+use road_graph::Vertex;
+use shard_part::Tally;
+
+/// What a batch reports while it runs.
+#[derive(Clone, Copy, Debug, PartialEq, Eq)]
+pub enum Report {
+    /// The questions were read: so many, over so many diffusions (none with `plain`).
+    Begun {
+        questions: u32,
+        diffusions: u64,
+    },
+    /// The diffusion for this question, numbered from 1, from this source was gathered: its counts.
+    Gathered {
+        question: u32,
+        source: Vertex,
+        tally: Tally,
+    },
+    /// So many questions have been answered.
+    Answered {
+        questions: u32,
+    },
+}
+
+/// Is told what a batch did, as it goes; it can't stop it.
+pub trait Watcher {
+    // Told this report in the one state, it may be in the other afterwards.
+    ghost may_become: { Self → Report → Self → Type 0 };
+
+    /// Takes note of a report.
+    fn report(&mut self, report: Report)
+        ensures { may_become self.old report self.new };
+}
+
+/// The watcher that does nothing.
+#[derive(Clone, Copy, Debug, Default, Drop)]
+pub struct Unwatched;
+
+impl Watcher for Unwatched {
+    ghost may_become = { λ _ _ _. Unit {0} };
+
+    fn report(&mut self, _report: Report) {}
+}

@@ -1,0 +1,64 @@
+-- Replies that are written one after the other.
+use Rattle.std.proofs.Common.{◌≡◌, ℕ, ◌+◌, List, [], ◌∷◌, ◌++◌, Option, Result, Ok, Err, refl, sym, ap, ◌∙◌, subst, append_assoc, append-nil}
+use Rattle.std.specs.Io.KnownBytes.{Appends}
+use Rattle.std.proofs.KnownBytes.{Appends-trans, Appends-nil}
+use Rattle.road_text.specs.Written.{Fell, Wrote}
+use Rattle.road_text.proofs.WriteLaws.{fell_first}
+use Rattle.road_files.specs.Asked.{Asked}
+use Rattle.road_files.specs.ServiceText.{Request}
+use Rattle.service.specs.Fed.{IsReplyBy, AreRepliesBy, joined, Replied, FellIn, RepliedOrFell}
+
+pub joined-append : (xs ys : List (List ℕ)) → joined (xs ++ ys) ≡ joined xs ++ joined ys
+joined-append [] ys = refl
+joined-append (x ∷ xs) ys = ap (λ t. x ++ t) (joined-append xs ys) ∙ sym (append_assoc x (joined xs) (joined ys))
+
+module _ (answers : Asked → List ℕ → Type 0) where
+  are-append : (rs qs : List Request) (ts us : List (List ℕ)) → AreRepliesBy answers rs ts → AreRepliesBy answers qs us → AreRepliesBy answers (rs ++ qs) (ts ++ us)
+  are-append [] qs [] us p q = q
+  are-append [] qs (t ∷ ts) us p q = absurd p
+  are-append (r ∷ rs) qs [] us p q = absurd p
+  are-append (r ∷ rs) qs (t ∷ ts) us p q = (p.0, are-append rs qs ts us p.1 q)
+
+  -- no reply
+  pub replied_none : (old : Option (List ℕ)) (before : ℕ) → Replied answers [] old old before before
+  replied_none old before = record { texts = []; right = tt; bytes = Appends-nil old; sound = refl }
+
+  -- one reply
+  pub replied_one : {A E : Type 0} (r : Request) (text : List ℕ) (old new : Option (List ℕ)) (before after : ℕ) (res : Result A E) → IsReplyBy answers r text → Wrote old new before after text res → RepliedOrFell answers (r ∷ []) old new before after res
+  replied_one r text old new before after (Ok v) is was = record {
+    texts = text ∷ [];
+    right = (is, tt);
+    bytes = subst (Appends old new) (sym (append-nil text ∙ was.text_is ∙ append-nil was.front)) was.bytes;
+    sound = was.sound;
+  }
+  replied_one r text old new before after (Err e) is was = record { first = r ∷ []; later = []; requests_are = refl; texts = text ∷ []; right = (is, tt); wrote = fell_first old new before after text [] was }
+
+  -- replies, and then others
+  pub replied_then : {A E : Type 0} (rs qs : List Request) (old mid new : Option (List ℕ)) (b m a : ℕ) (res : Result A E) → Replied answers rs old mid b m → RepliedOrFell answers qs mid new m a res → RepliedOrFell answers (rs ++ qs) old new b a res
+  replied_then rs qs old mid new b m a (Ok v) p q = record {
+    texts = p.texts ++ q.texts;
+    right = are-append rs qs p.texts q.texts p.right q.right;
+    bytes = subst (Appends old new) (sym (joined-append p.texts q.texts)) (Appends-trans old mid new (joined p.texts) (joined q.texts) p.bytes q.bytes);
+    sound = q.sound ∙ p.sound;
+  }
+  replied_then rs qs old mid new b m a (Err e) p q = record {
+    first = rs ++ q.first;
+    later = q.later;
+    requests_are = ap (λ x. rs ++ x) q.requests_are ∙ sym (append_assoc rs q.first q.later);
+    texts = p.texts ++ q.texts;
+    right = are-append rs q.first p.texts q.texts p.right q.right;
+    wrote = subst (Fell old new b a) (sym (joined-append p.texts q.texts)) (behind (joined p.texts) (joined q.texts) p.bytes p.sound q.wrote);
+  }
+    where
+      behind : (x y : List ℕ) → Appends old mid x → m ≡ b → Fell mid new m a y → Fell old new b a (x ++ y)
+      behind x y e s f = record {
+        front = x ++ f.front;
+        rest = f.rest;
+        text_is = ap (λ z. x ++ z) f.text_is ∙ sym (append_assoc x f.front f.rest);
+        bytes = Appends-trans old mid new x f.front e f.bytes;
+        failed = f.failed ∙ ap (λ k. k + 1) s;
+      }
+
+  -- a failed write, before others are replied to
+  pub fell_before : (rs qs : List Request) (old new : Option (List ℕ)) (b a : ℕ) → FellIn answers rs old new b a → FellIn answers (rs ++ qs) old new b a
+  fell_before rs qs old new b a p = record { first = p.first; later = p.later ++ qs; requests_are = ap (λ x. x ++ qs) p.requests_are ∙ append_assoc p.first p.later qs; texts = p.texts; right = p.right; wrote = p.wrote }

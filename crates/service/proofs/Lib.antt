@@ -1,0 +1,11 @@
+mod RequestLaws
+mod TextLaws
+mod FileLaws
+mod Examples
+mod FedLaws
+mod ServiceLaws
+mod EndLaws
+mod ServeLaws
+mod Pieces
+mod AnswerLaws
+mod RunLaws

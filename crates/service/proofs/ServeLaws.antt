@@ -1,0 +1,130 @@
+-- A service that goes on through its input.
+use Rattle.std.proofs.Common.{◌≡◌, ℕ, ◌+◌, true, List, [], ◌++◌, Option, None, Some, refl, sym, ap, ◌∙◌, subst, append_assoc, append-nil, inl, inr, arith}
+use Rattle.std.specs.Io.KnownBytes.{Consumes, IsAtEnd, Keeps, Appends}
+use Rattle.std.proofs.KnownBytes.{Consumes-nil, Consumes-trans, Consumes-whole, Appends-nil}
+use Rattle.road_files.specs.Asked.{Asked}
+use Rattle.road_files.specs.ServiceText.{Request}
+use Rattle.service.specs.declared.service.Service.{Service}
+use Rattle.service.specs.Fed.{HasTaken, HasRequests, MakesWhole, BeginsWith, Fed, FedPart, FedLong, Finished, FinishedPart, HasServed, Served, ServedPrefix, ServedPart, Replied, FellIn}
+use Rattle.service.proofs.FedLaws.{replied_none, replied_then}
+use Rattle.service.proofs.ServiceLaws.{Done, Failed}
+use Rattle.road_text.specs.Lines.{lines}
+use Rattle.road_text.proofs.TextLaws.{lines_cut}
+use Rattle.road_files.specs.RequestTakes.{state_of}
+use Rattle.road_files.specs.ServiceText.{Gives, LinesMay}
+
+kept_first : (a b c : Option (List ℕ)) (x : List ℕ) → Keeps a b → Appends b c x → Appends a c x
+kept_first None b c x k p = tt
+kept_first (Some a) None c x k p = absurd k
+kept_first (Some a) (Some b) None x k p = absurd p
+kept_first (Some a) (Some b) (Some c) x k p = p ∙ ap (λ y. y ++ x) k
+
+module _ (answers : Asked → List ℕ → Type 0) where
+  pub served_none : (s : Service) (left old : Option (List ℕ)) (b : ℕ) → HasTaken s [] [] → HasServed answers s left left old old b b
+  served_none s left old b h = ([], [], Consumes-nil left, h, replied_none answers old b)
+
+  pub served_more : (s t : Service) (piece : List ℕ) (left mid now old was new : Option (List ℕ)) (b m a : ℕ) → HasServed answers s left mid old was b m → Consumes mid now piece → Fed answers s t piece was new m a → HasServed answers t left now old new b a
+  served_more s t piece left mid now old was new b m a (fed, rs, gone, taken, replied) here f =
+      let (more, further, after) = f fed rs taken in
+      (fed ++ piece, rs ++ more, Consumes-trans left mid now fed piece gone here, further, replied_then answers rs more old was new b m a Done replied after)
+
+  pub served_all : (s : Service) (n : ℕ) (left mid now first old was new : Option (List ℕ)) (z b m a : ℕ) → s.cutter.taker.questions.list.vertices ≡ n → HasServed answers s left mid old was b m → Consumes mid now [] → IsAtEnd now → Keeps first old → b ≡ z
+      → Finished answers s was new m a → Served answers n left first new z a
+  served_all s n left mid now first old was new z b m a same (fed, rs, gone, taken, replied) here end kept sound f =
+      let (more, all, after) = f fed rs taken in
+      let whole : Consumes left now fed = subst (λ (x : List ℕ). Consumes left now x) (append-nil fed) (Consumes-trans left mid now fed [] gone here) in
+      let both = replied_then answers rs more old was new b m a Done replied after in (
+        fed,
+        rs ++ more,
+        Consumes-whole left now fed (λ x. fed ≡ x) whole end refl,
+        subst (λ k. HasRequests k fed (rs ++ more)) same all,
+        record {
+          texts = both.texts;
+          right = both.right;
+          bytes = kept_first first old new _ kept both.bytes;
+          sound = both.sound ∙ sound;
+        },
+      )
+
+  -- a prefix of the input
+  begins : (left now : Option (List ℕ)) (text : List ℕ) → Consumes left now text → BeginsWith left text
+  begins None now text h = tt
+  begins (Some all) None text h = absurd h
+  begins (Some all) (Some rest) text h = (rest, h)
+
+  begins_less : (left : Option (List ℕ)) (text more : List ℕ) → BeginsWith left (text ++ more) → BeginsWith left text
+  begins_less None text more h = tt
+  begins_less (Some all) text more (rest, h) = (more ++ rest, h ∙ append_assoc text more rest)
+
+  begins_part : (left mid now : Option (List ℕ)) (fed piece front rest : List ℕ) → Consumes left mid fed → Consumes mid now piece → piece ≡ front ++ rest → BeginsWith left (fed ++ front)
+  begins_part left mid now fed piece front rest g h e =
+      begins_less left (fed ++ front) rest (subst (BeginsWith left) (ap (λ x. fed ++ x) e ∙ sym (append_assoc fed front rest)) (begins left now (fed ++ piece) (Consumes-trans left mid now fed piece g h)))
+
+  replied_kept : (rs : List Request) (first old new : Option (List ℕ)) (z b a : ℕ) → Keeps first old → b ≡ z → Replied answers rs old new b a → Replied answers rs first new z a
+  replied_kept rs first old new z b a kept sound r = record { texts = r.texts; right = r.right; bytes = kept_first first old new _ kept r.bytes; sound = r.sound ∙ sound }
+
+  fell_kept : (rs : List Request) (first old new : Option (List ℕ)) (z b a : ℕ) → Keeps first old → b ≡ z → FellIn answers rs old new b a → FellIn answers rs first new z a
+  fell_kept rs first old new z b a kept sound r = record {
+    first = r.first;
+    later = r.later;
+    requests_are = r.requests_are;
+    texts = r.texts;
+    right = r.right;
+    wrote = record { front = r.wrote.front; rest = r.wrote.rest; text_is = r.wrote.text_is; bytes = kept_first first old new r.wrote.front kept r.wrote.bytes; failed = r.wrote.failed ∙ ap (λ k. k + 1) sound };
+  }
+
+  module _ (s : Service) (n : ℕ) (left mid now first old was new : Option (List ℕ)) (z b m a : ℕ) (same : s.cutter.taker.questions.list.vertices ≡ n) (served : HasServed answers s left mid old was b m) (kept : Keeps first old) (sound : b ≡ z) where
+    whole : (fed : List ℕ) (rs : List Request) (t : Service) → t.cutter.taker.questions.list.vertices ≡ n → HasTaken t fed rs → MakesWhole n fed rs
+    whole fed rs t e h = (state_of t.cutter.taker, subst (λ k. LinesMay k 1 (Gives None) (lines true fed) rs (state_of t.cutter.taker)) e h.made)
+
+    -- a read failed
+    pub read_failed : ServedPrefix answers n left first was z m
+    read_failed = let (fed, rs, gone, taken, replied) = served in (fed, rs, begins left mid fed gone, whole fed rs s same taken, replied_kept rs first old was z b m kept sound replied)
+
+    -- a write failed in the replies to what a piece makes whole
+    pub feed_fell : (t : Service) (piece : List ℕ) → t.cutter.taker.questions.list.vertices ≡ n → Consumes mid now piece → FedPart answers s t piece was new m a → ServedPart answers n left first new z a
+    feed_fell t piece e here f =
+        let (fed, rs, gone, taken, replied) = served in
+        let (front, rest, more, is, further, fell) = f fed rs taken in (
+          fed ++ front,
+          rs ++ more,
+          begins_part left mid now fed piece front rest gone here is,
+          inl (whole (fed ++ front) (rs ++ more) t e further),
+          fell_kept (rs ++ more) first old new z b a kept sound (replied_then answers rs more old was new b m a Failed replied fell),
+        )
+
+    -- a request is too long
+    pub feed_long : (t : Service) (piece : List ℕ) → t.cutter.taker.questions.list.vertices ≡ n → Consumes mid now piece → FedLong answers s t piece was new m a → ServedPrefix answers n left first new z a
+    feed_long t piece e here f =
+        let (fed, rs, gone, taken, replied) = served in
+        let (front, rest, more, is, some, further, full, after) = f fed rs taken in (
+          fed ++ front,
+          rs ++ more,
+          begins_part left mid now fed piece front rest gone here is,
+          whole (fed ++ front) (rs ++ more) t e further,
+          replied_kept (rs ++ more) first old new z b a kept sound (replied_then answers rs more old was new b m a Done replied after),
+        )
+
+    -- a write failed in the replies to what was left
+    pub end_fell : FinishedPart answers s was new m a → ServedPart answers n left first new z a
+    end_fell f =
+        let (fed, rs, gone, taken, replied) = served in
+        let (more, all, fell) = f fed rs taken in
+        (fed, rs ++ more, begins left mid fed gone, inr (subst (λ k. HasRequests k fed (rs ++ more)) same all), fell_kept (rs ++ more) first old new z b a kept sound (replied_then answers rs more old was new b m a Failed replied fell))
+
+  -- a flush failed before anything was read
+  pub flush_fell : (n : ℕ) (left first new : Option (List ℕ)) (z a : ℕ) → Keeps first new → a ≡ z + 1 → ServedPart answers n left first new z a
+  flush_fell n left first new z a kept failed = (
+    [],
+    [],
+    begins left left [] (Consumes-nil left),
+    inl (Gives None, rw (lines_cut [] (λ k d h. absurd (omega arith))) (refl, refl)),
+    record {
+      first = [];
+      later = [];
+      requests_are = refl;
+      texts = [];
+      right = tt;
+      wrote = record { front = []; rest = []; text_is = refl; bytes = kept_first first new new [] kept (Appends-nil new); failed = failed };
+    },
+  )

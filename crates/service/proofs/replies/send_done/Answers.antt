@@ -1,0 +1,26 @@
+use Rattle.std.proofs.Common.{[], ◌∷◌, Ok, Err, Result, ap, map}
+use Rattle.road_text.specs.Rules.{fault_at, at_line}
+use Rattle.road_files.specs.RequestTakes.{ended_list}
+use Rattle.service.specs.Fed.{fault_text}
+use Rattle.service.proofs.FedLaws.{replied_one, replied_then, fell_before}
+use Rattle.service.proofs.ServiceLaws.{ended_early}
+use Rattle.service.specs.Answering.{MayAnswer}
+use Rattle.service.proofs.replies.send_done.Goals as goal
+
+pub returns-in-Ok-clause-replied : goal.returns-in-Ok-clause-replied
+returns-in-Ok-clause-replied g c = λ at e.
+    let texts = (MayAnswer (g.A.PathAlgebra.meaning c.args.answers.now.algebra) c.args.answers.now.settings.now (g.T.Gate.may_answer c.args.answers.now.gate.now) c.args.answers.now.graph.now) in
+    let done : Result (Unit {0}) (Unit {0}) = Ok tt in
+    let failed : Result (Unit {0}) (Unit {0}) = Err tt in
+    rw (ended_early c.args.done c.if-not-done.false)
+    (replied_then texts (Err (fault_at at 19) ∷ []) (map (at_line at) (ended_list c.args.done.ended)) _ _ _ _ _ _ c.send_end-in-Ok.result
+    (replied_one texts (Err (fault_at at 19)) (fault_text 19 c.args.line) _ _ _ _ done (ap (fault_text 19) e) c.in-Ok.ensures.wrote) (c.send_end-in-Ok.ensures.replied at e))
+
+pub returns-in-Err-clause-replied : goal.returns-in-Err-clause-replied
+returns-in-Err-clause-replied g c = λ at e.
+    let texts = (MayAnswer (g.A.PathAlgebra.meaning c.args.answers.now.algebra) c.args.answers.now.settings.now (g.T.Gate.may_answer c.args.answers.now.gate.now) c.args.answers.now.graph.now) in
+    let done : Result (Unit {0}) (Unit {0}) = Ok tt in
+    let failed : Result (Unit {0}) (Unit {0}) = Err tt in
+    rw (ended_early c.args.done c.if-not-done.false)
+    (fell_before texts (Err (fault_at at 19) ∷ []) (map (at_line at) (ended_list c.args.done.ended)) _ _ _ _
+    (replied_one texts (Err (fault_at at 19)) (fault_text 19 c.args.line) _ _ _ _ failed (ap (fault_text 19) e) c.in-Err.ensures.wrote))

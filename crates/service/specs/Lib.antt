@@ -1,0 +1,6 @@
+pub mod RequestTexts
+pub mod Files
+pub mod Replies
+pub mod Answering
+pub mod Fed
+pub mod Served

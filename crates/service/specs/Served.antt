@@ -1,0 +1,67 @@
+-- What a service leaves, between two moments of its inputs and its output.
+use Rattle.std.specs.Prelude.{◌≡◌, ◌≢◌, ℕ, ◌+◌, ◌≤◌, ◌↔◌, ◌⊎◌, Bool, List, [], Option, Result, Err, OnOk, IfErr}
+use Rattle.std.specs.Io.KnownBytes.{IsAtEnd}
+use Rattle.road_graph.specs.Roads.{Roads}
+use Rattle.road_files.specs.GraphFiles.{gr_rules}
+use Rattle.path_algebra.specs.Algebra.{Algebra}
+use Rattle.batch_run.specs.declared.faults.File.TheVariants.{Graph, Questions, NoFile}
+use Rattle.batch_run.specs.declared.faults.RunFault.{RunFault}
+use Rattle.batch_run.specs.declared.settings.Settings.{Settings}
+use Rattle.batch_run.specs.InRange.{AreInRange}
+use Rattle.batch_run.specs.Ran.{IsReadAs, IsGraphFault, IsRoadNumber}
+use Rattle.batch_run.specs.Runs.{Input, Output}
+use Rattle.service.specs.Fed.{Served, ServedPrefix, ServedPart}
+use Rattle.service.specs.Answering.{MayAnswer}
+
+-- an input spells a graph, and this holds of it
+abbrev pub OverGraph : Option (List ℕ) → (Roads → Type 0) → Type 0
+OverGraph text P = (g : Roads) × IsReadAs gr_rules text g × P g
+
+-- the input of requests stops a service by a read that failed, or by a request with too many bytes
+abbrev pub IsStopOfInput : RunFault → Type 0
+IsStopOfInput f = ((f.number ≡ 1) ⊎ (f.number ≡ 2)) × (f.line ≡ 0)
+
+-- the requests of one input were replied to over the graph of another, or this fault stopped it
+pub record RanService {V G Q W : Type 0} (A : Algebra V) (how : Settings) (gate : ℕ → ℕ → Bool → Type 0) (graph graph_after : Input G) (input input_after : Input Q) (out out_after : Output W) (outcome : Result (Unit {0}) RunFault) : Type 0 where
+  -- all requests were replied to, over the graph that was read
+  pub done : OnOk outcome (OverGraph graph.left (λ g.
+      Served (MayAnswer A how gate g) g.vertices input.left
+      out.written out_after.written out.failures out_after.failures))
+  -- and the output holds nothing back
+  pub passed_on : OnOk outcome (out_after.held ≡ [])
+  -- no read and no write failed
+  pub sound : OnOk outcome ((graph_after.failures ≡ graph.failures) × (input_after.failures ≡ input.failures) × (out_after.failures ≡ out.failures))
+  -- both inputs were read to their end
+  pub ends : OnOk outcome (IsAtEnd graph_after.left × IsAtEnd input_after.left)
+  -- a failed read, or a request that is too long, comes when just the requests that a prefix of the
+  -- input makes whole were replied to
+  pub stopped : IfErr outcome (λ f. f.file ≡ Questions → OverGraph graph.left (λ g.
+      ServedPrefix (MayAnswer A how gate g) g.vertices input.left
+      out.written out_after.written out.failures out_after.failures))
+  -- a failed write leaves a prefix of the replies to the requests that a prefix of the input makes
+  -- whole, or to all of them
+  pub fell : IfErr outcome (λ f. f.number ≡ 42 → OverGraph graph.left (λ g.
+      ServedPart (MayAnswer A how gate g) g.vertices input.left
+      out.written out_after.written out.failures out_after.failures))
+  -- 43 is reported exactly of a setting that is out of its range
+  pub settings : (outcome ≡ Err (record { number = 43; file = NoFile; line = 0 })) ↔ (AreInRange how → ⊥)
+  -- a fault of the graph is its first one
+  pub graph_fault : IfErr outcome (λ f. f.file ≡ Graph → IsGraphFault graph.left f)
+  -- 1 is reported of the graph exactly if a read of it failed
+  pub read_graph : (outcome ≡ Err (record { number = 1; file = Graph; line = 0 })) ↔ (graph_after.failures ≢ graph.failures)
+  -- and of the requests exactly if one of them did
+  pub read_input : (outcome ≡ Err (record { number = 1; file = Questions; line = 0 })) ↔ (input_after.failures ≢ input.failures)
+  -- a fault is one of the graph, with a number of its own, one of the input of requests, a failed
+  -- write, or a setting
+  pub kinds : IfErr outcome (λ f.
+      ((f.file ≡ Graph) × IsRoadNumber f.number)
+      ⊎ (((f.file ≡ Questions) × IsStopOfInput f)
+      ⊎ ((f.file ≡ NoFile) × (f.line ≡ 0) × ((f.number ≡ 42) ⊎ (f.number ≡ 43)))))
+  -- 1 to 3 stand in no line
+  pub placed : IfErr outcome (λ f. f.number ≤ 3 → f.line ≡ 0)
+  -- a fault of the graph comes before anything of the requests is read, and before anything is written
+  pub before_requests : IfErr outcome (λ f. f.file ≡ Graph → (input_after ≡ input) × (out_after ≡ out))
+  -- settings are tested before anything is read or written
+  pub untouched : IfErr outcome (λ f. f.number ≡ 43 → (graph_after ≡ graph) × (input_after ≡ input) × (out_after ≡ out))
+  -- at most 2 ^ 32 + 1 reads of the graph were asked for
+  pub asked : graph_after.asked ≤ graph.asked + 4294967297

@@ -1,0 +1,189 @@
+//! Feeds a service, and replies.
+ghost use Rattle.std.specs.Prelude.{◌≡◌, ℕ, ◌+◌, [], ◌++◌, List, map, min, OnOk, OnErr, Err, ◌≤◌};
+ghost use Rattle.road_text.specs.Cuts.{IsLine, IsPresent};
+ghost use Rattle.road_files.specs.RequestTakes.{RequestSoFar, state_of, ended_of};
+ghost use Rattle.service.specs.Answering.{MayAnswer};
+ghost use Rattle.service.specs.Fed.{held_line, HasTaken, LineEnded, Fed, FedPart, FedLong, LastFed, LastFedPart, Finished, FinishedPart, RepliedOrFell, goes_on, count_after};
+ghost use Rattle.road_text.specs.Rules.{at_line};
+ghost use Rattle.road_files.specs.ServiceText.{ServiceState, service_end};
+
+use crate::batch_answers::BatchAnswers;
+use crate::fault_lines::send_fault;
+use crate::replies::send_done;
+use crate::service::Service;
+use batch_run::Gate;
+use path_algebra::PathAlgebra;
+use road_files::rules::TOO_FEW;
+use road_files::{LineDone, RequestParser};
+use road_text::{LineCutter, MAX_BYTES, RoadWrite, WriteFault};
+use std::alloc::Global;
+use std::sync::Wait;
+use std::thread::Threads;
+
+/// Why bytes were not taken.
+#[derive(Clone, Copy, Debug, PartialEq, Eq)]
+pub enum Unfed {
+    /// A write or a flush failed.
+    Write,
+    /// A request, or a line outside, has too many bytes.
+    TooLong,
+}
+
+/// The count after a line: it begins anew where a request ended, or none goes on.
+fn count_after(done: &LineDone, goes: bool, count: u64) -> u64
+    ensures value { (next : ServiceState) → goes ≡ goes_on next → result ≡ count_after (record { ended = ended_of done.now; next = next }) count }
+    ensures bound { result ≤ count }
+{
+    if !goes || done.early || done.ended.is_some() {
+        return 0;
+    }
+    count
+}
+
+impl Service {
+    /// No byte was taken yet, of a service over a graph with this number of vertices.
+    pub fn new(alloc: Global, vertices: u32) -> Self
+        ensures taken { HasTaken result [] [] }
+        ensures vertices { result.cutter.taker.questions.list.vertices ≡ vertices }
+    {
+        Service {
+            cutter: LineCutter::new(RequestParser::new(alloc, vertices)),
+            line: 1,
+            count: 0,
+        }
+    }
+
+    /// Gives the line that has ended to its request, and replies to what ends with it.
+    fn end_line<A: PathAlgebra, R: Threads + Wait + Sync, T: Gate, W: RoadWrite>(
+        &mut self,
+        answers: &BatchAnswers<'_, A, R, T>,
+        out: &mut W,
+    ) -> Result<(), WriteFault>
+        requires { self.old.cutter.taker.questions.list.vertices ≡ answers.now.graph.now.vertices }
+        ensures ended { (at : ℕ) (line : List ℕ) → self.old.line ≡ held_line at → IsLine RequestSoFar self.old.cutter line →
+            LineEnded
+            (MayAnswer (A.meaning answers.now.algebra) answers.now.settings.now
+            (T.may_answer answers.now.gate.now) answers.now.graph.now) at line self.old self.new
+            (W.written out.old) (W.written out.new) (W.failures out.old) (W.failures out.new) result }
+        ensures ready { IsPresent RequestSoFar self.new.cutter [] }
+        ensures line { self.new.line ≡ min (self.old.line + 1) 18446744073709551615 }
+        ensures vertices { self.new.cutter.taker.questions.list.vertices ≡ self.old.cutter.taker.questions.list.vertices }
+        ensures passed_on { OnOk result (W.held out.old ≡ [] → W.held out.new ≡ []) }
+    {
+        let done = self.cutter.taker.line(self.cutter.scanner.fields());
+        self.cutter.restart();
+        self.count = count_after(&done, self.cutter.taker.is_open(), self.count);
+        let line = self.line;
+        self.line = line.saturating_add(1);
+        send_done(answers, done, line, out)
+    }
+
+    /// Takes the next bytes, and replies to just those requests that the bytes so far make whole, in order.
+    pub fn feed<A: PathAlgebra, R: Threads + Wait + Sync, T: Gate, W: RoadWrite>(
+        &mut self,
+        answers: &BatchAnswers<'_, A, R, T>,
+        bytes: &[u8],
+        out: &mut W,
+    ) -> Result<(), Unfed>
+        requires { self.old.cutter.taker.questions.list.vertices ≡ answers.now.graph.now.vertices }
+        ensures fed { OnOk result (Fed
+            (MayAnswer (A.meaning answers.now.algebra) answers.now.settings.now
+            (T.may_answer answers.now.gate.now) answers.now.graph.now) self.old self.new bytes.now
+            (W.written out.old) (W.written out.new) (W.failures out.old) (W.failures out.new)) }
+        ensures fell { result ≡ Err Unfed.Write → FedPart
+            (MayAnswer (A.meaning answers.now.algebra) answers.now.settings.now
+            (T.may_answer answers.now.gate.now) answers.now.graph.now) self.old self.new bytes.now
+            (W.written out.old) (W.written out.new) (W.failures out.old) (W.failures out.new) }
+        ensures long { result ≡ Err Unfed.TooLong → FedLong
+            (MayAnswer (A.meaning answers.now.algebra) answers.now.settings.now
+            (T.may_answer answers.now.gate.now) answers.now.graph.now) self.old self.new bytes.now
+            (W.written out.old) (W.written out.new) (W.failures out.old) (W.failures out.new) }
+        ensures passed_on { OnOk result (W.held out.old ≡ [] → W.held out.new ≡ []) }
+        ensures vertices { self.new.cutter.taker.questions.list.vertices ≡ self.old.cutter.taker.questions.list.vertices }
+    {
+        let mut at = 0;
+        while at < bytes.len() {
+            let room = (MAX_BYTES - self.count) as usize;
+            if room == 0 {
+                return Err(Unfed::TooLong);
+            }
+            let to = at + room.min(bytes.len() - at);
+            let (taken, ended) = self.cutter.to_line_end(&bytes[at..to]);
+            self.count += taken as u64;
+            at += taken;
+            if ended {
+                match self.end_line(answers, out) {
+                    Ok(()) => {}
+                    Err(_) => return Err(Unfed::Write),
+                }
+            }
+        }
+        Ok(())
+    }
+
+    /// Takes the end, and the last line, if it has no LF.
+    fn end_lines<A: PathAlgebra, R: Threads + Wait + Sync, T: Gate, W: RoadWrite>(
+        &mut self,
+        answers: &BatchAnswers<'_, A, R, T>,
+        out: &mut W,
+    ) -> Result<(), WriteFault>
+        requires { self.old.cutter.taker.questions.list.vertices ≡ answers.now.graph.now.vertices }
+        ensures fed { OnOk result (LastFed
+            (MayAnswer (A.meaning answers.now.algebra) answers.now.settings.now
+            (T.may_answer answers.now.gate.now) answers.now.graph.now) self.old self.new
+            (W.written out.old) (W.written out.new) (W.failures out.old) (W.failures out.new)) }
+        ensures fell { OnErr result (LastFedPart
+            (MayAnswer (A.meaning answers.now.algebra) answers.now.settings.now
+            (T.may_answer answers.now.gate.now) answers.now.graph.now) self.old self.new
+            (W.written out.old) (W.written out.new) (W.failures out.old) (W.failures out.new)) }
+        ensures passed_on { OnOk result (W.held out.old ≡ [] → W.held out.new ≡ []) }
+        ensures vertices { self.new.cutter.taker.questions.list.vertices ≡ self.old.cutter.taker.questions.list.vertices }
+    {
+        if self.cutter.to_end() {
+            return self.end_line(answers, out);
+        }
+        Ok(())
+    }
+
+    /// Replies to the request that goes on, if one does: it has too few lines.
+    fn end_request<A: PathAlgebra, R: Threads + Wait + Sync, T: Gate, W: RoadWrite>(
+        &self,
+        _answers: &BatchAnswers<'_, A, R, T>,
+        out: &mut W,
+    ) -> Result<(), WriteFault>
+        ensures replied { (at : ℕ) → self.now.line ≡ held_line at →
+            RepliedOrFell
+            (MayAnswer (A.meaning _answers.now.algebra) _answers.now.settings.now
+            (T.may_answer _answers.now.gate.now) _answers.now.graph.now) (map (at_line at) (service_end (state_of self.now.cutter.taker)))
+            (W.written out.old) (W.written out.new) (W.failures out.old) (W.failures out.new) result }
+        ensures passed_on { OnOk result (W.held out.old ≡ [] → W.held out.new ≡ []) }
+    {
+        if self.cutter.taker.is_open() {
+            return send_fault(out, TOO_FEW.number, self.line);
+        }
+        Ok(())
+    }
+
+    /// Takes the end, and replies to the requests that it makes whole.
+    pub fn finish<A: PathAlgebra, R: Threads + Wait + Sync, T: Gate, W: RoadWrite>(
+        mut self,
+        answers: &BatchAnswers<'_, A, R, T>,
+        out: &mut W,
+    ) -> Result<(), WriteFault>
+        requires { self.cutter.taker.questions.list.vertices ≡ answers.now.graph.now.vertices }
+        ensures finished { OnOk result (Finished
+            (MayAnswer (A.meaning answers.now.algebra) answers.now.settings.now
+            (T.may_answer answers.now.gate.now) answers.now.graph.now) self
+            (W.written out.old) (W.written out.new) (W.failures out.old) (W.failures out.new)) }
+        ensures fell { OnErr result (FinishedPart
+            (MayAnswer (A.meaning answers.now.algebra) answers.now.settings.now
+            (T.may_answer answers.now.gate.now) answers.now.graph.now) self
+            (W.written out.old) (W.written out.new) (W.failures out.old) (W.failures out.new)) }
+        ensures passed_on { OnOk result (W.held out.old ≡ [] → W.held out.new ≡ []) }
+    {
+        match self.end_lines(answers, out) {
+            Ok(()) => self.end_request(answers, out),
+            Err(fault) => Err(fault),
+        }
+    }
+}

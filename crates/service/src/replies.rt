@@ -1,0 +1,88 @@
+//! Writes the replies to requests, and passes each on at once.
+ghost use Rattle.std.specs.Prelude.{◌≡◌, ℕ, [], List, map, OnOk};
+ghost use Rattle.road_text.specs.Rules.{at_line, fault_at};
+ghost use Rattle.road_text.specs.Written.{WritesText};
+ghost use Rattle.road_files.specs.Asked.{asked_of, AreQuestionsOf};
+ghost use Rattle.road_files.specs.RequestTakes.{EndFits, ended_list, ended_of};
+ghost use Rattle.service.specs.Answering.{MayAnswer};
+ghost use Rattle.service.specs.Replies.{held_line, reported_line, RepliedOrFell};
+
+use crate::batch_answers::BatchAnswers;
+use crate::fault_lines::send_fault;
+use batch_run::Gate;
+use path_algebra::PathAlgebra;
+use road_files::rules::TOO_FEW;
+use road_files::{Ended, LineDone, Questions};
+use road_text::{MEMORY, RoadWrite, WriteFault};
+use std::sync::Wait;
+use std::thread::Threads;
+
+/// Writes an answer, and passes it on.
+fn send_answer<A: PathAlgebra, R: Threads + Wait + Sync, T: Gate, W: RoadWrite>(
+    answers: &BatchAnswers<'_, A, R, T>,
+    questions: &Questions,
+    out: &mut W,
+) -> Result<(), WriteFault>
+    requires { AreQuestionsOf (answers.now.graph.now.vertices) questions.now }
+    ensures wrote { (text : List ℕ) × MayAnswer (A.meaning answers.now.algebra) answers.now.settings.now (T.may_answer answers.now.gate.now) answers.now.graph.now (asked_of questions.now) text × WritesText W.written W.failures out.old out.new text result }
+    ensures passed_on { OnOk result (W.held out.new ≡ []) }
+{
+    answers.answer(questions, out)?;
+    out.flush()
+}
+
+/// The line that a fault is reported with: none for want of memory.
+fn reported_line(number: u8, line: u64) -> u64
+    ensures { (at : ℕ) → line ≡ held_line at → result ≡ reported_line (fault_at at number) }
+{
+    if number == MEMORY {
+        return 0;
+    }
+    line
+}
+
+/// Replies to a request that has ended with this line.
+fn send_end<A: PathAlgebra, R: Threads + Wait + Sync, T: Gate, W: RoadWrite>(
+    answers: &BatchAnswers<'_, A, R, T>,
+    ended: Option<Ended>,
+    line: u64,
+    out: &mut W,
+) -> Result<(), WriteFault>
+    requires { EndFits (answers.now.graph.now.vertices) ended }
+    ensures replied { (at : ℕ) → line ≡ held_line at →
+        RepliedOrFell
+        (MayAnswer (A.meaning answers.now.algebra) answers.now.settings.now
+        (T.may_answer answers.now.gate.now) answers.now.graph.now) (map (at_line at) (ended_list ended))
+        (W.written out.old) (W.written out.new) (W.failures out.old) (W.failures out.new) result }
+    ensures passed_on { OnOk result (W.held out.old ≡ [] → W.held out.new ≡ []) }
+{
+    match ended {
+        None => Ok(()),
+        Some(Ended::Fault(number)) => send_fault(out, number, reported_line(number, line)),
+        Some(Ended::Asked(questions)) => send_answer(answers, &questions, out),
+    }
+}
+
+/// Replies to the requests that have ended with a line.
+pub(crate) fn send_done<A: PathAlgebra, R: Threads + Wait + Sync, T: Gate, W: RoadWrite>(
+    answers: &BatchAnswers<'_, A, R, T>,
+    done: LineDone,
+    line: u64,
+    out: &mut W,
+) -> Result<(), WriteFault>
+    requires { EndFits (answers.now.graph.now.vertices) done.ended }
+    ensures replied { (at : ℕ) → line ≡ held_line at →
+        RepliedOrFell
+        (MayAnswer (A.meaning answers.now.algebra) answers.now.settings.now
+        (T.may_answer answers.now.gate.now) answers.now.graph.now) (map (at_line at) (ended_of done))
+        (W.written out.old) (W.written out.new) (W.failures out.old) (W.failures out.new) result }
+    ensures passed_on { OnOk result (W.held out.old ≡ [] → W.held out.new ≡ []) }
+{
+    if !done.early {
+        return send_end(answers, done.ended, line, out);
+    }
+    match send_fault(out, TOO_FEW.number, line) {
+        Ok(()) => send_end(answers, done.ended, line, out),
+        Err(fault) => Err(fault),
+    }
+}

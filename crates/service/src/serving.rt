@@ -1,0 +1,97 @@
+//! Serves an input to its end.
+ghost use Rattle.std.specs.Prelude.{◌≡◌, ◌≢◌, ℕ, ◌≤◌, ◌+◌, [], length, IfOk, OnOk, OnErr, Err};
+ghost use Rattle.std.specs.Io.KnownBytes.{IsAtEnd, ReadConsumes};
+ghost use Rattle.service.specs.Answering.{MayAnswer};
+ghost use Rattle.service.specs.Fed.{Served, ServedPrefix, ServedPart};
+
+use crate::batch_answers::BatchAnswers;
+use crate::feeding::Unfed;
+use crate::service::Service;
+use batch_run::Gate;
+use path_algebra::PathAlgebra;
+use road_text::{ReadFailed, RoadRead, RoadWrite};
+use std::alloc::Global;
+use std::sync::Wait;
+use std::thread::Threads;
+
+/// The bytes that are asked for at once.
+const BUFFER: usize = 65_536;
+
+/// Why a service ended before its input.
+#[derive(Clone, Copy, Debug, PartialEq, Eq)]
+pub(crate) enum Stopped {
+    /// A read failed.
+    Read,
+    /// A write or a flush failed.
+    Write,
+    /// A request, or a line outside, has too many bytes.
+    TooLong,
+}
+
+/// Gives the next piece. Each read is made with nothing held back.
+fn ask<I: RoadRead, W: RoadWrite>(
+    input: &mut I,
+    _out: &W,
+    buffer: &mut [u8],
+) -> Result<usize, ReadFailed>
+    requires { W.held _out.now ≡ [] }
+    ensures bound { IfOk result (λ n. n ≤ length buffer.new) }
+    ensures bytes { ReadConsumes (I.left input.old) (I.left input.new) result buffer.new }
+    ensures sound { OnOk result (I.failures input.new ≡ I.failures input.old) }
+    ensures failed { OnErr result (I.failures input.new ≡ I.failures input.old + 1) }
+{
+    input.read(buffer)
+}
+
+/// Replies to all requests of an input over a graph with this number of vertices, to each as soon as it is whole.
+pub(crate) fn serve<A: PathAlgebra, I: RoadRead, W: RoadWrite, R: Threads + Wait + Sync, T: Gate>(
+    rt: &R,
+    alloc: Global,
+    vertices: u32,
+    answers: &BatchAnswers<'_, A, R, T>,
+    input: &mut I,
+    out: &mut W,
+) -> Result<(), Stopped>
+    requires { vertices ≡ answers.now.graph.now.vertices }
+    ensures served { OnOk result (Served
+        (MayAnswer (A.meaning answers.now.algebra) answers.now.settings.now
+        (T.may_answer answers.now.gate.now) answers.now.graph.now) vertices (I.left input.old)
+        (W.written out.old) (W.written out.new) (W.failures out.old) (W.failures out.new)) }
+    ensures read { result ≡ Err Stopped.Read → ServedPrefix
+        (MayAnswer (A.meaning answers.now.algebra) answers.now.settings.now
+        (T.may_answer answers.now.gate.now) answers.now.graph.now) vertices (I.left input.old)
+        (W.written out.old) (W.written out.new) (W.failures out.old) (W.failures out.new) × (I.failures input.new ≡ I.failures input.old + 1) }
+    ensures write { result ≡ Err Stopped.Write → ServedPart
+        (MayAnswer (A.meaning answers.now.algebra) answers.now.settings.now
+        (T.may_answer answers.now.gate.now) answers.now.graph.now) vertices (I.left input.old)
+        (W.written out.old) (W.written out.new) (W.failures out.old) (W.failures out.new) }
+    ensures long { result ≡ Err Stopped.TooLong → ServedPrefix
+        (MayAnswer (A.meaning answers.now.algebra) answers.now.settings.now
+        (T.may_answer answers.now.gate.now) answers.now.graph.now) vertices (I.left input.old)
+        (W.written out.old) (W.written out.new) (W.failures out.old) (W.failures out.new) }
+    ensures passed_on { OnOk result (W.held out.new ≡ []) }
+    ensures end { OnOk result (IsAtEnd (I.left input.new)) }
+    ensures sound { result ≢ Err Stopped.Read → I.failures input.new ≡ I.failures input.old }
+{
+    match out.flush() {
+        Ok(()) => {}
+        Err(_) => return Err(Stopped::Write),
+    }
+    let mut service = Service::new(alloc, vertices);
+    let mut buffer = [0u8; BUFFER];
+    for _ in rt.forever() {
+        match ask(input, out, &mut buffer) {
+            Err(_) => return Err(Stopped::Read),
+            Ok(0) => match service.finish(answers, out) {
+                Ok(()) => return Ok(()),
+                Err(_) => return Err(Stopped::Write),
+            },
+            Ok(n) => match service.feed(answers, &buffer[..n], out) {
+                Ok(()) => {}
+                Err(Unfed::Write) => return Err(Stopped::Write),
+                Err(Unfed::TooLong) => return Err(Stopped::TooLong),
+            },
+        }
+    }
+    unreachable!()
+}

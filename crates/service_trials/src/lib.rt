@@ -1,0 +1,11 @@
+//! The tests of services, through what their crates make public.
+//!
+//! They stand here in place of each crate's own, so that no crate is proved a second time with its tests.
+#![tactic(auto)]
+
+#[cfg(test)]
+mod asking;
+#[cfg(test)]
+mod replies;
+#[cfg(test)]
+mod stops;

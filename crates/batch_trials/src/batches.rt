@@ -1,6 +1,9 @@
 //! Worked questions with their answers, and what stops a batch.
 mod faults;
+mod gates;
+mod reports;
 mod sources;
+mod turns;
 mod workers;
 
 use crate::texts::joined;
@@ -22,6 +25,20 @@ const FROM_ONE: &str = "p aux sp ss 1\ns 1\n";
 /// What `FROM_ONE` over `FIVE` is answered under the least sum of weights.
 const SHORTEST: &str =
     "p ans ss 1 shortest\ns 1\nd 1 0 0 0\nd 2 3 2 3\nd 3 1 1 1\nd 4 8 3 2\nu 5\n";
+
+/// What `FROM_ONE` over `FIVE` is answered under the greatest width.
+const FIVE_WIDEST: &str =
+    "p ans ss 1 widest\ns 1\nd 1 4294967296 0 0\nd 2 4 1 1\nd 3 1 1 1\nd 4 4 2 2\nu 5\n";
+
+/// What `FROM_ONE` over `FIVE` is answered of what is reached.
+const FIVE_REACHED: &str =
+    "p ans ss 1 reach\ns 1\nd 1 0 0 0\nd 2 0 1 1\nd 3 0 1 1\nd 4 0 2 2\nu 5\n";
+
+/// Pairs: one with a route, one with none, and one of a vertex with itself.
+const PAIRS: &str = "p aux sp p2p 3\nq 1 4\nq 4 1\nq 5 5\n";
+
+/// What `PAIRS` over `FIVE` is answered.
+const ROUTES: &str = "p ans p2p 3 shortest\nq 1 4\nd 8 3\nr 1 3 2 4\nq 4 1\nu\nq 5 5\nd 0 0\nr 5\n";
 
 /// Three questions, all from the first vertex.
 const THRICE: &str = "p aux sp ss 3\ns 1\ns 1\ns 1\n";
@@ -144,15 +161,12 @@ fn five_vertices_shortest(rt: HostRuntime) {
 
 #[test]
 fn five_vertices_widest(rt: HostRuntime) {
-    let wanted =
-        "p ans ss 1 widest\ns 1\nd 1 4294967296 0 0\nd 2 4 1 1\nd 3 1 1 1\nd 4 4 2 2\nu 5\n";
-    assert_text(&rt, Widest, FIVE, FROM_ONE, wanted);
+    assert_text(&rt, Widest, FIVE, FROM_ONE, FIVE_WIDEST);
 }
 
 #[test]
 fn five_vertices_reach(rt: HostRuntime) {
-    let wanted = "p ans ss 1 reach\ns 1\nd 1 0 0 0\nd 2 0 1 1\nd 3 0 1 1\nd 4 0 2 2\nu 5\n";
-    assert_text(&rt, Reach, FIVE, FROM_ONE, wanted);
+    assert_text(&rt, Reach, FIVE, FROM_ONE, FIVE_REACHED);
 }
 
 #[test]
@@ -163,9 +177,7 @@ fn five_vertices_hops(rt: HostRuntime) {
 
 #[test]
 fn pairs_with_routes(rt: HostRuntime) {
-    let questions = "p aux sp p2p 3\nq 1 4\nq 4 1\nq 5 5\n";
-    let wanted = "p ans p2p 3 shortest\nq 1 4\nd 8 3\nr 1 3 2 4\nq 4 1\nu\nq 5 5\nd 0 0\nr 5\n";
-    assert_text(&rt, Shortest, FIVE, questions, wanted);
+    assert_text(&rt, Shortest, FIVE, PAIRS, ROUTES);
 }
 
 #[test]

@@ -1,9 +1,12 @@
 //! The words of a command line, over files and streams in memory.
+mod watched;
+
 use crate::texts::joined;
 use batch_run::{Settings, fault_of_run};
-use program::{Job, Places, Wanted, algebra_of, read_job, run_words};
-use road_text::{Buffered, Plain, ReadFailed};
+use program::{Job, Places, Wanted, Watching, algebra_of, read_job, run_words};
+use road_text::{Buffered, Plain, ReadFailed, WriteFault};
 use std::alloc::{AllocError, Global};
+use std::io;
 use std::process::Abort;
 use std::sync::Wait;
 use std::thread::Threads;
@@ -18,6 +21,15 @@ fn words_of(rt: &(impl Abort + AllocGlobal), line: &str) -> Vec<String> {
     words
 }
 
+/// What is to be seen of a run, in words behind others.
+fn seen_told(alloc: Global, watching: &Watching<'_>) -> Result<String, AllocError> {
+    let shown = if watching.progress { " shown" } else { "" };
+    match watching.accounts {
+        Some(path) => format!(in alloc; " to {path}{shown}"),
+        None => String::from_str(alloc, shown),
+    }
+}
+
 /// What a job is, in words.
 fn job_told(alloc: Global, job: &Job<'_>) -> Result<String, AllocError> {
     match job {
@@ -25,14 +37,20 @@ fn job_told(alloc: Global, job: &Job<'_>) -> Result<String, AllocError> {
             graph,
             questions,
             wanted,
+            watching,
         } => {
+            let seen = seen_told(alloc, watching)?;
             format!(in alloc;
-                "solve {graph} {questions} {} {:?}",
+                "solve {graph} {questions} {} {:?}{seen}",
                 wanted.algebra, wanted.limit
             )
         }
-        Job::Bundle { wanted } => {
-            format!(in alloc; "bundle {} {:?}", wanted.algebra, wanted.limit)
+        Job::Bundle { wanted, watching } => {
+            let seen = seen_told(alloc, watching)?;
+            format!(in alloc; "bundle {} {:?}{seen}", wanted.algebra, wanted.limit)
+        }
+        Job::Serve { graph, wanted } => {
+            format!(in alloc; "serve {graph} {} {:?}", wanted.algebra, wanted.limit)
         }
         Job::Check {
             graph,
@@ -84,6 +102,18 @@ fn command_lines(rt: HostRuntime) {
         ("diffuse bundle --limit", "wrong"),
         ("diffuse bundle --algebra fast", "wrong"),
         ("diffuse bundle --algebra own", "wrong"),
+        ("diffuse bundle --progress", "bundle shortest None shown"),
+        (
+            "diffuse solve --accounts=a g q --progress",
+            "solve g q shortest None to a shown",
+        ),
+        (
+            "diffuse bundle --accounts /dev/stderr",
+            "bundle shortest None to /dev/stderr",
+        ),
+        ("diffuse solve g q --accounts", "wrong"),
+        ("diffuse serve g --progress", "wrong"),
+        ("diffuse serve g --accounts a", "wrong"),
         ("diffuse bundle g", "wrong"),
         ("diffuse solve g", "wrong"),
         ("diffuse solve g q more", "wrong"),
@@ -95,6 +125,15 @@ fn command_lines(rt: HostRuntime) {
         ("diffuse check g q a --algebra hops", "wrong"),
         ("diffuse solve - q", "solve - q shortest None"),
         ("diffuse check g q ./-", "check g q ./- None"),
+        ("diffuse serve g", "serve g shortest None"),
+        (
+            "diffuse serve g --algebra within --limit 3 --plain",
+            "serve g within Some(3)",
+        ),
+        ("diffuse serve -", "serve - shortest None"),
+        ("diffuse serve", "wrong"),
+        ("diffuse serve g q", "wrong"),
+        ("diffuse serve g --width 0", "wrong"),
         ("diffuse faults", "faults []"),
         ("diffuse faults 13", "faults [13]"),
         ("diffuse faults 42 1 42", "faults [42, 1, 42]"),
@@ -131,7 +170,7 @@ fn settings_told(alloc: Global, settings: &Settings) -> Result<String, AllocErro
 /// How a bundle is run, as a command line says, in words; or `wrong`.
 fn bundle_told(alloc: Global, words: &[String]) -> Result<String, AllocError> {
     match read_job(alloc, words) {
-        Ok(Some(Job::Bundle { wanted })) => settings_told(alloc, &wanted.settings),
+        Ok(Some(Job::Bundle { wanted, .. })) => settings_told(alloc, &wanted.settings),
         _ => String::from_str(alloc, "wrong"),
     }
 }
@@ -363,6 +402,8 @@ impl<'a> Places for Shelf<'a> {
 
     type Given = Plain<&'a [u8]>;
 
+    type Sink = Plain<io::Sink>;
+
     fn open(&mut self, path: &str) -> Result<Plain<&'static [u8]>, ReadFailed> {
         for (name, text) in FILES {
             if *name == path {
@@ -370,6 +411,13 @@ impl<'a> Places for Shelf<'a> {
             }
         }
         Err(ReadFailed)
+    }
+
+    fn make(&mut self, path: &str) -> Result<Plain<io::Sink>, WriteFault> {
+        if path == "none" {
+            return Err(WriteFault);
+        }
+        Ok(Plain::new(io::sink()))
     }
 
     fn given(&self) -> Plain<&'a [u8]> {
@@ -418,6 +466,57 @@ fn assert_command(
 fn commands_and_statuses(rt: HostRuntime) {
     for &(command, out, errors, status) in COMMANDS {
         assert_command(&rt, command, (out, errors, status));
+    }
+}
+
+#[test]
+fn services_and_statuses(rt: HostRuntime) {
+    let taken = "error: standard input has the requests; give a graph by its file\n";
+    let twice = joined(&rt, &[FROM_ONE, FROM_ONE]);
+    let answered = joined(&rt, &[SHORTEST, SHORTEST]);
+    let cut = joined(&rt, &["s 1\n", FROM_ONE, "p aux sp p2p 2\nq 1 4\n"]);
+    let reported = joined(&rt, &["f 10 1\n", SHORTEST, "f 19 6\n"]);
+    for &(line, given, out, errors, status) in &[
+        ("diffuse serve g", twice.as_str(), answered.as_str(), "", 0),
+        (
+            "diffuse serve --plain g",
+            cut.as_str(),
+            reported.as_str(),
+            "",
+            0,
+        ),
+        ("diffuse serve g --algebra hops", FROM_ONE, HOPS, "", 0),
+        (
+            "diffuse serve g --turns 0",
+            FROM_ONE,
+            "p ans ss 1 shortest\nf 40 0\n",
+            "",
+            0,
+        ),
+        (
+            "diffuse serve ./-",
+            FROM_ONE,
+            "",
+            "diffuse: fault 12 graph line 1\n",
+            3,
+        ),
+        (
+            "diffuse serve none",
+            FROM_ONE,
+            "",
+            "diffuse: fault 1 graph\n",
+            3,
+        ),
+        (
+            "diffuse serve none --limit 5",
+            FROM_ONE,
+            "",
+            "diffuse: fault 43\n",
+            2,
+        ),
+        ("diffuse serve -", FIVE, "", taken, 2),
+    ] {
+        assert_run(&rt, line, given, (out, errors, status));
     }
 }
 
@@ -580,11 +679,16 @@ fn help_and_usage(rt: HostRuntime) {
         ("diffuse solve --help", 0),
         ("diffuse solve -h", 0),
         ("diffuse bundle --help", 0),
+        ("diffuse serve --help", 0),
+        ("diffuse serve -h", 0),
+        ("diffuse help serve", 0),
         ("diffuse check --help", 0),
         ("diffuse faults --help", 0),
         ("diffuse faults", 0),
         ("diffuse faults 4", 2),
         ("diffuse solve - -", 2),
+        ("diffuse serve -", 2),
+        ("diffuse solve g q --plain --accounts a", 2),
         ("diffuse", 2),
         ("diffuse solve g", 2),
         ("diffuse bundle --algebra own", 2),

@@ -7,9 +7,13 @@ use Rattle.road_text.specs.declared.ends.WriteFault.{WriteFault}
 use Rattle.road_text.specs.Written.{Left, Fell, Wrote}
 use Rattle.program.specs.Reports.{IsReported}
 
+-- all of the text was written
+pub left_appends : (old new : Option (List ℕ)) (b a : ℕ) (text : List ℕ) → Left old new b a text [] → Appends old new text
+left_appends old new b a text was = subst (Appends old new) (sym (was.text_is ∙ append-nil was.front)) was.bytes
+
 -- all of the text was written, and it stays
 pub told_whole : (old mid new : Option (List ℕ)) (b a : ℕ) (text : List ℕ) → Left old mid b a text [] → Keeps mid new → Appends old new text
-told_whole old mid new b a text was keeps = Appends-kept old mid new text (subst (Appends old mid) (sym (was.text_is ∙ append-nil was.front)) was.bytes) keeps
+told_whole old mid new b a text was keeps = Appends-kept old mid new text (left_appends old mid b a text was) keeps
 
 -- what was written of a text was the whole, or a front
 pub wrote_reported : (old new : Option (List ℕ)) (b a : ℕ) (given text : List ℕ) → given ≡ text → (r : Result (Unit {0}) WriteFault) → Wrote old new b a given r → IsReported old new b a text

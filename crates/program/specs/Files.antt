@@ -9,7 +9,11 @@ use Rattle.program.specs.declared.opened.Opened.{Opened}
 use Rattle.program.specs.Reports.{IsUsage, ReportsFault}
 use Rattle.batch_run.specs.Runs.{Input, Output}
 use Rattle.program.specs.Opened.{IsGivenOnce, IsNamed, given_name}
-use Rattle.program.specs.Runs.{Solves, Bundles}
+use Rattle.batch_run.specs.Ran.{IsBundleOf, IsPairOf}
+use Rattle.program.specs.declared.options.Watching.{Watching}
+use Rattle.program.specs.Runs.{Solves, Bundles, RanBundleUnder, RanPairUnder, Serves}
+use Rattle.program.specs.Watching.{EndsWatched}
+use Rattle.program.specs.Seen.{Makes, Sees}
 use Rattle.program.specs.Judgements.{Checks}
 
 -- what a place tells of trying to open the file of a name: from which state it leads to which
@@ -48,33 +52,73 @@ pub record NamesGivenTwice {P W E : Type 0} (names : List (List ℕ)) (places pl
   pub unopened : places_after ≡ places
   pub usage : IsUsage out out_after errors errors_after result
 
+-- inputs that were opened are answered: plainly, or before a watcher that writes to a file of accounts and shows progress
+abbrev pub SolvesInputs : (S : Type 0) → {P G Q W E : Type 0} → Makes P → Chosen → Settings → Watching → P → P → Input G → Input G → Input Q → Input Q → Output W → Output W → Output E → Output E → ℕ → Type 0
+SolvesInputs S makes chosen settings watching places places_after first first_after second second_after out out_after errors errors_after result =
+    Sees S makes watching places places_after
+    (Solves chosen settings first first_after second second_after out out_after errors errors_after result)
+    ((first_after ≡ first) × (second_after ≡ second) × (out_after ≡ out))
+    (λ accounts accounts_after. EndsWatched chosen settings watching.progress (IsPairOf first.left second.left)
+    (λ outcome. RanPairUnder chosen settings first first_after second second_after out out_after outcome)
+    accounts accounts_after errors errors_after result)
+    errors errors_after result
+
+-- a bundle is answered in the same two ways
+abbrev pub BundlesInput : (S : Type 0) → {P B W E : Type 0} → Makes P → Chosen → Settings → Watching → P → P → Input B → Input B → Output W → Output W → Output E → Output E → ℕ → Type 0
+BundlesInput S makes chosen settings watching places places_after text text_after out out_after errors errors_after result =
+    Sees S makes watching places places_after
+    (Bundles chosen settings text text_after out out_after errors errors_after result)
+    ((text_after ≡ text) × (out_after ≡ out))
+    (λ accounts accounts_after. EndsWatched chosen settings watching.progress (IsBundleOf text.left)
+    (λ outcome. RanBundleUnder chosen settings text text_after out out_after outcome)
+    accounts accounts_after errors errors_after result)
+    errors errors_after result
+
 -- both inputs were opened, the graph first, before one of them was read; each is the one that its name says; then the questions were answered
-pub record SolvesOpened (F I : Type 0) {P W E : Type 0} (opens : Opens P) (chosen : Chosen) (settings : Settings) (graph questions : List ℕ) (places places_after : P) (out out_after : Output W) (errors errors_after : Output E) (result : ℕ) : Type 0 where
-  pub order : OpensEach opens (graph ∷ questions ∷ []) places places_after
+pub record SolvesOpened (F I S : Type 0) {P W E : Type 0} (opens : Opens P) (makes : Makes P) (chosen : Chosen) (settings : Settings) (watching : Watching) (graph questions : List ℕ) (places places_after : P) (out out_after : Output W) (errors errors_after : Output E) (result : ℕ) : Type 0 where
+  pub opened : P
+  pub order : OpensEach opens (graph ∷ questions ∷ []) places opened
   pub first : Input (Opened F I)
   pub first_after : Input (Opened F I)
   pub second : Input (Opened F I)
   pub second_after : Input (Opened F I)
   pub named : IsNamed graph first.state × IsNamed questions second.state
   pub unread : (first.asked ≡ 0) × (second.asked ≡ 0)
-  pub solves : Solves chosen settings first first_after second second_after out out_after errors errors_after result
+  pub solves : SolvesInputs S makes chosen settings watching opened places_after first first_after second second_after out out_after errors errors_after result
 
 -- inputs are opened in the order of their names, before one is read; then the questions of the second are answered over the graph of the first. Standard input serves for one of them
-abbrev pub SolvesFiles : (F I : Type 0) → {P W E : Type 0} → Opens P → Chosen → Settings → List ℕ → List ℕ → P → P → Output W → Output W → Output E → Output E → ℕ → Type 0
-SolvesFiles F I opens chosen settings graph questions places places_after out out_after errors errors_after result =
+abbrev pub SolvesFiles : (F I S : Type 0) → {P W E : Type 0} → Opens P → Makes P → Chosen → Settings → Watching → List ℕ → List ℕ → P → P → Output W → Output W → Output E → Output E → ℕ → Type 0
+SolvesFiles F I S opens makes chosen settings watching graph questions places places_after out out_after errors errors_after result =
     NamesGivenTwice (graph ∷ questions ∷ []) places places_after out out_after errors errors_after result
     ⊎ (IsGivenOnce (graph ∷ questions ∷ [])
     × (CannotOpen opens [] graph Graph places places_after out out_after errors errors_after result
     ⊎ (CannotOpen opens (graph ∷ []) questions Questions places places_after out out_after errors errors_after result
-    ⊎ SolvesOpened F I opens chosen settings graph questions places places_after out out_after errors errors_after result)))
+    ⊎ SolvesOpened F I S opens makes chosen settings watching graph questions places places_after out out_after errors errors_after result)))
 
--- no file is opened; what is read is the standard input, from its beginning, and its questions are answered with these settings
-pub record BundlesGiven (F : Type 0) {P W E : Type 0} (chosen : Chosen) (settings : Settings) (places places_after : P) (out out_after : Output W) (errors errors_after : Output E) (result : ℕ) : Type 0 where
-  pub unopened : places_after ≡ places
+-- no file is opened to be read; what is read is the standard input, from its beginning, and its questions are answered with these settings
+pub record BundlesGiven (F S : Type 0) {P W E : Type 0} (makes : Makes P) (chosen : Chosen) (settings : Settings) (watching : Watching) (places places_after : P) (out out_after : Output W) (errors errors_after : Output E) (result : ℕ) : Type 0 where
   pub text : Input F
   pub text_after : Input F
   pub unread : text.asked ≡ 0
-  pub bundles : Bundles chosen settings text text_after out out_after errors errors_after result
+  pub bundles : BundlesInput S makes chosen settings watching places places_after text text_after out out_after errors errors_after result
+
+-- the graph's file was opened, and then its questions are asked on standard input, of which nothing was read; the requests are replied to under this algebra with these settings
+pub record ServesOpened (F I : Type 0) {P W E : Type 0} (opens : Opens P) (chosen : Chosen) (settings : Settings) (graph : List ℕ) (places places_after : P) (out out_after : Output W) (errors errors_after : Output E) (result : ℕ) : Type 0 where
+  pub named : graph ≢ given_name
+  pub opened : opens places graph places_after
+  pub roads : Input F
+  pub roads_after : Input F
+  pub requests : Input I
+  pub requests_after : Input I
+  pub unread : (roads.asked ≡ 0) × (requests.asked ≡ 0)
+  pub serves : Serves chosen settings roads roads_after requests requests_after out out_after errors errors_after result
+
+-- the file of a graph is opened, and then the requests of standard input are replied to. Standard input serves for the requests, so the graph cannot be there
+abbrev pub ServesFile : (F I : Type 0) → {P W E : Type 0} → Opens P → Chosen → Settings → List ℕ → P → P → Output W → Output W → Output E → Output E → ℕ → Type 0
+ServesFile F I opens chosen settings graph places places_after out out_after errors errors_after result =
+    ((graph ≡ given_name) × (places_after ≡ places) × IsUsage out out_after errors errors_after result)
+    ⊎ (CannotOpen opens [] graph Graph places places_after out out_after errors errors_after result
+    ⊎ ServesOpened F I opens chosen settings graph places places_after out out_after errors errors_after result)
 
 -- all three inputs were opened, in order, before one of them was read; each is the one that its name says; then the answers were judged
 pub record ChecksOpened (F I : Type 0) {P W E : Type 0} (opens : Opens P) (given : Option ℕ) (graph questions answers : List ℕ) (places places_after : P) (out out_after : Output W) (errors errors_after : Output E) (result : ℕ) : Type 0 where

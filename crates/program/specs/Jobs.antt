@@ -6,15 +6,15 @@ use Rattle.path_algebra.specs.declared.name.AlgebraName.{AlgebraName}
 use Rattle.path_algebra.specs.Names.{name_of_text}
 use Rattle.batch_run.specs.declared.faults.RunFault.{RunFault}
 use Rattle.program.specs.declared.chosen.Chosen.{Chosen}
-use Rattle.program.specs.declared.options.Wanted.{Wanted}
 use Rattle.program.specs.declared.options.Job.{Job}
-use Rattle.program.specs.declared.options.Job.TheVariants.{Solve, Bundle, Check, Faults}
+use Rattle.program.specs.declared.options.Job.TheVariants.{Solve, Bundle, Serve, Check, Faults}
 use Rattle.program.specs.declared.faults.FaultRow.{FaultRow}
 use Rattle.program.specs.Choices.{CannotBe, limit_of, name_of}
 use Rattle.program.specs.Reports.{EndsAs, IsUsage, Reaches, ReportsFault, run_fault}
 use Rattle.program.specs.Explained.{Explains, IsFaultTable}
 use Rattle.batch_run.specs.Runs.{Output}
-use Rattle.program.specs.Files.{Opens, SolvesFiles, BundlesGiven, ChecksFiles}
+use Rattle.program.specs.Seen.{Counts, Makes}
+use Rattle.program.specs.Files.{Opens, SolvesFiles, BundlesGiven, ServesFile, ChecksFiles}
 
 -- the algebra of this name with this limit
 abbrev pub IsChosen : Option AlgebraName → Option ℕ → Chosen → Type 0
@@ -32,19 +32,27 @@ Chooses name limit Done places places_after out out_after errors errors_after re
     ((chosen : Chosen) × IsChosen name limit chosen × Done chosen)
     ⊎ (CannotBe name limit × IsRefused (run_fault 43) places places_after out out_after errors errors_after result)
 
--- a job over files of this type and a standard input of that
-abbrev pub DoesJob : (F I : Type 0) → {P W E : Type 0} → Opens P → Job → P → P → Output W → Output W → Output E → Output E → ℕ → Type 0
-DoesJob F I opens (Solve graph questions wanted) places places_after out out_after errors errors_after result =
-    Chooses (name_of_text wanted.algebra.now) wanted.limit
-    (λ chosen. SolvesFiles F I opens chosen wanted.settings graph.now questions.now places places_after out out_after errors errors_after result)
+-- a job over files of this type, a standard input of that, and files of a third that are made
+abbrev pub DoesJob : (F I S : Type 0) → {P W E : Type 0} → Opens P → Makes P → Job → P → P → Output W → Output W → Output E → Output E → ℕ → Type 0
+DoesJob F I S opens makes (Solve graph questions wanted watching) places places_after out out_after errors errors_after result =
+    Counts watching wanted.settings
+    (Chooses (name_of_text wanted.algebra.now) wanted.limit
+    (λ chosen. SolvesFiles F I S opens makes chosen wanted.settings watching graph.now questions.now places places_after out out_after errors errors_after result)
+    places places_after out out_after errors errors_after result)
     places places_after out out_after errors errors_after result
-DoesJob F I opens (Bundle wanted) places places_after out out_after errors errors_after result =
-    Chooses (name_of_text wanted.algebra.now) wanted.limit
-    (λ chosen. BundlesGiven I chosen wanted.settings places places_after out out_after errors errors_after result)
+DoesJob F I S opens makes (Bundle wanted watching) places places_after out out_after errors errors_after result =
+    Counts watching wanted.settings
+    (Chooses (name_of_text wanted.algebra.now) wanted.limit
+    (λ chosen. BundlesGiven I S makes chosen wanted.settings watching places places_after out out_after errors errors_after result)
+    places places_after out out_after errors errors_after result)
     places places_after out out_after errors errors_after result
-DoesJob F I opens (Check graph questions answers limit) places places_after out out_after errors errors_after result =
+DoesJob F I S opens makes (Serve graph wanted) places places_after out out_after errors errors_after result =
+    Chooses (name_of_text wanted.algebra.now) wanted.limit
+    (λ chosen. ServesFile F I opens chosen wanted.settings graph.now places places_after out out_after errors errors_after result)
+    places places_after out out_after errors errors_after result
+DoesJob F I S opens makes (Check graph questions answers limit) places places_after out out_after errors errors_after result =
     ChecksFiles F I opens limit graph.now questions.now answers.now places places_after out out_after errors errors_after result
-DoesJob F I opens (Faults numbers) places places_after out out_after errors errors_after result =
+DoesJob F I S opens makes (Faults numbers) places places_after out out_after errors errors_after result =
     (places_after ≡ places) × ((table : List FaultRow) × IsFaultTable table × Explains table numbers.items out out_after errors errors_after result)
 
 -- some text reached the output, with status 0; or it could not be written, which is reported as fault 42
@@ -66,8 +74,8 @@ IsSaid kind out out_after errors errors_after result =
     ⊎ ((out_after ≡ out) × ReportsFault (run_fault 3) errors.written errors_after.written errors.failures errors_after.failures result))
 
 -- a job was done; or the words are none, no file was opened, and this was said of them, or nothing at all, with status 2
-abbrev pub DoesWords : (F I : Type 0) → {P W E : Type 0} → Opens P → P → P → Output W → Output W → Output E → Output E → ℕ → Type 0
-DoesWords F I opens places places_after out out_after errors errors_after result =
-    ((job : Job) × DoesJob F I opens job places places_after out out_after errors errors_after result)
+abbrev pub DoesWords : (F I S : Type 0) → {P W E : Type 0} → Opens P → Makes P → P → P → Output W → Output W → Output E → Output E → ℕ → Type 0
+DoesWords F I S opens makes places places_after out out_after errors errors_after result =
+    ((job : Job) × DoesJob F I S opens makes job places places_after out out_after errors errors_after result)
     ⊎ ((places_after ≡ places) × (((kind : ErrorKind) × IsSaid kind out out_after errors errors_after result)
     ⊎ ((out_after ≡ out) × (errors_after ≡ errors) × (result ≡ 2))))

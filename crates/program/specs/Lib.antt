@@ -7,4 +7,8 @@ pub mod Judgements
 pub mod Opened
 pub mod Files
 pub mod Explained
+pub mod Accounts
+pub mod Progress
+pub mod Watching
+pub mod Seen
 pub mod Jobs

@@ -3,13 +3,14 @@ use Rattle.std.specs.Prelude.{◌≡◌, ◌≢◌, ℕ, Bool, true, Result, IfE
 use Rattle.batch_run.specs.declared.faults.RunFault.{RunFault}
 use Rattle.batch_run.specs.declared.settings.Settings.{Settings}
 use Rattle.batch_run.specs.Runs.{Input, Output, RanPair, RanBundle}
+use Rattle.service.specs.Served.{RanService}
 use Rattle.program.specs.declared.chosen.Chosen.{Chosen}
 use Rattle.program.specs.Reports.{EndsAs}
 use Rattle.program.specs.Under.{Under}
 
 -- the gate of the program is always open: whichever worker asks before whichever turn, its answer is true
 abbrev pub is_open : ℕ → ℕ → Bool → Type 0
-is_open worker turn answer = Unit {0} → answer ≡ true
+is_open worker turn answer = answer ≡ true
 
 -- the questions of one input were answered over the graph of another, or this fault stopped it
 pub record RanPairUnder {G Q W : Type 0} (chosen : Chosen) (settings : Settings) (graph graph_after : Input G) (questions questions_after : Input Q) (out out_after : Output W) (outcome : Result (Unit {0}) RunFault) : Type 0 where
@@ -25,6 +26,11 @@ pub record RanBundleUnder {B W : Type 0} (chosen : Chosen) (settings : Settings)
   -- and no gate stopped it
   pub ungated : IfErr outcome (λ f. f.number ≢ 41)
 
+-- the requests of one input were replied to over the graph of another, under the algebra that was chosen, or this fault stopped it
+abbrev pub RanServiceUnder : {G Q W : Type 0} → Chosen → Settings → Input G → Input G → Input Q → Input Q → Output W → Output W → Result (Unit {0}) RunFault → Type 0
+RanServiceUnder chosen settings graph graph_after requests requests_after out out_after outcome =
+    Under chosen (λ V A. RanService A settings is_open graph graph_after requests requests_after out out_after outcome)
+
 -- a command that answers a pair of inputs: what it leaves, and how it ends
 pub record Solves {G Q W E : Type 0} (chosen : Chosen) (settings : Settings) (graph graph_after : Input G) (questions questions_after : Input Q) (out out_after : Output W) (errors errors_after : Output E) (result : ℕ) : Type 0 where
   pub outcome : Result (Unit {0}) RunFault
@@ -35,4 +41,10 @@ pub record Solves {G Q W E : Type 0} (chosen : Chosen) (settings : Settings) (gr
 pub record Bundles {B W E : Type 0} (chosen : Chosen) (settings : Settings) (input input_after : Input B) (out out_after : Output W) (errors errors_after : Output E) (result : ℕ) : Type 0 where
   pub outcome : Result (Unit {0}) RunFault
   pub ran : RanBundleUnder chosen settings input input_after out out_after outcome
+  pub ends : EndsAs (λ _. 0) errors.written errors_after.written errors.failures errors_after.failures outcome result
+
+-- a command that replies to requests: what it leaves, and how it ends
+pub record Serves {G Q W E : Type 0} (chosen : Chosen) (settings : Settings) (graph graph_after : Input G) (requests requests_after : Input Q) (out out_after : Output W) (errors errors_after : Output E) (result : ℕ) : Type 0 where
+  pub outcome : Result (Unit {0}) RunFault
+  pub ran : RanServiceUnder chosen settings graph graph_after requests requests_after out out_after outcome
   pub ends : EndsAs (λ _. 0) errors.written errors_after.written errors.failures errors_after.failures outcome result

@@ -15,6 +15,22 @@ pub enum Chosen {
     Within(Within),
 }
 
+impl Chosen {
+    /// The name of the algebra.
+    pub fn name(self) -> AlgebraName
+        ensures { result ≡ name_of self }
+    {
+        match self {
+            Chosen::Shortest => AlgebraName::Shortest,
+            Chosen::Widest => AlgebraName::Widest,
+            Chosen::Reach => AlgebraName::Reach,
+            Chosen::Hops => AlgebraName::Hops,
+            Chosen::Reliable => AlgebraName::Reliable,
+            Chosen::Within(_) => AlgebraName::Within,
+        }
+    }
+}
+
 /// What an expression gives with the algebra that was chosen. A choice becomes a type here alone.
 macro_rules! with_algebra {
     ($chosen:expr, |$algebra:ident| $value:expr) => {

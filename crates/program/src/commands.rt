@@ -1,12 +1,12 @@
 //! The commands over streams: each gives the exit status, and reports a fault in one line on the error output.
 ghost use Rattle.batch_run.specs.Runs.{input, output};
-ghost use Rattle.program.specs.Runs.{Solves, Bundles};
+ghost use Rattle.program.specs.Runs.{Solves, Bundles, Serves};
 ghost use Rattle.program.specs.Judgements.{Checks};
 
 use crate::chosen::Chosen;
 use crate::judging::judge_and_tell;
 use crate::reports::end_with;
-use crate::running::{run_chosen_bundle, run_chosen_pair};
+use crate::running::{run_chosen_bundle, run_chosen_pair, run_chosen_service};
 use crate::verdicts::end_check;
 use batch_run::Settings;
 use road_text::{RoadRead, RoadWrite};
@@ -51,6 +51,28 @@ pub fn bundle<R: Threads + Wait + Sync, B: RoadRead, W: RoadWrite, E: RoadWrite>
         (output E.written E.held E.failures errors.old) (output E.written E.held E.failures errors.new) result }
 {
     let outcome = run_chosen_bundle(rt, alloc, chosen, text, out, settings);
+    end_with(errors, outcome)
+}
+
+/// Replies to the requests of one input over the graph of another, to each as soon as it is whole, and gives the exit
+/// status.
+pub fn serve<R: Threads + Wait + Sync, G: RoadRead, Q: RoadRead, W: RoadWrite, E: RoadWrite>(
+    rt: &R,
+    alloc: Global,
+    chosen: Chosen,
+    settings: &Settings,
+    graph_in: &mut G,
+    requests_in: &mut Q,
+    out: &mut W,
+    errors: &mut E,
+) -> u8
+    ensures { Serves chosen settings.now
+        (input G.left G.failures G.asked graph_in.old) (input G.left G.failures G.asked graph_in.new)
+        (input Q.left Q.failures Q.asked requests_in.old) (input Q.left Q.failures Q.asked requests_in.new)
+        (output W.written W.held W.failures out.old) (output W.written W.held W.failures out.new)
+        (output E.written E.held E.failures errors.old) (output E.written E.held E.failures errors.new) result }
+{
+    let outcome = run_chosen_service(rt, alloc, chosen, graph_in, requests_in, out, settings);
     end_with(errors, outcome)
 }
 

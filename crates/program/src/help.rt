@@ -108,10 +108,44 @@ pub const BUDGET: &str = "Messages and signals of a shard in a turn, 1 to 65536"
 /// How long a worker goes on.
 pub const TURNS: &str = "Turns of a worker in a group, then fault 40";
 
+/// Where the counts of a run go.
+pub const ACCOUNTS: &str = concat!(
+    "Write what each diffusion sent, delivered, signalled and accepted to\n",
+    "FILE (/dev/stderr serves). Not with `--plain`, which counts nothing",
+);
+
+/// Whether a run says how far it is.
+pub const PROGRESS: &str = concat!(
+    "Say on standard error how many questions are answered, each time\n",
+    "another hundredth is",
+);
+
 /// What a bundle is.
 pub const BUNDLE: &str = concat!(
     "Answers a graph and its questions from standard input: the lines of a .gr\n",
     "file, and then those of a .ss, .p2p or .ms file",
+);
+
+/// What a service is.
+pub const SERVE: &str = concat!(
+    "Replies to the requests of standard input over a graph, to each as soon as it\n",
+    "is whole. A request is what a .ss, .p2p or .ms file has, and its reply is what\n",
+    "`solve` writes for it; then the next may follow",
+);
+
+/// What the graph of a service is.
+pub const SERVED_GRAPH: &str = concat!(
+    "A road graph, a .gr file of the 9th DIMACS Implementation Challenge.\n",
+    "It is read once, before the first request; `-` does not serve for it",
+);
+
+/// How replies are read, and what the exit statuses mean.
+pub const REPLIES: &str = with_statuses!(
+    "A reply is the text of the answers. A line `f NUMBER LINE` ends a reply that\n"
+    "has a fault: a request with a fault has no answer, and after 3 or 40 the\n"
+    "answers before this line are right. LINE counts all lines of standard input.\n"
+    "The service goes on with the next line `p`.\n"
+    "\n"
 );
 
 /// How answers are read, and what the exit statuses mean.

@@ -2,14 +2,16 @@
 //! the words, before one is read.
 ghost use Rattle.std.specs.Prelude.{◌≡◌, ◌≢◌, ◌↔◌, [], ◌∷◌, IfOk, IfErr, IsTrue, OnOk, map};
 ghost use Rattle.batch_run.specs.Runs.{output};
-ghost use Rattle.program.specs.Files.{IsMissing, OpensEach, OpensInput, SolvesFiles, BundlesGiven, ChecksFiles, missing};
+ghost use Rattle.program.specs.Files.{IsMissing, OpensEach, OpensInput, SolvesFiles, BundlesGiven, ServesFile, ChecksFiles, missing};
 ghost use Rattle.program.specs.Opened.{IsGivenOnce, IsNamed, given_name, told_of};
 
 use crate::chosen::Chosen;
-use crate::commands::{bundle, check, solve};
+use crate::commands::{check, serve};
 use crate::opened::Opened;
+use crate::options::Watching;
 use crate::places::Places;
 use crate::reports::{complain, report};
+use crate::seen::{bundle_input, solve_inputs};
 use batch_run::{File, RunFault, Settings};
 use road_text::{READ_FAILED, RoadWrite};
 use std::alloc::Global;
@@ -22,11 +24,25 @@ const GIVEN: &str = "-";
 /// What is said if standard input is named more than once.
 const GIVEN_TWICE: &[u8] = b"error: `-` is standard input, and serves for one of the files\n";
 
+/// What is said if a service is to read its graph from standard input.
+const GIVEN_TAKEN: &[u8] = b"error: standard input has the requests; give a graph by its file\n";
+
 /// Whether standard input is named at most once.
 fn is_given_once(names: &[&str]) -> bool
     ensures { IsTrue result ↔ IsGivenOnce (map (λ name. name.now) names.now) }
 {
     names.iter().filter(|name| GIVEN == **name).count() <= 1
+}
+
+/// The fault of a file that can't be opened.
+fn missing(file: File) -> RunFault
+    ensures { result ≡ missing file }
+{
+    RunFault {
+        number: READ_FAILED,
+        file,
+        line: 0,
+    }
 }
 
 /// Opens the input of a name, and reports which could not be opened.
@@ -45,11 +61,7 @@ fn open<P: Places>(
     }
     match places.open(path) {
         Ok(opened) => Ok(Opened::File(opened)),
-        Err(_) => Err(RunFault {
-            number: READ_FAILED,
-            file,
-            line: 0,
-        }),
+        Err(_) => Err(missing(file)),
     }
 }
 
@@ -76,11 +88,12 @@ pub fn solve_files<R: Threads + Wait + Sync, P: Places, W: RoadWrite, E: RoadWri
     places: &mut P,
     chosen: Chosen,
     settings: &Settings,
+    watching: &Watching<'_>,
     names: (&str, &str),
     out: &mut W,
     errors: &mut E,
 ) -> u8
-    ensures { SolvesFiles P.File P.Given P.opens chosen settings.now names.entry.0.now names.entry.1.now places.old places.new
+    ensures { SolvesFiles P.File P.Given P.Sink P.opens P.makes chosen settings.now watching.now names.entry.0.now names.entry.1.now places.old places.new
         (output W.written W.held W.failures out.old) (output W.written W.held W.failures out.new)
         (output E.written E.held E.failures errors.old) (output E.written E.held E.failures errors.new) result }
 {
@@ -91,11 +104,13 @@ pub fn solve_files<R: Threads + Wait + Sync, P: Places, W: RoadWrite, E: RoadWri
         Ok(files) => files,
         Err(fault) => return report(errors, fault),
     };
-    solve(
+    solve_inputs(
         rt,
         alloc,
+        places,
         chosen,
         settings,
+        watching,
         &mut graph,
         &mut questions,
         out,
@@ -107,18 +122,56 @@ pub fn solve_files<R: Threads + Wait + Sync, P: Places, W: RoadWrite, E: RoadWri
 pub fn bundle_given<R: Threads + Wait + Sync, P: Places, W: RoadWrite, E: RoadWrite>(
     rt: &R,
     alloc: Global,
-    places: &P,
+    places: &mut P,
     chosen: Chosen,
     settings: &Settings,
+    watching: &Watching<'_>,
     out: &mut W,
     errors: &mut E,
 ) -> u8
-    ensures { BundlesGiven P.Given chosen settings.now places.now places.now
+    ensures { BundlesGiven P.Given P.Sink P.makes chosen settings.now watching.now places.old places.new
         (output W.written W.held W.failures out.old) (output W.written W.held W.failures out.new)
         (output E.written E.held E.failures errors.old) (output E.written E.held E.failures errors.new) result }
 {
     let mut text = places.given();
-    bundle(rt, alloc, chosen, settings, &mut text, out, errors)
+    bundle_input(
+        rt, alloc, places, chosen, settings, watching, &mut text, out, errors,
+    )
+}
+
+/// Replies to the requests of standard input over the graph of a file, and gives the exit status. The file is opened before
+/// standard input is read.
+pub fn serve_given<R: Threads + Wait + Sync, P: Places, W: RoadWrite, E: RoadWrite>(
+    rt: &R,
+    alloc: Global,
+    places: &mut P,
+    chosen: Chosen,
+    settings: &Settings,
+    graph: &str,
+    out: &mut W,
+    errors: &mut E,
+) -> u8
+    ensures { ServesFile P.File P.Given P.opens chosen settings.now graph.now places.old places.new
+        (output W.written W.held W.failures out.old) (output W.written W.held W.failures out.new)
+        (output E.written E.held E.failures errors.old) (output E.written E.held E.failures errors.new) result }
+{
+    if graph == GIVEN {
+        return complain(errors, GIVEN_TAKEN);
+    }
+    let Ok(mut roads) = places.open(graph) else {
+        return report(errors, missing(File::Graph));
+    };
+    let mut requests = places.given();
+    serve(
+        rt,
+        alloc,
+        chosen,
+        settings,
+        &mut roads,
+        &mut requests,
+        out,
+        errors,
+    )
 }
 
 /// Judges the answers of one input to the questions of another over the graph of a third, and gives the exit status.

@@ -1,19 +1,8 @@
 //! What the command line says.
-use crate::help::{
-    ALGEBRA, ANSWERS, BUDGET, BUNDLE, EXPLAINED, GRAPH, JUDGED, LIMIT, LIMIT_OF_ANSWERS, NAMES,
-    NUMBERS, PLAIN, PURPOSE, QUESTIONS, SHARDS, STATUSES, TURNS, VERDICT, VERDICTS, VERSION, WIDTH,
-    WORKERS,
-};
+use crate::arguments::command;
 use batch_run::Settings;
-use clap::builder::ValueParser;
-use clap::{Arg, ArgAction, ArgMatches, Command, Error};
+use clap::{ArgMatches, Error};
 use std::alloc::{AllocError, Global};
-
-/// The names of the algebras that the program has.
-const ALGEBRAS: &[&str] = &["shortest", "widest", "reach", "hops", "reliable", "within"];
-
-/// The greatest limit of `within`.
-const MAX_LIMIT: u64 = 9_223_372_036_854_775_808;
 
 /// What is best, and how it is found, as the command line has it.
 #[derive(Clone, Copy, Debug)]
@@ -26,6 +15,15 @@ pub struct Wanted<'a> {
     pub settings: Settings,
 }
 
+/// What is to be seen of a run beside its answers.
+#[derive(Clone, Copy, Debug)]
+pub struct Watching<'a> {
+    /// The name of the file for accounts, if they are wanted.
+    pub accounts: Option<&'a str>,
+    /// Whether progress is shown.
+    pub progress: bool,
+}
+
 /// What is to be done.
 #[derive(Drop)]
 pub enum Job<'a> {
@@ -34,9 +32,16 @@ pub enum Job<'a> {
         graph: &'a str,
         questions: &'a str,
         wanted: Wanted<'a>,
+        watching: Watching<'a>,
     },
     /// Answer the bundle on standard input.
     Bundle {
+        wanted: Wanted<'a>,
+        watching: Watching<'a>,
+    },
+    /// Reply to the requests of standard input over the graph of a file.
+    Serve {
+        graph: &'a str,
         wanted: Wanted<'a>,
     },
     /// Judge the answers of one input to the questions of another over the graph of a third, by their names.
@@ -50,143 +55,6 @@ pub enum Job<'a> {
     Faults {
         numbers: Vec<u64>,
     },
-}
-
-fn algebra<'a>(alloc: Global) -> Arg<'a> {
-    Arg::new(alloc, "algebra")
-        .long("algebra")
-        .value_name("NAME")
-        .action(ArgAction::Set)
-        .value_parser(ALGEBRAS)
-        .default_value("shortest")
-        .hide_possible_values(true)
-        .next_line_help(true)
-        .help("What is best; the names are below")
-        .long_help(ALGEBRA)
-}
-
-/// A whole number in a range, with a default.
-fn number<'a>(
-    alloc: Global,
-    name: &'a str,
-    least: u64,
-    greatest: u64,
-    default: &'a str,
-    help: &'a str,
-) -> Arg<'a> {
-    Arg::new(alloc, name)
-        .long(name)
-        .value_name("N")
-        .action(ArgAction::Set)
-        .value_parser(ValueParser::unsigned(least, greatest))
-        .default_value(default)
-        .next_line_help(true)
-        .help(help)
-}
-
-/// How the questions are run: what is best, and by which solver.
-fn settings<'a>(alloc: Global, command: Command<'a>) -> Result<Command<'a>, AllocError> {
-    command
-        .arg(
-            Arg::new(alloc, "plain")
-                .long("plain")
-                .action(ArgAction::SetTrue)
-                .next_line_help(true)
-                .help(PLAIN),
-        )?
-        .arg(algebra(alloc))?
-        .arg(limit(alloc, LIMIT))?
-        .arg(number(alloc, "width", 1, 64, "1", WIDTH))?
-        .arg(number(alloc, "workers", 1, 64, "4", WORKERS))?
-        .arg(number(alloc, "shards", 1, 64, "4", SHARDS))?
-        .arg(number(alloc, "budget", 1, 65_536, "1024", BUDGET))?
-        .arg(number(alloc, "turns", 0, 1_000_000_000_000, "1000000000000", TURNS))
-}
-
-fn limit<'a>(alloc: Global, help: &'a str) -> Arg<'a> {
-    Arg::new(alloc, "limit")
-        .long("limit")
-        .value_name("L")
-        .action(ArgAction::Set)
-        .value_parser(ValueParser::unsigned(0, MAX_LIMIT))
-        .next_line_help(true)
-        .help("The greatest sum of weights, for `within` alone")
-        .long_help(help)
-}
-
-fn file<'a>(alloc: Global, name: &'a str, help: &'a str, long_help: &'a str) -> Arg<'a> {
-    Arg::new(alloc, name)
-        .required(true)
-        .action(ArgAction::Set)
-        .next_line_help(true)
-        .help(help)
-        .long_help(long_help)
-}
-
-fn solve<'a>(alloc: Global) -> Result<Command<'a>, AllocError> {
-    let command = Command::new(alloc, "solve")
-        .about("Answers the questions of a file over the graph of another")
-        .after_help(NAMES)
-        .after_long_help(ANSWERS)
-        .arg(file(
-            alloc,
-            "GRAPH",
-            "A road graph, a .gr file; `-` is standard input",
-            GRAPH,
-        ))?
-        .arg(file(alloc, "QUESTIONS", "A .ss, .p2p or .ms file", QUESTIONS))?;
-    settings(alloc, command)
-}
-
-fn bundle<'a>(alloc: Global) -> Result<Command<'a>, AllocError> {
-    let command = Command::new(alloc, "bundle")
-        .about("Answers a graph and its questions from standard input")
-        .long_about(BUNDLE)
-        .after_help(NAMES)
-        .after_long_help(ANSWERS);
-    settings(alloc, command)
-}
-
-fn check<'a>(alloc: Global) -> Result<Command<'a>, AllocError> {
-    Command::new(alloc, "check")
-        .about("Judges answers, whoever made them, and tells the first wrong place")
-        .after_help(VERDICT)
-        .after_long_help(VERDICTS)
-        .arg(file(
-            alloc,
-            "GRAPH",
-            "A road graph, a .gr file; `-` is standard input",
-            GRAPH,
-        ))?
-        .arg(file(alloc, "QUESTIONS", "A .ss, .p2p or .ms file", QUESTIONS))?
-        .arg(file(alloc, "ANSWERS", "The answers to judge", JUDGED))?
-        .arg(limit(alloc, LIMIT_OF_ANSWERS))
-}
-
-fn faults<'a>(alloc: Global) -> Result<Command<'a>, AllocError> {
-    Command::new(alloc, "faults")
-        .about("Explains faults: what each means, an example, and the usual cause")
-        .after_help(EXPLAINED)
-        .arg(
-            Arg::new(alloc, "N")
-                .num_args(0..)
-                .action(ArgAction::Append)
-                .value_parser(ValueParser::unsigned(0, u64::MAX))
-                .next_line_help(true)
-                .help(NUMBERS),
-        )
-}
-
-fn command<'a>(alloc: Global) -> Result<Command<'a>, AllocError> {
-    Command::new(alloc, "diffuse")
-        .version(VERSION)
-        .about(PURPOSE)
-        .after_help(STATUSES)
-        .subcommand_required(true)
-        .subcommand(solve(alloc)?)?
-        .subcommand(bundle(alloc)?)?
-        .subcommand(check(alloc)?)?
-        .subcommand(faults(alloc)?)
 }
 
 fn text_of<'a>(matches: &ArgMatches<'a>, name: &str) -> &'a str {
@@ -214,6 +82,13 @@ fn wanted_of<'a>(matches: &ArgMatches<'a>) -> Wanted<'a> {
         algebra: text_of(matches, "algebra"),
         limit: matches.get_one::<u64>("limit"),
         settings: settings_of(matches),
+    }
+}
+
+fn watching_of<'a>(matches: &ArgMatches<'a>) -> Watching<'a> {
+    Watching {
+        accounts: matches.get_str("accounts"),
+        progress: matches.get_flag("progress"),
     }
 }
 
@@ -247,8 +122,14 @@ pub fn read_job<'a>(alloc: Global, words: &'a [String]) -> Result<Option<Job<'a>
             graph: text_of(found, "GRAPH"),
             questions: text_of(found, "QUESTIONS"),
             wanted: wanted_of(found),
+            watching: watching_of(found),
         }),
         Some(("bundle", found)) => Some(Job::Bundle {
+            wanted: wanted_of(found),
+            watching: watching_of(found),
+        }),
+        Some(("serve", found)) => Some(Job::Serve {
+            graph: text_of(found, "GRAPH"),
             wanted: wanted_of(found),
         }),
         Some(("check", found)) => Some(Job::Check {

@@ -1,10 +1,11 @@
-//! Runs a batch under the algebra that was chosen.
+//! Runs a batch or a service under the algebra that was chosen.
 ghost use Rattle.batch_run.specs.Runs.{input, output};
-ghost use Rattle.program.specs.Runs.{RanPairUnder, RanBundleUnder};
+ghost use Rattle.program.specs.Runs.{RanPairUnder, RanBundleUnder, RanServiceUnder};
 
 use crate::chosen::{Chosen, with_algebra};
 use batch_run::{OpenGate, RunFault, Settings, run_bundle, run_pair};
 use road_text::{RoadRead, RoadWrite};
+use service::run_service;
 use std::alloc::Global;
 use std::sync::Wait;
 use std::thread::Threads;
@@ -48,5 +49,27 @@ pub(crate) fn run_chosen_bundle<B: RoadRead, W: RoadWrite, R: Threads + Wait + S
     with_algebra!(
         chosen,
         |algebra| run_bundle(rt, alloc, algebra, text, out, settings, &gate)
+    )
+}
+
+/// Replies to the requests of one input over the graph of another, under the chosen algebra.
+pub(crate) fn run_chosen_service<G: RoadRead, Q: RoadRead, W: RoadWrite, R: Threads + Wait + Sync>(
+    rt: &R,
+    alloc: Global,
+    chosen: Chosen,
+    graph: &mut G,
+    requests: &mut Q,
+    out: &mut W,
+    settings: &Settings,
+) -> Result<(), RunFault>
+    ensures { RanServiceUnder chosen settings.now
+        (input G.left G.failures G.asked graph.old) (input G.left G.failures G.asked graph.new)
+        (input Q.left Q.failures Q.asked requests.old) (input Q.left Q.failures Q.asked requests.new)
+        (output W.written W.held W.failures out.old) (output W.written W.held W.failures out.new) result }
+{
+    let gate = OpenGate;
+    with_algebra!(
+        chosen,
+        |algebra| run_service(rt, alloc, algebra, graph, requests, out, settings, &gate)
     )
 }

@@ -1,23 +1,18 @@
 //! Does what the words of a command line say.
-ghost use Rattle.std.specs.Prelude.{◌≡◌, [], Some, IfOk, IfErr, OnErr};
 ghost use Rattle.clap.specs.Values.{kind_of};
-ghost use Rattle.path_algebra.specs.Names.{name_of_text};
-ghost use Rattle.program.specs.Choices.{CannotBe, limit_of, name_of};
-ghost use Rattle.program.specs.Files.{BundlesGiven, SolvesFiles};
-ghost use Rattle.program.specs.Jobs.{Chooses, DoesJob, DoesWords, IsSaid};
+ghost use Rattle.program.specs.Jobs.{DoesJob, DoesWords, IsSaid};
 ghost use Rattle.batch_run.specs.Runs.{output};
 
-use crate::chosen::{Chosen, choose};
 use crate::fault_table::all_faults;
 use crate::faults::explain;
-use crate::jobs::{bundle_given, check_files, solve_files};
-use crate::options::{Job, Wanted, read_job};
+use crate::jobs::check_files;
+use crate::options::{Job, read_job};
 use crate::places::{HostPlaces, Places};
 use crate::reports::{USAGE, complain, end_with, report, show};
-use batch_run::{File, RunFault, SETTINGS, fault_of_run};
+use crate::wanted::{bundle_wanted, serve_wanted, solve_wanted};
+use batch_run::fault_of_run;
 use clap::Error;
 use clap::error::ErrorKind;
-use path_algebra::AlgebraName;
 use road_text::{Buffered, MEMORY, Plain, RoadWrite};
 use std::alloc::{AllocError, Global};
 use std::io::Write;
@@ -54,86 +49,6 @@ fn usage<W: RoadWrite, E: RoadWrite>(
     end_with(errors, outcome)
 }
 
-/// The algebra that is wanted: a fault where its limit is missing, or does not belong.
-pub fn algebra_of(wanted: &Wanted<'_>) -> Result<Chosen, RunFault>
-    ensures name { IfOk result (λ chosen. name_of_text wanted.now.algebra.now ≡ Some (name_of chosen)) }
-    ensures limit { IfOk result (λ chosen. limit_of chosen ≡ wanted.now.limit) }
-    ensures fault { IfErr result (λ f. f ≡ record { number = 43; file = File.NoFile; line = 0 }) }
-    ensures refuses { OnErr result (CannotBe (name_of_text wanted.now.algebra.now) wanted.now.limit) }
-{
-    match AlgebraName::from_text(wanted.algebra.as_bytes()) {
-        Some(name) => match choose(name, wanted.limit) {
-            Some(chosen) => Ok(chosen),
-            None => Err(fault_of_run(SETTINGS)),
-        },
-        None => Err(fault_of_run(SETTINGS)),
-    }
-}
-
-/// Solves as it is wanted, and gives the exit status.
-fn solve_wanted<R: AllocGlobal + Threads + Wait + Sync, P: Places, W: RoadWrite, E: RoadWrite>(
-    rt: &R,
-    places: &mut P,
-    names: (&str, &str),
-    wanted: &Wanted<'_>,
-    out: &mut W,
-    errors: &mut E,
-) -> u8
-    ensures { Chooses (name_of_text wanted.now.algebra.now) wanted.now.limit
-        (λ chosen. SolvesFiles P.File P.Given P.opens chosen wanted.now.settings names.entry.0.now names.entry.1.now places.old places.new
-        (output W.written W.held W.failures out.old) (output W.written W.held W.failures out.new)
-        (output E.written E.held E.failures errors.old) (output E.written E.held E.failures errors.new) result)
-        places.old places.new
-        (output W.written W.held W.failures out.old) (output W.written W.held W.failures out.new)
-        (output E.written E.held E.failures errors.old) (output E.written E.held E.failures errors.new) result }
-{
-    let chosen = match algebra_of(wanted) {
-        Ok(chosen) => chosen,
-        Err(fault) => return report(errors, fault),
-    };
-    solve_files(
-        rt,
-        rt.alloc(),
-        places,
-        chosen,
-        &wanted.settings,
-        names,
-        out,
-        errors,
-    )
-}
-
-/// Answers the bundle on standard input as it is wanted, and gives the exit status.
-fn bundle_wanted<R: AllocGlobal + Threads + Wait + Sync, P: Places, W: RoadWrite, E: RoadWrite>(
-    rt: &R,
-    places: &P,
-    wanted: &Wanted<'_>,
-    out: &mut W,
-    errors: &mut E,
-) -> u8
-    ensures { Chooses (name_of_text wanted.now.algebra.now) wanted.now.limit
-        (λ chosen. BundlesGiven P.Given chosen wanted.now.settings places.now places.now
-        (output W.written W.held W.failures out.old) (output W.written W.held W.failures out.new)
-        (output E.written E.held E.failures errors.old) (output E.written E.held E.failures errors.new) result)
-        places.now places.now
-        (output W.written W.held W.failures out.old) (output W.written W.held W.failures out.new)
-        (output E.written E.held E.failures errors.old) (output E.written E.held E.failures errors.new) result }
-{
-    let chosen = match algebra_of(wanted) {
-        Ok(chosen) => chosen,
-        Err(fault) => return report(errors, fault),
-    };
-    bundle_given(
-        rt,
-        rt.alloc(),
-        places,
-        chosen,
-        &wanted.settings,
-        out,
-        errors,
-    )
-}
-
 /// Does a job, and gives the exit status.
 fn perform<R: AllocGlobal + Threads + Wait + Sync, P: Places, W: RoadWrite, E: RoadWrite>(
     rt: &R,
@@ -142,7 +57,7 @@ fn perform<R: AllocGlobal + Threads + Wait + Sync, P: Places, W: RoadWrite, E: R
     out: &mut W,
     errors: &mut E,
 ) -> u8
-    ensures { DoesJob P.File P.Given P.opens job.now places.old places.new
+    ensures { DoesJob P.File P.Given P.Sink P.opens P.makes job.now places.old places.new
         (output W.written W.held W.failures out.old) (output W.written W.held W.failures out.new)
         (output E.written E.held E.failures errors.old) (output E.written E.held E.failures errors.new) result }
 {
@@ -151,8 +66,15 @@ fn perform<R: AllocGlobal + Threads + Wait + Sync, P: Places, W: RoadWrite, E: R
             graph,
             questions,
             wanted,
-        } => solve_wanted(rt, places, (*graph, *questions), wanted, out, errors),
-        Job::Bundle { wanted } => bundle_wanted(rt, places, wanted, out, errors),
+            watching,
+        } => {
+            let names = (*graph, *questions);
+            solve_wanted(rt, places, names, wanted, watching, out, errors)
+        }
+        Job::Bundle { wanted, watching } => {
+            bundle_wanted(rt, places, wanted, watching, out, errors)
+        }
+        Job::Serve { graph, wanted } => serve_wanted(rt, places, graph, wanted, out, errors),
         Job::Check {
             graph,
             questions,
@@ -176,7 +98,7 @@ pub fn run_words<R: AllocGlobal + Threads + Wait + Sync, P: Places, W: RoadWrite
     out: &mut W,
     errors: &mut E,
 ) -> u8
-    ensures { DoesWords P.File P.Given P.opens places.old places.new
+    ensures { DoesWords P.File P.Given P.Sink P.opens P.makes places.old places.new
         (output W.written W.held W.failures out.old) (output W.written W.held W.failures out.new)
         (output E.written E.held E.failures errors.old) (output E.written E.held E.failures errors.new) result }
 {

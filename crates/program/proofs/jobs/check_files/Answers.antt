@@ -1,5 +1,4 @@
-use Rattle.std.proofs.Common.{inl, inr, refl, subst, ◌∷◌, [], rules}
-use Rattle.batch_run.specs.declared.faults.RunFault.{RunFault}
+use Rattle.std.proofs.Common.{inl, inr, ◌∷◌, [], rules}
 use Rattle.program.specs.Opened.{IsGivenOnce}
 use Rattle.program.proofs.Opening.{missing_pair, missing_third, opens_third}
 use Rattle.program.proofs.jobs.check_files.Goals as goal

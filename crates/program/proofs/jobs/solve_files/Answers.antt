@@ -14,6 +14,7 @@ returns g c =
     inr (
       once,
       inr (inr (record {
+        opened = _;
         order = c.in-Ok.ensures.order;
         first = _;
         first_after = _;
@@ -21,6 +22,6 @@ returns g c =
         second_after = _;
         named = c.in-Ok.ensures.named;
         unread = c.in-Ok.ensures.unread;
-        solves = c.solve.ensures;
+        solves = c.solve_inputs.ensures;
       })),
     )

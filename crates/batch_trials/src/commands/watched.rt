@@ -1,0 +1,258 @@
+//! Accounts and progress of a batch.
+use super::{FIVE, FROM_ONE, SHORTEST, assert_run};
+use crate::texts::joined;
+use batch_run::Settings;
+use program::{Chosen, bundle_watched, solve_watched};
+use road_text::Plain;
+use std::process::Abort;
+use std::sync::Wait;
+use std::thread::Threads;
+use text_trials::Sheet;
+
+/// Questions from three of the vertices.
+const FROM_THREE: &str = "p aux sp ss 3\ns 1\ns 4\ns 5\n";
+
+/// What they count over `FIVE` under `reach`: each arc that leads on once, and the message that opens.
+const COUNTS: &str = "p tally 3 reach\nt 1 1 7 7 7 7\nt 2 4 2 2 2 2\nt 3 5 8 8 8 8\n";
+
+/// More room than accounts here need.
+const ROOM: usize = 1_000;
+
+/// What a command said before a watcher.
+#[derive(Drop)]
+struct Said {
+    accounts: Vec<u8>,
+    out: Vec<u8>,
+    errors: Vec<u8>,
+    status: u8,
+}
+
+/// Answers questions over `FIVE` with so much room for accounts.
+fn solved(
+    rt: &(impl Abort + AllocGlobal + Threads + Wait + Sync),
+    chosen: Chosen,
+    settings: &Settings,
+    questions: &str,
+    room: usize,
+    progress: bool,
+) -> Said {
+    let mut accounts = Some(Sheet::new(rt.alloc(), room, true));
+    let mut out = Plain::new(Vec::new(rt.alloc()));
+    let mut errors = Plain::new(Vec::new(rt.alloc()));
+    let status = solve_watched(
+        rt,
+        rt.alloc(),
+        chosen,
+        settings,
+        &mut Plain::new(FIVE.as_bytes()),
+        &mut Plain::new(questions.as_bytes()),
+        &mut out,
+        &mut accounts,
+        progress,
+        &mut errors,
+    );
+    let accounts = match accounts {
+        Some(sheet) => sheet.bytes,
+        None => Vec::new(rt.alloc()),
+    };
+    Said {
+        accounts,
+        out: out.into_inner(),
+        errors: errors.into_inner(),
+        status,
+    }
+}
+
+/// Asserts what is counted of questions over `FIVE`.
+fn assert_counts(
+    rt: &(impl Abort + AllocGlobal + Threads + Wait + Sync),
+    chosen: Chosen,
+    settings: &Settings,
+    questions: &str,
+    wanted: &str,
+) {
+    let said = solved(rt, chosen, settings, questions, ROOM, false);
+    assert_eq!(rt; said.accounts.as_slice(), wanted.as_bytes());
+    assert!(rt; said.errors.is_empty());
+    assert_eq!(rt; said.status, 0);
+}
+
+#[test]
+fn accounts_of_five_vertices(rt: HostRuntime) {
+    let usual = Settings::default();
+    let alone = Settings {
+        workers: 1,
+        shards: 1,
+        budget: 1,
+        ..usual
+    };
+    for &(chosen, settings, questions, wanted) in &[
+        (Chosen::Reach, usual, FROM_THREE, COUNTS),
+        (
+            Chosen::Reach,
+            usual,
+            "p aux sp p2p 2\nq 4 1\nq 1 4\n",
+            "p tally 2 reach\nt 1 4 2 2 2 2\nt 2 1 7 7 7 7\n",
+        ),
+        (
+            Chosen::Reach,
+            Settings { width: 3, ..usual },
+            "p aux sp ms 2\nm 5 4\nm 1\n",
+            "p tally 3 reach\nt 1 5 8 8 8 8\nt 1 4 2 2 2 2\nt 2 1 7 7 7 7\n",
+        ),
+        (Chosen::Reach, usual, "p aux sp ss 0\n", "p tally 0 reach\n"),
+        (
+            Chosen::Shortest,
+            alone,
+            FROM_ONE,
+            "p tally 1 shortest\nt 1 1 9 9 9 9\n",
+        ),
+    ] {
+        assert_counts(&rt, chosen, &settings, questions, wanted);
+    }
+}
+
+#[test]
+fn accounts_of_a_bundle(rt: HostRuntime) {
+    let text = joined(&rt, &[FIVE, FROM_THREE]);
+    let mut accounts = Some(Sheet::new(rt.alloc(), ROOM, true));
+    let mut errors = Plain::new(Vec::new(rt.alloc()));
+    let status = bundle_watched(
+        &rt,
+        rt.alloc(),
+        Chosen::Reach,
+        &Settings::default(),
+        &mut Plain::new(text.as_str().as_bytes()),
+        &mut Plain::new(Vec::new(rt.alloc())),
+        &mut accounts,
+        false,
+        &mut errors,
+    );
+    assert_eq!(rt; status, 0);
+    let sheet = accounts.expect(&rt, "accounts");
+    assert_eq!(rt; sheet.bytes.as_slice(), COUNTS.as_bytes());
+}
+
+/// Asserts that accounts without room for all of them are a prefix, that this is reported, and that all is answered.
+fn assert_cut(
+    rt: &(impl Abort + AllocGlobal + Threads + Wait + Sync),
+    room: usize,
+    answers: &[u8],
+) {
+    let usual = Settings::default();
+    let said = solved(rt, Chosen::Reach, &usual, FROM_THREE, room, true);
+    assert_eq!(rt; said.accounts.as_slice(), &COUNTS.as_bytes()[..room]);
+    let shown =
+        "diffuse: 1 of 3 questions answered\ndiffuse: 2 of 3 questions answered\ndiffuse: 3 of 3 questions answered\ndiffuse: fault 42\n";
+    assert_eq!(rt; said.errors.as_slice(), shown.as_bytes());
+    assert_eq!(rt; said.out.as_slice(), answers);
+    assert_eq!(rt; said.status, 5);
+}
+
+#[test]
+fn accounts_that_are_cut_short(rt: HostRuntime) {
+    let usual = Settings::default();
+    let whole = solved(&rt, Chosen::Reach, &usual, FROM_THREE, ROOM, false);
+    for room in 0..COUNTS.len() {
+        assert_cut(&rt, room, whole.out.as_slice());
+    }
+}
+
+/// So many questions, all from the last vertex to itself.
+fn questions_to_the_last(rt: &(impl Abort + AllocGlobal), count: usize) -> String {
+    let mut text = format!(in rt.alloc(); "p aux sp p2p {count}\n").expect(rt, "memory");
+    for _ in 0..count {
+        text.push_str("q 5 5\n").expect(rt, "memory");
+    }
+    text
+}
+
+/// The lines of a whole progress over so many questions, where another hundredth is answered with each of these numbers.
+fn lines_of_progress(rt: &(impl Abort + AllocGlobal), count: usize) -> String {
+    let mut text = String::new(rt.alloc());
+    for hundredth in 1..=100usize {
+        let answered = hundredth.wrapping_mul(count).div_ceil(100);
+        let line = format!(in rt.alloc(); "diffuse: {answered} of {count} questions answered\n");
+        text.push_str(line.expect(rt, "memory").as_str())
+            .expect(rt, "memory");
+    }
+    text
+}
+
+#[test]
+fn progress_of_many_questions(rt: HostRuntime) {
+    let plain = Settings {
+        plain: true,
+        ..Settings::default()
+    };
+    for count in [100, 250, 1_000] {
+        let questions = questions_to_the_last(&rt, count);
+        let said = solved(&rt, Chosen::Reach, &plain, questions.as_str(), ROOM, true);
+        let wanted = lines_of_progress(&rt, count);
+        assert_eq!(rt; said.errors.as_slice(), wanted.as_str().as_bytes());
+        assert_eq!(rt; said.status, 0);
+    }
+}
+
+#[test]
+fn words_that_ask_to_see_a_run(rt: HostRuntime) {
+    let uncounted = "error: `--plain` counts nothing, so it does not go with `--accounts`\n";
+    let shown = "diffuse: 1 of 1 questions answered\n";
+    for &(line, out, errors, status) in &[
+        ("diffuse solve g q --progress", SHORTEST, shown, 0),
+        ("diffuse solve g q --plain --progress", SHORTEST, shown, 0),
+        ("diffuse solve g q --accounts a", SHORTEST, "", 0),
+        (
+            "diffuse solve g q --accounts a --progress",
+            SHORTEST,
+            shown,
+            0,
+        ),
+        (
+            "diffuse solve g q --accounts none",
+            "",
+            "diffuse: fault 42\n",
+            5,
+        ),
+        (
+            "diffuse solve q g --accounts none",
+            "",
+            "diffuse: fault 42\n",
+            5,
+        ),
+        (
+            "diffuse solve none q --accounts none",
+            "",
+            "diffuse: fault 1 graph\n",
+            3,
+        ),
+        (
+            "diffuse solve q g --accounts a --progress",
+            "",
+            "diffuse: fault 12 graph line 1\n",
+            3,
+        ),
+        (
+            "diffuse solve g q --limit 5 --accounts none",
+            "",
+            "diffuse: fault 43\n",
+            2,
+        ),
+        ("diffuse solve g q --accounts a --plain", "", uncounted, 2),
+        ("diffuse bundle --plain --accounts a", "", uncounted, 2),
+        (
+            "diffuse bundle --accounts none",
+            "",
+            "diffuse: fault 42\n",
+            5,
+        ),
+        (
+            "diffuse solve g q --turns 0 --accounts a --progress",
+            "p ans ss 1 shortest\n",
+            "diffuse: fault 40\n",
+            6,
+        ),
+    ] {
+        assert_run(&rt, line, "", (out, errors, status));
+    }
+}

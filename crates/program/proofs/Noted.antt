@@ -1,0 +1,96 @@
+-- What a watcher leaves that was told all reports of a batch.
+use Rattle.std.specs.Prelude.{◌≡◌, ◌≢◌, ℕ, List, [], ◌∷◌, Bool, true, false, Option, Result, Ok, Err, OnOk, if◌then◌else◌}
+use Rattle.std.proofs.Common.{inl, inr, refl, sym, subst, ◌∙◌}
+use Rattle.std.proofs.lemmas.Bool.Decides.{eqb_tells}
+use Rattle.road_graph.specs.Roads.{Roads}
+use Rattle.road_files.specs.Asked.{Asked}
+use Rattle.path_algebra.specs.Algebra.{Algebra}
+use Rattle.batch_run.specs.declared.faults.File.{File}
+use Rattle.batch_run.specs.declared.faults.File.TheVariants.{Graph, Questions, Bundle, Answers, NoFile}
+use Rattle.batch_run.specs.declared.faults.RunFault.{RunFault}
+use Rattle.batch_run.specs.declared.settings.Settings.{Settings}
+use Rattle.batch_run.specs.declared.watcher.Report.{Report}
+use Rattle.batch_run.specs.Reports.{IsTold, ReportedFirst, Watched}
+use Rattle.program.specs.declared.chosen.Chosen.{Chosen}
+use Rattle.program.specs.declared.chosen.Chosen.TheVariants as chosen
+use Rattle.program.specs.declared.watch.Watch.{Watch}
+use Rattle.program.specs.Accounts.{accounts_text}
+use Rattle.program.specs.Progress.{all_after, progress_text, shown_at}
+use Rattle.program.specs.Watching.{AreReportsOf, AreReportsUnder, HasAccounts, IsAdded, Notes, WatchedUnder}
+use Rattle.program.proofs.Adding.{added_none, added_then, has_none, has_then, shown_then}
+
+-- some reports were told, which on success are those of the batch
+abbrev pub WasTold : {S : Type 0} → (S → Report → S → Type 0) → S → S → Result (Unit {0}) RunFault → (List Report → Type 0) → Type 0
+WasTold may_become old new outcome Are = (reports : List Report) × IsTold may_become old reports new × OnOk outcome (Are reports)
+
+module _ {V S : Type 0} (A : Algebra V) (plain : Bool) (IsRead : Roads → Asked → Type 0) (may_become : S → Report → S → Type 0) (old new : S) where
+  none_told : new ≡ old → (reports : List Report) × IsTold may_become old reports new × Unit {0}
+  none_told e = ([], e, tt)
+
+  some_told : (number : ℕ) → (number ≢ 43 → ReportedFirst A plain IsRead may_become old new) → (number ≡ 43 → new ≡ old) → (reports : List Report) × IsTold may_become old reports new × Unit {0}
+  some_told number first untouched = elim (eqb_tells number 43) [
+    | inl is ↦ none_told (untouched is.1)
+    | inr not ↦ let told = (first not.1).reported.reported in (told.reports, told.told, tt)
+  ]
+
+  fault_told : (file : File) (number : ℕ) → (file ≡ NoFile → number ≢ 43 → ReportedFirst A plain IsRead may_become old new) → (file ≢ NoFile → new ≡ old) → (number ≡ 43 → new ≡ old) → (reports : List Report) × IsTold may_become old reports new × Unit {0}
+  fault_told NoFile number first nothing untouched = some_told number (first refl) untouched
+  fault_told Graph number first nothing untouched = none_told (nothing (λ e. cc))
+  fault_told Questions number first nothing untouched = none_told (nothing (λ e. cc))
+  fault_told Bundle number first nothing untouched = none_told (nothing (λ e. cc))
+  fault_told Answers number first nothing untouched = none_told (nothing (λ e. cc))
+
+-- a batch before a watcher tells it some reports
+pub watched_told : {V S : Type 0} (A : Algebra V) (how : Settings) (IsRead : Roads → Asked → Type 0) (may_become : S → Report → S → Type 0) (old new : S) (outcome : Result (Unit {0}) RunFault) →
+    Watched A how IsRead may_become old new outcome → WasTold may_become old new outcome (AreReportsOf A how.plain IsRead)
+watched_told A how IsRead may_become old new (Ok u) w =
+    (w.all.reported.reports, w.all.reported.told, record { graph = w.all.graph; asked = w.all.asked; read = w.all.read; are_due = w.all.reported.are_due })
+watched_told A how IsRead may_become old new (Err f) w = fault_told A how.plain IsRead may_become old new f.file f.number w.first w.nothing w.untouched
+
+-- the same under the algebra that was chosen
+pub under_told : {S : Type 0} (c : Chosen) (how : Settings) (IsRead : Roads → Asked → Type 0) (may_become : S → Report → S → Type 0) (old new : S) (outcome : Result (Unit {0}) RunFault) →
+    WatchedUnder c how IsRead may_become old new outcome → WasTold may_become old new outcome (AreReportsUnder c how.plain IsRead)
+under_told chosen.Shortest how IsRead may_become old new outcome w = watched_told _ how IsRead may_become old new outcome w
+under_told chosen.Widest how IsRead may_become old new outcome w = watched_told _ how IsRead may_become old new outcome w
+under_told chosen.Reach how IsRead may_become old new outcome w = watched_told _ how IsRead may_become old new outcome w
+under_told chosen.Hops how IsRead may_become old new outcome w = watched_told _ how IsRead may_become old new outcome w
+under_told chosen.Reliable how IsRead may_become old new outcome w = watched_told _ how IsRead may_become old new outcome w
+under_told (chosen.Within x) how IsRead may_become old new outcome w = watched_told _ how IsRead may_become old new outcome w
+
+-- what a watcher of a command leaves that was told all these reports
+pub record Noted {A E : Type 0} (written : A → Option (List ℕ)) (failures : A → ℕ) (shown : E → Option (List ℕ)) (unshown : E → ℕ) (old : Watch A E) (reports : List Report) (new : Watch A E) : Type 0 where
+  pub same : (new.accounts.ghost_name ≡ old.accounts.ghost_name) × (new.errors.ghost_name ≡ old.errors.ghost_name)
+  pub accounts : HasAccounts written failures old.accounts.now new.accounts.now old.lost new.lost (accounts_text old.name reports)
+  pub errors : IsAdded (shown old.errors.now) (shown new.errors.now) (unshown old.errors.now) (unshown new.errors.now) (if old.progress then progress_text old.all reports else [])
+
+module _ {A E : Type 0} (written : A → Option (List ℕ)) (failures : A → ℕ) (shown : E → Option (List ℕ)) (unshown : E → ℕ) where
+  shown_none : (old : Watch A E) (progress : Bool) → IsAdded (shown old.errors.now) (shown old.errors.now) (unshown old.errors.now) (unshown old.errors.now) (if progress then [] else [])
+  shown_none old true = added_none (shown old.errors.now) (unshown old.errors.now)
+  shown_none old false = added_none (shown old.errors.now) (unshown old.errors.now)
+
+  noted_none : (old new : Watch A E) → new ≡ old → Noted written failures shown unshown old [] new
+  noted_none old new e = subst (Noted written failures shown unshown old []) (sym e) (record {
+    same = (refl, refl);
+    accounts = has_none written failures old.accounts.now old.lost;
+    errors = shown_none old old.progress;
+  })
+
+  errors_then : (old next new : Watch A E) (r : Report) (rs : List Report) → Notes written failures shown unshown old r next → Noted written failures shown unshown next rs new →
+      IsAdded (shown old.errors.now) (shown new.errors.now) (unshown old.errors.now) (unshown new.errors.now) (if old.progress then progress_text old.all (r ∷ rs) else [])
+  errors_then old next new r rs first more =
+      let Added : List ℕ → Type 0 = IsAdded (shown old.errors.now) (shown new.errors.now) (unshown old.errors.now) (unshown new.errors.now) in
+      let later : (progress : Bool) (all : ℕ) → next.progress ≡ progress → next.all ≡ all → IsAdded (shown next.errors.now) (shown new.errors.now) (unshown next.errors.now) (unshown new.errors.now) (if progress then progress_text all rs else []) =
+      λ progress all e f. subst (λ p. IsAdded (shown next.errors.now) (shown new.errors.now) (unshown next.errors.now) (unshown new.errors.now) (if p then progress_text all rs else [])) e
+      (subst (λ n. IsAdded (shown next.errors.now) (shown new.errors.now) (unshown next.errors.now) (unshown new.errors.now) (if next.progress then progress_text n rs else [])) f more.errors) in
+      subst Added (shown_then old.progress (shown_at old.all r) (progress_text (all_after old.all r) rs))
+      (added_then _ _ _ _ _ _ _ _ first.errors (later old.progress (all_after old.all r) first.progress first.all))
+
+  -- a watcher that was told reports has noted them all
+  pub noted_all : (rs : List Report) (old new : Watch A E) → IsTold (Notes written failures shown unshown) old rs new → Noted written failures shown unshown old rs new
+  noted_all [] old new e = noted_none old new e
+  noted_all (r ∷ rs) old new (next, first, rest) =
+      let more = noted_all rs next new rest in record {
+        same = (more.same.0 ∙ first.same.0, more.same.1 ∙ first.same.1);
+        accounts = has_then written failures _ _ _ _ _ _ _ _ first.accounts (subst (λ n. HasAccounts written failures next.accounts.now new.accounts.now next.lost new.lost (accounts_text n rs)) first.name more.accounts);
+        errors = errors_then old next new r rs first more;
+      }

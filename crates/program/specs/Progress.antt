@@ -1,0 +1,37 @@
+-- The lines that show how far a batch is.
+use Rattle.std.specs.Prelude.{ℕ, ◌-◌, ◌*◌, ◌/◌, List, [], ◌∷◌, ◌++◌, Bool, codes, decimal, nat_eq, nat_lt, if◌then◌else◌, ◌||◌}
+use Rattle.batch_run.specs.declared.watcher.Report.{Report}
+use Rattle.batch_run.specs.declared.watcher.Report.TheVariants.{Begun, Gathered, Answered}
+
+-- how many whole hundredths of all questions so many are
+abbrev pub hundredths : ℕ → ℕ → ℕ
+hundredths answered all = answered * 100 / all
+
+-- a line is due when all questions are answered, and when another hundredth of them is
+abbrev pub is_due : ℕ → ℕ → Bool
+is_due answered all = nat_eq answered all || nat_lt (hundredths (answered - 1) all) (hundredths answered all)
+
+-- the line that says how many questions are answered
+abbrev pub line_of_progress : ℕ → ℕ → List ℕ
+line_of_progress answered all = codes "diffuse: " ++ decimal answered ++ codes " of " ++ decimal all ++ codes " questions answered" ++ 10 ∷ []
+
+-- that line, if it is due
+abbrev pub due_line : ℕ → ℕ → List ℕ
+due_line answered all = if is_due answered all then line_of_progress answered all else []
+
+-- how many questions there are, after a report
+abbrev pub all_after : ℕ → Report → ℕ
+all_after all (Begun questions diffusions) = questions
+all_after all (Gathered question source tally) = all
+all_after all (Answered questions) = all
+
+-- what is shown at a report of a batch with so many questions
+abbrev pub shown_at : ℕ → Report → List ℕ
+shown_at all (Begun questions diffusions) = due_line 0 questions
+shown_at all (Gathered question source tally) = []
+shown_at all (Answered questions) = due_line questions all
+
+-- what is shown of all that is reported
+abbrev pub progress_text : ℕ → List Report → List ℕ
+progress_text all [] = []
+progress_text all (r ∷ rs) = shown_at all r ++ progress_text (all_after all r) rs

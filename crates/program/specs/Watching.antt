@@ -1,0 +1,101 @@
+-- What the watcher of a command leaves where it writes, and how a command ends that is watched.
+use Rattle.std.specs.Prelude.{◌≡◌, ◌⊎◌, ℕ, ◌<◌, List, [], Bool, true, false, Option, Some, None, Result, Ok, Err, OnOk, if◌then◌else◌}
+use Rattle.std.specs.Io.KnownBytes.{Appends, Keeps}
+use Rattle.std.specs.List.{AllZip}
+use Rattle.road_graph.specs.Roads.{Roads}
+use Rattle.road_files.specs.Asked.{Asked}
+use Rattle.path_algebra.specs.Algebra.{Algebra}
+use Rattle.batch_run.specs.declared.faults.RunFault.{RunFault}
+use Rattle.batch_run.specs.declared.settings.Settings.{Settings}
+use Rattle.batch_run.specs.declared.watcher.Report.{Report}
+use Rattle.batch_run.specs.Reports.{IsReportOf, batch_due, Watched}
+use Rattle.batch_run.specs.Runs.{Output}
+use Rattle.program.specs.declared.chosen.Chosen.{Chosen}
+use Rattle.program.specs.declared.watch.Watch.{Watch}
+use Rattle.program.specs.Accounts.{account_of, accounts_text}
+use Rattle.program.specs.Progress.{all_after, progress_text, shown_at}
+use Rattle.program.specs.Choices.{name_of}
+use Rattle.program.specs.Reports.{EndsAs, Reaches, run_fault}
+use Rattle.program.specs.Under.{Under}
+
+-- the text was added, and no write failed; or a write failed
+abbrev pub IsAdded : Option (List ℕ) → Option (List ℕ) → ℕ → ℕ → List ℕ → Type 0
+IsAdded old new before after text = (Appends old new text × (after ≡ before)) ⊎ (before < after)
+
+-- the text was added to accounts, if they are kept, and no write failed
+abbrev pub AreKept : {A : Type 0} → (A → Option (List ℕ)) → (A → ℕ) → Option A → Option A → List ℕ → Type 0
+AreKept written failures None new text = new ≡ None
+AreKept written failures (Some a) None text = ⊥
+AreKept written failures (Some a) (Some b) text = Appends (written a) (written b) text × (failures b ≡ failures a)
+
+-- a write to the accounts failed
+abbrev pub AreLost : {A : Type 0} → (A → ℕ) → Option A → Option A → Type 0
+AreLost failures None new = ⊥
+AreLost failures (Some a) None = ⊥
+AreLost failures (Some a) (Some b) = failures a < failures b
+
+-- a text was to be added to accounts: they have it, or they are lost, since a write failed; lost accounts stay as they are
+pub record HasAccounts {A : Type 0} (written : A → Option (List ℕ)) (failures : A → ℕ) (old new : Option A) (lost lost_after : Bool) (text : List ℕ) : Type 0 where
+  pub kept : lost_after ≡ false → (lost ≡ false) × AreKept written failures old new text
+  pub fell : lost_after ≡ true → (lost ≡ true) ⊎ AreLost failures old new
+  pub stays : lost ≡ true → (lost_after ≡ true) × (new ≡ old)
+
+-- what the watcher of a command does at a report
+pub record Notes {A E : Type 0} (written : A → Option (List ℕ)) (failures : A → ℕ) (shown : E → Option (List ℕ)) (unshown : E → ℕ) (old : Watch A E) (report : Report) (new : Watch A E) : Type 0 where
+  -- it goes on to write to the same places
+  pub same : (new.accounts.ghost_name ≡ old.accounts.ghost_name) × (new.errors.ghost_name ≡ old.errors.ghost_name)
+  -- under the same name, and shows progress as before
+  pub name : new.name ≡ old.name
+  pub progress : new.progress ≡ old.progress
+  -- it knows how many questions there are
+  pub all : new.all ≡ all_after old.all report
+  -- the accounts have what the report adds to them
+  pub accounts : HasAccounts written failures old.accounts.now new.accounts.now old.lost new.lost (account_of old.name report)
+  -- and so has the error output, if progress is shown
+  pub errors : IsAdded (shown old.errors.now) (shown new.errors.now) (unshown old.errors.now) (unshown new.errors.now) (if old.progress then shown_at old.all report else [])
+
+-- these are the reports of a batch over what was read: of each question in order, and each account is of a diffusion that has ended
+pub record AreReportsOf {V : Type 0} (A : Algebra V) (plain : Bool) (IsRead : Roads → Asked → Type 0) (reports : List Report) : Type 0 where
+  pub graph : Roads
+  pub asked : Asked
+  pub read : IsRead graph asked
+  pub are_due : AllZip (IsReportOf A graph) (batch_due plain asked.questions) reports
+
+-- the same under the algebra that was chosen
+abbrev pub AreReportsUnder : Chosen → Bool → (Roads → Asked → Type 0) → List Report → Type 0
+AreReportsUnder chosen plain IsRead reports = Under chosen (λ V A. AreReportsOf A plain IsRead reports)
+
+-- what a watcher was told of a batch under the algebra that was chosen
+abbrev pub WatchedUnder : {S : Type 0} → Chosen → Settings → (Roads → Asked → Type 0) → (S → Report → S → Type 0) → S → S → Result (Unit {0}) RunFault → Type 0
+WatchedUnder chosen settings IsRead may_become old new outcome = Under chosen (λ V A. Watched A settings IsRead may_become old new outcome)
+
+-- accounts, if they are wanted, have the text, and nothing is held back; or a write failed, and that is fault 42
+abbrev pub Account : {A : Type 0} → List ℕ → Option (Output A) → Option (Output A) → Result (Unit {0}) RunFault → Type 0
+Account text None after kept = (after ≡ None) × (kept ≡ Ok tt)
+Account text (Some a) None kept = ⊥
+Account text (Some a) (Some b) kept = Reaches text a b kept
+
+-- accounts, if they are wanted, are passed on, and have what they had; or a write failed, before or then, and that is fault 42
+abbrev pub EndsAccounts : {A : Type 0} → (A → Option (List ℕ)) → (A → List ℕ) → (A → ℕ) → Option A → Option A → Bool → Result (Unit {0}) RunFault → Type 0
+EndsAccounts written held failures None new lost result = (new ≡ None) × (result ≡ Ok tt)
+EndsAccounts written held failures (Some a) None lost result = ⊥
+EndsAccounts written held failures (Some a) (Some b) lost (Ok _) = (lost ≡ false) × Keeps (written a) (written b) × (held b ≡ []) × (failures b ≡ failures a)
+EndsAccounts written held failures (Some a) (Some b) lost (Err f) = (f ≡ run_fault 42) × (((lost ≡ true) × (b ≡ a)) ⊎ (failures a < failures b))
+
+-- a fault of the batch is that of the command; else one of the accounts is
+abbrev pub outcome_of : Result (Unit {0}) RunFault → Result (Unit {0}) RunFault → Result (Unit {0}) RunFault
+outcome_of (Ok _) kept = kept
+outcome_of (Err f) kept = Err f
+
+-- A command that answers what was read before a watcher: what answering leaves, what was reported of it, that the accounts are those of the reports, what was
+-- shown on the error output, and how the command ends, which reports a fault last.
+pub record EndsWatched {A E : Type 0} (chosen : Chosen) (settings : Settings) (progress : Bool) (IsRead : Roads → Asked → Type 0) (Ran : Result (Unit {0}) RunFault → Type 0) (accounts accounts_after : Option (Output A)) (errors errors_after : Output E) (result : ℕ) : Type 0 where
+  pub outcome : Result (Unit {0}) RunFault
+  pub ran : Ran outcome
+  pub reports : List Report
+  pub reported : OnOk outcome (AreReportsUnder chosen settings.plain IsRead reports)
+  pub kept : Result (Unit {0}) RunFault
+  pub accounted : Account (accounts_text (name_of chosen) reports) accounts accounts_after kept
+  pub watched : Output E
+  pub shown : IsAdded errors.written watched.written errors.failures watched.failures (if progress then progress_text 0 reports else [])
+  pub ends : EndsAs (λ _. 0) watched.written errors_after.written watched.failures errors_after.failures (outcome_of outcome kept) result

@@ -4,34 +4,41 @@ import os
 import statistics
 import subprocess
 
-from inputs import stop
+from inputs import ONE_SOURCE, stop
 
 PEER, BASELINE, DIFFUSING = "dimacs-solver", "baseline", "diffusing"
-ONE_SOURCE, READING = "one source", "reading alone"
-TIME, WALL, PEAK = "processor time", "wall time", "peak memory"
+TIME, WALL, PEAK, MESSAGES = "processor time", "wall time", "peak memory", "messages"
 
 
 class Case:
     """One graph with one question file, the commands that answer it, and what each took in each round."""
 
+    # Whether it is run in the first rounds alone.
+    is_long = False
+
     def __init__(self, files, kind):
         self.files, self.kind = files, kind
-        self.taken, self.noted = {}, {}
+        self.taken = {}
 
     def title(self):
         return "%s, %s" % (self.files.name, self.kind)
 
-    def commands(self, programs):
+    def commands(self, programs, folder):
         """The command of each program by its name, `diffuse` first."""
         raise NotImplementedError
 
+    def messages(self, name, noted, folder):
+        """How many messages a program handled that wrote this on standard error, if it says so."""
+        return None
+
     def run(self, programs, folder, turn):
         """One round: each program once, another one first each time; then the answers are compared."""
-        commands = list(self.commands(programs).items())
+        commands = list(self.commands(programs, folder).items())
         turn %= len(commands)
         answers = {name: os.path.join(folder, name + ".answer") for name, _ in commands}
         for name, command in commands[turn:] + commands[:turn]:
-            taken, self.noted[name] = measured(programs["measure"], command, answers[name])
+            taken, noted = measured(programs["measure"], command, answers[name])
+            taken[MESSAGES] = self.messages(name, noted, folder)
             self.taken.setdefault(name, []).append(taken)
         for name in answers:
             if name not in ("diffuse", PEER):
@@ -50,22 +57,24 @@ class Case:
 class Plain(Case):
     """The one-thread solver beside the baseline and, for one source, LEMON's program."""
 
-    def commands(self, programs):
-        questions = self.files.one_source if self.kind == ONE_SOURCE else self.files.no_question
+    def __init__(self, files, kind, is_long=False):
+        super().__init__(files, kind)
+        self.is_long = is_long
+
+    def commands(self, programs, folder):
+        questions = self.files.questions[self.kind]
+        baseline = "pairs_dijkstra" if questions.endswith(".p2p") else "heap_dijkstra"
         commands = {
             "diffuse": [programs["diffuse"], "solve", self.files.graph, questions, "--plain"],
-            BASELINE: [programs["heap_dijkstra"], self.files.graph, questions],
+            BASELINE: [programs[baseline], self.files.graph, questions],
         }
         if PEER in programs and self.kind == ONE_SOURCE and self.files.marked:
             commands[PEER] = [programs[PEER], "-q", self.files.marked]
         return commands
 
 
-class Batch(Case):
-    """Several questions of one file by the one-thread solver, beside one source of the same graph."""
-
-    FILES = {"four sources": "four_sources", "five sources": "few_sources", "five pairs": "pairs",
-             "one list of 1,024 sources": "one_list"}
+class Threaded(Case):
+    """Questions side by side by the one-thread solver, beside the plain C++ program with as many threads."""
 
     def __init__(self, files, kind, width):
         super().__init__(files, kind)
@@ -74,13 +83,33 @@ class Batch(Case):
     def title(self):
         return "%s, %s, width %d" % (self.files.name, self.kind, self.width)
 
-    def commands(self, programs):
-        questions = getattr(self.files, self.FILES[self.kind])
-        return {"diffuse": [programs["diffuse"], "solve", self.files.graph, questions, "--plain", "--width", str(self.width)]}
+    def commands(self, programs, folder):
+        graph, questions, width = self.files.graph, self.files.questions[self.kind], str(self.width)
+        return {
+            "diffuse": [programs["diffuse"], "solve", graph, questions, "--plain", "--width", width],
+            BASELINE: [programs["threads_dijkstra"], graph, questions, width],
+        }
+
+
+class Batch(Case):
+    """Several questions of one file by the one-thread solver, beside one source of the same graph."""
+
+    def __init__(self, files, kind, width):
+        super().__init__(files, kind)
+        self.width = width
+
+    def title(self):
+        return "%s, %s, width %d" % (self.files.name, self.kind, self.width)
+
+    def commands(self, programs, folder):
+        words = ["solve", self.files.graph, self.files.questions[self.kind], "--plain", "--width", str(self.width)]
+        return {"diffuse": [programs["diffuse"]] + words}
 
 
 class Engine(Case):
     """Workers beside the same rule in plain C++ with the same settings, and beside the baseline."""
+
+    is_long = True
 
     def __init__(self, files, kind, workers=1, shards=1, width=1, budget=1024):
         super().__init__(files, kind)
@@ -89,40 +118,48 @@ class Engine(Case):
     def title(self):
         return "%s, %s, %s" % (self.files.name, self.kind, ", ".join("%s %d" % it for it in self.settings.items()))
 
-    def commands(self, programs):
-        graph = self.files.graph
-        questions = self.files.one_source if self.kind == ONE_SOURCE else self.files.few_sources
+    def commands(self, programs, folder):
+        graph, questions = self.files.graph, self.files.questions[self.kind]
         settings = [word for name, number in self.settings.items() for word in ("--" + name, str(number))]
         return {
-            "diffuse": [programs["diffuse"], "solve", graph, questions] + settings,
+            "diffuse": [programs["diffuse"], "solve", graph, questions] + settings + ["--accounts", accounts_in(folder)],
             DIFFUSING: [programs["diffusing"], graph, questions] + settings[1::2],
             BASELINE: [programs["heap_dijkstra"], graph, questions],
         }
 
-    def messages(self):
-        """How many messages the plain C++ program handled in the last round: with one worker, just those of diffuse."""
-        return int(self.noted[DIFFUSING])
+    def messages(self, name, noted, folder):
+        if name == DIFFUSING:
+            return int(noted)
+        return delivered(accounts_in(folder)) if name == "diffuse" else None
+
+    def count(self, name="diffuse"):
+        """How many messages a program handled in the last round."""
+        return self.taken[name][-1][MESSAGES]
+
+    def counts_agree(self):
+        """Whether both programs handled the same number of messages, as they do with one worker."""
+        return self.settings["workers"] > 1 or self.count() == self.count(DIFFUSING)
 
 
-def messages_needed(programs, files, messages):
-    """Whether the engine handles so many messages and no fewer: with one shard and a budget of 1, a turn takes one item."""
-    words = [programs["diffuse"], "solve", files.graph, files.one_source, "--workers", "1", "--shards", "1", "--budget", "1"]
-
-    def status(turns):
-        return subprocess.run(words + ["--turns", str(turns)], stdout=subprocess.DEVNULL, stderr=subprocess.DEVNULL).returncode
-
-    return status(2 * messages) == 0 and status(2 * messages - 1) == 6
+def accounts_in(folder):
+    return os.path.join(folder, "diffuse.accounts")
 
 
-def measured(measure, command, answer):
-    """What one run took, with its output left in the file `answer`, and what it wrote on standard error."""
+def delivered(accounts):
+    """How many messages were delivered in all diffusions of a run, by its accounts."""
+    with open(accounts) as file:
+        return sum(int(line.split()[4]) for line in file if line.startswith("t "))
+
+
+def measured(measure, command, answer, text=""):
+    """What one run took on this standard input, with its output left in the file `answer`, and what it wrote on standard error."""
     if os.path.isfile(answer):
         os.remove(answer)
-    run = subprocess.run([measure, answer] + command, stdout=subprocess.PIPE, stderr=subprocess.PIPE, check=True)
-    time, wall, peak, status = run.stdout.decode().split()
+    run = subprocess.run([measure, answer] + command, input=text, stdout=subprocess.PIPE, stderr=subprocess.PIPE, text=True, check=True)
+    time, wall, peak, status = run.stdout.split()
     if status != "0":
-        stop("status %s of: %s: %s" % (status, " ".join(command), run.stderr.decode().strip()))
-    return {TIME: float(time), WALL: float(wall), PEAK: int(peak) * 1024}, run.stderr.decode().strip()
+        stop("status %s of: %s: %s" % (status, " ".join(command), run.stderr.strip()))
+    return {TIME: float(time), WALL: float(wall), PEAK: int(peak) * 1024}, run.stderr.strip()
 
 
 def check_launcher(measure):

@@ -6,30 +6,6 @@
 // that keeps old entries, and one pass over tight arcs for the least hops and the least parents.
 #include "common.hpp"
 
-#include <queue>
-
-static void settle(const Graph& graph, uint32_t source, Answer& answer) {
-    struct Entry {
-        uint64_t distance;
-        uint32_t vertex;
-        bool operator<(const Entry& other) const { return distance > other.distance; }
-    };
-    std::priority_queue<Entry> open;
-    answer.distance[source] = 0;
-    open.push({0, source});
-    while (!open.empty()) {
-        Entry next = open.top();
-        open.pop();
-        if (next.distance > answer.distance[next.vertex]) continue;
-        for (auto [head, weight] : graph.out_of(next.vertex)) {
-            uint64_t distance = next.distance + weight;
-            if (distance >= answer.distance[head]) continue;
-            answer.distance[head] = distance;
-            open.push({distance, head});
-        }
-    }
-}
-
 int main(int count, char** words) {
     if (count != 3) stop("usage: heap_dijkstra GRAPH QUESTIONS");
     Graph graph(read_graph(words[1]));

@@ -5,11 +5,16 @@ import subprocess
 import sys
 
 HERE = os.path.dirname(os.path.abspath(__file__))
-SOURCES = ["roads", "heap_dijkstra", "diffusing", "measure"]
+SOURCES = ["roads", "heap_dijkstra", "pairs_dijkstra", "threads_dijkstra", "diffusing", "measure"]
 SEED = 1
 
-# How many sources the question files have.
-FOUR, FEW, MANY = 4, 5, 1024
+# The kinds of question files: the kind that roads.cpp knows and how many questions there are; and one line of many sources.
+ONE_SOURCE, READING, ONE_LIST = "one source", "reading alone", "one list of 1,024 sources"
+FOUR_SOURCES, FIVE_SOURCES, EIGHT_SOURCES = "four sources", "five sources", "eight sources"
+FIVE_PAIRS, TWENTY_PAIRS, FORTY_PAIRS = "five pairs", "twenty pairs", "forty pairs"
+KINDS = {ONE_SOURCE: ("ss", 1), READING: ("ss", 0), FOUR_SOURCES: ("ss", 4), FIVE_SOURCES: ("ss", 5), EIGHT_SOURCES: ("ss", 8),
+         FIVE_PAIRS: ("p2p", 5), TWENTY_PAIRS: ("p2p", 20), FORTY_PAIRS: ("p2p", 40)}
+MANY = 1024
 
 
 def stop(message):
@@ -57,14 +62,13 @@ def write_lines(lines, path):
 
 
 class Files:
-    """A graph in a file, and files of questions over it."""
+    """A graph in a file, and files of questions over it by their kinds."""
 
     marked = None
 
     def at(self, stem):
-        self.graph, self.one_source, self.no_question = stem + ".gr", stem + ".one.ss", stem + ".none.ss"
-        self.four_sources, self.few_sources = stem + ".four.ss", stem + ".few.ss"
-        self.pairs, self.one_list = stem + ".p2p", stem + ".ms"
+        self.graph, self.questions = stem + ".gr", {kind: "%s.%d.%s" % (stem, count, word) for kind, (word, count) in KINDS.items()}
+        self.questions[ONE_LIST] = stem + ".ms"
 
     def warm(self):
         """Reads the graphs once, so that no round waits for the disk."""
@@ -81,22 +85,27 @@ class Roads(Files):
         self.name, self.kind = name, kind
         self.vertices, self.arcs = size
 
-    def make(self, folder, roads, for_peer):
-        """Writes the files that are not there yet; `for_peer` asks for the graph as LEMON reads it, too."""
+    def make(self, folder, roads, kind, for_peer):
+        """Writes the graph and the questions of a kind, if they are not there; `for_peer` asks for the graph as LEMON reads it, too."""
         stem = os.path.join(folder, "%d_%d%s" % (self.vertices, self.arcs, "_" + self.kind if self.kind else ""))
         self.at(stem)
-        self.marked = stem + ".marked.gr" if for_peer else None
-        kinds = [self.kind] if self.kind else []
-        self.write(self.graph, roads, ["graph", str(self.vertices), str(self.arcs), str(SEED)] + kinds)
-        for path, kind, count in ((self.one_source, "ss", 1), (self.no_question, "ss", 0), (self.four_sources, "ss", FOUR),
-                                  (self.few_sources, "ss", FEW), (self.pairs, "p2p", FEW)):
-            self.write(path, roads, [kind, str(self.vertices), str(count), str(SEED)])
-        if not is_newer(self.one_list, roads):
+        self.write(self.graph, roads, ["graph", str(self.vertices), str(self.arcs), str(SEED)] + ([self.kind] if self.kind else []))
+        if kind == ONE_LIST:
+            self.list_sources(roads)
+        else:
+            word, count = KINDS[kind]
+            self.write(self.questions[kind], roads, [word, str(self.vertices), str(count), str(SEED)])
+        if kind == ONE_SOURCE and for_peer:
+            self.marked = stem + ".marked.gr"
+            if not is_newer(self.marked, self.graph):
+                self.mark()
+
+    def list_sources(self, roads):
+        """One line of many sources."""
+        if not is_newer(self.questions[ONE_LIST], roads):
             many = subprocess.run([roads, "ss", str(self.vertices), str(MANY), str(SEED)], stdout=subprocess.PIPE, check=True)
             sources = [line.split()[1] for line in many.stdout.decode().splitlines() if line.startswith("s ")]
-            write_lines(["p aux sp ms 1\n", "m %s\n" % " ".join(sources)], self.one_list)
-        if self.marked and not is_newer(self.marked, self.graph):
-            self.mark()
+            write_lines(["p aux sp ms 1\n", "m %s\n" % " ".join(sources)], self.questions[ONE_LIST])
 
     def write(self, path, roads, words):
         if not is_newer(path, roads):
@@ -105,7 +114,7 @@ class Roads(Files):
 
     def mark(self):
         """The same graph with the line `n SOURCE`, by which LEMON knows where to begin."""
-        with open(self.one_source) as questions:
+        with open(self.questions[ONE_SOURCE]) as questions:
             source = [line.split()[1] for line in questions if line.startswith("s ")][0]
         with open(self.graph, "rb") as graph, open(self.marked + ".part", "wb") as marked:
             for line in graph:
@@ -131,7 +140,7 @@ class Shape(Files):
             note("making " + os.path.basename(self.graph))
             arcs = self.shape(self.size)[2]
             write_lines(self.lines(arcs), self.graph)
-            write_lines(["p aux sp ss 1\n", "s 1\n"], self.one_source)
+            write_lines(["p aux sp ss 1\n", "s 1\n"], self.questions[ONE_SOURCE])
 
     def lines(self, arcs):
         yield "p sp %d %d\n" % (self.vertices, self.arcs)

@@ -10,10 +10,17 @@ import os
 import subprocess
 import sys
 
+sys.dont_write_bytecode = True
+
 import inputs
-from inputs import Roads, compiler, stop, tell
+from inputs import ONE_SOURCE, Roads, compiler, note, stop
+from report import Table
 
 SIZES = [("New York", (264346, 733846)), ("Florida", (1070376, 2712798))]
+LIBRARY, BASELINE = "libdiffuse", "baseline"
+
+# What is aimed at for the C library, to the baseline: a tree, and a graph that is kept.
+TREE_AIM, GRAPH_AIM = 1.05, 1.2
 
 
 class Measured:
@@ -22,6 +29,30 @@ class Measured:
     def __init__(self, line):
         self.name, *numbers, self.check = line.split()
         self.bytes, self.opening, self.tree, self.route = map(int, numbers)
+
+
+class Library:
+    """All libraries on one graph."""
+
+    def __init__(self, name, peers):
+        self.name, self.peers = name, {peer.name: peer for peer in peers}
+
+    @staticmethod
+    def measured(folder, prefix, rounds, small):
+        """Each size with what all libraries took there."""
+        roads, program, found = inputs.build(os.path.join(folder, "bin"))["roads"], build(os.path.join(folder, "bin"), prefix), []
+        for name, (vertices, arcs) in SIZES:
+            graph = Roads(name, (vertices // 100, arcs // 200 * 2) if small else (vertices, arcs))
+            graph.make(folder, roads, ONE_SOURCE, False)
+            note("libraries: " + name)
+            found.append(Library(name, peers_of(program, graph.graph, rounds)))
+        return found
+
+    def aims(self):
+        ours, theirs = self.peers[LIBRARY], self.peers[BASELINE]
+        title = "%s, C library" % self.name
+        return [(title, "a tree, to the baseline", TREE_AIM, [ours.tree / theirs.tree]),
+                (title, "memory of a graph, to the baseline", GRAPH_AIM, [ours.bytes / theirs.bytes])]
 
 
 def build(folder, prefix):
@@ -33,7 +64,7 @@ def build(folder, prefix):
     return path
 
 
-def measured(program, graph, rounds):
+def peers_of(program, graph, rounds):
     """What each library took. The trees of all have the same sums."""
     ran = subprocess.run([program, graph, str(rounds)], stdout=subprocess.PIPE, text=True, check=True)
     peers = [Measured(line) for line in ran.stdout.splitlines()]
@@ -48,24 +79,16 @@ def ratio(number, other):
     return "%.2f" % (number / other) if other and number else ""
 
 
-def row_of(size, peer, baseline):
-    cells = [size, peer.name, "%.1f" % (peer.opening / 1e3), "%.1f" % (peer.tree / 1e3), ratio(peer.tree, baseline.tree),
-             "%.1f" % (peer.route / 1e3) if peer.route else "", ratio(peer.route, baseline.route),
-             "%.1f" % (peer.bytes / 1e6), ratio(peer.bytes, baseline.bytes)]
-    return "| " + " | ".join(cells) + " |"
-
-
-def library_table(folder, prefix, rounds, small=False):
-    """The lines of the table: milliseconds of processor time and megabytes, medians over the rounds."""
-    lines = ["| Size | Library | Open, ms | Tree, ms | Ratio | Route, ms | Ratio | Graph, MB | Ratio |", "|---|---|---|---|---|---|---|---|---|"]
-    roads, program = inputs.build(folder)["roads"], build(folder, prefix)
-    for name, (vertices, arcs) in SIZES:
-        graph = Roads(name, (vertices // 100, arcs // 200 * 2) if small else (vertices, arcs))
-        graph.make(folder, roads, False)
-        tell("measuring " + name)
-        peers = measured(program, graph.graph, rounds)
-        lines += [row_of(name, peer, peers[1]) for peer in peers]
-    return lines
+def library_of(found):
+    """Milliseconds of processor time and megabytes, medians over the rounds."""
+    table = Table("Libraries: a graph that is kept", ["Size", "Library", "Open, ms", "Tree, ms", "Ratio", "Route, ms", "Ratio", "Graph, MB", "Ratio"])
+    for one in found:
+        baseline = one.peers[BASELINE]
+        for peer in one.peers.values():
+            table.rows.append([one.name, peer.name, "%.1f" % (peer.opening / 1e3), "%.1f" % (peer.tree / 1e3), ratio(peer.tree, baseline.tree),
+                               "%.1f" % (peer.route / 1e3) if peer.route else "", ratio(peer.route, baseline.route),
+                               "%.1f" % (peer.bytes / 1e6), ratio(peer.bytes, baseline.bytes)])
+    return table
 
 
 def main():
@@ -75,9 +98,8 @@ def main():
     parser.add_argument("--small", action="store_true", help="all sizes divided by 100: a trial of this script")
     parser.add_argument("--out", default=os.path.join(inputs.HERE, "out"))
     words = parser.parse_args()
-    print("\n".join(library_table(words.out, words.prefix, words.rounds, words.small)))
+    print(library_of(Library.measured(words.out, words.prefix, words.rounds, words.small)).markdown())
 
 
 if __name__ == "__main__":
-    sys.dont_write_bytecode = True
     main()

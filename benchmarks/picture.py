@@ -2,9 +2,10 @@
 import math
 
 from cases import BASELINE, DIFFUSING, TIME, WALL
+from inputs import FIVE_SOURCES
 
 # The batch of the plain solver that is drawn beside the workers.
-FIVE_IN_TURN = "five sources", 1
+FIVE_IN_TURN = FIVE_SOURCES, 1
 
 # Where the entries of the list of inks begin.
 LEGEND = 75, 245, 480, 660

@@ -3,6 +3,7 @@ import math
 import statistics
 
 from cases import BASELINE, DIFFUSING, PEAK, PEER, TIME, WALL
+from services import FOUR_CLIENTS, ONE_CLIENT, PROCESSES
 
 
 class Table:
@@ -66,7 +67,7 @@ def engine_growth_of(cases):
                   ["Graph", "Arcs", "Messages a vertex", "Messages an arc", "diffuse", "ns a message", "of plain C++",
                    "ns per n log n", "bytes per arc", "of plain C++"])
     for case in cases:
-        vertices, arcs, messages = case.files.vertices, case.files.arcs, case.messages()
+        vertices, arcs, messages = case.files.vertices, case.files.arcs, case.count()
         time, theirs = case.median("diffuse", TIME), case.median(DIFFUSING, TIME)
         table.rows.append([case.files.name, "{:,}".format(arcs), "%.0f" % (messages / vertices),
                            "%.1f" % (messages / arcs), seconds(time), "%.0f" % (time * 1e9 / messages),
@@ -83,7 +84,7 @@ def settings_of(cases):
     for case in cases:
         ratios = ["%.2f" % statistics.median(case.ratios(DIFFUSING, what)) for what in (TIME, WALL, PEAK)]
         table.rows.append(["{:,}".format(number) for number in case.settings.values()]
-                          + ["%.0f" % (case.messages() / case.files.vertices), seconds(case.median("diffuse", TIME)),
+                          + ["%.0f" % (case.count() / case.files.vertices), seconds(case.median("diffuse", TIME)),
                              seconds(case.median("diffuse", WALL)), size(case.median("diffuse", PEAK))]
                           + ratios + ["%.0f" % statistics.median(case.ratios(BASELINE, TIME))])
     return table
@@ -114,15 +115,35 @@ def shapes_of(pairs):
     return table
 
 
-def locks_of(cases, exact):
+def locks_of(cases):
     """The family on which labels improve exponentially often; how many messages there are is known beforehand."""
     table = Table("Locks: messages of one worker and one shard", ["Locks", "Vertices", "Arcs", "Messages: 2^(k+2) - 3",
                                                                   "Handled by diffuse", "diffuse", "diffuse --plain"])
     for case, plain in cases:
-        count = case.files.size
-        table.rows.append([str(count), str(case.files.vertices), str(case.files.arcs), "{:,}".format(2 ** (count + 2) - 3),
-                           "exactly these" if exact[count] else "ANOTHER NUMBER", seconds(case.median("diffuse", TIME)),
-                           seconds(plain.median("diffuse", TIME))])
+        known, handled = 2 ** (case.files.size + 2) - 3, case.count()
+        table.rows.append([str(case.files.size), str(case.files.vertices), str(case.files.arcs), "{:,}".format(known),
+                           "exactly these" if handled == known else "ANOTHER NUMBER: {:,}".format(handled),
+                           seconds(case.median("diffuse", TIME)), seconds(plain.median("diffuse", TIME))])
+    return table
+
+
+def several_of(cases):
+    """Several questions beside the plain C++ program, which has as many threads as the width."""
+    table = Table("Several questions with --plain: ratios as median (least to greatest)",
+                  ["Graph and questions", "Processor time", "Wall time", "Peak memory",
+                   "Processor time to the baseline", "Wall time to the baseline", "Peak memory to the baseline"])
+    for case in cases:
+        table.rows.append([case.title(), seconds(case.median("diffuse", TIME)), seconds(case.median("diffuse", WALL)),
+                           size(case.median("diffuse", PEAK))] + [spread(case.ratios(BASELINE, what)) for what in (TIME, WALL, PEAK)])
+    return table
+
+
+def served_of(case):
+    """What a pair takes that a service answers, and one that a process of its own does."""
+    table = Table("Services with --plain: %s" % case.title(), ["How", "Pairs a second", "Wall time a pair", "Processor time a pair", "Peak memory"])
+    for way in (ONE_CLIENT, FOUR_CLIENTS, PROCESSES):
+        wall, time = (case.median(way, what) / len(case.pairs()) for what in (WALL, TIME))
+        table.rows.append([way, "%.1f" % (1 / wall), seconds(wall), seconds(time), size(case.median(way, PEAK))])
     return table
 
 

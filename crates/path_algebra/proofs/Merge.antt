@@ -1,12 +1,12 @@
 -- Labels that are best from two lists of sources merge to those best from both together.
 use Rattle.std.proofs.Common.{◌≡◌, ℕ, ◌⊎◌, inl, inr, Bool, true, false, cond, List, ◌++◌, length, refl, sym, ◌∙◌, subst, Option, Some, None}
 use Rattle.std.proofs.lemmas.List.Elements.{Contains-append_left, Contains-append_right, Contains-append_cases}
-use Rattle.road_graph.specs.Roads.{Roads}
+use Rattle.road_graph.specs.GraphData.{GraphData}
 use Rattle.path_algebra.specs.Algebra.{Algebra, IsLawful}
 use Rattle.path_algebra.specs.Walks.{IsWalkValue, IsBest, IsBestLabel, AreBest, label_of, better_label}
 use Rattle.path_algebra.proofs.Least.{other_no_worse}
 
-module _ {V : Type 0} (A : Algebra V) (lawful : IsLawful A) (g : Roads) (xs ys : List ℕ) where
+module _ {V : Type 0} (A : Algebra V) (lawful : IsLawful A) (g : GraphData) (xs ys : List ℕ) where
   from_first : (v : ℕ) (x : V) → IsWalkValue A g xs v x → IsWalkValue A g (xs ++ ys) v x
   from_first v x w = (w.0, (w.1.0, Contains-append_left xs ys w.1.0 w.1.1, w.1.2), w.2)
 

@@ -2,7 +2,7 @@
 use Rattle.std.proofs.Common.{◌≡◌, ℕ, zero, suc, ◌+◌, ◌*◌, ◌<◌, ◌≤◌, ◌^◌, ◌⊎◌, inl, inr, cond, eqb, min, List, [], ◌∷◌, length, refl, ap, sym, ◌∙◌, subst, arith, eq-eqb, ne_eqb, le-leb, leb-true}
 use Rattle.std.proofs.lemmas.Bool.{cases_eq}
 use Rattle.std.specs.Prelude.{Contains}
-use Rattle.road_graph.specs.Roads.{Roads, IsRoads, HasArc, HasVertex, arc_of}
+use Rattle.road_graph.specs.GraphData.{GraphData, IsGraph, HasArc, HasVertex, arc_of}
 use Rattle.road_graph.proofs.Lists.{not_in_empty, here, later, head_or_tail}
 use Rattle.path_algebra.specs.Given.{shortest}
 use Rattle.path_algebra.specs.Walks.{IsWalk, Extends, IsBest, sum_of_weights, IsLeastSum}
@@ -51,7 +51,7 @@ in_upto (suc n) w l h = elim (cases_eq w (suc n)) [
   | inr other ↦ later (suc n) w (upto n) (in_upto n w l (omega arith))
 ]
 
-module _ (g : Roads) where
+module _ (g : GraphData) where
   -- no place of the walk from t is u
   abbrev Avoids : ℕ → ℕ → List ℕ → Type 0
   Avoids u t [] = t ≡ u → ⊥
@@ -147,7 +147,7 @@ module _ (g : Roads) where
       never t [] f = f refl
       never t (a ∷ q) f = f.0 refl
 
-  module _ (roads : IsRoads g) where
+  module _ (roads : IsGraph g) where
     all_within : (s : ℕ) (p : List ℕ) (v : ℕ) → HasVertex g s → IsWalk g s p v → Within (upto g.vertices) s p
     all_within s [] v in_s w = in_upto g.vertices s in_s.0 in_s.1
     all_within s (a ∷ p) v in_s w =

@@ -2,7 +2,7 @@
 use Rattle.std.proofs.Common.{◌≡◌, ◌≢◌, ℕ, zero, suc, ◌+◌, ◌≤◌, ◌<◌, true, false, cond, eqb, List, [], ◌∷◌, ◌++◌, length, map, ◌⊎◌, refl, sym, ap, ◌∙◌, subst, inl, inr, arith, Contains, eqb-true, eq-eqb, ne_eqb}
 use Rattle.std.proofs.lemmas.Bool.{cases_eq, cases_Bool, cond-true, cond-false, or_cases, or_parts, eqb-false}
 use Rattle.std.proofs.lemmas.List.Elements.{Contains-append_left, Contains-append_right, Contains-append_cases}
-use Rattle.road_graph.specs.Roads.{Roads, IsRoads, HasVertex, arc_of}
+use Rattle.road_graph.specs.GraphData.{GraphData, IsGraph, HasVertex, arc_of}
 use Rattle.road_graph.proofs.Lists.{not_in_empty, here, here_as, later, head_or_tail, only_element}
 use Rattle.path_algebra.specs.Walks.{IsWalk}
 use Rattle.path_algebra.specs.SimpleWalks.{vertices_of, AreDistinct, IsSimpleWalk, HasSimpleWalks, is_among, onward, walks_beyond, simple_walks, ListsSimpleWalks}
@@ -110,32 +110,32 @@ map_distinct a (p ∷ ps) d = (
 
 -- what a walk passes
 
-first_passed : (g : Roads) (u : ℕ) (p : List ℕ) → Contains (vertices_of g u p) u
+first_passed : (g : GraphData) (u : ℕ) (p : List ℕ) → Contains (vertices_of g u p) u
 first_passed g u [] = here u []
 first_passed g u (a ∷ p) = here u (vertices_of g (arc_of g a).head p)
 
-end_passed : (g : Roads) (u : ℕ) (p : List ℕ) (v : ℕ) → IsWalk g u p v → Contains (vertices_of g u p) v
+end_passed : (g : GraphData) (u : ℕ) (p : List ℕ) (v : ℕ) → IsWalk g u p v → Contains (vertices_of g u p) v
 end_passed g u [] v w = here_as v u [] (sym w)
 end_passed g u (a ∷ p) v w = later u v (vertices_of g (arc_of g a).head p) (end_passed g (arc_of g a).head p v w.2)
 
-passed_inside : (g : Roads) → IsRoads g → (u : ℕ) (p : List ℕ) (v : ℕ) → HasVertex g u → IsWalk g u p v → (w : ℕ) → Contains (vertices_of g u p) w → HasVertex g w
+passed_inside : (g : GraphData) → IsGraph g → (u : ℕ) (p : List ℕ) (v : ℕ) → HasVertex g u → IsWalk g u p v → (w : ℕ) → Contains (vertices_of g u p) w → HasVertex g w
 passed_inside g R u [] v h k w l = subst (HasVertex g) (only_element u w l) h
 passed_inside g R u (a ∷ p) v h k w l = elim (head_or_tail u w (vertices_of g (arc_of g a).head p) l) [
   | inl e ↦ subst (HasVertex g) e h
   | inr m ↦ passed_inside g R (arc_of g a).head p v (R.ends a k.0).1 k.2 w m
 ]
 
-vertices_of-length : (g : Roads) (u : ℕ) (p : List ℕ) → length (vertices_of g u p) ≡ 1 + length p
+vertices_of-length : (g : GraphData) (u : ℕ) (p : List ℕ) → length (vertices_of g u p) ≡ 1 + length p
 vertices_of-length g u [] = omega arith
 vertices_of-length g u (a ∷ p) = let h = vertices_of-length g (arc_of g a).head p in omega (arith, h)
 
-simple_walk_short : (g : Roads) → IsRoads g → (s : ℕ) (p : List ℕ) (v : ℕ) → HasVertex g s → IsSimpleWalk g s p v → length p < g.vertices
+simple_walk_short : (g : GraphData) → IsGraph g → (s : ℕ) (p : List ℕ) (v : ℕ) → HasVertex g s → IsSimpleWalk g s p v → length p < g.vertices
 simple_walk_short g R s p v h w =
     let f = few_numbers g.vertices (vertices_of g s p) w.1 (λ u l. passed_inside g R s p v h w.0 u l) in
     let e = vertices_of-length g s p in
     omega (arith, f, e)
 
-module _ (g : Roads) where
+module _ (g : GraphData) where
   -- each arc with each walk that goes on
 
   onward-suc : (u : ℕ) (rest : ℕ → List (List ℕ)) (m : ℕ) →
@@ -279,7 +279,7 @@ module _ (g : Roads) where
     ]
   ]
 
-  pub lists_simple_walks : IsRoads g → (s v : ℕ) → HasVertex g s → ListsSimpleWalks g s v (simple_walks g s v)
+  pub lists_simple_walks : IsGraph g → (s v : ℕ) → HasVertex g s → ListsSimpleWalks g s v (simple_walks g s v)
   lists_simple_walks R s v h = record {
     exact = λ p. (
       (λ l. (beyond_only g.vertices [] s v p l).0),
@@ -288,5 +288,5 @@ module _ (g : Roads) where
     once = beyond_distinct g.vertices [] s v;
   }
 
-  pub has_simple_walks : IsRoads g → (s v : ℕ) → HasVertex g s → HasSimpleWalks g s v (simple_walks g s v)
+  pub has_simple_walks : IsGraph g → (s v : ℕ) → HasVertex g s → HasSimpleWalks g s v (simple_walks g s v)
   has_simple_walks R s v h p w = ((lists_simple_walks R s v h).exact p).1 w

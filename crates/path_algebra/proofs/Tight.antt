@@ -1,14 +1,14 @@
 -- Tight arcs reach every vertex that is reached at all.
 use Rattle.std.proofs.Common.{◌≡◌, ℕ, ◌+◌, ◌-◌, ◌<◌, ◌^◌, Bool, true, false, List, [], ◌∷◌, get_or, refl, ap, sym, ◌∙◌, subst, arith, Option, Some, None}
 use Rattle.std.specs.Prelude.{IsTrue, Contains, ◌↔◌}
-use Rattle.road_graph.specs.Roads.{Roads, IsRoads, HasArc, HasVertex, arc_of}
+use Rattle.road_graph.specs.GraphData.{GraphData, IsGraph, HasArc, HasVertex, arc_of}
 use Rattle.path_algebra.specs.Algebra.{Algebra, IsLawful}
 use Rattle.path_algebra.specs.Walks.{IsWalk, Extends, IsWalkValue, IsBest, IsBestLabel, AreBest, IsTight, label_of, is_tight, is_tight_between, is_reached_by}
 use Rattle.path_algebra.specs.Open.{AnswersBestOpen}
 use Rattle.path_algebra.proofs.Walks.{walk_value_is_value, IsWalkValue-extend}
 use Rattle.path_algebra.proofs.Least.{same_no_worse, best_open}
 
-module _ {V : Type 0} (A : Algebra V) (lawful : IsLawful A) (g : Roads) (roads : IsRoads g) where
+module _ {V : Type 0} (A : Algebra V) (lawful : IsLawful A) (g : GraphData) (roads : IsGraph g) where
   -- no arc of a walk makes a value better
   pub never_better_along : (s : ℕ) (p : List ℕ) (v : ℕ) (x y : V) → IsWalk g s p v → IsTrue (A.is_value x) →
       Extends A g x p y → IsTrue (A.no_worse x y)

@@ -1,23 +1,23 @@
 -- Laws of walks and of best labels.
 use Rattle.std.proofs.Common.{◌≡◌, ℕ, ◌<◌, ◌^◌, List, [], ◌∷◌, ◌++◌, length, refl, ap, sym, ◌∙◌, subst, Option, Some, None}
 use Rattle.std.specs.Prelude.{IsTrue, All, Contains}
-use Rattle.road_graph.specs.Roads.{Roads, IsRoads, HasArc, HasVertex, arc_of}
+use Rattle.road_graph.specs.GraphData.{GraphData, IsGraph, HasArc, HasVertex, arc_of}
 use Rattle.path_algebra.specs.Algebra.{Algebra, IsLawful}
 use Rattle.path_algebra.specs.Walks.{IsWalk, Extends, IsWalkValue, IsBestLabel, AreBest, AreWalkValues, IsNotImproving, label_of}
 
 -- sources that are all vertices, one by one
-pub all_inside : (g : Roads) (sources : List ℕ) → All (HasVertex g) sources → (s : ℕ) → Contains sources s →
+pub all_inside : (g : GraphData) (sources : List ℕ) → All (HasVertex g) sources → (s : ℕ) → Contains sources s →
     HasVertex g s
 all_inside g sources inside s h = subst (λ (u : ℕ). HasVertex g u) h.2 (inside h.0 s h.1)
 
 -- a walk goes on by an arc
-pub IsWalk-snoc : (g : Roads) (s : ℕ) (p : List ℕ) (u a : ℕ) → IsWalk g s p u → HasArc g a →
+pub IsWalk-snoc : (g : GraphData) (s : ℕ) (p : List ℕ) (u a : ℕ) → IsWalk g s p u → HasArc g a →
     (arc_of g a).tail ≡ u →
     IsWalk g s (p ++ a ∷ []) (arc_of g a).head
 IsWalk-snoc g s [] u a w h e = (h, e ∙ sym w, refl)
 IsWalk-snoc g s (b ∷ p) u a w h e = (w.0, w.1, IsWalk-snoc g (arc_of g b).head p u a w.2 h e)
 
-module _ {V : Type 0} (A : Algebra V) (g : Roads) where
+module _ {V : Type 0} (A : Algebra V) (g : GraphData) where
   pub Extends-snoc : (x : V) (p : List ℕ) (y : V) (a : ℕ) (z : V) → Extends A g x p y →
       A.extend y (arc_of g a).weight ≡ Some z → Extends A g x (p ++ a ∷ []) z
   Extends-snoc x [] y a z h e = (z, ap (λ (v : V). A.extend v (arc_of g a).weight) h ∙ e, refl)
@@ -30,7 +30,7 @@ module _ {V : Type 0} (A : Algebra V) (g : Roads) where
   IsWalkValue-extend sources u a x z w h e f =
       (w.0 ++ a ∷ [], (w.1.0, w.1.1, IsWalk-snoc g w.1.0 w.0 u a w.1.2 h e), Extends-snoc A.origin w.0 x a z w.2 f)
 
-module _ {V : Type 0} (A : Algebra V) (lawful : IsLawful A) (g : Roads) (roads : IsRoads g) where
+module _ {V : Type 0} (A : Algebra V) (lawful : IsLawful A) (g : GraphData) (roads : IsGraph g) where
   pub extended_is_value : (s : ℕ) (p : List ℕ) (v : ℕ) (x y : V) → IsWalk g s p v → IsTrue (A.is_value x) →
       Extends A g x p y → IsTrue (A.is_value y)
   extended_is_value s [] v x y w h e = subst (λ (z : V). IsTrue (A.is_value z)) e h

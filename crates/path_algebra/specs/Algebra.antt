@@ -28,7 +28,7 @@ pub record IsLawful {V : Type 0} (A : Algebra V) : Type 0 where
   -- no arc makes a value better
   pub never_better : (v : V) (w : ℕ) (x : V) → IsTrue (A.is_value v) → w < 2 ^ 32 → A.extend v w ≡ Some x →
       IsTrue (A.no_worse v x)
-  -- what the worse may pass the better may pass, and its lead is kept
+  -- an arc that extends the worse value extends the better one too, to a value no worse
   pub monotone : (a b : V) (w : ℕ) (y : V) → IsTrue (A.is_value a) → IsTrue (A.is_value b) → w < 2 ^ 32 →
       IsTrue (A.no_worse a b) →
       A.extend b w ≡ Some y → (x : V) × (A.extend a w ≡ Some x) × IsTrue (A.no_worse x y)

@@ -1,6 +1,6 @@
 -- Labels as a list, and how one step of a solver changes it.
 use Rattle.std.specs.Prelude.{ℕ, ◌-◌, List, [], ◌∷◌, Bool, false, Option, Some, None, if◌then◌else◌, slice_index_or, slice_set}
-use Rattle.road_graph.specs.Roads.{Roads, arc_of}
+use Rattle.road_graph.specs.GraphData.{GraphData, arc_of}
 use Rattle.path_algebra.specs.Algebra.{Algebra}
 
 -- the label of a vertex: vertex 1 has the first place
@@ -31,7 +31,7 @@ offered_if no_worse labels v None = labels
 offered_if no_worse labels v (Some z) = offered no_worse labels v z
 
 -- the labels after x was extended along each arc of a list
-abbrev pub relaxed : {V : Type 0} → Algebra V → Roads → V → List (Option V) → List ℕ → List (Option V)
+abbrev pub relaxed : {V : Type 0} → Algebra V → GraphData → V → List (Option V) → List ℕ → List (Option V)
 relaxed A g x labels [] = labels
 relaxed A g x labels (a ∷ arcs) =
     relaxed A g x (offered_if A.no_worse labels (arc_of g a).head (A.extend x (arc_of g a).weight)) arcs
@@ -47,7 +47,7 @@ is_tight_between A None w l = false
 is_tight_between A (Some x) w None = false
 is_tight_between A (Some x) w (Some y) = is_reached_by A.no_worse (A.extend x w) y
 
--- whether the labels say that an arc is tight; with best labels that is so exactly where it is
-abbrev pub is_tight : {V : Type 0} → Algebra V → Roads → List (Option V) → ℕ → Bool
+-- whether the labels say that an arc is tight; with best labels this is so exactly if it is
+abbrev pub is_tight : {V : Type 0} → Algebra V → GraphData → List (Option V) → ℕ → Bool
 is_tight A g labels a =
     is_tight_between A (label_of labels (arc_of g a).tail) (arc_of g a).weight (label_of labels (arc_of g a).head)

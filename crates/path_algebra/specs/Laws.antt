@@ -30,7 +30,7 @@ one_value_is_best = record {
   antisymmetric = λ a b h k. refl;
 }
 
--- what is taken up to a bound, and left out above it, is at most the bound, and itself
+-- if a code is a value only up to a bound, its value is at most the bound, and is the code itself
 pub coded_below : (bound c v : ℕ) → (if nat_le c bound then Some c else None) ≡ Some v →
     IsTrue (nat_le v bound) × (c ≡ v)
 coded_below bound c v =

@@ -1,10 +1,10 @@
--- The words that algebras are called by, as bytes.
+-- The words for algebras, as bytes.
 use Rattle.std.specs.Prelude.{ℕ, List, [], ◌∷◌, codes, find, Option}
 use Rattle.std.specs.Str.{bytes_eq}
 pub use Rattle.path_algebra.specs.declared.name.AlgebraName.{AlgebraName}
 pub use Rattle.path_algebra.specs.declared.name.AlgebraName.TheVariants.{Shortest, Widest, Reach, Hops, Reliable, Within, Own}
 
--- the word for a name, as it stands in an answer text and on the command line
+-- the word for a name, as written in an answer text and on the command line
 abbrev pub name_text : AlgebraName → List ℕ
 name_text Shortest = codes "shortest"
 name_text Widest = codes "widest"

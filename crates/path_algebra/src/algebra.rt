@@ -7,9 +7,9 @@ use crate::name::AlgebraName;
 /// The values of walks, how one more arc changes a value, and which of two values is no worse.
 ///
 /// An implementation says by `meaning` what its calls compute, and proves the laws below the last
-/// call. Nothing else is asked of it, and every solver, engine and checker over it is then right.
+/// call. Nothing else is required of it, and every solver, engine and checker over it is then right.
 pub trait PathAlgebra: Copy + Send + Sync {
-    /// What a walk is worth. Which values of the type occur, `is_value` says.
+    /// What a walk is worth. `is_value` says which values of the type occur.
     type Value: Copy + Send + Sync;
 
     /// Which of two values is no worse, whatever the algebra's parameters.
@@ -26,7 +26,7 @@ pub trait PathAlgebra: Copy + Send + Sync {
     fn origin(self) -> Self::Value
         ensures { result ≡ (meaning self).origin };
 
-    /// The value of a walk of value `v` and one more arc of weight `w`; none where the arc may not
+    /// The value of a walk of value `v` and one more arc of weight `w`; none if the arc may not
     /// be taken from there.
     fn extend(self, v: Self::Value, w: u32) -> Option<Self::Value>
         ensures { result ≡ (meaning self).extend v w };

@@ -1,7 +1,7 @@
 //! Theorems over walks and labels, each the contract of a function that computes nothing: a caller
-//! calls it where its own proof needs the theorem.
+//! calls it if its own proof needs the theorem.
 ghost use Rattle.std.specs.Prelude.{◌≡◌, ℕ, ◌↔◌, ◌++◌, List, All, Bool, Option, Some, IsTrue, length};
-ghost use Rattle.road_graph.specs.Roads.{Roads, IsRoads, HasVertex};
+ghost use Rattle.road_graph.specs.GraphData.{GraphData, IsGraph, HasVertex};
 ghost use Rattle.path_algebra.specs.Algebra.{IsLawful};
 ghost use Rattle.path_algebra.specs.Given.{shortest};
 ghost use Rattle.path_algebra.specs.Names.{name_text, name_of_text};
@@ -27,7 +27,7 @@ pub fn names_are_read_back()
 
 /// A vertex has at most one best value.
 pub fn best_values_are_unique<A: PathAlgebra>(algebra: A)
-    ensures { (g : Roads) (sources : List ℕ) (v : ℕ) (x y : A.Value) →
+    ensures { (g : GraphData) (sources : List ℕ) (v : ℕ) (x y : A.Value) →
         IsBest (A.meaning algebra) g sources v x → IsBest (A.meaning algebra) g sources v y →
         x ≡ y }
 {
@@ -42,7 +42,7 @@ pub fn closed_labels_are_best<A: PathAlgebra>(algebra: A, graph: &Graph)
         AreClosed (A.meaning algebra) graph.now sources labels →
         AreBest (A.meaning algebra) graph.now sources labels }
 {
-    let _n = graph.vertices();
+    graph.holds();
     laws_hold(algebra);
 }
 
@@ -56,13 +56,13 @@ pub fn tight_arcs_reach<A: PathAlgebra>(algebra: A, graph: &Graph)
         (v : ℕ) (x : A.Value) → HasVertex graph.now v →
         IsWalkValue (A.meaning algebra) graph.now sources v x → IsTrue (is_marked marks v) }
 {
-    let _n = graph.vertices();
+    graph.holds();
     laws_hold(algebra);
 }
 
 /// Labels that are best from two lists of sources merge to those best from both together.
 pub fn merged_labels_are_best<A: PathAlgebra>(algebra: A)
-    ensures { (g : Roads) (xs ys : List ℕ) (ls ms ns : List (Option A.Value)) →
+    ensures { (g : GraphData) (xs ys : List ℕ) (ls ms ns : List (Option A.Value)) →
         AreBest (A.meaning algebra) g xs ls → AreBest (A.meaning algebra) g ys ms →
         length ns ≡ length ls →
         ((v : ℕ) → label_of ns v ≡ better_label A.order (label_of ls v) (label_of ms v)) →
@@ -77,12 +77,12 @@ pub fn shortest_values_are_least_sums(graph: &Graph)
     ensures { (sources : List ℕ) → All (HasVertex graph.now) sources →
         (v x : ℕ) → IsBest shortest graph.now sources v x ↔ IsLeastSum graph.now sources v x }
 {
-    let _n = graph.vertices();
+    graph.holds();
 }
 
-/// The simple walks from the source to a vertex are finitely many: `simple_walks` lists exactly
+/// There are finitely many simple walks from the source to a vertex: `simple_walks` lists exactly
 /// these, each once.
 pub fn simple_walks_are_listed()
-    ensures { (g : Roads) (s v : ℕ) → IsRoads g → HasVertex g s →
+    ensures { (g : GraphData) (s v : ℕ) → IsGraph g → HasVertex g s →
         ListsSimpleWalks g s v (simple_walks g s v) }
 {}

@@ -1,9 +1,9 @@
-//! The names of the algebras, as they stand in answer texts and on the command line.
+//! The names of the algebras, as written in answer texts and on the command line.
 ghost use Rattle.std.specs.Prelude.{◌≡◌};
 ghost use Rattle.std.specs.Str.{bytes_eq};
 ghost use Rattle.path_algebra.specs.Names.{name_text};
 
-/// Which algebra values come from. `Own` stands for every algebra that is not given here.
+/// Which algebra values come from. `Own` is the name of every algebra that is not given here.
 #[derive(Clone, Copy, Debug, PartialEq, Eq)]
 pub enum AlgebraName {
     Shortest,

@@ -19,7 +19,7 @@ pub struct Within {
 impl Within {
     ghost use Rattle.std.specs.Prelude.{◌≡◌, ◌≤◌, ◌^◌, ◌↔◌, IsSome, IfSome};
 
-    /// The algebra of walks within a limit; none where the limit is above 2^63.
+    /// The algebra of walks within a limit; none if the limit is above 2^63.
     pub fn new(limit: u64) -> Option<Within>
         ensures fits { IsSome result ↔ (limit ≤ 2 ^ 63) }
         ensures limit { IfSome result (λ within. within.limit ≡ limit) }

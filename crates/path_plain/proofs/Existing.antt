@@ -2,7 +2,7 @@
 use Rattle.std.proofs.Common.{◌≡◌, ℕ, zero, suc, ◌+◌, ◌<◌, Bool, true, false, cond, List, [], ◌∷◌, length, set, replicate, refl, arith, Option, Some, None}
 use Rattle.std.proofs.lemmas.List.Sums.{sum_by-set}
 use Rattle.std.specs.Prelude.{All}
-use Rattle.road_graph.specs.Roads.{Roads, IsRoads, HasVertex}
+use Rattle.road_graph.specs.GraphData.{GraphData, IsGraph, HasVertex}
 use Rattle.road_graph.specs.Making.{numbers_at}
 use Rattle.road_graph.specs.declared.Side.TheVariants.{Tail}
 use Rattle.road_graph.proofs.Numbers.{lists_from}
@@ -14,7 +14,7 @@ use Rattle.path_plain.specs.Opening.{AreOpening}
 use Rattle.path_plain.proofs.Opening.{opening_none, opening_front}
 use Rattle.path_plain.proofs.Rounds.{Between, unsettled, starting, round, ending}
 
-module _ {V : Type 0} (A : Algebra V) (lawful : IsLawful A) (g : Roads) (roads : IsRoads g) where
+module _ {V : Type 0} (A : Algebra V) (lawful : IsLawful A) (g : GraphData) (roads : IsGraph g) where
   -- the labels that the search starts with
   opening : (sources : List ℕ) → All (HasVertex g) sources → (labels : List (Option V)) × AreOpening A.origin g.vertices sources labels
   opening [] inside = (replicate g.vertices None, opening_none A.no_worse A.origin g.vertices)

@@ -3,7 +3,7 @@ use Rattle.std.proofs.Common.{◌≡◌, ℕ, ◌+◌, ◌-◌, ◌<◌, ◌⊎�
 use Rattle.std.proofs.lemmas.List.{get_or-replicate, length-replicate}
 use Rattle.std.proofs.lemmas.Bool.{cases_eq}
 use Rattle.std.specs.Prelude.{IsTrue, Contains}
-use Rattle.road_graph.specs.Roads.{Roads, IsRoads, HasArc, HasVertex, arc_of, ListsArcsFrom}
+use Rattle.road_graph.specs.GraphData.{GraphData, IsGraph, HasArc, HasVertex, arc_of, ListsArcsFrom}
 use Rattle.road_graph.proofs.Lists.{not_in_empty}
 use Rattle.path_algebra.specs.Algebra.{Algebra, IsLawful}
 use Rattle.path_algebra.specs.Walks.{AreWalkValues, IsNotImproving, label_of}
@@ -16,7 +16,7 @@ abbrev pub IsSettled : List Bool → ℕ → Type 0
 IsSettled settled v = get_or settled (v - 1) false ≡ true
 
 -- x is a level: no settled label is worse, and no open one is better; pending arcs wait for their turn
-pub record Search {V : Type 0} (A : Algebra V) (g : Roads) (sources : List ℕ) (labels : List (Option V)) (settled : List Bool) (x : V) (pending : List ℕ) : Type 0 where
+pub record Search {V : Type 0} (A : Algebra V) (g : GraphData) (sources : List ℕ) (labels : List (Option V)) (settled : List Bool) (x : V) (pending : List ℕ) : Type 0 where
   pub labels_count : length labels ≡ g.vertices
   pub settled_count : length settled ≡ g.vertices
   pub values : AreWalkValues A g sources labels
@@ -26,7 +26,7 @@ pub record Search {V : Type 0} (A : Algebra V) (g : Roads) (sources : List ℕ) 
   pub closed : (a : ℕ) → HasArc g a → IsSettled settled (arc_of g a).tail → Contains pending a ⊎ IsNotImproving A g labels a
   pub current : (a : ℕ) → Contains pending a → HasArc g a × IsSettled settled (arc_of g a).tail × (label_of labels (arc_of g a).tail ≡ Some x)
 
-module _ {V : Type 0} (A : Algebra V) (lawful : IsLawful A) (g : Roads) (roads : IsRoads g) (sources : List ℕ) where
+module _ {V : Type 0} (A : Algebra V) (lawful : IsLawful A) (g : GraphData) (roads : IsGraph g) (sources : List ℕ) where
   pub none_settled : (v : ℕ) → HasVertex g v → IsSettled (replicate g.vertices false) v → ⊥
   none_settled v in_v h =
       let f : get_or (replicate g.vertices false) (v - 1) false ≡ false = get_or-replicate g.vertices (v - 1) false false (omega (arith, in_v.0, in_v.1)) in
@@ -45,7 +45,7 @@ module _ {V : Type 0} (A : Algebra V) (lawful : IsLawful A) (g : Roads) (roads :
     current = λ a h. absurd (not_in_empty a h);
   }
 
-module _ {V : Type 0} (A : Algebra V) (lawful : IsLawful A) (g : Roads) (roads : IsRoads g) (sources : List ℕ) (labels : List (Option V)) (settled : List Bool) (x y : V) (i : ℕ) (out : List ℕ)
+module _ {V : Type 0} (A : Algebra V) (lawful : IsLawful A) (g : GraphData) (roads : IsGraph g) (sources : List ℕ) (labels : List (Option V)) (settled : List Bool) (x y : V) (i : ℕ) (out : List ℕ)
     (known : Search A g sources labels settled x []) (best : IsBestOpen A.no_worse labels settled g.vertices i y) (lists : ListsArcsFrom g (i + 1) out) where
   pub picked : (v : ℕ) → HasVertex g v → IsSettled (set settled i true) v → ((v ≡ i + 1) × (label_of labels v ≡ Some y)) ⊎ (IsSettled settled v)
   picked v in_v h = elim (cases_eq (v - 1) i) [

@@ -3,6 +3,6 @@ pub mod Known
 pub mod Offering
 pub mod Rounds
 pub mod Waiting
-pub mod Steps
+mod Steps
 pub mod Relaxing
-pub mod Existing
+mod Existing

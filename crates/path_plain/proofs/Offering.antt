@@ -2,7 +2,7 @@
 use Rattle.std.proofs.Common.{◌≡◌, ℕ, suc, ◌-◌, ◌<◌, ◌⊎◌, inl, inr, Bool, List, [], ◌∷◌, length, refl, ap, sym, ◌∙◌, subst, arith, Option, Some, None, get_or-set_same, get_or-set_other, length-set}
 use Rattle.std.proofs.lemmas.Bool.{cases_eq, cases_Bool}
 use Rattle.std.specs.Prelude.{IsTrue, All}
-use Rattle.road_graph.specs.Roads.{Roads, IsRoads, HasArc, HasVertex, arc_of}
+use Rattle.road_graph.specs.GraphData.{GraphData, IsGraph, HasArc, HasVertex, arc_of}
 use Rattle.road_graph.proofs.Lists.{head_or_tail}
 use Rattle.path_algebra.specs.Algebra.{Algebra, IsOrder, IsLawful}
 use Rattle.path_algebra.specs.Walks.{IsWalkValue, IsNotImproving, label_of, improved, offered, offered_if, relaxed}
@@ -35,7 +35,7 @@ module _ {V : Type 0} (no_worse : V → V → Bool) (ordered : IsOrder no_worse)
   pub kept_label : (w : V) → IsTrue (no_worse w z) → improved no_worse (Some w) z ≡ Some w
   kept_label w h = rw h refl
 
-module _ {V : Type 0} (A : Algebra V) (lawful : IsLawful A) (g : Roads) (roads : IsRoads g) (sources : List ℕ) (inside : All (HasVertex g) sources) (settled : List Bool) (x : V)
+module _ {V : Type 0} (A : Algebra V) (lawful : IsLawful A) (g : GraphData) (roads : IsGraph g) (sources : List ℕ) (inside : All (HasVertex g) sources) (settled : List Bool) (x : V)
     (labels : List (Option V)) (a : ℕ) (rest : List ℕ) (known : Search A g sources labels settled x (a ∷ rest)) (z : V) (ex : A.extend x (arc_of g a).weight ≡ Some z) where
   abbrev after : List (Option V)
   after = offered A.no_worse labels (arc_of g a).head z
@@ -138,7 +138,7 @@ module _ {V : Type 0} (A : Algebra V) (lawful : IsLawful A) (g : Roads) (roads :
         (found.0, found.1, settled_kept (arc_of g b).tail ((roads.ends b found.0).0) found.1 ∙ found.2);
   }
 
-module _ {V : Type 0} (A : Algebra V) (lawful : IsLawful A) (g : Roads) (roads : IsRoads g) (sources : List ℕ) (inside : All (HasVertex g) sources) (settled : List Bool) (x : V) where
+module _ {V : Type 0} (A : Algebra V) (lawful : IsLawful A) (g : GraphData) (roads : IsGraph g) (sources : List ℕ) (inside : All (HasVertex g) sources) (settled : List Bool) (x : V) where
   -- an arc whose extension is refused changes nothing
   search_refused : (labels : List (Option V)) (a : ℕ) (rest : List ℕ) → Search A g sources labels settled x (a ∷ rest) → A.extend x (arc_of g a).weight ≡ None → Search A g sources labels settled x rest
   search_refused labels a rest known ex = record {

@@ -2,7 +2,7 @@
 use Rattle.std.proofs.Common.{◌≡◌, ℕ, ◌+◌, ◌-◌, ◌<◌, inl, inr, Bool, true, false, cond, List, [], length, get_or, set, replicate, sym, ◌∙◌, arith, Option, Some, None}
 use Rattle.std.specs.Prelude.{All, sum_by}
 use Rattle.std.proofs.lemmas.Bool.{cases_Bool}
-use Rattle.road_graph.specs.Roads.{Roads, IsRoads, HasVertex, arc_of}
+use Rattle.road_graph.specs.GraphData.{GraphData, IsGraph, HasVertex, arc_of}
 use Rattle.road_graph.proofs.Lists.{not_in_empty}
 use Rattle.path_algebra.specs.Algebra.{Algebra, IsLawful}
 use Rattle.path_algebra.specs.Walks.{AreBest}
@@ -13,7 +13,7 @@ use Rattle.path_plain.proofs.Offering.{search_relaxed}
 use Rattle.path_plain.specs.Opening.{AreOpening}
 use Rattle.path_plain.specs.Searching.{Relaxes}
 
-module _ {V : Type 0} (A : Algebra V) (lawful : IsLawful A) (g : Roads) (roads : IsRoads g) (sources : List ℕ) (inside : All (HasVertex g) sources) (settled : List Bool) (x : V) where
+module _ {V : Type 0} (A : Algebra V) (lawful : IsLawful A) (g : GraphData) (roads : IsGraph g) (sources : List ℕ) (inside : All (HasVertex g) sources) (settled : List Bool) (x : V) where
   pub search_ends : (labels : List (Option V)) → Search A g sources labels settled x [] → AnswersBestOpen A.no_worse labels settled g.vertices None → AreBest A g sources labels
   search_ends labels known none =
       labels_are_best A lawful g roads sources labels known.values
@@ -29,14 +29,14 @@ module _ {V : Type 0} (A : Algebra V) (lawful : IsLawful A) (g : Roads) (roads :
       known.labels_count
 
 -- a search between two rounds
-pub record Between {V : Type 0} (A : Algebra V) (g : Roads) (sources : List ℕ) (labels : List (Option V)) (settled : List Bool) : Type 0 where
+pub record Between {V : Type 0} (A : Algebra V) (g : GraphData) (sources : List ℕ) (labels : List (Option V)) (settled : List Bool) : Type 0 where
   pub level : V
   pub known : Search A g sources labels settled level []
 
 abbrev pub unsettled : List Bool → ℕ
 unsettled settled = sum_by (λ b. cond b 0 1) settled
 
-module _ {V : Type 0} (A : Algebra V) (lawful : IsLawful A) (g : Roads) (roads : IsRoads g) (sources : List ℕ) (inside : All (HasVertex g) sources) (order : V → V → Bool) (same : A.no_worse ≡ order)
+module _ {V : Type 0} (A : Algebra V) (lawful : IsLawful A) (g : GraphData) (roads : IsGraph g) (sources : List ℕ) (inside : All (HasVertex g) sources) (order : V → V → Bool) (same : A.no_worse ≡ order)
     (labels : List (Option V)) (settled : List Bool) (between : Between A g sources labels settled) where
   pub round : (i : ℕ) (x : V) (next : List (Option V)) → IsBestOpen order labels settled (length labels) i x →
       Relaxes A g (i + 1) x labels next → Between A g sources next (set settled i true)
@@ -53,6 +53,6 @@ module _ {V : Type 0} (A : Algebra V) (lawful : IsLawful A) (g : Roads) (roads :
       search_ends A lawful g roads sources inside settled between.level labels between.known
       (λ j h. none j (rw between.known.labels_count h))
 
-pub starting : {V : Type 0} (A : Algebra V) → IsLawful A → (g : Roads) → IsRoads g → (sources : List ℕ) (labels : List (Option V)) → AreOpening A.origin g.vertices sources labels →
+pub starting : {V : Type 0} (A : Algebra V) → IsLawful A → (g : GraphData) → IsGraph g → (sources : List ℕ) (labels : List (Option V)) → AreOpening A.origin g.vertices sources labels →
     Between A g sources labels (replicate g.vertices false)
 starting A lawful g roads sources labels opening = record { level = A.origin; known = search_start A lawful g roads sources labels opening }

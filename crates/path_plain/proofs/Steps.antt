@@ -5,7 +5,7 @@ use Rattle.std.proofs.lemmas.List.Sorted.{Contains-permutation, IsPermutation-sy
 use Rattle.std.specs.Prelude.{IsTrue, All}
 use Rattle.std.specs.List.Sorted.{IsPermutation}
 use Rattle.std.specs.BinaryHeap.{IsUpperBound}
-use Rattle.road_graph.specs.Roads.{Roads, IsRoads, HasVertex}
+use Rattle.road_graph.specs.GraphData.{GraphData, IsGraph, HasVertex}
 use Rattle.path_algebra.specs.Algebra.{Algebra, IsOrder, IsLawful}
 use Rattle.path_algebra.specs.Walks.{AreBest}
 use Rattle.path_plain.proofs.Rounds.{Between, unsettled, round, ending}
@@ -13,7 +13,7 @@ use Rattle.path_plain.specs.Order.{open_cmp}
 use Rattle.path_plain.specs.Searching.{SearchState, IsSearch, IsSameSearch, Relaxes, Advances, Proceeds}
 use Rattle.path_plain.proofs.Waiting.{queue_offer, queue_skip, queue_settle, queue_best, queue_first}
 
-module _ {K V : Type 0} (value : K → V) (place : K → ℕ) (order : V → V → Bool) (ordered : IsOrder order) (g : Roads) (labels : List (Option V)) (settled : List Bool) (items : List K)
+module _ {K V : Type 0} (value : K → V) (place : K → ℕ) (order : V → V → Bool) (ordered : IsOrder order) (g : GraphData) (labels : List (Option V)) (settled : List Bool) (items : List K)
     (known : IsSearch value place order g labels settled items) where
   -- a better label joins the queue
   pub search_offers : (i : ℕ) (z : V) (new : K) (next : List K) → i < length labels → ((y : V) → get_or labels i None ≡ Some y → IsTrue (order z y)) →
@@ -66,7 +66,7 @@ module _ {K V : Type 0} (value : K → V) (place : K → ℕ) (order : V → V �
       });
     }
 
-module _ {C V : Type 0} (A : Algebra V) (lawful : IsLawful A) (order : V → V → Bool) (same : A.no_worse ≡ order) (g : Roads) (roads : IsRoads g) (sources : List ℕ) (inside : All (HasVertex g) sources)
+module _ {C V : Type 0} (A : Algebra V) (lawful : IsLawful A) (order : V → V → Bool) (same : A.no_worse ≡ order) (g : GraphData) (roads : IsGraph g) (sources : List ℕ) (inside : All (HasVertex g) sources)
     (old new : SearchState C V) (in_graph : old.roads ≡ g) (between : Between A g sources old.labels old.settled) where
   stepped : Advances order A true old new → Between A g sources new.labels new.settled
   stepped (inl s) =

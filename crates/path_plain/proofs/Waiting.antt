@@ -8,7 +8,7 @@ use Rattle.std.specs.List.Sorted.{IsPermutation}
 use Rattle.std.specs.BinaryHeap.{IsUpperBound}
 use Rattle.std.specs.Ordering.{is_lt}
 use Rattle.std.specs.declared.cmp.Ordering.TheVariants.{Less, Equal, Greater}
-use Rattle.road_graph.specs.Roads.{Roads, IsAscendingFrom, ListsArcsFrom}
+use Rattle.road_graph.specs.GraphData.{GraphData, IsAscendingFrom, ListsArcsFrom}
 use Rattle.road_graph.proofs.Lists.{head_or_tail, here, later}
 use Rattle.path_algebra.specs.Algebra.{IsOrder}
 use Rattle.path_algebra.specs.Open.{IsBestOpen}
@@ -131,6 +131,6 @@ ascending_short low m (x ∷ xs) h below l =
     let ih : length xs + x ≤ m = ascending_short x m xs h.1 (λ c k. below c (later x c xs k)) (below x (here x xs)) in
     omega (arith, h.0)
 
-pub out_short : (g : Roads) (v : ℕ) (numbers : List ℕ) → ListsArcsFrom g v numbers → length numbers ≤ length g.arcs
+pub out_short : (g : GraphData) (v : ℕ) (numbers : List ℕ) → ListsArcsFrom g v numbers → length numbers ≤ length g.arcs
 out_short g v numbers h =
     let s = ascending_short 0 (length g.arcs) numbers h.ascending (λ c k. ((h.complete c).0 k).0.1) (omega arith) in omega (arith, s)

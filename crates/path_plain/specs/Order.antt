@@ -11,7 +11,7 @@ use Rattle.std.proofs.lemmas.Bool.Decides.{leb_tells}
 use Rattle.path_algebra.specs.Algebra.{IsOrder}
 use Rattle.path_algebra.proofs.Least.{other_no_worse}
 
--- the order of a heap: a value is greater where it is better
+-- the order of a heap: a value is greater if it is better
 abbrev pub value_cmp : {V : Type 0} → (V → V → Bool) → V → V → Ordering
 value_cmp no_worse a b = cond (no_worse a b) (cond (no_worse b a) Equal Greater) Less
 
@@ -57,7 +57,7 @@ module _ {V : Type 0} (no_worse : V → V → Bool) (ordered : IsOrder no_worse)
   pub value_total : IsTotalOrder (value_cmp no_worse)
   value_total = record { antisymm = value_antisymm; trans = value_trans; congr = value_congr }
 
--- no worse in value, and where both values are as good no greater number
+-- no worse in value, and no greater in number if the values tie
 abbrev pub by_number : {V : Type 0} → (V → V → Bool) → V × ℕ → V × ℕ → Bool
 by_number no_worse a b = cond (no_worse a.0 b.0) (cond (no_worse b.0 a.0) (leb a.1 b.1) true) false
 
@@ -75,7 +75,7 @@ either : (a b : ℕ) → (a ≤ b) ⊎ (b ≤ a)
 either a b = elim (leb_tells a b) [ inl h ↦ inl h.1 | inr h ↦ (let l = h.1 in inr (omega (arith, l))) ]
 
 module _ {V : Type 0} (no_worse : V → V → Bool) where
-  -- what it says
+  -- what `by_number` says, in both directions
   pub told : (a b : V × ℕ) → IsTrue (by_number no_worse a b) → IsTrue (no_worse a.0 b.0) × (IsTrue (no_worse b.0 a.0) → a.1 ≤ b.1)
   told a b h =
       let s = split (no_worse a.0 b.0) (no_worse b.0 a.0) (leb a.1 b.1) h in
@@ -112,7 +112,7 @@ module _ {V : Type 0} (no_worse : V → V → Bool) where
           λ i. (first i, second i);
     }
 
--- entries by their values, and where these tie the lesser place is greater: equal only if both are equal
+-- entries by value, and if values tie the lesser place is greater: equal only if both are equal
 abbrev pub open_cmp : {K V : Type 0} → (K → V) → (K → ℕ) → (V → V → Bool) → K → K → Ordering
 open_cmp value place no_worse = on (λ o. (value o, place o)) (value_cmp (by_number no_worse))
 

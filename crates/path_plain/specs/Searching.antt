@@ -1,6 +1,6 @@
 -- A search, and how it proceeds.
 use Rattle.std.specs.Prelude.{◌≡◌, ℕ, ◌+◌, ◌<◌, ◌≤◌, ◌⊎◌, List, length, Bool, true, false, Option, None, slice_set}
-use Rattle.road_graph.specs.Roads.{Roads, IsRoads, ListsArcsFrom}
+use Rattle.road_graph.specs.GraphData.{GraphData, IsGraph, ListsArcsFrom}
 use Rattle.path_algebra.specs.Algebra.{Algebra}
 use Rattle.path_algebra.specs.Walks.{relaxed}
 use Rattle.path_algebra.specs.Open.{IsBestOpen, AnswersBestOpen}
@@ -10,15 +10,15 @@ use Rattle.path_plain.specs.Ties.{IsFirstOfEquals}
 -- the label of each vertex, which are settled, and how many entries wait in the queue
 pub record SearchState (A V : Type 0) : Type 0 where
   pub algebra : A
-  pub roads : Roads
+  pub roads : GraphData
   pub labels : List (Option V)
   pub settled : List Bool
   pub waiting : ℕ
 
 -- a label and a mark for each vertex of a graph, and the queue of the open vertices
 pub record IsSearch {K V : Type 0} (value : K → V) (place : K → ℕ) (no_worse : V → V → Bool)
-    (g : Roads) (labels : List (Option V)) (settled : List Bool) (items : List K) : Type 0 where
-  pub roads : IsRoads g
+    (g : GraphData) (labels : List (Option V)) (settled : List Bool) (items : List K) : Type 0 where
+  pub roads : IsGraph g
   pub labels_count : length labels ≡ g.vertices
   pub settled_count : length settled ≡ g.vertices
   pub queue : IsQueue value place no_worse labels settled items
@@ -30,7 +30,7 @@ pub record IsSameSearch {A V : Type 0} (old new : SearchState A V) : Type 0 wher
   pub settled : new.settled ≡ old.settled
 
 -- the labels after x was extended along each arc that leaves v
-abbrev pub Relaxes : {V : Type 0} → Algebra V → Roads → ℕ → V → List (Option V) → List (Option V) → Type 0
+abbrev pub Relaxes : {V : Type 0} → Algebra V → GraphData → ℕ → V → List (Option V) → List (Option V) → Type 0
 Relaxes A g v x labels labels' = (numbers : List ℕ) × ListsArcsFrom g v numbers × (labels' ≡ relaxed A g x labels numbers)
 
 -- the best open vertex is settled, the least if values tie, and what its arcs improve joins the queue

@@ -1,6 +1,6 @@
 //! The one-thread solver: best values from a list of sources, vertices settled best first, for every lawful algebra.
 //!
-//! It is the measure that the running engine is compared with, and the checker's own way to best values.
+//! The running engine is measured against it, and the checker finds best values by it.
 #![tactic(auto)]
 
 mod laws;

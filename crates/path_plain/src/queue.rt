@@ -37,7 +37,7 @@ impl<A: PathAlgebra> Ord for Open<A> {
         let (i, j) = (self.place, other.place);
         let (above, below) = (A::no_worse(a, b), A::no_worse(b, a));
         let ties = above & below;
-        // Chosen without a jump: which value is better cannot be foreseen.
+        // Without a branch: no predictor can foresee which value is better.
         let is_less = if ties { i > j } else { !above };
         let is_greater = if ties { i < j } else { !below };
         if is_less {
@@ -94,7 +94,7 @@ impl<A: PathAlgebra> Model for Queue<A> {
 }
 
 impl<A: PathAlgebra> Queue<A> {
-    /// A queue of nothing.
+    /// An empty queue.
     pub(crate) fn new(alloc: Global) -> Self
         ensures { result ≡ [] }
     {

@@ -1,7 +1,7 @@
 //! A search from a list of sources: vertices are settled best first, each once.
 
 ghost use Rattle.std.specs.Prelude.{◌≡◌, ℕ, ◌+◌, ◌≤◌, All, length, replicate, false, OnOk, IfOk};
-ghost use Rattle.road_graph.specs.Roads.{HasVertex};
+ghost use Rattle.road_graph.specs.GraphData.{HasVertex};
 ghost use Rattle.path_algebra.specs.Walks.{offered, offered_if};
 ghost use Rattle.path_plain.specs.Opening.{AreOpening};
 ghost use Rattle.path_plain.specs.Searching.{IsSameSearch, Relaxes, Proceeds};
@@ -44,7 +44,8 @@ impl<'g, A: PathAlgebra> Search<'g, A> {
         requires { All (HasVertex graph.now) sources.now }
         ensures algebra { IfOk result (λ s. s.algebra ≡ algebra) }
         ensures graph { IfOk result (λ s. s.roads ≡ graph.now) }
-        ensures opening { IfOk result (λ s. AreOpening (A.meaning algebra).origin graph.now.vertices sources.now s.labels) }
+        ensures opening { IfOk result (λ s. AreOpening (A.meaning algebra).origin graph.now.vertices
+            sources.now s.labels) }
         ensures settled { IfOk result (λ s. s.settled ≡ replicate graph.now.vertices false) }
     {
         let n = graph.vertices() as usize;
@@ -86,7 +87,8 @@ impl<'g, A: PathAlgebra> Search<'g, A> {
     /// Offers what an extension gave, if it was not refused.
     fn offer_if(&mut self, v: Vertex, extended: Option<A::Value>) -> Result<(), Memory>
         requires { HasVertex self.old.roads v }
-        ensures labels { OnOk result (self.new.labels ≡ offered_if A.order self.old.labels v extended) }
+        ensures labels { OnOk result (self.new.labels ≡ offered_if A.order self.old.labels v
+            extended) }
         ensures same { OnOk result (IsSameSearch self.old self.new) }
         ensures few { OnOk result (self.new.waiting ≤ self.old.waiting + 1) }
     {
@@ -96,26 +98,28 @@ impl<'g, A: PathAlgebra> Search<'g, A> {
         }
     }
 
-    /// Extends x along each arc that leaves v, and offers what comes of it to the arc's head.
+    /// Extends x along each arc that leaves v, and offers the result to the arc's head.
     fn relax(&mut self, v: Vertex, x: A::Value) -> Result<(), Memory>
         requires { HasVertex self.old.roads v }
-        ensures relaxes { OnOk result (Relaxes (A.meaning self.old.algebra) self.old.roads v x self.old.labels self.new.labels) }
+        ensures relaxes { OnOk result (Relaxes (A.meaning self.old.algebra) self.old.roads v x
+            self.old.labels self.new.labels) }
         ensures same { OnOk result (IsSameSearch self.old self.new) }
         ensures few { OnOk result (self.new.waiting ≤ self.old.waiting + length self.old.roads.arcs) }
     {
         let algebra = self.algebra;
         let graph = self.graph;
         laws_hold(algebra);
-        let _roads_hold = graph.vertices();
+        graph.holds();
         for road in graph.roads_from(v) {
             self.offer_if(road.head, algebra.extend(x, road.weight))?;
         }
         Ok(())
     }
 
-    /// Settles the vertex of the best entry with its value, or passes over the entry if its vertex is settled already. False where the queue is empty.
+    /// Settles the vertex of the best entry with its value, or drops the entry if its vertex is settled already. False if the queue is empty.
     pub(crate) fn settle_next(&mut self) -> Result<bool, Memory>
-        ensures { IfOk result (λ more. Proceeds A.order (A.meaning self.old.algebra) more self.old self.new) }
+        ensures { IfOk result (λ more. Proceeds A.order (A.meaning self.old.algebra) more self.old
+            self.new) }
     {
         let Some((x, i)) = self.queue.pop() else {
             return Ok(false);

@@ -1,1 +1,1 @@
-pub mod SmallGraphs
+mod SmallGraphs

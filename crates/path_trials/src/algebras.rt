@@ -12,7 +12,7 @@ const GREATEST_WEIGHT: u32 = 4294967295;
 
 const HELD: u64 = 9223372036854775808;
 
-/// The code of the value of a walk over arcs of these weights, or none where one of them is
+/// The code of the value of a walk over arcs of these weights, or none if one of them is
 /// refused.
 fn code_along<A: PathAlgebra>(algebra: A, weights: &[u32]) -> Option<u64> {
     let mut value = algebra.origin();
@@ -88,7 +88,7 @@ fn within_a_limit(rt: HostRuntime) {
     assert!(rt; Within::new(HELD + 1).is_none());
 }
 
-/// Asserts that a number is a value, and another one is none.
+/// Asserts that a number is a value, and that another is none.
 fn assert_values<A: PathAlgebra<Value = u64>>(
     rt: &impl Abort,
     algebra: A,
@@ -99,7 +99,7 @@ fn assert_values<A: PathAlgebra<Value = u64>>(
     assert!(rt; !algebra.is_value(beyond));
 }
 
-/// Asserts that a number is the code of the same value, and another one is no code.
+/// Asserts that a number is the code of the same value, and that another is no code.
 fn assert_own_code<A: PathAlgebra<Value = u64>>(
     rt: &impl Abort,
     algebra: A,

@@ -1,4 +1,4 @@
-//! Orders of events worked out by hand, and two graphs on which a look at every arc of a vertex for each event would show.
+//! Orders of events worked out by hand, and two graphs that would be slow if each event looked at every arc of a vertex.
 
 ghost use Rattle.std.specs.Prelude.{◌≡◌};
 
@@ -16,7 +16,7 @@ const ONCE: [Event; 4] = [
     Event::Accept(ArcNo(0)),
 ];
 
-/// The same, and all of them once more.
+/// The same events twice.
 const TWICE: [Event; 8] = [
     Event::Deliver(ArcNo(0)),
     Event::Deliver(ArcNo(1)),
@@ -28,7 +28,7 @@ const TWICE: [Event; 8] = [
     Event::Accept(ArcNo(0)),
 ];
 
-/// A core beside the graph that it runs on.
+/// A core with the graph that it runs on.
 #[derive(Drop)]
 struct Trial<'g, A: PathAlgebra> {
     graph: &'g Graph,
@@ -64,17 +64,17 @@ impl<'g, A: PathAlgebra> Trial<'g, A> {
         self.core.token(ArcNo(a))
     }
 
-    /// Whether the arc had a message, which is delivered then.
+    /// Delivers the message on an arc, and says whether it had one.
     fn deliver(&mut self, a: u32) -> bool {
         self.core.deliver(ArcNo(a)).is_ok()
     }
 
-    /// Whether the arc had a signal, which is accepted then.
+    /// Accepts the signal on an arc, and says whether it had one.
     fn accept(&mut self, a: u32) -> bool {
         self.core.accept(ArcNo(a)).is_ok()
     }
 
-    /// The event of an arc, where one is enabled.
+    /// Makes the event of an arc, if one is enabled, and says whether one was.
     fn step(&mut self, a: u32) -> bool {
         if self.deliver(a) {
             return true;
@@ -139,7 +139,7 @@ impl<'g, A: PathAlgebra> Trial<'g, A> {
     }
 }
 
-/// Asserts what stands on an arc.
+/// Asserts what is on an arc.
 fn assert_token<A: PathAlgebra<Value = u64>>(
     rt: &impl Abort,
     trial: &Trial<'_, A>,

@@ -16,7 +16,7 @@ use scholten_core::{
     every_schedule_ends, labels_are_values_of_simple_walks,
 };
 
-/// Two locks, one behind the other.
+/// Two locks, one after the other.
 const TWO_LOCKS: [(u32, u32, u32); 8] = [
     (1, 2, 0),
     (2, 4, 2),
@@ -60,16 +60,20 @@ const LONGEST: [Event; 26] = [
 
 /// On the five vertices no run sends more than 10 messages, and no list of events has more than 20 that are enabled.
 fn five_vertices_end_soon()
-    ensures messages { (events : List Event) → (totals_of shortest (network five 1) events).sent ≤ 10 }
-    ensures events { (events : List Event) → count_enabled shortest (network five 1) (opening shortest (network five 1)) events ≤ 20 }
+    ensures messages { (events : List Event) → (totals_of shortest (network five 1) events).sent ≤
+        10 }
+    ensures events { (events : List Event) → count_enabled shortest (network five 1)
+        (opening shortest (network five 1)) events ≤ 20 }
 {
     every_run_is_finite(Shortest);
 }
 
 /// On two locks no run sends more than 13 messages, and no list of events has more than 26 that are enabled.
 fn two_locks_end_soon()
-    ensures messages { (events : List Event) → (totals_of shortest (network two_locks 1) events).sent ≤ 13 }
-    ensures events { (events : List Event) → count_enabled shortest (network two_locks 1) (opening shortest (network two_locks 1)) events ≤ 26 }
+    ensures messages { (events : List Event) →
+        (totals_of shortest (network two_locks 1) events).sent ≤ 13 }
+    ensures events { (events : List Event) → count_enabled shortest (network two_locks 1)
+        (opening shortest (network two_locks 1)) events ≤ 26 }
 {
     every_run_is_finite(Shortest);
 }
@@ -85,7 +89,7 @@ fn theorems_of_the_end_may_be_cited(_rt: HostRuntime) {
     two_locks_end_soon();
 }
 
-/// Two locks come to just as many events as they may.
+/// Two locks attain the bound on events.
 #[test]
 fn two_locks_attain_the_bound(rt: HostRuntime) {
     let graph = graph_of(&rt, 7, &TWO_LOCKS);

@@ -54,7 +54,7 @@ fn road(head: u32, weight: u32) -> OutRoad {
     }
 }
 
-/// The first arc with an end that is no vertex is named, and the arcs come back.
+/// The first arc with an end that is no vertex is reported, and the arcs come back.
 #[test]
 fn refusals_hand_back(rt: HostRuntime) {
     let alloc = rt.alloc();
@@ -180,7 +180,7 @@ fn outgoing_refusals_hand_back(rt: HostRuntime) {
     assert!(rt; taken.roads_from(Vertex(3)) == [road(1, 8)].as_slice());
 }
 
-/// The graph tells of each of its arcs what it is, and where it stands among those that leave its tail.
+/// Asserts that the graph gives each of its arcs, and its index among those that leave its tail.
 fn tells_each(rt: &impl Abort, graph: &Graph) {
     assert!(rt; graph.arcs() == 6);
     let expected = [
@@ -193,15 +193,15 @@ fn tells_each(rt: &impl Abort, graph: &Graph) {
     ];
     for i in 0..6 {
         let a = ArcNo(i as u32 + 1);
-        let (arc, turn) = expected[i];
+        let (arc, rank) = expected[i];
         assert!(rt; graph.arc(a) == arc);
         assert!(rt; graph.head(a) == arc.head);
         assert!(rt; graph.road(a) == road(arc.head.0, arc.weight));
-        assert!(rt; graph.turn(a) == turn);
+        assert!(rt; graph.rank(a) == rank);
     }
 }
 
-/// An index changes nothing that is told of an arc, be there memory for it or not.
+/// An index changes nothing that the graph says of an arc, whether there is memory for it or not.
 #[test]
 fn arcs_by_number(rt: HostRuntime) {
     let alloc = rt.alloc();

@@ -39,7 +39,7 @@ fn found_outgoing<A: PathAlgebra>(
     route_outgoing(rt.alloc(), algebra, graph, &back, source, target, &labels).expect(rt, "memory")
 }
 
-/// Whether the route between two vertices goes through these; through none where no walk has a value.
+/// Asserts that the route between two vertices goes through these; through none if no walk has a value.
 fn assert_between<A: PathAlgebra>(
     rt: &(impl Abort + AllocGlobal),
     algebra: A,
@@ -57,7 +57,7 @@ fn assert_between<A: PathAlgebra>(
     }
 }
 
-/// Whether a route is that of the tree to the same target.
+/// Asserts that a route is that of the tree to the same target.
 fn assert_of_tree(
     rt: &(impl Abort + AllocGlobal),
     tree: &Tree,
@@ -76,7 +76,7 @@ fn assert_of_tree(
     assert!(rt; found.vertices.as_slice() == wanted.as_slice());
 }
 
-/// Whether the routes from a vertex to all are those of its tree.
+/// Asserts that the routes from a vertex to all are those of its tree.
 fn assert_all_from<A: PathAlgebra>(
     rt: &(impl Abort + AllocGlobal),
     algebra: A,
@@ -92,7 +92,7 @@ fn assert_all_from<A: PathAlgebra>(
     }
 }
 
-/// Whether the routes of all pairs are those of the trees.
+/// Asserts that the routes of all pairs are those of the trees.
 fn assert_all<A: PathAlgebra>(rt: &(impl Abort + AllocGlobal), algebra: A, graph: &Graph) {
     for s in 1..=graph.vertices() {
         assert_all_from(rt, algebra, graph, s);

@@ -9,7 +9,7 @@ use road_graph::{Graph, Vertex};
 use std::alloc::Global;
 use std::process::Abort;
 
-/// The codes of labels, vertex by vertex, or none for want of memory.
+/// The codes of labels, vertex by vertex, or none if memory was refused.
 fn codes_of<A: PathAlgebra>(
     alloc: Global,
     algebra: A,
@@ -29,7 +29,7 @@ fn codes_of<A: PathAlgebra>(
     Some(codes)
 }
 
-/// The codes of the labels from vertex 1, vertex by vertex, or none where a call was refused.
+/// The codes of the labels from vertex 1, vertex by vertex, or none if a call was refused.
 fn codes<A: PathAlgebra>(alloc: Global, algebra: A, graph: &Graph) -> Option<Vec<Option<u64>>> {
     if !graph.has(Vertex(1)) {
         return None;
@@ -38,7 +38,7 @@ fn codes<A: PathAlgebra>(alloc: Global, algebra: A, graph: &Graph) -> Option<Vec
     codes_of(alloc, algebra, graph, &labels)
 }
 
-/// The codes of the shortest sums from three sources, vertex by vertex, or none where a call was refused.
+/// The codes of the shortest sums from three sources, vertex by vertex, or none if a call was refused.
 fn shortest_from(alloc: Global, graph: &Graph, sources: [Vertex; 3]) -> Option<Vec<Option<u64>>> {
     let [a, b, c] = sources;
     if !graph.has(a) || !graph.has(b) || !graph.has(c) {

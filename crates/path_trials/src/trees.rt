@@ -1,7 +1,7 @@
 //! Small graphs, with the hops and parents that were worked out by hand.
 
 ghost use Rattle.std.specs.Prelude.{◌≡◌, ◌≤◌, [], ◌∷◌, IfOk};
-ghost use Rattle.road_graph.specs.Roads.{HasVertex};
+ghost use Rattle.road_graph.specs.GraphData.{HasVertex};
 ghost use Rattle.path_algebra.specs.Walks.{AreBest};
 
 use crate::graphs::{FIVE, graph_of};
@@ -16,7 +16,7 @@ use std::alloc::Global;
 use std::process::Abort;
 use tree_search::solve_with_tree;
 
-/// Whether each vertex has these hops and this parent, where 0 stands for none.
+/// Asserts that each vertex has these hops and this parent, where 0 stands for none.
 fn assert_tree(rt: &(impl Abort + AllocGlobal), found: &Tree, wanted: &[(Option<u32>, u32)]) {
     assert!(rt; found.vertices() == wanted.len());
     assert!(rt; wanted.len() < 100);
@@ -57,8 +57,8 @@ fn searched_from<A: PathAlgebra>(
     found
 }
 
-/// Asserts the hops and the parents in the tree of the best labels from one source, where 0 is none: in one that is found from
-/// the labels, and in one that is found with them.
+/// Asserts the hops and the parents in the tree of the best labels from one source, where 0 is none: both in the tree that is
+/// found from the labels, and in the one that is found with them.
 fn assert_tree_from<A: PathAlgebra>(
     rt: &(impl Abort + AllocGlobal),
     algebra: A,

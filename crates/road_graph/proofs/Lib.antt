@@ -1,11 +1,11 @@
 pub mod Lists
 pub mod Options
 pub mod Numbers
-pub mod Counting
-pub mod Placing
-pub mod Reading
+mod Counting
+mod Placing
+mod Reading
 pub mod Rising
-pub mod Places
-pub mod Entries
-pub mod OneRows
-pub mod Reversing
+mod Places
+mod Entries
+mod OneRows
+mod Reversing

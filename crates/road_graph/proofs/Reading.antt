@@ -4,11 +4,11 @@ use Rattle.std.specs.List.{drop-map, take-map}
 use Rattle.road_graph.specs.declared.OutRoad.{OutRoad}
 use Rattle.road_graph.specs.declared.Side.{Side}
 use Rattle.road_graph.specs.declared.Side.TheVariants.{Tail, Head}
-use Rattle.road_graph.specs.Roads.{Roads, HasVertex, ListsArcsFrom, ListsArcsInto, ListsRoadsFrom, roads_of, road_of, arc_of}
+use Rattle.road_graph.specs.GraphData.{GraphData, HasVertex, ListsArcsFrom, ListsArcsInto, ListsRoadsFrom, roads_of, road_of, arc_of}
 use Rattle.road_graph.specs.Making.{numbers_at, AreRows}
 use Rattle.road_graph.proofs.Numbers.{lists_from, lists_into}
 
-module _ (g : Roads) (v : ℕ) (in_v : HasVertex g v) (starts numbers : List ℕ) (start past : ℕ) (from : start ≡ get_or starts (v - 1) 0) (to : past ≡ get_or starts v 0) where
+module _ (g : GraphData) (v : ℕ) (in_v : HasVertex g v) (starts numbers : List ℕ) (start past : ℕ) (from : start ≡ get_or starts (v - 1) 0) (to : past ≡ get_or starts v 0) where
   row_is : (side : Side) → AreRows side g.vertices g.arcs starts numbers → take (past - start) (drop start numbers) ≡ numbers_at side v 0 g.arcs
   row_is side known =
       let back : v - 1 + 1 ≡ v = omega (arith, in_v.0) in

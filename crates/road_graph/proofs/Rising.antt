@@ -7,7 +7,7 @@ use Rattle.std.proofs.lemmas.List.Sorted.{searched}
 use Rattle.std.specs.List.Sorted.{IsBinarySearchResult}
 use Rattle.std.specs.Ordering.{nat_cmp}
 use Rattle.std.specs.Prelude.{Contains}
-use Rattle.road_graph.specs.Roads.{IsAscendingFrom}
+use Rattle.road_graph.specs.GraphData.{IsAscendingFrom}
 use Rattle.road_graph.proofs.Lists.{here, later, head_or_tail, not_in_empty, element_place}
 
 pub above : (low : ℕ) (xs : List ℕ) (j : ℕ) → IsAscendingFrom low xs → j < length xs → low < get_or xs j 0

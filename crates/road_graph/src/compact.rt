@@ -1,21 +1,21 @@
-//! The graph.
+//! The graph with its arcs by number, by tail and by head.
 
 ghost use Rattle.std.specs.Prelude.{◌≡◌, ◌≤◌, ◌↔◌, ◌^◌, length, IsTrue, MatchResult};
-ghost use Rattle.road_graph.specs.Roads.{IsRoads};
+ghost use Rattle.road_graph.specs.GraphData.{IsGraph};
 
 use crate::bad_ends::first_bad;
 use crate::index::{IndexEntry, entries_of};
-use crate::lookup::{out_in, road_in, turn_in};
+use crate::lookup::{out_in, rank_in, road_in};
 use crate::out_graph::OutGraph;
 use crate::rows::{Rows, roads_at, row_of, rows_of, tails_of};
 use crate::{ArcNo, GraphFault, Memory, OutRoad, RoadArc, Side, Vertex};
 use std::alloc::Global;
 use std::marker::Model;
 
-/// How the ends of an arc are told by its number.
+/// How the ends of an arc are found by its number.
 #[derive(Debug, Drop)]
 enum Ends {
-    /// By its tail alone: its head is looked for in the row of that.
+    /// By its tail alone: the head is looked up in the row of that tail.
     Tails(Vec<Vertex>),
     /// By an entry for each arc: the graph is indexed.
     Index(Vec<IndexEntry>),
@@ -23,8 +23,8 @@ enum Ends {
 
 /// A directed graph with its arcs by number, by tail and by head.
 ///
-/// It takes 20 bytes for each arc and 8 for each vertex: heads and weights stand once, in the order of the outgoing rows.
-/// Once indexed it takes 4 bytes more for each arc, and one load tells the tail of an arc and where it stands among those that leave it.
+/// It takes 20 bytes for each arc and 8 for each vertex: heads and weights are kept once, in the order of the outgoing rows.
+/// Once indexed it takes 4 bytes more for each arc, and one load gives the tail of an arc and its index among the arcs that leave that tail.
 #[derive(Debug, Drop)]
 pub struct Graph {
     out: OutGraph,
@@ -34,16 +34,16 @@ pub struct Graph {
 }
 
 impl Model for Graph {
-    ghost use Rattle.road_graph.specs.Roads.{Roads, IsRoads};
+    ghost use Rattle.road_graph.specs.GraphData.{GraphData, IsGraph};
     ghost use Rattle.road_graph.specs.Making.{AreRows, AreNumbers, IsEnds};
     ghost use Rattle.road_graph.specs.declared.Side.TheVariants.{Tail, Head};
 
-    ghost Value = { Roads };
+    ghost Value = { GraphData };
 
     ghost view = { λ g. g.out };
 
     ghost invariant = { λ g.
-        IsRoads g.out
+        IsGraph g.out
         × AreNumbers Tail g.out g.out_numbers.items
         × AreRows Head g.out.vertices g.out.arcs g.into_rows.starts.items g.into_rows.numbers.items
         × IsEnds g.out g.ends };
@@ -51,8 +51,8 @@ impl Model for Graph {
 
 impl Graph {
     ghost use Rattle.road_graph.specs.Making.{IsRefusal};
-    ghost use Rattle.road_graph.specs.Roads.{Roads, HasVertex, HasArc, arc_of, road_of};
-    ghost use Rattle.road_graph.specs.Roads.{IsTurn, ListsArcsFrom, ListsArcsInto, ListsRoadsFrom};
+    ghost use Rattle.road_graph.specs.GraphData.{GraphData, HasVertex, HasArc, arc_of, road_of};
+    ghost use Rattle.road_graph.specs.GraphData.{IsRank, ListsArcsFrom, ListsArcsInto, ListsRoadsFrom};
 
     /// The graph of exactly these arcs on the vertices 1 to n.
     ///
@@ -91,10 +91,10 @@ impl Graph {
         })
     }
 
-    /// Indexes the arcs: from then on `tail` and `turn` read one entry of the index, and `head`, `road` and `arc` find their road by it, in place of a search.
+    /// Indexes the arcs: from then on `tail` and `rank` read one entry of the index, and `head`, `road` and `arc` find their road by it, in place of a search.
     ///
     /// # Errors
-    /// Where memory is refused, the graph is as it was.
+    /// If memory is refused, the graph is as it was.
     pub fn index(&mut self, alloc: Global) -> Result<(), Memory>
         ensures { self.new ≡ self.old }
     {
@@ -107,10 +107,18 @@ impl Graph {
     /// How many vertices there are.
     pub fn vertices(&self) -> u32
         ensures count { result ≡ self.now.vertices }
-        // What holds of every graph, for callers that lean on it.
-        ensures roads { IsRoads self.now }
+        // What holds of every graph, for callers that rely on it.
+        ensures roads { IsGraph self.now }
     {
         self.out.vertices()
+    }
+
+    /// What holds of every graph: its arcs join its vertices, and it keeps the limits. Nothing is computed.
+    #[inline]
+    pub fn holds(&self)
+        ensures { IsGraph self.now }
+    {
+        self.out.holds();
     }
 
     /// How many arcs there are.
@@ -169,19 +177,19 @@ impl Graph {
             Ends::Tails(_) => road_in(&self.out, &self.out_numbers, self.tail(a), a),
             Ends::Index(entries) => {
                 let entry = entries[a.0 as usize - 1];
-                self.roads_from(entry.tail)[entry.turn as usize]
+                self.roads_from(entry.tail)[entry.rank as usize]
             }
         }
     }
 
-    /// Where an arc stands among those that leave its tail, an index into what `out` and `roads_from` give for that.
-    pub fn turn(&self, a: ArcNo) -> usize
+    /// The index of an arc among those that leave its tail, in what `out` and `roads_from` give for that tail.
+    pub fn rank(&self, a: ArcNo) -> usize
         requires { HasArc self.now a }
-        ensures { IsTurn self.now a result }
+        ensures { IsRank self.now a result }
     {
         match &self.ends {
-            Ends::Tails(_) => turn_in(&self.out, &self.out_numbers, self.tail(a), a),
-            Ends::Index(entries) => entries[a.0 as usize - 1].turn as usize,
+            Ends::Tails(_) => rank_in(&self.out, &self.out_numbers, self.tail(a), a),
+            Ends::Index(entries) => entries[a.0 as usize - 1].rank as usize,
         }
     }
 

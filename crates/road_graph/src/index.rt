@@ -1,4 +1,4 @@
-//! The index of a graph: the tail of each arc, and where it stands among the arcs that leave that.
+//! The index of a graph: the tail of each arc, and its index among the arcs that leave that tail.
 
 ghost use Rattle.std.specs.Prelude.{◌≡◌, map, IfOk};
 ghost use Rattle.road_graph.specs.Making.{AreNumbers, IsIndex, end_of};
@@ -8,11 +8,11 @@ use crate::out_graph::OutGraph;
 use crate::{ArcNo, Vertex};
 use std::alloc::{AllocError, Global};
 
-/// What the index tells of an arc: its tail, and where it stands among the arcs that leave that.
+/// What the index holds of an arc: its tail, and its index among the arcs that leave that tail.
 #[derive(Debug, Clone, Copy)]
 pub(crate) struct IndexEntry {
     pub(crate) tail: Vertex,
-    pub(crate) turn: u32,
+    pub(crate) rank: u32,
 }
 
 /// The entries of all arcs, in the order of their numbers.
@@ -28,9 +28,9 @@ pub(crate) fn entries_of(
 {
     let blank = IndexEntry {
         tail: Vertex(0),
-        turn: 0,
+        rank: 0,
     };
-    let _roads_hold = graph.vertices();
+    graph.holds();
     let starts = graph.starts();
     let mut entries = vec![in alloc; blank; tails.len()]?;
     for (place, number) in numbers.iter().enumerate() {
@@ -38,7 +38,7 @@ pub(crate) fn entries_of(
         let tail = tails[at];
         entries[at] = IndexEntry {
             tail,
-            turn: place as u32 - starts[tail.0 as usize - 1],
+            rank: place as u32 - starts[tail.0 as usize - 1],
         };
     }
     Ok(entries)

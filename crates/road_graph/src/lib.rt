@@ -1,8 +1,8 @@
 //! A directed road graph in compact form: its arcs by number, by tail and by head.
 //!
-//! Vertices and arcs are numbered from 1. For each direction the numbers of the arcs stand in one
-//! list, vertex by vertex, and a list of offsets says where the row of each vertex starts. Heads and
-//! weights stand in the order of the outgoing rows too, for whoever goes along all of them: with the
+//! Vertices and arcs are numbered from 1. For each direction one list has the numbers of the arcs,
+//! vertex by vertex, and a list of offsets says where the row of each vertex starts. Heads and
+//! weights are in the order of the outgoing rows too, for callers that go along all of them: with the
 //! offsets of these rows they are a graph by themselves, `OutGraph`.
 #![tactic(auto)]
 

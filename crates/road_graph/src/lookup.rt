@@ -1,7 +1,7 @@
-//! Where an arc stands in the rows of a graph, by the numbers in them.
+//! Where an arc is in the rows of a graph, by the numbers in them.
 
 ghost use Rattle.std.specs.Prelude.{◌≡◌, ℕ, ◌-◌, ◌<◌, ◌≤◌, length, slice_index, Contains};
-ghost use Rattle.road_graph.specs.Roads.{HasArc, HasVertex, IsAscendingFrom, IsTurn, ListsArcsFrom, arc_of, road_of};
+ghost use Rattle.road_graph.specs.GraphData.{HasArc, HasVertex, IsAscendingFrom, IsRank, ListsArcsFrom, arc_of, road_of};
 ghost use Rattle.road_graph.specs.Making.{AreNumbers, StandsAt};
 ghost use Rattle.road_graph.specs.declared.Side.TheVariants.{Tail};
 
@@ -9,20 +9,20 @@ use crate::out_graph::OutGraph;
 use crate::rows::{range_of, row_of};
 use crate::{ArcNo, OutRoad, Vertex};
 
-/// Where an arc stands in a row.
+/// Where an arc is in a row.
 fn place_of(row: &[ArcNo], a: ArcNo) -> usize
     requires ascending { IsAscendingFrom 0 row.now }
     requires listed { Contains row.now a }
     ensures place { result < length row.now }
     ensures number { slice_index row.now result ≡ a }
 {
-    // The row has the arc, so it is found: a place to put it in is never answered.
+    // The row has the arc, so the search finds it and never returns an insertion point.
     match row.binary_search(&a) {
         Ok(at) | Err(at) => at,
     }
 }
 
-/// Where an arc stands in the rows, looked for in that of its tail. Where arcs are numbered in the order of the rows, it is found at the first look.
+/// Where an arc is in the rows, by a search in the row of its tail. If arcs are numbered in the order of the rows, the first guess finds it.
 fn find_place(graph: &OutGraph, numbers: &[ArcNo], tail: Vertex, a: ArcNo) -> usize
     requires numbers { AreNumbers Tail graph.now numbers.now }
     requires arc { HasArc graph.now a }
@@ -33,7 +33,7 @@ fn find_place(graph: &OutGraph, numbers: &[ArcNo], tail: Vertex, a: ArcNo) -> us
     if guess < numbers.len() && numbers[guess] == a {
         return guess;
     }
-    let _roads_hold = graph.vertices();
+    graph.holds();
     let starts = graph.starts();
     let (start, _) = range_of(starts, tail);
     start + place_of(row_of(starts, numbers, tail), a)
@@ -49,14 +49,14 @@ pub(crate) fn road_in(graph: &OutGraph, numbers: &[ArcNo], tail: Vertex, a: ArcN
     graph.roads()[find_place(graph, numbers, tail, a)]
 }
 
-/// Where an arc stands among those that leave its tail.
-pub(crate) fn turn_in(graph: &OutGraph, numbers: &[ArcNo], tail: Vertex, a: ArcNo) -> usize
+/// The index of an arc among those that leave its tail.
+pub(crate) fn rank_in(graph: &OutGraph, numbers: &[ArcNo], tail: Vertex, a: ArcNo) -> usize
     requires numbers { AreNumbers Tail graph.now numbers.now }
     requires arc { HasArc graph.now a }
     requires tail { tail ≡ (arc_of graph.now a).tail }
-    ensures { IsTurn graph.now a result }
+    ensures { IsRank graph.now a result }
 {
-    let _roads_hold = graph.vertices();
+    graph.holds();
     let (start, _) = range_of(graph.starts(), tail);
     find_place(graph, numbers, tail, a) - start
 }

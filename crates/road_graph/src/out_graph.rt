@@ -1,8 +1,8 @@
 //! A graph with its arcs by tail alone.
 
 ghost use Rattle.std.specs.Prelude.{◌≡◌, ℕ, ◌+◌, ◌-◌, ◌<◌, ◌≤◌, ◌↔◌, ◌^◌, List, length, IsTrue, MatchResult};
-ghost use Rattle.road_graph.specs.Roads.{IsRoads};
-ghost use Rattle.road_graph.specs.Making.{AreRoadRows, AreNumbers, AreStarts};
+ghost use Rattle.road_graph.specs.GraphData.{IsGraph};
+ghost use Rattle.road_graph.specs.Making.{AreRoadRows, AreNumbers, AreRowStarts};
 
 use crate::bad_ends::first_bad;
 use crate::rows::{range_of, road_rows_of};
@@ -34,22 +34,22 @@ impl fmt::Debug for OutGraph {
 }
 
 impl Model for OutGraph {
-    ghost use Rattle.road_graph.specs.Roads.{Roads, IsRoads};
+    ghost use Rattle.road_graph.specs.GraphData.{GraphData, IsGraph};
     ghost use Rattle.road_graph.specs.Making.{AreRoadRows};
 
-    ghost Value = { Roads };
+    ghost Value = { GraphData };
 
     ghost view = { λ g. record { vertices = g.vertices; arcs = g.arcs.value.items } };
 
     ghost invariant = { λ g.
-        IsRoads (record { vertices = g.vertices; arcs = g.arcs.value.items })
+        IsGraph (record { vertices = g.vertices; arcs = g.arcs.value.items })
         × AreRoadRows g.vertices g.arcs.value.items g.starts.items g.roads.items };
 }
 
 impl OutGraph {
     ghost use Rattle.road_graph.specs.Making.{AreRows, IsRefusal};
     ghost use Rattle.road_graph.specs.declared.Side.TheVariants.{Tail};
-    ghost use Rattle.road_graph.specs.Roads.{HasVertex, ListsRoadsFrom, roads_of};
+    ghost use Rattle.road_graph.specs.GraphData.{HasVertex, ListsRoadsFrom, roads_of};
 
     /// The graph of exactly these arcs on the vertices 1 to n.
     ///
@@ -81,7 +81,7 @@ impl OutGraph {
         starts: Vec<u32>,
         roads: Vec<OutRoad>,
     ) -> OutGraph
-        requires roads { IsRoads (record { vertices = n; arcs = arcs.now.items }) }
+        requires roads { IsGraph (record { vertices = n; arcs = arcs.now.items }) }
         requires rows { AreRoadRows n arcs.now.items starts.items roads.items }
         ensures { result ≡ record { vertices = n; arcs = arcs.now.items } }
     {
@@ -96,10 +96,19 @@ impl OutGraph {
     /// How many vertices there are.
     pub fn vertices(&self) -> u32
         ensures count { result ≡ self.now.vertices }
-        // What holds of every graph, for callers that lean on it.
-        ensures roads { IsRoads self.now }
+        // What holds of every graph, for callers that rely on it.
+        ensures roads { IsGraph self.now }
     {
         self.vertices
+    }
+
+    /// What holds of every graph: its arcs join its vertices, and it keeps the limits. Nothing is computed.
+    #[inline]
+    pub fn holds(&self)
+        ensures { IsGraph self.now }
+    {
+        // The invariant is known where a field is used.
+        let _ = &self.vertices;
     }
 
     /// How many arcs there are.
@@ -129,8 +138,9 @@ impl OutGraph {
     /// Where the row of each vertex starts, and the end of the last.
     #[inline]
     pub(crate) fn starts(&self) -> &[u32]
-        ensures some { AreStarts Tail self.now result.now }
-        ensures all { (numbers : List ℕ) → AreNumbers Tail self.now numbers → AreRows Tail self.now.vertices self.now.arcs result.now numbers }
+        ensures some { AreRowStarts Tail self.now result.now }
+        ensures all { (numbers : List ℕ) → AreNumbers Tail self.now numbers →
+            AreRows Tail self.now.vertices self.now.arcs result.now numbers }
     {
         self.starts.as_slice()
     }
@@ -138,7 +148,8 @@ impl OutGraph {
     /// The heads and weights of all arcs, row after row.
     #[inline]
     pub(crate) fn roads(&self) -> &[OutRoad]
-        ensures { (numbers : List ℕ) → AreNumbers Tail self.now numbers → result.now ≡ roads_of self.now numbers }
+        ensures { (numbers : List ℕ) → AreNumbers Tail self.now numbers → result.now ≡ roads_of
+            self.now numbers }
     {
         self.roads.as_slice()
     }

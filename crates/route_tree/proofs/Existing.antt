@@ -4,14 +4,14 @@ use Rattle.std.proofs.Math.Seq.{take-length}
 use Rattle.std.proofs.lemmas.List.{length-append, get_or_default}
 use Rattle.std.proofs.lemmas.List.Sums.{sum_by-set}
 use Rattle.std.specs.Prelude.{All}
-use Rattle.road_graph.specs.Roads.{Roads, IsRoads, HasVertex, arc_of}
+use Rattle.road_graph.specs.GraphData.{GraphData, IsGraph, HasVertex, arc_of}
 use Rattle.road_graph.specs.Making.{numbers_at}
 use Rattle.road_graph.specs.declared.Side.TheVariants.{Tail}
 use Rattle.road_graph.proofs.Numbers.{lists_from}
 use Rattle.path_algebra.specs.Algebra.{Algebra, IsLawful}
 use Rattle.path_algebra.specs.Walks.{AreBest, is_tight, label_of}
 use Rattle.path_algebra.proofs.Walks.{all_inside}
-use Rattle.route_tree.specs.Levels.{AreLeast, AreLeastTails, IsMarked, Visiting, hops_if, parents_if, next_if, is_open, unreached}
+use Rattle.route_tree.specs.Levels.{AreLeast, AreLeastTails, IsMarked, Visiting, hops_if, parents_if, next_if, one_if_unreached, unreached}
 use Rattle.route_tree.specs.Tree.{Branches, hops_of, parent_of, IsTree, IsLinked, IsRoute}
 use Rattle.route_tree.proofs.OneArc.{visit_arc}
 use Rattle.route_tree.proofs.OneVertex.{visit_open, visit_level}
@@ -26,12 +26,12 @@ reach_size : (k v : ℕ) (hops : List (Option ℕ)) (next : List ℕ) (l : Optio
     unreached (hops_if k hops v l) + length (next_if next v l) ≡ unreached hops + length next
 reach_size k v hops next (Some j) e lt = refl
 reach_size k v hops next None e lt =
-    let f = sum_by-set is_open hops (v - 1) (Some k) None lt in
+    let f = sum_by-set one_if_unreached hops (v - 1) (Some k) None lt in
     let was : unreached (set hops (v - 1) (Some k)) + 1 ≡ unreached hops + 0 = rw e at f in
     let n = length-append next (v ∷ []) in
     omega (arith, was, n)
 
-module _ (g : Roads) (roads : IsRoads g) (test : ℕ → Bool) (sources : List ℕ) where
+module _ (g : GraphData) (roads : IsGraph g) (test : ℕ → Bool) (sources : List ℕ) where
   -- a search that has gone on, with as many vertices unreached or waiting as before
   abbrev Visited : ℕ → List ℕ → ℕ → Type 0
   Visited k pending size = (hops parents : List (Option ℕ)) × (next : List ℕ) × Visiting g test sources k hops parents pending [] next × (unreached hops + length next ≡ size)
@@ -102,7 +102,7 @@ module _ (t : Branches) (linked : IsLinked t) (target : ℕ) where
       let start = climb_start t target (hops_of t target) low high refl (λ none. let bad : None ≡ Some k = sym none ∙ e in cc) in
       climb_on start.hops target (target ∷ []) start (omega arith) (parent_of t target) refl
 
-pub tree_exists : {V : Type 0} (A : Algebra V) → IsLawful A → (g : Roads) → IsRoads g → (sources : List ℕ) → All (HasVertex g) sources → (labels : List (Option V)) → AreBest A g sources labels →
+pub tree_exists : {V : Type 0} (A : Algebra V) → IsLawful A → (g : GraphData) → IsGraph g → (sources : List ℕ) → All (HasVertex g) sources → (labels : List (Option V)) → AreBest A g sources labels →
     (t : Branches) × IsTree A g sources t × IsLinked t × ((v k : ℕ) → HasVertex g v → hops_of t v ≡ Some k → (list : List ℕ) × IsRoute t v list)
 tree_exists A lawful g roads sources inside labels best =
     let least = least_exist g roads (is_tight A g labels) sources inside in

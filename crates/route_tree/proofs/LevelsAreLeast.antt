@@ -3,14 +3,14 @@ use Rattle.std.proofs.Common.{◌≡◌, ℕ, ◌+◌, ◌≤◌, inl, inr, Bool
 use Rattle.std.proofs.lemmas.List.{length-append, nil_from_length}
 use Rattle.std.proofs.lemmas.List.Elements.{All-nil, All-cons, All-head, All-tail, All-append}
 use Rattle.std.specs.Prelude.{IsTrue, Contains, All}
-use Rattle.road_graph.specs.Roads.{Roads, HasArc, HasVertex, arc_of}
+use Rattle.road_graph.specs.GraphData.{GraphData, HasArc, HasVertex, arc_of}
 use Rattle.road_graph.proofs.Lists.{not_in_empty}
 use Rattle.road_graph.proofs.Options.{same_some}
 use Rattle.path_algebra.specs.Walks.{IsWalk, label_of}
 use Rattle.path_algebra.proofs.Walks.{IsWalk-snoc}
 use Rattle.route_tree.specs.Levels.{IsWalkOf, IsLeastAt, AreLeast, IsTreeArc, IsLeastTail, AreLeastTails, IsPassed, Visiting}
 
-module _ (g : Roads) (test : ℕ → Bool) (sources : List ℕ) where
+module _ (g : GraphData) (test : ℕ → Bool) (sources : List ℕ) where
   -- a walk goes on by an arc that passes
   pub IsWalkOf-snoc : (u a k : ℕ) → IsWalkOf g test sources u k → HasArc g a → (arc_of g a).tail ≡ u → test a ≡ true → IsWalkOf g test sources (arc_of g a).head (k + 1)
   IsWalkOf-snoc u a k w h e t =

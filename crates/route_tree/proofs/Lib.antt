@@ -1,11 +1,11 @@
 pub mod LevelsAreLeast
-pub mod OneArc
-pub mod OneVertex
-pub mod Marking
+mod OneArc
+mod OneVertex
+mod Marking
 pub mod Linked
 pub mod Trees
-pub mod Chains
-pub mod Told
-pub mod Existing
-pub mod VisitingBack
-pub mod RegionTrees
+mod Chains
+mod Told
+mod Existing
+mod VisitingBack
+mod RegionTrees

@@ -2,14 +2,14 @@
 use Rattle.std.proofs.Common.{◌≡◌, ℕ, ◌+◌, ◌≤◌, ◌⊎◌, inl, inr, Bool, List, [], ◌∷◌, length, refl, ap, sym, ◌∙◌, subst, arith, Option, Some, None}
 use Rattle.std.proofs.lemmas.List.Elements.{All-nil, All-cons, All-head, All-tail}
 use Rattle.std.specs.Prelude.{IsTrue, Contains, All}
-use Rattle.road_graph.specs.Roads.{Roads, IsRoads, HasArc, HasVertex, arc_of}
+use Rattle.road_graph.specs.GraphData.{GraphData, IsGraph, HasArc, HasVertex, arc_of}
 use Rattle.road_graph.proofs.Options.{same_some}
 use Rattle.path_algebra.specs.Walks.{IsWalk, label_of}
 use Rattle.route_tree.specs.Levels.{IsWalkOf, IsLeastAt, AreLeast, IsLeastTail, AreLeastTails}
 use Rattle.route_tree.specs.Tree.{IsLinkedAt, IsLinked}
 use Rattle.route_tree.proofs.LevelsAreLeast.{IsWalkOf-snoc, IsWalkOf-nil}
 
-module _ (g : Roads) (roads : IsRoads g) (test : ℕ → Bool) (sources : List ℕ) where
+module _ (g : GraphData) (roads : IsGraph g) (test : ℕ → Bool) (sources : List ℕ) where
   -- a walk that is not empty ends by an arc
   last_arc : (u : ℕ) (p : List ℕ) (v : ℕ) → IsWalk g u p v → All (λ a. IsTrue (test a)) p →
       ((u ≡ v) × (length p ≡ 0)) ⊎ ((q : List ℕ) × (a : ℕ) × IsWalk g u q (arc_of g a).tail × All (λ b. IsTrue (test b)) q × HasArc g a × IsTrue (test a) × ((arc_of g a).head ≡ v) × (length q + 1 ≡ length p))

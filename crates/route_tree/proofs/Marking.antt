@@ -4,7 +4,7 @@ use Rattle.std.proofs.lemmas.Bool.{cases_eq}
 use Rattle.std.proofs.lemmas.List.{get_or-replicate, length-replicate, take_more}
 use Rattle.std.proofs.lemmas.List.Elements.{Contains-append_left, Contains-append_right, Contains-append_cases}
 use Rattle.std.specs.Prelude.{Contains, All}
-use Rattle.road_graph.specs.Roads.{Roads, IsRoads, HasArc, HasVertex, arc_of}
+use Rattle.road_graph.specs.GraphData.{GraphData, IsGraph, HasArc, HasVertex, arc_of}
 use Rattle.road_graph.proofs.Lists.{not_in_empty, head_or_tail, here}
 use Rattle.road_graph.proofs.Options.{same_some}
 use Rattle.path_algebra.specs.Walks.{label_of}
@@ -85,7 +85,7 @@ module _ (n : ℕ) (sources : List ℕ) where
       rw (longer, e, f) (marked_more (take i sources) hops level v low high (i, lt, sym is) known (label_of hops v) refl)
 
 -- the sources are the first level
-pub marked_visits : (g : Roads) → IsRoads g → (test : ℕ → Bool) (sources : List ℕ) (hops : List (Option ℕ)) (level : List ℕ) → All (HasVertex g) sources →
+pub marked_visits : (g : GraphData) → IsGraph g → (test : ℕ → Bool) (sources : List ℕ) (hops : List (Option ℕ)) (level : List ℕ) → All (HasVertex g) sources →
     IsMarked g.vertices sources sources hops level → Visiting g test sources 0 hops (replicate g.vertices None) level [] []
 marked_visits g roads test sources hops level inside known = record {
   count = known.count;

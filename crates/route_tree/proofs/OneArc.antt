@@ -3,7 +3,7 @@ use Rattle.std.proofs.Common.{◌≡◌, ℕ, ◌+◌, ◌-◌, ◌<◌, ◌≤�
 use Rattle.std.proofs.lemmas.Bool.{cases_eq}
 use Rattle.std.proofs.lemmas.List.Elements.{Contains-append_left, Contains-append_right, Contains-append_cases}
 use Rattle.std.specs.Prelude.{Contains}
-use Rattle.road_graph.specs.Roads.{Roads, IsRoads, HasArc, HasVertex, arc_of}
+use Rattle.road_graph.specs.GraphData.{GraphData, IsGraph, HasArc, HasVertex, arc_of}
 use Rattle.road_graph.proofs.Lists.{not_in_empty, head_or_tail, here, later}
 use Rattle.road_graph.proofs.Options.{same_some}
 use Rattle.path_algebra.specs.Walks.{label_of}
@@ -24,7 +24,7 @@ lesser_is (Some s) t = elim (leb s t) as (λ b. leb s t ≡ b → (u : ℕ) × (
         either : (x y : ℕ) → (y ≤ x) ⊎ (x ≤ y)
         either x y = grind arith
 
-module _ (g : Roads) (roads : IsRoads g) (test : ℕ → Bool) (sources : List ℕ) (k : ℕ) (hops parents : List (Option ℕ))
+module _ (g : GraphData) (roads : IsGraph g) (test : ℕ → Bool) (sources : List ℕ) (k : ℕ) (hops parents : List (Option ℕ))
     (pending next rest : List ℕ) (a : ℕ) (known : Visiting g test sources k hops parents pending (a ∷ rest) next) where
   this : HasArc g a × (label_of hops (arc_of g a).tail ≡ Some k)
   this = known.arcs_at a (here a rest)

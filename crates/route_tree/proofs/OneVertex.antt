@@ -2,7 +2,7 @@
 use Rattle.std.proofs.Common.{drop, drop-cons, add-one, ◌≡◌, ℕ, suc, ◌+◌, ◌<◌, ◌≤◌, inl, inr, Bool, false, cond, List, [], ◌∷◌, length, get_or, refl, ap, sym, ◌∙◌, arith, Option}
 use Rattle.std.proofs.Math.ListN.{drop_of_length-le}
 use Rattle.std.proofs.lemmas.List.{get_or-map, length-map, get_or_default}
-use Rattle.road_graph.specs.Roads.{Roads, IsRoads, HasArc, arc_of, ListsArcsFrom, road_of, roads_of}
+use Rattle.road_graph.specs.GraphData.{GraphData, IsGraph, HasArc, arc_of, ListsArcsFrom, road_of, roads_of}
 use Rattle.road_graph.specs.declared.OutRoad.{OutRoad}
 use Rattle.road_graph.proofs.Lists.{not_in_empty, head_or_tail, here, later}
 use Rattle.path_algebra.specs.Algebra.{Algebra}
@@ -11,7 +11,7 @@ use Rattle.route_tree.specs.Levels.{hops_if, parents_if, next_if, Visiting}
 use Rattle.route_tree.specs.Regions.{in_region, is_tight_into}
 use Rattle.route_tree.proofs.OneArc.{visit_arc}
 
-module _ (g : Roads) (v : ℕ) (numbers : List ℕ) (lists : ListsArcsFrom g v numbers) (out : List OutRoad) (are : out ≡ roads_of g numbers) where
+module _ (g : GraphData) (v : ℕ) (numbers : List ℕ) (lists : ListsArcsFrom g v numbers) (out : List OutRoad) (are : out ≡ roads_of g numbers) where
   pub same_length : length out ≡ length numbers
   same_length = rw are (simp length-map)
 
@@ -24,11 +24,11 @@ module _ (g : Roads) (v : ℕ) (numbers : List ℕ) (lists : ListsArcsFrom g v n
       (has.0, has.1, is ∙ at)
 
 -- whether an arc is tight and leads into a region, by its road
-pub is_tight_by_road : {V : Type 0} (A : Algebra V) (g : Roads) (labels : List (Option V)) (region : Option (List Bool)) (a v : ℕ) (r : OutRoad) (l : Option V) → (arc_of g a).tail ≡ v → r ≡ road_of (arc_of g a) → l ≡ label_of labels v →
+pub is_tight_by_road : {V : Type 0} (A : Algebra V) (g : GraphData) (labels : List (Option V)) (region : Option (List Bool)) (a v : ℕ) (r : OutRoad) (l : Option V) → (arc_of g a).tail ≡ v → r ≡ road_of (arc_of g a) → l ≡ label_of labels v →
     is_tight_into A g labels region a ≡ cond (in_region region r.head) (is_tight_between A l r.weight (label_of labels r.head)) false
 is_tight_by_road A g labels region a v r l leaves is e = rw (is, leaves, e) refl
 
-module _ (g : Roads) (test : ℕ → Bool) (sources : List ℕ) (k : ℕ) (hops parents : List (Option ℕ)) where
+module _ (g : GraphData) (test : ℕ → Bool) (sources : List ℕ) (k : ℕ) (hops parents : List (Option ℕ)) where
   -- the first vertex that waits gives way to its arcs
   pub visit_open : (v : ℕ) (pending next out : List ℕ) → ListsArcsFrom g v out → Visiting g test sources k hops parents (v ∷ pending) [] next →
       Visiting g test sources k hops parents pending out next
@@ -82,7 +82,7 @@ module _ (g : Roads) (test : ℕ → Bool) (sources : List ℕ) (k : ℕ) (hops 
       let cut : drop i level ≡ v ∷ drop (i + 1) level = rw add-one (drop-cons level i v lt ∙ ap (λ (b : ℕ). b ∷ drop (suc i) level) (sym is)) in
       goes (drop (i + 1) level) (rw cut at known)
 
-module _ (g : Roads) (roads : IsRoads g) (test : ℕ → Bool) (sources : List ℕ) (k : ℕ) (hops parents : List (Option ℕ)) where
+module _ (g : GraphData) (roads : IsGraph g) (test : ℕ → Bool) (sources : List ℕ) (k : ℕ) (hops parents : List (Option ℕ)) where
   -- the arc at place i of a row; `passes` tells whether it passes the test
   visit_once : (v : ℕ) (pending next numbers : List ℕ) (i a : ℕ) (passes : Bool) → i < length numbers → a ≡ get_or numbers i a → (arc_of g a).tail ≡ v → test a ≡ passes →
       Visiting g test sources k hops parents pending (drop i numbers) next →

@@ -2,12 +2,12 @@
 use Rattle.std.proofs.Common.{◌≡◌, ℕ, ◌+◌, ◌≤◌, Bool, true, false, cond, List, [], ◌∷◌, length, get_or, refl, ap, sym, ◌∙◌, subst, arith, Option, Some, None}
 use Rattle.std.proofs.lemmas.List.Elements.{All-nil, All-cons, All-head, All-tail}
 use Rattle.std.specs.Prelude.{IsTrue, Contains, All}
-use Rattle.road_graph.specs.Roads.{Roads, IsRoads, HasVertex, arc_of}
+use Rattle.road_graph.specs.GraphData.{GraphData, IsGraph, HasVertex, arc_of}
 use Rattle.road_graph.proofs.Options.{same_some}
 use Rattle.path_algebra.specs.Algebra.{Algebra, IsLawful}
 use Rattle.path_algebra.specs.Walks.{IsWalk, AreBest, AreHops, IsUnreached, label_of, is_marked, is_tight}
 use Rattle.route_tree.specs.Levels.{IsWalkOf, AreLeast, IsTreeArc, IsLeastTail, AreLeastTails}
-use Rattle.route_tree.specs.Regions.{IsWithin, Covers}
+use Rattle.route_tree.specs.Regions.{IsWithinHops, Covers}
 use Rattle.route_tree.specs.Told.{IsParentRoute}
 use Rattle.route_tree.specs.Tree.{AreHopsAt, IsChain, IsRoute}
 use Rattle.route_tree.proofs.VisitingBack.{within_back}
@@ -18,10 +18,10 @@ use Rattle.route_tree.proofs.Told.{route_is}
 use Rattle.route_tree.proofs.Trees.{tree_is}
 
 -- the test that an arc passes where its head is marked too
-abbrev into : Roads → (ℕ → Bool) → List Bool → ℕ → Bool
+abbrev into : GraphData → (ℕ → Bool) → List Bool → ℕ → Bool
 into g test marks a = cond (is_marked marks (arc_of g a).head) (test a) false
 
-module _ (g : Roads) (roads : IsRoads g) (test : ℕ → Bool) (source target : ℕ) (in_target : HasVertex g target) (marks : List Bool) (covers : Covers g test source target marks) where
+module _ (g : GraphData) (roads : IsGraph g) (test : ℕ → Bool) (source target : ℕ) (in_target : HasVertex g target) (marks : List Bool) (covers : Covers g test source target marks) where
   of_both : (b c : Bool) → cond b c false ≡ true → c ≡ true
   of_both true c e = e
   of_both false c e = let bad : false ≡ true = e in cc
@@ -37,8 +37,8 @@ module _ (g : Roads) (roads : IsRoads g) (test : ℕ → Bool) (source target : 
   outside v k w = (w.0, w.1, λ i d lt. passes_test (get_or w.0 i d) (w.2 i d lt), w.3)
 
   -- the walk of j arcs from v to the target goes on from a walk to v: together they are no longer than any from the source
-  inside : (s : ℕ) (p : List ℕ) (v j : ℕ) → IsWalk g s p v → All (λ a. IsTrue (test a)) p → IsWithin g test target j v →
-      ((i : ℕ) → IsWalkOf g test (source ∷ []) target i → length p + j ≤ i) → All (λ a. IsTrue (into g test marks a)) p × IsWithin g test target (length p + j) s
+  inside : (s : ℕ) (p : List ℕ) (v j : ℕ) → IsWalk g s p v → All (λ a. IsTrue (test a)) p → IsWithinHops g test target j v →
+      ((i : ℕ) → IsWalkOf g test (source ∷ []) target i → length p + j ≤ i) → All (λ a. IsTrue (into g test marks a)) p × IsWithinHops g test target (length p + j) s
   inside s [] v j w all within low =
       let n = within.3 in
       (All-nil (λ a. IsTrue (into g test marks a)), (within.0, subst (λ (u : ℕ). IsWalk g u within.0 target) (sym w) within.1, within.2, omega (arith, n)))
@@ -59,7 +59,7 @@ module _ (g : Roads) (roads : IsRoads g) (test : ℕ → Bool) (source target : 
       no_shorter = (hops_at g roads test (source ∷ []) hops least target far in_target at_target).1
 
       -- on a least walk to the target hops are the same
-      same_hops : (v i j : ℕ) → HasVertex g v → label_of hops v ≡ Some i → IsWithin g test target j v → i + j ≤ far → label_of near v ≡ Some i
+      same_hops : (v i j : ℕ) → HasVertex g v → label_of hops v ≡ Some i → IsWithinHops g test target j v → i + j ≤ far → label_of near v ≡ Some i
       same_hops v i j in_v e within le =
           let walk = hops_at g roads test (source ∷ []) hops least v i in_v e in
           let n = walk.0.3 in
@@ -72,7 +72,7 @@ module _ (g : Roads) (roads : IsRoads g) (test : ℕ → Bool) (source target : 
           found.1 ∙ ap (λ (m : ℕ). Some m) same
 
       -- an arc of the held tree is one of the whole tree
-      whole_tree_arc : (v i j a : ℕ) → HasVertex g v → label_of hops v ≡ Some i → IsWithin g test target j v → i + j ≤ far → IsTreeArc g (into g test marks) near a → (arc_of g a).head ≡ v →
+      whole_tree_arc : (v i j a : ℕ) → HasVertex g v → label_of hops v ≡ Some i → IsWithinHops g test target j v → i + j ≤ far → IsTreeArc g (into g test marks) near a → (arc_of g a).head ≡ v →
           IsTreeArc g test hops a × ((m : ℕ) × (label_of hops (arc_of g a).tail ≡ Some m) × (m + 1 ≡ i))
       whole_tree_arc v i j a in_v e within le l head =
           let in_tail = (roads.ends a l.arc).0 in
@@ -91,13 +91,13 @@ module _ (g : Roads) (roads : IsRoads g) (test : ℕ → Bool) (source target : 
           )
 
       -- an arc of the whole tree on a least walk to the target is one of the held tree
-      held_tree_arc : (v i j a : ℕ) → HasVertex g v → label_of hops v ≡ Some i → IsWithin g test target j v → i + j ≤ far → IsTreeArc g test hops a → (arc_of g a).head ≡ v →
+      held_tree_arc : (v i j a : ℕ) → HasVertex g v → label_of hops v ≡ Some i → IsWithinHops g test target j v → i + j ≤ far → IsTreeArc g test hops a → (arc_of g a).head ≡ v →
           IsTreeArc g (into g test marks) near a
       held_tree_arc v i j a in_v e within le l head =
           let in_tail = (roads.ends a l.arc).0 in
           let one : l.near + 1 ≡ i = same_some (label_of hops v) (l.near + 1) i (ap (label_of hops) (sym head) ∙ l.at_head) e in
           let m = covers v j within (λ k w. let low = no_shorter k w in omega (arith, low, le)) in
-          let back = within_back g roads test target j a l.arc l.passes (subst (λ (u : ℕ). IsWithin g test target j u) (sym head) within) in
+          let back = within_back g roads test target j a l.arc l.passes (subst (λ (u : ℕ). IsWithinHops g test target j u) (sym head) within) in
           record {
             arc = l.arc;
             passes = passes_into a (ap (is_marked marks) head ∙ m) l.passes;
@@ -106,7 +106,7 @@ module _ (g : Roads) (roads : IsRoads g) (test : ℕ → Bool) (source target : 
             at_head = ap (label_of near) head ∙ same_hops v i j in_v e within le ∙ ap (λ (k : ℕ). Some k) (sym one);
           }
 
-      by_whole : (v i j u : ℕ) → HasVertex g v → label_of hops v ≡ Some i → IsWithin g test target j v → i + j ≤ far → IsLeastTail g (into g test marks) near v (Some u) →
+      by_whole : (v i j u : ℕ) → HasVertex g v → label_of hops v ≡ Some i → IsWithinHops g test target j v → i + j ≤ far → IsLeastTail g (into g test marks) near v (Some u) →
           (l : Option ℕ) → IsLeastTail g test hops v l → l ≡ Some u
       by_whole v i j u in_v e within le tail None none =
           let f = tail.0 in absurd (none f.0 (whole_tree_arc v i j f.0 in_v e within le f.1 f.2).0 f.2)
@@ -121,23 +121,23 @@ module _ (g : Roads) (roads : IsRoads g) (test : ℕ → Bool) (source target : 
           ap (λ (w : ℕ). Some w) same
 
       -- on a least walk to the target parents are the same
-      same_parent : (v i j u : ℕ) → HasVertex g v → label_of hops v ≡ Some i → IsWithin g test target j v → i + j ≡ far → label_of adopted v ≡ Some u →
-          (label_of parents v ≡ Some u) × HasVertex g u × ((m : ℕ) × (label_of hops u ≡ Some m) × (m + 1 ≡ i)) × IsWithin g test target (j + 1) u
+      same_parent : (v i j u : ℕ) → HasVertex g v → label_of hops v ≡ Some i → IsWithinHops g test target j v → i + j ≡ far → label_of adopted v ≡ Some u →
+          (label_of parents v ≡ Some u) × HasVertex g u × ((m : ℕ) × (label_of hops u ≡ Some m) × (m + 1 ≡ i)) × IsWithinHops g test target (j + 1) u
       same_parent v i j u in_v e within is f =
           let le : i + j ≤ far = omega (arith, is) in
           let tail = tail_at g roads (into g test marks) (source ∷ []) near near_least adopted near_tails v (Some u) in_v f in
           let h = tail.0 in
           let whole = whole_tree_arc v i j h.0 in_v e within le h.1 h.2 in
-          let back = within_back g roads test target j h.0 h.1.arc (passes_test h.0 h.1.passes) (subst (λ (w : ℕ). IsWithin g test target j w) (sym h.2) within) in (
+          let back = within_back g roads test target j h.0 h.1.arc (passes_test h.0 h.1.passes) (subst (λ (w : ℕ). IsWithinHops g test target j w) (sym h.2) within) in (
             by_whole v i j u in_v e within le tail (label_of parents v) (tails.tails v in_v),
             subst (λ (w : ℕ). HasVertex g w) h.3 ((roads.ends h.0 h.1.arc).0),
             (whole.1.0, ap (label_of hops) (sym h.3) ∙ whole.1.1, whole.1.2),
-            subst (λ (w : ℕ). IsWithin g test target (j + 1) w) h.3 back,
+            subst (λ (w : ℕ). IsWithinHops g test target (j + 1) w) h.3 back,
           )
 
       -- a chain of parents in the held tree is one in the whole tree, and has as many arcs as hops are left
       same_chain : (u : ℕ) (rest : List ℕ) → IsChain (record { hops = near; parents = adopted }) u rest target →
-          IsChain (record { hops = hops; parents = parents }) u rest target × HasVertex g u × IsWithin g test target (length rest) u × ((i : ℕ) × (label_of hops u ≡ Some i) × (i + length rest ≡ far))
+          IsChain (record { hops = hops; parents = parents }) u rest target × HasVertex g u × IsWithinHops g test target (length rest) u × ((i : ℕ) × (label_of hops u ≡ Some i) × (i + length rest ≡ far))
       same_chain u [] c = (
         c,
         subst (λ (w : ℕ). HasVertex g w) (sym c) in_target,
@@ -185,7 +185,7 @@ module _ (g : Roads) (roads : IsRoads g) (test : ℕ → Bool) (source target : 
         let same : found.0 ≡ k = same_some (label_of near target) found.0 k (same_at_target found.0 found.1) e in
         found.1 ∙ ap (λ (i : ℕ). Some i) same
 
-module _ {V : Type 0} (A : Algebra V) (lawful : IsLawful A) (g : Roads) (roads : IsRoads g) (source target : ℕ) (in_source : All (HasVertex g) (source ∷ [])) (in_s : (s : ℕ) → Contains (source ∷ []) s → HasVertex g s) (in_target : HasVertex g target)
+module _ {V : Type 0} (A : Algebra V) (lawful : IsLawful A) (g : GraphData) (roads : IsGraph g) (source target : ℕ) (in_source : All (HasVertex g) (source ∷ [])) (in_s : (s : ℕ) → Contains (source ∷ []) s → HasVertex g s) (in_target : HasVertex g target)
     (labels : List (Option V)) (best : AreBest A g (source ∷ []) labels) (marks : List Bool) (covers : Covers g (is_tight A g labels) source target marks)
     (near adopted : List (Option ℕ)) (near_least : AreLeast g (into g (is_tight A g labels) marks) (source ∷ []) near) (near_tails : AreLeastTails g (into g (is_tight A g labels) marks) near adopted) where
   none_told : (l : Option ℕ) → l ≡ None → AreHopsAt A g (source ∷ []) target l → IsUnreached A g (source ∷ []) target

@@ -3,14 +3,14 @@ use Rattle.std.proofs.Common.{◌≡◌, ℕ, zero, suc, ◌+◌, ◌≤◌, ◌
 use Rattle.std.proofs.lemmas.List.{length-append}
 use Rattle.std.proofs.lemmas.List.Elements.{All-head, All-tail}
 use Rattle.std.specs.Prelude.{Contains, All, ◌↔◌}
-use Rattle.road_graph.specs.Roads.{Roads, IsRoads, HasVertex, arc_of}
+use Rattle.road_graph.specs.GraphData.{GraphData, IsGraph, HasVertex, arc_of}
 use Rattle.road_graph.proofs.Lists.{only_element}
 use Rattle.path_algebra.specs.Algebra.{Algebra}
 use Rattle.path_algebra.specs.Walks.{IsWalk, IsWalkValue, IsTight, IsBestLabel, AreBest, AreHops, IsParent, IsUnreached, label_of, IsParentChain}
 use Rattle.route_tree.specs.Tree.{Branches, hops_of, parent_of, AreHopsAt, IsParentAt, IsTree, IsChain, IsRoute}
 use Rattle.route_tree.specs.Told.{IsToldOf, IsParentRoute}
 
-module _ {V : Type 0} (A : Algebra V) (g : Roads) (sources : List ℕ) where
+module _ {V : Type 0} (A : Algebra V) (g : GraphData) (sources : List ℕ) where
   tight_end : (u : ℕ) (p : List ℕ) (v : ℕ) → IsWalk g u p v → All (IsTight A g sources) p → (u ≡ v) ⊎ ((x : V) × IsWalkValue A g sources v x)
   tight_end u [] v w all = inl w
   tight_end u (a ∷ p) v w all =
@@ -52,7 +52,7 @@ module _ {V : Type 0} (A : Algebra V) (g : Roads) (sources : List ℕ) where
   hops_at v None k e h = let bad : None ≡ Some k = e in cc
   hops_at v (Some j) k e h = let same : j ≡ k = cc in subst (λ (i : ℕ). AreHops A g sources v i) same h
 
-  module _ (roads : IsRoads g) (t : Branches) (tree : IsTree A g sources t) where
+  module _ (roads : IsGraph g) (t : Branches) (tree : IsTree A g sources t) where
     parent_at : (v : ℕ) (m p : Option ℕ) (u : ℕ) → p ≡ Some u → IsParentAt A g sources v m p → IsParent A g sources v u
     parent_at v m None u e q = let bad : None ≡ Some u = e in cc
     parent_at v None (Some w) u e q = absurd q
@@ -129,7 +129,7 @@ module _ {V : Type 0} (A : Algebra V) (g : Roads) (sources : List ℕ) where
       none_at (Some k) h = let w = hops_have_value v k h in (λ e. let bad : Some k ≡ None = e in absurd (cc), λ u. absurd (u w.0 w.1))
 
 -- with one source the list begins there
-pub from_one : {V : Type 0} (A : Algebra V) (g : Roads) (s v : ℕ) (list : List ℕ) → IsParentRoute A g (s ∷ []) v list → (rest : List ℕ) × (list ≡ s ∷ rest) × IsParentChain A g (s ∷ []) s rest v
+pub from_one : {V : Type 0} (A : Algebra V) (g : GraphData) (s v : ℕ) (list : List ℕ) → IsParentRoute A g (s ∷ []) v list → (rest : List ℕ) × (list ≡ s ∷ rest) × IsParentChain A g (s ∷ []) s rest v
 from_one A g s v list r =
     let same = only_element s r.first r.begins in
     (r.rest, r.is ∙ ap (λ (x : ℕ). x ∷ r.rest) (sym same), subst (λ (x : ℕ). IsParentChain A g (s ∷ []) x r.rest v) (sym same) r.chain)

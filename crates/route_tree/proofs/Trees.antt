@@ -3,7 +3,7 @@ use Rattle.std.proofs.Common.{◌≡◌, ℕ, ◌+◌, ◌-◌, ◌≤◌, Bool,
 use Rattle.std.proofs.lemmas.List.{get_or-map}
 use Rattle.std.proofs.lemmas.List.Elements.{All-nil, All-cons, All-head, All-tail}
 use Rattle.std.specs.Prelude.{IsTrue, Contains, All}
-use Rattle.road_graph.specs.Roads.{Roads, IsRoads, HasVertex, arc_of}
+use Rattle.road_graph.specs.GraphData.{GraphData, IsGraph, HasVertex, arc_of}
 use Rattle.road_graph.proofs.Options.{same_some}
 use Rattle.path_algebra.specs.Algebra.{Algebra, IsLawful}
 use Rattle.path_algebra.specs.Walks.{IsWalk, IsTight, is_tight, AreBest, AreHops, IsParent, IsTightWalk, IsUnreached, label_of}
@@ -13,7 +13,7 @@ use Rattle.route_tree.specs.Tree.{AreHopsAt, IsParentAt, IsTree}
 use Rattle.route_tree.proofs.LevelsAreLeast.{IsWalkOf-snoc, IsWalkOf-nil}
 use Rattle.route_tree.proofs.Linked.{no_arc, by_arc, tail_at}
 
-module _ {V : Type 0} (A : Algebra V) (lawful : IsLawful A) (g : Roads) (roads : IsRoads g) (sources : List ℕ) (in_s : (s : ℕ) → Contains sources s → HasVertex g s)
+module _ {V : Type 0} (A : Algebra V) (lawful : IsLawful A) (g : GraphData) (roads : IsGraph g) (sources : List ℕ) (in_s : (s : ℕ) → Contains sources s → HasVertex g s)
     (labels : List (Option V)) (best : AreBest A g sources labels) (hops : List (Option ℕ)) (least : AreLeast g (is_tight A g labels) sources hops) where
   all_tight : (u : ℕ) (p : List ℕ) (v : ℕ) → IsWalk g u p v → All (λ a. IsTrue (is_tight A g labels a)) p → All (IsTight A g sources) p
   all_tight u [] v w h = All-nil (IsTight A g sources)

@@ -6,21 +6,21 @@ use Rattle.std.proofs.lemmas.List.{get_or-replicate, length-replicate, length-ma
 use Rattle.std.proofs.lemmas.List.Elements.{All-nil, All-cons, All-head, All-tail, Contains-append_left, Contains-append_right, Contains-append_cases}
 use Rattle.std.specs.Prelude.{IsTrue, Contains, All, ◌↔◌}
 use Rattle.road_graph.specs.declared.OutRoad.{OutRoad}
-use Rattle.road_graph.specs.Roads.{Roads, IsRoads, HasArc, HasVertex, arc_of, road_of, turned}
+use Rattle.road_graph.specs.GraphData.{GraphData, IsGraph, HasArc, HasVertex, arc_of, road_of, reversed_arc}
 use Rattle.road_graph.proofs.Lists.{not_in_empty, head_or_tail, here, later}
 use Rattle.path_algebra.specs.Walks.{IsWalk, is_marked}
-use Rattle.route_tree.specs.Regions.{IsWithin, Covers, VisitingBack}
+use Rattle.route_tree.specs.Regions.{IsWithinHops, Covers, VisitingBack}
 
-module _ (g : Roads) (roads : IsRoads g) (test : ℕ → Bool) (target : ℕ) where
+module _ (g : GraphData) (roads : IsGraph g) (test : ℕ → Bool) (target : ℕ) where
   -- one arc further back
-  pub within_back : (k a : ℕ) → HasArc g a → test a ≡ true → IsWithin g test target k (arc_of g a).head → IsWithin g test target (k + 1) (arc_of g a).tail
+  pub within_back : (k a : ℕ) → HasArc g a → test a ≡ true → IsWithinHops g test target k (arc_of g a).head → IsWithinHops g test target (k + 1) (arc_of g a).tail
   within_back k a h t w = let n = w.3 in (a ∷ w.0, (h, refl, w.1), All-cons (λ b. IsTrue (test b)) a w.0 t w.2, omega (arith, n))
 
   pub back_start : (n : ℕ) (marks : List Bool) → n ≡ g.vertices → HasVertex g target → marks ≡ set (replicate n false) (target - 1) true → VisitingBack g test target 0 marks (target ∷ []) [] []
   back_start n marks is in_t e = rw e (record {
     count = simp length-set (length-replicate n false ∙ is);
     attained = λ v in_v m. elim (cases_eq v target) [
-      | inl same ↦ inl (subst (λ (u : ℕ). IsWithin g test target 0 u) (sym same) at_target)
+      | inl same ↦ inl (subst (λ (u : ℕ). IsWithinHops g test target 0 u) (sym same) at_target)
       | inr other ↦
           let none = get_or-replicate n (v - 1) false false (omega (arith, in_v.0, in_v.1, is)) in
           let kept = get_or-set_other (replicate n false) (target - 1) (v - 1) true false (λ q. other (omega (arith, in_v.0, in_t.0, q))) in
@@ -28,7 +28,7 @@ module _ (g : Roads) (roads : IsRoads g) (test : ℕ → Bool) (target : ℕ) wh
     ];
     complete = λ v w. (nearest v w.0 w.1 w.3, not_in_empty v);
     pending_at = λ v h. elim (head_or_tail target v [] h) [
-      | inl same ↦ subst (λ (u : ℕ). HasVertex g u × IsWithin g test target 0 u) same (in_t, at_target)
+      | inl same ↦ subst (λ (u : ℕ). HasVertex g u × IsWithinHops g test target 0 u) same (in_t, at_target)
       | inr none ↦ absurd (not_in_empty v none)
     ];
     next_at = λ v h. absurd (not_in_empty v h);
@@ -36,7 +36,7 @@ module _ (g : Roads) (roads : IsRoads g) (test : ℕ → Bool) (target : ℕ) wh
     closed = λ a h t m. inr (inl (only (arc_of g a).head ((roads.ends a h).1) m));
   })
     where
-      at_target : IsWithin g test target 0 target
+      at_target : IsWithinHops g test target 0 target
       at_target = ([], refl, All-nil (λ a. IsTrue (test a)), omega arith)
 
       target_marked : is_marked (set (replicate n false) (target - 1) true) target ≡ true
@@ -68,7 +68,7 @@ module _ (g : Roads) (roads : IsRoads g) (test : ℕ → Bool) (target : ℕ) wh
       complete = known.complete;
       pending_at = λ u h. known.pending_at u (later v u pending h);
       next_at = known.next_at;
-      arcs_at = λ a h. let f = (lists a).0 h in (f.0, subst (λ (u : ℕ). IsWithin g test target k u) (sym f.1) ((known.pending_at v (here v pending)).1));
+      arcs_at = λ a h. let f = (lists a).0 h in (f.0, subst (λ (u : ℕ). IsWithinHops g test target k u) (sym f.1) ((known.pending_at v (here v pending)).1));
       closed = λ a h t m. elim (known.closed a h t m) [
         | inl none ↦ absurd (not_in_empty a none)
         | inr r ↦ elim r [
@@ -79,7 +79,7 @@ module _ (g : Roads) (roads : IsRoads g) (test : ℕ → Bool) (target : ℕ) wh
     }
 
     module _ (pending next rest : List ℕ) (a : ℕ) (known : VisitingBack g test target k marks pending (a ∷ rest) next) where
-      this : HasArc g a × IsWithin g test target k (arc_of g a).head
+      this : HasArc g a × IsWithinHops g test target k (arc_of g a).head
       this = known.arcs_at a (here a rest)
 
       tail_in : HasVertex g (arc_of g a).tail
@@ -168,7 +168,7 @@ module _ (g : Roads) (roads : IsRoads g) (test : ℕ → Bool) (target : ℕ) wh
           pending_at = known.pending_at;
           next_at = λ v h. elim (in_longer v h) [
             | inl old ↦ known.next_at v old
-            | inr same ↦ subst (λ (u : ℕ). HasVertex g u × IsWithin g test target (k + 1) u) same (tail_in, within_back k a this.0 t this.1)
+            | inr same ↦ subst (λ (u : ℕ). HasVertex g u × IsWithinHops g test target (k + 1) u) same (tail_in, within_back k a this.0 t this.1)
           ];
           arcs_at = λ b h. known.arcs_at b (later a b rest h);
           closed = closed_after;
@@ -218,8 +218,8 @@ module _ (g : Roads) (roads : IsRoads g) (test : ℕ → Bool) (target : ℕ) wh
               | inr r ↦ elim r [ inl none ↦ absurd (not_in_empty _ none) | inr s ↦ elim s [ inl none ↦ absurd (not_in_empty _ none) | inr m ↦ m ] ]
             ]
 
-module _ (g : Roads) (test : ℕ → Bool) (target k : ℕ) (marks : List Bool) where
-  within_more : (v : ℕ) → IsWithin g test target k v → IsWithin g test target (k + 1) v
+module _ (g : GraphData) (test : ℕ → Bool) (target k : ℕ) (marks : List Bool) where
+  within_more : (v : ℕ) → IsWithinHops g test target k v → IsWithinHops g test target (k + 1) v
   within_more v w = let n = w.3 in (w.0, w.1, w.2, omega (arith, n))
 
   -- the next level's turn
@@ -256,15 +256,15 @@ module _ (g : Roads) (test : ℕ → Bool) (target k : ℕ) (marks : List Bool) 
       let cut : drop i level ≡ v ∷ drop (i + 1) level = rw add-one (drop-cons level i v lt ∙ ap (λ (b : ℕ). b ∷ drop (suc i) level) (sym is)) in
       goes (drop (i + 1) level) (rw cut at known)
 
--- the arc at a place of a row, as it is turned round
-module _ (g : Roads) (numbers : List ℕ) (row : List OutRoad) (v : ℕ) (lists : (a : ℕ) → Contains numbers a ↔ (HasArc g a × ((arc_of g a).head ≡ v))) (are : row ≡ map (λ a. road_of (turned (arc_of g a))) numbers) where
+-- the arc at a place of a row, when it is reversed
+module _ (g : GraphData) (numbers : List ℕ) (row : List OutRoad) (v : ℕ) (lists : (a : ℕ) → Contains numbers a ↔ (HasArc g a × ((arc_of g a).head ≡ v))) (are : row ≡ map (λ a. road_of (reversed_arc (arc_of g a))) numbers) where
   pub as_long : length row ≡ length numbers
   as_long = rw are (simp length-map)
 
   pub turned_at : (i : ℕ) (r : OutRoad) → i < length row → r ≡ get_or row i r →
-      HasArc g (get_or numbers i 0) × ((arc_of g (get_or numbers i 0)).head ≡ v) × (r ≡ road_of (turned (arc_of g (get_or numbers i 0))))
+      HasArc g (get_or numbers i 0) × ((arc_of g (get_or numbers i 0)).head ≡ v) × (r ≡ road_of (reversed_arc (arc_of g (get_or numbers i 0))))
   turned_at i r lt is =
       let in_numbers : i < length numbers = omega (arith, as_long) in
-      let at : get_or row i r ≡ road_of (turned (arc_of g (get_or numbers i 0))) = ap (λ (o : List OutRoad). get_or o i r) are ∙ get_or-map (λ a. road_of (turned (arc_of g a))) numbers i 0 r in_numbers in
+      let at : get_or row i r ≡ road_of (reversed_arc (arc_of g (get_or numbers i 0))) = ap (λ (o : List OutRoad). get_or o i r) are ∙ get_or-map (λ a. road_of (reversed_arc (arc_of g a))) numbers i 0 r in_numbers in
       let has = (lists (get_or numbers i 0)).0 (i, in_numbers, get_or_default numbers i (get_or numbers i 0) 0 in_numbers) in
       (has.0, has.1, is ∙ at)

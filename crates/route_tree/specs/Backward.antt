@@ -1,6 +1,6 @@
 -- The state of a search from a target back over tight arcs, and its steps.
 use Rattle.std.specs.Prelude.{◌≡◌, ℕ, ◌+◌, List, [], ◌∷◌, length, All, Bool, false, cond, Option}
-use Rattle.road_graph.specs.Roads.{Roads, IsRoads, HasVertex}
+use Rattle.road_graph.specs.GraphData.{GraphData, IsGraph, HasVertex}
 use Rattle.path_algebra.specs.Algebra.{Algebra}
 use Rattle.path_algebra.specs.Walks.{label_of, is_marked, is_tight, is_tight_between}
 use Rattle.route_tree.specs.Regions.{VisitingBack}
@@ -13,8 +13,8 @@ pub record BackwardState (A V : Type 0) : Type 0 where
   pub next : List ℕ
 
 -- a label and a mark for each vertex of a graph
-pub record IsBackward {V : Type 0} (g : Roads) (labels : List (Option V)) (marks : List Bool) (next : List ℕ) : Type 0 where
-  pub roads : IsRoads g
+pub record IsBackward {V : Type 0} (g : GraphData) (labels : List (Option V)) (marks : List Bool) (next : List ℕ) : Type 0 where
+  pub roads : IsGraph g
   pub labels_count : length labels ≡ g.vertices
   pub marks_count : length marks ≡ g.vertices
   pub inside : All (HasVertex g) next
@@ -39,7 +39,7 @@ VisitsAllBack meaning list old new =
     (target k : ℕ) → VisitingBack old.over.roads (passes_back meaning old) target k old.marks list [] old.next →
     VisitingBack old.over.roads (passes_back meaning old) target k new.marks [] [] new.next
 
--- the vertices that were found last are visited, and those that are found then are one arc further from the target
+-- the vertices that were found last are visited, and those that this finds are one arc further from the target
 abbrev pub VisitsLevelBack : {A V : Type 0} → Algebra V → BackwardState A V → BackwardState A V → Type 0
 VisitsLevelBack meaning old new =
     (target k : ℕ) → VisitingBack old.over.roads (passes_back meaning old) target k old.marks old.next [] [] →

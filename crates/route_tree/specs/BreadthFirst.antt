@@ -1,15 +1,15 @@
 -- The state of a breadth-first search over tight arcs, and its steps.
 use Rattle.std.specs.Prelude.{◌≡◌, ℕ, ◌+◌, ◌≤◌, List, [], ◌∷◌, length, All, Bool, false, cond, Option}
-use Rattle.road_graph.specs.Roads.{Roads, IsRoads, HasVertex}
+use Rattle.road_graph.specs.GraphData.{GraphData, IsGraph, HasVertex}
 use Rattle.path_algebra.specs.Algebra.{Algebra}
 use Rattle.path_algebra.specs.Walks.{label_of, is_tight_between}
 use Rattle.route_tree.specs.Levels.{Visiting, unreached}
 use Rattle.route_tree.specs.Regions.{in_region, is_tight_into}
 
--- a graph with a label for each vertex, by which an algebra tells the tight arcs
+-- a graph with a label for each vertex, which decide with an algebra which arcs are tight
 pub record LabelledGraph (A V : Type 0) : Type 0 where
   pub algebra : A
-  pub roads : Roads
+  pub roads : GraphData
   pub labels : List (Option V)
 
 -- what is searched, hops and parents so far, the vertices that were found last, and the hops of those that are visited
@@ -22,8 +22,8 @@ pub record SearchState (A V : Type 0) : Type 0 where
   pub level : ℕ
 
 -- a label, hops and a parent for each vertex of a graph; each level found at least one vertex
-pub record IsSearch {V : Type 0} (g : Roads) (labels : List (Option V)) (hops parents : List (Option ℕ)) (next : List ℕ) (level : ℕ) : Type 0 where
-  pub roads : IsRoads g
+pub record IsSearch {V : Type 0} (g : GraphData) (labels : List (Option V)) (hops parents : List (Option ℕ)) (next : List ℕ) (level : ℕ) : Type 0 where
+  pub roads : IsGraph g
   pub labels_count : length labels ≡ g.vertices
   pub hops_count : length hops ≡ g.vertices
   pub parents_count : length parents ≡ g.vertices

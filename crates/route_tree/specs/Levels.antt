@@ -1,24 +1,24 @@
 -- Going through the vertices by levels of hops, over the arcs that pass a test.
 use Rattle.std.specs.Prelude.{◌≡◌, ℕ, ◌+◌, ◌-◌, ◌≤◌, ◌⊎◌, List, [], ◌∷◌, ◌++◌, length, All, Contains, Bool, true, cond, eqb, leb, IsTrue, Option, Some, None, slice_set, sum_by}
-use Rattle.road_graph.specs.Roads.{Roads, HasVertex, HasArc, arc_of}
+use Rattle.road_graph.specs.GraphData.{GraphData, HasVertex, HasArc, arc_of}
 use Rattle.path_algebra.specs.Walks.{label_of, IsWalkFrom}
 
 -- some walk of k arcs that pass the test leads to v
-abbrev pub IsWalkOf : Roads → (ℕ → Bool) → List ℕ → ℕ → ℕ → Type 0
+abbrev pub IsWalkOf : GraphData → (ℕ → Bool) → List ℕ → ℕ → ℕ → Type 0
 IsWalkOf g test sources v k = (p : List ℕ) × IsWalkFrom g sources p v × All (λ a. IsTrue (test a)) p × (length p ≡ k)
 
--- the least length of such a walk, none where there is no such walk
-abbrev pub IsLeastAt : Roads → (ℕ → Bool) → List ℕ → ℕ → Option ℕ → Type 0
+-- the least length of such a walk, none if there is no such walk
+abbrev pub IsLeastAt : GraphData → (ℕ → Bool) → List ℕ → ℕ → Option ℕ → Type 0
 IsLeastAt g test sources v None = (k : ℕ) → IsWalkOf g test sources v k → ⊥
 IsLeastAt g test sources v (Some k) = IsWalkOf g test sources v k × ((j : ℕ) → IsWalkOf g test sources v j → k ≤ j)
 
 -- least lengths at every vertex
-pub record AreLeast (g : Roads) (test : ℕ → Bool) (sources : List ℕ) (hops : List (Option ℕ)) : Type 0 where
+pub record AreLeast (g : GraphData) (test : ℕ → Bool) (sources : List ℕ) (hops : List (Option ℕ)) : Type 0 where
   pub count : length hops ≡ g.vertices
   pub least : (v : ℕ) → HasVertex g v → IsLeastAt g test sources v (label_of hops v)
 
 -- an arc of the tree: it passes the test, and its head has one hop more than its tail
-pub record IsTreeArc (g : Roads) (test : ℕ → Bool) (hops : List (Option ℕ)) (a : ℕ) : Type 0 where
+pub record IsTreeArc (g : GraphData) (test : ℕ → Bool) (hops : List (Option ℕ)) (a : ℕ) : Type 0 where
   pub arc : HasArc g a
   pub passes : test a ≡ true
   pub near : ℕ
@@ -26,14 +26,14 @@ pub record IsTreeArc (g : Roads) (test : ℕ → Bool) (hops : List (Option ℕ)
   pub at_head : label_of hops (arc_of g a).head ≡ Some (near + 1)
 
 -- the least tail among the arcs of the tree that enter v, or none
-abbrev pub IsLeastTail : Roads → (ℕ → Bool) → List (Option ℕ) → ℕ → Option ℕ → Type 0
+abbrev pub IsLeastTail : GraphData → (ℕ → Bool) → List (Option ℕ) → ℕ → Option ℕ → Type 0
 IsLeastTail g test hops v None = (a : ℕ) → IsTreeArc g test hops a → (arc_of g a).head ≡ v → ⊥
 IsLeastTail g test hops v (Some u) =
     ((a : ℕ) × IsTreeArc g test hops a × ((arc_of g a).head ≡ v) × ((arc_of g a).tail ≡ u))
     × ((a : ℕ) → IsTreeArc g test hops a → (arc_of g a).head ≡ v → u ≤ (arc_of g a).tail)
 
 -- least tails at every vertex
-pub record AreLeastTails (g : Roads) (test : ℕ → Bool) (hops parents : List (Option ℕ)) : Type 0 where
+pub record AreLeastTails (g : GraphData) (test : ℕ → Bool) (hops parents : List (Option ℕ)) : Type 0 where
   pub count : length parents ≡ g.vertices
   pub tails : (v : ℕ) → HasVertex g v → IsLeastTail g test hops v (label_of parents v)
 
@@ -42,7 +42,7 @@ abbrev pub lesser : Option ℕ → ℕ → Option ℕ
 lesser None u = Some u
 lesser (Some t) u = Some (cond (leb t u) t u)
 
--- hops, parents and the next level after an arc from u reached v, k arcs from a source; the last argument tells the hops that v had
+-- hops, parents and the next level after an arc from u reached v, k arcs from a source; the last argument is the hops that v had
 abbrev pub hops_if : ℕ → List (Option ℕ) → ℕ → Option ℕ → List (Option ℕ)
 hops_if k hops v None = slice_set hops (v - 1) (Some k)
 hops_if k hops v (Some j) = hops
@@ -58,23 +58,23 @@ next_if next v None = next ++ (v ∷ [])
 next_if next v (Some j) = next
 
 -- one for a vertex that has no hops
-abbrev pub is_open : Option ℕ → ℕ
-is_open None = 1
-is_open (Some k) = 0
+abbrev pub one_if_unreached : Option ℕ → ℕ
+one_if_unreached None = 1
+one_if_unreached (Some k) = 0
 
 -- how many vertices have no hops
 abbrev pub unreached : List (Option ℕ) → ℕ
-unreached hops = sum_by is_open hops
+unreached hops = sum_by one_if_unreached hops
 
--- the head of an arc has hops, at most k; where it has k, also a parent that is no greater than the arc's tail
-pub record IsPassed (g : Roads) (hops parents : List (Option ℕ)) (a k : ℕ) : Type 0 where
+-- the head of an arc has hops, at most k; if it has k, also a parent that is no greater than the arc's tail
+pub record IsPassed (g : GraphData) (hops parents : List (Option ℕ)) (a k : ℕ) : Type 0 where
   pub far : ℕ
   pub at_head : label_of hops (arc_of g a).head ≡ Some far
   pub few : far ≤ k
   pub parent : far ≡ k → (u : ℕ) × (label_of parents (arc_of g a).head ≡ Some u) × (u ≤ (arc_of g a).tail)
 
 -- while the vertices at k hops are visited: those in `pending` wait, and the arcs in `arcs`; those in `next` have k + 1
-pub record Visiting (g : Roads) (test : ℕ → Bool) (sources : List ℕ) (k : ℕ) (hops parents : List (Option ℕ)) (pending arcs next : List ℕ) : Type 0 where
+pub record Visiting (g : GraphData) (test : ℕ → Bool) (sources : List ℕ) (k : ℕ) (hops parents : List (Option ℕ)) (pending arcs next : List ℕ) : Type 0 where
   pub count : length hops ≡ g.vertices
   pub parents_count : length parents ≡ g.vertices
   pub attained : (v j : ℕ) → HasVertex g v → label_of hops v ≡ Some j → IsWalkOf g test sources v j
@@ -87,7 +87,7 @@ pub record Visiting (g : Roads) (test : ℕ → Bool) (sources : List ℕ) (k : 
   pub closed : (a j : ℕ) → HasArc g a → test a ≡ true → label_of hops (arc_of g a).tail ≡ Some j →
       Contains arcs a ⊎ (Contains pending (arc_of g a).tail ⊎ (Contains next (arc_of g a).tail ⊎ IsPassed g hops parents a (j + 1)))
 
--- after the sources in `done`: each has 0 hops, and who has hops is a source and in the level
+-- after the sources in `done`: each has 0 hops, and a vertex with hops is a source, is in the level and has 0
 pub record IsMarked (n : ℕ) (sources done : List ℕ) (hops : List (Option ℕ)) (level : List ℕ) : Type 0 where
   pub count : length hops ≡ n
   pub at_done : (s : ℕ) → Contains done s → label_of hops s ≡ Some 0

@@ -4,10 +4,10 @@ use Rattle.std.proofs.Common.{sym}
 use Rattle.std.proofs.lemmas.Bool.{eqb-true}
 
 -- the number that is kept, or none
-abbrev pub number_in : ℕ → Option ℕ
-number_in n = cond (eqb n 4294967295) None (Some n)
+abbrev pub slot_number : ℕ → Option ℕ
+slot_number n = cond (eqb n 4294967295) None (Some n)
 
--- what is kept of a number or none
+-- the number that is kept for a number or none
 abbrev pub kept_as : Option ℕ → ℕ
 kept_as None = 4294967295
 kept_as (Some n) = n
@@ -17,5 +17,5 @@ kept_by n true e = sym (eqb-true n 4294967295 e)
 kept_by n false e = refl
 
 -- nothing is lost
-pub kept_again : (n : ℕ) → kept_as (number_in n) ≡ n
+pub kept_again : (n : ℕ) → kept_as (slot_number n) ≡ n
 kept_again n = kept_by n (eqb n 4294967295) refl

@@ -1,6 +1,6 @@
 -- What a route tree is, and what a route in it.
 use Rattle.std.specs.Prelude.{◌≡◌, ℕ, ◌+◌, ◌≤◌, List, [], ◌∷◌, length, Contains, Option, Some, None}
-use Rattle.road_graph.specs.Roads.{Roads, HasVertex}
+use Rattle.road_graph.specs.GraphData.{GraphData, HasVertex}
 use Rattle.path_algebra.specs.Algebra.{Algebra}
 use Rattle.path_algebra.specs.Walks.{label_of, AreHops, IsParent, IsUnreached}
 
@@ -17,26 +17,26 @@ hops_of t v = label_of t.hops v
 abbrev pub parent_of : Branches → ℕ → Option ℕ
 parent_of t v = label_of t.parents v
 
--- hops are least, and none exactly where no walk has a value
-abbrev pub AreHopsAt : {V : Type 0} → Algebra V → Roads → List ℕ → ℕ → Option ℕ → Type 0
+-- hops are least, and none exactly if no walk has a value
+abbrev pub AreHopsAt : {V : Type 0} → Algebra V → GraphData → List ℕ → ℕ → Option ℕ → Type 0
 AreHopsAt A g sources v None = IsUnreached A g sources v
 AreHopsAt A g sources v (Some k) = AreHops A g sources v k
 
 -- a vertex without a parent is a source or unreached
-abbrev pub IsParentAt : {V : Type 0} → Algebra V → Roads → List ℕ → ℕ → Option ℕ → Option ℕ → Type 0
+abbrev pub IsParentAt : {V : Type 0} → Algebra V → GraphData → List ℕ → ℕ → Option ℕ → Option ℕ → Type 0
 IsParentAt A g sources v None (Some u) = ⊥
 IsParentAt A g sources v None None = IsUnreached A g sources v
 IsParentAt A g sources v (Some k) None = Contains sources v
 IsParentAt A g sources v (Some k) (Some u) = IsParent A g sources v u
 
 -- hops and parents are right at every vertex
-pub record IsTree {V : Type 0} (A : Algebra V) (g : Roads) (sources : List ℕ) (t : Branches) : Type 0 where
+pub record IsTree {V : Type 0} (A : Algebra V) (g : GraphData) (sources : List ℕ) (t : Branches) : Type 0 where
   pub hops_count : length t.hops ≡ g.vertices
   pub parents_count : length t.parents ≡ g.vertices
   pub hops : (v : ℕ) → HasVertex g v → AreHopsAt A g sources v (hops_of t v)
   pub parents : (v : ℕ) → HasVertex g v → IsParentAt A g sources v (hops_of t v) (parent_of t v)
 
--- parents are one hop nearer, and who has none has no hops or is at the start
+-- a parent has one hop less; a vertex without a parent has no hops or 0 hops
 abbrev pub IsLinkedAt : Branches → Option ℕ → Option ℕ → Type 0
 IsLinkedAt t None None = Unit {0}
 IsLinkedAt t None (Some u) = ⊥

@@ -1,7 +1,7 @@
 //! The search from a target back over tight arcs, level by level, for the vertices that a route to it may go through.
 
 ghost use Rattle.std.specs.Prelude.{◌≡◌, ◌+◌, ◌-◌, ◌≤◌, ◌<◌, [], ◌∷◌, ◌++◌, All, IfOk, OnOk, cond, eqb, false, length, replicate, slice_set, true};
-ghost use Rattle.road_graph.specs.Roads.{HasVertex};
+ghost use Rattle.road_graph.specs.GraphData.{HasVertex};
 ghost use Rattle.path_algebra.specs.Walks.{is_marked, is_tight};
 ghost use Rattle.route_tree.specs.Regions.{Covers, unmarked};
 ghost use Rattle.route_tree.specs.Backward.{VisitsBack, VisitsAllBack, VisitsLevelBack, finds_tail};
@@ -14,7 +14,7 @@ use std::alloc::{AllocError, Global};
 use std::marker::Model;
 use std::mem;
 
-/// The search while it goes on.
+/// The search in progress.
 #[derive(Drop)]
 struct Backward<'g, A: PathAlgebra, G: Entering> {
     algebra: A,
@@ -37,7 +37,7 @@ impl<'g, A: PathAlgebra, G: Entering> Model for Backward<'g, A, G> {
 }
 
 impl<'g, A: PathAlgebra, G: Entering> Backward<'g, A, G> {
-    /// A search by which the target alone is found.
+    /// A search that has found the target alone.
     fn open(
         alloc: Global,
         algebra: A,
@@ -47,8 +47,15 @@ impl<'g, A: PathAlgebra, G: Entering> Backward<'g, A, G> {
     ) -> Result<Self, Memory>
         requires target { HasVertex (G.roads graph.now) target }
         requires labels { length labels.now ≡ (G.roads graph.now).vertices }
-        ensures over { IfOk result (λ s. s.over ≡ record { algebra = algebra; roads = G.roads graph.now; labels = labels.now }) }
-        ensures marks { IfOk result (λ s. s.marks ≡ slice_set (replicate (G.roads graph.now).vertices false) (target - 1) true) }
+        ensures over { IfOk result (λ s. s.over ≡ record {
+          algebra = algebra;
+          roads = G.roads
+              graph.now;
+          labels = labels.now;
+        }) }
+        ensures marks { IfOk result
+            (λ s. s.marks ≡ slice_set (replicate (G.roads graph.now).vertices false) (target - 1)
+            true) }
         ensures next { IfOk result (λ s. s.next ≡ target ∷ []) }
     {
         let mut marks = vec![in alloc; false; graph.count() as usize]?;
@@ -72,27 +79,33 @@ impl<'g, A: PathAlgebra, G: Entering> Backward<'g, A, G> {
         self.marks[v.0 as usize - 1]
     }
 
-    /// A vertex is found that was not.
+    /// Marks a vertex that is not marked as found.
     fn mark(&mut self, v: Vertex) -> Result<(), Memory>
         requires in_graph { HasVertex self.old.over.roads v }
         requires fresh { is_marked self.old.marks v ≡ false }
         ensures marks { OnOk result (self.new.marks ≡ slice_set self.old.marks (v - 1) true) }
         ensures next { OnOk result (self.new.next ≡ self.old.next ++ (v ∷ [])) }
         ensures over { OnOk result (self.new.over ≡ self.old.over) }
-        ensures size { OnOk result (unmarked self.new.marks + length self.new.next ≡ unmarked self.old.marks + length self.old.next) }
+        ensures size { OnOk result (unmarked self.new.marks + length self.new.next ≡ unmarked
+            self.old.marks + length self.old.next) }
     {
         self.next.push(v).map_err(AllocError::from)?;
         self.marks[v.0 as usize - 1] = true;
         Ok(())
     }
 
-    /// Goes along an arc that is turned round, from a vertex that has this label.
+    /// Goes back along an arc, given reversed, from a vertex that has this label.
     fn try_road(&mut self, road: OutRoad, far: Option<A::Value>) -> Result<(), Memory>
         requires { HasVertex self.old.over.roads road.head }
-        ensures marks { OnOk result (self.new.marks ≡ cond (finds_tail (A.meaning self.old.over.algebra) self.old road.head road.weight far) (slice_set self.old.marks (road.head - 1) true) self.old.marks) }
-        ensures next { OnOk result (self.new.next ≡ cond (finds_tail (A.meaning self.old.over.algebra) self.old road.head road.weight far) (self.old.next ++ (road.head ∷ [])) self.old.next) }
+        ensures marks { OnOk result
+            (self.new.marks ≡ cond (finds_tail (A.meaning self.old.over.algebra) self.old road.head
+            road.weight far) (slice_set self.old.marks (road.head - 1) true) self.old.marks) }
+        ensures next { OnOk result
+            (self.new.next ≡ cond (finds_tail (A.meaning self.old.over.algebra) self.old road.head
+            road.weight far) (self.old.next ++ (road.head ∷ [])) self.old.next) }
         ensures over { OnOk result (self.new.over ≡ self.old.over) }
-        ensures size { OnOk result (unmarked self.new.marks + length self.new.next ≡ unmarked self.old.marks + length self.old.next) }
+        ensures size { OnOk result (unmarked self.new.marks + length self.new.next ≡ unmarked
+            self.old.marks + length self.old.next) }
     {
         let tail = road.head;
         if !self.has(tail) && is_tight(self.algebra, self.labels.of(tail), road.weight, far) {
@@ -102,12 +115,14 @@ impl<'g, A: PathAlgebra, G: Entering> Backward<'g, A, G> {
         }
     }
 
-    /// Visits a vertex: goes back along the arcs that enter it, for which `row` is room.
+    /// Visits a vertex: goes back along the arcs that enter it. `row` is room for them.
     fn visit(&mut self, v: Vertex, row: &mut Vec<OutRoad>) -> Result<(), Memory>
         requires { HasVertex self.old.over.roads v }
-        ensures visits { OnOk result (VisitsBack (A.meaning self.old.over.algebra) v self.old self.new) }
+        ensures visits { OnOk result (VisitsBack (A.meaning self.old.over.algebra) v self.old
+            self.new) }
         ensures over { OnOk result (self.new.over ≡ self.old.over) }
-        ensures size { OnOk result (unmarked self.new.marks + length self.new.next ≡ unmarked self.old.marks + length self.old.next) }
+        ensures size { OnOk result (unmarked self.new.marks + length self.new.next ≡ unmarked
+            self.old.marks + length self.old.next) }
     {
         let far = self.labels.of(v);
         self.graph.list_into(v, row)?;
@@ -120,9 +135,11 @@ impl<'g, A: PathAlgebra, G: Entering> Backward<'g, A, G> {
     /// Visits each vertex of a list.
     fn visit_all(&mut self, list: &[Vertex], row: &mut Vec<OutRoad>) -> Result<(), Memory>
         requires { All (HasVertex self.old.over.roads) list.now }
-        ensures visits { OnOk result (VisitsAllBack (A.meaning self.old.over.algebra) list.now self.old self.new) }
+        ensures visits { OnOk result (VisitsAllBack (A.meaning self.old.over.algebra) list.now
+            self.old self.new) }
         ensures over { OnOk result (self.new.over ≡ self.old.over) }
-        ensures size { OnOk result (unmarked self.new.marks + length self.new.next ≡ unmarked self.old.marks + length self.old.next) }
+        ensures size { OnOk result (unmarked self.new.marks + length self.new.next ≡ unmarked
+            self.old.marks + length self.old.next) }
     {
         for v in list {
             self.visit(*v, row)?;
@@ -137,12 +154,14 @@ impl<'g, A: PathAlgebra, G: Entering> Backward<'g, A, G> {
         self.next.is_empty()
     }
 
-    /// Visits the vertices that were found last; those that are found then are one arc further from the target.
+    /// Visits the vertices that were found last; those that it finds are one arc further from the target.
     fn visit_level(&mut self, alloc: Global, row: &mut Vec<OutRoad>) -> Result<(), Memory>
         requires waiting { 1 ≤ length self.old.next }
-        ensures visits { OnOk result (VisitsLevelBack (A.meaning self.old.over.algebra) self.old self.new) }
+        ensures visits { OnOk result (VisitsLevelBack (A.meaning self.old.over.algebra) self.old
+            self.new) }
         ensures over { OnOk result (self.new.over ≡ self.old.over) }
-        ensures fewer { OnOk result (unmarked self.new.marks + length self.new.next < unmarked self.old.marks + length self.old.next) }
+        ensures fewer { OnOk result (unmarked self.new.marks + length self.new.next < unmarked
+            self.old.marks + length self.old.next) }
     {
         let level = mem::replace(&mut self.next, Vec::new(alloc));
         self.visit_all(&level, row)
@@ -168,7 +187,8 @@ pub(crate) fn marks_back<A: PathAlgebra, G: Entering>(
     requires source { HasVertex (G.roads graph.now) source }
     requires target { HasVertex (G.roads graph.now) target }
     requires labels { length labels.now ≡ (G.roads graph.now).vertices }
-    ensures { IfOk result (λ marks. Covers (G.roads graph.now) (is_tight (A.meaning algebra) (G.roads graph.now) labels.now) source target marks.items) }
+    ensures { IfOk result (λ marks. Covers (G.roads graph.now) (is_tight (A.meaning algebra)
+        (G.roads graph.now) labels.now) source target marks.items) }
 {
     let _n = graph.count();
     let mut row = Vec::new(alloc);

@@ -1,7 +1,7 @@
 //! A breadth-first search over tight arcs, level by level: from the vertices at k hops to those at k + 1.
 
 ghost use Rattle.std.specs.Prelude.{◌≡◌, ◌+◌, ◌≤◌, ◌<◌, All, IfOk, None, OnOk, cond, eqb, length, replicate};
-ghost use Rattle.road_graph.specs.Roads.{HasVertex};
+ghost use Rattle.road_graph.specs.GraphData.{HasVertex};
 ghost use Rattle.path_algebra.specs.Walks.{label_of};
 ghost use Rattle.route_tree.specs.Levels.{IsMarked, hops_if, is_near, lesser, next_if, parents_if, unreached};
 ghost use Rattle.route_tree.specs.BreadthFirst.{IsSameSearch, VisitsVertex, VisitsAll, VisitsLevel, passes_road};
@@ -15,7 +15,7 @@ use std::alloc::{AllocError, Global};
 use std::marker::Model;
 use std::mem;
 
-/// The search while it goes on. Vertices get their hops in ascending order of hops.
+/// The search in progress. Vertices get their hops in ascending order of hops.
 #[derive(Drop)]
 pub(crate) struct BreadthFirst<'g, A: PathAlgebra> {
     algebra: A,
@@ -63,10 +63,15 @@ impl<'g, A: PathAlgebra> BreadthFirst<'g, A> {
     ) -> Result<Self, Memory>
         requires sources { All (HasVertex graph.now) sources.now }
         requires labels { length labels.now ≡ graph.now.vertices }
-        ensures over { IfOk result (λ s. s.over ≡ record { algebra = algebra; roads = graph.now; labels = labels.now }) }
+        ensures over { IfOk result (λ s. s.over ≡ record {
+          algebra = algebra;
+          roads = graph.now;
+          labels = labels.now;
+        }) }
         ensures region { IfOk result (λ s. s.region ≡ region.now) }
         ensures level { IfOk result (λ s. s.level ≡ 0) }
-        ensures marked { IfOk result (λ s. IsMarked graph.now.vertices sources.now sources.now s.hops s.next) }
+        ensures marked { IfOk result (λ s. IsMarked graph.now.vertices sources.now sources.now
+            s.hops s.next) }
         ensures parents { IfOk result (λ s. s.parents ≡ replicate graph.now.vertices None) }
     {
         let n = graph.vertices() as usize;
@@ -105,12 +110,14 @@ impl<'g, A: PathAlgebra> BreadthFirst<'g, A> {
         self.level + 1
     }
 
-    /// A vertex that had no hops is a source: it has 0 now, and no parent.
+    /// Gives a source 0 hops, and no parent, if it has no hops yet.
     fn mark(&mut self, v: Vertex) -> Result<(), Memory>
         requires { HasVertex self.old.over.roads v }
-        ensures hops { OnOk result (self.new.hops ≡ hops_if 0 self.old.hops v (label_of self.old.hops v)) }
+        ensures hops { OnOk result (self.new.hops ≡ hops_if 0 self.old.hops v
+            (label_of self.old.hops v)) }
         ensures parents { OnOk result (self.new.parents ≡ self.old.parents) }
-        ensures next { OnOk result (self.new.next ≡ next_if self.old.next v (label_of self.old.hops v)) }
+        ensures next { OnOk result (self.new.next ≡ next_if self.old.next v
+            (label_of self.old.hops v)) }
         ensures same { OnOk result (IsSameSearch self.old self.new) }
     {
         if self.hops(v).is_none() {
@@ -131,15 +138,19 @@ impl<'g, A: PathAlgebra> BreadthFirst<'g, A> {
         }
     }
 
-    /// A tight arc leads from `tail`, which is visited, to this vertex.
+    /// Notes a tight arc from `tail`, which is visited, to this vertex.
     fn reach(&mut self, v: Vertex, tail: Vertex) -> Result<(), Memory>
         requires head { HasVertex self.old.over.roads v }
         requires tail { HasVertex self.old.over.roads tail }
-        ensures hops { OnOk result (self.new.hops ≡ hops_if (self.old.level + 1) self.old.hops v (label_of self.old.hops v)) }
-        ensures parents { OnOk result (self.new.parents ≡ parents_if (self.old.level + 1) self.old.parents v tail (label_of self.old.hops v)) }
-        ensures next { OnOk result (self.new.next ≡ next_if self.old.next v (label_of self.old.hops v)) }
+        ensures hops { OnOk result (self.new.hops ≡ hops_if (self.old.level + 1) self.old.hops v
+            (label_of self.old.hops v)) }
+        ensures parents { OnOk result (self.new.parents ≡ parents_if (self.old.level + 1)
+            self.old.parents v tail (label_of self.old.hops v)) }
+        ensures next { OnOk result (self.new.next ≡ next_if self.old.next v
+            (label_of self.old.hops v)) }
         ensures same { OnOk result (IsSameSearch self.old self.new) }
-        ensures size { OnOk result (unreached self.new.hops + length self.new.next ≡ unreached self.old.hops + length self.old.next) }
+        ensures size { OnOk result (unreached self.new.hops + length self.new.next ≡ unreached
+            self.old.hops + length self.old.next) }
     {
         let i = v.0 as usize - 1;
         let far = self.far();
@@ -155,7 +166,7 @@ impl<'g, A: PathAlgebra> BreadthFirst<'g, A> {
         Ok(())
     }
 
-    /// Goes along a road from `tail`, whose label is `near`, where it is tight and leads into the region.
+    /// Goes along a road from `tail`, whose label is `near`, if it is tight and leads into the region.
     fn try_road(
         &mut self,
         tail: Vertex,
@@ -164,11 +175,21 @@ impl<'g, A: PathAlgebra> BreadthFirst<'g, A> {
     ) -> Result<(), Memory>
         requires tail { HasVertex self.old.over.roads tail }
         requires head { HasVertex self.old.over.roads road.head }
-        ensures hops { OnOk result (self.new.hops ≡ cond (passes_road (A.meaning self.old.over.algebra) self.old near road.head road.weight) (hops_if (self.old.level + 1) self.old.hops road.head (label_of self.old.hops road.head)) self.old.hops) }
-        ensures parents { OnOk result (self.new.parents ≡ cond (passes_road (A.meaning self.old.over.algebra) self.old near road.head road.weight) (parents_if (self.old.level + 1) self.old.parents road.head tail (label_of self.old.hops road.head)) self.old.parents) }
-        ensures next { OnOk result (self.new.next ≡ cond (passes_road (A.meaning self.old.over.algebra) self.old near road.head road.weight) (next_if self.old.next road.head (label_of self.old.hops road.head)) self.old.next) }
+        ensures hops { OnOk result
+            (self.new.hops ≡ cond (passes_road (A.meaning self.old.over.algebra) self.old near
+            road.head road.weight) (hops_if (self.old.level + 1) self.old.hops road.head
+            (label_of self.old.hops road.head)) self.old.hops) }
+        ensures parents { OnOk result
+            (self.new.parents ≡ cond (passes_road (A.meaning self.old.over.algebra) self.old near
+            road.head road.weight) (parents_if (self.old.level + 1) self.old.parents road.head tail
+            (label_of self.old.hops road.head)) self.old.parents) }
+        ensures next { OnOk result
+            (self.new.next ≡ cond (passes_road (A.meaning self.old.over.algebra) self.old near
+            road.head road.weight) (next_if self.old.next road.head
+            (label_of self.old.hops road.head)) self.old.next) }
         ensures same { OnOk result (IsSameSearch self.old self.new) }
-        ensures size { OnOk result (unreached self.new.hops + length self.new.next ≡ unreached self.old.hops + length self.old.next) }
+        ensures size { OnOk result (unreached self.new.hops + length self.new.next ≡ unreached
+            self.old.hops + length self.old.next) }
     {
         if self.is_near(road.head)
             && self.region.has(road.head)
@@ -183,9 +204,11 @@ impl<'g, A: PathAlgebra> BreadthFirst<'g, A> {
     /// Visits a vertex: goes along the roads that leave it.
     fn visit(&mut self, v: Vertex) -> Result<(), Memory>
         requires { HasVertex self.old.over.roads v }
-        ensures visits { OnOk result (VisitsVertex (A.meaning self.old.over.algebra) v self.old self.new) }
+        ensures visits { OnOk result (VisitsVertex (A.meaning self.old.over.algebra) v self.old
+            self.new) }
         ensures same { OnOk result (IsSameSearch self.old self.new) }
-        ensures size { OnOk result (unreached self.new.hops + length self.new.next ≡ unreached self.old.hops + length self.old.next) }
+        ensures size { OnOk result (unreached self.new.hops + length self.new.next ≡ unreached
+            self.old.hops + length self.old.next) }
     {
         let graph = self.graph;
         let near = self.labels.of(v);
@@ -198,9 +221,11 @@ impl<'g, A: PathAlgebra> BreadthFirst<'g, A> {
     /// Visits each vertex of a list.
     fn visit_all(&mut self, list: &[Vertex]) -> Result<(), Memory>
         requires { All (HasVertex self.old.over.roads) list.now }
-        ensures visits { OnOk result (VisitsAll (A.meaning self.old.over.algebra) list.now self.old self.new) }
+        ensures visits { OnOk result (VisitsAll (A.meaning self.old.over.algebra) list.now self.old
+            self.new) }
         ensures same { OnOk result (IsSameSearch self.old self.new) }
-        ensures size { OnOk result (unreached self.new.hops + length self.new.next ≡ unreached self.old.hops + length self.old.next) }
+        ensures size { OnOk result (unreached self.new.hops + length self.new.next ≡ unreached
+            self.old.hops + length self.old.next) }
     {
         for v in list {
             self.visit(*v)?;
@@ -215,13 +240,15 @@ impl<'g, A: PathAlgebra> BreadthFirst<'g, A> {
         self.next.is_empty()
     }
 
-    /// Visits the vertices that were found last; those that are found then are the next level.
+    /// Visits the vertices that were found last; those that it finds are the next level.
     pub(crate) fn visit_level(&mut self, alloc: Global) -> Result<(), Memory>
         requires waiting { 1 ≤ length self.old.next }
-        ensures visits { OnOk result (VisitsLevel (A.meaning self.old.over.algebra) self.old self.new) }
+        ensures visits { OnOk result (VisitsLevel (A.meaning self.old.over.algebra) self.old
+            self.new) }
         ensures over { OnOk result (self.new.over ≡ self.old.over) }
         ensures region { OnOk result (self.new.region ≡ self.old.region) }
-        ensures fewer { OnOk result (unreached self.new.hops + length self.new.next < unreached self.old.hops + length self.old.next) }
+        ensures fewer { OnOk result (unreached self.new.hops + length self.new.next < unreached
+            self.old.hops + length self.old.next) }
     {
         let level = mem::replace(&mut self.next, Vec::new(alloc));
         self.visit_all(&level)?;

@@ -1,22 +1,22 @@
 //! Graphs along whose arcs a search can go back.
 
 ghost use Rattle.std.specs.Prelude.{◌≡◌, ◌++◌, OnOk, map};
-ghost use Rattle.road_graph.specs.Roads.{Roads, IsRoads, HasArc, HasVertex, ListsRoadsInto, arc_of, road_of, turned};
+ghost use Rattle.road_graph.specs.GraphData.{GraphData, IsGraph, HasArc, HasVertex, ListsRoadsInto, arc_of, road_of, reversed_arc};
 
 use road_graph::{Graph, InGraph, Memory, OutRoad, Vertex};
 use std::alloc::AllocError;
 
 /// A graph along whose arcs a search can go back.
 pub(crate) trait Entering {
-    // The graph that it is.
-    ghost roads: { Self → Roads };
+    // The graph itself.
+    ghost roads: { Self → GraphData };
 
     /// How many vertices there are.
     fn count(&self) -> u32
         ensures count { result ≡ (roads self.now).vertices }
-        ensures roads { IsRoads (roads self.now) };
+        ensures roads { IsGraph (roads self.now) };
 
-    /// Makes the list that of the arcs that enter a vertex, each turned round: its tail, where a road has its head, and its weight.
+    /// Makes `list` the arcs that enter a vertex, each reversed: its tail as the head of a road, and its weight.
     fn list_into(&self, v: Vertex, list: &mut Vec<OutRoad>) -> Result<(), Memory>
         requires { HasVertex (roads self.now) v }
         ensures { OnOk result (ListsRoadsInto (roads self.now) v list.new.items) };

@@ -27,7 +27,7 @@ impl Model for Tree {
 impl Tree {
     ghost use Rattle.route_tree.specs.Tree.{hops_of, parent_of, IsLinked};
 
-    /// The tree of these hops and parents, by a solver that found them while it searched.
+    /// The tree of these hops and parents, as a solver found them while it searched.
     pub fn from_parts(hops: Vec<NumberSlot>, parents: Vec<NumberSlot>) -> Self
         requires { IsLinked (record { hops = hops.items; parents = parents.items }) }
         ensures { result ≡ record { hops = hops.items; parents = parents.items } }
@@ -43,7 +43,7 @@ impl Tree {
         self.hops.len()
     }
 
-    /// The least number of arcs of a walk of tight arcs from a source; none where no walk has a value.
+    /// The least number of arcs of a walk of tight arcs from a source; none if no walk has a value.
     pub fn hops(&self, v: Vertex) -> Option<u32>
         requires low { 1 ≤ v }
         requires high { v ≤ length self.now.hops }
@@ -52,7 +52,7 @@ impl Tree {
         self.hops[v.0 as usize - 1].get()
     }
 
-    /// The least vertex with a tight arc to this one and one hop less; none at a source, and where there are no hops.
+    /// The least vertex with a tight arc to this one and one hop less; none at a source, and none if there are no hops.
     pub fn parent(&self, v: Vertex) -> Option<Vertex>
         requires low { 1 ≤ v }
         requires high { v ≤ length self.now.hops }

@@ -1,4 +1,4 @@
-//! Regions of a graph, to which a tree may be held.
+//! Regions of a graph, to which a tree may be restricted.
 
 ghost use Rattle.std.specs.Prelude.{◌≡◌, ◌≤◌, None, Some};
 ghost use Rattle.route_tree.specs.Regions.{in_region};

@@ -1,7 +1,7 @@
 //! Routes: chains of parents, from a whole tree or between two vertices alone.
 
 ghost use Rattle.std.specs.Prelude.{◌≡◌, ◌+◌, ◌≤◌, [], ◌∷◌, ◌++◌, length, IfOk, OnOk, None, MatchOption};
-ghost use Rattle.road_graph.specs.Roads.{HasVertex};
+ghost use Rattle.road_graph.specs.GraphData.{HasVertex};
 ghost use Rattle.path_algebra.specs.Walks.{AreBest, AreHops, IsUnreached};
 ghost use Rattle.route_tree.specs.Told.{IsParentRoute};
 ghost use Rattle.route_tree.specs.Tree.{IsRoute, hops_of};
@@ -22,12 +22,13 @@ fn push(list: &mut Vec<Vertex>, v: Vertex) -> Result<(), Memory>
     Ok(())
 }
 
-/// The route to a vertex: from a source on, each vertex is the parent of the next. None where the vertex has no hops.
-/// The only error is want of memory.
+/// The route to a vertex: from a source on, each vertex is the parent of the next. None if the vertex has no hops.
+/// The only error is `Memory`.
 pub fn route(alloc: Global, tree: &Tree, target: Vertex) -> Result<Option<Vec<Vertex>>, Memory>
     requires low { 1 ≤ target }
     requires high { target ≤ length tree.now.hops }
-    ensures { IfOk result (λ found. MatchOption found (hops_of tree.now target ≡ None) (λ list. IsRoute tree.now target list.items)) }
+    ensures { IfOk result (λ found. MatchOption found (hops_of tree.now target ≡ None)
+        (λ list. IsRoute tree.now target list.items)) }
 {
     let _n = tree.vertices();
     if tree.hops(target).is_none() {
@@ -53,7 +54,7 @@ pub struct PairRoute {
     pub vertices: Vec<Vertex>,
 }
 
-/// The route from a source to a target in a graph that has its arcs by tail, and by head where `back` is it.
+/// The route from a source to a target, in a graph with its arcs by tail; `back` is the same graph, searched by head.
 fn route_in<A: PathAlgebra, G: Entering>(
     alloc: Global,
     algebra: A,
@@ -73,7 +74,7 @@ fn route_in<A: PathAlgebra, G: Entering>(
         × (length r.vertices.items ≡ r.hops + 1))) }
 {
     laws_hold(algebra);
-    let _n = graph.vertices();
+    graph.holds();
     let region = Region::marked(marks_back(alloc, algebra, back, labels, source, target)?);
     let tree = tree_into(alloc, algebra, graph, labels, &region, &[source])?;
     let Some(hops) = tree.hops(target) else {
@@ -85,8 +86,8 @@ fn route_in<A: PathAlgebra, G: Entering>(
     Ok(Some(PairRoute { hops, vertices }))
 }
 
-/// The route from a source to a target, for labels that are best from that source; none where no walk has a value.
-/// The only error is want of memory.
+/// The route from a source to a target, for labels that are best from that source; none if no walk has a value.
+/// The only error is `Memory`.
 ///
 /// It is the route of the whole tree, but only vertices with a walk of tight arcs to the target are looked at, and no
 /// further back than the source.

@@ -4,7 +4,7 @@ ghost use Rattle.std.specs.Prelude.{◌≡◌, ◌<◌, None, Some};
 
 use std::marker::Model;
 
-/// What stands for no number.
+/// The number that stands for none.
 const EMPTY: u32 = u32::MAX;
 
 /// A number below 2^32 - 1, or none. It takes half the room of an `Option<u32>`.
@@ -13,11 +13,11 @@ pub struct NumberSlot(u32);
 
 impl Model for NumberSlot {
     ghost use Rattle.std.specs.Prelude.{ℕ, Option};
-    ghost use Rattle.route_tree.specs.Slots.{number_in, kept_as, kept_again};
+    ghost use Rattle.route_tree.specs.Slots.{slot_number, kept_as, kept_again};
 
     ghost Value = { Option ℕ };
 
-    ghost view = { λ s. number_in s.0 };
+    ghost view = { λ s. slot_number s.0 };
 
     ghost inverse = { λ o. record { 0 = kept_as o } };
 

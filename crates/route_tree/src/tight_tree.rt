@@ -1,7 +1,7 @@
 //! The tree of best labels, over the arcs that are tight by them.
 
 ghost use Rattle.std.specs.Prelude.{◌≡◌, All, IfOk, length};
-ghost use Rattle.road_graph.specs.Roads.{HasVertex};
+ghost use Rattle.road_graph.specs.GraphData.{HasVertex};
 ghost use Rattle.path_algebra.specs.Walks.{AreBest};
 ghost use Rattle.route_tree.specs.Levels.{AreLeast, AreLeastTails};
 ghost use Rattle.route_tree.specs.Regions.{is_tight_into};
@@ -25,10 +25,12 @@ pub(crate) fn tree_into<A: PathAlgebra>(
 ) -> Result<Tree, Memory>
     requires sources { All (HasVertex graph.now) sources.now }
     requires labels { length labels.now ≡ graph.now.vertices }
-    ensures hops { IfOk result (λ tree. AreLeast graph.now (is_tight_into (A.meaning algebra) graph.now labels.now region.now) sources.now tree.hops) }
-    ensures parents { IfOk result (λ tree. AreLeastTails graph.now (is_tight_into (A.meaning algebra) graph.now labels.now region.now) tree.hops tree.parents) }
+    ensures hops { IfOk result (λ tree. AreLeast graph.now (is_tight_into (A.meaning algebra)
+        graph.now labels.now region.now) sources.now tree.hops) }
+    ensures parents { IfOk result (λ tree. AreLeastTails graph.now
+        (is_tight_into (A.meaning algebra) graph.now labels.now region.now) tree.hops tree.parents) }
 {
-    let _n = graph.vertices();
+    graph.holds();
     let mut search = BreadthFirst::open(alloc, algebra, graph, labels, region, sources)?;
     while !search.is_done() {
         search.visit_level(alloc)?;
@@ -37,7 +39,7 @@ pub(crate) fn tree_into<A: PathAlgebra>(
     Ok(Tree { hops, parents })
 }
 
-/// The hops and parents of labels that are best from the sources, as a solver gives them. Sources may repeat. The only error is want of memory.
+/// The hops and parents of labels that are best from the sources, as a solver gives them. Sources may repeat. The only error is `Memory`.
 ///
 /// Each arc that leaves a reached vertex is looked at once; the tree keeps two numbers a vertex.
 pub fn tree_outgoing<A: PathAlgebra>(
@@ -52,7 +54,7 @@ pub fn tree_outgoing<A: PathAlgebra>(
     ensures { IfOk result (λ tree. IsTree (A.meaning algebra) graph.now sources.now tree) }
 {
     laws_hold(algebra);
-    let _n = graph.vertices();
+    graph.holds();
     let tree = tree_into(alloc, algebra, graph, labels, &Region::all(), sources)?;
     Ok(tree)
 }

@@ -1,11 +1,11 @@
 -- What a place of the table says of a mark that is offered there.
 use Rattle.std.proofs.Common.{◌≡◌, ℕ, Bool, true, false, cond, not, leb, List, get_or, ap, sym, ◌∙◌, Option, Some, None}
 use Rattle.tree_search.specs.Marks.{is_better, is_lesser}
-use Rattle.tree_search.specs.Rows.{number_of, mark_in, marks_of, AreRows}
+use Rattle.tree_search.specs.Rows.{number_of, mark_in, marks_of, AreMarkRows}
 use Rattle.tree_search.specs.declared.mark.Mark.{Mark}
 use Rattle.tree_search.proofs.Rows.{mark_now}
 
-module _ {V : Type 0} (no_worse : V → V → Bool) (values : List (Option V)) (hops parents : List (Option ℕ)) (marks : List (Option (Mark V))) (rows : AreRows values hops parents) (are : marks_of values hops parents ≡ marks)
+module _ {V : Type 0} (no_worse : V → V → Bool) (values : List (Option V)) (hops parents : List (Option ℕ)) (marks : List (Option (Mark V))) (rows : AreMarkRows values hops parents) (are : marks_of values hops parents ≡ marks)
     (i : ℕ) (new : Mark V) where
   read : (o : Option V) → get_or values i None ≡ o → get_or marks i None ≡ mark_in o (get_or hops i None) (get_or parents i None)
   read o e = mark_now values hops parents marks rows are i ∙ ap (λ (x : Option V). mark_in x (get_or hops i None) (get_or parents i None)) e

@@ -5,7 +5,7 @@ use Rattle.std.proofs.lemmas.List.{length-map}
 use Rattle.std.proofs.lemmas.Bool.{cases_Bool, ne_eqb}
 use Rattle.std.proofs.lemmas.Bool.Decides.{eqb_tells}
 use Rattle.std.specs.Prelude.{IsTrue, All, option_map}
-use Rattle.road_graph.specs.Roads.{Roads, IsRoads, HasArc, HasVertex, arc_of}
+use Rattle.road_graph.specs.GraphData.{GraphData, IsGraph, HasArc, HasVertex, arc_of}
 use Rattle.road_graph.proofs.Lists.{not_in_empty}
 use Rattle.road_graph.proofs.Options.{same_some}
 use Rattle.path_algebra.specs.Algebra.{Algebra, IsLawful}
@@ -20,7 +20,7 @@ use Rattle.route_tree.specs.Tree.{IsLinked, IsTree}
 use Rattle.route_tree.proofs.LevelsAreLeast.{IsWalkOf-snoc, IsWalkOf-nil, search_ends}
 use Rattle.route_tree.proofs.Linked.{linked}
 use Rattle.route_tree.proofs.Trees.{tree_is}
-use Rattle.tree_search.specs.Marks.{key_of, values_in, keys_in, hops_in, parents_in, parent_in, parent_number}
+use Rattle.tree_search.specs.Marks.{key_of, values_in, keys_in, hops_in, parents_in, parent_in, parent_or_none}
 use Rattle.path_plain.specs.Order.{by_number}
 use Rattle.tree_search.specs.declared.mark.Mark.{Mark}
 use Rattle.tree_search.proofs.Reading.{read, read_none, found, is_some}
@@ -41,7 +41,7 @@ most (Some top ∷ marks) =
       ],
     )
 
-module _ {V : Type 0} (A : Algebra V) (lawful : IsLawful A) (g : Roads) (roads : IsRoads g) (sources : List ℕ) (inside : All (HasVertex g) sources)
+module _ {V : Type 0} (A : Algebra V) (lawful : IsLawful A) (g : GraphData) (roads : IsGraph g) (sources : List ℕ) (inside : All (HasVertex g) sources)
     (marks : List (Option (Mark V))) (settled : List Bool) (x : V) (h : ℕ) (hopping : Hopping A g sources marks settled x h [])
     (none : AnswersBestOpen (by_number A.no_worse) (keys_in marks) settled g.vertices None) where
   abbrev labels : List (Option V)
@@ -138,7 +138,7 @@ module _ {V : Type 0} (A : Algebra V) (lawful : IsLawful A) (g : Roads) (roads :
         subst (λ (j : ℕ). IsWalkOf g test sources v j) s (subst (λ (u : ℕ). IsWalkOf g test sources u (k + 1)) by.head on)
   ]
 
-  some_parent : (u : ℕ) → 1 ≤ u → parent_number u ≡ Some u
+  some_parent : (u : ℕ) → 1 ≤ u → parent_or_none u ≡ Some u
   some_parent u low = ap (λ (b : Bool). cond b None (Some u)) (ne_eqb u 0 (λ e. omega (arith, low, e)))
 
   parent_cases : (o : Option (Mark V)) (u : ℕ) → parent_in o ≡ Some u → (m : Mark V) × (o ≡ Some m) × (m.parent ≡ u) × (m.parent ≡ 0 → ⊥)

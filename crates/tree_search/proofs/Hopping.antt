@@ -3,7 +3,7 @@ use Rattle.std.proofs.Common.{◌≡◌, ℕ, suc, ◌+◌, ◌-◌, ◌<◌, �
 use Rattle.std.proofs.lemmas.List.{length-map}
 use Rattle.std.proofs.lemmas.Bool.{cases_eq}
 use Rattle.std.specs.Prelude.{IsTrue, All, Contains, option_map}
-use Rattle.road_graph.specs.Roads.{Roads, IsRoads, HasArc, HasVertex, arc_of}
+use Rattle.road_graph.specs.GraphData.{GraphData, IsGraph, HasArc, HasVertex, arc_of}
 use Rattle.road_graph.proofs.Lists.{head_or_tail}
 use Rattle.road_graph.proofs.Options.{same_some}
 use Rattle.path_algebra.specs.Algebra.{Algebra, IsLawful}
@@ -19,7 +19,7 @@ use Rattle.tree_search.specs.declared.mark.Mark.{Mark}
 use Rattle.tree_search.proofs.Reading.{read, found, IsKept, IsTaken, outcome, values_marked}
 
 -- an arc from a settled vertex gave v its mark
-pub record IsAdoption {V : Type 0} (A : Algebra V) (g : Roads) (marks : List (Option (Mark V))) (settled : List Bool) (v : ℕ) (m : Mark V) : Type 0 where
+pub record IsAdoption {V : Type 0} (A : Algebra V) (g : GraphData) (marks : List (Option (Mark V))) (settled : List Bool) (v : ℕ) (m : Mark V) : Type 0 where
   pub arc : ℕ
   pub has : HasArc g arc
   pub head : (arc_of g arc).head ≡ v
@@ -31,18 +31,18 @@ pub record IsAdoption {V : Type 0} (A : Algebra V) (g : Roads) (marks : List (Op
   pub hops : m.hops ≡ near.hops + 1
 
 -- a mark is a source's, or some arc gave it
-abbrev pub IsGiven : {V : Type 0} → Algebra V → Roads → List ℕ → List (Option (Mark V)) → List Bool → ℕ → Mark V → Type 0
+abbrev pub IsGiven : {V : Type 0} → Algebra V → GraphData → List ℕ → List (Option (Mark V)) → List Bool → ℕ → Mark V → Type 0
 IsGiven A g sources marks settled v m =
     ((m.hops ≡ 0) × (m.parent ≡ 0) × Contains sources v) ⊎ IsAdoption A g marks settled v m
 
 -- where an arc gives its head's value, the head has no more hops than by this arc, and where it has as many no greater parent
-abbrev pub IsPassed : {V : Type 0} → Algebra V → Roads → List (Option (Mark V)) → ℕ → Type 0
+abbrev pub IsPassed : {V : Type 0} → Algebra V → GraphData → List (Option (Mark V)) → ℕ → Type 0
 IsPassed {V} A g marks a =
     (t m : Mark V) → label_of marks (arc_of g a).tail ≡ Some t → label_of marks (arc_of g a).head ≡ Some m → A.extend t.value (arc_of g a).weight ≡ Some m.value →
     (m.hops ≤ t.hops + 1) × (m.hops ≡ t.hops + 1 → m.parent ≤ (arc_of g a).tail)
 
 -- (x, h) is a level: no settled key is worse, and no open one is better; pending arcs wait for their turn
-pub record Hopping {V : Type 0} (A : Algebra V) (g : Roads) (sources : List ℕ) (marks : List (Option (Mark V))) (settled : List Bool) (x : V) (h : ℕ) (pending : List ℕ) : Type 0 where
+pub record Hopping {V : Type 0} (A : Algebra V) (g : GraphData) (sources : List ℕ) (marks : List (Option (Mark V))) (settled : List Bool) (x : V) (h : ℕ) (pending : List ℕ) : Type 0 where
   pub known : Search A g sources (values_in marks) settled x pending
   pub below : (v : ℕ) (m : Mark V) → HasVertex g v → IsSettled settled v → label_of marks v ≡ Some m → IsTrue (A.no_worse x m.value) → m.hops ≤ h
   pub above : (v : ℕ) (m : Mark V) → HasVertex g v → get_or settled (v - 1) false ≡ false → label_of marks v ≡ Some m → IsTrue (A.no_worse m.value x) → h ≤ m.hops
@@ -51,7 +51,7 @@ pub record Hopping {V : Type 0} (A : Algebra V) (g : Roads) (sources : List ℕ)
   pub passed : (a : ℕ) → HasArc g a → IsSettled settled (arc_of g a).tail → Contains pending a ⊎ IsPassed A g marks a
   pub current : (a : ℕ) → Contains pending a → (t : Mark V) × (label_of marks (arc_of g a).tail ≡ Some t) × (t.hops ≡ h)
 
-module _ {V : Type 0} (A : Algebra V) (lawful : IsLawful A) (g : Roads) (roads : IsRoads g) (sources : List ℕ) (inside : All (HasVertex g) sources) (settled : List Bool) (x : V) (h : ℕ)
+module _ {V : Type 0} (A : Algebra V) (lawful : IsLawful A) (g : GraphData) (roads : IsGraph g) (sources : List ℕ) (inside : All (HasVertex g) sources) (settled : List Bool) (x : V) (h : ℕ)
     (marks : List (Option (Mark V))) (a : ℕ) (rest : List ℕ) (hopping : Hopping A g sources marks settled x h (a ∷ rest)) where
   a_waits : Contains (a ∷ rest) a
   a_waits = (0, omega arith, refl)
@@ -305,7 +305,7 @@ module _ {V : Type 0} (A : Algebra V) (lawful : IsLawful A) (g : Roads) (roads :
     offered_mark : Hopping A g sources after settled x h rest
     offered_mark = elim (outcome A.no_worse lawful.ordered marks (arc_of g a).head new) [ inl k ↦ unchanged k | inr t ↦ changed t ]
 
-module _ {V : Type 0} (A : Algebra V) (lawful : IsLawful A) (g : Roads) (roads : IsRoads g) (sources : List ℕ) (inside : All (HasVertex g) sources) (settled : List Bool) (x : V) (h u : ℕ) where
+module _ {V : Type 0} (A : Algebra V) (lawful : IsLawful A) (g : GraphData) (roads : IsGraph g) (sources : List ℕ) (inside : All (HasVertex g) sources) (settled : List Bool) (x : V) (h u : ℕ) where
   hopping_arc : (marks : List (Option (Mark V))) (a : ℕ) (rest : List ℕ) → (arc_of g a).tail ≡ u → Hopping A g sources marks settled x h (a ∷ rest) → (o : Option V) → A.extend x (arc_of g a).weight ≡ o →
       Hopping A g sources (marked_if A.no_worse marks (arc_of g a).head o (h + 1) u) settled x h rest
   hopping_arc marks a rest tail hopping None ex = refused A lawful g roads sources inside settled x h marks a rest hopping ex

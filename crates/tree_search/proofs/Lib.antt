@@ -1,9 +1,9 @@
-pub mod Reading
-pub mod Hopping
-pub mod Rounds
-pub mod Ending
-pub mod Steps
-pub mod Opening
-pub mod Relaxing
-pub mod Rows
-pub mod Comparing
+mod Reading
+mod Hopping
+mod Rounds
+mod Ending
+mod Steps
+mod Opening
+mod Relaxing
+mod Rows
+mod Comparing

@@ -1,6 +1,6 @@
 -- Relaxing by heads and weights is relaxing by arc numbers.
 use Rattle.std.proofs.Common.{◌≡◌, ℕ, ◌+◌, List, [], ◌∷◌, refl, Option}
-use Rattle.road_graph.specs.Roads.{Roads, arc_of, roads_of}
+use Rattle.road_graph.specs.GraphData.{GraphData, arc_of, roads_of}
 use Rattle.road_graph.specs.declared.OutRoad.{OutRoad}
 use Rattle.path_algebra.specs.Algebra.{Algebra}
 use Rattle.tree_search.specs.Marks.{marked_if, relaxed_marks}
@@ -11,7 +11,7 @@ abbrev pub relaxed_by_roads : {V : Type 0} → Algebra V → ℕ → V → ℕ �
 relaxed_by_roads A u x h marks [] = marks
 relaxed_by_roads A u x h marks (r ∷ roads) = relaxed_by_roads A u x h (marked_if A.no_worse marks r.head (A.extend x r.weight) (h + 1) u) roads
 
-pub relaxed_is : {V : Type 0} (A : Algebra V) (g : Roads) (u : ℕ) (x : V) (h : ℕ) (marks : List (Option (Mark V))) (numbers : List ℕ) →
+pub relaxed_is : {V : Type 0} (A : Algebra V) (g : GraphData) (u : ℕ) (x : V) (h : ℕ) (marks : List (Option (Mark V))) (numbers : List ℕ) →
     relaxed_marks A g u x h marks numbers ≡ relaxed_by_roads A u x h marks (roads_of g numbers)
 relaxed_is A g u x h marks [] = refl
 relaxed_is A g u x h marks (a ∷ numbers) = relaxed_is A g u x h (marked_if A.no_worse marks (arc_of g a).head (A.extend x (arc_of g a).weight) (h + 1) u) numbers

@@ -3,7 +3,7 @@ use Rattle.std.proofs.Common.{◌≡◌, ℕ, ◌+◌, ◌-◌, ◌<◌, ◌≤�
 use Rattle.std.proofs.lemmas.List.{length-map}
 use Rattle.std.proofs.lemmas.Bool.{cases_eq}
 use Rattle.std.specs.Prelude.{IsTrue, All, option_map}
-use Rattle.road_graph.specs.Roads.{Roads, IsRoads, HasVertex, arc_of, ListsArcsFrom}
+use Rattle.road_graph.specs.GraphData.{GraphData, IsGraph, HasVertex, arc_of, ListsArcsFrom}
 use Rattle.road_graph.proofs.Lists.{not_in_empty}
 use Rattle.path_algebra.specs.Algebra.{Algebra, IsLawful}
 use Rattle.path_algebra.specs.Walks.{label_of}
@@ -17,7 +17,7 @@ use Rattle.tree_search.specs.declared.mark.Mark.{Mark}
 use Rattle.tree_search.proofs.Reading.{read, found}
 use Rattle.tree_search.proofs.Hopping.{Hopping, hopping_relaxed}
 
-module _ {V : Type 0} (A : Algebra V) (lawful : IsLawful A) (g : Roads) (roads : IsRoads g) (sources : List ℕ) where
+module _ {V : Type 0} (A : Algebra V) (lawful : IsLawful A) (g : GraphData) (roads : IsGraph g) (sources : List ℕ) where
   pub hopping_start : (marks : List (Option (Mark V))) → AreOpening A.origin g.vertices sources marks → Hopping A g sources marks (replicate g.vertices false) A.origin 0 []
   hopping_start marks opening = record {
     known = search_start A lawful g roads sources (values_in marks) opening.labels;
@@ -33,7 +33,7 @@ module _ {V : Type 0} (A : Algebra V) (lawful : IsLawful A) (g : Roads) (roads :
     current = λ a w. absurd (not_in_empty a w);
   }
 
-module _ {V : Type 0} (A : Algebra V) (lawful : IsLawful A) (g : Roads) (roads : IsRoads g) (sources : List ℕ) (marks : List (Option (Mark V))) (settled : List Bool) (x y : V) (h k i : ℕ) (out : List ℕ)
+module _ {V : Type 0} (A : Algebra V) (lawful : IsLawful A) (g : GraphData) (roads : IsGraph g) (sources : List ℕ) (marks : List (Option (Mark V))) (settled : List Bool) (x y : V) (h k i : ℕ) (out : List ℕ)
     (hopping : Hopping A g sources marks settled x h []) (best : IsBestOpen (by_number A.no_worse) (keys_in marks) settled g.vertices i (y, k)) (lists : ListsArcsFrom g (i + 1) out) where
   place_is : (i + 1) - 1 ≡ i
   place_is = omega arith
@@ -132,16 +132,16 @@ module _ {V : Type 0} (A : Algebra V) (lawful : IsLawful A) (g : Roads) (roads :
   }
 
 -- a search between two rounds
-pub record Between {V : Type 0} (A : Algebra V) (g : Roads) (sources : List ℕ) (marks : List (Option (Mark V))) (settled : List Bool) : Type 0 where
+pub record Between {V : Type 0} (A : Algebra V) (g : GraphData) (sources : List ℕ) (marks : List (Option (Mark V))) (settled : List Bool) : Type 0 where
   pub level : V
   pub hops : ℕ
   pub hopping : Hopping A g sources marks settled level hops []
 
-pub starting : {V : Type 0} (A : Algebra V) → IsLawful A → (g : Roads) → IsRoads g → (sources : List ℕ) (marks : List (Option (Mark V))) → AreOpening A.origin g.vertices sources marks →
+pub starting : {V : Type 0} (A : Algebra V) → IsLawful A → (g : GraphData) → IsGraph g → (sources : List ℕ) (marks : List (Option (Mark V))) → AreOpening A.origin g.vertices sources marks →
     Between A g sources marks (replicate g.vertices false)
 starting A lawful g roads sources marks opening = record { level = A.origin; hops = 0; hopping = hopping_start A lawful g roads sources marks opening }
 
-module _ {V : Type 0} (A : Algebra V) (lawful : IsLawful A) (g : Roads) (roads : IsRoads g) (sources : List ℕ) (inside : All (HasVertex g) sources) (order : V → V → Bool) (same : A.no_worse ≡ order)
+module _ {V : Type 0} (A : Algebra V) (lawful : IsLawful A) (g : GraphData) (roads : IsGraph g) (sources : List ℕ) (inside : All (HasVertex g) sources) (order : V → V → Bool) (same : A.no_worse ≡ order)
     (marks : List (Option (Mark V))) (settled : List Bool) (between : Between A g sources marks settled) where
   pub keys_count : length (keys_in marks) ≡ g.vertices
   keys_count = length-map marks (option_map key_of) ∙ sym (length-map marks (option_map (λ (m : Mark V). m.value))) ∙ between.hopping.known.labels_count

@@ -10,7 +10,7 @@ use Rattle.std.proofs.lemmas.List.Sorted.{Contains-permutation, IsPermutation-sy
 use Rattle.std.specs.Prelude.{IsTrue, All, option_map}
 use Rattle.std.specs.List.Sorted.{IsPermutation}
 use Rattle.std.specs.BinaryHeap.{IsUpperBound}
-use Rattle.road_graph.specs.Roads.{Roads, IsRoads, HasVertex}
+use Rattle.road_graph.specs.GraphData.{GraphData, IsGraph, HasVertex}
 use Rattle.road_graph.proofs.Lists.{not_in_empty}
 use Rattle.path_algebra.specs.Algebra.{Algebra, IsOrder, IsLawful}
 use Rattle.path_algebra.specs.Walks.{AreBest}
@@ -35,9 +35,9 @@ none_there zero i = refl
 none_there (suc n) zero = refl
 none_there (suc n) (suc i) = none_there n i
 
-module _ {K V : Type 0} (key : K → V × ℕ) (place : K → ℕ) (order : V → V → Bool) (ordered : IsOrder order) (g : Roads) where
+module _ {K V : Type 0} (key : K → V × ℕ) (place : K → ℕ) (order : V → V → Bool) (ordered : IsOrder order) (g : GraphData) where
   -- nothing is there yet
-  pub search_opens : IsRoads g → IsSearch key place order g (replicate g.vertices None) (replicate g.vertices false) []
+  pub search_opens : IsGraph g → IsSearch key place order g (replicate g.vertices None) (replicate g.vertices false) []
   search_opens roads = record {
     roads = roads;
     marks_count = simp length-replicate;
@@ -50,7 +50,7 @@ module _ {K V : Type 0} (key : K → V × ℕ) (place : K → ℕ) (order : V �
     };
   }
 
-module _ {K V : Type 0} (key : K → V × ℕ) (place : K → ℕ) (order : V → V → Bool) (ordered : IsOrder order) (g : Roads) (marks : List (Option (Mark V))) (settled : List Bool) (items : List K)
+module _ {K V : Type 0} (key : K → V × ℕ) (place : K → ℕ) (order : V → V → Bool) (ordered : IsOrder order) (g : GraphData) (marks : List (Option (Mark V))) (settled : List Bool) (items : List K)
     (known : IsSearch key place order g marks settled items) where
   few_after : (i : ℕ) (new : Mark V) → i < length marks → new.hops + unsettled settled ≤ g.vertices → HaveFewHops g (set marks i (Some new)) settled
   few_after i new lt few j m e = elim (cases_eq j i) [
@@ -184,7 +184,7 @@ module _ {K V : Type 0} (key : K → V × ℕ) (place : K → ℕ) (order : V �
         });
       }
 
-module _ {C V : Type 0} (A : Algebra V) (lawful : IsLawful A) (order : V → V → Bool) (same : A.no_worse ≡ order) (g : Roads) (roads : IsRoads g) (sources : List ℕ) (inside : All (HasVertex g) sources)
+module _ {C V : Type 0} (A : Algebra V) (lawful : IsLawful A) (order : V → V → Bool) (same : A.no_worse ≡ order) (g : GraphData) (roads : IsGraph g) (sources : List ℕ) (inside : All (HasVertex g) sources)
     (old new : SearchState C V) (in_graph : old.roads ≡ g) (between : Between A g sources old.marks old.settled) where
   stepped : Advances order A true old new → Between A g sources new.marks new.settled
   stepped (inl s) =

@@ -1,6 +1,6 @@
 -- A search with hops and parents, and how it proceeds.
 use Rattle.std.specs.Prelude.{◌≡◌, ℕ, ◌+◌, ◌<◌, ◌≤◌, ◌⊎◌, List, length, Bool, true, false, Option, Some, None, slice_set, slice_index_or}
-use Rattle.road_graph.specs.Roads.{Roads, IsRoads, ListsArcsFrom}
+use Rattle.road_graph.specs.GraphData.{GraphData, IsGraph, ListsArcsFrom}
 use Rattle.path_algebra.specs.Algebra.{Algebra}
 use Rattle.path_algebra.specs.Open.{IsBestOpen, AnswersBestOpen}
 use Rattle.path_plain.specs.Queue.{IsQueue}
@@ -11,19 +11,19 @@ use Rattle.tree_search.specs.declared.mark.Mark.{Mark}
 -- the mark of each vertex, which are settled, and how many entries wait in the queue
 pub record SearchState (A V : Type 0) : Type 0 where
   pub algebra : A
-  pub roads : Roads
+  pub roads : GraphData
   pub marks : List (Option (Mark V))
   pub settled : List Bool
   pub waiting : ℕ
 
 -- no mark has more hops than there are settled vertices
-abbrev pub HaveFewHops : {V : Type 0} → Roads → List (Option (Mark V)) → List Bool → Type 0
+abbrev pub HaveFewHops : {V : Type 0} → GraphData → List (Option (Mark V)) → List Bool → Type 0
 HaveFewHops {V} g marks settled = (i : ℕ) (m : Mark V) → slice_index_or marks i None ≡ Some m → m.hops + unsettled settled ≤ g.vertices
 
 -- a mark for each vertex of a graph, and the queue of the open vertices
 pub record IsSearch {K V : Type 0} (key : K → V × ℕ) (place : K → ℕ) (no_worse : V → V → Bool)
-    (g : Roads) (marks : List (Option (Mark V))) (settled : List Bool) (items : List K) : Type 0 where
-  pub roads : IsRoads g
+    (g : GraphData) (marks : List (Option (Mark V))) (settled : List Bool) (items : List K) : Type 0 where
+  pub roads : IsGraph g
   pub marks_count : length marks ≡ g.vertices
   pub settled_count : length settled ≡ g.vertices
   pub few_hops : HaveFewHops g marks settled
@@ -36,7 +36,7 @@ pub record IsSameSearch {A V : Type 0} (old new : SearchState A V) : Type 0 wher
   pub settled : new.settled ≡ old.settled
 
 -- the marks after v, with x and h hops, was extended along each arc that leaves it
-abbrev pub Relaxes : {V : Type 0} → Algebra V → Roads → ℕ → V → ℕ → List (Option (Mark V)) → List (Option (Mark V)) → Type 0
+abbrev pub Relaxes : {V : Type 0} → Algebra V → GraphData → ℕ → V → ℕ → List (Option (Mark V)) → List (Option (Mark V)) → Type 0
 Relaxes A g v x h marks marks' = (numbers : List ℕ) × ListsArcsFrom g v numbers × (marks' ≡ relaxed_marks A g v x h marks numbers)
 
 -- the open vertex of the best key is settled, and what its arcs improve joins the queue

@@ -24,7 +24,7 @@ pub(crate) struct Open<A: PathAlgebra> {
     pub(crate) place: u32,
 }
 
-/// One number for hops and place: the lesser, the fewer hops, and where these tie the lesser place.
+/// One number for hops and place: it is less for fewer hops and, if these tie, for a lesser place.
 fn rank(hops: u32, place: u32) -> u64
     ensures { result ≡ hops * 4294967296 + place }
 {
@@ -45,7 +45,7 @@ impl<A: PathAlgebra> Ord for Open<A> {
         let (j, k) = (rank(self.hops, self.place), rank(other.hops, other.place));
         let (above, below) = (A::no_worse(a, b), A::no_worse(b, a));
         let ties = above & below;
-        // Chosen without a jump: which value is better cannot be foreseen.
+        // Without a branch: no predictor can foresee which value is better.
         let is_less = if ties { j > k } else { !above };
         let is_greater = if ties { j < k } else { !below };
         if is_less {
@@ -102,7 +102,7 @@ impl<A: PathAlgebra> Model for Queue<A> {
 }
 
 impl<A: PathAlgebra> Queue<A> {
-    /// A queue of nothing.
+    /// An empty queue.
     pub(crate) fn new(alloc: Global) -> Self
         ensures { result ≡ [] }
     {

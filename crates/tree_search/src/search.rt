@@ -1,7 +1,7 @@
 //! A search from a list of sources: vertices are settled by value and then by hops, each once.
 
 ghost use Rattle.std.specs.Prelude.{◌≡◌, ℕ, ◌+◌, ◌≤◌, All, length, replicate, false, OnOk, IfOk};
-ghost use Rattle.road_graph.specs.Roads.{HasVertex};
+ghost use Rattle.road_graph.specs.GraphData.{HasVertex};
 ghost use Rattle.tree_search.specs.Marks.{hops_in, marked, marked_if, parents_in, unsettled, values_in};
 ghost use Rattle.route_tree.specs.Tree.{IsLinked};
 ghost use Rattle.tree_search.specs.Opening.{AreOpening};
@@ -48,7 +48,8 @@ impl<'g, A: PathAlgebra> Search<'g, A> {
         requires { All (HasVertex graph.now) sources.now }
         ensures algebra { IfOk result (λ s. s.algebra ≡ algebra) }
         ensures graph { IfOk result (λ s. s.roads ≡ graph.now) }
-        ensures opening { IfOk result (λ s. AreOpening (A.meaning algebra).origin graph.now.vertices sources.now s.marks) }
+        ensures opening { IfOk result (λ s. AreOpening (A.meaning algebra).origin graph.now.vertices
+            sources.now s.marks) }
         ensures settled { IfOk result (λ s. s.settled ≡ replicate graph.now.vertices false) }
     {
         let n = graph.vertices() as usize;
@@ -68,12 +69,13 @@ impl<'g, A: PathAlgebra> Search<'g, A> {
         Ok(search)
     }
 
-    /// Gives a vertex this value, hops and parent, where they are better than its mark, and puts it into the queue where its key is.
+    /// Gives a vertex this value, hops and parent if they are better than its mark, and puts it into the queue if its key is better.
     fn offer(&mut self, v: Vertex, value: A::Value, hops: u32, parent: u32) -> Result<(), Memory>
         requires vertex { HasVertex self.old.roads v }
         requires hops { hops + unsettled self.old.settled ≤ self.old.roads.vertices }
         requires parent { parent ≤ self.old.roads.vertices }
-        ensures marks { OnOk result (self.new.marks ≡ marked A.order self.old.marks v (record { value = value; hops = hops; parent = parent })) }
+        ensures marks { OnOk result (self.new.marks ≡ marked A.order self.old.marks v
+            (record { value = value; hops = hops; parent = parent })) }
         ensures same { OnOk result (IsSameSearch self.old self.new) }
         ensures few { OnOk result (self.new.waiting ≤ self.old.waiting + 1) }
     {
@@ -103,7 +105,8 @@ impl<'g, A: PathAlgebra> Search<'g, A> {
         requires vertex { HasVertex self.old.roads v }
         requires hops { hops + unsettled self.old.settled ≤ self.old.roads.vertices }
         requires parent { parent ≤ self.old.roads.vertices }
-        ensures marks { OnOk result (self.new.marks ≡ marked_if A.order self.old.marks v extended hops parent) }
+        ensures marks { OnOk result (self.new.marks ≡ marked_if A.order self.old.marks v extended
+            hops parent) }
         ensures same { OnOk result (IsSameSearch self.old self.new) }
         ensures few { OnOk result (self.new.waiting ≤ self.old.waiting + 1) }
     {
@@ -113,18 +116,19 @@ impl<'g, A: PathAlgebra> Search<'g, A> {
         }
     }
 
-    /// Extends x along each arc that leaves v, and offers what comes of it, with one hop more and v for its parent, to the arc's head.
+    /// Extends x along each arc that leaves v, and offers the result, with one hop more and v as its parent, to the arc's head.
     fn relax(&mut self, v: Vertex, x: A::Value, hops: u32) -> Result<(), Memory>
         requires vertex { HasVertex self.old.roads v }
         requires hops { hops + 1 + unsettled self.old.settled ≤ self.old.roads.vertices }
-        ensures relaxes { OnOk result (Relaxes (A.meaning self.old.algebra) self.old.roads v x hops self.old.marks self.new.marks) }
+        ensures relaxes { OnOk result (Relaxes (A.meaning self.old.algebra) self.old.roads v x hops
+            self.old.marks self.new.marks) }
         ensures same { OnOk result (IsSameSearch self.old self.new) }
         ensures few { OnOk result (self.new.waiting ≤ self.old.waiting + length self.old.roads.arcs) }
     {
         let algebra = self.algebra;
         let graph = self.graph;
         laws_hold(algebra);
-        let _roads_hold = graph.vertices();
+        graph.holds();
         let next = hops + 1;
         for road in graph.roads_from(v) {
             self.offer_if(road.head, algebra.extend(x, road.weight), next, v.0)?;
@@ -132,9 +136,10 @@ impl<'g, A: PathAlgebra> Search<'g, A> {
         Ok(())
     }
 
-    /// Settles the vertex of the first entry, or passes over the entry if its vertex is settled already. False where the queue is empty.
+    /// Settles the vertex of the first entry, or drops the entry if its vertex is settled already. False if the queue is empty.
     pub(crate) fn settle_next(&mut self) -> Result<bool, Memory>
-        ensures { IfOk result (λ more. Proceeds A.order (A.meaning self.old.algebra) more self.old self.new) }
+        ensures { IfOk result (λ more. Proceeds A.order (A.meaning self.old.algebra) more self.old
+            self.new) }
     {
         let Some(top) = self.queue.pop() else {
             return Ok(false);
@@ -151,7 +156,11 @@ impl<'g, A: PathAlgebra> Search<'g, A> {
     pub(crate) fn into_labels_and_tree(self) -> (Labels<A::Value>, Tree)
         requires { IsLinked (record { hops = hops_in self.marks; parents = parents_in self.marks }) }
         ensures labels { result.0 ≡ values_in self.entry.marks }
-        ensures tree { result.1 ≡ record { hops = hops_in self.entry.marks; parents = parents_in self.entry.marks } }
+        ensures tree { result.1 ≡ record {
+          hops = hops_in self.entry.marks;
+          parents = parents_in
+              self.entry.marks;
+        } }
     {
         self.marks.into_labels_and_tree()
     }

@@ -1,7 +1,7 @@
 //! Best values from a list of sources, with their hops and parents.
 
 ghost use Rattle.std.specs.Prelude.{All, IfOk};
-ghost use Rattle.road_graph.specs.Roads.{HasVertex};
+ghost use Rattle.road_graph.specs.GraphData.{HasVertex};
 ghost use Rattle.path_algebra.specs.Walks.{AreBest};
 ghost use Rattle.route_tree.specs.Tree.{IsTree};
 
@@ -24,7 +24,7 @@ fn solve_in_one_search<A: PathAlgebra>(
     ensures tree { IfOk result (λ s. IsTree (A.meaning algebra) graph.now sources.now s.1) }
 {
     laws_hold(algebra);
-    let _roads_hold = graph.vertices();
+    graph.holds();
     let mut search = Search::open(alloc, algebra, graph, sources)?;
     while search.settle_next()? {}
     Ok(search.into_labels_and_tree())
@@ -46,10 +46,10 @@ fn solve_in_two_passes<A: PathAlgebra>(
     Ok((labels, tree))
 }
 
-/// The best value of each vertex over all walks from some source of the list, and none where no walk has a value; with the tree of these values. Sources may repeat. The only error is want of memory.
+/// The best value of each vertex over all walks from some source of the list, and none if no walk has a value; with the tree of these values. Sources may repeat. The only error is `Memory`.
 ///
-/// One search finds both, except for `Reach` and `Widest`: if most values tie, a heap by hops too costs more than a pass over the arcs.
-/// Beside the labels and the tree it takes a byte a vertex, and the queue.
+/// One search finds both, except for `Reach` and `Widest`: if most values tie, a heap that orders by hops too costs more than a pass over the arcs.
+/// Besides the labels and the tree it takes a byte a vertex, and the queue.
 pub fn solve_with_tree<A: PathAlgebra>(
     alloc: Global,
     algebra: A,

@@ -2,7 +2,7 @@
 
 ghost use Rattle.std.specs.Prelude.{◌≡◌, ◌<◌, cond, eqb, length, replicate, IfOk, None, Some, slice_index_or, slice_set};
 ghost use Rattle.route_tree.specs.Tree.{IsLinked};
-ghost use Rattle.tree_search.specs.Marks.{is_better, is_lesser, values_in, hops_in, parents_in, parent_number};
+ghost use Rattle.tree_search.specs.Marks.{is_better, is_lesser, values_in, hops_in, parents_in, parent_or_none};
 ghost use Rattle.tree_search.specs.Rows.{number_of};
 
 use crate::mark::Mark;
@@ -22,17 +22,17 @@ pub(crate) struct MarkTable<A: PathAlgebra> {
 
 impl<A: PathAlgebra> Model for MarkTable<A> {
     ghost use Rattle.std.specs.Prelude.{List, Option};
-    ghost use Rattle.tree_search.specs.Rows.{AreRows, marks_of};
+    ghost use Rattle.tree_search.specs.Rows.{AreMarkRows, marks_of};
     ghost use Rattle.tree_search.specs.declared.mark.Mark.{Mark};
 
     ghost Value = { List (Option (Mark A.Value)) };
 
     ghost view = { λ t. marks_of t.values.items t.hops.items t.parents.items };
 
-    ghost invariant = { λ t. AreRows t.values.items t.hops.items t.parents.items };
+    ghost invariant = { λ t. AreMarkRows t.values.items t.hops.items t.parents.items };
 }
 
-/// The number that is there, or 0.
+/// The number in a slot, or 0.
 fn number(slot: NumberSlot) -> u32
     ensures { result ≡ number_of slot }
 {
@@ -42,7 +42,7 @@ fn number(slot: NumberSlot) -> u32
 /// A vertex, or none for 0.
 fn parent_slot(parent: u32) -> NumberSlot
     requires { parent < 4294967295 }
-    ensures { result ≡ parent_number parent }
+    ensures { result ≡ parent_or_none parent }
 {
     if parent == 0 {
         NumberSlot::none()

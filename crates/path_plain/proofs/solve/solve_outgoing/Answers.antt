@@ -9,7 +9,7 @@ loop-search-init g c = record {
   algebra = c.in_ok-search.ensures.algebra;
   graph = c.in_ok-search.ensures.graph;
   between = rw c.in_ok-search.ensures.settled
-      (starting (g.A.PathAlgebra.meaning c.args.algebra) c.laws_hold.ensures.lawful c.args.graph.now c.vertices-roads_hold.ensures.roads c.args.sources.now _ c.in_ok-search.ensures.opening);
+      (starting (g.A.PathAlgebra.meaning c.args.algebra) c.laws_hold.ensures.lawful c.args.graph.now c.holds.ensures c.args.sources.now _ c.in_ok-search.ensures.opening);
 }
 
 pub loop-search-preserved : goal.loop-search-preserved
@@ -19,7 +19,7 @@ loop-search-preserved g c =
     record {
       algebra = step.algebra ∙ c.loop-search.invariant.algebra;
       graph = step.roads ∙ c.loop-search.invariant.graph;
-      between = next_round A c.laws_hold.ensures.lawful g.A.PathAlgebra.order c.laws_hold.ensures.order c.args.graph.now c.vertices-roads_hold.ensures.roads c.args.sources.now c.requires
+      between = next_round A c.laws_hold.ensures.lawful g.A.PathAlgebra.order c.laws_hold.ensures.order c.args.graph.now c.holds.ensures c.args.sources.now c.requires
           c.loop-search.search c.settle_next.new.self c.loop-search.invariant.graph c.loop-search.invariant.between step;
     }
 
@@ -27,12 +27,12 @@ pub loop-search-smaller : goal.loop-search-smaller
 loop-search-smaller g c =
     let A = g.A.PathAlgebra.meaning c.args.algebra in
     let step : Proceeds g.A.PathAlgebra.order A true c.loop-search.search c.settle_next.new.self = subst (λ a. Proceeds g.A.PathAlgebra.order (g.A.PathAlgebra.meaning a) true c.loop-search.search c.settle_next.new.self) c.loop-search.invariant.algebra (rw c.if-branch.true at c.in_ok-settle_next.ensures) in
-    comes_nearer A c.laws_hold.ensures.lawful g.A.PathAlgebra.order c.laws_hold.ensures.order c.args.graph.now c.vertices-roads_hold.ensures.roads c.args.sources.now c.requires
+    comes_nearer A c.laws_hold.ensures.lawful g.A.PathAlgebra.order c.laws_hold.ensures.order c.args.graph.now c.holds.ensures c.args.sources.now c.requires
     c.loop-search.search c.settle_next.new.self c.loop-search.invariant.graph c.loop-search.invariant.between step
 
 pub returns : goal.returns
 returns g c =
     let A = g.A.PathAlgebra.meaning c.args.algebra in
     let step : Proceeds g.A.PathAlgebra.order A false c.loop-search.search c.settle_next.new.self = subst (λ a. Proceeds g.A.PathAlgebra.order (g.A.PathAlgebra.meaning a) false c.loop-search.search c.settle_next.new.self) c.loop-search.invariant.algebra (rw c.if-branch.false at c.in_ok-settle_next.ensures) in
-    rw c.into_labels.ensures (last_round A c.laws_hold.ensures.lawful g.A.PathAlgebra.order c.laws_hold.ensures.order c.args.graph.now c.vertices-roads_hold.ensures.roads c.args.sources.now c.requires
+    rw c.into_labels.ensures (last_round A c.laws_hold.ensures.lawful g.A.PathAlgebra.order c.laws_hold.ensures.order c.args.graph.now c.holds.ensures c.args.sources.now c.requires
     c.loop-search.search c.settle_next.new.self c.loop-search.invariant.graph c.loop-search.invariant.between step)

@@ -1,5 +1,5 @@
 use Rattle.std.proofs.Common.{ℕ, ◌≤◌, ◌<◌, ◌^◌}
-use Rattle.road_graph.specs.Roads.{JoinsVertices, arc_of}
+use Rattle.road_graph.specs.GraphData.{JoinsVertices, arc_of}
 use Rattle.road_graph.proofs.bad_ends.first_bad.Given as goal
 
 abbrev pub invariant-loop-i : goal.invariant-loop-i

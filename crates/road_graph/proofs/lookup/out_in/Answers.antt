@@ -1,5 +1,5 @@
 use Rattle.std.proofs.Common.{◌-◌, List, ℕ, refl, subst, sym, get_or}
-use Rattle.road_graph.specs.Roads.{ListsArcsFrom}
+use Rattle.road_graph.specs.GraphData.{ListsArcsFrom}
 use Rattle.road_graph.specs.declared.Side.TheVariants.{Tail}
 use Rattle.road_graph.proofs.Places.{has_row}
 use Rattle.road_graph.proofs.Reading.{row_lists_from}

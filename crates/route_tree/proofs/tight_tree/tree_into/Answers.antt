@@ -11,7 +11,7 @@ loop-alloc-init g c =
     let roads = c.args.graph.now in
     let test = is_tight_into (g.A.PathAlgebra.meaning c.args.algebra) roads c.args.labels.now c.args.region.now in
     let search = c.in_ok-search.search in
-    let start = marked_visits roads c.vertices-n.ensures.roads test c.args.sources.now search.hops search.next c.requires.sources c.in_ok-search.ensures.marked in
+    let start = marked_visits roads c.holds.ensures test c.args.sources.now search.hops search.next c.requires.sources c.in_ok-search.ensures.marked in
     record {
       over = c.in_ok-search.ensures.over;
       region = c.in_ok-search.ensures.region;
@@ -53,4 +53,4 @@ invariant_of-result g c =
     let search = c.loop-alloc.search in
     let test = is_tight_into (g.A.PathAlgebra.meaning c.args.algebra) roads c.args.labels.now c.args.region.now in
     let least = search_ends roads test c.args.sources.now search.level search.hops search.parents search.next (sym c.is_done.ensures ∙ c.loop-alloc-test.false) c.loop-alloc.invariant.visiting in
-    rw (c.into_parts-hops.ensures.hops, c.into_parts-hops.ensures.parents) (linked roads c.vertices-n.ensures.roads test c.args.sources.now search.hops least.0 search.parents least.1)
+    rw (c.into_parts-hops.ensures.hops, c.into_parts-hops.ensures.parents) (linked roads c.holds.ensures test c.args.sources.now search.hops least.0 search.parents least.1)

@@ -1,15 +1,15 @@
 use Rattle.std.proofs.Common.{◌≡◌, ℕ, List, subst, sym}
 use Rattle.road_graph.specs.declared.Side.TheVariants.{Tail}
 use Rattle.road_graph.specs.declared.OutRoad.{OutRoad}
-use Rattle.road_graph.specs.Roads.{Roads, roads_of}
+use Rattle.road_graph.specs.GraphData.{GraphData, roads_of}
 use Rattle.road_graph.specs.Making.{AreNumbers}
 use Rattle.road_graph.proofs.OneRows.{with_roads}
 use Rattle.road_graph.proofs.out_graph.OutGraph.roads.Goals as goal
 
 pub returns : goal.returns
 returns c = λ (numbers : List ℕ) are.
-    let G : Roads = record { vertices = c.self.inside.vertices; arcs = c.self.inside.arcs.value.items } in
+    let G : GraphData = record { vertices = c.self.inside.vertices; arcs = c.self.inside.arcs.value.items } in
     let is : G ≡ c.args.self.now = c.self.view_is in
-    let here : AreNumbers Tail G numbers = subst (λ (h : Roads). AreNumbers Tail h numbers) (sym is) are in
+    let here : AreNumbers Tail G numbers = subst (λ (h : GraphData). AreNumbers Tail h numbers) (sym is) are in
     subst (λ (xs : List OutRoad). xs ≡ roads_of c.args.self.now numbers) (sym c.as_slice.ensures.value)
-    (subst (λ (h : Roads). c.self.inside.roads.items ≡ roads_of h numbers) is (with_roads G c.self.inside.starts.items c.self.inside.roads.items c.self.invariant.1 numbers here))
+    (subst (λ (h : GraphData). c.self.inside.roads.items ≡ roads_of h numbers) is (with_roads G c.self.inside.starts.items c.self.inside.roads.items c.self.invariant.1 numbers here))

@@ -1,6 +1,6 @@
 use Rattle.std.proofs.Common.{◌≡◌, ◌<◌, length, refl, ap, sym, ◌∙◌, arith, subst, get_or}
 use Rattle.std.proofs.lemmas.List.{get_or_default}
-use Rattle.road_graph.specs.Roads.{Roads, IsRoads, HasVertex, ListsRoadsInto, arc_of}
+use Rattle.road_graph.specs.GraphData.{GraphData, IsGraph, HasVertex, ListsRoadsInto, arc_of}
 use Rattle.road_graph.specs.declared.OutRoad.{OutRoad}
 use Rattle.path_algebra.specs.Walks.{label_of}
 use Rattle.route_tree.specs.Backward.{passes_back}
@@ -10,7 +10,7 @@ use Rattle.route_tree.proofs.backward.Backward.visit.Goals as goal
 pub loop-road-init : goal.loop-road-init
 loop-road-init g c =
     let s = c.args.self.now in
-    let roads = subst (λ (g : Roads). IsRoads g) (λ i. (c.self.view_is i).over.roads) c.self.invariant.roads in
+    let roads = subst (λ (g : GraphData). IsGraph g) (λ i. (c.self.view_is i).over.roads) c.self.invariant.roads in
     record {
       goes = λ target k pending numbers lists are known. back_open s.over.roads roads (passes_back (g.A.PathAlgebra.meaning s.over.algebra) s) target k _ c.args.v pending _ _ lists known;
       over = refl;
@@ -25,14 +25,14 @@ try_road-requires-after_bounds g c κs within =
     let in_graph = subst (λ (r : OutRoad). HasVertex roads r.head) (sym at.2) ((c.self.invariant.roads.ends (get_or lists.0 c.loop-road.road-index 0) at.0).0) in
     let here : roads ≡ c.args.self.now.over.roads = λ i. (c.self.view_is i).over.roads in
     let there : c.loop-road.self.over.roads ≡ c.args.self.now.over.roads = λ i. (c.loop-road.invariant.over i).roads in
-    subst (λ (g : Roads). HasVertex g c.road-item.result.head) (here ∙ sym there) in_graph
+    subst (λ (g : GraphData). HasVertex g c.road-item.result.head) (here ∙ sym there) in_graph
 
 pub loop-road-preserved : goal.loop-road-preserved
 loop-road-preserved g c =
     let s = c.args.self.now in
     let over = c.loop-road.invariant.over in
     let meaning = g.A.PathAlgebra.meaning s.over.algebra in
-    let roads = subst (λ (g : Roads). IsRoads g) (λ i. (c.self.view_is i).over.roads) c.self.invariant.roads in
+    let roads = subst (λ (g : GraphData). IsGraph g) (λ i. (c.self.view_is i).over.roads) c.self.invariant.roads in
     let r = c.road-item.result in
     let here : c.of-far.result ≡ label_of s.over.labels c.args.v = c.of-far.ensures ∙ (λ i. label_of (c.self.view_is i).over.labels c.args.v) in
     record {
@@ -54,9 +54,9 @@ loop-road-preserved g c =
 pub returns-clause-visits : goal.returns-clause-visits
 returns-clause-visits g c =
     let s = c.args.self.now in
-    let roads = subst (λ (g : Roads). IsRoads g) (λ i. (c.self.view_is i).over.roads) c.self.invariant.roads in
+    let roads = subst (λ (g : GraphData). IsGraph g) (λ i. (c.self.view_is i).over.roads) c.self.invariant.roads in
     let row = c.as_slice-road-items.result.now in
-    let lists = subst (λ (g : Roads). ListsRoadsInto g c.args.v row) (λ i. (c.self.view_is i).over.roads)
+    let lists = subst (λ (g : GraphData). ListsRoadsInto g c.args.v row) (λ i. (c.self.view_is i).over.roads)
     (subst (λ xs. ListsRoadsInto (g.G.Entering.roads c.self.inside.graph.now) c.args.v xs) (sym c.as_slice-road-items.ensures.value) c.in_ok-list_into.ensures) in
     let n = as_long s.over.roads lists.0 row c.args.v lists.1 lists.2 in
     λ target k pending known. row_done s.over.roads roads (passes_back (g.A.PathAlgebra.meaning s.over.algebra) s) target k c.loop-road.self.marks pending c.loop-road.self.next

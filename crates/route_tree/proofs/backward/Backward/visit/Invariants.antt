@@ -1,6 +1,6 @@
 use Rattle.std.proofs.Common.{◌≡◌, ℕ, ◌+◌, List, [], ◌∷◌, length, drop, map}
 use Rattle.std.specs.Prelude.{Contains, ◌↔◌}
-use Rattle.road_graph.specs.Roads.{HasArc, arc_of, road_of, turned}
+use Rattle.road_graph.specs.GraphData.{HasArc, arc_of, road_of, reversed_arc}
 use Rattle.route_tree.specs.Regions.{VisitingBack, unmarked}
 use Rattle.route_tree.specs.Backward.{passes_back}
 use Rattle.route_tree.proofs.backward.Backward.visit.Given as goal
@@ -8,7 +8,7 @@ use Rattle.route_tree.proofs.backward.Backward.visit.Given as goal
 abbrev pub invariant-loop-road : goal.invariant-loop-road
 invariant-loop-road g l = record {
   goes : (target k : ℕ) (pending numbers : List ℕ) → ((a : ℕ) → Contains numbers a ↔ (HasArc l.fn.self.over.roads a × ((arc_of l.fn.self.over.roads a).head ≡ l.fn.v))) →
-      l.road-items ≡ map (λ a. road_of (turned (arc_of l.fn.self.over.roads a))) numbers →
+      l.road-items ≡ map (λ a. road_of (reversed_arc (arc_of l.fn.self.over.roads a))) numbers →
       VisitingBack l.fn.self.over.roads (passes_back (g.A.PathAlgebra.meaning l.fn.self.over.algebra) l.fn.self) target k l.fn.self.marks (l.fn.v ∷ pending) [] l.fn.self.next →
       VisitingBack l.fn.self.over.roads (passes_back (g.A.PathAlgebra.meaning l.fn.self.over.algebra) l.fn.self) target k l.self.marks pending (drop l.road-index numbers) l.self.next;
   over : l.self.over ≡ l.fn.self.over;

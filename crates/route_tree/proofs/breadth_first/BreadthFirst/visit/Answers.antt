@@ -1,5 +1,5 @@
 use Rattle.std.proofs.Common.{◌≡◌, get_or, arith, sym, ◌∙◌, subst, refl}
-use Rattle.road_graph.specs.Roads.{Roads, IsRoads, HasVertex, ListsRoadsFrom}
+use Rattle.road_graph.specs.GraphData.{GraphData, IsGraph, HasVertex, ListsRoadsFrom}
 use Rattle.road_graph.specs.declared.OutRoad.{OutRoad}
 use Rattle.path_algebra.specs.Walks.{label_of}
 use Rattle.route_tree.specs.BreadthFirst.{passes, passes_road}
@@ -23,7 +23,7 @@ try_road-requires-clause-head g c κs within =
     let in_graph = subst (λ (r : OutRoad). HasVertex roads r.head) (sym at.2) ((c.self.invariant.roads.ends (get_or lists.0 c.loop-road.road-index 0) at.0).1) in
     let here : roads ≡ c.args.self.now.over.roads = λ i. (c.self.view_is i).over.roads in
     let there : c.loop-road.self.over.roads ≡ c.args.self.now.over.roads = λ i. (c.loop-road.invariant.same.over i).roads in
-    subst (λ (g : Roads). HasVertex g c.road-item.result.head) (here ∙ sym there) in_graph
+    subst (λ (g : GraphData). HasVertex g c.road-item.result.head) (here ∙ sym there) in_graph
 
 pub loop-road-preserved : goal.loop-road-preserved
 loop-road-preserved g c =
@@ -31,7 +31,7 @@ loop-road-preserved g c =
     let now = c.loop-road.self in
     let same = c.loop-road.invariant.same in
     let meaning = g.A.PathAlgebra.meaning s.over.algebra in
-    let roads = subst (λ (g : Roads). IsRoads g) (λ i. (c.self.view_is i).over.roads) c.self.invariant.roads in
+    let roads = subst (λ (g : GraphData). IsGraph g) (λ i. (c.self.view_is i).over.roads) c.self.invariant.roads in
     let near : c.of-near.result ≡ label_of s.over.labels c.args.v = c.of-near.ensures ∙ (λ i. label_of (c.self.view_is i).over.labels c.args.v) in
     let r = c.road-item.result in
     record {
@@ -57,7 +57,7 @@ pub returns-clause-visits : goal.returns-clause-visits
 returns-clause-visits g c =
     let s = c.args.self.now in
     let out = c.roads_from-road-items.result.now in
-    let lists = subst (λ (g : Roads). ListsRoadsFrom g c.args.v out) (λ i. (c.self.view_is i).over.roads) c.roads_from-road-items.ensures in
+    let lists = subst (λ (g : GraphData). ListsRoadsFrom g c.args.v out) (λ i. (c.self.view_is i).over.roads) c.roads_from-road-items.ensures in
     let n = same_length s.over.roads c.args.v lists.0 lists.1 out lists.2 in
     λ sources pending known. arcs_done s.over.roads (passes (g.A.PathAlgebra.meaning s.over.algebra) s) sources s.level c.loop-road.self.hops c.loop-road.self.parents pending c.loop-road.self.next
     lists.0 c.loop-road.road-index (omega (arith, n)) (c.loop-road.invariant.goes sources pending lists.0 lists.1 lists.2 known)

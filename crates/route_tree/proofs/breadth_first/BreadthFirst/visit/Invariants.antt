@@ -1,5 +1,5 @@
 use Rattle.std.proofs.Common.{◌≡◌, ℕ, ◌+◌, List, [], ◌∷◌, length, drop}
-use Rattle.road_graph.specs.Roads.{ListsArcsFrom, roads_of}
+use Rattle.road_graph.specs.GraphData.{ListsArcsFrom, roads_of}
 use Rattle.route_tree.specs.Levels.{Visiting, unreached}
 use Rattle.route_tree.specs.BreadthFirst.{IsSameSearch, passes}
 use Rattle.route_tree.proofs.breadth_first.BreadthFirst.visit.Given as goal

@@ -1,6 +1,6 @@
 use Rattle.std.proofs.Common.{◌≡◌, List, ℕ, map, take, sym, ap, ◌∙◌, arith}
 use Rattle.std.proofs.lemmas.List.{take_all}
-use Rattle.road_graph.specs.Roads.{arc_of, road_of, turned}
+use Rattle.road_graph.specs.GraphData.{arc_of, road_of, reversed_arc}
 use Rattle.route_tree.proofs.entering.GraphEntering.list_into.Goals as goal
 
 pub tail-requires : goal.tail-requires
@@ -13,4 +13,4 @@ pub returns : goal.returns
 returns c =
     let row = c.into-a-items.result.now in
     let whole : take c.loop-a.a-index row ≡ row = take_all c.loop-a.a-index row (omega arith) in
-    (row, c.into-a-items.ensures.complete, c.loop-a.invariant ∙ ap (λ (xs : List ℕ). map (λ a. road_of (turned (arc_of c.args.self.now a))) xs) whole)
+    (row, c.into-a-items.ensures.complete, c.loop-a.invariant ∙ ap (λ (xs : List ℕ). map (λ a. road_of (reversed_arc (arc_of c.args.self.now a))) xs) whole)

@@ -1,2 +1,2 @@
-pub mod Places
-pub mod Passing
+mod Places
+mod Passing

@@ -16,7 +16,7 @@ pub const FIVE: [(u32, u32, u32); 7] = [
     (5, 1, 3),
 ];
 
-/// What the least sums from vertex 1 of the five are.
+/// The least sums from vertex 1 of the five.
 pub const SHORTEST: [Option<u64>; 5] = [Some(0), Some(3), Some(1), Some(8), None];
 
 /// A graph, and a plan of it.
@@ -26,7 +26,7 @@ pub struct Ground {
     pub plan: Plan,
 }
 
-/// The graph of these tails, heads and weights, or none where memory was refused.
+/// The graph of these tails, heads and weights, or none if memory was refused.
 fn asked(alloc: Global, n: u32, arcs: &[(u32, u32, u32)]) -> Option<Graph> {
     let mut list = Vec::with_capacity(alloc, arcs.len()).ok()?;
     for (tail, head, weight) in arcs {
@@ -43,7 +43,7 @@ fn asked(alloc: Global, n: u32, arcs: &[(u32, u32, u32)]) -> Option<Graph> {
     Graph::new(alloc, n, list).ok()
 }
 
-/// The graph of these tails, heads and weights. What is refused memory is asked for once more.
+/// The graph of these tails, heads and weights. If memory is refused, it is made once more.
 fn graph_of(rt: &(impl Abort + AllocGlobal), n: u32, arcs: &[(u32, u32, u32)]) -> Graph {
     match asked(rt.alloc(), n, arcs) {
         Some(graph) => graph,
@@ -65,7 +65,7 @@ pub fn chain_of(rt: &(impl Abort + AllocGlobal), n: u32, weight: u32) -> Graph {
     graph_of(rt, n, &arcs)
 }
 
-/// Vertices 1 to n in blocks. What is refused memory is asked for once more.
+/// Vertices 1 to n in blocks. If memory is refused, the plan is made once more.
 pub fn blocks_of(rt: &(impl Abort + AllocGlobal), n: u32, shards: u8) -> Plan {
     assert!(rt; n <= 1_000_000);
     assert!(rt; 1 <= shards);

@@ -27,8 +27,10 @@ fn paired<'g, A: PathAlgebra>(
     mut seats: Vec<Seat<A>>,
     mut parts: Vec<Part<'g, A>>,
 ) -> VecDeque<Place<'g, A>>
-    requires seats { seats.items ≡ map (seat_of floor.now.id floor.now.setup.plan.shards) parts.items }
-    requires at { All (λ p. IsAt A.meaning floor.now (seat_of floor.now.id floor.now.setup.plan.shards p) p) parts.items }
+    requires seats { seats.items ≡ map (seat_of floor.now.id floor.now.setup.plan.shards)
+        parts.items }
+    requires at { All (λ p. IsAt A.meaning floor.now
+        (seat_of floor.now.id floor.now.setup.plan.shards p) p) parts.items }
     ensures { All (λ x. IsAt A.meaning floor.now x.0 x.1) result.items }
 {
     let mut places = VecDeque::new(rt.alloc());
@@ -61,7 +63,8 @@ fn both_of<'g, A: PathAlgebra>(
     mut places: VecDeque<Place<'g, A>>,
 ) -> (Place<'g, A>, Place<'g, A>)
     requires { All (λ x. IsAt A.meaning floor.now x.0 x.1) places.items }
-    ensures { IsAt A.meaning floor.now result.0.0 result.0.1 × IsAt A.meaning floor.now result.1.0 result.1.1 }
+    ensures { IsAt A.meaning floor.now result.0.0 result.0.1 × IsAt A.meaning floor.now result.1.0
+        result.1.1 }
 {
     assert!(rt; places.len() == 2);
     let first = places.pop_front().expect(rt, "a place");
@@ -79,7 +82,8 @@ fn work<A: PathAlgebra>(floor: &Floor<A>, seat: &Seat<A>, part: &mut Part<'_, A>
 
 /// Whether a shard is another one than a place's own.
 fn is_other<A: PathAlgebra>(seat: &Seat<A>, part: &Part<'_, A>, shard: Shard) -> bool
-    ensures { IsTrue result → (shard ≢ seat.now.shard) × (shard ≢ part.now.shard) × (shard < part.now.setup.plan.shards) }
+    ensures { IsTrue result → (shard ≢ seat.now.shard) × (shard ≢ part.now.shard) ×
+        (shard < part.now.setup.plan.shards) }
 {
     shard != seat.shard() && part.is_other(shard)
 }
@@ -124,7 +128,7 @@ fn fetch<A: PathAlgebra>(
     true
 }
 
-/// Tells the others that the question has ended, if the part knows it.
+/// Announces to the others that the question has ended, if the part knows it.
 fn announce<A: PathAlgebra>(floor: &Floor<A>, seat: &mut Seat<A>, part: &Part<'_, A>) -> bool
     requires { IsAt A.meaning floor.now seat.old part.now }
     ensures { IsAt A.meaning floor.now seat.new part.now }
@@ -136,10 +140,10 @@ fn announce<A: PathAlgebra>(floor: &Floor<A>, seat: &mut Seat<A>, part: &Part<'_
     true
 }
 
-/// What a place does at a floor of two shards, with what is to come of it.
+/// What a place does at a floor of two shards, with the result that is wanted.
 #[derive(Clone, Copy)]
 enum Step {
-    /// It handles what waits, so many items.
+    /// It handles what waits, this many items.
     Work(u32),
     /// It sends a batch, if a mailbox is free.
     Send(bool),
@@ -149,9 +153,9 @@ enum Step {
     Swap(bool),
     /// It claims a mailbox to fill, if one is free, and leaves it open.
     Claim(bool),
-    /// It tells the other of the end, which its part knows.
+    /// It announces the end, which its part knows.
     Announce,
-    /// It looks whether the other told of the end.
+    /// It looks whether the other announced the end.
     Look(bool),
     /// It shows the label of a vertex.
     Show(u32, Option<u64>),
@@ -162,7 +166,7 @@ fn shows<A: PathAlgebra<Value = u64>>(part: &Part<'_, A>, v: Vertex, label: Opti
     part.holds(v) && part.label(v) == label
 }
 
-/// Takes a step, and tells whether what is wanted came of it.
+/// Takes a step, and says whether its result is the wanted one.
 fn comes_of<A: PathAlgebra<Value = u64>>(
     floor: &Floor<A>,
     seat: &mut Seat<A>,
@@ -189,7 +193,7 @@ fn comes_of<A: PathAlgebra<Value = u64>>(
     }
 }
 
-/// Takes steps, and asserts that what is wanted comes of each.
+/// Takes steps, and asserts that the result of each is the wanted one.
 fn assert_steps<A: PathAlgebra<Value = u64>>(
     rt: &impl Abort,
     floor: &Floor<A>,
@@ -205,7 +209,7 @@ fn assert_steps<A: PathAlgebra<Value = u64>>(
     }
 }
 
-/// The first place of a list takes steps, and goes to the end.
+/// The first place of a list takes steps, and moves to the end.
 fn assert_turn<A: PathAlgebra<Value = u64>>(
     rt: &impl Abort,
     floor: &Floor<A>,
@@ -243,7 +247,7 @@ fn assert_closes<A: PathAlgebra>(
     assert!(rt; floor.close(seats).is_ok());
 }
 
-/// Lets two places take steps in turn, and asserts what comes of each, and that both close the floor.
+/// Lets two places take steps in turn, and asserts the result of each, and that both close the floor.
 fn assert_turns<A: PathAlgebra<Value = u64>>(
     rt: &(impl Abort + AllocGlobal),
     algebra: A,

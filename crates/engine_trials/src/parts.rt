@@ -74,7 +74,7 @@ pub fn assert_counts(rt: &impl Abort, tally: Tally, wanted: [u64; 4]) {
     assert!(rt; tally == wanted);
 }
 
-/// Asserts how many items a part handles, of so many that it may.
+/// Asserts how many items a part handles within a budget.
 fn assert_handled<A: PathAlgebra>(
     rt: &impl Abort,
     part: &mut Part<'_, A>,
@@ -180,14 +180,14 @@ fn tallies_are_joined(rt: HostRuntime) {
     assert_counts(&rt, one, [5, 3, 2, 1]);
 }
 
-/// Asserts that so many items wait at a part, which has room for one more and knows of no end.
+/// Asserts that this many items wait at a part, which has room for one more and knows of no end.
 fn assert_waiting<A: PathAlgebra>(rt: &impl Abort, part: &Part<'_, A>, queued: usize) {
     assert!(rt; part.queued() == queued);
     assert!(rt; part.room() == 1);
     assert!(rt; !part.ended());
 }
 
-/// Asserts whether each of some vertices is one of a part's.
+/// Asserts whether each of some vertices is one of a part's shard.
 fn assert_holds<A: PathAlgebra>(rt: &impl Abort, part: &Part<'_, A>, wanted: &[(u32, bool)]) {
     for (v, held) in wanted {
         assert!(rt; part.holds(Vertex(*v)) == *held);
@@ -212,7 +212,7 @@ fn assert_fits<A: PathAlgebra>(
     assert!(rt; part.fits(batch) == wanted);
 }
 
-/// The source takes the environment's message, and tells vertex 2.
+/// The source takes the environment's message, and sends one to vertex 2.
 fn message_goes_over<A: PathAlgebra<Value = u64>>(
     rt: &(impl Abort + AllocGlobal),
     first: &mut Part<'_, A>,
@@ -310,7 +310,7 @@ fn limit_zero_in_parts(rt: HostRuntime) {
     assert_ends_alone(&rt, &mut parts_of(&rt, algebra, &ground));
 }
 
-/// For how many items the queue and the outboxes of a part have room.
+/// How many items the queue and the outboxes of a part have room for.
 fn rings_of<A: PathAlgebra>(part: &Part<'_, A>, shards: u8) -> usize {
     let mut sum = part.room().saturating_add(part.queued());
     for to in 0..shards {
@@ -321,7 +321,7 @@ fn rings_of<A: PathAlgebra>(part: &Part<'_, A>, shards: u8) -> usize {
     sum
 }
 
-/// For how many items the queues and the outboxes of so many parts of a chain have room.
+/// How many items the queues and the outboxes of all parts of a chain have room for.
 fn rings_of_chain<A: PathAlgebra>(
     rt: &(impl Abort + AllocGlobal),
     algebra: A,

@@ -1,4 +1,4 @@
-//! Questions that stations answer together. What a question is refused memory for is asked for once more, so it ends the same where any one growth is refused.
+//! Questions that stations answer together. A call that was refused memory is made once more, so a question ends the same if any one growth is refused.
 ghost use Rattle.std.specs.Prelude.{◌≡◌, ℕ, ◌+◌, ◌<◌, Bool, [], length};
 ghost use Rattle.std.specs.List.{All};
 ghost use Rattle.path_algebra.specs.Given.{reach};
@@ -81,7 +81,7 @@ fn turned_once<'g, A: PathAlgebra>(
     stations
 }
 
-/// So many turns, one station after the other, round and round.
+/// This many turns, each of the next station, in rotation.
 fn turned<'g, A: PathAlgebra>(
     rt: &impl Abort,
     floor: &Floor<A>,
@@ -117,7 +117,7 @@ fn last_of<'g, A: PathAlgebra>(
     }
 }
 
-/// One more of those that have ended.
+/// Adds a station to those that have ended.
 fn with_one_more<'g, A: PathAlgebra>(
     rt: &(impl Abort + AllocGlobal),
     floor: &Floor<A>,
@@ -136,7 +136,7 @@ fn with_one_more<'g, A: PathAlgebra>(
     done
 }
 
-/// An empty list with room for so many.
+/// An empty list with room for `count`.
 fn empty<'g, A: PathAlgebra>(rt: &(impl Abort + AllocGlobal), count: usize) -> Vec<Finished<'g, A>>
     ensures { result.items ≡ [] }
 {
@@ -163,7 +163,7 @@ fn finished<'g, A: PathAlgebra>(
     done
 }
 
-/// The answer from what came back where memory was refused.
+/// The answer from what came back if memory was refused.
 fn gathered_again<A: PathAlgebra>(
     rt: &(impl Abort + AllocGlobal),
     back: Ungathered<'_, A>,
@@ -198,7 +198,7 @@ fn gathered<A: PathAlgebra>(
     }
 }
 
-/// The answer of a question, after so many turns.
+/// The answer of a question, after this many turns.
 fn answered<A: PathAlgebra>(
     rt: &(impl Abort + AllocGlobal),
     algebra: A,
@@ -208,7 +208,8 @@ fn answered<A: PathAlgebra>(
     budget: u32,
     turns: usize,
 ) -> Gathered<A::Value>
-    ensures { (q : Setup A) × IsGathered A.meaning q result × (q.question.roads ≡ graph.now) × (q.question.source ≡ source) }
+    ensures { (q : Setup A) × IsGathered A.meaning q result × (q.question.roads ≡ graph.now) ×
+        (q.question.source ≡ source) }
 {
     let (floor, stations) = opened(rt, algebra, graph, plan, source);
     let stations = turned(rt, &floor, stations, budget, turns);
@@ -233,7 +234,7 @@ fn assert_labels<A: PathAlgebra>(
     }
 }
 
-/// Asserts the labels of the five vertices from vertex 1, after so many turns.
+/// Asserts the labels of the five vertices from vertex 1, after this many turns.
 fn assert_answer<A: PathAlgebra>(
     rt: &(impl Abort + AllocGlobal),
     algebra: A,
@@ -251,7 +252,7 @@ fn stations_in_turn(rt: HostRuntime) {
     assert_answer(&rt, Shortest, &blocks_of(&rt, 5, 3), 1, 200, SHORTEST);
 }
 
-/// Asserts that all stations of a question from vertex 1 have ended, after so many turns.
+/// Asserts that all stations of a question from vertex 1 have ended, after this many turns.
 fn assert_all_ended<A: PathAlgebra>(
     rt: &(impl Abort + AllocGlobal),
     algebra: A,
@@ -298,7 +299,7 @@ fn each_algebra(rt: HostRuntime) {
     assert_answer(&rt, Within { limit: 5 }, &plan, 3, 200, near);
 }
 
-/// The answer of reachability: in every schedule each counter shows one, and one more for each arc whose tail is reached.
+/// The answer of reachability: in every schedule each counter is one, and one more for each arc whose tail is reached.
 fn reached(
     rt: &(impl Abort + AllocGlobal),
     graph: &Graph,
@@ -306,14 +307,15 @@ fn reached(
     source: u32,
     budget: u32,
 ) -> Gathered<()>
-    ensures { (marked : ℕ → Bool) → AreMarksOfReached reach graph.now source marked → result.tally ≡ each_shows (1 + count_marked graph.now marked) }
+    ensures { (marked : ℕ → Bool) → AreMarksOfReached reach graph.now source marked → result.tally ≡
+        each_shows (1 + count_marked graph.now marked) }
 {
     let gathered = answered(rt, Reach, graph, plan, source, budget, 200);
     reach_counts_each_arc_once();
     gathered
 }
 
-/// Asserts which of the five vertices are reached from a vertex, and what each counter shows.
+/// Asserts which of the five vertices are reached from a vertex, and what each counter is.
 fn assert_reached(
     rt: &(impl Abort + AllocGlobal),
     plan: &Plan,
@@ -355,7 +357,7 @@ pub fn peeked<A: PathAlgebra>(
     station.peek(Vertex(v))
 }
 
-/// Asserts that a label that was there before is there, and no greater.
+/// Asserts that a label that was there before is still there, and no greater.
 fn assert_no_greater(rt: &impl Abort, now: Option<u64>, before: Option<u64>) {
     if let Some(before) = before {
         let now = now.expect(rt, "a label");
@@ -394,7 +396,7 @@ fn peek_never_grows(rt: HostRuntime) {
     assert_never_grows(&rt, &floor, stations, 4, Some(8));
 }
 
-/// What comes back where the station of shard 1 is missing, and of no shard before it: so many stations.
+/// What comes back if the station of shard 1 is missing, and no earlier shard's is: this many stations.
 fn refused<'g, A: PathAlgebra>(
     rt: &(impl Abort + AllocGlobal),
     floor: Floor<A>,
@@ -418,7 +420,7 @@ fn refused<'g, A: PathAlgebra>(
     (floor, stations)
 }
 
-/// The answer of three stations, asked for in vain of the first, and of the first and the third.
+/// The answer of three stations, after it was asked for in vain from the first alone, and from the first and the third.
 fn gathered_at_last<A: PathAlgebra>(
     rt: &(impl Abort + AllocGlobal),
     floor: Floor<A>,

@@ -2,7 +2,7 @@
 ghost use Rattle.std.specs.Prelude.{◌≤◌, ◌↔◌, IsTrue, ◌∷◌, []};
 ghost use Rattle.std.specs.List.{All};
 ghost use Rattle.station.specs.Station.{BelongsTo};
-ghost use Rattle.worker_fleet.specs.Turns.{IsPlaced};
+ghost use Rattle.worker_fleet.specs.Turns.{IsOnItsFloor};
 
 use crate::graphs::{SHORTEST, blocks_of, chain_of, five};
 use crate::stations::{opened, peeked};
@@ -14,7 +14,7 @@ use station::Station;
 use std::process::Abort;
 use worker_fleet::{Gate, OpenGate, Outcome, drive};
 
-/// A gate that lets each worker make so many turns.
+/// A gate that lets each worker make this many turns.
 struct TurnsAtMost(u64);
 
 impl Gate for TurnsAtMost {
@@ -25,14 +25,14 @@ impl Gate for TurnsAtMost {
     }
 }
 
-/// Stations beside the place of their floor, the only one.
+/// Stations with the place of their floor, the only one.
 fn placed<'g, A: PathAlgebra>(
     rt: &(impl Abort + AllocGlobal),
     floor: &Floor<A>,
     stations: Vec<Station<'g, A>>,
 ) -> Vec<(usize, Station<'g, A>)>
     requires { All (BelongsTo floor.now) stations.items }
-    ensures { All (IsPlaced (floor.now ∷ [])) result.items }
+    ensures { All (IsOnItsFloor (floor.now ∷ [])) result.items }
 {
     let mut placed = Vec::new(rt.alloc());
     for station in stations {
@@ -47,7 +47,7 @@ fn driven<'g, A: PathAlgebra>(
     floors: &[Floor<A>],
     stations: Vec<(usize, Station<'g, A>)>,
 ) -> Vec<(usize, Station<'g, A>)>
-    requires { All (IsPlaced floors.now) stations.items }
+    requires { All (IsOnItsFloor floors.now) stations.items }
 {
     let mut stations = stations;
     for _ in 0..200 {
@@ -102,7 +102,7 @@ fn assert_driven<A: PathAlgebra<Value = u64>>(
     assert_labels(rt, &ended, wanted);
 }
 
-/// Asserts that one worker drives a chain of so many vertices over 64 shards to its end, and that each vertex has its distance.
+/// Asserts that one worker drives a chain of this many vertices over 64 shards to its end, and that the label of each vertex is its distance.
 fn assert_chain<A: PathAlgebra<Value = u64>>(
     rt: &(impl Abort + AllocGlobal),
     algebra: A,

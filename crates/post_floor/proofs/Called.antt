@@ -7,7 +7,7 @@ use Rattle.atomic_table.specs.Table.{Me, rest}
 use Rattle.circular_buffer.specs.Buffer.{Buffer, buffer}
 use Rattle.path_algebra.specs.Algebra.{Algebra}
 use Rattle.scholten_core.specs.declared.item.Item.{Item}
-use Rattle.shard_part.specs.PartState.{PartData, Setup, network_in, place_in, vertex_of, maker_of, IsArc}
+use Rattle.shard_part.specs.PartState.{PartData, Setup, network_of, place_in, vertex_of, maker_of, IsArc}
 use Rattle.shard_part.specs.LocalInvariant.{LocalInvariant}
 use Rattle.shard_part.specs.Weights.{All}
 use Rattle.scholten_core.specs.Items.{item_arc}
@@ -35,14 +35,14 @@ unfolding first_or
 found_is k j x y l e f = ap (first_or x) (sym e ∙ f)
 
 pub made_here : {S V : Type 0} (p : PartData S V) (xs : List (Item V)) (to : ℕ)
-    → All (λ i. (place_in p.setup (vertex_of (network_in p.setup) i) ≡ to) × (place_in p.setup (maker_of (network_in p.setup) i) ≡ p.shard)
-    × IsArc (network_in p.setup) (item_arc i)) xs → MadeAt p.setup p.shard xs
+    → All (λ i. (place_in p.setup (vertex_of (network_of p.setup) i) ≡ to) × (place_in p.setup (maker_of (network_of p.setup) i) ≡ p.shard)
+    × IsArc (network_of p.setup) (item_arc i)) xs → MadeAt p.setup p.shard xs
 made_here p [] to a = tt
 made_here p (i ∷ xs) to a = (a.0.1, made_here p xs to a.1)
 
 -- the outbox of p is in the slot
 pub publishing : {S V : Type 0} {meaning : S → Algebra V} {id pass pass' : TableId} {t : Setup S} {k to : ℕ} {p q : PartData S V} (m m' : Me (Slot V) (View S V)) {x : Slot V} {b b' : Buffer (Item V)}
-    → AtTable meaning id t pass m.0 p → p.setup ≡ t → IsBetween t.plan.shards p.shard to k → LocalInvariant (network_in p.setup) (place_in p.setup) p → HasEmpty t k m → pass' ≡ pass
+    → AtTable meaning id t pass m.0 p → p.setup ≡ t → IsBetween t.plan.shards p.shard to k → LocalInvariant (network_of p.setup) (place_in p.setup) p → HasEmpty t k m → pass' ≡ pass
     → q ≡ published_to to p → m.1 ≡ (k, x) ∷ rest m.1 → x ≡ std.Some b → b' ≡ buffer (get_or p.outs to []) b.capacity → m'.0 ≡ m.0 → m'.1 ≡ (k, std.Some b') ∷ rest m'.1
     → Publishing meaning id t pass' k q m'
 publishing {S} {V} {meaning} {id} {pass} {pass'} {t} {k} {to} {p} {q} m m' {x} {b} {b'} at is between sound empty same left found some swapped view slot =

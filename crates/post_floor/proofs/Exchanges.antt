@@ -13,7 +13,7 @@ use Rattle.scholten_core.specs.declared.event.Event.{Event}
 use Rattle.scholten_core.specs.Network.{WellFormed}
 use Rattle.scholten_core.specs.Diffusion.{CoreState}
 use Rattle.scholten_core.proofs.Kept.{Kept as CoreKept}
-use Rattle.shard_part.specs.PartState.{PartData, Setup, network_in, place_in, event_of}
+use Rattle.shard_part.specs.PartState.{PartData, Setup, network_of, place_in, event_of}
 use Rattle.shard_part.specs.Weights.{total, is, All}
 use Rattle.shard_part.specs.Handling.{HandledAll}
 use Rattle.shard_part.specs.Represents.{HoldsShareIn}
@@ -37,20 +37,20 @@ module _ {S V : Type 0} (meaning : S → Algebra V) (t : Setup S) where
   unchanged d = record { setup = refl; shard = refl; tables = refl; outs = refl; sent = refl; delivered = refl; signalled = refl; accepted = refl }
 
   -- a batch that came from another shard, for a part of this setup
-  arrived : (p : PartData S V) (c : CoreState V) (xs : List (Item V)) (j : ℕ) → AllLawful meaning → p.setup ≡ t → WellFormed (network_in t)
-      → CoreKept (meaning t.question.algebra) (network_in t) 0 c → j ≢ p.shard → MadeAt t j xs →
-      HoldsShareIn (meaning t.question.algebra) (network_in t) (place_in t) c (joined p xs) → MayReceive meaning p xs
+  arrived : (p : PartData S V) (c : CoreState V) (xs : List (Item V)) (j : ℕ) → AllLawful meaning → p.setup ≡ t → WellFormed (network_of t)
+      → CoreKept (meaning t.question.algebra) (network_of t) 0 c → j ≢ p.shard → MadeAt t j xs →
+      HoldsShareIn (meaning t.question.algebra) (network_of t) (place_in t) c (joined p xs) → MayReceive meaning p xs
   arrived p c xs j L e W K ne made H =
-      let T = subst (λ (u : Setup S). WellFormed (network_in u) × CoreKept (meaning u.question.algebra) (network_in u) 0 c × MadeAt u j xs
-      × HoldsShareIn (meaning u.question.algebra) (network_in u) (place_in u) c (joined p xs)) (sym e) (W, K, made, H) in
+      let T = subst (λ (u : Setup S). WellFormed (network_of u) × CoreKept (meaning u.question.algebra) (network_of u) 0 c × MadeAt u j xs
+      × HoldsShareIn (meaning u.question.algebra) (network_of u) (place_in u) c (joined p xs)) (sym e) (W, K, made, H) in
       arrives meaning p (L p.setup.question.algebra) T.0 c T.1 xs j ne T.2 T.3
 
   -- a part that holds its share of the state after these events
   pub known_at : (p : PartData S V) (events : List Event) → p.setup ≡ t
-      → HoldsShareIn (meaning t.question.algebra) (network_in t) (place_in t) (core_of meaning t events) p → HoldsReachedShare meaning p
-  known_at p events e H = (events, subst (λ (u : Setup S). HoldsShareIn (meaning u.question.algebra) (network_in u) (place_in u) (core_of meaning u events) p) (sym e) H)
+      → HoldsShareIn (meaning t.question.algebra) (network_of t) (place_in t) (core_of meaning t events) p → HoldsReachedShare meaning p
+  known_at p events e H = (events, subst (λ (u : Setup S). HoldsShareIn (meaning u.question.algebra) (network_of u) (place_in u) (core_of meaning u events) p) (sym e) H)
 
-  module _ (L : AllLawful meaning) (W : WellFormed (network_in t)) where
+  module _ (L : AllLawful meaning) (W : WellFormed (network_of t)) where
     abbrev Goes : Tab meaning t L W → ℕ → ℕ → Seat meaning t L W → (ℕ → Seat meaning t L W → Type 0) → ℕ → Type 0
     Goes s k id me told n' = (w : View S V) × (a : Act (Slot V)) × Valid s.homes me.1 a × FloorInvariant meaning t (stepped s k n' id me.1 w a) × told (get_or s.words k 0) (w, carried_after me.1 a)
 

@@ -6,7 +6,7 @@ use Rattle.scholten_core.specs.declared.item.Item.{Item}
 use Rattle.scholten_core.specs.Diffusion.{HasEnded}
 use Rattle.scholten_core.proofs.EveryRun.{ended_is_quiet, ended_is_best}
 use Rattle.scholten_core.proofs.Networks.{well_formed}
-use Rattle.shard_part.specs.PartState.{PartData, Setup, network_in, place_in}
+use Rattle.shard_part.specs.PartState.{PartData, Setup, network_of, place_in}
 use Rattle.shard_part.specs.Moves.{IsPlanned}
 use Rattle.shard_part.specs.Represents.{Represents}
 use Rattle.shard_part.proofs.Showing.{AllLawful}
@@ -23,5 +23,5 @@ module _ {S V : Type 0} (meaning : S → Algebra V) (t : Setup S) (L : AllLawful
         ended = h;
         quiet = ended_is_quiet A t.question.roads t.question.source (L t.question.algebra) P.roads P.source.0 events h;
         best = ended_is_best A t.question.roads t.question.source (L t.question.algebra) P.roads P.source.0 events h;
-        empty = shows.shown.weighs (λ _ _. 1) ∙ (ended_empty A (network_in t) (place_in t) (L t.question.algebra) W events).0 h;
+        empty = shows.shown.weighs (λ _ _. 1) ∙ (ended_empty A (network_of t) (place_in t) (L t.question.algebra) W events).0 h;
       }

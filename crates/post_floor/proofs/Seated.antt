@@ -14,7 +14,7 @@ use Rattle.post_floor.specs.declared.view.View.{View}
 use Rattle.post_floor.specs.Boxes.{mailbox, IsBetween}
 use Rattle.post_floor.specs.Floor.{Slot, empty_slot, fill_claims, read_claims}
 use Rattle.post_floor.specs.Plays.{without, next_slot, StepsTo, at_word, end_fill, end_read, ViewLags, Unclaimed}
-use Rattle.post_floor.specs.Data.{FloorData, SeatData, AreSlots, HasEnd, AreOpen, AtTable, IsAt, IsSeat, IsSized, fill_box, read_box}
+use Rattle.post_floor.specs.Data.{FloorData, SeatData, AreSlots, HasEnd, AreOpen, AtTable, IsAt, IsSeat, IsTableSized, fill_box, read_box}
 use Rattle.post_floor.proofs.Totals.{is_else, without_same, without_else}
 use Rattle.post_floor.proofs.Claiming.{few_claims, claims_more, claims_less}
 
@@ -65,7 +65,7 @@ pub record Seated {S V : Type 0} (meaning : S → Algebra V) (f : FloorData S) (
 
 module _ {S V : Type 0} {meaning : S → Algebra V} {f : FloorData S} {d : SeatData S V} {p : PartData S V} {fid : TableId} {t : Setup S} {sh : ℕ} {id : TableId} {s : ℕ} {v : View S V}
     {slots : List (ℕ × Slot V)} {claims : List ℕ} {room : ℕ} {next_fill next_read : List ℕ} where
-  pub seated : record { id = fid; setup = t } ≡ f → record { floor = id; shard = s; knows = v } ≡ d → IsSized fid t × (t.plan.shards ≡ sh) × (sh ≤ 64)
+  pub seated : record { id = fid; setup = t } ≡ f → record { floor = id; shard = s; knows = v } ≡ d → IsTableSized fid t × (t.plan.shards ≡ sh) × (sh ≤ 64)
       → IsSeat (record { floor = id; shard = s; knows = v }) slots claims room next_fill next_read → IsAt meaning f d p → Seated meaning f d p fid t sh id s v slots claims room next_fill next_read
   seated ff dd (sized, count, _) inv at =
       let moved : ViewLags meaning v p = subst (λ (z : SeatData S V). ViewLags meaning z.knows p) (sym dd) at.moved in

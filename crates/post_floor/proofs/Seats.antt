@@ -7,7 +7,7 @@ use lib.ListN.{get_elem?}
 use Rattle.atomic_table.specs.Table.{State, Splits, Joins}
 use Rattle.atomic_table.proofs.Lists.{at_set, at_snoc}
 use Rattle.path_algebra.specs.Algebra.{Algebra}
-use Rattle.shard_part.specs.PartState.{PartData, Setup, network_in, place_in}
+use Rattle.shard_part.specs.PartState.{PartData, Setup, network_of, place_in}
 use Rattle.shard_part.specs.Weights.{total, is, All, part_weight}
 use Rattle.shard_part.specs.Represents.{HoldsTables}
 use Rattle.shard_part.proofs.Weights.{total_append}
@@ -15,14 +15,14 @@ use Rattle.shard_part.proofs.Showing.{all_append, all_parts}
 use Rattle.post_floor.specs.declared.view.View.{View}
 use Rattle.post_floor.specs.Boxes.{box_count}
 use Rattle.post_floor.specs.Floor.{Slot, flat, fill_claims, read_claims, CountsNone, MailboxInvariant, core_of, FloorInvariant}
-use Rattle.post_floor.specs.Seats.{tail, first_of, cut_left, cut_right, aside_left, aside_right, both, spent}
+use Rattle.post_floor.specs.Seats.{tail, first_alone, cut_left, cut_right, aside_left, aside_right, both, spent}
 use Rattle.post_floor.proofs.Totals.{total_set}
 use Rattle.post_floor.proofs.Parts.{flat_total, flat_each, flat_at}
 
 pub total_snoc : {A : Type 0} (f : A → ℕ) (xs : List A) (y : A) → total f (xs ++ y ∷ []) ≡ total f xs + f y
 total_snoc f xs y = let p = total_append f xs (y ∷ []) in omega (arith, p)
 
-total_cut : {A : Type 0} (f : A → ℕ) (xs : List A) → total f (tail xs) + total f (first_of xs) ≡ total f xs
+total_cut : {A : Type 0} (f : A → ℕ) (xs : List A) → total f (tail xs) + total f (first_alone xs) ≡ total f xs
 total_cut f [] = refl
 total_cut f (x ∷ xs) = omega arith
 
@@ -30,7 +30,7 @@ all_tail : {A : Type 0} (P : A → Type 0) (xs : List A) → All P xs → All P 
 all_tail P [] p = tt
 all_tail P (x ∷ xs) p = p.1
 
-all_first : {A : Type 0} (P : A → Type 0) (xs : List A) → All P xs → All P (first_of xs)
+all_first : {A : Type 0} (P : A → Type 0) (xs : List A) → All P xs → All P (first_alone xs)
 all_first P [] p = tt
 all_first P (x ∷ xs) p = (p.0, tt)
 
@@ -66,7 +66,7 @@ module _ {S V : Type 0} (meaning : S → Algebra V) (t : Setup S) where
         shown = record {
           same = c.all (λ (p : PartData S V). p.setup ≡ t) r.shown.same;
           shown = record {
-            tables = c.all (HoldsTables (meaning t.question.algebra) (network_in t) (place_in t) (core_of meaning t r.events)) r.shown.shown.tables;
+            tables = c.all (HoldsTables (meaning t.question.algebra) (network_of t) (place_in t) (core_of meaning t r.events)) r.shown.shown.tables;
             weighs = λ h. let w = r.shown.shown.weighs h in let q = flat_same (part_weight h) in omega (arith, w, q);
             apart = λ j. let w = r.shown.shown.apart j in let q = flat_same (λ (p : PartData S V). is j p.shard) in omega (arith, w, q);
           };

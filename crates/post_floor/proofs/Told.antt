@@ -8,7 +8,7 @@ use Rattle.scholten_core.specs.Network.{WellFormed}
 use Rattle.scholten_core.proofs.Networks.{well_formed}
 use Rattle.shard_part.specs.Moves.{IsPlanned}
 use Rattle.shard_part.specs.Readings.{has_ended}
-use Rattle.shard_part.specs.PartState.{PartData, Setup, network_in}
+use Rattle.shard_part.specs.PartState.{PartData, Setup, network_of}
 use Rattle.shard_part.specs.Weights.{All}
 use Rattle.shard_part.proofs.Showing.{AllLawful}
 use Rattle.post_floor.specs.declared.view.View.{View}
@@ -25,7 +25,7 @@ all_told {S} {V} {P} holds m id me k f T d ps told a = subst (λ (l : List P). A
     (λ s h roomy at small. let q = a s h roomy at small in (q.0, q.1, q.2, q.3, (q.4, tt)))
 
 module _ {S V : Type 0} (meaning : S → Algebra V) (t : Setup S) (L : AllLawful meaning) (P : IsPlanned t 0) where
-  formed : WellFormed (network_in t)
+  formed : WellFormed (network_of t)
   formed = well_formed t.question.roads t.question.source P.roads P.source.0
 
   abbrev Seat : Type 0

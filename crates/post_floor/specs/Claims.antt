@@ -1,12 +1,12 @@
--- Claims that are turned round.
+-- Claims in rotation.
 use Rattle.std.specs.Prelude.{ℕ, suc, Bool, false, cond, eqb, List, [], ◌∷◌, ◌++◌}
 
--- the first goes behind the others
+-- the first moves to the end
 abbrev pub cycled : {A : Type 0} → List A → List A
 cycled [] = []
 cycled (x ∷ xs) = xs ++ x ∷ []
 
--- how many stand before the first k
+-- how many are before the first k
 abbrev pub before : ℕ → List ℕ → ℕ
 before k [] = 0
 before k (x ∷ xs) = cond (eqb x k) 0 (suc (before k xs))

@@ -29,6 +29,6 @@ pub record ClosedData (V : Type 0) : Type 0 where
   pub words : List ℕ
   pub slots : List (Slot V)
 
--- what all seats of a floor know together, with what the mailboxes held at the end, shows one reached state, their counts are what its events did, and it has ended if the done word says so or one seat has seen that
+-- what all seats of a floor know together, with what the mailboxes held at the end, represents one reached state, their counts are what its events did, and it has ended if the done word says so or one seat has seen that
 abbrev pub IsClosed : {S V : Type 0} → (S → Algebra V) → Setup S → List (SeatData S V) → ClosedData V → Type 0
 IsClosed {S} {V} meaning t seats d = (w : View S V) × AreJoined w spent seats × FinalView meaning t w d.words (map some d.slots)

@@ -31,14 +31,14 @@ pub record SeatData (S V : Type 0) : Type 0 where
   pub knows : View S V
 
 -- the table has a word and a slot for each mailbox between the question's shards, and the done word
-pub record IsSized {S : Type 0} (id : TableId) (t : Setup S) : Type 0 where
+pub record IsTableSized {S : Type 0} (id : TableId) (t : Setup S) : Type 0 where
   pub words : id.words ≡ box_count t.plan.shards + 1
   pub slots : id.slots ≡ box_count t.plan.shards
   pub planned : IsPlanned t 0
 
--- a pass is of a table of the question's size, and the part went on from what it knows by items of its own
+-- a pass is of a table of the question's size, and the part has moved on from what the pass knows by items of its own
 pub record AtTable {S V : Type 0} (meaning : S → Algebra V) (id : TableId) (t : Setup S) (pass : TableId) (v : View S V) (p : PartData S V) : Type 0 where
-  pub sized : IsSized id t
+  pub sized : IsTableSized id t
   pub own : pass ≡ id
   pub moved : ViewLags meaning v p
 

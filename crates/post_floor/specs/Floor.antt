@@ -1,4 +1,4 @@
--- What views and mailboxes show, and the rule of the floor.
+-- How views and mailboxes represent a state, and the rule of the floor.
 use Rattle.std.specs.Prelude.{◌≡◌, ◌⊎◌, ℕ, ◌+◌, ◌<◌, ◌≤◌, true, cond, eqb, List, [], ◌∷◌, ◌++◌, length, get_or}
 use Rattle.std.specs.Prelude as std
 use mathlib.Core.Option.{Option, none, some}
@@ -12,7 +12,7 @@ use Rattle.scholten_core.specs.Accounts.{Totals, totals_of}
 use Rattle.scholten_core.specs.Diffusion.{CoreState, state_after, HasEnded, IsQuiet}
 use Rattle.scholten_core.specs.Reached.{LabelsAreBest}
 use Rattle.scholten_core.specs.Sums.{sum_below}
-use Rattle.shard_part.specs.PartState.{Setup, PartData, network_in, place_in}
+use Rattle.shard_part.specs.PartState.{Setup, PartData, network_of, place_in}
 use Rattle.shard_part.specs.Weights.{total, is, All, part_weight}
 use Rattle.shard_part.specs.Capacities.{outbox_bound}
 use Rattle.shard_part.specs.Represents.{Represents}
@@ -20,11 +20,11 @@ use Rattle.shard_part.specs.Arriving.{MadeAt}
 use Rattle.post_floor.specs.declared.view.View.{View}
 use Rattle.post_floor.specs.Boxes.{empty, filling, full, reading, done_now, box_count, dest, origin}
 
--- what a slot holds: its batch, or nothing while a call has it in its hands
+-- what a slot holds: its batch, or nothing while a call is moving it
 abbrev pub Slot : Type 0 → Type 0
 Slot V = std.Option (Buffer (Item V))
 
--- a slot's place: outside the table, out with a seat, or at home
+-- where a slot is: outside the table, out with a seat, or in the table
 abbrev pub Place : Type 0 → Type 0
 Place V = Option (Option (Slot V))
 
@@ -48,7 +48,7 @@ module _ {S V : Type 0} where
     pub signalled : total (λ v. v.signalled) views ≡ n.signalled
     pub accepted : total (λ v. v.accepted) views ≡ n.accepted
 
-  -- it has counted nothing
+  -- the view has counted nothing
   pub record CountsNone (v : View S V) : Type 0 where
     pub sent : v.sent ≡ 0
     pub delivered : v.delivered ≡ 0
@@ -68,7 +68,7 @@ module _ {V : Type 0} where
   load_place f none = 0
   load_place f (some y) = load_home f y
 
-  -- a mailbox counts as its batch where it is full
+  -- a mailbox weighs as much as its batch if it is full, and nothing otherwise
   abbrev pub box : (Item V → ℕ) → ℕ → Place V → ℕ
   box f w y = cond (eqb w full) (load_place f y) 0
 
@@ -78,7 +78,7 @@ module _ {V : Type 0} where
 
 -- how many items a mailbox may hold: one for each arc between its shards
 abbrev pub mailbox_capacity : {S : Type 0} → Setup S → ℕ → ℕ
-mailbox_capacity t k = cond (eqb (origin t.plan.shards k) (dest t.plan.shards k)) 0 (outbox_bound (network_in t) (place_in t) (origin t.plan.shards k) (dest t.plan.shards k))
+mailbox_capacity t k = cond (eqb (origin t.plan.shards k) (dest t.plan.shards k)) 0 (outbox_bound (network_of t) (place_in t) (origin t.plan.shards k) (dest t.plan.shards k))
 
 -- an empty batch of the mailbox's capacity
 abbrev pub empty_slot : {S V : Type 0} → Setup S → ℕ → Slot V
@@ -97,9 +97,9 @@ pub record MailboxInvariant {S V : Type 0} (t : Setup S) (k w : ℕ) (y : Place 
 module _ {S V : Type 0} (meaning : S → Algebra V) (t : Setup S) where
   -- the state that a list of events leads to
   abbrev pub core_of : List Event → CoreState V
-  core_of events = state_after (meaning t.question.algebra) (network_in t) events
+  core_of events = state_after (meaning t.question.algebra) (network_of t) events
 
-  -- What holds between any two steps: some events lead from the opening to a state that all views and all mailboxes show, the views are of all
+  -- What holds between any two steps: some events lead from the opening to a state that all views and all mailboxes represent, the views are of all
   -- shards, their counts add up to what the events did, each mailbox is as its word says, and the done word says so only if the state has ended.
   pub record FloorInvariant (s : State (Slot V) (View S V)) : Type 0 where
     pub events : List Event
@@ -107,22 +107,22 @@ module _ {S V : Type 0} (meaning : S → Algebra V) (t : Setup S) where
     pub whole : (j : ℕ) → j < t.plan.shards → total (λ p. is j p.shard) (flat s.views) ≡ 1
     pub below : All (λ p. p.shard < t.plan.shards) (flat s.views)
     pub idle : (id : ℕ) (v : View S V) → get_elem? s.views id ≡ some v → v.parts ≡ [] → CountsNone v
-    pub counts : AddUp s.views (totals_of (meaning t.question.algebra) (network_in t) events)
+    pub counts : AddUp s.views (totals_of (meaning t.question.algebra) (network_of t) events)
     pub boxes : (k : ℕ) → k < box_count t.plan.shards → MailboxInvariant t k (get_or s.words k 0) (get_elem? s.homes k) (total (fill_claims k) s.views) (total (read_claims k) s.views)
     pub done : get_or s.words (box_count t.plan.shards) 0 ≡ done_now → HasEnded (core_of events)
     pub seen : (id : ℕ) (v : View S V) → get_elem? s.views id ≡ some v → v.seen ≡ true → get_or s.words (box_count t.plan.shards) 0 ≡ done_now
     pub wide : length s.words ≡ box_count t.plan.shards + 1
     pub roomy : length s.homes ≡ box_count t.plan.shards
 
-  -- one view has all parts of a question: with the mailboxes it shows a state that some events lead to, its counts are what these did, and if the done word says so, or it has seen that, the state has ended
+  -- one view has all parts of a question: with the mailboxes it represents a state that some events lead to, its counts are what these did, and if the done word says so, or it has seen that, the state has ended
   pub record FinalView (v : View S V) (ws : List ℕ) (hs : List (Option (Slot V))) : Type 0 where
     pub events : List Event
     pub shown : Represents meaning t v.parts (in_transit t.plan.shards ws hs) (core_of events)
-    pub counts : AddUp (v ∷ []) (totals_of (meaning t.question.algebra) (network_in t) events)
+    pub counts : AddUp (v ∷ []) (totals_of (meaning t.question.algebra) (network_of t) events)
     pub done : get_or ws (box_count t.plan.shards) 0 ≡ done_now → HasEnded (core_of events)
     pub seen : v.seen ≡ true → HasEnded (core_of events)
 
-  -- after these events all is over: parts and mailboxes show a state that has ended and is quiet, its labels are best, and no queue, outbox or mailbox holds an item
+  -- after these events all is over: parts and mailboxes represent a state that has ended and is quiet, its labels are best, and no queue, outbox or mailbox holds an item
   pub record RepresentsQuiet (parts : List (PartData S V)) (mailed : (ℕ → Item V → ℕ) → ℕ) (events : List Event) : Type 0 where
     pub shown : Represents meaning t parts mailed (core_of events)
     pub ended : HasEnded (core_of events)

@@ -1,4 +1,4 @@
--- Seats that are cut off and joined.
+-- Seats that are split and joined.
 use Rattle.std.specs.Prelude.{ℕ, ◌+◌, false, ◌||◌, List, [], ◌∷◌, ◌++◌, replicate}
 use Rattle.atomic_table.specs.Table.{Me}
 use Rattle.shard_part.specs.PartState.{PartData}
@@ -9,12 +9,12 @@ abbrev pub tail : {A : Type 0} → List A → List A
 tail [] = []
 tail (x ∷ xs) = xs
 
-abbrev pub first_of : {A : Type 0} → List A → List A
-first_of [] = []
-first_of (x ∷ xs) = x ∷ []
+abbrev pub first_alone : {A : Type 0} → List A → List A
+first_alone [] = []
+first_alone (x ∷ xs) = x ∷ []
 
 module _ {S V : Type 0} where
-  -- these parts, and nothing done but what they sent when they were opened
+  -- these parts, and nothing done except what they sent when they were opened
   abbrev pub with_parts : View S V → List (PartData S V) → View S V
   with_parts v ps = record v { parts = ps; sent = total (λ p. p.sent) ps }
 
@@ -23,7 +23,7 @@ module _ {S V : Type 0} where
   cut_left v = with_parts v (tail v.parts)
 
   abbrev pub cut_right : View S V → View S V
-  cut_right v = with_parts v (first_of v.parts)
+  cut_right v = with_parts v (first_alone v.parts)
 
   -- the claims stay, and the rest goes to a new seat
   abbrev pub aside_left : View S V → View S V

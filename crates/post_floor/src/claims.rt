@@ -1,4 +1,4 @@
-//! The claims of a seat, in the order in which it has their slots out.
+//! The claims of a seat, in the order of the slots that it has out.
 ghost use Rattle.std.specs.Prelude.{◌≡◌, ◌∷◌, ℕ, ◌<◌, ◌≤◌, length, map};
 ghost use Rattle.atomic_table.specs.Table.{rest};
 ghost use Rattle.circular_buffer.specs.Buffer.{buffer};
@@ -12,7 +12,7 @@ use crate::table::Pass;
 use circular_buffer::HeapCircularBuffer;
 use path_algebra::PathAlgebra;
 
-/// The first claim goes behind the others.
+/// Moves the first claim to the end.
 fn turn_claims(claims: &mut HeapCircularBuffer<usize>)
     requires { (0 < length claims.old.items) × (length claims.old.items ≤ claims.old.capacity) }
     ensures { claims.new ≡ buffer (cycled claims.old.items) claims.old.capacity }
@@ -32,7 +32,7 @@ fn is_first(claims: &HeapCircularBuffer<usize>, word: usize) -> bool
     }
 }
 
-/// Turns the claims and the slots until those of a mailbox are the first.
+/// Rotates the claims and the slots until those of a mailbox are the first.
 pub(crate) fn bring<A: PathAlgebra>(
     pass: &mut Pass<A>,
     claims: &mut HeapCircularBuffer<usize>,

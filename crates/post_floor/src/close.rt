@@ -98,7 +98,7 @@ pub(crate) fn join_all<A: PathAlgebra>(
 {
     while let Some(seat) = seats.pop() {
         let mut own = pass_of(seat);
-        // A pass that has a slot out can't be joined, so what it knows goes to a new one.
+        // A pass that has a slot out cannot be joined, so what it knows goes to a new one.
         let free = table.split_seat::<Aside>(&mut own);
         table.join_seat::<Cut>(&mut all, free);
     }

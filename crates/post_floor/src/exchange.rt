@@ -44,7 +44,7 @@ pub(crate) fn publish_batch<A: PathAlgebra>(
     publish_word::<A, Brand>(table, pass, part, word);
 }
 
-/// Whether a mailbox is full. Then it is being read, and its batch goes into the queue.
+/// Whether a mailbox is full. If so, it is being read now, and its batch goes into the queue.
 pub(crate) fn read_batch<A: PathAlgebra>(
     table: &Mailboxes<A>,
     pass: &mut Pass<A>,

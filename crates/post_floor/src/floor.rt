@@ -35,13 +35,13 @@ pub struct Floor<A: PathAlgebra> {
 
 impl<A: PathAlgebra> Model for Floor<A> {
     ghost use Rattle.std.specs.Prelude.{◌≡◌, ◌≤◌};
-    ghost use Rattle.post_floor.specs.Data.{FloorData, IsSized};
+    ghost use Rattle.post_floor.specs.Data.{FloorData, IsTableSized};
 
     ghost Value = { FloorData A };
 
     ghost view = { λ f. record { id = f.table.shared.table_id; setup = f.table.shared.key } };
 
-    ghost invariant = { λ f. IsSized f.table.shared.table_id f.table.shared.key × (f.table.shared.key.plan.shards ≡ f.shards) × (f.shards ≤ 64) };
+    ghost invariant = { λ f. IsTableSized f.table.shared.table_id f.table.shared.key × (f.table.shared.key.plan.shards ≡ f.shards) × (f.shards ≤ 64) };
 }
 
 impl<A: PathAlgebra> Floor<A> {
@@ -72,7 +72,7 @@ impl<A: PathAlgebra> Floor<A> {
         Ok((Floor { table, shards }, seats))
     }
 
-    /// Whether the next mailbox to a shard is empty. Then it is this seat's to fill.
+    /// Whether the next mailbox to a shard is empty. If so, this seat is filling it now.
     pub fn try_fill(&self, seat: &mut Seat<A>, part: &Part<'_, A>, to: Shard) -> bool
         requires at { IsAt A.meaning self.now seat.old part.now }
         requires shard { to < self.now.setup.plan.shards }
@@ -95,7 +95,7 @@ impl<A: PathAlgebra> Floor<A> {
     pub fn publish(&self, seat: &mut Seat<A>, part: &mut Part<'_, A>, to: Shard)
         requires at { IsAt A.meaning self.now seat.old part.old }
         requires shard { (to ≢ seat.old.shard) × (to < self.now.setup.plan.shards) }
-        // A `try_fill` to this shard was true, and no `publish` to it came since.
+        // A `try_fill` to this shard was true, and no `publish` to it has come since.
         requires claim { 0 < fill_claims (fill_box self.now seat.old to) seat.old.knows }
         ensures seat { IsSameSeat seat.old seat.new }
         ensures at { IsAt A.meaning self.now seat.new part.new }
@@ -113,7 +113,7 @@ impl<A: PathAlgebra> Floor<A> {
         seat.next_fill[at] = next_slot(slot);
     }
 
-    /// Whether the next mailbox from a shard is full. Then its batch goes into the queue, and the seat reads it.
+    /// Whether the next mailbox from a shard is full. If so, its batch goes into the queue, and the seat reads it.
     pub fn try_read(&self, seat: &mut Seat<A>, part: &mut Part<'_, A>, from: Shard) -> bool
         requires at { IsAt A.meaning self.now seat.old part.old }
         requires shard { (from ≢ seat.old.shard) × (from < self.now.setup.plan.shards) }
@@ -133,11 +133,11 @@ impl<A: PathAlgebra> Floor<A> {
         }
     }
 
-    /// The mailbox that was read from a shard is empty again.
+    /// Makes the mailbox that was read from a shard empty again.
     pub fn clear(&self, seat: &mut Seat<A>, part: &Part<'_, A>, from: Shard)
         requires at { IsAt A.meaning self.now seat.old part.now }
         requires shard { from < self.now.setup.plan.shards }
-        // A `try_read` from this shard was true, and no `clear` from it came since.
+        // A `try_read` from this shard was true, and no `clear` from it has come since.
         requires claim { 0 < read_claims (read_box self.now seat.old from) seat.old.knows }
         ensures seat { IsSameSeat seat.old seat.new }
         ensures at { IsAt A.meaning self.now seat.new part.now }
@@ -154,7 +154,7 @@ impl<A: PathAlgebra> Floor<A> {
         seat.next_read[at] = next_slot(slot);
     }
 
-    /// Announces the end: the question has ended, and its part knows it.
+    /// Announces the end, which the part knows: its question has ended.
     pub fn announce(&self, seat: &mut Seat<A>, part: &Part<'_, A>)
         requires at { IsAt A.meaning self.now seat.old part.now }
         requires ended { has_ended part.now ≡ true }
@@ -171,7 +171,7 @@ impl<A: PathAlgebra> Floor<A> {
         );
     }
 
-    /// Whether the end was announced. Then the state that the floor shows has ended and is quiet, and the part holds its share of it.
+    /// Whether the end was announced. If so, the state that the floor represents has ended and is quiet, and the part holds its share of it.
     pub fn look(&self, seat: &mut Seat<A>, part: &Part<'_, A>) -> bool
         requires at { IsAt A.meaning self.now seat.old part.now }
         ensures seat { IsSameSeat seat.old seat.new }
@@ -187,9 +187,9 @@ impl<A: PathAlgebra> Floor<A> {
         ) == DONE
     }
 
-    /// Closes the floor with the seats of all its shards, whatever claims they have open. Where a shard's seat is missing, floor and seats come back as they were.
+    /// Closes the floor with the seats of all its shards, whatever claims they have open. If a shard's seat is missing, floor and seats come back as they were.
     ///
-    /// What the seats know together and what the mailboxes held at the end shows one state, to which some events lead from the opening. The seats' counts are what these events did, and the state has ended if that was announced or a seat has seen it.
+    /// What the seats know together and what the mailboxes held at the end represent one state, which some events lead to from the opening. The seats' counts are what these events did, and the state has ended if that was announced or a seat has seen it.
     pub fn close(self, mut seats: Vec<Seat<A>>) -> Result<Closed<A>, (Floor<A>, Vec<Seat<A>>)>
         requires seats { All (λ d. d.floor ≡ self.id) seats.items }
         ensures closed { IfOk result (λ r. AllSeated self.setup.plan.shards seats.items ×

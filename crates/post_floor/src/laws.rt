@@ -1,4 +1,4 @@
-//! A theorem over every floor: a caller calls it where its own proof needs what it promises.
+//! A theorem over every floor: a caller calls it if its own proof needs what it promises.
 ghost use Rattle.std.specs.Prelude.{◌≡◌, ℕ, true, List};
 ghost use mathlib.Core.Option.{Option, some};
 ghost use lib.ListN.{get_elem?};
@@ -11,7 +11,7 @@ ghost use Rattle.post_floor.specs.Floor.{Slot, flat, in_transit, FloorInvariant,
 
 use path_algebra::PathAlgebra;
 
-/// Wherever the rule of the floor holds and a view has seen the done word at 1, all is over: the state that all views and all mailboxes show has ended and is quiet, its labels are best, and no queue, outbox or mailbox holds an item.
+/// If the rule of the floor holds and a view has seen the done word at 1, all is over: the state that all views and all mailboxes represent has ended and is quiet, its labels are best, and no queue, outbox or mailbox holds an item.
 pub fn seen_floors_are_quiet<A: PathAlgebra>(_algebra: A)
     ensures kept { (t : Setup A) (s : State (Slot A.Value) (View A A.Value)) → IsPlanned t 0 →
         FloorInvariant A.meaning t s → (id : ℕ) (v : View A

@@ -23,7 +23,7 @@ pub(crate) const DONE: u64 = 1;
 /// How many slots there are for each ordered pair of shards.
 pub(crate) const SLOTS: usize = 4;
 
-/// How many mailboxes there are between so many shards, which is the number of the done word.
+/// How many mailboxes there are between this many shards. It is also the number of the done word.
 pub(crate) fn mailbox_count(shards: usize) -> usize
     requires { shards ≤ 64 }
     ensures { result ≡ box_count shards }

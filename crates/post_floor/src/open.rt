@@ -58,7 +58,7 @@ pub(crate) fn batches<A: PathAlgebra>(
     Ok(slots)
 }
 
-/// The seat of one part, with no claim: of each row the first slot comes next.
+/// The seat of one part, with no claim: the first slot of each row comes next.
 fn sit<A: PathAlgebra>(
     alloc: Global,
     pass: Pass<A>,

@@ -1,4 +1,4 @@
-//! What one part knows at a floor, and has open there.
+//! What one part knows at a floor, and which claims it has open there.
 ghost use Rattle.std.specs.Prelude.{◌≡◌};
 
 use crate::table::Pass;

@@ -1,4 +1,4 @@
-//! One atomic step each. The part is picked for the proof: `W` has it, alone in a list.
+//! One atomic step each. `W` has the part, alone in a list, for the proof.
 ghost use Rattle.std.specs.Prelude.{◌≡◌, ◌≢◌, true, ◌<◌, [], ◌∷◌};
 ghost use Rattle.shard_part.specs.Readings.{has_ended};
 ghost use Rattle.post_floor.specs.Boxes.{box_count, dest, origin};

@@ -7,7 +7,7 @@ use Rattle.scholten_core.specs.Network.{Network}
 use Rattle.scholten_core.specs.Diffusion.{CoreState, is_idle}
 use Rattle.scholten_core.specs.Sums.{one_if}
 use Rattle.scholten_core.specs.Deficit.{deficit}
-use Rattle.scholten_core.specs.CoreView.{IsCounted}
+use Rattle.scholten_core.specs.CoreView.{AreDeficits}
 use Rattle.scholten_core.proofs.Sums.{one_if-most, sum_zero, sum_ones, sum_most, sum_at, sum_term}
 
 module _ {V : Type 0} (N : Network) where
@@ -49,13 +49,13 @@ module _ {V : Type 0} (N : Network) where
       let one = busy_at-busy (N.tail a) (c.token a) a i refl in omega (arith, s, one)
 
   pub counted_same : (n : ℕ) (deficits : List ℕ) (a : ℕ) (c d : CoreState V) → a < suc N.arcs → ((b : ℕ) → b ≢ a → d.token b ≡ c.token b) → is_idle (d.token a) ≡ is_idle (c.token a) →
-      IsCounted N n deficits c → IsCounted N n deficits d
+      AreDeficits N n deficits c → AreDeficits N n deficits d
   counted_same n deficits a c d l h i K v m =
       let k = K v m in let s = deficit_change v a c d l h in let x : busy_at v (d.token a) a ≡ busy_at v (c.token a) a = ap (λ t. one_if (eqb (N.tail a) v && not t)) i in omega (arith, k, s, x)
 
   pub counted_more : (n : ℕ) (deficits : List ℕ) (a x : ℕ) (c d : CoreState V) → a < suc N.arcs → ((b : ℕ) → b ≢ a → d.token b ≡ c.token b) →
       is_idle (c.token a) ≡ true → is_idle (d.token a) ≡ false → N.tail a < length deficits → x ≡ get_or deficits (N.tail a) 0 + 1 →
-      IsCounted N n deficits c → IsCounted N n (set deficits (N.tail a) x) d
+      AreDeficits N n deficits c → AreDeficits N n (set deficits (N.tail a) x) d
   counted_more n deficits a x c d l h i j w e K v m =
       let k = K v m in let s = deficit_change v a c d l h in let was = busy_at-idle v (c.token a) a i in
       elim (cases_eq v (N.tail a)) [
@@ -68,7 +68,7 @@ module _ {V : Type 0} (N : Network) where
 
   pub counted_less : (n : ℕ) (deficits : List ℕ) (a x : ℕ) (c d : CoreState V) → a < suc N.arcs → ((b : ℕ) → b ≢ a → d.token b ≡ c.token b) →
       is_idle (c.token a) ≡ false → is_idle (d.token a) ≡ true → N.tail a < length deficits → x + 1 ≡ get_or deficits (N.tail a) 0 →
-      IsCounted N n deficits c → IsCounted N n (set deficits (N.tail a) x) d
+      AreDeficits N n deficits c → AreDeficits N n (set deficits (N.tail a) x) d
   counted_less n deficits a x c d l h i j w e K v m =
       let k = K v m in let s = deficit_change v a c d l h in let now = busy_at-idle v (d.token a) a j in
       elim (cases_eq v (N.tail a)) [

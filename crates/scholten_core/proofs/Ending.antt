@@ -1,7 +1,7 @@
 -- From every state that is reached, enabled events lead to the end.
 use Rattle.std.proofs.Common.{◌≡◌, ℕ, zero, suc, ◌+◌, ◌*◌, ◌≤◌, true, false, List, [], ◌∷◌, ◌++◌, length, refl, sym, ◌∙◌, subst, inl, inr, arith}
 use Rattle.std.proofs.lemmas.Bool.{cond-true, false≢true}
-use Rattle.road_graph.specs.Roads.{Roads, IsRoads, HasVertex}
+use Rattle.road_graph.specs.GraphData.{GraphData, IsGraph, HasVertex}
 use Rattle.path_algebra.specs.Algebra.{Algebra, IsLawful}
 use Rattle.scholten_core.specs.declared.event.Event.{Event}
 use Rattle.scholten_core.specs.Network.{Network, WellFormed, network}
@@ -41,12 +41,12 @@ module _ {V : Type 0} (A : Algebra V) (N : Network) where
   stopped : IsLawful A → WellFormed N → (es : List Event) → ((e : Event) → is_enabled (state_after A N es) e ≡ false) → HasEnded (state_after A N es)
   stopped L W es h = elim (never_stuck A N L W es) [ inl q ↦ q | inr e ↦ absurd (false≢true (sym (h e.0) ∙ e.1)) ]
 
-module _ {V : Type 0} (A : Algebra V) (g : Roads) (s : ℕ) where
-  pub can_end : IsLawful A → IsRoads g → HasVertex g s → (es : List Event) → CanEnd A (network g s) (state_after A (network g s) es)
+module _ {V : Type 0} (A : Algebra V) (g : GraphData) (s : ℕ) where
+  pub can_end : IsLawful A → IsGraph g → HasVertex g s → (es : List Event) → CanEnd A (network g s) (state_after A (network g s) es)
   can_end L R S es = ends_within A (network g s) L (well_formed g s R S.0) (2 * message_bound g s) (λ fs. few_events A g s L R S fs) (2 * message_bound g s) es (omega arith)
 
-  pub stops_ended : IsLawful A → IsRoads g → HasVertex g s → (es : List Event) → ((e : Event) → is_enabled (state_after A (network g s) es) e ≡ false) → HasEnded (state_after A (network g s) es)
+  pub stops_ended : IsLawful A → IsGraph g → HasVertex g s → (es : List Event) → ((e : Event) → is_enabled (state_after A (network g s) es) e ≡ false) → HasEnded (state_after A (network g s) es)
   stops_ended L R S es h = stopped A (network g s) L (well_formed g s R S.0) es h
 
-  pub run_goes_on : IsLawful A → IsRoads g → 1 ≤ s → (es : List Event) → (HasEnded (state_after A (network g s) es) → ⊥) → CanGoOn (network g s) (state_after A (network g s) es)
+  pub run_goes_on : IsLawful A → IsGraph g → 1 ≤ s → (es : List Event) → (HasEnded (state_after A (network g s) es) → ⊥) → CanGoOn (network g s) (state_after A (network g s) es)
   run_goes_on L R l es q = elim (goes_on A (network g s) L (well_formed g s R l) es) [ inl e ↦ absurd (q e) | inr c ↦ c ]

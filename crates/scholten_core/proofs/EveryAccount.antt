@@ -1,7 +1,7 @@
 -- The accounts of every run, in the words of the graph.
 use Rattle.std.proofs.Common.{◌≡◌, ℕ, suc, ◌+◌, ◌≤◌, Bool, is_some, inl, inr, Option, Some, None, List, [], ◌∷◌, length, refl, sym, ap, ◌∙◌, arith}
 use Rattle.std.proofs.lemmas.Bool.{cases_Bool}
-use Rattle.road_graph.specs.Roads.{Roads, IsRoads, HasVertex, HasArc, arc_of}
+use Rattle.road_graph.specs.GraphData.{GraphData, IsGraph, HasVertex, HasArc, arc_of}
 use Rattle.path_algebra.specs.Algebra.{Algebra, IsLawful}
 use Rattle.path_algebra.specs.Walks.{IsWalkValue, IsBestLabel}
 use Rattle.path_algebra.specs.Given.{reach}
@@ -18,21 +18,21 @@ use Rattle.scholten_core.proofs.Reach.{IsOneValued, reach_sends, walk_end}
 use Rattle.scholten_core.proofs.EveryRun.{run_kept_at, labels_are_walk_values, ended_is_best}
 use Rattle.scholten_core.proofs.Sums.{sum_below_same, sum_first}
 
-module _ {V : Type 0} (A : Algebra V) (g : Roads) (s : ℕ) where
-  pub sends_follow_changes : IsLawful A → IsRoads g → 1 ≤ s → (es : List Event) (b : ℕ) →
+module _ {V : Type 0} (A : Algebra V) (g : GraphData) (s : ℕ) where
+  pub sends_follow_changes : IsLawful A → IsGraph g → 1 ≤ s → (es : List Event) (b : ℕ) →
       sent_on A (network g s) b (opening A (network g s)) es ≤ label_changes A (network g s) ((network g s).tail b) (opening A (network g s)) es
   sends_follow_changes L R l es b = sends_at_most A (network g s) L (well_formed g s R l) es b
 
-  pub totals_are_equal : IsLawful A → IsRoads g → 1 ≤ s → (es : List Event) → HasEnded (state_after A (network g s) es) → AreEqualTotals (totals_of A (network g s) es)
+  pub totals_are_equal : IsLawful A → IsGraph g → 1 ≤ s → (es : List Event) → HasEnded (state_after A (network g s) es) → AreEqualTotals (totals_of A (network g s) es)
   totals_are_equal L R l es q = let h = all_equal A (network g s) L (well_formed g s R l) es q in (sym h.0, sym h.1, sym h.2)
 
-module _ (g : Roads) (s : ℕ) where
+module _ (g : GraphData) (s : ℕ) where
   one_value : IsOneValued reach (network g s)
   one_value = record { all = λ x y. refl; always = λ x w. (tt, refl) }
 
   -- a label stands at the tail of each marked arc, and at no other
   marked_label : (c : CoreState (Unit {0})) (marked : ℕ → Bool) → AreMarksOfReached reach g s marked →
-      ((v : ℕ) (x : Unit {0}) → c.label v ≡ Some x → IsWalkValue reach g (s ∷ []) v x) → ((v : ℕ) → HasVertex g v → IsBestLabel reach g (s ∷ []) v (c.label v)) → IsRoads g →
+      ((v : ℕ) (x : Unit {0}) → c.label v ≡ Some x → IsWalkValue reach g (s ∷ []) v x) → ((v : ℕ) → HasVertex g v → IsBestLabel reach g (s ∷ []) v (c.label v)) → IsGraph g →
       (a : ℕ) → HasArc g a → is_some (c.label ((arc_of g a).tail)) ≡ marked a
   marked_label c marked M W B R a h = go (c.label (arc_of g a).tail) refl (B (arc_of g a).tail (R.ends a h).0)
     where
@@ -40,7 +40,7 @@ module _ (g : Roads) (s : ℕ) where
       go (Some x) q b = sym ((M a h).1 (x, W (arc_of g a).tail x q))
       go None q b = elim (cases_Bool (marked a)) [ inl t ↦ absurd (let r = (M a h).0 t in b r.0 r.1) | inr f ↦ sym f ]
 
-  pub reach_sends_once : IsRoads g → HasVertex g s → (es : List Event) → HasEnded (state_after reach (network g s) es) → (marked : ℕ → Bool) → AreMarksOfReached reach g s marked →
+  pub reach_sends_once : IsGraph g → HasVertex g s → (es : List Event) → HasEnded (state_after reach (network g s) es) → (marked : ℕ → Bool) → AreMarksOfReached reach g s marked →
       (totals_of reach (network g s) es).sent ≡ 1 + count_marked g marked
   reach_sends_once R S es q marked M =
       let W = well_formed g s R S.0 in

@@ -1,7 +1,7 @@
 -- Each change of a vertex's label uses up one of the simple walks to it, so they are no more than these.
 use Rattle.std.proofs.Common.{◌≡◌, ℕ, zero, suc, ◌+◌, ◌≤◌, Bool, true, false, not, Option, Some, None, List, [], ◌∷◌, length, ◌⊎◌, refl, sym, ap, ◌∙◌, subst, inl, inr, arith, Contains}
 use Rattle.std.proofs.lemmas.Bool.{cases_Bool, cond-true, cond-false, false≢true, and_parts, and_from, and_right, not-true, not_from_true, not_from_false, false_from_ne_true}
-use Rattle.road_graph.specs.Roads.{Roads, IsRoads}
+use Rattle.road_graph.specs.GraphData.{GraphData, IsGraph}
 use Rattle.road_graph.proofs.Lists.{not_in_empty, head_or_tail}
 use Rattle.path_algebra.specs.Algebra.{Algebra, IsLawful}
 use Rattle.path_algebra.proofs.Least.{same_no_worse}
@@ -114,8 +114,8 @@ module _ {V : Type 0} (A : Algebra V) (N : Network) where
         omega (arith, r, k))
   ]
 
-module _ {V : Type 0} (A : Algebra V) (g : Roads) (s : ℕ) where
-  step_falls : IsLawful A → IsRoads g → 1 ≤ s → (v : ℕ) (walks : List (List ℕ)) → HasSimpleWalks g s v walks → (c : CoreState V) (e : Event) → Trails A (network g s) (step A (network g s) c e) →
+module _ {V : Type 0} (A : Algebra V) (g : GraphData) (s : ℕ) where
+  step_falls : IsLawful A → IsGraph g → 1 ≤ s → (v : ℕ) (walks : List (List ℕ)) → HasSimpleWalks g s v walks → (c : CoreState V) (e : Event) → Trails A (network g s) (step A (network g s) c e) →
       one_if (not (same_label A (c.label v) ((step A (network g s) c e).label v))) + left A (network g s) walks ((step A (network g s) c e).label v) ≤ left A (network g s) walks (c.label v)
   step_falls L R l v walks H c e T = elim (step_better A (network g s) c e v) [
     | inl k ↦ (let a : one_if (not (same_label A (c.label v) ((step A (network g s) c e).label v)))
@@ -130,7 +130,7 @@ module _ {V : Type 0} (A : Algebra V) (g : Roads) (s : ℕ) where
         omega (arith, f, a, b))
   ]
 
-  run_falls : IsLawful A → IsRoads g → 1 ≤ s → (v : ℕ) (walks : List (List ℕ)) → HasSimpleWalks g s v walks → (c : CoreState V) (es : List Event)
+  run_falls : IsLawful A → IsGraph g → 1 ≤ s → (v : ℕ) (walks : List (List ℕ)) → HasSimpleWalks g s v walks → (c : CoreState V) (es : List Event)
       → Kept A (network g s) 0 c → Trails A (network g s) c →
       label_changes A (network g s) v c es ≤ left A (network g s) walks (c.label v)
   run_falls L R l v walks H c [] K T = omega arith
@@ -142,7 +142,7 @@ module _ {V : Type 0} (A : Algebra V) (g : Roads) (s : ℕ) where
       omega (arith, f, r)
 
   -- a label changes no more often than there are simple walks to its vertex
-  pub changes_at_most : IsLawful A → IsRoads g → 1 ≤ s → (v : ℕ) (walks : List (List ℕ)) → HasSimpleWalks g s v walks → (es : List Event) →
+  pub changes_at_most : IsLawful A → IsGraph g → 1 ≤ s → (v : ℕ) (walks : List (List ℕ)) → HasSimpleWalks g s v walks → (es : List Event) →
       label_changes A (network g s) v (opening A (network g s)) es ≤ length walks
   changes_at_most L R l v walks H es =
       let f = run_falls L R l v walks H (opening A (network g s)) es (opening_kept A (network g s) (well_formed g s R l)) (opening_trails A (network g s)) in

@@ -1,6 +1,6 @@
 -- No list of events has more enabled ones than its question allows.
 use Rattle.std.proofs.Common.{◌≡◌, ℕ, suc, ◌+◌, ◌*◌, ◌≤◌, Bool, true, false, not, ◌&&◌, cond, List, [], ◌∷◌, length, refl, sym, ap, subst, arith}
-use Rattle.road_graph.specs.Roads.{Roads, IsRoads, HasVertex, arc_of}
+use Rattle.road_graph.specs.GraphData.{GraphData, IsGraph, HasVertex, arc_of}
 use Rattle.path_algebra.specs.Algebra.{Algebra, IsLawful}
 use Rattle.path_algebra.specs.Walks.{IsWalk}
 use Rattle.scholten_core.specs.declared.event.Event.{Event}
@@ -18,7 +18,7 @@ use Rattle.scholten_core.proofs.Falling.{changes_at_most}
 use Rattle.path_algebra.proofs.SimpleWalks.{has_simple_walks}
 
 -- no walk of a graph leads to vertex 0
-never_to_zero : (g : Roads) → IsRoads g → (u : ℕ) (p : List ℕ) → 1 ≤ u → IsWalk g u p 0 → ⊥
+never_to_zero : (g : GraphData) → IsGraph g → (u : ℕ) (p : List ℕ) → 1 ≤ u → IsWalk g u p 0 → ⊥
 never_to_zero g R u [] l w = omega arith
 never_to_zero g R u (a ∷ p) l w = never_to_zero g R (arc_of g a).head p (R.ends a w.0).1.0 w.2
 
@@ -44,8 +44,8 @@ module _ {V : Type 0} (A : Algebra V) (N : Network) where
       let k = sum_add (λ b. one_if (is_message ((step A N c e).token b) && not (is_message (c.token b)))) (λ b. sent_on A N b (step A N c e) es) (suc N.arcs) in
       omega (arith, h, k)
 
-module _ {V : Type 0} (A : Algebra V) (g : Roads) (s : ℕ) where
-  arc_sends : IsLawful A → IsRoads g → 1 ≤ s → (walks : ℕ → List (List ℕ)) → ((v : ℕ) → HasSimpleWalks g s v (walks v)) → (es : List Event) (b : ℕ) →
+module _ {V : Type 0} (A : Algebra V) (g : GraphData) (s : ℕ) where
+  arc_sends : IsLawful A → IsGraph g → 1 ≤ s → (walks : ℕ → List (List ℕ)) → ((v : ℕ) → HasSimpleWalks g s v (walks v)) → (es : List Event) (b : ℕ) →
       sent_on A (network g s) (suc b) (opening A (network g s)) es ≤ length (walks (arc_of g (suc b)).tail)
   arc_sends L R l walks H es b =
       let p = sends_at_most A (network g s) L (well_formed g s R l) es (suc b) in
@@ -53,14 +53,14 @@ module _ {V : Type 0} (A : Algebra V) (g : Roads) (s : ℕ) where
       let e = ap (λ v. length (walks v)) (tail-arc g (suc b) (omega arith)) in
       omega (arith, p, q, e)
 
-  entry_sends : IsLawful A → IsRoads g → 1 ≤ s → (es : List Event) → sent_on A (network g s) 0 (opening A (network g s)) es ≤ 0
+  entry_sends : IsLawful A → IsGraph g → 1 ≤ s → (es : List Event) → sent_on A (network g s) 0 (opening A (network g s)) es ≤ 0
   entry_sends L R l es =
       let p = sends_at_most A (network g s) L (well_formed g s R l) es 0 in
       let q = changes_at_most A g s L R l ((network g s).tail 0) [] (λ w h. absurd (never_to_zero g R s w l (subst (λ v. IsWalk g s w v) (tail-entry g) h.0))) es in
       omega (arith, p, q)
 
   -- for any lists that have the simple walks
-  pub sent_by : IsLawful A → IsRoads g → 1 ≤ s → (walks : ℕ → List (List ℕ)) → ((v : ℕ) → HasSimpleWalks g s v (walks v)) → (es : List Event) →
+  pub sent_by : IsLawful A → IsGraph g → 1 ≤ s → (walks : ℕ → List (List ℕ)) → ((v : ℕ) → HasSimpleWalks g s v (walks v)) → (es : List Event) →
       sent_total A (network g s) (opening A (network g s)) es ≤ sum_below (λ b. length (walks (arc_of g (suc b)).tail)) (length g.arcs)
   sent_by L R l walks H es =
       let a = sent_by_arc A (network g s) (opening A (network g s)) es in
@@ -69,13 +69,13 @@ module _ {V : Type 0} (A : Algebra V) (g : Roads) (s : ℕ) where
       let m = sum_most (λ b. sent_on A (network g s) (suc b) (opening A (network g s)) es) (λ b. length (walks (arc_of g (suc b)).tail)) (length g.arcs) (λ b. arc_sends L R l walks H es b) in
       omega (arith, a, f, z, m)
 
-  pub few_changes : IsLawful A → IsRoads g → HasVertex g s → (es : List Event) (v : ℕ) → label_changes A (network g s) v (opening A (network g s)) es ≤ length (simple_walks g s v)
+  pub few_changes : IsLawful A → IsGraph g → HasVertex g s → (es : List Event) (v : ℕ) → label_changes A (network g s) v (opening A (network g s)) es ≤ length (simple_walks g s v)
   few_changes L R S es v = changes_at_most A g s L R S.0 v (simple_walks g s v) (has_simple_walks g R s v S) es
 
-  pub few_messages : IsLawful A → IsRoads g → HasVertex g s → (es : List Event) → (totals_of A (network g s) es).sent ≤ message_bound g s
+  pub few_messages : IsLawful A → IsGraph g → HasVertex g s → (es : List Event) → (totals_of A (network g s) es).sent ≤ message_bound g s
   few_messages L R S es = let h = sent_by L R S.0 (λ v. simple_walks g s v) (λ v. has_simple_walks g R s v S) es in omega (arith, h)
 
-  pub few_events : IsLawful A → IsRoads g → HasVertex g s → (es : List Event) → count_enabled A (network g s) (opening A (network g s)) es ≤ 2 * message_bound g s
+  pub few_events : IsLawful A → IsGraph g → HasVertex g s → (es : List Event) → count_enabled A (network g s) (opening A (network g s)) es ≤ 2 * message_bound g s
   few_events L R S es =
       let t = enabled_total A (network g s) (opening A (network g s)) es in
       let n = never_more A (network g s) L (well_formed g s R S.0) es in

@@ -2,39 +2,39 @@
 use Rattle.std.proofs.Common.{◌≡◌, ◌≢◌, ℕ, zero, suc, ◌-◌, ◌<◌, ◌≤◌, List, length, get_or, subst, refl, sym, ap, ◌∙◌, inl, inr, arith}
 use Rattle.std.proofs.lemmas.Bool.{cases_eq, cases_lt}
 use Rattle.std.proofs.lemmas.List.{get_or_past, get_or_default}
-use Rattle.road_graph.specs.Roads.{Roads, IsRoads, HasArc, arc_of, ListsArcsFrom}
+use Rattle.road_graph.specs.GraphData.{GraphData, IsGraph, HasArc, arc_of, ListsArcsFrom}
 use Rattle.road_graph.proofs.Rising.{rises}
 use Rattle.scholten_core.specs.CoreView.{CoreView, network_of}
 use Rattle.scholten_core.specs.Network.{Network, WellFormed, network, tail_of, head_of, weight_of}
 
-pub tail-arc : (g : Roads) (b : ℕ) → 1 ≤ b → tail_of g b ≡ (arc_of g b).tail
+pub tail-arc : (g : GraphData) (b : ℕ) → 1 ≤ b → tail_of g b ≡ (arc_of g b).tail
 unfolding tail_of
 tail-arc g zero l = absurd (omega arith)
 tail-arc g (suc b) l = refl
 
-pub head-arc : (g : Roads) (s b : ℕ) → 1 ≤ b → head_of g s b ≡ (arc_of g b).head
+pub head-arc : (g : GraphData) (s b : ℕ) → 1 ≤ b → head_of g s b ≡ (arc_of g b).head
 unfolding head_of
 head-arc g s zero l = absurd (omega arith)
 head-arc g s (suc b) l = refl
 
-pub weight-arc : (g : Roads) (b : ℕ) → 1 ≤ b → weight_of g b ≡ (arc_of g b).weight
+pub weight-arc : (g : GraphData) (b : ℕ) → 1 ≤ b → weight_of g b ≡ (arc_of g b).weight
 unfolding weight_of
 weight-arc g zero l = absurd (omega arith)
 weight-arc g (suc b) l = refl
 
-pub tail-entry : (g : Roads) → tail_of g 0 ≡ 0
+pub tail-entry : (g : GraphData) → tail_of g 0 ≡ 0
 unfolding tail_of
 tail-entry g = refl
 
-pub head-entry : (g : Roads) (s : ℕ) → head_of g s 0 ≡ s
+pub head-entry : (g : GraphData) (s : ℕ) → head_of g s 0 ≡ s
 unfolding head_of
 head-entry g s = refl
 
-tail-past : (g : Roads) (b : ℕ) → length g.arcs < b → (arc_of g b).tail ≡ 0
+tail-past : (g : GraphData) (b : ℕ) → length g.arcs < b → (arc_of g b).tail ≡ 0
 tail-past g b l = λ i. (get_or_past g.arcs (b - 1) (record { tail = 0; head = 0; weight = 0 }) (omega (arith, l)) i).tail
 
 -- an arc that leaves a vertex is one of the graph's
-pub real_arc : (g : Roads) (b : ℕ) → tail_of g b ≢ 0 → HasArc g b
+pub real_arc : (g : GraphData) (b : ℕ) → tail_of g b ≢ 0 → HasArc g b
 real_arc g b n = elim (cases_eq b 0) [
   | inl e ↦ absurd (n (ap (tail_of g) e ∙ tail-entry g))
   | inr z ↦ elim (cases_lt (length g.arcs) b) [
@@ -43,7 +43,7 @@ real_arc g b n = elim (cases_eq b 0) [
   ]
 ]
 
-pub well_formed : (g : Roads) (s : ℕ) → IsRoads g → 1 ≤ s → WellFormed (network g s)
+pub well_formed : (g : GraphData) (s : ℕ) → IsGraph g → 1 ≤ s → WellFormed (network g s)
 well_formed g s R l = record {
   source_in = λ e. omega arith;
   tail_zero = tail-entry g;
@@ -61,7 +61,7 @@ pub record OutOf (N : Network) (v : ℕ) (xs : List ℕ) : Type 0 where
   pub all : (b : ℕ) → N.tail b ≡ v → (j : ℕ) × (j < length xs) × (get_or xs j 0 ≡ b)
   pub apart : (j k : ℕ) → j < k → k < length xs → get_or xs j 0 ≢ get_or xs k 0
 
-pub out_of : (g : Roads) (s v : ℕ) (xs : List ℕ) → 1 ≤ v → ListsArcsFrom g v xs → OutOf (network g s) v xs
+pub out_of : (g : GraphData) (s v : ℕ) (xs : List ℕ) → 1 ≤ v → ListsArcsFrom g v xs → OutOf (network g s) v xs
 out_of g s v xs l o =
     let leads = λ (j : ℕ) (h : j < length xs). (o.complete (get_or xs j 0)).0 (j, h, get_or_default xs j (get_or xs j 0) 0 h) in
     record {

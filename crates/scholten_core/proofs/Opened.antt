@@ -2,13 +2,13 @@
 use Rattle.std.proofs.Common.{◌≡◌, ℕ, ◌+◌, false, Option, None, List, [], length, get_or, set, replicate, sym, ap, ◌∙◌, subst, inl, inr, arith, length-set, get_or-set_same, get_or-set_other}
 use Rattle.std.proofs.lemmas.Bool.{cases_lt}
 use Rattle.std.proofs.lemmas.List.{get_or_past, get_or-replicate, length-replicate}
-use Rattle.road_graph.specs.Roads.{Roads, IsRoads, HasVertex}
+use Rattle.road_graph.specs.GraphData.{GraphData, IsGraph, HasVertex}
 use Rattle.path_algebra.specs.Algebra.{Algebra}
 use Rattle.scholten_core.specs.declared.token.Token.{Token}
 use Rattle.scholten_core.specs.declared.token.Token.TheVariants.{Idle, Message}
 use Rattle.scholten_core.specs.Network.{Network, network}
 use Rattle.scholten_core.specs.Diffusion.{CoreState, opening, put, is_idle}
-use Rattle.scholten_core.specs.CoreView.{CoreView, state_of, network_of, IsCounted, IsSized, IsRun}
+use Rattle.scholten_core.specs.CoreView.{CoreView, state_of, network_of, AreDeficits, AreTablesSized, IsRun}
 use Rattle.scholten_core.specs.Question.{network_in, IsQuestion}
 use Rattle.scholten_core.proofs.Networks.{tail-entry}
 use Rattle.scholten_core.proofs.Written.{put_set}
@@ -49,7 +49,7 @@ opened_state {V = V} A N labels engagers first tokens told n m l e k s d =
 pub opened_sized : {S V : Type 0} (t : CoreView S V) (first : List (Token V)) (m : Token V) (zeros : List ℕ) → IsQuestion t.question →
     t.labels ≡ replicate (t.question.roads.vertices + 1) None → t.engagers ≡ replicate (t.question.roads.vertices + 1) None →
     first ≡ replicate (length t.question.roads.arcs + 1) Idle → t.tokens ≡ set first 0 m → is_idle m ≡ false → t.told ≡ replicate (length t.question.roads.arcs + 1) None →
-    zeros ≡ replicate (t.question.roads.vertices + 1) 0 → t.deficits ≡ set zeros 0 1 → IsSized t
+    zeros ≡ replicate (t.question.roads.vertices + 1) 0 → t.deficits ≡ set zeros 0 1 → AreTablesSized t
 opened_sized {V = V} t first m zeros Q l e k s b d z y =
     let long = ap length k ∙ length-replicate {A = Token V} (length t.question.roads.arcs + 1) Idle in
     let wide = ap length z ∙ length-replicate (t.question.roads.vertices + 1) 0 in
@@ -63,7 +63,7 @@ opened_sized {V = V} t first m zeros Q l e k s b d z y =
       tokens = ap length s ∙ length-set first 0 m ∙ long;
       told = ap length d ∙ length-replicate _ _;
       deficits = ap length y ∙ length-set zeros 0 1 ∙ wide;
-      counted = subst (λ xs. IsCounted (network_of t) t.question.roads.vertices xs (state_of t)) (ap (λ u. set zeros u 1) entry ∙ sym y)
+      counted = subst (λ xs. AreDeficits (network_of t) t.question.roads.vertices xs (state_of t)) (ap (λ u. set zeros u 1) entry ∙ sym y)
           (counted_more (network_of t) t.question.roads.vertices zeros 0 1 (state_at t.labels t.engagers first t.told) (state_of t) (omega arith)
           (λ j n. ap (λ xs. get_or xs j Idle) s ∙ get_or-set_other first 0 j m Idle n)
           (ap is_idle (idle 0))
@@ -74,8 +74,8 @@ opened_sized {V = V} t first m zeros Q l e k s b d z y =
           ∙ sym (idle_counted (network_of t) v (state_at t.labels t.engagers first t.told) idle)));
     }
 
-pub opened_run : {S V : Type 0} (meaning : S → Algebra V) (t : CoreView S V) (a : S) (g : Roads) (s : ℕ) → t.question ≡ record { algebra = a; roads = g; source = s } →
-    IsRoads g → HasVertex g s → state_of t ≡ opening (meaning a) (network g s) → IsRun meaning t
+pub opened_run : {S V : Type 0} (meaning : S → Algebra V) (t : CoreView S V) (a : S) (g : GraphData) (s : ℕ) → t.question ≡ record { algebra = a; roads = g; source = s } →
+    IsGraph g → HasVertex g s → state_of t ≡ opening (meaning a) (network g s) → IsRun meaning t
 opened_run meaning t a g s p R v e = record {
   question = subst IsQuestion (sym p) (record { roads = R; source = v });
   reached = ([], e ∙ (λ i. opening (meaning (sym p i).algebra) (network_in (sym p i))));

@@ -1,7 +1,7 @@
 -- Every schedule that goes on making enabled events ends its question.
 use Rattle.std.proofs.Common.{◌≡◌, ℕ, zero, suc, ◌+◌, ◌*◌, ◌-◌, ◌≤◌, true, false, List, [], ◌∷◌, ◌++◌, ◌⊎◌, refl, sym, ap, ◌∙◌, inl, inr, arith}
 use Rattle.std.proofs.lemmas.Bool.{cases_eq, cases_Bool, false≢true}
-use Rattle.road_graph.specs.Roads.{Roads, IsRoads, HasVertex}
+use Rattle.road_graph.specs.GraphData.{GraphData, IsGraph, HasVertex}
 use Rattle.path_algebra.specs.Algebra.{Algebra, IsLawful}
 use Rattle.scholten_core.specs.declared.token.Token.{Token}
 use Rattle.scholten_core.specs.declared.token.Token.TheVariants.{Idle, Message, Held, Signal}
@@ -124,12 +124,12 @@ module _ {V : Type 0} (A : Algebra V) (N : Network) where
         made_by_then event n (m.0 - n) e.0 e.1 (ap event there ∙ m.2))
   ]
 
-module _ {V : Type 0} (A : Algebra V) (g : Roads) (s : ℕ) where
-  pub busy_schedule_ends : IsLawful A → IsRoads g → HasVertex g s → (event : ℕ → Event) → IsBusySchedule A (network g s) event → HasEnded (state_at A (network g s) event (2 * message_bound g s))
+module _ {V : Type 0} (A : Algebra V) (g : GraphData) (s : ℕ) where
+  pub busy_schedule_ends : IsLawful A → IsGraph g → HasVertex g s → (event : ℕ → Event) → IsBusySchedule A (network g s) event → HasEnded (state_at A (network g s) event (2 * message_bound g s))
   busy_schedule_ends L R S event B = ends_at A (network g s) L (well_formed g s R S.0) (2 * message_bound g s) (λ es. few_events A g s L R S es) event B
 
-  pub going_schedule_ends : IsLawful A → IsRoads g → HasVertex g s → (event : ℕ → Event) → KeepsGoing A (network g s) event → (m : ℕ) × HasEnded (state_at A (network g s) event m)
+  pub going_schedule_ends : IsLawful A → IsGraph g → HasVertex g s → (event : ℕ → Event) → KeepsGoing A (network g s) event → (m : ℕ) × HasEnded (state_at A (network g s) event m)
   going_schedule_ends L R S event F = ends_after A (network g s) (2 * message_bound g s) (λ es. few_events A g s L R S es) event F (2 * message_bound g s) 0 (omega arith)
 
-  pub fair_schedule_ends : IsLawful A → IsRoads g → HasVertex g s → (event : ℕ → Event) → IsFairSchedule A (network g s) event → (m : ℕ) × HasEnded (state_at A (network g s) event m)
+  pub fair_schedule_ends : IsLawful A → IsGraph g → HasVertex g s → (event : ℕ → Event) → IsFairSchedule A (network g s) event → (m : ℕ) × HasEnded (state_at A (network g s) event m)
   fair_schedule_ends L R S event F = going_schedule_ends L R S event (fair_goes A (network g s) L (well_formed g s R S.0) event F)

@@ -1,6 +1,6 @@
 -- The walks of a network are the walks of its graph, with the same values.
 use Rattle.std.proofs.Common.{◌≡◌, ℕ, ◌<◌, Option, Some, None, List, [], ◌∷◌, refl, sym, ap, ◌∙◌, subst, arith}
-use Rattle.road_graph.specs.Roads.{Roads, IsRoads, arc_of}
+use Rattle.road_graph.specs.GraphData.{GraphData, IsGraph, arc_of}
 use Rattle.road_graph.proofs.Lists.{only_element}
 use Rattle.path_algebra.specs.Algebra.{Algebra}
 use Rattle.path_algebra.specs.Walks.{IsWalk, Extends, IsWalkValue}
@@ -8,14 +8,14 @@ use Rattle.scholten_core.specs.Network.{network}
 use Rattle.scholten_core.proofs.Networks.{tail-arc, head-arc, weight-arc, real_arc}
 use Rattle.scholten_core.proofs.Walks.{Walk, along, along-none, IsValueAt}
 
-module _ {V : Type 0} (A : Algebra V) (g : Roads) (s : ℕ) where
+module _ {V : Type 0} (A : Algebra V) (g : GraphData) (s : ℕ) where
   walk_of_graph : (u : ℕ) (p : List ℕ) (v : ℕ) → Walk A (network g s) u p v → IsWalk g u p v
   walk_of_graph u [] v w = w
   walk_of_graph u (a ∷ p) v w =
       let r = real_arc g a w.0 in
       (r, sym (tail-arc g a r.0) ∙ w.1, walk_of_graph (arc_of g a).head p v (subst (λ h. Walk A (network g s) h p v) (head-arc g s a r.0) w.2))
 
-  walk_of_network : IsRoads g → (u : ℕ) (p : List ℕ) (v : ℕ) → IsWalk g u p v → Walk A (network g s) u p v
+  walk_of_network : IsGraph g → (u : ℕ) (p : List ℕ) (v : ℕ) → IsWalk g u p v → Walk A (network g s) u p v
   walk_of_network R u [] v w = w
   walk_of_network R u (a ∷ p) v w = (
     (λ z. let low = (R.ends a w.0).0.0 in let q = tail-arc g a w.0.0 in omega (arith, low, q, z)),
@@ -42,7 +42,7 @@ module _ {V : Type 0} (A : Algebra V) (g : Roads) (s : ℕ) where
       let w = walk_of_graph s h.0 v h.1 in
       (h.0, (s, (0, (let l : 0 < 1 = omega arith in l), refl), w), extends_along s h.0 v A.origin x w h.2)
 
-  pub value_in_network : IsRoads g → (v : ℕ) (x : V) → IsWalkValue A g (s ∷ []) v x → IsValueAt A (network g s) v x
+  pub value_in_network : IsGraph g → (v : ℕ) (x : V) → IsWalkValue A g (s ∷ []) v x → IsValueAt A (network g s) v x
   value_in_network R v x h =
       let w : IsWalk g s h.0 v = subst (λ u. IsWalk g u h.0 v) (sym (only_element s h.1.0 h.1.1)) h.1.2 in
       (h.0, walk_of_network R s h.0 v w, along_extends s h.0 v A.origin x w h.2)

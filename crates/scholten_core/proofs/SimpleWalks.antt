@@ -1,7 +1,7 @@
 -- The trails of a network are the walks of its graph that pass no vertex twice.
 use Rattle.std.proofs.Common.{◌≡◌, ℕ, ◌≤◌, Option, Some, List, [], ◌∷◌, ◌++◌, refl, sym, ap, ◌∙◌, subst, inl, inr, arith, Contains}
 use Rattle.std.proofs.lemmas.List.Elements.{Contains-push_cases}
-use Rattle.road_graph.specs.Roads.{Roads, IsRoads, arc_of}
+use Rattle.road_graph.specs.GraphData.{GraphData, IsGraph, arc_of}
 use Rattle.road_graph.proofs.Lists.{not_in_empty, here, later, only_element}
 use Rattle.path_algebra.specs.Algebra.{Algebra, IsLawful}
 use Rattle.path_algebra.specs.Walks.{IsWalk, Extends}
@@ -19,7 +19,7 @@ forward : List ℕ → List ℕ
 forward [] = []
 forward (a ∷ p) = forward p ++ a ∷ []
 
-vertices_of-snoc : (g : Roads) (u : ℕ) (p : List ℕ) (a : ℕ) → vertices_of g u (p ++ a ∷ []) ≡ vertices_of g u p ++ (arc_of g a).head ∷ []
+vertices_of-snoc : (g : GraphData) (u : ℕ) (p : List ℕ) (a : ℕ) → vertices_of g u (p ++ a ∷ []) ≡ vertices_of g u p ++ (arc_of g a).head ∷ []
 vertices_of-snoc g u [] a = refl
 vertices_of-snoc g u (b ∷ p) a = ap (λ us. u ∷ us) (vertices_of-snoc g (arc_of g b).head p a)
 
@@ -30,7 +30,7 @@ distinct-snoc (u ∷ us) v d n = (
   distinct-snoc us v d.1 (λ l. n (later u v us l)),
 )
 
-module _ {V : Type 0} (A : Algebra V) (g : Roads) (s : ℕ) where
+module _ {V : Type 0} (A : Algebra V) (g : GraphData) (s : ℕ) where
   KeepsUp-snoc : (label : ℕ → Option V) (u : ℕ) (x : V) (p : List ℕ) (y : V) (a : ℕ) → Extends A g x p y → KeepsUp A g label u x p →
       ((z : V) → A.extend y (arc_of g a).weight ≡ Some z → HasAtMost A label (arc_of g a).head z) → KeepsUp A g label u x (p ++ a ∷ [])
   KeepsUp-snoc label u x [] y a e k m = (k, λ z f. m z (ap (λ w. A.extend w (arc_of g a).weight) (sym e) ∙ f))
@@ -89,12 +89,12 @@ module _ {V : Type 0} (A : Algebra V) (g : Roads) (s : ℕ) where
     kept_up = trail_keeps_up label p v x t;
   }
 
-  pub labels_are_simple : IsLawful A → IsRoads g → 1 ≤ s → (es : List Event) → LabelsAreSimpleWalkValues A g s (state_after A (network g s) es)
+  pub labels_are_simple : IsLawful A → IsGraph g → 1 ≤ s → (es : List Event) → LabelsAreSimpleWalkValues A g s (state_after A (network g s) es)
   labels_are_simple L R l es v x q =
       let t = (reached_trails A (network g s) L (well_formed g s R l) es).label v x q in
       simple_value (state_after A (network g s) es).label t.0 v x t.1
 
-  pub messages_are_simple : IsLawful A → IsRoads g → 1 ≤ s → (es : List Event) → MessagesExtendSimpleWalks A g s (state_after A (network g s) es)
+  pub messages_are_simple : IsLawful A → IsGraph g → 1 ≤ s → (es : List Event) → MessagesExtendSimpleWalks A g s (state_after A (network g s) es)
   messages_are_simple L R l es b x h q =
       let t = (reached_trails A (network g s) L (well_formed g s R l) es).message b x (λ z. let low = h.0 in omega arith) q in (
         t.1,

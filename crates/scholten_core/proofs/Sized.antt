@@ -4,12 +4,12 @@ use Rattle.scholten_core.specs.declared.token.Token.{Token}
 use Rattle.scholten_core.specs.declared.token.Token.TheVariants.{Idle, Held}
 use Rattle.scholten_core.specs.Diffusion.{is_idle}
 use Rattle.scholten_core.specs.Deficit.{deficit}
-use Rattle.scholten_core.specs.CoreView.{CoreView, state_of, network_of, IsSized}
+use Rattle.scholten_core.specs.CoreView.{CoreView, state_of, network_of, AreTablesSized}
 use Rattle.scholten_core.proofs.Written.{busy_within, reads}
 use Rattle.scholten_core.proofs.Counted.{counted_same, counted_more, counted_less, deficit_least, deficit_most}
 
 -- a token that is not idle stands on one of the arcs
-pub busy_arc : {S V : Type 0} (t : CoreView S V) (a : ℕ) → IsSized t → is_idle ((state_of t).token a) ≡ false → a < suc (network_of t).arcs
+pub busy_arc : {S V : Type 0} (t : CoreView S V) (a : ℕ) → AreTablesSized t → is_idle ((state_of t).token a) ≡ false → a < suc (network_of t).arcs
 busy_arc t a z b = let l = busy_within t.tokens a b in let n = z.tokens in omega (arith, l, n)
 
 -- what a caller knows of the view holds of the tables
@@ -38,9 +38,9 @@ token_here : {V : Type 0} (ts : List (Token V)) (i a : ℕ) (x : Token V) → i 
 token_here ts i a x p l = ap (λ k. get_or (set ts k x) a Idle) p ∙ get_or-set_same ts a x Idle l
 
 -- a busy arc stays busy, whatever else is written
-pub still_sized : {S V : Type 0} (t : CoreView S V) (labels told : List (Option V)) (engagers : List (Option ℕ)) (a i : ℕ) (x : Token V) → IsSized t → i ≡ a →
+pub still_sized : {S V : Type 0} (t : CoreView S V) (labels told : List (Option V)) (engagers : List (Option ℕ)) (a i : ℕ) (x : Token V) → AreTablesSized t → i ≡ a →
     is_idle ((state_of t).token a) ≡ false → is_idle x ≡ false → length labels ≡ length t.labels → length engagers ≡ length t.engagers → length told ≡ length t.told →
-    IsSized (record t { labels = labels; engagers = engagers; tokens = set t.tokens i x; told = told })
+    AreTablesSized (record t { labels = labels; engagers = engagers; tokens = set t.tokens i x; told = told })
 still_sized t labels told engagers a i x z p b n l e d =
     let w = busy_arc t a z b in
     record {
@@ -56,7 +56,7 @@ still_sized t labels told engagers a i x z p b n l e d =
     }
 
 -- then the counter of its tail is not 0
-pub freed_least : {S V : Type 0} (t : CoreView S V) (a v j y : ℕ) → IsSized t → j ≡ v → v ≡ (network_of t).tail a → v ≤ t.question.roads.vertices → is_idle ((state_of t).token a) ≡ false →
+pub freed_least : {S V : Type 0} (t : CoreView S V) (a v j y : ℕ) → AreTablesSized t → j ≡ v → v ≡ (network_of t).tail a → v ≤ t.question.roads.vertices → is_idle ((state_of t).token a) ≡ false →
     y ≡ get_or t.deficits j y → 1 ≤ y
 freed_least t a v j y z q h m b r =
     let least : 1 ≤ deficit (network_of t) ((network_of t).tail a) (state_of t) = deficit_least (network_of t) a (state_of t) (busy_arc t a z b) b in
@@ -66,7 +66,7 @@ freed_least t a v j y z q h m b r =
     let read = reads t.deficits j v y q (omega (arith, m, long)) r in omega (arith, k, d, least, read)
 
 -- and every counter is small
-pub counter_most : {S V : Type 0} (t : CoreView S V) (v j y : ℕ) → IsSized t → j ≡ v → v ≤ t.question.roads.vertices → y ≡ get_or t.deficits j y → y < 2 ^ 31
+pub counter_most : {S V : Type 0} (t : CoreView S V) (v j y : ℕ) → AreTablesSized t → j ≡ v → v ≤ t.question.roads.vertices → y ≡ get_or t.deficits j y → y < 2 ^ 31
 counter_most t v j y z q m r =
     let most = deficit_most (network_of t) v (state_of t) in
     let k = z.counted v m in
@@ -75,8 +75,8 @@ counter_most t v j y z q m r =
     let read = reads t.deficits j v y q (omega (arith, m, long)) r in omega (arith, k, most, few, read)
 
 -- a busy arc becomes idle
-pub freed_sized : {S V : Type 0} (t : CoreView S V) (a i v j x y : ℕ) → IsSized t → i ≡ a → j ≡ v → v ≡ (network_of t).tail a → v ≤ t.question.roads.vertices →
-    is_idle ((state_of t).token a) ≡ false → y ≡ get_or t.deficits j y → x ≡ y - 1 → IsSized (record t { tokens = set t.tokens i Idle; deficits = set t.deficits j x })
+pub freed_sized : {S V : Type 0} (t : CoreView S V) (a i v j x y : ℕ) → AreTablesSized t → i ≡ a → j ≡ v → v ≡ (network_of t).tail a → v ≤ t.question.roads.vertices →
+    is_idle ((state_of t).token a) ≡ false → y ≡ get_or t.deficits j y → x ≡ y - 1 → AreTablesSized (record t { tokens = set t.tokens i Idle; deficits = set t.deficits j x })
 freed_sized t a i v j x y z p q h m b r e =
     let w = busy_arc t a z b in
     let least : 1 ≤ deficit (network_of t) ((network_of t).tail a) (state_of t) = deficit_least (network_of t) a (state_of t) w b in
@@ -98,10 +98,10 @@ freed_sized t a i v j x y z p q h m b r e =
     }
 
 -- an idle arc out of v gets a message, and is told
-pub sent_sized : {S V : Type 0} (t : CoreView S V) (a i i2 v j x y : ℕ) (token : Token V) (label : Option V) → IsSized t → i ≡ a → j ≡ v
+pub sent_sized : {S V : Type 0} (t : CoreView S V) (a i i2 v j x y : ℕ) (token : Token V) (label : Option V) → AreTablesSized t → i ≡ a → j ≡ v
     → (network_of t).tail a ≡ v → v ≤ t.question.roads.vertices → a ≤ length t.question.roads.arcs →
     is_idle ((state_of t).token a) ≡ true → is_idle token ≡ false → y ≡ get_or t.deficits j y → x ≡ y + 1
-    → IsSized (record t { tokens = set t.tokens i token; told = set t.told i2 label; deficits = set t.deficits j x })
+    → AreTablesSized (record t { tokens = set t.tokens i token; told = set t.told i2 label; deficits = set t.deficits j x })
 sent_sized t a i i2 v j x y token label z p q h m w b n r e =
     let long = z.deficits in
     let wide = z.tokens in
@@ -121,16 +121,16 @@ sent_sized t a i i2 v j x y token label z p q h m w b n r e =
     }
 
 -- places in the tables
-pub label_place : {S V : Type 0} (t old : CoreView S V) (v : ℕ) → t ≡ old → IsSized t → v ≤ old.question.roads.vertices → v < length t.labels
+pub label_place : {S V : Type 0} (t old : CoreView S V) (v : ℕ) → t ≡ old → AreTablesSized t → v ≤ old.question.roads.vertices → v < length t.labels
 label_place t old v e z h = let m = vertex_seen t old v e h in let l = z.labels in omega (arith, m, l)
 
-pub engager_place : {S V : Type 0} (t old : CoreView S V) (v : ℕ) → t ≡ old → IsSized t → v ≤ old.question.roads.vertices → v < length t.engagers
+pub engager_place : {S V : Type 0} (t old : CoreView S V) (v : ℕ) → t ≡ old → AreTablesSized t → v ≤ old.question.roads.vertices → v < length t.engagers
 engager_place t old v e z h = let m = vertex_seen t old v e h in let l = z.engagers in omega (arith, m, l)
 
-pub token_place : {S V : Type 0} (t old : CoreView S V) (a : ℕ) → t ≡ old → IsSized t → a ≤ length old.question.roads.arcs → a < length t.tokens
+pub token_place : {S V : Type 0} (t old : CoreView S V) (a : ℕ) → t ≡ old → AreTablesSized t → a ≤ length old.question.roads.arcs → a < length t.tokens
 token_place t old a e z h = let m = arc_seen t old a e h in let l = z.tokens in omega (arith, m, l)
 
-pub told_place : {S V : Type 0} (t old : CoreView S V) (a : ℕ) → t ≡ old → IsSized t → a ≤ length old.question.roads.arcs → a < length t.told
+pub told_place : {S V : Type 0} (t old : CoreView S V) (a : ℕ) → t ≡ old → AreTablesSized t → a ≤ length old.question.roads.arcs → a < length t.told
 told_place t old a e z h = let m = arc_seen t old a e h in let l = z.told in omega (arith, m, l)
 
 pub held_place : {S V : Type 0} (t old : CoreView S V) (e i : ℕ) → t ≡ old → i ≡ e → (state_of old).token e ≡ Held → i < length t.tokens

@@ -1,6 +1,6 @@
 -- What a list of events sends, delivers, signals and accepts.
 use Rattle.std.specs.Prelude.{◌≡◌, ◌↔◌, ℕ, suc, ◌+◌, Bool, false, not, ◌&&◌, IsTrue, List, [], ◌∷◌, length}
-use Rattle.road_graph.specs.Roads.{Roads, HasArc, arc_of}
+use Rattle.road_graph.specs.GraphData.{GraphData, HasArc, arc_of}
 use Rattle.scholten_core.specs.declared.event.Event.{Event}
 use Rattle.scholten_core.specs.declared.event.Event.TheVariants.{Deliver, Accept}
 use Rattle.path_algebra.specs.Algebra.{Algebra}
@@ -72,10 +72,10 @@ totals_of A N events = record {
 abbrev pub AreEqualTotals : Totals → Type 0
 AreEqualTotals t = (t.sent ≡ t.delivered) × (t.delivered ≡ t.signalled) × (t.signalled ≡ t.accepted)
 
--- the marks stand at just those arcs whose tail some walk reaches
-abbrev pub AreMarksOfReached : {V : Type 0} → Algebra V → Roads → ℕ → (ℕ → Bool) → Type 0
+-- exactly those arcs are marked whose tail some walk reaches
+abbrev pub AreMarksOfReached : {V : Type 0} → Algebra V → GraphData → ℕ → (ℕ → Bool) → Type 0
 AreMarksOfReached {V} A g s marked = (a : ℕ) → HasArc g a → IsTrue (marked a) ↔ ((x : V) × IsWalkValue A g (s ∷ []) (arc_of g a).tail x)
 
 -- how many arcs have a mark
-abbrev pub count_marked : Roads → (ℕ → Bool) → ℕ
+abbrev pub count_marked : GraphData → (ℕ → Bool) → ℕ
 count_marked g marked = sum_below (λ b. one_if (marked (suc b))) (length g.arcs)

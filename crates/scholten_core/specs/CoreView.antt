@@ -1,4 +1,4 @@
--- What a core is seen as: its question and its tables. A place for the environment, and for arc 0, stands in front.
+-- What a core is seen as: its question and its tables. Each table begins with a place for the environment or for arc 0.
 use Rattle.std.specs.Prelude.{◌≡◌, ℕ, ◌+◌, ◌≤◌, List, length, slice_index_or, Option, None}
 use Rattle.path_algebra.specs.Algebra.{Algebra}
 use Rattle.scholten_core.specs.declared.token.Token.{Token}
@@ -32,20 +32,20 @@ abbrev pub network_of : {S V : Type 0} → CoreView S V → Network
 network_of t = network_in t.question
 
 -- the counters say how many arcs out of each vertex are busy
-abbrev pub IsCounted : {V : Type 0} → Network → ℕ → List ℕ → CoreState V → Type 0
-IsCounted N n deficits c = (v : ℕ) → v ≤ n → slice_index_or deficits v 0 ≡ deficit N v c
+abbrev pub AreDeficits : {V : Type 0} → Network → ℕ → List ℕ → CoreState V → Type 0
+AreDeficits N n deficits c = (v : ℕ) → v ≤ n → slice_index_or deficits v 0 ≡ deficit N v c
 
 -- the tables have a place for each vertex and each arc
-pub record IsSized {S V : Type 0} (t : CoreView S V) : Type 0 where
+pub record AreTablesSized {S V : Type 0} (t : CoreView S V) : Type 0 where
   pub question : IsQuestion t.question
   pub labels : length t.labels ≡ t.question.roads.vertices + 1
   pub engagers : length t.engagers ≡ t.question.roads.vertices + 1
   pub tokens : length t.tokens ≡ length t.question.roads.arcs + 1
   pub told : length t.told ≡ length t.question.roads.arcs + 1
   pub deficits : length t.deficits ≡ t.question.roads.vertices + 1
-  pub counted : IsCounted (network_of t) t.question.roads.vertices t.deficits (state_of t)
+  pub counted : AreDeficits (network_of t) t.question.roads.vertices t.deficits (state_of t)
 
--- the tables show a state that some list of events leads to
+-- the tables represent a state that some list of events leads to
 pub record IsRun {S V : Type 0} (meaning : S → Algebra V) (t : CoreView S V) : Type 0 where
   pub question : IsQuestion t.question
   pub reached : IsReached (meaning t.question.algebra) t.question.roads t.question.source (state_of t)

@@ -7,35 +7,35 @@ use Rattle.scholten_core.specs.declared.event.Event.TheVariants.{Deliver, Accept
 use Rattle.path_algebra.specs.Algebra.{Algebra}
 use Rattle.scholten_core.specs.Network.{Network}
 
--- labels and engagers by the vertex's number, tokens and told values by the arc's; a vertex without an engager is neutral
+-- labels and engagers by the vertex's number, tokens and the labels last offered by the arc's; a vertex without an engager is neutral
 pub record CoreState (V : Type 0) : Type 0 where
   pub label : ℕ → Option V
   pub engager : ℕ → Option ℕ
   pub token : ℕ → Token V
   pub told : ℕ → Option V
 
--- nothing stands on the arc
+-- nothing is on the arc
 abbrev pub is_idle : {V : Type 0} → Token V → Bool
 is_idle Idle = true
 is_idle (Message x) = false
 is_idle Held = false
 is_idle Signal = false
 
--- a message stands on the arc
+-- a message is on the arc
 abbrev pub is_message : {V : Type 0} → Token V → Bool
 is_message Idle = false
 is_message (Message x) = true
 is_message Held = false
 is_message Signal = false
 
--- a signal stands on the arc
+-- a signal is on the arc
 abbrev pub is_signal : {V : Type 0} → Token V → Bool
 is_signal Idle = false
 is_signal (Message x) = false
 is_signal Held = false
 is_signal Signal = true
 
--- a delivery is enabled where a message stands on the arc, an acceptance where a signal does
+-- a delivery is enabled if a message is on the arc, an acceptance if a signal is
 abbrev pub is_enabled : {V : Type 0} → CoreState V → Event → Bool
 is_enabled c (Deliver a) = is_message (c.token a)
 is_enabled c (Accept a) = is_signal (c.token a)
@@ -62,12 +62,12 @@ abbrev pub engaged_by : Option ℕ → ℕ → Option ℕ
 engaged_by None a = Some a
 engaged_by (Some e) a = Some e
 
--- what the message's arc then holds: a neutral vertex is engaged by it, another answers at once
+-- what the message's arc then holds: a neutral vertex is engaged by it, any other answers at once
 abbrev pub answer_to : {V : Type 0} → Option ℕ → Token V
 answer_to None = Held
 answer_to (Some e) = Signal
 
--- what is sent along an arc: nothing where the extension is refused
+-- what is sent along an arc: nothing if the extension is refused
 abbrev pub sent : {V : Type 0} → Option V → Token V
 sent None = Idle
 sent (Some y) = Message y
@@ -92,7 +92,7 @@ module _ {V : Type 0} (A : Algebra V) where
   extend_label (Some x) w = A.extend x w
 
 module _ {V : Type 0} (A : Algebra V) (N : Network) where
-  -- a message with the origin stands on arc 0, and nothing else has happened
+  -- a message with the origin is on arc 0, and nothing else has happened
   abbrev pub opening : CoreState V
   opening = record {
     label = λ _. None;
@@ -110,11 +110,11 @@ module _ {V : Type 0} (A : Algebra V) (N : Network) where
     told = c.told;
   }
 
-  -- an idle arc out of v whose told value is not the label of v
+  -- an idle arc out of v whose last offered label is not that of v
   unfoldable pub is_due : ℕ → CoreState V → ℕ → Bool
   is_due v c b = eqb (N.tail b) v && is_idle (c.token b) && not (same_label A (c.told b) (c.label v))
 
-  -- each due arc out of v gets the label of v, extended, and is told
+  -- each due arc out of v is offered the label of v, and is sent it extended
   abbrev pub pump : ℕ → CoreState V → CoreState V
   pump v c = record {
     label = c.label;
@@ -136,7 +136,7 @@ module _ {V : Type 0} (A : Algebra V) (N : Network) where
   unfoldable pub out_idle : ℕ → CoreState V → Bool
   out_idle v c = all_below (λ b. not (eqb (N.tail b) v) || is_idle (c.token b)) (suc N.arcs)
 
-  -- v, with this engager, lets go where the test holds: its engager's arc gets a signal and v is neutral
+  -- v, with this engager, becomes neutral if the test holds, and its engager's arc gets a signal
   abbrev pub released : ℕ → CoreState V → Option ℕ → Bool → CoreState V
   released v c None t = c
   released v c (Some e) false = c
@@ -147,7 +147,7 @@ module _ {V : Type 0} (A : Algebra V) (N : Network) where
     told = c.told;
   }
 
-  -- an engaged vertex with no busy arc out lets go
+  -- an engaged vertex with no busy arc out becomes neutral
   abbrev pub rest : ℕ → CoreState V → CoreState V
   rest v c = released v c (c.engager v) (out_idle v c)
 

@@ -13,7 +13,7 @@ abbrev pub item_arc : {V : Type 0} → Item V → ℕ
 item_arc (MessageOn b x) = b
 item_arc (SignalOn b) = b
 
--- the items of a list that stand on one arc
+-- the items of a list that are on one arc
 unfoldable pub at : {V : Type 0} → ℕ → List (Item V) → List (Item V)
 at b [] = []
 at b (i ∷ is) = cond (eqb (item_arc i) b) (i ∷ at b is) (at b is)
@@ -49,6 +49,6 @@ module _ {V : Type 0} (A : Algebra V) (N : Network) where
     pub all : (b : ℕ) → N.tail b ≡ v → Contains xs b
     pub only : (b : ℕ) → Contains xs b → N.tail b ≡ v
 
-  -- what an event does at one arc: nothing, or the arc's new items where it had none
+  -- what an event does at one arc: nothing, or it makes the items of an arc that had none
   abbrev pub Makes : ℕ → Token V → Token V → List (Item V) → Type 0
   Makes b t u is = ((u ≡ t) × (is ≡ [])) ⊎ ((item_of b t ≡ []) × (is ≡ item_of b u))

@@ -1,7 +1,7 @@
 -- A graph with a source, seen as functions of the arc's number.
 -- Arc 0 leads from the environment, which is vertex 0, to the source; the arcs of the graph are 1 to M.
 use Rattle.std.specs.Prelude.{◌≡◌, ◌≢◌, ℕ, zero, suc, ◌<◌, ◌≤◌, ◌^◌, length}
-use Rattle.road_graph.specs.Roads.{Roads, arc_of}
+use Rattle.road_graph.specs.GraphData.{GraphData, arc_of}
 
 -- a graph and a source, as functions of the arc's number; arc 0 leads from the environment to the source
 pub record Network : Type 0 where
@@ -21,20 +21,20 @@ pub record WellFormed (N : Network) : Type 0 where
   pub weighs : (b : ℕ) → N.tail b ≢ 0 → N.weight b < 2 ^ 32
 
 -- the vertex that an arc leaves: the environment for arc 0, and for numbers past the last arc
-unfoldable pub tail_of : Roads → ℕ → ℕ
+unfoldable pub tail_of : GraphData → ℕ → ℕ
 tail_of g zero = 0
 tail_of g (suc b) = (arc_of g (suc b)).tail
 
 -- the vertex that an arc enters
-unfoldable pub head_of : Roads → ℕ → ℕ → ℕ
+unfoldable pub head_of : GraphData → ℕ → ℕ → ℕ
 head_of g s zero = s
 head_of g s (suc b) = (arc_of g (suc b)).head
 
 -- the weight of an arc
-unfoldable pub weight_of : Roads → ℕ → ℕ
+unfoldable pub weight_of : GraphData → ℕ → ℕ
 weight_of g zero = 0
 weight_of g (suc b) = (arc_of g (suc b)).weight
 
 -- the network of a graph and a source
-abbrev pub network : Roads → ℕ → Network
+abbrev pub network : GraphData → ℕ → Network
 network g s = record { arcs = length g.arcs; source = s; tail = tail_of g; head = head_of g s; weight = weight_of g }

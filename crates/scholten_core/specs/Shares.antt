@@ -1,4 +1,4 @@
--- What of a state belongs to a shard.
+-- Which part of a state belongs to a shard.
 use Rattle.std.specs.Prelude.{◌≡◌, ℕ, Bool, true}
 use Rattle.path_algebra.specs.Algebra.{Algebra}
 use Rattle.scholten_core.specs.Network.{Network}

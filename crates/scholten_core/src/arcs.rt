@@ -1,6 +1,6 @@
 //! The arcs of a question: those of the graph, and before them the one from the environment to the source.
 ghost use Rattle.std.specs.Prelude.{◌≡◌, ◌≤◌, length};
-ghost use Rattle.road_graph.specs.Roads.{HasVertex};
+ghost use Rattle.road_graph.specs.GraphData.{HasVertex};
 ghost use Rattle.scholten_core.specs.Network.{tail_of as tail_in, head_of as head_in};
 
 use crate::laws::roads_hold;

@@ -1,6 +1,6 @@
 //! The tables of a core, and how they are read.
 ghost use Rattle.std.specs.Prelude.{◌≡◌, ℕ, ◌≤◌, ◌<◌, ◌+◌, ◌^◌, length};
-ghost use Rattle.road_graph.specs.Roads.{IsRoads, HasVertex};
+ghost use Rattle.road_graph.specs.GraphData.{IsGraph, HasVertex};
 ghost use Rattle.scholten_core.specs.Deficit.{deficit};
 ghost use Rattle.scholten_core.specs.CoreView.{state_of, network_of};
 ghost use Rattle.scholten_core.specs.Question.{IsQuestion};
@@ -15,7 +15,7 @@ use path_algebra::PathAlgebra;
 use road_graph::{ArcNo, Graph, Vertex};
 use std::marker::Model;
 
-/// The tables, with a place in front for the environment and for arc 0.
+/// The tables. Each begins with a place for the environment or for arc 0.
 #[derive(Drop)]
 pub struct CoreTables<'g, A: PathAlgebra> {
     algebra: A,
@@ -30,13 +30,13 @@ pub struct CoreTables<'g, A: PathAlgebra> {
 }
 
 impl<'g, A: PathAlgebra> Model for CoreTables<'g, A> {
-    ghost use Rattle.scholten_core.specs.CoreView.{CoreView, IsSized};
+    ghost use Rattle.scholten_core.specs.CoreView.{CoreView, AreTablesSized};
 
     ghost Value = { CoreView A A.Value };
 
     ghost view = { λ c. record { question = record { algebra = c.algebra; roads = c.graph.now; source = c.source }; labels = c.labels.items; engagers = c.engagers.items; tokens = c.tokens.items; told = c.told.items; deficits = c.deficits.items } };
 
-    ghost invariant = { λ c. IsSized (record { question = record { algebra = c.algebra; roads = c.graph.now; source = c.source }; labels = c.labels.items; engagers = c.engagers.items; tokens = c.tokens.items; told = c.told.items; deficits = c.deficits.items }) };
+    ghost invariant = { λ c. AreTablesSized (record { question = record { algebra = c.algebra; roads = c.graph.now; source = c.source }; labels = c.labels.items; engagers = c.engagers.items; tokens = c.tokens.items; told = c.told.items; deficits = c.deficits.items }) };
 }
 
 impl<'g, A: PathAlgebra> CoreTables<'g, A> {
@@ -48,7 +48,7 @@ impl<'g, A: PathAlgebra> CoreTables<'g, A> {
         self.algebra
     }
 
-    /// What stands on an arc, nothing past the last one.
+    /// What is on an arc, nothing past the last one.
     pub fn token(&self, a: ArcNo) -> Token<A::Value>
         ensures { result ≡ (state_of self.now).token a }
     {
@@ -84,7 +84,7 @@ impl<'g, A: PathAlgebra> CoreTables<'g, A> {
         self.deficits[v.0 as usize]
     }
 
-    /// What was last sent along an arc.
+    /// The label that an arc was last offered.
     fn told(&self, b: ArcNo) -> Option<A::Value>
         requires { b ≤ length self.now.question.roads.arcs }
         ensures { result ≡ (state_of self.now).told b }

@@ -1,8 +1,8 @@
-//! What is under way on an arc, as it waits in a queue.
+//! What is under way on an arc, as an entry of a queue.
 
 use road_graph::ArcNo;
 
-/// What is under way on an arc, as it stands in a queue: a message or a signal.
+/// What is under way on an arc, as an entry of a queue: a message or a signal.
 #[derive(Clone, Copy, Debug, PartialEq, Eq)]
 pub enum Item<V> {
     /// A value for the head of the arc.

@@ -1,7 +1,7 @@
 //! A fact of every graph, and theorems over every run, each the contract of a function that computes nothing: a
-//! caller calls it where its own proof needs what it promises.
+//! caller calls it if its own proof needs what it promises.
 ghost use Rattle.std.specs.Prelude.{◌≡◌, ℕ, ◌+◌, ◌*◌, ◌≤◌, ◌⊎◌, Bool, false, List, length};
-ghost use Rattle.road_graph.specs.Roads.{Roads, IsRoads, HasVertex};
+ghost use Rattle.road_graph.specs.GraphData.{GraphData, IsGraph, HasVertex};
 ghost use Rattle.path_algebra.specs.Given.{reach};
 ghost use Rattle.path_algebra.specs.SimpleWalks.{simple_walks};
 ghost use Rattle.scholten_core.specs.declared.event.Event.{Event};
@@ -18,44 +18,43 @@ use road_graph::Graph;
 
 /// What holds of every graph: its arcs join its vertices, and it has no more of either than it may have.
 pub fn roads_hold(graph: &Graph)
-    ensures { IsRoads graph.now }
+    ensures { IsGraph graph.now }
 {
     graph.vertices();
 }
 
 /// In every order of events: each label and each message is the value of a walk, the engaged
-/// vertices hang together from the source, an arc is held exactly if it engages its head, and a
-/// neutral vertex waits for nothing.
+/// vertices form a tree rooted at the environment, an arc is held exactly if it engages its head,
+/// and a neutral vertex has no busy arc out.
 pub fn every_run_is_sound<A: PathAlgebra>(algebra: A)
-    ensures labels { (g : Roads) (s : ℕ) → IsRoads g → HasVertex g s → (events : List Event) →
+    ensures labels { (g : GraphData) (s : ℕ) → IsGraph g → HasVertex g s → (events : List Event) →
         LabelsAreWalkValues (A.meaning algebra) g s
         (state_after (A.meaning algebra) (network g s) events) }
-    ensures messages { (g : Roads) (s : ℕ) → IsRoads g → HasVertex g s → (events : List Event) →
+    ensures messages { (g : GraphData) (s : ℕ) → IsGraph g → HasVertex g s → (events : List Event) →
         MessagesAreWalkValues (A.meaning algebra) g s
         (state_after (A.meaning algebra) (network g s) events) }
-    ensures entry { (g : Roads) (s : ℕ) → IsRoads g → HasVertex g s → (events : List Event) →
+    ensures entry { (g : GraphData) (s : ℕ) → IsGraph g → HasVertex g s → (events : List Event) →
         EntryIsOrigin (A.meaning algebra)
         (state_after (A.meaning algebra) (network g s) events) }
-    ensures rooted { (g : Roads) (s : ℕ) → IsRoads g → HasVertex g s → (events : List Event) →
+    ensures rooted { (g : GraphData) (s : ℕ) → IsGraph g → HasVertex g s → (events : List Event) →
         IsRooted (A.meaning algebra) (network g s)
         (state_after (A.meaning algebra) (network g s) events) }
-    ensures held { (g : Roads) (s : ℕ) → IsRoads g → HasVertex g s → (events : List Event) →
+    ensures held { (g : GraphData) (s : ℕ) → IsGraph g → HasVertex g s → (events : List Event) →
         HeldIsEngager (A.meaning algebra) (network g s)
         (state_after (A.meaning algebra) (network g s) events) }
-    ensures neutral { (g : Roads) (s : ℕ) → IsRoads g → HasVertex g s → (events : List Event) →
+    ensures neutral { (g : GraphData) (s : ℕ) → IsGraph g → HasVertex g s → (events : List Event) →
         NeutralIsIdle (A.meaning algebra) (network g s)
         (state_after (A.meaning algebra) (network g s) events) }
 {
     laws_hold(algebra);
 }
 
-/// Where the events have ended the question, nothing is under way anywhere, and each label is
-/// best.
+/// If the events have ended the question, nothing is under way anywhere, and each label is best.
 pub fn ended_runs_are_best<A: PathAlgebra>(algebra: A)
-    ensures quiet { (g : Roads) (s : ℕ) → IsRoads g → HasVertex g s → (events : List Event) →
+    ensures quiet { (g : GraphData) (s : ℕ) → IsGraph g → HasVertex g s → (events : List Event) →
         HasEnded (state_after (A.meaning algebra) (network g s) events) →
         IsQuiet (state_after (A.meaning algebra) (network g s) events) }
-    ensures best { (g : Roads) (s : ℕ) → IsRoads g → HasVertex g s → (events : List Event) →
+    ensures best { (g : GraphData) (s : ℕ) → IsGraph g → HasVertex g s → (events : List Event) →
         HasEnded (state_after (A.meaning algebra) (network g s) events) →
         LabelsAreBest (A.meaning algebra) g s
         (state_after (A.meaning algebra) (network g s) events) }
@@ -65,7 +64,7 @@ pub fn ended_runs_are_best<A: PathAlgebra>(algebra: A)
 
 /// In every order of events the question has ended, or some event is enabled: it is never stuck.
 pub fn a_run_is_never_stuck<A: PathAlgebra>(algebra: A)
-    ensures { (g : Roads) (s : ℕ) → IsRoads g → HasVertex g s → (events : List Event) →
+    ensures { (g : GraphData) (s : ℕ) → IsGraph g → HasVertex g s → (events : List Event) →
         HasEnded (state_after (A.meaning algebra) (network g s) events)
         ⊎ CanGoOn (network g s) (state_after (A.meaning algebra) (network g s) events) }
 {
@@ -73,12 +72,13 @@ pub fn a_run_is_never_stuck<A: PathAlgebra>(algebra: A)
 }
 
 /// In every order of events each label is the value of a simple walk, and each message that of
-/// one to its arc's tail, extended by the arc; and the labels on the walk's way keep up with it.
+/// one to its arc's tail, extended by the arc. Along these walks each label is no worse than the
+/// value of the walk so far.
 pub fn labels_are_values_of_simple_walks<A: PathAlgebra>(algebra: A)
-    ensures labels { (g : Roads) (s : ℕ) → IsRoads g → HasVertex g s → (events : List Event) →
+    ensures labels { (g : GraphData) (s : ℕ) → IsGraph g → HasVertex g s → (events : List Event) →
         LabelsAreSimpleWalkValues (A.meaning algebra) g s
         (state_after (A.meaning algebra) (network g s) events) }
-    ensures messages { (g : Roads) (s : ℕ) → IsRoads g → HasVertex g s → (events : List Event) →
+    ensures messages { (g : GraphData) (s : ℕ) → IsGraph g → HasVertex g s → (events : List Event) →
         MessagesExtendSimpleWalks (A.meaning algebra) g s
         (state_after (A.meaning algebra) (network g s) events) }
 {
@@ -87,16 +87,16 @@ pub fn labels_are_values_of_simple_walks<A: PathAlgebra>(algebra: A)
 
 /// In every run a label changes at most as often as there are simple walks to its vertex. So no
 /// run sends more messages than `message_bound`, and no list of events has more than twice as
-/// many that are enabled: numbers that the graph and the source fix.
+/// many that are enabled: bounds that depend on the graph and the source alone.
 pub fn every_run_is_finite<A: PathAlgebra>(algebra: A)
-    ensures changes { (g : Roads) (s : ℕ) → IsRoads g → HasVertex g s →
+    ensures changes { (g : GraphData) (s : ℕ) → IsGraph g → HasVertex g s →
         (events : List Event) (v : ℕ) →
         label_changes (A.meaning algebra) (network g s) v
         (opening (A.meaning algebra) (network g s)) events
         ≤ length (simple_walks g s v) }
-    ensures messages { (g : Roads) (s : ℕ) → IsRoads g → HasVertex g s → (events : List Event) →
+    ensures messages { (g : GraphData) (s : ℕ) → IsGraph g → HasVertex g s → (events : List Event) →
         (totals_of (A.meaning algebra) (network g s) events).sent ≤ message_bound g s }
-    ensures events { (g : Roads) (s : ℕ) → IsRoads g → HasVertex g s → (events : List Event) →
+    ensures events { (g : GraphData) (s : ℕ) → IsGraph g → HasVertex g s → (events : List Event) →
         count_enabled (A.meaning algebra) (network g s)
         (opening (A.meaning algebra) (network g s)) events
         ≤ 2 * message_bound g s }
@@ -105,12 +105,12 @@ pub fn every_run_is_finite<A: PathAlgebra>(algebra: A)
 }
 
 /// From every state that events lead to, further events, each enabled in its turn, lead to the
-/// end; and where no event is enabled it has come.
+/// end; and if no event is enabled, the question has ended.
 pub fn every_question_can_end<A: PathAlgebra>(algebra: A)
-    ensures ends { (g : Roads) (s : ℕ) → IsRoads g → HasVertex g s → (events : List Event) →
+    ensures ends { (g : GraphData) (s : ℕ) → IsGraph g → HasVertex g s → (events : List Event) →
         CanEnd (A.meaning algebra) (network g s)
         (state_after (A.meaning algebra) (network g s) events) }
-    ensures stops { (g : Roads) (s : ℕ) → IsRoads g → HasVertex g s → (events : List Event) →
+    ensures stops { (g : GraphData) (s : ℕ) → IsGraph g → HasVertex g s → (events : List Event) →
         ((e : Event) →
         is_enabled (state_after (A.meaning algebra) (network g s) events) e ≡ false) →
         HasEnded (state_after (A.meaning algebra) (network g s) events) }
@@ -121,22 +121,22 @@ pub fn every_question_can_end<A: PathAlgebra>(algebra: A)
 /// A busy schedule ends its question within twice `message_bound`; one that keeps going ends it,
 /// and so does every fair one.
 pub fn every_schedule_ends<A: PathAlgebra>(algebra: A)
-    ensures busy { (g : Roads) (s : ℕ) → IsRoads g → HasVertex g s → (event : ℕ → Event) →
+    ensures busy { (g : GraphData) (s : ℕ) → IsGraph g → HasVertex g s → (event : ℕ → Event) →
         IsBusySchedule (A.meaning algebra) (network g s) event →
         HasEnded (state_at (A.meaning algebra) (network g s) event (2 * message_bound g s)) }
-    ensures going { (g : Roads) (s : ℕ) → IsRoads g → HasVertex g s → (event : ℕ → Event) →
+    ensures going { (g : GraphData) (s : ℕ) → IsGraph g → HasVertex g s → (event : ℕ → Event) →
         KeepsGoing (A.meaning algebra) (network g s) event →
         (n : ℕ) × HasEnded (state_at (A.meaning algebra) (network g s) event n) }
-    ensures fair { (g : Roads) (s : ℕ) → IsRoads g → HasVertex g s → (event : ℕ → Event) →
+    ensures fair { (g : GraphData) (s : ℕ) → IsGraph g → HasVertex g s → (event : ℕ → Event) →
         IsFairSchedule (A.meaning algebra) (network g s) event →
         (n : ℕ) × HasEnded (state_at (A.meaning algebra) (network g s) event n) }
 {
     laws_hold(algebra);
 }
 
-/// In every run, an arc is sent at most as many messages as its tail's label has changed.
+/// In every run, at most as many messages are sent on an arc as its tail's label changes.
 pub fn messages_follow_label_changes<A: PathAlgebra>(algebra: A)
-    ensures { (g : Roads) (s : ℕ) → IsRoads g → HasVertex g s → (events : List Event) (b : ℕ) →
+    ensures { (g : GraphData) (s : ℕ) → IsGraph g → HasVertex g s → (events : List Event) (b : ℕ) →
         sent_on (A.meaning algebra) (network g s) b
         (opening (A.meaning algebra) (network g s)) events
         ≤ label_changes (A.meaning algebra) (network g s) ((network g s).tail b)
@@ -145,20 +145,20 @@ pub fn messages_follow_label_changes<A: PathAlgebra>(algebra: A)
     laws_hold(algebra);
 }
 
-/// Where a question has ended, as many messages were sent as were delivered, and as many signals
-/// were sent as were accepted, and these are as many.
+/// If a question has ended, as many messages were sent as were delivered, as many signals were
+/// sent as were accepted, and all four numbers are equal.
 pub fn ended_totals_are_equal<A: PathAlgebra>(algebra: A)
-    ensures { (g : Roads) (s : ℕ) → IsRoads g → HasVertex g s → (events : List Event) →
+    ensures { (g : GraphData) (s : ℕ) → IsGraph g → HasVertex g s → (events : List Event) →
         HasEnded (state_after (A.meaning algebra) (network g s) events) →
         AreEqualTotals (totals_of (A.meaning algebra) (network g s) events) }
 {
     laws_hold(algebra);
 }
 
-/// For reachability an ended question has sent one message into the source, and one along each
-/// arc whose tail is reached.
+/// A question of reachability that has ended has sent one message into the source, and one along
+/// each arc whose tail is reached.
 pub fn reach_sends_once_an_arc()
-    ensures { (g : Roads) (s : ℕ) → IsRoads g → HasVertex g s → (events : List Event) →
+    ensures { (g : GraphData) (s : ℕ) → IsGraph g → HasVertex g s → (events : List Event) →
         HasEnded (state_after reach (network g s) events) →
         (marked : ℕ → Bool) → AreMarksOfReached reach g s marked →
         (totals_of reach (network g s) events).sent ≡ 1 + count_marked g marked }

@@ -1,6 +1,6 @@
-//! The core itself: tables that show a state to which some list of events leads.
+//! The core itself: tables that represent a state that some list of events leads to.
 ghost use Rattle.std.specs.Prelude.{◌≡◌, ℕ, ◌≤◌, ◌<◌, ◌+◌, ◌^◌, ◌↔◌, ◌∷◌, [], length, IfOk, OnErr, IfSome, IsTrue, true, false};
-ghost use Rattle.road_graph.specs.Roads.{HasVertex};
+ghost use Rattle.road_graph.specs.GraphData.{HasVertex};
 ghost use Rattle.path_algebra.specs.Walks.{IsWalkValue};
 ghost use Rattle.scholten_core.specs.declared.token.Token.TheVariants.{Idle, Held};
 ghost use Rattle.scholten_core.specs.declared.event.Event.TheVariants.{Deliver, Accept};
@@ -22,11 +22,11 @@ use road_graph::{ArcNo, Graph, Memory, Vertex};
 use std::alloc::Global;
 use std::marker::Model;
 
-/// No message stands on the arc.
+/// No message is on the arc.
 #[derive(Clone, Copy, Debug, PartialEq, Eq)]
 pub struct NoMessage;
 
-/// No signal stands on the arc.
+/// No signal is on the arc.
 #[derive(Clone, Copy, Debug, PartialEq, Eq)]
 pub struct NoSignal;
 
@@ -55,19 +55,27 @@ impl<'g, A: PathAlgebra> Core<'g, A> {
         source: Vertex,
     ) -> Result<Core<'g, A>, Memory>
         requires { HasVertex graph.now source }
-        ensures question { IfOk result (λ c. c.question ≡ record { algebra = algebra; roads = graph.now; source = source }) }
-        ensures state { IfOk result (λ c. state_of c ≡ opening (A.meaning algebra) (network graph.now source)) }
+        ensures question { IfOk result (λ c. c.question ≡ record {
+          algebra = algebra;
+          roads = graph.now;
+          source = source;
+        }) }
+        ensures state { IfOk result (λ c. state_of c ≡ opening (A.meaning algebra)
+            (network graph.now source)) }
     {
         roads_hold(graph);
         let tables = CoreTables::open(alloc, algebra, graph, source)?;
         Ok(Core { tables })
     }
 
-    /// The message on an arc is handled at the arc's head. Refused, with nothing changed, where no message stands there.
+    /// The message on an arc is handled at the arc's head. Refused, with nothing changed, if no message is there.
     pub fn deliver(&mut self, a: ArcNo) -> Result<(), NoMessage>
         ensures same { self.new.question ≡ self.old.question }
-        ensures done { IfOk result (λ _. (is_enabled (state_of self.old) (Deliver a) ≡ true) × (state_of self.new ≡ step (A.meaning self.old.question.algebra) (network_of self.old) (state_of self.old) (Deliver a))) }
-        ensures refused { OnErr result ((is_enabled (state_of self.old) (Deliver a) ≡ false) × (self.new ≡ self.old)) }
+        ensures done { IfOk result (λ _. (is_enabled (state_of self.old) (Deliver a) ≡ true) ×
+            (state_of self.new ≡ step (A.meaning self.old.question.algebra) (network_of self.old)
+            (state_of self.old) (Deliver a))) }
+        ensures refused { OnErr result ((is_enabled (state_of self.old) (Deliver a) ≡ false) ×
+            (self.new ≡ self.old)) }
     {
         laws_hold(self.tables.algebra());
         match self.tables.token(a) {
@@ -81,11 +89,14 @@ impl<'g, A: PathAlgebra> Core<'g, A> {
         }
     }
 
-    /// The signal on an arc is handled at the arc's tail. Refused, with nothing changed, where no signal stands there.
+    /// The signal on an arc is handled at the arc's tail. Refused, with nothing changed, if no signal is there.
     pub fn accept(&mut self, a: ArcNo) -> Result<(), NoSignal>
         ensures same { self.new.question ≡ self.old.question }
-        ensures done { IfOk result (λ _. (is_enabled (state_of self.old) (Accept a) ≡ true) × (state_of self.new ≡ step (A.meaning self.old.question.algebra) (network_of self.old) (state_of self.old) (Accept a))) }
-        ensures refused { OnErr result ((is_enabled (state_of self.old) (Accept a) ≡ false) × (self.new ≡ self.old)) }
+        ensures done { IfOk result (λ _. (is_enabled (state_of self.old) (Accept a) ≡ true) ×
+            (state_of self.new ≡ step (A.meaning self.old.question.algebra) (network_of self.old)
+            (state_of self.old) (Accept a))) }
+        ensures refused { OnErr result ((is_enabled (state_of self.old) (Accept a) ≡ false) ×
+            (self.new ≡ self.old)) }
     {
         laws_hold(self.tables.algebra());
         match self.tables.token(a) {
@@ -106,7 +117,8 @@ impl<'g, A: PathAlgebra> Core<'g, A> {
     /// Applies an event, and says whether it was enabled.
     fn apply(&mut self, event: Event) -> bool
         ensures same { self.new.question ≡ self.old.question }
-        ensures state { state_of self.new ≡ step (A.meaning self.old.question.algebra) (network_of self.old) (state_of self.old) event }
+        ensures state { state_of self.new ≡ step (A.meaning self.old.question.algebra)
+            (network_of self.old) (state_of self.old) event }
         ensures enabled { result ≡ is_enabled (state_of self.old) event }
     {
         match event {
@@ -118,8 +130,10 @@ impl<'g, A: PathAlgebra> Core<'g, A> {
     /// Applies the events in order, skips those that are not enabled, and says how many were.
     pub fn run(&mut self, events: &[Event]) -> usize
         ensures same { self.new.question ≡ self.old.question }
-        ensures state { state_of self.new ≡ run_from (A.meaning self.old.question.algebra) (network_of self.old) (state_of self.old) events.now }
-        ensures count { result ≡ count_enabled (A.meaning self.old.question.algebra) (network_of self.old) (state_of self.old) events.now }
+        ensures state { state_of self.new ≡ run_from (A.meaning self.old.question.algebra)
+            (network_of self.old) (state_of self.old) events.now }
+        ensures count { result ≡ count_enabled (A.meaning self.old.question.algebra)
+            (network_of self.old) (state_of self.old) events.now }
     {
         let mut enabled = 0;
         for event in events {
@@ -135,9 +149,11 @@ impl<'g, A: PathAlgebra> Core<'g, A> {
     pub fn ended(&self) -> bool
         ensures ended { IsTrue result ↔ HasEnded (state_of self.now) }
         ensures quiet { IsTrue result → IsQuietState (state_of self.now) }
-        ensures best { IsTrue result → LabelsAreBest (A.meaning self.now.question.algebra) self.now.question.roads self.now.question.source (state_of self.now) }
+        ensures best { IsTrue result → LabelsAreBest (A.meaning self.now.question.algebra)
+            self.now.question.roads self.now.question.source (state_of self.now) }
         ensures going { (IsTrue result → ⊥) → CanGoOn (network_of self.now) (state_of self.now) }
-        ensures reached { IsReached (A.meaning self.now.question.algebra) self.now.question.roads self.now.question.source (state_of self.now) }
+        ensures reached { IsReached (A.meaning self.now.question.algebra) self.now.question.roads
+            self.now.question.source (state_of self.now) }
     {
         laws_hold(self.tables.algebra());
         self.tables.token(ENTRY).is_idle()
@@ -154,7 +170,8 @@ impl<'g, A: PathAlgebra> Core<'g, A> {
     pub fn label(&self, v: Vertex) -> Option<A::Value>
         requires { HasVertex self.now.question.roads v }
         ensures label { result ≡ (state_of self.now).label v }
-        ensures walk { IfSome result (λ x. IsWalkValue (A.meaning self.now.question.algebra) self.now.question.roads (self.now.question.source ∷ []) v x) }
+        ensures walk { IfSome result (λ x. IsWalkValue (A.meaning self.now.question.algebra)
+            self.now.question.roads (self.now.question.source ∷ []) v x) }
     {
         laws_hold(self.tables.algebra());
         self.tables.label(v)
@@ -164,18 +181,22 @@ impl<'g, A: PathAlgebra> Core<'g, A> {
     pub fn engager(&self, v: Vertex) -> Option<ArcNo>
         requires { HasVertex self.now.question.roads v }
         ensures engager { result ≡ (state_of self.now).engager v }
-        ensures held { IfSome result (λ e. ((state_of self.now).token e ≡ Held) × ((network_of self.now).head e ≡ v)) }
-        ensures rooted { IsRooted (A.meaning self.now.question.algebra) (network_of self.now) (state_of self.now) }
+        ensures held { IfSome result (λ e. ((state_of self.now).token e ≡ Held) ×
+            ((network_of self.now).head e ≡ v)) }
+        ensures rooted { IsRooted (A.meaning self.now.question.algebra) (network_of self.now)
+            (state_of self.now) }
     {
         laws_hold(self.tables.algebra());
         self.tables.engager(v)
     }
 
-    /// What stands on an arc; a message has the value of some walk to the arc's head.
+    /// What is on an arc; a message has the value of some walk to the arc's head.
     pub fn token(&self, a: ArcNo) -> Token<A::Value>
         requires { a ≤ length self.now.question.roads.arcs }
         ensures token { result ≡ (state_of self.now).token a }
-        ensures walk { (x : A.Value) → result ≡ Token.Message x → IsWalkValue (A.meaning self.now.question.algebra) self.now.question.roads (self.now.question.source ∷ []) ((network_of self.now).head a) x }
+        ensures walk { (x : A.Value) → result ≡ Token.Message x →
+            IsWalkValue (A.meaning self.now.question.algebra) self.now.question.roads
+            (self.now.question.source ∷ []) ((network_of self.now).head a) x }
     {
         laws_hold(self.tables.algebra());
         self.tables.token(a)

@@ -24,7 +24,7 @@ pub fn improves<A: PathAlgebra>(algebra: A, value: A::Value, label: Option<A::Va
     }
 }
 
-/// Whether an arc has been told the label.
+/// Whether the label is the one that an arc was last offered.
 pub fn is_same<A: PathAlgebra>(algebra: A, told: Option<A::Value>, label: Option<A::Value>) -> bool
     ensures { result ≡ same_label (A.meaning algebra) told label }
 {
@@ -35,7 +35,7 @@ pub fn is_same<A: PathAlgebra>(algebra: A, told: Option<A::Value>, label: Option
     }
 }
 
-/// A label after one more arc, none where there is no label or the arc is refused.
+/// A label after one more arc, none if there is no label or the arc is refused.
 pub fn extended<A: PathAlgebra>(
     algebra: A,
     label: Option<A::Value>,
@@ -66,7 +66,7 @@ pub fn engaged_by(engager: Option<ArcNo>, a: ArcNo) -> Option<ArcNo>
     }
 }
 
-/// What the arc of a message then holds: it engages a neutral vertex, and is answered by another.
+/// What the arc of a message holds then: it engages a neutral vertex, and any other answers it.
 pub fn answer_to<V: Copy>(engager: Option<ArcNo>) -> Token<V>
     ensures { result ≡ answer engager }
 {

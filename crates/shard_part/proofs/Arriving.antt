@@ -6,13 +6,13 @@ use Rattle.scholten_core.specs.declared.item.Item.{Item}
 use Rattle.scholten_core.specs.declared.item.Item.TheVariants.{Message as MessageOn, Signal as SignalOn}
 use Rattle.path_algebra.specs.Algebra.{Algebra}
 use Rattle.path_algebra.specs.Algebra.{IsLawful as Lawful}
-use Rattle.road_graph.specs.Roads.{HasArc}
+use Rattle.road_graph.specs.GraphData.{HasArc}
 use Rattle.scholten_core.specs.Network.{WellFormed}
 use Rattle.scholten_core.specs.Diffusion.{CoreState, is_idle}
 use Rattle.scholten_core.specs.Items.{item_arc, item_of}
 use Rattle.scholten_core.proofs.Kept.{Kept as CoreKept}
 use Rattle.scholten_core.proofs.Walks.{walk_value_is_value}
-use Rattle.shard_part.specs.PartState.{PartData, Setup, network_in, place_in, token_if, maker_of}
+use Rattle.shard_part.specs.PartState.{PartData, Setup, network_of, place_in, token_if, maker_of}
 use Rattle.shard_part.specs.Weights.{total, is, All}
 use Rattle.shard_part.specs.Represents.{HoldsShareIn}
 use Rattle.shard_part.specs.Exchange.{FitsAlone}
@@ -47,9 +47,9 @@ entry_place t ne = go t.question.source ne
     go (suc s) n = ap (λ z. get_or t.plan.list z 0) (let e : suc s - 1 ≡ s = omega arith in e)
 
 module _ {S V : Type 0} (meaning : S → Algebra V) (p : PartData S V) (L : Lawful (meaning p.setup.question.algebra))
-    (W : WellFormed (network_in p.setup)) (c : CoreState V) (K : CoreKept (meaning p.setup.question.algebra) (network_in p.setup) 0 c) where
+    (W : WellFormed (network_of p.setup)) (c : CoreState V) (K : CoreKept (meaning p.setup.question.algebra) (network_of p.setup) 0 c) where
   abbrev Share : List (Item V) → Type 0
-  Share xs = HoldsShareIn (meaning p.setup.question.algebra) (network_in p.setup) (place_in p.setup) c (record p { queue = xs })
+  Share xs = HoldsShareIn (meaning p.setup.question.algebra) (network_of p.setup) (place_in p.setup) c (record p { queue = xs })
 
   -- in whatever order the items stand
   reordered : (xs ys : List (Item V)) → ((f : Item V → ℕ) → total f ys ≡ total f xs) → Share xs → Share ys
@@ -59,13 +59,13 @@ module _ {S V : Type 0} (meaning : S → Algebra V) (p : PartData S V) (L : Lawf
   }
 
   -- an arc between two shards is one of the graph's
-  real_arc : (a : ℕ) → a < suc (network_in p.setup).arcs → place_in p.setup ((network_in p.setup).tail a) ≢ place_in p.setup ((network_in p.setup).head a) → HasArc p.setup.question.roads a
+  real_arc : (a : ℕ) → a < suc (network_of p.setup).arcs → place_in p.setup ((network_of p.setup).tail a) ≢ place_in p.setup ((network_of p.setup).head a) → HasArc p.setup.question.roads a
   real_arc zero l ne = absurd (ne (ap (place_in p.setup) W.tail_zero ∙ entry_place p.setup W.source_in ∙ ap (place_in p.setup) (sym W.head_zero)))
   real_arc (suc a) l ne = (omega arith, omega (arith, l))
 
-  one_fits : (i : Item V) (rest : List (Item V)) (j : ℕ) → j ≢ p.shard → place_in p.setup (maker_of (network_in p.setup) i) ≡ j → Share (i ∷ rest) → FitsAlone (meaning p.setup.question.algebra) p i
+  one_fits : (i : Item V) (rest : List (Item V)) (j : ℕ) → j ≢ p.shard → place_in p.setup (maker_of (network_of p.setup) i) ≡ j → Share (i ∷ rest) → FitsAlone (meaning p.setup.question.algebra) p i
   one_fits (MessageOn a x) rest j ne made H =
-      let A = meaning p.setup.question.algebra in let N = network_in p.setup in
+      let A = meaning p.setup.question.algebra in let N = network_of p.setup in
       let T = front_stands A N (place_in p.setup) L c (record p { queue = MessageOn a x ∷ rest }) (MessageOn a x) rest H refl in
       let tok : c.token a ≡ Message x = is_message a (c.token a) x T.token in
       let away : place_in p.setup (N.tail a) ≢ p.shard = λ q. ne (sym made ∙ q) in (
@@ -74,7 +74,7 @@ module _ {S V : Type 0} (meaning : S → Algebra V) (p : PartData S V) (L : Lawf
         (T.here, away, message_free A N (place_in p.setup) c (record p { queue = MessageOn a x ∷ rest }) a x K H.tables tok (eq-eqb _ _ T.here)),
       )
   one_fits (SignalOn a) rest j ne made H =
-      let A = meaning p.setup.question.algebra in let N = network_in p.setup in
+      let A = meaning p.setup.question.algebra in let N = network_of p.setup in
       let T = front_stands A N (place_in p.setup) L c (record p { queue = SignalOn a ∷ rest }) (SignalOn a) rest H refl in
       let tok : c.token a ≡ Signal = is_signal a (c.token a) T.token in
       let away : place_in p.setup (N.head a) ≢ p.shard = λ q. ne (sym made ∙ q) in (
@@ -91,9 +91,9 @@ module _ {S V : Type 0} (meaning : S → Algebra V) (p : PartData S V) (L : Lawf
 
   -- the queue as it is with the batch
   pub arrives : (xs : List (Item V)) (j : ℕ) → j ≢ p.shard → MadeAt p.setup j xs
-      → HoldsShareIn (meaning p.setup.question.algebra) (network_in p.setup) (place_in p.setup) c (joined p xs) → MayReceive meaning p xs
+      → HoldsShareIn (meaning p.setup.question.algebra) (network_of p.setup) (place_in p.setup) c (joined p xs) → MayReceive meaning p xs
   arrives xs j ne made H =
-      let A = meaning p.setup.question.algebra in let N = network_in p.setup in (
+      let A = meaning p.setup.question.algebra in let N = network_of p.setup in (
         (let q = queue_fits A N (place_in p.setup) c (joined p xs) H in let l = length-append p.queue xs in omega (arith, q, l)),
         record {
           apart = λ b. let o = arc_once A N (place_in p.setup) c (joined p xs) b H in let a = total_append (λ j. is b (item_arc j)) p.queue xs in omega (arith, o, a);

@@ -5,7 +5,7 @@ use Rattle.scholten_core.specs.Network.{Network}
 use Rattle.road_graph.proofs.Lists.{not_in_empty, here, later, head_or_tail}
 use Rattle.road_graph.proofs.Rising.{listed_above}
 use Rattle.shard_part.specs.Outgoing.{arcs_from}
-use Rattle.road_graph.specs.Roads.{IsAscendingFrom}
+use Rattle.road_graph.specs.GraphData.{IsAscendingFrom}
 
 module _ (N : Network) where
   pub arcs_are : (v k n low : ℕ) (xs : List ℕ) → IsAscendingFrom low xs → ((b : ℕ) → Contains xs b → (N.tail b ≡ v) × (k ≤ b) × (b < k + n))

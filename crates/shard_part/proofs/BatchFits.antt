@@ -8,7 +8,7 @@ use Rattle.path_algebra.specs.Algebra.{Algebra}
 use Rattle.scholten_core.specs.declared.item.Item.{Item}
 use Rattle.scholten_core.specs.Items.{item_arc}
 use Rattle.scholten_core.specs.Sums.{one_if}
-use Rattle.shard_part.specs.PartState.{PartData, network_in, place_in}
+use Rattle.shard_part.specs.PartState.{PartData, network_of, place_in}
 use Rattle.shard_part.specs.Weights.{total, counted, is, part_weight, outs_weight}
 use Rattle.shard_part.specs.LocalInvariant.{LocalInvariant}
 use Rattle.shard_part.specs.Exchange.{Fits, FitsAlone, FitsBefore}
@@ -156,10 +156,10 @@ module _ {S V : Type 0} (A : Algebra V) (p : PartData S V) where
 
 module _ {S V : Type 0} where
   -- of each arc the part holds one item at most
-  pub fits_from : (A : Algebra V) (p : PartData S V) (batch : List (Item V)) → LocalInvariant (network_in p.setup) (place_in p.setup) p → FitsEach A p batch → Fits A p batch
+  pub fits_from : (A : Algebra V) (p : PartData S V) (batch : List (Item V)) → LocalInvariant (network_of p.setup) (place_in p.setup) p → FitsEach A p batch → Fits A p batch
   fits_from A p batch L F = each_fits A p (λ b. let o = L.once b in omega (arith, o)) batch F
 
-  pub same_done : (A : Algebra V) (p : PartData S V) (batch : List (Item V)) (i : ℕ) → LocalInvariant (network_in p.setup) (place_in p.setup) p
+  pub same_done : (A : Algebra V) (p : PartData S V) (batch : List (Item V)) (i : ℕ) → LocalInvariant (network_of p.setup) (place_in p.setup) p
       → IsSame A p batch i → length batch ≤ i → IsTrue true ↔ Fits A p batch
   same_done A p batch i L I l = ((λ _. fits_from A p batch L (I.0 (each_done A p batch i l))), (λ _. refl))
 

@@ -8,11 +8,11 @@ use Rattle.scholten_core.specs.Sums.{one_if}
 use Rattle.scholten_core.specs.Items.{item_arc}
 use Rattle.shard_part.specs.Tables.{scatter}
 use Rattle.scholten_core.specs.Deficit.{busy_out}
-use Rattle.shard_part.specs.PartState.{PartData, state_in, token_if, network_in, place_in}
+use Rattle.shard_part.specs.PartState.{PartData, state_in, token_if, network_of, place_in}
 use Rattle.shard_part.specs.Outgoing.{local_vertices, arcs_out}
 use Rattle.shard_part.specs.Weights.{is, part_weight}
 use Rattle.shard_part.specs.LocalInvariant.{engages, idles, LocalInvariant, IsClear}
-use Rattle.shard_part.specs.Moves.{Rows, IsCounted, RepInvariant, IsPlace, IsRow}
+use Rattle.shard_part.specs.Moves.{Rows, AreRowDeficits, RepInvariant, IsPlace, IsArcRow}
 use Rattle.shard_part.proofs.Weights.{sum_at, sum_below_same}
 use Rattle.shard_part.proofs.Counting.{own_arcs_most}
 use Rattle.shard_part.proofs.Spread.{table_write, table_long}
@@ -31,19 +31,19 @@ and_false false = refl
 module _ {S V : Type 0} where
   -- how busy the vertex u is, seen by the flags
   term_other : (p : PartData S V) (u b : ℕ) (x : Bool) (k : ℕ) → k ≢ b →
-      one_if (eqb ((network_in p.setup).tail k) u && not (is_idle ((state_in (record p { busy = set p.busy b x })).token k)))
-      ≡ one_if (eqb ((network_in p.setup).tail k) u && not (is_idle ((state_in p).token k)))
-  term_other p u b x k n = ap (λ z. one_if (eqb ((network_in p.setup).tail k) u && not (is_idle {V = V} (token_if z)))) (get_or-set_other p.busy b k x false n)
+      one_if (eqb ((network_of p.setup).tail k) u && not (is_idle ((state_in (record p { busy = set p.busy b x })).token k)))
+      ≡ one_if (eqb ((network_of p.setup).tail k) u && not (is_idle ((state_in p).token k)))
+  term_other p u b x k n = ap (λ z. one_if (eqb ((network_of p.setup).tail k) u && not (is_idle {V = V} (token_if z)))) (get_or-set_other p.busy b k x false n)
 
-  busy_other : (p : PartData S V) (u b : ℕ) (x : Bool) (n : ℕ) → (network_in p.setup).tail b ≢ u
-      → busy_out (network_in p.setup) u (state_in (record p { busy = set p.busy b x })) n ≡ busy_out (network_in p.setup) u (state_in p) n
+  busy_other : (p : PartData S V) (u b : ℕ) (x : Bool) (n : ℕ) → (network_of p.setup).tail b ≢ u
+      → busy_out (network_of p.setup) u (state_in (record p { busy = set p.busy b x })) n ≡ busy_out (network_of p.setup) u (state_in p) n
   busy_other p u b x n ne = sum_below_same (λ k. one_if
-      (eqb ((network_in p.setup).tail k) u && not (is_idle ((state_in (record p { busy = set p.busy b x })).token k))))
-      (λ k. one_if (eqb ((network_in p.setup).tail k) u && not (is_idle ((state_in p).token k)))) n
+      (eqb ((network_of p.setup).tail k) u && not (is_idle ((state_in (record p { busy = set p.busy b x })).token k))))
+      (λ k. one_if (eqb ((network_of p.setup).tail k) u && not (is_idle ((state_in p).token k)))) n
       (λ k l. elim (cases_eq k b) [
         | inr m ↦ term_other p u b x k m
-        | inl e ↦ off (eqb ((network_in p.setup).tail k) u) (not (is_idle ((state_in (record p { busy = set p.busy b x })).token k)))
-            (not (is_idle ((state_in p).token k))) (ne_eqb ((network_in p.setup).tail k) u (λ z. ne (ap (network_in p.setup).tail (sym e) ∙ z)))
+        | inl e ↦ off (eqb ((network_of p.setup).tail k) u) (not (is_idle ((state_in (record p { busy = set p.busy b x })).token k)))
+            (not (is_idle ((state_in p).token k))) (ne_eqb ((network_of p.setup).tail k) u (λ z. ne (ap (network_of p.setup).tail (sym e) ∙ z)))
       ])
     where
       off : (s t w : Bool) → s ≡ false → one_if (s && t) ≡ one_if (s && w)
@@ -56,13 +56,13 @@ module _ {S V : Type 0} where
           both false false = refl
 
   -- the flag of b counts at its tail
-  busy_here : (p : PartData S V) (u b : ℕ) (x : Bool) (n : ℕ) → b < n → b < length p.busy → (network_in p.setup).tail b ≡ u →
-      busy_out (network_in p.setup) u (state_in (record p { busy = set p.busy b x })) n + one_if (get_or p.busy b false) ≡ busy_out (network_in p.setup) u (state_in p) n + one_if x
+  busy_here : (p : PartData S V) (u b : ℕ) (x : Bool) (n : ℕ) → b < n → b < length p.busy → (network_of p.setup).tail b ≡ u →
+      busy_out (network_of p.setup) u (state_in (record p { busy = set p.busy b x })) n + one_if (get_or p.busy b false) ≡ busy_out (network_of p.setup) u (state_in p) n + one_if x
   busy_here p u b x n l m e =
-      let d = sum_at (λ k. one_if (eqb ((network_in p.setup).tail k) u && not (is_idle ((state_in (record p { busy = set p.busy b x })).token k))))
-      (λ k. one_if (eqb ((network_in p.setup).tail k) u && not (is_idle ((state_in p).token k)))) b n l (λ k ne. term_other p u b x k ne) in
-      let f = at_flag (eqb ((network_in p.setup).tail b) u) (get_or p.busy b false) (eq-eqb ((network_in p.setup).tail b) u e) in
-      let g = at_flag (eqb ((network_in p.setup).tail b) u) (get_or (set p.busy b x) b false) (eq-eqb ((network_in p.setup).tail b) u e) in
+      let d = sum_at (λ k. one_if (eqb ((network_of p.setup).tail k) u && not (is_idle ((state_in (record p { busy = set p.busy b x })).token k))))
+      (λ k. one_if (eqb ((network_of p.setup).tail k) u && not (is_idle ((state_in p).token k)))) b n l (λ k ne. term_other p u b x k ne) in
+      let f = at_flag (eqb ((network_of p.setup).tail b) u) (get_or p.busy b false) (eq-eqb ((network_of p.setup).tail b) u e) in
+      let g = at_flag (eqb ((network_of p.setup).tail b) u) (get_or (set p.busy b x) b false) (eq-eqb ((network_of p.setup).tail b) u e) in
       let h = ap one_if (get_or-set_same p.busy b x false m) in omega (arith, d, f, g, h)
     where
       at_flag : (s t : Bool) → s ≡ true → one_if (s && not (is_idle {V = V} (token_if t))) ≡ one_if t
@@ -71,24 +71,24 @@ module _ {S V : Type 0} where
 
   -- an idle arc out of a vertex of the shard
   idles_then : (p : PartData S V) (a : ℕ) (x : Bool) (b : ℕ) → a < length p.busy →
-      ((b ≡ a) × (idles (network_in p.setup) (place_in p.setup) p.shard (state_in (record p { busy = set p.busy a x })) b
-      ≡ one_if (eqb (place_in p.setup ((network_in p.setup).tail b)) p.shard && is_idle {V = V} (token_if x))))
-      ⊎ ((b ≢ a) × (idles (network_in p.setup) (place_in p.setup) p.shard (state_in (record p { busy = set p.busy a x })) b ≡ idles (network_in p.setup) (place_in p.setup) p.shard (state_in p) b))
+      ((b ≡ a) × (idles (network_of p.setup) (place_in p.setup) p.shard (state_in (record p { busy = set p.busy a x })) b
+      ≡ one_if (eqb (place_in p.setup ((network_of p.setup).tail b)) p.shard && is_idle {V = V} (token_if x))))
+      ⊎ ((b ≢ a) × (idles (network_of p.setup) (place_in p.setup) p.shard (state_in (record p { busy = set p.busy a x })) b ≡ idles (network_of p.setup) (place_in p.setup) p.shard (state_in p) b))
   idles_then p a x b l = elim (cases_eq b a) [
     | inl e ↦ inl (
       e,
-      ap (λ z. one_if (eqb (place_in p.setup ((network_in p.setup).tail b)) p.shard && is_idle {V = V} (token_if z)))
+      ap (λ z. one_if (eqb (place_in p.setup ((network_of p.setup).tail b)) p.shard && is_idle {V = V} (token_if z)))
           (ap (λ k. get_or (set p.busy a x) k false) e ∙ get_or-set_same p.busy a x false l),
     )
-    | inr ne ↦ inr (ne, ap (λ z. one_if (eqb (place_in p.setup ((network_in p.setup).tail b)) p.shard && is_idle {V = V} (token_if z))) (get_or-set_other p.busy a b x false ne))
+    | inr ne ↦ inr (ne, ap (λ z. one_if (eqb (place_in p.setup ((network_of p.setup).tail b)) p.shard && is_idle {V = V} (token_if z))) (get_or-set_other p.busy a b x false ne))
   ]
 
-  occupy_sound : (p : PartData S V) (b : ℕ) → LocalInvariant (network_in p.setup) (place_in p.setup) p → b < length p.busy
-      → place_in p.setup ((network_in p.setup).tail b) ≡ p.shard → get_or p.busy b false ≡ false →
-      LocalInvariant (network_in p.setup) (place_in p.setup) (record p { busy = set p.busy b true }) × IsClear (record p { busy = set p.busy b true }) b
+  occupy_sound : (p : PartData S V) (b : ℕ) → LocalInvariant (network_of p.setup) (place_in p.setup) p → b < length p.busy
+      → place_in p.setup ((network_of p.setup).tail b) ≡ p.shard → get_or p.busy b false ≡ false →
+      LocalInvariant (network_of p.setup) (place_in p.setup) (record p { busy = set p.busy b true }) × IsClear (record p { busy = set p.busy b true }) b
   occupy_sound p b D l m f = (
     record {
-      once = λ a. (let o = D.once a in let z = and_false (eqb (place_in p.setup ((network_in p.setup).tail a)) p.shard) in elim (idles_then p b true a l) [
+      once = λ a. (let o = D.once a in let z = and_false (eqb (place_in p.setup ((network_of p.setup).tail a)) p.shard) in elim (idles_then p b true a l) [
         | inl k ↦ (let w = k.1 in omega (arith, o, w, z))
         | inr k ↦ (let w = k.1 in omega (arith, o, w))
       ]);
@@ -97,24 +97,24 @@ module _ {S V : Type 0} where
       gone = D.gone;
       wide = D.wide;
     },
-    (let o = D.once b in let z = and_false (eqb (place_in p.setup ((network_in p.setup).tail b)) p.shard) in
-        let one : idles (network_in p.setup) (place_in p.setup) p.shard (state_in p) b ≡ 1 = (λ i. one_if (eq-eqb _ _ m i && is_idle {V = V} (token_if (f i)))) in
+    (let o = D.once b in let z = and_false (eqb (place_in p.setup ((network_of p.setup).tail b)) p.shard) in
+        let one : idles (network_of p.setup) (place_in p.setup) p.shard (state_in p) b ≡ 1 = (λ i. one_if (eq-eqb _ _ m i && is_idle {V = V} (token_if (f i)))) in
         elim (idles_then p b true b l) [
           | inl k ↦ (let w = k.1 in omega (arith, o, w, z, one))
           | inr k ↦ absurd (k.0 refl)
         ]),
   )
 
-  free_sound : (p : PartData S V) (a : ℕ) → LocalInvariant (network_in p.setup) (place_in p.setup) p → a < length p.busy → IsClear p a
-      → LocalInvariant (network_in p.setup) (place_in p.setup) (record p { busy = set p.busy a false })
+  free_sound : (p : PartData S V) (a : ℕ) → LocalInvariant (network_of p.setup) (place_in p.setup) p → a < length p.busy → IsClear p a
+      → LocalInvariant (network_of p.setup) (place_in p.setup) (record p { busy = set p.busy a false })
   free_sound p a D l z = record {
     once = λ b. (let o = D.once b in elim (idles_then p a false b l) [
       | inr k ↦ (let w = k.1 in omega (arith, o, w))
-      | inl k ↦ (let w = k.1 in let m = one_if-most (eqb (place_in p.setup ((network_in p.setup).tail b)) p.shard && true) in
-          let z2 : part_weight (λ _ i. is b (item_arc i)) p + engages (network_in p.setup) (place_in p.setup) p.shard (state_in p) b + idles
-          (network_in p.setup) (place_in p.setup) p.shard (state_in p) b ≡ 0 =
-          subst (λ c. part_weight (λ _ i. is c (item_arc i)) p + engages (network_in p.setup) (place_in p.setup) p.shard (state_in p) c + idles
-          (network_in p.setup) (place_in p.setup) p.shard (state_in p) c ≡ 0) (sym k.0) z in
+      | inl k ↦ (let w = k.1 in let m = one_if-most (eqb (place_in p.setup ((network_of p.setup).tail b)) p.shard && true) in
+          let z2 : part_weight (λ _ i. is b (item_arc i)) p + engages (network_of p.setup) (place_in p.setup) p.shard (state_in p) b + idles
+          (network_of p.setup) (place_in p.setup) p.shard (state_in p) b ≡ 0 =
+          subst (λ c. part_weight (λ _ i. is c (item_arc i)) p + engages (network_of p.setup) (place_in p.setup) p.shard (state_in p) c + idles
+          (network_of p.setup) (place_in p.setup) p.shard (state_in p) c ≡ 0) (sym k.0) z in
           omega (arith, w, m, z2))
     ]);
     leads = D.leads;
@@ -124,32 +124,32 @@ module _ {S V : Type 0} where
   }
 
   -- a clear arc out of the shard is busy
-  pub clear_busy : (p : PartData S V) (a : ℕ) → place_in p.setup ((network_in p.setup).tail a) ≡ p.shard → IsClear p a → get_or p.busy a false ≡ true
+  pub clear_busy : (p : PartData S V) (a : ℕ) → place_in p.setup ((network_of p.setup).tail a) ≡ p.shard → IsClear p a → get_or p.busy a false ≡ true
   clear_busy p a m z = go (get_or p.busy a false) refl
     where
       go : (t : Bool) → get_or p.busy a false ≡ t → get_or p.busy a false ≡ true
       go true e = e
-      go false e = absurd (let one : idles (network_in p.setup) (place_in p.setup) p.shard (state_in p) a
+      go false e = absurd (let one : idles (network_of p.setup) (place_in p.setup) p.shard (state_in p) a
           ≡ 1 = (λ i. one_if (eq-eqb _ _ m i && is_idle {V = V} (token_if (e i)))) in omega (arith, z, one))
 
-  busy_written : (p : PartData S V) (r : Rows V) (n : ℕ) (ns : List ℕ) (b i : ℕ) (x : Bool) → RepInvariant p r n ns → IsRow p b i →
-      scatter (arcs_out (network_in p.setup) (local_vertices p.setup p.shard)) (set r.busy i x) false (suc (length p.setup.question.roads.arcs)) ≡ set p.busy b x
-  busy_written p r n ns b i x D P = table_write (arcs_out (network_in p.setup) (local_vertices p.setup p.shard)) r.busy p.busy false
+  busy_written : (p : PartData S V) (r : Rows V) (n : ℕ) (ns : List ℕ) (b i : ℕ) (x : Bool) → RepInvariant p r n ns → IsArcRow p b i →
+      scatter (arcs_out (network_of p.setup) (local_vertices p.setup p.shard)) (set r.busy i x) false (suc (length p.setup.question.roads.arcs)) ≡ set p.busy b x
+  busy_written p r n ns b i x D P = table_write (arcs_out (network_of p.setup) (local_vertices p.setup p.shard)) r.busy p.busy false
       (suc (length p.setup.question.roads.arcs)) i b x D.seen.busy (apart p) P.inside D.sized.busy P.arc
 
-  pub busy_leaves : (p old : PartData S V) (r : Rows V) (n : ℕ) (ns : List ℕ) (b i : ℕ) (x : Bool) → p ≡ old → RepInvariant p r n ns → IsRow old b i →
+  pub busy_leaves : (p old : PartData S V) (r : Rows V) (n : ℕ) (ns : List ℕ) (b i : ℕ) (x : Bool) → p ≡ old → RepInvariant p r n ns → IsArcRow old b i →
       record p {
-        busy = scatter (arcs_out (network_in p.setup) (local_vertices p.setup p.shard)) (set r.busy i x) false
+        busy = scatter (arcs_out (network_of p.setup) (local_vertices p.setup p.shard)) (set r.busy i x) false
             (suc (length p.setup.question.roads.arcs));
       } ≡ record old { busy = set old.busy b x }
   busy_leaves p old r n ns b i x e D Q = ap (λ (ys : List Bool). record p { busy = ys }) (busy_written p r n ns b i x D (row_at p old b i e Q))
       ∙ ap (λ (u : PartData S V). record u { busy = set u.busy b x }) e
 
-  keep_busy : (p : PartData S V) (r : Rows V) (n : ℕ) (ns : List ℕ) (v j b i : ℕ) (x : Bool) (d' : ℕ) → RepInvariant p r n ns → IsPlace p v j → IsRow p b i → (network_in p.setup).tail b ≡ v →
+  keep_busy : (p : PartData S V) (r : Rows V) (n : ℕ) (ns : List ℕ) (v j b i : ℕ) (x : Bool) (d' : ℕ) → RepInvariant p r n ns → IsPlace p v j → IsArcRow p b i → (network_of p.setup).tail b ≡ v →
       d' + one_if (get_or p.busy b false) ≡ get_or r.deficits j 0 + one_if x →
-      LocalInvariant (network_in p.setup) (place_in p.setup) (record p { busy = set p.busy b x }) →
+      LocalInvariant (network_of p.setup) (place_in p.setup) (record p { busy = set p.busy b x }) →
       RepInvariant (record p {
-        busy = scatter (arcs_out (network_in p.setup) (local_vertices p.setup p.shard)) (set r.busy i x) false
+        busy = scatter (arcs_out (network_of p.setup) (local_vertices p.setup p.shard)) (set r.busy i x) false
             (suc (length p.setup.question.roads.arcs));
       }) (record r { busy = set r.busy i x; deficits = set r.deficits j d' }) n ns
   keep_busy p r n ns v j b i x d' D P Q t h s = record {
@@ -165,24 +165,24 @@ module _ {S V : Type 0} where
       told = D.sized.told;
     };
     seen = record { labels = D.seen.labels; engagers = D.seen.engagers; busy = refl; told = D.seen.told };
-    counts = subst (λ (ys : List Bool). IsCounted (record p { busy = ys }) (record r { busy = set r.busy i x; deficits = set r.deficits j d' })) (sym (busy_written p r n ns b i x D Q)) counts;
-    sound = subst (λ (ys : List Bool). LocalInvariant (network_in p.setup) (place_in p.setup) (record p { busy = ys })) (sym (busy_written p r n ns b i x D Q)) s;
+    counts = subst (λ (ys : List Bool). AreRowDeficits (record p { busy = ys }) (record r { busy = set r.busy i x; deficits = set r.deficits j d' })) (sym (busy_written p r n ns b i x D Q)) counts;
+    sound = subst (λ (ys : List Bool). LocalInvariant (network_of p.setup) (place_in p.setup) (record p { busy = ys })) (sym (busy_written p r n ns b i x D Q)) s;
     roomy = record { queue = D.roomy.queue; boxes = D.roomy.boxes; rings = D.roomy.rings; outs = D.roomy.outs };
     tallied = D.tallied;
   }
     where
       long : length p.busy ≡ suc (length p.setup.question.roads.arcs)
-      long = table_long (arcs_out (network_in p.setup) (local_vertices p.setup p.shard)) r.busy p.busy false (suc (length p.setup.question.roads.arcs)) D.seen.busy
+      long = table_long (arcs_out (network_of p.setup) (local_vertices p.setup p.shard)) r.busy p.busy false (suc (length p.setup.question.roads.arcs)) D.seen.busy
 
-      counts : IsCounted (record p { busy = set p.busy b x }) (record r { busy = set r.busy i x; deficits = set r.deficits j d' })
+      counts : AreRowDeficits (record p { busy = set p.busy b x }) (record r { busy = set r.busy i x; deficits = set r.deficits j d' })
       counts k l = elim (cases_eq k j) [
         | inl e ↦ (let w = get_or-set_same r.deficits j d' 0 (let q = D.sized.deficits in let z = P.inside in omega (arith, q, z)) in
             let u = ap (λ m. get_or (set r.deficits j d') m 0) e in
             let c = D.counts j P.inside in
-            let g : (network_in p.setup).tail b ≡ get_or (local_vertices p.setup p.shard) j 0 = t ∙ sym P.vertex in
+            let g : (network_of p.setup).tail b ≡ get_or (local_vertices p.setup p.shard) j 0 = t ∙ sym P.vertex in
             let y = busy_here p (get_or (local_vertices p.setup p.shard) j 0) b x (suc (length p.setup.question.roads.arcs)) (arc_below p b i Q)
             (let z = arc_below p b i Q in let q = long in omega (arith, z, q)) g in
-            let v2 = ap (λ m. busy_out (network_in p.setup) (get_or (local_vertices p.setup p.shard) m 0)
+            let v2 = ap (λ m. busy_out (network_of p.setup) (get_or (local_vertices p.setup p.shard) m 0)
             (state_in (record p { busy = set p.busy b x })) (suc (length p.setup.question.roads.arcs))) e in
             omega (arith, w, u, c, y, h, v2))
         | inr ne ↦ get_or-set_other r.deficits j k d' 0 ne ∙ D.counts k l
@@ -196,19 +196,19 @@ module _ {S V : Type 0} where
           ]
 
   pub occupy_keeps : (p old : PartData S V) (r : Rows V) (n : ℕ) (ns : List ℕ) (v j b i d : ℕ) → p ≡ old → RepInvariant p r n ns → IsPlace old v j
-      → IsRow old b i → (network_in old.setup).tail b ≡ v → v ≢ 0 → get_or old.busy b false ≡ false →
+      → IsArcRow old b i → (network_of old.setup).tail b ≡ v → v ≢ 0 → get_or old.busy b false ≡ false →
       d ≡ get_or r.deficits j 0 →
       RepInvariant (record p {
-        busy = scatter (arcs_out (network_in p.setup) (local_vertices p.setup p.shard)) (set r.busy i true) false
+        busy = scatter (arcs_out (network_of p.setup) (local_vertices p.setup p.shard)) (set r.busy i true) false
             (suc (length p.setup.question.roads.arcs));
       }) (record r { busy = set r.busy i true; deficits = set r.deficits j (d + 1) }) n ns
-      × IsClear (record p { busy = scatter (arcs_out (network_in p.setup) (local_vertices p.setup p.shard)) (set r.busy i true) false (suc (length p.setup.question.roads.arcs)) }) b
+      × IsClear (record p { busy = scatter (arcs_out (network_of p.setup) (local_vertices p.setup p.shard)) (set r.busy i true) false (suc (length p.setup.question.roads.arcs)) }) b
   occupy_keeps p old r n ns v j b i d e D stands lies t nz f h =
       let P = place_at p old v j e stands in let Q = row_at p old b i e lies in
-      let t2 : (network_in p.setup).tail b ≡ v = subst (λ (u : PartData S V). (network_in u.setup).tail b ≡ v) (sym e) t in
+      let t2 : (network_of p.setup).tail b ≡ v = subst (λ (u : PartData S V). (network_of u.setup).tail b ≡ v) (sym e) t in
       let f2 : get_or p.busy b false ≡ false = subst (λ (u : PartData S V). get_or u.busy b false ≡ false) (sym e) f in
-      let m : place_in p.setup ((network_in p.setup).tail b) ≡ p.shard = ap (place_in p.setup) (t2 ∙ sym P.vertex) ∙ own_placed p.setup p.shard j P.inside (λ w. nz (sym P.vertex ∙ w)) in
-      let l : b < length p.busy = (let w = table_long (arcs_out (network_in p.setup) (local_vertices p.setup p.shard)) r.busy p.busy false
+      let m : place_in p.setup ((network_of p.setup).tail b) ≡ p.shard = ap (place_in p.setup) (t2 ∙ sym P.vertex) ∙ own_placed p.setup p.shard j P.inside (λ w. nz (sym P.vertex ∙ w)) in
+      let l : b < length p.busy = (let w = table_long (arcs_out (network_of p.setup) (local_vertices p.setup p.shard)) r.busy p.busy false
       (suc (length p.setup.question.roads.arcs)) D.seen.busy in let z = arc_below p b i Q in omega (arith, w, z)) in
       let O = occupy_sound p b D.sound l m f2 in
       let z = ap one_if f2 in (
@@ -219,30 +219,30 @@ module _ {S V : Type 0} where
   -- the table of arcs is no longer than all arcs with the environment's
   pub rows_few : (p : PartData S V) (r : Rows V) (n : ℕ) (ns : List ℕ) → RepInvariant p r n ns → length r.busy ≤ 2 ^ 27 + 1
   rows_few p r n ns D =
-      let m = own_arcs_most (network_in p.setup) (place_in p.setup) p.shard p.setup.question.roads.vertices (length (local_vertices p.setup p.shard)) in
-      let t = ap (λ vs. length (arcs_out (network_in p.setup) vs)) (take_all (length (local_vertices p.setup p.shard)) (local_vertices p.setup p.shard) (omega arith)) in
+      let m = own_arcs_most (network_of p.setup) (place_in p.setup) p.shard p.setup.question.roads.vertices (length (local_vertices p.setup p.shard)) in
+      let t = ap (λ vs. length (arcs_out (network_of p.setup) vs)) (take_all (length (local_vertices p.setup p.shard)) (local_vertices p.setup p.shard) (omega arith)) in
       let s = D.sized.busy in let a = D.planned.roads.few_arcs in omega (arith, m, t, s, a)
 
   pub deficit_few : (p old : PartData S V) (r : Rows V) (n : ℕ) (ns : List ℕ) (v j d : ℕ) → p ≡ old → RepInvariant p r n ns → IsPlace old v j → d ≡ get_or r.deficits j 0 → d ≤ 2 ^ 27 + 1
   deficit_few p old r n ns v j d e D R h =
       let P = place_at p old v j e R in
-      let c = D.counts j P.inside in let m = busy_most (network_in p.setup) (get_or (local_vertices p.setup p.shard) j 0) (state_in p) (suc (length p.setup.question.roads.arcs)) in
+      let c = D.counts j P.inside in let m = busy_most (network_of p.setup) (get_or (local_vertices p.setup p.shard) j 0) (state_in p) (suc (length p.setup.question.roads.arcs)) in
       let a = D.planned.roads.few_arcs in omega (arith, h, c, m, a)
 
   pub free_keeps : (p old : PartData S V) (r : Rows V) (n : ℕ) (ns : List ℕ) (v j a i d : ℕ) → p ≡ old → RepInvariant p r n ns → IsPlace old v j
-      → IsRow old a i → (network_in old.setup).tail a ≡ v → place_in old.setup v ≡ old.shard → IsClear old a →
+      → IsArcRow old a i → (network_of old.setup).tail a ≡ v → place_in old.setup v ≡ old.shard → IsClear old a →
       d ≡ get_or r.deficits j 0 →
       (1 ≤ d) × RepInvariant (record p {
-        busy = scatter (arcs_out (network_in p.setup) (local_vertices p.setup p.shard)) (set r.busy i false) false
+        busy = scatter (arcs_out (network_of p.setup) (local_vertices p.setup p.shard)) (set r.busy i false) false
             (suc (length p.setup.question.roads.arcs));
       }) (record r { busy = set r.busy i false; deficits = set r.deficits j (d - 1) }) n ns
   free_keeps p old r n ns v j a i d e D stands lies t m z h =
       let P = place_at p old v j e stands in let Q = row_at p old a i e lies in
-      let t2 : (network_in p.setup).tail a ≡ v = subst (λ (u : PartData S V). (network_in u.setup).tail a ≡ v) (sym e) t in
+      let t2 : (network_of p.setup).tail a ≡ v = subst (λ (u : PartData S V). (network_of u.setup).tail a ≡ v) (sym e) t in
       let m2 : place_in p.setup v ≡ p.shard = subst (λ (u : PartData S V). place_in u.setup v ≡ u.shard) (sym e) m in
       let z2 : IsClear p a = subst (λ (u : PartData S V). IsClear u a) (sym e) z in
       let f2 = clear_busy p a (ap (place_in p.setup) t2 ∙ m2) z2 in
-      let l : a < length p.busy = (let w = table_long (arcs_out (network_in p.setup) (local_vertices p.setup p.shard)) r.busy p.busy false
+      let l : a < length p.busy = (let w = table_long (arcs_out (network_of p.setup) (local_vertices p.setup p.shard)) r.busy p.busy false
       (suc (length p.setup.question.roads.arcs)) D.seen.busy in let y = arc_below p a i Q in omega (arith, w, y)) in
       let one = ap one_if f2 in
       let c = D.counts j P.inside in

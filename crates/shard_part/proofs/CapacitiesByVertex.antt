@@ -7,7 +7,7 @@ use Rattle.shard_part.specs.Tables.{placed}
 use Rattle.shard_part.specs.Weights.{total, is}
 use Rattle.shard_part.specs.Outgoing.{outgoing}
 use Rattle.shard_part.specs.Capacities.{touches, joins, queue_bound, outbox_bound}
-use Rattle.shard_part.specs.Opening.{turned, leading_to, coming_from}
+use Rattle.shard_part.specs.Opening.{reversed_network, leading_to, coming_from}
 use Rattle.shard_part.proofs.Counting.{total_same, total_both, sum_swap, total_swap, total_out, placed_none, placed_once}
 use Rattle.scholten_core.proofs.Sums.{one_if-most, sum_same, sum_zero, sum_ones, sum_add, sum_most, sum_term, sum_one}
 
@@ -102,16 +102,16 @@ module _ (N : Network) (place : ℕ → ℕ) where
 
   -- the arcs that the vertices of a list see
   abbrev pub seen_at : ℕ → ℕ → ℕ → ℕ
-  seen_at s t v = leading_to N place t (outgoing N v) + coming_from N place s t (outgoing (turned N) v)
+  seen_at s t v = leading_to N place t (outgoing N v) + coming_from N place s t (outgoing (reversed_network N) v)
 
   pub seen_all : (s t n : ℕ) → N.tail 0 ≡ 0 → place (N.head 0) ≡ place 0 → ((b : ℕ) → b ≢ 0 → b < suc N.arcs → (1 ≤ N.tail b) × (N.tail b ≤ n) × (1 ≤ N.head b) × (N.head b ≤ n)) →
       cond (eqb (place 0) s) (is t s) 0 + total (seen_at s t) (placed place s 1 n) ≡ outbox_bound N place s t
   seen_all s t n tz hz ends =
       let f : ℕ → ℕ = λ b. is t (place (N.head b)) in
       let g : ℕ → ℕ = λ b. cond (eqb (place (N.tail b)) s) 0 (is t (place (N.tail b))) in
-      let M : Network = turned N in
+      let M : Network = reversed_network N in
       let a = total_same (seen_at s t) (λ v. sum_below (λ b. cond (eqb (N.tail b) v) (f b) 0) (suc N.arcs) + sum_below (λ b. cond (eqb (M.tail b) v) (g b) 0) (suc N.arcs)) (placed place s 1 n)
-      (λ v. λ i. total_out N f v i + total_out (turned N) g v i) in
+      (λ v. λ i. total_out N f v i + total_out (reversed_network N) g v i) in
       let b = total_both (λ v. sum_below (λ b. cond (eqb (N.tail b) v) (f b) 0) (suc N.arcs)) (λ v. sum_below (λ b. cond (eqb (M.tail b) v) (g b) 0) (suc N.arcs)) (placed place s 1 n) in
       let c = total_swap (λ v b. cond (eqb (N.tail b) v) (f b) 0) (placed place s 1 n) (suc N.arcs) in
       let d = total_swap (λ v b. cond (eqb (M.tail b) v) (g b) 0) (placed place s 1 n) (suc N.arcs) in
@@ -127,18 +127,18 @@ module _ (N : Network) (place : ℕ → ℕ) where
 
       each : (b : ℕ) → b ≢ 0 → (1 ≤ N.tail b) × (N.tail b ≤ n) × (1 ≤ N.head b) × (N.head b ≤ n) →
           total (λ v. cond (eqb (N.tail b) v) (is t (place (N.head b))) 0) (placed place s 1 n) + total
-          (λ v. cond (eqb ((turned N).tail b) v) (cond (eqb (place (N.tail b)) s) 0 (is t (place (N.tail b)))) 0) (placed place s 1 n)
+          (λ v. cond (eqb ((reversed_network N).tail b) v) (cond (eqb (place (N.tail b)) s) 0 (is t (place (N.tail b)))) 0) (placed place s 1 n)
           ≡ joins N place s t b
       each b nz E =
           let o = placed_once place s (N.tail b) (is t (place (N.head b))) 1 n E.0 (let l = E.1 in omega (arith, l)) in
-          let k : (turned N).tail b ≡ N.head b = cond-false (eqb b 0) 0 (N.head b) (ne_eqb b 0 nz) in
+          let k : (reversed_network N).tail b ≡ N.head b = cond-false (eqb b 0) 0 (N.head b) (ne_eqb b 0 nz) in
           let i = ap (λ y. total (λ v. cond (eqb y v) (cond (eqb (place (N.tail b)) s) 0 (is t (place (N.tail b)))) 0) (placed place s 1 n)) k
           ∙ placed_once place s (N.head b) (cond (eqb (place (N.tail b)) s) 0 (is t (place (N.tail b)))) 1 n E.2 (let l = E.3 in omega (arith, l)) in
           let x = seen_twice s t (place (N.tail b)) (place (N.head b)) in
           let y = joins_seen s t (place (N.tail b)) (place (N.head b)) in omega (arith, o, i, x, y)
 
       first : total (λ v. cond (eqb (N.tail 0) v) (is t (place (N.head 0))) 0) (placed place s 1 n) + total
-          (λ v. cond (eqb ((turned N).tail 0) v) (cond (eqb (place (N.tail 0)) s) 0 (is t (place (N.tail 0)))) 0) (placed place s 1 n) ≡ 0
+          (λ v. cond (eqb ((reversed_network N).tail 0) v) (cond (eqb (place (N.tail 0)) s) 0 (is t (place (N.tail 0)))) 0) (placed place s 1 n) ≡ 0
       first = let a = ap (λ y. total (λ v. cond (eqb y v) (is t (place (N.head 0))) 0) (placed place s 1 n)) tz ∙ placed_none place s 0 (is t (place (N.head 0))) 1 n (omega arith) in
           let b = placed_none place s 0 (cond (eqb (place (N.tail 0)) s) 0 (is t (place (N.tail 0)))) 1 n (omega arith) in omega (arith, a, b)
 

@@ -11,7 +11,7 @@ use Rattle.scholten_core.specs.Diffusion.{CoreState, put, is_idle, is_due, impro
 use Rattle.scholten_core.specs.Items.{item_arc, item_of, pump_made, settle_made, IsDistinct, IsOutList}
 use Rattle.scholten_core.proofs.Basics.{put_tells, due_tells}
 use Rattle.shard_part.specs.Tallies.{counted_on, top}
-use Rattle.shard_part.specs.PartState.{PartData, Setup, network_in, place_in, state_in, token_if, mine, vertex_of, IsArc}
+use Rattle.shard_part.specs.PartState.{PartData, Setup, network_of, place_in, state_in, token_if, mine, vertex_of, IsArc}
 use Rattle.shard_part.specs.Weights.{Channels, channels_of, total, message_weight, signal_weight}
 use Rattle.shard_part.specs.Handling.{routes, route, arrive_here, settle_here, taken, made, HandledItemIn}
 use Rattle.shard_part.specs.Outgoing.{outgoing}
@@ -65,13 +65,13 @@ module _ {V : Type 0} (A : Algebra V) where
   answer_told a (Some e) = refl
 
 module _ {S V : Type 0} (A : Algebra V) where
-  pub has_told : (p : PartData S V) → OwnIdleIsTold p → HasTold A (network_in p.setup) (mine (place_in p.setup) p.shard) 0 (state_in p)
+  pub has_told : (p : PartData S V) → OwnIdleIsTold p → HasTold A (network_of p.setup) (mine (place_in p.setup) p.shard) 0 (state_in p)
   has_told p T b m n k i = T b (eqb-true _ _ m) n i
 
   -- the arcs out of a vertex are within the tables
-  out_within : (p : PartData S V) → WellFormed (network_in p.setup) → IsFit p → (v : ℕ) → v ≢ 0 → (b : ℕ) → Contains (outgoing (network_in p.setup) v) b → (b < length p.told) × (b < length p.busy)
+  out_within : (p : PartData S V) → WellFormed (network_of p.setup) → IsFit p → (v : ℕ) → v ≢ 0 → (b : ℕ) → Contains (outgoing (network_of p.setup) v) b → (b < length p.told) × (b < length p.busy)
   out_within p W F v n b l =
-      let t : (network_in p.setup).tail b ≡ v = (outgoing_is A (network_in p.setup) W v n).only b l in
+      let t : (network_of p.setup).tail b ≡ v = (outgoing_is A (network_of p.setup) W v n).only b l in
       let r : b ≤ length p.setup.question.roads.arcs = W.real b (λ z. n (sym t ∙ z)) in
       let e = F.told in
       let f = F.busy in
@@ -79,24 +79,24 @@ module _ {S V : Type 0} (A : Algebra V) where
 
   -- the message has arrived and was answered; then the head settles
   arrived : Lawful A → (p : PartData S V) (a : ℕ) (x : V) (o : Option ℕ) (ls : List (Option V)) (es : List (Option ℕ)) (qs : List (Item V)) (os : List (List (Item V))) (m : ℕ) (xs : List ℕ) →
-      IsFit p → m ≤ top → (network_in p.setup).head a < length es → (state_in p).engager ((network_in p.setup).head a) ≡ o →
-      (λ j. get_or ls j None) ≡ put (state_in p).label ((network_in p.setup).head a) (better_of A x ((state_in p).label ((network_in p.setup).head a))) →
-      (λ j. get_or es j None) ≡ put (state_in p).engager ((network_in p.setup).head a) (engaged_by o a) →
-      record { queue = qs; outs = os } ≡ routes (network_in p.setup) (place_in p.setup) p.shard (item_of {V = V} a (answer_to o)) (channels_of p) →
+      IsFit p → m ≤ top → (network_of p.setup).head a < length es → (state_in p).engager ((network_of p.setup).head a) ≡ o →
+      (λ j. get_or ls j None) ≡ put (state_in p).label ((network_of p.setup).head a) (better_of A x ((state_in p).label ((network_of p.setup).head a))) →
+      (λ j. get_or es j None) ≡ put (state_in p).engager ((network_of p.setup).head a) (engaged_by o a) →
+      record { queue = qs; outs = os } ≡ routes (network_of p.setup) (place_in p.setup) p.shard (item_of {V = V} a (answer_to o)) (channels_of p) →
       m ≡ counted_on (total signal_weight (item_of {V = V} a (answer_to o))) p.signalled →
-      IsDistinct A (network_in p.setup) xs → ((b : ℕ) → Contains xs b → (b < length p.told) × (b < length p.busy)) →
-      ((b : ℕ) → (Contains xs b → ⊥) → is_due A (network_in p.setup) ((network_in p.setup).head a) (arrive_here A (network_in p.setup) a x (state_in p)) b ≡ false) →
-      pump_made A (network_in p.setup) ((network_in p.setup).head a) (arrive_here A (network_in p.setup) a x (state_in p)) (outgoing (network_in p.setup) ((network_in p.setup).head a))
-      ≡ pump_made A (network_in p.setup) ((network_in p.setup).head a) (arrive_here A (network_in p.setup) a x (state_in p)) xs →
-      Made A (taken A (network_in p.setup) (MessageOn a x) (state_in p)) (made A (network_in p.setup) (MessageOn a x) (state_in p)) p
-      (rested A ((network_in p.setup).head a) (offered_all A ((network_in p.setup).head a) xs (record p { labels = ls; engagers = es; queue = qs; outs = os; signalled = m })))
+      IsDistinct A (network_of p.setup) xs → ((b : ℕ) → Contains xs b → (b < length p.told) × (b < length p.busy)) →
+      ((b : ℕ) → (Contains xs b → ⊥) → is_due A (network_of p.setup) ((network_of p.setup).head a) (arrive_here A (network_of p.setup) a x (state_in p)) b ≡ false) →
+      pump_made A (network_of p.setup) ((network_of p.setup).head a) (arrive_here A (network_of p.setup) a x (state_in p)) (outgoing (network_of p.setup) ((network_of p.setup).head a))
+      ≡ pump_made A (network_of p.setup) ((network_of p.setup).head a) (arrive_here A (network_of p.setup) a x (state_in p)) xs →
+      Made A (taken A (network_of p.setup) (MessageOn a x) (state_in p)) (made A (network_of p.setup) (MessageOn a x) (state_in p)) p
+      (rested A ((network_of p.setup).head a) (offered_all A ((network_of p.setup).head a) xs (record p { labels = ls; engagers = es; queue = qs; outs = os; signalled = m })))
   arrived L p a x o ls es qs os m xs F top_m long e label engager channels back D within quiet same =
-      let N = network_in p.setup in
-      let v = (network_in p.setup).head a in
+      let N = network_of p.setup in
+      let v = (network_of p.setup).head a in
       let p2 : PartData S V = record p { labels = ls; engagers = es; queue = qs; outs = os; signalled = m } in
-      let q : PartData S V = rested A ((network_in p.setup).head a) (offered_all A ((network_in p.setup).head a) xs (record p { labels = ls; engagers = es; queue = qs; outs = os; signalled = m })) in
-      let engages_or_answers : (λ j. get_or es j None) ≡ put (state_in p).engager ((network_in p.setup).head a) (engaged_by ((state_in p).engager ((network_in p.setup).head a)) a) =
-      engager ∙ ap (λ u. put (state_in p).engager ((network_in p.setup).head a) (engaged_by u a)) (sym e) in
+      let q : PartData S V = rested A ((network_of p.setup).head a) (offered_all A ((network_of p.setup).head a) xs (record p { labels = ls; engagers = es; queue = qs; outs = os; signalled = m })) in
+      let engages_or_answers : (λ j. get_or es j None) ≡ put (state_in p).engager ((network_of p.setup).head a) (engaged_by ((state_in p).engager ((network_of p.setup).head a)) a) =
+      engager ∙ ap (λ u. put (state_in p).engager ((network_of p.setup).head a) (engaged_by u a)) (sym e) in
       let here : state_in p2 ≡ arrive_here A N a x (state_in p) = λ i. record { label = label i; engager = engages_or_answers i; token = (state_in p).token; told = (state_in p).told } in
       let R = settles A v xs (outgoing N v) p2 F.sent top_m long D within
       (subst (λ d. (b : ℕ) → (Contains xs b → ⊥) → is_due A N v d b ≡ false) (sym here) quiet)
@@ -107,16 +107,16 @@ module _ {S V : Type 0} (A : Algebra V) where
       (made_after A (taken A N (MessageOn a x) (state_in p)) (item_of a (answer_to o)) (settle_made A N v (arrive_here A N a x (state_in p)) (outgoing N v)) p q ls es qs os p.sent m channels
       (sym (counted_none p.sent F.sent) ∙ ap (λ k. counted_on k p.sent) (sym (answer_told A a o))) back T)
 
-  pub message_taken : Lawful A → (p : PartData S V) (a : ℕ) (x : V) → WellFormed (network_in p.setup) → IsFit p → OwnIdleIsTold p → place_in p.setup ((network_in p.setup).head a) ≡ p.shard →
-      (network_in p.setup).head a ≢ 0 → (network_in p.setup).head a ≤ p.setup.question.roads.vertices →
-      Made A (taken A (network_in p.setup) (MessageOn a x) (state_in p)) (made A (network_in p.setup) (MessageOn a x) (state_in p)) p (with_value A a x ((network_in p.setup).head a) p)
+  pub message_taken : Lawful A → (p : PartData S V) (a : ℕ) (x : V) → WellFormed (network_of p.setup) → IsFit p → OwnIdleIsTold p → place_in p.setup ((network_of p.setup).head a) ≡ p.shard →
+      (network_of p.setup).head a ≢ 0 → (network_of p.setup).head a ≤ p.setup.question.roads.vertices →
+      Made A (taken A (network_of p.setup) (MessageOn a x) (state_in p)) (made A (network_of p.setup) (MessageOn a x) (state_in p)) p (with_value A a x ((network_of p.setup).head a) p)
   message_taken L p a x W F T here n within = go (improves A x ((state_in p).label v)) refl ((state_in p).engager v) refl
     where
       N : Network
-      N = network_in p.setup
+      N = network_of p.setup
 
       v : ℕ
-      v = (network_in p.setup).head a
+      v = (network_of p.setup).head a
 
       O : IsOutList A N v (outgoing N v)
       O = outgoing_is A N W v n
@@ -167,7 +167,7 @@ module _ {S V : Type 0} (A : Algebra V) where
   unfolding offered_all
   offered_alone v b p = refl
 
-  free_is : (p : PartData S V) (a : ℕ) → a < length p.busy → state_in (record p { busy = set p.busy a false }) ≡ freed A (network_in p.setup) a (state_in p)
+  free_is : (p : PartData S V) (a : ℕ) → a < length p.busy → state_in (record p { busy = set p.busy a false }) ≡ freed A (network_of p.setup) a (state_in p)
   free_is p a l = λ i. record {
     label = (state_in p).label;
     engager = (state_in p).engager;
@@ -178,9 +178,9 @@ module _ {S V : Type 0} (A : Algebra V) where
     told = (state_in p).told;
   }
 
-  pub signal_taken : Lawful A → (p : PartData S V) (a : ℕ) → WellFormed (network_in p.setup) → IsFit p → OwnIdleIsTold p → place_in p.setup ((network_in p.setup).tail a) ≡ p.shard →
-      (a ≢ 0 → (network_in p.setup).tail a ≢ 0) → (network_in p.setup).tail a ≤ p.setup.question.roads.vertices →
-      Made A (taken A (network_in p.setup) (SignalOn a) (state_in p)) (made A (network_in p.setup) (SignalOn a) (state_in p)) p (with_free A a ((network_in p.setup).tail a) p)
+  pub signal_taken : Lawful A → (p : PartData S V) (a : ℕ) → WellFormed (network_of p.setup) → IsFit p → OwnIdleIsTold p → place_in p.setup ((network_of p.setup).tail a) ≡ p.shard →
+      (a ≢ 0 → (network_of p.setup).tail a ≢ 0) → (network_of p.setup).tail a ≤ p.setup.question.roads.vertices →
+      Made A (taken A (network_of p.setup) (SignalOn a) (state_in p)) (made A (network_of p.setup) (SignalOn a) (state_in p)) p (with_free A a ((network_of p.setup).tail a) p)
   signal_taken L p zero W F T here n within =
       let e = free_is p 0 (let b = F.busy in omega (arith, b)) in record {
         setup = refl;
@@ -193,9 +193,9 @@ module _ {S V : Type 0} (A : Algebra V) where
         accepted = refl;
       }
   signal_taken L p (suc k) W F T here n within =
-      let N = network_in p.setup in
-      let v = (network_in p.setup).tail (suc k) in
-      let nz : (network_in p.setup).tail (suc k) ≢ 0 = n (λ z. omega (arith, z)) in
+      let N = network_of p.setup in
+      let v = (network_of p.setup).tail (suc k) in
+      let nz : (network_of p.setup).tail (suc k) ≢ 0 = n (λ z. omega (arith, z)) in
       let O = outgoing_is A N W v nz in
       let p1 : PartData S V = record p { busy = set p.busy (suc k) false } in
       let in_busy : suc k < length p.busy = (out_within p W F v nz (suc k) (O.all (suc k) refl)).1 in
@@ -214,17 +214,17 @@ module _ {S V : Type 0} (A : Algebra V) where
       subst (λ u. Made A (settle_here A N v (freed A N (suc k) (state_in p))) (settle_made A N v (freed A N (suc k) (state_in p)) (outgoing N v)) p1 (rested A v u)) (offered_alone v (suc k) p1) M in
       record { setup = Q.setup; shard = Q.shard; tables = Q.tables; channels = Q.channels; sent = Q.sent; signalled = Q.signalled; delivered = Q.delivered; accepted = Q.accepted }
 
-  head_within : (p : PartData S V) → IsPlanned p.setup p.shard → (a : ℕ) → IsArc (network_in p.setup) a → (network_in p.setup).head a ≤ p.setup.question.roads.vertices
+  head_within : (p : PartData S V) → IsPlanned p.setup p.shard → (a : ℕ) → IsArc (network_of p.setup) a → (network_of p.setup).head a ≤ p.setup.question.roads.vertices
   head_within p P zero r = let e = head_of_entry p.setup P.source in let s = P.source.1 in omega (arith, e, s)
   head_within p P (suc k) r = (head_of_arc p.setup P.roads (suc k) (λ z. omega (arith, z)) r).2
 
-  tail_within : (p : PartData S V) → IsPlanned p.setup p.shard → (a : ℕ) → IsArc (network_in p.setup) a → (network_in p.setup).tail a ≤ p.setup.question.roads.vertices
+  tail_within : (p : PartData S V) → IsPlanned p.setup p.shard → (a : ℕ) → IsArc (network_of p.setup) a → (network_of p.setup).tail a ≤ p.setup.question.roads.vertices
   tail_within p P zero r = let e = tail_of_entry p.setup in omega (arith, e)
   tail_within p P (suc k) r = (tail_of_arc p.setup P.roads (suc k) (λ z. omega (arith, z)) r).2
 
   -- the item i is taken, where zs stood behind it
-  handled : Lawful A → (p : PartData S V) (i : Item V) (zs : List (Item V)) → IsPlanned p.setup p.shard → IsFit p → OwnIdleIsTold p → p.queue ≡ i ∷ zs → IsArc (network_in p.setup) (item_arc i) →
-      place_in p.setup (vertex_of (network_in p.setup) i) ≡ p.shard → HandledItemIn A (network_in p.setup) (place_in p.setup) p i (with_taken A i (record p { queue = zs }))
+  handled : Lawful A → (p : PartData S V) (i : Item V) (zs : List (Item V)) → IsPlanned p.setup p.shard → IsFit p → OwnIdleIsTold p → p.queue ≡ i ∷ zs → IsArc (network_of p.setup) (item_arc i) →
+      place_in p.setup (vertex_of (network_of p.setup) i) ≡ p.shard → HandledItemIn A (network_of p.setup) (place_in p.setup) p i (with_taken A i (record p { queue = zs }))
   handled L p (MessageOn a x) zs P F T front r here =
       let p0 : PartData S V = record p { queue = zs; delivered = counted_on 1 p.delivered } in
       let M = message_taken L p0 a x (formed p p.shard P)
@@ -277,10 +277,10 @@ module _ {S V : Type 0} (A : Algebra V) where
 
   -- the front item was taken off the queue, and did what it does
   pub popped_taken : Lawful A → (p m q : PartData S V) (i : Item V) → IsPlanned p.setup p.shard → IsFit p → OwnIdleIsTold p → IsPopped p m i
-      → q ≡ with_taken A i m → HandledItemIn A (network_in p.setup) (place_in p.setup) p i q
+      → q ≡ with_taken A i m → HandledItemIn A (network_of p.setup) (place_in p.setup) p i q
   popped_taken L p m q i P F T O e =
       let s : m.setup ≡ p.setup = ap (λ (u : PartData S V). u.setup) O.same in
       let z : m.shard ≡ p.shard = ap (λ (u : PartData S V). u.shard) O.same in
-      let r : IsArc (network_in p.setup) (item_arc i) = subst (λ (t : Setup S). IsArc (network_in t) (item_arc i)) s O.arc in
-      let here : place_in p.setup (vertex_of (network_in p.setup) i) ≡ p.shard = subst (λ (t : Setup S). place_in t (vertex_of (network_in t) i) ≡ p.shard) s (O.here ∙ z) in
-      subst (HandledItemIn A (network_in p.setup) (place_in p.setup) p i) (ap (with_taken A i) (sym O.same) ∙ sym e) (handled L p i m.queue P F T O.front r here)
+      let r : IsArc (network_of p.setup) (item_arc i) = subst (λ (t : Setup S). IsArc (network_of t) (item_arc i)) s O.arc in
+      let here : place_in p.setup (vertex_of (network_of p.setup) i) ≡ p.shard = subst (λ (t : Setup S). place_in t (vertex_of (network_of t) i) ≡ p.shard) s (O.here ∙ z) in
+      subst (HandledItemIn A (network_of p.setup) (place_in p.setup) p i) (ap (with_taken A i) (sym O.same) ∙ sym e) (handled L p i m.queue P F T O.front r here)

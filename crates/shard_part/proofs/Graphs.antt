@@ -2,23 +2,23 @@
 use Rattle.std.proofs.Common.{◌≡◌, ◌≢◌, ℕ, zero, suc, ◌+◌, ◌-◌, ◌<◌, ◌≤◌, List, length, get_or, take, ◌⊎◌, refl, sym, ap, ◌∙◌, subst, inl, inr, arith, Contains}
 use Rattle.std.proofs.lemmas.Grind.{get_or_default_zero}
 use Rattle.std.proofs.lemmas.List.{get_or-map, length-map}
-use Rattle.road_graph.specs.Roads.{Roads, IsRoads, HasVertex, HasArc, ListsArcsFrom, ListsRoadsFrom, arc_of, road_of, roads_of}
+use Rattle.road_graph.specs.GraphData.{GraphData, IsGraph, HasVertex, HasArc, ListsArcsFrom, ListsRoadsFrom, arc_of, road_of, roads_of}
 use Rattle.road_graph.specs.declared.OutRoad.{OutRoad}
 use Rattle.scholten_core.specs.Network.{network}
 use Rattle.scholten_core.proofs.Networks.{out_of, real_arc, tail-arc, head-arc, tail-entry, head-entry}
 use Rattle.road_graph.proofs.Lists.{element_place}
 use Rattle.std.proofs.lemmas.List.Elements.{Contains-get_or}
 use Rattle.shard_part.specs.Plans.{shard_in, HasPlanned}
-use Rattle.shard_part.specs.PartState.{Setup, PartData, network_in, place_in, IsArc}
+use Rattle.shard_part.specs.PartState.{Setup, PartData, network_of, place_in, IsArc}
 use Rattle.shard_part.specs.Outgoing.{outgoing, local_vertices, arcs_out}
-use Rattle.shard_part.specs.Moves.{Rows, RepInvariant, IsPlace, IsRow}
+use Rattle.shard_part.specs.Moves.{Rows, RepInvariant, IsPlace, IsArcRow}
 use Rattle.std.specs.List.Sorted.{IsStrictlyIncreasing}
 use Rattle.shard_part.proofs.Ascending.{arcs_are}
 use Rattle.shard_part.proofs.Places.{arc_at_place, own_increasing, own_all}
 use Rattle.std.proofs.lemmas.Bool.{cases_eq}
 
 -- the graph's list of the arcs out of v is the one list
-pub out_is : (g : Roads) (s v : ℕ) (xs : List ℕ) → 1 ≤ v → ListsArcsFrom g v xs → xs ≡ outgoing (network g s) v
+pub out_is : (g : GraphData) (s v : ℕ) (xs : List ℕ) → 1 ≤ v → ListsArcsFrom g v xs → xs ≡ outgoing (network g s) v
 out_is g s v xs l o =
     let O = out_of g s v xs l o in
     arcs_are (network g s) v 0 (suc (length g.arcs)) 0 xs o.ascending
@@ -26,10 +26,10 @@ out_is g s v xs l o =
     (λ b t h k. let r = O.all b t in subst (Contains xs) r.2 (Contains-get_or xs r.0 0 r.1))
 
 -- its list of heads and weights has those of these arcs, in the same order
-pub roads_are : (g : Roads) (s v : ℕ) (rs : List OutRoad) → 1 ≤ v → ListsRoadsFrom g v rs → rs ≡ roads_of g (outgoing (network g s) v)
+pub roads_are : (g : GraphData) (s v : ℕ) (rs : List OutRoad) → 1 ≤ v → ListsRoadsFrom g v rs → rs ≡ roads_of g (outgoing (network g s) v)
 roads_are g s v rs l o = o.2 ∙ ap (roads_of g) (out_is g s v o.0 l o.1)
 
-pub road_is : (g : Roads) (s v k b : ℕ) (rs : List OutRoad) (d : OutRoad) → rs ≡ roads_of g (outgoing (network g s) v)
+pub road_is : (g : GraphData) (s v k b : ℕ) (rs : List OutRoad) (d : OutRoad) → rs ≡ roads_of g (outgoing (network g s) v)
     → k < length (outgoing (network g s) v) → get_or (outgoing (network g s) v) k 0 ≡ b → (k < length rs) × (get_or rs k d ≡ road_of (arc_of g b))
 road_is g s v k b rs d e l h = (
   (let z = ap (λ (ys : List OutRoad). length ys) e in let y = length-map (outgoing (network g s) v) (λ a. road_of (arc_of g a)) in omega (arith, z, y, l)),
@@ -53,41 +53,41 @@ module _ {S : Type 0} (t : Setup S) where
     | inr k ↦ place_vertex v k.0 ∙ ap (shard_in t.plan) (sym k.1)
   ]
 
-  pub graph_arc : (b : ℕ) → b ≢ 0 → IsArc (network_in t) b → HasArc t.question.roads b
+  pub graph_arc : (b : ℕ) → b ≢ 0 → IsArc (network_of t) b → HasArc t.question.roads b
   graph_arc b n r = real_arc t.question.roads b (r.1 n)
 
-  pub head_of_arc : IsRoads t.question.roads → (b : ℕ) → b ≢ 0 → IsArc (network_in t) b → ((network_in t).head b ≡ (arc_of t.question.roads b).head)
-      × (1 ≤ (network_in t).head b) × ((network_in t).head b ≤ t.question.roads.vertices)
+  pub head_of_arc : IsGraph t.question.roads → (b : ℕ) → b ≢ 0 → IsArc (network_of t) b → ((network_of t).head b ≡ (arc_of t.question.roads b).head)
+      × (1 ≤ (network_of t).head b) × ((network_of t).head b ≤ t.question.roads.vertices)
   head_of_arc R b n r = let h = graph_arc b n r in let e = head-arc t.question.roads t.question.source b h.0 in let j = (R.ends b h).1 in
       (e, (let a = j.0 in omega (arith, e, a)), (let a = j.1 in omega (arith, e, a)))
 
-  pub tail_of_arc : IsRoads t.question.roads → (b : ℕ) → b ≢ 0 → IsArc (network_in t) b → ((network_in t).tail b ≡ (arc_of t.question.roads b).tail)
-      × (1 ≤ (network_in t).tail b) × ((network_in t).tail b ≤ t.question.roads.vertices)
+  pub tail_of_arc : IsGraph t.question.roads → (b : ℕ) → b ≢ 0 → IsArc (network_of t) b → ((network_of t).tail b ≡ (arc_of t.question.roads b).tail)
+      × (1 ≤ (network_of t).tail b) × ((network_of t).tail b ≤ t.question.roads.vertices)
   tail_of_arc R b n r = let h = graph_arc b n r in let e = tail-arc t.question.roads b h.0 in let j = (R.ends b h).0 in
       (e, (let a = j.0 in omega (arith, e, a)), (let a = j.1 in omega (arith, e, a)))
 
-  pub head_of_entry : HasVertex t.question.roads t.question.source → ((network_in t).head 0 ≡ t.question.source)
+  pub head_of_entry : HasVertex t.question.roads t.question.source → ((network_of t).head 0 ≡ t.question.source)
   head_of_entry h = head-entry t.question.roads t.question.source
 
-  pub tail_of_entry : (network_in t).tail 0 ≡ 0
+  pub tail_of_entry : (network_of t).tail 0 ≡ 0
   tail_of_entry = tail-entry t.question.roads
 
 module _ {S V : Type 0} where
   -- where the arcs of a place begin
   pub row_leaves : (p old : PartData S V) (r : Rows V) (n : ℕ) (ns : List ℕ) (v j k d : ℕ) → p ≡ old → RepInvariant p r n ns → IsPlace old v j
-      → k < length (outgoing (network_in old.setup) v) → d ≡ get_or r.offsets j 0 →
-      (d + k < length r.busy) × IsRow old (get_or (outgoing (network_in old.setup) v) k 0) (d + k)
+      → k < length (outgoing (network_of old.setup) v) → d ≡ get_or r.offsets j 0 →
+      (d + k < length r.busy) × IsArcRow old (get_or (outgoing (network_of old.setup) v) k 0) (d + k)
   row_leaves p old r n ns v j k d e D Q l h =
       let P : IsPlace p v j = subst (λ (u : PartData S V). IsPlace u v j) (sym e) Q in
-      let l2 : k < length (outgoing (network_in p.setup) (get_or (local_vertices p.setup p.shard) j 0)) = subst
-      (λ w. k < length (outgoing (network_in p.setup) w)) (sym P.vertex)
-      (subst (λ (u : PartData S V). k < length (outgoing (network_in u.setup) v)) (sym e) l) in
-      let A = arc_at_place (network_in p.setup) (local_vertices p.setup p.shard) j k P.inside l2 in
-      let o : d ≡ length (arcs_out (network_in p.setup) (take j (local_vertices p.setup p.shard))) = h ∙ D.sized.starts j P.inside in (
+      let l2 : k < length (outgoing (network_of p.setup) (get_or (local_vertices p.setup p.shard) j 0)) = subst
+      (λ w. k < length (outgoing (network_of p.setup) w)) (sym P.vertex)
+      (subst (λ (u : PartData S V). k < length (outgoing (network_of u.setup) v)) (sym e) l) in
+      let A = arc_at_place (network_of p.setup) (local_vertices p.setup p.shard) j k P.inside l2 in
+      let o : d ≡ length (arcs_out (network_of p.setup) (take j (local_vertices p.setup p.shard))) = h ∙ D.sized.starts j P.inside in (
         (let a = A.0 in let b = D.sized.busy in omega (arith, a, b, o)),
-        subst (λ (u : PartData S V). IsRow u (get_or (outgoing (network_in u.setup) v) k 0) (d + k)) e (record {
+        subst (λ (u : PartData S V). IsArcRow u (get_or (outgoing (network_of u.setup) v) k 0) (d + k)) e (record {
           inside = (let a = A.0 in omega (arith, a, o));
-          arc = ap (λ i. get_or (arcs_out (network_in p.setup) (local_vertices p.setup p.shard)) (i + k) 0) o ∙ A.1 ∙ ap (λ w. get_or (outgoing (network_in p.setup) w) k 0) P.vertex;
+          arc = ap (λ i. get_or (arcs_out (network_of p.setup) (local_vertices p.setup p.shard)) (i + k) 0) o ∙ A.1 ∙ ap (λ w. get_or (outgoing (network_of p.setup) w) k 0) P.vertex;
         }),
       )
 
@@ -108,30 +108,30 @@ module _ {S V : Type 0} where
   })
 
   -- the head and the tail of an arc, the environment's among them
-  pub arc_in_graph : (p old : PartData S V) (r : Rows V) (n : ℕ) (ns : List ℕ) (a : ℕ) → p ≡ old → RepInvariant p r n ns → IsArc (network_in old.setup) a → a ≢ 0 → HasArc p.setup.question.roads a
-  arc_in_graph p old r n ns a e D h nz = graph_arc p.setup a nz (subst (λ (u : PartData S V). IsArc (network_in u.setup) a) (sym e) h)
+  pub arc_in_graph : (p old : PartData S V) (r : Rows V) (n : ℕ) (ns : List ℕ) (a : ℕ) → p ≡ old → RepInvariant p r n ns → IsArc (network_of old.setup) a → a ≢ 0 → HasArc p.setup.question.roads a
+  arc_in_graph p old r n ns a e D h nz = graph_arc p.setup a nz (subst (λ (u : PartData S V). IsArc (network_of u.setup) a) (sym e) h)
 
   -- an arc is the environment's, or one of the graph's
-  pub arc_within : (p old : PartData S V) (a : ℕ) → p ≡ old → IsArc (network_in old.setup) a → a ≤ length p.setup.question.roads.arcs
+  pub arc_within : (p old : PartData S V) (a : ℕ) → p ≡ old → IsArc (network_of old.setup) a → a ≤ length p.setup.question.roads.arcs
   arc_within p old a e h = elim (cases_eq a 0) [
     | inl z ↦ (omega (arith, z))
-    | inr n ↦ (graph_arc p.setup a n (subst (λ (u : PartData S V). IsArc (network_in u.setup) a) (sym e) h)).1
+    | inr n ↦ (graph_arc p.setup a n (subst (λ (u : PartData S V). IsArc (network_of u.setup) a) (sym e) h)).1
   ]
 
-  pub head_arc_is : (p old : PartData S V) (r : Rows V) (n : ℕ) (ns : List ℕ) (a : ℕ) → p ≡ old → RepInvariant p r n ns → IsArc (network_in old.setup) a → a ≢ 0 →
-      ((arc_of p.setup.question.roads a).head ≡ (network_in old.setup).head a) × (1 ≤ (arc_of p.setup.question.roads a).head)
+  pub head_arc_is : (p old : PartData S V) (r : Rows V) (n : ℕ) (ns : List ℕ) (a : ℕ) → p ≡ old → RepInvariant p r n ns → IsArc (network_of old.setup) a → a ≢ 0 →
+      ((arc_of p.setup.question.roads a).head ≡ (network_of old.setup).head a) × (1 ≤ (arc_of p.setup.question.roads a).head)
       × ((arc_of p.setup.question.roads a).head ≤ old.setup.question.roads.vertices)
   head_arc_is p old r n ns a e D h nz =
       let g = arc_in_graph p old r n ns a e D h nz in let j = (D.planned.roads.ends a g).1 in (
-        sym (head-arc p.setup.question.roads p.setup.question.source a g.0) ∙ ap (λ (u : PartData S V). (network_in u.setup).head a) e,
+        sym (head-arc p.setup.question.roads p.setup.question.source a g.0) ∙ ap (λ (u : PartData S V). (network_of u.setup).head a) e,
         j.0,
         subst (λ (u : PartData S V). (arc_of p.setup.question.roads a).head ≤ u.setup.question.roads.vertices) e j.1,
       )
 
   -- the head of an arc, as the graph tells it
   pub head_told : (p old : PartData S V) (r : Rows V) (n : ℕ) (ns : List ℕ) (b w : ℕ) → p ≡ old → RepInvariant p r n ns
-      → IsArc (network_in old.setup) b → b ≢ 0 → w ≡ (arc_of old.setup.question.roads b).head →
-      (w ≡ (network_in old.setup).head b) × HasPlanned p.setup.plan w
+      → IsArc (network_of old.setup) b → b ≢ 0 → w ≡ (arc_of old.setup.question.roads b).head →
+      (w ≡ (network_of old.setup).head b) × HasPlanned p.setup.plan w
   head_told p old r n ns b w e D h nz is =
       let H = head_arc_is p old r n ns b e D h nz in
       let q : w ≡ (arc_of p.setup.question.roads b).head = is ∙ ap (λ (u : PartData S V). (arc_of u.setup.question.roads b).head) (sym e) in

@@ -6,33 +6,33 @@ use Rattle.scholten_core.specs.Sums.{one_if}
 use Rattle.scholten_core.specs.Items.{item_arc}
 use Rattle.scholten_core.proofs.Networks.{well_formed}
 use Rattle.shard_part.specs.Tables.{scatter, IsApart}
-use Rattle.shard_part.specs.PartState.{PartData, state_in, network_in, place_in, IsArc}
+use Rattle.shard_part.specs.PartState.{PartData, state_in, network_of, place_in, IsArc}
 use Rattle.shard_part.specs.Outgoing.{local_vertices, arcs_out}
 use Rattle.shard_part.specs.Weights.{is, part_weight}
 use Rattle.shard_part.specs.LocalInvariant.{names, engages, idles, LocalInvariant, IsClear}
-use Rattle.shard_part.specs.Moves.{Rows, IsPlanned, RepInvariant, IsPlace, IsRow}
+use Rattle.shard_part.specs.Moves.{Rows, IsPlanned, RepInvariant, IsPlace, IsArcRow}
 use Rattle.shard_part.proofs.Spread.{table_read, table_write, table_long}
 use Rattle.shard_part.proofs.Places.{own_apart, own_below, own_placed, arcs_apart, arc_owner}
 use Rattle.scholten_core.proofs.Sums.{one_if-most}
 
 module _ {S V : Type 0} where
-  pub formed : (p : PartData S V) (s : ℕ) → IsPlanned p.setup s → WellFormed (network_in p.setup)
+  pub formed : (p : PartData S V) (s : ℕ) → IsPlanned p.setup s → WellFormed (network_of p.setup)
   formed p s P = well_formed p.setup.question.roads p.setup.question.source P.roads P.source.0
 
   pub place_at : (p old : PartData S V) (v j : ℕ) → p ≡ old → IsPlace old v j → IsPlace p v j
   place_at p old v j e P = subst (λ (u : PartData S V). IsPlace u v j) (sym e) P
 
-  pub row_at : (p old : PartData S V) (b i : ℕ) → p ≡ old → IsRow old b i → IsRow p b i
-  row_at p old b i e P = subst (λ (u : PartData S V). IsRow u b i) (sym e) P
+  pub row_at : (p old : PartData S V) (b i : ℕ) → p ≡ old → IsArcRow old b i → IsArcRow p b i
+  row_at p old b i e P = subst (λ (u : PartData S V). IsArcRow u b i) (sym e) P
 
   below : (p : PartData S V) (v j : ℕ) → IsPlace p v j → v < suc p.setup.question.roads.vertices
   below p v j P = let b = own_below p.setup p.shard j P.inside in let e = P.vertex in omega (arith, b, e)
 
-  pub arc_below : (p : PartData S V) (b i : ℕ) → IsRow p b i → b < suc (length p.setup.question.roads.arcs)
-  arc_below p b i P = let o = (arc_owner (network_in p.setup) (local_vertices p.setup p.shard) i P.inside).3 in let e = P.arc in omega (arith, o, e)
+  pub arc_below : (p : PartData S V) (b i : ℕ) → IsArcRow p b i → b < suc (length p.setup.question.roads.arcs)
+  arc_below p b i P = let o = (arc_owner (network_of p.setup) (local_vertices p.setup p.shard) i P.inside).3 in let e = P.arc in omega (arith, o, e)
 
-  pub apart : (p : PartData S V) → IsApart (arcs_out (network_in p.setup) (local_vertices p.setup p.shard))
-  apart p = arcs_apart (network_in p.setup) (local_vertices p.setup p.shard) (own_apart p.setup p.shard)
+  pub apart : (p : PartData S V) → IsApart (arcs_out (network_of p.setup) (local_vertices p.setup p.shard))
+  apart p = arcs_apart (network_of p.setup) (local_vertices p.setup p.shard) (own_apart p.setup p.shard)
 
   -- a vertex with a place is of the shard
   pub mine_at : (p : PartData S V) (v j : ℕ) → IsPlace p v j → v ≢ 0 → place_in p.setup v ≡ p.shard
@@ -53,17 +53,17 @@ module _ {S V : Type 0} where
       (own_apart p.setup p.shard) P.inside D.sized.engagers P.vertex (below p v j P) h
       ∙ ap (λ (u : PartData S V). get_or u.engagers v None) e
 
-  pub busy_read : (p old : PartData S V) (r : Rows V) (n : ℕ) (ns : List ℕ) (b i : ℕ) (x : Bool) → p ≡ old → RepInvariant p r n ns → IsRow old b i
+  pub busy_read : (p old : PartData S V) (r : Rows V) (n : ℕ) (ns : List ℕ) (b i : ℕ) (x : Bool) → p ≡ old → RepInvariant p r n ns → IsArcRow old b i
       → x ≡ get_or r.busy i false → x ≡ get_or old.busy b false
   busy_read p old r n ns b i x e D Q h = let P = row_at p old b i e Q in
-      table_read (arcs_out (network_in p.setup) (local_vertices p.setup p.shard)) r.busy p.busy false
+      table_read (arcs_out (network_of p.setup) (local_vertices p.setup p.shard)) r.busy p.busy false
       (suc (length p.setup.question.roads.arcs)) i b x D.seen.busy (apart p) P.inside D.sized.busy P.arc (arc_below p b i P) h
       ∙ ap (λ (u : PartData S V). get_or u.busy b false) e
 
-  pub told_read : (p old : PartData S V) (r : Rows V) (n : ℕ) (ns : List ℕ) (b i : ℕ) (x : Option V) → p ≡ old → RepInvariant p r n ns → IsRow old b i
+  pub told_read : (p old : PartData S V) (r : Rows V) (n : ℕ) (ns : List ℕ) (b i : ℕ) (x : Option V) → p ≡ old → RepInvariant p r n ns → IsArcRow old b i
       → x ≡ get_or r.told i None → x ≡ get_or old.told b None
   told_read p old r n ns b i x e D Q h = let P = row_at p old b i e Q in
-      table_read (arcs_out (network_in p.setup) (local_vertices p.setup p.shard)) r.told p.told None
+      table_read (arcs_out (network_of p.setup) (local_vertices p.setup p.shard)) r.told p.told None
       (suc (length p.setup.question.roads.arcs)) i b x D.seen.told (apart p) P.inside D.sized.told P.arc (arc_below p b i P) h
       ∙ ap (λ (u : PartData S V). get_or u.told b None) e
 
@@ -76,20 +76,20 @@ module _ {S V : Type 0} where
       (own_apart p.setup p.shard) P.inside D.sized.labels P.vertex)
       ∙ ap (λ (u : PartData S V). record u { labels = set u.labels v x }) e
 
-  pub told_leaves : (p old : PartData S V) (r : Rows V) (n : ℕ) (ns : List ℕ) (b i : ℕ) (x : Option V) → p ≡ old → RepInvariant p r n ns → IsRow old b i →
+  pub told_leaves : (p old : PartData S V) (r : Rows V) (n : ℕ) (ns : List ℕ) (b i : ℕ) (x : Option V) → p ≡ old → RepInvariant p r n ns → IsArcRow old b i →
       record p {
-        told = scatter (arcs_out (network_in p.setup) (local_vertices p.setup p.shard)) (set r.told i x) None
+        told = scatter (arcs_out (network_of p.setup) (local_vertices p.setup p.shard)) (set r.told i x) None
             (suc (length p.setup.question.roads.arcs));
       } ≡ record old { told = set old.told b x }
   told_leaves p old r n ns b i x e D Q = let P = row_at p old b i e Q in
       ap (λ (ys : List (Option V)). record p { told = ys })
-      (table_write (arcs_out (network_in p.setup) (local_vertices p.setup p.shard)) r.told p.told None
+      (table_write (arcs_out (network_of p.setup) (local_vertices p.setup p.shard)) r.told p.told None
       (suc (length p.setup.question.roads.arcs)) i b x D.seen.told (apart p) P.inside D.sized.told P.arc)
       ∙ ap (λ (u : PartData S V). record u { told = set u.told b x }) e
 
   pub told_keeps : (p : PartData S V) (r : Rows V) (n : ℕ) (ns : List ℕ) (i : ℕ) (x : Option V) → RepInvariant p r n ns →
       RepInvariant (record p {
-        told = scatter (arcs_out (network_in p.setup) (local_vertices p.setup p.shard)) (set r.told i x) None
+        told = scatter (arcs_out (network_of p.setup) (local_vertices p.setup p.shard)) (set r.told i x) None
             (suc (length p.setup.question.roads.arcs));
       }) (record r { told = set r.told i x }) n ns
   told_keeps p r n ns i x D = record {
@@ -124,22 +124,22 @@ module _ {S V : Type 0} where
 
   -- the engaged arcs then
   engages_then : (p : PartData S V) (v : ℕ) (x : Option ℕ) (b : ℕ) → v < length p.engagers →
-      (((network_in p.setup).head b ≡ v) × (engages (network_in p.setup) (place_in p.setup) p.shard
+      (((network_of p.setup).head b ≡ v) × (engages (network_of p.setup) (place_in p.setup) p.shard
       (state_in (record p { engagers = set p.engagers v x })) b
-      ≡ one_if (eqb (place_in p.setup ((network_in p.setup).head b)) p.shard && names x b)))
-      ⊎ (((network_in p.setup).head b ≢ v) × (engages (network_in p.setup) (place_in p.setup) p.shard
-      (state_in (record p { engagers = set p.engagers v x })) b ≡ engages (network_in p.setup) (place_in p.setup) p.shard (state_in p) b))
-  engages_then p v x b l = elim (cases_eq ((network_in p.setup).head b) v) [
+      ≡ one_if (eqb (place_in p.setup ((network_of p.setup).head b)) p.shard && names x b)))
+      ⊎ (((network_of p.setup).head b ≢ v) × (engages (network_of p.setup) (place_in p.setup) p.shard
+      (state_in (record p { engagers = set p.engagers v x })) b ≡ engages (network_of p.setup) (place_in p.setup) p.shard (state_in p) b))
+  engages_then p v x b l = elim (cases_eq ((network_of p.setup).head b) v) [
     | inl e ↦ inl (
       e,
-      ap (λ z. one_if (eqb (place_in p.setup ((network_in p.setup).head b)) p.shard && names z b))
+      ap (λ z. one_if (eqb (place_in p.setup ((network_of p.setup).head b)) p.shard && names z b))
           (ap (λ m. get_or (set p.engagers v x) m None) e ∙ get_or-set_same p.engagers v x None l),
     )
-    | inr ne ↦ inr (ne, ap (λ z. one_if (eqb (place_in p.setup ((network_in p.setup).head b)) p.shard && names z b)) (get_or-set_other p.engagers v ((network_in p.setup).head b) x None ne))
+    | inr ne ↦ inr (ne, ap (λ z. one_if (eqb (place_in p.setup ((network_of p.setup).head b)) p.shard && names z b)) (get_or-set_other p.engagers v ((network_of p.setup).head b) x None ne))
   ]
 
   keep_engagers : (p : PartData S V) (r : Rows V) (n : ℕ) (ns : List ℕ) (v j : ℕ) (x : Option ℕ) → RepInvariant p r n ns → IsPlace p v j
-      → LocalInvariant (network_in p.setup) (place_in p.setup) (record p { engagers = set p.engagers v x }) →
+      → LocalInvariant (network_of p.setup) (place_in p.setup) (record p { engagers = set p.engagers v x }) →
       RepInvariant (record p { engagers = scatter (local_vertices p.setup p.shard) (set r.engagers j x) None (suc p.setup.question.roads.vertices) }) (record r { engagers = set r.engagers j x }) n ns
   keep_engagers p r n ns v j x D P s = record {
     planned = D.planned;
@@ -155,21 +155,21 @@ module _ {S V : Type 0} where
     };
     seen = record { labels = D.seen.labels; engagers = refl; busy = D.seen.busy; told = D.seen.told };
     counts = D.counts;
-    sound = subst (λ (ys : List (Option ℕ)). LocalInvariant (network_in p.setup) (place_in p.setup) (record p { engagers = ys })) (sym (engagers_written p r n ns v j x D P)) s;
+    sound = subst (λ (ys : List (Option ℕ)). LocalInvariant (network_of p.setup) (place_in p.setup) (record p { engagers = ys })) (sym (engagers_written p r n ns v j x D P)) s;
     roomy = record { queue = D.roomy.queue; boxes = D.roomy.boxes; rings = D.roomy.rings; outs = D.roomy.outs };
     tallied = D.tallied;
   }
 
   pub engage_keeps : (p old : PartData S V) (r : Rows V) (n : ℕ) (ns : List ℕ) (v j a : ℕ) → p ≡ old → RepInvariant p r n ns → IsPlace old v j
-      → IsArc (network_in old.setup) a → (network_in old.setup).head a ≡ v → IsClear old a →
+      → IsArc (network_of old.setup) a → (network_of old.setup).head a ≡ v → IsClear old a →
       RepInvariant (record p {
         engagers = scatter (local_vertices p.setup p.shard) (set r.engagers j (Some a)) None
             (suc p.setup.question.roads.vertices);
       }) (record r { engagers = set r.engagers j (Some a) }) n ns
   engage_keeps p old r n ns v j a e D Q ar h z =
       let P = place_at p old v j e Q in
-      let ar2 : IsArc (network_in p.setup) a = subst (λ (u : PartData S V). IsArc (network_in u.setup) a) (sym e) ar in
-      let h2 : (network_in p.setup).head a ≡ v = subst (λ (u : PartData S V). (network_in u.setup).head a ≡ v) (sym e) h in
+      let ar2 : IsArc (network_of p.setup) a = subst (λ (u : PartData S V). IsArc (network_of u.setup) a) (sym e) ar in
+      let h2 : (network_of p.setup).head a ≡ v = subst (λ (u : PartData S V). (network_of u.setup).head a ≡ v) (sym e) h in
       let z2 : IsClear p a = subst (λ (u : PartData S V). IsClear u a) (sym e) z in
       let l : v < length p.engagers = (let q = table_long (local_vertices p.setup p.shard) r.engagers p.engagers None
       (suc p.setup.question.roads.vertices) D.seen.engagers in let b = below p v j P in omega (arith, q, b)) in
@@ -177,19 +177,19 @@ module _ {S V : Type 0} where
         once = λ b. (let o = D.sound.once b in elim (engages_then p v (Some a) b l) [
           | inr k ↦ (let q = k.1 in omega (arith, o, q))
           | inl k ↦ (let q = k.1 in elim (cases_eq b a) [
-            | inl eb ↦ (let z3 : part_weight (λ _ i. is b (item_arc i)) p + engages (network_in p.setup) (place_in p.setup) p.shard
-                (state_in p) b + idles (network_in p.setup) (place_in p.setup) p.shard (state_in p) b ≡ 0 =
-                subst (λ c. part_weight (λ _ i. is c (item_arc i)) p + engages (network_in p.setup) (place_in p.setup) p.shard (state_in p) c + idles
-                (network_in p.setup) (place_in p.setup) p.shard (state_in p) c ≡ 0) (sym eb) z2 in
-                let m = one_if-most (eqb (place_in p.setup ((network_in p.setup).head b)) p.shard && names (Some a) b) in omega (arith, q, z3, m))
-            | inr nb ↦ (let f : one_if (eqb (place_in p.setup ((network_in p.setup).head b)) p.shard && names (Some a) b)
-                ≤ 0 = (let m = and_most_right (eqb (place_in p.setup ((network_in p.setup).head b)) p.shard) (eqb b a) in
+            | inl eb ↦ (let z3 : part_weight (λ _ i. is b (item_arc i)) p + engages (network_of p.setup) (place_in p.setup) p.shard
+                (state_in p) b + idles (network_of p.setup) (place_in p.setup) p.shard (state_in p) b ≡ 0 =
+                subst (λ c. part_weight (λ _ i. is c (item_arc i)) p + engages (network_of p.setup) (place_in p.setup) p.shard (state_in p) c + idles
+                (network_of p.setup) (place_in p.setup) p.shard (state_in p) c ≡ 0) (sym eb) z2 in
+                let m = one_if-most (eqb (place_in p.setup ((network_of p.setup).head b)) p.shard && names (Some a) b) in omega (arith, q, z3, m))
+            | inr nb ↦ (let f : one_if (eqb (place_in p.setup ((network_of p.setup).head b)) p.shard && names (Some a) b)
+                ≤ 0 = (let m = and_most_right (eqb (place_in p.setup ((network_of p.setup).head b)) p.shard) (eqb b a) in
                 let g = ap one_if (ne_eqb b a nb) in omega (arith, m, g)) in omega (arith, o, q, f))
           ])
         ]);
         leads = λ u c m q. elim (cases_eq u v) [
           | inl eu ↦ (let w : Some a ≡ Some c = sym (ap (λ k. get_or (set p.engagers v (Some a)) k None) eu ∙ get_or-set_same p.engagers v (Some a) None l) ∙ q in
-              let ac : a ≡ c = cc in subst (λ k. ((network_in p.setup).head k ≡ u) × IsArc (network_in p.setup) k) ac (h2 ∙ sym eu, ar2))
+              let ac : a ≡ c = cc in subst (λ k. ((network_of p.setup).head k ≡ u) × IsArc (network_of p.setup) k) ac (h2 ∙ sym eu, ar2))
           | inr nu ↦ D.sound.leads u c m (sym (get_or-set_other p.engagers v u (Some a) None nu) ∙ q)
         ];
         here = D.sound.here;
@@ -203,13 +203,13 @@ module _ {S V : Type 0} where
       and_most_right false true = omega arith
       and_most_right false false = omega arith
 
-  release_sound : (p : PartData S V) (v e : ℕ) → LocalInvariant (network_in p.setup) (place_in p.setup) p → v < length p.engagers → place_in p.setup v ≡ p.shard → (state_in p).engager v ≡ Some e →
-      LocalInvariant (network_in p.setup) (place_in p.setup) (record p { engagers = set p.engagers v None }) × IsClear (record p { engagers = set p.engagers v None }) e
+  release_sound : (p : PartData S V) (v e : ℕ) → LocalInvariant (network_of p.setup) (place_in p.setup) p → v < length p.engagers → place_in p.setup v ≡ p.shard → (state_in p).engager v ≡ Some e →
+      LocalInvariant (network_of p.setup) (place_in p.setup) (record p { engagers = set p.engagers v None }) × IsClear (record p { engagers = set p.engagers v None }) e
   release_sound p v e D l m q = (
     record {
       once = λ b. (let o = D.once b in elim (engages_then p v None b l) [
         | inr k ↦ (let w = k.1 in omega (arith, o, w))
-        | inl k ↦ (let w = k.1 in let f = none_named (eqb (place_in p.setup ((network_in p.setup).head b)) p.shard) in omega (arith, o, w, f))
+        | inl k ↦ (let w = k.1 in let f = none_named (eqb (place_in p.setup ((network_of p.setup).head b)) p.shard) in omega (arith, o, w, f))
       ]);
       leads = λ u c n w. elim (cases_eq u v) [
         | inl eu ↦ absurd (let g : None ≡ Some c = sym (ap (λ k. get_or (set p.engagers v None) k None) eu ∙ get_or-set_same p.engagers v None None l) ∙ w in cc)
@@ -221,12 +221,12 @@ module _ {S V : Type 0} where
     },
     (let o = D.once e in
         let hv = (D.leads v e (eq-eqb (place_in p.setup v) p.shard m) q).0 in
-        let one : engages (network_in p.setup) (place_in p.setup) p.shard (state_in p) e ≡ 1 =
-        ap (λ t. one_if (t && names ((state_in p).engager ((network_in p.setup).head e)) e)) (ap (λ w. eqb (place_in p.setup w) p.shard) hv ∙ eq-eqb (place_in p.setup v) p.shard m)
+        let one : engages (network_of p.setup) (place_in p.setup) p.shard (state_in p) e ≡ 1 =
+        ap (λ t. one_if (t && names ((state_in p).engager ((network_of p.setup).head e)) e)) (ap (λ w. eqb (place_in p.setup w) p.shard) hv ∙ eq-eqb (place_in p.setup v) p.shard m)
         ∙ ap (λ z. one_if (true && names z e)) (ap (state_in p).engager hv ∙ q) ∙ true_and (eqb e e) (eq-eqb e e refl) in
         elim (engages_then p v None e l) [
           | inr k ↦ absurd (k.0 hv)
-          | inl k ↦ (let w = k.1 in let f = none_named (eqb (place_in p.setup ((network_in p.setup).head e)) p.shard) in omega (arith, o, one, w, f))
+          | inl k ↦ (let w = k.1 in let f = none_named (eqb (place_in p.setup ((network_of p.setup).head e)) p.shard) in omega (arith, o, one, w, f))
         ]),
   )
     where
@@ -243,7 +243,7 @@ module _ {S V : Type 0} where
             (suc p.setup.question.roads.vertices);
       }) (record r { engagers = set r.engagers j None }) n ns
       × IsClear (record p { engagers = scatter (local_vertices p.setup p.shard) (set r.engagers j None) None (suc p.setup.question.roads.vertices) }) e
-      × IsArc (network_in p.setup) e × (place_in p.setup ((network_in p.setup).head e) ≡ p.shard)
+      × IsArc (network_of p.setup) e × (place_in p.setup ((network_of p.setup).head e) ≡ p.shard)
   release_keeps p old r n ns v j a e D Q nz q =
       let P = place_at p old v j e Q in
       let l : v < length p.engagers = (let w = table_long (local_vertices p.setup p.shard) r.engagers p.engagers None

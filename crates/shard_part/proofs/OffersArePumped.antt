@@ -9,7 +9,7 @@ use Rattle.scholten_core.specs.Network.{Network}
 use Rattle.scholten_core.specs.Diffusion.{CoreState, is_idle, is_due, pump, sent, extend_label}
 use Rattle.scholten_core.specs.Items.{item_of, pump_made, IsDistinct}
 use Rattle.shard_part.specs.Tallies.{counted_on, top}
-use Rattle.shard_part.specs.PartState.{PartData, network_in, place_in, state_in, token_if}
+use Rattle.shard_part.specs.PartState.{PartData, network_of, place_in, state_in, token_if}
 use Rattle.shard_part.specs.Weights.{Channels, channels_of, total, message_weight, signal_weight}
 use Rattle.shard_part.specs.Handling.{route, routes}
 use Rattle.shard_part.specs.Moves.{with_message, offered_all}
@@ -72,24 +72,24 @@ module _ {S V : Type 0} (A : Algebra V) where
     pub shard : q.shard ≡ p.shard
     pub labels : q.labels ≡ p.labels
     pub engagers : q.engagers ≡ p.engagers
-    pub done : (b : ℕ) → Contains xs b → ((state_in q).told b ≡ (pump A (network_in p.setup) v (state_in p)).told b)
-        × (is_idle ((state_in q).token b) ≡ is_idle ((pump A (network_in p.setup) v (state_in p)).token b))
+    pub done : (b : ℕ) → Contains xs b → ((state_in q).told b ≡ (pump A (network_of p.setup) v (state_in p)).told b)
+        × (is_idle ((state_in q).token b) ≡ is_idle ((pump A (network_of p.setup) v (state_in p)).token b))
     pub left : (b : ℕ) → (Contains xs b → ⊥) → ((state_in q).told b ≡ (state_in p).told b) × ((state_in q).token b ≡ (state_in p).token b)
-    pub channels : channels_of q ≡ routes (network_in p.setup) (place_in p.setup) p.shard (pump_made A (network_in p.setup) v (state_in p) xs) (channels_of p)
-    pub sent : q.sent ≡ counted_on (total message_weight (pump_made A (network_in p.setup) v (state_in p) xs)) p.sent
+    pub channels : channels_of q ≡ routes (network_of p.setup) (place_in p.setup) p.shard (pump_made A (network_of p.setup) v (state_in p) xs) (channels_of p)
+    pub sent : q.sent ≡ counted_on (total message_weight (pump_made A (network_of p.setup) v (state_in p) xs)) p.sent
     pub signalled : q.signalled ≡ p.signalled
     pub delivered : q.delivered ≡ p.delivered
     pub accepted : q.accepted ≡ p.accepted
 
   offers_step : (v b : ℕ) (bs : List ℕ) (p q : PartData S V) (ts : List (Option V)) (fs : List Bool) (qs : List (Item V)) (os : List (List (Item V))) (n : ℕ) →
       (Contains bs b → ⊥) →
-      get_or ts b None ≡ (pump A (network_in p.setup) v (state_in p)).told b → is_idle {V = V} (token_if (get_or fs b false)) ≡ is_idle ((pump A (network_in p.setup) v (state_in p)).token b) →
+      get_or ts b None ≡ (pump A (network_of p.setup) v (state_in p)).told b → is_idle {V = V} (token_if (get_or fs b false)) ≡ is_idle ((pump A (network_of p.setup) v (state_in p)).token b) →
       ((u : ℕ) → u ≢ b → get_or ts u None ≡ get_or p.told u None) → ((u : ℕ) → u ≢ b → get_or fs u false ≡ get_or p.busy u false) →
-      record { queue = qs; outs = os } ≡ routes (network_in p.setup) (place_in p.setup) p.shard (offer_made A (network_in p.setup) v (state_in p) b) (channels_of p) →
-      n ≡ counted_on (total message_weight (offer_made A (network_in p.setup) v (state_in p) b)) p.sent →
+      record { queue = qs; outs = os } ≡ routes (network_of p.setup) (place_in p.setup) p.shard (offer_made A (network_of p.setup) v (state_in p) b) (channels_of p) →
+      n ≡ counted_on (total message_weight (offer_made A (network_of p.setup) v (state_in p) b)) p.sent →
       Offers v bs (record p { told = ts; busy = fs; queue = qs; outs = os; sent = n }) q → Offers v (b ∷ bs) p q
   offers_step v b bs p q ts fs qs os n apart here idle told busy channels count R =
-      let N = network_in p.setup in
+      let N = network_of p.setup in
       let p1 : PartData S V = record p { told = ts; busy = fs; queue = qs; outs = os; sent = n } in
       let ne : (u : ℕ) → Contains bs u → u ≢ b = λ u l e. apart (subst (λ w. Contains bs w) e l) in
       let token : (u : ℕ) → u ≢ b → (state_in p1).token u ≡ (state_in p).token u = λ u w. ap token_if (busy u w) in
@@ -122,16 +122,16 @@ module _ {S V : Type 0} (A : Algebra V) where
       Offers v bs (record p { told = ts; busy = fs; queue = qs; outs = os; sent = n }) (offered_all A v bs (record p { told = ts; busy = fs; queue = qs; outs = os; sent = n }))
 
   offers_one : (v b : ℕ) (bs : List ℕ) (p : PartData S V) → p.sent ≤ top → b < length p.told → b < length p.busy → (Contains bs b → ⊥) → Later v bs p →
-      (t : Bool) → is_due A (network_in p.setup) v (state_in p) b ≡ t → (o : Option V) → extend_label A ((state_in p).label v) ((network_in p.setup).weight b) ≡ o →
+      (t : Bool) → is_due A (network_of p.setup) v (state_in p) b ≡ t → (o : Option V) → extend_label A ((state_in p).label v) ((network_of p.setup).weight b) ≡ o →
       Offers v (b ∷ bs) p (offered_all A v bs (cond t (with_message b o (record p { told = set p.told b ((state_in p).label v) })) p))
   offers_one v b bs p s lt lb apart later false d o e =
-      let N = network_in p.setup in
+      let N = network_of p.setup in
       let none : offer_made A N v (state_in p) b ≡ [] = cond-false _ _ _ d in
       offers_step v b bs p (offered_all A v bs p) p.told p.busy p.queue p.outs p.sent apart (sym (cond-false _ _ _ d)) (ap is_idle (sym (cond-false _ _ _ d))) (λ u w. refl) (λ u w. refl)
       (ap (λ xs. routes N (place_in p.setup) p.shard xs (channels_of p)) (sym none)) (sym (counted_none p.sent s)
       ∙ ap (λ xs. counted_on (total message_weight xs) p.sent) (sym none)) (later p.told p.busy p.queue p.outs p.sent s refl refl)
   offers_one v b bs p s lt lb apart later true d None e =
-      let N = network_in p.setup in
+      let N = network_of p.setup in
       let none : offer_made A N v (state_in p) b ≡ [] = cond-true _ _ _ d ∙ ap (λ o. item_of b (sent o)) e in
       offers_step v b bs p (offered_all A v bs (record p { told = set p.told b ((state_in p).label v) })) (set p.told b ((state_in p).label v)) p.busy p.queue p.outs p.sent apart
       (get_or-set_same p.told b ((state_in p).label v) None lt ∙ sym (cond-true _ _ _ d))
@@ -140,7 +140,7 @@ module _ {S V : Type 0} (A : Algebra V) where
       (ap (λ xs. routes N (place_in p.setup) p.shard xs (channels_of p)) (sym none)) (sym (counted_none p.sent s) ∙ ap (λ xs. counted_on (total message_weight xs) p.sent) (sym none))
       (later (set p.told b ((state_in p).label v)) p.busy p.queue p.outs p.sent s (length-set p.told b ((state_in p).label v)) refl)
   offers_one v b bs p s lt lb apart later true d (Some y) e =
-      let N = network_in p.setup in
+      let N = network_of p.setup in
       let one : offer_made A N v (state_in p) b ≡ MessageOn b y ∷ [] = cond-true _ _ _ d ∙ ap (λ o. item_of b (sent o)) e in
       let l : Channels V = route N (place_in p.setup) p.shard (MessageOn b y) (channels_of p) in
       offers_step v b bs p (offered_all A v bs (record p { told = set p.told b ((state_in p).label v); busy = set p.busy b true; queue = l.queue; outs = l.outs; sent = counted_on 1 p.sent }))
@@ -152,7 +152,7 @@ module _ {S V : Type 0} (A : Algebra V) where
       (later (set p.told b ((state_in p).label v)) (set p.busy b true) l.queue l.outs (counted_on 1 p.sent) (counted_top 1 p.sent)
       (length-set p.told b ((state_in p).label v)) (length-set p.busy b true))
 
-  pub offers : (v : ℕ) (xs : List ℕ) (p : PartData S V) → p.sent ≤ top → IsDistinct A (network_in p.setup) xs
+  pub offers : (v : ℕ) (xs : List ℕ) (p : PartData S V) → p.sent ≤ top → IsDistinct A (network_of p.setup) xs
       → ((b : ℕ) → Contains xs b → (b < length p.told) × (b < length p.busy)) → Offers v xs p (offered_all A v xs p)
   unfolding offered_all
   offers v [] p s D l = record {
@@ -171,4 +171,4 @@ module _ {S V : Type 0} (A : Algebra V) where
   offers v (b ∷ bs) p s D l = offers_one v b bs p s (l b (here b bs)).0 (l b (here b bs)).1 D.0
       (λ ts fs qs os n h a c. offers v bs (record p { told = ts; busy = fs; queue = qs; outs = os; sent = n }) h D.1
       (λ u k. let r = l u (later b u bs k) in let r0 = r.0 in let r1 = r.1 in (omega (arith, r0, a), omega (arith, r1, c))))
-      (is_due A (network_in p.setup) v (state_in p) b) refl (extend_label A ((state_in p).label v) ((network_in p.setup).weight b)) refl
+      (is_due A (network_of p.setup) v (state_in p) b) refl (extend_label A ((state_in p).label v) ((network_of p.setup).weight b)) refl

@@ -2,7 +2,7 @@
 use Rattle.std.proofs.Common.{◌≡◌, ◌≢◌, ℕ, zero, suc, ◌+◌, ◌-◌, ◌<◌, ◌≤◌, Bool, true, false, not, ◌&&◌, eqb, Some, None, List, [], ◌∷◌, ◌++◌, length, set, get_or, replicate, refl, sym, ap, ◌∙◌, subst, inl, inr, arith, length-set, get_or-set_same, get_or-set_other, eqb-true, eq-eqb, ne_eqb}
 use Rattle.std.proofs.lemmas.Bool.{cases_eq, cases_lt, cond-true, cond-false}
 use Rattle.std.proofs.lemmas.List.{get_or_past, get_or-replicate, length-replicate}
-use Rattle.road_graph.specs.Roads.{Roads, IsRoads}
+use Rattle.road_graph.specs.GraphData.{GraphData, IsGraph}
 use Rattle.path_algebra.specs.Algebra.{Algebra}
 use Rattle.scholten_core.specs.declared.token.Token.TheVariants.{Idle, Message}
 use Rattle.scholten_core.specs.declared.item.Item.{Item}
@@ -15,14 +15,14 @@ use Rattle.scholten_core.proofs.Basics.{put-at, put-other}
 use Rattle.scholten_core.proofs.Networks.{tail-arc, head-entry, tail-entry}
 use Rattle.shard_part.specs.Tables.{scatter, placed}
 use Rattle.scholten_core.specs.Deficit.{busy_out}
-use Rattle.shard_part.specs.PartState.{Setup, PartData, network_in, place_in, state_in, token_if, vertex_of, maker_of, IsArc}
+use Rattle.shard_part.specs.PartState.{Setup, PartData, network_of, place_in, state_in, token_if, vertex_of, maker_of, IsArc}
 use Rattle.shard_part.specs.Outgoing.{local_vertices, arcs_out, arcs_from, outgoing}
 use Rattle.shard_part.specs.Weights.{total, outs_weight, part_weight, is, All, at_place, in_flight}
 use Rattle.shard_part.specs.LocalInvariant.{engages, idles, names, LocalInvariant}
 use Rattle.shard_part.specs.Represents.{HoldsShareIn}
 use Rattle.shard_part.specs.Capacities.{queue_bound, outbox_bound}
-use Rattle.shard_part.specs.Moves.{Rows, abstraction, IsPlanned, IsCounted, RepInvariant}
-use Rattle.shard_part.specs.Opening.{is_first, first_items, opened_part, AreStarts, idle_rows}
+use Rattle.shard_part.specs.Moves.{Rows, abstraction, IsPlanned, AreRowDeficits, RepInvariant}
+use Rattle.shard_part.specs.Opening.{is_first, first_items, opened_part, AreOffsets, idle_rows}
 use Rattle.shard_part.proofs.Weights.{sum_at, sum_zero}
 use Rattle.shard_part.proofs.Places.{own_apart}
 use Rattle.shard_part.proofs.Graphs.{place_vertex, place_entry}
@@ -64,7 +64,7 @@ arcs_none N v k zero h = refl
 arcs_none N v k (suc n) h = cond-false (eqb (N.tail k) v) (k ∷ arcs_from N v (suc k) n) (arcs_from N v (suc k) n) (ne_eqb (N.tail k) v (h k (omega arith) (omega arith)))
     ∙ arcs_none N v (suc k) n (λ b l m. h b (omega (arith, l)) (omega (arith, m)))
 
-pub entry_alone : (g : Roads) (s : ℕ) → IsRoads g → outgoing (network g s) 0 ≡ 0 ∷ []
+pub entry_alone : (g : GraphData) (s : ℕ) → IsGraph g → outgoing (network g s) 0 ≡ 0 ∷ []
 entry_alone g s R = cond-true (eqb (tail_of g 0) 0) (0 ∷ arcs_from (network g s) 0 1 (length g.arcs)) (arcs_from (network g s) 0 1 (length g.arcs)) (eq-eqb (tail_of g 0) 0 (tail-entry g))
     ∙ ap (λ xs. 0 ∷ xs) (arcs_none (network g s) 0 1 (length g.arcs) (λ b l m e.
     (let t = tail-arc g b l in let low = (R.ends b (l, (omega (arith, m)))).0.0 in omega (arith, t, low, e))))
@@ -84,14 +84,14 @@ module _ {S : Type 0} (t : Setup S) (s : ℕ) (P : IsPlanned t s) where
   ]
 
   -- the source and the environment are at one place
-  pub place_source : place_in t ((network_in t).head 0) ≡ place_in t 0
+  pub place_source : place_in t ((network_of t).head 0) ≡ place_in t 0
   place_source = ap (place_in t) (head-entry t.question.roads t.question.source) ∙ place_vertex t t.question.source P.source.0 ∙ sym (place_entry t P.source.0)
 
-  pub arcs_first : arcs_out (network_in t) (local_vertices t s) ≡ 0 ∷ arcs_out (network_in t) (placed (place_in t) s 1 t.question.roads.vertices)
+  pub arcs_first : arcs_out (network_of t) (local_vertices t s) ≡ 0 ∷ arcs_out (network_of t) (placed (place_in t) s 1 t.question.roads.vertices)
   unfolding arcs_out
-  arcs_first = ap (λ xs. xs ++ arcs_out (network_in t) (placed (place_in t) s 1 t.question.roads.vertices)) (entry_alone t.question.roads t.question.source P.roads)
+  arcs_first = ap (λ xs. xs ++ arcs_out (network_of t) (placed (place_in t) s 1 t.question.roads.vertices)) (entry_alone t.question.roads t.question.source P.roads)
 
-  entry_arc : IsArc (network_in t) 0
+  entry_arc : IsArc (network_of t) 0
   entry_arc = ((λ e. let h = head-entry t.question.roads t.question.source in let l = P.source.0 in omega (arith, e, h, l)), (λ n. absurd (n refl)))
 
 module _ {S V : Type 0} (A : Algebra V) (t : Setup S) (s : ℕ) (P : IsPlanned t s) where
@@ -102,16 +102,16 @@ module _ {S V : Type 0} (A : Algebra V) (t : Setup S) (s : ℕ) (P : IsPlanned t
   other_token : (b : ℕ) → b ≢ 0 → get_or (opened_part A t s).busy b false ≡ false
   other_token b nz = behind_read (suc (length t.question.roads.arcs)) false (is_first t s) b nz
 
-  busy_alone : (v : ℕ) → busy_out (network_in t) v (state_in (opened_part A t s)) (suc (length t.question.roads.arcs)) ≡ one_if (eqb ((network_in t).tail 0) v && is_first t s)
+  busy_alone : (v : ℕ) → busy_out (network_of t) v (state_in (opened_part A t s)) (suc (length t.question.roads.arcs)) ≡ one_if (eqb ((network_of t).tail 0) v && is_first t s)
   busy_alone v =
-      let f : ℕ → ℕ = λ b. one_if (eqb ((network_in t).tail b) v && not (is_idle (token_if {V = V} (get_or (opened_part A t s).busy b false)))) in
+      let f : ℕ → ℕ = λ b. one_if (eqb ((network_of t).tail b) v && not (is_idle (token_if {V = V} (get_or (opened_part A t s).busy b false)))) in
       let d = sum_at f (λ b. 0) 0 (suc (length t.question.roads.arcs)) (omega arith)
-      (λ b nz. ap (λ z. one_if (eqb ((network_in t).tail b) v && not (is_idle (token_if {V = V} z)))) (other_token b nz)
-      ∙ and_none (eqb ((network_in t).tail b) v)) in
+      (λ b nz. ap (λ z. one_if (eqb ((network_of t).tail b) v && not (is_idle (token_if {V = V} z)))) (other_token b nz)
+      ∙ and_none (eqb ((network_of t).tail b) v)) in
       let z = sum_zero (λ b. 0) (suc (length t.question.roads.arcs)) (λ k. refl) in
-      let e : f 0 ≡ one_if (eqb ((network_in t).tail 0) v && is_first t s) = ap
-      (λ z. one_if (eqb ((network_in t).tail 0) v && not (is_idle (token_if {V = V} z)))) entry_token
-      ∙ ap (λ z. one_if (eqb ((network_in t).tail 0) v && z)) (busy_is (is_first t s)) in
+      let e : f 0 ≡ one_if (eqb ((network_of t).tail 0) v && is_first t s) = ap
+      (λ z. one_if (eqb ((network_of t).tail 0) v && not (is_idle (token_if {V = V} z)))) entry_token
+      ∙ ap (λ z. one_if (eqb ((network_of t).tail 0) v && z)) (busy_is (is_first t s)) in
       omega (arith, d, z, e)
     where
       and_none : (x : Bool) → one_if (x && false) ≡ 0
@@ -122,34 +122,34 @@ module _ {S V : Type 0} (A : Algebra V) (t : Setup S) (s : ℕ) (P : IsPlanned t
       busy_is true = refl
       busy_is false = refl
 
-  opened_counted : (r : Rows V) → r.deficits ≡ set (replicate (length (local_vertices t s)) 0) 0 (one_if (is_first t s)) → IsCounted (opened_part A t s) r
+  opened_counted : (r : Rows V) → r.deficits ≡ set (replicate (length (local_vertices t s)) 0) 0 (one_if (is_first t s)) → AreRowDeficits (opened_part A t s) r
   opened_counted r e zero l =
       ap (λ xs. get_or xs 0 0) e ∙ front_read (length (local_vertices t s)) 0 (one_if (is_first t s)) (omega arith)
-      ∙ sym (busy_alone 0 ∙ ap (λ z. one_if (z && is_first t s)) (eq-eqb ((network_in t).tail 0) 0 (tail-entry t.question.roads)) ∙ and_first (is_first t s))
+      ∙ sym (busy_alone 0 ∙ ap (λ z. one_if (z && is_first t s)) (eq-eqb ((network_of t).tail 0) 0 (tail-entry t.question.roads)) ∙ and_first (is_first t s))
     where
       and_first : (x : Bool) → one_if (true && x) ≡ one_if x
       and_first x = refl
   opened_counted r e (suc j) l =
       ap (λ xs. get_or xs (suc j) 0) e ∙ behind_read (length (local_vertices t s)) 0 (one_if (is_first t s)) (suc j) (λ z. omega (arith, z))
       ∙ sym (busy_alone (get_or (local_vertices t s) (suc j) 0)
-      ∙ ap (λ z. one_if (z && is_first t s)) (ne_eqb ((network_in t).tail 0) (get_or (local_vertices t s) (suc j) 0)
+      ∙ ap (λ z. one_if (z && is_first t s)) (ne_eqb ((network_of t).tail 0) (get_or (local_vertices t s) (suc j) 0)
       (λ z. own_apart t s 0 (suc j) (omega arith) l (sym (tail-entry t.question.roads) ∙ z))))
 
   -- nothing but the first message weighs
   pub opened_weight : (h : ℕ → Item V → ℕ) → part_weight h (opened_part A t s) ≡ total (h s) (first_items A (is_first t s))
   opened_weight h = let z = no_weight h 0 t.plan.shards in omega (arith, z)
 
-  opened_sound : LocalInvariant (network_in t) (place_in t) (opened_part A t s)
+  opened_sound : LocalInvariant (network_of t) (place_in t) (opened_part A t s)
   opened_sound = record {
     once = λ b. (let w = opened_weight (λ _ j. is b (item_arc j)) in
-        let g : engages (network_in t) (place_in t) s (state_in (opened_part A t s)) b
-        ≡ 0 = ap (λ z. one_if (eqb (place_in t ((network_in t).head b)) s && names z b))
-        (reads_same (suc t.question.roads.vertices) None ((network_in t).head b)) ∙ none (eqb (place_in t ((network_in t).head b)) s) in
+        let g : engages (network_of t) (place_in t) s (state_in (opened_part A t s)) b
+        ≡ 0 = ap (λ z. one_if (eqb (place_in t ((network_of t).head b)) s && names z b))
+        (reads_same (suc t.question.roads.vertices) None ((network_of t).head b)) ∙ none (eqb (place_in t ((network_of t).head b)) s) in
         let k = alone b (is_first t s) refl in omega (arith, w, g, k));
     leads = λ v e m q. absurd (let z : None ≡ Some e = sym (reads_same (suc t.question.roads.vertices) None v) ∙ q in cc);
     here = first_here (is_first t s) refl;
-    gone = λ k. subst (All (λ i. (place_in t (vertex_of (network_in t) i) ≡ k) × (place_in t (maker_of (network_in t) i) ≡ s)
-        × IsArc (network_in t) (item_arc i))) (sym (reads_same t.plan.shards [] k)) tt;
+    gone = λ k. subst (All (λ i. (place_in t (vertex_of (network_of t) i) ≡ k) × (place_in t (maker_of (network_of t) i) ≡ s)
+        × IsArc (network_of t) (item_arc i))) (sym (reads_same t.plan.shards [] k)) tt;
     wide = λ v. (let b = place_below t s P v in let l = length-replicate {A = List (Item V)} t.plan.shards [] in omega (arith, b, l));
   }
     where
@@ -157,22 +157,22 @@ module _ {S V : Type 0} (A : Algebra V) (t : Setup S) (s : ℕ) (P : IsPlanned t
       none true = refl
       none false = refl
 
-      alone : (b : ℕ) (h : Bool) → h ≡ is_first t s → total (λ j. is b (item_arc j)) (first_items A h) + idles (network_in t) (place_in t) s (state_in (opened_part A t s)) b ≤ 1
-      alone b false e = let m = one_if-most (eqb (place_in t ((network_in t).tail b)) s && is_idle ((state_in (opened_part A t s)).token b)) in omega (arith, m)
+      alone : (b : ℕ) (h : Bool) → h ≡ is_first t s → total (λ j. is b (item_arc j)) (first_items A h) + idles (network_of t) (place_in t) s (state_in (opened_part A t s)) b ≤ 1
+      alone b false e = let m = one_if-most (eqb (place_in t ((network_of t).tail b)) s && is_idle ((state_in (opened_part A t s)).token b)) in omega (arith, m)
       alone b true e = elim (cases_eq b 0) [
-        | inl z ↦ (let i : idles (network_in t) (place_in t) s (state_in (opened_part A t s)) b ≡ 0 = ap (λ a. idles (network_in t) (place_in t) s (state_in (opened_part A t s)) a) z
-            ∙ ap (λ y. one_if (eqb (place_in t ((network_in t).tail 0)) s && is_idle (token_if {V = V} y))) (entry_token ∙ sym e) ∙ none (eqb (place_in t ((network_in t).tail 0)) s) in
+        | inl z ↦ (let i : idles (network_of t) (place_in t) s (state_in (opened_part A t s)) b ≡ 0 = ap (λ a. idles (network_of t) (place_in t) s (state_in (opened_part A t s)) a) z
+            ∙ ap (λ y. one_if (eqb (place_in t ((network_of t).tail 0)) s && is_idle (token_if {V = V} y))) (entry_token ∙ sym e) ∙ none (eqb (place_in t ((network_of t).tail 0)) s) in
             let m = one_if-most (eqb b 0) in omega (arith, i, m))
-        | inr nz ↦ (let m = one_if-most (eqb (place_in t ((network_in t).tail b)) s && is_idle ((state_in (opened_part A t s)).token b)) in let q = ap one_if (ne_eqb b 0 nz) in omega (arith, m, q))
+        | inr nz ↦ (let m = one_if-most (eqb (place_in t ((network_of t).tail b)) s && is_idle ((state_in (opened_part A t s)).token b)) in let q = ap one_if (ne_eqb b 0 nz) in omega (arith, m, q))
       ]
 
-      first_here : (h : Bool) → h ≡ is_first t s → All (λ i. (place_in t (vertex_of (network_in t) i) ≡ s) × IsArc (network_in t) (item_arc i)) (first_items A h)
+      first_here : (h : Bool) → h ≡ is_first t s → All (λ i. (place_in t (vertex_of (network_of t) i) ≡ s) × IsArc (network_of t) (item_arc i)) (first_items A h)
       first_here false e = tt
       first_here true e = ((place_source t s P ∙ eqb-true (place_in t 0) s (sym e), entry_arc t s P), tt)
 
   -- the tables are the rows of this part
   pub opened_seen : (r : Rows V) (offsets : List ℕ) (arcs : ℕ) (queue : List (Item V)) (outs : List (List (Item V))) (sent : ℕ)
-      → AreStarts (network_in t) (local_vertices t s) offsets arcs → r ≡ idle_rows (local_vertices t s) offsets arcs (is_first t s) →
+      → AreOffsets (network_of t) (local_vertices t s) offsets arcs → r ≡ idle_rows (local_vertices t s) offsets arcs (is_first t s) →
       queue ≡ first_items A (is_first t s) → outs ≡ replicate t.plan.shards [] → sent ≡ one_if (is_first t s) → abstraction t s r queue outs sent 0 0 0 ≡ opened_part A t s
   opened_seen r offsets arcs queue outs sent B e q o n = λ i. record {
     setup = t;
@@ -181,12 +181,12 @@ module _ {S V : Type 0} (A : Algebra V) (t : Setup S) (s : ℕ) (P : IsPlanned t
         ∙ spread_same (local_vertices t s) (length (local_vertices t s)) None (suc t.question.roads.vertices)) i;
     engagers = (ap (λ (u : Rows V). scatter (local_vertices t s) u.engagers None (suc t.question.roads.vertices)) e
         ∙ spread_same (local_vertices t s) (length (local_vertices t s)) None (suc t.question.roads.vertices)) i;
-    busy = (ap (λ (u : Rows V). scatter (arcs_out (network_in t) (local_vertices t s)) u.busy false (suc (length t.question.roads.arcs))) e
-        ∙ spread_front (arcs_out (network_in t) (local_vertices t s)) (arcs_out (network_in t) (placed (place_in t) s 1 t.question.roads.vertices))
+    busy = (ap (λ (u : Rows V). scatter (arcs_out (network_of t) (local_vertices t s)) u.busy false (suc (length t.question.roads.arcs))) e
+        ∙ spread_front (arcs_out (network_of t) (local_vertices t s)) (arcs_out (network_of t) (placed (place_in t) s 1 t.question.roads.vertices))
         arcs false (is_first t s) (suc (length t.question.roads.arcs)) (arcs_first t s P)
         (let l = ap length (arcs_first t s P) in let c = B.count_is in omega (arith, l, c))) i;
-    told = (ap (λ (u : Rows V). scatter (arcs_out (network_in t) (local_vertices t s)) u.told None (suc (length t.question.roads.arcs))) e
-        ∙ spread_same (arcs_out (network_in t) (local_vertices t s)) arcs None (suc (length t.question.roads.arcs))) i;
+    told = (ap (λ (u : Rows V). scatter (arcs_out (network_of t) (local_vertices t s)) u.told None (suc (length t.question.roads.arcs))) e
+        ∙ spread_same (arcs_out (network_of t) (local_vertices t s)) arcs None (suc (length t.question.roads.arcs))) i;
     queue = q i;
     outs = o i;
     sent = n i;
@@ -196,9 +196,9 @@ module _ {S V : Type 0} (A : Algebra V) (t : Setup S) (s : ℕ) (P : IsPlanned t
   }
 
   pub opened_stored : (r : Rows V) (offsets : List ℕ) (arcs : ℕ) (queue : List (Item V)) (outs : List (List (Item V))) (sent n : ℕ) (ns : List ℕ)
-      → AreStarts (network_in t) (local_vertices t s) offsets arcs → r ≡ idle_rows (local_vertices t s) offsets arcs (is_first t s) →
+      → AreOffsets (network_of t) (local_vertices t s) offsets arcs → r ≡ idle_rows (local_vertices t s) offsets arcs (is_first t s) →
       queue ≡ first_items A (is_first t s) → outs ≡ replicate t.plan.shards [] → sent ≡ one_if (is_first t s) →
-      n ≡ queue_bound (network_in t) (place_in t) s → length ns ≡ t.plan.shards → ((k : ℕ) → k ≢ s → k < t.plan.shards → get_or ns k 0 ≡ outbox_bound (network_in t) (place_in t) s k) →
+      n ≡ queue_bound (network_of t) (place_in t) s → length ns ≡ t.plan.shards → ((k : ℕ) → k ≢ s → k < t.plan.shards → get_or ns k 0 ≡ outbox_bound (network_of t) (place_in t) s k) →
       RepInvariant (abstraction t s r queue outs sent 0 0 0) r n ns
   opened_stored r offsets arcs queue outs sent n ns B e q o c room long caps =
       let E = opened_seen r offsets arcs queue outs sent B e q o c in
@@ -232,18 +232,18 @@ module _ {S V : Type 0} (A : Algebra V) (t : Setup S) (s : ℕ) (P : IsPlanned t
       })
 
   -- nor does anything but it in the opening
-  pub opening_weight : (h : ℕ → Item V → ℕ) → in_flight (network_in t) (place_in t) (opening A (network_in t)) h ≡ h (place_in t 0) (MessageOn 0 A.origin)
+  pub opening_weight : (h : ℕ → Item V → ℕ) → in_flight (network_of t) (place_in t) (opening A (network_of t)) h ≡ h (place_in t 0) (MessageOn 0 A.origin)
   opening_weight h =
-      let f : ℕ → ℕ = λ b. total (at_place (network_in t) (place_in t) h) (item_of b (put (λ _. Idle) 0 (Message A.origin) b)) in
+      let f : ℕ → ℕ = λ b. total (at_place (network_of t) (place_in t) h) (item_of b (put (λ _. Idle) 0 (Message A.origin) b)) in
       let d = sum_at f (λ b. 0) 0 (suc (length t.question.roads.arcs)) (omega arith)
-      (λ b nz. ap (λ k. total (at_place (network_in t) (place_in t) h) (item_of b k)) (put-other (λ _. Idle) 0 (Message A.origin) b nz)) in
+      (λ b nz. ap (λ k. total (at_place (network_of t) (place_in t) h) (item_of b k)) (put-other (λ _. Idle) 0 (Message A.origin) b nz)) in
       let z = sum_zero (λ b. 0) (suc (length t.question.roads.arcs)) (λ k. refl) in
-      let o : f 0 ≡ h (place_in t ((network_in t).head 0)) (MessageOn 0 A.origin) + 0 = ap
-      (λ k. total (at_place (network_in t) (place_in t) h) (item_of 0 k)) (put-at (λ _. Idle) 0 (Message A.origin) 0 refl) in
+      let o : f 0 ≡ h (place_in t ((network_of t).head 0)) (MessageOn 0 A.origin) + 0 = ap
+      (λ k. total (at_place (network_of t) (place_in t) h) (item_of 0 k)) (put-at (λ _. Idle) 0 (Message A.origin) 0 refl) in
       let p = ap (λ y. h y (MessageOn 0 A.origin)) (place_source t s P) in omega (arith, d, z, o, p)
 
   -- and it holds its share of the opening
-  pub opened_holds : HoldsShareIn A (network_in t) (place_in t) (opening A (network_in t)) (opened_part A t s)
+  pub opened_holds : HoldsShareIn A (network_of t) (place_in t) (opening A (network_of t)) (opened_part A t s)
   opened_holds = record {
     tables = record {
       agree = record {
@@ -262,8 +262,8 @@ module _ {S V : Type 0} (A : Algebra V) (t : Setup S) (s : ℕ) (P : IsPlanned t
     weighs = λ h. (let w = opened_weight h in let f = opening_weight h in let k = first_weight h (is_first t s) refl in omega (arith, w, f, k));
   }
     where
-      first_of : (b : ℕ) → b ≡ 0 → eqb (place_in t ((network_in t).tail b)) s ≡ true → is_first t s ≡ true
-      first_of b z m = ap (λ y. eqb (place_in t y) s) (sym (ap (network_in t).tail z ∙ tail-entry t.question.roads)) ∙ m
+      first_of : (b : ℕ) → b ≡ 0 → eqb (place_in t ((network_of t).tail b)) s ≡ true → is_first t s ≡ true
+      first_of b z m = ap (λ y. eqb (place_in t y) s) (sym (ap (network_of t).tail z ∙ tail-entry t.question.roads)) ∙ m
 
       first_weight : (h : ℕ → Item V → ℕ) (f : Bool) → f ≡ is_first t s → total (h s) (first_items A f) ≤ h (place_in t 0) (MessageOn 0 A.origin)
       first_weight h false e = omega arith

@@ -6,7 +6,7 @@ use Rattle.scholten_core.specs.declared.item.Item.{Item}
 use Rattle.scholten_core.specs.declared.item.Item.TheVariants.{Message as MessageOn}
 use Rattle.scholten_core.specs.Diffusion.{opening}
 use Rattle.scholten_core.specs.Sums.{one_if}
-use Rattle.shard_part.specs.PartState.{Setup, PartData, network_in, place_in}
+use Rattle.shard_part.specs.PartState.{Setup, PartData, network_of, place_in}
 use Rattle.shard_part.specs.Weights.{total, part_weight, is, All}
 use Rattle.shard_part.specs.Represents.{HoldsTables, RepresentsIn}
 use Rattle.shard_part.specs.Moves.{IsPlanned}
@@ -28,7 +28,7 @@ module _ {S V : Type 0} (A : Algebra V) (t : Setup S) where
   shards_past j k (suc n) l = let r = shards_past j (suc k) n (omega (arith, l)) in let z = ap one_if (ne_eqb j k (λ e. omega (arith, e, l))) in omega (arith, r, z)
 
 module _ {S V : Type 0} (A : Algebra V) (t : Setup S) (P : IsPlanned t 0) where
-  all_hold : (k n : ℕ) → k + n ≤ t.plan.shards → All (HoldsTables A (network_in t) (place_in t) (opening A (network_in t))) (opened_parts A t k n)
+  all_hold : (k n : ℕ) → k + n ≤ t.plan.shards → All (HoldsTables A (network_of t) (place_in t) (opening A (network_of t))) (opened_parts A t k n)
   all_hold k zero l = tt
   all_hold k (suc n) l = ((opened_holds A t k (planned_each t P k (omega (arith, l)))).tables, all_hold (suc k) n (omega (arith, l)))
 
@@ -66,7 +66,7 @@ module _ {S V : Type 0} (A : Algebra V) (t : Setup S) (P : IsPlanned t 0) where
     | inr ne ↦ (let r = shards_once j (suc k) n in let z = ap one_if (ne_eqb j k ne) in omega (arith, r, z))
   ]
 
-  pub opened_show : (mail : (ℕ → Item V → ℕ) → ℕ) → ((h : ℕ → Item V → ℕ) → mail h ≡ 0) → RepresentsIn A (network_in t) (place_in t) (opened_parts A t 0 t.plan.shards) mail (opening A (network_in t))
+  pub opened_show : (mail : (ℕ → Item V → ℕ) → ℕ) → ((h : ℕ → Item V → ℕ) → mail h ≡ 0) → RepresentsIn A (network_of t) (place_in t) (opened_parts A t 0 t.plan.shards) mail (opening A (network_of t))
   opened_show mail none = record {
     tables = all_hold 0 t.plan.shards (omega arith);
     weighs = λ h. (let w = weights_all h 0 t.plan.shards (omega arith) (omega arith) (let b = place_below t 0 P 0 in omega (arith, b)) in

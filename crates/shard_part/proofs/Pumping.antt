@@ -3,12 +3,12 @@ use Rattle.std.proofs.Common.{◌≡◌, ◌≢◌, ℕ, ◌+◌, ◌<◌, ◌�
 use Rattle.std.proofs.lemmas.List.{get_or_read, take_more, take_all}
 use Rattle.path_algebra.specs.Algebra.{Algebra}
 use Rattle.road_graph.specs.declared.OutRoad.{OutRoad}
-use Rattle.road_graph.specs.Roads.{HasVertex, IsTurn, ListsArcsFrom, ListsRoadsFrom, arc_of, road_of, roads_of}
+use Rattle.road_graph.specs.GraphData.{HasVertex, IsRank, ListsArcsFrom, ListsRoadsFrom, arc_of, road_of, roads_of}
 use Rattle.scholten_core.specs.Network.{WellFormed}
 use Rattle.scholten_core.specs.Diffusion.{is_due, extend_label, improves}
-use Rattle.shard_part.specs.PartState.{Setup, PartData, state_in, network_in, IsArc}
+use Rattle.shard_part.specs.PartState.{Setup, PartData, state_in, network_of, IsArc}
 use Rattle.shard_part.specs.Outgoing.{outgoing, local_vertices}
-use Rattle.shard_part.specs.Moves.{Rows, RepInvariant, IsPlace, IsRow, with_message, engaged_or_answered, labelled, offered, offered_all, rested, with_value}
+use Rattle.shard_part.specs.Moves.{Rows, RepInvariant, IsPlace, IsArcRow, with_message, engaged_or_answered, labelled, offered, offered_all, rested, with_value}
 use Rattle.scholten_core.proofs.Networks.{tail-arc}
 use Rattle.shard_part.proofs.Graphs.{arc_in_graph, out_is, roads_are, road_is}
 use Rattle.shard_part.proofs.Moves.{formed}
@@ -20,12 +20,12 @@ module _ {S V : Type 0} (A : Algebra V) where
   message_same b (Some y) p = (refl, refl)
 
   pub offered_same : (v b : ℕ) (p : PartData S V) → ((offered A v b p).setup ≡ p.setup) × ((offered A v b p).shard ≡ p.shard)
-  offered_same v b p = go (is_due A (network_in p.setup) v (state_in p) b)
+  offered_same v b p = go (is_due A (network_of p.setup) v (state_in p) b)
     where
-      go : (t : Bool) → ((cond t (with_message b (extend_label A ((state_in p).label v) ((network_in p.setup).weight b)) (record p { told = set p.told b ((state_in p).label v) })) p).setup ≡ p.setup)
-          × ((cond t (with_message b (extend_label A ((state_in p).label v) ((network_in p.setup).weight b)) (record p { told = set p.told b ((state_in p).label v) })) p).shard ≡ p.shard)
+      go : (t : Bool) → ((cond t (with_message b (extend_label A ((state_in p).label v) ((network_of p.setup).weight b)) (record p { told = set p.told b ((state_in p).label v) })) p).setup ≡ p.setup)
+          × ((cond t (with_message b (extend_label A ((state_in p).label v) ((network_of p.setup).weight b)) (record p { told = set p.told b ((state_in p).label v) })) p).shard ≡ p.shard)
       go false = (refl, refl)
-      go true = message_same b (extend_label A ((state_in p).label v) ((network_in p.setup).weight b)) (record p { told = set p.told b ((state_in p).label v) })
+      go true = message_same b (extend_label A ((state_in p).label v) ((network_of p.setup).weight b)) (record p { told = set p.told b ((state_in p).label v) })
 
   pub offered_all-snoc : (v : ℕ) (bs : List ℕ) (b : ℕ) (p : PartData S V) → offered_all A v (bs ++ b ∷ []) p ≡ offered A v b (offered_all A v bs p)
   unfolding offered_all
@@ -48,8 +48,8 @@ module _ {S V : Type 0} (A : Algebra V) where
       let P : IsPlace p v j = subst (λ (u : PartData S V). IsPlace u v j) (sym e) Q in
       ((omega (arith, nz)), (let b = own_below p.setup p.shard j P.inside in let w = P.vertex in omega (arith, b, w)))
 
-  pub listed_out : (p old : PartData S V) (v : ℕ) (xs : List ℕ) → p ≡ old → 1 ≤ v → ListsArcsFrom p.setup.question.roads v xs → xs ≡ outgoing (network_in old.setup) v
-  listed_out p old v xs e l o = out_is p.setup.question.roads p.setup.question.source v xs l o ∙ ap (λ (u : PartData S V). outgoing (network_in u.setup) v) e
+  pub listed_out : (p old : PartData S V) (v : ℕ) (xs : List ℕ) → p ≡ old → 1 ≤ v → ListsArcsFrom p.setup.question.roads v xs → xs ≡ outgoing (network_of old.setup) v
+  listed_out p old v xs e l o = out_is p.setup.question.roads p.setup.question.source v xs l o ∙ ap (λ (u : PartData S V). outgoing (network_of u.setup) v) e
 
   pub offered_all_same : (v : ℕ) (bs : List ℕ) (p : PartData S V) → ((offered_all A v bs p).setup ≡ p.setup) × ((offered_all A v bs p).shard ≡ p.shard)
   unfolding offered_all
@@ -82,82 +82,82 @@ module _ {S V : Type 0} (A : Algebra V) where
   pumped_same false v bs p = (refl, refl)
 
 module _ {S V : Type 0} where
-  pub inside_of : (p q : PartData S V) (v k : ℕ) (xs : List ℕ) → xs ≡ outgoing (network_in p.setup) v → q.setup ≡ p.setup → k < length xs → k < length (outgoing (network_in q.setup) v)
-  inside_of p q v k xs e s l = subst (λ (t : Setup S). k < length (outgoing (network_in t) v)) (sym s) (subst (λ ys. k < length ys) e l)
+  pub inside_of : (p q : PartData S V) (v k : ℕ) (xs : List ℕ) → xs ≡ outgoing (network_of p.setup) v → q.setup ≡ p.setup → k < length xs → k < length (outgoing (network_of q.setup) v)
+  inside_of p q v k xs e s l = subst (λ (t : Setup S). k < length (outgoing (network_of t) v)) (sym s) (subst (λ ys. k < length ys) e l)
 
-  pub arc_at : (p q : PartData S V) (v k b : ℕ) (xs : List ℕ) → xs ≡ outgoing (network_in p.setup) v → q.setup ≡ p.setup → get_or xs k 0 ≡ b → get_or (outgoing (network_in q.setup) v) k 0 ≡ b
-  arc_at p q v k b xs e s h = (λ j. get_or (outgoing (network_in (s j)) v) k 0) ∙ ap (λ ys. get_or ys k 0) (sym e) ∙ h
+  pub arc_at : (p q : PartData S V) (v k b : ℕ) (xs : List ℕ) → xs ≡ outgoing (network_of p.setup) v → q.setup ≡ p.setup → get_or xs k 0 ≡ b → get_or (outgoing (network_of q.setup) v) k 0 ≡ b
+  arc_at p q v k b xs e s h = (λ j. get_or (outgoing (network_of (s j)) v) k 0) ∙ ap (λ ys. get_or ys k 0) (sym e) ∙ h
 
-  pub row_found : (p q : PartData S V) (v k b i : ℕ) (xs : List ℕ) → xs ≡ outgoing (network_in p.setup) v → q.setup ≡ p.setup → get_or xs k 0 ≡ b
-      → IsRow q (get_or (outgoing (network_in q.setup) v) k 0) i → IsRow q b i
-  row_found p q v k b i xs e s h R = subst (λ z. IsRow q z i) (arc_at p q v k b xs e s h) R
+  pub row_found : (p q : PartData S V) (v k b i : ℕ) (xs : List ℕ) → xs ≡ outgoing (network_of p.setup) v → q.setup ≡ p.setup → get_or xs k 0 ≡ b
+      → IsArcRow q (get_or (outgoing (network_of q.setup) v) k 0) i → IsArcRow q b i
+  row_found p q v k b i xs e s h R = subst (λ z. IsArcRow q z i) (arc_at p q v k b xs e s h) R
 
-  pub tail_found : (p q : PartData S V) (v k b : ℕ) (xs : List ℕ) → xs ≡ outgoing (network_in p.setup) v → q.setup ≡ p.setup → k < length xs → get_or xs k 0 ≡ b → (network_in q.setup).tail b ≡ v
-  tail_found p q v k b xs e s l h = ap (λ (t : Setup S). (network_in t).tail b) s ∙ ap (network_in p.setup).tail (sym h ∙ ap (λ ys. get_or ys k 0) e)
-      ∙ ((outgoing_picked (network_in p.setup) v).each k (subst (λ ys. k < length ys) e l)).0
+  pub tail_found : (p q : PartData S V) (v k b : ℕ) (xs : List ℕ) → xs ≡ outgoing (network_of p.setup) v → q.setup ≡ p.setup → k < length xs → get_or xs k 0 ≡ b → (network_of q.setup).tail b ≡ v
+  tail_found p q v k b xs e s l h = ap (λ (t : Setup S). (network_of t).tail b) s ∙ ap (network_of p.setup).tail (sym h ∙ ap (λ ys. get_or ys k 0) e)
+      ∙ ((outgoing_picked (network_of p.setup) v).each k (subst (λ ys. k < length ys) e l)).0
 
   pub arc_found : (u p q : PartData S V) (r : Rows V) (n : ℕ) (ns : List ℕ) (v b : ℕ) → u ≡ p → RepInvariant u r n ns → q.setup ≡ p.setup → v ≢ 0
-      → (network_in q.setup).tail b ≡ v → IsArc (network_in q.setup) b × (b ≢ 0)
+      → (network_of q.setup).tail b ≡ v → IsArc (network_of q.setup) b × (b ≢ 0)
   arc_found u p q r n ns v b e D s nz t =
-      let W : WellFormed (network_in q.setup) = subst (λ (x : Setup S). WellFormed (network_in x)) (ap (λ (y : PartData S V). y.setup) e ∙ sym s) (formed u u.shard D.planned) in
-      let tn : (network_in q.setup).tail b ≢ 0 = λ z. nz (sym t ∙ z) in
-      ((W.head_in b tn, λ _. tn), λ z. tn (ap (network_in q.setup).tail z ∙ W.tail_zero))
+      let W : WellFormed (network_of q.setup) = subst (λ (x : Setup S). WellFormed (network_of x)) (ap (λ (y : PartData S V). y.setup) e ∙ sym s) (formed u u.shard D.planned) in
+      let tn : (network_of q.setup).tail b ≢ 0 = λ z. nz (sym t ∙ z) in
+      ((W.head_in b tn, λ _. tn), λ z. tn (ap (network_of q.setup).tail z ∙ W.tail_zero))
 
   -- an arc among those out of its tail
   pub tail_vertex : (p old : PartData S V) (r : Rows V) (n : ℕ) (ns : List ℕ) (a : ℕ) → p ≡ old → RepInvariant p r n ns
-      → IsArc (network_in old.setup) a → a ≢ 0 → HasVertex p.setup.question.roads ((network_in old.setup).tail a)
+      → IsArc (network_of old.setup) a → a ≢ 0 → HasVertex p.setup.question.roads ((network_of old.setup).tail a)
   tail_vertex p old r n ns a e D ar nz =
       let g = arc_in_graph p old r n ns a e D ar nz in subst (HasVertex p.setup.question.roads) (sym (tail-arc p.setup.question.roads a g.0)
-      ∙ ap (λ (u : PartData S V). (network_in u.setup).tail a) e) (D.planned.roads.ends a g).0
+      ∙ ap (λ (u : PartData S V). (network_of u.setup).tail a) e) (D.planned.roads.ends a g).0
 
   -- where the graph says that an arc stands among those out of its tail
-  pub turn_found : (A : Algebra V) (p old : PartData S V) (r : Rows V) (n : ℕ) (ns : List ℕ) (a k : ℕ) → p ≡ old → RepInvariant p r n ns
-      → IsArc (network_in old.setup) a → a ≢ 0 → IsTurn p.setup.question.roads a k →
-      (k < length (outgoing (network_in old.setup) ((network_in old.setup).tail a))) × (get_or (outgoing (network_in old.setup) ((network_in old.setup).tail a)) k 0 ≡ a)
-  turn_found A p old r n ns a k e D ar nz turn =
+  pub rank_found : (A : Algebra V) (p old : PartData S V) (r : Rows V) (n : ℕ) (ns : List ℕ) (a k : ℕ) → p ≡ old → RepInvariant p r n ns
+      → IsArc (network_of old.setup) a → a ≢ 0 → IsRank p.setup.question.roads a k →
+      (k < length (outgoing (network_of old.setup) ((network_of old.setup).tail a))) × (get_or (outgoing (network_of old.setup) ((network_of old.setup).tail a)) k 0 ≡ a)
+  rank_found A p old r n ns a k e D ar nz turn =
       let h = tail_vertex p old r n ns a e D ar nz in
       let low : 1 ≤ a = omega arith in
-      let tail : (arc_of p.setup.question.roads a).tail ≡ (network_in old.setup).tail a = sym (tail-arc p.setup.question.roads a low) ∙ ap (λ (u : PartData S V). (network_in u.setup).tail a) e in
-      let is = listed_out A p old ((network_in old.setup).tail a) turn.numbers e h.0 (subst (λ w. ListsArcsFrom p.setup.question.roads w turn.numbers) tail turn.lists) in
+      let tail : (arc_of p.setup.question.roads a).tail ≡ (network_of old.setup).tail a = sym (tail-arc p.setup.question.roads a low) ∙ ap (λ (u : PartData S V). (network_of u.setup).tail a) e in
+      let is = listed_out A p old ((network_of old.setup).tail a) turn.numbers e h.0 (subst (λ w. ListsArcsFrom p.setup.question.roads w turn.numbers) tail turn.lists) in
       (subst (λ ys. k < length ys) is turn.inside, ap (λ ys. get_or ys k 0) (sym is) ∙ turn.found)
 
   -- head and weight of the k-th arc out of a vertex
   pub road_found : (A : Algebra V) (p old : PartData S V) (r : Rows V) (n : ℕ) (ns : List ℕ) (v j k : ℕ) (rs : List OutRoad) (d : OutRoad) → p ≡ old
       → RepInvariant p r n ns → IsPlace old v j → v ≢ 0 → ListsRoadsFrom p.setup.question.roads v rs →
-      k < length (outgoing (network_in old.setup) v) → (k < length rs) × (get_or rs k d ≡ road_of (arc_of old.setup.question.roads (get_or (outgoing (network_in old.setup) v) k 0)))
+      k < length (outgoing (network_of old.setup) v) → (k < length rs) × (get_or rs k d ≡ road_of (arc_of old.setup.question.roads (get_or (outgoing (network_of old.setup) v) k 0)))
   road_found A p old r n ns v j k rs d e D P nz o l =
       let h2 = vertex_at A p old r n ns v j e D P nz in
-      road_is old.setup.question.roads old.setup.question.source v k (get_or (outgoing (network_in old.setup) v) k 0) rs d
+      road_is old.setup.question.roads old.setup.question.source v k (get_or (outgoing (network_of old.setup) v) k 0) rs d
       (roads_are p.setup.question.roads p.setup.question.source v rs h2.0 o
-      ∙ ap (λ (u : PartData S V). roads_of u.setup.question.roads (outgoing (network_in u.setup) v)) e) l refl
+      ∙ ap (λ (u : PartData S V). roads_of u.setup.question.roads (outgoing (network_of u.setup) v)) e) l refl
 
   -- a message, step by step
   pub message_handled : (meaning : S → Algebra V) (p p1 p2 p3 p4 : PartData S V) (a v w : ℕ) (x : V) (t : Bool) → v ≡ w
       → p1 ≡ labelled (meaning p.setup.question.algebra) x v p → p2 ≡ engaged_or_answered a v ((state_in p1).engager v) p1 →
-      t ≡ improves (meaning p.setup.question.algebra) x ((state_in p).label v) → p3 ≡ cond t (offered_all (meaning p2.setup.question.algebra) v (outgoing (network_in p2.setup) v) p2) p2 →
+      t ≡ improves (meaning p.setup.question.algebra) x ((state_in p).label v) → p3 ≡ cond t (offered_all (meaning p2.setup.question.algebra) v (outgoing (network_of p2.setup) v) p2) p2 →
       p4 ≡ rested (meaning p3.setup.question.algebra) v p3 → p4 ≡ with_value (meaning p.setup.question.algebra) a x w p
   message_handled meaning p p1 p2 p3 p4 a v w x t vw e1 e2 et e3 e4 =
       let L = improve_same (meaning p.setup.question.algebra) x v p in
       let s1 : p1.setup ≡ p.setup = ap (λ (u : PartData S V). u.setup) e1 ∙ L.0 in
       let g1 : (state_in p1).engager v ≡ (state_in p).engager v = ap (λ (u : PartData S V). (state_in u).engager v) e1 ∙ ap (λ f. f v) L.2 in
       let s2 : p2.setup ≡ p.setup = ap (λ (u : PartData S V). u.setup) e2 ∙ (engaged_or_answered_same (meaning p.setup.question.algebra) a v ((state_in p1).engager v) p1).0 ∙ s1 in
-      let s3 : p3.setup ≡ p.setup = ap (λ (u : PartData S V). u.setup) e3 ∙ (pumped_same (meaning p2.setup.question.algebra) t v (outgoing (network_in p2.setup) v) p2).0 ∙ s2 in
+      let s3 : p3.setup ≡ p.setup = ap (λ (u : PartData S V). u.setup) e3 ∙ (pumped_same (meaning p2.setup.question.algebra) t v (outgoing (network_of p2.setup) v) p2).0 ∙ s2 in
       let q2 : p2 ≡ engaged_or_answered a v ((state_in p).engager v) (labelled (meaning p.setup.question.algebra) x v p) = e2 ∙ (λ i. engaged_or_answered a v (g1 i) (e1 i)) in
       let q3 : p3 ≡ cond (improves (meaning p.setup.question.algebra) x ((state_in p).label v))
-      (offered_all (meaning p.setup.question.algebra) v (outgoing (network_in p.setup) v)
+      (offered_all (meaning p.setup.question.algebra) v (outgoing (network_of p.setup) v)
       (engaged_or_answered a v ((state_in p).engager v) (labelled (meaning p.setup.question.algebra) x v p)))
       (engaged_or_answered a v ((state_in p).engager v) (labelled (meaning p.setup.question.algebra) x v p)) =
-      e3 ∙ (λ i. cond (et i) (offered_all (meaning (s2 i).question.algebra) v (outgoing (network_in (s2 i)) v) (q2 i)) (q2 i)) in
+      e3 ∙ (λ i. cond (et i) (offered_all (meaning (s2 i).question.algebra) v (outgoing (network_of (s2 i)) v) (q2 i)) (q2 i)) in
       e4 ∙ (λ i. rested (meaning (s3 i).question.algebra) v (q3 i)) ∙ ap (λ z. with_value (meaning p.setup.question.algebra) a x z p) vw
 
   -- the part stays of its shard and setup
   pub message_keeps : (meaning : S → Algebra V) (p p1 p2 p3 : PartData S V) (a v j : ℕ) (x : V) (t : Bool)
       → p1 ≡ labelled (meaning p.setup.question.algebra) x v p → p2 ≡ engaged_or_answered a v ((state_in p1).engager v) p1 →
-      p3 ≡ cond t (offered_all (meaning p2.setup.question.algebra) v (outgoing (network_in p2.setup) v) p2) p2 → IsPlace p v j → IsPlace p3 v j
+      p3 ≡ cond t (offered_all (meaning p2.setup.question.algebra) v (outgoing (network_of p2.setup) v) p2) p2 → IsPlace p v j → IsPlace p3 v j
   message_keeps meaning p p1 p2 p3 a v j x t e1 e2 e3 P =
       let L = improve_same (meaning p.setup.question.algebra) x v p in
       let G = engaged_or_answered_same (meaning p.setup.question.algebra) a v ((state_in p1).engager v) p1 in
-      let M = pumped_same (meaning p2.setup.question.algebra) t v (outgoing (network_in p2.setup) v) p2 in
+      let M = pumped_same (meaning p2.setup.question.algebra) t v (outgoing (network_of p2.setup) v) p2 in
       place_same (meaning p.setup.question.algebra) p p3 v j
       (ap (λ (u : PartData S V). u.setup) e3 ∙ M.0 ∙ ap (λ (u : PartData S V). u.setup) e2 ∙ G.0 ∙ ap (λ (u : PartData S V). u.setup) e1 ∙ L.0)
       (ap (λ (u : PartData S V). u.shard) e3 ∙ M.1 ∙ ap (λ (u : PartData S V). u.shard) e2 ∙ G.1 ∙ ap (λ (u : PartData S V). u.shard) e1 ∙ L.1) P

@@ -5,18 +5,18 @@ use Rattle.std.proofs.lemmas.Bool.{cases_eq, false≢true}
 use Rattle.std.proofs.lemmas.List.{length-map, map-set}
 use Rattle.circular_buffer.specs.Buffer.{Buffer, buffer}
 use Rattle.path_algebra.specs.Algebra.{Algebra}
-use Rattle.road_graph.specs.Roads.{IsRoads, HasArc, arc_of}
+use Rattle.road_graph.specs.GraphData.{IsGraph, HasArc, arc_of}
 use Rattle.scholten_core.specs.declared.item.Item.{Item}
 use Rattle.scholten_core.specs.declared.item.Item.TheVariants.{Message as MessageOn, Signal as SignalOn}
 use Rattle.scholten_core.specs.Diffusion.{is_idle}
 use Rattle.scholten_core.specs.Items.{item_arc}
 use Rattle.scholten_core.specs.Sums.{one_if}
 use Rattle.scholten_core.proofs.Networks.{tail-arc, head-arc}
-use Rattle.shard_part.specs.PartState.{PartData, network_in, place_in, state_in, token_if, vertex_of, maker_of, IsArc}
+use Rattle.shard_part.specs.PartState.{PartData, network_of, place_in, state_in, token_if, vertex_of, maker_of, IsArc}
 use Rattle.shard_part.specs.LocalInvariant.{LocalInvariant, names, engages, idles}
 use Rattle.shard_part.specs.Capacities.{queue_bound, outbox_bound}
 use Rattle.shard_part.specs.Weights.{counted, is, All}
-use Rattle.shard_part.specs.Moves.{Rows, RepInvariant, IsRow}
+use Rattle.shard_part.specs.Moves.{Rows, RepInvariant, IsArcRow}
 use Rattle.shard_part.specs.Exchange.{Fits, FitsAlone, MayEngage, Awaits}
 use Rattle.shard_part.specs.Readings.{has_ended}
 use Rattle.shard_part.proofs.Weights.{total_append}
@@ -30,18 +30,18 @@ use Rattle.shard_part.proofs.Opened.{arcs_first}
 module _ {S V : Type 0} where
   -- the queue is within its capacity
   pub queue_within : (A : Algebra V) (p : PartData S V) (r : Rows V) (n : ℕ) (ns : List ℕ) → RepInvariant p r n ns → length p.queue ≤ n
-  queue_within A p r n ns D = let f = sound_fits A (network_in p.setup) (place_in p.setup) (formed p p.shard D.planned) p D.sound in let q = D.roomy.queue in omega (arith, f, q)
+  queue_within A p r n ns D = let f = sound_fits A (network_of p.setup) (place_in p.setup) (formed p p.shard D.planned) p D.sound in let q = D.roomy.queue in omega (arith, f, q)
 
   pub room_is : (A : Algebra V) (p old : PartData S V) (r : Rows V) (n : ℕ) (ns : List ℕ) (k l : ℕ) → p ≡ old → RepInvariant p r n ns → k ≡ n
-      → l ≡ length p.queue → k - l + length old.queue ≡ queue_bound (network_in old.setup) (place_in old.setup) old.shard
+      → l ≡ length p.queue → k - l + length old.queue ≡ queue_bound (network_of old.setup) (place_in old.setup) old.shard
   room_is A p old r n ns k l e D h q =
       let w = queue_within A p r n ns D in
-      let m : k - l + length p.queue ≡ queue_bound (network_in p.setup) (place_in p.setup) p.shard = (let c = D.roomy.queue in omega (arith, w, c, h, q)) in
-      subst (λ (u : PartData S V). k - l + length u.queue ≡ queue_bound (network_in u.setup) (place_in u.setup) u.shard) e m
+      let m : k - l + length p.queue ≡ queue_bound (network_of p.setup) (place_in p.setup) p.shard = (let c = D.roomy.queue in omega (arith, w, c, h, q)) in
+      subst (λ (u : PartData S V). k - l + length u.queue ≡ queue_bound (network_of u.setup) (place_in u.setup) u.shard) e m
 
   -- the environment's arc has the first row
-  pub entry_row : (p old : PartData S V) (r : Rows V) (n : ℕ) (ns : List ℕ) → p ≡ old → RepInvariant p r n ns → IsRow old 0 0
-  entry_row p old r n ns e D = let f = arcs_first p.setup p.shard D.planned in subst (λ (u : PartData S V). IsRow u 0 0) e (record {
+  pub entry_row : (p old : PartData S V) (r : Rows V) (n : ℕ) (ns : List ℕ) → p ≡ old → RepInvariant p r n ns → IsArcRow old 0 0
+  entry_row p old r n ns e D = let f = arcs_first p.setup p.shard D.planned in subst (λ (u : PartData S V). IsArcRow u 0 0) e (record {
     inside = (let l = ap length f in omega (arith, l));
     arc = ap (λ xs. get_or xs 0 0) f;
   })
@@ -56,17 +56,17 @@ module _ {S V : Type 0} where
   ended_else p old x e q h k f = f ∙ sym (ap (λ z. z && not (get_or old.busy 0 false)) (here_is p old x e q h k ∙ f))
 
   -- an outbox is emptied
-  emptied_sound : (p : PartData S V) (to : ℕ) → LocalInvariant (network_in p.setup) (place_in p.setup) p → LocalInvariant (network_in p.setup) (place_in p.setup) (record p { outs = set p.outs to [] })
+  emptied_sound : (p : PartData S V) (to : ℕ) → LocalInvariant (network_of p.setup) (place_in p.setup) p → LocalInvariant (network_of p.setup) (place_in p.setup) (record p { outs = set p.outs to [] })
   emptied_sound p to D = record {
     once = λ b. (let o = D.once b in let w = outs_none (λ _ j. is b (item_arc j)) 0 to p.outs in omega (arith, o, w));
     leads = D.leads;
     here = D.here;
     gone = λ k. elim (cases_eq k to) [
-      | inl e ↦ subst (All (λ i. (place_in p.setup (vertex_of (network_in p.setup) i) ≡ k)
-          × (place_in p.setup (maker_of (network_in p.setup) i) ≡ p.shard) × IsArc (network_in p.setup) (item_arc i)))
+      | inl e ↦ subst (All (λ i. (place_in p.setup (vertex_of (network_of p.setup) i) ≡ k)
+          × (place_in p.setup (maker_of (network_of p.setup) i) ≡ p.shard) × IsArc (network_of p.setup) (item_arc i)))
           (sym (emptied p.outs to k e)) tt
-      | inr ne ↦ subst (All (λ i. (place_in p.setup (vertex_of (network_in p.setup) i) ≡ k)
-          × (place_in p.setup (maker_of (network_in p.setup) i) ≡ p.shard) × IsArc (network_in p.setup) (item_arc i)))
+      | inr ne ↦ subst (All (λ i. (place_in p.setup (vertex_of (network_of p.setup) i) ≡ k)
+          × (place_in p.setup (maker_of (network_of p.setup) i) ≡ p.shard) × IsArc (network_of p.setup) (item_arc i)))
           (sym (get_or-set_other p.outs to k [] [] ne)) (D.gone k)
     ];
     wide = λ v. (let w = D.wide v in let l = length-set p.outs to [] in omega (arith, w, l));
@@ -82,7 +82,7 @@ module _ {S V : Type 0} where
 
   pub swap_leaves : {X : Type 0} (its : X → List (Item V)) (caps : X → ℕ) (rs : List X) (p old : PartData S V) (r : Rows V) (n to : ℕ) (x new : X)
       → p ≡ old → RepInvariant p r n (map caps rs) → p.outs ≡ map its rs →
-      to ≢ old.shard → to < old.setup.plan.shards → x ≡ get_or rs to x → its new ≡ [] → caps new ≡ outbox_bound (network_in old.setup) (place_in old.setup) old.shard to →
+      to ≢ old.shard → to < old.setup.plan.shards → x ≡ get_or rs to x → its new ≡ [] → caps new ≡ outbox_bound (network_of old.setup) (place_in old.setup) old.shard to →
       RepInvariant (record p { outs = map its (set rs to new) }) r n (map caps (set rs to new))
       × (record p { outs = map its (set rs to new) } ≡ record old { outs = set old.outs to [] }) × (its x ≡ get_or old.outs to [])
       × (caps x ≡ caps new)
@@ -92,7 +92,7 @@ module _ {S V : Type 0} where
       let inside : to < length rs = (let a = D.roomy.boxes in let b = ap length o in let c = length-map rs its in omega (arith, a, b, c, many)) in
       let outs : map its (set rs to new) ≡ set p.outs to [] = map-set its rs to new ∙ (λ i. set (sym o i) to (empty i)) in
       let was : caps x ≡ caps new = sym (map_read caps rs to 0 x inside read) ∙ D.roomy.outs to other many
-      ∙ ap (λ (u : PartData S V). outbox_bound (network_in u.setup) (place_in u.setup) u.shard to) e ∙ sym cap in
+      ∙ ap (λ (u : PartData S V). outbox_bound (network_of u.setup) (place_in u.setup) u.shard to) e ∙ sym cap in
       let ns : map caps (set rs to new) ≡ map caps rs = map_kept caps rs to x new inside read (sym was) in (
         subst (λ (ys : List (List (Item V))). RepInvariant (record p { outs = ys }) r n (map caps (set rs to new))) (sym outs)
             (subst (λ (ks : List ℕ). RepInvariant (record p { outs = set p.outs to [] }) r n ks) (sym ns)
@@ -105,13 +105,13 @@ module _ {S V : Type 0} where
   module _ (A : Algebra V) where
     -- on the arc of an item that fits nothing else is here
     fits_clear : (p : PartData S V) (i : Item V) (b : ℕ) → FitsAlone A p i → b ≡ item_arc i
-        → (engages (network_in p.setup) (place_in p.setup) p.shard (state_in p) b ≡ 0)
-        × (idles (network_in p.setup) (place_in p.setup) p.shard (state_in p) b ≡ 0)
+        → (engages (network_of p.setup) (place_in p.setup) p.shard (state_in p) b ≡ 0)
+        × (idles (network_of p.setup) (place_in p.setup) p.shard (state_in p) b ≡ 0)
     fits_clear p (MessageOn a x) b F e = (
-      ap (engages (network_in p.setup) (place_in p.setup) p.shard (state_in p)) e
-          ∙ not_named (eqb (place_in p.setup ((network_in p.setup).head a)) p.shard) ((state_in p).engager ((network_in p.setup).head a)) F.2.2,
-      ap (idles (network_in p.setup) (place_in p.setup) p.shard (state_in p)) e
-          ∙ ap (λ z. one_if (z && is_idle ((state_in p).token a))) (ne_eqb (place_in p.setup ((network_in p.setup).tail a)) p.shard F.2.1),
+      ap (engages (network_of p.setup) (place_in p.setup) p.shard (state_in p)) e
+          ∙ not_named (eqb (place_in p.setup ((network_of p.setup).head a)) p.shard) ((state_in p).engager ((network_of p.setup).head a)) F.2.2,
+      ap (idles (network_of p.setup) (place_in p.setup) p.shard (state_in p)) e
+          ∙ ap (λ z. one_if (z && is_idle ((state_in p).token a))) (ne_eqb (place_in p.setup ((network_of p.setup).tail a)) p.shard F.2.1),
     )
       where
         not_named : (z : Bool) (o : Option ℕ) → o ≢ Some a → one_if (z && names o a) ≡ 0
@@ -120,12 +120,12 @@ module _ {S V : Type 0} where
         not_named false (Some e) n = refl
         not_named true (Some e) n = ap one_if (ne_eqb a e (λ q. n (ap Some (sym q))))
     fits_clear p (SignalOn a) b F e = (
-      ap (engages (network_in p.setup) (place_in p.setup) p.shard (state_in p)) e
-          ∙ ap (λ z. one_if (z && names ((state_in p).engager ((network_in p.setup).head a)) a))
-          (ne_eqb (place_in p.setup ((network_in p.setup).head a)) p.shard F.1.1),
-      ap (idles (network_in p.setup) (place_in p.setup) p.shard (state_in p)) e
-          ∙ ap (λ z. one_if (eqb (place_in p.setup ((network_in p.setup).tail a)) p.shard && is_idle (token_if {V = V} z))) F.1.2
-          ∙ none (eqb (place_in p.setup ((network_in p.setup).tail a)) p.shard),
+      ap (engages (network_of p.setup) (place_in p.setup) p.shard (state_in p)) e
+          ∙ ap (λ z. one_if (z && names ((state_in p).engager ((network_of p.setup).head a)) a))
+          (ne_eqb (place_in p.setup ((network_of p.setup).head a)) p.shard F.1.1),
+      ap (idles (network_of p.setup) (place_in p.setup) p.shard (state_in p)) e
+          ∙ ap (λ z. one_if (eqb (place_in p.setup ((network_of p.setup).tail a)) p.shard && is_idle (token_if {V = V} z))) F.1.2
+          ∙ none (eqb (place_in p.setup ((network_of p.setup).tail a)) p.shard),
     )
       where
         none : (z : Bool) → one_if (z && false) ≡ 0
@@ -133,8 +133,8 @@ module _ {S V : Type 0} where
         none false = refl
 
     batch_clear : (p : PartData S V) (batch : List (Item V)) (b : ℕ) → All (FitsAlone A p) batch → (counted b batch ≡ 0)
-        ⊎ ((engages (network_in p.setup) (place_in p.setup) p.shard (state_in p) b ≡ 0)
-        × (idles (network_in p.setup) (place_in p.setup) p.shard (state_in p) b ≡ 0))
+        ⊎ ((engages (network_of p.setup) (place_in p.setup) p.shard (state_in p) b ≡ 0)
+        × (idles (network_of p.setup) (place_in p.setup) p.shard (state_in p) b ≡ 0))
     batch_clear p [] b F = inl refl
     batch_clear p (i ∷ is') b F = elim (cases_eq b (item_arc i)) [
       | inl e ↦ inr (fits_clear p i b F.0 e)
@@ -144,43 +144,43 @@ module _ {S V : Type 0} where
       ]
     ]
 
-    real_arcs : (p : PartData S V) → IsRoads p.setup.question.roads → (batch : List (Item V)) → All (FitsAlone A p) batch
-        → All (λ i. (place_in p.setup (vertex_of (network_in p.setup) i) ≡ p.shard) × IsArc (network_in p.setup) (item_arc i)) batch
+    real_arcs : (p : PartData S V) → IsGraph p.setup.question.roads → (batch : List (Item V)) → All (FitsAlone A p) batch
+        → All (λ i. (place_in p.setup (vertex_of (network_of p.setup) i) ≡ p.shard) × IsArc (network_of p.setup) (item_arc i)) batch
     real_arcs p R [] F = tt
     real_arcs p R (i ∷ is') F = (one i F.0, real_arcs p R is' F.1)
       where
-        is_arc : (a : ℕ) → HasArc p.setup.question.roads a → IsArc (network_in p.setup) a
+        is_arc : (a : ℕ) → HasArc p.setup.question.roads a → IsArc (network_of p.setup) a
         is_arc a h = (
           (λ e. let j = (R.ends a h).1.0 in let q = head-arc p.setup.question.roads p.setup.question.source a h.0 in
               omega (arith, j, q, e)),
           (λ _ e. let j = (R.ends a h).0.0 in let q = tail-arc p.setup.question.roads a h.0 in omega (arith, j, q, e)),
         )
 
-        one : (i : Item V) → FitsAlone A p i → (place_in p.setup (vertex_of (network_in p.setup) i) ≡ p.shard) × IsArc (network_in p.setup) (item_arc i)
+        one : (i : Item V) → FitsAlone A p i → (place_in p.setup (vertex_of (network_of p.setup) i) ≡ p.shard) × IsArc (network_of p.setup) (item_arc i)
         one (MessageOn a x) F = (F.2.0, is_arc a F.1)
         one (SignalOn a) F = (F.1.0, is_arc a F.0)
 
     -- a batch that fits joins the queue
-    received_sound : (p : PartData S V) (batch : List (Item V)) → IsRoads p.setup.question.roads
-        → LocalInvariant (network_in p.setup) (place_in p.setup) p → Fits A p batch
-        → LocalInvariant (network_in p.setup) (place_in p.setup) (record p { queue = p.queue ++ batch })
+    received_sound : (p : PartData S V) (batch : List (Item V)) → IsGraph p.setup.question.roads
+        → LocalInvariant (network_of p.setup) (place_in p.setup) p → Fits A p batch
+        → LocalInvariant (network_of p.setup) (place_in p.setup) (record p { queue = p.queue ++ batch })
     received_sound p batch R D F = record {
       once = λ b. (let o = D.once b in let a = F.apart b in let t = total_append (λ j. is b (item_arc j)) p.queue batch in
           elim (batch_clear p batch b F.each) [ inl z ↦ (omega (arith, o, a, t, z)) | inr z ↦ (let x = z.0 in let y = z.1 in omega (arith, o, a, t, x, y)) ]);
       leads = D.leads;
-      here = all_append (λ i. (place_in p.setup (vertex_of (network_in p.setup) i) ≡ p.shard) × IsArc (network_in p.setup) (item_arc i)) p.queue batch D.here (real_arcs p R batch F.each);
+      here = all_append (λ i. (place_in p.setup (vertex_of (network_of p.setup) i) ≡ p.shard) × IsArc (network_of p.setup) (item_arc i)) p.queue batch D.here (real_arcs p R batch F.each);
       gone = D.gone;
       wide = D.wide;
     }
 
     pub receive_leaves : (p old : PartData S V) (r : Rows V) (n : ℕ) (ns : List ℕ) (batch : List (Item V)) → p ≡ old → RepInvariant p r n ns
-        → length old.queue + length batch ≤ queue_bound (network_in old.setup) (place_in old.setup) old.shard → Fits A old batch →
+        → length old.queue + length batch ≤ queue_bound (network_of old.setup) (place_in old.setup) old.shard → Fits A old batch →
         (length p.queue + length batch ≤ n) × ((new : Buffer (Item V)) → new ≡ buffer (p.queue ++ batch) n
         → RepInvariant (record p { queue = new.items }) r new.capacity ns
         × (record p { queue = new.items } ≡ record old { queue = old.queue ++ batch }))
     receive_leaves p old r n ns batch e D l F =
-        let l2 : length p.queue + length batch ≤ queue_bound (network_in p.setup) (place_in p.setup) p.shard = subst
-        (λ (u : PartData S V). length u.queue + length batch ≤ queue_bound (network_in u.setup) (place_in u.setup) u.shard) (sym e) l in
+        let l2 : length p.queue + length batch ≤ queue_bound (network_of p.setup) (place_in p.setup) p.shard = subst
+        (λ (u : PartData S V). length u.queue + length batch ≤ queue_bound (network_of u.setup) (place_in u.setup) u.shard) (sym e) l in
         let F2 : Fits A p batch = subst (λ (u : PartData S V). Fits A u batch) (sym e) F in (
           (let q = D.roomy.queue in omega (arith, q, l2)),
           λ new w. (
@@ -206,26 +206,26 @@ module _ {S V : Type 0} (p old : PartData S V) (r : Rows V) (n : ℕ) (ns : List
     j.1.0,
   )
 
-  pub tail_is : (arc_of p.setup.question.roads a).tail ≡ (network_in old.setup).tail a
-  tail_is = sym (tail-arc p.setup.question.roads a ends_at.0) ∙ ap (λ (u : PartData S V). (network_in u.setup).tail a) e
+  pub tail_is : (arc_of p.setup.question.roads a).tail ≡ (network_of old.setup).tail a
+  tail_is = sym (tail-arc p.setup.question.roads a ends_at.0) ∙ ap (λ (u : PartData S V). (network_of u.setup).tail a) e
 
-  pub head_is : (arc_of p.setup.question.roads a).head ≡ (network_in old.setup).head a
-  head_is = sym (head-arc p.setup.question.roads p.setup.question.source a ends_at.0) ∙ ap (λ (u : PartData S V). (network_in u.setup).head a) e
+  pub head_is : (arc_of p.setup.question.roads a).head ≡ (network_of old.setup).head a
+  head_is = sym (head-arc p.setup.question.roads p.setup.question.source a ends_at.0) ∙ ap (λ (u : PartData S V). (network_of u.setup).head a) e
 
-  pub arc_is : IsArc (network_in old.setup) a
+  pub arc_is : IsArc (network_of old.setup) a
   arc_is = let w = ends_within in ((λ z. let q = head_is in let l = w.3 in omega (arith, z, q, l)), (λ _ z. let q = tail_is in let l = w.2 in omega (arith, z, q, l)))
 
 module _ {S V : Type 0} (p : PartData S V) (a : ℕ) where
   abbrev Here : ℕ → ℕ → Type 0
   Here to from = (place_in p.setup to ≡ p.shard) × (place_in p.setup from ≢ p.shard)
 
-  pub engage_then : (h t : ℕ) (x y : Bool) → h ≡ (network_in p.setup).head a → t ≡ (network_in p.setup).tail a → (IsTrue x ↔ Here h t) → x ≡ true
+  pub engage_then : (h t : ℕ) (x y : Bool) → h ≡ (network_of p.setup).head a → t ≡ (network_of p.setup).tail a → (IsTrue x ↔ Here h t) → x ≡ true
       → y ≡ names ((state_in p).engager h) a → IsTrue (not y) ↔ MayEngage p a
   engage_then h t x y eh et l k q =
-      let H : Here ((network_in p.setup).head a) ((network_in p.setup).tail a) = subst (λ u. Here u ((network_in p.setup).tail a)) eh (subst (Here h) et (l.0 k)) in
-      let q2 : y ≡ names ((state_in p).engager ((network_in p.setup).head a)) a = q ∙ ap (λ u. names ((state_in p).engager u) a) eh in (
-        (λ n. (H.0, H.1, unnamed ((state_in p).engager ((network_in p.setup).head a)) y q2 n)),
-        (λ m. named ((state_in p).engager ((network_in p.setup).head a)) y q2 m.2),
+      let H : Here ((network_of p.setup).head a) ((network_of p.setup).tail a) = subst (λ u. Here u ((network_of p.setup).tail a)) eh (subst (Here h) et (l.0 k)) in
+      let q2 : y ≡ names ((state_in p).engager ((network_of p.setup).head a)) a = q ∙ ap (λ u. names ((state_in p).engager u) a) eh in (
+        (λ n. (H.0, H.1, unnamed ((state_in p).engager ((network_of p.setup).head a)) y q2 n)),
+        (λ m. named ((state_in p).engager ((network_of p.setup).head a)) y q2 m.2),
       )
     where
       unnamed : (o : Option ℕ) (y : Bool) → y ≡ names o a → not y ≡ true → o ≢ Some a
@@ -237,21 +237,21 @@ module _ {S V : Type 0} (p : PartData S V) (a : ℕ) where
       named None true q n = absurd (false≢true (sym q))
       named (Some e) true q n = absurd (n (ap Some (sym (eqb-true a e (sym q)))))
 
-  pub engage_else : (h t : ℕ) (x : Bool) → h ≡ (network_in p.setup).head a → t ≡ (network_in p.setup).tail a → (IsTrue x ↔ Here h t) → x ≡ false → IsTrue x ↔ MayEngage p a
+  pub engage_else : (h t : ℕ) (x : Bool) → h ≡ (network_of p.setup).head a → t ≡ (network_of p.setup).tail a → (IsTrue x ↔ Here h t) → x ≡ false → IsTrue x ↔ MayEngage p a
   engage_else h t x eh et l k = (
     (λ y. absurd (false≢true (sym k ∙ y))),
-    (λ m. l.1 (subst (λ u. Here u t) (sym eh) (subst (Here ((network_in p.setup).head a)) (sym et) (m.0, m.1)))),
+    (λ m. l.1 (subst (λ u. Here u t) (sym eh) (subst (Here ((network_of p.setup).head a)) (sym et) (m.0, m.1)))),
   )
 
-  pub await_then : (h t : ℕ) (x y : Bool) → h ≡ (network_in p.setup).head a → t ≡ (network_in p.setup).tail a → (IsTrue x ↔ Here t h) → x ≡ true → y ≡ get_or p.busy a false → IsTrue y ↔ Awaits p a
+  pub await_then : (h t : ℕ) (x y : Bool) → h ≡ (network_of p.setup).head a → t ≡ (network_of p.setup).tail a → (IsTrue x ↔ Here t h) → x ≡ true → y ≡ get_or p.busy a false → IsTrue y ↔ Awaits p a
   await_then h t x y eh et l k q =
-      let H : Here ((network_in p.setup).tail a) ((network_in p.setup).head a) = subst (λ u. Here u ((network_in p.setup).head a)) et (subst (Here t) eh (l.0 k)) in (
+      let H : Here ((network_of p.setup).tail a) ((network_of p.setup).head a) = subst (λ u. Here u ((network_of p.setup).head a)) et (subst (Here t) eh (l.0 k)) in (
         (λ n. (H.0, H.1, sym q ∙ n)),
         (λ m. q ∙ m.2),
       )
 
-  pub await_else : (h t : ℕ) (x : Bool) → h ≡ (network_in p.setup).head a → t ≡ (network_in p.setup).tail a → (IsTrue x ↔ Here t h) → x ≡ false → IsTrue x ↔ Awaits p a
+  pub await_else : (h t : ℕ) (x : Bool) → h ≡ (network_of p.setup).head a → t ≡ (network_of p.setup).tail a → (IsTrue x ↔ Here t h) → x ≡ false → IsTrue x ↔ Awaits p a
   await_else h t x eh et l k = (
     (λ y. absurd (false≢true (sym k ∙ y))),
-    (λ m. l.1 (subst (λ u. Here u h) (sym et) (subst (Here ((network_in p.setup).tail a)) (sym eh) (m.0, m.1)))),
+    (λ m. l.1 (subst (λ u. Here u h) (sym et) (subst (Here ((network_of p.setup).tail a)) (sym eh) (m.0, m.1)))),
   )

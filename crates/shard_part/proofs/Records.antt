@@ -5,8 +5,8 @@ use Rattle.std.proofs.Common.{◌≡◌, ℕ, ◌<◌, length, [], arith, zero, 
 use Rattle.std.specs.Option.{unwrap_or, is_some}
 use Rattle.std.proofs.lemmas.List.{map-set}
 use Rattle.std.proofs.Math.Seq.{map-set_same}
-use Rattle.shard_part.specs.declared.tables.VertexRow.{VertexRow}
-use Rattle.shard_part.specs.declared.tables.ArcMarks.{ArcMarks}
+use Rattle.shard_part.specs.declared.store.tables.VertexRow.{VertexRow}
+use Rattle.shard_part.specs.declared.store.tables.ArcMarks.{ArcMarks}
 use Rattle.shard_part.specs.Tables.{VertexLists, ArcLists, vertex_lists, arc_lists, label_in, engager_in, told_in}
 
 module _ {X Y : Type 0} (f : X → Y) where

@@ -7,7 +7,7 @@ use Rattle.circular_buffer.specs.Buffer.{Buffer, buffer}
 use Rattle.scholten_core.specs.declared.item.Item.{Item}
 use Rattle.path_algebra.specs.Algebra.{Algebra}
 use Rattle.scholten_core.specs.Items.{item_arc}
-use Rattle.shard_part.specs.PartState.{PartData, network_in, place_in, vertex_of, maker_of, IsArc}
+use Rattle.shard_part.specs.PartState.{PartData, network_of, place_in, vertex_of, maker_of, IsArc}
 use Rattle.shard_part.specs.Weights.{Channels, channels_of, total, is, All}
 use Rattle.shard_part.specs.Handling.{route}
 use Rattle.shard_part.specs.LocalInvariant.{IsClear, LocalInvariant}
@@ -38,7 +38,7 @@ rest_all P (x ∷ xs) h = h.1
 module _ {S V : Type 0} where
   -- the lists change, and the part stays sound
   pub with_queue : (p : PartData S V) (r : Rows V) (n : ℕ) (ns : List ℕ) (xs : List (Item V)) → RepInvariant p r n ns
-      → LocalInvariant (network_in p.setup) (place_in p.setup) (record p { queue = xs }) → RepInvariant (record p { queue = xs }) r n ns
+      → LocalInvariant (network_of p.setup) (place_in p.setup) (record p { queue = xs }) → RepInvariant (record p { queue = xs }) r n ns
   with_queue p r n ns xs D s = record {
     planned = D.planned;
     sized = record {
@@ -59,7 +59,7 @@ module _ {S V : Type 0} where
   }
 
   pub with_outs : (p : PartData S V) (r : Rows V) (n : ℕ) (ns : List ℕ) (os : List (List (Item V))) → RepInvariant p r n ns
-      → length os ≡ length p.outs → LocalInvariant (network_in p.setup) (place_in p.setup) (record p { outs = os })
+      → length os ≡ length p.outs → LocalInvariant (network_of p.setup) (place_in p.setup) (record p { outs = os })
       → RepInvariant (record p { outs = os }) r n ns
   with_outs p r n ns os D l s = record {
     planned = D.planned;
@@ -82,46 +82,46 @@ module _ {S V : Type 0} where
 
   module _ (A : Algebra V) where
     -- an item for the part itself
-    put_here : (p : PartData S V) (r : Rows V) (n : ℕ) (ns : List ℕ) (i : Item V) → RepInvariant p r n ns → IsArc (network_in p.setup) (item_arc i)
-        → place_in p.setup (maker_of (network_in p.setup) i) ≡ p.shard → IsClear p (item_arc i) →
-        place_in p.setup (vertex_of (network_in p.setup) i) ≡ p.shard →
-        (length (p.queue ++ i ∷ []) ≤ n) × (route (network_in p.setup) (place_in p.setup) p.shard i (channels_of p)
+    put_here : (p : PartData S V) (r : Rows V) (n : ℕ) (ns : List ℕ) (i : Item V) → RepInvariant p r n ns → IsArc (network_of p.setup) (item_arc i)
+        → place_in p.setup (maker_of (network_of p.setup) i) ≡ p.shard → IsClear p (item_arc i) →
+        place_in p.setup (vertex_of (network_of p.setup) i) ≡ p.shard →
+        (length (p.queue ++ i ∷ []) ≤ n) × (route (network_of p.setup) (place_in p.setup) p.shard i (channels_of p)
         ≡ record { queue = p.queue ++ i ∷ []; outs = p.outs }) × RepInvariant (record p { queue = p.queue ++ i ∷ [] }) r n ns
     put_here p r n ns i D ar m z e =
-        let to = cond-true (eqb (place_in p.setup (vertex_of (network_in p.setup) i)) p.shard) (record { queue = p.queue ++ i ∷ []; outs = p.outs })
+        let to = cond-true (eqb (place_in p.setup (vertex_of (network_of p.setup) i)) p.shard) (record { queue = p.queue ++ i ∷ []; outs = p.outs })
         (record {
           queue = p.queue;
-          outs = set p.outs (place_in p.setup (vertex_of (network_in p.setup) i))
-              (get_or p.outs (place_in p.setup (vertex_of (network_in p.setup) i)) [] ++ i ∷ []);
+          outs = set p.outs (place_in p.setup (vertex_of (network_of p.setup) i))
+              (get_or p.outs (place_in p.setup (vertex_of (network_of p.setup) i)) [] ++ i ∷ []);
         }) (eq-eqb _ _ e) in
-        let s : LocalInvariant (network_in p.setup) (place_in p.setup) (record p { queue = p.queue ++ i ∷ [] }) = subst
-        (λ (l : Channels V). LocalInvariant (network_in p.setup) (place_in p.setup) (record p { queue = l.queue; outs = l.outs })) to
-        (put_sound A (network_in p.setup) (place_in p.setup) (formed p p.shard D.planned) p i D.sound ar m z) in
-        let f = sound_fits A (network_in p.setup) (place_in p.setup) (formed p p.shard D.planned) (record p { queue = p.queue ++ i ∷ [] }) s in
+        let s : LocalInvariant (network_of p.setup) (place_in p.setup) (record p { queue = p.queue ++ i ∷ [] }) = subst
+        (λ (l : Channels V). LocalInvariant (network_of p.setup) (place_in p.setup) (record p { queue = l.queue; outs = l.outs })) to
+        (put_sound A (network_of p.setup) (place_in p.setup) (formed p p.shard D.planned) p i D.sound ar m z) in
+        let f = sound_fits A (network_of p.setup) (place_in p.setup) (formed p p.shard D.planned) (record p { queue = p.queue ++ i ∷ [] }) s in
         ((let q = D.roomy.queue in omega (arith, f, q)), to, with_queue p r n ns (p.queue ++ i ∷ []) D s)
 
     -- an item for another part
     put_there : (p : PartData S V) (r : Rows V) (n : ℕ) (ns : List ℕ) (i : Item V) (to : ℕ) → RepInvariant p r n ns
-        → IsArc (network_in p.setup) (item_arc i) → place_in p.setup (maker_of (network_in p.setup) i) ≡ p.shard → IsClear p (item_arc i) →
-        place_in p.setup (vertex_of (network_in p.setup) i) ≡ to → to ≢ p.shard →
+        → IsArc (network_of p.setup) (item_arc i) → place_in p.setup (maker_of (network_of p.setup) i) ≡ p.shard → IsClear p (item_arc i) →
+        place_in p.setup (vertex_of (network_of p.setup) i) ≡ to → to ≢ p.shard →
         (to < length p.outs) × (length (get_or p.outs to [] ++ i ∷ []) ≤ get_or ns to 0)
-        × (route (network_in p.setup) (place_in p.setup) p.shard i (channels_of p)
+        × (route (network_of p.setup) (place_in p.setup) p.shard i (channels_of p)
         ≡ record { queue = p.queue; outs = set p.outs to (get_or p.outs to [] ++ i ∷ []) })
         × RepInvariant (record p { outs = set p.outs to (get_or p.outs to [] ++ i ∷ []) }) r n ns
     put_there p r n ns i to D ar m z e ne =
-        let lt : to < length p.outs = subst (λ k. k < length p.outs) e (D.sound.wide (vertex_of (network_in p.setup) i)) in
-        let there : route (network_in p.setup) (place_in p.setup) p.shard i (channels_of p) ≡ record { queue = p.queue; outs = set p.outs to (get_or p.outs to [] ++ i ∷ []) } =
-        cond-false (eqb (place_in p.setup (vertex_of (network_in p.setup) i)) p.shard) (record { queue = p.queue ++ i ∷ []; outs = p.outs })
+        let lt : to < length p.outs = subst (λ k. k < length p.outs) e (D.sound.wide (vertex_of (network_of p.setup) i)) in
+        let there : route (network_of p.setup) (place_in p.setup) p.shard i (channels_of p) ≡ record { queue = p.queue; outs = set p.outs to (get_or p.outs to [] ++ i ∷ []) } =
+        cond-false (eqb (place_in p.setup (vertex_of (network_of p.setup) i)) p.shard) (record { queue = p.queue ++ i ∷ []; outs = p.outs })
         (record {
           queue = p.queue;
-          outs = set p.outs (place_in p.setup (vertex_of (network_in p.setup) i))
-              (get_or p.outs (place_in p.setup (vertex_of (network_in p.setup) i)) [] ++ i ∷ []);
+          outs = set p.outs (place_in p.setup (vertex_of (network_of p.setup) i))
+              (get_or p.outs (place_in p.setup (vertex_of (network_of p.setup) i)) [] ++ i ∷ []);
         }) (ne_eqb _ _ (λ q. ne (sym e ∙ q)))
         ∙ ap (λ k. record { queue = p.queue; outs = set p.outs k (get_or p.outs k [] ++ i ∷ []) }) e in
-        let s : LocalInvariant (network_in p.setup) (place_in p.setup) (record p { outs = set p.outs to (get_or p.outs to [] ++ i ∷ []) }) = subst
-        (λ (l : Channels V). LocalInvariant (network_in p.setup) (place_in p.setup) (record p { queue = l.queue; outs = l.outs })) there
-        (put_sound A (network_in p.setup) (place_in p.setup) (formed p p.shard D.planned) p i D.sound ar m z) in
-        let f = sound_out_fits A (network_in p.setup) (place_in p.setup) (formed p p.shard D.planned) (record p { outs = set p.outs to (get_or p.outs to [] ++ i ∷ []) }) s to in
+        let s : LocalInvariant (network_of p.setup) (place_in p.setup) (record p { outs = set p.outs to (get_or p.outs to [] ++ i ∷ []) }) = subst
+        (λ (l : Channels V). LocalInvariant (network_of p.setup) (place_in p.setup) (record p { queue = l.queue; outs = l.outs })) there
+        (put_sound A (network_of p.setup) (place_in p.setup) (formed p p.shard D.planned) p i D.sound ar m z) in
+        let f = sound_out_fits A (network_of p.setup) (place_in p.setup) (formed p p.shard D.planned) (record p { outs = set p.outs to (get_or p.outs to [] ++ i ∷ []) }) s to in
         let g = ap length (get_or-set_same p.outs to (get_or p.outs to [] ++ i ∷ []) [] lt) in (
           lt,
           (let q = D.roomy.outs to ne (let b = D.roomy.boxes in omega (arith, lt, b)) in omega (arith, f, g, q)),
@@ -131,42 +131,42 @@ module _ {S V : Type 0} where
 
     -- as the running method leaves it
     pub put_here_leaves : (p old : PartData S V) (r : Rows V) (n : ℕ) (ns : List ℕ) (i : Item V) (to : ℕ) (new : Buffer (Item V)) → p ≡ old
-        → RepInvariant p r n ns → to ≡ place_in old.setup (vertex_of (network_in old.setup) i) →
-        IsArc (network_in old.setup) (item_arc i) → place_in old.setup (maker_of (network_in old.setup) i) ≡ old.shard → IsClear old (item_arc i) → to ≡ p.shard →
+        → RepInvariant p r n ns → to ≡ place_in old.setup (vertex_of (network_of old.setup) i) →
+        IsArc (network_of old.setup) (item_arc i) → place_in old.setup (maker_of (network_of old.setup) i) ≡ old.shard → IsClear old (item_arc i) → to ≡ p.shard →
         new ≡ buffer (p.queue ++ i ∷ []) n →
         (length p.queue < n) × RepInvariant (record p { queue = new.items }) r new.capacity ns × (record p { queue = new.items } ≡ put_item i old)
     put_here_leaves p old r n ns i to new e D t ar m z h w =
-        let R = put_here p r n ns i D (subst (λ (u : PartData S V). IsArc (network_in u.setup) (item_arc i)) (sym e) ar)
-        (subst (λ (u : PartData S V). place_in u.setup (maker_of (network_in u.setup) i) ≡ u.shard) (sym e) m)
+        let R = put_here p r n ns i D (subst (λ (u : PartData S V). IsArc (network_of u.setup) (item_arc i)) (sym e) ar)
+        (subst (λ (u : PartData S V). place_in u.setup (maker_of (network_of u.setup) i) ≡ u.shard) (sym e) m)
         (subst (λ (u : PartData S V). IsClear u (item_arc i)) (sym e) z)
-        (subst (λ (u : PartData S V). place_in u.setup (vertex_of (network_in u.setup) i) ≡ p.shard) (sym e) (sym t ∙ h)) in (
+        (subst (λ (u : PartData S V). place_in u.setup (vertex_of (network_of u.setup) i) ≡ p.shard) (sym e) (sym t ∙ h)) in (
           (let a = length-append p.queue (i ∷ []) in let f = R.0 in omega (arith, a, f)),
           subst (λ (u : Buffer (Item V)). RepInvariant (record p { queue = u.items }) r u.capacity ns) (sym w) R.2,
           (λ k. record p { queue = (w k).items }) ∙ (λ k. record p { queue = (sym R.1 k).queue; outs = (sym R.1 k).outs }) ∙ ap (λ (u : PartData S V). put_item i u) e,
         )
 
     pub there_in : {X : Type 0} (its : X → List (Item V)) (rs : List X) (p old : PartData S V) (r : Rows V) (n : ℕ) (ns : List ℕ) (i : Item V)
-        (to : ℕ) → p ≡ old → RepInvariant p r n ns → p.outs ≡ map its rs → to ≡ place_in old.setup (vertex_of (network_in old.setup) i)
+        (to : ℕ) → p ≡ old → RepInvariant p r n ns → p.outs ≡ map its rs → to ≡ place_in old.setup (vertex_of (network_of old.setup) i)
         → to < length rs
     there_in its rs p old r n ns i to e D o t =
         let w : to < length p.outs = subst (λ k. k < length p.outs)
-        (sym (t ∙ ap (λ (u : PartData S V). place_in u.setup (vertex_of (network_in u.setup) i)) (sym e)))
-        (D.sound.wide (vertex_of (network_in p.setup) i)) in
+        (sym (t ∙ ap (λ (u : PartData S V). place_in u.setup (vertex_of (network_of u.setup) i)) (sym e)))
+        (D.sound.wide (vertex_of (network_of p.setup) i)) in
         let q = ap length o in let l = length-map rs its in omega (arith, w, q, l)
 
     pub put_there_leaves : {X : Type 0} (its : X → List (Item V)) (caps : X → ℕ) (rs : List X) (p old : PartData S V) (r : Rows V) (n : ℕ)
         (i : Item V) (to : ℕ) (x : X) → p ≡ old → RepInvariant p r n (map caps rs) → p.outs ≡ map its rs →
-        to ≡ place_in old.setup (vertex_of (network_in old.setup) i) →
-        IsArc (network_in old.setup) (item_arc i) → place_in old.setup (maker_of (network_in old.setup) i) ≡ old.shard → IsClear old (item_arc i) → to ≢ p.shard →
+        to ≡ place_in old.setup (vertex_of (network_of old.setup) i) →
+        IsArc (network_of old.setup) (item_arc i) → place_in old.setup (maker_of (network_of old.setup) i) ≡ old.shard → IsClear old (item_arc i) → to ≢ p.shard →
         x ≡ get_or rs to x →
         (length (its x) < caps x) × ((new : X) → its new ≡ its x ++ i ∷ [] → caps new ≡ caps x →
         RepInvariant (record p { outs = map its (set rs to new) }) r n (map caps (set rs to new)) × (record p { outs = map its (set rs to new) } ≡ put_item i old))
     put_there_leaves {X} its caps rs p old r n i to x e D o t ar m z h read =
         let lt = there_in its rs p old r n (map caps rs) i to e D o t in
-        let R = put_there p r n (map caps rs) i to D (subst (λ (u : PartData S V). IsArc (network_in u.setup) (item_arc i)) (sym e) ar)
-        (subst (λ (u : PartData S V). place_in u.setup (maker_of (network_in u.setup) i) ≡ u.shard) (sym e) m)
+        let R = put_there p r n (map caps rs) i to D (subst (λ (u : PartData S V). IsArc (network_of u.setup) (item_arc i)) (sym e) ar)
+        (subst (λ (u : PartData S V). place_in u.setup (maker_of (network_of u.setup) i) ≡ u.shard) (sym e) m)
         (subst (λ (u : PartData S V). IsClear u (item_arc i)) (sym e) z)
-        (subst (λ (u : PartData S V). place_in u.setup (vertex_of (network_in u.setup) i) ≡ to) (sym e) (sym t)) h in
+        (subst (λ (u : PartData S V). place_in u.setup (vertex_of (network_of u.setup) i) ≡ to) (sym e) (sym t)) h in
         let a : get_or p.outs to [] ≡ its x = ap (λ ys. get_or ys to []) o ∙ map_read its rs to [] x lt read in
         let c : get_or (map caps rs) to 0 ≡ caps x = map_read caps rs to 0 x lt read in
         let l = ap (λ ys. length (ys ++ i ∷ [])) a in
@@ -205,7 +205,7 @@ module _ {S V : Type 0} where
           let xi : x ≡ i = cc in
           let rest : new.items ≡ xs = ap (λ u. u.items) w ∙ ap (λ ys. drop 1 ys) q in
           let front : p.queue ≡ i ∷ new.items = q ∙ (λ k. xi k ∷ sym rest k) in
-          let at = subst (All (λ j. (place_in p.setup (vertex_of (network_in p.setup) j) ≡ p.shard) × IsArc (network_in p.setup) (item_arc j))) front D.sound.here in
+          let at = subst (All (λ j. (place_in p.setup (vertex_of (network_of p.setup) j) ≡ p.shard) × IsArc (network_of p.setup) (item_arc j))) front D.sound.here in
           record {
             front = ap (λ (u : PartData S V). u.queue) (sym e) ∙ front;
             same = ap (λ (u : PartData S V). record u { queue = new.items }) e;

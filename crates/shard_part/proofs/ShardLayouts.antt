@@ -3,19 +3,19 @@ use Rattle.std.proofs.Common.{◌≡◌, ◌≢◌, ℕ, suc, ◌+◌, ◌-◌, 
 use Rattle.std.specs.List.{range_with_len}
 use Rattle.std.proofs.lemmas.Bool.{cases_eq, cases_lt, cond-true, cond-false, false≢true}
 use Rattle.std.proofs.lemmas.List.{take_all, get_or_default, get_or_read, get_or_past}
-use Rattle.road_graph.specs.Roads.{Roads, HasVertex, HasArc, ListsArcsFrom, ListsArcsInto, arc_of}
+use Rattle.road_graph.specs.GraphData.{GraphData, HasVertex, HasArc, ListsArcsFrom, ListsArcsInto, arc_of}
 use Rattle.scholten_core.specs.Network.{Network, network}
 use Rattle.scholten_core.specs.Sums.{one_if}
 use Rattle.scholten_core.proofs.Networks.{tail-arc, head-arc, tail-entry}
-use Rattle.shard_part.specs.declared.layout.Extent.{Extent}
+use Rattle.shard_part.specs.declared.store.layout.Extent.{Extent}
 use Rattle.shard_part.specs.Plans.{shard_in, HasPlanned}
 use Rattle.shard_part.specs.Tables.{placed}
-use Rattle.shard_part.specs.PartState.{network_in, place_in}
+use Rattle.shard_part.specs.PartState.{network_of, place_in}
 use Rattle.shard_part.specs.Outgoing.{local_vertices, arcs_out, outgoing}
 use Rattle.shard_part.specs.Weights.{total, is}
 use Rattle.shard_part.specs.Capacities.{outbox_bound}
 use Rattle.shard_part.specs.Moves.{IsPlanned}
-use Rattle.shard_part.specs.Opening.{ShardLayoutData, is_first, IsExtent, turned, leading_to, coming_from, CountsOut, CountsInto, CountsAll}
+use Rattle.shard_part.specs.Opening.{ShardLayoutData, is_first, IsExtent, reversed_network, leading_to, coming_from, CountsOut, CountsInto, CountsAll}
 use Rattle.shard_part.proofs.Ascending.{arcs_are}
 use Rattle.shard_part.proofs.Increasing.{follow_first}
 use Rattle.shard_part.proofs.Graphs.{out_is, place_vertex, place_entry}
@@ -34,29 +34,29 @@ pub has_is : (w old : ShardLayoutData) (v x : ℕ) (b : Bool) → w ≡ old → 
     → b ≡ eqb x w.shard → b ≡ eqb (place_in old.setup v) old.shard
 has_is w old v x b e l h q = q ∙ ap (λ k. eqb k w.shard) (h ∙ sym (place_vertex w.setup v l.0)) ∙ ap (λ (u : ShardLayoutData). eqb (place_in u.setup v) u.shard) e
 
-pub count_out_zero : (w old : ShardLayoutData) (v : ℕ) → w ≡ old → IsPlanned w.setup w.shard → v ≡ 0 → 1 ≡ length (outgoing (network_in old.setup) v)
-count_out_zero w old v e D z = sym (ap length (entry_alone w.setup.question.roads w.setup.question.source D.roads)) ∙ (λ i. length (outgoing (network_in (e i).setup) (sym z i)))
+pub count_out_zero : (w old : ShardLayoutData) (v : ℕ) → w ≡ old → IsPlanned w.setup w.shard → v ≡ 0 → 1 ≡ length (outgoing (network_of old.setup) v)
+count_out_zero w old v e D z = sym (ap length (entry_alone w.setup.question.roads w.setup.question.source D.roads)) ∙ (λ i. length (outgoing (network_of (e i).setup) (sym z i)))
 
-pub listed_from : (w old : ShardLayoutData) (v : ℕ) (xs : List ℕ) → w ≡ old → 1 ≤ v → ListsArcsFrom w.setup.question.roads v xs → xs ≡ outgoing (network_in old.setup) v
-listed_from w old v xs e l o = out_is w.setup.question.roads w.setup.question.source v xs l o ∙ ap (λ (u : ShardLayoutData). outgoing (network_in u.setup) v) e
+pub listed_from : (w old : ShardLayoutData) (v : ℕ) (xs : List ℕ) → w ≡ old → 1 ≤ v → ListsArcsFrom w.setup.question.roads v xs → xs ≡ outgoing (network_of old.setup) v
+listed_from w old v xs e l o = out_is w.setup.question.roads w.setup.question.source v xs l o ∙ ap (λ (u : ShardLayoutData). outgoing (network_of u.setup) v) e
 
 -- an arc of such a list is one of the graph's
-pub arc_from : (g : Roads) (v j : ℕ) (xs : List ℕ) → ListsArcsFrom g v xs → j < length xs → HasArc g (get_or xs j 0) × ((arc_of g (get_or xs j 0)).tail ≡ v)
+pub arc_from : (g : GraphData) (v j : ℕ) (xs : List ℕ) → ListsArcsFrom g v xs → j < length xs → HasArc g (get_or xs j 0) × ((arc_of g (get_or xs j 0)).tail ≡ v)
 arc_from g v j xs o h = (o.complete (get_or xs j 0)).0 (j, h, get_or_default xs j (get_or xs j 0) 0 h)
 
-pub arc_into : (g : Roads) (v j : ℕ) (xs : List ℕ) → ListsArcsInto g v xs → j < length xs → HasArc g (get_or xs j 0) × ((arc_of g (get_or xs j 0)).head ≡ v)
+pub arc_into : (g : GraphData) (v j : ℕ) (xs : List ℕ) → ListsArcsInto g v xs → j < length xs → HasArc g (get_or xs j 0) × ((arc_of g (get_or xs j 0)).head ≡ v)
 arc_into g v j xs o h = (o.complete (get_or xs j 0)).0 (j, h, get_or_default xs j (get_or xs j 0) 0 h)
 
-turned_tail : (N : Network) (b : ℕ) → b ≢ 0 → (turned N).tail b ≡ N.head b
+turned_tail : (N : Network) (b : ℕ) → b ≢ 0 → (reversed_network N).tail b ≡ N.head b
 turned_tail N b nz = cond-false (eqb b 0) 0 (N.head b) (ne_eqb b 0 nz)
 
-pub listed_into : (w old : ShardLayoutData) (v : ℕ) (xs : List ℕ) → w ≡ old → 1 ≤ v → ListsArcsInto w.setup.question.roads v xs → xs ≡ outgoing (turned (network_in old.setup)) v
+pub listed_into : (w old : ShardLayoutData) (v : ℕ) (xs : List ℕ) → w ≡ old → 1 ≤ v → ListsArcsInto w.setup.question.roads v xs → xs ≡ outgoing (reversed_network (network_of old.setup)) v
 listed_into w old v xs e l o =
     let N : Network = network w.setup.question.roads w.setup.question.source in
-    arcs_are (turned (network w.setup.question.roads w.setup.question.source)) v 0 (suc (length w.setup.question.roads.arcs)) 0 xs o.ascending only all
-    ∙ ap (λ (u : ShardLayoutData). outgoing (turned (network_in u.setup)) v) e
+    arcs_are (reversed_network (network w.setup.question.roads w.setup.question.source)) v 0 (suc (length w.setup.question.roads.arcs)) 0 xs o.ascending only all
+    ∙ ap (λ (u : ShardLayoutData). outgoing (reversed_network (network_of u.setup)) v) e
   where
-    only : (b : ℕ) → Contains xs b → ((turned (network w.setup.question.roads w.setup.question.source)).tail b ≡ v) × (0 ≤ b) × (b < 0 + suc (length w.setup.question.roads.arcs))
+    only : (b : ℕ) → Contains xs b → ((reversed_network (network w.setup.question.roads w.setup.question.source)).tail b ≡ v) × (0 ≤ b) × (b < 0 + suc (length w.setup.question.roads.arcs))
     only b m =
         let r = element_place 0 b xs m in
         let a = subst (λ c. HasArc w.setup.question.roads c × ((arc_of w.setup.question.roads c).head ≡ v)) r.2 (arc_into w.setup.question.roads v r.0 xs o r.1) in (
@@ -65,9 +65,9 @@ listed_into w old v xs e l o =
           (let h = a.0.1 in omega (arith, h)),
         )
 
-    all : (b : ℕ) → (turned (network w.setup.question.roads w.setup.question.source)).tail b ≡ v → 0 ≤ b → b < 0 + suc (length w.setup.question.roads.arcs) → Contains xs b
+    all : (b : ℕ) → (reversed_network (network w.setup.question.roads w.setup.question.source)).tail b ≡ v → 0 ≤ b → b < 0 + suc (length w.setup.question.roads.arcs) → Contains xs b
     all b t k h = elim (cases_eq b 0) [
-      | inl z ↦ absurd (let q : (turned (network w.setup.question.roads w.setup.question.source)).tail b
+      | inl z ↦ absurd (let q : (reversed_network (network w.setup.question.roads w.setup.question.source)).tail b
           ≡ 0 = cond-true {A = ℕ} (eqb b 0) 0 ((network w.setup.question.roads w.setup.question.source).head b) (eq-eqb b 0 z) in
           omega (arith, q, t, l))
       | inr nz ↦ (let low : 1 ≤ b = omega (arith, nz) in let high : b ≤ length w.setup.question.roads.arcs = omega (arith, h) in
@@ -94,7 +94,7 @@ add_one capacities to t l = elim (cases_eq t to) [
 -- the ends of an arc are planned
 pub planned_head : (w : ShardLayoutData) (a : ℕ) → IsPlanned w.setup w.shard → HasArc w.setup.question.roads a
     → HasPlanned w.setup.plan (arc_of w.setup.question.roads a).head
-    × (shard_in w.setup.plan (arc_of w.setup.question.roads a).head ≡ place_in w.setup ((network_in w.setup).head a))
+    × (shard_in w.setup.plan (arc_of w.setup.question.roads a).head ≡ place_in w.setup ((network_of w.setup).head a))
 planned_head w a D h = let j = (D.roads.ends a h).1 in (
   (j.0, (let m = j.1 in let c = D.covers in omega (arith, m, c))),
   sym (ap (place_in w.setup) (head-arc w.setup.question.roads w.setup.question.source a h.0) ∙ place_vertex w.setup (arc_of w.setup.question.roads a).head j.0),
@@ -102,7 +102,7 @@ planned_head w a D h = let j = (D.roads.ends a h).1 in (
 
 pub planned_tail : (w : ShardLayoutData) (a : ℕ) → IsPlanned w.setup w.shard → HasArc w.setup.question.roads a
     → HasPlanned w.setup.plan (arc_of w.setup.question.roads a).tail
-    × (shard_in w.setup.plan (arc_of w.setup.question.roads a).tail ≡ place_in w.setup ((network_in w.setup).tail a))
+    × (shard_in w.setup.plan (arc_of w.setup.question.roads a).tail ≡ place_in w.setup ((network_of w.setup).tail a))
 planned_tail w a D h = let j = (D.roads.ends a h).0 in (
   (j.0, (let m = j.1 in let c = D.covers in omega (arith, m, c))),
   sym (ap (place_in w.setup) (tail-arc w.setup.question.roads a h.0) ∙ place_vertex w.setup (arc_of w.setup.question.roads a).tail j.0),
@@ -110,9 +110,9 @@ planned_tail w a D h = let j = (D.roads.ends a h).0 in (
 
 -- what was counted of some of the vertices is no more than there are arcs
 pub seen_whole : (w : ShardLayoutData) (t : ℕ) → IsPlanned w.setup w.shard →
-    cond (is_first w.setup w.shard) (is t w.shard) 0 + total (seen_at (network_in w.setup) (place_in w.setup) w.shard t)
-    (placed (place_in w.setup) w.shard 1 w.setup.question.roads.vertices) ≡ outbox_bound (network_in w.setup) (place_in w.setup) w.shard t
-seen_whole w t D = seen_all (network_in w.setup) (place_in w.setup) w.shard t w.setup.question.roads.vertices (tail-entry w.setup.question.roads) (place_source w.setup w.shard D)
+    cond (is_first w.setup w.shard) (is t w.shard) 0 + total (seen_at (network_of w.setup) (place_in w.setup) w.shard t)
+    (placed (place_in w.setup) w.shard 1 w.setup.question.roads.vertices) ≡ outbox_bound (network_of w.setup) (place_in w.setup) w.shard t
+seen_whole w t D = seen_all (network_of w.setup) (place_in w.setup) w.shard t w.setup.question.roads.vertices (tail-entry w.setup.question.roads) (place_source w.setup w.shard D)
     (λ b nz l. let low : 1 ≤ b = omega (arith, nz) in let h : HasArc w.setup.question.roads b = (
       low,
       (let m : b ≤ length w.setup.question.roads.arcs = omega (arith, l) in m),
@@ -121,11 +121,11 @@ seen_whole w t D = seen_all (network_in w.setup) (place_in w.setup) w.shard t w.
     ((let a = j.0.0 in omega (arith, a, p)), (let a = j.0.1 in omega (arith, a, p)), (let a = j.1.0 in omega (arith, a, q)), (let a = j.1.1 in omega (arith, a, q))))
 
 pub seen_most : (w : ShardLayoutData) (t i : ℕ) → IsPlanned w.setup w.shard →
-    cond (is_first w.setup w.shard) (is t w.shard) 0 + total (seen_at (network_in w.setup) (place_in w.setup) w.shard t)
+    cond (is_first w.setup w.shard) (is t w.shard) 0 + total (seen_at (network_of w.setup) (place_in w.setup) w.shard t)
     (take i (placed (place_in w.setup) w.shard 1 w.setup.question.roads.vertices)) ≤ suc (length w.setup.question.roads.arcs)
-seen_most w t i D = let a = seen_whole w t D in let b = total_most (seen_at (network_in w.setup) (place_in w.setup) w.shard t)
+seen_most w t i D = let a = seen_whole w t D in let b = total_most (seen_at (network_of w.setup) (place_in w.setup) w.shard t)
     (placed (place_in w.setup) w.shard 1 w.setup.question.roads.vertices) i in
-    let c = outbox_bound_most (network_in w.setup) (place_in w.setup) w.shard t in omega (arith, a, b, c)
+    let c = outbox_bound_most (network_of w.setup) (place_in w.setup) w.shard t in omega (arith, a, b, c)
 
 -- each arc counts once at most
 pub leading_few : (N : Network) (place : ℕ → ℕ) (t : ℕ) (xs : List ℕ) → leading_to N place t xs ≤ length xs
@@ -148,93 +148,93 @@ from_at w old v xs e o = subst (λ (u : ShardLayoutData). ListsArcsFrom u.setup.
 pub into_at : (w old : ShardLayoutData) (v : ℕ) (xs : List ℕ) → w ≡ old → ListsArcsInto w.setup.question.roads v xs → ListsArcsInto old.setup.question.roads v xs
 into_at w old v xs e o = subst (λ (u : ShardLayoutData). ListsArcsInto u.setup.question.roads v xs) e o
 
-pub item_from : (g : Roads) (v a i : ℕ) (xs : List ℕ) → ListsArcsFrom g v xs → i < length xs → a ≡ get_or xs i a → HasArc g a
+pub item_from : (g : GraphData) (v a i : ℕ) (xs : List ℕ) → ListsArcsFrom g v xs → i < length xs → a ≡ get_or xs i a → HasArc g a
 item_from g v a i xs o l h = subst (HasArc g) (sym (get_or_read xs i a l h 0)) (arc_from g v i xs o l).0
 
-pub item_into : (g : Roads) (v a i : ℕ) (xs : List ℕ) → ListsArcsInto g v xs → i < length xs → a ≡ get_or xs i a → HasArc g a
+pub item_into : (g : GraphData) (v a i : ℕ) (xs : List ℕ) → ListsArcsInto g v xs → i < length xs → a ≡ get_or xs i a → HasArc g a
 item_into g v a i xs o l h = subst (HasArc g) (sym (get_or_read xs i a l h 0)) (arc_into g v i xs o l).0
 
 -- a count of a vertex's arcs is small
 pub leading_most : (w : ShardLayoutData) (v t i : ℕ) (xs : List ℕ) → 1 ≤ v → ListsArcsFrom w.setup.question.roads v xs
-    → leading_to (network_in w.setup) (place_in w.setup) t (take i xs) ≤ suc (length w.setup.question.roads.arcs)
+    → leading_to (network_of w.setup) (place_in w.setup) t (take i xs) ≤ suc (length w.setup.question.roads.arcs)
 leading_most w v t i xs l o =
-    let a = total_most (λ b. is t (place_in w.setup ((network_in w.setup).head b))) xs i in
-    let b = leading_few (network_in w.setup) (place_in w.setup) t xs in
-    let c = ap length (listed_from w w v xs refl l o) in let d = out_most (network_in w.setup) v in omega (arith, a, b, c, d)
+    let a = total_most (λ b. is t (place_in w.setup ((network_of w.setup).head b))) xs i in
+    let b = leading_few (network_of w.setup) (place_in w.setup) t xs in
+    let c = ap length (listed_from w w v xs refl l o) in let d = out_most (network_of w.setup) v in omega (arith, a, b, c, d)
 
 pub coming_most : (w : ShardLayoutData) (v t i : ℕ) (xs : List ℕ) → 1 ≤ v → ListsArcsInto w.setup.question.roads v xs
-    → coming_from (network_in w.setup) (place_in w.setup) w.shard t (take i xs) ≤ suc (length w.setup.question.roads.arcs)
+    → coming_from (network_of w.setup) (place_in w.setup) w.shard t (take i xs) ≤ suc (length w.setup.question.roads.arcs)
 coming_most w v t i xs l o =
-    let a = total_most (λ b. cond (eqb (place_in w.setup ((network_in w.setup).tail b)) w.shard) 0 (is t (place_in w.setup ((network_in w.setup).tail b)))) xs i in
-    let b = coming_few (network_in w.setup) (place_in w.setup) w.shard t xs in
-    let c = ap length (listed_into w w v xs refl l o) in let d = out_most (turned (network_in w.setup)) v in omega (arith, a, b, c, d)
+    let a = total_most (λ b. cond (eqb (place_in w.setup ((network_of w.setup).tail b)) w.shard) 0 (is t (place_in w.setup ((network_of w.setup).tail b)))) xs i in
+    let b = coming_few (network_of w.setup) (place_in w.setup) w.shard t xs in
+    let c = ap length (listed_into w w v xs refl l o) in let d = out_most (reversed_network (network_of w.setup)) v in omega (arith, a, b, c, d)
 
 -- one arc more
 pub leading_more : (w : ShardLayoutData) (v a to i : ℕ) (xs capacities first : List ℕ) → IsPlanned w.setup w.shard
     → ListsArcsFrom w.setup.question.roads v xs → i < length xs → a ≡ get_or xs i a
     → to ≡ shard_in w.setup.plan (arc_of w.setup.question.roads a).head → to < length capacities →
-    ((t : ℕ) → t < w.setup.plan.shards → get_or capacities t 0 ≡ get_or first t 0 + leading_to (network_in w.setup) (place_in w.setup) t (take i xs)) →
-    (t : ℕ) → t < w.setup.plan.shards → get_or (set capacities to (get_or capacities to 0 + 1)) t 0 ≡ get_or first t 0 + leading_to (network_in w.setup) (place_in w.setup) t (take (i + 1) xs)
+    ((t : ℕ) → t < w.setup.plan.shards → get_or capacities t 0 ≡ get_or first t 0 + leading_to (network_of w.setup) (place_in w.setup) t (take i xs)) →
+    (t : ℕ) → t < w.setup.plan.shards → get_or (set capacities to (get_or capacities to 0 + 1)) t 0 ≡ get_or first t 0 + leading_to (network_of w.setup) (place_in w.setup) t (take (i + 1) xs)
 leading_more w v a to i xs capacities first D o l h q m inv t k =
     let p = planned_head w a D (item_from w.setup.question.roads v a i xs o l h) in
     let x = add_one capacities to t m in
     let y = inv t k in
-    let z = total_take (λ b. is t (place_in w.setup ((network_in w.setup).head b))) xs i 0 l in
-    let u : is t to ≡ is t (place_in w.setup ((network_in w.setup).head (get_or xs i 0))) = ap (is t) (q ∙ p.1 ∙ ap (λ b. place_in w.setup ((network_in w.setup).head b)) (get_or_read xs i a l h 0)) in
+    let z = total_take (λ b. is t (place_in w.setup ((network_of w.setup).head b))) xs i 0 l in
+    let u : is t to ≡ is t (place_in w.setup ((network_of w.setup).head (get_or xs i 0))) = ap (is t) (q ∙ p.1 ∙ ap (λ b. place_in w.setup ((network_of w.setup).head b)) (get_or_read xs i a l h 0)) in
     omega (arith, x, y, z, u)
 
 coming_more : (w : ShardLayoutData) (v a i t : ℕ) (xs : List ℕ) (x : ℕ) → i < length xs → a ≡ get_or xs i a
-    → x ≡ cond (eqb (place_in w.setup ((network_in w.setup).tail a)) w.shard) 0 (is t (place_in w.setup ((network_in w.setup).tail a))) →
-    coming_from (network_in w.setup) (place_in w.setup) w.shard t (take (i + 1) xs) ≡ coming_from (network_in w.setup) (place_in w.setup) w.shard t (take i xs) + x
+    → x ≡ cond (eqb (place_in w.setup ((network_of w.setup).tail a)) w.shard) 0 (is t (place_in w.setup ((network_of w.setup).tail a))) →
+    coming_from (network_of w.setup) (place_in w.setup) w.shard t (take (i + 1) xs) ≡ coming_from (network_of w.setup) (place_in w.setup) w.shard t (take i xs) + x
 coming_more w v a i t xs x l h q =
-    let f : ℕ → ℕ = λ b. cond (eqb (place_in w.setup ((network_in w.setup).tail b)) w.shard) 0 (is t (place_in w.setup ((network_in w.setup).tail b))) in
+    let f : ℕ → ℕ = λ b. cond (eqb (place_in w.setup ((network_of w.setup).tail b)) w.shard) 0 (is t (place_in w.setup ((network_of w.setup).tail b))) in
     let z = total_take f xs i 0 l in let u : x ≡ f (get_or xs i 0) = q ∙ ap f (get_or_read xs i a l h 0) in omega (arith, z, u)
 
 pub coming_other : (w : ShardLayoutData) (v a from i : ℕ) (xs capacities first : List ℕ) → IsPlanned w.setup w.shard
     → ListsArcsInto w.setup.question.roads v xs → i < length xs → a ≡ get_or xs i a
     → from ≡ shard_in w.setup.plan (arc_of w.setup.question.roads a).tail → from ≢ w.shard → from < length capacities →
-    ((t : ℕ) → t < w.setup.plan.shards → get_or capacities t 0 ≡ get_or first t 0 + coming_from (network_in w.setup) (place_in w.setup) w.shard t (take i xs)) →
+    ((t : ℕ) → t < w.setup.plan.shards → get_or capacities t 0 ≡ get_or first t 0 + coming_from (network_of w.setup) (place_in w.setup) w.shard t (take i xs)) →
     (t : ℕ) → t < w.setup.plan.shards → get_or (set capacities from (get_or capacities from 0 + 1)) t 0
-    ≡ get_or first t 0 + coming_from (network_in w.setup) (place_in w.setup) w.shard t (take (i + 1) xs)
+    ≡ get_or first t 0 + coming_from (network_of w.setup) (place_in w.setup) w.shard t (take (i + 1) xs)
 coming_other w v a from i xs capacities first D o l h q ne m inv t k =
-    let p : from ≡ place_in w.setup ((network_in w.setup).tail a) = q ∙ (planned_tail w a D (item_into w.setup.question.roads v a i xs o l h)).1 in
+    let p : from ≡ place_in w.setup ((network_of w.setup).tail a) = q ∙ (planned_tail w a D (item_into w.setup.question.roads v a i xs o l h)).1 in
     let x = add_one capacities from t m in
     let y = inv t k in
     let z = coming_more w v a i t xs (is t from) l h (ap (is t) p
-    ∙ sym (cond-false (eqb (place_in w.setup ((network_in w.setup).tail a)) w.shard) 0 (is t (place_in w.setup ((network_in w.setup).tail a)))
+    ∙ sym (cond-false (eqb (place_in w.setup ((network_of w.setup).tail a)) w.shard) 0 (is t (place_in w.setup ((network_of w.setup).tail a)))
     (ne_eqb _ _ (λ e. ne (p ∙ e))))) in
     omega (arith, x, y, z)
 
 pub coming_own : (w : ShardLayoutData) (v a from i : ℕ) (xs capacities first : List ℕ) → IsPlanned w.setup w.shard
     → ListsArcsInto w.setup.question.roads v xs → i < length xs → a ≡ get_or xs i a
     → from ≡ shard_in w.setup.plan (arc_of w.setup.question.roads a).tail → from ≡ w.shard →
-    ((t : ℕ) → t < w.setup.plan.shards → get_or capacities t 0 ≡ get_or first t 0 + coming_from (network_in w.setup) (place_in w.setup) w.shard t (take i xs)) →
-    (t : ℕ) → t < w.setup.plan.shards → get_or capacities t 0 ≡ get_or first t 0 + coming_from (network_in w.setup) (place_in w.setup) w.shard t (take (i + 1) xs)
+    ((t : ℕ) → t < w.setup.plan.shards → get_or capacities t 0 ≡ get_or first t 0 + coming_from (network_of w.setup) (place_in w.setup) w.shard t (take i xs)) →
+    (t : ℕ) → t < w.setup.plan.shards → get_or capacities t 0 ≡ get_or first t 0 + coming_from (network_of w.setup) (place_in w.setup) w.shard t (take (i + 1) xs)
 coming_own w v a from i xs capacities first D o l h q same inv t k =
-    let p : from ≡ place_in w.setup ((network_in w.setup).tail a) = q ∙ (planned_tail w a D (item_into w.setup.question.roads v a i xs o l h)).1 in
+    let p : from ≡ place_in w.setup ((network_of w.setup).tail a) = q ∙ (planned_tail w a D (item_into w.setup.question.roads v a i xs o l h)).1 in
     let y = inv t k in
-    let z = coming_more w v a i t xs 0 l h (sym (cond-true {A = ℕ} (eqb (place_in w.setup ((network_in w.setup).tail a)) w.shard) 0
-    (is t (place_in w.setup ((network_in w.setup).tail a))) (eq-eqb _ _ (sym p ∙ same)))) in
+    let z = coming_more w v a i t xs 0 l h (sym (cond-true {A = ℕ} (eqb (place_in w.setup ((network_of w.setup).tail a)) w.shard) 0
+    (is t (place_in w.setup ((network_of w.setup).tail a))) (eq-eqb _ _ (sym p ∙ same)))) in
     omega (arith, y, z)
 
 -- all arcs of a vertex
 pub leading_done : (w old : ShardLayoutData) (v i : ℕ) (xs capacities first : List ℕ) → w ≡ old → 1 ≤ v → ListsArcsFrom w.setup.question.roads v xs → length xs ≤ i → length capacities ≡ length first →
-    ((t : ℕ) → t < old.setup.plan.shards → get_or capacities t 0 ≡ get_or first t 0 + leading_to (network_in old.setup) (place_in old.setup) t (take i xs)) → CountsOut old v first capacities
+    ((t : ℕ) → t < old.setup.plan.shards → get_or capacities t 0 ≡ get_or first t 0 + leading_to (network_of old.setup) (place_in old.setup) t (take i xs)) → CountsOut old v first capacities
 leading_done w old v i xs capacities first e l o d long inv = (
   long,
   λ t k. let a = inv t k in
-      let b = total_whole (λ b. is t (place_in old.setup ((network_in old.setup).head b))) xs i d in
-      let c = ap (leading_to (network_in old.setup) (place_in old.setup) t) (listed_from w old v xs e l o) in omega (arith, a, b, c),
+      let b = total_whole (λ b. is t (place_in old.setup ((network_of old.setup).head b))) xs i d in
+      let c = ap (leading_to (network_of old.setup) (place_in old.setup) t) (listed_from w old v xs e l o) in omega (arith, a, b, c),
 )
 
 pub coming_done : (w old : ShardLayoutData) (v i : ℕ) (xs capacities first : List ℕ) → w ≡ old → 1 ≤ v → ListsArcsInto w.setup.question.roads v xs → length xs ≤ i → length capacities ≡ length first →
     ((t : ℕ) → t < old.setup.plan.shards → get_or capacities t 0
-    ≡ get_or first t 0 + coming_from (network_in old.setup) (place_in old.setup) old.shard t (take i xs)) → CountsInto old v first capacities
+    ≡ get_or first t 0 + coming_from (network_of old.setup) (place_in old.setup) old.shard t (take i xs)) → CountsInto old v first capacities
 coming_done w old v i xs capacities first e l o d long inv = (
   long,
   λ t k. let a = inv t k in
-      let b = total_whole (λ b. cond (eqb (place_in old.setup ((network_in old.setup).tail b)) old.shard) 0 (is t (place_in old.setup ((network_in old.setup).tail b)))) xs i d in
-      let c = ap (coming_from (network_in old.setup) (place_in old.setup) old.shard t) (listed_into w old v xs e l o) in omega (arith, a, b, c),
+      let b = total_whole (λ b. cond (eqb (place_in old.setup ((network_of old.setup).tail b)) old.shard) 0 (is t (place_in old.setup ((network_of old.setup).tail b)))) xs i d in
+      let c = ap (coming_from (network_of old.setup) (place_in old.setup) old.shard t) (listed_into w old v xs e l o) in omega (arith, a, b, c),
 )
 
 -- between which numbers those of a shard lie
@@ -264,7 +264,7 @@ own_run w e E run =
 -- vertices that were gone through, and what was counted of them
 abbrev pub CountedSo : ShardLayoutData → ℕ → List ℕ → Type 0
 CountedSo w i capacities = (t : ℕ) → t < w.setup.plan.shards
-    → get_or capacities t 0 ≡ cond (is_first w.setup w.shard) (is t w.shard) 0 + total (seen_at (network_in w.setup) (place_in w.setup) w.shard t)
+    → get_or capacities t 0 ≡ cond (is_first w.setup w.shard) (is t w.shard) 0 + total (seen_at (network_of w.setup) (place_in w.setup) w.shard t)
     (take i (placed (place_in w.setup) w.shard 1 w.setup.question.roads.vertices))
 
 pub counted_small : (w : ShardLayoutData) (i : ℕ) (capacities : List ℕ) → IsPlanned w.setup w.shard → length capacities ≡ w.setup.plan.shards
@@ -278,7 +278,7 @@ pub counted_middle : (w : ShardLayoutData) (v i : ℕ) (capacities middle : List
     → length capacities ≡ w.setup.plan.shards → CountedSo w i capacities → CountsOut w v capacities middle → (t : ℕ) → get_or middle t 0 ≤ 2 ^ 33
 counted_middle w v i capacities middle D long inv out t = elim (cases_lt t w.setup.plan.shards) [
   | inl l ↦ (let a = counted_small w i capacities D long inv t in let b = out.1 t l in
-      let c = leading_few (network_in w.setup) (place_in w.setup) t (outgoing (network_in w.setup) v) in let d = out_most (network_in w.setup) v in
+      let c = leading_few (network_of w.setup) (place_in w.setup) t (outgoing (network_of w.setup) v) in let d = out_most (network_of w.setup) v in
       let f = D.roads.few_arcs in omega (arith, a, b, c, d, f))
   | inr l ↦ (let k = out.0 in let a = get_or_past middle t 0 (omega (arith, l, long, k)) in omega (arith, a))
 ]
@@ -288,7 +288,7 @@ pub counted_all : (w : ShardLayoutData) (i : ℕ) (capacities : List ℕ) → Is
     → CountedSo w i capacities → CountsAll w capacities
 counted_all w i capacities D l long inv = (
   long,
-  λ t k. let a = inv t k in let b = total_whole (seen_at (network_in w.setup) (place_in w.setup) w.shard t) (placed (place_in w.setup) w.shard 1 w.setup.question.roads.vertices) i l in
+  λ t k. let a = inv t k in let b = total_whole (seen_at (network_of w.setup) (place_in w.setup) w.shard t) (placed (place_in w.setup) w.shard 1 w.setup.question.roads.vertices) i l in
       let d = seen_whole w t D in omega (arith, a, b, d),
 )
 
@@ -310,22 +310,22 @@ module _ (w : ShardLayoutData) (own : List ℕ) (same : own ≡ local_vertices w
   pub counted_more : (capacities middle new : List ℕ) → CountedSo w (j - 1) capacities → CountsOut w v capacities middle → CountsInto w v middle new → CountedSo w (j + 1 - 1) new
   counted_more capacities middle new inv out into t k =
       let a = inv t k in let b = out.1 t k in let c = into.1 t k in
-      let d = total_take (seen_at (network_in w.setup) (place_in w.setup) w.shard t) (placed (place_in w.setup) w.shard 1 w.setup.question.roads.vertices) (j - 1) 0 vertex_read.0 in
-      let e = ap (seen_at (network_in w.setup) (place_in w.setup) w.shard t) vertex_read.1 in
-      let g = ap (λ n. total (seen_at (network_in w.setup) (place_in w.setup) w.shard t)
+      let d = total_take (seen_at (network_of w.setup) (place_in w.setup) w.shard t) (placed (place_in w.setup) w.shard 1 w.setup.question.roads.vertices) (j - 1) 0 vertex_read.0 in
+      let e = ap (seen_at (network_of w.setup) (place_in w.setup) w.shard t) vertex_read.1 in
+      let g = ap (λ n. total (seen_at (network_of w.setup) (place_in w.setup) w.shard t)
       (take n (placed (place_in w.setup) w.shard 1 w.setup.question.roads.vertices))) (let z : j + 1 - 1 ≡ j - 1 + 1 = omega (arith, behind) in
       z) in
       omega (arith, a, b, c, d, e, g)
 
 -- where the arcs begin
 pub some_arc : (w : ShardLayoutData) (own : List ℕ) (n i : ℕ) → IsPlanned w.setup w.shard → own ≡ local_vertices w.setup w.shard → length own ≤ i
-    → n ≡ length (arcs_out (network_in w.setup) (take i own)) → 1 ≤ n
+    → n ≡ length (arcs_out (network_of w.setup) (take i own)) → 1 ≤ n
 some_arc w own n i D e l c =
-    let f = ap length (arcs_first w.setup w.shard D) in let a = ap (λ xs. length (arcs_out (network_in w.setup) xs)) (take_all i own l ∙ e) in omega (arith, f, a, c)
+    let f = ap length (arcs_first w.setup w.shard D) in let a = ap (λ xs. length (arcs_out (network_of w.setup) xs)) (take_all i own l ∙ e) in omega (arith, f, a, c)
 
-pub starts_few : (w : ShardLayoutData) (own : List ℕ) (i : ℕ) → IsPlanned w.setup w.shard → own ≡ local_vertices w.setup w.shard → length (arcs_out (network_in w.setup) (take i own)) ≤ 2 ^ 27 + 1
-starts_few w own i D e = let a = ap (λ xs. length (arcs_out (network_in w.setup) (take i xs))) e in
-    let b = own_arcs_most (network_in w.setup) (place_in w.setup) w.shard w.setup.question.roads.vertices i in let f = D.roads.few_arcs in
+pub starts_few : (w : ShardLayoutData) (own : List ℕ) (i : ℕ) → IsPlanned w.setup w.shard → own ≡ local_vertices w.setup w.shard → length (arcs_out (network_of w.setup) (take i own)) ≤ 2 ^ 27 + 1
+starts_few w own i D e = let a = ap (λ xs. length (arcs_out (network_of w.setup) (take i xs))) e in
+    let b = own_arcs_most (network_of w.setup) (place_in w.setup) w.shard w.setup.question.roads.vertices i in let f = D.roads.few_arcs in
     omega (arith, a, b, f)
 
 pub own_within : (w : ShardLayoutData) (v i : ℕ) (own : List ℕ) → own ≡ local_vertices w.setup w.shard → i < length own → v ≡ get_or own i 0 → v ≤ w.setup.question.roads.vertices

@@ -5,31 +5,31 @@ use Rattle.path_algebra.specs.Algebra.{Algebra}
 use Rattle.scholten_core.specs.declared.item.Item.{Item}
 use Rattle.scholten_core.specs.Sums.{sum_below, one_if}
 use Rattle.shard_part.specs.Tables.{placed}
-use Rattle.shard_part.specs.PartState.{Setup, network_in, place_in}
+use Rattle.shard_part.specs.PartState.{Setup, network_of, place_in}
 use Rattle.shard_part.specs.Outgoing.{local_vertices}
 use Rattle.shard_part.specs.Weights.{total}
 use Rattle.shard_part.specs.Capacities.{outbox_bound, queue_bound}
 use Rattle.shard_part.specs.Moves.{Rows, abstraction, IsPlanned, RepInvariant}
-use Rattle.shard_part.specs.Opening.{ShardLayoutData, is_first, first_items, opened_part, idle_rows, AreIdle, AreStarts, CountsAll}
+use Rattle.shard_part.specs.Opening.{ShardLayoutData, is_first, first_items, opened_part, idle_rows, AreIdle, AreOffsets, CountsAll}
 use Rattle.shard_part.proofs.Counting.{total_index}
 use Rattle.shard_part.proofs.CapacitiesByVertex.{capacities_sum, queue_bound_most, queue_bound_first}
 use Rattle.shard_part.proofs.Opened.{place_below, place_source, opened_seen, opened_stored}
 
 module _ (w : ShardLayoutData) (P : IsPlanned w.setup w.shard) where
-  pub sum_is : (capacities : List ℕ) → CountsAll w capacities → total (λ n. n) capacities ≡ queue_bound (network_in w.setup) (place_in w.setup) w.shard
+  pub sum_is : (capacities : List ℕ) → CountsAll w capacities → total (λ n. n) capacities ≡ queue_bound (network_of w.setup) (place_in w.setup) w.shard
   sum_is capacities C =
-      total_index capacities (outbox_bound (network_in w.setup) (place_in w.setup) w.shard) (λ t l. C.1 t (let q = C.0 in omega (arith, q, l)))
-      ∙ ap (sum_below (outbox_bound (network_in w.setup) (place_in w.setup) w.shard)) C.0
-      ∙ capacities_sum (network_in w.setup) (place_in w.setup) w.shard w.setup.plan.shards (place_below w.setup w.shard P)
+      total_index capacities (outbox_bound (network_of w.setup) (place_in w.setup) w.shard) (λ t l. C.1 t (let q = C.0 in omega (arith, q, l)))
+      ∙ ap (sum_below (outbox_bound (network_of w.setup) (place_in w.setup) w.shard)) C.0
+      ∙ capacities_sum (network_of w.setup) (place_in w.setup) w.shard w.setup.plan.shards (place_below w.setup w.shard P)
 
   pub sum_small : (capacities xs : List ℕ) → CountsAll w capacities → xs ≡ capacities → total (λ n. n) xs ≤ 2 ^ 32
   sum_small capacities xs C e = let a = sum_is capacities C in let b = ap (total (λ n. n)) e in
-      let m = queue_bound_most (network_in w.setup) (place_in w.setup) w.shard in let f = P.roads.few_arcs in omega (arith, a, b, m, f)
+      let m = queue_bound_most (network_of w.setup) (place_in w.setup) w.shard in let f = P.roads.few_arcs in omega (arith, a, b, m, f)
 
   pub sum_first : (capacities xs : List ℕ) (sum : ℕ) (first : Bool) → CountsAll w capacities → xs ≡ capacities → sum ≡ total (λ n. n) xs → first ≡ is_first w.setup w.shard → first ≡ true → 1 ≤ sum
   sum_first capacities xs sum first C e s f t =
       let a = sum_is capacities C in let b = ap (total (λ n. n)) e in
-      let m = queue_bound_first (network_in w.setup) (place_in w.setup) w.shard (place_source w.setup w.shard P ∙ eqb-true (place_in w.setup 0) w.shard (sym f ∙ t)) in omega (arith, a, b, s, m)
+      let m = queue_bound_first (network_of w.setup) (place_in w.setup) w.shard (place_source w.setup w.shard P ∙ eqb-true (place_in w.setup 0) w.shard (sym f ∙ t)) in omega (arith, a, b, s, m)
 
 module _ {S : Type 0} (t : Setup S) (s : ℕ) where
   -- the shard of a question, without its algebra
@@ -55,8 +55,8 @@ module _ {S V : Type 0} (A : Algebra V) (t : Setup S) (s : ℕ) (P : IsPlanned (
   own_too : local_vertices (layout_of t s).setup s ≡ local_vertices t s
   own_too = ap (λ f. 0 ∷ placed f s 1 t.question.roads.vertices) (same_place t s)
 
-  starts_too : AreStarts (network_in t) (local_vertices t s) R.offsets R.arcs
-  starts_too = subst (λ os. AreStarts (network_in t) os R.offsets R.arcs) own_too R.starts
+  starts_too : AreOffsets (network_of t) (local_vertices t s) R.offsets R.arcs
+  starts_too = subst (λ os. AreOffsets (network_of t) os R.offsets R.arcs) own_too R.starts
 
   rows_too : rows ≡ idle_rows (local_vertices t s) R.offsets R.arcs (is_first t s)
   rows_too = R.rows_are ∙ (λ i. idle_rows (own_too i) R.offsets R.arcs (eqb (same_place t s i 0) s))
@@ -71,6 +71,6 @@ module _ {S V : Type 0} (A : Algebra V) (t : Setup S) (s : ℕ) (P : IsPlanned (
   pub made_stored : RepInvariant (abstraction t s rows queue.items outs sent 0 0 0) rows queue.capacity ns
   made_stored = opened_stored A t s (planned_too t s P) rows R.offsets R.arcs queue.items outs sent queue.capacity ns starts_too rows_too
       (ap (λ q. q.items) Q ∙ ap (first_items A) first_too) (I ∙ ap (λ n. replicate n []) long) (N ∙ ap one_if first_too)
-      (ap (λ q. q.capacity) Q ∙ T ∙ ap (total (λ n. n)) Y ∙ sum_is (layout_of t s) P capacities C ∙ ap (λ f. queue_bound (network_in t) f s) (same_place t s))
+      (ap (λ q. q.capacity) Q ∙ T ∙ ap (total (λ n. n)) Y ∙ sum_is (layout_of t s) P capacities C ∙ ap (λ f. queue_bound (network_of t) f s) (same_place t s))
       (ap length K ∙ long)
-      (λ k ne l. ap (λ vs. get_or vs k 0) (K ∙ Z) ∙ get_or-set_other capacities s k 0 0 ne ∙ C.1 k l ∙ ap (λ f. outbox_bound (network_in t) f s k) (same_place t s))
+      (λ k ne l. ap (λ vs. get_or vs k 0) (K ∙ Z) ∙ get_or-set_other capacities s k 0 0 ne ∙ C.1 k l ∙ ap (λ f. outbox_bound (network_of t) f s k) (same_place t s))

@@ -6,7 +6,7 @@ use Rattle.path_algebra.specs.Algebra.{IsLawful as Lawful}
 use Rattle.scholten_core.specs.Network.{WellFormed}
 use Rattle.scholten_core.specs.Diffusion.{is_idle}
 use Rattle.scholten_core.proofs.Basics.{idle-true}
-use Rattle.shard_part.specs.PartState.{PartData, Setup, network_in, place_in, state_in, mine}
+use Rattle.shard_part.specs.PartState.{PartData, Setup, network_of, place_in, state_in, mine}
 use Rattle.shard_part.specs.Handling.{taken, HandledItem, HandledItemIn}
 use Rattle.shard_part.specs.Moves.{Rows, RepInvariant, IsPlanned, IsPopped, with_taken}
 use Rattle.shard_part.specs.Part.{OwnIdleIsTold}
@@ -18,10 +18,10 @@ use Rattle.shard_part.proofs.VertexSettles.{of_one_shard}
 use Rattle.shard_part.proofs.Opened.{reads_same}
 
 module _ {S V : Type 0} (A : Algebra V) where
-  pub told_kept : Lawful A → (p : PartData S V) (i : Item V) (q : PartData S V) → WellFormed (network_in p.setup) → OwnIdleIsTold p
-      → HandledItemIn A (network_in p.setup) (place_in p.setup) p i q → OwnIdleIsTold q
+  pub told_kept : Lawful A → (p : PartData S V) (i : Item V) (q : PartData S V) → WellFormed (network_of p.setup) → OwnIdleIsTold p
+      → HandledItemIn A (network_of p.setup) (place_in p.setup) p i q → OwnIdleIsTold q
   told_kept L p i q W T R =
-      let N = network_in p.setup in
+      let N = network_of p.setup in
       let H = taken_told A N L W (mine (place_in p.setup) p.shard) i (state_in p) (has_told A p T) in
       let here : OwnIdleIsTold (record q { setup = p.setup; shard = p.shard }) = (λ b h n idle.
       let m : mine (place_in p.setup) p.shard (N.tail b) ≡ true = eq-eqb _ _ h in
@@ -30,7 +30,7 @@ module _ {S V : Type 0} (A : Algebra V) where
 
 -- where nothing has been told yet and no vertex has a label
 pub untold : {S V : Type 0} (p : PartData S V) → ((v : ℕ) → (state_in p).label v ≡ None) → ((b : ℕ) → (state_in p).told b ≡ None) → OwnIdleIsTold p
-untold p labels told b h n i = told b ∙ sym (labels ((network_in p.setup).tail b))
+untold p labels told b h n i = told b ∙ sym (labels ((network_of p.setup).tail b))
 
 -- so of every part that was opened
 pub opened_told : {S V : Type 0} (A : Algebra V) (p : PartData S V) (t : Setup S) (s : ℕ) → p ≡ opened_part A t s → OwnIdleIsTold p
@@ -38,8 +38,8 @@ opened_told A p t s e = subst OwnIdleIsTold (sym e) (untold (opened_part A t s) 
 
 -- of a part whose front item was taken off the queue and handled
 module _ {S V : Type 0} (meaning : S → Algebra V) where
-  pub stored_formed : (p old : PartData S V) (r : Rows V) (n : ℕ) (ns : List ℕ) → p ≡ old → RepInvariant p r n ns → WellFormed (network_in old.setup)
-  stored_formed p old r n ns e D = subst (λ (u : PartData S V). WellFormed (network_in u.setup)) e (formed p p.shard D.planned)
+  pub stored_formed : (p old : PartData S V) (r : Rows V) (n : ℕ) (ns : List ℕ) → p ≡ old → RepInvariant p r n ns → WellFormed (network_of old.setup)
+  stored_formed p old r n ns e D = subst (λ (u : PartData S V). WellFormed (network_of u.setup)) e (formed p p.shard D.planned)
 
   pub front_taken : (p old m q : PartData S V) (r : Rows V) (n : ℕ) (ns : List ℕ) (i : Item V) → p ≡ old → RepInvariant p r n ns
       → Lawful (meaning p.setup.question.algebra) → IsPopped old m i → q ≡ with_taken (meaning old.setup.question.algebra) i m → OwnIdleIsTold old →

@@ -10,7 +10,7 @@ use Rattle.scholten_core.specs.Shares.{Agree}
 use Rattle.scholten_core.proofs.Basics.{put_tells}
 use Rattle.scholten_core.proofs.Shares.{out_idle_agree}
 use Rattle.shard_part.specs.Tallies.{counted_on, top}
-use Rattle.shard_part.specs.PartState.{PartData, network_in, place_in, state_in}
+use Rattle.shard_part.specs.PartState.{PartData, network_of, place_in, state_in}
 use Rattle.shard_part.specs.Weights.{channels_of, total, message_weight, signal_weight}
 use Rattle.shard_part.specs.Handling.{routes, rest_here, settle_here}
 use Rattle.shard_part.specs.Moves.{offered_all, rested, rested_by}
@@ -25,8 +25,8 @@ module _ {S V : Type 0} (A : Algebra V) where
   pub record Made (d : CoreState V) (xs : List (Item V)) (p q : PartData S V) : Type 0 where
     pub setup : q.setup ≡ p.setup
     pub shard : q.shard ≡ p.shard
-    pub tables : Agree A (network_in p.setup) everywhere d (state_in q)
-    pub channels : channels_of q ≡ routes (network_in p.setup) (place_in p.setup) p.shard xs (channels_of p)
+    pub tables : Agree A (network_of p.setup) everywhere d (state_in q)
+    pub channels : channels_of q ≡ routes (network_of p.setup) (place_in p.setup) p.shard xs (channels_of p)
     pub sent : q.sent ≡ counted_on (total message_weight xs) p.sent
     pub signalled : q.signalled ≡ counted_on (total signal_weight xs) p.signalled
     pub delivered : q.delivered ≡ p.delivered
@@ -34,11 +34,11 @@ module _ {S V : Type 0} (A : Algebra V) where
 
   -- where all arcs but the offered ones are not due, the vertex has pumped
   pumped_by : (v : ℕ) (xs ys : List ℕ) (p q : PartData S V) → p.signalled ≤ top → Offers A v xs p q →
-      ((b : ℕ) → (Contains xs b → ⊥) → is_due A (network_in p.setup) v (state_in p) b ≡ false) →
-      pump_made A (network_in p.setup) v (state_in p) ys ≡ pump_made A (network_in p.setup) v (state_in p) xs →
-      Made (pump A (network_in p.setup) v (state_in p)) (pump_made A (network_in p.setup) v (state_in p) ys) p q
+      ((b : ℕ) → (Contains xs b → ⊥) → is_due A (network_of p.setup) v (state_in p) b ≡ false) →
+      pump_made A (network_of p.setup) v (state_in p) ys ≡ pump_made A (network_of p.setup) v (state_in p) xs →
+      Made (pump A (network_of p.setup) v (state_in p)) (pump_made A (network_of p.setup) v (state_in p) ys) p q
   pumped_by v xs ys p q s R quiet same =
-      let N = network_in p.setup in record {
+      let N = network_of p.setup in record {
         setup = R.setup;
         shard = R.shard;
         tables = record {
@@ -69,7 +69,7 @@ module _ {S V : Type 0} (A : Algebra V) where
 
   rest_by : (v : ℕ) (o : Option ℕ) (t : Bool) (d : CoreState V) (xs : List (Item V)) (p q : PartData S V) → v < length q.engagers →
       Made d xs p (record q { setup = p.setup; shard = p.shard }) →
-      Made (rest_here A (network_in p.setup) v d o t) (xs ++ rest_made A (network_in p.setup) o t) p (rested_by v o t (record q { setup = p.setup; shard = p.shard }))
+      Made (rest_here A (network_of p.setup) v d o t) (xs ++ rest_made A (network_of p.setup) o t) p (rested_by v o t (record q { setup = p.setup; shard = p.shard }))
   rest_by v None t d xs p q l M = made_nil d xs p (record q { setup = p.setup; shard = p.shard }) M
   rest_by v (Some e) false d xs p q l M = made_nil d xs p (record q { setup = p.setup; shard = p.shard }) M
   rest_by v (Some e) true d xs p q l M = record {
@@ -84,8 +84,8 @@ module _ {S V : Type 0} (A : Algebra V) where
       told = M.tables.told;
       idle = M.tables.idle;
     };
-    channels = ap (routes (network_in p.setup) (place_in p.setup) p.shard (SignalOn e ∷ [])) M.channels
-        ∙ sym (routes-append (network_in p.setup) (place_in p.setup) p.shard xs (SignalOn e ∷ []) (channels_of p));
+    channels = ap (routes (network_of p.setup) (place_in p.setup) p.shard (SignalOn e ∷ [])) M.channels
+        ∙ sym (routes-append (network_of p.setup) (place_in p.setup) p.shard xs (SignalOn e ∷ []) (channels_of p));
     sent = counted_append message_weight xs (SignalOn e ∷ []) p.sent q.sent q.sent M.sent
         (sym (counted_none q.sent (subst (λ n. n ≤ top) (sym M.sent) (counted_top (total message_weight xs) p.sent))));
     signalled = counted_append signal_weight xs (SignalOn e ∷ []) p.signalled q.signalled (counted_on 1 q.signalled) M.signalled refl;
@@ -94,10 +94,10 @@ module _ {S V : Type 0} (A : Algebra V) where
   }
 
   -- the vertex rests after it has pumped
-  pub rests : (v : ℕ) (ys : List ℕ) (p q : PartData S V) → v < length q.engagers → Made (pump A (network_in p.setup) v (state_in p)) (pump_made A (network_in p.setup) v (state_in p) ys) p q →
-      Made (settle_here A (network_in p.setup) v (state_in p)) (settle_made A (network_in p.setup) v (state_in p) ys) p (rested A v q)
+  pub rests : (v : ℕ) (ys : List ℕ) (p q : PartData S V) → v < length q.engagers → Made (pump A (network_of p.setup) v (state_in p)) (pump_made A (network_of p.setup) v (state_in p) ys) p q →
+      Made (settle_here A (network_of p.setup) v (state_in p)) (settle_made A (network_of p.setup) v (state_in p) ys) p (rested A v q)
   rests v ys p q l M =
-      let N = network_in p.setup in
+      let N = network_of p.setup in
       let e = of_one_shard p q M.setup M.shard in
       let M' : Made (pump A N v (state_in p)) (pump_made A N v (state_in p) ys) p (record q { setup = p.setup; shard = p.shard }) = subst
       (Made (pump A N v (state_in p)) (pump_made A N v (state_in p) ys) p) e M in
@@ -109,25 +109,25 @@ module _ {S V : Type 0} (A : Algebra V) where
       subst (Made (settle_here A N v (state_in p)) (settle_made A N v (state_in p) ys) p) same R
 
   -- a vertex settles: it offers its label to these arcs, where no other is due, and rests
-  pub settles : (v : ℕ) (xs ys : List ℕ) (p : PartData S V) → p.sent ≤ top → p.signalled ≤ top → v < length p.engagers → IsDistinct A (network_in p.setup) xs →
+  pub settles : (v : ℕ) (xs ys : List ℕ) (p : PartData S V) → p.sent ≤ top → p.signalled ≤ top → v < length p.engagers → IsDistinct A (network_of p.setup) xs →
       ((b : ℕ) → Contains xs b → (b < length p.told) × (b < length p.busy)) →
-      ((b : ℕ) → (Contains xs b → ⊥) → is_due A (network_in p.setup) v (state_in p) b ≡ false) →
-      pump_made A (network_in p.setup) v (state_in p) ys ≡ pump_made A (network_in p.setup) v (state_in p) xs →
-      Made (settle_here A (network_in p.setup) v (state_in p)) (settle_made A (network_in p.setup) v (state_in p) ys) p (rested A v (offered_all A v xs p))
+      ((b : ℕ) → (Contains xs b → ⊥) → is_due A (network_of p.setup) v (state_in p) b ≡ false) →
+      pump_made A (network_of p.setup) v (state_in p) ys ≡ pump_made A (network_of p.setup) v (state_in p) xs →
+      Made (settle_here A (network_of p.setup) v (state_in p)) (settle_made A (network_of p.setup) v (state_in p) ys) p (rested A v (offered_all A v xs p))
   settles v xs ys p s g l D within quiet same =
       let R = offers A v xs p s D within in
       rests v ys p (offered_all A v xs p) (subst (λ es. v < length es) (sym R.engagers) l) (pumped_by v xs ys p (offered_all A v xs p) g R quiet same)
 
   -- items made before
   pub made_after : (d : CoreState V) (xs ys : List (Item V)) (p q : PartData S V) (ls : List (Option V)) (es : List (Option ℕ)) (qs : List (Item V)) (os : List (List (Item V))) (n m : ℕ) →
-      record { queue = qs; outs = os } ≡ routes (network_in p.setup) (place_in p.setup) p.shard xs (channels_of p)
+      record { queue = qs; outs = os } ≡ routes (network_of p.setup) (place_in p.setup) p.shard xs (channels_of p)
       → n ≡ counted_on (total message_weight xs) p.sent → m ≡ counted_on (total signal_weight xs) p.signalled →
       Made d ys (record p { labels = ls; engagers = es; queue = qs; outs = os; sent = n; signalled = m }) q → Made d (xs ++ ys) p q
   made_after d xs ys p q ls es qs os n m channels sends signals M = record {
     setup = M.setup;
     shard = M.shard;
     tables = M.tables;
-    channels = M.channels ∙ ap (routes (network_in p.setup) (place_in p.setup) p.shard ys) channels ∙ sym (routes-append (network_in p.setup) (place_in p.setup) p.shard xs ys (channels_of p));
+    channels = M.channels ∙ ap (routes (network_of p.setup) (place_in p.setup) p.shard ys) channels ∙ sym (routes-append (network_of p.setup) (place_in p.setup) p.shard xs ys (channels_of p));
     sent = counted_append message_weight xs ys p.sent n q.sent sends M.sent;
     signalled = counted_append signal_weight xs ys p.signalled m q.signalled signals M.signalled;
     delivered = M.delivered;

@@ -4,7 +4,7 @@ use Rattle.scholten_core.specs.Network.{Network}
 use Rattle.scholten_core.specs.Sums.{sum_below, one_if}
 
 module _ (N : Network) (place : ℕ → ℕ) where
-  -- one where the arc b has an end in the shard s
+  -- 1 if the arc b has an end in the shard s
   abbrev pub touches : ℕ → ℕ → ℕ
   touches s b = one_if (eqb (place (N.head b)) s || eqb (place (N.tail b)) s)
 
@@ -12,7 +12,7 @@ module _ (N : Network) (place : ℕ → ℕ) where
   abbrev pub queue_bound : ℕ → ℕ
   queue_bound s = sum_below (touches s) (suc N.arcs)
 
-  -- one where the arc b leads from s to t or from t to s
+  -- 1 if the arc b leads from s to t or from t to s
   abbrev pub joins : ℕ → ℕ → ℕ → ℕ
   joins s t b = one_if ((eqb (place (N.head b)) t && eqb (place (N.tail b)) s) || (eqb (place (N.tail b)) t && eqb (place (N.head b)) s))
 

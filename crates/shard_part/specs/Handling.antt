@@ -8,12 +8,12 @@ use Rattle.scholten_core.specs.Diffusion.{CoreState, put, freed, pump, out_idle,
 use Rattle.scholten_core.specs.Items.{item_of, settle_made}
 use Rattle.scholten_core.specs.Shares.{Agree}
 use Rattle.shard_part.specs.Tallies.{counted_on}
-use Rattle.shard_part.specs.PartState.{network_in, place_in, PartData, state_in, vertex_of, mine}
+use Rattle.shard_part.specs.PartState.{network_of, place_in, PartData, state_in, vertex_of, mine}
 use Rattle.shard_part.specs.Weights.{total, message_weight, signal_weight, Channels, channels_of}
 use Rattle.shard_part.specs.Outgoing.{outgoing}
 
 module _ {V : Type 0} (A : Algebra V) (N : Network) where
-  -- A part knows the idle flags of its own outgoing arcs alone, and no token: an arc on which an item stands, and an arc that engages, is busy already.
+  -- A part knows the idle flags of its own outgoing arcs alone, and no token: an arc with an item on it, and an arc that engages, is busy already.
   abbrev pub arrive_here : ℕ → V → CoreState V → CoreState V
   arrive_here a x d = record {
     label = put d.label (N.head a) (better_of A x (d.label (N.head a)));
@@ -22,13 +22,13 @@ module _ {V : Type 0} (A : Algebra V) (N : Network) where
     told = d.told;
   }
 
-  -- v lets go of its engager where the test holds
+  -- v becomes neutral if the test holds
   abbrev pub rest_here : ℕ → CoreState V → Option ℕ → Bool → CoreState V
   rest_here v d None t = d
   rest_here v d (Some e) false = d
   rest_here v d (Some e) true = record { label = d.label; engager = put d.engager v None; token = d.token; told = d.told }
 
-  -- each due arc out of v is told its label, and v lets go if none is busy
+  -- each due arc out of v is offered its label, and v becomes neutral if none is busy
   abbrev pub settle_here : ℕ → CoreState V → CoreState V
   settle_here v d = rest_here v (pump A N v d) (d.engager v) (out_idle A N v (pump A N v d))
 
@@ -37,7 +37,7 @@ module _ {V : Type 0} (A : Algebra V) (N : Network) where
   settle_tail_here zero v d = d
   settle_tail_here (suc a) v d = settle_here v d
 
-  -- what the tables become where an item is taken
+  -- what the tables become if an item is taken
   abbrev pub taken : Item V → CoreState V → CoreState V
   taken (MessageOn a x) d = settle_here (N.head a) (arrive_here a x d)
   taken (SignalOn a) d = settle_tail_here a (N.tail a) (freed A N a d)
@@ -47,7 +47,7 @@ module _ {V : Type 0} (A : Algebra V) (N : Network) where
   back_made zero v d = []
   back_made (suc a) v d = settle_made A N v d (outgoing N v)
 
-  -- the items that it makes, in order
+  -- the items that an item makes when it is taken, in order
   abbrev pub made : Item V → CoreState V → List (Item V)
   made (MessageOn a x) d = item_of a (answer_to (d.engager (N.head a))) ++ settle_made A N (N.head a) (arrive_here a x d) (outgoing N (N.head a))
   made (SignalOn a) d = back_made a (N.tail a) (freed A N a d)
@@ -78,11 +78,11 @@ module _ {S V : Type 0} (A : Algebra V) (N : Network) (place : ℕ → ℕ) wher
     pub delivered : q.delivered ≡ counted_on (message_weight i) p.delivered
     pub accepted : q.accepted ≡ counted_on (signal_weight i) p.accepted
 
--- as a part's own setup says
+-- the same by the part's own setup
 module _ {S V : Type 0} (meaning : S → Algebra V) where
   -- the part p takes the item i and becomes q
   abbrev pub HandledItem : PartData S V → Item V → PartData S V → Type 0
-  HandledItem p i q = HandledItemIn (meaning p.setup.question.algebra) (network_in p.setup) (place_in p.setup) p i q
+  HandledItem p i q = HandledItemIn (meaning p.setup.question.algebra) (network_of p.setup) (place_in p.setup) p i q
 
   -- a list of items, one after the other
   abbrev pub HandledAll : PartData S V → List (Item V) → PartData S V → Type 0

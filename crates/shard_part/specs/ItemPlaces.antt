@@ -1,4 +1,4 @@
--- Where the items of parts and mailboxes stand, as lists.
+-- Where the items of parts and mailboxes are, as lists.
 use Rattle.std.specs.Prelude.{ℕ, suc, cond, eqb, List, [], ◌∷◌, ◌++◌}
 use Rattle.scholten_core.specs.declared.token.Token.{Token}
 use Rattle.scholten_core.specs.declared.token.Token.TheVariants.{Idle, Message, Held, Signal}
@@ -33,12 +33,12 @@ module _ {V : Type 0} where
   mail_places [] = []
   mail_places (m ∷ ms) = with_shard m.0 m.1 ++ mail_places ms
 
-  -- those that stand on one arc
+  -- those that are on one arc
   abbrev pub on : ℕ → List (ℕ × Item V) → List (ℕ × Item V)
   on b [] = []
   on b (e ∷ es) = cond (eqb (item_arc e.1) b) (e ∷ on b es) (on b es)
 
-  -- what a token stands for, and where
+  -- the item that a token stands for, with the shard where it belongs
   abbrev pub place_of_token : Network → (ℕ → ℕ) → ℕ → Token V → List (ℕ × Item V)
   place_of_token N place b Idle = []
   place_of_token N place b (Message x) = (place (N.head b), MessageOn b x) ∷ []

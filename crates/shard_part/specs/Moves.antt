@@ -1,22 +1,22 @@
--- What the running tables and rings keep with each single move, and the moves.
+-- The moves of a part, and what its tables and rings keep at each of them.
 use Rattle.std.specs.Prelude.{◌≡◌, ◌≢◌, ℕ, zero, suc, ◌<◌, ◌≤◌, Bool, true, false, cond, Option, Some, None, List, [], ◌∷◌, length, set, get_or, take}
 use Rattle.scholten_core.specs.declared.item.Item.{Item}
 use Rattle.scholten_core.specs.declared.item.Item.TheVariants.{Message as MessageOn, Signal as SignalOn}
 use Rattle.path_algebra.specs.Algebra.{Algebra}
-use Rattle.road_graph.specs.Roads.{HasVertex, IsRoads}
+use Rattle.road_graph.specs.GraphData.{HasVertex, IsGraph}
 use Rattle.scholten_core.specs.Diffusion.{improves, is_due, extend_label, out_idle}
 use Rattle.scholten_core.specs.Items.{item_arc}
 use Rattle.shard_part.specs.Plans.{IsPlan}
 use Rattle.shard_part.specs.Tallies.{counted_on, top}
 use Rattle.shard_part.specs.Tables.{scatter}
 use Rattle.scholten_core.specs.Deficit.{busy_out}
-use Rattle.shard_part.specs.PartState.{PartData, Setup, network_in, place_in, state_in, IsArc, vertex_of}
+use Rattle.shard_part.specs.PartState.{PartData, Setup, network_of, place_in, state_in, IsArc, vertex_of}
 use Rattle.shard_part.specs.Weights.{channels_of}
 use Rattle.shard_part.specs.Outgoing.{local_vertices, arcs_out, outgoing}
 use Rattle.shard_part.specs.Handling.{route}
 use Rattle.shard_part.specs.LocalInvariant.{LocalInvariant, IsClear}
 use Rattle.shard_part.specs.Capacities.{queue_bound, outbox_bound}
-use Rattle.shard_part.specs.declared.tables.Tables.{Tables}
+use Rattle.shard_part.specs.declared.store.tables.Tables.{Tables}
 
 -- the values of the tables, by place
 pub record Rows (V : Type 0) : Type 0 where
@@ -31,15 +31,15 @@ pub record Rows (V : Type 0) : Type 0 where
 abbrev pub rows_of : {V : Type 0} → Tables V → Rows V
 rows_of t = record { own = t.own; offsets = t.vertices.offsets; labels = t.vertices.labels; engagers = t.vertices.engagers; deficits = t.vertices.deficits; busy = t.arcs.busy; told = t.arcs.told }
 
--- the part that the tables and rings of a shard are seen as: each value stands at the number that it belongs to
+-- the part that the tables and rings of a shard are seen as: each value is at the number that it belongs to
 abbrev pub abstraction : {S V : Type 0} → Setup S → ℕ → Rows V → List (Item V) → List (List (Item V)) → ℕ → ℕ → ℕ → ℕ → PartData S V
 abstraction t s r queue outs sent delivered signalled accepted = record {
   setup = t;
   shard = s;
   labels = scatter (local_vertices t s) r.labels None (suc t.question.roads.vertices);
   engagers = scatter (local_vertices t s) r.engagers None (suc t.question.roads.vertices);
-  busy = scatter (arcs_out (network_in t) (local_vertices t s)) r.busy false (suc (length t.question.roads.arcs));
-  told = scatter (arcs_out (network_in t) (local_vertices t s)) r.told None (suc (length t.question.roads.arcs));
+  busy = scatter (arcs_out (network_of t) (local_vertices t s)) r.busy false (suc (length t.question.roads.arcs));
+  told = scatter (arcs_out (network_of t) (local_vertices t s)) r.told None (suc (length t.question.roads.arcs));
   queue = queue;
   outs = outs;
   sent = sent;
@@ -49,42 +49,42 @@ abstraction t s r queue outs sent delivered signalled accepted = record {
 }
 
 -- the tables have a row for each vertex of the shard, and one for each arc out of these
-pub record IsSized {S V : Type 0} (p : PartData S V) (r : Rows V) : Type 0 where
+pub record AreRowsSized {S V : Type 0} (p : PartData S V) (r : Rows V) : Type 0 where
   pub own : r.own ≡ local_vertices p.setup p.shard
   pub offsets : length r.offsets ≡ length (local_vertices p.setup p.shard)
-  pub starts : (j : ℕ) → j < length (local_vertices p.setup p.shard) → get_or r.offsets j 0 ≡ length (arcs_out (network_in p.setup) (take j (local_vertices p.setup p.shard)))
+  pub starts : (j : ℕ) → j < length (local_vertices p.setup p.shard) → get_or r.offsets j 0 ≡ length (arcs_out (network_of p.setup) (take j (local_vertices p.setup p.shard)))
   pub labels : length r.labels ≡ length (local_vertices p.setup p.shard)
   pub engagers : length r.engagers ≡ length (local_vertices p.setup p.shard)
   pub deficits : length r.deficits ≡ length (local_vertices p.setup p.shard)
-  pub busy : length r.busy ≡ length (arcs_out (network_in p.setup) (local_vertices p.setup p.shard))
-  pub told : length r.told ≡ length (arcs_out (network_in p.setup) (local_vertices p.setup p.shard))
+  pub busy : length r.busy ≡ length (arcs_out (network_of p.setup) (local_vertices p.setup p.shard))
+  pub told : length r.told ≡ length (arcs_out (network_of p.setup) (local_vertices p.setup p.shard))
 
--- and what the part shows are these rows
+-- the part is seen as these rows
 pub record IsSeen {S V : Type 0} (p : PartData S V) (r : Rows V) : Type 0 where
   pub labels : p.labels ≡ scatter (local_vertices p.setup p.shard) r.labels None (suc p.setup.question.roads.vertices)
   pub engagers : p.engagers ≡ scatter (local_vertices p.setup p.shard) r.engagers None (suc p.setup.question.roads.vertices)
-  pub busy : p.busy ≡ scatter (arcs_out (network_in p.setup) (local_vertices p.setup p.shard)) r.busy false (suc (length p.setup.question.roads.arcs))
-  pub told : p.told ≡ scatter (arcs_out (network_in p.setup) (local_vertices p.setup p.shard)) r.told None (suc (length p.setup.question.roads.arcs))
+  pub busy : p.busy ≡ scatter (arcs_out (network_of p.setup) (local_vertices p.setup p.shard)) r.busy false (suc (length p.setup.question.roads.arcs))
+  pub told : p.told ≡ scatter (arcs_out (network_of p.setup) (local_vertices p.setup p.shard)) r.told None (suc (length p.setup.question.roads.arcs))
 
--- the plan is one of the graph, and the shard and the source are theirs
+-- the plan is for the graph and has the shard, and the source is a vertex of the graph
 pub record IsPlanned {S : Type 0} (t : Setup S) (s : ℕ) : Type 0 where
-  pub roads : IsRoads t.question.roads
+  pub roads : IsGraph t.question.roads
   pub source : HasVertex t.question.roads t.question.source
   pub plan : IsPlan t.plan
   pub covers : length t.plan.list ≡ t.question.roads.vertices
   pub shard : s < t.plan.shards
 
--- a queue for every arc with an end in the shard, an outbox for every arc between the two shards
+-- the queue has a place for every arc with an end in the shard, each outbox one for every arc between the two shards
 pub record IsRoomy {S V : Type 0} (p : PartData S V) (queue_capacity : ℕ) (out_capacities : List ℕ) : Type 0 where
-  pub queue : queue_capacity ≡ queue_bound (network_in p.setup) (place_in p.setup) p.shard
+  pub queue : queue_capacity ≡ queue_bound (network_of p.setup) (place_in p.setup) p.shard
   pub boxes : length p.outs ≡ p.setup.plan.shards
   pub rings : length out_capacities ≡ p.setup.plan.shards
-  pub outs : (t : ℕ) → t ≢ p.shard → t < p.setup.plan.shards → get_or out_capacities t 0 ≡ outbox_bound (network_in p.setup) (place_in p.setup) p.shard t
+  pub outs : (t : ℕ) → t ≢ p.shard → t < p.setup.plan.shards → get_or out_capacities t 0 ≡ outbox_bound (network_of p.setup) (place_in p.setup) p.shard t
 
--- the deficit of a vertex is the number of its busy arcs
-abbrev pub IsCounted : {S V : Type 0} → PartData S V → Rows V → Type 0
-IsCounted p r = (j : ℕ) → j < length (local_vertices p.setup p.shard) →
-    get_or r.deficits j 0 ≡ busy_out (network_in p.setup) (get_or (local_vertices p.setup p.shard) j 0) (state_in p) (suc (length p.setup.question.roads.arcs))
+-- the deficit of a vertex is the number of busy arcs out of it
+abbrev pub AreRowDeficits : {S V : Type 0} → PartData S V → Rows V → Type 0
+AreRowDeficits p r = (j : ℕ) → j < length (local_vertices p.setup p.shard) →
+    get_or r.deficits j 0 ≡ busy_out (network_of p.setup) (get_or (local_vertices p.setup p.shard) j 0) (state_in p) (suc (length p.setup.question.roads.arcs))
 
 -- no counter is past its top
 abbrev pub IsTallied : {S V : Type 0} → PartData S V → Type 0
@@ -92,10 +92,10 @@ IsTallied p = (p.sent ≤ top) × (p.delivered ≤ top) × (p.signalled ≤ top)
 
 pub record RepInvariant {S V : Type 0} (p : PartData S V) (r : Rows V) (queue_capacity : ℕ) (out_capacities : List ℕ) : Type 0 where
   pub planned : IsPlanned p.setup p.shard
-  pub sized : IsSized p r
+  pub sized : AreRowsSized p r
   pub seen : IsSeen p r
-  pub counts : IsCounted p r
-  pub sound : LocalInvariant (network_in p.setup) (place_in p.setup) p
+  pub counts : AreRowDeficits p r
+  pub sound : LocalInvariant (network_of p.setup) (place_in p.setup) p
   pub roomy : IsRoomy p queue_capacity out_capacities
   pub tallied : IsTallied p
 
@@ -104,25 +104,25 @@ pub record IsPlace {S V : Type 0} (p : PartData S V) (v j : ℕ) : Type 0 where
   pub inside : j < length (local_vertices p.setup p.shard)
   pub vertex : get_or (local_vertices p.setup p.shard) j 0 ≡ v
 
--- the arc b leaves a vertex of the part, and its flags stand at the place i
-pub record IsRow {S V : Type 0} (p : PartData S V) (b i : ℕ) : Type 0 where
-  pub inside : i < length (arcs_out (network_in p.setup) (local_vertices p.setup p.shard))
-  pub arc : get_or (arcs_out (network_in p.setup) (local_vertices p.setup p.shard)) i 0 ≡ b
+-- the arc b leaves a vertex of the part, and its flags are at the place i
+pub record IsArcRow {S V : Type 0} (p : PartData S V) (b i : ℕ) : Type 0 where
+  pub inside : i < length (arcs_out (network_of p.setup) (local_vertices p.setup p.shard))
+  pub arc : get_or (arcs_out (network_of p.setup) (local_vertices p.setup p.shard)) i 0 ≡ b
 
--- the item i went from the front of the queue
+-- the item i was taken from the front of the queue
 pub record IsPopped {S V : Type 0} (old new : PartData S V) (i : Item V) : Type 0 where
   pub front : old.queue ≡ i ∷ new.queue
   pub same : new ≡ record old { queue = new.queue }
-  pub arc : IsArc (network_in new.setup) (item_arc i)
-  pub here : place_in new.setup (vertex_of (network_in new.setup) i) ≡ new.shard
+  pub arc : IsArc (network_of new.setup) (item_arc i)
+  pub here : place_in new.setup (vertex_of (network_of new.setup) i) ≡ new.shard
   pub clear : IsClear new (item_arc i)
 
 module _ {S V : Type 0} where
   -- an item is put where it belongs
   abbrev pub put_item : Item V → PartData S V → PartData S V
   put_item i p = record p {
-    queue = (route (network_in p.setup) (place_in p.setup) p.shard i (channels_of p)).queue;
-    outs = (route (network_in p.setup) (place_in p.setup) p.shard i (channels_of p)).outs;
+    queue = (route (network_of p.setup) (place_in p.setup) p.shard i (channels_of p)).queue;
+    outs = (route (network_of p.setup) (place_in p.setup) p.shard i (channels_of p)).outs;
   }
 
   -- and counted
@@ -134,17 +134,17 @@ module _ {S V : Type 0} where
   abbrev pub with_item : Item V → PartData S V → PartData S V
   with_item i p = counted_made i (put_item i p)
 
-  -- a message along b, where the extension is not refused
+  -- a message along b, if the extension is not refused
   abbrev pub with_message : ℕ → Option V → PartData S V → PartData S V
   with_message b None p = p
   with_message b (Some y) p = with_item (MessageOn b y) (record p { busy = set p.busy b true })
 
-  -- a message on arc a finds v: a neutral vertex is engaged, another answers
+  -- a message on arc a finds v: a neutral vertex is engaged, any other answers
   abbrev pub engaged_or_answered : ℕ → ℕ → Option ℕ → PartData S V → PartData S V
   engaged_or_answered a v None p = record p { engagers = set p.engagers v (Some a) }
   engaged_or_answered a v (Some e) p = with_item (SignalOn a) p
 
-  -- v lets go where the test holds
+  -- v becomes neutral if the test holds, and a signal goes back on its engager
   abbrev pub rested_by : ℕ → Option ℕ → Bool → PartData S V → PartData S V
   rested_by v None t p = p
   rested_by v (Some e) false p = p
@@ -154,33 +154,33 @@ module _ {S V : Type 0} (A : Algebra V) where
   abbrev pub labelled : V → ℕ → PartData S V → PartData S V
   labelled x v p = cond (improves A x ((state_in p).label v)) (record p { labels = set p.labels v (Some x) }) p
 
-  -- the arc b out of v is told the label of v, if it is due
+  -- the arc b out of v is offered the label of v, if it is due
   abbrev pub offered : ℕ → ℕ → PartData S V → PartData S V
-  offered v b p = cond (is_due A (network_in p.setup) v (state_in p) b)
-      (with_message b (extend_label A ((state_in p).label v) ((network_in p.setup).weight b)) (record p { told = set p.told b ((state_in p).label v) })) p
+  offered v b p = cond (is_due A (network_of p.setup) v (state_in p) b)
+      (with_message b (extend_label A ((state_in p).label v) ((network_of p.setup).weight b)) (record p { told = set p.told b ((state_in p).label v) })) p
 
   unfoldable pub offered_all : ℕ → List ℕ → PartData S V → PartData S V
   offered_all v [] p = p
   offered_all v (b ∷ bs) p = offered_all v bs (offered v b p)
 
   abbrev pub rested : ℕ → PartData S V → PartData S V
-  rested v p = rested_by v ((state_in p).engager v) (out_idle A (network_in p.setup) v (state_in p)) p
+  rested v p = rested_by v ((state_in p).engager v) (out_idle A (network_of p.setup) v (state_in p)) p
 
   -- what a message does: the label, the engager or the answer, then the arcs if the label improved, then rest
   abbrev pub with_value : ℕ → V → ℕ → PartData S V → PartData S V
   with_value a x v p = rested v (cond (improves A x ((state_in p).label v))
-      (offered_all v (outgoing (network_in p.setup) v) (engaged_or_answered a v ((state_in p).engager v) (labelled x v p)))
+      (offered_all v (outgoing (network_of p.setup) v) (engaged_or_answered a v ((state_in p).engager v) (labelled x v p)))
       (engaged_or_answered a v ((state_in p).engager v) (labelled x v p)))
 
   abbrev pub with_free : ℕ → ℕ → PartData S V → PartData S V
   with_free zero v p = record p { busy = set p.busy zero false }
   with_free (suc a) v p = rested v (offered v (suc a) (record p { busy = set p.busy (suc a) false }))
 
-  -- what the item does that was taken from the queue
+  -- what an item does that was taken from the queue
   abbrev pub with_taken : Item V → PartData S V → PartData S V
-  with_taken (MessageOn a x) p = with_value a x ((network_in p.setup).head a) (record p { delivered = counted_on 1 p.delivered })
-  with_taken (SignalOn a) p = with_free a ((network_in p.setup).tail a) (record p { accepted = counted_on 1 p.accepted })
+  with_taken (MessageOn a x) p = with_value a x ((network_of p.setup).head a) (record p { delivered = counted_on 1 p.delivered })
+  with_taken (SignalOn a) p = with_free a ((network_of p.setup).tail a) (record p { accepted = counted_on 1 p.accepted })
 
-  -- the front item is taken, and does what it does
+  -- the front item is taken and handled
   abbrev pub HandledOne : PartData S V → PartData S V → Type 0
   HandledOne p q = (i : Item V) × (m : PartData S V) × IsPopped p m i × (q ≡ with_taken i m)

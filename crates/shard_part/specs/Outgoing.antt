@@ -14,7 +14,7 @@ module _ (N : Network) where
   abbrev pub outgoing : ℕ → List ℕ
   outgoing v = arcs_from v 0 (suc N.arcs)
 
--- the vertices of a shard, ascending; the environment stands first in each
+-- the vertices of a shard, ascending; the environment comes first in each
 abbrev pub local_vertices : {S : Type 0} → Setup S → ℕ → List ℕ
 local_vertices t s = 0 ∷ placed (place_in t) s 1 t.question.roads.vertices
 

@@ -7,44 +7,44 @@ use Rattle.path_algebra.specs.Algebra.{Algebra}
 use Rattle.scholten_core.specs.Diffusion.{state_after, count_enabled}
 use Rattle.scholten_core.specs.Accounts.{sent_total, delivered_total, signalled_total, accepted_total}
 use Rattle.shard_part.specs.Tallies.{counted_on}
-use Rattle.shard_part.specs.PartState.{PartData, Setup, network_in, place_in, state_in, event_of}
+use Rattle.shard_part.specs.PartState.{PartData, Setup, network_of, place_in, state_in, event_of}
 use Rattle.shard_part.specs.Weights.{in_flight, part_weight}
 use Rattle.shard_part.specs.Handling.{HandledItem, HandledAll}
 use Rattle.shard_part.specs.Represents.{HoldsShare, Represents}
 
--- an idle arc out of a vertex of the part has been told the vertex's label
+-- an idle arc out of a vertex of the part was last offered the vertex's label
 abbrev pub OwnIdleIsTold : {S V : Type 0} → PartData S V → Type 0
-OwnIdleIsTold p = (b : ℕ) → place_in p.setup ((network_in p.setup).tail b) ≡ p.shard → (network_in p.setup).tail b ≢ 0 →
-    (state_in p).token b ≡ Idle → (state_in p).told b ≡ (state_in p).label ((network_in p.setup).tail b)
+OwnIdleIsTold p = (b : ℕ) → place_in p.setup ((network_of p.setup).tail b) ≡ p.shard → (network_of p.setup).tail b ≢ 0 →
+    (state_in p).token b ≡ Idle → (state_in p).told b ≡ (state_in p).label ((network_of p.setup).tail b)
 
 module _ {S V : Type 0} (meaning : S → Algebra V) where
   -- some item was taken from the front
   abbrev pub HandledFront : PartData S V → PartData S V → Type 0
   HandledFront p q = (i : Item V) × HandledItem meaning p i q
 
-  -- so many items were taken, one after the other
+  -- n items were taken, one after the other
   abbrev pub HandledMany : PartData S V → ℕ → PartData S V → Type 0
   HandledMany p n q = (items : List (Item V)) × (length items ≡ n) × HandledAll meaning p items q
 
-  -- so many items were taken, and where the part held its share of the state after these events, they are as many events more, each enabled in its turn:
-  -- the part holds its share of the state after all of them, its queue and outboxes have gained and lost what that state has gained and lost,
+  -- n items were taken, and they are n events after the given ones, each enabled in its turn: the part holds its share of the state
+  -- after all of them, its queue and outboxes have gained and lost what that state has gained and lost,
   -- and it has counted what the events sent, delivered, signalled and accepted
   pub record IsRunOn (events : List Event) (p : PartData S V) (n : ℕ) (q : PartData S V) : Type 0 where
     pub items : List (Item V)
     pub count : length items ≡ n
     pub handled : HandledAll meaning p items q
-    pub enabled : count_enabled (meaning p.setup.question.algebra) (network_in p.setup) (state_after (meaning p.setup.question.algebra) (network_in p.setup) events) (map event_of items) ≡ n
-    pub holds : HoldsShare meaning (state_after (meaning p.setup.question.algebra) (network_in p.setup) (events ++ map event_of items)) q
-    pub weighs : (h : ℕ → Item V → ℕ) → part_weight h q + in_flight (network_in p.setup) (place_in p.setup) (state_after (meaning p.setup.question.algebra) (network_in p.setup) events) h
-        ≡ part_weight h p + in_flight (network_in p.setup) (place_in p.setup) (state_after (meaning p.setup.question.algebra) (network_in p.setup) (events ++ map event_of items)) h
-    pub sent : q.sent ≡ counted_on (sent_total (meaning p.setup.question.algebra) (network_in p.setup) (state_after (meaning p.setup.question.algebra) (network_in p.setup) events) (map event_of items)) p.sent
-    pub delivered : q.delivered ≡ counted_on (delivered_total (meaning p.setup.question.algebra) (network_in p.setup) (state_after (meaning p.setup.question.algebra) (network_in p.setup) events) (map event_of items)) p.delivered
-    pub signalled : q.signalled ≡ counted_on (signalled_total (meaning p.setup.question.algebra) (network_in p.setup) (state_after (meaning p.setup.question.algebra) (network_in p.setup) events) (map event_of items)) p.signalled
-    pub accepted : q.accepted ≡ counted_on (accepted_total (meaning p.setup.question.algebra) (network_in p.setup) (state_after (meaning p.setup.question.algebra) (network_in p.setup) events) (map event_of items)) p.accepted
+    pub enabled : count_enabled (meaning p.setup.question.algebra) (network_of p.setup) (state_after (meaning p.setup.question.algebra) (network_of p.setup) events) (map event_of items) ≡ n
+    pub holds : HoldsShare meaning (state_after (meaning p.setup.question.algebra) (network_of p.setup) (events ++ map event_of items)) q
+    pub weighs : (h : ℕ → Item V → ℕ) → part_weight h q + in_flight (network_of p.setup) (place_in p.setup) (state_after (meaning p.setup.question.algebra) (network_of p.setup) events) h
+        ≡ part_weight h p + in_flight (network_of p.setup) (place_in p.setup) (state_after (meaning p.setup.question.algebra) (network_of p.setup) (events ++ map event_of items)) h
+    pub sent : q.sent ≡ counted_on (sent_total (meaning p.setup.question.algebra) (network_of p.setup) (state_after (meaning p.setup.question.algebra) (network_of p.setup) events) (map event_of items)) p.sent
+    pub delivered : q.delivered ≡ counted_on (delivered_total (meaning p.setup.question.algebra) (network_of p.setup) (state_after (meaning p.setup.question.algebra) (network_of p.setup) events) (map event_of items)) p.delivered
+    pub signalled : q.signalled ≡ counted_on (signalled_total (meaning p.setup.question.algebra) (network_of p.setup) (state_after (meaning p.setup.question.algebra) (network_of p.setup) events) (map event_of items)) p.signalled
+    pub accepted : q.accepted ≡ counted_on (accepted_total (meaning p.setup.question.algebra) (network_of p.setup) (state_after (meaning p.setup.question.algebra) (network_of p.setup) events) (map event_of items)) p.accepted
 
-  -- after these events and so many more, each enabled in its turn, parts and mailboxes show the state
+  -- after these events and n more, each enabled in its turn, parts and mailboxes represent the state
   pub record IsShownOn (t : Setup S) (events : List Event) (parts : List (PartData S V)) (mail : (ℕ → Item V → ℕ) → ℕ) (n : ℕ) : Type 0 where
     pub more : List Event
     pub count : length more ≡ n
-    pub enabled : count_enabled (meaning t.question.algebra) (network_in t) (state_after (meaning t.question.algebra) (network_in t) events) more ≡ n
-    pub shown : Represents meaning t parts mail (state_after (meaning t.question.algebra) (network_in t) (events ++ more))
+    pub enabled : count_enabled (meaning t.question.algebra) (network_of t) (state_after (meaning t.question.algebra) (network_of t) events) more ≡ n
+    pub shown : Represents meaning t parts mail (state_after (meaning t.question.algebra) (network_of t) (events ++ more))

@@ -17,8 +17,8 @@ pub record Setup (S : Type 0) : Type 0 where
   pub plan : PlanData
 
 -- the network of its question
-abbrev pub network_in : {S : Type 0} → Setup S → Network
-network_in t = network_asked t.question
+abbrev pub network_of : {S : Type 0} → Setup S → Network
+network_of t = network_asked t.question
 
 -- the shard of a vertex, and of the environment: that of the source
 unfoldable pub place_in : {S : Type 0} → Setup S → ℕ → ℕ
@@ -39,7 +39,7 @@ pub record PartData (S V : Type 0) : Type 0 where
   pub signalled : ℕ
   pub accepted : ℕ
 
--- a busy arc carries something, whatever it is
+-- a busy arc is shown as held, whatever is on it
 abbrev pub token_if : {V : Type 0} → Bool → Token V
 token_if true = Held
 token_if false = Idle

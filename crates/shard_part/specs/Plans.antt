@@ -12,7 +12,7 @@ pub record PlanData : Type 0 where
 abbrev pub shard_in : PlanData → ℕ → ℕ
 shard_in p v = slice_index_or p.list (v - 1) 0
 
--- the vertices that the plan speaks of are 1 to the length of its list
+-- the vertices that the plan covers are 1 to the length of its list
 abbrev pub HasPlanned : PlanData → ℕ → Type 0
 HasPlanned p v = (1 ≤ v) × (v ≤ length p.list)
 
@@ -34,11 +34,11 @@ pub record IsBlocks (n s : ℕ) (p : PlanData) : Type 0 where
   pub block : (v : ℕ) → HasPlanned p v → shard_in p v ≡ (v - 1) * s / n
 
 -- v is the first vertex whose entry is no shard
-pub record IsFirstBad (s : ℕ) (list : List ℕ) (v : ℕ) : Type 0 where
+pub record IsFirstBadEntry (s : ℕ) (list : List ℕ) (v : ℕ) : Type 0 where
   pub is_vertex : (1 ≤ v) × (v ≤ length list)
   pub bad : s ≤ slice_index_or list (v - 1) 0
   pub first : (u : ℕ) → 1 ≤ u → u < v → slice_index_or list (u - 1) 0 < s
 
 -- why a table is no plan
 abbrev pub IsBad : ℕ → List ℕ → PlanFault → Type 0
-IsBad s list (BadShard v) = IsFirstBad s list v
+IsBad s list (BadShard v) = IsFirstBadEntry s list v

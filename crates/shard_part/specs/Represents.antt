@@ -1,15 +1,15 @@
--- What parts and mailboxes show of a state.
+-- How parts and mailboxes represent a state.
 use Rattle.std.specs.Prelude.{◌≡◌, ℕ, ◌+◌, ◌<◌, ◌≤◌, true, List, [], ◌∷◌, length}
 use Rattle.scholten_core.specs.declared.item.Item.{Item}
 use Rattle.path_algebra.specs.Algebra.{Algebra}
 use Rattle.scholten_core.specs.Network.{Network}
 use Rattle.scholten_core.specs.Diffusion.{CoreState, step, is_enabled}
 use Rattle.scholten_core.specs.Shares.{Agree}
-use Rattle.shard_part.specs.PartState.{Setup, network_in, place_in, PartData, state_in, event_of, mine}
+use Rattle.shard_part.specs.PartState.{Setup, network_of, place_in, PartData, state_in, event_of, mine}
 use Rattle.shard_part.specs.Weights.{total, is, All, part_weight, in_flight}
 
 module _ {S V : Type 0} (A : Algebra V) (N : Network) (place : ℕ → ℕ) where
-  -- labels and engagers of the part's vertices, told values and idle flags of their arcs are those of c
+  -- labels and engagers of the part's vertices, the labels last offered to their arcs, and the idle flags of these are those of c
   pub record HoldsTables (c : CoreState V) (p : PartData S V) : Type 0 where
     pub agree : Agree A N (mine place p.shard) c (state_in p)
     pub wide : (v : ℕ) → place v < length p.outs
@@ -19,24 +19,24 @@ module _ {S V : Type 0} (A : Algebra V) (N : Network) (place : ℕ → ℕ) wher
     pub tables : HoldsTables c p
     pub weighs : (h : ℕ → Item V → ℕ) → part_weight h p ≤ in_flight N place c h
 
-  -- parts and mailboxes show c: `mail h` weighs what the mailboxes hold
+  -- parts and mailboxes represent c: `mail h` weighs what the mailboxes hold
   pub record RepresentsIn (parts : List (PartData S V)) (mail : (ℕ → Item V → ℕ) → ℕ) (c : CoreState V) : Type 0 where
     pub tables : All (HoldsTables c) parts
     pub weighs : (h : ℕ → Item V → ℕ) → total (part_weight h) parts + mail h ≡ in_flight N place c h
     pub apart : (j : ℕ) → total (λ p. is j p.shard) parts ≤ 1
 
--- as a part's own setup says
+-- the same by the part's own setup
 module _ {S V : Type 0} (meaning : S → Algebra V) where
   -- the events of the items, each enabled in its turn, lead from c to d
   abbrev pub AllEnabled : Setup S → CoreState V → List (Item V) → CoreState V → Type 0
   AllEnabled t c [] d = c ≡ d
-  AllEnabled t c (i ∷ is) d = (is_enabled c (event_of i) ≡ true) × AllEnabled t (step (meaning t.question.algebra) (network_in t) c (event_of i)) is d
+  AllEnabled t c (i ∷ is) d = (is_enabled c (event_of i) ≡ true) × AllEnabled t (step (meaning t.question.algebra) (network_of t) c (event_of i)) is d
 
   -- the part holds its share of c
   abbrev pub HoldsShare : CoreState V → PartData S V → Type 0
-  HoldsShare c p = HoldsShareIn (meaning p.setup.question.algebra) (network_in p.setup) (place_in p.setup) c p
+  HoldsShare c p = HoldsShareIn (meaning p.setup.question.algebra) (network_of p.setup) (place_in p.setup) c p
 
-  -- the parts are all of one question, and with the mailboxes they show c
+  -- the parts are all of one question, and with the mailboxes they represent c
   pub record Represents (t : Setup S) (parts : List (PartData S V)) (mail : (ℕ → Item V → ℕ) → ℕ) (c : CoreState V) : Type 0 where
     pub same : All (λ p. p.setup ≡ t) parts
-    pub shown : RepresentsIn (meaning t.question.algebra) (network_in t) (place_in t) parts mail c
+    pub shown : RepresentsIn (meaning t.question.algebra) (network_of t) (place_in t) parts mail c

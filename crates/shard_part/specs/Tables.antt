@@ -2,12 +2,12 @@
 use Rattle.std.specs.Simd.Lanes.{zip2}
 use Rattle.std.specs.Prelude.{◌≢◌, ℕ, zero, suc, ◌+◌, ◌<◌, ◌≤◌, ◌^◌, Bool, cond, eqb, Option, Some, None, List, [], ◌∷◌, length, map, set, get_or, replicate, ⊤}
 use Rattle.std.specs.List.{range_with_len}
-use Rattle.shard_part.specs.declared.own.Places.{Places}
-use Rattle.shard_part.specs.declared.own.Places.TheVariants.{Run, Listed}
-use Rattle.shard_part.specs.declared.tables.VertexRow.{VertexRow}
-use Rattle.shard_part.specs.declared.tables.ArcMarks.{ArcMarks}
+use Rattle.shard_part.specs.declared.store.local_vertices.Places.{Places}
+use Rattle.shard_part.specs.declared.store.local_vertices.Places.TheVariants.{Run, Listed}
+use Rattle.shard_part.specs.declared.store.tables.VertexRow.{VertexRow}
+use Rattle.shard_part.specs.declared.store.tables.ArcMarks.{ArcMarks}
 
--- the list of n entries in which the j-th value stands at the j-th key, and `none` elsewhere
+-- the list of n entries in which the j-th value is at the j-th key, and `none` is elsewhere
 unfoldable pub scatter : {X : Type 0} → List ℕ → List X → X → ℕ → List X
 scatter [] values none n = replicate n none
 scatter (k ∷ keys) [] none n = replicate n none
@@ -17,15 +17,15 @@ scatter (k ∷ keys) (x ∷ values) none n = set (scatter keys values none n) k 
 abbrev pub IsApart : List ℕ → Type 0
 IsApart keys = (i j : ℕ) → i < j → j < length keys → get_or keys i 0 ≢ get_or keys j 0
 
--- the environment and the vertices that are told: so many from the first on, or those of a list
+-- the environment and the vertices of a shard: a run of `count` from the first on, or a list
 abbrev pub listed : Places → List ℕ
 listed (Run first count) = 0 ∷ range_with_len first count
 listed (Listed list) = list.items
 
--- the environment is not in the run, and each number of that fits its type
-abbrev pub IsWithin : Places → Type 0
-IsWithin (Run first count) = (1 ≤ first) × (first + count ≤ 2 ^ 32)
-IsWithin (Listed list) = ⊤
+-- the environment is not in the run, and each number of the run fits its type
+abbrev pub ArePlacesInRange : Places → Type 0
+ArePlacesInRange (Run first count) = (1 ≤ first) × (first + count ≤ 2 ^ 32)
+ArePlacesInRange (Listed list) = ⊤
 
 -- of the numbers k, k + 1, .., k + n - 1, those at the place s
 unfoldable pub placed : (ℕ → ℕ) → ℕ → ℕ → ℕ → List ℕ
@@ -52,7 +52,7 @@ label_in r = cond r.labelled (Some r.value) None
 abbrev pub engager_in : {V : Type 0} → VertexRow V → Option ℕ
 engager_in r = cond r.engaged (Some r.engager) None
 
--- what an arc of these marks was told, if it was told anything
+-- the label that an arc of these marks was last offered, if any
 abbrev pub told_in : {V : Type 0} → ArcMarks → V → Option V
 told_in m label = cond m.told (Some label) None
 

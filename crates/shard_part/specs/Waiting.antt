@@ -18,6 +18,6 @@ module _ {S V : Type 0} where
   OutboxWaits parts =
       (p : PartData S V) × Contains parts p × ((to : ℕ) × (0 < length (get_or p.outs to [])))
 
--- an item waits in a mailbox: they weigh more than nothing where each item weighs one
+-- an item waits in a mailbox: they weigh more than nothing if each item weighs one
 abbrev pub MailWaits : {V : Type 0} → ((ℕ → Item V → ℕ) → ℕ) → Type 0
 MailWaits mail = 0 < mail (λ _ _. 1)

@@ -1,4 +1,4 @@
--- Sums over items: weights tell which items stand where, with no word on their order.
+-- Sums over items. Weights say which items are where, and nothing of their order.
 use Rattle.std.specs.Prelude.{ℕ, suc, ◌+◌, eqb, List, [], ◌∷◌}
 use Rattle.scholten_core.specs.declared.item.Item.{Item}
 use Rattle.scholten_core.specs.declared.item.Item.TheVariants.{Message as MessageOn, Signal as SignalOn}
@@ -13,11 +13,11 @@ abbrev pub total : {X : Type 0} → (X → ℕ) → List X → ℕ
 total f [] = 0
 total f (x ∷ xs) = f x + total f xs
 
--- one where the numbers are the same
+-- 1 if the numbers are the same
 abbrev pub is : ℕ → ℕ → ℕ
 is j k = one_if (eqb j k)
 
--- how many of the items stand on the arc b
+-- how many of the items are on the arc b
 abbrev pub counted : {V : Type 0} → ℕ → List (Item V) → ℕ
 counted b is' = total (λ j. is b (item_arc j)) is'
 
@@ -26,12 +26,12 @@ abbrev pub All : {X : Type 0} → (X → Type 0) → List X → Type 0
 All P [] = Unit {0}
 All P (x ∷ xs) = P x × All P xs
 
--- one for a message
+-- 1 for a message
 abbrev pub message_weight : {V : Type 0} → Item V → ℕ
 message_weight (MessageOn a x) = 1
 message_weight (SignalOn a) = 0
 
--- one for a signal
+-- 1 for a signal
 abbrev pub signal_weight : {V : Type 0} → Item V → ℕ
 signal_weight (MessageOn a x) = 0
 signal_weight (SignalOn a) = 1
@@ -69,6 +69,6 @@ module _ {V : Type 0} (N : Network) (place : ℕ → ℕ) where
   abbrev pub at_place : (ℕ → Item V → ℕ) → Item V → ℕ
   at_place h i = h (place (vertex_of N i)) i
 
-  -- the items that stand in a state, each weighed by the shard where it belongs
+  -- the items under way in a state, each weighed by the shard where it belongs
   abbrev pub in_flight : CoreState V → (ℕ → Item V → ℕ) → ℕ
   in_flight c h = sum_below (λ b. total (at_place h) (item_of b (c.token b))) (suc N.arcs)

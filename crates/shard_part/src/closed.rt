@@ -1,27 +1,27 @@
 //! What is left of a part whose question is over.
 ghost use Rattle.std.specs.Prelude.{◌≡◌};
-ghost use Rattle.shard_part.specs.PartState.{network_in, place_in, state_in};
+ghost use Rattle.shard_part.specs.PartState.{network_of, place_in, state_in};
 ghost use Rattle.shard_part.specs.LocalInvariant.{LocalInvariant};
 ghost use Rattle.shard_part.specs.Moves.{IsPlanned, IsTallied};
 ghost use Rattle.shard_part.specs.Readings.{IsOwn, tally_in};
 
-use crate::own::OwnVertices;
 use crate::shard::Shard;
 use crate::state::PartState;
-use crate::tables::{Tables, VertexTable};
+use crate::store::local_vertices::LocalVertices;
+use crate::store::tables::{Tables, VertexTable};
 use crate::tally::Tally;
 use path_algebra::PathAlgebra;
 use road_graph::Vertex;
 use std::marker::Model;
 use std::snapshot::Snapshot;
 
-/// What is left of a part whose question is over: the labels of its vertices, and what it counted. The tables of arcs, the queue and the outboxes are let go.
+/// What is left of a part whose question is over: the labels of its vertices, and what it counted. The tables of arcs, the queue and the outboxes are freed.
 #[derive(Drop)]
 pub struct ClosedPart<'g, A: PathAlgebra> {
     /// The part as it was, for contracts.
     part: Snapshot<PartState<'g, A>>,
     shard: Shard,
-    own: OwnVertices,
+    own: LocalVertices,
     vertices: VertexTable<A::Value>,
     tally: Tally,
 }
@@ -58,9 +58,10 @@ impl<'g, A: PathAlgebra> ClosedPart<'g, A> {
     /// Which shard it is.
     pub fn shard(&self) -> Shard
         ensures shard { result ≡ self.now.shard }
-        // What holds of every part, for callers that lean on it.
+        // What holds of every part, for callers that rely on it.
         ensures planned { IsPlanned self.now.setup self.now.shard }
-        ensures sound { LocalInvariant (network_in self.now.setup) (place_in self.now.setup) self.now }
+        ensures sound { LocalInvariant (network_of self.now.setup) (place_in self.now.setup)
+            self.now }
         ensures tallied { IsTallied self.now }
     {
         self.shard

@@ -1,11 +1,11 @@
 //! Facts of every plan and part, and theorems over parts and mailboxes, each the contract of a function that computes
-//! nothing: a caller calls it where its own proof needs what it promises.
+//! nothing: a caller calls it if its own proof needs what it promises.
 ghost use Rattle.std.specs.Prelude.{◌≡◌, ◌↔◌, ◌⊎◌, ◌<◌, ◌≤◌, suc, ℕ, true, List, [], ◌++◌, ◌∷◌, set, get_or};
 ghost use Rattle.scholten_core.specs.declared.item.Item.{Item};
 ghost use Rattle.scholten_core.specs.declared.event.Event.{Event};
 ghost use Rattle.scholten_core.specs.Network.{WellFormed};
 ghost use Rattle.scholten_core.specs.Diffusion.{CoreState, state_after, step, is_enabled, HasEnded};
-ghost use Rattle.shard_part.specs.PartState.{Setup, PartData, event_of, network_in, place_in};
+ghost use Rattle.shard_part.specs.PartState.{Setup, PartData, event_of, network_of, place_in};
 ghost use Rattle.shard_part.specs.Handling.{HandledItem, HandledAll};
 ghost use Rattle.shard_part.specs.Represents.{AllEnabled, HoldsShare, Represents};
 ghost use Rattle.shard_part.specs.Weights.{mail_weight};
@@ -23,7 +23,7 @@ use crate::plan::Plan;
 use crate::state::PartState;
 use path_algebra::PathAlgebra;
 
-/// What holds of every plan: it has a shard at least, and 64 at most, and each of its entries is one of them.
+/// What holds of every plan: it has at least one shard and at most 64, and each of its entries is one of them.
 pub fn plan_holds(plan: &Plan)
     ensures within { (1 ≤ plan.now.shards) × (plan.now.shards ≤ 64) }
     ensures plan { IsPlan plan.now }
@@ -31,10 +31,10 @@ pub fn plan_holds(plan: &Plan)
     plan.shards();
 }
 
-/// What holds of every part: it is planned, it keeps what it can know by itself, and its counters are exact as long as they can be.
+/// What holds of every part: it is planned, it has the local invariant, and no counter is past 2^64 - 1.
 pub fn part_holds<A: PathAlgebra>(part: &Part<'_, A>)
     ensures planned { IsPlanned part.now.setup part.now.shard }
-    ensures sound { LocalInvariant (network_in part.now.setup) (place_in part.now.setup) part.now }
+    ensures sound { LocalInvariant (network_of part.now.setup) (place_in part.now.setup) part.now }
     ensures tallied { IsTallied part.now }
 {
     part.shard();
@@ -43,83 +43,83 @@ pub fn part_holds<A: PathAlgebra>(part: &Part<'_, A>)
 /// The same of a part as it is stored.
 pub(crate) fn state_holds<A: PathAlgebra>(state: &PartState<'_, A>)
     ensures planned { IsPlanned state.now.setup state.now.shard }
-    ensures sound { LocalInvariant (network_in state.now.setup) (place_in state.now.setup) state.now }
+    ensures sound { LocalInvariant (network_of state.now.setup) (place_in state.now.setup) state.now }
     ensures tallied { IsTallied state.now }
 {
     state.shard();
 }
 
-/// What holds of every closed part: it is planned, and it keeps what a part can know by itself.
+/// What holds of every closed part: it is planned, and it has the local invariant.
 pub fn closed_part_holds<A: PathAlgebra>(part: &ClosedPart<'_, A>)
     ensures planned { IsPlanned part.now.setup part.now.shard }
-    ensures sound { LocalInvariant (network_in part.now.setup) (place_in part.now.setup) part.now }
+    ensures sound { LocalInvariant (network_of part.now.setup) (place_in part.now.setup) part.now }
 {
     part.shard();
 }
 
-/// Where all parts and mailboxes show a reached state and one part takes one item, they show what its event leads to.
+/// If all parts and mailboxes represent a reached state and one part takes one item, they represent what its event leads to.
 pub fn item_is_event<A: PathAlgebra>(_algebra: A)
-    ensures { (t : Setup A) (events : List Event) (before after : List (PartData A A.Value)) (p q : PartData A A.Value) (i : Item A.Value) (mail : (ℕ → Item A.Value → ℕ) → ℕ) → WellFormed (network_in t) →
-        Represents A.meaning t (before ++ p ∷ after) mail (state_after (A.meaning t.question.algebra) (network_in t) events) → HandledItem A.meaning p i q →
-        (is_enabled (state_after (A.meaning t.question.algebra) (network_in t) events) (event_of i) ≡ true) × Represents A.meaning t (before ++ q ∷ after) mail (step (A.meaning t.question.algebra) (network_in t) (state_after (A.meaning t.question.algebra) (network_in t) events) (event_of i)) }
+    ensures { (t : Setup A) (events : List Event) (before after : List (PartData A A.Value)) (p q : PartData A A.Value) (i : Item A.Value) (mail : (ℕ → Item A.Value → ℕ) → ℕ) → WellFormed (network_of t) →
+        Represents A.meaning t (before ++ p ∷ after) mail (state_after (A.meaning t.question.algebra) (network_of t) events) → HandledItem A.meaning p i q →
+        (is_enabled (state_after (A.meaning t.question.algebra) (network_of t) events) (event_of i) ≡ true) × Represents A.meaning t (before ++ q ∷ after) mail (step (A.meaning t.question.algebra) (network_of t) (state_after (A.meaning t.question.algebra) (network_of t) events) (event_of i)) }
 {}
 
-/// Whatever the others hold: a part that takes items makes as many enabled events of every reached state of which it holds its share.
+/// Whatever the others hold: the items that a part takes are as many enabled events of every reached state of which it holds its share.
 pub fn items_are_events<A: PathAlgebra>(_algebra: A)
-    ensures { (events : List Event) (items : List (Item A.Value)) (p q : PartData A A.Value) → WellFormed (network_in p.setup) →
-        HoldsShare A.meaning (state_after (A.meaning p.setup.question.algebra) (network_in p.setup) events) p → HandledAll A.meaning p items q →
-        (d : CoreState A.Value) × HoldsShare A.meaning d q × (q.setup ≡ p.setup) × AllEnabled A.meaning p.setup (state_after (A.meaning p.setup.question.algebra) (network_in p.setup) events) items d }
+    ensures { (events : List Event) (items : List (Item A.Value)) (p q : PartData A A.Value) → WellFormed (network_of p.setup) →
+        HoldsShare A.meaning (state_after (A.meaning p.setup.question.algebra) (network_of p.setup) events) p → HandledAll A.meaning p items q →
+        (d : CoreState A.Value) × HoldsShare A.meaning d q × (q.setup ≡ p.setup) × AllEnabled A.meaning p.setup (state_after (A.meaning p.setup.question.algebra) (network_of p.setup) events) items d }
 {}
 
-/// Where all parts and mailboxes show a reached state and one part takes items, one after the other, they show the state after as many events more, each enabled in its turn.
+/// If all parts and mailboxes represent a reached state and one part takes items, one after the other, they represent the state after that many further events, each enabled in its turn.
 pub fn items_are_shown<A: PathAlgebra>(_algebra: A)
-    ensures { (t : Setup A) (events : List Event) (before after : List (PartData A A.Value)) (p q : PartData A A.Value) (n : ℕ) (mail : (ℕ → Item A.Value → ℕ) → ℕ) → WellFormed (network_in t) →
-        Represents A.meaning t (before ++ p ∷ after) mail (state_after (A.meaning t.question.algebra) (network_in t) events) → HandledMany A.meaning p n q → IsShownOn A.meaning t events (before ++ q ∷ after) mail n }
+    ensures { (t : Setup A) (events : List Event) (before after : List (PartData A A.Value)) (p q : PartData A A.Value) (n : ℕ) (mail : (ℕ → Item A.Value → ℕ) → ℕ) → WellFormed (network_of t) →
+        Represents A.meaning t (before ++ p ∷ after) mail (state_after (A.meaning t.question.algebra) (network_of t) events) → HandledMany A.meaning p n q → IsShownOn A.meaning t events (before ++ q ∷ after) mail n }
 {}
 
-/// What parts and mailboxes show, read: on each arc the items in all places, each with the shard that it is at or going to, are just what its token stands for.
+/// How to read what parts and mailboxes represent: on each arc the items in all places, each with the shard that it is at or going to, are exactly what its token stands for.
 pub fn places_are_read<A: PathAlgebra>(_algebra: A)
-    ensures { (t : Setup A) (parts : List (PartData A A.Value)) (ms : List (ℕ × List (Item A.Value))) (c : CoreState A.Value) → Represents A.meaning t parts (mail_weight ms) c → (b : ℕ) → b < suc (network_in t).arcs →
-        on b (parts_places parts ++ mail_places ms) ≡ place_of_token (network_in t) (place_in t) b (c.token b) }
+    ensures { (t : Setup A) (parts : List (PartData A A.Value)) (ms : List (ℕ × List (Item A.Value))) (c : CoreState A.Value) → Represents A.meaning t parts (mail_weight ms) c → (b : ℕ) → b < suc (network_of t).arcs →
+        on b (parts_places parts ++ mail_places ms) ≡ place_of_token (network_of t) (place_in t) b (c.token b) }
 {}
 
-/// A batch moves from an outbox into an empty mailbox: all show the same state.
+/// A batch moves from an outbox into an empty mailbox: all represent the same state.
 pub fn publishing_shows_the_same<A: PathAlgebra>(_algebra: A)
     ensures { (t : Setup A) (before after : List (PartData A A.Value)) (p : PartData A A.Value) (to : ℕ) (boxes behind : List (ℕ × List (Item A.Value))) (c : CoreState A.Value) →
         Represents A.meaning t (before ++ p ∷ after) (mail_weight (boxes ++ (to, []) ∷ behind)) c →
         Represents A.meaning t (before ++ record p { outs = set p.outs to [] } ∷ after) (mail_weight (boxes ++ (to, get_or p.outs to []) ∷ behind)) c }
 {}
 
-/// A batch moves from a mailbox into the queue of the part that it leads to: all show the same state.
+/// A batch moves from a mailbox into the queue of the part that it leads to: all represent the same state.
 pub fn receiving_shows_the_same<A: PathAlgebra>(_algebra: A)
     ensures { (t : Setup A) (before after : List (PartData A A.Value)) (p : PartData A A.Value) (batch : List (Item A.Value)) (boxes behind : List (ℕ × List (Item A.Value))) (c : CoreState A.Value) →
         Represents A.meaning t (before ++ p ∷ after) (mail_weight (boxes ++ (p.shard, batch) ∷ behind)) c →
         Represents A.meaning t (before ++ record p { queue = p.queue ++ batch } ∷ after) (mail_weight (boxes ++ (p.shard, []) ∷ behind)) c }
 {}
 
-/// The parts of all shards as they are opened show the opening, where no mailbox weighs anything.
+/// The parts of all shards as they are opened represent the opening, if no mailbox weighs anything.
 pub fn opened_parts_show_the_opening<A: PathAlgebra>(_algebra: A)
     ensures { (t : Setup A) (mail : (ℕ → Item A.Value → ℕ) → ℕ) → IsPlanned t 0 → ((h : ℕ → Item A.Value → ℕ) → mail h ≡ 0) →
-        Represents A.meaning t (opened_parts (A.meaning t.question.algebra) t 0 t.plan.shards) mail (state_after (A.meaning t.question.algebra) (network_in t) []) }
+        Represents A.meaning t (opened_parts (A.meaning t.question.algebra) t 0 t.plan.shards) mail (state_after (A.meaning t.question.algebra) (network_of t) []) }
 {}
 
-/// Where all parts and mailboxes show a reached state, it has ended exactly where no item waits.
+/// If all parts and mailboxes represent a reached state, it has ended exactly if no item waits.
 pub fn ended_is_empty<A: PathAlgebra>(_algebra: A)
     ensures { (t : Setup A) (events : List Event) (parts : List (PartData A A.Value))
-        (mail : (ℕ → Item A.Value → ℕ) → ℕ) → WellFormed (network_in t) →
+        (mail : (ℕ → Item A.Value → ℕ) → ℕ) → WellFormed (network_of t) →
         Represents A.meaning t parts mail
-        (state_after (A.meaning t.question.algebra) (network_in t) events) →
-        HasEnded (state_after (A.meaning t.question.algebra) (network_in t) events)
+        (state_after (A.meaning t.question.algebra) (network_of t) events) →
+        HasEnded (state_after (A.meaning t.question.algebra) (network_of t) events)
         ↔ (items_waiting parts mail ≡ 0) }
 {}
 
-/// Where all parts and mailboxes show a reached state, it has ended, or an item waits in a queue,
+/// If all parts and mailboxes represent a reached state, it has ended, or an item waits in a queue,
 /// in an outbox or in a mailbox. So until the end some turn has something to do.
 pub fn an_item_waits_until_the_end<A: PathAlgebra>(_algebra: A)
     ensures { (t : Setup A) (events : List Event) (parts : List (PartData A A.Value))
-        (mail : (ℕ → Item A.Value → ℕ) → ℕ) → WellFormed (network_in t) →
+        (mail : (ℕ → Item A.Value → ℕ) → ℕ) → WellFormed (network_of t) →
         Represents A.meaning t parts mail
-        (state_after (A.meaning t.question.algebra) (network_in t) events) →
-        HasEnded (state_after (A.meaning t.question.algebra) (network_in t) events)
+        (state_after (A.meaning t.question.algebra) (network_of t) events) →
+        HasEnded (state_after (A.meaning t.question.algebra) (network_of t) events)
         ⊎ (QueueWaits parts ⊎ (OutboxWaits parts ⊎ MailWaits mail)) }
 {}

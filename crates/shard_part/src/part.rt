@@ -1,22 +1,22 @@
 //! One shard's part of a question: opened, run item by item, and closed.
 ghost use Rattle.std.specs.Prelude.{◌≡◌, ◌≢◌, ◌⊎◌, ◌+◌, ◌<◌, ◌≤◌, List, [], ◌++◌, length, get_or, set, IfOk, IsTrue, IsFalse};
 ghost use Rattle.circular_buffer.specs.Buffer.{buffer};
-ghost use Rattle.road_graph.specs.Roads.{HasVertex};
+ghost use Rattle.road_graph.specs.GraphData.{HasVertex};
 ghost use Rattle.scholten_core.specs.Network.{network};
 ghost use Rattle.scholten_core.specs.declared.event.Event.{Event};
 ghost use Rattle.scholten_core.specs.Diffusion.{state_after};
-ghost use Rattle.shard_part.specs.PartState.{network_in, place_in};
+ghost use Rattle.shard_part.specs.PartState.{network_of, place_in};
 ghost use Rattle.shard_part.specs.Capacities.{queue_bound, outbox_bound};
 ghost use Rattle.shard_part.specs.Represents.{HoldsShare};
 ghost use Rattle.shard_part.specs.Opening.{opened_part};
 ghost use Rattle.shard_part.specs.Exchange.{Fits};
 ghost use Rattle.shard_part.specs.Part.{HandledFront, HandledMany, IsRunOn};
 
-use crate::batch::Batch;
 use crate::closed::ClosedPart;
 use crate::plan::Plan;
 use crate::shard::Shard;
 use crate::state::PartState;
+use crate::store::batch::Batch;
 use path_algebra::{PathAlgebra, laws_hold};
 use road_graph::{Graph, Memory, Vertex};
 use std::alloc::Global;
@@ -41,7 +41,7 @@ impl<'g, A: PathAlgebra> Model for Part<'g, A> {
 }
 
 impl<'g, A: PathAlgebra> Part<'g, A> {
-    /// The part of one shard before any event. At the source's the message of the environment waits, with the origin as its value.
+    /// The part of one shard before any event. At the source's part the message of the environment waits, with the origin as its value.
     /// Its queue has a place for each arc with an end in the shard, each outbox one for each arc between the two shards: no later call takes memory.
     pub fn open(
         alloc: Global,
@@ -54,8 +54,13 @@ impl<'g, A: PathAlgebra> Part<'g, A> {
         requires source { HasVertex graph.now source }
         requires plan { length plan.now.list ≡ graph.now.vertices }
         requires shard { shard < plan.now.shards }
-        ensures part { IfOk result (λ p. p ≡ opened_part (A.meaning algebra) (record { question = record { algebra = algebra; roads = graph.now; source = source }; plan = plan.now }) shard) }
-        ensures share { IfOk result (λ p. HoldsShare A.meaning (state_after (A.meaning algebra) (network graph.now source) []) p) }
+        ensures part { IfOk result (λ p. p ≡ opened_part (A.meaning algebra)
+            (record {
+              question = record { algebra = algebra; roads = graph.now; source = source };
+              plan = plan.now;
+            }) shard) }
+        ensures share { IfOk result (λ p. HoldsShare A.meaning (state_after (A.meaning algebra)
+            (network graph.now source) []) p) }
     {
         let state = PartState::open(alloc, algebra, graph, plan, shard, source)?;
         Ok(Part { state })
@@ -72,15 +77,17 @@ impl<'g, A: PathAlgebra> Part<'g, A> {
     /// Takes items off the front of the queue and handles them, one after the other, until the budget is used up or the queue is empty, and says how many.
     ///
     /// What an item makes goes to the back of the queue if it belongs to this shard, else to the back of the outbox to its shard.
-    /// Whatever the other parts hold: where this part held its share of a state that some events lead to, the items are as many events more, each enabled in its turn,
-    /// and the part holds its share of the state that they lead to. Its counters have gone on by what these events sent, delivered, signalled and accepted, up to 2^64 - 1.
+    /// Whatever the other parts hold: if this part held its share of a state that some events lead to, the items are that many further events, each enabled in its turn,
+    /// and the part holds its share of the state that they lead to. Its counters have grown by what these events sent, delivered, signalled and accepted, up to 2^64 - 1.
     pub fn handle(&mut self, budget: u32) -> u32
         ensures budget { result ≤ budget }
         ensures all { (result ≡ budget) ⊎ (self.new.queue ≡ []) }
         ensures taken { HandledMany A.meaning self.old result self.new }
         ensures setup { self.new.setup ≡ self.old.setup }
         ensures shard { self.new.shard ≡ self.old.shard }
-        ensures events { (events : List Event) → HoldsShare A.meaning (state_after (A.meaning self.old.setup.question.algebra) (network_in self.old.setup) events) self.old → IsRunOn A.meaning events self.old result self.new }
+        ensures events { (events : List Event) → HoldsShare A.meaning
+            (state_after (A.meaning self.old.setup.question.algebra) (network_of self.old.setup)
+            events) self.old → IsRunOn A.meaning events self.old result self.new }
     {
         laws_hold(self.state.algebra());
         for taken in 0..budget {
@@ -98,7 +105,8 @@ impl<'g, A: PathAlgebra> Part<'g, A> {
         requires other { to ≢ self.old.shard }
         requires shard { to < self.old.setup.plan.shards }
         requires empty { batch.old.items ≡ [] }
-        requires capacity { batch.old.capacity ≡ outbox_bound (network_in self.old.setup) (place_in self.old.setup) self.old.shard to }
+        requires capacity { batch.old.capacity ≡ outbox_bound (network_of self.old.setup)
+            (place_in self.old.setup) self.old.shard to }
         ensures part { self.new ≡ record self.old { outs = set self.old.outs to [] } }
         ensures batch { batch.new ≡ buffer (get_or self.old.outs to []) batch.old.capacity }
     {
@@ -107,7 +115,8 @@ impl<'g, A: PathAlgebra> Part<'g, A> {
 
     /// Appends all items of a batch to the queue, in order, and leaves the batch empty.
     pub fn receive(&mut self, batch: &mut Batch<A::Value>)
-        requires room { length self.old.queue + length batch.old.items ≤ queue_bound (network_in self.old.setup) (place_in self.old.setup) self.old.shard }
+        requires room { length self.old.queue + length batch.old.items ≤ queue_bound
+            (network_of self.old.setup) (place_in self.old.setup) self.old.shard }
         requires fits { Fits (A.meaning self.old.setup.question.algebra) self.old batch.old.items }
         ensures part { self.new ≡ record self.old { queue = self.old.queue ++ batch.old.items } }
         ensures batch { batch.new ≡ buffer [] batch.old.capacity }
@@ -115,7 +124,7 @@ impl<'g, A: PathAlgebra> Part<'g, A> {
         self.state.receive(batch)
     }
 
-    /// Lets the tables of arcs, the queue and the outboxes go, and keeps the labels of the vertices and the counts.
+    /// Frees the tables of arcs, the queue and the outboxes, and keeps the labels of the vertices and the counts.
     pub fn close(self) -> ClosedPart<'g, A>
         ensures { result ≡ self.entry }
     {
@@ -124,7 +133,7 @@ impl<'g, A: PathAlgebra> Part<'g, A> {
     }
 }
 
-/// All that may be read of a part is read of its state.
+/// What may be read of a part is read from its state.
 impl<'g, A: PathAlgebra> Deref for Part<'g, A> {
     type Target = PartState<'g, A>;
 

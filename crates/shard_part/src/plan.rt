@@ -1,6 +1,6 @@
 //! Which shard each vertex belongs to.
 ghost use Rattle.std.specs.Prelude.{◌≡◌, ℕ, ◌+◌, ◌-◌, ◌*◌, ◌/◌, ◌<◌, ◌≤◌, ◌^◌, length, slice_index_or, IfOk, MatchResult, MatchOption};
-ghost use Rattle.shard_part.specs.Plans.{PlanData, IsPlan, shard_in, HasPlanned, IsBlocks, IsFirstBad, IsBad, IsBelow};
+ghost use Rattle.shard_part.specs.Plans.{PlanData, IsPlan, shard_in, HasPlanned, IsBlocks, IsFirstBadEntry, IsBad, IsBelow};
 
 use crate::shard::Shard;
 use road_graph::{Memory, Vertex};
@@ -42,11 +42,12 @@ impl Plan {
         Ok(Plan { shards: s, list })
     }
 
-    /// The plan that a list tells: entry i is the shard of vertex i + 1. Refused at the first entry that is s or more, with the list.
+    /// The plan that a list gives: entry i is the shard of vertex i + 1. Refused at the first entry that is s or more; the list comes back.
     pub fn table(s: u8, list: Vec<u8>) -> Result<Plan, (PlanFault, Vec<u8>)>
         requires vertices { length list.items ≤ 2 ^ 25 }
         requires shards { (1 ≤ s) × (s ≤ 64) }
-        ensures { MatchResult result (λ p. p ≡ record { shards = s; list = list.items }) (λ e. IsBad s list.items e.0 × (e.1.items ≡ list.items)) }
+        ensures { MatchResult result (λ p. p ≡ record { shards = s; list = list.items })
+            (λ e. IsBad s list.items e.0 × (e.1.items ≡ list.items)) }
     {
         match first_bad(s, &list) {
             Some(v) => Err((PlanFault::BadShard(v), list)),
@@ -58,7 +59,7 @@ impl Plan {
     pub fn shards(&self) -> u8
         ensures count { result ≡ self.now.shards }
         ensures within { (1 ≤ result) × (result ≤ 64) }
-        // What holds of every plan, for callers that lean on it.
+        // What holds of every plan, for callers that rely on it.
         ensures plan { IsPlan self.now }
     {
         self.shards
@@ -97,7 +98,9 @@ fn block_of(i: u32, s: u8, n: u32) -> u8
 fn block_list(alloc: Global, n: u32, s: u8) -> Result<Vec<u8>, AllocError>
     requires vertices { n ≤ 2 ^ 25 }
     requires shards { (1 ≤ s) × (s ≤ 64) }
-    ensures { IfOk result (λ list. (length list.items ≡ n) × ((i : ℕ) → i < n → (slice_index_or list.items i 0 ≡ i * s / n) × (slice_index_or list.items i 0 < s))) }
+    ensures { IfOk result (λ list. (length list.items ≡ n) ×
+        ((i : ℕ) → i < n → (slice_index_or list.items i 0 ≡ i * s / n) ×
+        (slice_index_or list.items i 0 < s))) }
 {
     let mut list = Vec::with_capacity(alloc, n as usize)?;
     for i in 0..n {
@@ -109,7 +112,7 @@ fn block_list(alloc: Global, n: u32, s: u8) -> Result<Vec<u8>, AllocError>
 /// The first vertex whose entry is s or more.
 fn first_bad(s: u8, list: &[u8]) -> Option<Vertex>
     requires { length list.now ≤ 2 ^ 25 }
-    ensures { MatchOption result (IsBelow s list.now) (IsFirstBad s list.now) }
+    ensures { MatchOption result (IsBelow s list.now) (IsFirstBadEntry s list.now) }
 {
     for (i, shard) in list.iter().enumerate() {
         if *shard >= s {

@@ -5,7 +5,7 @@ use road_graph::{Graph, Vertex};
 use std::marker::Model;
 use std::snapshot::Snapshot;
 
-/// What all parts of a question share, for contracts. It holds the graph and the plan in words alone, so it lives as long as one likes.
+/// What all parts of a question share, for contracts. It has the graph and the plan as snapshots alone, so it may outlive both.
 #[derive(Drop)]
 pub struct Question<A> {
     pub(crate) algebra: A,

@@ -1,6 +1,6 @@
 //! One shard's part of a diffusing computation, as it is stored.
 ghost use Rattle.std.specs.Prelude.{◌≡◌};
-ghost use Rattle.shard_part.specs.PartState.{network_in, place_in};
+ghost use Rattle.shard_part.specs.PartState.{network_of, place_in};
 ghost use Rattle.scholten_core.specs.Network.{WellFormed};
 ghost use Rattle.shard_part.specs.Moves.{IsPlanned, IsTallied};
 ghost use Rattle.shard_part.specs.LocalInvariant.{LocalInvariant};
@@ -12,16 +12,16 @@ mod readings;
 mod sending;
 mod stored;
 
-use crate::batch::Batch;
 use crate::plan::Plan;
-use crate::queue::Queue;
 use crate::shard::Shard;
-use crate::tables::Tables;
+use crate::store::batch::Batch;
+use crate::store::queue::Queue;
+use crate::store::tables::Tables;
 use path_algebra::PathAlgebra;
 use road_graph::{Graph, Vertex};
 use std::marker::Model;
 
-/// The tables, the queue and the outboxes of one shard, with the moves of which its events are made.
+/// The tables, the queue and the outboxes of one shard, with the moves that its events are made of.
 #[derive(Drop)]
 pub struct PartState<'g, A: PathAlgebra> {
     algebra: A,
@@ -54,7 +54,7 @@ impl<'g, A: PathAlgebra> PartState<'g, A> {
     /// The algebra of the question.
     pub(crate) fn algebra(&self) -> A
         ensures algebra { result ≡ self.now.setup.question.algebra }
-        ensures formed { WellFormed (network_in self.now.setup) }
+        ensures formed { WellFormed (network_of self.now.setup) }
         ensures tallied { IsTallied self.now }
     {
         self.algebra
@@ -63,9 +63,10 @@ impl<'g, A: PathAlgebra> PartState<'g, A> {
     /// Which shard it is.
     pub fn shard(&self) -> Shard
         ensures shard { result ≡ self.now.shard }
-        // What holds of every part, for callers that lean on it.
+        // What holds of every part, for callers that rely on it.
         ensures planned { IsPlanned self.now.setup self.now.shard }
-        ensures sound { LocalInvariant (network_in self.now.setup) (place_in self.now.setup) self.now }
+        ensures sound { LocalInvariant (network_of self.now.setup) (place_in self.now.setup)
+            self.now }
         ensures tallied { IsTallied self.now }
     {
         self.shard

@@ -20,7 +20,13 @@ pub struct Tally {
 impl Tally {
     /// Nothing was counted.
     pub fn new() -> Tally
-        ensures { result ≡ record { sent = 0; delivered = 0; signalled = 0; accepted = 0; full = false } }
+        ensures { result ≡ record {
+          sent = 0;
+          delivered = 0;
+          signalled = 0;
+          accepted = 0;
+          full = false;
+        } }
     {
         Tally {
             sent: 0,
@@ -31,7 +37,7 @@ impl Tally {
         }
     }
 
-    /// So many more messages were sent.
+    /// Counts this many more messages as sent.
     pub fn add_sent(&mut self, count: u64)
         ensures { self.new ≡ more_sent count self.old }
     {
@@ -39,7 +45,7 @@ impl Tally {
         self.sent = self.sent.saturating_add(count);
     }
 
-    /// So many more messages were handled.
+    /// Counts this many more messages as handled.
     pub fn add_delivered(&mut self, count: u64)
         ensures { self.new ≡ more_delivered count self.old }
     {
@@ -47,7 +53,7 @@ impl Tally {
         self.delivered = self.delivered.saturating_add(count);
     }
 
-    /// So many more signals were made.
+    /// Counts this many more signals as made.
     pub fn add_signalled(&mut self, count: u64)
         ensures { self.new ≡ more_signalled count self.old }
     {
@@ -55,7 +61,7 @@ impl Tally {
         self.signalled = self.signalled.saturating_add(count);
     }
 
-    /// So many more signals were handled.
+    /// Counts this many more signals as handled.
     pub fn add_accepted(&mut self, count: u64)
         ensures { self.new ≡ more_accepted count self.old }
     {
@@ -63,7 +69,7 @@ impl Tally {
         self.accepted = self.accepted.saturating_add(count);
     }
 
-    /// All that another tally counted is counted here too.
+    /// Counts here all that another tally counted.
     pub fn add(&mut self, other: &Tally)
         ensures { self.new ≡ together other.now self.old }
     {
@@ -75,7 +81,7 @@ impl Tally {
     }
 }
 
-/// The sum is at the counter's top or would be beyond it.
+/// Whether the sum is at the counter's top or would be beyond it.
 fn reaches_top(counter: u64, count: u64) -> bool
     ensures { result ≡ leb (2 ^ 64 - 1) (counter + count) }
 {

@@ -8,7 +8,7 @@ use Rattle.scholten_core.proofs.EveryAccount.{totals_are_equal}
 use Rattle.scholten_core.proofs.EveryRun.{ended_is_quiet}
 use Rattle.shard_part.specs.declared.tally.Tally.{Tally}
 use Rattle.shard_part.specs.Moves.{IsPlanned}
-use Rattle.shard_part.specs.PartState.{Setup, network_in}
+use Rattle.shard_part.specs.PartState.{Setup, network_of}
 use Rattle.shard_part.specs.Weights.{All, total}
 use Rattle.shard_part.specs.Tallies.{tally_of}
 use Rattle.shard_part.proofs.Showing.{AllLawful}
@@ -40,7 +40,7 @@ module _ {S V : Type 0} (meaning : S → Algebra V) (L : AllLawful meaning) wher
       → AreBest (meaning t.question.algebra) t.question.roads (t.question.source ∷ []) labels
       → AllSeated t.plan.shards seats → AreHanded id all [] seats tally → AreJoined w spent seats → FinalView meaning t w words homes → IsGathered meaning t (record { labels = labels; tally = tally })
   gathered t s id all seats tally labels w words homes P best seated h J C =
-      let A = meaning t.question.algebra in let T = totals_of A (network_in t) C.events in
+      let A = meaning t.question.algebra in let T = totals_of A (network_of t) C.events in
       let few : 0 < t.plan.shards = let l = P.shard in omega (arith, l) in
       let over = C.seen (seen_there t.plan.shards w spent seats few seated h.seen J) in
       let one : (x y z : ℕ) → x ≡ 0 + y → x + 0 ≡ z → y ≡ z = λ x y z e f. omega (arith, e, f) in

@@ -8,7 +8,7 @@ use Rattle.scholten_core.specs.Network.{Network}
 use Rattle.scholten_core.specs.Diffusion.{CoreState, better_of, pump, out_idle, freed}
 use Rattle.scholten_core.proofs.Basics.{better_tells, put_tells}
 use Rattle.shard_part.specs.Arriving.{joined}
-use Rattle.shard_part.specs.PartState.{PartData, Setup, network_in, place_in, state_in}
+use Rattle.shard_part.specs.PartState.{PartData, Setup, network_of, place_in, state_in}
 use Rattle.shard_part.specs.Handling.{arrive_here, rest_here, settle_here, settle_tail_here, taken, HandledAll}
 use Rattle.shard_part.specs.Part.{HandledMany}
 use Rattle.shard_part.proofs.Showing.{AllLawful}
@@ -52,7 +52,7 @@ module _ {S V : Type 0} (meaning : S → Algebra V) (L : AllLawful meaning) wher
   all_items (i ∷ is) p q v own (m, T, rest) = let A = meaning p.setup.question.algebra in
       let here : place_in m.setup v ≡ m.shard = ap (λ (t : Setup S). place_in t v) T.setup ∙ own ∙ sym T.shard in
       improved_twice A (L p.setup.question.algebra) _ ((state_in m).label v) _
-      (subst (λ z. StaysOrImproves A ((state_in p).label v) z) (sym (T.tables.label v (eq-eqb _ _ own))) (one_item A (network_in p.setup) (L p.setup.question.algebra) i (state_in p) v))
+      (subst (λ z. StaysOrImproves A ((state_in p).label v) z) (sym (T.tables.label v (eq-eqb _ _ own))) (one_item A (network_of p.setup) (L p.setup.question.algebra) i (state_in p) v))
       (subst (λ (t : Setup S). StaysOrImproves (meaning t.question.algebra) ((state_in m).label v) ((state_in q).label v)) T.setup (all_items is m q v here rest))
 
 -- what a batch that comes in, or an outbox that goes off, leaves of a part

@@ -8,7 +8,7 @@ use Rattle.scholten_core.specs.declared.token.Token.{Token}
 use Rattle.scholten_core.specs.Diffusion.{CoreState, is_idle}
 use Rattle.scholten_core.specs.Items.{item_of}
 use Rattle.scholten_core.proofs.EveryRun.{ended_is_best}
-use Rattle.shard_part.specs.PartState.{PartData, network_in, place_in, token_if}
+use Rattle.shard_part.specs.PartState.{PartData, network_of, place_in, token_if}
 use Rattle.shard_part.specs.Weights.{total, in_flight, at_place}
 use Rattle.shard_part.specs.Moves.{IsPlanned}
 use Rattle.shard_part.proofs.Weights.{sum_below_same, sum_zero}
@@ -24,7 +24,7 @@ not_busy V false e = refl
 module _ {S V : Type 0} (meaning : S → Algebra V) where
   pub is_over : (p : PartData S V) (s : ℕ) → IsLawful (meaning p.setup.question.algebra) → IsPlanned p.setup s → HoldsEndedShare meaning p → IsOverPart meaning p
   is_over p s L P (events, H, h, Q) =
-      let A = meaning p.setup.question.algebra in let N = network_in p.setup in let place = place_in p.setup in
+      let A = meaning p.setup.question.algebra in let N = network_of p.setup in let place = place_in p.setup in
       let c : CoreState V = core_of meaning p.setup events in
       let B = ended_is_best A p.setup.question.roads p.setup.question.source L P.roads P.source.0 events h in
       let one : ℕ → Item V → ℕ = λ _ _. 1 in

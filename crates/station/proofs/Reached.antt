@@ -2,12 +2,12 @@
 use Rattle.std.proofs.Common.{◌≡◌, ℕ, suc, ◌+◌, ◌<◌, ◌≤◌, Bool, false, ◌||◌, leb, min, length, sym, ◌∙◌, arith}
 use Rattle.std.proofs.lemmas.Bool.{lt-leb}
 use Rattle.path_algebra.specs.Given.{reach}
-use Rattle.road_graph.specs.Roads.{Roads}
+use Rattle.road_graph.specs.GraphData.{GraphData}
 use Rattle.scholten_core.specs.Accounts.{Totals, totals_of, AreEqualTotals, AreMarksOfReached, count_marked}
 use Rattle.scholten_core.specs.Sums.{one_if}
 use Rattle.scholten_core.proofs.EveryAccount.{reach_sends_once}
 use Rattle.scholten_core.proofs.Sums.{one_if-most, sum_most, sum_ones}
-use Rattle.shard_part.specs.PartState.{Setup, network_in}
+use Rattle.shard_part.specs.PartState.{Setup, network_of}
 use Rattle.shard_part.specs.Tallies.{top, tally_of}
 use Rattle.station.specs.declared.gathering.Gathered.{Gathered}
 use Rattle.station.specs.Gather.{IsGathered, each_shows}
@@ -27,7 +27,7 @@ shown T n l e (s, d, a) =
     }
 
 -- no more arcs have a mark than there are
-marked_at_most : (g : Roads) (marked : ℕ → Bool) → count_marked g marked ≤ length g.arcs
+marked_at_most : (g : GraphData) (marked : ℕ → Bool) → count_marked g marked ≤ length g.arcs
 marked_at_most g marked =
     let m = sum_most (λ b. one_if (marked (suc b))) (λ b. 1) (length g.arcs) (λ b. one_if-most (marked (suc b))) in
     let o = sum_ones (length g.arcs) in omega (arith, m, o)
@@ -37,4 +37,4 @@ pub once_an_arc : {S : Type 0} (t : Setup S) (g : Gathered (Unit {0})) → IsGat
 once_an_arc t g G marked M =
     let sent = reach_sends_once t.question.roads t.question.source G.roads G.source G.events G.ended marked M in
     let most = marked_at_most t.question.roads marked in let few = G.roads.few_arcs in
-    G.tally ∙ shown (totals_of reach (network_in t) G.events) (1 + count_marked t.question.roads marked) (omega (arith, most, few)) sent G.equal
+    G.tally ∙ shown (totals_of reach (network_of t) G.events) (1 + count_marked t.question.roads marked) (omega (arith, most, few)) sent G.equal

@@ -8,7 +8,7 @@ use Rattle.scholten_core.specs.declared.event.Event.{Event}
 use Rattle.scholten_core.specs.Diffusion.{state_after}
 use Rattle.scholten_core.proofs.EveryRun.{labels_are_walk_values}
 use Rattle.shard_part.specs.Moves.{IsPlanned}
-use Rattle.shard_part.specs.PartState.{PartData, network_in, place_in, state_in}
+use Rattle.shard_part.specs.PartState.{PartData, network_of, place_in, state_in}
 use Rattle.shard_part.specs.Weights.{in_flight, part_weight}
 use Rattle.shard_part.specs.Represents.{HoldsShare}
 use Rattle.shard_part.specs.Part.{HandledMany, IsRunOn}
@@ -20,7 +20,7 @@ use Rattle.post_floor.specs.Boxes.{box_count, mailbox}
 use Rattle.post_floor.specs.Data.{FloorData, SeatData, fill_box, read_box}
 use Rattle.post_floor.specs.Floor.{core_of}
 use Rattle.post_floor.specs.Plays.{IsViewOf, HoldsReachedShare}
-use Rattle.station.specs.Station.{StationData, BelongsTo, HasEnded, IsStation}
+use Rattle.station.specs.Station.{StationData, BelongsTo, ReportedEnd, IsStation}
 use Rattle.station.specs.declared.turn.Report.{Report}
 use Rattle.station.specs.Steps.{AreReady, AllCameIn, AllTriedFrom, AllTriedTo, Looked}
 use Rattle.post_floor.specs.declared.view.WordStep.{WordStep}
@@ -70,7 +70,7 @@ module _ {S V : Type 0} where
 module _ {S V : Type 0} (meaning : S → Algebra V) where
   -- no item was handled
   none_on : (p : PartData S V) (v : View S V) → IsViewOf v p → (before : List Event) → HoldsShare meaning (core_of meaning p.setup before) p → IsRunOn meaning before p 0 p
-  none_on p v s before H = let A = meaning p.setup.question.algebra in let N = network_in p.setup in record {
+  none_on p v s before H = let A = meaning p.setup.question.algebra in let N = network_of p.setup in record {
     items = [];
     count = refl;
     handled = refl;
@@ -84,7 +84,7 @@ module _ {S V : Type 0} (meaning : S → Algebra V) where
   }
 
   -- a turn after the end
-  pub rested : AllLawful meaning → (f : FloorData S) (budget : ℕ) (s : StationData S V) → IsStation meaning s → HasEnded s → BelongsTo f s
+  pub rested : AllLawful meaning → (f : FloorData S) (budget : ℕ) (s : StationData S V) → IsStation meaning s → ReportedEnd s → BelongsTo f s
       → Turned meaning f budget s (record { handled = 0; taken = 0; published = 0; ended = true }) s
   rested L f budget s i e b = record {
     own = b;

@@ -1,13 +1,13 @@
 -- The stations of an ended question, and the answer that is gathered from them.
 use Rattle.std.specs.Prelude.{◌≡◌, ◌≢◌, ℕ, ◌<◌, false, List, length, get_or}
 use Rattle.std.specs.List.{All, HoldsAt}
-use Rattle.road_graph.specs.Roads.{IsRoads, HasVertex}
+use Rattle.road_graph.specs.GraphData.{IsGraph, HasVertex}
 use Rattle.path_algebra.specs.Algebra.{Algebra}
 use Rattle.scholten_core.specs.declared.event.Event.{Event}
 use Rattle.scholten_core.specs.Accounts.{Totals, totals_of, AreEqualTotals}
 use Rattle.scholten_core.specs.Diffusion.{HasEnded, IsQuiet}
 use Rattle.shard_part.specs.declared.tally.Tally.{Tally}
-use Rattle.shard_part.specs.PartState.{Setup, network_in}
+use Rattle.shard_part.specs.PartState.{Setup, network_of}
 use Rattle.shard_part.specs.Weights.{total}
 use Rattle.shard_part.specs.Tallies.{tally_of}
 use Rattle.post_floor.specs.Data.{SeatData}
@@ -46,23 +46,23 @@ module _ {S V : Type 0} where
   abbrev pub IsFirstMissing : ℕ → List (StationData S V) → ℕ → Type 0
   IsFirstMissing n stations j = (j < n) × IsMissing stations j × AllThere j stations
 
-  -- why the answer was not gathered: a shard's station is missing, the least such shard; or all are there, and there was no memory
+  -- why the answer was not gathered: a shard's station is missing, the least such shard; or all are there, and memory was refused
   abbrev pub IsGatherFault : ℕ → List (StationData S V) → GatherFault → Type 0
   IsGatherFault n stations (Missing j) = IsFirstMissing n stations j
   IsGatherFault n stations Memory = AllThere n stations
 
 -- The question is about a graph, from one of its vertices. Labels are best. Some events, counted in full, lead to a state that has ended
--- and is quiet; each counter of the tally is the lesser of its total and its top, full exactly where a total reaches that, and all totals
+-- and is quiet; each counter of the tally is the lesser of its total and its top, full exactly if a total reaches that, and all totals
 -- are the same.
 pub record IsGathered {S V : Type 0} (meaning : S → Algebra V) (t : Setup S) (g : Gathered V) : Type 0 where
-  pub roads : IsRoads t.question.roads
+  pub roads : IsGraph t.question.roads
   pub source : HasVertex t.question.roads t.question.source
   pub labels : AreBestFor meaning t g.labels
   pub events : List Event
   pub ended : HasEnded (core_of meaning t events)
   pub quiet : IsQuiet (core_of meaning t events)
-  pub tally : g.tally ≡ tally_of (totals_of (meaning t.question.algebra) (network_in t) events)
-  pub equal : AreEqualTotals (totals_of (meaning t.question.algebra) (network_in t) events)
+  pub tally : g.tally ≡ tally_of (totals_of (meaning t.question.algebra) (network_of t) events)
+  pub equal : AreEqualTotals (totals_of (meaning t.question.algebra) (network_of t) events)
 
 -- what seats have counted together
 abbrev pub counts_of : {S V : Type 0} → List (SeatData S V) → Totals
@@ -73,6 +73,6 @@ counts_of seats = record {
   accepted = total (λ d. d.knows.accepted) seats;
 }
 
--- all four counters show n, which is below their top
+-- all four counters are n, which is below their top
 abbrev pub each_shows : ℕ → Tally
 each_shows n = record { sent = n; delivered = n; signalled = n; accepted = n; full = false }

@@ -8,7 +8,7 @@ use Rattle.post_floor.specs.Data.{SeatData}
 use Rattle.station.specs.Gather.{counts_of}
 use Rattle.station.specs.Station.{StationData}
 
--- seats of one floor that have seen the end; together with the stations that are left they are of the shards of all stations, and the tally is theirs
+-- seats of one floor that have seen the end; together with the stations that are left they are of the shards of all stations, and the tally counts what they did
 pub record AreHanded {S V : Type 0} (id : TableId) (all left : List (StationData S V)) (seats : List (SeatData S V)) (tally : Tally) : Type 0 where
   pub own : All (λ d. d.floor ≡ id) seats
   pub seen : All (λ d. d.knows.seen ≡ true) seats

@@ -3,7 +3,7 @@ use Rattle.std.specs.Prelude.{◌≡◌, ℕ, false, List, [], ◌∷◌, map}
 use Rattle.std.specs.List.{All}
 use Rattle.atomic_table.specs.Seated.{TableId}
 use Rattle.path_algebra.specs.Algebra.{Algebra}
-use Rattle.road_graph.specs.Roads.{Roads}
+use Rattle.road_graph.specs.GraphData.{GraphData}
 use Rattle.shard_part.specs.Plans.{PlanData}
 use Rattle.shard_part.specs.PartState.{Setup, PartData}
 use Rattle.post_floor.specs.Data.{FloorData, seat_of, first_parts}
@@ -12,14 +12,14 @@ use Rattle.post_floor.specs.Seats.{knows}
 use Rattle.station.specs.Station.{StationData, BelongsTo}
 
 -- what all parts of a question share, by its algebra, roads, source and plan
-abbrev pub setup_of : {S : Type 0} → S → Roads → ℕ → PlanData → Setup S
+abbrev pub setup_of : {S : Type 0} → S → GraphData → ℕ → PlanData → Setup S
 setup_of algebra roads source plan = record { question = record { algebra = algebra; roads = roads; source = source }; plan = plan }
 
 -- the station of a part as it is opened, at a floor of n shards
 abbrev pub station_of : {S V : Type 0} → TableId → ℕ → PartData S V → StationData S V
 station_of id n p = record { part = p; seat = seat_of id n p; ended = false }
 
--- the part is of the floor's question, its seat shows it, and it holds its share of a state
+-- the part is of the floor's question, its seat's view has it, and it holds its share of a state
 abbrev pub IsFreshPart : {S V : Type 0} → (S → Algebra V) → FloorData S → PartData S V → Type 0
 IsFreshPart meaning f p = (p.setup ≡ f.setup) × IsViewOf (knows f.setup.plan.shards (p ∷ [])) p × HoldsReachedShare meaning p
 

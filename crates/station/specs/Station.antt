@@ -2,7 +2,7 @@
 use Rattle.std.specs.Prelude.{◌≡◌, ℕ, Bool, true, false, Option, None, List, [], ◌∷◌, get_or}
 use Rattle.path_algebra.specs.Algebra.{Algebra}
 use Rattle.path_algebra.specs.Walks.{IsBestLabel, AreBest}
-use Rattle.shard_part.specs.PartState.{Setup, PartData, network_in, place_in, state_in}
+use Rattle.shard_part.specs.PartState.{Setup, PartData, network_of, place_in, state_in}
 use Rattle.shard_part.specs.Readings.{IsOwn}
 use Rattle.post_floor.specs.declared.view.View.{View}
 use Rattle.post_floor.specs.Plays.{IsViewOf, HoldsReachedShare, HoldsEndedShare}
@@ -28,19 +28,19 @@ pub record BelongsTo {S V : Type 0} (f : FloorData S) (s : StationData S V) : Ty
   pub setup : s.part.setup ≡ f.setup
 
 -- its last turn reported the end
-abbrev pub HasEnded : {S V : Type 0} → StationData S V → Type 0
-HasEnded s = s.ended ≡ true
+abbrev pub ReportedEnd : {S V : Type 0} → StationData S V → Type 0
+ReportedEnd s = s.ended ≡ true
 
--- no mailbox is in its hands
+-- it is filling no mailbox and reading none
 abbrev pub IsFree : {S V : Type 0} → View S V → Type 0
 IsFree v = (v.fills ≡ []) × (v.reads ≡ [])
 
 module _ {S V : Type 0} (meaning : S → Algebra V) where
-  -- nothing is under way in the part, and each label of its vertices is best: none exactly where no walk has a value
+  -- nothing is under way in the part, and each label of its vertices is best: none exactly if no walk has a value
   pub record IsOverPart (p : PartData S V) : Type 0 where
     pub best : (v : ℕ) → IsOwn p v → IsBestFor meaning p.setup v ((state_in p).label v)
     pub neutral : (v : ℕ) → IsOwn p v → (state_in p).engager v ≡ None
-    pub idle : (b : ℕ) → place_in p.setup ((network_in p.setup).tail b) ≡ p.shard → get_or p.busy b false ≡ false
+    pub idle : (b : ℕ) → place_in p.setup ((network_of p.setup).tail b) ≡ p.shard → get_or p.busy b false ≡ false
     pub queue : p.queue ≡ []
     pub outs : (j : ℕ) → get_or p.outs j [] ≡ []
 
@@ -51,11 +51,11 @@ module _ {S V : Type 0} (meaning : S → Algebra V) where
     pub ended : HoldsEndedShare meaning s.part
     pub part : IsOverPart s.part
 
-  -- What holds of every station between two turns: its view shows its part, no mailbox is in its hands, the part holds its share of
-  -- a state that some events lead to, and where the last turn reported the end, the question is over.
+  -- What holds of every station between two turns: its view has its part, it is filling no mailbox and reading none, the part holds its share
+  -- of a state that some events lead to, and if the last turn reported the end, the question is over.
   pub record IsStation (s : StationData S V) : Type 0 where
     pub shard : s.seat.shard ≡ s.part.shard
     pub shows : IsViewOf s.seat.knows s.part
     pub free : IsFree s.seat.knows
     pub known : HoldsReachedShare meaning s.part
-    pub over : HasEnded s → IsOver s
+    pub over : ReportedEnd s → IsOver s

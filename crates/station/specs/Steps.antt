@@ -12,7 +12,7 @@ use Rattle.station.specs.Tries.{at, if_found, IsTry, AreTries, used}
 use Rattle.station.specs.Turn.{received, SentOff}
 
 module _ {S V : Type 0} where
-  -- the seat is one of the floor's, and shows the part, which is of its question; no mailbox is in its hands
+  -- the seat is one of the floor's, and its view has the part, which is of the floor's question; it is filling no mailbox and reading none
   pub record AreReady (f : FloorData S) (d : SeatData S V) (p : PartData S V) : Type 0 where
     pub floor : d.floor ≡ f.id
     pub setup : p.setup ≡ f.setup
@@ -20,13 +20,13 @@ module _ {S V : Type 0} where
     pub free : IsFree d.knows
     pub shows : IsViewOf d.knows p
 
-  -- the same, but the part may have gone on by items of its own since the view showed it
+  -- the same, except that the part may have moved on from the one in the view by items of its own
   pub record AreBehind (meaning : S → Algebra V) (f : FloorData S) (d : SeatData S V) (p : PartData S V) : Type 0 where
     pub at : IsAt meaning f d p
     pub shard : d.shard ≡ p.shard
     pub free : IsFree d.knows
 
-  -- the outbox to another shard was sent off, and was not empty, or nothing was
+  -- the outbox to another shard was published, and was not empty, or nothing was
   abbrev pub WentOff : Bool → ℕ → PartData S V → PartData S V → Type 0
   WentOff true to p q = (to ≢ p.shard) × (get_or p.outs to [] ≢ []) × (q ≡ published_to to p)
   WentOff false to p q = q ≡ p
@@ -38,7 +38,7 @@ module _ {S V : Type 0} where
     pub next_read : e.knows.next_read ≡ used (if_found found from) d.knows.next_read
     pub next_fill : e.knows.next_fill ≡ d.knows.next_fill
 
-  -- the next mailbox from each other one of the first n shards was tried, and so many were found full
+  -- the next mailbox from each other one of the first n shards was tried, and `count` were found full
   pub record AllTriedFrom (f : FloorData S) (n count : ℕ) (d e : SeatData S V) : Type 0 where
     pub shard : e.shard ≡ d.shard
     pub full : List ℕ
@@ -54,7 +54,7 @@ module _ {S V : Type 0} where
     pub next_fill : e.knows.next_fill ≡ used (if_found found to) d.knows.next_fill
     pub next_read : e.knows.next_read ≡ d.knows.next_read
 
-  -- the next mailbox to each other one of the first n shards for which something waits was tried, and so many outboxes were sent off
+  -- the next mailbox to each other one of the first n shards for which something waits was tried, and `count` outboxes were published
   pub record AllTriedTo (f : FloorData S) (n count : ℕ) (p q : PartData S V) (d e : SeatData S V) : Type 0 where
     pub shard : e.shard ≡ d.shard
     pub outboxes : List ℕ
@@ -64,7 +64,7 @@ module _ {S V : Type 0} where
     pub next_fill : e.knows.next_fill ≡ used outboxes d.knows.next_fill
     pub next_read : e.knows.next_read ≡ d.knows.next_read
 
-  -- one step was made at the done word, and whether it showed 1
+  -- one step was made at the done word, and `ended` says whether it found 1
   pub record Looked (f : FloorData S) (ended : Bool) (d e : SeatData S V) : Type 0 where
     pub number : ℕ
     pub step : e.knows.steps ≡ d.knows.steps ++ at (box_count f.setup.plan.shards) number ∷ []
@@ -73,11 +73,11 @@ module _ {S V : Type 0} where
     pub next_fill : e.knows.next_fill ≡ d.knows.next_fill
 
 module _ {S V : Type 0} (meaning : S → Algebra V) where
-  -- a batch came in, with which the part holds its share of a state, or nothing did
+  -- a batch was received, with which the part holds its share of a state, or none was
   abbrev pub CameIn : Bool → PartData S V → PartData S V → Type 0
   CameIn true p q = ((xs : List (Item V)) × (q ≡ joined p xs)) × HoldsReachedShare meaning q
   CameIn false p q = q ≡ p
 
-  -- so many batches came in, and with them the part holds its share of a state
+  -- n batches were received, and with them the part holds its share of a state
   abbrev pub AllCameIn : ℕ → PartData S V → PartData S V → Type 0
   AllCameIn n p q = (batches : List (List (Item V))) × (length batches ≡ n) × (q ≡ received p batches) × HoldsReachedShare meaning q

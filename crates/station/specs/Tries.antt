@@ -1,4 +1,4 @@
--- Mailboxes that are tried one after the other, as the steps of a seat show it.
+-- Mailboxes that are tried one after the other, as the steps of a seat record it.
 use Rattle.std.specs.Prelude.{◌≡◌, ◌≢◌, ◌⊎◌, ℕ, zero, suc, Bool, true, false, cond, List, [], ◌∷◌, ◌++◌, set, get_or}
 use Rattle.post_floor.specs.declared.view.WordStep.{WordStep}
 use Rattle.post_floor.specs.Plays.{next_slot}
@@ -12,7 +12,7 @@ abbrev pub if_found : Bool → ℕ → List ℕ
 if_found found j = cond found (j ∷ []) []
 
 -- One mailbox was tried, if it was due, between these lists of steps. It was found with the wanted number in its word, and then another was stored there;
--- or it was found with another number than the wanted one, and left.
+-- or it was found with another number than the wanted one, and left as it was.
 abbrev pub IsTry : (wanted stored : ℕ) (due : Type 0) (k : ℕ) (found : Bool) (before after : List WordStep) → Type 0
 IsTry wanted stored due k true before after = due × (after ≡ before ++ at k wanted ∷ at k stored ∷ [])
 IsTry wanted stored due k false before after = (due × (x : ℕ) × (x ≢ wanted) × (after ≡ before ++ at k x ∷ [])) ⊎ ((due → ⊥) × (after ≡ before))
@@ -23,7 +23,7 @@ AreTries wanted stored due box zero found before after = (found ≡ []) × (afte
 AreTries wanted stored due box (suc j) found before after = (b : Bool) × (earlier : List ℕ) × (steps : List WordStep) × AreTries wanted stored due box j earlier before steps
     × IsTry wanted stored (due j) (box j) b steps after × (found ≡ earlier ++ if_found b j)
 
--- the next slots, when those of these shards have been used, one after the other
+-- the next slots after those of these shards have been used, one after the other
 abbrev pub used : List ℕ → List ℕ → List ℕ
 used [] next = next
 used (j ∷ js) next = used js (set next j (next_slot (get_or next j 0)))

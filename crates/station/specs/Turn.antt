@@ -13,7 +13,7 @@ use Rattle.post_floor.specs.Data.{FloorData, SeatData, fill_box, read_box}
 use Rattle.post_floor.specs.Floor.{core_of}
 use Rattle.post_floor.specs.Plays.{HoldsReachedShare, published_to}
 use Rattle.station.specs.declared.turn.Report.{Report}
-use Rattle.station.specs.Station.{StationData, BelongsTo, HasEnded}
+use Rattle.station.specs.Station.{StationData, BelongsTo, ReportedEnd}
 use Rattle.post_floor.specs.declared.view.WordStep.{WordStep}
 use Rattle.station.specs.Tries.{at, AreTries, used}
 
@@ -22,18 +22,18 @@ abbrev pub StaysOrImproves : {V : Type 0} → Algebra V → Option V → Option 
 StaysOrImproves {V} A before after = (x : V) → before ≡ Some x → (y : V) × (after ≡ Some y) × IsTrue (A.no_worse y x)
 
 module _ {S V : Type 0} where
-  -- batches came in, one after the other, each to the back of the queue
+  -- batches were received, one after the other, each at the back of the queue
   abbrev pub received : PartData S V → List (List (Item V)) → PartData S V
   received p [] = p
   received p (batch ∷ batches) = received (joined p batch) batches
 
-  -- the outboxes to these shards, each another than the own, were sent off one after the other, and none was empty
+  -- the outboxes to these shards, each other than the part's own, were published one after the other, and none was empty
   abbrev pub SentOff : List ℕ → PartData S V → PartData S V → Type 0
   SentOff [] p q = p ≡ q
   SentOff (to ∷ shards) p q = (to ≢ p.shard) × (get_or p.outs to [] ≢ []) × SentOff shards (published_to to p) q
 
-  -- The steps of one turn on words, where p is the part when its items were handled. The next mailbox from each other shard was tried, in order, and where it was
-  -- found full (2), it was emptied and 0 stored; then the next one to each other shard for which something waited in p, and where it was found free (0), the
+  -- The steps of one turn on words, where p is the part when its items were handled. The next mailbox from each other shard was tried, in order, and if it was
+  -- found full (2), it was emptied and 0 stored; then the next one to each other shard for which something waited in p, and if it was found free (0), the
   -- outbox went into it and 2 was stored; then one step was made at the done word. There were no others.
   pub record Tried (f : FloorData S) (before : SeatData S V) (p : PartData S V) (r : Report) (outboxes : List ℕ) (after : SeatData S V) : Type 0 where
     pub full : List ℕ  -- the shards whose mailbox was found full
@@ -49,8 +49,8 @@ module _ {S V : Type 0} where
     pub next_fill : after.knows.next_fill ≡ used outboxes before.knows.next_fill
 
 module _ {S V : Type 0} (meaning : S → Algebra V) where
-  -- The part took batches, handled items of its queue one after the other, and sent outboxes off. With the batches it held its share of a state that some events
-  -- lead to. The items were handled by core events, as many: there, and in every state of which the part held its share, they are enabled, each in its turn.
+  -- The part took batches, handled items of its queue one after the other, and published outboxes. With the batches it held its share of a state that some events
+  -- lead to. Handling the items is that many core events: in that state, and in every state of which the part held its share, they are enabled, each in its turn.
   pub record Worked (budget : ℕ) (p : PartData S V) (r : Report) (q : PartData S V) : Type 0 where
     pub batches : List (List (Item V))
     pub taken : length batches ≡ r.taken
@@ -76,4 +76,4 @@ module _ {S V : Type 0} (meaning : S → Algebra V) where
     pub tried : before.ended ≡ false → Tried f before.seat worked.emptied r worked.outboxes after.seat
     pub steps : length after.seat.knows.steps ≤ length before.seat.knows.steps + 4 * (f.setup.plan.shards - 1) + 1
     pub report : r.ended ≡ after.ended
-    pub stays : HasEnded before → (after ≡ before) × (r ≡ record { handled = 0; taken = 0; published = 0; ended = true })
+    pub stays : ReportedEnd before → (after ≡ before) × (r ≡ record { handled = 0; taken = 0; published = 0; ended = true })

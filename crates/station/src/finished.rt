@@ -1,4 +1,4 @@
-//! A station that has ended, of which the labels and the counts are left.
+//! What is left of a station that has ended: the labels and the counts.
 ghost use Rattle.std.specs.Prelude.{◌≡◌, IsTrue, ◌↔◌};
 ghost use Rattle.shard_part.specs.Plans.{HasPlanned, shard_in};
 ghost use Rattle.station.specs.Station.{IsBestFor};
@@ -10,7 +10,7 @@ use shard_part::laws::closed_part_holds;
 use shard_part::{ClosedPart, Plan, Shard};
 use std::marker::Model;
 
-/// A station whose last turn reported the end. Of its part there are the labels and the counts; the tables of arcs, the queue and the outboxes were let go.
+/// A station whose last turn reported the end. It keeps the labels and the counts of its part; the tables of arcs, the queue and the outboxes were freed.
 #[derive(Drop)]
 pub struct Finished<'g, A: PathAlgebra> {
     pub(crate) part: ClosedPart<'g, A>,

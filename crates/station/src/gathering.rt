@@ -16,7 +16,7 @@ use shard_part::laws::plan_holds;
 use shard_part::{Plan, Shard, Tally};
 use std::alloc::{AllocError, Global};
 
-/// The answer of a question: for each vertex the best value, or none where no walk has one, and what was counted.
+/// The answer of a question: for each vertex the best value, or none if no walk has one, and what was counted.
 #[derive(Drop)]
 pub struct Gathered<V: Copy> {
     pub labels: Labels<V>,
@@ -26,13 +26,13 @@ pub struct Gathered<V: Copy> {
 /// Why an answer was not gathered.
 #[derive(Clone, Copy, Debug, PartialEq, Eq)]
 pub enum GatherFault {
-    /// The station of this shard is missing, and of no shard before it.
+    /// The station of this shard is missing, and no earlier shard's is.
     Missing(Shard),
-    /// There was no memory for the labels.
+    /// Memory for the labels was refused.
     Memory,
 }
 
-/// What comes back where the answer was not gathered: floor and stations as they were.
+/// What comes back if the answer was not gathered: floor and stations as they were.
 #[derive(Drop)]
 pub struct Ungathered<'g, A: PathAlgebra> {
     pub fault: GatherFault,
@@ -148,7 +148,7 @@ fn plan_of<'g, A: PathAlgebra>(floor: &Floor<A>, stations: &[Finished<'g, A>]) -
     stations[0].plan()
 }
 
-/// The labels of all vertices, and room for the seats, where each shard's station is there and has its place.
+/// The labels of all vertices, and room for the seats, if each shard's station is there.
 fn collect<A: PathAlgebra>(
     alloc: Global,
     floor: &Floor<A>,
@@ -180,7 +180,7 @@ fn collect<A: PathAlgebra>(
     Ok((labels, seats))
 }
 
-/// The answer of a question from the stations of all its shards, each of which has ended. Where a shard's station is missing, or there is no memory, floor and stations come back.
+/// The answer of a question from the stations of all its shards, each of which has ended. If a shard's station is missing, or memory is refused, floor and stations come back.
 pub fn gather<'g, A: PathAlgebra>(
     alloc: Global,
     floor: Floor<A>,

@@ -1,4 +1,4 @@
-//! A theorem on what was gathered: a caller calls it where its own proof needs what it promises.
+//! A theorem on what was gathered: a caller calls it if its own proof needs what it promises.
 ghost use Rattle.std.specs.Prelude.{◌≡◌, ℕ, ◌+◌, Bool};
 ghost use Rattle.path_algebra.specs.declared.reach.Reach.{Reach};
 ghost use Rattle.path_algebra.specs.Given.{reach};
@@ -7,7 +7,7 @@ ghost use Rattle.shard_part.specs.PartState.{Setup};
 ghost use Rattle.station.specs.declared.gathering.Gathered.{Gathered};
 ghost use Rattle.station.specs.Gather.{IsGathered, each_shows};
 
-/// For reachability, whatever the schedule: each counter of the answer shows one, and one more for each arc whose tail is reached.
+/// For reachability, whatever the schedule: each counter of the answer is one, and one more for each arc whose tail is reached.
 pub fn reach_counts_each_arc_once()
     ensures { (t : Setup Reach) (g : Gathered (Unit {0})) → IsGathered (λ _. reach) t g →
         (marked : ℕ → Bool) → AreMarksOfReached reach t.question.roads t.question.source marked →

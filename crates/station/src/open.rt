@@ -1,6 +1,6 @@
 //! Opening a question.
 ghost use Rattle.std.specs.Prelude.{◌≡◌, ◌<◌, [], ◌∷◌, ◌++◌, length, IfOk, OnOk, map};
-ghost use Rattle.road_graph.specs.Roads.{HasVertex};
+ghost use Rattle.road_graph.specs.GraphData.{HasVertex};
 ghost use Rattle.shard_part.specs.Weights.{All};
 ghost use Rattle.post_floor.specs.Data.{seat_of, first_parts};
 ghost use Rattle.post_floor.specs.Plays.{HoldsReachedShare};
@@ -14,7 +14,7 @@ use shard_part::laws::plan_holds;
 use shard_part::{Part, Plan, Shard};
 use std::alloc::{AllocError, Global};
 
-/// One more item at the end.
+/// Appends an item.
 pub(crate) fn push<T: Drop>(list: &mut Vec<T>, item: T) -> Result<(), AllocError>
     ensures { OnOk result (list.new.items ≡ list.old.items ++ (item ∷ [])) }
 {

@@ -1,7 +1,7 @@
 //! A part with its seat, which may be sent to another thread.
 ghost use Rattle.std.specs.Prelude.{◌≡◌, true, IsTrue, IfOk, IfErr};
 ghost use Rattle.post_floor.specs.Data.{seat_of};
-ghost use Rattle.station.specs.Station.{BelongsTo, IsOver, HasEnded};
+ghost use Rattle.station.specs.Station.{BelongsTo, IsOver, ReportedEnd};
 ghost use Rattle.station.specs.Opened.{IsFreshPart, station_of};
 ghost use Rattle.station.specs.Turn.{Turned};
 
@@ -77,10 +77,10 @@ impl<'g, A: PathAlgebra> Station<'g, A> {
         }
     }
 
-    /// What `gather` takes of a station whose last turn reported the end: the tables of arcs, the queue and the outboxes are let go. Another comes back as it was.
+    /// What `gather` takes of a station whose last turn reported the end: the tables of arcs, the queue and the outboxes are freed. Any other station comes back as it was.
     pub fn finish(self) -> Result<Finished<'g, A>, Station<'g, A>>
-        ensures finished { IfOk result (λ f. HasEnded self.entry × (f ≡ self.entry)) }
-        ensures back { IfErr result (λ s. (HasEnded self.entry → ⊥) × (s ≡ self.entry)) }
+        ensures finished { IfOk result (λ f. ReportedEnd self.entry × (f ≡ self.entry)) }
+        ensures back { IfErr result (λ s. (ReportedEnd self.entry → ⊥) × (s ≡ self.entry)) }
     {
         if !self.ended {
             return Err(self);

@@ -112,7 +112,7 @@ pub(crate) fn fill_all<A: PathAlgebra>(
     published
 }
 
-/// Announces the end where the part knows of it, else looks for it.
+/// Announces the end if the part knows of it, else looks for it.
 pub(crate) fn look_for_end<A: PathAlgebra>(
     floor: &Floor<A>,
     seat: &mut Seat<A>,

@@ -12,10 +12,10 @@ use Rattle.worker_fleet.specs.Drives.{Drives}
 use Rattle.worker_fleet.specs.declared.group.GroupFault.{GroupFault}
 use Rattle.worker_fleet.specs.Groups.{gathered, Some_of, HasShard, IsDone}
 use Rattle.worker_fleet.specs.Stops.{IsFirstStop, IsStop}
-use Rattle.worker_fleet.specs.Turns.{NextOn, IsPlaced, HasEnded}
+use Rattle.worker_fleet.specs.Turns.{NextOn, IsOnItsFloor, StationHasEnded}
 use Rattle.worker_fleet.proofs.Carried.{MovesEach-some, MovesEach-all}
 use Rattle.worker_fleet.proofs.Gathered.{share_all, share_some, gathered_all, gathered_some}
-use Rattle.worker_fleet.proofs.Placed.{IsPlaced-next}
+use Rattle.worker_fleet.proofs.Placed.{IsOnItsFloor-next}
 
 -- an element of a list that has one
 pub one_of : {X : Type 0} (xs : List X) → 0 < length xs → X
@@ -28,19 +28,19 @@ module _ {A V Z : Type 0} (meaning : A → Algebra V) (floors : List (FloorData 
   did : (k : ℕ) (r : Driven A V) → k < length rs → Drives meaning floors budget limit answers k (get_or shares k some).items (get_or rs k r)
   did k r low = each k some r (omega (arith, count, low))
 
-  all_ended : All (λ r. r.outcome ≡ Ended) rs → All (λ r. All HasEnded r.stations.items) rs
+  all_ended : All (λ r. r.outcome ≡ Ended) rs → All (λ r. All StationHasEnded r.stations.items) rs
   all_ended h = λ k r low. (did k r low).ended.0 (h k r low)
 
-  module _ (placed : All (λ s. All (IsPlaced floors) s.items) shares) where
-    all_placed : All (λ r. All (IsPlaced floors) r.stations.items) rs
+  module _ (placed : All (λ s. All (IsOnItsFloor floors) s.items) shares) where
+    all_placed : All (λ r. All (IsOnItsFloor floors) r.stations.items) rs
     all_placed = λ k r low. let w = did k r low in
-        MovesEach-all (NextOn meaning floors budget) (IsPlaced floors) (λ a b n h. IsPlaced-next meaning floors budget a b h n) w.counts _ _ w.moved (placed k some (omega (arith, count, low)))
+        MovesEach-all (NextOn meaning floors budget) (IsOnItsFloor floors) (λ a b n h. IsOnItsFloor-next meaning floors budget a b h n) w.counts _ _ w.moved (placed k some (omega (arith, count, low)))
 
     pub all_within : All (λ r. All (λ p. p.0 < length floors) r.stations.items) rs
     all_within = λ k r low j p below. let h = all_placed k r low j p below in slice_get_within floors _ h.floor h.is_floor
 
     pub all_done : All (λ r. r.outcome ≡ Ended) rs → (q : ℕ) → All (IsDone floors q) (gathered q rs)
-    all_done h q = gathered_all (λ p. IsPlaced floors p × (p.1.ended ≡ true)) q rs (λ k r low j p below. (all_placed k r low j p below, all_ended h k r low j p below))
+    all_done h q = gathered_all (λ p. IsOnItsFloor floors p × (p.1.ended ≡ true)) q rs (λ k r low j p below. (all_placed k r low j p below, all_ended h k r low j p below))
 
   pub is_stop : {W : Type 0} (questions : List (Vec (StationData A V) W))
       → ((w : ℕ) (d : Vec (ℕ × StationData A V) Z) → w < workers → (get_or shares w d).items ≡ share_of workers w 0 questions)
@@ -70,6 +70,6 @@ module _ {A V Z : Type 0} (meaning : A → Algebra V) (floors : List (FloorData 
 -- what is dealt are the questions' own stations
 pub shares_placed : {A V Z W : Type 0} (floors : List (FloorData A)) (workers : ℕ) (shares : List (Vec (ℕ × StationData A V) Z)) (questions : List (Vec (StationData A V) W))
     → ((w : ℕ) (d : Vec (ℕ × StationData A V) Z) → w < workers → (get_or shares w d).items ≡ share_of workers w 0 questions) → length shares ≡ workers
-    → ((q : ℕ) (d : Vec (StationData A V) W) → q < length questions → All (λ s. IsPlaced floors (q, s)) (get_or questions q d).items) → All (λ s. All (IsPlaced floors) s.items) shares
+    → ((q : ℕ) (d : Vec (StationData A V) W) → q < length questions → All (λ s. IsOnItsFloor floors (q, s)) (get_or questions q d).items) → All (λ s. All (IsOnItsFloor floors) s.items) shares
 shares_placed floors workers shares questions dealt all own = λ w d low. rw (dealt w d (omega (arith, all, low)))
-    (share_all (IsPlaced floors) workers w 0 questions (λ q e below. let zero_more : 0 + q ≡ q = omega arith in rw zero_more (own q e below)))
+    (share_all (IsOnItsFloor floors) workers w 0 questions (λ q e below. let zero_more : 0 + q ≡ q = omega arith in rw zero_more (own q e below)))

@@ -4,13 +4,13 @@ use Rattle.std.specs.List.{All, HoldsAt}
 use Rattle.path_algebra.specs.Algebra.{Algebra}
 use Rattle.post_floor.specs.Data.{FloorData}
 use Rattle.station.specs.Station.{StationData}
-use Rattle.worker_fleet.specs.Turns.{NextOn, IsPlaced, HasEnded, IsOpen}
+use Rattle.worker_fleet.specs.Turns.{NextOn, IsOnItsFloor, StationHasEnded, StationIsOpen}
 
-pub IsPlaced-next : {A V : Type 0} (meaning : A → Algebra V) (floors : List (FloorData A)) (budget : ℕ) (p q : ℕ × StationData A V)
-    → IsPlaced floors p → NextOn meaning floors budget p q → IsPlaced floors q
-IsPlaced-next meaning floors budget p q h n = record { floor = n.floor; is_floor = rw n.place n.is_floor; own = n.turned.own }
+pub IsOnItsFloor-next : {A V : Type 0} (meaning : A → Algebra V) (floors : List (FloorData A)) (budget : ℕ) (p q : ℕ × StationData A V)
+    → IsOnItsFloor floors p → NextOn meaning floors budget p q → IsOnItsFloor floors q
+IsOnItsFloor-next meaning floors budget p q h n = record { floor = n.floor; is_floor = rw n.place n.is_floor; own = n.turned.own }
 
-pub open_not_ended : {A V : Type 0} (xs : List (ℕ × StationData A V)) (k : ℕ) → k < length xs → HoldsAt IsOpen xs k → All HasEnded xs → ⊥
+pub open_not_ended : {A V : Type 0} (xs : List (ℕ × StationData A V)) (k : ℕ) → k < length xs → HoldsAt StationIsOpen xs k → All StationHasEnded xs → ⊥
 open_not_ended [] k low o e = omega arith
 open_not_ended (x ∷ xs) k low o e =
     let a : (get_or (x ∷ xs) k x).1.ended ≡ false = o x in

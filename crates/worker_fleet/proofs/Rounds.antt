@@ -6,15 +6,15 @@ use Rattle.std.proofs.lemmas.Bool.{cases_eq, cases_lt}
 use Rattle.std.proofs.lemmas.Grind.{common_steps}
 use Rattle.station.specs.Station.{StationData}
 use Rattle.worker_fleet.specs.Moves.{MovesEach}
-use Rattle.worker_fleet.specs.Turns.{HasEnded, IsOpen, IsNextOpen, TookTurns}
+use Rattle.worker_fleet.specs.Turns.{StationHasEnded, StationIsOpen, IsNextOpen, TookTurns}
 use Rattle.worker_fleet.proofs.Moved.{zeros, zeros-at, more_at, more-here, more-there, MovesEach-none, MovesEach-read, MovesEach-length, sum-zeros, sum-more}
 
 -- in this round the stations before the place `at` have had their turn, as far as they had not ended
 pub record InRound {A V : Type 0} (round at : ℕ) (counts : List ℕ) (stations : List (ℕ × StationData A V)) : Type 0 where
   pub most : (i : ℕ) → get_or counts i 0 ≤ round + 1
   pub later : (i : ℕ) → at ≤ i → get_or counts i 0 ≤ round
-  pub least : (j : ℕ) → j < length stations → HoldsAt IsOpen stations j → round ≤ get_or counts j 0
-  pub earlier : (j : ℕ) → j < length stations → j < at → HoldsAt IsOpen stations j → round + 1 ≤ get_or counts j 0
+  pub least : (j : ℕ) → j < length stations → HoldsAt StationIsOpen stations j → round ≤ get_or counts j 0
+  pub earlier : (j : ℕ) → j < length stations → j < at → HoldsAt StationIsOpen stations j → round + 1 ≤ get_or counts j 0
 
 pub InRound-first : {A V : Type 0} (stations : List (ℕ × StationData A V)) → InRound 0 0 (zeros stations) stations
 InRound-first stations = record {
@@ -34,7 +34,7 @@ InRound-took_turns round at counts stations r = record {
 }
 
 -- a station that has ended is not open
-not_both : {A V : Type 0} (xs : List (ℕ × StationData A V)) (k low high : ℕ) (d : ℕ × StationData A V) → low ≤ k → k < high → AllWithin HasEnded xs low high → HoldsAt IsOpen xs k → ⊥
+not_both : {A V : Type 0} (xs : List (ℕ × StationData A V)) (k low high : ℕ) (d : ℕ × StationData A V) → low ≤ k → k < high → AllWithin StationHasEnded xs low high → HoldsAt StationIsOpen xs k → ⊥
 not_both xs k low high d above below e o =
     let a : (get_or xs k d).1.ended ≡ false = o d in
     let b : (get_or xs k d).1.ended ≡ true = e k d above below in
@@ -45,7 +45,7 @@ module _ {A V : Type 0} (round at k : ℕ) (counts : List ℕ) (stations : List 
   here : get_or (more_at counts k) k 0 ≡ get_or counts k 0 + 1
   here = more-here counts k (omega (arith, long, inside))
 
-  still_open : (j : ℕ) → j ≢ k → HoldsAt IsOpen (set stations k z) j → HoldsAt IsOpen stations j
+  still_open : (j : ℕ) → j ≢ k → HoldsAt StationIsOpen (set stations k z) j → HoldsAt StationIsOpen stations j
   still_open j ne o = λ d. let same : get_or (set stations k z) j d ≡ get_or stations j d = grind (arith, common_steps) in rw same at (o d)
 
   shorter : (j : ℕ) → j < length (set stations k z) → j < length stations
@@ -63,9 +63,9 @@ module _ {A V : Type 0} (round at k : ℕ) (counts : List ℕ) (stations : List 
     | inr ne ↦ omega (arith, more-there counts k j ne, other ne)
   ]
 
-  module _ (open_here : HoldsAt IsOpen stations k) where
+  module _ (open_here : HoldsAt StationIsOpen stations k) where
     -- the next is in the same round
-    same_round : at ≤ k → AllWithin HasEnded stations at k → InRound round (k + 1) (more_at counts k) (set stations k z)
+    same_round : at ≤ k → AllWithin StationHasEnded stations at k → InRound round (k + 1) (more_at counts k) (set stations k z)
     same_round on ended = record {
       most = λ i. at_most (round + 1) i (λ e. omega (arith, was.later k on)) (λ ne. was.most i);
       later = λ i high. at_most round i (λ e. absurd (omega (arith, e, high))) (λ ne. was.later i (omega (arith, on, high)));
@@ -78,7 +78,7 @@ module _ {A V : Type 0} (round at k : ℕ) (counts : List ℕ) (stations : List 
     }
 
     -- the next begins another
-    next_round : k < at → AllWithin HasEnded stations at (length stations) → AllWithin HasEnded stations 0 k → InRound (round + 1) (k + 1) (more_at counts k) (set stations k z)
+    next_round : k < at → AllWithin StationHasEnded stations at (length stations) → AllWithin StationHasEnded stations 0 k → InRound (round + 1) (k + 1) (more_at counts k) (set stations k z)
     next_round back ended ended_before = record {
       most = λ i. at_most (round + 1 + 1) i (λ e. omega (arith, was.most k)) (λ ne. omega (arith, was.most i));
       later = λ i high. at_most (round + 1) i (λ e. absurd (omega (arith, e, high))) (λ ne. was.most i);

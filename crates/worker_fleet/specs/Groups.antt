@@ -1,12 +1,12 @@
--- Where the stations of a group of questions stand.
+-- Where the stations of a group of questions are.
 use Rattle.std.specs.Prelude.{◌≡◌, ℕ, List, [], ◌∷◌, ◌++◌, ◌⊎◌, true}
 use Rattle.post_floor.specs.Data.{FloorData}
 use Rattle.station.specs.Station.{StationData}
 use Rattle.worker_fleet.specs.declared.driving.Driven.{Driven}
 use Rattle.worker_fleet.specs.Dealt.{of_group}
-use Rattle.worker_fleet.specs.Turns.{IsPlaced}
+use Rattle.worker_fleet.specs.Turns.{IsOnItsFloor}
 
--- the stations of question q among all that the workers answered, worker by worker
+-- the stations of question q among all that the workers returned, worker by worker
 unfoldable pub gathered : {A V : Type 0} → ℕ → List (Driven A V) → List (StationData A V)
 gathered q [] = []
 gathered q (r ∷ rs) = of_group q r.stations.items ++ gathered q rs
@@ -22,4 +22,4 @@ HasShard k stations = Some_of (λ s. s.part.shard ≡ k) stations
 
 -- the station belongs to question q, and has ended
 abbrev pub IsDone : {A V : Type 0} → List (FloorData A) → ℕ → StationData A V → Type 0
-IsDone floors q s = IsPlaced floors (q, s) × (s.ended ≡ true)
+IsDone floors q s = IsOnItsFloor floors (q, s) × (s.ended ≡ true)

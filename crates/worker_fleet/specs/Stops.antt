@@ -31,13 +31,13 @@ pub record IsStop {A V Z : Type 0} (meaning : A → Algebra V) (floors : List (F
   pub drove : (w : ℕ) (d : Driven A V) → w < workers → Drives meaning floors budget limit answers w (share_of workers w 0 questions) (slice_index_or all w d)
   pub first : IsFirstStop all fault
 
--- some worker of so many made each turn up to the limit
+-- some worker made each turn up to the limit
 pub record Stalls (answers : ℕ → ℕ → Bool → Type 0) (workers limit : ℕ) : Type 0 where
   pub worker : ℕ
   pub below : worker < workers
   pub asked : LetsTurn answers worker limit
 
--- some worker of so many made its first turns, fewer than the limit, and was answered false before the next
+-- some worker made its first turns, fewer than the limit, and was answered false before the next
 pub record Closes (answers : ℕ → ℕ → Bool → Type 0) (workers limit : ℕ) : Type 0 where
   pub worker : ℕ
   pub turns : ℕ
@@ -46,7 +46,7 @@ pub record Closes (answers : ℕ → ℕ → Bool → Type 0) (workers limit : �
   pub asked : LetsTurn answers worker turns
   pub closed : answers worker (turns + 1) false
 
--- what such a fault says of the workers and their gate: of want of memory, or of a thread, nothing
+-- what such a fault says of the workers and their gate; out of memory, or of threads, says nothing of them
 abbrev pub Says : (ℕ → ℕ → Bool → Type 0) → (workers limit : ℕ) → GroupFault → Type 0
 Says answers workers limit Memory = Unit {0}
 Says answers workers limit Stalled = Stalls answers workers limit

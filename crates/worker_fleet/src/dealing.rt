@@ -1,11 +1,11 @@
-//! Groups of things dealt round to workers, and put together again.
+//! Groups of things that are dealt to workers in turn, and put together again.
 ghost use Rattle.std.specs.Prelude.{◌≡◌, ℕ, ◌<◌, ◌++◌, [], length, IfOk, OnOk, vec_len, slice_index_or};
 ghost use Rattle.std.specs.List.{All};
 ghost use Rattle.worker_fleet.specs.Dealt.{following, dealt, share_of, of_group, PushesAt};
 
 use std::alloc::{AllocError, Global};
 
-/// So many empty lists.
+/// Makes `count` empty lists.
 pub(crate) fn empty_lists<T: Drop>(alloc: Global, count: usize) -> Result<Vec<Vec<T>>, AllocError>
     ensures len { IfOk result (λ v. vec_len v ≡ count) }
     ensures empty { IfOk result (λ v. All (λ list. list.items ≡ []) v.items) }
@@ -17,7 +17,7 @@ pub(crate) fn empty_lists<T: Drop>(alloc: Global, count: usize) -> Result<Vec<Ve
     Ok(lists)
 }
 
-/// Puts a thing at the back of one of the lists.
+/// Appends a thing to one of the lists.
 fn push_at<T: Drop>(lists: &mut Vec<Vec<T>>, at: usize, value: T) -> Result<(), AllocError>
     requires { at < vec_len lists.old }
     ensures len { vec_len lists.new ≡ vec_len lists.old }
@@ -27,7 +27,7 @@ fn push_at<T: Drop>(lists: &mut Vec<Vec<T>>, at: usize, value: T) -> Result<(), 
     Ok(())
 }
 
-/// The place after this one, round and round.
+/// The place after this one; the first comes after the last.
 fn next_of(at: usize, count: usize) -> usize
     requires { at < count }
     ensures place { result ≡ following count at }
@@ -36,7 +36,7 @@ fn next_of(at: usize, count: usize) -> usize
     if at + 1 < count { at + 1 } else { 0 }
 }
 
-/// Deals the things of a group round the shares, each beside the number of its group.
+/// Deals the things of a group to the shares in turn, each with the number of its group.
 fn deal<T: Drop>(
     shares: &mut Vec<Vec<(usize, T)>>,
     group: usize,
@@ -44,7 +44,9 @@ fn deal<T: Drop>(
 ) -> Result<(), AllocError>
     requires { 0 < vec_len shares.old }
     ensures len { vec_len shares.new ≡ vec_len shares.old }
-    ensures dealt { OnOk result ((w : ℕ) (d : _) → w < vec_len shares.old → (slice_index_or shares.new.items w d).items ≡ (slice_index_or shares.old.items w d).items ++ dealt (vec_len shares.old) w 0 group things.items) }
+    ensures dealt { OnOk result ((w : ℕ) (d : _) → w < vec_len shares.old →
+        (slice_index_or shares.new.items w d).items ≡ (slice_index_or shares.old.items w d).items ++
+        dealt (vec_len shares.old) w 0 group things.items) }
 {
     let mut worker = 0;
     for thing in things {
@@ -54,7 +56,7 @@ fn deal<T: Drop>(
     Ok(())
 }
 
-/// Deals the things of each group round the workers, group by group.
+/// Deals the things of each group to the workers in turn, group by group.
 pub(crate) fn deal_all<T: Drop>(
     alloc: Global,
     groups: Vec<Vec<T>>,
@@ -62,7 +64,8 @@ pub(crate) fn deal_all<T: Drop>(
 ) -> Result<Vec<Vec<(usize, T)>>, AllocError>
     requires { 0 < workers }
     ensures len { IfOk result (λ v. vec_len v ≡ workers) }
-    ensures dealt { IfOk result (λ v. (w : ℕ) (d : _) → w < workers → (slice_index_or v.items w d).items ≡ share_of workers w 0 groups.items) }
+    ensures dealt { IfOk result (λ v. (w : ℕ) (d : _) → w < workers →
+        (slice_index_or v.items w d).items ≡ share_of workers w 0 groups.items) }
 {
     let mut shares = empty_lists(alloc, workers)?;
     let mut group = 0;
@@ -73,14 +76,16 @@ pub(crate) fn deal_all<T: Drop>(
     Ok(shares)
 }
 
-/// Puts each thing at the back of the list of its group.
+/// Appends each thing to the list of its group.
 pub(crate) fn put_all<T: Drop>(
     lists: &mut Vec<Vec<T>>,
     things: Vec<(usize, T)>,
 ) -> Result<(), AllocError>
     requires { All (λ p. p.0 < vec_len lists.old) things.items }
     ensures len { vec_len lists.new ≡ vec_len lists.old }
-    ensures put { OnOk result ((q : ℕ) (d : _) → q < vec_len lists.old → (slice_index_or lists.new.items q d).items ≡ (slice_index_or lists.old.items q d).items ++ of_group q things.items) }
+    ensures put { OnOk result ((q : ℕ) (d : _) → q < vec_len lists.old →
+        (slice_index_or lists.new.items q d).items ≡ (slice_index_or lists.old.items q d).items ++
+        of_group q things.items) }
 {
     for (group, thing) in things {
         push_at(lists, group, thing)?;

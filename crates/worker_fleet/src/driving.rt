@@ -1,7 +1,7 @@
 //! The loop of one worker.
 ghost use Rattle.std.specs.Prelude.{◌≡◌, ◌≢◌, ◌<◌, ◌≤◌, length, false, None, IfSome, IfNone};
 ghost use Rattle.std.specs.List.{All, AllWithin, HoldsAt};
-ghost use Rattle.worker_fleet.specs.Turns.{NextOn, IsPlaced, HasEnded, IsOpen, IsNextOpen};
+ghost use Rattle.worker_fleet.specs.Turns.{NextOn, IsOnItsFloor, StationHasEnded, StationIsOpen, IsNextOpen};
 ghost use Rattle.worker_fleet.specs.Drives.{Drives};
 
 use crate::gate::Gate;
@@ -22,7 +22,7 @@ pub enum Outcome {
     Gated,
 }
 
-/// What a worker answers.
+/// What a worker returns.
 #[derive(Drop)]
 pub struct Driven<'g, A: PathAlgebra> {
     /// Why it stopped.
@@ -40,10 +40,10 @@ fn first_open<A: PathAlgebra>(
     to: usize,
 ) -> Option<usize>
     requires { (from ≤ to) × (to ≤ length stations.now) }
-    ensures none { IfNone result (AllWithin HasEnded stations.now from to) }
+    ensures none { IfNone result (AllWithin StationHasEnded stations.now from to) }
     ensures within { IfSome result (λ k. (from ≤ k) × (k < to)) }
-    ensures here { IfSome result (HoldsAt IsOpen stations.now) }
-    ensures first { IfSome result (AllWithin HasEnded stations.now from) }
+    ensures here { IfSome result (HoldsAt StationIsOpen stations.now) }
+    ensures first { IfSome result (AllWithin StationHasEnded stations.now from) }
 {
     for k in from..to {
         let (_, station) = &stations[k];
@@ -57,7 +57,7 @@ fn first_open<A: PathAlgebra>(
 /// The place of the next station that has not ended, from `at` on and then from the first.
 fn next_open<A: PathAlgebra>(stations: &[(usize, Station<'_, A>)], at: usize) -> Option<usize>
     requires { at ≤ length stations.now }
-    ensures none { IfNone result (All HasEnded stations.now) }
+    ensures none { IfNone result (All StationHasEnded stations.now) }
     ensures some { IfSome result (IsNextOpen stations.now at) }
 {
     match first_open(stations, at, stations.len()) {
@@ -71,20 +71,20 @@ fn is_busy(report: Report) -> bool {
     report.handled > 0 || report.taken > 0 || report.published > 0
 }
 
-/// One turn of one station on its floor; whether it did anything.
+/// Makes one turn of one station on its floor, and says whether it did anything.
 fn turn_one<A: PathAlgebra>(
     floors: &[Floor<A>],
     placed: &mut (usize, Station<'_, A>),
     budget: u32,
 ) -> bool
-    requires { IsPlaced floors.now placed.old }
+    requires { IsOnItsFloor floors.now placed.old }
     ensures { NextOn A.meaning floors.now budget placed.old placed.new }
 {
     let (place, station) = placed;
     is_busy(station.turn(&floors[*place], budget))
 }
 
-/// Whether workers were called off, where they can be.
+/// Whether the workers were called off, if they can be.
 fn are_called_off(called_off: Option<&AtomicBool>) -> bool
     ensures { called_off.entry ≡ None → result ≡ false }
 {
@@ -94,7 +94,7 @@ fn are_called_off(called_off: Option<&AtomicBool>) -> bool
     }
 }
 
-/// As `drive`, or none where the workers were called off before this one stopped.
+/// As `drive`, or none if the workers were called off before this one stopped.
 pub(crate) fn drive_unless<'g, A: PathAlgebra, G: Gate>(
     floors: &[Floor<A>],
     stations: Vec<(usize, Station<'g, A>)>,
@@ -104,8 +104,9 @@ pub(crate) fn drive_unless<'g, A: PathAlgebra, G: Gate>(
     gate: &G,
     called_off: Option<&AtomicBool>,
 ) -> Option<Driven<'g, A>>
-    requires { All (IsPlaced floors.now) stations.items }
-    ensures drives { IfSome result (Drives A.meaning floors.now budget limit (G.may_answer gate.now) worker stations.entry.items) }
+    requires { All (IsOnItsFloor floors.now) stations.items }
+    ensures drives { IfSome result (Drives A.meaning floors.now budget limit (G.may_answer gate.now)
+        worker stations.entry.items) }
     ensures some { called_off.entry ≡ None → result ≢ None }
 {
     let mut stations = stations;
@@ -150,9 +151,9 @@ pub(crate) fn drive_unless<'g, A: PathAlgebra, G: Gate>(
     }
 }
 
-/// Turns stations round and round, in the order of the list and passing over those that have ended.
+/// Turns stations in rotation, in the order of the list, and passes over those that have ended.
 ///
-/// It stops where all have ended, before a turn above the limit, or where the gate answers `false`. After a whole
+/// It stops when all have ended, before a turn above the limit, or if the gate answers `false`. After a whole
 /// round in which no station did anything it lets other threads run.
 pub fn drive<'g, A: PathAlgebra, G: Gate>(
     floors: &[Floor<A>],
@@ -162,8 +163,9 @@ pub fn drive<'g, A: PathAlgebra, G: Gate>(
     limit: u64,
     gate: &G,
 ) -> Driven<'g, A>
-    requires { All (IsPlaced floors.now) stations.items }
-    ensures { Drives A.meaning floors.now budget limit (G.may_answer gate.now) worker stations.entry.items result }
+    requires { All (IsOnItsFloor floors.now) stations.items }
+    ensures { Drives A.meaning floors.now budget limit (G.may_answer gate.now) worker
+        stations.entry.items result }
 {
     match drive_unless(floors, stations, worker, budget, limit, gate, None) {
         Some(driven) => driven,

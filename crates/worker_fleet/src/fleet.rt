@@ -13,7 +13,7 @@ pub trait Assignment<J, T> {
     /// What the worker of this number may answer to this job.
     ghost answers: { Self → ℕ → J → T → Type 0 };
 
-    /// Tells those that work already that not all could be started, so that they need not go on.
+    /// Tells the workers that already run that not all could be started, so that they need not go on.
     fn call_off(&self);
 }
 
@@ -66,7 +66,7 @@ fn start_one<
     }
 }
 
-/// Starts a worker for each job, and says whether all were started. The first that is refused is the last that is tried.
+/// Starts a worker for each job, and says whether all were started. It stops at the first that is refused.
 fn start_all<
     's,
     E,
@@ -81,10 +81,14 @@ fn start_all<
     work: &'s W,
     jobs: Vec<J>,
 ) -> Result<(Vec<PromisedHandle<T, Assigned<'s, J, K>>>, bool), AllocError>
-    requires can { (k : ℕ) (job : J) → k < vec_len jobs → job ≡ slice_index_or jobs.items k job → W.pre work.now k job }
-    requires does { (k : ℕ) (job : J) (r : T) → W.post work.now k job r → K.answers assignment.now k job r }
+    requires can { (k : ℕ) (job : J) → k < vec_len jobs → job ≡ slice_index_or jobs.items k job →
+        W.pre work.now k job }
+    requires does { (k : ℕ) (job : J) (r : T) → W.post work.now k job r → K.answers assignment.now k
+        job r }
     ensures all { IfOk result (λ r. IsTrue r.1 → vec_len r.0 ≡ vec_len jobs) }
-    ensures assigned { IfOk result (λ r. (k : ℕ) (h : _) (job : J) → k < vec_len r.0 → IsAssigned assignment.entry.now k (slice_index_or jobs.items k job) (slice_index_or r.0.items k h).promise) }
+    ensures assigned { IfOk result (λ r. (k : ℕ) (h : _) (job : J) → k < vec_len r.0 →
+        IsAssigned assignment.entry.now k (slice_index_or jobs.items k job)
+        (slice_index_or r.0.items k h).promise) }
 {
     let mut handles = Vec::with_capacity(alloc, jobs.len())?;
     let mut worker = 0u64;
@@ -98,7 +102,7 @@ fn start_all<
     Ok((handles, true))
 }
 
-/// Joins each worker and forgets what it answers.
+/// Joins each worker and drops what it returns.
 fn join_and_drop<'s, J: Drop, T: Drop, K: Assignment<J, T>, R: Threads>(
     rt: &R,
     handles: Vec<PromisedHandle<T, Assigned<'s, J, K>>>,
@@ -108,7 +112,7 @@ fn join_and_drop<'s, J: Drop, T: Drop, K: Assignment<J, T>, R: Threads>(
     }
 }
 
-/// Joins all workers. Where one was not started, or memory is wanted, their answers are dropped.
+/// Joins all workers. If one was not started, or memory is refused, what they return is dropped.
 fn join_all<'s, J: Drop, T: Drop, K: Assignment<J, T>, R: Threads>(
     rt: &R,
     handles: Vec<PromisedHandle<T, Assigned<'s, J, K>>>,
@@ -132,10 +136,10 @@ fn join_all<'s, J: Drop, T: Drop, K: Assignment<J, T>, R: Threads>(
     }
 }
 
-/// Does each job on a thread of its own, and waits for all of them; what they answer comes in the order of the jobs.
+/// Does each job on a thread of its own, and waits for all of them; what they return comes in the order of the jobs.
 ///
-/// The work is told the number of its job. It answers want of memory where a thread could not be started, and then those that
-/// were started are called off; or where the list of the answers could not grow. All that were started have then been joined too.
+/// The work is given the number of its job. The error is out of memory: if a thread could not be started, and then those that
+/// were started are called off, or if the list of results could not grow. All that were started have been joined by then.
 pub fn run_each<
     J: Send + Drop,
     T: Send + Drop,
@@ -143,19 +147,26 @@ pub fn run_each<
     W: Fn(u64, J) -> T + Sync,
     R: Threads + Wait,
 >(rt: &R, alloc: Global, jobs: Vec<J>, assignment: &K, work: &W) -> Result<Vec<T>, AllocError>
-    requires can { (k : ℕ) (job : J) → k < vec_len jobs → job ≡ slice_index_or jobs.items k job → W.pre work.now k job }
-    requires does { (k : ℕ) (job : J) (r : T) → W.post work.now k job r → K.answers assignment.now k job r }
+    requires can { (k : ℕ) (job : J) → k < vec_len jobs → job ≡ slice_index_or jobs.items k job →
+        W.pre work.now k job }
+    requires does { (k : ℕ) (job : J) (r : T) → W.post work.now k job r → K.answers assignment.now k
+        job r }
     ensures len { IfOk result (λ v. vec_len v ≡ vec_len jobs) }
-    ensures each { IfOk result (λ v. (k : ℕ) (job : J) (r : T) → k < vec_len jobs → K.answers assignment.now k (slice_index_or jobs.items k job) (slice_index_or v.items k r)) }
+    ensures each { IfOk result (λ v. (k : ℕ) (job : J) (r : T) → k < vec_len jobs →
+        K.answers assignment.now k (slice_index_or jobs.items k job) (slice_index_or v.items k r)) }
 {
     thread::scope(
         thread::scope_env(),
         rt,
         move |scope| -> Result<Vec<T>, AllocError>
-            requires can { (k : ℕ) (job : J) → k < vec_len jobs → job ≡ slice_index_or jobs.items k job → W.pre work.now k job }
-            requires does { (k : ℕ) (job : J) (r : T) → W.post work.now k job r → K.answers assignment.now k job r }
+            requires can { (k : ℕ) (job : J) → k < vec_len jobs → job ≡ slice_index_or jobs.items k
+                job → W.pre work.now k job }
+            requires does { (k : ℕ) (job : J) (r : T) → W.post work.now k job r →
+                K.answers assignment.now k job r }
             ensures len { IfOk result (λ v. vec_len v ≡ vec_len jobs) }
-            ensures each { IfOk result (λ v. (k : ℕ) (job : J) (r : T) → k < vec_len jobs → K.answers assignment.entry.now k (slice_index_or jobs.items k job) (slice_index_or v.items k r)) }
+            ensures each { IfOk result (λ v. (k : ℕ) (job : J) (r : T) → k < vec_len jobs →
+                K.answers assignment.entry.now k (slice_index_or jobs.items k job)
+                (slice_index_or v.items k r)) }
         {
             let (handles, all) = start_all(scope, alloc, assignment, work, jobs)?;
             if !all {

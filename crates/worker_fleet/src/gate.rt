@@ -3,7 +3,7 @@ ghost use Rattle.std.specs.Prelude.{◌≡◌, ℕ, Bool, true};
 
 /// Is asked before each turn of a worker, and may stop it by answering `false`.
 pub trait Gate: Sync {
-    /// It may give the worker of this number, before the turn of this number, this answer.
+    /// The answers that it may give to the worker of this number before the turn of this number.
     ghost may_answer: { Self → ℕ → ℕ → Bool → Type 0 };
 
     /// Whether the worker may make the turn. Both are numbered: workers from 0, the turns of each from 1.

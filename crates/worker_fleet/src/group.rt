@@ -1,7 +1,7 @@
 //! The stations of a group of questions, dealt to workers, run to their end, and put together again.
 ghost use Rattle.std.specs.Prelude.{◌≡◌, ◌⊎◌, ℕ, ◌<◌, length, map, IfOk, IfErr, IfNone, IfSome, Some, vec_len, slice_index_or};
 ghost use Rattle.std.specs.List.{All};
-ghost use Rattle.worker_fleet.specs.Turns.{IsPlaced};
+ghost use Rattle.worker_fleet.specs.Turns.{IsOnItsFloor};
 ghost use Rattle.worker_fleet.specs.Drives.{Drives};
 ghost use Rattle.worker_fleet.specs.Groups.{gathered, HasShard, IsDone};
 ghost use Rattle.worker_fleet.specs.Stops.{IsFirstStop, IsStop};
@@ -39,7 +39,7 @@ impl From<AllocError> for GroupFault {
     }
 }
 
-/// What all workers of a group are told.
+/// What all workers of a group are given.
 #[derive(Drop)]
 struct GroupAssignment<'a, A: PathAlgebra, G: Gate> {
     floors: &'a [Floor<A>],
@@ -60,7 +60,7 @@ impl<'a, 'g, A: PathAlgebra, G: Gate> Assignment<
     }
 }
 
-/// What all workers answer, where none was called off.
+/// What all workers return, if none was called off.
 fn all_driven<'g, A: PathAlgebra>(
     alloc: Global,
     answers: Vec<Option<Driven<'g, A>>>,
@@ -87,9 +87,11 @@ fn drive_each<'g, A: PathAlgebra, G: Gate, R: Threads + Wait>(
     limit: u64,
     gate: &G,
 ) -> Result<Vec<Driven<'g, A>>, AllocError>
-    requires { All (λ share. All (IsPlaced floors.now) share.items) shares.items }
+    requires { All (λ share. All (IsOnItsFloor floors.now) share.items) shares.items }
     ensures len { IfOk result (λ v. vec_len v ≡ vec_len shares.entry) }
-    ensures each { IfOk result (λ v. (k : ℕ) (share : _) (r : _) → k < vec_len shares.entry → Drives A.meaning floors.now budget limit (G.may_answer gate.now) k (slice_index_or shares.entry.items k share).items (slice_index_or v.items k r)) }
+    ensures each { IfOk result (λ v. (k : ℕ) (share : _) (r : _) → k < vec_len shares.entry →
+        Drives A.meaning floors.now budget limit (G.may_answer gate.now) k
+        (slice_index_or shares.entry.items k share).items (slice_index_or v.items k r)) }
 {
     let called_off = &AtomicBool::new(false);
     let assignment = GroupAssignment {
@@ -105,8 +107,9 @@ fn drive_each<'g, A: PathAlgebra, G: Gate, R: Threads + Wait>(
         shares,
         &assignment,
         &move |worker: u64, stations: Vec<(usize, Station<'_, A>)>| -> Option<Driven<'_, A>>
-            requires { All (IsPlaced floors.now) stations.items }
-            ensures { IfSome result (Drives A.meaning floors.entry.now budget limit (G.may_answer gate.entry.now) worker stations.entry.items) }
+            requires { All (IsOnItsFloor floors.now) stations.items }
+            ensures { IfSome result (Drives A.meaning floors.entry.now budget limit
+                (G.may_answer gate.entry.now) worker stations.entry.items) }
         {
             drive_unless(
                 floors,
@@ -138,7 +141,7 @@ fn first_stop<A: PathAlgebra>(answers: &[Driven<'_, A>]) -> Option<GroupFault>
     None
 }
 
-/// The stations of each question, from the answers of all workers.
+/// The stations of each question, from what all workers return.
 fn put_together<'g, A: PathAlgebra>(
     alloc: Global,
     answers: Vec<Driven<'g, A>>,
@@ -146,7 +149,8 @@ fn put_together<'g, A: PathAlgebra>(
 ) -> Result<Vec<Vec<Station<'g, A>>>, AllocError>
     requires { All (λ r. All (λ p. p.0 < width) r.stations.items) answers.items }
     ensures len { IfOk result (λ v. vec_len v ≡ width) }
-    ensures put { IfOk result (λ v. (q : ℕ) (d : _) → q < width → (slice_index_or v.items q d).items ≡ gathered q answers.entry.items) }
+    ensures put { IfOk result (λ v. (q : ℕ) (d : _) → q < width → (slice_index_or v.items q d).items
+        ≡ gathered q answers.entry.items) }
 {
     let mut lists = empty_lists(alloc, width)?;
     for driven in answers {
@@ -160,7 +164,7 @@ fn put_together<'g, A: PathAlgebra>(
     Ok(lists)
 }
 
-/// The stations of each question, if all workers came to the end; else why the least numbered that did not stopped.
+/// The stations of each question, if all workers came to the end; else why the least numbered of the others stopped.
 fn end_group<'g, A: PathAlgebra>(
     alloc: Global,
     answers: Vec<Driven<'g, A>>,
@@ -168,9 +172,12 @@ fn end_group<'g, A: PathAlgebra>(
 ) -> Result<Vec<Vec<Station<'g, A>>>, GroupFault>
     requires { All (λ r. All (λ p. p.0 < width) r.stations.items) answers.items }
     ensures len { IfOk result (λ v. vec_len v ≡ width) }
-    ensures put { IfOk result (λ v. (q : ℕ) (d : _) → q < width → (slice_index_or v.items q d).items ≡ gathered q answers.entry.items) }
+    ensures put { IfOk result (λ v. (q : ℕ) (d : _) → q < width → (slice_index_or v.items q d).items
+        ≡ gathered q answers.entry.items) }
     ensures ended { IfOk result (λ _. All (λ r. r.outcome ≡ Outcome.Ended) answers.entry.items) }
-    ensures fault { IfErr result (λ f. ((f ≡ GroupFault.Memory) × All (λ r. r.outcome ≡ Outcome.Ended) answers.entry.items) ⊎ IsFirstStop answers.entry.items f) }
+    ensures fault { IfErr result
+        (λ f. ((f ≡ GroupFault.Memory) × All (λ r. r.outcome ≡ Outcome.Ended) answers.entry.items) ⊎
+        IsFirstStop answers.entry.items f) }
 {
     if let Some(fault) = first_stop(answers.as_slice()) {
         return Err(fault);
@@ -178,11 +185,11 @@ fn end_group<'g, A: PathAlgebra>(
     Ok(put_together(alloc, answers, width)?)
 }
 
-/// Runs the stations of a group of questions to their end, dealt round to workers on threads of their own.
+/// Runs the stations of a group of questions to their end, dealt in turn to workers on threads of their own.
 ///
 /// Worker w has, of each question, each of its stations whose number is w modulo `workers`, question by question and in
-/// their order. Want of memory, or of a thread, comes first; then, of the workers that stopped before the end, the least
-/// numbered tells why.
+/// their order. A lack of memory, or of a thread, is reported first; then why the least numbered worker of those that
+/// stopped before the end stopped.
 pub fn run_group<'g, A: PathAlgebra, G: Gate, R: Threads + Wait>(
     rt: &R,
     alloc: Global,
@@ -195,11 +202,16 @@ pub fn run_group<'g, A: PathAlgebra, G: Gate, R: Threads + Wait>(
 ) -> Result<Vec<Vec<Station<'g, A>>>, GroupFault>
     requires some { 0 < workers }
     requires width { length floors.now ≡ vec_len questions }
-    requires own { (q : ℕ) (d : _) → q < vec_len questions → All (λ s. IsPlaced floors.now (q, s)) (slice_index_or questions.items q d).items }
+    requires own { (q : ℕ) (d : _) → q < vec_len questions →
+        All (λ s. IsOnItsFloor floors.now (q, s)) (slice_index_or questions.items q d).items }
     ensures len { IfOk result (λ v. vec_len v ≡ vec_len questions.entry) }
-    ensures all { IfOk result (λ v. (q k : ℕ) (d e : _) → q < vec_len questions.entry → HasShard k (slice_index_or questions.entry.items q d).items → HasShard k (slice_index_or v.items q e).items) }
-    ensures done { IfOk result (λ v. (q : ℕ) (d : _) → q < vec_len questions.entry → All (IsDone floors.now q) (slice_index_or v.items q d).items) }
-    ensures fault { IfErr result (λ f. (f ≡ GroupFault.Memory) ⊎ IsStop A.meaning floors.now budget limit workers (G.may_answer gate.now) questions.entry.items f) }
+    ensures all { IfOk result (λ v. (q k : ℕ) (d e : _) → q < vec_len questions.entry →
+        HasShard k (slice_index_or questions.entry.items q d).items →
+        HasShard k (slice_index_or v.items q e).items) }
+    ensures done { IfOk result (λ v. (q : ℕ) (d : _) → q < vec_len questions.entry →
+        All (IsDone floors.now q) (slice_index_or v.items q d).items) }
+    ensures fault { IfErr result (λ f. (f ≡ GroupFault.Memory) ⊎ IsStop A.meaning floors.now budget
+        limit workers (G.may_answer gate.now) questions.entry.items f) }
 {
     let width = questions.len();
     let shares = deal_all(alloc, questions, workers)?;

@@ -14,7 +14,7 @@ use std::process::Abort;
 /// How many vertices the chain has.
 const VERTICES: u32 = 4000;
 
-/// What each arc of the chain weighs.
+/// The weight of each arc of the chain.
 const WEIGHT: u32 = 3;
 
 /// A chain from vertex 1 on, in 64 blocks.
@@ -42,7 +42,7 @@ fn send_waiting<A: PathAlgebra>(
     }
 }
 
-/// Takes what has come, handles what waits, sends what is for others, and tells whether the end is known.
+/// Takes what has come, handles what waits, sends what is for others, and says whether the end is known.
 fn turn<A: PathAlgebra>(
     floor: &Floor<A>,
     plan: &Plan,
@@ -62,7 +62,7 @@ fn turn<A: PathAlgebra>(
     announce(floor, seat, part) || floor.look(seat, part)
 }
 
-/// One turn at each place, in order, and whether all of them know the end.
+/// Makes one turn at each place, in order, and says whether all of them know the end.
 fn round<'g, A: PathAlgebra>(
     rt: &(impl Abort + AllocGlobal),
     floor: &Floor<A>,
@@ -82,7 +82,7 @@ fn round<'g, A: PathAlgebra>(
     ended
 }
 
-/// So many rounds at the most, until all places know the end.
+/// Makes at most `rounds` rounds, until all places know the end.
 fn run<'g, A: PathAlgebra>(
     rt: &(impl Abort + AllocGlobal),
     floor: &Floor<A>,
@@ -111,7 +111,7 @@ fn label_of<A: PathAlgebra>(places: &VecDeque<Place<'_, A>>, v: Vertex) -> Optio
     None
 }
 
-/// Asserts that each vertex has its distance along the chain for a label.
+/// Asserts that the label of each vertex is its distance along the chain.
 fn assert_distances<A: PathAlgebra<Value = u64>>(rt: &impl Abort, places: &VecDeque<Place<'_, A>>) {
     for arcs in 0..VERTICES {
         let label = label_of(places, Vertex(arcs + 1));

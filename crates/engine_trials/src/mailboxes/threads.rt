@@ -23,7 +23,7 @@ impl<'a, 'g, A: PathAlgebra> Promise<Place<'g, A>> for Errand<'a, A> {
     ghost kept_by = { λ p x. IsAt A.meaning p.floor.now x.0 x.1 };
 }
 
-/// The second shard waits for a batch, each handles what waits, and the first sends what comes of it to the second.
+/// The second shard waits for a batch, each handles what waits, and the first sends the result to the second.
 fn take_part<'g, A: PathAlgebra>(
     floor: &Floor<A>,
     mut seat: Seat<A>,
@@ -38,7 +38,7 @@ fn take_part<'g, A: PathAlgebra>(
     (seat, part)
 }
 
-/// Waits for a batch of the first shard, at another one.
+/// Waits for a batch of the first shard, unless the seat is the first's.
 fn await_batch<A: PathAlgebra>(floor: &Floor<A>, seat: &mut Seat<A>, part: &mut Part<'_, A>)
     requires { IsAt A.meaning floor.now seat.old part.old }
     ensures { IsAt A.meaning floor.now seat.new part.new }
@@ -84,14 +84,17 @@ fn on_two_threads<'g, A: PathAlgebra, R: Threads + Wait + Abort>(
 ) -> (Place<'g, A>, Place<'g, A>)
     requires first { IsAt A.meaning floor.now first.0 first.1 }
     requires second { IsAt A.meaning floor.now second.0 second.1 }
-    ensures { IsAt A.meaning floor.now result.0.0 result.0.1 × IsAt A.meaning floor.now result.1.0 result.1.1 }
+    ensures { IsAt A.meaning floor.now result.0.0 result.0.1 × IsAt A.meaning floor.now result.1.0
+        result.1.1 }
 {
     thread::scope(
         thread::scope_env(),
         rt,
         move |scope| -> (Place<'_, A>, Place<'_, A>)
-            requires { IsAt A.meaning floor.now first.0 first.1 × IsAt A.meaning floor.now second.0 second.1 }
-            ensures { IsAt A.meaning floor.entry.now result.0.0 result.0.1 × IsAt A.meaning floor.entry.now result.1.0 result.1.1 }
+            requires { IsAt A.meaning floor.now first.0 first.1 × IsAt A.meaning floor.now second.0
+                second.1 }
+            ensures { IsAt A.meaning floor.entry.now result.0.0 result.0.1 × IsAt A.meaning
+                floor.entry.now result.1.0 result.1.1 }
         {
             let (seat_0, part_0) = first;
             let (seat_1, part_1) = second;
@@ -113,7 +116,7 @@ fn assert_passed<A: PathAlgebra<Value = u64>>(
     assert!(rt; shows(second, Vertex(2), Some(7)));
 }
 
-/// Lets two threads pass a batch, and asserts what came of it, and that both close the floor.
+/// Lets two threads pass a batch, and asserts the result, and that both close the floor.
 fn assert_passes<A: PathAlgebra<Value = u64>, R: Threads + Wait + Abort + AllocGlobal>(
     rt: &R,
     algebra: A,

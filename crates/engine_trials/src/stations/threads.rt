@@ -83,14 +83,17 @@ fn on_three_threads<'g, A: PathAlgebra, R: Threads + Wait + Abort>(
     requires first { BelongsTo floor.now first }
     requires second { BelongsTo floor.now second }
     requires third { BelongsTo floor.now third }
-    ensures { BelongsTo floor.now result.0 × BelongsTo floor.now result.1 × BelongsTo floor.now result.2 }
+    ensures { BelongsTo floor.now result.0 × BelongsTo floor.now result.1 × BelongsTo floor.now
+        result.2 }
 {
     thread::scope(
         thread::scope_env(),
         rt,
         move |scope| -> (Station<'_, A>, Station<'_, A>, Station<'_, A>)
-            requires { BelongsTo floor.now first × BelongsTo floor.now second × BelongsTo floor.now third }
-            ensures { BelongsTo floor.entry.now result.0 × BelongsTo floor.entry.now result.1 × BelongsTo floor.entry.now result.2 }
+            requires { BelongsTo floor.now first × BelongsTo floor.now second × BelongsTo floor.now
+                third }
+            ensures { BelongsTo floor.entry.now result.0 × BelongsTo floor.entry.now result.1 ×
+                BelongsTo floor.entry.now result.2 }
         {
             let first = start(scope, floor, first, budget).expect(rt, "no thread");
             let second = start(scope, floor, second, budget).expect(rt, "no thread");
@@ -108,7 +111,8 @@ fn turned_by_threads<'g, A: PathAlgebra, R: Threads + Wait + Abort>(
     budget: u32,
 ) -> (Station<'g, A>, Station<'g, A>, Station<'g, A>)
     requires { All (BelongsTo floor.now) stations.items }
-    ensures { BelongsTo floor.now result.0 × BelongsTo floor.now result.1 × BelongsTo floor.now result.2 }
+    ensures { BelongsTo floor.now result.0 × BelongsTo floor.now result.1 × BelongsTo floor.now
+        result.2 }
 {
     let mut stations = stations;
     let third = last_of(rt, floor, &mut stations);

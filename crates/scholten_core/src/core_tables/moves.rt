@@ -1,4 +1,4 @@
-//! The moves of which events are made, each a few writes to the tables.
+//! The moves that events are made of, each a few writes to the tables.
 ghost use Rattle.std.specs.Prelude.{◌≡◌, ℕ, ◌≤◌, ◌<◌, length, Some, false};
 ghost use Rattle.scholten_core.specs.declared.token.Token.TheVariants.{Held};
 ghost use Rattle.scholten_core.specs.Diffusion.{arrive, rest, freed, is_idle, pump_one, improves as improves_on, is_due as due};
@@ -17,8 +17,10 @@ impl<'g, A: PathAlgebra> CoreTables<'g, A> {
         requires within { v ≤ self.old.question.roads.vertices }
         requires busy { is_idle ((state_of self.old).token a) ≡ false }
         ensures same { self.new.question ≡ self.old.question }
-        ensures improved { result ≡ improves_on (A.meaning self.old.question.algebra) value ((state_of self.old).label v) }
-        ensures state { state_of self.new ≡ arrive (A.meaning self.old.question.algebra) (network_of self.old) a value (state_of self.old) }
+        ensures improved { result ≡ improves_on (A.meaning self.old.question.algebra) value
+            ((state_of self.old).label v) }
+        ensures state { state_of self.new ≡ arrive (A.meaning self.old.question.algebra)
+            (network_of self.old) a value (state_of self.old) }
     {
         let improved = improves(self.algebra, value, self.label(v));
         let label = better_of(improved, value, self.label(v));
@@ -36,18 +38,21 @@ impl<'g, A: PathAlgebra> CoreTables<'g, A> {
         requires within { v ≤ self.old.question.roads.vertices }
         requires busy { is_idle ((state_of self.old).token a) ≡ false }
         ensures same { self.new.question ≡ self.old.question }
-        ensures state { state_of self.new ≡ freed (A.meaning self.old.question.algebra) (network_of self.old) a (state_of self.old) }
+        ensures state { state_of self.new ≡ freed (A.meaning self.old.question.algebra)
+            (network_of self.old) a (state_of self.old) }
     {
         self.tokens[a.0 as usize] = Token::Idle;
         self.deficits[v.0 as usize] -= 1;
     }
 
-    /// An engaged vertex with no busy arc out lets go: its engager's arc gets a signal.
+    /// An engaged vertex with no busy arc out becomes neutral: its engager's arc gets a signal.
     pub fn rest(&mut self, v: Vertex)
         requires within { v ≤ self.old.question.roads.vertices }
-        requires held { (e : ℕ) → (state_of self.old).engager v ≡ Some e → (state_of self.old).token e ≡ Held }
+        requires held { (e : ℕ) → (state_of self.old).engager v ≡ Some e → (state_of self.old).token
+            e ≡ Held }
         ensures same { self.new.question ≡ self.old.question }
-        ensures state { state_of self.new ≡ rest (A.meaning self.old.question.algebra) (network_of self.old) v (state_of self.old) }
+        ensures state { state_of self.new ≡ rest (A.meaning self.old.question.algebra)
+            (network_of self.old) v (state_of self.old) }
     {
         if let Some(e) = self.engager(v) {
             if self.deficit(v) == 0 {
@@ -57,24 +62,26 @@ impl<'g, A: PathAlgebra> CoreTables<'g, A> {
         }
     }
 
-    /// Whether an arc out of a vertex is idle and has not been told the vertex's label.
+    /// Whether an arc out of a vertex is idle, and its last offered label is not the vertex's.
     fn is_due(&self, v: Vertex, b: ArcNo) -> bool
         requires high { b ≤ length self.now.question.roads.arcs }
         requires within { v ≤ self.now.question.roads.vertices }
         requires tail { (network_of self.now).tail b ≡ v }
-        ensures { result ≡ due (A.meaning self.now.question.algebra) (network_of self.now) v (state_of self.now) b }
+        ensures { result ≡ due (A.meaning self.now.question.algebra) (network_of self.now) v
+            (state_of self.now) b }
     {
         self.token(b).is_idle() && !is_same(self.algebra, self.told(b), self.label(v))
     }
 
-    /// A due arc is sent the label, extended, and is told.
+    /// Offers the label to an arc if it is due: sends it, extended, unless the extension is refused.
     pub fn offer(&mut self, v: Vertex, b: ArcNo)
         requires low { 1 ≤ b }
         requires high { b ≤ length self.old.question.roads.arcs }
         requires within { v ≤ self.old.question.roads.vertices }
         requires tail { (network_of self.old).tail b ≡ v }
         ensures same { self.new.question ≡ self.old.question }
-        ensures state { state_of self.new ≡ pump_one (A.meaning self.old.question.algebra) (network_of self.old) v b (state_of self.old) }
+        ensures state { state_of self.new ≡ pump_one (A.meaning self.old.question.algebra)
+            (network_of self.old) v b (state_of self.old) }
     {
         if self.is_due(v, b) {
             let label = self.label(v);

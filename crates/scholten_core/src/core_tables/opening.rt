@@ -1,6 +1,6 @@
 //! The tables of a fresh core.
 ghost use Rattle.std.specs.Prelude.{◌≡◌, IfOk};
-ghost use Rattle.road_graph.specs.Roads.{HasVertex};
+ghost use Rattle.road_graph.specs.GraphData.{HasVertex};
 ghost use Rattle.scholten_core.specs.Network.{network};
 ghost use Rattle.scholten_core.specs.Diffusion.{opening};
 ghost use Rattle.scholten_core.specs.CoreView.{state_of, network_of};
@@ -20,8 +20,13 @@ impl<'g, A: PathAlgebra> CoreTables<'g, A> {
         source: Vertex,
     ) -> Result<CoreTables<'g, A>, Memory>
         requires { HasVertex graph.now source }
-        ensures question { IfOk result (λ c. c.question ≡ record { algebra = algebra; roads = graph.now; source = source }) }
-        ensures state { IfOk result (λ c. state_of c ≡ opening (A.meaning algebra) (network graph.now source)) }
+        ensures question { IfOk result (λ c. c.question ≡ record {
+          algebra = algebra;
+          roads = graph.now;
+          source = source;
+        }) }
+        ensures state { IfOk result (λ c. state_of c ≡ opening (A.meaning algebra)
+            (network graph.now source)) }
     {
         let vertices = graph.vertices() as usize + 1;
         let arcs = graph.arcs() + 1;

@@ -1,15 +1,15 @@
-//! What a part does with an item, by the move and by the event.
+//! How a part handles an item: the event, and the moves that it is made of.
 ghost use Rattle.std.specs.Prelude.{◌≡◌, ◌≢◌, [], Option, Some, None, IfSome, IsTrue, IsFalse, true, false};
 ghost use Rattle.scholten_core.specs.Diffusion.{improves as improves_on};
 ghost use Rattle.scholten_core.specs.Items.{item_arc};
 ghost use Rattle.shard_part.specs.Tallies.{counted_on};
-ghost use Rattle.shard_part.specs.PartState.{network_in, place_in, state_in, vertex_of, IsArc};
+ghost use Rattle.shard_part.specs.PartState.{network_of, place_in, state_in, vertex_of, IsArc};
 ghost use Rattle.shard_part.specs.LocalInvariant.{IsClear};
 ghost use Rattle.shard_part.specs.Part.{OwnIdleIsTold, HandledFront};
 ghost use Rattle.shard_part.specs.Moves.{IsPlace, IsPopped, HandledOne, engaged_or_answered, labelled, rested, with_value, with_free, with_taken};
 
-use crate::place::{ArcPlace, VertexPlace};
 use crate::state::PartState;
+use crate::store::place::{ArcPlace, VertexPlace};
 use path_algebra::{PathAlgebra, laws_hold};
 use road_graph::ArcNo;
 use scholten_core::{Item, improves};
@@ -17,8 +17,10 @@ use scholten_core::{Item, improves};
 impl<'g, A: PathAlgebra> PartState<'g, A> {
     /// Handles the front item, if there is one.
     pub(crate) fn handle_front(&mut self) -> bool
-        ensures taken { IsTrue result → HandledOne (A.meaning self.old.setup.question.algebra) self.old self.new }
-        ensures item { IsTrue result → OwnIdleIsTold self.old → HandledFront A.meaning self.old self.new }
+        ensures taken { IsTrue result → HandledOne (A.meaning self.old.setup.question.algebra)
+            self.old self.new }
+        ensures item { IsTrue result → OwnIdleIsTold self.old → HandledFront A.meaning self.old
+            self.new }
         ensures told { OwnIdleIsTold self.old → OwnIdleIsTold self.new }
         ensures none { IsFalse result → (self.old.queue ≡ []) × (self.new ≡ self.old) }
     {
@@ -42,8 +44,9 @@ impl<'g, A: PathAlgebra> PartState<'g, A> {
 
     /// Handles an item that was taken from the queue.
     fn handle_item(&mut self, item: Item<A::Value>)
-        requires arc { IsArc (network_in self.old.setup) (item_arc item) }
-        requires here { place_in self.old.setup (vertex_of (network_in self.old.setup) item) ≡ self.old.shard }
+        requires arc { IsArc (network_of self.old.setup) (item_arc item) }
+        requires here { place_in self.old.setup (vertex_of (network_of self.old.setup) item) ≡
+            self.old.shard }
         requires clear { IsClear self.old (item_arc item) }
         ensures { self.new ≡ with_taken (A.meaning self.old.setup.question.algebra) item self.old }
     {
@@ -75,10 +78,12 @@ impl<'g, A: PathAlgebra> PartState<'g, A> {
 
     /// A message is handled at its head.
     fn handle_message(&mut self, a: ArcNo, value: A::Value)
-        requires arc { IsArc (network_in self.old.setup) a }
-        requires here { place_in self.old.setup ((network_in self.old.setup).head a) ≡ self.old.shard }
+        requires arc { IsArc (network_of self.old.setup) a }
+        requires here { place_in self.old.setup ((network_of self.old.setup).head a) ≡
+            self.old.shard }
         requires clear { IsClear self.old a }
-        ensures { self.new ≡ with_value (A.meaning self.old.setup.question.algebra) a value ((network_in self.old.setup).head a) self.old }
+        ensures { self.new ≡ with_value (A.meaning self.old.setup.question.algebra) a value
+            ((network_of self.old.setup).head a) self.old }
     {
         let v = self.place(self.head(a));
         let improved = self.improve(v, value);
@@ -89,13 +94,15 @@ impl<'g, A: PathAlgebra> PartState<'g, A> {
 
     /// A signal is handled at its tail.
     fn handle_signal(&mut self, a: ArcNo)
-        requires arc { IsArc (network_in self.old.setup) a }
-        requires here { place_in self.old.setup ((network_in self.old.setup).tail a) ≡ self.old.shard }
+        requires arc { IsArc (network_of self.old.setup) a }
+        requires here { place_in self.old.setup ((network_of self.old.setup).tail a) ≡
+            self.old.shard }
         requires clear { IsClear self.old a }
-        ensures { self.new ≡ with_free (A.meaning self.old.setup.question.algebra) a ((network_in self.old.setup).tail a) self.old }
+        ensures { self.new ≡ with_free (A.meaning self.old.setup.question.algebra) a
+            ((network_of self.old.setup).tail a) self.old }
     {
         let v = self.place(self.tail(a));
-        let k = self.turn_of(a);
+        let k = self.rank_of(a);
         let b = ArcPlace {
             arc: a,
             at: self.row(v, k),
@@ -107,11 +114,13 @@ impl<'g, A: PathAlgebra> PartState<'g, A> {
         }
     }
 
-    /// The label of the vertex at a place becomes the value, if that is better.
+    /// Sets the label of the vertex at a place to the value, if that is better. Says whether it was.
     fn improve(&mut self, v: VertexPlace, value: A::Value) -> bool
         requires { IsPlace self.old v.vertex v.at }
-        ensures improved { result ≡ improves_on (A.meaning self.old.setup.question.algebra) value ((state_in self.old).label v.vertex) }
-        ensures moved { self.new ≡ labelled (A.meaning self.old.setup.question.algebra) value v.vertex self.old }
+        ensures improved { result ≡ improves_on (A.meaning self.old.setup.question.algebra) value
+            ((state_in self.old).label v.vertex) }
+        ensures moved { self.new ≡ labelled (A.meaning self.old.setup.question.algebra) value
+            v.vertex self.old }
     {
         let improved = improves(self.algebra, value, self.label_at(v));
         if improved {
@@ -120,14 +129,15 @@ impl<'g, A: PathAlgebra> PartState<'g, A> {
         improved
     }
 
-    /// A message on arc a finds the vertex at a place: a neutral one is engaged, another answers.
+    /// A message on arc a finds the vertex at a place: a neutral one is engaged, any other answers.
     fn engage_or_answer(&mut self, a: ArcNo, v: VertexPlace)
         requires place { IsPlace self.old v.vertex v.at }
         requires vertex { v.vertex ≢ 0 }
-        requires arc { IsArc (network_in self.old.setup) a }
-        requires head { (network_in self.old.setup).head a ≡ v.vertex }
+        requires arc { IsArc (network_of self.old.setup) a }
+        requires head { (network_of self.old.setup).head a ≡ v.vertex }
         requires clear { IsClear self.old a }
-        ensures { self.new ≡ engaged_or_answered a v.vertex ((state_in self.old).engager v.vertex) self.old }
+        ensures { self.new ≡ engaged_or_answered a v.vertex ((state_in self.old).engager v.vertex)
+            self.old }
     {
         match self.engager_at(v) {
             None => self.engage(v, a),
@@ -135,7 +145,7 @@ impl<'g, A: PathAlgebra> PartState<'g, A> {
         }
     }
 
-    /// The vertex at a place lets go, if it is engaged and no arc out of it is busy.
+    /// The vertex at a place becomes neutral, and a signal goes back on its engager, if it is engaged and no arc out of it is busy.
     fn rest(&mut self, v: VertexPlace)
         requires place { IsPlace self.old v.vertex v.at }
         requires vertex { v.vertex ≢ 0 }

@@ -1,20 +1,20 @@
 //! Batches of items that go to other shards and come from them.
 ghost use Rattle.std.specs.Prelude.{◌≡◌, ◌≢◌, ◌+◌, ◌++◌, ◌<◌, ◌≤◌, ℕ, [], set, get_or, drop, length, leb, IsTrue, ◌↔◌};
 ghost use Rattle.circular_buffer.specs.Buffer.{buffer};
-ghost use Rattle.road_graph.specs.Roads.{HasArc};
+ghost use Rattle.road_graph.specs.GraphData.{HasArc};
 ghost use Rattle.scholten_core.specs.Items.{item_arc};
-ghost use Rattle.shard_part.specs.PartState.{network_in, place_in, state_in};
+ghost use Rattle.shard_part.specs.PartState.{network_of, place_in, state_in};
 ghost use Rattle.shard_part.specs.Capacities.{queue_bound, outbox_bound};
 ghost use Rattle.shard_part.specs.Weights.{part_weight, is};
 ghost use Rattle.shard_part.specs.LocalInvariant.{names};
 ghost use Rattle.shard_part.specs.Moves.{IsPlace};
 ghost use Rattle.shard_part.specs.Exchange.{Fits, FitsAlone, FitsBefore, MayEngage, Awaits};
 
-use crate::batch::{Batch, arc_of};
 use crate::laws::state_holds;
-use crate::place::VertexPlace;
 use crate::shard::Shard;
 use crate::state::PartState;
+use crate::store::batch::{Batch, arc_of};
+use crate::store::place::VertexPlace;
 use path_algebra::PathAlgebra;
 use road_graph::{ArcNo, Vertex};
 use scholten_core::Item;
@@ -25,7 +25,8 @@ impl<'g, A: PathAlgebra> PartState<'g, A> {
         requires other { to ≢ self.old.shard }
         requires shard { to < self.old.setup.plan.shards }
         requires empty { batch.old.items ≡ [] }
-        requires capacity { batch.old.capacity ≡ outbox_bound (network_in self.old.setup) (place_in self.old.setup) self.old.shard to }
+        requires capacity { batch.old.capacity ≡ outbox_bound (network_of self.old.setup)
+            (place_in self.old.setup) self.old.shard to }
         ensures part { self.new ≡ record self.old { outs = set self.old.outs to [] } }
         ensures batch { batch.new ≡ buffer (get_or self.old.outs to []) batch.old.capacity }
     {
@@ -34,7 +35,8 @@ impl<'g, A: PathAlgebra> PartState<'g, A> {
 
     /// Appends all items of a batch to the queue, in order, and leaves the batch empty.
     pub(crate) fn receive(&mut self, batch: &mut Batch<A::Value>)
-        requires room { length self.old.queue + length batch.old.items ≤ queue_bound (network_in self.old.setup) (place_in self.old.setup) self.old.shard }
+        requires room { length self.old.queue + length batch.old.items ≤ queue_bound
+            (network_of self.old.setup) (place_in self.old.setup) self.old.shard }
         requires fits { Fits (A.meaning self.old.setup.question.algebra) self.old batch.old.items }
         ensures part { self.new ≡ record self.old { queue = self.old.queue ++ batch.old.items } }
         ensures batch { batch.new ≡ buffer [] batch.old.capacity }
@@ -42,11 +44,12 @@ impl<'g, A: PathAlgebra> PartState<'g, A> {
         self.queue.append(batch);
     }
 
-    /// Whether a batch may be received: no arc stands twice in it, or both in it and in the queue or an outbox, each message has a
+    /// Whether a batch may be received: no arc occurs twice in it, or both in it and in the queue or an outbox, each message has a
     /// value of the algebra and comes on an arc from another shard into this one that is no engager here, and each signal comes
     /// back on an arc from this shard into another that is busy here.
     pub fn fits(&self, batch: &Batch<A::Value>) -> bool
-        ensures { IsTrue result ↔ Fits (A.meaning self.now.setup.question.algebra) self.now batch.now.items }
+        ensures { IsTrue result ↔ Fits (A.meaning self.now.setup.question.algebra) self.now
+            batch.now.items }
     {
         state_holds(self);
         for i in 0..batch.len() {
@@ -62,7 +65,8 @@ impl<'g, A: PathAlgebra> PartState<'g, A> {
     /// Whether an item is alone on its arc, among those of a batch from an index on and those of this part, and may be received.
     fn fits_before(&self, item: Item<A::Value>, batch: &Batch<A::Value>, next: usize) -> bool
         requires { next ≤ length batch.now.items }
-        ensures { IsTrue result ↔ FitsBefore (A.meaning self.now.setup.question.algebra) self.now item (drop next batch.now.items) }
+        ensures { IsTrue result ↔ FitsBefore (A.meaning self.now.setup.question.algebra) self.now
+            item (drop next batch.now.items) }
     {
         let arc = arc_of(item);
         if batch.stands_from(next, arc) {
@@ -74,7 +78,7 @@ impl<'g, A: PathAlgebra> PartState<'g, A> {
         self.fits_alone(item)
     }
 
-    /// Whether an item on an arc stands in the queue or an outbox.
+    /// Whether an item on an arc is in the queue or an outbox.
     fn carries(&self, arc: ArcNo) -> bool
         ensures { result ≡ leb 1 (part_weight (λ _ j. is arc (item_arc j)) self.now) }
     {
@@ -91,7 +95,8 @@ impl<'g, A: PathAlgebra> PartState<'g, A> {
 
     /// Whether an item may be received by itself.
     fn fits_alone(&self, item: Item<A::Value>) -> bool
-        ensures { IsTrue result ↔ FitsAlone (A.meaning self.now.setup.question.algebra) self.now item }
+        ensures { IsTrue result ↔ FitsAlone (A.meaning self.now.setup.question.algebra) self.now
+            item }
     {
         match item {
             Item::Message { arc, value } => {
@@ -110,8 +115,10 @@ impl<'g, A: PathAlgebra> PartState<'g, A> {
 
     /// Whether one vertex is of another shard and the other of this one.
     fn leads_here(&self, from: Vertex, to: Vertex) -> bool
-        requires { (from ≤ self.now.setup.question.roads.vertices) × (to ≤ self.now.setup.question.roads.vertices) }
-        ensures { IsTrue result ↔ (place_in self.now.setup to ≡ self.now.shard) × (place_in self.now.setup from ≢ self.now.shard) }
+        requires { (from ≤ self.now.setup.question.roads.vertices) ×
+            (to ≤ self.now.setup.question.roads.vertices) }
+        ensures { IsTrue result ↔ (place_in self.now.setup to ≡ self.now.shard) ×
+            (place_in self.now.setup from ≢ self.now.shard) }
     {
         self.shard_of(to) == self.shard && self.shard_of(from) != self.shard
     }

@@ -1,7 +1,7 @@
 //! A part as it is opened.
 ghost use Rattle.std.specs.Prelude.{◌≡◌, ℕ, ◌≤◌, ◌<◌, [], map, length, replicate, IsTrue, IfOk};
 ghost use Rattle.circular_buffer.specs.Buffer.{buffer};
-ghost use Rattle.road_graph.specs.Roads.{HasVertex};
+ghost use Rattle.road_graph.specs.GraphData.{HasVertex};
 ghost use Rattle.scholten_core.specs.Network.{network};
 ghost use Rattle.scholten_core.specs.Diffusion.{state_after};
 ghost use Rattle.shard_part.specs.Represents.{HoldsShare};
@@ -9,22 +9,22 @@ ghost use Rattle.shard_part.specs.Moves.{rows_of};
 ghost use Rattle.shard_part.specs.Outgoing.{local_vertices};
 ghost use Rattle.shard_part.specs.Opening.{opened_part, first_items, AreIdle};
 
-use crate::batch::Batch;
 use crate::laws::plan_holds;
-use crate::layout::{ShardLayout, sum_of};
-use crate::own::OwnVertices;
 use crate::plan::Plan;
-use crate::queue::Queue;
 use crate::shard::Shard;
 use crate::state::PartState;
-use crate::tables::{ArcTable, Tables, VertexTable};
+use crate::store::batch::Batch;
+use crate::store::layout::{ShardLayout, sum_of};
+use crate::store::local_vertices::LocalVertices;
+use crate::store::queue::Queue;
+use crate::store::tables::{ArcTable, Tables, VertexTable};
 use path_algebra::PathAlgebra;
 use road_graph::{Graph, Memory, Vertex};
 use scholten_core::{ENTRY, Item, roads_hold};
 use std::alloc::{AllocError, Global};
 
 impl<'g, A: PathAlgebra> PartState<'g, A> {
-    /// The part of one shard before any event. At the source's the message of the environment waits, with the origin as its value.
+    /// The part of one shard before any event. At the source's part the message of the environment waits, with the origin as its value.
     pub(crate) fn open(
         alloc: Global,
         algebra: A,
@@ -36,8 +36,13 @@ impl<'g, A: PathAlgebra> PartState<'g, A> {
         requires source { HasVertex graph.now source }
         requires plan { length plan.now.list ≡ graph.now.vertices }
         requires shard { shard < plan.now.shards }
-        ensures part { IfOk result (λ d. d ≡ opened_part (A.meaning algebra) (record { question = record { algebra = algebra; roads = graph.now; source = source }; plan = plan.now }) shard) }
-        ensures share { IfOk result (λ d. HoldsShare A.meaning (state_after (A.meaning algebra) (network graph.now source) []) d) }
+        ensures part { IfOk result (λ d. d ≡ opened_part (A.meaning algebra)
+            (record {
+              question = record { algebra = algebra; roads = graph.now; source = source };
+              plan = plan.now;
+            }) shard) }
+        ensures share { IfOk result (λ d. HoldsShare A.meaning (state_after (A.meaning algebra)
+            (network graph.now source) []) d) }
     {
         roads_hold(graph);
         plan_holds(plan);
@@ -49,7 +54,7 @@ impl<'g, A: PathAlgebra> PartState<'g, A> {
         };
         let first = layout.is_first();
         let own = layout.own_vertices(alloc)?;
-        // What stays when a part is closed is made first, so that what is let go lies in one piece behind it.
+        // What a closed part keeps is allocated first, so that the memory freed by closing is in one piece after it.
         let tables = idle_tables(alloc, &layout, own, algebra.origin())?;
         let mut capacities = layout.capacities(alloc, &tables.own)?;
         let queue = opening_queue(alloc, algebra, sum_of(&capacities), first)?;
@@ -94,7 +99,8 @@ fn opening_queue<A: PathAlgebra>(
 
 /// Empty batches of these capacities.
 fn empty_batches<V: Copy>(alloc: Global, capacities: &[usize]) -> Result<Vec<Batch<V>>, Memory>
-    ensures items { IfOk result (λ all. map (λ b. b.items) all.items ≡ replicate (length capacities.now) []) }
+    ensures items { IfOk result (λ all. map (λ b. b.items) all.items ≡ replicate
+        (length capacities.now) []) }
     ensures capacities { IfOk result (λ all. map (λ b. b.capacity) all.items ≡ capacities.now) }
 {
     let mut all = Vec::with_capacity(alloc, capacities.len())?;
@@ -107,11 +113,11 @@ fn empty_batches<V: Copy>(alloc: Global, capacities: &[usize]) -> Result<Vec<Bat
     Ok(all)
 }
 
-/// Tables in which nothing has happened but that arc 0 may be busy. The value stands in for those that are not there yet.
+/// Tables in which nothing has happened, except that arc 0 may be busy. The value fills the places of those that are not there yet.
 fn idle_tables<V: Copy>(
     alloc: Global,
     layout: &ShardLayout,
-    own: OwnVertices,
+    own: LocalVertices,
     value: V,
 ) -> Result<Tables<V>, AllocError>
     requires { own ≡ local_vertices layout.now.setup layout.now.shard }

@@ -1,15 +1,15 @@
 //! What may be read of a part.
 ghost use Rattle.std.specs.Prelude.{◌≡◌, ◌≢◌, ◌+◌, ◌<◌, suc, [], get_or, length, leb, IsTrue, ◌↔◌};
 ghost use Rattle.scholten_core.specs.Deficit.{busy_out};
-ghost use Rattle.shard_part.specs.PartState.{network_in, place_in, state_in};
+ghost use Rattle.shard_part.specs.PartState.{network_of, place_in, state_in};
 ghost use Rattle.shard_part.specs.Capacities.{queue_bound, outbox_bound};
 ghost use Rattle.shard_part.specs.Tallies.{top};
 ghost use Rattle.shard_part.specs.Readings.{IsOwn, has_ended, tally_in};
 
-use crate::place::ArcPlace;
 use crate::question::Question;
 use crate::shard::Shard;
 use crate::state::PartState;
+use crate::store::place::ArcPlace;
 use crate::tally::Tally;
 use path_algebra::PathAlgebra;
 use road_graph::{ArcNo, Vertex};
@@ -29,7 +29,7 @@ impl<'g, A: PathAlgebra> PartState<'g, A> {
         }
     }
 
-    /// Whether a shard is another one than this: the test of what `capacity` and `swap_outbox` require.
+    /// Whether a shard is another than this one: the test of what `capacity` and `swap_outbox` require.
     pub fn is_other(&self, to: Shard) -> bool
         ensures { IsTrue result ↔ (to ≢ self.now.shard) × (to < self.now.setup.plan.shards) }
     {
@@ -40,7 +40,8 @@ impl<'g, A: PathAlgebra> PartState<'g, A> {
     pub fn capacity(&self, to: Shard) -> usize
         requires other { to ≢ self.now.shard }
         requires shard { to < self.now.setup.plan.shards }
-        ensures { result ≡ outbox_bound (network_in self.now.setup) (place_in self.now.setup) self.now.shard to }
+        ensures { result ≡ outbox_bound (network_of self.now.setup) (place_in self.now.setup)
+            self.now.shard to }
     {
         self.outs[to.0 as usize].capacity()
     }
@@ -54,7 +55,8 @@ impl<'g, A: PathAlgebra> PartState<'g, A> {
 
     /// For how many more items the queue has a place. In all it has one for each arc with an end in the shard.
     pub fn room(&self) -> usize
-        ensures { result + length self.now.queue ≡ queue_bound (network_in self.now.setup) (place_in self.now.setup) self.now.shard }
+        ensures { result + length self.now.queue ≡ queue_bound (network_of self.now.setup)
+            (place_in self.now.setup) self.now.shard }
     {
         self.queue.capacity() - self.queue.len()
     }
@@ -67,7 +69,7 @@ impl<'g, A: PathAlgebra> PartState<'g, A> {
         self.outs[to.0 as usize].len()
     }
 
-    /// Whether the question has ended: arc 0 is idle. False but at the source's part.
+    /// Whether the question has ended: arc 0 is idle. False except at the source's part.
     pub fn ended(&self) -> bool
         ensures { result ≡ has_ended self.now }
     {
@@ -100,7 +102,8 @@ impl<'g, A: PathAlgebra> PartState<'g, A> {
     /// How many arcs out of a vertex of this shard are not idle.
     pub fn deficit(&self, v: Vertex) -> u32
         requires { IsOwn self.now v }
-        ensures { result ≡ busy_out (network_in self.now.setup) v (state_in self.now) (suc (length self.now.setup.question.roads.arcs)) }
+        ensures { result ≡ busy_out (network_of self.now.setup) v (state_in self.now)
+            (suc (length self.now.setup.question.roads.arcs)) }
     {
         self.deficit_at(self.place(v))
     }
@@ -122,7 +125,7 @@ impl<'g, A: PathAlgebra> PartState<'g, A> {
     }
 }
 
-/// The counter has stopped, or stands where it stops.
+/// Whether the counter is at its top, where it stops.
 fn is_at_top(counter: u64) -> bool
     ensures { result ≡ leb top counter }
 {

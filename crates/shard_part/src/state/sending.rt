@@ -1,38 +1,40 @@
-//! What a part tells along its arcs, and where that goes.
+//! What a part sends along its arcs, and where it goes.
 ghost use Rattle.std.specs.Prelude.{◌≡◌, ◌≢◌, ◌<◌, length, get_or, Option, Some, true, false, cond, not, ◌&&◌};
-ghost use Rattle.road_graph.specs.Roads.{arc_of, road_of};
+ghost use Rattle.road_graph.specs.GraphData.{arc_of, road_of};
 ghost use Rattle.scholten_core.specs.declared.item.Item.TheVariants.{Signal as SignalOn};
 ghost use Rattle.scholten_core.specs.Diffusion.{is_due as due};
 ghost use Rattle.scholten_core.specs.Items.{item_arc};
-ghost use Rattle.shard_part.specs.PartState.{network_in, place_in, state_in, vertex_of, maker_of, IsArc};
+ghost use Rattle.shard_part.specs.PartState.{network_of, place_in, state_in, vertex_of, maker_of, IsArc};
 ghost use Rattle.shard_part.specs.Outgoing.{outgoing};
 ghost use Rattle.shard_part.specs.LocalInvariant.{IsClear};
-ghost use Rattle.shard_part.specs.Moves.{IsPlace, IsRow, put_item, counted_made, with_item, with_message, offered, offered_all};
+ghost use Rattle.shard_part.specs.Moves.{IsPlace, IsArcRow, put_item, counted_made, with_item, with_message, offered, offered_all};
 
-use crate::place::{ArcPlace, VertexPlace};
 use crate::shard::Shard;
 use crate::state::PartState;
+use crate::store::place::{ArcPlace, VertexPlace};
 use path_algebra::PathAlgebra;
 use road_graph::{ArcNo, OutRoad};
 use scholten_core::{Item, extended, is_same};
 
 impl<'g, A: PathAlgebra> PartState<'g, A> {
-    /// Each due arc out of the vertex at a place is told its label, if that improved, and none otherwise: then each idle arc was told it before.
+    /// Offers its label to each due arc out of the vertex at a place, if the label improved. Otherwise none is due: each idle arc was offered it before.
     pub(super) fn pump_if(&mut self, v: VertexPlace, improved: bool)
         requires place { IsPlace self.old v.vertex v.at }
         requires vertex { v.vertex ≢ 0 }
-        ensures { self.new ≡ cond improved (offered_all (A.meaning self.old.setup.question.algebra) v.vertex (outgoing (network_in self.old.setup) v.vertex) self.old) self.old }
+        ensures { self.new ≡ cond improved (offered_all (A.meaning self.old.setup.question.algebra)
+            v.vertex (outgoing (network_of self.old.setup) v.vertex) self.old) self.old }
     {
         if improved {
             self.pump(v);
         }
     }
 
-    /// Each due arc out of the vertex at a place is told its label.
+    /// Offers its label to each due arc out of the vertex at a place.
     fn pump(&mut self, v: VertexPlace)
         requires place { IsPlace self.old v.vertex v.at }
         requires vertex { v.vertex ≢ 0 }
-        ensures { self.new ≡ offered_all (A.meaning self.old.setup.question.algebra) v.vertex (outgoing (network_in self.old.setup) v.vertex) self.old }
+        ensures { self.new ≡ offered_all (A.meaning self.old.setup.question.algebra) v.vertex
+            (outgoing (network_of self.old.setup) v.vertex) self.old }
     {
         let graph = self.graph;
         let outgoing = graph.out(v.vertex);
@@ -43,33 +45,35 @@ impl<'g, A: PathAlgebra> PartState<'g, A> {
         }
     }
 
-    /// The arc b out of the vertex at a place is told its label, if it is due.
+    /// Offers the label of the vertex at a place to the arc b out of it, if that is due.
     fn offer(&mut self, v: VertexPlace, b: ArcPlace, road: OutRoad)
         requires place { IsPlace self.old v.vertex v.at }
         requires vertex { v.vertex ≢ 0 }
-        requires row { IsRow self.old b.arc b.at }
-        requires tail { (network_in self.old.setup).tail b.arc ≡ v.vertex }
-        requires arc { IsArc (network_in self.old.setup) b.arc }
+        requires row { IsArcRow self.old b.arc b.at }
+        requires tail { (network_of self.old.setup).tail b.arc ≡ v.vertex }
+        requires arc { IsArc (network_of self.old.setup) b.arc }
         requires graph { b.arc ≢ 0 }
         requires road { road ≡ road_of (arc_of self.old.setup.question.roads b.arc) }
-        ensures { self.new ≡ offered (A.meaning self.old.setup.question.algebra) v.vertex b.arc self.old }
+        ensures { self.new ≡ offered (A.meaning self.old.setup.question.algebra) v.vertex b.arc
+            self.old }
     {
         if self.is_due(v, b) {
             self.tell_anew(v, b, road);
         }
     }
 
-    /// The same for the k-th arc out of the vertex, of which only the number is known: head and weight are looked up if it is due, as most are not.
+    /// The same for the k-th arc out of the vertex. Its head and weight are looked up only if it is due, as most are not.
     pub(super) fn offer_again(&mut self, v: VertexPlace, k: usize, b: ArcPlace)
         requires place { IsPlace self.old v.vertex v.at }
         requires vertex { v.vertex ≢ 0 }
-        requires inside { k < length (outgoing (network_in self.old.setup) v.vertex) }
-        requires turn { get_or (outgoing (network_in self.old.setup) v.vertex) k 0 ≡ b.arc }
-        requires row { IsRow self.old b.arc b.at }
-        requires tail { (network_in self.old.setup).tail b.arc ≡ v.vertex }
-        requires arc { IsArc (network_in self.old.setup) b.arc }
+        requires inside { k < length (outgoing (network_of self.old.setup) v.vertex) }
+        requires turn { get_or (outgoing (network_of self.old.setup) v.vertex) k 0 ≡ b.arc }
+        requires row { IsArcRow self.old b.arc b.at }
+        requires tail { (network_of self.old.setup).tail b.arc ≡ v.vertex }
+        requires arc { IsArc (network_of self.old.setup) b.arc }
         requires graph { b.arc ≢ 0 }
-        ensures { self.new ≡ offered (A.meaning self.old.setup.question.algebra) v.vertex b.arc self.old }
+        ensures { self.new ≡ offered (A.meaning self.old.setup.question.algebra) v.vertex b.arc
+            self.old }
     {
         if self.is_due(v, b) {
             let road = self.road_at(v, k);
@@ -77,12 +81,13 @@ impl<'g, A: PathAlgebra> PartState<'g, A> {
         }
     }
 
-    /// Whether the arc b out of the vertex at a place has to be told its label.
+    /// Whether the arc b out of the vertex at a place has to be offered its label.
     fn is_due(&self, v: VertexPlace, b: ArcPlace) -> bool
         requires place { IsPlace self.now v.vertex v.at }
-        requires row { IsRow self.now b.arc b.at }
-        requires tail { (network_in self.now.setup).tail b.arc ≡ v.vertex }
-        ensures { result ≡ due (A.meaning self.now.setup.question.algebra) (network_in self.now.setup) v.vertex (state_in self.now) b.arc }
+        requires row { IsArcRow self.now b.arc b.at }
+        requires tail { (network_of self.now.setup).tail b.arc ≡ v.vertex }
+        ensures { result ≡ due (A.meaning self.now.setup.question.algebra)
+            (network_of self.now.setup) v.vertex (state_in self.now) b.arc }
     {
         neither(
             self.is_busy(b),
@@ -90,17 +95,19 @@ impl<'g, A: PathAlgebra> PartState<'g, A> {
         )
     }
 
-    /// The due arc b out of the vertex at a place is told its label.
+    /// Offers the label of the vertex at a place to the due arc b out of it.
     fn tell_anew(&mut self, v: VertexPlace, b: ArcPlace, road: OutRoad)
         requires place { IsPlace self.old v.vertex v.at }
         requires vertex { v.vertex ≢ 0 }
-        requires row { IsRow self.old b.arc b.at }
-        requires tail { (network_in self.old.setup).tail b.arc ≡ v.vertex }
-        requires arc { IsArc (network_in self.old.setup) b.arc }
+        requires row { IsArcRow self.old b.arc b.at }
+        requires tail { (network_of self.old.setup).tail b.arc ≡ v.vertex }
+        requires arc { IsArc (network_of self.old.setup) b.arc }
         requires graph { b.arc ≢ 0 }
         requires road { road ≡ road_of (arc_of self.old.setup.question.roads b.arc) }
-        requires due { due (A.meaning self.old.setup.question.algebra) (network_in self.old.setup) v.vertex (state_in self.old) b.arc ≡ true }
-        ensures { self.new ≡ offered (A.meaning self.old.setup.question.algebra) v.vertex b.arc self.old }
+        requires due { due (A.meaning self.old.setup.question.algebra) (network_of self.old.setup)
+            v.vertex (state_in self.old) b.arc ≡ true }
+        ensures { self.new ≡ offered (A.meaning self.old.setup.question.algebra) v.vertex b.arc
+            self.old }
     {
         let label = self.label_at(v);
         let value = extended(self.algebra, label, road.weight);
@@ -109,15 +116,16 @@ impl<'g, A: PathAlgebra> PartState<'g, A> {
         self.message(v, b, value, to);
     }
 
-    /// A message goes along the idle arc b, if there is a value.
+    /// Sends a message along the idle arc b, if there is a value.
     fn message(&mut self, v: VertexPlace, b: ArcPlace, value: Option<A::Value>, to: Shard)
         requires place { IsPlace self.old v.vertex v.at }
         requires vertex { v.vertex ≢ 0 }
-        requires row { IsRow self.old b.arc b.at }
-        requires tail { (network_in self.old.setup).tail b.arc ≡ v.vertex }
-        requires arc { IsArc (network_in self.old.setup) b.arc }
-        requires made { place_in self.old.setup ((network_in self.old.setup).tail b.arc) ≡ self.old.shard }
-        requires shard { to ≡ place_in self.old.setup ((network_in self.old.setup).head b.arc) }
+        requires row { IsArcRow self.old b.arc b.at }
+        requires tail { (network_of self.old.setup).tail b.arc ≡ v.vertex }
+        requires arc { IsArc (network_of self.old.setup) b.arc }
+        requires made { place_in self.old.setup ((network_of self.old.setup).tail b.arc) ≡
+            self.old.shard }
+        requires shard { to ≡ place_in self.old.setup ((network_of self.old.setup).head b.arc) }
         requires idle { get_or self.old.busy b.arc false ≡ false }
         ensures { self.new ≡ with_message b.arc value self.old }
     {
@@ -127,10 +135,11 @@ impl<'g, A: PathAlgebra> PartState<'g, A> {
         }
     }
 
-    /// The signal of an arc is made.
+    /// Makes the signal of an arc.
     pub(super) fn signal(&mut self, a: ArcNo)
-        requires arc { IsArc (network_in self.old.setup) a }
-        requires made { place_in self.old.setup ((network_in self.old.setup).head a) ≡ self.old.shard }
+        requires arc { IsArc (network_of self.old.setup) a }
+        requires made { place_in self.old.setup ((network_of self.old.setup).head a) ≡
+            self.old.shard }
         requires clear { IsClear self.old a }
         ensures { self.new ≡ with_item (SignalOn a) self.old }
     {
@@ -138,11 +147,12 @@ impl<'g, A: PathAlgebra> PartState<'g, A> {
         self.put(Item::Signal { arc: a }, to);
     }
 
-    /// An item is made.
+    /// Makes an item: sends it and counts it.
     fn put(&mut self, item: Item<A::Value>, to: Shard)
-        requires arc { IsArc (network_in self.old.setup) (item_arc item) }
-        requires made { place_in self.old.setup (maker_of (network_in self.old.setup) item) ≡ self.old.shard }
-        requires shard { to ≡ place_in self.old.setup (vertex_of (network_in self.old.setup) item) }
+        requires arc { IsArc (network_of self.old.setup) (item_arc item) }
+        requires made { place_in self.old.setup (maker_of (network_of self.old.setup) item) ≡
+            self.old.shard }
+        requires shard { to ≡ place_in self.old.setup (vertex_of (network_of self.old.setup) item) }
         requires clear { IsClear self.old (item_arc item) }
         ensures { self.new ≡ with_item item self.old }
     {
@@ -150,11 +160,12 @@ impl<'g, A: PathAlgebra> PartState<'g, A> {
         self.count_made(item);
     }
 
-    /// Puts an item where it belongs.
+    /// Puts an item into the queue or the outbox where it belongs.
     fn send(&mut self, item: Item<A::Value>, to: Shard)
-        requires arc { IsArc (network_in self.old.setup) (item_arc item) }
-        requires made { place_in self.old.setup (maker_of (network_in self.old.setup) item) ≡ self.old.shard }
-        requires shard { to ≡ place_in self.old.setup (vertex_of (network_in self.old.setup) item) }
+        requires arc { IsArc (network_of self.old.setup) (item_arc item) }
+        requires made { place_in self.old.setup (maker_of (network_of self.old.setup) item) ≡
+            self.old.shard }
+        requires shard { to ≡ place_in self.old.setup (vertex_of (network_of self.old.setup) item) }
         requires clear { IsClear self.old (item_arc item) }
         ensures { self.new ≡ put_item item self.old }
     {
@@ -176,7 +187,7 @@ impl<'g, A: PathAlgebra> PartState<'g, A> {
     }
 }
 
-/// Neither holds.
+/// Whether neither holds.
 fn neither(one: bool, other: bool) -> bool
     ensures { result ≡ (not one && not other) }
 {

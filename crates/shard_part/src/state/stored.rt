@@ -1,15 +1,15 @@
-//! What the tables say and take, by vertex and arc with their places.
+//! Reads and writes of the tables, by vertex and arc with their places.
 ghost use Rattle.std.specs.Prelude.{◌≡◌, ◌≢◌, suc, ◌+◌, ◌<◌, ◌≤◌, length, get_or, set, Option, Some, None, IsSome, IfSome, true, false};
-ghost use Rattle.road_graph.specs.Roads.{arc_of, road_of};
+ghost use Rattle.road_graph.specs.GraphData.{arc_of, road_of};
 ghost use Rattle.scholten_core.specs.Deficit.{busy_out};
-ghost use Rattle.shard_part.specs.PartState.{network_in, place_in, state_in, IsArc};
+ghost use Rattle.shard_part.specs.PartState.{network_of, place_in, state_in, IsArc};
 ghost use Rattle.shard_part.specs.Outgoing.{outgoing};
 ghost use Rattle.shard_part.specs.LocalInvariant.{IsClear};
-ghost use Rattle.shard_part.specs.Moves.{IsPlace, IsRow};
+ghost use Rattle.shard_part.specs.Moves.{IsPlace, IsArcRow};
 
-use crate::place::{ArcPlace, VertexPlace};
 use crate::shard::Shard;
 use crate::state::PartState;
+use crate::store::place::{ArcPlace, VertexPlace};
 use path_algebra::PathAlgebra;
 use road_graph::{ArcNo, OutRoad, Vertex};
 use scholten_core::{head_of, tail_of};
@@ -31,12 +31,12 @@ impl<'g, A: PathAlgebra> PartState<'g, A> {
     /// The arc a out of the vertex at a place, with its own place.
     pub(super) fn row_of(&self, v: VertexPlace, a: ArcNo) -> ArcPlace
         requires place { IsPlace self.now v.vertex v.at }
-        requires arc { IsArc (network_in self.now.setup) a }
-        requires tail { (network_in self.now.setup).tail a ≡ v.vertex }
+        requires arc { IsArc (network_of self.now.setup) a }
+        requires tail { (network_of self.now.setup).tail a ≡ v.vertex }
         ensures arc { result.arc ≡ a }
-        ensures row { IsRow self.now result.arc result.at }
+        ensures row { IsArcRow self.now result.arc result.at }
     {
-        let k = self.turn_of(a);
+        let k = self.rank_of(a);
         ArcPlace {
             arc: a,
             at: self.row(v, k),
@@ -46,38 +46,42 @@ impl<'g, A: PathAlgebra> PartState<'g, A> {
     /// The place of the k-th arc out of the vertex at a place.
     pub(super) fn row(&self, v: VertexPlace, k: usize) -> usize
         requires place { IsPlace self.now v.vertex v.at }
-        requires arc { k < length (outgoing (network_in self.now.setup) v.vertex) }
-        ensures { IsRow self.now (get_or (outgoing (network_in self.now.setup) v.vertex) k 0) result }
+        requires arc { k < length (outgoing (network_of self.now.setup) v.vertex) }
+        ensures { IsArcRow self.now (get_or (outgoing (network_of self.now.setup) v.vertex) k 0)
+            result }
     {
         self.tables.vertices.offset(v.at) as usize + k
     }
 
-    /// Where the arc a stands among those out of its tail.
-    pub(super) fn turn_of(&self, a: ArcNo) -> usize
-        requires { IsArc (network_in self.now.setup) a }
-        ensures inside { result < length (outgoing (network_in self.now.setup) ((network_in self.now.setup).tail a)) }
-        ensures arc { get_or (outgoing (network_in self.now.setup) ((network_in self.now.setup).tail a)) result 0 ≡ a }
+    /// Where the arc a is among those out of its tail.
+    pub(super) fn rank_of(&self, a: ArcNo) -> usize
+        requires { IsArc (network_of self.now.setup) a }
+        ensures inside { result < length (outgoing (network_of self.now.setup)
+            ((network_of self.now.setup).tail a)) }
+        ensures arc { get_or (outgoing (network_of self.now.setup) ((network_of self.now.setup).tail
+            a)) result 0 ≡ a }
     {
         if a.0 == 0 {
             return 0;
         }
-        self.graph.turn(a)
+        self.graph.rank(a)
     }
 
     /// Head and weight of the k-th arc out of the vertex at a place.
     pub(super) fn road_at(&self, v: VertexPlace, k: usize) -> OutRoad
         requires place { IsPlace self.now v.vertex v.at }
         requires vertex { v.vertex ≢ 0 }
-        requires inside { k < length (outgoing (network_in self.now.setup) v.vertex) }
-        ensures { result ≡ road_of (arc_of self.now.setup.question.roads (get_or (outgoing (network_in self.now.setup) v.vertex) k 0)) }
+        requires inside { k < length (outgoing (network_of self.now.setup) v.vertex) }
+        ensures { result ≡ road_of (arc_of self.now.setup.question.roads
+            (get_or (outgoing (network_of self.now.setup) v.vertex) k 0)) }
     {
         self.graph.roads_from(v.vertex)[k]
     }
 
     /// The vertex that an arc leads to.
     pub(super) fn head(&self, a: ArcNo) -> Vertex
-        requires { IsArc (network_in self.now.setup) a }
-        ensures head { result ≡ (network_in self.now.setup).head a }
+        requires { IsArc (network_of self.now.setup) a }
+        ensures head { result ≡ (network_of self.now.setup).head a }
         ensures low { 1 ≤ result }
         ensures within { result ≤ self.now.setup.question.roads.vertices }
     {
@@ -86,8 +90,8 @@ impl<'g, A: PathAlgebra> PartState<'g, A> {
 
     /// The vertex that an arc leaves.
     pub(super) fn tail(&self, a: ArcNo) -> Vertex
-        requires { IsArc (network_in self.now.setup) a }
-        ensures tail { result ≡ (network_in self.now.setup).tail a }
+        requires { IsArc (network_of self.now.setup) a }
+        ensures tail { result ≡ (network_of self.now.setup).tail a }
         ensures within { result ≤ self.now.setup.question.roads.vertices }
     {
         tail_of(self.graph, a)
@@ -110,7 +114,7 @@ impl<'g, A: PathAlgebra> PartState<'g, A> {
         self.tables.vertices.label(v.at)
     }
 
-    /// The label of the vertex at a place becomes another.
+    /// Sets the label of the vertex at a place.
     pub(super) fn set_label(&mut self, v: VertexPlace, label: A::Value)
         requires { IsPlace self.old v.vertex v.at }
         ensures { self.new ≡ record self.old { labels = set self.old.labels v.vertex (Some label) } }
@@ -126,26 +130,30 @@ impl<'g, A: PathAlgebra> PartState<'g, A> {
         self.tables.vertices.engager(v.at)
     }
 
-    /// The arc a engages its head, the vertex at a place.
+    /// Makes the arc a the engager of its head, the vertex at a place.
     pub(super) fn engage(&mut self, v: VertexPlace, a: ArcNo)
         requires place { IsPlace self.old v.vertex v.at }
-        requires arc { IsArc (network_in self.old.setup) a }
-        requires head { (network_in self.old.setup).head a ≡ v.vertex }
+        requires arc { IsArc (network_of self.old.setup) a }
+        requires head { (network_of self.old.setup).head a ≡ v.vertex }
         requires clear { IsClear self.old a }
         ensures { self.new ≡ record self.old { engagers = set self.old.engagers v.vertex (Some a) } }
     {
         self.tables.vertices.set_engager(v.at, Some(a));
     }
 
-    /// The vertex at a place lets go of its engager.
+    /// Makes the vertex at a place neutral.
     pub(super) fn release(&mut self, v: VertexPlace)
         requires place { IsPlace self.old v.vertex v.at }
         requires vertex { v.vertex ≢ 0 }
         requires engaged { IsSome ((state_in self.old).engager v.vertex) }
-        ensures moved { self.new ≡ record self.old { engagers = set self.old.engagers v.vertex None } }
+        ensures moved { self.new ≡ record self.old {
+          engagers = set self.old.engagers v.vertex None;
+        } }
         ensures clear { IfSome ((state_in self.old).engager v.vertex) (λ e. IsClear self.new e) }
-        ensures arc { IfSome ((state_in self.old).engager v.vertex) (λ e. IsArc (network_in self.new.setup) e) }
-        ensures made { IfSome ((state_in self.old).engager v.vertex) (λ e. place_in self.new.setup ((network_in self.new.setup).head e) ≡ self.new.shard) }
+        ensures arc { IfSome ((state_in self.old).engager v.vertex)
+            (λ e. IsArc (network_of self.new.setup) e) }
+        ensures made { IfSome ((state_in self.old).engager v.vertex) (λ e. place_in self.new.setup
+            ((network_of self.new.setup).head e) ≡ self.new.shard) }
     {
         self.tables.vertices.set_engager(v.at, None);
     }
@@ -153,24 +161,25 @@ impl<'g, A: PathAlgebra> PartState<'g, A> {
     /// How many arcs out of the vertex at a place are busy.
     pub(super) fn deficit_at(&self, v: VertexPlace) -> u32
         requires { IsPlace self.now v.vertex v.at }
-        ensures { result ≡ busy_out (network_in self.now.setup) v.vertex (state_in self.now) (suc (length self.now.setup.question.roads.arcs)) }
+        ensures { result ≡ busy_out (network_of self.now.setup) v.vertex (state_in self.now)
+            (suc (length self.now.setup.question.roads.arcs)) }
     {
         self.tables.vertices.deficit(v.at)
     }
 
     /// Whether the arc at a place is busy.
     pub(super) fn is_busy(&self, b: ArcPlace) -> bool
-        requires { IsRow self.now b.arc b.at }
+        requires { IsArcRow self.now b.arc b.at }
         ensures { result ≡ get_or self.now.busy b.arc false }
     {
         self.tables.arcs.is_busy(b.at)
     }
 
-    /// An idle arc becomes busy.
+    /// Makes an idle arc busy.
     pub(super) fn occupy(&mut self, v: VertexPlace, b: ArcPlace)
         requires place { IsPlace self.old v.vertex v.at }
-        requires row { IsRow self.old b.arc b.at }
-        requires tail { (network_in self.old.setup).tail b.arc ≡ v.vertex }
+        requires row { IsArcRow self.old b.arc b.at }
+        requires tail { (network_of self.old.setup).tail b.arc ≡ v.vertex }
         requires vertex { v.vertex ≢ 0 }
         requires idle { get_or self.old.busy b.arc false ≡ false }
         ensures moved { self.new ≡ record self.old { busy = set self.old.busy b.arc true } }
@@ -181,11 +190,11 @@ impl<'g, A: PathAlgebra> PartState<'g, A> {
         self.tables.vertices.set_deficit(v.at, deficit + 1);
     }
 
-    /// An arc whose signal was taken becomes idle.
+    /// Makes an arc idle whose signal was taken.
     pub(super) fn free(&mut self, v: VertexPlace, a: ArcPlace)
         requires place { IsPlace self.old v.vertex v.at }
-        requires row { IsRow self.old a.arc a.at }
-        requires tail { (network_in self.old.setup).tail a.arc ≡ v.vertex }
+        requires row { IsArcRow self.old a.arc a.at }
+        requires tail { (network_of self.old.setup).tail a.arc ≡ v.vertex }
         requires here { place_in self.old.setup v.vertex ≡ self.old.shard }
         requires clear { IsClear self.old a.arc }
         ensures { self.new ≡ record self.old { busy = set self.old.busy a.arc false } }
@@ -195,17 +204,17 @@ impl<'g, A: PathAlgebra> PartState<'g, A> {
         self.tables.vertices.set_deficit(v.at, deficit - 1);
     }
 
-    /// What the arc at a place was told last.
+    /// The label that the arc at a place was last offered.
     pub(super) fn told(&self, b: ArcPlace) -> Option<A::Value>
-        requires { IsRow self.now b.arc b.at }
+        requires { IsArcRow self.now b.arc b.at }
         ensures { result ≡ (state_in self.now).told b.arc }
     {
         self.tables.arcs.told(b.at)
     }
 
-    /// The arc at a place is told a label.
+    /// Notes the label that the arc at a place was offered.
     pub(super) fn tell(&mut self, b: ArcPlace, label: Option<A::Value>)
-        requires { IsRow self.old b.arc b.at }
+        requires { IsArcRow self.old b.arc b.at }
         ensures { self.new ≡ record self.old { told = set self.old.told b.arc label } }
     {
         self.tables.arcs.tell(b.at, label);

@@ -2,7 +2,7 @@ use Rattle.std.proofs.Common.{◌≡◌, ◌++◌, ◌∷◌, [], refl, sym, sub
 use Rattle.std.specs.List.{All}
 use Rattle.std.proofs.lemmas.List.Elements.{All-push}
 use Rattle.station.specs.Station.{BelongsTo}
-use Rattle.worker_fleet.specs.Turns.{IsPlaced}
+use Rattle.worker_fleet.specs.Turns.{IsOnItsFloor}
 use Rattle.worker_fleet.proofs.Rests.{All-first, All-rest}
 use Rattle.engine_trials.proofs.workers.placed.Goals as goal
 
@@ -21,6 +21,6 @@ loop-station-preserved g c =
     record {
       next = was.next;
       left = All-rest (BelongsTo floor) _ _ s step.0 was.left;
-      placed = subst (All (IsPlaced (floor ∷ []))) (sym pushed) (All-push (IsPlaced (floor ∷ [])) c.loop-station.placed.items (0, s) was.placed
+      placed = subst (All (IsOnItsFloor (floor ∷ []))) (sym pushed) (All-push (IsOnItsFloor (floor ∷ [])) c.loop-station.placed.items (0, s) was.placed
           (record { floor = floor; is_floor = refl; own = All-first (BelongsTo floor) _ _ s step.0 was.left }));
     }

@@ -1,5 +1,5 @@
 use Rattle.std.proofs.Common.{arith, ◌<◌, ◌/◌, ◌%◌, length, ap, sym, subst, ◌∙◌}
-use Rattle.shard_part.specs.PartState.{network_in, place_in}
+use Rattle.shard_part.specs.PartState.{network_of, place_in}
 use Rattle.shard_part.specs.Capacities.{outbox_bound}
 use Rattle.post_floor.proofs.Opened.{opened_long, pair_below, part_at, cap_own, cap_other}
 use Rattle.post_floor.proofs.open.room_of.Goals as goal
@@ -37,6 +37,6 @@ pub returns-else-from-to : goal.returns-else-from-to
 returns-else-from-to g c = let q =
     part_at g.A.PathAlgebra.meaning c.args.first.now c.index-parts-from.result c.args.parts.now c.args.shards (c.args.k / 4 / c.args.shards)
     c.requires.parts (pair_below c.args.shards c.args.k c.requires.word).0 c.index-parts-from.is in
-    c.capacity.ensures ∙ ap (λ u. outbox_bound (network_in u.setup) (place_in u.setup) u.shard (c.args.k / 4 % c.args.shards)) c.deref.ensures
-    ∙ (λ i. outbox_bound (network_in (q.0 i)) (place_in (q.0 i)) (q.1 i) (c.args.k / 4 % c.args.shards))
+    c.capacity.ensures ∙ ap (λ u. outbox_bound (network_of u.setup) (place_in u.setup) u.shard (c.args.k / 4 % c.args.shards)) c.deref.ensures
+    ∙ (λ i. outbox_bound (network_of (q.0 i)) (place_in (q.0 i)) (q.1 i) (c.args.k / 4 % c.args.shards))
     ∙ cap_other c.args.first.now.setup c.args.shards c.args.k c.requires.shards.0 c.if-from-to.false

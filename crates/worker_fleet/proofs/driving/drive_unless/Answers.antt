@@ -1,9 +1,9 @@
 use Rattle.std.proofs.Common.{arith, true, false, ◌≡◌, rules, refl, ◌∙◌, ◌<◌, length, below_more}
 use Rattle.std.proofs.lemmas.List.Elements.{All-set}
-use Rattle.worker_fleet.specs.Turns.{NextOn, IsPlaced, IsNextOpen}
+use Rattle.worker_fleet.specs.Turns.{NextOn, IsOnItsFloor, IsNextOpen}
 use Rattle.worker_fleet.specs.declared.driving.Outcome.TheVariants.{Ended, Stalled, Gated}
 use Rattle.worker_fleet.proofs.Rounds.{MovedRound-none, MovedRound-more, MovedRound-took_turns}
-use Rattle.worker_fleet.proofs.Placed.{IsPlaced-next, open_not_ended, set_place, fits_next}
+use Rattle.worker_fleet.proofs.Placed.{IsOnItsFloor-next, open_not_ended, set_place, fits_next}
 use Rattle.worker_fleet.proofs.driving.drive_unless.Goals as goal
 use Rattle.worker_fleet.proofs.driving.drive_unless.Goals.{In-Some}
 
@@ -24,8 +24,8 @@ loop-done-preserved g c =
     let low : c.in-Some.k < length c.loop-done.stations.items = following.inside in
     record {
       place = set_place c.loop-done.stations.items c.in-Some.k c.turn_one-busy.new.placed low;
-      placed = All-set (IsPlaced c.args.floors.now) c.loop-done.stations.items c.in-Some.k c.turn_one-busy.new.placed
-          (IsPlaced-next g.A.PathAlgebra.meaning c.args.floors.now c.args.budget _ _
+      placed = All-set (IsOnItsFloor c.args.floors.now) c.loop-done.stations.items c.in-Some.k c.turn_one-busy.new.placed
+          (IsOnItsFloor-next g.A.PathAlgebra.meaning c.args.floors.now c.args.budget _ _
           (rw c.index_mut.ensures.value (c.loop-done.invariant.placed c.in-Some.k c.index_mut.result.now low)) c.turn_one-busy.ensures)
           c.loop-done.invariant.placed;
       moved = MovedRound-more (NextOn g.A.PathAlgebra.meaning c.args.floors.now c.args.budget) c.loop-done.done c.loop-done.at c.args.stations.items c.loop-done.stations.items c.in-Some.k

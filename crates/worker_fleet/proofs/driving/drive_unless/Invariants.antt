@@ -1,14 +1,14 @@
 use Rattle.std.proofs.Common.{◌≤◌, length}
 use Rattle.std.specs.List.{All}
 use Rattle.worker_fleet.specs.Drives.{LetsTurn}
-use Rattle.worker_fleet.specs.Turns.{NextOn, IsPlaced}
+use Rattle.worker_fleet.specs.Turns.{NextOn, IsOnItsFloor}
 use Rattle.worker_fleet.proofs.Rounds.{MovedRound}
 use Rattle.worker_fleet.proofs.driving.drive_unless.Given as goal
 
 abbrev pub invariant-loop-done : goal.invariant-loop-done
 invariant-loop-done g l = record {
   place : l.at ≤ length l.stations.items;
-  placed : All (IsPlaced l.floors) l.stations.items;
+  placed : All (IsOnItsFloor l.floors) l.stations.items;
   moved : MovedRound (NextOn g.A.PathAlgebra.meaning l.floors l.budget) l.done l.at l.fn.stations.items l.stations.items;
   asked : LetsTurn (g.G.Gate.may_answer l.gate) l.worker l.done;
 }

@@ -1,11 +1,11 @@
 use Rattle.std.proofs.Common.{arith, sym, ◌∙◌}
 use Rattle.std.proofs.lemmas.List.Elements.{AllWithin-more, at_read}
-use Rattle.worker_fleet.specs.Turns.{HasEnded}
+use Rattle.worker_fleet.specs.Turns.{StationHasEnded}
 use Rattle.worker_fleet.proofs.driving.first_open.Goals as goal
 
 pub loop-k-preserved : goal.loop-k-preserved
-loop-k-preserved g c = AllWithin-more HasEnded c.args.stations.now c.args.from c.loop-k.k c.loop-k.invariant
-    (at_read c.args.stations.now HasEnded c.loop-k.k c.index-stations-k.result (omega arith) c.index-stations-k.is (sym c.ended.ensures.ended ∙ c.if-not-ended.false))
+loop-k-preserved g c = AllWithin-more StationHasEnded c.args.stations.now c.args.from c.loop-k.k c.loop-k.invariant
+    (at_read c.args.stations.now StationHasEnded c.loop-k.k c.index-stations-k.result (omega arith) c.index-stations-k.is (sym c.ended.ensures.ended ∙ c.if-not-ended.false))
 
 pub returns-clause-none : goal.returns-clause-none
 returns-clause-none g c = λ k d low high. c.loop-k.invariant k d low (omega arith)

@@ -3,7 +3,7 @@ use Rattle.std.specs.List.{All}
 use Rattle.std.proofs.lemmas.Result.{IfErr-weaker, IfOk-weaker}
 use Rattle.station.specs.Station.{StationData}
 use Rattle.worker_fleet.specs.Drives.{Drives}
-use Rattle.worker_fleet.specs.Turns.{IsPlaced}
+use Rattle.worker_fleet.specs.Turns.{IsOnItsFloor}
 use Rattle.worker_fleet.specs.declared.driving.Driven.{Driven}
 use Rattle.worker_fleet.proofs.Assigned.{IfOk_from}
 use Rattle.worker_fleet.proofs.Grouped.{one_of, all_within, all_done, is_stop, shares_placed, none_lost}
@@ -14,7 +14,7 @@ use Rattle.worker_fleet.proofs.group.run_group.Goals.{In_ok-shares, In_ok-answer
 shares_are : (g : _) (c : In_ok-shares g) → length c.in_ok-shares.shares.items ≡ c.args.workers
 shares_are g c = search rules
 
-placed : (g : _) (c : In_ok-shares g) → All (λ s. All (IsPlaced c.args.floors.now) s.items) c.in_ok-shares.shares.items
+placed : (g : _) (c : In_ok-shares g) → All (λ s. All (IsOnItsFloor c.args.floors.now) s.items) c.in_ok-shares.shares.items
 placed g c = shares_placed c.args.floors.now c.args.workers c.in_ok-shares.shares.items c.args.questions.items c.in_ok-shares.ensures.dealt
     (shares_are g c) (λ q d low. c.requires.own q d (search rules))
 

@@ -1,5 +1,5 @@
 use Rattle.std.proofs.Common.{ap, ◌∙◌}
-use Rattle.shard_part.specs.PartState.{network_in}
+use Rattle.shard_part.specs.PartState.{network_of}
 use Rattle.shard_part.proofs.Graphs.{arc_within}
 use Rattle.shard_part.proofs.state.PartState.head.Goals as goal
 
@@ -7,4 +7,4 @@ pub head_of-requires-clause-arc : goal.head_of-requires-clause-arc
 head_of-requires-clause-arc g c = arc_within _ c.args.self.now c.args.a c.self.view_is c.requires
 
 pub returns-clause-head : goal.returns-clause-head
-returns-clause-head g c = c.head_of.ensures.head ∙ ap (λ u. (network_in u.setup).head c.args.a) c.self.view_is
+returns-clause-head g c = c.head_of.ensures.head ∙ ap (λ u. (network_of u.setup).head c.args.a) c.self.view_is

@@ -1,5 +1,5 @@
 use Rattle.std.proofs.Common.{ap, ◌∙◌}
-use Rattle.road_graph.specs.Roads.{arc_of, road_of}
+use Rattle.road_graph.specs.GraphData.{arc_of, road_of}
 use Rattle.shard_part.proofs.state.PartState.offer_again.Goals as goal
 
 pub tell_anew-requires-clause-road : goal.tell_anew-requires-clause-road

@@ -1,6 +1,6 @@
 use Rattle.std.proofs.Common.{refl, sym, ap, ◌∙◌, arith, ◌<◌, ◌≤◌, length}
 use Rattle.std.proofs.lemmas.List.{get_or_read}
-use Rattle.road_graph.specs.Roads.{arc_of, road_of}
+use Rattle.road_graph.specs.GraphData.{arc_of, road_of}
 use Rattle.shard_part.specs.Moves.{offered}
 use Rattle.shard_part.proofs.Pumping.{vertex_at, offered_none, inside_of, arc_at, row_found, tail_found, arc_found, listed_out, offered_more, offered_same, pump_done}
 use Rattle.shard_part.specs.Places.{VertexAt}

@@ -1,7 +1,7 @@
 use Rattle.shard_part.proofs.Offers.{rested_then, rested_busy}
 use Rattle.std.proofs.Common.{◌≡◌, ℕ, Option, sym, ap, subst, ◌∙◌, arith}
 use Rattle.std.specs.Prelude.{is_some, IfSome}
-use Rattle.shard_part.specs.PartState.{network_in, place_in, IsArc}
+use Rattle.shard_part.specs.PartState.{network_of, place_in, IsArc}
 use Rattle.shard_part.specs.LocalInvariant.{IsClear}
 use Rattle.shard_part.proofs.state.PartState.rest.Goals as goal
 
@@ -9,11 +9,11 @@ pub release-requires-clause-engaged : goal.release-requires-clause-engaged
 release-requires-clause-engaged g c = λ κs w. ap is_some (sym c.engager_at.ensures ∙ c.in-Some.is)
 
 pub signal-requires-clause-arc : goal.signal-requires-clause-arc
-signal-requires-clause-arc g c = λ κs w. subst (λ (o : Option ℕ). IfSome o (λ e. IsArc (network_in c.release.new.self.setup) e)) (sym c.engager_at.ensures ∙ c.in-Some.is) c.release.ensures.arc
+signal-requires-clause-arc g c = λ κs w. subst (λ (o : Option ℕ). IfSome o (λ e. IsArc (network_of c.release.new.self.setup) e)) (sym c.engager_at.ensures ∙ c.in-Some.is) c.release.ensures.arc
 
 pub signal-requires-clause-made : goal.signal-requires-clause-made
 signal-requires-clause-made g c = λ κs w. subst (λ (o : Option ℕ). IfSome o
-    (λ e. place_in c.release.new.self.setup ((network_in c.release.new.self.setup).head e) ≡ c.release.new.self.shard)) (sym c.engager_at.ensures
+    (λ e. place_in c.release.new.self.setup ((network_of c.release.new.self.setup).head e) ≡ c.release.new.self.shard)) (sym c.engager_at.ensures
     ∙ c.in-Some.is) c.release.ensures.made
 
 pub signal-requires-clause-clear : goal.signal-requires-clause-clear

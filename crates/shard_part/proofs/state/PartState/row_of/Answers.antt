@@ -1,13 +1,13 @@
 use Rattle.std.proofs.Common.{◌<◌, length, get_or, sym, ap, subst, ◌∙◌}
-use Rattle.shard_part.specs.PartState.{network_in}
+use Rattle.shard_part.specs.PartState.{network_of}
 use Rattle.shard_part.specs.Outgoing.{outgoing}
-use Rattle.shard_part.specs.Moves.{IsRow}
+use Rattle.shard_part.specs.Moves.{IsArcRow}
 use Rattle.shard_part.proofs.state.PartState.row_of.Goals as goal
 
 pub row-requires-clause-arc : goal.row-requires-clause-arc
-row-requires-clause-arc g c = λ κs w. subst (λ v. c.turn_of-k.result < length (outgoing (network_in c.args.self.now.setup) v)) c.requires.tail c.turn_of-k.ensures.inside
+row-requires-clause-arc g c = λ κs w. subst (λ v. c.rank_of-k.result < length (outgoing (network_of c.args.self.now.setup) v)) c.requires.tail c.rank_of-k.ensures.inside
 
 pub returns-clause-row : goal.returns-clause-row
-returns-clause-row g c = subst (λ b. IsRow c.args.self.now b c.row.result)
-    (ap (λ v. get_or (outgoing (network_in c.args.self.now.setup) v) c.turn_of-k.result 0) (sym c.requires.tail)
-    ∙ c.turn_of-k.ensures.arc) c.row.ensures
+returns-clause-row g c = subst (λ b. IsArcRow c.args.self.now b c.row.result)
+    (ap (λ v. get_or (outgoing (network_of c.args.self.now.setup) v) c.rank_of-k.result 0) (sym c.requires.tail)
+    ∙ c.rank_of-k.ensures.arc) c.row.ensures

@@ -4,7 +4,7 @@ use Rattle.std.proofs.lemmas.List.{length-append, length-map}
 use Rattle.std.proofs.lemmas.List.Elements.{All-nil, All-cons, All-head, All-tail, All-append}
 use Rattle.std.proofs.lemmas.Bool.{cases_eq}
 use Rattle.std.specs.Prelude.{IsTrue, Contains, All}
-use Rattle.road_graph.specs.Roads.{Roads, IsRoads, HasArc, HasVertex, arc_of}
+use Rattle.road_graph.specs.GraphData.{GraphData, IsGraph, HasArc, HasVertex, arc_of}
 use Rattle.road_graph.proofs.Lists.{not_in_empty, head_or_tail, here, later}
 use Rattle.road_graph.proofs.Options.{same_some}
 use Rattle.path_algebra.specs.Algebra.{Algebra, IsLawful}
@@ -13,7 +13,7 @@ use Rattle.path_algebra.proofs.Walks.{IsWalk-snoc, IsWalkValue-extend, walk_valu
 use Rattle.path_algebra.proofs.Least.{same_no_worse}
 use Rattle.path_algebra.proofs.Tight.{never_better_along, best_is_one}
 use Rattle.answer_text.specs.declared.answers.Reached.{Reached}
-use Rattle.answer_text.specs.IsAnswer.{IsReachedLine, IsLine, AreLines}
+use Rattle.answer_text.specs.IsAnswer.{IsReachedLine, IsVertexLine, AreVertexLines}
 use Rattle.answer_check.specs.Reasons.{IsCodeOf, Offers, source_line}
 use Rattle.answer_check.specs.Certificates.{IsSupported, IsRightLine, IsCertifiedAt, AreCertified}
 
@@ -38,7 +38,7 @@ module _ {V : Type 0} (A : Algebra V) (lawful : IsLawful A) where
   value_of_code_of : (c : ℕ) (x : V) → IsCodeOf A c x → A.value_of c ≡ Some x
   value_of_code_of c x h = ap A.value_of h.1 ∙ lawful.value_of_code x h.0
 
-  module _ (g : Roads) (roads : IsRoads g) (sources : List ℕ) (in_s : (s : ℕ) → Contains sources s → HasVertex g s) (lines : List (Option Reached)) where
+  module _ (g : GraphData) (roads : IsGraph g) (sources : List ℕ) (in_s : (s : ℕ) → Contains sources s → HasVertex g s) (lines : List (Option Reached)) where
     walk_has_code : (v : ℕ) (c : ℕ) (x : V) → IsWalkValue A g sources v x → c ≡ A.code x → IsCodeOf A c x
     walk_has_code v c x w e = (walk_value_is_value A lawful g roads sources v x w, e)
 
@@ -322,7 +322,7 @@ module _ {V : Type 0} (A : Algebra V) (lawful : IsLawful A) where
             sup.not_lesser t line.0 (subst (λ (y : V). Offers A g lines t v line.0 y) same c) (omega (arith, low, high, below, above));
       }
 
-      line_is_right : (v : ℕ) → HasVertex g v → (l : Option Reached) → label_of lines v ≡ l → IsLine A g sources v l
+      line_is_right : (v : ℕ) → HasVertex g v → (l : Option Reached) → label_of lines v ≡ l → IsVertexLine A g sources v l
       line_is_right v in_v None e = subst (λ (l : Option V). IsBestLabel A g sources v l) (unlabelled v e) (best.best v in_v)
       line_is_right v in_v (Some r) e = record {
         code = let t = tells_best v r in_v e in (t.0, t.1, t.2);
@@ -334,7 +334,7 @@ module _ {V : Type 0} (A : Algebra V) (lawful : IsLawful A) where
       }
 
       -- lines that are certified are right
-      pub lines_are_right : AreLines A g sources lines
+      pub lines_are_right : AreVertexLines A g sources lines
       lines_are_right = record { count = certified.count; each = λ v in_v. line_is_right v in_v (label_of lines v) refl }
 
     source_or_not : (xs : List ℕ) (v : ℕ) → Contains xs v ⊎ (Contains xs v → ⊥)
@@ -347,13 +347,13 @@ module _ {V : Type 0} (A : Algebra V) (lawful : IsLawful A) where
       ]
     ]
 
-    module _ (right : AreLines A g sources lines) where
+    module _ (right : AreVertexLines A g sources lines) where
       line_at : (v : ℕ) (r : Reached) → HasVertex g v → label_of lines v ≡ Some r → IsReachedLine A g sources v r
-      line_at v r in_v e = subst (λ (l : Option Reached). IsLine A g sources v l) e (right.each v in_v)
+      line_at v r in_v e = subst (λ (l : Option Reached). IsVertexLine A g sources v l) e (right.each v in_v)
 
       -- a vertex that a walk with a value reaches has a line
       line_reached : (v : ℕ) (x : V) → HasVertex g v → IsWalkValue A g sources v x → (l : Option Reached) → label_of lines v ≡ l → (r : Reached) × (label_of lines v ≡ Some r) × IsReachedLine A g sources v r
-      line_reached v x in_v w None e = let none : IsUnreached A g sources v = subst (λ (l : Option Reached). IsLine A g sources v l) e (right.each v in_v) in absurd (none x w)
+      line_reached v x in_v w None e = let none : IsUnreached A g sources v = subst (λ (l : Option Reached). IsVertexLine A g sources v l) e (right.each v in_v) in absurd (none x w)
       line_reached v x in_v w (Some r) e = (r, e, line_at v r in_v e)
 
       same_line : (r : Reached) (c h p : ℕ) → r.code ≡ c → r.hops ≡ h → r.parent ≡ p → r ≡ record { code = c; hops = h; parent = p }
@@ -422,7 +422,7 @@ module _ {V : Type 0} (A : Algebra V) (lawful : IsLawful A) where
       right_line : (v : ℕ) → HasVertex g v → (Contains sources v → ⊥) → (l : Option Reached) → label_of lines v ≡ l → IsRightLine A g lines v l
       right_line v in_v no_source None e = λ u near z b.
           let tail = line_at u near (tail_in u v near z b) b.line_is in
-          let none : IsUnreached A g sources v = subst (λ (l : Option Reached). IsLine A g sources v l) e (right.each v in_v) in
+          let none : IsUnreached A g sources v = subst (λ (l : Option Reached). IsVertexLine A g sources v l) e (right.each v in_v) in
           none z (offers_walk u v near tail.code.0 z tail.code.1.attained tail.code.2 b)
       right_line v in_v no_source (Some r) e =
           let line = line_at v r in_v e in

@@ -5,7 +5,7 @@ use Rattle.std.specs.List.{list_any}
 use Rattle.std.proofs.Common.{eqb-true, eq-eqb}
 use Rattle.std.proofs.lemmas.Bool.{eqb-false, lt-ltb, ltb-true, ltb-false, and_parts, not-true, not-false}
 use Rattle.std.proofs.lemmas.List.Folds.{list_any_at}
-use Rattle.road_graph.specs.Roads.{Roads, HasArc, arc_of}
+use Rattle.road_graph.specs.GraphData.{GraphData, HasArc, arc_of}
 use Rattle.road_graph.proofs.Lists.{here, later}
 use Rattle.road_graph.proofs.Options.{same_some}
 use Rattle.path_algebra.specs.Algebra.{Algebra, IsLawful}
@@ -15,13 +15,13 @@ use Rattle.answer_text.specs.declared.answers.Reached.{Reached}
 use Rattle.answer_check.specs.declared.evidence.Evidence.{Evidence}
 use Rattle.answer_check.specs.declared.verdict.Reason.{Reason}
 use Rattle.answer_check.specs.declared.verdict.Reason.TheVariants.{Mismatch, NotBest, NoParent, OtherHops, LesserParent, HasWalk, OtherRoute}
-use Rattle.answer_check.specs.Reasons.{IsCodeOf, Offers, Gives, IsRefused, IsJudged, reason_number}
+use Rattle.answer_check.specs.Reasons.{IsCodeOf, Offers, Gives, IsRefuted, IsFirstReason, reason_number}
 use Rattle.answer_check.specs.Certificates.{IsSupported, IsRightLine}
 use Rattle.answer_check.specs.Evidence.{decoded, extended, beside, candidate_from, candidate, is_same, evidence_by, evidence_of, all_evidence, reason_by, is_there}
 use Rattle.answer_check.proofs.Certified.{code_of_one}
 
 -- the list has exactly the arcs that enter v
-abbrev pub AreInto : Roads → ℕ → List ℕ → Type 0
+abbrev pub AreInto : GraphData → ℕ → List ℕ → Type 0
 AreInto g v arcs = (a : ℕ) → Contains arcs a ↔ (HasArc g a × ((arc_of g a).head ≡ v))
 
 found_at_head : (p : ℕ → Bool) (x : ℕ) (xs : List ℕ) (b : Bool) → p x ≡ b → list_any p (x ∷ xs) ≡ true →
@@ -66,7 +66,7 @@ module _ {V : Type 0} (A : Algebra V) (lawful : IsLawful A) where
   same_itself : (y : V) → is_same A.no_worse y y ≡ true
   same_itself y = let e = same_no_worse A.no_worse lawful.ordered y in rw e refl
 
-  module _ (g : Roads) (lines : List (Option Reached)) where
+  module _ (g : GraphData) (lines : List (Option Reached)) where
     offers_by : (a : ℕ) → HasArc g a → (b : Reached × V) (l : Option Reached) → label_of lines (arc_of g a).tail ≡ l → candidate_from A l (arc_of g a).weight ≡ Some b →
         Offers A g lines (arc_of g a).tail (arc_of g a).head b.0 b.1
     offers_by a h b None e f = let bad : None ≡ Some b = f in absurd (cc)
@@ -135,9 +135,9 @@ not_both true b h e = h
 not_both false b h e = let bad : false ≡ true = e in absurd (cc)
 
 -- the reasons below a number, where those that could come first do not hold
-no_earlier : {V : Type 0} (A : Algebra V) (g : Roads) (lines : List (Option Reached)) (v : ℕ) (r : Reached) (n : ℕ) → n ≤ 5 →
-    (2 < n → IsRefused A g lines v (Some r) NotBest → ⊥) → (3 < n → IsRefused A g lines v (Some r) NoParent → ⊥) → (4 < n → IsRefused A g lines v (Some r) OtherHops → ⊥) →
-    (s : Reason) → reason_number s < n → IsRefused A g lines v (Some r) s → ⊥
+no_earlier : {V : Type 0} (A : Algebra V) (g : GraphData) (lines : List (Option Reached)) (v : ℕ) (r : Reached) (n : ℕ) → n ≤ 5 →
+    (2 < n → IsRefuted A g lines v (Some r) NotBest → ⊥) → (3 < n → IsRefuted A g lines v (Some r) NoParent → ⊥) → (4 < n → IsRefuted A g lines v (Some r) OtherHops → ⊥) →
+    (s : Reason) → reason_number s < n → IsRefuted A g lines v (Some r) s → ⊥
 no_earlier A g lines v r n few f2 f3 f4 Mismatch lt h = h
 no_earlier A g lines v r n few f2 f3 f4 NotBest lt h = f2 lt h
 no_earlier A g lines v r n few f2 f3 f4 NoParent lt h = f3 lt h
@@ -146,7 +146,7 @@ no_earlier A g lines v r n few f2 f3 f4 LesserParent lt h = omega (arith, few, l
 no_earlier A g lines v r n few f2 f3 f4 HasWalk lt h = h
 no_earlier A g lines v r n few f2 f3 f4 OtherRoute lt h = h
 
-module _ {V : Type 0} (A : Algebra V) (lawful : IsLawful A) (g : Roads) (lines : List (Option Reached)) (v : ℕ) (arcs : List ℕ) (into : AreInto g v arcs) (r : Reached) (y : V) (code : IsCodeOf A r.code y) where
+module _ {V : Type 0} (A : Algebra V) (lawful : IsLawful A) (g : GraphData) (lines : List (Option Reached)) (v : ℕ) (arcs : List ℕ) (into : AreInto g v arcs) (r : Reached) (y : V) (code : IsCodeOf A r.code y) where
   abbrev better : ℕ → Reached → V → Bool
   better u near z = not (A.no_worse y z)
 
@@ -196,7 +196,7 @@ module _ {V : Type 0} (A : Algebra V) (lawful : IsLawful A) (g : Roads) (lines :
   value_given : (u : ℕ) (near : Reached) (z : V) → Offers A g lines u v near z → is_same A.no_worse y z ≡ true → Gives A g lines u v near r
   value_given u near z b e = (y, code, subst (λ (x : V). Offers A g lines u v near x) (sym (same_both A lawful y z e)) b)
 
-  is_beaten : shown.better ≡ true → IsRefused A g lines v (Some r) NotBest
+  is_beaten : shown.better ≡ true → IsRefuted A g lines v (Some r) NotBest
   is_beaten h =
       let f = found A lawful g lines v arcs into better (λ a. (evidence_of A A.no_worse g lines r y a).better) (λ a. better_is (arc_of g a).tail (candidate A g lines a)) h in
       (y, code, (f.0, f.1, f.2, f.3, λ t. let bad : true ≡ false = sym t ∙ not-true (A.no_worse y f.2) f.4 in cc))
@@ -205,7 +205,7 @@ module _ {V : Type 0} (A : Algebra V) (lawful : IsLawful A) (g : Roads) (lines :
   none_better h u near z b =
       not-false (A.no_worse y z) (missed A lawful g lines v arcs into better (λ a. (evidence_of A A.no_worse g lines r y a).better) (λ a. better_is (arc_of g a).tail (candidate A g lines a)) h u near z b)
 
-  not_beaten : shown.better ≡ false → IsRefused A g lines v (Some r) NotBest → ⊥
+  not_beaten : shown.better ≡ false → IsRefuted A g lines v (Some r) NotBest → ⊥
   not_beaten h beaten =
       let b = beaten.2 in
       b.4 (subst (λ (x : V). IsTrue (A.no_worse x b.2)) (sym (same_value beaten.0 beaten.1)) (none_better h b.0 b.1 b.2 b.3))
@@ -216,12 +216,12 @@ module _ {V : Type 0} (A : Algebra V) (lawful : IsLawful A) (g : Roads) (lines :
       let t = and_parts (is_same A.no_worse y f.2) (nat_eq f.0 r.parent) f.4 in
       (f.1, subst (λ (u : ℕ). Gives A g lines u v f.1 r) (eqb-true f.0 r.parent t.1) (value_given f.0 f.1 f.2 f.3 t.0))
 
-  no_parent : shown.supported ≡ false → IsRefused A g lines v (Some r) NoParent
+  no_parent : shown.supported ≡ false → IsRefuted A g lines v (Some r) NoParent
   no_parent h = λ near gives.
       let none = missed A lawful g lines v arcs into supported (λ a. (evidence_of A A.no_worse g lines r y a).supported) (λ a. supported_is (arc_of g a).tail (candidate A g lines a)) h r.parent near y (gives_value r.parent near gives) in
       eqb-false r.parent r.parent (not_both (is_same A.no_worse y y) (nat_eq r.parent r.parent) none (same_itself A lawful y)) refl
 
-  goes_astray : shown.astray ≡ true → IsRefused A g lines v (Some r) OtherHops
+  goes_astray : shown.astray ≡ true → IsRefuted A g lines v (Some r) OtherHops
   goes_astray h =
       let f = found A lawful g lines v arcs into astray (λ a. (evidence_of A A.no_worse g lines r y a).astray) (λ a. astray_is (arc_of g a).tail (candidate A g lines a)) h in
       let t = and_parts (is_same A.no_worse y f.2) (nat_eq f.0 r.parent && not (nat_eq (f.1.hops + 1) r.hops)) f.4 in
@@ -239,7 +239,7 @@ module _ {V : Type 0} (A : Algebra V) (lawful : IsLawful A) (g : Roads) (lines :
       let s = not_both (nat_eq r.parent r.parent) (not (nat_eq (near.hops + 1) r.hops)) t (eq-eqb r.parent r.parent refl) in
       eqb-true (near.hops + 1) r.hops (not-false (nat_eq (near.hops + 1) r.hops) s)
 
-  has_nearer : shown.nearer ≡ true → IsRefused A g lines v (Some r) OtherHops
+  has_nearer : shown.nearer ≡ true → IsRefuted A g lines v (Some r) OtherHops
   has_nearer h =
       let f = found A lawful g lines v arcs into nearer (λ a. (evidence_of A A.no_worse g lines r y a).nearer) (λ a. nearer_is (arc_of g a).tail (candidate A g lines a)) h in
       let t = and_parts (is_same A.no_worse y f.2) (nat_lt (f.1.hops + 1) r.hops) f.4 in
@@ -250,13 +250,13 @@ module _ {V : Type 0} (A : Algebra V) (lawful : IsLawful A) (g : Roads) (lines :
       let none = missed A lawful g lines v arcs into nearer (λ a. (evidence_of A A.no_worse g lines r y a).nearer) (λ a. nearer_is (arc_of g a).tail (candidate A g lines a)) h u near y b in
       ltb-false (near.hops + 1) r.hops (not_both (is_same A.no_worse y y) (nat_lt (near.hops + 1) r.hops) none (same_itself A lawful y))
 
-  same_hops : shown.astray ≡ false → shown.nearer ≡ false → IsRefused A g lines v (Some r) OtherHops → ⊥
+  same_hops : shown.astray ≡ false → shown.nearer ≡ false → IsRefuted A g lines v (Some r) OtherHops → ⊥
   same_hops h k (inl o) = o.2 (hops_of_parent h o.0 o.1)
   same_hops h k (inr o) =
       let few = none_nearer k o.0 o.1 (gives_value o.0 o.1 o.2) in
       let less = o.3 in omega (arith, few, less)
 
-  has_lesser : shown.lesser ≡ true → IsRefused A g lines v (Some r) LesserParent
+  has_lesser : shown.lesser ≡ true → IsRefuted A g lines v (Some r) LesserParent
   has_lesser h =
       let f = found A lawful g lines v arcs into lesser (λ a. (evidence_of A A.no_worse g lines r y a).lesser) (λ a. lesser_is (arc_of g a).tail (candidate A g lines a)) h in
       let t = and_parts (is_same A.no_worse y f.2) (nat_lt f.0 r.parent && nat_eq (f.1.hops + 1) r.hops) f.4 in
@@ -275,7 +275,7 @@ module _ {V : Type 0} (A : Algebra V) (lawful : IsLawful A) (g : Roads) (lines :
       at_most a b false f no_less = ltb-false a b f
 
   abbrev Judged : Option Reason → Type 0
-  Judged o = IsJudged (IsSupported A g lines v r) (IsRefused A g lines v (Some r)) o
+  Judged o = IsFirstReason (IsSupported A g lines v r) (IsRefuted A g lines v (Some r)) o
 
   by_lesser : (b : Bool) → shown.better ≡ false → shown.supported ≡ true → shown.astray ≡ false → shown.nearer ≡ false → shown.lesser ≡ b → Judged (reason_by shown)
   by_lesser true e f h k l = rw (e, f, h, k, l) (
@@ -313,12 +313,12 @@ module _ {V : Type 0} (A : Algebra V) (lawful : IsLawful A) (g : Roads) (lines :
   pub evidence_judges : Judged (reason_by shown)
   evidence_judges = by_better shown.better refl
 
-module _ {V : Type 0} (A : Algebra V) (lawful : IsLawful A) (g : Roads) (lines : List (Option Reached)) (v : ℕ) (arcs : List ℕ) (into : AreInto g v arcs) where
+module _ {V : Type 0} (A : Algebra V) (lawful : IsLawful A) (g : GraphData) (lines : List (Option Reached)) (v : ℕ) (arcs : List ℕ) (into : AreInto g v arcs) where
   there_is : (u : ℕ) (o : Option (Reached × V)) → is_there o ≡ on_candidate A lawful g lines (λ _ _ _. true) u o
   there_is u None = refl
   there_is u (Some b) = refl
 
-  before_walk : (s : Reason) → reason_number s < 6 → IsRefused A g lines v None s → ⊥
+  before_walk : (s : Reason) → reason_number s < 6 → IsRefuted A g lines v None s → ⊥
   before_walk Mismatch lt h = h
   before_walk NotBest lt h = h
   before_walk NoParent lt h = h
@@ -328,7 +328,7 @@ module _ {V : Type 0} (A : Algebra V) (lawful : IsLawful A) (g : Roads) (lines :
   before_walk OtherRoute lt h = h
 
   -- where an arc offers a value, an unreached line is refused
-  pub walk_judged : list_any (λ a. is_there (candidate A g lines a)) arcs ≡ true → IsJudged (IsRightLine A g lines v None) (IsRefused A g lines v None) (Some HasWalk)
+  pub walk_judged : list_any (λ a. is_there (candidate A g lines a)) arcs ≡ true → IsFirstReason (IsRightLine A g lines v None) (IsRefuted A g lines v None) (Some HasWalk)
   walk_judged h =
       let f = found A lawful g lines v arcs into (λ _ _ _. true) (λ a. is_there (candidate A g lines a)) (λ a. there_is (arc_of g a).tail (candidate A g lines a)) h in
       ((f.0, f.1, f.2, f.3), before_walk)

@@ -3,15 +3,15 @@ use Rattle.std.proofs.Common.{◌≡◌, ℕ, zero, suc, ◌+◌, ◌-◌, ◌<�
 use Rattle.std.specs.Prelude.{IsTrue, Contains, ◌↔◌, option_map}
 use Rattle.std.specs.List.{range_with_len, AllZip}
 use Rattle.rayon.specs.Lists.{first_true}
-use Rattle.road_graph.specs.Roads.{Roads, IsRoads, HasVertex}
+use Rattle.road_graph.specs.GraphData.{GraphData, IsGraph, HasVertex}
 use Rattle.path_algebra.specs.Algebra.{Algebra, IsLawful}
 use Rattle.path_algebra.specs.Walks.{label_of, is_marked}
 use Rattle.answer_text.specs.declared.answers.Reached.{Reached}
-use Rattle.answer_text.specs.IsAnswer.{AreLines}
+use Rattle.answer_text.specs.IsAnswer.{AreVertexLines}
 use Rattle.answer_check.specs.declared.place.Place.{Place}
 use Rattle.answer_check.specs.declared.verdict.Reason.{Reason}
 use Rattle.answer_check.specs.declared.verdict.Reason.TheVariants.{Mismatch, NotBest, NoParent, OtherHops, LesserParent, HasWalk, OtherRoute}
-use Rattle.answer_check.specs.Reasons.{IsRefused, IsLineRefused, reason_number}
+use Rattle.answer_check.specs.Reasons.{IsRefuted, IsLineRefused, reason_number}
 use Rattle.answer_check.specs.Certificates.{IsCertifiedAt}
 use Rattle.answer_check.specs.Marked.{IsMarkedRefused, IsMarkedRight, TellsRefused}
 use Rattle.answer_check.specs.Places.{IsJudgedAt, IsFirstNumber}
@@ -71,7 +71,7 @@ module _ (R : ℕ → Bool → Type 0) where
         subst (λ (x : ℕ). R x false) back (high (k - a) (omega (arith, from, lt)))
   ]
 
-module _ {V : Type 0} (A : Algebra V) (lawful : IsLawful A) (g : Roads) (lines : List (Option Reached)) where
+module _ {V : Type 0} (A : Algebra V) (lawful : IsLawful A) (g : GraphData) (lines : List (Option Reached)) where
   pub marked_not_refused : (v : ℕ) (b : Bool) (r : Reason) → IsMarkedRight A g lines v b → IsMarkedRefused A g lines v b r → ⊥
   marked_not_refused v true Mismatch e h = h e
   marked_not_refused v true NotBest e h = h
@@ -110,7 +110,7 @@ module _ {V : Type 0} (A : Algebra V) (lawful : IsLawful A) (g : Roads) (lines :
   pub not_right : (v : ℕ) (b : Bool) → ((r : Reason) × IsMarkedRefused A g lines v b r) → IsMarkedRight A g lines v b → ⊥
   not_right v b h right = marked_not_refused v b h.0 right h.1
 
-  no_mismatch : (v : ℕ) (l : Option Reached) → IsRefused A g lines v l Mismatch → ⊥
+  no_mismatch : (v : ℕ) (l : Option Reached) → IsRefuted A g lines v l Mismatch → ⊥
   no_mismatch v None h = h
   no_mismatch v (Some r) h = h
 
@@ -151,11 +151,11 @@ module _ {V : Type 0} (A : Algebra V) (lawful : IsLawful A) (g : Roads) (lines :
     certified_by_mark true is of h = inl (is refl, h)
     certified_by_mark false is of h = inr (λ s. let bad : false ≡ true = of s in cc, h)
 
-  module _ (roads : IsRoads g) (sources : List ℕ) (in_s : (s : ℕ) → Contains sources s → HasVertex g s) (count : length lines ≡ g.vertices) (marks : List Bool)
+  module _ (roads : IsGraph g) (sources : List ℕ) (in_s : (s : ℕ) → Contains sources s → HasVertex g s) (count : length lines ≡ g.vertices) (marks : List Bool)
       (marked : (v : ℕ) → 1 ≤ v → v ≤ g.vertices → IsTrue (is_marked marks v) ↔ Contains sources v) where
     -- a verdict on marked lines is one on the lines from these sources
     pub lines_judged : (o : Option Place) → IsJudgedAt ((v : ℕ) → HasVertex g v → IsMarkedRight A g lines v (is_marked marks v)) (λ v r. HasVertex g v × IsMarkedRefused A g lines v (is_marked marks v) r) o →
-        IsJudgedAt (AreLines A g sources lines) (λ v r. HasVertex g v × IsLineRefused A g sources lines v r) o
+        IsJudgedAt (AreVertexLines A g sources lines) (λ v r. HasVertex g v × IsLineRefused A g sources lines v r) o
     lines_judged None right = lines_are_right A lawful g roads sources in_s lines (record {
       count = count;
       each = λ v in_v. let m = marked v in_v.0 in_v.1 in certified_by_mark sources v (is_marked marks v) m.0 m.1 (right v in_v);

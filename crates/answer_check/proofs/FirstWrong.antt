@@ -3,15 +3,15 @@ use Rattle.std.proofs.Common.{◌≡◌, ℕ, zero, suc, ◌+◌, ◌-◌, ◌<�
 use Rattle.std.specs.Prelude.{◌↔◌, All, slice_get}
 use Rattle.std.proofs.lemmas.List.Elements.{All-head, All-tail, All-cons, All-nil}
 use Rattle.std.proofs.lemmas.Option.{slice_get_within, slice_get-get_or}
-use Rattle.road_graph.specs.Roads.{Roads, IsRoads, HasVertex}
+use Rattle.road_graph.specs.GraphData.{GraphData, IsGraph, HasVertex}
 use Rattle.road_graph.proofs.Options.{same_some}
 use Rattle.path_algebra.specs.Algebra.{Algebra, IsLawful}
 use Rattle.path_algebra.proofs.Walks.{all_inside}
 use Rattle.road_files.specs.Asked.{Question, FromSource, BetweenPair, FromSources, Asked, AskWithin, asked_of, of_source, of_pair, of_list}
 use Rattle.road_files.specs.declared.questions.Questions.{Questions}
 use Rattle.road_files.specs.declared.questions.Questions.TheVariants as variants
-use Rattle.answer_text.specs.Told.{Told, ToldSource, ToldPair, ToldMulti, ToldList}
-use Rattle.answer_text.specs.IsAnswer.{AreLines, IsAnswer, AreAnswers, IsAnswerList}
+use Rattle.answer_text.specs.AnswerData.{AnswerData, SourceAnswer, PairAnswer, SourcesAnswer, AnswerList}
+use Rattle.answer_text.specs.IsAnswer.{AreVertexLines, IsAnswer, AreAnswers, IsAnswerList}
 use Rattle.answer_text.proofs.OneAnswer.{answers_count}
 use Rattle.answer_check.specs.declared.place.Place.{Place}
 use Rattle.answer_check.specs.declared.verdict.Reason.{Reason}
@@ -40,7 +40,7 @@ none_earlier v r (inl h) = omega (arith, h)
 none_earlier v r (inr h) = let a = number_above r in let b = h.1 in omega (arith, a, b)
 
 -- the question asks of the graph's vertices
-abbrev pub AsksOf : Roads → Question → Type 0
+abbrev pub AsksOf : GraphData → Question → Type 0
 AsksOf g (FromSource s) = HasVertex g s
 AsksOf g (BetweenPair s t) = HasVertex g s × HasVertex g t
 AsksOf g (FromSources ss) = All (HasVertex g) ss
@@ -64,85 +64,85 @@ mapped_read f [] i x is lt = absurd (omega (arith, lt))
 mapped_read {X} {Y} f (z ∷ xs) zero x is lt = ap (λ (y : X). Some (f y)) (sym is)
 mapped_read f (z ∷ xs) (suc i) x is lt = mapped_read f xs i x is (omega (arith, lt))
 
-pub asks_of : (g : Roads) (questions : Questions) → AskWithin g.vertices questions → (k : ℕ) (q : Question) → slice_get (asked_of questions).questions k ≡ Some q → AsksOf g q
+pub asks_of : (g : GraphData) (questions : Questions) → AskWithin g.vertices questions → (k : ℕ) (q : Question) → slice_get (asked_of questions).questions k ≡ Some q → AsksOf g q
 asks_of g (variants.Sources vs) within k q e = mapped_at (AsksOf g) of_source vs.items within k q e
 asks_of g (variants.Pairs ps) within k q e = mapped_at (AsksOf g) of_pair ps.items within k q e
 asks_of g (variants.Multi ls) within k q e = mapped_at (AsksOf g) of_list ls.items (λ i d lt. (within i d lt).vertices) k q e
 
-module _ {V : Type 0} (A : Algebra V) (g : Roads) where
+module _ {V : Type 0} (A : Algebra V) (g : GraphData) where
   -- in an answer that names its question, only vertices are wrong
-  pub named_judged : (q : Question) (t : Told) → Names g q t → (o : Option Place) → IsJudgedAt (IsAnswer A g q t) (IsRefusedAt A g q t) o → IsJudgedAt (IsAnswer A g q t) (IsWrongIn A g q t) o
+  pub named_judged : (q : Question) (t : AnswerData) → Names g q t → (o : Option Place) → IsJudgedAt (IsAnswer A g q t) (IsRefusedAt A g q t) o → IsJudgedAt (IsAnswer A g q t) (IsWrongIn A g q t) o
   named_judged q t named None right = right
   named_judged q t named (Some p) h = (inr h.0, λ v r earlier w. elim w [ inl k ↦ k.2 named | inr k ↦ h.1 v r earlier k ])
 
   pub source_judged : (s r : ℕ) (lines : List (Option Reached)) → r ≡ s → length lines ≡ g.vertices → (o : Option Place) →
-      IsJudgedAt (AreLines A g (s ∷ []) lines) (λ v reason. HasVertex g v × IsLineRefused A g (s ∷ []) lines v reason) o →
-      IsJudgedAt (IsAnswer A g (FromSource s) (ToldSource r lines)) (IsWrongIn A g (FromSource s) (ToldSource r lines)) o
+      IsJudgedAt (AreVertexLines A g (s ∷ []) lines) (λ v reason. HasVertex g v × IsLineRefused A g (s ∷ []) lines v reason) o →
+      IsJudgedAt (IsAnswer A g (FromSource s) (SourceAnswer r lines)) (IsWrongIn A g (FromSource s) (SourceAnswer r lines)) o
   source_judged s r lines e n None h = (e, h)
-  source_judged s r lines e n (Some p) h = named_judged (FromSource s) (ToldSource r lines) (e, n) (Some p) h
+  source_judged s r lines e n (Some p) h = named_judged (FromSource s) (SourceAnswer r lines) (e, n) (Some p) h
 
   pub sources_judged : (ss rs : List ℕ) (lines : List (Option Reached)) → rs ≡ ss → length lines ≡ g.vertices → (o : Option Place) →
-      IsJudgedAt (AreLines A g ss lines) (λ v reason. HasVertex g v × IsLineRefused A g ss lines v reason) o →
-      IsJudgedAt (IsAnswer A g (FromSources ss) (ToldMulti rs lines)) (IsWrongIn A g (FromSources ss) (ToldMulti rs lines)) o
+      IsJudgedAt (AreVertexLines A g ss lines) (λ v reason. HasVertex g v × IsLineRefused A g ss lines v reason) o →
+      IsJudgedAt (IsAnswer A g (FromSources ss) (SourcesAnswer rs lines)) (IsWrongIn A g (FromSources ss) (SourcesAnswer rs lines)) o
   sources_judged ss rs lines e n None h = (e, h)
-  sources_judged ss rs lines e n (Some p) h = named_judged (FromSources ss) (ToldMulti rs lines) (e, n) (Some p) h
+  sources_judged ss rs lines e n (Some p) h = named_judged (FromSources ss) (SourcesAnswer rs lines) (e, n) (Some p) h
 
-  names_answer : (q : Question) (t : Told) → IsAnswer A g q t → Names g q t
-  names_answer (FromSource s) (ToldSource r lines) h = (h.0, h.1.count)
-  names_answer (BetweenPair s u) (ToldPair r v found) h = (h.0, h.1)
-  names_answer (FromSources ss) (ToldMulti rs lines) h = (h.0, h.1.count)
-  names_answer (FromSource s) (ToldPair r u found) h = h
-  names_answer (FromSource s) (ToldMulti rs lines) h = h
-  names_answer (BetweenPair s u) (ToldSource r lines) h = h
-  names_answer (BetweenPair s u) (ToldMulti rs lines) h = h
-  names_answer (FromSources ss) (ToldSource r lines) h = h
-  names_answer (FromSources ss) (ToldPair r u found) h = h
+  names_answer : (q : Question) (t : AnswerData) → IsAnswer A g q t → Names g q t
+  names_answer (FromSource s) (SourceAnswer r lines) h = (h.0, h.1.count)
+  names_answer (BetweenPair s u) (PairAnswer r v found) h = (h.0, h.1)
+  names_answer (FromSources ss) (SourcesAnswer rs lines) h = (h.0, h.1.count)
+  names_answer (FromSource s) (PairAnswer r u found) h = h
+  names_answer (FromSource s) (SourcesAnswer rs lines) h = h
+  names_answer (BetweenPair s u) (SourceAnswer r lines) h = h
+  names_answer (BetweenPair s u) (SourcesAnswer rs lines) h = h
+  names_answer (FromSources ss) (SourceAnswer r lines) h = h
+  names_answer (FromSources ss) (PairAnswer r u found) h = h
 
   -- the right answers to the questions up to a number
-  abbrev pub AreRightUpTo : List Question → List Told → ℕ → Type 0
-  AreRightUpTo qs ts n = (k : ℕ) → k < n → (q : Question) (t : Told) → slice_get qs k ≡ Some q → slice_get ts k ≡ Some t → IsAnswer A g q t
+  abbrev pub AreRightUpTo : List Question → List AnswerData → ℕ → Type 0
+  AreRightUpTo qs ts n = (k : ℕ) → k < n → (q : Question) (t : AnswerData) → slice_get qs k ≡ Some q → slice_get ts k ≡ Some t → IsAnswer A g q t
 
-  module _ (lawful : IsLawful A) (roads : IsRoads g) where
-    not_refused_at : (q : Question) (t : Told) → AsksOf g q → IsAnswer A g q t → (v : ℕ) (r : Reason) → IsRefusedAt A g q t v r → ⊥
-    not_refused_at (FromSource s) (ToldSource k lines) asks right v r h =
+  module _ (lawful : IsLawful A) (roads : IsGraph g) where
+    not_refused_at : (q : Question) (t : AnswerData) → AsksOf g q → IsAnswer A g q t → (v : ℕ) (r : Reason) → IsRefusedAt A g q t v r → ⊥
+    not_refused_at (FromSource s) (SourceAnswer k lines) asks right v r h =
         let in_s = all_inside g (s ∷ []) (All-cons (HasVertex g) s [] asks (All-nil (HasVertex g))) in
         certified_not_refused A lawful g lines (s ∷ []) v ((lines_are_certified A lawful g roads (s ∷ []) in_s lines right.1).each v h.0) r h.1
-    not_refused_at (BetweenPair s u) (ToldPair k w found) asks right v r h = pair_not_refused A lawful g s u found r right.2 h.1
-    not_refused_at (FromSources ss) (ToldMulti rs lines) asks right v r h =
+    not_refused_at (BetweenPair s u) (PairAnswer k w found) asks right v r h = pair_not_refused A lawful g s u found r right.2 h.1
+    not_refused_at (FromSources ss) (SourcesAnswer rs lines) asks right v r h =
         certified_not_refused A lawful g lines ss v ((lines_are_certified A lawful g roads ss (all_inside g ss asks) lines right.1).each v h.0) r h.1
-    not_refused_at (FromSource s) (ToldPair k u found) asks right v r h = h
-    not_refused_at (FromSource s) (ToldMulti rs lines) asks right v r h = h
-    not_refused_at (BetweenPair s u) (ToldSource k lines) asks right v r h = h
-    not_refused_at (BetweenPair s u) (ToldMulti rs lines) asks right v r h = h
-    not_refused_at (FromSources ss) (ToldSource k lines) asks right v r h = h
-    not_refused_at (FromSources ss) (ToldPair k u found) asks right v r h = h
+    not_refused_at (FromSource s) (PairAnswer k u found) asks right v r h = h
+    not_refused_at (FromSource s) (SourcesAnswer rs lines) asks right v r h = h
+    not_refused_at (BetweenPair s u) (SourceAnswer k lines) asks right v r h = h
+    not_refused_at (BetweenPair s u) (SourcesAnswer rs lines) asks right v r h = h
+    not_refused_at (FromSources ss) (SourceAnswer k lines) asks right v r h = h
+    not_refused_at (FromSources ss) (PairAnswer k u found) asks right v r h = h
 
     -- nothing is wrong in the right answer
-    not_wrong : (q : Question) (t : Told) → AsksOf g q → IsAnswer A g q t → (v : ℕ) (r : Reason) → IsWrongIn A g q t v r → ⊥
+    not_wrong : (q : Question) (t : AnswerData) → AsksOf g q → IsAnswer A g q t → (v : ℕ) (r : Reason) → IsWrongIn A g q t v r → ⊥
     not_wrong q t asks right v r (inl h) = h.2 (names_answer q t right)
     not_wrong q t asks right v r (inr h) = not_refused_at q t asks right v r h
 
-    right_more : (qs : List Question) (ts : List Told) (n : ℕ) → AreRightUpTo qs ts n → ((q : Question) (t : Told) → slice_get qs n ≡ Some q → slice_get ts n ≡ Some t → IsAnswer A g q t) → (k : ℕ) → k < n + 1 → k ≤ n →
-        (k ≡ n) ⊎ (k < n) → (q : Question) (t : Told) → slice_get qs k ≡ Some q → slice_get ts k ≡ Some t → IsAnswer A g q t
+    right_more : (qs : List Question) (ts : List AnswerData) (n : ℕ) → AreRightUpTo qs ts n → ((q : Question) (t : AnswerData) → slice_get qs n ≡ Some q → slice_get ts n ≡ Some t → IsAnswer A g q t) → (k : ℕ) → k < n + 1 → k ≤ n →
+        (k ≡ n) ⊎ (k < n) → (q : Question) (t : AnswerData) → slice_get qs k ≡ Some q → slice_get ts k ≡ Some t → IsAnswer A g q t
     right_more qs ts n before here k lt le (inl same) q t e f = here q t (subst (λ (j : ℕ). slice_get qs j ≡ Some q) same e) (subst (λ (j : ℕ). slice_get ts j ≡ Some t) same f)
     right_more qs ts n before here k lt le (inr less) q t e f = before k less q t e f
 
-    pub one_right_more : (qs : List Question) (ts : List Told) (n : ℕ) (q : Question) (t : Told) → AreRightUpTo qs ts n → slice_get qs n ≡ Some q → slice_get ts n ≡ Some t → IsAnswer A g q t → AreRightUpTo qs ts (n + 1)
+    pub one_right_more : (qs : List Question) (ts : List AnswerData) (n : ℕ) (q : Question) (t : AnswerData) → AreRightUpTo qs ts n → slice_get qs n ≡ Some q → slice_get ts n ≡ Some t → IsAnswer A g q t → AreRightUpTo qs ts (n + 1)
     one_right_more qs ts n q t before e f right k lt =
-        right_more qs ts n before (λ p u gp gu. subst (λ (z : Told). IsAnswer A g p z) (same_some (slice_get ts n) t u f gu) (subst (λ (z : Question). IsAnswer A g z t) (same_some (slice_get qs n) q p e gp) right))
+        right_more qs ts n before (λ p u gp gu. subst (λ (z : AnswerData). IsAnswer A g p z) (same_some (slice_get ts n) t u f gu) (subst (λ (z : Question). IsAnswer A g z t) (same_some (slice_get qs n) q p e gp) right))
         k lt (omega (arith, lt)) (last_or_before k n (omega (arith, lt)))
       where
         last_or_before : (k n : ℕ) → k ≤ n → (k ≡ n) ⊎ (k < n)
         last_or_before k n le = grind (arith)
 
-    are_answers : (qs : List Question) (ts : List Told) → length ts ≡ length qs → ((k : ℕ) (q : Question) (t : Told) → slice_get qs k ≡ Some q → slice_get ts k ≡ Some t → IsAnswer A g q t) → AreAnswers A g qs ts
+    are_answers : (qs : List Question) (ts : List AnswerData) → length ts ≡ length qs → ((k : ℕ) (q : Question) (t : AnswerData) → slice_get qs k ≡ Some q → slice_get ts k ≡ Some t → IsAnswer A g q t) → AreAnswers A g qs ts
     are_answers [] [] n each = tt
     are_answers [] (t ∷ ts) n each = absurd (omega (arith, n))
     are_answers (q ∷ qs) [] n each = absurd (omega (arith, n))
     are_answers (q ∷ qs) (t ∷ ts) n each = (each 0 q t refl refl, are_answers qs ts (omega (arith, n)) (λ k p u e f. each (suc k) p u e f))
 
     -- all answers are right, and the header is
-    pub list_is_right : (asked : Asked) (told : ToldList) → HasHeader A g asked told → AreRightUpTo asked.questions told.list (length told.list) → IsAnswerList A g asked told
+    pub list_is_right : (asked : Asked) (told : AnswerList) → HasHeader A g asked told → AreRightUpTo asked.questions told.list (length told.list) → IsAnswerList A g asked told
     list_is_right asked told header all = record {
       name_is = header.name_is;
       kind_is = header.kind_is;
@@ -150,19 +150,19 @@ module _ {V : Type 0} (A : Algebra V) (g : Roads) where
       answers = are_answers asked.questions told.list header.count (λ k q t e f. all k (slice_get_within told.list k t f) q t e f);
     }
 
-    answer_at : (qs : List Question) (ts : List Told) → AreAnswers A g qs ts → (k : ℕ) (q : Question) (t : Told) → slice_get qs k ≡ Some q → slice_get ts k ≡ Some t → IsAnswer A g q t
+    answer_at : (qs : List Question) (ts : List AnswerData) → AreAnswers A g qs ts → (k : ℕ) (q : Question) (t : AnswerData) → slice_get qs k ≡ Some q → slice_get ts k ≡ Some t → IsAnswer A g q t
     answer_at [] ts h k q t e f = let bad : None ≡ Some q = e in absurd (cc)
     answer_at (p ∷ qs) [] h k q t e f = let bad : None ≡ Some t = f in absurd (cc)
     answer_at (p ∷ qs) (u ∷ ts) h zero q t e f =
         let a : p ≡ q = cc in
         let b : u ≡ t = cc in
-        subst (λ (z : Told). IsAnswer A g q z) b (subst (λ (z : Question). IsAnswer A g z u) a h.0)
+        subst (λ (z : AnswerData). IsAnswer A g q z) b (subst (λ (z : Question). IsAnswer A g z u) a h.0)
     answer_at (p ∷ qs) (u ∷ ts) h (suc k) q t e f = answer_at qs ts h.1 k q t e f
 
-    header_of : (asked : Asked) (told : ToldList) → IsAnswerList A g asked told → HasHeader A g asked told
+    header_of : (asked : Asked) (told : AnswerList) → IsAnswerList A g asked told → HasHeader A g asked told
     header_of asked told right = record { name_is = right.name_is; kind_is = right.kind_is; n_is = right.n_is; count = answers_count A g asked.questions told.list right.answers }
 
-    module _ (asked : Asked) (told : ToldList) (asks : (k : ℕ) (q : Question) → slice_get asked.questions k ≡ Some q → AsksOf g q) where
+    module _ (asked : Asked) (told : AnswerList) (asks : (k : ℕ) (q : Question) → slice_get asked.questions k ≡ Some q → AsksOf g q) where
       -- a right list is wrong nowhere
       right_not_wrong : IsAnswerList A g asked told → (question v : ℕ) (r : Reason) → IsWrong A g asked told question v r → ⊥
       right_not_wrong right question v r (inl h) = h.3 (header_of asked told right)
@@ -187,7 +187,7 @@ module _ {V : Type 0} (A : Algebra V) (g : Roads) where
       }
 
       -- the first place in the first wrong answer
-      pub answer_first : HasHeader A g asked told → (i : ℕ) (q : Question) (t : Told) → AreRightUpTo asked.questions told.list i → slice_get asked.questions i ≡ Some q → slice_get told.list i ≡ Some t →
+      pub answer_first : HasHeader A g asked told → (i : ℕ) (q : Question) (t : AnswerData) → AreRightUpTo asked.questions told.list i → slice_get asked.questions i ≡ Some q → slice_get told.list i ≡ Some t →
           (p : Place) → IsJudgedAt (IsAnswer A g q t) (IsWrongIn A g q t) (Some p) → IsFirstWrong A g asked told (i + 1) p.vertex p.reason
       answer_first header i q t before e f p h =
           let back : (i + 1) - 1 ≡ i = omega arith in
@@ -208,7 +208,7 @@ module _ {V : Type 0} (A : Algebra V) (g : Roads) where
                     let at : n - 1 ≡ i = omega (arith, same.0) in
                     let qs : q ≡ x.0 = same_some (slice_get asked.questions i) q x.0 e (subst (λ (j : ℕ). slice_get asked.questions j ≡ Some x.0) at x.2) in
                     let ts : t ≡ x.1 = same_some (slice_get told.list i) t x.1 f (subst (λ (j : ℕ). slice_get told.list j ≡ Some x.1) at x.3) in
-                    h.1 u r same.1 (subst (λ (z : Question). IsWrongIn A g z t u r) (sym qs) (subst (λ (z : Told). IsWrongIn A g x.0 z u r) (sym ts) x.4))
+                    h.1 u r same.1 (subst (λ (z : Question). IsWrongIn A g z t u r) (sym qs) (subst (λ (z : AnswerData). IsWrongIn A g x.0 z u r) (sym ts) x.4))
               ]
             ];
           }

@@ -1,9 +1,9 @@
 pub mod Certified
 pub mod Refused
-pub mod EvidenceAdds
+mod EvidenceAdds
 pub mod EvidenceMeans
 pub mod FirstPlaces
-pub mod Marks
-pub mod PairsJudged
-pub mod FirstWrong
-pub mod OneVerdict
+mod Marks
+mod PairsJudged
+mod FirstWrong
+mod OneVerdict

@@ -1,11 +1,11 @@
 -- A graph, questions and answers have one verdict.
 use Rattle.std.proofs.Common.{◌≡◌, ℕ, ◌==◌, inl, inr, cond, refl, sym, ap, ◌∙◌, arith}
 use Rattle.std.proofs.lemmas.Bool.{cases_lt}
-use Rattle.road_graph.specs.Roads.{Roads, IsRoads}
+use Rattle.road_graph.specs.GraphData.{GraphData, IsGraph}
 use Rattle.path_algebra.specs.Algebra.{Algebra, IsLawful}
 use Rattle.road_files.specs.Asked.{AskWithin, asked_of}
 use Rattle.road_files.specs.declared.questions.Questions.{Questions}
-use Rattle.answer_text.specs.Told.{ToldList}
+use Rattle.answer_text.specs.AnswerData.{AnswerList}
 use Rattle.answer_check.specs.declared.verdict.Reason.{Reason}
 use Rattle.answer_check.specs.declared.verdict.Reason.TheVariants.{Mismatch, NotBest, NoParent, OtherHops, LesserParent, HasWalk, OtherRoute}
 use Rattle.answer_check.specs.declared.verdict.Verdict.{Verdict}
@@ -48,7 +48,7 @@ place_once p u r q v s a b =
     ] in
     (questions, vertices, reason_once r s numbers)
 
-module _ {V : Type 0} (A : Algebra V) (lawful : IsLawful A) (g : Roads) (roads : IsRoads g) (q : Questions) (within : AskWithin g.vertices q) (told : ToldList) where
+module _ {V : Type 0} (A : Algebra V) (lawful : IsLawful A) (g : GraphData) (roads : IsGraph g) (q : Questions) (within : AskWithin g.vertices q) (told : AnswerList) where
   pub verdict_once : (v w : Verdict) → IsVerdict A g (asked_of q) told v → IsVerdict A g (asked_of q) told w → v ≡ w
   verdict_once Valid w h k = sym (valid_exactly A g lawful roads (asked_of q) told (asks_of g q within) w k h)
   verdict_once (Invalid p u r) Valid h k = valid_exactly A g lawful roads (asked_of q) told (asks_of g q within) (Invalid p u r) h k

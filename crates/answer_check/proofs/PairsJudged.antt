@@ -1,19 +1,19 @@
 -- How what is told of a pair differs from the right answer is the first reason against it.
 use Rattle.std.proofs.Common.{◌≡◌, ℕ, ◌<◌, List, [], ◌∷◌, sym, subst, arith, Option, Some, None}
-use Rattle.road_graph.specs.Roads.{Roads}
+use Rattle.road_graph.specs.GraphData.{GraphData}
 use Rattle.path_algebra.specs.Algebra.{Algebra, IsLawful}
 use Rattle.path_algebra.specs.Walks.{IsUnreached, AreHops}
-use Rattle.answer_text.specs.Told.{ToldFound}
+use Rattle.answer_text.specs.AnswerData.{FoundData}
 use Rattle.answer_text.specs.IsAnswer.{IsBestCode, IsRouteBetween, IsFoundBetween, IsPairAnswer}
 use Rattle.answer_text.proofs.OneAnswer.{code_once, hops_once, route_once}
 use Rattle.answer_check.specs.declared.verdict.Reason.{Reason}
 use Rattle.answer_check.specs.declared.verdict.Reason.TheVariants.{Mismatch, NotBest, NoParent, OtherHops, LesserParent, HasWalk, OtherRoute}
 use Rattle.answer_check.specs.Pairs.{IsOther}
-use Rattle.answer_check.specs.Reasons.{IsPairRefused, IsJudged, reason_number}
+use Rattle.answer_check.specs.Reasons.{IsPairRefused, IsFirstReason, reason_number}
 
-module _ {V : Type 0} (A : Algebra V) (lawful : IsLawful A) (g : Roads) (s t : ℕ) where
+module _ {V : Type 0} (A : Algebra V) (lawful : IsLawful A) (g : GraphData) (s t : ℕ) where
   -- nothing speaks against the right answer
-  pub pair_not_refused : (found : Option ToldFound) (r : Reason) → IsPairAnswer A g s t found → IsPairRefused A g s t found r → ⊥
+  pub pair_not_refused : (found : Option FoundData) (r : Reason) → IsPairAnswer A g s t found → IsPairRefused A g s t found r → ⊥
   pair_not_refused None HasWalk right h = right h.0 h.1
   pair_not_refused None Mismatch right h = h
   pair_not_refused None NotBest right h = h
@@ -30,7 +30,7 @@ module _ {V : Type 0} (A : Algebra V) (lawful : IsLawful A) (g : Roads) (s t : �
   pair_not_refused (Some f) HasWalk right h = h
 
   -- something is told where no walk has a value
-  pub told_without_walk : (f : ToldFound) → IsUnreached A g (s ∷ []) t → IsJudged (IsPairAnswer A g s t (Some f)) (IsPairRefused A g s t (Some f)) (Some NotBest)
+  pub told_without_walk : (f : FoundData) → IsUnreached A g (s ∷ []) t → IsFirstReason (IsPairAnswer A g s t (Some f)) (IsPairRefused A g s t (Some f)) (Some NotBest)
   told_without_walk f none = (λ code. none code.0 code.1.attained, before)
     where
       before : (r : Reason) → reason_number r < 2 → IsPairRefused A g s t (Some f) r → ⊥
@@ -43,7 +43,7 @@ module _ {V : Type 0} (A : Algebra V) (lawful : IsLawful A) (g : Roads) (s t : �
       before HasWalk lt h = h
 
   module _ (code hops : ℕ) (route : List ℕ) (code_is : IsBestCode A g (s ∷ []) t code) (hops_are : AreHops A g (s ∷ []) t hops) (route_is : IsRouteBetween A g s t route) where
-    refused : (f : ToldFound) (r : Reason) → IsOther code hops route f r → IsPairRefused A g s t (Some f) r
+    refused : (f : FoundData) (r : Reason) → IsOther code hops route f r → IsPairRefused A g s t (Some f) r
     refused f NotBest h = λ k. h (code_once A lawful g (s ∷ []) t f.code code k code_is)
     refused f OtherHops h = λ k. h (hops_once A lawful g (s ∷ []) t f.hops hops k hops_are)
     refused f OtherRoute h = λ k. h (route_once A lawful g s t f.route route k route_is)
@@ -52,7 +52,7 @@ module _ {V : Type 0} (A : Algebra V) (lawful : IsLawful A) (g : Roads) (s t : �
     refused f LesserParent h = h
     refused f HasWalk h = h
 
-    other : (f : ToldFound) (r : Reason) → IsPairRefused A g s t (Some f) r → IsOther code hops route f r
+    other : (f : FoundData) (r : Reason) → IsPairRefused A g s t (Some f) r → IsOther code hops route f r
     other f NotBest h = λ e. h (subst (IsBestCode A g (s ∷ []) t) (sym e) code_is)
     other f OtherHops h = λ e. h (subst (AreHops A g (s ∷ []) t) (sym e) hops_are)
     other f OtherRoute h = λ e. h (subst (IsRouteBetween A g s t) (sym e) route_is)
@@ -62,7 +62,7 @@ module _ {V : Type 0} (A : Algebra V) (lawful : IsLawful A) (g : Roads) (s t : �
     other f HasWalk h = h
 
     -- the first difference is the first reason
-    pub pair_judged : (f : ToldFound) (o : Option Reason) → IsJudged (f ≡ record { code = code; hops = hops; route = route }) (IsOther code hops route f) o →
-        IsJudged (IsPairAnswer A g s t (Some f)) (IsPairRefused A g s t (Some f)) o
-    pair_judged f None e = subst (λ (q : ToldFound). IsFoundBetween A g s t q) (sym e) (record { code = code_is; hops = hops_are; route = route_is })
+    pub pair_judged : (f : FoundData) (o : Option Reason) → IsFirstReason (f ≡ record { code = code; hops = hops; route = route }) (IsOther code hops route f) o →
+        IsFirstReason (IsPairAnswer A g s t (Some f)) (IsPairRefused A g s t (Some f)) o
+    pair_judged f None e = subst (λ (q : FoundData). IsFoundBetween A g s t q) (sym e) (record { code = code_is; hops = hops_are; route = route_is })
     pair_judged f (Some r) h = (refused f r h.0, λ q lt k. h.1 q lt (other f q k))

@@ -1,23 +1,23 @@
 -- Nothing speaks against a line that is certified.
 use Rattle.std.proofs.Common.{◌≡◌, ℕ, ◌+◌, inl, inr, List, ap, ◌∙◌, subst, arith, Option, Some, None}
 use Rattle.std.specs.Prelude.{IsTrue, Contains}
-use Rattle.road_graph.specs.Roads.{Roads}
+use Rattle.road_graph.specs.GraphData.{GraphData}
 use Rattle.road_graph.proofs.Options.{same_some}
 use Rattle.path_algebra.specs.Algebra.{Algebra, IsLawful}
 use Rattle.path_algebra.specs.Walks.{label_of}
 use Rattle.answer_text.specs.declared.answers.Reached.{Reached}
 use Rattle.answer_check.specs.declared.verdict.Reason.{Reason}
 use Rattle.answer_check.specs.declared.verdict.Reason.TheVariants.{Mismatch, NotBest, NoParent, OtherHops, LesserParent, HasWalk, OtherRoute}
-use Rattle.answer_check.specs.Reasons.{Offers, Gives, source_line, IsRefused, IsLineRefused}
+use Rattle.answer_check.specs.Reasons.{Offers, Gives, source_line, IsRefuted, IsLineRefused}
 use Rattle.answer_check.specs.Certificates.{IsSupported, IsRightLine, IsCertifiedAt}
 use Rattle.answer_check.proofs.Certified.{code_of_one}
 
-module _ {V : Type 0} (A : Algebra V) (lawful : IsLawful A) (g : Roads) (lines : List (Option Reached)) where
+module _ {V : Type 0} (A : Algebra V) (lawful : IsLawful A) (g : GraphData) (lines : List (Option Reached)) where
   -- what gives the line's value offers the value that supports it
   gives_support : (u v : ℕ) (near r : Reached) (sup : IsSupported A g lines v r) → Gives A g lines u v near r → Offers A g lines u v near sup.value
   gives_support u v near r sup gives = subst (λ (y : V). Offers A g lines u v near y) (code_of_one A lawful r.code gives.0 sup.value gives.1 sup.code_is) gives.2
 
-  pub not_refused : (v : ℕ) (l : Option Reached) (reason : Reason) → IsRightLine A g lines v l → IsRefused A g lines v l reason → ⊥
+  pub not_refused : (v : ℕ) (l : Option Reached) (reason : Reason) → IsRightLine A g lines v l → IsRefuted A g lines v l reason → ⊥
   not_refused v None HasWalk right h = right h.0 h.1 h.2 h.3
   not_refused v None Mismatch right h = h
   not_refused v None NotBest right h = h

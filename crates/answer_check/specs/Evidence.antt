@@ -1,7 +1,7 @@
--- What the arcs into a vertex show of its line, as the check counts it.
+-- What the arcs into a vertex show of its line, as the check computes it.
 use Rattle.std.specs.Prelude.{ℕ, ◌+◌, ◌^◌, List, Bool, true, false, not, ◌&&◌, ◌||◌, nat_eq, nat_lt, if◌then◌else◌, Option, Some, None}
 use Rattle.std.specs.List.{list_any}
-use Rattle.road_graph.specs.Roads.{Roads, arc_of}
+use Rattle.road_graph.specs.GraphData.{GraphData, arc_of}
 use Rattle.path_algebra.specs.Algebra.{Algebra}
 use Rattle.path_algebra.specs.Walks.{label_of}
 use Rattle.answer_text.specs.declared.answers.Reached.{Reached}
@@ -13,30 +13,30 @@ use Rattle.answer_check.specs.declared.evidence.Evidence.{Evidence}
 abbrev pub decoded : {V : Type 0} → Algebra V → ℕ → Option V
 decoded A c = if nat_lt c (2 ^ 64) then A.value_of c else None
 
--- a value taken along an arc, if there is one
+-- a value, if there is one, extended by an arc of this weight
 abbrev pub extended : {V : Type 0} → Algebra V → Option V → ℕ → Option V
 extended A None w = None
 extended A (Some x) w = A.extend x w
 
--- a value beside the line that it came from
+-- a value with the line that it came from
 abbrev pub beside : {V : Type 0} → Reached → Option V → Option (Reached × V)
 beside near None = None
 beside near (Some z) = Some (near, z)
 
--- what an arc of this weight offers from a vertex with this line: the line, and the value it tells taken along the arc
+-- what an arc of this weight offers from a vertex with this line: the line, and its value extended by the arc
 abbrev pub candidate_from : {V : Type 0} → Algebra V → Option Reached → ℕ → Option (Reached × V)
 candidate_from A None w = None
 candidate_from A (Some near) w = beside near (extended A (decoded A near.code) w)
 
 -- what an arc offers to its head
-abbrev pub candidate : {V : Type 0} → Algebra V → Roads → List (Option Reached) → ℕ → Option (Reached × V)
+abbrev pub candidate : {V : Type 0} → Algebra V → GraphData → List (Option Reached) → ℕ → Option (Reached × V)
 candidate A g lines a = candidate_from A (label_of lines (arc_of g a).tail) (arc_of g a).weight
 
--- two values are one
+-- two values are the same
 abbrev pub is_same : {V : Type 0} → (V → V → Bool) → V → V → Bool
 is_same no_worse y z = no_worse y z && no_worse z y
 
--- what one arc from u shows of a line r that tells the value y, by what it offers
+-- what one arc from u shows of a line r with the value y, by what it offers
 abbrev pub evidence_by : {V : Type 0} → (V → V → Bool) → ℕ → Reached → V → Option (Reached × V) → Evidence
 evidence_by no_worse u r y None = record { better = false; supported = false; astray = false; nearer = false; lesser = false }
 evidence_by no_worse u r y (Some b) = record {
@@ -48,10 +48,10 @@ evidence_by no_worse u r y (Some b) = record {
 }
 
 -- what one arc shows
-abbrev pub evidence_of : {V : Type 0} → Algebra V → (V → V → Bool) → Roads → List (Option Reached) → Reached → V → ℕ → Evidence
+abbrev pub evidence_of : {V : Type 0} → Algebra V → (V → V → Bool) → GraphData → List (Option Reached) → Reached → V → ℕ → Evidence
 evidence_of A no_worse g lines r y a = evidence_by no_worse (arc_of g a).tail r y (candidate A g lines a)
 
--- what either shows
+-- what either of the two shows
 abbrev pub either : Evidence → Evidence → Evidence
 either s t = record {
   better = s.better || t.better;
@@ -62,7 +62,7 @@ either s t = record {
 }
 
 -- what some arc of a list shows
-abbrev pub all_evidence : {V : Type 0} → Algebra V → (V → V → Bool) → Roads → List (Option Reached) → Reached → V → List ℕ → Evidence
+abbrev pub all_evidence : {V : Type 0} → Algebra V → (V → V → Bool) → GraphData → List (Option Reached) → Reached → V → List ℕ → Evidence
 all_evidence A no_worse g lines r y arcs = record {
   better = list_any (λ a. (evidence_of A no_worse g lines r y a).better) arcs;
   supported = list_any (λ a. (evidence_of A no_worse g lines r y a).supported) arcs;

@@ -1,21 +1,21 @@
--- How what is told of a pair differs from the right code, hops and route, and which answers have yet to be judged.
+-- How the answer to a pair differs from the right code, hops and route, and which answers have yet to be judged.
 use Rattle.std.specs.Prelude.{◌≡◌, ◌≢◌, ℕ, List, Bool, true, false, ⊤, Some, slice_get}
-use Rattle.road_graph.specs.Roads.{Roads}
+use Rattle.road_graph.specs.GraphData.{GraphData}
 use Rattle.path_algebra.specs.Algebra.{Algebra}
 use Rattle.road_files.specs.Asked.{Question, Asked}
-use Rattle.answer_text.specs.Told.{Told, ToldFound, ToldList}
+use Rattle.answer_text.specs.AnswerData.{AnswerData, FoundData, AnswerList}
 use Rattle.answer_text.specs.IsAnswer.{IsAnswer}
 use Rattle.answer_check.specs.declared.verdict.Reason.{Reason}
 use Rattle.answer_check.specs.declared.verdict.Reason.TheVariants.{NotBest, OtherHops, OtherRoute}
 
--- code, hops or route are others
-abbrev pub IsOther : ℕ → ℕ → List ℕ → ToldFound → Reason → Type 0
+-- code, hops or route are not the right ones
+abbrev pub IsOther : ℕ → ℕ → List ℕ → FoundData → Reason → Type 0
 IsOther code hops route f NotBest = f.code ≢ code
 IsOther code hops route f OtherHops = f.hops ≢ hops
 IsOther code hops route f OtherRoute = f.route ≢ route
 IsOther code hops route f _ = ⊥
 
--- whether the answer to the question at a place has yet to be judged: where it has not, it is right
-abbrev pub TellsSuspect : {V : Type 0} → Algebra V → Roads → Asked → ToldList → ℕ → Bool → Type 0
+-- whether the answer to question i has yet to be judged: if not, it is right
+abbrev pub TellsSuspect : {V : Type 0} → Algebra V → GraphData → Asked → AnswerList → ℕ → Bool → Type 0
 TellsSuspect A g asked told i true = ⊤
-TellsSuspect A g asked told i false = (q : Question) (t : Told) → slice_get asked.questions i ≡ Some q → slice_get told.list i ≡ Some t → IsAnswer A g q t
+TellsSuspect A g asked told i false = (q : Question) (t : AnswerData) → slice_get asked.questions i ≡ Some q → slice_get told.list i ≡ Some t → IsAnswer A g q t

@@ -1,9 +1,9 @@
 //! The first place where the answer to one question is wrong.
 
 ghost use Rattle.std.specs.Prelude.{◌≡◌, ℕ, ◌<◌, length, slice_get, All, IfOk};
-ghost use Rattle.road_graph.specs.Roads.{HasVertex};
+ghost use Rattle.road_graph.specs.GraphData.{HasVertex};
 ghost use Rattle.road_files.specs.Asked.{AskWithin, AreSourcesOf, FromSource, BetweenPair, FromSources, Question, asked_of};
-ghost use Rattle.answer_text.specs.Told.{told_of};
+ghost use Rattle.answer_text.specs.AnswerData.{answer_data};
 ghost use Rattle.answer_text.specs.IsAnswer.{IsAnswer};
 ghost use Rattle.answer_check.specs.Verdicts.{IsWrongIn};
 ghost use Rattle.answer_check.specs.Places.{IsJudgedAt};
@@ -35,7 +35,9 @@ fn judge_source<A: PathAlgebra, R: Threads + Sync>(
     answer: &Answer,
 ) -> Result<Option<Place>, Memory>
     requires { HasVertex graph.now source }
-    ensures { IfOk result (IsJudgedAt (IsAnswer (A.meaning algebra) graph.now (FromSource source) (told_of answer.now)) (IsWrongIn (A.meaning algebra) graph.now (FromSource source) (told_of answer.now))) }
+    ensures { IfOk result (IsJudgedAt (IsAnswer (A.meaning algebra) graph.now (FromSource source)
+        (answer_data answer.now)) (IsWrongIn (A.meaning algebra) graph.now (FromSource source)
+        (answer_data answer.now))) }
 {
     let Answer::Source {
         source: named,
@@ -60,7 +62,10 @@ fn judge_sources<A: PathAlgebra, R: Threads + Sync>(
     answer: &Answer,
 ) -> Result<Option<Place>, Memory>
     requires { All (HasVertex graph.now) sources.now }
-    ensures { IfOk result (IsJudgedAt (IsAnswer (A.meaning algebra) graph.now (FromSources sources.now) (told_of answer.now)) (IsWrongIn (A.meaning algebra) graph.now (FromSources sources.now) (told_of answer.now))) }
+    ensures { IfOk result
+        (IsJudgedAt (IsAnswer (A.meaning algebra) graph.now (FromSources sources.now)
+        (answer_data answer.now)) (IsWrongIn (A.meaning algebra) graph.now (FromSources sources.now)
+        (answer_data answer.now))) }
 {
     let Answer::Multi {
         sources: named,
@@ -86,7 +91,10 @@ pub(crate) fn judge_pair<A: PathAlgebra>(
 ) -> Result<Option<Place>, Memory>
     requires source { HasVertex graph.now source }
     requires target { HasVertex graph.now target }
-    ensures { IfOk result (IsJudgedAt (IsAnswer (A.meaning algebra) graph.now (BetweenPair source target) (told_of answer.now)) (IsWrongIn (A.meaning algebra) graph.now (BetweenPair source target) (told_of answer.now))) }
+    ensures { IfOk result
+        (IsJudgedAt (IsAnswer (A.meaning algebra) graph.now (BetweenPair source target)
+        (answer_data answer.now)) (IsWrongIn (A.meaning algebra) graph.now
+        (BetweenPair source target) (answer_data answer.now))) }
 {
     let Answer::Pair {
         source: from,
@@ -106,7 +114,7 @@ pub(crate) fn judge_pair<A: PathAlgebra>(
     }))
 }
 
-/// The first place where the answer to the question at a place is wrong.
+/// The first place where the answer to question `i` is wrong.
 pub(crate) fn judge<A: PathAlgebra, R: Threads + Sync>(
     rt: &R,
     alloc: Global,
@@ -118,7 +126,9 @@ pub(crate) fn judge<A: PathAlgebra, R: Threads + Sync>(
 ) -> Result<Option<Place>, Memory>
     requires within { AskWithin graph.now.vertices questions.now }
     requires place { i < length (asked_of questions.now).questions }
-    ensures { (q : Question) → slice_get (asked_of questions.now).questions i ≡ Some q → IfOk result (IsJudgedAt (IsAnswer (A.meaning algebra) graph.now q (told_of answer.now)) (IsWrongIn (A.meaning algebra) graph.now q (told_of answer.now))) }
+    ensures { (q : Question) → slice_get (asked_of questions.now).questions i ≡ Some q →
+        IfOk result (IsJudgedAt (IsAnswer (A.meaning algebra) graph.now q (answer_data answer.now))
+        (IsWrongIn (A.meaning algebra) graph.now q (answer_data answer.now))) }
 {
     match questions {
         Questions::Sources(sources) => judge_source(rt, alloc, algebra, graph, sources[i], answer),

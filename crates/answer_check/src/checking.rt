@@ -2,13 +2,13 @@
 
 ghost use Rattle.std.specs.Prelude.{◌≡◌, ◌↔◌, IfOk, IsTrue};
 ghost use Rattle.road_files.specs.Asked.{AskWithin, asked_of};
-ghost use Rattle.answer_text.specs.Told.{told_list_of};
+ghost use Rattle.answer_text.specs.AnswerData.{answer_list};
 ghost use Rattle.answer_text.specs.IsAnswer.{IsAnswerList};
 ghost use Rattle.answer_check.specs.declared.verdict.Verdict.TheVariants.{Valid};
 ghost use Rattle.answer_check.specs.Verdicts.{HasHeader, IsVerdict};
 
 use crate::answers::judge;
-use crate::suspects::right_front;
+use crate::suspects::right_prefix;
 use crate::verdict::{Reason, Verdict};
 use answer_text::Answers;
 use path_algebra::{PathAlgebra, laws_hold};
@@ -24,7 +24,8 @@ fn has_header<A: PathAlgebra>(
     questions: &Questions,
     answers: &Answers,
 ) -> bool
-    ensures { IsTrue result ↔ HasHeader (A.meaning algebra) graph.now (asked_of questions.now) (told_list_of answers.now) }
+    ensures { IsTrue result ↔ HasHeader (A.meaning algebra) graph.now (asked_of questions.now)
+        (answer_list answers.now) }
 {
     answers.name == algebra.name()
         && answers.kind == questions.kind()
@@ -34,7 +35,7 @@ fn has_header<A: PathAlgebra>(
 
 /// Whether these are the right answers to questions over a graph, or else the first place where they are not.
 ///
-/// Places are ordered by question, then by vertex, then by the number of the reason. Only want of memory is an error.
+/// Places are ordered by question, then by vertex, then by the number of the reason. The only error is out of memory.
 pub fn check<A: PathAlgebra, R: Threads + Sync>(
     rt: &R,
     alloc: Global,
@@ -44,11 +45,13 @@ pub fn check<A: PathAlgebra, R: Threads + Sync>(
     answers: &Answers,
 ) -> Result<Verdict, Memory>
     requires { AskWithin graph.now.vertices questions.now }
-    ensures verdict { IfOk result (IsVerdict (A.meaning algebra) graph.now (asked_of questions.now) (told_list_of answers.now)) }
-    ensures valid { IfOk result (λ verdict. verdict ≡ Valid ↔ IsAnswerList (A.meaning algebra) graph.now (asked_of questions.now) (told_list_of answers.now)) }
+    ensures verdict { IfOk result (IsVerdict (A.meaning algebra) graph.now (asked_of questions.now)
+        (answer_list answers.now)) }
+    ensures valid { IfOk result (λ verdict. verdict ≡ Valid ↔ IsAnswerList (A.meaning algebra)
+        graph.now (asked_of questions.now) (answer_list answers.now)) }
 {
     laws_hold(algebra);
-    let _n = graph.vertices();
+    graph.holds();
     if !has_header(algebra, graph, questions, answers) {
         return Ok(Verdict::Invalid {
             question: 0,
@@ -56,7 +59,7 @@ pub fn check<A: PathAlgebra, R: Threads + Sync>(
             reason: Reason::Mismatch,
         });
     }
-    let right = right_front(rt, alloc, algebra, graph, questions, answers);
+    let right = right_prefix(rt, alloc, algebra, graph, questions, answers);
     for i in right..answers.list.len() {
         let place = judge(rt, alloc, algebra, graph, questions, i, &answers.list[i])?;
         if let Some(place) = place {

@@ -1,7 +1,7 @@
 //! What the arcs into a reached vertex show of its line.
 
 ghost use Rattle.std.specs.Prelude.{◌≡◌, All, length};
-ghost use Rattle.road_graph.specs.Roads.{HasArc, arc_of};
+ghost use Rattle.road_graph.specs.GraphData.{HasArc, arc_of};
 ghost use Rattle.path_algebra.specs.Walks.{label_of};
 ghost use Rattle.answer_check.specs.Evidence.{decoded, candidate_from, evidence_by, all_evidence};
 
@@ -10,7 +10,7 @@ use answer_text::Reached;
 use path_algebra::PathAlgebra;
 use road_graph::{ArcNo, Graph, Vertex};
 
-/// What arcs into a vertex show of its line.
+/// What some of the arcs into a vertex show of its line.
 #[derive(Clone, Copy)]
 pub struct Evidence {
     /// One gives a better value.
@@ -29,9 +29,15 @@ impl Evidence {
     ghost use Rattle.std.specs.Prelude.{◌≡◌, false};
     ghost use Rattle.answer_check.specs.Evidence.{either, reason_by};
 
-    /// What no arc shows.
+    /// The evidence of no arcs.
     pub fn none() -> Evidence
-        ensures { result ≡ record { better = false; supported = false; astray = false; nearer = false; lesser = false } }
+        ensures { result ≡ record {
+          better = false;
+          supported = false;
+          astray = false;
+          nearer = false;
+          lesser = false;
+        } }
     {
         Evidence {
             better: false,
@@ -42,7 +48,7 @@ impl Evidence {
         }
     }
 
-    /// What either shows.
+    /// What either of the two shows.
     pub fn or(self, other: Evidence) -> Evidence
         ensures { result ≡ either self other }
     {
@@ -73,14 +79,14 @@ impl Evidence {
     }
 }
 
-/// The value that a line tells, if its code is one's.
+/// The value of a line, if its code is that of a value.
 pub fn value_told<A: PathAlgebra>(algebra: A, line: Reached) -> Option<A::Value>
     ensures { result ≡ decoded (A.meaning algebra) line.code }
 {
     algebra.value_of(line.code)
 }
 
-/// The line of an arc's tail, and the value that it tells taken along the arc; none if it tells no value, or the arc refuses it.
+/// The line of an arc's tail, and its value extended by the arc. None if the line has no value or the arc refuses it.
 pub fn candidate<A: PathAlgebra>(
     algebra: A,
     near: Option<Reached>,
@@ -94,7 +100,7 @@ pub fn candidate<A: PathAlgebra>(
     Some((near, extended))
 }
 
-/// What one arc from `tail` shows of a line that tells a value, by what it offers.
+/// What one arc from `tail`, which offers `candidate`, shows of a line with this value.
 pub fn evidence_by<A: PathAlgebra>(
     tail: Vertex,
     line: Reached,
@@ -117,7 +123,7 @@ pub fn evidence_by<A: PathAlgebra>(
     }
 }
 
-/// What the arcs of a list show of the line of their head, which tells a value.
+/// What the arcs of a list show of the line of their head, which has this value.
 pub(crate) fn evidence_of<A: PathAlgebra>(
     algebra: A,
     graph: &Graph,
@@ -128,9 +134,10 @@ pub(crate) fn evidence_of<A: PathAlgebra>(
 ) -> Evidence
     requires count { length lines.now ≡ graph.now.vertices }
     requires arcs { All (HasArc graph.now) arcs.now }
-    ensures { result ≡ all_evidence (A.meaning algebra) A.order graph.now lines.now line value arcs.now }
+    ensures { result ≡ all_evidence (A.meaning algebra) A.order graph.now lines.now line value
+        arcs.now }
 {
-    let _n = graph.vertices();
+    graph.holds();
     let mut evidence = Evidence::none();
     for a in arcs {
         let arc = graph.arc(*a);

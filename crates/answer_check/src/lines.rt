@@ -1,9 +1,9 @@
-//! The first place of an answer for all vertices where it is wrong.
+//! The first place where an answer for all vertices is wrong.
 
 ghost use Rattle.std.specs.Prelude.{◌≡◌, ℕ, ◌≤◌, ◌↔◌, length, All, Contains, IfOk, IsTrue};
-ghost use Rattle.road_graph.specs.Roads.{HasVertex};
+ghost use Rattle.road_graph.specs.GraphData.{HasVertex};
 ghost use Rattle.path_algebra.specs.Walks.{is_marked};
-ghost use Rattle.answer_text.specs.IsAnswer.{AreLines};
+ghost use Rattle.answer_text.specs.IsAnswer.{AreVertexLines};
 ghost use Rattle.answer_check.specs.Reasons.{IsLineRefused};
 ghost use Rattle.answer_check.specs.Places.{IsJudgedAt};
 
@@ -15,14 +15,15 @@ use road_graph::{Graph, Memory, Vertex};
 use std::alloc::{AllocError, Global};
 use std::thread::Threads;
 
-/// A mark for each of n vertices that tells whether it is one of the sources.
+/// A mark for each of n vertices that says whether it is a source.
 ///
 /// # Errors
-/// Want of memory.
+/// Out of memory.
 pub fn marks_of(alloc: Global, n: usize, sources: &[Vertex]) -> Result<Vec<bool>, AllocError>
     requires { All (λ s. (1 ≤ s) × (s ≤ n)) sources.now }
     ensures count { IfOk result (λ marks. length marks.items ≡ n) }
-    ensures marks { IfOk result (λ marks. (v : ℕ) → 1 ≤ v → v ≤ n → IsTrue (is_marked marks.items v) ↔ Contains sources.now v) }
+    ensures marks { IfOk result (λ marks. (v : ℕ) → 1 ≤ v → v ≤ n → IsTrue (is_marked marks.items v)
+        ↔ Contains sources.now v) }
 {
     let mut marks = vec![in alloc; false; n]?;
     for source in sources {
@@ -42,7 +43,9 @@ pub(crate) fn judge_lines<A: PathAlgebra, R: Threads + Sync>(
 ) -> Result<Option<Place>, Memory>
     requires inside { All (HasVertex graph.now) sources.now }
     requires count { length lines.now ≡ graph.now.vertices }
-    ensures { IfOk result (IsJudgedAt (AreLines (A.meaning algebra) graph.now sources.now lines.now) (λ v r. HasVertex graph.now v × IsLineRefused (A.meaning algebra) graph.now sources.now lines.now v r)) }
+    ensures { IfOk result (IsJudgedAt (AreVertexLines (A.meaning algebra) graph.now sources.now
+        lines.now) (λ v r. HasVertex graph.now v × IsLineRefused (A.meaning algebra) graph.now
+        sources.now lines.now v r)) }
 {
     laws_hold(algebra);
     let marks = marks_of(alloc, graph.vertices() as usize, sources)?;

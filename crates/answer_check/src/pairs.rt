@@ -1,9 +1,9 @@
-//! The first reason against the answer to a pair, which is compared with the solver's.
+//! The first reason against the answer to a pair, by comparison with the solver's.
 
 ghost use Rattle.std.specs.Prelude.{◌≡◌, [], ◌∷◌, IfOk, option_map};
-ghost use Rattle.road_graph.specs.Roads.{HasVertex};
-ghost use Rattle.answer_text.specs.Told.{found_of};
-ghost use Rattle.answer_check.specs.Reasons.{IsPairRefused, IsJudged};
+ghost use Rattle.road_graph.specs.GraphData.{HasVertex};
+ghost use Rattle.answer_text.specs.AnswerData.{found_of};
+ghost use Rattle.answer_check.specs.Reasons.{IsPairRefused, IsFirstReason};
 ghost use Rattle.answer_text.specs.IsAnswer.{IsPairAnswer};
 ghost use Rattle.answer_check.specs.Pairs.{IsOther};
 
@@ -16,9 +16,13 @@ use road_graph::{Graph, Memory, Vertex};
 use route_tree::{route_between, routes_follow_parents};
 use std::alloc::Global;
 
-/// The first way in which what is told differs from the right code, hops and route.
+/// The first way in which an answer differs from the right code, hops and route.
 fn difference(code: u64, hops: u32, list: &[Vertex], found: &Found) -> Option<Reason>
-    ensures { IsJudged (found_of found.now ≡ record { code = code; hops = hops; route = list.now }) (IsOther code hops list.now (found_of found.now)) result }
+    ensures { IsFirstReason (found_of found.now ≡ record {
+      code = code;
+      hops = hops;
+      route = list.now;
+    }) (IsOther code hops list.now (found_of found.now)) result }
 {
     if found.code != code {
         Some(Reason::NotBest)
@@ -31,7 +35,7 @@ fn difference(code: u64, hops: u32, list: &[Vertex], found: &Found) -> Option<Re
     }
 }
 
-/// The first reason against what is told of a pair.
+/// The first reason against the answer to a pair.
 pub(crate) fn reason_of_pair<A: PathAlgebra>(
     alloc: Global,
     algebra: A,
@@ -42,11 +46,13 @@ pub(crate) fn reason_of_pair<A: PathAlgebra>(
 ) -> Result<Option<Reason>, Memory>
     requires source { HasVertex graph.now source }
     requires target { HasVertex graph.now target }
-    ensures { IfOk result (IsJudged (IsPairAnswer (A.meaning algebra) graph.now source target (option_map found_of found.now)) (IsPairRefused (A.meaning algebra) graph.now source target (option_map found_of found.now))) }
+    ensures { IfOk result (IsFirstReason (IsPairAnswer (A.meaning algebra) graph.now source target
+        (option_map found_of found.now)) (IsPairRefused (A.meaning algebra) graph.now source target
+        (option_map found_of found.now))) }
 {
     laws_hold(algebra);
     routes_follow_parents(algebra);
-    let _n = graph.vertices();
+    graph.holds();
     let labels = solve_one(alloc, algebra, graph, source)?;
     let Some(found) = found else {
         let has_walk = labels.of(target).is_some();

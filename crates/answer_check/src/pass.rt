@@ -1,7 +1,7 @@
 //! The parallel pass over the lines of an answer.
 
 ghost use Rattle.std.specs.Prelude.{◌≡◌, ℕ, ◌+◌, ◌<◌, length};
-ghost use Rattle.road_graph.specs.Roads.{HasVertex};
+ghost use Rattle.road_graph.specs.GraphData.{HasVertex};
 ghost use Rattle.path_algebra.specs.Walks.{is_marked};
 ghost use Rattle.answer_check.specs.Marked.{IsMarkedRefused, IsMarkedRight, TellsRefused};
 ghost use Rattle.answer_check.specs.Places.{IsFirstNumber, IsJudgedAt};
@@ -14,7 +14,7 @@ use rayon::prelude::*;
 use road_graph::{Graph, Vertex};
 use std::thread::Threads;
 
-/// Whether something speaks against the line at a place of the list.
+/// Whether there is a reason against line `i` of the list.
 fn is_refused<A: PathAlgebra>(
     algebra: A,
     graph: &Graph,
@@ -27,11 +27,11 @@ fn is_refused<A: PathAlgebra>(
     requires place { i < graph.now.vertices }
     ensures { TellsRefused (A.meaning algebra) graph.now lines.now marks.now (i + 1) result }
 {
-    let _n = graph.vertices();
+    graph.holds();
     reason_at(algebra, graph, lines, marks, Vertex(i as u32 + 1)).is_some()
 }
 
-/// The place of the first line that something speaks against.
+/// The index of the first line with a reason against it.
 fn first_refused<A: PathAlgebra, R: Threads + Sync>(
     rt: &R,
     algebra: A,
@@ -41,18 +41,21 @@ fn first_refused<A: PathAlgebra, R: Threads + Sync>(
 ) -> Option<usize>
     requires count { length lines.now ≡ graph.now.vertices }
     requires marks { length marks.now ≡ graph.now.vertices }
-    ensures { IsFirstNumber graph.now.vertices (λ i. TellsRefused (A.meaning algebra) graph.now lines.now marks.now (i + 1)) result }
+    ensures { IsFirstNumber graph.now.vertices (λ i. TellsRefused (A.meaning algebra) graph.now
+        lines.now marks.now (i + 1)) result }
 {
     (0..lines.len()).into_par_iter().position_first(
         rt,
         |i: usize| -> bool
-            requires { (length lines.now ≡ graph.now.vertices) × (length marks.now ≡ graph.now.vertices) × (i < graph.now.vertices) }
-            ensures { TellsRefused (A.meaning algebra) graph.entry.now lines.entry.now marks.entry.now (i + 1) result }
+            requires { (length lines.now ≡ graph.now.vertices) ×
+                (length marks.now ≡ graph.now.vertices) × (i < graph.now.vertices) }
+            ensures { TellsRefused (A.meaning algebra) graph.entry.now lines.entry.now
+                marks.entry.now (i + 1) result }
         { is_refused(algebra, graph, lines, marks, i) },
     )
 }
 
-/// The first vertex whose line something speaks against, with the first reason, where marks tell the sources.
+/// The first vertex with a reason against its line, and the first such reason. `marks` says which vertices are sources.
 pub(crate) fn first_place<A: PathAlgebra, R: Threads + Sync>(
     rt: &R,
     algebra: A,
@@ -62,10 +65,12 @@ pub(crate) fn first_place<A: PathAlgebra, R: Threads + Sync>(
 ) -> Option<Place>
     requires count { length lines.now ≡ graph.now.vertices }
     requires marks { length marks.now ≡ graph.now.vertices }
-    ensures { IsJudgedAt ((v : ℕ) → HasVertex graph.now v → IsMarkedRight (A.meaning algebra) graph.now lines.now v (is_marked marks.now v)) (λ v r. HasVertex graph.now v × IsMarkedRefused (A.meaning algebra) graph.now lines.now v (is_marked marks.now v) r) result }
+    ensures { IsJudgedAt ((v : ℕ) → HasVertex graph.now v → IsMarkedRight (A.meaning algebra)
+        graph.now lines.now v (is_marked marks.now v)) (λ v r. HasVertex graph.now v ×
+        IsMarkedRefused (A.meaning algebra) graph.now lines.now v (is_marked marks.now v) r) result }
 {
     laws_hold(algebra);
-    let _n = graph.vertices();
+    graph.holds();
     let i = first_refused(rt, algebra, graph, lines, marks)?;
     let vertex = Vertex(i as u32 + 1);
     let reason = reason_at(algebra, graph, lines, marks, vertex)?;

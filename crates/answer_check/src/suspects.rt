@@ -2,7 +2,7 @@
 
 ghost use Rattle.std.specs.Prelude.{◌≡◌, ℕ, ◌+◌, ◌-◌, ◌<◌, ◌≤◌, false, length};
 ghost use Rattle.road_files.specs.Asked.{AskWithin, asked_of};
-ghost use Rattle.answer_text.specs.Told.{told_list_of};
+ghost use Rattle.answer_text.specs.AnswerData.{answer_list};
 ghost use Rattle.answer_check.specs.Pairs.{TellsSuspect};
 ghost use Rattle.answer_check.specs.Places.{IsFirstNumber};
 
@@ -15,10 +15,10 @@ use road_graph::Graph;
 use std::alloc::Global;
 use std::thread::Threads;
 
-/// How many answers are judged side by side before the next ones are.
+/// How many answers are judged in parallel before the next ones.
 const GROUP: usize = 64;
 
-/// Whether an answer has yet to be judged: all but those to pairs that are right.
+/// Whether an answer has yet to be judged: false only for a right answer to a pair.
 fn is_suspect<A: PathAlgebra>(
     alloc: Global,
     algebra: A,
@@ -30,7 +30,8 @@ fn is_suspect<A: PathAlgebra>(
     requires within { AskWithin graph.now.vertices questions.now }
     requires question { i < length (asked_of questions.now).questions }
     requires answer { i < length answers.now.list.items }
-    ensures { TellsSuspect (A.meaning algebra) graph.now (asked_of questions.now) (told_list_of answers.now) i result }
+    ensures { TellsSuspect (A.meaning algebra) graph.now (asked_of questions.now)
+        (answer_list answers.now) i result }
 {
     let Questions::Pairs(pairs) = questions else {
         return true;
@@ -42,7 +43,7 @@ fn is_suspect<A: PathAlgebra>(
     }
 }
 
-/// The first of the answers from one place up to another that has yet to be judged, counted from the first place.
+/// The first answer from `start` up to `end` that has yet to be judged, counted from `start`.
 fn first_suspect<A: PathAlgebra, R: Threads + Sync>(
     rt: &R,
     alloc: Global,
@@ -57,20 +58,24 @@ fn first_suspect<A: PathAlgebra, R: Threads + Sync>(
     requires count { length (asked_of questions.now).questions ≡ length answers.now.list.items }
     requires start { start ≤ end }
     requires end { end ≤ length answers.now.list.items }
-    ensures { IsFirstNumber (end - start) (λ k. TellsSuspect (A.meaning algebra) graph.now (asked_of questions.now) (told_list_of answers.now) (start + k)) result }
+    ensures { IsFirstNumber (end - start) (λ k. TellsSuspect (A.meaning algebra) graph.now
+        (asked_of questions.now) (answer_list answers.now) (start + k)) result }
 {
     (start..end).into_par_iter().with_min_len(1).position_first(
         rt,
         |i: usize| -> bool
-            requires { AskWithin graph.now.vertices questions.now × (i < length (asked_of questions.now).questions) × (i < length answers.now.list.items) }
-            ensures { TellsSuspect (A.meaning algebra) graph.entry.now (asked_of questions.entry.now) (told_list_of answers.entry.now) i result }
+            requires { AskWithin graph.now.vertices questions.now ×
+                (i < length (asked_of questions.now).questions) ×
+                (i < length answers.now.list.items) }
+            ensures { TellsSuspect (A.meaning algebra) graph.entry.now
+                (asked_of questions.entry.now) (answer_list answers.entry.now) i result }
         { is_suspect(alloc, algebra, graph, questions, answers, i) },
     )
 }
 
-/// How many answers at the front are right, as far as that is found side by side: pairs are judged on all processors, group by
-/// group, up to the first that is wrong, or that memory does not suffice for.
-pub(crate) fn right_front<A: PathAlgebra, R: Threads + Sync>(
+/// How many of the first answers are right, as far as that is found in parallel: pairs are judged on all processors,
+/// group by group, up to the first that is wrong or for which memory runs out.
+pub(crate) fn right_prefix<A: PathAlgebra, R: Threads + Sync>(
     rt: &R,
     alloc: Global,
     algebra: A,
@@ -80,7 +85,8 @@ pub(crate) fn right_front<A: PathAlgebra, R: Threads + Sync>(
 ) -> usize
     requires within { AskWithin graph.now.vertices questions.now }
     requires count { length (asked_of questions.now).questions ≡ length answers.now.list.items }
-    ensures { (k : ℕ) → k < result → TellsSuspect (A.meaning algebra) graph.now (asked_of questions.now) (told_list_of answers.now) k false }
+    ensures { (k : ℕ) → k < result → TellsSuspect (A.meaning algebra) graph.now
+        (asked_of questions.now) (answer_list answers.now) k false }
 {
     let count = answers.list.len();
     let mut right = 0;

@@ -1,23 +1,23 @@
-//! What a check tells.
+//! The result of a check.
 
 ghost use Rattle.std.specs.Prelude.{◌≡◌};
 
 /// Why a place of an answer list is wrong.
 #[derive(Clone, Copy, Debug, PartialEq, Eq)]
 pub enum Reason {
-    /// The header, the question that an answer names, or the line of a source is another.
+    /// The header, the question that an answer names, or the line of a source is not the right one.
     Mismatch,
     /// The value is not the best.
     NotBest,
     /// The code is that of no value, or the parent does not give this value.
     NoParent,
-    /// The hops are others.
+    /// The hops are not the right ones.
     OtherHops,
     /// A lesser vertex could be the parent.
     LesserParent,
-    /// A walk with a value leads there, and none is told.
+    /// A walk with a value leads there, and the answer says that there is none.
     HasWalk,
-    /// The route is another.
+    /// The route is not the right one.
     OtherRoute,
 }
 
@@ -25,7 +25,7 @@ impl Reason {
     ghost use Rattle.std.specs.Prelude.{◌≡◌};
     ghost use Rattle.answer_check.specs.Reasons.{reason_number};
 
-    /// The number that stands for a reason, 1 to 7.
+    /// The number of a reason, 1 to 7.
     pub fn number(self) -> u32
         ensures { result ≡ reason_number self }
     {
@@ -45,7 +45,7 @@ impl Reason {
 #[derive(Clone, Copy, Debug, PartialEq, Eq)]
 pub enum Verdict {
     Valid,
-    /// Questions and vertices are numbered from 1; 0 stands for the list as a whole, and for an answer as a whole.
+    /// Questions and vertices are numbered from 1. Question 0 is the whole list, and vertex 0 the whole answer.
     Invalid {
         question: usize,
         vertex: u32,

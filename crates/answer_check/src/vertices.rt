@@ -2,9 +2,9 @@
 
 ghost use Rattle.std.specs.Prelude.{◌≡◌, ℕ, List, length, All, IsTrue, ◌↔◌};
 ghost use Rattle.std.specs.List.{list_any};
-ghost use Rattle.road_graph.specs.Roads.{HasVertex, HasArc, ListsArcsInto};
+ghost use Rattle.road_graph.specs.GraphData.{HasVertex, HasArc, ListsArcsInto};
 ghost use Rattle.path_algebra.specs.Walks.{label_of, is_marked};
-ghost use Rattle.answer_check.specs.Reasons.{source_line, IsRefused, IsJudged};
+ghost use Rattle.answer_check.specs.Reasons.{source_line, IsRefuted, IsFirstReason};
 ghost use Rattle.answer_check.specs.Evidence.{candidate, is_there};
 ghost use Rattle.answer_check.specs.Marked.{IsMarkedRefused, IsMarkedRight};
 ghost use Rattle.answer_check.specs.Certificates.{IsRightLine};
@@ -36,9 +36,10 @@ fn offers_some<A: PathAlgebra>(
 ) -> bool
     requires count { length lines.now ≡ graph.now.vertices }
     requires arcs { All (HasArc graph.now) arcs.now }
-    ensures { result ≡ list_any (λ a. is_there (candidate (A.meaning algebra) graph.now lines.now a)) arcs.now }
+    ensures { result ≡ list_any (λ a. is_there (candidate (A.meaning algebra) graph.now lines.now
+        a)) arcs.now }
 {
-    let _n = graph.vertices();
+    graph.holds();
     for a in arcs {
         let arc = graph.arc(*a);
         if candidate(algebra, lines[arc.tail.0 as usize - 1], arc.weight).is_some() {
@@ -57,7 +58,9 @@ fn reason_of_line<A: PathAlgebra>(
 ) -> Option<Reason>
     requires count { length lines.now ≡ graph.now.vertices }
     requires in_graph { HasVertex graph.now v }
-    ensures { IsJudged (IsRightLine (A.meaning algebra) graph.now lines.now v (label_of lines.now v)) (IsRefused (A.meaning algebra) graph.now lines.now v (label_of lines.now v)) result }
+    ensures { IsFirstReason (IsRightLine (A.meaning algebra) graph.now lines.now v
+        (label_of lines.now v)) (IsRefuted (A.meaning algebra) graph.now lines.now v
+        (label_of lines.now v)) result }
 {
     laws_hold(algebra);
     let arcs = graph.into(v);
@@ -75,7 +78,7 @@ fn reason_of_line<A: PathAlgebra>(
     }
 }
 
-/// The first reason against the line of a vertex, where marks tell the sources.
+/// The first reason against the line of a vertex. `marks` says which vertices are sources.
 pub(crate) fn reason_at<A: PathAlgebra>(
     algebra: A,
     graph: &Graph,
@@ -86,7 +89,9 @@ pub(crate) fn reason_at<A: PathAlgebra>(
     requires count { length lines.now ≡ graph.now.vertices }
     requires marks { length marks.now ≡ graph.now.vertices }
     requires in_graph { HasVertex graph.now v }
-    ensures { IsJudged (IsMarkedRight (A.meaning algebra) graph.now lines.now v (is_marked marks.now v)) (IsMarkedRefused (A.meaning algebra) graph.now lines.now v (is_marked marks.now v)) result }
+    ensures { IsFirstReason (IsMarkedRight (A.meaning algebra) graph.now lines.now v
+        (is_marked marks.now v)) (IsMarkedRefused (A.meaning algebra) graph.now lines.now v
+        (is_marked marks.now v)) result }
 {
     let i = v.0 as usize - 1;
     if !marks[i] {

@@ -6,7 +6,7 @@ use Rattle.road_text.specs.Words.{Word, word_of, word_at}
 use Rattle.road_text.proofs.OwnNumbers.{IsOwn, own_then, own_unless, own_if, own_up_to}
 use Rattle.road_files.specs.declared.questions.Kind.{Kind}
 use Rattle.road_files.specs.declared.questions.Kind.TheVariants.{Sources, Pairs, Multi}
-use Rattle.answer_text.specs.AnswerFiles.{Stage, Between, InLines, AfterPair, AfterFound, AnswersSoFar, number_in, numbers_in, known, header_line, source_line, pair_line, list_line, sources_line, route_line, reached_line, unreached_line, vertex_line, value_line, none_line, found_line, question_line, answer_line, told_after, line_given, end_read, answer_rules}
+use Rattle.answer_text.specs.AnswerFiles.{Stage, Between, InLines, AfterPair, AfterFound, AnswersSoFar, answer_number, numbers_in, known, header_line, source_line, pair_line, list_line, sources_line, route_line, reached_line, unreached_line, vertex_line, value_line, none_line, found_line, heading_line, answer_line, told_after, line_given, end_read, answer_rules}
 
 -- no fault, or one of these
 abbrev IsAnswers : {A : Type 0} → Result A ℕ → Type 0
@@ -27,12 +27,12 @@ test b k f l g more = own_unless 30 36 b k f l g more
 either : {A : Type 0} (b : Bool) (x y : Result A ℕ) → IsAnswers x → IsAnswers y → IsAnswers (if b then x else y)
 either b x y p q = own_if 30 36 b x y p q
 
-number : (limit : ℕ) (o : Option ℕ) → IsAnswers (number_in limit o)
+number : (limit : ℕ) (o : Option ℕ) → IsAnswers (answer_number limit o)
 number limit o = own_up_to 30 36 34 35 limit o (omega arith, omega arith) (omega arith, omega arith)
 
 numbers : (ws : List Word) → IsAnswers (numbers_in ws)
 numbers [] = fine []
-numbers (w ∷ ws) = step (number_in 4294967295 w.number) _ (number 4294967295 w.number) λ v. step (numbers_in ws) _ (numbers ws) λ vs. fine (v ∷ vs)
+numbers (w ∷ ws) = step (answer_number 4294967295 w.number) _ (number 4294967295 w.number) λ v. step (numbers_in ws) _ (numbers ws) λ vs. fine (v ∷ vs)
 
 word : {A : Type 0} (o : Option A) → IsAnswers (known o)
 word None = wrong 31 (omega arith) (omega arith)
@@ -85,7 +85,7 @@ found : (ws : List Word) → IsAnswers (found_line ws)
 unfolding found_line
 found ws = search (arith, either, value, none, wrong) depth 40
 
-question : (n : ℕ) (s : AnswersSoFar) (ws : List Word) (count : ℕ) (ns : Result (List ℕ) ℕ) (k : Kind) → IsAnswers ns → IsAnswers (question_line n s ws count ns k)
+question : (n : ℕ) (s : AnswersSoFar) (ws : List Word) (count : ℕ) (ns : Result (List ℕ) ℕ) (k : Kind) → IsAnswers ns → IsAnswers (heading_line n s ws count ns k)
 question n s ws count ns Sources h = step (source_line ws) _ (source ws) λ _. fine _
 question n s ws count ns Pairs h = step (pair_line ws) _ (pair ws) λ _. fine _
 question n s ws count ns Multi h = step (sources_line ws count ns) _ (sources ws count ns h) λ _. fine _

@@ -4,35 +4,35 @@ use Rattle.road_text.specs.declared.faults.ReadFault.{ReadFault}
 use Rattle.road_text.specs.declared.faults.Rule.{Rule}
 use Rattle.road_text.specs.declared.slots.Slot.{Slot}
 use Rattle.road_text.specs.Lines.{fields}
-use Rattle.road_text.specs.Rules.{reading, fault_at}
+use Rattle.road_text.specs.Rules.{value_of_lines, fault_at}
 use Rattle.road_text.specs.Slots.{word_in}
 use Rattle.road_text.specs.Takes.{ShowsLine, GivesBy}
 use Rattle.road_text.proofs.ParserLaws.{gives_taken, gives_broken}
 use Rattle.answer_text.specs.declared.answers.Answers.{Answers}
 use Rattle.answer_text.specs.declared.answer_parser.AnswerParser.{AnswerParser}
-use Rattle.answer_text.specs.Told.{told_list_of}
+use Rattle.answer_text.specs.AnswerData.{answer_list}
 use Rattle.answer_text.specs.AnswerFiles.{line_given, answer_rules}
-use Rattle.answer_text.specs.AnswerTakes.{SoFar, begun_of, numbers_given, GivesAnswers}
+use Rattle.answer_text.specs.AnswerTakes.{NumbersSoFar, answers_begun, numbers_given, GivesAnswers}
 use Rattle.answer_text.proofs.HeldAnswerLines.{line_rule}
 
-module _ (old : AnswerParser) (slots : List Slot) (l : List ℕ) (shown : ShowsLine slots l) (h : SoFar old.present (fields l)) where
+module _ (old : AnswerParser) (slots : List Slot) (l : List ℕ) (shown : ShowsLine slots l) (h : NumbersSoFar old.present (fields l)) where
   pub line_taken : (new : AnswerParser) (cut : Bool) (at : ℕ) (rest : List (List ℕ)) (r : Result Answers ReadFault) → new.n ≡ old.n
-      → line_given old.n (begun_of old) (map word_in slots) old.present.count (numbers_given old.present) ≡ Ok (begun_of new) → GivesAnswers cut new (at + 1) rest r → GivesAnswers cut old at (l ∷ rest) r
+      → line_given old.n (answers_begun old) (map word_in slots) old.present.count (numbers_given old.present) ≡ Ok (answers_begun new) → GivesAnswers cut new (at + 1) rest r → GivesAnswers cut old at (l ∷ rest) r
   line_taken new cut at rest r same e g =
-      gives_taken (answer_rules old.n) told_list_of (begun_of old) (begun_of new) cut at l rest r (line_rule old.n (begun_of old) old.present slots l shown h ∙ e)
-      (subst (λ k. GivesBy (answer_rules k) (begun_of new) told_list_of cut (at + 1) rest r) same g)
+      gives_taken (answer_rules old.n) answer_list (answers_begun old) (answers_begun new) cut at l rest r (line_rule old.n (answers_begun old) old.present slots l shown h ∙ e)
+      (subst (λ k. GivesBy (answer_rules k) (answers_begun new) answer_list cut (at + 1) rest r) same g)
 
-  pub line_broken : (cut : Bool) (at : ℕ) (rest : List (List ℕ)) (rule : Rule) → line_given old.n (begun_of old) (map word_in slots) old.present.count (numbers_given old.present) ≡ Err rule.number
+  pub line_broken : (cut : Bool) (at : ℕ) (rest : List (List ℕ)) (rule : Rule) → line_given old.n (answers_begun old) (map word_in slots) old.present.count (numbers_given old.present) ≡ Err rule.number
       → GivesAnswers cut old at (l ∷ rest) (Err (fault_at at rule.number))
-  line_broken cut at rest rule e = gives_broken (answer_rules old.n) told_list_of (begun_of old) cut at l rest rule.number (line_rule old.n (begun_of old) old.present slots l shown h ∙ e)
+  line_broken cut at rest rule e = gives_broken (answer_rules old.n) answer_list (answers_begun old) cut at l rest rule.number (line_rule old.n (answers_begun old) old.present slots l shown h ∙ e)
 
 -- what a new parser gives is the text's by the rules
-module _ (s : AnswerParser) (n : ℕ) (none : begun_of s ≡ None) (same : s.n ≡ n) where
-  both : (cut : Bool) (ls : List (List ℕ)) → reading cut (answer_rules s.n) 1 (begun_of s) ls ≡ reading cut (answer_rules n) 1 None ls
-  both cut ls = ap (λ k. reading cut (answer_rules k) 1 (begun_of s) ls) same ∙ ap (λ o. reading cut (answer_rules n) 1 o ls) none
+module _ (s : AnswerParser) (n : ℕ) (none : answers_begun s ≡ None) (same : s.n ≡ n) where
+  both : (cut : Bool) (ls : List (List ℕ)) → value_of_lines cut (answer_rules s.n) 1 (answers_begun s) ls ≡ value_of_lines cut (answer_rules n) 1 None ls
+  both cut ls = ap (λ k. value_of_lines cut (answer_rules k) 1 (answers_begun s) ls) same ∙ ap (λ o. value_of_lines cut (answer_rules n) 1 o ls) none
 
-  pub by_value : (cut : Bool) (ls : List (List ℕ)) (v : Answers) → GivesAnswers cut s 1 ls (Ok v) → reading cut (answer_rules n) 1 None ls ≡ Ok (told_list_of v)
+  pub by_value : (cut : Bool) (ls : List (List ℕ)) (v : Answers) → GivesAnswers cut s 1 ls (Ok v) → value_of_lines cut (answer_rules n) 1 None ls ≡ Ok (answer_list v)
   by_value cut ls v h = sym (both cut ls) ∙ h
 
-  pub by_fault : (cut : Bool) (ls : List (List ℕ)) (f : ReadFault) → GivesAnswers cut s 1 ls (Err f) → reading cut (answer_rules n) 1 None ls ≡ Err f
+  pub by_fault : (cut : Bool) (ls : List (List ℕ)) (f : ReadFault) → GivesAnswers cut s 1 ls (Err f) → value_of_lines cut (answer_rules n) 1 None ls ≡ Err f
   by_fault cut ls f h = sym (both cut ls) ∙ h

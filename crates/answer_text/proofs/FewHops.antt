@@ -6,7 +6,7 @@ use Rattle.std.proofs.lemmas.Map.Keys.{IsDistinct-cons}
 use Rattle.std.proofs.lemmas.Map.Steps.{length-le_from_distinct_below}
 use Rattle.std.specs.List.{AllByRecursion, IsDistinct, list_any}
 use Rattle.std.specs.Prelude.{All}
-use Rattle.road_graph.specs.Roads.{Roads, IsRoads, HasVertex, arc_of}
+use Rattle.road_graph.specs.GraphData.{GraphData, IsGraph, HasVertex, arc_of}
 use Rattle.path_algebra.specs.Algebra.{Algebra}
 use Rattle.path_algebra.specs.Walks.{IsWalk, IsTight, IsTightWalk, AreHops}
 use Rattle.path_algebra.proofs.Walks.{IsWalk-snoc}
@@ -15,7 +15,7 @@ none_twice : IsDistinct eqb []
 unfolding IsDistinct
 none_twice = tt
 
-module _ {V : Type 0} (A : Algebra V) (g : Roads) (roads : IsRoads g) (sources : List ℕ) (inside : All (HasVertex g) sources) where
+module _ {V : Type 0} (A : Algebra V) (g : GraphData) (roads : IsGraph g) (sources : List ℕ) (inside : All (HasVertex g) sources) where
   -- a walk of tight arcs, and one tight arc more, which leads to v
   record OneMore (u v k : ℕ) : Type 0 where
     before : List ℕ

@@ -15,8 +15,8 @@ use Rattle.road_files.specs.declared.questions.Kind.{Kind}
 use Rattle.road_files.specs.declared.questions.Kind.TheVariants.{Sources, Pairs, Multi}
 use Rattle.road_files.specs.QuestionFiles.{kind_named}
 use Rattle.answer_text.specs.declared.present_numbers.PresentNumbers.{PresentNumbers}
-use Rattle.answer_text.specs.AnswerFiles.{Stage, Between, InLines, AfterPair, AfterFound, AnswersSoFar, numbers_in, begins, header_line, source_line, pair_line, list_line, sources_line, route_line, reached_line, unreached_line, vertex_line, value_line, none_line, found_line, question_line, answer_line, told_after, line_given, line_read}
-use Rattle.answer_text.specs.AnswerTakes.{SoFar, begins_list, begins_route, numbers_given}
+use Rattle.answer_text.specs.AnswerFiles.{Stage, Between, InLines, AfterPair, AfterFound, AnswersSoFar, numbers_in, begins, header_line, source_line, pair_line, list_line, sources_line, route_line, reached_line, unreached_line, vertex_line, value_line, none_line, found_line, heading_line, answer_line, told_after, line_given, line_read}
+use Rattle.answer_text.specs.AnswerTakes.{NumbersSoFar, begins_numbers, begins_route, numbers_given}
 
 -- these words are what is kept of those
 pub record Keeps (kept ws : List Word) : Type 0 where
@@ -139,7 +139,7 @@ module _ (kept ws : List Word) (h : Keeps kept ws) where
   route_held m q = rw (begins_held (codes "r") (lit< tt)) refl
 
   module _ (n m : ℕ) (q : Result (List ℕ) ℕ) where
-    question_held : (s : AnswersSoFar) (kind : Kind) → question_line n s kept m q kind ≡ question_line n s ws m q kind
+    question_held : (s : AnswersSoFar) (kind : Kind) → heading_line n s kept m q kind ≡ heading_line n s ws m q kind
     question_held s Sources = rw source_held refl
     question_held s Pairs = rw pair_held refl
     question_held s Multi = rw (sources_held m q) refl
@@ -190,7 +190,7 @@ module _ (n : ℕ) (ws : List Word) (m : ℕ) (p q : Result (List ℕ) ℕ) (e :
   unfolding route_line
   route_same = list_same (begins (codes "r") ws) _ _ p q (some_same (length ws) m e) (λ on _. pr on)
 
-  question_same : (s : AnswersSoFar) (kind : Kind) → question_line n s ws (length ws) p kind ≡ question_line n s ws m q kind
+  question_same : (s : AnswersSoFar) (kind : Kind) → heading_line n s ws (length ws) p kind ≡ heading_line n s ws m q kind
   question_same s Sources = refl
   question_same s Pairs = refl
   question_same s Multi = rw sources_same refl
@@ -209,11 +209,11 @@ module _ (n : ℕ) (ws : List Word) (m : ℕ) (p q : Result (List ℕ) ℕ) (e :
   unfolding line_given
   given_same s = rw (told_same s) refl
 
-begun_by_m : (fs : List (List ℕ)) → begins (codes "m") (map word_of fs) ≡ true → begins_list fs ≡ true
+begun_by_m : (fs : List (List ℕ)) → begins (codes "m") (map word_of fs) ≡ true → begins_numbers fs ≡ true
 begun_by_m [] e = e
 begun_by_m (f ∷ fs) e = or_right (bytes_eq f (codes "r")) (bytes_eq f (codes "m")) e
 
-begun_by_r : (fs : List (List ℕ)) → begins (codes "r") (map word_of fs) ≡ true → begins_list fs ≡ true
+begun_by_r : (fs : List (List ℕ)) → begins (codes "r") (map word_of fs) ≡ true → begins_numbers fs ≡ true
 begun_by_r [] e = e
 begun_by_r (f ∷ fs) e = or_left (bytes_eq f (codes "r")) (bytes_eq f (codes "m")) e
 
@@ -222,12 +222,12 @@ route_by_r [] e = e
 route_by_r (f ∷ fs) e = e
 
 -- the rule of the line is that of its slots and of the list that was kept
-pub line_rule : (n : ℕ) (s : Option AnswersSoFar) (l : PresentNumbers) (slots : List Slot) (line : List ℕ) → ShowsLine slots line → SoFar l (fields line)
+pub line_rule : (n : ℕ) (s : Option AnswersSoFar) (l : PresentNumbers) (slots : List Slot) (line : List ℕ) → ShowsLine slots line → NumbersSoFar l (fields line)
     → line_read n s (map word_of (fields line)) ≡ line_given n s (map word_in slots) l.count (numbers_given l)
 line_rule n s l slots line shown h =
     let ws : List Word = map word_of (fields line) in
     let many : length ws ≡ length (fields line) = length-map (fields line) word_of in
-    let same : begins_list (fields line) ≡ true → (l.is_route ≡ true) ⊎ (length (fields line) < 1026) → numbers_in (drop 1 ws) ≡ numbers_given l = λ on. h.numbers_are (h.letter_is ∙ on) in
+    let same : begins_numbers (fields line) ≡ true → (l.is_route ≡ true) ⊎ (length (fields line) < 1026) → numbers_in (drop 1 ws) ≡ numbers_given l = λ on. h.numbers_are (h.letter_is ∙ on) in
     given_same n ws l.count (numbers_in (drop 1 ws)) (numbers_given l) (h.count_is ∙ ap (λ k. min k 1026) (sym many)) (λ on few. same (begun_by_m (fields line) on) (inr (omega (arith, few, many))))
     (λ on. same (begun_by_r (fields line) on) (inl (h.route_is ∙ route_by_r (fields line) on))) s
     ∙ sym (line_held (take 6 (map held ws)) ws (keeps ws) n l.count (numbers_given l) s)

@@ -1,12 +1,12 @@
 pub mod VertexLines
-pub mod Blocks
-pub mod ShortWords
+mod Blocks
+mod ShortWords
 pub mod OneAnswer
 pub mod FirstAnswers
-pub mod ListFields
-pub mod HeldAnswerLines
-pub mod AnswerParserLaws
-pub mod ReadAgain
-pub mod FewHops
-pub mod RightIsWritable
-pub mod AnswerNumbers
+mod ListFields
+mod HeldAnswerLines
+mod AnswerParserLaws
+mod ReadAgain
+mod FewHops
+mod RightIsWritable
+mod AnswerNumbers

@@ -5,13 +5,13 @@ use Rattle.road_text.specs.Words.{Word, word_of, held_word}
 use Rattle.road_text.proofs.ListFields.{words_push, after_first}
 use Rattle.road_text.proofs.WordLaws.{number_held}
 use Rattle.answer_text.specs.declared.present_numbers.PresentNumbers.{PresentNumbers}
-use Rattle.answer_text.specs.AnswerFiles.{number_in, numbers_in}
-use Rattle.answer_text.specs.AnswerTakes.{SoFar, begins_list, begins_route, numbers_given, one_number_more}
+use Rattle.answer_text.specs.AnswerFiles.{answer_number, numbers_in}
+use Rattle.answer_text.specs.AnswerTakes.{NumbersSoFar, begins_numbers, begins_route, numbers_given, one_number_more}
 
 numbers_push : (ws : List Word) (w : Word) → numbers_in (ws ++ w ∷ []) ≡ one_number_more (numbers_in ws) w.number
-numbers_push = words_push (λ w. number_in 4294967295 w.number) numbers_in refl (λ w ws. refl)
+numbers_push = words_push (λ w. answer_number 4294967295 w.number) numbers_in refl (λ w ws. refl)
 
-same_letter : (fs : List (List ℕ)) (f : List ℕ) → 0 < length fs → begins_list (fs ++ f ∷ []) ≡ begins_list fs
+same_letter : (fs : List (List ℕ)) (f : List ℕ) → 0 < length fs → begins_numbers (fs ++ f ∷ []) ≡ begins_numbers fs
 same_letter [] f lt = absurd (omega arith)
 same_letter (x ∷ fs) f lt = refl
 
@@ -20,8 +20,8 @@ same_route [] f lt = absurd (omega arith)
 same_route (x ∷ fs) f lt = refl
 
 -- a further field
-pub next_field : (s t : PresentNumbers) (fs : List (List ℕ)) (f : List ℕ) → SoFar s fs → 0 < s.count → t.count ≡ min (s.count + 1) 1026 → t.is_list ≡ s.is_list → t.is_route ≡ s.is_route
-    → (s.is_list ≡ true → (s.is_route ≡ true) ⊎ (t.count < 1026) → numbers_given t ≡ one_number_more (numbers_given s) (held_word f).number) → SoFar t (fs ++ f ∷ [])
+pub next_field : (s t : PresentNumbers) (fs : List (List ℕ)) (f : List ℕ) → NumbersSoFar s fs → 0 < s.count → t.count ≡ min (s.count + 1) 1026 → t.is_list ≡ s.is_list → t.is_route ≡ s.is_route
+    → (s.is_list ≡ true → (s.is_route ≡ true) ⊎ (t.count < 1026) → numbers_given t ≡ one_number_more (numbers_given s) (held_word f).number) → NumbersSoFar t (fs ++ f ∷ [])
 next_field s t fs f h some more letter route numbers =
     let long : length (fs ++ f ∷ []) ≡ length fs + 1 = length-append fs (f ∷ []) in
     let any : 0 < length fs = omega (arith, h.count_is) in

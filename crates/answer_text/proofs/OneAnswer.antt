@@ -3,7 +3,7 @@ use Rattle.std.proofs.Common.{◌≡◌, ℕ, zero, suc, ◌+◌, ◌-◌, ◌<�
 use Rattle.std.proofs.lemmas.List.{append_cancel_right, reverse-append, reverse-reverse}
 use mathlib.Core.List.{reverse}
 use Rattle.std.specs.Prelude.{Contains}
-use Rattle.road_graph.specs.Roads.{Roads}
+use Rattle.road_graph.specs.GraphData.{GraphData}
 use Rattle.road_graph.proofs.Lists.{here}
 use Rattle.path_algebra.specs.Algebra.{Algebra, IsLawful}
 use Rattle.path_algebra.specs.Walks.{IsBest, AreHops, IsParent, IsParentChain}
@@ -11,10 +11,10 @@ use Rattle.road_files.specs.Asked.{Question, FromSource, BetweenPair, FromSource
 use Rattle.path_algebra.specs.declared.name.AlgebraName.{AlgebraName}
 use Rattle.road_files.specs.declared.questions.Kind.{Kind}
 use Rattle.answer_text.specs.declared.answers.Reached.{Reached}
-use Rattle.answer_text.specs.Told.{ToldFound, Told, ToldSource, ToldPair, ToldMulti, ToldList}
-use Rattle.answer_text.specs.IsAnswer.{IsBestCode, IsParentOrZero, IsLine, AreLines, IsRouteBetween, IsPairAnswer, IsAnswer, AreAnswers, IsAnswerList}
+use Rattle.answer_text.specs.AnswerData.{FoundData, AnswerData, SourceAnswer, PairAnswer, SourcesAnswer, AnswerList}
+use Rattle.answer_text.specs.IsAnswer.{IsBestCode, IsParentOrZero, IsVertexLine, AreVertexLines, IsRouteBetween, IsPairAnswer, IsAnswer, AreAnswers, IsAnswerList}
 
--- the elements of a list in front of others, the last first
+-- the elements of a list in prefix of others, the last first
 turned : List ℕ → List ℕ → List ℕ
 turned acc [] = acc
 turned acc (w ∷ rest) = turned (w ∷ acc) rest
@@ -41,14 +41,14 @@ reached_once r t a b c =
     let k : ℕ → Reached = λ x. record { code = t.code; hops = t.hops; parent = x } in
     ap f a ∙ ap h b ∙ ap k c
 
-found_once : (r t : ToldFound) → r.code ≡ t.code → r.hops ≡ t.hops → r.route ≡ t.route → r ≡ t
+found_once : (r t : FoundData) → r.code ≡ t.code → r.hops ≡ t.hops → r.route ≡ t.route → r ≡ t
 found_once r t a b c =
-    let f : ℕ → ToldFound = λ x. record { code = x; hops = r.hops; route = r.route } in
-    let h : ℕ → ToldFound = λ x. record { code = t.code; hops = x; route = r.route } in
-    let k : List ℕ → ToldFound = λ x. record { code = t.code; hops = t.hops; route = x } in
+    let f : ℕ → FoundData = λ x. record { code = x; hops = r.hops; route = r.route } in
+    let h : ℕ → FoundData = λ x. record { code = t.code; hops = x; route = r.route } in
+    let k : List ℕ → FoundData = λ x. record { code = t.code; hops = t.hops; route = x } in
     ap f a ∙ ap h b ∙ ap k c
 
-module _ {V : Type 0} (A : Algebra V) (lawful : IsLawful A) (g : Roads) where
+module _ {V : Type 0} (A : Algebra V) (lawful : IsLawful A) (g : GraphData) where
   best_once : (sources : List ℕ) (v : ℕ) (x y : V) → IsBest A g sources v x → IsBest A g sources v y → x ≡ y
   best_once sources v x y h k = lawful.ordered.antisymmetric x y (h.least y k.attained) (k.least x h.attained)
 
@@ -67,32 +67,32 @@ module _ {V : Type 0} (A : Algebra V) (lawful : IsLawful A) (g : Roads) where
   parent_or_zero_once sources v u t (inr p) (inl q) = absurd (p.no_source q.0)
   parent_or_zero_once sources v u t (inr p) (inr q) = parent_once sources v u t p q
 
-  line_once : (sources : List ℕ) (v : ℕ) (x y : Option Reached) → IsLine A g sources v x → IsLine A g sources v y → x ≡ y
+  line_once : (sources : List ℕ) (v : ℕ) (x y : Option Reached) → IsVertexLine A g sources v x → IsVertexLine A g sources v y → x ≡ y
   line_once sources v None None p q = refl
   line_once sources v None (Some r) p q = absurd (p q.code.0 q.code.1.attained)
   line_once sources v (Some r) None p q = absurd (q p.code.0 p.code.1.attained)
   line_once sources v (Some r) (Some t) p q = ap (λ (z : Reached). Some z) (reached_once r t (code_once sources v r.code t.code p.code q.code) (hops_once sources v r.hops t.hops p.hops q.hops)
       (parent_or_zero_once sources v r.parent t.parent p.parent q.parent))
 
-  lines_from : (sources : List ℕ) (v : ℕ) (xs ys : List (Option Reached)) → length xs ≡ length ys → ((k : ℕ) → k < length xs → IsLine A g sources (k + v) (get_or xs k None))
-      → ((k : ℕ) → k < length ys → IsLine A g sources (k + v) (get_or ys k None)) → xs ≡ ys
+  lines_from : (sources : List ℕ) (v : ℕ) (xs ys : List (Option Reached)) → length xs ≡ length ys → ((k : ℕ) → k < length xs → IsVertexLine A g sources (k + v) (get_or xs k None))
+      → ((k : ℕ) → k < length ys → IsVertexLine A g sources (k + v) (get_or ys k None)) → xs ≡ ys
   lines_from sources v [] [] e p q = refl
   lines_from sources v [] (y ∷ ys) e p q = absurd (omega arith)
   lines_from sources v (x ∷ xs) [] e p q = absurd (omega arith)
   lines_from sources v (x ∷ xs) (y ∷ ys) e p q =
       let shift : (k : ℕ) → suc k + v ≡ k + suc v = λ k. omega arith in
       let first : x ≡ y = line_once sources (0 + v) x y (p 0 (omega arith)) (q 0 (omega arith)) in
-      let more : xs ≡ ys = lines_from sources (suc v) xs ys (omega arith) (λ k lt. subst (λ n. IsLine A g sources n (get_or xs k None)) (shift k) (p (suc k) (omega arith)))
-      (λ k lt. subst (λ n. IsLine A g sources n (get_or ys k None)) (shift k) (q (suc k) (omega arith))) in
+      let more : xs ≡ ys = lines_from sources (suc v) xs ys (omega arith) (λ k lt. subst (λ n. IsVertexLine A g sources n (get_or xs k None)) (shift k) (p (suc k) (omega arith)))
+      (λ k lt. subst (λ n. IsVertexLine A g sources n (get_or ys k None)) (shift k) (q (suc k) (omega arith))) in
       ap (λ z. z ∷ xs) first ∙ ap (λ zs. y ∷ zs) more
 
-  line_at : (sources : List ℕ) (lines : List (Option Reached)) → AreLines A g sources lines → (k : ℕ) → k < length lines → IsLine A g sources (k + 1) (get_or lines k None)
+  line_at : (sources : List ℕ) (lines : List (Option Reached)) → AreVertexLines A g sources lines → (k : ℕ) → k < length lines → IsVertexLine A g sources (k + 1) (get_or lines k None)
   line_at sources lines are k lt =
       let count : length lines ≡ g.vertices = are.count in
       let back : (k + 1) - 1 ≡ k = omega arith in
-      subst (λ i. IsLine A g sources (k + 1) (get_or lines i None)) back (are.each (k + 1) (omega arith, omega arith))
+      subst (λ i. IsVertexLine A g sources (k + 1) (get_or lines i None)) back (are.each (k + 1) (omega arith, omega arith))
 
-  lines_once : (sources : List ℕ) (xs ys : List (Option Reached)) → AreLines A g sources xs → AreLines A g sources ys → xs ≡ ys
+  lines_once : (sources : List ℕ) (xs ys : List (Option Reached)) → AreVertexLines A g sources xs → AreVertexLines A g sources ys → xs ≡ ys
   lines_once sources xs ys p q = lines_from sources 1 xs ys (p.count ∙ sym q.count) (line_at sources xs p) (line_at sources ys q)
 
   module _ (s : ℕ) (sources : List ℕ) (source : Contains sources s) where
@@ -129,36 +129,36 @@ module _ {V : Type 0} (A : Algebra V) (lawful : IsLawful A) (g : Roads) where
   pub route_once : (s t : ℕ) (xs ys : List ℕ) → IsRouteBetween A g s t xs → IsRouteBetween A g s t ys → xs ≡ ys
   route_once s t xs ys p q = p.1 ∙ ap (λ zs. s ∷ zs) (chain_once s (s ∷ []) (here s []) t p.0 q.0 p.2 q.2) ∙ sym q.1
 
-  pair_once : (s t : ℕ) (x y : Option ToldFound) → IsPairAnswer A g s t x → IsPairAnswer A g s t y → x ≡ y
+  pair_once : (s t : ℕ) (x y : Option FoundData) → IsPairAnswer A g s t x → IsPairAnswer A g s t y → x ≡ y
   pair_once s t None None p q = refl
   pair_once s t None (Some f) p q = absurd (p q.code.0 q.code.1.attained)
   pair_once s t (Some f) None p q = absurd (q p.code.0 p.code.1.attained)
-  pair_once s t (Some f) (Some h) p q = ap (λ (z : ToldFound). Some z) (found_once f h (code_once (s ∷ []) t f.code h.code p.code q.code) (hops_once (s ∷ []) t f.hops h.hops p.hops q.hops)
+  pair_once s t (Some f) (Some h) p q = ap (λ (z : FoundData). Some z) (found_once f h (code_once (s ∷ []) t f.code h.code p.code q.code) (hops_once (s ∷ []) t f.hops h.hops p.hops q.hops)
       (route_once s t f.route h.route p.route q.route))
 
   -- a question has one answer
-  pub answer_once : (q : Question) (t u : Told) → IsAnswer A g q t → IsAnswer A g q u → t ≡ u
-  answer_once (FromSource s) (ToldSource r xs) (ToldSource o ys) p q =
-      ap (λ k. ToldSource k xs) (p.0 ∙ sym q.0) ∙ ap (λ zs. ToldSource o zs) (lines_once (s ∷ []) xs ys p.1 q.1)
-  answer_once (BetweenPair s t) (ToldPair r u x) (ToldPair o w y) p q =
-      ap (λ k. ToldPair k u x) (p.0 ∙ sym q.0) ∙ ap (λ k. ToldPair o k x) (p.1 ∙ sym q.1) ∙ ap (λ z. ToldPair o w z) (pair_once s t x y p.2 q.2)
-  answer_once (FromSources ss) (ToldMulti rs xs) (ToldMulti os ys) p q =
-      ap (λ ks. ToldMulti ks xs) (p.0 ∙ sym q.0) ∙ ap (λ zs. ToldMulti os zs) (lines_once ss xs ys p.1 q.1)
-  answer_once (FromSource s) (ToldPair r u x) t p q = absurd p
-  answer_once (FromSource s) (ToldMulti rs xs) t p q = absurd p
-  answer_once (FromSource s) (ToldSource r xs) (ToldPair o w y) p q = absurd q
-  answer_once (FromSource s) (ToldSource r xs) (ToldMulti os ys) p q = absurd q
-  answer_once (BetweenPair s e) (ToldSource r xs) t p q = absurd p
-  answer_once (BetweenPair s e) (ToldMulti rs xs) t p q = absurd p
-  answer_once (BetweenPair s e) (ToldPair r u x) (ToldSource o ys) p q = absurd q
-  answer_once (BetweenPair s e) (ToldPair r u x) (ToldMulti os ys) p q = absurd q
-  answer_once (FromSources ss) (ToldSource r xs) t p q = absurd p
-  answer_once (FromSources ss) (ToldPair r u x) t p q = absurd p
-  answer_once (FromSources ss) (ToldMulti rs xs) (ToldSource o ys) p q = absurd q
-  answer_once (FromSources ss) (ToldMulti rs xs) (ToldPair o w y) p q = absurd q
+  pub answer_once : (q : Question) (t u : AnswerData) → IsAnswer A g q t → IsAnswer A g q u → t ≡ u
+  answer_once (FromSource s) (SourceAnswer r xs) (SourceAnswer o ys) p q =
+      ap (λ k. SourceAnswer k xs) (p.0 ∙ sym q.0) ∙ ap (λ zs. SourceAnswer o zs) (lines_once (s ∷ []) xs ys p.1 q.1)
+  answer_once (BetweenPair s t) (PairAnswer r u x) (PairAnswer o w y) p q =
+      ap (λ k. PairAnswer k u x) (p.0 ∙ sym q.0) ∙ ap (λ k. PairAnswer o k x) (p.1 ∙ sym q.1) ∙ ap (λ z. PairAnswer o w z) (pair_once s t x y p.2 q.2)
+  answer_once (FromSources ss) (SourcesAnswer rs xs) (SourcesAnswer os ys) p q =
+      ap (λ ks. SourcesAnswer ks xs) (p.0 ∙ sym q.0) ∙ ap (λ zs. SourcesAnswer os zs) (lines_once ss xs ys p.1 q.1)
+  answer_once (FromSource s) (PairAnswer r u x) t p q = absurd p
+  answer_once (FromSource s) (SourcesAnswer rs xs) t p q = absurd p
+  answer_once (FromSource s) (SourceAnswer r xs) (PairAnswer o w y) p q = absurd q
+  answer_once (FromSource s) (SourceAnswer r xs) (SourcesAnswer os ys) p q = absurd q
+  answer_once (BetweenPair s e) (SourceAnswer r xs) t p q = absurd p
+  answer_once (BetweenPair s e) (SourcesAnswer rs xs) t p q = absurd p
+  answer_once (BetweenPair s e) (PairAnswer r u x) (SourceAnswer o ys) p q = absurd q
+  answer_once (BetweenPair s e) (PairAnswer r u x) (SourcesAnswer os ys) p q = absurd q
+  answer_once (FromSources ss) (SourceAnswer r xs) t p q = absurd p
+  answer_once (FromSources ss) (PairAnswer r u x) t p q = absurd p
+  answer_once (FromSources ss) (SourcesAnswer rs xs) (SourceAnswer o ys) p q = absurd q
+  answer_once (FromSources ss) (SourcesAnswer rs xs) (PairAnswer o w y) p q = absurd q
 
   -- questions have one list of answers
-  pub answers_once : (qs : List Question) (ts us : List Told) → AreAnswers A g qs ts → AreAnswers A g qs us → ts ≡ us
+  pub answers_once : (qs : List Question) (ts us : List AnswerData) → AreAnswers A g qs ts → AreAnswers A g qs us → ts ≡ us
   answers_once [] [] [] p q = refl
   answers_once [] (t ∷ ts) us p q = absurd p
   answers_once [] [] (u ∷ us) p q = absurd q
@@ -166,21 +166,21 @@ module _ {V : Type 0} (A : Algebra V) (lawful : IsLawful A) (g : Roads) where
   answers_once (x ∷ qs) (t ∷ ts) [] p q = absurd q
   answers_once (x ∷ qs) (t ∷ ts) (u ∷ us) p q = ap (λ z. z ∷ ts) (answer_once x t u p.0 q.0) ∙ ap (λ zs. u ∷ zs) (answers_once qs ts us p.1 q.1)
 
-  pub answer_list_once : (asked : Asked) (t u : ToldList) → IsAnswerList A g asked t → IsAnswerList A g asked u → t ≡ u
+  pub answer_list_once : (asked : Asked) (t u : AnswerList) → IsAnswerList A g asked t → IsAnswerList A g asked u → t ≡ u
   answer_list_once asked t u p q =
       let name : t.name ≡ u.name = p.name_is ∙ sym q.name_is in
       let kind : t.kind ≡ u.kind = p.kind_is ∙ sym q.kind_is in
       let n : t.n ≡ u.n = p.n_is ∙ sym q.n_is in
       let list : t.list ≡ u.list = answers_once asked.questions t.list u.list p.answers q.answers in
-      let with_name : AlgebraName → ToldList = λ x. record { name = x; kind = t.kind; n = t.n; list = t.list } in
-      let with_kind : Kind → ToldList = λ x. record { name = u.name; kind = x; n = t.n; list = t.list } in
-      let with_n : ℕ → ToldList = λ x. record { name = u.name; kind = u.kind; n = x; list = t.list } in
-      let with_list : List Told → ToldList = λ x. record { name = u.name; kind = u.kind; n = u.n; list = x } in
+      let with_name : AlgebraName → AnswerList = λ x. record { name = x; kind = t.kind; n = t.n; list = t.list } in
+      let with_kind : Kind → AnswerList = λ x. record { name = u.name; kind = x; n = t.n; list = t.list } in
+      let with_n : ℕ → AnswerList = λ x. record { name = u.name; kind = u.kind; n = x; list = t.list } in
+      let with_list : List AnswerData → AnswerList = λ x. record { name = u.name; kind = u.kind; n = u.n; list = x } in
       ap with_name name ∙ ap with_kind kind ∙ ap with_n n ∙ ap with_list list
 
-module _ {V : Type 0} (A : Algebra V) (g : Roads) where
+module _ {V : Type 0} (A : Algebra V) (g : GraphData) where
   -- the first answers answer the first questions
-  pub first_answers : (count : ℕ) (qs : List Question) (ts : List Told) → AreAnswers A g qs ts → AreAnswers A g (take count qs) (take count ts)
+  pub first_answers : (count : ℕ) (qs : List Question) (ts : List AnswerData) → AreAnswers A g qs ts → AreAnswers A g (take count qs) (take count ts)
   first_answers zero qs ts h = tt
   first_answers (suc k) [] [] h = tt
   first_answers (suc k) [] (t ∷ ts) h = absurd h
@@ -188,7 +188,7 @@ module _ {V : Type 0} (A : Algebra V) (g : Roads) where
   first_answers (suc k) (q ∷ qs) (t ∷ ts) h = (h.0, first_answers k qs ts h.1)
 
   -- there are as many answers as questions
-  pub answers_count : (qs : List Question) (ts : List Told) → AreAnswers A g qs ts → length ts ≡ length qs
+  pub answers_count : (qs : List Question) (ts : List AnswerData) → AreAnswers A g qs ts → length ts ≡ length qs
   answers_count [] [] h = refl
   answers_count [] (t ∷ ts) h = absurd h
   answers_count (q ∷ qs) [] h = absurd h

@@ -8,7 +8,7 @@ use Rattle.path_algebra.specs.declared.name.AlgebraName.TheVariants as names
 use Rattle.path_algebra.specs.Names.{name_text, name_of_text}
 use Rattle.road_text.specs.declared.faults.ReadFault.{ReadFault}
 use Rattle.road_text.specs.Lines.{lines, number}
-use Rattle.road_text.specs.Rules.{reading, text_value, text_read}
+use Rattle.road_text.specs.Rules.{value_of_lines, text_value, text_read}
 use Rattle.road_text.specs.Texts.{spelled, text_of, IsWord, list_words}
 use Rattle.road_text.specs.Words.{word_of}
 use Rattle.road_text.proofs.RoundTrip.{decimal_is_number, fields_join, lines_text, word_of_number, word_by_test}
@@ -17,7 +17,7 @@ use Rattle.road_files.specs.WrittenFiles.{kind_word}
 use Rattle.road_files.specs.declared.questions.Kind.{Kind}
 use Rattle.road_files.specs.declared.questions.Kind.TheVariants.{Sources, Pairs, Multi}
 use Rattle.answer_text.specs.declared.answers.Reached.{Reached}
-use Rattle.answer_text.specs.Told.{Told, ToldSource, ToldPair, ToldMulti, ToldList}
+use Rattle.answer_text.specs.AnswerData.{AnswerData, SourceAnswer, PairAnswer, SourcesAnswer, AnswerList}
 use Rattle.answer_text.specs.AnswerText.{header_words, source_words, pair_words, found_words, vertex_words, vertex_lines, answer_lines, answer_text, blocks_text, header_text, answers_text}
 use Rattle.answer_text.specs.AnswerFiles.{Named, OneSource, ManySources, Between, InLines, AfterPair, AfterFound, AnswersSoFar, numbers_in, header_line, source_line, pair_line, sources_line, route_line, reached_line, unreached_line, vertex_line, value_line, none_line, found_line, with_answer, with_stage, with_lines, told_lines, line_given, line_read, answer_rules}
 use Rattle.answer_text.specs.Writable.{AreSmall, IsLineWritable, AreLinesWritable, IsAnswerWritable, AreWritable}
@@ -58,13 +58,13 @@ vertex_are_words v None lt h = (word_by_test (codes "u") refl, (small_word v lt,
 vertex_are_words v (Some r) lt h = (word_by_test (codes "d") refl, (small_word v lt, (word_of_number r.code h.0, (small_word r.hops h.1, (small_word r.parent h.2, tt)))))
 
 -- what is read so far, between two answers
-abbrev between : Kind → AlgebraName → ℕ → List Told → AnswersSoFar
+abbrev between : Kind → AlgebraName → ℕ → List AnswerData → AnswersSoFar
 between kind name k list = record { kind = kind; name = name; announced = k; list = list; stage = Between }
 
-module _ (n : ℕ) (result : Result ToldList ReadFault) where
+module _ (n : ℕ) (result : Result AnswerList ReadFault) where
   -- these lines, behind what was read, give the result
   abbrev Goes : Option AnswersSoFar → List (List (List ℕ)) → Type 0
-  Goes s ls = (at : ℕ) → reading false (answer_rules n) at s (map (join_with_byte 32) ls) ≡ result
+  Goes s ls = (at : ℕ) → value_of_lines false (answer_rules n) at s (map (join_with_byte 32) ls) ≡ result
 
   step : (s t : Option AnswersSoFar) (ws : List (List ℕ)) (more : List (List (List ℕ))) → AllByRecursion IsWord ws → line_read n s (map word_of ws) ≡ Ok t → Goes t more → Goes s (ws ∷ more)
   step s t ws more words e h at = rw (fields_join ws words, e) (h (at + 1))
@@ -100,7 +100,7 @@ module _ (n : ℕ) (result : Result ToldList ReadFault) where
       (lines_again s named (done ++ x ∷ []) rest (v + 1) more (omega (arith, length-append done (x ∷ []))) (omega (arith, length-append done (x ∷ []))) small h.1
       (subst (λ xs. Goes (Some (with_answer s (told_lines named xs))) more) (sym (append_assoc done (x ∷ []) rest)) go)) at)
 
-  module _ (name : AlgebraName) (k : ℕ) (list : List Told) (room : length list < k) where
+  module _ (name : AlgebraName) (k : ℕ) (list : List AnswerData) (room : length list < k) where
     source_again : (s : ℕ) → s < 2 ^ 32 → line_read n (Some (between Sources name k list)) (map word_of (source_words s)) ≡ Ok (Some (with_lines n (between Sources name k list) (OneSource s) []))
     unfolding line_given source_line
     source_again s lt = rw (lt-ltb (length list) k room, small_number s lt, le-ltb 4294967295 s (omega arith)) refl
@@ -122,7 +122,7 @@ module _ (n : ℕ) (result : Result ToldList ReadFault) where
       lt-ltb (suc (length ss)) 1026 (omega arith),
     ) refl
 
-    none_again : (s t : ℕ) → line_read n (Some (with_stage (between Pairs name k list) (AfterPair s t))) (map word_of (codes "u" ∷ [])) ≡ Ok (Some (with_answer (between Pairs name k list) (ToldPair s t None)))
+    none_again : (s t : ℕ) → line_read n (Some (with_stage (between Pairs name k list) (AfterPair s t))) (map word_of (codes "u" ∷ [])) ≡ Ok (Some (with_answer (between Pairs name k list) (PairAnswer s t None)))
     unfolding line_given found_line none_line
     none_again s t = refl
 
@@ -133,41 +133,41 @@ module _ (n : ℕ) (result : Result ToldList ReadFault) where
 
     route_again : (s t code hops : ℕ) (route : List ℕ) → 1 ≤ length route → AreSmall route
         → line_read n (Some (with_stage (between Pairs name k list) (AfterFound s t code hops))) (map word_of (list_words (codes "r") route))
-        ≡ Ok (Some (with_answer (between Pairs name k list) (ToldPair s t (Some (record { code = code; hops = hops; route = route })))))
+        ≡ Ok (Some (with_answer (between Pairs name k list) (PairAnswer s t (Some (record { code = code; hops = hops; route = route })))))
     unfolding line_given route_line
     route_again s t code hops route some small = rw (numbers_again route small, length-map (map decimal route) word_of, length-map route decimal, ne_eqb (suc (length route)) 0 (λ e. omega arith), lt-ltb 1 (suc (length route)) (omega arith)) refl
 
-    answer_again : (kind : Kind) (t : Told) (more : List (List (List ℕ))) → n < 2 ^ 32 → IsAnswerWritable kind n t → Goes (Some (between kind name k (list ++ t ∷ []))) more → Goes (Some (between kind name k list)) (answer_lines t ++ more)
-    answer_again Sources (ToldSource s ls) more small h go =
+    answer_again : (kind : Kind) (t : AnswerData) (more : List (List (List ℕ))) → n < 2 ^ 32 → IsAnswerWritable kind n t → Goes (Some (between kind name k (list ++ t ∷ []))) more → Goes (Some (between kind name k list)) (answer_lines t ++ more)
+    answer_again Sources (SourceAnswer s ls) more small h go =
         let count : length ls ≡ n = h.1.count in
         step _ _ (source_words s) (vertex_lines 1 ls ++ more) (word_by_test (codes "s") refl, (small_word s h.0, tt)) (source_again s h.0)
         (lines_again (between Sources name k list) (OneSource s) [] ls 1 more refl (omega arith) small h.1.sizes go)
-    answer_again Multi (ToldMulti ss ls) more small h go =
+    answer_again Multi (SourcesAnswer ss ls) more small h go =
         let count : length ls ≡ n = h.3.count in
         step _ _ (list_words (codes "m") ss) (vertex_lines 1 ls ++ more) (word_by_test (codes "m") refl, number_words ss h.2) (sources_again ss h.0 h.1 h.2)
         (lines_again (between Multi name k list) (ManySources ss) [] ls 1 more refl (omega arith) small h.3.sizes go)
-    answer_again Pairs (ToldPair s t None) more small h go =
+    answer_again Pairs (PairAnswer s t None) more small h go =
         step _ _ (pair_words s t) ((codes "u" ∷ []) ∷ more) (word_by_test (codes "q") refl, (small_word s h.0, (small_word t h.1, tt))) (pair_again s t h.0 h.1)
         (step _ _ (codes "u" ∷ []) more (word_by_test (codes "u") refl, tt) (none_again s t) go)
-    answer_again Pairs (ToldPair s t (Some f)) more small h go =
+    answer_again Pairs (PairAnswer s t (Some f)) more small h go =
         let g = h.2 in
         step _ _ (pair_words s t) (found_words f.code f.hops ∷ list_words (codes "r") f.route ∷ more) (word_by_test (codes "q") refl, (small_word s h.0, (small_word t h.1, tt))) (pair_again s t h.0 h.1)
         (step _ _ (found_words f.code f.hops) (list_words (codes "r") f.route ∷ more) (word_by_test (codes "d") refl, (word_of_number f.code g.0, (small_word f.hops g.1, tt))) (value_again s t f.code f.hops g.0 g.1)
         (step _ _ (list_words (codes "r") f.route) more (word_by_test (codes "r") refl, number_words f.route g.3) (route_again s t f.code f.hops f.route g.2 g.3) go))
-    answer_again Sources (ToldPair s t f) more small h go = absurd h
-    answer_again Sources (ToldMulti ss ls) more small h go = absurd h
-    answer_again Pairs (ToldSource s ls) more small h go = absurd h
-    answer_again Pairs (ToldMulti ss ls) more small h go = absurd h
-    answer_again Multi (ToldSource s ls) more small h go = absurd h
-    answer_again Multi (ToldPair s t f) more small h go = absurd h
+    answer_again Sources (PairAnswer s t f) more small h go = absurd h
+    answer_again Sources (SourcesAnswer ss ls) more small h go = absurd h
+    answer_again Pairs (SourceAnswer s ls) more small h go = absurd h
+    answer_again Pairs (SourcesAnswer ss ls) more small h go = absurd h
+    answer_again Multi (SourceAnswer s ls) more small h go = absurd h
+    answer_again Multi (PairAnswer s t f) more small h go = absurd h
 
 -- the lines of answers, one after the other
-abbrev block_lines : List Told → List (List (List ℕ))
+abbrev block_lines : List AnswerData → List (List (List ℕ))
 block_lines [] = []
 block_lines (t ∷ ts) = answer_lines t ++ block_lines ts
 
 module _ (n : ℕ) (kind : Kind) (name : AlgebraName) (k : ℕ) where
-  answers_again : (done ts : List Told) → n < 2 ^ 32 → length done + length ts ≡ k → AllByRecursion (IsAnswerWritable kind n) ts
+  answers_again : (done ts : List AnswerData) → n < 2 ^ 32 → length done + length ts ≡ k → AllByRecursion (IsAnswerWritable kind n) ts
       → Goes n (Ok (record { name = name; kind = kind; n = n; list = done ++ ts })) (Some (between kind name k done)) (block_lines ts)
   answers_again done [] small e h = λ at. rw (eq-eqb (length done) k (omega arith), append-nil) refl
   answers_again done (t ∷ ts) small e h =
@@ -197,12 +197,12 @@ text_append : (xs ys : List (List (List ℕ))) → text_of (xs ++ ys) ≡ text_o
 text_append [] ys = refl
 text_append (x ∷ xs) ys = ap (λ z. spelled x ++ z) (text_append xs ys) ∙ sym (append_assoc (spelled x) (text_of xs) (text_of ys))
 
-blocks_are : (ts : List Told) → blocks_text ts ≡ text_of (block_lines ts)
+blocks_are : (ts : List AnswerData) → blocks_text ts ≡ text_of (block_lines ts)
 unfolding answer_text
 blocks_are [] = refl
 blocks_are (t ∷ ts) = ap (λ z. text_of (answer_lines t) ++ z) (blocks_are ts) ∙ sym (text_append (answer_lines t) (block_lines ts))
 
-text_is : (t : ToldList) → answers_text t ≡ text_of (header_words t.kind (length t.list) t.name ∷ block_lines t.list)
+text_is : (t : AnswerList) → answers_text t ≡ text_of (header_words t.kind (length t.list) t.name ∷ block_lines t.list)
 unfolding header_text
 text_is t = ap (λ z. spelled (header_words t.kind (length t.list) t.name) ++ z) (blocks_are t.list)
 
@@ -218,11 +218,11 @@ vertices_are_words v (x ∷ rest) le h = (vertex_are_words v x (omega arith) h.0
 all_vertices_are_words : (n : ℕ) (lines : List (Option Reached)) → n < 2 ^ 32 → AreLinesWritable n lines → AllByRecursion (AllByRecursion IsWord) (vertex_lines 1 lines)
 all_vertices_are_words n lines small h = let count : length lines ≡ n = h.count in vertices_are_words 1 lines (omega arith) h.sizes
 
-answer_are_words : (n : ℕ) (kind : Kind) (t : Told) → n < 2 ^ 32 → IsAnswerWritable kind n t → AllByRecursion (AllByRecursion IsWord) (answer_lines t)
-answer_are_words n Sources (ToldSource s ls) small h = ((word_by_test (codes "s") refl, (small_word s h.0, tt)), all_vertices_are_words n ls small h.1)
-answer_are_words n Multi (ToldMulti ss ls) small h = ((word_by_test (codes "m") refl, number_words ss h.2), all_vertices_are_words n ls small h.3)
-answer_are_words n Pairs (ToldPair s t None) small h = ((word_by_test (codes "q") refl, (small_word s h.0, (small_word t h.1, tt))), ((word_by_test (codes "u") refl, tt), tt))
-answer_are_words n Pairs (ToldPair s t (Some f)) small h =
+answer_are_words : (n : ℕ) (kind : Kind) (t : AnswerData) → n < 2 ^ 32 → IsAnswerWritable kind n t → AllByRecursion (AllByRecursion IsWord) (answer_lines t)
+answer_are_words n Sources (SourceAnswer s ls) small h = ((word_by_test (codes "s") refl, (small_word s h.0, tt)), all_vertices_are_words n ls small h.1)
+answer_are_words n Multi (SourcesAnswer ss ls) small h = ((word_by_test (codes "m") refl, number_words ss h.2), all_vertices_are_words n ls small h.3)
+answer_are_words n Pairs (PairAnswer s t None) small h = ((word_by_test (codes "q") refl, (small_word s h.0, (small_word t h.1, tt))), ((word_by_test (codes "u") refl, tt), tt))
+answer_are_words n Pairs (PairAnswer s t (Some f)) small h =
     let g = h.2 in (
       (word_by_test (codes "q") refl, (small_word s h.0, (small_word t h.1, tt))),
       (
@@ -230,27 +230,27 @@ answer_are_words n Pairs (ToldPair s t (Some f)) small h =
         ((word_by_test (codes "r") refl, number_words f.route g.3), tt),
       ),
     )
-answer_are_words n Sources (ToldPair s t f) small h = absurd h
-answer_are_words n Sources (ToldMulti ss ls) small h = absurd h
-answer_are_words n Pairs (ToldSource s ls) small h = absurd h
-answer_are_words n Pairs (ToldMulti ss ls) small h = absurd h
-answer_are_words n Multi (ToldSource s ls) small h = absurd h
-answer_are_words n Multi (ToldPair s t f) small h = absurd h
+answer_are_words n Sources (PairAnswer s t f) small h = absurd h
+answer_are_words n Sources (SourcesAnswer ss ls) small h = absurd h
+answer_are_words n Pairs (SourceAnswer s ls) small h = absurd h
+answer_are_words n Pairs (SourcesAnswer ss ls) small h = absurd h
+answer_are_words n Multi (SourceAnswer s ls) small h = absurd h
+answer_are_words n Multi (PairAnswer s t f) small h = absurd h
 
-blocks_are_words : (n : ℕ) (kind : Kind) (ts : List Told) → n < 2 ^ 32 → AllByRecursion (IsAnswerWritable kind n) ts → AllByRecursion (AllByRecursion IsWord) (block_lines ts)
+blocks_are_words : (n : ℕ) (kind : Kind) (ts : List AnswerData) → n < 2 ^ 32 → AllByRecursion (IsAnswerWritable kind n) ts → AllByRecursion (AllByRecursion IsWord) (block_lines ts)
 blocks_are_words n kind [] small h = tt
 blocks_are_words n kind (t ∷ ts) small h = lines_append (answer_lines t) (block_lines ts) (answer_are_words n kind t small h.0) (blocks_are_words n kind ts small h.1)
 
-text_again : (t : ToldList) → AreWritable t → text_value (answer_rules t.n) (answers_text t) ≡ Ok t
+text_again : (t : AnswerList) → AreWritable t → text_value (answer_rules t.n) (answers_text t) ≡ Ok t
 text_again t h =
     let few : length t.list ≤ 1048576 = h.few in
     let head : List (List ℕ) = header_words t.kind (length t.list) t.name in
     let words : AllByRecursion IsWord head = header_are_words t.kind (length t.list) t.name few in
-    ap (λ b. reading false (answer_rules t.n) 1 None (lines false b)) (text_is t)
-    ∙ ap (reading false (answer_rules t.n) 1 None) (lines_text (head ∷ block_lines t.list) (words, blocks_are_words t.n t.kind t.list h.vertices h.answers))
+    ap (λ b. value_of_lines false (answer_rules t.n) 1 None (lines false b)) (text_is t)
+    ∙ ap (value_of_lines false (answer_rules t.n) 1 None) (lines_text (head ∷ block_lines t.list) (words, blocks_are_words t.n t.kind t.list h.vertices h.answers))
     ∙ step t.n (Ok t) None (Some (between t.kind t.name (length t.list) [])) head (block_lines t.list) words (header_again t.n t.kind (length t.list) t.name few)
     (answers_again t.n t.kind t.name (length t.list) [] t.list h.vertices (omega arith) h.answers) 1
 
 -- a written answer list is read again
-pub written_again : (t : ToldList) → AreWritable t → length (answers_text t) ≤ 4294967296 → text_read (answer_rules t.n) (answers_text t) ≡ Ok t
+pub written_again : (t : AnswerList) → AreWritable t → length (answers_text t) ≤ 4294967296 → text_read (answer_rules t.n) (answers_text t) ≡ Ok t
 written_again t h short = rw (le-ltb 4294967296 (length (answers_text t)) short) (text_again t h)

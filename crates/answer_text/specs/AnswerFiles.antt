@@ -1,6 +1,6 @@
 -- Answer texts, by their lines: comments, the header `p ans KIND K NAME`, and K answers of that kind, each a line that names its question
--- (`s SOURCE`, `q SOURCE TARGET`, `m SOURCE ..`) and what is told of it. Behind `s` and `m` stands a line for each vertex in order, `d V CODE HOPS PARENT` or `u V`;
--- behind `q` stand `d CODE HOPS` and `r V1 ..`, or `u`.
+-- (`s SOURCE`, `q SOURCE TARGET`, `m SOURCE ..`) and the lines of its answer. After `s` and `m` comes a line for each vertex in order, `d V CODE HOPS PARENT` or `u V`;
+-- after `q` come `d CODE HOPS` and `r V1 ..`, or `u`.
 use Rattle.std.specs.Prelude.{ℕ, ◌+◌, ◌==◌, ◌&&◌, Bool, true, false, List, [], ◌∷◌, ◌++◌, length, drop, map, slice_index, if◌then◌else◌, Option, Some, None, nat_lt, Result, Ok, Err, codes, bytes_eq}
 use Rattle.path_algebra.specs.declared.name.AlgebraName.{AlgebraName}
 use Rattle.path_algebra.specs.Names.{name_of_text}
@@ -10,14 +10,14 @@ use Rattle.road_files.specs.declared.questions.Kind.{Kind}
 use Rattle.road_files.specs.declared.questions.Kind.TheVariants.{Sources, Pairs, Multi}
 use Rattle.road_files.specs.QuestionFiles.{kind_named}
 use Rattle.answer_text.specs.declared.answers.Reached.{Reached}
-use Rattle.answer_text.specs.Told.{Told, ToldSource, ToldPair, ToldMulti, ToldList}
+use Rattle.answer_text.specs.AnswerData.{AnswerData, SourceAnswer, PairAnswer, SourcesAnswer, AnswerList}
 
--- the sources that an answer with lines for vertices names
+-- the sources named by an answer with a line for each vertex
 pub data Named : Type 0 where
   OneSource : (source : ℕ) → Named
   ManySources : (sources : List ℕ) → Named
 
--- what is read of the present answer: nothing, the question and some lines, a pair, or a pair with its value
+-- what was read of the present answer: nothing, the question and some lines, a pair, or a pair with its value
 pub data Stage : Type 0 where
   Between : Stage
   InLines : (named : Named) → (lines : List (Option Reached)) → Stage
@@ -29,23 +29,23 @@ pub record AnswersSoFar : Type 0 where
   pub kind : Kind
   pub name : AlgebraName
   pub announced : ℕ
-  pub list : List Told
+  pub list : List AnswerData
   pub stage : Stage
 
--- a number up to a limit: 34 where it is none, 35 above the limit
-abbrev pub number_in : ℕ → Option ℕ → Result ℕ ℕ
-number_in = number_up_to 34 35
+-- a number up to a limit: 34 if it is none, 35 above the limit
+abbrev pub answer_number : ℕ → Option ℕ → Result ℕ ℕ
+answer_number = number_up_to 34 35
 
 -- numbers below 2^32, from left to right
 abbrev pub numbers_in : List Word → Result (List ℕ) ℕ
 numbers_in [] = Ok []
-numbers_in (w ∷ ws) = number_in 4294967295 w.number >>= λ v. numbers_in ws >>= λ vs. Ok (v ∷ vs)
+numbers_in (w ∷ ws) = answer_number 4294967295 w.number >>= λ v. numbers_in ws >>= λ vs. Ok (v ∷ vs)
 
 -- whether the line begins with this word
 abbrev pub begins : List ℕ → List Word → Bool
 begins word ws = bytes_eq (word_at 0 ws).text word
 
--- what a word stands for: 31 where it stands for nothing
+-- the meaning of a word: 31 if it has none
 abbrev pub known : {A : Type 0} → Option A → Result A ℕ
 known None = Err 31
 known (Some x) = Ok x
@@ -57,7 +57,7 @@ header_line ws = do
   _ ← unless (bytes_eq (word_at 1 ws).text (codes "ans")) 31
   kind ← known (kind_named (word_at 2 ws).text)
   name ← known (name_of_text (word_at 4 ws).text)
-  announced ← number_in 1048576 (word_at 3 ws).number
+  announced ← answer_number 1048576 (word_at 3 ws).number
   Ok (record { kind = kind; name = name; announced = announced; list = []; stage = Between })
 
 -- `s SOURCE`
@@ -65,15 +65,15 @@ unfoldable pub source_line : List Word → Result ℕ ℕ
 source_line ws = do
   _ ← unless (begins (codes "s") ws) 32
   _ ← unless (length ws == 2) 33
-  number_in 4294967295 (word_at 1 ws).number
+  answer_number 4294967295 (word_at 1 ws).number
 
 -- `q SOURCE TARGET`
 unfoldable pub pair_line : List Word → Result (ℕ × ℕ) ℕ
 pair_line ws = do
   _ ← unless (begins (codes "q") ws) 32
   _ ← unless (length ws == 3) 33
-  source ← number_in 4294967295 (word_at 1 ws).number
-  target ← number_in 4294967295 (word_at 2 ws).number
+  source ← answer_number 4294967295 (word_at 1 ws).number
+  target ← answer_number 4294967295 (word_at 2 ws).number
   Ok (source, target)
 
 -- a line of a letter and numbers: 32 for the letter, 33 for how many fields there are, then what the numbers give
@@ -92,10 +92,10 @@ route_line ws count numbers = list_line (begins (codes "r") ws) (nat_lt 1 count)
 unfoldable pub reached_line : ℕ → List Word → Result (Option Reached) ℕ
 reached_line v ws = do
   _ ← unless (length ws == 5) 33
-  vertex ← number_in 4294967295 (word_at 1 ws).number
-  code ← number_in 18446744073709551615 (word_at 2 ws).number
-  hops ← number_in 4294967295 (word_at 3 ws).number
-  parent ← number_in 4294967295 (word_at 4 ws).number
+  vertex ← answer_number 4294967295 (word_at 1 ws).number
+  code ← answer_number 18446744073709551615 (word_at 2 ws).number
+  hops ← answer_number 4294967295 (word_at 3 ws).number
+  parent ← answer_number 4294967295 (word_at 4 ws).number
   _ ← unless (vertex == v) 32
   Ok (Some (record { code = code; hops = hops; parent = parent }))
 
@@ -103,7 +103,7 @@ reached_line v ws = do
 unfoldable pub unreached_line : ℕ → List Word → Result (Option Reached) ℕ
 unreached_line v ws = do
   _ ← unless (length ws == 2) 33
-  vertex ← number_in 4294967295 (word_at 1 ws).number
+  vertex ← answer_number 4294967295 (word_at 1 ws).number
   _ ← unless (vertex == v) 32
   Ok None
 
@@ -118,8 +118,8 @@ vertex_line v ws =
 unfoldable pub value_line : List Word → Result (Option (ℕ × ℕ)) ℕ
 value_line ws = do
   _ ← unless (length ws == 3) 33
-  code ← number_in 18446744073709551615 (word_at 1 ws).number
-  hops ← number_in 4294967295 (word_at 2 ws).number
+  code ← answer_number 18446744073709551615 (word_at 1 ws).number
+  hops ← answer_number 4294967295 (word_at 2 ws).number
   Ok (Some (code, hops))
 
 -- `u` alone
@@ -136,7 +136,7 @@ found_line ws =
     else Err 32
 
 -- one more answer is whole
-abbrev pub with_answer : AnswersSoFar → Told → AnswersSoFar
+abbrev pub with_answer : AnswersSoFar → AnswerData → AnswersSoFar
 with_answer s t = record { kind = s.kind; name = s.name; announced = s.announced; list = s.list ++ t ∷ []; stage = Between }
 
 -- the same answers, with the next line expected
@@ -144,43 +144,43 @@ abbrev pub with_stage : AnswersSoFar → Stage → AnswersSoFar
 with_stage s stage = record { kind = s.kind; name = s.name; announced = s.announced; list = s.list; stage = stage }
 
 -- the answer to a question for all vertices, by how its first line names it
-abbrev pub told_lines : Named → List (Option Reached) → Told
-told_lines (OneSource s) lines = ToldSource s lines
-told_lines (ManySources ss) lines = ToldMulti ss lines
+abbrev pub told_lines : Named → List (Option Reached) → AnswerData
+told_lines (OneSource s) lines = SourceAnswer s lines
+told_lines (ManySources ss) lines = SourcesAnswer ss lines
 
--- with these lines, which are a whole answer where there is one for each of n vertices
+-- the present answer with these lines, which is whole if there is one for each of n vertices
 abbrev pub with_lines : ℕ → AnswersSoFar → Named → List (Option Reached) → AnswersSoFar
 with_lines n s named lines = if length lines == n then with_answer s (told_lines named lines) else with_stage s (InLines named lines)
 
 -- a line that names the next question
-abbrev pub question_line : ℕ → AnswersSoFar → List Word → ℕ → Result (List ℕ) ℕ → Kind → Result AnswersSoFar ℕ
-question_line n s ws count numbers Sources = source_line ws >>= λ source. Ok (with_lines n s (OneSource source) [])
-question_line n s ws count numbers Pairs = pair_line ws >>= λ p. Ok (with_stage s (AfterPair p.0 p.1))
-question_line n s ws count numbers Multi = sources_line ws count numbers >>= λ sources. Ok (with_lines n s (ManySources sources) [])
+abbrev pub heading_line : ℕ → AnswersSoFar → List Word → ℕ → Result (List ℕ) ℕ → Kind → Result AnswersSoFar ℕ
+heading_line n s ws count numbers Sources = source_line ws >>= λ source. Ok (with_lines n s (OneSource source) [])
+heading_line n s ws count numbers Pairs = pair_line ws >>= λ p. Ok (with_stage s (AfterPair p.0 p.1))
+heading_line n s ws count numbers Multi = sources_line ws count numbers >>= λ sources. Ok (with_lines n s (ManySources sources) [])
 
--- what follows the line of a pair
+-- the value of a pair: the answer is whole if it is none, else its route comes next
 abbrev pub with_value : AnswersSoFar → ℕ → ℕ → Option (ℕ × ℕ) → AnswersSoFar
-with_value s source target None = with_answer s (ToldPair source target None)
+with_value s source target None = with_answer s (PairAnswer source target None)
 with_value s source target (Some p) = with_stage s (AfterFound source target p.0 p.1)
 
--- a line behind the header, by what was read of the present answer
+-- a line after the header, by what was read of the present answer
 abbrev pub answer_line : ℕ → AnswersSoFar → List Word → ℕ → Result (List ℕ) ℕ → Stage → Result AnswersSoFar ℕ
-answer_line n s ws count numbers Between = unless (nat_lt (length s.list) s.announced) 32 >>= λ _. question_line n s ws count numbers s.kind
+answer_line n s ws count numbers Between = unless (nat_lt (length s.list) s.announced) 32 >>= λ _. heading_line n s ws count numbers s.kind
 answer_line n s ws count numbers (InLines named lines) = vertex_line (length lines + 1) ws >>= λ line. Ok (with_lines n s named (lines ++ line ∷ []))
 answer_line n s ws count numbers (AfterPair source target) = found_line ws >>= λ found. Ok (with_value s source target found)
 answer_line n s ws count numbers (AfterFound source target code hops) =
-    route_line ws count numbers >>= λ route. Ok (with_answer s (ToldPair source target (Some (record { code = code; hops = hops; route = route }))))
+    route_line ws count numbers >>= λ route. Ok (with_answer s (PairAnswer source target (Some (record { code = code; hops = hops; route = route }))))
 
--- the first line begins with `p`: 30 where it does not
+-- the first line begins with `p`: 30 if it does not
 abbrev pub first_line : List Word → Result AnswersSoFar ℕ
 first_line ws = unless (begins (codes "p") ws) 30 >>= λ _. header_line ws
 
--- what was read after a line that is neither blank nor a comment
+-- the state after a line that is neither blank nor a comment
 abbrev pub told_after : ℕ → Option AnswersSoFar → List Word → ℕ → Result (List ℕ) ℕ → Result (Option AnswersSoFar) ℕ
 told_after n None ws count numbers = first_line ws >>= λ s. Ok (Some s)
 told_after n (Some s) ws count numbers = answer_line n s ws count numbers s.stage >>= λ t. Ok (Some t)
 
--- a line, given how many words it has, and what the numbers behind the first word give
+-- a line; `count` is how many words it has, `numbers` what the numbers after the first word give
 unfoldable pub line_given : ℕ → Option AnswersSoFar → List Word → ℕ → Result (List ℕ) ℕ → Result (Option AnswersSoFar) ℕ
 line_given n s ws count numbers =
     if length ws == 0 then Ok s
@@ -197,10 +197,10 @@ is_between Between = true
 is_between _ = false
 
 -- the end: there was a header, and the last answer is whole
-abbrev pub end_read : ℕ → Option AnswersSoFar → Result ToldList ℕ
+abbrev pub end_read : ℕ → Option AnswersSoFar → Result AnswerList ℕ
 end_read n None = Err 30
 end_read n (Some s) = unless (is_between s.stage && (length s.list == s.announced)) 36 >>= λ _. Ok (record { name = s.name; kind = s.kind; n = n; list = s.list })
 
 -- the rules of answer texts over a graph with n vertices
-abbrev pub answer_rules : ℕ → Rules (Option AnswersSoFar) ToldList
+abbrev pub answer_rules : ℕ → Rules (Option AnswersSoFar) AnswerList
 answer_rules n = record { start = None; line = λ s fs. line_read n s (map word_of fs); end = end_read n }

@@ -1,4 +1,4 @@
--- What the parser of an answer text holds, as the rules have it.
+-- The state of the parser of an answer text, in the terms of the rules.
 use Rattle.std.specs.Prelude.{◌≡◌, ℕ, ◌<◌, ◌⊎◌, min, ◌||◌, List, [], ◌∷◌, ◌++◌, length, drop, map, Bool, true, false, Option, Some, None, option_map, Result, Ok, Err, codes, bytes_eq}
 use Rattle.road_text.specs.declared.faults.ReadFault.{ReadFault}
 use Rattle.road_text.specs.declared.faults.Rule.{Rule}
@@ -12,8 +12,8 @@ use Rattle.answer_text.specs.declared.taken_answers.Awaited.{Awaited}
 use Rattle.answer_text.specs.declared.taken_answers.Awaited.TheVariants as awaits
 use Rattle.answer_text.specs.declared.taken_answers.TakenAnswers.{TakenAnswers}
 use Rattle.answer_text.specs.declared.answer_parser.AnswerParser.{AnswerParser}
-use Rattle.answer_text.specs.Told.{told_of, told_list_of}
-use Rattle.answer_text.specs.AnswerFiles.{Stage, Between, InLines, AfterPair, AfterFound, OneSource, ManySources, AnswersSoFar, number_in, numbers_in, answer_rules}
+use Rattle.answer_text.specs.AnswerData.{answer_data, answer_list}
+use Rattle.answer_text.specs.AnswerFiles.{Stage, Between, InLines, AfterPair, AfterFound, OneSource, ManySources, AnswersSoFar, answer_number, numbers_in, answer_rules}
 
 -- the numbers that were listed, or the first fault among them
 abbrev pub numbers_or : Option Rule → List ℕ → Result (List ℕ) ℕ
@@ -24,24 +24,24 @@ numbers_or (Some rule) numbers = Err rule.number
 abbrev pub numbers_given : PresentNumbers → Result (List ℕ) ℕ
 numbers_given l = numbers_or l.broken l.numbers.items
 
--- one number more, or the first field that is none
+-- these numbers and one more, or the first fault
 abbrev pub one_number_more : Result (List ℕ) ℕ → Option ℕ → Result (List ℕ) ℕ
-one_number_more numbers o = numbers >>= λ vs. number_in 4294967295 o >>= λ v. Ok (vs ++ v ∷ [])
+one_number_more numbers o = numbers >>= λ vs. answer_number 4294967295 o >>= λ v. Ok (vs ++ v ∷ [])
 
 -- whether the first field is `r` or `m`
-abbrev pub begins_list : List (List ℕ) → Bool
-begins_list [] = false
-begins_list (f ∷ fs) = bytes_eq f (codes "r") || bytes_eq f (codes "m")
+abbrev pub begins_numbers : List (List ℕ) → Bool
+begins_numbers [] = false
+begins_numbers (f ∷ fs) = bytes_eq f (codes "r") || bytes_eq f (codes "m")
 
 -- whether the first field is `r`
 abbrev pub begins_route : List (List ℕ) → Bool
 begins_route [] = false
 begins_route (f ∷ fs) = bytes_eq f (codes "r")
 
--- these are the fields of the present line so far; of a list of sources that is too long the numbers are let go
-pub record SoFar (l : PresentNumbers) (fs : List (List ℕ)) : Type 0 where
+-- these are the fields of the present line so far; the numbers are unspecified if a list of sources is too long
+pub record NumbersSoFar (l : PresentNumbers) (fs : List (List ℕ)) : Type 0 where
   pub count_is : l.count ≡ min (length fs) 1026
-  pub letter_is : l.is_list ≡ begins_list fs
+  pub letter_is : l.is_list ≡ begins_numbers fs
   pub route_is : l.is_route ≡ begins_route fs
   pub numbers_are : l.is_list ≡ true → (l.is_route ≡ true) ⊎ (length fs < 1026) → numbers_in (drop 1 (map word_of fs)) ≡ numbers_given l
 
@@ -55,16 +55,16 @@ stage_at t (awaits.Found source target code hops) = AfterFound source target cod
 
 -- the answers that were taken, and the line that is expected
 abbrev pub answers_so_far : TakenAnswers → AnswersSoFar
-answers_so_far t = record { kind = t.kind; name = t.name; announced = t.announced; list = map told_of t.list.items; stage = stage_at t t.awaited }
+answers_so_far t = record { kind = t.kind; name = t.name; announced = t.announced; list = map answer_data t.list.items; stage = stage_at t t.awaited }
 
--- the same, where a header was read
-abbrev pub begun_of : AnswerParser → Option AnswersSoFar
-begun_of s = option_map answers_so_far s.begun
+-- the same, if a header was read
+abbrev pub answers_begun : AnswerParser → Option AnswersSoFar
+answers_begun s = option_map answers_so_far s.begun
 
--- the lines from a number on give this
+-- the lines from a line number on give this
 abbrev pub GivesAnswers : Bool → AnswerParser → ℕ → List (List ℕ) → Result Answers ReadFault → Type 0
-GivesAnswers cut s at ls r = GivesBy (answer_rules s.n) (begun_of s) told_list_of cut at ls r
+GivesAnswers cut s at ls r = GivesBy (answer_rules s.n) (answers_begun s) answer_list cut at ls r
 
 -- the numbers of a list are kept before its line ends
 abbrev pub answer_meaning : Meaning AnswerParser Answers
-answer_meaning = record { gives = GivesAnswers; so_far = λ s fs. SoFar s.present fs }
+answer_meaning = record { gives = GivesAnswers; so_far = λ s fs. NumbersSoFar s.present fs }

@@ -6,13 +6,13 @@ use Rattle.path_algebra.specs.Names.{name_text}
 use Rattle.road_files.specs.declared.questions.Kind.{Kind}
 use Rattle.road_files.specs.WrittenFiles.{kind_word}
 use Rattle.answer_text.specs.declared.answers.Reached.{Reached}
-use Rattle.answer_text.specs.Told.{ToldFound, Told, ToldSource, ToldPair, ToldMulti, ToldList}
+use Rattle.answer_text.specs.AnswerData.{FoundData, AnswerData, SourceAnswer, PairAnswer, SourcesAnswer, AnswerList}
 
--- the line before so many answers
+-- the header before this many answers
 abbrev pub header_words : Kind → ℕ → AlgebraName → List (List ℕ)
 header_words kind count name = codes "p" ∷ codes "ans" ∷ kind_word kind ∷ decimal count ∷ name_text name ∷ []
 
--- the lines that name a question, and the value of a pair
+-- the line that names one source
 abbrev pub source_words : ℕ → List (List ℕ)
 source_words source = codes "s" ∷ decimal source ∷ []
 
@@ -35,29 +35,29 @@ vertex_lines v [] = []
 vertex_lines v (x ∷ xs) = vertex_words v x ∷ vertex_lines (v + 1) xs
 
 -- the lines of a pair: its value and route, or that no walk joins it
-abbrev pub found_lines : Option ToldFound → List (List (List ℕ))
+abbrev pub found_lines : Option FoundData → List (List (List ℕ))
 found_lines None = (codes "u" ∷ []) ∷ []
 found_lines (Some f) = found_words f.code f.hops ∷ list_words (codes "r") f.route ∷ []
 
 -- the lines of an answer
-abbrev pub answer_lines : Told → List (List (List ℕ))
-answer_lines (ToldSource s ls) = source_words s ∷ vertex_lines 1 ls
-answer_lines (ToldPair s t f) = pair_words s t ∷ found_lines f
-answer_lines (ToldMulti ss ls) = list_words (codes "m") ss ∷ vertex_lines 1 ls
+abbrev pub answer_lines : AnswerData → List (List (List ℕ))
+answer_lines (SourceAnswer s ls) = source_words s ∷ vertex_lines 1 ls
+answer_lines (PairAnswer s t f) = pair_words s t ∷ found_lines f
+answer_lines (SourcesAnswer ss ls) = list_words (codes "m") ss ∷ vertex_lines 1 ls
 
 -- the text of an answer
-unfoldable pub answer_text : Told → List ℕ
+unfoldable pub answer_text : AnswerData → List ℕ
 answer_text a = text_of (answer_lines a)
 
 -- the texts of answers, one after the other
-abbrev pub blocks_text : List Told → List ℕ
+abbrev pub blocks_text : List AnswerData → List ℕ
 blocks_text [] = []
 blocks_text (a ∷ more) = answer_text a ++ blocks_text more
 
--- the header before so many answers
+-- the text of the header before this many answers
 unfoldable pub header_text : Kind → ℕ → AlgebraName → List ℕ
 header_text kind count name = spelled (header_words kind count name)
 
 -- the text of all answers
-abbrev pub answers_text : ToldList → List ℕ
+abbrev pub answers_text : AnswerList → List ℕ
 answers_text a = header_text a.kind (length a.list) a.name ++ blocks_text a.list

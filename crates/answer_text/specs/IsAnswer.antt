@@ -1,64 +1,64 @@
 -- What the right answers are: best values, least hops, least parents, and the routes along them.
 use Rattle.std.specs.Prelude.{◌≡◌, ℕ, ◌⊎◌, List, [], ◌∷◌, length, Contains, Option, Some, None, ⊤}
-use Rattle.road_graph.specs.Roads.{Roads, HasVertex}
+use Rattle.road_graph.specs.GraphData.{GraphData, HasVertex}
 use Rattle.path_algebra.specs.Algebra.{Algebra}
 use Rattle.path_algebra.specs.Walks.{IsUnreached, AreHops, IsParent, label_of, IsParentChain}
 pub use Rattle.path_algebra.specs.Walks.{IsBestCode}
 use Rattle.answer_text.specs.declared.answers.Reached.{Reached}
 use Rattle.road_files.specs.Asked.{Question, FromSource, BetweenPair, FromSources, Asked}
-use Rattle.answer_text.specs.Told.{ToldFound, Told, ToldSource, ToldPair, ToldMulti, ToldList}
+use Rattle.answer_text.specs.AnswerData.{FoundData, AnswerData, SourceAnswer, PairAnswer, SourcesAnswer, AnswerList}
 
 -- 0 at a source, and elsewhere the least of the nearer vertices
-abbrev pub IsParentOrZero : {V : Type 0} → Algebra V → Roads → List ℕ → ℕ → ℕ → Type 0
+abbrev pub IsParentOrZero : {V : Type 0} → Algebra V → GraphData → List ℕ → ℕ → ℕ → Type 0
 IsParentOrZero A g sources v parent = (Contains sources v × (parent ≡ 0)) ⊎ IsParent A g sources v parent
 
 -- the best value, the least hops and the least parent of v
-pub record IsReachedLine {V : Type 0} (A : Algebra V) (g : Roads) (sources : List ℕ) (v : ℕ) (r : Reached) : Type 0 where
+pub record IsReachedLine {V : Type 0} (A : Algebra V) (g : GraphData) (sources : List ℕ) (v : ℕ) (r : Reached) : Type 0 where
   pub code : IsBestCode A g sources v r.code
   pub hops : AreHops A g sources v r.hops
   pub parent : IsParentOrZero A g sources v r.parent
 
--- what is said of v; nothing exactly where no walk to v has a value
-abbrev pub IsLine : {V : Type 0} → Algebra V → Roads → List ℕ → ℕ → Option Reached → Type 0
-IsLine A g sources v None = IsUnreached A g sources v
-IsLine A g sources v (Some r) = IsReachedLine A g sources v r
+-- the line of v: nothing exactly if no walk to v has a value
+abbrev pub IsVertexLine : {V : Type 0} → Algebra V → GraphData → List ℕ → ℕ → Option Reached → Type 0
+IsVertexLine A g sources v None = IsUnreached A g sources v
+IsVertexLine A g sources v (Some r) = IsReachedLine A g sources v r
 
 -- a line for each vertex, in order
-pub record AreLines {V : Type 0} (A : Algebra V) (g : Roads) (sources : List ℕ) (lines : List (Option Reached)) : Type 0 where
+pub record AreVertexLines {V : Type 0} (A : Algebra V) (g : GraphData) (sources : List ℕ) (lines : List (Option Reached)) : Type 0 where
   pub count : length lines ≡ g.vertices
-  pub each : (v : ℕ) → HasVertex g v → IsLine A g sources v (label_of lines v)
+  pub each : (v : ℕ) → HasVertex g v → IsVertexLine A g sources v (label_of lines v)
 
 -- the list from s to t in which each vertex is the parent of the next
-abbrev pub IsRouteBetween : {V : Type 0} → Algebra V → Roads → ℕ → ℕ → List ℕ → Type 0
+abbrev pub IsRouteBetween : {V : Type 0} → Algebra V → GraphData → ℕ → ℕ → List ℕ → Type 0
 IsRouteBetween A g s t route = (rest : List ℕ) × (route ≡ s ∷ rest) × IsParentChain A g (s ∷ []) s rest t
 
 -- the best value, the least hops and the route from s to t
-pub record IsFoundBetween {V : Type 0} (A : Algebra V) (g : Roads) (s t : ℕ) (f : ToldFound) : Type 0 where
+pub record IsFoundBetween {V : Type 0} (A : Algebra V) (g : GraphData) (s t : ℕ) (f : FoundData) : Type 0 where
   pub code : IsBestCode A g (s ∷ []) t f.code
   pub hops : AreHops A g (s ∷ []) t f.hops
   pub route : IsRouteBetween A g s t f.route
 
--- what is said of a pair; nothing exactly where no walk from s to t has a value
-abbrev pub IsPairAnswer : {V : Type 0} → Algebra V → Roads → ℕ → ℕ → Option ToldFound → Type 0
+-- the answer for a pair: nothing exactly if no walk from s to t has a value
+abbrev pub IsPairAnswer : {V : Type 0} → Algebra V → GraphData → ℕ → ℕ → Option FoundData → Type 0
 IsPairAnswer A g s t None = IsUnreached A g (s ∷ []) t
 IsPairAnswer A g s t (Some f) = IsFoundBetween A g s t f
 
--- the answer to a question, which it names
-abbrev pub IsAnswer : {V : Type 0} → Algebra V → Roads → Question → Told → Type 0
-IsAnswer A g (FromSource s) (ToldSource r lines) = (r ≡ s) × AreLines A g (s ∷ []) lines
-IsAnswer A g (BetweenPair s t) (ToldPair r u found) = (r ≡ s) × (u ≡ t) × IsPairAnswer A g s t found
-IsAnswer A g (FromSources ss) (ToldMulti rs lines) = (rs ≡ ss) × AreLines A g ss lines
+-- the right answer to a question, which it names
+abbrev pub IsAnswer : {V : Type 0} → Algebra V → GraphData → Question → AnswerData → Type 0
+IsAnswer A g (FromSource s) (SourceAnswer r lines) = (r ≡ s) × AreVertexLines A g (s ∷ []) lines
+IsAnswer A g (BetweenPair s t) (PairAnswer r u found) = (r ≡ s) × (u ≡ t) × IsPairAnswer A g s t found
+IsAnswer A g (FromSources ss) (SourcesAnswer rs lines) = (rs ≡ ss) × AreVertexLines A g ss lines
 IsAnswer A g _ _ = ⊥
 
--- the answers to questions, one for each, in order
-abbrev pub AreAnswers : {V : Type 0} → Algebra V → Roads → List Question → List Told → Type 0
+-- the right answers to questions, one for each, in order
+abbrev pub AreAnswers : {V : Type 0} → Algebra V → GraphData → List Question → List AnswerData → Type 0
 AreAnswers A g [] [] = ⊤
 AreAnswers A g [] (t ∷ ts) = ⊥
 AreAnswers A g (q ∷ qs) [] = ⊥
 AreAnswers A g (q ∷ qs) (t ∷ ts) = IsAnswer A g q t × AreAnswers A g qs ts
 
--- the answer list that a graph and questions have
-pub record IsAnswerList {V : Type 0} (A : Algebra V) (g : Roads) (asked : Asked) (told : ToldList) : Type 0 where
+-- the right answer list for a graph and questions
+pub record IsAnswerList {V : Type 0} (A : Algebra V) (g : GraphData) (asked : Asked) (told : AnswerList) : Type 0 where
   pub name_is : told.name ≡ A.name
   pub kind_is : told.kind ≡ asked.kind
   pub n_is : told.n ≡ g.vertices

@@ -1,4 +1,4 @@
-pub mod Told
+pub mod AnswerData
 pub mod IsAnswer
 pub mod AnswerText
 pub mod AnswerFiles

@@ -1,4 +1,4 @@
-//! The lines of an answer text that have few fields, by what is kept of them.
+//! The lines of an answer text that have few fields, read from what is kept of them.
 ghost use Rattle.std.specs.Prelude.{ℕ, ◌+◌, ◌≡◌, map};
 ghost use Rattle.path_algebra.specs.Names.{name_of_text};
 ghost use Rattle.road_text.specs.Slots.{word_in};
@@ -74,7 +74,7 @@ pub fn pair_in(slots: &[Slot]) -> Result<(Vertex, Vertex), LineFault>
     Ok((Vertex(source), Vertex(target)))
 }
 
-// `d V CODE HOPS PARENT`, where V is the next vertex.
+/// `d V CODE HOPS PARENT`, where V is the next vertex.
 #[tactic(auto, unfolding(crate::specs::AnswerFiles::reached_line))]
 fn reached_in(slots: &[Slot], next: u64) -> Result<Option<Reached>, LineFault>
     ensures { Agrees (reached_line next (map word_in slots.now)) result }
@@ -92,7 +92,7 @@ fn reached_in(slots: &[Slot], next: u64) -> Result<Option<Reached>, LineFault>
     Ok(Some(Reached { code, hops, parent }))
 }
 
-// `u V`, where V is the next vertex.
+/// `u V`, where V is the next vertex.
 #[tactic(auto, unfolding(crate::specs::AnswerFiles::unreached_line))]
 fn unreached_in(slots: &[Slot], next: u64) -> Result<Option<Reached>, LineFault>
     ensures { Agrees (unreached_line next (map word_in slots.now)) result }
@@ -121,7 +121,7 @@ pub fn vertex_in(slots: &[Slot], next: u64) -> Result<Option<Reached>, LineFault
     Err(LineFault::Broken(MISPLACED))
 }
 
-// `d CODE HOPS`.
+/// `d CODE HOPS`.
 #[tactic(auto, unfolding(crate::specs::AnswerFiles::value_line))]
 fn value_in(slots: &[Slot]) -> Result<Option<(u64, u32)>, LineFault>
     ensures { Agrees (value_line (map word_in slots.now)) result }
@@ -134,7 +134,7 @@ fn value_in(slots: &[Slot]) -> Result<Option<(u64, u32)>, LineFault>
     Ok(Some((code, hops)))
 }
 
-// `u` alone.
+/// `u` alone.
 #[tactic(auto, unfolding(crate::specs::AnswerFiles::none_line))]
 fn none_in(slots: &[Slot]) -> Result<Option<(u64, u32)>, LineFault>
     ensures { Agrees (none_line (map word_in slots.now)) result }

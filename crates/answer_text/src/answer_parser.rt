@@ -3,8 +3,8 @@ ghost use Rattle.std.specs.Prelude.{◌≡◌, ℕ, [], List, None, Some, map, r
 ghost use Rattle.road_text.specs.Slots.{word_in};
 ghost use Rattle.road_text.specs.Takes.{Breaks, Leaves};
 ghost use Rattle.answer_text.specs.AnswerFiles.{end_read, line_given, told_after};
-ghost use Rattle.answer_text.specs.AnswerTakes.{SoFar, answers_so_far, numbers_given};
-ghost use Rattle.answer_text.specs.Told.{told_list_of};
+ghost use Rattle.answer_text.specs.AnswerTakes.{NumbersSoFar, answers_so_far, numbers_given};
+ghost use Rattle.answer_text.specs.AnswerData.{answer_list};
 
 use crate::answers::Answers;
 use crate::present_numbers::PresentNumbers;
@@ -25,13 +25,13 @@ pub struct AnswerParser {
 }
 
 impl AnswerParser {
-    ghost use Rattle.answer_text.specs.AnswerTakes.{begun_of};
+    ghost use Rattle.answer_text.specs.AnswerTakes.{answers_begun};
 
-    /// No line was taken yet.
+    /// A parser before the first line.
     pub fn new(alloc: Global, n: u32) -> Self
-        ensures begun { begun_of result ≡ None }
+        ensures begun { answers_begun result ≡ None }
         ensures n { result.n ≡ n }
-        ensures ready { SoFar result.present [] }
+        ensures ready { NumbersSoFar result.present [] }
     {
         AnswerParser {
             alloc,
@@ -41,9 +41,10 @@ impl AnswerParser {
         }
     }
 
-    // Takes the header.
+    /// Takes the header.
     fn begin(&mut self, slots: &[Slot]) -> Result<(), LineFault>
-        ensures rule { Leaves (told_after self.old.n None (map word_in slots.now) 0 (Ok [])) result (begun_of self.new) }
+        ensures rule { Leaves (told_after self.old.n None (map word_in slots.now) 0 (Ok [])) result
+            (answers_begun self.new) }
         ensures n { self.new.n ≡ self.old.n }
     {
         let begun = first_in(self.alloc, slots)?;
@@ -51,9 +52,11 @@ impl AnswerParser {
         Ok(())
     }
 
-    // Takes a line that is neither blank nor a comment.
+    /// Takes a line that is neither blank nor a comment.
     fn told(&mut self, slots: &[Slot]) -> Result<(), LineFault>
-        ensures rule { Leaves (told_after self.old.n (begun_of self.old) (map word_in slots.now) self.old.present.count (numbers_given self.old.present)) result (begun_of self.new) }
+        ensures rule { Leaves (told_after self.old.n (answers_begun self.old)
+            (map word_in slots.now) self.old.present.count (numbers_given self.old.present)) result
+            (answers_begun self.new) }
         ensures n { self.new.n ≡ self.old.n }
     {
         match &mut self.begun {
@@ -65,7 +68,9 @@ impl AnswerParser {
     /// Takes a line by its first six fields. The numbers of a list were taken before.
     #[tactic(auto, unfolding(crate::specs::AnswerFiles::line_given))]
     pub fn take(&mut self, slots: &[Slot]) -> Result<(), LineFault>
-        ensures rule { Leaves (line_given self.old.n (begun_of self.old) (map word_in slots.now) self.old.present.count (numbers_given self.old.present)) result (begun_of self.new) }
+        ensures rule { Leaves (line_given self.old.n (answers_begun self.old)
+            (map word_in slots.now) self.old.present.count (numbers_given self.old.present)) result
+            (answers_begun self.new) }
         ensures n { self.new.n ≡ self.old.n }
     {
         if slots.is_empty() || slots[0].begins_with(b'c') {
@@ -75,9 +80,10 @@ impl AnswerParser {
     }
 }
 
-// The answers, where there was a header and the last of them is whole.
+/// The answers after a header, if the last of them is whole.
 fn whole(n: u32, begun: TakenAnswers) -> Result<Answers, LineFault>
-    ensures { MatchResult result (λ a. end_read n (Some (answers_so_far begun)) ≡ Ok (told_list_of a)) (Breaks (end_read n (Some (answers_so_far begun)))) }
+    ensures { MatchResult result (λ a. end_read n (Some (answers_so_far begun)) ≡ Ok
+        (answer_list a)) (Breaks (end_read n (Some (answers_so_far begun)))) }
 {
     match begun.awaited {
         Awaited::Between if begun.list.len() == begun.announced as usize => Ok(Answers {

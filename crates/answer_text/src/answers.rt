@@ -1,10 +1,10 @@
-//! Answers as they are held in memory.
+//! Answers, in memory.
 
 use path_algebra::AlgebraName;
 use road_files::Kind;
 use road_graph::Vertex;
 
-/// What is said of a vertex that some walk reaches.
+/// The answer for a vertex that some walk reaches.
 #[derive(Clone, Copy, Debug, PartialEq, Eq)]
 pub struct Reached {
     /// The code of the best value.
@@ -15,7 +15,7 @@ pub struct Reached {
     pub parent: u32,
 }
 
-/// What is said of a pair that some walk joins.
+/// The answer for a pair that some walk joins.
 #[derive(Debug, Drop)]
 pub struct Found {
     /// The code of the best value.
@@ -26,7 +26,7 @@ pub struct Found {
     pub route: Vec<Vertex>,
 }
 
-/// The answer to one question. Entry `i` of `lines` is of vertex `i + 1`; none stands where no walk has a value.
+/// The answer to one question. Entry `i` of `lines` is that of vertex `i + 1`: `None` if no walk to it has a value.
 #[derive(Debug, Drop)]
 pub enum Answer {
     Source {

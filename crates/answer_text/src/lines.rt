@@ -1,4 +1,4 @@
-//! Lines of an answer text, each put together before it is written.
+//! Lines of an answer text, each built before it is written.
 ghost use Rattle.std.specs.Prelude.{◌≡◌, ◌≤◌, length};
 ghost use Rattle.path_algebra.specs.Names.{name_text};
 ghost use Rattle.road_text.specs.Texts.{spelled};

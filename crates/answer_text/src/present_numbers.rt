@@ -1,10 +1,10 @@
-//! The fields of the present line, and of a line that begins with `r` or `m` its numbers.
+//! What is kept of the fields of the present line: if it begins with `r` or `m`, also its numbers.
 ghost use Rattle.std.specs.Prelude.{◌≡◌, ℕ, ◌+◌, ◌≤◌, ◌<◌, ◌&&◌, nat_lt, min, map, codes, false, ◌++◌, ◌∷◌, [], List, OnOk, IfErr, MatchResult, Ok};
 ghost use Rattle.road_text.specs.Slots.{word_in};
 ghost use Rattle.road_text.specs.Takes.{Breaks};
 ghost use Rattle.road_text.specs.Words.{held_word};
 ghost use Rattle.answer_text.specs.AnswerFiles.{begins, list_line, route_line, sources_line};
-ghost use Rattle.answer_text.specs.AnswerTakes.{SoFar, numbers_given, one_number_more};
+ghost use Rattle.answer_text.specs.AnswerTakes.{NumbersSoFar, numbers_given, one_number_more};
 
 use crate::answer_lines::begins;
 use crate::number_fields::number_of;
@@ -16,7 +16,7 @@ use std::alloc::Global;
 /// The most fields of a line of sources: its letter and 1,024 numbers.
 const MAX_FIELDS: u32 = 1_025;
 
-/// Up to this many the fields are counted: more than any list of sources has.
+/// Fields are counted up to this many: more than any list of sources has.
 const COUNTED: u32 = 1_026;
 
 /// What is kept of the fields of the present line.
@@ -26,15 +26,15 @@ pub struct PresentNumbers {
     pub count: u32,
     /// Whether the first of them is `r` or `m`.
     pub is_list: bool,
-    /// Whether it is `r`, behind which any number of fields may stand.
+    /// Whether it is `r`, after which any number of fields may follow.
     pub is_route: bool,
-    /// The numbers behind it, up to the first field that is none; behind `m` the first 1,024 alone.
+    /// The numbers after it, up to the first field that is none; after `m` only the first 1,024.
     pub numbers: Vec<Vertex>,
-    /// The rule that this field breaks.
+    /// The rule that the first such field breaks.
     pub broken: Option<Rule>,
 }
 
-// One field more.
+/// The count after one more field.
 fn counted(count: u32) -> u32
     ensures { result ≡ min (count + 1) 1026 }
 {
@@ -42,9 +42,9 @@ fn counted(count: u32) -> u32
 }
 
 impl PresentNumbers {
-    /// No field yet.
+    /// A line without fields so far.
     pub fn new(alloc: Global) -> Self
-        ensures { SoFar result [] }
+        ensures { NumbersSoFar result [] }
     {
         PresentNumbers {
             count: 0,
@@ -55,19 +55,21 @@ impl PresentNumbers {
         }
     }
 
-    /// A line begins.
+    /// Begins a new line.
     pub fn restart(&mut self)
-        ensures { SoFar self.new [] }
+        ensures { NumbersSoFar self.new [] }
     {
         self.count = 0;
         self.is_list = false;
         self.is_route = false;
     }
 
-    // One number more, or the first field that is none.
+    /// Takes one more number, or the first field that is none.
     fn add(&mut self, slot: &Slot) -> Result<(), LineFault>
-        ensures numbers { OnOk result (numbers_given self.new ≡ one_number_more (numbers_given self.old) (word_in slot.now).number) }
-        ensures rest { (self.new.count ≡ self.old.count) × (self.new.is_list ≡ self.old.is_list) × (self.new.is_route ≡ self.old.is_route) }
+        ensures numbers { OnOk result (numbers_given self.new ≡ one_number_more
+            (numbers_given self.old) (word_in slot.now).number) }
+        ensures rest { (self.new.count ≡ self.old.count) × (self.new.is_list ≡ self.old.is_list) ×
+            (self.new.is_route ≡ self.old.is_route) }
         ensures memory { IfErr result (λ e. e ≡ LineFault.Memory) }
     {
         if self.broken.is_some() {
@@ -88,8 +90,10 @@ impl PresentNumbers {
 
     /// Takes the next field of the line.
     pub fn field(&mut self, slot: &Slot) -> Result<(), LineFault>
-        ensures told { OnOk result ((fs : List (List ℕ)) (f : List ℕ) → SoFar self.old fs → word_in slot.now ≡ held_word f → SoFar self.new (fs ++ f ∷ [])) }
-        ensures few { 1025 ≤ self.old.count → self.old.is_route ≡ false → self.new.numbers.items ≡ self.old.numbers.items }
+        ensures told { OnOk result ((fs : List (List ℕ)) (f : List ℕ) → NumbersSoFar self.old fs →
+            word_in slot.now ≡ held_word f → NumbersSoFar self.new (fs ++ f ∷ [])) }
+        ensures few { 1025 ≤ self.old.count → self.old.is_route ≡ false → self.new.numbers.items ≡
+            self.old.numbers.items }
         ensures memory { IfErr result (λ e. e ≡ LineFault.Memory) }
     {
         if self.count == 0 {
@@ -107,9 +111,11 @@ impl PresentNumbers {
         Ok(())
     }
 
-    // The numbers of the present line, given whether its letter belongs here and whether it has enough fields.
+    /// The numbers of the present line; `letter` says whether its letter belongs here, `enough` whether its number of
+    /// fields is right.
     fn whole(&mut self, alloc: Global, letter: bool, enough: bool) -> Result<Vec<Vertex>, LineFault>
-        ensures { MatchResult result (λ v. list_line letter enough (numbers_given self.old) ≡ Ok v.items) (Breaks (list_line letter enough (numbers_given self.old))) }
+        ensures { MatchResult result (λ v. list_line letter enough (numbers_given self.old) ≡ Ok
+            v.items) (Breaks (list_line letter enough (numbers_given self.old))) }
     {
         if !letter {
             return Err(LineFault::Broken(MISPLACED));
@@ -126,7 +132,9 @@ impl PresentNumbers {
     /// The sources of `m SOURCE ..`.
     #[tactic(auto, unfolding(crate::specs::AnswerFiles::sources_line))]
     pub fn sources(&mut self, alloc: Global, slots: &[Slot]) -> Result<Vec<Vertex>, LineFault>
-        ensures { MatchResult result (λ v. sources_line (map word_in slots.now) self.old.count (numbers_given self.old) ≡ Ok v.items) (Breaks (sources_line (map word_in slots.now) self.old.count (numbers_given self.old))) }
+        ensures { MatchResult result (λ v. sources_line (map word_in slots.now) self.old.count
+            (numbers_given self.old) ≡ Ok v.items)
+            (Breaks (sources_line (map word_in slots.now) self.old.count (numbers_given self.old))) }
     {
         let enough = 1 < self.count && self.count <= MAX_FIELDS;
         self.whole(alloc, begins(slots, b"m"), enough)
@@ -134,7 +142,9 @@ impl PresentNumbers {
 
     /// The vertices of `r V1 ..`.
     pub fn route(&mut self, alloc: Global, slots: &[Slot]) -> Result<Vec<Vertex>, LineFault>
-        ensures { MatchResult result (λ v. route_line (map word_in slots.now) self.old.count (numbers_given self.old) ≡ Ok v.items) (Breaks (route_line (map word_in slots.now) self.old.count (numbers_given self.old))) }
+        ensures { MatchResult result (λ v. route_line (map word_in slots.now) self.old.count
+            (numbers_given self.old) ≡ Ok v.items)
+            (Breaks (route_line (map word_in slots.now) self.old.count (numbers_given self.old))) }
     {
         let enough = 1 < self.count;
         self.whole(alloc, begins(slots, b"r"), enough)

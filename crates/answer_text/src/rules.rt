@@ -7,7 +7,7 @@ pub const NO_HEADER: Rule = Rule { number: 30 };
 /// A header with a wrong number of fields or wrong words.
 pub const BAD_HEADER: Rule = Rule { number: 31 };
 
-/// A line that does not belong in its place.
+/// A line that is not the one expected there.
 pub const MISPLACED: Rule = Rule { number: 32 };
 
 /// A wrong number of fields.

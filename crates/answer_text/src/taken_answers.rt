@@ -2,9 +2,9 @@
 ghost use Rattle.std.specs.Prelude.{◌≡◌, ◌+◌, ◌<◌, ◌&&◌, ℕ, List, map, nat_lt, length, OnOk, IfErr, MatchResult, Ok, [], Some, codes};
 ghost use Rattle.road_text.specs.Slots.{word_in};
 ghost use Rattle.road_text.specs.Takes.{Breaks, Leaves};
-ghost use Rattle.answer_text.specs.AnswerFiles.{AfterFound, AfterPair, Between, InLines, ManySources, OneSource, answer_line, begins, first_line, header_line, question_line, route_line, sources_line, with_answer, with_lines};
+ghost use Rattle.answer_text.specs.AnswerFiles.{AfterFound, AfterPair, Between, InLines, ManySources, OneSource, answer_line, begins, first_line, header_line, heading_line, route_line, sources_line, with_answer, with_lines};
 ghost use Rattle.answer_text.specs.AnswerTakes.{answers_so_far, numbers_given};
-ghost use Rattle.answer_text.specs.Told.{told_of};
+ghost use Rattle.answer_text.specs.AnswerData.{answer_data};
 
 use crate::answer_lines::{begins, found_in, kind_of, name_of, pair_in, source_in, vertex_in};
 use crate::answers::{Answer, Found, Reached};
@@ -18,10 +18,10 @@ use road_graph::Vertex;
 use road_text::{LineFault, Slot};
 use std::alloc::Global;
 
-/// Which line is awaited, by what was read of the present answer.
+/// Which line comes next, by what was read of the present answer.
 #[derive(Clone, Copy)]
 pub enum Awaited {
-    /// Nothing: the next line names a question.
+    /// Nothing was read: the next line names a question.
     Between,
     /// The source, and some lines of vertices.
     Source(Vertex),
@@ -29,7 +29,7 @@ pub enum Awaited {
     Sources,
     /// The source and the target.
     Pair(Vertex, Vertex),
-    /// The same, with code and hops.
+    /// The same, with the code and hops of the pair.
     Found(Vertex, Vertex, u64, u32),
 }
 
@@ -39,21 +39,22 @@ pub struct TakenAnswers {
     pub alloc: Global,
     pub kind: Kind,
     pub name: AlgebraName,
-    /// How many answers there are to be.
+    /// How many answers the header announces.
     pub announced: u32,
     /// The answers that are whole.
     pub list: Vec<Answer>,
     pub awaited: Awaited,
-    /// The sources of the present answer, where it has several.
+    /// The sources of the present answer, if it has several.
     pub sources: Vec<Vertex>,
     /// The lines of vertices of the present answer.
     pub lines: Vec<Option<Reached>>,
 }
 
-// `p ans KIND K NAME`.
+/// `p ans KIND K NAME`.
 #[tactic(auto, unfolding(crate::specs::AnswerFiles::header_line))]
 fn header_in(alloc: Global, slots: &[Slot]) -> Result<TakenAnswers, LineFault>
-    ensures { MatchResult result (λ t. header_line (map word_in slots.now) ≡ Ok (answers_so_far t)) (Breaks (header_line (map word_in slots.now))) }
+    ensures { MatchResult result (λ t. header_line (map word_in slots.now) ≡ Ok (answers_so_far t))
+        (Breaks (header_line (map word_in slots.now))) }
 {
     if slots.len() != 5 || !slots[1].is_word(b"ans") {
         return Err(LineFault::Broken(BAD_HEADER));
@@ -73,9 +74,10 @@ fn header_in(alloc: Global, slots: &[Slot]) -> Result<TakenAnswers, LineFault>
     })
 }
 
-/// The first line that is told: the header.
+/// The first line that is neither blank nor a comment: the header.
 pub fn first_in(alloc: Global, slots: &[Slot]) -> Result<TakenAnswers, LineFault>
-    ensures { MatchResult result (λ t. first_line (map word_in slots.now) ≡ Ok (answers_so_far t)) (Breaks (first_line (map word_in slots.now))) }
+    ensures { MatchResult result (λ t. first_line (map word_in slots.now) ≡ Ok (answers_so_far t))
+        (Breaks (first_line (map word_in slots.now))) }
 {
     if !begins(slots, b"p") {
         return Err(LineFault::Broken(NO_HEADER));
@@ -84,9 +86,10 @@ pub fn first_in(alloc: Global, slots: &[Slot]) -> Result<TakenAnswers, LineFault
 }
 
 impl TakenAnswers {
-    // One answer more is whole.
+    /// Adds an answer that is whole.
     fn push(&mut self, answer: Answer) -> Result<(), LineFault>
-        ensures pushed { OnOk result (answers_so_far self.new ≡ with_answer (answers_so_far self.old) (told_of answer)) }
+        ensures pushed { OnOk result (answers_so_far self.new ≡ with_answer
+            (answers_so_far self.old) (answer_data answer)) }
         ensures memory { IfErr result (λ e. e ≡ LineFault.Memory) }
     {
         self.awaited = Awaited::Between;
@@ -96,9 +99,10 @@ impl TakenAnswers {
         }
     }
 
-    // The present answer is from this source and has the lines that are there: they are all, or more are to come.
+    /// Makes the present answer one from this source with the lines so far. It is whole if there are `n` lines.
     fn set_source(&mut self, n: u32, source: Vertex) -> Result<(), LineFault>
-        ensures set { OnOk result (answers_so_far self.new ≡ with_lines n (answers_so_far self.old) (OneSource source) self.old.lines.items) }
+        ensures set { OnOk result (answers_so_far self.new ≡ with_lines n (answers_so_far self.old)
+            (OneSource source) self.old.lines.items) }
         ensures memory { IfErr result (λ e. e ≡ LineFault.Memory) }
     {
         if self.lines.len() != n as usize {
@@ -109,9 +113,10 @@ impl TakenAnswers {
         self.push(Answer::Source { source, lines })
     }
 
-    // The present answer is from the sources and has the lines that are there: they are all, or more are to come.
+    /// Makes the present answer one from the sources with the lines so far. It is whole if there are `n` lines.
     fn set_sources(&mut self, n: u32) -> Result<(), LineFault>
-        ensures set { OnOk result (answers_so_far self.new ≡ with_lines n (answers_so_far self.old) (ManySources self.old.sources.items) self.old.lines.items) }
+        ensures set { OnOk result (answers_so_far self.new ≡ with_lines n (answers_so_far self.old)
+            (ManySources self.old.sources.items) self.old.lines.items) }
         ensures memory { IfErr result (λ e. e ≡ LineFault.Memory) }
     {
         if self.lines.len() != n as usize {
@@ -123,32 +128,36 @@ impl TakenAnswers {
         self.push(Answer::Multi { sources, lines })
     }
 
-    // The line of a question from one source.
+    /// Takes the line of a question from one source.
     fn question_from(&mut self, n: u32, slots: &[Slot]) -> Result<(), LineFault>
-        ensures { Leaves (question_line n (answers_so_far self.old) (map word_in slots.now) 0 (Ok []) Kind.Sources) result (answers_so_far self.new) }
+        ensures { Leaves (heading_line n (answers_so_far self.old) (map word_in slots.now) 0 (Ok [])
+            Kind.Sources) result (answers_so_far self.new) }
     {
         let source = source_in(slots)?;
         self.lines = Vec::new(self.alloc);
         self.set_source(n, source)
     }
 
-    // The line of a question between a pair.
+    /// Takes the line of a question about a pair.
     fn question_between(&mut self, slots: &[Slot]) -> Result<(), LineFault>
-        ensures { Leaves (question_line 0 (answers_so_far self.old) (map word_in slots.now) 0 (Ok []) Kind.Pairs) result (answers_so_far self.new) }
+        ensures { Leaves (heading_line 0 (answers_so_far self.old) (map word_in slots.now) 0 (Ok [])
+            Kind.Pairs) result (answers_so_far self.new) }
     {
         let pair = pair_in(slots)?;
         self.awaited = Awaited::Pair(pair.0, pair.1);
         Ok(())
     }
 
-    // The line of a question from several sources.
+    /// Takes the line of a question from several sources.
     fn question_from_many(
         &mut self,
         n: u32,
         slots: &[Slot],
         present: &mut PresentNumbers,
     ) -> Result<(), LineFault>
-        ensures { Leaves (question_line n (answers_so_far self.old) (map word_in slots.now) present.old.count (numbers_given present.old) Kind.Multi) result (answers_so_far self.new) }
+        ensures { Leaves (heading_line n (answers_so_far self.old) (map word_in slots.now)
+            present.old.count (numbers_given present.old) Kind.Multi) result
+            (answers_so_far self.new) }
     {
         let sources = present.sources(self.alloc, slots)?;
         self.sources = sources;
@@ -156,14 +165,15 @@ impl TakenAnswers {
         self.set_sources(n)
     }
 
-    // The line that names the next question, if there is one to come.
+    /// Takes the line that names the next question, if there is another question.
     fn question(
         &mut self,
         n: u32,
         slots: &[Slot],
         present: &mut PresentNumbers,
     ) -> Result<(), LineFault>
-        ensures { Leaves (answer_line n (answers_so_far self.old) (map word_in slots.now) present.old.count (numbers_given present.old) Between) result (answers_so_far self.new) }
+        ensures { Leaves (answer_line n (answers_so_far self.old) (map word_in slots.now)
+            present.old.count (numbers_given present.old) Between) result (answers_so_far self.new) }
     {
         if self.list.len() >= self.announced as usize {
             return Err(LineFault::Broken(MISPLACED));
@@ -175,9 +185,10 @@ impl TakenAnswers {
         }
     }
 
-    // The line of the next vertex, from one source.
+    /// Takes the line of the next vertex, from one source.
     fn vertex_from(&mut self, n: u32, slots: &[Slot], source: Vertex) -> Result<(), LineFault>
-        ensures { Leaves (answer_line n (answers_so_far self.old) (map word_in slots.now) 0 (Ok []) (InLines (OneSource source) self.old.lines.items)) result (answers_so_far self.new) }
+        ensures { Leaves (answer_line n (answers_so_far self.old) (map word_in slots.now) 0 (Ok [])
+            (InLines (OneSource source) self.old.lines.items)) result (answers_so_far self.new) }
     {
         let line = vertex_in(slots, self.lines.len() as u64 + 1)?;
         match self.lines.push(line) {
@@ -186,9 +197,11 @@ impl TakenAnswers {
         }
     }
 
-    // The line of the next vertex, from several sources.
+    /// Takes the line of the next vertex, from several sources.
     fn vertex_from_many(&mut self, n: u32, slots: &[Slot]) -> Result<(), LineFault>
-        ensures { Leaves (answer_line n (answers_so_far self.old) (map word_in slots.now) 0 (Ok []) (InLines (ManySources self.old.sources.items) self.old.lines.items)) result (answers_so_far self.new) }
+        ensures { Leaves (answer_line n (answers_so_far self.old) (map word_in slots.now) 0 (Ok [])
+            (InLines (ManySources self.old.sources.items) self.old.lines.items)) result
+            (answers_so_far self.new) }
     {
         let line = vertex_in(slots, self.lines.len() as u64 + 1)?;
         match self.lines.push(line) {
@@ -197,9 +210,10 @@ impl TakenAnswers {
         }
     }
 
-    // The value of a pair.
+    /// Takes the value of a pair.
     fn value(&mut self, slots: &[Slot], source: Vertex, target: Vertex) -> Result<(), LineFault>
-        ensures { Leaves (answer_line 0 (answers_so_far self.old) (map word_in slots.now) 0 (Ok []) (AfterPair source target)) result (answers_so_far self.new) }
+        ensures { Leaves (answer_line 0 (answers_so_far self.old) (map word_in slots.now) 0 (Ok [])
+            (AfterPair source target)) result (answers_so_far self.new) }
     {
         match found_in(slots)? {
             None => self.push(Answer::Pair {
@@ -214,7 +228,7 @@ impl TakenAnswers {
         }
     }
 
-    // The route of a pair.
+    /// Takes the route of a pair.
     fn route(
         &mut self,
         slots: &[Slot],
@@ -224,7 +238,9 @@ impl TakenAnswers {
         code: u64,
         hops: u32,
     ) -> Result<(), LineFault>
-        ensures { Leaves (answer_line 0 (answers_so_far self.old) (map word_in slots.now) present.old.count (numbers_given present.old) (AfterFound source target code hops)) result (answers_so_far self.new) }
+        ensures { Leaves (answer_line 0 (answers_so_far self.old) (map word_in slots.now)
+            present.old.count (numbers_given present.old) (AfterFound source target code hops))
+            result (answers_so_far self.new) }
     {
         let route = present.route(self.alloc, slots)?;
         self.push(Answer::Pair {
@@ -234,14 +250,16 @@ impl TakenAnswers {
         })
     }
 
-    /// Takes a line behind the header, over a graph with `n` vertices. The numbers of a list were taken before.
+    /// Takes a line after the header, over a graph with `n` vertices. The numbers of a list were taken before.
     pub fn take(
         &mut self,
         n: u32,
         slots: &[Slot],
         present: &mut PresentNumbers,
     ) -> Result<(), LineFault>
-        ensures { Leaves (answer_line n (answers_so_far self.old) (map word_in slots.now) present.old.count (numbers_given present.old) (answers_so_far self.old).stage) result (answers_so_far self.new) }
+        ensures { Leaves (answer_line n (answers_so_far self.old) (map word_in slots.now)
+            present.old.count (numbers_given present.old) (answers_so_far self.old).stage) result
+            (answers_so_far self.new) }
     {
         let awaited = self.awaited;
         match awaited {

@@ -1,4 +1,4 @@
-//! The line of a vertex, put together from its end to its beginning, so that each number is written where it stays.
+//! The line of a vertex, built from its end to its start, so that no number has to be moved.
 ghost use Rattle.std.specs.Prelude.{◌≡◌, ℕ, ◌+◌, ◌<◌, ◌≤◌, ◌++◌, ◌∷◌, [], codes, decimal, length};
 ghost use Rattle.road_text.specs.Texts.{spelled};
 ghost use Rattle.answer_text.specs.AnswerText.{vertex_words};
@@ -10,7 +10,7 @@ use std::marker::Model;
 /// How many bytes the line of a vertex has room for: it has at most 86.
 const ROOM: usize = 96;
 
-/// Room for the line of a vertex. It shows what has been put together of it: the bytes at its end.
+/// Room for the line of a vertex. Its view is what has been built so far: the bytes at its end.
 #[derive(Drop)]
 pub struct VertexLine {
     bytes: [u8; ROOM],
@@ -28,7 +28,7 @@ impl Model for VertexLine {
 }
 
 impl VertexLine {
-    /// Nothing yet.
+    /// An empty line.
     pub fn new() -> Self
         ensures { result ≡ [] }
     {
@@ -38,7 +38,7 @@ impl VertexLine {
         }
     }
 
-    /// Nothing again.
+    /// Empties the line.
     #[inline(always)]
     fn clear(&mut self)
         ensures bytes { self.new ≡ [] }
@@ -81,7 +81,8 @@ impl VertexLine {
 
     #[tactic(auto, unfolding(road_text::specs::Texts::spelled))]
     fn fill_reached(&mut self, vertex: u64, reached: Reached)
-        ensures { self.new ≡ spelled (codes "d" ∷ decimal vertex ∷ decimal reached.code ∷ decimal reached.hops ∷ decimal reached.parent ∷ []) }
+        ensures { self.new ≡ spelled (codes "d" ∷ decimal vertex ∷ decimal reached.code ∷ decimal
+            reached.hops ∷ decimal reached.parent ∷ []) }
     {
         self.clear();
         self.put(b'\n');
@@ -102,7 +103,7 @@ impl VertexLine {
         self.put(b'u');
     }
 
-    /// Becomes the line of a vertex, whatever it was.
+    /// Makes this the line of a vertex, whatever it was.
     pub(crate) fn fill(&mut self, vertex: u64, reached: Option<Reached>)
         ensures { self.new ≡ spelled (vertex_words vertex reached) }
     {

@@ -1,9 +1,9 @@
-//! Writes answers, line by line. Nothing here takes memory.
+//! Writes answers, line by line. Nothing here allocates memory.
 ghost use Rattle.std.specs.Prelude.{◌≡◌, ◌≤◌, ◌<◌, ◌^◌, ◌++◌, ◌∷◌, [], codes, length, map, option_map};
 ghost use Rattle.road_text.specs.Texts.{list_words, spelled, text_of};
 ghost use Rattle.road_text.specs.Written.{WritesText};
 ghost use Rattle.answer_text.specs.AnswerText.{answer_text, answers_text, blocks_text, found_lines, found_words, header_text, pair_words, source_words, vertex_lines, vertex_words};
-ghost use Rattle.answer_text.specs.Told.{found_of, told_list_of, told_of};
+ghost use Rattle.answer_text.specs.AnswerData.{found_of, answer_list, answer_data};
 
 use crate::answers::{Answer, Answers, Found, Reached};
 use crate::lines::{line_of_found, line_of_header, line_of_pair, line_of_source};
@@ -28,36 +28,39 @@ pub fn write_header<W: RoadWrite>(
     write_bytes(to, line_of_header(kind, count, name).as_str().as_bytes())
 }
 
-/// Writes the first line of an answer from one source. `write_vertex_line` writes the lines that follow it.
+/// Writes the first line of an answer from one source. `write_vertex_line` writes those that follow.
 pub fn write_source_line<W: RoadWrite>(to: &mut W, source: Vertex) -> Result<(), WriteFault>
     ensures { WritesText W.written W.failures to.old to.new (spelled (source_words source)) result }
 {
     write_bytes(to, line_of_source(source).as_str().as_bytes())
 }
 
-/// Writes the first line of an answer from several sources. `write_vertex_line` writes the lines that follow it.
+/// Writes the first line of an answer from several sources. `write_vertex_line` writes those that follow.
 pub fn write_sources_line<W: RoadWrite>(to: &mut W, sources: &[Vertex]) -> Result<(), WriteFault>
-    ensures { WritesText W.written W.failures to.old to.new (spelled (list_words (codes "m") sources.now)) result }
+    ensures { WritesText W.written W.failures to.old to.new
+        (spelled (list_words (codes "m") sources.now)) result }
 {
     write_list(to, b"m", sources)
 }
 
-/// Writes the line of a vertex. `line` is room for the text of it, whatever it holds: one serves for all vertices.
+/// Writes the line of a vertex. `line` is room for its text, with any content: one serves for all vertices.
 pub fn write_vertex_line<W: RoadWrite>(
     to: &mut W,
     line: &mut VertexLine,
     vertex: u64,
     reached: Option<Reached>,
 ) -> Result<(), WriteFault>
-    ensures { WritesText W.written W.failures to.old to.new (spelled (vertex_words vertex reached)) result }
+    ensures { WritesText W.written W.failures to.old to.new (spelled (vertex_words vertex reached))
+        result }
 {
     line.fill(vertex, reached);
     write_bytes(to, line.as_bytes())
 }
 
-// Writes the lines of all vertices.
+/// Writes the lines of all vertices.
 fn write_vertices<W: RoadWrite>(to: &mut W, lines: &[Option<Reached>]) -> Result<(), WriteFault>
-    ensures { WritesText W.written W.failures to.old to.new (text_of (vertex_lines 1 lines.now)) result }
+    ensures { WritesText W.written W.failures to.old to.new (text_of (vertex_lines 1 lines.now))
+        result }
 {
     let mut vertex: u64 = 0;
     let mut text = VertexLine::new();
@@ -68,27 +71,29 @@ fn write_vertices<W: RoadWrite>(to: &mut W, lines: &[Option<Reached>]) -> Result
     Ok(())
 }
 
-// Writes an answer whose first line is named by one source.
+/// Writes an answer whose first line names one source.
 #[tactic(auto, using(road_text::proofs::WriteLaws::wrote_then, road_text::proofs::WriteLaws::fell_first))]
 fn write_source<W: RoadWrite>(
     to: &mut W,
     source: Vertex,
     lines: &[Option<Reached>],
 ) -> Result<(), WriteFault>
-    ensures { WritesText W.written W.failures to.old to.new (spelled (source_words source) ++ text_of (vertex_lines 1 lines.now)) result }
+    ensures { WritesText W.written W.failures to.old to.new (spelled (source_words source) ++
+        text_of (vertex_lines 1 lines.now)) result }
 {
     write_source_line(to, source)?;
     write_vertices(to, lines)
 }
 
-// Writes an answer whose first line is named by several sources.
+/// Writes an answer whose first line names several sources.
 #[tactic(auto, using(road_text::proofs::WriteLaws::wrote_then, road_text::proofs::WriteLaws::fell_first))]
 fn write_multi<W: RoadWrite>(
     to: &mut W,
     sources: &[Vertex],
     lines: &[Option<Reached>],
 ) -> Result<(), WriteFault>
-    ensures { WritesText W.written W.failures to.old to.new (spelled (list_words (codes "m") sources.now) ++ text_of (vertex_lines 1 lines.now)) result }
+    ensures { WritesText W.written W.failures to.old to.new
+        (spelled (list_words (codes "m") sources.now) ++ text_of (vertex_lines 1 lines.now)) result }
 {
     write_sources_line(to, sources)?;
     write_vertices(to, lines)
@@ -99,7 +104,8 @@ fn write_pair_line<W: RoadWrite>(
     source: Vertex,
     target: Vertex,
 ) -> Result<(), WriteFault>
-    ensures { WritesText W.written W.failures to.old to.new (spelled (pair_words source target)) result }
+    ensures { WritesText W.written W.failures to.old to.new (spelled (pair_words source target))
+        result }
 {
     write_bytes(to, line_of_pair(source, target).as_str().as_bytes())
 }
@@ -124,20 +130,22 @@ fn write_found<W: RoadWrite>(
     hops: u32,
     route: &[Vertex],
 ) -> Result<(), WriteFault>
-    ensures { WritesText W.written W.failures to.old to.new (text_of (found_words code hops ∷ list_words (codes "r") route.now ∷ [])) result }
+    ensures { WritesText W.written W.failures to.old to.new
+        (text_of (found_words code hops ∷ list_words (codes "r") route.now ∷ [])) result }
 {
     write_found_line(to, code, hops)?;
     write_list(to, b"r", route)
 }
 
-// Writes the answer of a pair.
+/// Writes the answer of a pair.
 fn write_pair<W: RoadWrite>(
     to: &mut W,
     source: Vertex,
     target: Vertex,
     found: &Option<Found>,
 ) -> Result<(), WriteFault>
-    ensures { WritesText W.written W.failures to.old to.new (text_of (pair_words source target ∷ found_lines (option_map found_of found.now))) result }
+    ensures { WritesText W.written W.failures to.old to.new
+        (text_of (pair_words source target ∷ found_lines (option_map found_of found.now))) result }
 {
     write_pair_line(to, source, target)?;
     match found {
@@ -149,7 +157,8 @@ fn write_pair<W: RoadWrite>(
 /// Writes an answer.
 #[tactic(auto, unfolding(crate::specs::AnswerText::answer_text))]
 pub fn write_answer<W: RoadWrite>(to: &mut W, answer: &Answer) -> Result<(), WriteFault>
-    ensures { WritesText W.written W.failures to.old to.new (answer_text (told_of answer.now)) result }
+    ensures { WritesText W.written W.failures to.old to.new (answer_text (answer_data answer.now))
+        result }
 {
     match answer {
         Answer::Source { source, lines } => write_source(to, *source, lines.as_slice()),
@@ -162,9 +171,10 @@ pub fn write_answer<W: RoadWrite>(to: &mut W, answer: &Answer) -> Result<(), Wri
     }
 }
 
-// Writes answers, one after the other.
+/// Writes answers, one after the other.
 fn write_blocks<W: RoadWrite>(to: &mut W, answers: &[Answer]) -> Result<(), WriteFault>
-    ensures { WritesText W.written W.failures to.old to.new (blocks_text (map told_of answers.now)) result }
+    ensures { WritesText W.written W.failures to.old to.new
+        (blocks_text (map answer_data answers.now)) result }
 {
     for answer in answers {
         write_answer(to, answer)?;
@@ -176,7 +186,8 @@ fn write_blocks<W: RoadWrite>(to: &mut W, answers: &[Answer]) -> Result<(), Writ
 #[tactic(auto, using(road_text::proofs::WriteLaws::wrote_then, road_text::proofs::WriteLaws::fell_first))]
 pub fn write_answers<W: RoadWrite>(to: &mut W, answers: &Answers) -> Result<(), WriteFault>
     requires { length answers.now.list.items ≤ MAX_ANSWERS }
-    ensures { WritesText W.written W.failures to.old to.new (answers_text (told_list_of answers.now)) result }
+    ensures { WritesText W.written W.failures to.old to.new (answers_text (answer_list answers.now))
+        result }
 {
     write_header(to, answers.kind, answers.list.len() as u32, answers.name)?;
     write_blocks(to, answers.list.as_slice())

@@ -1,4 +1,4 @@
-//! A count that contracts alone see: it says how often something happened, and takes no bytes in a program.
+//! A ghost count of how often something happened. Only contracts see it, and it takes no bytes at run time.
 #![tactic(auto)]
 
 ghost use Rattle.std.specs.Prelude.{◌≡◌, ℕ, ◌+◌};
@@ -6,7 +6,7 @@ ghost use base.Fml.{ftrue};
 
 use std::marker::Model;
 
-/// A count of events. Its number stands in contracts alone; its methods do nothing when they run.
+/// A count of events. Its number is ghost: only contracts see it, and the methods do nothing at run time.
 #[derive(Drop)]
 pub struct Count {
     pub ghost total: { ℕ },
@@ -24,7 +24,7 @@ impl Count {
         Count {}
     }
 
-    /// The count with one event more.
+    /// The count after one more event.
     pub fn next(&self) -> Count
         ensures { result.total ≡ self.now.total + 1 }
     {

@@ -4,7 +4,7 @@ use Rattle.std.specs.List.{AllByRecursion}
 use Rattle.std.proofs.lemmas.Bool.{le-ltb}
 use Rattle.std.proofs.lemmas.Grind.{flat_map-append}
 use Rattle.road_graph.specs.declared.RoadArc.{RoadArc}
-use Rattle.road_graph.specs.Roads.{Roads, IsRoads}
+use Rattle.road_graph.specs.GraphData.{GraphData, IsGraph}
 use Rattle.road_text.specs.Rules.{◌>>=◌, text_value, text_read}
 use Rattle.road_text.specs.Texts.{text_of, spelled, AreLines}
 use Rattle.road_text.specs.Words.{word_of}
@@ -29,7 +29,7 @@ unfolding begins_questions
 arcs_stay [] = tt
 arcs_stay (a ∷ arcs) = (refl, arcs_stay arcs)
 
-graph_stays : (g : Roads) → StaysInGraph (graph_lines g)
+graph_stays : (g : GraphData) → StaysInGraph (graph_lines g)
 unfolding begins_questions
 graph_stays g = (refl, arcs_stay g.arcs)
 
@@ -58,11 +58,11 @@ both_lines : (ls more : List (List (List ℕ))) → AreLines ls → AreLines mor
 both_lines [] more h k = k
 both_lines (l ∷ ls) more h k = (h.0, both_lines ls more h.1 k)
 
-texts_together : (g : Roads) (a : Asked) → text_of (graph_lines g ++ question_lines a) ≡ gr_text g ++ questions_text a
+texts_together : (g : GraphData) (a : Asked) → text_of (graph_lines g ++ question_lines a) ≡ gr_text g ++ questions_text a
 unfolding gr_text questions_text
 texts_together g a = flat_map-append spelled (graph_lines g) (question_lines a)
 
-module _ (g : Roads) (q : Questions) (h : IsRoads g) (fit : AreQuestionsOf g.vertices q) where
+module _ (g : GraphData) (q : Questions) (h : IsGraph g) (fit : AreQuestionsOf g.vertices q) where
   roads : RoadsSoFar
   roads = record { vertices = g.vertices; announced = length g.arcs; arcs = g.arcs }
 
@@ -90,11 +90,11 @@ module _ (g : Roads) (q : Questions) (h : IsRoads g) (fit : AreQuestionsOf g.ver
       ap (text_value bundle_rules) (sym (texts_together g (asked_of q))) ∙ value_again bundle_rules _ (g, asked_of q) (graph_lines g ++ question_lines (asked_of q)) all read ended
 
 -- the same where the text is not too long
-pub bundle_again : (g : Roads) (q : Questions) → IsRoads g → AreQuestionsOf g.vertices q → length (gr_text g ++ questions_text (asked_of q)) ≤ 4294967296 → text_read bundle_rules (gr_text g ++ questions_text (asked_of q)) ≡ Ok (g, asked_of q)
+pub bundle_again : (g : GraphData) (q : Questions) → IsGraph g → AreQuestionsOf g.vertices q → length (gr_text g ++ questions_text (asked_of q)) ≤ 4294967296 → text_read bundle_rules (gr_text g ++ questions_text (asked_of q)) ≡ Ok (g, asked_of q)
 bundle_again g q h fit few = read_again bundle_rules (g, asked_of q) (gr_text g ++ questions_text (asked_of q)) few (value_of_bundle g q h fit)
 
 -- which only lists of sources can make it
-pub short_bundle : (g : Roads) (q : Questions) → IsRoads g → AreQuestionsOf g.vertices q → (asked_of q).kind ≢ Multi → length (gr_text g ++ questions_text (asked_of q)) ≤ 4294967296
+pub short_bundle : (g : GraphData) (q : Questions) → IsGraph g → AreQuestionsOf g.vertices q → (asked_of q).kind ≢ Multi → length (gr_text g ++ questions_text (asked_of q)) ≤ 4294967296
 short_bundle g q h fit other =
     let graph : length (gr_text g) ≤ 31 * 134217728 + 24 = graph_length g h in
     let questions : length (questions_text (asked_of q)) ≤ 20 * 1048576 + 21 = short_text g.vertices q h.few_vertices other fit in

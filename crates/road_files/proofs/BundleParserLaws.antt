@@ -2,11 +2,11 @@
 use Rattle.std.proofs.Common.{◌≡◌, ℕ, ◌<◌, List, [], ◌∷◌, length, take, map, Bool, false, Option, None, Ok, Err, refl, sym, ap, ◌∙◌, arith, lit<, codes, subst}
 use Rattle.std.proofs.lemmas.Bool.{lt-ltb}
 use Rattle.std.specs.Option.{IfSome}
-use Rattle.road_graph.specs.Roads.{Roads}
+use Rattle.road_graph.specs.GraphData.{GraphData}
 use Rattle.road_text.specs.declared.faults.ReadFault.{ReadFault}
 use Rattle.road_text.specs.declared.slots.Slot.{Slot}
 use Rattle.road_text.specs.Lines.{fields}
-use Rattle.road_text.specs.Rules.{◌>>=◌, reading}
+use Rattle.road_text.specs.Rules.{◌>>=◌, value_of_lines}
 use Rattle.road_text.specs.ShortLines.{HasShortFields}
 use Rattle.road_text.specs.Slots.{word_in}
 use Rattle.road_text.specs.Takes.{ShowsLine}
@@ -20,7 +20,7 @@ use Rattle.road_files.specs.declared.graph_parser.GraphParser.{GraphParser}
 use Rattle.road_files.specs.GraphFiles.{RoadsSoFar, gr_line}
 use Rattle.road_files.specs.GraphTakes.{roads_so_far, taken_of}
 use Rattle.road_files.specs.QuestionFiles.{question_line, question_line_of}
-use Rattle.road_files.specs.QuestionTakes.{sources_given, begun_of}
+use Rattle.road_files.specs.QuestionTakes.{sources_given, questions_begun}
 use Rattle.road_files.specs.BundleFiles.{InGraph, InQuestions, begins_questions, bundle_line, bundle_with, bundle_rules}
 use Rattle.road_files.specs.BundleTakes.{bundle_so_far, kept_line, PartSoFar, GivesBundle}
 use Rattle.road_files.proofs.GraphParserLaws.{few}
@@ -48,9 +48,9 @@ kept_rule (parts.Graph g) slots l shown h =
     sym (graph_held (taken_of g) (map word_of (fields l)) (few g.taken)) ∙ ap (bundle_line (InGraph (taken_of g))) (ap (take 6) (held_words (fields l)) ∙ sym shown)
 kept_rule (parts.Questions p) slots l shown h =
     let list = p.questions.list in
-    let same : question_line p.roads.vertices None (begun_of p.questions) (map word_of (fields l)) ≡ question_line_of p.roads.vertices None (begun_of p.questions) (map word_in slots) list.is_list list.count (sources_given list) =
-    subst (λ n. question_line n None (begun_of p.questions) (map word_of (fields l)) ≡ question_line_of n None (begun_of p.questions) (map word_in slots) list.is_list list.count (sources_given list)) p.same
-    (list_rule list None (begun_of p.questions) slots l shown h) in
+    let same : question_line p.roads.vertices None (questions_begun p.questions) (map word_of (fields l)) ≡ question_line_of p.roads.vertices None (questions_begun p.questions) (map word_in slots) list.is_list list.count (sources_given list) =
+    subst (λ n. question_line n None (questions_begun p.questions) (map word_of (fields l)) ≡ question_line_of n None (questions_begun p.questions) (map word_in slots) list.is_list list.count (sources_given list)) p.same
+    (list_rule list None (questions_begun p.questions) slots l shown h) in
     ap (λ r. r >>= λ q. Ok (InQuestions (roads_so_far p.roads) q)) same
 
 -- a line of the letter `a` and three numbers does not end the graph part
@@ -66,12 +66,12 @@ short_rule p g new l letter tail head weight was a h taken =
     ap (λ b. bundle_line b (map word_of (fields l))) was ∙ rw (none, taken) refl
 
 -- what a new parser gives is the text's by the rules
-module _ {G : Type 0} (roads : G → Roads) (p : BundlePart) (start : bundle_so_far p ≡ InGraph None) where
-  pub by_value : (cut : Bool) (ls : List (List ℕ)) (b : G × Questions) → GivesBundle roads cut p 1 ls (Ok b) → reading cut bundle_rules 1 (InGraph None) ls ≡ Ok (bundle_with roads b)
-  by_value cut ls b h = subst (λ o. reading cut bundle_rules 1 o ls ≡ Ok (bundle_with roads b)) start h.0
+module _ {G : Type 0} (roads : G → GraphData) (p : BundlePart) (start : bundle_so_far p ≡ InGraph None) where
+  pub by_value : (cut : Bool) (ls : List (List ℕ)) (b : G × Questions) → GivesBundle roads cut p 1 ls (Ok b) → value_of_lines cut bundle_rules 1 (InGraph None) ls ≡ Ok (bundle_with roads b)
+  by_value cut ls b h = subst (λ o. value_of_lines cut bundle_rules 1 o ls ≡ Ok (bundle_with roads b)) start h.0
 
-  pub by_fault : (cut : Bool) (ls : List (List ℕ)) (f : ReadFault) → GivesBundle roads cut p 1 ls (Err f) → reading cut bundle_rules 1 (InGraph None) ls ≡ Err f
-  by_fault cut ls f h = subst (λ o. reading cut bundle_rules 1 o ls ≡ Err f) start h.0
+  pub by_fault : (cut : Bool) (ls : List (List ℕ)) (f : ReadFault) → GivesBundle roads cut p 1 ls (Err f) → value_of_lines cut bundle_rules 1 (InGraph None) ls ≡ Err f
+  by_fault cut ls f h = subst (λ o. value_of_lines cut bundle_rules 1 o ls ≡ Err f) start h.0
 
   pub by_fit : (cut : Bool) (ls : List (List ℕ)) (b : G × Questions) → GivesBundle roads cut p 1 ls (Ok b) → AreQuestionsOf (roads b.0).vertices b.1
   by_fit cut ls b h = h.1

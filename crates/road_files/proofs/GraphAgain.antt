@@ -6,7 +6,7 @@ use Rattle.std.proofs.lemmas.Fmt.{length-decimal-le}
 use Rattle.std.proofs.lemmas.List.{get_or_default}
 use Rattle.std.proofs.lemmas.List.Elements.{recursion_from_All}
 use Rattle.road_graph.specs.declared.RoadArc.{RoadArc}
-use Rattle.road_graph.specs.Roads.{Roads, IsRoads, JoinsVertices}
+use Rattle.road_graph.specs.GraphData.{GraphData, IsGraph, JoinsVertices}
 use Rattle.road_text.specs.Rules.{text_read}
 use Rattle.road_text.specs.Texts.{text_of, spelled, AreLines}
 use Rattle.road_text.specs.Words.{word_of}
@@ -20,7 +20,7 @@ use Rattle.road_files.proofs.LinesInARow.{arc_at}
 abbrev pub IsArcOf : ℕ → RoadArc → Type 0
 IsArcOf n a = JoinsVertices n a × (a.weight < 2 ^ 32)
 
-pub arcs_of_roads : (g : Roads) → IsRoads g → AllByRecursion (IsArcOf g.vertices) g.arcs
+pub arcs_of_roads : (g : GraphData) → IsGraph g → AllByRecursion (IsArcOf g.vertices) g.arcs
 arcs_of_roads g h = recursion_from_All (IsArcOf g.vertices) g.arcs (λ k d lt.
     let e = arc_at g k ∙ get_or_default g.arcs k (record { tail = 0; head = 0; weight = 0 }) d lt in
     subst (IsArcOf g.vertices) e (h.ends (k + 1) (omega arith, omega arith), h.weights (k + 1) (omega arith, omega arith)))
@@ -53,7 +53,7 @@ arcs_after n m done (a ∷ arcs) small room h =
     rw (arc_step n m done a small (omega arith) h.0)
     (arcs_after n m (done ++ a ∷ []) arcs small (omega (arith, length-append done (a ∷ []))) h.1 ∙ ap (λ xs. Ok (Some (record { vertices = n; announced = m; arcs = xs }))) (append_assoc done (a ∷ []) arcs))
 
-pub graph_after : (g : Roads) → IsRoads g → after gr_rules None (graph_lines g) ≡ Ok (Some (record { vertices = g.vertices; announced = length g.arcs; arcs = g.arcs }))
+pub graph_after : (g : GraphData) → IsGraph g → after gr_rules None (graph_lines g) ≡ Ok (Some (record { vertices = g.vertices; announced = length g.arcs; arcs = g.arcs }))
 graph_after g h = rw (problem_step g.vertices (length g.arcs) h.few_vertices h.few_arcs) (arcs_after g.vertices (length g.arcs) [] g.arcs h.few_vertices (omega arith) (arcs_of_roads g h))
 
 arcs_are_lines : (n : ℕ) (arcs : List RoadArc) → n ≤ 33554432 → AllByRecursion (IsArcOf n) arcs → AreLines (map arc_words arcs)
@@ -62,7 +62,7 @@ arcs_are_lines n (a ∷ arcs) small h =
     let ends = h.0.0 in
     ((word_by_test (codes "a") refl, (word_of_number a.tail (omega (arith, ends.0.1)), (word_of_number a.head (omega (arith, ends.1.1)), (word_of_number a.weight (omega (arith, h.0.1)), tt)))), arcs_are_lines n arcs small h.1)
 
-pub graph_are_lines : (g : Roads) → IsRoads g → AreLines (graph_lines g)
+pub graph_are_lines : (g : GraphData) → IsGraph g → AreLines (graph_lines g)
 graph_are_lines g h =
     let few = h.few_vertices in let many = h.few_arcs in
     ((word_by_test (codes "p") refl, (word_by_test (codes "sp") refl, (word_of_number g.vertices (omega arith), (word_of_number (length g.arcs) (omega arith), tt)))), arcs_are_lines g.vertices g.arcs few (arcs_of_roads g h))
@@ -92,7 +92,7 @@ problem_length n m p q =
     let u : length (decimal m) ≤ 9 = length-decimal-le 9 m (lit< tt) (omega arith) (omega arith) in
     simp length-append (omega arith)
 
-pub graph_length : (g : Roads) → IsRoads g → length (gr_text g) ≤ 31 * 134217728 + 24
+pub graph_length : (g : GraphData) → IsGraph g → length (gr_text g) ≤ 31 * 134217728 + 24
 unfolding gr_text
 graph_length g h =
     let few = h.few_vertices in let many = h.few_arcs in
@@ -102,7 +102,7 @@ graph_length g h =
     omega arith
 
 -- the text of a graph has its value
-pub graph_again : (g : Roads) → IsRoads g → text_read gr_rules (gr_text g) ≡ Ok g
+pub graph_again : (g : GraphData) → IsGraph g → text_read gr_rules (gr_text g) ≡ Ok g
 unfolding gr_text
 graph_again g h =
     let ended : gr_end (Some (record { vertices = g.vertices; announced = length g.arcs; arcs = g.arcs })) ≡ Ok g = rw (le-ltb (length g.arcs) (length g.arcs) (omega arith)) refl in

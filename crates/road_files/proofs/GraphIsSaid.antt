@@ -4,13 +4,13 @@ use Rattle.std.specs.Prelude.{bytes_eq, slice_index, is_none}
 use Rattle.std.proofs.lemmas.Bool.{ltb-true, ltb-false, ne_eqb}
 use Rattle.std.proofs.lemmas.Slice.Eq.{bytes_eq-Decides}
 use Rattle.road_graph.specs.declared.RoadArc.{RoadArc}
-use Rattle.road_graph.specs.Roads.{Roads}
+use Rattle.road_graph.specs.GraphData.{GraphData}
 use Rattle.road_text.specs.Lines.{lines, fields, number}
-use Rattle.road_text.specs.Rules.{◌>>=◌, unless, at_line, reading, text_value, text_read}
+use Rattle.road_text.specs.Rules.{◌>>=◌, unless, at_line, value_of_lines, text_value, text_read}
 use Rattle.road_text.specs.Words.{Word, word_of, word_at}
 use Rattle.road_files.specs.GraphFiles.{RoadsSoFar, gr_problem, one_arc, gr_arc, gr_line, gr_whole, graph_read, gr_end, gr_rules}
 use Rattle.road_files.specs.Numbers.{up_to, vertex_in}
-use Rattle.road_files.specs.GraphLines.{first_of, arc_lines, problem_lines, SaysArc, SayArcs, SayGraph}
+use Rattle.road_files.specs.GraphLines.{first_field, arc_lines, problem_lines, SaysArc, SayArcs, SayGraph}
 
 -- what goes well has gone well in each of its parts
 
@@ -127,15 +127,15 @@ took_problem s fs t e =
 
 -- what a line did that broke no rule: nothing, or it is a problem line, or an arc line
 data Took (s t : Option RoadsSoFar) (fs : List (List ℕ)) : Type 0 where
-  Nothing : (same : s ≡ t) → (no_arc : bytes_eq (first_of fs) (codes "a") ≡ false) → (no_problem : bytes_eq (first_of fs) (codes "p") ≡ false) → Took s t fs
-  Problem : (first : first_of fs ≡ codes "p") → (took : TookProblem s fs t) → Took s t fs
-  Arc : (before after : RoadsSoFar) → (was : s ≡ Some before) → (is : t ≡ Some after) → (first : first_of fs ≡ codes "a") → (took : TookArc before fs after) → Took s t fs
+  Nothing : (same : s ≡ t) → (no_arc : bytes_eq (first_field fs) (codes "a") ≡ false) → (no_problem : bytes_eq (first_field fs) (codes "p") ≡ false) → Took s t fs
+  Problem : (first : first_field fs ≡ codes "p") → (took : TookProblem s fs t) → Took s t fs
+  Arc : (before after : RoadsSoFar) → (was : s ≡ Some before) → (is : t ≡ Some after) → (first : first_field fs ≡ codes "a") → (took : TookArc before fs after) → Took s t fs
 
 other_bytes : (x y : List ℕ) → (x ≡ y → ⊥) → (b : Bool) → bytes_eq x y ≡ b → bytes_eq x y ≡ false
 other_bytes x y differ true e = absurd (differ (same_bytes x y e))
 other_bytes x y differ false e = e
 
-took_arc_line : (s t : Option RoadsSoFar) (fs : List (List ℕ)) → first_of fs ≡ codes "a" → gr_arc s (map word_of fs) ≡ Ok t → Took s t fs
+took_arc_line : (s t : Option RoadsSoFar) (fs : List (List ℕ)) → first_field fs ≡ codes "a" → gr_arc s (map word_of fs) ≡ Ok t → Took s t fs
 took_arc_line None t fs first e = cc
 took_arc_line (Some r) t fs first e =
     let more = then_ok (one_arc r (map word_of fs)) _ t e in
@@ -163,7 +163,7 @@ took_line s t [] e = Nothing (let z : ◌≡◌ {A = Result (Option RoadsSoFar) 
 took_line s t (f ∷ fs) e = took_field s t f fs (slice_index f 0 == 99) (bytes_eq f (codes "p")) (bytes_eq f (codes "a")) refl refl refl (sym (line_of s f fs) ∙ e)
 
 -- what the lines behind a problem line say: the arcs that come after those that were taken
-record SayRest (s : RoadsSoFar) (ls : List (List ℕ)) (g : Roads) : Type 0 where
+record SayRest (s : RoadsSoFar) (ls : List (List ℕ)) (g : GraphData) : Type 0 where
   more : List RoadArc
   arcs_are : g.arcs ≡ s.arcs ++ more
   arcs : SayArcs (arc_lines ls) more
@@ -175,7 +175,7 @@ not_so : (b : Bool) → not b ≡ true → b ≡ false
 not_so true e = cc
 not_so false e = refl
 
-say_end : (at : ℕ) (s : RoadsSoFar) (g : Roads) → length s.arcs ≤ s.announced → at_line at (gr_end (Some s)) ≡ Ok g → SayRest s [] g
+say_end : (at : ℕ) (s : RoadsSoFar) (g : GraphData) → length s.arcs ≤ s.announced → at_line at (gr_end (Some s)) ≡ Ok g → SayRest s [] g
 say_end at s g room e =
     let h = at_line_ok at (gr_end (Some s)) g e in
     let w = then_ok (gr_whole (Some s)) _ g h in
@@ -184,41 +184,41 @@ say_end at s g room e =
     let is : g ≡ graph_read s = (let z = w.2 in cc) in
     record {
       more = [];
-      arcs_are = ap (λ (r : Roads). r.arcs) is ∙ sym (append-nil s.arcs);
+      arcs_are = ap (λ (r : GraphData). r.arcs) is ∙ sym (append-nil s.arcs);
       arcs = tt;
-      vertices = ap (λ (r : Roads). r.vertices) is;
-      announced = (let l : length g.arcs ≡ length s.arcs = ap (λ (r : Roads). length r.arcs) is in let le = ltb-false (length s.arcs) s.announced (not_so (nat_lt (length s.arcs) s.announced) all.0) in omega (arith, l, le, room));
+      vertices = ap (λ (r : GraphData). r.vertices) is;
+      announced = (let l : length g.arcs ≡ length s.arcs = ap (λ (r : GraphData). length r.arcs) is in let le = ltb-false (length s.arcs) s.announced (not_so (nat_lt (length s.arcs) s.announced) all.0) in omega (arith, l, le, room));
       no_problem = refl;
     }
 
 -- which lines begin with the letters
 
-taken_arc : (l : List ℕ) (ls : List (List ℕ)) → bytes_eq (first_of (fields l)) (codes "a") ≡ true → arc_lines (l ∷ ls) ≡ l ∷ arc_lines ls
+taken_arc : (l : List ℕ) (ls : List (List ℕ)) → bytes_eq (first_field (fields l)) (codes "a") ≡ true → arc_lines (l ∷ ls) ≡ l ∷ arc_lines ls
 taken_arc l ls e = rw e refl
 
-taken_problem : (l : List ℕ) (ls : List (List ℕ)) → bytes_eq (first_of (fields l)) (codes "p") ≡ true → problem_lines (l ∷ ls) ≡ l ∷ problem_lines ls
+taken_problem : (l : List ℕ) (ls : List (List ℕ)) → bytes_eq (first_field (fields l)) (codes "p") ≡ true → problem_lines (l ∷ ls) ≡ l ∷ problem_lines ls
 taken_problem l ls e = rw e refl
 
-arc_is_no_problem : (l : List ℕ) (ls : List (List ℕ)) → first_of (fields l) ≡ codes "a" → problem_lines (l ∷ ls) ≡ problem_lines ls
+arc_is_no_problem : (l : List ℕ) (ls : List (List ℕ)) → first_field (fields l) ≡ codes "a" → problem_lines (l ∷ ls) ≡ problem_lines ls
 arc_is_no_problem l ls e = rw e refl
 
-problem_is_no_arc : (l : List ℕ) (ls : List (List ℕ)) → first_of (fields l) ≡ codes "p" → arc_lines (l ∷ ls) ≡ arc_lines ls
+problem_is_no_arc : (l : List ℕ) (ls : List (List ℕ)) → first_field (fields l) ≡ codes "p" → arc_lines (l ∷ ls) ≡ arc_lines ls
 problem_is_no_arc l ls e = rw e refl
 
-module _ (g : Roads) where
-  passed_over : (l : List ℕ) (ls : List (List ℕ)) → bytes_eq (first_of (fields l)) (codes "a") ≡ false → bytes_eq (first_of (fields l)) (codes "p") ≡ false
+module _ (g : GraphData) where
+  passed_over : (l : List ℕ) (ls : List (List ℕ)) → bytes_eq (first_field (fields l)) (codes "a") ≡ false → bytes_eq (first_field (fields l)) (codes "p") ≡ false
       → (arc_lines (l ∷ ls) ≡ arc_lines ls) × (problem_lines (l ∷ ls) ≡ problem_lines ls)
   passed_over l ls a p = (rw a refl, rw p refl)
 
-  begins_so : (l w : List ℕ) → first_of (fields l) ≡ w → bytes_eq (first_of (fields l)) w ≡ true
-  begins_so l w e = (bytes_eq-Decides (first_of (fields l)) w).1 e
+  begins_so : (l w : List ℕ) → first_field (fields l) ≡ w → bytes_eq (first_field (fields l)) w ≡ true
+  begins_so l w e = (bytes_eq-Decides (first_field (fields l)) w).1 e
 
-  say_arc : (l : List ℕ) (r t : RoadsSoFar) → first_of (fields l) ≡ codes "a" → (k : TookArc r (fields l) t) → SaysArc l k.arc
+  say_arc : (l : List ℕ) (r t : RoadsSoFar) → first_field (fields l) ≡ codes "a" → (k : TookArc r (fields l) t) → SaysArc l k.arc
   say_arc l r t first k = record {
     tail = k.tail;
     head = k.head;
     weight = k.weight;
-    fields_are = k.fields_are ∙ ap (λ x. x ∷ k.tail ∷ k.head ∷ k.weight ∷ []) (ap first_of (sym k.fields_are) ∙ first);
+    fields_are = k.fields_are ∙ ap (λ x. x ∷ k.tail ∷ k.head ∷ k.weight ∷ []) (ap first_field (sym k.fields_are) ∙ first);
     tail_is = k.tail_is;
     head_is = k.head_is;
     weight_is = k.weight_is;
@@ -226,11 +226,11 @@ module _ (g : Roads) where
 
   -- what the lines from a number on say, behind a problem line
   abbrev Behind : ℕ → List (List ℕ) → Type 0
-  Behind at ls = (s : RoadsSoFar) → length s.arcs ≤ s.announced → reading false gr_rules at (Some s) ls ≡ Ok g → SayRest s ls g
+  Behind at ls = (s : RoadsSoFar) → length s.arcs ≤ s.announced → value_of_lines false gr_rules at (Some s) ls ≡ Ok g → SayRest s ls g
 
-  say_line : (at : ℕ) (s : RoadsSoFar) (l : List ℕ) (ls : List (List ℕ)) (t : Option RoadsSoFar) → Behind (at + 1) ls → length s.arcs ≤ s.announced → Took (Some s) t (fields l) → reading false gr_rules (at + 1) t ls ≡ Ok g → SayRest s (l ∷ ls) g
+  say_line : (at : ℕ) (s : RoadsSoFar) (l : List ℕ) (ls : List (List ℕ)) (t : Option RoadsSoFar) → Behind (at + 1) ls → length s.arcs ≤ s.announced → Took (Some s) t (fields l) → value_of_lines false gr_rules (at + 1) t ls ≡ Ok g → SayRest s (l ∷ ls) g
   say_line at s l ls t behind room (Nothing same a p) e =
-      let r = behind s room (subst (λ (u : Option RoadsSoFar). reading false gr_rules (at + 1) u ls ≡ Ok g) (sym same) e) in
+      let r = behind s room (subst (λ (u : Option RoadsSoFar). value_of_lines false gr_rules (at + 1) u ls ≡ Ok g) (sym same) e) in
       let over = passed_over l ls a p in
       record { more = r.more; arcs_are = r.arcs_are; arcs = subst (λ ks. SayArcs ks r.more) (sym over.0) r.arcs; vertices = r.vertices; announced = r.announced; no_problem = over.1 ∙ r.no_problem }
   say_line at s l ls t behind room (Problem first k) e = let z = k.before in cc
@@ -238,7 +238,7 @@ module _ (g : Roads) where
       let old : s ≡ before = cc in
       let now : t ≡ Some (record s { arcs = s.arcs ++ k.arc ∷ [] }) = is ∙ ap (λ (u : RoadsSoFar). Some u) k.after ∙ ap (λ (u : RoadsSoFar). Some (record u { arcs = u.arcs ++ k.arc ∷ [] })) (sym old) in
       let place : length s.arcs < s.announced = subst (λ (u : RoadsSoFar). length u.arcs < u.announced) (sym old) k.room in
-      let r = behind (record s { arcs = s.arcs ++ k.arc ∷ [] }) (let n = length-append s.arcs (k.arc ∷ []) in omega (arith, n, place)) (subst (λ (u : Option RoadsSoFar). reading false gr_rules (at + 1) u ls ≡ Ok g) now e) in
+      let r = behind (record s { arcs = s.arcs ++ k.arc ∷ [] }) (let n = length-append s.arcs (k.arc ∷ []) in omega (arith, n, place)) (subst (λ (u : Option RoadsSoFar). value_of_lines false gr_rules (at + 1) u ls ≡ Ok g) now e) in
       record {
         more = k.arc ∷ r.more;
         arcs_are = r.arcs_are ∙ append_assoc s.arcs (k.arc ∷ []) r.more;
@@ -254,15 +254,15 @@ module _ (g : Roads) where
       let h = then_ok (at_line at (gr_line (Some s) (map word_of (fields l)))) _ g e in
       say_line at s l ls h.0 (say_more (at + 1) ls) room (took_line (Some s) h.0 (fields l) (at_line_ok at (gr_line (Some s) (map word_of (fields l))) h.0 h.1)) h.2
 
-  say_first : (at : ℕ) (l : List ℕ) (ls : List (List ℕ)) (t : Option RoadsSoFar) → (reading false gr_rules (at + 1) None ls ≡ Ok g → SayGraph ls g) → Took None t (fields l) → reading false gr_rules (at + 1) t ls ≡ Ok g → SayGraph (l ∷ ls) g
+  say_first : (at : ℕ) (l : List ℕ) (ls : List (List ℕ)) (t : Option RoadsSoFar) → (value_of_lines false gr_rules (at + 1) None ls ≡ Ok g → SayGraph ls g) → Took None t (fields l) → value_of_lines false gr_rules (at + 1) t ls ≡ Ok g → SayGraph (l ∷ ls) g
   say_first at l ls t before_problem (Nothing same a p) e =
-      let r = before_problem (subst (λ (u : Option RoadsSoFar). reading false gr_rules (at + 1) u ls ≡ Ok g) (sym same) e) in
+      let r = before_problem (subst (λ (u : Option RoadsSoFar). value_of_lines false gr_rules (at + 1) u ls ≡ Ok g) (sym same) e) in
       let over = passed_over l ls a p in
       record { arcs = subst (λ ks. SayArcs ks g.arcs) (sym over.0) r.arcs; problem = r.problem; only_problem = over.1 ∙ r.only_problem; sizes = r.sizes }
   say_first at l ls t before_problem (Arc before after was is first k) e = cc
   say_first at l ls t before_problem (Problem first k) e =
       let start : RoadsSoFar = record { vertices = k.vertices; announced = k.announced; arcs = [] } in
-      let r = say_more (at + 1) ls start (omega arith) (subst (λ (u : Option RoadsSoFar). reading false gr_rules (at + 1) u ls ≡ Ok g) k.after e) in
+      let r = say_more (at + 1) ls start (omega arith) (subst (λ (u : Option RoadsSoFar). value_of_lines false gr_rules (at + 1) u ls ≡ Ok g) k.after e) in
       record {
         arcs = subst (λ ks. SayArcs ks g.arcs) (sym (problem_is_no_arc l ls first)) (subst (SayArcs (arc_lines ls)) (sym r.arcs_are) r.arcs);
         problem = l;
@@ -270,28 +270,28 @@ module _ (g : Roads) where
         sizes = record {
           n = k.n;
           m = k.m;
-          fields_are = k.fields_are ∙ ap (λ x. x ∷ codes "sp" ∷ k.n ∷ k.m ∷ []) (ap first_of (sym k.fields_are) ∙ first);
+          fields_are = k.fields_are ∙ ap (λ x. x ∷ codes "sp" ∷ k.n ∷ k.m ∷ []) (ap first_field (sym k.fields_are) ∙ first);
           vertices_is = k.vertices_is ∙ ap (λ (n : ℕ). Some n) (sym r.vertices);
           arcs_is = k.arcs_is ∙ ap (λ (n : ℕ). Some n) (sym r.announced);
         };
       }
 
-  say_all : (at : ℕ) (ls : List (List ℕ)) → reading false gr_rules at None ls ≡ Ok g → SayGraph ls g
+  say_all : (at : ℕ) (ls : List (List ℕ)) → value_of_lines false gr_rules at None ls ≡ Ok g → SayGraph ls g
   say_all at [] e = cc
   say_all at (l ∷ ls) e =
       let h = then_ok (at_line at (gr_line None (map word_of (fields l)))) _ g e in
       say_first at l ls h.0 (say_all (at + 1) ls) (took_line None h.0 (fields l) (at_line_ok at (gr_line None (map word_of (fields l))) h.0 h.1)) h.2
 
   -- a text that is too long is no graph
-  cut_is_none : (at : ℕ) (s : Option RoadsSoFar) (ls : List (List ℕ)) → reading true gr_rules at s ls ≡ Ok g → ⊥
+  cut_is_none : (at : ℕ) (s : Option RoadsSoFar) (ls : List (List ℕ)) → value_of_lines true gr_rules at s ls ≡ Ok g → ⊥
   cut_is_none at s [] e = cc
   cut_is_none at s (l ∷ ls) e =
       let h = then_ok (at_line at (gr_line s (map word_of (fields l)))) _ g e in cut_is_none (at + 1) h.0 ls h.2
 
-  by_length : (bytes : List ℕ) (b : Bool) → (if b then reading true gr_rules 1 None (lines true (take 4294967296 bytes)) else text_value gr_rules bytes) ≡ Ok g → SayGraph (lines false bytes) g
+  by_length : (bytes : List ℕ) (b : Bool) → (if b then value_of_lines true gr_rules 1 None (lines true (take 4294967296 bytes)) else text_value gr_rules bytes) ≡ Ok g → SayGraph (lines false bytes) g
   by_length bytes true e = absurd (cut_is_none 1 None (lines true (take 4294967296 bytes)) e)
   by_length bytes false e = say_all 1 (lines false bytes) e
 
 -- the lines of a text that is read as a graph say it
-pub lines_say : (bytes : List ℕ) (g : Roads) → text_read gr_rules bytes ≡ Ok g → SayGraph (lines false bytes) g
+pub lines_say : (bytes : List ℕ) (g : GraphData) → text_read gr_rules bytes ≡ Ok g → SayGraph (lines false bytes) g
 lines_say bytes g e = by_length g bytes (nat_lt 4294967296 (length bytes)) e

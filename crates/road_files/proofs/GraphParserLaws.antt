@@ -1,11 +1,11 @@
 -- A graph's line, as its parser takes it.
 use Rattle.std.proofs.Common.{◌≡◌, ℕ, ◌<◌, List, [], ◌∷◌, ◌++◌, length, take, map, Bool, refl, sym, ap, ◌∙◌, Option, Some, None, option_map, Ok, Err, arith, subst}
 use Rattle.std.specs.Option.{IfSome}
-use Rattle.road_graph.specs.Roads.{Roads}
+use Rattle.road_graph.specs.GraphData.{GraphData}
 use Rattle.road_text.specs.declared.faults.ReadFault.{ReadFault}
 use Rattle.road_text.specs.declared.slots.Slot.{Slot}
 use Rattle.road_text.specs.Lines.{fields}
-use Rattle.road_text.specs.Rules.{reading}
+use Rattle.road_text.specs.Rules.{value_of_lines}
 use Rattle.road_text.specs.Slots.{word_in}
 use Rattle.road_text.specs.Takes.{ShowsLine}
 use Rattle.road_text.specs.ShortLines.{HasShortFields}
@@ -26,12 +26,12 @@ pub line_rule : (s : GraphParser) (slots : List Slot) (l : List ℕ) → ShowsLi
 line_rule s slots l shown = gr_line_kept (taken_of s) (map word_in slots) (fields l) (few s.taken) shown
 
 -- what a new parser gives is the text's by the rules
-module _ {G : Type 0} (roads : G → Roads) (s : GraphParser) (none : taken_of s ≡ None) where
-  pub by_value : (cut : Bool) (ls : List (List ℕ)) (v : G) → GivesRoads roads cut s 1 ls (Ok v) → reading cut gr_rules 1 None ls ≡ Ok (roads v)
-  by_value cut ls v h = subst (λ o. reading cut gr_rules 1 o ls ≡ Ok (roads v)) none h
+module _ {G : Type 0} (roads : G → GraphData) (s : GraphParser) (none : taken_of s ≡ None) where
+  pub by_value : (cut : Bool) (ls : List (List ℕ)) (v : G) → GivesRoads roads cut s 1 ls (Ok v) → value_of_lines cut gr_rules 1 None ls ≡ Ok (roads v)
+  by_value cut ls v h = subst (λ o. value_of_lines cut gr_rules 1 o ls ≡ Ok (roads v)) none h
 
-  pub by_fault : (cut : Bool) (ls : List (List ℕ)) (f : ReadFault) → GivesRoads roads cut s 1 ls (Err f) → reading cut gr_rules 1 None ls ≡ Err f
-  by_fault cut ls f h = subst (λ o. reading cut gr_rules 1 o ls ≡ Err f) none h
+  pub by_fault : (cut : Bool) (ls : List (List ℕ)) (f : ReadFault) → GivesRoads roads cut s 1 ls (Err f) → value_of_lines cut gr_rules 1 None ls ≡ Err f
+  by_fault cut ls f h = subst (λ o. value_of_lines cut gr_rules 1 o ls ≡ Err f) none h
 
 -- an arc line, by its words
 arc_line : (o : Option RoadsSoFar) (a b c d : Word) → a.text ≡ 97 ∷ [] → gr_line o (a ∷ b ∷ c ∷ d ∷ []) ≡ gr_arc o (a ∷ b ∷ c ∷ d ∷ [])

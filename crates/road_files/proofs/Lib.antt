@@ -1,16 +1,16 @@
-pub mod HeldNumbers
-pub mod HeldGraphLines
-pub mod GraphParserLaws
-pub mod ListFields
-pub mod HeldQuestionLines
-pub mod QuestionParserLaws
-pub mod BundleParserLaws
-pub mod LinesInARow
-pub mod LinesAgain
-pub mod GraphAgain
+mod HeldNumbers
+mod HeldGraphLines
+mod GraphParserLaws
+mod ListFields
+mod HeldQuestionLines
+mod QuestionParserLaws
+mod BundleParserLaws
+mod LinesInARow
+mod LinesAgain
+mod GraphAgain
 pub mod QuestionsAgain
-pub mod BundleAgain
-pub mod RoadNumbers
-pub mod GraphIsSaid
-pub mod RequestParserLaws
+mod BundleAgain
+mod RoadNumbers
+mod GraphIsSaid
+mod RequestParserLaws
 pub mod QuestionSources

@@ -7,7 +7,7 @@ use Rattle.road_text.proofs.ListFields.{words_push, after_first}
 use Rattle.road_files.specs.declared.present_list.PresentList.{PresentList}
 use Rattle.road_files.specs.Numbers.{vertex_in}
 use Rattle.road_files.specs.QuestionFiles.{vertices_in, one_vertex_more, begins_list}
-use Rattle.road_files.specs.QuestionTakes.{SoFar, sources_given}
+use Rattle.road_files.specs.QuestionTakes.{ListSoFar, sources_given}
 use Rattle.road_files.proofs.HeldNumbers.{vertex_held}
 
 vertices_push : (n : ℕ) (ws : List Word) (w : Word) → vertices_in n (ws ++ w ∷ []) ≡ one_vertex_more n (vertices_in n ws) w.number
@@ -22,8 +22,8 @@ same_letter [] f lt = absurd (omega arith)
 same_letter (x ∷ fs) f lt = refl
 
 -- a further field
-pub next_field : (s t : PresentList) (fs : List (List ℕ)) (f : List ℕ) → s.vertices < 18446744073709551616 → SoFar s fs → 0 < s.count → s.count ≤ 1025 → t.vertices ≡ s.vertices → t.count ≡ s.count + 1 → t.is_list ≡ s.is_list
-    → (s.is_list ≡ true → sources_given t ≡ one_vertex_more s.vertices (sources_given s) (held_word f).number) → SoFar t (fs ++ f ∷ [])
+pub next_field : (s t : PresentList) (fs : List (List ℕ)) (f : List ℕ) → s.vertices < 18446744073709551616 → ListSoFar s fs → 0 < s.count → s.count ≤ 1025 → t.vertices ≡ s.vertices → t.count ≡ s.count + 1 → t.is_list ≡ s.is_list
+    → (s.is_list ≡ true → sources_given t ≡ one_vertex_more s.vertices (sources_given s) (held_word f).number) → ListSoFar t (fs ++ f ∷ [])
 next_field s t fs f small h some few same more letter sources =
     let long : length (fs ++ f ∷ []) ≡ length fs + 1 = length-append fs (f ∷ []) in
     let any : 0 < length fs = omega (arith, h.count) in

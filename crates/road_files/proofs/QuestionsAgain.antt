@@ -13,7 +13,7 @@ use Rattle.road_files.specs.declared.questions.Kind.{Kind}
 use Rattle.road_files.specs.declared.questions.Kind.TheVariants.{Sources, Pairs, Multi}
 use Rattle.road_files.specs.declared.questions.Questions.{Questions}
 use Rattle.road_files.specs.declared.questions.Questions.TheVariants as variants
-use Rattle.road_files.specs.Vertices.{IsVertexOf, IsPairOf, AreSourcesOf}
+use Rattle.road_files.specs.Vertices.{IsVertexOf, IsVertexPairOf, AreSourcesOf}
 use Rattle.road_files.specs.Asked.{Question, FromSource, BetweenPair, FromSources, of_source, of_pair, of_list, asked_of, AskWithin, AreQuestionsOf}
 use Rattle.road_files.specs.Numbers.{vertex_in}
 use Rattle.road_files.specs.QuestionFiles.{may_be, question_problem, vertices_in, source_of_line, pair_of_line, sources_of_line, question_line_of, question_rules, question_end}
@@ -31,7 +31,7 @@ sources_of : (n : ℕ) (vs : List ℕ) → AllByRecursion (IsVertexOf n) vs → 
 sources_of n [] h = tt
 sources_of n (v ∷ vs) h = (h.0, sources_of n vs h.1)
 
-pairs_of : (n : ℕ) (ps : List (ℕ × ℕ)) → AllByRecursion (IsPairOf n) ps → AllByRecursion (IsQuestionOf n Pairs) (map of_pair ps)
+pairs_of : (n : ℕ) (ps : List (ℕ × ℕ)) → AllByRecursion (IsVertexPairOf n) ps → AllByRecursion (IsQuestionOf n Pairs) (map of_pair ps)
 pairs_of n [] h = tt
 pairs_of n (p ∷ ps) h = (h.0, pairs_of n ps h.1)
 
@@ -41,7 +41,7 @@ lists_of n (l ∷ ls) h = (h.0, lists_of n ls h.1)
 
 pub questions_of : (n : ℕ) (q : Questions) → AskWithin n q → AllByRecursion (IsQuestionOf n (asked_of q).kind) (asked_of q).questions
 questions_of n (variants.Sources vs) h = sources_of n vs.items (recursion_from_All (IsVertexOf n) vs.items h)
-questions_of n (variants.Pairs ps) h = pairs_of n ps.items (recursion_from_All (IsPairOf n) ps.items h)
+questions_of n (variants.Pairs ps) h = pairs_of n ps.items (recursion_from_All (IsVertexPairOf n) ps.items h)
 questions_of n (variants.Multi ls) h = lists_of n ls.items (recursion_from_All (λ (l : Vec ℕ Global). AreSourcesOf n l.items) ls.items h)
 
 pub problem_step : (only : Option Kind) (kind : Kind) (k : ℕ) → may_be only kind ≡ true → k ≤ 1048576 → question_problem only None (map word_of (problem_words kind k)) ≡ Ok (Some (record { kind = kind; announced = k; questions = [] }))

@@ -1,6 +1,6 @@
--- Bundles, by their lines: a graph part, and then a question part, which begins at a problem line with `aux`.
+-- Bundles, by their lines: a graph part and then a question part, which begins at a problem line with `aux`.
 use Rattle.std.specs.Prelude.{ℕ, ◌&&◌, List, length, map, if◌then◌else◌, Option, None, Result, Ok, Err, codes, bytes_eq, Bool, nat_lt, drop}
-use Rattle.road_graph.specs.Roads.{Roads}
+use Rattle.road_graph.specs.GraphData.{GraphData}
 use Rattle.road_text.specs.Rules.{◌>>=◌, Rules}
 use Rattle.road_text.specs.Words.{Word, word_of, word_at}
 use Rattle.road_files.specs.Asked.{Asked, asked_of}
@@ -8,15 +8,15 @@ use Rattle.road_files.specs.declared.questions.Questions.{Questions}
 use Rattle.road_files.specs.GraphFiles.{RoadsSoFar, gr_line, gr_whole, graph_read}
 use Rattle.road_files.specs.QuestionFiles.{AskedSoFar, question_problem, question_line_of, begins_list, vertices_in, question_end}
 
--- what a graph and questions in memory are as plain data
-abbrev pub bundle_of : Roads × Questions → Roads × Asked
+-- a graph and questions in memory as plain data
+abbrev pub bundle_of : GraphData × Questions → GraphData × Asked
 bundle_of b = (b.0, asked_of b.1)
 
--- the same of a graph that is these roads
-abbrev pub bundle_with : {G : Type 0} → (G → Roads) → G × Questions → Roads × Asked
+-- the same for any type of graph, whose data is `roads`
+abbrev pub bundle_with : {G : Type 0} → (G → GraphData) → G × Questions → GraphData × Asked
 bundle_with roads b = (roads b.0, asked_of b.1)
 
--- the part that is read, and what was read so far
+-- the part that is being read, with what was read so far
 pub data BundleSoFar : Type 0 where
   InGraph : (graph : Option RoadsSoFar) → BundleSoFar
   InQuestions : (graph : RoadsSoFar) → (questions : Option AskedSoFar) → BundleSoFar
@@ -25,7 +25,7 @@ pub data BundleSoFar : Type 0 where
 unfoldable pub begins_questions : List Word → Bool
 begins_questions ws = nat_lt 1 (length ws) && (bytes_eq (word_at 0 ws).text (codes "p") && bytes_eq (word_at 1 ws).text (codes "aux"))
 
--- a line of the graph part that ends it: the graph is whole, and it is the problem line of the question part
+-- the line that ends the graph part: the graph is whole, and the line is the problem line of the question part
 abbrev pub first_question_line : Option RoadsSoFar → List Word → Result BundleSoFar ℕ
 first_question_line s ws = do
   roads ← gr_whole s
@@ -44,18 +44,18 @@ question_part_line roads s ws in_list count vertices = do
   questions ← question_line_of roads.vertices None s ws in_list count vertices
   Ok (InQuestions roads questions)
 
--- a line, in the part that is read
+-- a line, in the part that is being read
 abbrev pub bundle_line : BundleSoFar → List Word → Result BundleSoFar ℕ
 bundle_line (InGraph s) ws = if begins_questions ws then first_question_line s ws else graph_part_line s ws
 bundle_line (InQuestions roads s) ws = question_part_line roads s ws (begins_list ws) (length ws) (vertices_in roads.vertices (drop 1 ws))
 
--- the end in the graph part is that there are no questions
-abbrev pub bundle_end : BundleSoFar → Result (Roads × Asked) ℕ
+-- the end; in the graph part it has a fault: the graph is not whole, or there are no questions
+abbrev pub bundle_end : BundleSoFar → Result (GraphData × Asked) ℕ
 bundle_end (InGraph s) = gr_whole s >>= λ roads. Err 10
 bundle_end (InQuestions roads s) = do
   asked ← question_end s
   Ok (graph_read roads, asked)
 
 -- the rules of bundles
-abbrev pub bundle_rules : Rules BundleSoFar (Roads × Asked)
+abbrev pub bundle_rules : Rules BundleSoFar (GraphData × Asked)
 bundle_rules = record { start = InGraph None; line = λ s fs. bundle_line s (map word_of fs); end = bundle_end }

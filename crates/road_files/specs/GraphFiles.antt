@@ -1,7 +1,7 @@
 -- Graph files, by their lines: comments, a problem line `p sp N M`, and M arc lines `a U V W`.
 use Rattle.std.specs.Prelude.{ℕ, ◌==◌, not, List, [], ◌∷◌, ◌++◌, length, map, slice_index, if◌then◌else◌, Option, Some, None, nat_lt, is_none, Result, Ok, Err, codes, bytes_eq}
 use Rattle.road_graph.specs.declared.RoadArc.{RoadArc}
-use Rattle.road_graph.specs.Roads.{Roads}
+use Rattle.road_graph.specs.GraphData.{GraphData}
 use Rattle.road_text.specs.Rules.{◌>>=◌, unless, Rules}
 use Rattle.road_text.specs.Words.{Word, word_of, word_at}
 use Rattle.road_files.specs.Numbers.{up_to, vertex_in}
@@ -12,12 +12,12 @@ pub record RoadsSoFar : Type 0 where
   pub announced : ℕ
   pub arcs : List RoadArc
 
--- what the problem line announced: 10 where there was none
+-- what the problem line announced: 10 if there was none
 abbrev pub roads_before : Option RoadsSoFar → Result RoadsSoFar ℕ
 roads_before None = Err 10
 roads_before (Some s) = Ok s
 
--- a problem line: it is the first, it has four fields, the second of them is `sp`, then the numbers of vertices and of arcs
+-- a problem line: it is the first, it has four fields, the second is `sp`, then the numbers of vertices and of arcs
 unfoldable pub gr_problem : Option RoadsSoFar → List Word → Result (Option RoadsSoFar) ℕ
 gr_problem s ws = do
   _ ← unless (is_none s) 11
@@ -27,7 +27,7 @@ gr_problem s ws = do
   announced ← up_to 134217728 (word_at 3 ws).number
   Ok (Some (record { vertices = vertices; announced = announced; arcs = [] }))
 
--- an arc line behind the problem line: it is announced, it has four fields, then tail, head and weight
+-- an arc line after the problem line: it is announced, it has four fields, then tail, head and weight
 unfoldable pub one_arc : RoadsSoFar → List Word → Result RoadsSoFar ℕ
 one_arc roads ws = do
   _ ← unless (nat_lt (length roads.arcs) roads.announced) 18
@@ -61,15 +61,15 @@ gr_whole s = do
   Ok roads
 
 -- the graph that was read
-abbrev pub graph_read : RoadsSoFar → Roads
+abbrev pub graph_read : RoadsSoFar → GraphData
 graph_read r = record { vertices = r.vertices; arcs = r.arcs }
 
--- the graph, where all announced arcs are there
-abbrev pub gr_end : Option RoadsSoFar → Result Roads ℕ
+-- the graph, if all announced arcs are there
+abbrev pub gr_end : Option RoadsSoFar → Result GraphData ℕ
 gr_end s = do
   roads ← gr_whole s
   Ok (graph_read roads)
 
 -- the rules of graph files
-abbrev pub gr_rules : Rules (Option RoadsSoFar) Roads
+abbrev pub gr_rules : Rules (Option RoadsSoFar) GraphData
 gr_rules = record { start = None; line = λ s fs. gr_line s (map word_of fs); end = gr_end }

@@ -1,17 +1,17 @@
--- What the lines of a text say of a graph: each arc line an arc, and the problem line how many vertices and arcs there are.
+-- What the lines of a text say of a graph: each arc line is an arc, and the problem line counts vertices and arcs.
 use Rattle.std.specs.Prelude.{◌≡◌, ℕ, Bool, List, [], ◌∷◌, length, filter, Some, ⊤, codes, bytes_eq}
 use Rattle.road_graph.specs.declared.RoadArc.{RoadArc}
-use Rattle.road_graph.specs.Roads.{Roads}
+use Rattle.road_graph.specs.GraphData.{GraphData}
 use Rattle.road_text.specs.Lines.{fields, number}
 
--- the first of a line's fields, and nothing where it has none
-abbrev pub first_of : List (List ℕ) → List ℕ
-first_of [] = []
-first_of (f ∷ fs) = f
+-- the first field of a line, empty if it has none
+abbrev pub first_field : List (List ℕ) → List ℕ
+first_field [] = []
+first_field (f ∷ fs) = f
 
 -- whether the first field of a line is this word
 abbrev pub begins_with : List ℕ → List ℕ → Bool
-begins_with word line = bytes_eq (first_of (fields line)) word
+begins_with word line = bytes_eq (first_field (fields line)) word
 
 -- the lines that begin with `a`
 abbrev pub arc_lines : List (List ℕ) → List (List ℕ)
@@ -39,15 +39,15 @@ pub record SaysSizes (line : List ℕ) (vertices arcs : ℕ) : Type 0 where
   pub vertices_is : number n ≡ Some vertices
   pub arcs_is : number m ≡ Some arcs
 
--- each line says the arc of its place, and there are as many lines as arcs
+-- line i says arc i, and there are as many lines as arcs
 abbrev pub SayArcs : List (List ℕ) → List RoadArc → Type 0
 SayArcs [] [] = ⊤
 SayArcs [] (a ∷ as') = ⊥
 SayArcs (l ∷ ls) [] = ⊥
 SayArcs (l ∷ ls) (a ∷ as') = SaysArc l a × SayArcs ls as'
 
--- the arcs of the graph are those of the arc lines, in order, and the one problem line says how many vertices and arcs there are
-pub record SayGraph (lines : List (List ℕ)) (g : Roads) : Type 0 where
+-- the arcs of the graph are those of the arc lines, in order, and the one problem line counts vertices and arcs
+pub record SayGraph (lines : List (List ℕ)) (g : GraphData) : Type 0 where
   pub arcs : SayArcs (arc_lines lines) g.arcs
   pub problem : List ℕ
   pub only_problem : problem_lines lines ≡ problem ∷ []

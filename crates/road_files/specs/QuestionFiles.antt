@@ -1,5 +1,5 @@
 -- Question files, by their lines: comments, a problem line `p aux sp KIND K`, and K lines of that kind:
--- `s SOURCE` where it is `ss`, `q SOURCE TARGET` where it is `p2p`, `m SOURCE ..` with 1 to 1,024 sources where it is `ms`.
+-- `s SOURCE` for `ss`, `q SOURCE TARGET` for `p2p`, `m SOURCE ..` with 1 to 1,024 sources for `ms`.
 use Rattle.std.specs.Prelude.{ℕ, ◌==◌, ◌&&◌, not, Bool, true, false, List, [], ◌∷◌, ◌++◌, length, drop, map, slice_index, if◌then◌else◌, Option, Some, None, nat_lt, is_none, Result, Ok, Err, codes, bytes_eq}
 use Rattle.road_text.specs.Rules.{◌>>=◌, unless, Rules}
 use Rattle.road_text.specs.Words.{Word, word_of, word_at}
@@ -8,7 +8,7 @@ use Rattle.road_files.specs.declared.questions.Kind.TheVariants.{Sources, Pairs,
 use Rattle.road_files.specs.Asked.{Question, FromSource, BetweenPair, FromSources, Asked}
 use Rattle.road_files.specs.Numbers.{up_to, vertex_in}
 
--- the problem line announces so many questions of a kind; these were read so far
+-- the kind and number of questions that the problem line announces, and the questions so far
 pub record AskedSoFar : Type 0 where
   pub kind : Kind
   pub announced : ℕ
@@ -29,12 +29,12 @@ kind_named word =
     else if bytes_eq word (codes "ms") then Some Multi
     else None
 
--- whether the file may be of a kind: of one alone, or of any
+-- whether the file may be of a kind: `None` allows every kind
 abbrev pub may_be : Option Kind → Kind → Bool
 may_be None kind = true
 may_be (Some only) kind = same_kind only kind
 
--- the kind that is named, where the file may be of it
+-- the kind that is named, if the file may be of it
 abbrev pub accepted : Option Kind → Option Kind → Result Kind ℕ
 accepted only None = Err 12
 accepted only (Some kind) = if may_be only kind then Ok kind else Err 12
@@ -50,7 +50,7 @@ question_problem only s ws = do
   announced ← up_to 1048576 (word_at 4 ws).number
   Ok (Some (record { kind = kind; announced = announced; questions = [] }))
 
--- what the problem line announced: 10 where there was none
+-- what the problem line announced: 10 if there was none
 abbrev pub asked_before : Option AskedSoFar → Result AskedSoFar ℕ
 asked_before None = Err 10
 asked_before (Some q) = Ok q
@@ -60,7 +60,7 @@ abbrev pub vertices_in : ℕ → List Word → Result (List ℕ) ℕ
 vertices_in n [] = Ok []
 vertices_in n (w ∷ ws) = vertex_in n w.number >>= λ v. vertices_in n ws >>= λ vs. Ok (v ∷ vs)
 
--- one vertex more
+-- these vertices and one more
 abbrev pub one_vertex_more : ℕ → Result (List ℕ) ℕ → Option ℕ → Result (List ℕ) ℕ
 one_vertex_more n vertices number = vertices >>= λ vs. vertex_in n number >>= λ v. Ok (vs ++ v ∷ [])
 
@@ -79,21 +79,21 @@ pair_of_line n ws = do
   target ← vertex_in n (word_at 2 ws).number
   Ok (BetweenPair source target)
 
--- an `m` line has 2 to 1,025 fields; given how many it has, and what the vertices behind the first give
+-- an `m` line has 2 to 1,025 fields; `count` is how many it has, `vertices` what the vertices after the first field give
 unfoldable pub sources_of_line : ℕ → Result (List ℕ) ℕ → Result Question ℕ
 sources_of_line count vertices = do
   _ ← unless (nat_lt 1 count && nat_lt count 1026) 14
   sources ← vertices
   Ok (FromSources sources)
 
--- one question more, where it is announced
+-- these questions and one more, if it is announced
 abbrev pub one_more : ℕ → List Question → Result Question ℕ → Result (List Question) ℕ
 one_more announced questions question = do
   _ ← unless (nat_lt (length questions) announced) 18
   x ← question
   Ok (questions ++ x ∷ [])
 
--- a question's line: behind the problem line, of its kind, and announced; then what it asks
+-- the line of a question: after the problem line, of its kind, and announced; then what it asks
 abbrev pub one_question : Kind → Option AskedSoFar → Result Question ℕ → Result (Option AskedSoFar) ℕ
 one_question kind s question = do
   q ← asked_before s
@@ -106,8 +106,8 @@ abbrev pub begins_list : List Word → Bool
 begins_list [] = false
 begins_list (w ∷ ws) = bytes_eq w.text (codes "m")
 
--- a line: blank, a comment, a problem line, a question's line, or unknown;
--- given whether it begins with `m`, how many words it has, and what the vertices behind the first give
+-- a line: blank, a comment, a problem line, the line of a question, or unknown; `in_list` says whether it begins
+-- with `m`, `count` is how many words it has, and `vertices` what the vertices after the first word give
 unfoldable pub question_line_of : ℕ → Option Kind → Option AskedSoFar → List Word → Bool → ℕ → Result (List ℕ) ℕ → Result (Option AskedSoFar) ℕ
 question_line_of n only s ws in_list count vertices =
     if length ws == 0 then Ok s

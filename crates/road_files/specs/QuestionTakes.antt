@@ -1,4 +1,4 @@
--- What the parser of a question file holds, as the rules have it.
+-- The state of the parser of a question file, in the terms of the rules.
 use Rattle.std.specs.Prelude.{◌≡◌, ℕ, ◌≤◌, min, List, [], ◌∷◌, length, drop, map, Bool, true, Option, Some, None, option_map, Result, Ok, Err, IfOk}
 use Rattle.road_text.specs.declared.faults.ReadFault.{ReadFault}
 use Rattle.road_text.specs.declared.faults.Rule.{Rule}
@@ -23,7 +23,7 @@ abbrev pub sources_given : PresentList → Result (List ℕ) ℕ
 sources_given l = sources_or l.broken l.sources.items
 
 -- these are the fields of the present line so far
-pub record SoFar (l : PresentList) (fs : List (List ℕ)) : Type 0 where
+pub record ListSoFar (l : PresentList) (fs : List (List ℕ)) : Type 0 where
   pub count : l.count ≡ min (length fs) 1026
   pub letter : l.is_list ≡ begins_list (map word_of fs)
   pub sources : l.is_list ≡ true → length fs ≤ 1025 → vertices_in l.vertices (drop 1 (map word_of fs)) ≡ sources_given l
@@ -32,22 +32,22 @@ pub record SoFar (l : PresentList) (fs : List (List ℕ)) : Type 0 where
 abbrev pub asked_so_far : TakenQuestions → AskedSoFar
 asked_so_far t = record { kind = (asked_of t.questions).kind; announced = t.announced; questions = (asked_of t.questions).questions }
 
--- the same, where a problem line was read
-abbrev pub begun_of : QuestionParser → Option AskedSoFar
-begun_of s = option_map asked_so_far s.begun
+-- the same, if a problem line was read
+abbrev pub questions_begun : QuestionParser → Option AskedSoFar
+questions_begun s = option_map asked_so_far s.begun
 
 -- the questions fit the graph, and are of the kind that was asked for
 pub record FitsFile (n : ℕ) (only : Option Kind) (q : Questions) : Type 0 where
   pub fit : AreQuestionsOf n q
   pub kind : may_be only (asked_of q).kind ≡ true
 
--- the lines from a number on give this
+-- the lines from a line number on give this
 abbrev pub GivesQuestions : Bool → QuestionParser → ℕ → List (List ℕ) → Result Questions ReadFault → Type 0
-GivesQuestions cut s at ls r = GivesBy (question_rules s.list.vertices s.only) (begun_of s) asked_of cut at ls r × IfOk r (FitsFile s.list.vertices s.only)
+GivesQuestions cut s at ls r = GivesBy (question_rules s.list.vertices s.only) (questions_begun s) asked_of cut at ls r × IfOk r (FitsFile s.list.vertices s.only)
 
 -- the fields of a list are kept before its line ends
 abbrev pub question_meaning : Meaning QuestionParser Questions
-question_meaning = record { gives = GivesQuestions; so_far = λ s fs. SoFar s.list fs }
+question_meaning = record { gives = GivesQuestions; so_far = λ s fs. ListSoFar s.list fs }
 
 -- the questions that have ended, if any
 abbrev pub asked_list : Option Questions → List (Result Asked ℕ)

@@ -1,4 +1,4 @@
--- A service's text: a row of requests, each of them a question text.
+-- The text of a service: requests one after the other, each a question text.
 use Rattle.std.specs.Prelude.{◌≡◌, ℕ, ◌+◌, ◌⊎◌, Bool, false, List, [], ◌∷◌, ◌++◌, map, if◌then◌else◌, Option, None, Some, Result, Ok, Err, codes, bytes_eq}
 use Rattle.road_text.specs.declared.faults.ReadFault.{ReadFault}
 use Rattle.road_text.specs.Lines.{lines, fields}
@@ -6,17 +6,17 @@ use Rattle.road_text.specs.Rules.{at_line}
 use Rattle.road_files.specs.Asked.{Asked}
 use Rattle.road_files.specs.QuestionFiles.{AskedSoFar, question_rules, question_end}
 
--- what comes of a request: what it asks, or its first fault
+-- the result of a request: what it asks, or its first fault
 abbrev pub Request : Type 0
 Request = Result Asked ReadFault
 
--- A service between two lines: it gives them to a request, of which this was read so far (nothing before
--- its problem line), or passes over them, up to the next problem line.
+-- A service between two lines. It gives lines to a request, with what was read of it so far (nothing before its
+-- problem line), or skips them, up to the next problem line.
 pub data ServiceState : Type 0 where
   Gives : (so_far : Option AskedSoFar) → ServiceState
   Passes : ServiceState
 
--- what a line does: the requests that end with it, each by what it asks or by the number of its fault,
+-- what a line does: the requests that end with it, each with what it asks or the number of its fault,
 -- and the state after it
 pub record Step : Type 0 where
   pub ended : List (Result Asked ℕ)
@@ -27,12 +27,12 @@ abbrev pub begins_request : List (List ℕ) → Bool
 begins_request [] = false
 begins_request (f ∷ fs) = bytes_eq f (codes "p")
 
--- a request that took a line is whole, or goes on
+-- after a line that it took, a request is whole or goes on
 abbrev pub whole_or_on : Option AskedSoFar → Result Asked ℕ → Step
 whole_or_on s (Ok asked) = record { ended = Ok asked ∷ []; next = Gives None }
 whole_or_on s (Err _) = record { ended = []; next = Gives s }
 
--- a request that was given a line took it, or has its first fault there
+-- a request takes a line that it is given, or has its first fault there
 abbrev pub given : Result (Option AskedSoFar) ℕ → Step
 given (Ok s) = whole_or_on s (question_end s)
 given (Err number) = record { ended = Err number ∷ []; next = Passes }
@@ -45,7 +45,7 @@ give n fs s = given ((question_rules n None).line s fs)
 abbrev pub begin_early : Step → Step
 begin_early step = record { ended = Err 19 ∷ step.ended; next = step.next }
 
--- a line, by what a request makes of it that it is given to
+-- a line, where `give` is what it does to a request that it is given to
 abbrev pub state_line : (Option AskedSoFar → Step) → ServiceState → List (List ℕ) → Step
 state_line give Passes fs = if begins_request fs then give None else record { ended = []; next = Passes }
 state_line give (Gives None) fs = give None
@@ -55,7 +55,7 @@ state_line give (Gives (Some q)) fs = if begins_request fs then begin_early (giv
 abbrev pub service_line : ℕ → ServiceState → List (List ℕ) → Step
 service_line n state fs = state_line (give n fs) state fs
 
--- memory was refused for a line: fault 3 of the request that it was given to
+-- memory ran out at a line: fault 3 of the request that it was given to
 abbrev pub refused : Step
 refused = record { ended = Err 3 ∷ []; next = Passes }
 
@@ -64,7 +64,7 @@ abbrev pub service_end : ServiceState → List (Result Asked ℕ)
 service_end (Gives (Some q)) = Err 19 ∷ []
 service_end _ = []
 
--- the requests of the lines from a number on, in this state; a text that is cut short has no end
+-- the requests of the lines from a line number on, in this state; a text that is cut short has no end
 abbrev pub requests_of : Bool → ℕ → ℕ → ServiceState → List (List ℕ) → List Request
 requests_of cut n at state [] = if cut then [] else map (at_line at) (service_end state)
 requests_of cut n at state (l ∷ ls) =
@@ -76,12 +76,12 @@ abbrev pub state_after_lines : ℕ → ServiceState → List (List ℕ) → Serv
 state_after_lines n state [] = state
 state_after_lines n state (l ∷ ls) = state_after_lines n (service_line n state (fields l)).next ls
 
--- The requests of a text over a graph with n vertices. Of a text that is cut short they are those that
--- its bytes make whole, whatever comes after them.
+-- The requests of a text over a graph with n vertices. If the text is cut short, they are those that its bytes
+-- complete, whatever comes after them.
 abbrev pub requests : Bool → ℕ → List ℕ → List Request
 requests cut n bytes = requests_of cut n 1 (Gives None) (lines cut bytes)
 
--- what a request may make of a line: what the rules say, or memory is refused for it
+-- what a line may do to a request: what the rules say, or memory runs out
 abbrev pub GiveMay : ℕ → List (List ℕ) → Option AskedSoFar → Step → Type 0
 GiveMay n fs s step = (step ≡ give n fs s) ⊎ (step ≡ refused)
 

@@ -1,7 +1,7 @@
 -- The one written spelling of each file: lines of words.
 use Rattle.std.specs.Prelude.{ℕ, List, [], ◌∷◌, length, map, codes, decimal}
 use Rattle.road_graph.specs.declared.RoadArc.{RoadArc}
-use Rattle.road_graph.specs.Roads.{Roads}
+use Rattle.road_graph.specs.GraphData.{GraphData}
 use Rattle.road_text.specs.Texts.{text_of, list_words}
 use Rattle.road_files.specs.declared.questions.Kind.{Kind}
 use Rattle.road_files.specs.declared.questions.Kind.TheVariants.{Sources, Pairs, Multi}
@@ -16,11 +16,11 @@ abbrev pub arc_words : RoadArc → List (List ℕ)
 arc_words a = codes "a" ∷ decimal a.tail ∷ decimal a.head ∷ decimal a.weight ∷ []
 
 -- a problem line, and a line for each arc
-abbrev pub graph_lines : Roads → List (List (List ℕ))
+abbrev pub graph_lines : GraphData → List (List (List ℕ))
 graph_lines g = graph_words g.vertices (length g.arcs) ∷ map arc_words g.arcs
 
 -- the text of a graph
-unfoldable pub gr_text : Roads → List ℕ
+unfoldable pub gr_text : GraphData → List ℕ
 gr_text g = text_of (graph_lines g)
 
 -- the word that names a kind

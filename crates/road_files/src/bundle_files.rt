@@ -11,12 +11,13 @@ use road_graph::Graph;
 use road_text::{ReadFault, RoadRead, read_whole};
 use std::alloc::Global;
 
-/// The graph, as a graph of any kind, and the questions of a bundle.
+/// The graph and the questions of a bundle. `G` is any type of graph.
 pub fn read_bundle_as<R: RoadRead, G: FromArcs>(
     alloc: Global,
     from: &mut R,
 ) -> Result<(G, Questions), ReadFault>
-    ensures reads { ReadsText R.left R.failures R.asked from.old from.new bundle_rules (bundle_with G.roads) 10 19 result }
+    ensures reads { ReadsText R.left R.failures R.asked from.old from.new bundle_rules
+        (bundle_with G.roads) 10 19 result }
     ensures fit { IfOk result (λ b. AreQuestionsOf (G.roads b.0).vertices b.1) }
 {
     read_whole(from, BundleParser::new(alloc))
@@ -27,7 +28,8 @@ pub fn read_bundle<R: RoadRead>(
     alloc: Global,
     from: &mut R,
 ) -> Result<(Graph, Questions), ReadFault>
-    ensures reads { ReadsText R.left R.failures R.asked from.old from.new bundle_rules bundle_of 10 19 result }
+    ensures reads { ReadsText R.left R.failures R.asked from.old from.new bundle_rules bundle_of 10
+        19 result }
     ensures fit { IfOk result (λ b. AreQuestionsOf b.0.vertices b.1) }
 {
     read_bundle_as(alloc, from)

@@ -1,13 +1,13 @@
 //! Takes the lines of a bundle.
 ghost use Rattle.std.specs.Prelude.{◌≡◌, ℕ, ◌++◌, ◌∷◌, [], List, map, refl, OnOk, IfOk, IfErr, MatchResult, Ok, None};
-ghost use Rattle.road_graph.specs.Roads.{Roads};
+ghost use Rattle.road_graph.specs.GraphData.{GraphData};
 ghost use Rattle.road_text.specs.Slots.{word_in};
 ghost use Rattle.road_text.specs.Takes.{Leaves, Breaks};
 ghost use Rattle.road_text.specs.Words.{held_word};
 ghost use Rattle.road_files.specs.Asked.{asked_of, AreQuestionsOf};
 ghost use Rattle.road_files.specs.BundleFiles.{InGraph, InQuestions, begins_questions, first_question_line, question_part_line, bundle_end};
 ghost use Rattle.road_files.specs.GraphTakes.{roads_so_far, taken_of};
-ghost use Rattle.road_files.specs.QuestionTakes.{SoFar, sources_given, begun_of};
+ghost use Rattle.road_files.specs.QuestionTakes.{ListSoFar, sources_given, questions_begun};
 
 use crate::bundle_part::{BundlePart, QuestionPart};
 use crate::from_arcs::FromArcs;
@@ -19,7 +19,7 @@ use road_text::{LineFault, LineParser, Slot};
 use std::alloc::Global;
 use std::marker::PhantomData;
 
-// Whether a line ends the graph part.
+/// Whether a line ends the graph part.
 #[tactic(auto, unfolding(crate::specs::BundleFiles::begins_questions))]
 fn ends_graph(slots: &[Slot]) -> bool
     ensures { result ≡ begins_questions (map word_in slots.now) }
@@ -27,7 +27,7 @@ fn ends_graph(slots: &[Slot]) -> bool
     slots.len() > 1 && slots[0].is_word(b"p") && slots[1].is_word(b"aux")
 }
 
-// The end of the graph part is no end of a bundle.
+/// The fault of a bundle that ends in its graph part.
 fn no_questions(graph: GraphParser) -> LineFault
     ensures { Breaks (bundle_end (InGraph (taken_of graph))) result }
 {
@@ -37,7 +37,7 @@ fn no_questions(graph: GraphParser) -> LineFault
     }
 }
 
-/// Takes the lines of a bundle, and makes a graph and questions of what they say.
+/// Takes the lines of a bundle, and makes the graph and the questions that they describe.
 #[derive(Drop)]
 pub struct BundleParser<G> {
     pub alloc: Global,
@@ -48,7 +48,7 @@ pub struct BundleParser<G> {
 impl<G: FromArcs> BundleParser<G> {
     ghost use Rattle.road_files.specs.BundleTakes.{bundle_so_far, kept_line, PartSoFar};
 
-    /// No line was taken yet.
+    /// A parser before the first line.
     pub fn new(alloc: Global) -> Self
         ensures start { bundle_so_far result.part ≡ InGraph None }
         ensures ready { PartSoFar result.part [] }
@@ -61,7 +61,8 @@ impl<G: FromArcs> BundleParser<G> {
     }
 
     fn take(&mut self, slots: &[Slot]) -> Result<(), LineFault>
-        ensures rule { Leaves (kept_line self.old.part (map word_in slots.now)) result (bundle_so_far self.new.part) }
+        ensures rule { Leaves (kept_line self.old.part (map word_in slots.now)) result
+            (bundle_so_far self.new.part) }
         ensures ready { OnOk result (PartSoFar self.new.part []) }
     {
         match &mut self.part {

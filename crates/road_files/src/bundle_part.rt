@@ -1,4 +1,4 @@
-//! The part of a bundle that is read.
+//! The part of a bundle that is being read.
 ghost use Rattle.std.specs.Prelude.{◌≡◌, [], map, OnOk, IfOk, MatchResult, Ok};
 ghost use Rattle.std.specs.Option.{ForSome};
 ghost use Rattle.road_text.specs.Slots.{word_in};
@@ -14,7 +14,7 @@ use crate::taken_roads::TakenRoads;
 use road_text::{LineFault, Slot};
 use std::alloc::Global;
 
-/// The graph's arcs, which are all there, and the questions so far, of any kind.
+/// All the arcs of the graph, and the questions so far, of any kind.
 #[derive(Drop)]
 pub struct QuestionPart {
     pub roads: TakenRoads,
@@ -25,12 +25,15 @@ pub struct QuestionPart {
 
 impl QuestionPart {
     ghost use Rattle.road_files.specs.GraphTakes.{roads_so_far, taken_of};
-    ghost use Rattle.road_files.specs.QuestionTakes.{SoFar, sources_given, begun_of};
+    ghost use Rattle.road_files.specs.QuestionTakes.{ListSoFar, sources_given, questions_begun};
 
-    /// The question part that begins at a line; the graph is whole before it.
+    /// The question part that begins at this line. The graph must be whole before it.
     pub fn begin(graph: &mut GraphParser, slots: &[Slot]) -> Result<QuestionPart, LineFault>
-        ensures rule { MatchResult result (λ p. first_question_line (taken_of graph.old) (map word_in slots.now) ≡ Ok (InQuestions (roads_so_far p.roads) (begun_of p.questions))) (Breaks (first_question_line (taken_of graph.old) (map word_in slots.now))) }
-        ensures ready { IfOk result (λ p. SoFar p.questions.list []) }
+        ensures rule { MatchResult result (λ p. first_question_line (taken_of graph.old)
+            (map word_in slots.now) ≡ Ok (InQuestions (roads_so_far p.roads)
+            (questions_begun p.questions)))
+            (Breaks (first_question_line (taken_of graph.old) (map word_in slots.now))) }
+        ensures ready { IfOk result (λ p. ListSoFar p.questions.list []) }
     {
         let roads = TakenRoads::whole(graph.taken.take())?;
         let mut questions = QuestionParser::new(graph.alloc, roads.vertices, None);
@@ -40,17 +43,24 @@ impl QuestionPart {
 
     /// Takes a line by its first six fields.
     pub fn take(&mut self, slots: &[Slot]) -> Result<(), LineFault>
-        ensures rule { Leaves (question_part_line (roads_so_far self.old.roads) (begun_of self.old.questions) (map word_in slots.now) self.old.questions.list.is_list self.old.questions.list.count (sources_given self.old.questions.list)) result (InQuestions (roads_so_far self.new.roads) (begun_of self.new.questions)) }
-        ensures ready { OnOk result (SoFar self.new.questions.list []) }
+        ensures rule { Leaves (question_part_line (roads_so_far self.old.roads)
+            (questions_begun self.old.questions) (map word_in slots.now)
+            self.old.questions.list.is_list self.old.questions.list.count
+            (sources_given self.old.questions.list)) result
+            (InQuestions (roads_so_far self.new.roads) (questions_begun self.new.questions)) }
+        ensures ready { OnOk result (ListSoFar self.new.questions.list []) }
     {
         self.questions.take(slots)?;
         self.questions.list.restart();
         Ok(())
     }
 
-    /// The graph and the questions, where all announced ones are there.
+    /// The graph and the questions, if all announced ones are there.
     pub fn whole<G: FromArcs>(self, alloc: Global) -> Result<(G, Questions), LineFault>
-        ensures rule { MatchResult result (λ b. bundle_end (InQuestions (roads_so_far self.roads) (begun_of self.questions)) ≡ Ok (G.roads b.0, asked_of b.1)) (Breaks (bundle_end (InQuestions (roads_so_far self.roads) (begun_of self.questions)))) }
+        ensures rule { MatchResult result (λ b. bundle_end (InQuestions (roads_so_far self.roads)
+            (questions_begun self.questions)) ≡ Ok (G.roads b.0, asked_of b.1))
+            (Breaks (bundle_end (InQuestions (roads_so_far self.roads)
+            (questions_begun self.questions)))) }
         ensures fit { IfOk result (λ b. AreQuestionsOf (G.roads b.0).vertices b.1) }
     {
         let QuestionPart { roads, questions } = self;
@@ -60,7 +70,7 @@ impl QuestionPart {
     }
 }
 
-/// The part of a bundle that is read, and what was read so far.
+/// The part of a bundle that is being read, with what was read so far.
 #[derive(Drop)]
 pub enum BundlePart {
     Graph(GraphParser),

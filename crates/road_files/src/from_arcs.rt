@@ -1,19 +1,19 @@
-//! Graphs that are made of their arcs.
+//! Graphs that are built from their arcs.
 ghost use Rattle.std.specs.Prelude.{◌≡◌, ◌≤◌, ◌^◌, length, All, IfOk};
-ghost use Rattle.road_graph.specs.Roads.{IsRoads, JoinsVertices, Roads};
+ghost use Rattle.road_graph.specs.GraphData.{IsGraph, JoinsVertices, GraphData};
 
 use road_graph::{Graph, GraphFault, Memory, OutGraph, RoadArc};
 use std::alloc::Global;
 
-/// A graph that is made of its arcs.
+/// A type of graph that is built from arcs.
 pub trait FromArcs: Drop {
-    // The graph that it is.
-    ghost roads: { Self → Roads };
+    // The graph as plain data.
+    ghost roads: { Self → GraphData };
 
     /// The graph of exactly these arcs on the vertices 1 to n.
     ///
     /// # Errors
-    /// Want of memory.
+    /// Out of memory.
     fn from_arcs(alloc: Global, n: u32, arcs: Vec<RoadArc>) -> Result<Self, Memory>
         requires few_vertices { n ≤ 2 ^ 25 }
         requires few_arcs { length arcs.items ≤ 2 ^ 27 }
@@ -23,7 +23,7 @@ pub trait FromArcs: Drop {
     /// How many vertices there are.
     fn count_vertices(&self) -> u32
         ensures count { result ≡ (roads self.now).vertices }
-        ensures roads { IsRoads (roads self.now) };
+        ensures roads { IsGraph (roads self.now) };
 }
 
 impl FromArcs for Graph {

@@ -8,7 +8,7 @@ use road_graph::Graph;
 use road_text::{ReadFault, RoadRead, read_whole};
 use std::alloc::Global;
 
-/// The graph of a graph file, as a graph of any kind.
+/// The graph of a graph file. `G` is any type of graph.
 pub fn read_gr_as<R: RoadRead, G: FromArcs>(alloc: Global, from: &mut R) -> Result<G, ReadFault>
     ensures { ReadsText R.left R.failures R.asked from.old from.new gr_rules G.roads 10 19 result }
 {

@@ -1,4 +1,4 @@
-//! Makes a graph of the lines of a graph file.
+//! Builds a graph from the lines of a graph file.
 ghost use Rattle.std.specs.Prelude.{◌≡◌, None, refl};
 
 use crate::from_arcs::FromArcs;
@@ -8,7 +8,7 @@ use road_text::{LineFault, LineParser, Slot};
 use std::alloc::Global;
 use std::marker::PhantomData;
 
-/// Takes the lines of a graph file, and makes a graph of what they say.
+/// Takes the lines of a graph file, and builds the graph that they describe.
 #[derive(Drop)]
 pub struct GraphMaker<G> {
     pub parser: GraphParser,
@@ -18,7 +18,7 @@ pub struct GraphMaker<G> {
 impl<G: FromArcs> GraphMaker<G> {
     ghost use Rattle.road_files.specs.GraphTakes.{taken_of};
 
-    /// No line was taken yet.
+    /// A parser before the first line.
     pub fn new(alloc: Global) -> Self
         ensures { taken_of result.parser ≡ None }
     {

@@ -1,6 +1,6 @@
 //! Takes the lines of a graph file.
 ghost use Rattle.std.specs.Prelude.{◌≡◌, ◌<◌, ◌≤◌, ◌++◌, ◌∷◌, [], None, length, map, refl, OnOk, IfOk, IfErr, MatchResult, option_map, true, false, ℕ, List, Ok};
-ghost use Rattle.road_graph.specs.Roads.{JoinsVertices};
+ghost use Rattle.road_graph.specs.GraphData.{JoinsVertices};
 ghost use Rattle.road_text.specs.Slots.{word_in};
 ghost use Rattle.road_text.specs.Lines.{fields};
 ghost use Rattle.road_text.specs.ShortLines.{HasShortFields};
@@ -31,7 +31,7 @@ pub struct GraphParser {
 impl GraphParser {
     ghost use Rattle.road_files.specs.GraphTakes.{taken_of};
 
-    /// No line was taken yet.
+    /// A parser before the first line.
     pub fn new(alloc: Global) -> Self
         ensures { taken_of result ≡ None }
     {
@@ -40,7 +40,8 @@ impl GraphParser {
 
     #[tactic(auto, unfolding(crate::specs::GraphFiles::gr_problem))]
     fn problem(&mut self, slots: &[Slot]) -> Result<(), LineFault>
-        ensures line { Leaves (gr_problem (taken_of self.old) (map word_in slots.now)) result (taken_of self.new) }
+        ensures line { Leaves (gr_problem (taken_of self.old) (map word_in slots.now)) result
+            (taken_of self.new) }
         ensures unreserved { OnOk result (HoldsNoRoom self.new.taken) }
     {
         match &self.taken {
@@ -61,7 +62,8 @@ impl GraphParser {
     }
 
     fn arc(&mut self, slots: &[Slot]) -> Result<(), LineFault>
-        ensures { Leaves (gr_arc (taken_of self.old) (map word_in slots.now)) result (taken_of self.new) }
+        ensures { Leaves (gr_arc (taken_of self.old) (map word_in slots.now)) result
+            (taken_of self.new) }
     {
         match &mut self.taken {
             None => Err(LineFault::Broken(NO_PROBLEM)),
@@ -69,11 +71,13 @@ impl GraphParser {
         }
     }
 
-    /// Takes an arc line in one go, where it breaks no rule and there is room for the arc: else nothing changes.
+    /// Takes a whole arc line if it breaks no rule and there is room for the arc. Else it changes nothing.
     pub fn short(&mut self, letter: u8, numbers: (u64, u64, u64)) -> bool
         ensures left { result ≡ false → self.new ≡ self.old }
         ensures letter { result ≡ true → letter ≡ 97 }
-        ensures taken { result ≡ true → (l : List ℕ) → HasShortFields l letter numbers.0 numbers.1 numbers.2 → gr_line (taken_of self.old) (map word_of (fields l)) ≡ Ok (taken_of self.new) }
+        ensures taken { result ≡ true → (l : List ℕ) → HasShortFields l letter numbers.0 numbers.1
+            numbers.2 → gr_line (taken_of self.old) (map word_of (fields l)) ≡ Ok
+            (taken_of self.new) }
     {
         if letter != b'a' {
             return false;
@@ -87,7 +91,8 @@ impl GraphParser {
     /// Takes a line by its first six fields.
     #[tactic(auto, unfolding(crate::specs::GraphFiles::gr_line))]
     pub fn take(&mut self, slots: &[Slot]) -> Result<(), LineFault>
-        ensures line { Leaves (gr_line (taken_of self.old) (map word_in slots.now)) result (taken_of self.new) }
+        ensures line { Leaves (gr_line (taken_of self.old) (map word_in slots.now)) result
+            (taken_of self.new) }
         ensures unreserved { OnOk result (self.old.taken ≡ None → HoldsNoRoom self.new.taken) }
     {
         if slots.is_empty() || slots[0].begins_with(b'c') {

@@ -1,6 +1,6 @@
-//! Laws over the definitions: what is written is read again, and what the lines of a graph say is the graph.
+//! Theorems about the definitions: what is written is read back, and the lines of a graph file say what the graph is.
 ghost use Rattle.std.specs.Prelude.{◌≡◌, ◌≢◌, ℕ, ◌≤◌, ◌++◌, List, Ok, length, Option, true, false};
-ghost use Rattle.road_graph.specs.Roads.{Roads, IsRoads};
+ghost use Rattle.road_graph.specs.GraphData.{GraphData, IsGraph};
 ghost use Rattle.road_text.specs.Lines.{lines};
 ghost use Rattle.road_text.specs.Rules.{text_read};
 ghost use Rattle.road_files.specs.declared.questions.Questions.{Questions};
@@ -16,29 +16,33 @@ use crate::questions::Kind;
 /// The text of a graph has the graph as its value.
 #[tactic(auto, using(crate::proofs::GraphAgain::graph_again))]
 pub fn graph_read_again()
-    ensures { (g : Roads) → IsRoads g → text_read gr_rules (gr_text g) ≡ Ok g }
+    ensures { (g : GraphData) → IsGraph g → text_read gr_rules (gr_text g) ≡ Ok g }
 {}
 
-/// The text of questions over a graph with n vertices has the questions as its value, where a file may be of their
-/// kind, and where it is no longer than a text may be: only lists of sources can make it so long.
+/// The text of questions over a graph with n vertices has the questions as its value, if the file may be of their
+/// kind and the text is not too long. Only lists of sources can make it too long.
 #[tactic(auto, using(crate::proofs::QuestionsAgain::questions_again, crate::proofs::QuestionsAgain::short_text))]
 pub fn questions_read_again()
     ensures value { (n : ℕ) (only : Option Kind) (q : Questions) → n ≤ 33554432 → may_be only (asked_of q).kind ≡ true → AreQuestionsOf n q → length (questions_text (asked_of q)) ≤ 4294967296 →
         text_read (question_rules n only) (questions_text (asked_of q)) ≡ Ok (asked_of q) }
-    ensures short { (n : ℕ) (q : Questions) → n ≤ 33554432 → (asked_of q).kind ≢ Kind.Multi → AreQuestionsOf n q → length (questions_text (asked_of q)) ≤ 4294967296 }
+    ensures short { (n : ℕ) (q : Questions) → n ≤ 33554432 → (asked_of q).kind ≢ Kind.Multi →
+        AreQuestionsOf n q → length (questions_text (asked_of q)) ≤ 4294967296 }
 {}
 
-/// The text of a graph and then that of questions over it is a bundle of both, where it is no longer than a text may
-/// be: only lists of sources can make it so long.
+/// The text of a graph and then that of questions over it are a bundle of both, if it is not too long. Only lists of
+/// sources can make it too long.
 #[tactic(auto, using(crate::proofs::BundleAgain::bundle_again, crate::proofs::BundleAgain::short_bundle))]
 pub fn bundle_read_again()
-    ensures value { (g : Roads) (q : Questions) → IsRoads g → AreQuestionsOf g.vertices q → length (gr_text g ++ questions_text (asked_of q)) ≤ 4294967296 →
+    ensures value { (g : GraphData) (q : Questions) → IsGraph g → AreQuestionsOf g.vertices q → length (gr_text g ++ questions_text (asked_of q)) ≤ 4294967296 →
         text_read bundle_rules (gr_text g ++ questions_text (asked_of q)) ≡ Ok (g, asked_of q) }
-    ensures short { (g : Roads) (q : Questions) → IsRoads g → AreQuestionsOf g.vertices q → (asked_of q).kind ≢ Kind.Multi → length (gr_text g ++ questions_text (asked_of q)) ≤ 4294967296 }
+    ensures short { (g : GraphData) (q : Questions) → IsGraph g → AreQuestionsOf g.vertices q →
+        (asked_of q).kind ≢ Kind.Multi → length (gr_text g ++ questions_text (asked_of q)) ≤
+        4294967296 }
 {}
 
-/// The arcs of a text that is read as a graph are those of its arc lines, in order, and its one problem line says how many
+/// The arcs of a graph that is read from a text are those of its arc lines, in order. Its one problem line says how many
 /// vertices and arcs there are.
 pub fn lines_say_the_graph()
-    ensures { (bytes : List ℕ) (g : Roads) → text_read gr_rules bytes ≡ Ok g → SayGraph (lines false bytes) g }
+    ensures { (bytes : List ℕ) (g : GraphData) → text_read gr_rules bytes ≡ Ok g →
+        SayGraph (lines false bytes) g }
 {}

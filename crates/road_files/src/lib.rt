@@ -1,4 +1,5 @@
-//! Road graphs and questions over them as files of lines: readers that tell the value of a file or its first fault, and writers.
+//! Road graphs and questions over them as files of lines. Readers return the value of a file or its first fault;
+//! writers give each value its one spelling.
 #![tactic(auto)]
 
 mod bundle_files;

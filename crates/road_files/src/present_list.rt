@@ -1,4 +1,4 @@
-//! The fields of the present line, and of a line that begins with `m` the vertices of its list.
+//! What is kept of the fields of the present line: if it begins with `m`, also the vertices of its list.
 ghost use Rattle.std.specs.Prelude.{◌≡◌, ℕ, ◌+◌, ◌<◌, ◌≤◌, ◌++◌, ◌∷◌, [], List, length, All, OnOk, IfOk, IfErr, MatchResult, true, None, Ok};
 ghost use Rattle.road_text.specs.Slots.{word_in};
 ghost use Rattle.road_text.specs.Takes.{Breaks};
@@ -13,7 +13,7 @@ use road_graph::Vertex;
 use road_text::{LineFault, Rule, Slot};
 use std::alloc::Global;
 
-/// The most fields of a list's line: its letter and 1,024 sources.
+/// The most fields of a line with a list: its letter and 1,024 sources.
 const MAX_FIELDS: u32 = 1_025;
 
 /// What is kept of the fields of the present line.
@@ -25,9 +25,9 @@ pub struct PresentList {
     pub count: u32,
     /// Whether the first of them is `m`.
     pub is_list: bool,
-    /// The vertices behind an `m`, up to the first field that is none.
+    /// The vertices after an `m`, up to the first field that is none.
     pub sources: Vec<Vertex>,
-    /// The rule that this field breaks.
+    /// The rule that the first such field breaks.
     pub broken: Option<Rule>,
     ghost few: { vertices < 4294967296 },
     ghost within: { All (IsVertexOf vertices) sources.items },
@@ -35,12 +35,12 @@ pub struct PresentList {
 }
 
 impl PresentList {
-    ghost use Rattle.road_files.specs.QuestionTakes.{SoFar, sources_given};
+    ghost use Rattle.road_files.specs.QuestionTakes.{ListSoFar, sources_given};
 
-    /// No field yet, of a line over a graph with this number of vertices.
+    /// A line without fields so far, over a graph with this number of vertices.
     pub fn new(alloc: Global, vertices: u32) -> Self
         ensures vertices { result.vertices ≡ vertices }
-        ensures ready { SoFar result [] }
+        ensures ready { ListSoFar result [] }
     {
         PresentList {
             vertices,
@@ -51,20 +51,22 @@ impl PresentList {
         }
     }
 
-    /// A line begins.
+    /// Begins a new line.
     pub fn restart(&mut self)
         ensures vertices { self.new.vertices ≡ self.old.vertices }
-        ensures ready { SoFar self.new [] }
+        ensures ready { ListSoFar self.new [] }
     {
         self.count = 0;
         self.is_list = false;
     }
 
-    // One vertex more of the present list, or the first field that is none.
+    /// Takes one more vertex of the present list, or the first field that is none.
     fn add(&mut self, slot: &Slot) -> Result<(), LineFault>
         requires counted { self.old.count ≤ 1025 }
-        ensures sources { OnOk result (sources_given self.new ≡ one_vertex_more self.old.vertices (sources_given self.old) (word_in slot.now).number) }
-        ensures rest { OnOk result ((self.new.count ≡ self.old.count + 1) × (self.new.is_list ≡ self.old.is_list)) }
+        ensures sources { OnOk result (sources_given self.new ≡ one_vertex_more self.old.vertices
+            (sources_given self.old) (word_in slot.now).number) }
+        ensures rest { OnOk result ((self.new.count ≡ self.old.count + 1) ×
+            (self.new.is_list ≡ self.old.is_list)) }
         ensures vertices { self.new.vertices ≡ self.old.vertices }
         ensures memory { IfErr result (λ e. e ≡ LineFault.Memory) }
     {
@@ -87,7 +89,8 @@ impl PresentList {
 
     /// Takes the next field of the line.
     pub fn field(&mut self, slot: &Slot) -> Result<(), LineFault>
-        ensures told { OnOk result ((fs : List (List ℕ)) (f : List ℕ) → SoFar self.old fs → word_in slot.now ≡ held_word f → SoFar self.new (fs ++ f ∷ [])) }
+        ensures told { OnOk result ((fs : List (List ℕ)) (f : List ℕ) → ListSoFar self.old fs →
+            word_in slot.now ≡ held_word f → ListSoFar self.new (fs ++ f ∷ [])) }
         ensures vertices { self.new.vertices ≡ self.old.vertices }
         ensures memory { IfErr result (λ e. e ≡ LineFault.Memory) }
     {
@@ -108,11 +111,13 @@ impl PresentList {
         Ok(())
     }
 
-    /// The sources of the present list, whose line ends; the list is empty then.
+    /// The sources of the present list, at the end of its line. The list is empty after a success.
     #[tactic(auto, unfolding(crate::specs::QuestionFiles::sources_of_line))]
     pub fn whole(&mut self, alloc: Global) -> Result<Vec<Vertex>, LineFault>
         requires { self.old.is_list ≡ true }
-        ensures rule { MatchResult result (λ v. sources_of_line self.old.count (sources_given self.old) ≡ Ok (FromSources v.items)) (Breaks (sources_of_line self.old.count (sources_given self.old))) }
+        ensures rule { MatchResult result (λ v. sources_of_line self.old.count
+            (sources_given self.old) ≡ Ok (FromSources v.items))
+            (Breaks (sources_of_line self.old.count (sources_given self.old))) }
         ensures within { IfOk result (λ v. AreSourcesOf self.old.vertices v.items) }
         ensures vertices { self.new.vertices ≡ self.old.vertices }
     {

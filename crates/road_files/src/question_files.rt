@@ -11,14 +11,15 @@ use road_graph::Vertex;
 use road_text::{ReadFault, RoadRead, read_whole};
 use std::alloc::Global;
 
-// The questions of a file, which may be of one kind alone.
+/// The questions of a file, which may be restricted to one kind.
 fn read_asked<R: RoadRead>(
     alloc: Global,
     from: &mut R,
     vertices: u32,
     only: Option<Kind>,
 ) -> Result<Questions, ReadFault>
-    ensures reads { ReadsText R.left R.failures R.asked from.old from.new (question_rules vertices only) asked_of 10 19 result }
+    ensures reads { ReadsText R.left R.failures R.asked from.old from.new
+        (question_rules vertices only) asked_of 10 19 result }
     ensures fit { IfOk result (FitsFile vertices only) }
 {
     read_whole(from, QuestionParser::new(alloc, vertices, only))
@@ -30,7 +31,8 @@ pub fn read_questions<R: RoadRead>(
     from: &mut R,
     vertices: u32,
 ) -> Result<Questions, ReadFault>
-    ensures reads { ReadsText R.left R.failures R.asked from.old from.new (question_rules vertices None) asked_of 10 19 result }
+    ensures reads { ReadsText R.left R.failures R.asked from.old from.new
+        (question_rules vertices None) asked_of 10 19 result }
     ensures fit { IfOk result (AreQuestionsOf vertices) }
 {
     read_asked(alloc, from, vertices, None)
@@ -72,7 +74,8 @@ pub fn read_ss<R: RoadRead>(
     from: &mut R,
     vertices: u32,
 ) -> Result<Vec<Vertex>, ReadFault>
-    ensures reads { ReadsText R.left R.failures R.asked from.old from.new (question_rules vertices (Some Kind.Sources)) asked_of_sources 10 19 result }
+    ensures reads { ReadsText R.left R.failures R.asked from.old from.new
+        (question_rules vertices (Some Kind.Sources)) asked_of_sources 10 19 result }
     ensures fit { IfOk result (λ sources. AreQuestionsOf vertices (Questions.Sources sources)) }
 {
     let questions = read_asked(alloc, from, vertices, Some(Kind::Sources))?;
@@ -85,7 +88,8 @@ pub fn read_p2p<R: RoadRead>(
     from: &mut R,
     vertices: u32,
 ) -> Result<Vec<(Vertex, Vertex)>, ReadFault>
-    ensures reads { ReadsText R.left R.failures R.asked from.old from.new (question_rules vertices (Some Kind.Pairs)) asked_of_pairs 10 19 result }
+    ensures reads { ReadsText R.left R.failures R.asked from.old from.new
+        (question_rules vertices (Some Kind.Pairs)) asked_of_pairs 10 19 result }
     ensures fit { IfOk result (λ pairs. AreQuestionsOf vertices (Questions.Pairs pairs)) }
 {
     let questions = read_asked(alloc, from, vertices, Some(Kind::Pairs))?;
@@ -98,7 +102,8 @@ pub fn read_ms<R: RoadRead>(
     from: &mut R,
     vertices: u32,
 ) -> Result<Vec<Vec<Vertex>>, ReadFault>
-    ensures reads { ReadsText R.left R.failures R.asked from.old from.new (question_rules vertices (Some Kind.Multi)) asked_of_lists 10 19 result }
+    ensures reads { ReadsText R.left R.failures R.asked from.old from.new
+        (question_rules vertices (Some Kind.Multi)) asked_of_lists 10 19 result }
     ensures fit { IfOk result (λ lists. AreQuestionsOf vertices (Questions.Multi lists)) }
 {
     let questions = read_asked(alloc, from, vertices, Some(Kind::Multi))?;

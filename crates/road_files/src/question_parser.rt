@@ -17,7 +17,7 @@ use std::alloc::Global;
 /// The most questions of a file.
 const MAX_QUESTIONS: u32 = 1_048_576;
 
-// The kind that is named, where the file may be of it.
+/// The kind that is named, if the file may be of it.
 fn accept(only: Option<Kind>, named: Option<Kind>) -> Result<Kind, LineFault>
     ensures rule { Agrees (accepted only named) result }
     ensures kind { IfOk result (λ k. may_be only k ≡ true) }
@@ -32,7 +32,7 @@ fn accept(only: Option<Kind>, named: Option<Kind>) -> Result<Kind, LineFault>
     }
 }
 
-// No question of this kind yet.
+/// The empty list of questions of this kind.
 fn none_of(alloc: Global, kind: Kind) -> Questions
     ensures asked { asked_of result ≡ record { kind = kind; questions = [] } }
     ensures within { (n : ℕ) → AskWithin n result }
@@ -50,7 +50,7 @@ pub struct QuestionParser {
     pub alloc: Global,
     /// The one kind that the file may be of, or any.
     pub only: Option<Kind>,
-    /// What was read, once the problem line was.
+    /// What was read, once the problem line was read.
     pub begun: Option<TakenQuestions>,
     /// The fields of the present line.
     pub list: PresentList,
@@ -59,17 +59,17 @@ pub struct QuestionParser {
 }
 
 impl QuestionParser {
-    ghost use Rattle.road_files.specs.QuestionTakes.{SoFar, sources_given, begun_of, FitsFile};
+    ghost use Rattle.road_files.specs.QuestionTakes.{ListSoFar, sources_given, questions_begun, FitsFile};
     ghost use Rattle.road_files.specs.Asked.{AreQuestionsOf};
     ghost use Rattle.road_files.specs.ServiceText.{whole_or_on, Gives};
     ghost use Rattle.road_files.specs.QuestionTakes.{asked_list};
 
-    /// No line was taken yet, of questions over a graph with this number of vertices.
+    /// A parser before the first line, of questions over a graph with this number of vertices.
     pub fn new(alloc: Global, vertices: u32, only: Option<Kind>) -> Self
-        ensures begun { begun_of result ≡ None }
+        ensures begun { questions_begun result ≡ None }
         ensures only { result.only ≡ only }
         ensures vertices { result.list.vertices ≡ vertices }
-        ensures ready { SoFar result.list [] }
+        ensures ready { ListSoFar result.list [] }
     {
         QuestionParser {
             alloc,
@@ -82,7 +82,8 @@ impl QuestionParser {
     /// Takes the problem line.
     #[tactic(auto, unfolding(crate::specs::QuestionFiles::question_problem))]
     pub fn problem(&mut self, slots: &[Slot]) -> Result<(), LineFault>
-        ensures rule { Leaves (question_problem self.old.only (begun_of self.old) (map word_in slots.now)) result (begun_of self.new) }
+        ensures rule { Leaves (question_problem self.old.only (questions_begun self.old)
+            (map word_in slots.now)) result (questions_begun self.new) }
         ensures only { self.new.only ≡ self.old.only }
         ensures list { self.new.list ≡ self.old.list }
     {
@@ -104,7 +105,9 @@ impl QuestionParser {
     }
 
     fn source(&mut self, slots: &[Slot]) -> Result<(), LineFault>
-        ensures rule { Leaves (one_question Kind.Sources (begun_of self.old) (source_of_line self.old.list.vertices (map word_in slots.now))) result (begun_of self.new) }
+        ensures rule { Leaves (one_question Kind.Sources (questions_begun self.old)
+            (source_of_line self.old.list.vertices (map word_in slots.now))) result
+            (questions_begun self.new) }
         ensures only { self.new.only ≡ self.old.only }
         ensures list { self.new.list.vertices ≡ self.old.list.vertices }
     {
@@ -115,7 +118,9 @@ impl QuestionParser {
     }
 
     fn pair(&mut self, slots: &[Slot]) -> Result<(), LineFault>
-        ensures rule { Leaves (one_question Kind.Pairs (begun_of self.old) (pair_of_line self.old.list.vertices (map word_in slots.now))) result (begun_of self.new) }
+        ensures rule { Leaves (one_question Kind.Pairs (questions_begun self.old)
+            (pair_of_line self.old.list.vertices (map word_in slots.now))) result
+            (questions_begun self.new) }
         ensures only { self.new.only ≡ self.old.only }
         ensures list { self.new.list.vertices ≡ self.old.list.vertices }
     {
@@ -127,7 +132,9 @@ impl QuestionParser {
 
     fn sources(&mut self) -> Result<(), LineFault>
         requires { self.old.list.is_list ≡ true }
-        ensures rule { Leaves (one_question Kind.Multi (begun_of self.old) (sources_of_line self.old.list.count (sources_given self.old.list))) result (begun_of self.new) }
+        ensures rule { Leaves (one_question Kind.Multi (questions_begun self.old)
+            (sources_of_line self.old.list.count (sources_given self.old.list))) result
+            (questions_begun self.new) }
         ensures only { self.new.only ≡ self.old.only }
         ensures list { self.new.list.vertices ≡ self.old.list.vertices }
     {
@@ -140,7 +147,9 @@ impl QuestionParser {
     /// Takes a line by its first six fields.
     #[tactic(auto, unfolding(crate::specs::QuestionFiles::question_line_of))]
     pub fn take(&mut self, slots: &[Slot]) -> Result<(), LineFault>
-        ensures rule { Leaves (question_line_of self.old.list.vertices self.old.only (begun_of self.old) (map word_in slots.now) self.old.list.is_list self.old.list.count (sources_given self.old.list)) result (begun_of self.new) }
+        ensures rule { Leaves (question_line_of self.old.list.vertices self.old.only
+            (questions_begun self.old) (map word_in slots.now) self.old.list.is_list
+            self.old.list.count (sources_given self.old.list)) result (questions_begun self.new) }
         ensures only { self.new.only ≡ self.old.only }
         ensures list { self.new.list.vertices ≡ self.old.list.vertices }
     {
@@ -162,9 +171,13 @@ impl QuestionParser {
         Err(LineFault::Broken(UNKNOWN_LINE))
     }
 
-    /// The questions, where all announced ones are there; others may begin then.
+    /// The questions, if all announced ones are there. Other questions may begin then.
     pub fn take_whole(&mut self) -> Option<Questions>
-        ensures step { whole_or_on (begun_of self.old) (question_end (begun_of self.old)) ≡ record { ended = asked_list result; next = Gives (begun_of self.new) } }
+        ensures step { whole_or_on (questions_begun self.old)
+            (question_end (questions_begun self.old)) ≡ record {
+              ended = asked_list result;
+              next = Gives (questions_begun self.new);
+            } }
         ensures fit { IfSome result (AreQuestionsOf self.old.list.vertices) }
         ensures only { self.new.only ≡ self.old.only }
         ensures list { self.new.list ≡ self.old.list }
@@ -181,9 +194,10 @@ impl QuestionParser {
         }
     }
 
-    /// The questions, where all announced ones are there.
+    /// The questions, if all announced ones are there.
     pub fn whole(self) -> Result<Questions, LineFault>
-        ensures rule { MatchResult result (λ q. question_end (begun_of self) ≡ Ok (asked_of q)) (Breaks (question_end (begun_of self))) }
+        ensures rule { MatchResult result (λ q. question_end (questions_begun self) ≡ Ok
+            (asked_of q)) (Breaks (question_end (questions_begun self))) }
         ensures fit { IfOk result (FitsFile self.list.vertices self.only) }
     {
         let begun = self.begun;

@@ -1,4 +1,4 @@
-//! Questions over a road graph as they are held in memory.
+//! Questions over a road graph, in memory.
 ghost use Rattle.std.specs.Prelude.{◌≡◌, ◌↔◌, IsTrue};
 
 use road_graph::Vertex;
@@ -83,7 +83,7 @@ impl Questions {
         }
     }
 
-    /// Whether there is none.
+    /// Whether there are none.
     pub fn is_empty(&self) -> bool
         ensures { IsTrue result ↔ ((asked_of self.now).questions ≡ []) }
     {
@@ -93,7 +93,8 @@ impl Questions {
     /// The sources of the question at an index, in order.
     pub fn sources(&self, i: usize) -> &[Vertex]
         requires { i < length (asked_of self.now).questions }
-        ensures { (default : Question) → result.now ≡ sources_of (slice_index_or (asked_of self.now).questions i default) }
+        ensures { (default : Question) → result.now ≡ sources_of
+            (slice_index_or (asked_of self.now).questions i default) }
     {
         match self {
             Questions::Sources(sources) => std::slice::from_ref(&sources[i]),

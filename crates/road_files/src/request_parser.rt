@@ -1,10 +1,10 @@
-//! Takes the lines of a service, whose requests are question texts in a row.
+//! Takes the lines of a service, whose requests are question texts one after the other.
 ghost use Rattle.std.specs.Prelude.{◌≡◌, ℕ, ◌∷◌, [], List, true, false, None, Some, Ok, Err, IfSome, refl, ◌⊎◌};
 ghost use Rattle.std.proofs.Common.{◌∙◌};
 ghost use Rattle.road_text.specs.Lines.{fields};
 ghost use Rattle.road_text.specs.Takes.{ShowsLine};
 ghost use Rattle.road_files.specs.Asked.{AreQuestionsOf};
-ghost use Rattle.road_files.specs.QuestionTakes.{begun_of};
+ghost use Rattle.road_files.specs.QuestionTakes.{questions_begun};
 ghost use Rattle.road_files.specs.ServiceText.{ServiceState, Gives, Passes, begins_request, GiveMay, LineMay, service_end};
 
 use crate::question_parser::QuestionParser;
@@ -12,7 +12,7 @@ use crate::questions::Questions;
 use road_text::{FieldTaker, LineFault, MEMORY, Slot};
 use std::alloc::Global;
 
-/// What a request that has ended came to: its questions, or the number of its fault.
+/// The result of a request that has ended: its questions, or the number of its fault.
 #[derive(Drop)]
 pub enum Ended {
     Asked(Questions),
@@ -22,9 +22,9 @@ pub enum Ended {
 /// What a line did.
 #[derive(Drop)]
 pub struct LineDone {
-    /// Whether a request that had too few lines ended before it.
+    /// Whether a request with too few lines ended before this line.
     pub early: bool,
-    /// The request that ended with it.
+    /// The request that ended with this line.
     pub ended: Option<Ended>,
 }
 
@@ -32,13 +32,13 @@ pub struct LineDone {
 #[derive(Drop)]
 pub struct RequestParser {
     pub questions: QuestionParser,
-    /// Whether lines are passed over, up to the next problem line.
+    /// Whether lines are skipped, up to the next problem line.
     pub passing: bool,
-    /// Whether memory was refused for the present line.
+    /// Whether memory ran out at the present line.
     pub refused: bool,
 }
 
-// Whether a line begins a request.
+/// Whether a line begins a request.
 fn begins(slots: &[Slot]) -> bool
     ensures { (l : List ℕ) → ShowsLine slots.now l → result ≡ begins_request (fields l) }
 {
@@ -46,11 +46,11 @@ fn begins(slots: &[Slot]) -> bool
 }
 
 impl RequestParser {
-    ghost use Rattle.road_files.specs.RequestTakes.{state_of, ended_of, ended_list, RequestSoFar, KeepsState, EndFits};
+    ghost use Rattle.road_files.specs.RequestTakes.{parser_state, ended_of, ended_list, RequestSoFar, KeepsState, EndFits};
 
-    /// No line was taken yet, of a service over a graph with this number of vertices.
+    /// A parser before the first line, of a service over a graph with this number of vertices.
     pub fn new(alloc: Global, vertices: u32) -> Self
-        ensures state { state_of result ≡ Gives None }
+        ensures state { parser_state result ≡ Gives None }
         ensures vertices { result.questions.list.vertices ≡ vertices }
         ensures any { result.questions.only ≡ None }
         ensures ready { RequestSoFar result [] }
@@ -62,21 +62,24 @@ impl RequestParser {
         }
     }
 
-    // The request has this fault: lines are passed over from here on.
+    /// Ends the request with this fault, and skips lines from here on.
     fn fall(&mut self, number: u8) -> Option<Ended>
         ensures ended { result ≡ Some (Ended.Fault number) }
-        ensures state { state_of self.new ≡ Passes }
-        ensures rest { (self.new.questions.list ≡ self.old.questions.list) × (self.new.questions.only ≡ self.old.questions.only) }
+        ensures state { parser_state self.new ≡ Passes }
+        ensures rest { (self.new.questions.list ≡ self.old.questions.list) ×
+            (self.new.questions.only ≡ self.old.questions.only) }
     {
         self.questions.begun = None;
         self.passing = true;
         Some(Ended::Fault(number))
     }
 
-    // Gives a line to the request.
+    /// Gives a line to the request.
     fn give(&mut self, slots: &[Slot]) -> Option<Ended>
         requires any { self.old.questions.only ≡ None }
-        ensures step { (l : List ℕ) → ShowsLine slots.now l → RequestSoFar self.old (fields l) → GiveMay self.old.questions.list.vertices (fields l) (begun_of self.old.questions) (record { ended = ended_list result; next = state_of self.new }) }
+        ensures step { (l : List ℕ) → ShowsLine slots.now l → RequestSoFar self.old (fields l) →
+            GiveMay self.old.questions.list.vertices (fields l) (questions_begun self.old.questions)
+            (record { ended = ended_list result; next = parser_state self.new }) }
         ensures fit { EndFits self.old.questions.list.vertices result }
         ensures vertices { self.new.questions.list.vertices ≡ self.old.questions.list.vertices }
         ensures any { self.new.questions.only ≡ None }
@@ -97,10 +100,13 @@ impl RequestParser {
         }
     }
 
-    // Takes a line, which begins a request if it is said to.
+    /// Takes a line; `begins` says whether it begins a request.
     fn take(&mut self, slots: &[Slot], begins: bool) -> LineDone
         requires any { self.old.questions.only ≡ None }
-        ensures step { (l : List ℕ) → ShowsLine slots.now l → begins ≡ begins_request (fields l) → RequestSoFar self.old (fields l) → LineMay self.old.questions.list.vertices (state_of self.old) (fields l) (record { ended = ended_of result; next = state_of self.new }) }
+        ensures step { (l : List ℕ) → ShowsLine slots.now l → begins ≡ begins_request (fields l) →
+            RequestSoFar self.old (fields l) → LineMay self.old.questions.list.vertices
+            (parser_state self.old) (fields l)
+            (record { ended = ended_of result; next = parser_state self.new }) }
         ensures fit { EndFits self.old.questions.list.vertices result.ended }
         ensures vertices { self.new.questions.list.vertices ≡ self.old.questions.list.vertices }
         ensures any { self.new.questions.only ≡ None }
@@ -131,18 +137,20 @@ impl RequestParser {
         }
     }
 
-    /// Whether a request goes on.
+    /// Whether a request has begun and not ended.
     pub fn is_open(&self) -> bool
-        ensures open { result ≡ true → service_end (state_of self.now) ≡ Err 19 ∷ [] }
-        ensures none { result ≡ false → service_end (state_of self.now) ≡ [] }
+        ensures open { result ≡ true → service_end (parser_state self.now) ≡ Err 19 ∷ [] }
+        ensures none { result ≡ false → service_end (parser_state self.now) ≡ [] }
     {
         !self.passing && self.questions.begun.is_some()
     }
 
-    /// Takes the present line, all of whose fields were taken: these are the first six.
+    /// Takes the present line, after all its fields; `slots` are the first six.
     pub fn line(&mut self, slots: &[Slot]) -> LineDone
         requires any { self.old.questions.only ≡ None }
-        ensures step { (l : List ℕ) → ShowsLine slots.now l → RequestSoFar self.old (fields l) → LineMay self.old.questions.list.vertices (state_of self.old) (fields l) (record { ended = ended_of result; next = state_of self.new }) }
+        ensures step { (l : List ℕ) → ShowsLine slots.now l → RequestSoFar self.old (fields l) →
+            LineMay self.old.questions.list.vertices (parser_state self.old) (fields l)
+            (record { ended = ended_of result; next = parser_state self.new }) }
         ensures fit { EndFits self.old.questions.list.vertices result.ended }
         ensures ready { RequestSoFar self.new [] }
         ensures vertices { self.new.questions.list.vertices ≡ self.old.questions.list.vertices }

@@ -10,7 +10,7 @@ pub const SECOND_PROBLEM: Rule = Rule { number: 11 };
 /// A problem line with a wrong number of fields or wrong words.
 pub const BAD_PROBLEM: Rule = Rule { number: 12 };
 
-/// A line whose first field is none of the text's.
+/// A line whose first field is no keyword of the text.
 pub const UNKNOWN_LINE: Rule = Rule { number: 13 };
 
 /// A wrong number of fields.

@@ -4,7 +4,7 @@ ghost use Rattle.road_text.specs.Slots.{word_in};
 ghost use Rattle.road_text.specs.Takes.{Leaves, Breaks};
 ghost use Rattle.road_files.specs.Asked.{FromSource, of_source, of_pair, of_list, asked_of, AreQuestionsOf, AskWithin, AskWithin-prop};
 ghost use Rattle.road_files.specs.QuestionFiles.{source_of_line, pair_of_line, sources_of_line, one_more, one_question, question_end};
-ghost use Rattle.road_files.specs.Vertices.{IsVertexOf, IsPairOf, AreSourcesOf};
+ghost use Rattle.road_files.specs.Vertices.{IsVertexOf, IsVertexPairOf, AreSourcesOf};
 
 use crate::number_fields::vertex_of;
 use crate::present_list::PresentList;
@@ -14,10 +14,11 @@ use road_graph::Vertex;
 use road_text::{LineFault, Slot};
 use std::alloc::Global;
 
-// The vertex of a source's line.
+/// The vertex on the line of a source.
 #[tactic(auto, unfolding(crate::specs::QuestionFiles::source_of_line))]
 fn source_in(slots: &[Slot], vertices: u32) -> Result<Vertex, LineFault>
-    ensures rule { MatchResult result (λ v. source_of_line vertices (map word_in slots.now) ≡ Ok (FromSource v)) (Breaks (source_of_line vertices (map word_in slots.now))) }
+    ensures rule { MatchResult result (λ v. source_of_line vertices (map word_in slots.now) ≡ Ok
+        (FromSource v)) (Breaks (source_of_line vertices (map word_in slots.now))) }
     ensures within { IfOk result (IsVertexOf vertices) }
 {
     if slots.len() != 2 {
@@ -26,11 +27,12 @@ fn source_in(slots: &[Slot], vertices: u32) -> Result<Vertex, LineFault>
     vertex_of(&slots[1], vertices)
 }
 
-// The vertices of a pair's line.
+/// The vertices on the line of a pair.
 #[tactic(auto, unfolding(crate::specs::QuestionFiles::pair_of_line))]
 fn pair_in(slots: &[Slot], vertices: u32) -> Result<(Vertex, Vertex), LineFault>
-    ensures rule { MatchResult result (λ p. pair_of_line vertices (map word_in slots.now) ≡ Ok (of_pair p)) (Breaks (pair_of_line vertices (map word_in slots.now))) }
-    ensures within { IfOk result (IsPairOf vertices) }
+    ensures rule { MatchResult result (λ p. pair_of_line vertices (map word_in slots.now) ≡ Ok
+        (of_pair p)) (Breaks (pair_of_line vertices (map word_in slots.now))) }
+    ensures within { IfOk result (IsVertexPairOf vertices) }
 {
     if slots.len() != 3 {
         return Err(LineFault::Broken(FIELDS));
@@ -46,8 +48,10 @@ fn add_source(
     vertices: u32,
     slots: &[Slot],
 ) -> Result<(), LineFault>
-    ensures rule { Leaves (one_more announced (map of_source sources.old.items) (source_of_line vertices (map word_in slots.now))) result (map of_source sources.new.items) }
-    ensures within { All (IsVertexOf vertices) sources.old.items → All (IsVertexOf vertices) sources.new.items }
+    ensures rule { Leaves (one_more announced (map of_source sources.old.items)
+        (source_of_line vertices (map word_in slots.now))) result (map of_source sources.new.items) }
+    ensures within { All (IsVertexOf vertices) sources.old.items → All (IsVertexOf vertices)
+        sources.new.items }
     ensures room { length sources.old.items ≤ announced → length sources.new.items ≤ announced }
 {
     if sources.len() >= announced as usize {
@@ -66,8 +70,10 @@ fn add_pair(
     vertices: u32,
     slots: &[Slot],
 ) -> Result<(), LineFault>
-    ensures rule { Leaves (one_more announced (map of_pair pairs.old.items) (pair_of_line vertices (map word_in slots.now))) result (map of_pair pairs.new.items) }
-    ensures within { All (IsPairOf vertices) pairs.old.items → All (IsPairOf vertices) pairs.new.items }
+    ensures rule { Leaves (one_more announced (map of_pair pairs.old.items)
+        (pair_of_line vertices (map word_in slots.now))) result (map of_pair pairs.new.items) }
+    ensures within { All (IsVertexPairOf vertices) pairs.old.items → All (IsVertexPairOf vertices)
+        pairs.new.items }
     ensures room { length pairs.old.items ≤ announced → length pairs.new.items ≤ announced }
 {
     if pairs.len() >= announced as usize {
@@ -103,8 +109,11 @@ impl TakenQuestions {
         alloc: Global,
     ) -> Result<(), LineFault>
         requires { list.old.is_list ≡ true }
-        ensures rule { Leaves (one_more announced (map of_list lists.old.items) (sources_of_line list.old.count (sources_given list.old))) result (map of_list lists.new.items) }
-        ensures within { All (λ l. AreSourcesOf list.old.vertices l.items) lists.old.items → All (λ l. AreSourcesOf list.old.vertices l.items) lists.new.items }
+        ensures rule { Leaves (one_more announced (map of_list lists.old.items)
+            (sources_of_line list.old.count (sources_given list.old))) result
+            (map of_list lists.new.items) }
+        ensures within { All (λ l. AreSourcesOf list.old.vertices l.items) lists.old.items →
+            All (λ l. AreSourcesOf list.old.vertices l.items) lists.new.items }
         ensures room { length lists.old.items ≤ announced → length lists.new.items ≤ announced }
         ensures vertices { list.new.vertices ≡ list.old.vertices }
     {
@@ -120,7 +129,9 @@ impl TakenQuestions {
 
     /// Takes the line of a source.
     pub fn source(&mut self, slots: &[Slot]) -> Result<(), LineFault>
-        ensures rule { Leaves (one_question Kind.Sources (Some (asked_so_far self.old)) (source_of_line self.old.vertices (map word_in slots.now))) result (Some (asked_so_far self.new)) }
+        ensures rule { Leaves (one_question Kind.Sources (Some (asked_so_far self.old))
+            (source_of_line self.old.vertices (map word_in slots.now))) result
+            (Some (asked_so_far self.new)) }
         ensures vertices { self.new.vertices ≡ self.old.vertices }
         ensures kind { (asked_of self.new.questions).kind ≡ (asked_of self.old.questions).kind }
     {
@@ -137,7 +148,9 @@ impl TakenQuestions {
 
     /// Takes the line of a pair.
     pub fn pair(&mut self, slots: &[Slot]) -> Result<(), LineFault>
-        ensures rule { Leaves (one_question Kind.Pairs (Some (asked_so_far self.old)) (pair_of_line self.old.vertices (map word_in slots.now))) result (Some (asked_so_far self.new)) }
+        ensures rule { Leaves (one_question Kind.Pairs (Some (asked_so_far self.old))
+            (pair_of_line self.old.vertices (map word_in slots.now))) result
+            (Some (asked_so_far self.new)) }
         ensures vertices { self.new.vertices ≡ self.old.vertices }
         ensures kind { (asked_of self.new.questions).kind ≡ (asked_of self.old.questions).kind }
     {
@@ -151,7 +164,9 @@ impl TakenQuestions {
     pub fn list(&mut self, list: &mut PresentList, alloc: Global) -> Result<(), LineFault>
         requires is_list { list.old.is_list ≡ true }
         requires graph { list.old.vertices ≡ self.old.vertices }
-        ensures rule { Leaves (one_question Kind.Multi (Some (asked_so_far self.old)) (sources_of_line list.old.count (sources_given list.old))) result (Some (asked_so_far self.new)) }
+        ensures rule { Leaves (one_question Kind.Multi (Some (asked_so_far self.old))
+            (sources_of_line list.old.count (sources_given list.old))) result
+            (Some (asked_so_far self.new)) }
         ensures vertices { self.new.vertices ≡ self.old.vertices }
         ensures kind { (asked_of self.new.questions).kind ≡ (asked_of self.old.questions).kind }
         ensures list { list.new.vertices ≡ list.old.vertices }
@@ -162,9 +177,10 @@ impl TakenQuestions {
         }
     }
 
-    /// All announced questions, where they are there.
+    /// All announced questions, if they are there.
     pub fn whole(self) -> Result<Questions, LineFault>
-        ensures rule { MatchResult result (λ q. question_end (Some (asked_so_far self)) ≡ Ok (asked_of q)) (Breaks (question_end (Some (asked_so_far self)))) }
+        ensures rule { MatchResult result (λ q. question_end (Some (asked_so_far self)) ≡ Ok
+            (asked_of q)) (Breaks (question_end (Some (asked_so_far self)))) }
         ensures fit { IfOk result (AreQuestionsOf self.vertices) }
         ensures kind { IfOk result (λ q. (asked_of q).kind ≡ (asked_of self.questions).kind) }
     {

@@ -1,6 +1,6 @@
 //! The arcs of a graph file so far.
 ghost use Rattle.std.specs.Prelude.{◌≡◌, ◌<◌, ◌≤◌, ◌++◌, ◌∷◌, [], length, map, All, IfOk, IfErr, OnOk, MatchResult, option_map, true, false, Ok};
-ghost use Rattle.road_graph.specs.Roads.{JoinsVertices};
+ghost use Rattle.road_graph.specs.GraphData.{JoinsVertices};
 ghost use Rattle.road_text.specs.Slots.{word_in};
 ghost use Rattle.road_text.specs.Takes.{Leaves, Breaks};
 ghost use Rattle.road_files.specs.GraphFiles.{one_arc, gr_whole, graph_read};
@@ -33,7 +33,8 @@ impl TakenRoads {
     fn push(&mut self, arc: RoadArc) -> Result<(), LineFault>
         requires room { length self.old.arcs.items < self.old.announced }
         requires joined { JoinsVertices self.old.vertices arc }
-        ensures ok { OnOk result (roads_so_far self.new ≡ record (roads_so_far self.old) { arcs = self.old.arcs.items ++ arc ∷ [] }) }
+        ensures ok { OnOk result (roads_so_far self.new ≡ record (roads_so_far self.old)
+            { arcs = self.old.arcs.items ++ arc ∷ [] }) }
         ensures err { IfErr result (λ e. e ≡ LineFault.Memory) }
     {
         match self.arcs.push(arc) {
@@ -42,12 +43,19 @@ impl TakenRoads {
         }
     }
 
-    /// The arc of these numbers, where it breaks no rule and there is room for it: else nothing changes.
+    /// Takes the arc of these numbers if it breaks no rule and there is room for it. Else it changes nothing.
     #[tactic(auto, unfolding(crate::specs::GraphFiles::one_arc))]
     pub fn short_arc(&mut self, numbers: (u64, u64, u64)) -> bool
         ensures left { result ≡ false → self.new ≡ self.old }
-        ensures taken { result ≡ true → (roads_so_far self.new ≡ record (roads_so_far self.old) { arcs = self.old.arcs.items ++ record { tail = numbers.0; head = numbers.1; weight = numbers.2 } ∷ [] }) }
-        ensures joined { result ≡ true → FitsArc (roads_so_far self.old) numbers.0 numbers.1 numbers.2 }
+        ensures taken { result ≡ true → (roads_so_far self.new ≡ record (roads_so_far self.old) {
+          arcs = self.old.arcs.items ++ record {
+            tail = numbers.0;
+            head = numbers.1;
+            weight = numbers.2;
+          } ∷ [];
+        }) }
+        ensures joined { result ≡ true → FitsArc (roads_so_far self.old) numbers.0 numbers.1
+            numbers.2 }
     {
         let (tail, head, weight) = numbers;
         let n = u64::from(self.vertices);
@@ -68,10 +76,11 @@ impl TakenRoads {
         true
     }
 
-    /// Takes the arc of a line behind the problem line.
+    /// Takes the arc of a line after the problem line.
     #[tactic(auto, unfolding(crate::specs::GraphFiles::one_arc))]
     pub fn add(&mut self, slots: &[Slot]) -> Result<(), LineFault>
-        ensures { Leaves (one_arc (roads_so_far self.old) (map word_in slots.now)) result (roads_so_far self.new) }
+        ensures { Leaves (one_arc (roads_so_far self.old) (map word_in slots.now)) result
+            (roads_so_far self.new) }
     {
         if self.arcs.len() >= self.announced as usize {
             return Err(LineFault::Broken(TOO_MANY));
@@ -85,9 +94,10 @@ impl TakenRoads {
         self.push(RoadArc { tail, head, weight })
     }
 
-    /// All announced arcs, where they are there.
+    /// All announced arcs, if they are there.
     pub fn whole(taken: Option<TakenRoads>) -> Result<TakenRoads, LineFault>
-        ensures { MatchResult result (λ t. gr_whole (option_map roads_so_far taken) ≡ Ok (roads_so_far t)) (Breaks (gr_whole (option_map roads_so_far taken))) }
+        ensures { MatchResult result (λ t. gr_whole (option_map roads_so_far taken) ≡ Ok
+            (roads_so_far t)) (Breaks (gr_whole (option_map roads_so_far taken))) }
     {
         match taken {
             None => Err(LineFault::Broken(NO_PROBLEM)),

@@ -1,6 +1,6 @@
-//! Writes road graphs and questions, each file in its one spelling. No writer takes memory.
+//! Writes road graphs and questions, each file in its one spelling. No writer allocates memory.
 ghost use Rattle.std.specs.Prelude.{◌≡◌, ◌≤◌, ◌+◌, ◌∷◌, ℕ, List, length, map};
-ghost use Rattle.road_graph.specs.Roads.{Roads};
+ghost use Rattle.road_graph.specs.GraphData.{GraphData};
 ghost use Rattle.road_text.specs.Texts.{spelled, list_words, spaced, text_of};
 ghost use Rattle.road_text.specs.Written.{WritesText};
 ghost use Rattle.road_files.specs.Asked.{of_source, of_pair, of_list};
@@ -14,11 +14,12 @@ use road_graph::{ArcNo, Graph, Vertex};
 use road_text::{Line, RoadWrite, WriteFault, write_bytes};
 
 fn write_arcs<W: RoadWrite>(to: &mut W, graph: &Graph) -> Result<(), WriteFault>
-    ensures { WritesText W.written W.failures to.old to.new (text_of (map arc_words graph.now.arcs)) result }
+    ensures { WritesText W.written W.failures to.old to.new (text_of (map arc_words graph.now.arcs))
+        result }
 {
     let mut line = Line::new();
     // At most 2 ^ 27 arcs: their numbers fit.
-    let _vertices = graph.vertices();
+    graph.holds();
     for number in 0..graph.arcs() as u32 {
         fill_arc(&mut line, graph.arc(ArcNo(number + 1)));
         write_bytes(to, line.as_str().as_bytes())?;
@@ -26,7 +27,7 @@ fn write_arcs<W: RoadWrite>(to: &mut W, graph: &Graph) -> Result<(), WriteFault>
     Ok(())
 }
 
-/// Writes a graph as a graph file: the whole text, or, where a write fails, a front of it.
+/// Writes a graph as a graph file: the whole text, or a prefix of it if a write fails.
 pub fn write_gr<W: RoadWrite>(to: &mut W, graph: &Graph) -> Result<(), WriteFault>
     ensures { WritesText W.written W.failures to.old to.new (gr_text graph.now) result }
 {
@@ -36,7 +37,8 @@ pub fn write_gr<W: RoadWrite>(to: &mut W, graph: &Graph) -> Result<(), WriteFaul
 }
 
 fn write_sources<W: RoadWrite>(to: &mut W, sources: &[Vertex]) -> Result<(), WriteFault>
-    ensures { WritesText W.written W.failures to.old to.new (text_of (map question_words (map of_source sources.now))) result }
+    ensures { WritesText W.written W.failures to.old to.new
+        (text_of (map question_words (map of_source sources.now))) result }
 {
     let mut line = Line::new();
     for source in sources {
@@ -46,9 +48,11 @@ fn write_sources<W: RoadWrite>(to: &mut W, sources: &[Vertex]) -> Result<(), Wri
     Ok(())
 }
 
-/// Writes sources as an .ss file: the whole text, or, where a write fails, a front of it.
+/// Writes sources as an .ss file: the whole text, or a prefix of it if a write fails.
 pub fn write_ss<W: RoadWrite>(to: &mut W, sources: &[Vertex]) -> Result<(), WriteFault>
-    ensures { WritesText W.written W.failures to.old to.new (questions_text (record { kind = Kind.Sources; questions = map of_source sources.now })) result }
+    ensures { WritesText W.written W.failures to.old to.new
+        (questions_text (record { kind = Kind.Sources; questions = map of_source sources.now }))
+        result }
 {
     let line = line_of_problem(Kind::Sources, sources.len() as u64);
     write_bytes(to, line.as_str().as_bytes())?;
@@ -56,7 +60,8 @@ pub fn write_ss<W: RoadWrite>(to: &mut W, sources: &[Vertex]) -> Result<(), Writ
 }
 
 fn write_pairs<W: RoadWrite>(to: &mut W, pairs: &[(Vertex, Vertex)]) -> Result<(), WriteFault>
-    ensures { WritesText W.written W.failures to.old to.new (text_of (map question_words (map of_pair pairs.now))) result }
+    ensures { WritesText W.written W.failures to.old to.new
+        (text_of (map question_words (map of_pair pairs.now))) result }
 {
     let mut line = Line::new();
     for pair in pairs {
@@ -66,16 +71,17 @@ fn write_pairs<W: RoadWrite>(to: &mut W, pairs: &[(Vertex, Vertex)]) -> Result<(
     Ok(())
 }
 
-/// Writes pairs of a source and a target as a .p2p file: the whole text, or, where a write fails, a front of it.
+/// Writes pairs of a source and a target as a .p2p file: the whole text, or a prefix of it if a write fails.
 pub fn write_p2p<W: RoadWrite>(to: &mut W, pairs: &[(Vertex, Vertex)]) -> Result<(), WriteFault>
-    ensures { WritesText W.written W.failures to.old to.new (questions_text (record { kind = Kind.Pairs; questions = map of_pair pairs.now })) result }
+    ensures { WritesText W.written W.failures to.old to.new
+        (questions_text (record { kind = Kind.Pairs; questions = map of_pair pairs.now })) result }
 {
     let line = line_of_problem(Kind::Pairs, pairs.len() as u64);
     write_bytes(to, line.as_str().as_bytes())?;
     write_pairs(to, pairs)
 }
 
-// Writes each vertex after a space, and the line's end.
+/// Writes each vertex after a space, and then the line's end.
 fn write_vertices<W: RoadWrite>(to: &mut W, vertices: &[Vertex]) -> Result<(), WriteFault>
     ensures { WritesText W.written W.failures to.old to.new (spaced vertices.now) result }
 {
@@ -87,21 +93,24 @@ fn write_vertices<W: RoadWrite>(to: &mut W, vertices: &[Vertex]) -> Result<(), W
     write_bytes(to, b"\n")
 }
 
-/// Writes a line of a word and vertices, or a prefix of it. It takes no memory, however long the list is.
+/// Writes a line of a word and vertices, or a prefix of it if a write fails. It allocates no memory, however long the
+/// list is.
 #[tactic(auto, using(road_text::proofs::ListLaws::list_then, road_text::proofs::ListLaws::list_fell))]
 pub fn write_list<W: RoadWrite>(
     to: &mut W,
     word: &[u8],
     vertices: &[Vertex],
 ) -> Result<(), WriteFault>
-    ensures { WritesText W.written W.failures to.old to.new (spelled (list_words word.now vertices.now)) result }
+    ensures { WritesText W.written W.failures to.old to.new
+        (spelled (list_words word.now vertices.now)) result }
 {
     write_bytes(to, word)?;
     write_vertices(to, vertices)
 }
 
 fn write_lists<W: RoadWrite>(to: &mut W, lists: &[Vec<Vertex>]) -> Result<(), WriteFault>
-    ensures { WritesText W.written W.failures to.old to.new (text_of (map question_words (map of_list lists.now))) result }
+    ensures { WritesText W.written W.failures to.old to.new
+        (text_of (map question_words (map of_list lists.now))) result }
 {
     for list in lists {
         write_list(to, b"m", list)?;
@@ -109,9 +118,10 @@ fn write_lists<W: RoadWrite>(to: &mut W, lists: &[Vec<Vertex>]) -> Result<(), Wr
     Ok(())
 }
 
-/// Writes lists of sources as an .ms file: the whole text, or, where a write fails, a front of it.
+/// Writes lists of sources as an .ms file: the whole text, or a prefix of it if a write fails.
 pub fn write_ms<W: RoadWrite>(to: &mut W, lists: &[Vec<Vertex>]) -> Result<(), WriteFault>
-    ensures { WritesText W.written W.failures to.old to.new (questions_text (record { kind = Kind.Multi; questions = map of_list lists.now })) result }
+    ensures { WritesText W.written W.failures to.old to.new
+        (questions_text (record { kind = Kind.Multi; questions = map of_list lists.now })) result }
 {
     let line = line_of_problem(Kind::Multi, lists.len() as u64);
     write_bytes(to, line.as_str().as_bytes())?;

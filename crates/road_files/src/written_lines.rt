@@ -1,4 +1,4 @@
-//! Lines of files, each put together before it is written.
+//! Lines of files, each built before it is written.
 ghost use Rattle.std.specs.Prelude.{◌≡◌, ◌∷◌, ◌≤◌, [], codes, decimal, length};
 ghost use Rattle.road_text.specs.Texts.{spelled};
 ghost use Rattle.road_files.specs.WrittenFiles.{graph_words, arc_words, problem_words, question_words};
@@ -69,7 +69,7 @@ pub fn fill_pair(line: &mut Line, pair: (Vertex, Vertex))
     line.push_str("\n");
 }
 
-/// A vertex of a list, behind a space.
+/// A vertex of a list, after a space.
 pub fn fill_vertex(line: &mut Line, vertex: Vertex)
     ensures { line.new.bytes ≡ 32 ∷ decimal vertex }
 {

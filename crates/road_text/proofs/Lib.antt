@@ -1,18 +1,18 @@
 pub mod Splits
-pub mod ScanLaws
-pub mod ScannerLaws
+mod ScanLaws
+mod ScannerLaws
 pub mod TextLaws
-pub mod ReaderLaws
-pub mod ReadingLaws
+mod ReaderLaws
+mod ReadingLaws
 pub mod WordLaws
 pub mod ParserLaws
 pub mod WriteLaws
 pub mod ListFields
 pub mod ListLaws
-pub mod FirstFault
+mod FirstFault
 pub mod RoundTrip
-pub mod ShortLineLaws
+mod ShortLineLaws
 pub mod OwnNumbers
 pub mod WholeTexts
-pub mod FrontNumbers
-pub mod CutterLaws
+mod LeadingNumbers
+mod CutterLaws

@@ -3,7 +3,7 @@ use Rattle.std.proofs.Common.{◌≡◌, ◌≢◌, ℕ, ◌+◌, ◌≤◌, ◌
 use Rattle.road_text.specs.declared.faults.ReadFault.{ReadFault}
 use Rattle.road_text.specs.Lines.{fields, lines}
 use Rattle.road_text.specs.Reads.{IsNumberFrom, IsReadNumber, ReadsSomeFault}
-use Rattle.road_text.specs.Rules.{Rules, ◌>>=◌, unless, at_line, reading, text_read, too_long}
+use Rattle.road_text.specs.Rules.{Rules, ◌>>=◌, unless, at_line, value_of_lines, text_read, too_long}
 use Rattle.road_text.specs.Words.{number_up_to}
 
 -- no fault, or one of these numbers
@@ -41,7 +41,7 @@ module _ (least greatest : ℕ) where
     own_line at (Ok t) f h more = more t
     own_line at (Err k) f h more = inr h.own
 
-    own_reading : (cut : Bool) (at : ℕ) (s : S) (ls : List (List ℕ)) → IsOwnOrLong (reading cut rules at s ls)
+    own_reading : (cut : Bool) (at : ℕ) (s : S) (ls : List (List ℕ)) → IsOwnOrLong (value_of_lines cut rules at s ls)
     own_reading true at s [] = inl refl
     own_reading false at s [] = own_end at (rules.end s) (end s)
     own_reading cut at s (l ∷ ls) = own_line at (rules.line s (fields l)) _ (line s (fields l)) (λ t. own_reading cut (at + 1) t ls)

@@ -61,17 +61,17 @@ module _ {T V : Type 0} (meaning : Meaning T V) (parser : T) where
   stops_at_end left old new before after s (Broken f) few same p c e h = (same, ends left old new s (Err f) few p c e h)
 
   -- a fault of a line that ends within the bytes that fit
-  front_breaks : (all front rest : List ℕ) (f : ReadFault) → all ≡ front ++ rest → length front ≤ 4294967296 → ((cut : Bool) (more : List ℕ) → meaning.gives cut parser 1 (lines cut (front ++ more)) (Err f)) → TextGives meaning parser all (Err f)
-  front_breaks all front rest f e le h = by_test (nat_lt 4294967296 (length all))
+  prefix_breaks : (all prefix rest : List ℕ) (f : ReadFault) → all ≡ prefix ++ rest → length prefix ≤ 4294967296 → ((cut : Bool) (more : List ℕ) → meaning.gives cut parser 1 (lines cut (prefix ++ more)) (Err f)) → TextGives meaning parser all (Err f)
+  prefix_breaks all prefix rest f e le h = by_test (nat_lt 4294967296 (length all))
     where
       by_test : (b : Bool) → MatchBool b (meaning.gives true parser 1 (lines true (take 4294967296 all)) (Err f)) (meaning.gives false parser 1 (lines false all) (Err f))
-      by_test true = rw (e, take-append_past 4294967296 front rest le) (h true (take (4294967296 - length front) rest))
+      by_test true = rw (e, take-append_past 4294967296 prefix rest le) (h true (take (4294967296 - length prefix) rest))
       by_test false = rw e (h false rest)
 
-  front_cut : (all front rest : List ℕ) → all ≡ front ++ rest → length front ≡ 4294967296 → 0 < length rest → meaning.gives true parser 1 (lines true front) (Err too_long) → (4294967296 < length all) × TextGives meaning parser all (Err too_long)
-  front_cut all front rest e full some h =
-      let long : 4294967296 < length all = omega (arith, ap length e, length-append front rest) in
-      let first : take 4294967296 all ≡ front = ap (take 4294967296) e ∙ ap (λ n. take n (front ++ rest)) (sym full) ∙ take-append_seam front rest in
+  prefix_cut : (all prefix rest : List ℕ) → all ≡ prefix ++ rest → length prefix ≡ 4294967296 → 0 < length rest → meaning.gives true parser 1 (lines true prefix) (Err too_long) → (4294967296 < length all) × TextGives meaning parser all (Err too_long)
+  prefix_cut all prefix rest e full some h =
+      let long : 4294967296 < length all = omega (arith, ap length e, length-append prefix rest) in
+      let first : take 4294967296 all ≡ prefix = ap (take 4294967296) e ∙ ap (λ n. take n (prefix ++ rest)) (sym full) ∙ take-append_seam prefix rest in
       (long, rw (lt-ltb 4294967296 (length all) long, first) h)
 
   pub stops_in : (left old new : Option (List ℕ)) (before after : ℕ) (s : LineReader T) (piece : List ℕ) (h : Halt) → after ≡ before → HasRead meaning parser left old s → Consumes old new piece → Halts meaning s piece h → Stops meaning parser left before after h
@@ -82,9 +82,9 @@ module _ {T V : Type 0} (meaning : Meaning T V) (parser : T) where
       cut_in None old new s piece p c h = tt
       cut_in (Some all) None new s piece p c h = absurd p
       cut_in (Some all) (Some rest) None s piece p c h = absurd c
-      cut_in (Some all) (Some rest) (Some more) s piece (done, a, (n, g)) c (front, after, d, some, full, rest_gives) =
-          front_cut all (done ++ front) (after ++ more) (a ∙ ap (λ x. done ++ x) (c ∙ ap (λ x. x ++ more) d ∙ append_assoc front after more) ∙ sym (append_assoc done front (after ++ more)))
-          (omega (arith, n, full, length-append done front)) (omega (arith, length-append after more)) (g true front (Err too_long) rest_gives)
+      cut_in (Some all) (Some rest) (Some more) s piece (done, a, (n, g)) c (prefix, after, d, some, full, rest_gives) =
+          prefix_cut all (done ++ prefix) (after ++ more) (a ∙ ap (λ x. done ++ x) (c ∙ ap (λ x. x ++ more) d ∙ append_assoc prefix after more) ∙ sym (append_assoc done prefix (after ++ more)))
+          (omega (arith, n, full, length-append done prefix)) (omega (arith, length-append after more)) (g true prefix (Err too_long) rest_gives)
   stops_in left old new before after s piece Memory same p c h = same
   stops_in left old new before after s piece (Broken f) same p c h = (same, broken_in left old new s piece f p c h)
     where
@@ -92,9 +92,9 @@ module _ {T V : Type 0} (meaning : Meaning T V) (parser : T) where
       broken_in None old new s piece f p c h = tt
       broken_in (Some all) None new s piece f p c h = absurd p
       broken_in (Some all) (Some rest) None s piece f p c h = absurd c
-      broken_in (Some all) (Some rest) (Some more) s piece f (done, a, (n, g)) c (front, after, d, fits, rest_gives) =
-          front_breaks all (done ++ front) (after ++ more) f (a ∙ ap (λ x. done ++ x) (c ∙ ap (λ x. x ++ more) d ∙ append_assoc front after more) ∙ sym (append_assoc done front (after ++ more)))
-          (omega (arith, n, fits, length-append done front)) (λ cut x. rw (append_assoc done front x) (g cut (front ++ x) (Err f) (rest_gives cut x)))
+      broken_in (Some all) (Some rest) (Some more) s piece f (done, a, (n, g)) c (prefix, after, d, fits, rest_gives) =
+          prefix_breaks all (done ++ prefix) (after ++ more) f (a ∙ ap (λ x. done ++ x) (c ∙ ap (λ x. x ++ more) d ∙ append_assoc prefix after more) ∙ sym (append_assoc done prefix (after ++ more)))
+          (omega (arith, n, fits, length-append done prefix)) (λ cut x. rw (append_assoc done prefix x) (g cut (prefix ++ x) (Err f) (rest_gives cut x)))
 
   -- some text has been taken, whether the reader of bytes tells it or not
   has_taken_some : (left old : Option (List ℕ)) (s : LineReader T) → HasRead meaning parser left old s → (done : List ℕ) × HasTaken meaning parser done s

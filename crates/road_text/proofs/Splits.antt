@@ -50,9 +50,9 @@ slice_split-other {X = X} p (x ∷ xs) y h = rw (slice_split-other p xs y h) (at
     at true [] some = absurd (omega arith)
     at false parts some = onto_first-last x y parts some
 
--- a front of n bytes, and the rest up to a limit
-pub take-append_past : (limit : ℕ) (front after : List ℕ) → length front ≤ limit → take limit (front ++ after) ≡ front ++ take (limit - length front) after
-take-append_past limit front after le = ap (λ n. take n (front ++ after)) (room limit (length front) le) ∙ take-append-add front after (limit - length front)
+-- a prefix of n bytes, and the rest up to a limit
+pub take-append_past : (limit : ℕ) (prefix after : List ℕ) → length prefix ≤ limit → take limit (prefix ++ after) ≡ prefix ++ take (limit - length prefix) after
+take-append_past limit prefix after le = ap (λ n. take n (prefix ++ after)) (room limit (length prefix) le) ∙ take-append-add prefix after (limit - length prefix)
   where
     room : (limit n : ℕ) → n ≤ limit → limit ≡ n + (limit - n)
     room limit n le = omega arith
@@ -65,6 +65,6 @@ All-one P b h (suc k) d lt = absurd (omega arith)
 pub plain_digit : (b : ℕ) → is_ascii_digit b ≡ true → is_plain b ≡ true
 plain_digit b digit = grind (arith, digit)
 
--- a piece at the front of the rest
+-- a piece at the prefix of the rest
 pub take_further : (at n : ℕ) (xs more : List ℕ) → take (at + n) xs ++ more ≡ take at xs ++ (take n (take (length xs - at) (drop at xs)) ++ more)
 take_further at n xs more = rw (take_rest xs at) (ap (λ x. x ++ more) (take-add at n xs) ∙ append_assoc (take at xs) (take n (drop at xs)) more)

@@ -7,8 +7,8 @@ use Rattle.std.proofs.lemmas.Option.{IfSome_then}
 use Rattle.std.proofs.lemmas.Result.{IfOk-weaker, IfErr-weaker}
 use Rattle.road_text.specs.declared.faults.ReadFault.{ReadFault}
 use Rattle.road_text.specs.Lines.{lines}
-use Rattle.road_text.specs.Reads.{ReadsText, ReadsValue, ReadsSome, ReadsFault, ReadsSomeFault, TellsFailure, TellsNoOther, IsTooLong, IsPlaced, IsReadNumber, FailsOnce, FailsAfter, RunsOutAfter, BreaksNone, FailsUnbroken, RunsOutUnbroken}
-use Rattle.road_text.specs.Rules.{Rules, reading, text_read, too_long}
+use Rattle.road_text.specs.Reads.{ReadsText, ReadsValue, ReadsSome, ReadsFault, ReadsSomeFault, TellsFailure, TellsNoOther, IsTooLong, HasLineIfInText, IsReadNumber, FailsOnce, FailsAfter, RunsOutAfter, BreaksNone, FailsUnbroken, RunsOutUnbroken}
+use Rattle.road_text.specs.Rules.{Rules, value_of_lines, text_read, too_long}
 use Rattle.road_text.proofs.FirstFault.{breaks_none}
 use Rattle.road_text.specs.Reading.{TextGives, SomeTextGives, IsUnbroken}
 use Rattle.road_text.specs.Meaning.{Meaning}
@@ -20,8 +20,8 @@ by_test false x y v p q h = q h
 
 -- a parser that gives values and faults by these rules, of the whole text
 module _ {S V T R : Type 0} (rules : Rules S V) (view : R → V) (meaning : Meaning T R) (parser : T)
-    (by_value : (cut : Bool) (ls : List (List ℕ)) (v : R) → meaning.gives cut parser 1 ls (Ok v) → reading cut rules 1 rules.start ls ≡ Ok (view v))
-    (by_fault : (cut : Bool) (ls : List (List ℕ)) (f : ReadFault) → meaning.gives cut parser 1 ls (Err f) → reading cut rules 1 rules.start ls ≡ Err f) where
+    (by_value : (cut : Bool) (ls : List (List ℕ)) (v : R) → meaning.gives cut parser 1 ls (Ok v) → value_of_lines cut rules 1 rules.start ls ≡ Ok (view v))
+    (by_fault : (cut : Bool) (ls : List (List ℕ)) (f : ReadFault) → meaning.gives cut parser 1 ls (Err f) → value_of_lines cut rules 1 rules.start ls ≡ Err f) where
   value_of_text : (all : List ℕ) (v : R) → TextGives meaning parser all (Ok v) → text_read rules all ≡ Ok (view v)
   value_of_text all v h = by_test (nat_lt 4294967296 (length all)) _ _ (Ok (view v)) (by_value true (lines true (take 4294967296 all)) v) (by_value false (lines false all) v) h
 
@@ -54,7 +54,7 @@ module _ {S V T R : Type 0} (rules : Rules S V) (view : R → V) (meaning : Mean
       → ((s : S) (fs : List (List ℕ)) → IsOwn least greatest (rules.line s fs)) → ((s : S) → IsOwn least greatest (rules.end s)) → (r : Result R ReadFault)
       → IfOk r (λ v. IfSome (bytes old) (λ all. TextGives meaning parser all (Ok v))) → IfOk r (λ v. SomeTextGives meaning parser (Ok v))
       → IfErr r (λ f. 2 ≤ f.number → f.number ≢ 3 → IfSome (bytes old) (λ all. TextGives meaning parser all (Err f))) → IfErr r (λ f. 2 ≤ f.number → f.number ≢ 3 → SomeTextGives meaning parser (Err f))
-      → OnOk r (failed new ≡ failed old) → TellsFailure (failed old) (failed new) r → TellsNoOther (failed old) (failed new) r → IsTooLong (bytes old) r → IsPlaced r → IsReadNumber 10 255 r
+      → OnOk r (failed new ≡ failed old) → TellsFailure (failed old) (failed new) r → TellsNoOther (failed old) (failed new) r → IsTooLong (bytes old) r → HasLineIfInText r → IsReadNumber 10 255 r
       → OnOk r (IsAtEnd (bytes new)) → reads new ≤ reads old + 4294967297 → FailsOnce (failed old) (failed new) r
       → IfErr r (λ f. f.number ≡ 1 → FailsAfter (IsUnbroken meaning parser) (bytes old) (bytes new)) → IfErr r (λ f. f.number ≡ 3 → RunsOutAfter (IsUnbroken meaning parser) (bytes old) (bytes new))
       → ReadsText bytes failed reads old new rules view least greatest r

@@ -3,65 +3,65 @@ use Rattle.std.proofs.Common.{◌≡◌, ℕ, List, [], ◌++◌, take, drop, Op
 use Rattle.std.specs.Io.KnownBytes.{Appends}
 use Rattle.std.specs.Result.{IsErrAnd}
 use Rattle.std.proofs.KnownBytes.{Appends-trans, Appends-nil}
-use Rattle.road_text.specs.Written.{Left, Fell, Wrote}
+use Rattle.road_text.specs.Written.{WrotePrefix, FailedAfterPrefix, Wrote}
 
 -- nothing was written yet
-pub left_start : (old : Option (List ℕ)) (before : ℕ) (text : List ℕ) → Left old old before before text text
-left_start old before text = record { front = []; text_is = refl; bytes = Appends-nil old; sound = refl }
+pub left_start : (old : Option (List ℕ)) (before : ℕ) (text : List ℕ) → WrotePrefix old old before before text text
+left_start old before text = record { prefix = []; text_is = refl; bytes = Appends-nil old; sound = refl }
 
 -- one piece more was written
-pub left_more : {old mid new : Option (List ℕ)} {b m a : ℕ} {text x rest : List ℕ} → Left old mid b m text (x ++ rest) → Left mid new m a x [] → Left old new b a text rest
+pub left_more : {old mid new : Option (List ℕ)} {b m a : ℕ} {text x rest : List ℕ} → WrotePrefix old mid b m text (x ++ rest) → WrotePrefix mid new m a x [] → WrotePrefix old new b a text rest
 left_more {old = old} {mid = mid} {new = new} {x = x} {rest = rest} was piece = record {
-  front = was.front ++ piece.front;
-  text_is = was.text_is ∙ ap (λ y. was.front ++ (y ++ rest)) (piece.text_is ∙ append-nil piece.front) ∙ sym (append_assoc was.front piece.front rest);
-  bytes = Appends-trans old mid new was.front piece.front was.bytes piece.bytes;
+  prefix = was.prefix ++ piece.prefix;
+  text_is = was.text_is ∙ ap (λ y. was.prefix ++ (y ++ rest)) (piece.text_is ∙ append-nil piece.prefix) ∙ sym (append_assoc was.prefix piece.prefix rest);
+  bytes = Appends-trans old mid new was.prefix piece.prefix was.bytes piece.bytes;
   sound = piece.sound ∙ was.sound;
 }
 
 -- a piece was cut short
-pub left_fell : {old mid new : Option (List ℕ)} {b m a : ℕ} {text x : List ℕ} (rest : List ℕ) → Left old mid b m text (x ++ rest) → Fell mid new m a x → Fell old new b a text
+pub left_fell : {old mid new : Option (List ℕ)} {b m a : ℕ} {text x : List ℕ} (rest : List ℕ) → WrotePrefix old mid b m text (x ++ rest) → FailedAfterPrefix mid new m a x → FailedAfterPrefix old new b a text
 left_fell {old = old} {mid = mid} {new = new} {x = x} rest was piece = record {
-  front = was.front ++ piece.front;
+  prefix = was.prefix ++ piece.prefix;
   rest = piece.rest ++ rest;
-  text_is = was.text_is ∙ ap (λ y. was.front ++ (y ++ rest)) piece.text_is ∙ ap (λ y. was.front ++ y) (append_assoc piece.front piece.rest rest) ∙ sym (append_assoc was.front piece.front (piece.rest ++ rest));
-  bytes = Appends-trans old mid new was.front piece.front was.bytes piece.bytes;
+  text_is = was.text_is ∙ ap (λ y. was.prefix ++ (y ++ rest)) piece.text_is ∙ ap (λ y. was.prefix ++ y) (append_assoc piece.prefix piece.rest rest) ∙ sym (append_assoc was.prefix piece.prefix (piece.rest ++ rest));
+  bytes = Appends-trans old mid new was.prefix piece.prefix was.bytes piece.bytes;
   failed = piece.failed ∙ ap (λ k. k + 1) was.sound;
 }
 
--- a front of the rest was written by one write
-pub left_more_front : (old mid new : Option (List ℕ)) (b m a n : ℕ) (text rest after : List ℕ) → after ≡ drop n rest → Left old mid b m text rest → Appends mid new (take n rest) → a ≡ m → Left old new b a text after
-left_more_front old mid new b m a n text rest after is was p e = record {
-  front = was.front ++ take n rest;
-  text_is = was.text_is ∙ ap (λ y. was.front ++ y) (sym (take-append-drop n rest)) ∙ sym (append_assoc was.front (take n rest) (drop n rest)) ∙ ap (λ y. (was.front ++ take n rest) ++ y) (sym is);
-  bytes = Appends-trans old mid new was.front (take n rest) was.bytes p;
+-- a prefix of the rest was written by one write
+pub left_more_prefix : (old mid new : Option (List ℕ)) (b m a n : ℕ) (text rest after : List ℕ) → after ≡ drop n rest → WrotePrefix old mid b m text rest → Appends mid new (take n rest) → a ≡ m → WrotePrefix old new b a text after
+left_more_prefix old mid new b m a n text rest after is was p e = record {
+  prefix = was.prefix ++ take n rest;
+  text_is = was.text_is ∙ ap (λ y. was.prefix ++ y) (sym (take-append-drop n rest)) ∙ sym (append_assoc was.prefix (take n rest) (drop n rest)) ∙ ap (λ y. (was.prefix ++ take n rest) ++ y) (sym is);
+  bytes = Appends-trans old mid new was.prefix (take n rest) was.bytes p;
   sound = e ∙ was.sound;
 }
 
 -- one piece more, as it was put together
-pub left_step : (old mid new : Option (List ℕ)) (b m a : ℕ) (text all x line rest : List ℕ) → all ≡ x ++ rest → line ≡ x → Left old mid b m text all → Left mid new m a line [] → Left old new b a text rest
-left_step old mid new b m a text all x line rest e is was piece = left_more (subst (Left old mid b m text) e was) (subst (λ y. Left mid new m a y []) is piece)
+pub left_step : (old mid new : Option (List ℕ)) (b m a : ℕ) (text all x line rest : List ℕ) → all ≡ x ++ rest → line ≡ x → WrotePrefix old mid b m text all → WrotePrefix mid new m a line [] → WrotePrefix old new b a text rest
+left_step old mid new b m a text all x line rest e is was piece = left_more (subst (WrotePrefix old mid b m text) e was) (subst (λ y. WrotePrefix mid new m a y []) is piece)
 
 -- such a piece was cut short
-pub fell_step : (old mid new : Option (List ℕ)) (b m a : ℕ) (text all x line rest : List ℕ) → all ≡ x ++ rest → line ≡ x → Left old mid b m text all → Fell mid new m a line → Fell old new b a text
-fell_step old mid new b m a text all x line rest e is was piece = left_fell rest (subst (Left old mid b m text) e was) (subst (Fell mid new m a) is piece)
+pub fell_step : (old mid new : Option (List ℕ)) (b m a : ℕ) (text all x line rest : List ℕ) → all ≡ x ++ rest → line ≡ x → WrotePrefix old mid b m text all → FailedAfterPrefix mid new m a line → FailedAfterPrefix old new b a text
+fell_step old mid new b m a text all x line rest e is was piece = left_fell rest (subst (WrotePrefix old mid b m text) e was) (subst (FailedAfterPrefix mid new m a) is piece)
 
 -- the last piece
-pub wrote_last : {A E : Type 0} (old mid new : Option (List ℕ)) (b m a : ℕ) (text all line : List ℕ) (r : Result A E) → line ≡ all → Left old mid b m text all → Wrote mid new m a line r → Wrote old new b a text r
+pub wrote_last : {A E : Type 0} (old mid new : Option (List ℕ)) (b m a : ℕ) (text all line : List ℕ) (r : Result A E) → line ≡ all → WrotePrefix old mid b m text all → Wrote mid new m a line r → Wrote old new b a text r
 wrote_last old mid new b m a text all line (Ok v) is was piece = left_step old mid new b m a text all all line [] (sym (append-nil all)) is was piece
 wrote_last old mid new b m a text all line (Err e) is was piece = fell_step old mid new b m a text all all line [] (sym (append-nil all)) is was piece
 
 -- nothing is left
-pub left_end : (old new : Option (List ℕ)) (b a : ℕ) (text rest : List ℕ) → rest ≡ [] → Left old new b a text rest → Left old new b a text []
-left_end old new b a text rest e was = subst (Left old new b a text) e was
+pub left_end : (old new : Option (List ℕ)) (b a : ℕ) (text rest : List ℕ) → rest ≡ [] → WrotePrefix old new b a text rest → WrotePrefix old new b a text []
+left_end old new b a text rest e was = subst (WrotePrefix old new b a text) e was
 
 -- two texts, one after the other
-pub wrote_then : {B E : Type 0} (old mid new : Option (List ℕ)) (b m a : ℕ) (x y : List ℕ) (r : Result B E) → Left old mid b m x [] → Wrote mid new m a y r → Wrote old new b a (x ++ y) r
-wrote_then old mid new b m a x y r was next = wrote_last old mid new b m a (x ++ y) y y r refl (record { front = was.front; text_is = ap (λ k. k ++ y) (was.text_is ∙ append-nil was.front); bytes = was.bytes; sound = was.sound }) next
+pub wrote_then : {B E : Type 0} (old mid new : Option (List ℕ)) (b m a : ℕ) (x y : List ℕ) (r : Result B E) → WrotePrefix old mid b m x [] → Wrote mid new m a y r → Wrote old new b a (x ++ y) r
+wrote_then old mid new b m a x y r was next = wrote_last old mid new b m a (x ++ y) y y r refl (record { prefix = was.prefix; text_is = ap (λ k. k ++ y) (was.text_is ∙ append-nil was.prefix); bytes = was.bytes; sound = was.sound }) next
 
-pub fell_first : (old new : Option (List ℕ)) (b a : ℕ) (x y : List ℕ) → Fell old new b a x → Fell old new b a (x ++ y)
-fell_first old new b a x y was = record { front = was.front; rest = was.rest ++ y; text_is = ap (λ k. k ++ y) was.text_is ∙ append_assoc was.front was.rest y; bytes = was.bytes; failed = was.failed }
+pub fell_first : (old new : Option (List ℕ)) (b a : ℕ) (x y : List ℕ) → FailedAfterPrefix old new b a x → FailedAfterPrefix old new b a (x ++ y)
+fell_first old new b a x y was = record { prefix = was.prefix; rest = was.rest ++ y; text_is = ap (λ k. k ++ y) was.text_is ∙ append_assoc was.prefix was.rest y; bytes = was.bytes; failed = was.failed }
 
 -- what a failed write left is what a function leaves that returns its fault
-pub fell_out : {A E : Type 0} (Is : E → Type 0) (old new : Option (List ℕ)) (b a : ℕ) (text : List ℕ) (r : Result A E) → IsErrAnd r Is → Fell old new b a text → Wrote old new b a text r
+pub fell_out : {A E : Type 0} (Is : E → Type 0) (old new : Option (List ℕ)) (b a : ℕ) (text : List ℕ) (r : Result A E) → IsErrAnd r Is → FailedAfterPrefix old new b a text → Wrote old new b a text r
 fell_out Is old new b a text (Ok x) err was = absurd err
 fell_out Is old new b a text (Err e) err was = was

@@ -5,7 +5,7 @@ use Rattle.std.specs.Str.{all_ascii_digits}
 use Rattle.std.specs.Str.Parse.{digits_value}
 use Rattle.std.specs.Str.Lines.{strip_carriage_return}
 
--- what follows the last LF: a line, if it is anything; of a text that is cut short it is none
+-- the line after the last LF: none if no byte follows, or if the text is cut short
 abbrev pub last_line : Bool → List ℕ → List (List ℕ)
 last_line true x = []
 last_line false [] = []
@@ -25,7 +25,7 @@ is_line_end b = b == 10
 unfoldable pub lines : Bool → List ℕ → List (List ℕ)
 lines cut bytes = lines_of_parts cut (slice_split is_line_end bytes)
 
--- whether a byte stands between fields: a space or a tab
+-- whether a byte separates fields: a space or a tab
 abbrev pub is_gap : ℕ → Bool
 is_gap b = (b == 32) || (b == 9)
 
@@ -34,10 +34,10 @@ abbrev pub has_bytes : List ℕ → Bool
 has_bytes [] = false
 has_bytes (b ∷ f) = true
 
--- the fields of a line: what stands between gaps, where it isn't nothing
+-- the fields of a line: its parts between gaps that are not empty
 unfoldable pub fields : List ℕ → List (List ℕ)
 fields line = filter has_bytes (slice_split is_gap line)
 
--- the number that a field is, if it is one: decimal digits alone, as many as there are
+-- the number that a field is, if it is one: decimal digits alone, however many
 unfoldable pub number : List ℕ → Option ℕ
 number field = if all_ascii_digits field then Some (digits_value 10 field) else None

@@ -1,32 +1,32 @@
--- What a reader of whole texts promises. It is said of the bytes that were left to read and are left now, where the
--- reader tells them, and of its failures and of the reads that were asked for, before and after.
+-- What a reader of whole texts promises. It depends on the bytes that are left to read, if they are known, and on how
+-- many reads have failed and how many were asked for, each before and after.
 use Rattle.std.specs.Prelude.{◌≡◌, ◌≢◌, ℕ, ◌+◌, ◌<◌, ◌≤◌, ◌⊎◌, List, ◌++◌, length, true, Option, IfSome, Result, Ok, Err, IfOk, IfErr, OnOk}
 use Rattle.std.specs.Io.KnownBytes.{Consumes, IsAtEnd}
 use Rattle.road_text.specs.declared.faults.ReadFault.{ReadFault}
 use Rattle.road_text.specs.Lines.{lines}
 use Rattle.road_text.specs.Rules.{Rules, text_read, state_after}
 
--- the value is the text's
+-- the value is that of the text, if it is known
 abbrev pub ReadsValue : {S V A : Type 0} → Rules S V → (A → V) → Option (List ℕ) → Result A ReadFault → Type 0
 ReadsValue rules view left result = IfOk result (λ a. IfSome left (λ all. text_read rules all ≡ Ok (view a)))
 
--- also where the reader does not tell its bytes, the value is that of some text
+-- even if the text is not known, the value is that of some text
 abbrev pub ReadsSome : {S V A : Type 0} → Rules S V → (A → V) → Result A ReadFault → Type 0
 ReadsSome rules view result = IfOk result (λ a. (all : List ℕ) × (text_read rules all ≡ Ok (view a)))
 
--- a fault, but 1 and 3, is the text's first fault
+-- a fault other than 1 and 3 is the first fault of the text, if it is known
 abbrev pub ReadsFault : {S V A : Type 0} → Rules S V → Option (List ℕ) → Result A ReadFault → Type 0
 ReadsFault rules left result = IfErr result (λ f. 2 ≤ f.number → f.number ≢ 3 → IfSome left (λ all. text_read rules all ≡ Err f))
 
--- fault 1 is told where a read failed
+-- fault 1 is reported only if a read failed
 abbrev pub TellsFailure : {A : Type 0} → ℕ → ℕ → Result A ReadFault → Type 0
 TellsFailure before after result = IfErr result (λ f. f.number ≡ 1 → after ≢ before)
 
--- and only there
+-- any other fault is reported only if no read failed
 abbrev pub TellsNoOther : {A : Type 0} → ℕ → ℕ → Result A ReadFault → Type 0
 TellsNoOther before after result = IfErr result (λ f. f.number ≢ 1 → after ≡ before)
 
--- and then one read failed: none was tried again
+-- fault 1 is reported after just one failed read: none was tried again
 abbrev pub FailsOnce : {A : Type 0} → ℕ → ℕ → Result A ReadFault → Type 0
 FailsOnce before after result = IfErr result (λ f. f.number ≡ 1 → after ≡ before + 1)
 
@@ -47,27 +47,27 @@ pub record RunsOutAfter (Unbroken : List ℕ → Type 0) (left rest : Option (Li
   pub one_read : length last ≤ 65536
   pub fits : length (before ++ last) ≤ 4294967296
 
--- fault 1 comes after bytes of which no line breaks a rule
+-- no line of the bytes before fault 1 breaks a rule
 abbrev pub FailsUnbroken : {S V A : Type 0} → Rules S V → Option (List ℕ) → Option (List ℕ) → Result A ReadFault → Type 0
 FailsUnbroken rules left rest result = IfErr result (λ f. f.number ≡ 1 → FailsAfter (BreaksNone rules) left rest)
 
--- fault 3 comes after such bytes and within the first 2 ^ 32, so it is told of no text for being too long
+-- fault 3 comes after such bytes and within the first 2 ^ 32, so it is never reported because a text is too long
 abbrev pub RunsOutUnbroken : {S V A : Type 0} → Rules S V → Option (List ℕ) → Option (List ℕ) → Result A ReadFault → Type 0
 RunsOutUnbroken rules left rest result = IfErr result (λ f. f.number ≡ 3 → RunsOutAfter (BreaksNone rules) left rest)
 
--- fault 2 comes beyond 2 ^ 32 bytes alone
+-- fault 2 is reported only if the text has more than 2 ^ 32 bytes
 abbrev pub IsTooLong : {A : Type 0} → Option (List ℕ) → Result A ReadFault → Type 0
 IsTooLong left result = IfErr result (λ f. f.number ≡ 2 → IfSome left (λ all. 4294967296 < length all))
 
--- faults 1, 2 and 3 stand in no line
-abbrev pub IsPlaced : {A : Type 0} → Result A ReadFault → Type 0
-IsPlaced result = IfErr result (λ f. f.number ≤ 3 → f.line ≡ 0)
+-- faults 1, 2 and 3 are in no line
+abbrev pub HasLineIfInText : {A : Type 0} → Result A ReadFault → Type 0
+HasLineIfInText result = IfErr result (λ f. f.number ≤ 3 → f.line ≡ 0)
 
--- also where the reader does not tell its bytes, a fault, but 1 and 3, is the first fault of some text
+-- even if the text is not known, a fault other than 1 and 3 is the first fault of some text
 abbrev pub ReadsSomeFault : {S V A : Type 0} → Rules S V → Result A ReadFault → Type 0
 ReadsSomeFault rules result = IfErr result (λ f. 2 ≤ f.number → f.number ≢ 3 → (all : List ℕ) × (text_read rules all ≡ Err f))
 
--- a number that reading stops with: 1 a failed read, 2 too long, 3 memory, or one of the text's own, which are these
+-- a number that reading stops with: 1 a failed read, 2 too long, 3 memory, or one of the kind's own, which are these
 abbrev pub IsNumberFrom : ℕ → ℕ → ℕ → Type 0
 IsNumberFrom least greatest number = ((1 ≤ number) × (number ≤ 3)) ⊎ ((least ≤ number) × (number ≤ greatest))
 
@@ -75,8 +75,8 @@ IsNumberFrom least greatest number = ((1 ≤ number) × (number ≤ 3)) ⊎ ((le
 abbrev pub IsReadNumber : {A : Type 0} → ℕ → ℕ → Result A ReadFault → Type 0
 IsReadNumber least greatest result = IfErr result (λ f. IsNumberFrom least greatest f.number)
 
--- what a reader of whole texts promises by these rules, seen through this view, between two moments of what it reads from:
--- `bytes` tells what is left there, `failed` how many reads failed, and `reads` how many were asked for
+-- what a reader of whole texts promises by these rules, between two states of what it reads from: `bytes` is what is
+-- left there, `failed` how many reads failed, `reads` how many were asked for, and `view` the value of a result
 pub record ReadsText {S V A X : Type 0} (bytes : X → Option (List ℕ)) (failed reads : X → ℕ) (old new : X) (rules : Rules S V) (view : A → V) (least greatest : ℕ) (result : Result A ReadFault) : Type 0 where
   pub value : ReadsValue rules view (bytes old) result
   pub some_text : ReadsSome rules view result
@@ -86,7 +86,7 @@ pub record ReadsText {S V A X : Type 0} (bytes : X → Option (List ℕ)) (faile
   pub told : TellsFailure (failed old) (failed new) result
   pub untold : TellsNoOther (failed old) (failed new) result
   pub long : IsTooLong (bytes old) result
-  pub placed : IsPlaced result
+  pub placed : HasLineIfInText result
   pub numbered : IsReadNumber least greatest result
   pub end : OnOk result (IsAtEnd (bytes new))
   pub asked : reads new ≤ reads old + 4294967297

@@ -3,7 +3,7 @@ use Rattle.std.specs.Prelude.{◌≡◌, ℕ, ◌+◌, Bool, List, [], ◌∷◌
 use Rattle.road_text.specs.declared.faults.ReadFault.{ReadFault}
 use Rattle.road_text.specs.Lines.{lines, fields}
 
--- the one and then the other, up to the first fault
+-- one step and then the next, up to the first fault
 infixl 10 ◌>>=◌
 abbrev pub ◌>>=◌ : {A B E : Type 0} → Result A E → (A → Result B E) → Result B E
 (Ok x) >>= f = f x
@@ -13,8 +13,8 @@ abbrev pub ◌>>=◌ : {A B E : Type 0} → Result A E → (A → Result B E) �
 abbrev pub unless : Bool → ℕ → Result (Unit {0}) ℕ
 unless b fault = if b then Ok tt else Err fault
 
--- A kind of text: what is read before the first line, what a line with these fields makes of what was read before
--- it, and what the end makes of it. Each answers the fault's number where its rule is broken.
+-- A kind of text: the state before the first line, the state after a line with these fields, and the value at the end.
+-- A line or an end that breaks a rule gives the number of the fault.
 pub record Rules (State Value : Type 0) : Type 0 where
   pub start : State
   pub line : State → List (List ℕ) → Result State ℕ
@@ -28,25 +28,26 @@ fault_at at number = record { number = number; line = at }
 abbrev pub too_long : ReadFault
 too_long = record { number = 2; line = 0 }
 
--- a rule's fault, seen at a line
+-- a rule's fault, with the line that it is in
 abbrev pub at_line : {A : Type 0} → ℕ → Result A ℕ → Result A ReadFault
 at_line line (Ok x) = Ok x
 at_line line (Err number) = Err (fault_at line number)
 
--- the value that the lines from a number on have, after what was read before them, or the first fault; the end of a text that is cut short is that it is too long
-abbrev pub reading : {S V : Type 0} → Bool → Rules S V → ℕ → S → List (List ℕ) → Result V ReadFault
-reading cut rules at s [] = if cut then Err too_long else at_line at (rules.end s)
-reading cut rules at s (l ∷ ls) = at_line at (rules.line s (fields l)) >>= λ t. reading cut rules (at + 1) t ls
+-- the value of the lines from a line number on, after this state, or their first fault;
+-- the end of a text that is cut short has the fault that the text is too long
+abbrev pub value_of_lines : {S V : Type 0} → Bool → Rules S V → ℕ → S → List (List ℕ) → Result V ReadFault
+value_of_lines cut rules at s [] = if cut then Err too_long else at_line at (rules.end s)
+value_of_lines cut rules at s (l ∷ ls) = at_line at (rules.line s (fields l)) >>= λ t. value_of_lines cut rules (at + 1) t ls
 
 -- the value of a text, or its first fault
 abbrev pub text_value : {S V : Type 0} → Rules S V → List ℕ → Result V ReadFault
-text_value rules bytes = reading false rules 1 rules.start (lines false bytes)
+text_value rules bytes = value_of_lines false rules 1 rules.start (lines false bytes)
 
--- the same of a text of any length: beyond 2 ^ 32 bytes it is the fault of a line that ends within them, or that the text is too long
+-- the same for a text of any length: beyond 2 ^ 32 bytes it is the fault of a line that ends within them, else that the text is too long
 abbrev pub text_read : {S V : Type 0} → Rules S V → List ℕ → Result V ReadFault
-text_read rules bytes = if nat_lt 4294967296 (length bytes) then reading true rules 1 rules.start (lines true (take 4294967296 bytes)) else text_value rules bytes
+text_read rules bytes = if nat_lt 4294967296 (length bytes) then value_of_lines true rules 1 rules.start (lines true (take 4294967296 bytes)) else text_value rules bytes
 
--- what was read after these lines, where none of them breaks a rule
+-- the state after these lines, if none of them breaks a rule
 abbrev pub state_after : {S V : Type 0} → Rules S V → S → List (List ℕ) → Result S ℕ
 state_after rules s [] = Ok s
 state_after rules s (l ∷ ls) = rules.line s (fields l) >>= λ t. state_after rules t ls
@@ -62,7 +63,7 @@ pub record FaultAtLine {S V : Type 0} (rules : Rules S V) (at : ℕ) (s : S) (ls
   pub broken : rules.line reached (fields here) ≡ Err f.number
   pub place : f.line ≡ at + length before
 
--- the end breaks a rule as the fault says; that of a text that is cut short is too long
+-- the end breaks a rule as the fault says; if the text is cut short, the fault is that it is too long
 abbrev pub EndsIn : {S V : Type 0} → Bool → Rules S V → ℕ → S → ReadFault → Type 0
 EndsIn true rules at s f = f ≡ too_long
 EndsIn false rules at s f = (rules.end s ≡ Err f.number) × (f.line ≡ at)
@@ -73,7 +74,7 @@ pub record FaultAtEnd {S V : Type 0} (cut : Bool) (rules : Rules S V) (at : ℕ)
   pub taken : state_after rules s ls ≡ Ok reached
   pub broken : EndsIn cut rules (at + length ls) reached f
 
--- the first fault of the lines from a number on: that of the least line that breaks a rule, else that of the end
+-- the first fault of the lines from a line number on: that of the first line that breaks a rule, else that of the end
 abbrev pub FaultIn : {S V : Type 0} → Bool → Rules S V → ℕ → S → List (List ℕ) → ReadFault → Type 0
 FaultIn cut rules at s ls f = FaultAtLine rules at s ls f ⊎ FaultAtEnd cut rules at s ls f
 

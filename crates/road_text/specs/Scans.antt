@@ -7,28 +7,28 @@ use Rattle.road_text.specs.Lines.{is_gap, has_bytes}
 use Rattle.road_text.specs.Slots.{word_in}
 use Rattle.road_text.specs.Words.{Word, held_word, no_word}
 
--- the number with one byte more, held at 2 ^ 64
+-- the number after one more byte, saturated at 2 ^ 64
 abbrev pub number_on : Option ℕ → ℕ → Option ℕ
 number_on number b = option_and_then (λ n. if is_ascii_digit b then Some (min (n * 10 + (b - 48)) 18446744073709551616) else None) number
 
--- the same with some bytes more
+-- the same after more bytes
 abbrev pub number_with : Option ℕ → List ℕ → Option ℕ
 number_with number [] = number
 number_with number (b ∷ bytes) = number_with (number_on number b) bytes
 
--- what is kept of a field with one byte more
+-- what is kept of a field after one more byte
 unfoldable pub word_on : Word → ℕ → Word
 word_on w b = record { text = if nat_lt (length w.text) 9 then w.text ++ b ∷ [] else w.text; number = number_on w.number b }
 
--- the same with some bytes more
+-- the same after more bytes
 unfoldable pub word_with : Word → List ℕ → Word
 word_with w bytes = record { text = w.text ++ take (9 - length w.text) bytes; number = number_with w.number bytes }
 
--- whether a byte goes on with a field, whatever comes before and after it: no gap, no LF and no CR
+-- whether a byte continues a field, whatever comes before and after it: no gap, no LF and no CR
 abbrev pub is_plain : ℕ → Bool
 is_plain b = not ((is_gap b || (b == 10)) || (b == 13))
 
--- the words of a line's first six fields that are past, and the one that may go on
+-- the words of those of a line's first six fields that have ended, and that of the present field, which may go on
 abbrev pub Scan : Type 0
 Scan = List Word × Word
 
@@ -36,15 +36,15 @@ Scan = List Word × Word
 abbrev pub scan_of : Scanner → Scan
 scan_of s = let words = map word_in s.slots in (take s.filled words, slice_index_or words s.filled no_word)
 
--- the present field is past
+-- the words of the fields that have ended, once the present one ends
 unfoldable pub past : Scan → List Word
 past (words, now) = if (length now.text == 0) || not (nat_lt (length words) 6) then words else words ++ now ∷ []
 
--- one byte more of the line
+-- the scan after one more byte of the line
 unfoldable pub scan_on : Scan → ℕ → Scan
 scan_on s b = if is_gap b then (past s, no_word) else (s.0, word_on s.1 b)
 
--- the scan shows the line: the parts before the last, as far as they are fields, and the last part; and the fields among the former were told
+-- the scan shows the line: the fields among the parts before the last, which the taker was given, and the last part
 pub record Shows (told_of : List (List ℕ) → Type 0) (s : Scan) (line : List ℕ) : Type 0 where
   pub done : List (List ℕ)
   pub run : List ℕ

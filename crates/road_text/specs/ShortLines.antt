@@ -5,7 +5,7 @@ use Rattle.road_text.specs.Scans.{number_with}
 use Rattle.road_text.specs.Texts.{spelled, IsWord}
 use Rattle.road_text.specs.Words.{held_word}
 
--- a word of digits with this number, and this byte behind it
+-- a word of digits with this number, followed by this byte
 pub record IsNumberThen (bytes : List ℕ) (end number : ℕ) : Type 0 where
   pub word : List ℕ
   pub is : bytes ≡ word ++ end ∷ []

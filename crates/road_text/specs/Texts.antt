@@ -10,7 +10,7 @@ spelled words = join_with_byte 32 words ++ 10 ∷ []
 abbrev pub text_of : List (List (List ℕ)) → List ℕ
 text_of ls = flat_map spelled ls
 
--- what may stand as a word: some bytes, each above the space
+-- what may be a word: some bytes, each above the space
 abbrev pub IsWord : List ℕ → Type 0
 IsWord f = (0 < length f) × All (λ b. 32 < b) f
 
@@ -22,7 +22,7 @@ AreLines ls = AllByRecursion (AllByRecursion IsWord) ls
 abbrev pub list_words : List ℕ → List ℕ → List (List ℕ)
 list_words word numbers = word ∷ map decimal numbers
 
--- what follows the word
+-- the numbers after the word, to the line's end
 abbrev pub spaced : List ℕ → List ℕ
 spaced [] = 10 ∷ []
 spaced (n ∷ ns) = (32 ∷ decimal n) ++ spaced ns

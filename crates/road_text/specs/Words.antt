@@ -11,11 +11,11 @@ pub record Word : Type 0 where
 abbrev pub word_of : List ℕ → Word
 word_of f = record { text = f; number = number f }
 
--- what is kept of a field: its first nine bytes, and its number, held at 2 ^ 64
+-- what is kept of a field: its first nine bytes, and its number, saturated at 2 ^ 64
 abbrev pub held_word : List ℕ → Word
 held_word f = record { text = take 9 f; number = option_map (λ n. min n 18446744073709551616) (number f) }
 
--- what stands for a word where there is none
+-- the word that is given if there is none
 abbrev pub no_word : Word
 no_word = record { text = []; number = Some 0 }
 
@@ -23,7 +23,7 @@ no_word = record { text = []; number = Some 0 }
 abbrev pub word_at : ℕ → List Word → Word
 word_at i ws = get_or ws i no_word
 
--- a number up to a limit: the first fault where it is none, the second above the limit
+-- a number up to a limit: the first fault if there is no number, the second if it is above the limit
 abbrev pub number_up_to : ℕ → ℕ → ℕ → Option ℕ → Result ℕ ℕ
 number_up_to none large limit None = Err none
 number_up_to none large limit (Some n) = if nat_lt limit n then Err large else Ok n

@@ -1,4 +1,4 @@
-//! Makes large writes of small ones.
+//! Collects small writes into large ones.
 ghost use Rattle.std.specs.Prelude.{◌≡◌, ℕ, ◌+◌, ◌≤◌, ◌<◌, List, [], ◌++◌, drop, take, length, OnOk, OnErr, IfOk, vec_len, vec_capacity};
 ghost use Rattle.std.specs.Io.KnownBytes.{append_known, WriteAppends, Appends, Keeps};
 
@@ -8,7 +8,7 @@ use std::alloc::{AllocError, Global};
 /// How many bytes are buffered before they are passed on.
 pub const BUFFERED: usize = 65_536;
 
-/// A writer with what is not yet passed on to it. What it holds when it is dropped is lost: flush it first.
+/// A writer with a buffer before it. Flush it before it is dropped: what is still buffered then is lost.
 #[derive(Drop)]
 pub struct Buffered<W> {
     inner: W,
@@ -16,7 +16,7 @@ pub struct Buffered<W> {
 }
 
 impl<W> Buffered<W> {
-    /// Holds nothing yet, and has room for all that it will hold.
+    /// An empty buffer before this writer. All its memory is reserved here.
     pub fn new(alloc: Global, inner: W) -> Result<Self, AllocError>
     where
         W: Drop,
@@ -30,7 +30,7 @@ impl<W> Buffered<W> {
         })
     }
 
-    /// The writer behind it.
+    /// The inner writer.
     pub fn inner(&self) -> &W
         ensures { result.now ≡ self.now.inner }
     {
@@ -39,9 +39,10 @@ impl<W> Buffered<W> {
 }
 
 impl<W: RoadWrite> Buffered<W> {
-    // What a failure leaves stays buffered.
+    /// Writes the buffered bytes to the inner writer. What a failed write leaves stays buffered.
     fn pass_on(&mut self) -> Result<(), WriteFault>
-        ensures bytes { Keeps (append_known (W.written self.old.inner) self.old.buf.items) (append_known (W.written self.new.inner) self.new.buf.items) }
+        ensures bytes { Keeps (append_known (W.written self.old.inner) self.old.buf.items)
+            (append_known (W.written self.new.inner) self.new.buf.items) }
         ensures empty { OnOk result (self.new.buf.items ≡ []) }
         ensures room { OnOk result (vec_len self.new.buf ≡ 0) }
         ensures capacity { vec_capacity self.new.buf ≡ vec_capacity self.old.buf }
@@ -49,7 +50,7 @@ impl<W: RoadWrite> Buffered<W> {
         ensures failed { OnErr result (W.failures self.new.inner ≡ W.failures self.old.inner + 1) }
     {
         let (written, result) = write_out(self.buf.as_slice(), &mut self.inner);
-        remove_front(&mut self.buf, written);
+        remove_prefix(&mut self.buf, written);
         result
     }
 
@@ -58,7 +59,8 @@ impl<W: RoadWrite> Buffered<W> {
     fn write_cold(&mut self, buf: &[u8]) -> Result<usize, WriteFault>
         ensures bound { IfOk result (λ n. n ≤ length buf.now) }
         ensures some { IfOk result (λ n. 0 < length buf.now → 0 < n) }
-        ensures bytes { WriteAppends (append_known (W.written self.old.inner) self.old.buf.items) (append_known (W.written self.new.inner) self.new.buf.items) result buf.now }
+        ensures bytes { WriteAppends (append_known (W.written self.old.inner) self.old.buf.items)
+            (append_known (W.written self.new.inner) self.new.buf.items) result buf.now }
         ensures sound { OnOk result (W.failures self.new.inner ≡ W.failures self.old.inner) }
         ensures failed { OnErr result (W.failures self.new.inner ≡ W.failures self.old.inner + 1) }
     {
@@ -93,7 +95,7 @@ impl<W: RoadWrite> RoadWrite for Buffered<W> {
     }
 }
 
-// Writes until all is written or a write fails, and returns how many bytes were written.
+/// Writes until all is written or a write fails, and returns how many bytes were written.
 fn write_out<W: RoadWrite>(bytes: &[u8], to: &mut W) -> (usize, Result<(), WriteFault>)
     ensures bound { result.0 ≤ length bytes.now }
     ensures all { OnOk result.1 (result.0 ≡ length bytes.now) }
@@ -111,7 +113,7 @@ fn write_out<W: RoadWrite>(bytes: &[u8], to: &mut W) -> (usize, Result<(), Write
     (written, Ok(()))
 }
 
-fn remove_front(buf: &mut Vec<u8>, n: usize)
+fn remove_prefix(buf: &mut Vec<u8>, n: usize)
     requires { n ≤ vec_len buf.old }
     ensures items { buf.new.items ≡ drop n buf.old.items }
     ensures len { vec_len buf.new + n ≡ vec_len buf.old }

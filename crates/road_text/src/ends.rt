@@ -16,7 +16,7 @@ pub struct WriteFault;
 
 /// What texts are read from.
 pub trait RoadRead {
-    // The bytes that reads will give from here on, where the reader tells them.
+    // The bytes that later reads will give, if they are known.
     ghost left: { Self → Option (List ℕ) } = { λ _. None };
 
     // How many reads have failed.
@@ -25,7 +25,7 @@ pub trait RoadRead {
     // How many reads were asked for.
     ghost asked: { Self → ℕ };
 
-    /// Reads some bytes into the front of the buffer and says how many; none only at the end.
+    /// Reads some bytes into the start of the buffer and returns how many: none only at the end.
     fn read(&mut self, buf: &mut [u8]) -> Result<usize, ReadFailed>
         ensures bound { IfOk result (λ n. n ≤ length buf.new) }
         ensures bytes { ReadConsumes (left self.old) (left self.new) result buf.new }
@@ -36,16 +36,16 @@ pub trait RoadRead {
 
 /// What texts are written to.
 pub trait RoadWrite: Drop {
-    // The bytes that were taken so far, where the writer tells them.
+    // The bytes that were taken so far, if they are known.
     ghost written: { Self → Option (List ℕ) } = { λ _. None };
 
-    // The last of these, which are still held here.
+    // The last of these bytes, which are still buffered here.
     ghost held: { Self → List ℕ } = { λ _. [] };
 
     // How many writes and flushes have failed.
     ghost failures: { Self → ℕ };
 
-    /// Takes a front of the bytes and says how many; of some bytes it takes at least one.
+    /// Takes a prefix of the bytes and returns its length: at least 1 if there are any bytes.
     fn write(&mut self, buf: &[u8]) -> Result<usize, WriteFault>
         ensures bound { IfOk result (λ n. n ≤ length buf.now) }
         ensures some { IfOk result (λ n. 0 < length buf.now → 0 < n) }
@@ -53,7 +53,7 @@ pub trait RoadWrite: Drop {
         ensures sound { OnOk result (failures self.new ≡ failures self.old) }
         ensures failed { OnErr result (failures self.new ≡ failures self.old + 1) };
 
-    /// Passes on what is held.
+    /// Passes on what is buffered.
     fn flush(&mut self) -> Result<(), WriteFault>
         ensures bytes { Keeps (written self.old) (written self.new) }
         ensures empty { OnOk result (held self.new ≡ []) }

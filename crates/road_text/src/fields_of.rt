@@ -1,11 +1,11 @@
-//! A parser of lines as a taker of fields.
+//! A line parser as a taker of fields.
 ghost use Rattle.std.specs.Prelude.{ℕ, List};
 
 use crate::field_taker::FieldTaker;
 use crate::line_parser::LineParser;
 use crate::slots::Slot;
 
-/// A parser, and whether memory was refused for a field of the present line.
+/// A parser, and whether memory ran out at a field of the present line.
 #[derive(Drop)]
 pub struct FieldsOf<T> {
     pub parser: T,

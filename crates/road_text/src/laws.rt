@@ -1,4 +1,4 @@
-//! Laws over the definitions: what is written is read again, and a fault is the first one.
+//! Theorems about the definitions: what is written is read back, and the fault of a text is its first one.
 ghost use Rattle.std.specs.Prelude.{◌≡◌, ℕ, ◌<◌, ◌^◌, List, Some, map, decimal, false, Err};
 ghost use Rattle.std.specs.List.{AllByRecursion, join_with_byte};
 ghost use Rattle.road_text.specs.Lines.{lines, fields, number};
@@ -9,21 +9,25 @@ ghost use Rattle.road_text.specs.Texts.{text_of, IsWord, AreLines};
 /// The lines and fields of a written text are the lines and words that it was made of.
 #[tactic(auto, using(crate::proofs::RoundTrip::lines_text, crate::proofs::RoundTrip::fields_join))]
 pub fn text_read_again()
-    ensures lines { (ls : List (List (List ℕ))) → AreLines ls → lines false (text_of ls) ≡ map (join_with_byte 32) ls }
-    ensures fields { (fs : List (List ℕ)) → AllByRecursion IsWord fs → fields (join_with_byte 32 fs) ≡ fs }
+    ensures lines { (ls : List (List (List ℕ))) → AreLines ls → lines false (text_of ls) ≡ map
+        (join_with_byte 32) ls }
+    ensures fields { (fs : List (List ℕ)) → AllByRecursion IsWord fs → fields (join_with_byte 32 fs)
+        ≡ fs }
 {}
 
-/// A number below 2 ^ 64 that is written is a word, and is that number again.
+/// A number below 2 ^ 64, written in decimal, is a word, and is read back as that number.
 #[tactic(auto, using(crate::proofs::RoundTrip::decimal_is_number, crate::proofs::RoundTrip::word_of_number))]
 pub fn numbers_read_again()
     ensures number { (n : ℕ) → n < 2 ^ 64 → number (decimal n) ≡ Some n }
     ensures word { (n : ℕ) → n < 2 ^ 64 → IsWord (decimal n) }
 {}
 
-/// A fault of a text is the first one, that of the least line that breaks a rule or else that of the end, and the
-/// first one is found. `State` and `Value` are what the rules speak of.
+/// The fault of a text is its first one, and the first one is found: that of the first line that breaks a rule, else
+/// that of the end. `State` and `Value` are those of the rules.
 #[tactic(auto, using(crate::proofs::FirstFault::first_fault, crate::proofs::FirstFault::found_fault))]
 pub fn finds_first_fault<State, Value>()
-    ensures first { (rules : Rules State Value) (text : List ℕ) (f : ReadFault) → text_read rules text ≡ Err f → FirstFault rules text f }
-    ensures found { (rules : Rules State Value) (text : List ℕ) (f : ReadFault) → FirstFault rules text f → text_read rules text ≡ Err f }
+    ensures first { (rules : Rules State Value) (text : List ℕ) (f : ReadFault) → text_read rules
+        text ≡ Err f → FirstFault rules text f }
+    ensures found { (rules : Rules State Value) (text : List ℕ) (f : ReadFault) → FirstFault rules
+        text f → text_read rules text ≡ Err f }
 {}

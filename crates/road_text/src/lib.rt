@@ -1,5 +1,5 @@
-//! Texts of lines: what they are read from and written to, their lines, fields and numbers, one machine that reads
-//! any kind of text line by line, and writers of lines. The kinds themselves stand in the crates above.
+//! Texts of lines: what they are read from and written to, their lines, fields and numbers, one reader for every kind
+//! of text, and writers of lines. The kinds of texts are defined in the crates above.
 #![tactic(auto)]
 
 mod buffered;

@@ -1,4 +1,4 @@
-//! Lines that are put together from words and numbers, with no memory but their own.
+//! Lines built from words and numbers, with no memory but their own.
 ghost use Rattle.std.specs.Prelude.{◌≡◌, ℕ, ◌+◌, ◌≤◌, ◌<◌, ◌++◌, ◌∷◌, [], decimal, List};
 ghost use Rattle.arrayvec.specs.ArrayString.{array_string_len};
 
@@ -8,7 +8,7 @@ use itoa::Buffer;
 /// How many bytes a line has room for.
 pub const LINE: usize = 192;
 
-/// A line that is being put together. It has room for four numbers and some short words.
+/// A line that is being built. It has room for four numbers and some short words.
 pub type Line = ArrayString<LINE>;
 
 /// Appends a number.

@@ -7,9 +7,10 @@ ghost use Rattle.road_text.specs.Words.{number_up_to};
 use crate::faults::{LineFault, Rule};
 use crate::slots::Slot;
 
-/// The number in a field, up to a limit. The rule `none` is broken by a field that is no number, `large` by a greater one.
+/// The number in a field, at most `limit`. A field that is no number breaks the rule `none`, a greater number `large`.
 pub fn limited_number(slot: &Slot, limit: u64, none: Rule, large: Rule) -> Result<u64, LineFault>
-    ensures rule { Agrees (number_up_to none.number large.number limit (word_in slot.now).number) result }
+    ensures rule { Agrees (number_up_to none.number large.number limit (word_in slot.now).number)
+        result }
     ensures limit { IfOk result (λ n. n ≤ limit) }
 {
     match slot.number {

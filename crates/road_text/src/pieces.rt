@@ -3,7 +3,7 @@ ghost use Rattle.road_text.specs.Written.{WritesText};
 
 use crate::ends::{RoadWrite, WriteFault};
 
-/// Writes all bytes, or a front of them.
+/// Writes all the bytes, or a prefix of them if a write fails.
 pub fn write_bytes<W: RoadWrite>(to: &mut W, bytes: &[u8]) -> Result<(), WriteFault>
     ensures { WritesText W.written W.failures to.old to.new bytes.now result }
 {

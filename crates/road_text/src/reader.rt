@@ -1,4 +1,4 @@
-//! The line machine: takes a text piece by piece, and hands on its fields and lines.
+//! The line reader: takes a text piece by piece, and passes its fields and lines on.
 ghost use Rattle.std.specs.Prelude.{◌≡◌, ℕ, ◌+◌, ◌≤◌, ◌<◌, List, [], ◌∷◌, ◌++◌, Result, Ok, OnOk, IfOk, IfErr, length, take, true, false, Bool};
 ghost use Rattle.road_text.specs.declared.faults.ReadFault.{ReadFault};
 ghost use Rattle.road_text.specs.Lines.{lines};
@@ -26,11 +26,13 @@ impl<T: LineParser> LineReader<T> {
     ghost use Rattle.road_text.specs.Cuts.{IsLine, IsPresent};
     ghost use Rattle.road_text.specs.Reading.{SoFarOf, RestGives, IsOfLine, LineGoes, Halts, HaltsAtEnd, EndHalts, IsNumbered};
 
+    /// A reader before the first line.
     pub fn new(parser: T) -> Self
         requires { T.meaning.so_far parser [] }
         ensures count { result.count ≡ 0 }
         ensures given { result.cutter.taker.refused ≡ false }
-        ensures start { (cut : Bool) (bytes : List ℕ) (r : Result T.Value ReadFault) → RestGives cut T.meaning result bytes r → T.meaning.gives cut parser 1 (lines cut bytes) r }
+        ensures start { (cut : Bool) (bytes : List ℕ) (r : Result T.Value ReadFault) → RestGives cut
+            T.meaning result bytes r → T.meaning.gives cut parser 1 (lines cut bytes) r }
     {
         LineReader {
             cutter: LineCutter::new(FieldsOf {
@@ -45,9 +47,12 @@ impl<T: LineParser> LineReader<T> {
     /// Gives the line that has ended to the parser.
     fn give_line(&mut self) -> Result<(), Halt>
         requires { self.old.cutter.taker.refused ≡ false }
-        ensures line { (l : List ℕ) → IsLine (SoFarOf T.meaning) self.old.cutter l → LineGoes T.meaning self.old.cutter.taker.parser self.new.cutter.taker.parser self.old.line l result }
+        ensures line { (l : List ℕ) → IsLine (SoFarOf T.meaning) self.old.cutter l →
+            LineGoes T.meaning self.old.cutter.taker.parser self.new.cutter.taker.parser
+            self.old.line l result }
         ensures ready { OnOk result (T.meaning.so_far self.new.cutter.taker.parser []) }
-        ensures rest { (self.new.line ≡ self.old.line) × (self.new.count ≡ self.old.count) × (self.new.cutter.taker.refused ≡ false) }
+        ensures rest { (self.new.line ≡ self.old.line) × (self.new.count ≡ self.old.count) ×
+            (self.new.cutter.taker.refused ≡ false) }
         ensures kinds { IfErr result IsOfLine }
         ensures numbered { IfErr result IsNumbered }
     {
@@ -65,9 +70,12 @@ impl<T: LineParser> LineReader<T> {
     fn end_line(&mut self) -> Result<(), Halt>
         requires given { self.old.cutter.taker.refused ≡ false }
         requires counted { self.old.line ≤ self.old.count }
-        ensures line { (l : List ℕ) → IsLine (SoFarOf T.meaning) self.old.cutter l → LineGoes T.meaning self.old.cutter.taker.parser self.new.cutter.taker.parser self.old.line l result }
+        ensures line { (l : List ℕ) → IsLine (SoFarOf T.meaning) self.old.cutter l →
+            LineGoes T.meaning self.old.cutter.taker.parser self.new.cutter.taker.parser
+            self.old.line l result }
         ensures ready { OnOk result (IsPresent (SoFarOf T.meaning) self.new.cutter []) }
-        ensures next { OnOk result ((self.new.line ≡ self.old.line + 1) × (self.new.cutter.taker.refused ≡ false)) }
+        ensures next { OnOk result ((self.new.line ≡ self.old.line + 1) ×
+            (self.new.cutter.taker.refused ≡ false)) }
         ensures count { self.new.count ≡ self.old.count }
         ensures kinds { IfErr result IsOfLine }
         ensures numbered { IfErr result IsNumbered }
@@ -81,12 +89,14 @@ impl<T: LineParser> LineReader<T> {
         Ok(())
     }
 
-    /// Takes the line at the front, where it is a letter and three numbers and the parser is quick with it, and says how
-    /// many bytes that were.
+    /// Takes the next line if it is a letter and three numbers and the parser takes it whole. Returns how many bytes
+    /// were taken.
     #[inline(always)]
     fn short_line(&mut self, bytes: &[u8]) -> usize
         ensures bound { result ≤ length bytes.now }
-        ensures rest_gives { (cut : Bool) (more : List ℕ) (r : Result T.Value ReadFault) → RestGives cut T.meaning self.new more r → RestGives cut T.meaning self.old (take result bytes.now ++ more) r }
+        ensures rest_gives { (cut : Bool) (more : List ℕ) (r : Result T.Value ReadFault) →
+            RestGives cut T.meaning self.new more r → RestGives cut T.meaning self.old
+            (take result bytes.now ++ more) r }
         ensures count { self.new.count ≡ self.old.count + result }
         ensures given { self.new.cutter.taker.refused ≡ self.old.cutter.taker.refused }
     {
@@ -112,11 +122,13 @@ impl<T: LineParser> LineReader<T> {
         short.len
     }
 
-    /// Takes such lines as long as they come.
+    /// Takes such lines up to the first other one. Returns how many bytes were taken.
     #[inline(always)]
     fn short_lines(&mut self, bytes: &[u8]) -> usize
         ensures bound { result ≤ length bytes.now }
-        ensures rest_gives { (cut : Bool) (more : List ℕ) (r : Result T.Value ReadFault) → RestGives cut T.meaning self.new more r → RestGives cut T.meaning self.old (take result bytes.now ++ more) r }
+        ensures rest_gives { (cut : Bool) (more : List ℕ) (r : Result T.Value ReadFault) →
+            RestGives cut T.meaning self.new more r → RestGives cut T.meaning self.old
+            (take result bytes.now ++ more) r }
         ensures count { self.new.count ≡ self.old.count + result }
         ensures given { self.new.cutter.taker.refused ≡ self.old.cutter.taker.refused }
     {
@@ -131,12 +143,14 @@ impl<T: LineParser> LineReader<T> {
         at
     }
 
-    /// Takes bytes up to the first line's end, or all where none ends, as many as fit; and says how many they are.
+    /// Takes the bytes up to the first line's end, or all if none ends, as far as they fit. Returns how many.
     fn next_line(&mut self, bytes: &[u8]) -> Result<usize, Halt>
         requires given { self.old.cutter.taker.refused ≡ false }
         requires some { 0 < length bytes.now }
         ensures bound { IfOk result (λ n. (0 < n) × (n ≤ length bytes.now)) }
-        ensures rest_gives { IfOk result (λ n. (cut : Bool) (more : List ℕ) (r : Result T.Value ReadFault) → RestGives cut T.meaning self.new more r → RestGives cut T.meaning self.old (take n bytes.now ++ more) r) }
+        ensures rest_gives { IfOk result (λ n. (cut : Bool) (more : List ℕ)
+            (r : Result T.Value ReadFault) → RestGives cut T.meaning self.new more r → RestGives cut
+            T.meaning self.old (take n bytes.now ++ more) r) }
         ensures count { IfOk result (λ n. self.new.count ≡ self.old.count + n) }
         ensures given { OnOk result (self.new.cutter.taker.refused ≡ false) }
         ensures err { IfErr result (λ h. Halts T.meaning self.old bytes.now h) }
@@ -164,7 +178,9 @@ impl<T: LineParser> LineReader<T> {
     /// Takes the next bytes.
     pub fn feed(&mut self, bytes: &[u8]) -> Result<(), Halt>
         requires { self.old.cutter.taker.refused ≡ false }
-        ensures ok { OnOk result ((cut : Bool) (rest : List ℕ) (r : Result T.Value ReadFault) → RestGives cut T.meaning self.new rest r → RestGives cut T.meaning self.old (bytes.now ++ rest) r) }
+        ensures ok { OnOk result ((cut : Bool) (rest : List ℕ) (r : Result T.Value ReadFault) →
+            RestGives cut T.meaning self.new rest r → RestGives cut T.meaning self.old
+            (bytes.now ++ rest) r) }
         ensures count { OnOk result (self.new.count ≡ self.old.count + length bytes.now) }
         ensures given { OnOk result (self.new.cutter.taker.refused ≡ false) }
         ensures err { IfErr result (λ h. Halts T.meaning self.old bytes.now h) }
@@ -184,9 +200,10 @@ impl<T: LineParser> LineReader<T> {
         Ok(())
     }
 
-    /// Takes the end, where no line is begun and the next has this number.
+    /// Takes the end of the text. No line is begun, and the next would have this number.
     fn end(self, line: u64) -> Result<T::Value, Halt>
-        ensures ok { IfOk result (λ v. T.meaning.gives false self.cutter.taker.parser line [] (Ok v)) }
+        ensures ok { IfOk result (λ v. T.meaning.gives false self.cutter.taker.parser line []
+            (Ok v)) }
         ensures err { IfErr result (λ h. EndHalts T.meaning self.cutter.taker.parser line h) }
         ensures numbered { IfErr result IsNumbered }
     {
@@ -200,7 +217,7 @@ impl<T: LineParser> LineReader<T> {
         }
     }
 
-    /// Takes the end.
+    /// Takes the end of the text.
     pub fn finish(mut self) -> Result<T::Value, Halt>
         requires { self.cutter.taker.refused ≡ false }
         ensures ok { IfOk result (λ v. RestGives false T.meaning self [] (Ok v)) }

@@ -1,7 +1,7 @@
-//! Reads a text from a reader.
+//! Reads a whole text from a reader.
 ghost use Rattle.std.specs.Prelude.{◌≡◌, ◌≢◌, ℕ, ◌+◌, ◌≤◌, ◌<◌, [], Ok, Err, OnOk, IfOk, IfErr, IfSome};
 ghost use Rattle.std.specs.Io.KnownBytes.{IsAtEnd};
-ghost use Rattle.road_text.specs.Reads.{TellsFailure, TellsNoOther, FailsOnce, FailsAfter, RunsOutAfter, IsTooLong, IsPlaced, IsReadNumber};
+ghost use Rattle.road_text.specs.Reads.{TellsFailure, TellsNoOther, FailsOnce, FailsAfter, RunsOutAfter, IsTooLong, HasLineIfInText, IsReadNumber};
 ghost use Rattle.road_text.specs.Reading.{Stops, StopsAfter, IsUnbroken, TextGives, SomeTextGives, SomeTextStops, IsNumbered};
 
 use crate::ends::RoadRead;
@@ -12,7 +12,7 @@ use crate::reader::{LineReader, MAX_BYTES};
 /// The bytes that are asked for at once.
 const BUFFER: usize = 65_536;
 
-/// Each read but the last gives a byte, and a text has at most 2 ^ 32.
+/// Each read but the last gives at least one byte, and a text has at most 2 ^ 32.
 const MAX_READS: u64 = 4_294_967_297;
 
 /// How many bytes are asked for next: as many as still fit, or one that does not.
@@ -33,17 +33,20 @@ fn next_piece(count: u64) -> usize
     }
 }
 
-/// What the text gives that the reader has left.
+/// Reads what the reader has left as one text, and returns what it gives.
 pub fn read_text<R: RoadRead, T: LineParser>(from: &mut R, parser: T) -> Result<T::Value, Halt>
     requires { T.meaning.so_far parser [] }
-    ensures value { IfOk result (λ v. IfSome (R.left from.old) (λ all. TextGives T.meaning parser all (Ok v))) }
+    ensures value { IfOk result (λ v. IfSome (R.left from.old) (λ all. TextGives T.meaning parser
+        all (Ok v))) }
     ensures some_text { IfOk result (λ v. SomeTextGives T.meaning parser (Ok v)) }
     ensures end { OnOk result (IsAtEnd (R.left from.new)) }
     ensures sound { OnOk result (R.failures from.new ≡ R.failures from.old) }
     ensures asked { R.asked from.new ≤ R.asked from.old + 4294967297 }
-    ensures stops { IfErr result (λ h. Stops T.meaning parser (R.left from.old) (R.failures from.old) (R.failures from.new) h) }
+    ensures stops { IfErr result (λ h. Stops T.meaning parser (R.left from.old)
+        (R.failures from.old) (R.failures from.new) h) }
     ensures some_stops { IfErr result (SomeTextStops T.meaning parser) }
-    ensures stops_after { IfErr result (λ h. StopsAfter T.meaning parser (R.left from.old) (R.left from.new) (R.failures from.old) (R.failures from.new) h) }
+    ensures stops_after { IfErr result (λ h. StopsAfter T.meaning parser (R.left from.old)
+        (R.left from.new) (R.failures from.old) (R.failures from.new) h) }
     ensures numbered { IfErr result IsNumbered }
 {
     let mut reader = LineReader::new(parser);
@@ -59,27 +62,32 @@ pub fn read_text<R: RoadRead, T: LineParser>(from: &mut R, parser: T) -> Result<
     unreachable!()
 }
 
-/// The same, with the fault's number and line in place of why reading stopped.
+/// The same, with a fault's number and line in place of the reason why reading stopped.
 pub fn read_whole<R: RoadRead, T: LineParser>(
     from: &mut R,
     parser: T,
 ) -> Result<T::Value, ReadFault>
     requires { T.meaning.so_far parser [] }
-    ensures value { IfOk result (λ v. IfSome (R.left from.old) (λ all. TextGives T.meaning parser all (Ok v))) }
+    ensures value { IfOk result (λ v. IfSome (R.left from.old) (λ all. TextGives T.meaning parser
+        all (Ok v))) }
     ensures some_text { IfOk result (λ v. SomeTextGives T.meaning parser (Ok v)) }
-    ensures fault { IfErr result (λ f. 2 ≤ f.number → f.number ≢ 3 → IfSome (R.left from.old) (λ all. TextGives T.meaning parser all (Err f))) }
-    ensures some_fault { IfErr result (λ f. 2 ≤ f.number → f.number ≢ 3 → SomeTextGives T.meaning parser (Err f)) }
+    ensures fault { IfErr result (λ f. 2 ≤ f.number → f.number ≢ 3 → IfSome (R.left from.old)
+        (λ all. TextGives T.meaning parser all (Err f))) }
+    ensures some_fault { IfErr result (λ f. 2 ≤ f.number → f.number ≢ 3 → SomeTextGives T.meaning
+        parser (Err f)) }
     ensures sound { OnOk result (R.failures from.new ≡ R.failures from.old) }
     ensures told { TellsFailure (R.failures from.old) (R.failures from.new) result }
     ensures untold { TellsNoOther (R.failures from.old) (R.failures from.new) result }
     ensures long { IsTooLong (R.left from.old) result }
-    ensures placed { IsPlaced result }
+    ensures placed { HasLineIfInText result }
     ensures numbered { IsReadNumber 10 255 result }
     ensures end { OnOk result (IsAtEnd (R.left from.new)) }
     ensures asked { R.asked from.new ≤ R.asked from.old + 4294967297 }
     ensures once { FailsOnce (R.failures from.old) (R.failures from.new) result }
-    ensures before_failure { IfErr result (λ f. f.number ≡ 1 → FailsAfter (IsUnbroken T.meaning parser) (R.left from.old) (R.left from.new)) }
-    ensures before_memory { IfErr result (λ f. f.number ≡ 3 → RunsOutAfter (IsUnbroken T.meaning parser) (R.left from.old) (R.left from.new)) }
+    ensures before_failure { IfErr result (λ f. f.number ≡ 1 →
+        FailsAfter (IsUnbroken T.meaning parser) (R.left from.old) (R.left from.new)) }
+    ensures before_memory { IfErr result (λ f. f.number ≡ 3 →
+        RunsOutAfter (IsUnbroken T.meaning parser) (R.left from.old) (R.left from.new)) }
 {
     match read_text(from, parser) {
         Ok(value) => Ok(value),

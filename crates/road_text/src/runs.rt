@@ -1,15 +1,15 @@
-//! Runs of bytes that go on with a field, and the number that they are.
+//! Runs of bytes that continue a field, and the field's number with them.
 ghost use Rattle.std.specs.Prelude.{◌≡◌, ℕ, ◌≤◌, ◌<◌, length, take, true, All, Some};
 ghost use Rattle.std.specs.Char.{is_ascii_digit};
 ghost use Rattle.road_text.specs.Scans.{is_plain, number_on, number_with};
 
-/// What a greater number is held at: 2 ^ 64.
+/// 2 ^ 64, at which numbers saturate.
 const HELD: u128 = 18_446_744_073_709_551_616;
 
-/// A number below it has room for one digit more in 64 bits.
+/// A number below this has room for one more digit in 64 bits.
 const SMALL: u64 = 1_000_000_000_000_000_000;
 
-/// The number with one byte more, held at 2 ^ 64.
+/// The number after one more byte, saturated at 2 ^ 64.
 #[inline(always)]
 pub fn number_on(number: Option<u128>, byte: u8) -> Option<u128>
     ensures { result ≡ number_on number byte }
@@ -30,7 +30,7 @@ pub fn number_on(number: Option<u128>, byte: u8) -> Option<u128>
     }
 }
 
-/// Whether a byte goes on with a field, whatever comes before and after it.
+/// Whether a byte continues a field, whatever comes before and after it.
 #[inline(always)]
 fn is_plain(byte: u8) -> bool
     ensures { result ≡ is_plain byte }
@@ -38,7 +38,7 @@ fn is_plain(byte: u8) -> bool
     byte != b' ' && byte != b'\t' && byte != b'\n' && byte != b'\r'
 }
 
-/// A number with one digit more.
+/// A number after one more digit.
 #[inline(always)]
 fn digit_on(number: u64, digit: u8) -> u64
     requires small { number < 1000000000000000000 }
@@ -48,7 +48,7 @@ fn digit_on(number: u64, digit: u8) -> u64
     number * 10 + u64::from(digit - b'0')
 }
 
-/// How many digits stand at the front, while the number with them is small, and that number: one register holds it.
+/// How many digits come first, as long as the number with them is small, and that number: one register holds it.
 #[inline(always)]
 fn digits(bytes: &[u8], number: u64) -> (usize, u64)
     ensures bound { result.0 ≤ length bytes.now }
@@ -56,42 +56,42 @@ fn digits(bytes: &[u8], number: u64) -> (usize, u64)
     ensures plain { All (λ b. is_plain b ≡ true) (take result.0 bytes.now) }
     ensures number { Some result.1 ≡ number_with (Some number) (take result.0 bytes.now) }
 {
-    let mut front = 0;
+    let mut prefix = 0;
     let mut grown = number;
-    while front < bytes.len() && grown < SMALL && bytes[front].is_ascii_digit() {
-        grown = digit_on(grown, bytes[front]);
-        front += 1;
+    while prefix < bytes.len() && grown < SMALL && bytes[prefix].is_ascii_digit() {
+        grown = digit_on(grown, bytes[prefix]);
+        prefix += 1;
     }
-    (front, grown)
+    (prefix, grown)
 }
 
 /// The same for a number that may be large, or none.
 #[inline(always)]
-fn front_digits(bytes: &[u8], number: Option<u128>) -> (usize, Option<u128>)
+fn leading_digits(bytes: &[u8], number: Option<u128>) -> (usize, Option<u128>)
     ensures bound { result.0 ≤ length bytes.now }
     ensures plain { All (λ b. is_plain b ≡ true) (take result.0 bytes.now) }
     ensures number { result.1 ≡ number_with number (take result.0 bytes.now) }
 {
     match number {
         Some(n) if n < u128::from(SMALL) => {
-            let (front, grown) = digits(bytes, n as u64);
-            (front, Some(u128::from(grown)))
+            let (prefix, grown) = digits(bytes, n as u64);
+            (prefix, Some(u128::from(grown)))
         }
         _ => (0, number),
     }
 }
 
-/// How many bytes at the front go on with a field, and the number with them: digits first, and then what else there is.
+/// How many of the first bytes continue a field, and its number with them. Digits are taken first, then other bytes.
 #[inline(always)]
 pub fn run(bytes: &[u8], number: Option<u128>) -> (usize, Option<u128>)
     ensures bound { result.0 ≤ length bytes.now }
     ensures plain { All (λ b. is_plain b ≡ true) (take result.0 bytes.now) }
     ensures number { result.1 ≡ number_with number (take result.0 bytes.now) }
 {
-    let (mut front, mut grown) = front_digits(bytes, number);
-    while front < bytes.len() && is_plain(bytes[front]) {
-        grown = number_on(grown, bytes[front]);
-        front += 1;
+    let (mut prefix, mut grown) = leading_digits(bytes, number);
+    while prefix < bytes.len() && is_plain(bytes[prefix]) {
+        grown = number_on(grown, bytes[prefix]);
+        prefix += 1;
     }
-    (front, grown)
+    (prefix, grown)
 }

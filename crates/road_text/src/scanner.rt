@@ -7,22 +7,23 @@ use crate::slots::Slot;
 /// How many fields of a line are kept.
 pub const FIELDS: usize = 6;
 
-/// Whether a byte stands between fields.
+/// Whether a byte separates fields.
 pub fn is_gap(byte: u8) -> bool
     ensures { result ≡ is_gap byte }
 {
     byte == b' ' || byte == b'\t'
 }
 
-/// How many slots there are: one for each field that is kept, and one for the field that may go on.
+/// How many slots there are: one for each field that is kept, and one for the present field.
 const SLOTS: usize = 7;
 
-/// The first six fields of the present line, and the field that may go on, each in its slot, so that none is moved.
+/// The first six fields of the present line that have ended, and the present field, which may go on. Each has a slot,
+/// so that none is moved.
 #[derive(Drop)]
 pub struct Scanner {
-    /// The fields that are past, then the one that may go on, and then room.
+    /// The fields that have ended, then the present one, then free slots.
     pub slots: [Slot; SLOTS],
-    /// How many fields are past.
+    /// How many fields that have ended are kept.
     pub filled: usize,
     ghost room: { length slots ≡ 7 },
     ghost few: { filled ≤ 6 },
@@ -34,7 +35,7 @@ impl Scanner {
     ghost use Rattle.road_text.specs.Slots.{word_in};
     ghost use Rattle.road_text.specs.Words.{no_word};
 
-    /// A line begins.
+    /// A scanner at the start of a line.
     pub fn new() -> Self
         ensures { scan_of result ≡ ([], no_word) }
     {
@@ -52,7 +53,7 @@ impl Scanner {
         }
     }
 
-    /// The fields that are past.
+    /// The fields that have ended.
     #[inline(always)]
     pub fn fields(&self) -> &[Slot]
         ensures { map word_in result.now ≡ (scan_of self.now).0 }
@@ -60,7 +61,7 @@ impl Scanner {
         &self.slots[..self.filled]
     }
 
-    /// The field that may go on.
+    /// The present field, which may go on.
     #[inline(always)]
     pub fn present(&self) -> &Slot
         ensures { word_in result.now ≡ (scan_of self.now).1 }
@@ -68,7 +69,7 @@ impl Scanner {
         &self.slots[self.filled]
     }
 
-    /// A new line begins.
+    /// Begins a new line.
     #[inline(always)]
     pub fn restart(&mut self)
         ensures { scan_of self.new ≡ ([], no_word) }
@@ -77,7 +78,7 @@ impl Scanner {
         self.slots[0] = Slot::default();
     }
 
-    // The present field is no more.
+    /// Drops the present field.
     #[inline(always)]
     fn drop_present(&mut self)
         ensures { scan_of self.new ≡ ((scan_of self.old).0, no_word) }
@@ -85,7 +86,7 @@ impl Scanner {
         self.slots[self.filled] = Slot::default();
     }
 
-    // The present field is one of those that are past.
+    /// Keeps the present field as one that has ended.
     #[inline(always)]
     fn keep_present(&mut self)
         requires { self.old.filled < 6 }
@@ -95,7 +96,7 @@ impl Scanner {
         self.slots[self.filled] = Slot::default();
     }
 
-    /// The present field is past.
+    /// Ends the present field.
     #[inline(always)]
     pub fn close(&mut self)
         ensures { scan_of self.new ≡ (past (scan_of self.old), no_word) }
@@ -111,17 +112,18 @@ impl Scanner {
         }
     }
 
-    /// Takes a CR that was pending.
+    /// Takes the CR that was pending, if any.
     #[inline(always)]
     pub fn add_pending(&mut self, pending: bool)
-        ensures { scan_of self.new ≡ (if pending then scan_on (scan_of self.old) 13 else scan_of self.old) }
+        ensures { scan_of self.new ≡ (if pending then scan_on (scan_of self.old) 13 else scan_of
+            self.old) }
     {
         if pending {
             self.add(b'\r');
         }
     }
 
-    /// Takes one byte more of the line.
+    /// Takes one more byte of the line.
     #[tactic(auto, unfolding(crate::specs::Scans::scan_on))]
     pub fn add(&mut self, byte: u8)
         ensures { scan_of self.new ≡ scan_on (scan_of self.old) byte }
@@ -133,7 +135,7 @@ impl Scanner {
         }
     }
 
-    /// Takes one byte more of the present field.
+    /// Takes one more byte of the present field.
     #[inline(always)]
     pub fn go_on(&mut self, byte: u8)
         ensures { scan_of self.new ≡ ((scan_of self.old).0, word_on (scan_of self.old).1 byte) }
@@ -141,11 +143,15 @@ impl Scanner {
         self.slots[self.filled].add(byte);
     }
 
-    /// Takes some bytes more of the present field, with which it is this number.
+    /// Takes more bytes of the present field; `number` is the field's number with them.
     #[inline(always)]
     pub fn add_run(&mut self, bytes: &[u8], number: Option<u128>)
         requires { number ≡ number_with (scan_of self.old).1.number bytes.now }
-        ensures { scan_of self.new ≡ ((scan_of self.old).0, word_with (scan_of self.old).1 bytes.now) }
+        ensures { scan_of self.new ≡ (
+          (scan_of self.old).0,
+          word_with (scan_of self.old).1
+              bytes.now,
+        ) }
     {
         self.slots[self.filled].add_run(bytes, number);
     }

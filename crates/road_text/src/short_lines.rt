@@ -1,4 +1,4 @@
-//! Lines of a letter and three numbers, which are most lines of large texts, taken in one go.
+//! Lines of a letter and three numbers, each taken whole: in large texts most lines are such.
 ghost use Rattle.std.specs.Prelude.{◌≡◌, ◌<◌, ◌≤◌, length, take, IfSome, true, All, Some};
 ghost use Rattle.std.specs.Char.{is_ascii_digit};
 ghost use Rattle.road_text.specs.Scans.{number_with};
@@ -15,41 +15,42 @@ pub struct ShortLine {
     pub len: usize,
 }
 
-/// The digits that a number of 64 bits always has room for.
+/// How many digits a number of 64 bits always has room for.
 const MOST_DIGITS: usize = 19;
 
-/// How many digits stand at the front, and the number that they write, eight bytes at a time; none where they are too many.
+/// How many digits come first, and their number, read eight bytes at a time. None if there are too many.
 #[inline(always)]
-fn front_number(bytes: &[u8]) -> (usize, u64)
+fn leading_number(bytes: &[u8]) -> (usize, u64)
     ensures bound { result.0 ≤ length bytes.now }
     ensures digits { All (λ b. is_ascii_digit b ≡ true) (take result.0 bytes.now) }
     ensures number { Some result.1 ≡ number_with (Some 0) (take result.0 bytes.now) }
 {
-    let (front, number) = read_digits(bytes, 0, 0);
-    if front > MOST_DIGITS {
+    let (prefix, number) = read_digits(bytes, 0, 0);
+    if prefix > MOST_DIGITS {
         return (0, 0);
     }
-    (front, number)
+    (prefix, number)
 }
 
-/// The number of the digits at the front, where this byte comes behind them, and how many bytes that makes.
+/// The number of the first digits, if this byte follows them, and how many bytes that makes.
 #[inline(always)]
 fn number_then(bytes: &[u8], end: u8) -> Option<(u64, usize)>
     ensures bound { IfSome result (λ r. r.1 ≤ length bytes.now) }
     ensures number { IfSome result (λ r. IsNumberThen (take r.1 bytes.now) end r.0) }
 {
-    let (front, number) = front_number(bytes);
-    if front == 0 || front == bytes.len() || bytes[front] != end {
+    let (prefix, number) = leading_number(bytes);
+    if prefix == 0 || prefix == bytes.len() || bytes[prefix] != end {
         return None;
     }
-    Some((number, front + 1))
+    Some((number, prefix + 1))
 }
 
-/// The line at the front, if it is such a one.
+/// The first line, if it is a letter and three numbers.
 #[inline(always)]
 pub fn short_line(bytes: &[u8]) -> Option<ShortLine>
     ensures bound { IfSome result (λ s. (0 < s.len) × (s.len ≤ length bytes.now)) }
-    ensures line { IfSome result (λ s. IsShortLine (take s.len bytes.now) s.letter s.numbers.0 s.numbers.1 s.numbers.2) }
+    ensures line { IfSome result (λ s. IsShortLine (take s.len bytes.now) s.letter s.numbers.0
+        s.numbers.1 s.numbers.2) }
 {
     if bytes.len() < 2 || bytes[0] <= b' ' || bytes[1] != b' ' {
         return None;

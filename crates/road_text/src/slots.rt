@@ -7,7 +7,7 @@ ghost use Rattle.road_text.specs.Scans.{number_with, word_on, word_with};
 use crate::runs::number_on;
 use arrayvec::ArrayVec;
 
-/// How many bytes of a field are kept. Every word of a text's own is shorter.
+/// How many bytes of a field are kept. Every keyword is shorter.
 pub const KEPT: usize = 9;
 
 /// What is kept of a field: its first bytes, and the number that it is.
@@ -15,7 +15,7 @@ pub const KEPT: usize = 9;
 pub struct Slot {
     /// The first nine bytes.
     pub text: ArrayVec<u8, KEPT>,
-    /// The number, if the field is one; 2 ^ 64 for each greater one.
+    /// The number, if the field is one, saturated at 2 ^ 64.
     pub number: Option<u128>,
 }
 
@@ -31,7 +31,7 @@ impl Default for Slot {
 }
 
 impl Slot {
-    /// Takes one byte more of the field.
+    /// Takes one more byte of the field.
     pub fn add(&mut self, byte: u8)
         ensures { word_in self.new ≡ word_on (word_in self.old) byte }
     {
@@ -41,7 +41,7 @@ impl Slot {
         self.number = number_on(self.number, byte);
     }
 
-    /// Takes some bytes more of the field, with which it is this number.
+    /// Takes more bytes of the field; `number` is the field's number with them.
     #[inline(always)]
     #[tactic(auto, using(std::proofs::lemmas::List::take_min), unfolding(crate::specs::Scans::word_with))]
     pub fn add_run(&mut self, bytes: &[u8], number: Option<u128>)

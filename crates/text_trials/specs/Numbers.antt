@@ -8,7 +8,7 @@ abbrev pub below_top : Option ℕ → Result ℕ ℕ
 below_top None = Err 15
 below_top (Some n) = if nat_lt n 18446744073709551616 then Ok n else Err 16
 
--- a line: one number more
+-- a line: one more number
 unfoldable pub numbers_line : List ℕ → List Word → Result (List ℕ) ℕ
 numbers_line ns ws =
     if length ws == 0 then Ok ns

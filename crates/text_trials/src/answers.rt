@@ -149,7 +149,7 @@ fn sheet_of(answers: &Answers) -> Sheet {
     sheet
 }
 
-/// The number and the line of the fault, or twice 0.
+/// The number and the line of the fault, or 0 and 0.
 fn outcome(alloc: Global, bytes: &[u8], n: u32) -> (u8, u64) {
     match read_answers(alloc, &mut Plain::new(bytes), n) {
         Ok(_) => (0, 0),
@@ -157,7 +157,7 @@ fn outcome(alloc: Global, bytes: &[u8], n: u32) -> (u8, u64) {
     }
 }
 
-/// The text that is written of what was read.
+/// What is written after a text was read.
 fn read_and_written(alloc: Global, bytes: &[u8], n: u32) -> Sheet {
     match read_answers(alloc, &mut Plain::new(bytes), n) {
         Ok(answers) => sheet_of(&answers),
@@ -256,7 +256,7 @@ fn a_writer_that_fails_at_each_byte(rt: HostRuntime) -> Result<(), Fail> {
     Ok(())
 }
 
-/// Asserts of texts that are read over so many vertices the number and the line of the fault, or twice 0.
+/// Asserts the number and the line of the fault of each text over this many vertices, or 0 and 0.
 fn assert_outcomes(rt: &(impl Abort + AllocGlobal), cases: &[(&str, u32, (u8, u64))]) {
     for (text, n, wanted) in cases {
         assert_eq!(rt; outcome(rt.alloc(), text.as_bytes(), *n), *wanted, "{text}");

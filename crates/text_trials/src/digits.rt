@@ -8,7 +8,7 @@ use std::alloc::{AllocError, Global};
 use std::process::Abort;
 use std::test::Fail;
 
-/// Weights of one to twenty-one digits, and each as it is written again.
+/// Weights of one to twenty-one digits, each with what is written after it was read.
 const WEIGHTS: [(&str, &str); 21] = [
     ("1", "1"),
     ("12", "12"),
@@ -42,7 +42,7 @@ fn one_arc(alloc: Global, weight: &str) -> Result<Vec<u8>, AllocError> {
     Ok(text)
 }
 
-/// The same behind a comment of so many bytes.
+/// The same after a comment of this many bytes.
 fn behind_comment(alloc: Global, comment: usize, weight: &str) -> Result<Vec<u8>, AllocError> {
     let mut text = Vec::new(alloc);
     for _ in 0..comment {
@@ -53,7 +53,7 @@ fn behind_comment(alloc: Global, comment: usize, weight: &str) -> Result<Vec<u8>
     Ok(text)
 }
 
-/// What is read of a text in pieces of so many bytes, as a graph file; empty where there is a fault.
+/// The graph file that is written after a text was read in pieces of this many bytes; empty if it has a fault.
 fn again(alloc: Global, text: &[u8], piece: usize) -> Vec<u8>
     requires { 0 < piece }
 {
@@ -64,7 +64,7 @@ fn again(alloc: Global, text: &[u8], piece: usize) -> Vec<u8>
     to.into_inner()
 }
 
-/// Asserts of each weight, behind such a comment and in such pieces, how it is written again.
+/// Asserts how each weight is written after it was read, after such a comment and in such pieces.
 fn assert_weights(rt: &(impl Abort + AllocGlobal), comment: usize, piece: usize) -> Result<(), Fail>
     requires { 0 < piece }
 {
@@ -96,7 +96,7 @@ fn at_every_offset_of_a_piece(rt: HostRuntime) -> Result<(), Fail> {
 
 #[test]
 fn at_every_offset_of_a_buffer(rt: HostRuntime) -> Result<(), Fail> {
-    // The weight stands 16 bytes behind the comment: the buffer ends beside it or in it.
+    // The weight begins 16 bytes after the comment: the buffer ends beside it or in it.
     for comment in 65_497..=65_520 {
         assert_weights(&rt, comment, 65_536)?;
     }

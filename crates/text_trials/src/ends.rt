@@ -5,7 +5,7 @@ use ghost_count::Count;
 use road_text::{ReadFailed, RoadRead, RoadWrite, WriteFault};
 use std::alloc::Global;
 
-/// Gives its bytes in pieces, and fails behind them where it is told to.
+/// Gives its bytes in pieces. After them it fails if `fails` is set.
 #[derive(Drop)]
 pub struct Pieces<'a> {
     bytes: &'a [u8],
@@ -50,8 +50,8 @@ impl RoadRead for Pieces<'_> {
         if buf.len() < taken {
             taken = buf.len();
         }
-        let (front, rest) = self.bytes.split_at(taken);
-        buf[..taken].copy_from_slice(front);
+        let (prefix, rest) = self.bytes.split_at(taken);
+        buf[..taken].copy_from_slice(prefix);
         self.bytes = rest;
         Ok(taken)
     }

@@ -1,4 +1,4 @@
-//! Files read in pieces, with their faults, and written again.
+//! Files read in pieces, with their faults, and written back.
 ghost use Rattle.std.specs.Prelude.{◌≡◌, ◌<◌, ◌≤◌, ◌+◌, Some, length};
 
 use crate::ends::Pieces;
@@ -14,7 +14,7 @@ use std::test::Fail;
 const BUNDLE: &[u8] =
     b"p sp 5 7\na 1 2 4\na 1 3 1\na 3 2 2\na 2 4 5\na 3 4 8\na 4 4 0\na 5 1 3\np aux sp ss 1\ns 1\n";
 
-/// A graph file's spelling of what a graph file has, and 0, or the fault's number and line.
+/// What is written after a graph file was read, with 0 and 0, or the fault's number and line.
 fn graph(alloc: Global, bytes: &[u8]) -> (Vec<u8>, u8, u64) {
     let mut to = Plain::new(Vec::new(alloc));
     match read_gr(alloc, &mut Pieces::new(bytes, 7, false)) {
@@ -31,19 +31,19 @@ fn graph_fault(alloc: Global, bytes: &[u8]) -> (u8, u64) {
     (number, line)
 }
 
-/// Asserts of a graph the number and the line of the fault.
+/// Asserts the number and the line of the fault of a graph file.
 fn assert_graph_fault(rt: &(impl Abort + AllocGlobal), text: &[u8], wanted: (u8, u64)) {
     assert_eq!(rt; graph_fault(rt.alloc(), text), wanted);
 }
 
-/// Asserts that a graph is read, and how it is written again.
+/// Asserts that a graph is read, and how it is written back.
 fn assert_graph(rt: &(impl Abort + AllocGlobal), text: &[u8], again: &[u8]) {
     let (written, number, _line) = graph(rt.alloc(), text);
     assert_eq!(rt; number, 0);
     assert_eq!(rt; written.as_slice(), again);
 }
 
-/// Asserts of graphs the number and the line of the fault.
+/// Asserts the number and the line of the fault of each graph file.
 fn assert_graph_faults(rt: &(impl Abort + AllocGlobal), cases: &[(&str, (u8, u64))]) {
     for (text, wanted) in cases {
         assert_eq!(rt; graph_fault(rt.alloc(), text.as_bytes()), *wanted, "{text}");
@@ -58,7 +58,7 @@ fn write_questions(to: &mut Plain<Vec<u8>>, questions: &Questions) {
     };
 }
 
-/// The spelling of what a question file over five vertices has, and 0, or the fault's number and line.
+/// What is written after a question file over five vertices was read, with 0 and 0, or the fault's number and line.
 fn questions(alloc: Global, bytes: &[u8]) -> (Vec<u8>, u8, u64) {
     let mut to = Plain::new(Vec::new(alloc));
     match read_questions(alloc, &mut Pieces::new(bytes, 3, false), 5) {
@@ -70,14 +70,14 @@ fn questions(alloc: Global, bytes: &[u8]) -> (Vec<u8>, u8, u64) {
     }
 }
 
-/// Asserts that questions over five vertices are read, and written again as they were.
+/// Asserts that questions over five vertices are read, and written back unchanged.
 fn assert_questions(rt: &(impl Abort + AllocGlobal), text: &[u8]) {
     let (written, number, _line) = questions(rt.alloc(), text);
     assert_eq!(rt; number, 0);
     assert_eq!(rt; written.as_slice(), text);
 }
 
-/// Asserts of questions over five vertices the number and the line of the fault.
+/// Asserts the number and the line of the fault of each question file over five vertices.
 fn assert_questions_faults(rt: &(impl Abort + AllocGlobal), cases: &[(&str, (u8, u64))]) {
     for (text, wanted) in cases {
         let (_text, number, line) = questions(rt.alloc(), text.as_bytes());
@@ -85,7 +85,7 @@ fn assert_questions_faults(rt: &(impl Abort + AllocGlobal), cases: &[(&str, (u8,
     }
 }
 
-/// The spelling of what a bundle has, and 0, or the fault's number and line.
+/// What is written after a bundle was read, with 0 and 0, or the fault's number and line.
 fn bundle(alloc: Global, bytes: &[u8], piece: usize, fails: bool) -> (Vec<u8>, u8, u64)
     requires { 0 < piece }
 {
@@ -100,7 +100,7 @@ fn bundle(alloc: Global, bytes: &[u8], piece: usize, fails: bool) -> (Vec<u8>, u
     }
 }
 
-/// Asserts that a bundle is read in pieces of so many bytes, and how it is written again.
+/// Asserts that a bundle is read in pieces of this many bytes, and how it is written back.
 fn assert_bundle(rt: &(impl Abort + AllocGlobal), text: &[u8], piece: usize, again: &[u8])
     requires { 0 < piece }
 {
@@ -109,7 +109,7 @@ fn assert_bundle(rt: &(impl Abort + AllocGlobal), text: &[u8], piece: usize, aga
     assert_eq!(rt; written.as_slice(), again);
 }
 
-/// Asserts of bundles the number and the line of the fault.
+/// Asserts the number and the line of the fault of each bundle.
 fn assert_bundle_faults(rt: &(impl Abort + AllocGlobal), cases: &[(&str, (u8, u64))]) {
     for (text, wanted) in cases {
         let (_text, number, line) = bundle(rt.alloc(), text.as_bytes(), 5, false);
@@ -240,7 +240,7 @@ fn a_reader_that_fails(rt: HostRuntime) {
 }
 
 #[test]
-fn fronts_of_a_bundle(rt: HostRuntime) {
+fn prefixes_of_a_bundle(rt: HostRuntime) {
     let text = BUNDLE;
     for end in 0..text.len().saturating_sub(1) {
         let (written, number, _line) = bundle(rt.alloc(), &text[..end], 5, false);
@@ -250,9 +250,9 @@ fn fronts_of_a_bundle(rt: HostRuntime) {
 }
 
 /// One text, a byte a million times, and another text.
-fn long_text(alloc: Global, front: &[u8], byte: u8, back: &[u8]) -> Result<Vec<u8>, AllocError> {
+fn long_text(alloc: Global, prefix: &[u8], byte: u8, back: &[u8]) -> Result<Vec<u8>, AllocError> {
     let mut text = Vec::new(alloc);
-    text.extend_from_slice(front)?;
+    text.extend_from_slice(prefix)?;
     for _ in 0..1_000_000 {
         text.push(byte)?;
     }

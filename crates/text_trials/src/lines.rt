@@ -1,4 +1,4 @@
-//! A small kind of text read in pieces and with failures, and the writers over an end that fills up.
+//! A small kind of text, read in pieces and with failures, and the writers over an output that fills up.
 ghost use Rattle.std.specs.Prelude.{◌≡◌, ◌<◌, ◌≤◌, ◌+◌, ◌^◌, ℕ, List, Some, Ok, length, map, refl, IfOk, IfErr, IfSome};
 ghost use Rattle.text_trials.specs.Numbers.{below_top, numbers_line, numbers_rules};
 ghost use Rattle.road_text.specs.Reads.{ReadsValue, ReadsFault, TellsFailure, TellsNoOther, IsReadNumber};
@@ -39,7 +39,8 @@ fn below_top(slot: &Slot) -> Result<u64, LineFault>
 impl NumberParser {
     #[tactic(auto, unfolding(crate::specs::Numbers::numbers_line))]
     fn take(&mut self, slots: &[Slot]) -> Result<(), LineFault>
-        ensures { Leaves (numbers_line self.old.numbers.items (map word_in slots.now)) result self.new.numbers.items }
+        ensures { Leaves (numbers_line self.old.numbers.items (map word_in slots.now)) result
+            self.new.numbers.items }
     {
         if slots.is_empty() {
             return Ok(());
@@ -165,7 +166,7 @@ fn a_reader_that_fails(rt: HostRuntime) {
     }
 }
 
-/// Asserts of texts, each read in pieces of so many bytes, the sum of their numbers, or the fault's number and line.
+/// Asserts what texts give, read in pieces of this many bytes: the sum of the numbers, or the fault's number and line.
 fn assert_outcomes(
     rt: &(impl Abort + AllocGlobal),
     piece: usize,
@@ -272,7 +273,7 @@ fn carriage_returns_and_odd_bytes(rt: HostRuntime) {
     assert_eq!(rt; outcome(rt.alloc(), b"\xff\n", 1, false), Err((13, 1)));
 }
 
-/// Asserts how a write or a flush ended, and what the sheet has then.
+/// Asserts how a write or a flush ended, and what is on the sheet afterwards.
 fn assert_wrote(
     rt: &impl Abort,
     ended: Result<(), WriteFault>,

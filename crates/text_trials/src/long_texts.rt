@@ -6,7 +6,7 @@ use road_text::{Plain, ReadFailed, RoadRead};
 use std::alloc::Global;
 use std::io::{self, Read};
 
-/// Gives this many pieces, each as long as is asked for, of the letter that begins a comment.
+/// Gives this many pieces, each as long as is asked for, of the letter that begins a comment line.
 #[derive(Drop)]
 struct Comment {
     pieces: u32,
@@ -56,7 +56,7 @@ impl Read for FailsOnce {
     }
 }
 
-/// The number of the fault of a graph file, 0 where there is none.
+/// The number of the fault of a graph file, 0 if there is none.
 fn fault<R: RoadRead>(alloc: Global, from: &mut R) -> u8 {
     match read_gr(alloc, from) {
         Ok(_) => 0,

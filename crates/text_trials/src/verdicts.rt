@@ -13,13 +13,13 @@ use std::process::Abort;
 use std::test::Fail;
 use std::thread::Threads;
 
-/// Five vertices, of which the last is reached from nowhere.
+/// Five vertices. No arc leads to the last.
 const FIVE: &str = "p sp 5 7\na 1 2 4\na 1 3 1\na 3 2 2\na 2 4 5\na 3 4 8\na 4 4 0\na 5 1 3\n";
 
 /// One question, from the first vertex.
 const FROM_ONE: &str = "p aux sp ss 1\ns 1\n";
 
-/// What `FROM_ONE` over `FIVE` is answered under the least sum of weights.
+/// The answer to `FROM_ONE` over `FIVE` by the least sum of weights.
 const LINES: &str = "d 1 0 0 0\nd 2 3 2 3\nd 3 1 1 1\nd 4 8 3 2\nu 5\n";
 
 /// The graph of a text that has no fault.
@@ -48,7 +48,7 @@ fn answers_of(rt: &(impl Abort + AllocGlobal), text: &str, n: u32) -> Answers {
     }
 }
 
-/// Asserts the verdict that a number of checks give, each the same.
+/// Asserts the verdict of several checks, the same each time.
 fn assert_verdicts<A: PathAlgebra>(
     rt: &(impl Abort + AllocGlobal + Threads + Sync),
     algebra: A,
@@ -89,7 +89,7 @@ fn invalid(question: usize, vertex: u32, reason: Reason) -> Verdict {
     }
 }
 
-/// Asserts the verdict on lines from the first vertex of a graph, under the least sum of weights.
+/// Asserts the verdict on lines from the first vertex of a graph, by the least sum of weights.
 fn assert_lines(
     rt: &(impl Abort + AllocGlobal + Threads + Sync),
     graph: &str,
@@ -101,7 +101,7 @@ fn assert_lines(
     Ok(())
 }
 
-/// Asserts the verdict on what is told of the pair 1 and 4 of the five vertices.
+/// Asserts the verdict on an answer to the pair 1 and 4 of the five vertices.
 fn assert_pair(
     rt: &(impl Abort + AllocGlobal + Threads + Sync),
     told: &str,
@@ -143,7 +143,7 @@ fn right_answers(rt: HostRuntime) -> Result<(), Fail> {
     Ok(())
 }
 
-/// Asserts the verdict on what is told of vertex 4 where the five vertices are asked for what is reached.
+/// Asserts the verdict on this line of vertex 4 of the five vertices, in an answer by `Reach`.
 fn assert_reached(
     rt: &(impl Abort + AllocGlobal + Threads + Sync),
     fourth: &str,
@@ -156,7 +156,7 @@ fn assert_reached(
     Ok(())
 }
 
-/// Asserts the verdict on three pairs, of which the first is told this route.
+/// Asserts the verdict on the answers to three pairs, the first with this route.
 fn assert_route(
     rt: &(impl Abort + AllocGlobal + Threads + Sync),
     route: &str,
@@ -317,7 +317,7 @@ fn reasons_against_pairs(rt: HostRuntime) -> Result<(), Fail> {
     Ok(())
 }
 
-/// Asserts the verdict on 130 answers to one pair, of which that at a place tells another value.
+/// Asserts the verdict on 130 answers to one pair, where answer `wrong` has another value.
 fn assert_pairs(
     rt: &(impl Abort + AllocGlobal + Threads + Sync),
     wrong: usize,
@@ -372,7 +372,7 @@ fn numbers_of_reasons(rt: HostRuntime) {
     }
 }
 
-/// A chain of 5000 vertices and answers for it, of which those for vertices 3000 and 4000 tell another value.
+/// A chain of 5000 vertices and answers for it. Those for vertices 3000 and 4000 have another value.
 fn chain_with_two_wrong_codes(alloc: Global) -> Result<(String, String), Fail> {
     let mut graph = format!(in alloc; "p sp 5000 4999\n")?;
     let mut answers = format!(in alloc; "p ans ss 1 shortest\ns 1\nd 1 0 0 0\n")?;

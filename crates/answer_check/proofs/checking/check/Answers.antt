@@ -2,7 +2,7 @@ use Rattle.std.proofs.Common.{rules, ◌≡◌, ◌+◌, ◌<◌, ◌≤◌, len
 use Rattle.std.proofs.lemmas.Grind.{common_steps}
 use Rattle.std.proofs.lemmas.List.{length-map}
 use Rattle.road_files.specs.Asked.{asked_of}
-use Rattle.answer_text.specs.Told.{told_of, told_list_of}
+use Rattle.answer_text.specs.AnswerData.{answer_data, answer_list}
 use Rattle.answer_check.specs.declared.place.Place.{Place}
 use Rattle.answer_check.specs.declared.verdict.Reason.TheVariants.{Mismatch}
 use Rattle.answer_check.specs.declared.verdict.Verdict.TheVariants.{Valid, Invalid}
@@ -15,27 +15,27 @@ returns-then-not-has_header-clause-valid g c =
     let A = g.A.PathAlgebra.meaning c.args.algebra in
     let graph = c.args.graph.now in
     let asked = asked_of c.args.questions.now in
-    let told = told_list_of c.args.answers.now in
+    let told = answer_list c.args.answers.now in
     let asks = asks_of graph c.args.questions.now c.requires in
     let no_header : HasHeader A graph asked told → ⊥ = λ h. let t = c.has_header.ensures.1 h in let f : c.has_header.result ≡ false = search rules in (let bad : false ≡ true = sym f ∙ t in cc) in
-    both_clauses A graph c.laws_hold.ensures.lawful c.vertices-n.ensures.roads asked told asks (Invalid 0 0 Mismatch)
-    (header_first A graph c.laws_hold.ensures.lawful c.vertices-n.ensures.roads asked told asks no_header)
+    both_clauses A graph c.laws_hold.ensures.lawful c.holds.ensures asked told asks (Invalid 0 0 Mismatch)
+    (header_first A graph c.laws_hold.ensures.lawful c.holds.ensures asked told asks no_header)
 
 pub returns-in-Some-clause-verdict : goal.returns-in-Some-clause-verdict
 returns-in-Some-clause-verdict g c =
     let A = g.A.PathAlgebra.meaning c.args.algebra in
     let graph = c.args.graph.now in
     let asked = asked_of c.args.questions.now in
-    let told = told_list_of c.args.answers.now in
+    let told = answer_list c.args.answers.now in
     let i = c.loop-i.i in
     let header : HasHeader A graph asked told = c.has_header.ensures.0 (search rules) in
     let lt : i < length c.args.answers.now.list.items = search rules in
     let count = header.count in
-    let n = length-map c.args.answers.now.list.items told_of in
+    let n = length-map c.args.answers.now.list.items answer_data in
     let q = question_at asked.questions i (omega (arith, lt, count, n)) in
-    let t = mapped_read told_of c.args.answers.now.list.items i c.index.result.now c.index.ensures lt in
+    let t = mapped_read answer_data c.args.answers.now.list.items i c.index.result.now c.index.ensures lt in
     let found : c.judge.result ≡ Ok (Some c.in-Some.place) = c.in_ok-place.was ∙ ap (λ (o : Option Place). Ok o) c.in-Some.is in
-    answer_first A graph c.laws_hold.ensures.lawful c.vertices-n.ensures.roads asked told (asks_of graph c.args.questions.now c.requires) header i q.0 (told_of c.index.result.now) c.loop-i.invariant q.1 t c.in-Some.place
+    answer_first A graph c.laws_hold.ensures.lawful c.holds.ensures asked told (asks_of graph c.args.questions.now c.requires) header i q.0 (answer_data c.index.result.now) c.loop-i.invariant q.1 t c.in-Some.place
     (rw found at (c.judge.ensures q.0 q.1))
 
 pub returns-in-Some-clause-valid : goal.returns-in-Some-clause-valid
@@ -43,8 +43,8 @@ returns-in-Some-clause-valid g c =
     let A = g.A.PathAlgebra.meaning c.args.algebra in
     let graph = c.args.graph.now in
     let asked = asked_of c.args.questions.now in
-    let told = told_list_of c.args.answers.now in
-    both_clauses A graph c.laws_hold.ensures.lawful c.vertices-n.ensures.roads asked told (asks_of graph c.args.questions.now c.requires) (Invalid (c.loop-i.i + 1) c.in-Some.place.vertex c.in-Some.place.reason)
+    let told = answer_list c.args.answers.now in
+    both_clauses A graph c.laws_hold.ensures.lawful c.holds.ensures asked told (asks_of graph c.args.questions.now c.requires) (Invalid (c.loop-i.i + 1) c.in-Some.place.vertex c.in-Some.place.reason)
     (returns-in-Some-clause-verdict g c)
 
 pub loop-i-preserved : goal.loop-i-preserved
@@ -52,35 +52,35 @@ loop-i-preserved g c =
     let A = g.A.PathAlgebra.meaning c.args.algebra in
     let graph = c.args.graph.now in
     let asked = asked_of c.args.questions.now in
-    let told = told_list_of c.args.answers.now in
+    let told = answer_list c.args.answers.now in
     let i = c.loop-i.i in
     let header : HasHeader A graph asked told = c.has_header.ensures.0 (search rules) in
     let lt : i < length c.args.answers.now.list.items = search rules in
     let count = header.count in
-    let n = length-map c.args.answers.now.list.items told_of in
+    let n = length-map c.args.answers.now.list.items answer_data in
     let q = question_at asked.questions i (omega (arith, lt, count, n)) in
-    let t = mapped_read told_of c.args.answers.now.list.items i c.index.result.now c.index.ensures lt in
+    let t = mapped_read answer_data c.args.answers.now.list.items i c.index.result.now c.index.ensures lt in
     let none : c.judge.result ≡ Ok None = c.in_ok-place.was ∙ ap (λ (o : Option Place). Ok o) c.in_default.is in
-    one_right_more A graph c.laws_hold.ensures.lawful c.vertices-n.ensures.roads asked.questions told.list i q.0 (told_of c.index.result.now) c.loop-i.invariant q.1 t (rw none at (c.judge.ensures q.0 q.1))
+    one_right_more A graph c.laws_hold.ensures.lawful c.holds.ensures asked.questions told.list i q.0 (answer_data c.index.result.now) c.loop-i.invariant q.1 t (rw none at (c.judge.ensures q.0 q.1))
 
 pub returns-clause-verdict : goal.returns-clause-verdict
 returns-clause-verdict g c =
     let A = g.A.PathAlgebra.meaning c.args.algebra in
     let graph = c.args.graph.now in
     let asked = asked_of c.args.questions.now in
-    let told = told_list_of c.args.answers.now in
+    let told = answer_list c.args.answers.now in
     let header : HasHeader A graph asked told = c.has_header.ensures.0 (search rules) in
     let end : length c.args.answers.now.list.items ≤ c.loop-i.i = search rules in
-    let n = length-map c.args.answers.now.list.items told_of in
-    list_is_right A graph c.laws_hold.ensures.lawful c.vertices-n.ensures.roads asked told header (λ k lt. c.loop-i.invariant k (omega (arith, lt, end, n)))
+    let n = length-map c.args.answers.now.list.items answer_data in
+    list_is_right A graph c.laws_hold.ensures.lawful c.holds.ensures asked told header (λ k lt. c.loop-i.invariant k (omega (arith, lt, end, n)))
 
 pub returns-clause-valid : goal.returns-clause-valid
 returns-clause-valid g c =
     let A = g.A.PathAlgebra.meaning c.args.algebra in
     let graph = c.args.graph.now in
     let asked = asked_of c.args.questions.now in
-    let told = told_list_of c.args.answers.now in
-    both_clauses A graph c.laws_hold.ensures.lawful c.vertices-n.ensures.roads asked told (asks_of graph c.args.questions.now c.requires) Valid (returns-clause-verdict g c)
+    let told = answer_list c.args.answers.now in
+    both_clauses A graph c.laws_hold.ensures.lawful c.holds.ensures asked told (asks_of graph c.args.questions.now c.requires) Valid (returns-clause-verdict g c)
 
 pub overflow_step-i : goal.overflow_step-i
 overflow_step-i g c = grind (arith, common_steps)

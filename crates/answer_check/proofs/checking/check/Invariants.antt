@@ -1,7 +1,7 @@
 use Rattle.road_files.specs.Asked.{asked_of}
-use Rattle.answer_text.specs.Told.{told_list_of}
+use Rattle.answer_text.specs.AnswerData.{answer_list}
 use Rattle.answer_check.proofs.FirstWrong.{AreRightUpTo}
 use Rattle.answer_check.proofs.checking.check.Given as goal
 
 abbrev pub invariant-loop-i : goal.invariant-loop-i
-invariant-loop-i g l = AreRightUpTo (g.A.PathAlgebra.meaning l.algebra) l.graph (asked_of l.questions).questions (told_list_of l.answers).list l.i
+invariant-loop-i g l = AreRightUpTo (g.A.PathAlgebra.meaning l.algebra) l.graph (asked_of l.questions).questions (answer_list l.answers).list l.i

@@ -1,7 +1,7 @@
 use Rattle.std.proofs.Common.{rules, ◌≡◌, ◌+◌, [], ◌∷◌, Some, None, length, ◌∙◌, sym, subst}
 use Rattle.path_algebra.specs.Walks.{IsBest, IsBestLabel, IsUnreached, AreHops, label_of}
 use Rattle.route_tree.specs.Told.{IsParentRoute}
-use Rattle.answer_text.specs.Told.{found_of}
+use Rattle.answer_text.specs.AnswerData.{found_of}
 use Rattle.answer_text.specs.IsAnswer.{IsRouteBetween}
 use Rattle.answer_check.proofs.PairsJudged.{told_without_walk, pair_judged}
 use Rattle.answer_check.proofs.pairs.reason_of_pair.Goals as goal

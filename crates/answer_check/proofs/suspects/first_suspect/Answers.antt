@@ -5,7 +5,7 @@ use denote.Param.Send.{sendable}
 use Rattle.rayon.specs.Numbers.{nat_range}
 use Rattle.rayon.proofs.ToStd.{nat_range-All}
 use Rattle.road_files.specs.Asked.{AskWithin, asked_of}
-use Rattle.answer_text.specs.Told.{told_list_of}
+use Rattle.answer_text.specs.AnswerData.{answer_list}
 use Rattle.answer_check.specs.Pairs.{TellsSuspect}
 use Rattle.answer_check.proofs.FirstPlaces.{first_from}
 use Rattle.answer_check.proofs.suspects.first_suspect.Goals as goal
@@ -25,7 +25,7 @@ returns g c =
     let ends = c.into_par_iter.ensures in
     let n = c.args.end - c.args.start in
     let done = rw base at c.position_first.ensures in
-    let tells = λ (i : ℕ) (b : Bool). TellsSuspect (g.A.PathAlgebra.meaning c.args.algebra) c.args.graph.now (asked_of c.args.questions.now) (told_list_of c.args.answers.now) i b in
+    let tells = λ (i : ℕ) (b : Bool). TellsSuspect (g.A.PathAlgebra.meaning c.args.algebra) c.args.graph.now (asked_of c.args.questions.now) (answer_list c.args.answers.now) i b in
     let short : n < 2 ^ 64 = search rules in
     let places : done.0 ≡ range_with_len c.args.start n = done.2 ∙ (λ i. nat_range (ends.0 i) (ends.1 i)) in
     let judged : AllZip tells (range_with_len c.args.start n) done.1 = subst (λ (xs : List ℕ). AllZip tells xs done.1) places done.3 in

@@ -2,7 +2,7 @@ use Rattle.std.proofs.Common.{option_map}
 use Rattle.road_text.specs.Texts.{text_of, spelled}
 use Rattle.road_text.proofs.WriteLaws.{fell_first, wrote_then, fell_out}
 use Rattle.answer_text.specs.AnswerText.{found_lines, pair_words}
-use Rattle.answer_text.specs.Told.{found_of}
+use Rattle.answer_text.specs.AnswerData.{found_of}
 use Rattle.answer_text.proofs.writing.write_pair.Goals as goal
 
 pub returns-in_err-write_pair_line : goal.returns-in_err-write_pair_line

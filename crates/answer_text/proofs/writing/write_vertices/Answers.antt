@@ -1,11 +1,11 @@
 use Rattle.std.proofs.Common.{refl, subst, sym, arith}
-use Rattle.road_text.specs.Written.{Left}
+use Rattle.road_text.specs.Written.{WrotePrefix}
 use Rattle.road_text.proofs.WriteLaws.{left_start, left_end, fell_out}
 use Rattle.answer_text.proofs.VertexLines.{vertices_start, vertices_end, vertex_left, vertex_fell}
 use Rattle.answer_text.proofs.writing.write_vertices.Goals as goal
 
 pub loop-line-init : goal.loop-line-init
-loop-line-init g c = record { vertex = refl; left = subst (Left _ _ _ _ _) (sym (vertices_start c.args.lines.now)) (left_start _ _ _) }
+loop-line-init g c = record { vertex = refl; left = subst (WrotePrefix _ _ _ _ _) (sym (vertices_start c.args.lines.now)) (left_start _ _ _) }
 
 pub loop-line-preserved : goal.loop-line-preserved
 loop-line-preserved g c = record {

@@ -1,5 +1,5 @@
 use Rattle.std.proofs.Common.{◌≡◌}
-use Rattle.road_text.specs.Written.{Left}
+use Rattle.road_text.specs.Written.{WrotePrefix}
 use Rattle.road_text.specs.Texts.{text_of}
 use Rattle.answer_text.specs.AnswerText.{vertex_lines}
 use Rattle.answer_text.proofs.VertexLines.{vertices_from}
@@ -8,5 +8,5 @@ use Rattle.answer_text.proofs.writing.write_vertices.Given as goal
 abbrev pub invariant-loop-line : goal.invariant-loop-line
 invariant-loop-line g l = record {
   vertex : l.vertex ≡ l.line-index;
-  left : Left (g.W.RoadWrite.written l.fn.to) (g.W.RoadWrite.written l.to) (g.W.RoadWrite.failures l.fn.to) (g.W.RoadWrite.failures l.to) (text_of (vertex_lines 1 l.lines)) (vertices_from l.line-index l.lines);
+  left : WrotePrefix (g.W.RoadWrite.written l.fn.to) (g.W.RoadWrite.written l.to) (g.W.RoadWrite.failures l.fn.to) (g.W.RoadWrite.failures l.to) (text_of (vertex_lines 1 l.lines)) (vertices_from l.line-index l.lines);
 }

@@ -1,10 +1,10 @@
 use Rattle.std.proofs.Common.{map}
 use Rattle.road_text.specs.Texts.{text_of}
-use Rattle.road_text.specs.Written.{Left}
+use Rattle.road_text.specs.Written.{WrotePrefix}
 use Rattle.road_files.specs.Asked.{of_pair}
 use Rattle.road_files.specs.WrittenFiles.{question_words}
 use Rattle.road_files.proofs.LinesInARow.{lines_from}
 use Rattle.road_files.proofs.writing.write_pairs.Given as goal
 
 abbrev pub invariant-loop-pair : goal.invariant-loop-pair
-invariant-loop-pair g l = Left (g.W.RoadWrite.written l.fn.to) (g.W.RoadWrite.written l.to) (g.W.RoadWrite.failures l.fn.to) (g.W.RoadWrite.failures l.to) (text_of (map question_words (map of_pair l.pairs))) (lines_from question_words l.pair-index (map of_pair l.pairs))
+invariant-loop-pair g l = WrotePrefix (g.W.RoadWrite.written l.fn.to) (g.W.RoadWrite.written l.to) (g.W.RoadWrite.failures l.fn.to) (g.W.RoadWrite.failures l.to) (text_of (map question_words (map of_pair l.pairs))) (lines_from question_words l.pair-index (map of_pair l.pairs))

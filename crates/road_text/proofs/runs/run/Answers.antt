@@ -4,10 +4,10 @@ use Rattle.road_text.specs.Scans.{is_plain, number_on}
 use Rattle.road_text.proofs.ScanLaws.{number_with-take_more}
 use Rattle.road_text.proofs.runs.run.Goals as goal
 
-pub loop-front-preserved : goal.loop-front-preserved
-loop-front-preserved c = record {
+pub loop-prefix-preserved : goal.loop-prefix-preserved
+loop-prefix-preserved c = record {
   within = omega arith;
-  plain = All-more (λ b. is_plain b ≡ true) c.args.bytes.now c.loop-front.front 0 c.loop-front-test.true c.loop-front.invariant.plain (sym c.is_plain.ensures ∙ c.if-is_plain.true);
-  number = c.number_on-grown.ensures ∙ ap (λ o. number_on o (get_or c.args.bytes.now c.loop-front.front 0)) c.loop-front.invariant.number
-      ∙ sym (number_with-take_more c.args.number c.args.bytes.now c.loop-front.front c.loop-front-test.true);
+  plain = All-more (λ b. is_plain b ≡ true) c.args.bytes.now c.loop-prefix.prefix 0 c.loop-prefix-test.true c.loop-prefix.invariant.plain (sym c.is_plain.ensures ∙ c.if-is_plain.true);
+  number = c.number_on-grown.ensures ∙ ap (λ o. number_on o (get_or c.args.bytes.now c.loop-prefix.prefix 0)) c.loop-prefix.invariant.number
+      ∙ sym (number_with-take_more c.args.number c.args.bytes.now c.loop-prefix.prefix c.loop-prefix-test.true);
 }

@@ -1,7 +1,7 @@
 use Rattle.std.proofs.Common.{◌≡◌, ℕ, List, [], Bool, Vec, Ok, Err, subst}
 use Rattle.std.specs.declared.alloc.Global.{Global}
 use Rattle.road_text.specs.declared.faults.ReadFault.{ReadFault}
-use Rattle.road_text.specs.Rules.{reading}
+use Rattle.road_text.specs.Rules.{value_of_lines}
 use Rattle.road_text.specs.Takes.{GivesBy}
 use Rattle.road_text.specs.Meaning.{Meaning}
 use Rattle.road_text.proofs.WholeTexts.{reads_value, reads_fault}
@@ -12,11 +12,11 @@ use Rattle.text_trials.proofs.lines.read_numbers.Goals as goal
 abbrev meaning : Meaning (List ℕ) (Vec ℕ Global)
 meaning = record { gives = λ cut ns at ls r. GivesBy numbers_rules ns (λ v. v.items) cut at ls r; so_far = λ _ _. Unit {0} }
 
-value_from : (ns : List ℕ) → ns ≡ [] → (cut : Bool) (ls : List (List ℕ)) (v : Vec ℕ Global) → reading cut numbers_rules 1 ns ls ≡ Ok v.items → reading cut numbers_rules 1 [] ls ≡ Ok v.items
-value_from ns none cut ls v h = subst (λ (start : List ℕ). reading cut numbers_rules 1 start ls ≡ Ok v.items) none h
+value_from : (ns : List ℕ) → ns ≡ [] → (cut : Bool) (ls : List (List ℕ)) (v : Vec ℕ Global) → value_of_lines cut numbers_rules 1 ns ls ≡ Ok v.items → value_of_lines cut numbers_rules 1 [] ls ≡ Ok v.items
+value_from ns none cut ls v h = subst (λ (start : List ℕ). value_of_lines cut numbers_rules 1 start ls ≡ Ok v.items) none h
 
-fault_from : (ns : List ℕ) → ns ≡ [] → (cut : Bool) (ls : List (List ℕ)) (f : ReadFault) → reading cut numbers_rules 1 ns ls ≡ Err f → reading cut numbers_rules 1 [] ls ≡ Err f
-fault_from ns none cut ls f h = subst (λ (start : List ℕ). reading cut numbers_rules 1 start ls ≡ Err f) none h
+fault_from : (ns : List ℕ) → ns ≡ [] → (cut : Bool) (ls : List (List ℕ)) (f : ReadFault) → value_of_lines cut numbers_rules 1 ns ls ≡ Err f → value_of_lines cut numbers_rules 1 [] ls ≡ Err f
+fault_from ns none cut ls f h = subst (λ (start : List ℕ). value_of_lines cut numbers_rules 1 start ls ≡ Err f) none h
 
 pub returns-clause-value : goal.returns-clause-value
 returns-clause-value g c = let ns = c.new.result.items in let none = c.new.ensures.items in

@@ -1,14 +1,14 @@
 use Rattle.std.proofs.Common.{◌-◌, ℕ, ◌<◌, ◌≤◌, false}
 use Rattle.road_files.specs.Asked.{asked_of}
-use Rattle.answer_text.specs.Told.{told_list_of}
+use Rattle.answer_text.specs.AnswerData.{answer_list}
 use Rattle.answer_check.specs.Pairs.{TellsSuspect}
-use Rattle.answer_check.proofs.suspects.right_front.Given as goal
+use Rattle.answer_check.proofs.suspects.right_prefix.Given as goal
 
 -- the answers before the next group are right
 abbrev pub invariant-loop-right : goal.invariant-loop-right
 invariant-loop-right g l = record {
   within : l.right ≤ l.count;
-  front : (k : ℕ) → k < l.right → TellsSuspect (g.A.PathAlgebra.meaning l.algebra) l.graph (asked_of l.questions) (told_list_of l.answers) k false;
+  prefix : (k : ℕ) → k < l.right → TellsSuspect (g.A.PathAlgebra.meaning l.algebra) l.graph (asked_of l.questions) (answer_list l.answers) k false;
 }
 
 abbrev pub decreases-loop-right : goal.decreases-loop-right

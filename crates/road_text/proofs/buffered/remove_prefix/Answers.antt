@@ -1,6 +1,6 @@
 use Rattle.std.proofs.Common.{arith}
 use Rattle.std.proofs.lemmas.Grind.{common_steps}
-use Rattle.road_text.proofs.buffered.remove_front.Goals as goal
+use Rattle.road_text.proofs.buffered.remove_prefix.Goals as goal
 
 pub returns-clause-items : goal.returns-clause-items
 returns-clause-items c = grind (arith, common_steps)

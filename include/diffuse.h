@@ -2,10 +2,10 @@
 
    What each call promises is proved of the library itself; docs/EMBEDDING.md says what that means, and what a caller owes.
 
-   A caller owes: each pointer is valid for as many elements as the number after it says, and is not null even for none; the
-   places of one call do not overlap; a handle began as DIFFUSE_CLOSED, which is all zero, and was changed by these calls
-   alone; no copy of it is used; one call at a time has it. A handle may go from one thread to another. For calls at one
-   time, give each thread a handle of its own by diffuse_graph_share. */
+   What a caller owes: each pointer is valid for as many elements as the number after it says, and is not null even for none;
+   what the pointers of one call point to does not overlap; a handle starts as DIFFUSE_CLOSED, which is all zero, and is
+   changed only by these calls; no copy of it is used; only one call at a time uses it. A handle may move from one thread to
+   another. For concurrent calls, give each thread a handle of its own with diffuse_graph_share. */
 #ifndef DIFFUSE_H
 #define DIFFUSE_H
 #include <stdbool.h>
@@ -42,15 +42,15 @@ DIFFUSE_ASSERT(offsetof(struct diffuse_graph, is_open) == 8, "whether it is open
 #undef DIFFUSE_ASSERT
 #endif
 
-/* What a call answers. A call answers no other status than is listed with it.
+/* The status that a call returns. A call returns only those listed with it.
 
-   After DIFFUSE_DONE the answer is written. After a refusal the handle is as it was and nothing is written but what explains the
-   refusal: code and hops of a route that found too little room, vertex and reason of a wrong tree, the line of a faulty text. */
+   After DIFFUSE_DONE the answer is written. After a refusal the handle is as it was, and only what explains the refusal is
+   written: code and hops of a route that is longer than the room, vertex and reason of a wrong tree, the line of a faulty text. */
 enum diffuse_status {
     DIFFUSE_DONE = 0,
-    DIFFUSE_NO_ROUTE = 1,        /* no walk that has a value leads from the source to the target */
-    DIFFUSE_NO_ROOM = 2,         /* route: the route is longer than the room for it; tree and check: a list has not just one
-                                    place for each vertex; read: the text is longer than 2^32 bytes */
+    DIFFUSE_NO_ROUTE = 1,        /* no walk from the source to the target has a value */
+    DIFFUSE_NO_ROOM = 2,         /* route: the route is longer than the room for it; tree and check: a list does not have
+                                    just one place for each vertex; read: the text is longer than 2^32 bytes */
     DIFFUSE_MEMORY = 3,          /* out of memory */
     DIFFUSE_IS_CLOSED = 4,       /* the handle has no graph */
     DIFFUSE_IS_OPEN = 5,         /* the handle that was to be opened has a graph already */
@@ -68,7 +68,7 @@ enum diffuse_status {
     DIFFUSE_NO_ALGEBRA = 43      /* there is no such algebra, or its limit is above 2^63 */
 };
 
-/* What is best, and what a code is. The limit of a call is read by DIFFUSE_WITHIN alone. */
+/* What is best, and what a code is. Only DIFFUSE_WITHIN reads the limit of a call. */
 enum diffuse_algebra {
     DIFFUSE_SHORTEST = 0, /* the least sum of weights; the code is the sum, in the unit of the weights, at most 2^63 */
     DIFFUSE_WIDEST = 1,   /* the greatest least weight; the code is that weight, and 2^32 at a source */
@@ -80,7 +80,7 @@ enum diffuse_algebra {
 
 /* Why the line of a vertex, which is its code, hops and parent, is wrong: the numbers of the program's checker. */
 enum diffuse_reason {
-    DIFFUSE_NOT_A_SOURCE_LINE = 1, /* a source has not the code of no arcs, 0 hops and parent 0 */
+    DIFFUSE_NOT_A_SOURCE_LINE = 1, /* a source does not have the code of no arcs, 0 hops and parent 0 */
     DIFFUSE_NOT_BEST = 2,          /* an arc gives a better value */
     DIFFUSE_NO_PARENT = 3,         /* the code is that of no value, or the parent does not give this value */
     DIFFUSE_OTHER_HOPS = 4,        /* the hops are not one more than the parent's, or a vertex gives the value with fewer */
@@ -88,7 +88,7 @@ enum diffuse_reason {
     DIFFUSE_HAS_WALK = 6           /* the vertex is reported unreached, and an arc gives it a value */
 };
 
-/* The code of a vertex to which no walk that has a value leads; its hops and its parent are 0. */
+/* The code of a vertex to which no walk has a value; its hops and its parent are 0. */
 #define DIFFUSE_UNREACHED UINT64_MAX
 
 #ifdef __cplusplus
@@ -113,9 +113,9 @@ void diffuse_graph_close(struct diffuse_graph *graph);
 uint32_t diffuse_graph_vertices(struct diffuse_graph *graph);
 size_t diffuse_graph_arcs(struct diffuse_graph *graph);
 
-/* The best value from a source to a target, as a code, the least hops of a walk that has it, and the route along least
-   parents: hops + 1 vertices, from the source on. If the room is shorter, the answer is DIFFUSE_NO_ROOM, and code and hops
-   are written all the same. 0, 1, 2, 3, 4, 17 or 43. */
+/* The best value from a source to a target, as a code, the least hops of a walk of tight arcs (each gives its head's best
+   value from its tail's), and the route along least parents: hops + 1 vertices, from the source on. If the room is
+   shorter, the status is DIFFUSE_NO_ROOM, and code and hops are still written. 0, 1, 2, 3, 4, 17 or 43. */
 int32_t diffuse_graph_route(struct diffuse_graph *graph, uint32_t algebra, uint64_t limit, uint32_t source, uint32_t target,
                             uint64_t *code, uint32_t *hops, uint32_t *room, size_t n_room);
 
@@ -126,8 +126,8 @@ int32_t diffuse_graph_tree(struct diffuse_graph *graph, uint32_t algebra, uint64
                            uint32_t *hops, size_t n_hops, uint32_t *parents, size_t n_parents);
 
 /* Whether these lists are what diffuse_graph_tree writes, by the same algebra, limit and sources. Nothing is solved: each line
-   is judged by those of the vertices that an arc leads from. If the lists are not the tree, the answer is DIFFUSE_WRONG; then
-   *vertex is the first vertex whose line the others refute, and *reason the first reason. 0, 2, 3, 4, 6, 17 or 43. */
+   is judged by itself and those of the vertices with an arc to it. If the lists are not the tree, the status is DIFFUSE_WRONG;
+   then *vertex is the first vertex whose line the others refute, and *reason the first reason. 0, 2, 3, 4, 6, 17 or 43. */
 int32_t diffuse_graph_check(struct diffuse_graph *graph, uint32_t algebra, uint64_t limit,
                             const uint32_t *sources, size_t n_sources, const uint64_t *codes, size_t n_codes,
                             const uint32_t *hops, size_t n_hops, const uint32_t *parents, size_t n_parents,

@@ -1,8 +1,8 @@
-pub mod Entering
-pub mod FaultNumbers
-pub mod Filling
-pub mod Judged
-pub mod Showing
-pub mod Spelled
-pub mod Telling
-pub mod Values
+mod Entering
+mod FaultNumbers
+mod Filling
+mod Judged
+mod Showing
+mod Spelled
+mod Telling
+mod Values

@@ -25,7 +25,7 @@ use Rattle.std.specs.Box.Ownership.{box_owns}
 use Rattle.std.proofs.ResultValues.{and_tt}
 use Rattle.libdiffuse.specs.contracts.loose.Loose as loose
 use Rattle.libdiffuse.specs.contracts.held.Held as held
-use Rattle.road_graph.specs.Roads.{Roads}
+use Rattle.road_graph.specs.GraphData.{GraphData}
 use Rattle.libdiffuse.specs.Holding.{held_at, has_graph}
 use Rattle.std.specs.Prelude.{Option, Some, None}
 use prog.Model.{Model}
@@ -78,7 +78,7 @@ good_pointer (block_ptr b o) = (tt, tt)
 good_pointer null_ptr = (tt, record { fits = lit< tt })
 
 -- a graph that is there
-pub the_graph : (o : Option Roads) → has_graph o ≡ true → (g : Roads) × (o ≡ Some g)
+pub the_graph : (o : Option GraphData) → has_graph o ≡ true → (g : GraphData) × (o ≡ Some g)
 the_graph None e = cc
 the_graph (Some g) e = (g, refl)
 
@@ -95,6 +95,6 @@ module _ {M : Type 1} {𝓤 : Ura M} {𝓛 : Logic 𝓤} {K : Type 0} {Γ : List
   held_out t d vs k = fsplit t $ fpick t (λ vss. fsplit t $ feq_l t (λ ev. fsplit t $ feq_l t (λ ep. drop t $
       k (subst (λ (ps : List Val). vs ≡ vstruct (of_list (ps ++ [])) ∷ []) ep ev))))
 
-  pub held_in : K → (p : Ptr) (x : Option (Roads)) → Step K 𝓛 (‵ ((held.the_row).own_val (record { at = p; roads = x }) (alone p ∷ [])) ∷ Γ) G (‵ (held_at p x) ∷ Γ) G
+  pub held_in : K → (p : Ptr) (x : Option (GraphData)) → Step K 𝓛 (‵ ((held.the_row).own_val (record { at = p; roads = x }) (alone p ∷ [])) ∷ Γ) G (‵ (held_at p x) ∷ Γ) G
   held_in t p x = step (λ s. nothing t $ feq_i t (List Val) (ptr_val p ∷ []) (ptr_val p ∷ []) refl $ fjoin t $ feq_i t (List Val) (alone p ∷ []) (alone p ∷ []) refl $ fjoin t $
       fpack t (Valss (RawPtr ∷ [])) (within (shape held.the_type) (p, tt) (alone p ∷ [])) (ptr_val p ∷ [], tt) $ fjoin t $ s)

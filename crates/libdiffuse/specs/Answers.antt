@@ -1,6 +1,6 @@
 -- What a status means, and what is written with it.
 use Rattle.std.specs.Prelude.{◌≡◌, ℕ, ◌+◌, ◌<◌, ◌⊎◌, ◌↔◌, [], ◌∷◌, List, ℤ, pos, length, take, Option, Some, None}
-use Rattle.road_graph.specs.Roads.{Roads, IsRoads, HasVertex}
+use Rattle.road_graph.specs.GraphData.{GraphData, IsGraph, HasVertex}
 use Rattle.path_algebra.specs.Algebra.{Algebra}
 use Rattle.path_algebra.specs.Walks.{IsBestCode, AreHops, IsUnreached}
 use Rattle.libdiffuse.specs.Lent.{lent}
@@ -16,19 +16,19 @@ IsOneOf (n ∷ ns) status = (status ≡ pos n) ⊎ IsOneOf ns status
 abbrev pub IsTooLarge : ℕ → List DiffuseArc → Type 0
 IsTooLarge vertices arcs = (33554432 < vertices) ⊎ (134217728 < length arcs)
 
--- a graph can be made: there are not too many of them, and each end of an arc is a vertex
+-- a graph can be built: there are not too many vertices or arcs, and each end of an arc is a vertex
 pub record Fits (vertices : ℕ) (arcs : List DiffuseArc) : Type 0 where
   pub small : IsTooLarge vertices arcs → ⊥
-  pub roads : IsRoads (lent vertices arcs)
+  pub roads : IsGraph (lent vertices arcs)
 
--- why no graph was made: there was no memory, too much was lent, or an arc has an end that is no vertex
+-- why no graph was built: out of memory, too many vertices or arcs, or an arc with an end that is no vertex
 pub record IsFault (vertices : ℕ) (arcs : List DiffuseArc) (status : ℤ) : Type 0 where
   pub one_of : IsOneOf (3 ∷ 16 ∷ 17 ∷ []) status
   pub limit : (status ≡ pos 16) ↔ IsTooLarge vertices arcs
-  pub bad : status ≡ pos 17 → IsRoads (lent vertices arcs) → ⊥
+  pub bad : status ≡ pos 17 → IsGraph (lent vertices arcs) → ⊥
 
 -- what holds of the graph that a handle has, if it has one
-abbrev pub OfGraph : Option Roads → (Roads → Type 0) → Type 0
+abbrev pub OfGraph : Option GraphData → (GraphData → Type 0) → Type 0
 OfGraph None P = Unit {0}
 OfGraph (Some g) P = P g
 
@@ -37,7 +37,7 @@ abbrev pub HavePlaces : ℕ → List ℕ → List ℕ → List ℕ → Type 0
 HavePlaces n codes hops parents = (length codes ≡ n) × (length hops ≡ n) × (length parents ≡ n)
 
 -- both are vertices
-abbrev pub HasBoth : Roads → ℕ → ℕ → Type 0
+abbrev pub HasBoth : GraphData → ℕ → ℕ → Type 0
 HasBoth g source target = HasVertex g source × HasVertex g target
 
 -- there is a walk: the route is written, or is longer than the room for it
@@ -45,18 +45,18 @@ abbrev pub IsFound : ℤ → Type 0
 IsFound status = (status ≡ pos 0) ⊎ (status ≡ pos 2)
 
 -- no walk from the source to the target has a value
-pub record IsNoRoute {V : Type 0} (A : Algebra V) (g : Roads) (source target : ℕ) : Type 0 where
+pub record IsNoRoute {V : Type 0} (A : Algebra V) (g : GraphData) (source target : ℕ) : Type 0 where
   pub unreached : IsUnreached A g (source ∷ []) target
 
 -- the code of the best value from a source to a target, the least hops, and the route by least parents, of that length
-pub record IsRouteFound {V : Type 0} (A : Algebra V) (g : Roads) (source target code hops : ℕ) (route : List ℕ) : Type 0 where
+pub record IsRouteFound {V : Type 0} (A : Algebra V) (g : GraphData) (source target code hops : ℕ) (route : List ℕ) : Type 0 where
   pub best : IsBestCode A g (source ∷ []) target code
   pub near : AreHops A g (source ∷ []) target hops
   pub parents : IsParentRoute A g (source ∷ []) target route
   pub count : length route ≡ hops + 1
 
--- what the status of a route means, and what is in the caller's places then
-pub record TellsRoute {V : Type 0} (A : Algebra V) (g : Roads) (source target : ℕ) (status : ℤ) (code hops : ℕ) (room : List ℕ) : Type 0 where
+-- what the status of a route means, and what the places of the caller contain
+pub record ReportsRoute {V : Type 0} (A : Algebra V) (g : GraphData) (source target : ℕ) (status : ℤ) (code hops : ℕ) (room : List ℕ) : Type 0 where
   pub best : IsFound status → IsBestCode A g (source ∷ []) target code
   pub near : IsFound status → AreHops A g (source ∷ []) target hops
   pub route : status ≡ pos 0 → IsParentRoute A g (source ∷ []) target (take (hops + 1) room)

@@ -7,7 +7,7 @@ use Rattle.path_algebra.specs.Given.{shortest, widest, reach, hops, reliable, wi
 abbrev pub IsAlgebra : ℕ → ℕ → Type 0
 IsAlgebra number limit = (number ≤ 4) ⊎ ((number ≡ 5) × (limit ≤ 2 ^ 63))
 
--- this is so of the algebra that the number names
+-- P holds of the algebra that the number names
 pub record OfAlgebra (number limit : ℕ) (P : (V : Type 0) → Algebra V → Type 0) : Type 0 where
   pub shortest : number ≡ 0 → P _ shortest
   pub widest : number ≡ 1 → P _ widest

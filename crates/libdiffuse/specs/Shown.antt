@@ -1,4 +1,4 @@
--- What arcs show of the line of the vertex that they enter, each told by its road turned round, as the rules of the checker count it.
+-- What arcs, each given reversed, show of the line of the vertex that they enter, by the rules of the checker.
 use Rattle.std.specs.Prelude.{List, Bool, Option}
 use Rattle.std.specs.List.{list_any}
 use Rattle.road_graph.specs.declared.OutRoad.{OutRoad}
@@ -12,7 +12,7 @@ use Rattle.answer_check.specs.Evidence.{candidate_from, evidence_by}
 abbrev pub offered_by : {V : Type 0} → Algebra V → List (Option Reached) → OutRoad → Option (Reached × V)
 offered_by A lines r = candidate_from A (label_of lines r.head) r.weight
 
--- what one arc shows of a line that tells the value y
+-- what one arc shows of a line with the value y
 abbrev pub shown_by : {V : Type 0} → Algebra V → (V → V → Bool) → List (Option Reached) → Reached → V → OutRoad → Evidence
 shown_by A no_worse lines line y r = evidence_by no_worse r.head line y (offered_by A lines r)
 

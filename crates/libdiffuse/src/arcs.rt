@@ -1,7 +1,7 @@
 //! Arcs as a caller in C lends them.
 
 ghost use Rattle.std.specs.Prelude.{◌≡◌, map, IfOk};
-ghost use Rattle.libdiffuse.specs.Lent.{road_of};
+ghost use Rattle.libdiffuse.specs.Lent.{arc_from};
 
 use road_graph::{Memory, RoadArc, Vertex};
 use std::alloc::Global;
@@ -16,7 +16,7 @@ pub struct DiffuseArc {
 }
 
 fn road(arc: &DiffuseArc) -> RoadArc
-    ensures { result ≡ road_of arc.now }
+    ensures { result ≡ arc_from arc.now }
 {
     RoadArc {
         tail: Vertex(arc.tail),
@@ -25,9 +25,9 @@ fn road(arc: &DiffuseArc) -> RoadArc
     }
 }
 
-/// The arcs of a graph that lent arcs stand for.
+/// The arcs of the graph, from lent arcs.
 pub(crate) fn roads_of(alloc: Global, arcs: &[DiffuseArc]) -> Result<Vec<RoadArc>, Memory>
-    ensures { IfOk result (λ list. list.items ≡ map road_of arcs.now) }
+    ensures { IfOk result (λ list. list.items ≡ map arc_from arcs.now) }
 {
     Ok(arcs.iter().map(road).collect(alloc)?)
 }

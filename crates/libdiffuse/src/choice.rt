@@ -1,6 +1,7 @@
 //! The algebra that a caller names by its number.
 
-/// What an expression gives with the algebra of a number, and `$none` if the number names none. A number becomes a type here alone.
+/// The value of an expression with the algebra of this number, or `$none` if the number names none. Only here does a
+/// number become a type.
 macro_rules! with_algebra {
     ($number:expr, $limit:expr, $none:expr, |$algebra:ident| $value:expr) => {
         match $number {

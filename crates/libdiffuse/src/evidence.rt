@@ -1,4 +1,4 @@
-//! What the arcs into a vertex show of its line, by the lines that three lists spell.
+//! What the arcs into a vertex show of its line, with lines in three lists.
 
 ghost use Rattle.std.specs.Prelude.{◌≡◌, ◌≤◌, All};
 ghost use Rattle.std.specs.List.{list_any};
@@ -13,7 +13,7 @@ use answer_text::Reached;
 use path_algebra::PathAlgebra;
 use road_graph::OutRoad;
 
-/// What arcs, each turned round, show of the line of the vertex that they enter, which tells a value.
+/// What arcs, each given reversed, show of the line of the vertex that they enter, which has this value.
 pub(crate) fn evidence_of<A: PathAlgebra>(
     algebra: A,
     n: usize,
@@ -26,7 +26,8 @@ pub(crate) fn evidence_of<A: PathAlgebra>(
 ) -> Evidence
     requires places { HavePlaces n codes.now hops.now parents.now }
     requires ends { All (λ r. (1 ≤ r.head) × (r.head ≤ n)) roads.now }
-    ensures { result ≡ all_shown (A.meaning algebra) A.order (lines_of codes.now hops.now parents.now) line value roads.now }
+    ensures { result ≡ all_shown (A.meaning algebra) A.order (lines_of codes.now hops.now
+        parents.now) line value roads.now }
 {
     let mut evidence = Evidence::none();
     for road in roads {
@@ -37,7 +38,7 @@ pub(crate) fn evidence_of<A: PathAlgebra>(
     evidence
 }
 
-/// Whether some of these arcs offers a value to the vertex that they enter.
+/// Whether some arc, given reversed, offers a value to the vertex that it enters.
 pub(crate) fn offers_some<A: PathAlgebra>(
     algebra: A,
     n: usize,
@@ -48,7 +49,9 @@ pub(crate) fn offers_some<A: PathAlgebra>(
 ) -> bool
     requires places { HavePlaces n codes.now hops.now parents.now }
     requires ends { All (λ r. (1 ≤ r.head) × (r.head ≤ n)) roads.now }
-    ensures { result ≡ list_any (λ r. is_there (offered_by (A.meaning algebra) (lines_of codes.now hops.now parents.now) r)) roads.now }
+    ensures { result ≡ list_any
+        (λ r. is_there (offered_by (A.meaning algebra) (lines_of codes.now hops.now parents.now) r))
+        roads.now }
 {
     for road in roads {
         let near = line_at(n, codes, hops, parents, road.head);

@@ -1,7 +1,7 @@
-//! The calls that open and close handles, and tell how large a graph is.
+//! The calls that open and close handles, and report the size of a graph.
 
 ghost use Rattle.std.specs.Prelude.{◌≡◌, ◌≢◌, ◌↔◌, ◌∷◌, [], length, pos, MatchOption, Some, None, true};
-ghost use Rattle.road_graph.specs.Roads.{IsRoads};
+ghost use Rattle.road_graph.specs.GraphData.{IsGraph};
 ghost use Rattle.libdiffuse.specs.Answers.{IsOneOf, IsTooLarge};
 ghost use Rattle.libdiffuse.specs.Holding.{has_graph};
 ghost use Rattle.libdiffuse.specs.Lent.{lent};
@@ -25,9 +25,10 @@ pub extern "C" fn diffuse_graph_open(
     ensures kept { result ≢ pos 0 → handle.new.held.roads ≡ handle.old.held.roads }
     ensures status { IsOneOf (0 ∷ 3 ∷ 5 ∷ 16 ∷ 17 ∷ []) result }
     ensures open { (result ≡ pos 5) ↔ (has_graph handle.old.held.roads ≡ true) }
-    ensures limit { (result ≡ pos 16) ↔ ((handle.old.held.roads ≡ None) × IsTooLarge vertices arcs.now) }
-    ensures roads { result ≡ pos 0 → IsRoads (lent vertices arcs.now) }
-    ensures bad { result ≡ pos 17 → IsRoads (lent vertices arcs.now) → ⊥ }
+    ensures limit { (result ≡ pos 16) ↔ ((handle.old.held.roads ≡ None) × IsTooLarge vertices
+        arcs.now) }
+    ensures roads { result ≡ pos 0 → IsGraph (lent vertices arcs.now) }
+    ensures bad { result ≡ pos 17 → IsGraph (lent vertices arcs.now) → ⊥ }
 {
     if handle.is_open {
         return OPEN;
@@ -53,7 +54,8 @@ pub extern "C" fn diffuse_graph_share(
     ensures unchanged { result ≢ pos 0 → second.new.held.roads ≡ second.old.held.roads }
     ensures status { IsOneOf (0 ∷ 3 ∷ 4 ∷ 5 ∷ []) result }
     ensures open { (result ≡ pos 5) ↔ (has_graph second.old.held.roads ≡ true) }
-    ensures closed { (result ≡ pos 4) ↔ ((second.old.held.roads ≡ None) × (handle.old.held.roads ≡ None)) }
+    ensures closed { (result ≡ pos 4) ↔ ((second.old.held.roads ≡ None) ×
+        (handle.old.held.roads ≡ None)) }
 {
     if second.is_open {
         return OPEN;

@@ -29,7 +29,7 @@ pub(crate) fn closed() -> DiffuseGraph
     }
 }
 
-/// An open one, with this owner.
+/// An open handle with this owner.
 fn opened(owner: Box<Arc<OutGraph>>) -> DiffuseGraph
     ensures { result.held.roads ≡ Some (arc_value owner.value) }
 {
@@ -39,9 +39,10 @@ fn opened(owner: Box<Arc<OutGraph>>) -> DiffuseGraph
     }
 }
 
-/// Takes the owner out, if there is one. The handle is closed then.
+/// Takes the owner out, if there is one. The handle is closed afterwards.
 pub(crate) fn take(alloc: Global, handle: &mut DiffuseGraph) -> Option<Box<Arc<OutGraph>>>
-    ensures graph { MatchOption result (handle.old.held.roads ≡ None) (λ b. handle.old.held.roads ≡ Some (arc_value b.value)) }
+    ensures graph { MatchOption result (handle.old.held.roads ≡ None) (λ b. handle.old.held.roads ≡
+        Some (arc_value b.value)) }
     ensures closed { handle.new.held.roads ≡ None }
 {
     let DiffuseGraph { held, is_open } = mem::replace(handle, closed());

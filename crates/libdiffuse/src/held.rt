@@ -1,8 +1,8 @@
-//! A graph behind a pointer that C keeps.
+//! A graph that C keeps as a pointer.
 
 ghost use Rattle.std.specs.Prelude.{◌≡◌, Option, Some, None, true};
 ghost use Rattle.std.specs.Arc.{arc_value};
-ghost use Rattle.road_graph.specs.Roads.{Roads};
+ghost use Rattle.road_graph.specs.GraphData.{GraphData};
 ghost use Rattle.libdiffuse.specs.Holding.{has_graph};
 
 use crate::loose::Loose;
@@ -16,7 +16,7 @@ use std::sync::Arc;
 #[repr(C)]
 pub struct Held {
     at: *mut u8,
-    pub ghost roads: { Option Roads },
+    pub ghost roads: { Option GraphData },
 }
 
 impl Model for Held {
@@ -25,7 +25,7 @@ impl Model for Held {
     ghost also_owns = { λ h. held_at h.at h.roads };
 }
 
-// What it owns may go to another thread, and so may a handle of it.
+// What it owns may move to another thread, so it may too.
 unsafe impl Send for Held {}
 
 /// Holds nothing.
@@ -43,7 +43,7 @@ pub(crate) fn hold(owner: Loose<Arc<OutGraph>, Global>) -> Held
     Held { at: at as *mut u8 }
 }
 
-/// Hands the owner back.
+/// Gives the owner back.
 pub(crate) fn release(alloc: Global, held: Held) -> Loose<Arc<OutGraph>, Global>
     requires { has_graph held.roads ≡ true }
     ensures { held.roads ≡ Some (arc_value result.value) }
@@ -55,7 +55,7 @@ pub(crate) fn release(alloc: Global, held: Held) -> Loose<Arc<OutGraph>, Global>
     }
 }
 
-/// Lets go of what holds nothing.
+/// Drops a `Held` that holds nothing.
 pub(crate) fn discard(held: Held)
     requires { held.roads ≡ None }
 {

@@ -1,11 +1,11 @@
 //! The check of a tree in three lists.
 
 ghost use Rattle.std.specs.Prelude.{◌≡◌, ◌∷◌, [], length, pos, All, IfOk, MatchOption};
-ghost use Rattle.road_graph.specs.Roads.{HasVertex};
+ghost use Rattle.road_graph.specs.GraphData.{HasVertex};
 ghost use Rattle.answer_check.specs.Reasons.{reason_number};
 ghost use Rattle.libdiffuse.specs.Answers.{HavePlaces, IsOneOf};
 ghost use Rattle.libdiffuse.specs.Choice.{OfAlgebra};
-ghost use Rattle.libdiffuse.specs.Tree.{lines_of, IsToldTree, IsFirstWrong, IsFirstPlace, TellsRefusals};
+ghost use Rattle.libdiffuse.specs.Tree.{lines_of, AreTreeLists, IsFirstRefuted, IsFirstPlace, ReportsRefusals};
 
 use crate::choice::with_algebra;
 use crate::sources::{are_vertices, vertices_of};
@@ -16,7 +16,7 @@ use path_algebra::{PathAlgebra, laws_hold};
 use road_graph::{InGraph, Memory, OutGraph, Vertex};
 use std::alloc::Global;
 
-/// The first vertex whose line something speaks against, with the first reason, if marks tell the sources.
+/// The first vertex with a reason against its line, and the first such reason. `marks` says which vertices are sources.
 fn first_place<A: PathAlgebra>(
     algebra: A,
     graph: &InGraph,
@@ -27,7 +27,8 @@ fn first_place<A: PathAlgebra>(
 ) -> Option<(Vertex, Reason)>
     requires places { HavePlaces graph.now.vertices codes.now hops.now parents.now }
     requires marks { length marks.now ≡ graph.now.vertices }
-    ensures { IsFirstPlace (A.meaning algebra) graph.now (lines_of codes.now hops.now parents.now) marks.now result }
+    ensures { IsFirstPlace (A.meaning algebra) graph.now (lines_of codes.now hops.now parents.now)
+        marks.now result }
 {
     laws_hold(algebra);
     let _n = graph.vertices();
@@ -52,8 +53,8 @@ fn judge<A: PathAlgebra>(
 ) -> Result<Option<(Vertex, Reason)>, Memory>
     requires sources { All (HasVertex graph.now) sources.now }
     requires places { HavePlaces graph.now.vertices codes.now hops.now parents.now }
-    ensures { IfOk result (λ o. MatchOption o (IsToldTree (A.meaning algebra) graph.now sources.now codes.now hops.now parents.now)
-        (λ p. IsFirstWrong (A.meaning algebra) graph.now sources.now codes.now hops.now parents.now p.0 (reason_number p.1))) }
+    ensures { IfOk result (λ o. MatchOption o (AreTreeLists (A.meaning algebra) graph.now sources.now codes.now hops.now parents.now)
+        (λ p. IsFirstRefuted (A.meaning algebra) graph.now sources.now codes.now hops.now parents.now p.0 (reason_number p.1))) }
 {
     laws_hold(algebra);
     let list = vertices_of(alloc, sources)?;
@@ -76,8 +77,10 @@ fn answer<A: PathAlgebra>(
 ) -> i32
     requires sources { All (HasVertex graph.now) sources.now }
     requires places { HavePlaces graph.now.vertices codes.now hops.now parents.now }
-    ensures right { result ≡ pos 0 → IsToldTree (A.meaning algebra) graph.now sources.now codes.now hops.now parents.now }
-    ensures wrong { result ≡ pos 6 → IsFirstWrong (A.meaning algebra) graph.now sources.now codes.now hops.now parents.now vertex.new reason.new }
+    ensures right { result ≡ pos 0 → AreTreeLists (A.meaning algebra) graph.now sources.now codes.now
+        hops.now parents.now }
+    ensures wrong { result ≡ pos 6 → IsFirstRefuted (A.meaning algebra) graph.now sources.now
+        codes.now hops.now parents.now vertex.new reason.new }
     ensures kept { (result ≡ pos 6 → ⊥) → (vertex.new ≡ vertex.old) × (reason.new ≡ reason.old) }
     ensures status { IsOneOf (0 ∷ 3 ∷ 6 ∷ []) result }
 {
@@ -92,7 +95,8 @@ fn answer<A: PathAlgebra>(
     }
 }
 
-/// As `answer`, by the algebra of a number, if each source is a vertex, each list has a place for each vertex and there is such an algebra.
+/// As `answer`, by the algebra of a number, if each source is a vertex, each list has a place for each vertex and there
+/// is such an algebra.
 pub(crate) fn check_tree(
     alloc: Global,
     number: u32,
@@ -105,10 +109,13 @@ pub(crate) fn check_tree(
     vertex: &mut u32,
     reason: &mut u32,
 ) -> i32
-    ensures right { OfAlgebra number limit (λ V A. result ≡ pos 0 → IsToldTree A graph.now sources.now codes.now hops.now parents.now) }
-    ensures wrong { OfAlgebra number limit (λ V A. result ≡ pos 6 → IsFirstWrong A graph.now sources.now codes.now hops.now parents.now vertex.new reason.new) }
+    ensures right { OfAlgebra number limit (λ V A. result ≡ pos 0 → AreTreeLists A graph.now
+        sources.now codes.now hops.now parents.now) }
+    ensures wrong { OfAlgebra number limit (λ V A. result ≡ pos 6 → IsFirstRefuted A graph.now
+        sources.now codes.now hops.now parents.now vertex.new reason.new) }
     ensures kept { (result ≡ pos 6 → ⊥) → (vertex.new ≡ vertex.old) × (reason.new ≡ reason.old) }
-    ensures refusals { TellsRefusals graph.now number limit sources.now codes.now hops.now parents.now result }
+    ensures refusals { ReportsRefusals graph.now number limit sources.now codes.now hops.now
+        parents.now result }
     ensures status { IsOneOf (0 ∷ 2 ∷ 3 ∷ 6 ∷ 17 ∷ 43 ∷ []) result }
 {
     if !are_vertices(graph, sources) {

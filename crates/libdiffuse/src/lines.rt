@@ -1,4 +1,4 @@
-//! The lines that three lists spell, with a number each for a vertex.
+//! The lines of vertices in three lists, each with a number for each vertex.
 
 ghost use Rattle.std.specs.Prelude.{◌≡◌, ◌≤◌};
 ghost use Rattle.path_algebra.specs.Walks.{label_of};
@@ -8,10 +8,10 @@ ghost use Rattle.libdiffuse.specs.Tree.{line_of, lines_of};
 use answer_text::Reached;
 use road_graph::Vertex;
 
-/// What stands for a vertex without a value.
+/// The code of a vertex without a value.
 pub(crate) const NO_CODE: u64 = u64::MAX;
 
-/// The line of three numbers; those of an unreached vertex stand for none.
+/// The line of three numbers: none if they are those of an unreached vertex.
 fn line_of(code: u64, hops: u32, parent: u32) -> Option<Reached>
     ensures { result ≡ line_of code hops parent }
 {

@@ -1,8 +1,8 @@
-//! A graph that is made of lent arcs.
+//! A graph that is built from lent arcs.
 
 ghost use Rattle.std.specs.Prelude.{◌≡◌, ◌≤◌, ◌∷◌, [], length, pos, IfOk, IfErr};
 ghost use Rattle.std.specs.Arc.{arc_value};
-ghost use Rattle.road_graph.specs.Roads.{IsRoads};
+ghost use Rattle.road_graph.specs.GraphData.{IsGraph};
 ghost use Rattle.libdiffuse.specs.Answers.{Fits, IsFault, IsOneOf};
 ghost use Rattle.libdiffuse.specs.Lent.{lent};
 
@@ -17,13 +17,14 @@ fn new_graph(alloc: Global, vertices: u32, list: Vec<RoadArc>) -> Result<OutGrap
     requires few_vertices { vertices ≤ 33554432 }
     requires few_arcs { length list.items ≤ 134217728 }
     ensures graph { IfOk result (λ g. g ≡ record { vertices = vertices; arcs = list.items }) }
-    ensures roads { IfOk result (λ g. IsRoads (record { vertices = vertices; arcs = list.items })) }
+    ensures roads { IfOk result (λ g. IsGraph (record { vertices = vertices; arcs = list.items })) }
     ensures status { IfErr result (λ n. IsOneOf (3 ∷ 17 ∷ []) n) }
-    ensures bad { IfErr result (λ n. n ≡ pos 17 → IsRoads (record { vertices = vertices; arcs = list.items }) → ⊥) }
+    ensures bad { IfErr result (λ n. n ≡ pos 17 →
+        IsGraph (record { vertices = vertices; arcs = list.items }) → ⊥) }
 {
     match OutGraph::new(alloc, vertices, list) {
         Ok(graph) => {
-            let _n = graph.vertices();
+            graph.holds();
             Ok(graph)
         }
         Err((GraphFault::BadEnd(_), _)) => Err(NO_VERTEX),

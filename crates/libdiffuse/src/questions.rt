@@ -1,9 +1,9 @@
-//! The calls that ask: a route, a tree, and whether a tree is right.
+//! The calls that answer questions: a route, a tree, and whether a tree is right.
 
 ghost use Rattle.std.specs.Prelude.{◌≡◌, ◌↔◌, ◌<◌, ◌≤◌, ◌+◌, ◌∷◌, [], length, pos, None};
-ghost use Rattle.libdiffuse.specs.Answers.{IsFound, TellsRoute, IsOneOf, OfGraph, HasBoth};
+ghost use Rattle.libdiffuse.specs.Answers.{IsFound, ReportsRoute, IsOneOf, OfGraph, HasBoth};
 ghost use Rattle.libdiffuse.specs.Choice.{IsAlgebra, OfAlgebra};
-ghost use Rattle.libdiffuse.specs.Tree.{IsToldTree, IsFirstWrong, TellsRefusals};
+ghost use Rattle.libdiffuse.specs.Tree.{AreTreeLists, IsFirstRefuted, ReportsRefusals};
 
 use crate::handle::{DiffuseGraph, put, take};
 use crate::judging::check_tree;
@@ -13,9 +13,10 @@ use crate::tree::answer_tree;
 use road_graph::Vertex;
 use std::alloc::Global;
 
-/// The best value from a source to a target, as a code, the least hops, and the route by least parents, by the algebra of a number.
+/// The best value from a source to a target, as a code, the least hops, and the route by least parents, by the algebra
+/// of a number.
 ///
-/// If the room is too short, code and hops are written all the same, and hops + 1 places are wanted.
+/// If the room is too short, code and hops are still written: hops + 1 places are needed.
 #[unsafe(no_mangle)]
 pub extern "C" fn diffuse_graph_route(
     alloc: Global,
@@ -29,13 +30,16 @@ pub extern "C" fn diffuse_graph_route(
     room: &mut [u32],
 ) -> i32
     ensures kept { handle.new.held.roads ≡ handle.old.held.roads }
-    ensures tells { OfGraph handle.old.held.roads (λ g. OfAlgebra algebra limit (λ V A. TellsRoute A g source target result code.new hops.new room.new)) }
+    ensures tells { OfGraph handle.old.held.roads (λ g. OfAlgebra algebra limit
+        (λ V A. ReportsRoute A g source target result code.new hops.new room.new)) }
     ensures short { result ≡ pos 2 → length room.old < hops.new + 1 }
     ensures long { result ≡ pos 0 → hops.new + 1 ≤ length room.old }
     ensures room { (result ≡ pos 0 → ⊥) → room.new ≡ room.old }
     ensures places { (IsFound result → ⊥) → (code.new ≡ code.old) × (hops.new ≡ hops.old) }
-    ensures vertex { OfGraph handle.old.held.roads (λ g. (result ≡ pos 17) ↔ (HasBoth g source target → ⊥)) }
-    ensures algebra { OfGraph handle.old.held.roads (λ g. (result ≡ pos 43) ↔ (HasBoth g source target × (IsAlgebra algebra limit → ⊥))) }
+    ensures vertex { OfGraph handle.old.held.roads
+        (λ g. (result ≡ pos 17) ↔ (HasBoth g source target → ⊥)) }
+    ensures algebra { OfGraph handle.old.held.roads
+        (λ g. (result ≡ pos 43) ↔ (HasBoth g source target × (IsAlgebra algebra limit → ⊥))) }
     ensures closed { (result ≡ pos 4) ↔ (handle.old.held.roads ≡ None) }
     ensures status { IsOneOf (0 ∷ 1 ∷ 2 ∷ 3 ∷ 4 ∷ 17 ∷ 43 ∷ []) result }
 {
@@ -48,7 +52,8 @@ pub extern "C" fn diffuse_graph_route(
     status
 }
 
-/// For each vertex the best value from the nearest of some sources, as a code, its least hops and its least parent, by the algebra of a number.
+/// For each vertex the best value from the nearest of some sources, as a code, its least hops and its least parent, by
+/// the algebra of a number.
 ///
 /// A vertex that no walk with a value leads to has the code 2^64 - 1; it and each source have parent 0.
 #[unsafe(no_mangle)]
@@ -63,9 +68,12 @@ pub extern "C" fn diffuse_graph_tree(
     parents: &mut [u32],
 ) -> i32
     ensures kept { handle.new.held.roads ≡ handle.old.held.roads }
-    ensures tree { OfGraph handle.old.held.roads (λ g. OfAlgebra algebra limit (λ V A. result ≡ pos 0 → IsToldTree A g sources.now codes.new hops.new parents.new)) }
-    ensures lists { (result ≡ pos 0 → ⊥) → (codes.new ≡ codes.old) × (hops.new ≡ hops.old) × (parents.new ≡ parents.old) }
-    ensures refusals { OfGraph handle.old.held.roads (λ g. TellsRefusals g algebra limit sources.now codes.old hops.old parents.old result) }
+    ensures tree { OfGraph handle.old.held.roads (λ g. OfAlgebra algebra limit
+        (λ V A. result ≡ pos 0 → AreTreeLists A g sources.now codes.new hops.new parents.new)) }
+    ensures lists { (result ≡ pos 0 → ⊥) → (codes.new ≡ codes.old) × (hops.new ≡ hops.old) ×
+        (parents.new ≡ parents.old) }
+    ensures refusals { OfGraph handle.old.held.roads (λ g. ReportsRefusals g algebra limit sources.now
+        codes.old hops.old parents.old result) }
     ensures closed { (result ≡ pos 4) ↔ (handle.old.held.roads ≡ None) }
     ensures status { IsOneOf (0 ∷ 2 ∷ 3 ∷ 4 ∷ 17 ∷ 43 ∷ []) result }
 {
@@ -94,10 +102,14 @@ pub extern "C" fn diffuse_graph_check(
     reason: &mut u32,
 ) -> i32
     ensures kept { handle.new.held.roads ≡ handle.old.held.roads }
-    ensures right { OfGraph handle.old.held.roads (λ g. OfAlgebra algebra limit (λ V A. result ≡ pos 0 → IsToldTree A g sources.now codes.now hops.now parents.now)) }
-    ensures wrong { OfGraph handle.old.held.roads (λ g. OfAlgebra algebra limit (λ V A. result ≡ pos 6 → IsFirstWrong A g sources.now codes.now hops.now parents.now vertex.new reason.new)) }
+    ensures right { OfGraph handle.old.held.roads (λ g. OfAlgebra algebra limit
+        (λ V A. result ≡ pos 0 → AreTreeLists A g sources.now codes.now hops.now parents.now)) }
+    ensures wrong { OfGraph handle.old.held.roads (λ g. OfAlgebra algebra limit
+        (λ V A. result ≡ pos 6 → IsFirstRefuted A g sources.now codes.now hops.now parents.now
+        vertex.new reason.new)) }
     ensures place { (result ≡ pos 6 → ⊥) → (vertex.new ≡ vertex.old) × (reason.new ≡ reason.old) }
-    ensures refusals { OfGraph handle.old.held.roads (λ g. TellsRefusals g algebra limit sources.now codes.now hops.now parents.now result) }
+    ensures refusals { OfGraph handle.old.held.roads (λ g. ReportsRefusals g algebra limit sources.now
+        codes.now hops.now parents.now result) }
     ensures closed { (result ≡ pos 4) ↔ (handle.old.held.roads ≡ None) }
     ensures status { IsOneOf (0 ∷ 2 ∷ 3 ∷ 4 ∷ 6 ∷ 17 ∷ 43 ∷ []) result }
 {

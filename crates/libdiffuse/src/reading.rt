@@ -6,7 +6,7 @@ ghost use Rattle.road_text.specs.Rules.{text_read};
 ghost use Rattle.road_files.specs.GraphFiles.{gr_rules};
 ghost use Rattle.libdiffuse.specs.Answers.{IsOneOf};
 ghost use Rattle.libdiffuse.specs.Holding.{has_graph};
-ghost use Rattle.libdiffuse.specs.Texts.{IsGraphOf, IsFaultOf, IsFaultTold};
+ghost use Rattle.libdiffuse.specs.Texts.{IsGraphOf, IsReadFaultOf, IsFaultReported};
 
 use crate::handle::{DiffuseGraph, put};
 use crate::owners::owned;
@@ -38,8 +38,8 @@ impl RoadRead for InMemory<'_> {
         if buf.len() < taken {
             taken = buf.len();
         }
-        let (front, rest) = self.rest.split_at(taken);
-        buf[..taken].copy_from_slice(front);
+        let (prefix, rest) = self.rest.split_at(taken);
+        buf[..taken].copy_from_slice(prefix);
         self.rest = rest;
         Ok(taken)
     }
@@ -48,7 +48,7 @@ impl RoadRead for InMemory<'_> {
 /// The graph of a text.
 fn read_graph(alloc: Global, bytes: &[u8]) -> Result<OutGraph, ReadFault>
     ensures graph { IfOk result (λ g. text_read gr_rules bytes.now ≡ Ok g) }
-    ensures fault { IfErr result (λ f. IsFaultOf bytes.now f) }
+    ensures fault { IfErr result (λ f. IsReadFaultOf bytes.now f) }
 {
     let mut text = InMemory {
         rest: bytes,
@@ -60,7 +60,7 @@ fn read_graph(alloc: Global, bytes: &[u8]) -> Result<OutGraph, ReadFault>
 /// An owner of the graph of a text, or why there is none.
 fn owner_read(alloc: Global, bytes: &[u8]) -> Result<Box<Arc<OutGraph>>, ReadFault>
     ensures graph { IfOk result (λ b. text_read gr_rules bytes.now ≡ Ok (arc_value b.value)) }
-    ensures fault { IfErr result (λ f. IsFaultOf bytes.now f) }
+    ensures fault { IfErr result (λ f. IsReadFaultOf bytes.now f) }
 {
     let graph = read_graph(alloc, bytes)?;
     match owned(alloc, graph) {
@@ -72,8 +72,8 @@ fn owner_read(alloc: Global, bytes: &[u8]) -> Result<Box<Arc<OutGraph>>, ReadFau
     }
 }
 
-/// The status of a fault. That of the text comes with its line.
-fn tell_fault(fault: ReadFault, line: &mut u64) -> i32
+/// The status of a fault. For a fault of the text, the line is written too.
+fn report_fault(fault: ReadFault, line: &mut u64) -> i32
     ensures memory { fault.number ≡ 3 → (result ≡ pos 3) × (line.new ≡ line.old) }
     ensures fault { fault.number ≢ 3 → (result ≡ pos fault.number) × (line.new ≡ fault.line) }
 {
@@ -86,7 +86,8 @@ fn tell_fault(fault: ReadFault, line: &mut u64) -> i32
 
 /// Opens a closed handle with the graph of a .gr text, which may be changed or freed afterwards.
 ///
-/// If the text has a fault, the status is the number of the first one, and its line is written: from 1 on, or 0 if it is no line's.
+/// If the text has a fault, the status is the number of the first one, and its line is written: counted from 1, or 0 if
+/// it is in no line.
 #[unsafe(no_mangle)]
 pub extern "C" fn diffuse_graph_read(
     alloc: Global,
@@ -96,7 +97,7 @@ pub extern "C" fn diffuse_graph_read(
 ) -> i32
     ensures graph { result ≡ pos 0 → IsGraphOf bytes.now handle.new.held.roads }
     ensures kept { result ≢ pos 0 → handle.new.held.roads ≡ handle.old.held.roads }
-    ensures status { IsOneOf (0 ∷ 3 ∷ 5 ∷ []) result ⊎ IsFaultTold bytes.now result line.new }
+    ensures status { IsOneOf (0 ∷ 3 ∷ 5 ∷ []) result ⊎ IsFaultReported bytes.now result line.new }
     ensures line { IsOneOf (0 ∷ 3 ∷ 5 ∷ []) result → line.new ≡ line.old }
     ensures open { (result ≡ pos 5) ↔ (has_graph handle.old.held.roads ≡ true) }
 {
@@ -108,6 +109,6 @@ pub extern "C" fn diffuse_graph_read(
             put(handle, owner);
             DONE
         }
-        Err(fault) => tell_fault(fault, line),
+        Err(fault) => report_fault(fault, line),
     }
 }

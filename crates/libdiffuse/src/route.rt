@@ -1,8 +1,8 @@
-//! A route that is written to what the caller lends.
+//! A route, written to memory that the caller lends.
 
 ghost use Rattle.std.specs.Prelude.{◌≡◌, ◌≤◌, ◌<◌, ◌+◌, ◌↔◌, ◌∷◌, [], length, take, pos, IfOk, MatchOption};
-ghost use Rattle.road_graph.specs.Roads.{HasVertex};
-ghost use Rattle.libdiffuse.specs.Answers.{IsFound, IsOneOf, IsNoRoute, IsRouteFound, TellsRoute, HasBoth};
+ghost use Rattle.road_graph.specs.GraphData.{HasVertex};
+ghost use Rattle.libdiffuse.specs.Answers.{IsFound, IsOneOf, IsNoRoute, IsRouteFound, ReportsRoute, HasBoth};
 ghost use Rattle.libdiffuse.specs.Choice.{IsAlgebra, OfAlgebra};
 
 use crate::choice::with_algebra;
@@ -26,7 +26,7 @@ fn find<A: PathAlgebra>(
     ensures { IfOk result (λ o. MatchOption o (IsNoRoute (A.meaning algebra) graph.now source target)
         (λ r. IsRouteFound (A.meaning algebra) graph.now source target r.0 r.1.hops r.1.vertices.items)) }
 {
-    let _n = graph.vertices();
+    graph.holds();
     let labels = solve_outgoing(alloc, algebra, graph, &[source])?;
     let back = InGraph::of(alloc, graph)?;
     let Some(route) = route_outgoing(alloc, algebra, graph, &back, source, target, &labels)? else {
@@ -50,7 +50,7 @@ fn copy(list: &[Vertex], room: &mut [u32])
 }
 
 /// Writes a route, if the room is long enough.
-fn tell(route: &PairRoute, room: &mut [u32]) -> i32
+fn write_route(route: &PairRoute, room: &mut [u32]) -> i32
     requires { length route.now.vertices.items ≡ route.now.hops + 1 }
     ensures found { IsFound result }
     ensures route { result ≡ pos 0 → take (route.now.hops + 1) room.new ≡ route.now.vertices.items }
@@ -77,7 +77,8 @@ fn answer<A: PathAlgebra>(
     room: &mut [u32],
 ) -> i32
     requires { HasBoth graph.now source target }
-    ensures tells { TellsRoute (A.meaning algebra) graph.now source target result code.new hops.new room.new }
+    ensures tells { ReportsRoute (A.meaning algebra) graph.now source target result code.new hops.new
+        room.new }
     ensures short { result ≡ pos 2 → length room.old < hops.new + 1 }
     ensures long { result ≡ pos 0 → hops.new + 1 ≤ length room.old }
     ensures room { (result ≡ pos 0 → ⊥) → room.new ≡ room.old }
@@ -88,7 +89,7 @@ fn answer<A: PathAlgebra>(
         Ok(Some((value, route))) => {
             *code = value;
             *hops = route.hops;
-            tell(&route, room)
+            write_route(&route, room)
         }
         Ok(None) => NO_ROUTE,
         Err(Memory) => MEMORY,
@@ -107,13 +108,15 @@ pub(crate) fn answer_by(
     hops: &mut u32,
     room: &mut [u32],
 ) -> i32
-    ensures tells { OfAlgebra number limit (λ V A. TellsRoute A graph.now source target result code.new hops.new room.new) }
+    ensures tells { OfAlgebra number limit (λ V A. ReportsRoute A graph.now source target result
+        code.new hops.new room.new) }
     ensures short { result ≡ pos 2 → length room.old < hops.new + 1 }
     ensures long { result ≡ pos 0 → hops.new + 1 ≤ length room.old }
     ensures room { (result ≡ pos 0 → ⊥) → room.new ≡ room.old }
     ensures places { (IsFound result → ⊥) → (code.new ≡ code.old) × (hops.new ≡ hops.old) }
     ensures vertex { (result ≡ pos 17) ↔ (HasBoth graph.now source target → ⊥) }
-    ensures algebra { (result ≡ pos 43) ↔ (HasBoth graph.now source target × (IsAlgebra number limit → ⊥)) }
+    ensures algebra { (result ≡ pos 43) ↔ (HasBoth graph.now source target ×
+        (IsAlgebra number limit → ⊥)) }
     ensures status { IsOneOf (0 ∷ 1 ∷ 2 ∷ 3 ∷ 17 ∷ 43 ∷ []) result }
 {
     if !graph.has(source) || !graph.has(target) {

@@ -2,7 +2,7 @@
 
 ghost use Rattle.std.specs.Prelude.{◌≡◌, ◌↔◌, IfOk, IsTrue};
 ghost use Rattle.std.specs.List.{All};
-ghost use Rattle.road_graph.specs.Roads.{HasVertex};
+ghost use Rattle.road_graph.specs.GraphData.{HasVertex};
 
 use road_graph::{OutGraph, Vertex};
 use std::alloc::{AllocError, Global};

@@ -1,10 +1,10 @@
-//! The numbers that calls answer with.
+//! The status numbers of calls.
 
 /// The answer is written.
 pub(crate) const DONE: i32 = 0;
-/// No walk leads there that has a value.
+/// No walk to the target has a value.
 pub(crate) const NO_ROUTE: i32 = 1;
-/// The room for the answer is too short, or a list has not a place for each vertex.
+/// The room for the answer is too short, or a list does not have just one place for each vertex.
 pub(crate) const NO_ROOM: i32 = 2;
 /// Out of memory.
 pub(crate) const MEMORY: i32 = 3;

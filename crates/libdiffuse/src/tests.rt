@@ -1,4 +1,4 @@
-//! Each call once, on the five vertices of the examples: C itself is run by no gate.
+//! Each call at least once, on the five vertices of the examples. No C runs here.
 use crate::handle::closed;
 use crate::held::discard;
 use crate::{
@@ -14,7 +14,7 @@ fn arc(tail: u32, head: u32, weight: u32) -> DiffuseArc {
     DiffuseArc { tail, head, weight }
 }
 
-/// A handle may change threads.
+/// A handle may move to another thread.
 fn assert_send<T: Send>(_x: &T) {}
 
 fn close(alloc: Global, mut handle: DiffuseGraph) {
@@ -169,7 +169,7 @@ fn assert_read(rt: &impl Abort, alloc: Global) {
     close(alloc, handle);
 }
 
-/// What is no algebra is refused.
+/// A number or a limit that names no algebra is refused.
 fn assert_no_algebra(rt: &impl Abort, alloc: Global, handle: &mut DiffuseGraph) {
     let (mut code, mut hops, mut room) = (0, 0, [0; 4]);
     assert_eq!(rt;

@@ -1,14 +1,14 @@
-//! A tree that is written to three lists of the caller's.
+//! A tree, written to three lists of the caller.
 
 ghost use Rattle.std.specs.Prelude.{◌≡◌, ◌∷◌, [], pos, IfOk};
 ghost use Rattle.std.specs.List.{All};
-ghost use Rattle.road_graph.specs.Roads.{HasVertex};
+ghost use Rattle.road_graph.specs.GraphData.{HasVertex};
 ghost use Rattle.path_algebra.specs.Walks.{AreBest};
 ghost use Rattle.route_tree.specs.Tree.{IsTree};
-ghost use Rattle.answer_text.specs.IsAnswer.{IsLine};
+ghost use Rattle.answer_text.specs.IsAnswer.{IsVertexLine};
 ghost use Rattle.libdiffuse.specs.Answers.{HavePlaces, IsOneOf};
 ghost use Rattle.libdiffuse.specs.Choice.{OfAlgebra};
-ghost use Rattle.libdiffuse.specs.Tree.{IsToldTree, TellsRefusals, HasLowCodes, line_of, number_for, code_for};
+ghost use Rattle.libdiffuse.specs.Tree.{AreTreeLists, ReportsRefusals, HasLowCodes, line_of, number_for, code_for};
 
 use crate::choice::with_algebra;
 use crate::lines::NO_CODE;
@@ -60,9 +60,10 @@ fn numbers_of<A: PathAlgebra>(
     requires vertex { HasVertex graph.now v }
     requires best { AreBest (A.meaning algebra) graph.now sources.now labels.now }
     requires tree { IsTree (A.meaning algebra) graph.now sources.now tree.now }
-    ensures { IsLine (A.meaning algebra) graph.now sources.now v (line_of result.0 result.1 result.2) }
+    ensures { IsVertexLine (A.meaning algebra) graph.now sources.now v
+        (line_of result.0 result.1 result.2) }
 {
-    let _n = graph.vertices();
+    graph.holds();
     laws_hold(algebra);
     labels_and_trees_agree(algebra);
     (
@@ -73,7 +74,7 @@ fn numbers_of<A: PathAlgebra>(
 }
 
 /// Writes a tree to three lists.
-fn tell<A: PathAlgebra>(
+fn write_lists<A: PathAlgebra>(
     algebra: A,
     graph: &OutGraph,
     sources: &[Vertex],
@@ -87,9 +88,10 @@ fn tell<A: PathAlgebra>(
     requires places { HavePlaces graph.now.vertices codes.old hops.old parents.old }
     requires best { AreBest (A.meaning algebra) graph.now sources.now labels.now }
     requires tree { IsTree (A.meaning algebra) graph.now sources.now tree.now }
-    ensures { IsToldTree (A.meaning algebra) graph.now sources.now codes.new hops.new parents.new }
+    ensures { AreTreeLists (A.meaning algebra) graph.now sources.now codes.new hops.new
+        parents.new }
 {
-    let _n = graph.vertices();
+    graph.holds();
     for i in 0..codes.len() {
         let v = Vertex(i as u32 + 1);
         let (code, near, parent) = numbers_of(algebra, graph, sources, labels, tree, v);
@@ -112,8 +114,10 @@ fn answer<A: PathAlgebra>(
     requires low { HasLowCodes (A.meaning algebra) }
     requires sources { All (HasVertex graph.now) sources.now }
     requires places { HavePlaces graph.now.vertices codes.old hops.old parents.old }
-    ensures tree { result ≡ pos 0 → IsToldTree (A.meaning algebra) graph.now sources.now codes.new hops.new parents.new }
-    ensures kept { (result ≡ pos 0 → ⊥) → (codes.new ≡ codes.old) × (hops.new ≡ hops.old) × (parents.new ≡ parents.old) }
+    ensures tree { result ≡ pos 0 → AreTreeLists (A.meaning algebra) graph.now sources.now codes.new
+        hops.new parents.new }
+    ensures kept { (result ≡ pos 0 → ⊥) → (codes.new ≡ codes.old) × (hops.new ≡ hops.old) ×
+        (parents.new ≡ parents.old) }
     ensures status { IsOneOf (0 ∷ 3 ∷ []) result }
 {
     let Ok(list) = vertices_of(alloc, sources) else {
@@ -121,14 +125,15 @@ fn answer<A: PathAlgebra>(
     };
     match solve_with_tree(alloc, algebra, graph, &list) {
         Ok((labels, tree)) => {
-            tell(algebra, graph, &list, &labels, &tree, codes, hops, parents);
+            write_lists(algebra, graph, &list, &labels, &tree, codes, hops, parents);
             DONE
         }
         Err(Memory) => MEMORY,
     }
 }
 
-/// Finds a tree by the algebra of a number and writes it, if each source is a vertex, each list has a place for each vertex and there is such an algebra.
+/// Finds a tree by the algebra of a number and writes it, if each source is a vertex, each list has a place for each
+/// vertex and there is such an algebra.
 pub(crate) fn answer_tree(
     alloc: Global,
     number: u32,
@@ -139,9 +144,12 @@ pub(crate) fn answer_tree(
     hops: &mut [u32],
     parents: &mut [u32],
 ) -> i32
-    ensures tree { OfAlgebra number limit (λ V A. result ≡ pos 0 → IsToldTree A graph.now sources.now codes.new hops.new parents.new) }
-    ensures kept { (result ≡ pos 0 → ⊥) → (codes.new ≡ codes.old) × (hops.new ≡ hops.old) × (parents.new ≡ parents.old) }
-    ensures refusals { TellsRefusals graph.now number limit sources.now codes.old hops.old parents.old result }
+    ensures tree { OfAlgebra number limit (λ V A. result ≡ pos 0 → AreTreeLists A graph.now
+        sources.now codes.new hops.new parents.new) }
+    ensures kept { (result ≡ pos 0 → ⊥) → (codes.new ≡ codes.old) × (hops.new ≡ hops.old) ×
+        (parents.new ≡ parents.old) }
+    ensures refusals { ReportsRefusals graph.now number limit sources.now codes.old hops.old
+        parents.old result }
     ensures status { IsOneOf (0 ∷ 2 ∷ 3 ∷ 17 ∷ 43 ∷ []) result }
 {
     if !are_vertices(graph, sources) {

@@ -1,11 +1,11 @@
-//! The first reason against the line of a vertex, which is judged by the lines of the vertices that an arc leads from.
+//! The first reason against the line of a vertex, which is judged by the lines of the vertices with an arc to it.
 
 ghost use Rattle.std.specs.Prelude.{◌≡◌, length};
-ghost use Rattle.road_graph.specs.Roads.{HasVertex};
+ghost use Rattle.road_graph.specs.GraphData.{HasVertex};
 ghost use Rattle.path_algebra.specs.Walks.{label_of, is_marked};
 ghost use Rattle.answer_check.specs.Certificates.{IsRightLine};
 ghost use Rattle.answer_check.specs.Marked.{IsMarkedRefused, IsMarkedRight};
-ghost use Rattle.answer_check.specs.Reasons.{IsRefused, IsJudged};
+ghost use Rattle.answer_check.specs.Reasons.{IsRefuted, IsFirstReason};
 ghost use Rattle.libdiffuse.specs.Answers.{HavePlaces};
 ghost use Rattle.libdiffuse.specs.Tree.{lines_of};
 
@@ -27,8 +27,8 @@ fn reason_of_line<A: PathAlgebra>(
 ) -> Option<Reason>
     requires places { HavePlaces graph.now.vertices codes.now hops.now parents.now }
     requires in_graph { HasVertex graph.now v }
-    ensures { IsJudged (IsRightLine (A.meaning algebra) graph.now (lines_of codes.now hops.now parents.now) v (label_of (lines_of codes.now hops.now parents.now) v))
-        (IsRefused (A.meaning algebra) graph.now (lines_of codes.now hops.now parents.now) v (label_of (lines_of codes.now hops.now parents.now) v)) result }
+    ensures { IsFirstReason (IsRightLine (A.meaning algebra) graph.now (lines_of codes.now hops.now parents.now) v (label_of (lines_of codes.now hops.now parents.now) v))
+        (IsRefuted (A.meaning algebra) graph.now (lines_of codes.now hops.now parents.now) v (label_of (lines_of codes.now hops.now parents.now) v)) result }
 {
     laws_hold(algebra);
     let n = graph.vertices() as usize;
@@ -49,7 +49,7 @@ fn reason_of_line<A: PathAlgebra>(
     }
 }
 
-/// The first reason against the line of a vertex, if marks tell the sources.
+/// The first reason against the line of a vertex. `marks` says which vertices are sources.
 pub(crate) fn reason_at<A: PathAlgebra>(
     algebra: A,
     graph: &InGraph,
@@ -62,7 +62,7 @@ pub(crate) fn reason_at<A: PathAlgebra>(
     requires places { HavePlaces graph.now.vertices codes.now hops.now parents.now }
     requires marks { length marks.now ≡ graph.now.vertices }
     requires in_graph { HasVertex graph.now v }
-    ensures { IsJudged (IsMarkedRight (A.meaning algebra) graph.now (lines_of codes.now hops.now parents.now) v (is_marked marks.now v))
+    ensures { IsFirstReason (IsMarkedRight (A.meaning algebra) graph.now (lines_of codes.now hops.now parents.now) v (is_marked marks.now v))
         (IsMarkedRefused (A.meaning algebra) graph.now (lines_of codes.now hops.now parents.now) v (is_marked marks.now v)) result }
 {
     if !marks[v.0 as usize - 1] {

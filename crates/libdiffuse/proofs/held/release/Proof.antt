@@ -24,7 +24,7 @@ use Rattle.std.specs.Box.Ownership.{box_owns}
 use Rattle.std.specs.contracts.alloc.Global as heap
 use Rattle.std.proofs.alloc.Global.TheLaws as heap_laws
 use Rattle.std.specs.contracts.impls.GlobalAllocator.TheImpl.{ghosts}
-use Rattle.road_graph.specs.Roads.{Roads}
+use Rattle.road_graph.specs.GraphData.{GraphData}
 use Rattle.libdiffuse.specs.contracts.held.Held as held
 use Rattle.libdiffuse.specs.Holding.{freeable, has_graph, held_at, shared_row}
 use Rattle.libdiffuse.proofs.Values.{both, loose_good, loose_in, al, alone, held_out, the_graph}
@@ -40,8 +40,8 @@ release_spec 𝓤 𝓛 𝓜 𝓡 wired =
     let hs : Stays ended.signature.params ended.kept = (stay_dropped (plain (λ _. Z)) ended.kept.0, (stay_dropped (plain (λ _. held.the_row)) ended.kept.1.0, tt)) in
     proved_at 𝓛 ended hs c 𝓜 𝓡 (Goes-blank 𝓛 0 (plain (λ _. Z)) ended.kept.0 (λ κs x f. tt), (Goes-blank 𝓛 0 (plain (λ _. held.the_row)) ended.kept.1.0 (λ κs x f. tt), tt)) #self fn (code.unfolded 𝓤 H 𝓜 𝓡 wired) (λ z are.
     let a = z.0.3.0 in let d = z.0.3.1.0 in let Post : Val → SProp 𝓤 = (walk_of 𝓛 ended hs c).post z in let Run : List Val → SProp 𝓤 = λ ws. WpFn 𝓤 H 𝓣.C 𝓣.Λ fn ws Post in
-    qed 𝓛 ((‵ ftrue ⊛ ‵ (owns (Z ∷ held.the_row ∷ []) z.0.3 z.0.4)) ∷ raw (fact 𝓤 (has_graph d.roads ≡ true)) ∷ []) ∵ move ! (1 ∷ []) $ heard ! (has_graph d.roads ≡ true) (λ yes. let g : Roads = (the_graph d.roads yes).0 in let is : d.roads ≡ Some g = (the_graph d.roads yes).1 in split ! $ move ! (1 ∷ []) $ fsplit ! $
-    handle_tells (al R Z LZ ghosts) ! a z.0.4.0 (λ h ea fits. move ! (1 ∷ []) $ fsplit ! $ held_out ! d z.0.4.1.0 (λ ws. rewrite ! 0 (λ (x : Option (Roads)). ‵ (held_at d.at x)) is refl $ fpick ! (λ v. fsplit ! $ feq_l ! (λ same.
+    qed 𝓛 ((‵ ftrue ⊛ ‵ (owns (Z ∷ held.the_row ∷ []) z.0.3 z.0.4)) ∷ raw (fact 𝓤 (has_graph d.roads ≡ true)) ∷ []) ∵ move ! (1 ∷ []) $ heard ! (has_graph d.roads ≡ true) (λ yes. let g : GraphData = (the_graph d.roads yes).0 in let is : d.roads ≡ Some g = (the_graph d.roads yes).1 in split ! $ move ! (1 ∷ []) $ fsplit ! $
+    handle_tells (al R Z LZ ghosts) ! a z.0.4.0 (λ h ea fits. move ! (1 ∷ []) $ fsplit ! $ held_out ! d z.0.4.1.0 (λ ws. rewrite ! 0 (λ (x : Option (GraphData)). ‵ (held_at d.at x)) is refl $ fpick ! (λ v. fsplit ! $ feq_l ! (λ same.
     in_a_block ! d.at (λ p. box_owns freeable R p v) (fst∗ 𝓤 (never 𝓤) (sem 𝓛 (freeable (bare (lone R.mir)) null_ptr))) (λ b o e.
     let got : z.0.4.1.0 ≡ alone (block_ptr b o) ∷ [] = ws ∙ (λ i. alone (e i) ∷ []) in let xs : List Val = h ∷ alone (block_ptr b o) ∷ [] in
     suffices ! (Run xs) (subst (λ (us : List Val). ent 𝓤 (Run xs) (Run us)) (sym (λ i. ea i ++ (got i ++ []))) (id⊢ 𝓤 (Run xs))) $

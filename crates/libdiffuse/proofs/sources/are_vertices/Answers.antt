@@ -2,7 +2,7 @@ use Rattle.std.proofs.Common.{rules, ◌≡◌, ℕ, ◌<◌, List, length, take
 use Rattle.std.specs.List.{All}
 use Rattle.std.proofs.Math.Seq.{take-length}
 use Rattle.std.proofs.lemmas.List.Elements.{All-more}
-use Rattle.road_graph.specs.Roads.{HasVertex}
+use Rattle.road_graph.specs.GraphData.{HasVertex}
 use Rattle.libdiffuse.proofs.sources.are_vertices.Goals as goal
 
 pub loop-number-preserved : goal.loop-number-preserved

@@ -1,6 +1,6 @@
 use Rattle.std.proofs.Common.{take}
 use Rattle.std.specs.List.{All}
-use Rattle.road_graph.specs.Roads.{HasVertex}
+use Rattle.road_graph.specs.GraphData.{HasVertex}
 use Rattle.libdiffuse.proofs.sources.are_vertices.Given as goal
 
 abbrev pub invariant-loop-number : goal.invariant-loop-number

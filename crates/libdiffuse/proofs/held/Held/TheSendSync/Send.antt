@@ -9,7 +9,7 @@ use denote.RattleType.{RattleType}
 use denote.RawPtr.{Ptr, block_ptr, null_ptr, lies_at}
 use denote.Param.Send.{IsSend, owning_send, part_keyless, sendable}
 use Rattle.std.proofs.Crossing.{crosses, frees}
-use Rattle.road_graph.specs.Roads.{Roads}
+use Rattle.road_graph.specs.GraphData.{GraphData}
 use Rattle.libdiffuse.specs.Holding.{held_at, shared_row, the_heap}
 use Rattle.libdiffuse.specs.contracts.held.Held.{the_row, the_type}
 
@@ -20,7 +20,7 @@ lies R s null_ptr x = tt
 inside : IsSend shared_row
 inside = search (sendable, crosses) depth 30
 
-keyless : (p : Ptr) (x : Option (Roads)) → Keyless (held_at p x)
+keyless : (p : Ptr) (x : Option (GraphData)) → Keyless (held_at p x)
 keyless p None = tt
 keyless p (Some g) = λ a. (tt, (lies shared_row inside p a, frees.frees the_heap (raw (lone shared_row.mir)) p))
 

@@ -1,6 +1,6 @@
 use Rattle.std.proofs.Common.{arith}
 use Rattle.libdiffuse.proofs.Filling.{told_next, all_told}
-use Rattle.libdiffuse.proofs.tree.tell.Goals as goal
+use Rattle.libdiffuse.proofs.tree.write_lists.Goals as goal
 
 pub loop-i-preserved : goal.loop-i-preserved
 loop-i-preserved g c =

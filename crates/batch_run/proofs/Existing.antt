@@ -1,36 +1,36 @@
--- Every question has a right answer: best values, their tree, and what both tell of each vertex.
+-- Every question has a right answer: best values, their tree, and the line that both give each vertex.
 use Rattle.std.proofs.Common.{◌≡◌, ℕ, List, [], ◌∷◌, refl, sym, ◌∙◌, All, Option, Some, None}
 use Rattle.std.proofs.lemmas.List.Elements.{All-nil, All-cons, All-head, All-tail}
-use Rattle.road_graph.specs.Roads.{Roads, IsRoads, HasVertex}
+use Rattle.road_graph.specs.GraphData.{GraphData, IsGraph, HasVertex}
 use Rattle.path_algebra.specs.Algebra.{Algebra}
 use Rattle.path_algebra.specs.Walks.{AreBest, label_of, IsParentChain}
 use Rattle.route_tree.specs.Tree.{Branches, IsTree, IsLinked, IsRoute, hops_of}
 use Rattle.route_tree.specs.Told.{IsParentRoute}
 use Rattle.road_files.specs.Asked.{Question, FromSource, BetweenPair, FromSources, Asked}
 use Rattle.answer_text.specs.declared.answers.Reached.{Reached}
-use Rattle.answer_text.specs.Told.{Told, ToldSource, ToldPair, ToldMulti, ToldFound, ToldList}
-use Rattle.answer_text.specs.IsAnswer.{AreLines, IsPairAnswer, IsAnswer, AreAnswers, IsAnswerList}
-use Rattle.batch_run.specs.Told.{told_lines}
+use Rattle.answer_text.specs.AnswerData.{AnswerData, SourceAnswer, PairAnswer, SourcesAnswer, FoundData, AnswerList}
+use Rattle.answer_text.specs.IsAnswer.{AreVertexLines, IsPairAnswer, IsAnswer, AreAnswers, IsAnswerList}
+use Rattle.batch_run.specs.WrittenLines.{written_lines}
 use Rattle.batch_run.specs.Answered.{AsksWithin}
 use Rattle.batch_run.proofs.LinesAreRight.{best_by_label, least_by_hops, unreached_by_label, unreached_by_hops}
-use Rattle.batch_run.proofs.ToldLines.{lines_are_right}
+use Rattle.batch_run.proofs.WrittenLines.{lines_are_right}
 
-module _ {V : Type 0} (A : Algebra V) (g : Roads) (roads : IsRoads g)
+module _ {V : Type 0} (A : Algebra V) (g : GraphData) (roads : IsGraph g)
     (labelled : (sources : List ℕ) → All (HasVertex g) sources → (labels : List (Option V)) × AreBest A g sources labels)
     (planted : (sources : List ℕ) → All (HasVertex g) sources → (labels : List (Option V)) → AreBest A g sources labels →
     (t : Branches) × IsTree A g sources t × IsLinked t × ((v k : ℕ) → HasVertex g v → hops_of t v ≡ Some k → (list : List ℕ) × IsRoute t v list))
     (follows : (sources : List ℕ) (t : Branches) → IsTree A g sources t → (v : ℕ) → HasVertex g v → (list : List ℕ) → IsRoute t v list → IsParentRoute A g sources v list)
     (from_one : (s v : ℕ) (list : List ℕ) → IsParentRoute A g (s ∷ []) v list → (rest : List ℕ) × (list ≡ s ∷ rest) × IsParentChain A g (s ∷ []) s rest v) where
-  lines_exist : (sources : List ℕ) → All (HasVertex g) sources → (lines : List (Option Reached)) × AreLines A g sources lines
+  lines_exist : (sources : List ℕ) → All (HasVertex g) sources → (lines : List (Option Reached)) × AreVertexLines A g sources lines
   lines_exist sources inside =
       let labels = labelled sources inside in
       let tree = planted sources inside labels.0 labels.1 in
-      (told_lines A labels.0 tree.0 g.vertices, lines_are_right A g sources labels.0 tree.0 g.vertices refl labels.1 tree.1)
+      (written_lines A labels.0 tree.0 g.vertices, lines_are_right A g sources labels.0 tree.0 g.vertices refl labels.1 tree.1)
 
-  -- what is told of a pair, by the label and the hops of its target
+  -- the answer to a pair, by the label and the hops of its target
   pair_by : (s v : ℕ) (labels : List (Option V)) (t : Branches) → HasVertex g v → AreBest A g (s ∷ []) labels → IsTree A g (s ∷ []) t →
       ((k : ℕ) → hops_of t v ≡ Some k → (list : List ℕ) × IsRoute t v list) → (label : Option V) (hops : Option ℕ) → label_of labels v ≡ label → hops_of t v ≡ hops →
-      (found : Option ToldFound) × IsPairAnswer A g s v found
+      (found : Option FoundData) × IsPairAnswer A g s v found
   pair_by s v labels t in_v best tree routed None hops label_is hops_is =
       (None, unreached_by_label A g (s ∷ []) v (label_of labels v) (best.best v in_v) (λ x e. let bad : None ≡ Some x = sym label_is ∙ e in cc))
   pair_by s v labels t in_v best tree routed (Some x) None label_is hops_is =
@@ -45,28 +45,28 @@ module _ {V : Type 0} (A : Algebra V) (g : Roads) (roads : IsRoads g)
         },
       )
 
-  pair_exists : (s v : ℕ) → HasVertex g s → HasVertex g v → (found : Option ToldFound) × IsPairAnswer A g s v found
+  pair_exists : (s v : ℕ) → HasVertex g s → HasVertex g v → (found : Option FoundData) × IsPairAnswer A g s v found
   pair_exists s v in_s in_v =
       let one = All-cons (HasVertex g) s [] in_s (All-nil (HasVertex g)) in
       let labels = labelled (s ∷ []) one in
       let tree = planted (s ∷ []) one labels.0 labels.1 in
       pair_by s v labels.0 tree.0 in_v labels.1 tree.1 (λ k is. tree.3 v k in_v is) (label_of labels.0 v) (hops_of tree.0 v) refl refl
 
-  answer_exists : (q : Question) → AsksWithin g q → (t : Told) × IsAnswer A g q t
+  answer_exists : (q : Question) → AsksWithin g q → (t : AnswerData) × IsAnswer A g q t
   answer_exists (FromSource s) in_s =
       let lines = lines_exist (s ∷ []) (All-cons (HasVertex g) s [] in_s (All-nil (HasVertex g))) in
-      (ToldSource s lines.0, (refl, lines.1))
-  answer_exists (BetweenPair s v) in_both = let found = pair_exists s v in_both.0 in_both.1 in (ToldPair s v found.0, (refl, refl, found.1))
-  answer_exists (FromSources ss) inside = let lines = lines_exist ss inside in (ToldMulti ss lines.0, (refl, lines.1))
+      (SourceAnswer s lines.0, (refl, lines.1))
+  answer_exists (BetweenPair s v) in_both = let found = pair_exists s v in_both.0 in_both.1 in (PairAnswer s v found.0, (refl, refl, found.1))
+  answer_exists (FromSources ss) inside = let lines = lines_exist ss inside in (SourcesAnswer ss lines.0, (refl, lines.1))
 
-  answers_exist : (qs : List Question) → All (AsksWithin g) qs → (ts : List Told) × AreAnswers A g qs ts
+  answers_exist : (qs : List Question) → All (AsksWithin g) qs → (ts : List AnswerData) × AreAnswers A g qs ts
   answers_exist [] within = ([], tt)
   answers_exist (q ∷ qs) within =
       let first = answer_exists q (All-head (AsksWithin g) q qs within) in
       let more = answers_exist qs (All-tail (AsksWithin g) q qs within) in
       (first.0 ∷ more.0, (first.1, more.1))
 
-  pub list_exists : (asked : Asked) → All (AsksWithin g) asked.questions → (told : ToldList) × IsAnswerList A g asked told
+  pub list_exists : (asked : Asked) → All (AsksWithin g) asked.questions → (told : AnswerList) × IsAnswerList A g asked told
   list_exists asked within =
       let answers = answers_exist asked.questions within in
       (record { name = A.name; kind = asked.kind; n = g.vertices; list = answers.0 }, record { name_is = refl; kind_is = refl; n_is = refl; answers = answers.1 })

@@ -1,13 +1,13 @@
-pub mod SourceByMore
-pub mod LinesAreRight
-pub mod ToldLines
-pub mod Progress
-pub mod Existing
-pub mod Fronts
-pub mod OfInputs
-pub mod Together
-pub mod Laid
-mod Planned
-pub mod Moved
-pub mod SameSources
+mod SourceByMore
+mod LinesAreRight
+mod WrittenLines
+mod Progress
+mod Existing
+pub mod Prefixes
+mod OfInputs
+mod Together
+mod QuestionKinds
+mod Schedules
+mod Moved
+mod SameSources
 mod Reporting

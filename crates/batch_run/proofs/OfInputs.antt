@@ -2,7 +2,7 @@
 use Rattle.std.proofs.Common.{◌≡◌, ◌≢◌, ◌⊎◌, ◌↔◌, ◌<◌, ◌≤◌, inl, inr, ℕ, List, Option, Result, Ok, Err, Bool, false, refl, sym, ◌∙◌, arith}
 use Rattle.std.specs.Prelude.{IfErr, OnOk}
 use Rattle.std.proofs.lemmas.Result.{IfErr-at_err, IfErr-weaker}
-use Rattle.road_graph.specs.Roads.{Roads}
+use Rattle.road_graph.specs.GraphData.{GraphData}
 use Rattle.road_files.specs.Asked.{Asked}
 use Rattle.path_algebra.specs.Algebra.{Algebra}
 use Rattle.batch_run.specs.Stopping.{Stalls, Closes}
@@ -10,25 +10,25 @@ use Rattle.batch_run.specs.declared.faults.RunFault.{RunFault}
 use Rattle.batch_run.specs.declared.faults.File.{File}
 use Rattle.batch_run.specs.declared.faults.File.TheVariants.{Graph, Questions, NoFile}
 use Rattle.batch_run.specs.declared.settings.Settings.{Settings}
-use Rattle.batch_run.specs.Answered.{WroteAllOrFront, WroteWhole}
+use Rattle.batch_run.specs.Answered.{WroteAllOrPrefix, WroteWhole}
 use Rattle.batch_run.specs.InRange.{AreInRange}
-use Rattle.batch_run.specs.Ran.{Begun, BegunWhole, Done, IsFaultOf, IsLater, IsPassedOn, IsRoadNumber}
+use Rattle.batch_run.specs.Ran.{Begun, BegunWhole, Done, IsRunFaultOf, IsLater, IsPassedOn, IsRoadNumber}
 
--- what holds after each fault but a failed write holds where memory was refused
+-- what holds after each fault but a failed write holds if memory was refused
 pub at_memory : (r : Result (Unit {0}) RunFault) (P : Type 0) → IfErr r (λ f. f.number ≢ 42 → P) → IfErr r (λ f. f.file ≡ NoFile → f.number ≡ 3 → P)
 at_memory r P = IfErr-weaker r _ _ (λ f holds file three. holds (λ e. absurd (omega (arith, three, e))))
 
-module _ {V : Type 0} (A : Algebra V) (IsRead : Roads → Asked → Type 0) (g : Roads) (asked : Asked) (read : IsRead g asked) (old new : Option (List ℕ)) where
+module _ {V : Type 0} (A : Algebra V) (IsRead : GraphData → Asked → Type 0) (g : GraphData) (asked : Asked) (read : IsRead g asked) (old new : Option (List ℕ)) where
   begun_whole : WroteWhole A g asked old new → BegunWhole A IsRead old new
   begun_whole wrote = record { graph = g; asked = asked; read = read; wrote = wrote }
 
-  pub done : (r : Result (Unit {0}) RunFault) → WroteAllOrFront A g asked old new r → OnOk r (Done A IsRead old new)
+  pub done : (r : Result (Unit {0}) RunFault) → WroteAllOrPrefix A g asked old new r → OnOk r (Done A IsRead old new)
   done (Ok u) wrote = record { graph = g; asked = asked; read = read; wrote = wrote }
-  done (Err f) front = tt
+  done (Err f) prefix = tt
 
-  pub begun : (r : Result (Unit {0}) RunFault) → WroteAllOrFront A g asked old new r → IfErr r (λ f. f.file ≡ NoFile → f.number ≢ 43 → Begun A IsRead old new)
+  pub begun : (r : Result (Unit {0}) RunFault) → WroteAllOrPrefix A g asked old new r → IfErr r (λ f. f.file ≡ NoFile → f.number ≢ 43 → Begun A IsRead old new)
   begun (Ok u) wrote = tt
-  begun (Err f) front = λ file other. record { graph = g; asked = asked; read = read; wrote = front }
+  begun (Err f) prefix = λ file other. record { graph = g; asked = asked; read = read; wrote = prefix }
 
   pub begun_without_memory : (r : Result (Unit {0}) RunFault) → IfErr r (λ f. f.number ≢ 42 → WroteWhole A g asked old new) → IfErr r (λ f. f.file ≡ NoFile → f.number ≡ 3 → BegunWhole A IsRead old new)
   begun_without_memory r wrote = at_memory r (BegunWhole A IsRead old new) (IfErr-weaker r _ _ (λ f whole other. begun_whole (whole other)) wrote)
@@ -45,7 +45,7 @@ module _ {V : Type 0} (A : Algebra V) (IsRead : Roads → Asked → Type 0) (g :
 
 -- a fault that comes when the inputs have been read is of no input and of no setting, and says why it came
 module _ (s : Settings) (answers : ℕ → ℕ → Bool → Type 0) (before after : ℕ) where
-  later_kind : (f : RunFault) → IsLater s answers f → (inputs : File → Type 0) → IsFaultOf inputs f
+  later_kind : (f : RunFault) → IsLater s answers f → (inputs : File → Type 0) → IsRunFaultOf inputs f
   later_kind f l inputs = grind arith
 
   later_no_setting : (f : RunFault) → IsLater s answers f → f.number ≢ 43
@@ -73,7 +73,7 @@ module _ (s : Settings) (answers : ℕ → ℕ → Bool → Type 0) (before afte
     pub no_failed_read : (input : File) (was is : ℕ) → input ≢ NoFile → is ≡ was → (r ≡ Err (record { number = 1; file = input; line = 0 })) ↔ (is ≢ was)
     no_failed_read input was is other same = (λ e. absurd (other ((IfErr-at_err _ e later).0.0)), λ failed. absurd (failed same))
 
-    pub kinds : (inputs : File → Type 0) → IfErr r (IsFaultOf inputs)
+    pub kinds : (inputs : File → Type 0) → IfErr r (IsRunFaultOf inputs)
     kinds inputs = IfErr-weaker r _ _ (λ f l. later_kind f l.0 inputs) later
 
     pub placed : IfErr r (λ f. f.number ≤ 3 → f.line ≡ 0)

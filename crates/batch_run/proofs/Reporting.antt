@@ -6,7 +6,7 @@ use Rattle.std.specs.List.{AllZip, flat_map}
 use Rattle.std.specs.Option.{option_copied}
 use Rattle.std.proofs.lemmas.List.{take_all, take_more, map-append}
 use Rattle.std.proofs.lemmas.List.Concat.{flat_map-cons}
-use Rattle.road_graph.specs.Roads.{Roads}
+use Rattle.road_graph.specs.GraphData.{GraphData}
 use Rattle.road_files.specs.Asked.{Question, Asked, sources_of}
 use Rattle.path_algebra.specs.Algebra.{Algebra}
 use Rattle.path_algebra.specs.Walks.{AreBest}
@@ -14,20 +14,20 @@ use Rattle.shard_part.specs.Plans.{PlanData}
 use Rattle.shard_part.specs.PartState.{Setup}
 use Rattle.station.specs.declared.gathering.Gathered.{Gathered}
 use Rattle.station.specs.Gather.{IsGathered}
-use Rattle.batch_run.specs.declared.engine.Ended.{Ended}
-use Rattle.batch_run.specs.declared.engine.Layout.{Layout}
+use Rattle.batch_run.specs.declared.solve.diffusion.EndedDiffusion.{EndedDiffusion}
+use Rattle.batch_run.specs.declared.solve.schedule.Schedule.{Schedule}
 use Rattle.batch_run.specs.declared.faults.RunFault.{RunFault}
 use Rattle.batch_run.specs.declared.settings.Settings.{Settings}
 use Rattle.batch_run.specs.declared.watcher.Report.{Report}
 use Rattle.batch_run.specs.declared.watcher.Report.TheVariants as report
-use Rattle.batch_run.specs.Ended.{IsEnded, diffusion}
-use Rattle.batch_run.specs.Reports.{IsAccount, Due, Beginning, Account, Progress, IsReportOf, IsTold, Reported, ReportedPrefix, Watched, accounts_due, questions_due, batch_due, count_diffusions, diffused}
+use Rattle.batch_run.specs.Diffusions.{IsEnded, diffusion}
+use Rattle.batch_run.specs.Reports.{IsAccount, Due, Beginning, Account, Progress, IsReportOf, FollowsReports, Reported, ReportedPrefix, Watched, accounts_due, question_due, questions_due, batch_due, count_diffusions, diffused}
 use Rattle.batch_run.specs.Ran.{IsLater}
 use Rattle.batch_run.proofs.OfInputs.{in_no_input, of_no_setting}
 
 -- the counts of a diffusion that was run to its end are those that were gathered
 module _ {S V : Type 0} (meaning : S → Algebra V) where
-  account_of : (algebra : S) (g : Roads) (plan : PlanData) (source : ℕ) (found : Gathered V) → IsGathered meaning (diffusion algebra g plan source) found → IsAccount (meaning algebra) g source found.tally
+  account_of : (algebra : S) (g : GraphData) (plan : PlanData) (source : ℕ) (found : Gathered V) → IsGathered meaning (diffusion algebra g plan source) found → IsAccount (meaning algebra) g source found.tally
   account_of algebra g plan source found h = record {
     plan = plan;
     labels = found.labels;
@@ -38,11 +38,11 @@ module _ {S V : Type 0} (meaning : S → Algebra V) where
   best_of t found h = h.labels
 
   -- so are the labels
-  pub are_best : (algebra : S) (g : Roads) (plan : PlanData) (source : ℕ) (e : Ended S V) (found : Gathered V) → IsEnded algebra g plan e → e.source ≡ source → IsGathered meaning e.floor.setup found → AreBest (meaning algebra) g (source ∷ []) found.labels
+  pub are_best : (algebra : S) (g : GraphData) (plan : PlanData) (source : ℕ) (e : EndedDiffusion S V) (found : Gathered V) → IsEnded algebra g plan e → e.source ≡ source → IsGathered meaning e.floor.setup found → AreBest (meaning algebra) g (source ∷ []) found.labels
   are_best algebra g plan source e found ended from h =
       subst (λ (s : ℕ). AreBest (meaning algebra) g (s ∷ []) found.labels) from (best_of (diffusion algebra g plan e.source) found (subst (λ (t : Setup S). IsGathered meaning t found) ended.setup h))
 
-  pub is_account : (algebra : S) (g : Roads) (plan : PlanData) (source : ℕ) (e : Ended S V) (found : Gathered V) → IsEnded algebra g plan e → e.source ≡ source → IsGathered meaning e.floor.setup found → IsAccount (meaning algebra) g source found.tally
+  pub is_account : (algebra : S) (g : GraphData) (plan : PlanData) (source : ℕ) (e : EndedDiffusion S V) (found : Gathered V) → IsEnded algebra g plan e → e.source ≡ source → IsGathered meaning e.floor.setup found → IsAccount (meaning algebra) g source found.tally
   is_account algebra g plan source e found ended from h =
       subst (λ (s : ℕ). IsAccount (meaning algebra) g s found.tally) from (account_of algebra g plan e.source found (subst (λ (t : Setup S). IsGathered meaning t found) ended.setup h))
 
@@ -51,15 +51,15 @@ pub after_err : {X E : Type 0} (r : Result X E) (P : Type 0) → P → OnErr r P
 after_err (Ok x) P p = tt
 after_err (Err e) P p = p
 
-module _ {V S : Type 0} (A : Algebra V) (g : Roads) (may_become : S → Report → S → Type 0) where
+module _ {V S : Type 0} (A : Algebra V) (g : GraphData) (may_become : S → Report → S → Type 0) where
   all_more : (ds es : List Due) (rs qs : List Report) → AllZip (IsReportOf A g) ds rs → AllZip (IsReportOf A g) es qs → AllZip (IsReportOf A g) (ds ++ es) (rs ++ qs)
   all_more [] es [] qs h k = k
   all_more [] es (r ∷ rs) qs h k = absurd h
   all_more (d ∷ ds) es [] qs h k = absurd h
   all_more (d ∷ ds) es (r ∷ rs) qs h k = (h.0, all_more ds es rs qs h.1 k)
 
-  told_more : (rs qs : List Report) (old mid new : S) → IsTold may_become old rs mid → IsTold may_become mid qs new → IsTold may_become old (rs ++ qs) new
-  told_more [] qs old mid new h k = subst (λ (s : S). IsTold may_become s qs new) h k
+  told_more : (rs qs : List Report) (old mid new : S) → FollowsReports may_become old rs mid → FollowsReports may_become mid qs new → FollowsReports may_become old (rs ++ qs) new
+  told_more [] qs old mid new h k = subst (λ (s : S). FollowsReports may_become s qs new) h k
   told_more (r ∷ rs) qs old mid new h k = (h.0, h.1, told_more rs qs h.0 mid new h.2 k)
 
   -- nothing was reported
@@ -107,7 +107,7 @@ account_from k xs zero = (map (Account k) xs, refl)
 account_from k [] (suc i) = ([], refl)
 account_from k (x ∷ xs) (suc i) = let after = account_from k xs i in (after.0, ap (λ (l : List Due). Account k x ∷ l) after.1)
 
-module _ {V S : Type 0} (A : Algebra V) (g : Roads) (may_become : S → Report → S → Type 0) (k : ℕ) (xs : List ℕ) where
+module _ {V S : Type 0} (A : Algebra V) (g : GraphData) (may_become : S → Report → S → Type 0) (k : ℕ) (xs : List ℕ) where
   -- of one source
   pub sources_begun : (x : ℕ) (old new : S) → take 1 xs ≡ x ∷ [] → Reported A g may_become (Account k x ∷ []) old new → Reported A g may_become (map (Account k) (take 1 xs)) old new
   sources_begun x old new e h = subst (λ (l : List ℕ). Reported A g may_become (map (Account k) l) old new) (sym e) h
@@ -127,10 +127,6 @@ module _ {V S : Type 0} (A : Algebra V) (g : Roads) (may_become : S → Report �
 
   pub sources_ended : (i : ℕ) (old new : S) → length xs ≤ i → Reported A g may_become (map (Account k) (take i xs)) old new → Reported A g may_become (map (Account k) xs) old new
   sources_ended i old new le h = subst (λ (l : List ℕ). Reported A g may_become (map (Account k) l) old new) (take_all i xs le) h
-
--- due of the question of this number
-abbrev question_due : Bool → ℕ → Question → List Due
-question_due plain k q = accounts_due plain k q ++ Progress k ∷ []
 
 -- due of a batch until so many questions are answered
 abbrev pub due_first : Bool → List Question → ℕ → List Due
@@ -155,7 +151,7 @@ due_from plain n (q ∷ qs) (suc i) =
     let after = due_from plain (n + 1) qs i in
     (after.0, ap (λ (x : List Due). head ++ x) after.1 ∙ sym (append_assoc head (questions_due plain (n + 1) (take i qs)) after.0))
 
-module _ {V S : Type 0} (A : Algebra V) (g : Roads) (may_become : S → Report → S → Type 0) (plain : Bool) (qs : List Question) where
+module _ {V S : Type 0} (A : Algebra V) (g : GraphData) (may_become : S → Report → S → Type 0) (plain : Bool) (qs : List Question) where
   -- the batch begins
   pub begun : (n d : ℕ) (old new : S) → n ≡ length qs → d ≡ count_diffusions plain qs → may_become old (report.Begun n d) new → Reported A g may_become (due_first plain qs 0) old new
   begun n d old new count diffusions become =
@@ -171,38 +167,42 @@ module _ {V S : Type 0} (A : Algebra V) (g : Roads) (may_become : S → Report �
   pub ended : (i : ℕ) (old new : S) → length qs ≤ i → Reported A g may_become (due_first plain qs i) old new → Reported A g may_become (batch_due plain qs) old new
   ended i old new le h = subst (λ (x : List Question). Reported A g may_become (Beginning (length qs) (count_diffusions plain qs) ∷ questions_due plain 0 x) old new) (take_all i qs le) h
 
-  module _ (i k : ℕ) (q : Question) (low : i < length qs) (number : k ≡ i + 1) (b : Bool) (same : b ≡ plain) (old mid new : S) (first : Reported A g may_become (due_first plain qs i) old mid) where
-    own : accounts_due b k (get_or qs i q) ≡ accounts_due plain k (get_or qs i q)
-    own = ap (λ (x : Bool). accounts_due x k (get_or qs i q)) same
-
+  module _ (i k : ℕ) (q : Question) (low : i < length qs) (number : k ≡ i + 1) (old mid : S) (first : Reported A g may_become (due_first plain qs i) old mid) where
     next_due : due_first plain qs (i + 1) ≡ due_first plain qs i ++ question_due plain k (get_or qs i q)
     next_due =
         let same : i + 1 ≡ suc i = omega arith in
         ap (due_first plain qs) same ∙ ap (λ (x : List Due). Beginning (length qs) (count_diffusions plain qs) ∷ x) (due_push plain 0 qs i k q low (omega (arith, number)))
 
     -- one question more is answered
-    pub answered : (last : S) → Reported A g may_become (accounts_due b k (get_or qs i q)) mid new → may_become new (report.Answered k) last → Reported A g may_become (due_first plain qs (i + 1)) old last
-    answered last accounts become =
-        let due = accounts_due plain k (get_or qs i q) in
-        subst (λ (x : List Due). Reported A g may_become x old last) (sym next_due)
-        (more A g may_become (due_first plain qs i) (due ++ Progress k ∷ []) old mid last first
-        (more A g may_become due (Progress k ∷ []) mid new last (subst (λ (x : List Due). Reported A g may_become x mid new) own accounts) (one A g may_become (Progress k) (report.Answered k) new last refl become)))
+    pub answered : (new : S) → Reported A g may_become (question_due plain k (get_or qs i q)) mid new → Reported A g may_become (due_first plain qs (i + 1)) old new
+    answered new one =
+        subst (λ (x : List Due). Reported A g may_become x old new) (sym next_due) (more A g may_become (due_first plain qs i) (question_due plain k (get_or qs i q)) old mid new first one)
 
-    -- it stopped while a question was solved
-    pub stopped_within : ReportedPrefix A g may_become (accounts_due b k (get_or qs i q)) mid new → ReportedPrefix A g may_become (batch_due plain qs) old new
-    stopped_within accounts =
-        let due = accounts_due plain k (get_or qs i q) in
+    -- it stopped at a question
+    pub stopped_within : (new : S) → ReportedPrefix A g may_become (question_due plain k (get_or qs i q)) mid new → ReportedPrefix A g may_become (batch_due plain qs) old new
+    stopped_within new part =
         let after = due_from plain 0 qs (i + 1) in
-        let all : batch_due plain qs ≡ (due_first plain qs i ++ due) ++ (Progress k ∷ [] ++ after.0) =
-        ap (λ (x : List Due). Beginning (length qs) (count_diffusions plain qs) ∷ x) after.1 ∙ ap (λ (x : List Due). x ++ after.0) (next_due ∙ sym (append_assoc (due_first plain qs i) due (Progress k ∷ [])))
-        ∙ append_assoc (due_first plain qs i ++ due) (Progress k ∷ []) after.0 in
-        prefix_more A g may_become (due_first plain qs i) due (Progress k ∷ [] ++ after.0) (batch_due plain qs) old mid new all first (subst (λ (x : List Due). ReportedPrefix A g may_become x mid new) own accounts)
+        let all : batch_due plain qs ≡ (due_first plain qs i ++ question_due plain k (get_or qs i q)) ++ after.0 =
+        ap (λ (x : List Due). Beginning (length qs) (count_diffusions plain qs) ∷ x) after.1 ∙ ap (λ (x : List Due). x ++ after.0) next_due in
+        prefix_more A g may_become (due_first plain qs i) (question_due plain k (get_or qs i q)) after.0 (batch_due plain qs) old mid new all first part
 
-    -- it stopped when it was solved
-    pub stopped_after : Reported A g may_become (accounts_due b k (get_or qs i q)) mid new → ReportedPrefix A g may_become (batch_due plain qs) old new
-    stopped_after accounts =
-        let due = accounts_due b k (get_or qs i q) in
-        stopped_within (prefix_whole A g may_become due [] due mid new (sym (append-nil due)) accounts)
+-- of one question, solved with the plain solver or without
+module _ {V S : Type 0} (A : Algebra V) (g : GraphData) (may_become : S → Report → S → Type 0) (b plain : Bool) (same : b ≡ plain) (k : ℕ) (q : Question) (old : S) where
+  -- it is answered
+  pub question_answered : (mid new : S) → Reported A g may_become (accounts_due b k q) old mid → may_become mid (report.Answered k) new → Reported A g may_become (question_due plain k q) old new
+  question_answered mid new accounts become =
+      subst (λ (p : Bool). Reported A g may_become (question_due p k q) old new) same
+      (more A g may_become (accounts_due b k q) (Progress k ∷ []) old mid new accounts (one A g may_become (Progress k) (report.Answered k) mid new refl become))
+
+  -- it stopped while it was solved
+  pub question_begun : (new : S) → ReportedPrefix A g may_become (accounts_due b k q) old new → ReportedPrefix A g may_become (question_due plain k q) old new
+  question_begun new accounts =
+      subst (λ (p : Bool). ReportedPrefix A g may_become (question_due p k q) old new) same
+      (prefix_more A g may_become [] (accounts_due b k q) (Progress k ∷ []) (question_due b k q) old old new refl (none A g may_become old) accounts)
+
+  -- it stopped when it was solved
+  pub question_solved : (new : S) → Reported A g may_become (accounts_due b k q) old new → ReportedPrefix A g may_become (question_due plain k q) old new
+  question_solved new accounts = question_begun new (prefix_all A g may_become (accounts_due b k q) old new accounts)
 
 -- the plain solver answers by no diffusion
 none_diffused : (qs : List Question) → flat_map (diffused true) qs ≡ []
@@ -212,20 +212,20 @@ none_diffused (q ∷ qs) = flat_map-cons (diffused true) q qs ∙ none_diffused 
 pub none_counted : (qs : List Question) → 0 ≡ count_diffusions true qs
 none_counted qs = sym (ap (λ (l : List ℕ). length l) (none_diffused qs))
 
--- there is a layout unless the plain solver answers
-pub kind_behind : (layout : Option (Bor Layout)) (prepared : Option Layout) (plain : Bool) → option_copied layout ≡ prepared → is_none prepared ≡ plain → is_none layout ≡ plain
-kind_behind None prepared plain e k = ap (λ (o : Option Layout). is_none o) e ∙ k
-kind_behind (Some l) prepared plain e k = ap (λ (o : Option Layout). is_none o) e ∙ k
+-- there is a schedule unless the plain solver answers
+pub kind_copied : (schedule : Option (Bor Schedule)) (prepared : Option Schedule) (plain : Bool) → option_copied schedule ≡ prepared → is_none prepared ≡ plain → is_none schedule ≡ plain
+kind_copied None prepared plain e k = ap (λ (o : Option Schedule). is_none o) e ∙ k
+kind_copied (Some s) prepared plain e k = ap (λ (o : Option Schedule). is_none o) e ∙ k
 
 -- and its sources are as many as the diffusions
-pub diffusions_are : (layout : Option (Bor Layout)) (prepared : Option Layout) (plain : Bool) (qs : List Question) (d : ℕ) → option_copied layout ≡ prepared → is_none prepared ≡ plain → IfSome prepared (λ l. l.sources.items ≡ flat_map sources_of qs) →
-    (layout ≡ None → d ≡ 0) → IfSome layout (λ l. d ≡ length l.now.sources.items) → d ≡ count_diffusions plain qs
-diffusions_are None prepared plain qs d e k laid none some = subst (λ (b : Bool). d ≡ count_diffusions b qs) (kind_behind None prepared plain e k) (none refl ∙ none_counted qs)
-diffusions_are (Some l) prepared plain qs d e k laid none some =
-    let sources : l.now.sources.items ≡ flat_map sources_of qs = subst (λ (o : Option Layout). IfSome o (λ l. l.sources.items ≡ flat_map sources_of qs)) (sym e) laid in
-    subst (λ (b : Bool). d ≡ count_diffusions b qs) (kind_behind (Some l) prepared plain e k) (some ∙ ap (λ (s : List ℕ). length s) sources)
+pub diffusions_are : (schedule : Option (Bor Schedule)) (prepared : Option Schedule) (plain : Bool) (qs : List Question) (d : ℕ) → option_copied schedule ≡ prepared → is_none prepared ≡ plain → IfSome prepared (λ l. l.sources.items ≡ flat_map sources_of qs) →
+    (schedule ≡ None → d ≡ 0) → IfSome schedule (λ l. d ≡ length l.now.sources.items) → d ≡ count_diffusions plain qs
+diffusions_are None prepared plain qs d e k all none some = subst (λ (b : Bool). d ≡ count_diffusions b qs) (kind_copied None prepared plain e k) (none refl ∙ none_counted qs)
+diffusions_are (Some l) prepared plain qs d e k all none some =
+    let sources : l.now.sources.items ≡ flat_map sources_of qs = subst (λ (o : Option Schedule). IfSome o (λ l. l.sources.items ≡ flat_map sources_of qs)) (sym e) all in
+    subst (λ (b : Bool). d ≡ count_diffusions b qs) (kind_copied (Some l) prepared plain e k) (some ∙ ap (λ (s : List ℕ). length s) sources)
 
-module _ {V S : Type 0} (A : Algebra V) (g : Roads) (may_become : S → Report → S → Type 0) (due : List Due) (old new : S) where
+module _ {V S : Type 0} (A : Algebra V) (g : GraphData) (may_become : S → Report → S → Type 0) (due : List Due) (old new : S) where
   -- a flush reports nothing
   pub reported_flushed : (Y : Type 0) (outcome r : Result (Unit {0}) RunFault) → OnOk outcome (Reported A g may_become due old new) → OnOk r ((outcome ≡ Ok tt) × Y) → OnOk r (Reported A g may_become due old new)
   reported_flushed Y outcome (Ok u) was ok = subst (λ (x : Result (Unit {0}) RunFault). OnOk x (Reported A g may_become due old new)) ok.0 was
@@ -239,7 +239,7 @@ module _ {V S : Type 0} (A : Algebra V) (g : Roads) (may_become : S → Report �
       prefix_whole A g may_become due [] due old new (sym (append-nil due)) (subst (λ (x : Result (Unit {0}) RunFault). OnOk x (Reported A g may_become due old new)) e all)
 
 -- what a run reports of inputs that were read, from what answering them reports
-pub watched : {V S : Type 0} (A : Algebra V) (how : Settings) (IsRead : Roads → Asked → Type 0) (may_become : S → Report → S → Type 0) (old new : S) (g : Roads) (asked : Asked) (answers : ℕ → ℕ → Bool → Type 0) (before after : ℕ) (r : Result (Unit {0}) RunFault) →
+pub watched : {V S : Type 0} (A : Algebra V) (how : Settings) (IsRead : GraphData → Asked → Type 0) (may_become : S → Report → S → Type 0) (old new : S) (g : GraphData) (asked : Asked) (answers : ℕ → ℕ → Bool → Type 0) (before after : ℕ) (r : Result (Unit {0}) RunFault) →
     IsRead g asked → OnOk r (Reported A g may_become (batch_due how.plain asked.questions) old new) → OnErr r (ReportedPrefix A g may_become (batch_due how.plain asked.questions) old new) →
     IfErr r (λ f. IsLater how answers f × (f.number ≡ 42 → before < after)) → Watched A how IsRead may_become old new r
 watched A how IsRead may_become old new g asked answers before after (Ok u) read all first later = record { all = record { graph = g; asked = asked; read = read; reported = all }; first = tt; nothing = tt; untouched = tt }

@@ -3,13 +3,13 @@ use Rattle.std.proofs.Common.{arith, ◌≡◌, ℕ, ◌<◌, List, [], ◌∷�
 use Rattle.std.proofs.lemmas.List.Elements.{All-nil, All-cons, All-head, All-tail}
 use Rattle.std.specs.List.{AllZip}
 use Rattle.std.specs.Prelude.{Result, Ok, Err, IfOk, MatchResult, Contains}
-use Rattle.road_graph.specs.Roads.{Roads}
+use Rattle.road_graph.specs.GraphData.{GraphData}
 use Rattle.road_files.specs.Asked.{Question, Asked, sources_of}
 use Rattle.path_algebra.specs.Algebra.{Algebra}
 use Rattle.batch_run.specs.Solved.{IsSolved, IsSolvedAt, IsSolvedFor, IsSolvedFrom}
-use Rattle.batch_run.specs.declared.solving.Solved.{Solved}
+use Rattle.batch_run.specs.declared.solve.solved.Solved.{Solved}
 
-module _ {V : Type 0} (A : Algebra V) (g : Roads) (asked : Asked) where
+module _ {V : Type 0} (A : Algebra V) (g : GraphData) (asked : Asked) where
   -- what is solved for one question is so for any with the same sources
   pub for_other : (i j : ℕ) (s : Solved V) → IsSolvedFor A g asked j s → ((d : Question) → sources_of (get_or asked.questions j d) ≡ sources_of (get_or asked.questions i d)) → IsSolvedFor A g asked i s
   for_other i j s h same d = subst (λ xs. IsSolvedFrom A g asked.kind xs s) (same d) (h d)
@@ -36,7 +36,7 @@ module _ {V : Type 0} (A : Algebra V) (g : Roads) (asked : Asked) where
       go [] p = absurd p
       go (s ∷ ts) p = (omega arith, λ d. p.0.solved)
 
-module _ {V : Type 0} (A : Algebra V) (g : Roads) (asked : Asked) (i : ℕ) where
+module _ {V : Type 0} (A : Algebra V) (g : GraphData) (asked : Asked) (i : ℕ) where
   -- of those that are solved, one with the sources of a question answers it
   pub like_answers : (k : ℕ) (seen ss : List (Solved V)) → seen ≡ ss → All (IsSolved A g asked) ss → k < length seen
       → HoldsAt (λ s. (d : Question) → sources_of (get_or asked.questions s.place d) ≡ sources_of (get_or asked.questions i d)) seen k → HoldsAt (IsSolvedFor A g asked i) ss k

@@ -1,12 +1,12 @@
 -- Best labels from the first sources of a list, and those from the next, merge to those from one source more.
 use Rattle.std.proofs.Common.{arith, ◌≡◌, ℕ, ◌+◌, ◌<◌, ◌≤◌, List, [], ◌∷◌, ◌++◌, length, get_or, take, ap, sym, ◌∙◌, Option, Bool}
 use Rattle.std.proofs.lemmas.List.{take_more}
-use Rattle.road_graph.specs.Roads.{Roads}
+use Rattle.road_graph.specs.GraphData.{GraphData}
 use Rattle.path_algebra.specs.Algebra.{Algebra, IsLawful}
 use Rattle.path_algebra.specs.Walks.{AreBest, label_of, better_label}
 use Rattle.path_algebra.proofs.Merge.{merged_are_best}
 
-pub source_more : {V : Type 0} (A : Algebra V) (lawful : IsLawful A) (g : Roads) (order : V → V → Bool) (same : A.no_worse ≡ order) (xs : List ℕ) (i x : ℕ) (ls ms ns : List (Option V)) →
+pub source_more : {V : Type 0} (A : Algebra V) (lawful : IsLawful A) (g : GraphData) (order : V → V → Bool) (same : A.no_worse ≡ order) (xs : List ℕ) (i x : ℕ) (ls ms ns : List (Option V)) →
     i < length xs → x ≡ get_or xs i x → AreBest A g (take i xs) ls → AreBest A g (x ∷ []) ms → length ns ≡ length ls →
     ((v : ℕ) → label_of ns v ≡ better_label order (label_of ls v) (label_of ms v)) → AreBest A g (take (i + 1) xs) ns
 source_more A lawful g order same xs i x ls ms ns lt is h k n eq =

@@ -12,11 +12,11 @@ use Rattle.post_floor.specs.Data.{FloorData}
 use Rattle.station.specs.Station.{StationData}
 use Rattle.station.specs.Opened.{AreOpened, station_of}
 use Rattle.worker_fleet.specs.Groups.{HasShard, IsDone, Some_of}
-use Rattle.worker_fleet.specs.Turns.{IsPlaced}
-use Rattle.road_graph.specs.Roads.{Roads}
+use Rattle.worker_fleet.specs.Turns.{IsOnItsFloor}
+use Rattle.road_graph.specs.GraphData.{GraphData}
 use Rattle.shard_part.specs.Plans.{PlanData}
 use Rattle.road_files.proofs.QuestionSources.{any_of}
-use Rattle.batch_run.specs.Ended.{AreEnded, diffusion}
+use Rattle.batch_run.specs.Diffusions.{AreEnded, diffusion}
 
 -- one more of each of two lists
 pub one_more : {F L : Type 0} (R : ℕ → F → L → Type 0) (n : ℕ) (fs gs : List F) (ls ms : List L) (f : F) (l : L) → gs ≡ fs ++ f ∷ [] → ms ≡ ls ++ l ∷ [] → length fs ≡ n → length ls ≡ n → R n f l
@@ -65,8 +65,8 @@ shards_opened meaning t f stations o k low = rw o.stations_are (opened_shard (me
 
 module _ {S V W : Type 0} (meaning : S → Algebra V) (setup : ℕ → Setup S) (floors : List (FloorData S)) (questions : List (Vec (StationData S V) W)) (n : ℕ) (same : length floors ≡ n)
     (opened : (q : ℕ) (f : FloorData S) (v : Vec (StationData S V) W) → q < n → AreOpened meaning (setup q) (get_or floors q f) (get_or questions q v).items) where
-  -- each station stands beside its floor
-  pub opened_placed : (q : ℕ) (v : Vec (StationData S V) W) → q < n → All (λ s. IsPlaced floors (q, s)) (get_or questions q v).items
+  -- each station is beside its floor
+  pub opened_placed : (q : ℕ) (v : Vec (StationData S V) W) → q < n → All (λ s. IsOnItsFloor floors (q, s)) (get_or questions q v).items
   opened_placed q v low = λ k s below.
       let inside : q < length floors = rw same low in
       let f = any_of floors q inside in
@@ -88,7 +88,7 @@ pub longer : {X : Type 0} (ys xs : List X) (x : X) → ys ≡ xs ++ x ∷ [] →
 longer ys xs x e = grind (arith, common_steps)
 
 -- what is run to its end stays so while the last is taken away
-module _ {S V W : Type 0} (algebra : S) (roads : Roads) (plan : PlanData) (sources : List ℕ) (fs gs : List (FloorData S)) (ls ms : List (Vec (StationData S V) W)) (f : FloorData S) (l : Vec (StationData S V) W)
+module _ {S V W : Type 0} (algebra : S) (roads : GraphData) (plan : PlanData) (sources : List ℕ) (fs gs : List (FloorData S)) (ls ms : List (Vec (StationData S V) W)) (f : FloorData S) (l : Vec (StationData S V) W)
     (is_f : fs ≡ gs ++ f ∷ []) (is_l : ls ≡ ms ++ l ∷ []) (same : length fs ≡ length ls)
     (each : (q s : ℕ) (e : FloorData S) (k : Vec (StationData S V) W) → q < length fs → AreEnded (diffusion algebra roads plan (get_or sources q s)) (get_or fs q e) (get_or ls q k).items) where
   EndedAt : ℕ → FloorData S → Vec (StationData S V) W → Type 0
@@ -116,11 +116,11 @@ last_of_all P ys xs x e h =
     let low : length xs < length ys = grind (arith, common_steps) in
     rw at at (h (length xs) x low)
 
--- the source at a place behind the first
-pub source_behind : (x y : ℕ) (xs : List ℕ) (n m : ℕ) → n ≡ suc m → m < length xs → y ≡ get_or xs m y → get_or (x ∷ xs) n y ≡ y
-source_behind x y xs n m e low is = rw e (sym is)
+-- the source at a place after the first
+pub source_after : (x y : ℕ) (xs : List ℕ) (n m : ℕ) → n ≡ suc m → m < length xs → y ≡ get_or xs m y → get_or (x ∷ xs) n y ≡ y
+source_after x y xs n m e low is = rw e (sym is)
 
--- the station of a shard is not missing where it is among them
+-- the station of a shard is not missing if it is among them
 pub not_missing : {S V : Type 0} (k : ℕ) (stations : List (StationData S V)) → HasShard k stations → All (λ s. s.part.shard ≢ k) stations → ⊥
 unfolding Some_of
 not_missing k [] h missing = absurd h

@@ -1,13 +1,13 @@
--- What a batch leaves: the text of the right answers, whole or a front of it.
-use Rattle.std.specs.Prelude.{◌≡◌, ℕ, List, [], ◌++◌, length, take, All, Option, Result, Ok, Err}
+-- What a batch leaves: the text of the right answers, whole or a prefix of it.
+use Rattle.std.specs.Prelude.{◌≡◌, ℕ, List, [], ◌++◌, ◌↔◌, length, take, All, Option, Result, Ok, Err}
 use Rattle.std.specs.Io.KnownBytes.{Appends}
-use Rattle.road_graph.specs.Roads.{Roads, HasVertex}
+use Rattle.road_graph.specs.GraphData.{GraphData, HasVertex}
 use Rattle.road_files.specs.Asked.{Question, FromSource, BetweenPair, FromSources, Asked}
 use Rattle.path_algebra.specs.Algebra.{Algebra}
-use Rattle.answer_text.specs.Told.{Told, ToldList}
+use Rattle.answer_text.specs.AnswerData.{AnswerData, AnswerList}
 use Rattle.answer_text.specs.IsAnswer.{IsAnswer, AreAnswers, IsAnswerList}
 use Rattle.answer_text.specs.AnswerText.{answer_text, header_text, blocks_text, answers_text}
-use Rattle.road_text.specs.Written.{Left, Fell}
+use Rattle.road_text.specs.Written.{WrotePrefix, FailedAfterPrefix}
 use Rattle.batch_run.specs.declared.faults.RunFault.{RunFault}
 use Rattle.batch_run.specs.declared.faults.File.TheVariants.{NoFile}
 use Rattle.batch_run.specs.declared.faults.Unanswered.{Unanswered}
@@ -15,60 +15,65 @@ use Rattle.batch_run.specs.declared.faults.Unanswered.TheVariants.{Memory, Write
 use Rattle.worker_fleet.specs.declared.group.GroupFault.{GroupFault}
 use Rattle.worker_fleet.specs.declared.group.GroupFault.TheVariants as group
 
--- the right answer to a question was written, whole; or nothing, since memory was refused; or a front of it, and then a write failed
-abbrev pub WroteAnswer : {V : Type 0} → Algebra V → Roads → Question → (old new : Option (List ℕ)) (before after : ℕ) → Result (Unit {0}) Unanswered → Type 0
-WroteAnswer A g q old new before after (Ok _) = (told : Told) × IsAnswer A g q told × Left old new before after (answer_text told) []
+-- the right answer to a question was written, whole; or nothing, since memory was refused; or a prefix of it, and then a write failed
+abbrev pub WroteAnswer : {V : Type 0} → Algebra V → GraphData → Question → (old new : Option (List ℕ)) (before after : ℕ) → Result (Unit {0}) Unanswered → Type 0
+WroteAnswer A g q old new before after (Ok _) = (told : AnswerData) × IsAnswer A g q told × WrotePrefix old new before after (answer_text told) []
 WroteAnswer A g q old new before after (Err Memory) = (new ≡ old) × (after ≡ before)
-WroteAnswer A g q old new before after (Err Write) = (told : Told) × IsAnswer A g q told × Fell old new before after (answer_text told)
+WroteAnswer A g q old new before after (Err Write) = (told : AnswerData) × IsAnswer A g q told × FailedAfterPrefix old new before after (answer_text told)
+
+-- so it was, or a fault stopped it: nothing of the answer was written, or a prefix of it, and then a write failed, which is 42
+abbrev pub WroteNext : {V : Type 0} → Algebra V → GraphData → Question → (old new : Option (List ℕ)) (before after : ℕ) → Result (Unit {0}) RunFault → Type 0
+WroteNext A g q old new before after (Ok _) = WroteAnswer A g q old new before after (Ok tt)
+WroteNext A g q old new before after (Err f) = (u : Unanswered) × WroteAnswer A g q old new before after (Err u) × ((f.number ≡ 42) ↔ (u ≡ Write))
 
 -- the text of the answer list was written, whole
-pub record WroteAnswers {V : Type 0} (A : Algebra V) (g : Roads) (asked : Asked) (old new : Option (List ℕ)) : Type 0 where
-  pub answers : ToldList
+pub record WroteAnswers {V : Type 0} (A : Algebra V) (g : GraphData) (asked : Asked) (old new : Option (List ℕ)) : Type 0 where
+  pub answers : AnswerList
   pub right : IsAnswerList A g asked answers
   pub bytes : Appends old new (answers_text answers)
 
--- a front of the text of the answer list was written
-pub record WroteFront {V : Type 0} (A : Algebra V) (g : Roads) (asked : Asked) (old new : Option (List ℕ)) : Type 0 where
-  pub answers : ToldList
+-- a prefix of the text of the answer list was written
+pub record WroteAnswersPrefix {V : Type 0} (A : Algebra V) (g : GraphData) (asked : Asked) (old new : Option (List ℕ)) : Type 0 where
+  pub answers : AnswerList
   pub right : IsAnswerList A g asked answers
-  pub front : List ℕ
+  pub prefix : List ℕ
   pub rest : List ℕ
-  pub text_is : answers_text answers ≡ front ++ rest
-  pub bytes : Appends old new front
+  pub text_is : answers_text answers ≡ prefix ++ rest
+  pub bytes : Appends old new prefix
 
--- all of the text, or a front of it where there was a fault
-abbrev pub WroteAllOrFront : {V : Type 0} → Algebra V → Roads → Asked → Option (List ℕ) → Option (List ℕ) → Result (Unit {0}) RunFault → Type 0
-WroteAllOrFront A g asked old new (Ok _) = WroteAnswers A g asked old new
-WroteAllOrFront A g asked old new (Err _) = WroteFront A g asked old new
+-- all of the text, or a prefix of it after a fault
+abbrev pub WroteAllOrPrefix : {V : Type 0} → Algebra V → GraphData → Asked → Option (List ℕ) → Option (List ℕ) → Result (Unit {0}) RunFault → Type 0
+WroteAllOrPrefix A g asked old new (Ok _) = WroteAnswers A g asked old new
+WroteAllOrPrefix A g asked old new (Err _) = WroteAnswersPrefix A g asked old new
 
 -- the header, and the answers to the first questions
-abbrev pub begun_text : {V : Type 0} → Algebra V → Asked → List Told → List ℕ
+abbrev pub begun_text : {V : Type 0} → Algebra V → Asked → List AnswerData → List ℕ
 begun_text A asked answers = header_text asked.kind (length asked.questions) A.name ++ blocks_text answers
 
--- a front was written of the header and the right answers to the first questions
-pub record WroteFirst {V : Type 0} (A : Algebra V) (g : Roads) (asked : Asked) (old new : Option (List ℕ)) : Type 0 where
+-- a prefix was written of the header and the right answers to the first questions
+pub record WroteFirst {V : Type 0} (A : Algebra V) (g : GraphData) (asked : Asked) (old new : Option (List ℕ)) : Type 0 where
   pub count : ℕ
-  pub answers : List Told
+  pub answers : List AnswerData
   pub right : AreAnswers A g (take count asked.questions) answers
-  pub front : List ℕ
+  pub prefix : List ℕ
   pub rest : List ℕ
-  pub text_is : begun_text A asked answers ≡ front ++ rest
-  pub bytes : Appends old new front
+  pub text_is : begun_text A asked answers ≡ prefix ++ rest
+  pub bytes : Appends old new prefix
 
 -- the header was written, and the right answers to the first questions, each of them whole
-pub record WroteWhole {V : Type 0} (A : Algebra V) (g : Roads) (asked : Asked) (old new : Option (List ℕ)) : Type 0 where
+pub record WroteWhole {V : Type 0} (A : Algebra V) (g : GraphData) (asked : Asked) (old new : Option (List ℕ)) : Type 0 where
   pub count : ℕ
-  pub answers : List Told
+  pub answers : List AnswerData
   pub right : AreAnswers A g (take count asked.questions) answers
   pub bytes : Appends old new (begun_text A asked answers)
 
--- all of the text, or of the first answers where there was a fault
-abbrev pub WroteAllOrFirst : {V : Type 0} → Algebra V → Roads → Asked → Option (List ℕ) → Option (List ℕ) → Result (Unit {0}) RunFault → Type 0
+-- all of the text, or of the first answers after a fault
+abbrev pub WroteAllOrFirst : {V : Type 0} → Algebra V → GraphData → Asked → Option (List ℕ) → Option (List ℕ) → Result (Unit {0}) RunFault → Type 0
 WroteAllOrFirst A g asked old new (Ok _) = WroteAnswers A g asked old new
 WroteAllOrFirst A g asked old new (Err _) = WroteFirst A g asked old new
 
 -- the question asks of vertices of the graph alone
-abbrev pub AsksWithin : Roads → Question → Type 0
+abbrev pub AsksWithin : GraphData → Question → Type 0
 AsksWithin g (FromSource s) = HasVertex g s
 AsksWithin g (BetweenPair s t) = HasVertex g s × HasVertex g t
 AsksWithin g (FromSources ss) = All (HasVertex g) ss

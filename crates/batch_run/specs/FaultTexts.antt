@@ -1,10 +1,10 @@
--- How a fault is told.
+-- The text of a fault.
 use Rattle.std.specs.Prelude.{ℕ, List, [], ◌++◌, codes, decimal, nat_eq, if◌then◌else◌}
 use Rattle.batch_run.specs.declared.faults.File.{File}
 use Rattle.batch_run.specs.declared.faults.File.TheVariants.{Graph, Questions, Bundle, Answers, NoFile}
 use Rattle.batch_run.specs.declared.faults.RunFault.{RunFault}
 
--- the word for an input, behind a space
+-- the word for an input, after a space
 abbrev pub file_text : File → List ℕ
 file_text Graph = codes " graph"
 file_text Questions = codes " questions"
@@ -12,7 +12,7 @@ file_text Bundle = codes " bundle"
 file_text Answers = codes " answers"
 file_text NoFile = []
 
--- the words for a line, where there is one
+-- the words for a line, if there is one
 abbrev pub line_text : ℕ → List ℕ
 line_text line = if nat_eq line 0 then [] else (codes " line " ++ decimal line)
 

@@ -1,12 +1,12 @@
 pub mod InRange
-pub mod Told
+pub mod WrittenLines
 pub mod Solved
-pub mod Ended
+pub mod Diffusions
 pub mod Answered
 pub mod Ran
 pub mod FaultTexts
 pub mod Stopping
 pub mod Runs
-pub mod Ways
+pub mod ArcsByHead
 pub mod BatchGraphs
 pub mod Reports

@@ -1,6 +1,6 @@
 -- What a batch promises of its inputs and its output.
 use Rattle.std.specs.Prelude.{◌≡◌, ◌≢◌, ℕ, ◌<◌, ◌≤◌, ◌⊎◌, Bool, false, List, [], Option, None, Ok, Err, IfSome}
-use Rattle.road_graph.specs.Roads.{Roads}
+use Rattle.road_graph.specs.GraphData.{GraphData}
 use Rattle.road_text.specs.Reads.{IsNumberFrom}
 use Rattle.road_text.specs.Rules.{Rules, text_read}
 use Rattle.road_files.specs.Asked.{Asked}
@@ -13,39 +13,39 @@ use Rattle.batch_run.specs.declared.faults.RunFault.{RunFault}
 use Rattle.batch_run.specs.declared.faults.File.{File}
 use Rattle.batch_run.specs.declared.settings.Settings.{Settings}
 use Rattle.batch_run.specs.declared.faults.File.TheVariants.{NoFile}
-use Rattle.batch_run.specs.Answered.{WroteAnswers, WroteFront, WroteWhole}
+use Rattle.batch_run.specs.Answered.{WroteAnswers, WroteAnswersPrefix, WroteWhole}
 
--- the value is what the input spells; and it is what some text spells, also where the input does not tell its bytes
+-- the value is what the input spells; and it is what some text spells, also if the input does not show its bytes
 pub record IsReadAs {S V : Type 0} (rules : Rules S V) (input : Option (List ℕ)) (value : V) : Type 0 where
   pub told : IfSome input (λ b. text_read rules b ≡ Ok value)
   pub some_text : (b : List ℕ) × (text_read rules b ≡ Ok value)
 
 -- two inputs spell this graph, and these questions over it
-pub record IsPairOf (graph questions : Option (List ℕ)) (g : Roads) (asked : Asked) : Type 0 where
+pub record IsPairOf (graph questions : Option (List ℕ)) (g : GraphData) (asked : Asked) : Type 0 where
   pub graph_is : IsReadAs gr_rules graph g
   pub questions_are : IsReadAs (question_rules g.vertices None) questions asked
 
 -- an input spells this graph and these questions over it
-abbrev pub IsBundleOf : Option (List ℕ) → Roads → Asked → Type 0
+abbrev pub IsBundleOf : Option (List ℕ) → GraphData → Asked → Type 0
 IsBundleOf input g asked = IsReadAs bundle_rules input (g, asked)
 
 -- the answers to what was read were written, whole
-pub record Done {V : Type 0} (A : Algebra V) (IsRead : Roads → Asked → Type 0) (old new : Option (List ℕ)) : Type 0 where
-  pub graph : Roads
+pub record Done {V : Type 0} (A : Algebra V) (IsRead : GraphData → Asked → Type 0) (old new : Option (List ℕ)) : Type 0 where
+  pub graph : GraphData
   pub asked : Asked
   pub read : IsRead graph asked
   pub wrote : WroteAnswers A graph asked old new
 
--- a front of them was
-pub record Begun {V : Type 0} (A : Algebra V) (IsRead : Roads → Asked → Type 0) (old new : Option (List ℕ)) : Type 0 where
-  pub graph : Roads
+-- a prefix of them was
+pub record Begun {V : Type 0} (A : Algebra V) (IsRead : GraphData → Asked → Type 0) (old new : Option (List ℕ)) : Type 0 where
+  pub graph : GraphData
   pub asked : Asked
   pub read : IsRead graph asked
-  pub wrote : WroteFront A graph asked old new
+  pub wrote : WroteAnswersPrefix A graph asked old new
 
 -- the header was, and the answers to the first questions, each of them whole
-pub record BegunWhole {V : Type 0} (A : Algebra V) (IsRead : Roads → Asked → Type 0) (old new : Option (List ℕ)) : Type 0 where
-  pub graph : Roads
+pub record BegunWhole {V : Type 0} (A : Algebra V) (IsRead : GraphData → Asked → Type 0) (old new : Option (List ℕ)) : Type 0 where
+  pub graph : GraphData
   pub asked : Asked
   pub read : IsRead graph asked
   pub wrote : WroteWhole A graph asked old new
@@ -61,7 +61,7 @@ IsGraphFault graph f = IsTextFault f → IfSome graph (λ b. text_read gr_rules 
 -- the graph has none, and the questions have this one
 abbrev pub IsQuestionsFault : Option (List ℕ) → Option (List ℕ) → RunFault → Type 0
 IsQuestionsFault graph questions f =
-    (g : Roads) × IsReadAs gr_rules graph g
+    (g : GraphData) × IsReadAs gr_rules graph g
     × (IsTextFault f → IfSome questions (λ b. text_read (question_rules g.vertices None) b ≡ Err (record { number = f.number; line = f.line })))
 
 -- the bundle has this fault
@@ -73,8 +73,8 @@ abbrev pub IsRoadNumber : ℕ → Type 0
 IsRoadNumber number = IsNumberFrom 10 19 number
 
 -- a fault of one of these inputs, with a number of theirs; or one of the run: memory or a thread, a limit of turns, a gate, a write, or a setting
-abbrev pub IsFaultOf : (File → Type 0) → RunFault → Type 0
-IsFaultOf inputs f =
+abbrev pub IsRunFaultOf : (File → Type 0) → RunFault → Type 0
+IsRunFaultOf inputs f =
     (inputs f.file × IsRoadNumber f.number)
     ⊎ ((f.file ≡ NoFile) × (f.line ≡ 0) × ((f.number ≡ 3) ⊎ ((f.number ≡ 40) ⊎ ((f.number ≡ 41) ⊎ ((f.number ≡ 42) ⊎ (f.number ≡ 43))))))
 

@@ -3,7 +3,7 @@
 -- 1 is answered, 2 are.
 use Rattle.std.specs.Prelude.{◌≡◌, ◌≢◌, ℕ, ◌+◌, Bool, true, false, List, [], ◌∷◌, ◌++◌, length, map, Option, Result, OnOk, IfErr}
 use Rattle.std.specs.List.{AllZip, flat_map}
-use Rattle.road_graph.specs.Roads.{Roads}
+use Rattle.road_graph.specs.GraphData.{GraphData}
 use Rattle.road_files.specs.Asked.{Question, Asked, sources_of}
 use Rattle.path_algebra.specs.Algebra.{Algebra}
 use Rattle.shard_part.specs.declared.tally.Tally.{Tally}
@@ -14,12 +14,12 @@ use Rattle.batch_run.specs.declared.faults.RunFault.{RunFault}
 use Rattle.batch_run.specs.declared.settings.Settings.{Settings}
 use Rattle.batch_run.specs.declared.watcher.Report.{Report}
 use Rattle.batch_run.specs.declared.watcher.Report.TheVariants.{Begun, Gathered, Answered}
-use Rattle.batch_run.specs.Ended.{diffusion}
+use Rattle.batch_run.specs.Diffusions.{diffusion}
 
 -- The counts of a diffusion over a graph from a source are those that `gather` reports with some labels, whatever the plan: some events, counted in full, lead from
 -- its opening to a state that has ended and is quiet; each counter is the lesser of its total and its top, full exactly where a total reaches that, and all totals are
 -- the same.
-pub record IsAccount {V : Type 0} (A : Algebra V) (g : Roads) (source : ℕ) (tally : Tally) : Type 0 where
+pub record IsAccount {V : Type 0} (A : Algebra V) (g : GraphData) (source : ℕ) (tally : Tally) : Type 0 where
   pub plan : PlanData
   pub labels : List (Option V)
   pub gathered : IsGathered (λ (B : Algebra V). B) (diffusion A g plan source) (record { labels = labels; tally = tally })
@@ -32,7 +32,7 @@ pub data Due : Type 0 where
   Progress : (questions : ℕ) → Due
 
 -- the report is the one that is due; one of a diffusion that was gathered has its counts
-abbrev pub IsReportOf : {V : Type 0} → Algebra V → Roads → Due → Report → Type 0
+abbrev pub IsReportOf : {V : Type 0} → Algebra V → GraphData → Due → Report → Type 0
 IsReportOf A g (Beginning n d) r = r ≡ Begun n d
 IsReportOf A g (Account k s) r = (tally : Tally) × IsAccount A g s tally × (r ≡ Gathered k s tally)
 IsReportOf A g (Progress n) r = r ≡ Answered n
@@ -50,6 +50,10 @@ count_diffusions plain qs = length (flat_map (diffused plain) qs)
 abbrev pub accounts_due : Bool → ℕ → Question → List Due
 accounts_due plain k q = map (Account k) (diffused plain q)
 
+-- due of a question of this number: its accounts, and that it is answered
+abbrev pub question_due : Bool → ℕ → Question → List Due
+question_due plain k q = accounts_due plain k q ++ Progress k ∷ []
+
 -- due of questions, in order, when so many are answered: for each its accounts, and that it is answered
 abbrev pub questions_due : Bool → ℕ → List Question → List Due
 questions_due plain n [] = []
@@ -59,40 +63,40 @@ questions_due plain n (q ∷ qs) = accounts_due plain (n + 1) q ++ Progress (n +
 abbrev pub batch_due : Bool → List Question → List Due
 batch_due plain qs = Beginning (length qs) (count_diffusions plain qs) ∷ questions_due plain 0 qs
 
--- told these reports, one after the other, a watcher went from the one state to the other
-abbrev pub IsTold : {S : Type 0} → (S → Report → S → Type 0) → S → List Report → S → Type 0
-IsTold may_become old [] new = new ≡ old
-IsTold {S} may_become old (r ∷ rs) new = (next : S) × may_become old r next × IsTold may_become next rs new
+-- given these reports, one after the other, a watcher went from the one state to the other
+abbrev pub FollowsReports : {S : Type 0} → (S → Report → S → Type 0) → S → List Report → S → Type 0
+FollowsReports may_become old [] new = new ≡ old
+FollowsReports {S} may_become old (r ∷ rs) new = (next : S) × may_become old r next × FollowsReports may_become next rs new
 
 -- what is due was reported to a watcher, in order, and nothing else
-pub record Reported {V S : Type 0} (A : Algebra V) (g : Roads) (may_become : S → Report → S → Type 0) (due : List Due) (old new : S) : Type 0 where
+pub record Reported {V S : Type 0} (A : Algebra V) (g : GraphData) (may_become : S → Report → S → Type 0) (due : List Due) (old new : S) : Type 0 where
   pub reports : List Report
   pub are_due : AllZip (IsReportOf A g) due reports
-  pub told : IsTold may_become old reports new
+  pub told : FollowsReports may_become old reports new
 
 -- a prefix of what is due was
-pub record ReportedPrefix {V S : Type 0} (A : Algebra V) (g : Roads) (may_become : S → Report → S → Type 0) (due : List Due) (old new : S) : Type 0 where
+pub record ReportedPrefix {V S : Type 0} (A : Algebra V) (g : GraphData) (may_become : S → Report → S → Type 0) (due : List Due) (old new : S) : Type 0 where
   pub prefix : List Due
   pub rest : List Due
   pub due_is : due ≡ prefix ++ rest
   pub reported : Reported A g may_become prefix old new
 
 -- all that is due of what was read was reported
-pub record ReportedAll {V S : Type 0} (A : Algebra V) (plain : Bool) (IsRead : Roads → Asked → Type 0) (may_become : S → Report → S → Type 0) (old new : S) : Type 0 where
-  pub graph : Roads
+pub record ReportedAll {V S : Type 0} (A : Algebra V) (plain : Bool) (IsRead : GraphData → Asked → Type 0) (may_become : S → Report → S → Type 0) (old new : S) : Type 0 where
+  pub graph : GraphData
   pub asked : Asked
   pub read : IsRead graph asked
   pub reported : Reported A graph may_become (batch_due plain asked.questions) old new
 
 -- a prefix of it was
-pub record ReportedFirst {V S : Type 0} (A : Algebra V) (plain : Bool) (IsRead : Roads → Asked → Type 0) (may_become : S → Report → S → Type 0) (old new : S) : Type 0 where
-  pub graph : Roads
+pub record ReportedFirst {V S : Type 0} (A : Algebra V) (plain : Bool) (IsRead : GraphData → Asked → Type 0) (may_become : S → Report → S → Type 0) (old new : S) : Type 0 where
+  pub graph : GraphData
   pub asked : Asked
   pub read : IsRead graph asked
   pub reported : ReportedPrefix A graph may_become (batch_due plain asked.questions) old new
 
 -- what a batch over what was read reported to a watcher, which went from the one state to the other
-pub record Watched {V S : Type 0} (A : Algebra V) (how : Settings) (IsRead : Roads → Asked → Type 0) (may_become : S → Report → S → Type 0) (old new : S) (outcome : Result (Unit {0}) RunFault) : Type 0 where
+pub record Watched {V S : Type 0} (A : Algebra V) (how : Settings) (IsRead : GraphData → Asked → Type 0) (may_become : S → Report → S → Type 0) (old new : S) (outcome : Result (Unit {0}) RunFault) : Type 0 where
   -- on success all that is due was reported, in order, and nothing else
   pub all : OnOk outcome (ReportedAll A how.plain IsRead may_become old new)
   -- before a fault of the run a prefix of it was

@@ -7,27 +7,27 @@ use Rattle.batch_run.specs.declared.faults.File.TheVariants.{Graph, Questions, B
 use Rattle.batch_run.specs.declared.faults.RunFault.{RunFault}
 use Rattle.batch_run.specs.declared.settings.Settings.{Settings}
 use Rattle.batch_run.specs.InRange.{AreInRange}
-use Rattle.batch_run.specs.Ran.{Done, Begun, BegunWhole, IsPassedOn, IsPairOf, IsBundleOf, IsGraphFault, IsQuestionsFault, IsBundleFault, IsFaultOf}
+use Rattle.batch_run.specs.Ran.{Done, Begun, BegunWhole, IsPassedOn, IsPairOf, IsBundleOf, IsGraphFault, IsQuestionsFault, IsBundleFault, IsRunFaultOf}
 
--- an input at a moment: its state, the bytes that it has left, where it tells them, how many reads failed, and how many were asked for
+-- an input at a moment: its state, the bytes that it has left, if it shows them, how many reads failed, and how many were asked for
 pub record Input (X : Type 0) : Type 0 where
   pub state : X
   pub left : Option (List ℕ)
   pub failures : ℕ
   pub asked : ℕ
 
--- an output at a moment: its state, the bytes that it took, where it tells them, the last of them that it still holds, and how many writes failed
+-- an output at a moment: its state, the bytes that it took, if it shows them, the last of them that it still holds, and how many writes failed
 pub record Output (X : Type 0) : Type 0 where
   pub state : X
   pub written : Option (List ℕ)
   pub held : List ℕ
   pub failures : ℕ
 
--- an input in this state, as its reader tells of it
+-- an input in this state, as its reader shows it
 abbrev pub input : {X : Type 0} → (X → Option (List ℕ)) → (X → ℕ) → (X → ℕ) → X → Input X
 input left failures asked x = record { state = x; left = left x; failures = failures x; asked = asked x }
 
--- an output in this state, as its writer tells of it
+-- an output in this state, as its writer shows it
 abbrev pub output : {X : Type 0} → (X → Option (List ℕ)) → (X → List ℕ) → (X → ℕ) → X → Output X
 output written held failures x = record { state = x; written = written x; held = held x; failures = failures x }
 
@@ -39,21 +39,21 @@ pub record RanPair {V G Q W : Type 0} (A : Algebra V) (how : Settings) (answers 
   pub passed_on : OnOk outcome (out_after.held ≡ [])
   -- no read and no write failed
   pub sound : OnOk outcome ((first_after.failures ≡ first.failures) × (second_after.failures ≡ second.failures) × (out_after.failures ≡ out.failures))
-  -- 43 is told exactly of a setting that is out of its range
+  -- 43 is reported exactly if a setting is out of its range
   pub settings : (outcome ≡ Err (record { number = 43; file = NoFile; line = 0 })) ↔ (AreInRange how → ⊥)
   -- a fault of the graph is its first one
   pub graph : IfErr outcome (λ f. f.file ≡ Graph → IsGraphFault first.left f)
   -- a fault of the questions is their first one, over a graph that has none
   pub questions : IfErr outcome (λ f. f.file ≡ Questions → IsQuestionsFault first.left second.left f)
-  -- 1 is told of the graph exactly if a read of it failed
+  -- 1 is reported of the graph exactly if a read of it failed
   pub read_graph : (outcome ≡ Err (record { number = 1; file = Graph; line = 0 })) ↔ (first_after.failures ≢ first.failures)
   -- and of the questions exactly if one of them did
   pub read_questions : (outcome ≡ Err (record { number = 1; file = Questions; line = 0 })) ↔ (second_after.failures ≢ second.failures)
-  -- 42 is told only where a write failed
+  -- 42 is reported only if a write failed
   pub write : IfErr outcome (λ f. f.number ≡ 42 → out.failures < out_after.failures)
   -- a fault is one of these inputs, with a number of theirs, or one of the run
-  pub kinds : IfErr outcome (λ f. IsFaultOf (λ file. (file ≡ Graph) ⊎ (file ≡ Questions)) f)
-  -- 1 to 3 stand in no line
+  pub kinds : IfErr outcome (λ f. IsRunFaultOf (λ file. (file ≡ Graph) ⊎ (file ≡ Questions)) f)
+  -- 1 to 3 are in no line
   pub placed : IfErr outcome (λ f. f.number ≤ 3 → f.line ≡ 0)
   -- 40 is reported only if stations answer, and some worker made each turn up to the limit
   pub stalled : IfErr outcome (λ f. f.number ≡ 40 → (how.plain ≡ false) × Stalls answers how.workers how.turns)
@@ -90,17 +90,17 @@ pub record RanBundle {V B W : Type 0} (A : Algebra V) (how : Settings) (answers 
   pub passed_on : OnOk outcome (out_after.held ≡ [])
   -- no read and no write failed
   pub sound : OnOk outcome ((text_after.failures ≡ text.failures) × (out_after.failures ≡ out.failures))
-  -- 43 is told exactly of a setting that is out of its range
+  -- 43 is reported exactly if a setting is out of its range
   pub settings : (outcome ≡ Err (record { number = 43; file = NoFile; line = 0 })) ↔ (AreInRange how → ⊥)
   -- a fault of the bundle is its first one
   pub bundle : IfErr outcome (λ f. f.file ≡ Bundle → IsBundleFault text.left f)
-  -- 1 is told exactly if a read failed
+  -- 1 is reported exactly if a read failed
   pub read : (outcome ≡ Err (record { number = 1; file = Bundle; line = 0 })) ↔ (text_after.failures ≢ text.failures)
-  -- 42 is told only where a write failed
+  -- 42 is reported only if a write failed
   pub write : IfErr outcome (λ f. f.number ≡ 42 → out.failures < out_after.failures)
   -- a fault is one of the bundle, with a number of its own, or one of the run
-  pub kinds : IfErr outcome (λ f. IsFaultOf (λ file. file ≡ Bundle) f)
-  -- 1 to 3 stand in no line
+  pub kinds : IfErr outcome (λ f. IsRunFaultOf (λ file. file ≡ Bundle) f)
+  -- 1 to 3 are in no line
   pub placed : IfErr outcome (λ f. f.number ≤ 3 → f.line ≡ 0)
   -- 40 is reported only if stations answer, and some worker made each turn up to the limit
   pub stalled : IfErr outcome (λ f. f.number ≡ 40 → (how.plain ≡ false) × Stalls answers how.workers how.turns)

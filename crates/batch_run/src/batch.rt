@@ -1,18 +1,18 @@
-//! Answers all questions of a batch over a graph, by stations or by the plain solver.
-ghost use Rattle.std.specs.Prelude.{◌≡◌, ◌≢◌, ℕ, ◌+◌, ◌≤◌, ◌<◌, IfErr, OnOk, OnErr};
-ghost use Rattle.road_files.specs.Asked.{AreQuestionsOf, asked_of};
-ghost use Rattle.batch_run.specs.Answered.{WroteAllOrFirst, WroteWhole};
+//! Answers all questions of a batch over a graph, by workers or by the plain solver.
+ghost use Rattle.std.specs.Prelude.{◌≡◌, ◌≢◌, ℕ, ◌+◌, ◌≤◌, ◌<◌, length, slice_index_or, All, IfErr, OnOk, OnErr, is_none};
+ghost use Rattle.road_files.specs.Asked.{AreQuestionsOf, Question, asked_of};
+ghost use Rattle.batch_run.specs.Answered.{WroteAllOrFirst, WroteNext, WroteWhole};
+ghost use Rattle.batch_run.specs.Diffusions.{AreReady};
 ghost use Rattle.batch_run.specs.InRange.{AreInRange};
-ghost use Rattle.batch_run.specs.Reports.{Reported, ReportedPrefix, batch_due};
+ghost use Rattle.batch_run.specs.Reports.{Reported, ReportedPrefix, batch_due, question_due};
 ghost use Rattle.batch_run.specs.Ran.{IsLater};
+ghost use Rattle.batch_run.specs.Solved.{IsSolved};
 
-use crate::answering::answer_at;
-use crate::engine::{Ahead, Batch, diffusions_of, prepare};
 use crate::faults::{RunFault, WRITE, fault_of_answer, fault_of_group, fault_of_run};
 use crate::settings::Settings;
-use crate::solving::solved_at;
+use crate::solve::{RunContext, RunState, Schedule, count_diffusions, prepare, solved_at};
 use crate::watcher::{Report, Unwatched, Watcher};
-use crate::ways::Ways;
+use crate::write::{TwoWayGraph, answer_at};
 use answer_text::write_header;
 use path_algebra::PathAlgebra;
 use road_files::Questions;
@@ -22,6 +22,57 @@ use std::alloc::Global;
 use std::sync::Wait;
 use std::thread::Threads;
 use worker_fleet::Gate;
+
+/// Answers the question at a place: solves it, writes its answer and reports that it is answered.
+fn answer_next<'g, A: PathAlgebra, W: RoadWrite, R: Threads + Wait + Sync, T: Gate, O: Watcher>(
+    context: &RunContext<'g, A, R, T>,
+    schedule: Option<&'g Schedule>,
+    state: &mut RunState<'g, A>,
+    questions: &Questions,
+    i: usize,
+    out: &mut W,
+    watcher: &mut O,
+) -> Result<(), RunFault>
+    requires settings { AreInRange context.now.settings.now }
+    requires within { AreQuestionsOf context.now.graph.now.vertices questions.now }
+    requires place { i < length (asked_of questions.now).questions }
+    requires kind { is_none schedule ≡ context.now.settings.now.plain }
+    requires ready { AreReady context.now.algebra context.now.graph.now schedule
+        state.old.queue.ended.items }
+    requires solved { All (IsSolved (A.meaning context.now.algebra) context.now.graph.now
+        (asked_of questions.now)) state.old.solved.items }
+    ensures ready { AreReady context.now.algebra context.now.graph.now schedule.entry
+        state.new.queue.ended.items }
+    ensures solved { All (IsSolved (A.meaning context.now.algebra) context.now.graph.now
+        (asked_of questions.now)) state.new.solved.items }
+    ensures wrote { (default : Question) → WroteNext (A.meaning context.now.algebra)
+        context.now.graph.now (slice_index_or (asked_of questions.now).questions i default)
+        (W.written out.old) (W.written out.new) (W.failures out.old) (W.failures out.new) result }
+    ensures later { IfErr result (IsLater context.now.settings.now
+        (T.may_answer context.now.gate.now)) }
+    ensures reported { OnOk result ((default : Question) →
+        Reported (A.meaning context.now.algebra) context.now.graph.now O.may_become
+        (question_due context.now.settings.now.plain (i + 1)
+        (slice_index_or (asked_of questions.now).questions i default)) watcher.old watcher.new) }
+    ensures begun { OnErr result ((default : Question) → ReportedPrefix
+        (A.meaning context.now.algebra) context.now.graph.now O.may_become
+        (question_due context.now.settings.now.plain (i + 1)
+        (slice_index_or (asked_of questions.now).questions i default)) watcher.old watcher.new) }
+{
+    let k = match solved_at(context, schedule, state, questions, i, watcher) {
+        Ok(k) => k,
+        Err(fault) => return Err(fault_of_group(fault)),
+    };
+    let (alloc, algebra) = (context.alloc, context.algebra);
+    let graph = TwoWayGraph::whole(context.graph);
+    match answer_at(alloc, algebra, &graph, questions, i, &state.solved[k], out) {
+        Ok(()) => {}
+        Err(unanswered) => return Err(fault_of_answer(unanswered)),
+    }
+    let questions = (i + 1) as u32;
+    watcher.report(Report::Answered { questions });
+    Ok(())
+}
 
 /// `answer_all`, which reports to a watcher as it goes.
 pub fn answer_all_watched<
@@ -43,15 +94,23 @@ pub fn answer_all_watched<
 ) -> Result<(), RunFault>
     requires within { AreQuestionsOf graph.now.vertices questions.now }
     requires settings { AreInRange settings.now }
-    ensures text { WroteAllOrFirst (A.meaning algebra) graph.now (asked_of questions.now) (W.written out.old) (W.written out.new) result }
+    ensures text { WroteAllOrFirst (A.meaning algebra) graph.now (asked_of questions.now)
+        (W.written out.old) (W.written out.new) result }
     ensures sound { OnOk result (W.failures out.new ≡ W.failures out.old) }
-    ensures later { IfErr result (λ f. IsLater settings.now (T.may_answer gate.now) f × (f.number ≡ 42 → W.failures out.old < W.failures out.new)) }
-    ensures whole { IfErr result (λ f. f.number ≢ 42 → WroteWhole (A.meaning algebra) graph.now (asked_of questions.now) (W.written out.old) (W.written out.new)) }
+    ensures later { IfErr result (λ f. IsLater settings.now (T.may_answer gate.now) f ×
+        (f.number ≡ 42 → W.failures out.old < W.failures out.new)) }
+    ensures whole { IfErr result (λ f. f.number ≢ 42 → WroteWhole (A.meaning algebra) graph.now
+        (asked_of questions.now) (W.written out.old) (W.written out.new)) }
     ensures unfailed { IfErr result (λ f. f.number ≢ 42 → W.failures out.new ≡ W.failures out.old) }
-    ensures failed { IfErr result (λ f. f.number ≡ 42 → W.failures out.new ≡ W.failures out.old + 1) }
+    ensures failed { IfErr result (λ f. f.number ≡ 42 → W.failures out.new ≡ W.failures out.old +
+        1) }
     ensures more { W.failures out.old ≤ W.failures out.new }
-    ensures reported { OnOk result (Reported (A.meaning algebra) graph.now O.may_become (batch_due settings.now.plain (asked_of questions.now).questions) watcher.old watcher.new) }
-    ensures begun { OnErr result (ReportedPrefix (A.meaning algebra) graph.now O.may_become (batch_due settings.now.plain (asked_of questions.now).questions) watcher.old watcher.new) }
+    ensures reported { OnOk result (Reported (A.meaning algebra) graph.now O.may_become
+        (batch_due settings.now.plain (asked_of questions.now).questions) watcher.old
+        watcher.new) }
+    ensures begun { OnErr result (ReportedPrefix (A.meaning algebra) graph.now O.may_become
+        (batch_due settings.now.plain (asked_of questions.now).questions) watcher.old
+        watcher.new) }
 {
     let count = questions.len() as u32;
     match write_header(out, questions.kind(), count, algebra.name()) {
@@ -61,13 +120,13 @@ pub fn answer_all_watched<
     let Ok(prepared) = prepare(alloc, graph, questions, settings) else {
         return Err(fault_of_run(MEMORY));
     };
-    let layout = prepared.as_ref();
-    let diffusions = diffusions_of(layout);
+    let schedule = prepared.as_ref();
+    let diffusions = count_diffusions(schedule);
     watcher.report(Report::Begun {
         questions: count,
         diffusions,
     });
-    let batch = Batch {
+    let context = RunContext {
         rt,
         alloc,
         algebra,
@@ -75,31 +134,12 @@ pub fn answer_all_watched<
         settings,
         gate,
     };
-    let mut ahead = Ahead {
-        asked: 0,
-        ended: Vec::new(alloc),
-    };
-    let ways = Ways::whole(graph);
-    let mut solved = Vec::new(alloc);
+    let mut state = RunState::new(alloc);
     for i in 0..questions.len() {
-        let k = match solved_at(
-            &batch,
-            layout,
-            &mut ahead,
-            questions,
-            i,
-            &mut solved,
-            watcher,
-        ) {
-            Ok(k) => k,
-            Err(fault) => return Err(fault_of_group(fault)),
-        };
-        match answer_at(alloc, algebra, &ways, questions, i, &solved[k], out) {
+        match answer_next(&context, schedule, &mut state, questions, i, out, watcher) {
             Ok(()) => {}
-            Err(unanswered) => return Err(fault_of_answer(unanswered)),
+            Err(fault) => return Err(fault),
         }
-        let questions = (i + 1) as u32;
-        watcher.report(Report::Answered { questions });
     }
     Ok(())
 }
@@ -117,12 +157,16 @@ pub fn answer_all<A: PathAlgebra, W: RoadWrite, R: Threads + Wait + Sync, T: Gat
 ) -> Result<(), RunFault>
     requires within { AreQuestionsOf graph.now.vertices questions.now }
     requires settings { AreInRange settings.now }
-    ensures text { WroteAllOrFirst (A.meaning algebra) graph.now (asked_of questions.now) (W.written out.old) (W.written out.new) result }
+    ensures text { WroteAllOrFirst (A.meaning algebra) graph.now (asked_of questions.now)
+        (W.written out.old) (W.written out.new) result }
     ensures sound { OnOk result (W.failures out.new ≡ W.failures out.old) }
-    ensures later { IfErr result (λ f. IsLater settings.now (T.may_answer gate.now) f × (f.number ≡ 42 → W.failures out.old < W.failures out.new)) }
-    ensures whole { IfErr result (λ f. f.number ≢ 42 → WroteWhole (A.meaning algebra) graph.now (asked_of questions.now) (W.written out.old) (W.written out.new)) }
+    ensures later { IfErr result (λ f. IsLater settings.now (T.may_answer gate.now) f ×
+        (f.number ≡ 42 → W.failures out.old < W.failures out.new)) }
+    ensures whole { IfErr result (λ f. f.number ≢ 42 → WroteWhole (A.meaning algebra) graph.now
+        (asked_of questions.now) (W.written out.old) (W.written out.new)) }
     ensures unfailed { IfErr result (λ f. f.number ≢ 42 → W.failures out.new ≡ W.failures out.old) }
-    ensures failed { IfErr result (λ f. f.number ≡ 42 → W.failures out.new ≡ W.failures out.old + 1) }
+    ensures failed { IfErr result (λ f. f.number ≡ 42 → W.failures out.new ≡ W.failures out.old +
+        1) }
     ensures more { W.failures out.old ≤ W.failures out.new }
 {
     answer_all_watched(

@@ -8,9 +8,8 @@ ghost use Rattle.batch_run.specs.Ran.{IsLater};
 ghost use Rattle.batch_run.specs.Reports.{Reported, ReportedPrefix, batch_due};
 
 use crate::batch::answer_all_watched;
-use crate::engine::indexed;
 use crate::faults::RunFault;
-use crate::plainly::answer_plainly;
+use crate::plain_batch::answer_plainly;
 use crate::settings::Settings;
 use crate::watcher::Watcher;
 use path_algebra::PathAlgebra;
@@ -58,7 +57,17 @@ impl Answerable for OutGraph {
     }
 }
 
-/// Answers all questions in order, and stops at the first fault. The graph is indexed where workers are to answer.
+/// The graph, indexed if workers are to answer. If memory is refused for that, they look for arcs instead.
+pub fn indexed(alloc: Global, mut graph: Graph, settings: &Settings) -> Graph
+    ensures { result ≡ graph }
+{
+    if !settings.plain {
+        let _ = graph.index(alloc);
+    }
+    graph
+}
+
+/// Answers all questions in order, and stops at the first fault. The graph is indexed if workers are to answer.
 pub(crate) fn answer_over<
     A: PathAlgebra,
     W: RoadWrite,
@@ -79,14 +88,21 @@ pub(crate) fn answer_over<
     requires within { AreQuestionsOf (roads_in graph).vertices questions.now }
     requires settings { AreInRange settings.now }
     requires kind { settings.now.plain ≡ is_outgoing graph }
-    ensures text { WroteAllOrFirst (A.meaning algebra) (roads_in graph) (asked_of questions.now) (W.written out.old) (W.written out.new) result }
+    ensures text { WroteAllOrFirst (A.meaning algebra) (roads_in graph) (asked_of questions.now)
+        (W.written out.old) (W.written out.new) result }
     ensures sound { OnOk result (W.failures out.new ≡ W.failures out.old) }
-    ensures later { IfErr result (λ f. IsLater settings.now (T.may_answer gate.now) f × (f.number ≡ 42 → W.failures out.old < W.failures out.new)) }
-    ensures whole { IfErr result (λ f. f.number ≢ 42 → WroteWhole (A.meaning algebra) (roads_in graph) (asked_of questions.now) (W.written out.old) (W.written out.new)) }
+    ensures later { IfErr result (λ f. IsLater settings.now (T.may_answer gate.now) f ×
+        (f.number ≡ 42 → W.failures out.old < W.failures out.new)) }
+    ensures whole { IfErr result (λ f. f.number ≢ 42 → WroteWhole (A.meaning algebra)
+        (roads_in graph) (asked_of questions.now) (W.written out.old) (W.written out.new)) }
     ensures unfailed { IfErr result (λ f. f.number ≢ 42 → W.failures out.new ≡ W.failures out.old) }
     ensures more { W.failures out.old ≤ W.failures out.new }
-    ensures reported { OnOk result (Reported (A.meaning algebra) (roads_in graph) O.may_become (batch_due settings.now.plain (asked_of questions.now).questions) watcher.old watcher.new) }
-    ensures begun { OnErr result (ReportedPrefix (A.meaning algebra) (roads_in graph) O.may_become (batch_due settings.now.plain (asked_of questions.now).questions) watcher.old watcher.new) }
+    ensures reported { OnOk result (Reported (A.meaning algebra) (roads_in graph) O.may_become
+        (batch_due settings.now.plain (asked_of questions.now).questions) watcher.old
+        watcher.new) }
+    ensures begun { OnErr result (ReportedPrefix (A.meaning algebra) (roads_in graph) O.may_become
+        (batch_due settings.now.plain (asked_of questions.now).questions) watcher.old
+        watcher.new) }
 {
     match graph {
         BatchGraph::Whole(graph) => {

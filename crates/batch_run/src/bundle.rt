@@ -6,7 +6,7 @@ ghost use Rattle.batch_run.specs.Ran.{IsBundleOf};
 
 use crate::batch_graph::Answerable;
 use crate::faults::{File, RunFault, SETTINGS, fault_in, fault_of_run};
-use crate::flushing::answer_and_flush;
+use crate::flush::answer_and_flush;
 use crate::settings::Settings;
 use crate::watcher::{Unwatched, Watcher};
 use path_algebra::PathAlgebra;
@@ -41,7 +41,8 @@ fn run_bundle_over<
     ensures ran { RanBundle (A.meaning algebra) settings.now (T.may_answer gate.now)
         (input B.left B.failures B.asked bundle.old) (input B.left B.failures B.asked bundle.new)
         (output W.written W.held W.failures out.old) (output W.written W.held W.failures out.new) result }
-    ensures watched { Watched (A.meaning algebra) settings.now (IsBundleOf (B.left bundle.old)) O.may_become watcher.old watcher.new result }
+    ensures watched { Watched (A.meaning algebra) settings.now (IsBundleOf (B.left bundle.old))
+        O.may_become watcher.old watcher.new result }
 {
     if !settings.are_in_range() {
         return Err(fault_of_run(SETTINGS));
@@ -76,7 +77,8 @@ pub fn run_bundle_watched<
     ensures ran { RanBundle (A.meaning algebra) settings.now (T.may_answer gate.now)
         (input B.left B.failures B.asked bundle.old) (input B.left B.failures B.asked bundle.new)
         (output W.written W.held W.failures out.old) (output W.written W.held W.failures out.new) result }
-    ensures watched { Watched (A.meaning algebra) settings.now (IsBundleOf (B.left bundle.old)) O.may_become watcher.old watcher.new result }
+    ensures watched { Watched (A.meaning algebra) settings.now (IsBundleOf (B.left bundle.old))
+        O.may_become watcher.old watcher.new result }
 {
     if settings.plain {
         return run_bundle_over::<A, B, W, R, T, OutGraph, O>(

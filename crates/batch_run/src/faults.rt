@@ -24,7 +24,7 @@ pub enum File {
 }
 
 impl File {
-    /// The word for an input, behind a space; of no input nothing.
+    /// The word for an input, after a space; of no input nothing.
     pub fn text(self) -> &'static str
         ensures { result.now ≡ file_text self }
     {
@@ -38,7 +38,7 @@ impl File {
     }
 }
 
-/// Why a batch stopped: the number of the fault, the input, and the line in it (0 where none is meant).
+/// Why a batch stopped: the number of the fault, the input, and the line in it (0 if none is meant).
 #[derive(Clone, Copy, Debug, PartialEq, Eq)]
 pub struct RunFault {
     pub number: u8,

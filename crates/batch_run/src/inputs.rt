@@ -10,21 +10,30 @@ use road_graph::Graph;
 use road_text::RoadRead;
 use std::alloc::Global;
 
-/// Reads a graph of any kind from one input and questions over it from another, and tells the first fault.
+/// Reads a graph of any kind from one input and questions over it from another, and reports the first fault.
 pub(crate) fn read_pair_as<G: RoadRead, Q: RoadRead, B: FromArcs>(
     alloc: Global,
     graph_in: &mut G,
     questions_in: &mut Q,
 ) -> Result<(B, Questions), RunFault>
-    ensures read { IfOk result (λ r. IsPairOf (G.left graph_in.old) (Q.left questions_in.old) (B.roads r.0) (asked_of r.1)) }
+    ensures read { IfOk result (λ r. IsPairOf (G.left graph_in.old) (Q.left questions_in.old)
+        (B.roads r.0) (asked_of r.1)) }
     ensures within { IfOk result (λ r. AreQuestionsOf (B.roads r.0).vertices r.1) }
-    ensures sound { OnOk result ((G.failures graph_in.new ≡ G.failures graph_in.old) × (Q.failures questions_in.new ≡ Q.failures questions_in.old)) }
+    ensures sound { OnOk result ((G.failures graph_in.new ≡ G.failures graph_in.old) ×
+        (Q.failures questions_in.new ≡ Q.failures questions_in.old)) }
     ensures ends { OnOk result (IsAtEnd (G.left graph_in.new) × IsAtEnd (Q.left questions_in.new)) }
     ensures graph { IfErr result (λ f. f.file ≡ File.Graph → IsGraphFault (G.left graph_in.old) f) }
-    ensures questions { IfErr result (λ f. f.file ≡ File.Questions → IsQuestionsFault (G.left graph_in.old) (Q.left questions_in.old) f) }
-    ensures read_graph { (result ≡ Err (record { number = 1; file = File.Graph; line = 0 })) ↔ (G.failures graph_in.new ≢ G.failures graph_in.old) }
-    ensures read_questions { (result ≡ Err (record { number = 1; file = File.Questions; line = 0 })) ↔ (Q.failures questions_in.new ≢ Q.failures questions_in.old) }
-    ensures kinds { IfErr result (λ f. ((f.file ≡ File.Graph) ⊎ (f.file ≡ File.Questions)) × IsRoadNumber f.number) }
+    ensures questions { IfErr result (λ f. f.file ≡ File.Questions → IsQuestionsFault
+        (G.left graph_in.old) (Q.left questions_in.old) f) }
+    ensures read_graph { (result ≡ Err (record { number = 1; file = File.Graph; line = 0 })) ↔
+        (G.failures graph_in.new ≢ G.failures graph_in.old) }
+    ensures read_questions { (result ≡ Err (record {
+      number = 1;
+      file = File.Questions;
+      line = 0;
+    })) ↔ (Q.failures questions_in.new ≢ Q.failures questions_in.old) }
+    ensures kinds { IfErr result (λ f. ((f.file ≡ File.Graph) ⊎ (f.file ≡ File.Questions)) ×
+        IsRoadNumber f.number) }
     ensures placed { IfErr result (λ f. f.number ≤ 3 → f.line ≡ 0) }
     ensures asked { G.asked graph_in.new ≤ G.asked graph_in.old + 4294967297 }
     ensures asked_questions { Q.asked questions_in.new ≤ Q.asked questions_in.old + 4294967297 }
@@ -39,22 +48,31 @@ pub(crate) fn read_pair_as<G: RoadRead, Q: RoadRead, B: FromArcs>(
     }
 }
 
-/// Reads a graph from one input and questions over it from another, and tells the first fault. Each input is asked at most
+/// Reads a graph from one input and questions over it from another, and reports the first fault. Each input is asked at most
 /// 2^32 + 1 times.
 pub fn read_pair<G: RoadRead, Q: RoadRead>(
     alloc: Global,
     graph_in: &mut G,
     questions_in: &mut Q,
 ) -> Result<(Graph, Questions), RunFault>
-    ensures read { IfOk result (λ r. IsPairOf (G.left graph_in.old) (Q.left questions_in.old) r.0 (asked_of r.1)) }
+    ensures read { IfOk result (λ r. IsPairOf (G.left graph_in.old) (Q.left questions_in.old) r.0
+        (asked_of r.1)) }
     ensures within { IfOk result (λ r. AreQuestionsOf r.0.vertices r.1) }
-    ensures sound { OnOk result ((G.failures graph_in.new ≡ G.failures graph_in.old) × (Q.failures questions_in.new ≡ Q.failures questions_in.old)) }
+    ensures sound { OnOk result ((G.failures graph_in.new ≡ G.failures graph_in.old) ×
+        (Q.failures questions_in.new ≡ Q.failures questions_in.old)) }
     ensures ends { OnOk result (IsAtEnd (G.left graph_in.new) × IsAtEnd (Q.left questions_in.new)) }
     ensures graph { IfErr result (λ f. f.file ≡ File.Graph → IsGraphFault (G.left graph_in.old) f) }
-    ensures questions { IfErr result (λ f. f.file ≡ File.Questions → IsQuestionsFault (G.left graph_in.old) (Q.left questions_in.old) f) }
-    ensures read_graph { (result ≡ Err (record { number = 1; file = File.Graph; line = 0 })) ↔ (G.failures graph_in.new ≢ G.failures graph_in.old) }
-    ensures read_questions { (result ≡ Err (record { number = 1; file = File.Questions; line = 0 })) ↔ (Q.failures questions_in.new ≢ Q.failures questions_in.old) }
-    ensures kinds { IfErr result (λ f. ((f.file ≡ File.Graph) ⊎ (f.file ≡ File.Questions)) × IsRoadNumber f.number) }
+    ensures questions { IfErr result (λ f. f.file ≡ File.Questions → IsQuestionsFault
+        (G.left graph_in.old) (Q.left questions_in.old) f) }
+    ensures read_graph { (result ≡ Err (record { number = 1; file = File.Graph; line = 0 })) ↔
+        (G.failures graph_in.new ≢ G.failures graph_in.old) }
+    ensures read_questions { (result ≡ Err (record {
+      number = 1;
+      file = File.Questions;
+      line = 0;
+    })) ↔ (Q.failures questions_in.new ≢ Q.failures questions_in.old) }
+    ensures kinds { IfErr result (λ f. ((f.file ≡ File.Graph) ⊎ (f.file ≡ File.Questions)) ×
+        IsRoadNumber f.number) }
     ensures placed { IfErr result (λ f. f.number ≤ 3 → f.line ≡ 0) }
     ensures asked { G.asked graph_in.new ≤ G.asked graph_in.old + 4294967297 }
     ensures asked_questions { Q.asked questions_in.new ≤ Q.asked questions_in.old + 4294967297 }

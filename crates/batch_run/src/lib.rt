@@ -1,27 +1,23 @@
 //! Runs a batch of questions from bytes to bytes.
 #![tactic(auto)]
 
-mod answering;
 mod batch;
 mod batch_graph;
 mod bundle;
-mod engine;
 mod faults;
-mod flushing;
+mod flush;
 mod inputs;
-mod labelling;
 mod laws;
-mod plainly;
+mod plain_batch;
 mod run;
 mod settings;
-mod solving;
-mod telling;
+mod solve;
 mod watcher;
-mod ways;
+mod write;
 
 pub use batch::{answer_all, answer_all_watched};
+pub use batch_graph::indexed;
 pub use bundle::{run_bundle, run_bundle_watched};
-pub use engine::indexed;
 pub use faults::{File, RunFault, SETTINGS, WRITE, fault_in, fault_of_run};
 pub use inputs::read_pair;
 pub use laws::answers_exist;

@@ -6,7 +6,7 @@ ghost use Rattle.batch_run.specs.Ran.{IsPairOf};
 
 use crate::batch_graph::Answerable;
 use crate::faults::{RunFault, SETTINGS, fault_of_run};
-use crate::flushing::answer_and_flush;
+use crate::flush::answer_and_flush;
 use crate::inputs::read_pair_as;
 use crate::settings::Settings;
 use crate::watcher::{Unwatched, Watcher};
@@ -45,7 +45,8 @@ fn run_pair_over<
         (input G.left G.failures G.asked graph_in.old) (input G.left G.failures G.asked graph_in.new)
         (input Q.left Q.failures Q.asked questions_in.old) (input Q.left Q.failures Q.asked questions_in.new)
         (output W.written W.held W.failures out.old) (output W.written W.held W.failures out.new) result }
-    ensures watched { Watched (A.meaning algebra) settings.now (IsPairOf (G.left graph_in.old) (Q.left questions_in.old)) O.may_become watcher.old watcher.new result }
+    ensures watched { Watched (A.meaning algebra) settings.now (IsPairOf (G.left graph_in.old)
+        (Q.left questions_in.old)) O.may_become watcher.old watcher.new result }
 {
     if !settings.are_in_range() {
         return Err(fault_of_run(SETTINGS));
@@ -84,7 +85,8 @@ pub fn run_pair_watched<
         (input G.left G.failures G.asked graph_in.old) (input G.left G.failures G.asked graph_in.new)
         (input Q.left Q.failures Q.asked questions_in.old) (input Q.left Q.failures Q.asked questions_in.new)
         (output W.written W.held W.failures out.old) (output W.written W.held W.failures out.new) result }
-    ensures watched { Watched (A.meaning algebra) settings.now (IsPairOf (G.left graph_in.old) (Q.left questions_in.old)) O.may_become watcher.old watcher.new result }
+    ensures watched { Watched (A.meaning algebra) settings.now (IsPairOf (G.left graph_in.old)
+        (Q.left questions_in.old)) O.may_become watcher.old watcher.new result }
 {
     if settings.plain {
         return run_pair_over::<A, G, Q, W, R, T, OutGraph, O>(
@@ -115,8 +117,8 @@ pub fn run_pair_watched<
 /// Answers the questions of one input over the graph of another, and writes the answers.
 ///
 /// The settings are tested first (43), then the graph is read and then the questions, and then each question is
-/// answered and written, in order; at last the output is flushed. The first fault in this order is told. After a
-/// fault of an input nothing has been written; after a later one (3, 40 to 42) a front of the answers' text has.
+/// answered and written, in order; at last the output is flushed. The first fault in this order is reported. After a
+/// fault of an input nothing has been written; after a later one (3, 40 to 42) a prefix of the answers' text has.
 ///
 /// Questions are run in groups of `width` diffusions, each over its own shards, by workers on threads: worker w turns the
 /// stations of the shards whose number is w modulo `workers`. With `plain` the one-thread solver answers each question, and

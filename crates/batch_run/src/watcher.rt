@@ -24,9 +24,9 @@ pub enum Report {
     },
 }
 
-/// Is told what a batch did, as it goes; it can't stop it.
+/// Takes the reports of a batch as it goes; it can't stop it.
 pub trait Watcher {
-    // Told this report in the one state, it may be in the other afterwards.
+    // Given this report in the one state, it may be in the other afterwards.
     ghost may_become: { Self → Report → Self → Type 0 };
 
     /// Takes note of a report.

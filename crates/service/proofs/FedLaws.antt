@@ -2,7 +2,7 @@
 use Rattle.std.proofs.Common.{◌≡◌, ℕ, ◌+◌, List, [], ◌∷◌, ◌++◌, Option, Result, Ok, Err, refl, sym, ap, ◌∙◌, subst, append_assoc, append-nil}
 use Rattle.std.specs.Io.KnownBytes.{Appends}
 use Rattle.std.proofs.KnownBytes.{Appends-trans, Appends-nil}
-use Rattle.road_text.specs.Written.{Fell, Wrote}
+use Rattle.road_text.specs.Written.{FailedAfterPrefix, Wrote}
 use Rattle.road_text.proofs.WriteLaws.{fell_first}
 use Rattle.road_files.specs.Asked.{Asked}
 use Rattle.road_files.specs.ServiceText.{Request}
@@ -28,7 +28,7 @@ module _ (answers : Asked → List ℕ → Type 0) where
   replied_one r text old new before after (Ok v) is was = record {
     texts = text ∷ [];
     right = (is, tt);
-    bytes = subst (Appends old new) (sym (append-nil text ∙ was.text_is ∙ append-nil was.front)) was.bytes;
+    bytes = subst (Appends old new) (sym (append-nil text ∙ was.text_is ∙ append-nil was.prefix)) was.bytes;
     sound = was.sound;
   }
   replied_one r text old new before after (Err e) is was = record { first = r ∷ []; later = []; requests_are = refl; texts = text ∷ []; right = (is, tt); wrote = fell_first old new before after text [] was }
@@ -47,15 +47,15 @@ module _ (answers : Asked → List ℕ → Type 0) where
     requests_are = ap (λ x. rs ++ x) q.requests_are ∙ sym (append_assoc rs q.first q.later);
     texts = p.texts ++ q.texts;
     right = are-append rs q.first p.texts q.texts p.right q.right;
-    wrote = subst (Fell old new b a) (sym (joined-append p.texts q.texts)) (behind (joined p.texts) (joined q.texts) p.bytes p.sound q.wrote);
+    wrote = subst (FailedAfterPrefix old new b a) (sym (joined-append p.texts q.texts)) (behind (joined p.texts) (joined q.texts) p.bytes p.sound q.wrote);
   }
     where
-      behind : (x y : List ℕ) → Appends old mid x → m ≡ b → Fell mid new m a y → Fell old new b a (x ++ y)
+      behind : (x y : List ℕ) → Appends old mid x → m ≡ b → FailedAfterPrefix mid new m a y → FailedAfterPrefix old new b a (x ++ y)
       behind x y e s f = record {
-        front = x ++ f.front;
+        prefix = x ++ f.prefix;
         rest = f.rest;
-        text_is = ap (λ z. x ++ z) f.text_is ∙ sym (append_assoc x f.front f.rest);
-        bytes = Appends-trans old mid new x f.front e f.bytes;
+        text_is = ap (λ z. x ++ z) f.text_is ∙ sym (append_assoc x f.prefix f.rest);
+        bytes = Appends-trans old mid new x f.prefix e f.bytes;
         failed = f.failed ∙ ap (λ k. k + 1) s;
       }
 

@@ -5,7 +5,7 @@ use Rattle.std.specs.List.{AllZip}
 use Rattle.std.proofs.lemmas.Bool.{ne_eqb}
 use Rattle.std.proofs.lemmas.Slice.Eq.{bytes_eq-Decides}
 use Rattle.road_text.specs.Lines.{lines, fields}
-use Rattle.road_text.specs.Rules.{Rules, at_line, reading, text_read, unless, ◌>>=◌}
+use Rattle.road_text.specs.Rules.{Rules, at_line, value_of_lines, text_read, unless, ◌>>=◌}
 use Rattle.road_text.specs.Words.{Word, word_of, word_at}
 use Rattle.road_text.proofs.TextLaws.{lines_none, lines_cut}
 use Rattle.road_files.specs.Asked.{Asked, Question}
@@ -82,7 +82,7 @@ Makes n at state ls rs = (requests_of true n at state ls ≡ rs) × (state_after
 
 -- after the last line of a request that is a file
 rest_of_file : (n at k : ℕ) (q : AskedSoFar) (a b : Asked) (ls : List (List ℕ)) → nat_lt (length q.questions) q.announced ≡ false → question_end (Some q) ≡ Ok b
-    → reading false (question_rules n None) at (Some q) ls ≡ Ok a → (a ≡ b) × Makes n k (Gives None) ls []
+    → value_of_lines false (question_rules n None) at (Some q) ls ≡ Ok a → (a ≡ b) × Makes n k (Gives None) ls []
 rest_of_file n at k q a b [] full whole h = (rest_end h, (refl, refl))
   where
     rest_end : at_line at (question_end (Some q)) ≡ Ok a → a ≡ b
@@ -90,74 +90,74 @@ rest_of_file n at k q a b [] full whole h = (rest_end h, (refl, refl))
 rest_of_file n at k q a b (l ∷ ls) full whole h = by_line (question_line n None (Some q) (map word_of (fields l))) refl (λ g. rest_of_file n (at + 1) (k + 1) q a b ls full whole g) h
   where
     by_line : (r : Result (Option AskedSoFar) ℕ) → question_line n None (Some q) (map word_of (fields l)) ≡ r
-        → (reading false (question_rules n None) (at + 1) (Some q) ls ≡ Ok a → (a ≡ b) × Makes n (k + 1) (Gives None) ls [])
-        → (at_line at r >>= λ t. reading false (question_rules n None) (at + 1) t ls) ≡ Ok a → (a ≡ b) × Makes n k (Gives None) (l ∷ ls) []
+        → (value_of_lines false (question_rules n None) (at + 1) (Some q) ls ≡ Ok a → (a ≡ b) × Makes n (k + 1) (Gives None) ls [])
+        → (at_line at r >>= λ t. value_of_lines false (question_rules n None) (at + 1) t ls) ≡ Ok a → (a ≡ b) × Makes n k (Gives None) (l ∷ ls) []
     by_line (Err e) f next g = cc
     by_line (Ok u) f next g =
         let (same, blank) = full_line n q u (map word_of (fields l)) full f in
-        rw blank (next (subst (λ t. reading false (question_rules n None) (at + 1) t ls ≡ Ok a) same g))
+        rw blank (next (subst (λ t. value_of_lines false (question_rules n None) (at + 1) t ls ≡ Ok a) same g))
 
 -- a request that goes on, or none yet
 abbrev IsOpen : Option AskedSoFar → Type 0
 IsOpen s = IsErr (question_end s)
 
 -- lines that go on to a file's value make this one request
-file_of : (n at k : ℕ) (s : Option AskedSoFar) (a : Asked) (ls : List (List ℕ)) → IsOpen s → reading false (question_rules n None) at s ls ≡ Ok a → Makes n k (Gives s) ls (Ok a ∷ [])
+file_of : (n at k : ℕ) (s : Option AskedSoFar) (a : Asked) (ls : List (List ℕ)) → IsOpen s → value_of_lines false (question_rules n None) at s ls ≡ Ok a → Makes n k (Gives s) ls (Ok a ∷ [])
 file_of n at k s a [] (e, p) h = let q : at_line at (question_end s) ≡ Ok a = h in let r = ap (at_line at) p in cc
 file_of n at k s a (l ∷ ls) going h = by_state s (λ t o g. file_of n (at + 1) (k + 1) t a ls o g) h
   where
     -- given to the request
-    by_end : (t : Option AskedSoFar) (r : Result Asked ℕ) → question_end t ≡ r → (IsOpen t → Makes n (k + 1) (Gives t) ls (Ok a ∷ [])) → reading false (question_rules n None) (at + 1) t ls ≡ Ok a
+    by_end : (t : Option AskedSoFar) (r : Result Asked ℕ) → question_end t ≡ r → (IsOpen t → Makes n (k + 1) (Gives t) ls (Ok a ∷ [])) → value_of_lines false (question_rules n None) (at + 1) t ls ≡ Ok a
         → (map (at_line k) (whole_or_on t r).ended ++ requests_of true n (k + 1) (whole_or_on t r).next ls ≡ Ok a ∷ []) × (state_after_lines n (whole_or_on t r).next ls ≡ Gives None)
     by_end t (Err e) f next g = next (e, f)
     by_end t (Ok b) f next g =
         let (q, is, full) = full_end t b f in
-        let (same, made) = rest_of_file n (at + 1) (k + 1) q a b ls full (subst (λ x. question_end x ≡ Ok b) is f) (subst (λ x. reading false (question_rules n None) (at + 1) x ls ≡ Ok a) is g) in
+        let (same, made) = rest_of_file n (at + 1) (k + 1) q a b ls full (subst (λ x. question_end x ≡ Ok b) is f) (subst (λ x. value_of_lines false (question_rules n None) (at + 1) x ls ≡ Ok a) is g) in
         rw (same, made.0) (refl, made.1)
 
-    by_line : (t : Option AskedSoFar) (r : Result (Option AskedSoFar) ℕ) → ((u : Option AskedSoFar) → IsOpen u → reading false (question_rules n None) (at + 1) u ls ≡ Ok a → Makes n (k + 1) (Gives u) ls (Ok a ∷ []))
-        → (at_line at r >>= λ u. reading false (question_rules n None) (at + 1) u ls) ≡ Ok a
+    by_line : (t : Option AskedSoFar) (r : Result (Option AskedSoFar) ℕ) → ((u : Option AskedSoFar) → IsOpen u → value_of_lines false (question_rules n None) (at + 1) u ls ≡ Ok a → Makes n (k + 1) (Gives u) ls (Ok a ∷ []))
+        → (at_line at r >>= λ u. value_of_lines false (question_rules n None) (at + 1) u ls) ≡ Ok a
         → (map (at_line k) (given r).ended ++ requests_of true n (k + 1) (given r).next ls ≡ Ok a ∷ []) × (state_after_lines n (given r).next ls ≡ Gives None)
     by_line t (Err e) next g = cc
     by_line t (Ok u) next g = by_end u (question_end u) refl (λ o. next u o g) g
 
-    by_test : (q : AskedSoFar) (b : Bool) → begins_request (fields l) ≡ b → ((u : Option AskedSoFar) → IsOpen u → reading false (question_rules n None) (at + 1) u ls ≡ Ok a → Makes n (k + 1) (Gives u) ls (Ok a ∷ []))
-        → (at_line at (question_line n None (Some q) (map word_of (fields l))) >>= λ u. reading false (question_rules n None) (at + 1) u ls) ≡ Ok a → Makes n k (Gives (Some q)) (l ∷ ls) (Ok a ∷ [])
+    by_test : (q : AskedSoFar) (b : Bool) → begins_request (fields l) ≡ b → ((u : Option AskedSoFar) → IsOpen u → value_of_lines false (question_rules n None) (at + 1) u ls ≡ Ok a → Makes n (k + 1) (Gives u) ls (Ok a ∷ []))
+        → (at_line at (question_line n None (Some q) (map word_of (fields l))) >>= λ u. value_of_lines false (question_rules n None) (at + 1) u ls) ≡ Ok a → Makes n k (Gives (Some q)) (l ∷ ls) (Ok a ∷ [])
     by_test q true e next g =
         let twice = second_problem n q (fields l) e in
         let g' = rw twice at g in cc
     by_test q false e next g = rw e (by_line (Some q) (question_line n None (Some q) (map word_of (fields l))) next g)
 
-    by_state : (t : Option AskedSoFar) → ((u : Option AskedSoFar) → IsOpen u → reading false (question_rules n None) (at + 1) u ls ≡ Ok a → Makes n (k + 1) (Gives u) ls (Ok a ∷ []))
-        → (at_line at (question_line n None t (map word_of (fields l))) >>= λ u. reading false (question_rules n None) (at + 1) u ls) ≡ Ok a → Makes n k (Gives t) (l ∷ ls) (Ok a ∷ [])
+    by_state : (t : Option AskedSoFar) → ((u : Option AskedSoFar) → IsOpen u → value_of_lines false (question_rules n None) (at + 1) u ls ≡ Ok a → Makes n (k + 1) (Gives u) ls (Ok a ∷ []))
+        → (at_line at (question_line n None t (map word_of (fields l))) >>= λ u. value_of_lines false (question_rules n None) (at + 1) u ls) ≡ Ok a → Makes n k (Gives t) (l ∷ ls) (Ok a ∷ [])
     by_state None next g = by_line None (question_line n None None (map word_of (fields l))) next g
     by_state (Some q) next g = by_test q (begins_request (fields l)) refl next g
 
 -- a text that is cut short has no value
-never_cut : {S V : Type 0} (rules : Rules S V) (at : ℕ) (s : S) (ls : List (List ℕ)) (v : V) → reading true rules at s ls ≡ Ok v → ⊥
+never_cut : {S V : Type 0} (rules : Rules S V) (at : ℕ) (s : S) (ls : List (List ℕ)) (v : V) → value_of_lines true rules at s ls ≡ Ok v → ⊥
 never_cut rules at s [] v h = cc
 never_cut {S = S} {V = V} rules at s (l ∷ ls) v h = by_line (rules.line s (fields l)) (λ t g. never_cut rules (at + 1) t ls v g) h
   where
-    by_line : (r : Result S ℕ) → ((t : S) → reading true rules (at + 1) t ls ≡ Ok v → ⊥) → (at_line at r >>= λ t. reading true rules (at + 1) t ls) ≡ Ok v → ⊥
+    by_line : (r : Result S ℕ) → ((t : S) → value_of_lines true rules (at + 1) t ls ≡ Ok v → ⊥) → (at_line at r >>= λ t. value_of_lines true rules (at + 1) t ls) ≡ Ok v → ⊥
     by_line (Ok t) next g = next t g
     by_line (Err e) next g = cc
 
-value_of_file : (n : ℕ) (file : List ℕ) (a : Asked) → text_read (question_rules n None) file ≡ Ok a → reading false (question_rules n None) 1 None (lines false file) ≡ Ok a
+value_of_file : (n : ℕ) (file : List ℕ) (a : Asked) → text_read (question_rules n None) file ≡ Ok a → value_of_lines false (question_rules n None) 1 None (lines false file) ≡ Ok a
 value_of_file n file a h = by_length (nat_lt 4294967296 (length file)) h
   where
-    by_length : (b : Bool) → cond b (reading true (question_rules n None) 1 None (lines true (take 4294967296 file))) (reading false (question_rules n None) 1 None (lines false file)) ≡ Ok a
-        → reading false (question_rules n None) 1 None (lines false file) ≡ Ok a
+    by_length : (b : Bool) → cond b (value_of_lines true (question_rules n None) 1 None (lines true (take 4294967296 file))) (value_of_lines false (question_rules n None) 1 None (lines false file)) ≡ Ok a
+        → value_of_lines false (question_rules n None) 1 None (lines false file) ≡ Ok a
     by_length true g = absurd (never_cut (question_rules n None) 1 None _ a g)
     by_length false g = g
 
-lines_closed : (front : List ℕ) → lines false (front ++ 10 ∷ []) ≡ lines true (front ++ 10 ∷ [])
-lines_closed front = ap (lines false) (sym (append-nil (front ++ 10 ∷ []))) ∙ line_closed false front [] ∙ ap (λ ls. lines true (front ++ 10 ∷ []) ++ ls) lines_none ∙ append-nil _
+lines_closed : (prefix : List ℕ) → lines false (prefix ++ 10 ∷ []) ≡ lines true (prefix ++ 10 ∷ [])
+lines_closed prefix = ap (lines false) (sym (append-nil (prefix ++ 10 ∷ []))) ∙ line_closed false prefix [] ∙ ap (λ ls. lines true (prefix ++ 10 ∷ []) ++ ls) lines_none ∙ append-nil _
 
 -- a file that ends at a line's end, from whatever line on
 file_makes : (n at : ℕ) (file : List ℕ) (a : Asked) → IsFileOf n file a → Makes n at (Gives None) (lines true file) (Ok a ∷ [])
 file_makes n at file a h =
     let same : lines false file ≡ lines true file = subst (λ x. lines false x ≡ lines true x) (sym h.ends) (lines_closed h.prefix) in
-    file_of n 1 at None a (lines true file) (10, refl) (subst (λ ls. reading false (question_rules n None) 1 None ls ≡ Ok a) same (value_of_file n file a h.asks))
+    file_of n 1 at None a (lines true file) (10, refl) (subst (λ ls. value_of_lines false (question_rules n None) 1 None ls ≡ Ok a) same (value_of_file n file a h.asks))
 
 file_before : (cut : Bool) (n : ℕ) (file : List ℕ) (a : Asked) (more : List ℕ) → IsFileOf n file a → lines cut (file ++ more) ≡ lines true file ++ lines cut more
 file_before cut n file a more h = subst (λ x. lines cut (x ++ more) ≡ lines true x ++ lines cut more) (sym h.ends) (line_closed cut h.prefix more)

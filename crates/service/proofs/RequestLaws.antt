@@ -46,20 +46,20 @@ requests_go_on cut n at state (l ∷ ls) more =
     ap (λ rs. map (at_line at) step.ended ++ rs) (requests_go_on cut n (at + 1) step.next ls more ∙ ap (λ k. requests_of true n (at + 1) step.next ls ++ requests_of cut n k (state_after_lines n step.next ls) more) (omega arith))
     ∙ sym (append_assoc (map (at_line at) step.ended) _ _)
 
-pub front_first : (cut : Bool) (n : ℕ) (bytes more : List ℕ) → (later : List Request) × (requests cut n (bytes ++ more) ≡ requests true n bytes ++ later)
-front_first cut n bytes more =
+pub prefix_first : (cut : Bool) (n : ℕ) (bytes more : List ℕ) → (later : List Request) × (requests cut n (bytes ++ more) ≡ requests true n bytes ++ later)
+prefix_first cut n bytes more =
     let (tail, _, e) = lines_go_on bytes in (
       requests_of cut n (1 + length (lines true bytes)) (state_after_lines n (Gives None) (lines true bytes)) (lines cut (tail ++ more)),
       ap (requests_of cut n 1 (Gives None)) (e cut more) ∙ requests_go_on cut n 1 (Gives None) (lines true bytes) (lines cut (tail ++ more)),
     )
 
 -- bytes after an LF are lines of their own
-pub line_closed : (cut : Bool) (front more : List ℕ) → lines cut ((front ++ 10 ∷ []) ++ more) ≡ lines true (front ++ 10 ∷ []) ++ lines cut more
-line_closed cut front more =
-    let (tail, within, e) = lines_go_on front in
-    ap (lines cut) (append_assoc front (10 ∷ []) more) ∙ e cut (10 ∷ more) ∙ ap (λ ls. lines true front ++ ls) (lines_first cut tail more within)
-    ∙ sym (append_assoc (lines true front) (strip_carriage_return tail ∷ []) (lines cut more))
-    ∙ ap (λ ls. ls ++ lines cut more) (sym (e true (10 ∷ []) ∙ ap (λ ls. lines true front ++ ls) (lines_first true tail [] within ∙ ap (λ ls. strip_carriage_return tail ∷ ls) (lines_cut [] none_yet))))
+pub line_closed : (cut : Bool) (prefix more : List ℕ) → lines cut ((prefix ++ 10 ∷ []) ++ more) ≡ lines true (prefix ++ 10 ∷ []) ++ lines cut more
+line_closed cut prefix more =
+    let (tail, within, e) = lines_go_on prefix in
+    ap (lines cut) (append_assoc prefix (10 ∷ []) more) ∙ e cut (10 ∷ more) ∙ ap (λ ls. lines true prefix ++ ls) (lines_first cut tail more within)
+    ∙ sym (append_assoc (lines true prefix) (strip_carriage_return tail ∷ []) (lines cut more))
+    ∙ ap (λ ls. ls ++ lines cut more) (sym (e true (10 ∷ []) ∙ ap (λ ls. lines true prefix ++ ls) (lines_first true tail [] within ∙ ap (λ ls. strip_carriage_return tail ∷ ls) (lines_cut [] none_yet))))
 
 first_all : {A : Type 0} (P : A → Type 0) (xs ys : List A) → AllByRecursion P (xs ++ ys) → AllByRecursion P xs × AllByRecursion P ys
 first_all P [] ys h = (tt, h)

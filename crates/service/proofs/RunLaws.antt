@@ -5,7 +5,7 @@ use Rattle.std.proofs.lemmas.Bool.{eqb-true}
 use Rattle.std.specs.Io.KnownBytes.{IsAtEnd}
 use Rattle.road_text.specs.declared.faults.ReadFault.{ReadFault}
 use Rattle.road_text.specs.Rules.{text_read}
-use Rattle.road_graph.specs.Roads.{Roads}
+use Rattle.road_graph.specs.GraphData.{GraphData}
 use Rattle.road_files.specs.GraphFiles.{gr_rules}
 use Rattle.path_algebra.specs.Algebra.{Algebra}
 use Rattle.batch_run.specs.declared.faults.File.TheVariants.{Graph, Questions, NoFile}
@@ -53,7 +53,7 @@ graph_or_none : Graph ≡ NoFile → ⊥
 graph_or_none e = cc
 
 module _ {V G Q W : Type 0} (A : Algebra V) (how : Settings) (gate : ℕ → ℕ → Bool → Type 0) (graph graph_after : Input G) (input input_after : Input Q) (out out_after : Output W)
-    (inside : AreInRange how) (g : Roads) (read : IsReadAs gr_rules graph.left g) (sound : graph_after.failures ≡ graph.failures) (end : IsAtEnd graph_after.left) (asked : graph_after.asked ≤ graph.asked + 4294967297) where
+    (inside : AreInRange how) (g : GraphData) (read : IsReadAs gr_rules graph.left g) (sound : graph_after.failures ≡ graph.failures) (end : IsAtEnd graph_after.left) (asked : graph_after.asked ≤ graph.asked + 4294967297) where
   -- the input of requests stopped it: by a read that failed, and by nothing else it has this number
   pub stopped : (number : ℕ) → ((number ≡ 1) ⊎ (number ≡ 2)) → ServedPrefix (MayAnswer A how gate g) g.vertices input.left out.written out_after.written out.failures out_after.failures
       → (number ≡ 1) ↔ (input_after.failures ≢ input.failures) → RanService A how gate graph graph_after input input_after out out_after (Err (record { number = number; file = Questions; line = 0 }))

@@ -5,12 +5,12 @@ use Rattle.std.proofs.KnownBytes.{Consumes-nil, Consumes-trans, Consumes-whole, 
 use Rattle.road_files.specs.Asked.{Asked}
 use Rattle.road_files.specs.ServiceText.{Request}
 use Rattle.service.specs.declared.service.Service.{Service}
-use Rattle.service.specs.Fed.{HasTaken, HasRequests, MakesWhole, BeginsWith, Fed, FedPart, FedLong, Finished, FinishedPart, HasServed, Served, ServedPrefix, ServedPart, Replied, FellIn}
+use Rattle.service.specs.Fed.{WasFed, HasRequests, MakesWhole, BeginsWith, Fed, FedPart, FedLong, Finished, FinishedPart, HasServed, Served, ServedPrefix, ServedPart, Replied, FellIn}
 use Rattle.service.proofs.FedLaws.{replied_none, replied_then}
 use Rattle.service.proofs.ServiceLaws.{Done, Failed}
 use Rattle.road_text.specs.Lines.{lines}
 use Rattle.road_text.proofs.TextLaws.{lines_cut}
-use Rattle.road_files.specs.RequestTakes.{state_of}
+use Rattle.road_files.specs.RequestTakes.{parser_state}
 use Rattle.road_files.specs.ServiceText.{Gives, LinesMay}
 
 kept_first : (a b c : Option (List ℕ)) (x : List ℕ) → Keeps a b → Appends b c x → Appends a c x
@@ -20,7 +20,7 @@ kept_first (Some a) (Some b) None x k p = absurd p
 kept_first (Some a) (Some b) (Some c) x k p = p ∙ ap (λ y. y ++ x) k
 
 module _ (answers : Asked → List ℕ → Type 0) where
-  pub served_none : (s : Service) (left old : Option (List ℕ)) (b : ℕ) → HasTaken s [] [] → HasServed answers s left left old old b b
+  pub served_none : (s : Service) (left old : Option (List ℕ)) (b : ℕ) → WasFed s [] [] → HasServed answers s left left old old b b
   served_none s left old b h = ([], [], Consumes-nil left, h, replied_none answers old b)
 
   pub served_more : (s t : Service) (piece : List ℕ) (left mid now old was new : Option (List ℕ)) (b m a : ℕ) → HasServed answers s left mid old was b m → Consumes mid now piece → Fed answers s t piece was new m a → HasServed answers t left now old new b a
@@ -56,9 +56,9 @@ module _ (answers : Asked → List ℕ → Type 0) where
   begins_less None text more h = tt
   begins_less (Some all) text more (rest, h) = (more ++ rest, h ∙ append_assoc text more rest)
 
-  begins_part : (left mid now : Option (List ℕ)) (fed piece front rest : List ℕ) → Consumes left mid fed → Consumes mid now piece → piece ≡ front ++ rest → BeginsWith left (fed ++ front)
-  begins_part left mid now fed piece front rest g h e =
-      begins_less left (fed ++ front) rest (subst (BeginsWith left) (ap (λ x. fed ++ x) e ∙ sym (append_assoc fed front rest)) (begins left now (fed ++ piece) (Consumes-trans left mid now fed piece g h)))
+  begins_part : (left mid now : Option (List ℕ)) (fed piece prefix rest : List ℕ) → Consumes left mid fed → Consumes mid now piece → piece ≡ prefix ++ rest → BeginsWith left (fed ++ prefix)
+  begins_part left mid now fed piece prefix rest g h e =
+      begins_less left (fed ++ prefix) rest (subst (BeginsWith left) (ap (λ x. fed ++ x) e ∙ sym (append_assoc fed prefix rest)) (begins left now (fed ++ piece) (Consumes-trans left mid now fed piece g h)))
 
   replied_kept : (rs : List Request) (first old new : Option (List ℕ)) (z b a : ℕ) → Keeps first old → b ≡ z → Replied answers rs old new b a → Replied answers rs first new z a
   replied_kept rs first old new z b a kept sound r = record { texts = r.texts; right = r.right; bytes = kept_first first old new _ kept r.bytes; sound = r.sound ∙ sound }
@@ -70,12 +70,12 @@ module _ (answers : Asked → List ℕ → Type 0) where
     requests_are = r.requests_are;
     texts = r.texts;
     right = r.right;
-    wrote = record { front = r.wrote.front; rest = r.wrote.rest; text_is = r.wrote.text_is; bytes = kept_first first old new r.wrote.front kept r.wrote.bytes; failed = r.wrote.failed ∙ ap (λ k. k + 1) sound };
+    wrote = record { prefix = r.wrote.prefix; rest = r.wrote.rest; text_is = r.wrote.text_is; bytes = kept_first first old new r.wrote.prefix kept r.wrote.bytes; failed = r.wrote.failed ∙ ap (λ k. k + 1) sound };
   }
 
   module _ (s : Service) (n : ℕ) (left mid now first old was new : Option (List ℕ)) (z b m a : ℕ) (same : s.cutter.taker.questions.list.vertices ≡ n) (served : HasServed answers s left mid old was b m) (kept : Keeps first old) (sound : b ≡ z) where
-    whole : (fed : List ℕ) (rs : List Request) (t : Service) → t.cutter.taker.questions.list.vertices ≡ n → HasTaken t fed rs → MakesWhole n fed rs
-    whole fed rs t e h = (state_of t.cutter.taker, subst (λ k. LinesMay k 1 (Gives None) (lines true fed) rs (state_of t.cutter.taker)) e h.made)
+    whole : (fed : List ℕ) (rs : List Request) (t : Service) → t.cutter.taker.questions.list.vertices ≡ n → WasFed t fed rs → MakesWhole n fed rs
+    whole fed rs t e h = (parser_state t.cutter.taker, subst (λ k. LinesMay k 1 (Gives None) (lines true fed) rs (parser_state t.cutter.taker)) e h.made)
 
     -- a read failed
     pub read_failed : ServedPrefix answers n left first was z m
@@ -85,11 +85,11 @@ module _ (answers : Asked → List ℕ → Type 0) where
     pub feed_fell : (t : Service) (piece : List ℕ) → t.cutter.taker.questions.list.vertices ≡ n → Consumes mid now piece → FedPart answers s t piece was new m a → ServedPart answers n left first new z a
     feed_fell t piece e here f =
         let (fed, rs, gone, taken, replied) = served in
-        let (front, rest, more, is, further, fell) = f fed rs taken in (
-          fed ++ front,
+        let (prefix, rest, more, is, further, fell) = f fed rs taken in (
+          fed ++ prefix,
           rs ++ more,
-          begins_part left mid now fed piece front rest gone here is,
-          inl (whole (fed ++ front) (rs ++ more) t e further),
+          begins_part left mid now fed piece prefix rest gone here is,
+          inl (whole (fed ++ prefix) (rs ++ more) t e further),
           fell_kept (rs ++ more) first old new z b a kept sound (replied_then answers rs more old was new b m a Failed replied fell),
         )
 
@@ -97,11 +97,11 @@ module _ (answers : Asked → List ℕ → Type 0) where
     pub feed_long : (t : Service) (piece : List ℕ) → t.cutter.taker.questions.list.vertices ≡ n → Consumes mid now piece → FedLong answers s t piece was new m a → ServedPrefix answers n left first new z a
     feed_long t piece e here f =
         let (fed, rs, gone, taken, replied) = served in
-        let (front, rest, more, is, some, further, full, after) = f fed rs taken in (
-          fed ++ front,
+        let (prefix, rest, more, is, some, further, full, after) = f fed rs taken in (
+          fed ++ prefix,
           rs ++ more,
-          begins_part left mid now fed piece front rest gone here is,
-          whole (fed ++ front) (rs ++ more) t e further,
+          begins_part left mid now fed piece prefix rest gone here is,
+          whole (fed ++ prefix) (rs ++ more) t e further,
           replied_kept (rs ++ more) first old new z b a kept sound (replied_then answers rs more old was new b m a Done replied after),
         )
 
@@ -125,6 +125,6 @@ module _ (answers : Asked → List ℕ → Type 0) where
       requests_are = refl;
       texts = [];
       right = tt;
-      wrote = record { front = []; rest = []; text_is = refl; bytes = kept_first first new new [] kept (Appends-nil new); failed = failed };
+      wrote = record { prefix = []; rest = []; text_is = refl; bytes = kept_first first new new [] kept (Appends-nil new); failed = failed };
     },
   )

@@ -8,10 +8,10 @@ use Rattle.road_text.specs.Rules.{at_line}
 use Rattle.road_text.proofs.TextLaws.{lines_first, lines_cut}
 use Rattle.road_files.specs.Asked.{Asked}
 use Rattle.road_files.specs.declared.request_parser.LineDone.{LineDone}
-use Rattle.road_files.specs.RequestTakes.{state_of, RequestSoFar, ended_of, ended_list}
+use Rattle.road_files.specs.RequestTakes.{parser_state, RequestSoFar, ended_of, ended_list}
 use Rattle.road_files.specs.ServiceText.{Request, ServiceState, Gives, Step, LineMay, LinesMay}
 use Rattle.service.specs.declared.service.Service.{Service}
-use Rattle.service.specs.Fed.{held_line, HasTaken, IsOpen, goes_on, counts_anew, LinesGoOn, LineEnded, Fed, FedPart, FedLong, RepliedOrFell}
+use Rattle.service.specs.Fed.{held_line, WasFed, IsUnfinished, goes_on, counts_anew, LinesGoOn, LineEnded, Fed, FedPart, FedLong, RepliedOrFell}
 use Rattle.service.proofs.FedLaws.{replied_none, replied_then}
 
 not_late : {A : Type 0} (b : Bool) (x y : A) → not b ≡ false → cond b x y ≡ x
@@ -31,7 +31,7 @@ lines_may_then n at s m t (l ∷ ls) ms rs qs (step, more, may, is, rest) h =
     (step, more ++ qs, may, ap (λ x. x ++ qs) is ∙ append_assoc (map (at_line at) step.ended) more qs, lines_may_then n (at + 1) step.next m t ls ms more qs rest (subst (λ k. LinesMay n k m ms qs t) same h))
 
 -- no byte was taken
-pub fresh : (s : Service) → state_of s.cutter.taker ≡ Gives None → s.line ≡ 1 → s.count ≡ 0 → IsPresent RequestSoFar s.cutter [] → HasTaken s [] []
+pub fresh : (s : Service) → parser_state s.cutter.taker ≡ Gives None → s.line ≡ 1 → s.count ≡ 0 → IsPresent RequestSoFar s.cutter [] → WasFed s [] []
 fresh s state line count held = record {
   made = rw (lines_cut [] (λ k d h. absurd (omega arith))) (refl, state);
   line = rw (lines_cut [] (λ k d h. absurd (omega arith))) line;
@@ -52,7 +52,7 @@ fresh s state line count held = record {
 }
 
 -- what bytes add to the lines of the text, they add to those of a request that goes on
-own_lines : (n : ℕ) (fed bytes : List ℕ) (rs : List Request) (state : ServiceState) (own : List ℕ) (o : IsOpen n fed rs state own) (ls : List (List ℕ)) → lines true (fed ++ bytes) ≡ lines true fed ++ ls → lines true (own ++ bytes) ≡ lines true own ++ ls
+own_lines : (n : ℕ) (fed bytes : List ℕ) (rs : List Request) (state : ServiceState) (own : List ℕ) (o : IsUnfinished n fed rs state own) (ls : List (List ℕ)) → lines true (fed ++ bytes) ≡ lines true fed ++ ls → lines true (own ++ bytes) ≡ lines true own ++ ls
 own_lines n fed bytes rs state own o ls e = append_cancel_left (lines true o.before) (lines true (own ++ bytes)) (lines true own ++ ls)
     (sym (o.closed true (own ++ bytes)) ∙ ap (lines true) (sym (append_assoc o.before own bytes) ∙ ap (λ x. x ++ bytes) (sym o.fed_is)) ∙ e ∙ ap (λ x. x ++ ls) (ap (lines true) o.fed_is ∙ o.closed true own) ∙ append_assoc (lines true o.before) (lines true own) ls)
 
@@ -70,10 +70,10 @@ goes_further [] next h = (refl, going (goes_on next) h)
 goes_further (e ∷ es) next h = cc
 
 -- after a line
-open_after : (n at : ℕ) (fed bytes : List ℕ) (rs : List Request) (old : ServiceState) (own : List ℕ) (o : IsOpen n fed rs old own) (fed_made : LinesMay n 1 (Gives None) (lines true fed) rs old) (l : List ℕ) (step : Step) (c d : ℕ) → lines true (fed ++ bytes) ≡ lines true fed ++ l ∷ []
+open_after : (n at : ℕ) (fed bytes : List ℕ) (rs : List Request) (old : ServiceState) (own : List ℕ) (o : IsUnfinished n fed rs old own) (fed_made : LinesMay n 1 (Gives None) (lines true fed) rs old) (l : List ℕ) (step : Step) (c d : ℕ) → lines true (fed ++ bytes) ≡ lines true fed ++ l ∷ []
     → ((cut : Bool) (more : List ℕ) → lines cut ((fed ++ bytes) ++ more) ≡ lines true (fed ++ bytes) ++ lines cut more) → LineMay n old (fields l) step
     → LinesMay n 1 (Gives None) (lines true (fed ++ bytes)) (rs ++ map (at_line at) step.ended) step.next → c ≡ length (own ++ bytes) → (b : Bool) → counts_anew step.ended step.next ≡ b → d ≡ cond b 0 c
-    → (now : List ℕ) × IsOpen n (fed ++ bytes) (rs ++ map (at_line at) step.ended) step.next now × (d ≡ length now)
+    → (now : List ℕ) × IsUnfinished n (fed ++ bytes) (rs ++ map (at_line at) step.ended) step.next now × (d ≡ length now)
 open_after n at fed bytes rs old own o fed_made l step c d all closed may made is true anew count = (
   [],
   record {
@@ -103,9 +103,9 @@ open_after n at fed bytes rs old own o fed_made l step c d all closed may made i
       count ∙ is,
     )
 
-module _ (t u : Service) (same : u.cutter.taker.questions.list.vertices ≡ t.cutter.taker.questions.list.vertices) (state : state_of u.cutter.taker ≡ state_of t.cutter.taker) (line : u.line ≡ t.line) where
+module _ (t u : Service) (same : u.cutter.taker.questions.list.vertices ≡ t.cutter.taker.questions.list.vertices) (state : parser_state u.cutter.taker ≡ parser_state t.cutter.taker) (line : u.line ≡ t.line) where
   -- bytes that go on with the line
-  pub taken_stay : (fed bytes : List ℕ) (rs : List Request) (n : ℕ) → HasTaken t fed rs → StaysInLine RequestSoFar t.cutter u.cutter bytes n → u.count ≡ t.count + length bytes → HasTaken u (fed ++ bytes) rs
+  pub taken_stay : (fed bytes : List ℕ) (rs : List Request) (n : ℕ) → WasFed t fed rs → StaysInLine RequestSoFar t.cutter u.cutter bytes n → u.count ≡ t.count + length bytes → WasFed u (fed ++ bytes) rs
   taken_stay fed bytes rs n h stay counted =
       let held : IsPresent RequestSoFar u.cutter (h.present ++ bytes) = stay.present h.present h.held in
       let none : lines true (fed ++ bytes) ≡ lines true fed = h.ends true bytes ∙ ap (λ ls. lines true fed ++ ls) (lines_cut (h.present ++ bytes) held.whole) ∙ append-nil (lines true fed) in
@@ -120,7 +120,7 @@ module _ (t u : Service) (same : u.cutter.taker.questions.list.vertices ≡ t.cu
           from = h.is_open.from;
           begins = rw same h.is_open.begins;
           made = rw same h.is_open.made;
-          goes = rw (same, own_lines t.cutter.taker.questions.list.vertices fed bytes rs (state_of t.cutter.taker) h.own h.is_open [] (none ∙ sym (append-nil (lines true fed))) ∙ append-nil (lines true h.own), state) h.is_open.goes;
+          goes = rw (same, own_lines t.cutter.taker.questions.list.vertices fed bytes rs (parser_state t.cutter.taker) h.own h.is_open [] (none ∙ sym (append-nil (lines true fed))) ∙ append-nil (lines true h.own), state) h.is_open.goes;
         };
         count = counted ∙ omega (arith, h.count, length-append h.own bytes);
         present = h.present ++ bytes;
@@ -129,12 +129,12 @@ module _ (t u : Service) (same : u.cutter.taker.questions.list.vertices ≡ t.cu
       }
 
 module _ (answers : Asked → List ℕ → Type 0) (t v u : Service) (old new : Option (List ℕ)) (b a : ℕ)
-    (same : v.cutter.taker.questions.list.vertices ≡ t.cutter.taker.questions.list.vertices) (state : state_of v.cutter.taker ≡ state_of t.cutter.taker) (line : v.line ≡ t.line)
+    (same : v.cutter.taker.questions.list.vertices ≡ t.cutter.taker.questions.list.vertices) (state : parser_state v.cutter.taker ≡ parser_state t.cutter.taker) (line : v.line ≡ t.line)
     (same_after : u.cutter.taker.questions.list.vertices ≡ v.cutter.taker.questions.list.vertices) (line_after : u.line ≡ min (v.line + 1) 18446744073709551615) (ready : IsPresent RequestSoFar u.cutter []) where
   -- bytes that end the line
-  pub taken_line : {A E : Type 0} (res : Result A E) (fed bytes : List ℕ) (rs : List Request) → v.count ≡ t.count + length bytes → HasTaken t fed rs → EndsLine RequestSoFar t.cutter v.cutter bytes
+  pub taken_line : {A E : Type 0} (res : Result A E) (fed bytes : List ℕ) (rs : List Request) → v.count ≡ t.count + length bytes → WasFed t fed rs → EndsLine RequestSoFar t.cutter v.cutter bytes
       → ((at : ℕ) (l : List ℕ) → v.line ≡ held_line at → IsLine RequestSoFar v.cutter l → LineEnded answers at l v u old new b a res)
-      → (more : List Request) × HasTaken u (fed ++ bytes) (rs ++ more) × RepliedOrFell answers more old new b a res
+      → (more : List Request) × WasFed u (fed ++ bytes) (rs ++ more) × RepliedOrFell answers more old new b a res
   taken_line res fed bytes rs counted h cut did =
       let at : ℕ = 1 + length (lines true fed) in
       let l : List ℕ = strip_carriage_return (h.present ++ cut.prefix) in
@@ -147,12 +147,12 @@ module _ (answers : Asked → List ℕ → Type 0) (t v u : Service) (old new : 
       h.ends true bytes ∙ ap (λ ls. lines true fed ++ ls) (ap (λ x. lines true (h.present ++ x)) (sym (append-nil bytes)) ∙ first true [] ∙ ap (λ ls. l ∷ ls) none) in
       let count : length (lines true (fed ++ bytes)) ≡ length (lines true fed) + 1 = ap length all ∙ length-append (lines true fed) (l ∷ []) in
       let whole : LinesMay t.cutter.taker.questions.list.vertices 1 (Gives None) (lines true (fed ++ bytes)) (rs ++ more) step.next =
-      rw all (lines_may_then t.cutter.taker.questions.list.vertices 1 (Gives None) (state_of t.cutter.taker) step.next (lines true fed) (l ∷ []) rs more h.made (step, [], rw (same, state) at may, sym (append-nil more), (refl, refl))) in
+      rw all (lines_may_then t.cutter.taker.questions.list.vertices 1 (Gives None) (parser_state t.cutter.taker) step.next (lines true fed) (l ∷ []) rs more h.made (step, [], rw (same, state) at may, sym (append-nil more), (refl, refl))) in
       let closed : (c : Bool) (after : List ℕ) → lines c ((fed ++ bytes) ++ after) ≡ lines true (fed ++ bytes) ++ lines c after =
       λ c after.
       ap (lines c) (append_assoc fed bytes after) ∙ h.ends c (bytes ++ after) ∙ ap (λ ls. lines true fed ++ ls) (first c after)
       ∙ sym (append_assoc (lines true fed) (l ∷ []) (lines c after)) ∙ ap (λ ls. ls ++ lines c after) (sym all) in
-      let behind = open_after t.cutter.taker.questions.list.vertices at fed bytes rs (state_of t.cutter.taker) h.own h.is_open h.made l step v.count u.count all closed (rw (same, state) at may) whole (counted ∙ omega (arith, h.count, length-append h.own bytes)) (counts_anew step.ended step.next) refl counts in (
+      let behind = open_after t.cutter.taker.questions.list.vertices at fed bytes rs (parser_state t.cutter.taker) h.own h.is_open h.made l step v.count u.count all closed (rw (same, state) at may) whole (counted ∙ omega (arith, h.count, length-append h.own bytes)) (counts_anew step.ended step.next) refl counts in (
         more,
         record {
           made = rw (same_after ∙ same, ← next) whole;
@@ -172,16 +172,16 @@ pub fed_none : (answers : Asked → List ℕ → Type 0) (s : Service) (old : Op
 fed_none answers s old b = λ fed rs h. ([], rw (append-nil fed, append-nil rs) h, replied_none answers old b)
 
 pub fed_stay : (answers : Asked → List ℕ → Type 0) (s t u : Service) (whole xs ys : List ℕ) (n : ℕ) (old mid : Option (List ℕ)) (b m : ℕ) → u.cutter.taker.questions.list.vertices ≡ t.cutter.taker.questions.list.vertices
-    → state_of u.cutter.taker ≡ state_of t.cutter.taker → u.line ≡ t.line → u.count ≡ t.count + length ys → whole ≡ xs ++ ys → Fed answers s t xs old mid b m → StaysInLine RequestSoFar t.cutter u.cutter ys n → Fed answers s u whole old mid b m
+    → parser_state u.cutter.taker ≡ parser_state t.cutter.taker → u.line ≡ t.line → u.count ≡ t.count + length ys → whole ≡ xs ++ ys → Fed answers s t xs old mid b m → StaysInLine RequestSoFar t.cutter u.cutter ys n → Fed answers s u whole old mid b m
 fed_stay answers s t u whole xs ys n old mid b m same state line counted e f stay = λ fed rs h.
     let (more, taken, replied) = f fed rs h in
-    (more, subst (λ (x : List ℕ). HasTaken u x (rs ++ more)) (append_assoc fed xs ys ∙ ap (λ x. fed ++ x) (sym e)) (taken_stay t u same state line (fed ++ xs) ys (rs ++ more) n taken stay counted), replied)
+    (more, subst (λ (x : List ℕ). WasFed u x (rs ++ more)) (append_assoc fed xs ys ∙ ap (λ x. fed ++ x) (sym e)) (taken_stay t u same state line (fed ++ xs) ys (rs ++ more) n taken stay counted), replied)
 
 abbrev pub Done : Result (Unit {0}) (Unit {0})
 Done = Ok tt
 
 pub fed_line : (answers : Asked → List ℕ → Type 0) (s t v u : Service) (xs ys : List ℕ) (old mid new : Option (List ℕ)) (b m a : ℕ)
-    → v.cutter.taker.questions.list.vertices ≡ t.cutter.taker.questions.list.vertices → state_of v.cutter.taker ≡ state_of t.cutter.taker → v.line ≡ t.line
+    → v.cutter.taker.questions.list.vertices ≡ t.cutter.taker.questions.list.vertices → parser_state v.cutter.taker ≡ parser_state t.cutter.taker → v.line ≡ t.line
     → u.cutter.taker.questions.list.vertices ≡ v.cutter.taker.questions.list.vertices → u.line ≡ min (v.line + 1) 18446744073709551615 → IsPresent RequestSoFar u.cutter [] → v.count ≡ t.count + length ys
     → Fed answers s t xs old mid b m → EndsLine RequestSoFar t.cutter v.cutter ys
     → ((at : ℕ) (l : List ℕ) → v.line ≡ held_line at → IsLine RequestSoFar v.cutter l → LineEnded answers at l v u mid new m a Done) → Fed answers s u (xs ++ ys) old new b a
@@ -189,7 +189,7 @@ fed_line answers s t v u xs ys old mid new b m a same state line same_after line
     let (more, taken, replied) = f fed rs h in
     let (next, further, after) = taken_line answers t v u mid new m a same state line same_after line_after ready Done (fed ++ xs) ys (rs ++ more) counted taken cut did in (
       more ++ next,
-      subst (λ (x : List ℕ). HasTaken u x (rs ++ (more ++ next))) (append_assoc fed xs ys) (subst (λ (x : List Request). HasTaken u ((fed ++ xs) ++ ys) x) (append_assoc rs more next) further),
+      subst (λ (x : List ℕ). WasFed u x (rs ++ (more ++ next))) (append_assoc fed xs ys) (subst (λ (x : List Request). WasFed u ((fed ++ xs) ++ ys) x) (append_assoc rs more next) further),
       replied_then answers more next old mid new b m a Done replied after,
     )
 
@@ -198,7 +198,7 @@ Failed = Err tt
 
 -- a write fails in the replies to what ends with a line
 pub fed_part : (answers : Asked → List ℕ → Type 0) (s t v u : Service) (all xs ys zs : List ℕ) (old mid new : Option (List ℕ)) (b m a : ℕ)
-    → v.cutter.taker.questions.list.vertices ≡ t.cutter.taker.questions.list.vertices → state_of v.cutter.taker ≡ state_of t.cutter.taker → v.line ≡ t.line
+    → v.cutter.taker.questions.list.vertices ≡ t.cutter.taker.questions.list.vertices → parser_state v.cutter.taker ≡ parser_state t.cutter.taker → v.line ≡ t.line
     → u.cutter.taker.questions.list.vertices ≡ v.cutter.taker.questions.list.vertices → u.line ≡ min (v.line + 1) 18446744073709551615 → IsPresent RequestSoFar u.cutter [] → v.count ≡ t.count + length ys
     → all ≡ (xs ++ ys) ++ zs → Fed answers s t xs old mid b m → EndsLine RequestSoFar t.cutter v.cutter ys
     → ((at : ℕ) (l : List ℕ) → v.line ≡ held_line at → IsLine RequestSoFar v.cutter l → LineEnded answers at l v u mid new m a Failed) → FedPart answers s u all old new b a
@@ -209,7 +209,7 @@ fed_part answers s t v u all xs ys zs old mid new b m a same state line same_aft
       zs,
       more ++ next,
       is,
-      subst (λ (x : List ℕ). HasTaken u x (rs ++ (more ++ next))) (append_assoc fed xs ys) (subst (λ (x : List Request). HasTaken u ((fed ++ xs) ++ ys) x) (append_assoc rs more next) further),
+      subst (λ (x : List ℕ). WasFed u x (rs ++ (more ++ next))) (append_assoc fed xs ys) (subst (λ (x : List Request). WasFed u ((fed ++ xs) ++ ys) x) (append_assoc rs more next) further),
       replied_then answers more next old mid new b m a Failed replied after,
     )
 

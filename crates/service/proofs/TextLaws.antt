@@ -3,20 +3,20 @@ use Rattle.std.proofs.Common.{◌≡◌, ℕ, ◌+◌, Bool, true, false, not, n
 use Rattle.std.specs.Bool.{⊤}
 use Rattle.std.specs.List.{AllByRecursion}
 use Rattle.road_text.specs.Lines.{lines, fields}
-use Rattle.road_text.specs.Rules.{Rules, at_line, fault_at, reading, state_after, unless, ◌>>=◌}
+use Rattle.road_text.specs.Rules.{Rules, at_line, fault_at, value_of_lines, state_after, unless, ◌>>=◌}
 use Rattle.road_files.specs.Asked.{Asked}
 use Rattle.road_files.specs.QuestionFiles.{AskedSoFar, question_rules, question_end}
 use Rattle.road_files.specs.ServiceText.{Request, requests, requests_of, ServiceState, Gives, Passes, Step, service_line, begins_request, given, whole_or_on}
 use Rattle.service.specs.RequestTexts.{IsTextIn}
 
 -- reading goes on after lines that break no rule
-reading_on : {S V : Type 0} (rules : Rules S V) (at : ℕ) (s t : S) (ls more : List (List ℕ)) → state_after rules s ls ≡ Ok t → reading false rules at s (ls ++ more) ≡ reading false rules (at + length ls) t more
+reading_on : {S V : Type 0} (rules : Rules S V) (at : ℕ) (s t : S) (ls more : List (List ℕ)) → state_after rules s ls ≡ Ok t → value_of_lines false rules at s (ls ++ more) ≡ value_of_lines false rules (at + length ls) t more
 reading_on rules at s t [] more h =
-    let same : s ≡ t = cc in rw same (ap (λ k. reading false rules k t more) (omega arith))
-reading_on {S = S} rules at s t (l ∷ ls) more h = by_line (rules.line s (fields l)) (λ u g. reading_on rules (at + 1) u t ls more g ∙ ap (λ k. reading false rules k t more) (omega arith)) h
+    let same : s ≡ t = cc in rw same (ap (λ k. value_of_lines false rules k t more) (omega arith))
+reading_on {S = S} rules at s t (l ∷ ls) more h = by_line (rules.line s (fields l)) (λ u g. reading_on rules (at + 1) u t ls more g ∙ ap (λ k. value_of_lines false rules k t more) (omega arith)) h
   where
-    by_line : (r : Result S ℕ) → ((u : S) → state_after rules u ls ≡ Ok t → reading false rules (at + 1) u (ls ++ more) ≡ reading false rules (at + length (l ∷ ls)) t more)
-        → (r >>= λ u. state_after rules u ls) ≡ Ok t → (at_line at r >>= λ u. reading false rules (at + 1) u (ls ++ more)) ≡ reading false rules (at + length (l ∷ ls)) t more
+    by_line : (r : Result S ℕ) → ((u : S) → state_after rules u ls ≡ Ok t → value_of_lines false rules (at + 1) u (ls ++ more) ≡ value_of_lines false rules (at + length (l ∷ ls)) t more)
+        → (r >>= λ u. state_after rules u ls) ≡ Ok t → (at_line at r >>= λ u. value_of_lines false rules (at + 1) u (ls ++ more)) ≡ value_of_lines false rules (at + length (l ∷ ls)) t more
     by_line (Ok u) next g = next u g
     by_line (Err e) next g = cc
 
@@ -80,13 +80,13 @@ module _ (n start : ℕ) (all : List (List ℕ)) where
   begins_at at ls h = record { before = h.before; own = []; lines_are = h.lines_are; place = omega (arith, h.place); taken = refl; goes = tt }
 
   -- what the lines so far read with this one, and at an end before it
-  read_with : (at : ℕ) (s : Option AskedSoFar) (more ls : List (List ℕ)) (h : Given at s (more ++ ls)) (r : Request) → reading false (question_rules n None) at s more ≡ r → IsTextIn n start all r
+  read_with : (at : ℕ) (s : Option AskedSoFar) (more ls : List (List ℕ)) (h : Given at s (more ++ ls)) (r : Request) → value_of_lines false (question_rules n None) at s more ≡ r → IsTextIn n start all r
   read_with at s more ls h r g = record {
     before = h.before;
     own = h.own ++ more;
     after = ls;
     lines_are = h.lines_are ∙ ap (λ x. h.before ++ x) (sym (append_assoc h.own more ls));
-    read = reading_on (question_rules n None) (start + length h.before) None s h.own more h.taken ∙ ap (λ k. reading false (question_rules n None) k s more) (sym h.place) ∙ g;
+    read = reading_on (question_rules n None) (start + length h.before) None s h.own more h.taken ∙ ap (λ k. value_of_lines false (question_rules n None) k s more) (sym h.place) ∙ g;
   }
 
   abbrev Next : Bool → ℕ → List (List ℕ) → Type 0

@@ -1,9 +1,9 @@
 -- Which texts may answer a request: those that a batch writes.
 use Rattle.std.specs.Prelude.{◌≡◌, ℕ, ◌⊎◌, Bool, false, List, ◌++◌, take}
-use Rattle.road_graph.specs.Roads.{Roads}
+use Rattle.road_graph.specs.GraphData.{GraphData}
 use Rattle.road_files.specs.Asked.{Asked}
 use Rattle.path_algebra.specs.Algebra.{Algebra}
-use Rattle.answer_text.specs.Told.{Told, ToldList}
+use Rattle.answer_text.specs.AnswerData.{AnswerData, AnswerList}
 use Rattle.answer_text.specs.IsAnswer.{AreAnswers, IsAnswerList}
 use Rattle.answer_text.specs.AnswerText.{answers_text}
 use Rattle.batch_run.specs.Answered.{begun_text}
@@ -12,29 +12,28 @@ use Rattle.batch_run.specs.declared.settings.Settings.{Settings}
 use Rattle.service.specs.Replies.{fault_text}
 
 -- the right answers, as a batch writes them
-abbrev pub IsAnswered : {V : Type 0} → Algebra V → Roads → Asked → List ℕ → Type 0
+abbrev pub IsAnswered : {V : Type 0} → Algebra V → GraphData → Asked → List ℕ → Type 0
 IsAnswered A g asked text =
-    (told : ToldList) × IsAnswerList A g asked told × (text ≡ answers_text told)
+    (told : AnswerList) × IsAnswerList A g asked told × (text ≡ answers_text told)
 
--- the number of a fault of the run: memory or a thread; and where stations answer, a worker that made all
--- turns of the limit, or one whose gate answered false before
+-- the number of a fault of the run: memory or a thread; if workers answer, also a worker that took all turns of the
+-- limit, or one to which its gate answered false before that
 abbrev pub IsOfRun : Settings → (ℕ → ℕ → Bool → Type 0) → ℕ → Type 0
 IsOfRun how gate number =
     (number ≡ 3)
     ⊎ (((number ≡ 40) × (how.plain ≡ false) × Stalls gate how.workers how.turns)
     ⊎ ((number ≡ 41) × (how.plain ≡ false) × Closes gate how.workers how.turns))
 
--- the header, the right answers to the first questions, each of them whole, and then the fault that
--- stopped the run
-pub record IsStopped {V : Type 0} (A : Algebra V) (how : Settings) (gate : ℕ → ℕ → Bool → Type 0) (g : Roads) (asked : Asked) (text : List ℕ) : Type 0 where
+-- the header, the right answers to the first questions, each whole, and then the fault that stopped the run
+pub record IsStopped {V : Type 0} (A : Algebra V) (how : Settings) (gate : ℕ → ℕ → Bool → Type 0) (g : GraphData) (asked : Asked) (text : List ℕ) : Type 0 where
   pub count : ℕ
-  pub answers : List Told
+  pub answers : List AnswerData
   pub right : AreAnswers A g (take count asked.questions) answers
   pub number : ℕ
   pub of_run : IsOfRun how gate number
   pub text_is : text ≡ begun_text A asked answers ++ fault_text number 0
 
--- which texts may reply to what is asked, where `gate` says what the gate may answer to a worker before a turn of it
-abbrev pub MayAnswer : {V : Type 0} → Algebra V → Settings → (ℕ → ℕ → Bool → Type 0) → Roads → Asked → List ℕ → Type 0
+-- which texts may reply to what is asked, where `gate` says what the gate may answer to a worker before a turn
+abbrev pub MayAnswer : {V : Type 0} → Algebra V → Settings → (ℕ → ℕ → Bool → Type 0) → GraphData → Asked → List ℕ → Type 0
 MayAnswer A how gate g asked text =
     IsAnswered A g asked text ⊎ IsStopped A how gate g asked text

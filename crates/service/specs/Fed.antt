@@ -5,7 +5,7 @@ use Rattle.road_text.specs.Cuts.{IsPresent}
 use Rattle.road_text.specs.Lines.{lines, fields}
 use Rattle.road_text.specs.Rules.{at_line}
 use Rattle.road_files.specs.Asked.{Asked}
-use Rattle.road_files.specs.RequestTakes.{state_of, RequestSoFar}
+use Rattle.road_files.specs.RequestTakes.{parser_state, RequestSoFar}
 use Rattle.road_files.specs.ServiceText.{Request, ServiceState, Gives, Step, LineMay, LinesMay, service_end}
 use Rattle.service.specs.declared.service.Service.{Service}
 pub use Rattle.service.specs.Replies.{held_line, fault_text, reported_line, IsReplyBy, AreRepliesBy, joined, Replied, FellIn, RepliedOrFell}
@@ -15,12 +15,12 @@ abbrev pub goes_on : ServiceState → Bool
 goes_on (Gives (Some q)) = true
 goes_on _ = false
 
--- whether a line ended a request, or none goes on after it: the bytes of a request are counted anew from there
+-- whether a line ended a request or none goes on after it: bytes are counted from 0 again after such a line
 abbrev pub counts_anew : List (Result Asked ℕ) → ServiceState → Bool
 counts_anew [] next = not (goes_on next)
 counts_anew (e ∷ es) next = true
 
--- lines that a request takes and goes on with
+-- lines that a request takes and goes on after
 abbrev pub LinesGoOn : ℕ → ServiceState → List (List ℕ) → ServiceState → Type 0
 LinesGoOn n state [] next = next ≡ state
 LinesGoOn n state (l ∷ ls) next = (mid : ServiceState) × (goes_on mid ≡ true) × LineMay n state (fields l) (record { ended = []; next = mid }) × LinesGoOn n mid ls next
@@ -37,8 +37,8 @@ pub record EndsAnew (n : ℕ) (text : List ℕ) (next : ServiceState) : Type 0 w
   pub may : LineMay n state (fields l) (record { ended = ended; next = next })
   pub anew : counts_anew ended next ≡ true
 
--- These bytes at the end are all that are counted: those of one request that goes on, and of the present line. No request ends in them.
-pub record IsOpen (n : ℕ) (fed : List ℕ) (rs : List Request) (state : ServiceState) (own : List ℕ) : Type 0 where
+-- These last bytes are all that are counted: those of one request that goes on, and of the present line. No request ends in them.
+pub record IsUnfinished (n : ℕ) (fed : List ℕ) (rs : List Request) (state : ServiceState) (own : List ℕ) : Type 0 where
   pub before : List ℕ
   pub fed_is : fed ≡ before ++ own
   pub closed : (cut : Bool) (more : List ℕ) → lines cut (before ++ more) ≡ lines true before ++ lines cut more
@@ -47,12 +47,12 @@ pub record IsOpen (n : ℕ) (fed : List ℕ) (rs : List Request) (state : Servic
   pub made : LinesMay n 1 (Gives None) (lines true before) rs from
   pub goes : LinesGoOn n from (lines true own) state
 
--- the service was fed just these bytes, which make just these requests whole; but for want of memory they are `requests true n fed`
-pub record HasTaken (s : Service) (fed : List ℕ) (rs : List Request) : Type 0 where
-  pub made : LinesMay s.cutter.taker.questions.list.vertices 1 (Gives None) (lines true fed) rs (state_of s.cutter.taker)
+-- the service was fed just these bytes, which make just these requests whole; unless memory ran out, they are `requests true n fed`
+pub record WasFed (s : Service) (fed : List ℕ) (rs : List Request) : Type 0 where
+  pub made : LinesMay s.cutter.taker.questions.list.vertices 1 (Gives None) (lines true fed) rs (parser_state s.cutter.taker)
   pub line : s.line ≡ held_line (1 + length (lines true fed))
   pub own : List ℕ
-  pub is_open : IsOpen s.cutter.taker.questions.list.vertices fed rs (state_of s.cutter.taker) own
+  pub is_open : IsUnfinished s.cutter.taker.questions.list.vertices fed rs (parser_state s.cutter.taker) own
   pub count : s.count ≡ length own
   pub present : List ℕ
   pub ends : (cut : Bool) (more : List ℕ) → lines cut (fed ++ more) ≡ lines true fed ++ lines cut (present ++ more)
@@ -62,59 +62,59 @@ pub record HasTaken (s : Service) (fed : List ℕ) (rs : List Request) : Type 0 
 abbrev pub count_after : Step → ℕ → ℕ
 count_after step count = if counts_anew step.ended step.next then 0 else count
 
--- a line ended: these requests with it, and they were replied to
+-- a line ended, and the requests that ended with it were replied to
 abbrev pub LineEnded : {A E : Type 0} → (Asked → List ℕ → Type 0) → ℕ → List ℕ → Service → Service → Option (List ℕ) → Option (List ℕ) → ℕ → ℕ → Result A E → Type 0
 LineEnded answers at line old new before after b a result =
-    (step : Step) × LineMay old.cutter.taker.questions.list.vertices (state_of old.cutter.taker) (fields line) step × (step.next ≡ state_of new.cutter.taker) × (new.count ≡ count_after step old.count) × RepliedOrFell answers (map (at_line at) step.ended) before after b a result
+    (step : Step) × LineMay old.cutter.taker.questions.list.vertices (parser_state old.cutter.taker) (fields line) step × (step.next ≡ parser_state new.cutter.taker) × (new.count ≡ count_after step old.count) × RepliedOrFell answers (map (at_line at) step.ended) before after b a result
 
--- the service was fed these bytes more, and replied to just the requests that they make whole
+-- the service was fed these further bytes, and replied to just the requests that they make whole
 abbrev pub Fed : (Asked → List ℕ → Type 0) → Service → Service → List ℕ → Option (List ℕ) → Option (List ℕ) → ℕ → ℕ → Type 0
 Fed answers old new bytes before after b a =
-    (fed : List ℕ) (rs : List Request) → HasTaken old fed rs → (more : List Request) × HasTaken new (fed ++ bytes) (rs ++ more) × Replied answers more before after b a
+    (fed : List ℕ) (rs : List Request) → WasFed old fed rs → (more : List Request) × WasFed new (fed ++ bytes) (rs ++ more) × Replied answers more before after b a
 
 -- the service took a prefix of these bytes, and a write failed in the replies to the requests that it makes whole: a prefix of them was written
 abbrev pub FedPart : (Asked → List ℕ → Type 0) → Service → Service → List ℕ → Option (List ℕ) → Option (List ℕ) → ℕ → ℕ → Type 0
 FedPart answers old new bytes before after b a =
-    (fed : List ℕ) (rs : List Request) → HasTaken old fed rs → (prefix rest : List ℕ) × (more : List Request) × (bytes ≡ prefix ++ rest) × HasTaken new (fed ++ prefix) (rs ++ more) × FellIn answers more before after b a
+    (fed : List ℕ) (rs : List Request) → WasFed old fed rs → (prefix rest : List ℕ) × (more : List Request) × (bytes ≡ prefix ++ rest) × WasFed new (fed ++ prefix) (rs ++ more) × FellIn answers more before after b a
 
 -- the service took a prefix of these bytes, and replied to just the requests that it makes whole; then one request, or one line, would have more than 2^32 bytes
 abbrev pub FedLong : (Asked → List ℕ → Type 0) → Service → Service → List ℕ → Option (List ℕ) → Option (List ℕ) → ℕ → ℕ → Type 0
 FedLong answers old new bytes before after b a =
-    (fed : List ℕ) (rs : List Request) → HasTaken old fed rs
-    → (prefix rest : List ℕ) × (more : List Request) × (bytes ≡ prefix ++ rest) × (0 < length rest) × HasTaken new (fed ++ prefix) (rs ++ more) × (new.count ≡ 4294967296) × Replied answers more before after b a
+    (fed : List ℕ) (rs : List Request) → WasFed old fed rs
+    → (prefix rest : List ℕ) × (more : List Request) × (bytes ≡ prefix ++ rest) × (0 < length rest) × WasFed new (fed ++ prefix) (rs ++ more) × (new.count ≡ 4294967296) × Replied answers more before after b a
 
--- a whole text has these requests; but for want of memory they are `requests false n text`
+-- a whole text has these requests; unless memory ran out, they are `requests false n text`
 abbrev pub HasRequests : ℕ → List ℕ → List Request → Type 0
 HasRequests n text rs = (before : List Request) × (next : ServiceState) × LinesMay n 1 (Gives None) (lines false text) before next × (rs ≡ before ++ map (at_line (1 + length (lines false text))) (service_end next))
 
 -- all lines of the text were taken, and these requests have ended with them
 pub record HasLines (s : Service) (text : List ℕ) (rs : List Request) : Type 0 where
-  pub made : LinesMay s.cutter.taker.questions.list.vertices 1 (Gives None) (lines false text) rs (state_of s.cutter.taker)
+  pub made : LinesMay s.cutter.taker.questions.list.vertices 1 (Gives None) (lines false text) rs (parser_state s.cutter.taker)
   pub line : s.line ≡ held_line (1 + length (lines false text))
 
 -- the text ended, and the requests that its last line makes whole were replied to
 abbrev pub LastFed : (Asked → List ℕ → Type 0) → Service → Service → Option (List ℕ) → Option (List ℕ) → ℕ → ℕ → Type 0
-LastFed answers old new before after b a = (fed : List ℕ) (rs : List Request) → HasTaken old fed rs → (more : List Request) × HasLines new fed (rs ++ more) × Replied answers more before after b a
+LastFed answers old new before after b a = (fed : List ℕ) (rs : List Request) → WasFed old fed rs → (more : List Request) × HasLines new fed (rs ++ more) × Replied answers more before after b a
 
 -- the text ended, and all of its requests have been replied to
 abbrev pub Finished : (Asked → List ℕ → Type 0) → Service → Option (List ℕ) → Option (List ℕ) → ℕ → ℕ → Type 0
 Finished answers old before after b a =
-    (fed : List ℕ) (rs : List Request) → HasTaken old fed rs → (more : List Request) × HasRequests old.cutter.taker.questions.list.vertices fed (rs ++ more) × Replied answers more before after b a
+    (fed : List ℕ) (rs : List Request) → WasFed old fed rs → (more : List Request) × HasRequests old.cutter.taker.questions.list.vertices fed (rs ++ more) × Replied answers more before after b a
 
 -- the text ended, and a write failed in the replies to the requests that its last line makes whole
 abbrev pub LastFedPart : (Asked → List ℕ → Type 0) → Service → Service → Option (List ℕ) → Option (List ℕ) → ℕ → ℕ → Type 0
-LastFedPart answers old new before after b a = (fed : List ℕ) (rs : List Request) → HasTaken old fed rs → (more : List Request) × HasLines new fed (rs ++ more) × FellIn answers more before after b a
+LastFedPart answers old new before after b a = (fed : List ℕ) (rs : List Request) → WasFed old fed rs → (more : List Request) × HasLines new fed (rs ++ more) × FellIn answers more before after b a
 
 -- the text ended, and a write failed in the replies to what was left
 abbrev pub FinishedPart : (Asked → List ℕ → Type 0) → Service → Option (List ℕ) → Option (List ℕ) → ℕ → ℕ → Type 0
 FinishedPart answers old before after b a =
-    (fed : List ℕ) (rs : List Request) → HasTaken old fed rs → (more : List Request) × HasRequests old.cutter.taker.questions.list.vertices fed (rs ++ more) × FellIn answers more before after b a
+    (fed : List ℕ) (rs : List Request) → WasFed old fed rs → (more : List Request) × HasRequests old.cutter.taker.questions.list.vertices fed (rs ++ more) × FellIn answers more before after b a
 
--- bytes so far make these requests whole
+-- the bytes so far make these requests whole
 abbrev pub MakesWhole : ℕ → List ℕ → List Request → Type 0
 MakesWhole n text rs = (next : ServiceState) × LinesMay n 1 (Gives None) (lines true text) rs next
 
--- the input, where it is told, begins with this text
+-- the input, if it is known, begins with this text
 abbrev pub BeginsWith : Option (List ℕ) → List ℕ → Type 0
 BeginsWith left text = IfSome left (λ all. (rest : List ℕ) × (all ≡ text ++ rest))
 
@@ -126,10 +126,10 @@ ServedPrefix answers n left old new b a = (text : List ℕ) × (rs : List Reques
 abbrev pub ServedPart : (Asked → List ℕ → Type 0) → ℕ → Option (List ℕ) → Option (List ℕ) → Option (List ℕ) → ℕ → ℕ → Type 0
 ServedPart answers n left old new b a = (text : List ℕ) × (rs : List Request) × BeginsWith left text × (MakesWhole n text rs ⊎ HasRequests n text rs) × FellIn answers rs old new b a
 
--- the service took what is gone of its input, and replied to just the requests that it makes whole
+-- the service took what was consumed of its input, and replied to just the requests that it makes whole
 abbrev pub HasServed : (Asked → List ℕ → Type 0) → Service → Option (List ℕ) → Option (List ℕ) → Option (List ℕ) → Option (List ℕ) → ℕ → ℕ → Type 0
-HasServed answers s left now old new b a = (fed : List ℕ) × (rs : List Request) × Consumes left now fed × HasTaken s fed rs × Replied answers rs old new b a
+HasServed answers s left now old new b a = (fed : List ℕ) × (rs : List Request) × Consumes left now fed × WasFed s fed rs × Replied answers rs old new b a
 
--- all requests of the input, where it is told, were replied to
+-- all requests of the input, if it is known, were replied to
 abbrev pub Served : (Asked → List ℕ → Type 0) → ℕ → Option (List ℕ) → Option (List ℕ) → Option (List ℕ) → ℕ → ℕ → Type 0
 Served answers n left old new b a = (text : List ℕ) × (rs : List Request) × IfSome left (λ all. text ≡ all) × HasRequests n text rs × Replied answers rs old new b a

@@ -1,4 +1,4 @@
--- Question files in a row.
+-- Question files, one after the other.
 use Rattle.std.specs.Prelude.{◌≡◌, ℕ, List, [], ◌∷◌, ◌++◌, None, Ok}
 use Rattle.road_text.specs.Rules.{text_read}
 use Rattle.road_files.specs.Asked.{Asked}

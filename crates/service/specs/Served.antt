@@ -1,7 +1,7 @@
--- What a service leaves, between two moments of its inputs and its output.
+-- What a service does, between two states of its inputs and its output.
 use Rattle.std.specs.Prelude.{◌≡◌, ◌≢◌, ℕ, ◌+◌, ◌≤◌, ◌↔◌, ◌⊎◌, Bool, List, [], Option, Result, Err, OnOk, IfErr}
 use Rattle.std.specs.Io.KnownBytes.{IsAtEnd}
-use Rattle.road_graph.specs.Roads.{Roads}
+use Rattle.road_graph.specs.GraphData.{GraphData}
 use Rattle.road_files.specs.GraphFiles.{gr_rules}
 use Rattle.path_algebra.specs.Algebra.{Algebra}
 use Rattle.batch_run.specs.declared.faults.File.TheVariants.{Graph, Questions, NoFile}
@@ -13,11 +13,11 @@ use Rattle.batch_run.specs.Runs.{Input, Output}
 use Rattle.service.specs.Fed.{Served, ServedPrefix, ServedPart}
 use Rattle.service.specs.Answering.{MayAnswer}
 
--- an input spells a graph, and this holds of it
-abbrev pub OverGraph : Option (List ℕ) → (Roads → Type 0) → Type 0
-OverGraph text P = (g : Roads) × IsReadAs gr_rules text g × P g
+-- the text of an input is a graph, and P holds of it
+abbrev pub OverGraph : Option (List ℕ) → (GraphData → Type 0) → Type 0
+OverGraph text P = (g : GraphData) × IsReadAs gr_rules text g × P g
 
--- the input of requests stops a service by a read that failed, or by a request with too many bytes
+-- the input of requests stops a service: a read failed, or a request has too many bytes
 abbrev pub IsStopOfInput : RunFault → Type 0
 IsStopOfInput f = ((f.number ≡ 1) ⊎ (f.number ≡ 2)) × (f.line ≡ 0)
 
@@ -27,14 +27,14 @@ pub record RanService {V G Q W : Type 0} (A : Algebra V) (how : Settings) (gate 
   pub done : OnOk outcome (OverGraph graph.left (λ g.
       Served (MayAnswer A how gate g) g.vertices input.left
       out.written out_after.written out.failures out_after.failures))
-  -- and the output holds nothing back
+  -- and nothing is left buffered in the output
   pub passed_on : OnOk outcome (out_after.held ≡ [])
   -- no read and no write failed
   pub sound : OnOk outcome ((graph_after.failures ≡ graph.failures) × (input_after.failures ≡ input.failures) × (out_after.failures ≡ out.failures))
   -- both inputs were read to their end
   pub ends : OnOk outcome (IsAtEnd graph_after.left × IsAtEnd input_after.left)
-  -- a failed read, or a request that is too long, comes when just the requests that a prefix of the
-  -- input makes whole were replied to
+  -- at a failed read, or a request that is too long, just the requests that a prefix of the input makes
+  -- whole were replied to
   pub stopped : IfErr outcome (λ f. f.file ≡ Questions → OverGraph graph.left (λ g.
       ServedPrefix (MayAnswer A how gate g) g.vertices input.left
       out.written out_after.written out.failures out_after.failures))
@@ -43,13 +43,13 @@ pub record RanService {V G Q W : Type 0} (A : Algebra V) (how : Settings) (gate 
   pub fell : IfErr outcome (λ f. f.number ≡ 42 → OverGraph graph.left (λ g.
       ServedPart (MayAnswer A how gate g) g.vertices input.left
       out.written out_after.written out.failures out_after.failures))
-  -- 43 is reported exactly of a setting that is out of its range
+  -- 43 is reported exactly if a setting is out of its range
   pub settings : (outcome ≡ Err (record { number = 43; file = NoFile; line = 0 })) ↔ (AreInRange how → ⊥)
   -- a fault of the graph is its first one
   pub graph_fault : IfErr outcome (λ f. f.file ≡ Graph → IsGraphFault graph.left f)
   -- 1 is reported of the graph exactly if a read of it failed
   pub read_graph : (outcome ≡ Err (record { number = 1; file = Graph; line = 0 })) ↔ (graph_after.failures ≢ graph.failures)
-  -- and of the requests exactly if one of them did
+  -- and of the requests exactly if a read of them failed
   pub read_input : (outcome ≡ Err (record { number = 1; file = Questions; line = 0 })) ↔ (input_after.failures ≢ input.failures)
   -- a fault is one of the graph, with a number of its own, one of the input of requests, a failed
   -- write, or a setting
@@ -57,9 +57,9 @@ pub record RanService {V G Q W : Type 0} (A : Algebra V) (how : Settings) (gate 
       ((f.file ≡ Graph) × IsRoadNumber f.number)
       ⊎ (((f.file ≡ Questions) × IsStopOfInput f)
       ⊎ ((f.file ≡ NoFile) × (f.line ≡ 0) × ((f.number ≡ 42) ⊎ (f.number ≡ 43)))))
-  -- 1 to 3 stand in no line
+  -- faults 1 to 3 are in no line
   pub placed : IfErr outcome (λ f. f.number ≤ 3 → f.line ≡ 0)
-  -- a fault of the graph comes before anything of the requests is read, and before anything is written
+  -- a fault of the graph is reported before anything of the requests is read, and before anything is written
   pub before_requests : IfErr outcome (λ f. f.file ≡ Graph → (input_after ≡ input) × (out_after ≡ out))
   -- settings are tested before anything is read or written
   pub untouched : IfErr outcome (λ f. f.number ≡ 43 → (graph_after ≡ graph) × (input_after ≡ input) × (out_after ≡ out))

@@ -42,7 +42,7 @@ impl<A: PathAlgebra, R: Threads + Wait + Sync, T: Gate> BatchAnswers<'_, A, R, T
     {
         answers_exist(self.algebra);
         first_answers_begin_all(self.algebra);
-        let _n = self.graph.vertices();
+        self.graph.holds();
         match answer_all(
             self.rt,
             self.alloc,

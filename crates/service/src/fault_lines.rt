@@ -5,7 +5,7 @@ ghost use Rattle.service.specs.Replies.{fault_text};
 
 use road_text::{Line, RoadWrite, WriteFault, push_spaced, write_bytes};
 
-/// The line that tells a fault.
+/// The line that reports a fault.
 #[tactic(auto, unfolding(road_text::specs::Texts::spelled, crate::specs::Replies::fault_text))]
 fn line_of_fault(number: u8, line: u64) -> Line
     ensures { result.bytes ≡ fault_text number line }
@@ -30,9 +30,10 @@ pub(crate) fn write_fault<W: RoadWrite>(
     write_bytes(out, text.as_str().as_bytes())
 }
 
-/// Writes the line of a fault, and passes it on.
+/// Writes the line of a fault, and flushes the output.
 pub(crate) fn send_fault<W: RoadWrite>(out: &mut W, number: u8, line: u64) -> Result<(), WriteFault>
-    ensures wrote { WritesText W.written W.failures out.old out.new (fault_text number line) result }
+    ensures wrote { WritesText W.written W.failures out.old out.new (fault_text number line)
+        result }
     ensures passed_on { OnOk result (W.held out.new ≡ []) }
 {
     write_fault(out, number, line)?;

@@ -1,9 +1,9 @@
-//! Feeds a service, and replies.
+//! Feeds bytes to a service, which replies to the requests in them.
 ghost use Rattle.std.specs.Prelude.{◌≡◌, ℕ, ◌+◌, [], ◌++◌, List, map, min, OnOk, OnErr, Err, ◌≤◌};
 ghost use Rattle.road_text.specs.Cuts.{IsLine, IsPresent};
-ghost use Rattle.road_files.specs.RequestTakes.{RequestSoFar, state_of, ended_of};
+ghost use Rattle.road_files.specs.RequestTakes.{RequestSoFar, parser_state, ended_of};
 ghost use Rattle.service.specs.Answering.{MayAnswer};
-ghost use Rattle.service.specs.Fed.{held_line, HasTaken, LineEnded, Fed, FedPart, FedLong, LastFed, LastFedPart, Finished, FinishedPart, RepliedOrFell, goes_on, count_after};
+ghost use Rattle.service.specs.Fed.{held_line, WasFed, LineEnded, Fed, FedPart, FedLong, LastFed, LastFedPart, Finished, FinishedPart, RepliedOrFell, goes_on, count_after};
 ghost use Rattle.road_text.specs.Rules.{at_line};
 ghost use Rattle.road_files.specs.ServiceText.{ServiceState, service_end};
 
@@ -25,13 +25,14 @@ use std::thread::Threads;
 pub enum Unfed {
     /// A write or a flush failed.
     Write,
-    /// A request, or a line outside, has too many bytes.
+    /// A request, or a line outside any request, has too many bytes.
     TooLong,
 }
 
-/// The count after a line: it begins anew where a request ended, or none goes on.
+/// The count after a line: 0 again if a request ended or none goes on.
 fn count_after(done: &LineDone, goes: bool, count: u64) -> u64
-    ensures value { (next : ServiceState) → goes ≡ goes_on next → result ≡ count_after (record { ended = ended_of done.now; next = next }) count }
+    ensures value { (next : ServiceState) → goes ≡ goes_on next → result ≡ count_after
+        (record { ended = ended_of done.now; next = next }) count }
     ensures bound { result ≤ count }
 {
     if !goes || done.early || done.ended.is_some() {
@@ -41,9 +42,9 @@ fn count_after(done: &LineDone, goes: bool, count: u64) -> u64
 }
 
 impl Service {
-    /// No byte was taken yet, of a service over a graph with this number of vertices.
+    /// A service before its first byte, over a graph with this number of vertices.
     pub fn new(alloc: Global, vertices: u32) -> Self
-        ensures taken { HasTaken result [] [] }
+        ensures taken { WasFed result [] [] }
         ensures vertices { result.cutter.taker.questions.list.vertices ≡ vertices }
     {
         Service {
@@ -53,7 +54,7 @@ impl Service {
         }
     }
 
-    /// Gives the line that has ended to its request, and replies to what ends with it.
+    /// Gives the line that has ended to its request, and replies to the requests that end with it.
     fn end_line<A: PathAlgebra, R: Threads + Wait + Sync, T: Gate, W: RoadWrite>(
         &mut self,
         answers: &BatchAnswers<'_, A, R, T>,
@@ -67,7 +68,8 @@ impl Service {
             (W.written out.old) (W.written out.new) (W.failures out.old) (W.failures out.new) result }
         ensures ready { IsPresent RequestSoFar self.new.cutter [] }
         ensures line { self.new.line ≡ min (self.old.line + 1) 18446744073709551615 }
-        ensures vertices { self.new.cutter.taker.questions.list.vertices ≡ self.old.cutter.taker.questions.list.vertices }
+        ensures vertices { self.new.cutter.taker.questions.list.vertices ≡
+            self.old.cutter.taker.questions.list.vertices }
         ensures passed_on { OnOk result (W.held out.old ≡ [] → W.held out.new ≡ []) }
     {
         let done = self.cutter.taker.line(self.cutter.scanner.fields());
@@ -78,7 +80,7 @@ impl Service {
         send_done(answers, done, line, out)
     }
 
-    /// Takes the next bytes, and replies to just those requests that the bytes so far make whole, in order.
+    /// Takes the next bytes, and replies, in order, to just those requests that the bytes so far make whole.
     pub fn feed<A: PathAlgebra, R: Threads + Wait + Sync, T: Gate, W: RoadWrite>(
         &mut self,
         answers: &BatchAnswers<'_, A, R, T>,
@@ -99,7 +101,8 @@ impl Service {
             (T.may_answer answers.now.gate.now) answers.now.graph.now) self.old self.new bytes.now
             (W.written out.old) (W.written out.new) (W.failures out.old) (W.failures out.new) }
         ensures passed_on { OnOk result (W.held out.old ≡ [] → W.held out.new ≡ []) }
-        ensures vertices { self.new.cutter.taker.questions.list.vertices ≡ self.old.cutter.taker.questions.list.vertices }
+        ensures vertices { self.new.cutter.taker.questions.list.vertices ≡
+            self.old.cutter.taker.questions.list.vertices }
     {
         let mut at = 0;
         while at < bytes.len() {
@@ -121,7 +124,7 @@ impl Service {
         Ok(())
     }
 
-    /// Takes the end, and the last line, if it has no LF.
+    /// Takes the end of the text, and the last line if it has no LF.
     fn end_lines<A: PathAlgebra, R: Threads + Wait + Sync, T: Gate, W: RoadWrite>(
         &mut self,
         answers: &BatchAnswers<'_, A, R, T>,
@@ -137,7 +140,8 @@ impl Service {
             (T.may_answer answers.now.gate.now) answers.now.graph.now) self.old self.new
             (W.written out.old) (W.written out.new) (W.failures out.old) (W.failures out.new)) }
         ensures passed_on { OnOk result (W.held out.old ≡ [] → W.held out.new ≡ []) }
-        ensures vertices { self.new.cutter.taker.questions.list.vertices ≡ self.old.cutter.taker.questions.list.vertices }
+        ensures vertices { self.new.cutter.taker.questions.list.vertices ≡
+            self.old.cutter.taker.questions.list.vertices }
     {
         if self.cutter.to_end() {
             return self.end_line(answers, out);
@@ -145,7 +149,7 @@ impl Service {
         Ok(())
     }
 
-    /// Replies to the request that goes on, if one does: it has too few lines.
+    /// Replies to the request that has not ended, if there is one: it has too few lines.
     fn end_request<A: PathAlgebra, R: Threads + Wait + Sync, T: Gate, W: RoadWrite>(
         &self,
         _answers: &BatchAnswers<'_, A, R, T>,
@@ -154,7 +158,7 @@ impl Service {
         ensures replied { (at : ℕ) → self.now.line ≡ held_line at →
             RepliedOrFell
             (MayAnswer (A.meaning _answers.now.algebra) _answers.now.settings.now
-            (T.may_answer _answers.now.gate.now) _answers.now.graph.now) (map (at_line at) (service_end (state_of self.now.cutter.taker)))
+            (T.may_answer _answers.now.gate.now) _answers.now.graph.now) (map (at_line at) (service_end (parser_state self.now.cutter.taker)))
             (W.written out.old) (W.written out.new) (W.failures out.old) (W.failures out.new) result }
         ensures passed_on { OnOk result (W.held out.old ≡ [] → W.held out.new ≡ []) }
     {
@@ -164,7 +168,7 @@ impl Service {
         Ok(())
     }
 
-    /// Takes the end, and replies to the requests that it makes whole.
+    /// Takes the end of the text, and replies to the requests that end with it.
     pub fn finish<A: PathAlgebra, R: Threads + Wait + Sync, T: Gate, W: RoadWrite>(
         mut self,
         answers: &BatchAnswers<'_, A, R, T>,

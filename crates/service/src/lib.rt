@@ -1,5 +1,5 @@
-//! A service over a graph from bytes to bytes: the graph is read once, and each request is answered
-//! as soon as it is whole.
+//! A service over a graph, from bytes to bytes. The graph is read once, and each request is answered as soon as it is
+//! whole.
 #![tactic(auto)]
 
 mod batch_answers;

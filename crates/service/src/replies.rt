@@ -1,4 +1,4 @@
-//! Writes the replies to requests, and passes each on at once.
+//! Writes the replies to requests, and flushes the output after each.
 ghost use Rattle.std.specs.Prelude.{◌≡◌, ℕ, [], List, map, OnOk};
 ghost use Rattle.road_text.specs.Rules.{at_line, fault_at};
 ghost use Rattle.road_text.specs.Written.{WritesText};
@@ -17,21 +17,23 @@ use road_text::{MEMORY, RoadWrite, WriteFault};
 use std::sync::Wait;
 use std::thread::Threads;
 
-/// Writes an answer, and passes it on.
+/// Writes an answer, and flushes the output.
 fn send_answer<A: PathAlgebra, R: Threads + Wait + Sync, T: Gate, W: RoadWrite>(
     answers: &BatchAnswers<'_, A, R, T>,
     questions: &Questions,
     out: &mut W,
 ) -> Result<(), WriteFault>
     requires { AreQuestionsOf (answers.now.graph.now.vertices) questions.now }
-    ensures wrote { (text : List ℕ) × MayAnswer (A.meaning answers.now.algebra) answers.now.settings.now (T.may_answer answers.now.gate.now) answers.now.graph.now (asked_of questions.now) text × WritesText W.written W.failures out.old out.new text result }
+    ensures wrote { (text : List ℕ) × MayAnswer (A.meaning answers.now.algebra)
+        answers.now.settings.now (T.may_answer answers.now.gate.now) answers.now.graph.now
+        (asked_of questions.now) text × WritesText W.written W.failures out.old out.new text result }
     ensures passed_on { OnOk result (W.held out.new ≡ []) }
 {
     answers.answer(questions, out)?;
     out.flush()
 }
 
-/// The line that a fault is reported with: none for want of memory.
+/// The line that is reported with a fault: 0 if memory ran out.
 fn reported_line(number: u8, line: u64) -> u64
     ensures { (at : ℕ) → line ≡ held_line at → result ≡ reported_line (fault_at at number) }
 {

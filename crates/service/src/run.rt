@@ -13,25 +13,25 @@ use std::alloc::Global;
 use std::sync::Wait;
 use std::thread::Threads;
 
-/// A fault of the input of requests, which is no line's.
+/// A fault of the input of requests, in no line.
 fn fault_of_requests(number: u8) -> RunFault
     ensures { result ≡ record { number = number; file = File.Questions; line = 0 } }
 {
     fault_in(File::Questions, ReadFault { number, line: 0 })
 }
 
-/// Reads a graph from one input, and replies to the requests of another, to each as soon as it is whole.
+/// Reads a graph from one input, and replies to each request of another input as soon as it is whole.
 ///
-/// A request is a question text: a problem line and its lines. Its reply is the text of its answers, as
-/// a batch writes it, and the output is flushed; no byte after the request is waited for. A fault of a
-/// request ends its reply by a line `f NUMBER LINE`, LINE counted through the whole input, and the
-/// service goes on with the next problem line; so does a fault of the run (3, 40, 41), in line 0.
+/// A request is a question text: a problem line and its lines. The reply is the text of its answers, as a batch writes
+/// it. The output is then flushed, before any further byte is waited for. A fault of a request ends its reply with a
+/// line `f NUMBER LINE`, LINE counted through the whole input, and the service goes on with the next problem line. A
+/// fault of the run (3, 40, 41) does the same, with LINE 0.
 ///
-/// The settings are tested first (43), then the graph is read; a fault of it comes before anything of
-/// the requests is read. The service ends at the end of the input, or by a read that fails (1), a
-/// request with more than 2^32 bytes (2), or a write or flush that fails (42).
+/// The settings are tested first (43), then the graph is read: a fault of the graph is reported before any request is
+/// read. The service ends at the end of the input, after a failed read (1), at a request with more than 2^32 bytes (2),
+/// or after a failed write or flush (42).
 ///
-/// Each request is answered anew: nothing is kept of the one before.
+/// Each request is answered anew: nothing of the previous one is kept.
 pub fn run_service<
     A: PathAlgebra,
     G: RoadRead,

@@ -17,18 +17,18 @@ use std::thread::Threads;
 /// The bytes that are asked for at once.
 const BUFFER: usize = 65_536;
 
-/// Why a service ended before its input.
+/// Why a service ended before the end of its input.
 #[derive(Clone, Copy, Debug, PartialEq, Eq)]
 pub(crate) enum Stopped {
     /// A read failed.
     Read,
     /// A write or a flush failed.
     Write,
-    /// A request, or a line outside, has too many bytes.
+    /// A request, or a line outside any request, has too many bytes.
     TooLong,
 }
 
-/// Gives the next piece. Each read is made with nothing held back.
+/// Reads the next piece. At each read nothing is left buffered in the output.
 fn ask<I: RoadRead, W: RoadWrite>(
     input: &mut I,
     _out: &W,
@@ -43,7 +43,7 @@ fn ask<I: RoadRead, W: RoadWrite>(
     input.read(buffer)
 }
 
-/// Replies to all requests of an input over a graph with this number of vertices, to each as soon as it is whole.
+/// Replies to each request of an input, over a graph with this number of vertices, as soon as it is whole.
 pub(crate) fn serve<A: PathAlgebra, I: RoadRead, W: RoadWrite, R: Threads + Wait + Sync, T: Gate>(
     rt: &R,
     alloc: Global,

@@ -1,4 +1,4 @@
-//! Graphs, requests and replies for the tests of services, and what asks a service.
+//! Graphs, requests and replies for the tests of services, and helpers that run a service.
 ghost use Rattle.std.specs.Prelude.{◌<◌};
 
 use batch_run::{OpenGate, RunFault, Settings};
@@ -11,18 +11,18 @@ use std::sync::Wait;
 use std::thread::Threads;
 use text_trials::Pieces;
 
-/// Five vertices, of which the last is reached from nowhere.
+/// Five vertices. No arc leads to the last.
 pub(crate) const FIVE: &str =
     "p sp 5 7\na 1 2 4\na 1 3 1\na 3 2 2\na 2 4 5\na 3 4 8\na 4 4 0\na 5 1 3\n";
 
-/// Requests of all three kinds, and what replies to them over `FIVE`.
+/// Requests of all three kinds, and the replies to them over `FIVE`.
 pub(crate) const ALL_KINDS: &str =
     "c three requests\n\np aux sp ss 1\ns 1\np aux sp p2p 3\n\nq 1 4\nq 4 1\nc the last\nq 5 5\n\np aux sp ms 2\r\nm 4 5\r\nm 5 2\r\n";
 
 pub(crate) const ALL_REPLIES: &str =
     "p ans ss 1 shortest\ns 1\nd 1 0 0 0\nd 2 3 2 3\nd 3 1 1 1\nd 4 8 3 2\nu 5\np ans p2p 3 shortest\nq 1 4\nd 8 3\nr 1 3 2 4\nq 4 1\nu\nq 5 5\nd 0 0\nr 5\np ans ms 2 shortest\nm 4 5\nd 1 3 1 5\nd 2 6 3 3\nd 3 4 2 1\nd 4 0 0 0\nd 5 0 0 0\nm 5 2\nd 1 3 1 5\nd 2 0 0 0\nd 3 4 2 1\nd 4 5 1 2\nd 5 0 0 0\n";
 
-/// One request, and what replies to it over `FIVE`.
+/// One request, and the reply to it over `FIVE`.
 pub(crate) const ONE: &str = "p aux sp p2p 1\nq 1 4\n";
 
 pub(crate) const ONE_REPLY: &str = "p ans p2p 1 shortest\nq 1 4\nd 8 3\nr 1 3 2 4\n";
@@ -51,7 +51,7 @@ pub(crate) fn serve_from<A: PathAlgebra, Q: RoadRead, W: RoadWrite, R: Threads +
     )
 }
 
-/// Asserts what replies to requests over `FIVE` that come in pieces of this size.
+/// Asserts the replies to requests over `FIVE` that come in pieces of this size.
 pub(crate) fn assert_pieces(
     rt: &(impl Abort + AllocGlobal + Threads + Wait + Sync),
     requests: &str,
@@ -73,7 +73,7 @@ pub(crate) fn assert_pieces(
     );
 }
 
-/// Asserts what replies to requests over `FIVE`.
+/// Asserts the replies to requests over `FIVE`.
 pub(crate) fn assert_replies(
     rt: &(impl Abort + AllocGlobal + Threads + Wait + Sync),
     requests: &str,

@@ -1,4 +1,4 @@
-//! What stops a reply, and what stops a service.
+//! Faults that stop a reply, and faults that stop a service.
 ghost use Rattle.std.specs.Prelude.{◌≡◌, false};
 
 use crate::asking::{ALL_KINDS, ALL_REPLIES, FIVE, ONE, ONE_REPLY, joined, plain, serve_from};
@@ -140,7 +140,7 @@ fn a_setting_out_of_its_range(rt: HostRuntime) {
     assert_eq!(rt; out.into_inner().len(), 0);
 }
 
-/// Asserts that each request which workers are to answer is stopped, and that the service goes on.
+/// Asserts that the reply to each request that workers answer is stopped, and that the service goes on.
 fn assert_stops(
     rt: &(impl Abort + AllocGlobal + Threads + Wait + Sync),
     turns: u64,

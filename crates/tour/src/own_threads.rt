@@ -1,7 +1,7 @@
 //! Threads of one's own: each turns a station, and shows a label while the question is under way.
 ghost use Rattle.std.specs.Prelude.{◌≡◌, [], ◌∷◌, length, IfOk};
 ghost use Rattle.std.specs.List.{All};
-ghost use Rattle.road_graph.specs.Roads.{HasVertex};
+ghost use Rattle.road_graph.specs.GraphData.{HasVertex};
 ghost use Rattle.path_algebra.specs.Walks.{AreBest};
 ghost use Rattle.station.specs.Station.{BelongsTo};
 
@@ -24,7 +24,7 @@ const TURNS: u32 = 10_000_000;
 /// How many messages and signals a station handles in a turn.
 const BUDGET: u32 = 2;
 
-/// A vertex, and the code of the best value that was found for it so far: whoever has the board may look at any moment.
+/// A vertex, and the code of the best value that was found for it so far. It may be read at any moment.
 #[derive(Drop)]
 struct Board {
     vertex: Vertex,

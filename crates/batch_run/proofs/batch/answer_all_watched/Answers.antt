@@ -1,27 +1,18 @@
-use Rattle.std.proofs.Common.{rules, arith, Err, refl, sym, subst, ◌∙◌, ◌+◌, get_or}
-use Rattle.road_graph.specs.Roads.{Roads}
+use Rattle.std.proofs.Common.{rules, arith, refl, ◌+◌}
 use Rattle.road_files.specs.Asked.{asked_of, FromSource}
 use Rattle.std.proofs.lemmas.List.Elements.{All-nil}
-use Rattle.batch_run.specs.Answered.{WroteAnswer}
-use Rattle.batch_run.specs.Solved.{IsSolved, IsSolvedFor}
-use Rattle.batch_run.specs.declared.solving.Solved.{Solved}
-use Rattle.batch_run.proofs.Progress.{start, stop, stop_whole, header_fell, answered, unanswered, fault_later, group_later, whole, unfailed, one_failed, more_failed, end}
-use Rattle.batch_run.proofs.Laid.{ready_at_first, none_behind, no_write}
-use Rattle.batch_run.proofs.Reporting.{prefix_none, stopped_within, stopped_after, kind_behind, diffusions_are, begun as reports_begun, answered as reports_answered, ended as reports_ended}
+use Rattle.batch_run.specs.Ran.{IsLater}
+use Rattle.batch_run.specs.Solved.{IsSolved}
+use Rattle.batch_run.proofs.Progress.{start, stop, stop_whole, header_fell, answered, next_text, next_more, next_failed, next_whole, next_unfailed, next_later, end}
+use Rattle.batch_run.proofs.Schedules.{ready_at_first}
+use Rattle.batch_run.proofs.Reporting.{prefix_none, stopped_within, kind_copied, diffusions_are, begun as reports_begun, answered as reports_answered, ended as reports_ended}
 use Rattle.batch_run.proofs.batch.answer_all_watched.Goals as goal
 
 pub returns-in-Err-clause-text : goal.returns-in-Err-clause-text
 returns-in-Err-clause-text g c = header_fell (g.A.PathAlgebra.meaning c.args.algebra) c.args.graph.now (asked_of c.args.questions.now) _ _ _ c.kind.ensures c.len-count.ensures c.name.ensures _ _ _ _ c.in-Err.ensures
 
-pub loop-i-init : goal.loop-i-init
-loop-i-init g c = record {
-  progress = start (g.A.PathAlgebra.meaning c.args.algebra) c.args.graph.now (asked_of c.args.questions.now) _ _ _ c.kind.ensures c.len-count.ensures c.name.ensures _ _ _ _ c.in-Ok.ensures;
-  ready = rw c.new.ensures.items (ready_at_first g.row.A-Value.Denot c.args.algebra c.args.graph.now c.as_ref-layout.result c.in-Ok-prepare.prepared c.as_ref-layout.ensures.value c.in-Ok-prepare.ensures.layout);
-  solved = rw c.new-solved.ensures.items (All-nil (IsSolved (g.A.PathAlgebra.meaning c.args.algebra) c.args.graph.now (asked_of c.args.questions.now)));
-  reported = reports_begun (g.A.PathAlgebra.meaning c.args.algebra) c.args.graph.now g.O.Watcher.may_become c.args.settings.now.plain (asked_of c.args.questions.now).questions _ _ _ _ c.len-count.ensures
-      (diffusions_are c.as_ref-layout.result c.in-Ok-prepare.prepared c.args.settings.now.plain (asked_of c.args.questions.now).questions c.diffusions_of-diffusions.result c.as_ref-layout.ensures.value c.in-Ok-prepare.ensures.kind c.in-Ok-prepare.ensures.sources c.diffusions_of-diffusions.ensures.none c.diffusions_of-diffusions.ensures.some)
-      c.report.ensures;
-}
+pub returns-in-Err-clause-begun : goal.returns-in-Err-clause-begun
+returns-in-Err-clause-begun g c = prefix_none _ _ _ _ _
 
 pub returns-in_default-clause-text : goal.returns-in_default-clause-text
 returns-in_default-clause-text g c = stop (g.A.PathAlgebra.meaning c.args.algebra) c.args.graph.now (asked_of c.args.questions.now) 0 _ _ _ _ (start (g.A.PathAlgebra.meaning c.args.algebra) c.args.graph.now (asked_of c.args.questions.now) _ _ _ c.kind.ensures c.len-count.ensures c.name.ensures _ _ _ _ c.in-Ok.ensures)
@@ -29,94 +20,65 @@ returns-in_default-clause-text g c = stop (g.A.PathAlgebra.meaning c.args.algebr
 pub returns-in_default-clause-whole : goal.returns-in_default-clause-whole
 returns-in_default-clause-whole g c = λ ne. stop_whole (g.A.PathAlgebra.meaning c.args.algebra) c.args.graph.now (asked_of c.args.questions.now) 0 _ _ _ _ (start (g.A.PathAlgebra.meaning c.args.algebra) c.args.graph.now (asked_of c.args.questions.now) _ _ _ c.kind.ensures c.len-count.ensures c.name.ensures _ _ _ _ c.in-Ok.ensures)
 
-pub returns-in-Err-solved_at-clause-text : goal.returns-in-Err-solved_at-clause-text
-returns-in-Err-solved_at-clause-text g c = stop (g.A.PathAlgebra.meaning c.args.algebra) c.args.graph.now (asked_of c.args.questions.now) c.loop-i.i _ _ _ _ c.loop-i.invariant.progress
+pub returns-in_default-clause-begun : goal.returns-in_default-clause-begun
+returns-in_default-clause-begun g c = prefix_none _ _ _ _ _
 
-pub returns-in-Err-solved_at-clause-later : goal.returns-in-Err-solved_at-clause-later
-returns-in-Err-solved_at-clause-later g c = rw c.fault_of_group.ensures
-    (group_later c.args.settings.now (g.T.Gate.may_answer c.args.gate.now) c.as_ref-layout.result c.in-Err-solved_at.fault (λ e. none_behind c.as_ref-layout.result (c.as_ref-layout.ensures.value ∙ c.in-Ok-prepare.ensures.plain e)) c.in-Err-solved_at.ensures.plain c.in-Err-solved_at.ensures.says, λ e. absurd (no_write c.in-Err-solved_at.fault e))
+pub answer_next-requires-clause-kind : goal.answer_next-requires-clause-kind
+answer_next-requires-clause-kind g c κs within =
+    kind_copied c.as_ref-schedule.result c.in-Ok-prepare.prepared c.args.settings.now.plain c.as_ref-schedule.ensures.value c.in-Ok-prepare.ensures.kind
 
-pub returns-in-Err-solved_at-clause-whole : goal.returns-in-Err-solved_at-clause-whole
-returns-in-Err-solved_at-clause-whole g c = λ ne. stop_whole (g.A.PathAlgebra.meaning c.args.algebra) c.args.graph.now (asked_of c.args.questions.now) c.loop-i.i _ _ _ _ c.loop-i.invariant.progress
-
-pub returns-in-Err-solved_at-clause-unfailed : goal.returns-in-Err-solved_at-clause-unfailed
-returns-in-Err-solved_at-clause-unfailed g c = λ ne. c.loop-i.invariant.progress.left.sound
-
-pub returns-in-Err-solved_at-clause-more : goal.returns-in-Err-solved_at-clause-more
-returns-in-Err-solved_at-clause-more g c = let e = c.loop-i.invariant.progress.left.sound in omega (arith, e)
-
-pub answer_at-requires-clause-solved : goal.answer_at-requires-clause-solved
-answer_at-requires-clause-solved g c κs within =
-    rw c.whole-ways.ensures (subst (λ (s : Solved g.row.A-Value.Denot). IsSolvedFor (g.A.PathAlgebra.meaning c.args.algebra) c.args.graph.now (asked_of c.args.questions.now) c.loop-i.i s)
-    (sym c.index.ensures) (c.in-Ok-solved_at.ensures.answers c.index.result.now))
-
-pub answer_at-requires-clause-within : goal.answer_at-requires-clause-within
-answer_at-requires-clause-within g c κs within = rw c.whole-ways.ensures c.requires.within
-
-pub returns-in-Err-answer_at-clause-text : goal.returns-in-Err-answer_at-clause-text
-returns-in-Err-answer_at-clause-text g c = unanswered (g.A.PathAlgebra.meaning c.args.algebra) c.args.graph.now (asked_of c.args.questions.now) c.loop-i.i _ _ _ _ _ _
-    (search rules) (FromSource 0) c.loop-i.invariant.progress c.in-Err-answer_at.unanswered (subst (λ (r : Roads). WroteAnswer (g.A.PathAlgebra.meaning c.args.algebra) r (get_or (asked_of c.args.questions.now).questions c.loop-i.i (FromSource 0)) (g.W.RoadWrite.written c.loop-i.out) (g.W.RoadWrite.written c.answer_at.new.out) (g.W.RoadWrite.failures c.loop-i.out) (g.W.RoadWrite.failures c.answer_at.new.out) (Err c.in-Err-answer_at.unanswered))
-    c.whole-ways.ensures (c.in-Err-answer_at.ensures (FromSource 0)))
-
-pub returns-in-Err-answer_at-clause-later : goal.returns-in-Err-answer_at-clause-later
-returns-in-Err-answer_at-clause-later g c = rw (c.fault_of_answer.ensures) (fault_later (g.A.PathAlgebra.meaning c.args.algebra) c.args.graph.now (asked_of c.args.questions.now) c.loop-i.i _ _ _ _ _ _
-    (search rules) (FromSource 0) c.loop-i.invariant.progress c.in-Err-answer_at.unanswered (subst (λ (r : Roads). WroteAnswer (g.A.PathAlgebra.meaning c.args.algebra) r (get_or (asked_of c.args.questions.now).questions c.loop-i.i (FromSource 0)) (g.W.RoadWrite.written c.loop-i.out) (g.W.RoadWrite.written c.answer_at.new.out) (g.W.RoadWrite.failures c.loop-i.out) (g.W.RoadWrite.failures c.answer_at.new.out) (Err c.in-Err-answer_at.unanswered))
-    c.whole-ways.ensures (c.in-Err-answer_at.ensures (FromSource 0))) c.args.settings.now (g.T.Gate.may_answer c.args.gate.now))
-
-pub returns-in-Err-answer_at-clause-more : goal.returns-in-Err-answer_at-clause-more
-returns-in-Err-answer_at-clause-more g c = more_failed (g.A.PathAlgebra.meaning c.args.algebra) c.args.graph.now (asked_of c.args.questions.now) c.loop-i.i _ _ _ _ _ _
-    (search rules) (FromSource 0) c.loop-i.invariant.progress c.in-Err-answer_at.unanswered (subst (λ (r : Roads). WroteAnswer (g.A.PathAlgebra.meaning c.args.algebra) r (get_or (asked_of c.args.questions.now).questions c.loop-i.i (FromSource 0)) (g.W.RoadWrite.written c.loop-i.out) (g.W.RoadWrite.written c.answer_at.new.out) (g.W.RoadWrite.failures c.loop-i.out) (g.W.RoadWrite.failures c.answer_at.new.out) (Err c.in-Err-answer_at.unanswered))
-    c.whole-ways.ensures (c.in-Err-answer_at.ensures (FromSource 0)))
+pub loop-i-init : goal.loop-i-init
+loop-i-init g c = record {
+  progress = start (g.A.PathAlgebra.meaning c.args.algebra) c.args.graph.now (asked_of c.args.questions.now) _ _ _ c.kind.ensures c.len-count.ensures c.name.ensures _ _ _ _ c.in-Ok.ensures;
+  ready = rw c.new-state.ensures.ended (ready_at_first g.row.A-Value.Denot c.args.algebra c.args.graph.now c.as_ref-schedule.result c.in-Ok-prepare.prepared c.as_ref-schedule.ensures.value c.in-Ok-prepare.ensures.schedule);
+  solved = rw c.new-state.ensures.solved (All-nil (IsSolved (g.A.PathAlgebra.meaning c.args.algebra) c.args.graph.now (asked_of c.args.questions.now)));
+  reported = reports_begun (g.A.PathAlgebra.meaning c.args.algebra) c.args.graph.now g.O.Watcher.may_become c.args.settings.now.plain (asked_of c.args.questions.now).questions _ _ _ _ c.len-count.ensures
+      (diffusions_are c.as_ref-schedule.result c.in-Ok-prepare.prepared c.args.settings.now.plain (asked_of c.args.questions.now).questions c.count_diffusions-diffusions.result c.as_ref-schedule.ensures.value c.in-Ok-prepare.ensures.kind c.in-Ok-prepare.ensures.sources c.count_diffusions-diffusions.ensures.none c.count_diffusions-diffusions.ensures.some)
+      c.report.ensures;
+}
 
 pub loop-i-preserved : goal.loop-i-preserved
 loop-i-preserved g c = record {
   progress = answered (g.A.PathAlgebra.meaning c.args.algebra) c.args.graph.now (asked_of c.args.questions.now) c.loop-i.i _ _ _ _ _ _
-      (search rules) (FromSource 0) c.loop-i.invariant.progress (rw c.whole-ways.ensures at (c.in-Ok-answer_at.ensures (FromSource 0)));
-  ready = c.solved_at.ensures.ready;
-  solved = c.solved_at.ensures.solved;
+      (search rules) (FromSource 0) c.loop-i.invariant.progress (c.in-Ok-answer_next.ensures.wrote (FromSource 0));
+  ready = c.answer_next.ensures.ready;
+  solved = c.answer_next.ensures.solved;
   reported = reports_answered (g.A.PathAlgebra.meaning c.args.algebra) c.args.graph.now g.O.Watcher.may_become c.args.settings.now.plain (asked_of c.args.questions.now).questions c.loop-i.i (c.loop-i.i + 1) (FromSource 0)
-      (search rules) refl _ (kind_behind c.as_ref-layout.result c.in-Ok-prepare.prepared c.args.settings.now.plain c.as_ref-layout.ensures.value c.in-Ok-prepare.ensures.kind) _ _ _ c.loop-i.invariant.reported _
-      (c.in-Ok-solved_at.ensures.reported (FromSource 0)) c.report-in-loop-i.ensures;
+      (search rules) refl _ _ c.loop-i.invariant.reported _ (c.in-Ok-answer_next.ensures.reported (FromSource 0));
 }
+
+pub returns-in-Err-answer_next-clause-text : goal.returns-in-Err-answer_next-clause-text
+returns-in-Err-answer_next-clause-text g c = next_text (g.A.PathAlgebra.meaning c.args.algebra) c.args.graph.now (asked_of c.args.questions.now) c.loop-i.i _ _ _ _ _ _
+    (search rules) (FromSource 0) c.loop-i.invariant.progress c.in-Err-answer_next.fault (c.in-Err-answer_next.ensures.wrote (FromSource 0))
+
+pub returns-in-Err-answer_next-clause-whole : goal.returns-in-Err-answer_next-clause-whole
+returns-in-Err-answer_next-clause-whole g c = next_whole (g.A.PathAlgebra.meaning c.args.algebra) c.args.graph.now (asked_of c.args.questions.now) c.loop-i.i _ _ _ _ _ _
+    (search rules) (FromSource 0) c.loop-i.invariant.progress c.in-Err-answer_next.fault (c.in-Err-answer_next.ensures.wrote (FromSource 0))
+
+pub returns-in-Err-answer_next-clause-unfailed : goal.returns-in-Err-answer_next-clause-unfailed
+returns-in-Err-answer_next-clause-unfailed g c = next_unfailed (g.A.PathAlgebra.meaning c.args.algebra) c.args.graph.now (asked_of c.args.questions.now) c.loop-i.i _ _ _ _ _ _
+    (search rules) (FromSource 0) c.loop-i.invariant.progress c.in-Err-answer_next.fault (c.in-Err-answer_next.ensures.wrote (FromSource 0))
+
+pub returns-in-Err-answer_next-clause-failed : goal.returns-in-Err-answer_next-clause-failed
+returns-in-Err-answer_next-clause-failed g c = next_failed (g.A.PathAlgebra.meaning c.args.algebra) c.args.graph.now (asked_of c.args.questions.now) c.loop-i.i _ _ _ _ _ _
+    (search rules) (FromSource 0) c.loop-i.invariant.progress c.in-Err-answer_next.fault (c.in-Err-answer_next.ensures.wrote (FromSource 0))
+
+pub returns-in-Err-answer_next-clause-more : goal.returns-in-Err-answer_next-clause-more
+returns-in-Err-answer_next-clause-more g c = next_more (g.A.PathAlgebra.meaning c.args.algebra) c.args.graph.now (asked_of c.args.questions.now) c.loop-i.i _ _ _ _ _ _
+    (search rules) (FromSource 0) c.loop-i.invariant.progress c.in-Err-answer_next.fault (c.in-Err-answer_next.ensures.wrote (FromSource 0))
+
+pub returns-in-Err-answer_next-clause-later : goal.returns-in-Err-answer_next-clause-later
+returns-in-Err-answer_next-clause-later g c = next_later (g.A.PathAlgebra.meaning c.args.algebra) c.args.graph.now (asked_of c.args.questions.now) c.loop-i.i _ _ _ _ _ _
+    (search rules) (FromSource 0) c.loop-i.invariant.progress c.in-Err-answer_next.fault (c.in-Err-answer_next.ensures.wrote (FromSource 0))
+    (IsLater c.args.settings.now (g.T.Gate.may_answer c.args.gate.now)) c.in-Err-answer_next.ensures.later
+
+pub returns-in-Err-answer_next-clause-begun : goal.returns-in-Err-answer_next-clause-begun
+returns-in-Err-answer_next-clause-begun g c =
+    stopped_within (g.A.PathAlgebra.meaning c.args.algebra) c.args.graph.now g.O.Watcher.may_become c.args.settings.now.plain (asked_of c.args.questions.now).questions c.loop-i.i (c.loop-i.i + 1) (FromSource 0)
+    (search rules) refl _ _ c.loop-i.invariant.reported _ (c.in-Err-answer_next.ensures.begun (FromSource 0))
 
 pub returns-clause-text : goal.returns-clause-text
 returns-clause-text g c = end (g.A.PathAlgebra.meaning c.args.algebra) c.args.graph.now (asked_of c.args.questions.now) c.loop-i.i _ _ _ _ (search rules) c.loop-i.invariant.progress
-
-pub returns-in-Err-answer_at-clause-whole : goal.returns-in-Err-answer_at-clause-whole
-returns-in-Err-answer_at-clause-whole g c = rw (c.fault_of_answer.ensures) (whole (g.A.PathAlgebra.meaning c.args.algebra) c.args.graph.now (asked_of c.args.questions.now) c.loop-i.i _ _ _ _ _ _
-    (search rules) (FromSource 0) c.loop-i.invariant.progress c.in-Err-answer_at.unanswered (subst (λ (r : Roads). WroteAnswer (g.A.PathAlgebra.meaning c.args.algebra) r (get_or (asked_of c.args.questions.now).questions c.loop-i.i (FromSource 0)) (g.W.RoadWrite.written c.loop-i.out) (g.W.RoadWrite.written c.answer_at.new.out) (g.W.RoadWrite.failures c.loop-i.out) (g.W.RoadWrite.failures c.answer_at.new.out) (Err c.in-Err-answer_at.unanswered))
-    c.whole-ways.ensures (c.in-Err-answer_at.ensures (FromSource 0))))
-
-pub returns-in-Err-answer_at-clause-unfailed : goal.returns-in-Err-answer_at-clause-unfailed
-returns-in-Err-answer_at-clause-unfailed g c = rw (c.fault_of_answer.ensures) (unfailed (g.A.PathAlgebra.meaning c.args.algebra) c.args.graph.now (asked_of c.args.questions.now) c.loop-i.i _ _ _ _ _ _
-    (search rules) (FromSource 0) c.loop-i.invariant.progress c.in-Err-answer_at.unanswered (subst (λ (r : Roads). WroteAnswer (g.A.PathAlgebra.meaning c.args.algebra) r (get_or (asked_of c.args.questions.now).questions c.loop-i.i (FromSource 0)) (g.W.RoadWrite.written c.loop-i.out) (g.W.RoadWrite.written c.answer_at.new.out) (g.W.RoadWrite.failures c.loop-i.out) (g.W.RoadWrite.failures c.answer_at.new.out) (Err c.in-Err-answer_at.unanswered))
-    c.whole-ways.ensures (c.in-Err-answer_at.ensures (FromSource 0))))
-
-pub returns-in-Err-solved_at-clause-failed : goal.returns-in-Err-solved_at-clause-failed
-returns-in-Err-solved_at-clause-failed g c = rw c.fault_of_group.ensures (λ e. absurd (no_write c.in-Err-solved_at.fault e))
-
-pub returns-in-Err-answer_at-clause-failed : goal.returns-in-Err-answer_at-clause-failed
-returns-in-Err-answer_at-clause-failed g c = rw (c.fault_of_answer.ensures) (one_failed (g.A.PathAlgebra.meaning c.args.algebra) c.args.graph.now (asked_of c.args.questions.now) c.loop-i.i _ _ _ _ _ _
-    (search rules) (FromSource 0) c.loop-i.invariant.progress c.in-Err-answer_at.unanswered (subst (λ (r : Roads). WroteAnswer (g.A.PathAlgebra.meaning c.args.algebra) r (get_or (asked_of c.args.questions.now).questions c.loop-i.i (FromSource 0)) (g.W.RoadWrite.written c.loop-i.out) (g.W.RoadWrite.written c.answer_at.new.out) (g.W.RoadWrite.failures c.loop-i.out) (g.W.RoadWrite.failures c.answer_at.new.out) (Err c.in-Err-answer_at.unanswered))
-    c.whole-ways.ensures (c.in-Err-answer_at.ensures (FromSource 0))))
-
-pub returns-in-Err-clause-begun : goal.returns-in-Err-clause-begun
-returns-in-Err-clause-begun g c = prefix_none _ _ _ _ _
-
-pub returns-in_default-clause-begun : goal.returns-in_default-clause-begun
-returns-in_default-clause-begun g c = prefix_none _ _ _ _ _
-
-pub returns-in-Err-solved_at-clause-begun : goal.returns-in-Err-solved_at-clause-begun
-returns-in-Err-solved_at-clause-begun g c =
-    stopped_within (g.A.PathAlgebra.meaning c.args.algebra) c.args.graph.now g.O.Watcher.may_become c.args.settings.now.plain (asked_of c.args.questions.now).questions c.loop-i.i (c.loop-i.i + 1) (FromSource 0)
-    (search rules) refl _ (kind_behind c.as_ref-layout.result c.in-Ok-prepare.prepared c.args.settings.now.plain c.as_ref-layout.ensures.value c.in-Ok-prepare.ensures.kind) _ _ _ c.loop-i.invariant.reported
-    (c.in-Err-solved_at.ensures.begun (FromSource 0))
-
-pub returns-in-Err-answer_at-clause-begun : goal.returns-in-Err-answer_at-clause-begun
-returns-in-Err-answer_at-clause-begun g c =
-    stopped_after (g.A.PathAlgebra.meaning c.args.algebra) c.args.graph.now g.O.Watcher.may_become c.args.settings.now.plain (asked_of c.args.questions.now).questions c.loop-i.i (c.loop-i.i + 1) (FromSource 0)
-    (search rules) refl _ (kind_behind c.as_ref-layout.result c.in-Ok-prepare.prepared c.args.settings.now.plain c.as_ref-layout.ensures.value c.in-Ok-prepare.ensures.kind) _ _ _ c.loop-i.invariant.reported
-    (c.in-Ok-solved_at.ensures.reported (FromSource 0))
 
 pub returns-clause-reported : goal.returns-clause-reported
 returns-clause-reported g c = reports_ended (g.A.PathAlgebra.meaning c.args.algebra) c.args.graph.now g.O.Watcher.may_become c.args.settings.now.plain (asked_of c.args.questions.now).questions c.loop-i.i _ _ (search rules) c.loop-i.invariant.reported

@@ -1,5 +1,5 @@
 use Rattle.std.proofs.Common.{◌≡◌, inl, inr, Result, Err, refl, arith, ap, ◌∙◌, sym, subst}
-use Rattle.road_graph.specs.Roads.{Roads}
+use Rattle.road_graph.specs.GraphData.{GraphData}
 use Rattle.road_files.specs.GraphFiles.{gr_rules}
 use Rattle.batch_run.specs.Ran.{IsReadAs}
 use Rattle.batch_run.specs.Runs.{input, output}
@@ -24,7 +24,7 @@ returns-in-Err g c = record {
 pub returns-in-Err-Read : goal.returns-in-Err-Read
 returns-in-Err-Read g c =
     let is : c.serve.result ≡ Err Read = c.in-Err-Read.is ∙ ap (λ (s : Stopped). Err s) c.in-Err-Read.field-0-is in
-    let read : IsReadAs gr_rules (g.G.RoadRead.left c.args.graph_in.now) c.indexed-graph.result = subst (λ (r : Roads). IsReadAs gr_rules (g.G.RoadRead.left c.args.graph_in.now) r) (sym c.indexed-graph.ensures) (record { told = c.in-Ok.ensures.value; some_text = c.in-Ok.ensures.some_text }) in
+    let read : IsReadAs gr_rules (g.G.RoadRead.left c.args.graph_in.now) c.indexed-graph.result = subst (λ (r : GraphData). IsReadAs gr_rules (g.G.RoadRead.left c.args.graph_in.now) r) (sym c.indexed-graph.ensures) (record { told = c.in-Ok.ensures.value; some_text = c.in-Ok.ensures.some_text }) in
     record {
       ran = rw c.fault_of_requests.ensures (stopped (g.A.PathAlgebra.meaning c.args.algebra) c.args.settings.now (g.T.Gate.may_answer c.args.gate.now) (input g.G.RoadRead.left g.G.RoadRead.failures g.G.RoadRead.asked c.args.graph_in.now) (input g.G.RoadRead.left g.G.RoadRead.failures g.G.RoadRead.asked c.read_gr.new.from) (input g.Q.RoadRead.left g.Q.RoadRead.failures g.Q.RoadRead.asked c.args.requests_in.now) (input g.Q.RoadRead.left g.Q.RoadRead.failures g.Q.RoadRead.asked c.serve.new.input) (output g.W.RoadWrite.written g.W.RoadWrite.held g.W.RoadWrite.failures c.args.out.now) (output g.W.RoadWrite.written g.W.RoadWrite.held g.W.RoadWrite.failures c.serve.new.out)
           (c.are_in_range.ensures.0 c.if-not-are_in_range.false) c.indexed-graph.result read c.in-Ok.ensures.sound c.in-Ok.ensures.end c.read_gr.ensures.asked
@@ -34,7 +34,7 @@ returns-in-Err-Read g c =
 pub returns-in-Err-TooLong : goal.returns-in-Err-TooLong
 returns-in-Err-TooLong g c =
     let is : c.serve.result ≡ Err TooLong = c.in-Err-TooLong.is ∙ ap (λ (s : Stopped). Err s) c.in-Err-TooLong.field-0-is in
-    let read : IsReadAs gr_rules (g.G.RoadRead.left c.args.graph_in.now) c.indexed-graph.result = subst (λ (r : Roads). IsReadAs gr_rules (g.G.RoadRead.left c.args.graph_in.now) r) (sym c.indexed-graph.ensures) (record { told = c.in-Ok.ensures.value; some_text = c.in-Ok.ensures.some_text }) in
+    let read : IsReadAs gr_rules (g.G.RoadRead.left c.args.graph_in.now) c.indexed-graph.result = subst (λ (r : GraphData). IsReadAs gr_rules (g.G.RoadRead.left c.args.graph_in.now) r) (sym c.indexed-graph.ensures) (record { told = c.in-Ok.ensures.value; some_text = c.in-Ok.ensures.some_text }) in
     record {
       ran = rw c.fault_of_requests-in-Err-TooLong.ensures (stopped (g.A.PathAlgebra.meaning c.args.algebra) c.args.settings.now (g.T.Gate.may_answer c.args.gate.now) (input g.G.RoadRead.left g.G.RoadRead.failures g.G.RoadRead.asked c.args.graph_in.now) (input g.G.RoadRead.left g.G.RoadRead.failures g.G.RoadRead.asked c.read_gr.new.from) (input g.Q.RoadRead.left g.Q.RoadRead.failures g.Q.RoadRead.asked c.args.requests_in.now) (input g.Q.RoadRead.left g.Q.RoadRead.failures g.Q.RoadRead.asked c.serve.new.input) (output g.W.RoadWrite.written g.W.RoadWrite.held g.W.RoadWrite.failures c.args.out.now) (output g.W.RoadWrite.written g.W.RoadWrite.held g.W.RoadWrite.failures c.serve.new.out)
           (c.are_in_range.ensures.0 c.if-not-are_in_range.false) c.indexed-graph.result read c.in-Ok.ensures.sound c.in-Ok.ensures.end c.read_gr.ensures.asked
@@ -44,7 +44,7 @@ returns-in-Err-TooLong g c =
 pub returns : goal.returns
 returns g c =
     let stopped : c.serve.result ≡ Err Write = c.in-Err-Write.is ∙ ap (λ (s : Stopped). Err s) c.in-Err-Write.field-0-is in
-    let read : IsReadAs gr_rules (g.G.RoadRead.left c.args.graph_in.now) c.indexed-graph.result = subst (λ (r : Roads). IsReadAs gr_rules (g.G.RoadRead.left c.args.graph_in.now) r) (sym c.indexed-graph.ensures) (record { told = c.in-Ok.ensures.value; some_text = c.in-Ok.ensures.some_text }) in
+    let read : IsReadAs gr_rules (g.G.RoadRead.left c.args.graph_in.now) c.indexed-graph.result = subst (λ (r : GraphData). IsReadAs gr_rules (g.G.RoadRead.left c.args.graph_in.now) r) (sym c.indexed-graph.ensures) (record { told = c.in-Ok.ensures.value; some_text = c.in-Ok.ensures.some_text }) in
     record {
       ran = rw c.fault_of_run-in-Err-Write.ensures (fell (g.A.PathAlgebra.meaning c.args.algebra) c.args.settings.now (g.T.Gate.may_answer c.args.gate.now)
           (input g.G.RoadRead.left g.G.RoadRead.failures g.G.RoadRead.asked c.args.graph_in.now) (input g.G.RoadRead.left g.G.RoadRead.failures g.G.RoadRead.asked c.read_gr.new.from)

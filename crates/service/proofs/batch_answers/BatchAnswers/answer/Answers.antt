@@ -1,6 +1,6 @@
 use Rattle.std.proofs.Common.{Err}
 use Rattle.road_files.specs.Asked.{asked_of}
-use Rattle.batch_run.proofs.Fronts.{all_or_front}
+use Rattle.batch_run.proofs.Prefixes.{all_or_prefix}
 use Rattle.service.proofs.AnswerLaws.{answered, fell, stopped}
 use Rattle.service.proofs.batch_answers.BatchAnswers.answer.Goals as goal
 
@@ -13,7 +13,7 @@ returns-then-fault-eq-WRITE g c =
     let meaning = g.A.PathAlgebra.meaning c.args.self.now.algebra in
     let roads = c.args.self.now.graph.now in
     fell meaning c.args.self.now.settings.now (g.T.Gate.may_answer c.args.self.now.gate.now) roads (asked_of c.args.questions.now) (g.W.RoadWrite.written c.args.out.now) (g.W.RoadWrite.failures c.args.out.now) _ _
-    (all_or_front meaning roads c.args.questions.now c.requires (c.answers_exist.ensures roads c.vertices-n.ensures.roads) (c.first_answers_begin_all.ensures roads) _ _ (Err c.in-Err.fault) c.in-Err.ensures.text) (c.in-Err.ensures.failed c.if-fault-eq-WRITE.true)
+    (all_or_prefix meaning roads c.args.questions.now c.requires (c.answers_exist.ensures roads c.holds.ensures) (c.first_answers_begin_all.ensures roads) _ _ (Err c.in-Err.fault) c.in-Err.ensures.text) (c.in-Err.ensures.failed c.if-fault-eq-WRITE.true)
 
 pub returns-else-fault-eq-WRITE : goal.returns-else-fault-eq-WRITE
 returns-else-fault-eq-WRITE g c =

@@ -3,7 +3,9 @@ mod watched;
 
 use crate::texts::joined;
 use batch_run::{Settings, fault_of_run};
-use program::{Job, Places, Wanted, Watching, algebra_of, read_job, run_words};
+use program::{
+    FileSystem, RunOptions, Subcommand, WatchOptions, algebra_of, parse_args, run_command_line,
+};
 use road_text::{Buffered, Plain, ReadFailed, WriteFault};
 use std::alloc::{AllocError, Global};
 use std::io;
@@ -21,8 +23,8 @@ fn words_of(rt: &(impl Abort + AllocGlobal), line: &str) -> Vec<String> {
     words
 }
 
-/// What is to be seen of a run, in words behind others.
-fn seen_told(alloc: Global, watching: &Watching<'_>) -> Result<String, AllocError> {
+/// What is written of a run beside its answers, in words after others.
+fn watching_said(alloc: Global, watching: &WatchOptions<'_>) -> Result<String, AllocError> {
     let shown = if watching.progress { " shown" } else { "" };
     match watching.accounts {
         Some(path) => format!(in alloc; " to {path}{shown}"),
@@ -30,51 +32,52 @@ fn seen_told(alloc: Global, watching: &Watching<'_>) -> Result<String, AllocErro
     }
 }
 
-/// What a job is, in words.
-fn job_told(alloc: Global, job: &Job<'_>) -> Result<String, AllocError> {
-    match job {
-        Job::Solve {
-            graph,
-            questions,
-            wanted,
-            watching,
-        } => {
-            let seen = seen_told(alloc, watching)?;
+/// What a subcommand is, in words.
+fn subcommand_said(alloc: Global, subcommand: &Subcommand<'_>) -> Result<String, AllocError> {
+    match subcommand {
+        Subcommand::Solve(args) => {
+            let watching = watching_said(alloc, &args.watching)?;
             format!(in alloc;
-                "solve {graph} {questions} {} {:?}{seen}",
-                wanted.algebra, wanted.limit
+                "solve {} {} {} {:?}{watching}",
+                args.graph, args.questions, args.options.algebra, args.options.limit
             )
         }
-        Job::Bundle { wanted, watching } => {
-            let seen = seen_told(alloc, watching)?;
-            format!(in alloc; "bundle {} {:?}{seen}", wanted.algebra, wanted.limit)
+        Subcommand::Bundle(args) => {
+            let watching = watching_said(alloc, &args.watching)?;
+            format!(in alloc;
+                "bundle {} {:?}{watching}",
+                args.options.algebra, args.options.limit
+            )
         }
-        Job::Serve { graph, wanted } => {
-            format!(in alloc; "serve {graph} {} {:?}", wanted.algebra, wanted.limit)
+        Subcommand::Serve(args) => {
+            format!(in alloc;
+                "serve {} {} {:?}",
+                args.graph, args.options.algebra, args.options.limit
+            )
         }
-        Job::Check {
-            graph,
-            questions,
-            answers,
-            limit,
-        } => format!(in alloc; "check {graph} {questions} {answers} {limit:?}"),
-        Job::Faults { numbers } => format!(in alloc; "faults {:?}", numbers.as_slice()),
+        Subcommand::Check(args) => {
+            format!(in alloc;
+                "check {} {} {} {:?}",
+                args.graph, args.questions, args.answers, args.limit
+            )
+        }
+        Subcommand::Faults { numbers } => format!(in alloc; "faults {:?}", numbers.as_slice()),
     }
 }
 
-/// What a command line says, in words: the job, or whether it asks for help or is wrong.
-fn told(alloc: Global, words: &[String]) -> Result<String, AllocError> {
-    match read_job(alloc, words) {
-        Ok(Some(job)) => job_told(alloc, &job),
+/// What a command line says, in words: the subcommand, or whether it asks for help or is wrong.
+fn said(alloc: Global, words: &[String]) -> Result<String, AllocError> {
+    match parse_args(alloc, words) {
+        Ok(Some(subcommand)) => subcommand_said(alloc, &subcommand),
         Ok(None) => String::from_str(alloc, "nothing"),
         Err(error) => String::from_str(alloc, if error.use_stderr() { "wrong" } else { "help" }),
     }
 }
 
 /// Asserts what a command line says, in words.
-fn assert_told(rt: &(impl Abort + AllocGlobal), line: &str, wanted: &str) {
+fn assert_said(rt: &(impl Abort + AllocGlobal), line: &str, wanted: &str) {
     let words = words_of(rt, line);
-    let found = told(rt.alloc(), words.as_slice()).expect(rt, "memory");
+    let found = said(rt.alloc(), words.as_slice()).expect(rt, "memory");
     assert_eq!(rt; found.as_str(), wanted);
 }
 
@@ -150,12 +153,12 @@ fn command_lines(rt: HostRuntime) {
         ("diffuse --version", "help"),
         ("diffuse solve --help", "help"),
     ] {
-        assert_told(&rt, line, wanted);
+        assert_said(&rt, line, wanted);
     }
 }
 
 /// How questions are run, in words.
-fn settings_told(alloc: Global, settings: &Settings) -> Result<String, AllocError> {
+fn settings_said(alloc: Global, settings: &Settings) -> Result<String, AllocError> {
     let Settings {
         workers,
         shards,
@@ -168,9 +171,9 @@ fn settings_told(alloc: Global, settings: &Settings) -> Result<String, AllocErro
 }
 
 /// How a bundle is run, as a command line says, in words; or `wrong`.
-fn bundle_told(alloc: Global, words: &[String]) -> Result<String, AllocError> {
-    match read_job(alloc, words) {
-        Ok(Some(Job::Bundle { wanted, .. })) => settings_told(alloc, &wanted.settings),
+fn bundle_said(alloc: Global, words: &[String]) -> Result<String, AllocError> {
+    match parse_args(alloc, words) {
+        Ok(Some(Subcommand::Bundle(args))) => settings_said(alloc, &args.options.settings),
         _ => String::from_str(alloc, "wrong"),
     }
 }
@@ -179,7 +182,7 @@ fn bundle_told(alloc: Global, words: &[String]) -> Result<String, AllocError> {
 fn assert_settings(rt: &(impl Abort + AllocGlobal), options: &str, wanted: &str) {
     let line = joined(rt, &["diffuse bundle ", options]);
     let words = words_of(rt, line.as_str());
-    let found = bundle_told(rt.alloc(), words.as_slice()).expect(rt, "memory");
+    let found = bundle_said(rt.alloc(), words.as_slice()).expect(rt, "memory");
     assert_eq!(rt; found.as_str(), wanted);
 }
 
@@ -209,9 +212,9 @@ fn settings_of_a_command_line(rt: HostRuntime) {
 }
 
 /// Which algebra a name and a limit ask for, in words, or `refused`.
-fn algebra_told(rt: &(impl Abort + AllocGlobal), algebra: &str, limit: Option<u64>) -> String {
+fn algebra_said(rt: &(impl Abort + AllocGlobal), algebra: &str, limit: Option<u64>) -> String {
     let settings = Settings::default();
-    let told = match algebra_of(&Wanted {
+    let said = match algebra_of(&RunOptions {
         algebra,
         limit,
         settings,
@@ -222,7 +225,7 @@ fn algebra_told(rt: &(impl Abort + AllocGlobal), algebra: &str, limit: Option<u6
             String::from_str(rt.alloc(), "refused")
         }
     };
-    told.expect(rt, "memory")
+    said.expect(rt, "memory")
 }
 
 #[test]
@@ -239,7 +242,7 @@ fn algebras_and_limits(rt: HostRuntime) {
         ("shortest", Some(5), "refused"),
         ("own", None, "refused"),
     ] {
-        assert_eq!(rt; algebra_told(&rt, algebra, limit).as_str(), wanted);
+        assert_eq!(rt; algebra_said(&rt, algebra, limit).as_str(), wanted);
     }
 }
 
@@ -360,11 +363,11 @@ const COMMANDS: &[(&str, &str, &str, u8)] = &[
     ("solve ./- q", "", "diffuse: fault 12 graph line 1\n", 3),
     ("solve - none", "", "diffuse: fault 1 questions\n", 3),
     ("solve none -", "", "diffuse: fault 1 graph\n", 3),
-    ("solve - -", "", GIVEN_TWICE, 2),
-    ("check g - -", "", GIVEN_TWICE, 2),
-    ("check - q -", "", GIVEN_TWICE, 2),
-    ("check - - none", "", GIVEN_TWICE, 2),
-    ("check - - -", "", GIVEN_TWICE, 2),
+    ("solve - -", "", STDIN_TWICE, 2),
+    ("check g - -", "", STDIN_TWICE, 2),
+    ("check - q -", "", STDIN_TWICE, 2),
+    ("check - - none", "", STDIN_TWICE, 2),
+    ("check - - -", "", STDIN_TWICE, 2),
     ("solve - - --limit 5", "", "diffuse: fault 43\n", 2),
     ("faults 13", THIRTEEN, "", 0),
     ("faults 42 13", FORTY_TWO_AND_THIRTEEN, "", 0),
@@ -375,13 +378,13 @@ const COMMANDS: &[(&str, &str, &str, u8)] = &[
 ];
 
 /// What is said of standard input that is named twice.
-const GIVEN_TWICE: &str = "error: `-` is standard input, and serves for one of the files\n";
+const STDIN_TWICE: &str = "error: `-` is standard input, and serves for one of the files\n";
 
 /// What is said of a number that is no fault's.
 const NO_SUCH_FAULT: &str = "error: no fault has this number; `diffuse faults` lists them\n";
 
 /// The version of the program, and the line of the toolchain.
-const VERSION: &str = "diffuse 1.0.0 (rattle-kit-13b)\n";
+const VERSION: &str = "diffuse 1.0.0 (rattle-kit-13f)\n";
 
 /// What is said of fault 13.
 const THIRTEEN: &str =
@@ -397,12 +400,12 @@ struct Shelf<'a> {
     given: &'a str,
 }
 
-impl<'a> Places for Shelf<'a> {
+impl<'a> FileSystem for Shelf<'a> {
     type File = Plain<&'static [u8]>;
 
-    type Given = Plain<&'a [u8]>;
+    type Stdin = Plain<&'a [u8]>;
 
-    type Sink = Plain<io::Sink>;
+    type NewFile = Plain<io::Sink>;
 
     fn open(&mut self, path: &str) -> Result<Plain<&'static [u8]>, ReadFailed> {
         for (name, text) in FILES {
@@ -413,14 +416,14 @@ impl<'a> Places for Shelf<'a> {
         Err(ReadFailed)
     }
 
-    fn make(&mut self, path: &str) -> Result<Plain<io::Sink>, WriteFault> {
+    fn create(&mut self, path: &str) -> Result<Plain<io::Sink>, WriteFault> {
         if path == "none" {
             return Err(WriteFault);
         }
         Ok(Plain::new(io::sink()))
     }
 
-    fn given(&self) -> Plain<&'a [u8]> {
+    fn stdin(&self) -> Plain<&'a [u8]> {
         Plain::new(self.given.as_bytes())
     }
 }
@@ -435,7 +438,7 @@ fn run_line(
     let mut out = Plain::new(Vec::new(rt.alloc()));
     let mut errors = Plain::new(Vec::new(rt.alloc()));
     let mut shelf = Shelf { given };
-    let status = run_words(rt, &mut shelf, words.as_slice(), &mut out, &mut errors);
+    let status = run_command_line(rt, &mut shelf, words.as_slice(), &mut out, &mut errors);
     (out.into_inner(), errors.into_inner(), status)
 }
 
@@ -619,7 +622,7 @@ fn assert_no_room(rt: &(impl Abort + Threads + Wait + AllocGlobal + Sync), line:
     let mut out = Plain::new(&mut room[..]);
     let mut errors = Plain::new(Vec::new(rt.alloc()));
     let mut shelf = Shelf { given: "" };
-    let status = run_words(rt, &mut shelf, words.as_slice(), &mut out, &mut errors);
+    let status = run_command_line(rt, &mut shelf, words.as_slice(), &mut out, &mut errors);
     assert_eq!(rt;
         errors.into_inner().as_slice(),
         "diffuse: fault 42\n".as_bytes()
@@ -644,7 +647,7 @@ fn the_version_is_passed_on(rt: HostRuntime) {
     let mut errors = Plain::new(Vec::new(rt.alloc()));
     let mut shelf = Shelf { given: "" };
     let mut out = Buffered::new(rt.alloc(), Plain::new(&mut room[..])).expect(&rt, "memory");
-    let status = run_words(&rt, &mut shelf, words.as_slice(), &mut out, &mut errors);
+    let status = run_command_line(&rt, &mut shelf, words.as_slice(), &mut out, &mut errors);
     drop(out);
     assert_eq!(rt; status, 0);
     assert_eq!(rt; &room[..], VERSION.as_bytes());

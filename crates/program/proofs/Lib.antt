@@ -1,9 +1,9 @@
-pub mod Opening
-pub mod Told
-pub mod Ungated
-mod Asking
-pub mod ShortNames
-pub mod AccountLines
-pub mod Adding
-pub mod Noted
-pub mod Optional
+mod Opening
+mod Written
+mod Ungated
+mod RowsByNumber
+mod ShortNames
+mod AccountLines
+mod Adding
+mod Noted
+mod Optional

@@ -1,8 +1,8 @@
--- What a watcher leaves that was told all reports of a batch.
+-- What a watcher leaves to which all reports of a batch were made.
 use Rattle.std.specs.Prelude.{◌≡◌, ◌≢◌, ℕ, List, [], ◌∷◌, Bool, true, false, Option, Result, Ok, Err, OnOk, if◌then◌else◌}
 use Rattle.std.proofs.Common.{inl, inr, refl, sym, subst, ◌∙◌}
 use Rattle.std.proofs.lemmas.Bool.Decides.{eqb_tells}
-use Rattle.road_graph.specs.Roads.{Roads}
+use Rattle.road_graph.specs.GraphData.{GraphData}
 use Rattle.road_files.specs.Asked.{Asked}
 use Rattle.path_algebra.specs.Algebra.{Algebra}
 use Rattle.batch_run.specs.declared.faults.File.{File}
@@ -10,45 +10,45 @@ use Rattle.batch_run.specs.declared.faults.File.TheVariants.{Graph, Questions, B
 use Rattle.batch_run.specs.declared.faults.RunFault.{RunFault}
 use Rattle.batch_run.specs.declared.settings.Settings.{Settings}
 use Rattle.batch_run.specs.declared.watcher.Report.{Report}
-use Rattle.batch_run.specs.Reports.{IsTold, ReportedFirst, Watched}
-use Rattle.program.specs.declared.chosen.Chosen.{Chosen}
-use Rattle.program.specs.declared.chosen.Chosen.TheVariants as chosen
-use Rattle.program.specs.declared.watch.Watch.{Watch}
+use Rattle.batch_run.specs.Reports.{FollowsReports, ReportedFirst, Watched}
+use Rattle.program.specs.declared.algebra_choice.AlgebraChoice.{AlgebraChoice}
+use Rattle.program.specs.declared.algebra_choice.AlgebraChoice.TheVariants as chosen
+use Rattle.program.specs.declared.watch.watcher.Watch.{Watch}
 use Rattle.program.specs.Accounts.{accounts_text}
 use Rattle.program.specs.Progress.{all_after, progress_text, shown_at}
 use Rattle.program.specs.Watching.{AreReportsOf, AreReportsUnder, HasAccounts, IsAdded, Notes, WatchedUnder}
 use Rattle.program.proofs.Adding.{added_none, added_then, has_none, has_then, shown_then}
 
--- some reports were told, which on success are those of the batch
+-- some reports were made, which on success are those of the batch
 abbrev pub WasTold : {S : Type 0} → (S → Report → S → Type 0) → S → S → Result (Unit {0}) RunFault → (List Report → Type 0) → Type 0
-WasTold may_become old new outcome Are = (reports : List Report) × IsTold may_become old reports new × OnOk outcome (Are reports)
+WasTold may_become old new outcome Are = (reports : List Report) × FollowsReports may_become old reports new × OnOk outcome (Are reports)
 
-module _ {V S : Type 0} (A : Algebra V) (plain : Bool) (IsRead : Roads → Asked → Type 0) (may_become : S → Report → S → Type 0) (old new : S) where
-  none_told : new ≡ old → (reports : List Report) × IsTold may_become old reports new × Unit {0}
+module _ {V S : Type 0} (A : Algebra V) (plain : Bool) (IsRead : GraphData → Asked → Type 0) (may_become : S → Report → S → Type 0) (old new : S) where
+  none_told : new ≡ old → (reports : List Report) × FollowsReports may_become old reports new × Unit {0}
   none_told e = ([], e, tt)
 
-  some_told : (number : ℕ) → (number ≢ 43 → ReportedFirst A plain IsRead may_become old new) → (number ≡ 43 → new ≡ old) → (reports : List Report) × IsTold may_become old reports new × Unit {0}
+  some_told : (number : ℕ) → (number ≢ 43 → ReportedFirst A plain IsRead may_become old new) → (number ≡ 43 → new ≡ old) → (reports : List Report) × FollowsReports may_become old reports new × Unit {0}
   some_told number first untouched = elim (eqb_tells number 43) [
     | inl is ↦ none_told (untouched is.1)
     | inr not ↦ let told = (first not.1).reported.reported in (told.reports, told.told, tt)
   ]
 
-  fault_told : (file : File) (number : ℕ) → (file ≡ NoFile → number ≢ 43 → ReportedFirst A plain IsRead may_become old new) → (file ≢ NoFile → new ≡ old) → (number ≡ 43 → new ≡ old) → (reports : List Report) × IsTold may_become old reports new × Unit {0}
+  fault_told : (file : File) (number : ℕ) → (file ≡ NoFile → number ≢ 43 → ReportedFirst A plain IsRead may_become old new) → (file ≢ NoFile → new ≡ old) → (number ≡ 43 → new ≡ old) → (reports : List Report) × FollowsReports may_become old reports new × Unit {0}
   fault_told NoFile number first nothing untouched = some_told number (first refl) untouched
   fault_told Graph number first nothing untouched = none_told (nothing (λ e. cc))
   fault_told Questions number first nothing untouched = none_told (nothing (λ e. cc))
   fault_told Bundle number first nothing untouched = none_told (nothing (λ e. cc))
   fault_told Answers number first nothing untouched = none_told (nothing (λ e. cc))
 
--- a batch before a watcher tells it some reports
-pub watched_told : {V S : Type 0} (A : Algebra V) (how : Settings) (IsRead : Roads → Asked → Type 0) (may_become : S → Report → S → Type 0) (old new : S) (outcome : Result (Unit {0}) RunFault) →
+-- a batch makes some reports to its watcher
+pub watched_told : {V S : Type 0} (A : Algebra V) (how : Settings) (IsRead : GraphData → Asked → Type 0) (may_become : S → Report → S → Type 0) (old new : S) (outcome : Result (Unit {0}) RunFault) →
     Watched A how IsRead may_become old new outcome → WasTold may_become old new outcome (AreReportsOf A how.plain IsRead)
 watched_told A how IsRead may_become old new (Ok u) w =
     (w.all.reported.reports, w.all.reported.told, record { graph = w.all.graph; asked = w.all.asked; read = w.all.read; are_due = w.all.reported.are_due })
 watched_told A how IsRead may_become old new (Err f) w = fault_told A how.plain IsRead may_become old new f.file f.number w.first w.nothing w.untouched
 
 -- the same under the algebra that was chosen
-pub under_told : {S : Type 0} (c : Chosen) (how : Settings) (IsRead : Roads → Asked → Type 0) (may_become : S → Report → S → Type 0) (old new : S) (outcome : Result (Unit {0}) RunFault) →
+pub under_told : {S : Type 0} (c : AlgebraChoice) (how : Settings) (IsRead : GraphData → Asked → Type 0) (may_become : S → Report → S → Type 0) (old new : S) (outcome : Result (Unit {0}) RunFault) →
     WatchedUnder c how IsRead may_become old new outcome → WasTold may_become old new outcome (AreReportsUnder c how.plain IsRead)
 under_told chosen.Shortest how IsRead may_become old new outcome w = watched_told _ how IsRead may_become old new outcome w
 under_told chosen.Widest how IsRead may_become old new outcome w = watched_told _ how IsRead may_become old new outcome w
@@ -57,7 +57,7 @@ under_told chosen.Hops how IsRead may_become old new outcome w = watched_told _ 
 under_told chosen.Reliable how IsRead may_become old new outcome w = watched_told _ how IsRead may_become old new outcome w
 under_told (chosen.Within x) how IsRead may_become old new outcome w = watched_told _ how IsRead may_become old new outcome w
 
--- what a watcher of a command leaves that was told all these reports
+-- what a watcher of a command leaves to which all these reports were made
 pub record Noted {A E : Type 0} (written : A → Option (List ℕ)) (failures : A → ℕ) (shown : E → Option (List ℕ)) (unshown : E → ℕ) (old : Watch A E) (reports : List Report) (new : Watch A E) : Type 0 where
   pub same : (new.accounts.ghost_name ≡ old.accounts.ghost_name) × (new.errors.ghost_name ≡ old.errors.ghost_name)
   pub accounts : HasAccounts written failures old.accounts.now new.accounts.now old.lost new.lost (accounts_text old.name reports)
@@ -85,8 +85,8 @@ module _ {A E : Type 0} (written : A → Option (List ℕ)) (failures : A → �
       subst Added (shown_then old.progress (shown_at old.all r) (progress_text (all_after old.all r) rs))
       (added_then _ _ _ _ _ _ _ _ first.errors (later old.progress (all_after old.all r) first.progress first.all))
 
-  -- a watcher that was told reports has noted them all
-  pub noted_all : (rs : List Report) (old new : Watch A E) → IsTold (Notes written failures shown unshown) old rs new → Noted written failures shown unshown old rs new
+  -- a watcher has noted all reports that were made to it
+  pub noted_all : (rs : List Report) (old new : Watch A E) → FollowsReports (Notes written failures shown unshown) old rs new → Noted written failures shown unshown old rs new
   noted_all [] old new e = noted_none old new e
   noted_all (r ∷ rs) old new (next, first, rest) =
       let more = noted_all rs next new rest in record {

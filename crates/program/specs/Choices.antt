@@ -2,8 +2,8 @@
 use Rattle.std.specs.Prelude.{◌≡◌, ℕ, ◌≤◌, ◌^◌, Option, Some, None}
 use Rattle.path_algebra.specs.declared.name.AlgebraName.{AlgebraName}
 use Rattle.path_algebra.specs.declared.name.AlgebraName.TheVariants as names
-use Rattle.program.specs.declared.chosen.Chosen.{Chosen}
-use Rattle.program.specs.declared.chosen.Chosen.TheVariants as chosen
+use Rattle.program.specs.declared.algebra_choice.AlgebraChoice.{AlgebraChoice}
+use Rattle.program.specs.declared.algebra_choice.AlgebraChoice.TheVariants as chosen
 
 -- a limit goes with `within`, which needs one up to 2^63, and with no other algebra; the program has none of its own
 abbrev pub GoTogether : AlgebraName → Option ℕ → Type 0
@@ -18,7 +18,7 @@ CannotBe None limit = Unit {0}
 CannotBe (Some name) limit = GoTogether name limit → ⊥
 
 -- the name of the algebra that was chosen
-abbrev pub name_of : Chosen → AlgebraName
+abbrev pub name_of : AlgebraChoice → AlgebraName
 name_of chosen.Shortest = names.Shortest
 name_of chosen.Widest = names.Widest
 name_of chosen.Reach = names.Reach
@@ -26,7 +26,7 @@ name_of chosen.Hops = names.Hops
 name_of chosen.Reliable = names.Reliable
 name_of (chosen.Within within) = names.Within
 
--- its limit, where it has one
-abbrev pub limit_of : Chosen → Option ℕ
+-- its limit, if it has one
+abbrev pub limit_of : AlgebraChoice → Option ℕ
 limit_of (chosen.Within within) = Some within.limit
 limit_of _ = None

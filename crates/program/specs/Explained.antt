@@ -2,7 +2,7 @@
 use Rattle.std.specs.Prelude.{◌≡◌, ◌≢◌, ℕ, ◌⊎◌, List, [], ◌∷◌, ◌++◌, Result, All, Any, Contains, codes, decimal, flat_map, map}
 use Rattle.batch_run.specs.declared.faults.RunFault.{RunFault}
 use Rattle.batch_run.specs.Runs.{Output}
-use Rattle.program.specs.declared.faults.FaultRow.{FaultRow}
+use Rattle.program.specs.declared.faults.rows.FaultRow.{FaultRow}
 use Rattle.program.specs.Reports.{EndsAs, IsUsage, Reaches, ReportsFault, run_fault}
 
 -- the lines of a row: what the fault says, an example, and what it usually comes from
@@ -39,11 +39,11 @@ pub record AreShown {W E : Type 0} (table : List FaultRow) (numbers : List ℕ) 
   pub asked : AreAskedFor table numbers rows
   pub outcome : Result (Unit {0}) RunFault
   pub reaches : Reaches (flat_map row_text rows) out out_after outcome
-  pub ends : EndsAs (λ _. 0) errors.written errors_after.written errors.failures errors_after.failures outcome result
+  pub ends : EndsAs (λ _. 0) errors errors_after outcome result
 
 -- the rows of these numbers were shown; or one of them has no row, which is wrong usage; or memory was refused
 abbrev pub Explains : {W E : Type 0} → List FaultRow → List ℕ → Output W → Output W → Output E → Output E → ℕ → Type 0
 Explains table numbers out out_after errors errors_after result =
     AreShown table numbers out out_after errors errors_after result
     ⊎ ((Any (HasNoRow table) numbers × IsUsage out out_after errors errors_after result)
-    ⊎ ((out_after ≡ out) × ReportsFault (run_fault 3) errors.written errors_after.written errors.failures errors_after.failures result))
+    ⊎ ((out_after ≡ out) × ReportsFault (run_fault 3) errors errors_after result))

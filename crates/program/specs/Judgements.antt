@@ -21,9 +21,9 @@ pub record RanJudge {G Q S : Type 0} (given : Option ℕ) (first first_after : I
   pub questions : IfErr outcome (λ f. f.file ≡ Questions → IsQuestionsFault first.left second.left f)
   -- a fault of the answers is their first one, or they name an algebra of a caller's own; the graph and the questions have none
   pub answers : IfErr outcome (λ f. f.file ≡ Answers → IsAnswersFault first.left second.left third.left f ⊎ IsOwnFault first.left second.left third.left f)
-  -- 43 is told only of a limit that does not go with the algebra that the answers name
+  -- 43 is reported only of a limit that does not go with the algebra that the answers name
   pub limit : IfErr outcome (λ f. f.number ≡ 43 → IsLimitFault first.left second.left third.left given)
-  -- 1 is told of the graph exactly if a read of it failed
+  -- 1 is reported of the graph exactly if a read of it failed
   pub read_graph : (outcome ≡ Err (record { number = 1; file = Graph; line = 0 })) ↔ (first_after.failures ≢ first.failures)
   -- of the questions exactly if one of them did
   pub read_questions : (outcome ≡ Err (record { number = 1; file = Questions; line = 0 })) ↔ (second_after.failures ≢ second.failures)
@@ -31,7 +31,7 @@ pub record RanJudge {G Q S : Type 0} (given : Option ℕ) (first first_after : I
   pub read_answers : (outcome ≡ Err (record { number = 1; file = Answers; line = 0 })) ↔ (third_after.failures ≢ third.failures)
   -- a fault is one of an input, with a number of its own, or want of memory or a limit
   pub kinds : IfErr outcome (λ f. IsReadingFault f ⊎ ((f.file ≡ NoFile) × (f.line ≡ 0) × ((f.number ≡ 3) ⊎ (f.number ≡ 43))))
-  -- 1 to 3 stand in no line
+  -- 1 to 3 have no line
   pub placed : IfErr outcome (λ f. f.number ≤ 3 → f.line ≡ 0)
   -- the answers are read last: after a fault of the graph or of the questions they are as they were
   pub last : IfErr outcome (λ f. (f.file ≡ Graph) ⊎ (f.file ≡ Questions) → third_after ≡ third)
@@ -42,26 +42,26 @@ pub record RanJudge {G Q S : Type 0} (given : Option ℕ) (first first_after : I
   -- and of the answers
   pub asked_answers : third_after.asked ≤ third.asked + 4294967297
 
--- telling a verdict: its line was written, whole, and the output holds nothing back; or a write failed, and that is fault 42
-abbrev pub IsTold : {W : Type 0} → Verdict → Output W → Output W → Result Verdict RunFault → Type 0
-IsTold verdict out out_after (Ok told) = (told ≡ verdict) × Appends out.written out_after.written (verdict_text verdict) × (out_after.held ≡ []) × (out_after.failures ≡ out.failures)
-IsTold verdict out out_after (Err f) = (f ≡ record { number = 42; file = NoFile; line = 0 }) × (out.failures < out_after.failures)
+-- writing a verdict: its line was written, whole, and the output holds nothing back; or a write failed, and that is fault 42
+abbrev pub WroteVerdict : {W : Type 0} → Verdict → Output W → Output W → Result Verdict RunFault → Type 0
+WroteVerdict verdict out out_after (Ok written) = (written ≡ verdict) × Appends out.written out_after.written (verdict_text verdict) × (out_after.held ≡ []) × (out_after.failures ≡ out.failures)
+WroteVerdict verdict out out_after (Err f) = (f ≡ record { number = 42; file = NoFile; line = 0 }) × (out.failures < out_after.failures)
 
--- a verdict is told; and after a fault of judging the output is as it was
-abbrev pub IsToldOrFault : {W : Type 0} → Result Verdict RunFault → Output W → Output W → Result Verdict RunFault → Type 0
-IsToldOrFault (Ok verdict) out out_after outcome = IsTold verdict out out_after outcome
-IsToldOrFault (Err f) out out_after outcome = (outcome ≡ Err f) × (out_after ≡ out)
+-- a verdict is written; and after a fault of judging the output is as it was
+abbrev pub WroteVerdictOrFault : {W : Type 0} → Result Verdict RunFault → Output W → Output W → Result Verdict RunFault → Type 0
+WroteVerdictOrFault (Ok verdict) out out_after outcome = WroteVerdict verdict out out_after outcome
+WroteVerdictOrFault (Err f) out out_after outcome = (outcome ≡ Err f) × (out_after ≡ out)
 
--- the answers of one input to the questions of another over the graph of a third were judged, and the verdict was told; or this fault stopped it
+-- the answers of one input to the questions of another over the graph of a third were judged, and the verdict was written; or this fault stopped it
 pub record RanCheck {G Q S W : Type 0} (given : Option ℕ) (first first_after : Input G) (second second_after : Input Q) (third third_after : Input S) (out out_after : Output W) (outcome : Result Verdict RunFault) : Type 0 where
   -- what judging came to
   pub verdict : Result Verdict RunFault
   pub judged : RanJudge given first first_after second second_after third third_after verdict
-  -- and how that was told
-  pub told : IsToldOrFault verdict out out_after outcome
+  -- and how that was written
+  pub wrote : WroteVerdictOrFault verdict out out_after outcome
 
 -- a command that judges three inputs: what it leaves, and how it ends
 pub record Checks {G Q S W E : Type 0} (given : Option ℕ) (first first_after : Input G) (second second_after : Input Q) (third third_after : Input S) (out out_after : Output W) (errors errors_after : Output E) (result : ℕ) : Type 0 where
   pub outcome : Result Verdict RunFault
   pub ran : RanCheck given first first_after second second_after third third_after out out_after outcome
-  pub ends : EndsAs verdict_status errors.written errors_after.written errors.failures errors_after.failures outcome result
+  pub ends : EndsAs verdict_status errors errors_after outcome result

@@ -4,11 +4,11 @@ pub mod Reports
 pub mod Runs
 pub mod Verdicts
 pub mod Judgements
-pub mod Opened
+pub mod Inputs
 pub mod Files
 pub mod Explained
 pub mod Accounts
 pub mod Progress
 pub mod Watching
-pub mod Seen
-pub mod Jobs
+pub mod OptionalWatch
+pub mod CommandLine

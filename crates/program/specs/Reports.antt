@@ -1,7 +1,7 @@
 -- How a command ends: what it shows, the line that reports a fault, and the exit status.
-use Rattle.std.specs.Prelude.{◌≡◌, ℕ, ◌⊎◌, ◌<◌, List, [], ◌∷◌, ◌++◌, Option, Result, Ok, Err, codes, decimal, nat_eq, if◌then◌else◌, ◌||◌}
+use Rattle.std.specs.Prelude.{◌≡◌, ℕ, ◌⊎◌, ◌<◌, List, [], ◌∷◌, ◌++◌, Result, Ok, Err, codes, decimal, nat_eq, if◌then◌else◌, ◌||◌}
 use Rattle.std.specs.Io.KnownBytes.{Appends}
-use Rattle.road_text.specs.Written.{Left, Fell}
+use Rattle.road_text.specs.Written.{WrotePrefix, FailedAfterPrefix}
 use Rattle.batch_run.specs.declared.faults.File.TheVariants.{NoFile}
 use Rattle.batch_run.specs.declared.faults.RunFault.{RunFault}
 use Rattle.batch_run.specs.FaultTexts.{file_text, line_text}
@@ -20,18 +20,20 @@ status_of number =
     else if nat_eq number 40 || nat_eq number 41 then 6
     else 3
 
--- the text was written, whole, and nothing else; or a front of it, and then a write failed
-abbrev pub IsReported : Option (List ℕ) → Option (List ℕ) → ℕ → ℕ → List ℕ → Type 0
-IsReported old new before after text = Left old new before after text [] ⊎ Fell old new before after text
+-- the text was written, whole, and nothing else; or a prefix of it, and then a write failed
+abbrev pub IsReported : {E : Type 0} → List ℕ → Output E → Output E → Type 0
+IsReported text errors errors_after =
+    WrotePrefix errors.written errors_after.written errors.failures errors_after.failures text []
+    ⊎ FailedAfterPrefix errors.written errors_after.written errors.failures errors_after.failures text
 
 -- a fault ends a command: its line is written on the error output, and the exit status is its own
-abbrev pub ReportsFault : RunFault → Option (List ℕ) → Option (List ℕ) → ℕ → ℕ → ℕ → Type 0
-ReportsFault f old new before after result = (result ≡ status_of f.number) × IsReported old new before after (fault_text f)
+abbrev pub ReportsFault : {E : Type 0} → RunFault → Output E → Output E → ℕ → Type 0
+ReportsFault f errors errors_after result = (result ≡ status_of f.number) × IsReported (fault_text f) errors errors_after
 
 -- the exit status of an outcome: a fault has its own, and its line is written on the error output; else nothing is written there
-abbrev pub EndsAs : {A : Type 0} → (A → ℕ) → Option (List ℕ) → Option (List ℕ) → ℕ → ℕ → Result A RunFault → ℕ → Type 0
-EndsAs status old new before after (Ok x) result = (result ≡ status x) × (new ≡ old) × (after ≡ before)
-EndsAs status old new before after (Err f) result = ReportsFault f old new before after result
+abbrev pub EndsAs : {A E : Type 0} → (A → ℕ) → Output E → Output E → Result A RunFault → ℕ → Type 0
+EndsAs status errors errors_after (Ok x) result = (result ≡ status x) × (errors_after.written ≡ errors.written) × (errors_after.failures ≡ errors.failures)
+EndsAs status errors errors_after (Err f) result = ReportsFault f errors errors_after result
 
 -- a fault of the run, with no file and no line
 abbrev pub run_fault : ℕ → RunFault
@@ -44,7 +46,7 @@ Reaches text out out_after (Err f) = (f ≡ run_fault 42) × (out.failures < out
 
 -- what is wrong was said on the error output, and the status is that of wrong usage
 abbrev pub Complains : {E : Type 0} → List ℕ → Output E → Output E → ℕ → Type 0
-Complains text errors errors_after result = (result ≡ 2) × IsReported errors.written errors_after.written errors.failures errors_after.failures text
+Complains text errors errors_after result = (result ≡ 2) × IsReported text errors errors_after
 
 -- some text was said on the error output alone, with status 2
 pub record IsUsage {W E : Type 0} (out out_after : Output W) (errors errors_after : Output E) (result : ℕ) : Type 0 where

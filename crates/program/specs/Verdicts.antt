@@ -1,6 +1,6 @@
--- What a verdict on answers promises of the three inputs, and how it is told.
+-- What a verdict on answers promises of the three inputs, and how it is written.
 use Rattle.std.specs.Prelude.{◌≡◌, ◌≢◌, ℕ, ◌⊎◌, List, [], ◌∷◌, Option, None, Err, IfSome, codes, decimal}
-use Rattle.road_graph.specs.Roads.{Roads}
+use Rattle.road_graph.specs.GraphData.{GraphData}
 use Rattle.road_text.specs.Reads.{IsNumberFrom}
 use Rattle.road_text.specs.Rules.{text_read}
 use Rattle.road_text.specs.Texts.{spelled}
@@ -9,7 +9,7 @@ use Rattle.road_files.specs.GraphFiles.{gr_rules}
 use Rattle.road_files.specs.QuestionFiles.{question_rules}
 use Rattle.path_algebra.specs.declared.name.AlgebraName.TheVariants.{Own}
 use Rattle.answer_text.specs.AnswerFiles.{answer_rules}
-use Rattle.answer_text.specs.Told.{ToldList}
+use Rattle.answer_text.specs.AnswerData.{AnswerList}
 use Rattle.answer_check.specs.declared.verdict.Verdict.{Verdict}
 use Rattle.answer_check.specs.declared.verdict.Verdict.TheVariants.{Valid, Invalid}
 use Rattle.answer_check.specs.Reasons.{reason_number}
@@ -17,52 +17,52 @@ use Rattle.answer_check.specs.Verdicts.{IsVerdict}
 use Rattle.batch_run.specs.declared.faults.RunFault.{RunFault}
 use Rattle.batch_run.specs.declared.faults.File.TheVariants.{Graph, Questions, Answers}
 use Rattle.batch_run.specs.Ran.{IsPairOf, IsReadAs, IsTextFault, IsRoadNumber}
-use Rattle.program.specs.declared.chosen.Chosen.{Chosen}
+use Rattle.program.specs.declared.algebra_choice.AlgebraChoice.{AlgebraChoice}
 use Rattle.program.specs.Under.{Under}
 use Rattle.program.specs.Choices.{name_of, limit_of, GoTogether}
 
 -- the verdict on answers under the algebra that was chosen
-abbrev pub IsVerdictUnder : Chosen → Roads → Asked → ToldList → Verdict → Type 0
+abbrev pub IsVerdictUnder : AlgebraChoice → GraphData → Asked → AnswerList → Verdict → Type 0
 IsVerdictUnder chosen g asked told verdict = Under chosen (λ V A. IsVerdict A g asked told verdict)
 
 -- three inputs spell this graph, these questions over it, and these answers for it
-pub record AreInputs (graph questions answers : Option (List ℕ)) (g : Roads) (asked : Asked) (told : ToldList) : Type 0 where
+pub record AreInputs (graph questions answers : Option (List ℕ)) (g : GraphData) (asked : Asked) (told : AnswerList) : Type 0 where
   pub graph_is : IsReadAs gr_rules graph g
   pub questions_are : IsReadAs (question_rules g.vertices None) questions asked
   pub answers_are : IsReadAs (answer_rules g.vertices) answers told
 
 -- this is the verdict on the answers that were read, under the algebra that they name and the limit
 pub record IsJudged (graph questions answers : Option (List ℕ)) (limit : Option ℕ) (verdict : Verdict) : Type 0 where
-  pub roads : Roads
+  pub roads : GraphData
   pub asked : Asked
-  pub told : ToldList
+  pub told : AnswerList
   pub read : AreInputs graph questions answers roads asked told
-  pub chosen : Chosen
+  pub chosen : AlgebraChoice
   pub named : name_of chosen ≡ told.name
   pub limited : limit_of chosen ≡ limit
   pub judged : IsVerdictUnder chosen roads asked told verdict
 
 -- the graph and the questions have no fault, and the answers have this one
 pub record IsAnswersFault (graph questions answers : Option (List ℕ)) (f : RunFault) : Type 0 where
-  pub roads : Roads
+  pub roads : GraphData
   pub asked : Asked
   pub read : IsPairOf graph questions roads asked
   pub fault : IsTextFault f → IfSome answers (λ b. text_read (answer_rules roads.vertices) b ≡ Err (record { number = f.number; line = f.line }))
 
 -- the answers were read, and they name an algebra of a caller's own
 pub record IsOwnFault (graph questions answers : Option (List ℕ)) (f : RunFault) : Type 0 where
-  pub roads : Roads
+  pub roads : GraphData
   pub asked : Asked
-  pub told : ToldList
+  pub told : AnswerList
   pub read : AreInputs graph questions answers roads asked told
   pub own : told.name ≡ Own
   pub fault : f ≡ record { number = 31; file = Answers; line = 0 }
 
 -- the answers were read, the algebra that they name is one of the program's, and it does not go with the limit
 pub record IsLimitFault (graph questions answers : Option (List ℕ)) (limit : Option ℕ) : Type 0 where
-  pub roads : Roads
+  pub roads : GraphData
   pub asked : Asked
-  pub told : ToldList
+  pub told : AnswerList
   pub read : AreInputs graph questions answers roads asked told
   pub not_own : told.name ≢ Own
   pub apart : GoTogether told.name limit → ⊥
@@ -71,7 +71,7 @@ pub record IsLimitFault (graph questions answers : Option (List ℕ)) (limit : O
 abbrev pub IsReadingFault : RunFault → Type 0
 IsReadingFault f = (((f.file ≡ Graph) ⊎ (f.file ≡ Questions)) × IsRoadNumber f.number) ⊎ ((f.file ≡ Answers) × IsNumberFrom 30 36 f.number)
 
--- the line that tells a verdict
+-- the line of a verdict
 abbrev pub verdict_text : Verdict → List ℕ
 verdict_text Valid = spelled (codes "valid" ∷ [])
 verdict_text (Invalid question vertex reason) = spelled (codes "invalid" ∷ decimal question ∷ decimal vertex ∷ decimal (reason_number reason) ∷ [])

@@ -1,8 +1,8 @@
--- What the watcher of a command leaves where it writes, and how a command ends that is watched.
+-- What the watcher of a command writes, and how a command ends that is watched.
 use Rattle.std.specs.Prelude.{◌≡◌, ◌⊎◌, ℕ, ◌<◌, List, [], Bool, true, false, Option, Some, None, Result, Ok, Err, OnOk, if◌then◌else◌}
 use Rattle.std.specs.Io.KnownBytes.{Appends, Keeps}
 use Rattle.std.specs.List.{AllZip}
-use Rattle.road_graph.specs.Roads.{Roads}
+use Rattle.road_graph.specs.GraphData.{GraphData}
 use Rattle.road_files.specs.Asked.{Asked}
 use Rattle.path_algebra.specs.Algebra.{Algebra}
 use Rattle.batch_run.specs.declared.faults.RunFault.{RunFault}
@@ -10,8 +10,8 @@ use Rattle.batch_run.specs.declared.settings.Settings.{Settings}
 use Rattle.batch_run.specs.declared.watcher.Report.{Report}
 use Rattle.batch_run.specs.Reports.{IsReportOf, batch_due, Watched}
 use Rattle.batch_run.specs.Runs.{Output}
-use Rattle.program.specs.declared.chosen.Chosen.{Chosen}
-use Rattle.program.specs.declared.watch.Watch.{Watch}
+use Rattle.program.specs.declared.algebra_choice.AlgebraChoice.{AlgebraChoice}
+use Rattle.program.specs.declared.watch.watcher.Watch.{Watch}
 use Rattle.program.specs.Accounts.{account_of, accounts_text}
 use Rattle.program.specs.Progress.{all_after, progress_text, shown_at}
 use Rattle.program.specs.Choices.{name_of}
@@ -42,7 +42,7 @@ pub record HasAccounts {A : Type 0} (written : A → Option (List ℕ)) (failure
 
 -- what the watcher of a command does at a report
 pub record Notes {A E : Type 0} (written : A → Option (List ℕ)) (failures : A → ℕ) (shown : E → Option (List ℕ)) (unshown : E → ℕ) (old : Watch A E) (report : Report) (new : Watch A E) : Type 0 where
-  -- it goes on to write to the same places
+  -- it goes on to write to the same files
   pub same : (new.accounts.ghost_name ≡ old.accounts.ghost_name) × (new.errors.ghost_name ≡ old.errors.ghost_name)
   -- under the same name, and shows progress as before
   pub name : new.name ≡ old.name
@@ -55,18 +55,18 @@ pub record Notes {A E : Type 0} (written : A → Option (List ℕ)) (failures : 
   pub errors : IsAdded (shown old.errors.now) (shown new.errors.now) (unshown old.errors.now) (unshown new.errors.now) (if old.progress then shown_at old.all report else [])
 
 -- these are the reports of a batch over what was read: of each question in order, and each account is of a diffusion that has ended
-pub record AreReportsOf {V : Type 0} (A : Algebra V) (plain : Bool) (IsRead : Roads → Asked → Type 0) (reports : List Report) : Type 0 where
-  pub graph : Roads
+pub record AreReportsOf {V : Type 0} (A : Algebra V) (plain : Bool) (IsRead : GraphData → Asked → Type 0) (reports : List Report) : Type 0 where
+  pub graph : GraphData
   pub asked : Asked
   pub read : IsRead graph asked
   pub are_due : AllZip (IsReportOf A graph) (batch_due plain asked.questions) reports
 
 -- the same under the algebra that was chosen
-abbrev pub AreReportsUnder : Chosen → Bool → (Roads → Asked → Type 0) → List Report → Type 0
+abbrev pub AreReportsUnder : AlgebraChoice → Bool → (GraphData → Asked → Type 0) → List Report → Type 0
 AreReportsUnder chosen plain IsRead reports = Under chosen (λ V A. AreReportsOf A plain IsRead reports)
 
--- what a watcher was told of a batch under the algebra that was chosen
-abbrev pub WatchedUnder : {S : Type 0} → Chosen → Settings → (Roads → Asked → Type 0) → (S → Report → S → Type 0) → S → S → Result (Unit {0}) RunFault → Type 0
+-- what was reported to a watcher of a batch under the algebra that was chosen
+abbrev pub WatchedUnder : {S : Type 0} → AlgebraChoice → Settings → (GraphData → Asked → Type 0) → (S → Report → S → Type 0) → S → S → Result (Unit {0}) RunFault → Type 0
 WatchedUnder chosen settings IsRead may_become old new outcome = Under chosen (λ V A. Watched A settings IsRead may_become old new outcome)
 
 -- accounts, if they are wanted, have the text, and nothing is held back; or a write failed, and that is fault 42
@@ -89,7 +89,7 @@ outcome_of (Err f) kept = Err f
 
 -- A command that answers what was read before a watcher: what answering leaves, what was reported of it, that the accounts are those of the reports, what was
 -- shown on the error output, and how the command ends, which reports a fault last.
-pub record EndsWatched {A E : Type 0} (chosen : Chosen) (settings : Settings) (progress : Bool) (IsRead : Roads → Asked → Type 0) (Ran : Result (Unit {0}) RunFault → Type 0) (accounts accounts_after : Option (Output A)) (errors errors_after : Output E) (result : ℕ) : Type 0 where
+pub record EndsWatched {A E : Type 0} (chosen : AlgebraChoice) (settings : Settings) (progress : Bool) (IsRead : GraphData → Asked → Type 0) (Ran : Result (Unit {0}) RunFault → Type 0) (accounts accounts_after : Option (Output A)) (errors errors_after : Output E) (result : ℕ) : Type 0 where
   pub outcome : Result (Unit {0}) RunFault
   pub ran : Ran outcome
   pub reports : List Report
@@ -98,4 +98,4 @@ pub record EndsWatched {A E : Type 0} (chosen : Chosen) (settings : Settings) (p
   pub accounted : Account (accounts_text (name_of chosen) reports) accounts accounts_after kept
   pub watched : Output E
   pub shown : IsAdded errors.written watched.written errors.failures watched.failures (if progress then progress_text 0 reports else [])
-  pub ends : EndsAs (λ _. 0) watched.written errors_after.written watched.failures errors_after.failures (outcome_of outcome kept) result
+  pub ends : EndsAs (λ _. 0) watched errors_after (outcome_of outcome kept) result

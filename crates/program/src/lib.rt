@@ -1,39 +1,28 @@
 //! The program's commands: over streams, over inputs by their names, and by the words of a command line.
 #![tactic(auto)]
 
-mod accounts;
-mod arguments;
-mod chosen;
+mod algebra_choice;
+mod args;
+mod command_line;
 mod commands;
-mod fault_table;
 mod faults;
-mod help;
-mod jobs;
+mod files;
 mod judging;
-mod opened;
-mod options;
-mod places;
-mod progress;
+mod opened_input;
 mod reports;
-mod running;
-mod seen;
-mod verdicts;
-mod wanted;
 mod watch;
-mod watched;
-mod words;
 
-pub use chosen::{Chosen, choose};
-pub use commands::{bundle, check, serve, solve};
-pub use fault_table::all_faults;
-pub use faults::{FaultRow, explain};
-pub use jobs::{bundle_given, check_files, serve_given, solve_files};
-pub use judging::judge;
-pub use opened::Opened;
-pub use options::{Job, Wanted, Watching, read_job};
-pub use places::{HostPlaces, Places};
+pub use algebra_choice::{AlgebraChoice, choose};
+pub use args::{
+    BundleArgs, CheckArgs, RunOptions, ServeArgs, SolveArgs, Subcommand, WatchOptions, parse_args,
+};
+pub use command_line::{run, run_command_line};
+pub use commands::{
+    algebra_of, bundle, bundle_stdin, check, check_files, serve, serve_stdin, solve, solve_files,
+};
+pub use faults::{FaultRow, all_faults, explain};
+pub use files::{FileSystem, HostFiles};
+pub use judging::{judge, write_verdict};
+pub use opened_input::OpenedInput;
 pub use reports::report;
-pub use verdicts::tell;
-pub use wanted::algebra_of;
-pub use watched::{bundle_watched, solve_watched};
-pub use words::{run, run_words};
+pub use watch::{bundle_watched, solve_watched};

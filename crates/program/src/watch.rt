@@ -1,75 +1,10 @@
-//! What watches a batch for a command: it writes accounts and shows progress, each if it is wanted.
-ghost use Rattle.std.specs.Prelude.{◌≡◌, [], if◌then◌else◌};
-ghost use Rattle.program.specs.Accounts.{account_of};
-ghost use Rattle.program.specs.Progress.{all_after, shown_at};
-ghost use Rattle.program.specs.Watching.{HasAccounts, IsAdded, Notes};
+//! What a command may write beside its answers: accounts of the diffusions, and progress.
 
-use crate::accounts::write_report;
-use crate::progress::show_report;
-use batch_run::{Report, Watcher};
-use path_algebra::AlgebraName;
-use road_text::RoadWrite;
+mod accounts;
+mod optional;
+mod progress;
+mod watched_commands;
+mod watcher;
 
-/// A watcher of a batch.
-#[derive(Drop)]
-pub(crate) struct Watch<'a, A, E> {
-    /// The name of the batch's algebra.
-    pub name: AlgebraName,
-    /// Where accounts are written, if they are wanted.
-    pub accounts: &'a mut Option<A>,
-    /// A write to the accounts has failed, after which none is made.
-    pub lost: bool,
-    /// Whether progress is shown.
-    pub progress: bool,
-    /// How many questions there are, once this was reported.
-    pub all: u32,
-    /// Where progress is shown.
-    pub errors: &'a mut E,
-}
-
-/// Adds to the accounts what a report says, and says whether they are lost.
-fn note<A: RoadWrite>(
-    accounts: &mut Option<A>,
-    lost: bool,
-    name: AlgebraName,
-    report: &Report,
-) -> bool
-    ensures { HasAccounts A.written A.failures accounts.old accounts.new lost result (account_of name report.now) }
-{
-    if lost {
-        return true;
-    }
-    match accounts {
-        Some(to) => write_report(to, name, report).is_err(),
-        None => false,
-    }
-}
-
-/// How many questions there are, after a report.
-fn all_after(all: u32, report: &Report) -> u32
-    ensures { result ≡ all_after all report.now }
-{
-    match report {
-        Report::Begun { questions, .. } => *questions,
-        _ => all,
-    }
-}
-
-/// Shows what a report says of so many questions, if that is wanted.
-fn show<E: RoadWrite>(errors: &mut E, progress: bool, all: u32, report: &Report)
-    ensures { IsAdded (E.written errors.old) (E.written errors.new) (E.failures errors.old) (E.failures errors.new) (if progress then shown_at all report.now else []) }
-{
-    if progress {
-        show_report(errors, all, report);
-    }
-}
-
-impl<A: RoadWrite, E: RoadWrite> Watcher for Watch<'_, A, E> {
-    ghost may_become = { Notes A.written A.failures E.written E.failures };
-
-    fn report(&mut self, report: Report) {
-        self.lost = note(self.accounts, self.lost, self.name, &report);
-        show(self.errors, self.progress, self.all, &report);
-        self.all = all_after(self.all, &report);
-    }
-}
+pub(crate) use optional::{bundle_input, solve_inputs};
+pub use watched_commands::{bundle_watched, solve_watched};

@@ -172,11 +172,11 @@ fn pieces_of_any_size(rt: HostRuntime) {
 }
 
 /// Asserts that one input which fails behind these bytes is refused for it.
-fn assert_unread(rt: &(impl Abort + AllocGlobal + Threads + Wait + Sync), front: &[u8]) {
+fn assert_unread(rt: &(impl Abort + AllocGlobal + Threads + Wait + Sync), prefix: &[u8]) {
     assert_refused(
         rt,
         &Settings::default(),
-        &mut Pieces::new(front, 7, true),
+        &mut Pieces::new(prefix, 7, true),
         &mut Sheet::new(rt.alloc(), 100, true),
         fault(1, File::Bundle, 0),
     );
@@ -210,9 +210,9 @@ fn a_reader_that_fails(rt: HostRuntime) {
 }
 
 /// Asserts that one input of these bytes is refused for what it says, or lacks, before anything is written.
-fn assert_cut_short(rt: &(impl Abort + AllocGlobal + Threads + Wait + Sync), front: &[u8]) {
+fn assert_cut_short(rt: &(impl Abort + AllocGlobal + Threads + Wait + Sync), prefix: &[u8]) {
     let mut out = Sheet::new(rt.alloc(), 100, true);
-    let mut input = Pieces::new(front, 7, false);
+    let mut input = Pieces::new(prefix, 7, false);
     let refused = outcome(rt, rt.alloc(), &Settings::default(), &mut input, &mut out);
     let numbered = match refused {
         Err(f) => f.number == 19 || (10 <= f.number && f.number <= 16),
@@ -231,20 +231,20 @@ fn a_text_that_is_cut_short(rt: HostRuntime) {
     }
 }
 
-/// Asserts that a writer with room for this front of the answers takes just that, and how the batch ends.
-fn assert_front(
+/// Asserts that a writer with room for this prefix of the answers takes just that, and how the batch ends.
+fn assert_prefix(
     rt: &(impl Abort + AllocGlobal + Threads + Wait + Sync),
     text: &str,
-    front: &[u8],
+    prefix: &[u8],
     flushes: bool,
 ) {
-    let mut out = Sheet::new(rt.alloc(), front.len(), flushes);
+    let mut out = Sheet::new(rt.alloc(), prefix.len(), flushes);
     let mut input = Plain::new(text.as_bytes());
     let ended = outcome(rt, rt.alloc(), &Settings::default(), &mut input, &mut out);
-    let whole = flushes && front.len() == SHORTEST.len();
+    let whole = flushes && prefix.len() == SHORTEST.len();
     let wanted = if whole { Ok(()) } else { Err(fault_of_run(42)) };
     assert_eq!(rt; ended, wanted);
-    assert_eq!(rt; out.bytes.as_slice(), front);
+    assert_eq!(rt; out.bytes.as_slice(), prefix);
 }
 
 #[test]
@@ -252,7 +252,7 @@ fn a_writer_that_fails(rt: HostRuntime) {
     let text = joined(&rt, &[FIVE, FROM_ONE]);
     let wanted = SHORTEST.as_bytes();
     for room in 0..=wanted.len() {
-        assert_front(&rt, text.as_str(), &wanted[..room], false);
-        assert_front(&rt, text.as_str(), &wanted[..room], true);
+        assert_prefix(&rt, text.as_str(), &wanted[..room], false);
+        assert_prefix(&rt, text.as_str(), &wanted[..room], true);
     }
 }

@@ -2,7 +2,7 @@
 use super::{FIVE, FROM_ONE, SHORTEST, assert_run};
 use crate::texts::joined;
 use batch_run::Settings;
-use program::{Chosen, bundle_watched, solve_watched};
+use program::{AlgebraChoice, bundle_watched, solve_watched};
 use road_text::Plain;
 use std::process::Abort;
 use std::sync::Wait;
@@ -30,7 +30,7 @@ struct Said {
 /// Answers questions over `FIVE` with so much room for accounts.
 fn solved(
     rt: &(impl Abort + AllocGlobal + Threads + Wait + Sync),
-    chosen: Chosen,
+    chosen: AlgebraChoice,
     settings: &Settings,
     questions: &str,
     room: usize,
@@ -66,7 +66,7 @@ fn solved(
 /// Asserts what is counted of questions over `FIVE`.
 fn assert_counts(
     rt: &(impl Abort + AllocGlobal + Threads + Wait + Sync),
-    chosen: Chosen,
+    chosen: AlgebraChoice,
     settings: &Settings,
     questions: &str,
     wanted: &str,
@@ -87,22 +87,27 @@ fn accounts_of_five_vertices(rt: HostRuntime) {
         ..usual
     };
     for &(chosen, settings, questions, wanted) in &[
-        (Chosen::Reach, usual, FROM_THREE, COUNTS),
+        (AlgebraChoice::Reach, usual, FROM_THREE, COUNTS),
         (
-            Chosen::Reach,
+            AlgebraChoice::Reach,
             usual,
             "p aux sp p2p 2\nq 4 1\nq 1 4\n",
             "p tally 2 reach\nt 1 4 2 2 2 2\nt 2 1 7 7 7 7\n",
         ),
         (
-            Chosen::Reach,
+            AlgebraChoice::Reach,
             Settings { width: 3, ..usual },
             "p aux sp ms 2\nm 5 4\nm 1\n",
             "p tally 3 reach\nt 1 5 8 8 8 8\nt 1 4 2 2 2 2\nt 2 1 7 7 7 7\n",
         ),
-        (Chosen::Reach, usual, "p aux sp ss 0\n", "p tally 0 reach\n"),
         (
-            Chosen::Shortest,
+            AlgebraChoice::Reach,
+            usual,
+            "p aux sp ss 0\n",
+            "p tally 0 reach\n",
+        ),
+        (
+            AlgebraChoice::Shortest,
             alone,
             FROM_ONE,
             "p tally 1 shortest\nt 1 1 9 9 9 9\n",
@@ -120,7 +125,7 @@ fn accounts_of_a_bundle(rt: HostRuntime) {
     let status = bundle_watched(
         &rt,
         rt.alloc(),
-        Chosen::Reach,
+        AlgebraChoice::Reach,
         &Settings::default(),
         &mut Plain::new(text.as_str().as_bytes()),
         &mut Plain::new(Vec::new(rt.alloc())),
@@ -140,7 +145,7 @@ fn assert_cut(
     answers: &[u8],
 ) {
     let usual = Settings::default();
-    let said = solved(rt, Chosen::Reach, &usual, FROM_THREE, room, true);
+    let said = solved(rt, AlgebraChoice::Reach, &usual, FROM_THREE, room, true);
     assert_eq!(rt; said.accounts.as_slice(), &COUNTS.as_bytes()[..room]);
     let shown =
         "diffuse: 1 of 3 questions answered\ndiffuse: 2 of 3 questions answered\ndiffuse: 3 of 3 questions answered\ndiffuse: fault 42\n";
@@ -152,7 +157,7 @@ fn assert_cut(
 #[test]
 fn accounts_that_are_cut_short(rt: HostRuntime) {
     let usual = Settings::default();
-    let whole = solved(&rt, Chosen::Reach, &usual, FROM_THREE, ROOM, false);
+    let whole = solved(&rt, AlgebraChoice::Reach, &usual, FROM_THREE, ROOM, false);
     for room in 0..COUNTS.len() {
         assert_cut(&rt, room, whole.out.as_slice());
     }
@@ -187,7 +192,14 @@ fn progress_of_many_questions(rt: HostRuntime) {
     };
     for count in [100, 250, 1_000] {
         let questions = questions_to_the_last(&rt, count);
-        let said = solved(&rt, Chosen::Reach, &plain, questions.as_str(), ROOM, true);
+        let said = solved(
+            &rt,
+            AlgebraChoice::Reach,
+            &plain,
+            questions.as_str(),
+            ROOM,
+            true,
+        );
         let wanted = lines_of_progress(&rt, count);
         assert_eq!(rt; said.errors.as_slice(), wanted.as_str().as_bytes());
         assert_eq!(rt; said.status, 0);

@@ -1,5 +1,5 @@
 use Rattle.std.proofs.Common.{◌∙◌}
-use Rattle.program.proofs.Told.{wrote_reported}
+use Rattle.program.proofs.Written.{wrote_reported}
 use Rattle.program.proofs.reports.report.Goals as goal
 
 pub returns : goal.returns

@@ -1,0 +1,6 @@
+use Rattle.std.proofs.Common.{arith}
+use Rattle.std.proofs.lemmas.Grind.{common_steps}
+use Rattle.program.proofs.judging.verdicts.status_of_verdict.Goals as goal
+
+pub returns-in-Invalid : goal.returns-in-Invalid
+returns-in-Invalid c = grind (arith, common_steps)

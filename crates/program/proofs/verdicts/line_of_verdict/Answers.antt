@@ -1,8 +1,0 @@
-use Rattle.std.proofs.Common.{arith}
-use Rattle.std.proofs.lemmas.Grind.{common_steps}
-use Rattle.road_text.specs.Texts.{spelled}
-use Rattle.program.proofs.verdicts.line_of_verdict.Goals as goal
-
-pub returns-in-Invalid : goal.returns-in-Invalid
-unfolding spelled
-returns-in-Invalid c = grind (arith, common_steps)

@@ -1,6 +1,0 @@
-use Rattle.std.proofs.Common.{arith}
-use Rattle.std.proofs.lemmas.Grind.{common_steps}
-use Rattle.program.proofs.wanted.algebra_of.Goals as goal
-
-pub returns-in-Some-choose-clause-limit : goal.returns-in-Some-choose-clause-limit
-returns-in-Some-choose-clause-limit c = grind (arith, common_steps)

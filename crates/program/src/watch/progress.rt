@@ -1,0 +1,59 @@
+//! The lines that show how far a batch is.
+ghost use Rattle.std.specs.Prelude.{◌≡◌};
+ghost use Rattle.program.specs.Progress.{due_line, hundredths, is_due, line_of_progress, shown_at};
+ghost use Rattle.program.specs.Watching.{IsAdded};
+
+use batch_run::Report;
+use road_text::{Line, RoadWrite, push_number, write_bytes};
+
+/// How many whole hundredths of all questions so many are.
+fn hundredths(answered: u32, all: u32) -> u64
+    ensures { result ≡ hundredths answered all }
+{
+    if all == 0 {
+        return 0;
+    }
+    u64::from(answered) * 100 / u64::from(all)
+}
+
+/// Whether a line is due when so many questions are answered.
+fn is_due(answered: u32, all: u32) -> bool
+    ensures { result ≡ is_due answered all }
+{
+    answered == all || hundredths(answered.saturating_sub(1), all) < hundredths(answered, all)
+}
+
+/// The line that says how many questions are answered.
+fn line_of_progress(answered: u32, all: u32) -> Line
+    ensures { result.bytes ≡ line_of_progress answered all }
+{
+    let mut line = Line::new();
+    line.push_str("diffuse: ");
+    push_number(&mut line, u64::from(answered));
+    line.push_str(" of ");
+    push_number(&mut line, u64::from(all));
+    line.push_str(" questions answered\n");
+    line
+}
+
+/// Shows that so many questions are answered, if a line is due.
+fn show_progress<E: RoadWrite>(errors: &mut E, answered: u32, all: u32)
+    ensures { IsAdded (E.written errors.old) (E.written errors.new) (E.failures errors.old) (E.failures errors.new)
+        (due_line answered all) }
+{
+    if is_due(answered, all) {
+        let _ = write_bytes(errors, line_of_progress(answered, all).as_str().as_bytes());
+    }
+}
+
+/// Shows what a report says of so many questions.
+pub(crate) fn show_report<E: RoadWrite>(errors: &mut E, all: u32, report: &Report)
+    ensures { IsAdded (E.written errors.old) (E.written errors.new) (E.failures errors.old) (E.failures errors.new)
+        (shown_at all report.now) }
+{
+    match report {
+        Report::Begun { questions, .. } => show_progress(errors, 0, *questions),
+        Report::Gathered { .. } => {}
+        Report::Answered { questions } => show_progress(errors, *questions, all),
+    }
+}

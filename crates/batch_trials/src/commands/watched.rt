@@ -146,7 +146,8 @@ fn assert_cut(
 ) {
     let usual = Settings::default();
     let said = solved(rt, AlgebraChoice::Reach, &usual, FROM_THREE, room, true);
-    assert_eq!(rt; said.accounts.as_slice(), &COUNTS.as_bytes()[..room]);
+    assert!(rt; COUNTS.as_bytes().starts_with(said.accounts.as_slice()));
+    assert_eq!(rt; said.accounts.len(), room);
     let shown =
         "diffuse: 1 of 3 questions answered\ndiffuse: 2 of 3 questions answered\ndiffuse: 3 of 3 questions answered\ndiffuse: fault 42\n";
     assert_eq!(rt; said.errors.as_slice(), shown.as_bytes());

@@ -73,8 +73,8 @@ class Plain(Case):
         return commands
 
 
-class Threaded(Case):
-    """Questions side by side by the one-thread solver, beside the plain C++ program with as many threads."""
+class Wide(Case):
+    """The one-thread solver with so many questions side by side."""
 
     def __init__(self, files, kind, width):
         super().__init__(files, kind)
@@ -82,6 +82,10 @@ class Threaded(Case):
 
     def title(self):
         return "%s, %s, width %d" % (self.files.name, self.kind, self.width)
+
+
+class Threaded(Wide):
+    """Questions side by side by the one-thread solver, beside the plain C++ program with as many threads."""
 
     def commands(self, programs, folder):
         graph, questions, width = self.files.graph, self.files.questions[self.kind], str(self.width)
@@ -91,15 +95,8 @@ class Threaded(Case):
         }
 
 
-class Batch(Case):
+class Batch(Wide):
     """Several questions of one file by the one-thread solver, beside one source of the same graph."""
-
-    def __init__(self, files, kind, width):
-        super().__init__(files, kind)
-        self.width = width
-
-    def title(self):
-        return "%s, %s, width %d" % (self.files.name, self.kind, self.width)
 
     def commands(self, programs, folder):
         words = ["solve", self.files.graph, self.files.questions[self.kind], "--plain", "--width", str(self.width)]

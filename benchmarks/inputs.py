@@ -34,14 +34,14 @@ def compiler():
 
 
 def build(folder):
-    """Compiles each C++ program that is not there yet or older than its source; gives their paths by name."""
+    """Compiles each C++ program that is not there yet or older than its source or a header; gives their paths by name."""
     if shutil.which(compiler()) is None:
         stop("there is no %s on the path, which builds the programs of benchmarks/" % compiler())
     os.makedirs(folder, exist_ok=True)
-    paths, common = {}, os.path.join(HERE, "common.hpp")
+    paths, headers = {}, [os.path.join(HERE, name) for name in ("common.hpp", "output.hpp")]
     for name in SOURCES:
         source, paths[name] = os.path.join(HERE, name + ".cpp"), os.path.join(folder, name)
-        if not (is_newer(paths[name], source) and is_newer(paths[name], common)):
+        if not all(is_newer(paths[name], it) for it in [source, *headers]):
             note("building " + name)
             subprocess.run([compiler(), "-O2", "-std=c++17", "-pthread", "-o", paths[name], source], check=True)
     return paths

@@ -128,38 +128,20 @@ struct Baseline : Peer {
     Baseline() : Peer("baseline") {}
     void open(const ArcList& list) override { graph = std::make_unique<Graph>(list); }
 
-    void settle(uint32_t source, Answer& answer) {
-        struct Entry {
-            uint64_t distance;
-            uint32_t vertex;
-            bool operator<(const Entry& other) const { return distance > other.distance; }
-        };
-        std::priority_queue<Entry> waiting;
-        answer.distance[source] = 0;
-        waiting.push({0, source});
-        while (!waiting.empty()) {
-            Entry next = waiting.top();
-            waiting.pop();
-            if (next.distance > answer.distance[next.vertex]) continue;
-            for (auto [head, weight] : graph->out_of(next.vertex)) {
-                uint64_t distance = next.distance + weight;
-                if (distance >= answer.distance[head]) continue;
-                answer.distance[head] = distance;
-                waiting.push({distance, head});
-            }
-        }
+    Answer answer_from(uint32_t source) const {
+        Answer answer(graph->vertices());
+        settle(*graph, source, answer);
         find_parents(*graph, source, answer);
+        return answer;
     }
 
     uint64_t tree(uint32_t source) override {
-        Answer answer(graph->vertices());
-        settle(source, answer);
+        Answer answer = answer_from(source);
         return sum_of(answer.distance.data() + 1, graph->vertices());
     }
 
     uint64_t route(uint32_t source, uint32_t target) override {
-        Answer answer(graph->vertices());
-        settle(source, answer);
+        Answer answer = answer_from(source);
         vector<uint32_t> back;
         for (uint32_t v = target; v != source && v != 0; v = answer.parent[v]) back.push_back(v);
         return answer.distance[target] == UNREACHED ? 0 : answer.distance[target];

@@ -12,25 +12,10 @@ struct Pair {
 };
 
 static vector<Pair> read_pairs(const char* path, uint32_t vertices) {
-    vector<Pair> pairs;
-    bool begun = false;
-    uint64_t announced = 0;
-    read_lines(path, [&](Fields& fields) {
-        if (fields.first() == 'q') {
-            fields.word("q");
-            if (!begun || pairs.size() == announced) fields.refuse("a pair too many");
-            auto source = static_cast<uint32_t>(fields.number(1, vertices));
-            pairs.push_back({source, static_cast<uint32_t>(fields.number(1, vertices))});
-        } else {
-            for (const char* word : {"p", "aux", "sp", "p2p"}) fields.word(word);
-            if (begun) fields.refuse("a second problem line");
-            begun = true;
-            announced = fields.number(0, MOST_QUESTIONS);
-        }
-        fields.finish();
+    return read_questions<Pair>(path, "q", "p2p", [&](Fields& fields) {
+        auto source = static_cast<uint32_t>(fields.number(1, vertices));
+        return Pair{source, static_cast<uint32_t>(fields.number(1, vertices))};
     });
-    if (!begun || pairs.size() < announced) stop(string(path) + ": too few lines");
-    return pairs;
 }
 
 // The vertices from the source to the target, each the parent of the next.

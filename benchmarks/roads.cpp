@@ -13,24 +13,12 @@
 // neighbours mostly have near numbers, as in the challenge's graphs; with `shuffled` the numbers have no order. With
 // `motorways` some of the further streets go straight over eight cells, along every 32nd row and column, at less than half
 // their length: then a route by few arcs is seldom much longer than the shortest.
+#include "output.hpp"
+
 #include <algorithm>
 #include <cmath>
-#include <cstdint>
-#include <cstdio>
-#include <cstdlib>
-#include <initializer_list>
 #include <numeric>
-#include <string>
 #include <utility>
-#include <vector>
-
-using std::string;
-using std::vector;
-
-[[noreturn]] static void stop(const string& message) {
-    std::fprintf(stderr, "roads: %s\n", message.c_str());
-    std::exit(2);
-}
 
 // The finishing step of the generator SplitMix64: spreads the bits of a word.
 static uint64_t mixed(uint64_t z) {
@@ -64,48 +52,6 @@ public:
 
 // What a sequence is used for.
 enum Use { STREETS = 1, PLACES, BENDS, DIRECTIONS, NUMBERS, SOURCES, PAIRS, GROUPS };
-
-// Standard output, in large writes.
-class Output {
-    static constexpr size_t ROOM = 1 << 20, LONGEST = 128;
-    vector<char> buffer = vector<char>(ROOM);
-    size_t used = 0;
-
-    void write_out() {
-        if (std::fwrite(buffer.data(), 1, used, stdout) != used) stop("the output could not be written");
-        used = 0;
-    }
-
-public:
-    void text(const string& words) {
-        for (char c : words) put(c);
-    }
-
-    void put(char c) {
-        if (used == ROOM) write_out();
-        buffer[used++] = c;
-    }
-
-    // A letter and numbers, as one line.
-    void line(char letter, std::initializer_list<uint64_t> numbers) {
-        if (used + LONGEST > ROOM) write_out();
-        buffer[used++] = letter;
-        for (uint64_t number : numbers) {
-            char digits[20];
-            size_t count = 0;
-            do digits[count++] = static_cast<char>('0' + number % 10);
-            while (number /= 10);
-            buffer[used++] = ' ';
-            while (count > 0) buffer[used++] = digits[--count];
-        }
-        buffer[used++] = '\n';
-    }
-
-    void finish() {
-        write_out();
-        if (std::fflush(stdout) != 0) stop("the output could not be written");
-    }
-};
 
 // Places 0 to count - 1, in the order of a Z-curve through the cells of a grid that is filled row by row.
 class Plane {
@@ -270,8 +216,8 @@ static void write_graph(uint32_t vertices, uint64_t arcs, uint64_t seed, Kind ki
     auto write_both = [&, &number_of = number_of](uint32_t a, uint32_t b, uint64_t weight) {
         uint64_t u = number_of[a], v = number_of[b];
         if (directions.below(2) == 1) std::swap(u, v);
-        out.line('a', {u, v, weight});
-        out.line('a', {v, u, weight});
+        out.line("a", {u, v, weight});
+        out.line("a", {v, u, weight});
     };
     for (uint32_t place : place_of) {
         for (Street street : {place * 2, place * 2 + 1}) {
@@ -283,7 +229,7 @@ static void write_graph(uint32_t vertices, uint64_t arcs, uint64_t seed, Kind ki
             if (exit != place) write_both(place, exit, lengths.weight(place, exit) * 9 / 20);
         }
     }
-    out.finish();
+    out.write_out();
 }
 
 // The comments and the problem line of a question file.
@@ -303,17 +249,17 @@ static void write_questions(const string& kind, uint32_t vertices, uint64_t ques
     auto vertex = [&] { return 1 + random.below(vertices); };
     for (uint64_t i = 0; i < questions; i++) {
         if (kind == "ss") {
-            out.line('s', {vertex()});
+            out.line("s", {vertex()});
         } else if (kind == "p2p") {
             uint64_t source = vertex();
-            out.line('q', {source, vertex()});
+            out.line("q", {source, vertex()});
         } else {
             out.text("m");
             for (uint64_t left = 1 + random.below(5); left > 0; left--) out.text(" " + std::to_string(vertex()));
             out.text("\n");
         }
     }
-    out.finish();
+    out.write_out();
 }
 
 static uint64_t number(const char* word, uint64_t greatest) {

@@ -7,14 +7,14 @@
 #![tactic(auto)]
 
 mod bad_ends;
-mod compact;
+mod graph;
 mod in_graph;
 mod index;
 mod lookup;
 mod out_graph;
 mod rows;
 
-pub use compact::Graph;
+pub use graph::Graph;
 pub use in_graph::InGraph;
 pub use out_graph::OutGraph;
 use std::alloc::AllocError;

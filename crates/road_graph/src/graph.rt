@@ -1,4 +1,4 @@
-//! The graph with its arcs by number, by tail and by head.
+//! The graph in compressed sparse rows: its arcs by number, by tail and by head.
 
 ghost use Rattle.std.specs.Prelude.{◌≡◌, ◌≤◌, ◌↔◌, ◌^◌, length, IsTrue, MatchResult};
 ghost use Rattle.road_graph.specs.GraphData.{IsGraph};

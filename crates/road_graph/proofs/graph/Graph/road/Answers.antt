@@ -2,7 +2,7 @@ use Rattle.std.proofs.Common.{◌∙◌, subst}
 use Rattle.road_graph.specs.GraphData.{GraphData}
 use Rattle.road_graph.specs.Making.{IsEnds, IsIndex}
 use Rattle.road_graph.proofs.Entries.{road_by_entry}
-use Rattle.road_graph.proofs.compact.Graph.road.Goals as goal
+use Rattle.road_graph.proofs.graph.Graph.road.Goals as goal
 
 pub bounds-roads_from-entry : goal.bounds-roads_from-entry
 bounds-roads_from-entry c =

@@ -1,6 +1,6 @@
 use Rattle.std.proofs.Common.{arith}
 use Rattle.std.proofs.lemmas.Grind.{common_steps}
-use Rattle.road_graph.proofs.compact.Graph.index.Goals as goal
+use Rattle.road_graph.proofs.graph.Graph.index.Goals as goal
 
 pub invariant_of-self : goal.invariant_of-self
 invariant_of-self c = grind (arith, common_steps)

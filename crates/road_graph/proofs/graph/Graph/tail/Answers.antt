@@ -1,6 +1,6 @@
 use Rattle.std.proofs.Common.{arith}
 use Rattle.std.proofs.lemmas.Grind.{common_steps}
-use Rattle.road_graph.proofs.compact.Graph.tail.Goals as goal
+use Rattle.road_graph.proofs.graph.Graph.tail.Goals as goal
 
 pub returns-in-Tails : goal.returns-in-Tails
 returns-in-Tails c = grind (arith, common_steps)

@@ -3,7 +3,7 @@ use Rattle.road_graph.specs.GraphData.{GraphData, HasVertex, ListsArcsInto}
 use Rattle.road_graph.specs.Making.{AreRows}
 use Rattle.road_graph.specs.declared.Side.TheVariants.{Head}
 use Rattle.road_graph.proofs.Reading.{row_lists_into}
-use Rattle.road_graph.proofs.compact.Graph.into.Goals as goal
+use Rattle.road_graph.proofs.graph.Graph.into.Goals as goal
 
 pub returns : goal.returns
 returns c =

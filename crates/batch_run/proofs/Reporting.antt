@@ -11,7 +11,7 @@ use Rattle.road_files.specs.Asked.{Question, Asked, sources_of}
 use Rattle.path_algebra.specs.Algebra.{Algebra}
 use Rattle.path_algebra.specs.Walks.{AreBest}
 use Rattle.shard_part.specs.Plans.{PlanData}
-use Rattle.shard_part.specs.PartState.{Setup}
+use Rattle.shard_part.specs.PartState.{SetupData}
 use Rattle.station.specs.declared.gathering.Gathered.{Gathered}
 use Rattle.station.specs.Gather.{IsGathered}
 use Rattle.batch_run.specs.declared.solve.diffusion.EndedDiffusion.{EndedDiffusion}
@@ -34,17 +34,17 @@ module _ {S V : Type 0} (meaning : S → Algebra V) where
     gathered = record { roads = h.roads; source = h.source; labels = h.labels; events = h.events; ended = h.ended; quiet = h.quiet; tally = h.tally; equal = h.equal };
   }
 
-  best_of : (t : Setup S) (found : Gathered V) → IsGathered meaning t found → AreBest (meaning t.question.algebra) t.question.roads (t.question.source ∷ []) found.labels
+  best_of : (t : SetupData S) (found : Gathered V) → IsGathered meaning t found → AreBest (meaning t.diffusion.algebra) t.diffusion.roads (t.diffusion.source ∷ []) found.labels
   best_of t found h = h.labels
 
   -- so are the labels
   pub are_best : (algebra : S) (g : GraphData) (plan : PlanData) (source : ℕ) (e : EndedDiffusion S V) (found : Gathered V) → IsEnded algebra g plan e → e.source ≡ source → IsGathered meaning e.floor.setup found → AreBest (meaning algebra) g (source ∷ []) found.labels
   are_best algebra g plan source e found ended from h =
-      subst (λ (s : ℕ). AreBest (meaning algebra) g (s ∷ []) found.labels) from (best_of (diffusion algebra g plan e.source) found (subst (λ (t : Setup S). IsGathered meaning t found) ended.setup h))
+      subst (λ (s : ℕ). AreBest (meaning algebra) g (s ∷ []) found.labels) from (best_of (diffusion algebra g plan e.source) found (subst (λ (t : SetupData S). IsGathered meaning t found) ended.setup h))
 
   pub is_account : (algebra : S) (g : GraphData) (plan : PlanData) (source : ℕ) (e : EndedDiffusion S V) (found : Gathered V) → IsEnded algebra g plan e → e.source ≡ source → IsGathered meaning e.floor.setup found → IsAccount (meaning algebra) g source found.tally
   is_account algebra g plan source e found ended from h =
-      subst (λ (s : ℕ). IsAccount (meaning algebra) g s found.tally) from (account_of algebra g plan e.source found (subst (λ (t : Setup S). IsGathered meaning t found) ended.setup h))
+      subst (λ (s : ℕ). IsAccount (meaning algebra) g s found.tally) from (account_of algebra g plan e.source found (subst (λ (t : SetupData S). IsGathered meaning t found) ended.setup h))
 
 -- what holds holds after a fault
 pub after_err : {X E : Type 0} (r : Result X E) (P : Type 0) → P → OnErr r P

@@ -6,7 +6,7 @@ use Rattle.std.proofs.lemmas.List.Elements.{All-head, All-tail}
 use Rattle.std.proofs.lemmas.Grind.{common_steps}
 use Rattle.std.proofs.lemmas.Option.{slice_get-get_or, get_or_from_slice_get}
 use Rattle.path_algebra.specs.Algebra.{Algebra}
-use Rattle.shard_part.specs.PartState.{Setup}
+use Rattle.shard_part.specs.PartState.{SetupData}
 use Rattle.shard_part.specs.Opening.{opened_parts}
 use Rattle.post_floor.specs.Data.{FloorData}
 use Rattle.station.specs.Station.{StationData}
@@ -52,7 +52,7 @@ module _ {F L : Type 0} (R : ℕ → F → L → Type 0) (fs gs : List F) (ls ms
       rw (ef, el) at (each q e k low)
 
 -- as they are opened there is a station for each shard
-opened_shard : {S V : Type 0} (A : Algebra V) (t : Setup S) (f : FloorData S) (m first n k : ℕ) → first ≤ k → k < first + n → HasShard k (map (station_of f.id m) (opened_parts A t first n))
+opened_shard : {S V : Type 0} (A : Algebra V) (t : SetupData S) (f : FloorData S) (m first n k : ℕ) → first ≤ k → k < first + n → HasShard k (map (station_of f.id m) (opened_parts A t first n))
 unfolding Some_of
 opened_shard A t f m first zero k low high = absurd (omega arith)
 opened_shard A t f m first (suc n) k low high = elim (cases_lt first k) as (λ _. HasShard k (map (station_of f.id m) (opened_parts A t first (suc n)))) [
@@ -60,10 +60,10 @@ opened_shard A t f m first (suc n) k low high = elim (cases_lt first k) as (λ _
   | inr here ↦ inl (omega arith)
 ]
 
-pub shards_opened : {S V : Type 0} (meaning : S → Algebra V) (t : Setup S) (f : FloorData S) (stations : List (StationData S V)) → AreOpened meaning t f stations → (k : ℕ) → k < t.plan.shards → HasShard k stations
-shards_opened meaning t f stations o k low = rw o.stations_are (opened_shard (meaning t.question.algebra) t f t.plan.shards 0 t.plan.shards k (omega arith) (omega arith))
+pub shards_opened : {S V : Type 0} (meaning : S → Algebra V) (t : SetupData S) (f : FloorData S) (stations : List (StationData S V)) → AreOpened meaning t f stations → (k : ℕ) → k < t.plan.shards → HasShard k stations
+shards_opened meaning t f stations o k low = rw o.stations_are (opened_shard (meaning t.diffusion.algebra) t f t.plan.shards 0 t.plan.shards k (omega arith) (omega arith))
 
-module _ {S V W : Type 0} (meaning : S → Algebra V) (setup : ℕ → Setup S) (floors : List (FloorData S)) (questions : List (Vec (StationData S V) W)) (n : ℕ) (same : length floors ≡ n)
+module _ {S V W : Type 0} (meaning : S → Algebra V) (setup : ℕ → SetupData S) (floors : List (FloorData S)) (questions : List (Vec (StationData S V) W)) (n : ℕ) (same : length floors ≡ n)
     (opened : (q : ℕ) (f : FloorData S) (v : Vec (StationData S V) W) → q < n → AreOpened meaning (setup q) (get_or floors q f) (get_or questions q v).items) where
   -- each station is beside its floor
   pub opened_placed : (q : ℕ) (v : Vec (StationData S V) W) → q < n → All (λ s. IsOnItsFloor floors (q, s)) (get_or questions q v).items

@@ -3,7 +3,7 @@ use Rattle.std.specs.Prelude.{◌≡◌, ℕ, ◌<◌, List, length, true, Optio
 use Rattle.std.specs.List.{All}
 use Rattle.road_graph.specs.GraphData.{GraphData, HasVertex}
 use Rattle.shard_part.specs.Plans.{PlanData}
-use Rattle.shard_part.specs.PartState.{Setup}
+use Rattle.shard_part.specs.PartState.{SetupData}
 use Rattle.post_floor.specs.Data.{FloorData}
 use Rattle.station.specs.Station.{StationData, BelongsTo}
 use Rattle.worker_fleet.specs.Groups.{HasShard}
@@ -17,11 +17,11 @@ pub record IsSchedule (roads : GraphData) (plan : PlanData) (sources : List ℕ)
   pub within : All (HasVertex roads) sources
 
 -- a diffusion over a graph and a plan, from a source
-abbrev pub diffusion : {A : Type 0} → A → GraphData → PlanData → ℕ → Setup A
-diffusion algebra roads plan source = record { question = record { algebra = algebra; roads = roads; source = source }; plan = plan }
+abbrev pub diffusion : {A : Type 0} → A → GraphData → PlanData → ℕ → SetupData A
+diffusion algebra roads plan source = record { diffusion = record { algebra = algebra; roads = roads; source = source }; plan = plan }
 
 -- a diffusion was run to its end on this floor: each of its stations is here, and has ended
-pub record AreEnded {A V : Type 0} (t : Setup A) (floor : FloorData A) (stations : List (StationData A V)) : Type 0 where
+pub record AreEnded {A V : Type 0} (t : SetupData A) (floor : FloorData A) (stations : List (StationData A V)) : Type 0 where
   pub setup : floor.setup ≡ t
   pub own : All (BelongsTo floor) stations
   pub ended : All (λ s. s.ended ≡ true) stations

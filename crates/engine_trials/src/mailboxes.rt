@@ -128,7 +128,7 @@ fn fetch<A: PathAlgebra>(
     true
 }
 
-/// Announces to the others that the question has ended, if the part knows it.
+/// Announces to the others that the diffusion has ended, if the part knows it.
 fn announce<A: PathAlgebra>(floor: &Floor<A>, seat: &mut Seat<A>, part: &Part<'_, A>) -> bool
     requires { IsAt A.meaning floor.now seat.old part.now }
     ensures { IsAt A.meaning floor.now seat.new part.now }

@@ -56,7 +56,7 @@ fn assert_outgoing<A: PathAlgebra>(rt: &impl Abort, part: &Part<'_, A>, to: u8, 
     assert!(rt; part.outgoing(Shard(to)) == wanted);
 }
 
-/// Asserts whether a part knows that the question has ended.
+/// Asserts whether a part knows that the diffusion has ended.
 fn assert_ended<A: PathAlgebra>(rt: &impl Abort, part: &Part<'_, A>, wanted: bool) {
     assert!(rt; part.ended() == wanted);
 }
@@ -230,7 +230,7 @@ fn message_goes_over<A: PathAlgebra<Value = u64>>(
     put_in(rt, second, batch);
 }
 
-/// Vertex 2 takes its message, and sends the signal back, with which the question ends.
+/// Vertex 2 takes its message, and sends the signal back, with which the diffusion ends.
 fn signal_comes_back<A: PathAlgebra<Value = u64>>(
     rt: &(impl Abort + AllocGlobal),
     first: &mut Part<'_, A>,
@@ -289,7 +289,7 @@ fn tallies_of_two_parts(rt: HostRuntime) {
     assert_tallies(&rt, &mut parts_of(&rt, Shortest, &ground));
 }
 
-/// Asserts that the first part alone ends the question, and sends nothing to two others.
+/// Asserts that the first part alone ends the diffusion, and sends nothing to two others.
 fn assert_ends_alone<A: PathAlgebra<Value = u64>>(rt: &impl Abort, parts: &mut [Part<'_, A>]) {
     let [first, _, _] = parts else {
         panic!(rt; "not three parts")

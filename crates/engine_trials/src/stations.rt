@@ -1,9 +1,9 @@
-//! Questions that stations answer together. A call that was refused memory is made once more, so a question ends the same if any one growth is refused.
+//! Diffusions that stations answer together. A call that was refused memory is made once more, so a diffusion ends the same if any one growth is refused.
 ghost use Rattle.std.specs.Prelude.{◌≡◌, ℕ, ◌+◌, ◌<◌, Bool, [], length};
 ghost use Rattle.std.specs.List.{All};
 ghost use Rattle.path_algebra.specs.Given.{reach};
 ghost use Rattle.scholten_core.specs.Accounts.{AreMarksOfReached, count_marked};
-ghost use Rattle.shard_part.specs.PartState.{Setup};
+ghost use Rattle.shard_part.specs.PartState.{SetupData};
 ghost use Rattle.station.specs.Gather.{IsGathered, each_shows};
 ghost use Rattle.station.specs.Station.{BelongsTo};
 
@@ -16,7 +16,7 @@ use post_floor::Floor;
 use road_graph::{Graph, Vertex};
 use shard_part::{Plan, Shard};
 use station::{
-    Finished, GatherFault, Gathered, Station, Ungathered, gather, open_question,
+    Finished, GatherFault, Gathered, Station, Ungathered, gather, open_diffusion,
     reach_counts_each_arc_once,
 };
 use std::process::Abort;
@@ -34,7 +34,7 @@ fn by_table(rt: &(impl Abort + AllocGlobal)) -> Plan {
     }
 }
 
-/// A question from a vertex.
+/// A diffusion from a vertex.
 pub fn opened<'g, A: PathAlgebra>(
     rt: &(impl Abort + AllocGlobal),
     algebra: A,
@@ -43,15 +43,15 @@ pub fn opened<'g, A: PathAlgebra>(
     source: u32,
 ) -> (Floor<A>, Vec<Station<'g, A>>)
     ensures own { All (BelongsTo result.0) result.1.items }
-    ensures roads { result.0.setup.question.roads ≡ graph.now }
-    ensures source { result.0.setup.question.source ≡ source }
+    ensures roads { result.0.setup.diffusion.roads ≡ graph.now }
+    ensures source { result.0.setup.diffusion.source ≡ source }
 {
     assert!(rt; graph.has(Vertex(source)));
     assert!(rt; plan.vertices() == graph.vertices());
-    match open_question(rt.alloc(), algebra, graph, plan, Vertex(source)) {
+    match open_diffusion(rt.alloc(), algebra, graph, plan, Vertex(source)) {
         Ok(opened) => opened,
         Err(_) => {
-            open_question(rt.alloc(), algebra, graph, plan, Vertex(source)).expect(rt, "memory")
+            open_diffusion(rt.alloc(), algebra, graph, plan, Vertex(source)).expect(rt, "memory")
         }
     }
 }
@@ -198,7 +198,7 @@ fn gathered<A: PathAlgebra>(
     }
 }
 
-/// The answer of a question, after this many turns.
+/// The answer of a diffusion, after this many turns.
 fn answered<A: PathAlgebra>(
     rt: &(impl Abort + AllocGlobal),
     algebra: A,
@@ -208,8 +208,8 @@ fn answered<A: PathAlgebra>(
     budget: u32,
     turns: usize,
 ) -> Gathered<A::Value>
-    ensures { (q : Setup A) × IsGathered A.meaning q result × (q.question.roads ≡ graph.now) ×
-        (q.question.source ≡ source) }
+    ensures { (q : SetupData A) × IsGathered A.meaning q result × (q.diffusion.roads ≡ graph.now) ×
+        (q.diffusion.source ≡ source) }
 {
     let (floor, stations) = opened(rt, algebra, graph, plan, source);
     let stations = turned(rt, &floor, stations, budget, turns);
@@ -252,7 +252,7 @@ fn stations_in_turn(rt: HostRuntime) {
     assert_answer(&rt, Shortest, &blocks_of(&rt, 5, 3), 1, 200, SHORTEST);
 }
 
-/// Asserts that all stations of a question from vertex 1 have ended, after this many turns.
+/// Asserts that all stations of a diffusion from vertex 1 have ended, after this many turns.
 fn assert_all_ended<A: PathAlgebra>(
     rt: &(impl Abort + AllocGlobal),
     algebra: A,

@@ -33,7 +33,7 @@ const TWICE: [Event; 8] = [
 struct Trial<'g, A: PathAlgebra> {
     graph: &'g Graph,
     core: Core<'g, A>,
-    ghost same: { core.question.roads ≡ graph.now },
+    ghost same: { core.diffusion.roads ≡ graph.now },
 }
 
 impl<'g, A: PathAlgebra> Trial<'g, A> {

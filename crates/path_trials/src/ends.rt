@@ -12,7 +12,7 @@ use crate::graphs::graph_of;
 use path_algebra::{Shortest, Widest, simple_walks_are_listed};
 use road_graph::{ArcNo, Vertex};
 use scholten_core::{
-    Core, Event, a_run_is_never_stuck, every_question_can_end, every_run_is_finite,
+    Core, Event, a_run_is_never_stuck, every_diffusion_can_end, every_run_is_finite,
     every_schedule_ends, labels_are_values_of_simple_walks,
 };
 
@@ -83,7 +83,7 @@ fn theorems_of_the_end_may_be_cited(_rt: HostRuntime) {
     a_run_is_never_stuck(Widest);
     labels_are_values_of_simple_walks(Widest);
     simple_walks_are_listed();
-    every_question_can_end(Widest);
+    every_diffusion_can_end(Widest);
     every_schedule_ends(Widest);
     five_vertices_end_soon();
     two_locks_end_soon();

@@ -7,7 +7,7 @@ use Rattle.atomic_table.specs.Table.{Me, rest}
 use Rattle.circular_buffer.specs.Buffer.{Buffer, buffer}
 use Rattle.path_algebra.specs.Algebra.{Algebra}
 use Rattle.scholten_core.specs.declared.item.Item.{Item}
-use Rattle.shard_part.specs.PartState.{PartData, Setup, network_of, place_in, vertex_of, maker_of, IsArc}
+use Rattle.shard_part.specs.PartState.{PartData, SetupData, network_of, place_in, vertex_of, maker_of, IsArc}
 use Rattle.shard_part.specs.LocalInvariant.{LocalInvariant}
 use Rattle.shard_part.specs.Weights.{All}
 use Rattle.scholten_core.specs.Items.{item_arc}
@@ -41,7 +41,7 @@ made_here p [] to a = tt
 made_here p (i ∷ xs) to a = (a.0.1, made_here p xs to a.1)
 
 -- the outbox of p is in the slot
-pub publishing : {S V : Type 0} {meaning : S → Algebra V} {id pass pass' : TableId} {t : Setup S} {k to : ℕ} {p q : PartData S V} (m m' : Me (Slot V) (View S V)) {x : Slot V} {b b' : Buffer (Item V)}
+pub publishing : {S V : Type 0} {meaning : S → Algebra V} {id pass pass' : TableId} {t : SetupData S} {k to : ℕ} {p q : PartData S V} (m m' : Me (Slot V) (View S V)) {x : Slot V} {b b' : Buffer (Item V)}
     → AtTable meaning id t pass m.0 p → p.setup ≡ t → IsBetween t.plan.shards p.shard to k → LocalInvariant (network_of p.setup) (place_in p.setup) p → HasEmpty t k m → pass' ≡ pass
     → q ≡ published_to to p → m.1 ≡ (k, x) ∷ rest m.1 → x ≡ std.Some b → b' ≡ buffer (get_or p.outs to []) b.capacity → m'.0 ≡ m.0 → m'.1 ≡ (k, std.Some b') ∷ rest m'.1
     → Publishing meaning id t pass' k q m'
@@ -55,5 +55,5 @@ publishing {S} {V} {meaning} {id} {pass} {pass'} {t} {k} {to} {p} {q} m m' {x} {
       left = left ∙ ap (λ z. published_to z p) to_is;
       slot = slot ∙ (λ i. (k, std.Some (b_is i)) ∷ rest m'.1);
       made = subst (λ (z : ℕ × ℕ). MadeAt t z.0 (get_or p.outs z.1 [])) (λ i. (sym between.comes_from i, to_is i))
-          (subst (λ (u : Setup S). MadeAt u p.shard (get_or p.outs to [])) is (made_here p (get_or p.outs to []) to (sound.gone to)));
+          (subst (λ (u : SetupData S). MadeAt u p.shard (get_or p.outs to [])) is (made_here p (get_or p.outs to []) to (sound.gone to)));
     }

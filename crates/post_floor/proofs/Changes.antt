@@ -14,7 +14,7 @@ use Rattle.scholten_core.specs.Network.{WellFormed}
 use Rattle.scholten_core.specs.Diffusion.{CoreState, opening, run_from, step as next_state, delivered, accepted, HasEnded, IsQuiet}
 use Rattle.scholten_core.specs.declared.event.Event.TheVariants.{Deliver, Accept}
 use Rattle.scholten_core.proofs.Ended.{ended}
-use Rattle.shard_part.specs.PartState.{PartData, Setup, network_of, place_in, event_of}
+use Rattle.shard_part.specs.PartState.{PartData, SetupData, network_of, place_in, event_of}
 use Rattle.shard_part.specs.Weights.{total, is, part_weight}
 use Rattle.shard_part.specs.Handling.{HandledAll}
 use Rattle.shard_part.specs.Represents.{HoldsShareIn}
@@ -36,7 +36,7 @@ module _ {V : Type 0} (A : Algebra V) (N : Rattle.scholten_core.specs.Network.Ne
   quiet_stays (Deliver a ∷ es) c Q = let one : next_state A N c (Deliver a) ≡ c = ap (delivered A N a c) (Q.0 a) in ap (λ (d : CoreState V). run_from A N d es) one ∙ quiet_stays es c Q
   quiet_stays (Accept a ∷ es) c Q = let one : next_state A N c (Accept a) ≡ c = ap (accepted A N a c) (Q.0 a) in ap (λ (d : CoreState V). run_from A N d es) one ∙ quiet_stays es c Q
 
-module _ {S V : Type 0} (meaning : S → Algebra V) (t : Setup S) (L : AllLawful meaning) (W : WellFormed (network_of t)) where
+module _ {S V : Type 0} (meaning : S → Algebra V) (t : SetupData S) (L : AllLawful meaning) (W : WellFormed (network_of t)) where
   abbrev pub Tab : Type 0
   Tab = State (Slot V) (View S V)
 
@@ -45,8 +45,8 @@ module _ {S V : Type 0} (meaning : S → Algebra V) (t : Setup S) (L : AllLawful
 
   pub ended_more : (events more : List Event) → HasEnded (core_of meaning t events) → HasEnded (core_of meaning t (events ++ more))
   ended_more events more h =
-      let A = meaning t.question.algebra in let N = network_of t in
-      let Q = (ended A N (L t.question.algebra) W events h).0 in
+      let A = meaning t.diffusion.algebra in let N = network_of t in
+      let Q = (ended A N (L t.diffusion.algebra) W events h).0 in
       ap (λ (d : CoreState V). d.token 0) (run_append A N (opening A N) events more ∙ quiet_stays A N more (core_of meaning t events) Q) ∙ h
 
   -- Only the mailbox k changes, by the view of the seat id. Its part has gone from b to d by items of its own, and then to e; u is the view but for that.
@@ -116,7 +116,7 @@ module _ {S V : Type 0} (meaning : S → Algebra V) (t : Setup S) (L : AllLawful
         subst (λ (z : ℕ × Place V × ℕ × ℕ). MailboxInvariant t j z.0 z.1 z.2 z.3) (λ i. (p i, q i, f i, g i)) (r.boxes j jl)
 
     pub changes : FloorInvariant meaning t (record { words = set s.words k n'; homes = homes'; views = set s.views id New })
-        × HoldsShareIn (meaning t.question.algebra) (network_of t) (place_in t) (core_of meaning t (r.events ++ map event_of items)) e × (e.setup ≡ t)
+        × HoldsShareIn (meaning t.diffusion.algebra) (network_of t) (place_in t) (core_of meaning t (r.events ++ map event_of items)) e × (e.setup ≡ t)
     changes =
         let n : ℕ = t.plan.shards in
         let G = goes_on meaning t L W s r id v u b d e items c.moves (in_transit n (set s.words k n') homes') c.at c.one c.lists

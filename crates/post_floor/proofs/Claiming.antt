@@ -6,7 +6,7 @@ use Rattle.atomic_table.specs.Table.{rest}
 use Rattle.scholten_core.specs.Sums.{sum_below}
 use Rattle.scholten_core.proofs.Sums.{sum_most, sum_ones}
 use Rattle.shard_part.specs.Weights.{total, is, All}
-use Rattle.shard_part.specs.PartState.{Setup}
+use Rattle.shard_part.specs.PartState.{SetupData}
 use Rattle.shard_part.proofs.Weights.{sum_at, sum_zero}
 use Rattle.shard_part.proofs.Showing.{is_self}
 use Rattle.post_floor.specs.declared.view.View.{View}
@@ -95,7 +95,7 @@ module _ (n s : ℕ) where
   all_low [] a = tt
   all_low (x ∷ xs) a = (place_low x a.0, all_low xs a.1)
 
-module _ {S V : Type 0} (t : Setup S) (s : ℕ) where
+module _ {S V : Type 0} (t : SetupData S) (s : ℕ) where
   pub few_claims : (v : View S V) (slots : List (ℕ × Slot V)) (claims : List ℕ) → AreOpen t s v slots claims → length claims ≤ 8 * t.plan.shards
   few_claims v slots claims o = at_most (place t.plan.shards s) (HasEnd t.plan.shards s) (place_apart t.plan.shards s) claims (8 * t.plan.shards) o.own (all_low t.plan.shards s claims o.own) o.once
 

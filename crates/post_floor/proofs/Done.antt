@@ -12,7 +12,7 @@ use Rattle.scholten_core.specs.Network.{WellFormed}
 use Rattle.scholten_core.specs.Diffusion.{CoreState, HasEnded, IsQuiet, is_idle}
 use Rattle.scholten_core.proofs.Ended.{ended}
 use Rattle.scholten_core.proofs.Basics.{idle-true}
-use Rattle.shard_part.specs.PartState.{PartData, Setup, network_of, place_in, token_if, event_of}
+use Rattle.shard_part.specs.PartState.{PartData, SetupData, network_of, place_in, token_if, event_of}
 use Rattle.shard_part.specs.Weights.{total, is}
 use Rattle.shard_part.specs.Handling.{HandledAll}
 use Rattle.shard_part.specs.Represents.{HoldsShareIn}
@@ -33,21 +33,21 @@ not_busy : (V : Type 0) (z : Bool) → not z ≡ true → is_idle (token_if {V =
 not_busy V true e = absurd cc
 not_busy V false e = refl
 
-module _ {S V : Type 0} (meaning : S → Algebra V) (t : Setup S) where
-  -- the source's part knows whether the question has ended
+module _ {S V : Type 0} (meaning : S → Algebra V) (t : SetupData S) where
+  -- the source's part knows whether the diffusion has ended
   pub over_is : WellFormed (network_of t) → (d : PartData S V) (c : CoreState V) → d.setup ≡ t
-      → HoldsShareIn (meaning t.question.algebra) (network_of t) (place_in t) c d → has_ended d ≡ true → HasEnded c
+      → HoldsShareIn (meaning t.diffusion.algebra) (network_of t) (place_in t) c d → has_ended d ≡ true → HasEnded c
   over_is W d c e H o =
       let q = and_parts (eqb (place_in d.setup 0) d.shard) (not (get_or d.busy 0 false)) o in
-      let here : eqb (place_in t ((network_of t).tail 0)) d.shard ≡ true = ap (λ v. eqb (place_in t v) d.shard) W.tail_zero ∙ ap (λ (u : Setup S). eqb (place_in u 0) d.shard) (sym e) ∙ q.0 in
+      let here : eqb (place_in t ((network_of t).tail 0)) d.shard ≡ true = ap (λ v. eqb (place_in t v) d.shard) W.tail_zero ∙ ap (λ (u : SetupData S). eqb (place_in u 0) d.shard) (sym e) ∙ q.0 in
       idle-true (c.token 0) (sym (H.tables.agree.idle 0 here) ∙ not_busy V (get_or d.busy 0 false) q.1)
 
   ended_at : AllLawful meaning → WellFormed (network_of t) → (p : PartData S V) (events : List Event) → p.setup ≡ t
-      → HoldsShareIn (meaning t.question.algebra) (network_of t) (place_in t) (core_of meaning t events) p → HasEnded (core_of meaning t events)
+      → HoldsShareIn (meaning t.diffusion.algebra) (network_of t) (place_in t) (core_of meaning t events) p → HasEnded (core_of meaning t events)
       → HoldsEndedShare meaning p
   ended_at L W p events e H h =
-      let Q : IsQuiet (core_of meaning t events) = (ended (meaning t.question.algebra) (network_of t) (L t.question.algebra) W events h).0 in
-      let T = subst (λ (u : Setup S). HoldsShareIn (meaning u.question.algebra) (network_of u) (place_in u) (core_of meaning u events) p
+      let Q : IsQuiet (core_of meaning t events) = (ended (meaning t.diffusion.algebra) (network_of t) (L t.diffusion.algebra) W events h).0 in
+      let T = subst (λ (u : SetupData S). HoldsShareIn (meaning u.diffusion.algebra) (network_of u) (place_in u) (core_of meaning u events) p
       × HasEnded (core_of meaning u events) × IsQuiet (core_of meaning u events)) (sym e) (H, h, Q) in (events, T.0, T.1, T.2)
 
   module _ (L : AllLawful meaning) (W : WellFormed (network_of t)) where
@@ -64,7 +64,7 @@ module _ {S V : Type 0} (meaning : S → Algebra V) (t : Setup S) where
       pub reads : u.reads ≡ v.reads
       pub stays : get_or s.words (box_count t.plan.shards) 0 ≡ done_now → n' ≡ done_now
       pub ends : n' ≡ done_now
-          → HoldsShareIn (meaning t.question.algebra) (network_of t) (place_in t) (core_of meaning t (r.events ++ map event_of items)) d → d.setup ≡ t
+          → HoldsShareIn (meaning t.diffusion.algebra) (network_of t) (place_in t) (core_of meaning t (r.events ++ map event_of items)) d → d.setup ≡ t
           → HasEnded (core_of meaning t (r.events ++ map event_of items))
       pub seen : u.seen ≡ true → n' ≡ done_now
 

@@ -13,7 +13,7 @@ use Rattle.scholten_core.specs.declared.event.Event.{Event}
 use Rattle.scholten_core.specs.Network.{WellFormed}
 use Rattle.scholten_core.specs.Diffusion.{CoreState}
 use Rattle.scholten_core.proofs.Kept.{Kept as CoreKept}
-use Rattle.shard_part.specs.PartState.{PartData, Setup, network_of, place_in, event_of}
+use Rattle.shard_part.specs.PartState.{PartData, SetupData, network_of, place_in, event_of}
 use Rattle.shard_part.specs.Weights.{total, is, All}
 use Rattle.shard_part.specs.Handling.{HandledAll}
 use Rattle.shard_part.specs.Represents.{HoldsShareIn}
@@ -32,23 +32,23 @@ use Rattle.shard_part.proofs.Arriving.{arrives}
 use Rattle.post_floor.proofs.Keeps.{gone, Relisted, went, kept_core}
 use Rattle.post_floor.proofs.Changes.{Tab, Seat, changes}
 
-module _ {S V : Type 0} (meaning : S → Algebra V) (t : Setup S) where
+module _ {S V : Type 0} (meaning : S → Algebra V) (t : SetupData S) where
   pub unchanged : (d : PartData S V) → Relisted meaning t d d
   unchanged d = record { setup = refl; shard = refl; tables = refl; outs = refl; sent = refl; delivered = refl; signalled = refl; accepted = refl }
 
   -- a batch that came from another shard, for a part of this setup
   arrived : (p : PartData S V) (c : CoreState V) (xs : List (Item V)) (j : ℕ) → AllLawful meaning → p.setup ≡ t → WellFormed (network_of t)
-      → CoreKept (meaning t.question.algebra) (network_of t) 0 c → j ≢ p.shard → MadeAt t j xs →
-      HoldsShareIn (meaning t.question.algebra) (network_of t) (place_in t) c (joined p xs) → MayReceive meaning p xs
+      → CoreKept (meaning t.diffusion.algebra) (network_of t) 0 c → j ≢ p.shard → MadeAt t j xs →
+      HoldsShareIn (meaning t.diffusion.algebra) (network_of t) (place_in t) c (joined p xs) → MayReceive meaning p xs
   arrived p c xs j L e W K ne made H =
-      let T = subst (λ (u : Setup S). WellFormed (network_of u) × CoreKept (meaning u.question.algebra) (network_of u) 0 c × MadeAt u j xs
-      × HoldsShareIn (meaning u.question.algebra) (network_of u) (place_in u) c (joined p xs)) (sym e) (W, K, made, H) in
-      arrives meaning p (L p.setup.question.algebra) T.0 c T.1 xs j ne T.2 T.3
+      let T = subst (λ (u : SetupData S). WellFormed (network_of u) × CoreKept (meaning u.diffusion.algebra) (network_of u) 0 c × MadeAt u j xs
+      × HoldsShareIn (meaning u.diffusion.algebra) (network_of u) (place_in u) c (joined p xs)) (sym e) (W, K, made, H) in
+      arrives meaning p (L p.setup.diffusion.algebra) T.0 c T.1 xs j ne T.2 T.3
 
   -- a part that holds its share of the state after these events
   pub known_at : (p : PartData S V) (events : List Event) → p.setup ≡ t
-      → HoldsShareIn (meaning t.question.algebra) (network_of t) (place_in t) (core_of meaning t events) p → HoldsReachedShare meaning p
-  known_at p events e H = (events, subst (λ (u : Setup S). HoldsShareIn (meaning u.question.algebra) (network_of u) (place_in u) (core_of meaning u events) p) (sym e) H)
+      → HoldsShareIn (meaning t.diffusion.algebra) (network_of t) (place_in t) (core_of meaning t events) p → HoldsReachedShare meaning p
+  known_at p events e H = (events, subst (λ (u : SetupData S). HoldsShareIn (meaning u.diffusion.algebra) (network_of u) (place_in u) (core_of meaning u events) p) (sym e) H)
 
   module _ (L : AllLawful meaning) (W : WellFormed (network_of t)) where
     abbrev Goes : Tab meaning t L W → ℕ → ℕ → Seat meaning t L W → (ℕ → Seat meaning t L W → Type 0) → ℕ → Type 0
@@ -132,7 +132,7 @@ module _ {S V : Type 0} (meaning : S → Algebra V) (t : Setup S) where
           (
             (λ z. (
               went meaning t me.0 u b d d items T sh (unchanged d),
-              ap (λ (x : Setup S). (k, empty_slot x k) ∷ me.1) (sym e),
+              ap (λ (x : SetupData S). (k, empty_slot x k) ∷ me.1) (sym e),
               unclaimed s r id k me.0 at lt (ap (is filling) hit) (ap (is reading) hit),
             )),
             λ ne. absurd (ne hit),
@@ -184,7 +184,7 @@ module _ {S V : Type 0} (meaning : S → Algebra V) (t : Setup S) where
             (λ z. (
               xs,
               went meaning t me.0 u b d q items T sh lists,
-              ap (λ (x : Setup S). (k, std.Some (buffer xs (mailbox_capacity x k))) ∷ me.1) (sym e),
+              ap (λ (x : SetupData S). (k, std.Some (buffer xs (mailbox_capacity x k))) ∷ me.1) (sym e),
               arrived d (core_of meaning t (r.events ++ map event_of items)) xs (origin t.plan.shards k) L e W (kept_core meaning t L W (r.events ++ map event_of items)) from held.2 C.1,
               unclaimed s r id k me.0 at lt (ap (is filling) hit) (ap (is reading) hit),
               known_at q (r.events ++ map event_of items) C.2 C.1,
@@ -244,7 +244,7 @@ module _ {S V : Type 0} (meaning : S → Algebra V) (t : Setup S) where
           tt,
           C.0,
           (
-            subst (λ (x : Setup S). StepsTo (at_word k full (end_fill (dest x.plan.shards k) k me.0)) q
+            subst (λ (x : SetupData S). StepsTo (at_word k full (end_fill (dest x.plan.shards k) k me.0)) q
                 (gone meaning t me.0 u q (done_by meaning items b d T))) (sym e) (went meaning t me.0 u b d q items T sh lists),
             refl,
           ),
@@ -285,7 +285,7 @@ module _ {S V : Type 0} (meaning : S → Algebra V) (t : Setup S) where
           tt,
           C.0,
           (
-            subst (λ (x : Setup S). StepsTo (at_word k empty (end_read (origin x.plan.shards k) k me.0)) d
+            subst (λ (x : SetupData S). StepsTo (at_word k empty (end_read (origin x.plan.shards k) k me.0)) d
                 (gone meaning t me.0 u d (done_by meaning items b d T))) (sym e) (went meaning t me.0 u b d d items T sh (unchanged d)),
             refl,
           ),

@@ -13,7 +13,7 @@ use Rattle.scholten_core.specs.Diffusion.{CoreState, opening, run_from}
 use Rattle.scholten_core.specs.Shares.{Agree}
 use Rattle.scholten_core.proofs.Kept.{Kept as CoreKept, run_kept}
 use Rattle.scholten_core.proofs.Ended.{opening_kept}
-use Rattle.shard_part.specs.PartState.{PartData, Setup, network_of, place_in, state_in, mine, event_of}
+use Rattle.shard_part.specs.PartState.{PartData, SetupData, network_of, place_in, state_in, mine, event_of}
 use Rattle.shard_part.specs.Weights.{total, is, All, part_weight}
 use Rattle.shard_part.specs.Handling.{HandledAll}
 use Rattle.shard_part.specs.Represents.{HoldsShareIn, RepresentsIn, Represents}
@@ -28,7 +28,7 @@ use Rattle.post_floor.proofs.Parts.{stands}
 use Rattle.shard_part.specs.Exact.{totals_from, done_by}
 use Rattle.shard_part.proofs.Exact.{sent_more, delivered_more, signalled_more, accepted_more, saturates, moves}
 
-module _ {S V : Type 0} (meaning : S → Algebra V) (t : Setup S) where
+module _ {S V : Type 0} (meaning : S → Algebra V) (t : SetupData S) where
   abbrev St : Type 0
   St = State (Slot V) (View S V)
 
@@ -68,24 +68,24 @@ module _ {S V : Type 0} (meaning : S → Algebra V) (t : Setup S) where
   ]
 
   module _ (L : AllLawful meaning) (W : WellFormed (network_of t)) where
-    pub kept_core : (events : List Event) → CoreKept (meaning t.question.algebra) (network_of t) 0 (core_of meaning t events)
-    kept_core events = run_kept (meaning t.question.algebra) (network_of t) (L t.question.algebra) W
-        (opening (meaning t.question.algebra) (network_of t)) events (opening_kept (meaning t.question.algebra) (network_of t) W)
+    pub kept_core : (events : List Event) → CoreKept (meaning t.diffusion.algebra) (network_of t) 0 (core_of meaning t events)
+    kept_core events = run_kept (meaning t.diffusion.algebra) (network_of t) (L t.diffusion.algebra) W
+        (opening (meaning t.diffusion.algebra) (network_of t)) events (opening_kept (meaning t.diffusion.algebra) (network_of t) W)
 
     -- what the parts and mailboxes show after one view went on by items of its part and then changed its lists
     pub record After (s : St) (id : ℕ) (w : View S V) (e : PartData S V) (mail' : (ℕ → Item V → ℕ) → ℕ) (events : List Event) : Type 0 where
       pub shown : Represents meaning t (flat (set s.views id w)) mail' (core_of meaning t events)
       pub whole : (j : ℕ) → j < t.plan.shards → total (λ p. is j p.shard) (flat (set s.views id w)) ≡ 1
       pub below : All (λ p. p.shard < t.plan.shards) (flat (set s.views id w))
-      pub counts : AddUp (set s.views id w) (totals_of (meaning t.question.algebra) (network_of t) events)
-      pub share : HoldsShareIn (meaning t.question.algebra) (network_of t) (place_in t) (core_of meaning t events) e
+      pub counts : AddUp (set s.views id w) (totals_of (meaning t.diffusion.algebra) (network_of t) events)
+      pub share : HoldsShareIn (meaning t.diffusion.algebra) (network_of t) (place_in t) (core_of meaning t events) e
       pub setup : e.setup ≡ t
 
     pub goes_on : (s : St) (r : FloorInvariant meaning t s) (id : ℕ) (v u : View S V) (b d e : PartData S V) (items : List (Item V)) (T : HandledAll meaning b items d) (mail' : (ℕ → Item V → ℕ) → ℕ) →
         get_elem? s.views id ≡ some v → v.parts ≡ b ∷ [] → Relisted d e → ((h : ℕ → Item V → ℕ) → part_weight h e + mail' h ≡ part_weight h d + in_transit t.plan.shards s.words s.homes h) →
         After s id (gone v u e (done_by meaning items b d T)) e mail' (r.events ++ map event_of items)
     goes_on s r id v u b d e items T mail' at one R weighs =
-        let A = meaning t.question.algebra in let N = network_of t in
+        let A = meaning t.diffusion.algebra in let N = network_of t in
         let n : Totals = done_by meaning items b d T in
         let w : View S V = gone v u e n in
         let m0 : (ℕ → Item V → ℕ) → ℕ = in_transit t.plan.shards s.words s.homes in

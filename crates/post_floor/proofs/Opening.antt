@@ -9,7 +9,7 @@ use Rattle.atomic_table.proofs.Lists.{at_map}
 use Rattle.path_algebra.specs.Algebra.{Algebra}
 use Rattle.scholten_core.specs.declared.item.Item.{Item}
 use Rattle.scholten_core.specs.Sums.{one_if}
-use Rattle.shard_part.specs.PartState.{PartData, Setup, place_in}
+use Rattle.shard_part.specs.PartState.{PartData, SetupData, place_in}
 use Rattle.shard_part.specs.Weights.{total, is, All}
 use Rattle.shard_part.specs.Represents.{Represents}
 use Rattle.shard_part.specs.Moves.{IsPlanned}
@@ -27,7 +27,7 @@ only : {A : Type 0} (v : A) (id : ℕ) (u : A) → get_elem? (v ∷ []) id ≡ s
 only v zero u a = some-injective v u a
 only v (suc id) u a = absurd (some-ne-none u (sym a))
 
-module _ {S V : Type 0} (A : Algebra V) (t : Setup S) where
+module _ {S V : Type 0} (A : Algebra V) (t : SetupData S) where
   -- each shard has a part
   pub one_each : (j k n : ℕ) → k ≤ j → j < k + n → total (λ (p : PartData S V). is j p.shard) (opened_parts A t k n) ≡ 1
   one_each j k zero l m = absurd (omega (arith, l, m))
@@ -44,13 +44,13 @@ module _ {S V : Type 0} (A : Algebra V) (t : Setup S) where
   all_below m k zero l = tt
   all_below m k (suc n) l = ((omega (arith, l)), all_below m (suc k) n (omega (arith, l)))
 
-module _ {S V : Type 0} (meaning : S → Algebra V) (t : Setup S) (P : IsPlanned t 0) where
+module _ {S V : Type 0} (meaning : S → Algebra V) (t : SetupData S) (P : IsPlanned t 0) where
   pub opens : (ws : List ℕ) (xs : List (Slot V)) → ws ≡ replicate (box_count t.plan.shards + 1) 0 → length xs ≡ box_count t.plan.shards
       → ((k : ℕ) → k < box_count t.plan.shards → get_elem? xs k ≡ some (empty_slot t k))
-      → FloorInvariant meaning t (opening ws xs (knows t.plan.shards (opened_parts (meaning t.question.algebra) t 0 t.plan.shards)))
+      → FloorInvariant meaning t (opening ws xs (knows t.plan.shards (opened_parts (meaning t.diffusion.algebra) t 0 t.plan.shards)))
   opens ws xs zeros wide empty =
       let n : ℕ = t.plan.shards in
-      let ps : List (PartData S V) = opened_parts (meaning t.question.algebra) t 0 n in
+      let ps : List (PartData S V) = opened_parts (meaning t.diffusion.algebra) t 0 n in
       let v : View S V = knows n ps in
       let hs : List (Option (Slot V)) = map some xs in
       let zero_at : (k : ℕ) → get_or ws k 0 ≡ 0 = λ k. ap (λ (z : List ℕ). get_or z k 0) zeros ∙ get_zero (box_count n + 1) k in
@@ -61,14 +61,14 @@ module _ {S V : Type 0} (meaning : S → Algebra V) (t : Setup S) (P : IsPlanned
       let all : flat (v ∷ []) ≡ ps = append-nil ps in record {
         events = [];
         shown = subst (λ (l : List (PartData S V)). Represents meaning t l (in_transit n ws hs) (Rattle.post_floor.specs.Floor.core_of meaning t [])) (sym all)
-            (record { same = opened_same (meaning t.question.algebra) t P; shown = opened_show (meaning t.question.algebra) t P (in_transit n ws hs) none' });
-        whole = λ j lt. ap (total (λ (p : PartData S V). is j p.shard)) all ∙ one_each (meaning t.question.algebra) t j 0 n (omega arith) (omega (arith, lt));
-        below = subst (All (λ (p : PartData S V). p.shard < n)) (sym all) (all_below (meaning t.question.algebra) t n 0 n (omega arith));
+            (record { same = opened_same (meaning t.diffusion.algebra) t P; shown = opened_show (meaning t.diffusion.algebra) t P (in_transit n ws hs) none' });
+        whole = λ j lt. ap (total (λ (p : PartData S V). is j p.shard)) all ∙ one_each (meaning t.diffusion.algebra) t j 0 n (omega arith) (omega (arith, lt));
+        below = subst (All (λ (p : PartData S V). p.shard < n)) (sym all) (all_below (meaning t.diffusion.algebra) t n 0 n (omega arith));
         idle = λ id u a none''. subst (λ (z : View S V). z.parts ≡ [] → CountsNone z) (only v id u a)
             (λ q. record { sent = ap (total (λ (p : PartData S V). p.sent)) q; delivered = refl; signalled = refl; accepted = refl }) none'';
         counts = record {
-          sent = (let a = sent_are (meaning t.question.algebra) t 0 n in
-              let b = one_each (meaning t.question.algebra) t (place_in t 0) 0 n (omega arith) (let l = place_below t 0 P 0 in omega (arith, l)) in
+          sent = (let a = sent_are (meaning t.diffusion.algebra) t 0 n in
+              let b = one_each (meaning t.diffusion.algebra) t (place_in t 0) 0 n (omega arith) (let l = place_below t 0 P 0 in omega (arith, l)) in
               omega (arith, a, b));
           delivered = refl;
           signalled = refl;

@@ -6,22 +6,22 @@ use Rattle.scholten_core.specs.declared.item.Item.{Item}
 use Rattle.scholten_core.specs.Diffusion.{HasEnded}
 use Rattle.scholten_core.proofs.EveryRun.{ended_is_quiet, ended_is_best}
 use Rattle.scholten_core.proofs.Networks.{well_formed}
-use Rattle.shard_part.specs.PartState.{PartData, Setup, network_of, place_in}
+use Rattle.shard_part.specs.PartState.{PartData, SetupData, network_of, place_in}
 use Rattle.shard_part.specs.Moves.{IsPlanned}
 use Rattle.shard_part.specs.Represents.{Represents}
 use Rattle.shard_part.proofs.Showing.{AllLawful}
 use Rattle.shard_part.proofs.UnderWay.{ended_empty}
 use Rattle.post_floor.specs.Floor.{core_of, RepresentsQuiet}
 
-module _ {S V : Type 0} (meaning : S → Algebra V) (t : Setup S) (L : AllLawful meaning) (P : IsPlanned t 0) where
+module _ {S V : Type 0} (meaning : S → Algebra V) (t : SetupData S) (L : AllLawful meaning) (P : IsPlanned t 0) where
   pub all_over : (ps : List (PartData S V)) (mailed : (ℕ → Item V → ℕ) → ℕ) (events : List Event)
       → Represents meaning t ps mailed (core_of meaning t events) → HasEnded (core_of meaning t events) → RepresentsQuiet meaning t ps mailed events
   all_over ps mailed events shows h =
-      let A = meaning t.question.algebra in
-      let W = well_formed t.question.roads t.question.source P.roads P.source.0 in record {
+      let A = meaning t.diffusion.algebra in
+      let W = well_formed t.diffusion.roads t.diffusion.source P.roads P.source.0 in record {
         shown = shows;
         ended = h;
-        quiet = ended_is_quiet A t.question.roads t.question.source (L t.question.algebra) P.roads P.source.0 events h;
-        best = ended_is_best A t.question.roads t.question.source (L t.question.algebra) P.roads P.source.0 events h;
-        empty = shows.shown.weighs (λ _ _. 1) ∙ (ended_empty A (network_of t) (place_in t) (L t.question.algebra) W events).0 h;
+        quiet = ended_is_quiet A t.diffusion.roads t.diffusion.source (L t.diffusion.algebra) P.roads P.source.0 events h;
+        best = ended_is_best A t.diffusion.roads t.diffusion.source (L t.diffusion.algebra) P.roads P.source.0 events h;
+        empty = shows.shown.weighs (λ _ _. 1) ∙ (ended_empty A (network_of t) (place_in t) (L t.diffusion.algebra) W events).0 h;
       }

@@ -6,7 +6,7 @@ use Rattle.atomic_table.specs.Seated.{TableId}
 use Rattle.atomic_table.specs.Table.{rest}
 use Rattle.circular_buffer.specs.Buffer.{Buffer, buffer}
 use Rattle.path_algebra.specs.Algebra.{Algebra}
-use Rattle.shard_part.specs.PartState.{PartData, Setup}
+use Rattle.shard_part.specs.PartState.{PartData, SetupData}
 use Rattle.shard_part.specs.Weights.{total, is}
 use Rattle.shard_part.proofs.TakenCounts.{handled_same}
 use Rattle.shard_part.proofs.Showing.{is_self}
@@ -41,7 +41,7 @@ slots_next n next j x h is_x = record {
 
 -- what a call knows of the floor, the seat and the part: f, d and p as callers see them, and what is inside of floor and seat
 pub record Seated {S V : Type 0} (meaning : S → Algebra V) (f : FloorData S) (d : SeatData S V) (p : PartData S V)
-    (fid : TableId) (t : Setup S) (sh : ℕ) (id : TableId) (s : ℕ) (v : View S V) (slots : List (ℕ × Slot V)) (claims : List ℕ) (room : ℕ)
+    (fid : TableId) (t : SetupData S) (sh : ℕ) (id : TableId) (s : ℕ) (v : View S V) (slots : List (ℕ × Slot V)) (claims : List ℕ) (room : ℕ)
     (next_fill next_read : List ℕ) : Type 0 where
   pub at : AtTable meaning fid t id v p
   pub setup : p.setup ≡ t
@@ -63,7 +63,7 @@ pub record Seated {S V : Type 0} (meaning : S → Algebra V) (f : FloorData S) (
   pub id_is : fid ≡ f.id
   pub setup_is : t ≡ f.setup
 
-module _ {S V : Type 0} {meaning : S → Algebra V} {f : FloorData S} {d : SeatData S V} {p : PartData S V} {fid : TableId} {t : Setup S} {sh : ℕ} {id : TableId} {s : ℕ} {v : View S V}
+module _ {S V : Type 0} {meaning : S → Algebra V} {f : FloorData S} {d : SeatData S V} {p : PartData S V} {fid : TableId} {t : SetupData S} {sh : ℕ} {id : TableId} {s : ℕ} {v : View S V}
     {slots : List (ℕ × Slot V)} {claims : List ℕ} {room : ℕ} {next_fill next_read : List ℕ} where
   pub seated : record { id = fid; setup = t } ≡ f → record { floor = id; shard = s; knows = v } ≡ d → IsTableSized fid t × (t.plan.shards ≡ sh) × (sh ≤ 64)
       → IsSeat (record { floor = id; shard = s; knows = v }) slots claims room next_fill next_read → IsAt meaning f d p → Seated meaning f d p fid t sh id s v slots claims room next_fill next_read
@@ -73,8 +73,8 @@ module _ {S V : Type 0} {meaning : S → Algebra V} {f : FloorData S} {d : SeatD
       let b_is : inv.part ≡ moved.0 = (same_from_push [] [] inv.part moved.0 (sym inv.parts ∙ moved.2.parts)).1 in
       let setup : p.setup ≡ t = at.setup ∙ ap (λ (z : FloorData S). z.setup) (sym ff) in
       let of_part : inv.part.setup ≡ t = ap (λ (z : PartData S V). z.setup) b_is ∙ sym same.0 ∙ setup in
-      let shards : inv.part.setup.plan.shards ≡ sh = ap (λ (u : Setup S). u.plan.shards) of_part ∙ count in
-      let out : AreOpen t s v slots claims = subst (λ (u : Setup S). AreOpen u s v slots claims) of_part inv.claims_open in
+      let shards : inv.part.setup.plan.shards ≡ sh = ap (λ (u : SetupData S). u.plan.shards) of_part ∙ count in
+      let out : AreOpen t s v slots claims = subst (λ (u : SetupData S). AreOpen u s v slots claims) of_part inv.claims_open in
       let roomy : room ≡ 8 * sh = inv.roomy ∙ ap (λ z. 8 * z) shards in
       record {
         at = record { sized = sized; own = ap (λ (z : SeatData S V). z.floor) dd ∙ at.floor ∙ ap (λ (z : FloorData S). z.id) (sym ff); moved = moved };
@@ -142,7 +142,7 @@ module _ {S V : Type 0} {meaning : S → Algebra V} {f : FloorData S} {d : SeatD
         → q.setup ≡ t → q.shard ≡ s → w.parts ≡ q ∷ [] → w.next_fill ≡ fill' → w.next_read ≡ read' → AreSlots sh fill' → AreSlots sh read'
         → AreOpen t s w slots' claims' → room' ≡ room → IsSeat (record { floor = id'; shard = s; knows = w }) slots' claims' room' fill' read'
     again id' w q slots' claims' room' fill' read' setup shard parts fill read fills reads out roomy =
-        let n : q.setup.plan.shards ≡ sh = ap (λ (u : Setup S). u.plan.shards) setup ∙ z.count in record {
+        let n : q.setup.plan.shards ≡ sh = ap (λ (u : SetupData S). u.plan.shards) setup ∙ z.count in record {
           part = q;
           parts = parts;
           shard = shard;
@@ -151,7 +151,7 @@ module _ {S V : Type 0} {meaning : S → Algebra V} {f : FloorData S} {d : SeatD
           read = read;
           fill_slots = subst (λ k. AreSlots k fill') (sym n) fills;
           read_slots = subst (λ k. AreSlots k read') (sym n) reads;
-          claims_open = subst (λ (u : Setup S). AreOpen u s w slots' claims') (sym setup) out;
+          claims_open = subst (λ (u : SetupData S). AreOpen u s w slots' claims') (sym setup) out;
           roomy = roomy ∙ z.roomy ∙ ap (λ k. 8 * k) (sym n);
         }
 
@@ -183,7 +183,7 @@ module _ {S V : Type 0} {meaning : S → Algebra V} {f : FloorData S} {d : SeatD
         let out : AreOpen t s w ((k, empty_slot t k) ∷ slots) (k ∷ claims) = claims_more t s v w slots claims k z.out free end sums in
         let l = few_claims t s w ((k, empty_slot t k) ∷ slots) (k ∷ claims) out in
         let all : ring.items ≡ k ∷ claims = ap (λ (b : Buffer ℕ). b.items) ring_is ∙ take_all room (k ∷ claims) (let c = z.count in let r = z.roomy in omega (arith, l, c, r)) in
-        let at_home : slots' ≡ (k, empty_slot t k) ∷ slots = slots_are ∙ ap (λ (x : Setup S). (k, empty_slot x k) ∷ slots) setup in
+        let at_home : slots' ≡ (k, empty_slot t k) ∷ slots = slots_are ∙ ap (λ (x : SetupData S). (k, empty_slot x k) ∷ slots) setup in
         again id' w q slots' ring.items ring.capacity next_fill next_read setup shard went.shows.parts (went.next_fill ∙ nf ∙ z.fill) (went.next_read ∙ nr ∙ z.read) z.fill_slots z.read_slots
         (subst (λ l. AreOpen t s w l ring.items) (sym at_home) (subst (AreOpen t s w ((k, empty_slot t k) ∷ slots)) (sym all) out)) (ap (λ (b : Buffer ℕ). b.capacity) ring_is)
 

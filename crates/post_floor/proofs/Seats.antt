@@ -7,7 +7,7 @@ use lib.ListN.{get_elem?}
 use Rattle.atomic_table.specs.Table.{State, Splits, Joins}
 use Rattle.atomic_table.proofs.Lists.{at_set, at_snoc}
 use Rattle.path_algebra.specs.Algebra.{Algebra}
-use Rattle.shard_part.specs.PartState.{PartData, Setup, network_of, place_in}
+use Rattle.shard_part.specs.PartState.{PartData, SetupData, network_of, place_in}
 use Rattle.shard_part.specs.Weights.{total, is, All, part_weight}
 use Rattle.shard_part.specs.Represents.{HoldsTables}
 use Rattle.shard_part.proofs.Weights.{total_append}
@@ -42,7 +42,7 @@ none_right : {A : Type 0} (xs ys : List A) → xs ++ ys ≡ [] → ys ≡ []
 none_right [] ys e = e
 none_right (x ∷ xs) ys e = absurd cc
 
-module _ {S V : Type 0} (meaning : S → Algebra V) (t : Setup S) where
+module _ {S V : Type 0} (meaning : S → Algebra V) (t : SetupData S) where
   abbrev St : Type 0
   St = State (Slot V) (View S V)
 
@@ -66,7 +66,7 @@ module _ {S V : Type 0} (meaning : S → Algebra V) (t : Setup S) where
         shown = record {
           same = c.all (λ (p : PartData S V). p.setup ≡ t) r.shown.same;
           shown = record {
-            tables = c.all (HoldsTables (meaning t.question.algebra) (network_of t) (place_in t) (core_of meaning t r.events)) r.shown.shown.tables;
+            tables = c.all (HoldsTables (meaning t.diffusion.algebra) (network_of t) (place_in t) (core_of meaning t r.events)) r.shown.shown.tables;
             weighs = λ h. let w = r.shown.shown.weighs h in let q = flat_same (part_weight h) in omega (arith, w, q);
             apart = λ j. let w = r.shown.shown.apart j in let q = flat_same (λ (p : PartData S V). is j p.shard) in omega (arith, w, q);
           };

@@ -8,7 +8,7 @@ use Rattle.scholten_core.specs.Network.{WellFormed}
 use Rattle.scholten_core.proofs.Networks.{well_formed}
 use Rattle.shard_part.specs.Moves.{IsPlanned}
 use Rattle.shard_part.specs.Readings.{has_ended}
-use Rattle.shard_part.specs.PartState.{PartData, Setup, network_of}
+use Rattle.shard_part.specs.PartState.{PartData, SetupData, network_of}
 use Rattle.shard_part.specs.Weights.{All}
 use Rattle.shard_part.proofs.Showing.{AllLawful}
 use Rattle.post_floor.specs.declared.view.View.{View}
@@ -24,9 +24,9 @@ all_told : {S V P : Type 0} (holds : State S V → Type 0) (m id : ℕ) (me : Me
 all_told {S} {V} {P} holds m id me k f T d ps told a = subst (λ (l : List P). Allows holds m id me k f (λ r z. All (λ p. T p r z) l)) (sym told)
     (λ s h roomy at small. let q = a s h roomy at small in (q.0, q.1, q.2, q.3, (q.4, tt)))
 
-module _ {S V : Type 0} (meaning : S → Algebra V) (t : Setup S) (L : AllLawful meaning) (P : IsPlanned t 0) where
+module _ {S V : Type 0} (meaning : S → Algebra V) (t : SetupData S) (L : AllLawful meaning) (P : IsPlanned t 0) where
   formed : WellFormed (network_of t)
-  formed = well_formed t.question.roads t.question.source P.roads P.source.0
+  formed = well_formed t.diffusion.roads t.diffusion.source P.roads P.source.0
 
   abbrev Seat : Type 0
   Seat = Me (Slot V) (View S V)

@@ -4,7 +4,7 @@ use Rattle.std.proofs.lemmas.Bool.{cases_eq}
 use Rattle.std.proofs.lemmas.List.{map_push}
 use Rattle.atomic_table.specs.Table.{rest, turned}
 use Rattle.shard_part.specs.Weights.{total, is, All}
-use Rattle.shard_part.specs.PartState.{Setup}
+use Rattle.shard_part.specs.PartState.{SetupData}
 use Rattle.shard_part.proofs.Weights.{total_append}
 use Rattle.shard_part.proofs.Showing.{all_append}
 use Rattle.post_floor.specs.declared.view.View.{View}
@@ -54,7 +54,7 @@ first_here k [] e = absurd cc
 first_here k (x ∷ xs) e = (x.1, λ i. (eqb-true x.0 k e i, x.1) ∷ xs)
 
 -- the same slots are out
-pub turned_open : {S V : Type 0} (t : Setup S) (s : ℕ) (v : View S V) (slots : List (ℕ × Slot V)) (claims : List ℕ) → AreOpen t s v slots claims → AreOpen t s v (turned slots) (cycled claims)
+pub turned_open : {S V : Type 0} (t : SetupData S) (s : ℕ) (v : View S V) (slots : List (ℕ × Slot V)) (claims : List ℕ) → AreOpen t s v slots claims → AreOpen t s v (turned slots) (cycled claims)
 turned_open t s v slots claims o = record {
   keys = turned_keys slots ∙ ap cycled o.keys;
   empty = all_turned (λ x. x.1 ≡ empty_slot t x.0) slots o.empty;

@@ -2,7 +2,7 @@
 use Rattle.std.specs.Prelude.{◌≡◌, ℕ, ◌+◌, ◌<◌, true, List, map}
 use mathlib.Core.Option.{some}
 use Rattle.path_algebra.specs.Algebra.{Algebra}
-use Rattle.shard_part.specs.PartState.{Setup, PartData}
+use Rattle.shard_part.specs.PartState.{SetupData, PartData}
 use Rattle.shard_part.specs.Weights.{total, is, All}
 use Rattle.post_floor.specs.declared.view.View.{View}
 use Rattle.post_floor.specs.Floor.{Slot, FinalView}
@@ -30,5 +30,5 @@ pub record ClosedData (V : Type 0) : Type 0 where
   pub slots : List (Slot V)
 
 -- what all seats of a floor know together, with what the mailboxes held at the end, represents one reached state, their counts are what its events did, and it has ended if the done word says so or one seat has seen that
-abbrev pub IsClosed : {S V : Type 0} → (S → Algebra V) → Setup S → List (SeatData S V) → ClosedData V → Type 0
+abbrev pub IsClosed : {S V : Type 0} → (S → Algebra V) → SetupData S → List (SeatData S V) → ClosedData V → Type 0
 IsClosed {S} {V} meaning t seats d = (w : View S V) × AreJoined w spent seats × FinalView meaning t w d.words (map some d.slots)

@@ -7,7 +7,7 @@ use Rattle.atomic_table.specs.Seated.{TableId}
 use Rattle.atomic_table.specs.Table.{Me, rest}
 use Rattle.circular_buffer.specs.Buffer.{buffer}
 use Rattle.path_algebra.specs.Algebra.{Algebra}
-use Rattle.shard_part.specs.PartState.{Setup, PartData}
+use Rattle.shard_part.specs.PartState.{SetupData, PartData}
 use Rattle.shard_part.specs.Weights.{total, is, All}
 use Rattle.shard_part.specs.Arriving.{MadeAt}
 use Rattle.shard_part.specs.Moves.{IsPlanned}
@@ -19,10 +19,10 @@ use Rattle.post_floor.specs.Seats.{knows}
 use Rattle.shard_part.specs.Plans.{PlanData}
 use Rattle.shard_part.specs.Opening.{opened_parts}
 
--- a floor: which it is, and the question and plan that its parts share
+-- a floor: which it is, and the diffusion and plan that its parts share
 pub record FloorData (S : Type 0) : Type 0 where
   pub id : TableId
-  pub setup : Setup S
+  pub setup : SetupData S
 
 -- a seat: which floor it is at, the shard of its part, and what it knows
 pub record SeatData (S V : Type 0) : Type 0 where
@@ -30,32 +30,32 @@ pub record SeatData (S V : Type 0) : Type 0 where
   pub shard : ℕ
   pub knows : View S V
 
--- the table has a word and a slot for each mailbox between the question's shards, and the done word
-pub record IsTableSized {S : Type 0} (id : TableId) (t : Setup S) : Type 0 where
+-- the table has a word and a slot for each mailbox between the diffusion's shards, and the done word
+pub record IsTableSized {S : Type 0} (id : TableId) (t : SetupData S) : Type 0 where
   pub words : id.words ≡ box_count t.plan.shards + 1
   pub slots : id.slots ≡ box_count t.plan.shards
   pub planned : IsPlanned t 0
 
--- a pass is of a table of the question's size, and the part has moved on from what the pass knows by items of its own
-pub record AtTable {S V : Type 0} (meaning : S → Algebra V) (id : TableId) (t : Setup S) (pass : TableId) (v : View S V) (p : PartData S V) : Type 0 where
+-- a pass is of a table of the diffusion's size, and the part has moved on from what the pass knows by items of its own
+pub record AtTable {S V : Type 0} (meaning : S → Algebra V) (id : TableId) (t : SetupData S) (pass : TableId) (v : View S V) (p : PartData S V) : Type 0 where
   pub sized : IsTableSized id t
   pub own : pass ≡ id
   pub moved : ViewLags meaning v p
 
 -- The part d is at the table, and e is what is left of it: the slot k was taken last, and has what d had for the mailbox's shard.
-pub record Publishing {S V : Type 0} (meaning : S → Algebra V) (id : TableId) (t : Setup S) (pass : TableId) (k : ℕ) (e : PartData S V) (m : Me (Slot V) (View S V)) : Type 0 where
+pub record Publishing {S V : Type 0} (meaning : S → Algebra V) (id : TableId) (t : SetupData S) (pass : TableId) (k : ℕ) (e : PartData S V) (m : Me (Slot V) (View S V)) : Type 0 where
   pub d : PartData S V
   pub at : AtTable meaning id t pass m.0 d
   pub left : e ≡ published_to (dest t.plan.shards k) d
   pub slot : m.1 ≡ (k, std.Some (buffer (get_or d.outs (dest t.plan.shards k) []) (mailbox_capacity t k))) ∷ rest m.1
   pub made : MadeAt t (origin t.plan.shards k) (get_or d.outs (dest t.plan.shards k) [])
 
--- the parts of the first n shards of a question, in order, as they are opened
-abbrev pub first_parts : {S V : Type 0} → (S → Algebra V) → Setup S → ℕ → List (PartData S V)
-first_parts meaning t n = opened_parts (meaning t.question.algebra) t 0 n
+-- the parts of the first n shards of a diffusion, in order, as they are opened
+abbrev pub first_parts : {S V : Type 0} → (S → Algebra V) → SetupData S → ℕ → List (PartData S V)
+first_parts meaning t n = opened_parts (meaning t.diffusion.algebra) t 0 n
 
 -- the slots of all mailboxes between n shards, each empty
-abbrev pub AreEmptySlots : {S V : Type 0} → Setup S → ℕ → List (Slot V) → Type 0
+abbrev pub AreEmptySlots : {S V : Type 0} → SetupData S → ℕ → List (Slot V) → Type 0
 AreEmptySlots t n slots = (length slots ≡ box_count n) × ((k : ℕ) → k < box_count n → get_elem? slots k ≡ some (empty_slot t k))
 
 -- a next slot for each of n shards
@@ -68,7 +68,7 @@ abbrev pub HasEnd : ℕ → ℕ → ℕ → Type 0
 HasEnd n s k = (k < box_count n) × ((origin n k ≡ s) ⊎ (dest n k ≡ s))
 
 -- the slots that a seat has out: those of the mailboxes that it fills or reads, in the order of its claims, each empty, none twice
-pub record AreOpen {S V : Type 0} (t : Setup S) (s : ℕ) (v : View S V) (slots : List (ℕ × Slot V)) (claims : List ℕ) : Type 0 where
+pub record AreOpen {S V : Type 0} (t : SetupData S) (s : ℕ) (v : View S V) (slots : List (ℕ × Slot V)) (claims : List ℕ) : Type 0 where
   pub keys : map (λ x. x.0) slots ≡ claims
   pub empty : All (λ x. x.1 ≡ empty_slot t x.0) slots
   pub open_now : (k : ℕ) → total (is k) claims ≡ fill_claims k v + read_claims k v
@@ -96,7 +96,7 @@ fill_box f d to = mailbox f.setup.plan.shards d.shard to (get_or d.knows.next_fi
 abbrev pub read_box : {S V : Type 0} → FloorData S → SeatData S V → ℕ → ℕ
 read_box f d from = mailbox f.setup.plan.shards from d.shard (get_or d.knows.next_read from 0)
 
--- the seat is one of the floor's, the part is of its question, and since the seat's last step the part moved on by items of its own alone
+-- the seat is one of the floor's, the part is of its diffusion, and since the seat's last step the part moved on by items of its own alone
 pub record IsAt {S V : Type 0} (meaning : S → Algebra V) (f : FloorData S) (d : SeatData S V) (p : PartData S V) : Type 0 where
   pub floor : d.floor ≡ f.id
   pub setup : p.setup ≡ f.setup
@@ -110,6 +110,6 @@ IsSameSeat d e = (e.floor ≡ d.floor) × (e.shard ≡ d.shard)
 abbrev pub seat_of : {S V : Type 0} → TableId → ℕ → PartData S V → SeatData S V
 seat_of id n p = record { floor = id; shard = p.shard; knows = knows n (p ∷ []) }
 
--- the parts are those of all shards of the plan, in order, as they are opened for one question from the source
+-- the parts are those of all shards of the plan, in order, as they are opened for one diffusion from the source
 abbrev pub IsFresh : {S V : Type 0} → (S → Algebra V) → PlanData → ℕ → List (PartData S V) → Type 0
-IsFresh {S} meaning plan source parts = (t : Setup S) × (parts ≡ first_parts meaning t t.plan.shards) × (t.plan ≡ plan) × (t.question.source ≡ source)
+IsFresh {S} meaning plan source parts = (t : SetupData S) × (parts ≡ first_parts meaning t t.plan.shards) × (t.plan ≡ plan) × (t.diffusion.source ≡ source)

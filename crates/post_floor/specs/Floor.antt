@@ -12,7 +12,7 @@ use Rattle.scholten_core.specs.Accounts.{Totals, totals_of}
 use Rattle.scholten_core.specs.Diffusion.{CoreState, state_after, HasEnded, IsQuiet}
 use Rattle.scholten_core.specs.Reached.{LabelsAreBest}
 use Rattle.scholten_core.specs.Sums.{sum_below}
-use Rattle.shard_part.specs.PartState.{Setup, PartData, network_of, place_in}
+use Rattle.shard_part.specs.PartState.{SetupData, PartData, network_of, place_in}
 use Rattle.shard_part.specs.Weights.{total, is, All, part_weight}
 use Rattle.shard_part.specs.Capacities.{outbox_bound}
 use Rattle.shard_part.specs.Represents.{Represents}
@@ -77,15 +77,15 @@ module _ {V : Type 0} where
   in_transit n ws hs h = sum_below (λ k. box (h (dest n k)) (get_or ws k 0) (get_elem? hs k)) (box_count n)
 
 -- how many items a mailbox may hold: one for each arc between its shards
-abbrev pub mailbox_capacity : {S : Type 0} → Setup S → ℕ → ℕ
+abbrev pub mailbox_capacity : {S : Type 0} → SetupData S → ℕ → ℕ
 mailbox_capacity t k = cond (eqb (origin t.plan.shards k) (dest t.plan.shards k)) 0 (outbox_bound (network_of t) (place_in t) (origin t.plan.shards k) (dest t.plan.shards k))
 
 -- an empty batch of the mailbox's capacity
-abbrev pub empty_slot : {S V : Type 0} → Setup S → ℕ → Slot V
+abbrev pub empty_slot : {S V : Type 0} → SetupData S → ℕ → Slot V
 empty_slot t k = std.Some (buffer [] (mailbox_capacity t k))
 
 -- one mailbox: its word, its slot, and how many claims views have on it
-pub record MailboxInvariant {S V : Type 0} (t : Setup S) (k w : ℕ) (y : Place V) (fills reads : ℕ) : Type 0 where
+pub record MailboxInvariant {S V : Type 0} (t : SetupData S) (k w : ℕ) (y : Place V) (fills reads : ℕ) : Type 0 where
   pub low : w ≤ reading
   pub fills_is : fills ≡ is filling w
   pub reads_is : reads ≡ is reading w
@@ -94,10 +94,10 @@ pub record MailboxInvariant {S V : Type 0} (t : Setup S) (k w : ℕ) (y : Place 
   -- it is out with the seat that fills or reads it
   pub out : (w ≡ filling) ⊎ (w ≡ reading) → y ≡ some none
 
-module _ {S V : Type 0} (meaning : S → Algebra V) (t : Setup S) where
+module _ {S V : Type 0} (meaning : S → Algebra V) (t : SetupData S) where
   -- the state that a list of events leads to
   abbrev pub core_of : List Event → CoreState V
-  core_of events = state_after (meaning t.question.algebra) (network_of t) events
+  core_of events = state_after (meaning t.diffusion.algebra) (network_of t) events
 
   -- What holds between any two steps: some events lead from the opening to a state that all views and all mailboxes represent, the views are of all
   -- shards, their counts add up to what the events did, each mailbox is as its word says, and the done word says so only if the state has ended.
@@ -107,18 +107,18 @@ module _ {S V : Type 0} (meaning : S → Algebra V) (t : Setup S) where
     pub whole : (j : ℕ) → j < t.plan.shards → total (λ p. is j p.shard) (flat s.views) ≡ 1
     pub below : All (λ p. p.shard < t.plan.shards) (flat s.views)
     pub idle : (id : ℕ) (v : View S V) → get_elem? s.views id ≡ some v → v.parts ≡ [] → CountsNone v
-    pub counts : AddUp s.views (totals_of (meaning t.question.algebra) (network_of t) events)
+    pub counts : AddUp s.views (totals_of (meaning t.diffusion.algebra) (network_of t) events)
     pub boxes : (k : ℕ) → k < box_count t.plan.shards → MailboxInvariant t k (get_or s.words k 0) (get_elem? s.homes k) (total (fill_claims k) s.views) (total (read_claims k) s.views)
     pub done : get_or s.words (box_count t.plan.shards) 0 ≡ done_now → HasEnded (core_of events)
     pub seen : (id : ℕ) (v : View S V) → get_elem? s.views id ≡ some v → v.seen ≡ true → get_or s.words (box_count t.plan.shards) 0 ≡ done_now
     pub wide : length s.words ≡ box_count t.plan.shards + 1
     pub roomy : length s.homes ≡ box_count t.plan.shards
 
-  -- one view has all parts of a question: with the mailboxes it represents a state that some events lead to, its counts are what these did, and if the done word says so, or it has seen that, the state has ended
+  -- one view has all parts of a diffusion: with the mailboxes it represents a state that some events lead to, its counts are what these did, and if the done word says so, or it has seen that, the state has ended
   pub record FinalView (v : View S V) (ws : List ℕ) (hs : List (Option (Slot V))) : Type 0 where
     pub events : List Event
     pub shown : Represents meaning t v.parts (in_transit t.plan.shards ws hs) (core_of events)
-    pub counts : AddUp (v ∷ []) (totals_of (meaning t.question.algebra) (network_of t) events)
+    pub counts : AddUp (v ∷ []) (totals_of (meaning t.diffusion.algebra) (network_of t) events)
     pub done : get_or ws (box_count t.plan.shards) 0 ≡ done_now → HasEnded (core_of events)
     pub seen : v.seen ≡ true → HasEnded (core_of events)
 
@@ -127,5 +127,5 @@ module _ {S V : Type 0} (meaning : S → Algebra V) (t : Setup S) where
     pub shown : Represents meaning t parts mailed (core_of events)
     pub ended : HasEnded (core_of events)
     pub quiet : IsQuiet (core_of events)
-    pub best : LabelsAreBest (meaning t.question.algebra) t.question.roads t.question.source (core_of events)
+    pub best : LabelsAreBest (meaning t.diffusion.algebra) t.diffusion.roads t.diffusion.source (core_of events)
     pub empty : total (part_weight (λ _ _. 1)) parts + mailed (λ _ _. 1) ≡ 0

@@ -8,7 +8,7 @@ use Rattle.scholten_core.specs.declared.event.Event.{Event}
 use Rattle.scholten_core.specs.declared.item.Item.{Item}
 use Rattle.scholten_core.specs.Diffusion.{HasEnded, IsQuiet}
 use Rattle.shard_part.specs.Tallies.{top}
-use Rattle.shard_part.specs.PartState.{Setup, PartData}
+use Rattle.shard_part.specs.PartState.{SetupData, PartData}
 use Rattle.shard_part.specs.Handling.{HandledAll}
 use Rattle.shard_part.specs.Represents.{HoldsShare}
 use Rattle.shard_part.specs.Arriving.{joined, MayReceive}
@@ -77,7 +77,7 @@ module _ {S V : Type 0} where
   Unclaimed k v = (fill_claims k v ≡ 0) × (read_claims k v ≡ 0)
 
   -- the slot k was taken last, and is empty
-  abbrev pub HasEmpty : Setup S → ℕ → Me (Slot V) (View S V) → Type 0
+  abbrev pub HasEmpty : SetupData S → ℕ → Me (Slot V) (View S V) → Type 0
   HasEmpty t k m = m.1 ≡ (k, empty_slot t k) ∷ rest m.1
 
 module _ {S V : Type 0} (meaning : S → Algebra V) where

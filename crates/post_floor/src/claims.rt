@@ -2,7 +2,7 @@
 ghost use Rattle.std.specs.Prelude.{◌≡◌, ◌∷◌, ℕ, ◌<◌, ◌≤◌, length, map};
 ghost use Rattle.atomic_table.specs.Table.{rest};
 ghost use Rattle.circular_buffer.specs.Buffer.{buffer};
-ghost use Rattle.shard_part.specs.PartState.{Setup};
+ghost use Rattle.shard_part.specs.PartState.{SetupData};
 ghost use Rattle.shard_part.specs.Weights.{total, is};
 ghost use Rattle.post_floor.specs.declared.view.View.{View};
 ghost use Rattle.post_floor.specs.Claims.{cycled, first_is};
@@ -45,7 +45,7 @@ pub(crate) fn bring<A: PathAlgebra>(
         (pass.new.me.0 ≡ pass.old.me.0) }
     ensures room { (claims.new.capacity ≡ claims.old.capacity) ×
         (length claims.new.items ≡ length claims.old.items) }
-    ensures open { (t : Setup A) (s : ℕ) (v : View A A.Value) →
+    ensures open { (t : SetupData A) (s : ℕ) (v : View A A.Value) →
         AreOpen t s v pass.old.me.1 claims.old.items → AreOpen t s v pass.new.me.1 claims.new.items }
     ensures first { (y : _) × (pass.new.me.1 ≡ (word, y) ∷ rest pass.new.me.1) }
 {

@@ -1,4 +1,4 @@
-//! The floor of a question: opened, used by seats step by step, and closed.
+//! The floor of a diffusion: opened, used by seats step by step, and closed.
 ghost use Rattle.std.specs.Prelude.{◌≡◌, ◌≢◌, true, ◌<◌, map, IfOk, IfErr};
 ghost use Rattle.shard_part.specs.Readings.{has_ended};
 ghost use Rattle.shard_part.specs.Weights.{All};
@@ -21,15 +21,15 @@ use atomic_table::Table;
 use path_algebra::PathAlgebra;
 use road_graph::{Memory, Vertex};
 use shard_part::laws::part_holds;
-use shard_part::{Batch, Part, Plan, Question, Shard};
+use shard_part::{Batch, Part, Plan, Setup, Shard};
 use std::alloc::Global;
 use std::marker::{Brand, Model};
 
-/// The mailboxes between the parts of a question: four words and four slots for each ordered pair of shards, and one done word.
+/// The mailboxes between the parts of a diffusion: four words and four slots for each ordered pair of shards, and one done word.
 /// A word says whether its slot is empty, being filled, full or being read.
 #[derive(Drop)]
 pub struct Floor<A: PathAlgebra> {
-    pub(crate) table: Table<Option<Batch<A::Value>>, View<A>, Question<A>, FloorRule<A>, Global>,
+    pub(crate) table: Table<Option<Batch<A::Value>>, View<A>, Setup<A>, FloorRule<A>, Global>,
     pub(crate) shards: usize,
 }
 
@@ -45,7 +45,7 @@ impl<A: PathAlgebra> Model for Floor<A> {
 }
 
 impl<A: PathAlgebra> Floor<A> {
-    /// A floor with empty mailboxes, and a seat for each part, in order. The parts are those of all shards of the plan, as they were opened for one question from the source.
+    /// A floor with empty mailboxes, and a seat for each part, in order. The parts are those of all shards of the plan, as they were opened for one diffusion from the source.
     /// Each mailbox has room for an item on each arc between its two shards: no later call takes memory.
     pub fn open(
         alloc: Global,
@@ -64,8 +64,8 @@ impl<A: PathAlgebra> Floor<A> {
         part_holds(first);
         let words = Vec::from_elem(alloc, 0u64, mailbox_count(shards) + 1)?;
         let slots = batches(alloc, first, parts, shards)?;
-        let question = first.question();
-        let Ok((table, pass)) = Table::new(alloc, words.as_slice(), slots, &question) else {
+        let setup = first.setup();
+        let Ok((table, pass)) = Table::new(alloc, words.as_slice(), slots, &setup) else {
             return Err(Memory);
         };
         let seats = seat_all(alloc, &table.shared, pass, shards)?;
@@ -154,7 +154,7 @@ impl<A: PathAlgebra> Floor<A> {
         seat.next_read[at] = next_slot(slot);
     }
 
-    /// Announces the end, which the part knows: its question has ended.
+    /// Announces the end, which the part knows: its diffusion has ended.
     pub fn announce(&self, seat: &mut Seat<A>, part: &Part<'_, A>)
         requires at { IsAt A.meaning self.now seat.old part.now }
         requires ended { has_ended part.now ≡ true }

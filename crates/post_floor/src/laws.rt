@@ -4,7 +4,7 @@ ghost use mathlib.Core.Option.{Option, some};
 ghost use lib.ListN.{get_elem?};
 ghost use Rattle.atomic_table.specs.Table.{State};
 ghost use Rattle.scholten_core.specs.declared.event.Event.{Event};
-ghost use Rattle.shard_part.specs.PartState.{Setup};
+ghost use Rattle.shard_part.specs.PartState.{SetupData};
 ghost use Rattle.shard_part.specs.Moves.{IsPlanned};
 ghost use Rattle.post_floor.specs.declared.view.View.{View};
 ghost use Rattle.post_floor.specs.Floor.{Slot, flat, in_transit, FloorInvariant, FinalView, RepresentsQuiet};
@@ -13,11 +13,11 @@ use path_algebra::PathAlgebra;
 
 /// If the rule of the floor holds and a view has seen the done word at 1, all is over: the state that all views and all mailboxes represent has ended and is quiet, its labels are best, and no queue, outbox or mailbox holds an item.
 pub fn seen_floors_are_quiet<A: PathAlgebra>(_algebra: A)
-    ensures kept { (t : Setup A) (s : State (Slot A.Value) (View A A.Value)) → IsPlanned t 0 →
+    ensures kept { (t : SetupData A) (s : State (Slot A.Value) (View A A.Value)) → IsPlanned t 0 →
         FloorInvariant A.meaning t s → (id : ℕ) (v : View A
         A.Value) → get_elem? s.views id ≡ some v → v.seen ≡ true →
         (events : List Event) × RepresentsQuiet A.meaning t (flat s.views) (in_transit t.plan.shards s.words s.homes) events }
-    ensures settled { (t : Setup A) (v : View A A.Value) (words : List ℕ)
+    ensures settled { (t : SetupData A) (v : View A A.Value) (words : List ℕ)
         (homes : List
         (Option (Slot A.Value))) → IsPlanned t 0 → FinalView A.meaning t v words homes →
         v.seen ≡ true →

@@ -1,4 +1,4 @@
-//! Mailboxes between the parts of a question.
+//! Mailboxes between the parts of a diffusion.
 #![tactic(auto)]
 
 mod claims;

@@ -14,5 +14,5 @@ pub not_entry : (a : ℕ) (r : Bool) → r ≡ eqb a 0 → r ≡ false → 1 ≤
 not_entry a r e t = elim (cases_eq a 0) [ inl z ↦ absurd (false≢true (sym t ∙ e ∙ eq-eqb a 0 z)) | inr n ↦ omega (arith, n) ]
 
 module _ {S V : Type 0} (t old : CoreView S V) (a : ℕ) (e : t ≡ old) where
-  pub arc_weight : (h : ℕ) → 1 ≤ a → h ≡ (arc_of t.question.roads a).weight → h ≡ weight_of old.question.roads a
-  arc_weight h l q = q ∙ sym (weight-arc t.question.roads a l) ∙ ap (λ u. weight_of u.question.roads a) e
+  pub arc_weight : (h : ℕ) → 1 ≤ a → h ≡ (arc_of t.diffusion.roads a).weight → h ≡ weight_of old.diffusion.roads a
+  arc_weight h l q = q ∙ sym (weight-arc t.diffusion.roads a l) ∙ ap (λ u. weight_of u.diffusion.roads a) e

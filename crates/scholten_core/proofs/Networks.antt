@@ -74,5 +74,5 @@ out_of g s v xs l o =
       apart = λ j k h m e. let a = rises 0 xs j k o.ascending h m in omega (arith, a, e);
     }
 
-pub out_at : {S V : Type 0} (t old : CoreView S V) (v : ℕ) (xs : List ℕ) → t ≡ old → 1 ≤ v → ListsArcsFrom t.question.roads v xs → OutOf (network_of old) v xs
-out_at t old v xs e l o = subst (λ u. OutOf (network_of u) v xs) e (out_of t.question.roads t.question.source v xs l o)
+pub out_at : {S V : Type 0} (t old : CoreView S V) (v : ℕ) (xs : List ℕ) → t ≡ old → 1 ≤ v → ListsArcsFrom t.diffusion.roads v xs → OutOf (network_of old) v xs
+out_at t old v xs e l o = subst (λ u. OutOf (network_of u) v xs) e (out_of t.diffusion.roads t.diffusion.source v xs l o)

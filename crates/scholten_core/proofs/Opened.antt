@@ -9,7 +9,7 @@ use Rattle.scholten_core.specs.declared.token.Token.TheVariants.{Idle, Message}
 use Rattle.scholten_core.specs.Network.{Network, network}
 use Rattle.scholten_core.specs.Diffusion.{CoreState, opening, put, is_idle}
 use Rattle.scholten_core.specs.CoreView.{CoreView, state_of, network_of, AreDeficits, AreTablesSized, IsRun}
-use Rattle.scholten_core.specs.Question.{network_in, IsQuestion}
+use Rattle.scholten_core.specs.DiffusionData.{network_in, IsDiffusion}
 use Rattle.scholten_core.proofs.Networks.{tail-entry}
 use Rattle.scholten_core.proofs.Written.{put_set}
 use Rattle.scholten_core.proofs.Counted.{counted_more, idle_counted}
@@ -46,37 +46,37 @@ opened_state {V = V} A N labels engagers first tokens told n m l e k s d =
       told = replicate_reads (m + 1) None i;
     })
 
-pub opened_sized : {S V : Type 0} (t : CoreView S V) (first : List (Token V)) (m : Token V) (zeros : List ℕ) → IsQuestion t.question →
-    t.labels ≡ replicate (t.question.roads.vertices + 1) None → t.engagers ≡ replicate (t.question.roads.vertices + 1) None →
-    first ≡ replicate (length t.question.roads.arcs + 1) Idle → t.tokens ≡ set first 0 m → is_idle m ≡ false → t.told ≡ replicate (length t.question.roads.arcs + 1) None →
-    zeros ≡ replicate (t.question.roads.vertices + 1) 0 → t.deficits ≡ set zeros 0 1 → AreTablesSized t
+pub opened_sized : {S V : Type 0} (t : CoreView S V) (first : List (Token V)) (m : Token V) (zeros : List ℕ) → IsDiffusion t.diffusion →
+    t.labels ≡ replicate (t.diffusion.roads.vertices + 1) None → t.engagers ≡ replicate (t.diffusion.roads.vertices + 1) None →
+    first ≡ replicate (length t.diffusion.roads.arcs + 1) Idle → t.tokens ≡ set first 0 m → is_idle m ≡ false → t.told ≡ replicate (length t.diffusion.roads.arcs + 1) None →
+    zeros ≡ replicate (t.diffusion.roads.vertices + 1) 0 → t.deficits ≡ set zeros 0 1 → AreTablesSized t
 opened_sized {V = V} t first m zeros Q l e k s b d z y =
-    let long = ap length k ∙ length-replicate {A = Token V} (length t.question.roads.arcs + 1) Idle in
-    let wide = ap length z ∙ length-replicate (t.question.roads.vertices + 1) 0 in
+    let long = ap length k ∙ length-replicate {A = Token V} (length t.diffusion.roads.arcs + 1) Idle in
+    let wide = ap length z ∙ length-replicate (t.diffusion.roads.vertices + 1) 0 in
     let none : CoreState V = state_at t.labels t.engagers first t.told in
-    let entry = tail-entry t.question.roads in
-    let idle = λ (j : ℕ). ap (λ xs. get_or xs j Idle) k ∙ ap (λ f. f j) (replicate_reads (length t.question.roads.arcs + 1) Idle) in
+    let entry = tail-entry t.diffusion.roads in
+    let idle = λ (j : ℕ). ap (λ xs. get_or xs j Idle) k ∙ ap (λ f. f j) (replicate_reads (length t.diffusion.roads.arcs + 1) Idle) in
     record {
-      question = Q;
+      diffusion = Q;
       labels = ap length l ∙ length-replicate _ _;
       engagers = ap length e ∙ length-replicate _ _;
       tokens = ap length s ∙ length-set first 0 m ∙ long;
       told = ap length d ∙ length-replicate _ _;
       deficits = ap length y ∙ length-set zeros 0 1 ∙ wide;
-      counted = subst (λ xs. AreDeficits (network_of t) t.question.roads.vertices xs (state_of t)) (ap (λ u. set zeros u 1) entry ∙ sym y)
-          (counted_more (network_of t) t.question.roads.vertices zeros 0 1 (state_at t.labels t.engagers first t.told) (state_of t) (omega arith)
+      counted = subst (λ xs. AreDeficits (network_of t) t.diffusion.roads.vertices xs (state_of t)) (ap (λ u. set zeros u 1) entry ∙ sym y)
+          (counted_more (network_of t) t.diffusion.roads.vertices zeros 0 1 (state_at t.labels t.engagers first t.told) (state_of t) (omega arith)
           (λ j n. ap (λ xs. get_or xs j Idle) s ∙ get_or-set_other first 0 j m Idle n)
           (ap is_idle (idle 0))
           (ap (λ xs. is_idle (get_or xs 0 Idle)) s ∙ ap is_idle (get_or-set_same first 0 m Idle (omega (arith, long))) ∙ b)
           (omega (arith, entry, wide))
-          (let r = ap (λ xs. get_or xs ((network_of t).tail 0) 0) z ∙ ap (λ f. f ((network_of t).tail 0)) (replicate_reads (t.question.roads.vertices + 1) 0) in omega (arith, r))
-          (λ v h. ap (λ xs. get_or xs v 0) z ∙ ap (λ f. f v) (replicate_reads (t.question.roads.vertices + 1) 0)
+          (let r = ap (λ xs. get_or xs ((network_of t).tail 0) 0) z ∙ ap (λ f. f ((network_of t).tail 0)) (replicate_reads (t.diffusion.roads.vertices + 1) 0) in omega (arith, r))
+          (λ v h. ap (λ xs. get_or xs v 0) z ∙ ap (λ f. f v) (replicate_reads (t.diffusion.roads.vertices + 1) 0)
           ∙ sym (idle_counted (network_of t) v (state_at t.labels t.engagers first t.told) idle)));
     }
 
-pub opened_run : {S V : Type 0} (meaning : S → Algebra V) (t : CoreView S V) (a : S) (g : GraphData) (s : ℕ) → t.question ≡ record { algebra = a; roads = g; source = s } →
+pub opened_run : {S V : Type 0} (meaning : S → Algebra V) (t : CoreView S V) (a : S) (g : GraphData) (s : ℕ) → t.diffusion ≡ record { algebra = a; roads = g; source = s } →
     IsGraph g → HasVertex g s → state_of t ≡ opening (meaning a) (network g s) → IsRun meaning t
 opened_run meaning t a g s p R v e = record {
-  question = subst IsQuestion (sym p) (record { roads = R; source = v });
+  diffusion = subst IsDiffusion (sym p) (record { roads = R; source = v });
   reached = ([], e ∙ (λ i. opening (meaning (sym p i).algebra) (network_in (sym p i))));
 }

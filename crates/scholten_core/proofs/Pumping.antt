@@ -6,36 +6,36 @@ use Rattle.scholten_core.specs.Network.{Network}
 use Rattle.scholten_core.specs.Diffusion.{CoreState, improves, is_idle, arrive, freed, pump, pump_one}
 use Rattle.scholten_core.specs.IdleIsTold.{IdleIsTold}
 use Rattle.scholten_core.specs.CoreView.{CoreView, state_of, network_of}
-use Rattle.scholten_core.specs.Question.{network_in}
+use Rattle.scholten_core.specs.DiffusionData.{network_in}
 use Rattle.scholten_core.proofs.Basics.{idle-false}
 use Rattle.scholten_core.proofs.Networks.{OutOf}
 use Rattle.scholten_core.proofs.Offered.{Offered, offered_more, offered_all}
 use Rattle.scholten_core.proofs.Quick.{pump_nothing, pump_alone, quiet_arrival, quiet_acceptance}
 
 module _ {S V : Type 0} (meaning : S → Algebra V) where
-  pub offered_step : (old mid new : CoreView S V) (v b : ℕ) (xs : List ℕ) (k : ℕ) → mid.question ≡ old.question →
-      Offered (meaning old.question.algebra) (network_of old) v xs k (state_of old) (state_of mid) → OutOf (network_of old) v xs → k < length xs → b ≡ get_or xs k 0 →
-      state_of new ≡ pump_one (meaning mid.question.algebra) (network_of mid) v b (state_of mid) →
-      Offered (meaning old.question.algebra) (network_of old) v xs (k + 1) (state_of old) (state_of new)
+  pub offered_step : (old mid new : CoreView S V) (v b : ℕ) (xs : List ℕ) (k : ℕ) → mid.diffusion ≡ old.diffusion →
+      Offered (meaning old.diffusion.algebra) (network_of old) v xs k (state_of old) (state_of mid) → OutOf (network_of old) v xs → k < length xs → b ≡ get_or xs k 0 →
+      state_of new ≡ pump_one (meaning mid.diffusion.algebra) (network_of mid) v b (state_of mid) →
+      Offered (meaning old.diffusion.algebra) (network_of old) v xs (k + 1) (state_of old) (state_of new)
   offered_step old mid new v b xs k s O W l at e =
-      let e2 : state_of new ≡ pump_one (meaning old.question.algebra) (network_of old) v (get_or xs k 0) (state_of mid) =
+      let e2 : state_of new ≡ pump_one (meaning old.diffusion.algebra) (network_of old) v (get_or xs k 0) (state_of mid) =
       e ∙ (λ i. pump_one (meaning (s i).algebra) (network_in (s i)) v (at i) (state_of mid)) in
-      subst (λ c. Offered (meaning old.question.algebra) (network_of old) v xs (k + 1) (state_of old) c) (sym e2)
-      (offered_more (meaning old.question.algebra) (network_of old) v xs k (state_of old) (state_of mid) (λ j m. W.apart j k m l) O)
+      subst (λ c. Offered (meaning old.diffusion.algebra) (network_of old) v xs (k + 1) (state_of old) c) (sym e2)
+      (offered_more (meaning old.diffusion.algebra) (network_of old) v xs k (state_of old) (state_of mid) (λ j m. W.apart j k m l) O)
 
   pub offered_end : (old new : CoreView S V) (v : ℕ) (xs : List ℕ) (k : ℕ) →
-      Offered (meaning old.question.algebra) (network_of old) v xs k (state_of old) (state_of new) → OutOf (network_of old) v xs → k ≡ length xs →
-      state_of new ≡ pump (meaning old.question.algebra) (network_of old) v (state_of old)
+      Offered (meaning old.diffusion.algebra) (network_of old) v xs k (state_of old) (state_of new) → OutOf (network_of old) v xs → k ≡ length xs →
+      state_of new ≡ pump (meaning old.diffusion.algebra) (network_of old) v (state_of old)
   offered_end old new v xs k O W e =
-      offered_all (meaning old.question.algebra) (network_of old) v xs (state_of old) (state_of new) W.all W.tail
-      (subst (λ j. Offered (meaning old.question.algebra) (network_of old) v xs j (state_of old) (state_of new)) e O)
+      offered_all (meaning old.diffusion.algebra) (network_of old) v xs (state_of old) (state_of new) W.all W.tail
+      (subst (λ j. Offered (meaning old.diffusion.algebra) (network_of old) v xs j (state_of old) (state_of new)) e O)
 
-  pub pump_leaves : (old mid new : CoreView S V) (v : ℕ) (c : CoreState V) → mid.question ≡ old.question → state_of mid ≡ c →
-      state_of new ≡ pump (meaning mid.question.algebra) (network_of mid) v (state_of mid) → state_of new ≡ pump (meaning old.question.algebra) (network_of old) v c
+  pub pump_leaves : (old mid new : CoreView S V) (v : ℕ) (c : CoreState V) → mid.diffusion ≡ old.diffusion → state_of mid ≡ c →
+      state_of new ≡ pump (meaning mid.diffusion.algebra) (network_of mid) v (state_of mid) → state_of new ≡ pump (meaning old.diffusion.algebra) (network_of old) v c
   pump_leaves old mid new v c s p q = q ∙ (λ i. pump (meaning (s i).algebra) (network_in (s i)) v (p i))
 
-  pub offer_then : (old mid new : CoreView S V) (v b : ℕ) (c : CoreState V) → mid.question ≡ old.question → state_of mid ≡ c →
-      state_of new ≡ pump_one (meaning mid.question.algebra) (network_of mid) v b (state_of mid) → state_of new ≡ pump_one (meaning old.question.algebra) (network_of old) v b c
+  pub offer_then : (old mid new : CoreView S V) (v b : ℕ) (c : CoreState V) → mid.diffusion ≡ old.diffusion → state_of mid ≡ c →
+      state_of new ≡ pump_one (meaning mid.diffusion.algebra) (network_of mid) v b (state_of mid) → state_of new ≡ pump_one (meaning old.diffusion.algebra) (network_of old) v b c
   offer_then old mid new v b c s p q = q ∙ (λ i. pump_one (meaning (s i).algebra) (network_in (s i)) v b (p i))
 
 module _ {V : Type 0} (A : Algebra V) (N : Network) where

@@ -1,4 +1,4 @@
--- Every schedule that goes on making enabled events ends its question.
+-- Every schedule that goes on making enabled events ends its diffusion.
 use Rattle.std.proofs.Common.{◌≡◌, ℕ, zero, suc, ◌+◌, ◌*◌, ◌-◌, ◌≤◌, true, false, List, [], ◌∷◌, ◌++◌, ◌⊎◌, refl, sym, ap, ◌∙◌, inl, inr, arith}
 use Rattle.std.proofs.lemmas.Bool.{cases_eq, cases_Bool, false≢true}
 use Rattle.road_graph.specs.GraphData.{GraphData, IsGraph, HasVertex}
@@ -26,7 +26,7 @@ module _ {V : Type 0} (A : Algebra V) (N : Network) where
   idle_step c (Deliver a) q = ap (delivered A N a c) (q a)
   idle_step c (Accept a) q = ap (accepted A N a c) (q a)
 
-  -- an ended question stays ended
+  -- an ended diffusion stays ended
   stays_ended : IsLawful A → WellFormed N → (event : ℕ → Event) (n : ℕ) → HasEnded (state_at A N event n) → HasEnded (state_at A N event (suc n))
   stays_ended L W event n q =
       let quiet = (ended A N L W (first_events event n) q).0 in
@@ -39,7 +39,7 @@ module _ {V : Type 0} (A : Algebra V) (N : Network) where
       count_grows c [] e = omega arith
       count_grows c (d ∷ es) e = let r = count_grows (step A N c d) es e in omega (arith, r)
 
-  -- each of the first n events is enabled, or the question has ended
+  -- each of the first n events is enabled, or the diffusion has ended
   all_enabled : IsLawful A → WellFormed N → (event : ℕ → Event) → IsBusySchedule A N event → (n : ℕ) → HasEnded (state_at A N event n) ⊎ (count_at event n ≡ n)
   all_enabled L W event B zero = inr refl
   all_enabled L W event B (suc n) = elim (all_enabled L W event B n) [

@@ -1,17 +1,17 @@
--- What a core is seen as: its question and its tables. Each table begins with a place for the environment or for arc 0.
+-- What a core is seen as: its diffusion and its tables. Each table begins with a place for the environment or for arc 0.
 use Rattle.std.specs.Prelude.{◌≡◌, ℕ, ◌+◌, ◌≤◌, List, length, slice_index_or, Option, None}
 use Rattle.path_algebra.specs.Algebra.{Algebra}
 use Rattle.scholten_core.specs.declared.token.Token.{Token}
 use Rattle.scholten_core.specs.declared.token.Token.TheVariants.{Idle}
 use Rattle.scholten_core.specs.Network.{Network}
-use Rattle.scholten_core.specs.Question.{Question, network_in, IsQuestion}
+use Rattle.scholten_core.specs.DiffusionData.{DiffusionData, network_in, IsDiffusion}
 use Rattle.scholten_core.specs.Diffusion.{CoreState}
 use Rattle.scholten_core.specs.Deficit.{deficit}
 use Rattle.scholten_core.specs.Reached.{IsReached}
 
--- what callers see of a running core: the question, and its tables
+-- what callers see of a running core: the diffusion, and its tables
 pub record CoreView (S V : Type 0) : Type 0 where
-  pub question : Question S
+  pub diffusion : DiffusionData S
   pub labels : List (Option V)
   pub engagers : List (Option ℕ)
   pub tokens : List (Token V)
@@ -29,7 +29,7 @@ state_of t = record {
 
 -- the network of a core
 abbrev pub network_of : {S V : Type 0} → CoreView S V → Network
-network_of t = network_in t.question
+network_of t = network_in t.diffusion
 
 -- the counters say how many arcs out of each vertex are busy
 abbrev pub AreDeficits : {V : Type 0} → Network → ℕ → List ℕ → CoreState V → Type 0
@@ -37,15 +37,15 @@ AreDeficits N n deficits c = (v : ℕ) → v ≤ n → slice_index_or deficits v
 
 -- the tables have a place for each vertex and each arc
 pub record AreTablesSized {S V : Type 0} (t : CoreView S V) : Type 0 where
-  pub question : IsQuestion t.question
-  pub labels : length t.labels ≡ t.question.roads.vertices + 1
-  pub engagers : length t.engagers ≡ t.question.roads.vertices + 1
-  pub tokens : length t.tokens ≡ length t.question.roads.arcs + 1
-  pub told : length t.told ≡ length t.question.roads.arcs + 1
-  pub deficits : length t.deficits ≡ t.question.roads.vertices + 1
-  pub counted : AreDeficits (network_of t) t.question.roads.vertices t.deficits (state_of t)
+  pub diffusion : IsDiffusion t.diffusion
+  pub labels : length t.labels ≡ t.diffusion.roads.vertices + 1
+  pub engagers : length t.engagers ≡ t.diffusion.roads.vertices + 1
+  pub tokens : length t.tokens ≡ length t.diffusion.roads.arcs + 1
+  pub told : length t.told ≡ length t.diffusion.roads.arcs + 1
+  pub deficits : length t.deficits ≡ t.diffusion.roads.vertices + 1
+  pub counted : AreDeficits (network_of t) t.diffusion.roads.vertices t.deficits (state_of t)
 
 -- the tables represent a state that some list of events leads to
 pub record IsRun {S V : Type 0} (meaning : S → Algebra V) (t : CoreView S V) : Type 0 where
-  pub question : IsQuestion t.question
-  pub reached : IsReached (meaning t.question.algebra) t.question.roads t.question.source (state_of t)
+  pub diffusion : IsDiffusion t.diffusion
+  pub reached : IsReached (meaning t.diffusion.algebra) t.diffusion.roads t.diffusion.source (state_of t)

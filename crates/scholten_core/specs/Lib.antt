@@ -1,5 +1,5 @@
 pub mod Network
-pub mod Question
+pub mod DiffusionData
 pub mod Diffusion
 pub mod Sums
 pub mod Deficit

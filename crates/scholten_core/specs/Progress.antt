@@ -1,4 +1,4 @@
--- How a question goes on: by an event that is enabled, to its end, and under events without an end.
+-- How a diffusion goes on: by an event that is enabled, to its end, and under events without an end.
 use Rattle.std.specs.Prelude.{◌≡◌, ℕ, zero, suc, ◌≤◌, ◌⊎◌, IsTrue, List, [], ◌∷◌, ◌++◌, length}
 use Rattle.scholten_core.specs.declared.event.Event.{Event}
 use Rattle.scholten_core.specs.declared.event.Event.TheVariants.{Deliver, Accept}
@@ -26,15 +26,15 @@ module _ {V : Type 0} (A : Algebra V) (N : Network) where
   abbrev pub state_at : (ℕ → Event) → ℕ → CoreState V
   state_at event n = state_after A N (first_events event n)
 
-  -- after the first n events the question has ended, or the next one is enabled
+  -- after the first n events the diffusion has ended, or the next one is enabled
   abbrev pub GoesOnAt : (ℕ → Event) → ℕ → Type 0
   GoesOnAt event n = HasEnded (state_at event n) ⊎ IsTrue (is_enabled (state_at event n) (event n))
 
-  -- until the question has ended each event is enabled in its turn
+  -- until the diffusion has ended each event is enabled in its turn
   abbrev pub IsBusySchedule : (ℕ → Event) → Type 0
   IsBusySchedule event = (n : ℕ) → GoesOnAt event n
 
-  -- until the question has ended an event is enabled in its turn again and again
+  -- until the diffusion has ended an event is enabled in its turn again and again
   abbrev pub KeepsGoing : (ℕ → Event) → Type 0
   KeepsGoing event = (n : ℕ) → (m : ℕ) × (n ≤ m) × GoesOnAt event m
 

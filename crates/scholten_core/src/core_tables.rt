@@ -3,7 +3,7 @@ ghost use Rattle.std.specs.Prelude.{◌≡◌, ℕ, ◌≤◌, ◌<◌, ◌+◌,
 ghost use Rattle.road_graph.specs.GraphData.{IsGraph, HasVertex};
 ghost use Rattle.scholten_core.specs.Deficit.{deficit};
 ghost use Rattle.scholten_core.specs.CoreView.{state_of, network_of};
-ghost use Rattle.scholten_core.specs.Question.{IsQuestion};
+ghost use Rattle.scholten_core.specs.DiffusionData.{IsDiffusion};
 
 mod moves;
 mod opening;
@@ -34,16 +34,16 @@ impl<'g, A: PathAlgebra> Model for CoreTables<'g, A> {
 
     ghost Value = { CoreView A A.Value };
 
-    ghost view = { λ c. record { question = record { algebra = c.algebra; roads = c.graph.now; source = c.source }; labels = c.labels.items; engagers = c.engagers.items; tokens = c.tokens.items; told = c.told.items; deficits = c.deficits.items } };
+    ghost view = { λ c. record { diffusion = record { algebra = c.algebra; roads = c.graph.now; source = c.source }; labels = c.labels.items; engagers = c.engagers.items; tokens = c.tokens.items; told = c.told.items; deficits = c.deficits.items } };
 
-    ghost invariant = { λ c. AreTablesSized (record { question = record { algebra = c.algebra; roads = c.graph.now; source = c.source }; labels = c.labels.items; engagers = c.engagers.items; tokens = c.tokens.items; told = c.told.items; deficits = c.deficits.items }) };
+    ghost invariant = { λ c. AreTablesSized (record { diffusion = record { algebra = c.algebra; roads = c.graph.now; source = c.source }; labels = c.labels.items; engagers = c.engagers.items; tokens = c.tokens.items; told = c.told.items; deficits = c.deficits.items }) };
 }
 
 impl<'g, A: PathAlgebra> CoreTables<'g, A> {
-    /// The algebra of the question.
+    /// The algebra of the diffusion.
     pub fn algebra(&self) -> A
-        ensures algebra { result ≡ self.now.question.algebra }
-        ensures question { IsQuestion self.now.question }
+        ensures algebra { result ≡ self.now.diffusion.algebra }
+        ensures diffusion { IsDiffusion self.now.diffusion }
     {
         self.algebra
     }
@@ -62,7 +62,7 @@ impl<'g, A: PathAlgebra> CoreTables<'g, A> {
 
     /// The label of a vertex.
     pub fn label(&self, v: Vertex) -> Option<A::Value>
-        requires { v ≤ self.now.question.roads.vertices }
+        requires { v ≤ self.now.diffusion.roads.vertices }
         ensures { result ≡ (state_of self.now).label v }
     {
         self.labels[v.0 as usize]
@@ -70,7 +70,7 @@ impl<'g, A: PathAlgebra> CoreTables<'g, A> {
 
     /// The arc that engages a vertex.
     pub fn engager(&self, v: Vertex) -> Option<ArcNo>
-        requires { v ≤ self.now.question.roads.vertices }
+        requires { v ≤ self.now.diffusion.roads.vertices }
         ensures { result ≡ (state_of self.now).engager v }
     {
         self.engagers[v.0 as usize]
@@ -78,7 +78,7 @@ impl<'g, A: PathAlgebra> CoreTables<'g, A> {
 
     /// How many arcs out of a vertex are busy.
     pub fn deficit(&self, v: Vertex) -> u32
-        requires { v ≤ self.now.question.roads.vertices }
+        requires { v ≤ self.now.diffusion.roads.vertices }
         ensures { result ≡ deficit (network_of self.now) v (state_of self.now) }
     {
         self.deficits[v.0 as usize]
@@ -86,7 +86,7 @@ impl<'g, A: PathAlgebra> CoreTables<'g, A> {
 
     /// The label that an arc was last offered.
     fn told(&self, b: ArcNo) -> Option<A::Value>
-        requires { b ≤ length self.now.question.roads.arcs }
+        requires { b ≤ length self.now.diffusion.roads.arcs }
         ensures { result ≡ (state_of self.now).told b }
     {
         self.told[b.0 as usize]
@@ -94,25 +94,25 @@ impl<'g, A: PathAlgebra> CoreTables<'g, A> {
 
     /// The vertex that an arc leaves: the environment, vertex 0, for arc 0.
     pub fn tail(&self, a: ArcNo) -> Vertex
-        requires { a ≤ length self.now.question.roads.arcs }
+        requires { a ≤ length self.now.diffusion.roads.arcs }
         ensures tail { result ≡ (network_of self.now).tail a }
-        ensures within { result ≤ self.now.question.roads.vertices }
+        ensures within { result ≤ self.now.diffusion.roads.vertices }
     {
         tail_of(self.graph, a)
     }
 
     /// The vertex that an arc enters.
     pub fn head(&self, a: ArcNo) -> Vertex
-        requires { a ≤ length self.now.question.roads.arcs }
+        requires { a ≤ length self.now.diffusion.roads.arcs }
         ensures head { result ≡ (network_of self.now).head a }
-        ensures within { result ≤ self.now.question.roads.vertices }
+        ensures within { result ≤ self.now.diffusion.roads.vertices }
     {
         head_of(self.graph, self.source, a)
     }
 
     /// The weight of an arc of the graph.
     fn weight(&self, a: ArcNo) -> u32
-        requires { (1 ≤ a) × (a ≤ length self.now.question.roads.arcs) }
+        requires { (1 ≤ a) × (a ≤ length self.now.diffusion.roads.arcs) }
         ensures { result ≡ (network_of self.now).weight a }
     {
         self.graph.arc(a).weight

@@ -49,7 +49,7 @@ pub fn every_run_is_sound<A: PathAlgebra>(algebra: A)
     laws_hold(algebra);
 }
 
-/// If the events have ended the question, nothing is under way anywhere, and each label is best.
+/// If the events have ended the diffusion, nothing is under way anywhere, and each label is best.
 pub fn ended_runs_are_best<A: PathAlgebra>(algebra: A)
     ensures quiet { (g : GraphData) (s : ℕ) → IsGraph g → HasVertex g s → (events : List Event) →
         HasEnded (state_after (A.meaning algebra) (network g s) events) →
@@ -62,7 +62,7 @@ pub fn ended_runs_are_best<A: PathAlgebra>(algebra: A)
     laws_hold(algebra);
 }
 
-/// In every order of events the question has ended, or some event is enabled: it is never stuck.
+/// In every order of events the diffusion has ended, or some event is enabled: it is never stuck.
 pub fn a_run_is_never_stuck<A: PathAlgebra>(algebra: A)
     ensures { (g : GraphData) (s : ℕ) → IsGraph g → HasVertex g s → (events : List Event) →
         HasEnded (state_after (A.meaning algebra) (network g s) events)
@@ -105,8 +105,8 @@ pub fn every_run_is_finite<A: PathAlgebra>(algebra: A)
 }
 
 /// From every state that events lead to, further events, each enabled in its turn, lead to the
-/// end; and if no event is enabled, the question has ended.
-pub fn every_question_can_end<A: PathAlgebra>(algebra: A)
+/// end; and if no event is enabled, the diffusion has ended.
+pub fn every_diffusion_can_end<A: PathAlgebra>(algebra: A)
     ensures ends { (g : GraphData) (s : ℕ) → IsGraph g → HasVertex g s → (events : List Event) →
         CanEnd (A.meaning algebra) (network g s)
         (state_after (A.meaning algebra) (network g s) events) }
@@ -118,7 +118,7 @@ pub fn every_question_can_end<A: PathAlgebra>(algebra: A)
     laws_hold(algebra);
 }
 
-/// A busy schedule ends its question within twice `message_bound`; one that keeps going ends it,
+/// A busy schedule ends its diffusion within twice `message_bound`; one that keeps going ends it,
 /// and so does every fair one.
 pub fn every_schedule_ends<A: PathAlgebra>(algebra: A)
     ensures busy { (g : GraphData) (s : ℕ) → IsGraph g → HasVertex g s → (event : ℕ → Event) →
@@ -145,7 +145,7 @@ pub fn messages_follow_label_changes<A: PathAlgebra>(algebra: A)
     laws_hold(algebra);
 }
 
-/// If a question has ended, as many messages were sent as were delivered, as many signals were
+/// If a diffusion has ended, as many messages were sent as were delivered, as many signals were
 /// sent as were accepted, and all four numbers are equal.
 pub fn ended_totals_are_equal<A: PathAlgebra>(algebra: A)
     ensures { (g : GraphData) (s : ℕ) → IsGraph g → HasVertex g s → (events : List Event) →
@@ -155,7 +155,7 @@ pub fn ended_totals_are_equal<A: PathAlgebra>(algebra: A)
     laws_hold(algebra);
 }
 
-/// A question of reachability that has ended has sent one message into the source, and one along
+/// A diffusion of reachability that has ended has sent one message into the source, and one along
 /// each arc whose tail is reached.
 pub fn reach_sends_once_an_arc()
     ensures { (g : GraphData) (s : ℕ) → IsGraph g → HasVertex g s → (events : List Event) →

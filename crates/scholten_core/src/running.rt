@@ -30,7 +30,7 @@ pub struct NoMessage;
 #[derive(Clone, Copy, Debug, PartialEq, Eq)]
 pub struct NoSignal;
 
-/// The diffusing computation of one question: which labels are best over all walks from a source?
+/// One diffusing computation: which labels are best over all walks from a source?
 #[derive(Drop)]
 pub struct Core<'g, A: PathAlgebra> {
     tables: CoreTables<'g, A>,
@@ -55,7 +55,7 @@ impl<'g, A: PathAlgebra> Core<'g, A> {
         source: Vertex,
     ) -> Result<Core<'g, A>, Memory>
         requires { HasVertex graph.now source }
-        ensures question { IfOk result (λ c. c.question ≡ record {
+        ensures diffusion { IfOk result (λ c. c.diffusion ≡ record {
           algebra = algebra;
           roads = graph.now;
           source = source;
@@ -70,9 +70,9 @@ impl<'g, A: PathAlgebra> Core<'g, A> {
 
     /// The message on an arc is handled at the arc's head. Refused, with nothing changed, if no message is there.
     pub fn deliver(&mut self, a: ArcNo) -> Result<(), NoMessage>
-        ensures same { self.new.question ≡ self.old.question }
+        ensures same { self.new.diffusion ≡ self.old.diffusion }
         ensures done { IfOk result (λ _. (is_enabled (state_of self.old) (Deliver a) ≡ true) ×
-            (state_of self.new ≡ step (A.meaning self.old.question.algebra) (network_of self.old)
+            (state_of self.new ≡ step (A.meaning self.old.diffusion.algebra) (network_of self.old)
             (state_of self.old) (Deliver a))) }
         ensures refused { OnErr result ((is_enabled (state_of self.old) (Deliver a) ≡ false) ×
             (self.new ≡ self.old)) }
@@ -91,9 +91,9 @@ impl<'g, A: PathAlgebra> Core<'g, A> {
 
     /// The signal on an arc is handled at the arc's tail. Refused, with nothing changed, if no signal is there.
     pub fn accept(&mut self, a: ArcNo) -> Result<(), NoSignal>
-        ensures same { self.new.question ≡ self.old.question }
+        ensures same { self.new.diffusion ≡ self.old.diffusion }
         ensures done { IfOk result (λ _. (is_enabled (state_of self.old) (Accept a) ≡ true) ×
-            (state_of self.new ≡ step (A.meaning self.old.question.algebra) (network_of self.old)
+            (state_of self.new ≡ step (A.meaning self.old.diffusion.algebra) (network_of self.old)
             (state_of self.old) (Accept a))) }
         ensures refused { OnErr result ((is_enabled (state_of self.old) (Accept a) ≡ false) ×
             (self.new ≡ self.old)) }
@@ -116,8 +116,8 @@ impl<'g, A: PathAlgebra> Core<'g, A> {
 
     /// Applies an event, and says whether it was enabled.
     fn apply(&mut self, event: Event) -> bool
-        ensures same { self.new.question ≡ self.old.question }
-        ensures state { state_of self.new ≡ step (A.meaning self.old.question.algebra)
+        ensures same { self.new.diffusion ≡ self.old.diffusion }
+        ensures state { state_of self.new ≡ step (A.meaning self.old.diffusion.algebra)
             (network_of self.old) (state_of self.old) event }
         ensures enabled { result ≡ is_enabled (state_of self.old) event }
     {
@@ -129,10 +129,10 @@ impl<'g, A: PathAlgebra> Core<'g, A> {
 
     /// Applies the events in order, skips those that are not enabled, and says how many were.
     pub fn run(&mut self, events: &[Event]) -> usize
-        ensures same { self.new.question ≡ self.old.question }
-        ensures state { state_of self.new ≡ run_from (A.meaning self.old.question.algebra)
+        ensures same { self.new.diffusion ≡ self.old.diffusion }
+        ensures state { state_of self.new ≡ run_from (A.meaning self.old.diffusion.algebra)
             (network_of self.old) (state_of self.old) events.now }
-        ensures count { result ≡ count_enabled (A.meaning self.old.question.algebra)
+        ensures count { result ≡ count_enabled (A.meaning self.old.diffusion.algebra)
             (network_of self.old) (state_of self.old) events.now }
     {
         let mut enabled = 0;
@@ -149,11 +149,11 @@ impl<'g, A: PathAlgebra> Core<'g, A> {
     pub fn ended(&self) -> bool
         ensures ended { IsTrue result ↔ HasEnded (state_of self.now) }
         ensures quiet { IsTrue result → IsQuietState (state_of self.now) }
-        ensures best { IsTrue result → LabelsAreBest (A.meaning self.now.question.algebra)
-            self.now.question.roads self.now.question.source (state_of self.now) }
+        ensures best { IsTrue result → LabelsAreBest (A.meaning self.now.diffusion.algebra)
+            self.now.diffusion.roads self.now.diffusion.source (state_of self.now) }
         ensures going { (IsTrue result → ⊥) → CanGoOn (network_of self.now) (state_of self.now) }
-        ensures reached { IsReached (A.meaning self.now.question.algebra) self.now.question.roads
-            self.now.question.source (state_of self.now) }
+        ensures reached { IsReached (A.meaning self.now.diffusion.algebra) self.now.diffusion.roads
+            self.now.diffusion.source (state_of self.now) }
     {
         laws_hold(self.tables.algebra());
         self.tables.token(ENTRY).is_idle()
@@ -168,10 +168,10 @@ impl<'g, A: PathAlgebra> Core<'g, A> {
 
     /// The label of a vertex, the value of some walk to it, or none so far.
     pub fn label(&self, v: Vertex) -> Option<A::Value>
-        requires { HasVertex self.now.question.roads v }
+        requires { HasVertex self.now.diffusion.roads v }
         ensures label { result ≡ (state_of self.now).label v }
-        ensures walk { IfSome result (λ x. IsWalkValue (A.meaning self.now.question.algebra)
-            self.now.question.roads (self.now.question.source ∷ []) v x) }
+        ensures walk { IfSome result (λ x. IsWalkValue (A.meaning self.now.diffusion.algebra)
+            self.now.diffusion.roads (self.now.diffusion.source ∷ []) v x) }
     {
         laws_hold(self.tables.algebra());
         self.tables.label(v)
@@ -179,11 +179,11 @@ impl<'g, A: PathAlgebra> Core<'g, A> {
 
     /// The arc that engages a vertex, none for a neutral one.
     pub fn engager(&self, v: Vertex) -> Option<ArcNo>
-        requires { HasVertex self.now.question.roads v }
+        requires { HasVertex self.now.diffusion.roads v }
         ensures engager { result ≡ (state_of self.now).engager v }
         ensures held { IfSome result (λ e. ((state_of self.now).token e ≡ Held) ×
             ((network_of self.now).head e ≡ v)) }
-        ensures rooted { IsRooted (A.meaning self.now.question.algebra) (network_of self.now)
+        ensures rooted { IsRooted (A.meaning self.now.diffusion.algebra) (network_of self.now)
             (state_of self.now) }
     {
         laws_hold(self.tables.algebra());
@@ -192,11 +192,11 @@ impl<'g, A: PathAlgebra> Core<'g, A> {
 
     /// What is on an arc; a message has the value of some walk to the arc's head.
     pub fn token(&self, a: ArcNo) -> Token<A::Value>
-        requires { a ≤ length self.now.question.roads.arcs }
+        requires { a ≤ length self.now.diffusion.roads.arcs }
         ensures token { result ≡ (state_of self.now).token a }
         ensures walk { (x : A.Value) → result ≡ Token.Message x →
-            IsWalkValue (A.meaning self.now.question.algebra) self.now.question.roads
-            (self.now.question.source ∷ []) ((network_of self.now).head a) x }
+            IsWalkValue (A.meaning self.now.diffusion.algebra) self.now.diffusion.roads
+            (self.now.diffusion.source ∷ []) ((network_of self.now).head a) x }
     {
         laws_hold(self.tables.algebra());
         self.tables.token(a)
@@ -204,7 +204,7 @@ impl<'g, A: PathAlgebra> Core<'g, A> {
 
     /// How many arcs out of a vertex are busy: 0 for a neutral one.
     pub fn deficit(&self, v: Vertex) -> u32
-        requires { HasVertex self.now.question.roads v }
+        requires { HasVertex self.now.diffusion.roads v }
         ensures { result ≡ deficit (network_of self.now) v (state_of self.now) }
     {
         self.tables.deficit(v)

@@ -12,7 +12,7 @@ use Rattle.scholten_core.specs.Diffusion.{CoreState, is_idle}
 use Rattle.scholten_core.specs.Items.{item_arc, item_of}
 use Rattle.scholten_core.proofs.Kept.{Kept as CoreKept}
 use Rattle.scholten_core.proofs.Walks.{walk_value_is_value}
-use Rattle.shard_part.specs.PartState.{PartData, Setup, network_of, place_in, token_if, maker_of}
+use Rattle.shard_part.specs.PartState.{PartData, SetupData, network_of, place_in, token_if, maker_of}
 use Rattle.shard_part.specs.Weights.{total, is, All}
 use Rattle.shard_part.specs.Represents.{HoldsShareIn}
 use Rattle.shard_part.specs.Exchange.{FitsAlone}
@@ -38,18 +38,18 @@ is_busy V true e = refl
 is_busy V false e = absurd cc
 
 -- the environment stands where the source does
-entry_place : {S : Type 0} (t : Setup S) → t.question.source ≢ 0 → place_in t 0 ≡ place_in t t.question.source
+entry_place : {S : Type 0} (t : SetupData S) → t.diffusion.source ≢ 0 → place_in t 0 ≡ place_in t t.diffusion.source
 unfolding place_in
-entry_place t ne = go t.question.source ne
+entry_place t ne = go t.diffusion.source ne
   where
     go : (s : ℕ) → s ≢ 0 → get_or t.plan.list (s - 1) 0 ≡ get_or (get_or t.plan.list (s - 1) 0 ∷ t.plan.list) s 0
     go zero n = absurd (n refl)
     go (suc s) n = ap (λ z. get_or t.plan.list z 0) (let e : suc s - 1 ≡ s = omega arith in e)
 
-module _ {S V : Type 0} (meaning : S → Algebra V) (p : PartData S V) (L : Lawful (meaning p.setup.question.algebra))
-    (W : WellFormed (network_of p.setup)) (c : CoreState V) (K : CoreKept (meaning p.setup.question.algebra) (network_of p.setup) 0 c) where
+module _ {S V : Type 0} (meaning : S → Algebra V) (p : PartData S V) (L : Lawful (meaning p.setup.diffusion.algebra))
+    (W : WellFormed (network_of p.setup)) (c : CoreState V) (K : CoreKept (meaning p.setup.diffusion.algebra) (network_of p.setup) 0 c) where
   abbrev Share : List (Item V) → Type 0
-  Share xs = HoldsShareIn (meaning p.setup.question.algebra) (network_of p.setup) (place_in p.setup) c (record p { queue = xs })
+  Share xs = HoldsShareIn (meaning p.setup.diffusion.algebra) (network_of p.setup) (place_in p.setup) c (record p { queue = xs })
 
   -- in whatever order the items stand
   reordered : (xs ys : List (Item V)) → ((f : Item V → ℕ) → total f ys ≡ total f xs) → Share xs → Share ys
@@ -59,13 +59,13 @@ module _ {S V : Type 0} (meaning : S → Algebra V) (p : PartData S V) (L : Lawf
   }
 
   -- an arc between two shards is one of the graph's
-  real_arc : (a : ℕ) → a < suc (network_of p.setup).arcs → place_in p.setup ((network_of p.setup).tail a) ≢ place_in p.setup ((network_of p.setup).head a) → HasArc p.setup.question.roads a
+  real_arc : (a : ℕ) → a < suc (network_of p.setup).arcs → place_in p.setup ((network_of p.setup).tail a) ≢ place_in p.setup ((network_of p.setup).head a) → HasArc p.setup.diffusion.roads a
   real_arc zero l ne = absurd (ne (ap (place_in p.setup) W.tail_zero ∙ entry_place p.setup W.source_in ∙ ap (place_in p.setup) (sym W.head_zero)))
   real_arc (suc a) l ne = (omega arith, omega (arith, l))
 
-  one_fits : (i : Item V) (rest : List (Item V)) (j : ℕ) → j ≢ p.shard → place_in p.setup (maker_of (network_of p.setup) i) ≡ j → Share (i ∷ rest) → FitsAlone (meaning p.setup.question.algebra) p i
+  one_fits : (i : Item V) (rest : List (Item V)) (j : ℕ) → j ≢ p.shard → place_in p.setup (maker_of (network_of p.setup) i) ≡ j → Share (i ∷ rest) → FitsAlone (meaning p.setup.diffusion.algebra) p i
   one_fits (MessageOn a x) rest j ne made H =
-      let A = meaning p.setup.question.algebra in let N = network_of p.setup in
+      let A = meaning p.setup.diffusion.algebra in let N = network_of p.setup in
       let T = front_stands A N (place_in p.setup) L c (record p { queue = MessageOn a x ∷ rest }) (MessageOn a x) rest H refl in
       let tok : c.token a ≡ Message x = is_message a (c.token a) x T.token in
       let away : place_in p.setup (N.tail a) ≢ p.shard = λ q. ne (sym made ∙ q) in (
@@ -74,7 +74,7 @@ module _ {S V : Type 0} (meaning : S → Algebra V) (p : PartData S V) (L : Lawf
         (T.here, away, message_free A N (place_in p.setup) c (record p { queue = MessageOn a x ∷ rest }) a x K H.tables tok (eq-eqb _ _ T.here)),
       )
   one_fits (SignalOn a) rest j ne made H =
-      let A = meaning p.setup.question.algebra in let N = network_of p.setup in
+      let A = meaning p.setup.diffusion.algebra in let N = network_of p.setup in
       let T = front_stands A N (place_in p.setup) L c (record p { queue = SignalOn a ∷ rest }) (SignalOn a) rest H refl in
       let tok : c.token a ≡ Signal = is_signal a (c.token a) T.token in
       let away : place_in p.setup (N.head a) ≢ p.shard = λ q. ne (sym made ∙ q) in (
@@ -82,7 +82,7 @@ module _ {S V : Type 0} (meaning : S → Algebra V) (p : PartData S V) (L : Lawf
         (T.here, away, is_busy V (get_or p.busy a false) (signal_busy A N (place_in p.setup) c (record p { queue = SignalOn a ∷ rest }) a H.tables tok (eq-eqb _ _ T.here))),
       )
 
-  each_fits : (before xs : List (Item V)) (j : ℕ) → j ≢ p.shard → MadeAt p.setup j xs → Share (before ++ xs) → All (FitsAlone (meaning p.setup.question.algebra) p) xs
+  each_fits : (before xs : List (Item V)) (j : ℕ) → j ≢ p.shard → MadeAt p.setup j xs → Share (before ++ xs) → All (FitsAlone (meaning p.setup.diffusion.algebra) p) xs
   each_fits before [] j ne made H = tt
   each_fits before (i ∷ xs) j ne made H = (
     one_fits i (before ++ xs) j ne made.0 (reordered (before ++ i ∷ xs) (i ∷ before ++ xs) (λ f. let a = total_append f before (i ∷ xs) in let b = total_append f before xs in omega (arith, a, b)) H),
@@ -91,9 +91,9 @@ module _ {S V : Type 0} (meaning : S → Algebra V) (p : PartData S V) (L : Lawf
 
   -- the queue as it is with the batch
   pub arrives : (xs : List (Item V)) (j : ℕ) → j ≢ p.shard → MadeAt p.setup j xs
-      → HoldsShareIn (meaning p.setup.question.algebra) (network_of p.setup) (place_in p.setup) c (joined p xs) → MayReceive meaning p xs
+      → HoldsShareIn (meaning p.setup.diffusion.algebra) (network_of p.setup) (place_in p.setup) c (joined p xs) → MayReceive meaning p xs
   arrives xs j ne made H =
-      let A = meaning p.setup.question.algebra in let N = network_of p.setup in (
+      let A = meaning p.setup.diffusion.algebra in let N = network_of p.setup in (
         (let q = queue_fits A N (place_in p.setup) c (joined p xs) H in let l = length-append p.queue xs in omega (arith, q, l)),
         record {
           apart = λ b. let o = arc_once A N (place_in p.setup) c (joined p xs) b H in let a = total_append (λ j. is b (item_arc j)) p.queue xs in omega (arith, o, a);

@@ -133,14 +133,14 @@ module _ {S V : Type 0} where
           ≡ 1 = (λ i. one_if (eq-eqb _ _ m i && is_idle {V = V} (token_if (e i)))) in omega (arith, z, one))
 
   busy_written : (p : PartData S V) (r : Rows V) (n : ℕ) (ns : List ℕ) (b i : ℕ) (x : Bool) → RepInvariant p r n ns → IsArcRow p b i →
-      scatter (arcs_out (network_of p.setup) (local_vertices p.setup p.shard)) (set r.busy i x) false (suc (length p.setup.question.roads.arcs)) ≡ set p.busy b x
+      scatter (arcs_out (network_of p.setup) (local_vertices p.setup p.shard)) (set r.busy i x) false (suc (length p.setup.diffusion.roads.arcs)) ≡ set p.busy b x
   busy_written p r n ns b i x D P = table_write (arcs_out (network_of p.setup) (local_vertices p.setup p.shard)) r.busy p.busy false
-      (suc (length p.setup.question.roads.arcs)) i b x D.seen.busy (apart p) P.inside D.sized.busy P.arc
+      (suc (length p.setup.diffusion.roads.arcs)) i b x D.seen.busy (apart p) P.inside D.sized.busy P.arc
 
   pub busy_leaves : (p old : PartData S V) (r : Rows V) (n : ℕ) (ns : List ℕ) (b i : ℕ) (x : Bool) → p ≡ old → RepInvariant p r n ns → IsArcRow old b i →
       record p {
         busy = scatter (arcs_out (network_of p.setup) (local_vertices p.setup p.shard)) (set r.busy i x) false
-            (suc (length p.setup.question.roads.arcs));
+            (suc (length p.setup.diffusion.roads.arcs));
       } ≡ record old { busy = set old.busy b x }
   busy_leaves p old r n ns b i x e D Q = ap (λ (ys : List Bool). record p { busy = ys }) (busy_written p r n ns b i x D (row_at p old b i e Q))
       ∙ ap (λ (u : PartData S V). record u { busy = set u.busy b x }) e
@@ -150,7 +150,7 @@ module _ {S V : Type 0} where
       LocalInvariant (network_of p.setup) (place_in p.setup) (record p { busy = set p.busy b x }) →
       RepInvariant (record p {
         busy = scatter (arcs_out (network_of p.setup) (local_vertices p.setup p.shard)) (set r.busy i x) false
-            (suc (length p.setup.question.roads.arcs));
+            (suc (length p.setup.diffusion.roads.arcs));
       }) (record r { busy = set r.busy i x; deficits = set r.deficits j d' }) n ns
   keep_busy p r n ns v j b i x d' D P Q t h s = record {
     planned = D.planned;
@@ -171,8 +171,8 @@ module _ {S V : Type 0} where
     tallied = D.tallied;
   }
     where
-      long : length p.busy ≡ suc (length p.setup.question.roads.arcs)
-      long = table_long (arcs_out (network_of p.setup) (local_vertices p.setup p.shard)) r.busy p.busy false (suc (length p.setup.question.roads.arcs)) D.seen.busy
+      long : length p.busy ≡ suc (length p.setup.diffusion.roads.arcs)
+      long = table_long (arcs_out (network_of p.setup) (local_vertices p.setup p.shard)) r.busy p.busy false (suc (length p.setup.diffusion.roads.arcs)) D.seen.busy
 
       counts : AreRowDeficits (record p { busy = set p.busy b x }) (record r { busy = set r.busy i x; deficits = set r.deficits j d' })
       counts k l = elim (cases_eq k j) [
@@ -180,13 +180,13 @@ module _ {S V : Type 0} where
             let u = ap (λ m. get_or (set r.deficits j d') m 0) e in
             let c = D.counts j P.inside in
             let g : (network_of p.setup).tail b ≡ get_or (local_vertices p.setup p.shard) j 0 = t ∙ sym P.vertex in
-            let y = busy_here p (get_or (local_vertices p.setup p.shard) j 0) b x (suc (length p.setup.question.roads.arcs)) (arc_below p b i Q)
+            let y = busy_here p (get_or (local_vertices p.setup p.shard) j 0) b x (suc (length p.setup.diffusion.roads.arcs)) (arc_below p b i Q)
             (let z = arc_below p b i Q in let q = long in omega (arith, z, q)) g in
             let v2 = ap (λ m. busy_out (network_of p.setup) (get_or (local_vertices p.setup p.shard) m 0)
-            (state_in (record p { busy = set p.busy b x })) (suc (length p.setup.question.roads.arcs))) e in
+            (state_in (record p { busy = set p.busy b x })) (suc (length p.setup.diffusion.roads.arcs))) e in
             omega (arith, w, u, c, y, h, v2))
         | inr ne ↦ get_or-set_other r.deficits j k d' 0 ne ∙ D.counts k l
-            ∙ sym (busy_other p (get_or (local_vertices p.setup p.shard) k 0) b x (suc (length p.setup.question.roads.arcs)) (λ q. differ k l ne (sym (sym t ∙ q) ∙ sym P.vertex)))
+            ∙ sym (busy_other p (get_or (local_vertices p.setup p.shard) k 0) b x (suc (length p.setup.diffusion.roads.arcs)) (λ q. differ k l ne (sym (sym t ∙ q) ∙ sym P.vertex)))
       ]
         where
           differ : (k : ℕ) → k < length (local_vertices p.setup p.shard) → k ≢ j → get_or (local_vertices p.setup p.shard) k 0 ≢ get_or (local_vertices p.setup p.shard) j 0
@@ -200,16 +200,16 @@ module _ {S V : Type 0} where
       d ≡ get_or r.deficits j 0 →
       RepInvariant (record p {
         busy = scatter (arcs_out (network_of p.setup) (local_vertices p.setup p.shard)) (set r.busy i true) false
-            (suc (length p.setup.question.roads.arcs));
+            (suc (length p.setup.diffusion.roads.arcs));
       }) (record r { busy = set r.busy i true; deficits = set r.deficits j (d + 1) }) n ns
-      × IsClear (record p { busy = scatter (arcs_out (network_of p.setup) (local_vertices p.setup p.shard)) (set r.busy i true) false (suc (length p.setup.question.roads.arcs)) }) b
+      × IsClear (record p { busy = scatter (arcs_out (network_of p.setup) (local_vertices p.setup p.shard)) (set r.busy i true) false (suc (length p.setup.diffusion.roads.arcs)) }) b
   occupy_keeps p old r n ns v j b i d e D stands lies t nz f h =
       let P = place_at p old v j e stands in let Q = row_at p old b i e lies in
       let t2 : (network_of p.setup).tail b ≡ v = subst (λ (u : PartData S V). (network_of u.setup).tail b ≡ v) (sym e) t in
       let f2 : get_or p.busy b false ≡ false = subst (λ (u : PartData S V). get_or u.busy b false ≡ false) (sym e) f in
       let m : place_in p.setup ((network_of p.setup).tail b) ≡ p.shard = ap (place_in p.setup) (t2 ∙ sym P.vertex) ∙ own_placed p.setup p.shard j P.inside (λ w. nz (sym P.vertex ∙ w)) in
       let l : b < length p.busy = (let w = table_long (arcs_out (network_of p.setup) (local_vertices p.setup p.shard)) r.busy p.busy false
-      (suc (length p.setup.question.roads.arcs)) D.seen.busy in let z = arc_below p b i Q in omega (arith, w, z)) in
+      (suc (length p.setup.diffusion.roads.arcs)) D.seen.busy in let z = arc_below p b i Q in omega (arith, w, z)) in
       let O = occupy_sound p b D.sound l m f2 in
       let z = ap one_if f2 in (
         keep_busy p r n ns v j b i true (d + 1) D P Q t2 (omega (arith, h, z)) O.0,
@@ -219,14 +219,14 @@ module _ {S V : Type 0} where
   -- the table of arcs is no longer than all arcs with the environment's
   pub rows_few : (p : PartData S V) (r : Rows V) (n : ℕ) (ns : List ℕ) → RepInvariant p r n ns → length r.busy ≤ 2 ^ 27 + 1
   rows_few p r n ns D =
-      let m = own_arcs_most (network_of p.setup) (place_in p.setup) p.shard p.setup.question.roads.vertices (length (local_vertices p.setup p.shard)) in
+      let m = own_arcs_most (network_of p.setup) (place_in p.setup) p.shard p.setup.diffusion.roads.vertices (length (local_vertices p.setup p.shard)) in
       let t = ap (λ vs. length (arcs_out (network_of p.setup) vs)) (take_all (length (local_vertices p.setup p.shard)) (local_vertices p.setup p.shard) (omega arith)) in
       let s = D.sized.busy in let a = D.planned.roads.few_arcs in omega (arith, m, t, s, a)
 
   pub deficit_few : (p old : PartData S V) (r : Rows V) (n : ℕ) (ns : List ℕ) (v j d : ℕ) → p ≡ old → RepInvariant p r n ns → IsPlace old v j → d ≡ get_or r.deficits j 0 → d ≤ 2 ^ 27 + 1
   deficit_few p old r n ns v j d e D R h =
       let P = place_at p old v j e R in
-      let c = D.counts j P.inside in let m = busy_most (network_of p.setup) (get_or (local_vertices p.setup p.shard) j 0) (state_in p) (suc (length p.setup.question.roads.arcs)) in
+      let c = D.counts j P.inside in let m = busy_most (network_of p.setup) (get_or (local_vertices p.setup p.shard) j 0) (state_in p) (suc (length p.setup.diffusion.roads.arcs)) in
       let a = D.planned.roads.few_arcs in omega (arith, h, c, m, a)
 
   pub free_keeps : (p old : PartData S V) (r : Rows V) (n : ℕ) (ns : List ℕ) (v j a i d : ℕ) → p ≡ old → RepInvariant p r n ns → IsPlace old v j
@@ -234,7 +234,7 @@ module _ {S V : Type 0} where
       d ≡ get_or r.deficits j 0 →
       (1 ≤ d) × RepInvariant (record p {
         busy = scatter (arcs_out (network_of p.setup) (local_vertices p.setup p.shard)) (set r.busy i false) false
-            (suc (length p.setup.question.roads.arcs));
+            (suc (length p.setup.diffusion.roads.arcs));
       }) (record r { busy = set r.busy i false; deficits = set r.deficits j (d - 1) }) n ns
   free_keeps p old r n ns v j a i d e D stands lies t m z h =
       let P = place_at p old v j e stands in let Q = row_at p old a i e lies in
@@ -243,9 +243,9 @@ module _ {S V : Type 0} where
       let z2 : IsClear p a = subst (λ (u : PartData S V). IsClear u a) (sym e) z in
       let f2 = clear_busy p a (ap (place_in p.setup) t2 ∙ m2) z2 in
       let l : a < length p.busy = (let w = table_long (arcs_out (network_of p.setup) (local_vertices p.setup p.shard)) r.busy p.busy false
-      (suc (length p.setup.question.roads.arcs)) D.seen.busy in let y = arc_below p a i Q in omega (arith, w, y)) in
+      (suc (length p.setup.diffusion.roads.arcs)) D.seen.busy in let y = arc_below p a i Q in omega (arith, w, y)) in
       let one = ap one_if f2 in
       let c = D.counts j P.inside in
-      let y = busy_here p (get_or (local_vertices p.setup p.shard) j 0) a false (suc (length p.setup.question.roads.arcs)) (arc_below p a i Q) l (t2 ∙ sym P.vertex) in
+      let y = busy_here p (get_or (local_vertices p.setup p.shard) j 0) a false (suc (length p.setup.diffusion.roads.arcs)) (arc_below p a i Q) l (t2 ∙ sym P.vertex) in
       let low : 1 ≤ d = omega (arith, h, c, y, one) in
       (low, keep_busy p r n ns v j a i false (d - 1) D P Q t2 (omega (arith, h, one, low)) (free_sound p a D.sound l z2))

@@ -8,7 +8,7 @@ use Rattle.scholten_core.specs.Diffusion.{CoreState, step, run_from}
 use Rattle.scholten_core.specs.Accounts.{Totals, count_sent, count_signalled, sent_total, delivered_total, signalled_total, accepted_total}
 use Rattle.scholten_core.proofs.Kept.{Kept as CoreKept, step_kept}
 use Rattle.shard_part.specs.Tallies.{counted_on, top}
-use Rattle.shard_part.specs.PartState.{PartData, Setup, network_of, place_in, state_in, event_of}
+use Rattle.shard_part.specs.PartState.{PartData, SetupData, network_of, place_in, state_in, event_of}
 use Rattle.shard_part.specs.Weights.{total, message_weight, signal_weight}
 use Rattle.shard_part.specs.Handling.{made, HandledItemIn, HandledAll}
 use Rattle.shard_part.specs.Represents.{Represents}
@@ -49,7 +49,7 @@ module _ {S V : Type 0} (meaning : S → Algebra V) where
     accepted = s.accepted ∙ ap (λ z. min z top) (let r : v.accepted ≡ v.accepted + 0 = omega arith in r);
   })
   saturates (i ∷ is) p q (m, T, rest) v s =
-      let A = meaning p.setup.question.algebra in let N = network_of p.setup in
+      let A = meaning p.setup.diffusion.algebra in let N = network_of p.setup in
       let one : Totals = record {
         sent = total message_weight (made A N i (state_in p));
         delivered = message_weight i;
@@ -69,25 +69,25 @@ module _ {S V : Type 0} (meaning : S → Algebra V) where
       }
 
   -- one part takes items, and what it did is what their events do
-  pub moves : AllLawful meaning → (t : Setup S) → WellFormed (network_of t)
+  pub moves : AllLawful meaning → (t : SetupData S) → WellFormed (network_of t)
       → (items : List (Item V)) (before after : List (PartData S V)) (p q : PartData S V) (mail : (ℕ → Item V → ℕ) → ℕ) (c : CoreState V) →
-      CoreKept (meaning t.question.algebra) (network_of t) 0 c → p.setup ≡ t → Represents meaning t (before ++ p ∷ after) mail c
+      CoreKept (meaning t.diffusion.algebra) (network_of t) 0 c → p.setup ≡ t → Represents meaning t (before ++ p ∷ after) mail c
       → (T : HandledAll meaning p items q) → RepresentsMoved meaning t c items (before ++ q ∷ after) mail (done_by meaning items p q T)
   unfolding done_by
   moves L t W [] before after p q mail c K e H T = record { shown = subst (λ (u : PartData S V). Represents meaning t (before ++ u ∷ after) mail c) T H; did = refl }
   moves L t W (i ∷ is) before after p q mail c K e H (m, T, rest) =
-      let A = meaning t.question.algebra in let N = network_of t in
-      let handled_in : HandledItemIn (meaning t.question.algebra) (network_of t) (place_in t) p i m = subst
-      (λ (u : Setup S). HandledItemIn (meaning u.question.algebra) (network_of u) (place_in u) p i m) e T in
+      let A = meaning t.diffusion.algebra in let N = network_of t in
+      let handled_in : HandledItemIn (meaning t.diffusion.algebra) (network_of t) (place_in t) p i m = subst
+      (λ (u : SetupData S). HandledItemIn (meaning u.diffusion.algebra) (network_of u) (place_in u) p i m) e T in
       let one = handled_shows meaning L t W before after p m i mail c K H T in
-      let C = counts A N (place_in t) (L t.question.algebra) W c p i m K (shown_holds A N (place_in t) before after p mail c H.shown) handled_in in
-      let R = moves L t W is before after m q mail (step A N c (event_of i)) (step_kept A N (L t.question.algebra) W c (event_of i) K) (T.setup ∙ e) one.1 rest in
-      let told : total message_weight (made (meaning p.setup.question.algebra) (network_of p.setup) i (state_in p))
-      ≡ count_sent A N c (step A N c (event_of i)) = ap (λ (u : Setup S). total message_weight
-      (made (meaning u.question.algebra) (network_of u) i (state_in p))) e ∙ C.sent in
-      let back : total signal_weight (made (meaning p.setup.question.algebra) (network_of p.setup) i (state_in p))
+      let C = counts A N (place_in t) (L t.diffusion.algebra) W c p i m K (shown_holds A N (place_in t) before after p mail c H.shown) handled_in in
+      let R = moves L t W is before after m q mail (step A N c (event_of i)) (step_kept A N (L t.diffusion.algebra) W c (event_of i) K) (T.setup ∙ e) one.1 rest in
+      let told : total message_weight (made (meaning p.setup.diffusion.algebra) (network_of p.setup) i (state_in p))
+      ≡ count_sent A N c (step A N c (event_of i)) = ap (λ (u : SetupData S). total message_weight
+      (made (meaning u.diffusion.algebra) (network_of u) i (state_in p))) e ∙ C.sent in
+      let back : total signal_weight (made (meaning p.setup.diffusion.algebra) (network_of p.setup) i (state_in p))
       ≡ count_signalled A N c (step A N c (event_of i)) = ap
-      (λ (u : Setup S). total signal_weight (made (meaning u.question.algebra) (network_of u) i (state_in p))) e ∙ C.signalled in
+      (λ (u : SetupData S). total signal_weight (made (meaning u.diffusion.algebra) (network_of u) i (state_in p))) e ∙ C.signalled in
       record {
         shown = R.shown;
         did = λ j. plus (record { sent = told j; delivered = C.delivered j; signalled = back j; accepted = C.accepted j }) (R.did j);

@@ -11,7 +11,7 @@ use Rattle.scholten_core.specs.Diffusion.{CoreState, put, is_idle, is_due, impro
 use Rattle.scholten_core.specs.Items.{item_arc, item_of, pump_made, settle_made, IsDistinct, IsOutList}
 use Rattle.scholten_core.proofs.Basics.{put_tells, due_tells}
 use Rattle.shard_part.specs.Tallies.{counted_on, top}
-use Rattle.shard_part.specs.PartState.{PartData, Setup, network_of, place_in, state_in, token_if, mine, vertex_of, IsArc}
+use Rattle.shard_part.specs.PartState.{PartData, SetupData, network_of, place_in, state_in, token_if, mine, vertex_of, IsArc}
 use Rattle.shard_part.specs.Weights.{Channels, channels_of, total, message_weight, signal_weight}
 use Rattle.shard_part.specs.Handling.{routes, route, arrive_here, settle_here, taken, made, HandledItemIn}
 use Rattle.shard_part.specs.Outgoing.{outgoing}
@@ -31,10 +31,10 @@ use Rattle.road_graph.proofs.Lists.{not_in_empty, here_as, head_or_tail}
 
 -- the tables have a place for each vertex and each arc, and no counter is past its top
 pub record IsFit {S V : Type 0} (p : PartData S V) : Type 0 where
-  pub labels : length p.labels ≡ suc p.setup.question.roads.vertices
-  pub engagers : length p.engagers ≡ suc p.setup.question.roads.vertices
-  pub busy : length p.busy ≡ suc (length p.setup.question.roads.arcs)
-  pub told : length p.told ≡ suc (length p.setup.question.roads.arcs)
+  pub labels : length p.labels ≡ suc p.setup.diffusion.roads.vertices
+  pub engagers : length p.engagers ≡ suc p.setup.diffusion.roads.vertices
+  pub busy : length p.busy ≡ suc (length p.setup.diffusion.roads.arcs)
+  pub told : length p.told ≡ suc (length p.setup.diffusion.roads.arcs)
   pub sent : p.sent ≤ top
   pub delivered : p.delivered ≤ top
   pub signalled : p.signalled ≤ top
@@ -42,10 +42,10 @@ pub record IsFit {S V : Type 0} (p : PartData S V) : Type 0 where
 
 pub stored_fit : {S V : Type 0} (p : PartData S V) (r : Rows V) (n : ℕ) (ns : List ℕ) → RepInvariant p r n ns → IsFit p
 stored_fit p r n ns D = record {
-  labels = table_long _ r.labels p.labels None (suc p.setup.question.roads.vertices) D.seen.labels;
-  engagers = table_long _ r.engagers p.engagers None (suc p.setup.question.roads.vertices) D.seen.engagers;
-  busy = table_long _ r.busy p.busy false (suc (length p.setup.question.roads.arcs)) D.seen.busy;
-  told = table_long _ r.told p.told None (suc (length p.setup.question.roads.arcs)) D.seen.told;
+  labels = table_long _ r.labels p.labels None (suc p.setup.diffusion.roads.vertices) D.seen.labels;
+  engagers = table_long _ r.engagers p.engagers None (suc p.setup.diffusion.roads.vertices) D.seen.engagers;
+  busy = table_long _ r.busy p.busy false (suc (length p.setup.diffusion.roads.arcs)) D.seen.busy;
+  told = table_long _ r.told p.told None (suc (length p.setup.diffusion.roads.arcs)) D.seen.told;
   sent = D.tallied.0;
   delivered = D.tallied.1;
   signalled = D.tallied.2;
@@ -72,7 +72,7 @@ module _ {S V : Type 0} (A : Algebra V) where
   out_within : (p : PartData S V) → WellFormed (network_of p.setup) → IsFit p → (v : ℕ) → v ≢ 0 → (b : ℕ) → Contains (outgoing (network_of p.setup) v) b → (b < length p.told) × (b < length p.busy)
   out_within p W F v n b l =
       let t : (network_of p.setup).tail b ≡ v = (outgoing_is A (network_of p.setup) W v n).only b l in
-      let r : b ≤ length p.setup.question.roads.arcs = W.real b (λ z. n (sym t ∙ z)) in
+      let r : b ≤ length p.setup.diffusion.roads.arcs = W.real b (λ z. n (sym t ∙ z)) in
       let e = F.told in
       let f = F.busy in
       (omega (arith, r, e), omega (arith, r, f))
@@ -108,7 +108,7 @@ module _ {S V : Type 0} (A : Algebra V) where
       (sym (counted_none p.sent F.sent) ∙ ap (λ k. counted_on k p.sent) (sym (answer_told A a o))) back T)
 
   pub message_taken : Lawful A → (p : PartData S V) (a : ℕ) (x : V) → WellFormed (network_of p.setup) → IsFit p → OwnIdleIsTold p → place_in p.setup ((network_of p.setup).head a) ≡ p.shard →
-      (network_of p.setup).head a ≢ 0 → (network_of p.setup).head a ≤ p.setup.question.roads.vertices →
+      (network_of p.setup).head a ≢ 0 → (network_of p.setup).head a ≤ p.setup.diffusion.roads.vertices →
       Made A (taken A (network_of p.setup) (MessageOn a x) (state_in p)) (made A (network_of p.setup) (MessageOn a x) (state_in p)) p (with_value A a x ((network_of p.setup).head a) p)
   message_taken L p a x W F T here n within = go (improves A x ((state_in p).label v)) refl ((state_in p).engager v) refl
     where
@@ -179,7 +179,7 @@ module _ {S V : Type 0} (A : Algebra V) where
   }
 
   pub signal_taken : Lawful A → (p : PartData S V) (a : ℕ) → WellFormed (network_of p.setup) → IsFit p → OwnIdleIsTold p → place_in p.setup ((network_of p.setup).tail a) ≡ p.shard →
-      (a ≢ 0 → (network_of p.setup).tail a ≢ 0) → (network_of p.setup).tail a ≤ p.setup.question.roads.vertices →
+      (a ≢ 0 → (network_of p.setup).tail a ≢ 0) → (network_of p.setup).tail a ≤ p.setup.diffusion.roads.vertices →
       Made A (taken A (network_of p.setup) (SignalOn a) (state_in p)) (made A (network_of p.setup) (SignalOn a) (state_in p)) p (with_free A a ((network_of p.setup).tail a) p)
   signal_taken L p zero W F T here n within =
       let e = free_is p 0 (let b = F.busy in omega (arith, b)) in record {
@@ -214,11 +214,11 @@ module _ {S V : Type 0} (A : Algebra V) where
       subst (λ u. Made A (settle_here A N v (freed A N (suc k) (state_in p))) (settle_made A N v (freed A N (suc k) (state_in p)) (outgoing N v)) p1 (rested A v u)) (offered_alone v (suc k) p1) M in
       record { setup = Q.setup; shard = Q.shard; tables = Q.tables; channels = Q.channels; sent = Q.sent; signalled = Q.signalled; delivered = Q.delivered; accepted = Q.accepted }
 
-  head_within : (p : PartData S V) → IsPlanned p.setup p.shard → (a : ℕ) → IsArc (network_of p.setup) a → (network_of p.setup).head a ≤ p.setup.question.roads.vertices
+  head_within : (p : PartData S V) → IsPlanned p.setup p.shard → (a : ℕ) → IsArc (network_of p.setup) a → (network_of p.setup).head a ≤ p.setup.diffusion.roads.vertices
   head_within p P zero r = let e = head_of_entry p.setup P.source in let s = P.source.1 in omega (arith, e, s)
   head_within p P (suc k) r = (head_of_arc p.setup P.roads (suc k) (λ z. omega (arith, z)) r).2
 
-  tail_within : (p : PartData S V) → IsPlanned p.setup p.shard → (a : ℕ) → IsArc (network_of p.setup) a → (network_of p.setup).tail a ≤ p.setup.question.roads.vertices
+  tail_within : (p : PartData S V) → IsPlanned p.setup p.shard → (a : ℕ) → IsArc (network_of p.setup) a → (network_of p.setup).tail a ≤ p.setup.diffusion.roads.vertices
   tail_within p P zero r = let e = tail_of_entry p.setup in omega (arith, e)
   tail_within p P (suc k) r = (tail_of_arc p.setup P.roads (suc k) (λ z. omega (arith, z)) r).2
 
@@ -281,6 +281,6 @@ module _ {S V : Type 0} (A : Algebra V) where
   popped_taken L p m q i P F T O e =
       let s : m.setup ≡ p.setup = ap (λ (u : PartData S V). u.setup) O.same in
       let z : m.shard ≡ p.shard = ap (λ (u : PartData S V). u.shard) O.same in
-      let r : IsArc (network_of p.setup) (item_arc i) = subst (λ (t : Setup S). IsArc (network_of t) (item_arc i)) s O.arc in
-      let here : place_in p.setup (vertex_of (network_of p.setup) i) ≡ p.shard = subst (λ (t : Setup S). place_in t (vertex_of (network_of t) i) ≡ p.shard) s (O.here ∙ z) in
+      let r : IsArc (network_of p.setup) (item_arc i) = subst (λ (t : SetupData S). IsArc (network_of t) (item_arc i)) s O.arc in
+      let here : place_in p.setup (vertex_of (network_of p.setup) i) ≡ p.shard = subst (λ (t : SetupData S). place_in t (vertex_of (network_of t) i) ≡ p.shard) s (O.here ∙ z) in
       subst (HandledItemIn A (network_of p.setup) (place_in p.setup) p i) (ap (with_taken A i) (sym O.same) ∙ sym e) (handled L p i m.queue P F T O.front r here)

@@ -9,7 +9,7 @@ use Rattle.scholten_core.proofs.Networks.{out_of, real_arc, tail-arc, head-arc, 
 use Rattle.road_graph.proofs.Lists.{element_place}
 use Rattle.std.proofs.lemmas.List.Elements.{Contains-get_or}
 use Rattle.shard_part.specs.Plans.{shard_in, HasPlanned}
-use Rattle.shard_part.specs.PartState.{Setup, PartData, network_of, place_in, IsArc}
+use Rattle.shard_part.specs.PartState.{SetupData, PartData, network_of, place_in, IsArc}
 use Rattle.shard_part.specs.Outgoing.{outgoing, local_vertices, arcs_out}
 use Rattle.shard_part.specs.Moves.{Rows, RepInvariant, IsPlace, IsArcRow}
 use Rattle.std.specs.List.Sorted.{IsStrictlyIncreasing}
@@ -36,41 +36,41 @@ road_is g s v k b rs d e l h = (
   ap (λ ys. get_or ys k d) e ∙ get_or-map (λ a. road_of (arc_of g a)) (outgoing (network g s) v) k 0 d l ∙ ap (λ a. road_of (arc_of g a)) h,
 )
 
-module _ {S : Type 0} (t : Setup S) where
+module _ {S : Type 0} (t : SetupData S) where
   pub place_vertex : (v : ℕ) → 1 ≤ v → place_in t v ≡ shard_in t.plan v
   unfolding place_in
   place_vertex zero l = absurd (omega arith)
   place_vertex (suc v) l = let e : suc v - 1 ≡ v = omega arith in ap (λ k. get_or t.plan.list k 0) (sym e)
 
-  pub place_entry : 1 ≤ t.question.source → place_in t 0 ≡ shard_in t.plan t.question.source
+  pub place_entry : 1 ≤ t.diffusion.source → place_in t 0 ≡ shard_in t.plan t.diffusion.source
   unfolding place_in
   place_entry l = refl
 
   -- the place of the vertex that stands for it
-  pub placed_as : (v w : ℕ) → 1 ≤ t.question.source → ((v ≡ 0) × (w ≡ t.question.source)) ⊎ ((1 ≤ v) × (w ≡ v)) → place_in t v ≡ shard_in t.plan w
+  pub placed_as : (v w : ℕ) → 1 ≤ t.diffusion.source → ((v ≡ 0) × (w ≡ t.diffusion.source)) ⊎ ((1 ≤ v) × (w ≡ v)) → place_in t v ≡ shard_in t.plan w
   placed_as v w l h = elim h [
     | inl k ↦ ap (place_in t) k.0 ∙ place_entry l ∙ ap (shard_in t.plan) (sym k.1)
     | inr k ↦ place_vertex v k.0 ∙ ap (shard_in t.plan) (sym k.1)
   ]
 
-  pub graph_arc : (b : ℕ) → b ≢ 0 → IsArc (network_of t) b → HasArc t.question.roads b
-  graph_arc b n r = real_arc t.question.roads b (r.1 n)
+  pub graph_arc : (b : ℕ) → b ≢ 0 → IsArc (network_of t) b → HasArc t.diffusion.roads b
+  graph_arc b n r = real_arc t.diffusion.roads b (r.1 n)
 
-  pub head_of_arc : IsGraph t.question.roads → (b : ℕ) → b ≢ 0 → IsArc (network_of t) b → ((network_of t).head b ≡ (arc_of t.question.roads b).head)
-      × (1 ≤ (network_of t).head b) × ((network_of t).head b ≤ t.question.roads.vertices)
-  head_of_arc R b n r = let h = graph_arc b n r in let e = head-arc t.question.roads t.question.source b h.0 in let j = (R.ends b h).1 in
+  pub head_of_arc : IsGraph t.diffusion.roads → (b : ℕ) → b ≢ 0 → IsArc (network_of t) b → ((network_of t).head b ≡ (arc_of t.diffusion.roads b).head)
+      × (1 ≤ (network_of t).head b) × ((network_of t).head b ≤ t.diffusion.roads.vertices)
+  head_of_arc R b n r = let h = graph_arc b n r in let e = head-arc t.diffusion.roads t.diffusion.source b h.0 in let j = (R.ends b h).1 in
       (e, (let a = j.0 in omega (arith, e, a)), (let a = j.1 in omega (arith, e, a)))
 
-  pub tail_of_arc : IsGraph t.question.roads → (b : ℕ) → b ≢ 0 → IsArc (network_of t) b → ((network_of t).tail b ≡ (arc_of t.question.roads b).tail)
-      × (1 ≤ (network_of t).tail b) × ((network_of t).tail b ≤ t.question.roads.vertices)
-  tail_of_arc R b n r = let h = graph_arc b n r in let e = tail-arc t.question.roads b h.0 in let j = (R.ends b h).0 in
+  pub tail_of_arc : IsGraph t.diffusion.roads → (b : ℕ) → b ≢ 0 → IsArc (network_of t) b → ((network_of t).tail b ≡ (arc_of t.diffusion.roads b).tail)
+      × (1 ≤ (network_of t).tail b) × ((network_of t).tail b ≤ t.diffusion.roads.vertices)
+  tail_of_arc R b n r = let h = graph_arc b n r in let e = tail-arc t.diffusion.roads b h.0 in let j = (R.ends b h).0 in
       (e, (let a = j.0 in omega (arith, e, a)), (let a = j.1 in omega (arith, e, a)))
 
-  pub head_of_entry : HasVertex t.question.roads t.question.source → ((network_of t).head 0 ≡ t.question.source)
-  head_of_entry h = head-entry t.question.roads t.question.source
+  pub head_of_entry : HasVertex t.diffusion.roads t.diffusion.source → ((network_of t).head 0 ≡ t.diffusion.source)
+  head_of_entry h = head-entry t.diffusion.roads t.diffusion.source
 
   pub tail_of_entry : (network_of t).tail 0 ≡ 0
-  tail_of_entry = tail-entry t.question.roads
+  tail_of_entry = tail-entry t.diffusion.roads
 
 module _ {S V : Type 0} where
   -- where the arcs of a place begin
@@ -92,9 +92,9 @@ module _ {S V : Type 0} where
       )
 
   pub own_rising : (p old : PartData S V) (r : Rows V) (n : ℕ) (ns : List ℕ) (xs : List ℕ) (v : ℕ) → p ≡ old → RepInvariant p r n ns → xs ≡ r.own
-      → v ≤ old.setup.question.roads.vertices → (v ≢ 0 → place_in old.setup v ≡ old.shard) → IsStrictlyIncreasing xs × Contains xs v
+      → v ≤ old.setup.diffusion.roads.vertices → (v ≢ 0 → place_in old.setup v ≡ old.shard) → IsStrictlyIncreasing xs × Contains xs v
   own_rising p old r n ns xs v e D x l h =
-      let A = own_all p.setup p.shard v (subst (λ (u : PartData S V). v ≤ u.setup.question.roads.vertices) (sym e) l) (subst (λ (u : PartData S V). v ≢ 0 → place_in u.setup v ≡ u.shard) (sym e) h) in
+      let A = own_all p.setup p.shard v (subst (λ (u : PartData S V). v ≤ u.setup.diffusion.roads.vertices) (sym e) l) (subst (λ (u : PartData S V). v ≢ 0 → place_in u.setup v ≡ u.shard) (sym e) h) in
       subst (λ ys. IsStrictlyIncreasing ys × Contains ys v) (sym (x ∙ D.sized.own)) (
         own_increasing p.setup p.shard,
         (A.0, A.1, get_or_default_zero (local_vertices p.setup p.shard) A.0 v A.1 ∙ A.2),
@@ -108,36 +108,36 @@ module _ {S V : Type 0} where
   })
 
   -- the head and the tail of an arc, the environment's among them
-  pub arc_in_graph : (p old : PartData S V) (r : Rows V) (n : ℕ) (ns : List ℕ) (a : ℕ) → p ≡ old → RepInvariant p r n ns → IsArc (network_of old.setup) a → a ≢ 0 → HasArc p.setup.question.roads a
+  pub arc_in_graph : (p old : PartData S V) (r : Rows V) (n : ℕ) (ns : List ℕ) (a : ℕ) → p ≡ old → RepInvariant p r n ns → IsArc (network_of old.setup) a → a ≢ 0 → HasArc p.setup.diffusion.roads a
   arc_in_graph p old r n ns a e D h nz = graph_arc p.setup a nz (subst (λ (u : PartData S V). IsArc (network_of u.setup) a) (sym e) h)
 
   -- an arc is the environment's, or one of the graph's
-  pub arc_within : (p old : PartData S V) (a : ℕ) → p ≡ old → IsArc (network_of old.setup) a → a ≤ length p.setup.question.roads.arcs
+  pub arc_within : (p old : PartData S V) (a : ℕ) → p ≡ old → IsArc (network_of old.setup) a → a ≤ length p.setup.diffusion.roads.arcs
   arc_within p old a e h = elim (cases_eq a 0) [
     | inl z ↦ (omega (arith, z))
     | inr n ↦ (graph_arc p.setup a n (subst (λ (u : PartData S V). IsArc (network_of u.setup) a) (sym e) h)).1
   ]
 
   pub head_arc_is : (p old : PartData S V) (r : Rows V) (n : ℕ) (ns : List ℕ) (a : ℕ) → p ≡ old → RepInvariant p r n ns → IsArc (network_of old.setup) a → a ≢ 0 →
-      ((arc_of p.setup.question.roads a).head ≡ (network_of old.setup).head a) × (1 ≤ (arc_of p.setup.question.roads a).head)
-      × ((arc_of p.setup.question.roads a).head ≤ old.setup.question.roads.vertices)
+      ((arc_of p.setup.diffusion.roads a).head ≡ (network_of old.setup).head a) × (1 ≤ (arc_of p.setup.diffusion.roads a).head)
+      × ((arc_of p.setup.diffusion.roads a).head ≤ old.setup.diffusion.roads.vertices)
   head_arc_is p old r n ns a e D h nz =
       let g = arc_in_graph p old r n ns a e D h nz in let j = (D.planned.roads.ends a g).1 in (
-        sym (head-arc p.setup.question.roads p.setup.question.source a g.0) ∙ ap (λ (u : PartData S V). (network_of u.setup).head a) e,
+        sym (head-arc p.setup.diffusion.roads p.setup.diffusion.source a g.0) ∙ ap (λ (u : PartData S V). (network_of u.setup).head a) e,
         j.0,
-        subst (λ (u : PartData S V). (arc_of p.setup.question.roads a).head ≤ u.setup.question.roads.vertices) e j.1,
+        subst (λ (u : PartData S V). (arc_of p.setup.diffusion.roads a).head ≤ u.setup.diffusion.roads.vertices) e j.1,
       )
 
   -- the head of an arc, as the graph tells it
   pub head_told : (p old : PartData S V) (r : Rows V) (n : ℕ) (ns : List ℕ) (b w : ℕ) → p ≡ old → RepInvariant p r n ns
-      → IsArc (network_of old.setup) b → b ≢ 0 → w ≡ (arc_of old.setup.question.roads b).head →
+      → IsArc (network_of old.setup) b → b ≢ 0 → w ≡ (arc_of old.setup.diffusion.roads b).head →
       (w ≡ (network_of old.setup).head b) × HasPlanned p.setup.plan w
   head_told p old r n ns b w e D h nz is =
       let H = head_arc_is p old r n ns b e D h nz in
-      let q : w ≡ (arc_of p.setup.question.roads b).head = is ∙ ap (λ (u : PartData S V). (arc_of u.setup.question.roads b).head) (sym e) in
-      let v = ap (λ (u : PartData S V). u.setup.question.roads.vertices) e in let k = D.planned.covers in let low = H.1 in let high = H.2 in
+      let q : w ≡ (arc_of p.setup.diffusion.roads b).head = is ∙ ap (λ (u : PartData S V). (arc_of u.setup.diffusion.roads b).head) (sym e) in
+      let v = ap (λ (u : PartData S V). u.setup.diffusion.roads.vertices) e in let k = D.planned.covers in let low = H.1 in let high = H.2 in
       (q ∙ H.0, ((omega (arith, q, low)), (omega (arith, q, high, v, k))))
 
   pub shard_is : (p old : PartData S V) (r : Rows V) (n : ℕ) (ns : List ℕ) (v w : ℕ) → p ≡ old → RepInvariant p r n ns
-      → ((v ≡ 0) × (w ≡ p.setup.question.source)) ⊎ ((1 ≤ v) × (w ≡ v)) → shard_in p.setup.plan w ≡ place_in old.setup v
+      → ((v ≡ 0) × (w ≡ p.setup.diffusion.source)) ⊎ ((1 ≤ v) × (w ≡ v)) → shard_in p.setup.plan w ≡ place_in old.setup v
   shard_is p old r n ns v w e D h = sym (placed_as p.setup v w D.planned.source.0 h) ∙ ap (λ (u : PartData S V). place_in u.setup v) e

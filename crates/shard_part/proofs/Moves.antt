@@ -17,7 +17,7 @@ use Rattle.scholten_core.proofs.Sums.{one_if-most}
 
 module _ {S V : Type 0} where
   pub formed : (p : PartData S V) (s : ℕ) → IsPlanned p.setup s → WellFormed (network_of p.setup)
-  formed p s P = well_formed p.setup.question.roads p.setup.question.source P.roads P.source.0
+  formed p s P = well_formed p.setup.diffusion.roads p.setup.diffusion.source P.roads P.source.0
 
   pub place_at : (p old : PartData S V) (v j : ℕ) → p ≡ old → IsPlace old v j → IsPlace p v j
   place_at p old v j e P = subst (λ (u : PartData S V). IsPlace u v j) (sym e) P
@@ -25,10 +25,10 @@ module _ {S V : Type 0} where
   pub row_at : (p old : PartData S V) (b i : ℕ) → p ≡ old → IsArcRow old b i → IsArcRow p b i
   row_at p old b i e P = subst (λ (u : PartData S V). IsArcRow u b i) (sym e) P
 
-  below : (p : PartData S V) (v j : ℕ) → IsPlace p v j → v < suc p.setup.question.roads.vertices
+  below : (p : PartData S V) (v j : ℕ) → IsPlace p v j → v < suc p.setup.diffusion.roads.vertices
   below p v j P = let b = own_below p.setup p.shard j P.inside in let e = P.vertex in omega (arith, b, e)
 
-  pub arc_below : (p : PartData S V) (b i : ℕ) → IsArcRow p b i → b < suc (length p.setup.question.roads.arcs)
+  pub arc_below : (p : PartData S V) (b i : ℕ) → IsArcRow p b i → b < suc (length p.setup.diffusion.roads.arcs)
   arc_below p b i P = let o = (arc_owner (network_of p.setup) (local_vertices p.setup p.shard) i P.inside).3 in let e = P.arc in omega (arith, o, e)
 
   pub apart : (p : PartData S V) → IsApart (arcs_out (network_of p.setup) (local_vertices p.setup p.shard))
@@ -42,14 +42,14 @@ module _ {S V : Type 0} where
   pub label_read : (p old : PartData S V) (r : Rows V) (n : ℕ) (ns : List ℕ) (v j : ℕ) (x : Option V) → p ≡ old → RepInvariant p r n ns
       → IsPlace old v j → x ≡ get_or r.labels j None → x ≡ get_or old.labels v None
   label_read p old r n ns v j x e D Q h = let P = place_at p old v j e Q in
-      table_read (local_vertices p.setup p.shard) r.labels p.labels None (suc p.setup.question.roads.vertices) j v x D.seen.labels
+      table_read (local_vertices p.setup p.shard) r.labels p.labels None (suc p.setup.diffusion.roads.vertices) j v x D.seen.labels
       (own_apart p.setup p.shard) P.inside D.sized.labels P.vertex (below p v j P) h
       ∙ ap (λ (u : PartData S V). get_or u.labels v None) e
 
   pub engager_read : (p old : PartData S V) (r : Rows V) (n : ℕ) (ns : List ℕ) (v j : ℕ) (x : Option ℕ) → p ≡ old → RepInvariant p r n ns
       → IsPlace old v j → x ≡ get_or r.engagers j None → x ≡ get_or old.engagers v None
   engager_read p old r n ns v j x e D Q h = let P = place_at p old v j e Q in
-      table_read (local_vertices p.setup p.shard) r.engagers p.engagers None (suc p.setup.question.roads.vertices) j v x D.seen.engagers
+      table_read (local_vertices p.setup p.shard) r.engagers p.engagers None (suc p.setup.diffusion.roads.vertices) j v x D.seen.engagers
       (own_apart p.setup p.shard) P.inside D.sized.engagers P.vertex (below p v j P) h
       ∙ ap (λ (u : PartData S V). get_or u.engagers v None) e
 
@@ -57,40 +57,40 @@ module _ {S V : Type 0} where
       → x ≡ get_or r.busy i false → x ≡ get_or old.busy b false
   busy_read p old r n ns b i x e D Q h = let P = row_at p old b i e Q in
       table_read (arcs_out (network_of p.setup) (local_vertices p.setup p.shard)) r.busy p.busy false
-      (suc (length p.setup.question.roads.arcs)) i b x D.seen.busy (apart p) P.inside D.sized.busy P.arc (arc_below p b i P) h
+      (suc (length p.setup.diffusion.roads.arcs)) i b x D.seen.busy (apart p) P.inside D.sized.busy P.arc (arc_below p b i P) h
       ∙ ap (λ (u : PartData S V). get_or u.busy b false) e
 
   pub told_read : (p old : PartData S V) (r : Rows V) (n : ℕ) (ns : List ℕ) (b i : ℕ) (x : Option V) → p ≡ old → RepInvariant p r n ns → IsArcRow old b i
       → x ≡ get_or r.told i None → x ≡ get_or old.told b None
   told_read p old r n ns b i x e D Q h = let P = row_at p old b i e Q in
       table_read (arcs_out (network_of p.setup) (local_vertices p.setup p.shard)) r.told p.told None
-      (suc (length p.setup.question.roads.arcs)) i b x D.seen.told (apart p) P.inside D.sized.told P.arc (arc_below p b i P) h
+      (suc (length p.setup.diffusion.roads.arcs)) i b x D.seen.told (apart p) P.inside D.sized.told P.arc (arc_below p b i P) h
       ∙ ap (λ (u : PartData S V). get_or u.told b None) e
 
   -- a label is written
   pub label_leaves : (p old : PartData S V) (r : Rows V) (n : ℕ) (ns : List ℕ) (v j : ℕ) (x : Option V) → p ≡ old → RepInvariant p r n ns → IsPlace old v j →
-      record p { labels = scatter (local_vertices p.setup p.shard) (set r.labels j x) None (suc p.setup.question.roads.vertices) } ≡ record old { labels = set old.labels v x }
+      record p { labels = scatter (local_vertices p.setup p.shard) (set r.labels j x) None (suc p.setup.diffusion.roads.vertices) } ≡ record old { labels = set old.labels v x }
   label_leaves p old r n ns v j x e D Q = let P = place_at p old v j e Q in
       ap (λ (ys : List (Option V)). record p { labels = ys })
-      (table_write (local_vertices p.setup p.shard) r.labels p.labels None (suc p.setup.question.roads.vertices) j v x D.seen.labels
+      (table_write (local_vertices p.setup p.shard) r.labels p.labels None (suc p.setup.diffusion.roads.vertices) j v x D.seen.labels
       (own_apart p.setup p.shard) P.inside D.sized.labels P.vertex)
       ∙ ap (λ (u : PartData S V). record u { labels = set u.labels v x }) e
 
   pub told_leaves : (p old : PartData S V) (r : Rows V) (n : ℕ) (ns : List ℕ) (b i : ℕ) (x : Option V) → p ≡ old → RepInvariant p r n ns → IsArcRow old b i →
       record p {
         told = scatter (arcs_out (network_of p.setup) (local_vertices p.setup p.shard)) (set r.told i x) None
-            (suc (length p.setup.question.roads.arcs));
+            (suc (length p.setup.diffusion.roads.arcs));
       } ≡ record old { told = set old.told b x }
   told_leaves p old r n ns b i x e D Q = let P = row_at p old b i e Q in
       ap (λ (ys : List (Option V)). record p { told = ys })
       (table_write (arcs_out (network_of p.setup) (local_vertices p.setup p.shard)) r.told p.told None
-      (suc (length p.setup.question.roads.arcs)) i b x D.seen.told (apart p) P.inside D.sized.told P.arc)
+      (suc (length p.setup.diffusion.roads.arcs)) i b x D.seen.told (apart p) P.inside D.sized.told P.arc)
       ∙ ap (λ (u : PartData S V). record u { told = set u.told b x }) e
 
   pub told_keeps : (p : PartData S V) (r : Rows V) (n : ℕ) (ns : List ℕ) (i : ℕ) (x : Option V) → RepInvariant p r n ns →
       RepInvariant (record p {
         told = scatter (arcs_out (network_of p.setup) (local_vertices p.setup p.shard)) (set r.told i x) None
-            (suc (length p.setup.question.roads.arcs));
+            (suc (length p.setup.diffusion.roads.arcs));
       }) (record r { told = set r.told i x }) n ns
   told_keeps p r n ns i x D = record {
     planned = D.planned;
@@ -113,12 +113,12 @@ module _ {S V : Type 0} where
 
   -- an engager is written
   engagers_written : (p : PartData S V) (r : Rows V) (n : ℕ) (ns : List ℕ) (v j : ℕ) (x : Option ℕ) → RepInvariant p r n ns → IsPlace p v j →
-      scatter (local_vertices p.setup p.shard) (set r.engagers j x) None (suc p.setup.question.roads.vertices) ≡ set p.engagers v x
+      scatter (local_vertices p.setup p.shard) (set r.engagers j x) None (suc p.setup.diffusion.roads.vertices) ≡ set p.engagers v x
   engagers_written p r n ns v j x D P = table_write (local_vertices p.setup p.shard) r.engagers p.engagers None
-      (suc p.setup.question.roads.vertices) j v x D.seen.engagers (own_apart p.setup p.shard) P.inside D.sized.engagers P.vertex
+      (suc p.setup.diffusion.roads.vertices) j v x D.seen.engagers (own_apart p.setup p.shard) P.inside D.sized.engagers P.vertex
 
   pub engager_leaves : (p old : PartData S V) (r : Rows V) (n : ℕ) (ns : List ℕ) (v j : ℕ) (x : Option ℕ) → p ≡ old → RepInvariant p r n ns → IsPlace old v j →
-      record p { engagers = scatter (local_vertices p.setup p.shard) (set r.engagers j x) None (suc p.setup.question.roads.vertices) } ≡ record old { engagers = set old.engagers v x }
+      record p { engagers = scatter (local_vertices p.setup p.shard) (set r.engagers j x) None (suc p.setup.diffusion.roads.vertices) } ≡ record old { engagers = set old.engagers v x }
   engager_leaves p old r n ns v j x e D Q =
       ap (λ (ys : List (Option ℕ)). record p { engagers = ys }) (engagers_written p r n ns v j x D (place_at p old v j e Q)) ∙ ap (λ (u : PartData S V). record u { engagers = set u.engagers v x }) e
 
@@ -140,7 +140,7 @@ module _ {S V : Type 0} where
 
   keep_engagers : (p : PartData S V) (r : Rows V) (n : ℕ) (ns : List ℕ) (v j : ℕ) (x : Option ℕ) → RepInvariant p r n ns → IsPlace p v j
       → LocalInvariant (network_of p.setup) (place_in p.setup) (record p { engagers = set p.engagers v x }) →
-      RepInvariant (record p { engagers = scatter (local_vertices p.setup p.shard) (set r.engagers j x) None (suc p.setup.question.roads.vertices) }) (record r { engagers = set r.engagers j x }) n ns
+      RepInvariant (record p { engagers = scatter (local_vertices p.setup p.shard) (set r.engagers j x) None (suc p.setup.diffusion.roads.vertices) }) (record r { engagers = set r.engagers j x }) n ns
   keep_engagers p r n ns v j x D P s = record {
     planned = D.planned;
     sized = record {
@@ -164,7 +164,7 @@ module _ {S V : Type 0} where
       → IsArc (network_of old.setup) a → (network_of old.setup).head a ≡ v → IsClear old a →
       RepInvariant (record p {
         engagers = scatter (local_vertices p.setup p.shard) (set r.engagers j (Some a)) None
-            (suc p.setup.question.roads.vertices);
+            (suc p.setup.diffusion.roads.vertices);
       }) (record r { engagers = set r.engagers j (Some a) }) n ns
   engage_keeps p old r n ns v j a e D Q ar h z =
       let P = place_at p old v j e Q in
@@ -172,7 +172,7 @@ module _ {S V : Type 0} where
       let h2 : (network_of p.setup).head a ≡ v = subst (λ (u : PartData S V). (network_of u.setup).head a ≡ v) (sym e) h in
       let z2 : IsClear p a = subst (λ (u : PartData S V). IsClear u a) (sym e) z in
       let l : v < length p.engagers = (let q = table_long (local_vertices p.setup p.shard) r.engagers p.engagers None
-      (suc p.setup.question.roads.vertices) D.seen.engagers in let b = below p v j P in omega (arith, q, b)) in
+      (suc p.setup.diffusion.roads.vertices) D.seen.engagers in let b = below p v j P in omega (arith, q, b)) in
       keep_engagers p r n ns v j (Some a) D P (record {
         once = λ b. (let o = D.sound.once b in elim (engages_then p v (Some a) b l) [
           | inr k ↦ (let q = k.1 in omega (arith, o, q))
@@ -240,14 +240,14 @@ module _ {S V : Type 0} where
   pub release_keeps : (p old : PartData S V) (r : Rows V) (n : ℕ) (ns : List ℕ) (v j e : ℕ) → p ≡ old → RepInvariant p r n ns → IsPlace old v j → v ≢ 0 → (state_in old).engager v ≡ Some e →
       RepInvariant (record p {
         engagers = scatter (local_vertices p.setup p.shard) (set r.engagers j None) None
-            (suc p.setup.question.roads.vertices);
+            (suc p.setup.diffusion.roads.vertices);
       }) (record r { engagers = set r.engagers j None }) n ns
-      × IsClear (record p { engagers = scatter (local_vertices p.setup p.shard) (set r.engagers j None) None (suc p.setup.question.roads.vertices) }) e
+      × IsClear (record p { engagers = scatter (local_vertices p.setup p.shard) (set r.engagers j None) None (suc p.setup.diffusion.roads.vertices) }) e
       × IsArc (network_of p.setup) e × (place_in p.setup ((network_of p.setup).head e) ≡ p.shard)
   release_keeps p old r n ns v j a e D Q nz q =
       let P = place_at p old v j e Q in
       let l : v < length p.engagers = (let w = table_long (local_vertices p.setup p.shard) r.engagers p.engagers None
-      (suc p.setup.question.roads.vertices) D.seen.engagers in let b = below p v j P in omega (arith, w, b)) in
+      (suc p.setup.diffusion.roads.vertices) D.seen.engagers in let b = below p v j P in omega (arith, w, b)) in
       let m : place_in p.setup v ≡ p.shard = subst (λ k. place_in p.setup k ≡ p.shard) P.vertex (own_placed p.setup p.shard j P.inside (λ w. nz (sym P.vertex ∙ w))) in
       let q2 : (state_in p).engager v ≡ Some a = subst (λ (u : PartData S V). (state_in u).engager v ≡ Some a) (sym e) q in
       let R = release_sound p v a D.sound l m q2 in (

@@ -44,15 +44,15 @@ module _ {S V : Type 0} (A : Algebra V) where
       go true false false e = sym e
 
   pub weight_told : (p old : PartData S V) (r : Rows V) (n : ℕ) (ns : List ℕ) (b w : ℕ) → p ≡ old → RepInvariant p r n ns
-      → IsArc (network_of old.setup) b → b ≢ 0 → w ≡ (arc_of old.setup.question.roads b).weight → w ≡ (network_of old.setup).weight b
+      → IsArc (network_of old.setup) b → b ≢ 0 → w ≡ (arc_of old.setup.diffusion.roads b).weight → w ≡ (network_of old.setup).weight b
   weight_told p old r n ns b w e D ar nz is =
-      is ∙ ap (λ (u : PartData S V). (arc_of u.setup.question.roads b).weight) (sym e)
-      ∙ sym (weight-arc p.setup.question.roads b (arc_in_graph p old r n ns b e D ar nz).0)
+      is ∙ ap (λ (u : PartData S V). (arc_of u.setup.diffusion.roads b).weight) (sym e)
+      ∙ sym (weight-arc p.setup.diffusion.roads b (arc_in_graph p old r n ns b e D ar nz).0)
       ∙ ap (λ (u : PartData S V). (network_of u.setup).weight b) e
 
   -- the shard behind an arc, still so where a value was told
   pub shard_told : (p old q : PartData S V) (r : Rows V) (n : ℕ) (ns : List ℕ) (b w s : ℕ) (label : Option V) → p ≡ old → RepInvariant p r n ns
-      → IsArc (network_of old.setup) b → b ≢ 0 → w ≡ (arc_of old.setup.question.roads b).head → s ≡ shard_in p.setup.plan w →
+      → IsArc (network_of old.setup) b → b ≢ 0 → w ≡ (arc_of old.setup.diffusion.roads b).head → s ≡ shard_in p.setup.plan w →
       q ≡ record old { told = set old.told b label } → s ≡ place_in q.setup ((network_of q.setup).head b)
   shard_told p old q r n ns b w s label e D ar nz is h m =
       let T = head_told p old r n ns b w e D ar nz is in
@@ -78,12 +78,12 @@ module _ {S V : Type 0} (A : Algebra V) where
   still_idle p q v b label e h = ap (λ (u : PartData S V). get_or u.busy b false) e ∙ due_idle p v b h
 
   pub rested_busy : (p : PartData S V) (v d e : ℕ) → (state_in p).engager v ≡ Some e
-      → d ≡ busy_out (network_of p.setup) v (state_in p) (suc (length p.setup.question.roads.arcs)) → d ≢ 0 → p ≡ rested A v p
+      → d ≡ busy_out (network_of p.setup) v (state_in p) (suc (length p.setup.diffusion.roads.arcs)) → d ≢ 0 → p ≡ rested A v p
   rested_busy p v d e h k nz =
       let f : out_idle A (network_of p.setup) v (state_in p) ≡ false = out_idle_counted A (network_of p.setup) v (state_in p) ∙ ap (λ m. eqb m 0) (sym k) ∙ ne_eqb d 0 nz in
       (λ i. rested_by v (sym h i) (sym f i) p)
 
-  pub rested_then : (p mid new : PartData S V) (v d e : ℕ) → (state_in p).engager v ≡ Some e → d ≡ busy_out (network_of p.setup) v (state_in p) (suc (length p.setup.question.roads.arcs)) → d ≡ 0 →
+  pub rested_then : (p mid new : PartData S V) (v d e : ℕ) → (state_in p).engager v ≡ Some e → d ≡ busy_out (network_of p.setup) v (state_in p) (suc (length p.setup.diffusion.roads.arcs)) → d ≡ 0 →
       mid ≡ record p { engagers = set p.engagers v None } → new ≡ with_item (SignalOn e) mid → new ≡ rested A v p
   rested_then p mid new v d e h k z m w =
       let f : out_idle A (network_of p.setup) v (state_in p) ≡ true = out_idle_counted A (network_of p.setup) v (state_in p) ∙ ap (λ n. eqb n 0) (sym k ∙ z) in

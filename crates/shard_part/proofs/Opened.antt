@@ -15,7 +15,7 @@ use Rattle.scholten_core.proofs.Basics.{put-at, put-other}
 use Rattle.scholten_core.proofs.Networks.{tail-arc, head-entry, tail-entry}
 use Rattle.shard_part.specs.Tables.{scatter, placed}
 use Rattle.scholten_core.specs.Deficit.{busy_out}
-use Rattle.shard_part.specs.PartState.{Setup, PartData, network_of, place_in, state_in, token_if, vertex_of, maker_of, IsArc}
+use Rattle.shard_part.specs.PartState.{SetupData, PartData, network_of, place_in, state_in, token_if, vertex_of, maker_of, IsArc}
 use Rattle.shard_part.specs.Outgoing.{local_vertices, arcs_out, arcs_from, outgoing}
 use Rattle.shard_part.specs.Weights.{total, outs_weight, part_weight, is, All, at_place, in_flight}
 use Rattle.shard_part.specs.LocalInvariant.{engages, idles, names, LocalInvariant}
@@ -74,10 +74,10 @@ module _ {V : Type 0} where
   no_weight h k zero = refl
   no_weight h k (suc n) = let p = no_weight h (suc k) n in omega (arith, p)
 
-module _ {S : Type 0} (t : Setup S) (s : ℕ) (P : IsPlanned t s) where
+module _ {S : Type 0} (t : SetupData S) (s : ℕ) (P : IsPlanned t s) where
   pub place_below : (v : ℕ) → place_in t v < t.plan.shards
   unfolding place_in
-  place_below zero = P.plan.below (t.question.source - 1) (let h = P.source in let l = h.0 in let m = h.1 in let c = P.covers in omega (arith, l, m, c))
+  place_below zero = P.plan.below (t.diffusion.source - 1) (let h = P.source in let l = h.0 in let m = h.1 in let c = P.covers in omega (arith, l, m, c))
   place_below (suc v) = elim (cases_lt v (length t.plan.list)) [
     | inl l ↦ P.plan.below v l
     | inr l ↦ (let z = get_or_past t.plan.list v 0 l in let o = P.plan.some_shard in omega (arith, z, o))
@@ -85,30 +85,30 @@ module _ {S : Type 0} (t : Setup S) (s : ℕ) (P : IsPlanned t s) where
 
   -- the source and the environment are at one place
   pub place_source : place_in t ((network_of t).head 0) ≡ place_in t 0
-  place_source = ap (place_in t) (head-entry t.question.roads t.question.source) ∙ place_vertex t t.question.source P.source.0 ∙ sym (place_entry t P.source.0)
+  place_source = ap (place_in t) (head-entry t.diffusion.roads t.diffusion.source) ∙ place_vertex t t.diffusion.source P.source.0 ∙ sym (place_entry t P.source.0)
 
-  pub arcs_first : arcs_out (network_of t) (local_vertices t s) ≡ 0 ∷ arcs_out (network_of t) (placed (place_in t) s 1 t.question.roads.vertices)
+  pub arcs_first : arcs_out (network_of t) (local_vertices t s) ≡ 0 ∷ arcs_out (network_of t) (placed (place_in t) s 1 t.diffusion.roads.vertices)
   unfolding arcs_out
-  arcs_first = ap (λ xs. xs ++ arcs_out (network_of t) (placed (place_in t) s 1 t.question.roads.vertices)) (entry_alone t.question.roads t.question.source P.roads)
+  arcs_first = ap (λ xs. xs ++ arcs_out (network_of t) (placed (place_in t) s 1 t.diffusion.roads.vertices)) (entry_alone t.diffusion.roads t.diffusion.source P.roads)
 
   entry_arc : IsArc (network_of t) 0
-  entry_arc = ((λ e. let h = head-entry t.question.roads t.question.source in let l = P.source.0 in omega (arith, e, h, l)), (λ n. absurd (n refl)))
+  entry_arc = ((λ e. let h = head-entry t.diffusion.roads t.diffusion.source in let l = P.source.0 in omega (arith, e, h, l)), (λ n. absurd (n refl)))
 
-module _ {S V : Type 0} (A : Algebra V) (t : Setup S) (s : ℕ) (P : IsPlanned t s) where
+module _ {S V : Type 0} (A : Algebra V) (t : SetupData S) (s : ℕ) (P : IsPlanned t s) where
   -- what arc 0 is, and what the others are
   entry_token : get_or (opened_part A t s).busy 0 false ≡ is_first t s
-  entry_token = front_read (suc (length t.question.roads.arcs)) false (is_first t s) (omega arith)
+  entry_token = front_read (suc (length t.diffusion.roads.arcs)) false (is_first t s) (omega arith)
 
   other_token : (b : ℕ) → b ≢ 0 → get_or (opened_part A t s).busy b false ≡ false
-  other_token b nz = behind_read (suc (length t.question.roads.arcs)) false (is_first t s) b nz
+  other_token b nz = behind_read (suc (length t.diffusion.roads.arcs)) false (is_first t s) b nz
 
-  busy_alone : (v : ℕ) → busy_out (network_of t) v (state_in (opened_part A t s)) (suc (length t.question.roads.arcs)) ≡ one_if (eqb ((network_of t).tail 0) v && is_first t s)
+  busy_alone : (v : ℕ) → busy_out (network_of t) v (state_in (opened_part A t s)) (suc (length t.diffusion.roads.arcs)) ≡ one_if (eqb ((network_of t).tail 0) v && is_first t s)
   busy_alone v =
       let f : ℕ → ℕ = λ b. one_if (eqb ((network_of t).tail b) v && not (is_idle (token_if {V = V} (get_or (opened_part A t s).busy b false)))) in
-      let d = sum_at f (λ b. 0) 0 (suc (length t.question.roads.arcs)) (omega arith)
+      let d = sum_at f (λ b. 0) 0 (suc (length t.diffusion.roads.arcs)) (omega arith)
       (λ b nz. ap (λ z. one_if (eqb ((network_of t).tail b) v && not (is_idle (token_if {V = V} z)))) (other_token b nz)
       ∙ and_none (eqb ((network_of t).tail b) v)) in
-      let z = sum_zero (λ b. 0) (suc (length t.question.roads.arcs)) (λ k. refl) in
+      let z = sum_zero (λ b. 0) (suc (length t.diffusion.roads.arcs)) (λ k. refl) in
       let e : f 0 ≡ one_if (eqb ((network_of t).tail 0) v && is_first t s) = ap
       (λ z. one_if (eqb ((network_of t).tail 0) v && not (is_idle (token_if {V = V} z)))) entry_token
       ∙ ap (λ z. one_if (eqb ((network_of t).tail 0) v && z)) (busy_is (is_first t s)) in
@@ -125,7 +125,7 @@ module _ {S V : Type 0} (A : Algebra V) (t : Setup S) (s : ℕ) (P : IsPlanned t
   opened_counted : (r : Rows V) → r.deficits ≡ set (replicate (length (local_vertices t s)) 0) 0 (one_if (is_first t s)) → AreRowDeficits (opened_part A t s) r
   opened_counted r e zero l =
       ap (λ xs. get_or xs 0 0) e ∙ front_read (length (local_vertices t s)) 0 (one_if (is_first t s)) (omega arith)
-      ∙ sym (busy_alone 0 ∙ ap (λ z. one_if (z && is_first t s)) (eq-eqb ((network_of t).tail 0) 0 (tail-entry t.question.roads)) ∙ and_first (is_first t s))
+      ∙ sym (busy_alone 0 ∙ ap (λ z. one_if (z && is_first t s)) (eq-eqb ((network_of t).tail 0) 0 (tail-entry t.diffusion.roads)) ∙ and_first (is_first t s))
     where
       and_first : (x : Bool) → one_if (true && x) ≡ one_if x
       and_first x = refl
@@ -133,7 +133,7 @@ module _ {S V : Type 0} (A : Algebra V) (t : Setup S) (s : ℕ) (P : IsPlanned t
       ap (λ xs. get_or xs (suc j) 0) e ∙ behind_read (length (local_vertices t s)) 0 (one_if (is_first t s)) (suc j) (λ z. omega (arith, z))
       ∙ sym (busy_alone (get_or (local_vertices t s) (suc j) 0)
       ∙ ap (λ z. one_if (z && is_first t s)) (ne_eqb ((network_of t).tail 0) (get_or (local_vertices t s) (suc j) 0)
-      (λ z. own_apart t s 0 (suc j) (omega arith) l (sym (tail-entry t.question.roads) ∙ z))))
+      (λ z. own_apart t s 0 (suc j) (omega arith) l (sym (tail-entry t.diffusion.roads) ∙ z))))
 
   -- nothing but the first message weighs
   pub opened_weight : (h : ℕ → Item V → ℕ) → part_weight h (opened_part A t s) ≡ total (h s) (first_items A (is_first t s))
@@ -144,9 +144,9 @@ module _ {S V : Type 0} (A : Algebra V) (t : Setup S) (s : ℕ) (P : IsPlanned t
     once = λ b. (let w = opened_weight (λ _ j. is b (item_arc j)) in
         let g : engages (network_of t) (place_in t) s (state_in (opened_part A t s)) b
         ≡ 0 = ap (λ z. one_if (eqb (place_in t ((network_of t).head b)) s && names z b))
-        (reads_same (suc t.question.roads.vertices) None ((network_of t).head b)) ∙ none (eqb (place_in t ((network_of t).head b)) s) in
+        (reads_same (suc t.diffusion.roads.vertices) None ((network_of t).head b)) ∙ none (eqb (place_in t ((network_of t).head b)) s) in
         let k = alone b (is_first t s) refl in omega (arith, w, g, k));
-    leads = λ v e m q. absurd (let z : None ≡ Some e = sym (reads_same (suc t.question.roads.vertices) None v) ∙ q in cc);
+    leads = λ v e m q. absurd (let z : None ≡ Some e = sym (reads_same (suc t.diffusion.roads.vertices) None v) ∙ q in cc);
     here = first_here (is_first t s) refl;
     gone = λ k. subst (All (λ i. (place_in t (vertex_of (network_of t) i) ≡ k) × (place_in t (maker_of (network_of t) i) ≡ s)
         × IsArc (network_of t) (item_arc i))) (sym (reads_same t.plan.shards [] k)) tt;
@@ -177,16 +177,16 @@ module _ {S V : Type 0} (A : Algebra V) (t : Setup S) (s : ℕ) (P : IsPlanned t
   opened_seen r offsets arcs queue outs sent B e q o n = λ i. record {
     setup = t;
     shard = s;
-    labels = (ap (λ (u : Rows V). scatter (local_vertices t s) u.labels None (suc t.question.roads.vertices)) e
-        ∙ spread_same (local_vertices t s) (length (local_vertices t s)) None (suc t.question.roads.vertices)) i;
-    engagers = (ap (λ (u : Rows V). scatter (local_vertices t s) u.engagers None (suc t.question.roads.vertices)) e
-        ∙ spread_same (local_vertices t s) (length (local_vertices t s)) None (suc t.question.roads.vertices)) i;
-    busy = (ap (λ (u : Rows V). scatter (arcs_out (network_of t) (local_vertices t s)) u.busy false (suc (length t.question.roads.arcs))) e
-        ∙ spread_front (arcs_out (network_of t) (local_vertices t s)) (arcs_out (network_of t) (placed (place_in t) s 1 t.question.roads.vertices))
-        arcs false (is_first t s) (suc (length t.question.roads.arcs)) (arcs_first t s P)
+    labels = (ap (λ (u : Rows V). scatter (local_vertices t s) u.labels None (suc t.diffusion.roads.vertices)) e
+        ∙ spread_same (local_vertices t s) (length (local_vertices t s)) None (suc t.diffusion.roads.vertices)) i;
+    engagers = (ap (λ (u : Rows V). scatter (local_vertices t s) u.engagers None (suc t.diffusion.roads.vertices)) e
+        ∙ spread_same (local_vertices t s) (length (local_vertices t s)) None (suc t.diffusion.roads.vertices)) i;
+    busy = (ap (λ (u : Rows V). scatter (arcs_out (network_of t) (local_vertices t s)) u.busy false (suc (length t.diffusion.roads.arcs))) e
+        ∙ spread_front (arcs_out (network_of t) (local_vertices t s)) (arcs_out (network_of t) (placed (place_in t) s 1 t.diffusion.roads.vertices))
+        arcs false (is_first t s) (suc (length t.diffusion.roads.arcs)) (arcs_first t s P)
         (let l = ap length (arcs_first t s P) in let c = B.count_is in omega (arith, l, c))) i;
-    told = (ap (λ (u : Rows V). scatter (arcs_out (network_of t) (local_vertices t s)) u.told None (suc (length t.question.roads.arcs))) e
-        ∙ spread_same (arcs_out (network_of t) (local_vertices t s)) arcs None (suc (length t.question.roads.arcs))) i;
+    told = (ap (λ (u : Rows V). scatter (arcs_out (network_of t) (local_vertices t s)) u.told None (suc (length t.diffusion.roads.arcs))) e
+        ∙ spread_same (arcs_out (network_of t) (local_vertices t s)) arcs None (suc (length t.diffusion.roads.arcs))) i;
     queue = q i;
     outs = o i;
     sent = n i;
@@ -235,9 +235,9 @@ module _ {S V : Type 0} (A : Algebra V) (t : Setup S) (s : ℕ) (P : IsPlanned t
   pub opening_weight : (h : ℕ → Item V → ℕ) → in_flight (network_of t) (place_in t) (opening A (network_of t)) h ≡ h (place_in t 0) (MessageOn 0 A.origin)
   opening_weight h =
       let f : ℕ → ℕ = λ b. total (at_place (network_of t) (place_in t) h) (item_of b (put (λ _. Idle) 0 (Message A.origin) b)) in
-      let d = sum_at f (λ b. 0) 0 (suc (length t.question.roads.arcs)) (omega arith)
+      let d = sum_at f (λ b. 0) 0 (suc (length t.diffusion.roads.arcs)) (omega arith)
       (λ b nz. ap (λ k. total (at_place (network_of t) (place_in t) h) (item_of b k)) (put-other (λ _. Idle) 0 (Message A.origin) b nz)) in
-      let z = sum_zero (λ b. 0) (suc (length t.question.roads.arcs)) (λ k. refl) in
+      let z = sum_zero (λ b. 0) (suc (length t.diffusion.roads.arcs)) (λ k. refl) in
       let o : f 0 ≡ h (place_in t ((network_of t).head 0)) (MessageOn 0 A.origin) + 0 = ap
       (λ k. total (at_place (network_of t) (place_in t) h) (item_of 0 k)) (put-at (λ _. Idle) 0 (Message A.origin) 0 refl) in
       let p = ap (λ y. h y (MessageOn 0 A.origin)) (place_source t s P) in omega (arith, d, z, o, p)
@@ -247,9 +247,9 @@ module _ {S V : Type 0} (A : Algebra V) (t : Setup S) (s : ℕ) (P : IsPlanned t
   opened_holds = record {
     tables = record {
       agree = record {
-        label = λ v m. reads_same (suc t.question.roads.vertices) None v;
-        engager = λ v m. reads_same (suc t.question.roads.vertices) None v;
-        told = λ b m. reads_same (suc (length t.question.roads.arcs)) None b;
+        label = λ v m. reads_same (suc t.diffusion.roads.vertices) None v;
+        engager = λ v m. reads_same (suc t.diffusion.roads.vertices) None v;
+        told = λ b m. reads_same (suc (length t.diffusion.roads.arcs)) None b;
         idle = λ b m. elim (cases_eq b 0) [
           | inl z ↦ ap (λ y. is_idle (token_if {V = V} (get_or (opened_part A t s).busy y false))) z
               ∙ ap (λ y. is_idle (token_if {V = V} y)) (entry_token ∙ first_of b z m)
@@ -263,7 +263,7 @@ module _ {S V : Type 0} (A : Algebra V) (t : Setup S) (s : ℕ) (P : IsPlanned t
   }
     where
       first_of : (b : ℕ) → b ≡ 0 → eqb (place_in t ((network_of t).tail b)) s ≡ true → is_first t s ≡ true
-      first_of b z m = ap (λ y. eqb (place_in t y) s) (sym (ap (network_of t).tail z ∙ tail-entry t.question.roads)) ∙ m
+      first_of b z m = ap (λ y. eqb (place_in t y) s) (sym (ap (network_of t).tail z ∙ tail-entry t.diffusion.roads)) ∙ m
 
       first_weight : (h : ℕ → Item V → ℕ) (f : Bool) → f ≡ is_first t s → total (h s) (first_items A f) ≤ h (place_in t 0) (MessageOn 0 A.origin)
       first_weight h false e = omega arith

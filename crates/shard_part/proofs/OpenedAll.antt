@@ -6,18 +6,18 @@ use Rattle.scholten_core.specs.declared.item.Item.{Item}
 use Rattle.scholten_core.specs.declared.item.Item.TheVariants.{Message as MessageOn}
 use Rattle.scholten_core.specs.Diffusion.{opening}
 use Rattle.scholten_core.specs.Sums.{one_if}
-use Rattle.shard_part.specs.PartState.{Setup, PartData, network_of, place_in}
+use Rattle.shard_part.specs.PartState.{SetupData, PartData, network_of, place_in}
 use Rattle.shard_part.specs.Weights.{total, part_weight, is, All}
 use Rattle.shard_part.specs.Represents.{HoldsTables, RepresentsIn}
 use Rattle.shard_part.specs.Moves.{IsPlanned}
 use Rattle.shard_part.specs.Opening.{first_items, opened_part, opened_parts}
 use Rattle.shard_part.proofs.Opened.{place_below, opened_weight, opening_weight, opened_holds}
 
-module _ {S : Type 0} (t : Setup S) (P : IsPlanned t 0) where
+module _ {S : Type 0} (t : SetupData S) (P : IsPlanned t 0) where
   pub planned_each : (s : ℕ) → s < t.plan.shards → IsPlanned t s
   planned_each s l = record { roads = P.roads; source = P.source; plan = P.plan; covers = P.covers; shard = l }
 
-module _ {S V : Type 0} (A : Algebra V) (t : Setup S) where
+module _ {S V : Type 0} (A : Algebra V) (t : SetupData S) where
   pub all_same : (k n : ℕ) → All (λ (p : PartData S V). p.setup ≡ t) (opened_parts A t k n)
   all_same k zero = tt
   all_same k (suc n) = (refl, all_same (suc k) n)
@@ -27,7 +27,7 @@ module _ {S V : Type 0} (A : Algebra V) (t : Setup S) where
   shards_past j k zero l = refl
   shards_past j k (suc n) l = let r = shards_past j (suc k) n (omega (arith, l)) in let z = ap one_if (ne_eqb j k (λ e. omega (arith, e, l))) in omega (arith, r, z)
 
-module _ {S V : Type 0} (A : Algebra V) (t : Setup S) (P : IsPlanned t 0) where
+module _ {S V : Type 0} (A : Algebra V) (t : SetupData S) (P : IsPlanned t 0) where
   all_hold : (k n : ℕ) → k + n ≤ t.plan.shards → All (HoldsTables A (network_of t) (place_in t) (opening A (network_of t))) (opened_parts A t k n)
   all_hold k zero l = tt
   all_hold k (suc n) l = ((opened_holds A t k (planned_each t P k (omega (arith, l)))).tables, all_hold (suc k) n (omega (arith, l)))

@@ -6,7 +6,7 @@ use Rattle.scholten_core.specs.Network.{Network}
 use Rattle.std.specs.List.Sorted.{IsStrictlyIncreasing}
 use Rattle.std.proofs.lemmas.List.Kept.{AllPairs-from_increasing}
 use Rattle.shard_part.specs.Tables.{IsApart, placed}
-use Rattle.shard_part.specs.PartState.{Setup, place_in}
+use Rattle.shard_part.specs.PartState.{SetupData, place_in}
 use Rattle.shard_part.specs.Outgoing.{arcs_from, outgoing, local_vertices, arcs_out}
 
 pub increasing_apart : (xs : List ℕ) → IsStrictlyIncreasing xs → IsApart xs
@@ -75,28 +75,28 @@ pub outgoing_picked : (N : Network) (v : ℕ) → Picked (λ b. N.tail b ≡ v) 
 outgoing_picked N v = arcs_picked N v 0 (suc N.arcs)
 
 -- the vertices of a shard
-pub own_increasing : {S : Type 0} (t : Setup S) (s : ℕ) → IsStrictlyIncreasing (local_vertices t s)
-own_increasing t s zero l = let r = ((placed_picked (place_in t) s 1 t.question.roads.vertices).each 0 (omega arith)).1 in omega (arith, r)
+pub own_increasing : {S : Type 0} (t : SetupData S) (s : ℕ) → IsStrictlyIncreasing (local_vertices t s)
+own_increasing t s zero l = let r = ((placed_picked (place_in t) s 1 t.diffusion.roads.vertices).each 0 (omega arith)).1 in omega (arith, r)
 own_increasing t s (suc i) l =
-    let r = (placed_picked (place_in t) s 1 t.question.roads.vertices).increasing i (omega arith) in
-    let here = ap (λ j. get_or (placed (place_in t) s 1 t.question.roads.vertices) j 0) (let e : i + 1 ≡ suc i = omega arith in e) in
+    let r = (placed_picked (place_in t) s 1 t.diffusion.roads.vertices).increasing i (omega arith) in
+    let here = ap (λ j. get_or (placed (place_in t) s 1 t.diffusion.roads.vertices) j 0) (let e : i + 1 ≡ suc i = omega arith in e) in
     let there = ap (λ j. get_or (local_vertices t s) j 0) (let e : suc i + 1 ≡ suc (suc i) = omega arith in e) in omega (arith, r, here, there)
 
-pub own_apart : {S : Type 0} (t : Setup S) (s : ℕ) → IsApart (local_vertices t s)
+pub own_apart : {S : Type 0} (t : SetupData S) (s : ℕ) → IsApart (local_vertices t s)
 own_apart t s = increasing_apart (local_vertices t s) (own_increasing t s)
 
-pub own_below : {S : Type 0} (t : Setup S) (s j : ℕ) → j < length (local_vertices t s) → get_or (local_vertices t s) j 0 < suc t.question.roads.vertices
+pub own_below : {S : Type 0} (t : SetupData S) (s j : ℕ) → j < length (local_vertices t s) → get_or (local_vertices t s) j 0 < suc t.diffusion.roads.vertices
 own_below t s zero l = omega arith
-own_below t s (suc j) l = let r = ((placed_picked (place_in t) s 1 t.question.roads.vertices).each j (omega arith)).2 in omega (arith, r)
+own_below t s (suc j) l = let r = ((placed_picked (place_in t) s 1 t.diffusion.roads.vertices).each j (omega arith)).2 in omega (arith, r)
 
 -- but for the environment, which stands first
-pub own_placed : {S : Type 0} (t : Setup S) (s j : ℕ) → j < length (local_vertices t s) → get_or (local_vertices t s) j 0 ≢ 0 → place_in t (get_or (local_vertices t s) j 0) ≡ s
+pub own_placed : {S : Type 0} (t : SetupData S) (s j : ℕ) → j < length (local_vertices t s) → get_or (local_vertices t s) j 0 ≢ 0 → place_in t (get_or (local_vertices t s) j 0) ≡ s
 own_placed t s zero l n = absurd (n refl)
-own_placed t s (suc j) l n = ((placed_picked (place_in t) s 1 t.question.roads.vertices).each j (omega arith)).0
+own_placed t s (suc j) l n = ((placed_picked (place_in t) s 1 t.diffusion.roads.vertices).each j (omega arith)).0
 
-pub own_all : {S : Type 0} (t : Setup S) (s v : ℕ) → v ≤ t.question.roads.vertices → (v ≢ 0 → place_in t v ≡ s) → (j : ℕ) × (j < length (local_vertices t s)) × (get_or (local_vertices t s) j 0 ≡ v)
-own_all t s zero l h = (0, (let z : 0 < suc (length (placed (place_in t) s 1 t.question.roads.vertices)) = omega arith in z), refl)
-own_all t s (suc v) l h = let r = (placed_picked (place_in t) s 1 t.question.roads.vertices).all (suc v) (h (λ e. omega (arith, e))) (omega arith) (omega arith) in
+pub own_all : {S : Type 0} (t : SetupData S) (s v : ℕ) → v ≤ t.diffusion.roads.vertices → (v ≢ 0 → place_in t v ≡ s) → (j : ℕ) × (j < length (local_vertices t s)) × (get_or (local_vertices t s) j 0 ≡ v)
+own_all t s zero l h = (0, (let z : 0 < suc (length (placed (place_in t) s 1 t.diffusion.roads.vertices)) = omega arith in z), refl)
+own_all t s (suc v) l h = let r = (placed_picked (place_in t) s 1 t.diffusion.roads.vertices).all (suc v) (h (λ e. omega (arith, e))) (omega arith) (omega arith) in
     (suc r.0, (let z = r.1 in omega (arith, z)), r.2)
 
 -- the arcs out of a list of vertices

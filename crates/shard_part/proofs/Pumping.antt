@@ -6,7 +6,7 @@ use Rattle.road_graph.specs.declared.OutRoad.{OutRoad}
 use Rattle.road_graph.specs.GraphData.{HasVertex, IsRank, ListsArcsFrom, ListsRoadsFrom, arc_of, road_of, roads_of}
 use Rattle.scholten_core.specs.Network.{WellFormed}
 use Rattle.scholten_core.specs.Diffusion.{is_due, extend_label, improves}
-use Rattle.shard_part.specs.PartState.{Setup, PartData, state_in, network_of, IsArc}
+use Rattle.shard_part.specs.PartState.{SetupData, PartData, state_in, network_of, IsArc}
 use Rattle.shard_part.specs.Outgoing.{outgoing, local_vertices}
 use Rattle.shard_part.specs.Moves.{Rows, RepInvariant, IsPlace, IsArcRow, with_message, engaged_or_answered, labelled, offered, offered_all, rested, with_value}
 use Rattle.scholten_core.proofs.Networks.{tail-arc}
@@ -38,18 +38,18 @@ module _ {S V : Type 0} (A : Algebra V) where
 
   pub place_same : (p q : PartData S V) (v j : ℕ) → q.setup ≡ p.setup → q.shard ≡ p.shard → IsPlace p v j → IsPlace q v j
   place_same p q v j e s P = record {
-    inside = subst (λ (t : Setup S). j < length (local_vertices t q.shard)) (sym e) (subst (λ k. j < length (local_vertices p.setup k)) (sym s) P.inside);
+    inside = subst (λ (t : SetupData S). j < length (local_vertices t q.shard)) (sym e) (subst (λ k. j < length (local_vertices p.setup k)) (sym s) P.inside);
     vertex = (λ i. get_or (local_vertices (e i) (s i)) j 0) ∙ P.vertex;
   }
 
   -- the graph has the vertex at a place
-  pub vertex_at : (p old : PartData S V) (r : Rows V) (n : ℕ) (ns : List ℕ) (v j : ℕ) → p ≡ old → RepInvariant p r n ns → IsPlace old v j → v ≢ 0 → HasVertex p.setup.question.roads v
+  pub vertex_at : (p old : PartData S V) (r : Rows V) (n : ℕ) (ns : List ℕ) (v j : ℕ) → p ≡ old → RepInvariant p r n ns → IsPlace old v j → v ≢ 0 → HasVertex p.setup.diffusion.roads v
   vertex_at p old r n ns v j e D Q nz =
       let P : IsPlace p v j = subst (λ (u : PartData S V). IsPlace u v j) (sym e) Q in
       ((omega (arith, nz)), (let b = own_below p.setup p.shard j P.inside in let w = P.vertex in omega (arith, b, w)))
 
-  pub listed_out : (p old : PartData S V) (v : ℕ) (xs : List ℕ) → p ≡ old → 1 ≤ v → ListsArcsFrom p.setup.question.roads v xs → xs ≡ outgoing (network_of old.setup) v
-  listed_out p old v xs e l o = out_is p.setup.question.roads p.setup.question.source v xs l o ∙ ap (λ (u : PartData S V). outgoing (network_of u.setup) v) e
+  pub listed_out : (p old : PartData S V) (v : ℕ) (xs : List ℕ) → p ≡ old → 1 ≤ v → ListsArcsFrom p.setup.diffusion.roads v xs → xs ≡ outgoing (network_of old.setup) v
+  listed_out p old v xs e l o = out_is p.setup.diffusion.roads p.setup.diffusion.source v xs l o ∙ ap (λ (u : PartData S V). outgoing (network_of u.setup) v) e
 
   pub offered_all_same : (v : ℕ) (bs : List ℕ) (p : PartData S V) → ((offered_all A v bs p).setup ≡ p.setup) × ((offered_all A v bs p).shard ≡ p.shard)
   unfolding offered_all
@@ -83,7 +83,7 @@ module _ {S V : Type 0} (A : Algebra V) where
 
 module _ {S V : Type 0} where
   pub inside_of : (p q : PartData S V) (v k : ℕ) (xs : List ℕ) → xs ≡ outgoing (network_of p.setup) v → q.setup ≡ p.setup → k < length xs → k < length (outgoing (network_of q.setup) v)
-  inside_of p q v k xs e s l = subst (λ (t : Setup S). k < length (outgoing (network_of t) v)) (sym s) (subst (λ ys. k < length ys) e l)
+  inside_of p q v k xs e s l = subst (λ (t : SetupData S). k < length (outgoing (network_of t) v)) (sym s) (subst (λ ys. k < length ys) e l)
 
   pub arc_at : (p q : PartData S V) (v k b : ℕ) (xs : List ℕ) → xs ≡ outgoing (network_of p.setup) v → q.setup ≡ p.setup → get_or xs k 0 ≡ b → get_or (outgoing (network_of q.setup) v) k 0 ≡ b
   arc_at p q v k b xs e s h = (λ j. get_or (outgoing (network_of (s j)) v) k 0) ∙ ap (λ ys. get_or ys k 0) (sym e) ∙ h
@@ -93,71 +93,71 @@ module _ {S V : Type 0} where
   row_found p q v k b i xs e s h R = subst (λ z. IsArcRow q z i) (arc_at p q v k b xs e s h) R
 
   pub tail_found : (p q : PartData S V) (v k b : ℕ) (xs : List ℕ) → xs ≡ outgoing (network_of p.setup) v → q.setup ≡ p.setup → k < length xs → get_or xs k 0 ≡ b → (network_of q.setup).tail b ≡ v
-  tail_found p q v k b xs e s l h = ap (λ (t : Setup S). (network_of t).tail b) s ∙ ap (network_of p.setup).tail (sym h ∙ ap (λ ys. get_or ys k 0) e)
+  tail_found p q v k b xs e s l h = ap (λ (t : SetupData S). (network_of t).tail b) s ∙ ap (network_of p.setup).tail (sym h ∙ ap (λ ys. get_or ys k 0) e)
       ∙ ((outgoing_picked (network_of p.setup) v).each k (subst (λ ys. k < length ys) e l)).0
 
   pub arc_found : (u p q : PartData S V) (r : Rows V) (n : ℕ) (ns : List ℕ) (v b : ℕ) → u ≡ p → RepInvariant u r n ns → q.setup ≡ p.setup → v ≢ 0
       → (network_of q.setup).tail b ≡ v → IsArc (network_of q.setup) b × (b ≢ 0)
   arc_found u p q r n ns v b e D s nz t =
-      let W : WellFormed (network_of q.setup) = subst (λ (x : Setup S). WellFormed (network_of x)) (ap (λ (y : PartData S V). y.setup) e ∙ sym s) (formed u u.shard D.planned) in
+      let W : WellFormed (network_of q.setup) = subst (λ (x : SetupData S). WellFormed (network_of x)) (ap (λ (y : PartData S V). y.setup) e ∙ sym s) (formed u u.shard D.planned) in
       let tn : (network_of q.setup).tail b ≢ 0 = λ z. nz (sym t ∙ z) in
       ((W.head_in b tn, λ _. tn), λ z. tn (ap (network_of q.setup).tail z ∙ W.tail_zero))
 
   -- an arc among those out of its tail
   pub tail_vertex : (p old : PartData S V) (r : Rows V) (n : ℕ) (ns : List ℕ) (a : ℕ) → p ≡ old → RepInvariant p r n ns
-      → IsArc (network_of old.setup) a → a ≢ 0 → HasVertex p.setup.question.roads ((network_of old.setup).tail a)
+      → IsArc (network_of old.setup) a → a ≢ 0 → HasVertex p.setup.diffusion.roads ((network_of old.setup).tail a)
   tail_vertex p old r n ns a e D ar nz =
-      let g = arc_in_graph p old r n ns a e D ar nz in subst (HasVertex p.setup.question.roads) (sym (tail-arc p.setup.question.roads a g.0)
+      let g = arc_in_graph p old r n ns a e D ar nz in subst (HasVertex p.setup.diffusion.roads) (sym (tail-arc p.setup.diffusion.roads a g.0)
       ∙ ap (λ (u : PartData S V). (network_of u.setup).tail a) e) (D.planned.roads.ends a g).0
 
   -- where the graph says that an arc stands among those out of its tail
   pub rank_found : (A : Algebra V) (p old : PartData S V) (r : Rows V) (n : ℕ) (ns : List ℕ) (a k : ℕ) → p ≡ old → RepInvariant p r n ns
-      → IsArc (network_of old.setup) a → a ≢ 0 → IsRank p.setup.question.roads a k →
+      → IsArc (network_of old.setup) a → a ≢ 0 → IsRank p.setup.diffusion.roads a k →
       (k < length (outgoing (network_of old.setup) ((network_of old.setup).tail a))) × (get_or (outgoing (network_of old.setup) ((network_of old.setup).tail a)) k 0 ≡ a)
   rank_found A p old r n ns a k e D ar nz turn =
       let h = tail_vertex p old r n ns a e D ar nz in
       let low : 1 ≤ a = omega arith in
-      let tail : (arc_of p.setup.question.roads a).tail ≡ (network_of old.setup).tail a = sym (tail-arc p.setup.question.roads a low) ∙ ap (λ (u : PartData S V). (network_of u.setup).tail a) e in
-      let is = listed_out A p old ((network_of old.setup).tail a) turn.numbers e h.0 (subst (λ w. ListsArcsFrom p.setup.question.roads w turn.numbers) tail turn.lists) in
+      let tail : (arc_of p.setup.diffusion.roads a).tail ≡ (network_of old.setup).tail a = sym (tail-arc p.setup.diffusion.roads a low) ∙ ap (λ (u : PartData S V). (network_of u.setup).tail a) e in
+      let is = listed_out A p old ((network_of old.setup).tail a) turn.numbers e h.0 (subst (λ w. ListsArcsFrom p.setup.diffusion.roads w turn.numbers) tail turn.lists) in
       (subst (λ ys. k < length ys) is turn.inside, ap (λ ys. get_or ys k 0) (sym is) ∙ turn.found)
 
   -- head and weight of the k-th arc out of a vertex
   pub road_found : (A : Algebra V) (p old : PartData S V) (r : Rows V) (n : ℕ) (ns : List ℕ) (v j k : ℕ) (rs : List OutRoad) (d : OutRoad) → p ≡ old
-      → RepInvariant p r n ns → IsPlace old v j → v ≢ 0 → ListsRoadsFrom p.setup.question.roads v rs →
-      k < length (outgoing (network_of old.setup) v) → (k < length rs) × (get_or rs k d ≡ road_of (arc_of old.setup.question.roads (get_or (outgoing (network_of old.setup) v) k 0)))
+      → RepInvariant p r n ns → IsPlace old v j → v ≢ 0 → ListsRoadsFrom p.setup.diffusion.roads v rs →
+      k < length (outgoing (network_of old.setup) v) → (k < length rs) × (get_or rs k d ≡ road_of (arc_of old.setup.diffusion.roads (get_or (outgoing (network_of old.setup) v) k 0)))
   road_found A p old r n ns v j k rs d e D P nz o l =
       let h2 = vertex_at A p old r n ns v j e D P nz in
-      road_is old.setup.question.roads old.setup.question.source v k (get_or (outgoing (network_of old.setup) v) k 0) rs d
-      (roads_are p.setup.question.roads p.setup.question.source v rs h2.0 o
-      ∙ ap (λ (u : PartData S V). roads_of u.setup.question.roads (outgoing (network_of u.setup) v)) e) l refl
+      road_is old.setup.diffusion.roads old.setup.diffusion.source v k (get_or (outgoing (network_of old.setup) v) k 0) rs d
+      (roads_are p.setup.diffusion.roads p.setup.diffusion.source v rs h2.0 o
+      ∙ ap (λ (u : PartData S V). roads_of u.setup.diffusion.roads (outgoing (network_of u.setup) v)) e) l refl
 
   -- a message, step by step
   pub message_handled : (meaning : S → Algebra V) (p p1 p2 p3 p4 : PartData S V) (a v w : ℕ) (x : V) (t : Bool) → v ≡ w
-      → p1 ≡ labelled (meaning p.setup.question.algebra) x v p → p2 ≡ engaged_or_answered a v ((state_in p1).engager v) p1 →
-      t ≡ improves (meaning p.setup.question.algebra) x ((state_in p).label v) → p3 ≡ cond t (offered_all (meaning p2.setup.question.algebra) v (outgoing (network_of p2.setup) v) p2) p2 →
-      p4 ≡ rested (meaning p3.setup.question.algebra) v p3 → p4 ≡ with_value (meaning p.setup.question.algebra) a x w p
+      → p1 ≡ labelled (meaning p.setup.diffusion.algebra) x v p → p2 ≡ engaged_or_answered a v ((state_in p1).engager v) p1 →
+      t ≡ improves (meaning p.setup.diffusion.algebra) x ((state_in p).label v) → p3 ≡ cond t (offered_all (meaning p2.setup.diffusion.algebra) v (outgoing (network_of p2.setup) v) p2) p2 →
+      p4 ≡ rested (meaning p3.setup.diffusion.algebra) v p3 → p4 ≡ with_value (meaning p.setup.diffusion.algebra) a x w p
   message_handled meaning p p1 p2 p3 p4 a v w x t vw e1 e2 et e3 e4 =
-      let L = improve_same (meaning p.setup.question.algebra) x v p in
+      let L = improve_same (meaning p.setup.diffusion.algebra) x v p in
       let s1 : p1.setup ≡ p.setup = ap (λ (u : PartData S V). u.setup) e1 ∙ L.0 in
       let g1 : (state_in p1).engager v ≡ (state_in p).engager v = ap (λ (u : PartData S V). (state_in u).engager v) e1 ∙ ap (λ f. f v) L.2 in
-      let s2 : p2.setup ≡ p.setup = ap (λ (u : PartData S V). u.setup) e2 ∙ (engaged_or_answered_same (meaning p.setup.question.algebra) a v ((state_in p1).engager v) p1).0 ∙ s1 in
-      let s3 : p3.setup ≡ p.setup = ap (λ (u : PartData S V). u.setup) e3 ∙ (pumped_same (meaning p2.setup.question.algebra) t v (outgoing (network_of p2.setup) v) p2).0 ∙ s2 in
-      let q2 : p2 ≡ engaged_or_answered a v ((state_in p).engager v) (labelled (meaning p.setup.question.algebra) x v p) = e2 ∙ (λ i. engaged_or_answered a v (g1 i) (e1 i)) in
-      let q3 : p3 ≡ cond (improves (meaning p.setup.question.algebra) x ((state_in p).label v))
-      (offered_all (meaning p.setup.question.algebra) v (outgoing (network_of p.setup) v)
-      (engaged_or_answered a v ((state_in p).engager v) (labelled (meaning p.setup.question.algebra) x v p)))
-      (engaged_or_answered a v ((state_in p).engager v) (labelled (meaning p.setup.question.algebra) x v p)) =
-      e3 ∙ (λ i. cond (et i) (offered_all (meaning (s2 i).question.algebra) v (outgoing (network_of (s2 i)) v) (q2 i)) (q2 i)) in
-      e4 ∙ (λ i. rested (meaning (s3 i).question.algebra) v (q3 i)) ∙ ap (λ z. with_value (meaning p.setup.question.algebra) a x z p) vw
+      let s2 : p2.setup ≡ p.setup = ap (λ (u : PartData S V). u.setup) e2 ∙ (engaged_or_answered_same (meaning p.setup.diffusion.algebra) a v ((state_in p1).engager v) p1).0 ∙ s1 in
+      let s3 : p3.setup ≡ p.setup = ap (λ (u : PartData S V). u.setup) e3 ∙ (pumped_same (meaning p2.setup.diffusion.algebra) t v (outgoing (network_of p2.setup) v) p2).0 ∙ s2 in
+      let q2 : p2 ≡ engaged_or_answered a v ((state_in p).engager v) (labelled (meaning p.setup.diffusion.algebra) x v p) = e2 ∙ (λ i. engaged_or_answered a v (g1 i) (e1 i)) in
+      let q3 : p3 ≡ cond (improves (meaning p.setup.diffusion.algebra) x ((state_in p).label v))
+      (offered_all (meaning p.setup.diffusion.algebra) v (outgoing (network_of p.setup) v)
+      (engaged_or_answered a v ((state_in p).engager v) (labelled (meaning p.setup.diffusion.algebra) x v p)))
+      (engaged_or_answered a v ((state_in p).engager v) (labelled (meaning p.setup.diffusion.algebra) x v p)) =
+      e3 ∙ (λ i. cond (et i) (offered_all (meaning (s2 i).diffusion.algebra) v (outgoing (network_of (s2 i)) v) (q2 i)) (q2 i)) in
+      e4 ∙ (λ i. rested (meaning (s3 i).diffusion.algebra) v (q3 i)) ∙ ap (λ z. with_value (meaning p.setup.diffusion.algebra) a x z p) vw
 
   -- the part stays of its shard and setup
   pub message_keeps : (meaning : S → Algebra V) (p p1 p2 p3 : PartData S V) (a v j : ℕ) (x : V) (t : Bool)
-      → p1 ≡ labelled (meaning p.setup.question.algebra) x v p → p2 ≡ engaged_or_answered a v ((state_in p1).engager v) p1 →
-      p3 ≡ cond t (offered_all (meaning p2.setup.question.algebra) v (outgoing (network_of p2.setup) v) p2) p2 → IsPlace p v j → IsPlace p3 v j
+      → p1 ≡ labelled (meaning p.setup.diffusion.algebra) x v p → p2 ≡ engaged_or_answered a v ((state_in p1).engager v) p1 →
+      p3 ≡ cond t (offered_all (meaning p2.setup.diffusion.algebra) v (outgoing (network_of p2.setup) v) p2) p2 → IsPlace p v j → IsPlace p3 v j
   message_keeps meaning p p1 p2 p3 a v j x t e1 e2 e3 P =
-      let L = improve_same (meaning p.setup.question.algebra) x v p in
-      let G = engaged_or_answered_same (meaning p.setup.question.algebra) a v ((state_in p1).engager v) p1 in
-      let M = pumped_same (meaning p2.setup.question.algebra) t v (outgoing (network_of p2.setup) v) p2 in
-      place_same (meaning p.setup.question.algebra) p p3 v j
+      let L = improve_same (meaning p.setup.diffusion.algebra) x v p in
+      let G = engaged_or_answered_same (meaning p.setup.diffusion.algebra) a v ((state_in p1).engager v) p1 in
+      let M = pumped_same (meaning p2.setup.diffusion.algebra) t v (outgoing (network_of p2.setup) v) p2 in
+      place_same (meaning p.setup.diffusion.algebra) p p3 v j
       (ap (λ (u : PartData S V). u.setup) e3 ∙ M.0 ∙ ap (λ (u : PartData S V). u.setup) e2 ∙ G.0 ∙ ap (λ (u : PartData S V). u.setup) e1 ∙ L.0)
       (ap (λ (u : PartData S V). u.shard) e3 ∙ M.1 ∙ ap (λ (u : PartData S V). u.shard) e2 ∙ G.1 ∙ ap (λ (u : PartData S V). u.shard) e1 ∙ L.1) P

@@ -144,16 +144,16 @@ module _ {S V : Type 0} where
       ]
     ]
 
-    real_arcs : (p : PartData S V) → IsGraph p.setup.question.roads → (batch : List (Item V)) → All (FitsAlone A p) batch
+    real_arcs : (p : PartData S V) → IsGraph p.setup.diffusion.roads → (batch : List (Item V)) → All (FitsAlone A p) batch
         → All (λ i. (place_in p.setup (vertex_of (network_of p.setup) i) ≡ p.shard) × IsArc (network_of p.setup) (item_arc i)) batch
     real_arcs p R [] F = tt
     real_arcs p R (i ∷ is') F = (one i F.0, real_arcs p R is' F.1)
       where
-        is_arc : (a : ℕ) → HasArc p.setup.question.roads a → IsArc (network_of p.setup) a
+        is_arc : (a : ℕ) → HasArc p.setup.diffusion.roads a → IsArc (network_of p.setup) a
         is_arc a h = (
-          (λ e. let j = (R.ends a h).1.0 in let q = head-arc p.setup.question.roads p.setup.question.source a h.0 in
+          (λ e. let j = (R.ends a h).1.0 in let q = head-arc p.setup.diffusion.roads p.setup.diffusion.source a h.0 in
               omega (arith, j, q, e)),
-          (λ _ e. let j = (R.ends a h).0.0 in let q = tail-arc p.setup.question.roads a h.0 in omega (arith, j, q, e)),
+          (λ _ e. let j = (R.ends a h).0.0 in let q = tail-arc p.setup.diffusion.roads a h.0 in omega (arith, j, q, e)),
         )
 
         one : (i : Item V) → FitsAlone A p i → (place_in p.setup (vertex_of (network_of p.setup) i) ≡ p.shard) × IsArc (network_of p.setup) (item_arc i)
@@ -161,7 +161,7 @@ module _ {S V : Type 0} where
         one (SignalOn a) F = (F.1.0, is_arc a F.0)
 
     -- a batch that fits joins the queue
-    received_sound : (p : PartData S V) (batch : List (Item V)) → IsGraph p.setup.question.roads
+    received_sound : (p : PartData S V) (batch : List (Item V)) → IsGraph p.setup.diffusion.roads
         → LocalInvariant (network_of p.setup) (place_in p.setup) p → Fits A p batch
         → LocalInvariant (network_of p.setup) (place_in p.setup) (record p { queue = p.queue ++ batch })
     received_sound p batch R D F = record {
@@ -191,26 +191,26 @@ module _ {S V : Type 0} where
         )
 
 -- which arcs may bring an item
-module _ {S V : Type 0} (p old : PartData S V) (r : Rows V) (n : ℕ) (ns : List ℕ) (a : ℕ) (e : p ≡ old) (D : RepInvariant p r n ns) (h : HasArc old.setup.question.roads a) where
-  ends_at : HasArc p.setup.question.roads a
-  ends_at = subst (λ (u : PartData S V). HasArc u.setup.question.roads a) (sym e) h
+module _ {S V : Type 0} (p old : PartData S V) (r : Rows V) (n : ℕ) (ns : List ℕ) (a : ℕ) (e : p ≡ old) (D : RepInvariant p r n ns) (h : HasArc old.setup.diffusion.roads a) where
+  ends_at : HasArc p.setup.diffusion.roads a
+  ends_at = subst (λ (u : PartData S V). HasArc u.setup.diffusion.roads a) (sym e) h
 
   -- its ends are vertices
-  pub ends_within : ((arc_of p.setup.question.roads a).tail ≤ old.setup.question.roads.vertices)
-      × ((arc_of p.setup.question.roads a).head ≤ old.setup.question.roads.vertices) × (1 ≤ (arc_of p.setup.question.roads a).tail)
-      × (1 ≤ (arc_of p.setup.question.roads a).head)
+  pub ends_within : ((arc_of p.setup.diffusion.roads a).tail ≤ old.setup.diffusion.roads.vertices)
+      × ((arc_of p.setup.diffusion.roads a).head ≤ old.setup.diffusion.roads.vertices) × (1 ≤ (arc_of p.setup.diffusion.roads a).tail)
+      × (1 ≤ (arc_of p.setup.diffusion.roads a).head)
   ends_within = let j = D.planned.roads.ends a ends_at in (
-    subst (λ (u : PartData S V). (arc_of p.setup.question.roads a).tail ≤ u.setup.question.roads.vertices) e j.0.1,
-    subst (λ (u : PartData S V). (arc_of p.setup.question.roads a).head ≤ u.setup.question.roads.vertices) e j.1.1,
+    subst (λ (u : PartData S V). (arc_of p.setup.diffusion.roads a).tail ≤ u.setup.diffusion.roads.vertices) e j.0.1,
+    subst (λ (u : PartData S V). (arc_of p.setup.diffusion.roads a).head ≤ u.setup.diffusion.roads.vertices) e j.1.1,
     j.0.0,
     j.1.0,
   )
 
-  pub tail_is : (arc_of p.setup.question.roads a).tail ≡ (network_of old.setup).tail a
-  tail_is = sym (tail-arc p.setup.question.roads a ends_at.0) ∙ ap (λ (u : PartData S V). (network_of u.setup).tail a) e
+  pub tail_is : (arc_of p.setup.diffusion.roads a).tail ≡ (network_of old.setup).tail a
+  tail_is = sym (tail-arc p.setup.diffusion.roads a ends_at.0) ∙ ap (λ (u : PartData S V). (network_of u.setup).tail a) e
 
-  pub head_is : (arc_of p.setup.question.roads a).head ≡ (network_of old.setup).head a
-  head_is = sym (head-arc p.setup.question.roads p.setup.question.source a ends_at.0) ∙ ap (λ (u : PartData S V). (network_of u.setup).head a) e
+  pub head_is : (arc_of p.setup.diffusion.roads a).head ≡ (network_of old.setup).head a
+  head_is = sym (head-arc p.setup.diffusion.roads p.setup.diffusion.source a ends_at.0) ∙ ap (λ (u : PartData S V). (network_of u.setup).head a) e
 
   pub arc_is : IsArc (network_of old.setup) a
   arc_is = let w = ends_within in ((λ z. let q = head_is in let l = w.3 in omega (arith, z, q, l)), (λ _ z. let q = tail_is in let l = w.2 in omega (arith, z, q, l)))

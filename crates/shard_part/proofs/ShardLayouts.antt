@@ -26,19 +26,19 @@ use Rattle.shard_part.proofs.CapacitiesByVertex.{seen_at, seen_all, outbox_bound
 use Rattle.scholten_core.proofs.Sums.{one_if-most}
 use Rattle.road_graph.proofs.Lists.{element_place}
 
-pub first_is : (w old : ShardLayoutData) (x : ℕ) (b : Bool) → w ≡ old → IsPlanned w.setup w.shard → x ≡ shard_in w.setup.plan w.setup.question.source
+pub first_is : (w old : ShardLayoutData) (x : ℕ) (b : Bool) → w ≡ old → IsPlanned w.setup w.shard → x ≡ shard_in w.setup.plan w.setup.diffusion.source
     → b ≡ eqb x w.shard → b ≡ is_first old.setup old.shard
 first_is w old x b e D h q = q ∙ ap (λ k. eqb k w.shard) (h ∙ sym (place_entry w.setup D.source.0)) ∙ ap (λ (u : ShardLayoutData). is_first u.setup u.shard) e
 
-pub has_is : (w old : ShardLayoutData) (v x : ℕ) (b : Bool) → w ≡ old → HasVertex old.setup.question.roads v → x ≡ shard_in w.setup.plan v
+pub has_is : (w old : ShardLayoutData) (v x : ℕ) (b : Bool) → w ≡ old → HasVertex old.setup.diffusion.roads v → x ≡ shard_in w.setup.plan v
     → b ≡ eqb x w.shard → b ≡ eqb (place_in old.setup v) old.shard
 has_is w old v x b e l h q = q ∙ ap (λ k. eqb k w.shard) (h ∙ sym (place_vertex w.setup v l.0)) ∙ ap (λ (u : ShardLayoutData). eqb (place_in u.setup v) u.shard) e
 
 pub count_out_zero : (w old : ShardLayoutData) (v : ℕ) → w ≡ old → IsPlanned w.setup w.shard → v ≡ 0 → 1 ≡ length (outgoing (network_of old.setup) v)
-count_out_zero w old v e D z = sym (ap length (entry_alone w.setup.question.roads w.setup.question.source D.roads)) ∙ (λ i. length (outgoing (network_of (e i).setup) (sym z i)))
+count_out_zero w old v e D z = sym (ap length (entry_alone w.setup.diffusion.roads w.setup.diffusion.source D.roads)) ∙ (λ i. length (outgoing (network_of (e i).setup) (sym z i)))
 
-pub listed_from : (w old : ShardLayoutData) (v : ℕ) (xs : List ℕ) → w ≡ old → 1 ≤ v → ListsArcsFrom w.setup.question.roads v xs → xs ≡ outgoing (network_of old.setup) v
-listed_from w old v xs e l o = out_is w.setup.question.roads w.setup.question.source v xs l o ∙ ap (λ (u : ShardLayoutData). outgoing (network_of u.setup) v) e
+pub listed_from : (w old : ShardLayoutData) (v : ℕ) (xs : List ℕ) → w ≡ old → 1 ≤ v → ListsArcsFrom w.setup.diffusion.roads v xs → xs ≡ outgoing (network_of old.setup) v
+listed_from w old v xs e l o = out_is w.setup.diffusion.roads w.setup.diffusion.source v xs l o ∙ ap (λ (u : ShardLayoutData). outgoing (network_of u.setup) v) e
 
 -- an arc of such a list is one of the graph's
 pub arc_from : (g : GraphData) (v j : ℕ) (xs : List ℕ) → ListsArcsFrom g v xs → j < length xs → HasArc g (get_or xs j 0) × ((arc_of g (get_or xs j 0)).tail ≡ v)
@@ -50,28 +50,28 @@ arc_into g v j xs o h = (o.complete (get_or xs j 0)).0 (j, h, get_or_default xs 
 turned_tail : (N : Network) (b : ℕ) → b ≢ 0 → (reversed_network N).tail b ≡ N.head b
 turned_tail N b nz = cond-false (eqb b 0) 0 (N.head b) (ne_eqb b 0 nz)
 
-pub listed_into : (w old : ShardLayoutData) (v : ℕ) (xs : List ℕ) → w ≡ old → 1 ≤ v → ListsArcsInto w.setup.question.roads v xs → xs ≡ outgoing (reversed_network (network_of old.setup)) v
+pub listed_into : (w old : ShardLayoutData) (v : ℕ) (xs : List ℕ) → w ≡ old → 1 ≤ v → ListsArcsInto w.setup.diffusion.roads v xs → xs ≡ outgoing (reversed_network (network_of old.setup)) v
 listed_into w old v xs e l o =
-    let N : Network = network w.setup.question.roads w.setup.question.source in
-    arcs_are (reversed_network (network w.setup.question.roads w.setup.question.source)) v 0 (suc (length w.setup.question.roads.arcs)) 0 xs o.ascending only all
+    let N : Network = network w.setup.diffusion.roads w.setup.diffusion.source in
+    arcs_are (reversed_network (network w.setup.diffusion.roads w.setup.diffusion.source)) v 0 (suc (length w.setup.diffusion.roads.arcs)) 0 xs o.ascending only all
     ∙ ap (λ (u : ShardLayoutData). outgoing (reversed_network (network_of u.setup)) v) e
   where
-    only : (b : ℕ) → Contains xs b → ((reversed_network (network w.setup.question.roads w.setup.question.source)).tail b ≡ v) × (0 ≤ b) × (b < 0 + suc (length w.setup.question.roads.arcs))
+    only : (b : ℕ) → Contains xs b → ((reversed_network (network w.setup.diffusion.roads w.setup.diffusion.source)).tail b ≡ v) × (0 ≤ b) × (b < 0 + suc (length w.setup.diffusion.roads.arcs))
     only b m =
         let r = element_place 0 b xs m in
-        let a = subst (λ c. HasArc w.setup.question.roads c × ((arc_of w.setup.question.roads c).head ≡ v)) r.2 (arc_into w.setup.question.roads v r.0 xs o r.1) in (
-          turned_tail (network w.setup.question.roads w.setup.question.source) b (λ z. let h = a.0.0 in omega (arith, z, h)) ∙ head-arc w.setup.question.roads w.setup.question.source b a.0.0 ∙ a.1,
+        let a = subst (λ c. HasArc w.setup.diffusion.roads c × ((arc_of w.setup.diffusion.roads c).head ≡ v)) r.2 (arc_into w.setup.diffusion.roads v r.0 xs o r.1) in (
+          turned_tail (network w.setup.diffusion.roads w.setup.diffusion.source) b (λ z. let h = a.0.0 in omega (arith, z, h)) ∙ head-arc w.setup.diffusion.roads w.setup.diffusion.source b a.0.0 ∙ a.1,
           omega arith,
           (let h = a.0.1 in omega (arith, h)),
         )
 
-    all : (b : ℕ) → (reversed_network (network w.setup.question.roads w.setup.question.source)).tail b ≡ v → 0 ≤ b → b < 0 + suc (length w.setup.question.roads.arcs) → Contains xs b
+    all : (b : ℕ) → (reversed_network (network w.setup.diffusion.roads w.setup.diffusion.source)).tail b ≡ v → 0 ≤ b → b < 0 + suc (length w.setup.diffusion.roads.arcs) → Contains xs b
     all b t k h = elim (cases_eq b 0) [
-      | inl z ↦ absurd (let q : (reversed_network (network w.setup.question.roads w.setup.question.source)).tail b
-          ≡ 0 = cond-true {A = ℕ} (eqb b 0) 0 ((network w.setup.question.roads w.setup.question.source).head b) (eq-eqb b 0 z) in
+      | inl z ↦ absurd (let q : (reversed_network (network w.setup.diffusion.roads w.setup.diffusion.source)).tail b
+          ≡ 0 = cond-true {A = ℕ} (eqb b 0) 0 ((network w.setup.diffusion.roads w.setup.diffusion.source).head b) (eq-eqb b 0 z) in
           omega (arith, q, t, l))
-      | inr nz ↦ (let low : 1 ≤ b = omega (arith, nz) in let high : b ≤ length w.setup.question.roads.arcs = omega (arith, h) in
-          (o.complete b).1 ((low, high), sym (head-arc w.setup.question.roads w.setup.question.source b low) ∙ sym (turned_tail (network w.setup.question.roads w.setup.question.source) b nz) ∙ t))
+      | inr nz ↦ (let low : 1 ≤ b = omega (arith, nz) in let high : b ≤ length w.setup.diffusion.roads.arcs = omega (arith, h) in
+          (o.complete b).1 ((low, high), sym (head-arc w.setup.diffusion.roads w.setup.diffusion.source b low) ∙ sym (turned_tail (network w.setup.diffusion.roads w.setup.diffusion.source) b nz) ∙ t))
     ]
 
 -- what a test of two shards tells
@@ -92,39 +92,39 @@ add_one capacities to t l = elim (cases_eq t to) [
 ]
 
 -- the ends of an arc are planned
-pub planned_head : (w : ShardLayoutData) (a : ℕ) → IsPlanned w.setup w.shard → HasArc w.setup.question.roads a
-    → HasPlanned w.setup.plan (arc_of w.setup.question.roads a).head
-    × (shard_in w.setup.plan (arc_of w.setup.question.roads a).head ≡ place_in w.setup ((network_of w.setup).head a))
+pub planned_head : (w : ShardLayoutData) (a : ℕ) → IsPlanned w.setup w.shard → HasArc w.setup.diffusion.roads a
+    → HasPlanned w.setup.plan (arc_of w.setup.diffusion.roads a).head
+    × (shard_in w.setup.plan (arc_of w.setup.diffusion.roads a).head ≡ place_in w.setup ((network_of w.setup).head a))
 planned_head w a D h = let j = (D.roads.ends a h).1 in (
   (j.0, (let m = j.1 in let c = D.covers in omega (arith, m, c))),
-  sym (ap (place_in w.setup) (head-arc w.setup.question.roads w.setup.question.source a h.0) ∙ place_vertex w.setup (arc_of w.setup.question.roads a).head j.0),
+  sym (ap (place_in w.setup) (head-arc w.setup.diffusion.roads w.setup.diffusion.source a h.0) ∙ place_vertex w.setup (arc_of w.setup.diffusion.roads a).head j.0),
 )
 
-pub planned_tail : (w : ShardLayoutData) (a : ℕ) → IsPlanned w.setup w.shard → HasArc w.setup.question.roads a
-    → HasPlanned w.setup.plan (arc_of w.setup.question.roads a).tail
-    × (shard_in w.setup.plan (arc_of w.setup.question.roads a).tail ≡ place_in w.setup ((network_of w.setup).tail a))
+pub planned_tail : (w : ShardLayoutData) (a : ℕ) → IsPlanned w.setup w.shard → HasArc w.setup.diffusion.roads a
+    → HasPlanned w.setup.plan (arc_of w.setup.diffusion.roads a).tail
+    × (shard_in w.setup.plan (arc_of w.setup.diffusion.roads a).tail ≡ place_in w.setup ((network_of w.setup).tail a))
 planned_tail w a D h = let j = (D.roads.ends a h).0 in (
   (j.0, (let m = j.1 in let c = D.covers in omega (arith, m, c))),
-  sym (ap (place_in w.setup) (tail-arc w.setup.question.roads a h.0) ∙ place_vertex w.setup (arc_of w.setup.question.roads a).tail j.0),
+  sym (ap (place_in w.setup) (tail-arc w.setup.diffusion.roads a h.0) ∙ place_vertex w.setup (arc_of w.setup.diffusion.roads a).tail j.0),
 )
 
 -- what was counted of some of the vertices is no more than there are arcs
 pub seen_whole : (w : ShardLayoutData) (t : ℕ) → IsPlanned w.setup w.shard →
     cond (is_first w.setup w.shard) (is t w.shard) 0 + total (seen_at (network_of w.setup) (place_in w.setup) w.shard t)
-    (placed (place_in w.setup) w.shard 1 w.setup.question.roads.vertices) ≡ outbox_bound (network_of w.setup) (place_in w.setup) w.shard t
-seen_whole w t D = seen_all (network_of w.setup) (place_in w.setup) w.shard t w.setup.question.roads.vertices (tail-entry w.setup.question.roads) (place_source w.setup w.shard D)
-    (λ b nz l. let low : 1 ≤ b = omega (arith, nz) in let h : HasArc w.setup.question.roads b = (
+    (placed (place_in w.setup) w.shard 1 w.setup.diffusion.roads.vertices) ≡ outbox_bound (network_of w.setup) (place_in w.setup) w.shard t
+seen_whole w t D = seen_all (network_of w.setup) (place_in w.setup) w.shard t w.setup.diffusion.roads.vertices (tail-entry w.setup.diffusion.roads) (place_source w.setup w.shard D)
+    (λ b nz l. let low : 1 ≤ b = omega (arith, nz) in let h : HasArc w.setup.diffusion.roads b = (
       low,
-      (let m : b ≤ length w.setup.question.roads.arcs = omega (arith, l) in m),
+      (let m : b ≤ length w.setup.diffusion.roads.arcs = omega (arith, l) in m),
     ) in let j = D.roads.ends b h in
-    let p = tail-arc w.setup.question.roads b low in let q = head-arc w.setup.question.roads w.setup.question.source b low in
+    let p = tail-arc w.setup.diffusion.roads b low in let q = head-arc w.setup.diffusion.roads w.setup.diffusion.source b low in
     ((let a = j.0.0 in omega (arith, a, p)), (let a = j.0.1 in omega (arith, a, p)), (let a = j.1.0 in omega (arith, a, q)), (let a = j.1.1 in omega (arith, a, q))))
 
 pub seen_most : (w : ShardLayoutData) (t i : ℕ) → IsPlanned w.setup w.shard →
     cond (is_first w.setup w.shard) (is t w.shard) 0 + total (seen_at (network_of w.setup) (place_in w.setup) w.shard t)
-    (take i (placed (place_in w.setup) w.shard 1 w.setup.question.roads.vertices)) ≤ suc (length w.setup.question.roads.arcs)
+    (take i (placed (place_in w.setup) w.shard 1 w.setup.diffusion.roads.vertices)) ≤ suc (length w.setup.diffusion.roads.arcs)
 seen_most w t i D = let a = seen_whole w t D in let b = total_most (seen_at (network_of w.setup) (place_in w.setup) w.shard t)
-    (placed (place_in w.setup) w.shard 1 w.setup.question.roads.vertices) i in
+    (placed (place_in w.setup) w.shard 1 w.setup.diffusion.roads.vertices) i in
     let c = outbox_bound_most (network_of w.setup) (place_in w.setup) w.shard t in omega (arith, a, b, c)
 
 -- each arc counts once at most
@@ -142,11 +142,11 @@ coming_few N place s t xs = total_few (λ b. cond (eqb (place (N.tail b)) s) 0 (
 pub planned_at : (w old : ShardLayoutData) → w ≡ old → IsPlanned w.setup w.shard → IsPlanned old.setup old.shard
 planned_at w old e D = subst (λ (u : ShardLayoutData). IsPlanned u.setup u.shard) e D
 
-pub from_at : (w old : ShardLayoutData) (v : ℕ) (xs : List ℕ) → w ≡ old → ListsArcsFrom w.setup.question.roads v xs → ListsArcsFrom old.setup.question.roads v xs
-from_at w old v xs e o = subst (λ (u : ShardLayoutData). ListsArcsFrom u.setup.question.roads v xs) e o
+pub from_at : (w old : ShardLayoutData) (v : ℕ) (xs : List ℕ) → w ≡ old → ListsArcsFrom w.setup.diffusion.roads v xs → ListsArcsFrom old.setup.diffusion.roads v xs
+from_at w old v xs e o = subst (λ (u : ShardLayoutData). ListsArcsFrom u.setup.diffusion.roads v xs) e o
 
-pub into_at : (w old : ShardLayoutData) (v : ℕ) (xs : List ℕ) → w ≡ old → ListsArcsInto w.setup.question.roads v xs → ListsArcsInto old.setup.question.roads v xs
-into_at w old v xs e o = subst (λ (u : ShardLayoutData). ListsArcsInto u.setup.question.roads v xs) e o
+pub into_at : (w old : ShardLayoutData) (v : ℕ) (xs : List ℕ) → w ≡ old → ListsArcsInto w.setup.diffusion.roads v xs → ListsArcsInto old.setup.diffusion.roads v xs
+into_at w old v xs e o = subst (λ (u : ShardLayoutData). ListsArcsInto u.setup.diffusion.roads v xs) e o
 
 pub item_from : (g : GraphData) (v a i : ℕ) (xs : List ℕ) → ListsArcsFrom g v xs → i < length xs → a ≡ get_or xs i a → HasArc g a
 item_from g v a i xs o l h = subst (HasArc g) (sym (get_or_read xs i a l h 0)) (arc_from g v i xs o l).0
@@ -155,15 +155,15 @@ pub item_into : (g : GraphData) (v a i : ℕ) (xs : List ℕ) → ListsArcsInto 
 item_into g v a i xs o l h = subst (HasArc g) (sym (get_or_read xs i a l h 0)) (arc_into g v i xs o l).0
 
 -- a count of a vertex's arcs is small
-pub leading_most : (w : ShardLayoutData) (v t i : ℕ) (xs : List ℕ) → 1 ≤ v → ListsArcsFrom w.setup.question.roads v xs
-    → leading_to (network_of w.setup) (place_in w.setup) t (take i xs) ≤ suc (length w.setup.question.roads.arcs)
+pub leading_most : (w : ShardLayoutData) (v t i : ℕ) (xs : List ℕ) → 1 ≤ v → ListsArcsFrom w.setup.diffusion.roads v xs
+    → leading_to (network_of w.setup) (place_in w.setup) t (take i xs) ≤ suc (length w.setup.diffusion.roads.arcs)
 leading_most w v t i xs l o =
     let a = total_most (λ b. is t (place_in w.setup ((network_of w.setup).head b))) xs i in
     let b = leading_few (network_of w.setup) (place_in w.setup) t xs in
     let c = ap length (listed_from w w v xs refl l o) in let d = out_most (network_of w.setup) v in omega (arith, a, b, c, d)
 
-pub coming_most : (w : ShardLayoutData) (v t i : ℕ) (xs : List ℕ) → 1 ≤ v → ListsArcsInto w.setup.question.roads v xs
-    → coming_from (network_of w.setup) (place_in w.setup) w.shard t (take i xs) ≤ suc (length w.setup.question.roads.arcs)
+pub coming_most : (w : ShardLayoutData) (v t i : ℕ) (xs : List ℕ) → 1 ≤ v → ListsArcsInto w.setup.diffusion.roads v xs
+    → coming_from (network_of w.setup) (place_in w.setup) w.shard t (take i xs) ≤ suc (length w.setup.diffusion.roads.arcs)
 coming_most w v t i xs l o =
     let a = total_most (λ b. cond (eqb (place_in w.setup ((network_of w.setup).tail b)) w.shard) 0 (is t (place_in w.setup ((network_of w.setup).tail b)))) xs i in
     let b = coming_few (network_of w.setup) (place_in w.setup) w.shard t xs in
@@ -171,12 +171,12 @@ coming_most w v t i xs l o =
 
 -- one arc more
 pub leading_more : (w : ShardLayoutData) (v a to i : ℕ) (xs capacities first : List ℕ) → IsPlanned w.setup w.shard
-    → ListsArcsFrom w.setup.question.roads v xs → i < length xs → a ≡ get_or xs i a
-    → to ≡ shard_in w.setup.plan (arc_of w.setup.question.roads a).head → to < length capacities →
+    → ListsArcsFrom w.setup.diffusion.roads v xs → i < length xs → a ≡ get_or xs i a
+    → to ≡ shard_in w.setup.plan (arc_of w.setup.diffusion.roads a).head → to < length capacities →
     ((t : ℕ) → t < w.setup.plan.shards → get_or capacities t 0 ≡ get_or first t 0 + leading_to (network_of w.setup) (place_in w.setup) t (take i xs)) →
     (t : ℕ) → t < w.setup.plan.shards → get_or (set capacities to (get_or capacities to 0 + 1)) t 0 ≡ get_or first t 0 + leading_to (network_of w.setup) (place_in w.setup) t (take (i + 1) xs)
 leading_more w v a to i xs capacities first D o l h q m inv t k =
-    let p = planned_head w a D (item_from w.setup.question.roads v a i xs o l h) in
+    let p = planned_head w a D (item_from w.setup.diffusion.roads v a i xs o l h) in
     let x = add_one capacities to t m in
     let y = inv t k in
     let z = total_take (λ b. is t (place_in w.setup ((network_of w.setup).head b))) xs i 0 l in
@@ -191,13 +191,13 @@ coming_more w v a i t xs x l h q =
     let z = total_take f xs i 0 l in let u : x ≡ f (get_or xs i 0) = q ∙ ap f (get_or_read xs i a l h 0) in omega (arith, z, u)
 
 pub coming_other : (w : ShardLayoutData) (v a from i : ℕ) (xs capacities first : List ℕ) → IsPlanned w.setup w.shard
-    → ListsArcsInto w.setup.question.roads v xs → i < length xs → a ≡ get_or xs i a
-    → from ≡ shard_in w.setup.plan (arc_of w.setup.question.roads a).tail → from ≢ w.shard → from < length capacities →
+    → ListsArcsInto w.setup.diffusion.roads v xs → i < length xs → a ≡ get_or xs i a
+    → from ≡ shard_in w.setup.plan (arc_of w.setup.diffusion.roads a).tail → from ≢ w.shard → from < length capacities →
     ((t : ℕ) → t < w.setup.plan.shards → get_or capacities t 0 ≡ get_or first t 0 + coming_from (network_of w.setup) (place_in w.setup) w.shard t (take i xs)) →
     (t : ℕ) → t < w.setup.plan.shards → get_or (set capacities from (get_or capacities from 0 + 1)) t 0
     ≡ get_or first t 0 + coming_from (network_of w.setup) (place_in w.setup) w.shard t (take (i + 1) xs)
 coming_other w v a from i xs capacities first D o l h q ne m inv t k =
-    let p : from ≡ place_in w.setup ((network_of w.setup).tail a) = q ∙ (planned_tail w a D (item_into w.setup.question.roads v a i xs o l h)).1 in
+    let p : from ≡ place_in w.setup ((network_of w.setup).tail a) = q ∙ (planned_tail w a D (item_into w.setup.diffusion.roads v a i xs o l h)).1 in
     let x = add_one capacities from t m in
     let y = inv t k in
     let z = coming_more w v a i t xs (is t from) l h (ap (is t) p
@@ -206,19 +206,19 @@ coming_other w v a from i xs capacities first D o l h q ne m inv t k =
     omega (arith, x, y, z)
 
 pub coming_own : (w : ShardLayoutData) (v a from i : ℕ) (xs capacities first : List ℕ) → IsPlanned w.setup w.shard
-    → ListsArcsInto w.setup.question.roads v xs → i < length xs → a ≡ get_or xs i a
-    → from ≡ shard_in w.setup.plan (arc_of w.setup.question.roads a).tail → from ≡ w.shard →
+    → ListsArcsInto w.setup.diffusion.roads v xs → i < length xs → a ≡ get_or xs i a
+    → from ≡ shard_in w.setup.plan (arc_of w.setup.diffusion.roads a).tail → from ≡ w.shard →
     ((t : ℕ) → t < w.setup.plan.shards → get_or capacities t 0 ≡ get_or first t 0 + coming_from (network_of w.setup) (place_in w.setup) w.shard t (take i xs)) →
     (t : ℕ) → t < w.setup.plan.shards → get_or capacities t 0 ≡ get_or first t 0 + coming_from (network_of w.setup) (place_in w.setup) w.shard t (take (i + 1) xs)
 coming_own w v a from i xs capacities first D o l h q same inv t k =
-    let p : from ≡ place_in w.setup ((network_of w.setup).tail a) = q ∙ (planned_tail w a D (item_into w.setup.question.roads v a i xs o l h)).1 in
+    let p : from ≡ place_in w.setup ((network_of w.setup).tail a) = q ∙ (planned_tail w a D (item_into w.setup.diffusion.roads v a i xs o l h)).1 in
     let y = inv t k in
     let z = coming_more w v a i t xs 0 l h (sym (cond-true {A = ℕ} (eqb (place_in w.setup ((network_of w.setup).tail a)) w.shard) 0
     (is t (place_in w.setup ((network_of w.setup).tail a))) (eq-eqb _ _ (sym p ∙ same)))) in
     omega (arith, y, z)
 
 -- all arcs of a vertex
-pub leading_done : (w old : ShardLayoutData) (v i : ℕ) (xs capacities first : List ℕ) → w ≡ old → 1 ≤ v → ListsArcsFrom w.setup.question.roads v xs → length xs ≤ i → length capacities ≡ length first →
+pub leading_done : (w old : ShardLayoutData) (v i : ℕ) (xs capacities first : List ℕ) → w ≡ old → 1 ≤ v → ListsArcsFrom w.setup.diffusion.roads v xs → length xs ≤ i → length capacities ≡ length first →
     ((t : ℕ) → t < old.setup.plan.shards → get_or capacities t 0 ≡ get_or first t 0 + leading_to (network_of old.setup) (place_in old.setup) t (take i xs)) → CountsOut old v first capacities
 leading_done w old v i xs capacities first e l o d long inv = (
   long,
@@ -227,7 +227,7 @@ leading_done w old v i xs capacities first e l o d long inv = (
       let c = ap (leading_to (network_of old.setup) (place_in old.setup) t) (listed_from w old v xs e l o) in omega (arith, a, b, c),
 )
 
-pub coming_done : (w old : ShardLayoutData) (v i : ℕ) (xs capacities first : List ℕ) → w ≡ old → 1 ≤ v → ListsArcsInto w.setup.question.roads v xs → length xs ≤ i → length capacities ≡ length first →
+pub coming_done : (w old : ShardLayoutData) (v i : ℕ) (xs capacities first : List ℕ) → w ≡ old → 1 ≤ v → ListsArcsInto w.setup.diffusion.roads v xs → length xs ≤ i → length capacities ≡ length first →
     ((t : ℕ) → t < old.setup.plan.shards → get_or capacities t 0
     ≡ get_or first t 0 + coming_from (network_of old.setup) (place_in old.setup) old.shard t (take i xs)) → CountsInto old v first capacities
 coming_done w old v i xs capacities first e l o d long inv = (
@@ -253,19 +253,19 @@ extent_within place s n e m E =
     ]
 
 -- where they follow one another, the own vertices are told without a list
-pub own_run : (w : ShardLayoutData) (e : Extent) → IsExtent (placed (place_in w.setup) w.shard 1 w.setup.question.roads.vertices) e
+pub own_run : (w : ShardLayoutData) (e : Extent) → IsExtent (placed (place_in w.setup) w.shard 1 w.setup.diffusion.roads.vertices) e
     → e.first + e.count ≡ e.last + 1 → 0 ∷ range_with_len e.first e.count ≡ local_vertices w.setup w.shard
 own_run w e E run =
     let c = E.count in
     ap (λ xs. 0 ∷ xs) (ap (range_with_len e.first) E.count
-    ∙ sym (follow_first (placed (place_in w.setup) w.shard 1 w.setup.question.roads.vertices) e.first e.last
-    (placed_picked (place_in w.setup) w.shard 1 w.setup.question.roads.vertices).increasing E.first E.last (omega (arith, run, c))))
+    ∙ sym (follow_first (placed (place_in w.setup) w.shard 1 w.setup.diffusion.roads.vertices) e.first e.last
+    (placed_picked (place_in w.setup) w.shard 1 w.setup.diffusion.roads.vertices).increasing E.first E.last (omega (arith, run, c))))
 
 -- vertices that were gone through, and what was counted of them
 abbrev pub CountedSo : ShardLayoutData → ℕ → List ℕ → Type 0
 CountedSo w i capacities = (t : ℕ) → t < w.setup.plan.shards
     → get_or capacities t 0 ≡ cond (is_first w.setup w.shard) (is t w.shard) 0 + total (seen_at (network_of w.setup) (place_in w.setup) w.shard t)
-    (take i (placed (place_in w.setup) w.shard 1 w.setup.question.roads.vertices))
+    (take i (placed (place_in w.setup) w.shard 1 w.setup.diffusion.roads.vertices))
 
 pub counted_small : (w : ShardLayoutData) (i : ℕ) (capacities : List ℕ) → IsPlanned w.setup w.shard → length capacities ≡ w.setup.plan.shards
     → CountedSo w i capacities → (t : ℕ) → get_or capacities t 0 ≤ 2 ^ 32
@@ -284,11 +284,11 @@ counted_middle w v i capacities middle D long inv out t = elim (cases_lt t w.set
 ]
 
 pub counted_all : (w : ShardLayoutData) (i : ℕ) (capacities : List ℕ) → IsPlanned w.setup w.shard
-    → length (placed (place_in w.setup) w.shard 1 w.setup.question.roads.vertices) ≤ i → length capacities ≡ w.setup.plan.shards
+    → length (placed (place_in w.setup) w.shard 1 w.setup.diffusion.roads.vertices) ≤ i → length capacities ≡ w.setup.plan.shards
     → CountedSo w i capacities → CountsAll w capacities
 counted_all w i capacities D l long inv = (
   long,
-  λ t k. let a = inv t k in let b = total_whole (seen_at (network_of w.setup) (place_in w.setup) w.shard t) (placed (place_in w.setup) w.shard 1 w.setup.question.roads.vertices) i l in
+  λ t k. let a = inv t k in let b = total_whole (seen_at (network_of w.setup) (place_in w.setup) w.shard t) (placed (place_in w.setup) w.shard 1 w.setup.diffusion.roads.vertices) i l in
       let d = seen_whole w t D in omega (arith, a, b, d),
 )
 
@@ -298,22 +298,22 @@ counted_none w capacities h t k = let a = h t k in omega (arith, a)
 
 -- the vertex at a place behind the environment's
 module _ (w : ShardLayoutData) (own : List ℕ) (same : own ≡ local_vertices w.setup w.shard) (j v : ℕ) (behind : 1 ≤ j) (inside : j < length own) (read : v ≡ get_or own j 0) where
-  vertex_read : (j - 1 < length (placed (place_in w.setup) w.shard 1 w.setup.question.roads.vertices)) × (v ≡ get_or (placed (place_in w.setup) w.shard 1 w.setup.question.roads.vertices) (j - 1) 0)
+  vertex_read : (j - 1 < length (placed (place_in w.setup) w.shard 1 w.setup.diffusion.roads.vertices)) × (v ≡ get_or (placed (place_in w.setup) w.shard 1 w.setup.diffusion.roads.vertices) (j - 1) 0)
   vertex_read = let e : j ≡ suc (j - 1) = omega (arith, behind) in let l = ap length same in
       ((omega (arith, inside, behind, l)), read ∙ (λ i. get_or (same i) (e i) 0))
 
-  pub vertex_of_shard : HasVertex w.setup.question.roads v
+  pub vertex_of_shard : HasVertex w.setup.diffusion.roads v
   vertex_of_shard =
-      let p = (placed_picked (place_in w.setup) w.shard 1 w.setup.question.roads.vertices).each (j - 1) vertex_read.0 in let r = vertex_read.1 in
+      let p = (placed_picked (place_in w.setup) w.shard 1 w.setup.diffusion.roads.vertices).each (j - 1) vertex_read.0 in let r = vertex_read.1 in
       ((let a = p.1 in omega (arith, a, r)), (let a = p.2 in omega (arith, a, r)))
 
   pub counted_more : (capacities middle new : List ℕ) → CountedSo w (j - 1) capacities → CountsOut w v capacities middle → CountsInto w v middle new → CountedSo w (j + 1 - 1) new
   counted_more capacities middle new inv out into t k =
       let a = inv t k in let b = out.1 t k in let c = into.1 t k in
-      let d = total_take (seen_at (network_of w.setup) (place_in w.setup) w.shard t) (placed (place_in w.setup) w.shard 1 w.setup.question.roads.vertices) (j - 1) 0 vertex_read.0 in
+      let d = total_take (seen_at (network_of w.setup) (place_in w.setup) w.shard t) (placed (place_in w.setup) w.shard 1 w.setup.diffusion.roads.vertices) (j - 1) 0 vertex_read.0 in
       let e = ap (seen_at (network_of w.setup) (place_in w.setup) w.shard t) vertex_read.1 in
       let g = ap (λ n. total (seen_at (network_of w.setup) (place_in w.setup) w.shard t)
-      (take n (placed (place_in w.setup) w.shard 1 w.setup.question.roads.vertices))) (let z : j + 1 - 1 ≡ j - 1 + 1 = omega (arith, behind) in
+      (take n (placed (place_in w.setup) w.shard 1 w.setup.diffusion.roads.vertices))) (let z : j + 1 - 1 ≡ j - 1 + 1 = omega (arith, behind) in
       z) in
       omega (arith, a, b, c, d, e, g)
 
@@ -325,10 +325,10 @@ some_arc w own n i D e l c =
 
 pub starts_few : (w : ShardLayoutData) (own : List ℕ) (i : ℕ) → IsPlanned w.setup w.shard → own ≡ local_vertices w.setup w.shard → length (arcs_out (network_of w.setup) (take i own)) ≤ 2 ^ 27 + 1
 starts_few w own i D e = let a = ap (λ xs. length (arcs_out (network_of w.setup) (take i xs))) e in
-    let b = own_arcs_most (network_of w.setup) (place_in w.setup) w.shard w.setup.question.roads.vertices i in let f = D.roads.few_arcs in
+    let b = own_arcs_most (network_of w.setup) (place_in w.setup) w.shard w.setup.diffusion.roads.vertices i in let f = D.roads.few_arcs in
     omega (arith, a, b, f)
 
-pub own_within : (w : ShardLayoutData) (v i : ℕ) (own : List ℕ) → own ≡ local_vertices w.setup w.shard → i < length own → v ≡ get_or own i 0 → v ≤ w.setup.question.roads.vertices
+pub own_within : (w : ShardLayoutData) (v i : ℕ) (own : List ℕ) → own ≡ local_vertices w.setup w.shard → i < length own → v ≡ get_or own i 0 → v ≤ w.setup.diffusion.roads.vertices
 own_within w v i own e l h = let r = h ∙ ap (λ xs. get_or xs i 0) e in let b = own_below w.setup w.shard i (subst (λ xs. i < length xs) e l) in omega (arith, r, b)
 
 pub starts_next : (N : Network) (own : List ℕ) (v i count more : ℕ) → i < length own → v ≡ get_or own i 0 → count ≡ length (arcs_out N (take i own))

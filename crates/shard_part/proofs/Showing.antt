@@ -7,7 +7,7 @@ use Rattle.scholten_core.specs.Network.{Network, WellFormed}
 use Rattle.scholten_core.specs.Diffusion.{CoreState, step, is_enabled}
 use Rattle.scholten_core.specs.Sums.{one_if}
 use Rattle.scholten_core.specs.Shares.{Agree}
-use Rattle.shard_part.specs.PartState.{Setup, PartData, network_of, place_in, state_in, event_of, mine}
+use Rattle.shard_part.specs.PartState.{SetupData, PartData, network_of, place_in, state_in, event_of, mine}
 use Rattle.shard_part.specs.Weights.{total, part_weight, mail_weight, is, All}
 use Rattle.shard_part.specs.Handling.{HandledItemIn, HandledItem, HandledAll}
 use Rattle.shard_part.specs.Represents.{AllEnabled, HoldsTables, HoldsShareIn, HoldsShare, RepresentsIn, Represents}
@@ -126,51 +126,51 @@ module _ {S V : Type 0} (meaning : S → Algebra V) where
   abbrev pub AllLawful : Type 0
   AllLawful = (s : S) → Lawful (meaning s)
 
-  handled_at : (t : Setup S) (p : PartData S V) (i : Item V) (q : PartData S V) → p.setup ≡ t → HandledItem meaning p i q → HandledItemIn (meaning t.question.algebra) (network_of t) (place_in t) p i q
-  handled_at t p i q e T = subst (λ u. HandledItemIn (meaning u.question.algebra) (network_of u) (place_in u) p i q) e T
+  handled_at : (t : SetupData S) (p : PartData S V) (i : Item V) (q : PartData S V) → p.setup ≡ t → HandledItem meaning p i q → HandledItemIn (meaning t.diffusion.algebra) (network_of t) (place_in t) p i q
+  handled_at t p i q e T = subst (λ u. HandledItemIn (meaning u.diffusion.algebra) (network_of u) (place_in u) p i q) e T
 
   -- ALL PARTS AND MAILBOXES: one part takes one item
-  pub handled_shows : AllLawful → (t : Setup S) → WellFormed (network_of t) → (before after : List (PartData S V)) (p q : PartData S V) (i : Item V) (mail : (ℕ → Item V → ℕ) → ℕ) (c : CoreState V) →
-      Kept (meaning t.question.algebra) (network_of t) 0 c → Represents meaning t (before ++ p ∷ after) mail c → HandledItem meaning p i q →
-      (is_enabled c (event_of i) ≡ true) × Represents meaning t (before ++ q ∷ after) mail (step (meaning t.question.algebra) (network_of t) c (event_of i))
+  pub handled_shows : AllLawful → (t : SetupData S) → WellFormed (network_of t) → (before after : List (PartData S V)) (p q : PartData S V) (i : Item V) (mail : (ℕ → Item V → ℕ) → ℕ) (c : CoreState V) →
+      Kept (meaning t.diffusion.algebra) (network_of t) 0 c → Represents meaning t (before ++ p ∷ after) mail c → HandledItem meaning p i q →
+      (is_enabled c (event_of i) ≡ true) × Represents meaning t (before ++ q ∷ after) mail (step (meaning t.diffusion.algebra) (network_of t) c (event_of i))
   handled_shows L t W before after p q i mail c K H T =
       let all = all_parts (λ (r : PartData S V). r.setup ≡ t) before (p ∷ after) H.same in
-      let R = handled_shown (meaning t.question.algebra) (network_of t) (place_in t) (L t.question.algebra) W before after p q i mail c K H.shown (handled_at t p i q all.1.0 T) in
+      let R = handled_shown (meaning t.diffusion.algebra) (network_of t) (place_in t) (L t.diffusion.algebra) W before after p q i mail c K H.shown (handled_at t p i q all.1.0 T) in
       (R.0, record { same = all_append (λ (r : PartData S V). r.setup ≡ t) before (q ∷ after) all.0 (T.setup ∙ all.1.0, all.1.1); shown = R.1 })
 
   -- ONE PART ALONE: any list of items, for every kept state of which it holds its share
   pub handled_all : AllLawful → (is : List (Item V)) (p q : PartData S V) (c : CoreState V) → WellFormed (network_of p.setup)
-      → Kept (meaning p.setup.question.algebra) (network_of p.setup) 0 c → HoldsShare meaning c p → HandledAll meaning p is q →
+      → Kept (meaning p.setup.diffusion.algebra) (network_of p.setup) 0 c → HoldsShare meaning c p → HandledAll meaning p is q →
       (d : CoreState V) × HoldsShare meaning d q × (q.setup ≡ p.setup) × AllEnabled meaning p.setup c is d
   handled_all L [] p q c W K H e = (c, subst (HoldsShare meaning c) e H, ap (λ r. r.setup) (sym e), refl)
   handled_all L (i ∷ is) p q c W K H (m, T, rest) =
-      let E = handled_event (meaning p.setup.question.algebra) (network_of p.setup) (place_in p.setup) (L p.setup.question.algebra) W c p i m K H T in
-      let c' : CoreState V = step (meaning p.setup.question.algebra) (network_of p.setup) c (event_of i) in
+      let E = handled_event (meaning p.setup.diffusion.algebra) (network_of p.setup) (place_in p.setup) (L p.setup.diffusion.algebra) W c p i m K H T in
+      let c' : CoreState V = step (meaning p.setup.diffusion.algebra) (network_of p.setup) c (event_of i) in
       let s = sym T.setup in
       let W' = subst (λ t. WellFormed (network_of t)) s W in
-      let K' = subst (λ t. Kept (meaning t.question.algebra) (network_of t) 0
-      (step (meaning p.setup.question.algebra) (network_of p.setup) c (event_of i))) s
-      (step_kept (meaning p.setup.question.algebra) (network_of p.setup) (L p.setup.question.algebra) W c (event_of i) K) in
-      let H' : HoldsShare meaning (step (meaning p.setup.question.algebra) (network_of p.setup) c (event_of i)) m = subst
-      (λ t. HoldsShareIn (meaning t.question.algebra) (network_of t) (place_in t)
-      (step (meaning p.setup.question.algebra) (network_of p.setup) c (event_of i)) m) s E.holds in
-      let R = handled_all L is m q (step (meaning p.setup.question.algebra) (network_of p.setup) c (event_of i)) W' K' H' rest in
-      (R.0, R.1, R.2 ∙ T.setup, (E.enabled, subst (λ t. AllEnabled meaning t (step (meaning p.setup.question.algebra) (network_of p.setup) c (event_of i)) is R.0) T.setup R.3))
+      let K' = subst (λ t. Kept (meaning t.diffusion.algebra) (network_of t) 0
+      (step (meaning p.setup.diffusion.algebra) (network_of p.setup) c (event_of i))) s
+      (step_kept (meaning p.setup.diffusion.algebra) (network_of p.setup) (L p.setup.diffusion.algebra) W c (event_of i) K) in
+      let H' : HoldsShare meaning (step (meaning p.setup.diffusion.algebra) (network_of p.setup) c (event_of i)) m = subst
+      (λ t. HoldsShareIn (meaning t.diffusion.algebra) (network_of t) (place_in t)
+      (step (meaning p.setup.diffusion.algebra) (network_of p.setup) c (event_of i)) m) s E.holds in
+      let R = handled_all L is m q (step (meaning p.setup.diffusion.algebra) (network_of p.setup) c (event_of i)) W' K' H' rest in
+      (R.0, R.1, R.2 ∙ T.setup, (E.enabled, subst (λ t. AllEnabled meaning t (step (meaning p.setup.diffusion.algebra) (network_of p.setup) c (event_of i)) is R.0) T.setup R.3))
 
-  pub publish_shows : (t : Setup S) (before after : List (PartData S V)) (p : PartData S V) (to : ℕ) (boxes behind : List (ℕ × List (Item V))) (c : CoreState V) →
+  pub publish_shows : (t : SetupData S) (before after : List (PartData S V)) (p : PartData S V) (to : ℕ) (boxes behind : List (ℕ × List (Item V))) (c : CoreState V) →
       Represents meaning t (before ++ p ∷ after) (mail_weight (boxes ++ (to, []) ∷ behind)) c →
       Represents meaning t (before ++ record p { outs = set p.outs to [] } ∷ after) (mail_weight (boxes ++ (to, get_or p.outs to []) ∷ behind)) c
   publish_shows t before after p to boxes behind c H =
       let all = all_parts (λ (r : PartData S V). r.setup ≡ t) before (p ∷ after) H.same in record {
         same = all_append (λ (r : PartData S V). r.setup ≡ t) before (record p { outs = set p.outs to [] } ∷ after) all.0 (all.1.0, all.1.1);
-        shown = publish_shown (meaning t.question.algebra) (network_of t) (place_in t) before after p to boxes behind c H.shown;
+        shown = publish_shown (meaning t.diffusion.algebra) (network_of t) (place_in t) before after p to boxes behind c H.shown;
       }
 
-  pub receive_shows : (t : Setup S) (before after : List (PartData S V)) (p : PartData S V) (batch : List (Item V)) (boxes behind : List (ℕ × List (Item V))) (c : CoreState V) →
+  pub receive_shows : (t : SetupData S) (before after : List (PartData S V)) (p : PartData S V) (batch : List (Item V)) (boxes behind : List (ℕ × List (Item V))) (c : CoreState V) →
       Represents meaning t (before ++ p ∷ after) (mail_weight (boxes ++ (p.shard, batch) ∷ behind)) c →
       Represents meaning t (before ++ record p { queue = p.queue ++ batch } ∷ after) (mail_weight (boxes ++ (p.shard, []) ∷ behind)) c
   receive_shows t before after p batch boxes behind c H =
       let all = all_parts (λ (r : PartData S V). r.setup ≡ t) before (p ∷ after) H.same in record {
         same = all_append (λ (r : PartData S V). r.setup ≡ t) before (record p { queue = p.queue ++ batch } ∷ after) all.0 (all.1.0, all.1.1);
-        shown = receive_shown (meaning t.question.algebra) (network_of t) (place_in t) before after p batch boxes behind c H.shown;
+        shown = receive_shown (meaning t.diffusion.algebra) (network_of t) (place_in t) before after p batch boxes behind c H.shown;
       }

@@ -5,7 +5,7 @@ use Rattle.path_algebra.specs.Algebra.{Algebra}
 use Rattle.scholten_core.specs.declared.item.Item.{Item}
 use Rattle.scholten_core.specs.Sums.{sum_below, one_if}
 use Rattle.shard_part.specs.Tables.{placed}
-use Rattle.shard_part.specs.PartState.{Setup, network_of, place_in}
+use Rattle.shard_part.specs.PartState.{SetupData, network_of, place_in}
 use Rattle.shard_part.specs.Outgoing.{local_vertices}
 use Rattle.shard_part.specs.Weights.{total}
 use Rattle.shard_part.specs.Capacities.{outbox_bound, queue_bound}
@@ -31,10 +31,10 @@ module _ (w : ShardLayoutData) (P : IsPlanned w.setup w.shard) where
       let a = sum_is capacities C in let b = ap (total (λ n. n)) e in
       let m = queue_bound_first (network_of w.setup) (place_in w.setup) w.shard (place_source w.setup w.shard P ∙ eqb-true (place_in w.setup 0) w.shard (sym f ∙ t)) in omega (arith, a, b, s, m)
 
-module _ {S : Type 0} (t : Setup S) (s : ℕ) where
-  -- the shard of a question, without its algebra
+module _ {S : Type 0} (t : SetupData S) (s : ℕ) where
+  -- the shard of a diffusion, without its algebra
   abbrev pub layout_of : ShardLayoutData
-  layout_of = record { setup = record { question = record { algebra = tt; roads = t.question.roads; source = t.question.source }; plan = t.plan }; shard = s }
+  layout_of = record { setup = record { diffusion = record { algebra = tt; roads = t.diffusion.roads; source = t.diffusion.source }; plan = t.plan }; shard = s }
 
   pub same_place : place_in layout_of.setup ≡ place_in t
   unfolding place_in
@@ -43,7 +43,7 @@ module _ {S : Type 0} (t : Setup S) (s : ℕ) where
   pub planned_too : IsPlanned layout_of.setup s → IsPlanned t s
   planned_too P = record { roads = P.roads; source = P.source; plan = P.plan; covers = P.covers; shard = P.shard }
 
-module _ {S V : Type 0} (A : Algebra V) (t : Setup S) (s : ℕ) (P : IsPlanned (layout_of t s).setup s) (first : Bool) (capacities ys zs ns : List ℕ)
+module _ {S V : Type 0} (A : Algebra V) (t : SetupData S) (s : ℕ) (P : IsPlanned (layout_of t s).setup s) (first : Bool) (capacities ys zs ns : List ℕ)
     (sum sent : ℕ) (rows : Rows V) (queue : Buffer (Item V)) (outs : List (List (Item V)))
     (F : first ≡ is_first (layout_of t s).setup s) (R : AreIdle (layout_of t s) rows)
     (C : CountsAll (layout_of t s) capacities) (Y : ys ≡ capacities) (T : sum ≡ total (λ n. n) ys) (Q : queue ≡ buffer (first_items A first) sum)
@@ -53,7 +53,7 @@ module _ {S V : Type 0} (A : Algebra V) (t : Setup S) (s : ℕ) (P : IsPlanned (
   first_too = F ∙ ap (λ f. eqb (f 0) s) (same_place t s)
 
   own_too : local_vertices (layout_of t s).setup s ≡ local_vertices t s
-  own_too = ap (λ f. 0 ∷ placed f s 1 t.question.roads.vertices) (same_place t s)
+  own_too = ap (λ f. 0 ∷ placed f s 1 t.diffusion.roads.vertices) (same_place t s)
 
   starts_too : AreOffsets (network_of t) (local_vertices t s) R.offsets R.arcs
   starts_too = subst (λ os. AreOffsets (network_of t) os R.offsets R.arcs) own_too R.starts

@@ -17,7 +17,7 @@ use Rattle.scholten_core.proofs.Kept.{Kept, step_kept, run_kept}
 use Rattle.scholten_core.proofs.Ended.{opening_kept}
 use Rattle.scholten_core.proofs.Counts.{accounts}
 use Rattle.shard_part.specs.Tallies.{counted_on, top}
-use Rattle.shard_part.specs.PartState.{PartData, Setup, network_of, place_in, state_in, event_of}
+use Rattle.shard_part.specs.PartState.{PartData, SetupData, network_of, place_in, state_in, event_of}
 use Rattle.shard_part.specs.Weights.{total, message_weight, signal_weight, in_flight, part_weight}
 use Rattle.shard_part.specs.Handling.{made, HandledItemIn, HandledAll}
 use Rattle.shard_part.specs.Represents.{HoldsShareIn, HoldsShare}
@@ -87,25 +87,25 @@ module _ {S V : Type 0} (A : Algebra V) (N : Network) (place : ℕ → ℕ) wher
 
 module _ {S V : Type 0} (meaning : S → Algebra V) where
   -- items taken one after the other, as events of c
-  pub record Runs (t : Setup S) (c : CoreState V) (items : List (Item V)) (p q : PartData S V) : Type 0 where
-    pub enabled : count_enabled (meaning t.question.algebra) (network_of t) c (map event_of items) ≡ length items
-    pub holds : HoldsShareIn (meaning t.question.algebra) (network_of t) (place_in t) (run_from (meaning t.question.algebra) (network_of t) c (map event_of items)) q
+  pub record Runs (t : SetupData S) (c : CoreState V) (items : List (Item V)) (p q : PartData S V) : Type 0 where
+    pub enabled : count_enabled (meaning t.diffusion.algebra) (network_of t) c (map event_of items) ≡ length items
+    pub holds : HoldsShareIn (meaning t.diffusion.algebra) (network_of t) (place_in t) (run_from (meaning t.diffusion.algebra) (network_of t) c (map event_of items)) q
     pub setup : q.setup ≡ t
     pub weighs : (h : ℕ → Item V → ℕ) → part_weight h q + in_flight (network_of t) (place_in t) c h
-        ≡ part_weight h p + in_flight (network_of t) (place_in t) (run_from (meaning t.question.algebra) (network_of t) c (map event_of items)) h
-    pub sent : q.sent ≡ counted_on (sent_total (meaning t.question.algebra) (network_of t) c (map event_of items)) p.sent
-    pub delivered : q.delivered ≡ counted_on (delivered_total (meaning t.question.algebra) (network_of t) c (map event_of items)) p.delivered
-    pub signalled : q.signalled ≡ counted_on (signalled_total (meaning t.question.algebra) (network_of t) c (map event_of items)) p.signalled
-    pub accepted : q.accepted ≡ counted_on (accepted_total (meaning t.question.algebra) (network_of t) c (map event_of items)) p.accepted
+        ≡ part_weight h p + in_flight (network_of t) (place_in t) (run_from (meaning t.diffusion.algebra) (network_of t) c (map event_of items)) h
+    pub sent : q.sent ≡ counted_on (sent_total (meaning t.diffusion.algebra) (network_of t) c (map event_of items)) p.sent
+    pub delivered : q.delivered ≡ counted_on (delivered_total (meaning t.diffusion.algebra) (network_of t) c (map event_of items)) p.delivered
+    pub signalled : q.signalled ≡ counted_on (signalled_total (meaning t.diffusion.algebra) (network_of t) c (map event_of items)) p.signalled
+    pub accepted : q.accepted ≡ counted_on (accepted_total (meaning t.diffusion.algebra) (network_of t) c (map event_of items)) p.accepted
 
   -- a counter after one item and then others
   counter : (k l j a n m : ℕ) → n ≡ counted_on k a → k ≡ l → m ≡ counted_on j n → m ≡ counted_on (l + j) a
   counter k l j a n m p e q = q ∙ ap (counted_on j) (p ∙ ap (λ z. counted_on z a) e) ∙ counted_more l j a
 
-  pub runs : (t : Setup S) → Lawful (meaning t.question.algebra) → WellFormed (network_of t)
+  pub runs : (t : SetupData S) → Lawful (meaning t.diffusion.algebra) → WellFormed (network_of t)
       → (items : List (Item V)) (p q : PartData S V) (c : CoreState V) → p.setup ≡ t → IsTallied p
-      → Kept (meaning t.question.algebra) (network_of t) 0 c →
-      HoldsShareIn (meaning t.question.algebra) (network_of t) (place_in t) c p → HandledAll meaning p items q → Runs t c items p q
+      → Kept (meaning t.diffusion.algebra) (network_of t) 0 c →
+      HoldsShareIn (meaning t.diffusion.algebra) (network_of t) (place_in t) c p → HandledAll meaning p items q → Runs t c items p q
   runs t L W [] p q c e y K H s = subst (Runs t c [] p) s (record {
     enabled = refl;
     holds = H;
@@ -117,9 +117,9 @@ module _ {S V : Type 0} (meaning : S → Algebra V) where
     accepted = sym (counted_none p.accepted y.3);
   })
   runs t L W (i ∷ is) p q c e y K H (m, T, rest) =
-      let A = meaning t.question.algebra in
+      let A = meaning t.diffusion.algebra in
       let N = network_of t in
-      let handled_in : HandledItemIn (meaning t.question.algebra) (network_of t) (place_in t) p i m = subst (λ u. HandledItemIn (meaning u.question.algebra) (network_of u) (place_in u) p i m) e T in
+      let handled_in : HandledItemIn (meaning t.diffusion.algebra) (network_of t) (place_in t) p i m = subst (λ u. HandledItemIn (meaning u.diffusion.algebra) (network_of u) (place_in u) p i m) e T in
       let E = handled_event A N (place_in t) L W c p i m K H handled_in in
       let C = counts A N (place_in t) L W c p i m K H handled_in in
       let below : IsTallied m = (
@@ -141,11 +141,11 @@ module _ {S V : Type 0} (meaning : S → Algebra V) where
       }
 
   -- on the state after some events
-  pub run_on : (events : List Event) (p q : PartData S V) (n : ℕ) (items : List (Item V)) → Lawful (meaning p.setup.question.algebra)
+  pub run_on : (events : List Event) (p q : PartData S V) (n : ℕ) (items : List (Item V)) → Lawful (meaning p.setup.diffusion.algebra)
       → WellFormed (network_of p.setup) → IsTallied p → length items ≡ n → HandledAll meaning p items q →
-      HoldsShare meaning (state_after (meaning p.setup.question.algebra) (network_of p.setup) events) p → IsRunOn meaning events p n q
+      HoldsShare meaning (state_after (meaning p.setup.diffusion.algebra) (network_of p.setup) events) p → IsRunOn meaning events p n q
   run_on events p q n items L W y l T H =
-      let A = meaning p.setup.question.algebra in
+      let A = meaning p.setup.diffusion.algebra in
       let N = network_of p.setup in
       let R = runs p.setup L W items p q (state_after A N events) refl y (run_kept A N L W (opening A N) events (opening_kept A N W)) H T in
       record {
@@ -153,7 +153,7 @@ module _ {S V : Type 0} (meaning : S → Algebra V) where
         count = l;
         handled = T;
         enabled = R.enabled ∙ l;
-        holds = subst (λ t. HoldsShareIn (meaning t.question.algebra) (network_of t) (place_in t) (state_after A N (events ++ map event_of items)) q) (sym R.setup)
+        holds = subst (λ t. HoldsShareIn (meaning t.diffusion.algebra) (network_of t) (place_in t) (state_after A N (events ++ map event_of items)) q) (sym R.setup)
             (subst (λ d. HoldsShareIn A N (place_in p.setup) d q) (sym (run_append A N (opening A N) events (map event_of items))) R.holds);
         weighs = subst (λ d. (h : ℕ → Item V → ℕ) → part_weight h q + in_flight N (place_in p.setup) (state_after A N events) h
             ≡ part_weight h p + in_flight N (place_in p.setup) d h) (sym (run_append A N (opening A N) events (map event_of items))) R.weighs;
@@ -165,8 +165,8 @@ module _ {S V : Type 0} (meaning : S → Algebra V) where
 
   -- one item more at the end
   pub handled_more : (items : List (Item V)) (i : Item V) (p m q : PartData S V) → HandledAll meaning p items m
-      → HandledItemIn (meaning m.setup.question.algebra) (network_of m.setup) (place_in m.setup) m i q → HandledAll meaning p (items ++ i ∷ []) q
-  handled_more [] i p m q e T = (q, subst (λ (u : PartData S V). HandledItemIn (meaning u.setup.question.algebra) (network_of u.setup) (place_in u.setup) u i q) (sym e) T, refl)
+      → HandledItemIn (meaning m.setup.diffusion.algebra) (network_of m.setup) (place_in m.setup) m i q → HandledAll meaning p (items ++ i ∷ []) q
+  handled_more [] i p m q e T = (q, subst (λ (u : PartData S V). HandledItemIn (meaning u.setup.diffusion.algebra) (network_of u.setup) (place_in u.setup) u i q) (sym e) T, refl)
   handled_more (j ∷ items) i p m q (u, S1, rest) T = (u, S1, handled_more items i u m q rest T)
 
   -- what many items leave
@@ -182,8 +182,8 @@ module _ {S V : Type 0} (meaning : S → Algebra V) where
   handled_many_same p q n (items, l, T) = handled_same items p q T
 
   -- many items of a part, on the state after some events
-  pub many_run : (state p q : PartData S V) (a : S) (n : ℕ) → state ≡ p → a ≡ state.setup.question.algebra → Lawful (meaning a)
+  pub many_run : (state p q : PartData S V) (a : S) (n : ℕ) → state ≡ p → a ≡ state.setup.diffusion.algebra → Lawful (meaning a)
       → WellFormed (network_of state.setup) → IsTallied state → HandledMany meaning p n q →
-      (events : List Event) → HoldsShare meaning (state_after (meaning p.setup.question.algebra) (network_of p.setup) events) p → IsRunOn meaning events p n q
-  many_run state p q a n e l L W y (items, count, T) events H = run_on events p q n items (subst (λ z. Lawful (meaning z)) (l ∙ ap (λ (u : PartData S V). u.setup.question.algebra) e) L)
+      (events : List Event) → HoldsShare meaning (state_after (meaning p.setup.diffusion.algebra) (network_of p.setup) events) p → IsRunOn meaning events p n q
+  many_run state p q a n e l L W y (items, count, T) events H = run_on events p q n items (subst (λ z. Lawful (meaning z)) (l ∙ ap (λ (u : PartData S V). u.setup.diffusion.algebra) e) L)
       (subst (λ (u : PartData S V). WellFormed (network_of u.setup)) e W) (subst IsTallied e y) count T H

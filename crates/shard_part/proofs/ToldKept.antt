@@ -6,7 +6,7 @@ use Rattle.path_algebra.specs.Algebra.{IsLawful as Lawful}
 use Rattle.scholten_core.specs.Network.{WellFormed}
 use Rattle.scholten_core.specs.Diffusion.{is_idle}
 use Rattle.scholten_core.proofs.Basics.{idle-true}
-use Rattle.shard_part.specs.PartState.{PartData, Setup, network_of, place_in, state_in, mine}
+use Rattle.shard_part.specs.PartState.{PartData, SetupData, network_of, place_in, state_in, mine}
 use Rattle.shard_part.specs.Handling.{taken, HandledItem, HandledItemIn}
 use Rattle.shard_part.specs.Moves.{Rows, RepInvariant, IsPlanned, IsPopped, with_taken}
 use Rattle.shard_part.specs.Part.{OwnIdleIsTold}
@@ -33,8 +33,8 @@ pub untold : {S V : Type 0} (p : PartData S V) → ((v : ℕ) → (state_in p).l
 untold p labels told b h n i = told b ∙ sym (labels ((network_of p.setup).tail b))
 
 -- so of every part that was opened
-pub opened_told : {S V : Type 0} (A : Algebra V) (p : PartData S V) (t : Setup S) (s : ℕ) → p ≡ opened_part A t s → OwnIdleIsTold p
-opened_told A p t s e = subst OwnIdleIsTold (sym e) (untold (opened_part A t s) (λ v. reads_same (suc t.question.roads.vertices) None v) (λ b. reads_same (suc (length t.question.roads.arcs)) None b))
+pub opened_told : {S V : Type 0} (A : Algebra V) (p : PartData S V) (t : SetupData S) (s : ℕ) → p ≡ opened_part A t s → OwnIdleIsTold p
+opened_told A p t s e = subst OwnIdleIsTold (sym e) (untold (opened_part A t s) (λ v. reads_same (suc t.diffusion.roads.vertices) None v) (λ b. reads_same (suc (length t.diffusion.roads.arcs)) None b))
 
 -- of a part whose front item was taken off the queue and handled
 module _ {S V : Type 0} (meaning : S → Algebra V) where
@@ -42,13 +42,13 @@ module _ {S V : Type 0} (meaning : S → Algebra V) where
   stored_formed p old r n ns e D = subst (λ (u : PartData S V). WellFormed (network_of u.setup)) e (formed p p.shard D.planned)
 
   pub front_taken : (p old m q : PartData S V) (r : Rows V) (n : ℕ) (ns : List ℕ) (i : Item V) → p ≡ old → RepInvariant p r n ns
-      → Lawful (meaning p.setup.question.algebra) → IsPopped old m i → q ≡ with_taken (meaning old.setup.question.algebra) i m → OwnIdleIsTold old →
+      → Lawful (meaning p.setup.diffusion.algebra) → IsPopped old m i → q ≡ with_taken (meaning old.setup.diffusion.algebra) i m → OwnIdleIsTold old →
       HandledItem meaning old i q
-  front_taken p old m q r n ns i e D L O w T = popped_taken (meaning old.setup.question.algebra) (subst (λ (u : PartData S V). Lawful (meaning u.setup.question.algebra)) e L) old m q i
+  front_taken p old m q r n ns i e D L O w T = popped_taken (meaning old.setup.diffusion.algebra) (subst (λ (u : PartData S V). Lawful (meaning u.setup.diffusion.algebra)) e L) old m q i
       (subst (λ (u : PartData S V). IsPlanned u.setup u.shard) e D.planned) (subst IsFit e (stored_fit p r n ns D)) T O w
 
   pub front_told : (p old m q : PartData S V) (r : Rows V) (n : ℕ) (ns : List ℕ) (i : Item V) → p ≡ old → RepInvariant p r n ns
-      → Lawful (meaning p.setup.question.algebra) → IsPopped old m i → q ≡ with_taken (meaning old.setup.question.algebra) i m → OwnIdleIsTold old →
+      → Lawful (meaning p.setup.diffusion.algebra) → IsPopped old m i → q ≡ with_taken (meaning old.setup.diffusion.algebra) i m → OwnIdleIsTold old →
       OwnIdleIsTold q
-  front_told p old m q r n ns i e D L O w T = told_kept (meaning old.setup.question.algebra) (subst (λ (u : PartData S V). Lawful (meaning u.setup.question.algebra)) e L) old i q
+  front_told p old m q r n ns i e D L O w T = told_kept (meaning old.setup.diffusion.algebra) (subst (λ (u : PartData S V). Lawful (meaning u.setup.diffusion.algebra)) e L) old i q
       (stored_formed p old r n ns e D) T (front_taken p old m q r n ns i e D L O w T)

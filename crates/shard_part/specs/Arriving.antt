@@ -2,14 +2,14 @@
 use Rattle.std.specs.Prelude.{◌≡◌, ℕ, ◌+◌, ◌≤◌, List, ◌++◌, length}
 use Rattle.scholten_core.specs.declared.item.Item.{Item}
 use Rattle.path_algebra.specs.Algebra.{Algebra}
-use Rattle.shard_part.specs.PartState.{PartData, Setup, network_of, place_in, maker_of}
+use Rattle.shard_part.specs.PartState.{PartData, SetupData, network_of, place_in, maker_of}
 use Rattle.shard_part.specs.Weights.{All}
 use Rattle.shard_part.specs.Capacities.{queue_bound}
 use Rattle.shard_part.specs.Exchange.{Fits}
 
 module _ {S V : Type 0} where
   -- each item was made in the shard j
-  abbrev pub MadeAt : Setup S → ℕ → List (Item V) → Type 0
+  abbrev pub MadeAt : SetupData S → ℕ → List (Item V) → Type 0
   MadeAt t j xs = All (λ i. place_in t (maker_of (network_of t) i) ≡ j) xs
 
   -- the part with a batch at the back of its queue
@@ -18,4 +18,4 @@ module _ {S V : Type 0} where
 
   -- the part may receive the batch: it has room, and the batch fits
   abbrev pub MayReceive : (S → Algebra V) → PartData S V → List (Item V) → Type 0
-  MayReceive meaning p xs = (length p.queue + length xs ≤ queue_bound (network_of p.setup) (place_in p.setup) p.shard) × Fits (meaning p.setup.question.algebra) p xs
+  MayReceive meaning p xs = (length p.queue + length xs ≤ queue_bound (network_of p.setup) (place_in p.setup) p.shard) × Fits (meaning p.setup.diffusion.algebra) p xs

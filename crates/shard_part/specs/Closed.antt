@@ -1,4 +1,4 @@
--- What is left of a part whose question is over.
+-- What is left of a part whose diffusion is over.
 use Rattle.std.specs.Prelude.{◌≡◌, ℕ, Option, List}
 use Rattle.shard_part.specs.declared.tally.Tally.{Tally}
 use Rattle.shard_part.specs.PartState.{PartData}

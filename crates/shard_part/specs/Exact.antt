@@ -7,7 +7,7 @@ use Rattle.scholten_core.specs.Network.{Network}
 use Rattle.scholten_core.specs.Diffusion.{CoreState, run_from}
 use Rattle.scholten_core.specs.Accounts.{Totals, sent_total, delivered_total, signalled_total, accepted_total}
 use Rattle.shard_part.specs.Tallies.{top}
-use Rattle.shard_part.specs.PartState.{PartData, Setup, network_of, state_in, event_of}
+use Rattle.shard_part.specs.PartState.{PartData, SetupData, network_of, state_in, event_of}
 use Rattle.shard_part.specs.Weights.{total, message_weight, signal_weight}
 use Rattle.shard_part.specs.Handling.{made, HandledAll}
 use Rattle.shard_part.specs.Represents.{Represents}
@@ -34,9 +34,9 @@ module _ {S V : Type 0} (meaning : S → Algebra V) where
   unfoldable pub done_by : (items : List (Item V)) (p q : PartData S V) → HandledAll meaning p items q → Totals
   done_by [] p q e = no_totals
   done_by (i ∷ is) p q (m, T, rest) =
-      plus (record { sent = total message_weight (made (meaning p.setup.question.algebra) (network_of p.setup) i (state_in p)); delivered = message_weight i; signalled = total signal_weight (made (meaning p.setup.question.algebra) (network_of p.setup) i (state_in p)); accepted = signal_weight i }) (done_by is m q rest)
+      plus (record { sent = total message_weight (made (meaning p.setup.diffusion.algebra) (network_of p.setup) i (state_in p)); delivered = message_weight i; signalled = total signal_weight (made (meaning p.setup.diffusion.algebra) (network_of p.setup) i (state_in p)); accepted = signal_weight i }) (done_by is m q rest)
 
   -- parts and mailboxes represent the state after the events of the items, and n is what these events do
-  pub record RepresentsMoved (t : Setup S) (c : CoreState V) (items : List (Item V)) (parts : List (PartData S V)) (mail : (ℕ → Item V → ℕ) → ℕ) (n : Totals) : Type 0 where
-    pub shown : Represents meaning t parts mail (run_from (meaning t.question.algebra) (network_of t) c (map event_of items))
-    pub did : n ≡ totals_from (meaning t.question.algebra) (network_of t) c (map event_of items)
+  pub record RepresentsMoved (t : SetupData S) (c : CoreState V) (items : List (Item V)) (parts : List (PartData S V)) (mail : (ℕ → Item V → ℕ) → ℕ) (n : Totals) : Type 0 where
+    pub shown : Represents meaning t parts mail (run_from (meaning t.diffusion.algebra) (network_of t) c (map event_of items))
+    pub did : n ≡ totals_from (meaning t.diffusion.algebra) (network_of t) c (map event_of items)

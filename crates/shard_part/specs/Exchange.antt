@@ -19,8 +19,8 @@ Awaits p a = (place_in p.setup ((network_of p.setup).tail a) ≡ p.shard) × (pl
 module _ {S V : Type 0} (A : Algebra V) (p : PartData S V) where
   -- a message brings a value along an arc of the graph that may engage here, a signal comes back on one that awaits it
   abbrev pub FitsAlone : Item V → Type 0
-  FitsAlone (MessageOn a x) = IsTrue (A.is_value x) × HasArc p.setup.question.roads a × MayEngage p a
-  FitsAlone (SignalOn a) = HasArc p.setup.question.roads a × Awaits p a
+  FitsAlone (MessageOn a x) = IsTrue (A.is_value x) × HasArc p.setup.diffusion.roads a × MayEngage p a
+  FitsAlone (SignalOn a) = HasArc p.setup.diffusion.roads a × Awaits p a
 
   -- the item is alone on its arc among those after it and those of the part, and may be received by itself
   abbrev pub FitsBefore : Item V → List (Item V) → Type 0

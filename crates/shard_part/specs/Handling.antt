@@ -32,7 +32,7 @@ module _ {V : Type 0} (A : Algebra V) (N : Network) where
   abbrev pub settle_here : ℕ → CoreState V → CoreState V
   settle_here v d = rest_here v (pump A N v d) (d.engager v) (out_idle A N v (pump A N v d))
 
-  -- the same after a signal; one on arc 0 ends the question, and nothing follows
+  -- the same after a signal; one on arc 0 ends the diffusion, and nothing follows
   abbrev pub settle_tail_here : ℕ → ℕ → CoreState V → CoreState V
   settle_tail_here zero v d = d
   settle_tail_here (suc a) v d = settle_here v d
@@ -82,7 +82,7 @@ module _ {S V : Type 0} (A : Algebra V) (N : Network) (place : ℕ → ℕ) wher
 module _ {S V : Type 0} (meaning : S → Algebra V) where
   -- the part p takes the item i and becomes q
   abbrev pub HandledItem : PartData S V → Item V → PartData S V → Type 0
-  HandledItem p i q = HandledItemIn (meaning p.setup.question.algebra) (network_of p.setup) (place_in p.setup) p i q
+  HandledItem p i q = HandledItemIn (meaning p.setup.diffusion.algebra) (network_of p.setup) (place_in p.setup) p i q
 
   -- a list of items, one after the other
   abbrev pub HandledAll : PartData S V → List (Item V) → PartData S V → Type 0

@@ -10,7 +10,7 @@ use Rattle.shard_part.specs.Plans.{IsPlan}
 use Rattle.shard_part.specs.Tallies.{counted_on, top}
 use Rattle.shard_part.specs.Tables.{scatter}
 use Rattle.scholten_core.specs.Deficit.{busy_out}
-use Rattle.shard_part.specs.PartState.{PartData, Setup, network_of, place_in, state_in, IsArc, vertex_of}
+use Rattle.shard_part.specs.PartState.{PartData, SetupData, network_of, place_in, state_in, IsArc, vertex_of}
 use Rattle.shard_part.specs.Weights.{channels_of}
 use Rattle.shard_part.specs.Outgoing.{local_vertices, arcs_out, outgoing}
 use Rattle.shard_part.specs.Handling.{route}
@@ -32,14 +32,14 @@ abbrev pub rows_of : {V : Type 0} → Tables V → Rows V
 rows_of t = record { own = t.own; offsets = t.vertices.offsets; labels = t.vertices.labels; engagers = t.vertices.engagers; deficits = t.vertices.deficits; busy = t.arcs.busy; told = t.arcs.told }
 
 -- the part that the tables and rings of a shard are seen as: each value is at the number that it belongs to
-abbrev pub abstraction : {S V : Type 0} → Setup S → ℕ → Rows V → List (Item V) → List (List (Item V)) → ℕ → ℕ → ℕ → ℕ → PartData S V
+abbrev pub abstraction : {S V : Type 0} → SetupData S → ℕ → Rows V → List (Item V) → List (List (Item V)) → ℕ → ℕ → ℕ → ℕ → PartData S V
 abstraction t s r queue outs sent delivered signalled accepted = record {
   setup = t;
   shard = s;
-  labels = scatter (local_vertices t s) r.labels None (suc t.question.roads.vertices);
-  engagers = scatter (local_vertices t s) r.engagers None (suc t.question.roads.vertices);
-  busy = scatter (arcs_out (network_of t) (local_vertices t s)) r.busy false (suc (length t.question.roads.arcs));
-  told = scatter (arcs_out (network_of t) (local_vertices t s)) r.told None (suc (length t.question.roads.arcs));
+  labels = scatter (local_vertices t s) r.labels None (suc t.diffusion.roads.vertices);
+  engagers = scatter (local_vertices t s) r.engagers None (suc t.diffusion.roads.vertices);
+  busy = scatter (arcs_out (network_of t) (local_vertices t s)) r.busy false (suc (length t.diffusion.roads.arcs));
+  told = scatter (arcs_out (network_of t) (local_vertices t s)) r.told None (suc (length t.diffusion.roads.arcs));
   queue = queue;
   outs = outs;
   sent = sent;
@@ -61,17 +61,17 @@ pub record AreRowsSized {S V : Type 0} (p : PartData S V) (r : Rows V) : Type 0 
 
 -- the part is seen as these rows
 pub record IsSeen {S V : Type 0} (p : PartData S V) (r : Rows V) : Type 0 where
-  pub labels : p.labels ≡ scatter (local_vertices p.setup p.shard) r.labels None (suc p.setup.question.roads.vertices)
-  pub engagers : p.engagers ≡ scatter (local_vertices p.setup p.shard) r.engagers None (suc p.setup.question.roads.vertices)
-  pub busy : p.busy ≡ scatter (arcs_out (network_of p.setup) (local_vertices p.setup p.shard)) r.busy false (suc (length p.setup.question.roads.arcs))
-  pub told : p.told ≡ scatter (arcs_out (network_of p.setup) (local_vertices p.setup p.shard)) r.told None (suc (length p.setup.question.roads.arcs))
+  pub labels : p.labels ≡ scatter (local_vertices p.setup p.shard) r.labels None (suc p.setup.diffusion.roads.vertices)
+  pub engagers : p.engagers ≡ scatter (local_vertices p.setup p.shard) r.engagers None (suc p.setup.diffusion.roads.vertices)
+  pub busy : p.busy ≡ scatter (arcs_out (network_of p.setup) (local_vertices p.setup p.shard)) r.busy false (suc (length p.setup.diffusion.roads.arcs))
+  pub told : p.told ≡ scatter (arcs_out (network_of p.setup) (local_vertices p.setup p.shard)) r.told None (suc (length p.setup.diffusion.roads.arcs))
 
 -- the plan is for the graph and has the shard, and the source is a vertex of the graph
-pub record IsPlanned {S : Type 0} (t : Setup S) (s : ℕ) : Type 0 where
-  pub roads : IsGraph t.question.roads
-  pub source : HasVertex t.question.roads t.question.source
+pub record IsPlanned {S : Type 0} (t : SetupData S) (s : ℕ) : Type 0 where
+  pub roads : IsGraph t.diffusion.roads
+  pub source : HasVertex t.diffusion.roads t.diffusion.source
   pub plan : IsPlan t.plan
-  pub covers : length t.plan.list ≡ t.question.roads.vertices
+  pub covers : length t.plan.list ≡ t.diffusion.roads.vertices
   pub shard : s < t.plan.shards
 
 -- the queue has a place for every arc with an end in the shard, each outbox one for every arc between the two shards
@@ -84,7 +84,7 @@ pub record IsRoomy {S V : Type 0} (p : PartData S V) (queue_capacity : ℕ) (out
 -- the deficit of a vertex is the number of busy arcs out of it
 abbrev pub AreRowDeficits : {S V : Type 0} → PartData S V → Rows V → Type 0
 AreRowDeficits p r = (j : ℕ) → j < length (local_vertices p.setup p.shard) →
-    get_or r.deficits j 0 ≡ busy_out (network_of p.setup) (get_or (local_vertices p.setup p.shard) j 0) (state_in p) (suc (length p.setup.question.roads.arcs))
+    get_or r.deficits j 0 ≡ busy_out (network_of p.setup) (get_or (local_vertices p.setup p.shard) j 0) (state_in p) (suc (length p.setup.diffusion.roads.arcs))
 
 -- no counter is past its top
 abbrev pub IsTallied : {S V : Type 0} → PartData S V → Type 0

@@ -6,30 +6,30 @@ use Rattle.path_algebra.specs.Algebra.{Algebra}
 use Rattle.scholten_core.specs.Network.{Network}
 use Rattle.scholten_core.specs.Sums.{one_if}
 use Rattle.shard_part.specs.declared.store.layout.Extent.{Extent}
-use Rattle.shard_part.specs.PartState.{Setup, PartData, place_in, network_of}
+use Rattle.shard_part.specs.PartState.{SetupData, PartData, place_in, network_of}
 use Rattle.shard_part.specs.Outgoing.{local_vertices, arcs_out, outgoing}
 use Rattle.shard_part.specs.Weights.{total, is}
 use Rattle.shard_part.specs.Capacities.{outbox_bound}
 use Rattle.shard_part.specs.Moves.{Rows}
 
 -- the source's part is the environment's too
-abbrev pub is_first : {S : Type 0} → Setup S → ℕ → Bool
+abbrev pub is_first : {S : Type 0} → SetupData S → ℕ → Bool
 is_first t s = eqb (place_in t 0) s
 
--- the message with which a question begins, at the source's part
+-- the message with which a diffusion begins, at the source's part
 abbrev pub first_items : {V : Type 0} → Algebra V → Bool → List (Item V)
 first_items A true = MessageOn 0 A.origin ∷ []
 first_items A false = []
 
 -- a part as it is opened: no label, no engager, no arc offered a label, every arc idle but arc 0, and nothing on the way but its message
-abbrev pub opened_part : {S V : Type 0} → Algebra V → Setup S → ℕ → PartData S V
+abbrev pub opened_part : {S V : Type 0} → Algebra V → SetupData S → ℕ → PartData S V
 opened_part A t s = record {
   setup = t;
   shard = s;
-  labels = replicate (suc t.question.roads.vertices) None;
-  engagers = replicate (suc t.question.roads.vertices) None;
-  busy = set (replicate (suc (length t.question.roads.arcs)) false) 0 (is_first t s);
-  told = replicate (suc (length t.question.roads.arcs)) None;
+  labels = replicate (suc t.diffusion.roads.vertices) None;
+  engagers = replicate (suc t.diffusion.roads.vertices) None;
+  busy = set (replicate (suc (length t.diffusion.roads.arcs)) false) 0 (is_first t s);
+  told = replicate (suc (length t.diffusion.roads.arcs)) None;
   queue = first_items A (is_first t s);
   outs = replicate t.plan.shards [];
   sent = one_if (is_first t s);
@@ -39,13 +39,13 @@ opened_part A t s = record {
 }
 
 -- the parts of the shards k, k + 1, .., k + n - 1 as they are opened
-abbrev pub opened_parts : {S V : Type 0} → Algebra V → Setup S → ℕ → ℕ → List (PartData S V)
+abbrev pub opened_parts : {S V : Type 0} → Algebra V → SetupData S → ℕ → ℕ → List (PartData S V)
 opened_parts A t k zero = []
 opened_parts A t k (suc n) = opened_part A t k ∷ opened_parts A t (suc k) n
 
--- a shard of a question, whatever its algebra
+-- a shard of a diffusion, whatever its algebra
 pub record ShardLayoutData : Type 0 where
-  pub setup : Setup (Unit {0})
+  pub setup : SetupData (Unit {0})
   pub shard : ℕ
 
 -- the first and the last vertex of an ascending list, 1 and 0 if it is empty, and how many it has

@@ -2,7 +2,7 @@
 use Rattle.std.specs.Prelude.{ℕ, zero, suc, cond, eqb, List, [], ◌∷◌, ◌++◌}
 use Rattle.scholten_core.specs.Network.{Network}
 use Rattle.shard_part.specs.Tables.{placed}
-use Rattle.shard_part.specs.PartState.{Setup, place_in}
+use Rattle.shard_part.specs.PartState.{SetupData, place_in}
 
 module _ (N : Network) where
   -- of the numbers k, k + 1, .., k + n - 1, the arcs out of v
@@ -15,8 +15,8 @@ module _ (N : Network) where
   outgoing v = arcs_from v 0 (suc N.arcs)
 
 -- the vertices of a shard, ascending; the environment comes first in each
-abbrev pub local_vertices : {S : Type 0} → Setup S → ℕ → List ℕ
-local_vertices t s = 0 ∷ placed (place_in t) s 1 t.question.roads.vertices
+abbrev pub local_vertices : {S : Type 0} → SetupData S → ℕ → List ℕ
+local_vertices t s = 0 ∷ placed (place_in t) s 1 t.diffusion.roads.vertices
 
 -- the arcs out of the vertices of a list, one vertex after the other
 unfoldable pub arcs_out : Network → List ℕ → List ℕ

@@ -7,7 +7,7 @@ use Rattle.path_algebra.specs.Algebra.{Algebra}
 use Rattle.scholten_core.specs.Diffusion.{state_after, count_enabled}
 use Rattle.scholten_core.specs.Accounts.{sent_total, delivered_total, signalled_total, accepted_total}
 use Rattle.shard_part.specs.Tallies.{counted_on}
-use Rattle.shard_part.specs.PartState.{PartData, Setup, network_of, place_in, state_in, event_of}
+use Rattle.shard_part.specs.PartState.{PartData, SetupData, network_of, place_in, state_in, event_of}
 use Rattle.shard_part.specs.Weights.{in_flight, part_weight}
 use Rattle.shard_part.specs.Handling.{HandledItem, HandledAll}
 use Rattle.shard_part.specs.Represents.{HoldsShare, Represents}
@@ -33,18 +33,18 @@ module _ {S V : Type 0} (meaning : S → Algebra V) where
     pub items : List (Item V)
     pub count : length items ≡ n
     pub handled : HandledAll meaning p items q
-    pub enabled : count_enabled (meaning p.setup.question.algebra) (network_of p.setup) (state_after (meaning p.setup.question.algebra) (network_of p.setup) events) (map event_of items) ≡ n
-    pub holds : HoldsShare meaning (state_after (meaning p.setup.question.algebra) (network_of p.setup) (events ++ map event_of items)) q
-    pub weighs : (h : ℕ → Item V → ℕ) → part_weight h q + in_flight (network_of p.setup) (place_in p.setup) (state_after (meaning p.setup.question.algebra) (network_of p.setup) events) h
-        ≡ part_weight h p + in_flight (network_of p.setup) (place_in p.setup) (state_after (meaning p.setup.question.algebra) (network_of p.setup) (events ++ map event_of items)) h
-    pub sent : q.sent ≡ counted_on (sent_total (meaning p.setup.question.algebra) (network_of p.setup) (state_after (meaning p.setup.question.algebra) (network_of p.setup) events) (map event_of items)) p.sent
-    pub delivered : q.delivered ≡ counted_on (delivered_total (meaning p.setup.question.algebra) (network_of p.setup) (state_after (meaning p.setup.question.algebra) (network_of p.setup) events) (map event_of items)) p.delivered
-    pub signalled : q.signalled ≡ counted_on (signalled_total (meaning p.setup.question.algebra) (network_of p.setup) (state_after (meaning p.setup.question.algebra) (network_of p.setup) events) (map event_of items)) p.signalled
-    pub accepted : q.accepted ≡ counted_on (accepted_total (meaning p.setup.question.algebra) (network_of p.setup) (state_after (meaning p.setup.question.algebra) (network_of p.setup) events) (map event_of items)) p.accepted
+    pub enabled : count_enabled (meaning p.setup.diffusion.algebra) (network_of p.setup) (state_after (meaning p.setup.diffusion.algebra) (network_of p.setup) events) (map event_of items) ≡ n
+    pub holds : HoldsShare meaning (state_after (meaning p.setup.diffusion.algebra) (network_of p.setup) (events ++ map event_of items)) q
+    pub weighs : (h : ℕ → Item V → ℕ) → part_weight h q + in_flight (network_of p.setup) (place_in p.setup) (state_after (meaning p.setup.diffusion.algebra) (network_of p.setup) events) h
+        ≡ part_weight h p + in_flight (network_of p.setup) (place_in p.setup) (state_after (meaning p.setup.diffusion.algebra) (network_of p.setup) (events ++ map event_of items)) h
+    pub sent : q.sent ≡ counted_on (sent_total (meaning p.setup.diffusion.algebra) (network_of p.setup) (state_after (meaning p.setup.diffusion.algebra) (network_of p.setup) events) (map event_of items)) p.sent
+    pub delivered : q.delivered ≡ counted_on (delivered_total (meaning p.setup.diffusion.algebra) (network_of p.setup) (state_after (meaning p.setup.diffusion.algebra) (network_of p.setup) events) (map event_of items)) p.delivered
+    pub signalled : q.signalled ≡ counted_on (signalled_total (meaning p.setup.diffusion.algebra) (network_of p.setup) (state_after (meaning p.setup.diffusion.algebra) (network_of p.setup) events) (map event_of items)) p.signalled
+    pub accepted : q.accepted ≡ counted_on (accepted_total (meaning p.setup.diffusion.algebra) (network_of p.setup) (state_after (meaning p.setup.diffusion.algebra) (network_of p.setup) events) (map event_of items)) p.accepted
 
   -- after these events and n more, each enabled in its turn, parts and mailboxes represent the state
-  pub record IsShownOn (t : Setup S) (events : List Event) (parts : List (PartData S V)) (mail : (ℕ → Item V → ℕ) → ℕ) (n : ℕ) : Type 0 where
+  pub record IsShownOn (t : SetupData S) (events : List Event) (parts : List (PartData S V)) (mail : (ℕ → Item V → ℕ) → ℕ) (n : ℕ) : Type 0 where
     pub more : List Event
     pub count : length more ≡ n
-    pub enabled : count_enabled (meaning t.question.algebra) (network_of t) (state_after (meaning t.question.algebra) (network_of t) events) more ≡ n
-    pub shown : Represents meaning t parts mail (state_after (meaning t.question.algebra) (network_of t) (events ++ more))
+    pub enabled : count_enabled (meaning t.diffusion.algebra) (network_of t) (state_after (meaning t.diffusion.algebra) (network_of t) events) more ≡ n
+    pub shown : Represents meaning t parts mail (state_after (meaning t.diffusion.algebra) (network_of t) (events ++ more))

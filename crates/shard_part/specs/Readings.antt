@@ -8,7 +8,7 @@ use Rattle.shard_part.specs.PartState.{PartData, place_in}
 module _ {S V : Type 0} where
   -- v is a vertex of the part's shard
   abbrev pub IsOwn : PartData S V → ℕ → Type 0
-  IsOwn p v = HasVertex p.setup.question.roads v × (place_in p.setup v ≡ p.shard)
+  IsOwn p v = HasVertex p.setup.diffusion.roads v × (place_in p.setup v ≡ p.shard)
 
   -- arc 0 is idle, as the source's part alone can know
   abbrev pub has_ended : PartData S V → Bool

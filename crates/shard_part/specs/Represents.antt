@@ -5,7 +5,7 @@ use Rattle.path_algebra.specs.Algebra.{Algebra}
 use Rattle.scholten_core.specs.Network.{Network}
 use Rattle.scholten_core.specs.Diffusion.{CoreState, step, is_enabled}
 use Rattle.scholten_core.specs.Shares.{Agree}
-use Rattle.shard_part.specs.PartState.{Setup, network_of, place_in, PartData, state_in, event_of, mine}
+use Rattle.shard_part.specs.PartState.{SetupData, network_of, place_in, PartData, state_in, event_of, mine}
 use Rattle.shard_part.specs.Weights.{total, is, All, part_weight, in_flight}
 
 module _ {S V : Type 0} (A : Algebra V) (N : Network) (place : ℕ → ℕ) where
@@ -28,15 +28,15 @@ module _ {S V : Type 0} (A : Algebra V) (N : Network) (place : ℕ → ℕ) wher
 -- the same by the part's own setup
 module _ {S V : Type 0} (meaning : S → Algebra V) where
   -- the events of the items, each enabled in its turn, lead from c to d
-  abbrev pub AllEnabled : Setup S → CoreState V → List (Item V) → CoreState V → Type 0
+  abbrev pub AllEnabled : SetupData S → CoreState V → List (Item V) → CoreState V → Type 0
   AllEnabled t c [] d = c ≡ d
-  AllEnabled t c (i ∷ is) d = (is_enabled c (event_of i) ≡ true) × AllEnabled t (step (meaning t.question.algebra) (network_of t) c (event_of i)) is d
+  AllEnabled t c (i ∷ is) d = (is_enabled c (event_of i) ≡ true) × AllEnabled t (step (meaning t.diffusion.algebra) (network_of t) c (event_of i)) is d
 
   -- the part holds its share of c
   abbrev pub HoldsShare : CoreState V → PartData S V → Type 0
-  HoldsShare c p = HoldsShareIn (meaning p.setup.question.algebra) (network_of p.setup) (place_in p.setup) c p
+  HoldsShare c p = HoldsShareIn (meaning p.setup.diffusion.algebra) (network_of p.setup) (place_in p.setup) c p
 
-  -- the parts are all of one question, and with the mailboxes they represent c
-  pub record Represents (t : Setup S) (parts : List (PartData S V)) (mail : (ℕ → Item V → ℕ) → ℕ) (c : CoreState V) : Type 0 where
+  -- the parts are all of one diffusion, and with the mailboxes they represent c
+  pub record Represents (t : SetupData S) (parts : List (PartData S V)) (mail : (ℕ → Item V → ℕ) → ℕ) (c : CoreState V) : Type 0 where
     pub same : All (λ p. p.setup ≡ t) parts
-    pub shown : RepresentsIn (meaning t.question.algebra) (network_of t) (place_in t) parts mail c
+    pub shown : RepresentsIn (meaning t.diffusion.algebra) (network_of t) (place_in t) parts mail c

@@ -1,4 +1,4 @@
-//! What is left of a part whose question is over.
+//! What is left of a part whose diffusion is over.
 ghost use Rattle.std.specs.Prelude.{◌≡◌};
 ghost use Rattle.shard_part.specs.PartState.{network_of, place_in, state_in};
 ghost use Rattle.shard_part.specs.LocalInvariant.{LocalInvariant};
@@ -15,7 +15,7 @@ use road_graph::Vertex;
 use std::marker::Model;
 use std::snapshot::Snapshot;
 
-/// What is left of a part whose question is over: the labels of its vertices, and what it counted. The tables of arcs, the queue and the outboxes are freed.
+/// What is left of a part whose diffusion is over: the labels of its vertices, and what it counted. The tables of arcs, the queue and the outboxes are freed.
 #[derive(Drop)]
 pub struct ClosedPart<'g, A: PathAlgebra> {
     /// The part as it was, for contracts.

@@ -5,7 +5,7 @@ ghost use Rattle.scholten_core.specs.declared.item.Item.{Item};
 ghost use Rattle.scholten_core.specs.declared.event.Event.{Event};
 ghost use Rattle.scholten_core.specs.Network.{WellFormed};
 ghost use Rattle.scholten_core.specs.Diffusion.{CoreState, state_after, step, is_enabled, HasEnded};
-ghost use Rattle.shard_part.specs.PartState.{Setup, PartData, event_of, network_of, place_in};
+ghost use Rattle.shard_part.specs.PartState.{SetupData, PartData, event_of, network_of, place_in};
 ghost use Rattle.shard_part.specs.Handling.{HandledItem, HandledAll};
 ghost use Rattle.shard_part.specs.Represents.{AllEnabled, HoldsShare, Represents};
 ghost use Rattle.shard_part.specs.Weights.{mail_weight};
@@ -59,67 +59,67 @@ pub fn closed_part_holds<A: PathAlgebra>(part: &ClosedPart<'_, A>)
 
 /// If all parts and mailboxes represent a reached state and one part takes one item, they represent what its event leads to.
 pub fn item_is_event<A: PathAlgebra>(_algebra: A)
-    ensures { (t : Setup A) (events : List Event) (before after : List (PartData A A.Value)) (p q : PartData A A.Value) (i : Item A.Value) (mail : (ℕ → Item A.Value → ℕ) → ℕ) → WellFormed (network_of t) →
-        Represents A.meaning t (before ++ p ∷ after) mail (state_after (A.meaning t.question.algebra) (network_of t) events) → HandledItem A.meaning p i q →
-        (is_enabled (state_after (A.meaning t.question.algebra) (network_of t) events) (event_of i) ≡ true) × Represents A.meaning t (before ++ q ∷ after) mail (step (A.meaning t.question.algebra) (network_of t) (state_after (A.meaning t.question.algebra) (network_of t) events) (event_of i)) }
+    ensures { (t : SetupData A) (events : List Event) (before after : List (PartData A A.Value)) (p q : PartData A A.Value) (i : Item A.Value) (mail : (ℕ → Item A.Value → ℕ) → ℕ) → WellFormed (network_of t) →
+        Represents A.meaning t (before ++ p ∷ after) mail (state_after (A.meaning t.diffusion.algebra) (network_of t) events) → HandledItem A.meaning p i q →
+        (is_enabled (state_after (A.meaning t.diffusion.algebra) (network_of t) events) (event_of i) ≡ true) × Represents A.meaning t (before ++ q ∷ after) mail (step (A.meaning t.diffusion.algebra) (network_of t) (state_after (A.meaning t.diffusion.algebra) (network_of t) events) (event_of i)) }
 {}
 
 /// Whatever the others hold: the items that a part takes are as many enabled events of every reached state of which it holds its share.
 pub fn items_are_events<A: PathAlgebra>(_algebra: A)
     ensures { (events : List Event) (items : List (Item A.Value)) (p q : PartData A A.Value) → WellFormed (network_of p.setup) →
-        HoldsShare A.meaning (state_after (A.meaning p.setup.question.algebra) (network_of p.setup) events) p → HandledAll A.meaning p items q →
-        (d : CoreState A.Value) × HoldsShare A.meaning d q × (q.setup ≡ p.setup) × AllEnabled A.meaning p.setup (state_after (A.meaning p.setup.question.algebra) (network_of p.setup) events) items d }
+        HoldsShare A.meaning (state_after (A.meaning p.setup.diffusion.algebra) (network_of p.setup) events) p → HandledAll A.meaning p items q →
+        (d : CoreState A.Value) × HoldsShare A.meaning d q × (q.setup ≡ p.setup) × AllEnabled A.meaning p.setup (state_after (A.meaning p.setup.diffusion.algebra) (network_of p.setup) events) items d }
 {}
 
 /// If all parts and mailboxes represent a reached state and one part takes items, one after the other, they represent the state after that many further events, each enabled in its turn.
 pub fn items_are_shown<A: PathAlgebra>(_algebra: A)
-    ensures { (t : Setup A) (events : List Event) (before after : List (PartData A A.Value)) (p q : PartData A A.Value) (n : ℕ) (mail : (ℕ → Item A.Value → ℕ) → ℕ) → WellFormed (network_of t) →
-        Represents A.meaning t (before ++ p ∷ after) mail (state_after (A.meaning t.question.algebra) (network_of t) events) → HandledMany A.meaning p n q → IsShownOn A.meaning t events (before ++ q ∷ after) mail n }
+    ensures { (t : SetupData A) (events : List Event) (before after : List (PartData A A.Value)) (p q : PartData A A.Value) (n : ℕ) (mail : (ℕ → Item A.Value → ℕ) → ℕ) → WellFormed (network_of t) →
+        Represents A.meaning t (before ++ p ∷ after) mail (state_after (A.meaning t.diffusion.algebra) (network_of t) events) → HandledMany A.meaning p n q → IsShownOn A.meaning t events (before ++ q ∷ after) mail n }
 {}
 
 /// How to read what parts and mailboxes represent: on each arc the items in all places, each with the shard that it is at or going to, are exactly what its token stands for.
 pub fn places_are_read<A: PathAlgebra>(_algebra: A)
-    ensures { (t : Setup A) (parts : List (PartData A A.Value)) (ms : List (ℕ × List (Item A.Value))) (c : CoreState A.Value) → Represents A.meaning t parts (mail_weight ms) c → (b : ℕ) → b < suc (network_of t).arcs →
+    ensures { (t : SetupData A) (parts : List (PartData A A.Value)) (ms : List (ℕ × List (Item A.Value))) (c : CoreState A.Value) → Represents A.meaning t parts (mail_weight ms) c → (b : ℕ) → b < suc (network_of t).arcs →
         on b (parts_places parts ++ mail_places ms) ≡ place_of_token (network_of t) (place_in t) b (c.token b) }
 {}
 
 /// A batch moves from an outbox into an empty mailbox: all represent the same state.
 pub fn publishing_shows_the_same<A: PathAlgebra>(_algebra: A)
-    ensures { (t : Setup A) (before after : List (PartData A A.Value)) (p : PartData A A.Value) (to : ℕ) (boxes behind : List (ℕ × List (Item A.Value))) (c : CoreState A.Value) →
+    ensures { (t : SetupData A) (before after : List (PartData A A.Value)) (p : PartData A A.Value) (to : ℕ) (boxes behind : List (ℕ × List (Item A.Value))) (c : CoreState A.Value) →
         Represents A.meaning t (before ++ p ∷ after) (mail_weight (boxes ++ (to, []) ∷ behind)) c →
         Represents A.meaning t (before ++ record p { outs = set p.outs to [] } ∷ after) (mail_weight (boxes ++ (to, get_or p.outs to []) ∷ behind)) c }
 {}
 
 /// A batch moves from a mailbox into the queue of the part that it leads to: all represent the same state.
 pub fn receiving_shows_the_same<A: PathAlgebra>(_algebra: A)
-    ensures { (t : Setup A) (before after : List (PartData A A.Value)) (p : PartData A A.Value) (batch : List (Item A.Value)) (boxes behind : List (ℕ × List (Item A.Value))) (c : CoreState A.Value) →
+    ensures { (t : SetupData A) (before after : List (PartData A A.Value)) (p : PartData A A.Value) (batch : List (Item A.Value)) (boxes behind : List (ℕ × List (Item A.Value))) (c : CoreState A.Value) →
         Represents A.meaning t (before ++ p ∷ after) (mail_weight (boxes ++ (p.shard, batch) ∷ behind)) c →
         Represents A.meaning t (before ++ record p { queue = p.queue ++ batch } ∷ after) (mail_weight (boxes ++ (p.shard, []) ∷ behind)) c }
 {}
 
 /// The parts of all shards as they are opened represent the opening, if no mailbox weighs anything.
 pub fn opened_parts_show_the_opening<A: PathAlgebra>(_algebra: A)
-    ensures { (t : Setup A) (mail : (ℕ → Item A.Value → ℕ) → ℕ) → IsPlanned t 0 → ((h : ℕ → Item A.Value → ℕ) → mail h ≡ 0) →
-        Represents A.meaning t (opened_parts (A.meaning t.question.algebra) t 0 t.plan.shards) mail (state_after (A.meaning t.question.algebra) (network_of t) []) }
+    ensures { (t : SetupData A) (mail : (ℕ → Item A.Value → ℕ) → ℕ) → IsPlanned t 0 → ((h : ℕ → Item A.Value → ℕ) → mail h ≡ 0) →
+        Represents A.meaning t (opened_parts (A.meaning t.diffusion.algebra) t 0 t.plan.shards) mail (state_after (A.meaning t.diffusion.algebra) (network_of t) []) }
 {}
 
 /// If all parts and mailboxes represent a reached state, it has ended exactly if no item waits.
 pub fn ended_is_empty<A: PathAlgebra>(_algebra: A)
-    ensures { (t : Setup A) (events : List Event) (parts : List (PartData A A.Value))
+    ensures { (t : SetupData A) (events : List Event) (parts : List (PartData A A.Value))
         (mail : (ℕ → Item A.Value → ℕ) → ℕ) → WellFormed (network_of t) →
         Represents A.meaning t parts mail
-        (state_after (A.meaning t.question.algebra) (network_of t) events) →
-        HasEnded (state_after (A.meaning t.question.algebra) (network_of t) events)
+        (state_after (A.meaning t.diffusion.algebra) (network_of t) events) →
+        HasEnded (state_after (A.meaning t.diffusion.algebra) (network_of t) events)
         ↔ (items_waiting parts mail ≡ 0) }
 {}
 
 /// If all parts and mailboxes represent a reached state, it has ended, or an item waits in a queue,
 /// in an outbox or in a mailbox. So until the end some turn has something to do.
 pub fn an_item_waits_until_the_end<A: PathAlgebra>(_algebra: A)
-    ensures { (t : Setup A) (events : List Event) (parts : List (PartData A A.Value))
+    ensures { (t : SetupData A) (events : List Event) (parts : List (PartData A A.Value))
         (mail : (ℕ → Item A.Value → ℕ) → ℕ) → WellFormed (network_of t) →
         Represents A.meaning t parts mail
-        (state_after (A.meaning t.question.algebra) (network_of t) events) →
-        HasEnded (state_after (A.meaning t.question.algebra) (network_of t) events)
+        (state_after (A.meaning t.diffusion.algebra) (network_of t) events) →
+        HasEnded (state_after (A.meaning t.diffusion.algebra) (network_of t) events)
         ⊎ (QueueWaits parts ⊎ (OutboxWaits parts ⊎ MailWaits mail)) }
 {}

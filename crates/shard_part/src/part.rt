@@ -1,4 +1,4 @@
-//! One shard's part of a question: opened, run item by item, and closed.
+//! One shard's part of a diffusion: opened, run item by item, and closed.
 ghost use Rattle.std.specs.Prelude.{◌≡◌, ◌≢◌, ◌⊎◌, ◌+◌, ◌<◌, ◌≤◌, List, [], ◌++◌, length, get_or, set, IfOk, IsTrue, IsFalse};
 ghost use Rattle.circular_buffer.specs.Buffer.{buffer};
 ghost use Rattle.road_graph.specs.GraphData.{HasVertex};
@@ -56,7 +56,7 @@ impl<'g, A: PathAlgebra> Part<'g, A> {
         requires shard { shard < plan.now.shards }
         ensures part { IfOk result (λ p. p ≡ opened_part (A.meaning algebra)
             (record {
-              question = record { algebra = algebra; roads = graph.now; source = source };
+              diffusion = record { algebra = algebra; roads = graph.now; source = source };
               plan = plan.now;
             }) shard) }
         ensures share { IfOk result (λ p. HoldsShare A.meaning (state_after (A.meaning algebra)
@@ -86,7 +86,7 @@ impl<'g, A: PathAlgebra> Part<'g, A> {
         ensures setup { self.new.setup ≡ self.old.setup }
         ensures shard { self.new.shard ≡ self.old.shard }
         ensures events { (events : List Event) → HoldsShare A.meaning
-            (state_after (A.meaning self.old.setup.question.algebra) (network_of self.old.setup)
+            (state_after (A.meaning self.old.setup.diffusion.algebra) (network_of self.old.setup)
             events) self.old → IsRunOn A.meaning events self.old result self.new }
     {
         laws_hold(self.state.algebra());
@@ -117,7 +117,7 @@ impl<'g, A: PathAlgebra> Part<'g, A> {
     pub fn receive(&mut self, batch: &mut Batch<A::Value>)
         requires room { length self.old.queue + length batch.old.items ≤ queue_bound
             (network_of self.old.setup) (place_in self.old.setup) self.old.shard }
-        requires fits { Fits (A.meaning self.old.setup.question.algebra) self.old batch.old.items }
+        requires fits { Fits (A.meaning self.old.setup.diffusion.algebra) self.old batch.old.items }
         ensures part { self.new ≡ record self.old { queue = self.old.queue ++ batch.old.items } }
         ensures batch { batch.new ≡ buffer [] batch.old.capacity }
     {

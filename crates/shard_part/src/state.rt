@@ -45,15 +45,15 @@ impl<'g, A: PathAlgebra> Model for PartState<'g, A> {
 
     ghost Value = { PartData A A.Value };
 
-    ghost view = { λ p. abstraction (record { question = record { algebra = p.algebra; roads = p.graph.now; source = p.source }; plan = p.plan.now }) p.shard (rows_of p.tables) p.queue.items (map (λ b. b.items) p.outs.items) p.sent p.delivered p.signalled p.accepted };
+    ghost view = { λ p. abstraction (record { diffusion = record { algebra = p.algebra; roads = p.graph.now; source = p.source }; plan = p.plan.now }) p.shard (rows_of p.tables) p.queue.items (map (λ b. b.items) p.outs.items) p.sent p.delivered p.signalled p.accepted };
 
-    ghost invariant = { λ p. RepInvariant (abstraction (record { question = record { algebra = p.algebra; roads = p.graph.now; source = p.source }; plan = p.plan.now }) p.shard (rows_of p.tables) p.queue.items (map (λ b. b.items) p.outs.items) p.sent p.delivered p.signalled p.accepted) (rows_of p.tables) p.queue.capacity (map (λ b. b.capacity) p.outs.items) };
+    ghost invariant = { λ p. RepInvariant (abstraction (record { diffusion = record { algebra = p.algebra; roads = p.graph.now; source = p.source }; plan = p.plan.now }) p.shard (rows_of p.tables) p.queue.items (map (λ b. b.items) p.outs.items) p.sent p.delivered p.signalled p.accepted) (rows_of p.tables) p.queue.capacity (map (λ b. b.capacity) p.outs.items) };
 }
 
 impl<'g, A: PathAlgebra> PartState<'g, A> {
-    /// The algebra of the question.
+    /// The algebra of the diffusion.
     pub(crate) fn algebra(&self) -> A
-        ensures algebra { result ≡ self.now.setup.question.algebra }
+        ensures algebra { result ≡ self.now.setup.diffusion.algebra }
         ensures formed { WellFormed (network_of self.now.setup) }
         ensures tallied { IsTallied self.now }
     {

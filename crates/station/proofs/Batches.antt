@@ -25,7 +25,7 @@ module _ {S V : Type 0} where
   went_off true js to p q r s (ne, o, k) = sent_last js to p q r s ne o k
   went_off false js to p q r s k = subst (λ is. SentOff is p r) (sym (append-nil js)) (subst (λ z. SentOff js p z) (sym k) s)
 
-  -- the part stays that of its question and shard
+  -- the part stays that of its diffusion and shard
   pub off_like : (b : Bool) (to : ℕ) (q r : PartData S V) → WentOff b to q r → (r.shard ≡ q.shard) × (r.setup ≡ q.setup)
   off_like true to q r (ne, o, k) = (ap (λ (z : PartData S V). z.shard) k, ap (λ (z : PartData S V). z.setup) k)
   off_like false to q r k = (ap (λ (z : PartData S V). z.shard) k, ap (λ (z : PartData S V). z.setup) k)

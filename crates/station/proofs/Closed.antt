@@ -1,4 +1,4 @@
--- What the seats of an ended question show when its floor is closed.
+-- What the seats of an ended diffusion show when its floor is closed.
 use Rattle.std.proofs.Common.{◌≡◌, ℕ, ◌+◌, ◌<◌, true, Option, List, [], ◌∷◌, ap, ◌∙◌, arith}
 use mathlib.Core.Option as opt
 use Rattle.path_algebra.specs.Algebra.{Algebra}
@@ -8,7 +8,7 @@ use Rattle.scholten_core.proofs.EveryAccount.{totals_are_equal}
 use Rattle.scholten_core.proofs.EveryRun.{ended_is_quiet}
 use Rattle.shard_part.specs.declared.tally.Tally.{Tally}
 use Rattle.shard_part.specs.Moves.{IsPlanned}
-use Rattle.shard_part.specs.PartState.{Setup, network_of}
+use Rattle.shard_part.specs.PartState.{SetupData, network_of}
 use Rattle.shard_part.specs.Weights.{All, total}
 use Rattle.shard_part.specs.Tallies.{tally_of}
 use Rattle.shard_part.proofs.Showing.{AllLawful}
@@ -35,12 +35,12 @@ module _ {S V : Type 0} where
 
 module _ {S V : Type 0} (meaning : S → Algebra V) (L : AllLawful meaning) where
   -- THE ANSWER
-  pub gathered : (t : Setup S) (s : ℕ) (id : TableId) (all : List (StationData S V)) (seats : List (SeatData S V)) (tally : Tally)
+  pub gathered : (t : SetupData S) (s : ℕ) (id : TableId) (all : List (StationData S V)) (seats : List (SeatData S V)) (tally : Tally)
       (labels : List (Option V)) (w : View S V) (words : List ℕ) (homes : List (opt.Option (Slot V))) → IsPlanned t s
-      → AreBest (meaning t.question.algebra) t.question.roads (t.question.source ∷ []) labels
+      → AreBest (meaning t.diffusion.algebra) t.diffusion.roads (t.diffusion.source ∷ []) labels
       → AllSeated t.plan.shards seats → AreHanded id all [] seats tally → AreJoined w spent seats → FinalView meaning t w words homes → IsGathered meaning t (record { labels = labels; tally = tally })
   gathered t s id all seats tally labels w words homes P best seated h J C =
-      let A = meaning t.question.algebra in let T = totals_of A (network_of t) C.events in
+      let A = meaning t.diffusion.algebra in let T = totals_of A (network_of t) C.events in
       let few : 0 < t.plan.shards = let l = P.shard in omega (arith, l) in
       let over = C.seen (seen_there t.plan.shards w spent seats few seated h.seen J) in
       let one : (x y z : ℕ) → x ≡ 0 + y → x + 0 ≡ z → y ≡ z = λ x y z e f. omega (arith, e, f) in
@@ -56,7 +56,7 @@ module _ {S V : Type 0} (meaning : S → Algebra V) (L : AllLawful meaning) wher
         labels = best;
         events = C.events;
         ended = over;
-        quiet = ended_is_quiet A t.question.roads t.question.source (L t.question.algebra) P.roads P.source.0 C.events over;
+        quiet = ended_is_quiet A t.diffusion.roads t.diffusion.source (L t.diffusion.algebra) P.roads P.source.0 C.events over;
         tally = h.counted ∙ ap tally_of same;
-        equal = totals_are_equal A t.question.roads t.question.source (L t.question.algebra) P.roads P.source.0 C.events over;
+        equal = totals_are_equal A t.diffusion.roads t.diffusion.source (L t.diffusion.algebra) P.roads P.source.0 C.events over;
       }

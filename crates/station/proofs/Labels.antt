@@ -8,7 +8,7 @@ use Rattle.scholten_core.specs.Network.{Network}
 use Rattle.scholten_core.specs.Diffusion.{CoreState, better_of, pump, out_idle, freed}
 use Rattle.scholten_core.proofs.Basics.{better_tells, put_tells}
 use Rattle.shard_part.specs.Arriving.{joined}
-use Rattle.shard_part.specs.PartState.{PartData, Setup, network_of, place_in, state_in}
+use Rattle.shard_part.specs.PartState.{PartData, SetupData, network_of, place_in, state_in}
 use Rattle.shard_part.specs.Handling.{arrive_here, rest_here, settle_here, settle_tail_here, taken, HandledAll}
 use Rattle.shard_part.specs.Part.{HandledMany}
 use Rattle.shard_part.proofs.Showing.{AllLawful}
@@ -47,13 +47,13 @@ module _ {V : Type 0} (A : Algebra V) where
 
 module _ {S V : Type 0} (meaning : S → Algebra V) (L : AllLawful meaning) where
   all_items : (items : List (Item V)) (p q : PartData S V) (v : ℕ) → place_in p.setup v ≡ p.shard → HandledAll meaning p items q
-      → StaysOrImproves (meaning p.setup.question.algebra) ((state_in p).label v) ((state_in q).label v)
-  all_items [] p q v own e = same_label (meaning p.setup.question.algebra) (L p.setup.question.algebra) _ _ (ap (λ (z : PartData S V). (state_in z).label v) (sym e))
-  all_items (i ∷ is) p q v own (m, T, rest) = let A = meaning p.setup.question.algebra in
-      let here : place_in m.setup v ≡ m.shard = ap (λ (t : Setup S). place_in t v) T.setup ∙ own ∙ sym T.shard in
-      improved_twice A (L p.setup.question.algebra) _ ((state_in m).label v) _
-      (subst (λ z. StaysOrImproves A ((state_in p).label v) z) (sym (T.tables.label v (eq-eqb _ _ own))) (one_item A (network_of p.setup) (L p.setup.question.algebra) i (state_in p) v))
-      (subst (λ (t : Setup S). StaysOrImproves (meaning t.question.algebra) ((state_in m).label v) ((state_in q).label v)) T.setup (all_items is m q v here rest))
+      → StaysOrImproves (meaning p.setup.diffusion.algebra) ((state_in p).label v) ((state_in q).label v)
+  all_items [] p q v own e = same_label (meaning p.setup.diffusion.algebra) (L p.setup.diffusion.algebra) _ _ (ap (λ (z : PartData S V). (state_in z).label v) (sym e))
+  all_items (i ∷ is) p q v own (m, T, rest) = let A = meaning p.setup.diffusion.algebra in
+      let here : place_in m.setup v ≡ m.shard = ap (λ (t : SetupData S). place_in t v) T.setup ∙ own ∙ sym T.shard in
+      improved_twice A (L p.setup.diffusion.algebra) _ ((state_in m).label v) _
+      (subst (λ z. StaysOrImproves A ((state_in p).label v) z) (sym (T.tables.label v (eq-eqb _ _ own))) (one_item A (network_of p.setup) (L p.setup.diffusion.algebra) i (state_in p) v))
+      (subst (λ (t : SetupData S). StaysOrImproves (meaning t.diffusion.algebra) ((state_in m).label v) ((state_in q).label v)) T.setup (all_items is m q v here rest))
 
 -- what a batch that comes in, or an outbox that goes off, leaves of a part
 pub record IsLike {S V : Type 0} (p q : PartData S V) : Type 0 where
@@ -82,9 +82,9 @@ module _ {S V : Type 0} where
 module _ {S V : Type 0} (meaning : S → Algebra V) (L : AllLawful meaning) where
   -- a part that takes batches, handles items and sends outboxes off
   pub labels_stay : (p filled emptied q : PartData S V) (n v : ℕ) → IsLike p filled → HandledMany meaning filled n emptied → IsLike emptied q
-      → place_in p.setup v ≡ p.shard → StaysOrImproves (meaning p.setup.question.algebra) ((state_in p).label v) ((state_in q).label v)
+      → place_in p.setup v ≡ p.shard → StaysOrImproves (meaning p.setup.diffusion.algebra) ((state_in p).label v) ((state_in q).label v)
   labels_stay p filled emptied q n v a (items, l, T) b own =
-      let here : place_in filled.setup v ≡ filled.shard = ap (λ (t : Setup S). place_in t v) a.setup ∙ own ∙ sym a.shard in
-      subst (λ z. StaysOrImproves (meaning p.setup.question.algebra) ((state_in p).label v) z) (sym (b.label v))
-      (subst (λ z. StaysOrImproves (meaning p.setup.question.algebra) z ((state_in emptied).label v)) (a.label v)
-      (subst (λ (t : Setup S). StaysOrImproves (meaning t.question.algebra) ((state_in filled).label v) ((state_in emptied).label v)) a.setup (all_items meaning L items filled emptied v here T)))
+      let here : place_in filled.setup v ≡ filled.shard = ap (λ (t : SetupData S). place_in t v) a.setup ∙ own ∙ sym a.shard in
+      subst (λ z. StaysOrImproves (meaning p.setup.diffusion.algebra) ((state_in p).label v) z) (sym (b.label v))
+      (subst (λ z. StaysOrImproves (meaning p.setup.diffusion.algebra) z ((state_in emptied).label v)) (a.label v)
+      (subst (λ (t : SetupData S). StaysOrImproves (meaning t.diffusion.algebra) ((state_in filled).label v) ((state_in emptied).label v)) a.setup (all_items meaning L items filled emptied v here T)))

@@ -22,16 +22,16 @@ not_busy V true e = absurd cc
 not_busy V false e = refl
 
 module _ {S V : Type 0} (meaning : S → Algebra V) where
-  pub is_over : (p : PartData S V) (s : ℕ) → IsLawful (meaning p.setup.question.algebra) → IsPlanned p.setup s → HoldsEndedShare meaning p → IsOverPart meaning p
+  pub is_over : (p : PartData S V) (s : ℕ) → IsLawful (meaning p.setup.diffusion.algebra) → IsPlanned p.setup s → HoldsEndedShare meaning p → IsOverPart meaning p
   is_over p s L P (events, H, h, Q) =
-      let A = meaning p.setup.question.algebra in let N = network_of p.setup in let place = place_in p.setup in
+      let A = meaning p.setup.diffusion.algebra in let N = network_of p.setup in let place = place_in p.setup in
       let c : CoreState V = core_of meaning p.setup events in
-      let B = ended_is_best A p.setup.question.roads p.setup.question.source L P.roads P.source.0 events h in
+      let B = ended_is_best A p.setup.diffusion.roads p.setup.diffusion.source L P.roads P.source.0 events h in
       let one : ℕ → Item V → ℕ = λ _ _. 1 in
       let none' : in_flight N place c one ≡ 0 = sum_below_same (λ b. total (at_place N place one) (item_of b (c.token b))) (λ _. 0) (suc N.arcs)
       (λ b lt. ap (λ (k : Token V). total (at_place N place one) (item_of b k)) (Q.0 b)) ∙ sum_zero (λ _. 0) (suc N.arcs) (λ _. refl) in
       let w = H.weighs one in record {
-        best = λ v own. subst (IsBestLabel A p.setup.question.roads (p.setup.question.source ∷ []) v) (sym (H.tables.agree.label v (eq-eqb _ _ own.1))) (B v own.0);
+        best = λ v own. subst (IsBestLabel A p.setup.diffusion.roads (p.setup.diffusion.source ∷ []) v) (sym (H.tables.agree.label v (eq-eqb _ _ own.1))) (B v own.0);
         neutral = λ v own. H.tables.agree.engager v (eq-eqb _ _ own.1) ∙ Q.1 v;
         idle = λ b here. not_busy V (get_or p.busy b false) (H.tables.agree.idle b (eq-eqb _ _ here) ∙ ap is_idle (Q.0 b));
         queue = nil_from_length p.queue (let n = each_one (one p.shard) p.queue (λ i. refl) in omega (arith, w, n, none'));

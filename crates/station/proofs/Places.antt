@@ -3,7 +3,7 @@ use Rattle.std.proofs.Common.{◌≡◌, ℕ, zero, suc, ◌+◌, ◌-◌, ◌<�
 use Rattle.std.proofs.lemmas.Bool.{cases_eq}
 use Rattle.std.proofs.lemmas.List.{get_or_append_left, get_or_push}
 use Rattle.shard_part.specs.Moves.{IsPlanned}
-use Rattle.shard_part.specs.PartState.{PartData, Setup}
+use Rattle.shard_part.specs.PartState.{PartData, SetupData}
 use Rattle.shard_part.specs.Weights.{total, is}
 use Rattle.shard_part.specs.Plans.{HasPlanned, shard_in}
 use Rattle.shard_part.specs.Readings.{IsOwn}
@@ -26,7 +26,7 @@ module _ {S V : Type 0} where
   ]
 
   -- the station at a place
-  pub at_place : (t : Setup S) (stations : List (StationData S V)) (j k : ℕ) (x : StationData S V) → x ≡ get_or stations k x → AreOf t stations
+  pub at_place : (t : SetupData S) (stations : List (StationData S V)) (j k : ℕ) (x : StationData S V) → x ≡ get_or stations k x → AreOf t stations
       → IsAtPlace stations j k → (x.part.setup ≡ t) × (x.part.shard ≡ j)
   at_place t stations j k x e own a = (ap (λ (s : StationData S V). s.part.setup) e ∙ own k x a.0, ap (λ (s : StationData S V). s.part.shard) e ∙ a.1 x)
 

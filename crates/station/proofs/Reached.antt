@@ -7,7 +7,7 @@ use Rattle.scholten_core.specs.Accounts.{Totals, totals_of, AreEqualTotals, AreM
 use Rattle.scholten_core.specs.Sums.{one_if}
 use Rattle.scholten_core.proofs.EveryAccount.{reach_sends_once}
 use Rattle.scholten_core.proofs.Sums.{one_if-most, sum_most, sum_ones}
-use Rattle.shard_part.specs.PartState.{Setup, network_of}
+use Rattle.shard_part.specs.PartState.{SetupData, network_of}
 use Rattle.shard_part.specs.Tallies.{top, tally_of}
 use Rattle.station.specs.declared.gathering.Gathered.{Gathered}
 use Rattle.station.specs.Gather.{IsGathered, each_shows}
@@ -32,9 +32,9 @@ marked_at_most g marked =
     let m = sum_most (λ b. one_if (marked (suc b))) (λ b. 1) (length g.arcs) (λ b. one_if-most (marked (suc b))) in
     let o = sum_ones (length g.arcs) in omega (arith, m, o)
 
-pub once_an_arc : {S : Type 0} (t : Setup S) (g : Gathered (Unit {0})) → IsGathered (λ _. reach) t g → (marked : ℕ → Bool)
-    → AreMarksOfReached reach t.question.roads t.question.source marked → g.tally ≡ each_shows (1 + count_marked t.question.roads marked)
+pub once_an_arc : {S : Type 0} (t : SetupData S) (g : Gathered (Unit {0})) → IsGathered (λ _. reach) t g → (marked : ℕ → Bool)
+    → AreMarksOfReached reach t.diffusion.roads t.diffusion.source marked → g.tally ≡ each_shows (1 + count_marked t.diffusion.roads marked)
 once_an_arc t g G marked M =
-    let sent = reach_sends_once t.question.roads t.question.source G.roads G.source G.events G.ended marked M in
-    let most = marked_at_most t.question.roads marked in let few = G.roads.few_arcs in
-    G.tally ∙ shown (totals_of reach (network_of t) G.events) (1 + count_marked t.question.roads marked) (omega (arith, most, few)) sent G.equal
+    let sent = reach_sends_once t.diffusion.roads t.diffusion.source G.roads G.source G.events G.ended marked M in
+    let most = marked_at_most t.diffusion.roads marked in let few = G.roads.few_arcs in
+    G.tally ∙ shown (totals_of reach (network_of t) G.events) (1 + count_marked t.diffusion.roads marked) (omega (arith, most, few)) sent G.equal

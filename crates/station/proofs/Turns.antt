@@ -70,7 +70,7 @@ module _ {S V : Type 0} where
 module _ {S V : Type 0} (meaning : S → Algebra V) where
   -- no item was handled
   none_on : (p : PartData S V) (v : View S V) → IsViewOf v p → (before : List Event) → HoldsShare meaning (core_of meaning p.setup before) p → IsRunOn meaning before p 0 p
-  none_on p v s before H = let A = meaning p.setup.question.algebra in let N = network_of p.setup in record {
+  none_on p v s before H = let A = meaning p.setup.diffusion.algebra in let N = network_of p.setup in record {
     items = [];
     count = refl;
     handled = refl;
@@ -105,7 +105,7 @@ module _ {S V : Type 0} (meaning : S → Algebra V) where
       within = omega arith;
       all = inr (i.over e).part.queue;
     };
-    labels = λ v own x q. (x, q, same_no_worse (meaning s.part.setup.question.algebra).no_worse (L s.part.setup.question.algebra).ordered x);
+    labels = λ v own x q. (x, q, same_no_worse (meaning s.part.setup.diffusion.algebra).no_worse (L s.part.setup.diffusion.algebra).ordered x);
     tried = λ q. absurd (let z = sym e ∙ q in cc);
     steps = omega arith;
     report = sym e;
@@ -151,8 +151,8 @@ module _ {S V : Type 0} (meaning : S → Algebra V) where
 
   -- the label of a part that holds its share of a state is the value of a walk
   pub walks : AllLawful meaning → (p : PartData S V) (s : ℕ) → IsPlanned p.setup s → HoldsReachedShare meaning p → (v : ℕ) → IsOwn p v → (o : Option V) → o ≡ (state_in p).label v
-      → IfSome o (λ x. IsWalkValue (meaning p.setup.question.algebra) p.setup.question.roads (p.setup.question.source ∷ []) v x)
+      → IfSome o (λ x. IsWalkValue (meaning p.setup.diffusion.algebra) p.setup.diffusion.roads (p.setup.diffusion.source ∷ []) v x)
   walks L p s P (events, H) v own None e = tt
   walks L p s P (events, H) v own (Some x) e =
-      labels_are_walk_values (meaning p.setup.question.algebra) p.setup.question.roads p.setup.question.source (L p.setup.question.algebra) P.roads
+      labels_are_walk_values (meaning p.setup.diffusion.algebra) p.setup.diffusion.roads p.setup.diffusion.source (L p.setup.diffusion.algebra) P.roads
       P.source.0 events v x (sym (H.tables.agree.label v (eq-eqb _ _ own.1)) ∙ sym e)

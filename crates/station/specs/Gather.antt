@@ -1,4 +1,4 @@
--- The stations of an ended question, and the answer that is gathered from them.
+-- The stations of an ended diffusion, and the answer that is gathered from them.
 use Rattle.std.specs.Prelude.{◌≡◌, ◌≢◌, ℕ, ◌<◌, false, List, length, get_or}
 use Rattle.std.specs.List.{All, HoldsAt}
 use Rattle.road_graph.specs.GraphData.{IsGraph, HasVertex}
@@ -7,7 +7,7 @@ use Rattle.scholten_core.specs.declared.event.Event.{Event}
 use Rattle.scholten_core.specs.Accounts.{Totals, totals_of, AreEqualTotals}
 use Rattle.scholten_core.specs.Diffusion.{HasEnded, IsQuiet}
 use Rattle.shard_part.specs.declared.tally.Tally.{Tally}
-use Rattle.shard_part.specs.PartState.{Setup, network_of}
+use Rattle.shard_part.specs.PartState.{SetupData, network_of}
 use Rattle.shard_part.specs.Weights.{total}
 use Rattle.shard_part.specs.Tallies.{tally_of}
 use Rattle.post_floor.specs.Data.{SeatData}
@@ -34,8 +34,8 @@ module _ {S V : Type 0} where
   abbrev pub ArePlaces : ℕ → List (StationData S V) → List ℕ → Type 0
   ArePlaces n stations places = (j : ℕ) → j < n → IsAtPlace stations j (get_or places j 0)
 
-  -- the stations are of one question
-  abbrev pub AreOf : Setup S → List (StationData S V) → Type 0
+  -- the stations are of one diffusion
+  abbrev pub AreOf : SetupData S → List (StationData S V) → Type 0
   AreOf t stations = All (λ s. s.part.setup ≡ t) stations
 
   -- the stations of the first n shards are among these
@@ -51,18 +51,18 @@ module _ {S V : Type 0} where
   IsGatherFault n stations (Missing j) = IsFirstMissing n stations j
   IsGatherFault n stations Memory = AllThere n stations
 
--- The question is about a graph, from one of its vertices. Labels are best. Some events, counted in full, lead to a state that has ended
+-- The diffusion is about a graph, from one of its vertices. Labels are best. Some events, counted in full, lead to a state that has ended
 -- and is quiet; each counter of the tally is the lesser of its total and its top, full exactly if a total reaches that, and all totals
 -- are the same.
-pub record IsGathered {S V : Type 0} (meaning : S → Algebra V) (t : Setup S) (g : Gathered V) : Type 0 where
-  pub roads : IsGraph t.question.roads
-  pub source : HasVertex t.question.roads t.question.source
+pub record IsGathered {S V : Type 0} (meaning : S → Algebra V) (t : SetupData S) (g : Gathered V) : Type 0 where
+  pub roads : IsGraph t.diffusion.roads
+  pub source : HasVertex t.diffusion.roads t.diffusion.source
   pub labels : AreBestFor meaning t g.labels
   pub events : List Event
   pub ended : HasEnded (core_of meaning t events)
   pub quiet : IsQuiet (core_of meaning t events)
-  pub tally : g.tally ≡ tally_of (totals_of (meaning t.question.algebra) (network_of t) events)
-  pub equal : AreEqualTotals (totals_of (meaning t.question.algebra) (network_of t) events)
+  pub tally : g.tally ≡ tally_of (totals_of (meaning t.diffusion.algebra) (network_of t) events)
+  pub equal : AreEqualTotals (totals_of (meaning t.diffusion.algebra) (network_of t) events)
 
 -- what seats have counted together
 abbrev pub counts_of : {S V : Type 0} → List (SeatData S V) → Totals

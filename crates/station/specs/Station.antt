@@ -2,7 +2,7 @@
 use Rattle.std.specs.Prelude.{◌≡◌, ℕ, Bool, true, false, Option, None, List, [], ◌∷◌, get_or}
 use Rattle.path_algebra.specs.Algebra.{Algebra}
 use Rattle.path_algebra.specs.Walks.{IsBestLabel, AreBest}
-use Rattle.shard_part.specs.PartState.{Setup, PartData, network_of, place_in, state_in}
+use Rattle.shard_part.specs.PartState.{SetupData, PartData, network_of, place_in, state_in}
 use Rattle.shard_part.specs.Readings.{IsOwn}
 use Rattle.post_floor.specs.declared.view.View.{View}
 use Rattle.post_floor.specs.Plays.{IsViewOf, HoldsReachedShare, HoldsEndedShare}
@@ -14,13 +14,13 @@ pub record StationData (S V : Type 0) : Type 0 where
   pub seat : SeatData S V
   pub ended : Bool
 
--- the label is best for the vertex v of a question: none if no walk to it has a value
-abbrev pub IsBestFor : {S V : Type 0} → (S → Algebra V) → Setup S → ℕ → Option V → Type 0
-IsBestFor meaning t v o = IsBestLabel (meaning t.question.algebra) t.question.roads (t.question.source ∷ []) v o
+-- the label is best for the vertex v of a diffusion: none if no walk to it has a value
+abbrev pub IsBestFor : {S V : Type 0} → (S → Algebra V) → SetupData S → ℕ → Option V → Type 0
+IsBestFor meaning t v o = IsBestLabel (meaning t.diffusion.algebra) t.diffusion.roads (t.diffusion.source ∷ []) v o
 
--- one label for each vertex of a question, each of them best
-abbrev pub AreBestFor : {S V : Type 0} → (S → Algebra V) → Setup S → List (Option V) → Type 0
-AreBestFor meaning t labels = AreBest (meaning t.question.algebra) t.question.roads (t.question.source ∷ []) labels
+-- one label for each vertex of a diffusion, each of them best
+abbrev pub AreBestFor : {S V : Type 0} → (S → Algebra V) → SetupData S → List (Option V) → Type 0
+AreBestFor meaning t labels = AreBest (meaning t.diffusion.algebra) t.diffusion.roads (t.diffusion.source ∷ []) labels
 
 -- the station was opened together with the floor
 pub record BelongsTo {S V : Type 0} (f : FloorData S) (s : StationData S V) : Type 0 where
@@ -44,7 +44,7 @@ module _ {S V : Type 0} (meaning : S → Algebra V) where
     pub queue : p.queue ≡ []
     pub outs : (j : ℕ) → get_or p.outs j [] ≡ []
 
-  -- The question has ended, as the station knows: its view has seen the done word at 1, its part holds its share of an ended state,
+  -- The diffusion has ended, as the station knows: its view has seen the done word at 1, its part holds its share of an ended state,
   -- each label of its vertices is best, and nothing is under way in it.
   pub record IsOver (s : StationData S V) : Type 0 where
     pub seen : s.seat.knows.seen ≡ true
@@ -52,7 +52,7 @@ module _ {S V : Type 0} (meaning : S → Algebra V) where
     pub part : IsOverPart s.part
 
   -- What holds of every station between two turns: its view has its part, it is filling no mailbox and reading none, the part holds its share
-  -- of a state that some events lead to, and if the last turn reported the end, the question is over.
+  -- of a state that some events lead to, and if the last turn reported the end, the diffusion is over.
   pub record IsStation (s : StationData S V) : Type 0 where
     pub shard : s.seat.shard ≡ s.part.shard
     pub shows : IsViewOf s.seat.knows s.part

@@ -12,7 +12,7 @@ use Rattle.station.specs.Tries.{at, if_found, IsTry, AreTries, used}
 use Rattle.station.specs.Turn.{received, SentOff}
 
 module _ {S V : Type 0} where
-  -- the seat is one of the floor's, and its view has the part, which is of the floor's question; it is filling no mailbox and reading none
+  -- the seat is one of the floor's, and its view has the part, which is of the floor's diffusion; it is filling no mailbox and reading none
   pub record AreReady (f : FloorData S) (d : SeatData S V) (p : PartData S V) : Type 0 where
     pub floor : d.floor ≡ f.id
     pub setup : p.setup ≡ f.setup

@@ -72,7 +72,7 @@ module _ {S V : Type 0} (meaning : S → Algebra V) where
     pub own : BelongsTo f after
     pub shard : after.part.shard ≡ before.part.shard
     pub worked : Worked budget before.part r after.part
-    pub labels : (v : ℕ) → IsOwn before.part v → StaysOrImproves (meaning before.part.setup.question.algebra) ((state_in before.part).label v) ((state_in after.part).label v)
+    pub labels : (v : ℕ) → IsOwn before.part v → StaysOrImproves (meaning before.part.setup.diffusion.algebra) ((state_in before.part).label v) ((state_in after.part).label v)
     pub tried : before.ended ≡ false → Tried f before.seat worked.emptied r worked.outboxes after.seat
     pub steps : length after.seat.knows.steps ≤ length before.seat.knows.steps + 4 * (f.setup.plan.shards - 1) + 1
     pub report : r.ended ≡ after.ended

@@ -37,7 +37,7 @@ impl<'g, A: PathAlgebra> Finished<'g, A> {
         self.part.shard() == shard
     }
 
-    /// The plan of its question.
+    /// The plan of its diffusion.
     pub(crate) fn plan(&self) -> &'g Plan
         ensures { result.now ≡ self.now.part.setup.plan }
     {

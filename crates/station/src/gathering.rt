@@ -16,7 +16,7 @@ use shard_part::laws::plan_holds;
 use shard_part::{Plan, Shard, Tally};
 use std::alloc::{AllocError, Global};
 
-/// The answer of a question: for each vertex the best value, or none if no walk has one, and what was counted.
+/// The answer of a diffusion: for each vertex the best value, or none if no walk has one, and what was counted.
 #[derive(Drop)]
 pub struct Gathered<V: Copy> {
     pub labels: Labels<V>,
@@ -100,7 +100,7 @@ fn label_list<A: PathAlgebra>(
     requires plan { plan.now ≡ floor.now.setup.plan }
     requires places { ArePlaces plan.now.shards stations.now places.now }
     requires own { AreOf floor.now.setup stations.now }
-    requires covers { length plan.now.list ≡ floor.now.setup.question.roads.vertices }
+    requires covers { length plan.now.list ≡ floor.now.setup.diffusion.roads.vertices }
     ensures { IfOk result (λ v. AreBestFor A.meaning floor.now.setup v.items) }
 {
     let mut list = Vec::with_capacity(alloc, plan.vertices() as usize)?;
@@ -139,7 +139,7 @@ fn hand_over<'g, A: PathAlgebra>(
     (seats, tally)
 }
 
-/// The plan of a question, as its stations have it.
+/// The plan of a diffusion, as its stations have it.
 fn plan_of<'g, A: PathAlgebra>(floor: &Floor<A>, stations: &[Finished<'g, A>]) -> &'g Plan
     requires own { All (BelongsTo floor.now) stations.now }
     requires some { 0 < length stations.now }
@@ -180,7 +180,7 @@ fn collect<A: PathAlgebra>(
     Ok((labels, seats))
 }
 
-/// The answer of a question from the stations of all its shards, each of which has ended. If a shard's station is missing, or memory is refused, floor and stations come back.
+/// The answer of a diffusion from the stations of all its shards, each of which has ended. If a shard's station is missing, or memory is refused, floor and stations come back.
 pub fn gather<'g, A: PathAlgebra>(
     alloc: Global,
     floor: Floor<A>,

@@ -3,13 +3,13 @@ ghost use Rattle.std.specs.Prelude.{◌≡◌, ℕ, ◌+◌, Bool};
 ghost use Rattle.path_algebra.specs.declared.reach.Reach.{Reach};
 ghost use Rattle.path_algebra.specs.Given.{reach};
 ghost use Rattle.scholten_core.specs.Accounts.{AreMarksOfReached, count_marked};
-ghost use Rattle.shard_part.specs.PartState.{Setup};
+ghost use Rattle.shard_part.specs.PartState.{SetupData};
 ghost use Rattle.station.specs.declared.gathering.Gathered.{Gathered};
 ghost use Rattle.station.specs.Gather.{IsGathered, each_shows};
 
 /// For reachability, whatever the schedule: each counter of the answer is one, and one more for each arc whose tail is reached.
 pub fn reach_counts_each_arc_once()
-    ensures { (t : Setup Reach) (g : Gathered (Unit {0})) → IsGathered (λ _. reach) t g →
-        (marked : ℕ → Bool) → AreMarksOfReached reach t.question.roads t.question.source marked →
-        g.tally ≡ each_shows (1 + count_marked t.question.roads marked) }
+    ensures { (t : SetupData Reach) (g : Gathered (Unit {0})) → IsGathered (λ _. reach) t g →
+        (marked : ℕ → Bool) → AreMarksOfReached reach t.diffusion.roads t.diffusion.source marked →
+        g.tally ≡ each_shows (1 + count_marked t.diffusion.roads marked) }
 {}

@@ -1,4 +1,4 @@
-//! Stations: one question over the threads of its caller.
+//! Stations: one diffusion over the threads of its caller.
 #![tactic(auto)]
 
 mod finished;
@@ -11,6 +11,6 @@ mod turn;
 pub use finished::Finished;
 pub use gathering::{GatherFault, Gathered, Ungathered, gather};
 pub use laws::reach_counts_each_arc_once;
-pub use open::open_question;
+pub use open::open_diffusion;
 pub use station::Station;
 pub use turn::Report;

@@ -1,4 +1,4 @@
-//! Opening a question.
+//! Opening a diffusion.
 ghost use Rattle.std.specs.Prelude.{◌≡◌, ◌<◌, [], ◌∷◌, ◌++◌, length, IfOk, OnOk, map};
 ghost use Rattle.road_graph.specs.GraphData.{HasVertex};
 ghost use Rattle.shard_part.specs.Weights.{All};
@@ -73,7 +73,7 @@ fn pair<'g, A: PathAlgebra>(
 }
 
 /// A floor with empty mailboxes, and one station for each shard of the plan, in order.
-pub fn open_question<'g, A: PathAlgebra>(
+pub fn open_diffusion<'g, A: PathAlgebra>(
     alloc: Global,
     algebra: A,
     graph: &'g Graph,

@@ -14,7 +14,7 @@ use post_floor::{Floor, Seat};
 use shard_part::{Part, Plan};
 use std::marker::Model;
 
-/// One shard's part of a question, with its seat on the floor that all parts share.
+/// One shard's part of a diffusion, with its seat on the floor that all parts share.
 #[derive(Drop)]
 pub struct Station<'g, A: PathAlgebra> {
     part: Part<'g, A>,
@@ -50,7 +50,7 @@ impl<'g, A: PathAlgebra> Station<'g, A> {
         }
     }
 
-    /// Takes what the other shards have sent, handles items, at most `budget`, and publishes what is for the others; last it looks whether the question has ended.
+    /// Takes what the other shards have sent, handles items, at most `budget`, and publishes what is for the others; last it looks whether the diffusion has ended.
     /// After a turn that reported the end, a turn does nothing.
     pub fn turn(&mut self, floor: &Floor<A>, budget: u32) -> Report
         requires { BelongsTo floor.now self.old }

@@ -18,7 +18,7 @@ pub struct Report {
     pub taken: u32,
     /// How many outboxes were published.
     pub published: u32,
-    /// The question has ended.
+    /// The diffusion has ended.
     pub ended: bool,
 }
 

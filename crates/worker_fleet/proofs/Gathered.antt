@@ -1,4 +1,4 @@
--- What the stations of a question keep while they are dealt, moved, and put together.
+-- What the stations of a diffusion keep while they are dealt, moved, and put together.
 use Rattle.std.proofs.Common.{zero, suc, ◌≡◌, ℕ, ◌<◌, ◌+◌, List, [], ◌∷◌, ◌++◌, length, get_or, refl, subst, append_assoc, arith, inl, inr, Bool, true, false, if◌then◌else◌, nat_eq, nat_lt, Vec}
 use Rattle.std.specs.List.{All}
 use Rattle.std.proofs.lemmas.List.Elements.{All-nil, All-cons, All-head, All-tail, All-append}

@@ -9,8 +9,8 @@ use Rattle.worker_fleet.specs.Drives.{LetsTurn}
 use Rattle.worker_fleet.specs.Stops.{IsStop, Says}
 use Rattle.worker_fleet.proofs.Grouped.{one_of}
 
-module _ {A V Z : Type 0} (meaning : A → Algebra V) (floors : List (FloorData A)) (budget limit workers : ℕ) (answers : ℕ → ℕ → Bool → Type 0) (questions : List (Vec (StationData A V) Z)) where
-  pub IsStop-says : (fault : GroupFault) → IsStop meaning floors budget limit workers answers questions fault → Says answers workers limit fault
+module _ {A V Z : Type 0} (meaning : A → Algebra V) (floors : List (FloorData A)) (budget limit workers : ℕ) (answers : ℕ → ℕ → Bool → Type 0) (diffusions : List (Vec (StationData A V) Z)) where
+  pub IsStop-says : (fault : GroupFault) → IsStop meaning floors budget limit workers answers diffusions fault → Says answers workers limit fault
   IsStop-says Memory s = tt
   IsStop-says Stalled s =
       let below : s.first.worker < workers = omega (arith, s.count, s.first.inside) in

@@ -1,4 +1,4 @@
--- Why a group of questions is not run to its end.
+-- Why a group of diffusions is not run to its end.
 use Rattle.std.specs.Prelude.{◌≡◌, ℕ, ◌+◌, ◌<◌, Bool, false, List, length, Vec, slice_index_or}
 use Rattle.std.specs.List.{AllWithin, HoldsAt}
 use Rattle.path_algebra.specs.Algebra.{Algebra}
@@ -24,11 +24,11 @@ pub record IsFirstStop {A V : Type 0} (all : List (Driven A V)) (fault : GroupFa
   pub stopped : HoldsAt (StopsBy fault) all worker
   pub earlier : AllWithin (λ r. r.outcome ≡ outcomes.Ended) all 0 worker
 
--- each worker drove its share of the questions' stations, and the least numbered that stopped before the end did so by this fault
-pub record IsStop {A V Z : Type 0} (meaning : A → Algebra V) (floors : List (FloorData A)) (budget limit workers : ℕ) (answers : ℕ → ℕ → Bool → Type 0) (questions : List (Vec (StationData A V) Z)) (fault : GroupFault) : Type 0 where
+-- each worker drove its share of the diffusions' stations, and the least numbered that stopped before the end did so by this fault
+pub record IsStop {A V Z : Type 0} (meaning : A → Algebra V) (floors : List (FloorData A)) (budget limit workers : ℕ) (answers : ℕ → ℕ → Bool → Type 0) (diffusions : List (Vec (StationData A V) Z)) (fault : GroupFault) : Type 0 where
   pub all : List (Driven A V)
   pub count : length all ≡ workers
-  pub drove : (w : ℕ) (d : Driven A V) → w < workers → Drives meaning floors budget limit answers w (share_of workers w 0 questions) (slice_index_or all w d)
+  pub drove : (w : ℕ) (d : Driven A V) → w < workers → Drives meaning floors budget limit answers w (share_of workers w 0 diffusions) (slice_index_or all w d)
   pub first : IsFirstStop all fault
 
 -- some worker made each turn up to the limit

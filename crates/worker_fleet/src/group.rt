@@ -1,4 +1,4 @@
-//! The stations of a group of questions, dealt to workers, run to their end, and put together again.
+//! The stations of a group of diffusions, dealt to workers, run to their end, and put together again.
 ghost use Rattle.std.specs.Prelude.{◌≡◌, ◌⊎◌, ℕ, ◌<◌, length, map, IfOk, IfErr, IfNone, IfSome, Some, vec_len, slice_index_or};
 ghost use Rattle.std.specs.List.{All};
 ghost use Rattle.worker_fleet.specs.Turns.{IsOnItsFloor};
@@ -141,7 +141,7 @@ fn first_stop<A: PathAlgebra>(answers: &[Driven<'_, A>]) -> Option<GroupFault>
     None
 }
 
-/// The stations of each question, from what all workers return.
+/// The stations of each diffusion, from what all workers return.
 fn put_together<'g, A: PathAlgebra>(
     alloc: Global,
     answers: Vec<Driven<'g, A>>,
@@ -164,7 +164,7 @@ fn put_together<'g, A: PathAlgebra>(
     Ok(lists)
 }
 
-/// The stations of each question, if all workers came to the end; else why the least numbered of the others stopped.
+/// The stations of each diffusion, if all workers came to the end; else why the least numbered of the others stopped.
 fn end_group<'g, A: PathAlgebra>(
     alloc: Global,
     answers: Vec<Driven<'g, A>>,
@@ -185,36 +185,36 @@ fn end_group<'g, A: PathAlgebra>(
     Ok(put_together(alloc, answers, width)?)
 }
 
-/// Runs the stations of a group of questions to their end, dealt in turn to workers on threads of their own.
+/// Runs the stations of a group of diffusions to their end, dealt in turn to workers on threads of their own.
 ///
-/// Worker w has, of each question, each of its stations whose number is w modulo `workers`, question by question and in
+/// Worker w has, of each diffusion, each of its stations whose number is w modulo `workers`, diffusion by diffusion and in
 /// their order. A lack of memory, or of a thread, is reported first; then why the least numbered worker of those that
 /// stopped before the end stopped.
 pub fn run_group<'g, A: PathAlgebra, G: Gate, R: Threads + Wait>(
     rt: &R,
     alloc: Global,
     floors: &[Floor<A>],
-    questions: Vec<Vec<Station<'g, A>>>,
+    diffusions: Vec<Vec<Station<'g, A>>>,
     workers: usize,
     budget: u32,
     limit: u64,
     gate: &G,
 ) -> Result<Vec<Vec<Station<'g, A>>>, GroupFault>
     requires some { 0 < workers }
-    requires width { length floors.now ≡ vec_len questions }
-    requires own { (q : ℕ) (d : _) → q < vec_len questions →
-        All (λ s. IsOnItsFloor floors.now (q, s)) (slice_index_or questions.items q d).items }
-    ensures len { IfOk result (λ v. vec_len v ≡ vec_len questions.entry) }
-    ensures all { IfOk result (λ v. (q k : ℕ) (d e : _) → q < vec_len questions.entry →
-        HasShard k (slice_index_or questions.entry.items q d).items →
+    requires width { length floors.now ≡ vec_len diffusions }
+    requires own { (q : ℕ) (d : _) → q < vec_len diffusions →
+        All (λ s. IsOnItsFloor floors.now (q, s)) (slice_index_or diffusions.items q d).items }
+    ensures len { IfOk result (λ v. vec_len v ≡ vec_len diffusions.entry) }
+    ensures all { IfOk result (λ v. (q k : ℕ) (d e : _) → q < vec_len diffusions.entry →
+        HasShard k (slice_index_or diffusions.entry.items q d).items →
         HasShard k (slice_index_or v.items q e).items) }
-    ensures done { IfOk result (λ v. (q : ℕ) (d : _) → q < vec_len questions.entry →
+    ensures done { IfOk result (λ v. (q : ℕ) (d : _) → q < vec_len diffusions.entry →
         All (IsDone floors.now q) (slice_index_or v.items q d).items) }
     ensures fault { IfErr result (λ f. (f ≡ GroupFault.Memory) ⊎ IsStop A.meaning floors.now budget
-        limit workers (G.may_answer gate.now) questions.entry.items f) }
+        limit workers (G.may_answer gate.now) diffusions.entry.items f) }
 {
-    let width = questions.len();
-    let shares = deal_all(alloc, questions, workers)?;
+    let width = diffusions.len();
+    let shares = deal_all(alloc, diffusions, workers)?;
     let answers = drive_each(rt, alloc, floors, shares, budget, limit, gate)?;
     end_group(alloc, answers, width)
 }

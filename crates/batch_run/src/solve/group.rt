@@ -12,7 +12,7 @@ use path_algebra::PathAlgebra;
 use post_floor::Floor;
 use road_graph::{Graph, Vertex};
 use shard_part::Plan;
-use station::{Station, open_question};
+use station::{Station, open_diffusion};
 use std::alloc::{AllocError, Global};
 use std::sync::Wait;
 use std::thread::Threads;
@@ -36,7 +36,7 @@ fn open_all<'g, A: PathAlgebra>(
     let mut floors = Vec::new(alloc);
     let mut questions = Vec::new(alloc);
     for source in sources {
-        let Ok((floor, stations)) = open_question(alloc, algebra, graph, plan, *source) else {
+        let Ok((floor, stations)) = open_diffusion(alloc, algebra, graph, plan, *source) else {
             return Err(AllocError);
         };
         floors.push(floor)?;

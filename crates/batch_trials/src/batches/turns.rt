@@ -14,7 +14,7 @@ use road_files::read_gr;
 use road_graph::{Graph, Vertex};
 use road_text::Plain;
 use shard_part::Plan;
-use station::{Station, open_question};
+use station::{Station, open_diffusion};
 use std::process::Abort;
 use std::sync::Wait;
 use std::thread::Threads;
@@ -111,7 +111,7 @@ fn turns_alone<A: PathAlgebra>(
 ) -> u64 {
     assert!(rt; 1 <= shards && shards <= 64 && graph.has(Vertex(source)));
     let plan = Plan::blocks(rt.alloc(), graph.vertices(), shards).expect(rt, "memory");
-    let opened = open_question(rt.alloc(), algebra, graph, &plan, Vertex(source));
+    let opened = open_diffusion(rt.alloc(), algebra, graph, &plan, Vertex(source));
     let (floor, stations) = opened.expect(rt, "memory");
     turns_to_the_end(rt, &floor, stations)
 }

@@ -122,7 +122,7 @@ fn turned_by_threads<'g, A: PathAlgebra, R: Threads + Wait + Abort>(
     on_three_threads(rt, floor, first, second, third, budget)
 }
 
-/// The answer of a question over the five vertices from vertex 1, by three threads.
+/// The answer of a diffusion over the five vertices from vertex 1, by three threads.
 fn answered_by_threads<A: PathAlgebra, R: Threads + Wait + Abort + AllocGlobal>(
     rt: &R,
     algebra: A,

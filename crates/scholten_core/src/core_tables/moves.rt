@@ -14,12 +14,12 @@ impl<'g, A: PathAlgebra> CoreTables<'g, A> {
     /// A message is taken: the label becomes the better one, and a neutral vertex is engaged. Says whether the label changed.
     pub fn arrive(&mut self, a: ArcNo, v: Vertex, value: A::Value) -> bool
         requires head { v ≡ (network_of self.old).head a }
-        requires within { v ≤ self.old.question.roads.vertices }
+        requires within { v ≤ self.old.diffusion.roads.vertices }
         requires busy { is_idle ((state_of self.old).token a) ≡ false }
-        ensures same { self.new.question ≡ self.old.question }
-        ensures improved { result ≡ improves_on (A.meaning self.old.question.algebra) value
+        ensures same { self.new.diffusion ≡ self.old.diffusion }
+        ensures improved { result ≡ improves_on (A.meaning self.old.diffusion.algebra) value
             ((state_of self.old).label v) }
-        ensures state { state_of self.new ≡ arrive (A.meaning self.old.question.algebra)
+        ensures state { state_of self.new ≡ arrive (A.meaning self.old.diffusion.algebra)
             (network_of self.old) a value (state_of self.old) }
     {
         let improved = improves(self.algebra, value, self.label(v));
@@ -35,10 +35,10 @@ impl<'g, A: PathAlgebra> CoreTables<'g, A> {
     /// A signal is taken: its arc is idle.
     pub fn free(&mut self, a: ArcNo, v: Vertex)
         requires tail { v ≡ (network_of self.old).tail a }
-        requires within { v ≤ self.old.question.roads.vertices }
+        requires within { v ≤ self.old.diffusion.roads.vertices }
         requires busy { is_idle ((state_of self.old).token a) ≡ false }
-        ensures same { self.new.question ≡ self.old.question }
-        ensures state { state_of self.new ≡ freed (A.meaning self.old.question.algebra)
+        ensures same { self.new.diffusion ≡ self.old.diffusion }
+        ensures state { state_of self.new ≡ freed (A.meaning self.old.diffusion.algebra)
             (network_of self.old) a (state_of self.old) }
     {
         self.tokens[a.0 as usize] = Token::Idle;
@@ -47,11 +47,11 @@ impl<'g, A: PathAlgebra> CoreTables<'g, A> {
 
     /// An engaged vertex with no busy arc out becomes neutral: its engager's arc gets a signal.
     pub fn rest(&mut self, v: Vertex)
-        requires within { v ≤ self.old.question.roads.vertices }
+        requires within { v ≤ self.old.diffusion.roads.vertices }
         requires held { (e : ℕ) → (state_of self.old).engager v ≡ Some e → (state_of self.old).token
             e ≡ Held }
-        ensures same { self.new.question ≡ self.old.question }
-        ensures state { state_of self.new ≡ rest (A.meaning self.old.question.algebra)
+        ensures same { self.new.diffusion ≡ self.old.diffusion }
+        ensures state { state_of self.new ≡ rest (A.meaning self.old.diffusion.algebra)
             (network_of self.old) v (state_of self.old) }
     {
         if let Some(e) = self.engager(v) {
@@ -64,10 +64,10 @@ impl<'g, A: PathAlgebra> CoreTables<'g, A> {
 
     /// Whether an arc out of a vertex is idle, and its last offered label is not the vertex's.
     fn is_due(&self, v: Vertex, b: ArcNo) -> bool
-        requires high { b ≤ length self.now.question.roads.arcs }
-        requires within { v ≤ self.now.question.roads.vertices }
+        requires high { b ≤ length self.now.diffusion.roads.arcs }
+        requires within { v ≤ self.now.diffusion.roads.vertices }
         requires tail { (network_of self.now).tail b ≡ v }
-        ensures { result ≡ due (A.meaning self.now.question.algebra) (network_of self.now) v
+        ensures { result ≡ due (A.meaning self.now.diffusion.algebra) (network_of self.now) v
             (state_of self.now) b }
     {
         self.token(b).is_idle() && !is_same(self.algebra, self.told(b), self.label(v))
@@ -76,11 +76,11 @@ impl<'g, A: PathAlgebra> CoreTables<'g, A> {
     /// Offers the label to an arc if it is due: sends it, extended, unless the extension is refused.
     pub fn offer(&mut self, v: Vertex, b: ArcNo)
         requires low { 1 ≤ b }
-        requires high { b ≤ length self.old.question.roads.arcs }
-        requires within { v ≤ self.old.question.roads.vertices }
+        requires high { b ≤ length self.old.diffusion.roads.arcs }
+        requires within { v ≤ self.old.diffusion.roads.vertices }
         requires tail { (network_of self.old).tail b ≡ v }
-        ensures same { self.new.question ≡ self.old.question }
-        ensures state { state_of self.new ≡ pump_one (A.meaning self.old.question.algebra)
+        ensures same { self.new.diffusion ≡ self.old.diffusion }
+        ensures state { state_of self.new ≡ pump_one (A.meaning self.old.diffusion.algebra)
             (network_of self.old) v b (state_of self.old) }
     {
         if self.is_due(v, b) {

@@ -20,7 +20,7 @@ impl<'g, A: PathAlgebra> CoreTables<'g, A> {
         source: Vertex,
     ) -> Result<CoreTables<'g, A>, Memory>
         requires { HasVertex graph.now source }
-        ensures question { IfOk result (λ c. c.question ≡ record {
+        ensures diffusion { IfOk result (λ c. c.diffusion ≡ record {
           algebra = algebra;
           roads = graph.now;
           source = source;

@@ -17,7 +17,7 @@ use scholten_core::{Item, improves};
 impl<'g, A: PathAlgebra> PartState<'g, A> {
     /// Handles the front item, if there is one.
     pub(crate) fn handle_front(&mut self) -> bool
-        ensures taken { IsTrue result → HandledOne (A.meaning self.old.setup.question.algebra)
+        ensures taken { IsTrue result → HandledOne (A.meaning self.old.setup.diffusion.algebra)
             self.old self.new }
         ensures item { IsTrue result → OwnIdleIsTold self.old → HandledFront A.meaning self.old
             self.new }
@@ -48,7 +48,7 @@ impl<'g, A: PathAlgebra> PartState<'g, A> {
         requires here { place_in self.old.setup (vertex_of (network_of self.old.setup) item) ≡
             self.old.shard }
         requires clear { IsClear self.old (item_arc item) }
-        ensures { self.new ≡ with_taken (A.meaning self.old.setup.question.algebra) item self.old }
+        ensures { self.new ≡ with_taken (A.meaning self.old.setup.diffusion.algebra) item self.old }
     {
         match item {
             Item::Message { arc, value } => {
@@ -82,7 +82,7 @@ impl<'g, A: PathAlgebra> PartState<'g, A> {
         requires here { place_in self.old.setup ((network_of self.old.setup).head a) ≡
             self.old.shard }
         requires clear { IsClear self.old a }
-        ensures { self.new ≡ with_value (A.meaning self.old.setup.question.algebra) a value
+        ensures { self.new ≡ with_value (A.meaning self.old.setup.diffusion.algebra) a value
             ((network_of self.old.setup).head a) self.old }
     {
         let v = self.place(self.head(a));
@@ -98,7 +98,7 @@ impl<'g, A: PathAlgebra> PartState<'g, A> {
         requires here { place_in self.old.setup ((network_of self.old.setup).tail a) ≡
             self.old.shard }
         requires clear { IsClear self.old a }
-        ensures { self.new ≡ with_free (A.meaning self.old.setup.question.algebra) a
+        ensures { self.new ≡ with_free (A.meaning self.old.setup.diffusion.algebra) a
             ((network_of self.old.setup).tail a) self.old }
     {
         let v = self.place(self.tail(a));
@@ -117,9 +117,9 @@ impl<'g, A: PathAlgebra> PartState<'g, A> {
     /// Sets the label of the vertex at a place to the value, if that is better. Says whether it was.
     fn improve(&mut self, v: VertexPlace, value: A::Value) -> bool
         requires { IsPlace self.old v.vertex v.at }
-        ensures improved { result ≡ improves_on (A.meaning self.old.setup.question.algebra) value
+        ensures improved { result ≡ improves_on (A.meaning self.old.setup.diffusion.algebra) value
             ((state_in self.old).label v.vertex) }
-        ensures moved { self.new ≡ labelled (A.meaning self.old.setup.question.algebra) value
+        ensures moved { self.new ≡ labelled (A.meaning self.old.setup.diffusion.algebra) value
             v.vertex self.old }
     {
         let improved = improves(self.algebra, value, self.label_at(v));
@@ -149,7 +149,7 @@ impl<'g, A: PathAlgebra> PartState<'g, A> {
     fn rest(&mut self, v: VertexPlace)
         requires place { IsPlace self.old v.vertex v.at }
         requires vertex { v.vertex ≢ 0 }
-        ensures { self.new ≡ rested (A.meaning self.old.setup.question.algebra) v.vertex self.old }
+        ensures { self.new ≡ rested (A.meaning self.old.setup.diffusion.algebra) v.vertex self.old }
     {
         if let Some(e) = self.engager_at(v) {
             if self.deficit_at(v) == 0 {

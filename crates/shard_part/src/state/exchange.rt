@@ -37,7 +37,7 @@ impl<'g, A: PathAlgebra> PartState<'g, A> {
     pub(crate) fn receive(&mut self, batch: &mut Batch<A::Value>)
         requires room { length self.old.queue + length batch.old.items ≤ queue_bound
             (network_of self.old.setup) (place_in self.old.setup) self.old.shard }
-        requires fits { Fits (A.meaning self.old.setup.question.algebra) self.old batch.old.items }
+        requires fits { Fits (A.meaning self.old.setup.diffusion.algebra) self.old batch.old.items }
         ensures part { self.new ≡ record self.old { queue = self.old.queue ++ batch.old.items } }
         ensures batch { batch.new ≡ buffer [] batch.old.capacity }
     {
@@ -48,7 +48,7 @@ impl<'g, A: PathAlgebra> PartState<'g, A> {
     /// value of the algebra and comes on an arc from another shard into this one that is no engager here, and each signal comes
     /// back on an arc from this shard into another that is busy here.
     pub fn fits(&self, batch: &Batch<A::Value>) -> bool
-        ensures { IsTrue result ↔ Fits (A.meaning self.now.setup.question.algebra) self.now
+        ensures { IsTrue result ↔ Fits (A.meaning self.now.setup.diffusion.algebra) self.now
             batch.now.items }
     {
         state_holds(self);
@@ -65,7 +65,7 @@ impl<'g, A: PathAlgebra> PartState<'g, A> {
     /// Whether an item is alone on its arc, among those of a batch from an index on and those of this part, and may be received.
     fn fits_before(&self, item: Item<A::Value>, batch: &Batch<A::Value>, next: usize) -> bool
         requires { next ≤ length batch.now.items }
-        ensures { IsTrue result ↔ FitsBefore (A.meaning self.now.setup.question.algebra) self.now
+        ensures { IsTrue result ↔ FitsBefore (A.meaning self.now.setup.diffusion.algebra) self.now
             item (drop next batch.now.items) }
     {
         let arc = arc_of(item);
@@ -95,7 +95,7 @@ impl<'g, A: PathAlgebra> PartState<'g, A> {
 
     /// Whether an item may be received by itself.
     fn fits_alone(&self, item: Item<A::Value>) -> bool
-        ensures { IsTrue result ↔ FitsAlone (A.meaning self.now.setup.question.algebra) self.now
+        ensures { IsTrue result ↔ FitsAlone (A.meaning self.now.setup.diffusion.algebra) self.now
             item }
     {
         match item {
@@ -108,15 +108,15 @@ impl<'g, A: PathAlgebra> PartState<'g, A> {
 
     /// Whether an arc is one of the graph's.
     fn has_arc(&self, arc: ArcNo) -> bool
-        ensures { IsTrue result ↔ HasArc self.now.setup.question.roads arc }
+        ensures { IsTrue result ↔ HasArc self.now.setup.diffusion.roads arc }
     {
         1 <= arc.0 && arc.0 as usize <= self.graph.arcs()
     }
 
     /// Whether one vertex is of another shard and the other of this one.
     fn leads_here(&self, from: Vertex, to: Vertex) -> bool
-        requires { (from ≤ self.now.setup.question.roads.vertices) ×
-            (to ≤ self.now.setup.question.roads.vertices) }
+        requires { (from ≤ self.now.setup.diffusion.roads.vertices) ×
+            (to ≤ self.now.setup.diffusion.roads.vertices) }
         ensures { IsTrue result ↔ (place_in self.now.setup to ≡ self.now.shard) ×
             (place_in self.now.setup from ≢ self.now.shard) }
     {
@@ -136,7 +136,7 @@ impl<'g, A: PathAlgebra> PartState<'g, A> {
 
     /// Whether an arc comes from another shard into this one and is no engager here.
     fn may_engage(&self, arc: ArcNo) -> bool
-        requires { HasArc self.now.setup.question.roads arc }
+        requires { HasArc self.now.setup.diffusion.roads arc }
         ensures { IsTrue result ↔ MayEngage self.now arc }
     {
         let ends = self.graph.arc(arc);
@@ -145,7 +145,7 @@ impl<'g, A: PathAlgebra> PartState<'g, A> {
 
     /// Whether an arc leaves this shard for another and is busy.
     fn awaits(&self, arc: ArcNo) -> bool
-        requires { HasArc self.now.setup.question.roads arc }
+        requires { HasArc self.now.setup.diffusion.roads arc }
         ensures { IsTrue result ↔ Awaits self.now arc }
     {
         let ends = self.graph.arc(arc);

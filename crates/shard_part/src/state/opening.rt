@@ -38,7 +38,7 @@ impl<'g, A: PathAlgebra> PartState<'g, A> {
         requires shard { shard < plan.now.shards }
         ensures part { IfOk result (λ d. d ≡ opened_part (A.meaning algebra)
             (record {
-              question = record { algebra = algebra; roads = graph.now; source = source };
+              diffusion = record { algebra = algebra; roads = graph.now; source = source };
               plan = plan.now;
             }) shard) }
         ensures share { IfOk result (λ d. HoldsShare A.meaning (state_after (A.meaning algebra)

@@ -6,7 +6,7 @@ ghost use Rattle.shard_part.specs.Capacities.{queue_bound, outbox_bound};
 ghost use Rattle.shard_part.specs.Tallies.{top};
 ghost use Rattle.shard_part.specs.Readings.{IsOwn, has_ended, tally_in};
 
-use crate::question::Question;
+use crate::setup::Setup;
 use crate::shard::Shard;
 use crate::state::PartState;
 use crate::store::place::ArcPlace;
@@ -17,11 +17,11 @@ use scholten_core::ENTRY;
 use std::snapshot::Snapshot;
 
 impl<'g, A: PathAlgebra> PartState<'g, A> {
-    /// The question that it is a part of.
-    pub fn question(&self) -> Question<A>
+    /// What it shares with the other parts, for contracts.
+    pub fn setup(&self) -> Setup<A>
         ensures { result ≡ self.now.setup }
     {
-        Question {
+        Setup {
             algebra: self.algebra,
             graph: Snapshot::of(self.graph),
             plan: Snapshot::of(self.plan),
@@ -69,7 +69,7 @@ impl<'g, A: PathAlgebra> PartState<'g, A> {
         self.outs[to.0 as usize].len()
     }
 
-    /// Whether the question has ended: arc 0 is idle. False except at the source's part.
+    /// Whether the diffusion has ended: arc 0 is idle. False except at the source's part.
     pub fn ended(&self) -> bool
         ensures { result ≡ has_ended self.now }
     {
@@ -103,7 +103,7 @@ impl<'g, A: PathAlgebra> PartState<'g, A> {
     pub fn deficit(&self, v: Vertex) -> u32
         requires { IsOwn self.now v }
         ensures { result ≡ busy_out (network_of self.now.setup) v (state_in self.now)
-            (suc (length self.now.setup.question.roads.arcs)) }
+            (suc (length self.now.setup.diffusion.roads.arcs)) }
     {
         self.deficit_at(self.place(v))
     }

@@ -21,7 +21,7 @@ impl<'g, A: PathAlgebra> PartState<'g, A> {
     pub(super) fn pump_if(&mut self, v: VertexPlace, improved: bool)
         requires place { IsPlace self.old v.vertex v.at }
         requires vertex { v.vertex ≢ 0 }
-        ensures { self.new ≡ cond improved (offered_all (A.meaning self.old.setup.question.algebra)
+        ensures { self.new ≡ cond improved (offered_all (A.meaning self.old.setup.diffusion.algebra)
             v.vertex (outgoing (network_of self.old.setup) v.vertex) self.old) self.old }
     {
         if improved {
@@ -33,7 +33,7 @@ impl<'g, A: PathAlgebra> PartState<'g, A> {
     fn pump(&mut self, v: VertexPlace)
         requires place { IsPlace self.old v.vertex v.at }
         requires vertex { v.vertex ≢ 0 }
-        ensures { self.new ≡ offered_all (A.meaning self.old.setup.question.algebra) v.vertex
+        ensures { self.new ≡ offered_all (A.meaning self.old.setup.diffusion.algebra) v.vertex
             (outgoing (network_of self.old.setup) v.vertex) self.old }
     {
         let graph = self.graph;
@@ -53,8 +53,8 @@ impl<'g, A: PathAlgebra> PartState<'g, A> {
         requires tail { (network_of self.old.setup).tail b.arc ≡ v.vertex }
         requires arc { IsArc (network_of self.old.setup) b.arc }
         requires graph { b.arc ≢ 0 }
-        requires road { road ≡ road_of (arc_of self.old.setup.question.roads b.arc) }
-        ensures { self.new ≡ offered (A.meaning self.old.setup.question.algebra) v.vertex b.arc
+        requires road { road ≡ road_of (arc_of self.old.setup.diffusion.roads b.arc) }
+        ensures { self.new ≡ offered (A.meaning self.old.setup.diffusion.algebra) v.vertex b.arc
             self.old }
     {
         if self.is_due(v, b) {
@@ -72,7 +72,7 @@ impl<'g, A: PathAlgebra> PartState<'g, A> {
         requires tail { (network_of self.old.setup).tail b.arc ≡ v.vertex }
         requires arc { IsArc (network_of self.old.setup) b.arc }
         requires graph { b.arc ≢ 0 }
-        ensures { self.new ≡ offered (A.meaning self.old.setup.question.algebra) v.vertex b.arc
+        ensures { self.new ≡ offered (A.meaning self.old.setup.diffusion.algebra) v.vertex b.arc
             self.old }
     {
         if self.is_due(v, b) {
@@ -86,7 +86,7 @@ impl<'g, A: PathAlgebra> PartState<'g, A> {
         requires place { IsPlace self.now v.vertex v.at }
         requires row { IsArcRow self.now b.arc b.at }
         requires tail { (network_of self.now.setup).tail b.arc ≡ v.vertex }
-        ensures { result ≡ due (A.meaning self.now.setup.question.algebra)
+        ensures { result ≡ due (A.meaning self.now.setup.diffusion.algebra)
             (network_of self.now.setup) v.vertex (state_in self.now) b.arc }
     {
         neither(
@@ -103,10 +103,10 @@ impl<'g, A: PathAlgebra> PartState<'g, A> {
         requires tail { (network_of self.old.setup).tail b.arc ≡ v.vertex }
         requires arc { IsArc (network_of self.old.setup) b.arc }
         requires graph { b.arc ≢ 0 }
-        requires road { road ≡ road_of (arc_of self.old.setup.question.roads b.arc) }
-        requires due { due (A.meaning self.old.setup.question.algebra) (network_of self.old.setup)
+        requires road { road ≡ road_of (arc_of self.old.setup.diffusion.roads b.arc) }
+        requires due { due (A.meaning self.old.setup.diffusion.algebra) (network_of self.old.setup)
             v.vertex (state_in self.old) b.arc ≡ true }
-        ensures { self.new ≡ offered (A.meaning self.old.setup.question.algebra) v.vertex b.arc
+        ensures { self.new ≡ offered (A.meaning self.old.setup.diffusion.algebra) v.vertex b.arc
             self.old }
     {
         let label = self.label_at(v);

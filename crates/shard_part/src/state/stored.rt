@@ -17,7 +17,7 @@ use scholten_core::{head_of, tail_of};
 impl<'g, A: PathAlgebra> PartState<'g, A> {
     /// A vertex with its place.
     pub(super) fn place(&self, v: Vertex) -> VertexPlace
-        requires within { v ≤ self.now.setup.question.roads.vertices }
+        requires within { v ≤ self.now.setup.diffusion.roads.vertices }
         requires here { v ≢ 0 → place_in self.now.setup v ≡ self.now.shard }
         ensures vertex { result.vertex ≡ v }
         ensures place { IsPlace self.now result.vertex result.at }
@@ -72,7 +72,7 @@ impl<'g, A: PathAlgebra> PartState<'g, A> {
         requires place { IsPlace self.now v.vertex v.at }
         requires vertex { v.vertex ≢ 0 }
         requires inside { k < length (outgoing (network_of self.now.setup) v.vertex) }
-        ensures { result ≡ road_of (arc_of self.now.setup.question.roads
+        ensures { result ≡ road_of (arc_of self.now.setup.diffusion.roads
             (get_or (outgoing (network_of self.now.setup) v.vertex) k 0)) }
     {
         self.graph.roads_from(v.vertex)[k]
@@ -83,7 +83,7 @@ impl<'g, A: PathAlgebra> PartState<'g, A> {
         requires { IsArc (network_of self.now.setup) a }
         ensures head { result ≡ (network_of self.now.setup).head a }
         ensures low { 1 ≤ result }
-        ensures within { result ≤ self.now.setup.question.roads.vertices }
+        ensures within { result ≤ self.now.setup.diffusion.roads.vertices }
     {
         head_of(self.graph, self.source, a)
     }
@@ -92,14 +92,14 @@ impl<'g, A: PathAlgebra> PartState<'g, A> {
     pub(super) fn tail(&self, a: ArcNo) -> Vertex
         requires { IsArc (network_of self.now.setup) a }
         ensures tail { result ≡ (network_of self.now.setup).tail a }
-        ensures within { result ≤ self.now.setup.question.roads.vertices }
+        ensures within { result ≤ self.now.setup.diffusion.roads.vertices }
     {
         tail_of(self.graph, a)
     }
 
     /// The shard of a vertex, and of the environment that of the source.
     pub(super) fn shard_of(&self, v: Vertex) -> Shard
-        requires { v ≤ self.now.setup.question.roads.vertices }
+        requires { v ≤ self.now.setup.diffusion.roads.vertices }
         ensures { result ≡ place_in self.now.setup v }
     {
         let stands = if v.0 == 0 { self.source } else { v };
@@ -162,7 +162,7 @@ impl<'g, A: PathAlgebra> PartState<'g, A> {
     pub(super) fn deficit_at(&self, v: VertexPlace) -> u32
         requires { IsPlace self.now v.vertex v.at }
         ensures { result ≡ busy_out (network_of self.now.setup) v.vertex (state_in self.now)
-            (suc (length self.now.setup.question.roads.arcs)) }
+            (suc (length self.now.setup.diffusion.roads.arcs)) }
     {
         self.tables.vertices.deficit(v.at)
     }

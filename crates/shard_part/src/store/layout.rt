@@ -46,7 +46,7 @@ impl Extent {
     }
 }
 
-/// A shard of a question, whatever its algebra.
+/// A shard of a diffusion, whatever its algebra.
 #[derive(Debug, Drop)]
 pub(crate) struct ShardLayout<'g> {
     pub graph: &'g Graph,
@@ -61,9 +61,9 @@ impl<'g> Model for ShardLayout<'g> {
 
     ghost Value = { ShardLayoutData };
 
-    ghost view = { λ w. record { setup = record { question = record { algebra = tt; roads = w.graph.now; source = w.source }; plan = w.plan.now }; shard = w.shard } };
+    ghost view = { λ w. record { setup = record { diffusion = record { algebra = tt; roads = w.graph.now; source = w.source }; plan = w.plan.now }; shard = w.shard } };
 
-    ghost invariant = { λ w. IsPlanned (record { question = record { algebra = tt {0}; roads = w.graph.now; source = w.source }; plan = w.plan.now }) w.shard };
+    ghost invariant = { λ w. IsPlanned (record { diffusion = record { algebra = tt {0}; roads = w.graph.now; source = w.source }; plan = w.plan.now }) w.shard };
 }
 
 impl<'g> ShardLayout<'g> {
@@ -83,7 +83,7 @@ impl<'g> ShardLayout<'g> {
 
     /// Whether a vertex is one of the shard.
     fn has(&self, v: Vertex) -> bool
-        requires { HasVertex self.now.setup.question.roads v }
+        requires { HasVertex self.now.setup.diffusion.roads v }
         ensures { result ≡ eqb (place_in self.now.setup v) self.now.shard }
     {
         self.plan.shard_of(v) == self.shard
@@ -92,7 +92,7 @@ impl<'g> ShardLayout<'g> {
     /// The first and the last vertex of the shard, and how many it has.
     fn extent(&self) -> Extent
         ensures extent { IsExtent (placed (place_in self.now.setup) self.now.shard 1
-            self.now.setup.question.roads.vertices) result }
+            self.now.setup.diffusion.roads.vertices) result }
         ensures within { (1 ≤ result.first) × (result.first ≤ 2 ^ 26) × (result.last ≤ 2 ^ 26) ×
             (result.count ≤ 2 ^ 26) }
     {
@@ -140,7 +140,7 @@ impl<'g> ShardLayout<'g> {
 
     /// How many arcs leave a vertex; one leaves the environment.
     fn count_out(&self, v: Vertex) -> usize
-        requires { v ≤ self.now.setup.question.roads.vertices }
+        requires { v ≤ self.now.setup.diffusion.roads.vertices }
         ensures { result ≡ length (outgoing (network_of self.now.setup) v) }
     {
         if v.0 == 0 { 1 } else { self.graph.out(v).len() }
@@ -166,7 +166,7 @@ impl<'g> ShardLayout<'g> {
 
     /// Counts the arcs out of a vertex, each at the shard that it leads to.
     fn add_out(&self, v: Vertex, capacities: &mut [usize])
-        requires vertex { HasVertex self.now.setup.question.roads v }
+        requires vertex { HasVertex self.now.setup.diffusion.roads v }
         requires shards { length capacities.old ≡ self.now.setup.plan.shards }
         requires small { (t : ℕ) → get_or capacities.old t 0 ≤ 2 ^ 32 }
         ensures { CountsOut self.now v capacities.old capacities.new }
@@ -179,7 +179,7 @@ impl<'g> ShardLayout<'g> {
 
     /// Counts the arcs into a vertex from other shards, each at the shard that it comes from.
     fn add_into(&self, v: Vertex, capacities: &mut [usize])
-        requires vertex { HasVertex self.now.setup.question.roads v }
+        requires vertex { HasVertex self.now.setup.diffusion.roads v }
         requires shards { length capacities.old ≡ self.now.setup.plan.shards }
         requires small { (t : ℕ) → get_or capacities.old t 0 ≤ 2 ^ 33 }
         ensures { CountsInto self.now v capacities.old capacities.new }

@@ -39,8 +39,8 @@ impl<'g, A: PathAlgebra> Station<'g, A> {
         requires { IsOwn self.now.part v }
         ensures label { result ≡ (state_in self.now.part).label v }
         ensures walk { IfSome result
-            (λ x. IsWalkValue (A.meaning self.now.part.setup.question.algebra)
-            self.now.part.setup.question.roads (self.now.part.setup.question.source ∷ []) v x) }
+            (λ x. IsWalkValue (A.meaning self.now.part.setup.diffusion.algebra)
+            self.now.part.setup.diffusion.roads (self.now.part.setup.diffusion.source ∷ []) v x) }
     {
         part_holds(&self.part);
         self.part.label(v)

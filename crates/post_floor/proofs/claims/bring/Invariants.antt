@@ -1,6 +1,6 @@
 use Rattle.std.proofs.Common.{◌≡◌, ◌<◌, ◌≤◌, length, map}
 use Rattle.std.specs.Prelude.{ℕ}
-use Rattle.shard_part.specs.PartState.{Setup}
+use Rattle.shard_part.specs.PartState.{SetupData}
 use Rattle.shard_part.specs.Weights.{total, is}
 use Rattle.post_floor.specs.declared.view.View.{View}
 use Rattle.post_floor.specs.Claims.{before}
@@ -17,7 +17,7 @@ invariant-loop-claims g l = record {
   id : l.pass.id ≡ l.initial.pass.id;
   view : l.pass.me.0 ≡ l.initial.pass.me.0;
   claim : 0 < total (is l.word) l.claims.items;
-  open_still : (t : Setup g.row.A.Denot) (s : ℕ) (v : View g.row.A.Denot g.row.A-Value.Denot) → AreOpen t s v l.initial.pass.me.1 l.initial.claims.items → AreOpen t s v l.pass.me.1 l.claims.items;
+  open_still : (t : SetupData g.row.A.Denot) (s : ℕ) (v : View g.row.A.Denot g.row.A-Value.Denot) → AreOpen t s v l.initial.pass.me.1 l.initial.claims.items → AreOpen t s v l.pass.me.1 l.claims.items;
 }
 
 abbrev pub decreases-loop-claims : goal.decreases-loop-claims

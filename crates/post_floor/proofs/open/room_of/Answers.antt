@@ -7,13 +7,13 @@ use Rattle.post_floor.proofs.open.room_of.Goals as goal
 pub offset_bounds-parts-from : goal.offset_bounds-parts-from
 offset_bounds-parts-from g c = let l =
     ap length c.requires.parts
-    ∙ opened_long (g.A.PathAlgebra.meaning c.args.first.now.setup.question.algebra) c.args.first.now.setup 0 c.args.shards in
+    ∙ opened_long (g.A.PathAlgebra.meaning c.args.first.now.setup.diffusion.algebra) c.args.first.now.setup 0 c.args.shards in
     let b = (pair_below c.args.shards c.args.k c.requires.word).0 in omega (arith, l, b)
 
 pub bounds-parts-from : goal.bounds-parts-from
 bounds-parts-from g c = let l =
     ap length c.requires.parts
-    ∙ opened_long (g.A.PathAlgebra.meaning c.args.first.now.setup.question.algebra) c.args.first.now.setup 0 c.args.shards in
+    ∙ opened_long (g.A.PathAlgebra.meaning c.args.first.now.setup.diffusion.algebra) c.args.first.now.setup 0 c.args.shards in
     let b = (pair_below c.args.shards c.args.k c.requires.word).0 in omega (arith, l, b)
 
 pub capacity-requires-clause-other : goal.capacity-requires-clause-other

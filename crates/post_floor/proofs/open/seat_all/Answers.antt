@@ -17,7 +17,7 @@ split_seat-own-requires g c = let inv = c.loop-shard.invariant in let k = inv.5 
 pub sit-requires-clause-part : goal.sit-requires-clause-part
 sit-requires-clause-part g c κs within =
     let inv = c.loop-shard.invariant in
-    let t = cut_opened (g.A.PathAlgebra.meaning c.args.table.now.key.question.algebra) c.args.table.now.key c.args.shards inv.0
+    let t = cut_opened (g.A.PathAlgebra.meaning c.args.table.now.key.diffusion.algebra) c.args.table.now.key c.args.shards inv.0
     c.loop-shard.pass.me.0.parts c.args.pass.me.0.parts (ap (λ m. m.0.parts) c.requires.parts) inv.2 (omega (arith, inv.3, c.loop-shard-test.true)) in (
       t.0,
       c.split_seat-own.ensures.4 ∙ ap (λ v. (cut_right v, [])) inv.5 ∙ ap (λ z. (knows c.args.shards z, [])) t.1,
@@ -29,7 +29,7 @@ sit-requires-clause-part g c κs within =
 pub loop-shard-preserved : goal.loop-shard-preserved
 loop-shard-preserved g c =
     let inv = c.loop-shard.invariant in
-    let t = cut_opened (g.A.PathAlgebra.meaning c.args.table.now.key.question.algebra) c.args.table.now.key c.args.shards inv.0
+    let t = cut_opened (g.A.PathAlgebra.meaning c.args.table.now.key.diffusion.algebra) c.args.table.now.key c.args.shards inv.0
     c.loop-shard.pass.me.0.parts c.args.pass.me.0.parts (ap (λ m. m.0.parts) c.requires.parts) inv.2 (omega (arith, inv.3, c.loop-shard-test.true)) in
     let p = t.0 in
     let here : c.split_seat-own.new.seat.me.0 ≡ cut_left c.loop-shard.pass.me.0 = ap (λ z. z.0) c.split_seat-own.ensures.2 in
@@ -54,4 +54,4 @@ loop-shard-init g c = let p = ap (λ m. m.0) c.requires.parts in
 pub returns : goal.returns
 returns g c = let inv = c.loop-shard.invariant in
     inv.1 ∙ ap (map (seat_of c.args.table.now.table_id c.args.shards)) (none_more inv.0 c.loop-shard.pass.me.0.parts _ (inv.2 ∙ ap (λ m. m.0.parts) c.requires.parts)
-    (let l = opened_long (g.A.PathAlgebra.meaning c.args.table.now.key.question.algebra) c.args.table.now.key 0 c.args.shards in let k = inv.3 in omega (arith, l, k)))
+    (let l = opened_long (g.A.PathAlgebra.meaning c.args.table.now.key.diffusion.algebra) c.args.table.now.key 0 c.args.shards in let k = inv.3 in omega (arith, l, k)))

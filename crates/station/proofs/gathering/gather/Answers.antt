@@ -13,10 +13,10 @@ unreachable-requires g c =
 pub returns-in-Ok-close-clause-gathered : goal.returns-in-Ok-close-clause-gathered
 returns-in-Ok-close-clause-gathered g c =
     let laws = g.met.A.PathAlgebra g.world.𝓛 g.world.𝓜 g.world.𝓡 ((λ s x. x), (λ x. x), (λ x. x), λ x. x) in
-    let f = c.args.floor in let A = g.A.PathAlgebra.meaning f.setup.question.algebra in let closed = c.in-Ok-close.ensures.closed in
+    let f = c.args.floor in let A = g.A.PathAlgebra.meaning f.setup.diffusion.algebra in let closed = c.in-Ok-close.ensures.closed in
     let there = subst (λ ss. (j : ℕ) → j < f.setup.plan.shards → IsThere ss j) c.deref.ensures.value c.in-Ok.ensures.there in (
       there,
       gathered g.A.PathAlgebra.meaning laws.lawful f.setup 0 f.id c.args.stations.items c.hand_over-seats.result.0.items c.hand_over-seats.result.1
           c.from_vec-labels.result closed.1.0 _ _ c.in-Ok.ensures.planned
-          (subst (AreBest A f.setup.question.roads (f.setup.question.source ∷ [])) (sym c.from_vec-labels.ensures) c.in-Ok.ensures.labels) closed.0 c.hand_over-seats.ensures closed.1.1 closed.1.2,
+          (subst (AreBest A f.setup.diffusion.roads (f.setup.diffusion.source ∷ [])) (sym c.from_vec-labels.ensures) c.in-Ok.ensures.labels) closed.0 c.hand_over-seats.ensures closed.1.1 closed.1.2,
     )

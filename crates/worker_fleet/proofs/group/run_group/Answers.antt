@@ -15,7 +15,7 @@ shares_are : (g : _) (c : In_ok-shares g) → length c.in_ok-shares.shares.items
 shares_are g c = search rules
 
 placed : (g : _) (c : In_ok-shares g) → All (λ s. All (IsOnItsFloor c.args.floors.now) s.items) c.in_ok-shares.shares.items
-placed g c = shares_placed c.args.floors.now c.args.workers c.in_ok-shares.shares.items c.args.questions.items c.in_ok-shares.ensures.dealt
+placed g c = shares_placed c.args.floors.now c.args.workers c.in_ok-shares.shares.items c.args.diffusions.items c.in_ok-shares.ensures.dealt
     (shares_are g c) (λ q d low. c.requires.own q d (search rules))
 
 -- as many answers as shares
@@ -46,7 +46,7 @@ returns-clause-fault g c =
     IfErr-weaker c.end_group.result _ _ (λ f h. elim h [
       | inl memory ↦ inl memory.0
       | inr first ↦ inr (is_stop _ _ _ _ c.args.workers _ _ _ (some g at.In_ok-shares) (answers_are g at.In_ok-answers)
-          (each g at.In_ok-answers) c.args.questions.items c.in_ok-shares.ensures.dealt (shares_are g at.In_ok-shares) f first)
+          (each g at.In_ok-answers) c.args.diffusions.items c.in_ok-shares.ensures.dealt (shares_are g at.In_ok-shares) f first)
     ]) c.end_group.ensures.fault
 
 pub returns-clause-all : goal.returns-clause-all
@@ -55,7 +55,7 @@ returns-clause-all g c =
     IfOk-weaker c.end_group.result _ _ (λ v put q k d e low h.
     rw (put q e (search rules))
     (none_lost _ _ _ _ c.args.workers _ _ _ (some g at.In_ok-shares) (answers_are g at.In_ok-answers)
-    (each g at.In_ok-answers) c.args.questions.items c.in_ok-shares.ensures.dealt (shares_are g at.In_ok-shares) c.requires.some q k d
+    (each g at.In_ok-answers) c.args.diffusions.items c.in_ok-shares.ensures.dealt (shares_are g at.In_ok-shares) c.requires.some q k d
     (search rules) h)) c.end_group.ensures.put
 
 pub returns-clause-done : goal.returns-clause-done

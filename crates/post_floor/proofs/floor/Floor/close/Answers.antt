@@ -8,8 +8,8 @@ use Rattle.post_floor.proofs.floor.Floor.close.Goals as goal
 
 pub returns-clause-closed : goal.returns-clause-closed
 returns-clause-closed g c =
-    let question : c.self.inside.table.shared.key ≡ c.args.self.setup = ap (λ f. f.setup) c.self.view_is in
-    let count : c.args.self.setup.plan.shards ≡ c.self.inside.shards = ap (λ u. u.plan.shards) (sym question) ∙ c.self.invariant.1 in
+    let diffusion : c.self.inside.table.shared.key ≡ c.args.self.setup = ap (λ f. f.setup) c.self.view_is in
+    let count : c.args.self.setup.plan.shards ≡ c.self.inside.shards = ap (λ u. u.plan.shards) (sym diffusion) ∙ c.self.invariant.1 in
     let yes : IsTrue c.all_seated.result = search rules in
     let seated : AllSeated c.self.inside.shards c.args.seats.items = subst (AllSeated c.self.inside.shards) c.deref.ensures.value (c.all_seated.ensures.0 yes) in
     let w = c.join_all-pass.result.me.0 in
@@ -22,7 +22,7 @@ returns-clause-closed g c =
       (
         w,
         joined,
-        subst (λ u. FinalView g.A.PathAlgebra.meaning u w c.of-closed.result.words (map some c.of-closed.result.slots)) question
+        subst (λ u. FinalView g.A.PathAlgebra.meaning u w c.of-closed.result.words (map some c.of-closed.result.slots)) diffusion
             (subst (λ d. FinalView g.A.PathAlgebra.meaning c.self.inside.table.shared.key w d.words (map some d.slots)) (sym c.of-closed.ensures) last),
       ),
     )

@@ -27,11 +27,11 @@ pub new-requires : goal.new-requires
 new-requires g c = let f = c.requires.fresh in
     let o0 = opened_first g.A.PathAlgebra.meaning f.0 c.args.parts.now c.args.plan.now c.index-parts-0.result c.shards-shards.result f.1 f.2
     c.shards-shards.ensures.count c.shards-shards.ensures.within.0 c.index-parts-0.is in
-    let q_is = (c.question-question.ensures ∙ ap (λ u. u.setup) c.deref.ensures) in
+    let q_is = (c.setup-setup.ensures ∙ ap (λ u. u.setup) c.deref.ensures) in
     let x = c.index-parts-0.result.setup in let n = o0.2 in
     subst (λ u. FloorInvariant g.A.PathAlgebra.meaning u
     (opening c.as_slice.result.now c.in_ok-slots.slots.items
-    (knows u.plan.shards (opened_parts (g.A.PathAlgebra.meaning u.question.algebra) u 0 u.plan.shards)))) (sym q_is)
+    (knows u.plan.shards (opened_parts (g.A.PathAlgebra.meaning u.diffusion.algebra) u 0 u.plan.shards)))) (sym q_is)
     (opens g.A.PathAlgebra.meaning x (subst (IsPlanned x) o0.3 c.part_holds.ensures.planned) c.as_slice.result.now c.in_ok-slots.slots.items
     (c.as_slice.ensures.value ∙ c.in_ok-words.ensures.items_if_clones_equal (λ y e. search rules)
     ∙ ap (λ k. replicate (k + 1) 0) c.mailbox_count.ensures ∙ ap (λ k. replicate (box_count k + 1) 0) (sym n))
@@ -43,7 +43,7 @@ seat_all-requires-clause-shards g c κs within =
     let f = c.requires.fresh in
     let o0 = opened_first g.A.PathAlgebra.meaning f.0 c.args.parts.now c.args.plan.now c.index-parts-0.result c.shards-shards.result f.1 f.2
     c.shards-shards.ensures.count c.shards-shards.ensures.within.0 c.index-parts-0.is in
-    let ok = c.in-Ok.ensures.ok in let key = ok.5 ∙ (c.question-question.ensures ∙ ap (λ u. u.setup) c.deref.ensures) in
+    let ok = c.in-Ok.ensures.ok in let key = ok.5 ∙ (c.setup-setup.ensures ∙ ap (λ u. u.setup) c.deref.ensures) in
     (ap (λ u. u.plan.shards) key ∙ o0.2, c.shards-shards.ensures.within.1)
 
 pub seat_all-requires-clause-parts : goal.seat_all-requires-clause-parts
@@ -51,16 +51,16 @@ seat_all-requires-clause-parts g c κs within =
     let f = c.requires.fresh in
     let o0 = opened_first g.A.PathAlgebra.meaning f.0 c.args.parts.now c.args.plan.now c.index-parts-0.result c.shards-shards.result f.1 f.2
     c.shards-shards.ensures.count c.shards-shards.ensures.within.0 c.index-parts-0.is in
-    let ok = c.in-Ok.ensures.ok in let key = ok.5 ∙ (c.question-question.ensures ∙ ap (λ u. u.setup) c.deref.ensures) in
-    let sh = ap (λ u. u.plan.shards) (c.question-question.ensures ∙ ap (λ u. u.setup) c.deref.ensures) ∙ o0.2 in
-    ok.4 ∙ (λ i. (knows (sh i) (opened_parts (g.A.PathAlgebra.meaning (sym ok.5 i).question.algebra) (sym ok.5 i) 0 (sh i)), []))
+    let ok = c.in-Ok.ensures.ok in let key = ok.5 ∙ (c.setup-setup.ensures ∙ ap (λ u. u.setup) c.deref.ensures) in
+    let sh = ap (λ u. u.plan.shards) (c.setup-setup.ensures ∙ ap (λ u. u.setup) c.deref.ensures) ∙ o0.2 in
+    ok.4 ∙ (λ i. (knows (sh i) (opened_parts (g.A.PathAlgebra.meaning (sym ok.5 i).diffusion.algebra) (sym ok.5 i) 0 (sh i)), []))
 
 pub invariant_of-result : goal.invariant_of-result
 invariant_of-result g c =
     let f = c.requires.fresh in
     let o0 = opened_first g.A.PathAlgebra.meaning f.0 c.args.parts.now c.args.plan.now c.index-parts-0.result c.shards-shards.result f.1 f.2
     c.shards-shards.ensures.count c.shards-shards.ensures.within.0 c.index-parts-0.is in
-    let ok = c.in-Ok.ensures.ok in let key = ok.5 ∙ (c.question-question.ensures ∙ ap (λ u. u.setup) c.deref.ensures) in
+    let ok = c.in-Ok.ensures.ok in let key = ok.5 ∙ (c.setup-setup.ensures ∙ ap (λ u. u.setup) c.deref.ensures) in
     let n = ap (λ u. u.plan.shards) key ∙ o0.2 in (
       record {
         words = ok.0 ∙ ap length (c.as_slice.ensures.value ∙ c.in_ok-words.ensures.items_if_clones_equal (λ y e. search rules)) ∙ length-replicate _ _
@@ -77,7 +77,7 @@ returns-clause-floor g c =
     let f = c.requires.fresh in
     let o0 = opened_first g.A.PathAlgebra.meaning f.0 c.args.parts.now c.args.plan.now c.index-parts-0.result c.shards-shards.result f.1 f.2
     c.shards-shards.ensures.count c.shards-shards.ensures.within.0 c.index-parts-0.is in
-    let ok = c.in-Ok.ensures.ok in let key = ok.5 ∙ (c.question-question.ensures ∙ ap (λ u. u.setup) c.deref.ensures) in
+    let ok = c.in-Ok.ensures.ok in let key = ok.5 ∙ (c.setup-setup.ensures ∙ ap (λ u. u.setup) c.deref.ensures) in
     let is = key ∙ o0.0 in
     (ap (λ u. u.plan) is ∙ f.2, all_opened g.A.PathAlgebra.meaning f.0 c.in-Ok.table.shared.key f.0.plan.shards c.args.parts.now f.1 is)
 
@@ -86,8 +86,8 @@ returns-clause-seats g c =
     let f = c.requires.fresh in
     let o0 = opened_first g.A.PathAlgebra.meaning f.0 c.args.parts.now c.args.plan.now c.index-parts-0.result c.shards-shards.result f.1 f.2
     c.shards-shards.ensures.count c.shards-shards.ensures.within.0 c.index-parts-0.is in
-    let ok = c.in-Ok.ensures.ok in let key = ok.5 ∙ (c.question-question.ensures ∙ ap (λ u. u.setup) c.deref.ensures) in
+    let ok = c.in-Ok.ensures.ok in let key = ok.5 ∙ (c.setup-setup.ensures ∙ ap (λ u. u.setup) c.deref.ensures) in
     c.in_ok-seats.ensures
     ∙ (λ i. map (seat_of c.in-Ok.table.shared.table_id (c.shards-shards.ensures.count i))
-    (opened_parts (g.A.PathAlgebra.meaning (key i).question.algebra) (key i) 0 c.shards-shards.result))
+    (opened_parts (g.A.PathAlgebra.meaning (key i).diffusion.algebra) (key i) 0 c.shards-shards.result))
     ∙ ap (map (seat_of c.in-Ok.table.shared.table_id c.args.plan.now.shards)) (sym o0.1)

@@ -12,11 +12,11 @@ invariant_of-self g c =
 
 pub returns-clause-state : goal.returns-clause-state
 returns-clause-state g c =
-    arrive_leaves (g.A.PathAlgebra.meaning c.args.self.now.question.algebra) (network_of c.args.self.now) _ _ c.args.a c.args.v _ _ c.args.value _ _ _
+    arrive_leaves (g.A.PathAlgebra.meaning c.args.self.now.diffusion.algebra) (network_of c.args.self.now) _ _ c.args.a c.args.v _ _ c.args.value _ _ _
     c.self.view_is c.a.view_is c.v.view_is c.requires.busy
     (label_place _ _ c.args.v c.self.view_is c.self.invariant c.requires.within) (engager_place _ _ c.args.v c.self.view_is c.self.invariant c.requires.within) c.requires.head
     (c.better_of-label.ensures ∙ (λ i. cond ((c.improves-improved.ensures
-    ∙ (λ k. improves (g.A.PathAlgebra.meaning (c.self.view_is k).question.algebra) c.args.value (c.label.ensures k))) i) (Some c.args.value)
+    ∙ (λ k. improves (g.A.PathAlgebra.meaning (c.self.view_is k).diffusion.algebra) c.args.value (c.label.ensures k))) i) (Some c.args.value)
     (c.label-2.ensures i)))
     (c.engaged_by-engager.ensures ∙ ap (λ o. engaged_by o c.args.a) c.engager.ensures)
     (c.answer_to-answer.ensures ∙ ap answer_to c.engager-2.ensures)

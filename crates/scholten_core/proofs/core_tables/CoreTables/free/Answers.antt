@@ -16,4 +16,4 @@ invariant_of-self g c =
     (busy_seen _ _ c.args.a c.self.view_is c.requires.busy) c.index_mut-2.ensures.value refl
 
 pub returns-clause-state : goal.returns-clause-state
-returns-clause-state g c = free_leaves (g.A.PathAlgebra.meaning c.args.self.now.question.algebra) (network_of c.args.self.now) _ _ c.args.a _ c.self.view_is c.a.view_is c.requires.busy
+returns-clause-state g c = free_leaves (g.A.PathAlgebra.meaning c.args.self.now.diffusion.algebra) (network_of c.args.self.now) _ _ c.args.a _ c.self.view_is c.a.view_is c.requires.busy

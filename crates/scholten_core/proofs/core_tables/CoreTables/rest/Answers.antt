@@ -19,13 +19,13 @@ invariant_of-self g c =
 
 pub returns-then-deficit-eq0-clause-state : goal.returns-then-deficit-eq0-clause-state
 returns-then-deficit-eq0-clause-state g c =
-    rest_leaves (g.A.PathAlgebra.meaning c.args.self.now.question.algebra) (network_of c.args.self.now) _ _ c.args.v c.in-Some.e _ _ c.self.view_is c.e.view_is c.v.view_is
+    rest_leaves (g.A.PathAlgebra.meaning c.args.self.now.diffusion.algebra) (network_of c.args.self.now) _ _ c.args.v c.in-Some.e _ _ c.self.view_is c.e.view_is c.v.view_is
     (engager_place _ _ c.args.v c.self.view_is c.self.invariant c.requires.within) (sym c.in-Some.ensures) (ap is_idle (c.requires.held c.in-Some.e (sym c.in-Some.ensures)))
-    (out_idle_counted (g.A.PathAlgebra.meaning c.args.self.now.question.algebra) (network_of c.args.self.now) c.args.v (state_of c.args.self.now)
+    (out_idle_counted (g.A.PathAlgebra.meaning c.args.self.now.diffusion.algebra) (network_of c.args.self.now) c.args.v (state_of c.args.self.now)
     ∙ eq-eqb _ 0 (let z = c.if-deficit-eq0.true in let d = c.deficit.ensures in omega (arith, z, d)))
 
 pub returns-else-deficit-eq0-clause-state : goal.returns-else-deficit-eq0-clause-state
 returns-else-deficit-eq0-clause-state g c =
-    busy_leaves (g.A.PathAlgebra.meaning c.args.self.now.question.algebra) (network_of c.args.self.now) c.args.v (state_of c.args.self.now)
-    (out_idle_counted (g.A.PathAlgebra.meaning c.args.self.now.question.algebra) (network_of c.args.self.now) c.args.v (state_of c.args.self.now)
+    busy_leaves (g.A.PathAlgebra.meaning c.args.self.now.diffusion.algebra) (network_of c.args.self.now) c.args.v (state_of c.args.self.now)
+    (out_idle_counted (g.A.PathAlgebra.meaning c.args.self.now.diffusion.algebra) (network_of c.args.self.now) c.args.v (state_of c.args.self.now)
     ∙ ne_eqb _ 0 (λ q. let z = c.if-deficit-eq0.false in let d = c.deficit.ensures in omega (arith, z, d, q)))

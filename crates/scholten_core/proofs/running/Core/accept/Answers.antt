@@ -46,7 +46,7 @@ invariant_of-self-else-eq g c =
 pub returns-else-eq-clause-done : goal.returns-else-eq-clause-done
 returns-else-eq-clause-done g c = (
   ap (λ u. is_signal ((state_of u).token c.args.a)) (sym c.self.view_is) ∙ ap is_signal (sym c.in-Signal.ensures),
-  subst (λ u. state_of c.rest.new.self ≡ step (g.A.PathAlgebra.meaning u.question.algebra) (network_of u) (state_of u) (Accept c.args.a)) c.self.view_is
+  subst (λ u. state_of c.rest.new.self ≡ step (g.A.PathAlgebra.meaning u.diffusion.algebra) (network_of u) (state_of u) (Accept c.args.a)) c.self.view_is
       (accept_leaves g.A.PathAlgebra.meaning c.self.inside.tables c.take_signal.new.self c.rest.new.self c.args.a c.tail-v.result c.take_signal.ensures.same
       c.in-Signal.ensures (not_entry c.args.a c.eq.result c.eq.ensures c.if-eq.false) c.tail-v.ensures.tail c.take_signal.ensures.state c.rest.ensures.state),
 )

@@ -3,4 +3,4 @@ use Rattle.road_graph.specs.GraphData.{arc_of, road_of}
 use Rattle.shard_part.proofs.state.PartState.offer_again.Goals as goal
 
 pub tell_anew-requires-clause-road : goal.tell_anew-requires-clause-road
-tell_anew-requires-clause-road g c = λ κs w. c.road_at-road.ensures ∙ ap (λ b. road_of (arc_of c.args.self.now.setup.question.roads b)) c.requires.turn
+tell_anew-requires-clause-road g c = λ κs w. c.road_at-road.ensures ∙ ap (λ b. road_of (arc_of c.args.self.now.setup.diffusion.roads b)) c.requires.turn

@@ -15,7 +15,7 @@ invariant_of-layout g c = record { roads = c.roads_hold.ensures; source = c.requ
 pub sum_of-requires : goal.sum_of-requires
 sum_of-requires g c = sum_small (record {
   setup = record {
-    question = record { algebra = tt; roads = c.args.graph.now; source = c.args.source };
+    diffusion = record { algebra = tt; roads = c.args.graph.now; source = c.args.source };
     plan = c.args.plan.now;
   };
   shard = c.args.shard;
@@ -31,7 +31,7 @@ sum_of-requires g c = sum_small (record {
 pub opening_queue-requires-after_bounds : goal.opening_queue-requires-after_bounds
 opening_queue-requires-after_bounds g c κs within = λ z. sum_first
     (record {
-      setup = record { question = record { algebra = tt; roads = c.args.graph.now; source = c.args.source }; plan = c.args.plan.now };
+      setup = record { diffusion = record { algebra = tt; roads = c.args.graph.now; source = c.args.source }; plan = c.args.plan.now };
       shard = c.args.shard;
     }) (record {
       roads = c.roads_hold.ensures;
@@ -45,7 +45,7 @@ opening_queue-requires-after_bounds g c κs within = λ z. sum_first
 pub invariant_of-result : goal.invariant_of-result
 invariant_of-result g c = let n : c.from.result ≡ one_if c.is_first-first.result = (let f = c.from.ensures in search rules) in
     made_stored (g.A.PathAlgebra.meaning c.args.algebra)
-    (record { question = record { algebra = c.args.algebra; roads = c.args.graph.now; source = c.args.source }; plan = c.args.plan.now })
+    (record { diffusion = record { algebra = c.args.algebra; roads = c.args.graph.now; source = c.args.source }; plan = c.args.plan.now })
     c.args.shard
     (record { roads = c.roads_hold.ensures; source = c.requires.source; plan = c.plan_holds.ensures.plan; covers = c.requires.plan; shard = c.requires.shard })
     c.is_first-first.result c.in_ok-capacities.capacities.items c.deref.result.now c.deref-2.result.now (map (λ b. b.capacity) c.in_ok-outs.outs.items) c.sum_of.result c.from.result
@@ -56,7 +56,7 @@ invariant_of-result g c = let n : c.from.result ≡ one_if c.is_first-first.resu
 pub returns-clause-part : goal.returns-clause-part
 returns-clause-part g c = let n : c.from.result ≡ one_if c.is_first-first.result = (let f = c.from.ensures in search rules) in
     made_seen (g.A.PathAlgebra.meaning c.args.algebra)
-    (record { question = record { algebra = c.args.algebra; roads = c.args.graph.now; source = c.args.source }; plan = c.args.plan.now })
+    (record { diffusion = record { algebra = c.args.algebra; roads = c.args.graph.now; source = c.args.source }; plan = c.args.plan.now })
     c.args.shard
     (record { roads = c.roads_hold.ensures; source = c.requires.source; plan = c.plan_holds.ensures.plan; covers = c.requires.plan; shard = c.requires.shard })
     c.is_first-first.result c.in_ok-capacities.capacities.items c.deref.result.now c.deref-2.result.now (map (λ b. b.capacity) c.in_ok-outs.outs.items) c.sum_of.result c.from.result
@@ -68,10 +68,10 @@ pub returns-clause-share : goal.returns-clause-share
 returns-clause-share g c = let n : c.from.result ≡ one_if c.is_first-first.result = (let f = c.from.ensures in search rules) in
     subst (λ (u : PartData g.row.A.Denot g.row.A-Value.Denot). HoldsShareIn (g.A.PathAlgebra.meaning c.args.algebra)
     (network c.args.graph.now c.args.source) (place_in
-    (record { question = record { algebra = c.args.algebra; roads = c.args.graph.now; source = c.args.source }; plan = c.args.plan.now }))
+    (record { diffusion = record { algebra = c.args.algebra; roads = c.args.graph.now; source = c.args.source }; plan = c.args.plan.now }))
     (opening (g.A.PathAlgebra.meaning c.args.algebra) (network c.args.graph.now c.args.source)) u)
     (sym (made_seen (g.A.PathAlgebra.meaning c.args.algebra)
-    (record { question = record { algebra = c.args.algebra; roads = c.args.graph.now; source = c.args.source }; plan = c.args.plan.now })
+    (record { diffusion = record { algebra = c.args.algebra; roads = c.args.graph.now; source = c.args.source }; plan = c.args.plan.now })
     c.args.shard
     (record { roads = c.roads_hold.ensures; source = c.requires.source; plan = c.plan_holds.ensures.plan; covers = c.requires.plan; shard = c.requires.shard })
     c.is_first-first.result c.in_ok-capacities.capacities.items c.deref.result.now c.deref-2.result.now (map (λ b. b.capacity) c.in_ok-outs.outs.items) c.sum_of.result c.from.result
@@ -79,6 +79,6 @@ returns-clause-share g c = let n : c.from.result ≡ one_if c.is_first-first.res
     c.is_first-first.ensures c.in_ok-tables.ensures c.in_ok-capacities.ensures c.deref.ensures.value c.sum_of.ensures c.in_ok-queue.ensures
     (c.deref-2.ensures.value ∙ ap (λ k. set c.in_ok-capacities.capacities.items k 0) c.shard.view_is) c.in_ok-outs.ensures.items c.in_ok-outs.ensures.capacities n))
     (opened_holds (g.A.PathAlgebra.meaning c.args.algebra)
-    (record { question = record { algebra = c.args.algebra; roads = c.args.graph.now; source = c.args.source }; plan = c.args.plan.now })
+    (record { diffusion = record { algebra = c.args.algebra; roads = c.args.graph.now; source = c.args.source }; plan = c.args.plan.now })
     c.args.shard
     (record { roads = c.roads_hold.ensures; source = c.requires.source; plan = c.plan_holds.ensures.plan; covers = c.requires.plan; shard = c.requires.shard }))

@@ -20,10 +20,10 @@ pub signal-requires-clause-clear : goal.signal-requires-clause-clear
 signal-requires-clause-clear g c = λ κs w. subst (λ (o : Option ℕ). IfSome o (λ e. IsClear c.release.new.self e)) (sym c.engager_at.ensures ∙ c.in-Some.is) c.release.ensures.clear
 
 pub returns-then-deficit_at-eq0 : goal.returns-then-deficit_at-eq0
-returns-then-deficit_at-eq0 g c = rested_then (g.A.PathAlgebra.meaning c.args.self.now.setup.question.algebra) c.args.self.now c.release.new.self
+returns-then-deficit_at-eq0 g c = rested_then (g.A.PathAlgebra.meaning c.args.self.now.setup.diffusion.algebra) c.args.self.now c.release.new.self
     c.signal.new.self c.args.v.vertex c.deficit_at.result c.in-Some.e (sym c.engager_at.ensures ∙ c.in-Some.is) c.deficit_at.ensures
     (omega arith) c.release.ensures.moved c.signal.ensures
 
 pub returns-else-deficit_at-eq0 : goal.returns-else-deficit_at-eq0
-returns-else-deficit_at-eq0 g c = rested_busy (g.A.PathAlgebra.meaning c.args.self.now.setup.question.algebra) c.args.self.now c.args.v.vertex
+returns-else-deficit_at-eq0 g c = rested_busy (g.A.PathAlgebra.meaning c.args.self.now.setup.diffusion.algebra) c.args.self.now c.args.v.vertex
     c.deficit_at.result c.in-Some.e (sym c.engager_at.ensures ∙ c.in-Some.is) c.deficit_at.ensures (λ z. absurd (omega (arith, z)))

@@ -10,21 +10,21 @@ shard_of-to-requires g c = (head_told _ c.args.self.now _ _ _ c.args.b.arc c.arg
     c.requires.graph (ap (λ (r : OutRoad). r.head) c.requires.road)).1
 
 pub message-requires-clause-shard : goal.message-requires-clause-shard
-message-requires-clause-shard g c = λ κs w. shard_told (g.A.PathAlgebra.meaning c.args.self.now.setup.question.algebra) _ c.args.self.now
+message-requires-clause-shard g c = λ κs w. shard_told (g.A.PathAlgebra.meaning c.args.self.now.setup.diffusion.algebra) _ c.args.self.now
     c.tell.new.self _ _ _ c.args.b.arc c.args.road.head c.shard_of-to.result c.label_at-label.result c.self.view_is c.self.invariant c.requires.arc
     c.requires.graph (ap (λ (r : OutRoad). r.head) c.requires.road) c.shard_of-to.ensures.shard c.tell.ensures
 
 pub message-requires-clause-made : goal.message-requires-clause-made
-message-requires-clause-made g c = λ κs w. tail_mine (g.A.PathAlgebra.meaning c.args.self.now.setup.question.algebra) c.args.self.now c.tell.new.self
+message-requires-clause-made g c = λ κs w. tail_mine (g.A.PathAlgebra.meaning c.args.self.now.setup.diffusion.algebra) c.args.self.now c.tell.new.self
     c.args.v.vertex c.args.v.at c.args.b.arc c.label_at-label.result c.tell.ensures c.requires.place c.requires.vertex c.requires.tail
 
 pub message-requires-clause-idle : goal.message-requires-clause-idle
-message-requires-clause-idle g c = λ κs w. still_idle (g.A.PathAlgebra.meaning c.args.self.now.setup.question.algebra) c.args.self.now c.tell.new.self
+message-requires-clause-idle g c = λ κs w. still_idle (g.A.PathAlgebra.meaning c.args.self.now.setup.diffusion.algebra) c.args.self.now c.tell.new.self
     c.args.v.vertex c.args.b.arc c.label_at-label.result c.tell.ensures c.requires.due
 
 pub returns : goal.returns
-returns g c = told_anew (g.A.PathAlgebra.meaning c.args.self.now.setup.question.algebra) c.args.self.now c.tell.new.self c.message.new.self
+returns g c = told_anew (g.A.PathAlgebra.meaning c.args.self.now.setup.diffusion.algebra) c.args.self.now c.tell.new.self c.message.new.self
     c.args.v.vertex c.args.b.arc c.args.road.weight c.label_at-label.result c.extended-value.result c.requires.due c.label_at-label.ensures
-    (weight_told (g.A.PathAlgebra.meaning c.args.self.now.setup.question.algebra) _ c.args.self.now _ _ _ c.args.b.arc c.args.road.weight
+    (weight_told (g.A.PathAlgebra.meaning c.args.self.now.setup.diffusion.algebra) _ c.args.self.now _ _ _ c.args.b.arc c.args.road.weight
     c.self.view_is c.self.invariant c.requires.arc c.requires.graph (ap (λ (r : OutRoad). r.weight) c.requires.road))
-    (c.extended-value.ensures ∙ (λ i. extend_label (g.A.PathAlgebra.meaning (c.self.view_is i).setup.question.algebra) c.label_at-label.result c.args.road.weight)) c.tell.ensures c.message.ensures
+    (c.extended-value.ensures ∙ (λ i. extend_label (g.A.PathAlgebra.meaning (c.self.view_is i).setup.diffusion.algebra) c.label_at-label.result c.args.road.weight)) c.tell.ensures c.message.ensures

@@ -14,6 +14,6 @@ returns g c =
     let own = own_of p _ c.args.v c.closed_part_holds.ensures.planned
     (subst (λ z. HasPlanned z.part.setup.plan c.args.v) (sym c.self.view_is) c.requires.vertex)
     (subst (λ z. shard_in z.part.setup.plan c.args.v ≡ z.part.shard) (sym c.self.view_is) c.requires.own) in
-    subst (λ z. IsBestLabel (meaning z.part.setup.question.algebra) z.part.setup.question.roads (z.part.setup.question.source ∷ []) c.args.v c.label.result) c.self.view_is
-    (subst (IsBestLabel (meaning p.setup.question.algebra) p.setup.question.roads (p.setup.question.source ∷ []) c.args.v) (sym c.label.ensures)
+    subst (λ z. IsBestLabel (meaning z.part.setup.diffusion.algebra) z.part.setup.diffusion.roads (z.part.setup.diffusion.source ∷ []) c.args.v c.label.result) c.self.view_is
+    (subst (IsBestLabel (meaning p.setup.diffusion.algebra) p.setup.diffusion.roads (p.setup.diffusion.source ∷ []) c.args.v) (sym c.label.ensures)
     ((c.self.invariant.0.over refl).part.best c.args.v own))

@@ -26,7 +26,7 @@ loop-a-preserved c =
     let e = ap (λ (u : ShardLayoutData). u.setup.plan.shards) c.self.view_is in let a = c.loop-a.invariant.long in let b = c.requires.shards in
     omega (arith, v, w, e, a, b)) in
     let is_from = c.from.view_is ∙ c.shard_of-from.ensures.shard ∙ ap (λ (r : RoadArc). shard_in c.self.inside.plan.now r.tail) c.arc.ensures
-    ∙ ap (λ (u : ShardLayoutData). shard_in u.setup.plan (arc_of u.setup.question.roads c.a-item.result).tail) c.self.view_is in
+    ∙ ap (λ (u : ShardLayoutData). shard_in u.setup.plan (arc_of u.setup.diffusion.roads c.a-item.result).tail) c.self.view_is in
     let own = ap (λ (u : ShardLayoutData). u.shard) c.self.view_is in
     let D = planned_at _ c.args.self.now c.self.view_is c.self.invariant in
     let o = into_at _ c.args.self.now c.args.v c.into-a-items.result.now c.self.view_is c.into-a-items.ensures in

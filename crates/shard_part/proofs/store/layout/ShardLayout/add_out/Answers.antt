@@ -29,7 +29,7 @@ loop-a-preserved c =
           c.args.capacities.now (planned_at _ c.args.self.now c.self.view_is c.self.invariant)
           (from_at _ c.args.self.now c.args.v c.out-a-items.result.now c.self.view_is c.out-a-items.ensures) c.loop-a-test.true c.a-item.is
           (c.to.view_is ∙ c.shard_of-to.ensures.shard ∙ ap (λ (r : RoadArc). shard_in c.self.inside.plan.now r.head) c.arc.ensures
-          ∙ ap (λ (u : ShardLayoutData). shard_in u.setup.plan (arc_of u.setup.question.roads c.a-item.result).head) c.self.view_is) l
+          ∙ ap (λ (u : ShardLayoutData). shard_in u.setup.plan (arc_of u.setup.diffusion.roads c.a-item.result).head) c.self.view_is) l
           c.loop-a.invariant.counts;
     }
 

@@ -31,7 +31,7 @@ fn first_place<A: PathAlgebra>(
         marks.now result }
 {
     laws_hold(algebra);
-    let _n = graph.vertices();
+    graph.holds();
     for i in 0..marks.len() {
         let v = Vertex(i as u32 + 1);
         if let Some(reason) = reason_at(algebra, graph, codes, hops, parents, marks, v) {

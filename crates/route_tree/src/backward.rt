@@ -58,6 +58,7 @@ impl<'g, A: PathAlgebra, G: Entering> Backward<'g, A, G> {
             true) }
         ensures next { IfOk result (λ s. s.next ≡ target ∷ []) }
     {
+        graph.holds();
         let mut marks = vec![in alloc; false; graph.count() as usize]?;
         marks[target.0 as usize - 1] = true;
         let mut next = Vec::new(alloc);
@@ -190,7 +191,7 @@ pub(crate) fn marks_back<A: PathAlgebra, G: Entering>(
     ensures { IfOk result (λ marks. Covers (G.roads graph.now) (is_tight (A.meaning algebra)
         (G.roads graph.now) labels.now) source target marks.items) }
 {
-    let _n = graph.count();
+    graph.holds();
     let mut row = Vec::new(alloc);
     let mut search = Backward::open(alloc, algebra, graph, labels, target)?;
     while !search.is_done() && !search.has(source) {

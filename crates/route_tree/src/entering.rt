@@ -13,8 +13,11 @@ pub(crate) trait Entering {
 
     /// How many vertices there are.
     fn count(&self) -> u32
-        ensures count { result ≡ (roads self.now).vertices }
-        ensures roads { IsGraph (roads self.now) };
+        ensures { result ≡ (roads self.now).vertices };
+
+    /// What holds of every graph: its arcs join its vertices, and it keeps the limits. Nothing is computed.
+    fn holds(&self)
+        ensures { IsGraph (roads self.now) };
 
     /// Makes `list` the arcs that enter a vertex, each reversed: its tail as the head of a road, and its weight.
     fn list_into(&self, v: Vertex, list: &mut Vec<OutRoad>) -> Result<(), Memory>
@@ -27,6 +30,10 @@ impl Entering for Graph {
 
     fn count(&self) -> u32 {
         self.vertices()
+    }
+
+    fn holds(&self) {
+        self.holds()
     }
 
     fn list_into(&self, v: Vertex, list: &mut Vec<OutRoad>) -> Result<(), Memory> {
@@ -47,6 +54,10 @@ impl Entering for InGraph {
 
     fn count(&self) -> u32 {
         self.vertices()
+    }
+
+    fn holds(&self) {
+        self.holds()
     }
 
     fn list_into(&self, v: Vertex, list: &mut Vec<OutRoad>) -> Result<(), Memory> {

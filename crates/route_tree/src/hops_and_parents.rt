@@ -37,10 +37,18 @@ impl Tree {
 
     /// The number of vertices, which are 1 to this number.
     pub fn vertices(&self) -> usize
-        ensures count { result ≡ length self.now.hops }
-        ensures linked { IsLinked self.now }
+        ensures { result ≡ length self.now.hops }
     {
         self.hops.len()
+    }
+
+    /// What holds of every tree: each parent has one hop less than its child. Nothing is computed.
+    #[inline]
+    pub fn holds(&self)
+        ensures { IsLinked self.now }
+    {
+        // The invariant is known where a field is used.
+        let _ = &self.hops;
     }
 
     /// The least number of arcs of a walk of tight arcs from a source; none if no walk has a value.

@@ -30,7 +30,7 @@ pub fn route(alloc: Global, tree: &Tree, target: Vertex) -> Result<Option<Vec<Ve
     ensures { IfOk result (λ found. MatchOption found (hops_of tree.now target ≡ None)
         (λ list. IsRoute tree.now target list.items)) }
 {
-    let _n = tree.vertices();
+    tree.holds();
     if tree.hops(target).is_none() {
         return Ok(None);
     }

@@ -94,6 +94,46 @@ fn are_called_off(called_off: Option<&AtomicBool>) -> bool
     }
 }
 
+/// Turns stations as `drive` does, and says why it stopped and how many turns that were; none if the workers were called off before.
+fn turn_until<'g, A: PathAlgebra, G: Gate>(
+    floors: &[Floor<A>],
+    stations: &mut Vec<(usize, Station<'g, A>)>,
+    worker: u64,
+    budget: u32,
+    limit: u64,
+    gate: &G,
+    called_off: Option<&AtomicBool>,
+) -> Option<(Outcome, u64)>
+    requires { All (IsOnItsFloor floors.now) stations.old.items }
+    ensures drives { IfSome result (λ r. Drives A.meaning floors.now budget limit
+        (G.may_answer gate.now) worker stations.old.items
+        (record { outcome = r.0; turns = r.1; stations = stations.new })) }
+    ensures some { called_off.entry ≡ None → result ≢ None }
+{
+    let (mut at, mut busy) = (0, true);
+    for done in 0..limit {
+        let Some(k) = next_open(stations, at) else {
+            return Some((Outcome::Ended, done));
+        };
+        if are_called_off(called_off) {
+            return None;
+        }
+        if k < at {
+            rest_unless(busy);
+            busy = false;
+        }
+        if !gate.before(worker, done + 1) {
+            return Some((Outcome::Gated, done));
+        }
+        busy |= turn_one(floors, &mut stations[k], budget);
+        at = k + 1;
+    }
+    match next_open(stations, at) {
+        Some(_) => Some((Outcome::Stalled, limit)),
+        None => Some((Outcome::Ended, limit)),
+    }
+}
+
 /// As `drive`, or none if the workers were called off before this one stopped.
 pub(crate) fn drive_unless<'g, A: PathAlgebra, G: Gate>(
     floors: &[Floor<A>],
@@ -110,45 +150,21 @@ pub(crate) fn drive_unless<'g, A: PathAlgebra, G: Gate>(
     ensures some { called_off.entry ≡ None → result ≢ None }
 {
     let mut stations = stations;
-    let mut at = 0;
-    let mut busy = true;
-    for done in 0..limit {
-        let Some(k) = next_open(&stations, at) else {
-            return Some(Driven {
-                outcome: Outcome::Ended,
-                turns: done,
-                stations,
-            });
-        };
-        if are_called_off(called_off) {
-            return None;
-        }
-        if k < at {
-            rest_unless(busy);
-            busy = false;
-        }
-        if !gate.before(worker, done + 1) {
-            return Some(Driven {
-                outcome: Outcome::Gated,
-                turns: done,
-                stations,
-            });
-        }
-        busy |= turn_one(floors, &mut stations[k], budget);
-        at = k + 1;
-    }
-    match next_open(&stations, at) {
-        Some(_) => Some(Driven {
-            outcome: Outcome::Stalled,
-            turns: limit,
-            stations,
-        }),
-        None => Some(Driven {
-            outcome: Outcome::Ended,
-            turns: limit,
-            stations,
-        }),
-    }
+    let stopped = turn_until(
+        floors,
+        &mut stations,
+        worker,
+        budget,
+        limit,
+        gate,
+        called_off,
+    );
+    let (outcome, turns) = stopped?;
+    Some(Driven {
+        outcome,
+        turns,
+        stations,
+    })
 }
 
 /// Turns stations in rotation, in the order of the list, and passes over those that have ended.

@@ -11,7 +11,7 @@ loop-search-init g c =
     let roads = g.G.Entering.roads c.args.graph.now in
     let test = is_tight (g.A.PathAlgebra.meaning c.args.algebra) roads c.args.labels.now in
     let search = c.in_ok-search.search in
-    let start = back_start roads c.count-n.ensures.roads test c.args.target roads.vertices search.marks refl c.requires.target c.in_ok-search.ensures.marks in
+    let start = back_start roads c.holds.ensures test c.args.target roads.vertices search.marks refl c.requires.target c.in_ok-search.ensures.marks in
     record {
       over = c.in_ok-search.ensures.over;
       visiting = (0, subst (λ (list : List ℕ). VisitingBack roads test c.args.target 0 search.marks list [] []) (sym c.in_ok-search.ensures.next) start);
@@ -39,9 +39,9 @@ returns g c =
     let known = c.loop-search.invariant.visiting.1 in
     rw c.into_marks.ensures (elim c.loop-search-test.branch [
       | then-loop-search-test+else-not-has w ↦
-          covers_near roads c.count-n.ensures.roads test c.args.target k search.marks c.args.source search.next known c.requires.source (sym w.has.ensures ∙ w.if-not-has.false)
+          covers_near roads c.holds.ensures test c.args.target k search.marks c.args.source search.next known c.requires.source (sym w.has.ensures ∙ w.if-not-has.false)
       | else-loop-search-test w ↦
           let none = nil_from_length search.next (eqb-true (length search.next) 0 (sym c.is_done.ensures ∙ w.loop-search-test.false)) in
-          covers_all roads c.count-n.ensures.roads test c.args.target k search.marks c.args.source
+          covers_all roads c.holds.ensures test c.args.target k search.marks c.args.source
           (subst (λ (list : List ℕ). VisitingBack roads test c.args.target k search.marks list [] []) none known)
     ])

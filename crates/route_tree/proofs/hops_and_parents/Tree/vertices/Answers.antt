@@ -2,5 +2,5 @@ use Rattle.std.proofs.Common.{arith}
 use Rattle.std.proofs.lemmas.Grind.{common_steps}
 use Rattle.route_tree.proofs.hops_and_parents.Tree.vertices.Goals as goal
 
-pub returns-clause-count : goal.returns-clause-count
-returns-clause-count c = grind (arith, common_steps)
+pub returns : goal.returns
+returns c = grind (arith, common_steps)

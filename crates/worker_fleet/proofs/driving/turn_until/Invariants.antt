@@ -3,7 +3,7 @@ use Rattle.std.specs.List.{All}
 use Rattle.worker_fleet.specs.Drives.{LetsTurn}
 use Rattle.worker_fleet.specs.Turns.{NextOn, IsOnItsFloor}
 use Rattle.worker_fleet.proofs.Rounds.{MovedRound}
-use Rattle.worker_fleet.proofs.driving.drive_unless.Given as goal
+use Rattle.worker_fleet.proofs.driving.turn_until.Given as goal
 
 abbrev pub invariant-loop-done : goal.invariant-loop-done
 invariant-loop-done g l = record {

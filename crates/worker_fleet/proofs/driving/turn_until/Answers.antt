@@ -4,8 +4,8 @@ use Rattle.worker_fleet.specs.Turns.{NextOn, IsOnItsFloor, IsNextOpen}
 use Rattle.worker_fleet.specs.declared.driving.Outcome.TheVariants.{Ended, Stalled, Gated}
 use Rattle.worker_fleet.proofs.Rounds.{MovedRound-none, MovedRound-more, MovedRound-took_turns}
 use Rattle.worker_fleet.proofs.Placed.{IsOnItsFloor-next, open_not_ended, set_place, fits_next}
-use Rattle.worker_fleet.proofs.driving.drive_unless.Goals as goal
-use Rattle.worker_fleet.proofs.driving.drive_unless.Goals.{In-Some}
+use Rattle.worker_fleet.proofs.driving.turn_until.Goals as goal
+use Rattle.worker_fleet.proofs.driving.turn_until.Goals.{In-Some}
 
 -- the next station that has not ended
 next : (g : _) (c : In-Some g) → IsNextOpen c.loop-done.stations.items c.loop-done.at c.in-Some.k

@@ -1,9 +1,9 @@
 -- The machine values of a `Loose`. Assumes `Logic`.
 use Rattle.std.proofs.Common.{◌≡◌, ℕ, List, [], ◌∷◌, ◌++◌, refl, subst}
-use mathlib.Core.Bool.{Bool, true, false, ◌&&◌}
-use lib.Dec.{T, lit<}
+use mathlib.Core.Bool.{true, ◌&&◌}
+use lib.Dec.{T}
 use seplogic.Ra.Ura.{Ura}
-use mir.Syntax.{Sym, impl, tnil, tcons, dnil, ty_ptr, ty_struct}
+use mir.Syntax.{impl, tnil, dnil}
 use mir.Raw.{raw as bare}
 use mir.Val.{Val, vptr, vstruct, vcons, vnil, of_list, has_ty, WT}
 use base.Logic.{never, fst∗}
@@ -36,11 +36,6 @@ use sound.WpLaws.{FmC}
 abbrev pub both : Val → Val → Val
 both v w = vstruct (vcons v (vcons w vnil))
 
-pub both_tt : (x y : Bool) → T x → T y → T (x && (y && true))
-both_tt true true s t = tt
-both_tt true false s t = absurd t
-both_tt false y s t = absurd s
-
 module _ (R Z : RattleType) (L : Laws Z) (g : Ghosts Z.Denot) where
   abbrev pub Loose : RattleType
   Loose = loose.the_row R Z g
@@ -72,11 +67,6 @@ module _ {M : Type 1} {𝓤 : Ura M} (𝓛 : Logic 𝓤) (𝓜 : Model 𝓤 𝓛
   pub fm : FmC 𝓤 𝓛.H 𝓛.laws (tables 𝓤 𝓛.H 𝓜 𝓡 𝓡.env).C
   fm f = framed 𝓤 𝓛.H 𝓜 (tables 𝓤 𝓛.H 𝓜 𝓡 𝓡.env) f
 
--- a pointer has its type's layout
-pub good_pointer : (p : Ptr) → T (has_ty ty_ptr (ptr_val p)) × WT (ptr_val p)
-good_pointer (block_ptr b o) = (tt, tt)
-good_pointer null_ptr = (tt, record { fits = lit< tt })
-
 -- a graph that is there
 pub the_graph : (o : Option GraphData) → has_graph o ≡ true → (g : GraphData) × (o ≡ Some g)
 the_graph None e = cc
@@ -85,10 +75,6 @@ the_graph (Some g) e = (g, refl)
 -- what C holds: a struct of one pointer
 abbrev pub alone : Ptr → Val
 alone p = vstruct (vcons (ptr_val p) vnil)
-
-pub good_alone : (ν : Sym) (p : Ptr) → T (has_ty (ty_struct ν (tcons ty_ptr tnil)) (alone p)) × WT (alone p)
-good_alone ν (block_ptr b o) = (tt, (tt, tt))
-good_alone ν null_ptr = (tt, (record { fits = lit< tt }, tt))
 
 module _ {M : Type 1} {𝓤 : Ura M} {𝓛 : Logic 𝓤} {K : Type 0} {Γ : List (Item 𝓤)} {G : Goal 𝓤 𝓛.H} where
   pub held_out : K → (d : (held.the_row).Denot) (vs : List Val) → (vs ≡ alone d.at ∷ [] → Seq K 𝓛 (‵ (held_at d.at d.roads) ∷ Γ) G) → Seq K 𝓛 (‵ ((held.the_row).own_val d vs) ∷ Γ) G

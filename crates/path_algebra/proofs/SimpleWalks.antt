@@ -110,10 +110,6 @@ map_distinct a (p ∷ ps) d = (
 
 -- what a walk passes
 
-first_passed : (g : GraphData) (u : ℕ) (p : List ℕ) → Contains (vertices_of g u p) u
-first_passed g u [] = here u []
-first_passed g u (a ∷ p) = here u (vertices_of g (arc_of g a).head p)
-
 end_passed : (g : GraphData) (u : ℕ) (p : List ℕ) (v : ℕ) → IsWalk g u p v → Contains (vertices_of g u p) v
 end_passed g u [] v w = here_as v u [] (sym w)
 end_passed g u (a ∷ p) v w = later u v (vertices_of g (arc_of g a).head p) (end_passed g (arc_of g a).head p v w.2)

@@ -118,14 +118,3 @@ open_cmp value place no_worse = on (λ o. (value o, place o)) (value_cmp (by_num
 
 pub open_total : {K V : Type 0} (value : K → V) (place : K → ℕ) (no_worse : V → V → Bool) → IsOrder no_worse → IsTotalOrder (open_cmp value place no_worse)
 open_total value place no_worse ordered = on_total (λ o. (value o, place o)) (value_total (by_number no_worse) (by_number_order no_worse ordered))
-
--- only entries of the same value and the same place are equal
-pub open_equal : {K V : Type 0} (value : K → V) (place : K → ℕ) (no_worse : V → V → Bool) → IsOrder no_worse → (a b : K) →
-    open_cmp value place no_worse a b ≡ Equal → (value a ≡ value b) × (place a ≡ place b)
-open_equal {V = V} value place no_worse ordered a b e =
-    let x : V × ℕ = (value a, place a) in
-    let y : V × ℕ = (value b, place b) in
-    let order = by_number_order no_worse ordered in
-    let both = equal_of (by_number no_worse) order (by_number no_worse x y) (by_number no_worse y x) e in
-    let same : x ≡ y = order.antisymmetric x y both.0 both.1 in
-    (ap (λ (p : V × ℕ). p.0) same, ap (λ (p : V × ℕ). p.1) same)

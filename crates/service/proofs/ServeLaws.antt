@@ -6,7 +6,7 @@ use Rattle.road_files.specs.Asked.{Asked}
 use Rattle.road_files.specs.ServiceText.{Request}
 use Rattle.service.specs.declared.service.Service.{Service}
 use Rattle.service.specs.Fed.{WasFed, HasRequests, MakesWhole, BeginsWith, Fed, FedPart, FedLong, Finished, FinishedPart, HasServed, Served, ServedPrefix, ServedPart, Replied, FellIn}
-use Rattle.service.proofs.FedLaws.{replied_none, replied_then}
+use Rattle.service.proofs.FedLaws.{replied_then}
 use Rattle.service.proofs.ServiceLaws.{Done, Failed}
 use Rattle.road_text.specs.Lines.{lines}
 use Rattle.road_text.proofs.TextLaws.{lines_cut}
@@ -20,9 +20,6 @@ kept_first (Some a) (Some b) None x k p = absurd p
 kept_first (Some a) (Some b) (Some c) x k p = p ∙ ap (λ y. y ++ x) k
 
 module _ (answers : Asked → List ℕ → Type 0) where
-  pub served_none : (s : Service) (left old : Option (List ℕ)) (b : ℕ) → WasFed s [] [] → HasServed answers s left left old old b b
-  served_none s left old b h = ([], [], Consumes-nil left, h, replied_none answers old b)
-
   pub served_more : (s t : Service) (piece : List ℕ) (left mid now old was new : Option (List ℕ)) (b m a : ℕ) → HasServed answers s left mid old was b m → Consumes mid now piece → Fed answers s t piece was new m a → HasServed answers t left now old new b a
   served_more s t piece left mid now old was new b m a (fed, rs, gone, taken, replied) here f =
       let (more, further, after) = f fed rs taken in

@@ -5,7 +5,6 @@ use Rattle.std.proofs.lemmas.List.{length-map, map-set, length-replicate}
 use Rattle.std.proofs.Math.ListN.{get_or-map}
 use Rattle.std.proofs.Math.Seq.{map-set_same}
 use Rattle.std.proofs.lemmas.List.Sums.{sum_by-set}
-use Rattle.std.proofs.lemmas.List.Folds.{sum_by-replicate}
 use Rattle.std.proofs.lemmas.List.Sorted.{Contains-permutation, IsPermutation-sym}
 use Rattle.std.specs.Prelude.{IsTrue, All, option_map}
 use Rattle.std.specs.List.Sorted.{IsPermutation}
@@ -26,9 +25,6 @@ use Rattle.tree_search.specs.declared.mark.Mark.{Mark}
 use Rattle.tree_search.proofs.Reading.{found}
 use Rattle.tree_search.proofs.Rounds.{Between, round, keys_count}
 use Rattle.tree_search.proofs.Ending.{values_are_best, tree_is_found, linked_found}
-
-pub nothing_settled : (n : ℕ) → 0 + unsettled (replicate n false) ≤ n
-nothing_settled n = let e = sum_by-replicate (λ (b : Bool). cond b 0 1) n false in omega (arith, e)
 
 pub none_there : {X : Type 0} (n i : ℕ) → get_or (replicate {A = Option X} n None) i None ≡ None
 none_there zero i = refl

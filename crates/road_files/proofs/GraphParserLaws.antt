@@ -19,7 +19,7 @@ use Rattle.road_files.proofs.HeldGraphLines.{gr_line_kept}
 
 pub few : (o : Option TakenRoads) → IfSome (option_map roads_so_far o) (λ r. r.vertices < 18446744073709551616)
 few None = tt
-few (Some t) = omega (arith, t.few_vertices)
+few (Some t) = omega (arith, t.graph.few_vertices)
 
 -- the rule of the line is that of its slots
 pub line_rule : (s : GraphParser) (slots : List Slot) (l : List ℕ) → ShowsLine slots l → gr_line (taken_of s) (map word_of (fields l)) ≡ gr_line (taken_of s) (map word_in slots)

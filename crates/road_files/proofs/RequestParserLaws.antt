@@ -1,13 +1,13 @@
 -- A service's line, as its parser takes it.
-use Rattle.std.proofs.Common.{◌≡◌, ℕ, List, [], ◌∷◌, map, Option, None, Some, Ok, Err, Bool, true, false, sym, ap, ◌∙◌, subst, inl, inr, refl, codes}
+use Rattle.std.proofs.Common.{◌≡◌, ℕ, List, [], ◌∷◌, map, Option, None, Ok, Err, sym, ap, ◌∙◌, inl}
 use Rattle.road_text.specs.declared.slots.Slot.{Slot}
 use Rattle.road_text.specs.Lines.{fields}
 use Rattle.road_text.specs.Slots.{word_in}
 use Rattle.road_text.specs.Takes.{ShowsLine}
 use Rattle.road_files.specs.declared.question_parser.QuestionParser.{QuestionParser}
-use Rattle.road_files.specs.QuestionFiles.{AskedSoFar, question_line, question_line_of, question_rules, question_end}
+use Rattle.road_files.specs.QuestionFiles.{AskedSoFar, question_line_of, question_rules, question_end}
 use Rattle.road_files.specs.QuestionTakes.{ListSoFar, sources_given, questions_begun}
-use Rattle.road_files.specs.ServiceText.{ServiceState, Gives, Passes, Step, given, give, whole_or_on, GiveMay}
+use Rattle.road_files.specs.ServiceText.{Passes, Step, given, whole_or_on, GiveMay}
 use Rattle.road_files.proofs.QuestionParserLaws.{list_rule}
 
 module _ (p : QuestionParser) (any : p.only ≡ None) (slots : List Slot) (l : List ℕ) (shown : ShowsLine slots l) (h : ListSoFar p.list (fields l)) where

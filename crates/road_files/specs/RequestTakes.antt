@@ -1,12 +1,12 @@
 -- The state of the parser of requests, in the terms of the rules.
-use Rattle.std.specs.Prelude.{◌≡◌, ℕ, Bool, true, false, List, [], ◌∷◌, ◌++◌, if◌then◌else◌, Option, None, Some, option_map, Result, Ok, Err, ⊤}
+use Rattle.std.specs.Prelude.{◌≡◌, ℕ, false, List, [], ◌∷◌, if◌then◌else◌, Option, None, Some, Result, Ok, Err, ⊤}
 use Rattle.road_files.specs.declared.request_parser.Ended.{Ended}
 use Rattle.road_files.specs.declared.request_parser.Ended.TheVariants as ends
 use Rattle.road_files.specs.declared.request_parser.LineDone.{LineDone}
 use Rattle.road_files.specs.declared.request_parser.RequestParser.{RequestParser}
 use Rattle.road_files.specs.Asked.{Asked, asked_of, AreQuestionsOf}
 use Rattle.road_files.specs.QuestionTakes.{ListSoFar, questions_begun}
-use Rattle.road_files.specs.ServiceText.{ServiceState, Gives, Passes, Step}
+use Rattle.road_files.specs.ServiceText.{ServiceState, Gives, Passes}
 
 -- the result of a request that has ended
 abbrev pub request_of : Ended → Result Asked ℕ

@@ -1,8 +1,8 @@
 //! Graphs that are built from their arcs.
-ghost use Rattle.std.specs.Prelude.{◌≡◌, ◌≤◌, ◌^◌, length, All, IfOk};
-ghost use Rattle.road_graph.specs.GraphData.{IsGraph, JoinsVertices, GraphData};
+ghost use Rattle.std.specs.Prelude.{◌≡◌, IfOk};
+ghost use Rattle.road_graph.specs.GraphData.{IsGraph, GraphData};
 
-use road_graph::{Graph, GraphFault, Memory, OutGraph, RoadArc};
+use road_graph::{Graph, Memory, OutGraph, RoadArc};
 use std::alloc::Global;
 
 /// A type of graph that is built from arcs.
@@ -10,14 +10,12 @@ pub trait FromArcs: Drop {
     // The graph as plain data.
     ghost roads: { Self → GraphData };
 
-    /// The graph of exactly these arcs on the vertices 1 to n.
+    /// The graph of exactly these arcs, which are known to join the vertices 1 to n.
     ///
     /// # Errors
     /// Out of memory.
     fn from_arcs(alloc: Global, n: u32, arcs: Vec<RoadArc>) -> Result<Self, Memory>
-        requires few_vertices { n ≤ 2 ^ 25 }
-        requires few_arcs { length arcs.items ≤ 2 ^ 27 }
-        requires joined { All (JoinsVertices n) arcs.items }
+        requires { IsGraph (record { vertices = n; arcs = arcs.items }) }
         ensures { IfOk result (λ g. roads g ≡ record { vertices = n; arcs = arcs.items }) };
 
     /// How many vertices there are.
@@ -30,11 +28,7 @@ impl FromArcs for Graph {
     ghost roads = { λ g. g };
 
     fn from_arcs(alloc: Global, n: u32, arcs: Vec<RoadArc>) -> Result<Graph, Memory> {
-        match Graph::new(alloc, n, arcs) {
-            Ok(graph) => Ok(graph),
-            Err((GraphFault::Memory, _)) => Err(Memory),
-            Err((GraphFault::BadEnd(_), _)) => unreachable!(),
-        }
+        Graph::of_arcs(alloc, n, arcs)
     }
 
     fn count_vertices(&self) -> u32 {
@@ -46,11 +40,7 @@ impl FromArcs for OutGraph {
     ghost roads = { λ g. g };
 
     fn from_arcs(alloc: Global, n: u32, arcs: Vec<RoadArc>) -> Result<OutGraph, Memory> {
-        match OutGraph::new(alloc, n, arcs) {
-            Ok(graph) => Ok(graph),
-            Err((GraphFault::Memory, _)) => Err(Memory),
-            Err((GraphFault::BadEnd(_), _)) => unreachable!(),
-        }
+        OutGraph::of_arcs(alloc, n, arcs)
     }
 
     fn count_vertices(&self) -> u32 {

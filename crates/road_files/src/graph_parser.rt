@@ -1,6 +1,5 @@
 //! Takes the lines of a graph file.
 ghost use Rattle.std.specs.Prelude.{◌≡◌, ◌<◌, ◌≤◌, ◌++◌, ◌∷◌, [], None, length, map, refl, OnOk, IfOk, IfErr, MatchResult, option_map, true, false, ℕ, List, Ok};
-ghost use Rattle.road_graph.specs.GraphData.{JoinsVertices};
 ghost use Rattle.road_text.specs.Slots.{word_in};
 ghost use Rattle.road_text.specs.Lines.{fields};
 ghost use Rattle.road_text.specs.ShortLines.{HasShortFields};

@@ -1,6 +1,6 @@
 //! The arcs of a graph file so far.
-ghost use Rattle.std.specs.Prelude.{◌≡◌, ◌<◌, ◌≤◌, ◌++◌, ◌∷◌, [], length, map, All, IfOk, IfErr, OnOk, MatchResult, option_map, true, false, Ok};
-ghost use Rattle.road_graph.specs.GraphData.{JoinsVertices};
+ghost use Rattle.std.specs.Prelude.{◌≡◌, ◌<◌, ◌≤◌, ◌++◌, ◌∷◌, [], length, map, IfOk, IfErr, OnOk, MatchResult, option_map, true, false, Ok};
+ghost use Rattle.road_graph.specs.GraphData.{JoinsVertices, IsGraph};
 ghost use Rattle.road_text.specs.Slots.{word_in};
 ghost use Rattle.road_text.specs.Takes.{Leaves, Breaks};
 ghost use Rattle.road_files.specs.GraphFiles.{one_arc, gr_whole, graph_read};
@@ -21,10 +21,10 @@ pub struct TakenRoads {
     pub vertices: u32,
     pub announced: u32,
     pub arcs: Vec<RoadArc>,
-    ghost few_vertices: { vertices ≤ 33554432 },
     ghost few_arcs: { announced ≤ 134217728 },
     ghost room: { length arcs.items ≤ announced },
-    ghost joined: { All (JoinsVertices vertices) arcs.items },
+    // The arcs so far are those of a graph.
+    ghost graph: { IsGraph (record { vertices = vertices; arcs = arcs.items }) },
 }
 
 impl TakenRoads {

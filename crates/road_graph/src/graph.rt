@@ -1,6 +1,6 @@
 //! The graph in compressed sparse rows: its arcs by number, by tail and by head.
 
-ghost use Rattle.std.specs.Prelude.{◌≡◌, ◌≤◌, ◌↔◌, ◌^◌, length, IsTrue, MatchResult};
+ghost use Rattle.std.specs.Prelude.{◌≡◌, ◌≤◌, ◌↔◌, ◌^◌, length, IsTrue, IfOk, MatchResult};
 ghost use Rattle.road_graph.specs.GraphData.{IsGraph};
 
 use crate::bad_ends::first_bad;
@@ -71,20 +71,34 @@ impl Graph {
         if let Some(a) = first_bad(n, &arcs) {
             return Err((GraphFault::BadEnd(a), arcs));
         }
-        let Ok(out_rows) = rows_of(alloc, n, &arcs, Side::Tail) else {
-            return Err((GraphFault::Memory, arcs));
-        };
-        let Ok(roads) = roads_at(alloc, &arcs, &out_rows.numbers) else {
-            return Err((GraphFault::Memory, arcs));
-        };
-        let Ok(into_rows) = rows_of(alloc, n, &arcs, Side::Head) else {
-            return Err((GraphFault::Memory, arcs));
-        };
-        let Ok(tails) = tails_of(alloc, &arcs) else {
-            return Err((GraphFault::Memory, arcs));
-        };
+        match Graph::make(alloc, n, &arcs) {
+            Ok(graph) => Ok(graph),
+            Err(_) => Err((GraphFault::Memory, arcs)),
+        }
+    }
+
+    /// The graph of exactly these arcs, which are known to join the vertices 1 to n.
+    ///
+    /// # Errors
+    /// Out of memory.
+    pub fn of_arcs(alloc: Global, n: u32, arcs: Vec<RoadArc>) -> Result<Graph, Memory>
+        requires { IsGraph (record { vertices = n; arcs = arcs.items }) }
+        ensures { IfOk result (λ g. g ≡ record { vertices = n; arcs = arcs.items }) }
+    {
+        Graph::make(alloc, n, &arcs)
+    }
+
+    /// Borrows the arcs, so that `new` can give them back.
+    fn make(alloc: Global, n: u32, arcs: &Vec<RoadArc>) -> Result<Graph, Memory>
+        requires { IsGraph (record { vertices = n; arcs = arcs.now.items }) }
+        ensures { IfOk result (λ g. g ≡ record { vertices = n; arcs = arcs.now.items }) }
+    {
+        let out_rows = rows_of(alloc, n, arcs, Side::Tail)?;
+        let roads = roads_at(alloc, arcs, &out_rows.numbers)?;
+        let into_rows = rows_of(alloc, n, arcs, Side::Head)?;
+        let tails = tails_of(alloc, arcs)?;
         Ok(Graph {
-            out: OutGraph::of_rows(n, &arcs, out_rows.starts, roads),
+            out: OutGraph::of_rows(n, arcs, out_rows.starts, roads),
             out_numbers: out_rows.numbers,
             into_rows,
             ends: Ends::Tails(tails),

@@ -1,12 +1,12 @@
 //! A graph with its arcs by tail alone.
 
-ghost use Rattle.std.specs.Prelude.{◌≡◌, ℕ, ◌+◌, ◌-◌, ◌<◌, ◌≤◌, ◌↔◌, ◌^◌, List, length, IsTrue, MatchResult};
+ghost use Rattle.std.specs.Prelude.{◌≡◌, ℕ, ◌+◌, ◌-◌, ◌<◌, ◌≤◌, ◌↔◌, ◌^◌, List, length, IsTrue, IfOk, MatchResult};
 ghost use Rattle.road_graph.specs.GraphData.{IsGraph};
 ghost use Rattle.road_graph.specs.Making.{AreRoadRows, AreNumbers, AreRowStarts};
 
 use crate::bad_ends::first_bad;
 use crate::rows::{range_of, road_rows_of};
-use crate::{GraphFault, OutRoad, RoadArc, Vertex};
+use crate::{GraphFault, Memory, OutRoad, RoadArc, Vertex};
 use std::alloc::Global;
 use std::fmt;
 use std::marker::Model;
@@ -68,10 +68,30 @@ impl OutGraph {
         if let Some(a) = first_bad(n, &arcs) {
             return Err((GraphFault::BadEnd(a), arcs));
         }
-        let Ok(rows) = road_rows_of(alloc, n, &arcs) else {
-            return Err((GraphFault::Memory, arcs));
-        };
-        Ok(OutGraph::of_rows(n, &arcs, rows.starts, rows.roads))
+        match OutGraph::make(alloc, n, &arcs) {
+            Ok(graph) => Ok(graph),
+            Err(_) => Err((GraphFault::Memory, arcs)),
+        }
+    }
+
+    /// The graph of exactly these arcs, which are known to join the vertices 1 to n.
+    ///
+    /// # Errors
+    /// Out of memory.
+    pub fn of_arcs(alloc: Global, n: u32, arcs: Vec<RoadArc>) -> Result<OutGraph, Memory>
+        requires { IsGraph (record { vertices = n; arcs = arcs.items }) }
+        ensures { IfOk result (λ g. g ≡ record { vertices = n; arcs = arcs.items }) }
+    {
+        OutGraph::make(alloc, n, &arcs)
+    }
+
+    /// Borrows the arcs, so that `new` can give them back.
+    fn make(alloc: Global, n: u32, arcs: &Vec<RoadArc>) -> Result<OutGraph, Memory>
+        requires { IsGraph (record { vertices = n; arcs = arcs.now.items }) }
+        ensures { IfOk result (λ g. g ≡ record { vertices = n; arcs = arcs.now.items }) }
+    {
+        let rows = road_rows_of(alloc, n, arcs)?;
+        Ok(OutGraph::of_rows(n, arcs, rows.starts, rows.roads))
     }
 
     /// The graph of arcs whose rows these are.

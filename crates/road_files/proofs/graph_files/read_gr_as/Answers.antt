@@ -3,7 +3,6 @@ use Rattle.road_text.specs.Words.{word_of}
 use Rattle.road_text.proofs.WholeTexts.{reads_text}
 use Rattle.road_files.specs.GraphFiles.{gr_rules}
 use Rattle.road_files.specs.GraphTakes.{graph_meaning}
-use Rattle.road_files.specs.declared.graph_maker.GraphMaker.{GraphMaker}
 use Rattle.road_files.proofs.GraphParserLaws.{by_value, by_fault}
 use Rattle.road_files.proofs.RoadNumbers.{graph_line, graph_end}
 use Rattle.road_files.proofs.graph_files.read_gr_as.Goals as goal

@@ -1,4 +1,3 @@
-use Rattle.std.proofs.Common.{◌≡◌, sym, ◌∙◌, rules}
 use Rattle.road_files.specs.QuestionTakes.{questions_begun}
 use Rattle.road_files.proofs.RequestParserLaws.{taken_step, broken_step}
 use Rattle.road_files.proofs.request_parser.RequestParser.give.Goals as goal

@@ -12,7 +12,7 @@ next : (g : _) (c : In-Some g) → IsNextOpen c.loop-done.stations.items c.loop-
 next g c = rw c.deref.ensures.value at c.in-Some.ensures.some
 
 pub loop-done-init : goal.loop-done-init
-loop-done-init g c = record { place = omega arith; placed = c.requires; moved = MovedRound-none _ c.args.stations.items; asked = λ k low. absurd (omega arith) }
+loop-done-init g c = record { place = omega arith; placed = c.requires; moved = MovedRound-none _ c.args.stations.now.items; asked = λ k low. absurd (omega arith) }
 
 pub turn_one-busy-requires-after_bounds : goal.turn_one-busy-requires-after_bounds
 turn_one-busy-requires-after_bounds g c κs within =
@@ -28,7 +28,7 @@ loop-done-preserved g c =
           (IsOnItsFloor-next g.A.PathAlgebra.meaning c.args.floors.now c.args.budget _ _
           (rw c.index_mut.ensures.value (c.loop-done.invariant.placed c.in-Some.k c.index_mut.result.now low)) c.turn_one-busy.ensures)
           c.loop-done.invariant.placed;
-      moved = MovedRound-more (NextOn g.A.PathAlgebra.meaning c.args.floors.now c.args.budget) c.loop-done.done c.loop-done.at c.args.stations.items c.loop-done.stations.items c.in-Some.k
+      moved = MovedRound-more (NextOn g.A.PathAlgebra.meaning c.args.floors.now c.args.budget) c.loop-done.done c.loop-done.at c.args.stations.now.items c.loop-done.stations.items c.in-Some.k
           c.index_mut.result.now c.turn_one-busy.new.placed following c.index_mut.ensures.value c.turn_one-busy.ensures c.loop-done.invariant.moved;
       asked = below_more _ _ c.loop-done.invariant.asked c.if-not-before.ensures;
     }

@@ -15,7 +15,8 @@ use Rattle.scholten_core.proofs.Sums.{sum_term, sum_zero}
 use Rattle.scholten_core.specs.declared.item.Item.{Item}
 use Rattle.road_graph.proofs.Lists.{here, later}
 use Rattle.shard_part.specs.PartState.{PartData}
-use Rattle.shard_part.specs.Weights.{total, at_place, in_flight, outs_weight, part_weight}
+use Rattle.shard_store.specs.Totals.{total}
+use Rattle.shard_part.specs.Weights.{at_place, in_flight, outs_weight, part_weight}
 use Rattle.shard_part.specs.Waiting.{items_waiting, QueueWaits, OutboxWaits, MailWaits}
 use Rattle.shard_part.proofs.InFlight.{past_idle}
 

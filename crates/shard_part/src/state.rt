@@ -1,8 +1,8 @@
 //! One shard's part of a diffusing computation, as it is stored.
 ghost use Rattle.std.specs.Prelude.{◌≡◌};
-ghost use Rattle.shard_part.specs.PartState.{network_of, place_in};
+ghost use Rattle.shard_store.specs.Setup.{network_of, place_in, IsPlanned};
 ghost use Rattle.scholten_core.specs.Network.{WellFormed};
-ghost use Rattle.shard_part.specs.Moves.{IsPlanned, IsTallied};
+ghost use Rattle.shard_part.specs.Moves.{IsTallied};
 ghost use Rattle.shard_part.specs.LocalInvariant.{LocalInvariant};
 
 mod events;
@@ -12,13 +12,9 @@ mod readings;
 mod sending;
 mod stored;
 
-use crate::plan::Plan;
-use crate::shard::Shard;
-use crate::store::batch::Batch;
-use crate::store::queue::Queue;
-use crate::store::tables::Tables;
 use path_algebra::PathAlgebra;
 use road_graph::{Graph, Vertex};
+use shard_store::{Batch, Plan, Queue, Shard, Tables};
 use std::marker::Model;
 
 /// The tables, the queue and the outboxes of one shard, with the moves that its events are made of.
@@ -41,7 +37,8 @@ pub struct PartState<'g, A: PathAlgebra> {
 impl<'g, A: PathAlgebra> Model for PartState<'g, A> {
     ghost use Rattle.std.specs.Prelude.{map};
     ghost use Rattle.shard_part.specs.PartState.{PartData};
-    ghost use Rattle.shard_part.specs.Moves.{abstraction, rows_of, RepInvariant};
+    ghost use Rattle.shard_part.specs.Moves.{abstraction, RepInvariant};
+    ghost use Rattle.shard_store.specs.Rows.{rows_of};
 
     ghost Value = { PartData A A.Value };
 

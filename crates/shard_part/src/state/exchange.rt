@@ -3,21 +3,21 @@ ghost use Rattle.std.specs.Prelude.{◌≡◌, ◌≢◌, ◌+◌, ◌++◌, ◌
 ghost use Rattle.circular_buffer.specs.Buffer.{buffer};
 ghost use Rattle.road_graph.specs.GraphData.{HasArc};
 ghost use Rattle.scholten_core.specs.Items.{item_arc};
-ghost use Rattle.shard_part.specs.PartState.{network_of, place_in, state_in};
-ghost use Rattle.shard_part.specs.Capacities.{queue_bound, outbox_bound};
-ghost use Rattle.shard_part.specs.Weights.{part_weight, is};
+ghost use Rattle.shard_store.specs.Setup.{network_of, place_in};
+ghost use Rattle.shard_part.specs.PartState.{state_in};
+ghost use Rattle.shard_store.specs.Capacities.{queue_bound, outbox_bound};
+ghost use Rattle.shard_part.specs.Weights.{part_weight};
+ghost use Rattle.shard_store.specs.Totals.{is};
 ghost use Rattle.shard_part.specs.LocalInvariant.{names};
 ghost use Rattle.shard_part.specs.Moves.{IsPlace};
 ghost use Rattle.shard_part.specs.Exchange.{Fits, FitsAlone, FitsBefore, MayEngage, Awaits};
 
 use crate::laws::state_holds;
-use crate::shard::Shard;
 use crate::state::PartState;
-use crate::store::batch::{Batch, arc_of};
-use crate::store::place::VertexPlace;
 use path_algebra::PathAlgebra;
 use road_graph::{ArcNo, Vertex};
 use scholten_core::Item;
+use shard_store::{Batch, Shard, VertexPlace, arc_of};
 
 impl<'g, A: PathAlgebra> PartState<'g, A> {
     /// Exchanges the outbox to another shard for an empty batch of the same capacity.

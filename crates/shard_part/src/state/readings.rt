@@ -1,32 +1,24 @@
 //! What may be read of a part.
 ghost use Rattle.std.specs.Prelude.{◌≡◌, ◌≢◌, ◌+◌, ◌<◌, suc, [], get_or, length, leb, IsTrue, ◌↔◌};
 ghost use Rattle.scholten_core.specs.Deficit.{busy_out};
-ghost use Rattle.shard_part.specs.PartState.{network_of, place_in, state_in};
-ghost use Rattle.shard_part.specs.Capacities.{queue_bound, outbox_bound};
-ghost use Rattle.shard_part.specs.Tallies.{top};
+ghost use Rattle.shard_store.specs.Setup.{network_of, place_in};
+ghost use Rattle.shard_part.specs.PartState.{state_in};
+ghost use Rattle.shard_store.specs.Capacities.{queue_bound, outbox_bound};
+ghost use Rattle.shard_store.specs.Tallies.{top};
 ghost use Rattle.shard_part.specs.Readings.{IsOwn, has_ended, tally_in};
 
-use crate::setup::Setup;
-use crate::shard::Shard;
 use crate::state::PartState;
-use crate::store::place::ArcPlace;
-use crate::tally::Tally;
 use path_algebra::PathAlgebra;
 use road_graph::{ArcNo, Vertex};
 use scholten_core::ENTRY;
-use std::snapshot::Snapshot;
+use shard_store::{ArcPlace, Setup, Shard, Tally};
 
 impl<'g, A: PathAlgebra> PartState<'g, A> {
     /// What it shares with the other parts, for contracts.
     pub fn setup(&self) -> Setup<A>
         ensures { result ≡ self.now.setup }
     {
-        Setup {
-            algebra: self.algebra,
-            graph: Snapshot::of(self.graph),
-            plan: Snapshot::of(self.plan),
-            source: self.source,
-        }
+        Setup::new(self.algebra, self.graph, self.plan, self.source)
     }
 
     /// Whether a shard is another than this one: the test of what `capacity` and `swap_outbox` require.

@@ -2,17 +2,17 @@
 ghost use Rattle.std.specs.Prelude.{◌≡◌, ◌≢◌, suc, ◌+◌, ◌<◌, ◌≤◌, length, get_or, set, Option, Some, None, IsSome, IfSome, true, false};
 ghost use Rattle.road_graph.specs.GraphData.{arc_of, road_of};
 ghost use Rattle.scholten_core.specs.Deficit.{busy_out};
-ghost use Rattle.shard_part.specs.PartState.{network_of, place_in, state_in, IsArc};
-ghost use Rattle.shard_part.specs.Outgoing.{outgoing};
+ghost use Rattle.shard_store.specs.Setup.{network_of, place_in};
+ghost use Rattle.shard_part.specs.PartState.{state_in, IsArc};
+ghost use Rattle.shard_store.specs.Outgoing.{outgoing};
 ghost use Rattle.shard_part.specs.LocalInvariant.{IsClear};
 ghost use Rattle.shard_part.specs.Moves.{IsPlace, IsArcRow};
 
-use crate::shard::Shard;
 use crate::state::PartState;
-use crate::store::place::{ArcPlace, VertexPlace};
 use path_algebra::PathAlgebra;
 use road_graph::{ArcNo, OutRoad, Vertex};
 use scholten_core::{head_of, tail_of};
+use shard_store::{ArcPlace, Shard, VertexPlace};
 
 impl<'g, A: PathAlgebra> PartState<'g, A> {
     /// A vertex with its place.

@@ -1,5 +1,5 @@
 use Rattle.std.proofs.Common.{rules, ◌<◌, ◌+◌, [], length, map, ap, sym, ◌∙◌, subst, replicate}
-use Rattle.shard_part.specs.Moves.{IsPlanned}
+use Rattle.shard_store.specs.Setup.{IsPlanned}
 use Rattle.shard_part.specs.Opening.{opened_parts}
 use Rattle.atomic_table.specs.Table.{opening}
 use Rattle.post_floor.specs.Boxes.{box_count}

@@ -1,13 +1,8 @@
 -- What the graph and the plan say of the arcs and places of a part.
-use Rattle.std.proofs.Common.{◌≡◌, ◌≢◌, ℕ, zero, suc, ◌+◌, ◌-◌, ◌<◌, ◌≤◌, List, length, get_or, take, ◌⊎◌, refl, sym, ap, ◌∙◌, subst, inl, inr, arith, Contains}
+use Rattle.std.proofs.Common.{◌≡◌, ◌≢◌, ℕ, ◌+◌, ◌<◌, ◌≤◌, List, length, get_or, take, ◌⊎◌, sym, ap, ◌∙◌, subst, inl, inr, arith, Contains}
 use Rattle.std.proofs.lemmas.Grind.{get_or_default_zero}
-use Rattle.std.proofs.lemmas.List.{get_or-map, length-map}
-use Rattle.road_graph.specs.GraphData.{GraphData, IsGraph, HasVertex, HasArc, ListsArcsFrom, ListsRoadsFrom, arc_of, road_of, roads_of}
-use Rattle.road_graph.specs.declared.OutRoad.{OutRoad}
-use Rattle.scholten_core.specs.Network.{network}
-use Rattle.scholten_core.proofs.Networks.{out_of, real_arc, tail-arc, head-arc, tail-entry, head-entry}
-use Rattle.road_graph.proofs.Lists.{element_place}
-use Rattle.std.proofs.lemmas.List.Elements.{Contains-get_or}
+use Rattle.road_graph.specs.GraphData.{IsGraph, HasVertex, HasArc, arc_of}
+use Rattle.scholten_core.proofs.Networks.{real_arc, tail-arc, head-arc, tail-entry, head-entry}
 use Rattle.shard_store.specs.Plans.{shard_in, HasPlanned}
 use Rattle.shard_store.specs.Setup.{SetupData, network_of, place_in}
 use Rattle.shard_part.specs.PartState.{PartData, IsArc}
@@ -15,7 +10,7 @@ use Rattle.shard_store.specs.Outgoing.{outgoing, local_vertices, arcs_out}
 use Rattle.shard_store.specs.Rows.{Rows}
 use Rattle.shard_part.specs.Moves.{RepInvariant, IsPlace, IsArcRow}
 use Rattle.std.specs.List.Sorted.{IsStrictlyIncreasing}
-use Rattle.shard_store.proofs.Graphs.{out_is, roads_are, road_is, place_vertex, place_entry, placed_as}
+use Rattle.shard_store.proofs.Graphs.{placed_as}
 use Rattle.shard_store.proofs.Places.{arc_at_place, own_increasing, own_all}
 use Rattle.std.proofs.lemmas.Bool.{cases_eq}
 

@@ -1,5 +1,5 @@
 -- A reached state has ended exactly where no item waits; until then one waits in a queue, an outbox or a mailbox.
-use Rattle.std.proofs.Common.{◌≡◌, ℕ, suc, ◌+◌, ◌≤◌, ◌<◌, true, List, [], ◌∷◌, ◌↔◌, ◌⊎◌, length, get_or, ap, inl, inr, arith}
+use Rattle.std.proofs.Common.{◌≡◌, ℕ, suc, ◌≤◌, ◌<◌, true, List, [], ◌∷◌, ◌↔◌, ◌⊎◌, length, get_or, ap, inl, inr, arith}
 use Rattle.std.proofs.lemmas.Bool.{cases_lt, false≢true}
 use Rattle.scholten_core.specs.declared.token.Token.{Token}
 use Rattle.scholten_core.specs.declared.token.Token.TheVariants.{Idle, Message, Held, Signal}

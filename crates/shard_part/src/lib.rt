@@ -10,4 +10,3 @@ pub use closed::ClosedPart;
 pub use part::Part;
 pub use scholten_core::Item;
 pub use shard_store::{Batch, Plan, PlanFault, Setup, Shard, Tally};
-pub use state::PartState;

@@ -44,10 +44,8 @@ impl<'g, A: PathAlgebra> PartState<'g, A> {
         self.queue.append(batch);
     }
 
-    /// Whether a batch may be received: no arc occurs twice in it, or both in it and in the queue or an outbox, each message has a
-    /// value of the algebra and comes on an arc from another shard into this one that is no engager here, and each signal comes
-    /// back on an arc from this shard into another that is busy here.
-    pub fn fits(&self, batch: &Batch<A::Value>) -> bool
+    /// Whether a batch may be received.
+    pub(crate) fn fits(&self, batch: &Batch<A::Value>) -> bool
         ensures { IsTrue result ↔ Fits (A.meaning self.now.setup.diffusion.algebra) self.now
             batch.now.items }
     {

@@ -16,7 +16,7 @@ use shard_store::{ArcPlace, Shard, VertexPlace};
 
 impl<'g, A: PathAlgebra> PartState<'g, A> {
     /// A vertex with its place.
-    pub(super) fn place(&self, v: Vertex) -> VertexPlace
+    pub(crate) fn place(&self, v: Vertex) -> VertexPlace
         requires within { v ≤ self.now.setup.diffusion.roads.vertices }
         requires here { v ≢ 0 → place_in self.now.setup v ≡ self.now.shard }
         ensures vertex { result.vertex ≡ v }
@@ -98,7 +98,7 @@ impl<'g, A: PathAlgebra> PartState<'g, A> {
     }
 
     /// The shard of a vertex, and of the environment that of the source.
-    pub(super) fn shard_of(&self, v: Vertex) -> Shard
+    pub(crate) fn shard_of(&self, v: Vertex) -> Shard
         requires { v ≤ self.now.setup.diffusion.roads.vertices }
         ensures { result ≡ place_in self.now.setup v }
     {
@@ -107,7 +107,7 @@ impl<'g, A: PathAlgebra> PartState<'g, A> {
     }
 
     /// The label of the vertex at a place.
-    pub(super) fn label_at(&self, v: VertexPlace) -> Option<A::Value>
+    pub(crate) fn label_at(&self, v: VertexPlace) -> Option<A::Value>
         requires { IsPlace self.now v.vertex v.at }
         ensures { result ≡ (state_in self.now).label v.vertex }
     {
@@ -123,7 +123,7 @@ impl<'g, A: PathAlgebra> PartState<'g, A> {
     }
 
     /// The engager of the vertex at a place.
-    pub(super) fn engager_at(&self, v: VertexPlace) -> Option<ArcNo>
+    pub(crate) fn engager_at(&self, v: VertexPlace) -> Option<ArcNo>
         requires { IsPlace self.now v.vertex v.at }
         ensures { result ≡ (state_in self.now).engager v.vertex }
     {
@@ -159,7 +159,7 @@ impl<'g, A: PathAlgebra> PartState<'g, A> {
     }
 
     /// How many arcs out of the vertex at a place are busy.
-    pub(super) fn deficit_at(&self, v: VertexPlace) -> u32
+    pub(crate) fn deficit_at(&self, v: VertexPlace) -> u32
         requires { IsPlace self.now v.vertex v.at }
         ensures { result ≡ busy_out (network_of self.now.setup) v.vertex (state_in self.now)
             (suc (length self.now.setup.diffusion.roads.arcs)) }
@@ -168,7 +168,7 @@ impl<'g, A: PathAlgebra> PartState<'g, A> {
     }
 
     /// Whether the arc at a place is busy.
-    pub(super) fn is_busy(&self, b: ArcPlace) -> bool
+    pub(crate) fn is_busy(&self, b: ArcPlace) -> bool
         requires { IsArcRow self.now b.arc b.at }
         ensures { result ≡ get_or self.now.busy b.arc false }
     {

@@ -3,7 +3,7 @@ ghost use Rattle.std.specs.Prelude.{◌≡◌, ℕ, ◌+◌, ◌<◌, Bool, [], 
 ghost use Rattle.std.specs.List.{All};
 ghost use Rattle.path_algebra.specs.Given.{reach};
 ghost use Rattle.scholten_core.specs.Accounts.{AreMarksOfReached, count_marked};
-ghost use Rattle.shard_part.specs.PartState.{SetupData};
+ghost use Rattle.shard_store.specs.Setup.{SetupData};
 ghost use Rattle.station.specs.Gather.{IsGathered, each_shows};
 ghost use Rattle.station.specs.Station.{BelongsTo};
 

@@ -7,7 +7,8 @@ use Rattle.atomic_table.specs.Table.{Me, rest}
 use Rattle.circular_buffer.specs.Buffer.{Buffer, buffer}
 use Rattle.path_algebra.specs.Algebra.{Algebra}
 use Rattle.scholten_core.specs.declared.item.Item.{Item}
-use Rattle.shard_part.specs.PartState.{PartData, SetupData, network_of, place_in, vertex_of, maker_of, IsArc}
+use Rattle.shard_part.specs.PartState.{PartData, vertex_of, maker_of, IsArc}
+use Rattle.shard_store.specs.Setup.{SetupData, network_of, place_in}
 use Rattle.shard_part.specs.LocalInvariant.{LocalInvariant}
 use Rattle.shard_part.specs.Weights.{All}
 use Rattle.scholten_core.specs.Items.{item_arc}

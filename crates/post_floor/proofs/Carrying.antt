@@ -14,7 +14,7 @@ use Rattle.std.specs.contracts.vec.Vec as Vec
 use Rattle.std.specs.contracts.alloc.Global as Global
 use Rattle.std.specs.contracts.impls.GlobalAllocator.TheImpl.{ghosts}
 use Rattle.path_algebra.specs.declared.algebra.PathAlgebra.{Ghosts}
-use Rattle.shard_part.proofs.Sharing.{Batch-send}
+use Rattle.shard_store.proofs.Sharing.{Batch-send}
 use Rattle.atomic_table.proofs.shared.Seat.TheSendSync as seat
 use Rattle.atomic_table.proofs.shared.Shared.TheSendSync as shared
 use Rattle.atomic_table.proofs.send_lease.SendLease.TheSendSync as lease

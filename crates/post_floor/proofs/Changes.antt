@@ -14,11 +14,13 @@ use Rattle.scholten_core.specs.Network.{WellFormed}
 use Rattle.scholten_core.specs.Diffusion.{CoreState, opening, run_from, step as next_state, delivered, accepted, HasEnded, IsQuiet}
 use Rattle.scholten_core.specs.declared.event.Event.TheVariants.{Deliver, Accept}
 use Rattle.scholten_core.proofs.Ended.{ended}
-use Rattle.shard_part.specs.PartState.{PartData, SetupData, network_of, place_in, event_of}
-use Rattle.shard_part.specs.Weights.{total, is, part_weight}
+use Rattle.shard_part.specs.PartState.{PartData, event_of}
+use Rattle.shard_store.specs.Setup.{SetupData, network_of, place_in}
+use Rattle.shard_store.specs.Totals.{total, is}
+use Rattle.shard_part.specs.Weights.{part_weight}
 use Rattle.shard_part.specs.Handling.{HandledAll}
 use Rattle.shard_part.specs.Represents.{HoldsShareIn}
-use Rattle.shard_part.proofs.Weights.{sum_at}
+use Rattle.shard_store.proofs.Totals.{sum_at}
 use Rattle.shard_part.proofs.Showing.{AllLawful}
 use Rattle.shard_part.proofs.TakenCounts.{run_append}
 use Rattle.shard_part.specs.Arriving.{MadeAt}

@@ -5,9 +5,10 @@ use Rattle.std.proofs.Math.Nat.{div-add-mod, mod-lt}
 use Rattle.atomic_table.specs.Table.{rest}
 use Rattle.scholten_core.specs.Sums.{sum_below}
 use Rattle.scholten_core.proofs.Sums.{sum_most, sum_ones}
-use Rattle.shard_part.specs.Weights.{total, is, All}
-use Rattle.shard_part.specs.PartState.{SetupData}
-use Rattle.shard_part.proofs.Weights.{sum_at, sum_zero}
+use Rattle.shard_store.specs.Totals.{total, is}
+use Rattle.shard_part.specs.Weights.{All}
+use Rattle.shard_store.specs.Setup.{SetupData}
+use Rattle.shard_store.proofs.Totals.{sum_at, sum_zero}
 use Rattle.shard_part.proofs.Showing.{is_self}
 use Rattle.post_floor.specs.declared.view.View.{View}
 use Rattle.post_floor.specs.Boxes.{dest, origin}

@@ -12,12 +12,13 @@ use Rattle.scholten_core.specs.Network.{WellFormed}
 use Rattle.scholten_core.specs.Diffusion.{CoreState, HasEnded, IsQuiet, is_idle}
 use Rattle.scholten_core.proofs.Ended.{ended}
 use Rattle.scholten_core.proofs.Basics.{idle-true}
-use Rattle.shard_part.specs.PartState.{PartData, SetupData, network_of, place_in, token_if, event_of}
-use Rattle.shard_part.specs.Weights.{total, is}
+use Rattle.shard_part.specs.PartState.{PartData, token_if, event_of}
+use Rattle.shard_store.specs.Setup.{SetupData, network_of, place_in}
+use Rattle.shard_store.specs.Totals.{total, is}
 use Rattle.shard_part.specs.Handling.{HandledAll}
 use Rattle.shard_part.specs.Represents.{HoldsShareIn}
 use Rattle.shard_part.specs.Readings.{has_ended}
-use Rattle.shard_part.proofs.Weights.{sum_below_same}
+use Rattle.shard_store.proofs.Totals.{sum_below_same}
 use Rattle.shard_part.proofs.Showing.{AllLawful}
 use Rattle.post_floor.specs.declared.view.View.{View}
 use Rattle.post_floor.specs.Boxes.{done_now, box_count, dest}

@@ -13,11 +13,13 @@ use Rattle.scholten_core.specs.Diffusion.{CoreState, opening, run_from}
 use Rattle.scholten_core.specs.Shares.{Agree}
 use Rattle.scholten_core.proofs.Kept.{Kept as CoreKept, run_kept}
 use Rattle.scholten_core.proofs.Ended.{opening_kept}
-use Rattle.shard_part.specs.PartState.{PartData, SetupData, network_of, place_in, state_in, mine, event_of}
-use Rattle.shard_part.specs.Weights.{total, is, All, part_weight}
+use Rattle.shard_part.specs.PartState.{PartData, state_in, mine, event_of}
+use Rattle.shard_store.specs.Setup.{SetupData, network_of, place_in}
+use Rattle.shard_store.specs.Totals.{total, is}
+use Rattle.shard_part.specs.Weights.{All, part_weight}
 use Rattle.shard_part.specs.Handling.{HandledAll}
 use Rattle.shard_part.specs.Represents.{HoldsShareIn, RepresentsIn, Represents}
-use Rattle.shard_part.proofs.Weights.{total_append}
+use Rattle.shard_store.proofs.Totals.{total_append}
 use Rattle.shard_part.proofs.Showing.{AllLawful, all_parts, all_append, shown_holds, swap_shown}
 use Rattle.shard_part.proofs.TakenCounts.{run_append, handled_same}
 use Rattle.post_floor.specs.declared.view.View.{View}

@@ -9,13 +9,14 @@ use Rattle.atomic_table.proofs.Lists.{at_map}
 use Rattle.path_algebra.specs.Algebra.{Algebra}
 use Rattle.scholten_core.specs.declared.item.Item.{Item}
 use Rattle.scholten_core.specs.Sums.{one_if}
-use Rattle.shard_part.specs.PartState.{PartData, SetupData, place_in}
-use Rattle.shard_part.specs.Weights.{total, is, All}
+use Rattle.shard_part.specs.PartState.{PartData}
+use Rattle.shard_store.specs.Setup.{SetupData, place_in, IsPlanned}
+use Rattle.shard_store.specs.Totals.{total, is}
+use Rattle.shard_part.specs.Weights.{All}
 use Rattle.shard_part.specs.Represents.{Represents}
-use Rattle.shard_part.specs.Moves.{IsPlanned}
 use Rattle.shard_part.specs.Opening.{opened_parts}
-use Rattle.shard_part.proofs.Weights.{sum_zero, sum_below_same}
-use Rattle.shard_part.proofs.Opened.{place_below}
+use Rattle.shard_store.proofs.Totals.{sum_zero, sum_below_same}
+use Rattle.shard_store.proofs.Graphs.{place_below}
 use Rattle.shard_part.proofs.OpenedAll.{opened_show, opened_same, shards_past}
 use Rattle.post_floor.specs.declared.view.View.{View}
 use Rattle.post_floor.specs.Boxes.{box_count, dest}

@@ -6,8 +6,8 @@ use Rattle.scholten_core.specs.declared.item.Item.{Item}
 use Rattle.scholten_core.specs.Diffusion.{HasEnded}
 use Rattle.scholten_core.proofs.EveryRun.{ended_is_quiet, ended_is_best}
 use Rattle.scholten_core.proofs.Networks.{well_formed}
-use Rattle.shard_part.specs.PartState.{PartData, SetupData, network_of, place_in}
-use Rattle.shard_part.specs.Moves.{IsPlanned}
+use Rattle.shard_part.specs.PartState.{PartData}
+use Rattle.shard_store.specs.Setup.{SetupData, network_of, place_in, IsPlanned}
 use Rattle.shard_part.specs.Represents.{Represents}
 use Rattle.shard_part.proofs.Showing.{AllLawful}
 use Rattle.shard_part.proofs.UnderWay.{ended_empty}

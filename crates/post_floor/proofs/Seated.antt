@@ -6,8 +6,9 @@ use Rattle.atomic_table.specs.Seated.{TableId}
 use Rattle.atomic_table.specs.Table.{rest}
 use Rattle.circular_buffer.specs.Buffer.{Buffer, buffer}
 use Rattle.path_algebra.specs.Algebra.{Algebra}
-use Rattle.shard_part.specs.PartState.{PartData, SetupData}
-use Rattle.shard_part.specs.Weights.{total, is}
+use Rattle.shard_part.specs.PartState.{PartData}
+use Rattle.shard_store.specs.Setup.{SetupData}
+use Rattle.shard_store.specs.Totals.{total, is}
 use Rattle.shard_part.proofs.TakenCounts.{handled_same}
 use Rattle.shard_part.proofs.Showing.{is_self}
 use Rattle.post_floor.specs.declared.view.View.{View}

@@ -7,10 +7,12 @@ use lib.ListN.{get_elem?}
 use Rattle.atomic_table.specs.Table.{State, Splits, Joins}
 use Rattle.atomic_table.proofs.Lists.{at_set, at_snoc}
 use Rattle.path_algebra.specs.Algebra.{Algebra}
-use Rattle.shard_part.specs.PartState.{PartData, SetupData, network_of, place_in}
-use Rattle.shard_part.specs.Weights.{total, is, All, part_weight}
+use Rattle.shard_part.specs.PartState.{PartData}
+use Rattle.shard_store.specs.Setup.{SetupData, network_of, place_in}
+use Rattle.shard_store.specs.Totals.{total, is}
+use Rattle.shard_part.specs.Weights.{All, part_weight}
 use Rattle.shard_part.specs.Represents.{HoldsTables}
-use Rattle.shard_part.proofs.Weights.{total_append}
+use Rattle.shard_store.proofs.Totals.{total_append}
 use Rattle.shard_part.proofs.Showing.{all_append, all_parts}
 use Rattle.post_floor.specs.declared.view.View.{View}
 use Rattle.post_floor.specs.Boxes.{box_count}

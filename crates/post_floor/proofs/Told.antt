@@ -6,9 +6,9 @@ use Rattle.atomic_table.specs.Table.{State, Me, Allows}
 use Rattle.path_algebra.specs.Algebra.{Algebra}
 use Rattle.scholten_core.specs.Network.{WellFormed}
 use Rattle.scholten_core.proofs.Networks.{well_formed}
-use Rattle.shard_part.specs.Moves.{IsPlanned}
+use Rattle.shard_store.specs.Setup.{IsPlanned, SetupData, network_of}
 use Rattle.shard_part.specs.Readings.{has_ended}
-use Rattle.shard_part.specs.PartState.{PartData, SetupData, network_of}
+use Rattle.shard_part.specs.PartState.{PartData}
 use Rattle.shard_part.specs.Weights.{All}
 use Rattle.shard_part.proofs.Showing.{AllLawful}
 use Rattle.post_floor.specs.declared.view.View.{View}

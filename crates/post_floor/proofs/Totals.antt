@@ -4,7 +4,7 @@ use Rattle.std.proofs.lemmas.Bool.{cases_eq}
 use mathlib.Core.Option.{some, some-injective, some-ne-none}
 use lib.ListN.{get_elem?}
 use Rattle.scholten_core.specs.Sums.{one_if}
-use Rattle.shard_part.specs.Weights.{total, is}
+use Rattle.shard_store.specs.Totals.{total, is}
 use Rattle.shard_part.proofs.Showing.{is_self}
 use Rattle.post_floor.specs.Plays.{without}
 

@@ -3,9 +3,10 @@ use Rattle.std.proofs.Common.{◌≡◌, ◌≢◌, ℕ, suc, ◌<◌, ◌≤◌
 use Rattle.std.proofs.lemmas.Bool.{cases_eq}
 use Rattle.std.proofs.lemmas.List.{map_push}
 use Rattle.atomic_table.specs.Table.{rest, turned}
-use Rattle.shard_part.specs.Weights.{total, is, All}
-use Rattle.shard_part.specs.PartState.{SetupData}
-use Rattle.shard_part.proofs.Weights.{total_append}
+use Rattle.shard_store.specs.Totals.{total, is}
+use Rattle.shard_part.specs.Weights.{All}
+use Rattle.shard_store.specs.Setup.{SetupData}
+use Rattle.shard_store.proofs.Totals.{total_append}
 use Rattle.shard_part.proofs.Showing.{all_append}
 use Rattle.post_floor.specs.declared.view.View.{View}
 use Rattle.post_floor.specs.Floor.{Slot, empty_slot}

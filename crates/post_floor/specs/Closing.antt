@@ -2,8 +2,10 @@
 use Rattle.std.specs.Prelude.{◌≡◌, ℕ, ◌+◌, ◌<◌, true, List, map}
 use mathlib.Core.Option.{some}
 use Rattle.path_algebra.specs.Algebra.{Algebra}
-use Rattle.shard_part.specs.PartState.{SetupData, PartData}
-use Rattle.shard_part.specs.Weights.{total, is, All}
+use Rattle.shard_store.specs.Setup.{SetupData}
+use Rattle.shard_part.specs.PartState.{PartData}
+use Rattle.shard_store.specs.Totals.{total, is}
+use Rattle.shard_part.specs.Weights.{All}
 use Rattle.post_floor.specs.declared.view.View.{View}
 use Rattle.post_floor.specs.Floor.{Slot, FinalView}
 use Rattle.post_floor.specs.Seats.{spent}

@@ -7,16 +7,17 @@ use Rattle.atomic_table.specs.Seated.{TableId}
 use Rattle.atomic_table.specs.Table.{Me, rest}
 use Rattle.circular_buffer.specs.Buffer.{buffer}
 use Rattle.path_algebra.specs.Algebra.{Algebra}
-use Rattle.shard_part.specs.PartState.{SetupData, PartData}
-use Rattle.shard_part.specs.Weights.{total, is, All}
+use Rattle.shard_store.specs.Setup.{SetupData, IsPlanned}
+use Rattle.shard_part.specs.PartState.{PartData}
+use Rattle.shard_store.specs.Totals.{total, is}
+use Rattle.shard_part.specs.Weights.{All}
 use Rattle.shard_part.specs.Arriving.{MadeAt}
-use Rattle.shard_part.specs.Moves.{IsPlanned}
 use Rattle.post_floor.specs.declared.view.View.{View}
 use Rattle.post_floor.specs.Boxes.{slots_per_pair, box_count, mailbox, dest, origin}
 use Rattle.post_floor.specs.Floor.{Slot, mailbox_capacity, empty_slot, fill_claims, read_claims}
 use Rattle.post_floor.specs.Plays.{ViewLags, published_to}
 use Rattle.post_floor.specs.Seats.{knows}
-use Rattle.shard_part.specs.Plans.{PlanData}
+use Rattle.shard_store.specs.Plans.{PlanData}
 use Rattle.shard_part.specs.Opening.{opened_parts}
 
 -- a floor: which it is, and the diffusion and plan that its parts share

@@ -12,9 +12,11 @@ use Rattle.scholten_core.specs.Accounts.{Totals, totals_of}
 use Rattle.scholten_core.specs.Diffusion.{CoreState, state_after, HasEnded, IsQuiet}
 use Rattle.scholten_core.specs.Reached.{LabelsAreBest}
 use Rattle.scholten_core.specs.Sums.{sum_below}
-use Rattle.shard_part.specs.PartState.{SetupData, PartData, network_of, place_in}
-use Rattle.shard_part.specs.Weights.{total, is, All, part_weight}
-use Rattle.shard_part.specs.Capacities.{outbox_bound}
+use Rattle.shard_store.specs.Setup.{SetupData, network_of, place_in}
+use Rattle.shard_part.specs.PartState.{PartData}
+use Rattle.shard_store.specs.Totals.{total, is}
+use Rattle.shard_part.specs.Weights.{All, part_weight}
+use Rattle.shard_store.specs.Capacities.{outbox_bound}
 use Rattle.shard_part.specs.Represents.{Represents}
 use Rattle.shard_part.specs.Arriving.{MadeAt}
 use Rattle.post_floor.specs.declared.view.View.{View}

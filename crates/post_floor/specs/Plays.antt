@@ -7,8 +7,9 @@ use Rattle.path_algebra.specs.Algebra.{Algebra}
 use Rattle.scholten_core.specs.declared.event.Event.{Event}
 use Rattle.scholten_core.specs.declared.item.Item.{Item}
 use Rattle.scholten_core.specs.Diffusion.{HasEnded, IsQuiet}
-use Rattle.shard_part.specs.Tallies.{top}
-use Rattle.shard_part.specs.PartState.{SetupData, PartData}
+use Rattle.shard_store.specs.Tallies.{top}
+use Rattle.shard_store.specs.Setup.{SetupData}
+use Rattle.shard_part.specs.PartState.{PartData}
 use Rattle.shard_part.specs.Handling.{HandledAll}
 use Rattle.shard_part.specs.Represents.{HoldsShare}
 use Rattle.shard_part.specs.Arriving.{joined, MayReceive}

@@ -2,7 +2,7 @@
 use Rattle.std.specs.Prelude.{ℕ, ◌+◌, false, ◌||◌, List, [], ◌∷◌, ◌++◌, replicate}
 use Rattle.atomic_table.specs.Table.{Me}
 use Rattle.shard_part.specs.PartState.{PartData}
-use Rattle.shard_part.specs.Weights.{total}
+use Rattle.shard_store.specs.Totals.{total}
 use Rattle.post_floor.specs.declared.view.View.{View}
 
 abbrev pub tail : {A : Type 0} → List A → List A

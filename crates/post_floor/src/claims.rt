@@ -2,8 +2,8 @@
 ghost use Rattle.std.specs.Prelude.{◌≡◌, ◌∷◌, ℕ, ◌<◌, ◌≤◌, length, map};
 ghost use Rattle.atomic_table.specs.Table.{rest};
 ghost use Rattle.circular_buffer.specs.Buffer.{buffer};
-ghost use Rattle.shard_part.specs.PartState.{SetupData};
-ghost use Rattle.shard_part.specs.Weights.{total, is};
+ghost use Rattle.shard_store.specs.Setup.{SetupData};
+ghost use Rattle.shard_store.specs.Totals.{total, is};
 ghost use Rattle.post_floor.specs.declared.view.View.{View};
 ghost use Rattle.post_floor.specs.Claims.{cycled, first_is};
 ghost use Rattle.post_floor.specs.Data.{AreOpen};

@@ -2,7 +2,8 @@
 ghost use Rattle.std.specs.Prelude.{◌≡◌, ◌<◌, ◌≤◌, ◌↔◌, [], ◌∷◌, IsTrue};
 ghost use Rattle.std.specs.Mem.Slots.{IsFull, slots_items};
 ghost use Rattle.shard_part.specs.PartState.{PartData};
-ghost use Rattle.shard_part.specs.Weights.{total, is, All};
+ghost use Rattle.shard_store.specs.Totals.{total, is};
+ghost use Rattle.shard_part.specs.Weights.{All};
 ghost use Rattle.post_floor.specs.Closing.{AllSeated, AreJoined};
 
 use crate::plays::{Aside, Cut};

@@ -4,8 +4,7 @@ ghost use mathlib.Core.Option.{Option, some};
 ghost use lib.ListN.{get_elem?};
 ghost use Rattle.atomic_table.specs.Table.{State};
 ghost use Rattle.scholten_core.specs.declared.event.Event.{Event};
-ghost use Rattle.shard_part.specs.PartState.{SetupData};
-ghost use Rattle.shard_part.specs.Moves.{IsPlanned};
+ghost use Rattle.shard_store.specs.Setup.{SetupData, IsPlanned};
 ghost use Rattle.post_floor.specs.declared.view.View.{View};
 ghost use Rattle.post_floor.specs.Floor.{Slot, flat, in_transit, FloorInvariant, FinalView, RepresentsQuiet};
 

@@ -12,11 +12,13 @@ use Rattle.scholten_core.specs.Diffusion.{CoreState, is_idle}
 use Rattle.scholten_core.specs.Items.{item_arc, item_of}
 use Rattle.scholten_core.proofs.Kept.{Kept as CoreKept}
 use Rattle.scholten_core.proofs.Walks.{walk_value_is_value}
-use Rattle.shard_part.specs.PartState.{PartData, SetupData, network_of, place_in, token_if, maker_of}
-use Rattle.shard_part.specs.Weights.{total, is, All}
+use Rattle.shard_part.specs.PartState.{PartData, token_if, maker_of}
+use Rattle.shard_store.specs.Setup.{SetupData, network_of, place_in}
+use Rattle.shard_store.specs.Totals.{total, is}
+use Rattle.shard_part.specs.Weights.{All}
 use Rattle.shard_part.specs.Represents.{HoldsShareIn}
 use Rattle.shard_part.specs.Exchange.{FitsAlone}
-use Rattle.shard_part.proofs.Weights.{total_append}
+use Rattle.shard_store.proofs.Totals.{total_append}
 use Rattle.shard_part.proofs.Room.{queue_fits, arc_once, message_free, signal_busy}
 use Rattle.shard_part.proofs.TakenIsEvent.{front_stands}
 use Rattle.shard_part.specs.Arriving.{MadeAt, joined, MayReceive}

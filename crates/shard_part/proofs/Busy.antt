@@ -6,17 +6,20 @@ use Rattle.scholten_core.specs.Network.{Network}
 use Rattle.scholten_core.specs.Diffusion.{CoreState, is_idle}
 use Rattle.scholten_core.specs.Sums.{one_if}
 use Rattle.scholten_core.specs.Items.{item_arc}
-use Rattle.shard_part.specs.Tables.{scatter}
+use Rattle.shard_store.specs.Tables.{scatter}
 use Rattle.scholten_core.specs.Deficit.{busy_out}
-use Rattle.shard_part.specs.PartState.{PartData, state_in, token_if, network_of, place_in}
-use Rattle.shard_part.specs.Outgoing.{local_vertices, arcs_out}
-use Rattle.shard_part.specs.Weights.{is, part_weight}
+use Rattle.shard_part.specs.PartState.{PartData, state_in, token_if}
+use Rattle.shard_store.specs.Setup.{network_of, place_in}
+use Rattle.shard_store.specs.Outgoing.{local_vertices, arcs_out}
+use Rattle.shard_store.specs.Totals.{is}
+use Rattle.shard_part.specs.Weights.{part_weight}
 use Rattle.shard_part.specs.LocalInvariant.{engages, idles, LocalInvariant, IsClear}
-use Rattle.shard_part.specs.Moves.{Rows, AreRowDeficits, RepInvariant, IsPlace, IsArcRow}
-use Rattle.shard_part.proofs.Weights.{sum_at, sum_below_same}
-use Rattle.shard_part.proofs.Counting.{own_arcs_most}
-use Rattle.shard_part.proofs.Spread.{table_write, table_long}
-use Rattle.shard_part.proofs.Places.{own_apart, own_placed}
+use Rattle.shard_store.specs.Rows.{Rows}
+use Rattle.shard_part.specs.Moves.{AreRowDeficits, RepInvariant, IsPlace, IsArcRow}
+use Rattle.shard_store.proofs.Totals.{sum_at, sum_below_same}
+use Rattle.shard_store.proofs.Counting.{own_arcs_most}
+use Rattle.shard_store.proofs.Spread.{table_write, table_long}
+use Rattle.shard_store.proofs.Places.{own_apart, own_placed}
 use Rattle.shard_part.proofs.Moves.{place_at, row_at, arc_below, apart}
 use Rattle.scholten_core.proofs.Sums.{one_if-most}
 

@@ -7,9 +7,11 @@ use Rattle.scholten_core.specs.Network.{Network, WellFormed}
 use Rattle.scholten_core.specs.Diffusion.{CoreState, step, run_from}
 use Rattle.scholten_core.specs.Accounts.{Totals, count_sent, count_signalled, sent_total, delivered_total, signalled_total, accepted_total}
 use Rattle.scholten_core.proofs.Kept.{Kept as CoreKept, step_kept}
-use Rattle.shard_part.specs.Tallies.{counted_on, top}
-use Rattle.shard_part.specs.PartState.{PartData, SetupData, network_of, place_in, state_in, event_of}
-use Rattle.shard_part.specs.Weights.{total, message_weight, signal_weight}
+use Rattle.shard_store.specs.Tallies.{counted_on, top}
+use Rattle.shard_part.specs.PartState.{PartData, state_in, event_of}
+use Rattle.shard_store.specs.Setup.{SetupData, network_of, place_in}
+use Rattle.shard_store.specs.Totals.{total}
+use Rattle.shard_part.specs.Weights.{message_weight, signal_weight}
 use Rattle.shard_part.specs.Handling.{made, HandledItemIn, HandledAll}
 use Rattle.shard_part.specs.Represents.{Represents}
 use Rattle.shard_part.specs.Exact.{no_totals, plus, done_by, Saturates, RepresentsMoved}

@@ -10,14 +10,17 @@ use Rattle.scholten_core.specs.Network.{Network, WellFormed}
 use Rattle.scholten_core.specs.Diffusion.{CoreState, put, is_idle, is_due, improves, better_of, engaged_by, answer_to, freed}
 use Rattle.scholten_core.specs.Items.{item_arc, item_of, pump_made, settle_made, IsDistinct, IsOutList}
 use Rattle.scholten_core.proofs.Basics.{put_tells, due_tells}
-use Rattle.shard_part.specs.Tallies.{counted_on, top}
-use Rattle.shard_part.specs.PartState.{PartData, SetupData, network_of, place_in, state_in, token_if, mine, vertex_of, IsArc}
-use Rattle.shard_part.specs.Weights.{Channels, channels_of, total, message_weight, signal_weight}
+use Rattle.shard_store.specs.Tallies.{counted_on, top}
+use Rattle.shard_part.specs.PartState.{PartData, state_in, token_if, mine, vertex_of, IsArc}
+use Rattle.shard_store.specs.Setup.{SetupData, network_of, place_in, IsPlanned}
+use Rattle.shard_part.specs.Weights.{Channels, channels_of, message_weight, signal_weight}
+use Rattle.shard_store.specs.Totals.{total}
 use Rattle.shard_part.specs.Handling.{routes, route, arrive_here, settle_here, taken, made, HandledItemIn}
-use Rattle.shard_part.specs.Outgoing.{outgoing}
-use Rattle.shard_part.specs.Moves.{Rows, RepInvariant, IsPlanned, IsPopped, engaged_or_answered, offered, offered_all, rested, with_value, with_free, with_taken}
+use Rattle.shard_store.specs.Outgoing.{outgoing}
+use Rattle.shard_store.specs.Rows.{Rows}
+use Rattle.shard_part.specs.Moves.{RepInvariant, IsPopped, engaged_or_answered, offered, offered_all, rested, with_value, with_free, with_taken}
 use Rattle.shard_part.specs.Part.{OwnIdleIsTold}
-use Rattle.shard_part.proofs.Spread.{table_long}
+use Rattle.shard_store.proofs.Spread.{table_long}
 use Rattle.shard_part.proofs.InFlight.{outgoing_is}
 use Rattle.shard_part.proofs.Moves.{formed}
 use Rattle.shard_part.proofs.Graphs.{head_of_arc, head_of_entry, tail_of_arc, tail_of_entry}

@@ -1,58 +1,20 @@
--- What the graph and the plan say of the network's arcs and places.
-use Rattle.std.proofs.Common.{◌≡◌, ◌≢◌, ℕ, zero, suc, ◌+◌, ◌-◌, ◌<◌, ◌≤◌, List, length, get_or, take, ◌⊎◌, refl, sym, ap, ◌∙◌, subst, inl, inr, arith, Contains}
+-- What the graph and the plan say of the arcs and places of a part.
+use Rattle.std.proofs.Common.{◌≡◌, ◌≢◌, ℕ, ◌+◌, ◌<◌, ◌≤◌, List, length, get_or, take, ◌⊎◌, sym, ap, ◌∙◌, subst, inl, inr, arith, Contains}
 use Rattle.std.proofs.lemmas.Grind.{get_or_default_zero}
-use Rattle.std.proofs.lemmas.List.{get_or-map, length-map}
-use Rattle.road_graph.specs.GraphData.{GraphData, IsGraph, HasVertex, HasArc, ListsArcsFrom, ListsRoadsFrom, arc_of, road_of, roads_of}
-use Rattle.road_graph.specs.declared.OutRoad.{OutRoad}
-use Rattle.scholten_core.specs.Network.{network}
-use Rattle.scholten_core.proofs.Networks.{out_of, real_arc, tail-arc, head-arc, tail-entry, head-entry}
-use Rattle.road_graph.proofs.Lists.{element_place}
-use Rattle.std.proofs.lemmas.List.Elements.{Contains-get_or}
-use Rattle.shard_part.specs.Plans.{shard_in, HasPlanned}
-use Rattle.shard_part.specs.PartState.{SetupData, PartData, network_of, place_in, IsArc}
-use Rattle.shard_part.specs.Outgoing.{outgoing, local_vertices, arcs_out}
-use Rattle.shard_part.specs.Moves.{Rows, RepInvariant, IsPlace, IsArcRow}
+use Rattle.road_graph.specs.GraphData.{IsGraph, HasVertex, HasArc, arc_of}
+use Rattle.scholten_core.proofs.Networks.{real_arc, tail-arc, head-arc, tail-entry, head-entry}
+use Rattle.shard_store.specs.Plans.{shard_in, HasPlanned}
+use Rattle.shard_store.specs.Setup.{SetupData, network_of, place_in}
+use Rattle.shard_part.specs.PartState.{PartData, IsArc}
+use Rattle.shard_store.specs.Outgoing.{outgoing, local_vertices, arcs_out}
+use Rattle.shard_store.specs.Rows.{Rows}
+use Rattle.shard_part.specs.Moves.{RepInvariant, IsPlace, IsArcRow}
 use Rattle.std.specs.List.Sorted.{IsStrictlyIncreasing}
-use Rattle.shard_part.proofs.Ascending.{arcs_are}
-use Rattle.shard_part.proofs.Places.{arc_at_place, own_increasing, own_all}
+use Rattle.shard_store.proofs.Graphs.{placed_as}
+use Rattle.shard_store.proofs.Places.{arc_at_place, own_increasing, own_all}
 use Rattle.std.proofs.lemmas.Bool.{cases_eq}
 
--- the graph's list of the arcs out of v is the one list
-pub out_is : (g : GraphData) (s v : ℕ) (xs : List ℕ) → 1 ≤ v → ListsArcsFrom g v xs → xs ≡ outgoing (network g s) v
-out_is g s v xs l o =
-    let O = out_of g s v xs l o in
-    arcs_are (network g s) v 0 (suc (length g.arcs)) 0 xs o.ascending
-    (λ b m. let r = element_place 0 b xs m in (ap (network g s).tail (sym r.2) ∙ O.tail r.0 r.1, omega arith, (let h = O.high r.0 r.1 in let e = r.2 in omega (arith, h, e))))
-    (λ b t h k. let r = O.all b t in subst (Contains xs) r.2 (Contains-get_or xs r.0 0 r.1))
-
--- its list of heads and weights has those of these arcs, in the same order
-pub roads_are : (g : GraphData) (s v : ℕ) (rs : List OutRoad) → 1 ≤ v → ListsRoadsFrom g v rs → rs ≡ roads_of g (outgoing (network g s) v)
-roads_are g s v rs l o = o.2 ∙ ap (roads_of g) (out_is g s v o.0 l o.1)
-
-pub road_is : (g : GraphData) (s v k b : ℕ) (rs : List OutRoad) (d : OutRoad) → rs ≡ roads_of g (outgoing (network g s) v)
-    → k < length (outgoing (network g s) v) → get_or (outgoing (network g s) v) k 0 ≡ b → (k < length rs) × (get_or rs k d ≡ road_of (arc_of g b))
-road_is g s v k b rs d e l h = (
-  (let z = ap (λ (ys : List OutRoad). length ys) e in let y = length-map (outgoing (network g s) v) (λ a. road_of (arc_of g a)) in omega (arith, z, y, l)),
-  ap (λ ys. get_or ys k d) e ∙ get_or-map (λ a. road_of (arc_of g a)) (outgoing (network g s) v) k 0 d l ∙ ap (λ a. road_of (arc_of g a)) h,
-)
-
 module _ {S : Type 0} (t : SetupData S) where
-  pub place_vertex : (v : ℕ) → 1 ≤ v → place_in t v ≡ shard_in t.plan v
-  unfolding place_in
-  place_vertex zero l = absurd (omega arith)
-  place_vertex (suc v) l = let e : suc v - 1 ≡ v = omega arith in ap (λ k. get_or t.plan.list k 0) (sym e)
-
-  pub place_entry : 1 ≤ t.diffusion.source → place_in t 0 ≡ shard_in t.plan t.diffusion.source
-  unfolding place_in
-  place_entry l = refl
-
-  -- the place of the vertex that stands for it
-  pub placed_as : (v w : ℕ) → 1 ≤ t.diffusion.source → ((v ≡ 0) × (w ≡ t.diffusion.source)) ⊎ ((1 ≤ v) × (w ≡ v)) → place_in t v ≡ shard_in t.plan w
-  placed_as v w l h = elim h [
-    | inl k ↦ ap (place_in t) k.0 ∙ place_entry l ∙ ap (shard_in t.plan) (sym k.1)
-    | inr k ↦ place_vertex v k.0 ∙ ap (shard_in t.plan) (sym k.1)
-  ]
-
   pub graph_arc : (b : ℕ) → b ≢ 0 → IsArc (network_of t) b → HasArc t.diffusion.roads b
   graph_arc b n r = real_arc t.diffusion.roads b (r.1 n)
 

@@ -5,14 +5,17 @@ use Rattle.scholten_core.specs.Network.{WellFormed}
 use Rattle.scholten_core.specs.Sums.{one_if}
 use Rattle.scholten_core.specs.Items.{item_arc}
 use Rattle.scholten_core.proofs.Networks.{well_formed}
-use Rattle.shard_part.specs.Tables.{scatter, IsApart}
-use Rattle.shard_part.specs.PartState.{PartData, state_in, network_of, place_in, IsArc}
-use Rattle.shard_part.specs.Outgoing.{local_vertices, arcs_out}
-use Rattle.shard_part.specs.Weights.{is, part_weight}
+use Rattle.shard_store.specs.Tables.{scatter, IsApart}
+use Rattle.shard_part.specs.PartState.{PartData, state_in, IsArc}
+use Rattle.shard_store.specs.Setup.{network_of, place_in, IsPlanned}
+use Rattle.shard_store.specs.Outgoing.{local_vertices, arcs_out}
+use Rattle.shard_store.specs.Totals.{is}
+use Rattle.shard_part.specs.Weights.{part_weight}
 use Rattle.shard_part.specs.LocalInvariant.{names, engages, idles, LocalInvariant, IsClear}
-use Rattle.shard_part.specs.Moves.{Rows, IsPlanned, RepInvariant, IsPlace, IsArcRow}
-use Rattle.shard_part.proofs.Spread.{table_read, table_write, table_long}
-use Rattle.shard_part.proofs.Places.{own_apart, own_below, own_placed, arcs_apart, arc_owner}
+use Rattle.shard_store.specs.Rows.{Rows}
+use Rattle.shard_part.specs.Moves.{RepInvariant, IsPlace, IsArcRow}
+use Rattle.shard_store.proofs.Spread.{table_read, table_write, table_long}
+use Rattle.shard_store.proofs.Places.{own_apart, own_below, own_placed, arcs_apart, arc_owner}
 use Rattle.scholten_core.proofs.Sums.{one_if-most}
 
 module _ {S V : Type 0} where

@@ -7,12 +7,14 @@ use Rattle.scholten_core.specs.Diffusion.{is_idle, is_due, same_label, extend_la
 use Rattle.road_graph.specs.GraphData.{arc_of}
 use Rattle.scholten_core.proofs.Networks.{weight-arc}
 use Rattle.scholten_core.specs.Deficit.{busy_out}
-use Rattle.shard_part.specs.Plans.{shard_in}
-use Rattle.shard_part.specs.PartState.{PartData, state_in, token_if, network_of, place_in, IsArc}
+use Rattle.shard_store.specs.Plans.{shard_in}
+use Rattle.shard_part.specs.PartState.{PartData, state_in, token_if, IsArc}
+use Rattle.shard_store.specs.Setup.{network_of, place_in}
 use Rattle.shard_part.proofs.Graphs.{arc_in_graph, head_told, shard_is}
 use Rattle.shard_part.proofs.Moves.{mine_at}
 use Rattle.scholten_core.proofs.Quick.{out_idle_counted}
-use Rattle.shard_part.specs.Moves.{Rows, RepInvariant, IsPlace, with_item, with_message, offered, rested, rested_by}
+use Rattle.shard_store.specs.Rows.{Rows}
+use Rattle.shard_part.specs.Moves.{RepInvariant, IsPlace, with_item, with_message, offered, rested, rested_by}
 
 module _ {S V : Type 0} (A : Algebra V) where
   pub due_read : (p : PartData S V) (v b : ℕ) (busy same : Bool) → (network_of p.setup).tail b ≡ v → busy ≡ get_or p.busy b false → same ≡ same_label A ((state_in p).told b) ((state_in p).label v) →

@@ -8,12 +8,14 @@ use Rattle.path_algebra.specs.Algebra.{Algebra}
 use Rattle.scholten_core.specs.Network.{Network}
 use Rattle.scholten_core.specs.Diffusion.{CoreState, is_idle, is_due, pump, sent, extend_label}
 use Rattle.scholten_core.specs.Items.{item_of, pump_made, IsDistinct}
-use Rattle.shard_part.specs.Tallies.{counted_on, top}
-use Rattle.shard_part.specs.PartState.{PartData, network_of, place_in, state_in, token_if}
-use Rattle.shard_part.specs.Weights.{Channels, channels_of, total, message_weight, signal_weight}
+use Rattle.shard_store.specs.Tallies.{counted_on, top}
+use Rattle.shard_part.specs.PartState.{PartData, state_in, token_if}
+use Rattle.shard_store.specs.Setup.{network_of, place_in}
+use Rattle.shard_part.specs.Weights.{Channels, channels_of, message_weight, signal_weight}
+use Rattle.shard_store.specs.Totals.{total}
 use Rattle.shard_part.specs.Handling.{route, routes}
 use Rattle.shard_part.specs.Moves.{with_message, offered_all}
-use Rattle.shard_part.proofs.Weights.{total_append}
+use Rattle.shard_store.proofs.Totals.{total_append}
 use Rattle.shard_part.proofs.Routed.{routes-append}
 use Rattle.scholten_core.proofs.Basics.{due_idle, due_same, pumped_same}
 use Rattle.road_graph.proofs.Lists.{not_in_empty, here, here_as, later, head_or_tail}

@@ -1,31 +1,33 @@
 -- A part as it is opened keeps what tables and rings keep, and holds its share of the opening.
-use Rattle.std.proofs.Common.{◌≡◌, ◌≢◌, ℕ, zero, suc, ◌+◌, ◌-◌, ◌<◌, ◌≤◌, Bool, true, false, not, ◌&&◌, eqb, Some, None, List, [], ◌∷◌, ◌++◌, length, set, get_or, replicate, refl, sym, ap, ◌∙◌, subst, inl, inr, arith, length-set, get_or-set_same, get_or-set_other, eqb-true, eq-eqb, ne_eqb}
-use Rattle.std.proofs.lemmas.Bool.{cases_eq, cases_lt, cond-true, cond-false}
+use Rattle.std.proofs.Common.{◌≡◌, ◌≢◌, ℕ, zero, suc, ◌+◌, ◌<◌, ◌≤◌, Bool, true, false, not, ◌&&◌, eqb, Some, None, List, [], ◌∷◌, length, set, get_or, replicate, refl, sym, ap, ◌∙◌, subst, inl, inr, arith, length-set, get_or-set_same, get_or-set_other, eqb-true, eq-eqb, ne_eqb}
+use Rattle.std.proofs.lemmas.Bool.{cases_eq, cases_lt}
 use Rattle.std.proofs.lemmas.List.{get_or_past, get_or-replicate, length-replicate}
-use Rattle.road_graph.specs.GraphData.{GraphData, IsGraph}
 use Rattle.path_algebra.specs.Algebra.{Algebra}
 use Rattle.scholten_core.specs.declared.token.Token.TheVariants.{Idle, Message}
 use Rattle.scholten_core.specs.declared.item.Item.{Item}
 use Rattle.scholten_core.specs.declared.item.Item.TheVariants.{Message as MessageOn}
-use Rattle.scholten_core.specs.Network.{Network, network, tail_of}
 use Rattle.scholten_core.specs.Diffusion.{opening, put, is_idle}
 use Rattle.scholten_core.specs.Items.{item_arc, item_of}
 use Rattle.scholten_core.specs.Sums.{one_if}
 use Rattle.scholten_core.proofs.Basics.{put-at, put-other}
-use Rattle.scholten_core.proofs.Networks.{tail-arc, head-entry, tail-entry}
-use Rattle.shard_part.specs.Tables.{scatter, placed}
+use Rattle.scholten_core.proofs.Networks.{head-entry, tail-entry}
+use Rattle.shard_store.specs.Tables.{scatter, placed}
 use Rattle.scholten_core.specs.Deficit.{busy_out}
-use Rattle.shard_part.specs.PartState.{SetupData, PartData, network_of, place_in, state_in, token_if, vertex_of, maker_of, IsArc}
-use Rattle.shard_part.specs.Outgoing.{local_vertices, arcs_out, arcs_from, outgoing}
-use Rattle.shard_part.specs.Weights.{total, outs_weight, part_weight, is, All, at_place, in_flight}
+use Rattle.shard_store.specs.Setup.{SetupData, network_of, place_in, IsPlanned}
+use Rattle.shard_part.specs.PartState.{PartData, state_in, token_if, vertex_of, maker_of, IsArc}
+use Rattle.shard_store.specs.Outgoing.{local_vertices, arcs_out}
+use Rattle.shard_store.specs.Totals.{total, is}
+use Rattle.shard_part.specs.Weights.{outs_weight, part_weight, All, at_place, in_flight}
 use Rattle.shard_part.specs.LocalInvariant.{engages, idles, names, LocalInvariant}
 use Rattle.shard_part.specs.Represents.{HoldsShareIn}
-use Rattle.shard_part.specs.Capacities.{queue_bound, outbox_bound}
-use Rattle.shard_part.specs.Moves.{Rows, abstraction, IsPlanned, AreRowDeficits, RepInvariant}
-use Rattle.shard_part.specs.Opening.{is_first, first_items, opened_part, AreOffsets, idle_rows}
-use Rattle.shard_part.proofs.Weights.{sum_at, sum_zero}
-use Rattle.shard_part.proofs.Places.{own_apart}
-use Rattle.shard_part.proofs.Graphs.{place_vertex, place_entry}
+use Rattle.shard_store.specs.Capacities.{queue_bound, outbox_bound}
+use Rattle.shard_store.specs.Rows.{Rows, idle_rows}
+use Rattle.shard_part.specs.Moves.{abstraction, AreRowDeficits, RepInvariant}
+use Rattle.shard_store.specs.Layout.{is_first, AreOffsets}
+use Rattle.shard_part.specs.Opening.{first_items, opened_part}
+use Rattle.shard_store.proofs.Totals.{sum_at, sum_zero}
+use Rattle.shard_store.proofs.Places.{own_apart}
+use Rattle.shard_store.proofs.Graphs.{place_below, place_source, arcs_first}
 use Rattle.scholten_core.proofs.Sums.{one_if-most}
 
 module _ {X : Type 0} where
@@ -58,39 +60,12 @@ module _ {X : Type 0} where
   pub behind_read : (n : ℕ) (d x : X) (j : ℕ) → j ≢ 0 → get_or (set (replicate n d) 0 x) j d ≡ d
   behind_read n d x j nz = get_or-set_other (replicate n d) 0 j x d nz ∙ reads_same n d j
 
--- the environment's arc is the one arc out of it
-arcs_none : (N : Network) (v k n : ℕ) → ((b : ℕ) → k ≤ b → b < k + n → N.tail b ≢ v) → arcs_from N v k n ≡ []
-arcs_none N v k zero h = refl
-arcs_none N v k (suc n) h = cond-false (eqb (N.tail k) v) (k ∷ arcs_from N v (suc k) n) (arcs_from N v (suc k) n) (ne_eqb (N.tail k) v (h k (omega arith) (omega arith)))
-    ∙ arcs_none N v (suc k) n (λ b l m. h b (omega (arith, l)) (omega (arith, m)))
-
-pub entry_alone : (g : GraphData) (s : ℕ) → IsGraph g → outgoing (network g s) 0 ≡ 0 ∷ []
-entry_alone g s R = cond-true (eqb (tail_of g 0) 0) (0 ∷ arcs_from (network g s) 0 1 (length g.arcs)) (arcs_from (network g s) 0 1 (length g.arcs)) (eq-eqb (tail_of g 0) 0 (tail-entry g))
-    ∙ ap (λ xs. 0 ∷ xs) (arcs_none (network g s) 0 1 (length g.arcs) (λ b l m e.
-    (let t = tail-arc g b l in let low = (R.ends b (l, (omega (arith, m)))).0.0 in omega (arith, t, low, e))))
-
 module _ {V : Type 0} where
   no_weight : (h : ℕ → Item V → ℕ) (k n : ℕ) → outs_weight h k (replicate n []) ≡ 0
   no_weight h k zero = refl
   no_weight h k (suc n) = let p = no_weight h (suc k) n in omega (arith, p)
 
 module _ {S : Type 0} (t : SetupData S) (s : ℕ) (P : IsPlanned t s) where
-  pub place_below : (v : ℕ) → place_in t v < t.plan.shards
-  unfolding place_in
-  place_below zero = P.plan.below (t.diffusion.source - 1) (let h = P.source in let l = h.0 in let m = h.1 in let c = P.covers in omega (arith, l, m, c))
-  place_below (suc v) = elim (cases_lt v (length t.plan.list)) [
-    | inl l ↦ P.plan.below v l
-    | inr l ↦ (let z = get_or_past t.plan.list v 0 l in let o = P.plan.some_shard in omega (arith, z, o))
-  ]
-
-  -- the source and the environment are at one place
-  pub place_source : place_in t ((network_of t).head 0) ≡ place_in t 0
-  place_source = ap (place_in t) (head-entry t.diffusion.roads t.diffusion.source) ∙ place_vertex t t.diffusion.source P.source.0 ∙ sym (place_entry t P.source.0)
-
-  pub arcs_first : arcs_out (network_of t) (local_vertices t s) ≡ 0 ∷ arcs_out (network_of t) (placed (place_in t) s 1 t.diffusion.roads.vertices)
-  unfolding arcs_out
-  arcs_first = ap (λ xs. xs ++ arcs_out (network_of t) (placed (place_in t) s 1 t.diffusion.roads.vertices)) (entry_alone t.diffusion.roads t.diffusion.source P.roads)
-
   entry_arc : IsArc (network_of t) 0
   entry_arc = ((λ e. let h = head-entry t.diffusion.roads t.diffusion.source in let l = P.source.0 in omega (arith, e, h, l)), (λ n. absurd (n refl)))
 

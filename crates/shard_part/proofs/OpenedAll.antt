@@ -6,12 +6,14 @@ use Rattle.scholten_core.specs.declared.item.Item.{Item}
 use Rattle.scholten_core.specs.declared.item.Item.TheVariants.{Message as MessageOn}
 use Rattle.scholten_core.specs.Diffusion.{opening}
 use Rattle.scholten_core.specs.Sums.{one_if}
-use Rattle.shard_part.specs.PartState.{SetupData, PartData, network_of, place_in}
-use Rattle.shard_part.specs.Weights.{total, part_weight, is, All}
+use Rattle.shard_store.specs.Setup.{SetupData, network_of, place_in, IsPlanned}
+use Rattle.shard_part.specs.PartState.{PartData}
+use Rattle.shard_store.specs.Totals.{total, is}
+use Rattle.shard_part.specs.Weights.{part_weight, All}
 use Rattle.shard_part.specs.Represents.{HoldsTables, RepresentsIn}
-use Rattle.shard_part.specs.Moves.{IsPlanned}
 use Rattle.shard_part.specs.Opening.{first_items, opened_part, opened_parts}
-use Rattle.shard_part.proofs.Opened.{place_below, opened_weight, opening_weight, opened_holds}
+use Rattle.shard_store.proofs.Graphs.{place_below}
+use Rattle.shard_part.proofs.Opened.{opened_weight, opening_weight, opened_holds}
 
 module _ {S : Type 0} (t : SetupData S) (P : IsPlanned t 0) where
   pub planned_each : (s : ℕ) → s < t.plan.shards → IsPlanned t s

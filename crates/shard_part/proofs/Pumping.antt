@@ -6,13 +6,16 @@ use Rattle.road_graph.specs.declared.OutRoad.{OutRoad}
 use Rattle.road_graph.specs.GraphData.{HasVertex, IsRank, ListsArcsFrom, ListsRoadsFrom, arc_of, road_of, roads_of}
 use Rattle.scholten_core.specs.Network.{WellFormed}
 use Rattle.scholten_core.specs.Diffusion.{is_due, extend_label, improves}
-use Rattle.shard_part.specs.PartState.{SetupData, PartData, state_in, network_of, IsArc}
-use Rattle.shard_part.specs.Outgoing.{outgoing, local_vertices}
-use Rattle.shard_part.specs.Moves.{Rows, RepInvariant, IsPlace, IsArcRow, with_message, engaged_or_answered, labelled, offered, offered_all, rested, with_value}
+use Rattle.shard_store.specs.Setup.{SetupData, network_of}
+use Rattle.shard_part.specs.PartState.{PartData, state_in, IsArc}
+use Rattle.shard_store.specs.Outgoing.{outgoing, local_vertices}
+use Rattle.shard_store.specs.Rows.{Rows}
+use Rattle.shard_part.specs.Moves.{RepInvariant, IsPlace, IsArcRow, with_message, engaged_or_answered, labelled, offered, offered_all, rested, with_value}
 use Rattle.scholten_core.proofs.Networks.{tail-arc}
-use Rattle.shard_part.proofs.Graphs.{arc_in_graph, out_is, roads_are, road_is}
+use Rattle.shard_part.proofs.Graphs.{arc_in_graph}
+use Rattle.shard_store.proofs.Graphs.{out_is, roads_are, road_is}
 use Rattle.shard_part.proofs.Moves.{formed}
-use Rattle.shard_part.proofs.Places.{own_below, outgoing_picked}
+use Rattle.shard_store.proofs.Places.{own_below, outgoing_picked}
 
 module _ {S V : Type 0} (A : Algebra V) where
   message_same : (b : ℕ) (o : Option V) (p : PartData S V) → ((with_message b o p).setup ≡ p.setup) × ((with_message b o p).shard ≡ p.shard)

@@ -10,10 +10,11 @@ use Rattle.scholten_core.specs.Network.{Network}
 use Rattle.scholten_core.specs.Diffusion.{CoreState}
 use Rattle.scholten_core.specs.Items.{item_arc, item_of}
 use Rattle.shard_part.specs.PartState.{PartData}
-use Rattle.shard_part.specs.Weights.{total, outs_weight, part_weight, mail_weight, at_place, in_flight, is}
+use Rattle.shard_store.specs.Totals.{total, is}
+use Rattle.shard_part.specs.Weights.{outs_weight, part_weight, mail_weight, at_place, in_flight}
 use Rattle.shard_part.specs.Represents.{RepresentsIn}
 use Rattle.shard_part.specs.ItemPlaces.{with_shard, outs_places, part_places, parts_places, mail_places, on, place_of_token}
-use Rattle.shard_part.proofs.Weights.{total_append, sum_at, sum_zero}
+use Rattle.shard_store.proofs.Totals.{total_append, sum_at, sum_zero}
 use Rattle.shard_part.proofs.TakenIsEvent.{marks, marks_self, marks_true}
 
 module _ {V : Type 0} where

@@ -12,20 +12,23 @@ use Rattle.scholten_core.specs.Diffusion.{is_idle}
 use Rattle.scholten_core.specs.Items.{item_arc}
 use Rattle.scholten_core.specs.Sums.{one_if}
 use Rattle.scholten_core.proofs.Networks.{tail-arc, head-arc}
-use Rattle.shard_part.specs.PartState.{PartData, network_of, place_in, state_in, token_if, vertex_of, maker_of, IsArc}
+use Rattle.shard_part.specs.PartState.{PartData, state_in, token_if, vertex_of, maker_of, IsArc}
+use Rattle.shard_store.specs.Setup.{network_of, place_in}
 use Rattle.shard_part.specs.LocalInvariant.{LocalInvariant, names, engages, idles}
-use Rattle.shard_part.specs.Capacities.{queue_bound, outbox_bound}
-use Rattle.shard_part.specs.Weights.{counted, is, All}
-use Rattle.shard_part.specs.Moves.{Rows, RepInvariant, IsArcRow}
+use Rattle.shard_store.specs.Capacities.{queue_bound, outbox_bound}
+use Rattle.shard_store.specs.Totals.{counted, is}
+use Rattle.shard_part.specs.Weights.{All}
+use Rattle.shard_store.specs.Rows.{Rows}
+use Rattle.shard_part.specs.Moves.{RepInvariant, IsArcRow}
 use Rattle.shard_part.specs.Exchange.{Fits, FitsAlone, MayEngage, Awaits}
 use Rattle.shard_part.specs.Readings.{has_ended}
-use Rattle.shard_part.proofs.Weights.{total_append}
+use Rattle.shard_store.proofs.Totals.{total_append}
 use Rattle.shard_part.proofs.Routed.{outs_none}
 use Rattle.shard_part.proofs.Showing.{all_append}
 use Rattle.shard_part.proofs.RingsSuffice.{sound_fits}
 use Rattle.shard_part.proofs.Moves.{formed}
 use Rattle.shard_part.proofs.Rings.{map_read, map_kept, with_queue, with_outs}
-use Rattle.shard_part.proofs.Opened.{arcs_first}
+use Rattle.shard_store.proofs.Graphs.{arcs_first}
 
 module _ {S V : Type 0} where
   -- the queue is within its capacity

@@ -7,11 +7,14 @@ use Rattle.circular_buffer.specs.Buffer.{Buffer, buffer}
 use Rattle.scholten_core.specs.declared.item.Item.{Item}
 use Rattle.path_algebra.specs.Algebra.{Algebra}
 use Rattle.scholten_core.specs.Items.{item_arc}
-use Rattle.shard_part.specs.PartState.{PartData, network_of, place_in, vertex_of, maker_of, IsArc}
-use Rattle.shard_part.specs.Weights.{Channels, channels_of, total, is, All}
+use Rattle.shard_part.specs.PartState.{PartData, vertex_of, maker_of, IsArc}
+use Rattle.shard_store.specs.Setup.{network_of, place_in}
+use Rattle.shard_part.specs.Weights.{Channels, channels_of, All}
+use Rattle.shard_store.specs.Totals.{total, is}
 use Rattle.shard_part.specs.Handling.{route}
 use Rattle.shard_part.specs.LocalInvariant.{IsClear, LocalInvariant}
-use Rattle.shard_part.specs.Moves.{Rows, RepInvariant, put_item, IsPopped}
+use Rattle.shard_store.specs.Rows.{Rows}
+use Rattle.shard_part.specs.Moves.{RepInvariant, put_item, IsPopped}
 use Rattle.shard_part.proofs.Sound.{put_sound}
 use Rattle.shard_part.proofs.RingsSuffice.{sound_fits, sound_out_fits}
 use Rattle.shard_part.proofs.Showing.{is_self}

@@ -8,11 +8,12 @@ use Rattle.scholten_core.specs.Network.{Network, WellFormed}
 use Rattle.scholten_core.specs.Sums.{sum_below, one_if}
 use Rattle.scholten_core.specs.Items.{item_arc, at}
 use Rattle.shard_part.specs.PartState.{PartData, IsArc, vertex_of, maker_of}
-use Rattle.shard_part.specs.Weights.{total, counted, is, All}
+use Rattle.shard_store.specs.Totals.{total, counted, is}
+use Rattle.shard_part.specs.Weights.{All}
 use Rattle.shard_part.specs.LocalInvariant.{LocalInvariant}
-use Rattle.shard_part.specs.Capacities.{touches, queue_bound, joins, outbox_bound}
+use Rattle.shard_store.specs.Capacities.{touches, queue_bound, joins, outbox_bound}
 use Rattle.scholten_core.proofs.Items.{at-skip, at-nil}
-use Rattle.shard_part.proofs.Weights.{total_by_arc}
+use Rattle.shard_store.proofs.Totals.{total_by_arc}
 use Rattle.shard_part.proofs.Room.{each_one, outs_member}
 use Rattle.scholten_core.proofs.Sums.{sum_most}
 

@@ -10,9 +10,10 @@ use Rattle.scholten_core.specs.Diffusion.{CoreState, is_idle}
 use Rattle.scholten_core.specs.Sums.{sum_below, one_if}
 use Rattle.scholten_core.specs.Items.{item_arc, item_of}
 use Rattle.shard_part.specs.PartState.{PartData, state_in, mine}
-use Rattle.shard_part.specs.Weights.{total, outs_weight, part_weight, at_place, is}
+use Rattle.shard_store.specs.Totals.{total, is}
+use Rattle.shard_part.specs.Weights.{outs_weight, part_weight, at_place}
 use Rattle.shard_part.specs.Represents.{HoldsShareIn, HoldsTables}
-use Rattle.shard_part.specs.Capacities.{touches, queue_bound}
+use Rattle.shard_store.specs.Capacities.{touches, queue_bound}
 use Rattle.scholten_core.proofs.Kept.{Kept}
 use Rattle.shard_part.proofs.Showing.{is_self}
 use Rattle.scholten_core.proofs.Sums.{sum_most}

@@ -3,10 +3,11 @@ use Rattle.std.proofs.Common.{◌≡◌, ℕ, zero, suc, ◌+◌, ◌<◌, Bool,
 use Rattle.std.proofs.lemmas.Bool.{cases_eq}
 use Rattle.scholten_core.specs.declared.item.Item.{Item}
 use Rattle.scholten_core.specs.Network.{Network}
-use Rattle.shard_part.specs.Weights.{Channels, total, outs_weight, channels_weight, at_place}
+use Rattle.shard_part.specs.Weights.{Channels, outs_weight, channels_weight, at_place}
+use Rattle.shard_store.specs.Totals.{total}
 use Rattle.shard_part.specs.PartState.{vertex_of}
 use Rattle.shard_part.specs.Handling.{route, routes}
-use Rattle.shard_part.proofs.Weights.{total_append}
+use Rattle.shard_store.proofs.Totals.{total_append}
 
 module _ {V : Type 0} where
   outs_push : (h : ℕ → Item V → ℕ) (i t : ℕ) (os : List (List (Item V))) (x : Item V) → t < length os → outs_weight h i (set os t (get_or os t [] ++ x ∷ [])) ≡ outs_weight h i os + h (i + t) x

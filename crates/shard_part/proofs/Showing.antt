@@ -7,12 +7,14 @@ use Rattle.scholten_core.specs.Network.{Network, WellFormed}
 use Rattle.scholten_core.specs.Diffusion.{CoreState, step, is_enabled}
 use Rattle.scholten_core.specs.Sums.{one_if}
 use Rattle.scholten_core.specs.Shares.{Agree}
-use Rattle.shard_part.specs.PartState.{SetupData, PartData, network_of, place_in, state_in, event_of, mine}
-use Rattle.shard_part.specs.Weights.{total, part_weight, mail_weight, is, All}
+use Rattle.shard_store.specs.Setup.{SetupData, network_of, place_in}
+use Rattle.shard_part.specs.PartState.{PartData, state_in, event_of, mine}
+use Rattle.shard_store.specs.Totals.{total, is}
+use Rattle.shard_part.specs.Weights.{part_weight, mail_weight, All}
 use Rattle.shard_part.specs.Handling.{HandledItemIn, HandledItem, HandledAll}
 use Rattle.shard_part.specs.Represents.{AllEnabled, HoldsTables, HoldsShareIn, HoldsShare, RepresentsIn, Represents}
 use Rattle.scholten_core.proofs.Kept.{Kept, step_kept}
-use Rattle.shard_part.proofs.Weights.{total_append}
+use Rattle.shard_store.proofs.Totals.{total_append}
 use Rattle.shard_part.proofs.Routed.{outs_none}
 use Rattle.shard_part.proofs.TakenIsEvent.{handled_event}
 

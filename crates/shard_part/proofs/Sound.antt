@@ -7,7 +7,8 @@ use Rattle.scholten_core.specs.Network.{Network, WellFormed}
 use Rattle.scholten_core.specs.Sums.{one_if}
 use Rattle.scholten_core.specs.Items.{item_arc}
 use Rattle.shard_part.specs.PartState.{PartData, state_in, IsArc, vertex_of, maker_of}
-use Rattle.shard_part.specs.Weights.{Channels, channels_of, is, All, part_weight}
+use Rattle.shard_part.specs.Weights.{Channels, channels_of, All, part_weight}
+use Rattle.shard_store.specs.Totals.{is}
 use Rattle.shard_part.specs.LocalInvariant.{engages, idles, LocalInvariant}
 use Rattle.shard_part.specs.Handling.{route}
 use Rattle.shard_part.proofs.Showing.{all_append}

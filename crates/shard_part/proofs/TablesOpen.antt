@@ -4,16 +4,19 @@ use Rattle.circular_buffer.specs.Buffer.{Buffer, buffer}
 use Rattle.path_algebra.specs.Algebra.{Algebra}
 use Rattle.scholten_core.specs.declared.item.Item.{Item}
 use Rattle.scholten_core.specs.Sums.{sum_below, one_if}
-use Rattle.shard_part.specs.Tables.{placed}
-use Rattle.shard_part.specs.PartState.{SetupData, network_of, place_in}
-use Rattle.shard_part.specs.Outgoing.{local_vertices}
-use Rattle.shard_part.specs.Weights.{total}
-use Rattle.shard_part.specs.Capacities.{outbox_bound, queue_bound}
-use Rattle.shard_part.specs.Moves.{Rows, abstraction, IsPlanned, RepInvariant}
-use Rattle.shard_part.specs.Opening.{ShardLayoutData, is_first, first_items, opened_part, idle_rows, AreIdle, AreOffsets, CountsAll}
-use Rattle.shard_part.proofs.Counting.{total_index}
-use Rattle.shard_part.proofs.CapacitiesByVertex.{capacities_sum, queue_bound_most, queue_bound_first}
-use Rattle.shard_part.proofs.Opened.{place_below, place_source, opened_seen, opened_stored}
+use Rattle.shard_store.specs.Tables.{placed}
+use Rattle.shard_store.specs.Setup.{SetupData, network_of, place_in, IsPlanned}
+use Rattle.shard_store.specs.Outgoing.{local_vertices}
+use Rattle.shard_store.specs.Totals.{total}
+use Rattle.shard_store.specs.Capacities.{outbox_bound, queue_bound}
+use Rattle.shard_store.specs.Rows.{Rows, idle_rows, AreIdle}
+use Rattle.shard_part.specs.Moves.{abstraction, RepInvariant}
+use Rattle.shard_store.specs.Layout.{ShardLayoutData, is_first, AreOffsets, CountsAll}
+use Rattle.shard_part.specs.Opening.{first_items, opened_part}
+use Rattle.shard_store.proofs.Counting.{total_index}
+use Rattle.shard_store.proofs.CapacitiesByVertex.{capacities_sum, queue_bound_most, queue_bound_first}
+use Rattle.shard_store.proofs.Graphs.{place_below, place_source}
+use Rattle.shard_part.proofs.Opened.{opened_seen, opened_stored}
 
 module _ (w : ShardLayoutData) (P : IsPlanned w.setup w.shard) where
   pub sum_is : (capacities : List ℕ) → CountsAll w capacities → total (λ n. n) capacities ≡ queue_bound (network_of w.setup) (place_in w.setup) w.shard

@@ -16,9 +16,11 @@ use Rattle.scholten_core.specs.Items.{item_of}
 use Rattle.scholten_core.proofs.Kept.{Kept, step_kept, run_kept}
 use Rattle.scholten_core.proofs.Ended.{opening_kept}
 use Rattle.scholten_core.proofs.Counts.{accounts}
-use Rattle.shard_part.specs.Tallies.{counted_on, top}
-use Rattle.shard_part.specs.PartState.{PartData, SetupData, network_of, place_in, state_in, event_of}
-use Rattle.shard_part.specs.Weights.{total, message_weight, signal_weight, in_flight, part_weight}
+use Rattle.shard_store.specs.Tallies.{counted_on, top}
+use Rattle.shard_part.specs.PartState.{PartData, state_in, event_of}
+use Rattle.shard_store.specs.Setup.{SetupData, network_of, place_in}
+use Rattle.shard_store.specs.Totals.{total}
+use Rattle.shard_part.specs.Weights.{message_weight, signal_weight, in_flight, part_weight}
 use Rattle.shard_part.specs.Handling.{made, HandledItemIn, HandledAll}
 use Rattle.shard_part.specs.Represents.{HoldsShareIn, HoldsShare}
 use Rattle.shard_part.specs.Moves.{IsTallied}

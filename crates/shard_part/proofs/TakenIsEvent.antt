@@ -15,15 +15,16 @@ use Rattle.scholten_core.specs.Sums.{one_if}
 use Rattle.scholten_core.specs.Items.{item_arc, item_of, settle_made}
 use Rattle.scholten_core.specs.Shares.{Agree}
 use Rattle.shard_part.specs.PartState.{PartData, state_in, vertex_of, event_of, mine}
-use Rattle.shard_part.specs.Weights.{total, in_flight, at_place, channels_weight, channels_of, part_weight}
-use Rattle.shard_part.specs.Outgoing.{outgoing}
+use Rattle.shard_store.specs.Totals.{total}
+use Rattle.shard_part.specs.Weights.{in_flight, at_place, channels_weight, channels_of, part_weight}
+use Rattle.shard_store.specs.Outgoing.{outgoing}
 use Rattle.shard_part.specs.Handling.{taken, made, arrive_here, HandledItemIn}
 use Rattle.shard_part.specs.Represents.{HoldsTables, HoldsShareIn}
 use Rattle.scholten_core.proofs.Kept.{Kept, head_real}
 use Rattle.scholten_core.proofs.Shares.{agree_then, message_frame, signal_frame, freed_agree}
 use Rattle.shard_part.proofs.Here.{arrive_here_agree, message_here, signal_here}
 use Rattle.scholten_core.proofs.Parts.{settle_made_agree, token_told, token_back}
-use Rattle.shard_part.proofs.Weights.{sum_member}
+use Rattle.shard_store.proofs.Totals.{sum_member}
 use Rattle.shard_part.proofs.InFlight.{message_weighs, signal_weighs, last_weighs, outgoing_is}
 use Rattle.shard_part.proofs.Routed.{routed}
 

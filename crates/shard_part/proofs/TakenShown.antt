@@ -9,7 +9,8 @@ use Rattle.scholten_core.specs.Network.{WellFormed}
 use Rattle.scholten_core.specs.Diffusion.{CoreState, step, run_from, opening, state_after, count_enabled, is_enabled}
 use Rattle.scholten_core.proofs.Kept.{Kept, step_kept, run_kept}
 use Rattle.scholten_core.proofs.Ended.{opening_kept}
-use Rattle.shard_part.specs.PartState.{PartData, SetupData, network_of, event_of}
+use Rattle.shard_part.specs.PartState.{PartData, event_of}
+use Rattle.shard_store.specs.Setup.{SetupData, network_of}
 use Rattle.shard_part.specs.Handling.{HandledAll}
 use Rattle.shard_part.specs.Represents.{Represents}
 use Rattle.shard_part.specs.Part.{HandledMany, IsShownOn}

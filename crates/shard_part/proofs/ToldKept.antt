@@ -6,9 +6,11 @@ use Rattle.path_algebra.specs.Algebra.{IsLawful as Lawful}
 use Rattle.scholten_core.specs.Network.{WellFormed}
 use Rattle.scholten_core.specs.Diffusion.{is_idle}
 use Rattle.scholten_core.proofs.Basics.{idle-true}
-use Rattle.shard_part.specs.PartState.{PartData, SetupData, network_of, place_in, state_in, mine}
+use Rattle.shard_part.specs.PartState.{PartData, state_in, mine}
+use Rattle.shard_store.specs.Setup.{SetupData, network_of, place_in, IsPlanned}
 use Rattle.shard_part.specs.Handling.{taken, HandledItem, HandledItemIn}
-use Rattle.shard_part.specs.Moves.{Rows, RepInvariant, IsPlanned, IsPopped, with_taken}
+use Rattle.shard_store.specs.Rows.{Rows}
+use Rattle.shard_part.specs.Moves.{RepInvariant, IsPopped, with_taken}
 use Rattle.shard_part.specs.Part.{OwnIdleIsTold}
 use Rattle.shard_part.specs.Opening.{opened_part}
 use Rattle.shard_part.proofs.Quick.{taken_told}

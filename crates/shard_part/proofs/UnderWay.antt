@@ -1,5 +1,5 @@
 -- A reached state has ended exactly where no item waits; until then one waits in a queue, an outbox or a mailbox.
-use Rattle.std.proofs.Common.{◌≡◌, ℕ, suc, ◌+◌, ◌≤◌, ◌<◌, true, List, [], ◌∷◌, ◌↔◌, ◌⊎◌, length, get_or, ap, inl, inr, arith}
+use Rattle.std.proofs.Common.{◌≡◌, ℕ, suc, ◌≤◌, ◌<◌, true, List, [], ◌∷◌, ◌↔◌, ◌⊎◌, length, get_or, ap, inl, inr, arith}
 use Rattle.std.proofs.lemmas.Bool.{cases_lt, false≢true}
 use Rattle.scholten_core.specs.declared.token.Token.{Token}
 use Rattle.scholten_core.specs.declared.token.Token.TheVariants.{Idle, Message, Held, Signal}
@@ -15,7 +15,8 @@ use Rattle.scholten_core.proofs.Sums.{sum_term, sum_zero}
 use Rattle.scholten_core.specs.declared.item.Item.{Item}
 use Rattle.road_graph.proofs.Lists.{here, later}
 use Rattle.shard_part.specs.PartState.{PartData}
-use Rattle.shard_part.specs.Weights.{total, at_place, in_flight, outs_weight, part_weight}
+use Rattle.shard_store.specs.Totals.{total}
+use Rattle.shard_part.specs.Weights.{at_place, in_flight, outs_weight, part_weight}
 use Rattle.shard_part.specs.Waiting.{items_waiting, QueueWaits, OutboxWaits, MailWaits}
 use Rattle.shard_part.proofs.InFlight.{past_idle}
 

@@ -9,9 +9,11 @@ use Rattle.scholten_core.specs.Items.{pump_made, rest_made, settle_made, IsDisti
 use Rattle.scholten_core.specs.Shares.{Agree}
 use Rattle.scholten_core.proofs.Basics.{put_tells}
 use Rattle.scholten_core.proofs.Shares.{out_idle_agree}
-use Rattle.shard_part.specs.Tallies.{counted_on, top}
-use Rattle.shard_part.specs.PartState.{PartData, network_of, place_in, state_in}
-use Rattle.shard_part.specs.Weights.{channels_of, total, message_weight, signal_weight}
+use Rattle.shard_store.specs.Tallies.{counted_on, top}
+use Rattle.shard_part.specs.PartState.{PartData, state_in}
+use Rattle.shard_store.specs.Setup.{network_of, place_in}
+use Rattle.shard_part.specs.Weights.{channels_of, message_weight, signal_weight}
+use Rattle.shard_store.specs.Totals.{total}
 use Rattle.shard_part.specs.Handling.{routes, rest_here, settle_here}
 use Rattle.shard_part.specs.Moves.{offered_all, rested, rested_by}
 use Rattle.shard_part.proofs.Routed.{routes-append}

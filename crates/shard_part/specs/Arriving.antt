@@ -2,9 +2,10 @@
 use Rattle.std.specs.Prelude.{◌≡◌, ℕ, ◌+◌, ◌≤◌, List, ◌++◌, length}
 use Rattle.scholten_core.specs.declared.item.Item.{Item}
 use Rattle.path_algebra.specs.Algebra.{Algebra}
-use Rattle.shard_part.specs.PartState.{PartData, SetupData, network_of, place_in, maker_of}
+use Rattle.shard_part.specs.PartState.{PartData, maker_of}
+use Rattle.shard_store.specs.Setup.{SetupData, network_of, place_in}
 use Rattle.shard_part.specs.Weights.{All}
-use Rattle.shard_part.specs.Capacities.{queue_bound}
+use Rattle.shard_store.specs.Capacities.{queue_bound}
 use Rattle.shard_part.specs.Exchange.{Fits}
 
 module _ {S V : Type 0} where

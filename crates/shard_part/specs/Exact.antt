@@ -6,9 +6,11 @@ use Rattle.path_algebra.specs.Algebra.{Algebra}
 use Rattle.scholten_core.specs.Network.{Network}
 use Rattle.scholten_core.specs.Diffusion.{CoreState, run_from}
 use Rattle.scholten_core.specs.Accounts.{Totals, sent_total, delivered_total, signalled_total, accepted_total}
-use Rattle.shard_part.specs.Tallies.{top}
-use Rattle.shard_part.specs.PartState.{PartData, SetupData, network_of, state_in, event_of}
-use Rattle.shard_part.specs.Weights.{total, message_weight, signal_weight}
+use Rattle.shard_store.specs.Tallies.{top}
+use Rattle.shard_part.specs.PartState.{PartData, state_in, event_of}
+use Rattle.shard_store.specs.Setup.{SetupData, network_of}
+use Rattle.shard_store.specs.Totals.{total}
+use Rattle.shard_part.specs.Weights.{message_weight, signal_weight}
 use Rattle.shard_part.specs.Handling.{made, HandledAll}
 use Rattle.shard_part.specs.Represents.{Represents}
 

@@ -5,8 +5,10 @@ use Rattle.scholten_core.specs.declared.item.Item.TheVariants.{Message as Messag
 use Rattle.path_algebra.specs.Algebra.{Algebra}
 use Rattle.road_graph.specs.GraphData.{HasArc}
 use Rattle.scholten_core.specs.Items.{item_arc}
-use Rattle.shard_part.specs.PartState.{PartData, network_of, place_in, state_in}
-use Rattle.shard_part.specs.Weights.{counted, part_weight, is, All}
+use Rattle.shard_part.specs.PartState.{PartData, state_in}
+use Rattle.shard_store.specs.Setup.{network_of, place_in}
+use Rattle.shard_store.specs.Totals.{counted, is}
+use Rattle.shard_part.specs.Weights.{part_weight, All}
 
 -- the arc comes from another shard into this one and is no engager here
 abbrev pub MayEngage : {S V : Type 0} → PartData S V → ℕ → Type 0

@@ -7,10 +7,12 @@ use Rattle.scholten_core.specs.Network.{Network}
 use Rattle.scholten_core.specs.Diffusion.{CoreState, put, freed, pump, out_idle, better_of, engaged_by, answer_to}
 use Rattle.scholten_core.specs.Items.{item_of, settle_made}
 use Rattle.scholten_core.specs.Shares.{Agree}
-use Rattle.shard_part.specs.Tallies.{counted_on}
-use Rattle.shard_part.specs.PartState.{network_of, place_in, PartData, state_in, vertex_of, mine}
-use Rattle.shard_part.specs.Weights.{total, message_weight, signal_weight, Channels, channels_of}
-use Rattle.shard_part.specs.Outgoing.{outgoing}
+use Rattle.shard_store.specs.Tallies.{counted_on}
+use Rattle.shard_store.specs.Setup.{network_of, place_in}
+use Rattle.shard_part.specs.PartState.{PartData, state_in, vertex_of, mine}
+use Rattle.shard_store.specs.Totals.{total}
+use Rattle.shard_part.specs.Weights.{message_weight, signal_weight, Channels, channels_of}
+use Rattle.shard_store.specs.Outgoing.{outgoing}
 
 module _ {V : Type 0} (A : Algebra V) (N : Network) where
   -- A part knows the idle flags of its own outgoing arcs alone, and no token: an arc with an item on it, and an arc that engages, is busy already.

@@ -1,17 +1,10 @@
-pub mod Places
-pub mod Plans
-pub mod Tallies
-pub mod Tables
 pub mod PartState
 pub mod Weights
-pub mod Outgoing
-pub mod Capacities
 pub mod LocalInvariant
 pub mod ItemPlaces
 pub mod Handling
 pub mod Represents
 pub mod Waiting
-pub mod Queue
 pub mod Moves
 pub mod Part
 pub mod Readings

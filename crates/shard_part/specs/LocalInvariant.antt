@@ -4,8 +4,10 @@ use Rattle.scholten_core.specs.Network.{Network}
 use Rattle.scholten_core.specs.Sums.{one_if}
 use Rattle.scholten_core.specs.Diffusion.{CoreState, is_idle}
 use Rattle.scholten_core.specs.Items.{item_arc}
-use Rattle.shard_part.specs.PartState.{network_of, place_in, PartData, state_in, vertex_of, maker_of, IsArc}
-use Rattle.shard_part.specs.Weights.{is, All, part_weight}
+use Rattle.shard_store.specs.Setup.{network_of, place_in}
+use Rattle.shard_part.specs.PartState.{PartData, state_in, vertex_of, maker_of, IsArc}
+use Rattle.shard_store.specs.Totals.{is}
+use Rattle.shard_part.specs.Weights.{All, part_weight}
 
 -- whether the engager, if there is one, is the arc b
 abbrev pub names : Option ℕ → ℕ → Bool

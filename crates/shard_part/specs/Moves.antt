@@ -3,33 +3,19 @@ use Rattle.std.specs.Prelude.{◌≡◌, ◌≢◌, ℕ, zero, suc, ◌<◌, ◌
 use Rattle.scholten_core.specs.declared.item.Item.{Item}
 use Rattle.scholten_core.specs.declared.item.Item.TheVariants.{Message as MessageOn, Signal as SignalOn}
 use Rattle.path_algebra.specs.Algebra.{Algebra}
-use Rattle.road_graph.specs.GraphData.{HasVertex, IsGraph}
 use Rattle.scholten_core.specs.Diffusion.{improves, is_due, extend_label, out_idle}
 use Rattle.scholten_core.specs.Items.{item_arc}
-use Rattle.shard_part.specs.Plans.{IsPlan}
-use Rattle.shard_part.specs.Tallies.{counted_on, top}
-use Rattle.shard_part.specs.Tables.{scatter}
+use Rattle.shard_store.specs.Tallies.{counted_on, top}
+use Rattle.shard_store.specs.Tables.{scatter}
 use Rattle.scholten_core.specs.Deficit.{busy_out}
-use Rattle.shard_part.specs.PartState.{PartData, SetupData, network_of, place_in, state_in, IsArc, vertex_of}
+use Rattle.shard_part.specs.PartState.{PartData, state_in, IsArc, vertex_of}
+use Rattle.shard_store.specs.Setup.{SetupData, network_of, place_in, IsPlanned}
 use Rattle.shard_part.specs.Weights.{channels_of}
-use Rattle.shard_part.specs.Outgoing.{local_vertices, arcs_out, outgoing}
+use Rattle.shard_store.specs.Rows.{Rows}
+use Rattle.shard_store.specs.Outgoing.{local_vertices, arcs_out, outgoing}
 use Rattle.shard_part.specs.Handling.{route}
 use Rattle.shard_part.specs.LocalInvariant.{LocalInvariant, IsClear}
-use Rattle.shard_part.specs.Capacities.{queue_bound, outbox_bound}
-use Rattle.shard_part.specs.declared.store.tables.Tables.{Tables}
-
--- the values of the tables, by place
-pub record Rows (V : Type 0) : Type 0 where
-  pub own : List ℕ
-  pub offsets : List ℕ
-  pub labels : List (Option V)
-  pub engagers : List (Option ℕ)
-  pub deficits : List ℕ
-  pub busy : List Bool
-  pub told : List (Option V)
-
-abbrev pub rows_of : {V : Type 0} → Tables V → Rows V
-rows_of t = record { own = t.own; offsets = t.vertices.offsets; labels = t.vertices.labels; engagers = t.vertices.engagers; deficits = t.vertices.deficits; busy = t.arcs.busy; told = t.arcs.told }
+use Rattle.shard_store.specs.Capacities.{queue_bound, outbox_bound}
 
 -- the part that the tables and rings of a shard are seen as: each value is at the number that it belongs to
 abbrev pub abstraction : {S V : Type 0} → SetupData S → ℕ → Rows V → List (Item V) → List (List (Item V)) → ℕ → ℕ → ℕ → ℕ → PartData S V
@@ -65,14 +51,6 @@ pub record IsSeen {S V : Type 0} (p : PartData S V) (r : Rows V) : Type 0 where
   pub engagers : p.engagers ≡ scatter (local_vertices p.setup p.shard) r.engagers None (suc p.setup.diffusion.roads.vertices)
   pub busy : p.busy ≡ scatter (arcs_out (network_of p.setup) (local_vertices p.setup p.shard)) r.busy false (suc (length p.setup.diffusion.roads.arcs))
   pub told : p.told ≡ scatter (arcs_out (network_of p.setup) (local_vertices p.setup p.shard)) r.told None (suc (length p.setup.diffusion.roads.arcs))
-
--- the plan is for the graph and has the shard, and the source is a vertex of the graph
-pub record IsPlanned {S : Type 0} (t : SetupData S) (s : ℕ) : Type 0 where
-  pub roads : IsGraph t.diffusion.roads
-  pub source : HasVertex t.diffusion.roads t.diffusion.source
-  pub plan : IsPlan t.plan
-  pub covers : length t.plan.list ≡ t.diffusion.roads.vertices
-  pub shard : s < t.plan.shards
 
 -- the queue has a place for every arc with an end in the shard, each outbox one for every arc between the two shards
 pub record IsRoomy {S V : Type 0} (p : PartData S V) (queue_capacity : ℕ) (out_capacities : List ℕ) : Type 0 where

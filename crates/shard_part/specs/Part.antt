@@ -6,8 +6,9 @@ use Rattle.scholten_core.specs.declared.token.Token.TheVariants.{Idle}
 use Rattle.path_algebra.specs.Algebra.{Algebra}
 use Rattle.scholten_core.specs.Diffusion.{state_after, count_enabled}
 use Rattle.scholten_core.specs.Accounts.{sent_total, delivered_total, signalled_total, accepted_total}
-use Rattle.shard_part.specs.Tallies.{counted_on}
-use Rattle.shard_part.specs.PartState.{PartData, SetupData, network_of, place_in, state_in, event_of}
+use Rattle.shard_store.specs.Tallies.{counted_on}
+use Rattle.shard_part.specs.PartState.{PartData, state_in, event_of}
+use Rattle.shard_store.specs.Setup.{SetupData, network_of, place_in}
 use Rattle.shard_part.specs.Weights.{in_flight, part_weight}
 use Rattle.shard_part.specs.Handling.{HandledItem, HandledAll}
 use Rattle.shard_part.specs.Represents.{HoldsShare, Represents}

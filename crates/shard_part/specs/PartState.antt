@@ -1,5 +1,5 @@
--- What a part is seen as: a diffusion and its plan, the tables as a state, and where its items belong.
-use Rattle.std.specs.Prelude.{◌≢◌, ℕ, ◌-◌, Bool, true, false, eqb, Option, None, List, ◌∷◌, get_or}
+-- What a part is seen as: the tables as a state, and where its items belong.
+use Rattle.std.specs.Prelude.{◌≢◌, ℕ, Bool, true, false, eqb, Option, None, List, get_or}
 use Rattle.scholten_core.specs.declared.token.Token.{Token}
 use Rattle.scholten_core.specs.declared.token.Token.TheVariants.{Idle, Held}
 use Rattle.scholten_core.specs.declared.item.Item.{Item}
@@ -7,22 +7,8 @@ use Rattle.scholten_core.specs.declared.item.Item.TheVariants.{Message as Messag
 use Rattle.scholten_core.specs.declared.event.Event.{Event}
 use Rattle.scholten_core.specs.declared.event.Event.TheVariants.{Deliver, Accept}
 use Rattle.scholten_core.specs.Network.{Network}
-use Rattle.scholten_core.specs.DiffusionData.{DiffusionData, network_in as network_asked}
 use Rattle.scholten_core.specs.Diffusion.{CoreState}
-use Rattle.shard_part.specs.Plans.{PlanData}
-
--- the same in all parts of a diffusion
-pub record SetupData (S : Type 0) : Type 0 where
-  pub diffusion : DiffusionData S
-  pub plan : PlanData
-
--- the network of its diffusion
-abbrev pub network_of : {S : Type 0} → SetupData S → Network
-network_of t = network_asked t.diffusion
-
--- the shard of a vertex, and of the environment: that of the source
-unfoldable pub place_in : {S : Type 0} → SetupData S → ℕ → ℕ
-place_in t v = get_or (get_or t.plan.list (t.diffusion.source - 1) 0 ∷ t.plan.list) v 0
+use Rattle.shard_store.specs.Setup.{SetupData}
 
 -- a part: its tables by number of vertex and arc, its queue, an outbox for each shard, and what it has counted
 pub record PartData (S V : Type 0) : Type 0 where

@@ -1,9 +1,10 @@
 -- What may be read of a part.
 use Rattle.std.specs.Prelude.{◌≡◌, ℕ, false, not, ◌&&◌, ◌||◌, Bool, eqb, leb, get_or}
 use Rattle.road_graph.specs.GraphData.{HasVertex}
-use Rattle.shard_part.specs.declared.tally.Tally.{Tally}
-use Rattle.shard_part.specs.Tallies.{top}
-use Rattle.shard_part.specs.PartState.{PartData, place_in}
+use Rattle.shard_store.specs.declared.tally.Tally.{Tally}
+use Rattle.shard_store.specs.Tallies.{top}
+use Rattle.shard_part.specs.PartState.{PartData}
+use Rattle.shard_store.specs.Setup.{place_in}
 
 module _ {S V : Type 0} where
   -- v is a vertex of the part's shard

@@ -5,8 +5,10 @@ use Rattle.path_algebra.specs.Algebra.{Algebra}
 use Rattle.scholten_core.specs.Network.{Network}
 use Rattle.scholten_core.specs.Diffusion.{CoreState, step, is_enabled}
 use Rattle.scholten_core.specs.Shares.{Agree}
-use Rattle.shard_part.specs.PartState.{SetupData, network_of, place_in, PartData, state_in, event_of, mine}
-use Rattle.shard_part.specs.Weights.{total, is, All, part_weight, in_flight}
+use Rattle.shard_store.specs.Setup.{SetupData, network_of, place_in}
+use Rattle.shard_part.specs.PartState.{PartData, state_in, event_of, mine}
+use Rattle.shard_store.specs.Totals.{total, is}
+use Rattle.shard_part.specs.Weights.{All, part_weight, in_flight}
 
 module _ {S V : Type 0} (A : Algebra V) (N : Network) (place : ℕ → ℕ) where
   -- labels and engagers of the part's vertices, the labels last offered to their arcs, and the idle flags of these are those of c

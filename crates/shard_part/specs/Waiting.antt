@@ -2,7 +2,8 @@
 use Rattle.std.specs.Prelude.{ℕ, ◌+◌, ◌<◌, List, [], length, get_or, Contains}
 use Rattle.scholten_core.specs.declared.item.Item.{Item}
 use Rattle.shard_part.specs.PartState.{PartData}
-use Rattle.shard_part.specs.Weights.{total, part_weight}
+use Rattle.shard_store.specs.Totals.{total}
+use Rattle.shard_part.specs.Weights.{part_weight}
 
 module _ {S V : Type 0} where
   -- how many items the queues and outboxes of the parts and the mailboxes hold

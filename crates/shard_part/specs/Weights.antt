@@ -1,25 +1,13 @@
 -- Sums over items. Weights say which items are where, and nothing of their order.
-use Rattle.std.specs.Prelude.{ℕ, suc, ◌+◌, eqb, List, [], ◌∷◌}
+use Rattle.std.specs.Prelude.{ℕ, suc, ◌+◌, List, [], ◌∷◌}
 use Rattle.scholten_core.specs.declared.item.Item.{Item}
 use Rattle.scholten_core.specs.declared.item.Item.TheVariants.{Message as MessageOn, Signal as SignalOn}
 use Rattle.scholten_core.specs.Network.{Network}
 use Rattle.scholten_core.specs.Diffusion.{CoreState}
-use Rattle.scholten_core.specs.Sums.{sum_below, one_if}
-use Rattle.scholten_core.specs.Items.{item_arc, item_of}
+use Rattle.scholten_core.specs.Sums.{sum_below}
+use Rattle.scholten_core.specs.Items.{item_of}
+use Rattle.shard_store.specs.Totals.{total}
 use Rattle.shard_part.specs.PartState.{PartData, vertex_of}
-
--- the sum of the weights of all entries
-abbrev pub total : {X : Type 0} → (X → ℕ) → List X → ℕ
-total f [] = 0
-total f (x ∷ xs) = f x + total f xs
-
--- 1 if the numbers are the same
-abbrev pub is : ℕ → ℕ → ℕ
-is j k = one_if (eqb j k)
-
--- how many of the items are on the arc b
-abbrev pub counted : {V : Type 0} → ℕ → List (Item V) → ℕ
-counted b is' = total (λ j. is b (item_arc j)) is'
 
 -- each entry has the property
 abbrev pub All : {X : Type 0} → (X → Type 0) → List X → Type 0

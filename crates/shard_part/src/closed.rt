@@ -1,17 +1,15 @@
 //! What is left of a part whose diffusion is over.
 ghost use Rattle.std.specs.Prelude.{◌≡◌};
-ghost use Rattle.shard_part.specs.PartState.{network_of, place_in, state_in};
+ghost use Rattle.shard_store.specs.Setup.{network_of, place_in, IsPlanned};
+ghost use Rattle.shard_part.specs.PartState.{state_in};
 ghost use Rattle.shard_part.specs.LocalInvariant.{LocalInvariant};
-ghost use Rattle.shard_part.specs.Moves.{IsPlanned, IsTallied};
+ghost use Rattle.shard_part.specs.Moves.{IsTallied};
 ghost use Rattle.shard_part.specs.Readings.{IsOwn, tally_in};
 
-use crate::shard::Shard;
 use crate::state::PartState;
-use crate::store::local_vertices::LocalVertices;
-use crate::store::tables::{Tables, VertexTable};
-use crate::tally::Tally;
 use path_algebra::PathAlgebra;
 use road_graph::Vertex;
+use shard_store::{LocalVertices, Shard, Tables, Tally, VertexTable};
 use std::marker::Model;
 use std::snapshot::Snapshot;
 

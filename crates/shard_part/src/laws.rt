@@ -5,23 +5,24 @@ ghost use Rattle.scholten_core.specs.declared.item.Item.{Item};
 ghost use Rattle.scholten_core.specs.declared.event.Event.{Event};
 ghost use Rattle.scholten_core.specs.Network.{WellFormed};
 ghost use Rattle.scholten_core.specs.Diffusion.{CoreState, state_after, step, is_enabled, HasEnded};
-ghost use Rattle.shard_part.specs.PartState.{SetupData, PartData, event_of, network_of, place_in};
+ghost use Rattle.shard_store.specs.Setup.{SetupData, network_of, place_in, IsPlanned};
+ghost use Rattle.shard_part.specs.PartState.{PartData, event_of};
 ghost use Rattle.shard_part.specs.Handling.{HandledItem, HandledAll};
 ghost use Rattle.shard_part.specs.Represents.{AllEnabled, HoldsShare, Represents};
 ghost use Rattle.shard_part.specs.Weights.{mail_weight};
 ghost use Rattle.shard_part.specs.Waiting.{items_waiting, QueueWaits, OutboxWaits, MailWaits};
 ghost use Rattle.shard_part.specs.ItemPlaces.{on, parts_places, mail_places, place_of_token};
 ghost use Rattle.shard_part.specs.Part.{HandledMany, IsShownOn};
-ghost use Rattle.shard_part.specs.Moves.{IsPlanned, IsTallied};
+ghost use Rattle.shard_part.specs.Moves.{IsTallied};
 ghost use Rattle.shard_part.specs.LocalInvariant.{LocalInvariant};
-ghost use Rattle.shard_part.specs.Plans.{IsPlan};
+ghost use Rattle.shard_store.specs.Plans.{IsPlan};
 ghost use Rattle.shard_part.specs.Opening.{opened_parts};
 
 use crate::closed::ClosedPart;
 use crate::part::Part;
-use crate::plan::Plan;
 use crate::state::PartState;
 use path_algebra::PathAlgebra;
+use shard_store::Plan;
 
 /// What holds of every plan: it has at least one shard and at most 64, and each of its entries is one of them.
 pub fn plan_holds(plan: &Plan)

@@ -1,22 +1,12 @@
-//! One shard's part of a diffusing computation.
+//! One shard's part of a diffusing computation: how it is opened, handles items one by one, exchanges batches, and is closed.
 #![tactic(auto)]
 
 mod closed;
 pub mod laws;
 mod part;
-mod plan;
-mod setup;
-mod shard;
 mod state;
-mod store;
-mod tally;
 
 pub use closed::ClosedPart;
 pub use part::Part;
-pub use plan::{Plan, PlanFault};
 pub use scholten_core::Item;
-pub use setup::Setup;
-pub use shard::Shard;
-pub use state::PartState;
-pub use store::batch::Batch;
-pub use tally::Tally;
+pub use shard_store::{Batch, Plan, PlanFault, Setup, Shard, Tally};

@@ -5,23 +5,22 @@ ghost use Rattle.road_graph.specs.GraphData.{HasVertex};
 ghost use Rattle.scholten_core.specs.Network.{network};
 ghost use Rattle.scholten_core.specs.declared.event.Event.{Event};
 ghost use Rattle.scholten_core.specs.Diffusion.{state_after};
-ghost use Rattle.shard_part.specs.PartState.{network_of, place_in};
-ghost use Rattle.shard_part.specs.Capacities.{queue_bound, outbox_bound};
+ghost use Rattle.shard_store.specs.Setup.{network_of, place_in};
+ghost use Rattle.shard_store.specs.Capacities.{queue_bound, outbox_bound};
 ghost use Rattle.shard_part.specs.Represents.{HoldsShare};
 ghost use Rattle.shard_part.specs.Opening.{opened_part};
 ghost use Rattle.shard_part.specs.Exchange.{Fits};
 ghost use Rattle.shard_part.specs.Part.{HandledFront, HandledMany, IsRunOn};
 
+mod readings;
+
 use crate::closed::ClosedPart;
-use crate::plan::Plan;
-use crate::shard::Shard;
 use crate::state::PartState;
-use crate::store::batch::Batch;
 use path_algebra::{PathAlgebra, laws_hold};
 use road_graph::{Graph, Memory, Vertex};
+use shard_store::{Batch, Plan, Shard};
 use std::alloc::Global;
 use std::marker::Model;
-use std::ops::Deref;
 
 /// One shard's part of a diffusing computation: labels and engagers of its vertices, a queue of items to be handled, and an outbox for each other shard.
 #[derive(Drop)]
@@ -130,16 +129,5 @@ impl<'g, A: PathAlgebra> Part<'g, A> {
     {
         let Part { state } = self;
         ClosedPart::of(state)
-    }
-}
-
-/// What may be read of a part is read from its state.
-impl<'g, A: PathAlgebra> Deref for Part<'g, A> {
-    type Target = PartState<'g, A>;
-
-    ghost deref_gives = { λ part state. state ≡ part };
-
-    fn deref(&self) -> &PartState<'g, A> {
-        &self.state
     }
 }

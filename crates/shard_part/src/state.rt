@@ -1,37 +1,34 @@
 //! One shard's part of a diffusing computation, as it is stored.
-ghost use Rattle.std.specs.Prelude.{◌≡◌};
-ghost use Rattle.shard_part.specs.PartState.{network_of, place_in};
+ghost use Rattle.std.specs.Prelude.{◌≡◌, leb};
+ghost use Rattle.shard_store.specs.Tallies.{top};
+ghost use Rattle.shard_part.specs.Readings.{tally_in};
+ghost use Rattle.shard_store.specs.Setup.{network_of, place_in, IsPlanned};
 ghost use Rattle.scholten_core.specs.Network.{WellFormed};
-ghost use Rattle.shard_part.specs.Moves.{IsPlanned, IsTallied};
+ghost use Rattle.shard_part.specs.Moves.{IsTallied};
 ghost use Rattle.shard_part.specs.LocalInvariant.{LocalInvariant};
 
 mod events;
 mod exchange;
 mod opening;
-mod readings;
 mod sending;
 mod stored;
 
-use crate::plan::Plan;
-use crate::shard::Shard;
-use crate::store::batch::Batch;
-use crate::store::queue::Queue;
-use crate::store::tables::Tables;
 use path_algebra::PathAlgebra;
 use road_graph::{Graph, Vertex};
+use shard_store::{Batch, Plan, Queue, Shard, Tables, Tally};
 use std::marker::Model;
 
 /// The tables, the queue and the outboxes of one shard, with the moves that its events are made of.
 #[derive(Drop)]
-pub struct PartState<'g, A: PathAlgebra> {
-    algebra: A,
-    graph: &'g Graph,
-    plan: &'g Plan,
-    source: Vertex,
+pub(crate) struct PartState<'g, A: PathAlgebra> {
+    pub(crate) algebra: A,
+    pub(crate) graph: &'g Graph,
+    pub(crate) plan: &'g Plan,
+    pub(crate) source: Vertex,
     pub(crate) shard: Shard,
     pub(crate) tables: Tables<A::Value>,
-    queue: Queue<A::Value>,
-    outs: Vec<Batch<A::Value>>,
+    pub(crate) queue: Queue<A::Value>,
+    pub(crate) outs: Vec<Batch<A::Value>>,
     sent: u64,
     delivered: u64,
     signalled: u64,
@@ -41,7 +38,8 @@ pub struct PartState<'g, A: PathAlgebra> {
 impl<'g, A: PathAlgebra> Model for PartState<'g, A> {
     ghost use Rattle.std.specs.Prelude.{map};
     ghost use Rattle.shard_part.specs.PartState.{PartData};
-    ghost use Rattle.shard_part.specs.Moves.{abstraction, rows_of, RepInvariant};
+    ghost use Rattle.shard_part.specs.Moves.{abstraction, RepInvariant};
+    ghost use Rattle.shard_store.specs.Rows.{rows_of};
 
     ghost Value = { PartData A A.Value };
 
@@ -61,7 +59,7 @@ impl<'g, A: PathAlgebra> PartState<'g, A> {
     }
 
     /// Which shard it is.
-    pub fn shard(&self) -> Shard
+    pub(crate) fn shard(&self) -> Shard
         ensures shard { result ≡ self.now.shard }
         // What holds of every part, for callers that rely on it.
         ensures planned { IsPlanned self.now.setup self.now.shard }
@@ -71,4 +69,27 @@ impl<'g, A: PathAlgebra> PartState<'g, A> {
     {
         self.shard
     }
+
+    /// What has been counted, the environment's message and the acceptance of its signal at the source's part.
+    pub(crate) fn tally(&self) -> Tally
+        ensures { result ≡ tally_in self.now }
+    {
+        Tally {
+            sent: self.sent,
+            delivered: self.delivered,
+            signalled: self.signalled,
+            accepted: self.accepted,
+            full: is_at_top(self.sent)
+                || is_at_top(self.delivered)
+                || is_at_top(self.signalled)
+                || is_at_top(self.accepted),
+        }
+    }
+}
+
+/// Whether the counter is at its top, where it stops.
+fn is_at_top(counter: u64) -> bool
+    ensures { result ≡ leb top counter }
+{
+    counter == u64::MAX
 }

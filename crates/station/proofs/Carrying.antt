@@ -9,7 +9,8 @@ use denote.Ref.{NamedLft, ShrRef}
 use denote.Struct.Tuple.{TupleAt}
 use Rattle.std.specs.declared.clone.Clone as clone
 use Rattle.path_algebra.specs.declared.algebra.PathAlgebra.{Ghosts}
-use Rattle.shard_part.proofs.Sharing.{part_send, Plan-sync}
+use Rattle.shard_part.proofs.Sharing.{part_send}
+use Rattle.shard_store.proofs.Sharing.{Plan-sync}
 use Rattle.post_floor.proofs.Carrying.{tuple_send, floor_sync, seat_send}
 use Rattle.post_floor.specs.contracts.floor.Floor as Floor
 use Rattle.station.specs.contracts.station.Station as Station

@@ -6,11 +6,11 @@ use Rattle.path_algebra.specs.Walks.{AreBest}
 use Rattle.scholten_core.specs.Accounts.{totals_of}
 use Rattle.scholten_core.proofs.EveryAccount.{totals_are_equal}
 use Rattle.scholten_core.proofs.EveryRun.{ended_is_quiet}
-use Rattle.shard_part.specs.declared.tally.Tally.{Tally}
-use Rattle.shard_part.specs.Moves.{IsPlanned}
-use Rattle.shard_part.specs.PartState.{SetupData, network_of}
-use Rattle.shard_part.specs.Weights.{All, total}
-use Rattle.shard_part.specs.Tallies.{tally_of}
+use Rattle.shard_store.specs.declared.tally.Tally.{Tally}
+use Rattle.shard_store.specs.Setup.{IsPlanned, SetupData, network_of}
+use Rattle.shard_part.specs.Weights.{All}
+use Rattle.shard_store.specs.Totals.{total}
+use Rattle.shard_store.specs.Tallies.{tally_of}
 use Rattle.shard_part.proofs.Showing.{AllLawful}
 use Rattle.post_floor.specs.declared.view.View.{View}
 use Rattle.post_floor.specs.Closing.{AllSeated, AreJoined}

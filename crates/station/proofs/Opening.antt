@@ -5,7 +5,8 @@ use Rattle.std.proofs.lemmas.List.{length-map, length_push}
 use Rattle.std.proofs.lemmas.List.Elements.{All-map, All-weaker}
 use Rattle.path_algebra.specs.Algebra.{Algebra}
 use Rattle.shard_part.specs.Opening.{opened_part, opened_parts}
-use Rattle.shard_part.specs.PartState.{PartData, SetupData, network_of}
+use Rattle.shard_part.specs.PartState.{PartData}
+use Rattle.shard_store.specs.Setup.{SetupData, network_of}
 use Rattle.shard_part.specs.Weights.{All}
 use Rattle.shard_part.specs.Represents.{HoldsShare}
 use Rattle.scholten_core.specs.Diffusion.{state_after}

@@ -8,10 +8,11 @@ use Rattle.scholten_core.specs.declared.token.Token.{Token}
 use Rattle.scholten_core.specs.Diffusion.{CoreState, is_idle}
 use Rattle.scholten_core.specs.Items.{item_of}
 use Rattle.scholten_core.proofs.EveryRun.{ended_is_best}
-use Rattle.shard_part.specs.PartState.{PartData, network_of, place_in, token_if}
-use Rattle.shard_part.specs.Weights.{total, in_flight, at_place}
-use Rattle.shard_part.specs.Moves.{IsPlanned}
-use Rattle.shard_part.proofs.Weights.{sum_below_same, sum_zero}
+use Rattle.shard_part.specs.PartState.{PartData, token_if}
+use Rattle.shard_store.specs.Setup.{network_of, place_in, IsPlanned}
+use Rattle.shard_store.specs.Totals.{total}
+use Rattle.shard_part.specs.Weights.{in_flight, at_place}
+use Rattle.shard_store.proofs.Totals.{sum_below_same, sum_zero}
 use Rattle.shard_part.proofs.Room.{each_one, outs_member}
 use Rattle.post_floor.specs.Floor.{core_of}
 use Rattle.post_floor.specs.Plays.{HoldsEndedShare}

@@ -7,8 +7,8 @@ use Rattle.scholten_core.specs.Accounts.{Totals, totals_of, AreEqualTotals, AreM
 use Rattle.scholten_core.specs.Sums.{one_if}
 use Rattle.scholten_core.proofs.EveryAccount.{reach_sends_once}
 use Rattle.scholten_core.proofs.Sums.{one_if-most, sum_most, sum_ones}
-use Rattle.shard_part.specs.PartState.{SetupData, network_of}
-use Rattle.shard_part.specs.Tallies.{top, tally_of}
+use Rattle.shard_store.specs.Setup.{SetupData, network_of}
+use Rattle.shard_store.specs.Tallies.{top, tally_of}
 use Rattle.station.specs.declared.gathering.Gathered.{Gathered}
 use Rattle.station.specs.Gather.{IsGathered, each_shows}
 

@@ -3,12 +3,13 @@ use Rattle.std.proofs.Common.{◌≡◌, ℕ, ◌+◌, Bool, true, false, ◌||�
 use Rattle.std.proofs.lemmas.Bool.{leb-false}
 use Rattle.atomic_table.specs.Seated.{TableId}
 use Rattle.scholten_core.specs.Accounts.{Totals}
-use Rattle.shard_part.specs.declared.tally.Tally.{Tally}
+use Rattle.shard_store.specs.declared.tally.Tally.{Tally}
 use Rattle.shard_part.specs.PartState.{PartData}
-use Rattle.shard_part.specs.Weights.{All, total, is}
+use Rattle.shard_part.specs.Weights.{All}
+use Rattle.shard_store.specs.Totals.{total, is}
 use Rattle.shard_part.specs.Readings.{tally_in}
-use Rattle.shard_part.specs.Tallies.{top, tally_of, together}
-use Rattle.shard_part.proofs.Weights.{total_append}
+use Rattle.shard_store.specs.Tallies.{top, tally_of, together}
+use Rattle.shard_store.proofs.Totals.{total_append}
 use Rattle.shard_part.proofs.Showing.{all_append}
 use Rattle.post_floor.specs.declared.view.View.{View}
 use Rattle.post_floor.specs.Data.{SeatData}

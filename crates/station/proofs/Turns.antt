@@ -7,13 +7,13 @@ use Rattle.path_algebra.specs.Walks.{IsWalkValue}
 use Rattle.scholten_core.specs.declared.event.Event.{Event}
 use Rattle.scholten_core.specs.Diffusion.{state_after}
 use Rattle.scholten_core.proofs.EveryRun.{labels_are_walk_values}
-use Rattle.shard_part.specs.Moves.{IsPlanned}
-use Rattle.shard_part.specs.PartState.{PartData, network_of, place_in, state_in}
+use Rattle.shard_store.specs.Setup.{IsPlanned, network_of, place_in}
+use Rattle.shard_part.specs.PartState.{PartData, state_in}
 use Rattle.shard_part.specs.Weights.{in_flight, part_weight}
 use Rattle.shard_part.specs.Represents.{HoldsShare}
 use Rattle.shard_part.specs.Part.{HandledMany, IsRunOn}
 use Rattle.shard_part.specs.Readings.{IsOwn}
-use Rattle.shard_part.specs.Tallies.{top}
+use Rattle.shard_store.specs.Tallies.{top}
 use Rattle.shard_part.proofs.Showing.{AllLawful}
 use Rattle.post_floor.specs.declared.view.View.{View}
 use Rattle.post_floor.specs.Boxes.{box_count, mailbox}

@@ -6,10 +6,10 @@ use Rattle.path_algebra.specs.Algebra.{Algebra}
 use Rattle.scholten_core.specs.declared.event.Event.{Event}
 use Rattle.scholten_core.specs.Accounts.{Totals, totals_of, AreEqualTotals}
 use Rattle.scholten_core.specs.Diffusion.{HasEnded, IsQuiet}
-use Rattle.shard_part.specs.declared.tally.Tally.{Tally}
-use Rattle.shard_part.specs.PartState.{SetupData, network_of}
-use Rattle.shard_part.specs.Weights.{total}
-use Rattle.shard_part.specs.Tallies.{tally_of}
+use Rattle.shard_store.specs.declared.tally.Tally.{Tally}
+use Rattle.shard_store.specs.Setup.{SetupData, network_of}
+use Rattle.shard_store.specs.Totals.{total}
+use Rattle.shard_store.specs.Tallies.{tally_of}
 use Rattle.post_floor.specs.Data.{SeatData}
 use Rattle.post_floor.specs.Floor.{core_of}
 use Rattle.station.specs.declared.gathering.Gathered.{Gathered}

@@ -1,9 +1,10 @@
 -- Seats that are handed over one after the other.
 use Rattle.std.specs.Prelude.{◌≡◌, ℕ, ◌+◌, true, List}
 use Rattle.atomic_table.specs.Seated.{TableId}
-use Rattle.shard_part.specs.declared.tally.Tally.{Tally}
-use Rattle.shard_part.specs.Weights.{All, total, is}
-use Rattle.shard_part.specs.Tallies.{tally_of}
+use Rattle.shard_store.specs.declared.tally.Tally.{Tally}
+use Rattle.shard_part.specs.Weights.{All}
+use Rattle.shard_store.specs.Totals.{total, is}
+use Rattle.shard_store.specs.Tallies.{tally_of}
 use Rattle.post_floor.specs.Data.{SeatData}
 use Rattle.station.specs.Gather.{counts_of}
 use Rattle.station.specs.Station.{StationData}

@@ -4,8 +4,9 @@ use Rattle.std.specs.List.{All}
 use Rattle.atomic_table.specs.Seated.{TableId}
 use Rattle.path_algebra.specs.Algebra.{Algebra}
 use Rattle.road_graph.specs.GraphData.{GraphData}
-use Rattle.shard_part.specs.Plans.{PlanData}
-use Rattle.shard_part.specs.PartState.{SetupData, PartData}
+use Rattle.shard_store.specs.Plans.{PlanData}
+use Rattle.shard_store.specs.Setup.{SetupData}
+use Rattle.shard_part.specs.PartState.{PartData}
 use Rattle.post_floor.specs.Data.{FloorData, seat_of, first_parts}
 use Rattle.post_floor.specs.Plays.{IsViewOf, HoldsReachedShare}
 use Rattle.post_floor.specs.Seats.{knows}

@@ -2,7 +2,8 @@
 use Rattle.std.specs.Prelude.{◌≡◌, ℕ, Bool, true, false, Option, None, List, [], ◌∷◌, get_or}
 use Rattle.path_algebra.specs.Algebra.{Algebra}
 use Rattle.path_algebra.specs.Walks.{IsBestLabel, AreBest}
-use Rattle.shard_part.specs.PartState.{SetupData, PartData, network_of, place_in, state_in}
+use Rattle.shard_store.specs.Setup.{SetupData, network_of, place_in}
+use Rattle.shard_part.specs.PartState.{PartData, state_in}
 use Rattle.shard_part.specs.Readings.{IsOwn}
 use Rattle.post_floor.specs.declared.view.View.{View}
 use Rattle.post_floor.specs.Plays.{IsViewOf, HoldsReachedShare, HoldsEndedShare}

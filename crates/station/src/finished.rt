@@ -1,6 +1,6 @@
 //! What is left of a station that has ended: the labels and the counts.
 ghost use Rattle.std.specs.Prelude.{◌≡◌, IsTrue, ◌↔◌};
-ghost use Rattle.shard_part.specs.Plans.{HasPlanned, shard_in};
+ghost use Rattle.shard_store.specs.Plans.{HasPlanned, shard_in};
 ghost use Rattle.station.specs.Station.{IsBestFor};
 
 use path_algebra::PathAlgebra;

@@ -1,8 +1,8 @@
 //! Gathering the answer from stations that have ended.
 ghost use Rattle.std.specs.Prelude.{◌≡◌, ◌+◌, ◌<◌, ◌≤◌, [], length, IfOk, IfErr, MatchResult, MatchOption, vec_len, vec_capacity};
 ghost use Rattle.std.specs.List.{All};
-ghost use Rattle.shard_part.specs.Plans.{HasPlanned};
-ghost use Rattle.shard_part.specs.Moves.{IsPlanned};
+ghost use Rattle.shard_store.specs.Plans.{HasPlanned};
+ghost use Rattle.shard_store.specs.Setup.{IsPlanned};
 ghost use Rattle.station.specs.Gather.{AllThere, AreOf, ArePlaces, IsAtPlace, IsFirstMissing, IsGathered, IsMissing, IsGatherFault};
 ghost use Rattle.station.specs.Handing.{AreHanded};
 ghost use Rattle.station.specs.Station.{AreBestFor, BelongsTo, IsBestFor};

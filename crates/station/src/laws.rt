@@ -3,7 +3,7 @@ ghost use Rattle.std.specs.Prelude.{◌≡◌, ℕ, ◌+◌, Bool};
 ghost use Rattle.path_algebra.specs.declared.reach.Reach.{Reach};
 ghost use Rattle.path_algebra.specs.Given.{reach};
 ghost use Rattle.scholten_core.specs.Accounts.{AreMarksOfReached, count_marked};
-ghost use Rattle.shard_part.specs.PartState.{SetupData};
+ghost use Rattle.shard_store.specs.Setup.{SetupData};
 ghost use Rattle.station.specs.declared.gathering.Gathered.{Gathered};
 ghost use Rattle.station.specs.Gather.{IsGathered, each_shows};
 

@@ -2,17 +2,18 @@
 ghost use Rattle.std.specs.Prelude.{◌≡◌, ◌≢◌, [], Option, Some, None, IfSome, IsTrue, IsFalse, true, false};
 ghost use Rattle.scholten_core.specs.Diffusion.{improves as improves_on};
 ghost use Rattle.scholten_core.specs.Items.{item_arc};
-ghost use Rattle.shard_part.specs.Tallies.{counted_on};
-ghost use Rattle.shard_part.specs.PartState.{network_of, place_in, state_in, vertex_of, IsArc};
+ghost use Rattle.shard_store.specs.Tallies.{counted_on};
+ghost use Rattle.shard_store.specs.Setup.{network_of, place_in};
+ghost use Rattle.shard_part.specs.PartState.{state_in, vertex_of, IsArc};
 ghost use Rattle.shard_part.specs.LocalInvariant.{IsClear};
 ghost use Rattle.shard_part.specs.Part.{OwnIdleIsTold, HandledFront};
 ghost use Rattle.shard_part.specs.Moves.{IsPlace, IsPopped, HandledOne, engaged_or_answered, labelled, rested, with_value, with_free, with_taken};
 
 use crate::state::PartState;
-use crate::store::place::{ArcPlace, VertexPlace};
 use path_algebra::{PathAlgebra, laws_hold};
 use road_graph::ArcNo;
 use scholten_core::{Item, improves};
+use shard_store::{ArcPlace, VertexPlace};
 
 impl<'g, A: PathAlgebra> PartState<'g, A> {
     /// Handles the front item, if there is one.

@@ -3,21 +3,21 @@ ghost use Rattle.std.specs.Prelude.{◌≡◌, ◌≢◌, ◌+◌, ◌++◌, ◌
 ghost use Rattle.circular_buffer.specs.Buffer.{buffer};
 ghost use Rattle.road_graph.specs.GraphData.{HasArc};
 ghost use Rattle.scholten_core.specs.Items.{item_arc};
-ghost use Rattle.shard_part.specs.PartState.{network_of, place_in, state_in};
-ghost use Rattle.shard_part.specs.Capacities.{queue_bound, outbox_bound};
-ghost use Rattle.shard_part.specs.Weights.{part_weight, is};
+ghost use Rattle.shard_store.specs.Setup.{network_of, place_in};
+ghost use Rattle.shard_part.specs.PartState.{state_in};
+ghost use Rattle.shard_store.specs.Capacities.{queue_bound, outbox_bound};
+ghost use Rattle.shard_part.specs.Weights.{part_weight};
+ghost use Rattle.shard_store.specs.Totals.{is};
 ghost use Rattle.shard_part.specs.LocalInvariant.{names};
 ghost use Rattle.shard_part.specs.Moves.{IsPlace};
 ghost use Rattle.shard_part.specs.Exchange.{Fits, FitsAlone, FitsBefore, MayEngage, Awaits};
 
 use crate::laws::state_holds;
-use crate::shard::Shard;
 use crate::state::PartState;
-use crate::store::batch::{Batch, arc_of};
-use crate::store::place::VertexPlace;
 use path_algebra::PathAlgebra;
 use road_graph::{ArcNo, Vertex};
 use scholten_core::Item;
+use shard_store::{Batch, Shard, VertexPlace, arc_of};
 
 impl<'g, A: PathAlgebra> PartState<'g, A> {
     /// Exchanges the outbox to another shard for an empty batch of the same capacity.
@@ -44,10 +44,8 @@ impl<'g, A: PathAlgebra> PartState<'g, A> {
         self.queue.append(batch);
     }
 
-    /// Whether a batch may be received: no arc occurs twice in it, or both in it and in the queue or an outbox, each message has a
-    /// value of the algebra and comes on an arc from another shard into this one that is no engager here, and each signal comes
-    /// back on an arc from this shard into another that is busy here.
-    pub fn fits(&self, batch: &Batch<A::Value>) -> bool
+    /// Whether a batch may be received.
+    pub(crate) fn fits(&self, batch: &Batch<A::Value>) -> bool
         ensures { IsTrue result ↔ Fits (A.meaning self.now.setup.diffusion.algebra) self.now
             batch.now.items }
     {

@@ -5,23 +5,17 @@ ghost use Rattle.road_graph.specs.GraphData.{HasVertex};
 ghost use Rattle.scholten_core.specs.Network.{network};
 ghost use Rattle.scholten_core.specs.Diffusion.{state_after};
 ghost use Rattle.shard_part.specs.Represents.{HoldsShare};
-ghost use Rattle.shard_part.specs.Moves.{rows_of};
-ghost use Rattle.shard_part.specs.Outgoing.{local_vertices};
-ghost use Rattle.shard_part.specs.Opening.{opened_part, first_items, AreIdle};
+ghost use Rattle.shard_store.specs.Rows.{rows_of, AreIdle};
+ghost use Rattle.shard_store.specs.Outgoing.{local_vertices};
+ghost use Rattle.shard_part.specs.Opening.{opened_part, first_items};
 
 use crate::laws::plan_holds;
-use crate::plan::Plan;
-use crate::shard::Shard;
 use crate::state::PartState;
-use crate::store::batch::Batch;
-use crate::store::layout::{ShardLayout, sum_of};
-use crate::store::local_vertices::LocalVertices;
-use crate::store::queue::Queue;
-use crate::store::tables::{ArcTable, Tables, VertexTable};
 use path_algebra::PathAlgebra;
 use road_graph::{Graph, Memory, Vertex};
 use scholten_core::{ENTRY, Item, roads_hold};
-use std::alloc::{AllocError, Global};
+use shard_store::{Plan, Queue, Shard, ShardLayout, empty_batches, idle_tables, sum_of};
+use std::alloc::Global;
 
 impl<'g, A: PathAlgebra> PartState<'g, A> {
     /// The part of one shard before any event. At the source's part the message of the environment waits, with the origin as its value.
@@ -95,43 +89,4 @@ fn opening_queue<A: PathAlgebra>(
         });
     }
     Ok(queue)
-}
-
-/// Empty batches of these capacities.
-fn empty_batches<V: Copy>(alloc: Global, capacities: &[usize]) -> Result<Vec<Batch<V>>, Memory>
-    ensures items { IfOk result (λ all. map (λ b. b.items) all.items ≡ replicate
-        (length capacities.now) []) }
-    ensures capacities { IfOk result (λ all. map (λ b. b.capacity) all.items ≡ capacities.now) }
-{
-    let mut all = Vec::with_capacity(alloc, capacities.len())?;
-    for capacity in capacities {
-        let batch = Batch::empty(alloc, *capacity)?;
-        if all.push(batch).is_err() {
-            return Err(Memory);
-        }
-    }
-    Ok(all)
-}
-
-/// Tables in which nothing has happened, except that arc 0 may be busy. The value fills the places of those that are not there yet.
-fn idle_tables<V: Copy>(
-    alloc: Global,
-    layout: &ShardLayout,
-    own: LocalVertices,
-    value: V,
-) -> Result<Tables<V>, AllocError>
-    requires { own ≡ local_vertices layout.now.setup layout.now.shard }
-    ensures { IfOk result (λ t. AreIdle layout.now (rows_of t)) }
-{
-    let entry = layout.is_first();
-    let mut vertices = VertexTable::idle(alloc, own.len(), value)?;
-    let count = layout.write_starts(&own, &mut vertices);
-    let mut arcs = ArcTable::idle(alloc, count, value)?;
-    vertices.set_deficit(0, u32::from(entry));
-    arcs.set_busy(0, entry);
-    Ok(Tables {
-        own,
-        vertices,
-        arcs,
-    })
 }

@@ -4,17 +4,17 @@ ghost use Rattle.road_graph.specs.GraphData.{arc_of, road_of};
 ghost use Rattle.scholten_core.specs.declared.item.Item.TheVariants.{Signal as SignalOn};
 ghost use Rattle.scholten_core.specs.Diffusion.{is_due as due};
 ghost use Rattle.scholten_core.specs.Items.{item_arc};
-ghost use Rattle.shard_part.specs.PartState.{network_of, place_in, state_in, vertex_of, maker_of, IsArc};
-ghost use Rattle.shard_part.specs.Outgoing.{outgoing};
+ghost use Rattle.shard_store.specs.Setup.{network_of, place_in};
+ghost use Rattle.shard_part.specs.PartState.{state_in, vertex_of, maker_of, IsArc};
+ghost use Rattle.shard_store.specs.Outgoing.{outgoing};
 ghost use Rattle.shard_part.specs.LocalInvariant.{IsClear};
 ghost use Rattle.shard_part.specs.Moves.{IsPlace, IsArcRow, put_item, counted_made, with_item, with_message, offered, offered_all};
 
-use crate::shard::Shard;
 use crate::state::PartState;
-use crate::store::place::{ArcPlace, VertexPlace};
 use path_algebra::PathAlgebra;
 use road_graph::{ArcNo, OutRoad};
 use scholten_core::{Item, extended, is_same};
+use shard_store::{ArcPlace, Shard, VertexPlace};
 
 impl<'g, A: PathAlgebra> PartState<'g, A> {
     /// Offers its label to each due arc out of the vertex at a place, if the label improved. Otherwise none is due: each idle arc was offered it before.

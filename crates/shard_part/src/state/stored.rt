@@ -2,21 +2,21 @@
 ghost use Rattle.std.specs.Prelude.{◌≡◌, ◌≢◌, suc, ◌+◌, ◌<◌, ◌≤◌, length, get_or, set, Option, Some, None, IsSome, IfSome, true, false};
 ghost use Rattle.road_graph.specs.GraphData.{arc_of, road_of};
 ghost use Rattle.scholten_core.specs.Deficit.{busy_out};
-ghost use Rattle.shard_part.specs.PartState.{network_of, place_in, state_in, IsArc};
-ghost use Rattle.shard_part.specs.Outgoing.{outgoing};
+ghost use Rattle.shard_store.specs.Setup.{network_of, place_in};
+ghost use Rattle.shard_part.specs.PartState.{state_in, IsArc};
+ghost use Rattle.shard_store.specs.Outgoing.{outgoing};
 ghost use Rattle.shard_part.specs.LocalInvariant.{IsClear};
 ghost use Rattle.shard_part.specs.Moves.{IsPlace, IsArcRow};
 
-use crate::shard::Shard;
 use crate::state::PartState;
-use crate::store::place::{ArcPlace, VertexPlace};
 use path_algebra::PathAlgebra;
 use road_graph::{ArcNo, OutRoad, Vertex};
 use scholten_core::{head_of, tail_of};
+use shard_store::{ArcPlace, Shard, VertexPlace};
 
 impl<'g, A: PathAlgebra> PartState<'g, A> {
     /// A vertex with its place.
-    pub(super) fn place(&self, v: Vertex) -> VertexPlace
+    pub(crate) fn place(&self, v: Vertex) -> VertexPlace
         requires within { v ≤ self.now.setup.diffusion.roads.vertices }
         requires here { v ≢ 0 → place_in self.now.setup v ≡ self.now.shard }
         ensures vertex { result.vertex ≡ v }
@@ -98,7 +98,7 @@ impl<'g, A: PathAlgebra> PartState<'g, A> {
     }
 
     /// The shard of a vertex, and of the environment that of the source.
-    pub(super) fn shard_of(&self, v: Vertex) -> Shard
+    pub(crate) fn shard_of(&self, v: Vertex) -> Shard
         requires { v ≤ self.now.setup.diffusion.roads.vertices }
         ensures { result ≡ place_in self.now.setup v }
     {
@@ -107,7 +107,7 @@ impl<'g, A: PathAlgebra> PartState<'g, A> {
     }
 
     /// The label of the vertex at a place.
-    pub(super) fn label_at(&self, v: VertexPlace) -> Option<A::Value>
+    pub(crate) fn label_at(&self, v: VertexPlace) -> Option<A::Value>
         requires { IsPlace self.now v.vertex v.at }
         ensures { result ≡ (state_in self.now).label v.vertex }
     {
@@ -123,7 +123,7 @@ impl<'g, A: PathAlgebra> PartState<'g, A> {
     }
 
     /// The engager of the vertex at a place.
-    pub(super) fn engager_at(&self, v: VertexPlace) -> Option<ArcNo>
+    pub(crate) fn engager_at(&self, v: VertexPlace) -> Option<ArcNo>
         requires { IsPlace self.now v.vertex v.at }
         ensures { result ≡ (state_in self.now).engager v.vertex }
     {
@@ -159,7 +159,7 @@ impl<'g, A: PathAlgebra> PartState<'g, A> {
     }
 
     /// How many arcs out of the vertex at a place are busy.
-    pub(super) fn deficit_at(&self, v: VertexPlace) -> u32
+    pub(crate) fn deficit_at(&self, v: VertexPlace) -> u32
         requires { IsPlace self.now v.vertex v.at }
         ensures { result ≡ busy_out (network_of self.now.setup) v.vertex (state_in self.now)
             (suc (length self.now.setup.diffusion.roads.arcs)) }
@@ -168,7 +168,7 @@ impl<'g, A: PathAlgebra> PartState<'g, A> {
     }
 
     /// Whether the arc at a place is busy.
-    pub(super) fn is_busy(&self, b: ArcPlace) -> bool
+    pub(crate) fn is_busy(&self, b: ArcPlace) -> bool
         requires { IsArcRow self.now b.arc b.at }
         ensures { result ≡ get_or self.now.busy b.arc false }
     {

@@ -1,6 +1,6 @@
 use Rattle.std.proofs.Common.{◌≡◌, ◌<◌, ℕ, List, length, map, ap, sym, ◌∙◌, subst, arith}
 use Rattle.circular_buffer.specs.Buffer.{Buffer}
-use Rattle.shard_part.specs.Weights.{total, is}
+use Rattle.shard_store.specs.Totals.{total, is}
 use Rattle.post_floor.specs.Floor.{Slot}
 use Rattle.post_floor.specs.Claims.{cycled, before, first_is}
 use Rattle.post_floor.specs.Data.{AreOpen}

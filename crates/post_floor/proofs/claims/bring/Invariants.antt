@@ -1,7 +1,7 @@
 use Rattle.std.proofs.Common.{◌≡◌, ◌<◌, ◌≤◌, length, map}
 use Rattle.std.specs.Prelude.{ℕ}
-use Rattle.shard_part.specs.PartState.{SetupData}
-use Rattle.shard_part.specs.Weights.{total, is}
+use Rattle.shard_store.specs.Setup.{SetupData}
+use Rattle.shard_store.specs.Totals.{total, is}
 use Rattle.post_floor.specs.declared.view.View.{View}
 use Rattle.post_floor.specs.Claims.{before}
 use Rattle.post_floor.specs.Data.{AreOpen}

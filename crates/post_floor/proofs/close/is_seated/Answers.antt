@@ -1,5 +1,5 @@
 use Rattle.std.proofs.Common.{rules, arith, ◌≡◌, ◌≢◌, ap, ◌∙◌}
-use Rattle.shard_part.specs.Weights.{is}
+use Rattle.shard_store.specs.Totals.{is}
 use Rattle.shard_part.proofs.Showing.{is_self}
 use Rattle.post_floor.proofs.Totals.{is_else}
 use Rattle.post_floor.proofs.Closing.{found, not_found}

@@ -1,5 +1,5 @@
 use Rattle.std.proofs.Common.{◌≡◌, take}
-use Rattle.shard_part.specs.Weights.{total, is}
+use Rattle.shard_store.specs.Totals.{total, is}
 use Rattle.post_floor.proofs.close.is_seated.Given as goal
 
 abbrev pub invariant-loop-index : goal.invariant-loop-index

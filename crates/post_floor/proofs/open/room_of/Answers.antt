@@ -1,6 +1,6 @@
 use Rattle.std.proofs.Common.{arith, ◌<◌, ◌/◌, ◌%◌, length, ap, sym, subst, ◌∙◌}
-use Rattle.shard_part.specs.PartState.{network_of, place_in}
-use Rattle.shard_part.specs.Capacities.{outbox_bound}
+use Rattle.shard_store.specs.Setup.{network_of, place_in}
+use Rattle.shard_store.specs.Capacities.{outbox_bound}
 use Rattle.post_floor.proofs.Opened.{opened_long, pair_below, part_at, cap_own, cap_other}
 use Rattle.post_floor.proofs.open.room_of.Goals as goal
 
@@ -20,14 +20,14 @@ pub capacity-requires-clause-other : goal.capacity-requires-clause-other
 capacity-requires-clause-other g c κs within = let q =
     part_at g.A.PathAlgebra.meaning c.args.first.now c.index-parts-from.result c.args.parts.now c.args.shards (c.args.k / 4 / c.args.shards)
     c.requires.parts (pair_below c.args.shards c.args.k c.requires.word).0 c.index-parts-from.is in
-    λ e. c.if-from-to.false (sym (e ∙ ap (λ u. u.shard) c.deref.ensures ∙ q.1))
+    λ e. c.if-from-to.false (sym (e ∙ q.1))
 
 pub capacity-requires-clause-shard : goal.capacity-requires-clause-shard
 capacity-requires-clause-shard g c κs within = let q =
     part_at g.A.PathAlgebra.meaning c.args.first.now c.index-parts-from.result c.args.parts.now c.args.shards (c.args.k / 4 / c.args.shards)
     c.requires.parts (pair_below c.args.shards c.args.k c.requires.word).0 c.index-parts-from.is in
     subst (λ n. c.args.k / 4 % c.args.shards < n)
-    (sym (ap (λ u. u.setup.plan.shards) c.deref.ensures ∙ ap (λ u. u.plan.shards) q.0 ∙ c.requires.shards.0))
+    (sym (ap (λ u. u.plan.shards) q.0 ∙ c.requires.shards.0))
     (pair_below c.args.shards c.args.k c.requires.word).1
 
 pub returns-then-from-to : goal.returns-then-from-to
@@ -37,6 +37,6 @@ pub returns-else-from-to : goal.returns-else-from-to
 returns-else-from-to g c = let q =
     part_at g.A.PathAlgebra.meaning c.args.first.now c.index-parts-from.result c.args.parts.now c.args.shards (c.args.k / 4 / c.args.shards)
     c.requires.parts (pair_below c.args.shards c.args.k c.requires.word).0 c.index-parts-from.is in
-    c.capacity.ensures ∙ ap (λ u. outbox_bound (network_of u.setup) (place_in u.setup) u.shard (c.args.k / 4 % c.args.shards)) c.deref.ensures
+    c.capacity.ensures
     ∙ (λ i. outbox_bound (network_of (q.0 i)) (place_in (q.0 i)) (q.1 i) (c.args.k / 4 % c.args.shards))
     ∙ cap_other c.args.first.now.setup c.args.shards c.args.k c.requires.shards.0 c.if-from-to.false

@@ -1,4 +1,4 @@
-use Rattle.shard_part.specs.PartState.{network_of}
+use Rattle.shard_store.specs.Setup.{network_of}
 use Rattle.scholten_core.specs.Diffusion.{opening, state_after}
 use Rattle.scholten_core.proofs.Ended.{opening_kept}
 use Rattle.scholten_core.proofs.Kept.{run_kept}

@@ -1,4 +1,4 @@
-use Rattle.shard_part.specs.PartState.{network_of, place_in}
+use Rattle.shard_store.specs.Setup.{network_of, place_in}
 use Rattle.shard_part.proofs.Readable.{places_read}
 use Rattle.shard_part.proofs.laws.places_are_read.Goals as goal
 

@@ -1,5 +1,5 @@
 use Rattle.std.proofs.Common.{Some, true, ◌∷◌, ◌++◌, [], refl, sym, ap, subst, ◌∙◌, arith}
-use Rattle.shard_part.specs.Tallies.{together}
+use Rattle.shard_store.specs.Tallies.{together}
 use Rattle.station.specs.Station.{BelongsTo, StationData}
 use Rattle.std.proofs.lemmas.List.Elements.{All-pop}
 use Rattle.station.specs.Handing.{AreHanded}

@@ -1,7 +1,7 @@
 use Rattle.std.proofs.Common.{◌<◌, ◌∷◌, [], length, get_or, sym, ap, subst, ◌∙◌}
 use Rattle.path_algebra.specs.Walks.{IsBestLabel}
-use Rattle.shard_part.specs.PartState.{SetupData}
-use Rattle.shard_part.specs.Plans.{HasPlanned, PlanData, shard_in}
+use Rattle.shard_store.specs.Setup.{SetupData}
+use Rattle.shard_store.specs.Plans.{HasPlanned, PlanData, shard_in}
 use Rattle.station.specs.Gather.{IsAtPlace}
 use Rattle.station.proofs.Places.{at_place}
 use Rattle.station.proofs.gathering.label_at.Goals as goal

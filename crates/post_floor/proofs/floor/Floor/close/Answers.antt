@@ -1,6 +1,6 @@
 use Rattle.std.proofs.Common.{map, rules, arith, ◌≡◌, ◌<◌, ℕ, ap, sym, ◌∙◌, subst, IsTrue}
 use mathlib.Core.Option.{some}
-use Rattle.shard_part.specs.Weights.{total, is}
+use Rattle.shard_store.specs.Totals.{total, is}
 use Rattle.post_floor.specs.Floor.{FinalView}
 use Rattle.post_floor.specs.Closing.{AllSeated}
 use Rattle.post_floor.proofs.Closing.{settles, join_last}

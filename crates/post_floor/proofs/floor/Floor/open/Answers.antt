@@ -1,5 +1,5 @@
 use Rattle.std.proofs.Common.{rules, ◌<◌, ◌+◌, [], length, map, ap, sym, ◌∙◌, subst, replicate}
-use Rattle.shard_part.specs.Moves.{IsPlanned}
+use Rattle.shard_store.specs.Setup.{IsPlanned}
 use Rattle.shard_part.specs.Opening.{opened_parts}
 use Rattle.atomic_table.specs.Table.{opening}
 use Rattle.post_floor.specs.Boxes.{box_count}
@@ -27,7 +27,7 @@ pub new-requires : goal.new-requires
 new-requires g c = let f = c.requires.fresh in
     let o0 = opened_first g.A.PathAlgebra.meaning f.0 c.args.parts.now c.args.plan.now c.index-parts-0.result c.shards-shards.result f.1 f.2
     c.shards-shards.ensures.count c.shards-shards.ensures.within.0 c.index-parts-0.is in
-    let q_is = (c.setup-setup.ensures ∙ ap (λ u. u.setup) c.deref.ensures) in
+    let q_is = c.setup-setup.ensures in
     let x = c.index-parts-0.result.setup in let n = o0.2 in
     subst (λ u. FloorInvariant g.A.PathAlgebra.meaning u
     (opening c.as_slice.result.now c.in_ok-slots.slots.items
@@ -43,7 +43,7 @@ seat_all-requires-clause-shards g c κs within =
     let f = c.requires.fresh in
     let o0 = opened_first g.A.PathAlgebra.meaning f.0 c.args.parts.now c.args.plan.now c.index-parts-0.result c.shards-shards.result f.1 f.2
     c.shards-shards.ensures.count c.shards-shards.ensures.within.0 c.index-parts-0.is in
-    let ok = c.in-Ok.ensures.ok in let key = ok.5 ∙ (c.setup-setup.ensures ∙ ap (λ u. u.setup) c.deref.ensures) in
+    let ok = c.in-Ok.ensures.ok in let key = ok.5 ∙ c.setup-setup.ensures in
     (ap (λ u. u.plan.shards) key ∙ o0.2, c.shards-shards.ensures.within.1)
 
 pub seat_all-requires-clause-parts : goal.seat_all-requires-clause-parts
@@ -51,8 +51,8 @@ seat_all-requires-clause-parts g c κs within =
     let f = c.requires.fresh in
     let o0 = opened_first g.A.PathAlgebra.meaning f.0 c.args.parts.now c.args.plan.now c.index-parts-0.result c.shards-shards.result f.1 f.2
     c.shards-shards.ensures.count c.shards-shards.ensures.within.0 c.index-parts-0.is in
-    let ok = c.in-Ok.ensures.ok in let key = ok.5 ∙ (c.setup-setup.ensures ∙ ap (λ u. u.setup) c.deref.ensures) in
-    let sh = ap (λ u. u.plan.shards) (c.setup-setup.ensures ∙ ap (λ u. u.setup) c.deref.ensures) ∙ o0.2 in
+    let ok = c.in-Ok.ensures.ok in let key = ok.5 ∙ c.setup-setup.ensures in
+    let sh = ap (λ u. u.plan.shards) c.setup-setup.ensures ∙ o0.2 in
     ok.4 ∙ (λ i. (knows (sh i) (opened_parts (g.A.PathAlgebra.meaning (sym ok.5 i).diffusion.algebra) (sym ok.5 i) 0 (sh i)), []))
 
 pub invariant_of-result : goal.invariant_of-result
@@ -60,7 +60,7 @@ invariant_of-result g c =
     let f = c.requires.fresh in
     let o0 = opened_first g.A.PathAlgebra.meaning f.0 c.args.parts.now c.args.plan.now c.index-parts-0.result c.shards-shards.result f.1 f.2
     c.shards-shards.ensures.count c.shards-shards.ensures.within.0 c.index-parts-0.is in
-    let ok = c.in-Ok.ensures.ok in let key = ok.5 ∙ (c.setup-setup.ensures ∙ ap (λ u. u.setup) c.deref.ensures) in
+    let ok = c.in-Ok.ensures.ok in let key = ok.5 ∙ c.setup-setup.ensures in
     let n = ap (λ u. u.plan.shards) key ∙ o0.2 in (
       record {
         words = ok.0 ∙ ap length (c.as_slice.ensures.value ∙ c.in_ok-words.ensures.items_if_clones_equal (λ y e. search rules)) ∙ length-replicate _ _
@@ -77,7 +77,7 @@ returns-clause-floor g c =
     let f = c.requires.fresh in
     let o0 = opened_first g.A.PathAlgebra.meaning f.0 c.args.parts.now c.args.plan.now c.index-parts-0.result c.shards-shards.result f.1 f.2
     c.shards-shards.ensures.count c.shards-shards.ensures.within.0 c.index-parts-0.is in
-    let ok = c.in-Ok.ensures.ok in let key = ok.5 ∙ (c.setup-setup.ensures ∙ ap (λ u. u.setup) c.deref.ensures) in
+    let ok = c.in-Ok.ensures.ok in let key = ok.5 ∙ c.setup-setup.ensures in
     let is = key ∙ o0.0 in
     (ap (λ u. u.plan) is ∙ f.2, all_opened g.A.PathAlgebra.meaning f.0 c.in-Ok.table.shared.key f.0.plan.shards c.args.parts.now f.1 is)
 
@@ -86,7 +86,7 @@ returns-clause-seats g c =
     let f = c.requires.fresh in
     let o0 = opened_first g.A.PathAlgebra.meaning f.0 c.args.parts.now c.args.plan.now c.index-parts-0.result c.shards-shards.result f.1 f.2
     c.shards-shards.ensures.count c.shards-shards.ensures.within.0 c.index-parts-0.is in
-    let ok = c.in-Ok.ensures.ok in let key = ok.5 ∙ (c.setup-setup.ensures ∙ ap (λ u. u.setup) c.deref.ensures) in
+    let ok = c.in-Ok.ensures.ok in let key = ok.5 ∙ c.setup-setup.ensures in
     c.in_ok-seats.ensures
     ∙ (λ i. map (seat_of c.in-Ok.table.shared.table_id (c.shards-shards.ensures.count i))
     (opened_parts (g.A.PathAlgebra.meaning (key i).diffusion.algebra) (key i) 0 c.shards-shards.result))

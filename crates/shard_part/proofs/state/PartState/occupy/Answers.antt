@@ -1,6 +1,6 @@
 use Rattle.std.proofs.Common.{true, rules, ap}
 use Rattle.shard_part.proofs.Busy.{occupy_keeps, busy_leaves, deficit_few}
-use Rattle.shard_part.specs.Places.{VertexAt, ArcAt}
+use Rattle.shard_store.specs.Places.{VertexAt, ArcAt}
 use Rattle.shard_part.proofs.state.PartState.occupy.Goals as goal
 
 pub overflow_add-deficit : goal.overflow_add-deficit

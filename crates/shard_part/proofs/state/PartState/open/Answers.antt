@@ -2,9 +2,10 @@ use Rattle.std.proofs.Common.{◌≡◌, rules, ap, sym, ◌∙◌, set, map, su
 use Rattle.scholten_core.specs.Network.{network}
 use Rattle.scholten_core.specs.Diffusion.{opening}
 use Rattle.scholten_core.specs.Sums.{one_if}
-use Rattle.shard_part.specs.PartState.{PartData, place_in}
+use Rattle.shard_part.specs.PartState.{PartData}
+use Rattle.shard_store.specs.Setup.{place_in}
 use Rattle.shard_part.specs.Represents.{HoldsShareIn}
-use Rattle.shard_part.specs.Moves.{rows_of}
+use Rattle.shard_store.specs.Rows.{rows_of}
 use Rattle.shard_part.proofs.TablesOpen.{sum_small, sum_first, made_seen, made_stored}
 use Rattle.shard_part.proofs.Opened.{opened_holds}
 use Rattle.shard_part.proofs.state.PartState.open.Goals as goal

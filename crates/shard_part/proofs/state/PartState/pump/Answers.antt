@@ -3,7 +3,7 @@ use Rattle.std.proofs.lemmas.List.{get_or_read}
 use Rattle.road_graph.specs.GraphData.{arc_of, road_of}
 use Rattle.shard_part.specs.Moves.{offered}
 use Rattle.shard_part.proofs.Pumping.{vertex_at, offered_none, inside_of, arc_at, row_found, tail_found, arc_found, listed_out, offered_more, offered_same, pump_done}
-use Rattle.shard_part.specs.Places.{VertexAt}
+use Rattle.shard_store.specs.Places.{VertexAt}
 use Rattle.shard_part.proofs.state.PartState.pump.Goals as goal
 
 pub out-outgoing-requires : goal.out-outgoing-requires

@@ -1,6 +1,6 @@
 use Rattle.std.proofs.Common.{Some, ap}
 use Rattle.shard_part.proofs.Moves.{label_leaves}
-use Rattle.shard_part.specs.Places.{VertexAt}
+use Rattle.shard_store.specs.Places.{VertexAt}
 use Rattle.shard_part.proofs.state.PartState.set_label.Goals as goal
 
 pub returns : goal.returns

@@ -1,6 +1,6 @@
 use Rattle.std.proofs.Common.{ap}
 use Rattle.shard_part.proofs.Moves.{told_keeps, told_leaves}
-use Rattle.shard_part.specs.Places.{ArcAt}
+use Rattle.shard_store.specs.Places.{ArcAt}
 use Rattle.shard_part.proofs.state.PartState.tell.Goals as goal
 
 pub invariant_of-self : goal.invariant_of-self

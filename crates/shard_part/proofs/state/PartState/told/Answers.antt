@@ -1,6 +1,6 @@
 use Rattle.std.proofs.Common.{ap}
 use Rattle.shard_part.proofs.Moves.{told_read}
-use Rattle.shard_part.specs.Places.{ArcAt}
+use Rattle.shard_store.specs.Places.{ArcAt}
 use Rattle.shard_part.proofs.state.PartState.told.Goals as goal
 
 pub returns : goal.returns

@@ -1,6 +1,5 @@
 use Rattle.std.proofs.Common.{subst, sym, ap, ◌∙◌, IfSome, ◌∷◌, []}
 use Rattle.path_algebra.specs.Walks.{IsWalkValue}
-use Rattle.shard_part.specs.PartState.{state_in}
 use Rattle.shard_part.specs.Readings.{IsOwn}
 use Rattle.station.proofs.Turns.{walks}
 use Rattle.station.proofs.station.Station.peek.Goals as goal
@@ -12,5 +11,4 @@ returns-clause-walk g c =
     (λ x. IsWalkValue (g.A.PathAlgebra.meaning z.part.setup.diffusion.algebra) z.part.setup.diffusion.roads (z.part.setup.diffusion.source ∷ [])
     c.args.v x)) c.self.view_is
     (walks g.A.PathAlgebra.meaning laws.lawful c.self.inside.part _ c.part_holds.ensures.planned c.self.invariant.0.known c.args.v
-    (subst (λ z. IsOwn z.part c.args.v) (sym c.self.view_is) c.requires) c.label.result
-    (c.label.ensures ∙ ap (λ u. (state_in u).label c.args.v) c.deref.ensures))
+    (subst (λ z. IsOwn z.part c.args.v) (sym c.self.view_is) c.requires) c.label.result c.label.ensures)

@@ -1,5 +1,0 @@
-use Rattle.shard_part.proofs.ShardLayouts.{planned_at}
-use Rattle.shard_part.proofs.store.layout.ShardLayout.holds.Goals as goal
-
-pub returns : goal.returns
-returns c = planned_at _ c.args.self.now c.self.view_is c.self.invariant

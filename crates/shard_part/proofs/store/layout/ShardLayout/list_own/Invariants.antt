@@ -1,7 +1,0 @@
-use Rattle.std.proofs.Common.{◌≡◌, ◌∷◌}
-use Rattle.shard_part.specs.Tables.{placed}
-use Rattle.shard_part.specs.PartState.{place_in}
-use Rattle.shard_part.proofs.store.layout.ShardLayout.list_own.Given as goal
-
-abbrev pub invariant-loop-i : goal.invariant-loop-i
-invariant-loop-i l = l.own.items ≡ 0 ∷ placed (place_in l.self.setup) l.self.shard 1 l.i

@@ -1,6 +1,0 @@
-use Rattle.std.proofs.Common.{◌≡◌, take}
-use Rattle.shard_part.specs.Weights.{total}
-use Rattle.shard_part.proofs.store.layout.sum_of.Given as goal
-
-abbrev pub invariant-loop-number : goal.invariant-loop-number
-invariant-loop-number l = l.sum ≡ total (λ n. n) (take l.number-index l.numbers)

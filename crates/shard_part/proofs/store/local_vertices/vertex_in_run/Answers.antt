@@ -1,6 +1,0 @@
-use Rattle.std.proofs.Common.{arith}
-use Rattle.std.proofs.lemmas.Grind.{common_steps}
-use Rattle.shard_part.proofs.store.local_vertices.vertex_in_run.Goals as goal
-
-pub returns-else-j-eq0-clause-behind : goal.returns-else-j-eq0-clause-behind
-returns-else-j-eq0-clause-behind c = grind (arith, common_steps)

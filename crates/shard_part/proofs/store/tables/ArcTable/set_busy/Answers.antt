@@ -1,5 +1,0 @@
-use Rattle.shard_part.proofs.Records.{busy_written}
-use Rattle.shard_part.proofs.store.tables.ArcTable.set_busy.Goals as goal
-
-pub returns : goal.returns
-returns g c = busy_written c.self.inside.marks.items c.self.inside.labels.items c.args.self.now c.args.i c.index_mut.result.now c.args.busy c.self.view_is c.index_mut.ensures.value

@@ -1,5 +1,0 @@
-use Rattle.shard_part.proofs.Records.{vertices_idle}
-use Rattle.shard_part.proofs.store.tables.VertexTable.idle.Goals as goal
-
-pub returns : goal.returns
-returns g c = vertices_idle c.in_ok-rows.rows.items c.args.n c.args.value c.in_ok-rows.ensures

@@ -1,0 +1,13 @@
+mod Ascending
+mod Blocks
+mod Increasing
+mod Records
+pub mod Totals
+pub mod Pieces
+pub mod Counting
+pub mod Places
+pub mod Spread
+pub mod Graphs
+pub mod CapacitiesByVertex
+mod ShardLayouts
+pub mod Sharing

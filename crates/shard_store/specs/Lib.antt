@@ -1,0 +1,11 @@
+pub mod Places
+pub mod Plans
+pub mod Tallies
+pub mod Tables
+pub mod Queue
+pub mod Totals
+pub mod Setup
+pub mod Outgoing
+pub mod Capacities
+pub mod Layout
+pub mod Rows

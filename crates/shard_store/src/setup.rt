@@ -1,0 +1,41 @@
+//! What all parts of a diffusion share.
+ghost use Rattle.std.specs.Prelude.{◌≡◌};
+
+use crate::plan::Plan;
+use road_graph::{Graph, Vertex};
+use std::marker::Model;
+use std::snapshot::Snapshot;
+
+/// A diffusion and its plan, for contracts. It has the graph and the plan as snapshots alone, so it may outlive both.
+#[derive(Drop)]
+pub struct Setup<A> {
+    algebra: A,
+    graph: Snapshot<Graph>,
+    plan: Snapshot<Plan>,
+    source: Vertex,
+}
+
+impl<A> Model for Setup<A> {
+    ghost use Rattle.shard_store.specs.Setup.{SetupData};
+
+    ghost Value = { SetupData A };
+
+    ghost view = { λ q. record { diffusion = record { algebra = q.algebra; roads = q.graph.value; source = q.source }; plan = q.plan.value } };
+}
+
+impl<A> Setup<A> {
+    /// The diffusion of an algebra over a graph from a source, and its plan.
+    pub fn new(algebra: A, graph: &Graph, plan: &Plan, source: Vertex) -> Setup<A>
+        ensures { result ≡ record {
+          diffusion = record { algebra = algebra; roads = graph.now; source = source };
+          plan = plan.now;
+        } }
+    {
+        Setup {
+            algebra,
+            graph: Snapshot::of(graph),
+            plan: Snapshot::of(plan),
+            source,
+        }
+    }
+}

@@ -3,7 +3,7 @@ use Rattle.std.specs.Prelude.{◌≡◌, ◌↔◌, ◌⊎◌, ℕ, List, true, 
 use Rattle.std.specs.Option.{option_map}
 use Rattle.batch_run.specs.declared.settings.Settings.{Settings}
 use Rattle.batch_run.specs.Runs.{Output}
-use Rattle.program.specs.declared.args.parsed.WatchOptions.{WatchOptions}
+use Rattle.command_args.specs.declared.parsed.WatchOptions.{WatchOptions}
 use Rattle.program.specs.Reports.{IsUsage, ReportsFault, run_fault}
 
 -- trying to create the file of a name leads from one state of the files to another

@@ -2,7 +2,6 @@
 #![tactic(auto)]
 
 mod algebra_choice;
-mod args;
 mod command_line;
 mod commands;
 mod faults;
@@ -13,7 +12,7 @@ mod reports;
 mod watch;
 
 pub use algebra_choice::{AlgebraChoice, choose};
-pub use args::{
+pub use command_args::{
     BundleArgs, CheckArgs, RunOptions, ServeArgs, SolveArgs, Subcommand, WatchOptions, parse_args,
 };
 pub use command_line::{run, run_command_line};

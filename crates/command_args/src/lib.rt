@@ -1,4 +1,5 @@
 //! The command line: its arguments, what help says of them, and what the words of one ask for.
+#![tactic(auto)]
 
 mod clap_command;
 mod help;

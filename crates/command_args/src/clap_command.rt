@@ -1,5 +1,5 @@
 //! The arguments of the command line, and what help says of them.
-use crate::args::help::{
+use crate::help::{
     ACCOUNTS, ALGEBRA, ANSWERS, BUDGET, BUNDLE, EXPLAINED, GRAPH, JUDGED, LIMIT, LIMIT_OF_ANSWERS,
     NAMES, NUMBERS, PLAIN, PROGRESS, PURPOSE, QUESTIONS, REPLIES, SERVE, SERVED_GRAPH, SHARDS,
     STATUSES, TURNS, VERDICT, VERDICTS, VERSION, WIDTH, WORKERS,

@@ -1,5 +1,5 @@
 //! What the words of a command line ask for.
-use crate::args::clap_command::command;
+use crate::clap_command::command;
 use batch_run::Settings;
 use clap::{ArgMatches, Error};
 use std::alloc::{AllocError, Global};

@@ -1,16 +1,16 @@
 //! How a command ends: what it shows, the line of a fault, and the exit status.
 ghost use Rattle.std.specs.Prelude.{◌≡◌};
 ghost use Rattle.batch_run.specs.Runs.{output};
-ghost use Rattle.program.specs.Reports.{Complains, EndsAs, Reaches, ReportsFault, fault_text, status_of};
+ghost use Rattle.fault_reports.specs.Reports.{Complains, EndsAs, Reaches, ReportsFault, fault_text, status_of};
 
 use batch_run::{RunFault, WRITE, fault_of_run};
 use road_text::{Line, RoadWrite, push_number, write_bytes};
 
 /// The exit status of wrong usage.
-pub(crate) const USAGE: u8 = 2;
+pub const USAGE: u8 = 2;
 
 /// The line that reports a fault.
-pub(crate) fn line_of_fault(fault: RunFault) -> Line
+fn line_of_fault(fault: RunFault) -> Line
     ensures { result.bytes ≡ fault_text fault }
 {
     let mut line = Line::new();
@@ -26,7 +26,7 @@ pub(crate) fn line_of_fault(fault: RunFault) -> Line
 }
 
 /// The exit status of a fault.
-pub(crate) fn status_of(number: u8) -> u8
+fn status_of(number: u8) -> u8
     ensures { result ≡ status_of number }
 {
     match number {
@@ -48,7 +48,7 @@ pub fn report<E: RoadWrite>(errors: &mut E, fault: RunFault) -> u8
 }
 
 /// Ends a command: a fault is reported, and gives its status; else the status is 0.
-pub(crate) fn end_with<E: RoadWrite>(errors: &mut E, outcome: Result<(), RunFault>) -> u8
+pub fn end_with<E: RoadWrite>(errors: &mut E, outcome: Result<(), RunFault>) -> u8
     ensures { EndsAs (λ _. 0)
         (output E.written E.held E.failures errors.old) (output E.written E.held E.failures errors.new) outcome result }
 {
@@ -59,7 +59,7 @@ pub(crate) fn end_with<E: RoadWrite>(errors: &mut E, outcome: Result<(), RunFaul
 }
 
 /// Writes a text on the output, and flushes it.
-pub(crate) fn show<W: RoadWrite>(out: &mut W, text: &[u8]) -> Result<(), RunFault>
+pub fn show<W: RoadWrite>(out: &mut W, text: &[u8]) -> Result<(), RunFault>
     ensures { Reaches text.now
         (output W.written W.held W.failures out.old) (output W.written W.held W.failures out.new) result }
 {
@@ -73,7 +73,7 @@ pub(crate) fn show<W: RoadWrite>(out: &mut W, text: &[u8]) -> Result<(), RunFaul
 }
 
 /// Says on the error output what is wrong with a command line, and gives the exit status.
-pub(crate) fn complain<E: RoadWrite>(errors: &mut E, text: &[u8]) -> u8
+pub fn complain<E: RoadWrite>(errors: &mut E, text: &[u8]) -> u8
     ensures { Complains text.now
         (output E.written E.held E.failures errors.old) (output E.written E.held E.failures errors.new) result }
 {

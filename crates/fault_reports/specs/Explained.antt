@@ -2,8 +2,8 @@
 use Rattle.std.specs.Prelude.{◌≡◌, ◌≢◌, ℕ, ◌⊎◌, List, [], ◌∷◌, ◌++◌, Result, All, Any, Contains, codes, decimal, flat_map, map}
 use Rattle.batch_run.specs.declared.faults.RunFault.{RunFault}
 use Rattle.batch_run.specs.Runs.{Output}
-use Rattle.program.specs.declared.faults.rows.FaultRow.{FaultRow}
-use Rattle.program.specs.Reports.{EndsAs, IsUsage, Reaches, ReportsFault, run_fault}
+use Rattle.fault_reports.specs.declared.rows.FaultRow.{FaultRow}
+use Rattle.fault_reports.specs.Reports.{EndsAs, IsUsage, Reaches, ReportsFault, run_fault}
 
 -- the lines of a row: what the fault says, an example, and what it usually comes from
 abbrev pub row_text : FaultRow → List ℕ

@@ -1,7 +1,7 @@
 //! The table of faults.
-ghost use Rattle.program.specs.Explained.{IsFaultTable};
+ghost use Rattle.fault_reports.specs.Explained.{IsFaultTable};
 
-use crate::faults::rows::FaultRow;
+use crate::rows::FaultRow;
 
 /// The faults that a command can end with, and the one of a caller's gate.
 const FAULTS: &[FaultRow] = &[

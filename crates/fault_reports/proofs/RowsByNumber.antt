@@ -1,7 +1,7 @@
 -- Rows that were asked for by their numbers.
 use Rattle.std.proofs.Common.{◌≡◌, ℕ, ◌+◌, ◌<◌, List, [], ◌∷◌, ◌++◌, length, map, take, get_or, ap, sym, ◌∙◌}
 use Rattle.std.proofs.lemmas.List.{map-append, take_more}
-use Rattle.program.specs.declared.faults.rows.FaultRow.{FaultRow}
+use Rattle.fault_reports.specs.declared.rows.FaultRow.{FaultRow}
 
 -- the row of one number more
 pub row_more : (numbers : List ℕ) (rows : List FaultRow) (i : ℕ) (row : FaultRow) → i < length numbers → row.number ≡ get_or numbers i 0 → map (λ row. row.number) rows ≡ take i numbers → map (λ row. row.number) (rows ++ row ∷ []) ≡ take (i + 1) numbers

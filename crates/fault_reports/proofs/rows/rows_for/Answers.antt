@@ -1,8 +1,8 @@
 use Rattle.std.proofs.Common.{ap, ◌∙◌, map}
 use Rattle.std.proofs.lemmas.List.Elements.{All-push, All-same}
 use Rattle.std.specs.List.{Contains}
-use Rattle.program.proofs.RowsByNumber.{row_more}
-use Rattle.program.proofs.faults.rows.rows_for.Goals as goal
+use Rattle.fault_reports.proofs.RowsByNumber.{row_more}
+use Rattle.fault_reports.proofs.rows.rows_for.Goals as goal
 
 pub loop-number-preserved : goal.loop-number-preserved
 loop-number-preserved c =

@@ -1,7 +1,7 @@
 //! What is said of faults by their numbers.
 ghost use Rattle.std.specs.Prelude.{◌≡◌, Some, Any, IfOk, IfSome, IfNone, flat_map, string_bytes};
 ghost use Rattle.batch_run.specs.Runs.{output};
-ghost use Rattle.program.specs.Explained.{AreAskedFor, Explains, HasNoRow, IsRowOf, row_text};
+ghost use Rattle.fault_reports.specs.Explained.{AreAskedFor, Explains, HasNoRow, IsRowOf, row_text};
 
 use crate::reports::{complain, end_with, report, show};
 use batch_run::fault_of_run;

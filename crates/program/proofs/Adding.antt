@@ -8,7 +8,7 @@ use Rattle.road_text.specs.Written.{Wrote}
 use Rattle.batch_run.specs.declared.faults.RunFault.{RunFault}
 use Rattle.batch_run.specs.Runs.{output}
 use Rattle.program.specs.Watching.{Account, AreKept, AreLost, EndsAccounts, HasAccounts, IsAdded}
-use Rattle.program.proofs.Written.{left_appends}
+use Rattle.fault_reports.proofs.Written.{left_appends}
 
 -- nothing was added
 pub added_none : (old : Option (List ℕ)) (b : ℕ) → IsAdded old old b b []

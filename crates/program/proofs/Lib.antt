@@ -1,7 +1,5 @@
 mod Opening
-mod Written
 mod Ungated
-mod RowsByNumber
 mod ShortNames
 mod AccountLines
 mod Adding

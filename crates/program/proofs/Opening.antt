@@ -3,7 +3,7 @@ use Rattle.std.proofs.Common.{◌≡◌, ◌≢◌, ◌⊎◌, inl, inr, ℕ, Li
 use Rattle.batch_run.specs.declared.faults.File.TheVariants.{Graph, Questions, Answers}
 use Rattle.batch_run.specs.declared.faults.RunFault.{RunFault}
 use Rattle.batch_run.specs.Runs.{Output}
-use Rattle.program.specs.Reports.{ReportsFault}
+use Rattle.fault_reports.specs.Reports.{ReportsFault}
 use Rattle.program.specs.Files.{Opens, OpensEach, OpensInput, IsMissing, CannotOpen, missing}
 use Rattle.program.specs.Inputs.{stdin_name}
 

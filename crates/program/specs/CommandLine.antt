@@ -6,15 +6,15 @@ use Rattle.path_algebra.specs.declared.name.AlgebraName.{AlgebraName}
 use Rattle.path_algebra.specs.Names.{name_of_text}
 use Rattle.batch_run.specs.declared.faults.RunFault.{RunFault}
 use Rattle.program.specs.declared.algebra_choice.AlgebraChoice.{AlgebraChoice}
-use Rattle.program.specs.declared.args.parsed.BundleArgs.{BundleArgs}
-use Rattle.program.specs.declared.args.parsed.ServeArgs.{ServeArgs}
-use Rattle.program.specs.declared.args.parsed.SolveArgs.{SolveArgs}
-use Rattle.program.specs.declared.args.parsed.Subcommand.{Subcommand}
-use Rattle.program.specs.declared.args.parsed.Subcommand.TheVariants.{Solve, Bundle, Serve, Check, Faults}
-use Rattle.program.specs.declared.faults.rows.FaultRow.{FaultRow}
+use Rattle.command_args.specs.declared.parsed.BundleArgs.{BundleArgs}
+use Rattle.command_args.specs.declared.parsed.ServeArgs.{ServeArgs}
+use Rattle.command_args.specs.declared.parsed.SolveArgs.{SolveArgs}
+use Rattle.command_args.specs.declared.parsed.Subcommand.{Subcommand}
+use Rattle.command_args.specs.declared.parsed.Subcommand.TheVariants.{Solve, Bundle, Serve, Check, Faults}
+use Rattle.fault_reports.specs.declared.rows.FaultRow.{FaultRow}
 use Rattle.program.specs.Choices.{CannotBe, limit_of, name_of}
-use Rattle.program.specs.Reports.{EndsAs, IsUsage, Reaches, ReportsFault, run_fault}
-use Rattle.program.specs.Explained.{Explains, IsFaultTable}
+use Rattle.fault_reports.specs.Reports.{EndsAs, IsUsage, Reaches, ReportsFault, run_fault}
+use Rattle.fault_reports.specs.Explained.{Explains, IsFaultTable}
 use Rattle.batch_run.specs.Runs.{Output}
 use Rattle.program.specs.OptionalWatch.{UnlessUncounted, Creates}
 use Rattle.program.specs.Files.{Opens, SolvesFiles, BundlesStdin, ServesFile, ChecksFiles}

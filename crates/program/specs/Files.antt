@@ -6,11 +6,11 @@ use Rattle.batch_run.specs.declared.faults.RunFault.{RunFault}
 use Rattle.batch_run.specs.declared.settings.Settings.{Settings}
 use Rattle.program.specs.declared.algebra_choice.AlgebraChoice.{AlgebraChoice}
 use Rattle.program.specs.declared.opened_input.OpenedInput.{OpenedInput}
-use Rattle.program.specs.Reports.{IsUsage, ReportsFault}
+use Rattle.fault_reports.specs.Reports.{IsUsage, ReportsFault}
 use Rattle.batch_run.specs.Runs.{Input, Output}
 use Rattle.program.specs.Inputs.{NamesStdinOnce, IsNamed, stdin_name}
 use Rattle.batch_run.specs.Ran.{IsBundleOf, IsPairOf}
-use Rattle.program.specs.declared.args.parsed.WatchOptions.{WatchOptions}
+use Rattle.command_args.specs.declared.parsed.WatchOptions.{WatchOptions}
 use Rattle.program.specs.Runs.{Solves, Bundles, RanBundleUnder, RanPairUnder, Serves}
 use Rattle.program.specs.Watching.{EndsWatched}
 use Rattle.program.specs.OptionalWatch.{Creates, WatchesIfAsked}

@@ -5,7 +5,7 @@ use Rattle.answer_check.specs.declared.verdict.Verdict.{Verdict}
 use Rattle.batch_run.specs.declared.faults.File.TheVariants.{Graph, Questions, Answers, NoFile}
 use Rattle.batch_run.specs.declared.faults.RunFault.{RunFault}
 use Rattle.batch_run.specs.Ran.{IsGraphFault, IsQuestionsFault}
-use Rattle.program.specs.Reports.{EndsAs}
+use Rattle.fault_reports.specs.Reports.{EndsAs}
 use Rattle.batch_run.specs.Runs.{Input, Output}
 use Rattle.program.specs.Verdicts.{IsJudged, IsAnswersFault, IsOwnFault, IsLimitFault, IsReadingFault, verdict_text, verdict_status}
 

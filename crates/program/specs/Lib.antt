@@ -1,12 +1,10 @@
 pub mod Choices
 pub mod Under
-pub mod Reports
 pub mod Runs
 pub mod Verdicts
 pub mod Judgements
 pub mod Inputs
 pub mod Files
-pub mod Explained
 pub mod Accounts
 pub mod Progress
 pub mod Watching

@@ -3,8 +3,8 @@ use Rattle.std.specs.Prelude.{◌≡◌, ◌↔◌, ◌⊎◌, ℕ, List, true, 
 use Rattle.std.specs.Option.{option_map}
 use Rattle.batch_run.specs.declared.settings.Settings.{Settings}
 use Rattle.batch_run.specs.Runs.{Output}
-use Rattle.program.specs.declared.args.parsed.WatchOptions.{WatchOptions}
-use Rattle.program.specs.Reports.{IsUsage, ReportsFault, run_fault}
+use Rattle.command_args.specs.declared.parsed.WatchOptions.{WatchOptions}
+use Rattle.fault_reports.specs.Reports.{IsUsage, ReportsFault, run_fault}
 
 -- trying to create the file of a name leads from one state of the files to another
 abbrev pub Creates : Type 0 → Type 1

@@ -5,7 +5,7 @@ use Rattle.batch_run.specs.declared.settings.Settings.{Settings}
 use Rattle.batch_run.specs.Runs.{Input, Output, RanPair, RanBundle}
 use Rattle.service.specs.Served.{RanService}
 use Rattle.program.specs.declared.algebra_choice.AlgebraChoice.{AlgebraChoice}
-use Rattle.program.specs.Reports.{EndsAs}
+use Rattle.fault_reports.specs.Reports.{EndsAs}
 use Rattle.program.specs.Under.{Under}
 
 -- the gate of the program is always open: whichever worker asks before whichever turn, its answer is true

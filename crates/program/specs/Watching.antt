@@ -15,7 +15,7 @@ use Rattle.program.specs.declared.watch.watcher.Watch.{Watch}
 use Rattle.program.specs.Accounts.{account_of, accounts_text}
 use Rattle.program.specs.Progress.{all_after, progress_text, shown_at}
 use Rattle.program.specs.Choices.{name_of}
-use Rattle.program.specs.Reports.{EndsAs, Reaches, run_fault}
+use Rattle.fault_reports.specs.Reports.{EndsAs, Reaches, run_fault}
 use Rattle.program.specs.Under.{Under}
 
 -- the text was added, and no write failed; or a write failed

@@ -3,14 +3,13 @@ ghost use Rattle.clap.specs.Values.{kind_of};
 ghost use Rattle.program.specs.CommandLine.{DoesCommandLine, DoesSubcommand, IsSaid};
 ghost use Rattle.batch_run.specs.Runs.{output};
 
-use crate::args::{Subcommand, parse_args};
 use crate::commands::{bundle_with_options, check_files, serve_with_options, solve_with_options};
-use crate::faults::{all_faults, explain};
 use crate::files::{FileSystem, HostFiles};
-use crate::reports::{USAGE, complain, end_with, report, show};
 use batch_run::fault_of_run;
 use clap::Error;
 use clap::error::ErrorKind;
+use command_args::{Subcommand, parse_args};
+use fault_reports::{USAGE, all_faults, complain, end_with, explain, report, show};
 use road_text::{Buffered, MEMORY, Plain, RoadWrite};
 use std::alloc::{AllocError, Global};
 use std::io::Write;

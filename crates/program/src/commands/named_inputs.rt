@@ -6,13 +6,13 @@ ghost use Rattle.program.specs.Files.{IsMissing, OpensEach, OpensInput, SolvesFi
 ghost use Rattle.program.specs.Inputs.{NamesStdinOnce, IsNamed, stdin_name, of_input};
 
 use crate::algebra_choice::AlgebraChoice;
-use crate::args::WatchOptions;
 use crate::commands::streams::{check, serve};
 use crate::files::FileSystem;
 use crate::opened_input::OpenedInput;
-use crate::reports::{complain, report};
 use crate::watch::{bundle_input, solve_inputs};
 use batch_run::{File, RunFault, Settings};
+use command_args::WatchOptions;
+use fault_reports::{complain, report};
 use road_text::{READ_FAILED, RoadWrite};
 use std::alloc::Global;
 use std::sync::Wait;

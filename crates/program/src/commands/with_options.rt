@@ -7,11 +7,11 @@ ghost use Rattle.program.specs.OptionalWatch.{IsUncounted};
 ghost use Rattle.batch_run.specs.Runs.{output};
 
 use crate::algebra_choice::{AlgebraChoice, choose};
-use crate::args::{BundleArgs, RunOptions, ServeArgs, SolveArgs, WatchOptions};
 use crate::commands::named_inputs::{bundle_stdin, serve_stdin, solve_files};
 use crate::files::FileSystem;
-use crate::reports::{complain, report};
 use batch_run::{File, RunFault, SETTINGS, Settings, fault_of_run};
+use command_args::{BundleArgs, RunOptions, ServeArgs, SolveArgs, WatchOptions};
+use fault_reports::{complain, report};
 use path_algebra::AlgebraName;
 use road_text::RoadWrite;
 use std::sync::Wait;

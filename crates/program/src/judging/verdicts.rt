@@ -3,11 +3,11 @@ ghost use Rattle.std.specs.Prelude.{◌≡◌, ◌<◌, [], OnOk, IfErr, OnErr};
 ghost use Rattle.std.specs.Io.KnownBytes.{Appends};
 ghost use Rattle.program.specs.Verdicts.{verdict_text, verdict_status};
 ghost use Rattle.batch_run.specs.Runs.{output};
-ghost use Rattle.program.specs.Reports.{EndsAs};
+ghost use Rattle.fault_reports.specs.Reports.{EndsAs};
 
-use crate::reports::report;
 use answer_check::Verdict;
 use batch_run::{File, RunFault, WRITE, fault_of_run};
+use fault_reports::report;
 use road_text::{Line, RoadWrite, push_spaced, write_bytes};
 
 /// The line of a verdict.
@@ -36,7 +36,7 @@ pub fn line_of_verdict(verdict: Verdict) -> Line
 }
 
 /// Writes the line of a verdict, and flushes it.
-#[tactic(auto, using(crate::proofs::Written::told_whole))]
+#[tactic(auto, using(fault_reports::proofs::Written::told_whole))]
 pub fn write_verdict<W: RoadWrite>(to: &mut W, verdict: Verdict) -> Result<(), RunFault>
     ensures told { OnOk result (Appends (W.written to.old) (W.written to.new)
         (verdict_text verdict)) }

@@ -2,16 +2,16 @@
 ghost use Rattle.std.specs.Prelude.{◌≡◌, ◌↔◌, IfErr, IfOk, IsSome, IsTrue};
 ghost use Rattle.batch_run.specs.Runs.{input, output};
 ghost use Rattle.program.specs.Files.{BundlesInput, SolvesInputs};
-ghost use Rattle.program.specs.Reports.{run_fault};
+ghost use Rattle.fault_reports.specs.Reports.{run_fault};
 ghost use Rattle.program.specs.OptionalWatch.{IsUnwatched, CreatesIf, accounts_name};
 
 use crate::algebra_choice::AlgebraChoice;
-use crate::args::WatchOptions;
 use crate::commands::{bundle, solve};
 use crate::files::FileSystem;
-use crate::reports::report;
 use crate::watch::watched_commands::{bundle_watched, solve_watched};
 use batch_run::{RunFault, Settings, WRITE, fault_of_run};
+use command_args::WatchOptions;
+use fault_reports::report;
 use road_text::{RoadRead, RoadWrite};
 use std::alloc::Global;
 use std::sync::Wait;

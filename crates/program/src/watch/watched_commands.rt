@@ -7,12 +7,12 @@ ghost use Rattle.program.specs.Runs.{RanBundleUnder, RanPairUnder};
 ghost use Rattle.program.specs.Watching.{EndsAccounts, EndsWatched, WatchedUnder, outcome_of};
 
 use crate::algebra_choice::{AlgebraChoice, with_algebra};
-use crate::reports::end_with;
 use crate::watch::watcher::Watch;
 use batch_run::{
     OpenGate, RunFault, Settings, WRITE, Watcher, fault_of_run, run_bundle_watched,
     run_pair_watched,
 };
+use fault_reports::end_with;
 use road_text::{RoadRead, RoadWrite};
 use std::alloc::Global;
 use std::sync::Wait;

@@ -4,7 +4,7 @@ use Rattle.batch_run.specs.Ran.{IsBundleOf}
 use Rattle.batch_run.specs.Runs.{output}
 use Rattle.program.specs.Accounts.{accounts_text}
 use Rattle.program.specs.Choices.{name_of}
-use Rattle.program.specs.Reports.{EndsAs}
+use Rattle.fault_reports.specs.Reports.{EndsAs}
 use Rattle.program.specs.Watching.{EndsAccounts, HasAccounts, Notes, outcome_of}
 use Rattle.program.proofs.Adding.{account}
 use Rattle.program.proofs.Noted.{noted_all, under_told}

@@ -1,0 +1,10 @@
+//! The command line: its arguments, what help says of them, and what the words of one ask for.
+#![tactic(auto)]
+
+mod clap_command;
+mod help;
+mod parsed;
+
+pub use parsed::{
+    BundleArgs, CheckArgs, RunOptions, ServeArgs, SolveArgs, Subcommand, WatchOptions, parse_args,
+};

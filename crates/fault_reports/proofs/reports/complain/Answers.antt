@@ -1,0 +1,6 @@
+use Rattle.std.proofs.Common.{refl}
+use Rattle.fault_reports.proofs.Written.{wrote_reported}
+use Rattle.fault_reports.proofs.reports.complain.Goals as goal
+
+pub returns : goal.returns
+returns g c = (refl, wrote_reported _ _ _ _ _ _ refl c.write_bytes.result c.write_bytes.ensures)

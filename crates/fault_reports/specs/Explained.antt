@@ -1,0 +1,49 @@
+-- What is said of faults by their numbers.
+use Rattle.std.specs.Prelude.{◌≡◌, ◌≢◌, ℕ, ◌⊎◌, List, [], ◌∷◌, ◌++◌, Result, All, Any, Contains, codes, decimal, flat_map, map}
+use Rattle.batch_run.specs.declared.faults.RunFault.{RunFault}
+use Rattle.batch_run.specs.Runs.{Output}
+use Rattle.fault_reports.specs.declared.rows.FaultRow.{FaultRow}
+use Rattle.fault_reports.specs.Reports.{EndsAs, IsUsage, Reaches, ReportsFault, run_fault}
+
+-- the lines of a row: what the fault says, an example, and what it usually comes from
+abbrev pub row_text : FaultRow → List ℕ
+row_text row =
+    codes "fault " ++ decimal row.number ++ codes ": " ++ row.meaning.now
+    ++ 10 ∷ codes "  example: " ++ row.example.now
+    ++ 10 ∷ codes "  cause: " ++ row.cause.now ++ 10 ∷ []
+
+-- the numbers of the faults, in order
+abbrev pub fault_numbers : List ℕ
+fault_numbers = 1 ∷ 2 ∷ 3 ∷ 10 ∷ 11 ∷ 12 ∷ 13 ∷ 14 ∷ 15 ∷ 16 ∷ 17 ∷ 18 ∷ 19 ∷ 30 ∷ 31 ∷ 32 ∷ 33 ∷ 34 ∷ 35 ∷ 36 ∷ 40 ∷ 41 ∷ 42 ∷ 43 ∷ []
+
+-- a table with one row for each fault, in the order of their numbers
+abbrev pub IsFaultTable : List FaultRow → Type 0
+IsFaultTable table = map (λ row. row.number) table ≡ fault_numbers
+
+-- a row of this table, with this number
+abbrev pub IsRowOf : List FaultRow → ℕ → FaultRow → Type 0
+IsRowOf table number row = (row.number ≡ number) × Contains table row
+
+-- no row of this table has this number
+abbrev pub HasNoRow : List FaultRow → ℕ → Type 0
+HasNoRow table number = All (λ row. row.number ≢ number) table
+
+-- the rows of a table that are asked for: those of these numbers, in this order, and without a number all
+abbrev pub AreAskedFor : List FaultRow → List ℕ → List FaultRow → Type 0
+AreAskedFor table [] rows = rows ≡ table
+AreAskedFor table (number ∷ numbers) rows = (map (λ row. row.number) rows ≡ number ∷ numbers) × All (Contains table) rows
+
+-- the rows that were asked for reached the output, with status 0; or they could not be written, which is reported as fault 42
+pub record AreShown {W E : Type 0} (table : List FaultRow) (numbers : List ℕ) (out out_after : Output W) (errors errors_after : Output E) (result : ℕ) : Type 0 where
+  pub rows : List FaultRow
+  pub asked : AreAskedFor table numbers rows
+  pub outcome : Result (Unit {0}) RunFault
+  pub reaches : Reaches (flat_map row_text rows) out out_after outcome
+  pub ends : EndsAs (λ _. 0) errors errors_after outcome result
+
+-- the rows of these numbers were shown; or one of them has no row, which is wrong usage; or memory was refused
+abbrev pub Explains : {W E : Type 0} → List FaultRow → List ℕ → Output W → Output W → Output E → Output E → ℕ → Type 0
+Explains table numbers out out_after errors errors_after result =
+    AreShown table numbers out out_after errors errors_after result
+    ⊎ ((Any (HasNoRow table) numbers × IsUsage out out_after errors errors_after result)
+    ⊎ ((out_after ≡ out) × ReportsFault (run_fault 3) errors errors_after result))

@@ -1,6 +1,0 @@
-use Rattle.std.proofs.Common.{refl}
-use Rattle.program.proofs.Written.{wrote_reported}
-use Rattle.program.proofs.reports.complain.Goals as goal
-
-pub returns : goal.returns
-returns g c = (refl, wrote_reported _ _ _ _ _ _ refl c.write_bytes.result c.write_bytes.ensures)

@@ -1,9 +1,0 @@
-//! The command line: its arguments, what help says of them, and what the words of one ask for.
-
-mod clap_command;
-mod help;
-mod parsed;
-
-pub use parsed::{
-    BundleArgs, CheckArgs, RunOptions, ServeArgs, SolveArgs, Subcommand, WatchOptions, parse_args,
-};

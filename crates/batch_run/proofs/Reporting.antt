@@ -10,8 +10,8 @@ use Rattle.road_graph.specs.GraphData.{GraphData}
 use Rattle.road_files.specs.Asked.{Question, Asked, sources_of}
 use Rattle.path_algebra.specs.Algebra.{Algebra}
 use Rattle.path_algebra.specs.Walks.{AreBest}
-use Rattle.shard_part.specs.Plans.{PlanData}
-use Rattle.shard_part.specs.PartState.{SetupData}
+use Rattle.shard_store.specs.Plans.{PlanData}
+use Rattle.shard_store.specs.Setup.{SetupData}
 use Rattle.station.specs.declared.gathering.Gathered.{Gathered}
 use Rattle.station.specs.Gather.{IsGathered}
 use Rattle.batch_run.specs.declared.solve.diffusion.EndedDiffusion.{EndedDiffusion}

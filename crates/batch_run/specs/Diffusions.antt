@@ -2,8 +2,8 @@
 use Rattle.std.specs.Prelude.{◌≡◌, ℕ, ◌<◌, List, length, true, Option, IfSome}
 use Rattle.std.specs.List.{All}
 use Rattle.road_graph.specs.GraphData.{GraphData, HasVertex}
-use Rattle.shard_part.specs.Plans.{PlanData}
-use Rattle.shard_part.specs.PartState.{SetupData}
+use Rattle.shard_store.specs.Plans.{PlanData}
+use Rattle.shard_store.specs.Setup.{SetupData}
 use Rattle.post_floor.specs.Data.{FloorData}
 use Rattle.station.specs.Station.{StationData, BelongsTo}
 use Rattle.worker_fleet.specs.Groups.{HasShard}

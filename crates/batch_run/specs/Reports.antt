@@ -6,8 +6,8 @@ use Rattle.std.specs.List.{AllZip, flat_map}
 use Rattle.road_graph.specs.GraphData.{GraphData}
 use Rattle.road_files.specs.Asked.{Question, Asked, sources_of}
 use Rattle.path_algebra.specs.Algebra.{Algebra}
-use Rattle.shard_part.specs.declared.tally.Tally.{Tally}
-use Rattle.shard_part.specs.Plans.{PlanData}
+use Rattle.shard_store.specs.declared.tally.Tally.{Tally}
+use Rattle.shard_store.specs.Plans.{PlanData}
 use Rattle.station.specs.Gather.{IsGathered}
 use Rattle.batch_run.specs.declared.faults.File.TheVariants.{NoFile}
 use Rattle.batch_run.specs.declared.faults.RunFault.{RunFault}

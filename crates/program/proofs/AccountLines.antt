@@ -5,7 +5,7 @@ use Rattle.std.proofs.lemmas.Grind.{common_steps}
 use Rattle.road_text.specs.Texts.{spelled}
 use Rattle.road_text.specs.Written.{WrotePrefix, FailedAfterPrefix, Wrote}
 use Rattle.road_text.proofs.WriteLaws.{wrote_then, fell_first}
-use Rattle.shard_part.specs.declared.tally.Tally.{Tally}
+use Rattle.shard_store.specs.declared.tally.Tally.{Tally}
 use Rattle.program.specs.Accounts.{account_text, counts_text, full_words, owner_text}
 
 -- both parts are the line

@@ -3,7 +3,7 @@ use Rattle.std.specs.Prelude.{ℕ, List, [], ◌∷◌, ◌++◌, Bool, codes, d
 use Rattle.path_algebra.specs.Names.{name_text}
 use Rattle.path_algebra.specs.declared.name.AlgebraName.{AlgebraName}
 use Rattle.road_text.specs.Texts.{spelled}
-use Rattle.shard_part.specs.declared.tally.Tally.{Tally}
+use Rattle.shard_store.specs.declared.tally.Tally.{Tally}
 use Rattle.batch_run.specs.declared.watcher.Report.{Report}
 use Rattle.batch_run.specs.declared.watcher.Report.TheVariants.{Begun, Gathered, Answered}
 

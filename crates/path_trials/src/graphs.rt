@@ -180,8 +180,27 @@ fn outgoing_refusals_hand_back(rt: HostRuntime) {
     assert!(rt; taken.roads_from(Vertex(3)) == [road(1, 8)].as_slice());
 }
 
+/// Arcs that are known to join the vertices make a graph without a test of their ends.
+#[test]
+fn known_arcs(rt: HostRuntime) {
+    let alloc = rt.alloc();
+    let only = RoadArc {
+        tail: Vertex(2),
+        head: Vertex(1),
+        weight: 7,
+    };
+    let arcs = vec![in alloc; only].expect(&rt, "memory");
+    let graph = Graph::of_arcs(alloc, 2, arcs).expect(&rt, "memory");
+    assert!(rt; graph.arc(ArcNo(1)) == only);
+    assert!(rt; graph.out(Vertex(1)).is_empty());
+    let arcs = vec![in alloc; only].expect(&rt, "memory");
+    let out = OutGraph::of_arcs(alloc, 2, arcs).expect(&rt, "memory");
+    assert!(rt; out.roads_from(Vertex(2)) == [road(1, 7)].as_slice());
+    assert!(rt; out.roads_from(Vertex(1)).is_empty());
+}
+
 /// Asserts that the graph gives each of its arcs, and its index among those that leave its tail.
-fn tells_each(rt: &impl Abort, graph: &Graph) {
+fn assert_each_arc(rt: &impl Abort, graph: &Graph) {
     assert!(rt; graph.arcs() == 6);
     let expected = [
         (arc(3, 2, 2), 0),
@@ -206,12 +225,12 @@ fn tells_each(rt: &impl Abort, graph: &Graph) {
 fn arcs_by_number(rt: HostRuntime) {
     let alloc = rt.alloc();
     let mut graph = five_vertices(alloc).expect(&rt, "memory");
-    tells_each(&rt, &graph);
+    assert_each_arc(&rt, &graph);
     let indexed = graph.index(alloc);
-    tells_each(&rt, &graph);
+    assert_each_arc(&rt, &graph);
     if indexed.is_err() {
         graph.index(alloc).expect(&rt, "memory");
-        tells_each(&rt, &graph);
+        assert_each_arc(&rt, &graph);
     }
 }
 

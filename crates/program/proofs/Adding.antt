@@ -1,14 +1,12 @@
 -- Texts that are added where a watcher writes, one after the other.
-use Rattle.std.specs.Prelude.{◌≡◌, ◌⊎◌, ℕ, ◌<◌, List, [], ◌++◌, Bool, true, false, Option, Some, None, Result, Ok, Err, is_err, if◌then◌else◌}
+use Rattle.std.specs.Prelude.{◌≡◌, ◌⊎◌, ℕ, ◌<◌, List, [], ◌++◌, Bool, true, false, Option, Some, None, Result, Ok, Err, if◌then◌else◌}
 use Rattle.std.specs.Option.{option_map}
 use Rattle.std.specs.Io.KnownBytes.{Appends}
 use Rattle.std.proofs.Common.{inl, inr, refl, sym, subst, ◌∙◌, arith}
 use Rattle.std.proofs.KnownBytes.{Appends-nil, Appends-trans, Appends-kept}
-use Rattle.road_text.specs.Written.{Wrote}
 use Rattle.batch_run.specs.declared.faults.RunFault.{RunFault}
 use Rattle.batch_run.specs.Runs.{output}
 use Rattle.program.specs.Watching.{Account, AreKept, AreLost, EndsAccounts, HasAccounts, IsAdded}
-use Rattle.fault_reports.proofs.Written.{left_appends}
 
 -- nothing was added
 pub added_none : (old : Option (List ℕ)) (b : ℕ) → IsAdded old old b b []
@@ -20,11 +18,6 @@ added_then old mid new b m a x y (inl p) (inl q) = inl (Appends-trans old mid ne
 added_then old mid new b m a x y (inl p) (inr q) = let e : m ≡ b = p.1 in inr (omega arith)
 added_then old mid new b m a x y (inr p) (inl q) = let e : a ≡ m = q.1 in inr (omega arith)
 added_then old mid new b m a x y (inr p) (inr q) = inr (omega arith)
-
--- a text that was written was added, or a write failed
-pub added_wrote : {R E : Type 0} (old new : Option (List ℕ)) (b a : ℕ) (given text : List ℕ) → given ≡ text → (r : Result R E) → Wrote old new b a given r → IsAdded old new b a text
-added_wrote old new b a given text e (Ok u) was = inl (subst (Appends old new) e (left_appends old new b a given was), was.sound)
-added_wrote old new b a given text e (Err f) was = let s = was.failed in inr (omega arith)
 
 -- two texts that are shown or not
 pub shown_then : (progress : Bool) (x y : List ℕ) → (if progress then x else []) ++ (if progress then y else []) ≡ (if progress then x ++ y else [])
@@ -106,24 +99,3 @@ module _ {A : Type 0} (written : A → Option (List ℕ)) (failures : A → ℕ)
     account (Some a) (Some b) (Some c) lost text (Ok u) had ends =
         let kept = had.kept ends.0 in (Appends-kept (written a) (written b) (written c) text kept.1.0 ends.1, ends.2, ends.3 ∙ kept.1.1)
     account (Some a) (Some b) (Some c) lost text (Err f) had ends = (ends.0, some_lost a b c text lost had ends.1)
-
-  -- accounts that are lost stay as they are
-  pub has_lost : (old : Option A) (text : List ℕ) → HasAccounts written failures old old true true text
-  has_lost old text = record { kept = λ e. let f : true ≡ false = e in cc; fell = λ e. inl refl; stays = λ e. (refl, refl) }
-
-  -- accounts that are not wanted
-  pub has_unwanted : (text : List ℕ) → HasAccounts written failures None None false false text
-  has_unwanted text = record { kept = λ e. (refl, refl); fell = λ e. let f : false ≡ true = e in cc; stays = λ e. let f : false ≡ true = e in cc }
-
-  -- a text was written to accounts, or a write failed
-  pub has_wrote : {E : Type 0} (a b : A) (given text : List ℕ) (lost : Bool) (r : Result (Unit {0}) E) → given ≡ text → lost ≡ is_err r → Wrote (written a) (written b) (failures a) (failures b) given r → HasAccounts written failures (Some a) (Some b) false lost text
-  has_wrote a b given text lost (Ok u) same is was = record {
-    kept = λ e. (refl, (subst (Appends (written a) (written b)) same (left_appends (written a) (written b) (failures a) (failures b) given was), was.sound));
-    fell = λ e. let f : lost ≡ true = e in cc;
-    stays = λ e. let f : false ≡ true = e in cc;
-  }
-  has_wrote a b given text lost (Err f) same is was = record {
-    kept = λ e. let g : lost ≡ false = e in cc;
-    fell = λ e. inr (let s = was.failed in omega arith);
-    stays = λ e. let f : false ≡ true = e in cc;
-  }

@@ -1,14 +1,13 @@
 -- The mailboxes of all other shards, one after the other.
-use Rattle.std.proofs.Common.{◌≡◌, ◌≢◌, ℕ, suc, ◌+◌, Bool, true, false, List, [], ◌∷◌, ◌++◌, length, get_or, refl, sym, ap, ◌∙◌, subst, inl, inr, arith, length-append, append_assoc, ne_eqb}
+use Rattle.std.proofs.Common.{◌≡◌, ◌≢◌, ℕ, suc, ◌+◌, Bool, true, false, List, [], ◌∷◌, ◌++◌, length, get_or, refl, sym, ap, ◌∙◌, subst, arith, length-append, ne_eqb}
 use Rattle.std.specs.Int.{from_bool}
 use Rattle.path_algebra.specs.Algebra.{Algebra}
 use Rattle.scholten_core.specs.declared.item.Item.{Item}
 use Rattle.shard_part.specs.PartState.{PartData}
 use Rattle.post_floor.specs.Boxes.{box_count, mailbox}
-use Rattle.post_floor.specs.Data.{FloorData, SeatData, IsSameSeat, fill_box, read_box}
-use Rattle.post_floor.specs.Plays.{StepsTo, at_word, end_fill, end_read, FillOutcome, ReadOutcome, LookOutcome}
-use Rattle.post_floor.specs.declared.view.WordStep.{WordStep}
-use Rattle.station.specs.Tries.{at, if_found, IsTry, AreTries, used}
+use Rattle.post_floor.specs.Data.{FloorData, SeatData, fill_box, read_box}
+use Rattle.post_floor.specs.Plays.{LookOutcome}
+use Rattle.station.specs.Tries.{if_found, IsTry, AreTries, used}
 use Rattle.station.specs.Steps.{TriedFrom, AllTriedFrom, WentOff, TriedTo, AllTriedTo, Looked}
 use Rattle.station.proofs.Batches.{went_off}
 use Rattle.station.proofs.Trying.{used_more, used_other, sent_other, tries_below}
@@ -17,65 +16,12 @@ counted_more : (b : Bool) (j n : ℕ) (js : List ℕ) → length js ≡ n → le
 counted_more true j n js e = let l = length-append js (j ∷ []) in omega (arith, e, l)
 counted_more false j n js e = let l = length-append js [] in omega (arith, e, l)
 
-two_steps : (a b c : List WordStep) (j k x y : ℕ) → k ≡ j → b ≡ a ++ at j x ∷ [] → c ≡ b ++ at k y ∷ [] → c ≡ a ++ at j x ∷ at j y ∷ []
-two_steps a b c j k x y e f g = g ∙ (λ i. f i ++ at (e i) y ∷ []) ∙ append_assoc a (at j x ∷ []) (at j y ∷ [])
-
 module _ {S V : Type 0} where
-  -- the own shard has no mailbox
-  pub own_from : (f : FloorData S) (from own : ℕ) (d : SeatData S V) → d.shard ≡ own → from ≡ own → TriedFrom f from false d d
-  own_from f from own d s e = record { shard = refl; try = inr (λ ne. ne (e ∙ sym s), refl); next_read = refl; next_fill = refl }
-
-  read_same : (f : FloorData S) (from : ℕ) (a b : SeatData S V) → b.shard ≡ a.shard → b.knows.next_read ≡ a.knows.next_read → read_box f b from ≡ read_box f a from
-  read_same f from a b s e = λ i. mailbox f.setup.plan.shards from (s i) (get_or (e i) from 0)
-
-  fill_same : (f : FloorData S) (to : ℕ) (a b : SeatData S V) → b.shard ≡ a.shard → b.knows.next_fill ≡ a.knows.next_fill → fill_box f b to ≡ fill_box f a to
-  fill_same f to a b s e = λ i. mailbox f.setup.plan.shards (s i) to (get_or (e i) to 0)
-
   module _ (meaning : S → Algebra V) where
-    -- a mailbox was found full, and cleared
-    pub full_from : (f : FloorData S) (from : ℕ) (p q : PartData S V) (a b c : SeatData S V) → from ≢ a.shard → IsSameSeat a b
-        → ReadOutcome meaning true p q (read_box f a from) a.knows b.knows → IsSameSeat b c
-        → StepsTo (at_word (read_box f b from) 0 (end_read from (read_box f b from) b.knows)) q c.knows → TriedFrom f from true a c
-    full_from f from p q a b c ne ab (x, w, K) bc g =
-        let same = read_same f from a b ab.1 w.next_read in
-        record {
-          shard = bc.1 ∙ ab.1;
-          try = (ne, two_steps _ _ _ _ _ 2 0 same w.steps g.steps);
-          next_read = g.next_read ∙ ap (used (from ∷ [])) w.next_read;
-          next_fill = g.next_fill ∙ w.next_fill;
-        }
-
-    -- a mailbox was not full
-    pub missed_from : (f : FloorData S) (from : ℕ) (p q : PartData S V) (a b : SeatData S V) → from ≢ a.shard → IsSameSeat a b
-        → ReadOutcome meaning false p q (read_box f a from) a.knows b.knows → TriedFrom f from false a b
-    missed_from f from p q a b ne ab (e, x, n, w) = record { shard = ab.1; try = inl (ne, x, n, w.steps); next_read = w.next_read; next_fill = w.next_fill }
-
     -- the done word showed something
     pub looked : (f : FloorData S) (b : Bool) (p : PartData S V) (d e : SeatData S V) → LookOutcome meaning b p (box_count f.setup.plan.shards) d.knows e.knows → Looked f b d e
     looked f true p d e (w, E) = record { number = 1; step = w.steps; end_is = refl; next_read = w.next_read; next_fill = w.next_fill }
     looked f false p d e (x, n, w, K) = record { number = x; step = w.steps; end_is = sym (ne_eqb x 1 n); next_read = w.next_read; next_fill = w.next_fill }
-
-  -- nothing is due to the own shard, or where nothing waits
-  pub none_to : (f : FloorData S) (to : ℕ) (p : PartData S V) (d : SeatData S V) → ((to ≢ d.shard) × (get_or p.outs to [] ≢ []) → ⊥) → TriedTo f to false p d d
-  none_to f to p d free = record { shard = refl; try = inr (free, refl); next_fill = refl; next_read = refl }
-
-  -- a mailbox was found free, and filled
-  pub free_to : (f : FloorData S) (to : ℕ) (p q : PartData S V) (a b c : SeatData S V) → (to ≢ a.shard) × (get_or p.outs to [] ≢ []) → IsSameSeat a b
-      → FillOutcome true p (fill_box f a to) a.knows b.knows → IsSameSeat b c
-      → StepsTo (at_word (fill_box f b to) 2 (end_fill to (fill_box f b to) b.knows)) q c.knows → TriedTo f to true p a c
-  free_to f to p q a b c due ab w bc g =
-      let same = fill_same f to a b ab.1 w.next_fill in
-      record {
-        shard = bc.1 ∙ ab.1;
-        try = (due, two_steps _ _ _ _ _ 0 2 same w.steps g.steps);
-        next_fill = g.next_fill ∙ ap (used (to ∷ [])) w.next_fill;
-        next_read = g.next_read ∙ w.next_read;
-      }
-
-  -- a mailbox was not free
-  pub missed_to : (f : FloorData S) (to : ℕ) (p : PartData S V) (a b : SeatData S V) → (to ≢ a.shard) × (get_or p.outs to [] ≢ []) → IsSameSeat a b
-      → FillOutcome false p (fill_box f a to) a.knows b.knows → TriedTo f to false p a b
-  missed_to f to p a b due ab (x, n, w) = record { shard = ab.1; try = inl (due, x, n, w.steps); next_fill = w.next_fill; next_read = w.next_read }
 
   -- no shard has been gone to yet
   pub begin_from : (f : FloorData S) (d : SeatData S V) → AllTriedFrom f 0 0 d d

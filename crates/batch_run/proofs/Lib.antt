@@ -7,7 +7,8 @@ pub mod Prefixes
 mod OfInputs
 mod Together
 mod QuestionKinds
-mod Schedules
+mod SourcesToCome
+mod NextDiffusions
 mod Moved
 mod SameSources
 mod Reporting

@@ -1,33 +1,33 @@
 -- What was reported so far, and one report more.
 use Rattle.std.proofs.Common.{◌≡◌, ◌⊎◌, inl, inr, ℕ, zero, suc, ◌+◌, ◌<◌, ◌≤◌, Bool, true, List, [], ◌∷◌, ◌++◌, length, map, take, get_or, Option, Some, None, Result, Ok, Err, refl, sym, ap, ◌∙◌, subst, append_assoc, append-nil, arith}
 use denote.Ref.{Bor}
-use Rattle.std.specs.Prelude.{IfSome, is_none, OnOk, OnErr, IfErr}
+use Rattle.std.specs.Prelude.{is_none, OnOk, OnErr, IfErr}
 use Rattle.std.specs.List.{AllZip, flat_map}
 use Rattle.std.specs.Option.{option_copied}
 use Rattle.std.proofs.lemmas.List.{take_all, take_more, map-append}
 use Rattle.std.proofs.lemmas.List.Concat.{flat_map-cons}
 use Rattle.road_graph.specs.GraphData.{GraphData}
-use Rattle.road_files.specs.Asked.{Question, Asked, sources_of}
+use Rattle.road_files.specs.Asked.{Question, Asked}
 use Rattle.path_algebra.specs.Algebra.{Algebra}
 use Rattle.path_algebra.specs.Walks.{AreBest}
 use Rattle.shard_store.specs.Plans.{PlanData}
 use Rattle.shard_store.specs.Setup.{SetupData}
 use Rattle.station.specs.declared.gathering.Gathered.{Gathered}
 use Rattle.station.specs.Gather.{IsGathered}
+use Rattle.station.specs.Opened.{setup_of}
 use Rattle.batch_run.specs.declared.solve.diffusion.EndedDiffusion.{EndedDiffusion}
-use Rattle.batch_run.specs.declared.solve.schedule.Schedule.{Schedule}
 use Rattle.batch_run.specs.declared.faults.RunFault.{RunFault}
 use Rattle.batch_run.specs.declared.settings.Settings.{Settings}
 use Rattle.batch_run.specs.declared.watcher.Report.{Report}
 use Rattle.batch_run.specs.declared.watcher.Report.TheVariants as report
-use Rattle.batch_run.specs.Diffusions.{IsEnded, diffusion}
+use Rattle.batch_run.specs.Diffusions.{IsEnded}
 use Rattle.batch_run.specs.Reports.{IsAccount, Due, Beginning, Account, Progress, IsReportOf, FollowsReports, Reported, ReportedPrefix, Watched, accounts_due, question_due, questions_due, batch_due, count_diffusions, diffused}
 use Rattle.batch_run.specs.Ran.{IsLater}
 use Rattle.batch_run.proofs.OfInputs.{in_no_input, of_no_setting}
 
 -- the counts of a diffusion that was run to its end are those that were gathered
 module _ {S V : Type 0} (meaning : S → Algebra V) where
-  account_of : (algebra : S) (g : GraphData) (plan : PlanData) (source : ℕ) (found : Gathered V) → IsGathered meaning (diffusion algebra g plan source) found → IsAccount (meaning algebra) g source found.tally
+  account_of : (algebra : S) (g : GraphData) (plan : PlanData) (source : ℕ) (found : Gathered V) → IsGathered meaning (setup_of algebra g source plan) found → IsAccount (meaning algebra) g source found.tally
   account_of algebra g plan source found h = record {
     plan = plan;
     labels = found.labels;
@@ -40,7 +40,7 @@ module _ {S V : Type 0} (meaning : S → Algebra V) where
   -- so are the labels
   pub are_best : (algebra : S) (g : GraphData) (plan : PlanData) (source : ℕ) (e : EndedDiffusion S V) (found : Gathered V) → IsEnded algebra g plan e → e.source ≡ source → IsGathered meaning e.floor.setup found → AreBest (meaning algebra) g (source ∷ []) found.labels
   are_best algebra g plan source e found ended from h =
-      subst (λ (s : ℕ). AreBest (meaning algebra) g (s ∷ []) found.labels) from (best_of (diffusion algebra g plan e.source) found (subst (λ (t : SetupData S). IsGathered meaning t found) ended.setup h))
+      subst (λ (s : ℕ). AreBest (meaning algebra) g (s ∷ []) found.labels) from (best_of (setup_of algebra g e.source plan) found (subst (λ (t : SetupData S). IsGathered meaning t found) ended.setup h))
 
   pub is_account : (algebra : S) (g : GraphData) (plan : PlanData) (source : ℕ) (e : EndedDiffusion S V) (found : Gathered V) → IsEnded algebra g plan e → e.source ≡ source → IsGathered meaning e.floor.setup found → IsAccount (meaning algebra) g source found.tally
   is_account algebra g plan source e found ended from h =
@@ -212,18 +212,10 @@ none_diffused (q ∷ qs) = flat_map-cons (diffused true) q qs ∙ none_diffused 
 pub none_counted : (qs : List Question) → 0 ≡ count_diffusions true qs
 none_counted qs = sym (ap (λ (l : List ℕ). length l) (none_diffused qs))
 
--- there is a schedule unless the plain solver answers
-pub kind_copied : (schedule : Option (Bor Schedule)) (prepared : Option Schedule) (plain : Bool) → option_copied schedule ≡ prepared → is_none prepared ≡ plain → is_none schedule ≡ plain
-kind_copied None prepared plain e k = ap (λ (o : Option Schedule). is_none o) e ∙ k
-kind_copied (Some s) prepared plain e k = ap (λ (o : Option Schedule). is_none o) e ∙ k
-
--- and its sources are as many as the diffusions
-pub diffusions_are : (schedule : Option (Bor Schedule)) (prepared : Option Schedule) (plain : Bool) (qs : List Question) (d : ℕ) → option_copied schedule ≡ prepared → is_none prepared ≡ plain → IfSome prepared (λ l. l.sources.items ≡ flat_map sources_of qs) →
-    (schedule ≡ None → d ≡ 0) → IfSome schedule (λ l. d ≡ length l.now.sources.items) → d ≡ count_diffusions plain qs
-diffusions_are None prepared plain qs d e k all none some = subst (λ (b : Bool). d ≡ count_diffusions b qs) (kind_copied None prepared plain e k) (none refl ∙ none_counted qs)
-diffusions_are (Some l) prepared plain qs d e k all none some =
-    let sources : l.now.sources.items ≡ flat_map sources_of qs = subst (λ (o : Option Schedule). IfSome o (λ l. l.sources.items ≡ flat_map sources_of qs)) (sym e) all in
-    subst (λ (b : Bool). d ≡ count_diffusions b qs) (kind_copied (Some l) prepared plain e k) (some ∙ ap (λ (s : List ℕ). length s) sources)
+-- there is a plan unless the plain solver answers
+pub kind_copied : {X : Type 0} (plan : Option (Bor X)) (prepared : Option X) (plain : Bool) → option_copied plan ≡ prepared → is_none prepared ≡ plain → is_none plan ≡ plain
+kind_copied {X} None prepared plain e k = ap (λ (o : Option X). is_none o) e ∙ k
+kind_copied {X} (Some p) prepared plain e k = ap (λ (o : Option X). is_none o) e ∙ k
 
 module _ {V S : Type 0} (A : Algebra V) (g : GraphData) (may_become : S → Report → S → Type 0) (due : List Due) (old new : S) where
   -- a flush reports nothing

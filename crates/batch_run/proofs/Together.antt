@@ -1,5 +1,5 @@
 -- Floors and stations of diffusions side by side: as they are opened, and when they have been run.
-use Rattle.std.proofs.Common.{zero, suc, ◌≡◌, ◌≢◌, ℕ, ◌<◌, ◌≤◌, ◌+◌, List, [], ◌∷◌, ◌++◌, length, get_or, map, sym, subst, arith, inl, inr, Vec}
+use Rattle.std.proofs.Common.{zero, suc, ◌≡◌, ◌≢◌, ℕ, ◌<◌, ◌≤◌, ◌+◌, List, [], ◌∷◌, ◌++◌, length, get_or, map, subst, arith, inl, inr, Vec}
 use Rattle.std.specs.List.{All}
 use Rattle.std.proofs.lemmas.Bool.{cases_lt}
 use Rattle.std.proofs.lemmas.List.Elements.{All-head, All-tail}
@@ -10,13 +10,13 @@ use Rattle.shard_store.specs.Setup.{SetupData}
 use Rattle.shard_part.specs.Opening.{opened_parts}
 use Rattle.post_floor.specs.Data.{FloorData}
 use Rattle.station.specs.Station.{StationData}
-use Rattle.station.specs.Opened.{AreOpened, station_of}
+use Rattle.station.specs.Opened.{AreOpened, setup_of, station_of}
 use Rattle.worker_fleet.specs.Groups.{HasShard, IsDone, Some_of}
 use Rattle.worker_fleet.specs.Turns.{IsOnItsFloor}
 use Rattle.road_graph.specs.GraphData.{GraphData}
 use Rattle.shard_store.specs.Plans.{PlanData}
 use Rattle.road_files.proofs.QuestionSources.{any_of}
-use Rattle.batch_run.specs.Diffusions.{AreEnded, diffusion}
+use Rattle.batch_run.specs.Diffusions.{AreEnded}
 
 -- one more of each of two lists
 pub one_more : {F L : Type 0} (R : ℕ → F → L → Type 0) (n : ℕ) (fs gs : List F) (ls ms : List L) (f : F) (l : L) → gs ≡ fs ++ f ∷ [] → ms ≡ ls ++ l ∷ [] → length fs ≡ n → length ls ≡ n → R n f l
@@ -90,18 +90,18 @@ longer ys xs x e = grind (arith, common_steps)
 -- what is run to its end stays so while the last is taken away
 module _ {S V W : Type 0} (algebra : S) (roads : GraphData) (plan : PlanData) (sources : List ℕ) (fs gs : List (FloorData S)) (ls ms : List (Vec (StationData S V) W)) (f : FloorData S) (l : Vec (StationData S V) W)
     (is_f : fs ≡ gs ++ f ∷ []) (is_l : ls ≡ ms ++ l ∷ []) (same : length fs ≡ length ls)
-    (each : (q s : ℕ) (e : FloorData S) (k : Vec (StationData S V) W) → q < length fs → AreEnded (diffusion algebra roads plan (get_or sources q s)) (get_or fs q e) (get_or ls q k).items) where
+    (each : (q s : ℕ) (e : FloorData S) (k : Vec (StationData S V) W) → q < length fs → AreEnded (setup_of algebra roads (get_or sources q s) plan) (get_or fs q e) (get_or ls q k).items) where
   EndedAt : ℕ → FloorData S → Vec (StationData S V) W → Type 0
-  EndedAt q e k = (s : ℕ) → AreEnded (diffusion algebra roads plan (get_or sources q s)) e k.items
+  EndedAt q e k = (s : ℕ) → AreEnded (setup_of algebra roads (get_or sources q s) plan) e k.items
 
-  pub others_ended : (q s : ℕ) (e : FloorData S) (k : Vec (StationData S V) W) → q < length gs → AreEnded (diffusion algebra roads plan (get_or sources q s)) (get_or gs q e) (get_or ms q k).items
+  pub others_ended : (q s : ℕ) (e : FloorData S) (k : Vec (StationData S V) W) → q < length gs → AreEnded (setup_of algebra roads (get_or sources q s) plan) (get_or gs q e) (get_or ms q k).items
   unfolding EndedAt
   others_ended q s e k low = others EndedAt fs gs ls ms f l is_f is_l same (λ q e k low s. each q s e k low) q e k low s
 
-  pub last_ended : (stations : List (StationData S V)) (source : ℕ) → stations ≡ l.items → get_or sources (length gs) source ≡ source → AreEnded (diffusion algebra roads plan source) f stations
+  pub last_ended : (stations : List (StationData S V)) (source : ℕ) → stations ≡ l.items → get_or sources (length gs) source ≡ source → AreEnded (setup_of algebra roads source plan) f stations
   unfolding EndedAt
   last_ended stations source e at =
-      rw e (subst (λ x. AreEnded (diffusion algebra roads plan x) f l.items) at (last_of EndedAt fs gs ls ms f l is_f is_l same (λ q e k low s. each q s e k low) source))
+      rw e (subst (λ x. AreEnded (setup_of algebra roads x plan) f l.items) at (last_of EndedAt fs gs ls ms f l is_f is_l same (λ q e k low s. each q s e k low) source))
 
 -- what holds of all of a list holds of those at its beginning, and of its last
 pub all_before : {X : Type 0} (P : X → Type 0) (ys xs zs : List X) → ys ≡ xs ++ zs → All P ys → All P xs
@@ -115,10 +115,6 @@ last_of_all P ys xs x e h =
     let at : get_or ys (length xs) x ≡ x = grind (arith, common_steps) in
     let low : length xs < length ys = grind (arith, common_steps) in
     rw at at (h (length xs) x low)
-
--- the source at a place after the first
-pub source_after : (x y : ℕ) (xs : List ℕ) (n m : ℕ) → n ≡ suc m → m < length xs → y ≡ get_or xs m y → get_or (x ∷ xs) n y ≡ y
-source_after x y xs n m e low is = rw e (sym is)
 
 -- the station of a shard is not missing if it is among them
 pub not_missing : {S V : Type 0} (k : ℕ) (stations : List (StationData S V)) → HasShard k stations → All (λ s. s.part.shard ≢ k) stations → ⊥

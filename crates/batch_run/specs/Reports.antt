@@ -14,7 +14,7 @@ use Rattle.batch_run.specs.declared.faults.RunFault.{RunFault}
 use Rattle.batch_run.specs.declared.settings.Settings.{Settings}
 use Rattle.batch_run.specs.declared.watcher.Report.{Report}
 use Rattle.batch_run.specs.declared.watcher.Report.TheVariants.{Begun, Gathered, Answered}
-use Rattle.batch_run.specs.Diffusions.{diffusion}
+use Rattle.station.specs.Opened.{setup_of}
 
 -- The counts of a diffusion over a graph from a source are those that `gather` reports with some labels, whatever the plan: some events, counted in full, lead from
 -- its opening to a state that has ended and is quiet; each counter is the lesser of its total and its top, full exactly where a total reaches that, and all totals are
@@ -22,7 +22,7 @@ use Rattle.batch_run.specs.Diffusions.{diffusion}
 pub record IsAccount {V : Type 0} (A : Algebra V) (g : GraphData) (source : ℕ) (tally : Tally) : Type 0 where
   pub plan : PlanData
   pub labels : List (Option V)
-  pub gathered : IsGathered (λ (B : Algebra V). B) (diffusion A g plan source) (record { labels = labels; tally = tally })
+  pub gathered : IsGathered (λ (B : Algebra V). B) (setup_of A g source plan) (record { labels = labels; tally = tally })
 
 -- what is due to be reported: that the batch begins, with so many questions and diffusions; that a question's diffusion from a source was gathered; or that so
 -- many questions are answered

@@ -2,7 +2,7 @@
 ghost use Rattle.std.specs.Prelude.{◌≡◌, ◌≢◌, ℕ, ◌+◌, ◌≤◌, ◌<◌, length, slice_index_or, All, IfErr, OnOk, OnErr, is_none};
 ghost use Rattle.road_files.specs.Asked.{AreQuestionsOf, Question, asked_of};
 ghost use Rattle.batch_run.specs.Answered.{WroteAllOrFirst, WroteNext, WroteWhole};
-ghost use Rattle.batch_run.specs.Diffusions.{AreReady};
+ghost use Rattle.batch_run.specs.Diffusions.{AreReady, sources_to_come};
 ghost use Rattle.batch_run.specs.InRange.{AreInRange};
 ghost use Rattle.batch_run.specs.Reports.{Reported, ReportedPrefix, batch_due, question_due};
 ghost use Rattle.batch_run.specs.Ran.{IsLater};
@@ -10,7 +10,7 @@ ghost use Rattle.batch_run.specs.Solved.{IsSolved};
 
 use crate::faults::{RunFault, WRITE, fault_of_answer, fault_of_group, fault_of_run};
 use crate::settings::Settings;
-use crate::solve::{RunContext, RunState, Schedule, count_diffusions, prepare, solved_at};
+use crate::solve::{RunContext, RunState, count_diffusions, prepare, solved_at};
 use crate::watcher::{Report, Unwatched, Watcher};
 use crate::write::{TwoWayGraph, answer_at};
 use answer_text::write_header;
@@ -18,6 +18,7 @@ use path_algebra::PathAlgebra;
 use road_files::Questions;
 use road_graph::Graph;
 use road_text::{MEMORY, RoadWrite};
+use shard_part::Plan;
 use std::alloc::Global;
 use std::sync::Wait;
 use std::thread::Threads;
@@ -26,7 +27,7 @@ use worker_fleet::Gate;
 /// Answers the question at a place: solves it, writes its answer and reports that it is answered.
 fn answer_next<'g, A: PathAlgebra, W: RoadWrite, R: Threads + Wait + Sync, T: Gate, O: Watcher>(
     context: &RunContext<'g, A, R, T>,
-    schedule: Option<&'g Schedule>,
+    plan: Option<&'g Plan>,
     state: &mut RunState<'g, A>,
     questions: &Questions,
     i: usize,
@@ -36,13 +37,14 @@ fn answer_next<'g, A: PathAlgebra, W: RoadWrite, R: Threads + Wait + Sync, T: Ga
     requires settings { AreInRange context.now.settings.now }
     requires within { AreQuestionsOf context.now.graph.now.vertices questions.now }
     requires place { i < length (asked_of questions.now).questions }
-    requires kind { is_none schedule ≡ context.now.settings.now.plain }
-    requires ready { AreReady context.now.algebra context.now.graph.now schedule
-        state.old.queue.ended.items }
+    requires kind { is_none plan ≡ context.now.settings.now.plain }
+    requires ready { AreReady context.now.algebra context.now.graph.now plan
+        (sources_to_come (asked_of questions.now).questions i 0) state.old.queue.ended.items }
     requires solved { All (IsSolved (A.meaning context.now.algebra) context.now.graph.now
         (asked_of questions.now)) state.old.solved.items }
-    ensures ready { AreReady context.now.algebra context.now.graph.now schedule.entry
-        state.new.queue.ended.items }
+    ensures ready { OnOk result (AreReady context.now.algebra context.now.graph.now plan.entry
+        (sources_to_come (asked_of questions.now).questions (i + 1) 0)
+        state.new.queue.ended.items) }
     ensures solved { All (IsSolved (A.meaning context.now.algebra) context.now.graph.now
         (asked_of questions.now)) state.new.solved.items }
     ensures wrote { (default : Question) → WroteNext (A.meaning context.now.algebra)
@@ -59,7 +61,7 @@ fn answer_next<'g, A: PathAlgebra, W: RoadWrite, R: Threads + Wait + Sync, T: Ga
         (question_due context.now.settings.now.plain (i + 1)
         (slice_index_or (asked_of questions.now).questions i default)) watcher.old watcher.new) }
 {
-    let k = match solved_at(context, schedule, state, questions, i, watcher) {
+    let k = match solved_at(context, plan, state, questions, i, watcher) {
         Ok(k) => k,
         Err(fault) => return Err(fault_of_group(fault)),
     };
@@ -117,11 +119,11 @@ pub fn answer_all_watched<
         Ok(()) => {}
         Err(_) => return Err(fault_of_run(WRITE)),
     }
-    let Ok(prepared) = prepare(alloc, graph, questions, settings) else {
+    let Ok(prepared) = prepare(alloc, graph, settings) else {
         return Err(fault_of_run(MEMORY));
     };
-    let schedule = prepared.as_ref();
-    let diffusions = count_diffusions(schedule);
+    let plan = prepared.as_ref();
+    let diffusions = count_diffusions(questions, settings.plain);
     watcher.report(Report::Begun {
         questions: count,
         diffusions,
@@ -136,7 +138,7 @@ pub fn answer_all_watched<
     };
     let mut state = RunState::new(alloc);
     for i in 0..questions.len() {
-        match answer_next(&context, schedule, &mut state, questions, i, out, watcher) {
+        match answer_next(&context, plan, &mut state, questions, i, out, watcher) {
             Ok(()) => {}
             Err(fault) => return Err(fault),
         }

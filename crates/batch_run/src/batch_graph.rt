@@ -1,5 +1,6 @@
 //! What a batch is answered over: a graph for workers, or one for the plain solver.
 ghost use Rattle.std.specs.Prelude.{◌≡◌, ◌≢◌, ◌≤◌, ◌<◌, Bool, true, false, OnOk, IfErr, OnErr};
+ghost use Rattle.road_graph.specs.GraphData.{IsGraph};
 ghost use Rattle.road_files.specs.Asked.{AreQuestionsOf, asked_of};
 ghost use Rattle.batch_run.specs.Answered.{WroteAllOrFirst, WroteWhole};
 ghost use Rattle.batch_run.specs.BatchGraphs.{is_outgoing, roads_in};
@@ -28,6 +29,18 @@ pub(crate) enum BatchGraph {
     Whole(Graph),
     /// Over this one the plain solver does.
     Outgoing(OutGraph),
+}
+
+impl BatchGraph {
+    /// What holds of every graph: its arcs join its vertices, and it keeps the limits. Nothing is computed.
+    pub(crate) fn holds(&self)
+        ensures { IsGraph (roads_in self.now) }
+    {
+        match self {
+            BatchGraph::Whole(graph) => graph.holds(),
+            BatchGraph::Outgoing(graph) => graph.holds(),
+        }
+    }
 }
 
 /// A kind of graph over which a batch is answered.

@@ -3,7 +3,7 @@ ghost use Rattle.std.specs.Prelude.{◌≡◌, Some};
 ghost use Rattle.batch_run.specs.Answered.{fault_of_answer, fault_of_group};
 ghost use Rattle.batch_run.specs.FaultTexts.{fault_shown, file_text};
 
-use road_text::{MEMORY, ReadFault};
+use road_text::{MEMORY, ReadFault, WriteFault};
 use std::error::Error;
 use std::fmt;
 use worker_fleet::GroupFault;
@@ -69,6 +69,16 @@ pub(crate) enum Unanswered {
     Memory,
     /// A write failed.
     Write,
+}
+
+impl From<WriteFault> for Unanswered {
+    ghost use Rattle.batch_run.specs.declared.faults.Unanswered.TheVariants.{Write};
+
+    ghost from_gives = { λ _ e. e ≡ Write };
+
+    fn from(_fault: WriteFault) -> Unanswered {
+        Unanswered::Write
+    }
 }
 
 /// A worker reached its limit of turns.

@@ -88,8 +88,8 @@ pub(crate) fn answer_and_flush<
 {
     answers_exist(algebra);
     first_answers_begin_all(algebra);
-    let _n = graph.count_vertices();
     let graph = graph.into_batch();
+    graph.holds();
     let answered = answer_over(
         rt, alloc, algebra, graph, &questions, out, settings, gate, watcher,
     );

@@ -1,8 +1,8 @@
-//! Solves the questions of a batch: by workers if diffusions are scheduled, else by the plain solver.
+//! Solves the questions of a batch: by workers if there is a plan for them, else by the plain solver.
 ghost use Rattle.std.specs.Prelude.{◌≡◌, ◌+◌, ◌<◌, length, slice_index_or, All, HoldsAt, IfOk, IfErr, OnOk, OnErr, is_none, None};
 ghost use Rattle.road_files.specs.Asked.{AreQuestionsOf, Question, asked_of};
 ghost use Rattle.worker_fleet.specs.Stops.{Says};
-ghost use Rattle.batch_run.specs.Diffusions.{AreReady};
+ghost use Rattle.batch_run.specs.Diffusions.{AreReady, sources_to_come};
 ghost use Rattle.batch_run.specs.InRange.{AreInRange};
 ghost use Rattle.batch_run.specs.Reports.{Reported, ReportedPrefix, accounts_due};
 ghost use Rattle.batch_run.specs.Solved.{IsSolved, IsSolvedFor};
@@ -15,6 +15,7 @@ mod plain;
 mod queue;
 mod schedule;
 mod solved;
+mod upcoming;
 mod workers;
 
 use crate::solve::workers::solve_by_workers;
@@ -23,17 +24,18 @@ pub(crate) use context::{RunContext, RunState};
 use path_algebra::PathAlgebra;
 pub(crate) use plain::solve_plainly;
 use road_files::Questions;
-pub(crate) use schedule::{Schedule, count_diffusions, prepare};
+pub(crate) use schedule::{count_diffusions, prepare};
+use shard_part::Plan;
 pub(crate) use solved::Solved;
 use std::sync::Wait;
 use std::thread::Threads;
 use worker_fleet::{Gate, GroupFault};
 
-/// Which of those that are solved answers the question at a place: workers solve it if there is a schedule for them, else the
+/// Which of those that are solved answers the question at a place: workers solve it if there is a plan for them, else the
 /// plain solver, unless one with the same sources is there already.
 pub(crate) fn solved_at<'g, A: PathAlgebra, R: Threads + Wait + Sync, T: Gate, O: Watcher>(
     context: &RunContext<'g, A, R, T>,
-    schedule: Option<&'g Schedule>,
+    plan: Option<&'g Plan>,
     state: &mut RunState<'g, A>,
     questions: &Questions,
     i: usize,
@@ -42,8 +44,8 @@ pub(crate) fn solved_at<'g, A: PathAlgebra, R: Threads + Wait + Sync, T: Gate, O
     requires settings { AreInRange context.now.settings.now }
     requires within { AreQuestionsOf context.now.graph.now.vertices questions.now }
     requires place { i < length (asked_of questions.now).questions }
-    requires ready { AreReady context.now.algebra context.now.graph.now schedule
-        state.old.queue.ended.items }
+    requires ready { AreReady context.now.algebra context.now.graph.now plan
+        (sources_to_come (asked_of questions.now).questions i 0) state.old.queue.ended.items }
     requires solved { All (IsSolved (A.meaning context.now.algebra) context.now.graph.now
         (asked_of questions.now)) state.old.solved.items }
     ensures inside { IfOk result (λ k. k < length state.new.solved.items) }
@@ -52,25 +54,26 @@ pub(crate) fn solved_at<'g, A: PathAlgebra, R: Threads + Wait + Sync, T: Gate, O
         (asked_of questions.now) i) state.new.solved.items) }
     ensures solved { All (IsSolved (A.meaning context.now.algebra) context.now.graph.now
         (asked_of questions.now)) state.new.solved.items }
-    ensures ready { AreReady context.now.algebra context.now.graph.now schedule.entry
-        state.new.queue.ended.items }
-    ensures plain { schedule.entry ≡ None → IfErr result (λ f. f ≡ GroupFault.Memory) }
+    ensures ready { OnOk result (AreReady context.now.algebra context.now.graph.now plan.entry
+        (sources_to_come (asked_of questions.now).questions (i + 1) 0)
+        state.new.queue.ended.items) }
+    ensures plain { plan.entry ≡ None → IfErr result (λ f. f ≡ GroupFault.Memory) }
     ensures says { IfErr result (Says (T.may_answer context.now.gate.now)
         context.now.settings.now.workers context.now.settings.now.turns) }
     ensures reported { OnOk result ((default : Question) →
         Reported (A.meaning context.now.algebra) context.now.graph.now O.may_become
-        (accounts_due (is_none schedule.entry) (i + 1)
+        (accounts_due (is_none plan.entry) (i + 1)
         (slice_index_or (asked_of questions.now).questions i default)) watcher.old watcher.new) }
     ensures begun { OnErr result ((default : Question) → ReportedPrefix
         (A.meaning context.now.algebra) context.now.graph.now O.may_become
-        (accounts_due (is_none schedule.entry) (i + 1)
+        (accounts_due (is_none plan.entry) (i + 1)
         (slice_index_or (asked_of questions.now).questions i default)) watcher.old watcher.new) }
 {
-    match schedule {
-        Some(schedule) => {
+    match plan {
+        Some(plan) => {
             state.solved.clear();
             let queue = &mut state.queue;
-            let next = solve_by_workers(context, schedule, queue, questions, i, watcher)?;
+            let next = solve_by_workers(context, plan, queue, questions, i, watcher)?;
             match state.solved.push(next) {
                 Ok(()) => {}
                 Err(_) => return Err(GroupFault::Memory),

@@ -34,7 +34,6 @@ impl<'g, A: PathAlgebra> RunState<'g, A> {
     {
         RunState {
             queue: DiffusionQueue {
-                taken: 0,
                 ended: Vec::new(alloc),
             },
             solved: Vec::new(alloc),

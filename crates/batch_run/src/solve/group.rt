@@ -1,9 +1,10 @@
 //! Diffusions that are run together, on threads, to their end.
 ghost use Rattle.std.specs.Prelude.{◌≡◌, ℕ, ◌<◌, [], ◌∷◌, ◌++◌, length, get_or, IfOk, IfErr, vec_len};
 ghost use Rattle.std.specs.List.{All};
-ghost use Rattle.station.specs.Opened.{AreOpened};
+ghost use Rattle.road_graph.specs.GraphData.{HasVertex};
+ghost use Rattle.station.specs.Opened.{AreOpened, setup_of};
 ghost use Rattle.worker_fleet.specs.Stops.{Says};
-ghost use Rattle.batch_run.specs.Diffusions.{IsEnded, IsSchedule, diffusion};
+ghost use Rattle.batch_run.specs.Diffusions.{IsEnded, IsPlanOf, sources_in_order};
 ghost use Rattle.batch_run.specs.InRange.{AreInRange};
 
 use crate::solve::context::RunContext;
@@ -26,11 +27,12 @@ fn open_all<'g, A: PathAlgebra>(
     plan: &'g Plan,
     sources: &[Vertex],
 ) -> Result<(Vec<Floor<A>>, Vec<Vec<Station<'g, A>>>), AllocError>
-    requires { IsSchedule graph.now plan.now sources.now }
+    requires plan { IsPlanOf graph.now plan.now }
+    requires sources { All (HasVertex graph.now) sources.now }
     ensures floors { IfOk result (λ r. vec_len r.0 ≡ length sources.now) }
     ensures stations { IfOk result (λ r. vec_len r.1 ≡ length sources.now) }
     ensures opened { IfOk result (λ r. (q : ℕ) (s : ℕ) (f : _) (v : _) → q < length sources.now →
-        AreOpened A.meaning (diffusion algebra graph.now plan.now (get_or sources.now q s))
+        AreOpened A.meaning (setup_of algebra graph.now (get_or sources.now q s) plan.now)
         (get_or r.0.items q f) (get_or r.1.items q v).items) }
 {
     let mut floors = Vec::new(alloc);
@@ -71,36 +73,23 @@ fn take_last<'g, A: PathAlgebra>(
     }
 }
 
-/// A source and those that follow it.
-fn beginning_with(alloc: Global, source: Vertex, rest: &[Vertex]) -> Result<Vec<Vertex>, AllocError>
-    ensures { IfOk result (λ v. v.items ≡ source ∷ rest.now) }
-{
-    let mut sources = Vec::new(alloc);
-    sources.push(source)?;
-    sources.extend_from_slice(rest)?;
-    Ok(sources)
-}
-
-/// Runs diffusions from a source and from those that follow it to their end, together; the first, and the others with the next one last.
+/// Runs diffusions from each source to their end, together; they come back with the one from the first source last.
 pub(crate) fn run_together<'g, A: PathAlgebra, R: Threads + Wait, T: Gate>(
     context: &RunContext<'g, A, R, T>,
     plan: &'g Plan,
-    source: Vertex,
-    rest: &[Vertex],
-) -> Result<(EndedDiffusion<'g, A>, Vec<EndedDiffusion<'g, A>>), GroupFault>
+    sources: &[Vertex],
+) -> Result<Vec<EndedDiffusion<'g, A>>, GroupFault>
     requires settings { AreInRange context.now.settings.now }
-    requires schedule { IsSchedule context.now.graph.now plan.now (source ∷ rest.now) }
-    ensures source { IfOk result (λ r. r.0.source ≡ source) }
-    ensures first { IfOk result (λ r. IsEnded context.now.algebra context.now.graph.now plan.now
-        r.0) }
-    ensures rest { IfOk result (λ r. All (IsEnded context.now.algebra context.now.graph.now
-        plan.now) r.1.items) }
+    requires plan { IsPlanOf context.now.graph.now plan.now }
+    requires sources { All (HasVertex context.now.graph.now) sources.now }
+    ensures ended { IfOk result (λ ended. All (IsEnded context.now.algebra context.now.graph.now
+        plan.now) ended.items) }
+    ensures sources { IfOk result (λ ended. sources_in_order ended.items ≡ sources.now) }
     ensures says { IfErr result (Says (T.may_answer context.now.gate.now)
         context.now.settings.now.workers context.now.settings.now.turns) }
 {
     let alloc = context.alloc;
-    let sources = beginning_with(alloc, source, rest)?;
-    let (mut floors, questions) = open_all(alloc, context.algebra, context.graph, plan, &sources)?;
+    let (mut floors, questions) = open_all(alloc, context.algebra, context.graph, plan, sources)?;
     let settings = context.settings;
     let mut lists = run_group(
         context.rt,
@@ -113,13 +102,13 @@ pub(crate) fn run_together<'g, A: PathAlgebra, R: Threads + Wait, T: Gate>(
         context.gate,
     )?;
     let mut ended = Vec::new(alloc);
-    for k in 0..rest.len() {
-        let source = rest[rest.len() - 1 - k];
+    for k in 0..sources.len() {
+        let source = sources[sources.len() - 1 - k];
         let last = take_last(&mut floors, &mut lists, source);
         match ended.push(last) {
             Ok(()) => {}
             Err(_) => return Err(GroupFault::Memory),
         }
     }
-    Ok((take_last(&mut floors, &mut lists, source), ended))
+    Ok(ended)
 }

@@ -1,65 +1,45 @@
-//! The plan and the sources of the diffusions of a batch.
-ghost use Rattle.std.specs.Prelude.{◌≡◌, length, true, IfOk, IfSome, None, is_none};
-ghost use Rattle.std.specs.List.{flat_map};
-ghost use Rattle.road_files.specs.Asked.{AreQuestionsOf, asked_of, sources_of};
-ghost use Rattle.batch_run.specs.Diffusions.{IsSchedule};
+//! The plan of the diffusions of a batch, and how many there are.
+ghost use Rattle.std.specs.Prelude.{◌≡◌, ℕ, true, IfOk, IfSome, None, is_none};
+ghost use Rattle.road_files.specs.Asked.{AreQuestionsOf, asked_of};
+ghost use Rattle.batch_run.specs.Diffusions.{IsPlanOf};
 ghost use Rattle.batch_run.specs.InRange.{AreInRange};
+ghost use Rattle.batch_run.specs.Reports.{count_diffusions};
 
 use crate::settings::Settings;
 use road_files::Questions;
-use road_graph::{Graph, Memory, Vertex};
+use road_graph::{Graph, Memory};
 use shard_part::Plan;
-use std::alloc::{AllocError, Global};
+use std::alloc::Global;
 
-/// The plan of the shards, and the sources of all diffusions of a batch, in order.
-#[derive(Drop)]
-pub(crate) struct Schedule {
-    pub(crate) plan: Plan,
-    pub(crate) sources: Vec<Vertex>,
-}
-
-/// The sources of all questions, in order.
-fn all_sources(alloc: Global, questions: &Questions) -> Result<Vec<Vertex>, AllocError>
-    ensures { IfOk result (λ v. v.items ≡ flat_map sources_of (asked_of questions.now).questions) }
-{
-    let mut sources = Vec::new(alloc);
-    for i in 0..questions.len() {
-        sources.extend_from_slice(questions.sources(i))?;
-    }
-    Ok(sources)
-}
-
-/// The schedule of the diffusions, or none if the plain solver is to answer.
+/// The plan of the diffusions, or none if the plain solver is to answer.
 pub(crate) fn prepare(
     alloc: Global,
     graph: &Graph,
-    questions: &Questions,
     settings: &Settings,
-) -> Result<Option<Schedule>, Memory>
-    requires within { AreQuestionsOf graph.now.vertices questions.now }
+) -> Result<Option<Plan>, Memory>
     requires settings { AreInRange settings.now }
-    ensures schedule { IfOk result
-        (λ g. IfSome g (λ g. IsSchedule graph.now g.plan g.sources.items)) }
-    ensures sources { IfOk result (λ g. IfSome g (λ g. g.sources.items ≡ flat_map sources_of
-        (asked_of questions.now).questions)) }
-    ensures plain { settings.now.plain ≡ true → IfOk result (λ g. g ≡ None) }
-    ensures kind { IfOk result (λ g. is_none g ≡ settings.now.plain) }
+    ensures plan { IfOk result (λ p. IfSome p (IsPlanOf graph.now)) }
+    ensures plain { settings.now.plain ≡ true → IfOk result (λ p. p ≡ None) }
+    ensures kind { IfOk result (λ p. is_none p ≡ settings.now.plain) }
 {
     if settings.plain {
         return Ok(None);
     }
     let plan = Plan::blocks(alloc, graph.vertices(), settings.shards as u8)?;
-    let sources = all_sources(alloc, questions)?;
-    Ok(Some(Schedule { plan, sources }))
+    Ok(Some(plan))
 }
 
-/// How many diffusions a batch has: none if the plain solver answers.
-pub(crate) fn count_diffusions(schedule: Option<&Schedule>) -> u64
-    ensures none { schedule.entry ≡ None → result ≡ 0 }
-    ensures some { IfSome schedule.entry (λ g. result ≡ length g.now.sources.items) }
+/// How many diffusions a batch has, one from each source of each question: none if the plain solver answers.
+pub(crate) fn count_diffusions(questions: &Questions, plain: bool) -> u64
+    requires { (vertices : ℕ) × AreQuestionsOf vertices questions.now }
+    ensures { result ≡ count_diffusions plain (asked_of questions.now).questions }
 {
-    match schedule {
-        Some(schedule) => schedule.sources.len() as u64,
-        None => 0,
+    if plain {
+        return 0;
     }
+    let mut count = 0;
+    for i in 0..questions.len() {
+        count += questions.sources(i).len() as u64;
+    }
+    count
 }

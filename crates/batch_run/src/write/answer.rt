@@ -11,9 +11,9 @@ ghost use Rattle.batch_run.specs.Solved.{IsSolvedFor};
 
 use crate::faults::Unanswered;
 use crate::solve::Solved;
-use crate::write::lines::{write_source, write_sources};
+use crate::write::lines::{write_pair, write_source, write_sources};
 use crate::write::routes::TwoWayGraph;
-use answer_text::{Answer, Found, write_answer};
+use answer_text::Found;
 use path_algebra::{Labels, PathAlgebra};
 use road_files::Questions;
 use road_graph::{Memory, Vertex};
@@ -37,7 +37,7 @@ fn found_at<'g, A: PathAlgebra>(
         (option_map found_of found)) }
 {
     routes_follow_parents(algebra);
-    let _n = graph.vertices();
+    graph.holds();
     let Some(value) = labels.of(target) else {
         return Ok(None);
     };
@@ -70,15 +70,8 @@ fn answer_pair<'g, A: PathAlgebra, W: RoadWrite>(
     let Ok(found) = found_at(alloc, algebra, graph, source, target, labels) else {
         return Err(Unanswered::Memory);
     };
-    let answer = Answer::Pair {
-        source,
-        target,
-        found,
-    };
-    match write_answer(out, &answer) {
-        Ok(()) => Ok(()),
-        Err(_) => Err(Unanswered::Write),
-    }
+    write_pair(out, source, target, found)?;
+    Ok(())
 }
 
 /// Writes the right answer to a question from one source to all vertices, by the tree of its best labels.
@@ -95,11 +88,8 @@ fn answer_source<'g, A: PathAlgebra, W: RoadWrite>(
     ensures { WroteAnswer (A.meaning algebra) graph.now (FromSource source) (W.written out.old)
         (W.written out.new) (W.failures out.old) (W.failures out.new) result }
 {
-    let n = graph.vertices();
-    match write_source(out, algebra, n, source, labels, tree) {
-        Ok(()) => Ok(()),
-        Err(_) => Err(Unanswered::Write),
-    }
+    write_source(out, algebra, graph.vertices(), source, labels, tree)?;
+    Ok(())
 }
 
 /// Writes the right answer to a question from several sources to all vertices, by the tree of its best labels.
@@ -116,11 +106,8 @@ fn answer_sources<'g, A: PathAlgebra, W: RoadWrite>(
     ensures { WroteAnswer (A.meaning algebra) graph.now (FromSources sources.now)
         (W.written out.old) (W.written out.new) (W.failures out.old) (W.failures out.new) result }
 {
-    let n = graph.vertices();
-    match write_sources(out, algebra, n, sources, labels, tree) {
-        Ok(()) => Ok(()),
-        Err(_) => Err(Unanswered::Write),
-    }
+    write_sources(out, algebra, graph.vertices(), sources, labels, tree)?;
+    Ok(())
 }
 
 /// Writes the right answer to the question at a place, given its best labels, and their tree unless it is a pair.

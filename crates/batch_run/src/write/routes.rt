@@ -66,10 +66,16 @@ impl<'g> TwoWayGraph<'g> {
         Ok(TwoWayGraph { graph, by_head })
     }
 
+    /// What holds of every graph: its arcs join its vertices, and it keeps the limits. Nothing is computed.
+    pub(crate) fn holds(&self)
+        ensures { IsGraph self.now }
+    {
+        self.graph.holds();
+    }
+
     /// How many vertices there are.
     pub(crate) fn vertices(&self) -> u32
-        ensures count { result ≡ self.now.vertices }
-        ensures roads { IsGraph self.now }
+        ensures { result ≡ self.now.vertices }
     {
         self.graph.vertices()
     }

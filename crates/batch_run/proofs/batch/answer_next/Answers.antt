@@ -13,7 +13,7 @@ returns-in-Err-clause-wrote g c = λ d. rw c.fault_of_group.ensures (not_solved 
 
 pub returns-in-Err-clause-later : goal.returns-in-Err-clause-later
 returns-in-Err-clause-later g c = rw c.fault_of_group.ensures
-    (group_later c.args.context.now.settings.now (g.T.Gate.may_answer c.args.context.now.gate.now) c.args.schedule c.in-Err.fault c.requires.kind c.in-Err.ensures.plain c.in-Err.ensures.says)
+    (group_later c.args.context.now.settings.now (g.T.Gate.may_answer c.args.context.now.gate.now) c.args.plan c.in-Err.fault c.requires.kind c.in-Err.ensures.plain c.in-Err.ensures.says)
 
 pub returns-in-Err-clause-begun : goal.returns-in-Err-clause-begun
 returns-in-Err-clause-begun g c = λ d. question_begun _ _ _ _ _ c.requires.kind _ _ _ _ (c.in-Err.ensures.begun d)

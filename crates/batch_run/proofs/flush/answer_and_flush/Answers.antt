@@ -10,7 +10,7 @@ pub returns-clause-text : goal.returns-clause-text
 returns-clause-text g c =
     let A = g.A.PathAlgebra.meaning c.args.algebra in
     let roads = g.B.FromArcs.roads c.args.graph in
-    all_or_prefix A roads c.args.questions c.requires.within (c.answers_exist.ensures roads c.count_vertices-n.ensures.roads) (c.first_answers_begin_all.ensures roads) _ _ c.flush_all.result
+    all_or_prefix A roads c.args.questions c.requires.within (c.answers_exist.ensures roads (rw c.into_batch-graph.ensures.roads at c.holds.ensures)) (c.first_answers_begin_all.ensures roads) _ _ c.flush_all.result
     (flushed A roads (asked_of c.args.questions) _ _ _ _ _ _ c.flush_all.ensures.bytes c.answer_over-answered.result c.flush_all.result
     (rw c.into_batch-graph.ensures.roads at c.answer_over-answered.ensures.text) c.flush_all.ensures.passed_on c.flush_all.ensures.fault)
 

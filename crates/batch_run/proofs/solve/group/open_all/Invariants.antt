@@ -1,11 +1,10 @@
 use Rattle.std.proofs.Common.{◌≡◌, ℕ, ◌<◌, get_or, vec_len}
-use Rattle.station.specs.Opened.{AreOpened}
-use Rattle.batch_run.specs.Diffusions.{diffusion}
+use Rattle.station.specs.Opened.{AreOpened, setup_of}
 use Rattle.batch_run.proofs.solve.group.open_all.Given as goal
 
 abbrev pub invariant-loop-source : goal.invariant-loop-source
 invariant-loop-source g l = record {
   floors : vec_len l.floors ≡ l.source-index;
   questions : vec_len l.questions ≡ l.source-index;
-  opened : (q : ℕ) (s : ℕ) (f : _) (v : _) → q < l.source-index → AreOpened g.A.PathAlgebra.meaning (diffusion l.algebra l.graph l.plan (get_or l.sources q s)) (get_or l.floors.items q f) (get_or l.questions.items q v).items;
+  opened : (q : ℕ) (s : ℕ) (f : _) (v : _) → q < l.source-index → AreOpened g.A.PathAlgebra.meaning (setup_of l.algebra l.graph (get_or l.sources q s) l.plan) (get_or l.floors.items q f) (get_or l.questions.items q v).items;
 }

@@ -1,47 +1,42 @@
-use Rattle.std.proofs.Common.{inl, inr, rules, arith, ◌≡◌, ◌∙◌, ◌+◌, ◌-◌, ◌∷◌, suc, ap, subst, get_or, length, refl}
+use Rattle.std.proofs.Common.{inl, inr, rules, arith, ◌≡◌, ◌∙◌, ◌-◌, ◌∷◌, ap, sym, drop, get_or, length}
+use Rattle.std.proofs.lemmas.List.{drop_all}
 use Rattle.std.proofs.lemmas.List.Elements.{All-nil, All-push}
 use Rattle.std.proofs.lemmas.Result.{err_from_is_err_and}
 use Rattle.worker_fleet.proofs.Stopped.{IsStop-says}
+use Rattle.station.specs.Opened.{setup_of}
 use Rattle.batch_run.specs.declared.solve.diffusion.EndedDiffusion.{EndedDiffusion}
-use Rattle.batch_run.specs.Diffusions.{AreEnded, IsEnded, diffusion}
-use Rattle.batch_run.proofs.Together.{opened_placed, run_ended, longer, others_ended, last_ended, source_after}
+use Rattle.batch_run.specs.Diffusions.{IsEnded, sources_in_order}
+use Rattle.batch_run.proofs.Together.{opened_placed, run_ended, longer, others_ended, last_ended}
+use Rattle.batch_run.proofs.NextDiffusions.{one_before, place_before}
 use Rattle.batch_run.proofs.solve.group.run_together.Goals as goal
-use Rattle.batch_run.proofs.solve.group.run_together.Goals.{In_ok-floors, At-loop-k}
+use Rattle.batch_run.proofs.solve.group.run_together.Goals.{In_ok-floors}
 
--- the sources are the first and those that follow
-sources_are : (g : _) (c : In_ok-floors g) → c.deref.result.now ≡ c.args.source ∷ c.args.rest.now
-sources_are g c = c.deref.ensures.value ∙ c.in_ok-sources.ensures
-
-many : (g : _) (c : In_ok-floors g) → length c.deref.result.now ≡ length c.args.rest.now + 1
-many g c = let e = ap (λ (l : _). length l) (sources_are g c) in e ∙ (omega arith)
-
-floors_are : (g : _) (c : In_ok-floors g) → length c.in_ok-floors.floors.items ≡ length c.deref.result.now
+floors_are : (g : _) (c : In_ok-floors g) → length c.in_ok-floors.floors.items ≡ length c.args.sources.now
 floors_are g c = let e = c.in_ok-floors.ensures.floors in search rules
 
 pub run_group-requires-clause-own : goal.run_group-requires-clause-own
 run_group-requires-clause-own g c κs within =
     let at = (goal.at.run_group-requires-clause-own g c).In_ok-floors in
     λ q d low. rw c.as_slice.ensures.value
-    (opened_placed g.A.PathAlgebra.meaning (λ q. diffusion c.args.context.now.algebra c.args.context.now.graph.now c.args.plan.now (get_or c.deref.result.now q 0)) c.in_ok-floors.floors.items c.in_ok-floors.questions.items
-    (length c.deref.result.now) (floors_are g at) (λ q f v low. c.in_ok-floors.ensures.opened q 0 f v low) q d (rw c.in_ok-floors.ensures.stations at low))
+    (opened_placed g.A.PathAlgebra.meaning (λ q. setup_of c.args.context.now.algebra c.args.context.now.graph.now (get_or c.args.sources.now q 0) c.args.plan.now) c.in_ok-floors.floors.items c.in_ok-floors.questions.items
+    (length c.args.sources.now) (floors_are g at) (λ q f v low. c.in_ok-floors.ensures.opened q 0 f v low) q d (rw c.in_ok-floors.ensures.stations at low))
 
 pub loop-k-init : goal.loop-k-init
 loop-k-init g c =
     let at = (goal.at.loop-k-init g c).In_ok-floors in
-    let n = many g at in
     let f = floors_are g at in
-    let l : length c.in_ok-lists.lists.items ≡ length c.deref.result.now = let a = c.in_ok-lists.ensures.len in let b = c.in_ok-floors.ensures.stations in search rules in
+    let l : length c.in_ok-lists.lists.items ≡ length c.args.sources.now = let a = c.in_ok-lists.ensures.len in let b = c.in_ok-floors.ensures.stations in search rules in
     record {
-      floors = omega (arith, n, f);
-      lists = omega (arith, n, l);
-      each = λ q s e v low. subst (λ (sources : _). AreEnded (diffusion c.args.context.now.algebra c.args.context.now.graph.now c.args.plan.now (get_or sources q s)) (get_or c.in_ok-floors.floors.items q e) (get_or c.in_ok-lists.lists.items q v).items)
-          (sources_are g at)
-          (run_ended g.A.PathAlgebra.meaning (λ q. diffusion c.args.context.now.algebra c.args.context.now.graph.now c.args.plan.now (get_or c.deref.result.now q s)) c.in_ok-floors.floors.items c.in_ok-floors.questions.items
-          (length c.deref.result.now) f (λ q f v low. c.in_ok-floors.ensures.opened q s f v low) c.in_ok-lists.lists.items
+      floors = omega (arith, f);
+      lists = omega (arith, l);
+      each = λ q s e v low.
+          run_ended g.A.PathAlgebra.meaning (λ q. setup_of c.args.context.now.algebra c.args.context.now.graph.now (get_or c.args.sources.now q s) c.args.plan.now) c.in_ok-floors.floors.items c.in_ok-floors.questions.items
+          (length c.args.sources.now) f (λ q f v low. c.in_ok-floors.ensures.opened q s f v low) c.in_ok-lists.lists.items
           (λ q k d e low. c.in_ok-lists.ensures.all q k d e (rw c.in_ok-floors.ensures.stations low))
           (λ q d low. rw c.as_slice.ensures.value at (c.in_ok-lists.ensures.done q d (rw c.in_ok-floors.ensures.stations low)))
-          q e v (rw f at low));
+          q e v (rw f at low);
       ended = rw c.new-ended.ensures.items (All-nil (λ (e : EndedDiffusion g.row.A.Denot g.row.A-Value.Denot). IsEnded c.args.context.now.algebra c.args.context.now.graph.now c.args.plan.now e));
+      order = rw c.new-ended.ensures.items (sym (drop_all (length c.args.sources.now - 0) c.args.sources.now (omega arith)));
     }
 
 pub loop-k-preserved : goal.loop-k-preserved
@@ -51,28 +46,24 @@ loop-k-preserved g c =
     let nf = longer _ _ _ last.floors in
     let nl = longer _ _ _ last.lists.1 in
     let low = c.loop-k-test.true in
+    let source = c.index-sources-sources.result in
     let same : length c.loop-k.floors.items ≡ length c.loop-k.lists.items = omega (arith, was.floors, was.lists) in
-    let place : length c.take_last-last.new.floors.items ≡ suc (length c.args.rest.now - 1 - c.loop-k.k) = omega (arith, nf, was.floors, low) in
+    let place : length c.take_last-last.new.floors.items ≡ length c.args.sources.now - 1 - c.loop-k.k = omega (arith, nf, was.floors, low) in
     record {
       floors = omega (arith, nf, was.floors);
       lists = omega (arith, nl, was.lists);
-      each = others_ended c.args.context.now.algebra c.args.context.now.graph.now c.args.plan.now (c.args.source ∷ c.args.rest.now) _ _ _ _ _ _ last.floors last.lists.1 same was.each;
+      each = others_ended c.args.context.now.algebra c.args.context.now.graph.now c.args.plan.now c.args.sources.now _ _ _ _ _ _ last.floors last.lists.1 same was.each;
       ended = rw c.in-Ok.ensures.items (All-push (λ (e : EndedDiffusion g.row.A.Denot g.row.A-Value.Denot). IsEnded c.args.context.now.algebra c.args.context.now.graph.now c.args.plan.now e) c.loop-k.ended.items c.take_last-last.result was.ended
-          (last_ended c.args.context.now.algebra c.args.context.now.graph.now c.args.plan.now (c.args.source ∷ c.args.rest.now) _ _ _ _ _ _ last.floors last.lists.1 same was.each c.take_last-last.result.stations.items c.take_last-last.result.source last.lists.2
-          (rw last.source (source_after c.args.source c.index-rest-rest.result c.args.rest.now (length c.take_last-last.new.floors.items) (length c.args.rest.now - 1 - c.loop-k.k) place (omega (arith, low)) c.index-rest-rest.is))));
+          (last_ended c.args.context.now.algebra c.args.context.now.graph.now c.args.plan.now c.args.sources.now _ _ _ _ _ _ last.floors last.lists.1 same was.each c.take_last-last.result.stations.items c.take_last-last.result.source last.lists.2
+          (rw (place, last.source) (sym c.index-sources-sources.is))));
+      order = place_before c.args.sources.now (sources_in_order c.loop-k.ended.items) (sources_in_order c.push.new.self.items) c.loop-k.k source low c.index-sources-sources.is was.order
+          (one_before c.loop-k.ended.items c.push.new.self.items c.take_last-last.result c.in-Ok.ensures.items ∙ ap (λ s. s ∷ sources_in_order c.loop-k.ended.items) last.source);
     }
 
-pub returns-clause-first : goal.returns-clause-first
-returns-clause-first g c =
-    let was = c.loop-k.invariant in
-    let last = c.take_last.ensures in
-    let nf = longer _ _ _ last.floors in
-    let over = c.loop-k-test.false in
-    let end = c.loop-k.auto.k-end in
-    let same : length c.loop-k.floors.items ≡ length c.loop-k.lists.items = omega (arith, was.floors, was.lists) in
-    let place : length c.take_last.new.floors.items ≡ 0 = omega (arith, nf, was.floors, over, end) in
-    last_ended c.args.context.now.algebra c.args.context.now.graph.now c.args.plan.now (c.args.source ∷ c.args.rest.now) _ _ _ _ _ _ last.floors last.lists.1 same was.each c.take_last.result.stations.items c.take_last.result.source last.lists.2
-    (rw (place, last.source) refl)
+pub returns-clause-sources : goal.returns-clause-sources
+returns-clause-sources g c =
+    let none : length c.args.sources.now - c.loop-k.k ≡ 0 = let over = c.loop-k-test.false in omega (arith, over) in
+    c.loop-k.invariant.order ∙ ap (λ n. drop n c.args.sources.now) none
 
 pub returns-in_err-lists-clause-says : goal.returns-in_err-lists-clause-says
 returns-in_err-lists-clause-says g c =

@@ -1,13 +1,13 @@
-use Rattle.std.proofs.Common.{take, map}
-use Rattle.std.specs.List.{All}
+use Rattle.std.proofs.Common.{take, map, ◌+◌}
 use Rattle.path_algebra.specs.Walks.{AreBest}
-use Rattle.batch_run.specs.Diffusions.{IsEnded}
+use Rattle.road_files.specs.Asked.{asked_of}
+use Rattle.batch_run.specs.Diffusions.{AreNext, sources_to_come}
 use Rattle.batch_run.specs.Reports.{Account, Reported}
 use Rattle.batch_run.proofs.solve.merge.merge_all.Given as goal
 
-abbrev pub invariant-loop-i : goal.invariant-loop-i
-invariant-loop-i g l = record {
-  best : AreBest (g.A.PathAlgebra.meaning l.context.algebra) l.context.graph.now (take l.i l.sources) l.labels;
-  ready : All (IsEnded l.context.algebra l.context.graph.now l.schedule.plan) l.queue.ended.items;
-  reported : Reported (g.A.PathAlgebra.meaning l.context.algebra) l.context.graph.now g.O.Watcher.may_become (map (Account l.question) (take l.i l.sources)) l.fn.watcher l.watcher;
+abbrev pub invariant-loop-j : goal.invariant-loop-j
+invariant-loop-j g l = record {
+  best : AreBest (g.A.PathAlgebra.meaning l.context.algebra) l.context.graph.now (take l.j l.sources) l.labels;
+  ready : AreNext l.context.algebra l.context.graph.now l.plan (sources_to_come (asked_of l.questions).questions l.i l.j) l.queue.ended.items;
+  reported : Reported (g.A.PathAlgebra.meaning l.context.algebra) l.context.graph.now g.O.Watcher.may_become (map (Account (l.i + 1)) (take l.j l.sources)) l.fn.watcher l.watcher;
 }

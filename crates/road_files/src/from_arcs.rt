@@ -22,10 +22,6 @@ pub trait FromArcs: Drop {
     fn count_vertices(&self) -> u32
         ensures count { result ≡ (roads self.now).vertices }
         ensures roads { IsGraph (roads self.now) };
-
-    /// What holds of every graph: its arcs join its vertices, and it keeps the limits. Nothing is computed.
-    fn holds(&self)
-        ensures { IsGraph (roads self.now) };
 }
 
 impl FromArcs for Graph {
@@ -38,10 +34,6 @@ impl FromArcs for Graph {
     fn count_vertices(&self) -> u32 {
         self.vertices()
     }
-
-    fn holds(&self) {
-        self.holds()
-    }
 }
 
 impl FromArcs for OutGraph {
@@ -53,9 +45,5 @@ impl FromArcs for OutGraph {
 
     fn count_vertices(&self) -> u32 {
         self.vertices()
-    }
-
-    fn holds(&self) {
-        self.holds()
     }
 }

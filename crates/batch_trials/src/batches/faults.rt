@@ -171,7 +171,7 @@ fn pieces_of_any_size(rt: HostRuntime) {
     }
 }
 
-/// Asserts that one input which fails behind these bytes is refused for it.
+/// Asserts that one input which fails after these bytes is refused for it.
 fn assert_unread(rt: &(impl Abort + AllocGlobal + Threads + Wait + Sync), prefix: &[u8]) {
     assert_refused(
         rt,

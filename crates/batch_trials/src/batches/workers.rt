@@ -33,7 +33,7 @@ pub const SEVERAL: &str = "p aux sp ms 2\nm 4 5\nm 5 2\n";
 pub const NEAREST: &str =
     "p ans ms 2 shortest\nm 4 5\nd 1 3 1 5\nd 2 6 3 3\nd 3 4 2 1\nd 4 0 0 0\nd 5 0 0 0\nm 5 2\nd 1 3 1 5\nd 2 0 0 0\nd 3 4 2 1\nd 4 5 1 2\nd 5 0 0 0\n";
 
-/// A question from several sources, of which one stands twice.
+/// A question from several sources, of which one is given twice.
 const TWICE: &str = "p aux sp ms 1\nm 1 1\n";
 
 /// What `TWICE` over `FIVE` is answered.
@@ -137,7 +137,7 @@ fn any_width_and_budget(rt: HostRuntime) {
     }
 }
 
-/// Whether a question is answered; if not, asserts that the limit of turns has stopped it behind the header.
+/// Whether a question is answered; if not, asserts that the limit of turns has stopped it after the header.
 fn is_answered(
     rt: &(impl Abort + AllocGlobal + Threads + Wait + Sync),
     settings: &Settings,

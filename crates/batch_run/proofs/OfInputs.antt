@@ -90,17 +90,3 @@ module _ (s : Settings) (answers : ℕ → ℕ → Bool → Type 0) (before afte
 
     pub of_no_setting : (P : Type 0) → IfErr r (λ f. f.number ≡ 43 → P)
     of_no_setting P = IfErr-weaker r _ _ (λ f l e. absurd (later_no_setting f l.0 e)) later
-
--- a fault of an input is none of the run's own
-module _ (f : RunFault) (kind : ((f.file ≡ Graph) ⊎ (f.file ≡ Questions)) × IsRoadNumber f.number) where
-  low : f.number ≤ 19
-  low = grind arith
-
-  pub in_an_input : f.file ≢ NoFile
-  in_an_input = λ e. elim kind.0 [
-    | inl is ↦ let bad : Graph ≡ NoFile = sym is ∙ e in cc
-    | inr is ↦ let bad : Questions ≡ NoFile = sym is ∙ e in cc
-  ]
-
-  pub of_no_run : (n : ℕ) → 20 ≤ n → f.number ≢ n
-  of_no_run n high = λ e. omega (arith, low, high, e)

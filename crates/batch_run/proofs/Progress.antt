@@ -108,12 +108,6 @@ module _ {V : Type 0} (A : Algebra V) (g : GraphData) (asked : Asked) where
     unanswered variants.Memory h = subst (WroteFirst A g asked old) (sym h.0) (stop i old mid b m p)
     unanswered variants.Write h = fell i old mid new b m a h.0 lt q h.1 p h.2
 
-    -- then memory was refused, or a write failed and was counted
-    pub fault_later : (u : Unanswered) → WroteAnswer A g (get_or asked.questions i q) mid new m a (Err u) →
-        (s : Settings) (answers : ℕ → ℕ → Bool → Type 0) → IsLater s answers (fault_of_answer u) × ((fault_of_answer u).number ≡ 42 → b < a)
-    fault_later variants.Memory h s answers = ((refl, refl, inl refl), λ e. absurd (omega (arith, e)))
-    fault_later variants.Write h s answers = ((refl, refl, inr (inr (inr refl))), λ e. omega (arith, h.2.failed, p.left.sound))
-
     -- the same, if the plain solver answers
     pub plain_later : (u : Unanswered) → WroteAnswer A g (get_or asked.questions i q) mid new m a (Err u) → IsPlainLater (fault_of_answer u) × ((fault_of_answer u).number ≡ 42 → b < a)
     plain_later variants.Memory h = ((refl, refl, inl refl), λ e. absurd (omega (arith, e)))

@@ -1,9 +1,9 @@
 -- The sources that are still to come, and how many questions have.
 use Rattle.std.proofs.Common.{zero, suc, ◌≡◌, ℕ, ◌<◌, ◌≤◌, ◌+◌, ◌-◌, List, [], ◌∷◌, ◌++◌, length, get_or, take, drop, refl, sym, ap, ◌∙◌, subst, append_assoc, arith, min}
 use Rattle.std.specs.List.{All, flat_map}
-use Rattle.std.proofs.Math.Seq.{drop-cons, drop-append_seam, take-append_seam, take-append-add}
+use Rattle.std.proofs.Math.Seq.{drop-cons, drop-append_seam, take-append-add}
 use Rattle.std.proofs.lemmas.Grind.{common_steps}
-use Rattle.std.proofs.lemmas.List.{take_more, take_all, take_min, drop_all, length-take, drop-append-le, append-nil, flat_map_more, length-append, get_or-map}
+use Rattle.std.proofs.lemmas.List.{take_more, take_all, take_min, length-take, drop-append-le, flat_map_more, length-append, get_or-map}
 use Rattle.std.proofs.lemmas.List.Concat.{flat_map-cons}
 use Rattle.std.proofs.lemmas.List.Elements.{All-nil, All-append, All-drop, All-head, All-tail}
 use Rattle.road_files.specs.Asked.{AskWithin, IsVertexOf, Question, FromSource, asked_of, of_source, of_pair, of_list, sources_of}
@@ -93,17 +93,6 @@ module _ (qs : List Question) where
           let own = sources_of (get_or qs k d) in
           let after = flat_map sources_of (drop (k + 1) qs) in
           ap (λ (l : List ℕ). take w (l ++ after)) is ∙ take_again w (xs ++ own) after ∙ ap (take w) (append_assoc xs own after ∙ ap (λ (l : List ℕ). xs ++ l) (sym (from_question k d low))) ∙ were
-
-      -- there are as many as may be
-      pub collected_enough : length xs ≡ w → xs ≡ take w (sources_to_come qs i j)
-      collected_enough many =
-          let after = flat_map sources_of (drop k qs) in
-          sym (take-append_seam xs after) ∙ ap (λ (n : ℕ). take n (xs ++ after)) many ∙ were
-
-      -- no question is left
-      pub collected_all : length qs ≤ k → length xs ≤ w → xs ≡ take w (sources_to_come qs i j)
-      collected_all over few =
-          sym (take_all w xs few) ∙ ap (take w) (sym (append-nil xs) ∙ ap (λ (l : List Question). xs ++ flat_map sources_of l) (sym (drop_all k qs over))) ∙ were
 
   -- how many the first questions have, with one question more
   pub counted_more : (i n m : ℕ) (d : Question) → i < length qs → n ≡ length (flat_map sources_of (take i qs)) → m ≡ n + length (sources_of (get_or qs i d)) → m ≡ length (flat_map sources_of (take (i + 1) qs))

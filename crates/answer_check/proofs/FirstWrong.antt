@@ -4,7 +4,7 @@ use Rattle.std.specs.Prelude.{◌↔◌, All, slice_get}
 use Rattle.std.proofs.lemmas.List.Elements.{All-head, All-tail, All-cons, All-nil}
 use Rattle.std.proofs.lemmas.Option.{slice_get_within, slice_get-get_or}
 use Rattle.road_graph.specs.GraphData.{GraphData, IsGraph, HasVertex}
-use Rattle.road_graph.proofs.Options.{same_some}
+use Rattle.road_graph.proofs.Lists.{same_some}
 use Rattle.path_algebra.specs.Algebra.{Algebra, IsLawful}
 use Rattle.path_algebra.proofs.Walks.{all_inside}
 use Rattle.road_files.specs.Asked.{Question, FromSource, BetweenPair, FromSources, Asked, AskWithin, asked_of, of_source, of_pair, of_list}
@@ -23,7 +23,7 @@ use Rattle.answer_check.specs.Reasons.{reason_number, IsLineRefused}
 use Rattle.answer_check.specs.Verdicts.{HasHeader, Names, IsRefusedAt, IsWrongIn, IsWrong, IsEarlier, IsFirstWrong, IsVerdict}
 use Rattle.answer_check.specs.Places.{IsJudgedAt}
 use Rattle.answer_check.proofs.Certified.{lines_are_certified}
-use Rattle.answer_check.proofs.Refused.{certified_not_refused}
+use Rattle.answer_check.proofs.FirstPlaces.{certified_not_refused}
 use Rattle.answer_check.proofs.PairsJudged.{pair_not_refused}
 
 number_above : (r : Reason) → 1 ≤ reason_number r

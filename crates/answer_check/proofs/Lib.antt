@@ -1,5 +1,4 @@
 pub mod Certified
-pub mod Refused
 mod EvidenceAdds
 pub mod EvidenceMeans
 pub mod FirstPlaces

@@ -2,7 +2,6 @@ pub mod VertexLines
 mod Blocks
 mod ShortWords
 pub mod OneAnswer
-pub mod FirstAnswers
 mod ListFields
 mod HeldAnswerLines
 mod AnswerParserLaws

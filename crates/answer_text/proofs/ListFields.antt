@@ -2,7 +2,7 @@
 use Rattle.std.proofs.Common.{◌≡◌, ◌⊎◌, inl, inr, ℕ, ◌+◌, ◌<◌, min, List, [], ◌∷◌, ◌++◌, length, drop, map, Ok, true, refl, sym, ap, ◌∙◌, arith, length-append}
 use Rattle.road_text.specs.Rules.{◌>>=◌}
 use Rattle.road_text.specs.Words.{Word, word_of, held_word}
-use Rattle.road_text.proofs.ListFields.{words_push, after_first}
+use Rattle.road_text.proofs.ListLaws.{words_push, after_first}
 use Rattle.road_text.proofs.WordLaws.{number_held}
 use Rattle.answer_text.specs.declared.present_numbers.PresentNumbers.{PresentNumbers}
 use Rattle.answer_text.specs.AnswerFiles.{answer_number, numbers_in}

@@ -15,8 +15,7 @@ use Rattle.path_algebra.specs.Algebra.{Algebra}
 use Rattle.answer_text.specs.AnswerData.{AnswerData}
 use Rattle.answer_text.specs.IsAnswer.{IsAnswer, AreAnswers}
 use Rattle.answer_text.specs.AnswerText.{answer_text, blocks_text, header_text}
-use Rattle.answer_text.proofs.FirstAnswers.{blocks_split}
-use Rattle.answer_text.proofs.OneAnswer.{answers_count}
+use Rattle.answer_text.proofs.OneAnswer.{blocks_split, answers_count}
 use Rattle.batch_run.specs.declared.faults.RunFault.{RunFault}
 use Rattle.batch_run.specs.declared.faults.Unanswered.{Unanswered}
 use Rattle.batch_run.specs.declared.faults.Unanswered.TheVariants as variants

@@ -4,7 +4,7 @@ use Rattle.std.proofs.lemmas.List.{take_more}
 use Rattle.road_graph.specs.GraphData.{GraphData}
 use Rattle.path_algebra.specs.Algebra.{Algebra, IsLawful}
 use Rattle.path_algebra.specs.Walks.{AreBest, label_of, better_label}
-use Rattle.path_algebra.proofs.Merge.{merged_are_best}
+use Rattle.path_algebra.proofs.Least.{merged_are_best}
 
 pub source_more : {V : Type 0} (A : Algebra V) (lawful : IsLawful A) (g : GraphData) (order : V → V → Bool) (same : A.no_worse ≡ order) (xs : List ℕ) (i x : ℕ) (ls ms ns : List (Option V)) →
     i < length xs → x ≡ get_or xs i x → AreBest A g (take i xs) ls → AreBest A g (x ∷ []) ms → length ns ≡ length ls →

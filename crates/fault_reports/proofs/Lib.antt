@@ -1,2 +1,2 @@
-pub mod Written
+mod Written
 mod RowsByNumber

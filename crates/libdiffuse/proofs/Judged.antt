@@ -8,8 +8,7 @@ use Rattle.path_algebra.proofs.Walks.{all_inside}
 use Rattle.answer_check.specs.declared.verdict.Reason.{Reason}
 use Rattle.answer_check.specs.Reasons.{IsLineRefused, reason_number}
 use Rattle.answer_check.proofs.Certified.{lines_are_certified}
-use Rattle.answer_check.proofs.FirstPlaces.{lines_judged}
-use Rattle.answer_check.proofs.Refused.{certified_not_refused}
+use Rattle.answer_check.proofs.FirstPlaces.{lines_judged, certified_not_refused}
 use Rattle.libdiffuse.specs.Tree.{lines_of, AreTreeLists, IsFirstPlace, IsFirstRefuted}
 use Rattle.libdiffuse.specs.Answers.{HavePlaces}
 use Rattle.libdiffuse.proofs.Spelled.{lines_count}

@@ -1,8 +1,11 @@
--- The best label among the places that a list of marks leaves open.
-use Rattle.std.proofs.Common.{◌≡◌, ℕ, zero, suc, ◌+◌, ◌<◌, inl, inr, Bool, true, false, cond, List, get_or, refl, sym, ◌∙◌, subst, arith, Option, Some, None, below_more, add-one}
+-- The best label among the places that are open, and among those of two lists of sources.
+use Rattle.std.proofs.Common.{◌≡◌, ℕ, zero, suc, ◌+◌, ◌<◌, inl, inr, Bool, true, false, cond, List, get_or, refl, sym, ◌∙◌, subst, arith, Option, Some, None, below_more, add-one, ◌⊎◌, ◌++◌, length}
 use Rattle.std.specs.Prelude.{IsTrue}
-use Rattle.path_algebra.specs.Algebra.{IsOrder}
+use Rattle.path_algebra.specs.Algebra.{IsOrder, Algebra, IsLawful}
 use Rattle.path_algebra.specs.Open.{AnswersBestOpen, better_of}
+use Rattle.std.proofs.lemmas.List.Elements.{Contains-append_left, Contains-append_right, Contains-append_cases}
+use Rattle.road_graph.specs.GraphData.{GraphData}
+use Rattle.path_algebra.specs.Walks.{IsWalkValue, IsBest, IsBestLabel, AreBest, label_of, better_label}
 
 module _ {V : Type 0} (no_worse : V → V → Bool) (ordered : IsOrder no_worse) where
   pub same_no_worse : (a : V) → IsTrue (no_worse a a)
@@ -86,3 +89,57 @@ module _ {V : Type 0} (no_worse : V → V → Bool) (ordered : IsOrder no_worse)
   best_open zero = (None, λ j h. absurd (omega arith))
   best_open (suc k) = let before = best_open k in
       rw (← add-one) (more k before.0 before.1 (get_or marks k false) refl (get_or labels k None) refl)
+
+module _ {V : Type 0} (A : Algebra V) (lawful : IsLawful A) (g : GraphData) (xs ys : List ℕ) where
+  from_first : (v : ℕ) (x : V) → IsWalkValue A g xs v x → IsWalkValue A g (xs ++ ys) v x
+  from_first v x w = (w.0, (w.1.0, Contains-append_left xs ys w.1.0 w.1.1, w.1.2), w.2)
+
+  from_second : (v : ℕ) (x : V) → IsWalkValue A g ys v x → IsWalkValue A g (xs ++ ys) v x
+  from_second v x w = (w.0, (w.1.0, Contains-append_right xs ys w.1.0 w.1.1, w.1.2), w.2)
+
+  from_either : (v : ℕ) (x : V) → IsWalkValue A g (xs ++ ys) v x →
+      IsWalkValue A g xs v x ⊎ IsWalkValue A g ys v x
+  from_either v x w = elim (Contains-append_cases xs ys w.1.0 w.1.1) [
+    | inl h ↦ inl (w.0, (w.1.0, h, w.1.2), w.2)
+    | inr h ↦ inr (w.0, (w.1.0, h, w.1.2), w.2)
+  ]
+
+  both : (v : ℕ) (y z : V) (b : Bool) → A.no_worse y z ≡ b → IsBest A g xs v y → IsBest A g ys v z →
+      IsBest A g (xs ++ ys) v (cond b y z)
+  both v y z true e h k = record {
+    attained = from_first v y h.attained;
+    least = λ t w. elim (from_either v t w) [
+      | inl u ↦ h.least t u
+      | inr u ↦ lawful.ordered.transitive y z t e (k.least t u)
+    ];
+  }
+  both v y z false e h k = record {
+    attained = from_second v z k.attained;
+    least = λ t w. elim (from_either v t w) [
+      | inl u ↦ lawful.ordered.transitive z y t (other_no_worse A.no_worse lawful.ordered y z e) (h.least t u)
+      | inr u ↦ k.least t u
+    ];
+  }
+
+  merged_label : (v : ℕ) (l m : Option V) → IsBestLabel A g xs v l → IsBestLabel A g ys v m →
+      IsBestLabel A g (xs ++ ys) v (better_label A.no_worse l m)
+  merged_label v None None h k = λ t w. elim (from_either v t w) [ inl u ↦ h t u | inr u ↦ k t u ]
+  merged_label v (Some y) None h k = record {
+    attained = from_first v y h.attained;
+    least = λ t w. elim (from_either v t w) [ inl u ↦ h.least t u | inr u ↦ absurd (k t u) ];
+  }
+  merged_label v None (Some z) h k = record {
+    attained = from_second v z k.attained;
+    least = λ t w. elim (from_either v t w) [ inl u ↦ absurd (h t u) | inr u ↦ k.least t u ];
+  }
+  merged_label v (Some y) (Some z) h k = both v y z (A.no_worse y z) refl h k
+
+  pub merged_are_best : (ls ms ns : List (Option V)) → AreBest A g xs ls → AreBest A g ys ms →
+      length ns ≡ length ls →
+      ((v : ℕ) → label_of ns v ≡ better_label A.no_worse (label_of ls v) (label_of ms v)) →
+      AreBest A g (xs ++ ys) ns
+  merged_are_best ls ms ns h k n is = record {
+    count = n ∙ h.count;
+    best = λ v in_v. subst (λ (l : Option V). IsBestLabel A g (xs ++ ys) v l) (sym (is v))
+        (merged_label v (label_of ls v) (label_of ms v) (h.best v in_v) (k.best v in_v));
+  }

@@ -1,8 +1,7 @@
 pub mod Opening
 pub mod Known
-pub mod Offering
 pub mod Rounds
 pub mod Waiting
 mod Steps
-pub mod Relaxing
+pub mod Offering
 mod Existing

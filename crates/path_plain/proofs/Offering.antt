@@ -1,14 +1,41 @@
 -- One arc of the vertex that is being settled, and then all of them.
-use Rattle.std.proofs.Common.{◌≡◌, ℕ, suc, ◌-◌, ◌<◌, ◌⊎◌, inl, inr, Bool, List, [], ◌∷◌, length, refl, ap, sym, ◌∙◌, subst, arith, Option, Some, None, get_or-set_same, get_or-set_other, length-set}
+use Rattle.std.proofs.Common.{◌≡◌, ℕ, ◌<◌, ◌≤◌, List, [], ◌∷◌, length, get_or, refl, ap, sym, subst, ◌∙◌, arith, Option, suc, ◌-◌, ◌⊎◌, inl, inr, Bool, Some, None, get_or-set_same, get_or-set_other, length-set}
+use Rattle.std.proofs.lemmas.List.{get_or-map, length-map, get_or_default}
+use Rattle.road_graph.specs.GraphData.{GraphData, IsGraph, HasVertex, ListsRoadsFrom, arc_of, road_of, roads_of, HasArc}
+use Rattle.path_algebra.specs.Algebra.{Algebra, IsOrder, IsLawful}
+use Rattle.path_algebra.specs.Walks.{offered_if, relaxed, IsWalkValue, IsNotImproving, label_of, improved, offered}
+use Rattle.road_graph.specs.declared.OutRoad.{OutRoad}
+use Rattle.path_plain.proofs.Waiting.{out_short}
 use Rattle.std.proofs.lemmas.Bool.{cases_eq, cases_Bool}
 use Rattle.std.specs.Prelude.{IsTrue, All}
-use Rattle.road_graph.specs.GraphData.{GraphData, IsGraph, HasArc, HasVertex, arc_of}
 use Rattle.road_graph.proofs.Lists.{head_or_tail}
-use Rattle.path_algebra.specs.Algebra.{Algebra, IsOrder, IsLawful}
-use Rattle.path_algebra.specs.Walks.{IsWalkValue, IsNotImproving, label_of, improved, offered, offered_if, relaxed}
 use Rattle.path_algebra.proofs.Walks.{IsWalkValue-extend, walk_value_is_value, all_inside}
 use Rattle.path_algebra.proofs.Least.{same_no_worse, other_no_worse}
 use Rattle.path_plain.proofs.Known.{IsSettled, Search}
+
+-- the labels after x was extended along each road of a list
+abbrev pub relaxed_by_roads : {V : Type 0} → Algebra V → V → List (Option V) → List OutRoad → List (Option V)
+relaxed_by_roads A x labels [] = labels
+relaxed_by_roads A x labels (r ∷ roads) = relaxed_by_roads A x (offered_if A.no_worse labels r.head (A.extend x r.weight)) roads
+
+pub relaxed_is : {V : Type 0} (A : Algebra V) (g : GraphData) (x : V) (labels : List (Option V)) (numbers : List ℕ) → relaxed A g x labels numbers ≡ relaxed_by_roads A x labels (roads_of g numbers)
+relaxed_is A g x labels [] = refl
+relaxed_is A g x labels (a ∷ numbers) = relaxed_is A g x (offered_if A.no_worse labels (arc_of g a).head (A.extend x (arc_of g a).weight)) numbers
+
+-- heads are vertices
+pub head_in : (g : GraphData) → IsGraph g → (v : ℕ) (out : List OutRoad) → ListsRoadsFrom g v out → (i : ℕ) (r : OutRoad) → i < length out → r ≡ get_or out i r → HasVertex g r.head
+head_in g roads v out lists i r lt is =
+    let n : length out ≡ length lists.0 = rw (lists.2) (simp length-map) in
+    let in_numbers : i < length lists.0 = omega (arith, n) in
+    let at : get_or out i r ≡ road_of (arc_of g (get_or lists.0 i 0)) = ap (λ (o : List OutRoad). get_or o i r) lists.2 ∙ get_or-map (λ a. road_of (arc_of g a)) lists.0 i 0 r in_numbers in
+    let has = ((lists.1.complete (get_or lists.0 i 0)).0 (i, in_numbers, get_or_default lists.0 i (get_or lists.0 i 0) 0 in_numbers)).0 in
+    subst (λ (q : OutRoad). HasVertex g q.head) (sym (is ∙ at)) ((roads.ends (get_or lists.0 i 0) has).1)
+
+-- no more roads leave a vertex than there are arcs
+pub roads_short : (g : GraphData) (v : ℕ) (out : List OutRoad) → ListsRoadsFrom g v out → length out ≤ length g.arcs
+roads_short g v out lists =
+    let n : length out ≡ length lists.0 = rw (lists.2) (simp length-map) in
+    omega (arith, n, out_short g v lists.0 lists.1)
 
 -- what an offer leaves is no worse than what was offered, and than what was there
 module _ {V : Type 0} (no_worse : V → V → Bool) (ordered : IsOrder no_worse) (z : V) where
@@ -49,8 +76,8 @@ module _ {V : Type 0} (A : Algebra V) (lawful : IsLawful A) (g : GraphData) (roa
   tail_in : HasVertex g (arc_of g a).tail
   tail_in = (roads.ends a this.0).0
 
-  head_in : HasVertex g (arc_of g a).head
-  head_in = (roads.ends a this.0).1
+  own_head : HasVertex g (arc_of g a).head
+  own_head = (roads.ends a this.0).1
 
   x_is_value : IsTrue (A.is_value x)
   x_is_value = walk_value_is_value A lawful g roads sources (arc_of g a).tail x (known.values (arc_of g a).tail x tail_in this.2)
@@ -60,12 +87,12 @@ module _ {V : Type 0} (A : Algebra V) (lawful : IsLawful A) (g : GraphData) (roa
 
   at_head : (v : ℕ) → HasVertex g v → v ≡ (arc_of g a).head → label_of after v ≡ improved A.no_worse (label_of labels v) z
   at_head v in_v e =
-      let lt : (arc_of g a).head - 1 < length labels = omega (arith, head_in.0, head_in.1, known.labels_count) in
+      let lt : (arc_of g a).head - 1 < length labels = omega (arith, own_head.0, own_head.1, known.labels_count) in
       rw e (get_or-set_same labels ((arc_of g a).head - 1) (improved A.no_worse (label_of labels (arc_of g a).head) z) None lt)
 
   elsewhere : (v : ℕ) → HasVertex g v → (v ≡ (arc_of g a).head → ⊥) → label_of after v ≡ label_of labels v
   elsewhere v in_v ne =
-      let other : v - 1 ≡ (arc_of g a).head - 1 → ⊥ = λ e. ne (omega (arith, in_v.0, head_in.0)) in
+      let other : v - 1 ≡ (arc_of g a).head - 1 → ⊥ = λ e. ne (omega (arith, in_v.0, own_head.0)) in
       get_or-set_other labels ((arc_of g a).head - 1) (v - 1) (improved A.no_worse (label_of labels (arc_of g a).head) z) None other
 
   never_worse : (v : ℕ) (y : V) → HasVertex g v → label_of labels v ≡ Some y → (w : V) × (label_of after v ≡ Some w) × IsTrue (A.no_worse w y)
@@ -100,7 +127,7 @@ module _ {V : Type 0} (A : Algebra V) (lawful : IsLawful A) (g : GraphData) (roa
       let both : Some z ≡ Some t = sym ex ∙ ap (λ (v : V). A.extend v (arc_of g a).weight) is ∙ f in
       let gives : z ≡ t = cc in
       let l = left_by_offer A.no_worse lawful.ordered z (label_of labels (arc_of g a).head) in
-      (l.0, at_head (arc_of g a).head head_in refl ∙ l.1, subst (λ (v : V). IsTrue (A.no_worse l.0 v)) gives l.2)
+      (l.0, at_head (arc_of g a).head own_head refl ∙ l.1, subst (λ (v : V). IsTrue (A.no_worse l.0 v)) gives l.2)
 
   still_not_improving : (b : ℕ) → HasArc g b → IsSettled settled (arc_of g b).tail → IsNotImproving A g labels b → IsNotImproving A g after b
   still_not_improving b h t old y u e f =

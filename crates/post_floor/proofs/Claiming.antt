@@ -4,7 +4,7 @@ use Rattle.std.proofs.lemmas.Bool.{cases_eq}
 use Rattle.std.proofs.Math.Nat.{div-add-mod, mod-lt}
 use Rattle.atomic_table.specs.Table.{rest}
 use Rattle.scholten_core.specs.Sums.{sum_below}
-use Rattle.scholten_core.proofs.Sums.{sum_most, sum_ones}
+use Rattle.scholten_core.proofs.Basics.{sum_most, sum_ones}
 use Rattle.shard_store.specs.Totals.{total, is}
 use Rattle.shard_part.specs.Weights.{All}
 use Rattle.shard_store.specs.Setup.{SetupData}

@@ -30,7 +30,7 @@ use Rattle.post_floor.specs.Plays.{IsViewOf, StepsTo, at_word, Unclaimed, begin_
 use Rattle.post_floor.proofs.Totals.{total_at, is_else, is_one, without_same, without_else}
 use Rattle.shard_part.specs.Exact.{done_by}
 use Rattle.shard_part.proofs.TakenCounts.{handled_same}
-use Rattle.shard_part.proofs.Arriving.{arrives}
+use Rattle.shard_part.proofs.UnderWay.{arrives}
 use Rattle.post_floor.proofs.Keeps.{gone, Relisted, went, kept_core}
 use Rattle.post_floor.proofs.Changes.{Tab, Seat, changes}
 

@@ -3,7 +3,7 @@ use Rattle.std.proofs.Common.{◌≡◌, ℕ, ◌+◌, ◌<◌, ◌≤◌, List,
 use Rattle.std.specs.Result.{OnOk}
 use Rattle.road_text.specs.Rules.{◌>>=◌}
 use Rattle.road_text.specs.Words.{Word, word_of, held_word}
-use Rattle.road_text.proofs.ListFields.{words_push, after_first}
+use Rattle.road_text.proofs.ListLaws.{words_push, after_first}
 use Rattle.road_files.specs.declared.present_list.PresentList.{PresentList}
 use Rattle.road_files.specs.Numbers.{vertex_in}
 use Rattle.road_files.specs.QuestionFiles.{vertices_in, one_vertex_more, begins_list}

@@ -2,7 +2,7 @@
 use Rattle.std.proofs.Common.{if◌then◌else◌, ℕ, ◌≤◌, List, ◌∷◌, [], length, drop, map, Bool, Option, Some, None, Result, Ok, Err, arith}
 use Rattle.road_text.specs.Rules.{◌>>=◌, unless}
 use Rattle.road_text.specs.Words.{Word, word_of}
-use Rattle.road_text.proofs.OwnNumbers.{IsOwn, own_then, own_unless, own_if, own_up_to}
+use Rattle.road_text.proofs.ParserLaws.{IsOwn, own_then, own_unless, own_if, own_up_to}
 use Rattle.road_files.specs.declared.questions.Kind.{Kind}
 use Rattle.road_files.specs.Asked.{Question}
 use Rattle.road_files.specs.Numbers.{up_to, vertex_in}

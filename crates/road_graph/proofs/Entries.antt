@@ -8,7 +8,7 @@ use Rattle.road_graph.specs.declared.Side.TheVariants.{Tail}
 use Rattle.road_graph.specs.GraphData.{GraphData, IsGraph, HasArc, IsRank, ListsRoadsFrom, arc_of, road_of, roads_of}
 use Rattle.road_graph.specs.Making.{AreRows, IsEntry, IsIndex, end_of}
 use Rattle.road_graph.proofs.Places.{number_is_arc, stands, rank_is}
-use Rattle.road_graph.proofs.Rising.{same_rising}
+use Rattle.road_graph.proofs.Lists.{same_rising}
 
 -- what is read of the tails, and of the roads in the order of the rows
 tail_read : (g : GraphData) (tails : List ℕ) → tails ≡ map (end_of Tail) g.arcs → (a : ℕ) → HasArc g a → get_or tails (a - 1) 0 ≡ (arc_of g a).tail

@@ -1,10 +1,8 @@
-pub mod Lists
-pub mod Options
 pub mod Numbers
 mod Counting
 mod Placing
 mod Reading
-pub mod Rising
+pub mod Lists
 mod Places
 mod Entries
 mod OneRows

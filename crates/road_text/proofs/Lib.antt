@@ -5,14 +5,11 @@ pub mod TextLaws
 mod ReaderLaws
 mod ReadingLaws
 pub mod WordLaws
-pub mod ParserLaws
 pub mod WriteLaws
-pub mod ListFields
 pub mod ListLaws
 mod FirstFault
 pub mod RoundTrip
 mod ShortLineLaws
-pub mod OwnNumbers
-pub mod WholeTexts
+pub mod ParserLaws
 mod LeadingNumbers
 mod CutterLaws

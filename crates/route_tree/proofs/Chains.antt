@@ -1,7 +1,7 @@
 -- Chains of parents.
 use Rattle.std.proofs.Common.{◌≡◌, ℕ, ◌+◌, ◌≤◌, List, [], ◌∷◌, ◌++◌, length, refl, ap, ◌∙◌, subst, Option, Some, None, reverse}
 use Rattle.std.proofs.lemmas.List.{reverse-append}
-use Rattle.road_graph.proofs.Options.{same_some}
+use Rattle.road_graph.proofs.Lists.{same_some}
 use Rattle.route_tree.specs.Tree.{Branches, hops_of, parent_of, IsLinkedAt, IsLinked, IsChain, IsRoute}
 
 -- a list that is being filled from the back: reversed, it leads from `at` to the target

@@ -17,8 +17,7 @@ use Rattle.route_tree.proofs.OneArc.{visit_arc}
 use Rattle.route_tree.proofs.OneVertex.{visit_open, visit_level}
 use Rattle.route_tree.proofs.Marking.{marked_start, marked_once, marked_visits}
 use Rattle.route_tree.proofs.LevelsAreLeast.{hops_are_least, parents_are_least}
-use Rattle.route_tree.proofs.Trees.{tree_is}
-use Rattle.route_tree.proofs.Linked.{linked}
+use Rattle.route_tree.proofs.Trees.{tree_is, linked}
 use Rattle.route_tree.proofs.Chains.{Climbing, climb, climb_hops, climbed, climb_start}
 
 -- reaching moves one vertex from the open ones to the next level

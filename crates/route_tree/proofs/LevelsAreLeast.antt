@@ -4,8 +4,7 @@ use Rattle.std.proofs.lemmas.List.{length-append, nil_from_length}
 use Rattle.std.proofs.lemmas.List.Elements.{All-nil, All-cons, All-head, All-tail, All-append}
 use Rattle.std.specs.Prelude.{IsTrue, Contains, All}
 use Rattle.road_graph.specs.GraphData.{GraphData, HasArc, HasVertex, arc_of}
-use Rattle.road_graph.proofs.Lists.{not_in_empty}
-use Rattle.road_graph.proofs.Options.{same_some}
+use Rattle.road_graph.proofs.Lists.{not_in_empty, same_some}
 use Rattle.path_algebra.specs.Walks.{IsWalk, label_of}
 use Rattle.path_algebra.proofs.Walks.{IsWalk-snoc}
 use Rattle.route_tree.specs.Levels.{IsWalkOf, IsLeastAt, AreLeast, IsTreeArc, IsLeastTail, AreLeastTails, IsPassed, Visiting}

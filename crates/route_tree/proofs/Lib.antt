@@ -2,7 +2,6 @@ pub mod LevelsAreLeast
 mod OneArc
 mod OneVertex
 mod Marking
-pub mod Linked
 pub mod Trees
 mod Chains
 mod Told

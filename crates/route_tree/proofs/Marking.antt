@@ -5,8 +5,7 @@ use Rattle.std.proofs.lemmas.List.{get_or-replicate, length-replicate, take_more
 use Rattle.std.proofs.lemmas.List.Elements.{Contains-append_left, Contains-append_right, Contains-append_cases}
 use Rattle.std.specs.Prelude.{Contains, All}
 use Rattle.road_graph.specs.GraphData.{GraphData, IsGraph, HasArc, HasVertex, arc_of}
-use Rattle.road_graph.proofs.Lists.{not_in_empty, head_or_tail, here}
-use Rattle.road_graph.proofs.Options.{same_some}
+use Rattle.road_graph.proofs.Lists.{not_in_empty, head_or_tail, here, same_some}
 use Rattle.path_algebra.specs.Walks.{label_of}
 use Rattle.route_tree.specs.Levels.{IsWalkOf, hops_if, next_if, Visiting, IsMarked}
 use Rattle.route_tree.proofs.LevelsAreLeast.{IsWalkOf-nil}

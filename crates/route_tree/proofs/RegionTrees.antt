@@ -3,7 +3,7 @@ use Rattle.std.proofs.Common.{◌≡◌, ℕ, ◌+◌, ◌≤◌, Bool, true, fa
 use Rattle.std.proofs.lemmas.List.Elements.{All-nil, All-cons, All-head, All-tail}
 use Rattle.std.specs.Prelude.{IsTrue, Contains, All}
 use Rattle.road_graph.specs.GraphData.{GraphData, IsGraph, HasVertex, arc_of}
-use Rattle.road_graph.proofs.Options.{same_some}
+use Rattle.road_graph.proofs.Lists.{same_some}
 use Rattle.path_algebra.specs.Algebra.{Algebra, IsLawful}
 use Rattle.path_algebra.specs.Walks.{IsWalk, AreBest, AreHops, IsUnreached, label_of, is_marked, is_tight}
 use Rattle.route_tree.specs.Levels.{IsWalkOf, AreLeast, IsTreeArc, IsLeastTail, AreLeastTails}
@@ -13,9 +13,8 @@ use Rattle.route_tree.specs.Tree.{AreHopsAt, IsChain, IsRoute}
 use Rattle.route_tree.proofs.VisitingBack.{within_back}
 use Rattle.route_tree.proofs.Existing.{least_exist}
 use Rattle.route_tree.proofs.LevelsAreLeast.{IsWalkOf-snoc}
-use Rattle.route_tree.proofs.Linked.{hops_at, walk_has_hops, tail_at}
+use Rattle.route_tree.proofs.Trees.{hops_at, walk_has_hops, tail_at, tree_is}
 use Rattle.route_tree.proofs.Told.{route_is}
-use Rattle.route_tree.proofs.Trees.{tree_is}
 
 -- the test that an arc passes where its head is marked too
 abbrev into : GraphData → (ℕ → Bool) → List Bool → ℕ → Bool

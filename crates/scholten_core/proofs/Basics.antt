@@ -1,12 +1,66 @@
--- Facts on the words of the definitions.
-use Rattle.std.proofs.Common.{◌≡◌, ◌≢◌, ℕ, zero, suc, ◌<◌, ◌≤◌, Bool, true, false, cond, not, ◌&&◌, ◌||◌, eqb, Option, Some, None, ◌⊎◌, refl, sym, ap, ◌∙◌, subst, inl, inr, arith, eqb-true, eq-eqb, ne_eqb}
+-- Facts on the words of the definitions, and sums below a bound.
+use Rattle.std.proofs.Common.{◌≡◌, ◌≢◌, ℕ, zero, suc, ◌+◌, ◌<◌, ◌≤◌, Bool, true, false, eqb, ne_eqb, eq-eqb, refl, ap, inl, inr, arith, cond, not, ◌&&◌, ◌||◌, Option, Some, None, ◌⊎◌, sym, ◌∙◌, subst, eqb-true, List, length, get_or, set, get_or-set_same, get_or-set_other}
 use Rattle.std.proofs.lemmas.Bool.{cases_eq, cases_Bool, and_parts, and_from, false≢true, cond-true, cond-false, and_left, and_right, not_from_true, not_from_false, or_cases, not-true}
+use Rattle.scholten_core.specs.Sums.{sum_below, one_if}
 use Rattle.scholten_core.specs.declared.token.Token.{Token}
 use Rattle.scholten_core.specs.declared.token.Token.TheVariants.{Idle, Message, Held, Signal}
 use Rattle.path_algebra.proofs.Least.{same_no_worse}
 use Rattle.path_algebra.specs.Algebra.{Algebra, IsLawful}
 use Rattle.scholten_core.specs.Network.{Network}
 use Rattle.scholten_core.specs.Diffusion.{CoreState, put, is_idle, all_below, is_due, out_idle, same_label, pump, sent, extend_label, better_of}
+
+pub one_if-most : (t : Bool) → one_if t ≤ 1
+one_if-most true = omega arith
+one_if-most false = omega arith
+
+pub sum_below_same : (f g : ℕ → ℕ) (n : ℕ) → ((b : ℕ) → b < n → f b ≡ g b) → sum_below f n ≡ sum_below g n
+sum_below_same f g zero h = refl
+sum_below_same f g (suc n) h = let s = sum_below_same f g n (λ b l. h b (omega (arith, l))) in let t = h n (omega arith) in omega (arith, s, t)
+
+pub sum_same : (f g : ℕ → ℕ) (n : ℕ) → ((b : ℕ) → f b ≡ g b) → sum_below f n ≡ sum_below g n
+sum_same f g n h = sum_below_same f g n (λ b l. h b)
+
+pub sum_zero : (f : ℕ → ℕ) (n : ℕ) → ((b : ℕ) → f b ≡ 0) → sum_below f n ≡ 0
+sum_zero f zero h = refl
+sum_zero f (suc n) h = let s = sum_zero f n h in let t = h n in omega (arith, s, t)
+
+pub sum_ones : (n : ℕ) → sum_below (λ b. 1) n ≡ n
+sum_ones zero = refl
+sum_ones (suc n) = let p = sum_ones n in omega (arith, p)
+
+pub sum_add : (f g : ℕ → ℕ) (n : ℕ) → sum_below (λ b. f b + g b) n ≡ sum_below f n + sum_below g n
+sum_add f g zero = omega arith
+sum_add f g (suc n) = let h = sum_add f g n in omega (arith, h)
+
+pub sum_most : (f g : ℕ → ℕ) (n : ℕ) → ((b : ℕ) → f b ≤ g b) → sum_below f n ≤ sum_below g n
+sum_most f g zero h = omega arith
+sum_most f g (suc n) h = let p = sum_most f g n h in let q = h n in omega (arith, p, q)
+
+-- the sums differ by what stands at a
+pub sum_at : (f g : ℕ → ℕ) (a n : ℕ) → a < n → ((b : ℕ) → b ≢ a → f b ≡ g b) → sum_below f n + g a ≡ sum_below g n + f a
+sum_at f g a zero l h = absurd (omega (arith, l))
+sum_at f g a (suc n) l h = elim (cases_eq n a) [
+  | inl e ↦ (let s = sum_below_same f g n (λ b m. h b (λ q. omega (arith, q, m, e))) in let x = ap f e in let y = ap g e in omega (arith, s, x, y))
+  | inr ne ↦ (let s = sum_at f g a n (omega (arith, l, ne)) h in let x = h n ne in omega (arith, s, x))
+]
+
+-- no term is more than the sum
+pub sum_term : (f : ℕ → ℕ) (a n : ℕ) → a < n → f a ≤ sum_below f n
+sum_term f a zero l = absurd (omega (arith, l))
+sum_term f a (suc n) l = elim (cases_eq n a) [
+  | inl e ↦ (let x = ap f e in omega (arith, x))
+  | inr ne ↦ (let s = sum_term f a n (omega (arith, l, ne)) in omega (arith, s))
+]
+
+pub sum_one : (a n : ℕ) → a < n → sum_below (λ b. one_if (eqb b a)) n ≡ 1
+sum_one a n l =
+    let d = sum_at (λ b. one_if (eqb b a)) (λ b. 0) a n l (λ b ne. ap one_if (ne_eqb b a ne)) in
+    let z = sum_zero (λ b. 0) n (λ b. refl) in
+    let o = ap one_if (eq-eqb a a refl) in omega (arith, d, z, o)
+
+pub sum_first : (f : ℕ → ℕ) (n : ℕ) → sum_below f (suc n) ≡ f 0 + sum_below (λ b. f (suc b)) n
+sum_first f zero = omega arith
+sum_first f (suc n) = let h = sum_first f n in omega (arith, h)
 
 pub put-at : {X : Type 0} (f : ℕ → X) (k : ℕ) (x : X) (j : ℕ) → j ≡ k → put f k x j ≡ x
 unfolding put
@@ -18,6 +72,15 @@ put-same f k x = put-at f k x k refl
 pub put-other : {X : Type 0} (f : ℕ → X) (k : ℕ) (x : X) (j : ℕ) → (j ≡ k → ⊥) → put f k x j ≡ f j
 unfolding put
 put-other f k x j h = cond-false (eqb j k) x (f j) (ne_eqb j k h)
+
+pub same_function : {X : Type 0} (f g : ℕ → X) → ((j : ℕ) → f j ≡ g j) → f ≡ g
+same_function f g h = λ i j. h j i
+
+pub put_set : {X : Type 0} (xs : List X) (k : ℕ) (x d : X) → k < length xs → (λ j. get_or (set xs k x) j d) ≡ put (λ j. get_or xs j d) k x
+put_set xs k x d l = same_function (λ j. get_or (set xs k x) j d) (put (λ j. get_or xs j d) k x) (λ j. elim (cases_eq j k) [
+  | inl e ↦ ap (λ m. get_or (set xs k x) m d) e ∙ get_or-set_same xs k x d l ∙ sym (put-at (λ m. get_or xs m d) k x j e)
+  | inr n ↦ get_or-set_other xs k j x d n ∙ sym (put-other (λ m. get_or xs m d) k x j n)
+])
 
 -- what a changed function answers
 pub put_tells : {X : Type 0} (f : ℕ → X) (k : ℕ) (x : X) (j : ℕ) → ((j ≡ k) × (put f k x j ≡ x)) ⊎ ((j ≡ k → ⊥) × (put f k x j ≡ f j))

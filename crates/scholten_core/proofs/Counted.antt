@@ -8,7 +8,7 @@ use Rattle.scholten_core.specs.Diffusion.{CoreState, is_idle}
 use Rattle.scholten_core.specs.Sums.{one_if}
 use Rattle.scholten_core.specs.Deficit.{deficit}
 use Rattle.scholten_core.specs.CoreView.{AreDeficits}
-use Rattle.scholten_core.proofs.Sums.{one_if-most, sum_zero, sum_ones, sum_most, sum_at, sum_term}
+use Rattle.scholten_core.proofs.Basics.{one_if-most, sum_zero, sum_ones, sum_most, sum_at, sum_term}
 
 module _ {V : Type 0} (N : Network) where
   -- what the arc b, with this token, adds to the deficit of v

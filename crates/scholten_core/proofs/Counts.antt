@@ -10,10 +10,9 @@ use Rattle.scholten_core.specs.Network.{Network, WellFormed}
 use Rattle.scholten_core.specs.Diffusion.{CoreState, state_after, opening, same_label, run_from, is_message, is_signal, is_due, out_idle, pump, arrive, released, freed, settle, settle_tail, delivered, accepted, step, sent, extend_label, answer_to}
 use Rattle.scholten_core.specs.Sums.{sum_below, one_if}
 use Rattle.scholten_core.specs.Accounts.{sent_on, label_changes, count_sent, count_signalled, is_delivery, is_acceptance, sent_total, signalled_total, delivered_total, accepted_total}
-use Rattle.scholten_core.proofs.Basics.{use_same, due_tells, put_tells, same_self}
+use Rattle.scholten_core.proofs.Basics.{use_same, due_tells, put_tells, same_self, one_if-most, sum_same, sum_zero, sum_add, sum_one}
 use Rattle.scholten_core.proofs.Ended.{opening_kept, ended}
 use Rattle.scholten_core.proofs.Kept.{Kept, pumped, arrive_kept, freed_kept, step_kept}
-use Rattle.scholten_core.proofs.Sums.{one_if-most, sum_same, sum_zero, sum_add, sum_one}
 
 module _ {V : Type 0} (A : Algebra V) (N : Network) where
   -- what settling may do to one arc's token

@@ -1,17 +1,25 @@
--- What is promised of every reached state, and of every ended one, in the words of the graph's walks.
-use Rattle.std.proofs.Common.{◌≡◌, ℕ, ◌≤◌, Option, Some, None, List, [], ◌∷◌, refl, sym, ap, ◌∙◌}
-use Rattle.road_graph.specs.GraphData.{GraphData, IsGraph}
+-- What is promised of every reached state and its accounts, and of every ended one, in the words of the graph.
+use Rattle.std.proofs.Common.{◌≡◌, ℕ, ◌≤◌, Option, Some, None, List, [], ◌∷◌, refl, sym, ap, ◌∙◌, suc, ◌+◌, Bool, is_some, inl, inr, length, arith}
+use Rattle.road_graph.specs.GraphData.{GraphData, IsGraph, HasVertex, HasArc, arc_of}
 use Rattle.path_algebra.specs.Algebra.{Algebra, IsLawful}
-use Rattle.path_algebra.specs.Walks.{IsBestLabel}
+use Rattle.path_algebra.specs.Walks.{IsBestLabel, IsWalkValue}
 use Rattle.scholten_core.specs.declared.event.Event.{Event}
 use Rattle.scholten_core.specs.Network.{network, head_of}
-use Rattle.scholten_core.specs.Diffusion.{CoreState, state_after, HasEnded, IsQuiet}
+use Rattle.scholten_core.specs.Diffusion.{CoreState, state_after, HasEnded, IsQuiet, opening}
 use Rattle.scholten_core.specs.Rooted.{IsRooted, NeutralIsIdle, HeldIsEngager}
 use Rattle.scholten_core.specs.Reached.{LabelsAreWalkValues, MessagesAreWalkValues, EntryIsOrigin, LabelsAreBest}
-use Rattle.scholten_core.proofs.Networks.{well_formed}
+use Rattle.scholten_core.proofs.Networks.{well_formed, tail-arc, tail-entry}
 use Rattle.scholten_core.proofs.SharedWalks.{value_in_graph, value_in_network}
 use Rattle.scholten_core.proofs.Kept.{Kept}
 use Rattle.scholten_core.proofs.Ended.{IsSolved, reached_kept, reached_rooted, ended}
+use Rattle.std.proofs.lemmas.Bool.{cases_Bool}
+use Rattle.path_algebra.specs.Given.{reach}
+use Rattle.path_algebra.specs.Laws.{reach_laws}
+use Rattle.scholten_core.specs.Sums.{one_if}
+use Rattle.scholten_core.specs.Accounts.{sent_on, label_changes, totals_of, AreEqualTotals, AreMarksOfReached, count_marked}
+use Rattle.scholten_core.proofs.Counts.{sends_at_most, all_equal}
+use Rattle.scholten_core.proofs.Reach.{IsOneValued, reach_sends, walk_end}
+use Rattle.scholten_core.proofs.Basics.{sum_below_same, sum_first}
 
 module _ {V : Type 0} (A : Algebra V) (g : GraphData) (s : ℕ) where
   pub run_kept_at : IsLawful A → IsGraph g → 1 ≤ s → (es : List Event) → Kept A (network g s) 0 (state_after A (network g s) es)
@@ -50,3 +58,47 @@ module _ {V : Type 0} (A : Algebra V) (g : GraphData) (s : ℕ) where
 
   pub ended_is_best : IsLawful A → IsGraph g → 1 ≤ s → (es : List Event) → HasEnded (state_after A (network g s) es) → LabelsAreBest A g s (state_after A (network g s) es)
   ended_is_best L R l es q = solved_best R (state_after A (network g s) es) (ended A (network g s) L (well_formed g s R l) es q).1
+
+module _ {V : Type 0} (A : Algebra V) (g : GraphData) (s : ℕ) where
+  pub sends_follow_changes : IsLawful A → IsGraph g → 1 ≤ s → (es : List Event) (b : ℕ) →
+      sent_on A (network g s) b (opening A (network g s)) es ≤ label_changes A (network g s) ((network g s).tail b) (opening A (network g s)) es
+  sends_follow_changes L R l es b = sends_at_most A (network g s) L (well_formed g s R l) es b
+
+  pub totals_are_equal : IsLawful A → IsGraph g → 1 ≤ s → (es : List Event) → HasEnded (state_after A (network g s) es) → AreEqualTotals (totals_of A (network g s) es)
+  totals_are_equal L R l es q = let h = all_equal A (network g s) L (well_formed g s R l) es q in (sym h.0, sym h.1, sym h.2)
+
+module _ (g : GraphData) (s : ℕ) where
+  one_value : IsOneValued reach (network g s)
+  one_value = record { all = λ x y. refl; always = λ x w. (tt, refl) }
+
+  -- a label stands at the tail of each marked arc, and at no other
+  marked_label : (c : CoreState (Unit {0})) (marked : ℕ → Bool) → AreMarksOfReached reach g s marked →
+      ((v : ℕ) (x : Unit {0}) → c.label v ≡ Some x → IsWalkValue reach g (s ∷ []) v x) → ((v : ℕ) → HasVertex g v → IsBestLabel reach g (s ∷ []) v (c.label v)) → IsGraph g →
+      (a : ℕ) → HasArc g a → is_some (c.label ((arc_of g a).tail)) ≡ marked a
+  marked_label c marked M W B R a h = go (c.label (arc_of g a).tail) refl (B (arc_of g a).tail (R.ends a h).0)
+    where
+      go : (o : Option (Unit {0})) → c.label (arc_of g a).tail ≡ o → IsBestLabel reach g (s ∷ []) (arc_of g a).tail o → is_some o ≡ marked a
+      go (Some x) q b = sym ((M a h).1 (x, W (arc_of g a).tail x q))
+      go None q b = elim (cases_Bool (marked a)) [ inl t ↦ absurd (let r = (M a h).0 t in b r.0 r.1) | inr f ↦ sym f ]
+
+  pub reach_sends_once : IsGraph g → HasVertex g s → (es : List Event) → HasEnded (state_after reach (network g s) es) → (marked : ℕ → Bool) → AreMarksOfReached reach g s marked →
+      (totals_of reach (network g s) es).sent ≡ 1 + count_marked g marked
+  reach_sends_once R S es q marked M =
+      let W = well_formed g s R S.0 in
+      let c = state_after reach (network g s) es in
+      let K = run_kept_at reach g s reach_laws R S.0 es in
+      let none = no_entry_label K ((state_after reach (network g s) es).label 0) refl in
+      let first : one_if (is_some ((state_after reach (network g s) es).label ((network g s).tail 0))) ≡ 0 =
+      ap (λ v. one_if (is_some ((state_after reach (network g s) es).label v))) (tail-entry g) ∙ ap (λ o. one_if (is_some o)) none in
+      let each = sum_below_same (λ b. one_if (is_some ((state_after reach (network g s) es).label ((network g s).tail (suc b))))) (λ b. one_if (marked (suc b))) (length g.arcs)
+      (λ b l. let h : HasArc g (suc b) = (omega arith, omega (arith, l)) in
+      ap (λ v. one_if (is_some ((state_after reach (network g s) es).label v))) (tail-arc g (suc b) (omega arith))
+      ∙ ap one_if (marked_label (state_after reach (network g s) es) marked M (labels_are_walk_values reach g s reach_laws R S.0 es) (ended_is_best reach g s reach_laws R S.0 es q) R (suc b) h)) in
+      let all = reach_sends reach (network g s) reach_laws W one_value es q in
+      let split = sum_first (λ b. one_if (is_some ((state_after reach (network g s) es).label ((network g s).tail b)))) (length g.arcs) in
+      omega (arith, first, each, all, split)
+    where
+      no_entry_label : Kept reach (network g s) 0 (state_after reach (network g s) es) → (o : Option (Unit {0}))
+          → (state_after reach (network g s) es).label 0 ≡ o → (state_after reach (network g s) es).label 0 ≡ None
+      no_entry_label K None h = h
+      no_entry_label K (Some x) h = absurd (let w = K.label_walk 0 x h in walk_end reach (network g s) (well_formed g s R S.0) s w.0 0 (λ z. let l = S.0 in omega (arith, l, z)) w.1 refl)

@@ -14,11 +14,10 @@ use Rattle.scholten_core.specs.Diffusion.{CoreState, opening, arrive, freed, set
 use Rattle.scholten_core.specs.Sums.{one_if}
 use Rattle.scholten_core.specs.Accounts.{label_changes}
 use Rattle.path_algebra.specs.SimpleWalks.{HasSimpleWalks}
-use Rattle.scholten_core.proofs.Basics.{put_tells, same_self}
+use Rattle.scholten_core.proofs.Basics.{put_tells, same_self, one_if-most}
 use Rattle.scholten_core.proofs.Networks.{well_formed}
 use Rattle.scholten_core.proofs.Walks.{along}
 use Rattle.scholten_core.proofs.SharedWalks.{along_extends}
-use Rattle.scholten_core.proofs.Sums.{one_if-most}
 use Rattle.scholten_core.proofs.Kept.{Kept, step_kept}
 use Rattle.scholten_core.proofs.Ended.{opening_kept}
 use Rattle.scholten_core.proofs.Counts.{settle_label}

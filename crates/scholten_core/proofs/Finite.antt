@@ -12,7 +12,7 @@ use Rattle.scholten_core.specs.Accounts.{sent_on, is_delivery, is_acceptance, se
 use Rattle.path_algebra.specs.SimpleWalks.{HasSimpleWalks, simple_walks}
 use Rattle.scholten_core.specs.SimpleWalks.{message_bound}
 use Rattle.scholten_core.proofs.Networks.{tail-arc, tail-entry, well_formed}
-use Rattle.scholten_core.proofs.Sums.{sum_zero, sum_add, sum_most, sum_first}
+use Rattle.scholten_core.proofs.Basics.{sum_zero, sum_add, sum_most, sum_first}
 use Rattle.scholten_core.proofs.Counts.{sends_at_most, never_more}
 use Rattle.scholten_core.proofs.Falling.{changes_at_most}
 use Rattle.path_algebra.proofs.SimpleWalks.{has_simple_walks}

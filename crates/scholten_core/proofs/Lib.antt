@@ -1,20 +1,17 @@
 pub mod Basics
-pub mod Sums
 pub mod Walks
 pub mod Kept
 mod Rooted
 pub mod Ended
 pub mod Shares
 pub mod Items
-pub mod Parts
 pub mod Counts
 mod Reach
 pub mod Networks
 mod SharedWalks
-pub mod EveryRun
 pub mod Quick
 mod Counted
-pub mod Written
+mod Written
 mod Sized
 mod Offered
 mod Pumping
@@ -22,7 +19,7 @@ mod CoreSteps
 mod Opened
 mod GraphReads
 mod RunReads
-pub mod EveryAccount
+pub mod EveryRun
 pub mod Busy
 mod Trails
 mod SimpleWalks

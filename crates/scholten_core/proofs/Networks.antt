@@ -3,7 +3,7 @@ use Rattle.std.proofs.Common.{◌≡◌, ◌≢◌, ℕ, zero, suc, ◌-◌, ◌
 use Rattle.std.proofs.lemmas.Bool.{cases_eq, cases_lt}
 use Rattle.std.proofs.lemmas.List.{get_or_past, get_or_default}
 use Rattle.road_graph.specs.GraphData.{GraphData, IsGraph, HasArc, arc_of, ListsArcsFrom}
-use Rattle.road_graph.proofs.Rising.{rises}
+use Rattle.road_graph.proofs.Lists.{rises}
 use Rattle.scholten_core.specs.CoreView.{CoreView, network_of}
 use Rattle.scholten_core.specs.Network.{Network, WellFormed, network, tail_of, head_of, weight_of}
 

@@ -11,7 +11,7 @@ use Rattle.scholten_core.specs.Diffusion.{CoreState, opening, put, is_idle}
 use Rattle.scholten_core.specs.CoreView.{CoreView, state_of, network_of, AreDeficits, AreTablesSized, IsRun}
 use Rattle.scholten_core.specs.DiffusionData.{network_in, IsDiffusion}
 use Rattle.scholten_core.proofs.Networks.{tail-entry}
-use Rattle.scholten_core.proofs.Written.{put_set}
+use Rattle.scholten_core.proofs.Basics.{put_set}
 use Rattle.scholten_core.proofs.Counted.{counted_more, idle_counted}
 
 replicate_reads : {X : Type 0} (n : ℕ) (x : X) → ◌≡◌ {A = ℕ → X} (λ j. get_or (replicate n x) j x) (λ j. x)

@@ -11,11 +11,10 @@ use Rattle.scholten_core.proofs.Walks.{Walk}
 use Rattle.scholten_core.specs.Diffusion.{CoreState, state_after, opening, same_label, run_from, is_message, is_due, out_idle, pump, arrive, released, freed, settle, settle_tail, delivered, accepted, step, sent, extend_label, answer_to}
 use Rattle.scholten_core.specs.Sums.{sum_below, one_if}
 use Rattle.scholten_core.specs.Accounts.{sent_on, label_changes, count_sent, sent_total}
-use Rattle.scholten_core.proofs.Basics.{due_tells, put_tells}
+use Rattle.scholten_core.proofs.Basics.{due_tells, put_tells, sum_zero, sum_add, sum_same, one_if-most}
 use Rattle.scholten_core.proofs.Ended.{opening_kept, reached_kept, ended}
 use Rattle.scholten_core.proofs.Kept.{Kept, AtMost_arrive, arrive_kept, freed_kept, step_kept}
 use Rattle.scholten_core.proofs.Counts.{sends_at_most, settle_label, rest_told, released_changes, held_pumped}
-use Rattle.scholten_core.proofs.Sums.{sum_zero, sum_add, sum_same, one_if-most}
 
 module _ {V : Type 0} (A : Algebra V) (N : Network) where
   pub record IsOneValued : Type 0 where

@@ -8,16 +8,7 @@ use Rattle.scholten_core.specs.declared.token.Token.TheVariants.{Idle, Message, 
 use Rattle.scholten_core.specs.Network.{Network}
 use Rattle.scholten_core.specs.Diffusion.{CoreState, is_due, is_idle, same_label, sent, extend_label, put, freed, arrive, better_of, engaged_by, answer_to, pump_one, released, rest, out_idle}
 use Rattle.scholten_core.specs.CoreView.{CoreView, state_of}
-use Rattle.scholten_core.proofs.Basics.{put-at, put-other, idle-true}
-
-pub same_function : {X : Type 0} (f g : ℕ → X) → ((j : ℕ) → f j ≡ g j) → f ≡ g
-same_function f g h = λ i j. h j i
-
-pub put_set : {X : Type 0} (xs : List X) (k : ℕ) (x d : X) → k < length xs → (λ j. get_or (set xs k x) j d) ≡ put (λ j. get_or xs j d) k x
-put_set xs k x d l = same_function (λ j. get_or (set xs k x) j d) (put (λ j. get_or xs j d) k x) (λ j. elim (cases_eq j k) [
-  | inl e ↦ ap (λ m. get_or (set xs k x) m d) e ∙ get_or-set_same xs k x d l ∙ sym (put-at (λ m. get_or xs m d) k x j e)
-  | inr n ↦ get_or-set_other xs k j x d n ∙ sym (put-other (λ m. get_or xs m d) k x j n)
-])
+use Rattle.scholten_core.proofs.Basics.{put-at, put-other, idle-true, put_set, same_function}
 
 pub answered_busy : {V : Type 0} (o : Option ℕ) (t : Token V) → t ≡ answer_to o → is_idle t ≡ false
 answered_busy None t e = ap is_idle e

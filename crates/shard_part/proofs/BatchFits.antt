@@ -15,7 +15,7 @@ use Rattle.shard_part.specs.Weights.{part_weight, outs_weight}
 use Rattle.shard_part.specs.LocalInvariant.{LocalInvariant}
 use Rattle.shard_part.specs.Exchange.{Fits, FitsAlone, FitsBefore}
 use Rattle.shard_part.proofs.Rings.{map_read}
-use Rattle.shard_store.proofs.Pieces.{none_of}
+use Rattle.shard_store.proofs.Totals.{none_of}
 
 pub is_none : (n : ℕ) → n ≡ 0 → leb 1 n ≡ false
 is_none n e = elim (leb_tells 1 n) [ inl t ↦ absurd (let l = t.1 in omega (arith, l, e)) | inr f ↦ f.0 ]

@@ -18,10 +18,9 @@ use Rattle.shard_store.specs.Rows.{Rows}
 use Rattle.shard_part.specs.Moves.{AreRowDeficits, RepInvariant, IsPlace, IsArcRow}
 use Rattle.shard_store.proofs.Totals.{sum_at, sum_below_same}
 use Rattle.shard_store.proofs.Counting.{own_arcs_most}
-use Rattle.shard_store.proofs.Spread.{table_write, table_long}
-use Rattle.shard_store.proofs.Places.{own_apart, own_placed}
+use Rattle.shard_store.proofs.Places.{table_write, table_long, own_apart, own_placed}
 use Rattle.shard_part.proofs.Moves.{place_at, row_at, arc_below, apart}
-use Rattle.scholten_core.proofs.Sums.{one_if-most}
+use Rattle.scholten_core.proofs.Basics.{one_if-most}
 
 pub busy_most : {V : Type 0} (N : Network) (v : ℕ) (d : CoreState V) (n : ℕ) → busy_out N v d n ≤ n
 busy_most N v d zero = omega arith

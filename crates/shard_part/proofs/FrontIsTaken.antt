@@ -9,7 +9,7 @@ use Rattle.path_algebra.specs.Algebra.{IsLawful as Lawful}
 use Rattle.scholten_core.specs.Network.{Network, WellFormed}
 use Rattle.scholten_core.specs.Diffusion.{CoreState, put, is_idle, is_due, improves, better_of, engaged_by, answer_to, freed}
 use Rattle.scholten_core.specs.Items.{item_arc, item_of, pump_made, settle_made, IsDistinct, IsOutList}
-use Rattle.scholten_core.proofs.Basics.{put_tells, due_tells}
+use Rattle.scholten_core.proofs.Basics.{put_tells, due_tells, put_set}
 use Rattle.shard_store.specs.Tallies.{counted_on, top}
 use Rattle.shard_part.specs.PartState.{PartData, state_in, token_if, mine, vertex_of, IsArc}
 use Rattle.shard_store.specs.Setup.{SetupData, network_of, place_in, IsPlanned}
@@ -20,7 +20,7 @@ use Rattle.shard_store.specs.Outgoing.{outgoing}
 use Rattle.shard_store.specs.Rows.{Rows}
 use Rattle.shard_part.specs.Moves.{RepInvariant, IsPopped, engaged_or_answered, offered, offered_all, rested, with_value, with_free, with_taken}
 use Rattle.shard_part.specs.Part.{OwnIdleIsTold}
-use Rattle.shard_store.proofs.Spread.{table_long}
+use Rattle.shard_store.proofs.Places.{table_long}
 use Rattle.shard_part.proofs.InFlight.{outgoing_is}
 use Rattle.shard_part.proofs.Moves.{formed}
 use Rattle.shard_part.proofs.Graphs.{head_of_arc, head_of_entry, tail_of_arc, tail_of_entry}
@@ -29,7 +29,6 @@ use Rattle.scholten_core.proofs.Quick.{HasTold, quiet_signal, made_nothing, made
 use Rattle.shard_part.proofs.Quick.{quiet_message}
 use Rattle.shard_part.proofs.OffersArePumped.{counted_none, counted_top}
 use Rattle.shard_part.proofs.VertexSettles.{Made, settles, made_after}
-use Rattle.scholten_core.proofs.Written.{put_set}
 use Rattle.road_graph.proofs.Lists.{not_in_empty, here_as, head_or_tail}
 
 -- the tables have a place for each vertex and each arc, and no counter is past its top

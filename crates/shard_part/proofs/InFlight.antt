@@ -15,11 +15,10 @@ use Rattle.shard_store.specs.Totals.{total}
 use Rattle.shard_part.specs.Weights.{in_flight, at_place}
 use Rattle.shard_store.specs.Outgoing.{outgoing, arcs_from}
 use Rattle.shard_part.specs.Handling.{made}
-use Rattle.scholten_core.proofs.Basics.{put-same, put-other}
+use Rattle.scholten_core.proofs.Basics.{put-same, put-other, sum_add}
 use Rattle.scholten_core.proofs.Kept.{Kept, step_kept}
 use Rattle.scholten_core.proofs.Items.{at-nil, message_makes, signal_makes}
 use Rattle.shard_store.proofs.Totals.{sum_at, total_by_arc}
-use Rattle.scholten_core.proofs.Sums.{sum_add}
 use Rattle.road_graph.proofs.Lists.{not_in_empty, here_as, later, head_or_tail}
 
 module _ {V : Type 0} (A : Algebra V) (N : Network) where

@@ -11,7 +11,7 @@ mod Readable
 mod Moves
 mod Busy
 mod Rings
-pub mod Graphs
+mod Graphs
 mod Offers
 mod Pumping
 mod OffersArePumped
@@ -20,12 +20,11 @@ mod FrontIsTaken
 mod ToldKept
 pub mod TakenCounts
 mod TakenShown
-pub mod Opened
+mod Opened
 mod Receiving
 mod BatchFits
 mod TablesOpen
 pub mod OpenedAll
 pub mod Sharing
 pub mod Exact
-pub mod Arriving
 pub mod UnderWay

@@ -14,9 +14,8 @@ use Rattle.shard_part.specs.Weights.{part_weight}
 use Rattle.shard_part.specs.LocalInvariant.{names, engages, idles, LocalInvariant, IsClear}
 use Rattle.shard_store.specs.Rows.{Rows}
 use Rattle.shard_part.specs.Moves.{RepInvariant, IsPlace, IsArcRow}
-use Rattle.shard_store.proofs.Spread.{table_read, table_write, table_long}
-use Rattle.shard_store.proofs.Places.{own_apart, own_below, own_placed, arcs_apart, arc_owner}
-use Rattle.scholten_core.proofs.Sums.{one_if-most}
+use Rattle.shard_store.proofs.Places.{table_read, table_write, table_long, own_apart, own_below, own_placed, arcs_apart, arc_owner}
+use Rattle.scholten_core.proofs.Basics.{one_if-most}
 
 module _ {S V : Type 0} where
   pub formed : (p : PartData S V) (s : ℕ) → IsPlanned p.setup s → WellFormed (network_of p.setup)

@@ -9,7 +9,7 @@ use Rattle.scholten_core.specs.declared.item.Item.TheVariants.{Message as Messag
 use Rattle.scholten_core.specs.Diffusion.{opening, put, is_idle}
 use Rattle.scholten_core.specs.Items.{item_arc, item_of}
 use Rattle.scholten_core.specs.Sums.{one_if}
-use Rattle.scholten_core.proofs.Basics.{put-at, put-other}
+use Rattle.scholten_core.proofs.Basics.{put-at, put-other, one_if-most}
 use Rattle.scholten_core.proofs.Networks.{head-entry, tail-entry}
 use Rattle.shard_store.specs.Tables.{scatter, placed}
 use Rattle.scholten_core.specs.Deficit.{busy_out}
@@ -28,7 +28,6 @@ use Rattle.shard_part.specs.Opening.{first_items, opened_part}
 use Rattle.shard_store.proofs.Totals.{sum_at, sum_zero}
 use Rattle.shard_store.proofs.Places.{own_apart}
 use Rattle.shard_store.proofs.Graphs.{place_below, place_source, arcs_first}
-use Rattle.scholten_core.proofs.Sums.{one_if-most}
 
 module _ {X : Type 0} where
   pub reads_same : (n : ℕ) (x : X) (j : ℕ) → get_or (replicate n x) j x ≡ x

@@ -15,7 +15,7 @@ use Rattle.shard_store.specs.Capacities.{touches, queue_bound, joins, outbox_bou
 use Rattle.scholten_core.proofs.Items.{at-skip, at-nil}
 use Rattle.shard_store.proofs.Totals.{total_by_arc}
 use Rattle.shard_part.proofs.Room.{each_one, outs_member}
-use Rattle.scholten_core.proofs.Sums.{sum_most}
+use Rattle.scholten_core.proofs.Basics.{sum_most}
 
 count_at : {V : Type 0} (b : ℕ) (xs : List (Item V)) → counted b xs ≡ length (at b xs)
 unfolding at

@@ -16,7 +16,7 @@ use Rattle.shard_part.specs.Represents.{HoldsShareIn, HoldsTables}
 use Rattle.shard_store.specs.Capacities.{touches, queue_bound}
 use Rattle.scholten_core.proofs.Kept.{Kept}
 use Rattle.shard_part.proofs.Showing.{is_self}
-use Rattle.scholten_core.proofs.Sums.{sum_most}
+use Rattle.scholten_core.proofs.Basics.{sum_most}
 
 pub sum_none_of : (f : ℕ → ℕ) (a n : ℕ) → n ≤ a → ((b : ℕ) → b ≢ a → f b ≡ 0) → sum_below f n ≡ 0
 sum_none_of f a zero l h = refl

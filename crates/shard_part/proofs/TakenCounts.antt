@@ -27,7 +27,7 @@ use Rattle.shard_part.specs.Moves.{IsTallied}
 use Rattle.shard_part.specs.Part.{HandledFront, HandledMany, IsRunOn}
 use Rattle.shard_part.proofs.TakenIsEvent.{handled_event, handled_weighs}
 use Rattle.shard_part.proofs.OffersArePumped.{counted_none, counted_more, counted_top}
-use Rattle.scholten_core.proofs.Sums.{sum_same}
+use Rattle.scholten_core.proofs.Basics.{sum_same}
 
 module _ {V : Type 0} (N : Network) (place : ℕ → ℕ) where
   -- the messages under way are those that stand, and so are the signals

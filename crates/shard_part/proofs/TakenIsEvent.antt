@@ -23,7 +23,7 @@ use Rattle.shard_part.specs.Represents.{HoldsTables, HoldsShareIn}
 use Rattle.scholten_core.proofs.Kept.{Kept, head_real}
 use Rattle.scholten_core.proofs.Shares.{agree_then, message_frame, signal_frame, freed_agree}
 use Rattle.shard_part.proofs.Here.{arrive_here_agree, message_here, signal_here}
-use Rattle.scholten_core.proofs.Parts.{settle_made_agree, token_told, token_back}
+use Rattle.scholten_core.proofs.Items.{settle_made_agree, token_told, token_back}
 use Rattle.shard_store.proofs.Totals.{sum_member}
 use Rattle.shard_part.proofs.InFlight.{message_weighs, signal_weighs, last_weighs, outgoing_is}
 use Rattle.shard_part.proofs.Routed.{routed}

@@ -6,7 +6,7 @@ use Rattle.scholten_core.specs.Sums.{sum_below}
 use Rattle.shard_store.specs.Tables.{placed}
 use Rattle.shard_store.specs.Totals.{total}
 use Rattle.shard_store.specs.Outgoing.{arcs_from, outgoing, arcs_out}
-use Rattle.scholten_core.proofs.Sums.{sum_zero, sum_ones, sum_add, sum_most}
+use Rattle.scholten_core.proofs.Basics.{sum_zero, sum_ones, sum_add, sum_most}
 
 module _ {X : Type 0} (f : X → ℕ) where
   -- one more of a list

@@ -7,7 +7,7 @@ use Rattle.std.specs.Ordering.{nat_cmp}
 use Rattle.std.proofs.lemmas.Grind.{get_or_default_zero, same_number_lists}
 use Rattle.std.proofs.lemmas.List.FromFn.{length-range_with_len, get_or-range_with_len}
 use Rattle.std.proofs.lemmas.List.Kept.{AllPairs-from_increasing}
-use Rattle.road_graph.proofs.Rising.{found}
+use Rattle.road_graph.proofs.Lists.{found}
 
 -- a binary search in an increasing list finds a number that the list has
 pub found_increasing : (xs : List ℕ) (x : ℕ) (r : Result ℕ ℕ) (at : ℕ) → IsStrictlyIncreasing xs → Contains xs x →

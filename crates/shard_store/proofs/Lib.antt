@@ -3,10 +3,8 @@ mod Blocks
 mod Increasing
 mod Records
 pub mod Totals
-pub mod Pieces
 pub mod Counting
 pub mod Places
-pub mod Spread
 pub mod Graphs
 pub mod CapacitiesByVertex
 mod ShardLayouts

@@ -21,7 +21,7 @@ use Rattle.shard_store.proofs.Graphs.{out_is, place_vertex, place_entry, entry_a
 use Rattle.shard_store.proofs.Counting.{placed_start, placed_long, arcs_out_more, total_whole, total_take, total_most, total_few, out_most, own_arcs_most}
 use Rattle.shard_store.proofs.Places.{own_below, placed_picked}
 use Rattle.shard_store.proofs.CapacitiesByVertex.{seen_at, seen_all, outbox_bound_most}
-use Rattle.scholten_core.proofs.Sums.{one_if-most}
+use Rattle.scholten_core.proofs.Basics.{one_if-most}
 use Rattle.road_graph.proofs.Lists.{element_place}
 
 pub first_is : (w old : ShardLayoutData) (x : ℕ) (b : Bool) → w ≡ old → IsPlanned w.setup w.shard → x ≡ shard_in w.setup.plan w.setup.diffusion.source

@@ -4,8 +4,7 @@ use mathlib.Core.Option as opt
 use Rattle.path_algebra.specs.Algebra.{Algebra}
 use Rattle.path_algebra.specs.Walks.{AreBest}
 use Rattle.scholten_core.specs.Accounts.{totals_of}
-use Rattle.scholten_core.proofs.EveryAccount.{totals_are_equal}
-use Rattle.scholten_core.proofs.EveryRun.{ended_is_quiet}
+use Rattle.scholten_core.proofs.EveryRun.{totals_are_equal, ended_is_quiet}
 use Rattle.shard_store.specs.declared.tally.Tally.{Tally}
 use Rattle.shard_store.specs.Setup.{IsPlanned, SetupData, network_of}
 use Rattle.shard_part.specs.Weights.{All}

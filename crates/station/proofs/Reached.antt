@@ -5,8 +5,8 @@ use Rattle.path_algebra.specs.Given.{reach}
 use Rattle.road_graph.specs.GraphData.{GraphData}
 use Rattle.scholten_core.specs.Accounts.{Totals, totals_of, AreEqualTotals, AreMarksOfReached, count_marked}
 use Rattle.scholten_core.specs.Sums.{one_if}
-use Rattle.scholten_core.proofs.EveryAccount.{reach_sends_once}
-use Rattle.scholten_core.proofs.Sums.{one_if-most, sum_most, sum_ones}
+use Rattle.scholten_core.proofs.EveryRun.{reach_sends_once}
+use Rattle.scholten_core.proofs.Basics.{one_if-most, sum_most, sum_ones}
 use Rattle.shard_store.specs.Setup.{SetupData, network_of}
 use Rattle.shard_store.specs.Tallies.{top, tally_of}
 use Rattle.station.specs.declared.gathering.Gathered.{Gathered}

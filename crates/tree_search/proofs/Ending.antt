@@ -6,8 +6,7 @@ use Rattle.std.proofs.lemmas.Bool.{cases_Bool, ne_eqb}
 use Rattle.std.proofs.lemmas.Bool.Decides.{eqb_tells}
 use Rattle.std.specs.Prelude.{IsTrue, All, option_map}
 use Rattle.road_graph.specs.GraphData.{GraphData, IsGraph, HasArc, HasVertex, arc_of}
-use Rattle.road_graph.proofs.Lists.{not_in_empty}
-use Rattle.road_graph.proofs.Options.{same_some}
+use Rattle.road_graph.proofs.Lists.{not_in_empty, same_some}
 use Rattle.path_algebra.specs.Algebra.{Algebra, IsLawful}
 use Rattle.path_algebra.specs.Walks.{AreBest, label_of, is_tight, is_tight_between, is_reached_by}
 use Rattle.path_algebra.specs.Open.{AnswersBestOpen}
@@ -18,8 +17,7 @@ use Rattle.path_plain.proofs.Rounds as plain
 use Rattle.route_tree.specs.Levels.{IsWalkOf, Visiting}
 use Rattle.route_tree.specs.Tree.{IsLinked, IsTree}
 use Rattle.route_tree.proofs.LevelsAreLeast.{IsWalkOf-snoc, IsWalkOf-nil, search_ends}
-use Rattle.route_tree.proofs.Linked.{linked}
-use Rattle.route_tree.proofs.Trees.{tree_is}
+use Rattle.route_tree.proofs.Trees.{linked, tree_is}
 use Rattle.tree_search.specs.Marks.{key_of, values_in, keys_in, hops_in, parents_in, parent_in, parent_or_none}
 use Rattle.path_plain.specs.Order.{by_number}
 use Rattle.tree_search.specs.declared.mark.Mark.{Mark}

@@ -4,8 +4,7 @@ use Rattle.std.proofs.lemmas.List.{length-map}
 use Rattle.std.proofs.lemmas.Bool.{cases_eq}
 use Rattle.std.specs.Prelude.{IsTrue, All, Contains, option_map}
 use Rattle.road_graph.specs.GraphData.{GraphData, IsGraph, HasArc, HasVertex, arc_of}
-use Rattle.road_graph.proofs.Lists.{head_or_tail}
-use Rattle.road_graph.proofs.Options.{same_some}
+use Rattle.road_graph.proofs.Lists.{head_or_tail, same_some}
 use Rattle.path_algebra.specs.Algebra.{Algebra, IsLawful}
 use Rattle.path_algebra.specs.Walks.{IsNotImproving, label_of}
 use Rattle.path_algebra.proofs.Walks.{walk_value_is_value, all_inside}

@@ -1,9 +1,16 @@
 -- What each of a worker's stations keeps while it is moved.
-use Rattle.std.proofs.Common.{ℕ, List, [], ◌∷◌, inl, inr}
+use Rattle.std.proofs.Common.{◌≡◌, List, ◌∷◌, subst, ℕ, [], inl, inr}
 use Rattle.std.specs.List.{All}
-use Rattle.std.proofs.lemmas.List.Elements.{All-cons, All-head, All-tail}
+use Rattle.std.proofs.lemmas.List.Elements.{All-head, All-tail, All-cons}
 use Rattle.worker_fleet.specs.Groups.{Some_of}
 use Rattle.worker_fleet.specs.Moves.{Steps, still, then, MovesEach}
+
+module _ {X : Type 0} (P : X → Type 0) (xs ys : List X) (x : X) (e : xs ≡ x ∷ ys) (h : All P xs) where
+  pub All-first : P x
+  All-first = All-head P x ys (subst (λ l. All P l) e h)
+
+  pub All-rest : All P ys
+  All-rest = All-tail P x ys (subst (λ l. All P l) e h)
 
 module _ {X : Type 0} (S : X → X → Type 0) (P : X → Type 0) (keep : (p q : X) → S p q → P p → P q) where
   Steps-keeps : (n : ℕ) (x y : X) → Steps S n x y → P x → P y

@@ -5,7 +5,6 @@ pub mod Placed
 mod Pushed
 mod Assigned
 mod PushedAt
-pub mod Rests
 mod Gathered
 pub mod Carried
 mod Grouped

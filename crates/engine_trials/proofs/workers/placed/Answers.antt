@@ -3,7 +3,7 @@ use Rattle.std.specs.List.{All}
 use Rattle.std.proofs.lemmas.List.Elements.{All-push}
 use Rattle.station.specs.Station.{BelongsTo}
 use Rattle.worker_fleet.specs.Turns.{IsOnItsFloor}
-use Rattle.worker_fleet.proofs.Rests.{All-first, All-rest}
+use Rattle.worker_fleet.proofs.Carried.{All-first, All-rest}
 use Rattle.engine_trials.proofs.workers.placed.Goals as goal
 
 pub loop-station-init : goal.loop-station-init

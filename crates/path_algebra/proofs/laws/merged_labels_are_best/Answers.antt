@@ -1,4 +1,4 @@
-use Rattle.path_algebra.proofs.Merge.{merged_are_best}
+use Rattle.path_algebra.proofs.Least.{merged_are_best}
 use Rattle.path_algebra.proofs.laws.merged_labels_are_best.Goals as goal
 
 pub returns : goal.returns

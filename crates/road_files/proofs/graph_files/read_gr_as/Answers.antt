@@ -1,6 +1,6 @@
 use Rattle.std.proofs.Common.{map}
 use Rattle.road_text.specs.Words.{word_of}
-use Rattle.road_text.proofs.WholeTexts.{reads_text}
+use Rattle.road_text.proofs.ParserLaws.{reads_text}
 use Rattle.road_files.specs.GraphFiles.{gr_rules}
 use Rattle.road_files.specs.GraphTakes.{graph_meaning}
 use Rattle.road_files.proofs.GraphParserLaws.{by_value, by_fault}

@@ -1,4 +1,4 @@
-use Rattle.road_graph.proofs.Rising.{found, rises}
+use Rattle.road_graph.proofs.Lists.{found, rises}
 use Rattle.road_graph.proofs.lookup.place_of.Goals as goal
 
 pub returns-in-Ok-2-clause-place : goal.returns-in-Ok-2-clause-place

@@ -2,7 +2,7 @@ use Rattle.std.proofs.Common.{◌≡◌, ℕ, List, [], length, eq-eqb, true, fa
 use Rattle.route_tree.specs.Levels.{Visiting}
 use Rattle.route_tree.specs.Regions.{is_tight_into}
 use Rattle.route_tree.proofs.LevelsAreLeast.{search_ends}
-use Rattle.route_tree.proofs.Linked.{linked}
+use Rattle.route_tree.proofs.Trees.{linked}
 use Rattle.route_tree.proofs.Marking.{marked_visits}
 use Rattle.route_tree.proofs.tight_tree.tree_into.Goals as goal
 

@@ -1,4 +1,4 @@
-use Rattle.scholten_core.proofs.EveryAccount.{totals_are_equal}
+use Rattle.scholten_core.proofs.EveryRun.{totals_are_equal}
 use Rattle.scholten_core.proofs.laws.ended_totals_are_equal.Goals as goal
 
 pub returns : goal.returns

@@ -1,4 +1,4 @@
-use Rattle.scholten_core.proofs.EveryAccount.{sends_follow_changes}
+use Rattle.scholten_core.proofs.EveryRun.{sends_follow_changes}
 use Rattle.scholten_core.proofs.laws.messages_follow_label_changes.Goals as goal
 
 pub returns : goal.returns

@@ -1,4 +1,4 @@
-use Rattle.scholten_core.proofs.EveryAccount.{reach_sends_once}
+use Rattle.scholten_core.proofs.EveryRun.{reach_sends_once}
 use Rattle.scholten_core.proofs.laws.reach_sends_once_an_arc.Goals as goal
 
 pub returns : goal.returns

@@ -4,7 +4,7 @@ use Rattle.road_text.specs.declared.faults.ReadFault.{ReadFault}
 use Rattle.road_text.specs.Rules.{value_of_lines}
 use Rattle.road_text.specs.Takes.{GivesBy}
 use Rattle.road_text.specs.Meaning.{Meaning}
-use Rattle.road_text.proofs.WholeTexts.{reads_value, reads_fault}
+use Rattle.road_text.proofs.ParserLaws.{reads_value, reads_fault}
 use Rattle.text_trials.specs.Numbers.{numbers_rules}
 use Rattle.text_trials.proofs.lines.read_numbers.Goals as goal
 

@@ -2,7 +2,7 @@ use Rattle.std.proofs.Common.{rules, ◌≡◌, ◌<◌, ◌∙◌, [], refl, sy
 use Rattle.std.specs.Vec.Iter.{into_iter_items}
 use Rattle.std.specs.List.{All}
 use Rattle.worker_fleet.specs.declared.driving.Driven.{Driven}
-use Rattle.worker_fleet.proofs.Rests.{All-first, All-rest}
+use Rattle.worker_fleet.proofs.Carried.{All-first, All-rest}
 use Rattle.worker_fleet.proofs.Gathered.{gathered_more, gathered_none}
 use Rattle.worker_fleet.proofs.group.put_together.Goals as goal
 

@@ -1,6 +1,6 @@
 use Rattle.std.proofs.Common.{rules, ◌≡◌, refl, true}
 use Rattle.station.specs.Station.{StationData}
-use Rattle.worker_fleet.proofs.Rests.{All-first, All-rest}
+use Rattle.worker_fleet.proofs.Carried.{All-first, All-rest}
 use Rattle.batch_run.proofs.Moved.{moved_on, moved_all}
 use Rattle.batch_run.proofs.solve.diffusion.finish_all.Goals as goal
 

@@ -2,7 +2,7 @@ use Rattle.std.proofs.Common.{◌≡◌, [], length, drop, arith, sym, ap, subst
 use Rattle.std.proofs.lemmas.Grind.{common_steps}
 use Rattle.std.proofs.Math.ListN.{drop_of_length-le}
 use Rattle.path_plain.specs.Searching.{SearchState, Relaxes}
-use Rattle.path_plain.proofs.Relaxing.{relaxed_by_roads, relaxed_is, head_in, roads_short}
+use Rattle.path_plain.proofs.Offering.{relaxed_by_roads, relaxed_is, head_in, roads_short}
 use Rattle.path_plain.proofs.search.Search.relax.Goals as goal
 
 pub offer_if-requires-after_bounds : goal.offer_if-requires-after_bounds

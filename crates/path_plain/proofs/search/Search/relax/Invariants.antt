@@ -1,6 +1,6 @@
 use Rattle.std.proofs.Common.{◌≡◌, ◌+◌, ◌≤◌, drop}
 use Rattle.path_plain.specs.Searching.{IsSameSearch}
-use Rattle.path_plain.proofs.Relaxing.{relaxed_by_roads}
+use Rattle.path_plain.proofs.Offering.{relaxed_by_roads}
 use Rattle.path_plain.proofs.search.Search.relax.Given as goal
 
 abbrev pub invariant-loop-road : goal.invariant-loop-road

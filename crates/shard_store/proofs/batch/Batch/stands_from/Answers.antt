@@ -1,5 +1,5 @@
 use Rattle.std.proofs.Common.{ap, refl, ◌∙◌, ◌-◌, drop, length}
-use Rattle.shard_store.proofs.Pieces.{drop_pieces, in_one, in_other}
+use Rattle.shard_store.proofs.Totals.{drop_pieces, in_one, in_other}
 use Rattle.shard_store.proofs.batch.Batch.stands_from.Goals as goal
 
 pub returns-then-stands_in : goal.returns-then-stands_in

@@ -1,4 +1,4 @@
-use Rattle.shard_store.proofs.Pieces.{append_room}
+use Rattle.shard_store.proofs.Totals.{append_room}
 use Rattle.shard_store.proofs.queue.Queue.append.Goals as goal
 
 pub push-requires : goal.push-requires

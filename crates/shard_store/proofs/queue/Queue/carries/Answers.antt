@@ -1,6 +1,6 @@
 use Rattle.std.proofs.Common.{ap, ◌∙◌, leb, drop}
 use Rattle.shard_store.specs.Totals.{counted}
-use Rattle.shard_store.proofs.Pieces.{in_one, in_other}
+use Rattle.shard_store.proofs.Totals.{in_one, in_other}
 use Rattle.shard_store.proofs.queue.Queue.carries.Goals as goal
 
 pub returns-then-stands_in : goal.returns-then-stands_in

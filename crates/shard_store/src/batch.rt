@@ -59,11 +59,11 @@ impl<V: Copy> Batch<V> {
     }
 
     /// Whether an item on an arc is at an index or after it.
-    pub fn stands_from(&self, from: usize, arc: ArcNo) -> bool
+    pub fn carries_from(&self, from: usize, arc: ArcNo) -> bool
         ensures { result ≡ leb 1 (counted arc (drop from self.now.items)) }
     {
         let (one, other) = self.items.as_slices();
-        stands_in(one, from, arc) || stands_in(other, from.saturating_sub(one.len()), arc)
+        carried_in(one, from, arc) || carried_in(other, from.saturating_sub(one.len()), arc)
     }
 
     /// Puts an item at the back.
@@ -84,7 +84,7 @@ impl<V: Copy> Batch<V> {
 }
 
 /// Whether an item on an arc is in a list, at an index or after it.
-pub fn stands_in<V: Copy>(items: &[Item<V>], from: usize, arc: ArcNo) -> bool
+pub fn carried_in<V: Copy>(items: &[Item<V>], from: usize, arc: ArcNo) -> bool
     ensures { result ≡ leb 1 (counted arc (drop from items.now)) }
 {
     for i in from..items.len() {

@@ -3,7 +3,7 @@ ghost use Rattle.std.specs.Prelude.{◌≡◌, ◌+◌, ◌<◌, ◌≤◌, ◌+
 ghost use Rattle.circular_buffer.specs.Buffer.{buffer};
 ghost use Rattle.shard_store.specs.Totals.{counted};
 
-use crate::batch::{Batch, stands_in};
+use crate::batch::{Batch, carried_in};
 use road_graph::{ArcNo, Memory};
 use scholten_core::Item;
 use std::alloc::Global;
@@ -68,7 +68,7 @@ impl<V: Copy> Queue<V> {
     pub fn carries(&self, arc: ArcNo) -> bool
         ensures { result ≡ leb 1 (counted arc self.now.items) }
     {
-        stands_in(&self.front, self.taken, arc) || stands_in(&self.back, 0, arc)
+        carried_in(&self.front, self.taken, arc) || carried_in(&self.back, 0, arc)
     }
 
     /// Puts an item at the back.

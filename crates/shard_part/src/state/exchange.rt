@@ -67,7 +67,7 @@ impl<'g, A: PathAlgebra> PartState<'g, A> {
             item (drop next batch.now.items) }
     {
         let arc = arc_of(item);
-        if batch.stands_from(next, arc) {
+        if batch.carries_from(next, arc) {
             return false;
         }
         if self.carries(arc) {
@@ -84,7 +84,7 @@ impl<'g, A: PathAlgebra> PartState<'g, A> {
             return true;
         }
         for out in &self.outs {
-            if out.stands_from(0, arc) {
+            if out.carries_from(0, arc) {
                 return true;
             }
         }

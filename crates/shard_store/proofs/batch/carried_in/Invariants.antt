@@ -1,6 +1,6 @@
 use Rattle.std.proofs.Common.{◌≡◌, drop}
 use Rattle.shard_store.specs.Totals.{counted}
-use Rattle.shard_store.proofs.batch.stands_in.Given as goal
+use Rattle.shard_store.proofs.batch.carried_in.Given as goal
 
 abbrev pub invariant-loop-i : goal.invariant-loop-i
 invariant-loop-i g l = counted l.arc (drop l.from l.items) ≡ counted l.arc (drop l.i l.items)

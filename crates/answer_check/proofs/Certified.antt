@@ -16,7 +16,7 @@ use Rattle.answer_text.specs.IsAnswer.{IsReachedLine, IsVertexLine, AreVertexLin
 use Rattle.answer_check.specs.Reasons.{IsCodeOf, Offers, source_line}
 use Rattle.answer_check.specs.Certificates.{IsSupported, IsRightLine, IsCertifiedAt, AreCertified}
 
--- the value that a line tells
+-- the value that a line gives
 abbrev value_told : {V : Type 0} → Algebra V → Option Reached → Option V
 value_told A None = None
 value_told A (Some r) = A.value_of r.code
@@ -41,7 +41,7 @@ module _ {V : Type 0} (A : Algebra V) (lawful : IsLawful A) where
     walk_has_code : (v : ℕ) (c : ℕ) (x : V) → IsWalkValue A g sources v x → c ≡ A.code x → IsCodeOf A c x
     walk_has_code v c x w e = (walk_value_is_value A lawful g roads sources v x w, e)
 
-    -- what an arc offers, where the line of its tail tells the value of a walk
+    -- what an arc offers, where the line of its tail says the value of a walk
     offers_walk : (u v : ℕ) (near : Reached) (x z : V) → IsWalkValue A g sources u x → near.code ≡ A.code x → Offers A g lines u v near z → IsWalkValue A g sources v z
     offers_walk u v near x z w e b =
         let same : b.value ≡ x = code_of_one near.code b.value x b.code_is (walk_has_code u near.code x w e) in
@@ -68,7 +68,7 @@ module _ {V : Type 0} (A : Algebra V) (lawful : IsLawful A) where
           omega (arith, n, l),
         )
 
-    -- an arc that offers the best value of its head is tight, where its tail's line tells the best value
+    -- an arc that offers the best value of its head is tight, where its tail's line says the best value
     offers_tight : (u v : ℕ) (near : Reached) (x y : V) → IsBest A g sources u x → near.code ≡ A.code x → IsBest A g sources v y → (b : Offers A g lines u v near y) → IsTight A g sources b.arc
     offers_tight u v near x y best_u e best_v b =
         let same : b.value ≡ x = code_of_one near.code b.value x b.code_is (walk_has_code u near.code x best_u.attained e) in
@@ -102,7 +102,7 @@ module _ {V : Type 0} (A : Algebra V) (lawful : IsLawful A) where
     source_walk v k h e = ([], (v, h, refl), All-nil (IsTight A g sources), sym e)
 
     module _ (certified : AreCertified A g sources lines) where
-      -- the line of v tells the value of a walk
+      -- the line of v says the value of a walk
       abbrev TellsWalk : ℕ → Reached → Type 0
       TellsWalk v r = (x : V) × IsWalkValue A g sources v x × (r.code ≡ A.code x)
 
@@ -150,7 +150,7 @@ module _ {V : Type 0} (A : Algebra V) (lawful : IsLawful A) where
       unlabelled : (v : ℕ) → label_of lines v ≡ None → label_of labels v ≡ None
       unlabelled v e = label_is v ∙ ap (value_told A) e
 
-      -- a label is told by a line
+      -- a label is on a line
       told_by : (v : ℕ) (x : V) → HasVertex g v → label_of labels v ≡ Some x → (l : Option Reached) → label_of lines v ≡ l → (r : Reached) × (label_of lines v ≡ Some r) × IsWalkValue A g sources v x × (r.code ≡ A.code x)
       told_by v x in_v e None f = let bad : None ≡ Some x = sym (unlabelled v f) ∙ e in cc
       told_by v x in_v e (Some r) f =
@@ -161,7 +161,7 @@ module _ {V : Type 0} (A : Algebra V) (lawful : IsLawful A) where
       told_at : (v : ℕ) (x : V) → HasVertex g v → label_of labels v ≡ Some x → (r : Reached) × (label_of lines v ≡ Some r) × IsWalkValue A g sources v x × (r.code ≡ A.code x)
       told_at v x in_v e = told_by v x in_v e (label_of lines v) refl
 
-      -- what a line tells is its label
+      -- what a line says is its label
       label_at : (v : ℕ) (r : Reached) → HasVertex g v → label_of lines v ≡ Some r → (x : V) × (label_of labels v ≡ Some x) × IsWalkValue A g sources v x × (r.code ≡ A.code x)
       label_at v r in_v e = let t = tells v r in_v e in (t.0, label_told v r t.0 e (walk_has_code v r.code t.0 t.1 t.2), t.1, t.2)
 
@@ -203,11 +203,11 @@ module _ {V : Type 0} (A : Algebra V) (lawful : IsLawful A) where
       best_at : (v : ℕ) (x : V) → HasVertex g v → label_of labels v ≡ Some x → IsBest A g sources v x
       best_at v x in_v e = subst (λ (l : Option V). IsBestLabel A g sources v l) e (best.best v in_v)
 
-      -- the line of a vertex tells its best value
+      -- the line of a vertex says its best value
       tells_best : (v : ℕ) (r : Reached) → HasVertex g v → label_of lines v ≡ Some r → (x : V) × IsBest A g sources v x × (r.code ≡ A.code x)
       tells_best v r in_v e = let l = label_at v r in_v e in (l.0, best_at v l.0 in_v l.1, l.3)
 
-      -- a vertex with a best value has a line that tells it
+      -- a vertex with a best value has a line that says it
       line_by : (v : ℕ) (x : V) → HasVertex g v → IsBest A g sources v x → (l : Option Reached) → label_of lines v ≡ l → (r : Reached) × (label_of lines v ≡ Some r) × (r.code ≡ A.code x)
       line_by v x in_v b None e =
           let none : IsBestLabel A g sources v None = subst (λ (l : Option V). IsBestLabel A g sources v l) (unlabelled v e) (best.best v in_v) in

@@ -1,4 +1,4 @@
--- What the evidence of all arcs into a vertex means: the line is right, or it tells the first reason against it.
+-- What the evidence of all arcs into a vertex means: the line is right, or the evidence gives the first reason against it.
 use Rattle.std.proofs.Common.{◌≡◌, ℕ, ◌+◌, ◌<◌, ◌≤◌, ◌^◌, inl, inr, Bool, true, false, not, ◌&&◌, nat_eq, nat_lt, List, [], ◌∷◌, get_or, refl, ap, sym, ◌∙◌, subst, arith, Option, Some, None}
 use Rattle.std.specs.Prelude.{IsTrue, Contains, ◌↔◌}
 use Rattle.std.specs.List.{list_any}
@@ -308,7 +308,7 @@ module _ {V : Type 0} (A : Algebra V) (lawful : IsLawful A) (g : GraphData) (lin
   by_better true e = rw e (is_beaten e, no_earlier A g lines v r 2 (omega arith) (λ lt. absurd (omega (arith, lt))) (λ lt. absurd (omega (arith, lt))) (λ lt. absurd (omega (arith, lt))))
   by_better false e = by_supported shown.supported e refl
 
-  -- the evidence tells that the line is right, or the first reason against it
+  -- the evidence is that the line is right, or the first reason against it
   pub evidence_judges : Judged (reason_by shown)
   evidence_judges = by_better shown.better refl
 

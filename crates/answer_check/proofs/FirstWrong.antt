@@ -50,7 +50,7 @@ mapped_at {X} {Y} P f [] all k y e = let bad : None ≡ Some y = e in absurd (cc
 mapped_at {X} {Y} P f (x ∷ xs) all zero y e = let same : f x ≡ y = cc in subst P same (All-head (λ z. P (f z)) x xs all)
 mapped_at {X} {Y} P f (x ∷ xs) all (suc k) y e = mapped_at P f xs (All-tail (λ z. P (f z)) x xs all) k y e
 
--- what stands at a place of a list that was mapped
+-- what is at a place of a list that was mapped
 pub mapped_is : {X Y : Type 0} (f : X → Y) (xs : List X) (k : ℕ) (x : X) (y : Y) → x ≡ get_or xs k x → slice_get (map f xs) k ≡ Some y → f x ≡ y
 mapped_is {X} {Y} f [] k x y is e = let bad : None ≡ Some y = e in absurd (cc)
 mapped_is f (z ∷ xs) zero x y is e = let same : f z ≡ y = cc in ap f is ∙ same

@@ -1,4 +1,4 @@
--- A reader that never fails tells the fault of its text, or that there was no memory.
+-- A reader that never fails reports the fault of its text, or that there was no memory.
 use Rattle.std.proofs.Common.{◌≡◌, ◌≢◌, ℕ, ◌≤◌, ◌⊎◌, inl, inr, List, refl, arith, Result, Ok, Err, Some}
 use Rattle.std.specs.Prelude.{IfErr}
 use Rattle.road_graph.specs.GraphData.{GraphData}

@@ -14,7 +14,7 @@ pub label_there : (n : ℕ) (codes hops parents : List ℕ) → HavePlaces n cod
     label_of (lines_of codes hops parents) v ≡ line_of (get_or codes (v - 1) 0) (get_or hops (v - 1) 0) (get_or parents (v - 1) 0)
 label_there n codes hops parents (e, f, h) v lt = line_there codes hops parents (f ∙ sym e) (h ∙ sym e) (v - 1) (omega (arith, lt, e))
 
--- the first i vertices are told
+-- the first i vertices are written
 pub record AreTreeListsUpTo {V : Type 0} (A : Algebra V) (g : GraphData) (sources : List ℕ) (i : ℕ) (codes hops parents : List ℕ) : Type 0 where
   pub places : HavePlaces g.vertices codes hops parents
   pub each : (k : ℕ) → k < i → IsVertexLine A g sources (k + 1) (line_of (get_or codes k 0) (get_or hops k 0) (get_or parents k 0))

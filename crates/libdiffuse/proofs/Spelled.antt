@@ -2,7 +2,7 @@
 use Rattle.std.proofs.Common.{◌≡◌, ℕ, zero, suc, ◌<◌, Bool, true, false, eqb, eqb-true, List, [], ◌∷◌, length, get_or, refl, ap, arith, Some, None}
 use Rattle.libdiffuse.specs.Tree.{line_of, lines_of}
 
--- a code that stands for a value spells a line
+-- a code of a value spells a line
 pub line_is : (c h p : ℕ) → (c ≡ 18446744073709551615 → ⊥) → line_of c h p ≡ Some (record { code = c; hops = h; parent = p })
 line_is c h p other = at (eqb c 18446744073709551615) refl
   where

@@ -1,4 +1,4 @@
--- What stands for a value, hops and a parent tells of them.
+-- What a value, hops and a parent are written as shows them.
 use Rattle.std.proofs.Common.{◌≡◌, ℕ, inl, inr, List, refl, Option, Some, None}
 use Rattle.road_graph.specs.GraphData.{GraphData, IsGraph}
 use Rattle.path_algebra.specs.Algebra.{Algebra, IsLawful}
@@ -10,7 +10,7 @@ use Rattle.libdiffuse.specs.Tree.{code_for, number_for, line_of, HasLowCodes}
 use Rattle.libdiffuse.proofs.Spelled.{line_is}
 
 module _ {V : Type 0} (A : Algebra V) (lawful : IsLawful A) (low : HasLowCodes A) (g : GraphData) (roads : IsGraph g) (sources : List ℕ) (v : ℕ) where
-  -- a best value's code is not what stands for none
+  -- a best value's code is not what is written for none
   code_kept : (x : V) → IsBest A g sources v x → A.code x ≡ 18446744073709551615 → ⊥
   code_kept x b = low x (walk_value_is_value A lawful g roads sources v x b.attained)
 

@@ -1,4 +1,4 @@
--- The steps, as the floor's calls ask for them: what a step tells of the part d is told of each part of the list d ∷ [].
+-- The steps, as the floor's calls ask for them: what a step promises of the part d holds of each part of the list d ∷ [].
 use Rattle.std.proofs.Common.{◌≡◌, ◌≢◌, ℕ, ◌<◌, true, eqb, List, [], ◌∷◌, sym, ap, ◌∙◌, subst}
 use prog.Atomic.{either}
 use Rattle.atomic_table.specs.Seated.{TableId}

@@ -19,7 +19,7 @@ pub road_read : (g : GraphData) (numbers : List ℕ) (roads : List OutRoad) → 
     get_or roads k d ≡ road_of (arc_of g (get_or numbers k 0))
 road_read g numbers roads are k lt d = ap (λ xs. get_or xs k d) are ∙ get_or-map (λ a. road_of (arc_of g a)) numbers k 0 d lt
 
--- where an arc stands among those that leave its tail, its road stands among theirs
+-- an arc has the place among those that leave its tail that its road has among theirs
 road_at_rank : (g : GraphData) (a v rank : ℕ) (roads : List OutRoad) → v ≡ (arc_of g a).tail → IsRank g a rank → ListsRoadsFrom g v roads →
     (rank < length roads) × ((d : OutRoad) → get_or roads rank d ≡ road_of (arc_of g a))
 road_at_rank g a v rank roads tail is listed =
@@ -31,7 +31,7 @@ road_at_rank g a v rank roads tail is listed =
     let long = simp length-map at (ap length lists.2) in
     (omega (arith, long, inside), λ d. road_read g lists.0 roads lists.2 rank inside d ∙ ap (λ b. road_of (arc_of g b)) found)
 
--- the entry that is read of the index tells where the arc's road stands
+-- the entry that is read of the index is the place of the arc's road
 module _ (g : GraphData) (entries : List IndexEntry) (known : IsIndex g entries) (a : ℕ) (arc : HasArc g a)
     (number : ℕ) (is : number ≡ a) (entry : IndexEntry) (read : entry ≡ get_or entries (number - 1) entry) where
   tells : IsEntry g a entry

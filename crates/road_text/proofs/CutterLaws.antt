@@ -13,12 +13,12 @@ module _ {T : Type 0} (so_far : T → List (List ℕ) → Type 0) (s : LineCutte
   prefix_of_rest : (at n : ℕ) → take (at + n) xs ≡ take at xs ++ take n (take (length xs - at) (drop at xs))
   prefix_of_rest at n = rw (take_rest xs at) (take-add at n xs)
 
-  -- behind a run
+  -- after a run
   pub run_on : (t u : LineCutter T) (at n : ℕ) → HasPresent t at → ((present : List ℕ) → IsPresent so_far t present → IsPresent so_far u (present ++ take n (take (length xs - at) (drop at xs)))) → HasPresent u (at + n)
   run_on t u at n f g present held =
       subst (λ (x : List ℕ). IsPresent so_far u (present ++ x)) (sym (prefix_of_rest at n)) (subst (λ (x : List ℕ). IsPresent so_far u x) (append_assoc present (take at xs) _) (g (present ++ take at xs) (f present held)))
 
-  -- behind a byte
+  -- after a byte
   pub byte_on : (t u : LineCutter T) (at : ℕ) → at < length xs → HasPresent t at → ((present : List ℕ) → IsPresent so_far t present → IsPresent so_far u (present ++ get_or xs at 0 ∷ [])) → HasPresent u (at + 1)
   byte_on t u at lt f g present held =
       subst (λ (x : List ℕ). IsPresent so_far u (present ++ x)) (sym (take_more xs at 0 lt)) (subst (λ (x : List ℕ). IsPresent so_far u x) (append_assoc present (take at xs) _) (g (present ++ take at xs) (f present held)))

@@ -23,7 +23,7 @@ pub on_ok : {A B P : Type 0} (r : Result B LineFault) (rule : Result A ℕ) (sta
 on_ok (Ok x) rule state h f = f h
 on_ok (Err e) rule state h f = tt
 
--- the rule that code tells as broken is the rule that is
+-- the rule that code reports as broken is the rule that is
 pub broken_is : {A : Type 0} (rule_gives : Result A ℕ) (fault : LineFault) (rule : Rule) → ◌≡◌ {A = Result (Unit {0}) LineFault} (Err fault) (Err (Broken rule)) → Breaks rule_gives fault → rule_gives ≡ Err rule.number
 broken_is rule_gives fault rule e h = let same : fault ≡ Broken rule = cc in subst (Breaks rule_gives) same h
 

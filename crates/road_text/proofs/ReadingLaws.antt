@@ -96,7 +96,7 @@ module _ {T V : Type 0} (meaning : Meaning T V) (parser : T) where
           prefix_breaks all (done ++ prefix) (after ++ more) f (a ∙ ap (λ x. done ++ x) (c ∙ ap (λ x. x ++ more) d ∙ append_assoc prefix after more) ∙ sym (append_assoc done prefix (after ++ more)))
           (omega (arith, n, fits, length-append done prefix)) (λ cut x. rw (append_assoc done prefix x) (g cut (prefix ++ x) (Err f) (rest_gives cut x)))
 
-  -- some text has been taken, whether the reader of bytes tells it or not
+  -- some text has been taken, whether the reader shows its bytes or not
   has_taken_some : (left old : Option (List ℕ)) (s : LineReader T) → HasRead meaning parser left old s → (done : List ℕ) × HasTaken meaning parser done s
   has_taken_some None old s p = p
   has_taken_some (Some all) None s p = absurd p

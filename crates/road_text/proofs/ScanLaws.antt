@@ -135,7 +135,7 @@ pub shows_on : (P : List (List ℕ) → Type 0) (s : Scan) (line : List ℕ) (b 
 unfolding scan_on
 shows_on P s line b e h = rw e (shows_other P s line b e h)
 
--- the present field was told
+-- the present field was given
 told_by : (P Q : List (List ℕ) → Type 0) (done : List (List ℕ)) (run : List ℕ) → 0 < length (take 9 run) → ((fs : List (List ℕ)) → P fs → Q (fs ++ run ∷ [])) → P (filter has_bytes done) → Q (filter has_bytes (done ++ run ∷ []))
 told_by P Q done [] some f h = absurd (omega arith)
 told_by P Q done (b ∷ run) some f h = subst Q (sym (filter-append has_bytes done ((b ∷ run) ∷ []))) (f (filter has_bytes done) h)

@@ -6,7 +6,7 @@ use Rattle.road_text.specs.Scans.{Scan}
 use Rattle.road_text.specs.Slots.{word_in}
 use Rattle.road_text.specs.Words.{no_word}
 
--- the scan that the first k slots and the one behind them show
+-- the scan that the first k slots and the one after them show
 abbrev pub scan_at : List Slot → ℕ → Scan
 scan_at ss k = let words = map word_in ss in (take k words, get_or words k no_word)
 

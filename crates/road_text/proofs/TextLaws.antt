@@ -68,7 +68,7 @@ last_suc xs h = omega arith
 at_end : (xs : List ℕ) → 0 < length xs → ends_in_return xs ≡ true → xs ≡ strip_carriage_return xs ++ 13 ∷ []
 at_end xs some h = rw h (sym (take-length xs) ∙ ap (λ n. take n xs) (sym (last_suc xs some)) ∙ take-suc xs (length xs - 1) 0 (omega arith) ∙ ap (λ b. take (length xs - 1) xs ++ b ∷ []) (eqb-true (get_or xs (length xs - 1) 0) 13 h))
 
--- what stands before a CR that is pending, and then that CR
+-- what is before a CR that is pending, and then that CR
 restored : (xs : List ℕ) → ends_in_return xs ≡ true → xs ≡ strip_carriage_return xs ++ 13 ∷ []
 restored [] h = cc
 restored (x ∷ xs) h = at_end (x ∷ xs) (omega arith) h

@@ -23,7 +23,7 @@ refused b d no_way = grind (arith, common_steps)
 unequal : (x y : List ℕ) → length y < length x → bytes_eq x y ≡ false
 unequal x y h = refused (bytes_eq x y) (bytes_eq-Decides x y) (λ e. let same : length x ≡ length y = ap length e in omega arith)
 
--- a word of fewer than nine bytes is told by the first nine
+-- a word of fewer than nine bytes is known by the first nine
 pub short_word : (w k : List ℕ) → length k < 9 → bytes_eq (take 9 w) k ≡ bytes_eq w k
 short_word w k h = elim (cases_lt 9 (length w)) [
   | inl big ↦ unequal (take 9 w) k (omega (arith, length-take-le 9 w (omega arith))) ∙ sym (unequal w k (omega arith))

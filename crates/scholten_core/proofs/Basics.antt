@@ -36,7 +36,7 @@ pub sum_most : (f g : ℕ → ℕ) (n : ℕ) → ((b : ℕ) → f b ≤ g b) →
 sum_most f g zero h = omega arith
 sum_most f g (suc n) h = let p = sum_most f g n h in let q = h n in omega (arith, p, q)
 
--- the sums differ by what stands at a
+-- the sums differ by what is at a
 pub sum_at : (f g : ℕ → ℕ) (a n : ℕ) → a < n → ((b : ℕ) → b ≢ a → f b ≡ g b) → sum_below f n + g a ≡ sum_below g n + f a
 sum_at f g a zero l h = absurd (omega (arith, l))
 sum_at f g a (suc n) l h = elim (cases_eq n a) [
@@ -140,7 +140,7 @@ module _ {V : Type 0} (A : Algebra V) (N : Network) where
   unfolding is_due
   due_same v c d b p q r = λ i. eqb (N.tail b) v && is_idle (p i) && not (same_label A (q i) (r i))
 
-  -- what pumping does at an arc is told by this arc, and by the label of the vertex
+  -- what pumping does at an arc depends on this arc and the label of the vertex alone
   pub pumped_same : (v : ℕ) (c d : CoreState V) (b : ℕ) → c.token b ≡ d.token b → c.told b ≡ d.told b → c.label v ≡ d.label v →
       ((pump A N v c).token b ≡ (pump A N v d).token b) × ((pump A N v c).told b ≡ (pump A N v d).told b)
   pumped_same v c d b p q r = (

@@ -71,7 +71,7 @@ module _ (g : GraphData) (s : ℕ) where
   one_value : IsOneValued reach (network g s)
   one_value = record { all = λ x y. refl; always = λ x w. (tt, refl) }
 
-  -- a label stands at the tail of each marked arc, and at no other
+  -- there is a label at the tail of each marked arc, and of no other
   marked_label : (c : CoreState (Unit {0})) (marked : ℕ → Bool) → AreMarksOfReached reach g s marked →
       ((v : ℕ) (x : Unit {0}) → c.label v ≡ Some x → IsWalkValue reach g (s ∷ []) v x) → ((v : ℕ) → HasVertex g v → IsBestLabel reach g (s ∷ []) v (c.label v)) → IsGraph g →
       (a : ℕ) → HasArc g a → is_some (c.label ((arc_of g a).tail)) ≡ marked a

@@ -116,7 +116,7 @@ module _ {V : Type 0} (A : Algebra V) (N : Network) where
       sent_never None q = cc
       sent_never (Some y) q = cc
 
-  -- a delivery: its own arc has what its new token stands for, each other arc nothing or its new items
+  -- a delivery: its own arc has the items of its new token, each other arc nothing or its new items
   pub message_makes : IsLawful A → WellFormed N → (a : ℕ) (x : V) (c : CoreState V) (xs : List ℕ) → c.token a ≡ Message x → Kept A N 0 c → IsOutList A N (N.head a) xs →
       (at a (item_of a (answer_to (c.engager (N.head a))) ++ settle_made A N (N.head a) (arrive A N a x c) xs) ≡ item_of a ((settle A N (N.head a) (arrive A N a x c)).token a))
       × ((b : ℕ) → b ≢ a → Makes A N b (c.token b) ((settle A N (N.head a) (arrive A N a x c)).token b)

@@ -25,7 +25,7 @@ module _ {V : Type 0} (A : Algebra V) (N : Network) where
     | inl k ↦ absurd (due_differs v d b k.0 (ap (λ o. same_label A o (d.label v)) (h k.1 k.2) ∙ same_self A N L (d.label v)))
   ]
 
-  -- an idle arc out of a vertex has been told its tail's label; the vertex e has still to pump
+  -- on an idle arc out of a vertex its tail's label was offered; the vertex e has still to pump
   abbrev pub HasTold : (ℕ → Bool) → ℕ → CoreState V → Type 0
   HasTold mine e d = (b : ℕ) → mine (N.tail b) ≡ true → N.tail b ≢ 0 → N.tail b ≢ e → d.token b ≡ Idle → d.told b ≡ d.label (N.tail b)
 

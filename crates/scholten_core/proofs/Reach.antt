@@ -64,7 +64,7 @@ module _ {V : Type 0} (A : Algebra V) (N : Network) where
       let s = once U (c.label v) ((step A N c e).label v) (step_stays L U c e v) in
       let r = changes_once L U (step A N c e) es v in omega (arith, s, r)
 
-  -- what was told was sent
+  -- what was offered was sent
 
   rest_message : (v : ℕ) (p : CoreState V) (o : Option ℕ) (t : Bool) (b : ℕ) (y : V) → ((e : ℕ) → o ≡ Some e → p.token e ≡ Held) → p.token b ≡ Message y → (released A N v p o t).token b ≡ Message y
   rest_message v p o t b y h q = elim (released_changes A N v p o t b h) [ inl k ↦ k ∙ q | inr k ↦ absurd (let g = k.0 in cc) ]

@@ -8,7 +8,7 @@ use Rattle.scholten_core.specs.CoreView.{CoreView, state_of, network_of, AreTabl
 use Rattle.scholten_core.proofs.Written.{busy_within, reads}
 use Rattle.scholten_core.proofs.Counted.{counted_same, counted_more, counted_less, deficit_least, deficit_most}
 
--- a token that is not idle stands on one of the arcs
+-- a token that is not idle is on one of the arcs
 pub busy_arc : {S V : Type 0} (t : CoreView S V) (a : ℕ) → AreTablesSized t → is_idle ((state_of t).token a) ≡ false → a < suc (network_of t).arcs
 busy_arc t a z b = let l = busy_within t.tokens a b in let n = z.tokens in omega (arith, l, n)
 
@@ -97,7 +97,7 @@ freed_sized t a i v j x y z p q h m b r e =
           (omega (arith, h, m, long)) (let read = reads t.deficits j v y q (omega (arith, m, long)) r in omega (arith, e, k, d, least, same, read)) z.counted);
     }
 
--- an idle arc out of v gets a message, and is told
+-- an idle arc out of v gets a message, and its offer is recorded
 pub sent_sized : {S V : Type 0} (t : CoreView S V) (a i i2 v j x y : ℕ) (token : Token V) (label : Option V) → AreTablesSized t → i ≡ a → j ≡ v
     → (network_of t).tail a ≡ v → v ≤ t.diffusion.roads.vertices → a ≤ length t.diffusion.roads.arcs →
     is_idle ((state_of t).token a) ≡ true → is_idle token ≡ false → y ≡ get_or t.deficits j y → x ≡ y + 1

@@ -14,7 +14,7 @@ pub answered_busy : {V : Type 0} (o : Option ℕ) (t : Token V) → t ≡ answer
 answered_busy None t e = ap is_idle e
 answered_busy (Some a) t e = ap is_idle e
 
--- a token that is not idle stands in the table
+-- a token that is not idle is in the table
 pub busy_within : {V : Type 0} (ts : List (Token V)) (a : ℕ) → is_idle (get_or ts a Idle) ≡ false → a < length ts
 busy_within ts a i = elim (cases_lt a (length ts)) [ inl l ↦ l | inr l ↦ absurd (let z = ap is_idle (get_or_past ts a Idle l) in cc) ]
 
@@ -98,7 +98,7 @@ module _ {S V : Type 0} (A : Algebra V) (N : Network) where
       ∙ ap (λ u. record { label = (state_of u).label; engager = put (state_of u).engager v None; token = put (state_of u).token e Signal; told = (state_of u).told }) q
       ∙ (λ k. released A N v (state_of old) (sym en k) (sym out k))
 
-  -- a due arc is told, and sent what the extension gives
+  -- a due arc is offered the label, and sent what the extension gives
   pub offer_leaves : (t old : CoreView S V) (v b i j : ℕ) (label : Option V) (y : V) → t ≡ old → i ≡ b → j ≡ b → b < length t.tokens → b < length t.told →
       is_due A N v (state_of old) b ≡ true → label ≡ (state_of old).label v → Some y ≡ extend_label A label (N.weight b) →
       state_of (record t { tokens = set t.tokens i (Message y); told = set t.told j label }) ≡ pump_one A N v b (state_of old)
@@ -124,7 +124,7 @@ module _ {S V : Type 0} (A : Algebra V) (N : Network) where
         told = put (state_of old).told b (sym (cond-true (is_due A N v (state_of old) b) ((state_of old).label v) ((state_of old).told b) due) k);
       })
 
-  -- a due arc is told, though the extension is refused
+  -- a due arc is offered the label, though the extension is refused
   pub refuse_leaves : (t old : CoreView S V) (v b j : ℕ) (label : Option V) → t ≡ old → j ≡ b → b < length t.told →
       is_due A N v (state_of old) b ≡ true → is_idle ((state_of old).token b) ≡ true → label ≡ (state_of old).label v → None ≡ extend_label A label (N.weight b) →
       state_of (record t { told = set t.told j label }) ≡ pump_one A N v b (state_of old)

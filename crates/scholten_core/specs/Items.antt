@@ -18,7 +18,7 @@ unfoldable pub at : {V : Type 0} → ℕ → List (Item V) → List (Item V)
 at b [] = []
 at b (i ∷ is) = cond (eqb (item_arc i) b) (i ∷ at b is) (at b is)
 
--- the items that a token stands for
+-- the items that a token represents
 abbrev pub item_of : {V : Type 0} → ℕ → Token V → List (Item V)
 item_of b Idle = []
 item_of b (Message x) = MessageOn b x ∷ []

@@ -76,7 +76,7 @@ full_end (Some q) a h = (q, refl, by_count (record { kind = q.kind; questions = 
     by_count asked true g = cc
     by_count asked false g = refl
 
--- what a service makes of lines: just these requests, and then it stands between two
+-- what a service makes of lines: just these requests, and then it is between two
 abbrev Makes : ℕ → ℕ → ServiceState → List (List ℕ) → List Request → Type 0
 Makes n at state ls rs = (requests_of true n at state ls ≡ rs) × (state_after_lines n state ls ≡ Gives None)
 

@@ -137,7 +137,7 @@ module _ {S V : Type 0} where
       → IsSame A p batch i → length batch ≤ i → IsTrue true ↔ Fits A p batch
   same_done A p batch i L I l = ((λ _. fits_from A p batch L (I.0 (each_done A p batch i l))), (λ _. refl))
 
--- whether an item on an arc stands in the queue or an outbox
+-- whether an item on an arc is in the queue or an outbox
 module _ {S V : Type 0} (b : ℕ) (p : PartData S V) where
   -- the outbox at an index, as its ring
   out_at : {X : Type 0} (its : X → List (Item V)) (rs : List X) (k : ℕ) (x : X) → map its rs ≡ p.outs → k < length rs → x ≡ get_or rs k x → drop k p.outs ≡ its x ∷ drop (k + 1) p.outs

@@ -224,7 +224,7 @@ module _ {S V : Type 0} (A : Algebra V) where
   tail_within p P zero r = let e = tail_of_entry p.setup in omega (arith, e)
   tail_within p P (suc k) r = (tail_of_arc p.setup P.roads (suc k) (λ z. omega (arith, z)) r).2
 
-  -- the item i is taken, where zs stood behind it
+  -- the item i is taken, with zs after it
   handled : Lawful A → (p : PartData S V) (i : Item V) (zs : List (Item V)) → IsPlanned p.setup p.shard → IsFit p → OwnIdleIsTold p → p.queue ≡ i ∷ zs → IsArc (network_of p.setup) (item_arc i) →
       place_in p.setup (vertex_of (network_of p.setup) i) ≡ p.shard → HandledItemIn A (network_of p.setup) (place_in p.setup) p i (with_taken A i (record p { queue = zs }))
   handled L p (MessageOn a x) zs P F T front r here =

@@ -90,7 +90,7 @@ module _ {S V : Type 0} where
         subst (λ (u : PartData S V). (arc_of p.setup.diffusion.roads a).head ≤ u.setup.diffusion.roads.vertices) e j.1,
       )
 
-  -- the head of an arc, as the graph tells it
+  -- the head of an arc, as the graph has it
   pub head_told : (p old : PartData S V) (r : Rows V) (n : ℕ) (ns : List ℕ) (b w : ℕ) → p ≡ old → RepInvariant p r n ns
       → IsArc (network_of old.setup) b → b ≢ 0 → w ≡ (arc_of old.setup.diffusion.roads b).head →
       (w ≡ (network_of old.setup).head b) × HasPlanned p.setup.plan w

@@ -52,7 +52,7 @@ module _ {S V : Type 0} (A : Algebra V) where
       ∙ sym (weight-arc p.setup.diffusion.roads b (arc_in_graph p old r n ns b e D ar nz).0)
       ∙ ap (λ (u : PartData S V). (network_of u.setup).weight b) e
 
-  -- the shard behind an arc, still so where a value was told
+  -- the shard at the head of an arc, also after a value was offered
   pub shard_told : (p old q : PartData S V) (r : Rows V) (n : ℕ) (ns : List ℕ) (b w s : ℕ) (label : Option V) → p ≡ old → RepInvariant p r n ns
       → IsArc (network_of old.setup) b → b ≢ 0 → w ≡ (arc_of old.setup.diffusion.roads b).head → s ≡ shard_in p.setup.plan w →
       q ≡ record old { told = set old.told b label } → s ≡ place_in q.setup ((network_of q.setup).head b)
@@ -60,7 +60,7 @@ module _ {S V : Type 0} (A : Algebra V) where
       let T = head_told p old r n ns b w e D ar nz is in
       h ∙ shard_is p old r n ns w w e D (inr (T.1.0, refl)) ∙ ap (place_in old.setup) T.0 ∙ ap (λ (u : PartData S V). place_in u.setup ((network_of u.setup).head b)) (sym m)
 
-  -- a due arc is told the label
+  -- a due arc is offered the label
   pub told_anew : (p q new : PartData S V) (v b w : ℕ) (label x : Option V) → is_due A (network_of p.setup) v (state_in p) b ≡ true
       → label ≡ (state_in p).label v → w ≡ (network_of p.setup).weight b → x ≡ extend_label A label w →
       q ≡ record p { told = set p.told b label } → new ≡ with_message b x q → new ≡ offered A v b p
@@ -70,7 +70,7 @@ module _ {S V : Type 0} (A : Algebra V) where
       (with_message b (extend_label A ((state_in p).label v) ((network_of p.setup).weight b))
       (record p { told = set p.told b ((state_in p).label v) })) p due)
 
-  -- a move of told values leaves places, idle arcs and shards as they are
+  -- a move of offered values leaves places, idle arcs and shards as they are
   pub tail_mine : (p q : PartData S V) (v j b : ℕ) (label : Option V) → q ≡ record p { told = set p.told b label } → IsPlace p v j → v ≢ 0
       → (network_of p.setup).tail b ≡ v → place_in q.setup ((network_of q.setup).tail b) ≡ q.shard
   tail_mine p q v j b label e P nz t = subst (λ (u : PartData S V). place_in u.setup ((network_of u.setup).tail b) ≡ u.shard) (sym e) (ap (place_in p.setup) t ∙ mine_at p v j P nz)

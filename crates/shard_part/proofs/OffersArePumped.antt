@@ -118,7 +118,7 @@ module _ {S V : Type 0} (A : Algebra V) where
         accepted = R.accepted;
       }
 
-  -- what the arcs after b become, from any told values, flags, lists and count
+  -- what the arcs after b become, from any offered values, flags, lists and count
   abbrev Later : ℕ → List ℕ → PartData S V → Type 0
   Later v bs p = (ts : List (Option V)) (fs : List Bool) (qs : List (Item V)) (os : List (List (Item V))) (n : ℕ) → n ≤ top → length ts ≡ length p.told → length fs ≡ length p.busy →
       Offers v bs (record p { told = ts; busy = fs; queue = qs; outs = os; sent = n }) (offered_all A v bs (record p { told = ts; busy = fs; queue = qs; outs = os; sent = n }))

@@ -113,7 +113,7 @@ module _ {S V : Type 0} where
       let g = arc_in_graph p old r n ns a e D ar nz in subst (HasVertex p.setup.diffusion.roads) (sym (tail-arc p.setup.diffusion.roads a g.0)
       ∙ ap (λ (u : PartData S V). (network_of u.setup).tail a) e) (D.planned.roads.ends a g).0
 
-  -- where the graph says that an arc stands among those out of its tail
+  -- the place that the graph gives an arc among those out of its tail
   pub rank_found : (A : Algebra V) (p old : PartData S V) (r : Rows V) (n : ℕ) (ns : List ℕ) (a k : ℕ) → p ≡ old → RepInvariant p r n ns
       → IsArc (network_of old.setup) a → a ≢ 0 → IsRank p.setup.diffusion.roads a k →
       (k < length (outgoing (network_of old.setup) ((network_of old.setup).tail a))) × (get_or (outgoing (network_of old.setup) ((network_of old.setup).tail a)) k 0 ≡ a)

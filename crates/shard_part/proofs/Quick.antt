@@ -1,4 +1,4 @@
--- What an item leaves told, and where nothing has to be sent.
+-- What an item leaves offered, and when nothing has to be sent.
 use Rattle.std.proofs.Common.{◌≡◌, ◌≢◌, ℕ, zero, suc, Bool, true, false, Option, Some, None, refl, sym, ap, ◌∙◌, subst, inl, inr}
 use Rattle.std.proofs.lemmas.Bool.{cases_eq}
 use Rattle.scholten_core.specs.declared.token.Token.TheVariants.{Idle}

@@ -68,7 +68,7 @@ module _ {V : Type 0} (A : Algebra V) where
       go false e l = absurd (omega (arith, l))
 
 module _ {V : Type 0} (A : Algebra V) (N : Network) (place : ℕ → ℕ) where
-  -- the item at the front of a queue stands in c, and belongs there
+  -- the item at the front of a queue is in c, and belongs there
   pub record Stands (c : CoreState V) (s : ℕ) (i : Item V) : Type 0 where
     pub real : item_arc i < suc N.arcs
     pub here : place (vertex_of N i) ≡ s

@@ -1,4 +1,4 @@
--- Each item that a part takes keeps what its idle arcs have been told.
+-- Each item that a part takes keeps what was offered on its idle arcs.
 use Rattle.std.proofs.Common.{◌≡◌, ℕ, suc, true, List, length, None, sym, ap, ◌∙◌, subst, eq-eqb}
 use Rattle.scholten_core.specs.declared.item.Item.{Item}
 use Rattle.path_algebra.specs.Algebra.{Algebra}
@@ -30,7 +30,7 @@ module _ {S V : Type 0} (A : Algebra V) where
       R.tables.told b m ∙ H b m n n (idle-true ((taken A N i (state_in p)).token b) (sym (R.tables.idle b m) ∙ ap is_idle idle)) ∙ sym (R.tables.label (N.tail b) m)) in
       subst OwnIdleIsTold (sym (of_one_shard A p q R.setup R.shard)) here
 
--- where nothing has been told yet and no vertex has a label
+-- if nothing has been offered yet and no vertex has a label
 pub untold : {S V : Type 0} (p : PartData S V) → ((v : ℕ) → (state_in p).label v ≡ None) → ((b : ℕ) → (state_in p).told b ≡ None) → OwnIdleIsTold p
 untold p labels told b h n i = told b ∙ sym (labels ((network_of p.setup).tail b))
 

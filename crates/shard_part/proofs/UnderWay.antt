@@ -47,7 +47,7 @@ is_busy : (V : Type 0) (z : Bool) → is_idle (token_if {V = V} z) ≡ false →
 is_busy V true e = refl
 is_busy V false e = absurd cc
 
--- the environment stands where the source does
+-- the environment has the place of the source
 entry_place : {S : Type 0} (t : SetupData S) → t.diffusion.source ≢ 0 → place_in t 0 ≡ place_in t t.diffusion.source
 unfolding place_in
 entry_place t ne = go t.diffusion.source ne

@@ -54,7 +54,7 @@ module _ {S : Type 0} (t : SetupData S) where
   unfolding place_in
   place_entry l = refl
 
-  -- the place of the vertex that stands for it
+  -- the place of its vertex
   pub placed_as : (v w : ℕ) → 1 ≤ t.diffusion.source → ((v ≡ 0) × (w ≡ t.diffusion.source)) ⊎ ((1 ≤ v) × (w ≡ v)) → place_in t v ≡ shard_in t.plan w
   placed_as v w l h = elim h [
     | inl k ↦ ap (place_in t) k.0 ∙ place_entry l ∙ ap (shard_in t.plan) (sym k.1)

@@ -26,7 +26,7 @@ module _ {X : Type 0} where
       ap (λ ys. set ys k y) (spread_write keys values d n j x (λ i h p q. a (suc i) (suc h) (omega arith) (omega arith)) (omega arith) (omega arith))
       ∙ set_comm (scatter keys values d n) (get_or keys j 0) k x y (λ e. a 0 (suc j) (omega arith) (omega arith) (sym e))
 
-  -- what stands at the number of a place is the value of the place
+  -- at the number of a place is the value of the place
   pub spread_read : (keys : List ℕ) (values : List X) (d e : X) (n j : ℕ) → IsApart keys → j < length keys → j < length values → get_or keys j 0 < n →
       get_or (scatter keys values d n) (get_or keys j 0) e ≡ get_or values j e
   unfolding scatter
@@ -133,7 +133,7 @@ pub own_below : {S : Type 0} (t : SetupData S) (s j : ℕ) → j < length (local
 own_below t s zero l = omega arith
 own_below t s (suc j) l = let r = ((placed_picked (place_in t) s 1 t.diffusion.roads.vertices).each j (omega arith)).2 in omega (arith, r)
 
--- but for the environment, which stands first
+-- but for the environment, which is first
 pub own_placed : {S : Type 0} (t : SetupData S) (s j : ℕ) → j < length (local_vertices t s) → get_or (local_vertices t s) j 0 ≢ 0 → place_in t (get_or (local_vertices t s) j 0) ≡ s
 own_placed t s zero l n = absurd (n refl)
 own_placed t s (suc j) l n = ((placed_picked (place_in t) s 1 t.diffusion.roads.vertices).each j (omega arith)).0

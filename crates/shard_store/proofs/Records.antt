@@ -109,7 +109,7 @@ module _ {V : Type 0} where
       })
       ∙ ap (λ (t : ArcLists V). record t { busy = set t.busy i b }) e
 
-  -- what an arc in the list was told is read of its marks, and of its label if it was told one
+  -- what was offered on an arc in the list is read of its marks, and of its label if there is one
   pub arc_inside : (marks : List ArcMarks) (labels : List V) (now : ArcLists V) (i : ℕ) → length marks ≡ length labels → arc_lists marks labels ≡ now
       → i < length now.told → (i < length marks) × (i < length labels)
   arc_inside marks labels now i long e l =

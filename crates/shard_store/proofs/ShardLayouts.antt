@@ -72,7 +72,7 @@ listed_into w old v xs e l o =
           (o.complete b).1 ((low, high), sym (head-arc w.setup.diffusion.roads w.setup.diffusion.source b low) ∙ sym (turned_tail (network w.setup.diffusion.roads w.setup.diffusion.source) b nz) ∙ t))
     ]
 
--- what a test of two shards tells
+-- what a test of two shards shows
 pub differs : (b : Bool) (x y : ℕ) → b ≡ not (eqb x y) → b ≡ true → x ≢ y
 differs b x y h t e = false≢true (sym (h ∙ ap not (eq-eqb x y e)) ∙ t)
 
@@ -250,7 +250,7 @@ extent_within place s n e m E =
           (omega (arith, a, f, low), omega (arith, a, f, high, m), omega (arith, b, top, m), omega (arith, c, long, m)))
     ]
 
--- where they follow one another, the own vertices are told without a list
+-- if they follow one another, the own vertices are known without a list
 pub own_run : (w : ShardLayoutData) (e : Extent) → IsExtent (placed (place_in w.setup) w.shard 1 w.setup.diffusion.roads.vertices) e
     → e.first + e.count ≡ e.last + 1 → 0 ∷ range_with_len e.first e.count ≡ local_vertices w.setup w.shard
 own_run w e E run =
@@ -294,7 +294,7 @@ pub counted_none : (w : ShardLayoutData) (capacities : List ℕ)
     → ((t : ℕ) → t < w.setup.plan.shards → get_or capacities t 0 ≡ cond (is_first w.setup w.shard) (is t w.shard) 0) → CountedSo w 0 capacities
 counted_none w capacities h t k = let a = h t k in omega (arith, a)
 
--- the vertex at a place behind the environment's
+-- the vertex at a place after the environment's
 module _ (w : ShardLayoutData) (own : List ℕ) (same : own ≡ local_vertices w.setup w.shard) (j v : ℕ) (behind : 1 ≤ j) (inside : j < length own) (read : v ≡ get_or own j 0) where
   vertex_read : (j - 1 < length (placed (place_in w.setup) w.shard 1 w.setup.diffusion.roads.vertices)) × (v ≡ get_or (placed (place_in w.setup) w.shard 1 w.setup.diffusion.roads.vertices) (j - 1) 0)
   vertex_read = let e : j ≡ suc (j - 1) = omega (arith, behind) in let l = ap length same in

@@ -21,7 +21,7 @@ pub one_more : {S V : Type 0} (A : Algebra V) (t : SetupData S) (k n : ℕ) → 
 one_more A t k zero = let a : k + 0 ≡ k = omega arith in ap (λ m. opened_part A t m ∷ []) a
 one_more A t k (suc n) = ap (λ z. opened_part A t k ∷ z) (let a : k + suc n ≡ suc k + n = omega arith in ap (λ m. opened_parts A t (suc k) n ++ opened_part A t m ∷ []) a ∙ one_more A t (suc k) n)
 
--- and stands behind the others
+-- and is after the others
 pub opened_next : {S V : Type 0} (A : Algebra V) (t : SetupData S) (n : ℕ) (ps qs : List (PartData S V)) (p : PartData S V) → ps ≡ opened_parts A t 0 n
     → p ≡ opened_part A t n → qs ≡ ps ++ p ∷ [] → qs ≡ opened_parts A t 0 (n + 1)
 opened_next A t n ps qs p e o h =

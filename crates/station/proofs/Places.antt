@@ -49,6 +49,6 @@ labels_more P n xs ys x l h p e = (
   ]),
 )
 
--- the label of a vertex stands one place before its number
+-- the label of a vertex is one place before its number
 pub label_before : {V : Type 0} (P : ℕ → Option V → Type 0) (n : ℕ) (xs : List (Option V)) → ((i : ℕ) → i < n → P (i + 1) (get_or xs i None)) → (v : ℕ) → 1 ≤ v → v ≤ n → P v (get_or xs (v - 1) None)
 label_before P n xs h v l m = let e : v - 1 + 1 ≡ v = omega (arith, l) in subst (λ j. P j (get_or xs (v - 1) None)) e (h (v - 1) (omega (arith, l, m)))

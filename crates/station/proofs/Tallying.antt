@@ -1,4 +1,4 @@
--- What parts have counted together, and what stands behind it.
+-- What parts have counted together, and the events that it counts.
 use Rattle.std.proofs.Common.{◌≡◌, ℕ, ◌+◌, Bool, true, false, ◌||◌, leb, min, List, [], ◌∷◌, ◌++◌, refl, sym, ap, ◌∙◌, subst, arith, le-leb, leb-true}
 use Rattle.std.proofs.lemmas.Bool.{leb-false}
 use Rattle.atomic_table.specs.Seated.{TableId}

@@ -1,6 +1,0 @@
-use Rattle.std.proofs.Common.{arith}
-use Rattle.std.proofs.lemmas.Grind.{common_steps}
-use Rattle.route_tree.proofs.region.Region.has.Goals as goal
-
-pub returns-in-Some-get : goal.returns-in-Some-get
-returns-in-Some-get c = grind (arith, common_steps)

@@ -1,6 +1,0 @@
-use Rattle.std.proofs.Common.{arith}
-use Rattle.std.proofs.lemmas.Grind.{common_steps}
-use Rattle.shard_part.proofs.state.PartState.shard.Goals as goal
-
-pub returns-clause-shard : goal.returns-clause-shard
-returns-clause-shard g c = grind (arith, common_steps)

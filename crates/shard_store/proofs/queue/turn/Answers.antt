@@ -1,6 +1,0 @@
-use Rattle.std.proofs.Common.{arith}
-use Rattle.std.proofs.lemmas.Grind.{common_steps}
-use Rattle.shard_store.proofs.queue.turn.Goals as goal
-
-pub returns-clause-back : goal.returns-clause-back
-returns-clause-back g c = grind (arith, common_steps)

@@ -115,7 +115,8 @@ module _ {V : Type 0} (A : Algebra V) (lawful : IsLawful A) where
       supported v r None e h = let bad : None ≡ Some r = e in cc
       supported v r (Some q) e h = let same = same_some (Some q) q r refl e in subst (λ (t : Reached). IsSupported A g lines v t) same h
 
-      support_at : (v : ℕ) (r : Reached) → label_of lines v ≡ Some r → IsCertifiedAt A g sources lines v → (Contains sources v × (label_of lines v ≡ source_line A)) ⊎ ((Contains sources v → ⊥) × IsSupported A g lines v r)
+      support_at : (v : ℕ) (r : Reached) → label_of lines v ≡ Some r → IsCertifiedAt A g sources lines v →
+          (Contains sources v × (label_of lines v ≡ source_line A)) ⊎ ((Contains sources v → ⊥) × IsSupported A g lines v r)
       support_at v r e h = elim h [ inl s ↦ inl s | inr n ↦ inr (n.0, supported v r (label_of lines v) e n.1) ]
 
       -- along parents hops grow less, down to a source
@@ -151,7 +152,8 @@ module _ {V : Type 0} (A : Algebra V) (lawful : IsLawful A) where
       unlabelled v e = label_is v ∙ ap (value_told A) e
 
       -- a label is on a line
-      told_by : (v : ℕ) (x : V) → HasVertex g v → label_of labels v ≡ Some x → (l : Option Reached) → label_of lines v ≡ l → (r : Reached) × (label_of lines v ≡ Some r) × IsWalkValue A g sources v x × (r.code ≡ A.code x)
+      told_by : (v : ℕ) (x : V) → HasVertex g v → label_of labels v ≡ Some x → (l : Option Reached) → label_of lines v ≡ l →
+          (r : Reached) × (label_of lines v ≡ Some r) × IsWalkValue A g sources v x × (r.code ≡ A.code x)
       told_by v x in_v e None f = let bad : None ≡ Some x = sym (unlabelled v f) ∙ e in cc
       told_by v x in_v e (Some r) f =
           let t = tells v r in_v f in
@@ -172,7 +174,8 @@ module _ {V : Type 0} (A : Algebra V) (lawful : IsLawful A) where
       source_is s h = elim (certified.each s (in_s s h)) [ inl k ↦ k.1 | inr n ↦ absurd (n.0 h) ]
 
       -- no arc improves the label of its head
-      head_label : (v u : ℕ) (near : Reached) (x z : V) → HasVertex g v → Offers A g lines u v near z → IsWalkValue A g sources v z → (l : Option Reached) → label_of lines v ≡ l → IsCertifiedAt A g sources lines v →
+      head_label : (v u : ℕ) (near : Reached) (x z : V) → HasVertex g v → Offers A g lines u v near z → IsWalkValue A g sources v z → (l : Option Reached) → label_of lines v ≡ l →
+          IsCertifiedAt A g sources lines v →
           (y : V) × (label_of labels v ≡ Some y) × IsTrue (A.no_worse y z)
       head_label v u near x z in_v b w l e (inl s) = (A.origin, origin_label v s.1, origin_best v z w)
       head_label v u near x z in_v b w None e (inr n) = absurd (let none : IsRightLine A g lines v None = subst (IsRightLine A g lines v) e n.1 in none u near z b)
@@ -180,7 +183,8 @@ module _ {V : Type 0} (A : Algebra V) (lawful : IsLawful A) where
           let sup = supported v r (label_of lines v) e n.1 in
           (sup.value, label_told v r sup.value e sup.code_is, sup.not_beaten u near z b)
 
-      not_improving : (a : ℕ) → HasArc g a → (x z : V) → label_of labels (arc_of g a).tail ≡ Some x → A.extend x (arc_of g a).weight ≡ Some z → (y : V) × (label_of labels (arc_of g a).head ≡ Some y) × IsTrue (A.no_worse y z)
+      not_improving : (a : ℕ) → HasArc g a → (x z : V) → label_of labels (arc_of g a).tail ≡ Some x → A.extend x (arc_of g a).weight ≡ Some z →
+          (y : V) × (label_of labels (arc_of g a).head ≡ Some y) × IsTrue (A.no_worse y z)
       not_improving a h x z e f =
           let ends = roads.ends a h in
           let t = told_at (arc_of g a).tail x ends.0 e in
@@ -194,10 +198,12 @@ module _ {V : Type 0} (A : Algebra V) (lawful : IsLawful A) where
             code_is = walk_has_code (arc_of g a).tail t.0.code x t.2 t.3;
             extends = f;
           } in
-          head_label (arc_of g a).head (arc_of g a).tail t.0 x z ends.1 b (IsWalkValue-extend A g sources (arc_of g a).tail a x z t.2 h refl f) (label_of lines (arc_of g a).head) refl (certified.each (arc_of g a).head ends.1)
+          head_label (arc_of g a).head (arc_of g a).tail t.0 x z ends.1 b (IsWalkValue-extend A g sources (arc_of g a).tail a x z t.2 h refl f)
+          (label_of lines (arc_of g a).head) refl (certified.each (arc_of g a).head ends.1)
 
       best : AreBest A g sources labels
-      best = labels_are_best A lawful g roads sources labels (λ v x in_v e. (told_at v x in_v e).2) not_improving in_s (λ s h. (A.origin, origin_label s (source_is s h), same_no_worse A.no_worse lawful.ordered A.origin))
+      best = labels_are_best A lawful g roads sources labels (λ v x in_v e. (told_at v x in_v e).2) not_improving in_s
+          (λ s h. (A.origin, origin_label s (source_is s h), same_no_worse A.no_worse lawful.ordered A.origin))
           (length-map lines (value_told A) ∙ certified.count)
 
       best_at : (v : ℕ) (x : V) → HasVertex g v → label_of labels v ≡ Some x → IsBest A g sources v x
@@ -272,7 +278,8 @@ module _ {V : Type 0} (A : Algebra V) (lawful : IsLawful A) where
             ],
           )
 
-      hops_along : (u : ℕ) (p : List ℕ) (v : ℕ) (near r : Reached) → IsWalk g u p v → All (IsTight A g sources) p → label_of lines u ≡ Some near → label_of lines v ≡ Some r → r.hops ≤ near.hops + length p
+      hops_along : (u : ℕ) (p : List ℕ) (v : ℕ) (near r : Reached) → IsWalk g u p v → All (IsTight A g sources) p → label_of lines u ≡ Some near → label_of lines v ≡ Some r →
+          r.hops ≤ near.hops + length p
       hops_along u [] v near r w all e f =
           let same = same_some (label_of lines v) near r (ap (label_of lines) (sym w) ∙ e) f in
           let hops = ap (λ (q : Reached). q.hops) same in omega (arith, hops)
@@ -308,7 +315,8 @@ module _ {V : Type 0} (A : Algebra V) (lawful : IsLawful A) where
             let ends = roads.ends a tight.arc in
             let line = line_of_best (arc_of g a).tail tight.tail ends.0 tight.tail_best in
             let b : Offers A g lines (arc_of g a).tail (arc_of g a).head line.0 tight.head = tight_offers a line.0 tight.tail tight.head tight line.1 line.2 tight.tail_best tight.head_best in
-            let c : Offers A g lines t v line.0 tight.head = subst (λ (k : ℕ). Offers A g lines t k line.0 tight.head) n.3 (subst (λ (k : ℕ). Offers A g lines k (arc_of g a).head line.0 tight.head) n.2 b) in
+            let c : Offers A g lines t v line.0 tight.head = subst (λ (k : ℕ). Offers A g lines t k line.0 tight.head) n.3
+            (subst (λ (k : ℕ). Offers A g lines k (arc_of g a).head line.0 tight.head) n.2 b) in
             let head_best : IsBest A g sources v tight.head = subst (λ (k : ℕ). IsBest A g sources k tight.head) n.3 tight.head_best in
             let same = best_is_one A lawful g roads sources v tight.head sup.value head_best (support_best v r in_v e sup) in
             let at_tail : AreHops A g sources t line.0.hops = subst (λ (k : ℕ). AreHops A g sources k line.0.hops) n.2 (hops_are (arc_of g a).tail line.0 ends.0 line.1) in
@@ -351,7 +359,8 @@ module _ {V : Type 0} (A : Algebra V) (lawful : IsLawful A) where
       line_at v r in_v e = subst (λ (l : Option Reached). IsVertexLine A g sources v l) e (right.each v in_v)
 
       -- a vertex that a walk with a value reaches has a line
-      line_reached : (v : ℕ) (x : V) → HasVertex g v → IsWalkValue A g sources v x → (l : Option Reached) → label_of lines v ≡ l → (r : Reached) × (label_of lines v ≡ Some r) × IsReachedLine A g sources v r
+      line_reached : (v : ℕ) (x : V) → HasVertex g v → IsWalkValue A g sources v x → (l : Option Reached) → label_of lines v ≡ l →
+          (r : Reached) × (label_of lines v ≡ Some r) × IsReachedLine A g sources v r
       line_reached v x in_v w None e = let none : IsUnreached A g sources v = subst (λ (l : Option Reached). IsVertexLine A g sources v l) e (right.each v in_v) in absurd (none x w)
       line_reached v x in_v w (Some r) e = (r, e, line_at v r in_v e)
 

@@ -71,7 +71,8 @@ module _ {V : Type 0} (A : Algebra V) (lawful : IsLawful A) where
     offers_by a h b None e f = let bad : None ≡ Some b = f in absurd (cc)
     offers_by a h b (Some near) e f = by_value (decoded A near.code) refl f
       where
-        by_extension : (x : V) → decoded A near.code ≡ Some x → (o : Option V) → A.extend x (arc_of g a).weight ≡ o → beside near o ≡ Some b → Offers A g lines (arc_of g a).tail (arc_of g a).head b.0 b.1
+        by_extension : (x : V) → decoded A near.code ≡ Some x → (o : Option V) → A.extend x (arc_of g a).weight ≡ o → beside near o ≡ Some b →
+            Offers A g lines (arc_of g a).tail (arc_of g a).head b.0 b.1
         by_extension x d None ex q = let bad : None ≡ Some b = q in absurd (cc)
         by_extension x d (Some z) ex q =
             let pair : Some (near, z) ≡ Some b = q in
@@ -145,7 +146,8 @@ no_earlier A g lines v r n few f2 f3 f4 LesserParent lt h = omega (arith, few, l
 no_earlier A g lines v r n few f2 f3 f4 HasWalk lt h = h
 no_earlier A g lines v r n few f2 f3 f4 OtherRoute lt h = h
 
-module _ {V : Type 0} (A : Algebra V) (lawful : IsLawful A) (g : GraphData) (lines : List (Option Reached)) (v : ℕ) (arcs : List ℕ) (into : AreInto g v arcs) (r : Reached) (y : V) (code : IsCodeOf A r.code y) where
+module _ {V : Type 0} (A : Algebra V) (lawful : IsLawful A) (g : GraphData) (lines : List (Option Reached)) (v : ℕ) (arcs : List ℕ) (into : AreInto g v arcs)
+    (r : Reached) (y : V) (code : IsCodeOf A r.code y) where
   abbrev better : ℕ → Reached → V → Bool
   better u near z = not (A.no_worse y z)
 
@@ -202,7 +204,8 @@ module _ {V : Type 0} (A : Algebra V) (lawful : IsLawful A) (g : GraphData) (lin
 
   none_better : shown.better ≡ false → (u : ℕ) (near : Reached) (z : V) → Offers A g lines u v near z → IsTrue (A.no_worse y z)
   none_better h u near z b =
-      not-false (A.no_worse y z) (missed A lawful g lines v arcs into better (λ a. (evidence_of A A.no_worse g lines r y a).better) (λ a. better_is (arc_of g a).tail (candidate A g lines a)) h u near z b)
+      not-false (A.no_worse y z) (missed A lawful g lines v arcs into better (λ a. (evidence_of A A.no_worse g lines r y a).better)
+      (λ a. better_is (arc_of g a).tail (candidate A g lines a)) h u near z b)
 
   not_beaten : shown.better ≡ false → IsRefuted A g lines v (Some r) NotBest → ⊥
   not_beaten h beaten =
@@ -217,7 +220,8 @@ module _ {V : Type 0} (A : Algebra V) (lawful : IsLawful A) (g : GraphData) (lin
 
   no_parent : shown.supported ≡ false → IsRefuted A g lines v (Some r) NoParent
   no_parent h = λ near gives.
-      let none = missed A lawful g lines v arcs into supported (λ a. (evidence_of A A.no_worse g lines r y a).supported) (λ a. supported_is (arc_of g a).tail (candidate A g lines a)) h r.parent near y (gives_value r.parent near gives) in
+      let none = missed A lawful g lines v arcs into supported (λ a. (evidence_of A A.no_worse g lines r y a).supported)
+      (λ a. supported_is (arc_of g a).tail (candidate A g lines a)) h r.parent near y (gives_value r.parent near gives) in
       eqb-false r.parent r.parent (not_both (is_same A.no_worse y y) (nat_eq r.parent r.parent) none (same_itself A lawful y)) refl
 
   goes_astray : shown.astray ≡ true → IsRefuted A g lines v (Some r) OtherHops
@@ -233,7 +237,8 @@ module _ {V : Type 0} (A : Algebra V) (lawful : IsLawful A) (g : GraphData) (lin
 
   hops_of_parent : shown.astray ≡ false → (near : Reached) → Gives A g lines r.parent v near r → near.hops + 1 ≡ r.hops
   hops_of_parent h near gives =
-      let none = missed A lawful g lines v arcs into astray (λ a. (evidence_of A A.no_worse g lines r y a).astray) (λ a. astray_is (arc_of g a).tail (candidate A g lines a)) h r.parent near y (gives_value r.parent near gives) in
+      let none = missed A lawful g lines v arcs into astray (λ a. (evidence_of A A.no_worse g lines r y a).astray)
+      (λ a. astray_is (arc_of g a).tail (candidate A g lines a)) h r.parent near y (gives_value r.parent near gives) in
       let t = not_both (is_same A.no_worse y y) (nat_eq r.parent r.parent && not (nat_eq (near.hops + 1) r.hops)) none (same_itself A lawful y) in
       let s = not_both (nat_eq r.parent r.parent) (not (nat_eq (near.hops + 1) r.hops)) t (eq-eqb r.parent r.parent refl) in
       eqb-true (near.hops + 1) r.hops (not-false (nat_eq (near.hops + 1) r.hops) s)
@@ -293,7 +298,11 @@ module _ {V : Type 0} (A : Algebra V) (lawful : IsLawful A) (g : GraphData) (lin
   })
 
   by_nearer : (b : Bool) → shown.better ≡ false → shown.supported ≡ true → shown.astray ≡ false → shown.nearer ≡ b → Judged (reason_by shown)
-  by_nearer true e f h k = rw (e, f, h, k) (has_nearer k, no_earlier A g lines v r 4 (omega arith) (λ _. not_beaten e) (λ _ none. let p = from_parent f in none p.0 p.1) (λ lt. absurd (omega (arith, lt))))
+  by_nearer true e f h k = rw (e, f, h, k) (
+    has_nearer k,
+    no_earlier A g lines v r 4 (omega arith) (λ _. not_beaten e) (λ _ none. let p = from_parent f in none p.0 p.1)
+        (λ lt. absurd (omega (arith, lt))),
+  )
   by_nearer false e f h k = by_lesser shown.lesser e f h k refl
 
   by_astray : (b : Bool) → shown.better ≡ false → shown.supported ≡ true → shown.astray ≡ b → Judged (reason_by shown)

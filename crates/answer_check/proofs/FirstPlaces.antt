@@ -208,7 +208,8 @@ module _ {V : Type 0} (A : Algebra V) (lawful : IsLawful A) (g : GraphData) (lin
   module _ (roads : IsGraph g) (sources : List ℕ) (in_s : (s : ℕ) → Contains sources s → HasVertex g s) (count : length lines ≡ g.vertices) (marks : List Bool)
       (marked : (v : ℕ) → 1 ≤ v → v ≤ g.vertices → IsTrue (is_marked marks v) ↔ Contains sources v) where
     -- a verdict on marked lines is one on the lines from these sources
-    pub lines_judged : (o : Option Place) → IsJudgedAt ((v : ℕ) → HasVertex g v → IsMarkedRight A g lines v (is_marked marks v)) (λ v r. HasVertex g v × IsMarkedRefused A g lines v (is_marked marks v) r) o →
+    pub lines_judged : (o : Option Place) → IsJudgedAt ((v : ℕ) → HasVertex g v → IsMarkedRight A g lines v (is_marked marks v))
+        (λ v r. HasVertex g v × IsMarkedRefused A g lines v (is_marked marks v) r) o →
         IsJudgedAt (AreVertexLines A g sources lines) (λ v r. HasVertex g v × IsLineRefused A g sources lines v r) o
     lines_judged None right = lines_are_right A lawful g roads sources in_s lines (record {
       count = count;

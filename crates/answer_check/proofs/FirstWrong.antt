@@ -122,20 +122,24 @@ module _ {V : Type 0} (A : Algebra V) (g : GraphData) where
     not_wrong q t asks right v r (inl h) = h.2 (names_answer q t right)
     not_wrong q t asks right v r (inr h) = not_refused_at q t asks right v r h
 
-    right_more : (qs : List Question) (ts : List AnswerData) (n : ℕ) → AreRightUpTo qs ts n → ((q : Question) (t : AnswerData) → slice_get qs n ≡ Some q → slice_get ts n ≡ Some t → IsAnswer A g q t) → (k : ℕ) → k < n + 1 → k ≤ n →
+    right_more : (qs : List Question) (ts : List AnswerData) (n : ℕ) → AreRightUpTo qs ts n →
+        ((q : Question) (t : AnswerData) → slice_get qs n ≡ Some q → slice_get ts n ≡ Some t → IsAnswer A g q t) → (k : ℕ) → k < n + 1 → k ≤ n →
         (k ≡ n) ⊎ (k < n) → (q : Question) (t : AnswerData) → slice_get qs k ≡ Some q → slice_get ts k ≡ Some t → IsAnswer A g q t
     right_more qs ts n before here k lt le (inl same) q t e f = here q t (subst (λ (j : ℕ). slice_get qs j ≡ Some q) same e) (subst (λ (j : ℕ). slice_get ts j ≡ Some t) same f)
     right_more qs ts n before here k lt le (inr less) q t e f = before k less q t e f
 
-    pub one_right_more : (qs : List Question) (ts : List AnswerData) (n : ℕ) (q : Question) (t : AnswerData) → AreRightUpTo qs ts n → slice_get qs n ≡ Some q → slice_get ts n ≡ Some t → IsAnswer A g q t → AreRightUpTo qs ts (n + 1)
+    pub one_right_more : (qs : List Question) (ts : List AnswerData) (n : ℕ) (q : Question) (t : AnswerData) → AreRightUpTo qs ts n → slice_get qs n ≡ Some q →
+        slice_get ts n ≡ Some t → IsAnswer A g q t → AreRightUpTo qs ts (n + 1)
     one_right_more qs ts n q t before e f right k lt =
-        right_more qs ts n before (λ p u gp gu. subst (λ (z : AnswerData). IsAnswer A g p z) (same_some (slice_get ts n) t u f gu) (subst (λ (z : Question). IsAnswer A g z t) (same_some (slice_get qs n) q p e gp) right))
+        right_more qs ts n before (λ p u gp gu. subst (λ (z : AnswerData). IsAnswer A g p z) (same_some (slice_get ts n) t u f gu)
+        (subst (λ (z : Question). IsAnswer A g z t) (same_some (slice_get qs n) q p e gp) right))
         k lt (omega (arith, lt)) (last_or_before k n (omega (arith, lt)))
       where
         last_or_before : (k n : ℕ) → k ≤ n → (k ≡ n) ⊎ (k < n)
         last_or_before k n le = grind (arith)
 
-    are_answers : (qs : List Question) (ts : List AnswerData) → length ts ≡ length qs → ((k : ℕ) (q : Question) (t : AnswerData) → slice_get qs k ≡ Some q → slice_get ts k ≡ Some t → IsAnswer A g q t) → AreAnswers A g qs ts
+    are_answers : (qs : List Question) (ts : List AnswerData) → length ts ≡ length qs →
+        ((k : ℕ) (q : Question) (t : AnswerData) → slice_get qs k ≡ Some q → slice_get ts k ≡ Some t → IsAnswer A g q t) → AreAnswers A g qs ts
     are_answers [] [] n each = tt
     are_answers [] (t ∷ ts) n each = absurd (omega (arith, n))
     are_answers (q ∷ qs) [] n each = absurd (omega (arith, n))
@@ -187,7 +191,8 @@ module _ {V : Type 0} (A : Algebra V) (g : GraphData) where
       }
 
       -- the first place in the first wrong answer
-      pub answer_first : HasHeader A g asked told → (i : ℕ) (q : Question) (t : AnswerData) → AreRightUpTo asked.questions told.list i → slice_get asked.questions i ≡ Some q → slice_get told.list i ≡ Some t →
+      pub answer_first : HasHeader A g asked told → (i : ℕ) (q : Question) (t : AnswerData) → AreRightUpTo asked.questions told.list i → slice_get asked.questions i ≡ Some q →
+          slice_get told.list i ≡ Some t →
           (p : Place) → IsJudgedAt (IsAnswer A g q t) (IsWrongIn A g q t) (Some p) → IsFirstWrong A g asked told (i + 1) p.vertex p.reason
       answer_first header i q t before e f p h =
           let back : (i + 1) - 1 ≡ i = omega arith in

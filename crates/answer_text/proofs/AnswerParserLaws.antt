@@ -17,12 +17,14 @@ use Rattle.answer_text.proofs.HeldAnswerLines.{line_rule}
 
 module _ (old : AnswerParser) (slots : List Slot) (l : List ℕ) (shown : ShowsLine slots l) (h : NumbersSoFar old.present (fields l)) where
   pub line_taken : (new : AnswerParser) (cut : Bool) (at : ℕ) (rest : List (List ℕ)) (r : Result Answers ReadFault) → new.n ≡ old.n
-      → line_given old.n (answers_begun old) (map word_in slots) old.present.count (numbers_given old.present) ≡ Ok (answers_begun new) → GivesAnswers cut new (at + 1) rest r → GivesAnswers cut old at (l ∷ rest) r
+      → line_given old.n (answers_begun old) (map word_in slots) old.present.count (numbers_given old.present) ≡ Ok (answers_begun new) → GivesAnswers cut new (at + 1) rest r →
+      GivesAnswers cut old at (l ∷ rest) r
   line_taken new cut at rest r same e g =
       gives_taken (answer_rules old.n) answer_list (answers_begun old) (answers_begun new) cut at l rest r (line_rule old.n (answers_begun old) old.present slots l shown h ∙ e)
       (subst (λ k. GivesBy (answer_rules k) (answers_begun new) answer_list cut (at + 1) rest r) same g)
 
-  pub line_broken : (cut : Bool) (at : ℕ) (rest : List (List ℕ)) (rule : Rule) → line_given old.n (answers_begun old) (map word_in slots) old.present.count (numbers_given old.present) ≡ Err rule.number
+  pub line_broken : (cut : Bool) (at : ℕ) (rest : List (List ℕ)) (rule : Rule) →
+      line_given old.n (answers_begun old) (map word_in slots) old.present.count (numbers_given old.present) ≡ Err rule.number
       → GivesAnswers cut old at (l ∷ rest) (Err (fault_at at rule.number))
   line_broken cut at rest rule e = gives_broken (answer_rules old.n) answer_list (answers_begun old) cut at l rest rule.number (line_rule old.n (answers_begun old) old.present slots l shown h ∙ e)
 

@@ -11,23 +11,28 @@ use Rattle.answer_text.specs.AnswerData.{AnswerData, answer_data, answer_list}
 
 pub blocks_next : (i : ℕ) (answers : List Answer) (d : Answer) → i < length answers
     → blocks_text (map answer_data (drop i answers)) ≡ answer_text (answer_data (get_or answers i d)) ++ blocks_text (map answer_data (drop (i + 1) answers))
-blocks_next i answers d lt = ap (λ as'. blocks_text (map answer_data as')) (drop-cons answers i d lt) ∙ ap (λ k. answer_text (answer_data (get_or answers i d)) ++ blocks_text (map answer_data (drop k answers))) (sym (add-one i))
+blocks_next i answers d lt = ap (λ as'. blocks_text (map answer_data as')) (drop-cons answers i d lt)
+    ∙ ap (λ k. answer_text (answer_data (get_or answers i d)) ++ blocks_text (map answer_data (drop k answers))) (sym (add-one i))
 
 -- the last line of a text
 pub list_last : {B E : Type 0} (old mid new : Option (List ℕ)) (b m a : ℕ) (x : List ℕ) (words : List (List ℕ)) (r : Result B E)
     → WrotePrefix old mid b m x [] → Wrote mid new m a (spelled words) r → Wrote old new b a (x ++ text_of (words ∷ [])) r
 list_last old mid new b m a x words r was next = wrote_then old mid new b m a x (text_of (words ∷ [])) r was (subst (λ t. Wrote mid new m a t r) (sym (append-nil (spelled words))) next)
 
-module _ (old mid new : Option (List ℕ)) (b m a : ℕ) (text line : List ℕ) (answers : List Answer) (i : ℕ) (d : Answer) (lt : i < length answers) (is : line ≡ answer_text (answer_data (get_or answers i d)))
+module _ (old mid new : Option (List ℕ)) (b m a : ℕ) (text line : List ℕ) (answers : List Answer) (i : ℕ) (d : Answer) (lt : i < length answers)
+    (is : line ≡ answer_text (answer_data (get_or answers i d)))
     (was : WrotePrefix old mid b m text (blocks_text (map answer_data (drop i answers)))) where
   pub answer_left : WrotePrefix mid new m a line [] → WrotePrefix old new b a text (blocks_text (map answer_data (drop (i + 1) answers)))
-  answer_left piece = left_step old mid new b m a text (blocks_text (map answer_data (drop i answers))) (answer_text (answer_data (get_or answers i d))) line (blocks_text (map answer_data (drop (i + 1) answers))) (blocks_next i answers d lt) is was piece
+  answer_left piece = left_step old mid new b m a text (blocks_text (map answer_data (drop i answers))) (answer_text (answer_data (get_or answers i d))) line
+      (blocks_text (map answer_data (drop (i + 1) answers))) (blocks_next i answers d lt) is was piece
 
   pub answer_fell : FailedAfterPrefix mid new m a line → FailedAfterPrefix old new b a text
-  answer_fell piece = fell_step old mid new b m a text (blocks_text (map answer_data (drop i answers))) (answer_text (answer_data (get_or answers i d))) line (blocks_text (map answer_data (drop (i + 1) answers))) (blocks_next i answers d lt) is was piece
+  answer_fell piece = fell_step old mid new b m a text (blocks_text (map answer_data (drop i answers))) (answer_text (answer_data (get_or answers i d))) line
+      (blocks_text (map answer_data (drop (i + 1) answers))) (blocks_next i answers d lt) is was piece
 
 -- the header, and then the answers
-pub header_then : {B E : Type 0} (old mid new : Option (List ℕ)) (b m a : ℕ) (answers : Answers) (items : List Answer) (count : ℕ) (r : Result B E) → items ≡ answers.list.items → count ≡ length answers.list.items
+pub header_then : {B E : Type 0} (old mid new : Option (List ℕ)) (b m a : ℕ) (answers : Answers) (items : List Answer) (count : ℕ) (r : Result B E) → items ≡ answers.list.items →
+    count ≡ length answers.list.items
     → WrotePrefix old mid b m (header_text answers.kind count answers.name) [] → Wrote mid new m a (blocks_text (map answer_data items)) r → Wrote old new b a (answers_text (answer_list answers)) r
 header_then old mid new b m a answers items count r same is was next =
     let told : List AnswerData = map answer_data answers.list.items in
@@ -36,7 +41,9 @@ header_then old mid new b m a answers items count r same is was next =
     (subst (λ xs. Wrote mid new m a (blocks_text (map answer_data xs)) r) same next)
 
 -- the header was cut short
-pub header_fell : (old new : Option (List ℕ)) (b a : ℕ) (answers : Answers) (count : ℕ) → count ≡ length answers.list.items → FailedAfterPrefix old new b a (header_text answers.kind count answers.name) → FailedAfterPrefix old new b a (answers_text (answer_list answers))
+pub header_fell : (old new : Option (List ℕ)) (b a : ℕ) (answers : Answers) (count : ℕ) → count ≡ length answers.list.items →
+    FailedAfterPrefix old new b a (header_text answers.kind count answers.name) → FailedAfterPrefix old new b a (answers_text (answer_list answers))
 header_fell old new b a answers count is was =
     let told : List AnswerData = map answer_data answers.list.items in
-    fell_first old new b a (header_text answers.kind (length told) answers.name) (blocks_text told) (subst (λ k. FailedAfterPrefix old new b a (header_text answers.kind k answers.name)) (is ∙ sym (length-map answers.list.items answer_data)) was)
+    fell_first old new b a (header_text answers.kind (length told) answers.name) (blocks_text told)
+    (subst (λ k. FailedAfterPrefix old new b a (header_text answers.kind k answers.name)) (is ∙ sym (length-map answers.list.items answer_data)) was)

@@ -181,7 +181,8 @@ some_same n m e = elim (cases_lt 1 n) [
 ]
 
 -- only the number of fields up to a limit matters, and the numbers only of a list
-module _ (n : ℕ) (ws : List Word) (m : ℕ) (p q : Result (List ℕ) ℕ) (e : m ≡ min (length ws) 1026) (pm : begins (codes "m") ws ≡ true → length ws < 1026 → p ≡ q) (pr : begins (codes "r") ws ≡ true → p ≡ q) where
+module _ (n : ℕ) (ws : List Word) (m : ℕ) (p q : Result (List ℕ) ℕ) (e : m ≡ min (length ws) 1026) (pm : begins (codes "m") ws ≡ true → length ws < 1026 → p ≡ q)
+    (pr : begins (codes "r") ws ≡ true → p ≡ q) where
   sources_same : sources_line ws (length ws) p ≡ sources_line ws m q
   unfolding sources_line
   sources_same = list_same (begins (codes "m") ws) _ _ p q (few_same (length ws) m e) (λ on few. pm on (few_fields (length ws) few))

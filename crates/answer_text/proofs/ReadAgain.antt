@@ -105,7 +105,8 @@ module _ (n : ℕ) (result : Result AnswerList ReadFault) where
     unfolding line_given source_line
     source_again s lt = rw (lt-ltb (length list) k room, small_number s lt, le-ltb 4294967295 s (omega arith)) refl
 
-    pair_again : (s t : ℕ) → s < 2 ^ 32 → t < 2 ^ 32 → line_read n (Some (between Pairs name k list)) (map word_of (pair_words s t)) ≡ Ok (Some (with_stage (between Pairs name k list) (AfterPair s t)))
+    pair_again : (s t : ℕ) → s < 2 ^ 32 → t < 2 ^ 32 → line_read n (Some (between Pairs name k list)) (map word_of (pair_words s t)) ≡ Ok
+        (Some (with_stage (between Pairs name k list) (AfterPair s t)))
     unfolding line_given pair_line
     pair_again s t ls lt = rw (lt-ltb (length list) k room, small_number s ls, small_number t lt, le-ltb 4294967295 s (omega arith), le-ltb 4294967295 t (omega arith)) refl
 
@@ -122,12 +123,14 @@ module _ (n : ℕ) (result : Result AnswerList ReadFault) where
       lt-ltb (suc (length ss)) 1026 (omega arith),
     ) refl
 
-    none_again : (s t : ℕ) → line_read n (Some (with_stage (between Pairs name k list) (AfterPair s t))) (map word_of (codes "u" ∷ [])) ≡ Ok (Some (with_answer (between Pairs name k list) (PairAnswer s t None)))
+    none_again : (s t : ℕ) → line_read n (Some (with_stage (between Pairs name k list) (AfterPair s t))) (map word_of (codes "u" ∷ [])) ≡ Ok
+        (Some (with_answer (between Pairs name k list) (PairAnswer s t None)))
     unfolding line_given found_line none_line
     none_again s t = refl
 
     value_again : (s t code hops : ℕ) → code < 2 ^ 64 → hops < 2 ^ 32
-        → line_read n (Some (with_stage (between Pairs name k list) (AfterPair s t))) (map word_of (found_words code hops)) ≡ Ok (Some (with_stage (between Pairs name k list) (AfterFound s t code hops)))
+        → line_read n (Some (with_stage (between Pairs name k list) (AfterPair s t))) (map word_of (found_words code hops)) ≡ Ok
+        (Some (with_stage (between Pairs name k list) (AfterFound s t code hops)))
     unfolding line_given found_line value_line
     value_again s t code hops lc lh = rw (decimal_is_number code lc, small_number hops lh, le-ltb 18446744073709551615 code (omega arith), le-ltb 4294967295 hops (omega arith)) refl
 
@@ -135,9 +138,17 @@ module _ (n : ℕ) (result : Result AnswerList ReadFault) where
         → line_read n (Some (with_stage (between Pairs name k list) (AfterFound s t code hops))) (map word_of (list_words (codes "r") route))
         ≡ Ok (Some (with_answer (between Pairs name k list) (PairAnswer s t (Some (record { code = code; hops = hops; route = route })))))
     unfolding line_given route_line
-    route_again s t code hops route some small = rw (numbers_again route small, length-map (map decimal route) word_of, length-map route decimal, ne_eqb (suc (length route)) 0 (λ e. omega arith), lt-ltb 1 (suc (length route)) (omega arith)) refl
+    route_again s t code hops route some small = rw (
+      numbers_again route small,
+      length-map (map decimal route) word_of,
+      length-map route decimal,
+      ne_eqb
+          (suc (length route)) 0 (λ e. omega arith),
+      lt-ltb 1 (suc (length route)) (omega arith),
+    ) refl
 
-    answer_again : (kind : Kind) (t : AnswerData) (more : List (List (List ℕ))) → n < 2 ^ 32 → IsAnswerWritable kind n t → Goes (Some (between kind name k (list ++ t ∷ []))) more → Goes (Some (between kind name k list)) (answer_lines t ++ more)
+    answer_again : (kind : Kind) (t : AnswerData) (more : List (List (List ℕ))) → n < 2 ^ 32 → IsAnswerWritable kind n t → Goes (Some (between kind name k (list ++ t ∷ []))) more →
+        Goes (Some (between kind name k list)) (answer_lines t ++ more)
     answer_again Sources (SourceAnswer s ls) more small h go =
         let count : length ls ≡ n = h.1.count in
         step _ _ (source_words s) (vertex_lines 1 ls ++ more) (word_by_test (codes "s") refl, (small_word s h.0, tt)) (source_again s h.0)
@@ -151,8 +162,10 @@ module _ (n : ℕ) (result : Result AnswerList ReadFault) where
         (step _ _ (codes "u" ∷ []) more (word_by_test (codes "u") refl, tt) (none_again s t) go)
     answer_again Pairs (PairAnswer s t (Some f)) more small h go =
         let g = h.2 in
-        step _ _ (pair_words s t) (found_words f.code f.hops ∷ list_words (codes "r") f.route ∷ more) (word_by_test (codes "q") refl, (small_word s h.0, (small_word t h.1, tt))) (pair_again s t h.0 h.1)
-        (step _ _ (found_words f.code f.hops) (list_words (codes "r") f.route ∷ more) (word_by_test (codes "d") refl, (word_of_number f.code g.0, (small_word f.hops g.1, tt))) (value_again s t f.code f.hops g.0 g.1)
+        step _ _ (pair_words s t) (found_words f.code f.hops ∷ list_words (codes "r") f.route ∷ more)
+        (word_by_test (codes "q") refl, (small_word s h.0, (small_word t h.1, tt))) (pair_again s t h.0 h.1)
+        (step _ _ (found_words f.code f.hops) (list_words (codes "r") f.route ∷ more)
+        (word_by_test (codes "d") refl, (word_of_number f.code g.0, (small_word f.hops g.1, tt))) (value_again s t f.code f.hops g.0 g.1)
         (step _ _ (list_words (codes "r") f.route) more (word_by_test (codes "r") refl, number_words f.route g.3) (route_again s t f.code f.hops f.route g.2 g.3) go))
     answer_again Sources (PairAnswer s t f) more small h go = absurd h
     answer_again Sources (SourcesAnswer ss ls) more small h go = absurd h

@@ -125,7 +125,8 @@ module _ {V : Type 0} (A : Algebra V) (lawful : IsLawful A) (g : GraphData) (roa
   answer_fits Multi (FromSource s) (SourceAnswer r l) q h = absurd q
   answer_fits Multi (BetweenPair s t) (PairAnswer r u f) q h = absurd q
 
-  answers_fit : (kind : Kind) (qs : List Question) (ts : List AnswerData) → AllByRecursion (IsQuestionOf g.vertices kind) qs → AreAnswers A g qs ts → AllByRecursion (IsAnswerWritable kind g.vertices) ts
+  answers_fit : (kind : Kind) (qs : List Question) (ts : List AnswerData) → AllByRecursion (IsQuestionOf g.vertices kind) qs → AreAnswers A g qs ts →
+      AllByRecursion (IsAnswerWritable kind g.vertices) ts
   answers_fit kind [] [] q h = tt
   answers_fit kind [] (t ∷ ts) q h = absurd h
   answers_fit kind (x ∷ qs) [] q h = absurd h
@@ -146,5 +147,6 @@ module _ {V : Type 0} (A : Algebra V) (lawful : IsLawful A) (g : GraphData) (roa
       }
 
   -- the right answers to questions are read again
-  pub right_again : (q : Questions) (t : AnswerList) → AreQuestionsOf g.vertices q → IsAnswerList A g (asked_of q) t → length (answers_text t) ≤ 4294967296 → text_read (answer_rules t.n) (answers_text t) ≡ Ok t
+  pub right_again : (q : Questions) (t : AnswerList) → AreQuestionsOf g.vertices q → IsAnswerList A g (asked_of q) t → length (answers_text t) ≤ 4294967296 →
+      text_read (answer_rules t.n) (answers_text t) ≡ Ok t
   right_again q t fit is short = written_again t (right_is_writable q t fit is) short

@@ -12,7 +12,8 @@ vertices_from i ls = text_of (vertex_lines (i + 1) (drop i ls))
 
 pub vertices_next : (i : ℕ) (ls : List (Option Reached)) (d : Option Reached) → i < length ls → vertices_from i ls ≡ spelled (vertex_words (i + 1) (get_or ls i d)) ++ vertices_from (i + 1) ls
 unfolding vertices_from
-vertices_next i ls d lt = ap (λ xs. text_of (vertex_lines (i + 1) xs)) (drop-cons ls i d lt) ∙ ap (λ k. spelled (vertex_words (i + 1) (get_or ls i d)) ++ text_of (vertex_lines ((i + 1) + 1) (drop k ls))) (sym (add-one i))
+vertices_next i ls d lt = ap (λ xs. text_of (vertex_lines (i + 1) xs)) (drop-cons ls i d lt)
+    ∙ ap (λ k. spelled (vertex_words (i + 1) (get_or ls i d)) ++ text_of (vertex_lines ((i + 1) + 1) (drop k ls))) (sym (add-one i))
 
 pub vertices_start : (ls : List (Option Reached)) → vertices_from 0 ls ≡ text_of (vertex_lines 1 ls)
 unfolding vertices_from
@@ -22,7 +23,8 @@ pub vertices_end : (i : ℕ) (ls : List (Option Reached)) → length ls ≤ i �
 unfolding vertices_from
 vertices_end i ls le = ap (λ xs. text_of (vertex_lines (i + 1) xs)) (drop_of_length-le ls le)
 
-module _ (old mid new : Option (List ℕ)) (b m a : ℕ) (text line : List ℕ) (ls : List (Option Reached)) (i v : ℕ) (d : Option Reached) (lt : i < length ls) (at : v ≡ i) (is : line ≡ spelled (vertex_words (v + 1) (get_or ls i d)))
+module _ (old mid new : Option (List ℕ)) (b m a : ℕ) (text line : List ℕ) (ls : List (Option Reached)) (i v : ℕ) (d : Option Reached) (lt : i < length ls) (at : v ≡ i)
+    (is : line ≡ spelled (vertex_words (v + 1) (get_or ls i d)))
     (was : WrotePrefix old mid b m text (vertices_from i ls)) where
   pub vertex_left : WrotePrefix mid new m a line [] → WrotePrefix old new b a text (vertices_from (i + 1) ls)
   vertex_left piece = left_step old mid new b m a text (vertices_from i ls) (spelled (vertex_words (i + 1) (get_or ls i d))) line (vertices_from (i + 1) ls)

@@ -18,6 +18,7 @@ module _ (A V : RattleType) (h : Ghosts A.Denot V.Denot) where
   place_send ν κ a v = tuple_send ν (Seat.the_row A V h ∷ Part.the_row κ A V h ∷ []) (seat_send A V h a v, (part_send κ A V h a v, tt))
 
   -- what a thread is given: the floor, and a seat of it with its part
-  pub errand_send : (c : clone.Ghosts A.Denot) (d : clone.Ghosts V.Denot) (ν : List ℕ) (κ ℓ : NamedLft) → IsSend A → IsSend V → IsSync A → IsSync V → IsSend (TupleAt ν (ShrRef ℓ.mir ℓ.lft (Floor.the_row A V h c d) ∷ Seat.the_row A V h ∷ Part.the_row κ A V h ∷ []))
+  pub errand_send : (c : clone.Ghosts A.Denot) (d : clone.Ghosts V.Denot) (ν : List ℕ) (κ ℓ : NamedLft) → IsSend A → IsSend V → IsSync A → IsSync V →
+      IsSend (TupleAt ν (ShrRef ℓ.mir ℓ.lft (Floor.the_row A V h c d) ∷ Seat.the_row A V h ∷ Part.the_row κ A V h ∷ []))
   errand_send c d ν κ ℓ a v y z = tuple_send ν (ShrRef ℓ.mir ℓ.lft (Floor.the_row A V h c d) ∷ Seat.the_row A V h ∷ Part.the_row κ A V h ∷ [])
       (shr_send ℓ.mir ℓ.lft (Floor.the_row A V h c d) (floor_sync A V h c d a v y z), (seat_send A V h a v, (part_send κ A V h a v, tt)))

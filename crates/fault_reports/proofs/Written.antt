@@ -15,6 +15,7 @@ pub told_whole : (old mid new : Option (List ℕ)) (b a : ℕ) (text : List ℕ)
 told_whole old mid new b a text was keeps = Appends-kept old mid new text (left_appends old mid b a text was) keeps
 
 -- what was written of a text was the whole, or a prefix
-pub wrote_reported : (old new : Option (List ℕ)) (b a : ℕ) (given text : List ℕ) → given ≡ text → (r : Result (Unit {0}) WriteFault) → Wrote old new b a given r → WrotePrefix old new b a text [] ⊎ FailedAfterPrefix old new b a text
+pub wrote_reported : (old new : Option (List ℕ)) (b a : ℕ) (given text : List ℕ) → given ≡ text → (r : Result (Unit {0}) WriteFault) → Wrote old new b a given r →
+    WrotePrefix old new b a text [] ⊎ FailedAfterPrefix old new b a text
 wrote_reported old new b a given text e (Ok u) h = inl (subst (λ (t : List ℕ). WrotePrefix old new b a t []) e h)
 wrote_reported old new b a given text e (Err f) h = inr (subst (FailedAfterPrefix old new b a) e h)

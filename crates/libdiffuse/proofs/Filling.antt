@@ -25,12 +25,13 @@ module _ {V : Type 0} (A : Algebra V) (g : GraphData) (sources : List ℕ) (code
   told_next i up lt x k u told =
       let (n, m, l) = up.places in record {
         places = (length-set codes i x ∙ n, length-set hops i k ∙ m, length-set parents i u ∙ l);
-        each = λ j below. elim (eq-or-lt_of_le {n = j} {m = i} (omega (arith, below))) as (λ _. IsVertexLine A g sources (j + 1) (line_of (get_or (set codes i x) j 0) (get_or (set hops i k) j 0) (get_or (set parents i u) j 0))) [
-          | inl same ↦ rw (same, get_or-set_same codes i x 0 lt, get_or-set_same hops i k 0 (omega (arith, lt, n, m)), get_or-set_same parents i u 0 (omega (arith, lt, n, l))) told
-          | inr less ↦
-              let other : j ≢ i = λ e. omega (arith, less, e) in
-              rw (get_or-set_other codes i j x 0 other, get_or-set_other hops i j k 0 other, get_or-set_other parents i j u 0 other) (up.each j less)
-        ];
+        each = λ j below. elim (eq-or-lt_of_le {n = j} {m = i} (omega (arith, below))) as
+            (λ _. IsVertexLine A g sources (j + 1) (line_of (get_or (set codes i x) j 0) (get_or (set hops i k) j 0) (get_or (set parents i u) j 0))) [
+              | inl same ↦ rw (same, get_or-set_same codes i x 0 lt, get_or-set_same hops i k 0 (omega (arith, lt, n, m)), get_or-set_same parents i u 0 (omega (arith, lt, n, l))) told
+              | inr less ↦
+                  let other : j ≢ i = λ e. omega (arith, less, e) in
+                  rw (get_or-set_other codes i j x 0 other, get_or-set_other hops i j k 0 other, get_or-set_other parents i j u 0 other) (up.each j less)
+            ];
       }
 
   pub all_told : (i : ℕ) → AreTreeListsUpTo A g sources i codes hops parents → length codes ≤ i → AreTreeLists A g sources codes hops parents

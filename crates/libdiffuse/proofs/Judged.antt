@@ -32,7 +32,8 @@ module _ {V : Type 0} (A : Algebra V) (lawful : IsLawful A) (g : GraphData) (roa
     lines = lines_judged A lawful g (lines_of codes hops parents) roads sources (all_inside g sources inside) count marks marked None right;
   }
   tree_judged (Some p) h =
-      let judged = lines_judged A lawful g (lines_of codes hops parents) roads sources (all_inside g sources inside) count marks marked (Some (record { vertex = p.0; reason = p.1 })) ((h.0, h.1), h.2) in record {
+      let judged = lines_judged A lawful g (lines_of codes hops parents) roads sources (all_inside g sources inside) count marks marked
+      (Some (record { vertex = p.0; reason = p.1 })) ((h.0, h.1), h.2) in record {
         wrong = not_the_tree p.0 p.1 judged.0.0 judged.0.1;
         vertex = judged.0.0;
         reason = p.1;

@@ -147,7 +147,8 @@ module _ (g : GraphData) where
   onward_has u rest (suc m) a p l h t c = elim (cases_eq a (suc m)) [
     | inl e ↦ elim (onward-suc u rest m) [
       | inl k ↦ subst (λ ys. Contains ys (a ∷ p)) (sym k.1) (Contains-append_left (map (λ p. suc m ∷ p) (rest (arc_of g (suc m)).head)) (onward g u rest m) (a ∷ p)
-          (subst (λ b. Contains (map (λ p. suc m ∷ p) (rest (arc_of g (suc m)).head)) (b ∷ p)) (sym e) (map_has (suc m) (rest (arc_of g (suc m)).head) p (subst (λ b. Contains (rest (arc_of g b).head) p) e c))))
+          (subst (λ b. Contains (map (λ p. suc m ∷ p) (rest (arc_of g (suc m)).head)) (b ∷ p)) (sym e)
+          (map_has (suc m) (rest (arc_of g (suc m)).head) p (subst (λ b. Contains (rest (arc_of g b).head) p) e c))))
       | inr k ↦ absurd (k.0 (ap (λ b. (arc_of g b).tail) (sym e) ∙ t))
     ]
     | inr n ↦ (let r = onward_has u rest m a p l (omega (arith, h, n)) t c in elim (onward-suc u rest m) [

@@ -167,7 +167,8 @@ module _ {V : Type 0} (A : Algebra V) (lawful : IsLawful A) (g : GraphData) (roa
 
 module _ {V : Type 0} (A : Algebra V) (lawful : IsLawful A) (g : GraphData) (roads : IsGraph g) (sources : List ℕ) (inside : All (HasVertex g) sources) (settled : List Bool) (x : V) where
   -- an arc whose extension is refused changes nothing
-  search_refused : (labels : List (Option V)) (a : ℕ) (rest : List ℕ) → Search A g sources labels settled x (a ∷ rest) → A.extend x (arc_of g a).weight ≡ None → Search A g sources labels settled x rest
+  search_refused : (labels : List (Option V)) (a : ℕ) (rest : List ℕ) → Search A g sources labels settled x (a ∷ rest) → A.extend x (arc_of g a).weight ≡ None →
+      Search A g sources labels settled x rest
   search_refused labels a rest known ex = record {
     labels_count = known.labels_count;
     settled_count = known.settled_count;

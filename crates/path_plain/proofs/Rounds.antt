@@ -36,7 +36,8 @@ pub record Between {V : Type 0} (A : Algebra V) (g : GraphData) (sources : List 
 abbrev pub unsettled : List Bool → ℕ
 unsettled settled = sum_by (λ b. cond b 0 1) settled
 
-module _ {V : Type 0} (A : Algebra V) (lawful : IsLawful A) (g : GraphData) (roads : IsGraph g) (sources : List ℕ) (inside : All (HasVertex g) sources) (order : V → V → Bool) (same : A.no_worse ≡ order)
+module _ {V : Type 0} (A : Algebra V) (lawful : IsLawful A) (g : GraphData) (roads : IsGraph g) (sources : List ℕ) (inside : All (HasVertex g) sources)
+    (order : V → V → Bool) (same : A.no_worse ≡ order)
     (labels : List (Option V)) (settled : List Bool) (between : Between A g sources labels settled) where
   pub round : (i : ℕ) (x : V) (next : List (Option V)) → IsBestOpen order labels settled (length labels) i x →
       Relaxes A g (i + 1) x labels next → Between A g sources next (set settled i true)

@@ -42,7 +42,8 @@ made_here p [] to a = tt
 made_here p (i ∷ xs) to a = (a.0.1, made_here p xs to a.1)
 
 -- the outbox of p is in the slot
-pub publishing : {S V : Type 0} {meaning : S → Algebra V} {id pass pass' : TableId} {t : SetupData S} {k to : ℕ} {p q : PartData S V} (m m' : Me (Slot V) (View S V)) {x : Slot V} {b b' : Buffer (Item V)}
+pub publishing : {S V : Type 0} {meaning : S → Algebra V} {id pass pass' : TableId} {t : SetupData S} {k to : ℕ} {p q : PartData S V}
+    (m m' : Me (Slot V) (View S V)) {x : Slot V} {b b' : Buffer (Item V)}
     → AtTable meaning id t pass m.0 p → p.setup ≡ t → IsBetween t.plan.shards p.shard to k → LocalInvariant (network_of p.setup) (place_in p.setup) p → HasEmpty t k m → pass' ≡ pass
     → q ≡ published_to to p → m.1 ≡ (k, x) ∷ rest m.1 → x ≡ std.Some b → b' ≡ buffer (get_or p.outs to []) b.capacity → m'.0 ≡ m.0 → m'.1 ≡ (k, std.Some b') ∷ rest m'.1
     → Publishing meaning id t pass' k q m'

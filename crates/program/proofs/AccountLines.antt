@@ -11,15 +11,21 @@ use Rattle.program.specs.Accounts.{account_text, counts_text, full_words, owner_
 -- both parts are the line
 pub account_is : (question source : ℕ) (t : Tally) → owner_text question source ++ counts_text t ≡ account_text question source t
 unfolding spelled
-account_is question source t = elim t.full as (λ full. owner_text question source ++ ((32 ∷ decimal t.sent) ++ (32 ∷ decimal t.delivered) ++ (32 ∷ decimal t.signalled) ++ (32 ∷ decimal t.accepted) ++ (if full then codes " full" else []) ++ 10 ∷ []) ≡ spelled (codes "t" ∷ decimal question ∷ decimal source ∷ decimal t.sent ∷ decimal t.delivered ∷ decimal t.signalled ∷ decimal t.accepted ∷ full_words full)) [ true ↦ grind (arith, common_steps) | false ↦ grind (arith, common_steps) ]
+account_is question source t = elim t.full as (λ full. owner_text question source ++
+    ((32 ∷ decimal t.sent) ++ (32 ∷ decimal t.delivered) ++ (32 ∷ decimal t.signalled) ++ (32 ∷ decimal t.accepted) ++ (if full then codes " full" else []) ++ 10 ∷ []) ≡ spelled
+    (codes "t" ∷ decimal question ∷ decimal source ∷ decimal t.sent ∷ decimal t.delivered ∷ decimal t.signalled ∷ decimal t.accepted ∷ full_words full))
+    [ true ↦ grind (arith, common_steps) | false ↦ grind (arith, common_steps) ]
 
 -- both parts were written, whole, or the second was cut short
-pub account_then : {R E : Type 0} (old mid new : Option (List ℕ)) (b m a question source : ℕ) (t : Tally) (first second : List ℕ) (r : Result R E) → first ≡ owner_text question source → second ≡ counts_text t →
+pub account_then : {R E : Type 0} (old mid new : Option (List ℕ)) (b m a question source : ℕ) (t : Tally) (first second : List ℕ) (r : Result R E) →
+    first ≡ owner_text question source → second ≡ counts_text t →
     WrotePrefix old mid b m first [] → Wrote mid new m a second r → Wrote old new b a (account_text question source t) r
 account_then old mid new b m a question source t first second r e f was next =
-    subst (λ text. Wrote old new b a text r) (ap (λ x. x ++ second) e ∙ ap (λ y. owner_text question source ++ y) f ∙ account_is question source t) (wrote_then old mid new b m a first second r was next)
+    subst (λ text. Wrote old new b a text r) (ap (λ x. x ++ second) e ∙ ap (λ y. owner_text question source ++ y) f ∙ account_is question source t)
+    (wrote_then old mid new b m a first second r was next)
 
 -- the first part was cut short
-pub account_fell : (old new : Option (List ℕ)) (b a question source : ℕ) (t : Tally) (first : List ℕ) → first ≡ owner_text question source → FailedAfterPrefix old new b a first → FailedAfterPrefix old new b a (account_text question source t)
+pub account_fell : (old new : Option (List ℕ)) (b a question source : ℕ) (t : Tally) (first : List ℕ) → first ≡ owner_text question source → FailedAfterPrefix old new b a first →
+    FailedAfterPrefix old new b a (account_text question source t)
 account_fell old new b a question source t first e was =
     subst (FailedAfterPrefix old new b a) (account_is question source t) (fell_first old new b a (owner_text question source) (counts_text t) (subst (FailedAfterPrefix old new b a) e was))

@@ -62,12 +62,14 @@ module _ {A : Type 0} (written : A → Option (List ℕ)) (failures : A → ℕ)
   fell_first old mid new l m e (inl p) = inl p
   fell_first old mid new l m e (inr p) = inr (subst (AreLost failures old) (sym e) p)
 
-  fell_second : (old mid new : Option A) (l m n : Bool) (x y : List ℕ) → HasAccounts written failures old mid l m x → HasAccounts written failures mid new m n y → (m ≡ true) ⊎ AreLost failures mid new → (l ≡ true) ⊎ AreLost failures old new
+  fell_second : (old mid new : Option A) (l m n : Bool) (x y : List ℕ) → HasAccounts written failures old mid l m x → HasAccounts written failures mid new m n y →
+      (m ≡ true) ⊎ AreLost failures mid new → (l ≡ true) ⊎ AreLost failures old new
   fell_second old mid new l m n x y first second (inl e) = fell_first old mid new l m (second.stays e).1 (first.fell e)
   fell_second old mid new l m n x y first second (inr p) = inr (fell_then old mid new l m x first p (λ e. (second.stays e).1))
 
   -- one text was added to accounts after another
-  pub has_then : (old mid new : Option A) (l m n : Bool) (x y : List ℕ) → HasAccounts written failures old mid l m x → HasAccounts written failures mid new m n y → HasAccounts written failures old new l n (x ++ y)
+  pub has_then : (old mid new : Option A) (l m n : Bool) (x y : List ℕ) → HasAccounts written failures old mid l m x → HasAccounts written failures mid new m n y →
+      HasAccounts written failures old new l n (x ++ y)
   has_then old mid new l m n x y first second = record {
     kept = λ e. let q = second.kept e in let p = first.kept q.0 in (p.0, kept_then old mid new x y p.1 q.1);
     fell = λ e. fell_second old mid new l m n x y first second (second.fell e);
@@ -75,7 +77,8 @@ module _ {A : Type 0} (written : A → Option (List ℕ)) (failures : A → ℕ)
   }
 
   module _ (held : A → List ℕ) where
-    some_lost : (a b c : A) (text : List ℕ) (lost : Bool) → HasAccounts written failures (Some a) (Some b) false lost text → ((lost ≡ true) × (c ≡ b)) ⊎ (failures b < failures c) → failures a < failures c
+    some_lost : (a b c : A) (text : List ℕ) (lost : Bool) → HasAccounts written failures (Some a) (Some b) false lost text → ((lost ≡ true) × (c ≡ b)) ⊎ (failures b < failures c) →
+        failures a < failures c
     some_lost a b c text true had (inl p) = elim (had.fell refl) [ inl e ↦ cc | inr q ↦ subst (λ it. failures a < failures it) (sym p.1) q ]
     some_lost a b c text false had (inl p) = let e : false ≡ true = p.0 in cc
     some_lost a b c text true had (inr p) = elim (had.fell refl) [ inl e ↦ cc | inr q ↦ omega arith ]
@@ -90,7 +93,8 @@ module _ {A : Type 0} (written : A → Option (List ℕ)) (failures : A → ℕ)
     some_first a text true had = elim (had.fell refl) [ inl e ↦ cc | inr q ↦ q ]
 
     -- accounts that were written, and then passed on or lost
-    pub account : (old mid new : Option A) (lost : Bool) (text : List ℕ) (r : Result (Unit {0}) RunFault) → HasAccounts written failures old mid false lost text → EndsAccounts written held failures mid new lost r → Account text (option_map (output written held failures) old) (option_map (output written held failures) new) r
+    pub account : (old mid new : Option A) (lost : Bool) (text : List ℕ) (r : Result (Unit {0}) RunFault) → HasAccounts written failures old mid false lost text →
+        EndsAccounts written held failures mid new lost r → Account text (option_map (output written held failures) old) (option_map (output written held failures) new) r
     account None None None lost text r had ends = (refl, ends.1)
     account None None (Some c) lost text r had ends = let e : Some c ≡ None = ends.0 in cc
     account None (Some b) new lost text r had ends = let e : Some b ≡ None = none_first (Some b) text lost had in cc

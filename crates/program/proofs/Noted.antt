@@ -27,13 +27,15 @@ module _ {V S : Type 0} (A : Algebra V) (plain : Bool) (IsRead : GraphData → A
   none_told : new ≡ old → (reports : List Report) × FollowsReports may_become old reports new × Unit {0}
   none_told e = ([], e, tt)
 
-  some_told : (number : ℕ) → (number ≢ 43 → ReportedFirst A plain IsRead may_become old new) → (number ≡ 43 → new ≡ old) → (reports : List Report) × FollowsReports may_become old reports new × Unit {0}
+  some_told : (number : ℕ) → (number ≢ 43 → ReportedFirst A plain IsRead may_become old new) → (number ≡ 43 → new ≡ old) →
+      (reports : List Report) × FollowsReports may_become old reports new × Unit {0}
   some_told number first untouched = elim (eqb_tells number 43) [
     | inl is ↦ none_told (untouched is.1)
     | inr not ↦ let told = (first not.1).reported.reported in (told.reports, told.told, tt)
   ]
 
-  fault_told : (file : File) (number : ℕ) → (file ≡ NoFile → number ≢ 43 → ReportedFirst A plain IsRead may_become old new) → (file ≢ NoFile → new ≡ old) → (number ≡ 43 → new ≡ old) → (reports : List Report) × FollowsReports may_become old reports new × Unit {0}
+  fault_told : (file : File) (number : ℕ) → (file ≡ NoFile → number ≢ 43 → ReportedFirst A plain IsRead may_become old new) → (file ≢ NoFile → new ≡ old) →
+      (number ≡ 43 → new ≡ old) → (reports : List Report) × FollowsReports may_become old reports new × Unit {0}
   fault_told NoFile number first nothing untouched = some_told number (first refl) untouched
   fault_told Graph number first nothing untouched = none_told (nothing (λ e. cc))
   fault_told Questions number first nothing untouched = none_told (nothing (λ e. cc))
@@ -58,7 +60,8 @@ under_told chosen.Reliable how IsRead may_become old new outcome w = watched_tol
 under_told (chosen.Within x) how IsRead may_become old new outcome w = watched_told _ how IsRead may_become old new outcome w
 
 -- what a watcher of a command leaves to which all these reports were made
-pub record Noted {A E : Type 0} (written : A → Option (List ℕ)) (failures : A → ℕ) (shown : E → Option (List ℕ)) (unshown : E → ℕ) (old : Watch A E) (reports : List Report) (new : Watch A E) : Type 0 where
+pub record Noted {A E : Type 0} (written : A → Option (List ℕ)) (failures : A → ℕ) (shown : E → Option (List ℕ)) (unshown : E → ℕ) (old : Watch A E)
+    (reports : List Report) (new : Watch A E) : Type 0 where
   pub same : (new.accounts.ghost_name ≡ old.accounts.ghost_name) × (new.errors.ghost_name ≡ old.errors.ghost_name)
   pub accounts : HasAccounts written failures old.accounts.now new.accounts.now old.lost new.lost (accounts_text old.name reports)
   pub errors : IsAdded (shown old.errors.now) (shown new.errors.now) (unshown old.errors.now) (unshown new.errors.now) (if old.progress then progress_text old.all reports else [])
@@ -79,7 +82,8 @@ module _ {A E : Type 0} (written : A → Option (List ℕ)) (failures : A → �
       IsAdded (shown old.errors.now) (shown new.errors.now) (unshown old.errors.now) (unshown new.errors.now) (if old.progress then progress_text old.all (r ∷ rs) else [])
   errors_then old next new r rs first more =
       let Added : List ℕ → Type 0 = IsAdded (shown old.errors.now) (shown new.errors.now) (unshown old.errors.now) (unshown new.errors.now) in
-      let later : (progress : Bool) (all : ℕ) → next.progress ≡ progress → next.all ≡ all → IsAdded (shown next.errors.now) (shown new.errors.now) (unshown next.errors.now) (unshown new.errors.now) (if progress then progress_text all rs else []) =
+      let later : (progress : Bool) (all : ℕ) → next.progress ≡ progress → next.all ≡ all →
+      IsAdded (shown next.errors.now) (shown new.errors.now) (unshown next.errors.now) (unshown new.errors.now) (if progress then progress_text all rs else []) =
       λ progress all e f. subst (λ p. IsAdded (shown next.errors.now) (shown new.errors.now) (unshown next.errors.now) (unshown new.errors.now) (if p then progress_text all rs else [])) e
       (subst (λ n. IsAdded (shown next.errors.now) (shown new.errors.now) (unshown next.errors.now) (unshown new.errors.now) (if next.progress then progress_text n rs else [])) f more.errors) in
       subst Added (shown_then old.progress (shown_at old.all r) (progress_text (all_after old.all r) rs))
@@ -91,6 +95,7 @@ module _ {A E : Type 0} (written : A → Option (List ℕ)) (failures : A → �
   noted_all (r ∷ rs) old new (next, first, rest) =
       let more = noted_all rs next new rest in record {
         same = (more.same.0 ∙ first.same.0, more.same.1 ∙ first.same.1);
-        accounts = has_then written failures _ _ _ _ _ _ _ _ first.accounts (subst (λ n. HasAccounts written failures next.accounts.now new.accounts.now next.lost new.lost (accounts_text n rs)) first.name more.accounts);
+        accounts = has_then written failures _ _ _ _ _ _ _ _ first.accounts (subst
+            (λ n. HasAccounts written failures next.accounts.now new.accounts.now next.lost new.lost (accounts_text n rs)) first.name more.accounts);
         errors = errors_then old next new r rs first more;
       }

@@ -15,7 +15,8 @@ opens_third opens a b c old mid new (one, first, (both, second, is)) third =
 -- a graph or questions that can't be opened, and the report of it, are what is promised of the first or of the second input
 pub missing_pair : {P W E : Type 0} (opens : Opens P) (graph questions : List ℕ) (files files_after : P) (out : Output W) (errors errors_after : Output E) (f : RunFault) (result : ℕ) (More : Type 0) →
     IsMissing opens graph questions files files_after f → ReportsFault f errors errors_after result →
-    CannotOpen opens [] graph Graph files files_after out out errors errors_after result ⊎ (CannotOpen opens (graph ∷ []) questions Questions files files_after out out errors errors_after result ⊎ More)
+    CannotOpen opens [] graph Graph files files_after out out errors errors_after result ⊎
+    (CannotOpen opens (graph ∷ []) questions Questions files files_after out out errors errors_after result ⊎ More)
 missing_pair opens graph questions files files_after out errors errors_after f result More (inl first) ends =
     inl (record { order = first.2; named = first.1; unwritten = refl; ends = subst (λ it. ReportsFault it errors errors_after result) first.0 ends })
 missing_pair opens graph questions files files_after out errors errors_after f result More (inr second) ends =

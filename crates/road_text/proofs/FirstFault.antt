@@ -73,7 +73,8 @@ module _ {S V : Type 0} (rules : Rules S V) where
   finds_line cut at s reached (l ∷ ls) here after f taken broken place =
       after_line cut at reached ls (ls ++ here ∷ after) f (λ t h. finds_line cut (at + 1) t reached ls here after f h broken (omega (arith, place))) (rules.line s (fields l)) taken
 
-  finds_end : (cut : Bool) (at : ℕ) (s reached : S) (ls : List (List ℕ)) (f : ReadFault) → state_after rules s ls ≡ Ok reached → EndsIn cut rules (at + length ls) reached f → value_of_lines cut rules at s ls ≡ Err f
+  finds_end : (cut : Bool) (at : ℕ) (s reached : S) (ls : List (List ℕ)) (f : ReadFault) → state_after rules s ls ≡ Ok reached → EndsIn cut rules (at + length ls) reached f →
+      value_of_lines cut rules at s ls ≡ Err f
   finds_end true at s reached [] f taken broken = ap (λ (k : ReadFault). Err k) (sym broken)
   finds_end false at s reached [] f taken broken =
       let same : s ≡ reached = cc in

@@ -39,7 +39,8 @@ unfolding number
 none_yet = refl
 
 -- a number of few digits that was read and wrapped is the number of the field
-pub leading_number : (bs : List ℕ) (k n : ℕ) → k ≡ prefix_len is_ascii_digit bs → k ≤ length bs → k ≤ 19 → n ≡ (0 * 10 ^ (k - 0) + digits_value 10 (slice_range bs 0 k)) % 2 ^ 64 → Some n ≡ number_with (Some 0) (take k bs)
+pub leading_number : (bs : List ℕ) (k n : ℕ) → k ≡ prefix_len is_ascii_digit bs → k ≤ length bs → k ≤ 19 → n ≡ (0 * 10 ^ (k - 0) + digits_value 10 (slice_range bs 0 k)) % 2 ^ 64 →
+    Some n ≡ number_with (Some 0) (take k bs)
 leading_number bs k n is inside few read =
     let digits : all_ascii_digits (take k bs) ≡ true = rw is (prefix_test bs) in
     let long : length (take k bs) ≡ k = length-take-le k bs inside in
@@ -47,6 +48,7 @@ leading_number bs k n is inside few read =
     let all : k - 0 ≡ k = omega arith in
     let worth : n ≡ (0 * 10 ^ k + digits_value 10 (take k bs)) % 2 ^ 64 = rw all at read in
     let whole : n ≡ digits_value 10 (take k bs) = omega (arith, worth, small) in
-    let held : number_with (Some 0) (take k bs) ≡ option_map (λ n. min n 18446744073709551616) (number (take k bs)) = ap (λ o. number_with o (take k bs)) (sym none_yet) ∙ number_with_held [] (take k bs) in
+    let held : number_with (Some 0) (take k bs) ≡ option_map (λ n. min n 18446744073709551616) (number (take k bs)) =
+    ap (λ o. number_with o (take k bs)) (sym none_yet) ∙ number_with_held [] (take k bs) in
     let kept : min (digits_value 10 (take k bs)) 18446744073709551616 ≡ n = omega (arith, whole, small) in
     sym (held ∙ ap (λ o. option_map (λ n. min n 18446744073709551616) o) (number_is (take k bs) digits) ∙ ap (λ x. Some x) kept)

@@ -9,7 +9,8 @@ use Rattle.road_text.specs.Written.{WrotePrefix, FailedAfterPrefix, Wrote}
 use Rattle.road_text.proofs.WriteLaws.{wrote_then, left_step, fell_step, fell_first}
 
 -- what words give from left to right, where `one` is what each gives, and `all` what they give together
-module _ (one : Word → Result ℕ ℕ) (all : List Word → Result (List ℕ) ℕ) (none : all [] ≡ Ok []) (first : (w : Word) (ws : List Word) → all (w ∷ ws) ≡ (one w >>= λ v. all ws >>= λ vs. Ok (v ∷ vs))) where
+module _ (one : Word → Result ℕ ℕ) (all : List Word → Result (List ℕ) ℕ) (none : all [] ≡ Ok [])
+    (first : (w : Word) (ws : List Word) → all (w ∷ ws) ≡ (one w >>= λ v. all ws >>= λ vs. Ok (v ∷ vs))) where
   -- one word more at the end
   pub words_push : (ws : List Word) (w : Word) → all (ws ++ w ∷ []) ≡ (all ws >>= λ vs. one w >>= λ v. Ok (vs ++ v ∷ []))
   words_push [] w = rw (first w [], none) (single (one w))
@@ -19,7 +20,8 @@ module _ (one : Word → Result ℕ ℕ) (all : List Word → Result (List ℕ) 
       single (Err e) = refl
   words_push (x ∷ ws) w = rw (first x (ws ++ w ∷ []), first x ws, words_push ws w) (go (one x) (all ws) (one w))
     where
-      go : (a : Result ℕ ℕ) (b : Result (List ℕ) ℕ) (c : Result ℕ ℕ) → (a >>= λ v. (b >>= λ vs. c >>= λ u. Ok (vs ++ u ∷ [])) >>= λ vs. Ok (v ∷ vs)) ≡ ((a >>= λ v. b >>= λ vs. Ok (v ∷ vs)) >>= λ vs. c >>= λ u. Ok (vs ++ u ∷ []))
+      go : (a : Result ℕ ℕ) (b : Result (List ℕ) ℕ) (c : Result ℕ ℕ) → (a >>= λ v. (b >>= λ vs. c >>= λ u. Ok (vs ++ u ∷ [])) >>= λ vs. Ok (v ∷ vs)) ≡
+          ((a >>= λ v. b >>= λ vs. Ok (v ∷ vs)) >>= λ vs. c >>= λ u. Ok (vs ++ u ∷ []))
       go (Err e) b c = refl
       go (Ok v) (Err e) c = refl
       go (Ok v) (Ok vs) (Err e) = refl
@@ -35,7 +37,8 @@ unfolding spelled
 list_spelled word [] = refl
 list_spelled word (n ∷ ns) = append_assoc word (32 ∷ join_with_byte 32 (list_words (decimal n) ns)) (10 ∷ []) ∙ ap (λ x. word ++ (32 ∷ x)) (list_spelled (decimal n) ns)
 
-pub list_then : {B E : Type 0} (old mid new : Option (List ℕ)) (b m a : ℕ) (word ns : List ℕ) (r : Result B E) → WrotePrefix old mid b m word [] → Wrote mid new m a (spaced ns) r → Wrote old new b a (spelled (list_words word ns)) r
+pub list_then : {B E : Type 0} (old mid new : Option (List ℕ)) (b m a : ℕ) (word ns : List ℕ) (r : Result B E) → WrotePrefix old mid b m word [] → Wrote mid new m a (spaced ns) r →
+    Wrote old new b a (spelled (list_words word ns)) r
 list_then old mid new b m a word ns r was next = subst (λ t. Wrote old new b a t r) (sym (list_spelled word ns)) (wrote_then old mid new b m a word (spaced ns) r was next)
 
 pub list_fell : (old new : Option (List ℕ)) (b a : ℕ) (word ns : List ℕ) → FailedAfterPrefix old new b a word → FailedAfterPrefix old new b a (spelled (list_words word ns))
@@ -45,8 +48,10 @@ pub spaced_next : (i : ℕ) (ns : List ℕ) → i < length ns → spaced (drop i
 spaced_next i ns lt = ap spaced (drop-cons ns i 0 lt) ∙ ap (λ k. spaced (get_or ns i 0 ∷ drop k ns)) (sym (add-one i))
 
 module _ (old mid new : Option (List ℕ)) (b m a : ℕ) (text line : List ℕ) where
-  pub number_left : (ns : List ℕ) (i : ℕ) → i < length ns → line ≡ (32 ∷ decimal (get_or ns i 0)) → WrotePrefix old mid b m text (spaced (drop i ns)) → WrotePrefix mid new m a line [] → WrotePrefix old new b a text (spaced (drop (i + 1) ns))
+  pub number_left : (ns : List ℕ) (i : ℕ) → i < length ns → line ≡ (32 ∷ decimal (get_or ns i 0)) → WrotePrefix old mid b m text (spaced (drop i ns)) →
+      WrotePrefix mid new m a line [] → WrotePrefix old new b a text (spaced (drop (i + 1) ns))
   number_left ns i lt is was piece = left_step old mid new b m a text (spaced (drop i ns)) (32 ∷ decimal (get_or ns i 0)) line (spaced (drop (i + 1) ns)) (spaced_next i ns lt) is was piece
 
-  pub number_fell : (ns : List ℕ) (i : ℕ) → i < length ns → line ≡ (32 ∷ decimal (get_or ns i 0)) → WrotePrefix old mid b m text (spaced (drop i ns)) → FailedAfterPrefix mid new m a line → FailedAfterPrefix old new b a text
+  pub number_fell : (ns : List ℕ) (i : ℕ) → i < length ns → line ≡ (32 ∷ decimal (get_or ns i 0)) → WrotePrefix old mid b m text (spaced (drop i ns)) →
+      FailedAfterPrefix mid new m a line → FailedAfterPrefix old new b a text
   number_fell ns i lt is was piece = fell_step old mid new b m a text (spaced (drop i ns)) (32 ∷ decimal (get_or ns i 0)) line (spaced (drop (i + 1) ns)) (spaced_next i ns lt) is was piece

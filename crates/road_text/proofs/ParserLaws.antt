@@ -24,12 +24,14 @@ on_ok (Ok x) rule state h f = f h
 on_ok (Err e) rule state h f = tt
 
 -- the rule that code reports as broken is the rule that is
-pub broken_is : {A : Type 0} (rule_gives : Result A ℕ) (fault : LineFault) (rule : Rule) → ◌≡◌ {A = Result (Unit {0}) LineFault} (Err fault) (Err (Broken rule)) → Breaks rule_gives fault → rule_gives ≡ Err rule.number
+pub broken_is : {A : Type 0} (rule_gives : Result A ℕ) (fault : LineFault) (rule : Rule) → ◌≡◌ {A = Result (Unit {0}) LineFault} (Err fault) (Err (Broken rule)) →
+    Breaks rule_gives fault → rule_gives ≡ Err rule.number
 broken_is rule_gives fault rule e h = let same : fault ≡ Broken rule = cc in subst (Breaks rule_gives) same h
 
 module _ {S V R : Type 0} (rules : Rules S V) (view : R → V) where
   -- a line that the rules take
-  pub gives_taken : (s t : S) (cut : Bool) (at : ℕ) (l : List ℕ) (rest : List (List ℕ)) (r : Result R ReadFault) → rules.line s (fields l) ≡ Ok t → GivesBy rules t view cut (at + 1) rest r → GivesBy rules s view cut at (l ∷ rest) r
+  pub gives_taken : (s t : S) (cut : Bool) (at : ℕ) (l : List ℕ) (rest : List (List ℕ)) (r : Result R ReadFault) → rules.line s (fields l) ≡ Ok t →
+      GivesBy rules t view cut (at + 1) rest r → GivesBy rules s view cut at (l ∷ rest) r
   gives_taken s t cut at l rest (Ok v) e h = rw e h
   gives_taken s t cut at l rest (Err f) e h = rw e h
 
@@ -136,13 +138,15 @@ module _ {S V T R : Type 0} (rules : Rules S V) (view : R → V) (meaning : Mean
   fails_unbroken left rest r h = IfErr-weaker r _ _ (λ f p e. let (taken, c, u) = p e in (taken, c, unbroken_by taken u)) h
 
   pub runs_out_unbroken : (left rest : Option (List ℕ)) (r : Result R ReadFault) → IfErr r (λ f. f.number ≡ 3 → RunsOutAfter (IsUnbroken meaning parser) left rest) → RunsOutUnbroken rules left rest r
-  runs_out_unbroken left rest r h = IfErr-weaker r _ _ (λ f p e. let q = p e in record { before = q.before; last = q.last; taken = q.taken; unbroken = unbroken_by q.before q.unbroken; one_read = q.one_read; fits = q.fits }) h
+  runs_out_unbroken left rest r h = IfErr-weaker r _ _ (λ f p e. let q = p e in record
+      { before = q.before; last = q.last; taken = q.taken; unbroken = unbroken_by q.before q.unbroken; one_read = q.one_read; fits = q.fits }) h
 
   -- What `read_whole` promises, said by the rules, which tell faults of these numbers alone. Its clauses go in as they are.
   pub reads_text : {X : Type 0} (bytes : X → Option (List ℕ)) (failed reads : X → ℕ) (old new : X) (least greatest : ℕ)
       → ((s : S) (fs : List (List ℕ)) → IsOwn least greatest (rules.line s fs)) → ((s : S) → IsOwn least greatest (rules.end s)) → (r : Result R ReadFault)
       → IfOk r (λ v. IfSome (bytes old) (λ all. TextGives meaning parser all (Ok v))) → IfOk r (λ v. SomeTextGives meaning parser (Ok v))
-      → IfErr r (λ f. 2 ≤ f.number → f.number ≢ 3 → IfSome (bytes old) (λ all. TextGives meaning parser all (Err f))) → IfErr r (λ f. 2 ≤ f.number → f.number ≢ 3 → SomeTextGives meaning parser (Err f))
+      → IfErr r (λ f. 2 ≤ f.number → f.number ≢ 3 → IfSome (bytes old) (λ all. TextGives meaning parser all (Err f))) →
+      IfErr r (λ f. 2 ≤ f.number → f.number ≢ 3 → SomeTextGives meaning parser (Err f))
       → OnOk r (failed new ≡ failed old) → TellsFailure (failed old) (failed new) r → TellsNoOther (failed old) (failed new) r → IsTooLong (bytes old) r → HasLineIfInText r → IsReadNumber 10 255 r
       → OnOk r (IsAtEnd (bytes new)) → reads new ≤ reads old + 4294967297 → FailsOnce (failed old) (failed new) r
       → IfErr r (λ f. f.number ≡ 1 → FailsAfter (IsUnbroken meaning parser) (bytes old) (bytes new)) → IfErr r (λ f. f.number ≡ 3 → RunsOutAfter (IsUnbroken meaning parser) (bytes old) (bytes new))
@@ -170,10 +174,44 @@ module _ {S V T R : Type 0} (rules : Rules S V) (view : R → V) (meaning : Mean
 -- what is read stays read where the value is a part of another, and a fault is one whatever the value is
 module _ {S V A B X : Type 0} (bytes : X → Option (List ℕ)) (failed reads : X → ℕ) (old new : X) (rules : Rules S V) (least greatest : ℕ) (view : A → V) (whole : B → A) where
   pub reads_part : (x : B) → ReadsText bytes failed reads old new rules view least greatest (Ok (whole x)) → ReadsText bytes failed reads old new rules (λ b. view (whole b)) least greatest (Ok x)
-  reads_part x h = record { value = h.value; some_text = h.some_text; fault = tt; some_fault = tt; sound = h.sound; told = tt; untold = tt; long = tt; placed = tt; numbered = tt; end = h.end; asked = h.asked; once = tt; before_failure = tt; before_memory = tt }
+  reads_part x h = record {
+    value = h.value;
+    some_text = h.some_text;
+    fault = tt;
+    some_fault = tt;
+    sound = h.sound;
+    told = tt;
+    untold = tt;
+    long = tt;
+    placed = tt;
+    numbered =
+        tt;
+    end = h.end;
+    asked = h.asked;
+    once = tt;
+    before_failure = tt;
+    before_memory = tt;
+  }
 
   pub reads_no_part : (e : ReadFault) → ReadsText bytes failed reads old new rules view least greatest (Err e) → ReadsText bytes failed reads old new rules (λ b. view (whole b)) least greatest (Err e)
-  reads_no_part e h = record { value = tt; some_text = tt; fault = h.fault; some_fault = h.some_fault; sound = tt; told = h.told; untold = h.untold; long = h.long; placed = h.placed; numbered = h.numbered; end = tt; asked = h.asked; once = h.once; before_failure = h.before_failure; before_memory = h.before_memory }
+  reads_no_part e h = record {
+    value = tt;
+    some_text = tt;
+    fault = h.fault;
+    some_fault = h.some_fault;
+    sound = tt;
+    told = h.told;
+    untold = h.untold;
+    long = h.long;
+    placed =
+        h.placed;
+    numbered = h.numbered;
+    end = tt;
+    asked = h.asked;
+    once = h.once;
+    before_failure = h.before_failure;
+    before_memory = h.before_memory;
+  }
 
 -- what any value of the parser is
 module _ {T R : Type 0} (meaning : Meaning T R) (parser : T) (P : R → Type 0) (sure : (cut : Bool) (ls : List (List ℕ)) (v : R) → meaning.gives cut parser 1 ls (Ok v) → P v) where

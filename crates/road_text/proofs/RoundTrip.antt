@@ -58,7 +58,8 @@ no_line_end xs h = λ k d lt. let big : 32 ≤ get_or xs k d = h k d lt in ne_eq
 
 no_return : (xs : List ℕ) → All (λ b. 32 ≤ b) xs → strip_carriage_return xs ≡ xs
 no_return [] h = refl
-no_return (x ∷ xs) h = let big : 32 ≤ get_or (x ∷ xs) (length (x ∷ xs) - 1) 0 = h (length (x ∷ xs) - 1) 0 (omega arith) in rw (ne_eqb (get_or (x ∷ xs) (length (x ∷ xs) - 1) 0) 13 (λ e. omega arith)) refl
+no_return (x ∷ xs) h = let big : 32 ≤ get_or (x ∷ xs) (length (x ∷ xs) - 1) 0 = h (length (x ∷ xs) - 1) 0 (omega arith) in rw
+    (ne_eqb (get_or (x ∷ xs) (length (x ∷ xs) - 1) 0) 13 (λ e. omega arith)) refl
 
 -- a written line is the next line
 pub line_again : (cut : Bool) (fs : List (List ℕ)) (rest : List ℕ) → AllByRecursion IsWord fs → lines cut (spelled fs ++ rest) ≡ join_with_byte 32 fs ∷ lines cut rest

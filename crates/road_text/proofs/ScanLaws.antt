@@ -136,13 +136,16 @@ unfolding scan_on
 shows_on P s line b e h = rw e (shows_other P s line b e h)
 
 -- the present field was given
-told_by : (P Q : List (List ℕ) → Type 0) (done : List (List ℕ)) (run : List ℕ) → 0 < length (take 9 run) → ((fs : List (List ℕ)) → P fs → Q (fs ++ run ∷ [])) → P (filter has_bytes done) → Q (filter has_bytes (done ++ run ∷ []))
+told_by : (P Q : List (List ℕ) → Type 0) (done : List (List ℕ)) (run : List ℕ) → 0 < length (take 9 run) → ((fs : List (List ℕ)) → P fs → Q (fs ++ run ∷ [])) →
+    P (filter has_bytes done) → Q (filter has_bytes (done ++ run ∷ []))
 told_by P Q done [] some f h = absurd (omega arith)
 told_by P Q done (b ∷ run) some f h = subst Q (sym (filter-append has_bytes done ((b ∷ run) ∷ []))) (f (filter has_bytes done) h)
 
-pub told_on : (P Q : List (List ℕ) → Type 0) (s : Scan) (line : List ℕ) → 0 < length s.1.text → ((fs : List (List ℕ)) (f : List ℕ) → P fs → s.1 ≡ held_word f → Q (fs ++ f ∷ [])) → Shows P s line → Q (fields line)
+pub told_on : (P Q : List (List ℕ) → Type 0) (s : Scan) (line : List ℕ) → 0 < length s.1.text → ((fs : List (List ℕ)) (f : List ℕ) → P fs → s.1 ≡ held_word f → Q (fs ++ f ∷ [])) →
+    Shows P s line → Q (fields line)
 unfolding fields
-told_on P Q s line some f h = subst (λ ps. Q (filter has_bytes ps)) (sym h.parts) (told_by P Q h.done h.run (subst (λ l. 0 < length l) (ap (λ (l : Word). l.text) h.present) some) (λ fs p. f fs h.run p h.present) h.told)
+told_on P Q s line some f h = subst (λ ps. Q (filter has_bytes ps)) (sym h.parts)
+    (told_by P Q h.done h.run (subst (λ l. 0 < length l) (ap (λ (l : Word). l.text) h.present) some) (λ fs p. f fs h.run p h.present) h.told)
 
 -- there was no present field
 none_by : (P : List (List ℕ) → Type 0) (done : List (List ℕ)) (run : List ℕ) → length (take 9 run) ≡ 0 → P (filter has_bytes done) → P (filter has_bytes (done ++ run ∷ []))
@@ -159,7 +162,8 @@ onto_run : (line bytes : List ℕ) (done : List (List ℕ)) (run : List ℕ) →
 onto_run line [] done run h e = ap (slice_split is_gap) (append-nil line) ∙ e ∙ ap (λ x. done ++ x ∷ []) (sym (append-nil run))
 onto_run line (b ∷ bytes) done run h e =
     ap (slice_split is_gap) (sym (append_assoc line (b ∷ []) bytes))
-    ∙ onto_run (line ++ b ∷ []) bytes done (run ++ b ∷ []) (λ k d lt. h (suc k) d (omega arith)) (slice_split-other is_gap line b (h 0 0 (omega arith)) ∙ ap (onto_last b) e ∙ onto_last-append b done run)
+    ∙ onto_run (line ++ b ∷ []) bytes done (run ++ b ∷ []) (λ k d lt. h (suc k) d (omega arith))
+    (slice_split-other is_gap line b (h 0 0 (omega arith)) ∙ ap (onto_last b) e ∙ onto_last-append b done run)
     ∙ ap (λ x. done ++ x ∷ []) (append_assoc run (b ∷ []) bytes)
 
 pub shows_run : (P : List (List ℕ) → Type 0) (s : Scan) (line bytes : List ℕ) → All (λ b. is_gap b ≡ false) bytes → Shows P s line → Shows P (s.0, word_with s.1 bytes) (line ++ bytes)

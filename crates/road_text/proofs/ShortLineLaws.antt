@@ -86,8 +86,10 @@ begins_again P Q scan ready h = record {
 }
 
 -- a line that was taken whole
-module _ {T V : Type 0} (meaning : Meaning T V) (s : LineReader T) (t : T) (fresh : s.cutter.begun ≡ false) (ready : meaning.so_far t []) (bytes : List ℕ) (letter first second third : ℕ) (line : IsShortLine bytes letter first second third)
-    (taken : (cut : Bool) (at : ℕ) (l : List ℕ) (rest : List (List ℕ)) (r : Result V ReadFault) → HasShortFields l letter first second third → meaning.gives cut t (at + 1) rest r → meaning.gives cut s.cutter.taker.parser at (l ∷ rest) r) where
+module _ {T V : Type 0} (meaning : Meaning T V) (s : LineReader T) (t : T) (fresh : s.cutter.begun ≡ false) (ready : meaning.so_far t []) (bytes : List ℕ)
+    (letter first second third : ℕ) (line : IsShortLine bytes letter first second third)
+    (taken : (cut : Bool) (at : ℕ) (l : List ℕ) (rest : List (List ℕ)) (r : Result V ReadFault) → HasShortFields l letter first second third → meaning.gives cut t (at + 1) rest r →
+    meaning.gives cut s.cutter.taker.parser at (l ∷ rest) r) where
   -- the cutter, with this parser
   abbrev pub with_parser : LineCutter (FieldsOf T)
   with_parser = record s.cutter { taker = record { parser = t; refused = s.cutter.taker.refused } }
@@ -95,7 +97,13 @@ module _ {T V : Type 0} (meaning : Meaning T V) (s : LineReader T) (t : T) (fres
   starts : (present : List ℕ) → IsPresent (SoFarOf meaning) s.cutter present → present ≡ [] → IsPresent (SoFarOf meaning) with_parser []
   starts present h none =
       let now : IsPresent (SoFarOf meaning) s.cutter [] = subst (IsPresent (SoFarOf meaning) s.cutter) none h in
-      record { begun = now.begun; pending = now.pending; shown = begins_again (SoFarOf meaning s.cutter.taker) (SoFarOf meaning with_parser.taker) (scan_of s.cutter.scanner) (λ _. ready) now.shown; whole = now.whole }
+      record {
+        begun = now.begun;
+        pending = now.pending;
+        shown = begins_again (SoFarOf meaning s.cutter.taker) (SoFarOf meaning with_parser.taker)
+            (scan_of s.cutter.scanner) (λ _. ready) now.shown;
+        whole = now.whole;
+      }
 
   pub taken_whole : (cut : Bool) (more : List ℕ) (r : Result V ReadFault)
       → ((present : List ℕ) → IsPresent (SoFarOf meaning) with_parser present → meaning.gives cut t (s.line + 1) (lines cut (present ++ more)) r) → RestGives cut meaning s (bytes ++ more) r

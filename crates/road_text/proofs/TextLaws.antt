@@ -24,7 +24,8 @@ one_more cut present (p ∷ ps) h = refl
 -- the first line ends at the first LF
 pub lines_first : (cut : Bool) (present rest : List ℕ) → All (λ b. is_line_end b ≡ false) present → lines cut (present ++ 10 ∷ rest) ≡ strip_carriage_return present ∷ lines cut rest
 unfolding lines
-lines_first cut present rest h = ap (lines_of_parts cut) (slice_split_at is_line_end present 10 rest h refl) ∙ one_more cut present (slice_split is_line_end rest) (omega (arith, length-slice_split is_line_end rest))
+lines_first cut present rest h = ap (lines_of_parts cut) (slice_split_at is_line_end present 10 rest h refl)
+    ∙ one_more cut present (slice_split is_line_end rest) (omega (arith, length-slice_split is_line_end rest))
 
 -- no LF: one line, or none
 pub lines_none : lines false [] ≡ []
@@ -66,7 +67,8 @@ last_suc : (xs : List ℕ) → 0 < length xs → suc (length xs - 1) ≡ length 
 last_suc xs h = omega arith
 
 at_end : (xs : List ℕ) → 0 < length xs → ends_in_return xs ≡ true → xs ≡ strip_carriage_return xs ++ 13 ∷ []
-at_end xs some h = rw h (sym (take-length xs) ∙ ap (λ n. take n xs) (sym (last_suc xs some)) ∙ take-suc xs (length xs - 1) 0 (omega arith) ∙ ap (λ b. take (length xs - 1) xs ++ b ∷ []) (eqb-true (get_or xs (length xs - 1) 0) 13 h))
+at_end xs some h = rw h (sym (take-length xs) ∙ ap (λ n. take n xs) (sym (last_suc xs some)) ∙ take-suc xs (length xs - 1) 0 (omega arith)
+    ∙ ap (λ b. take (length xs - 1) xs ++ b ∷ []) (eqb-true (get_or xs (length xs - 1) 0) 13 h))
 
 -- what is before a CR that is pending, and then that CR
 restored : (xs : List ℕ) → ends_in_return xs ≡ true → xs ≡ strip_carriage_return xs ++ 13 ∷ []
@@ -77,7 +79,8 @@ not_stripped : (xs : List ℕ) → ends_in_return xs ≡ false → strip_carriag
 not_stripped xs h = rw h refl
 
 -- the pending CR is given to the record
-pub shows_whole : (P : List (List ℕ) → Type 0) (pending : Bool) (scan : Scan) (xs : List ℕ) → pending ≡ ends_in_return xs → Shows P scan (strip_carriage_return xs) → Shows P (cond pending (scan_on scan 13) scan) xs
+pub shows_whole : (P : List (List ℕ) → Type 0) (pending : Bool) (scan : Scan) (xs : List ℕ) → pending ≡ ends_in_return xs → Shows P scan (strip_carriage_return xs) →
+    Shows P (cond pending (scan_on scan 13) scan) xs
 shows_whole P true scan xs h s = subst (Shows P (scan_on scan 13)) (sym (restored xs (sym h))) (shows_on P scan (strip_carriage_return xs) 13 refl s)
 shows_whole P false scan xs h s = subst (Shows P scan) (not_stripped xs (sym h)) s
 
@@ -89,7 +92,8 @@ holds_return P scan xs s w = record {
   whole = whole-push xs 13 w (λ e. cc);
 }
 
-pub holds_other : (P : List (List ℕ) → Type 0) (scan : Scan) (xs : List ℕ) (b : ℕ) → Shows P scan (xs ++ b ∷ []) → All (λ b. is_line_end b ≡ false) xs → b ≢ 10 → b ≢ 13 → Holds P true false scan (xs ++ b ∷ [])
+pub holds_other : (P : List (List ℕ) → Type 0) (scan : Scan) (xs : List ℕ) (b : ℕ) → Shows P scan (xs ++ b ∷ []) → All (λ b. is_line_end b ≡ false) xs → b ≢ 10 → b ≢ 13 →
+    Holds P true false scan (xs ++ b ∷ [])
 holds_other P scan xs b s w ne other = record {
   begun = has_bytes-push xs b;
   pending = sym (ends-push xs b ∙ ne_eqb b 13 other);
@@ -127,7 +131,8 @@ holds_run P scan xs (b ∷ bytes) some plain s w =
     record {
       begun = has_bytes-append xs b bytes;
       pending = sym last;
-      shown = subst (Shows P (scan.0, word_with scan.1 (b ∷ bytes))) (sym (not_stripped (xs ++ b ∷ bytes) last)) (shows_run P scan xs (b ∷ bytes) (λ k d lt. (plain_parts (get_or (b ∷ bytes) k d) (plain k d lt)).0) s);
+      shown = subst (Shows P (scan.0, word_with scan.1 (b ∷ bytes))) (sym (not_stripped (xs ++ b ∷ bytes) last))
+          (shows_run P scan xs (b ∷ bytes) (λ k d lt. (plain_parts (get_or (b ∷ bytes) k d) (plain k d lt)).0) s);
       whole = All-append (λ b. is_line_end b ≡ false) xs (b ∷ bytes) w (λ k d lt. ne_eqb (get_or (b ∷ bytes) k d) 10 (plain_parts (get_or (b ∷ bytes) k d) (plain k d lt)).1);
     }
 

@@ -36,6 +36,7 @@ first_byte [] = refl
 first_byte (b ∷ w) = refl
 
 -- so is a number up to a limit
-pub number_held : (none large limit : ℕ) (o : Option ℕ) → limit < 18446744073709551616 → number_up_to none large limit (option_map (λ v. min v 18446744073709551616) o) ≡ number_up_to none large limit o
+pub number_held : (none large limit : ℕ) (o : Option ℕ) → limit < 18446744073709551616 →
+    number_up_to none large limit (option_map (λ v. min v 18446744073709551616) o) ≡ number_up_to none large limit o
 number_held none large limit None h = refl
 number_held none large limit (Some v) h = grind (arith, common_steps)

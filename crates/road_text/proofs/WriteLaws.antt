@@ -19,17 +19,20 @@ left_more {old = old} {mid = mid} {new = new} {x = x} {rest = rest} was piece = 
 }
 
 -- a piece was cut short
-pub left_fell : {old mid new : Option (List ℕ)} {b m a : ℕ} {text x : List ℕ} (rest : List ℕ) → WrotePrefix old mid b m text (x ++ rest) → FailedAfterPrefix mid new m a x → FailedAfterPrefix old new b a text
+pub left_fell : {old mid new : Option (List ℕ)} {b m a : ℕ} {text x : List ℕ} (rest : List ℕ) → WrotePrefix old mid b m text (x ++ rest) → FailedAfterPrefix mid new m a x →
+    FailedAfterPrefix old new b a text
 left_fell {old = old} {mid = mid} {new = new} {x = x} rest was piece = record {
   prefix = was.prefix ++ piece.prefix;
   rest = piece.rest ++ rest;
-  text_is = was.text_is ∙ ap (λ y. was.prefix ++ (y ++ rest)) piece.text_is ∙ ap (λ y. was.prefix ++ y) (append_assoc piece.prefix piece.rest rest) ∙ sym (append_assoc was.prefix piece.prefix (piece.rest ++ rest));
+  text_is = was.text_is ∙ ap (λ y. was.prefix ++ (y ++ rest)) piece.text_is ∙ ap (λ y. was.prefix ++ y) (append_assoc piece.prefix piece.rest rest)
+      ∙ sym (append_assoc was.prefix piece.prefix (piece.rest ++ rest));
   bytes = Appends-trans old mid new was.prefix piece.prefix was.bytes piece.bytes;
   failed = piece.failed ∙ ap (λ k. k + 1) was.sound;
 }
 
 -- a prefix of the rest was written by one write
-pub left_more_prefix : (old mid new : Option (List ℕ)) (b m a n : ℕ) (text rest after : List ℕ) → after ≡ drop n rest → WrotePrefix old mid b m text rest → Appends mid new (take n rest) → a ≡ m → WrotePrefix old new b a text after
+pub left_more_prefix : (old mid new : Option (List ℕ)) (b m a n : ℕ) (text rest after : List ℕ) → after ≡ drop n rest → WrotePrefix old mid b m text rest →
+    Appends mid new (take n rest) → a ≡ m → WrotePrefix old new b a text after
 left_more_prefix old mid new b m a n text rest after is was p e = record {
   prefix = was.prefix ++ take n rest;
   text_is = was.text_is ∙ ap (λ y. was.prefix ++ y) (sym (take-append-drop n rest)) ∙ sym (append_assoc was.prefix (take n rest) (drop n rest)) ∙ ap (λ y. (was.prefix ++ take n rest) ++ y) (sym is);
@@ -38,15 +41,18 @@ left_more_prefix old mid new b m a n text rest after is was p e = record {
 }
 
 -- one piece more, as it was put together
-pub left_step : (old mid new : Option (List ℕ)) (b m a : ℕ) (text all x line rest : List ℕ) → all ≡ x ++ rest → line ≡ x → WrotePrefix old mid b m text all → WrotePrefix mid new m a line [] → WrotePrefix old new b a text rest
+pub left_step : (old mid new : Option (List ℕ)) (b m a : ℕ) (text all x line rest : List ℕ) → all ≡ x ++ rest → line ≡ x → WrotePrefix old mid b m text all →
+    WrotePrefix mid new m a line [] → WrotePrefix old new b a text rest
 left_step old mid new b m a text all x line rest e is was piece = left_more (subst (WrotePrefix old mid b m text) e was) (subst (λ y. WrotePrefix mid new m a y []) is piece)
 
 -- such a piece was cut short
-pub fell_step : (old mid new : Option (List ℕ)) (b m a : ℕ) (text all x line rest : List ℕ) → all ≡ x ++ rest → line ≡ x → WrotePrefix old mid b m text all → FailedAfterPrefix mid new m a line → FailedAfterPrefix old new b a text
+pub fell_step : (old mid new : Option (List ℕ)) (b m a : ℕ) (text all x line rest : List ℕ) → all ≡ x ++ rest → line ≡ x → WrotePrefix old mid b m text all →
+    FailedAfterPrefix mid new m a line → FailedAfterPrefix old new b a text
 fell_step old mid new b m a text all x line rest e is was piece = left_fell rest (subst (WrotePrefix old mid b m text) e was) (subst (FailedAfterPrefix mid new m a) is piece)
 
 -- the last piece
-pub wrote_last : {A E : Type 0} (old mid new : Option (List ℕ)) (b m a : ℕ) (text all line : List ℕ) (r : Result A E) → line ≡ all → WrotePrefix old mid b m text all → Wrote mid new m a line r → Wrote old new b a text r
+pub wrote_last : {A E : Type 0} (old mid new : Option (List ℕ)) (b m a : ℕ) (text all line : List ℕ) (r : Result A E) → line ≡ all → WrotePrefix old mid b m text all →
+    Wrote mid new m a line r → Wrote old new b a text r
 wrote_last old mid new b m a text all line (Ok v) is was piece = left_step old mid new b m a text all all line [] (sym (append-nil all)) is was piece
 wrote_last old mid new b m a text all line (Err e) is was piece = fell_step old mid new b m a text all all line [] (sym (append-nil all)) is was piece
 
@@ -56,10 +62,18 @@ left_end old new b a text rest e was = subst (WrotePrefix old new b a text) e wa
 
 -- two texts, one after the other
 pub wrote_then : {B E : Type 0} (old mid new : Option (List ℕ)) (b m a : ℕ) (x y : List ℕ) (r : Result B E) → WrotePrefix old mid b m x [] → Wrote mid new m a y r → Wrote old new b a (x ++ y) r
-wrote_then old mid new b m a x y r was next = wrote_last old mid new b m a (x ++ y) y y r refl (record { prefix = was.prefix; text_is = ap (λ k. k ++ y) (was.text_is ∙ append-nil was.prefix); bytes = was.bytes; sound = was.sound }) next
+wrote_then old mid new b m a x y r was next = wrote_last old mid new b m a (x ++ y) y y r refl
+    (record { prefix = was.prefix; text_is = ap (λ k. k ++ y) (was.text_is ∙ append-nil was.prefix); bytes = was.bytes; sound = was.sound }) next
 
 pub fell_first : (old new : Option (List ℕ)) (b a : ℕ) (x y : List ℕ) → FailedAfterPrefix old new b a x → FailedAfterPrefix old new b a (x ++ y)
-fell_first old new b a x y was = record { prefix = was.prefix; rest = was.rest ++ y; text_is = ap (λ k. k ++ y) was.text_is ∙ append_assoc was.prefix was.rest y; bytes = was.bytes; failed = was.failed }
+fell_first old new b a x y was = record {
+  prefix = was.prefix;
+  rest = was.rest ++ y;
+  text_is = ap (λ k. k ++ y) was.text_is ∙ append_assoc was.prefix was.rest y;
+  bytes =
+      was.bytes;
+  failed = was.failed;
+}
 
 -- what a failed write left is what a function leaves that returns its fault
 pub fell_out : {A E : Type 0} (Is : E → Type 0) (old new : Option (List ℕ)) (b a : ℕ) (text : List ℕ) (r : Result A E) → IsErrAnd r Is → FailedAfterPrefix old new b a text → Wrote old new b a text r

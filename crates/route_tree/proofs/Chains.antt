@@ -24,7 +24,8 @@ linked t (Some j) None k u e f h = let bad : None ≡ Some u = f in cc
 linked t (Some j) (Some w) k u e f h =
     let a : w ≡ u = same_some (Some w) w u refl f in
     let b : j ≡ k = same_some (Some j) j k refl e in
-    subst (λ (x : ℕ). (1 ≤ x) × (x ≤ length t.hops) × ((i : ℕ) × (hops_of t x ≡ Some i) × (i + 1 ≡ k))) a (subst (λ (y : ℕ). (1 ≤ w) × (w ≤ length t.hops) × ((i : ℕ) × (hops_of t w ≡ Some i) × (i + 1 ≡ y))) b h)
+    subst (λ (x : ℕ). (1 ≤ x) × (x ≤ length t.hops) × ((i : ℕ) × (hops_of t x ≡ Some i) × (i + 1 ≡ k))) a
+    (subst (λ (y : ℕ). (1 ≤ w) × (w ≤ length t.hops) × ((i : ℕ) × (hops_of t w ≡ Some i) × (i + 1 ≡ y))) b h)
 
 rootless : (t : Branches) (l m : Option ℕ) (k : ℕ) → l ≡ Some k → m ≡ None → IsLinkedAt t l m → k ≡ 0
 rootless t None m k e f h = let bad : None ≡ Some k = e in cc

@@ -40,14 +40,16 @@ module _ (g : GraphData) (roads : IsGraph g) (test : ℕ → Bool) (sources : Li
   step_size k v true hops next lt = reach_size k v hops next (label_of hops v) refl lt
   step_size k v false hops next lt = refl
 
-  through_arcs : (k : ℕ) (pending arcs : List ℕ) (hops parents : List (Option ℕ)) (next : List ℕ) → Visiting g test sources k hops parents pending arcs next → Visited k pending (unreached hops + length next)
+  through_arcs : (k : ℕ) (pending arcs : List ℕ) (hops parents : List (Option ℕ)) (next : List ℕ) → Visiting g test sources k hops parents pending arcs next →
+      Visited k pending (unreached hops + length next)
   through_arcs k pending [] hops parents next known = (hops, parents, next, known, refl)
   through_arcs k pending (a ∷ arcs) hops parents next known =
       let head = (arc_of g a).head in
       let this = (known.arcs_at a (0, omega arith, refl)).0 in
       let in_head = (roads.ends a this).1 in
       let size = step_size (k + 1) (arc_of g a).head (test a) hops next (omega (arith, in_head.0, in_head.1, known.count)) in
-      let rest = through_arcs k pending arcs (cond (test a) (hops_if (k + 1) hops head (label_of hops head)) hops) (cond (test a) (parents_if (k + 1) parents head (arc_of g a).tail (label_of hops head)) parents)
+      let rest = through_arcs k pending arcs (cond (test a) (hops_if (k + 1) hops head (label_of hops head)) hops)
+      (cond (test a) (parents_if (k + 1) parents head (arc_of g a).tail (label_of hops head)) parents)
       (cond (test a) (next_if next head (label_of hops head)) next) (visit_arc g roads test sources k hops parents pending next arcs a known (test a) refl (label_of hops head) refl) in
       (rest.0, rest.1, rest.2, rest.3, rest.4 ∙ size)
 
@@ -78,7 +80,8 @@ module _ (g : GraphData) (roads : IsGraph g) (test : ℕ → Bool) (sources : Li
       let l = label_of before.0 v in (
         hops_if 0 before.0 v l,
         next_if before.1 v l,
-        rw (← add-one) (marked_once g.vertices sources i v before.0 before.1 (hops_if 0 before.0 v l) (next_if before.1 v l) lt (sym (get_or_default sources i v 0 lt)) in_v.0 in_v.1 refl refl before.2),
+        rw (← add-one) (marked_once g.vertices sources i v before.0 before.1 (hops_if 0 before.0 v l) (next_if before.1 v l) lt
+            (sym (get_or_default sources i v 0 lt)) in_v.0 in_v.1 refl refl before.2),
       )
 
   pub least_exist : All (HasVertex g) sources → (hops parents : List (Option ℕ)) × AreLeast g test sources hops × AreLeastTails g test hops parents

@@ -24,7 +24,8 @@ module _ (g : GraphData) (v : ℕ) (numbers : List ℕ) (lists : ListsArcsFrom g
       (has.0, has.1, is ∙ at)
 
 -- whether an arc is tight and leads into a region, by its road
-pub is_tight_by_road : {V : Type 0} (A : Algebra V) (g : GraphData) (labels : List (Option V)) (region : Option (List Bool)) (a v : ℕ) (r : OutRoad) (l : Option V) → (arc_of g a).tail ≡ v → r ≡ road_of (arc_of g a) → l ≡ label_of labels v →
+pub is_tight_by_road : {V : Type 0} (A : Algebra V) (g : GraphData) (labels : List (Option V)) (region : Option (List Bool)) (a v : ℕ) (r : OutRoad) (l : Option V) →
+    (arc_of g a).tail ≡ v → r ≡ road_of (arc_of g a) → l ≡ label_of labels v →
     is_tight_into A g labels region a ≡ cond (in_region region r.head) (is_tight_between A l r.weight (label_of labels r.head)) false
 is_tight_by_road A g labels region a v r l leaves is e = rw (is, leaves, e) refl
 
@@ -77,7 +78,8 @@ module _ (g : GraphData) (test : ℕ → Bool) (sources : List ℕ) (k : ℕ) (h
 
   -- the vertex at place i of a level
   pub level_once : (level next : List ℕ) (i v : ℕ) (hops' parents' : List (Option ℕ)) (next' : List ℕ) → i < length level → v ≡ get_or level i v →
-      ((pending : List ℕ) → Visiting g test sources k hops parents (v ∷ pending) [] next → Visiting g test sources k hops' parents' pending [] next') → Visiting g test sources k hops parents (drop i level) [] next → Visiting g test sources k hops' parents' (drop (i + 1) level) [] next'
+      ((pending : List ℕ) → Visiting g test sources k hops parents (v ∷ pending) [] next → Visiting g test sources k hops' parents' pending [] next') →
+      Visiting g test sources k hops parents (drop i level) [] next → Visiting g test sources k hops' parents' (drop (i + 1) level) [] next'
   level_once level next i v hops' parents' next' lt is goes known =
       let cut : drop i level ≡ v ∷ drop (i + 1) level = rw add-one (drop-cons level i v lt ∙ ap (λ (b : ℕ). b ∷ drop (suc i) level) (sym is)) in
       goes (drop (i + 1) level) (rw cut at known)

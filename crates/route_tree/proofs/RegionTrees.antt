@@ -136,7 +136,8 @@ module _ (g : GraphData) (roads : IsGraph g) (test : ℕ → Bool) (source targe
 
       -- a chain of parents in the held tree is one in the whole tree, and has as many arcs as hops are left
       same_chain : (u : ℕ) (rest : List ℕ) → IsChain (record { hops = near; parents = adopted }) u rest target →
-          IsChain (record { hops = hops; parents = parents }) u rest target × HasVertex g u × IsWithinHops g test target (length rest) u × ((i : ℕ) × (label_of hops u ≡ Some i) × (i + length rest ≡ far))
+          IsChain (record { hops = hops; parents = parents }) u rest target × HasVertex g u × IsWithinHops g test target (length rest) u ×
+          ((i : ℕ) × (label_of hops u ≡ Some i) × (i + length rest ≡ far))
       same_chain u [] c = (
         c,
         subst (λ (w : ℕ). HasVertex g w) (sym c) in_target,
@@ -184,9 +185,11 @@ module _ (g : GraphData) (roads : IsGraph g) (test : ℕ → Bool) (source targe
         let same : found.0 ≡ k = same_some (label_of near target) found.0 k (same_at_target found.0 found.1) e in
         found.1 ∙ ap (λ (i : ℕ). Some i) same
 
-module _ {V : Type 0} (A : Algebra V) (lawful : IsLawful A) (g : GraphData) (roads : IsGraph g) (source target : ℕ) (in_source : All (HasVertex g) (source ∷ [])) (in_s : (s : ℕ) → Contains (source ∷ []) s → HasVertex g s) (in_target : HasVertex g target)
+module _ {V : Type 0} (A : Algebra V) (lawful : IsLawful A) (g : GraphData) (roads : IsGraph g) (source target : ℕ) (in_source : All (HasVertex g) (source ∷ []))
+    (in_s : (s : ℕ) → Contains (source ∷ []) s → HasVertex g s) (in_target : HasVertex g target)
     (labels : List (Option V)) (best : AreBest A g (source ∷ []) labels) (marks : List Bool) (covers : Covers g (is_tight A g labels) source target marks)
-    (near adopted : List (Option ℕ)) (near_least : AreLeast g (into g (is_tight A g labels) marks) (source ∷ []) near) (near_tails : AreLeastTails g (into g (is_tight A g labels) marks) near adopted) where
+    (near adopted : List (Option ℕ)) (near_least : AreLeast g (into g (is_tight A g labels) marks) (source ∷ []) near)
+    (near_tails : AreLeastTails g (into g (is_tight A g labels) marks) near adopted) where
   none_told : (l : Option ℕ) → l ≡ None → AreHopsAt A g (source ∷ []) target l → IsUnreached A g (source ∷ []) target
   none_told None e h = h
   none_told (Some k) e h = let bad : Some k ≡ None = e in absurd (cc)
@@ -199,7 +202,8 @@ module _ {V : Type 0} (A : Algebra V) (lawful : IsLawful A) (g : GraphData) (roa
   no_route e =
       let whole = least_exist g roads (is_tight A g labels) (source ∷ []) in_source in
       let tree = tree_is A lawful g roads (source ∷ []) in_s labels best whole.0 whole.2 whole.1 whole.3 in
-      none_told (label_of whole.0 target) (same_none g roads (is_tight A g labels) source target in_target marks covers whole.0 whole.1 whole.2 whole.3 near adopted near_least near_tails e) (tree.hops target in_target)
+      none_told (label_of whole.0 target) (same_none g roads (is_tight A g labels) source target in_target marks covers whole.0 whole.1 whole.2 whole.3 near adopted near_least
+      near_tails e) (tree.hops target in_target)
 
   pub route_told : (k : ℕ) (list : List ℕ) → label_of near target ≡ Some k → IsRoute (record { hops = near; parents = adopted }) target list →
       AreHops A g (source ∷ []) target k × IsParentRoute A g (source ∷ []) target list × (length list ≡ k + 1)

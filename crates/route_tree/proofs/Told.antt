@@ -34,7 +34,8 @@ module _ {V : Type 0} (A : Algebra V) (g : GraphData) (sources : List ℕ) where
   told_at v (Some x) (Some k) None b h q = (b, h, q)
   told_at v (Some x) (Some k) (Some u) b h q = (b, h, q)
 
-  pub told : (labels : List (Option V)) (t : Branches) → AreBest A g sources labels → IsTree A g sources t → (v : ℕ) → HasVertex g v → IsToldOf A g sources v (label_of labels v) (hops_of t v) (parent_of t v)
+  pub told : (labels : List (Option V)) (t : Branches) → AreBest A g sources labels → IsTree A g sources t → (v : ℕ) → HasVertex g v →
+      IsToldOf A g sources v (label_of labels v) (hops_of t v) (parent_of t v)
   told labels t best is v in_v = told_at v (label_of labels v) (hops_of t v) (parent_of t v) (best.best v in_v) (is.hops v in_v) (is.parents v in_v)
 
   -- hops of 0 are those of a source

@@ -15,7 +15,8 @@ use Rattle.path_algebra.proofs.Tight.{tight_is, tight_arcs_reach, labelled}
 module _ (g : GraphData) (roads : IsGraph g) (test : ℕ → Bool) (sources : List ℕ) where
   -- a walk that is not empty ends by an arc
   last_arc : (u : ℕ) (p : List ℕ) (v : ℕ) → IsWalk g u p v → All (λ a. IsTrue (test a)) p →
-      ((u ≡ v) × (length p ≡ 0)) ⊎ ((q : List ℕ) × (a : ℕ) × IsWalk g u q (arc_of g a).tail × All (λ b. IsTrue (test b)) q × HasArc g a × IsTrue (test a) × ((arc_of g a).head ≡ v) × (length q + 1 ≡ length p))
+      ((u ≡ v) × (length p ≡ 0)) ⊎ ((q : List ℕ) × (a : ℕ) × IsWalk g u q (arc_of g a).tail × All (λ b. IsTrue (test b)) q × HasArc g a × IsTrue (test a) ×
+      ((arc_of g a).head ≡ v) × (length q + 1 ≡ length p))
   last_arc u [] v w h = inl (w, refl)
   last_arc u (a ∷ p) v w h =
       let first = All-head (λ b. IsTrue (test b)) a p h in

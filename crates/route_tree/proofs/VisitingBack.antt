@@ -251,13 +251,15 @@ module _ (g : GraphData) (test : ℕ → Bool) (target k : ℕ) (marks : List Bo
 
   -- the vertex at a place of a level
   pub level_once : (level next : List ℕ) (i v : ℕ) (marks' : List Bool) (next' : List ℕ) → i < length level → v ≡ get_or level i v →
-      ((pending : List ℕ) → VisitingBack g test target k marks (v ∷ pending) [] next → VisitingBack g test target k marks' pending [] next') → VisitingBack g test target k marks (drop i level) [] next → VisitingBack g test target k marks' (drop (i + 1) level) [] next'
+      ((pending : List ℕ) → VisitingBack g test target k marks (v ∷ pending) [] next → VisitingBack g test target k marks' pending [] next') →
+      VisitingBack g test target k marks (drop i level) [] next → VisitingBack g test target k marks' (drop (i + 1) level) [] next'
   level_once level next i v marks' next' lt is goes known =
       let cut : drop i level ≡ v ∷ drop (i + 1) level = rw add-one (drop-cons level i v lt ∙ ap (λ (b : ℕ). b ∷ drop (suc i) level) (sym is)) in
       goes (drop (i + 1) level) (rw cut at known)
 
 -- the arc at a place of a row, when it is reversed
-module _ (g : GraphData) (numbers : List ℕ) (row : List OutRoad) (v : ℕ) (lists : (a : ℕ) → Contains numbers a ↔ (HasArc g a × ((arc_of g a).head ≡ v))) (are : row ≡ map (λ a. road_of (reversed_arc (arc_of g a))) numbers) where
+module _ (g : GraphData) (numbers : List ℕ) (row : List OutRoad) (v : ℕ) (lists : (a : ℕ) → Contains numbers a ↔ (HasArc g a × ((arc_of g a).head ≡ v)))
+    (are : row ≡ map (λ a. road_of (reversed_arc (arc_of g a))) numbers) where
   pub as_long : length row ≡ length numbers
   as_long = rw are (simp length-map)
 
@@ -265,6 +267,7 @@ module _ (g : GraphData) (numbers : List ℕ) (row : List OutRoad) (v : ℕ) (li
       HasArc g (get_or numbers i 0) × ((arc_of g (get_or numbers i 0)).head ≡ v) × (r ≡ road_of (reversed_arc (arc_of g (get_or numbers i 0))))
   turned_at i r lt is =
       let in_numbers : i < length numbers = omega (arith, as_long) in
-      let at : get_or row i r ≡ road_of (reversed_arc (arc_of g (get_or numbers i 0))) = ap (λ (o : List OutRoad). get_or o i r) are ∙ get_or-map (λ a. road_of (reversed_arc (arc_of g a))) numbers i 0 r in_numbers in
+      let at : get_or row i r ≡ road_of (reversed_arc (arc_of g (get_or numbers i 0))) =
+      ap (λ (o : List OutRoad). get_or o i r) are ∙ get_or-map (λ a. road_of (reversed_arc (arc_of g a))) numbers i 0 r in_numbers in
       let has = (lists (get_or numbers i 0)).0 (i, in_numbers, get_or_default numbers i (get_or numbers i 0) 0 in_numbers) in
       (has.0, has.1, is ∙ at)

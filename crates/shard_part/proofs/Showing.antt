@@ -128,11 +128,13 @@ module _ {S V : Type 0} (meaning : S → Algebra V) where
   abbrev pub AllLawful : Type 0
   AllLawful = (s : S) → Lawful (meaning s)
 
-  handled_at : (t : SetupData S) (p : PartData S V) (i : Item V) (q : PartData S V) → p.setup ≡ t → HandledItem meaning p i q → HandledItemIn (meaning t.diffusion.algebra) (network_of t) (place_in t) p i q
+  handled_at : (t : SetupData S) (p : PartData S V) (i : Item V) (q : PartData S V) → p.setup ≡ t → HandledItem meaning p i q →
+      HandledItemIn (meaning t.diffusion.algebra) (network_of t) (place_in t) p i q
   handled_at t p i q e T = subst (λ u. HandledItemIn (meaning u.diffusion.algebra) (network_of u) (place_in u) p i q) e T
 
   -- ALL PARTS AND MAILBOXES: one part takes one item
-  pub handled_shows : AllLawful → (t : SetupData S) → WellFormed (network_of t) → (before after : List (PartData S V)) (p q : PartData S V) (i : Item V) (mail : (ℕ → Item V → ℕ) → ℕ) (c : CoreState V) →
+  pub handled_shows : AllLawful → (t : SetupData S) → WellFormed (network_of t) →
+      (before after : List (PartData S V)) (p q : PartData S V) (i : Item V) (mail : (ℕ → Item V → ℕ) → ℕ) (c : CoreState V) →
       Kept (meaning t.diffusion.algebra) (network_of t) 0 c → Represents meaning t (before ++ p ∷ after) mail c → HandledItem meaning p i q →
       (is_enabled c (event_of i) ≡ true) × Represents meaning t (before ++ q ∷ after) mail (step (meaning t.diffusion.algebra) (network_of t) c (event_of i))
   handled_shows L t W before after p q i mail c K H T =

@@ -31,7 +31,8 @@ module _ {S V : Type 0} (meaning : S → Algebra V) where
       ((let r = more.0 in let first = cond-true {A = ℕ} (is_enabled c (event_of i)) 1 0 one.0 in omega (arith, r, first)), more.1)
 
   -- on the state after some events
-  pub many_shown : AllLawful meaning → (t : SetupData S) (events : List Event) (before after : List (PartData S V)) (p q : PartData S V) (n : ℕ) (mail : (ℕ → Item V → ℕ) → ℕ) → WellFormed (network_of t) →
+  pub many_shown : AllLawful meaning → (t : SetupData S) (events : List Event) (before after : List (PartData S V)) (p q : PartData S V) (n : ℕ) (mail : (ℕ → Item V → ℕ) → ℕ) →
+      WellFormed (network_of t) →
       Represents meaning t (before ++ p ∷ after) mail (state_after (meaning t.diffusion.algebra) (network_of t) events) → HandledMany meaning p n q
       → IsShownOn meaning t events (before ++ q ∷ after) mail n
   many_shown L t events before after p q n mail W H (items, l, T) =

@@ -36,7 +36,8 @@ untold p labels told b h n i = told b ∙ sym (labels ((network_of p.setup).tail
 
 -- so of every part that was opened
 pub opened_told : {S V : Type 0} (A : Algebra V) (p : PartData S V) (t : SetupData S) (s : ℕ) → p ≡ opened_part A t s → OwnIdleIsTold p
-opened_told A p t s e = subst OwnIdleIsTold (sym e) (untold (opened_part A t s) (λ v. reads_same (suc t.diffusion.roads.vertices) None v) (λ b. reads_same (suc (length t.diffusion.roads.arcs)) None b))
+opened_told A p t s e = subst OwnIdleIsTold (sym e) (untold (opened_part A t s) (λ v. reads_same (suc t.diffusion.roads.vertices) None v)
+    (λ b. reads_same (suc (length t.diffusion.roads.arcs)) None b))
 
 -- of a part whose front item was taken off the queue and handled
 module _ {S V : Type 0} (meaning : S → Algebra V) where

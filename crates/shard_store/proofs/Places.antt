@@ -138,7 +138,8 @@ pub own_placed : {S : Type 0} (t : SetupData S) (s j : ℕ) → j < length (loca
 own_placed t s zero l n = absurd (n refl)
 own_placed t s (suc j) l n = ((placed_picked (place_in t) s 1 t.diffusion.roads.vertices).each j (omega arith)).0
 
-pub own_all : {S : Type 0} (t : SetupData S) (s v : ℕ) → v ≤ t.diffusion.roads.vertices → (v ≢ 0 → place_in t v ≡ s) → (j : ℕ) × (j < length (local_vertices t s)) × (get_or (local_vertices t s) j 0 ≡ v)
+pub own_all : {S : Type 0} (t : SetupData S) (s v : ℕ) → v ≤ t.diffusion.roads.vertices → (v ≢ 0 → place_in t v ≡ s) →
+    (j : ℕ) × (j < length (local_vertices t s)) × (get_or (local_vertices t s) j 0 ≡ v)
 own_all t s zero l h = (0, (let z : 0 < suc (length (placed (place_in t) s 1 t.diffusion.roads.vertices)) = omega arith in z), refl)
 own_all t s (suc v) l h = let r = (placed_picked (place_in t) s 1 t.diffusion.roads.vertices).all (suc v) (h (λ e. omega (arith, e))) (omega arith) (omega arith) in
     (suc r.0, (let z = r.1 in omega (arith, z)), r.2)

@@ -58,7 +58,8 @@ listed_into w old v xs e l o =
     only b m =
         let r = element_place 0 b xs m in
         let a = subst (λ c. HasArc w.setup.diffusion.roads c × ((arc_of w.setup.diffusion.roads c).head ≡ v)) r.2 (arc_into w.setup.diffusion.roads v r.0 xs o r.1) in (
-          turned_tail (network w.setup.diffusion.roads w.setup.diffusion.source) b (λ z. let h = a.0.0 in omega (arith, z, h)) ∙ head-arc w.setup.diffusion.roads w.setup.diffusion.source b a.0.0 ∙ a.1,
+          turned_tail (network w.setup.diffusion.roads w.setup.diffusion.source) b (λ z. let h = a.0.0 in omega (arith, z, h))
+              ∙ head-arc w.setup.diffusion.roads w.setup.diffusion.source b a.0.0 ∙ a.1,
           omega arith,
           (let h = a.0.1 in omega (arith, h)),
         )
@@ -216,7 +217,8 @@ coming_own w v a from i xs capacities first D o l h q same inv t k =
     omega (arith, y, z)
 
 -- all arcs of a vertex
-pub leading_done : (w old : ShardLayoutData) (v i : ℕ) (xs capacities first : List ℕ) → w ≡ old → 1 ≤ v → ListsArcsFrom w.setup.diffusion.roads v xs → length xs ≤ i → length capacities ≡ length first →
+pub leading_done : (w old : ShardLayoutData) (v i : ℕ) (xs capacities first : List ℕ) → w ≡ old → 1 ≤ v → ListsArcsFrom w.setup.diffusion.roads v xs → length xs ≤ i →
+    length capacities ≡ length first →
     ((t : ℕ) → t < old.setup.plan.shards → get_or capacities t 0 ≡ get_or first t 0 + leading_to (network_of old.setup) (place_in old.setup) t (take i xs)) → CountsOut old v first capacities
 leading_done w old v i xs capacities first e l o d long inv = (
   long,

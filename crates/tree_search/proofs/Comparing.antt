@@ -5,7 +5,8 @@ use Rattle.tree_search.specs.Rows.{number_of, mark_in, marks_of, AreMarkRows}
 use Rattle.tree_search.specs.declared.mark.Mark.{Mark}
 use Rattle.tree_search.proofs.Rows.{mark_now}
 
-module _ {V : Type 0} (no_worse : V → V → Bool) (values : List (Option V)) (hops parents : List (Option ℕ)) (marks : List (Option (Mark V))) (rows : AreMarkRows values hops parents) (are : marks_of values hops parents ≡ marks)
+module _ {V : Type 0} (no_worse : V → V → Bool) (values : List (Option V)) (hops parents : List (Option ℕ)) (marks : List (Option (Mark V)))
+    (rows : AreMarkRows values hops parents) (are : marks_of values hops parents ≡ marks)
     (i : ℕ) (new : Mark V) where
   read : (o : Option V) → get_or values i None ≡ o → get_or marks i None ≡ mark_in o (get_or hops i None) (get_or parents i None)
   read o e = mark_now values hops parents marks rows are i ∙ ap (λ (x : Option V). mark_in x (get_or hops i None) (get_or parents i None)) e
@@ -37,7 +38,8 @@ module _ {V : Type 0} (no_worse : V → V → Bool) (values : List (Option V)) (
         ∙ ap (λ (t : Bool). not (cond t (leb (number_of (get_or hops i None)) new.hops) true)) b
 
     lesser_is : is_lesser no_worse (get_or marks i None) new
-        ≡ cond (cond (no_worse new.value old) (cond (no_worse old new.value) (leb new.hops (number_of (get_or hops i None))) true) false) (not (leb (number_of (get_or parents i None)) new.parent)) false
+        ≡ cond (cond (no_worse new.value old) (cond (no_worse old new.value) (leb new.hops (number_of (get_or hops i None))) true) false)
+        (not (leb (number_of (get_or parents i None)) new.parent)) false
     lesser_is = ap (λ (o : Option (Mark V)). is_lesser no_worse o new) (read (Some old) e)
 
     pub lesser_worse : no_worse new.value old ≡ false → is_lesser no_worse (get_or marks i None) new ≡ false
@@ -50,7 +52,8 @@ module _ {V : Type 0} (no_worse : V → V → Bool) (values : List (Option V)) (
       ties : is_lesser no_worse (get_or marks i None) new ≡ cond (leb new.hops k) (not (leb (number_of (get_or parents i None)) new.parent)) false
       ties =
           lesser_is
-          ∙ ap (λ (t : Bool). cond (cond t (cond (no_worse old new.value) (leb new.hops (number_of (get_or hops i None))) true) false) (not (leb (number_of (get_or parents i None)) new.parent)) false) a
+          ∙ ap (λ (t : Bool). cond (cond t (cond (no_worse old new.value) (leb new.hops (number_of (get_or hops i None))) true) false)
+          (not (leb (number_of (get_or parents i None)) new.parent)) false) a
           ∙ ap (λ (t : Bool). cond (cond t (leb new.hops (number_of (get_or hops i None))) true) (not (leb (number_of (get_or parents i None)) new.parent)) false) b
           ∙ ap (λ (j : ℕ). cond (leb new.hops j) (not (leb (number_of (get_or parents i None)) new.parent)) false) (sym is)
 
@@ -61,7 +64,8 @@ module _ {V : Type 0} (no_worse : V → V → Bool) (values : List (Option V)) (
       lesser_ties m p at =
           ties ∙ ap (λ (t : Bool). cond t (not (leb (number_of (get_or parents i None)) new.parent)) false) m ∙ ap (λ (q : ℕ). not (leb q new.parent)) (sym at)
 
-    pub lesser_better : no_worse new.value old ≡ true → no_worse old new.value ≡ false → (p : ℕ) → p ≡ number_of (get_or parents i None) → is_lesser no_worse (get_or marks i None) new ≡ not (leb p new.parent)
+    pub lesser_better : no_worse new.value old ≡ true → no_worse old new.value ≡ false → (p : ℕ) → p ≡ number_of (get_or parents i None) →
+        is_lesser no_worse (get_or marks i None) new ≡ not (leb p new.parent)
     lesser_better a b p at =
         lesser_is
         ∙ ap (λ (t : Bool). cond (cond t (cond (no_worse old new.value) (leb new.hops (number_of (get_or hops i None))) true) false) (not (leb (number_of (get_or parents i None)) new.parent)) false) a

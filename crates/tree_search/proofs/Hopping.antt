@@ -305,7 +305,8 @@ module _ {V : Type 0} (A : Algebra V) (lawful : IsLawful A) (g : GraphData) (roa
     offered_mark = elim (outcome A.no_worse lawful.ordered marks (arc_of g a).head new) [ inl k ↦ unchanged k | inr t ↦ changed t ]
 
 module _ {V : Type 0} (A : Algebra V) (lawful : IsLawful A) (g : GraphData) (roads : IsGraph g) (sources : List ℕ) (inside : All (HasVertex g) sources) (settled : List Bool) (x : V) (h u : ℕ) where
-  hopping_arc : (marks : List (Option (Mark V))) (a : ℕ) (rest : List ℕ) → (arc_of g a).tail ≡ u → Hopping A g sources marks settled x h (a ∷ rest) → (o : Option V) → A.extend x (arc_of g a).weight ≡ o →
+  hopping_arc : (marks : List (Option (Mark V))) (a : ℕ) (rest : List ℕ) → (arc_of g a).tail ≡ u → Hopping A g sources marks settled x h (a ∷ rest) → (o : Option V) →
+      A.extend x (arc_of g a).weight ≡ o →
       Hopping A g sources (marked_if A.no_worse marks (arc_of g a).head o (h + 1) u) settled x h rest
   hopping_arc marks a rest tail hopping None ex = refused A lawful g roads sources inside settled x h marks a rest hopping ex
   hopping_arc marks a rest tail hopping (Some z) ex =

@@ -28,7 +28,8 @@ module _ {V : Type 0} (no_worse : V → V → Bool) (ordered : IsOrder no_worse)
   pub opening_more : (sources : List ℕ) (i s : ℕ) (marks next : List (Option (Mark V))) → AreOpening origin n (take i sources) marks → i < length sources → s ≡ get_or sources i s →
       1 ≤ s → s ≤ n → next ≡ marked no_worse marks s (source_mark origin) → AreOpening origin n (take (i + 1) sources) next
   opening_more sources i s marks next known lt is low high e = record {
-    labels = plain.opening_more no_worse origin n sources i s (values_in marks) (values_in next) known.labels lt is low high (ap values_in e ∙ values_marked no_worse ordered marks s (source_mark origin));
+    labels = plain.opening_more no_worse origin n sources i s (values_in marks) (values_in next) known.labels lt is low high
+        (ap values_in e ∙ values_marked no_worse ordered marks s (source_mark origin));
     only = λ v m f. elim (outcome no_worse ordered marks s (source_mark origin)) [
       | inl kept ↦ known.only v m (sym (ap (λ (l : List (Option (Mark V))). label_of l v) (e ∙ kept.same)) ∙ f)
       | inr taken ↦

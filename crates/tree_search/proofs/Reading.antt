@@ -71,7 +71,8 @@ module _ {V : Type 0} (no_worse : V → V → Bool) (ordered : IsOrder no_worse)
   })
   outcome_of (Some old) e =
       let better : is_better no_worse (label_of marks v) new ≡ not (by_number no_worse (key_of old) (key_of new)) = ap (λ (o : Option (Mark V)). is_better no_worse o new) e in
-      let lesser : is_lesser no_worse (label_of marks v) new ≡ cond (by_number no_worse (key_of new) (key_of old)) (not (leb old.parent new.parent)) false = ap (λ (o : Option (Mark V)). is_lesser no_worse o new) e in
+      let lesser : is_lesser no_worse (label_of marks v) new ≡ cond (by_number no_worse (key_of new) (key_of old)) (not (leb old.parent new.parent)) false =
+      ap (λ (o : Option (Mark V)). is_lesser no_worse o new) e in
       let this : (other : Mark V) → label_of marks v ≡ Some other → old ≡ other = λ other f. (let both : Some old ≡ Some other = sym e ∙ f in cc) in
       elim (cases_Bool (by_number no_worse (key_of old) (key_of new))) [
         | inr worse ↦ inr (record {
@@ -97,7 +98,8 @@ module _ {V : Type 0} (no_worse : V → V → Bool) (ordered : IsOrder no_worse)
             })
             | inr put ↦ inr (record {
               is = second_way (better ∙ ap not fine) (lesser ∙ ap (λ (b : Bool). cond b (not (leb old.parent new.parent)) false) both ∙ ap not put.0);
-              over = λ other f. subst (λ (m : Mark V). IsTrue (by_number no_worse (key_of new) (key_of m)) × (IsTrue (by_number no_worse (key_of m) (key_of new)) → new.parent ≤ m.parent)) (this other f)
+              over = λ other f. subst (λ (m : Mark V). IsTrue (by_number no_worse (key_of new) (key_of m)) ×
+                  (IsTrue (by_number no_worse (key_of m) (key_of new)) → new.parent ≤ m.parent)) (this other f)
                   (both, λ k. let l = put.1 in omega (arith, l));
             })
           ]

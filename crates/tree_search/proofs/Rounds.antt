@@ -33,7 +33,8 @@ module _ {V : Type 0} (A : Algebra V) (lawful : IsLawful A) (g : GraphData) (roa
     current = λ a w. absurd (not_in_empty a w);
   }
 
-module _ {V : Type 0} (A : Algebra V) (lawful : IsLawful A) (g : GraphData) (roads : IsGraph g) (sources : List ℕ) (marks : List (Option (Mark V))) (settled : List Bool) (x y : V) (h k i : ℕ) (out : List ℕ)
+module _ {V : Type 0} (A : Algebra V) (lawful : IsLawful A) (g : GraphData) (roads : IsGraph g) (sources : List ℕ) (marks : List (Option (Mark V))) (settled : List Bool)
+    (x y : V) (h k i : ℕ) (out : List ℕ)
     (hopping : Hopping A g sources marks settled x h []) (best : IsBestOpen (by_number A.no_worse) (keys_in marks) settled g.vertices i (y, k)) (lists : ListsArcsFrom g (i + 1) out) where
   place_is : (i + 1) - 1 ≡ i
   place_is = omega arith
@@ -141,7 +142,8 @@ pub starting : {V : Type 0} (A : Algebra V) → IsLawful A → (g : GraphData) �
     Between A g sources marks (replicate g.vertices false)
 starting A lawful g roads sources marks opening = record { level = A.origin; hops = 0; hopping = hopping_start A lawful g roads sources marks opening }
 
-module _ {V : Type 0} (A : Algebra V) (lawful : IsLawful A) (g : GraphData) (roads : IsGraph g) (sources : List ℕ) (inside : All (HasVertex g) sources) (order : V → V → Bool) (same : A.no_worse ≡ order)
+module _ {V : Type 0} (A : Algebra V) (lawful : IsLawful A) (g : GraphData) (roads : IsGraph g) (sources : List ℕ) (inside : All (HasVertex g) sources)
+    (order : V → V → Bool) (same : A.no_worse ≡ order)
     (marks : List (Option (Mark V))) (settled : List Bool) (between : Between A g sources marks settled) where
   pub keys_count : length (keys_in marks) ≡ g.vertices
   keys_count = length-map marks (option_map key_of) ∙ sym (length-map marks (option_map (λ (m : Mark V). m.value))) ∙ between.hopping.known.labels_count

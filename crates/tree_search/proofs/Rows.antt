@@ -63,7 +63,8 @@ module _ {V : Type 0} where
   mark_at (x ∷ values) (h ∷ hops) (p ∷ parents) rows (suc i) = mark_at values hops parents rows.1 i
 
   -- a place of the marks is one of the lists, and there they hold its mark
-  module _ (values : List (Option V)) (hops parents : List (Option ℕ)) (marks : List (Option (Mark V))) (rows : AreMarkRows values hops parents) (are : marks_of values hops parents ≡ marks) (i : ℕ) where
+  module _ (values : List (Option V)) (hops parents : List (Option ℕ)) (marks : List (Option (Mark V))) (rows : AreMarkRows values hops parents)
+      (are : marks_of values hops parents ≡ marks) (i : ℕ) where
     pub place_inside : i < length marks → (i < length values) × (i < length hops) × (i < length parents)
     place_inside lt =
         let n = counts values hops parents rows in
@@ -94,7 +95,8 @@ module _ {V : Type 0} where
   set_marks (y ∷ values) (k ∷ hops) (q ∷ parents) rows zero x h p = refl
   set_marks (y ∷ values) (k ∷ hops) (q ∷ parents) rows (suc i) x h p = ap (λ l. mark_in y k q ∷ l) (set_marks values hops parents rows.1 i x h p)
 
-  module _ (values : List (Option V)) (hops parents : List (Option ℕ)) (marks : List (Option (Mark V))) (rows : AreMarkRows values hops parents) (are : marks_of values hops parents ≡ marks) (i : ℕ) (m : Mark V) where
+  module _ (values : List (Option V)) (hops parents : List (Option ℕ)) (marks : List (Option (Mark V))) (rows : AreMarkRows values hops parents)
+      (are : marks_of values hops parents ≡ marks) (i : ℕ) (m : Mark V) where
     pub given_rows : AreMarkRows (set values i (Some m.value)) (set hops i (Some m.hops)) (set parents i (parent_or_none m.parent))
     given_rows = set_rows values hops parents rows i (Some m.value) (Some m.hops) (parent_or_none m.parent) (parent_row m.value m.hops m.parent)
 
@@ -133,7 +135,8 @@ module _ {V : Type 0} where
   parents_are (None ∷ values) (h ∷ hops) (p ∷ parents) rows = ap (λ q. q ∷ parents_in (marks_of values hops parents)) (sym rows.0.1) ∙ ap (λ l. p ∷ l) (parents_are values hops parents rows.1)
   parents_are (Some x ∷ values) (None ∷ hops) (p ∷ parents) rows = absurd rows.0
   parents_are (Some x ∷ values) (Some h ∷ hops) (None ∷ parents) rows = ap (λ l. None ∷ l) (parents_are values hops parents rows.1)
-  parents_are (Some x ∷ values) (Some h ∷ hops) (Some p ∷ parents) rows = ap (λ q. q ∷ parents_in (marks_of values hops parents)) (one_parent p rows.0) ∙ ap (λ l. Some p ∷ l) (parents_are values hops parents rows.1)
+  parents_are (Some x ∷ values) (Some h ∷ hops) (Some p ∷ parents) rows = ap (λ q. q ∷ parents_in (marks_of values hops parents)) (one_parent p rows.0)
+      ∙ ap (λ l. Some p ∷ l) (parents_are values hops parents rows.1)
 
   module _ (values : List (Option V)) (hops parents : List (Option ℕ)) (marks : List (Option (Mark V))) (rows : AreMarkRows values hops parents) (are : marks_of values hops parents ≡ marks) where
     pub values_now : values ≡ values_in marks

@@ -180,7 +180,8 @@ module _ {K V : Type 0} (key : K → V × ℕ) (place : K → ℕ) (order : V �
         });
       }
 
-module _ {C V : Type 0} (A : Algebra V) (lawful : IsLawful A) (order : V → V → Bool) (same : A.no_worse ≡ order) (g : GraphData) (roads : IsGraph g) (sources : List ℕ) (inside : All (HasVertex g) sources)
+module _ {C V : Type 0} (A : Algebra V) (lawful : IsLawful A) (order : V → V → Bool) (same : A.no_worse ≡ order) (g : GraphData) (roads : IsGraph g) (sources : List ℕ)
+    (inside : All (HasVertex g) sources)
     (old new : SearchState C V) (in_graph : old.roads ≡ g) (between : Between A g sources old.marks old.settled) where
   stepped : Advances order A true old new → Between A g sources new.marks new.settled
   stepped (inl s) =

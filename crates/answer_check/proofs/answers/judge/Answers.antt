@@ -22,5 +22,6 @@ returns-in-Pairs g c = λ q e.
 pub returns-in-Multi : goal.returns-in-Multi
 returns-in-Multi g c = λ q e.
     let at = rw c.in-Multi.is at e in
-    let same : FromSources c.as_slice.result.now ≡ q = ap (λ (ss : List ℕ). FromSources ss) c.as_slice.ensures.value ∙ mapped_is of_list c.in-Multi.lists.items c.args.i c.index-in-Multi.result.now q c.index-in-Multi.ensures at in
+    let same : FromSources c.as_slice.result.now ≡ q = ap (λ (ss : List ℕ). FromSources ss) c.as_slice.ensures.value
+    ∙ mapped_is of_list c.in-Multi.lists.items c.args.i c.index-in-Multi.result.now q c.index-in-Multi.ensures at in
     rw (← same) c.judge_sources.ensures

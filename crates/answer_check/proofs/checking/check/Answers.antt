@@ -35,7 +35,8 @@ returns-in-Some-clause-verdict g c =
     let q = question_at asked.questions i (omega (arith, lt, count, n)) in
     let t = mapped_read answer_data c.args.answers.now.list.items i c.index.result.now c.index.ensures lt in
     let found : c.judge.result ≡ Ok (Some c.in-Some.place) = c.in_ok-place.was ∙ ap (λ (o : Option Place). Ok o) c.in-Some.is in
-    answer_first A graph c.laws_hold.ensures.lawful c.holds.ensures asked told (asks_of graph c.args.questions.now c.requires) header i q.0 (answer_data c.index.result.now) c.loop-i.invariant q.1 t c.in-Some.place
+    answer_first A graph c.laws_hold.ensures.lawful c.holds.ensures asked told (asks_of graph c.args.questions.now c.requires) header i q.0
+    (answer_data c.index.result.now) c.loop-i.invariant q.1 t c.in-Some.place
     (rw found at (c.judge.ensures q.0 q.1))
 
 pub returns-in-Some-clause-valid : goal.returns-in-Some-clause-valid

@@ -10,7 +10,8 @@ pub returns-in_default-of : goal.returns-in_default-of
 returns-in_default-of g c =
     let A = g.A.PathAlgebra.meaning c.args.algebra in
     let none : label_of c.in_ok-labels.labels c.args.target ≡ None = sym c.of-2.ensures ∙ c.in_default-of.is in
-    let unreached : IsUnreached A c.args.graph.now (c.args.source ∷ []) c.args.target = subst (IsBestLabel A c.args.graph.now (c.args.source ∷ []) c.args.target) none (c.in_ok-labels.ensures.best c.args.target c.requires.target) in
+    let unreached : IsUnreached A c.args.graph.now (c.args.source ∷ []) c.args.target =
+    subst (IsBestLabel A c.args.graph.now (c.args.source ∷ []) c.args.target) none (c.in_ok-labels.ensures.best c.args.target c.requires.target) in
     rw c.in-Some.is (told_without_walk A c.laws_hold.ensures.lawful c.args.graph.now c.args.source c.args.target (found_of c.in-Some.found) unreached)
 
 pub returns-in_default-2 : goal.returns-in_default-2

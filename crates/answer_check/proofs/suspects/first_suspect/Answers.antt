@@ -15,7 +15,8 @@ position_first-requires-clause-items g c κs within =
     let ends = c.into_par_iter.ensures in
     let count = c.requires.count in
     let top = c.requires.end in
-    let inside = nat_range-All (λ i. AskWithin c.args.graph.now.vertices c.args.questions.now × (i < length (asked_of c.args.questions.now).questions) × (i < length c.args.answers.now.list.items)) c.args.start c.args.end
+    let inside = nat_range-All (λ i. AskWithin c.args.graph.now.vertices c.args.questions.now × (i < length (asked_of c.args.questions.now).questions) ×
+    (i < length c.args.answers.now.list.items)) c.args.start c.args.end
     (λ i low high. (c.requires.within, omega (arith, high, count, top), omega (arith, high, top))) in
     rw (c.with_min_len.ensures.base, ends.0, ends.1) (λ k d lt. (inside k d lt, search (sendable, crosses) depth 40))
 

@@ -28,7 +28,8 @@ returns-in-Some-value_told g c =
     let here : label_of c.args.lines.now c.args.v ≡ Some c.in-Some.line = search rules in
     let told : decoded A c.in-Some.line.code ≡ Some c.in-Some-value_told.value = search rules in
     let code = decoded_is A c.laws_hold.ensures.lawful c.in-Some.line.code c.in-Some-value_told.value told in
-    let judged = evidence_judges A c.laws_hold.ensures.lawful c.args.graph.now c.args.lines.now c.args.v c.into-arcs.result.now c.into-arcs.ensures.complete c.in-Some.line c.in-Some-value_told.value code in
+    let judged = evidence_judges A c.laws_hold.ensures.lawful c.args.graph.now c.args.lines.now c.args.v c.into-arcs.result.now c.into-arcs.ensures.complete c.in-Some.line
+    c.in-Some-value_told.value code in
     rw (here, c.reason.ensures, c.evidence_of.ensures, ← c.laws_hold.ensures.order) judged
 
 pub returns-in-None : goal.returns-in-None

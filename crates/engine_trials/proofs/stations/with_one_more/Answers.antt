@@ -8,4 +8,5 @@ pub returns : goal.returns
 returns g c =
     let f = c.args.floor.now in let done = c.args.done.items in let s = c.in-Ok.station in
     let pushed : c.push.new.self.items ≡ done ++ s ∷ [] = search rules in
-    subst (All (BelongsTo f)) (sym pushed) (All-from_all_within (BelongsTo f) (done ++ s ∷ []) (AllWithin-push (BelongsTo f) done s (AllWithin-from_all (BelongsTo f) done c.requires.done) (subst (BelongsTo f) (sym c.in-Ok.ensures.finished.1) c.requires.station)))
+    subst (All (BelongsTo f)) (sym pushed) (All-from_all_within (BelongsTo f) (done ++ s ∷ [])
+    (AllWithin-push (BelongsTo f) done s (AllWithin-from_all (BelongsTo f) done c.requires.done) (subst (BelongsTo f) (sym c.in-Ok.ensures.finished.1) c.requires.station)))

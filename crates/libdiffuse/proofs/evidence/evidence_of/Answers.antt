@@ -17,6 +17,7 @@ loop-road-preserved g c =
     let lt : i < length a.roads.now = search rules in
     let more = shown_more A g.A.PathAlgebra.order lines a.line a.value a.roads.now i r lt c.road-item.is in
     let shown : c.evidence_by.result ≡ shown_by A g.A.PathAlgebra.order lines a.line a.value r =
-    c.evidence_by.ensures ∙ ap (evidence_by g.A.PathAlgebra.order r.head a.line a.value) (c.candidate-candidate.ensures ∙ ap (λ (near : Option Reached). candidate_from A near r.weight) c.line_at-near.ensures) in
+    c.evidence_by.ensures ∙ ap (evidence_by g.A.PathAlgebra.order r.head a.line a.value)
+    (c.candidate-candidate.ensures ∙ ap (λ (near : Option Reached). candidate_from A near r.weight) c.line_at-near.ensures) in
     c.or-evidence.ensures ∙ ap (λ (s : Evidence). either s c.evidence_by.result) c.loop-road.invariant
     ∙ ap (λ (t : Evidence). either (all_shown A g.A.PathAlgebra.order lines a.line a.value (take i a.roads.now)) t) shown ∙ sym more

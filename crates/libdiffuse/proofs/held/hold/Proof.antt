@@ -41,5 +41,6 @@ hold_spec 𝓤 𝓛 𝓜 𝓡 wired =
     sets ! (of_opd ! (get_in ! (fld ! refl (stop !)) (sub ! 0 refl (whole !)))) refl (tt, tt) $ sets ! (of_opd ! (get ! refl)) refl (tt, tt) $
     sets ! (agg ! (and_then ! (get ! refl) (no_more !))) refl (tt, (tt, tt)) $
     returns ! (look_at ! 0 refl) $ free_all ! refl $
-    feq_i ! (GraphData) g g refl $ fjoin ! $ fpack ! (R.Denot) (owner_at (block_ptr b o) g) v.value $ held_in ! (block_ptr b o) (Some g) $ use0 𝓛 (raw (fact 𝓤 (Some g ≡ Some g))) (fact_i 𝓤 (Some g ≡ Some g) (emp 𝓤) refl) $ nothing ! $ nothing ! $ fjoin ! $ nothing ! $ keep ! (0 ∷ 1 ∷ 3 ∷ 2 ∷ []) $
+    feq_i ! (GraphData) g g refl $ fjoin ! $ fpack ! (R.Denot) (owner_at (block_ptr b o) g) v.value $ held_in ! (block_ptr b o) (Some g) $ use0 𝓛
+    (raw (fact 𝓤 (Some g ≡ Some g))) (fact_i 𝓤 (Some g ≡ Some g) (emp 𝓤) refl) $ nothing ! $ nothing ! $ fjoin ! $ nothing ! $ keep ! (0 ∷ 1 ∷ 3 ∷ 2 ∷ []) $
     by ! (leaves 𝓛 ended hs c z (alone (block_ptr b o)) (record { at = block_ptr b o; roads = Some g }) (tt, tt) (tt, tt)))))

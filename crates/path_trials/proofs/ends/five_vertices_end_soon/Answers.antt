@@ -11,4 +11,5 @@ pub returns-clause-messages : goal.returns-clause-messages
 returns-clause-messages c = λ events. subst (λ n. (totals_of shortest (network five 1) events).sent ≤ n) five_bound (c.every_run_is_finite.ensures.messages five 1 five_roads five_source events)
 
 pub returns-clause-events : goal.returns-clause-events
-returns-clause-events c = λ events. subst (λ n. count_enabled shortest (network five 1) (opening shortest (network five 1)) events ≤ 2 * n) five_bound (c.every_run_is_finite.ensures.events five 1 five_roads five_source events)
+returns-clause-events c = λ events. subst (λ n. count_enabled shortest (network five 1) (opening shortest (network five 1)) events ≤ 2 * n) five_bound
+    (c.every_run_is_finite.ensures.events five 1 five_roads five_source events)

@@ -22,7 +22,8 @@ overflow_sub-tail-inside c =
 
 pub bounds-starts-tail-inside : goal.bounds-starts-tail-inside
 bounds-starts-tail-inside c =
-    let l = tail_inside c.args.graph.now c.holds.ensures c.starts-starts.result.now c.args.numbers.now c.args.tails.now (c.starts-starts.ensures.all c.args.numbers.now c.requires.numbers) c.requires.tails
+    let l = tail_inside c.args.graph.now c.holds.ensures c.starts-starts.result.now c.args.numbers.now c.args.tails.now
+    (c.starts-starts.ensures.all c.args.numbers.now c.requires.numbers) c.requires.tails
     c.args.numbers.now refl c.loop-place.place c.loop-place-test.true c.number.inside.0 c.index-numbers-place.result (c.number.view_is ∙ c.index-numbers-place.is)
     c.tail.inside.0 c.index-tails-at.result (c.tail.view_is ∙ c.index-tails-at.is) in
     l
@@ -36,7 +37,8 @@ overflow_sub-place c =
 
 pub index_mut-requires : goal.index_mut-requires
 index_mut-requires c =
-    let l = number_inside c.args.graph.now c.holds.ensures c.starts-starts.result.now c.args.numbers.now c.args.tails.now (c.starts-starts.ensures.all c.args.numbers.now c.requires.numbers) c.requires.tails
+    let l = number_inside c.args.graph.now c.holds.ensures c.starts-starts.result.now c.args.numbers.now c.args.tails.now
+    (c.starts-starts.ensures.all c.args.numbers.now c.requires.numbers) c.requires.tails
     c.args.numbers.now refl c.loop-place.place c.loop-place-test.true c.number.inside.0 c.index-numbers-place.result (c.number.view_is ∙ c.index-numbers-place.is) in
     omega (arith, l, c.loop-place.invariant.count, c.loop-place.entries.ok.0)
 
@@ -51,7 +53,8 @@ loop-place-preserved c =
     (get_or c.starts-starts.result.now (c.tail.inside.0 - 1) 0) 0 refl) in
     record {
       count = simp length-set c.loop-place.invariant.count;
-      told = told_more c.args.graph.now c.holds.ensures c.starts-starts.result.now c.args.numbers.now c.args.tails.now (c.starts-starts.ensures.all c.args.numbers.now c.requires.numbers) c.requires.tails
+      told = told_more c.args.graph.now c.holds.ensures c.starts-starts.result.now c.args.numbers.now c.args.tails.now
+          (c.starts-starts.ensures.all c.args.numbers.now c.requires.numbers) c.requires.tails
           c.args.numbers.now refl c.loop-place.place c.loop-place-test.true c.number.inside.0 c.index-numbers-place.result (c.number.view_is ∙ c.index-numbers-place.is)
           c.loop-place.entries.items (record { tail = c.index-tails-at.result; rank = rank }) c.loop-place.invariant.count new c.loop-place.invariant.told;
     }

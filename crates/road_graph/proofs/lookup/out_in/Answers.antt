@@ -6,8 +6,10 @@ use Rattle.road_graph.proofs.Reading.{row_lists_from}
 use Rattle.road_graph.proofs.lookup.out_in.Goals as goal
 
 pub row_of-requires : goal.row_of-requires
-row_of-requires c = has_row Tail c.args.graph.now.vertices c.args.graph.now.arcs c.starts.result.now c.args.numbers.now (c.starts.ensures.all c.args.numbers.now c.requires.numbers) c.args.v c.requires.vertex.0 c.requires.vertex.1
+row_of-requires c = has_row Tail c.args.graph.now.vertices c.args.graph.now.arcs c.starts.result.now c.args.numbers.now
+    (c.starts.ensures.all c.args.numbers.now c.requires.numbers) c.args.v c.requires.vertex.0 c.requires.vertex.1
 
 pub returns : goal.returns
 returns c = subst (λ (xs : List ℕ). ListsArcsFrom c.args.graph.now c.args.v xs) (sym c.row_of.ensures)
-    (row_lists_from c.args.graph.now c.args.v c.requires.vertex c.starts.result.now c.args.numbers.now (get_or c.starts.result.now (c.args.v - 1) 0) (get_or c.starts.result.now c.args.v 0) refl refl c.args.numbers.now refl (c.starts.ensures.all c.args.numbers.now c.requires.numbers))
+    (row_lists_from c.args.graph.now c.args.v c.requires.vertex c.starts.result.now c.args.numbers.now (get_or c.starts.result.now (c.args.v - 1) 0)
+    (get_or c.starts.result.now c.args.v 0) refl refl c.args.numbers.now refl (c.starts.ensures.all c.args.numbers.now c.requires.numbers))

@@ -12,5 +12,6 @@ bounds-roads-find_place c =
 pub returns : goal.returns
 returns c =
     c.index-roads-find_place.is
-    ∙ road_read c.args.graph.now c.args.numbers.now c.roads.result.now (c.roads.ensures c.args.numbers.now c.requires.numbers) c.find_place.result c.find_place.ensures.0 c.index-roads-find_place.result
+    ∙ road_read c.args.graph.now c.args.numbers.now c.roads.result.now (c.roads.ensures c.args.numbers.now c.requires.numbers) c.find_place.result c.find_place.ensures.0
+    c.index-roads-find_place.result
     ∙ ap (λ b. road_of (arc_of c.args.graph.now b)) c.find_place.ensures.1

@@ -12,7 +12,8 @@ loop-prefix-preserved c =
     record {
       within = omega arith;
       digits = All-more (λ b. is_ascii_digit b ≡ true) c.args.bytes.now c.loop-prefix.prefix 0 c.loop-prefix-test.true c.loop-prefix.invariant.digits digit;
-      plain = All-more (λ b. is_plain b ≡ true) c.args.bytes.now c.loop-prefix.prefix 0 c.loop-prefix-test.true c.loop-prefix.invariant.plain (plain_digit (get_or c.args.bytes.now c.loop-prefix.prefix 0) digit);
+      plain = All-more (λ b. is_plain b ≡ true) c.args.bytes.now c.loop-prefix.prefix 0 c.loop-prefix-test.true c.loop-prefix.invariant.plain
+          (plain_digit (get_or c.args.bytes.now c.loop-prefix.prefix 0) digit);
       number = c.digit_on-grown.ensures ∙ ap (λ o. number_on o (get_or c.args.bytes.now c.loop-prefix.prefix 0)) c.loop-prefix.invariant.number
           ∙ sym (number_with-take_more (Some c.args.number) c.args.bytes.now c.loop-prefix.prefix c.loop-prefix-test.true);
     }

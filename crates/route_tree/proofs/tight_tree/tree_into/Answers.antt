@@ -37,14 +37,16 @@ pub returns-clause-hops : goal.returns-clause-hops
 returns-clause-hops g c =
     let roads = c.args.graph.now in
     let search = c.loop-alloc.search in
-    rw c.into_parts-hops.ensures.hops (search_ends roads (is_tight_into (g.A.PathAlgebra.meaning c.args.algebra) roads c.args.labels.now c.args.region.now) c.args.sources.now search.level search.hops search.parents search.next
+    rw c.into_parts-hops.ensures.hops (search_ends roads (is_tight_into (g.A.PathAlgebra.meaning c.args.algebra) roads c.args.labels.now c.args.region.now) c.args.sources.now
+    search.level search.hops search.parents search.next
     (sym c.is_done.ensures ∙ c.loop-alloc-test.false) c.loop-alloc.invariant.visiting).0
 
 pub returns-clause-parents : goal.returns-clause-parents
 returns-clause-parents g c =
     let roads = c.args.graph.now in
     let search = c.loop-alloc.search in
-    rw (c.into_parts-hops.ensures.hops, c.into_parts-hops.ensures.parents) (search_ends roads (is_tight_into (g.A.PathAlgebra.meaning c.args.algebra) roads c.args.labels.now c.args.region.now) c.args.sources.now search.level search.hops search.parents search.next
+    rw (c.into_parts-hops.ensures.hops, c.into_parts-hops.ensures.parents) (search_ends roads
+    (is_tight_into (g.A.PathAlgebra.meaning c.args.algebra) roads c.args.labels.now c.args.region.now) c.args.sources.now search.level search.hops search.parents search.next
     (sym c.is_done.ensures ∙ c.loop-alloc-test.false) c.loop-alloc.invariant.visiting).1
 
 pub invariant_of-result : goal.invariant_of-result

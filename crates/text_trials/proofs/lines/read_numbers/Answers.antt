@@ -12,7 +12,8 @@ use Rattle.text_trials.proofs.lines.read_numbers.Goals as goal
 abbrev meaning : Meaning (List ℕ) (Vec ℕ Global)
 meaning = record { gives = λ cut ns at ls r. GivesBy numbers_rules ns (λ v. v.items) cut at ls r; so_far = λ _ _. Unit {0} }
 
-value_from : (ns : List ℕ) → ns ≡ [] → (cut : Bool) (ls : List (List ℕ)) (v : Vec ℕ Global) → value_of_lines cut numbers_rules 1 ns ls ≡ Ok v.items → value_of_lines cut numbers_rules 1 [] ls ≡ Ok v.items
+value_from : (ns : List ℕ) → ns ≡ [] → (cut : Bool) (ls : List (List ℕ)) (v : Vec ℕ Global) → value_of_lines cut numbers_rules 1 ns ls ≡ Ok v.items →
+    value_of_lines cut numbers_rules 1 [] ls ≡ Ok v.items
 value_from ns none cut ls v h = subst (λ (start : List ℕ). value_of_lines cut numbers_rules 1 start ls ≡ Ok v.items) none h
 
 fault_from : (ns : List ℕ) → ns ≡ [] → (cut : Bool) (ls : List (List ℕ)) (f : ReadFault) → value_of_lines cut numbers_rules 1 ns ls ≡ Err f → value_of_lines cut numbers_rules 1 [] ls ≡ Err f

@@ -11,5 +11,6 @@ loop-station-preserved g c =
     let both = All-pop (BelongsTo f) c.loop-station.stations.items c.pop.new.self.items (Some c.in-Some.station) c.in-Some.ensures.items i.left in
     record {
       left = both.0;
-      taken = subst (All (BelongsTo f)) (sym pushed) (All-from_all_within (BelongsTo f) (done ++ s ∷ []) (AllWithin-push (BelongsTo f) done s (AllWithin-from_all (BelongsTo f) done i.taken) (subst (BelongsTo f) (sym c.in-Ok.ensures.finished.1) both.1)));
+      taken = subst (All (BelongsTo f)) (sym pushed) (All-from_all_within (BelongsTo f) (done ++ s ∷ [])
+          (AllWithin-push (BelongsTo f) done s (AllWithin-from_all (BelongsTo f) done i.taken) (subst (BelongsTo f) (sym c.in-Ok.ensures.finished.1) both.1)));
     }

@@ -14,7 +14,8 @@ loop-source-preserved g c =
     record {
       algebra = c.in_ok-offer.ensures.same.algebra ∙ c.loop-source.invariant.algebra;
       graph = c.in_ok-offer.ensures.same.roads ∙ c.loop-source.invariant.graph;
-      opening = opening_more order origin n c.args.sources.now c.loop-source.source-index s c.loop-source.search.labels c.offer.new.self.labels c.loop-source.invariant.opening c.loop-source-test.true c.source-item.is
+      opening = opening_more order origin n c.args.sources.now c.loop-source.source-index s c.loop-source.search.labels c.offer.new.self.labels c.loop-source.invariant.opening
+          c.loop-source-test.true c.source-item.is
           (subst (λ (v : ℕ). 1 ≤ v) (sym c.source-item.is) inside.0) (subst (λ (v : ℕ). v ≤ n) (sym c.source-item.is) inside.1) next;
       settled = c.in_ok-offer.ensures.same.settled ∙ c.loop-source.invariant.settled;
     }

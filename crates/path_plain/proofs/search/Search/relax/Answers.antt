@@ -7,7 +7,8 @@ use Rattle.path_plain.proofs.search.Search.relax.Goals as goal
 
 pub offer_if-requires-after_bounds : goal.offer_if-requires-after_bounds
 offer_if-requires-after_bounds g c κs within =
-    let h = head_in c.self.inside.graph.now c.holds.ensures c.args.v c.roads_from-road-items.result.now c.roads_from-road-items.ensures c.loop-road.road-index c.road-item.result c.loop-road-test.true c.road-item.is in
+    let h = head_in c.self.inside.graph.now c.holds.ensures c.args.v c.roads_from-road-items.result.now c.roads_from-road-items.ensures c.loop-road.road-index c.road-item.result
+    c.loop-road-test.true c.road-item.is in
     let here : c.self.inside.graph.now.vertices ≡ c.args.self.now.roads.vertices = λ i. (c.self.view_is i).roads.vertices in
     let there : c.loop-road.self.roads.vertices ≡ c.args.self.now.roads.vertices = λ i. (c.loop-road.invariant.same.roads i).vertices in
     (h.0, omega (arith, h.1, here, there))

@@ -11,7 +11,11 @@ returns-in-Err g c =
 pub returns-in-Err-open : goal.returns-in-Err-open
 returns-in-Err-open g c =
     let once : NamesStdinOnce (c.args.names.0.now ∷ c.args.names.1.now ∷ c.args.names.2.now ∷ []) = search rules in
-    inr (once, inr (inr (inl (missing_third g.P.FileSystem.opens c.args.names.0.now c.args.names.1.now c.args.names.2.now c.args.files.now c.open_both.new.files c.open.new.files _ _ _ _ _ c.in-Ok.ensures.order c.open.ensures.opens c.in-Err-open.ensures.fault.1 c.in-Err-open.ensures.fault.0 c.report-in-Err-open.ensures))))
+    inr (
+      once,
+      inr (inr (inl (missing_third g.P.FileSystem.opens c.args.names.0.now c.args.names.1.now c.args.names.2.now c.args.files.now c.open_both.new.files c.open.new.files _
+          _ _ _ _ c.in-Ok.ensures.order c.open.ensures.opens c.in-Err-open.ensures.fault.1 c.in-Err-open.ensures.fault.0 c.report-in-Err-open.ensures))),
+    )
 
 pub returns : goal.returns
 returns g c =
@@ -19,7 +23,8 @@ returns g c =
     inr (
       once,
       inr (inr (inr (record {
-        order = opens_third g.P.FileSystem.opens c.args.names.0.now c.args.names.1.now c.args.names.2.now c.args.files.now c.open_both.new.files c.open.new.files c.in-Ok.ensures.order c.open.ensures.opens;
+        order = opens_third g.P.FileSystem.opens c.args.names.0.now c.args.names.1.now c.args.names.2.now c.args.files.now c.open_both.new.files c.open.new.files
+            c.in-Ok.ensures.order c.open.ensures.opens;
         first = _;
         first_after = _;
         second = _;

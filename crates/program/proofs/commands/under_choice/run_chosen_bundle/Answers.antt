@@ -14,7 +14,11 @@ pub returns-in-Hops : goal.returns-in-Hops
 returns-in-Hops g c = record { batch = rw (c.in-Hops.is) c.run_bundle-in-Hops.ensures.ran; ungated = never_gated _ _ _ c.run_bundle-in-Hops.result c.run_bundle-in-Hops.ensures.ran.gated }
 
 pub returns-in-Reliable : goal.returns-in-Reliable
-returns-in-Reliable g c = record { batch = rw (c.in-Reliable.is) c.run_bundle-in-Reliable.ensures.ran; ungated = never_gated _ _ _ c.run_bundle-in-Reliable.result c.run_bundle-in-Reliable.ensures.ran.gated }
+returns-in-Reliable g c = record {
+  batch = rw (c.in-Reliable.is) c.run_bundle-in-Reliable.ensures.ran;
+  ungated =
+      never_gated _ _ _ c.run_bundle-in-Reliable.result c.run_bundle-in-Reliable.ensures.ran.gated;
+}
 
 pub returns-in-Within : goal.returns-in-Within
 returns-in-Within g c = record { batch = rw (c.in-Within.is) c.run_bundle-in-Within.ensures.ran; ungated = never_gated _ _ _ c.run_bundle-in-Within.result c.run_bundle-in-Within.ensures.ran.gated }

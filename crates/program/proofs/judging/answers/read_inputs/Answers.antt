@@ -18,12 +18,14 @@ returns-in-Ok-read_answers-clause-read g c = record {
 }
 
 pub returns-in-Err-read_answers-clause-answers : goal.returns-in-Err-read_answers-clause-answers
-returns-in-Err-read_answers-clause-answers g c = λ _. subst⁻¹ (IsAnswersFault (g.G.RoadRead.left c.args.graph_in.now) (g.Q.RoadRead.left c.args.questions_in.now) (g.S.RoadRead.left c.args.answers_in.now)) c.fault_in.ensures (record {
-  roads = c.in-Ok.read.0;
-  asked = asked_of c.in-Ok.read.1;
-  read = c.in-Ok.ensures.read;
-  fault = λ text. subst (λ n. IfSome (g.S.RoadRead.left c.args.answers_in.now) (λ b. text_read (answer_rules n) b ≡ Err c.in-Err-read_answers.fault)) c.vertices.ensures.count (c.in-Err-read_answers.ensures.fault text.0 text.1);
-})
+returns-in-Err-read_answers-clause-answers g c = λ _. subst⁻¹ (IsAnswersFault (g.G.RoadRead.left c.args.graph_in.now) (g.Q.RoadRead.left c.args.questions_in.now)
+    (g.S.RoadRead.left c.args.answers_in.now)) c.fault_in.ensures (record {
+      roads = c.in-Ok.read.0;
+      asked = asked_of c.in-Ok.read.1;
+      read = c.in-Ok.ensures.read;
+      fault = λ text. subst (λ n. IfSome (g.S.RoadRead.left c.args.answers_in.now) (λ b. text_read (answer_rules n) b ≡ Err c.in-Err-read_answers.fault)) c.vertices.ensures.count
+          (c.in-Err-read_answers.ensures.fault text.0 text.1);
+    })
 
 pub returns-in-Err-read_answers-clause-questions : goal.returns-in-Err-read_answers-clause-questions
 returns-in-Err-read_answers-clause-questions g c = grind (arith, common_steps)

@@ -27,7 +27,11 @@ returns-in-Hops g c = record {
 
 pub returns-in-Reliable : goal.returns-in-Reliable
 returns-in-Reliable g c = record {
-  ran = record { batch = rw (c.in-Reliable.is) c.run_pair_watched-in-Reliable.ensures.ran; ungated = never_gated _ _ _ c.run_pair_watched-in-Reliable.result c.run_pair_watched-in-Reliable.ensures.ran.gated };
+  ran = record {
+    batch = rw (c.in-Reliable.is) c.run_pair_watched-in-Reliable.ensures.ran;
+    ungated =
+        never_gated _ _ _ c.run_pair_watched-in-Reliable.result c.run_pair_watched-in-Reliable.ensures.ran.gated;
+  };
   watched = rw (c.in-Reliable.is) c.run_pair_watched-in-Reliable.ensures.watched;
 }
 

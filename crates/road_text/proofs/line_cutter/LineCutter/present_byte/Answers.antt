@@ -19,9 +19,12 @@ returns-then-is_gap-clause-present g c = λ present held.
     let Q = g.T.FieldTaker.so_far c.end_field.new.self.taker in
     let full : Shows P (scan_of c.add_pending.new.self) present = rw c.add_pending.ensures (shows_whole P c.args.self.now.pending (scan_of c.args.self.now.scanner) present held.pending held.shown) in
     let gap : is_gap c.args.byte ≡ true = sym c.is_gap.ensures ∙ c.if-is_gap.true in
-    let gone : Shows Q (past (scan_of c.add_pending.new.self), no_word) (present ++ c.args.byte ∷ []) = shows_gap P Q (scan_of c.add_pending.new.self) present c.args.byte gap full (c.end_field.ensures.told present full) in
-    let closed : Shows Q (scan_of c.close.new.self) (present ++ c.args.byte ∷ []) = subst (λ (s : Scan). Shows Q s (present ++ c.args.byte ∷ [])) (sym (c.close.ensures ∙ ap (λ (s : Scan). (past s, no_word)) c.end_field.ensures.scanner)) gone in
-    let now : Holds Q true false (scan_of c.close.new.self) (present ++ c.args.byte ∷ []) = holds_other Q (scan_of c.close.new.self) present c.args.byte closed held.whole c.requires c.if-byte-eq13.false in
+    let gone : Shows Q (past (scan_of c.add_pending.new.self), no_word) (present ++ c.args.byte ∷ []) =
+    shows_gap P Q (scan_of c.add_pending.new.self) present c.args.byte gap full (c.end_field.ensures.told present full) in
+    let closed : Shows Q (scan_of c.close.new.self) (present ++ c.args.byte ∷ []) =
+    subst (λ (s : Scan). Shows Q s (present ++ c.args.byte ∷ [])) (sym (c.close.ensures ∙ ap (λ (s : Scan). (past s, no_word)) c.end_field.ensures.scanner)) gone in
+    let now : Holds Q true false (scan_of c.close.new.self) (present ++ c.args.byte ∷ []) =
+    holds_other Q (scan_of c.close.new.self) present c.args.byte closed held.whole c.requires c.if-byte-eq13.false in
     rw (c.end_field.ensures.rest.0, c.end_field.ensures.rest.1) now
 
 pub returns-clause-present : goal.returns-clause-present

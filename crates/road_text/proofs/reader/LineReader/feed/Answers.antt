@@ -29,7 +29,8 @@ returns-in-Err-clause-err g c =
     let xs : List ℕ = c.args.bytes.now in
     let lines = c.short_lines-at in
     let one = rest_gives_further meaning c.args.self.now c.loop-at.self lines.new.self xs c.loop-at.at lines.result c.loop-at.invariant.rest_gives lines.ensures.rest_gives in
-    halts_in meaning c.args.self.now lines.new.self xs (c.loop-at.at + lines.result) (omega (arith, c.loop-at.invariant.within, lines.ensures.bound)) one (omega (arith, lines.ensures.count, c.loop-at.invariant.count)) c.in-Err.halt c.in-Err.ensures.err
+    halts_in meaning c.args.self.now lines.new.self xs (c.loop-at.at + lines.result) (omega (arith, c.loop-at.invariant.within, lines.ensures.bound)) one
+    (omega (arith, lines.ensures.count, c.loop-at.invariant.count)) c.in-Err.halt c.in-Err.ensures.err
 
 pub returns-clause-ok : goal.returns-clause-ok
 returns-clause-ok g c = λ cut rest r h. rw (← take_all c.loop-at.at c.args.bytes.now c.loop-at-test.false) (c.loop-at.invariant.rest_gives cut rest r h)

@@ -32,7 +32,8 @@ returns-in-Ok-clause-rest_gives g c =
     let m : ℕ = c.min-to.result in
     let ends : EndsLine (SoFarOf g.T.LineParser.meaning) c.args.self.now.cutter c.to_line_end-taken.new.self (take n (take m xs)) = rw c.if-not-ended.false at c.to_line_end-taken.ensures.cut in
     λ cut more r h. rw (← taken_of xs n m c.to_line_end-taken.ensures.bound)
-    (line_taken g.T.LineParser.meaning {A = Unit {0}} c.args.self.now.cutter c.to_line_end-taken.new.self c.end_line.new.self.cutter c.args.self.now.line c.end_line.new.self.line (take n (take m xs)) tt c.in-Ok.ensures.next.0 ends c.to_line_end-taken.ensures.kept c.if-self.false c.in-Ok.ensures.ready (λ l here. c.in-Ok.ensures.line l here) cut more r h)
+    (line_taken g.T.LineParser.meaning {A = Unit {0}} c.args.self.now.cutter c.to_line_end-taken.new.self c.end_line.new.self.cutter c.args.self.now.line c.end_line.new.self.line
+    (take n (take m xs)) tt c.in-Ok.ensures.next.0 ends c.to_line_end-taken.ensures.kept c.if-self.false c.in-Ok.ensures.ready (λ l here. c.in-Ok.ensures.line l here) cut more r h)
 
 pub returns-in-Err-clause-err : goal.returns-in-Err-clause-err
 returns-in-Err-clause-err g c =
@@ -43,5 +44,7 @@ returns-in-Err-clause-err g c =
     let le = c.to_line_end-taken.ensures.bound in
     let fits : n ≤ 4294967296 - c.args.self.now.count = omega (arith, le, length-take m xs, c.min-to.ensures) in
     let count : c.args.self.now.count + length (take n (take m xs)) ≤ 4294967296 = omega (arith, fits, length-take-le n (take m xs) le, c.args.self.now.few_bytes) in
-    line_halts g.T.LineParser.meaning c.args.self.now c.to_line_end-taken.new.self c.end_line.new.self.cutter.taker.parser xs (take n (take m xs)) (drop n xs) c.in-Err.halt c.end_line.result c.in-Err.is c.in-Err.ensures.kinds
-    (sym (take-append-drop n xs) ∙ ap (λ x. x ++ drop n xs) (sym (taken_of xs n m le))) count (omega (arith, c.if-room-eq0.false)) ends c.to_line_end-taken.ensures.kept c.if-self.false (λ l here. c.end_line.ensures.line l here)
+    line_halts g.T.LineParser.meaning c.args.self.now c.to_line_end-taken.new.self c.end_line.new.self.cutter.taker.parser xs (take n (take m xs))
+    (drop n xs) c.in-Err.halt c.end_line.result c.in-Err.is c.in-Err.ensures.kinds
+    (sym (take-append-drop n xs) ∙ ap (λ x. x ++ drop n xs) (sym (taken_of xs n m le))) count
+    (omega (arith, c.if-room-eq0.false)) ends c.to_line_end-taken.ensures.kept c.if-self.false (λ l here. c.end_line.ensures.line l here)

@@ -7,7 +7,8 @@ loop-at-preserved g c =
     let xs : List ℕ = c.args.bytes.now in
     let old = c.loop-at.invariant in
     record {
-      rest_gives = rest_gives_further g.T.LineParser.meaning c.args.self.now c.loop-at.self c.short_line-len.new.self xs c.loop-at.at c.short_line-len.result old.rest_gives c.short_line-len.ensures.rest_gives;
+      rest_gives = rest_gives_further g.T.LineParser.meaning c.args.self.now c.loop-at.self c.short_line-len.new.self xs c.loop-at.at c.short_line-len.result old.rest_gives
+          c.short_line-len.ensures.rest_gives;
       count = omega (arith, c.short_line-len.ensures.count, old.count);
       given = c.short_line-len.ensures.given ∙ old.given;
       within = omega (arith, c.short_line-len.ensures.bound);

@@ -21,7 +21,8 @@ pub try_road-requires-after_bounds : goal.try_road-requires-after_bounds
 try_road-requires-after_bounds g c κs within =
     let roads = g.G.Entering.roads c.self.inside.graph.now in
     let lists = c.in_ok-list_into.ensures in
-    let at = turned_at roads lists.0 c.as_slice-road-items.result.now c.args.v lists.1 (c.as_slice-road-items.ensures.value ∙ lists.2) c.loop-road.road-index c.road-item.result c.loop-road-test.true c.road-item.is in
+    let at = turned_at roads lists.0 c.as_slice-road-items.result.now c.args.v lists.1
+    (c.as_slice-road-items.ensures.value ∙ lists.2) c.loop-road.road-index c.road-item.result c.loop-road-test.true c.road-item.is in
     let in_graph = subst (λ (r : OutRoad). HasVertex roads r.head) (sym at.2) ((c.self.invariant.roads.ends (get_or lists.0 c.loop-road.road-index 0) at.0).0) in
     let here : roads ≡ c.args.self.now.over.roads = λ i. (c.self.view_is i).over.roads in
     let there : c.loop-road.self.over.roads ≡ c.args.self.now.over.roads = λ i. (c.loop-road.invariant.over i).roads in

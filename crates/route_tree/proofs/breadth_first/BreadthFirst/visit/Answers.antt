@@ -10,7 +10,8 @@ pub loop-road-init : goal.loop-road-init
 loop-road-init g c =
     let s = c.args.self.now in
     record {
-      goes = λ sources pending numbers lists are known. visit_open s.over.roads (passes (g.A.PathAlgebra.meaning s.over.algebra) s) sources s.level s.hops s.parents c.args.v pending s.next numbers lists known;
+      goes = λ sources pending numbers lists are known. visit_open s.over.roads (passes (g.A.PathAlgebra.meaning s.over.algebra) s) sources s.level s.hops s.parents c.args.v
+          pending s.next numbers lists known;
       same = record { over = refl; region = refl; level = refl };
       size = refl;
     }

@@ -17,7 +17,8 @@ returns-clause-visits g c =
     let new = c.visit_all.new.self in
     subst (λ (s : SearchState g.row.A.Denot g.row.A-Value.Denot). (sources : List ℕ) →
     Visiting s.over.roads (passes (g.A.PathAlgebra.meaning s.over.algebra) s) sources s.level s.hops s.parents s.next [] [] →
-    Visiting s.over.roads (passes (g.A.PathAlgebra.meaning s.over.algebra) s) sources (c.self-2.inside.level + 1) c.self-2.inside.hops.items c.self-2.inside.parents.items c.self-2.inside.next.items [] []) c.self.view_is
+    Visiting s.over.roads (passes (g.A.PathAlgebra.meaning s.over.algebra) s) sources
+    (c.self-2.inside.level + 1) c.self-2.inside.hops.items c.self-2.inside.parents.items c.self-2.inside.next.items [] []) c.self.view_is
     (λ sources known. subst (λ (s : SearchState g.row.A.Denot g.row.A-Value.Denot). Visiting roads test sources (s.level + 1) s.hops s.parents s.next [] []) (sym c.self-2.view_is)
     (rw c.in_ok-visit_all.ensures.same.level (visit_level roads test sources k new.hops new.parents new.next (c.in_ok-visit_all.ensures.visits sources
     (subst (λ (list : List ℕ). Visiting roads test sources k hops parents list [] c.replace-level.new.dest.items) (sym level)

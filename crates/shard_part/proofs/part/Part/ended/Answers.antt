@@ -7,7 +7,8 @@ pub is_busy-requires-after_bounds : goal.is_busy-requires-after_bounds
 is_busy-requires-after_bounds g c κs within = entry_row _ c.self.inside.state _ _ _ (ap (λ i. i.state) c.self-inside.view_is) c.self-inside.invariant
 
 pub returns-then-eq : goal.returns-then-eq
-returns-then-eq g c = ended_then _ c.self.inside.state c.shard_of.result c.eq.result c.is_busy.result (ap (λ i. i.state) c.self-inside.view_is) c.shard_of.ensures c.eq.ensures c.if-eq.true c.is_busy.ensures
+returns-then-eq g c = ended_then _ c.self.inside.state c.shard_of.result c.eq.result c.is_busy.result
+    (ap (λ i. i.state) c.self-inside.view_is) c.shard_of.ensures c.eq.ensures c.if-eq.true c.is_busy.ensures
     ∙ ap has_ended c.self.view_is
 
 pub returns-else-eq : goal.returns-else-eq

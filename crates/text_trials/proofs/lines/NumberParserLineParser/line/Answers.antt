@@ -12,4 +12,5 @@ pub returns-clause-ok : goal.returns-clause-ok
 returns-clause-ok c = on_ok c.take.result _ _ c.take.ensures (λ e cut at l rest r shown _ h. gives_taken numbers_rules items_of _ _ cut at l rest r (rule_of_line _ c.args.slots.now l shown ∙ e) h)
 
 pub returns-clause-broken : goal.returns-clause-broken
-returns-clause-broken c = λ rule is cut at l rest shown _. gives_broken numbers_rules items_of c.args.self.now.numbers.items cut at l rest rule.number (rule_of_line _ c.args.slots.now l shown ∙ (rw is at c.take.ensures))
+returns-clause-broken c = λ rule is cut at l rest shown _. gives_broken numbers_rules items_of c.args.self.now.numbers.items cut at l rest rule.number
+    (rule_of_line _ c.args.slots.now l shown ∙ (rw is at c.take.ensures))

@@ -25,18 +25,23 @@ index-requires-2 g c =
 pub returns-in_default : goal.returns-in_default
 returns-in_default g c =
     let at = place_inside c.self.inside.values.items c.self.inside.hops.items c.self.inside.parents.items c.args.self.now c.self.invariant c.self.view_is c.args.i c.requires in
-    sym (lesser_none g.A.PathAlgebra.order c.self.inside.values.items c.self.inside.hops.items c.self.inside.parents.items c.args.self.now c.self.invariant c.self.view_is c.args.i c.args.new (get_or_default c.self.inside.values.items c.args.i None c.index.result.now at.0 ∙ sym c.index.ensures ∙ c.in_default.is))
+    sym (lesser_none g.A.PathAlgebra.order c.self.inside.values.items c.self.inside.hops.items c.self.inside.parents.items c.args.self.now c.self.invariant c.self.view_is c.args.i
+    c.args.new (get_or_default c.self.inside.values.items c.args.i None c.index.result.now at.0 ∙ sym c.index.ensures ∙ c.in_default.is))
 
 pub returns-then-not-no_worse : goal.returns-then-not-no_worse
 returns-then-not-no_worse g c =
     let at = place_inside c.self.inside.values.items c.self.inside.hops.items c.self.inside.parents.items c.args.self.now c.self.invariant c.self.view_is c.args.i c.requires in
-    sym (lesser_worse g.A.PathAlgebra.order c.self.inside.values.items c.self.inside.hops.items c.self.inside.parents.items c.args.self.now c.self.invariant c.self.view_is c.args.i c.args.new c.in-Some.old (get_or_default c.self.inside.values.items c.args.i None c.index.result.now at.0 ∙ sym c.index.ensures ∙ c.in-Some.is) (sym c.no_worse.ensures ∙ c.if-not-no_worse.true))
+    sym (lesser_worse g.A.PathAlgebra.order c.self.inside.values.items c.self.inside.hops.items c.self.inside.parents.items c.args.self.now c.self.invariant c.self.view_is c.args.i
+    c.args.new c.in-Some.old (get_or_default c.self.inside.values.items c.args.i None c.index.result.now at.0 ∙ sym c.index.ensures ∙ c.in-Some.is)
+    (sym c.no_worse.ensures ∙ c.if-not-no_worse.true))
 
 pub returns-then-not-new-number : goal.returns-then-not-new-number
 returns-then-not-new-number g c =
     let at = place_inside c.self.inside.values.items c.self.inside.hops.items c.self.inside.parents.items c.args.self.now c.self.invariant c.self.view_is c.args.i c.requires in
     let there = get_or_default c.self.inside.hops.items c.args.i None c.index-then-no_worse.result.now at.1 ∙ sym c.index-then-no_worse.ensures in
-    sym (lesser_more g.A.PathAlgebra.order c.self.inside.values.items c.self.inside.hops.items c.self.inside.parents.items c.args.self.now c.self.invariant c.self.view_is c.args.i c.args.new c.in-Some.old (get_or_default c.self.inside.values.items c.args.i None c.index.result.now at.0 ∙ sym c.index.ensures ∙ c.in-Some.is) (sym c.no_worse.ensures ∙ c.if-not-no_worse.false) (sym c.no_worse-2.ensures ∙ c.if-no_worse.true) c.number.result
+    sym (lesser_more g.A.PathAlgebra.order c.self.inside.values.items c.self.inside.hops.items c.self.inside.parents.items c.args.self.now c.self.invariant c.self.view_is c.args.i
+    c.args.new c.in-Some.old (get_or_default c.self.inside.values.items c.args.i None c.index.result.now at.0 ∙ sym c.index.ensures ∙ c.in-Some.is)
+    (sym c.no_worse.ensures ∙ c.if-not-no_worse.false) (sym c.no_worse-2.ensures ∙ c.if-no_worse.true) c.number.result
     (c.number.ensures ∙ sym (ap (λ (o : Option ℕ). number_of o) there)) (lt-leb c.args.new.hops c.number.result c.if-not-new-number.true))
 
 pub returns : goal.returns
@@ -47,8 +52,12 @@ returns g c =
     elim c.else-no_worse.branch [
       | else-no_worse-via-then-no_worse+else-not-new-number w ↦
           let there = get_or_default c.self.inside.hops.items c.args.i None w.index-then-no_worse.result.now at.1 ∙ sym w.index-then-no_worse.ensures in
-          sym (lesser_ties g.A.PathAlgebra.order c.self.inside.values.items c.self.inside.hops.items c.self.inside.parents.items c.args.self.now c.self.invariant c.self.view_is c.args.i c.args.new c.in-Some.old (get_or_default c.self.inside.values.items c.args.i None c.index.result.now at.0 ∙ sym c.index.ensures ∙ c.in-Some.is) (sym c.no_worse.ensures ∙ c.if-not-no_worse.false) (sym c.no_worse-2.ensures ∙ w.if-no_worse.true) w.number.result
+          sym (lesser_ties g.A.PathAlgebra.order c.self.inside.values.items c.self.inside.hops.items c.self.inside.parents.items c.args.self.now c.self.invariant c.self.view_is
+          c.args.i c.args.new c.in-Some.old (get_or_default c.self.inside.values.items c.args.i None c.index.result.now at.0 ∙ sym c.index.ensures ∙ c.in-Some.is)
+          (sym c.no_worse.ensures ∙ c.if-not-no_worse.false) (sym c.no_worse-2.ensures ∙ w.if-no_worse.true) w.number.result
           (w.number.ensures ∙ sym (ap (λ (o : Option ℕ). number_of o) there)) (le-leb c.args.new.hops w.number.result w.if-not-new-number.false) c.number-2.result parent)
       | else-no_worse-via-else-no_worse w ↦
-          sym (lesser_better g.A.PathAlgebra.order c.self.inside.values.items c.self.inside.hops.items c.self.inside.parents.items c.args.self.now c.self.invariant c.self.view_is c.args.i c.args.new c.in-Some.old (get_or_default c.self.inside.values.items c.args.i None c.index.result.now at.0 ∙ sym c.index.ensures ∙ c.in-Some.is) (sym c.no_worse.ensures ∙ c.if-not-no_worse.false) (sym c.no_worse-2.ensures ∙ w.if-no_worse.false) c.number-2.result parent)
+          sym (lesser_better g.A.PathAlgebra.order c.self.inside.values.items c.self.inside.hops.items c.self.inside.parents.items c.args.self.now c.self.invariant c.self.view_is
+          c.args.i c.args.new c.in-Some.old (get_or_default c.self.inside.values.items c.args.i None c.index.result.now at.0 ∙ sym c.index.ensures ∙ c.in-Some.is)
+          (sym c.no_worse.ensures ∙ c.if-not-no_worse.false) (sym c.no_worse-2.ensures ∙ w.if-no_worse.false) c.number-2.result parent)
     ]

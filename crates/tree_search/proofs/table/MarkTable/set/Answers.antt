@@ -18,7 +18,9 @@ index_mut-requires-3 g c =
     omega (arith, at.2, c.self.inside.parents.ok.0)
 
 pub invariant_of-self : goal.invariant_of-self
-invariant_of-self g c = rw (c.some.ensures, c.parent_slot.ensures) (given_rows c.self.inside.values.items c.self.inside.hops.items c.self.inside.parents.items c.args.self.now c.self.invariant c.self.view_is c.args.i c.args.mark)
+invariant_of-self g c = rw (c.some.ensures, c.parent_slot.ensures) (given_rows c.self.inside.values.items c.self.inside.hops.items c.self.inside.parents.items c.args.self.now
+    c.self.invariant c.self.view_is c.args.i c.args.mark)
 
 pub returns : goal.returns
-returns g c = rw (c.some.ensures, c.parent_slot.ensures) (given_mark c.self.inside.values.items c.self.inside.hops.items c.self.inside.parents.items c.args.self.now c.self.invariant c.self.view_is c.args.i c.args.mark)
+returns g c = rw (c.some.ensures, c.parent_slot.ensures) (given_mark c.self.inside.values.items c.self.inside.hops.items c.self.inside.parents.items c.args.self.now
+    c.self.invariant c.self.view_is c.args.i c.args.mark)

@@ -13,7 +13,7 @@ use Rattle.road_text.specs.Texts.{spelled, text_of, IsWord, list_words}
 use Rattle.road_text.specs.Words.{word_of}
 use Rattle.road_text.proofs.RoundTrip.{decimal_is_number, fields_join, lines_text, word_of_number, word_by_test}
 use Rattle.road_files.specs.QuestionFiles.{kind_named}
-use Rattle.road_files.specs.WrittenFiles.{kind_word}
+use Rattle.road_files.specs.WrittenQuestions.{kind_word}
 use Rattle.road_files.specs.declared.questions.Kind.{Kind}
 use Rattle.road_files.specs.declared.questions.Kind.TheVariants.{Sources, Pairs, Multi}
 use Rattle.answer_text.specs.declared.answers.Reached.{Reached}

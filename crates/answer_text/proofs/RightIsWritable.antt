@@ -13,9 +13,9 @@ use Rattle.road_text.specs.Rules.{text_read}
 use Rattle.road_files.specs.declared.questions.Kind.{Kind}
 use Rattle.road_files.specs.declared.questions.Kind.TheVariants.{Sources, Pairs, Multi}
 use Rattle.road_files.specs.declared.questions.Questions.{Questions}
-use Rattle.road_files.specs.Vertices.{IsVertexOf}
+use Rattle.graph_text.specs.Vertices.{IsVertexOf}
 use Rattle.road_files.specs.Asked.{Question, FromSource, BetweenPair, FromSources, asked_of, AreQuestionsOf}
-use Rattle.road_files.proofs.QuestionsAgain.{IsQuestionOf, questions_of}
+use Rattle.road_files.proofs.QuestionLaws.{IsQuestionOf, questions_of}
 use Rattle.answer_text.specs.declared.answers.Reached.{Reached}
 use Rattle.answer_text.specs.AnswerFiles.{answer_rules}
 use Rattle.answer_text.specs.AnswerText.{answers_text}

@@ -4,7 +4,7 @@ use Rattle.road_text.specs.Texts.{spelled, text_of, list_words}
 use Rattle.path_algebra.specs.declared.name.AlgebraName.{AlgebraName}
 use Rattle.path_algebra.specs.Names.{name_text}
 use Rattle.road_files.specs.declared.questions.Kind.{Kind}
-use Rattle.road_files.specs.WrittenFiles.{kind_word}
+use Rattle.road_files.specs.WrittenQuestions.{kind_word}
 use Rattle.answer_text.specs.declared.answers.Reached.{Reached}
 use Rattle.answer_text.specs.AnswerData.{FoundData, AnswerData, SourceAnswer, PairAnswer, SourcesAnswer, AnswerList}
 

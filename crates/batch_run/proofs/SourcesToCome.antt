@@ -9,7 +9,7 @@ use Rattle.std.proofs.lemmas.List.Elements.{All-nil, All-append, All-drop, All-h
 use Rattle.road_files.specs.Asked.{AskWithin, IsVertexOf, Question, FromSource, asked_of, of_source, of_pair, of_list, sources_of}
 use Rattle.road_files.specs.declared.questions.Questions.{Questions}
 use Rattle.road_files.specs.declared.questions.Questions.TheVariants as variants
-use Rattle.road_files.proofs.QuestionSources.{any_of, asked_within, in_sources, in_pairs, in_lists}
+use Rattle.road_files.proofs.QuestionLaws.{any_of, asked_within, in_sources, in_pairs, in_lists}
 use Rattle.batch_run.specs.Diffusions.{HasSource, sources_to_come}
 
 -- the rest of a list from an element of its prefix on

@@ -15,7 +15,7 @@ use Rattle.worker_fleet.specs.Groups.{HasShard, IsDone, Some_of}
 use Rattle.worker_fleet.specs.Turns.{IsOnItsFloor}
 use Rattle.road_graph.specs.GraphData.{GraphData}
 use Rattle.shard_store.specs.Plans.{PlanData}
-use Rattle.road_files.proofs.QuestionSources.{any_of}
+use Rattle.road_files.proofs.QuestionLaws.{any_of}
 use Rattle.batch_run.specs.Diffusions.{AreEnded}
 
 -- one more of each of two lists

@@ -4,7 +4,7 @@ use Rattle.road_graph.specs.GraphData.{GraphData}
 use Rattle.road_text.specs.Reads.{IsNumberFrom}
 use Rattle.road_text.specs.Rules.{Rules, text_read}
 use Rattle.road_files.specs.Asked.{Asked}
-use Rattle.road_files.specs.GraphFiles.{gr_rules}
+use Rattle.graph_text.specs.GraphFiles.{gr_rules}
 use Rattle.road_files.specs.QuestionFiles.{question_rules}
 use Rattle.road_files.specs.BundleFiles.{bundle_rules}
 use Rattle.path_algebra.specs.Algebra.{Algebra}

@@ -5,7 +5,8 @@ ghost use Rattle.road_files.specs.Asked.{AreQuestionsOf, asked_of};
 ghost use Rattle.batch_run.specs.Ran.{IsPairOf, IsGraphFault, IsQuestionsFault, IsRoadNumber};
 
 use crate::faults::{File, RunFault, fault_in};
-use road_files::{FromArcs, Questions, read_gr_as, read_questions};
+use graph_text::{FromArcs, read_gr_as};
+use road_files::{Questions, read_questions};
 use road_graph::Graph;
 use road_text::RoadRead;
 use std::alloc::Global;

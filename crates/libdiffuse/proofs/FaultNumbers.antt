@@ -5,7 +5,7 @@ use Rattle.road_graph.specs.GraphData.{GraphData}
 use Rattle.road_text.specs.declared.faults.ReadFault.{ReadFault}
 use Rattle.road_text.specs.Reads.{IsNumberFrom, IsReadNumber, ReadsFault, TellsFailure}
 use Rattle.road_text.specs.Rules.{text_read}
-use Rattle.road_files.specs.GraphFiles.{gr_rules}
+use Rattle.graph_text.specs.GraphFiles.{gr_rules}
 use Rattle.libdiffuse.specs.Texts.{IsReadFaultOf}
 
 cases_number : (n : ℕ) → IsNumberFrom 10 19 n → (n ≡ 1 → ⊥) → (n ≡ 3) ⊎ ((n ≡ 2) ⊎ ((10 ≤ n) × (n ≤ 19)))

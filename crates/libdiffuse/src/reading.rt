@@ -3,7 +3,7 @@
 ghost use Rattle.std.specs.Prelude.{◌≡◌, ◌⊎◌, ◌≢◌, ◌↔◌, ◌∷◌, [], pos, true, Ok, Some, IfOk, IfErr};
 ghost use Rattle.std.specs.Arc.{arc_value};
 ghost use Rattle.road_text.specs.Rules.{text_read};
-ghost use Rattle.road_files.specs.GraphFiles.{gr_rules};
+ghost use Rattle.graph_text.specs.GraphFiles.{gr_rules};
 ghost use Rattle.libdiffuse.specs.Answers.{IsOneOf};
 ghost use Rattle.libdiffuse.specs.Holding.{has_graph};
 ghost use Rattle.libdiffuse.specs.Texts.{IsGraphOf, IsReadFaultOf, IsFaultReported};
@@ -12,7 +12,7 @@ use crate::handle::{DiffuseGraph, put};
 use crate::owners::owned;
 use crate::status::{DONE, MEMORY, OPEN};
 use ghost_count::Count;
-use road_files::read_gr_as;
+use graph_text::read_gr_as;
 use road_graph::OutGraph;
 use road_text::{ReadFailed, ReadFault, RoadRead};
 use std::alloc::{AllocError, Global};

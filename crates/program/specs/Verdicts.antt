@@ -5,7 +5,7 @@ use Rattle.road_text.specs.Reads.{IsNumberFrom}
 use Rattle.road_text.specs.Rules.{text_read}
 use Rattle.road_text.specs.Texts.{spelled}
 use Rattle.road_files.specs.Asked.{Asked}
-use Rattle.road_files.specs.GraphFiles.{gr_rules}
+use Rattle.graph_text.specs.GraphFiles.{gr_rules}
 use Rattle.road_files.specs.QuestionFiles.{question_rules}
 use Rattle.path_algebra.specs.declared.name.AlgebraName.TheVariants.{Own}
 use Rattle.answer_text.specs.AnswerFiles.{answer_rules}

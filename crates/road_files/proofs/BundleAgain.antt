@@ -8,17 +8,17 @@ use Rattle.road_graph.specs.GraphData.{GraphData, IsGraph}
 use Rattle.road_text.specs.Rules.{◌>>=◌, text_value, text_read}
 use Rattle.road_text.specs.Texts.{text_of, spelled, AreLines}
 use Rattle.road_text.specs.Words.{word_of}
+use Rattle.graph_text.specs.GraphFiles.{RoadsSoFar, gr_line, gr_rules}
+use Rattle.graph_text.specs.WrittenGraphs.{arc_words, graph_lines, gr_text}
+use Rattle.graph_text.proofs.WrittenLines.{after, after_append, first_step, value_again, read_again, graph_after, graph_are_lines, graph_length}
 use Rattle.road_files.specs.declared.questions.Kind.{Kind}
 use Rattle.road_files.specs.declared.questions.Kind.TheVariants.{Multi}
 use Rattle.road_files.specs.declared.questions.Questions.{Questions}
 use Rattle.road_files.specs.Asked.{Asked, asked_of, AreQuestionsOf}
-use Rattle.road_files.specs.GraphFiles.{RoadsSoFar, gr_line, gr_rules}
 use Rattle.road_files.specs.QuestionFiles.{AskedSoFar, question_rules}
 use Rattle.road_files.specs.BundleFiles.{InGraph, InQuestions, begins_questions, bundle_rules, bundle_end}
-use Rattle.road_files.specs.WrittenFiles.{arc_words, graph_lines, gr_text, problem_words, question_words, question_lines, questions_text}
-use Rattle.road_files.proofs.LinesAgain.{after, after_append, first_step, value_again, read_again}
-use Rattle.road_files.proofs.GraphAgain.{graph_after, graph_are_lines, graph_length}
-use Rattle.road_files.proofs.QuestionsAgain.{questions_of, problem_step, questions_after, questions_are_lines, problem_is_line, short_text}
+use Rattle.road_files.specs.WrittenQuestions.{problem_words, question_words, question_lines, questions_text}
+use Rattle.road_files.proofs.QuestionLaws.{questions_of, problem_step, questions_after, questions_are_lines, problem_is_line, short_text}
 
 -- the lines do not end the graph part
 abbrev StaysInGraph : List (List (List ℕ)) → Type 0

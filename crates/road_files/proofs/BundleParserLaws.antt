@@ -12,19 +12,18 @@ use Rattle.road_text.specs.Slots.{word_in}
 use Rattle.road_text.specs.Takes.{ShowsLine}
 use Rattle.road_text.specs.Words.{Word, word_of}
 use Rattle.road_text.proofs.WordLaws.{held, held_words, short_word}
+use Rattle.graph_text.specs.declared.graph_parser.GraphParser.{GraphParser}
+use Rattle.graph_text.specs.GraphFiles.{RoadsSoFar, gr_line}
+use Rattle.graph_text.specs.GraphTakes.{roads_so_far, taken_of}
+use Rattle.graph_text.proofs.RuleLaws.{few, line_held}
 use Rattle.road_files.specs.declared.questions.Questions.{Questions}
 use Rattle.road_files.specs.declared.bundle_part.BundlePart.{BundlePart}
 use Rattle.road_files.specs.declared.bundle_part.BundlePart.TheVariants as parts
 use Rattle.road_files.specs.Asked.{AreQuestionsOf}
-use Rattle.road_files.specs.declared.graph_parser.GraphParser.{GraphParser}
-use Rattle.road_files.specs.GraphFiles.{RoadsSoFar, gr_line}
-use Rattle.road_files.specs.GraphTakes.{roads_so_far, taken_of}
 use Rattle.road_files.specs.QuestionFiles.{question_line, question_line_of}
 use Rattle.road_files.specs.QuestionTakes.{sources_given, questions_begun}
 use Rattle.road_files.specs.BundleFiles.{InGraph, InQuestions, begins_questions, bundle_line, bundle_with, bundle_rules}
 use Rattle.road_files.specs.BundleTakes.{bundle_so_far, kept_line, PartSoFar, GivesBundle}
-use Rattle.road_files.proofs.GraphParserLaws.{few}
-use Rattle.road_files.proofs.HeldGraphLines.{line_held}
 use Rattle.road_files.proofs.HeldQuestionLines.{problem_held}
 use Rattle.road_files.proofs.QuestionParserLaws.{list_rule}
 

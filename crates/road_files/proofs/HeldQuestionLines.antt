@@ -5,10 +5,10 @@ use Rattle.std.proofs.lemmas.List.{length-map}
 use Rattle.std.specs.Str.{bytes_eq}
 use Rattle.road_text.specs.Words.{Word, word_of, held_word}
 use Rattle.road_text.proofs.WordLaws.{held, held_words, short_word, first_byte, number_held}
+use Rattle.graph_text.proofs.RuleLaws.{vertex_held}
 use Rattle.road_files.specs.declared.questions.Kind.{Kind}
 use Rattle.road_files.specs.declared.questions.Kind.TheVariants.{Sources, Pairs, Multi}
 use Rattle.road_files.specs.QuestionFiles.{AskedSoFar, question_problem, vertices_in, source_of_line, pair_of_line, sources_of_line, one_question, begins_list, question_line_of, question_line}
-use Rattle.road_files.proofs.HeldNumbers.{vertex_held}
 
 pub problem_held : (only : Option Kind) (s : Option AskedSoFar) (ws : List Word) → question_problem only s (take 6 (map held ws)) ≡ question_problem only s ws
 unfolding question_problem

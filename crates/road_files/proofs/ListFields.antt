@@ -4,11 +4,11 @@ use Rattle.std.specs.Result.{OnOk}
 use Rattle.road_text.specs.Rules.{◌>>=◌}
 use Rattle.road_text.specs.Words.{Word, word_of, held_word}
 use Rattle.road_text.proofs.ListLaws.{words_push, after_first}
+use Rattle.graph_text.specs.Numbers.{vertex_in}
+use Rattle.graph_text.proofs.RuleLaws.{vertex_held}
 use Rattle.road_files.specs.declared.present_list.PresentList.{PresentList}
-use Rattle.road_files.specs.Numbers.{vertex_in}
 use Rattle.road_files.specs.QuestionFiles.{vertices_in, one_vertex_more, begins_list}
 use Rattle.road_files.specs.QuestionTakes.{ListSoFar, sources_given}
-use Rattle.road_files.proofs.HeldNumbers.{vertex_held}
 
 vertices_push : (n : ℕ) (ws : List Word) (w : Word) → vertices_in n (ws ++ w ∷ []) ≡ one_vertex_more n (vertices_in n ws) w.number
 vertices_push n = words_push (λ w. vertex_in n w.number) (vertices_in n) refl (λ w ws. refl)

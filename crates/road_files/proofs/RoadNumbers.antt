@@ -1,64 +1,12 @@
--- Graphs, questions and bundles have faults of the numbers 10 to 19 alone.
-use Rattle.std.proofs.Common.{if◌then◌else◌, ℕ, ◌≤◌, List, ◌∷◌, [], length, drop, map, Bool, Option, Some, None, Result, Ok, Err, arith}
-use Rattle.road_text.specs.Rules.{◌>>=◌, unless}
+-- Questions and bundles have faults of the numbers 10 to 19 alone, as graphs do.
+use Rattle.std.proofs.Common.{ℕ, List, ◌∷◌, [], length, drop, map, Bool, Option, Some, None, Result, arith}
 use Rattle.road_text.specs.Words.{Word, word_of}
-use Rattle.road_text.proofs.ParserLaws.{IsOwn, own_then, own_unless, own_if, own_up_to}
+use Rattle.graph_text.specs.Numbers.{vertex_in}
+use Rattle.graph_text.proofs.RuleLaws.{IsRoad, fine, wrong, step, test, either, number, vertex, graph_line, whole}
 use Rattle.road_files.specs.declared.questions.Kind.{Kind}
 use Rattle.road_files.specs.Asked.{Question}
-use Rattle.road_files.specs.Numbers.{up_to, vertex_in}
-use Rattle.road_files.specs.GraphFiles.{RoadsSoFar, roads_before, gr_problem, one_arc, gr_line, gr_whole, gr_rules}
 use Rattle.road_files.specs.QuestionFiles.{AskedSoFar, may_be, accepted, question_problem, asked_before, begins_list, vertices_in, source_of_line, pair_of_line, sources_of_line, one_question, question_line, question_line_of, question_end, question_rules}
 use Rattle.road_files.specs.BundleFiles.{BundleSoFar, InGraph, InQuestions, bundle_line, bundle_end}
-
--- no fault, or one of these
-abbrev IsRoad : {A : Type 0} → Result A ℕ → Type 0
-IsRoad r = IsOwn 10 19 r
-
-fine : {A : Type 0} (x : A) → IsRoad (Ok x)
-fine x = record { own = tt }
-
-wrong : {A : Type 0} (k : ℕ) → 10 ≤ k → k ≤ 19 → IsRoad {A = A} (Err k)
-wrong k l g = record { own = (l, g) }
-
-step : {A B : Type 0} (r : Result A ℕ) (f : A → Result B ℕ) → IsRoad r → ((x : A) → IsRoad (f x)) → IsRoad (r >>= f)
-step r f h more = own_then 10 19 r f h more
-
-test : {B : Type 0} (b : Bool) (k : ℕ) (f : Unit {0} → Result B ℕ) → 10 ≤ k → k ≤ 19 → IsRoad (f tt) → IsRoad (unless b k >>= f)
-test b k f l g more = own_unless 10 19 b k f l g more
-
-either : {A : Type 0} (b : Bool) (x y : Result A ℕ) → IsRoad x → IsRoad y → IsRoad (if b then x else y)
-either b x y p q = own_if 10 19 b x y p q
-
-number : (limit : ℕ) (o : Option ℕ) → IsRoad (up_to limit o)
-number limit o = own_up_to 10 19 15 16 limit o (omega arith, omega arith) (omega arith, omega arith)
-
-vertex : (n : ℕ) (o : Option ℕ) → IsRoad (vertex_in n o)
-vertex n None = wrong 15 (omega arith) (omega arith)
-vertex n (Some v) = either _ _ _ (wrong 17 (omega arith) (omega arith)) (fine v)
-
-before : (s : Option RoadsSoFar) → IsRoad (roads_before s)
-before None = wrong 10 (omega arith) (omega arith)
-before (Some s) = fine s
-
-problem : (s : Option RoadsSoFar) (ws : List Word) → IsRoad (gr_problem s ws)
-unfolding gr_problem
-problem s ws = search (arith, step, test, number, fine) depth 40
-
-arc : (r : RoadsSoFar) (ws : List Word) → IsRoad (one_arc r ws)
-unfolding one_arc
-arc r ws = search (arith, step, test, number, vertex, fine) depth 40
-
--- a line of a graph
-pub graph_line : (s : Option RoadsSoFar) (ws : List Word) → IsRoad (gr_line s ws)
-unfolding gr_line
-graph_line s ws = search (arith, step, either, before, problem, arc, fine, wrong) depth 40
-
-whole : (s : Option RoadsSoFar) → IsRoad (gr_whole s)
-whole s = search (arith, step, test, before, fine) depth 40
-
--- its end
-pub graph_end : (s : Option RoadsSoFar) → IsRoad (gr_rules.end s)
-graph_end s = search (step, whole, fine) depth 40
 
 kind : (only k : Option Kind) → IsRoad (accepted only k)
 kind only None = wrong 12 (omega arith) (omega arith)

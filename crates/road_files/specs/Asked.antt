@@ -2,7 +2,8 @@
 use Rattle.std.specs.Prelude.{ℕ, ◌≤◌, List, [], ◌∷◌, length, map, All, Vec}
 use Rattle.std.specs.declared.alloc.Global.{Global}
 use Rattle.std.specs.Coded.{Π_prop}
-pub use Rattle.road_files.specs.Vertices.{IsVertexOf, IsVertexPairOf, AreSourcesOf}
+pub use Rattle.graph_text.specs.Vertices.{IsVertexOf}
+pub use Rattle.road_files.specs.Vertices.{IsVertexPairOf, AreSourcesOf}
 use Rattle.road_files.specs.Vertices.{are_vertices-prop, are_pairs-prop, AreSourcesOf-prop}
 use Rattle.road_files.specs.declared.questions.Kind.{Kind}
 use Rattle.road_files.specs.declared.questions.Kind.TheVariants as kinds

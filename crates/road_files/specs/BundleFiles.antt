@@ -3,9 +3,9 @@ use Rattle.std.specs.Prelude.{ℕ, ◌&&◌, List, length, map, if◌then◌else
 use Rattle.road_graph.specs.GraphData.{GraphData}
 use Rattle.road_text.specs.Rules.{◌>>=◌, Rules}
 use Rattle.road_text.specs.Words.{Word, word_of, word_at}
+use Rattle.graph_text.specs.GraphFiles.{RoadsSoFar, gr_line, gr_whole, graph_read}
 use Rattle.road_files.specs.Asked.{Asked, asked_of}
 use Rattle.road_files.specs.declared.questions.Questions.{Questions}
-use Rattle.road_files.specs.GraphFiles.{RoadsSoFar, gr_line, gr_whole, graph_read}
 use Rattle.road_files.specs.QuestionFiles.{AskedSoFar, question_problem, question_line_of, begins_list, vertices_in, question_end}
 
 -- a graph and questions in memory as plain data

@@ -5,11 +5,11 @@ use Rattle.road_text.specs.declared.faults.ReadFault.{ReadFault}
 use Rattle.road_text.specs.Takes.{GivesBy}
 use Rattle.road_text.specs.Meaning.{Meaning}
 use Rattle.road_text.specs.Words.{Word}
+use Rattle.graph_text.specs.GraphTakes.{roads_so_far, taken_of}
 use Rattle.road_files.specs.declared.questions.Questions.{Questions}
 use Rattle.road_files.specs.declared.bundle_part.BundlePart.{BundlePart}
 use Rattle.road_files.specs.declared.bundle_part.BundlePart.TheVariants as parts
 use Rattle.road_files.specs.Asked.{AreQuestionsOf}
-use Rattle.road_files.specs.GraphTakes.{roads_so_far, taken_of}
 use Rattle.road_files.specs.QuestionTakes.{ListSoFar, sources_given, questions_begun}
 use Rattle.road_files.specs.BundleFiles.{BundleSoFar, InGraph, InQuestions, begins_questions, first_question_line, graph_part_line, question_part_line, bundle_with, bundle_rules}
 

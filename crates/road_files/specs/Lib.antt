@@ -1,13 +1,9 @@
 pub mod Vertices
 pub mod Asked
-pub mod Numbers
-pub mod GraphFiles
-pub mod GraphTakes
 pub mod QuestionFiles
 pub mod QuestionTakes
 pub mod BundleFiles
 pub mod BundleTakes
-pub mod WrittenFiles
-pub mod GraphLines
+pub mod WrittenQuestions
 pub mod ServiceText
 pub mod RequestTakes

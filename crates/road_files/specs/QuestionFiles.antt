@@ -3,10 +3,10 @@
 use Rattle.std.specs.Prelude.{ℕ, ◌==◌, ◌&&◌, not, Bool, true, false, List, [], ◌∷◌, ◌++◌, length, drop, map, slice_index, if◌then◌else◌, Option, Some, None, nat_lt, is_none, Result, Ok, Err, codes, bytes_eq}
 use Rattle.road_text.specs.Rules.{◌>>=◌, unless, Rules}
 use Rattle.road_text.specs.Words.{Word, word_of, word_at}
+use Rattle.graph_text.specs.Numbers.{up_to, vertex_in}
 use Rattle.road_files.specs.declared.questions.Kind.{Kind}
 use Rattle.road_files.specs.declared.questions.Kind.TheVariants.{Sources, Pairs, Multi}
 use Rattle.road_files.specs.Asked.{Question, FromSource, BetweenPair, FromSources, Asked}
-use Rattle.road_files.specs.Numbers.{up_to, vertex_in}
 
 -- the kind and number of questions that the problem line announces, and the questions so far
 pub record AskedSoFar : Type 0 where

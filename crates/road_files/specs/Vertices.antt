@@ -1,10 +1,7 @@
--- Vertices of a graph, by its number of vertices.
+-- Pairs and lists of vertices of a graph, by its number of vertices.
 use Rattle.std.specs.Prelude.{ℕ, ◌≤◌, List, length, All}
 use Rattle.std.specs.Coded.{×_prop, Π_prop, le_prop}
-
--- the vertices of a graph with n are 1 to n
-abbrev pub IsVertexOf : ℕ → ℕ → Type 0
-IsVertexOf n v = (1 ≤ v) × (v ≤ n)
+use Rattle.graph_text.specs.Vertices.{IsVertexOf}
 
 -- both are vertices of the graph
 abbrev pub IsVertexPairOf : ℕ → ℕ × ℕ → Type 0

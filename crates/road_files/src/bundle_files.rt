@@ -5,8 +5,8 @@ ghost use Rattle.road_files.specs.Asked.{AreQuestionsOf};
 ghost use Rattle.road_files.specs.BundleFiles.{bundle_of, bundle_with, bundle_rules};
 
 use crate::bundle_parser::BundleParser;
-use crate::from_arcs::FromArcs;
 use crate::questions::Questions;
+use graph_text::FromArcs;
 use road_graph::Graph;
 use road_text::{ReadFault, RoadRead, read_whole};
 use std::alloc::Global;

@@ -6,11 +6,9 @@ ghost use Rattle.road_text.specs.Takes.{Leaves, Breaks};
 ghost use Rattle.road_files.specs.Asked.{asked_of, AreQuestionsOf};
 ghost use Rattle.road_files.specs.BundleFiles.{InGraph, InQuestions, first_question_line, question_part_line, bundle_end};
 
-use crate::from_arcs::FromArcs;
-use crate::graph_parser::GraphParser;
 use crate::question_parser::QuestionParser;
 use crate::questions::Questions;
-use crate::taken_roads::TakenRoads;
+use graph_text::{FromArcs, GraphParser, TakenRoads};
 use road_text::{LineFault, Slot};
 use std::alloc::Global;
 
@@ -24,7 +22,7 @@ pub struct QuestionPart {
 }
 
 impl QuestionPart {
-    ghost use Rattle.road_files.specs.GraphTakes.{roads_so_far, taken_of};
+    ghost use Rattle.graph_text.specs.GraphTakes.{roads_so_far, taken_of};
     ghost use Rattle.road_files.specs.QuestionTakes.{ListSoFar, sources_given, questions_begun};
 
     /// The question part that begins at this line. The graph must be whole before it.

@@ -1,27 +1,19 @@
-//! Theorems about the definitions: what is written is read back, and the lines of a graph file say what the graph is.
+//! Theorems about the definitions: what is written is read back.
 ghost use Rattle.std.specs.Prelude.{◌≡◌, ◌≢◌, ℕ, ◌≤◌, ◌++◌, List, Ok, length, Option, true, false};
 ghost use Rattle.road_graph.specs.GraphData.{GraphData, IsGraph};
-ghost use Rattle.road_text.specs.Lines.{lines};
 ghost use Rattle.road_text.specs.Rules.{text_read};
+ghost use Rattle.graph_text.specs.WrittenGraphs.{gr_text};
 ghost use Rattle.road_files.specs.declared.questions.Questions.{Questions};
 ghost use Rattle.road_files.specs.Asked.{asked_of, AreQuestionsOf};
 ghost use Rattle.road_files.specs.BundleFiles.{bundle_rules};
-ghost use Rattle.road_files.specs.GraphFiles.{gr_rules};
-ghost use Rattle.road_files.specs.GraphLines.{SayGraph};
 ghost use Rattle.road_files.specs.QuestionFiles.{question_rules, may_be};
-ghost use Rattle.road_files.specs.WrittenFiles.{gr_text, questions_text};
+ghost use Rattle.road_files.specs.WrittenQuestions.{questions_text};
 
 use crate::questions::Kind;
 
-/// The text of a graph has the graph as its value.
-#[tactic(auto, using(crate::proofs::GraphAgain::graph_again))]
-pub fn graph_read_again()
-    ensures { (g : GraphData) → IsGraph g → text_read gr_rules (gr_text g) ≡ Ok g }
-{}
-
 /// The text of questions over a graph with n vertices has the questions as its value, if the file may be of their
 /// kind and the text is not too long. Only lists of sources can make it too long.
-#[tactic(auto, using(crate::proofs::QuestionsAgain::questions_again, crate::proofs::QuestionsAgain::short_text))]
+#[tactic(auto, using(crate::proofs::QuestionLaws::questions_again, crate::proofs::QuestionLaws::short_text))]
 pub fn questions_read_again()
     ensures value { (n : ℕ) (only : Option Kind) (q : Questions) → n ≤ 33554432 → may_be only (asked_of q).kind ≡ true → AreQuestionsOf n q → length (questions_text (asked_of q)) ≤ 4294967296 →
         text_read (question_rules n only) (questions_text (asked_of q)) ≡ Ok (asked_of q) }
@@ -38,11 +30,4 @@ pub fn bundle_read_again()
     ensures short { (g : GraphData) (q : Questions) → IsGraph g → AreQuestionsOf g.vertices q →
         (asked_of q).kind ≢ Kind.Multi → length (gr_text g ++ questions_text (asked_of q)) ≤
         4294967296 }
-{}
-
-/// The arcs of a graph that is read from a text are those of its arc lines, in order. Its one problem line says how many
-/// vertices and arcs there are.
-pub fn lines_say_the_graph()
-    ensures { (bytes : List ℕ) (g : GraphData) → text_read gr_rules bytes ≡ Ok g →
-        SayGraph (lines false bytes) g }
 {}

@@ -3,12 +3,13 @@ ghost use Rattle.std.specs.Prelude.{◌≡◌, ℕ, ◌+◌, ◌<◌, ◌≤◌,
 ghost use Rattle.road_text.specs.Slots.{word_in};
 ghost use Rattle.road_text.specs.Takes.{Breaks};
 ghost use Rattle.road_text.specs.Words.{held_word};
+ghost use Rattle.graph_text.specs.Vertices.{IsVertexOf};
 ghost use Rattle.road_files.specs.Asked.{FromSources};
 ghost use Rattle.road_files.specs.QuestionFiles.{one_vertex_more, sources_of_line};
-ghost use Rattle.road_files.specs.Vertices.{AreSourcesOf, IsVertexOf};
+ghost use Rattle.road_files.specs.Vertices.{AreSourcesOf};
 
-use crate::number_fields::vertex_of;
-use crate::rules::FIELDS;
+use graph_text::rules::FIELDS;
+use graph_text::vertex_of;
 use road_graph::Vertex;
 use road_text::{LineFault, Rule, Slot};
 use std::alloc::Global;

@@ -6,11 +6,11 @@ ghost use Rattle.road_text.specs.Takes.{Agrees, Leaves, Breaks};
 ghost use Rattle.road_files.specs.Asked.{asked_of, AskWithin};
 ghost use Rattle.road_files.specs.QuestionFiles.{accepted, may_be, source_of_line, pair_of_line, sources_of_line, one_question, question_problem, question_line_of, question_end};
 
-use crate::number_fields::number_up_to;
 use crate::present_list::PresentList;
 use crate::questions::{Kind, Questions};
-use crate::rules::{BAD_PROBLEM, NO_PROBLEM, SECOND_PROBLEM, UNKNOWN_LINE};
 use crate::taken_questions::TakenQuestions;
+use graph_text::number_up_to;
+use graph_text::rules::{BAD_PROBLEM, NO_PROBLEM, SECOND_PROBLEM, UNKNOWN_LINE};
 use road_text::{LineFault, LineParser, Slot};
 use std::alloc::Global;
 

@@ -19,7 +19,7 @@ impl Kind {
     ghost use Rattle.std.specs.Prelude.{◌≡◌, ◌≤◌, length};
     ghost use Rattle.road_text.specs.Slots.{word_in};
     ghost use Rattle.road_files.specs.QuestionFiles.{kind_named};
-    ghost use Rattle.road_files.specs.WrittenFiles.{kind_word};
+    ghost use Rattle.road_files.specs.WrittenQuestions.{kind_word};
 
     /// The word that names the kind.
     pub fn word(self) -> &'static str

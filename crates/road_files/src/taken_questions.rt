@@ -2,14 +2,15 @@
 ghost use Rattle.std.specs.Prelude.{◌≡◌, ◌≤◌, All, length, map, IfOk, MatchResult, Some, true, Ok};
 ghost use Rattle.road_text.specs.Slots.{word_in};
 ghost use Rattle.road_text.specs.Takes.{Leaves, Breaks};
+ghost use Rattle.graph_text.specs.Vertices.{IsVertexOf};
 ghost use Rattle.road_files.specs.Asked.{FromSource, of_source, of_pair, of_list, asked_of, AreQuestionsOf, AskWithin, AskWithin-prop};
 ghost use Rattle.road_files.specs.QuestionFiles.{source_of_line, pair_of_line, sources_of_line, one_more, one_question, question_end};
-ghost use Rattle.road_files.specs.Vertices.{IsVertexOf, IsVertexPairOf, AreSourcesOf};
+ghost use Rattle.road_files.specs.Vertices.{IsVertexPairOf, AreSourcesOf};
 
-use crate::number_fields::vertex_of;
 use crate::present_list::PresentList;
 use crate::questions::{Kind, Questions};
-use crate::rules::{FIELDS, TOO_FEW, TOO_MANY, UNKNOWN_LINE};
+use graph_text::rules::{FIELDS, TOO_FEW, TOO_MANY, UNKNOWN_LINE};
+use graph_text::vertex_of;
 use road_graph::Vertex;
 use road_text::{LineFault, Slot};
 use std::alloc::Global;

@@ -1,40 +1,14 @@
-//! Writes road graphs and questions, each file in its one spelling. No writer allocates memory.
+//! Writes questions, each file in its one spelling. No writer allocates memory.
 ghost use Rattle.std.specs.Prelude.{◌≡◌, ◌≤◌, ◌+◌, ◌∷◌, ℕ, List, length, map};
-ghost use Rattle.road_graph.specs.GraphData.{GraphData};
 ghost use Rattle.road_text.specs.Texts.{spelled, list_words, spaced, text_of};
 ghost use Rattle.road_text.specs.Written.{WritesText};
 ghost use Rattle.road_files.specs.Asked.{of_source, of_pair, of_list};
-ghost use Rattle.road_files.specs.WrittenFiles.{gr_text, questions_text, arc_words, question_words};
+ghost use Rattle.road_files.specs.WrittenQuestions.{questions_text, question_words};
 
 use crate::questions::Kind;
-use crate::written_lines::{
-    fill_arc, fill_pair, fill_source, fill_vertex, line_of_graph, line_of_problem,
-};
-use road_graph::{ArcNo, Graph, Vertex};
+use crate::written_lines::{fill_pair, fill_source, fill_vertex, line_of_problem};
+use road_graph::Vertex;
 use road_text::{Line, RoadWrite, WriteFault, write_bytes};
-
-fn write_arcs<W: RoadWrite>(to: &mut W, graph: &Graph) -> Result<(), WriteFault>
-    ensures { WritesText W.written W.failures to.old to.new (text_of (map arc_words graph.now.arcs))
-        result }
-{
-    let mut line = Line::new();
-    // At most 2 ^ 27 arcs: their numbers fit.
-    graph.holds();
-    for number in 0..graph.arcs() as u32 {
-        fill_arc(&mut line, graph.arc(ArcNo(number + 1)));
-        write_bytes(to, line.as_str().as_bytes())?;
-    }
-    Ok(())
-}
-
-/// Writes a graph as a graph file: the whole text, or a prefix of it if a write fails.
-pub fn write_gr<W: RoadWrite>(to: &mut W, graph: &Graph) -> Result<(), WriteFault>
-    ensures { WritesText W.written W.failures to.old to.new (gr_text graph.now) result }
-{
-    let line = line_of_graph(graph.vertices(), graph.arcs() as u64);
-    write_bytes(to, line.as_str().as_bytes())?;
-    write_arcs(to, graph)
-}
 
 fn write_sources<W: RoadWrite>(to: &mut W, sources: &[Vertex]) -> Result<(), WriteFault>
     ensures { WritesText W.written W.failures to.old to.new

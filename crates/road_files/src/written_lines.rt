@@ -1,38 +1,12 @@
-//! Lines of files, each built before it is written.
+//! Lines of question files, each built before it is written.
 ghost use Rattle.std.specs.Prelude.{◌≡◌, ◌∷◌, ◌≤◌, [], codes, decimal, length};
 ghost use Rattle.road_text.specs.Texts.{spelled};
-ghost use Rattle.road_files.specs.WrittenFiles.{graph_words, arc_words, problem_words, question_words};
+ghost use Rattle.road_files.specs.WrittenQuestions.{problem_words, question_words};
 ghost use Rattle.road_files.specs.Asked.{FromSource, BetweenPair};
 
 use crate::questions::Kind;
-use road_graph::{RoadArc, Vertex};
+use road_graph::Vertex;
 use road_text::{Line, push_spaced};
-
-/// The problem line of a graph file.
-#[tactic(auto, unfolding(road_text::specs::Texts::spelled))]
-pub fn line_of_graph(vertices: u32, arcs: u64) -> Line
-    ensures { result.bytes ≡ spelled (graph_words vertices arcs) }
-{
-    let mut line = Line::new();
-    line.push_str("p sp");
-    push_spaced(&mut line, u64::from(vertices));
-    push_spaced(&mut line, arcs);
-    line.push_str("\n");
-    line
-}
-
-/// The line of an arc.
-#[tactic(auto, unfolding(road_text::specs::Texts::spelled))]
-pub fn fill_arc(line: &mut Line, arc: RoadArc)
-    ensures { line.new.bytes ≡ spelled (arc_words arc) }
-{
-    line.clear();
-    line.push_str("a");
-    push_spaced(line, u64::from(arc.tail.0));
-    push_spaced(line, u64::from(arc.head.0));
-    push_spaced(line, u64::from(arc.weight));
-    line.push_str("\n");
-}
 
 /// The problem line of a question file.
 #[tactic(auto, unfolding(road_text::specs::Texts::spelled))]

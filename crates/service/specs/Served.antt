@@ -2,7 +2,7 @@
 use Rattle.std.specs.Prelude.{◌≡◌, ◌≢◌, ℕ, ◌+◌, ◌≤◌, ◌↔◌, ◌⊎◌, Bool, List, [], Option, Result, Err, OnOk, IfErr}
 use Rattle.std.specs.Io.KnownBytes.{IsAtEnd}
 use Rattle.road_graph.specs.GraphData.{GraphData}
-use Rattle.road_files.specs.GraphFiles.{gr_rules}
+use Rattle.graph_text.specs.GraphFiles.{gr_rules}
 use Rattle.path_algebra.specs.Algebra.{Algebra}
 use Rattle.batch_run.specs.declared.faults.File.TheVariants.{Graph, Questions, NoFile}
 use Rattle.batch_run.specs.declared.faults.RunFault.{RunFault}

@@ -2,7 +2,7 @@
 ghost use Rattle.std.specs.Prelude.{◌<◌};
 
 use crate::ends::Pieces;
-use road_files::{read_gr, write_gr};
+use graph_text::{read_gr, write_gr};
 use road_text::Plain;
 use std::alloc::{AllocError, Global};
 use std::process::Abort;

@@ -2,9 +2,10 @@
 ghost use Rattle.std.specs.Prelude.{◌≡◌, ◌<◌, ◌≤◌, ◌+◌, Some, length};
 
 use crate::ends::Pieces;
+use graph_text::{read_gr, write_gr};
 use road_files::{
-    Kind, Questions, read_bundle, read_gr, read_ms, read_p2p, read_questions, read_ss, write_gr,
-    write_ms, write_p2p, write_ss,
+    Kind, Questions, read_bundle, read_ms, read_p2p, read_questions, read_ss, write_ms, write_p2p,
+    write_ss,
 };
 use road_text::{Plain, ReadFailed, RoadRead};
 use std::alloc::{AllocError, Global};

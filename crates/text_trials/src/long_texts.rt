@@ -1,7 +1,7 @@
 //! Texts of 2^32 bytes and more, and a reader of std that fails once.
 
 use ghost_count::Count;
-use road_files::read_gr;
+use graph_text::read_gr;
 use road_text::{Plain, ReadFailed, RoadRead};
 use std::alloc::Global;
 use std::io::{self, Read};

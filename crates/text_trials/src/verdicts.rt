@@ -4,8 +4,9 @@ ghost use Rattle.road_files.specs.Asked.{AskWithin};
 
 use answer_check::{Reason, Verdict, check, right_lines_are_certified};
 use answer_text::{Answers, read_answers};
+use graph_text::read_gr;
 use path_algebra::{PathAlgebra, Reach, Shortest, Widest, Within};
-use road_files::{Questions, read_gr, read_questions};
+use road_files::{Questions, read_questions};
 use road_graph::Graph;
 use road_text::Plain;
 use std::alloc::Global;

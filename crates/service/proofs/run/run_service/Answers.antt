@@ -1,6 +1,6 @@
 use Rattle.std.proofs.Common.{◌≡◌, inl, inr, Result, Err, refl, arith, ap, ◌∙◌, sym, subst}
 use Rattle.road_graph.specs.GraphData.{GraphData}
-use Rattle.road_files.specs.GraphFiles.{gr_rules}
+use Rattle.graph_text.specs.GraphFiles.{gr_rules}
 use Rattle.batch_run.specs.Ran.{IsReadAs}
 use Rattle.batch_run.specs.Runs.{input, output}
 use Rattle.service.specs.declared.serving.Stopped.{Stopped}

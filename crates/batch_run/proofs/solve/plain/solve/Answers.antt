@@ -5,7 +5,7 @@ use Rattle.road_graph.specs.GraphData.{HasVertex}
 use Rattle.road_files.specs.Asked.{FromSource}
 use Rattle.path_algebra.specs.Walks.{AreBest}
 use Rattle.route_tree.specs.Tree.{IsTree}
-use Rattle.road_files.proofs.QuestionSources.{asked_within}
+use Rattle.road_files.proofs.QuestionLaws.{asked_within}
 use Rattle.batch_run.proofs.solve.plain.solve.Goals as goal
 
 pub search-requires-clause-sources : goal.search-requires-clause-sources

@@ -1,6 +1,6 @@
 use Rattle.std.proofs.Common.{arith}
 use Rattle.road_files.specs.Asked.{FromSource}
-use Rattle.road_files.proofs.QuestionSources.{in_sources, in_pairs, in_lists, source_at, pair_at, list_at}
+use Rattle.road_files.proofs.QuestionLaws.{in_sources, in_pairs, in_lists, source_at, pair_at, list_at}
 use Rattle.batch_run.proofs.QuestionKinds.{sources_no_pairs, lists_no_pairs}
 use Rattle.batch_run.proofs.write.answer.answer_at.Goals as goal
 

@@ -1,0 +1,4 @@
+pub mod RuleLaws
+mod GraphParserLaws
+pub mod WrittenLines
+mod GraphIsSaid

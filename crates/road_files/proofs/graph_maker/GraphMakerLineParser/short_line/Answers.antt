@@ -1,7 +1,0 @@
-use Rattle.road_text.proofs.ParserLaws.{gives_taken}
-use Rattle.road_files.specs.GraphFiles.{gr_rules}
-use Rattle.road_files.specs.GraphTakes.{taken_of}
-use Rattle.road_files.proofs.graph_maker.GraphMakerLineParser.short_line.Goals as goal
-
-pub returns-clause-taken : goal.returns-clause-taken
-returns-clause-taken g c = λ yes cut at l rest r shown more. gives_taken gr_rules g.G.FromArcs.roads (taken_of c.args.self.now.parser) (taken_of c.short.new.self) cut at l rest r (c.short.ensures.taken yes l shown) more

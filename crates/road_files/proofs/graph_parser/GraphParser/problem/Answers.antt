@@ -1,8 +1,0 @@
-use Rattle.std.proofs.Common.{arith}
-use Rattle.std.proofs.lemmas.Grind.{common_steps}
-use Rattle.road_files.specs.GraphFiles.{gr_problem}
-use Rattle.road_files.proofs.graph_parser.GraphParser.problem.Goals as goal
-
-pub returns-then-slots-ne4 : goal.returns-then-slots-ne4
-unfolding gr_problem
-returns-then-slots-ne4 c = grind (arith, common_steps)

@@ -1,5 +1,0 @@
-use Rattle.road_files.proofs.GraphIsSaid.{lines_say}
-use Rattle.road_files.proofs.laws.lines_say_the_graph.Goals as goal
-
-pub returns : goal.returns
-returns c = λ bytes g read. lines_say bytes g read

@@ -32,7 +32,7 @@ pub fn an_answer_is_one<A: PathAlgebra>(algebra: A)
 
 /// The header and the text of the right answers to the first questions are a prefix of the text of every right answer
 /// list.
-#[tactic(auto, using(crate::proofs::FirstAnswers::first_answers_text))]
+#[tactic(auto, using(crate::proofs::OneAnswer::first_answers_text))]
 pub fn first_answers_begin_all<A: PathAlgebra>(algebra: A)
     ensures { (g : GraphData) (asked : Asked) (count : ℕ) (ts : List AnswerData) (all : AnswerList) → AreAnswers (A.meaning algebra) g (take count asked.questions) ts → IsAnswerList (A.meaning algebra) g asked all →
         (rest : List ℕ) × (answers_text all ≡ (header_text asked.kind (length asked.questions) (A.meaning algebra).name ++ blocks_text ts) ++ rest) }

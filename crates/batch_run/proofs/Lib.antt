@@ -12,3 +12,4 @@ mod NextDiffusions
 mod Moved
 mod SameSources
 mod Reporting
+mod Flushing

@@ -17,10 +17,12 @@ use Rattle.batch_run.proofs.Together.{all_before, last_of_all}
 pub one_before : {A V : Type 0} (old new : List (EndedDiffusion A V)) (e : EndedDiffusion A V) → new ≡ old ++ e ∷ [] → sources_in_order new ≡ e.source ∷ sources_in_order old
 one_before {A} {V} old new e is =
     let sources = λ (l : List (EndedDiffusion A V)). map (λ (e : EndedDiffusion A V). e.source) l in
-    ap (λ (l : List (EndedDiffusion A V)). reverse (sources l)) is ∙ ap (λ (l : List ℕ). reverse l) (map-append (λ (e : EndedDiffusion A V). e.source) old (e ∷ [])) ∙ reverse-append (sources old) (e.source ∷ [])
+    ap (λ (l : List (EndedDiffusion A V)). reverse (sources l)) is ∙ ap (λ (l : List ℕ). reverse l) (map-append (λ (e : EndedDiffusion A V). e.source) old (e ∷ []))
+    ∙ reverse-append (sources old) (e.source ∷ [])
 
 -- those from the last places of a list, with the place before
-pub place_before : (sources were are : List ℕ) (k source : ℕ) → k < length sources → source ≡ get_or sources (length sources - 1 - k) source → were ≡ drop (length sources - k) sources → are ≡ source ∷ were → are ≡ drop (length sources - (k + 1)) sources
+pub place_before : (sources were are : List ℕ) (k source : ℕ) → k < length sources → source ≡ get_or sources (length sources - 1 - k) source →
+    were ≡ drop (length sources - k) sources → are ≡ source ∷ were → are ≡ drop (length sources - (k + 1)) sources
 place_before sources were are k source low is had e =
     let at = length sources - 1 - k in
     let next : suc (length sources - 1 - k) ≡ length sources - k = omega arith in
@@ -54,7 +56,8 @@ module _ {A V : Type 0} (algebra : A) (roads : GraphData) (plan : PlanData) wher
         go (suc w) (x ∷ xs) [] h low some = cc
 
   -- the next is taken
-  module _ (to_come left : List ℕ) (source : ℕ) (old new : List (EndedDiffusion A V)) (e : EndedDiffusion A V) (next : to_come ≡ source ∷ left) (were : AreNext algebra roads plan to_come old) (is : old ≡ new ++ e ∷ []) where
+  module _ (to_come left : List ℕ) (source : ℕ) (old new : List (EndedDiffusion A V)) (e : EndedDiffusion A V) (next : to_come ≡ source ∷ left)
+      (were : AreNext algebra roads plan to_come old) (is : old ≡ new ++ e ∷ []) where
     order : source ∷ left ≡ e.source ∷ (sources_in_order new ++ were.rest)
     order = sym next ∙ were.sources_are ∙ ap (λ (l : List ℕ). l ++ were.rest) (one_before new old e is)
 

@@ -30,10 +30,12 @@ module _ {V : Type 0} (A : Algebra V) (IsRead : GraphData → Asked → Type 0) 
   begun (Ok u) wrote = tt
   begun (Err f) prefix = λ file other. record { graph = g; asked = asked; read = read; wrote = prefix }
 
-  pub begun_without_memory : (r : Result (Unit {0}) RunFault) → IfErr r (λ f. f.number ≢ 42 → WroteWhole A g asked old new) → IfErr r (λ f. f.file ≡ NoFile → f.number ≡ 3 → BegunWhole A IsRead old new)
+  pub begun_without_memory : (r : Result (Unit {0}) RunFault) → IfErr r (λ f. f.number ≢ 42 → WroteWhole A g asked old new) →
+      IfErr r (λ f. f.file ≡ NoFile → f.number ≡ 3 → BegunWhole A IsRead old new)
   begun_without_memory r wrote = at_memory r (BegunWhole A IsRead old new) (IfErr-weaker r _ _ (λ f whole other. begun_whole (whole other)) wrote)
 
-  pub begun_when_stopped : (r : Result (Unit {0}) RunFault) (kept : List ℕ) (before after : ℕ) → IfErr r (λ f. f.number ≢ 42 → WroteWhole A g asked old new) → IfErr r (λ f. f.number ≢ 42 → IsPassedOn kept before after) →
+  pub begun_when_stopped : (r : Result (Unit {0}) RunFault) (kept : List ℕ) (before after : ℕ) → IfErr r (λ f. f.number ≢ 42 → WroteWhole A g asked old new) →
+      IfErr r (λ f. f.number ≢ 42 → IsPassedOn kept before after) →
       IfErr r (λ f. (f.number ≡ 40) ⊎ (f.number ≡ 41) → BegunWhole A IsRead old new × IsPassedOn kept before after)
   begun_when_stopped (Ok u) kept before after wrote passed = tt
   begun_when_stopped (Err f) kept before after wrote passed = λ cause.

@@ -1,8 +1,9 @@
 -- A batch on its way: the first questions were answered, and their answers written.
 use Rattle.std.proofs.Common.{◌≡◌, ◌≢◌, ℕ, ◌+◌, ◌<◌, ◌≤◌, List, [], ◌∷◌, ◌++◌, length, take, get_or, Option, Some, None, Result, Ok, Err, Bool, inl, inr, ◌⊎◌, refl, sym, ap, ◌∙◌, subst, append_assoc, append-nil, arith}
+use Rattle.std.proofs.lemmas.Bool.{cases_eq}
 use Rattle.std.proofs.lemmas.List.{take_all, take_more}
-use Rattle.std.specs.Io.KnownBytes.{Appends, Keeps}
-use Rattle.std.proofs.KnownBytes.{Appends-kept}
+use Rattle.std.proofs.lemmas.Result.{IfErr-weaker}
+use Rattle.std.specs.Io.KnownBytes.{Appends}
 use Rattle.std.specs.Result.{OnOk, IfErr}
 use Rattle.std.specs.Prelude.{is_none}
 use Rattle.road_graph.specs.GraphData.{GraphData}
@@ -22,7 +23,7 @@ use Rattle.batch_run.specs.declared.faults.Unanswered.TheVariants as variants
 use Rattle.batch_run.specs.declared.settings.Settings.{Settings}
 use Rattle.worker_fleet.specs.declared.group.GroupFault.{GroupFault}
 use Rattle.worker_fleet.specs.declared.group.GroupFault.TheVariants as group
-use Rattle.batch_run.specs.Answered.{WroteAnswer, WroteAnswers, WroteNext, begun_text, WroteFirst, WroteWhole, WroteAllOrFirst, fault_of_answer, fault_of_group}
+use Rattle.batch_run.specs.Answered.{AnsweredAll, WroteAnswer, WroteAnswers, WroteHeader, WroteNext, begun_text, WroteFirst, WroteWhole, WroteAllOrFirst, fault_of_answer, fault_of_group}
 use Rattle.worker_fleet.specs.Stops.{Says}
 use Rattle.batch_run.specs.Ran.{IsLater, IsPlainLater}
 
@@ -48,29 +49,34 @@ module _ {V : Type 0} (A : Algebra V) (asked : Asked) where
       let head = header_text asked.kind (length asked.questions) A.name in
       ap (λ y. head ++ y) (blocks-push ts t) ∙ sym (append_assoc head (blocks_text ts) (answer_text t))
 
+  -- the header as the writer was given it
+  module _ (kind : Kind) (count : ℕ) (name : AlgebraName) (same_kind : kind ≡ asked.kind) (same_count : count ≡ length asked.questions) (same_name : name ≡ A.name)
+      (old new : Option (List ℕ)) (b a : ℕ) where
+    header_is : header_text kind count name ≡ begun_text A asked []
+    header_is = ap (λ k. header_text k count name) same_kind ∙ ap (λ n. header_text asked.kind n name) same_count ∙ ap (λ m. header_text asked.kind (length asked.questions) m) same_name
+        ∙ sym (append-nil (header_text asked.kind (length asked.questions) A.name))
+
+    pub header_written : WrotePrefix old new b a (header_text kind count name) [] → WroteHeader A asked old new b a (Ok tt)
+    header_written h = subst (λ t. WrotePrefix old new b a t []) header_is h
+
+    pub header_failed : (f : RunFault) → f ≡ fault_of_answer variants.Write → FailedAfterPrefix old new b a (header_text kind count name) → WroteHeader A asked old new b a (Err f)
+    header_failed f is h = (is, subst (λ t. FailedAfterPrefix old new b a t) header_is h)
+
 -- of the reasons why a question is not answered, a failed write has the number 42
 write_by_number : (u : Unanswered) → (fault_of_answer u).number ≡ 42 → u ≡ variants.Write
 write_by_number variants.Memory e = absurd (omega (arith, e))
 write_by_number variants.Write e = refl
 
 module _ {V : Type 0} (A : Algebra V) (g : GraphData) (asked : Asked) where
-  -- the header as the writer was given it
-  module _ (kind : Kind) (count : ℕ) (name : AlgebraName) (same_kind : kind ≡ asked.kind) (same_count : count ≡ length asked.questions) (same_name : name ≡ A.name) (old new : Option (List ℕ)) (b a : ℕ) where
-    header_is : header_text kind count name ≡ begun_text A asked []
-    header_is = ap (λ k. header_text k count name) same_kind ∙ ap (λ n. header_text asked.kind n name) same_count ∙ ap (λ m. header_text asked.kind (length asked.questions) m) same_name
-        ∙ sym (append-nil (header_text asked.kind (length asked.questions) A.name))
+  -- no question is answered yet
+  pub start : (old new : Option (List ℕ)) (b a : ℕ) → WroteHeader A asked old new b a (Ok tt) → Progress A g asked 0 old new b a
+  start old new b a h = record { answers = []; right = tt; left = h }
 
-    pub start : WrotePrefix old new b a (header_text kind count name) [] → Progress A g asked 0 old new b a
-    start h = record { answers = []; right = tt; left = subst (λ t. WrotePrefix old new b a t []) header_is h }
-
-    pub header_fell : FailedAfterPrefix old new b a (header_text kind count name) → WroteFirst A g asked old new
-    header_fell h = record { count = 0; answers = []; right = tt; prefix = h.prefix; rest = h.rest; text_is = sym header_is ∙ h.text_is; bytes = h.bytes }
-
-  pub stop : (i : ℕ) (old new : Option (List ℕ)) (b a : ℕ) → Progress A g asked i old new b a → WroteFirst A g asked old new
+  stop : (i : ℕ) (old new : Option (List ℕ)) (b a : ℕ) → Progress A g asked i old new b a → WroteFirst A g asked old new
   stop i old new b a p = record { count = i; answers = p.answers; right = p.right; prefix = p.left.prefix; rest = []; text_is = p.left.text_is; bytes = p.left.bytes }
 
   -- what was written between two answers is whole
-  pub stop_whole : (i : ℕ) (old new : Option (List ℕ)) (b a : ℕ) → Progress A g asked i old new b a → WroteWhole A g asked old new
+  stop_whole : (i : ℕ) (old new : Option (List ℕ)) (b a : ℕ) → Progress A g asked i old new b a → WroteWhole A g asked old new
   stop_whole i old new b a p = record {
     count = i;
     answers = p.answers;
@@ -78,9 +84,11 @@ module _ {V : Type 0} (A : Algebra V) (g : GraphData) (asked : Asked) where
     bytes = subst (Appends old new) (sym (p.left.text_is ∙ append-nil p.left.prefix)) p.left.bytes;
   }
 
-  module _ (i : ℕ) (old mid new : Option (List ℕ)) (b m a : ℕ) (t : AnswerData) (lt : i < length asked.questions) (q : Question) (is : IsAnswer A g (get_or asked.questions i q) t) (p : Progress A g asked i old mid b m) where
+  module _ (i : ℕ) (old mid new : Option (List ℕ)) (b m a : ℕ) (t : AnswerData) (lt : i < length asked.questions) (q : Question)
+      (is : IsAnswer A g (get_or asked.questions i q) t) (p : Progress A g asked i old mid b m) where
     now_right : AreAnswers A g (take (i + 1) asked.questions) (p.answers ++ t ∷ [])
-    now_right = subst (λ x. AreAnswers A g x (p.answers ++ t ∷ [])) (sym (take_more asked.questions i q lt)) (answers-push A g (take i asked.questions) p.answers (get_or asked.questions i q) t p.right is)
+    now_right = subst (λ x. AreAnswers A g x (p.answers ++ t ∷ [])) (sym (take_more asked.questions i q lt))
+        (answers-push A g (take i asked.questions) p.answers (get_or asked.questions i q) t p.right is)
 
     begun : WrotePrefix old mid b m (begun_text A asked (p.answers ++ t ∷ [])) (answer_text t ++ [])
     begun = record {
@@ -103,59 +111,91 @@ module _ {V : Type 0} (A : Algebra V) (g : GraphData) (asked : Asked) where
     answered h = step i old mid new b m a h.0 lt q h.1 p h.2
 
     -- a question was not
-    pub unanswered : (u : Unanswered) → WroteAnswer A g (get_or asked.questions i q) mid new m a (Err u) → WroteFirst A g asked old new
+    unanswered : (u : Unanswered) → WroteAnswer A g (get_or asked.questions i q) mid new m a (Err u) → WroteFirst A g asked old new
     unanswered variants.Memory h = subst (WroteFirst A g asked old) (sym h.0) (stop i old mid b m p)
     unanswered variants.Write h = fell i old mid new b m a h.0 lt q h.1 p h.2
 
-    -- the same, if the plain solver answers
-    pub plain_later : (u : Unanswered) → WroteAnswer A g (get_or asked.questions i q) mid new m a (Err u) → IsPlainLater (fault_of_answer u) × ((fault_of_answer u).number ≡ 42 → b < a)
-    plain_later variants.Memory h = ((refl, refl, inl refl), λ e. absurd (omega (arith, e)))
-    plain_later variants.Write h = ((refl, refl, inr refl), λ e. omega (arith, h.2.failed, p.left.sound))
-
     -- memory was refused between two answers, and no write failed
-    pub whole : (u : Unanswered) → WroteAnswer A g (get_or asked.questions i q) mid new m a (Err u) → (fault_of_answer u).number ≢ 42 → WroteWhole A g asked old new
+    whole : (u : Unanswered) → WroteAnswer A g (get_or asked.questions i q) mid new m a (Err u) → (fault_of_answer u).number ≢ 42 → WroteWhole A g asked old new
     whole variants.Memory h ne = subst (WroteWhole A g asked old) (sym h.0) (stop_whole i old mid b m p)
     whole variants.Write h ne = absurd (ne refl)
 
-    pub unfailed : (u : Unanswered) → WroteAnswer A g (get_or asked.questions i q) mid new m a (Err u) → (fault_of_answer u).number ≢ 42 → a ≡ b
+    unfailed : (u : Unanswered) → WroteAnswer A g (get_or asked.questions i q) mid new m a (Err u) → (fault_of_answer u).number ≢ 42 → a ≡ b
     unfailed variants.Memory h ne = h.1 ∙ p.left.sound
     unfailed variants.Write h ne = absurd (ne refl)
 
-    pub one_failed : (u : Unanswered) → WroteAnswer A g (get_or asked.questions i q) mid new m a (Err u) → (fault_of_answer u).number ≡ 42 → a ≡ b + 1
+    one_failed : (u : Unanswered) → WroteAnswer A g (get_or asked.questions i q) mid new m a (Err u) → (fault_of_answer u).number ≡ 42 → a ≡ b + 1
     one_failed variants.Memory h e = absurd (omega (arith, e))
     one_failed variants.Write h e = omega (arith, h.2.failed, p.left.sound)
 
-    pub more_failed : (u : Unanswered) → WroteAnswer A g (get_or asked.questions i q) mid new m a (Err u) → b ≤ a
-    more_failed variants.Memory h = omega (arith, h.1, p.left.sound)
-    more_failed variants.Write h = omega (arith, h.2.failed, p.left.sound)
-
     -- a fault stopped the batch at the question
-    module _ (f : RunFault) (h : WroteNext A g (get_or asked.questions i q) mid new m a (Err f)) where
-      pub next_text : WroteFirst A g asked old new
-      next_text = unanswered h.0 h.1
+    pub stopped_at : (MayStop : RunFault → Type 0) (f : RunFault) → MayStop f → WroteNext A g (get_or asked.questions i q) mid new m a (Err f) → AnsweredAll A g asked MayStop old new b a (Err f)
+    stopped_at MayStop f kind (u, h, write) =
+        let no_failure : f.number ≢ 42 → (fault_of_answer u).number ≢ 42 = λ other e. other (write.1 (write_by_number u e)) in
+        record {
+          text = unanswered u h;
+          sound = tt;
+          kind = kind;
+          failed = λ e. one_failed u h (ap (λ (w : Unanswered). (fault_of_answer w).number) (write.0 e));
+          unfailed = λ other. unfailed u h (no_failure other);
+          whole = λ other. whole u h (no_failure other);
+        }
 
-      pub next_more : b ≤ a
-      next_more = more_failed h.0 h.1
+  module _ (MayStop : RunFault → Type 0) (old new : Option (List ℕ)) (b a : ℕ) where
+    -- the header was not written
+    pub stopped_first : (f : RunFault) → MayStop f → WroteHeader A asked old new b a (Err f) → AnsweredAll A g asked MayStop old new b a (Err f)
+    stopped_first f kind (is, h) =
+        let write : f.number ≡ 42 = ap (λ (e : RunFault). e.number) is in
+        record {
+          text = record { count = 0; answers = []; right = tt; prefix = h.prefix; rest = h.rest; text_is = h.text_is; bytes = h.bytes };
+          sound = tt;
+          kind = kind;
+          failed = λ _. h.failed;
+          unfailed = λ other. absurd (other write);
+          whole = λ other. absurd (other write);
+        }
 
-      pub next_failed : f.number ≡ 42 → a ≡ b + 1
-      next_failed e = one_failed h.0 h.1 (ap (λ (u : Unanswered). (fault_of_answer u).number) (h.2.0 e))
+    -- a fault but a failed write stopped the batch between two answers
+    stopped_between : (i : ℕ) (f : RunFault) → f.number ≢ 42 → MayStop f → Progress A g asked i old new b a → AnsweredAll A g asked MayStop old new b a (Err f)
+    stopped_between i f other kind p = record {
+      text = stop i old new b a p;
+      sound = tt;
+      kind = kind;
+      failed = λ write. absurd (other write);
+      unfailed = λ _. p.left.sound;
+      whole = λ _. stop_whole i old new b a p;
+    }
 
-      -- a fault but a failed write
-      no_failure : f.number ≢ 42 → (fault_of_answer h.0).number ≢ 42
-      no_failure other e = other (h.2.1 (write_by_number h.0 e))
+    -- want of memory did
+    pub stopped_for_memory : (i : ℕ) (f : RunFault) → f ≡ fault_of_answer variants.Memory → MayStop (fault_of_answer variants.Memory) → Progress A g asked i old new b a →
+        AnsweredAll A g asked MayStop old new b a (Err f)
+    stopped_for_memory i f is kind p =
+        let three = ap (λ (e : RunFault). e.number) is in
+        stopped_between i f (λ e. absurd (omega (arith, three, e))) (subst MayStop (sym is) kind) p
 
-      pub next_whole : f.number ≢ 42 → WroteWhole A g asked old new
-      next_whole other = whole h.0 h.1 (no_failure other)
+    -- a fault that may stop it is of another kind too
+    pub stopped_otherwise : (Other : RunFault → Type 0) → ((f : RunFault) → MayStop f → Other f) → (r : Result (Unit {0}) RunFault) → AnsweredAll A g asked MayStop old new b a r →
+        AnsweredAll A g asked Other old new b a r
+    stopped_otherwise Other weaker r h = record {
+      text = h.text;
+      sound = h.sound;
+      kind = IfErr-weaker r _ _ weaker h.kind;
+      failed = h.failed;
+      unfailed = h.unfailed;
+      whole = h.whole;
+    }
 
-      pub next_unfailed : f.number ≢ 42 → a ≡ b
-      next_unfailed other = unfailed h.0 h.1 (no_failure other)
-
-      pub next_later : (L : RunFault → Type 0) → L f → L f × (f.number ≡ 42 → b < a)
-      next_later L later = (later, λ e. let one = next_failed e in omega (arith, one))
+    -- no failure is taken back
+    pub no_fewer_failures : (r : Result (Unit {0}) RunFault) → AnsweredAll A g asked MayStop old new b a r → b ≤ a
+    no_fewer_failures (Ok u) h = let same = h.sound in omega (arith, same)
+    no_fewer_failures (Err f) h = elim (cases_eq f.number 42) [
+      | inl write ↦ let one = h.failed write in omega (arith, one)
+      | inr other ↦ let same = h.unfailed other in omega (arith, same)
+    ]
 
 module _ {V : Type 0} (A : Algebra V) (g : GraphData) (asked : Asked) where
-  pub end : (i : ℕ) (old new : Option (List ℕ)) (b a : ℕ) → length asked.questions ≤ i → Progress A g asked i old new b a → WroteAnswers A g asked old new
-  end i old new b a le p =
+  whole_text : (i : ℕ) (old new : Option (List ℕ)) (b a : ℕ) → length asked.questions ≤ i → Progress A g asked i old new b a → WroteAnswers A g asked old new
+  whole_text i old new b a le p =
       let right : AreAnswers A g asked.questions p.answers = subst (λ x. AreAnswers A g x p.answers) (take_all i asked.questions le) p.right in
       record {
         answers = record { name = A.name; kind = asked.kind; n = g.vertices; list = p.answers };
@@ -165,49 +205,14 @@ module _ {V : Type 0} (A : Algebra V) (g : GraphData) (asked : Asked) where
             p.left.bytes;
       }
 
-  module _ (old mid new : Option (List ℕ)) (keeps : Keeps mid new) where
-    all_kept : WroteAnswers A g asked old mid → WroteAnswers A g asked old new
-    all_kept w = record { answers = w.answers; right = w.right; bytes = Appends-kept old mid new _ w.bytes keeps }
-
-    pub whole_kept : WroteWhole A g asked old mid → WroteWhole A g asked old new
-    whole_kept w = record { count = w.count; answers = w.answers; right = w.right; bytes = Appends-kept old mid new _ w.bytes keeps }
-
-    first_kept : WroteFirst A g asked old mid → WroteFirst A g asked old new
-    first_kept w = record { count = w.count; answers = w.answers; right = w.right; prefix = w.prefix; rest = w.rest; text_is = w.text_is; bytes = Appends-kept old mid new w.prefix w.bytes keeps }
-
-  first_of_all : (old new : Option (List ℕ)) → WroteAnswers A g asked old new → WroteFirst A g asked old new
-  first_of_all old new w =
-      let text = begun_text A asked w.answers.list in
-      record {
-        count = length asked.questions;
-        answers = w.answers.list;
-        right = subst (λ x. AreAnswers A g x w.answers.list) (sym (take_all (length asked.questions) asked.questions (omega arith))) w.right.answers;
-        prefix = text;
-        rest = [];
-        text_is = sym (append-nil text);
-        bytes = subst (Appends old new)
-            (ap (λ k. header_text k (length w.answers.list) w.answers.name ++ blocks_text w.answers.list) w.right.kind_is
-            ∙ ap (λ n. header_text asked.kind n w.answers.name ++ blocks_text w.answers.list) (answers_count A g asked.questions w.answers.list w.right.answers)
-            ∙ ap (λ m. header_text asked.kind (length asked.questions) m ++ blocks_text w.answers.list) w.right.name_is)
-            w.bytes;
-      }
-
-  -- what was written stays when it is passed on, and the first fault stays
-  pub flushed : (F : RunFault) (Y Z : Type 0) (old mid new : Option (List ℕ)) → Keeps mid new → (answered r : Result (Unit {0}) RunFault) → WroteAllOrFirst A g asked old mid answered →
-      OnOk r ((answered ≡ Ok tt) × Y) → IfErr r (λ f. (answered ≡ Err f) ⊎ ((f ≡ F) × (answered ≡ Ok tt) × Z)) → WroteAllOrFirst A g asked old new r
-  flushed F Y Z old mid new keeps answered (Ok u) was ok err = all_kept old mid new keeps (subst (WroteAllOrFirst A g asked old mid) ok.0 was)
-  flushed F Y Z old mid new keeps answered (Err f) was ok (inl e) = first_kept old mid new keeps (subst (WroteAllOrFirst A g asked old mid) e was)
-  flushed F Y Z old mid new keeps answered (Err f) was ok (inr (x, e, y)) = first_of_all old new (all_kept old mid new keeps (subst (WroteAllOrFirst A g asked old mid) e was))
-
-  -- nor does what was written whole change
-  pub flushed_whole : (F : RunFault) (Y Z : Type 0) (old mid new : Option (List ℕ)) → Keeps mid new → F.number ≡ 42 → (answered r : Result (Unit {0}) RunFault) → IfErr answered (λ f. f.number ≢ 42 → WroteWhole A g asked old mid) →
-      IfErr r (λ f. (answered ≡ Err f) ⊎ ((f ≡ F) × (answered ≡ Ok tt) × Z)) → IfErr r (λ f. f.number ≢ 42 → WroteWhole A g asked old new)
-  flushed_whole F Y Z old mid new keeps write answered (Ok u) was err = tt
-  flushed_whole F Y Z old mid new keeps write answered (Err f) was (inl e) = λ ne. whole_kept old mid new keeps (subst (λ x. IfErr x (λ h. h.number ≢ 42 → WroteWhole A g asked old mid)) e was ne)
-  flushed_whole F Y Z old mid new keeps write answered (Err f) was (inr (x, e, y)) = λ ne. absurd (ne (ap (λ (h : RunFault). h.number) x ∙ write))
+  -- all questions are answered
+  pub all_answered : (MayStop : RunFault → Type 0) (i : ℕ) (old new : Option (List ℕ)) (b a : ℕ) → length asked.questions ≤ i → Progress A g asked i old new b a →
+      AnsweredAll A g asked MayStop old new b a (Ok tt)
+  all_answered MayStop i old new b a le p = record { text = whole_text i old new b a le p; sound = p.left.sound; kind = tt; failed = tt; unfailed = tt; whole = tt }
 
 -- labels were not found: memory or a thread was refused; or, if workers answer, one of them stopped
-pub group_later : {X : Type 0} (s : Settings) (answers : ℕ → ℕ → Bool → Type 0) (schedule : Option X) (f : GroupFault) → is_none schedule ≡ s.plain → (schedule ≡ None → f ≡ group.Memory) → Says answers s.workers s.turns f →
+pub group_later : {X : Type 0} (s : Settings) (answers : ℕ → ℕ → Bool → Type 0) (schedule : Option X) (f : GroupFault) → is_none schedule ≡ s.plain →
+    (schedule ≡ None → f ≡ group.Memory) → Says answers s.workers s.turns f →
     IsLater s answers (fault_of_group f)
 group_later s answers schedule group.Memory kind plain says = (refl, refl, inl refl)
 group_later s answers (Some x) group.Stalled kind plain says = (refl, refl, inr (inl (refl, sym kind, says)))
@@ -236,7 +241,10 @@ module _ {V : Type 0} (A : Algebra V) (g : GraphData) (q : Question) (old : Opti
   not_written new a variants.Memory h = (variants.Memory, h, (λ e. absurd (omega (arith, e)), λ e. let bad : variants.Memory ≡ variants.Write = e in cc))
   not_written new a variants.Write h = (variants.Write, h, (λ e. refl, λ e. refl))
 
--- if the plain solver answers there is no other fault
-pub plain_is_later : (s : Settings) (answers : ℕ → ℕ → Bool → Type 0) (X : RunFault → Type 0) (r : Result (Unit {0}) RunFault) → IfErr r (λ f. IsPlainLater f × X f) → IfErr r (λ f. IsLater s answers f × X f)
-plain_is_later s answers X (Ok u) h = tt
-plain_is_later s answers X (Err f) h = ((h.0.0, h.0.1, elim h.0.2 [ inl memory ↦ inl memory | inr write ↦ inr (inr (inr write)) ]), h.1)
+-- the plain solver is stopped by want of memory or a failed write
+pub plain_stop : (u : Unanswered) → IsPlainLater (fault_of_answer u)
+plain_stop variants.Memory = (refl, refl, inl refl)
+plain_stop variants.Write = (refl, refl, inr refl)
+
+pub plain_is_later : (s : Settings) (answers : ℕ → ℕ → Bool → Type 0) (f : RunFault) → IsPlainLater f → IsLater s answers f
+plain_is_later s answers f h = (h.0, h.1, elim h.2 [ inl memory ↦ inl memory | inr write ↦ inr (inr (inr write)) ])

@@ -21,13 +21,14 @@ use Rattle.batch_run.specs.declared.settings.Settings.{Settings}
 use Rattle.batch_run.specs.declared.watcher.Report.{Report}
 use Rattle.batch_run.specs.declared.watcher.Report.TheVariants as report
 use Rattle.batch_run.specs.Diffusions.{IsEnded}
-use Rattle.batch_run.specs.Reports.{IsAccount, Due, Beginning, Account, Progress, IsReportOf, FollowsReports, Reported, ReportedPrefix, Watched, accounts_due, question_due, questions_due, batch_due, count_diffusions, diffused}
+use Rattle.batch_run.specs.Reports.{IsAccount, Due, Beginning, Account, Progress, IsReportOf, FollowsReports, Reported, ReportedAllOrPrefix, ReportedPrefix, Watched, accounts_due, question_due, questions_due, batch_due, count_diffusions, diffused}
 use Rattle.batch_run.specs.Ran.{IsLater}
 use Rattle.batch_run.proofs.OfInputs.{in_no_input, of_no_setting}
 
 -- the counts of a diffusion that was run to its end are those that were gathered
 module _ {S V : Type 0} (meaning : S → Algebra V) where
-  account_of : (algebra : S) (g : GraphData) (plan : PlanData) (source : ℕ) (found : Gathered V) → IsGathered meaning (setup_of algebra g source plan) found → IsAccount (meaning algebra) g source found.tally
+  account_of : (algebra : S) (g : GraphData) (plan : PlanData) (source : ℕ) (found : Gathered V) → IsGathered meaning (setup_of algebra g source plan) found →
+      IsAccount (meaning algebra) g source found.tally
   account_of algebra g plan source found h = record {
     plan = plan;
     labels = found.labels;
@@ -38,18 +39,16 @@ module _ {S V : Type 0} (meaning : S → Algebra V) where
   best_of t found h = h.labels
 
   -- so are the labels
-  pub are_best : (algebra : S) (g : GraphData) (plan : PlanData) (source : ℕ) (e : EndedDiffusion S V) (found : Gathered V) → IsEnded algebra g plan e → e.source ≡ source → IsGathered meaning e.floor.setup found → AreBest (meaning algebra) g (source ∷ []) found.labels
+  pub are_best : (algebra : S) (g : GraphData) (plan : PlanData) (source : ℕ) (e : EndedDiffusion S V) (found : Gathered V) → IsEnded algebra g plan e → e.source ≡ source →
+      IsGathered meaning e.floor.setup found → AreBest (meaning algebra) g (source ∷ []) found.labels
   are_best algebra g plan source e found ended from h =
-      subst (λ (s : ℕ). AreBest (meaning algebra) g (s ∷ []) found.labels) from (best_of (setup_of algebra g e.source plan) found (subst (λ (t : SetupData S). IsGathered meaning t found) ended.setup h))
+      subst (λ (s : ℕ). AreBest (meaning algebra) g (s ∷ []) found.labels) from (best_of (setup_of algebra g e.source plan) found
+      (subst (λ (t : SetupData S). IsGathered meaning t found) ended.setup h))
 
-  pub is_account : (algebra : S) (g : GraphData) (plan : PlanData) (source : ℕ) (e : EndedDiffusion S V) (found : Gathered V) → IsEnded algebra g plan e → e.source ≡ source → IsGathered meaning e.floor.setup found → IsAccount (meaning algebra) g source found.tally
+  pub is_account : (algebra : S) (g : GraphData) (plan : PlanData) (source : ℕ) (e : EndedDiffusion S V) (found : Gathered V) → IsEnded algebra g plan e → e.source ≡ source →
+      IsGathered meaning e.floor.setup found → IsAccount (meaning algebra) g source found.tally
   is_account algebra g plan source e found ended from h =
       subst (λ (s : ℕ). IsAccount (meaning algebra) g s found.tally) from (account_of algebra g plan e.source found (subst (λ (t : SetupData S). IsGathered meaning t found) ended.setup h))
-
--- what holds holds after a fault
-pub after_err : {X E : Type 0} (r : Result X E) (P : Type 0) → P → OnErr r P
-after_err (Ok x) P p = tt
-after_err (Err e) P p = p
 
 module _ {V S : Type 0} (A : Algebra V) (g : GraphData) (may_become : S → Report → S → Type 0) where
   all_more : (ds es : List Due) (rs qs : List Report) → AllZip (IsReportOf A g) ds rs → AllZip (IsReportOf A g) es qs → AllZip (IsReportOf A g) (ds ++ es) (rs ++ qs)
@@ -82,6 +81,9 @@ module _ {V S : Type 0} (A : Algebra V) (g : GraphData) (may_become : S → Repo
   pub prefix_none : (due : List Due) (s : S) → ReportedPrefix A g may_become due s s
   prefix_none due s = record { prefix = []; rest = due; due_is = refl; reported = none s }
 
+  pub prefix_if_err : {T E : Type 0} (due : List Due) (old new : S) (r : Result T E) (f : E) → r ≡ Err f → ReportedPrefix A g may_become due old new → ReportedAllOrPrefix A g may_become due old new r
+  prefix_if_err due old new r f e h = subst (ReportedAllOrPrefix A g may_become due old new) (sym e) h
+
   pub prefix_kept : (due : List Due) (old new : S) → new ≡ old → ReportedPrefix A g may_become due old new
   prefix_kept due old new e = subst (λ (s : S). ReportedPrefix A g may_become due old s) (sym e) (prefix_none due old)
 
@@ -93,11 +95,13 @@ module _ {V S : Type 0} (A : Algebra V) (g : GraphData) (may_become : S → Repo
   prefix_all due old new h = prefix_whole due [] due old new (sym (append-nil due)) h
 
   -- so is it with a prefix of what is due next
-  pub prefix_more : (ds es rest due : List Due) (old mid new : S) → due ≡ (ds ++ es) ++ rest → Reported A g may_become ds old mid → ReportedPrefix A g may_become es mid new → ReportedPrefix A g may_become due old new
+  pub prefix_more : (ds es rest due : List Due) (old mid new : S) → due ≡ (ds ++ es) ++ rest → Reported A g may_become ds old mid → ReportedPrefix A g may_become es mid new →
+      ReportedPrefix A g may_become due old new
   prefix_more ds es rest due old mid new e h k = record {
     prefix = ds ++ k.prefix;
     rest = k.rest ++ rest;
-    due_is = e ∙ append_assoc ds es rest ∙ ap (λ (x : List Due). ds ++ (x ++ rest)) k.due_is ∙ ap (λ (x : List Due). ds ++ x) (append_assoc k.prefix k.rest rest) ∙ sym (append_assoc ds k.prefix (k.rest ++ rest));
+    due_is = e ∙ append_assoc ds es rest ∙ ap (λ (x : List Due). ds ++ (x ++ rest)) k.due_is ∙ ap (λ (x : List Due). ds ++ x) (append_assoc k.prefix k.rest rest)
+        ∙ sym (append_assoc ds k.prefix (k.rest ++ rest));
     reported = more ds k.prefix old mid new h k.reported;
   }
 
@@ -113,7 +117,8 @@ module _ {V S : Type 0} (A : Algebra V) (g : GraphData) (may_become : S → Repo
   sources_begun x old new e h = subst (λ (l : List ℕ). Reported A g may_become (map (Account k) l) old new) (sym e) h
 
   -- of one source more
-  pub sources_more : (i x : ℕ) (old mid new : S) → i < length xs → x ≡ get_or xs i x → Reported A g may_become (map (Account k) (take i xs)) old mid → Reported A g may_become (Account k x ∷ []) mid new → Reported A g may_become (map (Account k) (take (i + 1) xs)) old new
+  pub sources_more : (i x : ℕ) (old mid new : S) → i < length xs → x ≡ get_or xs i x → Reported A g may_become (map (Account k) (take i xs)) old mid →
+      Reported A g may_become (Account k x ∷ []) mid new → Reported A g may_become (map (Account k) (take (i + 1) xs)) old new
   sources_more i x old mid new low is h one =
       let longer : take (i + 1) xs ≡ take i xs ++ x ∷ [] = take_more xs i x low ∙ ap (λ (y : ℕ). take i xs ++ y ∷ []) (sym is) in
       subst (λ (l : List Due). Reported A g may_become l old new) (sym (ap (map (Account k)) longer ∙ map-append (Account k) (take i xs) (x ∷ [])))
@@ -133,14 +138,16 @@ abbrev pub due_first : Bool → List Question → ℕ → List Due
 due_first plain qs i = Beginning (length qs) (count_diffusions plain qs) ∷ questions_due plain 0 (take i qs)
 
 -- of one question more
-due_push : (plain : Bool) (n : ℕ) (qs : List Question) (i k : ℕ) (d : Question) → i < length qs → k ≡ n + i + 1 → questions_due plain n (take (suc i) qs) ≡ questions_due plain n (take i qs) ++ question_due plain k (get_or qs i d)
+due_push : (plain : Bool) (n : ℕ) (qs : List Question) (i k : ℕ) (d : Question) → i < length qs → k ≡ n + i + 1 →
+    questions_due plain n (take (suc i) qs) ≡ questions_due plain n (take i qs) ++ question_due plain k (get_or qs i d)
 due_push plain n [] i k d low e = absurd (omega (arith, low))
 due_push plain n (q ∷ qs) zero k d low e =
     let number : n + 1 ≡ k = omega (arith, e) in
     append-nil (question_due plain (n + 1) q) ∙ ap (λ (m : ℕ). question_due plain m q) number
 due_push plain n (q ∷ qs) (suc i) k d low e =
     let head = question_due plain (n + 1) q in
-    ap (λ (x : List Due). head ++ x) (due_push plain (n + 1) qs i k d (omega (arith, low)) (omega (arith, e))) ∙ sym (append_assoc head (questions_due plain (n + 1) (take i qs)) (question_due plain k (get_or qs i d)))
+    ap (λ (x : List Due). head ++ x) (due_push plain (n + 1) qs i k d (omega (arith, low)) (omega (arith, e)))
+    ∙ sym (append_assoc head (questions_due plain (n + 1) (take i qs)) (question_due plain k (get_or qs i d)))
 
 -- what is due of the first questions is a prefix of what is due of all
 due_from : (plain : Bool) (n : ℕ) (qs : List Question) (i : ℕ) → (rest : List Due) × (questions_due plain n qs ≡ questions_due plain n (take i qs) ++ rest)
@@ -155,7 +162,8 @@ module _ {V S : Type 0} (A : Algebra V) (g : GraphData) (may_become : S → Repo
   -- the batch begins
   pub begun : (n d : ℕ) (old new : S) → n ≡ length qs → d ≡ count_diffusions plain qs → may_become old (report.Begun n d) new → Reported A g may_become (due_first plain qs 0) old new
   begun n d old new count diffusions become =
-      one A g may_become (Beginning (length qs) (count_diffusions plain qs)) (report.Begun n d) old new (ap (λ (m : ℕ). report.Begun m d) count ∙ ap (λ (m : ℕ). report.Begun (length qs) m) diffusions) become
+      one A g may_become (Beginning (length qs) (count_diffusions plain qs)) (report.Begun n d) old new
+      (ap (λ (m : ℕ). report.Begun m d) count ∙ ap (λ (m : ℕ). report.Begun (length qs) m) diffusions) become
 
   -- it stopped between two questions
   pub stopped : (i : ℕ) (old new : S) → Reported A g may_become (due_first plain qs i) old new → ReportedPrefix A g may_become (batch_due plain qs) old new
@@ -217,27 +225,16 @@ pub kind_copied : {X : Type 0} (plan : Option (Bor X)) (prepared : Option X) (pl
 kind_copied {X} None prepared plain e k = ap (λ (o : Option X). is_none o) e ∙ k
 kind_copied {X} (Some p) prepared plain e k = ap (λ (o : Option X). is_none o) e ∙ k
 
-module _ {V S : Type 0} (A : Algebra V) (g : GraphData) (may_become : S → Report → S → Type 0) (due : List Due) (old new : S) where
-  -- a flush reports nothing
-  pub reported_flushed : (Y : Type 0) (outcome r : Result (Unit {0}) RunFault) → OnOk outcome (Reported A g may_become due old new) → OnOk r ((outcome ≡ Ok tt) × Y) → OnOk r (Reported A g may_become due old new)
-  reported_flushed Y outcome (Ok u) was ok = subst (λ (x : Result (Unit {0}) RunFault). OnOk x (Reported A g may_become due old new)) ok.0 was
-  reported_flushed Y outcome (Err f) was ok = tt
-
-  pub begun_flushed : (F : RunFault) (Z : Type 0) (outcome r : Result (Unit {0}) RunFault) → OnOk outcome (Reported A g may_become due old new) → OnErr outcome (ReportedPrefix A g may_become due old new) →
-      IfErr r (λ f. (outcome ≡ Err f) ⊎ ((f ≡ F) × (outcome ≡ Ok tt) × Z)) → OnErr r (ReportedPrefix A g may_become due old new)
-  begun_flushed F Z outcome (Ok u) all first err = tt
-  begun_flushed F Z outcome (Err f) all first (inl e) = subst (λ (x : Result (Unit {0}) RunFault). OnErr x (ReportedPrefix A g may_become due old new)) e first
-  begun_flushed F Z outcome (Err f) all first (inr (x, e, y)) =
-      prefix_whole A g may_become due [] due old new (sym (append-nil due)) (subst (λ (x : Result (Unit {0}) RunFault). OnOk x (Reported A g may_become due old new)) e all)
-
 -- what a run reports of inputs that were read, from what answering them reports
-pub watched : {V S : Type 0} (A : Algebra V) (how : Settings) (IsRead : GraphData → Asked → Type 0) (may_become : S → Report → S → Type 0) (old new : S) (g : GraphData) (asked : Asked) (answers : ℕ → ℕ → Bool → Type 0) (before after : ℕ) (r : Result (Unit {0}) RunFault) →
-    IsRead g asked → OnOk r (Reported A g may_become (batch_due how.plain asked.questions) old new) → OnErr r (ReportedPrefix A g may_become (batch_due how.plain asked.questions) old new) →
+pub watched : {V S : Type 0} (A : Algebra V) (how : Settings) (IsRead : GraphData → Asked → Type 0) (may_become : S → Report → S → Type 0) (old new : S) (g : GraphData)
+    (asked : Asked) (answers : ℕ → ℕ → Bool → Type 0) (before after : ℕ) (r : Result (Unit {0}) RunFault) →
+    IsRead g asked → ReportedAllOrPrefix A g may_become (batch_due how.plain asked.questions) old new r →
     IfErr r (λ f. IsLater how answers f × (f.number ≡ 42 → before < after)) → Watched A how IsRead may_become old new r
-watched A how IsRead may_become old new g asked answers before after (Ok u) read all first later = record { all = record { graph = g; asked = asked; read = read; reported = all }; first = tt; nothing = tt; untouched = tt }
-watched A how IsRead may_become old new g asked answers before after (Err f) read all first later = record {
+watched A how IsRead may_become old new g asked answers before after (Ok u) read reported later =
+    record { all = record { graph = g; asked = asked; read = read; reported = reported }; first = tt; nothing = tt; untouched = tt }
+watched A how IsRead may_become old new g asked answers before after (Err f) read reported later = record {
   all = tt;
-  first = λ file other. record { graph = g; asked = asked; read = read; reported = first };
+  first = λ file other. record { graph = g; asked = asked; read = read; reported = reported };
   nothing = in_no_input how answers before after (Err f) later _;
   untouched = of_no_setting how answers before after (Err f) later _;
 }

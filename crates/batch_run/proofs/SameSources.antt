@@ -11,7 +11,8 @@ use Rattle.batch_run.specs.declared.solve.solved.Solved.{Solved}
 
 module _ {V : Type 0} (A : Algebra V) (g : GraphData) (asked : Asked) where
   -- what is solved for one question is so for any with the same sources
-  pub for_other : (i j : ℕ) (s : Solved V) → IsSolvedFor A g asked j s → ((d : Question) → sources_of (get_or asked.questions j d) ≡ sources_of (get_or asked.questions i d)) → IsSolvedFor A g asked i s
+  pub for_other : (i j : ℕ) (s : Solved V) → IsSolvedFor A g asked j s → ((d : Question) → sources_of (get_or asked.questions j d) ≡ sources_of (get_or asked.questions i d)) →
+      IsSolvedFor A g asked i s
   for_other i j s h same d = subst (λ xs. IsSolvedFrom A g asked.kind xs s) (same d) (h d)
 
   pub at_own : (i : ℕ) (s : Solved V) → i < length asked.questions → IsSolvedAt A g asked i s → IsSolved A g asked s

@@ -56,7 +56,8 @@ module _ (qs : List Question) where
   pub question_over : (i j : ℕ) (d : Question) → i < length qs → j ≡ length (sources_of (get_or qs i d)) → sources_to_come qs i j ≡ sources_to_come qs (i + 1) 0
   unfolding sources_to_come
   question_over i j d low is =
-      ap (λ (n : ℕ). drop n (flat_map sources_of (drop i qs))) is ∙ ap (drop (length (sources_of (get_or qs i d)))) (from_question i d low) ∙ drop-append_seam (sources_of (get_or qs i d)) (flat_map sources_of (drop (i + 1) qs))
+      ap (λ (n : ℕ). drop n (flat_map sources_of (drop i qs))) is ∙ ap (drop (length (sources_of (get_or qs i d)))) (from_question i d low)
+      ∙ drop-append_seam (sources_of (get_or qs i d)) (flat_map sources_of (drop (i + 1) qs))
 
   -- by a list of the sources of a question
   module _ (i : ℕ) (place : i < length qs) (xs : List ℕ) (are : (d : Question) → xs ≡ sources_of (get_or qs i d)) where
@@ -95,11 +96,13 @@ module _ (qs : List Question) where
           ap (λ (l : List ℕ). take w (l ++ after)) is ∙ take_again w (xs ++ own) after ∙ ap (take w) (append_assoc xs own after ∙ ap (λ (l : List ℕ). xs ++ l) (sym (from_question k d low))) ∙ were
 
   -- how many the first questions have, with one question more
-  pub counted_more : (i n m : ℕ) (d : Question) → i < length qs → n ≡ length (flat_map sources_of (take i qs)) → m ≡ n + length (sources_of (get_or qs i d)) → m ≡ length (flat_map sources_of (take (i + 1) qs))
+  pub counted_more : (i n m : ℕ) (d : Question) → i < length qs → n ≡ length (flat_map sources_of (take i qs)) → m ≡ n + length (sources_of (get_or qs i d)) →
+      m ≡ length (flat_map sources_of (take (i + 1) qs))
   counted_more i n m d low was is =
       let own = sources_of (get_or qs i d) in
       let before = flat_map sources_of (take i qs) in
-      is ∙ ap (λ (c : ℕ). c + length own) was ∙ sym (length-append before own) ∙ ap (λ (l : List ℕ). length l) (flat_map_more sources_of [] (take i qs) (get_or qs i d) ∙ ap (flat_map sources_of) (sym (take_more qs i d low)))
+      is ∙ ap (λ (c : ℕ). c + length own) was ∙ sym (length-append before own) ∙ ap (λ (l : List ℕ). length l)
+      (flat_map_more sources_of [] (take i qs) (get_or qs i d) ∙ ap (flat_map sources_of) (sym (take_more qs i d low)))
 
   pub counted_all : (i n : ℕ) → length qs ≤ i → n ≡ length (flat_map sources_of (take i qs)) → n ≡ length (flat_map sources_of qs)
   counted_all i n over was = was ∙ ap (λ (l : List Question). length (flat_map sources_of l)) (take_all i qs over)
@@ -117,7 +120,8 @@ to_come_within n q i j w =
     (all_flat (IsVertexOf n) sources_of (drop i qs) (All-drop (λ (x : Question). All (IsVertexOf n) (sources_of x)) i qs (λ k d low. (asked_within n q k w low d).1)))
 
 -- a question has some sources
-pub some_sources : (n : ℕ) (q : Questions) (i : ℕ) → AskWithin n q → i < length (asked_of q).questions → (xs : List ℕ) → ((d : Question) → xs ≡ sources_of (get_or (asked_of q).questions i d)) → 1 ≤ length xs
+pub some_sources : (n : ℕ) (q : Questions) (i : ℕ) → AskWithin n q → i < length (asked_of q).questions → (xs : List ℕ) →
+    ((d : Question) → xs ≡ sources_of (get_or (asked_of q).questions i d)) → 1 ≤ length xs
 some_sources n q i w low xs are = subst (λ (l : List ℕ). 1 ≤ length l) (sym (are (FromSource 0))) (asked_within n q i w low (FromSource 0)).0
 
 -- and at most 1,024

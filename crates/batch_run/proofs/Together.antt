@@ -60,7 +60,8 @@ opened_shard A t f m first (suc n) k low high = elim (cases_lt first k) as (λ _
   | inr here ↦ inl (omega arith)
 ]
 
-pub shards_opened : {S V : Type 0} (meaning : S → Algebra V) (t : SetupData S) (f : FloorData S) (stations : List (StationData S V)) → AreOpened meaning t f stations → (k : ℕ) → k < t.plan.shards → HasShard k stations
+pub shards_opened : {S V : Type 0} (meaning : S → Algebra V) (t : SetupData S) (f : FloorData S) (stations : List (StationData S V)) → AreOpened meaning t f stations → (k : ℕ) →
+    k < t.plan.shards → HasShard k stations
 shards_opened meaning t f stations o k low = rw o.stations_are (opened_shard (meaning t.diffusion.algebra) t f t.plan.shards 0 t.plan.shards k (omega arith) (omega arith))
 
 module _ {S V W : Type 0} (meaning : S → Algebra V) (setup : ℕ → SetupData S) (floors : List (FloorData S)) (questions : List (Vec (StationData S V) W)) (n : ℕ) (same : length floors ≡ n)
@@ -88,7 +89,8 @@ pub longer : {X : Type 0} (ys xs : List X) (x : X) → ys ≡ xs ++ x ∷ [] →
 longer ys xs x e = grind (arith, common_steps)
 
 -- what is run to its end stays so while the last is taken away
-module _ {S V W : Type 0} (algebra : S) (roads : GraphData) (plan : PlanData) (sources : List ℕ) (fs gs : List (FloorData S)) (ls ms : List (Vec (StationData S V) W)) (f : FloorData S) (l : Vec (StationData S V) W)
+module _ {S V W : Type 0} (algebra : S) (roads : GraphData) (plan : PlanData) (sources : List ℕ) (fs gs : List (FloorData S)) (ls ms : List (Vec (StationData S V) W))
+    (f : FloorData S) (l : Vec (StationData S V) W)
     (is_f : fs ≡ gs ++ f ∷ []) (is_l : ls ≡ ms ++ l ∷ []) (same : length fs ≡ length ls)
     (each : (q s : ℕ) (e : FloorData S) (k : Vec (StationData S V) W) → q < length fs → AreEnded (setup_of algebra roads (get_or sources q s) plan) (get_or fs q e) (get_or ls q k).items) where
   EndedAt : ℕ → FloorData S → Vec (StationData S V) W → Type 0

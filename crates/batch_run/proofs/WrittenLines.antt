@@ -25,7 +25,8 @@ module _ {V : Type 0} (A : Algebra V) (labels : List (Option V)) (t : Branches) 
   line_is i v line label hops parent lt at is l h p = rw (line_at i v lt at, is, l, h, p) refl
 
 -- the lines of best labels and their tree are right
-pub lines_are_right : {V : Type 0} (A : Algebra V) (g : GraphData) (sources : List ℕ) (labels : List (Option V)) (t : Branches) (n : ℕ) → n ≡ g.vertices → AreBest A g sources labels → IsTree A g sources t →
+pub lines_are_right : {V : Type 0} (A : Algebra V) (g : GraphData) (sources : List ℕ) (labels : List (Option V)) (t : Branches) (n : ℕ) → n ≡ g.vertices →
+    AreBest A g sources labels → IsTree A g sources t →
     AreVertexLines A g sources (written_lines A labels t n)
 lines_are_right A g sources labels t n all best tree = record {
   count = lines_count A labels t n ∙ all;

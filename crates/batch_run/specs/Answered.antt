@@ -1,5 +1,5 @@
 -- What a batch leaves: the text of the right answers, whole or a prefix of it.
-use Rattle.std.specs.Prelude.{◌≡◌, ℕ, List, [], ◌++◌, ◌↔◌, length, take, All, Option, Result, Ok, Err}
+use Rattle.std.specs.Prelude.{◌≡◌, ◌≢◌, ℕ, ◌+◌, List, [], ◌++◌, ◌↔◌, length, take, All, Option, Result, Ok, Err, OnOk, IfErr}
 use Rattle.std.specs.Io.KnownBytes.{Appends}
 use Rattle.road_graph.specs.GraphData.{GraphData, HasVertex}
 use Rattle.road_files.specs.Asked.{Question, FromSource, BetweenPair, FromSources, Asked}
@@ -17,9 +17,9 @@ use Rattle.worker_fleet.specs.declared.group.GroupFault.TheVariants as group
 
 -- the right answer to a question was written, whole; or nothing, since memory was refused; or a prefix of it, and then a write failed
 abbrev pub WroteAnswer : {V : Type 0} → Algebra V → GraphData → Question → (old new : Option (List ℕ)) (before after : ℕ) → Result (Unit {0}) Unanswered → Type 0
-WroteAnswer A g q old new before after (Ok _) = (told : AnswerData) × IsAnswer A g q told × WrotePrefix old new before after (answer_text told) []
+WroteAnswer A g q old new before after (Ok _) = (answer : AnswerData) × IsAnswer A g q answer × WrotePrefix old new before after (answer_text answer) []
 WroteAnswer A g q old new before after (Err Memory) = (new ≡ old) × (after ≡ before)
-WroteAnswer A g q old new before after (Err Write) = (told : AnswerData) × IsAnswer A g q told × FailedAfterPrefix old new before after (answer_text told)
+WroteAnswer A g q old new before after (Err Write) = (answer : AnswerData) × IsAnswer A g q answer × FailedAfterPrefix old new before after (answer_text answer)
 
 -- so it was, or a fault stopped it: nothing of the answer was written, or a prefix of it, and then a write failed, which is 42
 abbrev pub WroteNext : {V : Type 0} → Algebra V → GraphData → Question → (old new : Option (List ℕ)) (before after : ℕ) → Result (Unit {0}) RunFault → Type 0
@@ -50,6 +50,11 @@ WroteAllOrPrefix A g asked old new (Err _) = WroteAnswersPrefix A g asked old ne
 abbrev pub begun_text : {V : Type 0} → Algebra V → Asked → List AnswerData → List ℕ
 begun_text A asked answers = header_text asked.kind (length asked.questions) A.name ++ blocks_text answers
 
+-- the header was written, whole; or a prefix of it, and then a write failed, which is 42
+abbrev pub WroteHeader : {V : Type 0} → Algebra V → Asked → (old new : Option (List ℕ)) (before after : ℕ) → Result (Unit {0}) RunFault → Type 0
+WroteHeader A asked old new before after (Ok _) = WrotePrefix old new before after (begun_text A asked []) []
+WroteHeader A asked old new before after (Err f) = (f ≡ record { number = 42; file = NoFile; line = 0 }) × FailedAfterPrefix old new before after (begun_text A asked [])
+
 -- a prefix was written of the header and the right answers to the first questions
 pub record WroteFirst {V : Type 0} (A : Algebra V) (g : GraphData) (asked : Asked) (old new : Option (List ℕ)) : Type 0 where
   pub count : ℕ
@@ -71,6 +76,21 @@ pub record WroteWhole {V : Type 0} (A : Algebra V) (g : GraphData) (asked : Aske
 abbrev pub WroteAllOrFirst : {V : Type 0} → Algebra V → GraphData → Asked → Option (List ℕ) → Option (List ℕ) → Result (Unit {0}) RunFault → Type 0
 WroteAllOrFirst A g asked old new (Ok _) = WroteAnswers A g asked old new
 WroteAllOrFirst A g asked old new (Err _) = WroteFirst A g asked old new
+
+-- all questions were answered, or a fault of this kind stopped it
+pub record AnsweredAll {V : Type 0} (A : Algebra V) (g : GraphData) (asked : Asked) (MayStop : RunFault → Type 0) (old new : Option (List ℕ)) (before after : ℕ) (outcome : Result (Unit {0}) RunFault) : Type 0 where
+  -- all of the text was written, or after a fault a prefix of the header and the first answers
+  pub text : WroteAllOrFirst A g asked old new outcome
+  -- without a fault no write failed
+  pub sound : OnOk outcome (after ≡ before)
+  -- the fault is of this kind
+  pub kind : IfErr outcome MayStop
+  -- if it is 42, one write failed
+  pub failed : IfErr outcome (λ f. f.number ≡ 42 → after ≡ before + 1)
+  -- if it is another, none did
+  pub unfailed : IfErr outcome (λ f. f.number ≢ 42 → after ≡ before)
+  -- and the header and the first answers are whole
+  pub whole : IfErr outcome (λ f. f.number ≢ 42 → WroteWhole A g asked old new)
 
 -- the question asks of vertices of the graph alone
 abbrev pub AsksWithin : GraphData → Question → Type 0

@@ -1,7 +1,7 @@
 -- What a batch reports while it runs. Of two questions, from 1 and from 4 and 5, by diffusions: it begins (2 questions, 3 diffusions), question 1 from 1 was
 -- gathered, 1 is answered, question 2 from 4 was gathered, question 2 from 5 was, 2 are answered. With the plain solver: it begins (2 questions, 0 diffusions),
 -- 1 is answered, 2 are.
-use Rattle.std.specs.Prelude.{◌≡◌, ◌≢◌, ℕ, ◌+◌, Bool, true, false, List, [], ◌∷◌, ◌++◌, length, map, Option, Result, OnOk, IfErr}
+use Rattle.std.specs.Prelude.{◌≡◌, ◌≢◌, ℕ, ◌+◌, Bool, true, false, List, [], ◌∷◌, ◌++◌, length, map, Option, Result, Ok, Err, OnOk, IfErr}
 use Rattle.std.specs.List.{AllZip, flat_map}
 use Rattle.road_graph.specs.GraphData.{GraphData}
 use Rattle.road_files.specs.Asked.{Question, Asked, sources_of}
@@ -80,6 +80,11 @@ pub record ReportedPrefix {V S : Type 0} (A : Algebra V) (g : GraphData) (may_be
   pub rest : List Due
   pub due_is : due ≡ prefix ++ rest
   pub reported : Reported A g may_become prefix old new
+
+-- all that is due was reported, or before a fault a prefix of it
+abbrev pub ReportedAllOrPrefix : {V S T E : Type 0} (A : Algebra V) (g : GraphData) (may_become : S → Report → S → Type 0) (due : List Due) (old new : S) → Result T E → Type 0
+ReportedAllOrPrefix A g may_become due old new (Ok _) = Reported A g may_become due old new
+ReportedAllOrPrefix A g may_become due old new (Err _) = ReportedPrefix A g may_become due old new
 
 -- all that is due of what was read was reported
 pub record ReportedAll {V S : Type 0} (A : Algebra V) (plain : Bool) (IsRead : GraphData → Asked → Type 0) (may_become : S → Report → S → Type 0) (old new : S) : Type 0 where

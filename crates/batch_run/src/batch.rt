@@ -1,19 +1,19 @@
 //! Answers all questions of a batch over a graph, by workers or by the plain solver.
-ghost use Rattle.std.specs.Prelude.{◌≡◌, ◌≢◌, ℕ, ◌+◌, ◌≤◌, ◌<◌, length, slice_index_or, All, IfErr, OnOk, OnErr, is_none};
+ghost use Rattle.std.specs.Prelude.{◌≡◌, ◌+◌, ◌<◌, length, slice_index_or, All, IfErr, OnOk, is_none};
 ghost use Rattle.road_files.specs.Asked.{AreQuestionsOf, Question, asked_of};
-ghost use Rattle.batch_run.specs.Answered.{WroteAllOrFirst, WroteNext, WroteWhole};
+ghost use Rattle.batch_run.specs.Answered.{AnsweredAll, WroteNext};
 ghost use Rattle.batch_run.specs.Diffusions.{AreReady, sources_to_come};
 ghost use Rattle.batch_run.specs.InRange.{AreInRange};
-ghost use Rattle.batch_run.specs.Reports.{Reported, ReportedPrefix, batch_due, question_due};
+ghost use Rattle.batch_run.specs.Reports.{ReportedAllOrPrefix, batch_due, question_due};
 ghost use Rattle.batch_run.specs.Ran.{IsLater};
 ghost use Rattle.batch_run.specs.Solved.{IsSolved};
 
-use crate::faults::{RunFault, WRITE, fault_of_answer, fault_of_group, fault_of_run};
+use crate::begin::begin;
+use crate::faults::{RunFault, fault_of_answer, fault_of_group, fault_of_run};
 use crate::settings::Settings;
-use crate::solve::{RunContext, RunState, count_diffusions, prepare, solved_at};
+use crate::solve::{RunContext, RunState, prepare, solved_at};
 use crate::watcher::{Report, Unwatched, Watcher};
 use crate::write::{TwoWayGraph, answer_at};
-use answer_text::write_header;
 use path_algebra::PathAlgebra;
 use road_files::Questions;
 use road_graph::Graph;
@@ -52,14 +52,11 @@ fn answer_next<'g, A: PathAlgebra, W: RoadWrite, R: Threads + Wait + Sync, T: Ga
         (W.written out.old) (W.written out.new) (W.failures out.old) (W.failures out.new) result }
     ensures later { IfErr result (IsLater context.now.settings.now
         (T.may_answer context.now.gate.now)) }
-    ensures reported { OnOk result ((default : Question) →
-        Reported (A.meaning context.now.algebra) context.now.graph.now O.may_become
-        (question_due context.now.settings.now.plain (i + 1)
-        (slice_index_or (asked_of questions.now).questions i default)) watcher.old watcher.new) }
-    ensures begun { OnErr result ((default : Question) → ReportedPrefix
+    ensures reported { (default : Question) → ReportedAllOrPrefix
         (A.meaning context.now.algebra) context.now.graph.now O.may_become
         (question_due context.now.settings.now.plain (i + 1)
-        (slice_index_or (asked_of questions.now).questions i default)) watcher.old watcher.new) }
+        (slice_index_or (asked_of questions.now).questions i default)) watcher.old watcher.new
+        result }
 {
     let k = match solved_at(context, plan, state, questions, i, watcher) {
         Ok(k) => k,
@@ -96,38 +93,21 @@ pub fn answer_all_watched<
 ) -> Result<(), RunFault>
     requires within { AreQuestionsOf graph.now.vertices questions.now }
     requires settings { AreInRange settings.now }
-    ensures text { WroteAllOrFirst (A.meaning algebra) graph.now (asked_of questions.now)
-        (W.written out.old) (W.written out.new) result }
-    ensures sound { OnOk result (W.failures out.new ≡ W.failures out.old) }
-    ensures later { IfErr result (λ f. IsLater settings.now (T.may_answer gate.now) f ×
-        (f.number ≡ 42 → W.failures out.old < W.failures out.new)) }
-    ensures whole { IfErr result (λ f. f.number ≢ 42 → WroteWhole (A.meaning algebra) graph.now
-        (asked_of questions.now) (W.written out.old) (W.written out.new)) }
-    ensures unfailed { IfErr result (λ f. f.number ≢ 42 → W.failures out.new ≡ W.failures out.old) }
-    ensures failed { IfErr result (λ f. f.number ≡ 42 → W.failures out.new ≡ W.failures out.old +
-        1) }
-    ensures more { W.failures out.old ≤ W.failures out.new }
-    ensures reported { OnOk result (Reported (A.meaning algebra) graph.now O.may_become
+    ensures answered { AnsweredAll (A.meaning algebra) graph.now (asked_of questions.now)
+        (IsLater settings.now (T.may_answer gate.now)) (W.written out.old) (W.written out.new)
+        (W.failures out.old) (W.failures out.new) result }
+    ensures reported { ReportedAllOrPrefix (A.meaning algebra) graph.now O.may_become
         (batch_due settings.now.plain (asked_of questions.now).questions) watcher.old
-        watcher.new) }
-    ensures begun { OnErr result (ReportedPrefix (A.meaning algebra) graph.now O.may_become
-        (batch_due settings.now.plain (asked_of questions.now).questions) watcher.old
-        watcher.new) }
+        watcher.new result }
 {
-    let count = questions.len() as u32;
-    match write_header(out, questions.kind(), count, algebra.name()) {
+    match begin(algebra, questions, settings.plain, out, watcher) {
         Ok(()) => {}
-        Err(_) => return Err(fault_of_run(WRITE)),
+        Err(fault) => return Err(fault),
     }
     let Ok(prepared) = prepare(alloc, graph, settings) else {
         return Err(fault_of_run(MEMORY));
     };
     let plan = prepared.as_ref();
-    let diffusions = count_diffusions(questions, settings.plain);
-    watcher.report(Report::Begun {
-        questions: count,
-        diffusions,
-    });
     let context = RunContext {
         rt,
         alloc,
@@ -159,17 +139,9 @@ pub fn answer_all<A: PathAlgebra, W: RoadWrite, R: Threads + Wait + Sync, T: Gat
 ) -> Result<(), RunFault>
     requires within { AreQuestionsOf graph.now.vertices questions.now }
     requires settings { AreInRange settings.now }
-    ensures text { WroteAllOrFirst (A.meaning algebra) graph.now (asked_of questions.now)
-        (W.written out.old) (W.written out.new) result }
-    ensures sound { OnOk result (W.failures out.new ≡ W.failures out.old) }
-    ensures later { IfErr result (λ f. IsLater settings.now (T.may_answer gate.now) f ×
-        (f.number ≡ 42 → W.failures out.old < W.failures out.new)) }
-    ensures whole { IfErr result (λ f. f.number ≢ 42 → WroteWhole (A.meaning algebra) graph.now
-        (asked_of questions.now) (W.written out.old) (W.written out.new)) }
-    ensures unfailed { IfErr result (λ f. f.number ≢ 42 → W.failures out.new ≡ W.failures out.old) }
-    ensures failed { IfErr result (λ f. f.number ≡ 42 → W.failures out.new ≡ W.failures out.old +
-        1) }
-    ensures more { W.failures out.old ≤ W.failures out.new }
+    ensures answered { AnsweredAll (A.meaning algebra) graph.now (asked_of questions.now)
+        (IsLater settings.now (T.may_answer gate.now)) (W.written out.old) (W.written out.new)
+        (W.failures out.old) (W.failures out.new) result }
 {
     answer_all_watched(
         rt,

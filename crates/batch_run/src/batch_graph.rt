@@ -1,12 +1,12 @@
 //! What a batch is answered over: a graph for workers, or one for the plain solver.
-ghost use Rattle.std.specs.Prelude.{◌≡◌, ◌≢◌, ◌≤◌, ◌<◌, Bool, true, false, OnOk, IfErr, OnErr};
+ghost use Rattle.std.specs.Prelude.{◌≡◌, Bool, true, false};
 ghost use Rattle.road_graph.specs.GraphData.{IsGraph};
 ghost use Rattle.road_files.specs.Asked.{AreQuestionsOf, asked_of};
-ghost use Rattle.batch_run.specs.Answered.{WroteAllOrFirst, WroteWhole};
+ghost use Rattle.batch_run.specs.Answered.{AnsweredAll};
 ghost use Rattle.batch_run.specs.BatchGraphs.{is_outgoing, roads_in};
 ghost use Rattle.batch_run.specs.InRange.{AreInRange};
 ghost use Rattle.batch_run.specs.Ran.{IsLater};
-ghost use Rattle.batch_run.specs.Reports.{Reported, ReportedPrefix, batch_due};
+ghost use Rattle.batch_run.specs.Reports.{ReportedAllOrPrefix, batch_due};
 
 use crate::batch::answer_all_watched;
 use crate::faults::RunFault;
@@ -102,21 +102,12 @@ pub(crate) fn answer_over<
     requires within { AreQuestionsOf (roads_in graph).vertices questions.now }
     requires settings { AreInRange settings.now }
     requires kind { settings.now.plain ≡ is_outgoing graph }
-    ensures text { WroteAllOrFirst (A.meaning algebra) (roads_in graph) (asked_of questions.now)
-        (W.written out.old) (W.written out.new) result }
-    ensures sound { OnOk result (W.failures out.new ≡ W.failures out.old) }
-    ensures later { IfErr result (λ f. IsLater settings.now (T.may_answer gate.now) f ×
-        (f.number ≡ 42 → W.failures out.old < W.failures out.new)) }
-    ensures whole { IfErr result (λ f. f.number ≢ 42 → WroteWhole (A.meaning algebra)
-        (roads_in graph) (asked_of questions.now) (W.written out.old) (W.written out.new)) }
-    ensures unfailed { IfErr result (λ f. f.number ≢ 42 → W.failures out.new ≡ W.failures out.old) }
-    ensures more { W.failures out.old ≤ W.failures out.new }
-    ensures reported { OnOk result (Reported (A.meaning algebra) (roads_in graph) O.may_become
+    ensures answered { AnsweredAll (A.meaning algebra) (roads_in graph) (asked_of questions.now)
+        (IsLater settings.now (T.may_answer gate.now)) (W.written out.old) (W.written out.new)
+        (W.failures out.old) (W.failures out.new) result }
+    ensures reported { ReportedAllOrPrefix (A.meaning algebra) (roads_in graph) O.may_become
         (batch_due settings.now.plain (asked_of questions.now).questions) watcher.old
-        watcher.new) }
-    ensures begun { OnErr result (ReportedPrefix (A.meaning algebra) (roads_in graph) O.may_become
-        (batch_due settings.now.plain (asked_of questions.now).questions) watcher.old
-        watcher.new) }
+        watcher.new result }
 {
     match graph {
         BatchGraph::Whole(graph) => {

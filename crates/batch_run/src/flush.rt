@@ -1,10 +1,10 @@
 //! Answers a batch and passes the answers on.
-ghost use Rattle.std.specs.Prelude.{◌≡◌, ◌≢◌, ◌+◌, ◌≤◌, ◌<◌, ◌⊎◌, [], Ok, Err, OnOk, IfErr, OnErr};
+ghost use Rattle.std.specs.Prelude.{◌≡◌, ◌≢◌, ◌+◌, ◌≤◌, ◌<◌, ◌⊎◌, [], Ok, Err, OnOk, IfErr};
 ghost use Rattle.std.specs.Io.KnownBytes.{Keeps};
 ghost use Rattle.road_files.specs.Asked.{AreQuestionsOf, asked_of};
 ghost use Rattle.batch_run.specs.Answered.{WroteAllOrPrefix, WroteWhole};
 ghost use Rattle.batch_run.specs.InRange.{AreInRange};
-ghost use Rattle.batch_run.specs.Reports.{Reported, ReportedPrefix, batch_due};
+ghost use Rattle.batch_run.specs.Reports.{ReportedAllOrPrefix, batch_due};
 ghost use Rattle.batch_run.specs.Ran.{IsPassedOn, IsLater};
 
 use crate::batch_graph::{Answerable, answer_over};
@@ -81,10 +81,9 @@ pub(crate) fn answer_and_flush<
     ensures once { IfErr result (λ f. f.number ≢ 42 → W.failures out.new ≤ W.failures out.old + 1) }
     ensures flushed { IfErr result (λ f. f.number ≢ 42 → IsPassedOn (W.held out.new)
         (W.failures out.old) (W.failures out.new)) }
-    ensures reported { OnOk result (Reported (A.meaning algebra) (B.roads graph) O.may_become
-        (batch_due settings.now.plain (asked_of questions).questions) watcher.old watcher.new) }
-    ensures begun { OnErr result (ReportedPrefix (A.meaning algebra) (B.roads graph) O.may_become
-        (batch_due settings.now.plain (asked_of questions).questions) watcher.old watcher.new) }
+    ensures reported { ReportedAllOrPrefix (A.meaning algebra) (B.roads graph) O.may_become
+        (batch_due settings.now.plain (asked_of questions).questions) watcher.old watcher.new
+        result }
 {
     answers_exist(algebra);
     first_answers_begin_all(algebra);

@@ -3,6 +3,7 @@
 
 mod batch;
 mod batch_graph;
+mod begin;
 mod bundle;
 mod faults;
 mod flush;

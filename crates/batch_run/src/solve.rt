@@ -1,10 +1,10 @@
 //! Solves the questions of a batch: by workers if there is a plan for them, else by the plain solver.
-ghost use Rattle.std.specs.Prelude.{◌≡◌, ◌+◌, ◌<◌, length, slice_index_or, All, HoldsAt, IfOk, IfErr, OnOk, OnErr, is_none, None};
+ghost use Rattle.std.specs.Prelude.{◌≡◌, ◌+◌, ◌<◌, length, slice_index_or, All, HoldsAt, IfOk, IfErr, OnOk, is_none, None};
 ghost use Rattle.road_files.specs.Asked.{AreQuestionsOf, Question, asked_of};
 ghost use Rattle.worker_fleet.specs.Stops.{Says};
 ghost use Rattle.batch_run.specs.Diffusions.{AreReady, sources_to_come};
 ghost use Rattle.batch_run.specs.InRange.{AreInRange};
-ghost use Rattle.batch_run.specs.Reports.{Reported, ReportedPrefix, accounts_due};
+ghost use Rattle.batch_run.specs.Reports.{ReportedAllOrPrefix, accounts_due};
 ghost use Rattle.batch_run.specs.Solved.{IsSolved, IsSolvedFor};
 
 mod context;
@@ -60,14 +60,11 @@ pub(crate) fn solved_at<'g, A: PathAlgebra, R: Threads + Wait + Sync, T: Gate, O
     ensures plain { plan.entry ≡ None → IfErr result (λ f. f ≡ GroupFault.Memory) }
     ensures says { IfErr result (Says (T.may_answer context.now.gate.now)
         context.now.settings.now.workers context.now.settings.now.turns) }
-    ensures reported { OnOk result ((default : Question) →
-        Reported (A.meaning context.now.algebra) context.now.graph.now O.may_become
-        (accounts_due (is_none plan.entry) (i + 1)
-        (slice_index_or (asked_of questions.now).questions i default)) watcher.old watcher.new) }
-    ensures begun { OnErr result ((default : Question) → ReportedPrefix
+    ensures reported { (default : Question) → ReportedAllOrPrefix
         (A.meaning context.now.algebra) context.now.graph.now O.may_become
         (accounts_due (is_none plan.entry) (i + 1)
-        (slice_index_or (asked_of questions.now).questions i default)) watcher.old watcher.new) }
+        (slice_index_or (asked_of questions.now).questions i default)) watcher.old watcher.new
+        result }
 {
     match plan {
         Some(plan) => {

@@ -106,6 +106,15 @@ fn watching_of<'a>(matches: &ArgMatches<'a>) -> WatchOptions<'a> {
     }
 }
 
+fn check_of<'a>(matches: &ArgMatches<'a>) -> CheckArgs<'a> {
+    CheckArgs {
+        graph: text_of(matches, "GRAPH"),
+        questions: text_of(matches, "QUESTIONS"),
+        answers: text_of(matches, "ANSWERS"),
+        limit: matches.get_one::<u64>("limit"),
+    }
+}
+
 fn numbers_of(alloc: Global, matches: &ArgMatches<'_>, name: &str) -> Result<Vec<u64>, AllocError> {
     let mut numbers = Vec::new(alloc);
     if let Some(found) = matches.get_many::<u64>(name) {
@@ -146,12 +155,7 @@ pub fn parse_args<'a>(alloc: Global, words: &'a [String]) -> Result<Option<Subco
             graph: text_of(found, "GRAPH"),
             options: options_of(found),
         })),
-        Some(("check", found)) => Some(Subcommand::Check(CheckArgs {
-            graph: text_of(found, "GRAPH"),
-            questions: text_of(found, "QUESTIONS"),
-            answers: text_of(found, "ANSWERS"),
-            limit: found.get_one::<u64>("limit"),
-        })),
+        Some(("check", found)) => Some(Subcommand::Check(check_of(found))),
         Some(("faults", found)) => Some(Subcommand::Faults {
             numbers: numbers_of(alloc, found, "N")?,
         }),

@@ -8,7 +8,7 @@ use road_graph::{ArcNo, Graph, Vertex};
 use scholten_core::{Core, Event, Token};
 use std::process::Abort;
 
-/// The events of a question over one arc.
+/// The events of a diffusion over one arc.
 const ONCE: [Event; 4] = [
     Event::Deliver(ArcNo(0)),
     Event::Deliver(ArcNo(1)),
@@ -125,7 +125,7 @@ impl<'g, A: PathAlgebra> Trial<'g, A> {
         }
     }
 
-    /// Goes over all arcs, round after round, until the question has ended.
+    /// Goes over all arcs, round after round, until the diffusion has ended.
     fn run_to_the_end(&mut self, rt: &impl Abort, arcs: u32) {
         for _round in 0..10_000 {
             for a in 0..arcs {
@@ -195,7 +195,7 @@ fn assert_accept<A: PathAlgebra>(rt: &impl Abort, trial: &mut Trial<'_, A>, a: u
     assert!(rt; trial.accept(a) == wanted);
 }
 
-/// Asserts whether the question has ended, with every arc idle.
+/// Asserts whether the diffusion has ended, with every arc idle.
 fn assert_ended<A: PathAlgebra>(rt: &impl Abort, trial: &Trial<'_, A>, wanted: bool) {
     assert!(rt; trial.ended() == wanted);
     assert!(rt; trial.quiet() == wanted);

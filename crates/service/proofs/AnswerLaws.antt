@@ -32,7 +32,8 @@ module _ {V : Type 0} (A : Algebra V) (how : Settings) (gate : ℕ → ℕ → B
   fell new a w one = (answers_text w.answers, inl (w.answers, w.right, refl), record { prefix = w.prefix; rest = w.rest; text_is = w.text_is; bytes = w.bytes; failed = one })
 
   -- the first of them were, each whole, and then the line of the fault that stopped it
-  pub stopped : {R E : Type 0} (f : RunFault) (mid new : Option (List ℕ)) (m a : ℕ) (res : Result R E) → IsLater how gate f → f.number ≢ 42 → WroteWhole A g asked old mid → m ≡ b → Wrote mid new m a (fault_text f.number 0) res
+  pub stopped : {R E : Type 0} (f : RunFault) (mid new : Option (List ℕ)) (m a : ℕ) (res : Result R E) → IsLater how gate f → f.number ≢ 42 → WroteWhole A g asked old mid → m ≡ b →
+      Wrote mid new m a (fault_text f.number 0) res
       → (text : List ℕ) × MayAnswer A how gate g asked text × Wrote old new b a text res
   stopped f mid new m a res later other w same line =
       let begun : List ℕ = begun_text A asked w.answers in

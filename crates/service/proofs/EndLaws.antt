@@ -53,17 +53,20 @@ module _ (answers : Asked → List ℕ → Type 0) (t v u : Service) (old new : 
           more,
           record {
             made = rw (same_after ∙ same, all) (subst (λ (y : ServiceState). LinesMay t.cutter.taker.questions.list.vertices 1 (Gives None) (lines true fed ++ l ∷ []) (rs ++ more) y) next
-                (lines_may_then t.cutter.taker.questions.list.vertices 1 (Gives None) (parser_state t.cutter.taker) step.next (lines true fed) (l ∷ []) rs more h.made (step, [], rw (same, state) at may, sym (append-nil more), (refl, refl))));
+                (lines_may_then t.cutter.taker.questions.list.vertices 1 (Gives None) (parser_state t.cutter.taker) step.next (lines true fed) (l ∷ []) rs more h.made
+                (step, [], rw (same, state) at may, sym (append-nil more), (refl, refl))));
             line = omega (arith, line_after, line ∙ h.line, count);
           },
           replied,
         )
 
-    pub last_line : {A E : Type 0} (res : Result A E) → ((at : ℕ) (l : List ℕ) → v.line ≡ held_line at → IsLine RequestSoFar v.cutter l → LineEnded answers at l v u old new b a res) → OnOk res (LastFed answers t u old new b a)
+    pub last_line : {A E : Type 0} (res : Result A E) → ((at : ℕ) (l : List ℕ) → v.line ≡ held_line at → IsLine RequestSoFar v.cutter l →
+        LineEnded answers at l v u old new b a res) → OnOk res (LastFed answers t u old new b a)
     last_line (Err e) did = tt
     last_line {A = A} {E = E} (Ok x) did = last_taken {A = A} {E = E} (Ok x) did
 
-    pub last_fell : {A E : Type 0} (res : Result A E) → ((at : ℕ) (l : List ℕ) → v.line ≡ held_line at → IsLine RequestSoFar v.cutter l → LineEnded answers at l v u old new b a res) → OnErr res (LastFedPart answers t u old new b a)
+    pub last_fell : {A E : Type 0} (res : Result A E) → ((at : ℕ) (l : List ℕ) → v.line ≡ held_line at → IsLine RequestSoFar v.cutter l →
+        LineEnded answers at l v u old new b a res) → OnErr res (LastFedPart answers t u old new b a)
     last_fell (Ok x) did = tt
     last_fell {A = A} {E = E} (Err e) did = last_taken {A = A} {E = E} (Err e) did
 
@@ -74,8 +77,10 @@ module _ (answers : Asked → List ℕ → Type 0) where
   end_one s line old new b a res open_is wrote at e = rw open_is (replied_one answers (Err (fault_at at 19)) (fault_text 19 line) old new b a res (ap (fault_text 19) e) wrote)
 
   module _ (t u : Service) (old mid new : Option (List ℕ)) (b m a : ℕ) (same : u.cutter.taker.questions.list.vertices ≡ t.cutter.taker.questions.list.vertices) where
-    finish_taken : {A E : Type 0} (res : Result A E) → LastFed answers t u old mid b m → ((at : ℕ) → u.line ≡ held_line at → RepliedOrFell answers (map (at_line at) (service_end (parser_state u.cutter.taker))) mid new m a res)
-        → (fed : List ℕ) (rs : List Request) → WasFed t fed rs → (more : List Request) × HasRequests t.cutter.taker.questions.list.vertices fed (rs ++ more) × RepliedOrFell answers more old new b a res
+    finish_taken : {A E : Type 0} (res : Result A E) → LastFed answers t u old mid b m →
+        ((at : ℕ) → u.line ≡ held_line at → RepliedOrFell answers (map (at_line at) (service_end (parser_state u.cutter.taker))) mid new m a res)
+        → (fed : List ℕ) (rs : List Request) → WasFed t fed rs → (more : List Request) × HasRequests t.cutter.taker.questions.list.vertices fed
+        (rs ++ more) × RepliedOrFell answers more old new b a res
     finish_taken res f g fed rs h =
         let (more, all, replied) = f fed rs h in
         let at : ℕ = 1 + length (lines false fed) in
@@ -85,17 +90,28 @@ module _ (answers : Asked → List ℕ → Type 0) where
           replied_then answers more last old mid new b m a res replied (g at all.line),
         )
 
-    pub finish_all : {A E : Type 0} (res : Result A E) → LastFed answers t u old mid b m → ((at : ℕ) → u.line ≡ held_line at → RepliedOrFell answers (map (at_line at) (service_end (parser_state u.cutter.taker))) mid new m a res) → OnOk res (Finished answers t old new b a)
+    pub finish_all : {A E : Type 0} (res : Result A E) → LastFed answers t u old mid b m →
+        ((at : ℕ) → u.line ≡ held_line at → RepliedOrFell answers (map (at_line at) (service_end (parser_state u.cutter.taker))) mid new m a res) → OnOk res (Finished answers t old new b a)
     finish_all (Err e) f g = tt
     finish_all {A = A} {E = E} (Ok x) f g = finish_taken {A = A} {E = E} (Ok x) f g
 
-    pub finish_fell : {A E : Type 0} (res : Result A E) → LastFed answers t u old mid b m → ((at : ℕ) → u.line ≡ held_line at → RepliedOrFell answers (map (at_line at) (service_end (parser_state u.cutter.taker))) mid new m a res) → OnErr res (FinishedPart answers t old new b a)
+    pub finish_fell : {A E : Type 0} (res : Result A E) → LastFed answers t u old mid b m →
+        ((at : ℕ) → u.line ≡ held_line at → RepliedOrFell answers (map (at_line at) (service_end (parser_state u.cutter.taker))) mid new m a res) → OnErr res (FinishedPart answers t old new b a)
     finish_fell (Ok x) f g = tt
     finish_fell {A = A} {E = E} (Err e) f g = finish_taken {A = A} {E = E} (Err e) f g
 
   -- the last line fell
-  pub finish_before : (t u : Service) (old new : Option (List ℕ)) (b a : ℕ) → u.cutter.taker.questions.list.vertices ≡ t.cutter.taker.questions.list.vertices → LastFedPart answers t u old new b a → FinishedPart answers t old new b a
+  pub finish_before : (t u : Service) (old new : Option (List ℕ)) (b a : ℕ) → u.cutter.taker.questions.list.vertices ≡ t.cutter.taker.questions.list.vertices →
+      LastFedPart answers t u old new b a → FinishedPart answers t old new b a
   finish_before t u old new b a same f = λ fed rs h.
       let (more, all, fell) = f fed rs h in
-      let last : List Request = map (at_line (1 + length (lines false fed))) (service_end (parser_state u.cutter.taker)) in
-      (more ++ last, (rs ++ more, parser_state u.cutter.taker, subst (λ k. LinesMay k 1 (Gives None) (lines false fed) (rs ++ more) (parser_state u.cutter.taker)) same all.made, sym (append_assoc rs more last)), fell_before answers more last old new b a fell)
+      let last : List Request = map (at_line (1 + length (lines false fed))) (service_end (parser_state u.cutter.taker)) in (
+        more ++ last,
+        (
+          rs ++ more,
+          parser_state u.cutter.taker,
+          subst (λ k. LinesMay k 1 (Gives None) (lines false fed) (rs ++ more) (parser_state u.cutter.taker)) same all.made,
+          sym (append_assoc rs more last),
+        ),
+        fell_before answers more last old new b a fell,
+      )

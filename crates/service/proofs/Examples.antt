@@ -40,17 +40,20 @@ unfolding lines fields number question_line_of question_problem source_of_line p
 after_a_fault = refl
 
 -- the problem line itself has the fault: what follows is passed over
-bad_problem : requests true 5 (text (codes "p aux sp p2p x" ∷ codes "q 1 9" ∷ codes "p" ∷ codes "q 1 4" ∷ codes "p aux sp ms 1" ∷ codes "m 1 2" ∷ [])) ≡ Err (fault_at 1 15) ∷ Err (fault_at 3 12) ∷ Ok (record { kind = Multi; questions = FromSources (1 ∷ 2 ∷ []) ∷ [] }) ∷ []
+bad_problem : requests true 5 (text (codes "p aux sp p2p x" ∷ codes "q 1 9" ∷ codes "p" ∷ codes "q 1 4" ∷ codes "p aux sp ms 1" ∷ codes "m 1 2" ∷ [])) ≡ Err
+    (fault_at 1 15) ∷ Err (fault_at 3 12) ∷ Ok (record { kind = Multi; questions = FromSources (1 ∷ 2 ∷ []) ∷ [] }) ∷ []
 unfolding lines fields number question_line_of question_problem source_of_line pair_of_line sources_of_line
 bad_problem = refl
 
 -- a second problem line, early: fault 19 there, and it begins the next request, whose first line may have a fault too
-early : requests true 5 (text (codes "p aux sp p2p 2" ∷ codes "q 1 4" ∷ codes "p aux sp p2p 1" ∷ codes "q 4 1" ∷ codes "p aux sp ss 1" ∷ codes "p aux sp ss" ∷ [])) ≡ Err (fault_at 3 19) ∷ pair 4 1 ∷ Err (fault_at 6 19) ∷ Err (fault_at 6 12) ∷ []
+early : requests true 5 (text (codes "p aux sp p2p 2" ∷ codes "q 1 4" ∷ codes "p aux sp p2p 1" ∷ codes "q 4 1" ∷ codes "p aux sp ss 1" ∷ codes "p aux sp ss" ∷ [])) ≡ Err
+    (fault_at 3 19) ∷ pair 4 1 ∷ Err (fault_at 6 19) ∷ Err (fault_at 6 12) ∷ []
 unfolding lines fields number question_line_of question_problem source_of_line pair_of_line sources_of_line
 early = refl
 
 -- after the last line of a request: told once, and what follows is passed over
-outside : requests true 5 (text (codes "p aux sp p2p 1" ∷ codes "q 1 4" ∷ codes "q 4 1" ∷ codes "q 4 1" ∷ codes "s" ∷ codes "p aux sp p2p 1" ∷ codes "q 4 1" ∷ codes "x" ∷ [])) ≡ pair 1 4 ∷ Err (fault_at 3 10) ∷ pair 4 1 ∷ Err (fault_at 8 13) ∷ []
+outside : requests true 5 (text (codes "p aux sp p2p 1" ∷ codes "q 1 4" ∷ codes "q 4 1" ∷ codes "q 4 1" ∷ codes "s" ∷ codes "p aux sp p2p 1" ∷ codes "q 4 1" ∷ codes "x" ∷ [])) ≡
+    pair 1 4 ∷ Err (fault_at 3 10) ∷ pair 4 1 ∷ Err (fault_at 8 13) ∷ []
 unfolding lines fields number question_line_of question_problem source_of_line pair_of_line sources_of_line
 outside = refl
 

@@ -24,17 +24,27 @@ module _ (answers : Asked → List ℕ → Type 0) where
   replied_none old before = record { texts = []; right = tt; bytes = Appends-nil old; sound = refl }
 
   -- one reply
-  pub replied_one : {A E : Type 0} (r : Request) (text : List ℕ) (old new : Option (List ℕ)) (before after : ℕ) (res : Result A E) → IsReplyBy answers r text → Wrote old new before after text res → RepliedOrFell answers (r ∷ []) old new before after res
+  pub replied_one : {A E : Type 0} (r : Request) (text : List ℕ) (old new : Option (List ℕ)) (before after : ℕ) (res : Result A E) → IsReplyBy answers r text →
+      Wrote old new before after text res → RepliedOrFell answers (r ∷ []) old new before after res
   replied_one r text old new before after (Ok v) is was = record {
     texts = text ∷ [];
     right = (is, tt);
     bytes = subst (Appends old new) (sym (append-nil text ∙ was.text_is ∙ append-nil was.prefix)) was.bytes;
     sound = was.sound;
   }
-  replied_one r text old new before after (Err e) is was = record { first = r ∷ []; later = []; requests_are = refl; texts = text ∷ []; right = (is, tt); wrote = fell_first old new before after text [] was }
+  replied_one r text old new before after (Err e) is was = record {
+    first = r ∷ [];
+    later = [];
+    requests_are = refl;
+    texts = text ∷ [];
+    right = (is, tt);
+    wrote =
+        fell_first old new before after text [] was;
+  }
 
   -- replies, and then others
-  pub replied_then : {A E : Type 0} (rs qs : List Request) (old mid new : Option (List ℕ)) (b m a : ℕ) (res : Result A E) → Replied answers rs old mid b m → RepliedOrFell answers qs mid new m a res → RepliedOrFell answers (rs ++ qs) old new b a res
+  pub replied_then : {A E : Type 0} (rs qs : List Request) (old mid new : Option (List ℕ)) (b m a : ℕ) (res : Result A E) → Replied answers rs old mid b m →
+      RepliedOrFell answers qs mid new m a res → RepliedOrFell answers (rs ++ qs) old new b a res
   replied_then rs qs old mid new b m a (Ok v) p q = record {
     texts = p.texts ++ q.texts;
     right = are-append rs qs p.texts q.texts p.right q.right;
@@ -61,4 +71,12 @@ module _ (answers : Asked → List ℕ → Type 0) where
 
   -- a failed write, before others are replied to
   pub fell_before : (rs qs : List Request) (old new : Option (List ℕ)) (b a : ℕ) → FellIn answers rs old new b a → FellIn answers (rs ++ qs) old new b a
-  fell_before rs qs old new b a p = record { first = p.first; later = p.later ++ qs; requests_are = ap (λ x. x ++ qs) p.requests_are ∙ append_assoc p.first p.later qs; texts = p.texts; right = p.right; wrote = p.wrote }
+  fell_before rs qs old new b a p = record {
+    first = p.first;
+    later = p.later ++ qs;
+    requests_are = ap (λ x. x ++ qs) p.requests_are ∙ append_assoc p.first p.later qs;
+    texts =
+        p.texts;
+    right = p.right;
+    wrote = p.wrote;
+  }

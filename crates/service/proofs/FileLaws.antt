@@ -35,7 +35,8 @@ IsErr {A = A} r = (e : ℕ) × (r ≡ Err e)
 full_question : (kind : Kind) (q : AskedSoFar) (x : Result Question ℕ) → nat_lt (length q.questions) q.announced ≡ false → IsErr (one_question kind (Some q) x)
 full_question kind q x h = by_kind (same_kind kind q.kind)
   where
-    by_kind : (b : Bool) → IsErr (unless b 13 >>= λ _. (unless (nat_lt (length q.questions) q.announced) 18 >>= λ _. x >>= λ y. Ok (q.questions ++ y ∷ [])) >>= λ qs. Ok (Some (record q { questions = qs })))
+    by_kind : (b : Bool) → IsErr (unless b 13 >>= λ _. (unless (nat_lt (length q.questions) q.announced) 18 >>= λ _. x >>= λ y. Ok (q.questions ++ y ∷ [])) >>= λ qs. Ok
+        (Some (record q { questions = qs })))
     by_kind true = (18, rw h refl)
     by_kind false = (13, refl)
 
@@ -107,22 +108,27 @@ file_of n at k s a [] (e, p) h = let q : at_line at (question_end s) ≡ Ok a = 
 file_of n at k s a (l ∷ ls) going h = by_state s (λ t o g. file_of n (at + 1) (k + 1) t a ls o g) h
   where
     -- given to the request
-    by_end : (t : Option AskedSoFar) (r : Result Asked ℕ) → question_end t ≡ r → (IsOpen t → Makes n (k + 1) (Gives t) ls (Ok a ∷ [])) → value_of_lines false (question_rules n None) (at + 1) t ls ≡ Ok a
+    by_end : (t : Option AskedSoFar) (r : Result Asked ℕ) → question_end t ≡ r → (IsOpen t → Makes n (k + 1) (Gives t) ls (Ok a ∷ [])) →
+        value_of_lines false (question_rules n None) (at + 1) t ls ≡ Ok a
         → (map (at_line k) (whole_or_on t r).ended ++ requests_of true n (k + 1) (whole_or_on t r).next ls ≡ Ok a ∷ []) × (state_after_lines n (whole_or_on t r).next ls ≡ Gives None)
     by_end t (Err e) f next g = next (e, f)
     by_end t (Ok b) f next g =
         let (q, is, full) = full_end t b f in
-        let (same, made) = rest_of_file n (at + 1) (k + 1) q a b ls full (subst (λ x. question_end x ≡ Ok b) is f) (subst (λ x. value_of_lines false (question_rules n None) (at + 1) x ls ≡ Ok a) is g) in
+        let (same, made) = rest_of_file n (at + 1) (k + 1) q a b ls full (subst (λ x. question_end x ≡ Ok b) is f)
+        (subst (λ x. value_of_lines false (question_rules n None) (at + 1) x ls ≡ Ok a) is g) in
         rw (same, made.0) (refl, made.1)
 
-    by_line : (t : Option AskedSoFar) (r : Result (Option AskedSoFar) ℕ) → ((u : Option AskedSoFar) → IsOpen u → value_of_lines false (question_rules n None) (at + 1) u ls ≡ Ok a → Makes n (k + 1) (Gives u) ls (Ok a ∷ []))
+    by_line : (t : Option AskedSoFar) (r : Result (Option AskedSoFar) ℕ) → ((u : Option AskedSoFar) → IsOpen u → value_of_lines false (question_rules n None) (at + 1) u ls ≡ Ok a →
+        Makes n (k + 1) (Gives u) ls (Ok a ∷ []))
         → (at_line at r >>= λ u. value_of_lines false (question_rules n None) (at + 1) u ls) ≡ Ok a
         → (map (at_line k) (given r).ended ++ requests_of true n (k + 1) (given r).next ls ≡ Ok a ∷ []) × (state_after_lines n (given r).next ls ≡ Gives None)
     by_line t (Err e) next g = cc
     by_line t (Ok u) next g = by_end u (question_end u) refl (λ o. next u o g) g
 
-    by_test : (q : AskedSoFar) (b : Bool) → begins_request (fields l) ≡ b → ((u : Option AskedSoFar) → IsOpen u → value_of_lines false (question_rules n None) (at + 1) u ls ≡ Ok a → Makes n (k + 1) (Gives u) ls (Ok a ∷ []))
-        → (at_line at (question_line n None (Some q) (map word_of (fields l))) >>= λ u. value_of_lines false (question_rules n None) (at + 1) u ls) ≡ Ok a → Makes n k (Gives (Some q)) (l ∷ ls) (Ok a ∷ [])
+    by_test : (q : AskedSoFar) (b : Bool) → begins_request (fields l) ≡ b → ((u : Option AskedSoFar) → IsOpen u →
+        value_of_lines false (question_rules n None) (at + 1) u ls ≡ Ok a → Makes n (k + 1) (Gives u) ls (Ok a ∷ []))
+        → (at_line at (question_line n None (Some q) (map word_of (fields l))) >>= λ u. value_of_lines false (question_rules n None) (at + 1) u ls) ≡ Ok a →
+        Makes n k (Gives (Some q)) (l ∷ ls) (Ok a ∷ [])
     by_test q true e next g =
         let twice = second_problem n q (fields l) e in
         let g' = rw twice at g in cc
@@ -145,7 +151,8 @@ never_cut {S = S} {V = V} rules at s (l ∷ ls) v h = by_line (rules.line s (fie
 value_of_file : (n : ℕ) (file : List ℕ) (a : Asked) → text_read (question_rules n None) file ≡ Ok a → value_of_lines false (question_rules n None) 1 None (lines false file) ≡ Ok a
 value_of_file n file a h = by_length (nat_lt 4294967296 (length file)) h
   where
-    by_length : (b : Bool) → cond b (value_of_lines true (question_rules n None) 1 None (lines true (take 4294967296 file))) (value_of_lines false (question_rules n None) 1 None (lines false file)) ≡ Ok a
+    by_length : (b : Bool) → cond b (value_of_lines true (question_rules n None) 1 None (lines true (take 4294967296 file)))
+        (value_of_lines false (question_rules n None) 1 None (lines false file)) ≡ Ok a
         → value_of_lines false (question_rules n None) 1 None (lines false file) ≡ Ok a
     by_length true g = absurd (never_cut (question_rules n None) 1 None _ a g)
     by_length false g = g

@@ -19,10 +19,15 @@ IsWithinLine present = All (λ b. is_line_end b ≡ false) present
 abbrev pub GoesOn : List ℕ → Type 0
 GoesOn bytes = (tail : List ℕ) × IsWithinLine tail × ((cut : Bool) (more : List ℕ) → lines cut (bytes ++ more) ≡ lines true bytes ++ lines cut (tail ++ more))
 
-by_byte : (present : List ℕ) (b : ℕ) (bytes : List ℕ) → IsWithinLine present → GoesOn bytes → (IsWithinLine (present ++ b ∷ []) → GoesOn ((present ++ b ∷ []) ++ bytes)) → (e : Bool) → is_line_end b ≡ e → GoesOn (present ++ b ∷ bytes)
+by_byte : (present : List ℕ) (b : ℕ) (bytes : List ℕ) → IsWithinLine present → GoesOn bytes → (IsWithinLine (present ++ b ∷ []) → GoesOn ((present ++ b ∷ []) ++ bytes)) →
+    (e : Bool) → is_line_end b ≡ e → GoesOn (present ++ b ∷ bytes)
 by_byte present b bytes h ends goes true e =
-    let here : b ≡ 10 = eqb-true b 10 e in
-    (ends.0, ends.1, λ cut more. rw (here, append_assoc present (10 ∷ bytes) more, lines_first cut present (bytes ++ more) h, lines_first true present bytes h) (ap (λ ls. strip_carriage_return present ∷ ls) (ends.2 cut more)))
+    let here : b ≡ 10 = eqb-true b 10 e in (
+      ends.0,
+      ends.1,
+      λ cut more. rw (here, append_assoc present (10 ∷ bytes) more, lines_first cut present (bytes ++ more) h, lines_first true present bytes h)
+          (ap (λ ls. strip_carriage_return present ∷ ls) (ends.2 cut more)),
+    )
 by_byte present b bytes h ends goes false e =
     let next = goes (All-append (λ b. is_line_end b ≡ false) present (b ∷ []) h (All-one (λ b. is_line_end b ≡ false) b e)) in
     subst GoesOn (append_assoc present (b ∷ []) bytes) next
@@ -43,7 +48,8 @@ pub requests_go_on : (cut : Bool) (n at : ℕ) (state : ServiceState) (ls more :
 requests_go_on cut n at state [] more = ap (λ k. requests_of cut n k state more) (omega arith)
 requests_go_on cut n at state (l ∷ ls) more =
     let step = service_line n state (fields l) in
-    ap (λ rs. map (at_line at) step.ended ++ rs) (requests_go_on cut n (at + 1) step.next ls more ∙ ap (λ k. requests_of true n (at + 1) step.next ls ++ requests_of cut n k (state_after_lines n step.next ls) more) (omega arith))
+    ap (λ rs. map (at_line at) step.ended ++ rs) (requests_go_on cut n (at + 1) step.next ls more
+    ∙ ap (λ k. requests_of true n (at + 1) step.next ls ++ requests_of cut n k (state_after_lines n step.next ls) more) (omega arith))
     ∙ sym (append_assoc (map (at_line at) step.ended) _ _)
 
 pub prefix_first : (cut : Bool) (n : ℕ) (bytes more : List ℕ) → (later : List Request) × (requests cut n (bytes ++ more) ≡ requests true n bytes ++ later)
@@ -59,14 +65,16 @@ line_closed cut prefix more =
     let (tail, within, e) = lines_go_on prefix in
     ap (lines cut) (append_assoc prefix (10 ∷ []) more) ∙ e cut (10 ∷ more) ∙ ap (λ ls. lines true prefix ++ ls) (lines_first cut tail more within)
     ∙ sym (append_assoc (lines true prefix) (strip_carriage_return tail ∷ []) (lines cut more))
-    ∙ ap (λ ls. ls ++ lines cut more) (sym (e true (10 ∷ []) ∙ ap (λ ls. lines true prefix ++ ls) (lines_first true tail [] within ∙ ap (λ ls. strip_carriage_return tail ∷ ls) (lines_cut [] none_yet))))
+    ∙ ap (λ ls. ls ++ lines cut more) (sym (e true (10 ∷ []) ∙ ap (λ ls. lines true prefix ++ ls)
+    (lines_first true tail [] within ∙ ap (λ ls. strip_carriage_return tail ∷ ls) (lines_cut [] none_yet))))
 
 first_all : {A : Type 0} (P : A → Type 0) (xs ys : List A) → AllByRecursion P (xs ++ ys) → AllByRecursion P xs × AllByRecursion P ys
 first_all P [] ys h = (tt, h)
 first_all P (x ∷ xs) ys h = let (p, q) = first_all P xs ys h.1 in ((h.0, p), q)
 
 -- a line that ends no request for want of memory does what the rules say
-unrefused : (n at : ℕ) (state : ServiceState) (fs : List (List ℕ)) (b : Bool) → begins_request fs ≡ b → AllByRecursion IsNotOutOfMemory (map (at_line at) (state_line (λ _. refused) state fs).ended) → state_line (λ _. refused) state fs ≡ service_line n state fs
+unrefused : (n at : ℕ) (state : ServiceState) (fs : List (List ℕ)) (b : Bool) → begins_request fs ≡ b →
+    AllByRecursion IsNotOutOfMemory (map (at_line at) (state_line (λ _. refused) state fs).ended) → state_line (λ _. refused) state fs ≡ service_line n state fs
 unrefused n at Passes fs true e h = absurd ((rw e at h).0 refl)
 unrefused n at Passes fs false e h = rw e refl
 unrefused n at (Gives None) fs b e h = absurd (h.0 refl)
@@ -74,14 +82,19 @@ unrefused n at (Gives (Some q)) fs true e h = absurd ((rw e at h).1.0 refl)
 unrefused n at (Gives (Some q)) fs false e h = absurd ((rw e at h).0 refl)
 
 -- where memory is never refused, the requests are those of the text
-pub lines_do : (n at : ℕ) (state next : ServiceState) (ls : List (List ℕ)) (rs : List Request) → LinesMay n at state ls rs next → AllByRecursion IsNotOutOfMemory rs → (rs ≡ requests_of true n at state ls) × (next ≡ state_after_lines n state ls)
+pub lines_do : (n at : ℕ) (state next : ServiceState) (ls : List (List ℕ)) (rs : List Request) → LinesMay n at state ls rs next → AllByRecursion IsNotOutOfMemory rs →
+    (rs ≡ requests_of true n at state ls) × (next ≡ state_after_lines n state ls)
 lines_do n at state next [] rs h all = h
 lines_do n at state next (l ∷ ls) rs (step, more, may, is, rest) all =
     let (here, later) = first_all IsNotOutOfMemory (map (at_line at) step.ended) more (subst (AllByRecursion IsNotOutOfMemory) is all) in
     let (p, q) = lines_do n (at + 1) step.next next ls more rest later in
-    let same : step ≡ service_line n state (fields l) = does may here in
-    (is ∙ ap (λ x. map (at_line at) step.ended ++ x) p ∙ ap (λ (s : Step). map (at_line at) s.ended ++ requests_of true n (at + 1) s.next ls) same, q ∙ ap (λ (s : Step). state_after_lines n s.next ls) same)
+    let same : step ≡ service_line n state (fields l) = does may here in (
+      is ∙ ap (λ x. map (at_line at) step.ended ++ x) p ∙ ap (λ (s : Step). map (at_line at) s.ended ++ requests_of true n (at + 1) s.next ls) same,
+      q
+          ∙ ap (λ (s : Step). state_after_lines n s.next ls) same,
+    )
   where
-    does : (step ≡ service_line n state (fields l)) ⊎ (step ≡ state_line (λ _. refused) state (fields l)) → AllByRecursion IsNotOutOfMemory (map (at_line at) step.ended) → step ≡ service_line n state (fields l)
+    does : (step ≡ service_line n state (fields l)) ⊎ (step ≡ state_line (λ _. refused) state (fields l)) → AllByRecursion IsNotOutOfMemory (map (at_line at) step.ended) →
+        step ≡ service_line n state (fields l)
     does (inl e) h = e
     does (inr e) h = e ∙ unrefused n at state (fields l) (begins_request (fields l)) refl (subst (λ (s : Step). AllByRecursion IsNotOutOfMemory (map (at_line at) s.ended)) e h)

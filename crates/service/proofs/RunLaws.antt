@@ -53,7 +53,8 @@ graph_or_none : Graph ≡ NoFile → ⊥
 graph_or_none e = cc
 
 module _ {V G Q W : Type 0} (A : Algebra V) (how : Settings) (gate : ℕ → ℕ → Bool → Type 0) (graph graph_after : Input G) (input input_after : Input Q) (out out_after : Output W)
-    (inside : AreInRange how) (g : GraphData) (read : IsReadAs gr_rules graph.left g) (sound : graph_after.failures ≡ graph.failures) (end : IsAtEnd graph_after.left) (asked : graph_after.asked ≤ graph.asked + 4294967297) where
+    (inside : AreInRange how) (g : GraphData) (read : IsReadAs gr_rules graph.left g) (sound : graph_after.failures ≡ graph.failures) (end : IsAtEnd graph_after.left)
+    (asked : graph_after.asked ≤ graph.asked + 4294967297) where
   -- the input of requests stopped it: by a read that failed, and by nothing else it has this number
   pub stopped : (number : ℕ) → ((number ≡ 1) ⊎ (number ≡ 2)) → ServedPrefix (MayAnswer A how gate g) g.vertices input.left out.written out_after.written out.failures out_after.failures
       → (number ≡ 1) ↔ (input_after.failures ≢ input.failures) → RanService A how gate graph graph_after input input_after out out_after (Err (record { number = number; file = Questions; line = 0 }))
@@ -105,7 +106,8 @@ module _ {V G Q W : Type 0} (A : Algebra V) (how : Settings) (gate : ℕ → ℕ
 module _ {V G Q W : Type 0} (A : Algebra V) (how : Settings) (gate : ℕ → ℕ → Bool → Type 0) (graph graph_after : Input G) (input : Input Q) (out : Output W) where
   -- the graph has a fault, or a read of it failed
   pub graph_failed : (f : ReadFault) → AreInRange how → (2 ≤ f.number → f.number ≢ 3 → IfSome graph.left (λ all. text_read gr_rules all ≡ Err f))
-      → (f.number ≡ 1 → graph_after.failures ≢ graph.failures) → (f.number ≢ 1 → graph_after.failures ≡ graph.failures) → (f.number ≤ 3 → f.line ≡ 0) → IsRoadNumber f.number → graph_after.asked ≤ graph.asked + 4294967297
+      → (f.number ≡ 1 → graph_after.failures ≢ graph.failures) → (f.number ≢ 1 → graph_after.failures ≡ graph.failures) → (f.number ≤ 3 → f.line ≡ 0) → IsRoadNumber f.number →
+      graph_after.asked ≤ graph.asked + 4294967297
       → RanService A how gate graph graph_after input input out out (Err (record { number = f.number; file = Graph; line = f.line }))
   graph_failed f inside fault told untold placed numbered asked = record {
     done = tt;

@@ -20,12 +20,14 @@ kept_first (Some a) (Some b) None x k p = absurd p
 kept_first (Some a) (Some b) (Some c) x k p = p ∙ ap (λ y. y ++ x) k
 
 module _ (answers : Asked → List ℕ → Type 0) where
-  pub served_more : (s t : Service) (piece : List ℕ) (left mid now old was new : Option (List ℕ)) (b m a : ℕ) → HasServed answers s left mid old was b m → Consumes mid now piece → Fed answers s t piece was new m a → HasServed answers t left now old new b a
+  pub served_more : (s t : Service) (piece : List ℕ) (left mid now old was new : Option (List ℕ)) (b m a : ℕ) → HasServed answers s left mid old was b m → Consumes mid now piece →
+      Fed answers s t piece was new m a → HasServed answers t left now old new b a
   served_more s t piece left mid now old was new b m a (fed, rs, gone, taken, replied) here f =
       let (more, further, after) = f fed rs taken in
       (fed ++ piece, rs ++ more, Consumes-trans left mid now fed piece gone here, further, replied_then answers rs more old was new b m a Done replied after)
 
-  pub served_all : (s : Service) (n : ℕ) (left mid now first old was new : Option (List ℕ)) (z b m a : ℕ) → s.cutter.taker.questions.list.vertices ≡ n → HasServed answers s left mid old was b m → Consumes mid now [] → IsAtEnd now → Keeps first old → b ≡ z
+  pub served_all : (s : Service) (n : ℕ) (left mid now first old was new : Option (List ℕ)) (z b m a : ℕ) → s.cutter.taker.questions.list.vertices ≡ n →
+      HasServed answers s left mid old was b m → Consumes mid now [] → IsAtEnd now → Keeps first old → b ≡ z
       → Finished answers s was new m a → Served answers n left first new z a
   served_all s n left mid now first old was new z b m a same (fed, rs, gone, taken, replied) here end kept sound f =
       let (more, all, after) = f fed rs taken in
@@ -55,7 +57,8 @@ module _ (answers : Asked → List ℕ → Type 0) where
 
   begins_part : (left mid now : Option (List ℕ)) (fed piece prefix rest : List ℕ) → Consumes left mid fed → Consumes mid now piece → piece ≡ prefix ++ rest → BeginsWith left (fed ++ prefix)
   begins_part left mid now fed piece prefix rest g h e =
-      begins_less left (fed ++ prefix) rest (subst (BeginsWith left) (ap (λ x. fed ++ x) e ∙ sym (append_assoc fed prefix rest)) (begins left now (fed ++ piece) (Consumes-trans left mid now fed piece g h)))
+      begins_less left (fed ++ prefix) rest (subst (BeginsWith left) (ap (λ x. fed ++ x) e ∙ sym (append_assoc fed prefix rest))
+      (begins left now (fed ++ piece) (Consumes-trans left mid now fed piece g h)))
 
   replied_kept : (rs : List Request) (first old new : Option (List ℕ)) (z b a : ℕ) → Keeps first old → b ≡ z → Replied answers rs old new b a → Replied answers rs first new z a
   replied_kept rs first old new z b a kept sound r = record { texts = r.texts; right = r.right; bytes = kept_first first old new _ kept r.bytes; sound = r.sound ∙ sound }
@@ -67,10 +70,18 @@ module _ (answers : Asked → List ℕ → Type 0) where
     requests_are = r.requests_are;
     texts = r.texts;
     right = r.right;
-    wrote = record { prefix = r.wrote.prefix; rest = r.wrote.rest; text_is = r.wrote.text_is; bytes = kept_first first old new r.wrote.prefix kept r.wrote.bytes; failed = r.wrote.failed ∙ ap (λ k. k + 1) sound };
+    wrote = record {
+      prefix = r.wrote.prefix;
+      rest = r.wrote.rest;
+      text_is = r.wrote.text_is;
+      bytes = kept_first first old new r.wrote.prefix kept r.wrote.bytes;
+      failed =
+          r.wrote.failed ∙ ap (λ k. k + 1) sound;
+    };
   }
 
-  module _ (s : Service) (n : ℕ) (left mid now first old was new : Option (List ℕ)) (z b m a : ℕ) (same : s.cutter.taker.questions.list.vertices ≡ n) (served : HasServed answers s left mid old was b m) (kept : Keeps first old) (sound : b ≡ z) where
+  module _ (s : Service) (n : ℕ) (left mid now first old was new : Option (List ℕ)) (z b m a : ℕ) (same : s.cutter.taker.questions.list.vertices ≡ n)
+      (served : HasServed answers s left mid old was b m) (kept : Keeps first old) (sound : b ≡ z) where
     whole : (fed : List ℕ) (rs : List Request) (t : Service) → t.cutter.taker.questions.list.vertices ≡ n → WasFed t fed rs → MakesWhole n fed rs
     whole fed rs t e h = (parser_state t.cutter.taker, subst (λ k. LinesMay k 1 (Gives None) (lines true fed) rs (parser_state t.cutter.taker)) e h.made)
 
@@ -79,7 +90,8 @@ module _ (answers : Asked → List ℕ → Type 0) where
     read_failed = let (fed, rs, gone, taken, replied) = served in (fed, rs, begins left mid fed gone, whole fed rs s same taken, replied_kept rs first old was z b m kept sound replied)
 
     -- a write failed in the replies to what a piece makes whole
-    pub feed_fell : (t : Service) (piece : List ℕ) → t.cutter.taker.questions.list.vertices ≡ n → Consumes mid now piece → FedPart answers s t piece was new m a → ServedPart answers n left first new z a
+    pub feed_fell : (t : Service) (piece : List ℕ) → t.cutter.taker.questions.list.vertices ≡ n → Consumes mid now piece → FedPart answers s t piece was new m a →
+        ServedPart answers n left first new z a
     feed_fell t piece e here f =
         let (fed, rs, gone, taken, replied) = served in
         let (prefix, rest, more, is, further, fell) = f fed rs taken in (
@@ -91,7 +103,8 @@ module _ (answers : Asked → List ℕ → Type 0) where
         )
 
     -- a request is too long
-    pub feed_long : (t : Service) (piece : List ℕ) → t.cutter.taker.questions.list.vertices ≡ n → Consumes mid now piece → FedLong answers s t piece was new m a → ServedPrefix answers n left first new z a
+    pub feed_long : (t : Service) (piece : List ℕ) → t.cutter.taker.questions.list.vertices ≡ n → Consumes mid now piece → FedLong answers s t piece was new m a →
+        ServedPrefix answers n left first new z a
     feed_long t piece e here f =
         let (fed, rs, gone, taken, replied) = served in
         let (prefix, rest, more, is, some, further, full, after) = f fed rs taken in (
@@ -106,8 +119,14 @@ module _ (answers : Asked → List ℕ → Type 0) where
     pub end_fell : FinishedPart answers s was new m a → ServedPart answers n left first new z a
     end_fell f =
         let (fed, rs, gone, taken, replied) = served in
-        let (more, all, fell) = f fed rs taken in
-        (fed, rs ++ more, begins left mid fed gone, inr (subst (λ k. HasRequests k fed (rs ++ more)) same all), fell_kept (rs ++ more) first old new z b a kept sound (replied_then answers rs more old was new b m a Failed replied fell))
+        let (more, all, fell) = f fed rs taken in (
+          fed,
+          rs ++ more,
+          begins left mid fed gone,
+          inr (subst (λ k. HasRequests k fed (rs ++ more)) same all),
+          fell_kept (rs ++ more) first old new z b a kept sound
+              (replied_then answers rs more old was new b m a Failed replied fell),
+        )
 
   -- a flush failed before anything was read
   pub flush_fell : (n : ℕ) (left first new : Option (List ℕ)) (z a : ℕ) → Keeps first new → a ≡ z + 1 → ServedPart answers n left first new z a

@@ -22,13 +22,20 @@ pub ended_early : (d : LineDone) → not d.early ≡ false → ended_of d ≡ Er
 ended_early d h = not_late d.early (Err 19 ∷ ended_list d.ended) (ended_list d.ended) h
 
 -- lines after lines
-pub lines_may_then : (n at : ℕ) (s m t : ServiceState) (ls ms : List (List ℕ)) (rs qs : List Request) → LinesMay n at s ls rs m → LinesMay n (at + length ls) m ms qs t → LinesMay n at s (ls ++ ms) (rs ++ qs) t
+pub lines_may_then : (n at : ℕ) (s m t : ServiceState) (ls ms : List (List ℕ)) (rs qs : List Request) → LinesMay n at s ls rs m → LinesMay n (at + length ls) m ms qs t →
+    LinesMay n at s (ls ++ ms) (rs ++ qs) t
 lines_may_then n at s m t [] ms rs qs (p, q) h =
     let same : at + length {A = List ℕ} [] ≡ at = omega arith in
     rw p (subst (λ x. LinesMay n at x ms qs t) q (subst (λ k. LinesMay n k m ms qs t) same h))
 lines_may_then n at s m t (l ∷ ls) ms rs qs (step, more, may, is, rest) h =
-    let same : at + length (l ∷ ls) ≡ (at + 1) + length ls = omega arith in
-    (step, more ++ qs, may, ap (λ x. x ++ qs) is ∙ append_assoc (map (at_line at) step.ended) more qs, lines_may_then n (at + 1) step.next m t ls ms more qs rest (subst (λ k. LinesMay n k m ms qs t) same h))
+    let same : at + length (l ∷ ls) ≡ (at + 1) + length ls = omega arith in (
+      step,
+      more ++ qs,
+      may,
+      ap (λ x. x ++ qs) is ∙ append_assoc (map (at_line at) step.ended) more qs,
+      lines_may_then n (at + 1) step.next m t ls ms more qs rest
+          (subst (λ k. LinesMay n k m ms qs t) same h),
+    )
 
 -- no byte was taken
 pub fresh : (s : Service) → parser_state s.cutter.taker ≡ Gives None → s.line ≡ 1 → s.count ≡ 0 → IsPresent RequestSoFar s.cutter [] → WasFed s [] []
@@ -52,12 +59,15 @@ fresh s state line count held = record {
 }
 
 -- what bytes add to the lines of the text, they add to those of a request that goes on
-own_lines : (n : ℕ) (fed bytes : List ℕ) (rs : List Request) (state : ServiceState) (own : List ℕ) (o : IsUnfinished n fed rs state own) (ls : List (List ℕ)) → lines true (fed ++ bytes) ≡ lines true fed ++ ls → lines true (own ++ bytes) ≡ lines true own ++ ls
+own_lines : (n : ℕ) (fed bytes : List ℕ) (rs : List Request) (state : ServiceState) (own : List ℕ) (o : IsUnfinished n fed rs state own) (ls : List (List ℕ)) →
+    lines true (fed ++ bytes) ≡ lines true fed ++ ls → lines true (own ++ bytes) ≡ lines true own ++ ls
 own_lines n fed bytes rs state own o ls e = append_cancel_left (lines true o.before) (lines true (own ++ bytes)) (lines true own ++ ls)
-    (sym (o.closed true (own ++ bytes)) ∙ ap (lines true) (sym (append_assoc o.before own bytes) ∙ ap (λ x. x ++ bytes) (sym o.fed_is)) ∙ e ∙ ap (λ x. x ++ ls) (ap (lines true) o.fed_is ∙ o.closed true own) ∙ append_assoc (lines true o.before) (lines true own) ls)
+    (sym (o.closed true (own ++ bytes)) ∙ ap (lines true) (sym (append_assoc o.before own bytes) ∙ ap (λ x. x ++ bytes) (sym o.fed_is)) ∙ e
+    ∙ ap (λ x. x ++ ls) (ap (lines true) o.fed_is ∙ o.closed true own) ∙ append_assoc (lines true o.before) (lines true own) ls)
 
 -- one line more
-lines_go_on_then : (n : ℕ) (s m t : ServiceState) (ls : List (List ℕ)) (l : List ℕ) → LinesGoOn n s ls m → goes_on t ≡ true → LineMay n m (fields l) (record { ended = []; next = t }) → LinesGoOn n s (ls ++ l ∷ []) t
+lines_go_on_then : (n : ℕ) (s m t : ServiceState) (ls : List (List ℕ)) (l : List ℕ) → LinesGoOn n s ls m → goes_on t ≡ true →
+    LineMay n m (fields l) (record { ended = []; next = t }) → LinesGoOn n s (ls ++ l ∷ []) t
 lines_go_on_then n s m t [] l e goes may = (t, goes, subst (λ x. LineMay n x (fields l) (record { ended = []; next = t })) e may, refl)
 lines_go_on_then n s m t (k ∷ ls) l (mid, on, did, rest) goes may = (mid, on, did, lines_go_on_then n mid m t ls l rest goes may)
 
@@ -70,9 +80,11 @@ goes_further [] next h = (refl, going (goes_on next) h)
 goes_further (e ∷ es) next h = cc
 
 -- after a line
-open_after : (n at : ℕ) (fed bytes : List ℕ) (rs : List Request) (old : ServiceState) (own : List ℕ) (o : IsUnfinished n fed rs old own) (fed_made : LinesMay n 1 (Gives None) (lines true fed) rs old) (l : List ℕ) (step : Step) (c d : ℕ) → lines true (fed ++ bytes) ≡ lines true fed ++ l ∷ []
+open_after : (n at : ℕ) (fed bytes : List ℕ) (rs : List Request) (old : ServiceState) (own : List ℕ) (o : IsUnfinished n fed rs old own)
+    (fed_made : LinesMay n 1 (Gives None) (lines true fed) rs old) (l : List ℕ) (step : Step) (c d : ℕ) → lines true (fed ++ bytes) ≡ lines true fed ++ l ∷ []
     → ((cut : Bool) (more : List ℕ) → lines cut ((fed ++ bytes) ++ more) ≡ lines true (fed ++ bytes) ++ lines cut more) → LineMay n old (fields l) step
-    → LinesMay n 1 (Gives None) (lines true (fed ++ bytes)) (rs ++ map (at_line at) step.ended) step.next → c ≡ length (own ++ bytes) → (b : Bool) → counts_anew step.ended step.next ≡ b → d ≡ cond b 0 c
+    → LinesMay n 1 (Gives None) (lines true (fed ++ bytes)) (rs ++ map (at_line at) step.ended) step.next → c ≡ length (own ++ bytes) → (b : Bool) →
+    counts_anew step.ended step.next ≡ b → d ≡ cond b 0 c
     → (now : List ℕ) × IsUnfinished n (fed ++ bytes) (rs ++ map (at_line at) step.ended) step.next now × (d ≡ length now)
 open_after n at fed bytes rs old own o fed_made l step c d all closed may made is true anew count = (
   [],
@@ -96,16 +108,20 @@ open_after n at fed bytes rs old own o fed_made l step c d all closed may made i
         closed = o.closed;
         from = o.from;
         begins = o.begins;
-        made = subst (λ (qs : List Request). LinesMay n 1 (Gives None) (lines true o.before) qs o.from) (sym (append-nil rs) ∙ ap (λ (e : List (Result Asked ℕ)). rs ++ map (at_line at) e) (sym none)) o.made;
+        made = subst (λ (qs : List Request). LinesMay n 1 (Gives None) (lines true o.before) qs o.from)
+            (sym (append-nil rs) ∙ ap (λ (e : List (Result Asked ℕ)). rs ++ map (at_line at) e) (sym none)) o.made;
         goes = rw (own_lines n fed bytes rs old own o (l ∷ []) all)
-            (lines_go_on_then n o.from old step.next (lines true own) l o.goes goes (subst (λ (e : List (Result Asked ℕ)). LineMay n old (fields l) (record { ended = e; next = step.next })) none may));
+            (lines_go_on_then n o.from old step.next (lines true own) l o.goes goes
+            (subst (λ (e : List (Result Asked ℕ)). LineMay n old (fields l) (record { ended = e; next = step.next })) none may));
       },
       count ∙ is,
     )
 
-module _ (t u : Service) (same : u.cutter.taker.questions.list.vertices ≡ t.cutter.taker.questions.list.vertices) (state : parser_state u.cutter.taker ≡ parser_state t.cutter.taker) (line : u.line ≡ t.line) where
+module _ (t u : Service) (same : u.cutter.taker.questions.list.vertices ≡ t.cutter.taker.questions.list.vertices)
+    (state : parser_state u.cutter.taker ≡ parser_state t.cutter.taker) (line : u.line ≡ t.line) where
   -- bytes that go on with the line
-  pub taken_stay : (fed bytes : List ℕ) (rs : List Request) (n : ℕ) → WasFed t fed rs → StaysInLine RequestSoFar t.cutter u.cutter bytes n → u.count ≡ t.count + length bytes → WasFed u (fed ++ bytes) rs
+  pub taken_stay : (fed bytes : List ℕ) (rs : List Request) (n : ℕ) → WasFed t fed rs → StaysInLine RequestSoFar t.cutter u.cutter bytes n → u.count ≡ t.count + length bytes →
+      WasFed u (fed ++ bytes) rs
   taken_stay fed bytes rs n h stay counted =
       let held : IsPresent RequestSoFar u.cutter (h.present ++ bytes) = stay.present h.present h.held in
       let none : lines true (fed ++ bytes) ≡ lines true fed = h.ends true bytes ∙ ap (λ ls. lines true fed ++ ls) (lines_cut (h.present ++ bytes) held.whole) ∙ append-nil (lines true fed) in
@@ -120,17 +136,24 @@ module _ (t u : Service) (same : u.cutter.taker.questions.list.vertices ≡ t.cu
           from = h.is_open.from;
           begins = rw same h.is_open.begins;
           made = rw same h.is_open.made;
-          goes = rw (same, own_lines t.cutter.taker.questions.list.vertices fed bytes rs (parser_state t.cutter.taker) h.own h.is_open [] (none ∙ sym (append-nil (lines true fed))) ∙ append-nil (lines true h.own), state) h.is_open.goes;
+          goes = rw (
+            same,
+            own_lines t.cutter.taker.questions.list.vertices fed bytes rs (parser_state t.cutter.taker) h.own h.is_open [] (none ∙ sym (append-nil (lines true fed)))
+                ∙ append-nil (lines true h.own),
+            state,
+          ) h.is_open.goes;
         };
         count = counted ∙ omega (arith, h.count, length-append h.own bytes);
         present = h.present ++ bytes;
-        ends = λ cut more. ap (lines cut) (append_assoc fed bytes more) ∙ h.ends cut (bytes ++ more) ∙ ap (λ ls. lines true fed ++ ls) (ap (lines cut) (sym (append_assoc h.present bytes more))) ∙ ap (λ ls. ls ++ lines cut ((h.present ++ bytes) ++ more)) (sym none);
+        ends = λ cut more. ap (lines cut) (append_assoc fed bytes more) ∙ h.ends cut (bytes ++ more)
+            ∙ ap (λ ls. lines true fed ++ ls) (ap (lines cut) (sym (append_assoc h.present bytes more))) ∙ ap (λ ls. ls ++ lines cut ((h.present ++ bytes) ++ more)) (sym none);
         held = held;
       }
 
 module _ (answers : Asked → List ℕ → Type 0) (t v u : Service) (old new : Option (List ℕ)) (b a : ℕ)
     (same : v.cutter.taker.questions.list.vertices ≡ t.cutter.taker.questions.list.vertices) (state : parser_state v.cutter.taker ≡ parser_state t.cutter.taker) (line : v.line ≡ t.line)
-    (same_after : u.cutter.taker.questions.list.vertices ≡ v.cutter.taker.questions.list.vertices) (line_after : u.line ≡ min (v.line + 1) 18446744073709551615) (ready : IsPresent RequestSoFar u.cutter []) where
+    (same_after : u.cutter.taker.questions.list.vertices ≡ v.cutter.taker.questions.list.vertices) (line_after : u.line ≡ min (v.line + 1) 18446744073709551615)
+    (ready : IsPresent RequestSoFar u.cutter []) where
   -- bytes that end the line
   pub taken_line : {A E : Type 0} (res : Result A E) (fed bytes : List ℕ) (rs : List Request) → v.count ≡ t.count + length bytes → WasFed t fed rs → EndsLine RequestSoFar t.cutter v.cutter bytes
       → ((at : ℕ) (l : List ℕ) → v.line ≡ held_line at → IsLine RequestSoFar v.cutter l → LineEnded answers at l v u old new b a res)
@@ -141,18 +164,22 @@ module _ (answers : Asked → List ℕ → Type 0) (t v u : Service) (old new : 
       let (step, may, next, counts, replied) = did at l (line ∙ h.line) (cut.line h.present h.held) in
       let more : List Request = map (at_line at) step.ended in
       let first : (c : Bool) (after : List ℕ) → lines c (h.present ++ (bytes ++ after)) ≡ l ∷ lines c after =
-      λ c after. ap (λ x. lines c (h.present ++ (x ++ after))) cut.ends ∙ ap (λ x. lines c (h.present ++ x)) (append_assoc cut.prefix (10 ∷ []) after) ∙ ap (lines c) (sym (append_assoc h.present cut.prefix (10 ∷ after))) ∙ lines_first c (h.present ++ cut.prefix) after (cut.within h.present h.held) in
+      λ c after. ap (λ x. lines c (h.present ++ (x ++ after))) cut.ends ∙ ap (λ x. lines c (h.present ++ x)) (append_assoc cut.prefix (10 ∷ []) after)
+      ∙ ap (lines c) (sym (append_assoc h.present cut.prefix (10 ∷ after))) ∙ lines_first c (h.present ++ cut.prefix) after (cut.within h.present h.held) in
       let none : lines true [] ≡ [] = lines_cut [] (λ k d lt. absurd (omega arith)) in
       let all : lines true (fed ++ bytes) ≡ lines true fed ++ l ∷ [] =
       h.ends true bytes ∙ ap (λ ls. lines true fed ++ ls) (ap (λ x. lines true (h.present ++ x)) (sym (append-nil bytes)) ∙ first true [] ∙ ap (λ ls. l ∷ ls) none) in
       let count : length (lines true (fed ++ bytes)) ≡ length (lines true fed) + 1 = ap length all ∙ length-append (lines true fed) (l ∷ []) in
       let whole : LinesMay t.cutter.taker.questions.list.vertices 1 (Gives None) (lines true (fed ++ bytes)) (rs ++ more) step.next =
-      rw all (lines_may_then t.cutter.taker.questions.list.vertices 1 (Gives None) (parser_state t.cutter.taker) step.next (lines true fed) (l ∷ []) rs more h.made (step, [], rw (same, state) at may, sym (append-nil more), (refl, refl))) in
+      rw all (lines_may_then t.cutter.taker.questions.list.vertices 1 (Gives None) (parser_state t.cutter.taker) step.next (lines true fed) (l ∷ []) rs more h.made
+      (step, [], rw (same, state) at may, sym (append-nil more), (refl, refl))) in
       let closed : (c : Bool) (after : List ℕ) → lines c ((fed ++ bytes) ++ after) ≡ lines true (fed ++ bytes) ++ lines c after =
       λ c after.
       ap (lines c) (append_assoc fed bytes after) ∙ h.ends c (bytes ++ after) ∙ ap (λ ls. lines true fed ++ ls) (first c after)
       ∙ sym (append_assoc (lines true fed) (l ∷ []) (lines c after)) ∙ ap (λ ls. ls ++ lines c after) (sym all) in
-      let behind = open_after t.cutter.taker.questions.list.vertices at fed bytes rs (parser_state t.cutter.taker) h.own h.is_open h.made l step v.count u.count all closed (rw (same, state) at may) whole (counted ∙ omega (arith, h.count, length-append h.own bytes)) (counts_anew step.ended step.next) refl counts in (
+      let behind = open_after t.cutter.taker.questions.list.vertices at fed bytes rs
+      (parser_state t.cutter.taker) h.own h.is_open h.made l step v.count u.count all closed (rw (same, state) at may) whole
+      (counted ∙ omega (arith, h.count, length-append h.own bytes)) (counts_anew step.ended step.next) refl counts in (
         more,
         record {
           made = rw (same_after ∙ same, ← next) whole;
@@ -171,18 +198,25 @@ module _ (answers : Asked → List ℕ → Type 0) (t v u : Service) (old new : 
 pub fed_none : (answers : Asked → List ℕ → Type 0) (s : Service) (old : Option (List ℕ)) (b : ℕ) → Fed answers s s [] old old b b
 fed_none answers s old b = λ fed rs h. ([], rw (append-nil fed, append-nil rs) h, replied_none answers old b)
 
-pub fed_stay : (answers : Asked → List ℕ → Type 0) (s t u : Service) (whole xs ys : List ℕ) (n : ℕ) (old mid : Option (List ℕ)) (b m : ℕ) → u.cutter.taker.questions.list.vertices ≡ t.cutter.taker.questions.list.vertices
-    → parser_state u.cutter.taker ≡ parser_state t.cutter.taker → u.line ≡ t.line → u.count ≡ t.count + length ys → whole ≡ xs ++ ys → Fed answers s t xs old mid b m → StaysInLine RequestSoFar t.cutter u.cutter ys n → Fed answers s u whole old mid b m
+pub fed_stay : (answers : Asked → List ℕ → Type 0) (s t u : Service) (whole xs ys : List ℕ) (n : ℕ) (old mid : Option (List ℕ)) (b m : ℕ) →
+    u.cutter.taker.questions.list.vertices ≡ t.cutter.taker.questions.list.vertices
+    → parser_state u.cutter.taker ≡ parser_state t.cutter.taker → u.line ≡ t.line → u.count ≡ t.count + length ys → whole ≡ xs ++ ys → Fed answers s t xs old mid b m →
+    StaysInLine RequestSoFar t.cutter u.cutter ys n → Fed answers s u whole old mid b m
 fed_stay answers s t u whole xs ys n old mid b m same state line counted e f stay = λ fed rs h.
-    let (more, taken, replied) = f fed rs h in
-    (more, subst (λ (x : List ℕ). WasFed u x (rs ++ more)) (append_assoc fed xs ys ∙ ap (λ x. fed ++ x) (sym e)) (taken_stay t u same state line (fed ++ xs) ys (rs ++ more) n taken stay counted), replied)
+    let (more, taken, replied) = f fed rs h in (
+      more,
+      subst (λ (x : List ℕ). WasFed u x (rs ++ more)) (append_assoc fed xs ys ∙ ap (λ x. fed ++ x) (sym e))
+          (taken_stay t u same state line (fed ++ xs) ys (rs ++ more) n taken stay counted),
+      replied,
+    )
 
 abbrev pub Done : Result (Unit {0}) (Unit {0})
 Done = Ok tt
 
 pub fed_line : (answers : Asked → List ℕ → Type 0) (s t v u : Service) (xs ys : List ℕ) (old mid new : Option (List ℕ)) (b m a : ℕ)
     → v.cutter.taker.questions.list.vertices ≡ t.cutter.taker.questions.list.vertices → parser_state v.cutter.taker ≡ parser_state t.cutter.taker → v.line ≡ t.line
-    → u.cutter.taker.questions.list.vertices ≡ v.cutter.taker.questions.list.vertices → u.line ≡ min (v.line + 1) 18446744073709551615 → IsPresent RequestSoFar u.cutter [] → v.count ≡ t.count + length ys
+    → u.cutter.taker.questions.list.vertices ≡ v.cutter.taker.questions.list.vertices → u.line ≡ min (v.line + 1) 18446744073709551615 → IsPresent RequestSoFar u.cutter [] →
+    v.count ≡ t.count + length ys
     → Fed answers s t xs old mid b m → EndsLine RequestSoFar t.cutter v.cutter ys
     → ((at : ℕ) (l : List ℕ) → v.line ≡ held_line at → IsLine RequestSoFar v.cutter l → LineEnded answers at l v u mid new m a Done) → Fed answers s u (xs ++ ys) old new b a
 fed_line answers s t v u xs ys old mid new b m a same state line same_after line_after ready counted f cut did = λ fed rs h.
@@ -199,7 +233,8 @@ Failed = Err tt
 -- a write fails in the replies to what ends with a line
 pub fed_part : (answers : Asked → List ℕ → Type 0) (s t v u : Service) (all xs ys zs : List ℕ) (old mid new : Option (List ℕ)) (b m a : ℕ)
     → v.cutter.taker.questions.list.vertices ≡ t.cutter.taker.questions.list.vertices → parser_state v.cutter.taker ≡ parser_state t.cutter.taker → v.line ≡ t.line
-    → u.cutter.taker.questions.list.vertices ≡ v.cutter.taker.questions.list.vertices → u.line ≡ min (v.line + 1) 18446744073709551615 → IsPresent RequestSoFar u.cutter [] → v.count ≡ t.count + length ys
+    → u.cutter.taker.questions.list.vertices ≡ v.cutter.taker.questions.list.vertices → u.line ≡ min (v.line + 1) 18446744073709551615 → IsPresent RequestSoFar u.cutter [] →
+    v.count ≡ t.count + length ys
     → all ≡ (xs ++ ys) ++ zs → Fed answers s t xs old mid b m → EndsLine RequestSoFar t.cutter v.cutter ys
     → ((at : ℕ) (l : List ℕ) → v.line ≡ held_line at → IsLine RequestSoFar v.cutter l → LineEnded answers at l v u mid new m a Failed) → FedPart answers s u all old new b a
 fed_part answers s t v u all xs ys zs old mid new b m a same state line same_after line_after ready counted is f cut did = λ fed rs h.
@@ -214,7 +249,8 @@ fed_part answers s t v u all xs ys zs old mid new b m a same state line same_aft
     )
 
 -- no more bytes fit
-pub fed_long : (answers : Asked → List ℕ → Type 0) (s t : Service) (all : List ℕ) (k : ℕ) (old mid : Option (List ℕ)) (b m : ℕ) → k < length all → t.count ≡ 4294967296 → Fed answers s t (take k all) old mid b m → FedLong answers s t all old mid b m
+pub fed_long : (answers : Asked → List ℕ → Type 0) (s t : Service) (all : List ℕ) (k : ℕ) (old mid : Option (List ℕ)) (b m : ℕ) → k < length all → t.count ≡ 4294967296 →
+    Fed answers s t (take k all) old mid b m → FedLong answers s t all old mid b m
 fed_long answers s t all k old mid b m lt full f = λ fed rs h.
     let (more, taken, replied) = f fed rs h in
     (take k all, drop k all, more, sym (take-append-drop k all), omega (arith, length-drop k all), taken, full, replied)

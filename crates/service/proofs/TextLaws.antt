@@ -10,7 +10,8 @@ use Rattle.road_files.specs.ServiceText.{Request, requests, requests_of, Service
 use Rattle.service.specs.RequestTexts.{IsTextIn}
 
 -- reading goes on after lines that break no rule
-reading_on : {S V : Type 0} (rules : Rules S V) (at : ℕ) (s t : S) (ls more : List (List ℕ)) → state_after rules s ls ≡ Ok t → value_of_lines false rules at s (ls ++ more) ≡ value_of_lines false rules (at + length ls) t more
+reading_on : {S V : Type 0} (rules : Rules S V) (at : ℕ) (s t : S) (ls more : List (List ℕ)) → state_after rules s ls ≡ Ok t →
+    value_of_lines false rules at s (ls ++ more) ≡ value_of_lines false rules (at + length ls) t more
 reading_on rules at s t [] more h =
     let same : s ≡ t = cc in rw same (ap (λ k. value_of_lines false rules k t more) (omega arith))
 reading_on {S = S} rules at s t (l ∷ ls) more h = by_line (rules.line s (fields l)) (λ u g. reading_on rules (at + 1) u t ls more g ∙ ap (λ k. value_of_lines false rules k t more) (omega arith)) h
@@ -25,7 +26,8 @@ state_on : {S V : Type 0} (rules : Rules S V) (s t u : S) (ls : List (List ℕ))
 state_on rules s t u [] l h g = let same : s ≡ t = cc in rw (same, g) refl
 state_on {S = S} rules s t u (m ∷ ls) l h g = by_line (rules.line s (fields m)) (λ v f. state_on rules v t u ls l f g) h
   where
-    by_line : (r : Result S ℕ) → ((v : S) → state_after rules v ls ≡ Ok t → state_after rules v (ls ++ l ∷ []) ≡ Ok u) → (r >>= λ v. state_after rules v ls) ≡ Ok t → (r >>= λ v. state_after rules v (ls ++ l ∷ [])) ≡ Ok u
+    by_line : (r : Result S ℕ) → ((v : S) → state_after rules v ls ≡ Ok t → state_after rules v (ls ++ l ∷ []) ≡ Ok u) → (r >>= λ v. state_after rules v ls) ≡ Ok t →
+        (r >>= λ v. state_after rules v (ls ++ l ∷ [])) ≡ Ok u
     by_line (Ok v) next f = next v f
     by_line (Err e) next f = cc
 
@@ -80,7 +82,8 @@ module _ (n start : ℕ) (all : List (List ℕ)) where
   begins_at at ls h = record { before = h.before; own = []; lines_are = h.lines_are; place = omega (arith, h.place); taken = refl; goes = tt }
 
   -- what the lines so far read with this one, and at an end before it
-  read_with : (at : ℕ) (s : Option AskedSoFar) (more ls : List (List ℕ)) (h : Given at s (more ++ ls)) (r : Request) → value_of_lines false (question_rules n None) at s more ≡ r → IsTextIn n start all r
+  read_with : (at : ℕ) (s : Option AskedSoFar) (more ls : List (List ℕ)) (h : Given at s (more ++ ls)) (r : Request) → value_of_lines false (question_rules n None) at s more ≡ r →
+      IsTextIn n start all r
   read_with at s more ls h r g = record {
     before = h.before;
     own = h.own ++ more;
@@ -120,12 +123,22 @@ module _ (n start : ℕ) (all : List (List ℕ)) where
   ends_here : (at : ℕ) (s : Option AskedSoFar) (ls : List (List ℕ)) → Given at s ls → Passed at ls
   ends_here at s ls h = record { before = h.before ++ h.own; lines_are = h.lines_are ∙ sym (append_assoc h.before h.own ls); place = omega (arith, h.place, length-append h.before h.own) }
 
-  line_holds : (cut : Bool) (at : ℕ) (state : ServiceState) (l : List ℕ) (ls : List (List ℕ)) → HasState at state (l ∷ ls) → Next cut (at + 1) ls → (b : Bool) → begins_request (fields l) ≡ b → StepHolds cut at ls (service_line n state (fields l))
+  line_holds : (cut : Bool) (at : ℕ) (state : ServiceState) (l : List ℕ) (ls : List (List ℕ)) → HasState at state (l ∷ ls) → Next cut (at + 1) ls → (b : Bool) →
+      begins_request (fields l) ≡ b → StepHolds cut at ls (service_line n state (fields l))
   line_holds cut at (Gives None) l ls h next b e = give_holds cut at None l ls h next ((question_rules n None).line None (fields l)) refl
-  line_holds cut at (Gives (Some q)) l ls h next true e = rw e (early at q (l ∷ ls) h, give_holds cut at None l ls (begins_at at (l ∷ ls) (ends_here at (Some q) (l ∷ ls) h)) next ((question_rules n None).line None (fields l)) refl)
+  line_holds cut at (Gives (Some q)) l ls h next true e = rw e (
+    early at q (l ∷ ls) h,
+    give_holds cut at None l ls
+        (begins_at at (l ∷ ls) (ends_here at (Some q) (l ∷ ls) h)) next ((question_rules n None).line None (fields l)) refl,
+  )
   line_holds cut at (Gives (Some q)) l ls h next false e = rw e (give_holds cut at (Some q) l ls h next ((question_rules n None).line (Some q) (fields l)) refl)
   line_holds cut at Passes l ls h next true e = rw e (give_holds cut at None l ls (begins_at at (l ∷ ls) h) next ((question_rules n None).line None (fields l)) refl)
-  line_holds cut at Passes l ls h next false e = rw e (next Passes (record { before = h.before ++ l ∷ []; lines_are = h.lines_are ∙ sym (append_assoc h.before (l ∷ []) ls); place = omega (arith, h.place, length-append h.before (l ∷ [])) }))
+  line_holds cut at Passes l ls h next false e = rw e (next Passes (record {
+    before = h.before ++ l ∷ [];
+    lines_are = h.lines_are ∙ sym (append_assoc h.before (l ∷ []) ls);
+    place =
+        omega (arith, h.place, length-append h.before (l ∷ []));
+  }))
 
   end_holds : (cut : Bool) (at : ℕ) (state : ServiceState) → HasState at state [] → Holds (requests_of cut n at state [])
   end_holds true at state h = tt

@@ -16,7 +16,7 @@ pub enum Fault {
     Unread { number: u8, line: u64 },
     /// A batch was not answered.
     Unanswered { number: u8, line: u64 },
-    /// A question had not ended after the turns that were allowed.
+    /// A diffusion had not ended after the turns that were allowed.
     Stalled,
     /// The output failed.
     Output(io::Error),

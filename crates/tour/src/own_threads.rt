@@ -1,4 +1,4 @@
-//! Threads of one's own: each turns a station, and shows a label while the question is under way.
+//! Threads of one's own: each turns a station, and shows a label while the diffusion is under way.
 ghost use Rattle.std.specs.Prelude.{◌≡◌, [], ◌∷◌, length, IfOk};
 ghost use Rattle.std.specs.List.{All};
 ghost use Rattle.road_graph.specs.GraphData.{HasVertex};

@@ -36,15 +36,15 @@ fn open_all<'g, A: PathAlgebra>(
         (get_or r.0.items q f) (get_or r.1.items q v).items) }
 {
     let mut floors = Vec::new(alloc);
-    let mut questions = Vec::new(alloc);
+    let mut lists = Vec::new(alloc);
     for source in sources {
         let Ok((floor, stations)) = open_diffusion(alloc, algebra, graph, plan, *source) else {
             return Err(AllocError);
         };
         floors.push(floor)?;
-        questions.push(stations)?;
+        lists.push(stations)?;
     }
-    Ok((floors, questions))
+    Ok((floors, lists))
 }
 
 /// Takes the last floor away, with its stations.
@@ -89,13 +89,13 @@ pub(crate) fn run_together<'g, A: PathAlgebra, R: Threads + Wait, T: Gate>(
         context.now.settings.now.workers context.now.settings.now.turns) }
 {
     let alloc = context.alloc;
-    let (mut floors, questions) = open_all(alloc, context.algebra, context.graph, plan, sources)?;
+    let (mut floors, opened) = open_all(alloc, context.algebra, context.graph, plan, sources)?;
     let settings = context.settings;
     let mut lists = run_group(
         context.rt,
         alloc,
         floors.as_slice(),
-        questions,
+        opened,
         settings.workers as usize,
         settings.budget as u32,
         settings.turns,

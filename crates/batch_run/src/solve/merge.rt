@@ -1,11 +1,11 @@
 //! Best labels from the sources of a question, by workers.
-ghost use Rattle.std.specs.Prelude.{◌+◌, ◌<◌, length, slice_index_or, false, IfOk, IfErr, OnOk, OnErr};
+ghost use Rattle.std.specs.Prelude.{◌+◌, ◌<◌, length, slice_index_or, false, IfOk, IfErr, OnOk};
 ghost use Rattle.path_algebra.specs.Walks.{AreBest};
 ghost use Rattle.road_files.specs.Asked.{AreQuestionsOf, Question, asked_of, sources_of};
 ghost use Rattle.worker_fleet.specs.Stops.{Says};
 ghost use Rattle.batch_run.specs.Diffusions.{AreNext, IsPlanOf, sources_to_come};
 ghost use Rattle.batch_run.specs.InRange.{AreInRange};
-ghost use Rattle.batch_run.specs.Reports.{Reported, ReportedPrefix, accounts_due};
+ghost use Rattle.batch_run.specs.Reports.{ReportedAllOrPrefix, accounts_due};
 
 use crate::solve::context::RunContext;
 use crate::solve::queue::{DiffusionQueue, next_labels};
@@ -40,14 +40,10 @@ pub(crate) fn merge_all<'g, A: PathAlgebra, R: Threads + Wait, T: Gate, O: Watch
         (sources_to_come (asked_of questions.now).questions (i + 1) 0) queue.new.ended.items) }
     ensures says { IfErr result (Says (T.may_answer context.now.gate.now)
         context.now.settings.now.workers context.now.settings.now.turns) }
-    ensures reported { OnOk result ((default : Question) →
-        Reported (A.meaning context.now.algebra) context.now.graph.now O.may_become
-        (accounts_due false (i + 1) (slice_index_or (asked_of questions.now).questions i default))
-        watcher.old watcher.new) }
-    ensures begun { OnErr result ((default : Question) → ReportedPrefix
+    ensures reported { (default : Question) → ReportedAllOrPrefix
         (A.meaning context.now.algebra) context.now.graph.now O.may_become
         (accounts_due false (i + 1) (slice_index_or (asked_of questions.now).questions i default))
-        watcher.old watcher.new) }
+        watcher.old watcher.new result }
 {
     laws_hold(context.algebra);
     let sources = questions.sources(i);

@@ -15,12 +15,13 @@ pub returns-in-Err-clause-later : goal.returns-in-Err-clause-later
 returns-in-Err-clause-later g c = rw c.fault_of_group.ensures
     (group_later c.args.context.now.settings.now (g.T.Gate.may_answer c.args.context.now.gate.now) c.args.plan c.in-Err.fault c.requires.kind c.in-Err.ensures.plain c.in-Err.ensures.says)
 
-pub returns-in-Err-clause-begun : goal.returns-in-Err-clause-begun
-returns-in-Err-clause-begun g c = λ d. question_begun _ _ _ _ _ c.requires.kind _ _ _ _ (c.in-Err.ensures.begun d)
+pub returns-in-Err-clause-reported : goal.returns-in-Err-clause-reported
+returns-in-Err-clause-reported g c = λ d. question_begun _ _ _ _ _ c.requires.kind _ _ _ _ (c.in-Err.ensures.reported d)
 
 pub answer_at-requires-clause-solved : goal.answer_at-requires-clause-solved
 answer_at-requires-clause-solved g c κs within =
-    rw c.whole-graph.ensures (subst (λ (s : Solved g.row.A-Value.Denot). IsSolvedFor (g.A.PathAlgebra.meaning c.args.context.now.algebra) c.args.context.now.graph.now (asked_of c.args.questions.now) c.args.i s)
+    rw c.whole-graph.ensures (subst (λ (s : Solved g.row.A-Value.Denot). IsSolvedFor (g.A.PathAlgebra.meaning c.args.context.now.algebra) c.args.context.now.graph.now
+    (asked_of c.args.questions.now) c.args.i s)
     (sym c.index.ensures) (c.in-Ok.ensures.answers c.index.result.now))
 
 pub answer_at-requires-clause-within : goal.answer_at-requires-clause-within
@@ -30,14 +31,15 @@ pub returns-in-Err-answer_at-clause-wrote : goal.returns-in-Err-answer_at-clause
 returns-in-Err-answer_at-clause-wrote g c = λ d. rw c.fault_of_answer.ensures
     (not_written (g.A.PathAlgebra.meaning c.args.context.now.algebra) c.args.context.now.graph.now _ _ _ _ _ c.in-Err-answer_at.unanswered
     (subst (λ (r : GraphData). WroteAnswer (g.A.PathAlgebra.meaning c.args.context.now.algebra) r (get_or (asked_of c.args.questions.now).questions c.args.i d)
-    (g.W.RoadWrite.written c.args.out.now) (g.W.RoadWrite.written c.answer_at.new.out) (g.W.RoadWrite.failures c.args.out.now) (g.W.RoadWrite.failures c.answer_at.new.out) (Err c.in-Err-answer_at.unanswered))
+    (g.W.RoadWrite.written c.args.out.now) (g.W.RoadWrite.written c.answer_at.new.out) (g.W.RoadWrite.failures c.args.out.now)
+    (g.W.RoadWrite.failures c.answer_at.new.out) (Err c.in-Err-answer_at.unanswered))
     c.whole-graph.ensures (c.in-Err-answer_at.ensures d)))
 
 pub returns-in-Err-answer_at-clause-later : goal.returns-in-Err-answer_at-clause-later
 returns-in-Err-answer_at-clause-later g c = rw c.fault_of_answer.ensures (answer_later c.args.context.now.settings.now (g.T.Gate.may_answer c.args.context.now.gate.now) c.in-Err-answer_at.unanswered)
 
-pub returns-in-Err-answer_at-clause-begun : goal.returns-in-Err-answer_at-clause-begun
-returns-in-Err-answer_at-clause-begun g c = λ d. question_solved _ _ _ _ _ c.requires.kind _ _ _ _ (c.in-Ok.ensures.reported d)
+pub returns-in-Err-answer_at-clause-reported : goal.returns-in-Err-answer_at-clause-reported
+returns-in-Err-answer_at-clause-reported g c = λ d. question_solved _ _ _ _ _ c.requires.kind _ _ _ _ (c.in-Ok.ensures.reported d)
 
 pub returns-clause-wrote : goal.returns-clause-wrote
 returns-clause-wrote g c = λ d. rw c.whole-graph.ensures at (c.in-Ok-answer_at.ensures d)

@@ -25,9 +25,11 @@ returns g c = record {
     whole = begun_without_memory _ _ _ _ (record { told = c.in-Ok.ensures.reads.value; some_text = c.in-Ok.ensures.reads.some_text }) _ _ c.answer_and_flush.result c.answer_and_flush.ensures.whole;
     flushed = at_memory c.answer_and_flush.result _ c.answer_and_flush.ensures.flushed;
     once = at_memory c.answer_and_flush.result _ c.answer_and_flush.ensures.once;
-    stopped = begun_when_stopped _ _ _ _ (record { told = c.in-Ok.ensures.reads.value; some_text = c.in-Ok.ensures.reads.some_text }) _ _ c.answer_and_flush.result _ _ _ c.answer_and_flush.ensures.whole c.answer_and_flush.ensures.flushed;
+    stopped = begun_when_stopped _ _ _ _ (record { told = c.in-Ok.ensures.reads.value; some_text = c.in-Ok.ensures.reads.some_text }) _ _ c.answer_and_flush.result _ _ _
+        c.answer_and_flush.ensures.whole c.answer_and_flush.ensures.flushed;
     end = on_ok_weaker c.answer_and_flush.result (λ _. c.in-Ok.ensures.reads.end) c.answer_and_flush.ensures.sound;
     asked = c.read_bundle_as.ensures.reads.asked;
   };
-  watched = watched _ c.args.settings.now _ g.O.Watcher.may_become _ _ _ _ (g.T.Gate.may_answer c.args.gate.now) _ _ c.answer_and_flush.result (record { told = c.in-Ok.ensures.reads.value; some_text = c.in-Ok.ensures.reads.some_text }) c.answer_and_flush.ensures.reported c.answer_and_flush.ensures.begun c.answer_and_flush.ensures.later;
+  watched = watched _ c.args.settings.now _ g.O.Watcher.may_become _ _ _ _ (g.T.Gate.may_answer c.args.gate.now) _ _ c.answer_and_flush.result
+      (record { told = c.in-Ok.ensures.reads.value; some_text = c.in-Ok.ensures.reads.some_text }) c.answer_and_flush.ensures.reported c.answer_and_flush.ensures.later;
 }

@@ -9,7 +9,8 @@ use Rattle.batch_run.proofs.plain_batch.answer_plainly.Given as goal
 
 abbrev pub invariant-loop-i : goal.invariant-loop-i
 invariant-loop-i g l = record {
-  progress : Progress (g.A.PathAlgebra.meaning l.algebra) l.graph (asked_of l.questions) l.i (g.W.RoadWrite.written l.fn.out) (g.W.RoadWrite.written l.out) (g.W.RoadWrite.failures l.fn.out) (g.W.RoadWrite.failures l.out);
+  progress : Progress (g.A.PathAlgebra.meaning l.algebra) l.graph (asked_of l.questions) l.i (g.W.RoadWrite.written l.fn.out) (g.W.RoadWrite.written l.out)
+      (g.W.RoadWrite.failures l.fn.out) (g.W.RoadWrite.failures l.out);
   solved : All (IsSolved (g.A.PathAlgebra.meaning l.algebra) l.graph (asked_of l.questions)) l.solved.items;
   reported : Reported (g.A.PathAlgebra.meaning l.algebra) l.graph g.O.Watcher.may_become (due_first true (asked_of l.questions).questions l.i) l.fn.watcher l.watcher;
 }

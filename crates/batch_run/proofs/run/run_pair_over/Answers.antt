@@ -14,7 +14,8 @@ returns g c = record {
     graph = of_no_input c.args.settings.now (g.T.Gate.may_answer c.args.gate.now) _ _ c.answer_and_flush.result c.answer_and_flush.ensures.later Graph _ (λ e. cc);
     questions = of_no_input c.args.settings.now (g.T.Gate.may_answer c.args.gate.now) _ _ c.answer_and_flush.result c.answer_and_flush.ensures.later Questions _ (λ e. cc);
     read_graph = no_failed_read c.args.settings.now (g.T.Gate.may_answer c.args.gate.now) _ _ c.answer_and_flush.result c.answer_and_flush.ensures.later Graph _ _ (λ e. cc) c.in-Ok.ensures.sound.0;
-    read_questions = no_failed_read c.args.settings.now (g.T.Gate.may_answer c.args.gate.now) _ _ c.answer_and_flush.result c.answer_and_flush.ensures.later Questions _ _ (λ e. cc) c.in-Ok.ensures.sound.1;
+    read_questions = no_failed_read c.args.settings.now (g.T.Gate.may_answer c.args.gate.now) _ _ c.answer_and_flush.result c.answer_and_flush.ensures.later Questions _ _
+        (λ e. cc) c.in-Ok.ensures.sound.1;
     write = IfErr-weaker c.answer_and_flush.result _ _ (λ f l. l.1) c.answer_and_flush.ensures.later;
     kinds = kinds c.args.settings.now (g.T.Gate.may_answer c.args.gate.now) _ _ c.answer_and_flush.result c.answer_and_flush.ensures.later _;
     placed = placed c.args.settings.now (g.T.Gate.may_answer c.args.gate.now) _ _ c.answer_and_flush.result c.answer_and_flush.ensures.later;
@@ -32,5 +33,6 @@ returns g c = record {
     asked = c.read_pair_as.ensures.asked;
     asked_questions = c.read_pair_as.ensures.asked_questions;
   };
-  watched = watched _ c.args.settings.now _ g.O.Watcher.may_become _ _ _ _ (g.T.Gate.may_answer c.args.gate.now) _ _ c.answer_and_flush.result c.in-Ok.ensures.read c.answer_and_flush.ensures.reported c.answer_and_flush.ensures.begun c.answer_and_flush.ensures.later;
+  watched = watched _ c.args.settings.now _ g.O.Watcher.may_become _ _ _ _ (g.T.Gate.may_answer c.args.gate.now) _ _ c.answer_and_flush.result c.in-Ok.ensures.read
+      c.answer_and_flush.ensures.reported c.answer_and_flush.ensures.later;
 }

@@ -17,16 +17,27 @@ long_no_read r p e = cc
 
 pub returns-in-Err : goal.returns-in-Err
 returns-in-Err g c = record {
-  ran = rw c.fault_in.ensures (graph_failed (g.A.PathAlgebra.meaning c.args.algebra) c.args.settings.now (g.T.Gate.may_answer c.args.gate.now) (input g.G.RoadRead.left g.G.RoadRead.failures g.G.RoadRead.asked c.args.graph_in.now) (input g.G.RoadRead.left g.G.RoadRead.failures g.G.RoadRead.asked c.read_gr.new.from) (input g.Q.RoadRead.left g.Q.RoadRead.failures g.Q.RoadRead.asked c.args.requests_in.now) (output g.W.RoadWrite.written g.W.RoadWrite.held g.W.RoadWrite.failures c.args.out.now)
-      c.in-Err.fault (c.are_in_range.ensures.0 c.if-not-are_in_range.false) c.in-Err.ensures.fault c.in-Err.ensures.told c.in-Err.ensures.untold c.in-Err.ensures.placed c.in-Err.ensures.numbered c.read_gr.ensures.asked);
+  ran = rw c.fault_in.ensures (graph_failed (g.A.PathAlgebra.meaning c.args.algebra) c.args.settings.now (g.T.Gate.may_answer c.args.gate.now)
+      (input g.G.RoadRead.left g.G.RoadRead.failures g.G.RoadRead.asked c.args.graph_in.now)
+      (input g.G.RoadRead.left g.G.RoadRead.failures g.G.RoadRead.asked c.read_gr.new.from)
+      (input g.Q.RoadRead.left g.Q.RoadRead.failures g.Q.RoadRead.asked c.args.requests_in.now) (output g.W.RoadWrite.written g.W.RoadWrite.held g.W.RoadWrite.failures c.args.out.now)
+      c.in-Err.fault (c.are_in_range.ensures.0 c.if-not-are_in_range.false) c.in-Err.ensures.fault c.in-Err.ensures.told c.in-Err.ensures.untold c.in-Err.ensures.placed
+      c.in-Err.ensures.numbered c.read_gr.ensures.asked);
 }
 
 pub returns-in-Err-Read : goal.returns-in-Err-Read
 returns-in-Err-Read g c =
     let is : c.serve.result ≡ Err Read = c.in-Err-Read.is ∙ ap (λ (s : Stopped). Err s) c.in-Err-Read.field-0-is in
-    let read : IsReadAs gr_rules (g.G.RoadRead.left c.args.graph_in.now) c.indexed-graph.result = subst (λ (r : GraphData). IsReadAs gr_rules (g.G.RoadRead.left c.args.graph_in.now) r) (sym c.indexed-graph.ensures) (record { told = c.in-Ok.ensures.value; some_text = c.in-Ok.ensures.some_text }) in
+    let read : IsReadAs gr_rules (g.G.RoadRead.left c.args.graph_in.now) c.indexed-graph.result =
+    subst (λ (r : GraphData). IsReadAs gr_rules (g.G.RoadRead.left c.args.graph_in.now) r) (sym c.indexed-graph.ensures)
+    (record { told = c.in-Ok.ensures.value; some_text = c.in-Ok.ensures.some_text }) in
     record {
-      ran = rw c.fault_of_requests.ensures (stopped (g.A.PathAlgebra.meaning c.args.algebra) c.args.settings.now (g.T.Gate.may_answer c.args.gate.now) (input g.G.RoadRead.left g.G.RoadRead.failures g.G.RoadRead.asked c.args.graph_in.now) (input g.G.RoadRead.left g.G.RoadRead.failures g.G.RoadRead.asked c.read_gr.new.from) (input g.Q.RoadRead.left g.Q.RoadRead.failures g.Q.RoadRead.asked c.args.requests_in.now) (input g.Q.RoadRead.left g.Q.RoadRead.failures g.Q.RoadRead.asked c.serve.new.input) (output g.W.RoadWrite.written g.W.RoadWrite.held g.W.RoadWrite.failures c.args.out.now) (output g.W.RoadWrite.written g.W.RoadWrite.held g.W.RoadWrite.failures c.serve.new.out)
+      ran = rw c.fault_of_requests.ensures (stopped (g.A.PathAlgebra.meaning c.args.algebra) c.args.settings.now (g.T.Gate.may_answer c.args.gate.now)
+          (input g.G.RoadRead.left g.G.RoadRead.failures g.G.RoadRead.asked c.args.graph_in.now)
+          (input g.G.RoadRead.left g.G.RoadRead.failures g.G.RoadRead.asked c.read_gr.new.from)
+          (input g.Q.RoadRead.left g.Q.RoadRead.failures g.Q.RoadRead.asked c.args.requests_in.now)
+          (input g.Q.RoadRead.left g.Q.RoadRead.failures g.Q.RoadRead.asked c.serve.new.input)
+          (output g.W.RoadWrite.written g.W.RoadWrite.held g.W.RoadWrite.failures c.args.out.now) (output g.W.RoadWrite.written g.W.RoadWrite.held g.W.RoadWrite.failures c.serve.new.out)
           (c.are_in_range.ensures.0 c.if-not-are_in_range.false) c.indexed-graph.result read c.in-Ok.ensures.sound c.in-Ok.ensures.end c.read_gr.ensures.asked
           1 (inl refl) (rw c.vertices.ensures.count at (c.serve.ensures.read is).0) (λ one. λ same. omega (arith, same, (c.serve.ensures.read is).1), λ lost. refl));
     }
@@ -34,9 +45,16 @@ returns-in-Err-Read g c =
 pub returns-in-Err-TooLong : goal.returns-in-Err-TooLong
 returns-in-Err-TooLong g c =
     let is : c.serve.result ≡ Err TooLong = c.in-Err-TooLong.is ∙ ap (λ (s : Stopped). Err s) c.in-Err-TooLong.field-0-is in
-    let read : IsReadAs gr_rules (g.G.RoadRead.left c.args.graph_in.now) c.indexed-graph.result = subst (λ (r : GraphData). IsReadAs gr_rules (g.G.RoadRead.left c.args.graph_in.now) r) (sym c.indexed-graph.ensures) (record { told = c.in-Ok.ensures.value; some_text = c.in-Ok.ensures.some_text }) in
+    let read : IsReadAs gr_rules (g.G.RoadRead.left c.args.graph_in.now) c.indexed-graph.result =
+    subst (λ (r : GraphData). IsReadAs gr_rules (g.G.RoadRead.left c.args.graph_in.now) r) (sym c.indexed-graph.ensures)
+    (record { told = c.in-Ok.ensures.value; some_text = c.in-Ok.ensures.some_text }) in
     record {
-      ran = rw c.fault_of_requests-in-Err-TooLong.ensures (stopped (g.A.PathAlgebra.meaning c.args.algebra) c.args.settings.now (g.T.Gate.may_answer c.args.gate.now) (input g.G.RoadRead.left g.G.RoadRead.failures g.G.RoadRead.asked c.args.graph_in.now) (input g.G.RoadRead.left g.G.RoadRead.failures g.G.RoadRead.asked c.read_gr.new.from) (input g.Q.RoadRead.left g.Q.RoadRead.failures g.Q.RoadRead.asked c.args.requests_in.now) (input g.Q.RoadRead.left g.Q.RoadRead.failures g.Q.RoadRead.asked c.serve.new.input) (output g.W.RoadWrite.written g.W.RoadWrite.held g.W.RoadWrite.failures c.args.out.now) (output g.W.RoadWrite.written g.W.RoadWrite.held g.W.RoadWrite.failures c.serve.new.out)
+      ran = rw c.fault_of_requests-in-Err-TooLong.ensures (stopped (g.A.PathAlgebra.meaning c.args.algebra) c.args.settings.now (g.T.Gate.may_answer c.args.gate.now)
+          (input g.G.RoadRead.left g.G.RoadRead.failures g.G.RoadRead.asked c.args.graph_in.now)
+          (input g.G.RoadRead.left g.G.RoadRead.failures g.G.RoadRead.asked c.read_gr.new.from)
+          (input g.Q.RoadRead.left g.Q.RoadRead.failures g.Q.RoadRead.asked c.args.requests_in.now)
+          (input g.Q.RoadRead.left g.Q.RoadRead.failures g.Q.RoadRead.asked c.serve.new.input)
+          (output g.W.RoadWrite.written g.W.RoadWrite.held g.W.RoadWrite.failures c.args.out.now) (output g.W.RoadWrite.written g.W.RoadWrite.held g.W.RoadWrite.failures c.serve.new.out)
           (c.are_in_range.ensures.0 c.if-not-are_in_range.false) c.indexed-graph.result read c.in-Ok.ensures.sound c.in-Ok.ensures.end c.read_gr.ensures.asked
           2 (inr refl) (rw c.vertices.ensures.count at (c.serve.ensures.long is)) (λ one. absurd (omega (arith, one)), λ lost. absurd (lost (c.serve.ensures.sound (long_no_read c.serve.result is)))));
     }
@@ -44,7 +62,9 @@ returns-in-Err-TooLong g c =
 pub returns : goal.returns
 returns g c =
     let stopped : c.serve.result ≡ Err Write = c.in-Err-Write.is ∙ ap (λ (s : Stopped). Err s) c.in-Err-Write.field-0-is in
-    let read : IsReadAs gr_rules (g.G.RoadRead.left c.args.graph_in.now) c.indexed-graph.result = subst (λ (r : GraphData). IsReadAs gr_rules (g.G.RoadRead.left c.args.graph_in.now) r) (sym c.indexed-graph.ensures) (record { told = c.in-Ok.ensures.value; some_text = c.in-Ok.ensures.some_text }) in
+    let read : IsReadAs gr_rules (g.G.RoadRead.left c.args.graph_in.now) c.indexed-graph.result =
+    subst (λ (r : GraphData). IsReadAs gr_rules (g.G.RoadRead.left c.args.graph_in.now) r) (sym c.indexed-graph.ensures)
+    (record { told = c.in-Ok.ensures.value; some_text = c.in-Ok.ensures.some_text }) in
     record {
       ran = rw c.fault_of_run-in-Err-Write.ensures (fell (g.A.PathAlgebra.meaning c.args.algebra) c.args.settings.now (g.T.Gate.may_answer c.args.gate.now)
           (input g.G.RoadRead.left g.G.RoadRead.failures g.G.RoadRead.asked c.args.graph_in.now) (input g.G.RoadRead.left g.G.RoadRead.failures g.G.RoadRead.asked c.read_gr.new.from)

@@ -8,9 +8,12 @@ use Rattle.service.proofs.serving.serve.Goals as goal
 pub returns-in-Ok-finish-clause-served : goal.returns-in-Ok-finish-clause-served
 returns-in-Ok-finish-clause-served g c =
     let buffer : List ℕ = c.ask.new.buffer in
-    let nothing : Consumes (g.I.RoadRead.left c.loop.input) (g.I.RoadRead.left c.ask.new.input) [] = subst (λ k. Consumes (g.I.RoadRead.left c.loop.input) (g.I.RoadRead.left c.ask.new.input) (take k buffer)) c.in-Ok-eq0.field-0-test c.in-Ok-eq0.ensures.bytes.0 in
+    let nothing : Consumes (g.I.RoadRead.left c.loop.input) (g.I.RoadRead.left c.ask.new.input) [] =
+    subst (λ k. Consumes (g.I.RoadRead.left c.loop.input) (g.I.RoadRead.left c.ask.new.input) (take k buffer)) c.in-Ok-eq0.field-0-test c.in-Ok-eq0.ensures.bytes.0 in
     let room : 0 < length buffer = search rules in
-    served_all (MayAnswer (g.A.PathAlgebra.meaning c.args.answers.now.algebra) c.args.answers.now.settings.now (g.T.Gate.may_answer c.args.answers.now.gate.now) c.args.answers.now.graph.now) c.loop.service c.args.vertices (g.I.RoadRead.left c.args.input.now) (g.I.RoadRead.left c.loop.input) (g.I.RoadRead.left c.ask.new.input)
+    served_all (MayAnswer (g.A.PathAlgebra.meaning c.args.answers.now.algebra) c.args.answers.now.settings.now
+    (g.T.Gate.may_answer c.args.answers.now.gate.now) c.args.answers.now.graph.now) c.loop.service c.args.vertices (g.I.RoadRead.left c.args.input.now)
+    (g.I.RoadRead.left c.loop.input) (g.I.RoadRead.left c.ask.new.input)
     (g.W.RoadWrite.written c.args.out.now) (g.W.RoadWrite.written c.flush.new.self) (g.W.RoadWrite.written c.loop.out) (g.W.RoadWrite.written c.finish.new.out)
     (g.W.RoadWrite.failures c.args.out.now) (g.W.RoadWrite.failures c.flush.new.self) (g.W.RoadWrite.failures c.loop.out) (g.W.RoadWrite.failures c.finish.new.out)
     c.loop.invariant.vertices c.loop.invariant.served nothing (c.in-Ok-eq0.ensures.bytes.1 c.in-Ok-eq0.field-0-test room) c.flush.ensures.bytes c.in-Ok.ensures.sound c.in-Ok-finish.ensures.finished
@@ -19,8 +22,11 @@ pub loop-preserved : goal.loop-preserved
 loop-preserved g c = record {
   can = tt;
   finite = tt;
-  served = served_more (MayAnswer (g.A.PathAlgebra.meaning c.args.answers.now.algebra) c.args.answers.now.settings.now (g.T.Gate.may_answer c.args.answers.now.gate.now) c.args.answers.now.graph.now) c.loop.service c.feed.new.self (take c.in-Ok-ask.n c.ask.new.buffer) (g.I.RoadRead.left c.args.input.now) (g.I.RoadRead.left c.loop.input) (g.I.RoadRead.left c.ask.new.input)
-      (g.W.RoadWrite.written c.flush.new.self) (g.W.RoadWrite.written c.loop.out) (g.W.RoadWrite.written c.feed.new.out) (g.W.RoadWrite.failures c.flush.new.self) (g.W.RoadWrite.failures c.loop.out) (g.W.RoadWrite.failures c.feed.new.out)
+  served = served_more (MayAnswer (g.A.PathAlgebra.meaning c.args.answers.now.algebra) c.args.answers.now.settings.now
+      (g.T.Gate.may_answer c.args.answers.now.gate.now) c.args.answers.now.graph.now) c.loop.service c.feed.new.self (take c.in-Ok-ask.n c.ask.new.buffer)
+      (g.I.RoadRead.left c.args.input.now) (g.I.RoadRead.left c.loop.input) (g.I.RoadRead.left c.ask.new.input)
+      (g.W.RoadWrite.written c.flush.new.self) (g.W.RoadWrite.written c.loop.out) (g.W.RoadWrite.written c.feed.new.out) (g.W.RoadWrite.failures c.flush.new.self)
+      (g.W.RoadWrite.failures c.loop.out) (g.W.RoadWrite.failures c.feed.new.out)
       c.loop.invariant.served c.in-Ok-ask.ensures.bytes.0 c.in-Ok-feed.ensures.fed;
   held = c.in-Ok-feed.ensures.passed_on c.loop.invariant.held;
   vertices = c.feed.ensures.vertices ∙ c.loop.invariant.vertices;
@@ -28,31 +34,48 @@ loop-preserved g c = record {
 }
 
 pub returns-in-Err-clause-write : goal.returns-in-Err-clause-write
-returns-in-Err-clause-write g c = λ is. flush_fell (MayAnswer (g.A.PathAlgebra.meaning c.args.answers.now.algebra) c.args.answers.now.settings.now (g.T.Gate.may_answer c.args.answers.now.gate.now) c.args.answers.now.graph.now) c.args.vertices (g.I.RoadRead.left c.args.input.now) (g.W.RoadWrite.written c.args.out.now) (g.W.RoadWrite.written c.flush.new.self) (g.W.RoadWrite.failures c.args.out.now) (g.W.RoadWrite.failures c.flush.new.self) c.flush.ensures.bytes c.in-Err.ensures.failed
+returns-in-Err-clause-write g c = λ is. flush_fell (MayAnswer (g.A.PathAlgebra.meaning c.args.answers.now.algebra) c.args.answers.now.settings.now
+    (g.T.Gate.may_answer c.args.answers.now.gate.now) c.args.answers.now.graph.now) c.args.vertices (g.I.RoadRead.left c.args.input.now)
+    (g.W.RoadWrite.written c.args.out.now) (g.W.RoadWrite.written c.flush.new.self) (g.W.RoadWrite.failures c.args.out.now)
+    (g.W.RoadWrite.failures c.flush.new.self) c.flush.ensures.bytes c.in-Err.ensures.failed
 
 pub returns-in-Err-ask-clause-read : goal.returns-in-Err-ask-clause-read
 returns-in-Err-ask-clause-read g c = λ is. (
-  read_failed (MayAnswer (g.A.PathAlgebra.meaning c.args.answers.now.algebra) c.args.answers.now.settings.now (g.T.Gate.may_answer c.args.answers.now.gate.now) c.args.answers.now.graph.now) c.loop.service c.args.vertices (g.I.RoadRead.left c.args.input.now) (g.I.RoadRead.left c.loop.input) (g.I.RoadRead.left c.loop.input)
-      (g.W.RoadWrite.written c.args.out.now) (g.W.RoadWrite.written c.flush.new.self) (g.W.RoadWrite.written c.loop.out) (g.W.RoadWrite.written c.loop.out) (g.W.RoadWrite.failures c.args.out.now) (g.W.RoadWrite.failures c.flush.new.self) (g.W.RoadWrite.failures c.loop.out) (g.W.RoadWrite.failures c.loop.out)
+  read_failed (MayAnswer (g.A.PathAlgebra.meaning c.args.answers.now.algebra) c.args.answers.now.settings.now
+      (g.T.Gate.may_answer c.args.answers.now.gate.now) c.args.answers.now.graph.now) c.loop.service c.args.vertices (g.I.RoadRead.left c.args.input.now)
+      (g.I.RoadRead.left c.loop.input) (g.I.RoadRead.left c.loop.input)
+      (g.W.RoadWrite.written c.args.out.now) (g.W.RoadWrite.written c.flush.new.self) (g.W.RoadWrite.written c.loop.out) (g.W.RoadWrite.written c.loop.out)
+      (g.W.RoadWrite.failures c.args.out.now) (g.W.RoadWrite.failures c.flush.new.self) (g.W.RoadWrite.failures c.loop.out) (g.W.RoadWrite.failures c.loop.out)
       c.loop.invariant.vertices c.loop.invariant.served c.flush.ensures.bytes c.in-Ok.ensures.sound,
   c.in-Err-ask.ensures.failed ∙ ap (λ k. k + 1) c.loop.invariant.sound,
 )
 
 pub returns-in-Err-finish-clause-write : goal.returns-in-Err-finish-clause-write
-returns-in-Err-finish-clause-write g c = λ is. end_fell (MayAnswer (g.A.PathAlgebra.meaning c.args.answers.now.algebra) c.args.answers.now.settings.now (g.T.Gate.may_answer c.args.answers.now.gate.now) c.args.answers.now.graph.now) c.loop.service c.args.vertices (g.I.RoadRead.left c.args.input.now) (g.I.RoadRead.left c.loop.input) (g.I.RoadRead.left c.loop.input)
-    (g.W.RoadWrite.written c.args.out.now) (g.W.RoadWrite.written c.flush.new.self) (g.W.RoadWrite.written c.loop.out) (g.W.RoadWrite.written c.finish.new.out) (g.W.RoadWrite.failures c.args.out.now) (g.W.RoadWrite.failures c.flush.new.self) (g.W.RoadWrite.failures c.loop.out) (g.W.RoadWrite.failures c.finish.new.out)
+returns-in-Err-finish-clause-write g c = λ is. end_fell (MayAnswer (g.A.PathAlgebra.meaning c.args.answers.now.algebra) c.args.answers.now.settings.now
+    (g.T.Gate.may_answer c.args.answers.now.gate.now) c.args.answers.now.graph.now) c.loop.service c.args.vertices (g.I.RoadRead.left c.args.input.now)
+    (g.I.RoadRead.left c.loop.input) (g.I.RoadRead.left c.loop.input)
+    (g.W.RoadWrite.written c.args.out.now) (g.W.RoadWrite.written c.flush.new.self) (g.W.RoadWrite.written c.loop.out) (g.W.RoadWrite.written c.finish.new.out)
+    (g.W.RoadWrite.failures c.args.out.now) (g.W.RoadWrite.failures c.flush.new.self) (g.W.RoadWrite.failures c.loop.out) (g.W.RoadWrite.failures c.finish.new.out)
     c.loop.invariant.vertices c.loop.invariant.served c.flush.ensures.bytes c.in-Ok.ensures.sound c.in-Err-finish.ensures.fell
 
 pub returns-in-Err-Write-clause-write : goal.returns-in-Err-Write-clause-write
 returns-in-Err-Write-clause-write g c = λ is.
-    feed_fell (MayAnswer (g.A.PathAlgebra.meaning c.args.answers.now.algebra) c.args.answers.now.settings.now (g.T.Gate.may_answer c.args.answers.now.gate.now) c.args.answers.now.graph.now) c.loop.service c.args.vertices (g.I.RoadRead.left c.args.input.now) (g.I.RoadRead.left c.loop.input) (g.I.RoadRead.left c.ask.new.input)
-    (g.W.RoadWrite.written c.args.out.now) (g.W.RoadWrite.written c.flush.new.self) (g.W.RoadWrite.written c.loop.out) (g.W.RoadWrite.written c.feed.new.out) (g.W.RoadWrite.failures c.args.out.now) (g.W.RoadWrite.failures c.flush.new.self) (g.W.RoadWrite.failures c.loop.out) (g.W.RoadWrite.failures c.feed.new.out)
+    feed_fell (MayAnswer (g.A.PathAlgebra.meaning c.args.answers.now.algebra) c.args.answers.now.settings.now
+    (g.T.Gate.may_answer c.args.answers.now.gate.now) c.args.answers.now.graph.now) c.loop.service c.args.vertices (g.I.RoadRead.left c.args.input.now)
+    (g.I.RoadRead.left c.loop.input) (g.I.RoadRead.left c.ask.new.input)
+    (g.W.RoadWrite.written c.args.out.now) (g.W.RoadWrite.written c.flush.new.self) (g.W.RoadWrite.written c.loop.out) (g.W.RoadWrite.written c.feed.new.out)
+    (g.W.RoadWrite.failures c.args.out.now) (g.W.RoadWrite.failures c.flush.new.self) (g.W.RoadWrite.failures c.loop.out) (g.W.RoadWrite.failures c.feed.new.out)
     c.loop.invariant.vertices c.loop.invariant.served c.flush.ensures.bytes c.in-Ok.ensures.sound
-    c.feed.new.self (take c.in-Ok-ask.n c.ask.new.buffer) (c.feed.ensures.vertices ∙ c.loop.invariant.vertices) c.in-Ok-ask.ensures.bytes.0 (c.feed.ensures.fell (c.in-Err-Write.is ∙ ap (λ (e : Unfed). Err e) c.in-Err-Write.field-0-is))
+    c.feed.new.self (take c.in-Ok-ask.n c.ask.new.buffer) (c.feed.ensures.vertices ∙ c.loop.invariant.vertices) c.in-Ok-ask.ensures.bytes.0
+    (c.feed.ensures.fell (c.in-Err-Write.is ∙ ap (λ (e : Unfed). Err e) c.in-Err-Write.field-0-is))
 
 pub returns-in-Err-TooLong-clause-long : goal.returns-in-Err-TooLong-clause-long
 returns-in-Err-TooLong-clause-long g c = λ is.
-    feed_long (MayAnswer (g.A.PathAlgebra.meaning c.args.answers.now.algebra) c.args.answers.now.settings.now (g.T.Gate.may_answer c.args.answers.now.gate.now) c.args.answers.now.graph.now) c.loop.service c.args.vertices (g.I.RoadRead.left c.args.input.now) (g.I.RoadRead.left c.loop.input) (g.I.RoadRead.left c.ask.new.input)
-    (g.W.RoadWrite.written c.args.out.now) (g.W.RoadWrite.written c.flush.new.self) (g.W.RoadWrite.written c.loop.out) (g.W.RoadWrite.written c.feed.new.out) (g.W.RoadWrite.failures c.args.out.now) (g.W.RoadWrite.failures c.flush.new.self) (g.W.RoadWrite.failures c.loop.out) (g.W.RoadWrite.failures c.feed.new.out)
+    feed_long (MayAnswer (g.A.PathAlgebra.meaning c.args.answers.now.algebra) c.args.answers.now.settings.now
+    (g.T.Gate.may_answer c.args.answers.now.gate.now) c.args.answers.now.graph.now) c.loop.service c.args.vertices (g.I.RoadRead.left c.args.input.now)
+    (g.I.RoadRead.left c.loop.input) (g.I.RoadRead.left c.ask.new.input)
+    (g.W.RoadWrite.written c.args.out.now) (g.W.RoadWrite.written c.flush.new.self) (g.W.RoadWrite.written c.loop.out) (g.W.RoadWrite.written c.feed.new.out)
+    (g.W.RoadWrite.failures c.args.out.now) (g.W.RoadWrite.failures c.flush.new.self) (g.W.RoadWrite.failures c.loop.out) (g.W.RoadWrite.failures c.feed.new.out)
     c.loop.invariant.vertices c.loop.invariant.served c.flush.ensures.bytes c.in-Ok.ensures.sound
-    c.feed.new.self (take c.in-Ok-ask.n c.ask.new.buffer) (c.feed.ensures.vertices ∙ c.loop.invariant.vertices) c.in-Ok-ask.ensures.bytes.0 (c.feed.ensures.long (c.in-Err-TooLong.is ∙ ap (λ (e : Unfed). Err e) c.in-Err-TooLong.field-0-is))
+    c.feed.new.self (take c.in-Ok-ask.n c.ask.new.buffer) (c.feed.ensures.vertices ∙ c.loop.invariant.vertices) c.in-Ok-ask.ensures.bytes.0
+    (c.feed.ensures.long (c.in-Err-TooLong.is ∙ ap (λ (e : Unfed). Err e) c.in-Err-TooLong.field-0-is))

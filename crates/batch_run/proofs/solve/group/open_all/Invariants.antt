@@ -5,6 +5,7 @@ use Rattle.batch_run.proofs.solve.group.open_all.Given as goal
 abbrev pub invariant-loop-source : goal.invariant-loop-source
 invariant-loop-source g l = record {
   floors : vec_len l.floors ≡ l.source-index;
-  questions : vec_len l.questions ≡ l.source-index;
-  opened : (q : ℕ) (s : ℕ) (f : _) (v : _) → q < l.source-index → AreOpened g.A.PathAlgebra.meaning (setup_of l.algebra l.graph (get_or l.sources q s) l.plan) (get_or l.floors.items q f) (get_or l.questions.items q v).items;
+  lists : vec_len l.lists ≡ l.source-index;
+  opened : (q : ℕ) (s : ℕ) (f : _) (v : _) → q < l.source-index → AreOpened g.A.PathAlgebra.meaning (setup_of l.algebra l.graph (get_or l.sources q s) l.plan)
+      (get_or l.floors.items q f) (get_or l.lists.items q v).items;
 }

@@ -18,7 +18,8 @@ pub run_group-requires-clause-own : goal.run_group-requires-clause-own
 run_group-requires-clause-own g c κs within =
     let at = (goal.at.run_group-requires-clause-own g c).In_ok-floors in
     λ q d low. rw c.as_slice.ensures.value
-    (opened_placed g.A.PathAlgebra.meaning (λ q. setup_of c.args.context.now.algebra c.args.context.now.graph.now (get_or c.args.sources.now q 0) c.args.plan.now) c.in_ok-floors.floors.items c.in_ok-floors.questions.items
+    (opened_placed g.A.PathAlgebra.meaning (λ q. setup_of c.args.context.now.algebra c.args.context.now.graph.now (get_or c.args.sources.now q 0) c.args.plan.now)
+    c.in_ok-floors.floors.items c.in_ok-floors.opened.items
     (length c.args.sources.now) (floors_are g at) (λ q f v low. c.in_ok-floors.ensures.opened q 0 f v low) q d (rw c.in_ok-floors.ensures.stations at low))
 
 pub loop-k-init : goal.loop-k-init
@@ -30,7 +31,8 @@ loop-k-init g c =
       floors = omega (arith, f);
       lists = omega (arith, l);
       each = λ q s e v low.
-          run_ended g.A.PathAlgebra.meaning (λ q. setup_of c.args.context.now.algebra c.args.context.now.graph.now (get_or c.args.sources.now q s) c.args.plan.now) c.in_ok-floors.floors.items c.in_ok-floors.questions.items
+          run_ended g.A.PathAlgebra.meaning (λ q. setup_of c.args.context.now.algebra c.args.context.now.graph.now (get_or c.args.sources.now q s) c.args.plan.now)
+          c.in_ok-floors.floors.items c.in_ok-floors.opened.items
           (length c.args.sources.now) f (λ q f v low. c.in_ok-floors.ensures.opened q s f v low) c.in_ok-lists.lists.items
           (λ q k d e low. c.in_ok-lists.ensures.all q k d e (rw c.in_ok-floors.ensures.stations low))
           (λ q d low. rw c.as_slice.ensures.value at (c.in_ok-lists.ensures.done q d (rw c.in_ok-floors.ensures.stations low)))
@@ -53,8 +55,10 @@ loop-k-preserved g c =
       floors = omega (arith, nf, was.floors);
       lists = omega (arith, nl, was.lists);
       each = others_ended c.args.context.now.algebra c.args.context.now.graph.now c.args.plan.now c.args.sources.now _ _ _ _ _ _ last.floors last.lists.1 same was.each;
-      ended = rw c.in-Ok.ensures.items (All-push (λ (e : EndedDiffusion g.row.A.Denot g.row.A-Value.Denot). IsEnded c.args.context.now.algebra c.args.context.now.graph.now c.args.plan.now e) c.loop-k.ended.items c.take_last-last.result was.ended
-          (last_ended c.args.context.now.algebra c.args.context.now.graph.now c.args.plan.now c.args.sources.now _ _ _ _ _ _ last.floors last.lists.1 same was.each c.take_last-last.result.stations.items c.take_last-last.result.source last.lists.2
+      ended = rw c.in-Ok.ensures.items (All-push (λ (e : EndedDiffusion g.row.A.Denot g.row.A-Value.Denot). IsEnded c.args.context.now.algebra c.args.context.now.graph.now
+          c.args.plan.now e) c.loop-k.ended.items c.take_last-last.result was.ended
+          (last_ended c.args.context.now.algebra c.args.context.now.graph.now c.args.plan.now c.args.sources.now _ _ _ _ _ _ last.floors last.lists.1 same was.each
+          c.take_last-last.result.stations.items c.take_last-last.result.source last.lists.2
           (rw (place, last.source) (sym c.index-sources-sources.is))));
       order = place_before c.args.sources.now (sources_in_order c.loop-k.ended.items) (sources_in_order c.push.new.self.items) c.loop-k.k source low c.index-sources-sources.is was.order
           (one_before c.loop-k.ended.items c.push.new.self.items c.take_last-last.result c.in-Ok.ensures.items ∙ ap (λ s. s ∷ sources_in_order c.loop-k.ended.items) last.source);

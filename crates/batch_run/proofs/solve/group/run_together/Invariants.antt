@@ -8,7 +8,8 @@ abbrev pub invariant-loop-k : goal.invariant-loop-k
 invariant-loop-k g l = record {
   floors : length l.floors.items + l.k ≡ length l.sources;
   lists : length l.lists.items + l.k ≡ length l.sources;
-  each : (q : ℕ) (s : ℕ) (f : _) (v : _) → q < length l.floors.items → AreEnded (setup_of l.context.algebra l.context.graph.now (get_or l.sources q s) l.plan) (get_or l.floors.items q f) (get_or l.lists.items q v).items;
+  each : (q : ℕ) (s : ℕ) (f : _) (v : _) → q < length l.floors.items → AreEnded (setup_of l.context.algebra l.context.graph.now (get_or l.sources q s) l.plan)
+      (get_or l.floors.items q f) (get_or l.lists.items q v).items;
   ended : All (IsEnded l.context.algebra l.context.graph.now l.plan) l.ended.items;
   order : sources_in_order l.ended.items ≡ drop (length l.sources - l.k) l.sources;
 }

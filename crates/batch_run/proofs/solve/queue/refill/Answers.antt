@@ -14,10 +14,13 @@ run_together-requires-clause-sources g c κs within =
 
 pub returns-clause-some : goal.returns-clause-some
 returns-clause-some g c =
-    some_wait c.args.context.now.algebra c.args.context.now.graph.now c.args.plan.now (sources_to_come (asked_of c.args.questions.now).questions c.args.i c.args.j) c.args.context.now.settings.now.width c.in_ok-ended.ended.items
-    (c.in_ok-ended.ensures.sources ∙ c.deref.ensures.value ∙ c.in_ok-sources.ensures) c.requires.settings.width.0 (some_to_come (asked_of c.args.questions.now).questions c.args.i c.args.j (FromSource 0) c.requires.source)
+    some_wait c.args.context.now.algebra c.args.context.now.graph.now c.args.plan.now
+    (sources_to_come (asked_of c.args.questions.now).questions c.args.i c.args.j) c.args.context.now.settings.now.width c.in_ok-ended.ended.items
+    (c.in_ok-ended.ensures.sources ∙ c.deref.ensures.value ∙ c.in_ok-sources.ensures) c.requires.settings.width.0
+    (some_to_come (asked_of c.args.questions.now).questions c.args.i c.args.j (FromSource 0) c.requires.source)
 
 pub returns-clause-ready : goal.returns-clause-ready
 returns-clause-ready g c =
-    group_waits c.args.context.now.algebra c.args.context.now.graph.now c.args.plan.now (sources_to_come (asked_of c.args.questions.now).questions c.args.i c.args.j) c.args.context.now.settings.now.width c.in_ok-ended.ended.items
+    group_waits c.args.context.now.algebra c.args.context.now.graph.now c.args.plan.now
+    (sources_to_come (asked_of c.args.questions.now).questions c.args.i c.args.j) c.args.context.now.settings.now.width c.in_ok-ended.ended.items
     (c.in_ok-ended.ensures.sources ∙ c.deref.ensures.value ∙ c.in_ok-sources.ensures) c.in_ok-ended.ensures.ended

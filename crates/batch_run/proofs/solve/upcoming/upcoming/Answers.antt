@@ -39,6 +39,7 @@ loop-later-preserved c =
     let low : c.loop-later.later < length (asked_of c.args.questions.now).questions = search rules in
     record {
       few = kept_few _ _ c.args.width c.in_ok-fill_up-2.ensures;
-      collected = more_collected (asked_of c.args.questions.now).questions c.args.width c.args.i c.args.j c.loop-later.later c.loop-later.sources.items c.loop-later.invariant.collected (FromSource 0) low c.fill_up-in-loop-later.new.sources.items
+      collected = more_collected (asked_of c.args.questions.now).questions c.args.width c.args.i c.args.j c.loop-later.later c.loop-later.sources.items
+          c.loop-later.invariant.collected (FromSource 0) low c.fill_up-in-loop-later.new.sources.items
           (c.in_ok-fill_up-2.ensures ∙ ap (λ l. take c.args.width (c.loop-later.sources.items ++ l)) (c.sources-in-loop-later.ensures (FromSource 0)));
     }

@@ -19,8 +19,10 @@ loop-v-preserved g c =
     let lines = written_lines A c.args.labels.now c.args.tree.now c.args.n in
     let lt : c.loop-v.v < c.args.n = search rules in
     let within : c.loop-v.v < length lines = rw (lines_count A c.args.labels.now c.args.tree.now c.args.n) lt in
-    let line = line_is A c.args.labels.now c.args.tree.now c.args.n c.loop-v.v (c.loop-v.v + 1) c.line_of-line.result _ _ _ lt (omega arith) c.line_of-line.ensures c.of.ensures c.hops-hops.ensures c.parent-parent.ensures in
-    vertex_left _ _ _ _ _ _ _ _ lines c.loop-v.v c.from.result None within c.from.ensures (ap (λ l. spelled (vertex_words (c.from.result + 1) l)) line) c.loop-v.invariant c.in_ok-write_vertex_line.ensures
+    let line = line_is A c.args.labels.now c.args.tree.now c.args.n c.loop-v.v (c.loop-v.v + 1) c.line_of-line.result _ _ _ lt
+    (omega arith) c.line_of-line.ensures c.of.ensures c.hops-hops.ensures c.parent-parent.ensures in
+    vertex_left _ _ _ _ _ _ _ _ lines c.loop-v.v c.from.result None within c.from.ensures
+    (ap (λ l. spelled (vertex_words (c.from.result + 1) l)) line) c.loop-v.invariant c.in_ok-write_vertex_line.ensures
 
 pub returns-in_err-write_vertex_line : goal.returns-in_err-write_vertex_line
 returns-in_err-write_vertex_line g c =
@@ -28,8 +30,10 @@ returns-in_err-write_vertex_line g c =
     let lines = written_lines A c.args.labels.now c.args.tree.now c.args.n in
     let lt : c.loop-v.v < c.args.n = search rules in
     let within : c.loop-v.v < length lines = rw (lines_count A c.args.labels.now c.args.tree.now c.args.n) lt in
-    let line = line_is A c.args.labels.now c.args.tree.now c.args.n c.loop-v.v (c.loop-v.v + 1) c.line_of-line.result _ _ _ lt (omega arith) c.line_of-line.ensures c.of.ensures c.hops-hops.ensures c.parent-parent.ensures in
-    fell_out _ _ _ _ _ _ c.from_residual.result c.from_residual.ensures.1 (vertex_fell _ _ _ _ _ _ _ _ lines c.loop-v.v c.from.result None within c.from.ensures (ap (λ l. spelled (vertex_words (c.from.result + 1) l)) line) c.loop-v.invariant c.in_err-write_vertex_line.ensures)
+    let line = line_is A c.args.labels.now c.args.tree.now c.args.n c.loop-v.v (c.loop-v.v + 1) c.line_of-line.result _ _ _ lt
+    (omega arith) c.line_of-line.ensures c.of.ensures c.hops-hops.ensures c.parent-parent.ensures in
+    fell_out _ _ _ _ _ _ c.from_residual.result c.from_residual.ensures.1 (vertex_fell _ _ _ _ _ _ _ _ lines c.loop-v.v c.from.result None within c.from.ensures
+    (ap (λ l. spelled (vertex_words (c.from.result + 1) l)) line) c.loop-v.invariant c.in_err-write_vertex_line.ensures)
 
 pub returns : goal.returns
 returns g c =

@@ -12,7 +12,8 @@ use Rattle.service.proofs.service.Service.feed.Goals as goal
 
 pub loop-at-init : goal.loop-at-init
 loop-at-init g c = record {
-  fed = fed_none (MayAnswer (g.A.PathAlgebra.meaning c.args.answers.now.algebra) c.args.answers.now.settings.now (g.T.Gate.may_answer c.args.answers.now.gate.now) c.args.answers.now.graph.now) c.args.self.now (g.W.RoadWrite.written c.args.out.now) (g.W.RoadWrite.failures c.args.out.now);
+  fed = fed_none (MayAnswer (g.A.PathAlgebra.meaning c.args.answers.now.algebra) c.args.answers.now.settings.now
+      (g.T.Gate.may_answer c.args.answers.now.gate.now) c.args.answers.now.graph.now) c.args.self.now (g.W.RoadWrite.written c.args.out.now) (g.W.RoadWrite.failures c.args.out.now);
   held = λ h. h;
   vertices = refl;
   within = omega arith;
@@ -28,14 +29,23 @@ loop-at-preserved-in-Ok g c =
     let n : ℕ = c.to_line_end-taken.result.0 in
     let kept = c.to_line_end-taken.ensures.kept in
     let room : n ≤ 4294967296 - c.loop-at.self.count = next_fits xs at n m (4294967296 - c.loop-at.self.count) c.to_line_end-taken.ensures.bound (omega (arith, c.min.ensures)) in
-    let v : Service = record { cutter = c.to_line_end-taken.new.self; line = c.loop-at.self.line; count = c.loop-at.self.count + n; few_bytes = omega (arith, room, c.loop-at.self.few_bytes); any = kept.2 ∙ c.loop-at.self.any } in
+    let v : Service = record {
+      cutter = c.to_line_end-taken.new.self;
+      line = c.loop-at.self.line;
+      count = c.loop-at.self.count + n;
+      few_bytes =
+          omega (arith, room, c.loop-at.self.few_bytes);
+      any = kept.2 ∙ c.loop-at.self.any;
+    } in
     let counted : c.loop-at.self.count + n ≡ c.loop-at.self.count + length (take n slice) = ap (λ k. c.loop-at.self.count + k) (sym (length-take-le n slice c.to_line_end-taken.ensures.bound)) in
     let cut : EndsLine RequestSoFar c.loop-at.self.cutter v.cutter (take n slice) = rw c.if-ended.true at c.to_line_end-taken.ensures.cut in
-    let further = fed_line texts c.args.self.now c.loop-at.self v c.end_line.new.self (take at xs) (take n slice) (g.W.RoadWrite.written c.args.out.now) (g.W.RoadWrite.written c.loop-at.out) (g.W.RoadWrite.written c.end_line.new.out)
+    let further = fed_line texts c.args.self.now c.loop-at.self v c.end_line.new.self (take at xs) (take n slice) (g.W.RoadWrite.written c.args.out.now)
+    (g.W.RoadWrite.written c.loop-at.out) (g.W.RoadWrite.written c.end_line.new.out)
     (g.W.RoadWrite.failures c.args.out.now) (g.W.RoadWrite.failures c.loop-at.out) (g.W.RoadWrite.failures c.end_line.new.out)
     kept.1 kept.0 refl c.end_line.ensures.vertices c.end_line.ensures.line c.end_line.ensures.ready counted c.loop-at.invariant.fed cut c.in-Ok.ensures.ended in
     record {
-      fed = subst (λ (x : List ℕ). Fed texts c.args.self.now c.end_line.new.self x (g.W.RoadWrite.written c.args.out.now) (g.W.RoadWrite.written c.end_line.new.out) (g.W.RoadWrite.failures c.args.out.now) (g.W.RoadWrite.failures c.end_line.new.out)) (sym (next_prefix xs at n m c.to_line_end-taken.ensures.bound)) further;
+      fed = subst (λ (x : List ℕ). Fed texts c.args.self.now c.end_line.new.self x (g.W.RoadWrite.written c.args.out.now) (g.W.RoadWrite.written c.end_line.new.out)
+          (g.W.RoadWrite.failures c.args.out.now) (g.W.RoadWrite.failures c.end_line.new.out)) (sym (next_prefix xs at n m c.to_line_end-taken.ensures.bound)) further;
       held = λ h. c.in-Ok.ensures.passed_on (c.loop-at.invariant.held h);
       vertices = c.end_line.ensures.vertices ∙ kept.1 ∙ c.loop-at.invariant.vertices;
       within = next_within xs at n m c.loop-at.invariant.within c.to_line_end-taken.ensures.bound;
@@ -51,12 +61,21 @@ returns-in-Err-clause-fell g c = λ is.
     let n : ℕ = c.to_line_end-taken.result.0 in
     let kept = c.to_line_end-taken.ensures.kept in
     let room : n ≤ 4294967296 - c.loop-at.self.count = next_fits xs at n m (4294967296 - c.loop-at.self.count) c.to_line_end-taken.ensures.bound (omega (arith, c.min.ensures)) in
-    let v : Service = record { cutter = c.to_line_end-taken.new.self; line = c.loop-at.self.line; count = c.loop-at.self.count + n; few_bytes = omega (arith, room, c.loop-at.self.few_bytes); any = kept.2 ∙ c.loop-at.self.any } in
+    let v : Service = record {
+      cutter = c.to_line_end-taken.new.self;
+      line = c.loop-at.self.line;
+      count = c.loop-at.self.count + n;
+      few_bytes =
+          omega (arith, room, c.loop-at.self.few_bytes);
+      any = kept.2 ∙ c.loop-at.self.any;
+    } in
     let counted : c.loop-at.self.count + n ≡ c.loop-at.self.count + length (take n slice) = ap (λ k. c.loop-at.self.count + k) (sym (length-take-le n slice c.to_line_end-taken.ensures.bound)) in
     let cut : EndsLine RequestSoFar c.loop-at.self.cutter v.cutter (take n slice) = rw c.if-ended.true at c.to_line_end-taken.ensures.cut in
-    fed_part texts c.args.self.now c.loop-at.self v c.end_line.new.self xs (take at xs) (take n slice) (drop (at + n) xs) (g.W.RoadWrite.written c.args.out.now) (g.W.RoadWrite.written c.loop-at.out) (g.W.RoadWrite.written c.end_line.new.out)
+    fed_part texts c.args.self.now c.loop-at.self v c.end_line.new.self xs (take at xs) (take n slice) (drop (at + n) xs) (g.W.RoadWrite.written c.args.out.now)
+    (g.W.RoadWrite.written c.loop-at.out) (g.W.RoadWrite.written c.end_line.new.out)
     (g.W.RoadWrite.failures c.args.out.now) (g.W.RoadWrite.failures c.loop-at.out) (g.W.RoadWrite.failures c.end_line.new.out)
-    kept.1 kept.0 refl c.end_line.ensures.vertices c.end_line.ensures.line c.end_line.ensures.ready counted (sym (take-append-drop (at + n) xs) ∙ ap (λ x. x ++ drop (at + n) xs) (next_prefix xs at n m c.to_line_end-taken.ensures.bound)) c.loop-at.invariant.fed cut c.in-Err.ensures.ended
+    kept.1 kept.0 refl c.end_line.ensures.vertices c.end_line.ensures.line c.end_line.ensures.ready counted
+    (sym (take-append-drop (at + n) xs) ∙ ap (λ x. x ++ drop (at + n) xs) (next_prefix xs at n m c.to_line_end-taken.ensures.bound)) c.loop-at.invariant.fed cut c.in-Err.ensures.ended
 
 pub loop-at-preserved : goal.loop-at-preserved
 loop-at-preserved g c =
@@ -68,22 +87,34 @@ loop-at-preserved g c =
     let n : ℕ = c.to_line_end-taken.result.0 in
     let kept = c.to_line_end-taken.ensures.kept in
     let room : n ≤ 4294967296 - c.loop-at.self.count = next_fits xs at n m (4294967296 - c.loop-at.self.count) c.to_line_end-taken.ensures.bound (omega (arith, c.min.ensures)) in
-    let v : Service = record { cutter = c.to_line_end-taken.new.self; line = c.loop-at.self.line; count = c.loop-at.self.count + n; few_bytes = omega (arith, room, c.loop-at.self.few_bytes); any = kept.2 ∙ c.loop-at.self.any } in
+    let v : Service = record {
+      cutter = c.to_line_end-taken.new.self;
+      line = c.loop-at.self.line;
+      count = c.loop-at.self.count + n;
+      few_bytes =
+          omega (arith, room, c.loop-at.self.few_bytes);
+      any = kept.2 ∙ c.loop-at.self.any;
+    } in
     let counted : c.loop-at.self.count + n ≡ c.loop-at.self.count + length (take n slice) = ap (λ k. c.loop-at.self.count + k) (sym (length-take-le n slice c.to_line_end-taken.ensures.bound)) in
     let stay : StaysInLine RequestSoFar c.loop-at.self.cutter v.cutter slice n = rw c.if-ended.false at c.to_line_end-taken.ensures.cut in
     record {
       fed = fed_stay texts c.args.self.now c.loop-at.self _ (take (at + n) xs) (take at xs) slice n (g.W.RoadWrite.written c.args.out.now) (g.W.RoadWrite.written c.loop-at.out)
-          (g.W.RoadWrite.failures c.args.out.now) (g.W.RoadWrite.failures c.loop-at.out) kept.1 kept.0 refl (ap (λ k. c.loop-at.self.count + k) stay.all) (next_all xs at n m stay.all) c.loop-at.invariant.fed stay;
+          (g.W.RoadWrite.failures c.args.out.now) (g.W.RoadWrite.failures c.loop-at.out) kept.1 kept.0 refl (ap (λ k. c.loop-at.self.count + k) stay.all)
+          (next_all xs at n m stay.all) c.loop-at.invariant.fed stay;
       held = c.loop-at.invariant.held;
       vertices = kept.1 ∙ c.loop-at.invariant.vertices;
       within = next_within xs at n m c.loop-at.invariant.within c.to_line_end-taken.ensures.bound;
     }
 
 pub returns-clause-fed : goal.returns-clause-fed
-returns-clause-fed g c = subst (λ (x : List ℕ). Fed (MayAnswer (g.A.PathAlgebra.meaning c.args.answers.now.algebra) c.args.answers.now.settings.now (g.T.Gate.may_answer c.args.answers.now.gate.now) c.args.answers.now.graph.now) c.args.self.now c.loop-at.self x (g.W.RoadWrite.written c.args.out.now) (g.W.RoadWrite.written c.loop-at.out) (g.W.RoadWrite.failures c.args.out.now) (g.W.RoadWrite.failures c.loop-at.out))
+returns-clause-fed g c = subst (λ (x : List ℕ). Fed (MayAnswer (g.A.PathAlgebra.meaning c.args.answers.now.algebra) c.args.answers.now.settings.now
+    (g.T.Gate.may_answer c.args.answers.now.gate.now) c.args.answers.now.graph.now) c.args.self.now c.loop-at.self x (g.W.RoadWrite.written c.args.out.now)
+    (g.W.RoadWrite.written c.loop-at.out) (g.W.RoadWrite.failures c.args.out.now) (g.W.RoadWrite.failures c.loop-at.out))
     (take_all c.loop-at.at c.args.bytes.now c.loop-at-test.false) c.loop-at.invariant.fed
 
 pub returns-then-room-eq0-clause-long : goal.returns-then-room-eq0-clause-long
 returns-then-room-eq0-clause-long g c = λ is.
-    fed_long (MayAnswer (g.A.PathAlgebra.meaning c.args.answers.now.algebra) c.args.answers.now.settings.now (g.T.Gate.may_answer c.args.answers.now.gate.now) c.args.answers.now.graph.now) c.args.self.now c.loop-at.self c.args.bytes.now c.loop-at.at (g.W.RoadWrite.written c.args.out.now) (g.W.RoadWrite.written c.loop-at.out) (g.W.RoadWrite.failures c.args.out.now) (g.W.RoadWrite.failures c.loop-at.out)
+    fed_long (MayAnswer (g.A.PathAlgebra.meaning c.args.answers.now.algebra) c.args.answers.now.settings.now
+    (g.T.Gate.may_answer c.args.answers.now.gate.now) c.args.answers.now.graph.now) c.args.self.now c.loop-at.self c.args.bytes.now c.loop-at.at
+    (g.W.RoadWrite.written c.args.out.now) (g.W.RoadWrite.written c.loop-at.out) (g.W.RoadWrite.failures c.args.out.now) (g.W.RoadWrite.failures c.loop-at.out)
     c.loop-at-test.true (omega (arith, c.if-room-eq0.true, c.loop-at.self.few_bytes)) c.loop-at.invariant.fed

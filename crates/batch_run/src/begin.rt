@@ -1,0 +1,42 @@
+//! How a batch begins: its header is written, and what it has is reported.
+ghost use Rattle.std.specs.Prelude.{◌≡◌, ℕ, length, OnOk, OnErr};
+ghost use Rattle.road_files.specs.Asked.{AreQuestionsOf, asked_of};
+ghost use Rattle.batch_run.specs.Answered.{WroteHeader};
+ghost use Rattle.batch_run.specs.Reports.{count_diffusions};
+
+use crate::faults::{RunFault, WRITE, fault_of_run};
+use crate::solve::count_diffusions;
+use crate::watcher::{Report, Watcher};
+use answer_text::write_header;
+use path_algebra::PathAlgebra;
+use road_files::Questions;
+use road_text::RoadWrite;
+
+/// Writes the header of the answers, and reports how many questions there are and how many diffusions answer them.
+pub(crate) fn begin<A: PathAlgebra, W: RoadWrite, O: Watcher>(
+    algebra: A,
+    questions: &Questions,
+    plain: bool,
+    out: &mut W,
+    watcher: &mut O,
+) -> Result<(), RunFault>
+    requires { (vertices : ℕ) × AreQuestionsOf vertices questions.now }
+    ensures wrote { WroteHeader (A.meaning algebra) (asked_of questions.now) (W.written out.old)
+        (W.written out.new) (W.failures out.old) (W.failures out.new) result }
+    ensures reported { OnOk result (O.may_become watcher.old (Report.Begun
+        (length (asked_of questions.now).questions)
+        (count_diffusions plain (asked_of questions.now).questions)) watcher.new) }
+    ensures unreported { OnErr result (watcher.new ≡ watcher.old) }
+{
+    let count = questions.len() as u32;
+    match write_header(out, questions.kind(), count, algebra.name()) {
+        Ok(()) => {}
+        Err(_) => return Err(fault_of_run(WRITE)),
+    }
+    let diffusions = count_diffusions(questions, plain);
+    watcher.report(Report::Begun {
+        questions: count,
+        diffusions,
+    });
+    Ok(())
+}

@@ -146,7 +146,8 @@ took_field : (s t : Option RoadsSoFar) (f : List ℕ) (fs : List (List ℕ)) (c 
 took_field s t f fs true p a ec ep ea e =
     let n = eqb-true (slice_index f 0) 99 ec in
     let differ : (k : ℕ) → k ≢ 99 → (x : List ℕ) → slice_index x 0 ≡ k → f ≡ x → ⊥ = (λ k ne x at same. ne (sym at ∙ ap (λ y. slice_index y 0) (sym same) ∙ n)) in
-    Nothing (let z = e in cc) (other_bytes f (codes "a") (differ 97 (λ q. omega (arith, q)) (codes "a") refl) a ea) (other_bytes f (codes "p") (differ 112 (λ q. omega (arith, q)) (codes "p") refl) p ep)
+    Nothing (let z = e in cc) (other_bytes f (codes "a") (differ 97 (λ q. omega (arith, q)) (codes "a") refl) a ea)
+    (other_bytes f (codes "p") (differ 112 (λ q. omega (arith, q)) (codes "p") refl) p ep)
 took_field s t f fs false true a ec ep ea e = Problem (same_bytes f (codes "p") ep) (took_problem s (f ∷ fs) t e)
 took_field s t f fs false false true ec ep ea e = took_arc_line s t (f ∷ fs) (same_bytes f (codes "a") ea) e
 took_field s t f fs false false false ec ep ea e = cc
@@ -187,7 +188,8 @@ say_end at s g room e =
       arcs_are = ap (λ (r : GraphData). r.arcs) is ∙ sym (append-nil s.arcs);
       arcs = tt;
       vertices = ap (λ (r : GraphData). r.vertices) is;
-      announced = (let l : length g.arcs ≡ length s.arcs = ap (λ (r : GraphData). length r.arcs) is in let le = ltb-false (length s.arcs) s.announced (not_so (nat_lt (length s.arcs) s.announced) all.0) in omega (arith, l, le, room));
+      announced = (let l : length g.arcs ≡ length s.arcs = ap (λ (r : GraphData). length r.arcs) is in let le =
+          ltb-false (length s.arcs) s.announced (not_so (nat_lt (length s.arcs) s.announced) all.0) in omega (arith, l, le, room));
       no_problem = refl;
     }
 
@@ -228,7 +230,8 @@ module _ (g : GraphData) where
   abbrev Behind : ℕ → List (List ℕ) → Type 0
   Behind at ls = (s : RoadsSoFar) → length s.arcs ≤ s.announced → value_of_lines false gr_rules at (Some s) ls ≡ Ok g → SayRest s ls g
 
-  say_line : (at : ℕ) (s : RoadsSoFar) (l : List ℕ) (ls : List (List ℕ)) (t : Option RoadsSoFar) → Behind (at + 1) ls → length s.arcs ≤ s.announced → Took (Some s) t (fields l) → value_of_lines false gr_rules (at + 1) t ls ≡ Ok g → SayRest s (l ∷ ls) g
+  say_line : (at : ℕ) (s : RoadsSoFar) (l : List ℕ) (ls : List (List ℕ)) (t : Option RoadsSoFar) → Behind (at + 1) ls → length s.arcs ≤ s.announced → Took (Some s) t (fields l) →
+      value_of_lines false gr_rules (at + 1) t ls ≡ Ok g → SayRest s (l ∷ ls) g
   say_line at s l ls t behind room (Nothing same a p) e =
       let r = behind s room (subst (λ (u : Option RoadsSoFar). value_of_lines false gr_rules (at + 1) u ls ≡ Ok g) (sym same) e) in
       let over = passed_over l ls a p in
@@ -236,9 +239,11 @@ module _ (g : GraphData) where
   say_line at s l ls t behind room (Problem first k) e = let z = k.before in cc
   say_line at s l ls t behind room (Arc before after was is first k) e =
       let old : s ≡ before = cc in
-      let now : t ≡ Some (record s { arcs = s.arcs ++ k.arc ∷ [] }) = is ∙ ap (λ (u : RoadsSoFar). Some u) k.after ∙ ap (λ (u : RoadsSoFar). Some (record u { arcs = u.arcs ++ k.arc ∷ [] })) (sym old) in
+      let now : t ≡ Some (record s { arcs = s.arcs ++ k.arc ∷ [] }) = is ∙ ap (λ (u : RoadsSoFar). Some u) k.after
+      ∙ ap (λ (u : RoadsSoFar). Some (record u { arcs = u.arcs ++ k.arc ∷ [] })) (sym old) in
       let place : length s.arcs < s.announced = subst (λ (u : RoadsSoFar). length u.arcs < u.announced) (sym old) k.room in
-      let r = behind (record s { arcs = s.arcs ++ k.arc ∷ [] }) (let n = length-append s.arcs (k.arc ∷ []) in omega (arith, n, place)) (subst (λ (u : Option RoadsSoFar). value_of_lines false gr_rules (at + 1) u ls ≡ Ok g) now e) in
+      let r = behind (record s { arcs = s.arcs ++ k.arc ∷ [] }) (let n = length-append s.arcs (k.arc ∷ []) in omega (arith, n, place))
+      (subst (λ (u : Option RoadsSoFar). value_of_lines false gr_rules (at + 1) u ls ≡ Ok g) now e) in
       record {
         more = k.arc ∷ r.more;
         arcs_are = r.arcs_are ∙ append_assoc s.arcs (k.arc ∷ []) r.more;
@@ -254,7 +259,8 @@ module _ (g : GraphData) where
       let h = then_ok (at_line at (gr_line (Some s) (map word_of (fields l)))) _ g e in
       say_line at s l ls h.0 (say_more (at + 1) ls) room (took_line (Some s) h.0 (fields l) (at_line_ok at (gr_line (Some s) (map word_of (fields l))) h.0 h.1)) h.2
 
-  say_first : (at : ℕ) (l : List ℕ) (ls : List (List ℕ)) (t : Option RoadsSoFar) → (value_of_lines false gr_rules (at + 1) None ls ≡ Ok g → SayGraph ls g) → Took None t (fields l) → value_of_lines false gr_rules (at + 1) t ls ≡ Ok g → SayGraph (l ∷ ls) g
+  say_first : (at : ℕ) (l : List ℕ) (ls : List (List ℕ)) (t : Option RoadsSoFar) → (value_of_lines false gr_rules (at + 1) None ls ≡ Ok g → SayGraph ls g) →
+      Took None t (fields l) → value_of_lines false gr_rules (at + 1) t ls ≡ Ok g → SayGraph (l ∷ ls) g
   say_first at l ls t before_problem (Nothing same a p) e =
       let r = before_problem (subst (λ (u : Option RoadsSoFar). value_of_lines false gr_rules (at + 1) u ls ≡ Ok g) (sym same) e) in
       let over = passed_over l ls a p in

@@ -50,7 +50,8 @@ arc_of_numbers s a b c d tail head weight p q r fits = rw (
 ) refl
 
 -- the rule of a line of the letter `a` and three numbers
-pub short_rule : (s : GraphParser) (t new : TakenRoads) (l : List ℕ) (letter tail head weight : ℕ) → s.taken ≡ Some t → letter ≡ 97 → HasShortFields l letter tail head weight → FitsArc (roads_so_far t) tail head weight
+pub short_rule : (s : GraphParser) (t new : TakenRoads) (l : List ℕ) (letter tail head weight : ℕ) → s.taken ≡ Some t → letter ≡ 97 → HasShortFields l letter tail head weight →
+    FitsArc (roads_so_far t) tail head weight
     → roads_so_far new ≡ record (roads_so_far t) { arcs = t.arcs.items ++ record { tail = tail; head = head; weight = weight } ∷ [] }
     → gr_line (taken_of s) (map word_of (fields l)) ≡ Ok (Some (roads_so_far new))
 short_rule s t new l letter tail head weight is a h fits more =

@@ -58,7 +58,8 @@ line_held s (a ∷ ws) h = rw (
 ) refl
 
 -- the rule gives the same of the words and of what is kept of the fields
-pub gr_line_kept : (s : Option RoadsSoFar) (kept : List Word) (fs : List (List ℕ)) → IfSome s (λ r. r.vertices < 18446744073709551616) → kept ≡ take 6 (map held_word fs) → gr_line s (map word_of fs) ≡ gr_line s kept
+pub gr_line_kept : (s : Option RoadsSoFar) (kept : List Word) (fs : List (List ℕ)) → IfSome s (λ r. r.vertices < 18446744073709551616) → kept ≡ take 6 (map held_word fs) →
+    gr_line s (map word_of fs) ≡ gr_line s kept
 gr_line_kept s kept fs h e = sym (line_held s (map word_of fs) h) ∙ ap (gr_line s) (ap (take 6) (held_words fs) ∙ sym e)
 
 -- the vertices of a graph that is read are few

@@ -34,7 +34,8 @@ module _ {A : Type 0} (words : A → List (List ℕ)) where
   unfolding lines_from
   lines_end old new b a text i xs le was = left_end old new b a text (text_of (map words (drop i xs))) (ap (λ ys. text_of (map words ys)) (drop_of_length-le xs le)) was
 
-  module _ (old mid new : Option (List ℕ)) (b m a : ℕ) (text line : List ℕ) (xs : List A) (i : ℕ) (d : A) (lt : i < length xs) (is : line ≡ spelled (words (get_or xs i d))) (was : WrotePrefix old mid b m text (lines_from i xs)) where
+  module _ (old mid new : Option (List ℕ)) (b m a : ℕ) (text line : List ℕ) (xs : List A) (i : ℕ) (d : A) (lt : i < length xs)
+      (is : line ≡ spelled (words (get_or xs i d))) (was : WrotePrefix old mid b m text (lines_from i xs)) where
     pub line_left : WrotePrefix mid new m a line [] → WrotePrefix old new b a text (lines_from (i + 1) xs)
     line_left piece = left_step old mid new b m a text (lines_from i xs) (spelled (words (get_or xs i d))) line (lines_from (i + 1) xs) (lines_next i xs d lt) is was piece
 
@@ -42,7 +43,8 @@ module _ {A : Type 0} (words : A → List (List ℕ)) where
     line_fell piece = fell_step old mid new b m a text (lines_from i xs) (spelled (words (get_or xs i d))) line (lines_from (i + 1) xs) (lines_next i xs d lt) is was piece
 
 -- the same where the elements are made of those of another list
-module _ {A B : Type 0} (words : A → List (List ℕ)) (f : B → A) (old mid new : Option (List ℕ)) (b m a : ℕ) (text line : List ℕ) (ys : List B) (i : ℕ) (e : B) (lt : i < length ys) (is : line ≡ spelled (words (f (get_or ys i e)))) (was : WrotePrefix old mid b m text (lines_from words i (map f ys))) where
+module _ {A B : Type 0} (words : A → List (List ℕ)) (f : B → A) (old mid new : Option (List ℕ)) (b m a : ℕ) (text line : List ℕ) (ys : List B) (i : ℕ) (e : B)
+    (lt : i < length ys) (is : line ≡ spelled (words (f (get_or ys i e)))) (was : WrotePrefix old mid b m text (lines_from words i (map f ys))) where
   inside : i < length (map f ys)
   inside = omega (arith, length-map ys f)
 
@@ -55,7 +57,8 @@ module _ {A B : Type 0} (words : A → List (List ℕ)) (f : B → A) (old mid n
   pub made_fell : FailedAfterPrefix mid new m a line → FailedAfterPrefix old new b a text
   made_fell piece = line_fell words old mid new b m a text line (map f ys) i (f e) inside same was piece
 
-pub made_end : {A B : Type 0} (words : A → List (List ℕ)) (f : B → A) (old new : Option (List ℕ)) (b a : ℕ) (text : List ℕ) (i : ℕ) (ys : List B) → length ys ≤ i → WrotePrefix old new b a text (lines_from words i (map f ys)) → WrotePrefix old new b a text []
+pub made_end : {A B : Type 0} (words : A → List (List ℕ)) (f : B → A) (old new : Option (List ℕ)) (b a : ℕ) (text : List ℕ) (i : ℕ) (ys : List B) → length ys ≤ i →
+    WrotePrefix old new b a text (lines_from words i (map f ys)) → WrotePrefix old new b a text []
 made_end words f old new b a text i ys le was = lines_end words old new b a text i (map f ys) (omega (arith, length-map ys f)) was
 
 -- arc number i + 1 is entry i of the arcs
@@ -64,9 +67,11 @@ arc_at g i = let same : (i + 1) - 1 ≡ i = omega arith in ap (λ k. get_or g.ar
 
 module _ (old mid new : Option (List ℕ)) (b m a : ℕ) (line : List ℕ) where
   -- a problem line, and then the lines of a graph
-  pub graph_then : {B E : Type 0} (g : GraphData) (r : Result B E) → line ≡ spelled (graph_words g.vertices (length g.arcs)) → WrotePrefix old mid b m line [] → Wrote mid new m a (text_of (map arc_words g.arcs)) r → Wrote old new b a (gr_text g) r
+  pub graph_then : {B E : Type 0} (g : GraphData) (r : Result B E) → line ≡ spelled (graph_words g.vertices (length g.arcs)) → WrotePrefix old mid b m line [] →
+      Wrote mid new m a (text_of (map arc_words g.arcs)) r → Wrote old new b a (gr_text g) r
   unfolding gr_text
-  graph_then g r is was next = wrote_then old mid new b m a (spelled (graph_words g.vertices (length g.arcs))) (text_of (map arc_words g.arcs)) r (subst (λ x. WrotePrefix old mid b m x []) is was) next
+  graph_then g r is was next = wrote_then old mid new b m a (spelled (graph_words g.vertices (length g.arcs))) (text_of (map arc_words g.arcs)) r
+      (subst (λ x. WrotePrefix old mid b m x []) is was) next
 
 module _ (old new : Option (List ℕ)) (b a : ℕ) (line : List ℕ) where
   pub graph_fell : (g : GraphData) → line ≡ spelled (graph_words g.vertices (length g.arcs)) → FailedAfterPrefix old new b a line → FailedAfterPrefix old new b a (gr_text g)
@@ -80,7 +85,8 @@ module _ {S V : Type 0} (rules : Rules S V) where
   after s [] = Ok s
   after s (l ∷ ls) = rules.line s l >>= λ t. after t ls
 
-  pub first_step : (s t : S) (l : List (List ℕ)) (ls : List (List (List ℕ))) (r : Result S ℕ) → rules.line s l ≡ r → (r >>= λ u. after u ls) ≡ Ok t → (u : S) × (rules.line s l ≡ Ok u) × (after u ls ≡ Ok t)
+  pub first_step : (s t : S) (l : List (List ℕ)) (ls : List (List (List ℕ))) (r : Result S ℕ) → rules.line s l ≡ r → (r >>= λ u. after u ls) ≡ Ok t →
+      (u : S) × (rules.line s l ≡ Ok u) × (after u ls ≡ Ok t)
   first_step s t l ls (Ok u) e h = (u, e, h)
   first_step s t l ls (Err n) e h = cc
 
@@ -139,7 +145,8 @@ pub arcs_after : (n m : ℕ) (done arcs : List RoadArc) → n ≤ 33554432 → l
 arcs_after n m done [] small room h = rw (append-nil done) refl
 arcs_after n m done (a ∷ arcs) small room h =
     rw (arc_step n m done a small (omega arith) h.0)
-    (arcs_after n m (done ++ a ∷ []) arcs small (omega (arith, length-append done (a ∷ []))) h.1 ∙ ap (λ xs. Ok (Some (record { vertices = n; announced = m; arcs = xs }))) (append_assoc done (a ∷ []) arcs))
+    (arcs_after n m (done ++ a ∷ []) arcs small (omega (arith, length-append done (a ∷ []))) h.1
+    ∙ ap (λ xs. Ok (Some (record { vertices = n; announced = m; arcs = xs }))) (append_assoc done (a ∷ []) arcs))
 
 pub graph_after : (g : GraphData) → IsGraph g → after gr_rules None (graph_lines g) ≡ Ok (Some (record { vertices = g.vertices; announced = length g.arcs; arcs = g.arcs }))
 graph_after g h = rw (problem_step g.vertices (length g.arcs) h.few_vertices h.few_arcs) (arcs_after g.vertices (length g.arcs) [] g.arcs h.few_vertices (omega arith) (arcs_of_roads g h))
@@ -147,13 +154,23 @@ graph_after g h = rw (problem_step g.vertices (length g.arcs) h.few_vertices h.f
 arcs_are_lines : (n : ℕ) (arcs : List RoadArc) → n ≤ 33554432 → AllByRecursion (IsArcOf n) arcs → AreLines (map arc_words arcs)
 arcs_are_lines n [] small h = tt
 arcs_are_lines n (a ∷ arcs) small h =
-    let ends = h.0.0 in
-    ((word_by_test (codes "a") refl, (word_of_number a.tail (omega (arith, ends.0.1)), (word_of_number a.head (omega (arith, ends.1.1)), (word_of_number a.weight (omega (arith, h.0.1)), tt)))), arcs_are_lines n arcs small h.1)
+    let ends = h.0.0 in (
+      (
+        word_by_test (codes "a") refl,
+        (
+          word_of_number a.tail (omega (arith, ends.0.1)),
+          (word_of_number a.head (omega (arith, ends.1.1)), (word_of_number a.weight (omega (arith, h.0.1)), tt)),
+        ),
+      ),
+      arcs_are_lines n arcs small h.1,
+    )
 
 pub graph_are_lines : (g : GraphData) → IsGraph g → AreLines (graph_lines g)
 graph_are_lines g h =
-    let few = h.few_vertices in let many = h.few_arcs in
-    ((word_by_test (codes "p") refl, (word_by_test (codes "sp") refl, (word_of_number g.vertices (omega arith), (word_of_number (length g.arcs) (omega arith), tt)))), arcs_are_lines g.vertices g.arcs few (arcs_of_roads g h))
+    let few = h.few_vertices in let many = h.few_arcs in (
+      (word_by_test (codes "p") refl, (word_by_test (codes "sp") refl, (word_of_number g.vertices (omega arith), (word_of_number (length g.arcs) (omega arith), tt)))),
+      arcs_are_lines g.vertices g.arcs few (arcs_of_roads g h),
+    )
 
 -- a line of an arc has at most 31 bytes
 arc_length : (n : ℕ) (a : RoadArc) → n ≤ 33554432 → IsArcOf n a → length (spelled (arc_words a)) ≤ 31
@@ -170,7 +187,8 @@ arcs_length n [] small h = omega arith
 arcs_length n (a ∷ arcs) small h =
     let here : length (spelled (arc_words a)) ≤ 31 = arc_length n a small h.0 in
     let rest : length (text_of (map arc_words arcs)) ≤ 31 * length arcs = arcs_length n arcs small h.1 in
-    let both : length (spelled (arc_words a) ++ text_of (map arc_words arcs)) ≡ length (spelled (arc_words a)) + length (text_of (map arc_words arcs)) = length-append (spelled (arc_words a)) (text_of (map arc_words arcs)) in
+    let both : length (spelled (arc_words a) ++ text_of (map arc_words arcs)) ≡ length (spelled (arc_words a)) + length (text_of (map arc_words arcs)) =
+    length-append (spelled (arc_words a)) (text_of (map arc_words arcs)) in
     omega arith
 
 problem_length : (n m : ℕ) → n ≤ 33554432 → m ≤ 134217728 → length (spelled (graph_words n m)) ≤ 24
@@ -186,7 +204,9 @@ graph_length g h =
     let few = h.few_vertices in let many = h.few_arcs in
     let first : length (spelled (graph_words g.vertices (length g.arcs))) ≤ 24 = problem_length g.vertices (length g.arcs) few many in
     let rest : length (text_of (map arc_words g.arcs)) ≤ 31 * length g.arcs = arcs_length g.vertices g.arcs few (arcs_of_roads g h) in
-    let both : length (spelled (graph_words g.vertices (length g.arcs)) ++ text_of (map arc_words g.arcs)) ≡ length (spelled (graph_words g.vertices (length g.arcs))) + length (text_of (map arc_words g.arcs)) = length-append (spelled (graph_words g.vertices (length g.arcs))) (text_of (map arc_words g.arcs)) in
+    let both : length (spelled (graph_words g.vertices (length g.arcs)) ++ text_of (map arc_words g.arcs)) ≡ length
+    (spelled (graph_words g.vertices (length g.arcs))) + length (text_of (map arc_words g.arcs)) =
+    length-append (spelled (graph_words g.vertices (length g.arcs))) (text_of (map arc_words g.arcs)) in
     omega arith
 
 -- the text of a graph has its value

@@ -42,7 +42,8 @@ graph_part s t (l ∷ ls) stays e =
     let p = first_step gr_rules s t l ls (gr_rules.line s l) refl e in
     ap (λ r. r >>= λ u. after bundle_rules u ls) (graph_step s p.0 l stays.0 p.1) ∙ graph_part p.0 t ls stays.1 p.2
 
-question_part : (roads : RoadsSoFar) (s t : Option AskedSoFar) (ls : List (List (List ℕ))) → after (question_rules roads.vertices None) s ls ≡ Ok t → after bundle_rules (InQuestions roads s) ls ≡ Ok (InQuestions roads t)
+question_part : (roads : RoadsSoFar) (s t : Option AskedSoFar) (ls : List (List (List ℕ))) → after (question_rules roads.vertices None) s ls ≡ Ok t →
+    after bundle_rules (InQuestions roads s) ls ≡ Ok (InQuestions roads t)
 question_part roads s t [] e = let same : s ≡ t = cc in ap (λ u. Ok (InQuestions roads u)) same
 question_part roads s t (l ∷ ls) e =
     let p = first_step (question_rules roads.vertices None) s t l ls ((question_rules roads.vertices None).line s l) refl e in
@@ -85,12 +86,16 @@ module _ (g : GraphData) (q : Questions) (h : IsGraph g) (fit : AreQuestionsOf g
   value_of_bundle : text_value bundle_rules (gr_text g ++ questions_text (asked_of q)) ≡ Ok (g, asked_of q)
   value_of_bundle =
       let all : AreLines (graph_lines g ++ question_lines (asked_of q)) =
-      both_lines (graph_lines g) (question_lines (asked_of q)) (graph_are_lines g h)
-      (problem_is_line (asked_of q).kind (length (asked_of q).questions) fit.few, questions_are_lines g.vertices (asked_of q).kind (asked_of q).questions h.few_vertices (questions_of g.vertices q fit.within)) in
+      both_lines (graph_lines g) (question_lines (asked_of q)) (graph_are_lines g h) (
+        problem_is_line (asked_of q).kind (length (asked_of q).questions) fit.few,
+        questions_are_lines g.vertices (asked_of q).kind (asked_of q).questions h.few_vertices
+            (questions_of g.vertices q fit.within),
+      ) in
       ap (text_value bundle_rules) (sym (texts_together g (asked_of q))) ∙ value_again bundle_rules _ (g, asked_of q) (graph_lines g ++ question_lines (asked_of q)) all read ended
 
 -- the same where the text is not too long
-pub bundle_again : (g : GraphData) (q : Questions) → IsGraph g → AreQuestionsOf g.vertices q → length (gr_text g ++ questions_text (asked_of q)) ≤ 4294967296 → text_read bundle_rules (gr_text g ++ questions_text (asked_of q)) ≡ Ok (g, asked_of q)
+pub bundle_again : (g : GraphData) (q : Questions) → IsGraph g → AreQuestionsOf g.vertices q → length (gr_text g ++ questions_text (asked_of q)) ≤ 4294967296 →
+    text_read bundle_rules (gr_text g ++ questions_text (asked_of q)) ≡ Ok (g, asked_of q)
 bundle_again g q h fit few = read_again bundle_rules (g, asked_of q) (gr_text g ++ questions_text (asked_of q)) few (value_of_bundle g q h fit)
 
 -- which only lists of sources can make it

@@ -42,13 +42,16 @@ graph_held : (s : Option RoadsSoFar) (ws : List Word) → IfSome s (λ r. r.vert
 graph_held s ws h = rw (begins_held ws, problem_held None None ws, line_held s ws h) refl
 
 -- the rule of the line is that of what is kept
-pub kept_rule : (p : BundlePart) (slots : List Slot) (l : List ℕ) → ShowsLine slots l → PartSoFar p (fields l) → bundle_line (bundle_so_far p) (map word_of (fields l)) ≡ kept_line p (map word_in slots)
+pub kept_rule : (p : BundlePart) (slots : List Slot) (l : List ℕ) → ShowsLine slots l → PartSoFar p (fields l) →
+    bundle_line (bundle_so_far p) (map word_of (fields l)) ≡ kept_line p (map word_in slots)
 kept_rule (parts.Graph g) slots l shown h =
     sym (graph_held (taken_of g) (map word_of (fields l)) (few g.taken)) ∙ ap (bundle_line (InGraph (taken_of g))) (ap (take 6) (held_words (fields l)) ∙ sym shown)
 kept_rule (parts.Questions p) slots l shown h =
     let list = p.questions.list in
-    let same : question_line p.roads.vertices None (questions_begun p.questions) (map word_of (fields l)) ≡ question_line_of p.roads.vertices None (questions_begun p.questions) (map word_in slots) list.is_list list.count (sources_given list) =
-    subst (λ n. question_line n None (questions_begun p.questions) (map word_of (fields l)) ≡ question_line_of n None (questions_begun p.questions) (map word_in slots) list.is_list list.count (sources_given list)) p.same
+    let same : question_line p.roads.vertices None (questions_begun p.questions) (map word_of (fields l)) ≡ question_line_of p.roads.vertices None
+    (questions_begun p.questions) (map word_in slots) list.is_list list.count (sources_given list) =
+    subst (λ n. question_line n None (questions_begun p.questions) (map word_of (fields l)) ≡ question_line_of n None (questions_begun p.questions)
+    (map word_in slots) list.is_list list.count (sources_given list)) p.same
     (list_rule list None (questions_begun p.questions) slots l shown h) in
     ap (λ r. r >>= λ q. Ok (InQuestions (roads_so_far p.roads) q)) same
 

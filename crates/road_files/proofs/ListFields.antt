@@ -22,7 +22,8 @@ same_letter [] f lt = absurd (omega arith)
 same_letter (x ∷ fs) f lt = refl
 
 -- a further field
-pub next_field : (s t : PresentList) (fs : List (List ℕ)) (f : List ℕ) → s.vertices < 18446744073709551616 → ListSoFar s fs → 0 < s.count → s.count ≤ 1025 → t.vertices ≡ s.vertices → t.count ≡ s.count + 1 → t.is_list ≡ s.is_list
+pub next_field : (s t : PresentList) (fs : List (List ℕ)) (f : List ℕ) → s.vertices < 18446744073709551616 → ListSoFar s fs → 0 < s.count → s.count ≤ 1025 →
+    t.vertices ≡ s.vertices → t.count ≡ s.count + 1 → t.is_list ≡ s.is_list
     → (s.is_list ≡ true → sources_given t ≡ one_vertex_more s.vertices (sources_given s) (held_word f).number) → ListSoFar t (fs ++ f ∷ [])
 next_field s t fs f small h some few same more letter sources =
     let long : length (fs ++ f ∷ []) ≡ length fs + 1 = length-append fs (f ∷ []) in

@@ -35,14 +35,18 @@ module _ (q : Questions) (i : ℕ) where
   pub in_lists : (ls : Vec (Vec ℕ Global) Global) → q ≡ variants.Multi ls → i < length (asked_of q).questions → i < length ls.items
   in_lists ls = within of_list ls.items (variants.Multi ls) refl
 
-  pub source_at : (vs : Vec ℕ Global) (x : ℕ) → q ≡ variants.Sources vs → i < length (asked_of q).questions → x ≡ get_or vs.items i x → (d : Question) → sources_of (get_or (asked_of q).questions i d) ≡ x ∷ []
+  pub source_at : (vs : Vec ℕ Global) (x : ℕ) → q ≡ variants.Sources vs → i < length (asked_of q).questions → x ≡ get_or vs.items i x → (d : Question) →
+      sources_of (get_or (asked_of q).questions i d) ≡ x ∷ []
   source_at vs x e low is d = ap (λ y. sources_of (get_or (asked_of y).questions i d)) e ∙ ap sources_of (get_or-map of_source vs.items i x d (in_sources vs e low)) ∙ ap (λ (y : ℕ). y ∷ []) (sym is)
 
-  pub pair_at : (ps : Vec (ℕ × ℕ) Global) (p : ℕ × ℕ) → q ≡ variants.Pairs ps → i < length (asked_of q).questions → p ≡ get_or ps.items i p → (d : Question) → sources_of (get_or (asked_of q).questions i d) ≡ p.0 ∷ []
+  pub pair_at : (ps : Vec (ℕ × ℕ) Global) (p : ℕ × ℕ) → q ≡ variants.Pairs ps → i < length (asked_of q).questions → p ≡ get_or ps.items i p → (d : Question) →
+      sources_of (get_or (asked_of q).questions i d) ≡ p.0 ∷ []
   pair_at ps p e low is d = ap (λ y. sources_of (get_or (asked_of y).questions i d)) e ∙ ap sources_of (get_or-map of_pair ps.items i p d (in_pairs ps e low)) ∙ ap (λ (y : ℕ × ℕ). y.0 ∷ []) (sym is)
 
-  pub list_at : (ls : Vec (Vec ℕ Global) Global) (l : Vec ℕ Global) → q ≡ variants.Multi ls → i < length (asked_of q).questions → l ≡ get_or ls.items i l → (d : Question) → sources_of (get_or (asked_of q).questions i d) ≡ l.items
-  list_at ls l e low is d = ap (λ y. sources_of (get_or (asked_of y).questions i d)) e ∙ ap sources_of (get_or-map of_list ls.items i l d (in_lists ls e low)) ∙ ap (λ (y : Vec ℕ Global). y.items) (sym is)
+  pub list_at : (ls : Vec (Vec ℕ Global) Global) (l : Vec ℕ Global) → q ≡ variants.Multi ls → i < length (asked_of q).questions → l ≡ get_or ls.items i l → (d : Question) →
+      sources_of (get_or (asked_of q).questions i d) ≡ l.items
+  list_at ls l e low is d = ap (λ y. sources_of (get_or (asked_of y).questions i d)) e ∙ ap sources_of (get_or-map of_list ls.items i l d (in_lists ls e low))
+      ∙ ap (λ (y : Vec ℕ Global). y.items) (sym is)
 
 -- an element of a list that has one
 pub any_of : {X : Type 0} (xs : List X) (q : ℕ) → q < length xs → X
@@ -50,10 +54,12 @@ any_of [] q h = absurd (omega (arith, h))
 any_of (x ∷ xs) q h = x
 
 -- the sources of each question are some, and vertices of the graph
-pub asked_within : (n : ℕ) (q : Questions) (i : ℕ) → AskWithin n q → i < length (asked_of q).questions → (d : Question) → (1 ≤ length (sources_of (get_or (asked_of q).questions i d))) × All (IsVertexOf n) (sources_of (get_or (asked_of q).questions i d))
+pub asked_within : (n : ℕ) (q : Questions) (i : ℕ) → AskWithin n q → i < length (asked_of q).questions → (d : Question) →
+    (1 ≤ length (sources_of (get_or (asked_of q).questions i d))) × All (IsVertexOf n) (sources_of (get_or (asked_of q).questions i d))
 asked_within n (variants.Sources vs) i w low d =
     let at = in_sources (variants.Sources vs) i vs refl low in
-    subst (λ (y : Question). (1 ≤ length (sources_of y)) × All (IsVertexOf n) (sources_of y)) (sym (get_or-map of_source vs.items i 0 d at)) (omega arith, All-cons (IsVertexOf n) (get_or vs.items i 0) [] (w i 0 at) (All-nil (IsVertexOf n)))
+    subst (λ (y : Question). (1 ≤ length (sources_of y)) × All (IsVertexOf n) (sources_of y)) (sym (get_or-map of_source vs.items i 0 d at))
+    (omega arith, All-cons (IsVertexOf n) (get_or vs.items i 0) [] (w i 0 at) (All-nil (IsVertexOf n)))
 asked_within n (variants.Pairs ps) i w low d =
     let at = in_pairs (variants.Pairs ps) i ps refl low in
     subst (λ (y : Question). (1 ≤ length (sources_of y)) × All (IsVertexOf n) (sources_of y)) (sym (get_or-map of_pair ps.items i (0, 0) d at))
@@ -87,13 +93,15 @@ questions_of n (variants.Sources vs) h = sources_are n vs.items (recursion_from_
 questions_of n (variants.Pairs ps) h = pairs_are n ps.items (recursion_from_All (IsVertexPairOf n) ps.items h)
 questions_of n (variants.Multi ls) h = lists_are n ls.items (recursion_from_All (λ (l : Vec ℕ Global). AreSourcesOf n l.items) ls.items h)
 
-pub problem_step : (only : Option Kind) (kind : Kind) (k : ℕ) → may_be only kind ≡ true → k ≤ 1048576 → question_problem only None (map word_of (problem_words kind k)) ≡ Ok (Some (record { kind = kind; announced = k; questions = [] }))
+pub problem_step : (only : Option Kind) (kind : Kind) (k : ℕ) → may_be only kind ≡ true → k ≤ 1048576 →
+    question_problem only None (map word_of (problem_words kind k)) ≡ Ok (Some (record { kind = kind; announced = k; questions = [] }))
 unfolding question_problem
 problem_step only Sources k may small = rw (may, decimal_is_number k (omega arith), le-ltb 1048576 k small) refl
 problem_step only Pairs k may small = rw (may, decimal_is_number k (omega arith), le-ltb 1048576 k small) refl
 problem_step only Multi k may small = rw (may, decimal_is_number k (omega arith), le-ltb 1048576 k small) refl
 
-first_line : (n : ℕ) (only : Option Kind) (kind : Kind) (k : ℕ) → may_be only kind ≡ true → k ≤ 1048576 → (question_rules n only).line None (problem_words kind k) ≡ Ok (Some (record { kind = kind; announced = k; questions = [] }))
+first_line : (n : ℕ) (only : Option Kind) (kind : Kind) (k : ℕ) → may_be only kind ≡ true → k ≤ 1048576 →
+    (question_rules n only).line None (problem_words kind k) ≡ Ok (Some (record { kind = kind; announced = k; questions = [] }))
 unfolding question_line_of
 first_line n only kind k may small = problem_step only kind k may small
 
@@ -131,7 +139,8 @@ pub questions_after : (n : ℕ) (only : Option Kind) (kind : Kind) (k : ℕ) (do
 questions_after n only kind k done [] small room h = rw (append-nil done) refl
 questions_after n only kind k done (q ∷ qs) small room h =
     ap (λ r. r >>= λ t. after (question_rules n only) t (map question_words qs)) (question_step n only kind k done q small (omega arith) h.0)
-    ∙ questions_after n only kind k (done ++ q ∷ []) qs small (omega (arith, length-append done (q ∷ []))) h.1 ∙ ap (λ xs. Ok (Some (record { kind = kind; announced = k; questions = xs }))) (append_assoc done (q ∷ []) qs)
+    ∙ questions_after n only kind k (done ++ q ∷ []) qs small (omega (arith, length-append done (q ∷ []))) h.1
+    ∙ ap (λ xs. Ok (Some (record { kind = kind; announced = k; questions = xs }))) (append_assoc done (q ∷ []) qs)
 
 numbers_are_words : (n : ℕ) (vs : List ℕ) → n ≤ 33554432 → AllByRecursion (IsVertexOf n) vs → AllByRecursion IsWord (map decimal vs)
 numbers_are_words n [] small h = tt
@@ -153,21 +162,42 @@ questions_are_lines n kind [] small h = tt
 questions_are_lines n kind (q ∷ qs) small h = (question_is_line n kind q small h.0, questions_are_lines n kind qs small h.1)
 
 pub problem_is_line : (kind : Kind) (k : ℕ) → k ≤ 1048576 → AllByRecursion IsWord (problem_words kind k)
-problem_is_line Sources k small = (word_by_test (codes "p") refl, (word_by_test (codes "aux") refl, (word_by_test (codes "sp") refl, (word_by_test (codes "ss") refl, (word_of_number k (omega arith), tt)))))
-problem_is_line Pairs k small = (word_by_test (codes "p") refl, (word_by_test (codes "aux") refl, (word_by_test (codes "sp") refl, (word_by_test (codes "p2p") refl, (word_of_number k (omega arith), tt)))))
-problem_is_line Multi k small = (word_by_test (codes "p") refl, (word_by_test (codes "aux") refl, (word_by_test (codes "sp") refl, (word_by_test (codes "ms") refl, (word_of_number k (omega arith), tt)))))
+problem_is_line Sources k small = (
+  word_by_test (codes "p") refl,
+  (
+    word_by_test (codes "aux") refl,
+    (word_by_test (codes "sp") refl, (word_by_test (codes "ss") refl, (word_of_number k (omega arith), tt))),
+  ),
+)
+problem_is_line Pairs k small = (
+  word_by_test (codes "p") refl,
+  (
+    word_by_test (codes "aux") refl,
+    (word_by_test (codes "sp") refl, (word_by_test (codes "p2p") refl, (word_of_number k (omega arith), tt))),
+  ),
+)
+problem_is_line Multi k small = (
+  word_by_test (codes "p") refl,
+  (
+    word_by_test (codes "aux") refl,
+    (word_by_test (codes "sp") refl, (word_by_test (codes "ms") refl, (word_of_number k (omega arith), tt))),
+  ),
+)
 
 -- the text of questions, as a whole, has their value
-pub value_of_questions : (n : ℕ) (only : Option Kind) (q : Questions) → n ≤ 33554432 → may_be only (asked_of q).kind ≡ true → AreQuestionsOf n q → text_value (question_rules n only) (questions_text (asked_of q)) ≡ Ok (asked_of q)
+pub value_of_questions : (n : ℕ) (only : Option Kind) (q : Questions) → n ≤ 33554432 → may_be only (asked_of q).kind ≡ true → AreQuestionsOf n q →
+    text_value (question_rules n only) (questions_text (asked_of q)) ≡ Ok (asked_of q)
 unfolding questions_text
 value_of_questions n only q small may h =
     let a = asked_of q in
     let k = length (asked_of q).questions in
     let all : AllByRecursion (IsQuestionOf n (asked_of q).kind) (asked_of q).questions = questions_of n q h.within in
-    let read : after (question_rules n only) None (question_lines (asked_of q)) ≡ Ok (Some (record { kind = (asked_of q).kind; announced = length (asked_of q).questions; questions = (asked_of q).questions })) =
+    let read : after (question_rules n only) None (question_lines (asked_of q)) ≡ Ok
+    (Some (record { kind = (asked_of q).kind; announced = length (asked_of q).questions; questions = (asked_of q).questions })) =
     ap (λ r. r >>= λ t. after (question_rules n only) t (map question_words (asked_of q).questions)) (first_line n only a.kind k may h.few)
     ∙ questions_after n only a.kind k [] a.questions small (omega arith) all in
-    let ended : question_end (Some (record { kind = (asked_of q).kind; announced = length (asked_of q).questions; questions = (asked_of q).questions })) ≡ Ok (asked_of q) = rw (le-ltb k k (omega arith)) refl in
+    let ended : question_end (Some (record { kind = (asked_of q).kind; announced = length (asked_of q).questions; questions = (asked_of q).questions })) ≡ Ok (asked_of q) =
+    rw (le-ltb k k (omega arith)) refl in
     value_again (question_rules n only) _ a (question_lines a) (problem_is_line a.kind k h.few, questions_are_lines n a.kind a.questions small all) read ended
 
 -- a line of a source or of a pair has at most 20 bytes
@@ -191,7 +221,8 @@ questions_length n kind [] small other h = omega arith
 questions_length n kind (q ∷ qs) small other h =
     let here : length (spelled (question_words q)) ≤ 20 = question_length n kind q small other h.0 in
     let rest : length (text_of (map question_words qs)) ≤ 20 * length qs = questions_length n kind qs small other h.1 in
-    let both : length (spelled (question_words q) ++ text_of (map question_words qs)) ≡ length (spelled (question_words q)) + length (text_of (map question_words qs)) = length-append (spelled (question_words q)) (text_of (map question_words qs)) in
+    let both : length (spelled (question_words q) ++ text_of (map question_words qs)) ≡ length (spelled (question_words q)) + length (text_of (map question_words qs)) =
+    length-append (spelled (question_words q)) (text_of (map question_words qs)) in
     omega arith
 
 problem_length : (kind : Kind) (k : ℕ) → k ≤ 1048576 → length (spelled (problem_words kind k)) ≤ 21
@@ -206,10 +237,14 @@ unfolding questions_text
 short_text n q small other h =
     let few = h.few in
     let first : length (spelled (problem_words (asked_of q).kind (length (asked_of q).questions))) ≤ 21 = problem_length (asked_of q).kind (length (asked_of q).questions) h.few in
-    let rest : length (text_of (map question_words (asked_of q).questions)) ≤ 20 * length (asked_of q).questions = questions_length n (asked_of q).kind (asked_of q).questions small other (questions_of n q h.within) in
-    let both : length (spelled (problem_words (asked_of q).kind (length (asked_of q).questions)) ++ text_of (map question_words (asked_of q).questions)) ≡ length (spelled (problem_words (asked_of q).kind (length (asked_of q).questions))) + length (text_of (map question_words (asked_of q).questions)) = length-append (spelled (problem_words (asked_of q).kind (length (asked_of q).questions))) (text_of (map question_words (asked_of q).questions)) in
+    let rest : length (text_of (map question_words (asked_of q).questions)) ≤ 20 * length (asked_of q).questions =
+    questions_length n (asked_of q).kind (asked_of q).questions small other (questions_of n q h.within) in
+    let both : length (spelled (problem_words (asked_of q).kind (length (asked_of q).questions)) ++ text_of (map question_words (asked_of q).questions)) ≡ length
+    (spelled (problem_words (asked_of q).kind (length (asked_of q).questions))) + length (text_of (map question_words (asked_of q).questions)) =
+    length-append (spelled (problem_words (asked_of q).kind (length (asked_of q).questions))) (text_of (map question_words (asked_of q).questions)) in
     omega arith
 
 -- the text of questions has their value, where it is not too long
-pub questions_again : (n : ℕ) (only : Option Kind) (q : Questions) → n ≤ 33554432 → may_be only (asked_of q).kind ≡ true → AreQuestionsOf n q → length (questions_text (asked_of q)) ≤ 4294967296 → text_read (question_rules n only) (questions_text (asked_of q)) ≡ Ok (asked_of q)
+pub questions_again : (n : ℕ) (only : Option Kind) (q : Questions) → n ≤ 33554432 → may_be only (asked_of q).kind ≡ true → AreQuestionsOf n q →
+    length (questions_text (asked_of q)) ≤ 4294967296 → text_read (question_rules n only) (questions_text (asked_of q)) ≡ Ok (asked_of q)
 questions_again n only q small may h few = read_again (question_rules n only) (asked_of q) (questions_text (asked_of q)) few (value_of_questions n only q small may h)

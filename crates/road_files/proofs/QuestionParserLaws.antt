@@ -22,10 +22,12 @@ use Rattle.road_files.proofs.HeldQuestionLines.{question_line_kept}
 -- the rule of the line is that of its slots and of the list that was kept
 pub list_rule : (list : PresentList) (only : Option Kind) (s : Option AskedSoFar) (slots : List Slot) (l : List ℕ) → ShowsLine slots l → ListSoFar list (fields l)
     → question_line list.vertices only s (map word_of (fields l)) ≡ question_line_of list.vertices only s (map word_in slots) list.is_list list.count (sources_given list)
-list_rule list only s slots l shown h = question_line_kept list.vertices only s (map word_in slots) (fields l) list.is_list list.count (sources_given list) (omega (arith, list.few)) shown h.letter h.count h.sources
+list_rule list only s slots l shown h = question_line_kept list.vertices only s (map word_in slots) (fields l) list.is_list list.count (sources_given list)
+    (omega (arith, list.few)) shown h.letter h.count h.sources
 
 module _ (old : QuestionParser) (slots : List Slot) (l : List ℕ) (shown : ShowsLine slots l) (h : ListSoFar old.list (fields l)) where
-  rule : question_line old.list.vertices old.only (questions_begun old) (map word_of (fields l)) ≡ question_line_of old.list.vertices old.only (questions_begun old) (map word_in slots) old.list.is_list old.list.count (sources_given old.list)
+  rule : question_line old.list.vertices old.only (questions_begun old) (map word_of (fields l)) ≡ question_line_of old.list.vertices old.only (questions_begun old)
+      (map word_in slots) old.list.is_list old.list.count (sources_given old.list)
   rule = list_rule old.list old.only (questions_begun old) slots l shown h
 
   -- a line that the parser takes
@@ -47,10 +49,13 @@ module _ (old : QuestionParser) (slots : List Slot) (l : List ℕ) (shown : Show
 -- what a new parser gives is the text's by the rules
 module _ (s : QuestionParser) (none : questions_begun s ≡ None) (n : ℕ) (only : Option Kind) (same_n : s.list.vertices ≡ n) (same_only : s.only ≡ only) where
   pub by_value : (cut : Bool) (ls : List (List ℕ)) (q : Questions) → GivesQuestions cut s 1 ls (Ok q) → value_of_lines cut (question_rules n only) 1 None ls ≡ Ok (asked_of q)
-  by_value cut ls q h = subst (λ o. value_of_lines cut (question_rules n o) 1 None ls ≡ Ok (asked_of q)) same_only (subst (λ m. value_of_lines cut (question_rules m s.only) 1 None ls ≡ Ok (asked_of q)) same_n (subst (λ b. value_of_lines cut (question_rules s.list.vertices s.only) 1 b ls ≡ Ok (asked_of q)) none h.0))
+  by_value cut ls q h = subst (λ o. value_of_lines cut (question_rules n o) 1 None ls ≡ Ok (asked_of q)) same_only
+      (subst (λ m. value_of_lines cut (question_rules m s.only) 1 None ls ≡ Ok (asked_of q)) same_n
+      (subst (λ b. value_of_lines cut (question_rules s.list.vertices s.only) 1 b ls ≡ Ok (asked_of q)) none h.0))
 
   pub by_fault : (cut : Bool) (ls : List (List ℕ)) (f : ReadFault) → GivesQuestions cut s 1 ls (Err f) → value_of_lines cut (question_rules n only) 1 None ls ≡ Err f
-  by_fault cut ls f h = subst (λ o. value_of_lines cut (question_rules n o) 1 None ls ≡ Err f) same_only (subst (λ m. value_of_lines cut (question_rules m s.only) 1 None ls ≡ Err f) same_n (subst (λ b. value_of_lines cut (question_rules s.list.vertices s.only) 1 b ls ≡ Err f) none h.0))
+  by_fault cut ls f h = subst (λ o. value_of_lines cut (question_rules n o) 1 None ls ≡ Err f) same_only
+      (subst (λ m. value_of_lines cut (question_rules m s.only) 1 None ls ≡ Err f) same_n (subst (λ b. value_of_lines cut (question_rules s.list.vertices s.only) 1 b ls ≡ Err f) none h.0))
 
   pub by_fit : (cut : Bool) (ls : List (List ℕ)) (q : Questions) → GivesQuestions cut s 1 ls (Ok q) → FitsFile n only q
   by_fit cut ls q h = subst (λ o. FitsFile n o q) same_only (subst (λ m. FitsFile m s.only q) same_n h.1)

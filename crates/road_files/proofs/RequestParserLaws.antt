@@ -11,7 +11,8 @@ use Rattle.road_files.specs.ServiceText.{Passes, Step, given, whole_or_on, GiveM
 use Rattle.road_files.proofs.QuestionParserLaws.{list_rule}
 
 module _ (p : QuestionParser) (any : p.only ≡ None) (slots : List Slot) (l : List ℕ) (shown : ShowsLine slots l) (h : ListSoFar p.list (fields l)) where
-  rule_is : (question_rules p.list.vertices None).line (questions_begun p) (fields l) ≡ question_line_of p.list.vertices p.only (questions_begun p) (map word_in slots) p.list.is_list p.list.count (sources_given p.list)
+  rule_is : (question_rules p.list.vertices None).line (questions_begun p) (fields l) ≡ question_line_of p.list.vertices p.only (questions_begun p)
+      (map word_in slots) p.list.is_list p.list.count (sources_given p.list)
   rule_is = rw any (list_rule p.list None (questions_begun p) slots l shown h)
 
   -- the line is taken

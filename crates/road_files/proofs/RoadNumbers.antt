@@ -40,7 +40,8 @@ question : (k : Kind) (s : Option AskedSoFar) (q : Result Question ℕ) → IsRo
 question k s q h = search (arith, step, test, asked, h, fine) depth 40
 
 -- a line of questions
-pub questions_line : (n : ℕ) (only : Option Kind) (s : Option AskedSoFar) (ws : List Word) (in_list : Bool) (count : ℕ) (vs : Result (List ℕ) ℕ) → IsRoad vs → IsRoad (question_line_of n only s ws in_list count vs)
+pub questions_line : (n : ℕ) (only : Option Kind) (s : Option AskedSoFar) (ws : List Word) (in_list : Bool) (count : ℕ) (vs : Result (List ℕ) ℕ) → IsRoad vs →
+    IsRoad (question_line_of n only s ws in_list count vs)
 unfolding question_line_of
 questions_line n only s ws in_list count vs h = search (arith, either, begins, question, source, pair, sources, h, fine, wrong) depth 40
 
@@ -54,7 +55,8 @@ questions_end s = search (arith, step, test, asked, fine) depth 40
 -- a line of a bundle
 pub bundles_line : (s : BundleSoFar) (ws : List Word) → IsRoad (bundle_line s ws)
 bundles_line (InGraph s) ws = search (step, either, whole, begins, graph_line, fine) depth 40
-bundles_line (InQuestions r s) ws = let read = question_line r.vertices None s ws in step read _ (questions_line r.vertices None s ws (begins_list ws) (length ws) (vertices_in r.vertices (drop 1 ws)) (vertices r.vertices (drop 1 ws))) (λ q. fine (InQuestions r q))
+bundles_line (InQuestions r s) ws = let read = question_line r.vertices None s ws in step read _
+    (questions_line r.vertices None s ws (begins_list ws) (length ws) (vertices_in r.vertices (drop 1 ws)) (vertices r.vertices (drop 1 ws))) (λ q. fine (InQuestions r q))
 
 -- its end
 pub bundles_end : (s : BundleSoFar) → IsRoad (bundle_end s)

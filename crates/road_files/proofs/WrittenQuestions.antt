@@ -8,9 +8,11 @@ use Rattle.road_files.specs.WrittenQuestions.{problem_words, question_words, que
 
 module _ (old mid new : Option (List ℕ)) (b m a : ℕ) (line : List ℕ) where
   -- a problem line, and then the lines of questions
-  pub questions_then : {B E : Type 0} (q : Asked) (r : Result B E) → line ≡ spelled (problem_words q.kind (length q.questions)) → WrotePrefix old mid b m line [] → Wrote mid new m a (text_of (map question_words q.questions)) r → Wrote old new b a (questions_text q) r
+  pub questions_then : {B E : Type 0} (q : Asked) (r : Result B E) → line ≡ spelled (problem_words q.kind (length q.questions)) → WrotePrefix old mid b m line [] →
+      Wrote mid new m a (text_of (map question_words q.questions)) r → Wrote old new b a (questions_text q) r
   unfolding questions_text
-  questions_then q r is was next = wrote_then old mid new b m a (spelled (problem_words q.kind (length q.questions))) (text_of (map question_words q.questions)) r (subst (λ x. WrotePrefix old mid b m x []) is was) next
+  questions_then q r is was next = wrote_then old mid new b m a (spelled (problem_words q.kind (length q.questions))) (text_of (map question_words q.questions)) r
+      (subst (λ x. WrotePrefix old mid b m x []) is was) next
 
 module _ (old new : Option (List ℕ)) (b a : ℕ) (line : List ℕ) where
   pub questions_fell : (q : Asked) → line ≡ spelled (problem_words q.kind (length q.questions)) → FailedAfterPrefix old new b a line → FailedAfterPrefix old new b a (questions_text q)

@@ -7,7 +7,8 @@ use Rattle.graph_text.proofs.graph_maker.GraphMakerLineParser.line.Goals as goal
 
 pub returns-clause-ok : goal.returns-clause-ok
 returns-clause-ok g c = on_ok c.take.result _ _ c.take.ensures.line
-    (λ e cut at l rest r shown _ h. gives_taken gr_rules g.G.FromArcs.roads (taken_of c.args.self.now.parser) (taken_of c.take.new.self) cut at l rest r (line_rule c.args.self.now.parser c.args.slots.now l shown ∙ e) h)
+    (λ e cut at l rest r shown _ h. gives_taken gr_rules g.G.FromArcs.roads (taken_of c.args.self.now.parser) (taken_of c.take.new.self) cut at l rest r
+    (line_rule c.args.self.now.parser c.args.slots.now l shown ∙ e) h)
 
 pub returns-clause-broken : goal.returns-clause-broken
 returns-clause-broken g c = λ rule is cut at l rest shown _.

@@ -7,8 +7,15 @@ use Rattle.road_files.proofs.bundle_parser.BundleParserLineParser.line.Goals as 
 
 pub returns-clause-ok : goal.returns-clause-ok
 returns-clause-ok g c = on_ok c.take.result _ _ c.take.ensures.rule
-    (λ e cut at l rest r shown so h. (gives_taken bundle_rules (bundle_with g.G.FromArcs.roads) (bundle_so_far c.args.self.now.part) (bundle_so_far c.take.new.self.part) cut at l rest r (kept_rule c.args.self.now.part c.args.slots.now l shown so ∙ e) h.0, h.1))
+    (λ e cut at l rest r shown so h. (
+      gives_taken bundle_rules (bundle_with g.G.FromArcs.roads) (bundle_so_far c.args.self.now.part)
+          (bundle_so_far c.take.new.self.part) cut at l rest r (kept_rule c.args.self.now.part c.args.slots.now l shown so ∙ e) h.0,
+      h.1,
+    ))
 
 pub returns-clause-broken : goal.returns-clause-broken
-returns-clause-broken g c = λ rule is cut at l rest shown so.
-    (gives_broken bundle_rules (bundle_with g.G.FromArcs.roads) (bundle_so_far c.args.self.now.part) cut at l rest rule.number (kept_rule c.args.self.now.part c.args.slots.now l shown so ∙ (rw is at c.take.ensures.rule)), tt)
+returns-clause-broken g c = λ rule is cut at l rest shown so. (
+  gives_broken bundle_rules (bundle_with g.G.FromArcs.roads) (bundle_so_far c.args.self.now.part) cut at l rest rule.number
+      (kept_rule c.args.self.now.part c.args.slots.now l shown so ∙ (rw is at c.take.ensures.rule)),
+  tt,
+)

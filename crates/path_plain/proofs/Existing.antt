@@ -11,7 +11,7 @@ use Rattle.path_algebra.specs.Walks.{AreBest, offered, relaxed}
 use Rattle.path_algebra.specs.Open.{IsBestOpen, AnswersBestOpen}
 use Rattle.path_algebra.proofs.Least.{best_open}
 use Rattle.path_plain.specs.Opening.{AreOpening}
-use Rattle.path_plain.proofs.Opening.{opening_none, opening_front}
+use Rattle.path_plain.proofs.Known.{opening_none, opening_front}
 use Rattle.path_plain.proofs.Rounds.{Between, unsettled, starting, round, ending}
 
 module _ {V : Type 0} (A : Algebra V) (lawful : IsLawful A) (g : GraphData) (roads : IsGraph g) where

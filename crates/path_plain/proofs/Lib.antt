@@ -1,4 +1,3 @@
-pub mod Opening
 pub mod Known
 pub mod Rounds
 pub mod Waiting

@@ -5,7 +5,7 @@ use Rattle.std.proofs.lemmas.List.{length-map}
 use Rattle.std.specs.Prelude.{option_map}
 use Rattle.path_algebra.specs.Algebra.{IsOrder}
 use Rattle.path_algebra.specs.Walks.{label_of}
-use Rattle.path_plain.proofs.Opening as plain
+use Rattle.path_plain.proofs.Known as plain
 use Rattle.path_plain.specs.Opening as labels
 use Rattle.tree_search.specs.Marks.{values_in, marked, source_mark}
 use Rattle.tree_search.specs.Opening.{AreOpening}

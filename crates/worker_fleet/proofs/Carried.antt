@@ -1,9 +1,13 @@
--- What each of a worker's stations keeps while it is moved.
-use Rattle.std.proofs.Common.{◌≡◌, List, ◌∷◌, subst, ℕ, [], inl, inr}
-use Rattle.std.specs.List.{All}
+-- What a worker's stations keep while they are moved, beside the places of their floors.
+use Rattle.std.proofs.Common.{◌≡◌, List, ◌∷◌, subst, ℕ, [], inl, inr, Fits, w64, set, length-set, ◌+◌, ◌≤◌, ◌<◌, length, get_or, arith, true, false}
+use Rattle.std.specs.List.{All, HoldsAt}
 use Rattle.std.proofs.lemmas.List.Elements.{All-head, All-tail, All-cons}
 use Rattle.worker_fleet.specs.Groups.{Some_of}
 use Rattle.worker_fleet.specs.Moves.{Steps, still, then, MovesEach}
+use Rattle.path_algebra.specs.Algebra.{Algebra}
+use Rattle.post_floor.specs.Data.{FloorData}
+use Rattle.station.specs.Station.{StationData}
+use Rattle.worker_fleet.specs.Turns.{NextOn, IsOnItsFloor, StationHasEnded, StationIsOpen}
 
 module _ {X : Type 0} (P : X → Type 0) (xs ys : List X) (x : X) (e : xs ≡ x ∷ ys) (h : All P xs) where
   pub All-first : P x
@@ -35,3 +39,20 @@ module _ {X : Type 0} (S : X → X → Type 0) (P : X → Type 0) (keep : (p q :
   MovesEach-all [] (x ∷ xs) ys m h = absurd m
   MovesEach-all (n ∷ ns) [] ys m h = absurd m
   MovesEach-all (n ∷ ns) (x ∷ xs) [] m h = absurd m
+
+pub IsOnItsFloor-next : {A V : Type 0} (meaning : A → Algebra V) (floors : List (FloorData A)) (budget : ℕ) (p q : ℕ × StationData A V)
+    → IsOnItsFloor floors p → NextOn meaning floors budget p q → IsOnItsFloor floors q
+IsOnItsFloor-next meaning floors budget p q h n = record { floor = n.floor; is_floor = rw n.place n.is_floor; own = n.turned.own }
+
+pub open_not_ended : {A V : Type 0} (xs : List (ℕ × StationData A V)) (k : ℕ) → k < length xs → HoldsAt StationIsOpen xs k → All StationHasEnded xs → ⊥
+open_not_ended [] k low o e = omega arith
+open_not_ended (x ∷ xs) k low o e =
+    let a : (get_or (x ∷ xs) k x).1.ended ≡ false = o x in
+    let b : (get_or (x ∷ xs) k x).1.ended ≡ true = e k x low in
+    cc
+
+pub set_place : {X : Type 0} (xs : List X) (k : ℕ) (v : X) → k < length xs → k + 1 ≤ length (set xs k v)
+set_place xs k v low = omega (arith, length-set xs k v)
+
+pub fits_next : (k n : ℕ) → k < n → n < 18446744073709551616 → Fits w64 (k + 1)
+fits_next k n low small = omega arith

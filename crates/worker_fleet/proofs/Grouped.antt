@@ -13,9 +13,8 @@ use Rattle.worker_fleet.specs.declared.group.GroupFault.{GroupFault}
 use Rattle.worker_fleet.specs.Groups.{gathered, Some_of, HasShard, IsDone}
 use Rattle.worker_fleet.specs.Stops.{IsFirstStop, IsStop}
 use Rattle.worker_fleet.specs.Turns.{NextOn, IsOnItsFloor, StationHasEnded}
-use Rattle.worker_fleet.proofs.Carried.{MovesEach-some, MovesEach-all}
+use Rattle.worker_fleet.proofs.Carried.{MovesEach-some, MovesEach-all, IsOnItsFloor-next}
 use Rattle.worker_fleet.proofs.Gathered.{share_all, share_some, gathered_all, gathered_some}
-use Rattle.worker_fleet.proofs.Placed.{IsOnItsFloor-next}
 
 -- an element of a list that has one
 pub one_of : {X : Type 0} (xs : List X) → 0 < length xs → X

@@ -1,7 +1,6 @@
 mod Moved
 mod Rounds
 pub mod Stopped
-pub mod Placed
 mod Pushed
 mod Assigned
 mod PushedAt

@@ -1,6 +1,5 @@
 use Rattle.worker_fleet.specs.Turns.{NextOn, IsOnItsFloor}
-use Rattle.worker_fleet.proofs.Carried.{MovesEach-all}
-use Rattle.worker_fleet.proofs.Placed.{IsOnItsFloor-next}
+use Rattle.worker_fleet.proofs.Carried.{MovesEach-all, IsOnItsFloor-next}
 use Rattle.engine_trials.proofs.workers.driven.Goals as goal
 
 pub loop-preserved : goal.loop-preserved

@@ -3,7 +3,7 @@ use Rattle.std.proofs.lemmas.List.Elements.{All-set}
 use Rattle.worker_fleet.specs.Turns.{NextOn, IsOnItsFloor, IsNextOpen}
 use Rattle.worker_fleet.specs.declared.driving.Outcome.TheVariants.{Ended, Stalled, Gated}
 use Rattle.worker_fleet.proofs.Rounds.{MovedRound-none, MovedRound-more, MovedRound-took_turns}
-use Rattle.worker_fleet.proofs.Placed.{IsOnItsFloor-next, open_not_ended, set_place, fits_next}
+use Rattle.worker_fleet.proofs.Carried.{IsOnItsFloor-next, open_not_ended, set_place, fits_next}
 use Rattle.worker_fleet.proofs.driving.turn_until.Goals as goal
 use Rattle.worker_fleet.proofs.driving.turn_until.Goals.{In-Some}
 

@@ -1,6 +1,6 @@
 use Rattle.std.proofs.Common.{◌≡◌, ℕ, ◌≤◌, ◌∙◌, sym, subst}
 use Rattle.path_algebra.specs.Walks.{offered}
-use Rattle.path_plain.proofs.Opening.{opening_more}
+use Rattle.path_plain.proofs.Known.{opening_more}
 use Rattle.path_plain.proofs.search.Search.open.Goals as goal
 
 pub loop-source-preserved : goal.loop-source-preserved

@@ -1,4 +1,3 @@
--- A must-fail edit breaks this goal: with an answer it is refused at once.
 use Rattle.std.proofs.Common.{arith}
 use Rattle.std.proofs.lemmas.Grind.{common_steps}
 use Rattle.answer_text.specs.AnswerFiles.{route_line}

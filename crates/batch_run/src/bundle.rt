@@ -40,7 +40,8 @@ fn run_bundle_over<
     requires kind { settings.now.plain ≡ G.is_plain }
     ensures ran { RanBundle (A.meaning algebra) settings.now (T.may_answer gate.now)
         (input B.left B.failures B.asked bundle.old) (input B.left B.failures B.asked bundle.new)
-        (output W.written W.held W.failures out.old) (output W.written W.held W.failures out.new) result }
+        (output W.written W.held W.failures out.old)
+        (output W.written W.held W.failures out.new) result }
     ensures watched { Watched (A.meaning algebra) settings.now (IsBundleOf (B.left bundle.old))
         O.may_become watcher.old watcher.new result }
 {
@@ -76,7 +77,8 @@ pub fn run_bundle_watched<
 ) -> Result<(), RunFault>
     ensures ran { RanBundle (A.meaning algebra) settings.now (T.may_answer gate.now)
         (input B.left B.failures B.asked bundle.old) (input B.left B.failures B.asked bundle.new)
-        (output W.written W.held W.failures out.old) (output W.written W.held W.failures out.new) result }
+        (output W.written W.held W.failures out.old)
+        (output W.written W.held W.failures out.new) result }
     ensures watched { Watched (A.meaning algebra) settings.now (IsBundleOf (B.left bundle.old))
         O.may_become watcher.old watcher.new result }
 {
@@ -102,7 +104,8 @@ pub fn run_bundle<A: PathAlgebra, B: RoadRead, W: RoadWrite, R: Threads + Wait +
 ) -> Result<(), RunFault>
     ensures ran { RanBundle (A.meaning algebra) settings.now (T.may_answer gate.now)
         (input B.left B.failures B.asked bundle.old) (input B.left B.failures B.asked bundle.new)
-        (output W.written W.held W.failures out.old) (output W.written W.held W.failures out.new) result }
+        (output W.written W.held W.failures out.old)
+        (output W.written W.held W.failures out.new) result }
 {
     run_bundle_watched(
         rt,

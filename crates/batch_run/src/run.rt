@@ -42,9 +42,12 @@ fn run_pair_over<
 ) -> Result<(), RunFault>
     requires kind { settings.now.plain ≡ B.is_plain }
     ensures ran { RanPair (A.meaning algebra) settings.now (T.may_answer gate.now)
-        (input G.left G.failures G.asked graph_in.old) (input G.left G.failures G.asked graph_in.new)
-        (input Q.left Q.failures Q.asked questions_in.old) (input Q.left Q.failures Q.asked questions_in.new)
-        (output W.written W.held W.failures out.old) (output W.written W.held W.failures out.new) result }
+        (input G.left G.failures G.asked graph_in.old)
+        (input G.left G.failures G.asked graph_in.new)
+        (input Q.left Q.failures Q.asked questions_in.old)
+        (input Q.left Q.failures Q.asked questions_in.new)
+        (output W.written W.held W.failures out.old)
+        (output W.written W.held W.failures out.new) result }
     ensures watched { Watched (A.meaning algebra) settings.now (IsPairOf (G.left graph_in.old)
         (Q.left questions_in.old)) O.may_become watcher.old watcher.new result }
 {
@@ -82,9 +85,12 @@ pub fn run_pair_watched<
     watcher: &mut O,
 ) -> Result<(), RunFault>
     ensures ran { RanPair (A.meaning algebra) settings.now (T.may_answer gate.now)
-        (input G.left G.failures G.asked graph_in.old) (input G.left G.failures G.asked graph_in.new)
-        (input Q.left Q.failures Q.asked questions_in.old) (input Q.left Q.failures Q.asked questions_in.new)
-        (output W.written W.held W.failures out.old) (output W.written W.held W.failures out.new) result }
+        (input G.left G.failures G.asked graph_in.old)
+        (input G.left G.failures G.asked graph_in.new)
+        (input Q.left Q.failures Q.asked questions_in.old)
+        (input Q.left Q.failures Q.asked questions_in.new)
+        (output W.written W.held W.failures out.old)
+        (output W.written W.held W.failures out.new) result }
     ensures watched { Watched (A.meaning algebra) settings.now (IsPairOf (G.left graph_in.old)
         (Q.left questions_in.old)) O.may_become watcher.old watcher.new result }
 {
@@ -143,9 +149,12 @@ pub fn run_pair<
     gate: &T,
 ) -> Result<(), RunFault>
     ensures ran { RanPair (A.meaning algebra) settings.now (T.may_answer gate.now)
-        (input G.left G.failures G.asked graph_in.old) (input G.left G.failures G.asked graph_in.new)
-        (input Q.left Q.failures Q.asked questions_in.old) (input Q.left Q.failures Q.asked questions_in.new)
-        (output W.written W.held W.failures out.old) (output W.written W.held W.failures out.new) result }
+        (input G.left G.failures G.asked graph_in.old)
+        (input G.left G.failures G.asked graph_in.new)
+        (input Q.left Q.failures Q.asked questions_in.old)
+        (input Q.left Q.failures Q.asked questions_in.new)
+        (output W.written W.held W.failures out.old)
+        (output W.written W.held W.failures out.new) result }
 {
     run_pair_watched(
         rt,

@@ -98,7 +98,8 @@ pub fn explain<W: RoadWrite, E: RoadWrite>(
 ) -> u8
     ensures { Explains table.now numbers.now
         (output W.written W.held W.failures out.old) (output W.written W.held W.failures out.new)
-        (output E.written E.held E.failures errors.old) (output E.written E.held E.failures errors.new) result }
+        (output E.written E.held E.failures errors.old)
+        (output E.written E.held E.failures errors.new) result }
 {
     let rows = match rows_for(alloc, table, numbers) {
         Ok(Some(rows)) => rows,

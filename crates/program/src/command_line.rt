@@ -30,7 +30,8 @@ fn usage<W: RoadWrite, E: RoadWrite>(
 ) -> u8
     ensures { IsSaid (kind_of error.now)
         (output W.written W.held W.failures out.old) (output W.written W.held W.failures out.new)
-        (output E.written E.held E.failures errors.old) (output E.written E.held E.failures errors.new) result }
+        (output E.written E.held E.failures errors.old)
+        (output E.written E.held E.failures errors.new) result }
 {
     if error.kind() == ErrorKind::OutOfMemory {
         return report(errors, fault_of_run(MEMORY));
@@ -57,7 +58,8 @@ fn perform<R: AllocGlobal + Threads + Wait + Sync, P: FileSystem, W: RoadWrite, 
     ensures { DoesSubcommand P.File P.Stdin P.NewFile P.opens P.creates
         subcommand.now files.old files.new
         (output W.written W.held W.failures out.old) (output W.written W.held W.failures out.new)
-        (output E.written E.held E.failures errors.old) (output E.written E.held E.failures errors.new) result }
+        (output E.written E.held E.failures errors.old)
+        (output E.written E.held E.failures errors.new) result }
 {
     match subcommand {
         Subcommand::Solve(args) => solve_with_options(rt, files, args, out, errors),
@@ -82,7 +84,8 @@ pub fn run_command_line<
 >(rt: &R, files: &mut P, words: &[String], out: &mut W, errors: &mut E) -> u8
     ensures { DoesCommandLine P.File P.Stdin P.NewFile P.opens P.creates files.old files.new
         (output W.written W.held W.failures out.old) (output W.written W.held W.failures out.new)
-        (output E.written E.held E.failures errors.old) (output E.written E.held E.failures errors.new) result }
+        (output E.written E.held E.failures errors.old)
+        (output E.written E.held E.failures errors.new) result }
 {
     match parse_args(rt.alloc(), words) {
         Ok(Some(subcommand)) => perform(rt, files, &subcommand, out, errors),

@@ -50,9 +50,12 @@ pub fn run_service<
     gate: &T,
 ) -> Result<(), RunFault>
     ensures ran { RanService (A.meaning algebra) settings.now (T.may_answer gate.now)
-        (input G.left G.failures G.asked graph_in.old) (input G.left G.failures G.asked graph_in.new)
-        (input Q.left Q.failures Q.asked requests_in.old) (input Q.left Q.failures Q.asked requests_in.new)
-        (output W.written W.held W.failures out.old) (output W.written W.held W.failures out.new) result }
+        (input G.left G.failures G.asked graph_in.old)
+        (input G.left G.failures G.asked graph_in.new)
+        (input Q.left Q.failures Q.asked requests_in.old)
+        (input Q.left Q.failures Q.asked requests_in.new)
+        (output W.written W.held W.failures out.old)
+        (output W.written W.held W.failures out.new) result }
 {
     if !settings.are_in_range() {
         return Err(fault_of_run(SETTINGS));

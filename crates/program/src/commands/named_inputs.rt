@@ -105,7 +105,8 @@ pub fn solve_files<R: Threads + Wait + Sync, P: FileSystem, W: RoadWrite, E: Roa
     ensures { SolvesFiles P.File P.Stdin P.NewFile P.opens P.creates chosen settings.now watching.now
         names.entry.0.now names.entry.1.now files.old files.new
         (output W.written W.held W.failures out.old) (output W.written W.held W.failures out.new)
-        (output E.written E.held E.failures errors.old) (output E.written E.held E.failures errors.new) result }
+        (output E.written E.held E.failures errors.old)
+        (output E.written E.held E.failures errors.new) result }
 {
     if !names_stdin_once(&[names.0, names.1]) {
         return complain(errors, STDIN_TWICE);
@@ -141,7 +142,8 @@ pub fn bundle_stdin<R: Threads + Wait + Sync, P: FileSystem, W: RoadWrite, E: Ro
 ) -> u8
     ensures { BundlesStdin P.Stdin P.NewFile P.creates chosen settings.now watching.now files.old files.new
         (output W.written W.held W.failures out.old) (output W.written W.held W.failures out.new)
-        (output E.written E.held E.failures errors.old) (output E.written E.held E.failures errors.new) result }
+        (output E.written E.held E.failures errors.old)
+        (output E.written E.held E.failures errors.new) result }
 {
     let mut text = files.stdin();
     bundle_input(
@@ -163,7 +165,8 @@ pub fn serve_stdin<R: Threads + Wait + Sync, P: FileSystem, W: RoadWrite, E: Roa
 ) -> u8
     ensures { ServesFile P.File P.Stdin P.opens chosen settings.now graph.now files.old files.new
         (output W.written W.held W.failures out.old) (output W.written W.held W.failures out.new)
-        (output E.written E.held E.failures errors.old) (output E.written E.held E.failures errors.new) result }
+        (output E.written E.held E.failures errors.old)
+        (output E.written E.held E.failures errors.new) result }
 {
     if graph == STDIN_NAME {
         return complain(errors, STDIN_TAKEN);
@@ -197,7 +200,8 @@ pub fn check_files<R: Threads + Sync, P: FileSystem, W: RoadWrite, E: RoadWrite>
     ensures { ChecksFiles P.File P.Stdin P.opens limit
         names.entry.0.now names.entry.1.now names.entry.2.now files.old files.new
         (output W.written W.held W.failures out.old) (output W.written W.held W.failures out.new)
-        (output E.written E.held E.failures errors.old) (output E.written E.held E.failures errors.new) result }
+        (output E.written E.held E.failures errors.old)
+        (output E.written E.held E.failures errors.new) result }
 {
     if !names_stdin_once(&[names.0, names.1, names.2]) {
         return complain(errors, STDIN_TWICE);

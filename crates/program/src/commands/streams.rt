@@ -25,10 +25,13 @@ pub fn solve<R: Threads + Wait + Sync, G: RoadRead, Q: RoadRead, W: RoadWrite, E
     errors: &mut E,
 ) -> u8
     ensures { Solves chosen settings.now
-        (input G.left G.failures G.asked graph_in.old) (input G.left G.failures G.asked graph_in.new)
-        (input Q.left Q.failures Q.asked questions_in.old) (input Q.left Q.failures Q.asked questions_in.new)
+        (input G.left G.failures G.asked graph_in.old)
+        (input G.left G.failures G.asked graph_in.new)
+        (input Q.left Q.failures Q.asked questions_in.old)
+        (input Q.left Q.failures Q.asked questions_in.new)
         (output W.written W.held W.failures out.old) (output W.written W.held W.failures out.new)
-        (output E.written E.held E.failures errors.old) (output E.written E.held E.failures errors.new) result }
+        (output E.written E.held E.failures errors.old)
+        (output E.written E.held E.failures errors.new) result }
 {
     let outcome = run_chosen_pair(rt, alloc, chosen, graph_in, questions_in, out, settings);
     end_with(errors, outcome)
@@ -47,7 +50,8 @@ pub fn bundle<R: Threads + Wait + Sync, B: RoadRead, W: RoadWrite, E: RoadWrite>
     ensures { Bundles chosen settings.now
         (input B.left B.failures B.asked text.old) (input B.left B.failures B.asked text.new)
         (output W.written W.held W.failures out.old) (output W.written W.held W.failures out.new)
-        (output E.written E.held E.failures errors.old) (output E.written E.held E.failures errors.new) result }
+        (output E.written E.held E.failures errors.old)
+        (output E.written E.held E.failures errors.new) result }
 {
     let outcome = run_chosen_bundle(rt, alloc, chosen, text, out, settings);
     end_with(errors, outcome)
@@ -66,10 +70,13 @@ pub fn serve<R: Threads + Wait + Sync, G: RoadRead, Q: RoadRead, W: RoadWrite, E
     errors: &mut E,
 ) -> u8
     ensures { Serves chosen settings.now
-        (input G.left G.failures G.asked graph_in.old) (input G.left G.failures G.asked graph_in.new)
-        (input Q.left Q.failures Q.asked requests_in.old) (input Q.left Q.failures Q.asked requests_in.new)
+        (input G.left G.failures G.asked graph_in.old)
+        (input G.left G.failures G.asked graph_in.new)
+        (input Q.left Q.failures Q.asked requests_in.old)
+        (input Q.left Q.failures Q.asked requests_in.new)
         (output W.written W.held W.failures out.old) (output W.written W.held W.failures out.new)
-        (output E.written E.held E.failures errors.old) (output E.written E.held E.failures errors.new) result }
+        (output E.written E.held E.failures errors.old)
+        (output E.written E.held E.failures errors.new) result }
 {
     let outcome = run_chosen_service(rt, alloc, chosen, graph_in, requests_in, out, settings);
     end_with(errors, outcome)
@@ -88,11 +95,15 @@ pub fn check<R: Threads + Sync, G: RoadRead, Q: RoadRead, S: RoadRead, W: RoadWr
     errors: &mut E,
 ) -> u8
     ensures { Checks limit
-        (input G.left G.failures G.asked graph_in.old) (input G.left G.failures G.asked graph_in.new)
-        (input Q.left Q.failures Q.asked questions_in.old) (input Q.left Q.failures Q.asked questions_in.new)
-        (input S.left S.failures S.asked answers_in.old) (input S.left S.failures S.asked answers_in.new)
+        (input G.left G.failures G.asked graph_in.old)
+        (input G.left G.failures G.asked graph_in.new)
+        (input Q.left Q.failures Q.asked questions_in.old)
+        (input Q.left Q.failures Q.asked questions_in.new)
+        (input S.left S.failures S.asked answers_in.old)
+        (input S.left S.failures S.asked answers_in.new)
         (output W.written W.held W.failures out.old) (output W.written W.held W.failures out.new)
-        (output E.written E.held E.failures errors.old) (output E.written E.held E.failures errors.new) result }
+        (output E.written E.held E.failures errors.old)
+        (output E.written E.held E.failures errors.new) result }
 {
     let outcome = judge_and_write(rt, alloc, graph_in, questions_in, answers_in, limit, out);
     end_check(errors, outcome)

@@ -22,8 +22,10 @@ pub(crate) fn run_chosen_pair<G: RoadRead, Q: RoadRead, W: RoadWrite, R: Threads
 ) -> Result<(), RunFault>
     ensures { RanPairUnder chosen settings.now
         (input G.left G.failures G.asked graph.old) (input G.left G.failures G.asked graph.new)
-        (input Q.left Q.failures Q.asked questions.old) (input Q.left Q.failures Q.asked questions.new)
-        (output W.written W.held W.failures out.old) (output W.written W.held W.failures out.new) result }
+        (input Q.left Q.failures Q.asked questions.old)
+        (input Q.left Q.failures Q.asked questions.new)
+        (output W.written W.held W.failures out.old)
+        (output W.written W.held W.failures out.new) result }
 {
     let gate = OpenGate;
     with_algebra!(
@@ -43,7 +45,8 @@ pub(crate) fn run_chosen_bundle<B: RoadRead, W: RoadWrite, R: Threads + Wait + S
 ) -> Result<(), RunFault>
     ensures { RanBundleUnder chosen settings.now
         (input B.left B.failures B.asked text.old) (input B.left B.failures B.asked text.new)
-        (output W.written W.held W.failures out.old) (output W.written W.held W.failures out.new) result }
+        (output W.written W.held W.failures out.old)
+        (output W.written W.held W.failures out.new) result }
 {
     let gate = OpenGate;
     with_algebra!(
@@ -64,8 +67,10 @@ pub(crate) fn run_chosen_service<G: RoadRead, Q: RoadRead, W: RoadWrite, R: Thre
 ) -> Result<(), RunFault>
     ensures { RanServiceUnder chosen settings.now
         (input G.left G.failures G.asked graph.old) (input G.left G.failures G.asked graph.new)
-        (input Q.left Q.failures Q.asked requests.old) (input Q.left Q.failures Q.asked requests.new)
-        (output W.written W.held W.failures out.old) (output W.written W.held W.failures out.new) result }
+        (input Q.left Q.failures Q.asked requests.old)
+        (input Q.left Q.failures Q.asked requests.new)
+        (output W.written W.held W.failures out.old)
+        (output W.written W.held W.failures out.new) result }
 {
     let gate = OpenGate;
     with_algebra!(

@@ -54,7 +54,8 @@ pub(crate) fn solve_with_options<
 >(rt: &R, files: &mut P, args: &SolveArgs<'_>, out: &mut W, errors: &mut E) -> u8
     ensures { DoesSolve P.File P.Stdin P.NewFile P.opens P.creates args.now files.old files.new
         (output W.written W.held W.failures out.old) (output W.written W.held W.failures out.new)
-        (output E.written E.held E.failures errors.old) (output E.written E.held E.failures errors.new) result }
+        (output E.written E.held E.failures errors.old)
+        (output E.written E.held E.failures errors.new) result }
 {
     if is_uncounted(&args.watching, &args.options.settings) {
         return complain(errors, UNCOUNTED);
@@ -85,7 +86,8 @@ pub(crate) fn bundle_with_options<
 >(rt: &R, files: &mut P, args: &BundleArgs<'_>, out: &mut W, errors: &mut E) -> u8
     ensures { DoesBundle P.Stdin P.NewFile P.creates args.now files.old files.new
         (output W.written W.held W.failures out.old) (output W.written W.held W.failures out.new)
-        (output E.written E.held E.failures errors.old) (output E.written E.held E.failures errors.new) result }
+        (output E.written E.held E.failures errors.old)
+        (output E.written E.held E.failures errors.new) result }
 {
     if is_uncounted(&args.watching, &args.options.settings) {
         return complain(errors, UNCOUNTED);
@@ -115,7 +117,8 @@ pub(crate) fn serve_with_options<
 >(rt: &R, files: &mut P, args: &ServeArgs<'_>, out: &mut W, errors: &mut E) -> u8
     ensures { DoesServe P.File P.Stdin P.opens args.now files.old files.new
         (output W.written W.held W.failures out.old) (output W.written W.held W.failures out.new)
-        (output E.written E.held E.failures errors.old) (output E.written E.held E.failures errors.new) result }
+        (output E.written E.held E.failures errors.old)
+        (output E.written E.held E.failures errors.new) result }
 {
     let chosen = match algebra_of(&args.options) {
         Ok(chosen) => chosen,

@@ -132,9 +132,12 @@ pub fn judge<R: Threads + Sync, G: RoadRead, Q: RoadRead, S: RoadRead>(
     limit: Option<u64>,
 ) -> Result<Verdict, RunFault>
     ensures { RanJudge limit
-        (input G.left G.failures G.asked graph_in.old) (input G.left G.failures G.asked graph_in.new)
-        (input Q.left Q.failures Q.asked questions_in.old) (input Q.left Q.failures Q.asked questions_in.new)
-        (input S.left S.failures S.asked answers_in.old) (input S.left S.failures S.asked answers_in.new) result }
+        (input G.left G.failures G.asked graph_in.old)
+        (input G.left G.failures G.asked graph_in.new)
+        (input Q.left Q.failures Q.asked questions_in.old)
+        (input Q.left Q.failures Q.asked questions_in.new)
+        (input S.left S.failures S.asked answers_in.old)
+        (input S.left S.failures S.asked answers_in.new) result }
 {
     let inputs = match read_inputs(alloc, graph_in, questions_in, answers_in) {
         Ok(inputs) => inputs,
@@ -174,10 +177,14 @@ pub(crate) fn judge_and_write<
     out: &mut W,
 ) -> Result<Verdict, RunFault>
     ensures { RanCheck limit
-        (input G.left G.failures G.asked graph_in.old) (input G.left G.failures G.asked graph_in.new)
-        (input Q.left Q.failures Q.asked questions_in.old) (input Q.left Q.failures Q.asked questions_in.new)
-        (input S.left S.failures S.asked answers_in.old) (input S.left S.failures S.asked answers_in.new)
-        (output W.written W.held W.failures out.old) (output W.written W.held W.failures out.new) result }
+        (input G.left G.failures G.asked graph_in.old)
+        (input G.left G.failures G.asked graph_in.new)
+        (input Q.left Q.failures Q.asked questions_in.old)
+        (input Q.left Q.failures Q.asked questions_in.new)
+        (input S.left S.failures S.asked answers_in.old)
+        (input S.left S.failures S.asked answers_in.new)
+        (output W.written W.held W.failures out.old)
+        (output W.written W.held W.failures out.new) result }
 {
     let verdict = match judge(rt, alloc, graph_in, questions_in, answers_in, limit) {
         Ok(verdict) => verdict,

@@ -67,7 +67,8 @@ pub fn status_of_verdict(verdict: Verdict) -> u8
 /// Ends a check: a fault is reported, and gives its status; else the verdict gives it.
 pub(crate) fn end_check<E: RoadWrite>(errors: &mut E, outcome: Result<Verdict, RunFault>) -> u8
     ensures { EndsAs verdict_status
-        (output E.written E.held E.failures errors.old) (output E.written E.held E.failures errors.new) outcome result }
+        (output E.written E.held E.failures errors.old)
+        (output E.written E.held E.failures errors.new) outcome result }
 {
     match outcome {
         Ok(verdict) => status_of_verdict(verdict),

@@ -65,9 +65,11 @@ pub(crate) fn solve_inputs<
 ) -> u8
     ensures { SolvesInputs P.NewFile P.creates chosen settings.now watching.now files.old files.new
         (input G.left G.failures G.asked graph.old) (input G.left G.failures G.asked graph.new)
-        (input Q.left Q.failures Q.asked questions.old) (input Q.left Q.failures Q.asked questions.new)
+        (input Q.left Q.failures Q.asked questions.old)
+        (input Q.left Q.failures Q.asked questions.new)
         (output W.written W.held W.failures out.old) (output W.written W.held W.failures out.new)
-        (output E.written E.held E.failures errors.old) (output E.written E.held E.failures errors.new) result }
+        (output E.written E.held E.failures errors.old)
+        (output E.written E.held E.failures errors.new) result }
 {
     if is_unwatched(watching) {
         return solve(rt, alloc, chosen, settings, graph, questions, out, errors);
@@ -104,7 +106,8 @@ pub(crate) fn bundle_input<
     ensures { BundlesInput P.NewFile P.creates chosen settings.now watching.now files.old files.new
         (input B.left B.failures B.asked text.old) (input B.left B.failures B.asked text.new)
         (output W.written W.held W.failures out.old) (output W.written W.held W.failures out.new)
-        (output E.written E.held E.failures errors.old) (output E.written E.held E.failures errors.new) result }
+        (output E.written E.held E.failures errors.old)
+        (output E.written E.held E.failures errors.new) result }
 {
     if is_unwatched(watching) {
         return bundle(rt, alloc, chosen, settings, text, out, errors);

@@ -37,8 +37,10 @@ fn run_chosen_pair_watched<
 ) -> Result<(), RunFault>
     ensures ran { RanPairUnder chosen settings.now
         (input G.left G.failures G.asked graph.old) (input G.left G.failures G.asked graph.new)
-        (input Q.left Q.failures Q.asked questions.old) (input Q.left Q.failures Q.asked questions.new)
-        (output W.written W.held W.failures out.old) (output W.written W.held W.failures out.new) result }
+        (input Q.left Q.failures Q.asked questions.old)
+        (input Q.left Q.failures Q.asked questions.new)
+        (output W.written W.held W.failures out.old)
+        (output W.written W.held W.failures out.new) result }
     ensures watched { WatchedUnder chosen settings.now (IsPairOf (G.left graph.old) (Q.left questions.old))
         O.may_become watcher.old watcher.new result }
 {
@@ -63,7 +65,8 @@ fn run_chosen_bundle_watched<B: RoadRead, W: RoadWrite, R: Threads + Wait + Sync
 ) -> Result<(), RunFault>
     ensures ran { RanBundleUnder chosen settings.now
         (input B.left B.failures B.asked text.old) (input B.left B.failures B.asked text.new)
-        (output W.written W.held W.failures out.old) (output W.written W.held W.failures out.new) result }
+        (output W.written W.held W.failures out.old)
+        (output W.written W.held W.failures out.new) result }
     ensures watched { WatchedUnder chosen settings.now (IsBundleOf (B.left text.old))
         O.may_become watcher.old watcher.new result }
 {
@@ -119,12 +122,16 @@ pub fn solve_watched<
 ) -> u8
     ensures { EndsWatched chosen settings.now progress (IsPairOf (G.left graph_in.old) (Q.left questions_in.old))
         (λ outcome. RanPairUnder chosen settings.now
-        (input G.left G.failures G.asked graph_in.old) (input G.left G.failures G.asked graph_in.new)
-        (input Q.left Q.failures Q.asked questions_in.old) (input Q.left Q.failures Q.asked questions_in.new)
-        (output W.written W.held W.failures out.old) (output W.written W.held W.failures out.new) outcome)
+        (input G.left G.failures G.asked graph_in.old)
+        (input G.left G.failures G.asked graph_in.new)
+        (input Q.left Q.failures Q.asked questions_in.old)
+        (input Q.left Q.failures Q.asked questions_in.new)
+        (output W.written W.held W.failures out.old)
+        (output W.written W.held W.failures out.new) outcome)
         (option_map (output A.written A.held A.failures) accounts.old)
         (option_map (output A.written A.held A.failures) accounts.new)
-        (output E.written E.held E.failures errors.old) (output E.written E.held E.failures errors.new) result }
+        (output E.written E.held E.failures errors.old)
+        (output E.written E.held E.failures errors.new) result }
 {
     let mut watch = Watch {
         name: chosen.name(),
@@ -170,10 +177,12 @@ pub fn bundle_watched<
     ensures { EndsWatched chosen settings.now progress (IsBundleOf (B.left text.old))
         (λ outcome. RanBundleUnder chosen settings.now
         (input B.left B.failures B.asked text.old) (input B.left B.failures B.asked text.new)
-        (output W.written W.held W.failures out.old) (output W.written W.held W.failures out.new) outcome)
+        (output W.written W.held W.failures out.old)
+        (output W.written W.held W.failures out.new) outcome)
         (option_map (output A.written A.held A.failures) accounts.old)
         (option_map (output A.written A.held A.failures) accounts.new)
-        (output E.written E.held E.failures errors.old) (output E.written E.held E.failures errors.new) result }
+        (output E.written E.held E.failures errors.old)
+        (output E.written E.held E.failures errors.new) result }
 {
     let mut watch = Watch {
         name: chosen.name(),

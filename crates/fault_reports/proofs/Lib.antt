@@ -1,2 +1,0 @@
-mod Written
-mod RowsByNumber

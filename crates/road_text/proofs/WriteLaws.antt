@@ -1,8 +1,9 @@
 -- A text that is written in pieces.
-use Rattle.std.proofs.Common.{◌≡◌, ℕ, List, [], ◌++◌, take, drop, Option, Result, Ok, Err, refl, sym, ap, ◌∙◌, append_assoc, take-append-drop, ◌+◌, append-nil, subst}
-use Rattle.std.specs.Io.KnownBytes.{Appends}
+use Rattle.std.proofs.Common.{◌≡◌, ℕ, List, [], ◌++◌, take, drop, Option, Result, Ok, Err, refl, sym, ap, ◌∙◌, append_assoc, take-append-drop, ◌+◌, append-nil, subst, ◌⊎◌, inl, inr}
+use Rattle.std.specs.Io.KnownBytes.{Appends, Keeps}
 use Rattle.std.specs.Result.{IsErrAnd}
-use Rattle.std.proofs.KnownBytes.{Appends-trans, Appends-nil}
+use Rattle.std.proofs.KnownBytes.{Appends-trans, Appends-nil, Appends-kept}
+use Rattle.road_text.specs.declared.ends.WriteFault.{WriteFault}
 use Rattle.road_text.specs.Written.{WrotePrefix, FailedAfterPrefix, Wrote}
 
 -- nothing was written yet
@@ -79,3 +80,17 @@ fell_first old new b a x y was = record {
 pub fell_out : {A E : Type 0} (Is : E → Type 0) (old new : Option (List ℕ)) (b a : ℕ) (text : List ℕ) (r : Result A E) → IsErrAnd r Is → FailedAfterPrefix old new b a text → Wrote old new b a text r
 fell_out Is old new b a text (Ok x) err was = absurd err
 fell_out Is old new b a text (Err e) err was = was
+
+-- all of the text was written
+pub left_appends : (old new : Option (List ℕ)) (b a : ℕ) (text : List ℕ) → WrotePrefix old new b a text [] → Appends old new text
+left_appends old new b a text was = subst (Appends old new) (sym (was.text_is ∙ append-nil was.prefix)) was.bytes
+
+-- all of the text was written, and it stays
+pub passed_whole : (old mid new : Option (List ℕ)) (b a : ℕ) (text : List ℕ) → WrotePrefix old mid b a text [] → Keeps mid new → Appends old new text
+passed_whole old mid new b a text was keeps = Appends-kept old mid new text (left_appends old mid b a text was) keeps
+
+-- what was written of a text was the whole, or a prefix
+pub wrote_reported : (old new : Option (List ℕ)) (b a : ℕ) (given text : List ℕ) → given ≡ text → (r : Result (Unit {0}) WriteFault) → Wrote old new b a given r →
+    WrotePrefix old new b a text [] ⊎ FailedAfterPrefix old new b a text
+wrote_reported old new b a given text e (Ok u) h = inl (subst (λ (t : List ℕ). WrotePrefix old new b a t []) e h)
+wrote_reported old new b a given text e (Err f) h = inr (subst (FailedAfterPrefix old new b a) e h)

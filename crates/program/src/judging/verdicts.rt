@@ -36,7 +36,7 @@ pub fn line_of_verdict(verdict: Verdict) -> Line
 }
 
 /// Writes the line of a verdict, and flushes it.
-#[tactic(auto, using(fault_reports::proofs::Written::told_whole))]
+#[tactic(auto, using(road_text::proofs::WriteLaws::passed_whole))]
 pub fn write_verdict<W: RoadWrite>(to: &mut W, verdict: Verdict) -> Result<(), RunFault>
     ensures told { OnOk result (Appends (W.written to.old) (W.written to.new)
         (verdict_text verdict)) }

@@ -1,5 +1,5 @@
 use Rattle.std.proofs.Common.{refl}
-use Rattle.fault_reports.proofs.Written.{wrote_reported}
+use Rattle.road_text.proofs.WriteLaws.{wrote_reported}
 use Rattle.fault_reports.proofs.reports.complain.Goals as goal
 
 pub returns : goal.returns

@@ -8,7 +8,7 @@ use Rattle.std.specs.Result.{OnOk, IfErr}
 use Rattle.std.specs.Prelude.{is_none}
 use Rattle.road_graph.specs.GraphData.{GraphData}
 use Rattle.road_text.specs.Written.{WrotePrefix, FailedAfterPrefix}
-use Rattle.road_text.proofs.WriteLaws.{left_more, left_fell}
+use Rattle.road_text.proofs.WriteLaws.{left_more, left_fell, left_appends}
 use Rattle.road_files.specs.Asked.{Question, Asked}
 use Rattle.road_files.specs.declared.questions.Kind.{Kind}
 use Rattle.path_algebra.specs.declared.name.AlgebraName.{AlgebraName}
@@ -81,7 +81,7 @@ module _ {V : Type 0} (A : Algebra V) (g : GraphData) (asked : Asked) where
     count = i;
     answers = p.answers;
     right = p.right;
-    bytes = subst (Appends old new) (sym (p.left.text_is ∙ append-nil p.left.prefix)) p.left.bytes;
+    bytes = left_appends old new b a (begun_text A asked p.answers) p.left;
   }
 
   module _ (i : ℕ) (old mid new : Option (List ℕ)) (b m a : ℕ) (t : AnswerData) (lt : i < length asked.questions) (q : Question)

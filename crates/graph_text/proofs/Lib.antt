@@ -1,4 +1,4 @@
 pub mod RuleLaws
 mod GraphParserLaws
-pub mod WrittenLines
+pub mod WrittenGraphs
 mod GraphIsSaid

@@ -9,7 +9,7 @@ ghost use Rattle.graph_text.specs.GraphLines.{SayGraph};
 ghost use Rattle.graph_text.specs.WrittenGraphs.{gr_text};
 
 /// The text of a graph has the graph as its value.
-#[tactic(auto, using(crate::proofs::WrittenLines::graph_again))]
+#[tactic(auto, using(crate::proofs::WrittenGraphs::graph_again))]
 pub fn graph_read_again()
     ensures { (g : GraphData) → IsGraph g → text_read gr_rules (gr_text g) ≡ Ok g }
 {}

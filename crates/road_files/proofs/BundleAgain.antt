@@ -10,7 +10,8 @@ use Rattle.road_text.specs.Texts.{text_of, spelled, AreLines}
 use Rattle.road_text.specs.Words.{word_of}
 use Rattle.graph_text.specs.GraphFiles.{RoadsSoFar, gr_line, gr_rules}
 use Rattle.graph_text.specs.WrittenGraphs.{arc_words, graph_lines, gr_text}
-use Rattle.graph_text.proofs.WrittenLines.{after, after_append, first_step, value_again, read_again, graph_after, graph_are_lines, graph_length}
+use Rattle.road_text.proofs.RoundTrip.{after, after_append, first_step, value_again, read_again}
+use Rattle.graph_text.proofs.WrittenGraphs.{graph_after, graph_are_lines, graph_length}
 use Rattle.road_files.specs.declared.questions.Kind.{Kind}
 use Rattle.road_files.specs.declared.questions.Kind.TheVariants.{Multi}
 use Rattle.road_files.specs.declared.questions.Questions.{Questions}

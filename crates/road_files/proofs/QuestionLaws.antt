@@ -8,10 +8,9 @@ use Rattle.std.proofs.lemmas.Fmt.{length-decimal-le}
 use Rattle.road_text.specs.Rules.{◌>>=◌, text_value, text_read}
 use Rattle.road_text.specs.Texts.{text_of, spelled, AreLines, IsWord, list_words}
 use Rattle.road_text.specs.Words.{word_of}
-use Rattle.road_text.proofs.RoundTrip.{decimal_is_number, word_of_number, word_by_test}
+use Rattle.road_text.proofs.RoundTrip.{decimal_is_number, word_of_number, word_by_test, after, value_again, read_again}
 use Rattle.graph_text.specs.Vertices.{IsVertexOf}
 use Rattle.graph_text.specs.Numbers.{vertex_in}
-use Rattle.graph_text.proofs.WrittenLines.{after, value_again, read_again}
 use Rattle.road_files.specs.Asked.{AskWithin, Question, asked_of, of_source, of_pair, of_list, sources_of, FromSource, BetweenPair, FromSources, AreQuestionsOf}
 use Rattle.road_files.specs.declared.questions.Questions.{Questions}
 use Rattle.road_files.specs.declared.questions.Kind.{Kind}

@@ -1,9 +1,11 @@
 -- A text that is written in pieces.
-use Rattle.std.proofs.Common.{◌≡◌, ℕ, List, [], ◌++◌, take, drop, Option, Result, Ok, Err, refl, sym, ap, ◌∙◌, append_assoc, take-append-drop, ◌+◌, append-nil, subst, ◌⊎◌, inl, inr}
+use Rattle.std.proofs.Common.{◌≡◌, ℕ, ◌<◌, ◌≤◌, List, [], ◌++◌, length, map, get_or, take, drop, Option, Result, Ok, Err, refl, sym, ap, ◌∙◌, append_assoc, take-append-drop, ◌+◌, append-nil, subst, ◌⊎◌, inl, inr, drop-cons, drop_of_length-le, add-one, arith}
+use Rattle.std.proofs.lemmas.List.{length-map, get_or-map}
 use Rattle.std.specs.Io.KnownBytes.{Appends, Keeps}
 use Rattle.std.specs.Result.{IsErrAnd}
 use Rattle.std.proofs.KnownBytes.{Appends-trans, Appends-nil, Appends-kept}
 use Rattle.road_text.specs.declared.ends.WriteFault.{WriteFault}
+use Rattle.road_text.specs.Texts.{text_of, spelled}
 use Rattle.road_text.specs.Written.{WrotePrefix, FailedAfterPrefix, Wrote}
 
 -- nothing was written yet
@@ -94,3 +96,48 @@ pub wrote_reported : (old new : Option (List ℕ)) (b a : ℕ) (given text : Lis
     WrotePrefix old new b a text [] ⊎ FailedAfterPrefix old new b a text
 wrote_reported old new b a given text e (Ok u) h = inl (subst (λ (t : List ℕ). WrotePrefix old new b a t []) e h)
 wrote_reported old new b a given text e (Err f) h = inr (subst (FailedAfterPrefix old new b a) e h)
+
+-- lines, one for each element of a list
+module _ {A : Type 0} (words : A → List (List ℕ)) where
+  -- the lines from the i-th on
+  pub lines_from : ℕ → List A → List ℕ
+  lines_from i xs = text_of (map words (drop i xs))
+
+  pub lines_next : (i : ℕ) (xs : List A) (d : A) → i < length xs → lines_from i xs ≡ spelled (words (get_or xs i d)) ++ lines_from (i + 1) xs
+  unfolding lines_from
+  lines_next i xs d lt = ap (λ ys. text_of (map words ys)) (drop-cons xs i d lt) ∙ ap (λ k. spelled (words (get_or xs i d)) ++ text_of (map words (drop k xs))) (sym (add-one i))
+
+  pub lines_start : (old : Option (List ℕ)) (b : ℕ) (xs : List A) → WrotePrefix old old b b (text_of (map words xs)) (lines_from 0 xs)
+  unfolding lines_from
+  lines_start old b xs = left_start old b (text_of (map words xs))
+
+  pub lines_end : (old new : Option (List ℕ)) (b a : ℕ) (text : List ℕ) (i : ℕ) (xs : List A) → length xs ≤ i → WrotePrefix old new b a text (lines_from i xs) → WrotePrefix old new b a text []
+  unfolding lines_from
+  lines_end old new b a text i xs le was = left_end old new b a text (text_of (map words (drop i xs))) (ap (λ ys. text_of (map words ys)) (drop_of_length-le xs le)) was
+
+  module _ (old mid new : Option (List ℕ)) (b m a : ℕ) (text line : List ℕ) (xs : List A) (i : ℕ) (d : A) (lt : i < length xs)
+      (is : line ≡ spelled (words (get_or xs i d))) (was : WrotePrefix old mid b m text (lines_from i xs)) where
+    pub line_left : WrotePrefix mid new m a line [] → WrotePrefix old new b a text (lines_from (i + 1) xs)
+    line_left piece = left_step old mid new b m a text (lines_from i xs) (spelled (words (get_or xs i d))) line (lines_from (i + 1) xs) (lines_next i xs d lt) is was piece
+
+    pub line_fell : FailedAfterPrefix mid new m a line → FailedAfterPrefix old new b a text
+    line_fell piece = fell_step old mid new b m a text (lines_from i xs) (spelled (words (get_or xs i d))) line (lines_from (i + 1) xs) (lines_next i xs d lt) is was piece
+
+-- the same where the elements are made of those of another list
+module _ {A B : Type 0} (words : A → List (List ℕ)) (f : B → A) (old mid new : Option (List ℕ)) (b m a : ℕ) (text line : List ℕ) (ys : List B) (i : ℕ) (e : B)
+    (lt : i < length ys) (is : line ≡ spelled (words (f (get_or ys i e)))) (was : WrotePrefix old mid b m text (lines_from words i (map f ys))) where
+  inside : i < length (map f ys)
+  inside = omega (arith, length-map ys f)
+
+  same : line ≡ spelled (words (get_or (map f ys) i (f e)))
+  same = is ∙ ap (λ x. spelled (words x)) (sym (get_or-map f ys i e (f e) lt))
+
+  pub made_left : WrotePrefix mid new m a line [] → WrotePrefix old new b a text (lines_from words (i + 1) (map f ys))
+  made_left piece = line_left words old mid new b m a text line (map f ys) i (f e) inside same was piece
+
+  pub made_fell : FailedAfterPrefix mid new m a line → FailedAfterPrefix old new b a text
+  made_fell piece = line_fell words old mid new b m a text line (map f ys) i (f e) inside same was piece
+
+pub made_end : {A B : Type 0} (words : A → List (List ℕ)) (f : B → A) (old new : Option (List ℕ)) (b a : ℕ) (text : List ℕ) (i : ℕ) (ys : List B) → length ys ≤ i →
+    WrotePrefix old new b a text (lines_from words i (map f ys)) → WrotePrefix old new b a text []
+made_end words f old new b a text i ys le was = lines_end words old new b a text i (map f ys) (omega (arith, length-map ys f)) was

@@ -2,7 +2,7 @@ use Rattle.std.proofs.Common.{map}
 use Rattle.road_text.specs.Texts.{text_of}
 use Rattle.road_text.specs.Written.{WrotePrefix}
 use Rattle.graph_text.specs.WrittenGraphs.{arc_words}
-use Rattle.graph_text.proofs.WrittenLines.{lines_from}
+use Rattle.road_text.proofs.WriteLaws.{lines_from}
 use Rattle.graph_text.proofs.writing.write_arcs.Given as goal
 
 abbrev pub invariant-loop-number : goal.invariant-loop-number

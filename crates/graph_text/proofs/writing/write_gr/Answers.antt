@@ -1,7 +1,7 @@
 use Rattle.std.proofs.Common.{◌∙◌, ℕ, ap}
 use Rattle.road_text.specs.Texts.{spelled}
 use Rattle.graph_text.specs.WrittenGraphs.{graph_words}
-use Rattle.graph_text.proofs.WrittenLines.{graph_then, graph_fell}
+use Rattle.graph_text.proofs.WrittenGraphs.{graph_then, graph_fell}
 use Rattle.road_text.proofs.WriteLaws.{fell_out}
 use Rattle.graph_text.proofs.writing.write_gr.Goals as goal
 

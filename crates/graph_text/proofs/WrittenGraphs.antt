@@ -1,7 +1,7 @@
--- Lines that are written one after the other, and read again by their rules: of any list, and of a graph.
-use Rattle.std.proofs.Common.{◌≡◌, ℕ, ◌+◌, ◌<◌, ◌≤◌, List, [], ◌++◌, length, drop, get_or, map, Option, Result, sym, ap, ◌∙◌, drop-cons, drop_of_length-le, add-one, arith, subst, ◌-◌, ◌∷◌, false, Ok, Err, refl, ◌*◌, ◌^◌, Some, None, lit<, codes, decimal, append_assoc, append-nil, length-append}
-use Rattle.std.proofs.lemmas.List.{length-map, get_or-map, get_or_default}
-use Rattle.std.specs.List.{join_with_byte, AllByRecursion}
+-- The lines of a graph: they are written one after the other, and read again.
+use Rattle.std.proofs.Common.{◌≡◌, ℕ, ◌+◌, ◌<◌, ◌≤◌, List, [], ◌++◌, length, get_or, map, Option, Result, ap, ◌∙◌, arith, subst, ◌-◌, ◌∷◌, Ok, refl, ◌*◌, ◌^◌, Some, None, lit<, codes, decimal, append_assoc, append-nil, length-append}
+use Rattle.std.proofs.lemmas.List.{get_or_default}
+use Rattle.std.specs.List.{AllByRecursion}
 use Rattle.std.proofs.lemmas.Bool.{le-ltb, ne_eqb, lt-ltb}
 use Rattle.std.proofs.lemmas.Fmt.{length-decimal-le}
 use Rattle.std.proofs.lemmas.List.Elements.{recursion_from_All}
@@ -9,57 +9,12 @@ use Rattle.road_graph.specs.GraphData.{GraphData, arc_of, IsGraph, JoinsVertices
 use Rattle.road_graph.specs.declared.RoadArc.{RoadArc}
 use Rattle.road_text.specs.Texts.{text_of, spelled, AreLines}
 use Rattle.road_text.specs.Written.{WrotePrefix, FailedAfterPrefix, Wrote}
-use Rattle.road_text.proofs.WriteLaws.{left_step, fell_step, left_end, left_start, wrote_then, fell_first}
-use Rattle.road_text.specs.Rules.{◌>>=◌, Rules, value_of_lines, at_line, text_value, text_read}
-use Rattle.road_text.proofs.RoundTrip.{fields_join, lines_text, decimal_is_number, word_of_number, word_by_test}
+use Rattle.road_text.proofs.WriteLaws.{wrote_then, fell_first}
+use Rattle.road_text.specs.Rules.{text_read}
+use Rattle.road_text.proofs.RoundTrip.{after, value_again, read_again, decimal_is_number, word_of_number, word_by_test}
 use Rattle.road_text.specs.Words.{word_of}
 use Rattle.graph_text.specs.WrittenGraphs.{graph_words, arc_words, gr_text, graph_lines}
 use Rattle.graph_text.specs.GraphFiles.{gr_problem, one_arc, gr_line, gr_rules, gr_end}
-
--- lines, one for each element of a list
-module _ {A : Type 0} (words : A → List (List ℕ)) where
-  -- the lines from the i-th on
-  pub lines_from : ℕ → List A → List ℕ
-  lines_from i xs = text_of (map words (drop i xs))
-
-  pub lines_next : (i : ℕ) (xs : List A) (d : A) → i < length xs → lines_from i xs ≡ spelled (words (get_or xs i d)) ++ lines_from (i + 1) xs
-  unfolding lines_from
-  lines_next i xs d lt = ap (λ ys. text_of (map words ys)) (drop-cons xs i d lt) ∙ ap (λ k. spelled (words (get_or xs i d)) ++ text_of (map words (drop k xs))) (sym (add-one i))
-
-  pub lines_start : (old : Option (List ℕ)) (b : ℕ) (xs : List A) → WrotePrefix old old b b (text_of (map words xs)) (lines_from 0 xs)
-  unfolding lines_from
-  lines_start old b xs = left_start old b (text_of (map words xs))
-
-  pub lines_end : (old new : Option (List ℕ)) (b a : ℕ) (text : List ℕ) (i : ℕ) (xs : List A) → length xs ≤ i → WrotePrefix old new b a text (lines_from i xs) → WrotePrefix old new b a text []
-  unfolding lines_from
-  lines_end old new b a text i xs le was = left_end old new b a text (text_of (map words (drop i xs))) (ap (λ ys. text_of (map words ys)) (drop_of_length-le xs le)) was
-
-  module _ (old mid new : Option (List ℕ)) (b m a : ℕ) (text line : List ℕ) (xs : List A) (i : ℕ) (d : A) (lt : i < length xs)
-      (is : line ≡ spelled (words (get_or xs i d))) (was : WrotePrefix old mid b m text (lines_from i xs)) where
-    pub line_left : WrotePrefix mid new m a line [] → WrotePrefix old new b a text (lines_from (i + 1) xs)
-    line_left piece = left_step old mid new b m a text (lines_from i xs) (spelled (words (get_or xs i d))) line (lines_from (i + 1) xs) (lines_next i xs d lt) is was piece
-
-    pub line_fell : FailedAfterPrefix mid new m a line → FailedAfterPrefix old new b a text
-    line_fell piece = fell_step old mid new b m a text (lines_from i xs) (spelled (words (get_or xs i d))) line (lines_from (i + 1) xs) (lines_next i xs d lt) is was piece
-
--- the same where the elements are made of those of another list
-module _ {A B : Type 0} (words : A → List (List ℕ)) (f : B → A) (old mid new : Option (List ℕ)) (b m a : ℕ) (text line : List ℕ) (ys : List B) (i : ℕ) (e : B)
-    (lt : i < length ys) (is : line ≡ spelled (words (f (get_or ys i e)))) (was : WrotePrefix old mid b m text (lines_from words i (map f ys))) where
-  inside : i < length (map f ys)
-  inside = omega (arith, length-map ys f)
-
-  same : line ≡ spelled (words (get_or (map f ys) i (f e)))
-  same = is ∙ ap (λ x. spelled (words x)) (sym (get_or-map f ys i e (f e) lt))
-
-  pub made_left : WrotePrefix mid new m a line [] → WrotePrefix old new b a text (lines_from words (i + 1) (map f ys))
-  made_left piece = line_left words old mid new b m a text line (map f ys) i (f e) inside same was piece
-
-  pub made_fell : FailedAfterPrefix mid new m a line → FailedAfterPrefix old new b a text
-  made_fell piece = line_fell words old mid new b m a text line (map f ys) i (f e) inside same was piece
-
-pub made_end : {A B : Type 0} (words : A → List (List ℕ)) (f : B → A) (old new : Option (List ℕ)) (b a : ℕ) (text : List ℕ) (i : ℕ) (ys : List B) → length ys ≤ i →
-    WrotePrefix old new b a text (lines_from words i (map f ys)) → WrotePrefix old new b a text []
-made_end words f old new b a text i ys le was = lines_end words old new b a text i (map f ys) (omega (arith, length-map ys f)) was
 
 -- arc number i + 1 is entry i of the arcs
 pub arc_at : (g : GraphData) (i : ℕ) → arc_of g (i + 1) ≡ get_or g.arcs i (record { tail = 0; head = 0; weight = 0 })
@@ -77,38 +32,6 @@ module _ (old new : Option (List ℕ)) (b a : ℕ) (line : List ℕ) where
   pub graph_fell : (g : GraphData) → line ≡ spelled (graph_words g.vertices (length g.arcs)) → FailedAfterPrefix old new b a line → FailedAfterPrefix old new b a (gr_text g)
   unfolding gr_text
   graph_fell g is was = fell_first old new b a (spelled (graph_words g.vertices (length g.arcs))) (text_of (map arc_words g.arcs)) (subst (FailedAfterPrefix old new b a) is was)
-
--- lines of words are read again by their rules
-module _ {S V : Type 0} (rules : Rules S V) where
-  -- what is read after lines of words
-  abbrev pub after : S → List (List (List ℕ)) → Result S ℕ
-  after s [] = Ok s
-  after s (l ∷ ls) = rules.line s l >>= λ t. after t ls
-
-  pub first_step : (s t : S) (l : List (List ℕ)) (ls : List (List (List ℕ))) (r : Result S ℕ) → rules.line s l ≡ r → (r >>= λ u. after u ls) ≡ Ok t →
-      (u : S) × (rules.line s l ≡ Ok u) × (after u ls ≡ Ok t)
-  first_step s t l ls (Ok u) e h = (u, e, h)
-  first_step s t l ls (Err n) e h = cc
-
-  pub after_append : (s t : S) (ls more : List (List (List ℕ))) → after s ls ≡ Ok t → after s (ls ++ more) ≡ after t more
-  after_append s t [] more e = let same : s ≡ t = cc in ap (λ u. after u more) same
-  after_append s t (l ∷ ls) more e =
-      let p = first_step s t l ls (rules.line s l) refl e in
-      ap (λ r. r >>= λ u. after u (ls ++ more)) p.1 ∙ after_append p.0 t ls more p.2
-
-  read_lines : (at : ℕ) (s t : S) (v : V) (ls : List (List (List ℕ))) → AreLines ls → after s ls ≡ Ok t → rules.end t ≡ Ok v → value_of_lines false rules at s (map (join_with_byte 32) ls) ≡ Ok v
-  read_lines at s t v [] h e f = let same : s ≡ t = cc in ap (λ u. at_line at (rules.end u)) same ∙ ap (at_line at) f
-  read_lines at s t v (l ∷ ls) h e f =
-      let p = first_step s t l ls (rules.line s l) refl e in
-      ap (λ fs. at_line at (rules.line s fs) >>= λ u. value_of_lines false rules (at + 1) u (map (join_with_byte 32) ls)) (fields_join l h.0)
-      ∙ ap (λ r. at_line at r >>= λ u. value_of_lines false rules (at + 1) u (map (join_with_byte 32) ls)) p.1 ∙ read_lines (at + 1) p.0 t v ls h.1 p.2 f
-
-  -- a text of lines that the rules take, and whose end they take
-  pub value_again : (t : S) (v : V) (ls : List (List (List ℕ))) → AreLines ls → after rules.start ls ≡ Ok t → rules.end t ≡ Ok v → text_value rules (text_of ls) ≡ Ok v
-  value_again t v ls h e f = ap (λ xs. value_of_lines false rules 1 rules.start xs) (lines_text ls h) ∙ read_lines 1 rules.start t v ls h e f
-
-  pub read_again : (v : V) (text : List ℕ) → length text ≤ 4294967296 → text_value rules text ≡ Ok v → text_read rules text ≡ Ok v
-  read_again v text few h = rw (le-ltb 4294967296 (length text) few) h
 
 -- an arc that a graph with n vertices may have
 abbrev pub IsArcOf : ℕ → RoadArc → Type 0

@@ -1,7 +1,8 @@
--- Arcs as a caller in C lends them.
-use Rattle.std.specs.Prelude.{ℕ, List, map}
-use Rattle.road_graph.specs.GraphData.{GraphData}
+-- Arcs as a caller in C lends them, and why no graph is built of them.
+use Rattle.std.specs.Prelude.{◌≡◌, ℕ, ◌<◌, ◌⊎◌, ◌↔◌, [], ◌∷◌, List, ℤ, pos, length, map}
+use Rattle.road_graph.specs.GraphData.{GraphData, IsGraph}
 use Rattle.road_graph.specs.declared.RoadArc.{RoadArc}
+use Rattle.answer_lists.specs.Answers.{IsOneOf}
 use Rattle.libdiffuse.specs.declared.arcs.DiffuseArc.{DiffuseArc}
 
 -- the arc of the graph, from a lent arc
@@ -11,3 +12,18 @@ arc_from a = record { tail = a.tail; head = a.head; weight = a.weight }
 -- the graph of n vertices and these arcs
 abbrev pub lent : ℕ → List DiffuseArc → GraphData
 lent n arcs = record { vertices = n; arcs = map arc_from arcs }
+
+-- there are more vertices or arcs than a graph may have
+abbrev pub IsTooLarge : ℕ → List DiffuseArc → Type 0
+IsTooLarge vertices arcs = (33554432 < vertices) ⊎ (134217728 < length arcs)
+
+-- a graph can be built: there are not too many vertices or arcs, and each end of an arc is a vertex
+pub record Fits (vertices : ℕ) (arcs : List DiffuseArc) : Type 0 where
+  pub small : IsTooLarge vertices arcs → ⊥
+  pub roads : IsGraph (lent vertices arcs)
+
+-- why no graph was built: out of memory, too many vertices or arcs, or an arc with an end that is no vertex
+pub record IsFault (vertices : ℕ) (arcs : List DiffuseArc) (status : ℤ) : Type 0 where
+  pub one_of : IsOneOf (3 ∷ 16 ∷ 17 ∷ []) status
+  pub limit : (status ≡ pos 16) ↔ IsTooLarge vertices arcs
+  pub bad : status ≡ pos 17 → IsGraph (lent vertices arcs) → ⊥

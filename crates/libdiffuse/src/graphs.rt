@@ -2,15 +2,16 @@
 
 ghost use Rattle.std.specs.Prelude.{◌≡◌, ◌≢◌, ◌↔◌, ◌∷◌, [], length, pos, MatchOption, Some, None, true};
 ghost use Rattle.road_graph.specs.GraphData.{IsGraph};
-ghost use Rattle.libdiffuse.specs.Answers.{IsOneOf, IsTooLarge};
+ghost use Rattle.answer_lists.specs.Answers.{IsOneOf};
 ghost use Rattle.libdiffuse.specs.Holding.{has_graph};
-ghost use Rattle.libdiffuse.specs.Lent.{lent};
+ghost use Rattle.libdiffuse.specs.Lent.{IsTooLarge, lent};
 
 use crate::arcs::DiffuseArc;
 use crate::handle::{DiffuseGraph, put, take};
 use crate::opening::owner_of;
 use crate::owners::another;
-use crate::status::{CLOSED, DONE, MEMORY, OPEN};
+use crate::status::{CLOSED, OPEN};
+use answer_lists::{DONE, MEMORY};
 use std::alloc::{AllocError, Global};
 
 /// Opens a closed handle with the graph of these arcs. They may be changed or freed afterwards.

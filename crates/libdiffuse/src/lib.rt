@@ -4,23 +4,15 @@
 ghost use Rattle.std.specs.Prelude.{◌≡◌};
 
 mod arcs;
-mod choice;
-mod evidence;
 mod graphs;
 mod handle;
 mod held;
-mod judging;
-mod lines;
 mod loose;
 mod opening;
 mod owners;
 mod questions;
 mod reading;
-mod route;
-mod sources;
 mod status;
-mod tree;
-mod vertices;
 
 pub use arcs::DiffuseArc;
 pub use graphs::{

@@ -3,12 +3,13 @@
 ghost use Rattle.std.specs.Prelude.{◌≡◌, ◌≤◌, ◌∷◌, [], length, pos, IfOk, IfErr};
 ghost use Rattle.std.specs.Arc.{arc_value};
 ghost use Rattle.road_graph.specs.GraphData.{IsGraph};
-ghost use Rattle.libdiffuse.specs.Answers.{Fits, IsFault, IsOneOf};
-ghost use Rattle.libdiffuse.specs.Lent.{lent};
+ghost use Rattle.answer_lists.specs.Answers.{IsOneOf};
+ghost use Rattle.libdiffuse.specs.Lent.{Fits, IsFault, lent};
 
 use crate::arcs::{DiffuseArc, roads_of};
 use crate::owners::owned;
-use crate::status::{LIMIT, MEMORY, NO_VERTEX};
+use crate::status::LIMIT;
+use answer_lists::{MEMORY, NO_VERTEX};
 use road_graph::{GraphFault, OutGraph, RoadArc};
 use std::alloc::{AllocError, Global};
 use std::sync::Arc;

@@ -1,15 +1,14 @@
 //! The calls that answer questions: a route, a tree, and whether a tree is right.
 
 ghost use Rattle.std.specs.Prelude.{◌≡◌, ◌↔◌, ◌<◌, ◌≤◌, ◌+◌, ◌∷◌, [], length, pos, None};
-ghost use Rattle.libdiffuse.specs.Answers.{IsFound, ReportsRoute, IsOneOf, OfGraph, HasBoth};
-ghost use Rattle.libdiffuse.specs.Choice.{IsAlgebra, OfAlgebra};
-ghost use Rattle.libdiffuse.specs.Tree.{AreTreeLists, IsFirstRefuted, ReportsRefusals};
+ghost use Rattle.answer_lists.specs.Answers.{IsFound, ReportsRoute, IsOneOf, HasBoth};
+ghost use Rattle.answer_lists.specs.Choice.{IsAlgebra, OfAlgebra};
+ghost use Rattle.answer_lists.specs.Tree.{AreTreeLists, IsFirstRefuted, ReportsRefusals};
+ghost use Rattle.libdiffuse.specs.Holding.{OfGraph};
 
 use crate::handle::{DiffuseGraph, put, take};
-use crate::judging::check_tree;
-use crate::route::answer_by;
 use crate::status::CLOSED;
-use crate::tree::answer_tree;
+use answer_lists::{answer_route, answer_tree, check_tree};
 use road_graph::Vertex;
 use std::alloc::Global;
 
@@ -47,7 +46,7 @@ pub extern "C" fn diffuse_graph_route(
         return CLOSED;
     };
     let (s, t) = (Vertex(source), Vertex(target));
-    let status = answer_by(alloc, algebra, limit, &owner, s, t, code, hops, room);
+    let status = answer_route(alloc, algebra, limit, &owner, s, t, code, hops, room);
     put(handle, owner);
     status
 }

@@ -4,13 +4,14 @@ ghost use Rattle.std.specs.Prelude.{◌≡◌, ◌⊎◌, ◌≢◌, ◌↔◌, 
 ghost use Rattle.std.specs.Arc.{arc_value};
 ghost use Rattle.road_text.specs.Rules.{text_read};
 ghost use Rattle.graph_text.specs.GraphFiles.{gr_rules};
-ghost use Rattle.libdiffuse.specs.Answers.{IsOneOf};
+ghost use Rattle.answer_lists.specs.Answers.{IsOneOf};
 ghost use Rattle.libdiffuse.specs.Holding.{has_graph};
 ghost use Rattle.libdiffuse.specs.Texts.{IsGraphOf, IsReadFaultOf, IsFaultReported};
 
 use crate::handle::{DiffuseGraph, put};
 use crate::owners::owned;
-use crate::status::{DONE, MEMORY, OPEN};
+use crate::status::OPEN;
+use answer_lists::{DONE, MEMORY};
 use ghost_count::Count;
 use graph_text::read_gr_as;
 use road_graph::OutGraph;

@@ -1,0 +1,6 @@
+mod Entering
+mod Filling
+mod Judged
+mod Showing
+mod Spelled
+mod Telling

@@ -1,0 +1,23 @@
+use Rattle.std.proofs.Common.{rules, ◌≡◌, ◌<◌, ◌∙◌, length, sym, ap, take, Option}
+use Rattle.answer_text.specs.declared.answers.Reached.{Reached}
+use Rattle.answer_check.specs.declared.evidence.Evidence.{Evidence}
+use Rattle.answer_check.specs.Evidence.{candidate_from, evidence_by, either}
+use Rattle.answer_lists.specs.Shown.{shown_by, all_shown}
+use Rattle.answer_lists.specs.Tree.{lines_of}
+use Rattle.answer_lists.proofs.Showing.{shown_more}
+use Rattle.answer_lists.proofs.evidence.evidence_of.Goals as goal
+
+pub loop-road-preserved : goal.loop-road-preserved
+loop-road-preserved g c =
+    let a = c.args in
+    let A = g.A.PathAlgebra.meaning a.algebra in
+    let lines = lines_of a.codes.now a.hops.now a.parents.now in
+    let i = c.loop-road.road-index in
+    let r = c.road-item.result in
+    let lt : i < length a.roads.now = search rules in
+    let more = shown_more A g.A.PathAlgebra.order lines a.line a.value a.roads.now i r lt c.road-item.is in
+    let shown : c.evidence_by.result ≡ shown_by A g.A.PathAlgebra.order lines a.line a.value r =
+    c.evidence_by.ensures ∙ ap (evidence_by g.A.PathAlgebra.order r.head a.line a.value)
+    (c.candidate-candidate.ensures ∙ ap (λ (near : Option Reached). candidate_from A near r.weight) c.line_at-near.ensures) in
+    c.or-evidence.ensures ∙ ap (λ (s : Evidence). either s c.evidence_by.result) c.loop-road.invariant
+    ∙ ap (λ (t : Evidence). either (all_shown A g.A.PathAlgebra.order lines a.line a.value (take i a.roads.now)) t) shown ∙ sym more

@@ -1,0 +1,13 @@
+use Rattle.std.proofs.Common.{ap, ◌∙◌}
+use Rattle.path_algebra.specs.Walks.{label_of}
+use Rattle.route_tree.specs.Tree.{hops_of, parent_of}
+use Rattle.answer_lists.specs.Tree.{code_for, number_for}
+use Rattle.answer_lists.proofs.Telling.{told_at}
+use Rattle.answer_lists.proofs.tree.numbers_of.Goals as goal
+
+pub returns : goal.returns
+returns g c =
+    let a = c.args in let A = g.A.PathAlgebra.meaning a.algebra in
+    told_at A c.laws_hold.ensures.lawful c.requires.low a.graph.now c.holds.ensures a.sources.now a.v (label_of a.labels.now a.v) (hops_of a.tree.now a.v) (parent_of a.tree.now a.v)
+    (c.labels_and_trees_agree.ensures a.graph.now a.sources.now a.labels.now a.tree.now c.requires.best c.requires.tree a.v c.requires.vertex)
+    _ _ _ (c.code_for.ensures ∙ ap (code_for A) c.of.ensures) (c.hops_for.ensures ∙ ap number_for c.hops.ensures) (c.parent_for.ensures ∙ ap number_for c.parent.ensures)

@@ -1,0 +1,41 @@
+-- What a status means, and what is written with it.
+use Rattle.std.specs.Prelude.{◌≡◌, ℕ, ◌+◌, ◌⊎◌, [], ◌∷◌, List, ℤ, pos, length, take}
+use Rattle.road_graph.specs.GraphData.{GraphData, HasVertex}
+use Rattle.path_algebra.specs.Algebra.{Algebra}
+use Rattle.path_algebra.specs.Walks.{IsBestCode, AreHops, IsUnreached}
+use Rattle.route_tree.specs.Told.{IsParentRoute}
+
+-- the status is one of these
+abbrev pub IsOneOf : List ℕ → ℤ → Type 0
+IsOneOf [] status = ⊥
+IsOneOf (n ∷ ns) status = (status ≡ pos n) ⊎ IsOneOf ns status
+
+-- each list has a place for each of n vertices
+abbrev pub HavePlaces : ℕ → List ℕ → List ℕ → List ℕ → Type 0
+HavePlaces n codes hops parents = (length codes ≡ n) × (length hops ≡ n) × (length parents ≡ n)
+
+-- both are vertices
+abbrev pub HasBoth : GraphData → ℕ → ℕ → Type 0
+HasBoth g source target = HasVertex g source × HasVertex g target
+
+-- there is a walk: the route is written, or is longer than the room for it
+abbrev pub IsFound : ℤ → Type 0
+IsFound status = (status ≡ pos 0) ⊎ (status ≡ pos 2)
+
+-- no walk from the source to the target has a value
+pub record IsNoRoute {V : Type 0} (A : Algebra V) (g : GraphData) (source target : ℕ) : Type 0 where
+  pub unreached : IsUnreached A g (source ∷ []) target
+
+-- the code of the best value from a source to a target, the least hops, and the route by least parents, of that length
+pub record IsRouteFound {V : Type 0} (A : Algebra V) (g : GraphData) (source target code hops : ℕ) (route : List ℕ) : Type 0 where
+  pub best : IsBestCode A g (source ∷ []) target code
+  pub near : AreHops A g (source ∷ []) target hops
+  pub parents : IsParentRoute A g (source ∷ []) target route
+  pub count : length route ≡ hops + 1
+
+-- what the status of a route means, and what the places of the caller contain
+pub record ReportsRoute {V : Type 0} (A : Algebra V) (g : GraphData) (source target : ℕ) (status : ℤ) (code hops : ℕ) (room : List ℕ) : Type 0 where
+  pub best : IsFound status → IsBestCode A g (source ∷ []) target code
+  pub near : IsFound status → AreHops A g (source ∷ []) target hops
+  pub route : status ≡ pos 0 → IsParentRoute A g (source ∷ []) target (take (hops + 1) room)
+  pub none : status ≡ pos 1 → IsNoRoute A g source target

@@ -1,0 +1,4 @@
+pub mod Answers
+pub mod Choice
+pub mod Shown
+pub mod Tree

@@ -1,0 +1,136 @@
+//! The check of a tree in three lists.
+
+ghost use Rattle.std.specs.Prelude.{◌≡◌, ◌∷◌, [], length, pos, All, IfOk, MatchOption};
+ghost use Rattle.road_graph.specs.GraphData.{HasVertex};
+ghost use Rattle.answer_check.specs.Reasons.{reason_number};
+ghost use Rattle.answer_lists.specs.Answers.{HavePlaces, IsOneOf};
+ghost use Rattle.answer_lists.specs.Choice.{OfAlgebra};
+ghost use Rattle.answer_lists.specs.Tree.{lines_of, AreTreeLists, IsFirstRefuted, IsFirstPlace, ReportsRefusals};
+
+use crate::choice::with_algebra;
+use crate::sources::{are_vertices, vertices_of};
+use crate::status::{DONE, MEMORY, NO_ALGEBRA, NO_ROOM, NO_VERTEX, WRONG};
+use crate::vertices::reason_at;
+use answer_check::{Reason, marks_of};
+use path_algebra::{PathAlgebra, laws_hold};
+use road_graph::{InGraph, Memory, OutGraph, Vertex};
+use std::alloc::Global;
+
+/// The first vertex with a reason against its line, and the first such reason. `marks` says which vertices are sources.
+fn first_place<A: PathAlgebra>(
+    algebra: A,
+    graph: &InGraph,
+    codes: &[u64],
+    hops: &[u32],
+    parents: &[u32],
+    marks: &[bool],
+) -> Option<(Vertex, Reason)>
+    requires places { HavePlaces graph.now.vertices codes.now hops.now parents.now }
+    requires marks { length marks.now ≡ graph.now.vertices }
+    ensures { IsFirstPlace (A.meaning algebra) graph.now (lines_of codes.now hops.now parents.now)
+        marks.now result }
+{
+    laws_hold(algebra);
+    graph.holds();
+    for i in 0..marks.len() {
+        let v = Vertex(i as u32 + 1);
+        if let Some(reason) = reason_at(algebra, graph, codes, hops, parents, marks, v) {
+            return Some((v, reason));
+        }
+    }
+    None
+}
+
+/// The first wrong vertex, with the first reason; none if the lists are the tree.
+fn judge<A: PathAlgebra>(
+    alloc: Global,
+    algebra: A,
+    graph: &OutGraph,
+    sources: &[u32],
+    codes: &[u64],
+    hops: &[u32],
+    parents: &[u32],
+) -> Result<Option<(Vertex, Reason)>, Memory>
+    requires sources { All (HasVertex graph.now) sources.now }
+    requires places { HavePlaces graph.now.vertices codes.now hops.now parents.now }
+    ensures { IfOk result (λ o. MatchOption o (AreTreeLists (A.meaning algebra) graph.now sources.now codes.now hops.now parents.now)
+        (λ p. IsFirstRefuted (A.meaning algebra) graph.now sources.now codes.now hops.now parents.now p.0 (reason_number p.1))) }
+{
+    laws_hold(algebra);
+    let list = vertices_of(alloc, sources)?;
+    let marks = marks_of(alloc, graph.vertices() as usize, &list)?;
+    let back = InGraph::of(alloc, graph)?;
+    Ok(first_place(algebra, &back, codes, hops, parents, &marks))
+}
+
+/// Judges a tree and reports the first wrong vertex.
+fn answer<A: PathAlgebra>(
+    alloc: Global,
+    algebra: A,
+    graph: &OutGraph,
+    sources: &[u32],
+    codes: &[u64],
+    hops: &[u32],
+    parents: &[u32],
+    vertex: &mut u32,
+    reason: &mut u32,
+) -> i32
+    requires sources { All (HasVertex graph.now) sources.now }
+    requires places { HavePlaces graph.now.vertices codes.now hops.now parents.now }
+    ensures right { result ≡ pos 0 → AreTreeLists (A.meaning algebra) graph.now sources.now codes.now
+        hops.now parents.now }
+    ensures wrong { result ≡ pos 6 → IsFirstRefuted (A.meaning algebra) graph.now sources.now
+        codes.now hops.now parents.now vertex.new reason.new }
+    ensures kept { (result ≡ pos 6 → ⊥) → (vertex.new ≡ vertex.old) × (reason.new ≡ reason.old) }
+    ensures status { IsOneOf (0 ∷ 3 ∷ 6 ∷ []) result }
+{
+    match judge(alloc, algebra, graph, sources, codes, hops, parents) {
+        Ok(None) => DONE,
+        Ok(Some((v, against))) => {
+            *vertex = v.0;
+            *reason = against.number();
+            WRONG
+        }
+        Err(Memory) => MEMORY,
+    }
+}
+
+/// Judges a tree by the algebra of a number and reports the first wrong vertex, if each source is a vertex, each list has
+/// a place for each vertex and there is such an algebra.
+pub fn check_tree(
+    alloc: Global,
+    number: u32,
+    limit: u64,
+    graph: &OutGraph,
+    sources: &[u32],
+    codes: &[u64],
+    hops: &[u32],
+    parents: &[u32],
+    vertex: &mut u32,
+    reason: &mut u32,
+) -> i32
+    ensures right { OfAlgebra number limit (λ V A. result ≡ pos 0 → AreTreeLists A graph.now
+        sources.now codes.now hops.now parents.now) }
+    ensures wrong { OfAlgebra number limit (λ V A. result ≡ pos 6 → IsFirstRefuted A graph.now
+        sources.now codes.now hops.now parents.now vertex.new reason.new) }
+    ensures kept { (result ≡ pos 6 → ⊥) → (vertex.new ≡ vertex.old) × (reason.new ≡ reason.old) }
+    ensures refusals { ReportsRefusals graph.now number limit sources.now codes.now hops.now
+        parents.now result }
+    ensures status { IsOneOf (0 ∷ 2 ∷ 3 ∷ 6 ∷ 17 ∷ 43 ∷ []) result }
+{
+    if !are_vertices(graph, sources) {
+        return NO_VERTEX;
+    }
+    let n = graph.vertices() as usize;
+    if codes.len() != n || hops.len() != n || parents.len() != n {
+        return NO_ROOM;
+    }
+    with_algebra!(
+        number,
+        limit,
+        NO_ALGEBRA,
+        |algebra| answer(
+            alloc, algebra, graph, sources, codes, hops, parents, vertex, reason
+        )
+    )
+}

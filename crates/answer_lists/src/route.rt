@@ -1,0 +1,131 @@
+//! A route, written to memory that the caller lends.
+
+ghost use Rattle.std.specs.Prelude.{◌≡◌, ◌≤◌, ◌<◌, ◌+◌, ◌↔◌, ◌∷◌, [], length, take, pos, IfOk, MatchOption};
+ghost use Rattle.road_graph.specs.GraphData.{HasVertex};
+ghost use Rattle.answer_lists.specs.Answers.{IsFound, IsOneOf, IsNoRoute, IsRouteFound, ReportsRoute, HasBoth};
+ghost use Rattle.answer_lists.specs.Choice.{IsAlgebra, OfAlgebra};
+
+use crate::choice::with_algebra;
+use crate::status::{DONE, MEMORY, NO_ALGEBRA, NO_ROOM, NO_ROUTE, NO_VERTEX};
+use path_algebra::PathAlgebra;
+use path_plain::solve_outgoing;
+use road_graph::{InGraph, Memory, OutGraph, Vertex};
+use route_tree::{PairRoute, route_outgoing};
+use std::alloc::Global;
+
+/// The best code and the route; none if no walk to the target has a value.
+fn find<A: PathAlgebra>(
+    alloc: Global,
+    algebra: A,
+    graph: &OutGraph,
+    source: Vertex,
+    target: Vertex,
+) -> Result<Option<(u64, PairRoute)>, Memory>
+    requires source { HasVertex graph.now source }
+    requires target { HasVertex graph.now target }
+    ensures { IfOk result (λ o. MatchOption o (IsNoRoute (A.meaning algebra) graph.now source target)
+        (λ r. IsRouteFound (A.meaning algebra) graph.now source target r.0 r.1.hops r.1.vertices.items)) }
+{
+    graph.holds();
+    let labels = solve_outgoing(alloc, algebra, graph, &[source])?;
+    let back = InGraph::of(alloc, graph)?;
+    let Some(route) = route_outgoing(alloc, algebra, graph, &back, source, target, &labels)? else {
+        return Ok(None);
+    };
+    match labels.of(target) {
+        Some(value) => Ok(Some((algebra.code(value), route))),
+        None => Ok(None),
+    }
+}
+
+/// Copies the vertices of a route into the room.
+fn copy(list: &[Vertex], room: &mut [u32])
+    requires { length list.now ≤ length room.old }
+    ensures { take (length list.now) room.new ≡ list.now }
+{
+    for i in 0..list.len() {
+        let v = list[i];
+        room[i] = v.0;
+    }
+}
+
+/// Writes a route, if the room is long enough.
+fn write_route(route: &PairRoute, room: &mut [u32]) -> i32
+    requires { length route.now.vertices.items ≡ route.now.hops + 1 }
+    ensures found { IsFound result }
+    ensures route { result ≡ pos 0 → take (route.now.hops + 1) room.new ≡ route.now.vertices.items }
+    ensures short { result ≡ pos 2 → length room.old < route.now.hops + 1 }
+    ensures long { result ≡ pos 0 → route.now.hops + 1 ≤ length room.old }
+    ensures kept { result ≡ pos 2 → room.new ≡ room.old }
+{
+    if room.len() < route.vertices.len() {
+        return NO_ROOM;
+    }
+    copy(&route.vertices, room);
+    DONE
+}
+
+/// Finds a route and writes it.
+fn answer<A: PathAlgebra>(
+    alloc: Global,
+    algebra: A,
+    graph: &OutGraph,
+    source: Vertex,
+    target: Vertex,
+    code: &mut u64,
+    hops: &mut u32,
+    room: &mut [u32],
+) -> i32
+    requires { HasBoth graph.now source target }
+    ensures tells { ReportsRoute (A.meaning algebra) graph.now source target result code.new hops.new
+        room.new }
+    ensures short { result ≡ pos 2 → length room.old < hops.new + 1 }
+    ensures long { result ≡ pos 0 → hops.new + 1 ≤ length room.old }
+    ensures room { (result ≡ pos 0 → ⊥) → room.new ≡ room.old }
+    ensures places { (IsFound result → ⊥) → (code.new ≡ code.old) × (hops.new ≡ hops.old) }
+    ensures status { IsOneOf (0 ∷ 1 ∷ 2 ∷ 3 ∷ []) result }
+{
+    match find(alloc, algebra, graph, source, target) {
+        Ok(Some((value, route))) => {
+            *code = value;
+            *hops = route.hops;
+            write_route(&route, room)
+        }
+        Ok(None) => NO_ROUTE,
+        Err(Memory) => MEMORY,
+    }
+}
+
+/// Finds a route by the algebra of a number and writes it, if there is such an algebra and both are vertices.
+pub fn answer_route(
+    alloc: Global,
+    number: u32,
+    limit: u64,
+    graph: &OutGraph,
+    source: Vertex,
+    target: Vertex,
+    code: &mut u64,
+    hops: &mut u32,
+    room: &mut [u32],
+) -> i32
+    ensures tells { OfAlgebra number limit (λ V A. ReportsRoute A graph.now source target result
+        code.new hops.new room.new) }
+    ensures short { result ≡ pos 2 → length room.old < hops.new + 1 }
+    ensures long { result ≡ pos 0 → hops.new + 1 ≤ length room.old }
+    ensures room { (result ≡ pos 0 → ⊥) → room.new ≡ room.old }
+    ensures places { (IsFound result → ⊥) → (code.new ≡ code.old) × (hops.new ≡ hops.old) }
+    ensures vertex { (result ≡ pos 17) ↔ (HasBoth graph.now source target → ⊥) }
+    ensures algebra { (result ≡ pos 43) ↔ (HasBoth graph.now source target ×
+        (IsAlgebra number limit → ⊥)) }
+    ensures status { IsOneOf (0 ∷ 1 ∷ 2 ∷ 3 ∷ 17 ∷ 43 ∷ []) result }
+{
+    if !graph.has(source) || !graph.has(target) {
+        return NO_VERTEX;
+    }
+    with_algebra!(
+        number,
+        limit,
+        NO_ALGEBRA,
+        |algebra| answer(alloc, algebra, graph, source, target, code, hops, room)
+    )
+}

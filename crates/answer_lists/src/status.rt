@@ -1,0 +1,16 @@
+//! The status numbers of answers.
+
+/// The answer is written.
+pub const DONE: i32 = 0;
+/// No walk to the target has a value.
+pub const NO_ROUTE: i32 = 1;
+/// The room for the answer is too short, or a list does not have just one place for each vertex.
+pub const NO_ROOM: i32 = 2;
+/// Out of memory.
+pub const MEMORY: i32 = 3;
+/// The lists are not the tree.
+pub const WRONG: i32 = 6;
+/// A vertex or an arc's end is out of range.
+pub const NO_VERTEX: i32 = 17;
+/// The number names no algebra, or its limit is too great.
+pub const NO_ALGEBRA: i32 = 43;

@@ -1,0 +1,168 @@
+//! A tree, written to three lists of the caller.
+
+ghost use Rattle.std.specs.Prelude.{◌≡◌, ◌∷◌, [], pos, IfOk};
+ghost use Rattle.std.specs.List.{All};
+ghost use Rattle.road_graph.specs.GraphData.{HasVertex};
+ghost use Rattle.path_algebra.specs.Walks.{AreBest};
+ghost use Rattle.route_tree.specs.Tree.{IsTree};
+ghost use Rattle.answer_text.specs.IsAnswer.{IsVertexLine};
+ghost use Rattle.answer_lists.specs.Answers.{HavePlaces, IsOneOf};
+ghost use Rattle.answer_lists.specs.Choice.{OfAlgebra};
+ghost use Rattle.answer_lists.specs.Tree.{AreTreeLists, ReportsRefusals, HasLowCodes, line_of, number_for, code_for};
+
+use crate::choice::with_algebra;
+use crate::lines::NO_CODE;
+use crate::sources::{are_vertices, vertices_of};
+use crate::status::{DONE, MEMORY, NO_ALGEBRA, NO_ROOM, NO_VERTEX};
+use path_algebra::{Labels, PathAlgebra, laws_hold};
+use road_graph::{Memory, OutGraph, Vertex};
+use route_tree::{Tree, labels_and_trees_agree};
+use std::alloc::Global;
+use tree_search::solve_with_tree;
+
+fn code_for<A: PathAlgebra>(algebra: A, value: Option<A::Value>) -> u64
+    ensures { result ≡ code_for (A.meaning algebra) value }
+{
+    match value {
+        Some(value) => algebra.code(value),
+        None => NO_CODE,
+    }
+}
+
+fn hops_for(hops: Option<u32>) -> u32
+    ensures { result ≡ number_for hops }
+{
+    match hops {
+        Some(hops) => hops,
+        None => 0,
+    }
+}
+
+fn parent_for(parent: Option<Vertex>) -> u32
+    ensures { result ≡ number_for parent }
+{
+    match parent {
+        Some(parent) => parent.0,
+        None => 0,
+    }
+}
+
+/// The three numbers of a vertex.
+fn numbers_of<A: PathAlgebra>(
+    algebra: A,
+    graph: &OutGraph,
+    sources: &[Vertex],
+    labels: &Labels<A::Value>,
+    tree: &Tree,
+    v: Vertex,
+) -> (u64, u32, u32)
+    requires low { HasLowCodes (A.meaning algebra) }
+    requires vertex { HasVertex graph.now v }
+    requires best { AreBest (A.meaning algebra) graph.now sources.now labels.now }
+    requires tree { IsTree (A.meaning algebra) graph.now sources.now tree.now }
+    ensures { IsVertexLine (A.meaning algebra) graph.now sources.now v
+        (line_of result.0 result.1 result.2) }
+{
+    graph.holds();
+    laws_hold(algebra);
+    labels_and_trees_agree(algebra);
+    (
+        code_for(algebra, labels.of(v)),
+        hops_for(tree.hops(v)),
+        parent_for(tree.parent(v)),
+    )
+}
+
+/// Writes a tree to three lists.
+fn write_lists<A: PathAlgebra>(
+    algebra: A,
+    graph: &OutGraph,
+    sources: &[Vertex],
+    labels: &Labels<A::Value>,
+    tree: &Tree,
+    codes: &mut [u64],
+    hops: &mut [u32],
+    parents: &mut [u32],
+)
+    requires low { HasLowCodes (A.meaning algebra) }
+    requires places { HavePlaces graph.now.vertices codes.old hops.old parents.old }
+    requires best { AreBest (A.meaning algebra) graph.now sources.now labels.now }
+    requires tree { IsTree (A.meaning algebra) graph.now sources.now tree.now }
+    ensures { AreTreeLists (A.meaning algebra) graph.now sources.now codes.new hops.new
+        parents.new }
+{
+    graph.holds();
+    for i in 0..codes.len() {
+        let v = Vertex(i as u32 + 1);
+        let (code, near, parent) = numbers_of(algebra, graph, sources, labels, tree, v);
+        codes[i] = code;
+        hops[i] = near;
+        parents[i] = parent;
+    }
+}
+
+/// Finds a tree and writes it.
+fn answer<A: PathAlgebra>(
+    alloc: Global,
+    algebra: A,
+    graph: &OutGraph,
+    sources: &[u32],
+    codes: &mut [u64],
+    hops: &mut [u32],
+    parents: &mut [u32],
+) -> i32
+    requires low { HasLowCodes (A.meaning algebra) }
+    requires sources { All (HasVertex graph.now) sources.now }
+    requires places { HavePlaces graph.now.vertices codes.old hops.old parents.old }
+    ensures tree { result ≡ pos 0 → AreTreeLists (A.meaning algebra) graph.now sources.now codes.new
+        hops.new parents.new }
+    ensures kept { (result ≡ pos 0 → ⊥) → (codes.new ≡ codes.old) × (hops.new ≡ hops.old) ×
+        (parents.new ≡ parents.old) }
+    ensures status { IsOneOf (0 ∷ 3 ∷ []) result }
+{
+    let Ok(list) = vertices_of(alloc, sources) else {
+        return MEMORY;
+    };
+    match solve_with_tree(alloc, algebra, graph, &list) {
+        Ok((labels, tree)) => {
+            write_lists(algebra, graph, &list, &labels, &tree, codes, hops, parents);
+            DONE
+        }
+        Err(Memory) => MEMORY,
+    }
+}
+
+/// Finds a tree by the algebra of a number and writes it, if each source is a vertex, each list has a place for each
+/// vertex and there is such an algebra.
+pub fn answer_tree(
+    alloc: Global,
+    number: u32,
+    limit: u64,
+    graph: &OutGraph,
+    sources: &[u32],
+    codes: &mut [u64],
+    hops: &mut [u32],
+    parents: &mut [u32],
+) -> i32
+    ensures tree { OfAlgebra number limit (λ V A. result ≡ pos 0 → AreTreeLists A graph.now
+        sources.now codes.new hops.new parents.new) }
+    ensures kept { (result ≡ pos 0 → ⊥) → (codes.new ≡ codes.old) × (hops.new ≡ hops.old) ×
+        (parents.new ≡ parents.old) }
+    ensures refusals { ReportsRefusals graph.now number limit sources.now codes.old hops.old
+        parents.old result }
+    ensures status { IsOneOf (0 ∷ 2 ∷ 3 ∷ 17 ∷ 43 ∷ []) result }
+{
+    if !are_vertices(graph, sources) {
+        return NO_VERTEX;
+    }
+    let n = graph.vertices() as usize;
+    if codes.len() != n || hops.len() != n || parents.len() != n {
+        return NO_ROOM;
+    }
+    with_algebra!(
+        number,
+        limit,
+        NO_ALGEBRA,
+        |algebra| answer(alloc, algebra, graph, sources, codes, hops, parents)
+    )
+}

@@ -1,5 +1,0 @@
-use Rattle.libdiffuse.proofs.Filling.{AreTreeListsUpTo}
-use Rattle.libdiffuse.proofs.tree.write_lists.Given as goal
-
-abbrev pub invariant-loop-i : goal.invariant-loop-i
-invariant-loop-i g l = AreTreeListsUpTo (g.A.PathAlgebra.meaning l.algebra) l.graph l.sources l.i l.codes l.hops l.parents

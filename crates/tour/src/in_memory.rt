@@ -36,6 +36,24 @@ pub fn five_vertices(alloc: Global) -> Result<Graph, Fault>
     }
 }
 
+/// Prints the least sum of weights to a vertex, and the arcs of the route that attains it.
+fn print_sum<R: Print>(rt: &R, v: u32, sum: Option<u64>, hops: Option<u32>) -> Result<(), Fault> {
+    match (sum, hops) {
+        (Some(sum), Some(hops)) => println!(rt; "to {v}: {sum}, arcs: {hops}")?,
+        _ => println!(rt; "to {v}: no walk")?,
+    }
+    Ok(())
+}
+
+/// Prints the vertices of a route.
+fn print_route<R: Print>(rt: &R, target: u32, route: &[Vertex]) -> Result<(), Fault> {
+    print!(rt; "the route to {target}:")?;
+    for vertex in route {
+        print!(rt; " {}", vertex.0)?;
+    }
+    Ok(println!(rt; "")?)
+}
+
 /// Prints the least sum of weights from vertex 1 to each vertex, and a route to vertex 4.
 pub fn show<R: Print + AllocGlobal>(rt: &R) -> Result<(), Fault> {
     let alloc = rt.alloc();
@@ -44,16 +62,10 @@ pub fn show<R: Print + AllocGlobal>(rt: &R) -> Result<(), Fault> {
     let labels = solve_one(alloc, Shortest, &graph, source)?;
     let tree = tree(alloc, Shortest, &graph, &[source], &labels)?;
     for v in 1..=graph.vertices() {
-        match (labels.of(Vertex(v)), tree.hops(Vertex(v))) {
-            (Some(sum), Some(hops)) => println!(rt; "to {v}: {sum}, arcs: {hops}")?,
-            _ => println!(rt; "to {v}: no walk")?,
-        }
+        print_sum(rt, v, labels.of(Vertex(v)), tree.hops(Vertex(v)))?;
     }
-    print!(rt; "the route to 4:")?;
-    if let Some(vertices) = route(alloc, &tree, Vertex(4))? {
-        for vertex in &vertices {
-            print!(rt; " {}", vertex.0)?;
-        }
+    match route(alloc, &tree, Vertex(4))? {
+        Some(vertices) => print_route(rt, 4, vertices.as_slice()),
+        None => Ok(()),
     }
-    Ok(println!(rt; "")?)
 }

@@ -1,0 +1,25 @@
+# Completion of diffuse's words in fish. To have it: put this file at ~/.config/fish/completions/diffuse.fish
+set -l commands solve bundle serve check faults help
+set -l answering '__fish_seen_subcommand_from solve bundle serve'
+set -l watching '__fish_seen_subcommand_from solve bundle'
+
+complete -c diffuse -f -n "not __fish_seen_subcommand_from $commands" -a solve -d 'answer the questions of one file over the graph of another'
+complete -c diffuse -f -n "not __fish_seen_subcommand_from $commands" -a bundle -d 'answer one input that holds both'
+complete -c diffuse -f -n "not __fish_seen_subcommand_from $commands" -a serve -d 'reply to requests as they come'
+complete -c diffuse -f -n "not __fish_seen_subcommand_from $commands" -a check -d 'judge the answers of any program'
+complete -c diffuse -f -n "not __fish_seen_subcommand_from $commands" -a faults -d 'explain faults by their numbers'
+complete -c diffuse -f -n "not __fish_seen_subcommand_from $commands" -a help -d 'show what a command does'
+complete -c diffuse -f -n "not __fish_seen_subcommand_from $commands" -l version -d 'show the version'
+complete -c diffuse -f -n '__fish_seen_subcommand_from help' -a 'solve bundle serve check faults'
+complete -c diffuse -l help -d 'show the options and what they mean'
+complete -c diffuse -x -n $answering -l algebra -a 'shortest widest reach hops reliable within' -d 'what is best'
+complete -c diffuse -x -n "$answering; or __fish_seen_subcommand_from check" -l limit -d 'the greatest sum, with within'
+complete -c diffuse -f -n $answering -l plain -d 'one heap search for each question'
+complete -c diffuse -x -n $answering -l width -d 'questions under way together, 1 to 64'
+complete -c diffuse -x -n $answering -l workers -d 'threads, 1 to 64'
+complete -c diffuse -x -n $answering -l shards -d 'parts of the vertices, 1 to 64'
+complete -c diffuse -x -n $answering -l budget -d 'messages and signals per turn, 1 to 65536'
+complete -c diffuse -x -n $answering -l turns -d 'the most turns of a worker in a group'
+complete -c diffuse -r -n $watching -l accounts -d 'write the counts of each diffusion to a file'
+complete -c diffuse -f -n $watching -l progress -d 'report how many questions are answered'
+complete -c diffuse -f -n '__fish_seen_subcommand_from faults' -a "(diffuse faults 2> /dev/null | string replace -rf '^fault ([0-9]+):.*' '\$1')"

@@ -4,5 +4,6 @@ pub mod LabelSteps
 pub mod Walks
 pub mod SimpleWalks
 pub mod Given
+pub mod Choices
 pub mod Laws
 pub mod Open

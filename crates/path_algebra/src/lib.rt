@@ -8,6 +8,7 @@
 #![tactic(auto)]
 
 mod algebra;
+mod choice;
 mod hops;
 mod labels;
 mod laws;
@@ -19,6 +20,7 @@ mod widest;
 mod within;
 
 pub use algebra::PathAlgebra;
+pub use choice::AlgebraChoice;
 pub use hops::Hops;
 pub use labels::Labels;
 pub use laws::{

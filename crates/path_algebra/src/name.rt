@@ -16,11 +16,13 @@ pub enum AlgebraName {
 }
 
 impl AlgebraName {
+    ghost use Rattle.std.specs.Prelude.{◌≡◌, ◌≤◌, length};
     ghost use Rattle.path_algebra.specs.Names.{name_text, name_of_text};
 
     /// The word for this name.
     pub fn text(self) -> &'static str
-        ensures { result.now ≡ name_text self }
+        ensures word { result.now ≡ name_text self }
+        ensures short { length result.now ≤ 10 }
     {
         match self {
             AlgebraName::Shortest => "shortest",

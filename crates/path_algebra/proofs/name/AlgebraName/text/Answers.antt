@@ -3,5 +3,5 @@ use Rattle.std.proofs.Common.{arith}
 use Rattle.std.proofs.lemmas.Grind.{common_steps}
 use Rattle.path_algebra.proofs.name.AlgebraName.text.Goals as goal
 
-pub returns-in-Widest : goal.returns-in-Widest
-returns-in-Widest c = grind (arith, common_steps)
+pub returns-in-Widest-clause-word : goal.returns-in-Widest-clause-word
+returns-in-Widest-clause-word c = grind (arith, common_steps)

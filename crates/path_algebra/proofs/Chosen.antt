@@ -1,0 +1,34 @@
+-- A number names one algebra at most.
+use Rattle.std.proofs.Common.{◌≡◌, ◌↔◌, ℕ, ◌≤◌, ◌^◌, refl, subst, arith}
+use Rattle.path_algebra.specs.Algebra.{Algebra}
+use Rattle.path_algebra.specs.Given.{within}
+use Rattle.path_algebra.specs.Choices.{Under, HasLimit, IsAlgebra, IsNumbered, OfAlgebra, number_of}
+use Rattle.path_algebra.specs.declared.choice.AlgebraChoice.{AlgebraChoice}
+use Rattle.path_algebra.specs.declared.choice.AlgebraChoice.TheVariants.{Shortest, Widest, Reach, Hops, Reliable, Within}
+
+module _ (P : (V : Type 0) → Algebra V → Type 0) (limit : ℕ) where
+  same_number : (a b : AlgebraChoice) → number_of a ≡ number_of b → HasLimit a limit → HasLimit b limit →
+      Under a P → Under b P
+  same_number Shortest Shortest e la lb h = h
+  same_number Widest Widest e la lb h = h
+  same_number Reach Reach e la lb h = h
+  same_number Hops Hops e la lb h = h
+  same_number Reliable Reliable e la lb h = h
+  same_number (Within v) (Within w) e la lb h =
+      let one : v.limit ≡ w.limit = cc in subst (λ (l : ℕ). P ℕ (within l)) one h
+  same_number _ _ e la lb h = absurd (omega (arith, e))
+
+  -- what holds under a choice is so of the algebra whose number it has
+  pub of_numbered : (number : ℕ) (chosen : AlgebraChoice) → IsNumbered number limit chosen → Under chosen P →
+      OfAlgebra number limit P
+  of_numbered number chosen is h = λ other named.
+      let e : number_of chosen ≡ number_of other = let x = is.0 in let y = named.0 in cc in
+      same_number chosen other e is.1 named.1 h
+
+-- 5 is the number of `within`, which needs a limit up to 2^63
+pub within_is_numbered : (limit : ℕ) → IsAlgebra 5 limit ↔ (limit ≤ 2 ^ 63)
+within_is_numbered limit = (fits, λ h. (Within (record { limit = limit; fits = h }), (refl, refl)))
+  where
+    fits : IsAlgebra 5 limit → limit ≤ 2 ^ 63
+    fits (Within w, is) = let h = w.fits in let l = is.1 in omega (arith, l, h)
+    fits (_, is) = let e = is.0 in absurd (omega (arith, e))

@@ -7,3 +7,6 @@ pub mod Given
 pub mod Choices
 pub mod Laws
 pub mod Open
+pub mod Composition
+pub mod Counted
+pub mod CountedWalks

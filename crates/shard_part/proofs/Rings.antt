@@ -59,12 +59,11 @@ module _ {V : Type 0} where
   first_leaves xs ys (Some i) q = subst (IsPermutation xs) q (IsPermutation-refl xs)
 
   module _ (A : Algebra V) (N : Network) where
-    pub first_turn : (o : QueueOrder) (d : CoreState V) (xs ys : List (Item V)) (i : Option (Item V)) → o ≡ Arrival → IfSome i (λ j. xs ≡ j ∷ ys) → IfSome i (λ j. IsInTurn A N o d xs j ys)
-    first_turn o d xs ys None e q = tt
-    first_turn o d xs ys (Some i) e q = subst (λ u. IsInTurn A N u d xs i ys) (sym e) q
-
     pub best_turn : (o : QueueOrder) (d : CoreState V) (xs ys : List (Item V)) (i : Item V) → o ≡ BestFirst → GoesAtOnce A N d i ⊎ IsBestMessage A.no_worse i ys → IsInTurn A N o d xs i ys
     best_turn o d xs ys i e q = subst (λ u. IsInTurn A N u d xs i ys) (sym e) q
+
+    pub turn_best : (o : QueueOrder) (d : CoreState V) (xs ys : List (Item V)) (i : Item V) → o ≡ BestFirst → IsInTurn A N o d xs i ys → GoesAtOnce A N d i ⊎ IsBestMessage A.no_worse i ys
+    turn_best o d xs ys i e q = subst (λ u. IsInTurn A N u d xs i ys) e q
 
 module _ {S V : Type 0} where
   -- the lists change, and the part stays sound
@@ -254,8 +253,9 @@ module _ {S V : Type 0} where
           clear = (let o = D.sound.once (item_arc i) in let t = total_permutation (λ j. is (item_arc i) (item_arc j)) p.queue (i ∷ xs) q in let one = is_self (item_arc i) in omega (arith, o, t, one));
         }
 
-    pub popped_some : (p old : PartData S V) (r : Rows V) (n : Room) (ns : List ℕ) (new : Line (Item V)) (o : Option (Item V)) → p ≡ old
-        → RepInvariant p r n ns → IfSome o (λ i. IsPermutation p.queue (i ∷ new.items)) → IfSome o (λ i. IsInTurn A (network_of p.setup) p.setup.order (state_in p) p.queue i new.items) →
-        IfSome o (λ i. IsPopped A old (record p { queue = new.items }) i)
-    popped_some p old r n ns new None e D q f = tt
-    popped_some p old r n ns new (Some i) e D q f = popped p old r n ns i new.items e D q f
+    -- the first of a queue in order of arrival
+    pub first_popped : (p old : PartData S V) (r : Rows V) (n : Room) (ns : List ℕ) (new : Line (Item V)) (o : Option (Item V)) → p ≡ old
+        → RepInvariant p r n ns → old.setup.order ≡ Arrival → IfSome o (λ i. p.queue ≡ i ∷ new.items) → IfSome o (λ i. IsPopped A old (record p { queue = new.items }) i)
+    first_popped p old r n ns new None e D k q = tt
+    first_popped p old r n ns new (Some i) e D k q = popped p old r n ns i new.items e D (subst (IsPermutation p.queue) q (IsPermutation-refl p.queue))
+        (subst (λ u. IsInTurn A (network_of p.setup) u (state_in p) p.queue i new.items) (sym (ap (λ (u : PartData S V). u.setup.order) e ∙ k)) q)

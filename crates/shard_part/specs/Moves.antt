@@ -8,6 +8,7 @@ use Rattle.scholten_core.specs.Diffusion.{improves, is_due, extend_label, out_id
 use Rattle.scholten_core.specs.Items.{item_arc}
 use Rattle.shard_store.specs.Tallies.{counted_on, top}
 use Rattle.shard_store.specs.Tables.{scatter}
+use Rattle.scholten_core.specs.Network.{Network}
 use Rattle.scholten_core.specs.Deficit.{busy_out}
 use Rattle.shard_part.specs.PartState.{PartData, state_in, IsArc, vertex_of}
 use Rattle.shard_store.specs.Setup.{SetupData, network_of, place_in, IsPlanned}

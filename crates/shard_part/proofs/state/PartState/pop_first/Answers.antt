@@ -1,7 +1,5 @@
 use Rattle.std.proofs.Common.{ap, ◌∙◌}
-use Rattle.shard_store.specs.Setup.{network_of}
-use Rattle.shard_part.specs.PartState.{state_in}
-use Rattle.shard_part.proofs.Rings.{first_leaves, first_turn, pop_leaves, popped_some}
+use Rattle.shard_part.proofs.Rings.{first_leaves, first_popped, pop_leaves}
 use Rattle.shard_part.proofs.Taking.{none_taken}
 use Rattle.shard_part.proofs.state.PartState.pop_first.Goals as goal
 
@@ -16,7 +14,4 @@ pub returns-clause-none : goal.returns-clause-none
 returns-clause-none g c = none_taken _ c.args.self.now c.pop_first.new.self.items c.pop_first.result c.self.view_is c.pop_first.ensures.none
 
 pub returns-clause-some : goal.returns-clause-some
-returns-clause-some g c = popped_some (g.A.PathAlgebra.meaning c.args.self.now.setup.diffusion.algebra) _ c.args.self.now _ _ _ c.pop_first.new.self c.pop_first.result c.self.view_is c.self.invariant
-    (first_leaves c.self.inside.queue.items c.pop_first.new.self.items c.pop_first.result c.pop_first.ensures.first)
-    (first_turn (g.A.PathAlgebra.meaning c.args.self.now.setup.diffusion.algebra) _ _ _ c.self.inside.queue.items c.pop_first.new.self.items c.pop_first.result
-    (ap (λ u. u.setup.order) c.self.view_is ∙ c.requires) c.pop_first.ensures.first)
+returns-clause-some g c = first_popped (g.A.PathAlgebra.meaning c.args.self.now.setup.diffusion.algebra) _ c.args.self.now _ _ _ c.pop_first.new.self c.pop_first.result c.self.view_is c.self.invariant c.requires c.pop_first.ensures.first

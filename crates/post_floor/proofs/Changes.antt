@@ -26,7 +26,7 @@ use Rattle.shard_part.proofs.TakenCounts.{run_append}
 use Rattle.shard_part.specs.Arriving.{MadeAt}
 use Rattle.post_floor.specs.declared.view.View.{View}
 use Rattle.post_floor.specs.Boxes.{empty, filling, full, reading, box_count, dest, origin}
-use Rattle.post_floor.specs.Floor.{Slot, Place, fill_claims, read_claims, box, in_transit, mailbox_capacity, empty_slot, MailboxInvariant, core_of, FloorInvariant}
+use Rattle.post_floor.specs.Floor.{Slot, Place, fill_claims, read_claims, box, in_transit, mailbox_capacity, empty_slot, MailboxInvariant, core_of, AreAllInOrder, FloorInvariant}
 use Rattle.post_floor.proofs.Totals.{total_set}
 use Rattle.shard_part.specs.Exact.{done_by}
 use Rattle.post_floor.proofs.Keeps.{gone, Relisted, goes_on, idle_after}
@@ -68,10 +68,12 @@ module _ {S V : Type 0} (meaning : S → Algebra V) (t : SetupData S) (L : AllLa
     pub fill : fill_claims k u + is filling (get_or s.words k 0) ≡ fill_claims k v + is filling n'
     pub read : read_claims k u + is reading (get_or s.words k 0) ≡ read_claims k v + is reading n'
     pub low : n' ≤ reading
+    pub apart : n' ≡ full → origin t.plan.shards k ≢ dest t.plan.shards k
     pub empty : n' ≡ empty → get_elem? homes' k ≡ some (some (empty_slot t k))
     pub full : n' ≡ full → (xs : List (Item V)) × (get_elem? homes' k ≡ some (some (std.Some (buffer xs (mailbox_capacity t k))))) × MadeAt t (origin t.plan.shards k) xs
     pub out : (n' ≡ filling) ⊎ (n' ≡ reading) → get_elem? homes' k ≡ some none
     pub seen : u.seen ≡ v.seen
+    pub ordered : AreAllInOrder t.plan.shards (set s.words k n') (set s.views id (gone meaning t v u e (done_by meaning items b d moves)))
 
   box_else : (ws : List ℕ) (hs hs' : List (Option (Slot V))) (k n' j : ℕ) (f : Item V → ℕ) → j ≢ k → get_elem? hs' j ≡ get_elem? hs j
       → box f (get_or (set ws k n') j 0) (get_elem? hs' j) ≡ box f (get_or ws j 0) (get_elem? hs j)
@@ -104,6 +106,7 @@ module _ {S V : Type 0} (meaning : S → Algebra V) (t : SetupData S) (L : AllLa
           reads_is = let p = total_set (read_claims k) s.views id v New c.at in let q = ok.reads_is in let f = c.read in omega (arith, p, q, f);
           empty_home = c.empty;
           full_home = c.full;
+          apart = c.apart;
           out = c.out;
         })
 
@@ -144,6 +147,7 @@ module _ {S V : Type 0} (meaning : S → Algebra V) (t : SetupData S) (L : AllLa
             ]);
             wide = length-set s.words k n' ∙ r.wide;
             roomy = c.long;
+            ordered = c.ordered;
           },
           G.share,
           G.setup,

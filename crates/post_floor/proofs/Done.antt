@@ -28,7 +28,7 @@ use Rattle.post_floor.proofs.Totals.{total_set}
 use Rattle.shard_part.specs.Exact.{done_by}
 use Rattle.post_floor.proofs.Keeps.{gone, went, goes_on, idle_after}
 use Rattle.post_floor.proofs.Changes.{Tab, Seat, ended_more}
-use Rattle.post_floor.proofs.Exchanges.{unchanged, known_at}
+use Rattle.post_floor.proofs.Exchanges.{unchanged, known_at, still_ordered}
 
 not_busy : (V : Type 0) (z : Bool) → not z ≡ true → is_idle (token_if {V = V} z) ≡ true
 not_busy V true e = absurd cc
@@ -63,6 +63,8 @@ module _ {S V : Type 0} (meaning : S → Algebra V) (t : SetupData S) where
       pub moves : HandledAll meaning b items d
       pub fills : u.fills ≡ v.fills
       pub reads : u.reads ≡ v.reads
+      pub next_fill : u.next_fill ≡ v.next_fill
+      pub next_read : u.next_read ≡ v.next_read
       pub stays : get_or s.words (box_count t.plan.shards) 0 ≡ done_now → n' ≡ done_now
       pub ends : n' ≡ done_now
           → HoldsShareIn (meaning t.diffusion.algebra) (network_of t) (place_in t) (core_of meaning t (r.events ++ map event_of items)) d → d.setup ≡ t
@@ -101,6 +103,8 @@ module _ {S V : Type 0} (meaning : S → Algebra V) (t : SetupData S) where
             seen = λ i y a sn. word ∙ (elim (at_set s.views id i w y a) [ inl z ↦ c.seen (ap (λ (x : View S V). x.seen) z.1 ∙ sn) | inr z ↦ c.stays (r.seen i y z.1 sn) ]);
             wide = length-set s.words (box_count n) n' ∙ r.wide;
             roomy = r.roomy;
+            ordered = still_ordered meaning t L W s r id v u b d items c.moves (set s.words (box_count n) n') c.at c.one.parts c.next_fill c.next_read
+                (λ j jl. get_or-set_other s.words (box_count n) j n' 0 (λ e. omega (arith, e, jl)));
           },
           (λ e. ended_at L W d (r.events ++ map event_of items) G.setup G.share (over e)),
           known_at meaning t d (r.events ++ map event_of items) G.setup G.share,
@@ -115,6 +119,8 @@ module _ {S V : Type 0} (meaning : S → Algebra V) (t : SetupData S) where
           moves = T;
           fills = refl;
           reads = refl;
+          next_fill = refl;
+          next_read = refl;
           stays = λ _. refl;
           ends = λ _ H e. over_is W d (core_of meaning t (r.events ++ map event_of items)) e H over;
           seen = λ _. refl;
@@ -136,6 +142,8 @@ module _ {S V : Type 0} (meaning : S → Algebra V) (t : SetupData S) where
             moves = T;
             fills = refl;
             reads = refl;
+            next_fill = refl;
+            next_read = refl;
             stays = λ e. e;
             ends = λ e _ _. ended_more meaning t L W r.events (map event_of items) (r.done e);
             seen = λ _. hit;
@@ -156,6 +164,8 @@ module _ {S V : Type 0} (meaning : S → Algebra V) (t : SetupData S) where
             moves = T;
             fills = refl;
             reads = refl;
+            next_fill = refl;
+            next_read = refl;
             stays = λ e. e;
             ends = λ e _ _. ended_more meaning t L W r.events (map event_of items) (r.done e);
             seen = λ sn. r.seen id me.0 at sn;

@@ -1,5 +1,6 @@
 -- The kinds of steps, each as the table asks for it.
-use Rattle.std.proofs.Common.{◌≡◌, ◌≢◌, ℕ, ◌+◌, ◌<◌, eqb, List, [], ◌∷◌, ◌++◌, length, map, set, get_or, refl, sym, ap, ◌∙◌, subst, inl, inr, arith, length-set}
+use Rattle.std.proofs.Common.{◌≡◌, ◌≢◌, ℕ, ◌+◌, ◌<◌, eqb, List, [], ◌∷◌, ◌++◌, length, map, set, get_or, refl, sym, ap, ◌∙◌, subst, inl, inr, arith, length-set, get_or-set_other, get_or-set_same}
+use Rattle.std.proofs.lemmas.Bool.{cases_eq}
 use Rattle.std.specs.Prelude as std
 use mathlib.Core.Option.{Option, none, some}
 use lib.ListN.{get_elem?}
@@ -24,15 +25,18 @@ use Rattle.shard_part.proofs.Routed.{outs_none}
 use Rattle.shard_part.proofs.Showing.{AllLawful, is_self}
 use Rattle.shard_part.specs.Arriving.{MadeAt, joined, MayReceive}
 use Rattle.post_floor.specs.declared.view.View.{View}
-use Rattle.post_floor.specs.Boxes.{empty, filling, full, reading, box_count, dest, origin}
-use Rattle.post_floor.specs.Floor.{Slot, fill_claims, read_claims, load_place, box, mailbox_capacity, empty_slot, core_of, FloorInvariant}
-use Rattle.post_floor.specs.Plays.{IsViewOf, StepsTo, at_word, Unclaimed, begin_fill, end_fill, begin_read, end_read, published_to, HasEmpty, ViewLags, HoldsReachedShare, FillStep, PublishStep, ReadStep, ClearStep}
+use Rattle.post_floor.specs.Boxes.{empty, filling, full, reading, next_slot, box_count, dest, origin, AreInOrder}
+use Rattle.post_floor.specs.Floor.{Slot, fill_claims, read_claims, load_place, box, mailbox_capacity, empty_slot, core_of, AreAllInOrder, FloorInvariant}
+use Rattle.post_floor.specs.Plays.{IsViewOf, StepsTo, at_word, Unclaimed, begin_fill, end_fill, begin_read, end_read, published_to, IsNextFill, IsNextRead, HasEmpty, ViewLags, HoldsReachedShare, FillStep, PublishStep, ReadStep, ClearStep}
 use Rattle.post_floor.proofs.Totals.{total_at, is_else, is_one, without_same, without_else}
 use Rattle.shard_part.specs.Exact.{done_by}
 use Rattle.shard_part.proofs.TakenCounts.{handled_same}
 use Rattle.shard_part.proofs.UnderWay.{arrives}
 use Rattle.post_floor.proofs.Keeps.{gone, Relisted, went, kept_core}
 use Rattle.post_floor.proofs.Changes.{Tab, Seat, changes}
+use Rattle.post_floor.proofs.Parts.{flat_at}
+use Rattle.post_floor.proofs.Order.{order_fill, order_publish, order_read, order_clear}
+use Rattle.post_floor.proofs.Ordering.{sender, receiver, looked_on}
 
 module _ {S V : Type 0} (meaning : S → Algebra V) (t : SetupData S) where
   pub unchanged : (d : PartData S V) → Relisted meaning t d d
@@ -55,6 +59,21 @@ module _ {S V : Type 0} (meaning : S → Algebra V) (t : SetupData S) where
   module _ (L : AllLawful meaning) (W : WellFormed (network_of t)) where
     abbrev Goes : Tab meaning t L W → ℕ → ℕ → Seat meaning t L W → (ℕ → Seat meaning t L W → Type 0) → ℕ → Type 0
     Goes s k id me told n' = (w : View S V) × (a : Act (Slot V)) × Valid s.homes me.1 a × FloorInvariant meaning t (stepped s k n' id me.1 w a) × told (get_or s.words k 0) (w, carried_after me.1 a)
+
+    inside : (s : Tab meaning t L W) (r : FloorInvariant meaning t s) (k : ℕ) → k < box_count t.plan.shards → k < length s.words
+    inside s r k lt = let wide = r.wide in omega (arith, wide, lt)
+
+    -- the part's shard is one of the plan's
+    shard_below : (s : Tab meaning t L W) (r : FloorInvariant meaning t s) (id : ℕ) (v : View S V) (b : PartData S V) → get_elem? s.views id ≡ some v → v.parts ≡ b ∷ [] → b.shard < t.plan.shards
+    shard_below s r id v b at one = (subst (All (λ (q : PartData S V). q.shard < t.plan.shards)) one (flat_at (λ (q : PartData S V). q.shard < t.plan.shards) s.views id v r.below at)).0
+
+    -- no mailbox's word changes, and no next slot
+    pub still_ordered : (s : Tab meaning t L W) (r : FloorInvariant meaning t s) (id : ℕ) (v u : View S V) (b e : PartData S V) (items : List (Item V)) (T : HandledAll meaning b items e) (ws' : List ℕ)
+        → get_elem? s.views id ≡ some v → v.parts ≡ b ∷ [] → u.next_fill ≡ v.next_fill → u.next_read ≡ v.next_read
+        → ((j : ℕ) → j < box_count t.plan.shards → get_or ws' j 0 ≡ get_or s.words j 0) → AreAllInOrder t.plan.shards ws' (set s.views id (gone meaning t v u e (done_by meaning items b e T)))
+    still_ordered s r id v u b e items T ws' at one fill read same =
+        looked_on t.plan.shards s.words s.views id v (gone meaning t v u e (done_by meaning items b e T)) b e at one refl (handled_same meaning items b e T).1 r.whole
+        (ap length fill) (ap length read) r.ordered ws' same fill read (shard_below s r id v b at one)
 
     -- a step in which no word and no slot moves: the view alone goes on
     stays : (s : Tab meaning t L W) (r : FloorInvariant meaning t s) (id k : ℕ) (me : Seat meaning t L W) (b d : PartData S V) (items : List (Item V))
@@ -82,8 +101,13 @@ module _ {S V : Type 0} (meaning : S → Algebra V) (t : SetupData S) where
       low = ok.low;
       empty = ok.empty_home;
       full = ok.full_home;
+      apart = ok.apart;
       out = ok.out;
       seen = refl;
+      ordered = still_ordered s r id me.0 (at_word k (get_or s.words k 0) me.0) b d items T (set s.words k (get_or s.words k 0)) at sh.parts refl refl (λ j jl. elim (cases_eq j k) [
+        | inl e ↦ ap (λ z. get_or (set s.words k (get_or s.words k 0)) z 0) e ∙ get_or-set_same s.words k (get_or s.words k 0) 0 (inside s r k lt) ∙ ap (λ z. get_or s.words z 0) (sym e)
+        | inr ne ↦ get_or-set_other s.words k j (get_or s.words k 0) 0 ne
+      ]);
     })).0
 
     -- a mailbox that is neither being filled nor being read has no claim
@@ -102,9 +126,9 @@ module _ {S V : Type 0} (meaning : S → Algebra V) (t : SetupData S) where
         let same = subst (λ (l : List (PartData S V)). All (λ (p : PartData S V). p.setup ≡ t) l) P.now r.shown.same in
         (handled_same meaning items b d T).0 ∙ (Rattle.shard_part.proofs.Showing.all_parts (λ (p : PartData S V). p.setup ≡ t) P.before (b ∷ P.after) same).1.0
 
-    pub fills : (m id k : ℕ) (me : Seat meaning t L W) (d : PartData S V) → ViewLags meaning me.0 d → k < box_count t.plan.shards
+    pub fills : (m id k : ℕ) (me : Seat meaning t L W) (d : PartData S V) → ViewLags meaning me.0 d → k < box_count t.plan.shards → IsNextFill t.plan.shards d.shard (dest t.plan.shards k) k me.0
         → Allows (FloorInvariant meaning t) m id me k (λ z. either (eqb z empty) filling z) (FillStep meaning d k me)
-    fills m id k me d (b, items, sh, T) lt s r roomy at small =
+    fills m id k me d (b, items, sh, T) lt next s r roomy at small =
         let y : ℕ = get_or s.words k 0 in let ok = r.boxes k lt in let told = FillStep meaning d k me in
         let e = setup_of s r id me.0 b d items T at sh in
         exchanged y empty filling (Goes s k id me told)
@@ -128,8 +152,14 @@ module _ {S V : Type 0} (meaning : S → Algebra V) (t : SetupData S) where
             low = omega arith;
             empty = λ z. absurd (omega (arith, z));
             full = λ z. absurd (omega (arith, z));
+            apart = λ z. absurd (omega (arith, z));
             out = λ _. set_here s.homes k none (let l = r.roomy in omega (arith, l, lt));
             seen = refl;
+            ordered = (let shard = (handled_same meaning items b d T).1 in let to : ℕ = dest t.plan.shards k in
+                sender t.plan.shards s.words s.views id me.0 (gone meaning t me.0 u d (done_by meaning items b d T)) b d at sh.parts refl shard r.whole refl refl r.ordered
+                k filling (inside s r k lt) to (subst (λ j. IsNextFill t.plan.shards j to k me.0) shard next) refl (λ g ne. refl)
+                (λ word word' read long o was now else'. order_fill word word' read (get_or me.0.next_fill to 0) o (was ∙ hit) now else')
+                (shard_below s r id me.0 b at sh.parts));
           })).0,
           (
             (λ z. (
@@ -148,9 +178,9 @@ module _ {S V : Type 0} (meaning : S → Algebra V) (t : SetupData S) where
           ((λ z. absurd (miss z)), λ ne. (went meaning t me.0 (at_word k y me.0) b d d items T sh (unchanged d), refl)),
         ))
 
-    pub reads : (m id k : ℕ) (me : Seat meaning t L W) (d : PartData S V) → ViewLags meaning me.0 d → k < box_count t.plan.shards → dest t.plan.shards k ≡ d.shard → origin t.plan.shards k ≢ d.shard →
+    pub reads : (m id k : ℕ) (me : Seat meaning t L W) (d : PartData S V) → ViewLags meaning me.0 d → k < box_count t.plan.shards → dest t.plan.shards k ≡ d.shard → origin t.plan.shards k ≢ d.shard → IsNextRead t.plan.shards (origin t.plan.shards k) d.shard k me.0 →
         Allows (FloorInvariant meaning t) m id me k (λ z. either (eqb z full) reading z) (ReadStep meaning d k me)
-    reads m id k me d (b, items, sh, T) lt to from s r roomy at small =
+    reads m id k me d (b, items, sh, T) lt to from next s r roomy at small =
         let y : ℕ = get_or s.words k 0 in let ok = r.boxes k lt in let told = ReadStep meaning d k me in
         let e = setup_of s r id me.0 b d items T at sh in
         exchanged y full reading (Goes s k id me told)
@@ -175,8 +205,14 @@ module _ {S V : Type 0} (meaning : S → Algebra V) (t : SetupData S) where
           low = omega arith;
           empty = λ z. absurd (omega (arith, z));
           full = λ z. absurd (omega (arith, z));
+          apart = λ z. absurd (omega (arith, z));
           out = λ _. set_here s.homes k none (let l = r.roomy in omega (arith, l, lt));
           seen = refl;
+          ordered = (let shard = (handled_same meaning items b d T).1 in let o' : ℕ = origin t.plan.shards k in
+              receiver t.plan.shards s.words s.views id me.0 (gone meaning t me.0 u q (done_by meaning items b d T)) b q at sh.parts refl shard r.whole refl refl r.ordered
+              k reading (inside s r k lt) o' (subst (λ j. IsNextRead t.plan.shards o' j k me.0) shard next) refl (λ g ne. refl)
+              (λ word word' fill long o was now else'. order_read word word' (get_or me.0.next_read o' 0) fill o (was ∙ hit) now else')
+              (shard_below s r id me.0 b at sh.parts));
         }) in (
           gone meaning t me.0 u q (done_by meaning items b d T),
           takes k (std.Some (buffer xs (mailbox_capacity t k))),
@@ -204,9 +240,9 @@ module _ {S V : Type 0} (meaning : S → Algebra V) (t : SetupData S) where
 
     pub publishes : (m id k : ℕ) (me : Seat meaning t L W) (d : PartData S V) → ViewLags meaning me.0 d → k < box_count t.plan.shards →
         me.1 ≡ (k, std.Some (buffer (get_or d.outs (dest t.plan.shards k) []) (mailbox_capacity t k))) ∷ rest me.1
-        → MadeAt t (origin t.plan.shards k) (get_or d.outs (dest t.plan.shards k) []) → 0 < fill_claims k me.0 →
+        → MadeAt t (origin t.plan.shards k) (get_or d.outs (dest t.plan.shards k) []) → 0 < fill_claims k me.0 → IsNextFill t.plan.shards d.shard (dest t.plan.shards k) k me.0 → dest t.plan.shards k ≢ d.shard →
         Allows (FloorInvariant meaning t) m id me k (λ _. full) (λ _. PublishStep meaning (published_to (dest t.plan.shards k) d) k me)
-    publishes m id k me d (b, items, sh, T) lt held made claim s r roomy at small =
+    publishes m id k me d (b, items, sh, T) lt held made claim next other s r roomy at small =
         let y : ℕ = get_or s.words k 0 in let ok = r.boxes k lt in
         let e = setup_of s r id me.0 b d items T at sh in
         let to : ℕ = dest t.plan.shards k in
@@ -238,8 +274,16 @@ module _ {S V : Type 0} (meaning : S → Algebra V) (t : SetupData S) where
           low = omega arith;
           empty = λ z. absurd (omega (arith, z));
           full = λ z. (xs, here, made);
+          apart = λ _ z. other (sym z ∙ next.between.comes_from);
           out = λ z. elim z [ inl q ↦ absurd (omega (arith, q)) | inr q ↦ absurd (omega (arith, q)) ];
           seen = refl;
+          ordered = (let shard = (handled_same meaning items b d T).1 in let a : ℕ = get_or me.0.next_fill to 0 in
+              sender t.plan.shards s.words s.views id me.0 (gone meaning t me.0 u q (done_by meaning items b d T)) b q at sh.parts refl shard r.whole
+              (length-set me.0.next_fill to (next_slot a)) refl r.ordered
+              k full (inside s r k lt) to (subst (λ j. IsNextFill t.plan.shards j to k me.0) shard next) refl (λ g ne. get_or-set_other me.0.next_fill to g (next_slot a) 0 ne)
+              (λ word word' read long o was' now else'. subst (λ z. AreInOrder word' read z) (sym (get_or-set_same me.0.next_fill to (next_slot a) 0 (subst (λ z. to < z) (sym long) next.below)))
+              (order_publish word word' read a o (was' ∙ sym was) now else'))
+              (shard_below s r id me.0 b at sh.parts));
         }) in (
           gone meaning t me.0 u q (done_by meaning items b d T),
           gives,
@@ -252,9 +296,9 @@ module _ {S V : Type 0} (meaning : S → Algebra V) (t : SetupData S) where
           ),
         )
 
-    pub clears : (m id k : ℕ) (me : Seat meaning t L W) (d : PartData S V) → ViewLags meaning me.0 d → k < box_count t.plan.shards → HasEmpty t k me → 0 < read_claims k me.0 →
+    pub clears : (m id k : ℕ) (me : Seat meaning t L W) (d : PartData S V) → ViewLags meaning me.0 d → k < box_count t.plan.shards → HasEmpty t k me → 0 < read_claims k me.0 → IsNextRead t.plan.shards (origin t.plan.shards k) d.shard k me.0 →
         Allows (FloorInvariant meaning t) m id me k (λ _. empty) (λ _. ClearStep meaning d k me)
-    clears m id k me d (b, items, sh, T) lt held claim s r roomy at small =
+    clears m id k me d (b, items, sh, T) lt held claim next s r roomy at small =
         let y : ℕ = get_or s.words k 0 in let ok = r.boxes k lt in
         let e = setup_of s r id me.0 b d items T at sh in
         let homes' : List (Option (Slot V)) = put_back s.homes me.1 in
@@ -279,8 +323,16 @@ module _ {S V : Type 0} (meaning : S → Algebra V) (t : SetupData S) where
           low = omega arith;
           empty = λ z. here;
           full = λ z. absurd (omega (arith, z));
+          apart = λ z. absurd (omega (arith, z));
           out = λ z. elim z [ inl q ↦ absurd (omega (arith, q)) | inr q ↦ absurd (omega (arith, q)) ];
           seen = refl;
+          ordered = (let shard = (handled_same meaning items b d T).1 in let from : ℕ = origin t.plan.shards k in let a : ℕ = get_or me.0.next_read from 0 in
+              receiver t.plan.shards s.words s.views id me.0 (gone meaning t me.0 u d (done_by meaning items b d T)) b d at sh.parts refl shard r.whole
+              refl (length-set me.0.next_read from (next_slot a)) r.ordered
+              k empty (inside s r k lt) from (subst (λ j. IsNextRead t.plan.shards from j k me.0) shard next) refl (λ g ne. get_or-set_other me.0.next_read from g (next_slot a) 0 ne)
+              (λ word word' fill long o was' now else'. subst (λ z. AreInOrder word' z fill) (sym (get_or-set_same me.0.next_read from (next_slot a) 0 (subst (λ z. from < z) (sym long) next.below)))
+              (order_clear word word' a fill o (was' ∙ sym was) now else'))
+              (shard_below s r id me.0 b at sh.parts));
         }) in (
           gone meaning t me.0 u d (done_by meaning items b d T),
           gives,

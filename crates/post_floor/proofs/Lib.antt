@@ -1,5 +1,7 @@
 mod Totals
 mod Parts
+mod Order
+mod Ordering
 mod Keeps
 mod Changes
 mod Exchanges
@@ -15,3 +17,4 @@ pub mod Opened
 mod Closing
 pub mod Carrying
 mod Quiet
+mod Still

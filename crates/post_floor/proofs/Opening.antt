@@ -2,7 +2,7 @@
 use Rattle.std.proofs.Common.{◌≡◌, ℕ, zero, suc, ◌+◌, ◌<◌, ◌≤◌, true, false, List, [], ◌∷◌, length, get_or, map, replicate, refl, sym, ap, ◌∙◌, subst, inl, inr, arith, eq-eqb, ne_eqb, append-nil}
 use Rattle.std.proofs.lemmas.Bool.{cases_eq}
 use Rattle.std.proofs.lemmas.List.{length-replicate, length-map}
-use mathlib.Core.Option.{Option, some, some-injective, some-ne-none}
+use mathlib.Core.Option.{Option, some}
 use lib.ListN.{get_elem?}
 use Rattle.atomic_table.specs.Table.{opening}
 use Rattle.atomic_table.proofs.Lists.{at_map}
@@ -19,14 +19,12 @@ use Rattle.shard_store.proofs.Totals.{sum_zero, sum_below_same}
 use Rattle.shard_store.proofs.Graphs.{place_below}
 use Rattle.shard_part.proofs.OpenedAll.{opened_show, opened_same, shards_past}
 use Rattle.post_floor.specs.declared.view.View.{View}
-use Rattle.post_floor.specs.Boxes.{box_count, dest}
-use Rattle.post_floor.specs.Floor.{Slot, flat, CountsNone, box, in_transit, empty_slot, MailboxInvariant, FloorInvariant}
+use Rattle.post_floor.specs.Boxes.{box_count, mailbox, dest}
+use Rattle.post_floor.specs.Floor.{Slot, flat, CountsNone, box, in_transit, empty_slot, words_between, MailboxInvariant, FloorInvariant}
 use Rattle.post_floor.specs.Seats.{knows}
 use Rattle.post_floor.proofs.Opened.{get_zero}
-
-only : {A : Type 0} (v : A) (id : ℕ) (u : A) → get_elem? (v ∷ []) id ≡ some u → v ≡ u
-only v zero u a = some-injective v u a
-only v (suc id) u a = absurd (some-ne-none u (sym a))
+use Rattle.post_floor.proofs.Order.{fresh_order}
+use Rattle.post_floor.proofs.Ordering.{only}
 
 module _ {S V : Type 0} (A : Algebra V) (t : SetupData S) where
   -- each shard has a part
@@ -81,10 +79,14 @@ module _ {S V : Type 0} (meaning : S → Algebra V) (t : SetupData S) (P : IsPla
           reads_is = refl;
           empty_home = λ _. at_map (λ y. some y) xs k (empty_slot t k) (empty k lt);
           full_home = λ e. absurd (omega (arith, e));
+          apart = λ e. absurd (omega (arith, e));
           out = λ z. elim z [ inl e ↦ absurd (omega (arith, e)) | inr e ↦ absurd (omega (arith, e)) ];
         });
         done = λ e. absurd (let z = zero_at (box_count n) in omega (arith, e, z));
         seen = λ id u a sn. let f : false ≡ true = ap (λ (z : View S V). z.seen) (only v id u a) ∙ sn in absurd cc;
         wide = ap length zeros ∙ length-replicate (box_count n + 1) 0;
         roomy = length-map xs some ∙ wide;
+        ordered = λ i j u w p q a b' _ _ _. fresh_order (words_between n ws p.shard q.shard) (get_or w.next_read p.shard 0) (get_or u.next_fill q.shard 0)
+            (ap (λ (z : View S V). get_or z.next_read p.shard 0) (sym (only v j w b')) ∙ get_zero n p.shard)
+            (ap (λ (z : View S V). get_or z.next_fill q.shard 0) (sym (only v i u a)) ∙ get_zero n q.shard) (λ x. zero_at (mailbox n p.shard q.shard x));
       }

@@ -12,9 +12,9 @@ use Rattle.shard_store.specs.Totals.{total, is}
 use Rattle.shard_part.proofs.TakenCounts.{handled_same}
 use Rattle.shard_part.proofs.Showing.{is_self}
 use Rattle.post_floor.specs.declared.view.View.{View}
-use Rattle.post_floor.specs.Boxes.{mailbox, IsBetween}
+use Rattle.post_floor.specs.Boxes.{mailbox, next_slot, dest, origin, IsBetween}
 use Rattle.post_floor.specs.Floor.{Slot, empty_slot, fill_claims, read_claims}
-use Rattle.post_floor.specs.Plays.{without, next_slot, StepsTo, at_word, end_fill, end_read, ViewLags, Unclaimed}
+use Rattle.post_floor.specs.Plays.{without, IsNextFill, IsNextRead, StepsTo, at_word, end_fill, end_read, ViewLags, Unclaimed}
 use Rattle.post_floor.specs.Data.{FloorData, SeatData, AreSlots, HasEnd, AreOpen, AtTable, IsAt, IsSeat, IsTableSized, fill_box, read_box}
 use Rattle.post_floor.proofs.Totals.{is_else, without_same, without_else}
 use Rattle.post_floor.proofs.Claiming.{few_claims, claims_more, claims_less}
@@ -113,6 +113,25 @@ module _ {S V : Type 0} {meaning : S → Algebra V} {f : FloorData S} {d : SeatD
 
     pub read_between : {from k : ℕ} → IsBetween sh from s k → IsBetween t.plan.shards from p.shard k
     read_between {from} {k} b = subst (λ (x : ℕ × ℕ). IsBetween x.0 from x.1 k) (λ i. (sym z.count i, sym z.shard i)) b
+
+    -- the mailbox is the next that a view with the same knowledge fills, or reads
+    pub fill_next : {to k x : ℕ} {u : View S V} → IsBetween sh s to k → to < sh → k ≡ mailbox sh s to x → x ≡ get_or next_fill to 0 → u ≡ v → IsNextFill t.plan.shards p.shard to k u
+    fill_next {to} {k} {x} {u} b lt e is_x same = record {
+      between = fill_between b;
+      below = subst (λ n. to < n) (sym z.count) lt;
+      slot = e ∙ (λ i. mailbox (sym z.count i) (sym z.shard i) to ((is_x ∙ ap (λ l. get_or l to 0) (sym z.fill) ∙ ap (λ (y : View S V). get_or y.next_fill to 0) (sym same)) i));
+    }
+
+    pub fill_next_at : {to k x : ℕ} {u : View S V} → IsBetween sh s to k → to < sh → k ≡ mailbox sh s to x → x ≡ get_or next_fill to 0 → u ≡ v → IsNextFill t.plan.shards p.shard (dest t.plan.shards k) k u
+    fill_next_at {to} {k} {x} {u} b lt e is_x same = let I = fill_next b lt e is_x same in subst (λ j. IsNextFill t.plan.shards p.shard j k u) (sym I.between.leads_to) I
+
+    pub read_next_at : {from k x : ℕ} {u : View S V} → IsBetween sh from s k → from < sh → k ≡ mailbox sh from s x → x ≡ get_or next_read from 0 → u ≡ v → IsNextRead t.plan.shards (origin t.plan.shards k) p.shard k u
+    read_next_at {from} {k} {x} {u} b lt e is_x same =
+        let I : IsNextRead t.plan.shards from p.shard k u = record {
+          between = read_between b;
+          below = subst (λ n. from < n) (sym z.count) lt;
+          slot = e ∙ (λ i. mailbox (sym z.count i) from (sym z.shard i) ((is_x ∙ ap (λ l. get_or l from 0) (sym z.read) ∙ ap (λ (y : View S V). get_or y.next_read from 0) (sym same)) i));
+        } in subst (λ j. IsNextRead t.plan.shards j p.shard k u) (sym I.between.comes_from) I
 
     pub fill_end : {to k : ℕ} → IsBetween sh s to k → HasEnd t.plan.shards s k
     fill_end b = let e = fill_between b in (e.below, inl (e.comes_from ∙ z.shard))

@@ -1,8 +1,8 @@
 -- Seats that are cut off and joined keep the rule.
-use Rattle.std.proofs.Common.{◌≡◌, ℕ, ◌+◌, ◌<◌, true, List, [], ◌∷◌, ◌++◌, map, set, get_or, refl, sym, ap, ◌∙◌, subst, inl, inr, arith}
+use Rattle.std.proofs.Common.{◌≡◌, ℕ, zero, suc, ◌+◌, ◌<◌, true, List, [], ◌∷◌, ◌++◌, map, set, get_or, refl, sym, ap, ◌∙◌, subst, inl, inr, arith}
 use Rattle.std.proofs.lemmas.Bool.{or_cases}
 use Rattle.std.proofs.lemmas.List.{map_push, same_from_push}
-use mathlib.Core.Option.{some}
+use mathlib.Core.Option.{some, some-ne-none}
 use lib.ListN.{get_elem?}
 use Rattle.atomic_table.specs.Table.{State, Splits, Joins}
 use Rattle.atomic_table.proofs.Lists.{at_set, at_snoc}
@@ -15,8 +15,8 @@ use Rattle.shard_part.specs.Represents.{HoldsTables}
 use Rattle.shard_store.proofs.Totals.{total_append}
 use Rattle.shard_part.proofs.Showing.{all_append, all_parts}
 use Rattle.post_floor.specs.declared.view.View.{View}
-use Rattle.post_floor.specs.Boxes.{box_count}
-use Rattle.post_floor.specs.Floor.{Slot, flat, fill_claims, read_claims, CountsNone, MailboxInvariant, core_of, FloorInvariant}
+use Rattle.post_floor.specs.Boxes.{box_count, AreInOrder}
+use Rattle.post_floor.specs.Floor.{Slot, flat, fill_claims, read_claims, CountsNone, MailboxInvariant, core_of, IsSeatOf, words_between, FloorInvariant}
 use Rattle.post_floor.specs.Seats.{tail, first_alone, cut_left, cut_right, aside_left, aside_right, both, spent}
 use Rattle.post_floor.proofs.Totals.{total_set}
 use Rattle.post_floor.proofs.Parts.{flat_total, flat_each, flat_at}
@@ -36,6 +36,15 @@ all_first : {A : Type 0} (P : A → Type 0) (xs : List A) → All P xs → All P
 all_first P [] p = tt
 all_first P (x ∷ xs) p = (p.0, tt)
 
+tail_at : {A : Type 0} (xs : List A) (i : ℕ) (x : A) → get_elem? (tail xs) i ≡ some x → get_elem? xs (suc i) ≡ some x
+tail_at [] i x e = e
+tail_at (y ∷ ys) i x e = e
+
+first_at : {A : Type 0} (xs : List A) (i : ℕ) (x : A) → get_elem? (first_alone xs) i ≡ some x → get_elem? xs 0 ≡ some x
+first_at [] i x e = e
+first_at (y ∷ ys) zero x e = e
+first_at (y ∷ ys) (suc i) x e = absurd (some-ne-none x (sym e))
+
 none_left : {A : Type 0} (xs ys : List A) → xs ++ ys ≡ [] → xs ≡ []
 none_left [] ys e = refl
 none_left (x ∷ xs) ys e = absurd cc
@@ -47,6 +56,11 @@ none_right (x ∷ xs) ys e = absurd cc
 module _ {S V : Type 0} (meaning : S → Algebra V) (t : SetupData S) where
   abbrev St : Type 0
   St = State (Slot V) (View S V)
+
+  -- one of the views had the view's parts and next slots
+  abbrev WasThere : St → View S V → Type 0
+  WasThere s v = (n : ℕ) (p : PartData S V) → IsSeatOf n v p
+      → (id : ℕ) × (u : View S V) × (get_elem? s.views id ≡ some u) × IsSeatOf n u p × (u.next_fill ≡ v.next_fill) × (u.next_read ≡ v.next_read)
 
   -- the same parts, claims, counts and knowledge, in other seats
   pub record Reseats (s : St) (views' : List (View S V)) : Type 1 where
@@ -60,6 +74,7 @@ module _ {S V : Type 0} (meaning : S → Algebra V) (t : SetupData S) where
     pub accepted : total (λ (v : View S V). v.accepted) views' ≡ total (λ (v : View S V). v.accepted) s.views
     pub idle : ((id : ℕ) (v : View S V) → get_elem? s.views id ≡ some v → v.parts ≡ [] → CountsNone v) → (id : ℕ) (v : View S V) → get_elem? views' id ≡ some v → v.parts ≡ [] → CountsNone v
     pub seen : (D : Type 0) → ((id : ℕ) (v : View S V) → get_elem? s.views id ≡ some v → v.seen ≡ true → D) → (id : ℕ) (v : View S V) → get_elem? views' id ≡ some v → v.seen ≡ true → D
+    pub were : (id : ℕ) (v : View S V) → get_elem? views' id ≡ some v → WasThere s v
 
   reseated : (s : St) (r : FloorInvariant meaning t s) (views' : List (View S V)) → Reseats s views' → FloorInvariant meaning t (record { words = s.words; homes = s.homes; views = views' })
   reseated s r views' c =
@@ -82,6 +97,9 @@ module _ {S V : Type 0} (meaning : S → Algebra V) (t : SetupData S) where
         seen = c.seen (get_or s.words (box_count t.plan.shards) 0 ≡ 1) r.seen;
         wide = r.wide;
         roomy = r.roomy;
+        ordered = λ i j v w p q at at' P Q ne. let x = c.were i v at t.plan.shards p P in let y = c.were j w at' t.plan.shards q Q in
+            subst (λ (z : List ℕ × List ℕ). AreInOrder (words_between t.plan.shards s.words p.shard q.shard) (get_or z.0 p.shard 0) (get_or z.1 q.shard 0))
+            (λ k. (y.5 k, x.4 k)) (r.ordered x.0 y.0 x.1 y.1 p q x.2 y.2 x.3 y.3 ne);
       }
 
   -- a view v is cut into l and w
@@ -97,6 +115,8 @@ module _ {S V : Type 0} (meaning : S → Algebra V) (t : SetupData S) where
     pub idle : (v.parts ≡ [] → CountsNone v) → (l.parts ≡ [] → CountsNone l) × (w.parts ≡ [] → CountsNone w)
     pub seen_left : l.seen ≡ v.seen
     pub seen_right : w.seen ≡ v.seen
+    pub left : (n : ℕ) (p : PartData S V) → IsSeatOf n l p → IsSeatOf n v p × (v.next_fill ≡ l.next_fill) × (v.next_read ≡ l.next_read)
+    pub right : (n : ℕ) (p : PartData S V) → IsSeatOf n w p → IsSeatOf n v p × (v.next_fill ≡ w.next_fill) × (v.next_read ≡ w.next_read)
 
   pub splits_as : (id : ℕ) (v l w : View S V) → Cuts v l w → Splits (FloorInvariant meaning t) id v l w
   splits_as id v l w c s r at =
@@ -120,6 +140,7 @@ module _ {S V : Type 0} (meaning : S → Algebra V) (t : SetupData S) where
         accepted = sums (λ (u : View S V). u.accepted) c.accepted;
         idle = λ old. let cut = c.idle (old id v at) in where' (λ (u : View S V). u.parts ≡ [] → CountsNone u) old cut.0 cut.1;
         seen = λ D old. where' (λ (u : View S V). u.seen ≡ true → D) old (λ e. old id v at (sym c.seen_left ∙ e)) (λ e. old id v at (sym c.seen_right ∙ e));
+        were = where' (WasThere s) (λ i u a n p P. (i, u, a, P, refl, refl)) (λ n p P. let x = c.left n p P in (id, v, at, x.0, x.1, x.2)) (λ n p P. let x = c.right n p P in (id, v, at, x.0, x.1, x.2));
       })
 
   pub splits : (id : ℕ) (v : View S V) → v.sent ≡ total (λ p. p.sent) v.parts → v.fills ≡ [] → v.reads ≡ [] → v.delivered ≡ 0 → v.signalled ≡ 0
@@ -139,6 +160,8 @@ module _ {S V : Type 0} (meaning : S → Algebra V) (t : SetupData S) where
     );
     seen_left = refl;
     seen_right = refl;
+    left = λ n p P. (record { place = suc P.place; has = tail_at v.parts P.place p P.has; below = P.below; fills = P.fills; reads = P.reads }, refl, refl);
+    right = λ n p P. (record { place = 0; has = first_at v.parts P.place p P.has; below = P.below; fills = P.fills; reads = P.reads }, refl, refl);
   })
 
   pub splits_aside : (id : ℕ) (v : View S V) → Splits (FloorInvariant meaning t) id v (aside_left v) (aside_right v)
@@ -158,6 +181,8 @@ module _ {S V : Type 0} (meaning : S → Algebra V) (t : SetupData S) where
     );
     seen_left = refl;
     seen_right = refl;
+    left = λ n p P. absurd (some-ne-none p (sym P.has));
+    right = λ n p P. (record { place = P.place; has = P.has; below = P.below; fills = P.fills; reads = P.reads }, refl, refl);
   })
 
   pub joins : (id : ℕ) (v : View S V) (other : ℕ) (w : View S V) → Joins (FloorInvariant meaning t) id v other w (both v w) spent
@@ -192,6 +217,8 @@ module _ {S V : Type 0} (meaning : S → Algebra V) (t : SetupData S) where
             })
             (λ q. record { sent = refl; delivered = refl; signalled = refl; accepted = refl });
         seen = λ D old. where' (λ (u : View S V). u.seen ≡ true → D) old (λ q. elim (or_cases v.seen w.seen q) [ inl z ↦ old id v at z | inr z ↦ old other w was z ]) (λ z. absurd cc);
+        were = where' (WasThere s) (λ i u a n p P. (i, u, a, P, refl, refl)) (λ n p P. absurd (let l = P.fills in let m = P.below in omega (arith, l, m)))
+            (λ n p P. absurd (some-ne-none p (sym P.has)));
       })
 
 -- the last of a list leaves

@@ -26,7 +26,7 @@ module _ {A : Type 0} where
   total_two f (x ∷ xs) (suc i) zero v w ne e d = let p : f x ≡ f w = ap f (some-injective x w d) in let q = total_at f xs i v e in omega (arith, p, q)
   total_two f (x ∷ xs) (suc i) (suc j) v w ne e d = let q = total_two f xs i j v w (λ s. ne (ap suc s)) e d in omega (arith, q)
 
-  total_none : (f : A → ℕ) (vs : List A) → ((i : ℕ) (u : A) → get_elem? vs i ≡ some u → f u ≡ 0) → total f vs ≡ 0
+  pub total_none : (f : A → ℕ) (vs : List A) → ((i : ℕ) (u : A) → get_elem? vs i ≡ some u → f u ≡ 0) → total f vs ≡ 0
   total_none f [] z = refl
   total_none f (x ∷ xs) z = let p = z 0 x refl in let q = total_none f xs (λ i u a. z (suc i) u a) in omega (arith, p, q)
 

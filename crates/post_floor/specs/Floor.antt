@@ -1,5 +1,5 @@
 -- How views and mailboxes represent a state, and the rule of the floor.
-use Rattle.std.specs.Prelude.{◌≡◌, ◌⊎◌, ℕ, ◌+◌, ◌<◌, ◌≤◌, true, cond, eqb, List, [], ◌∷◌, ◌++◌, length, get_or}
+use Rattle.std.specs.Prelude.{◌≡◌, ◌≢◌, ◌⊎◌, ℕ, ◌+◌, ◌<◌, ◌≤◌, true, cond, eqb, List, [], ◌∷◌, ◌++◌, length, get_or}
 use Rattle.std.specs.Prelude as std
 use mathlib.Core.Option.{Option, none, some}
 use lib.ListN.{get_elem?}
@@ -20,7 +20,7 @@ use Rattle.shard_store.specs.Capacities.{outbox_bound}
 use Rattle.shard_part.specs.Represents.{Represents}
 use Rattle.shard_part.specs.Arriving.{MadeAt}
 use Rattle.post_floor.specs.declared.view.View.{View}
-use Rattle.post_floor.specs.Boxes.{empty, filling, full, reading, done_now, box_count, dest, origin}
+use Rattle.post_floor.specs.Boxes.{empty, filling, full, reading, done_now, box_count, mailbox, dest, origin, AreInOrder}
 
 -- what a slot holds: its batch, or nothing while a call is moving it
 abbrev pub Slot : Type 0 → Type 0
@@ -29,6 +29,10 @@ Slot V = std.Option (Buffer (Item V))
 -- where a slot is: outside the table, out with a seat, or in the table
 abbrev pub Place : Type 0 → Type 0
 Place V = Option (Option (Slot V))
+
+-- the words of a pair's slots, by slot
+abbrev pub words_between : ℕ → List ℕ → (from to slot : ℕ) → ℕ
+words_between n words from to slot = get_or words (mailbox n from to slot) 0
 
 module _ {S V : Type 0} where
   -- the parts of all views
@@ -56,6 +60,21 @@ module _ {S V : Type 0} where
     pub delivered : v.delivered ≡ 0
     pub signalled : v.signalled ≡ 0
     pub accepted : v.accepted ≡ 0
+
+  -- the view has the part p among its parts, and a next slot to and from each of n shards
+  pub record IsSeatOf (n : ℕ) (v : View S V) (p : PartData S V) : Type 0 where
+    pub place : ℕ
+    pub has : get_elem? v.parts place ≡ some p
+    pub below : p.shard < n
+    pub fills : length v.next_fill ≡ n
+    pub reads : length v.next_read ≡ n
+
+  -- The slots between each two of n shards are in order, by the next slots that the views of their parts have: those that are full are consecutive, from the
+  -- receiver's next slot to the one before the sender's next.
+  abbrev pub AreAllInOrder : ℕ → List ℕ → List (View S V) → Type 0
+  AreAllInOrder n words views = (i j : ℕ) (v w : View S V) (p q : PartData S V) → get_elem? views i ≡ some v → get_elem? views j ≡ some w
+      → IsSeatOf n v p → IsSeatOf n w q → p.shard ≢ q.shard
+      → AreInOrder (words_between n words p.shard q.shard) (get_or w.next_read p.shard 0) (get_or v.next_fill q.shard 0)
 
 module _ {V : Type 0} where
   abbrev pub load : (Item V → ℕ) → Slot V → ℕ
@@ -93,6 +112,7 @@ pub record MailboxInvariant {S V : Type 0} (t : SetupData S) (k w : ℕ) (y : Pl
   pub reads_is : reads ≡ is reading w
   pub empty_home : w ≡ empty → y ≡ some (some (empty_slot t k))
   pub full_home : w ≡ full → (xs : List (Item V)) × (y ≡ some (some (std.Some (buffer xs (mailbox_capacity t k))))) × MadeAt t (origin t.plan.shards k) xs
+  pub apart : w ≡ full → origin t.plan.shards k ≢ dest t.plan.shards k
   -- it is out with the seat that fills or reads it
   pub out : (w ≡ filling) ⊎ (w ≡ reading) → y ≡ some none
 
@@ -102,7 +122,8 @@ module _ {S V : Type 0} (meaning : S → Algebra V) (t : SetupData S) where
   core_of events = state_after (meaning t.diffusion.algebra) (network_of t) events
 
   -- What holds between any two steps: some events lead from the opening to a state that all views and all mailboxes represent, the views are of all
-  -- shards, their counts add up to what the events did, each mailbox is as its word says, and the done word says so only if the state has ended.
+  -- shards, their counts add up to what the events did, each mailbox is as its word says, the slots between
+  -- two shards are in order, and the done word says so only if the state has ended.
   pub record FloorInvariant (s : State (Slot V) (View S V)) : Type 0 where
     pub events : List Event
     pub shown : Represents meaning t (flat s.views) (in_transit t.plan.shards s.words s.homes) (core_of events)
@@ -115,6 +136,7 @@ module _ {S V : Type 0} (meaning : S → Algebra V) (t : SetupData S) where
     pub seen : (id : ℕ) (v : View S V) → get_elem? s.views id ≡ some v → v.seen ≡ true → get_or s.words (box_count t.plan.shards) 0 ≡ done_now
     pub wide : length s.words ≡ box_count t.plan.shards + 1
     pub roomy : length s.homes ≡ box_count t.plan.shards
+    pub ordered : AreAllInOrder t.plan.shards s.words s.views
 
   -- one view has all parts of a diffusion: with the mailboxes it represents a state that some events lead to, its counts are what these did, and if the done word says so, or it has seen that, the state has ended
   pub record FinalView (v : View S V) (ws : List ℕ) (hs : List (Option (Slot V))) : Type 0 where
@@ -131,3 +153,19 @@ module _ {S V : Type 0} (meaning : S → Algebra V) (t : SetupData S) where
     pub quiet : IsQuiet (core_of events)
     pub best : LabelsAreBest (meaning t.diffusion.algebra) t.diffusion.roads t.diffusion.source (core_of events)
     pub empty : total (part_weight (λ _ _. 1)) parts + mailed (λ _ _. 1) ≡ 0
+
+module _ {S V : Type 0} where
+  -- A part of the view can do nothing: its queue is empty, its next mailbox from each other shard is not full, and each outbox is empty, or it is for another
+  -- shard to which the next mailbox is not empty.
+  pub record Rests (n : ℕ) (words : List ℕ) (v : View S V) (p : PartData S V) : Type 0 where
+    pub next_fill : length v.next_fill ≡ n
+    pub next_read : length v.next_read ≡ n
+    pub queue : p.queue ≡ []
+    pub from : (j : ℕ) → j < n → j ≢ p.shard → words_between n words j p.shard (get_or v.next_read j 0) ≢ full
+    pub to : (j : ℕ) → (get_or p.outs j [] ≡ []) ⊎ ((j < n) × (j ≢ p.shard) × (words_between n words p.shard j (get_or v.next_fill j 0) ≢ empty))
+
+  -- no view has a claim, and no part can do anything
+  pub record IsStill (n : ℕ) (s : State (Slot V) (View S V)) : Type 0 where
+    pub fills : (k id : ℕ) (v : View S V) → get_elem? s.views id ≡ some v → fill_claims k v ≡ 0
+    pub reads : (k id : ℕ) (v : View S V) → get_elem? s.views id ≡ some v → read_claims k v ≡ 0
+    pub parts : (id : ℕ) (v : View S V) → get_elem? s.views id ≡ some v → All (Rests n s.words v) v.parts

@@ -1,5 +1,5 @@
 -- What a seat knows of its part, and what the steps report.
-use Rattle.std.specs.Prelude.{◌≡◌, ◌≢◌, ℕ, ◌+◌, Bool, true, false, cond, eqb, List, [], ◌∷◌, ◌++◌, set, get_or, min}
+use Rattle.std.specs.Prelude.{◌≡◌, ◌≢◌, ℕ, ◌+◌, ◌<◌, Bool, true, false, cond, eqb, List, [], ◌∷◌, ◌++◌, set, get_or, min}
 use Rattle.std.specs.Prelude as std
 use Rattle.atomic_table.specs.Table.{Me, rest}
 use Rattle.circular_buffer.specs.Buffer.{buffer}
@@ -14,17 +14,13 @@ use Rattle.shard_part.specs.Handling.{HandledAll}
 use Rattle.shard_part.specs.Represents.{HoldsShare}
 use Rattle.shard_part.specs.Arriving.{joined, MayReceive}
 use Rattle.post_floor.specs.declared.view.View.{View}
-use Rattle.post_floor.specs.Boxes.{empty, full, done_now, slots_per_pair, origin, dest}
+use Rattle.post_floor.specs.Boxes.{empty, full, done_now, next_slot, mailbox, origin, dest, IsBetween}
 use Rattle.post_floor.specs.Floor.{Slot, mailbox_capacity, empty_slot, core_of, fill_claims, read_claims}
 
 -- the list with its first k left out
 abbrev pub without : ℕ → List ℕ → List ℕ
 without k [] = []
 without k (x ∷ xs) = cond (eqb k x) xs (x ∷ without k xs)
-
--- the slot after this one; after the last comes the first
-abbrev pub next_slot : ℕ → ℕ
-next_slot n = cond (eqb (n + 1) slots_per_pair) 0 (n + 1)
 
 module _ {S V : Type 0} where
   -- the view has the part alone, and the part's counters are the view's counts, each held at the top
@@ -76,6 +72,18 @@ module _ {S V : Type 0} where
   -- the seat has no claim on the mailbox k
   abbrev pub Unclaimed : ℕ → View S V → Type 0
   Unclaimed k v = (fill_claims k v ≡ 0) × (read_claims k v ≡ 0)
+
+  -- the mailbox k leads from one of n shards to another, and is the next that the view fills there
+  pub record IsNextFill (n from to k : ℕ) (v : View S V) : Type 0 where
+    pub between : IsBetween n from to k
+    pub below : to < n
+    pub slot : k ≡ mailbox n from to (get_or v.next_fill to 0)
+
+  -- the same, and is the next that the view reads there
+  pub record IsNextRead (n from to k : ℕ) (v : View S V) : Type 0 where
+    pub between : IsBetween n from to k
+    pub below : from < n
+    pub slot : k ≡ mailbox n from to (get_or v.next_read from 0)
 
   -- the slot k was taken last, and is empty
   abbrev pub HasEmpty : SetupData S → ℕ → Me (Slot V) (View S V) → Type 0

@@ -32,13 +32,14 @@ module _ {S V : Type 0} where
   abbrev pub aside_right : View S V → View S V
   aside_right v = record v { fills = []; reads = [] }
 
+  -- what two seats know, as one; it fills and reads no mailbox any more
   abbrev pub both : View S V → View S V → View S V
   both v w = record {
     parts = v.parts ++ w.parts;
     fills = v.fills ++ w.fills;
     reads = v.reads ++ w.reads;
-    next_fill = v.next_fill ++ w.next_fill;
-    next_read = v.next_read ++ w.next_read;
+    next_fill = [];
+    next_read = [];
     steps = v.steps ++ w.steps;
     seen = v.seen || w.seen;
     sent = v.sent + w.sent;

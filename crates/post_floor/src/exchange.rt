@@ -3,7 +3,7 @@ ghost use Rattle.std.specs.Prelude.{◌≡◌, ◌≢◌, true, ◌<◌};
 ghost use Rattle.atomic_table.specs.Table.{rest};
 ghost use Rattle.post_floor.specs.Boxes.{box_count, dest, origin, IsBetween};
 ghost use Rattle.post_floor.specs.Floor.{fill_claims};
-ghost use Rattle.post_floor.specs.Plays.{HasEmpty, PublishOutcome, published_to, BatchOutcome};
+ghost use Rattle.post_floor.specs.Plays.{IsNextFill, IsNextRead, HasEmpty, PublishOutcome, published_to, BatchOutcome};
 ghost use Rattle.post_floor.specs.Data.{AtTable};
 
 use crate::mailbox::FULL;
@@ -27,6 +27,7 @@ pub(crate) fn publish_batch<A: PathAlgebra>(
     requires setup { part.old.setup ≡ table.now.key }
     requires to { (to ≢ part.old.shard) × (to < table.now.key.plan.shards) }
     requires between { IsBetween table.now.key.plan.shards part.old.shard to word }
+    requires next { IsNextFill table.now.key.plan.shards part.old.shard to word pass.old.me.0 }
     requires claim { 0 < fill_claims word pass.old.me.0 }
     requires held { HasEmpty table.now.key word pass.old.me }
     ensures pass { (pass.new.table_id ≡ pass.old.table_id) × (pass.new.id ≡ pass.old.id) }
@@ -57,6 +58,8 @@ pub(crate) fn read_batch<A: PathAlgebra>(
     requires word { word < box_count table.now.key.plan.shards }
     requires to { dest table.now.key.plan.shards word ≡ part.old.shard }
     requires from { origin table.now.key.plan.shards word ≢ part.old.shard }
+    requires next { IsNextRead table.now.key.plan.shards (origin table.now.key.plan.shards word)
+        part.old.shard word pass.old.me.0 }
     ensures pass { (pass.new.table_id ≡ pass.old.table_id) × (pass.new.id ≡ pass.old.id) }
     ensures told { BatchOutcome A.meaning result part.old part.new word pass.old.me pass.new.me }
 {

@@ -1,12 +1,15 @@
-//! A theorem over every floor: a caller calls it if its own proof needs what it promises.
+//! Theorems over every floor: a caller calls one if its own proof needs what it promises.
 ghost use Rattle.std.specs.Prelude.{◌≡◌, ℕ, true, List};
 ghost use mathlib.Core.Option.{Option, some};
 ghost use lib.ListN.{get_elem?};
 ghost use Rattle.atomic_table.specs.Table.{State};
 ghost use Rattle.scholten_core.specs.declared.event.Event.{Event};
-ghost use Rattle.shard_store.specs.Setup.{SetupData, IsPlanned};
+ghost use Rattle.scholten_core.specs.Diffusion.{HasEnded};
+ghost use Rattle.shard_store.specs.Setup.{SetupData, IsPlanned, place_in};
+ghost use Rattle.shard_part.specs.PartState.{PartData};
+ghost use Rattle.shard_part.specs.Readings.{has_ended};
 ghost use Rattle.post_floor.specs.declared.view.View.{View};
-ghost use Rattle.post_floor.specs.Floor.{Slot, flat, in_transit, FloorInvariant, FinalView, RepresentsQuiet};
+ghost use Rattle.post_floor.specs.Floor.{Slot, flat, in_transit, FloorInvariant, FinalView, RepresentsQuiet, IsStill, core_of};
 
 use path_algebra::PathAlgebra;
 
@@ -21,4 +24,14 @@ pub fn seen_floors_are_quiet<A: PathAlgebra>(_algebra: A)
         (Option (Slot A.Value))) → IsPlanned t 0 → FinalView A.meaning t v words homes →
         v.seen ≡ true →
         (events : List Event) × RepresentsQuiet A.meaning t v.parts (in_transit t.plan.shards words homes) events }
+{}
+
+/// If the rule of the floor holds and nothing can be done, the diffusion has ended: no view has a claim, each queue is empty, no part's next mailbox from another shard is full, and each outbox is empty or waits for a mailbox that is not. The part of the source's shard knows it.
+pub fn still_floors_have_ended<A: PathAlgebra>(_algebra: A)
+    ensures ended { (t : SetupData A) (s : State (Slot A.Value) (View A A.Value)) → IsPlanned t 0 →
+        (r : FloorInvariant A.meaning t s) → IsStill t.plan.shards s → HasEnded (core_of A.meaning t r.events) }
+    ensures known { (t : SetupData A) (s : State (Slot A.Value) (View A A.Value)) → IsPlanned t 0 →
+        FloorInvariant A.meaning t s → IsStill t.plan.shards s →
+        (id place : ℕ) (v : View A A.Value) (p : PartData A A.Value) → get_elem? s.views id ≡ some v →
+        get_elem? v.parts place ≡ some p → p.shard ≡ place_in t 0 → has_ended p ≡ true }
 {}

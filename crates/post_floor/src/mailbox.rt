@@ -1,7 +1,6 @@
 //! The words of the mailboxes and of the end, and the mailboxes by number.
 ghost use Rattle.std.specs.Prelude.{◌≡◌, ◌<◌, ◌≤◌};
-ghost use Rattle.post_floor.specs.Boxes.{slots_per_pair, box_count, mailbox, IsBetween};
-ghost use Rattle.post_floor.specs.Plays.{next_slot};
+ghost use Rattle.post_floor.specs.Boxes.{slots_per_pair, box_count, mailbox, next_slot, IsBetween};
 
 use shard_part::Shard;
 

@@ -3,7 +3,7 @@ ghost use Rattle.std.specs.Prelude.{◌≡◌, ◌≢◌, true, ◌<◌, [], ◌
 ghost use Rattle.shard_part.specs.Readings.{has_ended};
 ghost use Rattle.post_floor.specs.Boxes.{box_count, dest, origin};
 ghost use Rattle.post_floor.specs.Floor.{fill_claims, read_claims};
-ghost use Rattle.post_floor.specs.Plays.{HasEmpty, FillStep, PublishStep, ReadStep, ClearStep, LookStep, AnnounceStep};
+ghost use Rattle.post_floor.specs.Plays.{IsNextFill, IsNextRead, HasEmpty, FillStep, PublishStep, ReadStep, ClearStep, LookStep, AnnounceStep};
 ghost use Rattle.post_floor.specs.Data.{AtTable, Publishing};
 
 use crate::mailbox::{DONE, EMPTY, FILLING, FULL, READING};
@@ -23,6 +23,8 @@ pub(crate) fn fill_word<A: PathAlgebra, W: OfPart<A, A::Value>>(
     requires at { AtTable A.meaning table.now.table_id table.now.key pass.old.table_id pass.old.me.0
         part.now }
     requires word { word < box_count table.now.key.plan.shards }
+    requires next { IsNextFill table.now.key.plan.shards part.now.shard
+        (dest table.now.key.plan.shards word) word pass.old.me.0 }
     ensures pass { (pass.new.table_id ≡ pass.old.table_id) × (pass.new.id ≡ pass.old.id) }
     ensures told { FillStep A.meaning part.now word pass.old.me result pass.new.me }
 {
@@ -41,6 +43,9 @@ pub(crate) fn publish_word<A: PathAlgebra, W: OfPart<A, A::Value>>(
         part.now pass.old.me }
     requires claim { 0 < fill_claims word pass.old.me.0 }
     requires word { word < box_count table.now.key.plan.shards }
+    requires next { IsNextFill table.now.key.plan.shards part.now.shard
+        (dest table.now.key.plan.shards word) word pass.old.me.0 }
+    requires other { dest table.now.key.plan.shards word ≢ part.now.shard }
     ensures pass { (pass.new.table_id ≡ pass.old.table_id) × (pass.new.id ≡ pass.old.id) }
     ensures told { PublishStep A.meaning part.now word pass.old.me pass.new.me }
 {
@@ -60,6 +65,8 @@ pub(crate) fn read_word<A: PathAlgebra, W: OfPart<A, A::Value>>(
     requires word { word < box_count table.now.key.plan.shards }
     requires to { dest table.now.key.plan.shards word ≡ part.now.shard }
     requires from { origin table.now.key.plan.shards word ≢ part.now.shard }
+    requires next { IsNextRead table.now.key.plan.shards (origin table.now.key.plan.shards word)
+        part.now.shard word pass.old.me.0 }
     ensures pass { (pass.new.table_id ≡ pass.old.table_id) × (pass.new.id ≡ pass.old.id) }
     ensures told { ReadStep A.meaning part.now word pass.old.me result pass.new.me }
 {
@@ -79,6 +86,8 @@ pub(crate) fn clear_word<A: PathAlgebra, W: OfPart<A, A::Value>>(
     requires slot { HasEmpty table.now.key word pass.old.me }
     requires claim { 0 < read_claims word pass.old.me.0 }
     requires word { word < box_count table.now.key.plan.shards }
+    requires next { IsNextRead table.now.key.plan.shards (origin table.now.key.plan.shards word)
+        part.now.shard word pass.old.me.0 }
     ensures pass { (pass.new.table_id ≡ pass.old.table_id) × (pass.new.id ≡ pass.old.id) }
     ensures told { ClearStep A.meaning part.now word pass.old.me pass.new.me }
 {

@@ -1,7 +1,7 @@
 -- Mailboxes that are tried one after the other, as the steps of a seat record it.
 use Rattle.std.specs.Prelude.{◌≡◌, ◌≢◌, ◌⊎◌, ℕ, zero, suc, Bool, true, false, cond, List, [], ◌∷◌, ◌++◌, set, get_or}
 use Rattle.post_floor.specs.declared.view.WordStep.{WordStep}
-use Rattle.post_floor.specs.Plays.{next_slot}
+use Rattle.post_floor.specs.Boxes.{next_slot}
 
 -- a step found the number x in the word k, or stored it there
 abbrev pub at : ℕ → ℕ → WordStep

@@ -8,5 +8,5 @@ store-requires g c =
       c.requires.at.own,
       omega (arith, c.requires.at.sized.words, c.requires.word),
       clears_told g.A.PathAlgebra.meaning c.args.table.now.key laws.lawful c.requires.at.sized.planned _ _ _ _ _ _ c.requires.told
-          c.requires.at.moved c.requires.word c.requires.slot c.requires.claim,
+          c.requires.at.moved c.requires.word c.requires.slot c.requires.claim c.requires.next,
     )

@@ -8,5 +8,5 @@ compare_exchange-requires g c =
       c.requires.at.own,
       omega (arith, c.requires.at.sized.words, c.requires.word),
       fills_told g.A.PathAlgebra.meaning c.args.table.now.key laws.lawful c.requires.at.sized.planned _ _ _ _ _ _ c.requires.told
-          c.requires.at.moved c.requires.word,
+          c.requires.at.moved c.requires.word c.requires.next,
     )

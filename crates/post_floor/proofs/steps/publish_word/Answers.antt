@@ -8,5 +8,5 @@ store-requires g c =
       c.requires.batch.at.own,
       omega (arith, c.requires.batch.at.sized.words, c.requires.word),
       publishes_told g.A.PathAlgebra.meaning c.args.table.now.key laws.lawful c.requires.batch.at.sized.planned _ _ _ _ _ _ _ _ c.requires.told
-          c.requires.batch c.requires.word c.requires.claim,
+          c.requires.batch c.requires.word c.requires.claim c.requires.next c.requires.other,
     )

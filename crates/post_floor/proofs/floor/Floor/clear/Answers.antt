@@ -3,7 +3,7 @@ use Rattle.post_floor.specs.Boxes.{empty, origin}
 use Rattle.post_floor.specs.Floor.{read_claims}
 use Rattle.post_floor.specs.Plays.{at_word, end_read, ClearOutcome}
 use Rattle.post_floor.proofs.Claiming.{first_empty}
-use Rattle.post_floor.proofs.Seated.{seated, inside, slot_at, row_next, moved_on, read_between, read_claim, read_ring, read_less, still_at, placed, released, renamed}
+use Rattle.post_floor.proofs.Seated.{seated, inside, slot_at, row_next, moved_on, read_next_at, read_between, read_claim, read_ring, read_less, still_at, placed, released, renamed}
 use Rattle.post_floor.proofs.floor.Floor.clear.Goals as goal
 
 pub index-slot-requires : goal.index-slot-requires
@@ -81,3 +81,9 @@ returns-clause-told g c =
     let told = subst (λ o. ClearOutcome o c.args.part.now c.word_of-word.result c.bring.new.pass.me.0 c.clear_word.new.pass.me.0)
     (ap (λ u. origin u.plan.shards c.word_of-word.result) z.setup ∙ (read_between z c.word_of-word.ensures.between).comes_from) c.clear_word.ensures.told.0 in
     renamed (λ k u. at_word k empty (end_read c.args.from k u)) box (c.bring.ensures.pass.2 ∙ sym z.knows) told
+
+pub clear_word-requires-clause-next : goal.clear_word-requires-clause-next
+clear_word-requires-clause-next g c κs within =
+    let z = seated c.self.view_is c.seat.view_is c.self.invariant c.seat.invariant c.requires.at in
+    let row = slot_at z.read_slots c.from.view_is (inside z c.args.from c.requires.shard) c.index-slot.ensures in
+    read_next_at z c.word_of-word.ensures.between (inside z c.args.from c.requires.shard) c.word_of-word.ensures.number row.0 c.bring.ensures.pass.2

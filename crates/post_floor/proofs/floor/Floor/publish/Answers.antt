@@ -3,7 +3,7 @@ use Rattle.post_floor.specs.Boxes.{full}
 use Rattle.post_floor.specs.Floor.{fill_claims}
 use Rattle.post_floor.specs.Plays.{at_word, end_fill}
 use Rattle.post_floor.proofs.Claiming.{first_empty}
-use Rattle.post_floor.proofs.Seated.{seated, inside, slot_at, row_next, moved_on, fill_between, fill_claim, fill_ring, fill_less, still_at, placed, released, renamed}
+use Rattle.post_floor.proofs.Seated.{seated, inside, slot_at, row_next, moved_on, fill_next, fill_between, fill_claim, fill_ring, fill_less, still_at, placed, released, renamed}
 use Rattle.post_floor.proofs.floor.Floor.publish.Goals as goal
 
 pub index-slot-requires : goal.index-slot-requires
@@ -86,3 +86,9 @@ returns-clause-told g c =
     let row = slot_at z.fill_slots c.to.view_is (inside z c.args.to c.requires.shard.1) c.index-slot.ensures in
     let box = c.word_of-word.ensures.number ∙ z.fills c.args.to c.index-slot.result.now row.0 in
     renamed (λ k u. at_word k full (end_fill c.args.to k u)) box (c.bring.ensures.pass.2 ∙ sym z.knows) c.publish_batch.ensures.told.0
+
+pub publish_batch-requires-clause-next : goal.publish_batch-requires-clause-next
+publish_batch-requires-clause-next g c κs within =
+    let z = seated c.self.view_is c.seat.view_is c.self.invariant c.seat.invariant c.requires.at in
+    let row = slot_at z.fill_slots c.to.view_is (inside z c.args.to c.requires.shard.1) c.index-slot.ensures in
+    fill_next z c.word_of-word.ensures.between (inside z c.args.to c.requires.shard.1) c.word_of-word.ensures.number row.0 c.bring.ensures.pass.2

@@ -1,7 +1,7 @@
 use Rattle.std.proofs.Common.{arith, ◌∙◌, sym, refl}
 use Rattle.post_floor.specs.Boxes.{empty}
 use Rattle.post_floor.specs.Plays.{at_word, begin_fill}
-use Rattle.post_floor.proofs.Seated.{seated, inside, slot_at, fill_end, still, placed, claimed, renamed}
+use Rattle.post_floor.proofs.Seated.{seated, inside, slot_at, fill_next_at, fill_end, still, placed, claimed, renamed}
 use Rattle.post_floor.proofs.floor.Floor.try_fill.Goals as goal
 
 pub index-slot-requires : goal.index-slot-requires
@@ -57,3 +57,9 @@ returns-clause-told g c =
     let box = c.word_of-word.ensures.number ∙ z.fills c.args.to c.index-slot.result.now row.0 in
     let t = c.fill_word.ensures.told.0 c.if-fill_word-ne-EMPTY.false in
     renamed (λ k u. at_word k empty (begin_fill k u)) box (sym z.knows) t.0
+
+pub fill_word-requires-clause-next : goal.fill_word-requires-clause-next
+fill_word-requires-clause-next g c κs within =
+    let z = seated c.self.view_is c.seat.view_is c.self.invariant c.seat.invariant c.requires.at in
+    let row = slot_at z.fill_slots c.to.view_is (inside z c.args.to c.requires.shard) c.index-slot.ensures in
+    fill_next_at z c.word_of-word.ensures.between (inside z c.args.to c.requires.shard) c.word_of-word.ensures.number row.0 refl

@@ -1,7 +1,7 @@
 use Rattle.std.proofs.Common.{arith, ◌∙◌, ap, sym, refl}
 use Rattle.post_floor.specs.Boxes.{full}
 use Rattle.post_floor.specs.Plays.{at_word, begin_read}
-use Rattle.post_floor.proofs.Seated.{seated, inside, slot_at, read_between, read_end, still, placed, claimed, renamed}
+use Rattle.post_floor.proofs.Seated.{seated, inside, slot_at, read_next_at, read_between, read_end, still, placed, claimed, renamed}
 use Rattle.post_floor.proofs.floor.Floor.try_read.Goals as goal
 
 pub index-slot-requires : goal.index-slot-requires
@@ -67,3 +67,9 @@ returns-else-read_batch-clause-told g c =
     let box = c.word_of-word.ensures.number ∙ z.reads c.args.from c.index-slot.result.now row.0 in
     let t = c.if-read_batch.ensures.told in
     (t.0.0, t.0.1, t.0.2, renamed (λ k u. at_word k t.0.1 u) box (sym z.knows) t.0.3)
+
+pub read_batch-requires-clause-next : goal.read_batch-requires-clause-next
+read_batch-requires-clause-next g c κs within =
+    let z = seated c.self.view_is c.seat.view_is c.self.invariant c.seat.invariant c.requires.at in
+    let row = slot_at z.read_slots c.from.view_is (inside z c.args.from c.requires.shard.1) c.index-slot.ensures in
+    read_next_at z c.word_of-word.ensures.between (inside z c.args.from c.requires.shard.1) c.word_of-word.ensures.number row.0 refl

@@ -1,4 +1,4 @@
-use Rattle.std.proofs.Common.{subst, sym, ap, ◌∙◌, IfSome, ◌∷◌, []}
+use Rattle.std.proofs.Common.{subst, sym, IfSome, ◌∷◌, []}
 use Rattle.path_algebra.specs.Walks.{IsWalkValue}
 use Rattle.shard_part.specs.Readings.{IsOwn}
 use Rattle.station.proofs.Turns.{walks}

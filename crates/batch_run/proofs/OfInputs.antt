@@ -45,13 +45,6 @@ module _ {V : Type 0} (A : Algebra V) (IsRead : GraphData → Asked → Type 0) 
       ] in
       (begun_whole (wrote other), passed other)
 
--- the ranges do not depend on the solver
-pub in_range_by : (plain : Bool) (s : Settings) → AreInRange s → AreInRange (by_solver plain s)
-in_range_by plain s h = record { workers = h.workers; shards = h.shards; width = h.width; budget = h.budget; turns = h.turns }
-
-pub in_range_of : (plain : Bool) (s : Settings) → AreInRange (by_solver plain s) → AreInRange s
-in_range_of plain s h = record { workers = h.workers; shards = h.shards; width = h.width; budget = h.budget; turns = h.turns }
-
 -- with their own solver settings are what they are
 pub by_own : (plain : Bool) (s : Settings) → s.plain ≡ plain → by_solver plain s ≡ s
 by_own plain s e = ap (λ (b : Bool). record s { plain = b }) (sym e)
@@ -79,12 +72,6 @@ module _ (s : Settings) (answers : ℕ → ℕ → Bool → Type 0) (before afte
   module _ (r : Result (Unit {0}) RunFault) (later : IfErr r (λ f. IsLater s answers f × (f.number ≡ 42 → before < after))) where
     pub settings : AreInRange s → (r ≡ Err (record { number = 43; file = NoFile; line = 0 })) ↔ (AreInRange s → ⊥)
     settings inside = (λ e. absurd (later_no_setting _ ((IfErr-at_err _ e later).0) refl), λ no. absurd (no inside))
-
-    pub of_no_input : (input : File) (P : RunFault → Type 0) → input ≢ NoFile → IfErr r (λ f. f.file ≡ input → P f)
-    of_no_input input P other = IfErr-weaker r _ _ (λ f l e. absurd (other (sym e ∙ l.0.0))) later
-
-    pub no_failed_read : (input : File) (was is : ℕ) → input ≢ NoFile → is ≡ was → (r ≡ Err (record { number = 1; file = input; line = 0 })) ↔ (is ≢ was)
-    no_failed_read input was is other same = (λ e. absurd (other ((IfErr-at_err _ e later).0.0)), λ failed. absurd (failed same))
 
     pub kinds : (inputs : File → Type 0) → IfErr r (IsRunFaultOf inputs)
     kinds inputs = IfErr-weaker r _ _ (λ f l. later_kind f l.0 inputs) later

@@ -186,9 +186,8 @@ module _ {V : Type 0} (A : Algebra V) (g : GraphData) (asked : Asked) where
       record {
         answers = record { name = A.name; kind = asked.kind; n = g.vertices; list = p.answers };
         right = record { name_is = refl; kind_is = refl; n_is = refl; answers = right };
-        bytes = subst (Appends old new)
-            (sym (p.left.text_is ∙ append-nil p.left.prefix) ∙ ap (λ n. header_text asked.kind n A.name ++ blocks_text p.answers) (sym (answers_count A g asked.questions p.answers right)))
-            p.left.bytes;
+        bytes = subst (Appends old new) (ap (λ n. header_text asked.kind n A.name ++ blocks_text p.answers) (sym (answers_count A g asked.questions p.answers right)))
+            (left_appends old new b a (begun_text A asked p.answers) p.left);
       }
 
   -- all questions are answered

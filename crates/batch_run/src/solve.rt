@@ -6,7 +6,7 @@ ghost use Rattle.road_files.specs.Asked.{AreQuestionsOf, Question, asked_of};
 ghost use Rattle.worker_fleet.specs.Stops.{Says};
 ghost use Rattle.batch_run.specs.Reports.{ReportedAllOrPrefix, accounts_due};
 ghost use Rattle.batch_run.specs.Solved.{IsRouteFound, IsSolvedFor};
-ghost use Rattle.batch_run.specs.Solvers.{IsReady, IsSameSolver, graph_of, is_plain, last_of};
+ghost use Rattle.batch_run.specs.Solvers.{FindsRoutes, IsReady, IsSameSolver, graph_of, is_plain, last_of};
 
 mod diffusion;
 mod group;
@@ -25,7 +25,7 @@ use crate::solve::workers::{solve_next_by_workers, start_workers};
 use crate::watcher::Watcher;
 use path_algebra::{Labels, PathAlgebra};
 pub use plain_solver::PlainSolver;
-use road_graph::{InGraph, Memory, Vertex};
+use road_graph::{Memory, Vertex};
 use route_tree::{PairRoute, route_between, route_outgoing};
 pub(crate) use schedule::count_diffusions;
 pub use solved::Solved;
@@ -147,7 +147,7 @@ pub(crate) fn route<A: PathAlgebra>(
     pair: (Vertex, Vertex),
     labels: &Labels<A::Value>,
 ) -> Result<Option<PairRoute>, Memory>
-    requires ready { (asked : _) × (i : ℕ) × IsReady (A.meaning algebra) asked i solver.now }
+    requires ready { FindsRoutes solver.now }
     requires source { HasVertex (graph_of solver.now) pair.0 }
     requires target { HasVertex (graph_of solver.now) pair.1 }
     requires labels { AreBest (A.meaning algebra) (graph_of solver.now) (pair.0 ∷ []) labels.now }
@@ -156,14 +156,10 @@ pub(crate) fn route<A: PathAlgebra>(
     let (source, target) = pair;
     match solver {
         Solver::Plain(solver) => {
-            let graph = &solver.graph;
-            match &solver.by_head {
-                Some(rows) => route_outgoing(alloc, algebra, graph, rows, source, target, labels),
-                None => {
-                    let rows = InGraph::of(alloc, graph)?;
-                    route_outgoing(alloc, algebra, graph, &rows, source, target, labels)
-                }
-            }
+            let Some(rows) = &solver.by_head else {
+                unreachable!()
+            };
+            route_outgoing(alloc, algebra, &solver.graph, rows, source, target, labels)
         }
         Solver::Workers(solver) => {
             route_between(alloc, algebra, &solver.graph, source, target, labels)

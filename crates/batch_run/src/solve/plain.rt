@@ -15,7 +15,7 @@ use crate::solve::solved::{Solved, find_same_sources};
 use path_algebra::{Labels, PathAlgebra};
 use path_plain::solve_outgoing;
 use rayon::prelude::*;
-use road_files::{Questions, are_same};
+use road_files::{Kind, Questions, are_same};
 use road_graph::{InGraph, Memory, OutGraph, Vertex};
 use route_tree::Tree;
 use std::alloc::{AllocError, Global};
@@ -153,14 +153,7 @@ fn solve_plainly<A: PathAlgebra, R: Threads + Sync, T>(
     Ok(0)
 }
 
-fn questions_are_pairs(questions: &Questions) -> bool {
-    match questions {
-        Questions::Pairs(_) => true,
-        Questions::Sources(_) | Questions::Multi(_) => false,
-    }
-}
-
-/// Before the first question: forgets what was solved, and makes the rows of arcs by head if the questions are the first pairs.
+/// Before the first question: forgets what was solved. If the questions are pairs, and the first, makes the rows of arcs by head.
 pub(crate) fn start_plain<A: PathAlgebra, R, T>(
     batch: &Batch<'_, A, R, T>,
     solver: &mut PlainSolver<A::Value>,
@@ -170,7 +163,7 @@ pub(crate) fn start_plain<A: PathAlgebra, R, T>(
         (asked_of batch.now.questions.now) solver.new) }
 {
     solver.solved.clear();
-    if questions_are_pairs(batch.questions) && solver.by_head.is_none() {
+    if batch.questions.kind() == Kind::Pairs && solver.by_head.is_none() {
         let rows = InGraph::of(batch.run.alloc, &solver.graph)?;
         solver.by_head = Some(rows);
     }

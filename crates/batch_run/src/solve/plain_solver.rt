@@ -11,7 +11,7 @@ use std::alloc::Global;
 #[derive(Drop)]
 pub struct PlainSolver<V: Copy> {
     pub(crate) graph: OutGraph,
-    /// The graph's rows of arcs by head, made when a first batch of pairs begins.
+    /// The rows of the graph's arcs by head, made once, when the first batch of pairs begins.
     pub(crate) by_head: Option<InGraph>,
     /// What was solved side by side.
     pub(crate) solved: Vec<Solved<V>>,

@@ -8,7 +8,7 @@ ghost use Rattle.answer_text.specs.IsAnswer.{IsPairAnswer};
 ghost use Rattle.answer_text.specs.AnswerData.{found_of};
 ghost use Rattle.batch_run.specs.Answered.{WroteAnswer};
 ghost use Rattle.batch_run.specs.Solved.{IsSolvedFor};
-ghost use Rattle.batch_run.specs.Solvers.{IsReady, graph_of, last_of};
+ghost use Rattle.batch_run.specs.Solvers.{FindsRoutes, IsReady, graph_of, last_of};
 
 use crate::batch::Batch;
 use crate::faults::Unanswered;
@@ -30,7 +30,7 @@ fn found_at<A: PathAlgebra>(
     pair: (Vertex, Vertex),
     labels: &Labels<A::Value>,
 ) -> Result<Option<Found>, Memory>
-    requires ready { (asked : _) × (i : ℕ) × IsReady (A.meaning algebra) asked i solver.now }
+    requires ready { FindsRoutes solver.now }
     requires source { HasVertex (graph_of solver.now) pair.0 }
     requires target { HasVertex (graph_of solver.now) pair.1 }
     requires labels { AreBest (A.meaning algebra) (graph_of solver.now) (pair.0 ∷ []) labels.now }
@@ -61,8 +61,7 @@ fn answer_pair<A: PathAlgebra, W: RoadWrite, R, T>(
     labels: &Labels<A::Value>,
     out: &mut W,
 ) -> Result<(), Unanswered>
-    requires ready { (asked : _) × (i : ℕ) × IsReady (A.meaning batch.now.algebra) asked i
-        solver.now }
+    requires ready { FindsRoutes solver.now }
     requires source { HasVertex (graph_of solver.now) pair.0 }
     requires target { HasVertex (graph_of solver.now) pair.1 }
     requires labels { AreBest (A.meaning batch.now.algebra) (graph_of solver.now) (pair.0 ∷ [])

@@ -10,7 +10,7 @@ use Rattle.batch_run.proofs.inputs.PairInputBatchInput.read.Goals as goal
 pub returns-in-Ok-read_questions-clause-read : goal.returns-in-Ok-read_questions-clause-read
 returns-in-Ok-read_questions-clause-read g c = record {
   graph_is = record { told = c.in-Ok.ensures.value; some_text = c.in-Ok.ensures.some_text };
-  questions_are = subst (λ n. IsReadAs (question_rules n None) (g.Q.RoadRead.left c.args.self.now.questions) (asked_of c.in-Ok-read_questions.questions)) c.count_vertices.ensures.count
+  questions_are = subst (λ n. IsReadAs (question_rules n None) (g.Q.RoadRead.left c.args.self.now.questions.now) (asked_of c.in-Ok-read_questions.questions)) c.count_vertices.ensures.count
       (record { told = c.in-Ok-read_questions.ensures.reads.value; some_text = c.in-Ok-read_questions.ensures.reads.some_text });
 }
 

@@ -1,4 +1,4 @@
--- What a run tells of its inputs stays true at a later fault, and at one before they are read.
+-- What a success says of the inputs stays true at a later fault, and what a fault of the settings says is true of inputs that were not read.
 use Rattle.std.proofs.Common.{◌≡◌, ◌≢◌, ◌↔◌, ◌∙◌, ◌≤◌, ◌+◌, ℕ, Result, Ok, Err, refl, sym, ap, arith}
 use Rattle.std.specs.Prelude.{IfErr}
 use Rattle.batch_run.specs.declared.faults.File.{File}

@@ -1,4 +1,4 @@
--- What a run tells of its inputs, between two moments of them.
+-- How a run read its inputs, between two moments of them.
 use Rattle.std.specs.Prelude.{◌≡◌, ◌≢◌, ◌+◌, ◌≤◌, ◌↔◌, Result, Err, OnOk, IfErr}
 use Rattle.std.specs.Io.KnownBytes.{IsAtEnd}
 use Rattle.batch_run.specs.declared.faults.File.TheVariants.{Graph, Questions, Bundle, NoFile}

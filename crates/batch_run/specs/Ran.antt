@@ -91,7 +91,7 @@ abbrev pub IsLater : Settings → (ℕ → ℕ → Bool → Type 0) → RunFault
 IsLater s answers f = (f.file ≡ NoFile) × (f.line ≡ 0)
     × ((f.number ≡ 3) ⊎ (((f.number ≡ 40) × (s.plain ≡ false) × Stalls answers s.workers s.turns) ⊎ (((f.number ≡ 41) × (s.plain ≡ false) × Closes answers s.workers s.turns) ⊎ (f.number ≡ 42))))
 
--- these settings, where a solver of this kind answers
+-- these settings, if a solver of this kind answers
 abbrev pub by_solver : (plain : Bool) → Settings → Settings
 by_solver plain s = record s { plain = plain }
 

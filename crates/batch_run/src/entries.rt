@@ -14,7 +14,7 @@ use std::sync::Wait;
 use std::thread::Threads;
 use worker_fleet::Gate;
 
-/// Answers the questions of one input over the graph of another, and writes the answers: a batch, as `run_batch` says.
+/// Answers the questions of one input over the graph of another, and writes the answers, as `run_batch` does.
 pub fn run_pair<
     A: PathAlgebra,
     G: RoadRead,
@@ -44,8 +44,7 @@ pub fn run_pair<
     run_batch(run, algebra, &mut input, out, watcher)
 }
 
-/// Answers the questions of a bundle, a graph and questions over it in one input, and writes the answers: a batch, as `run_batch`
-/// says.
+/// Answers the questions of a bundle, a graph and questions over it in one input, and writes the answers, as `run_batch` does.
 pub fn run_bundle<
     A: PathAlgebra,
     B: RoadRead,

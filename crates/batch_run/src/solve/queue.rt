@@ -18,7 +18,7 @@ use std::sync::Wait;
 use std::thread::Threads;
 use worker_fleet::{Gate, GroupFault};
 
-/// How diffusions are cut, and those that were run together with the last one that was taken, the next one last.
+/// How the graph is cut into shards, and the gathered diffusions that wait, the next one last.
 #[derive(Drop)]
 pub(crate) struct DiffusionQueue<V: Copy> {
     pub(crate) plan: Plan,

@@ -24,7 +24,9 @@ use worker_fleet::{Gate, GroupFault};
 #[derive(Drop)]
 pub struct WorkerSolver<V: Copy> {
     pub(crate) graph: Graph,
+    /// The diffusions of a batch, once it has begun.
     pub(crate) queue: Option<DiffusionQueue<V>>,
+    /// What was solved last.
     pub(crate) last: Option<Solved<V>>,
 }
 
@@ -83,7 +85,7 @@ impl<V: Copy> WorkerSolver<V> {
     }
 }
 
-/// Before the first question: cuts the diffusions, and forgets what waits.
+/// Before the first question: cuts the graph into shards, and forgets what waits.
 pub(crate) fn start_workers<A: PathAlgebra, R, T>(
     batch: &Batch<'_, A, R, T>,
     solver: &mut WorkerSolver<A::Value>,

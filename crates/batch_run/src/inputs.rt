@@ -50,6 +50,7 @@ pub struct PairInput<'i, G, Q> {
 
 impl<G: RoadRead, Q: RoadRead> BatchInput for PairInput<'_, G, Q> {
     ghost use Rattle.std.specs.Prelude.{◌≡◌};
+    ghost use Rattle.std.proofs.Common.{refl};
     ghost use Rattle.batch_run.specs.Ran.{IsPairOf, IsPairFile};
     ghost use Rattle.batch_run.specs.Streams.{input};
     ghost use Rattle.batch_run.specs.Inputs.{HasReadPair};
@@ -63,7 +64,7 @@ impl<G: RoadRead, Q: RoadRead> BatchInput for PairInput<'_, G, Q> {
         HasReadPair (input G.left G.failures G.asked old.graph.now) (input G.left G.failures G.asked new.graph.now)
         (input Q.left Q.failures Q.asked old.questions.now) (input Q.left Q.failures Q.asked new.questions.now) outcome };
 
-    ghost later = { λ old new f file other h. (h.0, h.1.0, pair_later _ _ _ _ f file other h.1.1) };
+    ghost later = { λ old new f file other h. (h.0, h.1, pair_later _ _ _ _ f file other h.2) };
 
     ghost unread = { λ s. (refl, refl, pair_unread _ _) };
 
@@ -87,6 +88,7 @@ pub struct BundleInput<'i, B> {
 
 impl<B: RoadRead> BatchInput for BundleInput<'_, B> {
     ghost use Rattle.std.specs.Prelude.{◌≡◌};
+    ghost use Rattle.std.proofs.Common.{refl};
     ghost use Rattle.batch_run.specs.Ran.{IsBundleOf, IsBundleFile};
     ghost use Rattle.batch_run.specs.Streams.{input};
     ghost use Rattle.batch_run.specs.Inputs.{HasReadBundle};

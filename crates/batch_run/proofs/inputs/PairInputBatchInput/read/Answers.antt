@@ -18,19 +18,22 @@ pub returns-in-Err-read_questions-clause-fault : goal.returns-in-Err-read_questi
 returns-in-Err-read_questions-clause-fault g c =
     let is = c.fault_in-in-Err-read_questions.ensures in
     let reads = c.in-Err-read_questions.ensures.reads in
-    let own : c.fault_in-in-Err-read_questions.result.file ≡ Questions = of_file Questions c.in-Err-read_questions.fault _ is in
-    record {
-      sound = tt;
-      graph = λ e. let bad : Questions ≡ Graph = sym own ∙ e in cc;
-      questions = λ e. rw is (
-        g.B.FromArcs.roads c.in-Ok.graph,
-        record { told = c.in-Ok.ensures.value; some_text = c.in-Ok.ensures.some_text },
-        λ t. rw c.count_vertices.ensures.count at (reads.fault t.0 t.1),
-      );
-      read_graph = not_failed c.fault_in-in-Err-read_questions.result Graph _ _ (λ e. let bad : Questions ≡ Graph = sym own ∙ e in cc) c.in-Ok.ensures.sound _ refl;
-      read_questions = told_of Questions c.in-Err-read_questions.fault _ is _ _ reads.told reads.untold reads.placed;
-      untouched = λ e. absurd (no_setting Questions c.in-Err-read_questions.fault _ is reads.numbered e);
-      ends = tt;
-      asked = c.in-Ok.ensures.asked;
-      asked_questions = reads.asked;
-    }
+    let own : c.fault_in-in-Err-read_questions.result.file ≡ Questions = of_file Questions c.in-Err-read_questions.fault _ is in (
+      refl,
+      refl,
+      record {
+        sound = tt;
+        graph = λ e. let bad : Questions ≡ Graph = sym own ∙ e in cc;
+        questions = λ e. rw is (
+          g.B.FromArcs.roads c.in-Ok.graph,
+          record { told = c.in-Ok.ensures.value; some_text = c.in-Ok.ensures.some_text },
+          λ t. rw c.count_vertices.ensures.count at (reads.fault t.0 t.1),
+        );
+        read_graph = not_failed c.fault_in-in-Err-read_questions.result Graph _ _ (λ e. let bad : Questions ≡ Graph = sym own ∙ e in cc) c.in-Ok.ensures.sound _ refl;
+        read_questions = told_of Questions c.in-Err-read_questions.fault _ is _ _ reads.told reads.untold reads.placed;
+        untouched = λ e. absurd (no_setting Questions c.in-Err-read_questions.fault _ is reads.numbered e);
+        ends = tt;
+        asked = c.in-Ok.ensures.asked;
+        asked_questions = reads.asked;
+      },
+    )

@@ -1,12 +1,6 @@
 """What several tests ask about, worked out by hand."""
-import os
-import sys
-from pathlib import Path
-
 import diffuse
 
-TOP = Path(__file__).resolve().parents[3]
-TOWN = TOP / "examples" / "planning"
 NONE = diffuse.UNREACHED
 
 ARCS = [(1, 2, 4), (1, 3, 1), (3, 2, 2), (2, 4, 5), (3, 4, 8), (4, 4, 0), (5, 1, 3)]

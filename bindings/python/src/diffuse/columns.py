@@ -127,6 +127,11 @@ def room(code: str, count: int) -> Any:
     return np.zeros(count, dtype=_DTYPES[code]) if np is not None else array(code, bytes(array(code).itemsize * count))
 
 
+def greatest(column: Any) -> int:
+    """The greatest number of a column, or 0 if it is empty."""
+    return 0 if not len(column) else max(column) if isinstance(column, array) else int(column.max())
+
+
 def address(values: Union[Any, "array[int]"]) -> int:
     """Where the memory of an array begins; not null even if it is empty."""
     at = values.buffer_info()[0] if isinstance(values, array) else values.ctypes.data

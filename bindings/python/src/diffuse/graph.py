@@ -11,7 +11,7 @@ from ._library import DONE, NO_ROUTE, WRONG, Handle, library
 from .algebras import Algebra, AnyAlgebra, question_of
 from .answers import Route, Tree
 from .columns import (
-    MOST_64, MOST_ARCS, MOST_VERTICES, MOST_32, Column, address, arcs_of, arcs_of_columns, names_row, numbers, room,
+    MOST_32, MOST_64, MOST_ARCS, MOST_VERTICES, Column, address, arcs_of, arcs_of_columns, greatest, names_row, numbers, room,
     vertex_number, whole_number,
 )
 from .errors import NoRoom, NoRoute, NoVertex, OutOfRange, WrongTree, refusal, text_refusal
@@ -40,7 +40,7 @@ class Graph:
             ends = [numbers(column, names_row(name), 1, MOST_VERTICES, "I", NoVertex)
                     for column, name in ((tails, "tails"), (heads, "heads"))]
             tails, heads = ends
-            vertices = max((int(max(column)) for column in ends if len(column)), default=0)
+            vertices = max(map(greatest, ends))
         count = _vertex_count(vertices)
         graph = cls.__new__(cls)
         graph._open(count, arcs_of_columns(tails, heads, weights, count, lambda name: names_row(f"{name}s")))
@@ -109,7 +109,8 @@ class Graph:
             raise refusal(status)
         return Route(code.value, hops.value, places[:hops.value + 1])
 
-    def tree(self, sources: Union[int, Iterable[int]], algebra: AnyAlgebra = Algebra.SHORTEST, limit: Optional[int] = None) -> Tree:
+    def tree(self, sources: Union[int, Iterable[int]], algebra: AnyAlgebra = Algebra.SHORTEST,
+             limit: Optional[int] = None) -> Tree:
         """For all vertices at once the best value, the hops and the parent from the nearest of one or more sources.
 
         Raises NoVertex, NotANumber, NoAlgebra, OutOfMemory or Closed.

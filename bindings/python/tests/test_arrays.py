@@ -4,7 +4,7 @@ import unittest
 import diffuse
 from diffuse import Graph, Tree
 
-from .examples import ARCS, numpy, pandas
+from .examples import ARCS, listed, numpy, pandas
 
 
 @unittest.skipUnless(numpy, "numpy is not installed")
@@ -15,6 +15,15 @@ class Numpy(unittest.TestCase):
             self.assertEqual(graph.route(1, 4).value, 8, kind)
         graph = Graph(numpy.int64(5), numpy.asfortranarray(numpy.array(ARCS)))
         self.assertEqual(graph.route(numpy.int64(1), numpy.uint8(4)).value, 8)
+
+    def test_arrays_that_are_not_aligned(self):
+        """The C library may take only aligned numbers: what it is lent is."""
+        bytes_of = b"x" + numpy.array([1, 5], dtype="u4").tobytes()
+        sources = numpy.frombuffer(bytes_of, dtype="u4", offset=1)
+        self.assertFalse(sources.flags.aligned)
+        tree = Graph(5, ARCS).tree(sources)
+        self.assertTrue(tree.sources.flags.aligned)
+        self.assertEqual(listed(tree)[0], [0, 3, 1, 8, 0])
 
     def test_trees_are_arrays(self):
         tree = Graph(5, ARCS).tree(numpy.array([1]))

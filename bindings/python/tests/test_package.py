@@ -1,5 +1,6 @@
 """The package as it is installed: its library, its types, its version."""
 import os
+import re
 import subprocess
 import sys
 import unittest
@@ -24,6 +25,16 @@ class Package(unittest.TestCase):
         said = self.said("import diffuse; print('imported'); diffuse.Graph(1, [])", DIFFUSE_LIBRARY="/nowhere/libdiffuse.so")
         self.assertIn("imported", said)
         self.assertRegex(said, "ImportError: /nowhere/libdiffuse.so could not be loaded .*; DIFFUSE_LIBRARY may name another libdiffuse.so")
+
+    def test_numbers_of_the_header(self):
+        """Each status, algebra and reason of include/diffuse.h has a name here, and no other number has."""
+        header = (Path(__file__).resolve().parents[3] / "include" / "diffuse.h").read_text()
+        numbers = {kind: set(map(int, re.findall(r" = (\d+)", re.search(rf"enum diffuse_{kind} {{(.*?)}};", header, re.S)[1])))
+                   for kind in ("status", "algebra", "reason")}
+        self.assertEqual(numbers["status"], {0, *diffuse.errors.BY_STATUS})
+        self.assertEqual(numbers["algebra"], {int(algebra) for algebra in diffuse.Algebra})
+        self.assertEqual(numbers["reason"], {int(reason) for reason in diffuse.Reason})
+        self.assertTrue(all(reason.text for reason in diffuse.Reason))
 
     def test_names_that_are_exported(self):
         for name in diffuse.__all__:

@@ -4,11 +4,11 @@
 and pictures. docs/PLANNING.md is a walk through `Network`, docs/EMBEDDING.md says what is proved.
 """
 from ._library import version
-from .algebras import UNREACHED, Algebra
+from .algebras import ALGEBRAS, UNREACHED, Algebra
 from .answers import Route, Tree
 from .errors import (
-    AlreadyOpen, BadProblemLine, BadShape, Closed, DiffuseError, InputError, NoAlgebra, NoProblemLine, NoRoom, NoRoute, NotANumber,
-    NoVertex, OutOfMemory, OutOfRange, Reason, SecondProblemLine, TextFault, TooFewArcs, TooManyArcs, UnknownLine, WrongFields,
+    AlreadyOpen, BadProblemLine, BadShape, Closed, DiffuseError, InputError, NoAlgebra, NoProblemLine, NoRoom, NoRoute,
+    NotANumber, NoVertex, OutOfMemory, OutOfRange, Reason, SecondProblemLine, TextFault, TooFewArcs, TooManyArcs, UnknownLine, WrongFields,
     WrongTree,
 )
 from .graph import Graph
@@ -17,7 +17,7 @@ from .network import Network
 from .places import Places
 
 __all__ = [
-    "Algebra", "AlreadyOpen", "BadProblemLine", "BadShape", "Closed", "DiffuseError", "Graph", "InputError",
+    "Algebra", "ALGEBRAS", "AlreadyOpen", "BadProblemLine", "BadShape", "Closed", "DiffuseError", "Graph", "InputError",
     "Isochrone", "NamedRoute", "NamedTree", "Network", "NoAlgebra", "NoProblemLine", "NoRoom", "NoRoute", "NotANumber",
     "NoVertex", "OutOfMemory", "OutOfRange", "Places", "Reason", "Route", "SecondProblemLine", "TextFault",
     "TooFewArcs", "TooManyArcs", "Tree", "UnknownLine", "UNREACHED", "version", "WrongFields", "WrongTree",

@@ -33,6 +33,9 @@ class Algebra(IntEnum):
         return self in (Algebra.SHORTEST, Algebra.WITHIN)
 
 
+ALGEBRAS = {algebra.name.lower(): algebra for algebra in Algebra}
+"""The algebras by the names that the program and its answers have."""
+
 AnyAlgebra = Union[Algebra, str]
 
 
@@ -40,10 +43,9 @@ def algebra_of(algebra: AnyAlgebra) -> Algebra:
     """The algebra of a name, as the program writes it. Raises NoAlgebra."""
     if isinstance(algebra, Algebra):
         return algebra
-    found = Algebra.__members__.get(algebra.upper()) if isinstance(algebra, str) else None
-    if found is None:
-        raise NoAlgebra(f"there is no algebra {algebra!r}; there are {', '.join(name.lower() for name in Algebra.__members__)}")
-    return found
+    if algebra not in ALGEBRAS:
+        raise NoAlgebra(f"there is no algebra {algebra!r}; there are {', '.join(ALGEBRAS)}")
+    return ALGEBRAS[algebra]
 
 
 def question_of(algebra: AnyAlgebra, limit: Optional[int]) -> tuple[Algebra, int]:

@@ -3,7 +3,7 @@ from __future__ import annotations
 
 import operator
 from array import array
-from ctypes import addressof, create_string_buffer
+from ctypes import addressof, c_uint64
 from typing import Any, Callable, Iterable, NoReturn, Union
 
 from .errors import BadShape, NotANumber, NoVertex, OutOfRange, TextFault
@@ -21,7 +21,7 @@ Column = Any
 MOST_VERTICES, MOST_ARCS = 2**25, 2**27
 MOST_32, MOST_64 = 2**32 - 1, 2**64 - 1
 _DTYPES = {"I": "u4", "Q": "u8"}
-_NOTHING = create_string_buffer(8)
+_NOTHING = c_uint64()
 
 
 def whole_number(value: object, place: str, low: int, high: int, fault: type[TextFault] = OutOfRange) -> int:
@@ -83,7 +83,7 @@ def _from_numpy(values: Any, where: Where, low: int, high: int, code: str, fault
         for row in (int(values.argmin()), int(values.argmax())):
             if not low <= int(values[row]) <= high:
                 _first_fault(values.tolist(), where, low, high, fault)
-    return np.ascontiguousarray(values, dtype=_DTYPES[code])
+    return np.require(values, _DTYPES[code], ["C", "A"])
 
 
 def arcs_of_columns(tails: Column, heads: Column, weights: Column, vertices: int, where: Callable[[str], Where]) -> Any:
@@ -133,7 +133,7 @@ def greatest(column: Any) -> int:
 
 
 def address(values: Union[Any, "array[int]"]) -> int:
-    """Where the memory of an array begins; not null even if it is empty."""
+    """Where the memory of an array begins: aligned, and not null even if it is empty."""
     at = values.buffer_info()[0] if isinstance(values, array) else values.ctypes.data
     return at or addressof(_NOTHING)
 

@@ -68,7 +68,8 @@ class Questions(WithFiles):
     def test_algebras(self):
         network = self.network()
         self.assertEqual(network.route("A", "C", by="lanes", algebra="widest").cost, 4.0)
-        self.assertEqual(network.tree("A", by="lanes", algebra="widest").cost("A"), inf)
+        widest = network.tree("A", by="lanes", algebra="widest")
+        self.assertEqual((widest.cost("A"), widest.cost("D"), widest.reached()), (inf, 2, ["A", "B", "C", "D"]))
         self.assertEqual(network.route("A", "D", by="minutes", algebra="hops").cost, 2)
         self.assertEqual(network.route("A", "C", by="minutes", algebra="within", limit=2.2).cost, 2.2)
         self.assertRaises(diffuse.NoRoute, network.route, "A", "C", "minutes", "within", "2.199")
@@ -120,6 +121,7 @@ class Questions(WithFiles):
                      "take a larger scale, or rounding=True", lambda: network.with_sum("general", {"minutes": "0.333"}, scale=100))
         rounded = network.with_sum("general", {"minutes": "0.333"}, scale=100, rounding=True)
         self.assertEqual(rounded.route("C", "D", by="general").cost, 3.41)  # 3.41325
+        self.assertEqual(rounded.route("A", "C", by="general").cost, 0.73)  # 0.4995 and 0.2331
         self.refused(diffuse.OutOfRange, "general of the road in row 1: -3200 is not from 0 to 4294967295",
                      lambda: network.with_sum("general", {"euro": -10}, scale=100))
 
@@ -170,6 +172,8 @@ class Tables(WithFiles):
     def test_rounding_is_asked_for(self):
         network = self.network(ROADS.replace("0.7", "0.706"), rounding=True)
         self.assertEqual(network.route("B", "C", by="minutes").cost, 0.71)
+        self.faulty("0.7", "-0.001", diffuse.OutOfRange,
+                    "roads.csv, line 5, column minutes: -0.001 times the scale 100 is not from 0 to 4294967295", rounding=True)
 
     def test_other_separators(self):
         text = ROADS.replace(",", ";").replace(".", ",").replace("C", "Ça")

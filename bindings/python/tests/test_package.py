@@ -47,8 +47,15 @@ class Package(unittest.TestCase):
 
     def test_graphs_are_freed(self):
         """Three thousand graphs that nobody closes take 4 MB more than a hundred at most."""
-        code = ("import resource, diffuse\ndef use(times):\n    for _ in range(times): diffuse.Graph(100, [(1, 2, 3)] * 1000).tree(1)\n"
-                "    return resource.getrusage(resource.RUSAGE_SELF).ru_maxrss\nfirst = use(100)\nprint(use(3000) - first < 4096)")
+        code = """if True:
+            import diffuse
+            def pages_after(times):
+                for _ in range(times):
+                    diffuse.Graph(100, [(1, 2, 3)] * 1000).tree(1)
+                return int(open("/proc/self/statm").read().split()[1])
+            first = pages_after(100)
+            print(pages_after(3000) - first < 1024)
+        """
         self.assertEqual(self.said(code), "True\n")
 
 

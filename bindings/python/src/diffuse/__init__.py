@@ -8,8 +8,8 @@ from .algebras import ALGEBRAS, UNREACHED, Algebra
 from .answers import Route, Tree
 from .errors import (
     AlreadyOpen, BadProblemLine, BadShape, Closed, DiffuseError, InputError, NoAlgebra, NoProblemLine, NoRoom, NoRoute,
-    NotANumber, NoVertex, OutOfMemory, OutOfRange, Reason, SecondProblemLine, TextFault, TooFewArcs, TooManyArcs, UnknownLine, WrongFields,
-    WrongTree,
+    NotANumber, NoVertex, OutOfMemory, OutOfRange, Reason, SecondProblemLine, TextFault, TooFewArcs, TooManyArcs, UnknownLine,
+    WrongFields, WrongTree,
 )
 from .graph import Graph
 from .named import Isochrone, NamedRoute, NamedTree

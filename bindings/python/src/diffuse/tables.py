@@ -102,13 +102,11 @@ def weight_of(number: Decimal, scale: int, rounding: bool, where: str) -> int:
         units = (_ROUNDING if rounding else _EXACT).multiply(number, Decimal(scale))
     except Inexact:
         raise InputError(f"{where}: {number} has too many digits") from None
-    if not -1 < units < MOST_32 + 1:
+    if not 0 <= units <= MOST_32:
         raise OutOfRange(f"{where}: {number} times the scale {scale} is not from 0 to {MOST_32}")
     whole = units.to_integral_value()
     if whole != units and not rounding:
         raise InputError(f"{where}: {number} times the scale {scale} is not whole; take a larger scale, or rounding=True")
-    if not 0 <= whole <= MOST_32:
-        raise OutOfRange(f"{where}: {number} times the scale {scale} is not from 0 to {MOST_32}")
     return int(whole)
 
 

@@ -179,7 +179,8 @@ class Tables(WithFiles):
         text = ROADS.replace(",", ";").replace(".", ",").replace("C", "Ça")
         path = self.file("roads.csv", text.replace("\n", "\r\n"), "utf-8-sig")
         network = Network.read_csv(path, tail="from", head="to", costs=COSTS, both_ways="both_ways", delimiter=";", decimal=",")
-        self.assertEqual(network.route("A", "Ça", by="minutes").cost, 2.2)
+        route = network.route("A", "Ça", by="minutes")
+        self.assertEqual((route.cost, route.cells("road")), (2.2, ["Tunnel", "Lane"]))
 
     def test_all_or_no_roads_lead_back(self):
         self.assertEqual(len(self.network(both_ways=True).roads.tails), 12)
@@ -207,7 +208,8 @@ class OtherSources(WithFiles):
         gr = self.file("five.gr", FIVE_GR)
         rows = [("p aux sp co 1\nv 1 x 2\n", diffuse.NotANumber, "line 2"), ("p aux sp co 1\nv 2 1 2\n", diffuse.InputError, "line 2"),
                 ("p aux sp co 1\n", diffuse.BadShape, "0 lines of vertices, and 1"), ("v 1 1 2\n", diffuse.BadShape, "line 1"),
-                ("p aux sp co 2\nv 1 1 2\nv 1 1 2\n", diffuse.InputError, "line 3"), ("p sp 2 1\n", diffuse.BadShape, "line 1")]
+                ("p aux sp co 2\nv 1 1 2\nv 1 1 2\n", diffuse.InputError, "line 3"),
+                ("p aux sp co 6\n" + "".join(f"v {v} 1 2\n" for v in range(1, 7)), diffuse.InputError, "6 vertices, and the graph 5"), ("p sp 2 1\n", diffuse.BadShape, "line 1")]
         for text, kind, message in rows:
             with self.subTest(text), self.assertRaisesRegex(kind, message):
                 Network.read_dimacs(gr, self.file("bad.co", text))

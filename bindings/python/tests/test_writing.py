@@ -7,6 +7,7 @@ import xml.etree.ElementTree as ElementTree
 
 import diffuse
 from diffuse import Network
+from diffuse.frame import Frame, Labels
 
 from .test_network import WithFiles
 
@@ -98,6 +99,14 @@ class Pictures(WithFiles):
         self.assertEqual(words[-1], "up to 12.45 minutes")
         for algebra, by in (("widest", "lanes"), ("reach", "minutes"), ("hops", "minutes")):
             self.assertEqual(sum(map(len, self.drawn(network, network.tree("A", by=by, algebra=algebra))[1].values())), 4 + 3)
+
+    def test_labels_do_not_cover_each_other(self):
+        places = diffuse.Places({"A": (0.0, 0.0), "B": (1.0, 1.0)})
+        labels = Labels(Frame(places, "AB", 1000))
+        sides = [labels.place("name", (500, 500), False) for _ in range(5)]
+        self.assertEqual(sides, [(508, 500, "start"), (492, 500, "end"), (500, 485, "middle"), (500, 515, "middle"), None])
+        self.assertEqual(labels.place("name", (500, 500), True), (508, 500, "start"))
+        self.assertEqual(labels.place("at the edge", (990, 300), False), (982, 300, "end"))
 
     def test_names_are_escaped(self):
         network = Network.from_table({"a": ["<A>"], "b": ["B&C"], "m": [1]}, tail="a", head="b", costs={"m": 1},

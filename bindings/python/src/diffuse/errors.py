@@ -96,7 +96,7 @@ class WrongTree(DiffuseError):
 
 
 class TextFault(InputError):
-    """A text in the .gr format with a fault. `line` is counted from 1; 0 is no line."""
+    """A fault that a .gr text may have. `line` is the line of the text, from 1 on; or 0, if the numbers are of no text."""
 
     def __init__(self, message: str, line: int = 0) -> None:
         super().__init__(message)

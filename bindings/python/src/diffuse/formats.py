@@ -7,6 +7,7 @@ from typing import Any
 from .errors import InputError
 from .graph import Graph
 from .roads import Cost, Roads
+from .places import Places, read_co
 from .tables import Path, Table
 
 
@@ -30,9 +31,23 @@ def dimacs_roads(path: Path, cost: str) -> Roads:
         text = file.read()
     with Graph.from_gr(text) as graph:
         vertices = graph.vertices
-    lines = [(number, fields) for number, fields in enumerate(map(bytes.split, text.split(b"\n")), 1) if fields[:1] == [b"a"]]
-    tails, heads, weights = (array("I", [int(fields[place]) for _, fields in lines]) for place in (1, 2, 3))
+    columns, lines = [array("I") for _ in range(3)], []
+    for number, line in enumerate(text.split(b"\n"), 1):
+        fields = line.split()
+        if fields[:1] == [b"a"]:
+            lines.append(number)
+            for column, field in zip(columns, fields[1:]):
+                column.append(int(field))
+    tails, heads, weights = columns
     names = list(range(1, vertices + 1))
-    table = Table(str(path), {"tail": tails, "head": heads, cost: weights}, "line", [number for number, _ in lines])
+    table = Table(str(path), {"tail": tails, "head": heads, cost: weights}, "line", lines)
     rows = array("I", range(len(lines)))
     return Roads(names, tails, heads, rows, {cost: Cost(weights, 1)}, table, {name: name for name in names})
+
+
+def dimacs_places(path: Path, vertices: int) -> Places:
+    """The coordinates of a .co file. Raises InputError if it has a vertex that the graph does not have."""
+    places = read_co(path)
+    if len(places.points) > vertices:
+        raise InputError(f"{path} has {len(places.points)} vertices, and the graph {vertices}")
+    return places

@@ -44,8 +44,8 @@ class Labels:
         """Where a label begins, or ends or has its middle (its text-anchor); None if there is no room and it is not needed."""
         x, y = at
         wide = 0.6 * SIZE * len(name)
-        sides = [(x + 8, y, "start", x + 8), (x - 8, y, "end", x - 8 - wide), (x, y - 14, "middle", x - wide / 2),
-                 (x, y + 14, "middle", x - wide / 2)]
+        sides = [(x + 8, y, "start", x + 8), (x - 8, y, "end", x - 8 - wide), (x, y - SIZE - 1, "middle", x - wide / 2),
+                 (x, y + SIZE + 1, "middle", x - wide / 2)]
         for left, middle, anchor, begin in sides:
             box = (begin, middle - SIZE / 2, begin + wide, middle + SIZE / 2)
             if self._is_free(box):

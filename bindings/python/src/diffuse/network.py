@@ -9,10 +9,10 @@ from .algebras import MOST_LIMIT, Algebra, AnyAlgebra, algebra_of
 from .answers import Route
 from .drawing import draw
 from .errors import InputError, NoAlgebra, NoRoute, NoVertex
-from .formats import dimacs_roads, networkx_tables
+from .formats import dimacs_places, dimacs_roads, networkx_tables
 from .graph import Graph
 from .named import Isochrone, NamedRoute, NamedTree
-from .places import Places, places_of, read_co
+from .places import Places, places_of
 from .roads import ArcsByTail, Cost, Costs, Roads, best_arc, roads_of, with_sum
 from .tables import Path, decimal_of, read_table, table_of
 
@@ -77,7 +77,8 @@ class Network:
 
         Raises the class of the first fault of the .gr text (a TextFault), and InputError or its kinds for the .co text.
         """
-        return cls(dimacs_roads(gr, cost), None if co is None else read_co(co))
+        roads = dimacs_roads(gr, cost)
+        return cls(roads, None if co is None else dimacs_places(co, len(roads.names)))
 
     @property
     def names(self) -> Sequence[Hashable]:

@@ -1,0 +1,205 @@
+"""Routes, trees and checks of the five vertices, and what is refused. Values by hand, from the table of README.md."""
+import tempfile
+import unittest
+from array import array
+from pathlib import Path
+from unittest import mock
+
+import diffuse
+from diffuse import Graph, Route, Tree
+
+from .examples import ARCS, FIVE_GR, NONE, listed
+
+BEST = {  # values, hops and parents of vertices 1 to 5 from vertex 1
+    ("shortest", None): ([0, 3, 1, 8, NONE], [0, 2, 1, 3, 0], [0, 3, 1, 2, 0]),
+    ("widest", None): ([2**32, 4, 1, 4, NONE], [0, 1, 1, 2, 0], [0, 1, 1, 2, 0]),
+    ("reach", None): ([0, 0, 0, 0, NONE], [0, 1, 1, 2, 0], [0, 1, 1, 2, 0]),
+    ("hops", None): ([0, 1, 1, 2, NONE], [0, 1, 1, 2, 0], [0, 1, 1, 2, 0]),
+    ("reliable", None): ([10**12, 4000000, 1000000, 20, NONE], [0, 1, 1, 2, 0], [0, 1, 1, 2, 0]),
+    ("within", 5): ([0, 3, 1, NONE, NONE], [0, 2, 1, 0, 0], [0, 3, 1, 0, 0]),
+}
+
+
+class Answers(unittest.TestCase):
+    def test_trees_of_all_algebras(self):
+        graph = Graph(5, ARCS)
+        for (algebra, limit), wanted in BEST.items():
+            with self.subTest(algebra):
+                tree = graph.tree(1, algebra, limit)
+                self.assertEqual(listed(tree), list(wanted))
+                self.assertIsNone(graph.check(tree))
+
+    def test_routes(self):
+        graph = Graph(5, ARCS)
+        self.assertEqual(graph.route(1, 4), Route(8, 3, [1, 3, 2, 4]))
+        self.assertEqual(graph.route(1, 4, "widest"), Route(4, 2, [1, 2, 4]))
+        self.assertEqual(graph.route(5, 5), Route(0, 0, [5]))
+        self.assertEqual(graph.route(1, 4, "within", 8), Route(8, 3, [1, 3, 2, 4]))
+        self.assertEqual(graph.route(1, 4, diffuse.Algebra.HOPS).vertices, [1, 2, 4])
+
+    def test_several_sources_and_routes_of_a_tree(self):
+        tree = Graph(5, ARCS).tree([4, 5])
+        self.assertEqual(listed(tree), [[3, 6, 4, 0, 0], [1, 3, 2, 0, 0], [5, 3, 1, 0, 0]])
+        self.assertEqual(tree.route(2), Route(6, 3, [5, 1, 3, 2]))
+        self.assertEqual(tree.route(4), Route(0, 0, [4]))
+        self.assertEqual(listed(Graph(5, ARCS).tree([1, 1])), list(BEST["shortest", None]))
+
+    def test_a_long_route_is_solved_once(self):
+        many = 5000
+        graph = Graph.from_columns(range(1, many), range(2, many + 1), [3] * (many - 1))
+        found, calls = diffuse.graph.library(), []
+        counting = mock.Mock(wraps=found)
+        counting.diffuse_graph_route.side_effect = lambda *words: calls.append(1) or found.diffuse_graph_route(*words)
+        with mock.patch("diffuse.graph.library", return_value=counting):
+            route = graph.route(1, many)
+        self.assertEqual(route, Route(3 * (many - 1), many - 1, list(range(1, many + 1))))
+        self.assertEqual(len(calls), 1)
+
+    def test_graphs_of_texts_and_files(self):
+        with tempfile.TemporaryDirectory() as room:
+            path = Path(room, "five.gr")
+            path.write_text(FIVE_GR)
+            for graph in (Graph.from_gr(FIVE_GR.encode()), Graph.from_gr(bytearray(FIVE_GR.encode())), Graph.read(path)):
+                self.assertEqual((graph.vertices, graph.arcs), (5, 7))
+                self.assertEqual(graph.route(1, 4).value, 8)
+
+    def test_graphs_of_columns(self):
+        tails, heads, weights = zip(*ARCS)
+        for columns in ((tails, heads, weights), (array("q", tails), array("B", heads), array("I", weights)), (iter(tails), iter(heads), iter(weights))):
+            graph = Graph.from_columns(*columns)
+            self.assertEqual((graph.vertices, graph.arcs, graph.route(1, 4).value), (5, 7, 8))
+
+    def test_small_graphs(self):
+        self.assertEqual(listed(Graph(0, []).tree([])), [[], [], []])
+        self.assertEqual(listed(Graph(2, []).tree([])), [[NONE, NONE], [0, 0], [0, 0]])
+        self.assertEqual(Graph.from_columns([], [], []).vertices, 0)
+        self.assertEqual(Graph(2, [(1, 2, 2**32 - 1)]).route(1, 2).value, 2**32 - 1)
+
+    def test_a_closed_graph(self):
+        with Graph(5, ARCS) as graph:
+            tree = graph.tree(1)
+        for call in (lambda: graph.tree(1), lambda: graph.route(1, 2), lambda: graph.check(tree)):
+            self.assertRaises(diffuse.Closed, call)
+        graph.close()
+        self.assertEqual(listed(tree), list(BEST["shortest", None]))
+
+
+class Checks(unittest.TestCase):
+    def wrong(self, change, **question):
+        """What is found of the tree from 1 after a change of its lists."""
+        lists = [list(column) for column in BEST["shortest", None]]
+        change(*lists)
+        with self.assertRaises(diffuse.WrongTree) as caught:
+            Graph(5, ARCS).check(Tree(*lists, sources=[1], **question))
+        return caught.exception.vertex, caught.exception.reason.name
+
+    def test_wrong_lines(self):
+        def put(which, vertex, value):
+            return lambda *lists: lists[which].__setitem__(vertex - 1, value)
+
+        self.assertEqual(self.wrong(put(0, 4, 9)), (4, "NOT_BEST"))
+        self.assertEqual(self.wrong(put(0, 1, 1)), (1, "NOT_A_SOURCE_LINE"))
+        self.assertEqual(self.wrong(put(2, 4, 5)), (4, "NO_PARENT"))
+        self.assertEqual(self.wrong(put(1, 4, 4)), (4, "OTHER_HOPS"))
+        self.assertEqual(self.wrong(lambda values, hops, parents: (put(0, 4, NONE)(values), hops.__setitem__(3, 0), parents.__setitem__(3, 0))), (4, "HAS_WALK"))
+
+    def test_the_least_parent(self):
+        graph = Graph(4, [(1, 2, 1), (1, 3, 1), (2, 4, 1), (3, 4, 1)])
+        with self.assertRaises(diffuse.WrongTree) as caught:
+            graph.check(Tree([0, 1, 1, 2], [0, 1, 1, 2], [0, 1, 1, 3], [1]))
+        self.assertEqual((caught.exception.vertex, caught.exception.reason), (4, diffuse.Reason.LESSER_PARENT))
+        self.assertEqual(str(caught.exception), "the tree is wrong at vertex 4: a lesser vertex could be the parent")
+
+    def test_lists_of_another_length(self):
+        with self.assertRaisesRegex(diffuse.NoRoom, "hops has 4 places, and the graph 5 vertices"):
+            Graph(5, ARCS).check(Tree([0, 3, 1, 8, NONE], [0, 2, 1, 3], [0, 3, 1, 2, 0], [1]))
+
+
+class Refusals(unittest.TestCase):
+    def refused(self, kind, message, call):
+        with self.assertRaises(kind) as caught:
+            call()
+        self.assertEqual(str(caught.exception), message)
+
+    def test_numbers_out_of_range(self):
+        graph, big = Graph(5, ARCS), "4294967297 is not from 1 to 5"
+        self.refused(diffuse.NoVertex, f"source: {big}", lambda: graph.route(2**32 + 1, 4))
+        self.refused(diffuse.NoVertex, f"target: {big}", lambda: graph.route(1, 2**32 + 1))
+        self.refused(diffuse.NoVertex, "sources[1]: 0 is not from 1 to 5", lambda: graph.tree([1, 0]))
+        self.refused(diffuse.NoVertex, "sources[0]: 6 is not from 1 to 5", lambda: graph.tree(6))
+        self.refused(diffuse.OutOfRange, "arcs[1], weight: -1 is not from 0 to 4294967295", lambda: Graph(2, [(1, 2, 3), (1, 2, -1)]))
+        self.refused(diffuse.OutOfRange, "arcs[0], weight: 4294967296 is not from 0 to 4294967295", lambda: Graph(2, [(1, 2, 2**32)]))
+        self.refused(diffuse.NoVertex, "arcs[0], head: 3 is not from 1 to 2", lambda: Graph(2, [(1, 3, 3)]))
+        self.refused(diffuse.NoVertex, "tails[0]: -1 is not from 1 to 33554432", lambda: Graph.from_columns([-1], [1], [1]))
+        self.refused(diffuse.OutOfRange, "weights[0]: 4294967296 is not from 0 to 4294967295", lambda: Graph.from_columns([1], [1], [2**32]))
+        self.refused(diffuse.OutOfRange, "vertices: -1 is not from 0 to 33554432", lambda: Graph(-1, []))
+        self.refused(diffuse.OutOfRange, "vertices: 33554433 is not from 0 to 33554432", lambda: Graph(2**25 + 1, []))
+        self.refused(diffuse.OutOfRange, "values[0]: -1 is not from 0 to 18446744073709551615",
+                     lambda: graph.check(Tree([-1, 0, 0, 0, 0], [0] * 5, [0] * 5, [1])))
+
+    def test_what_is_no_number(self):
+        graph = Graph(5, ARCS)
+        self.refused(diffuse.NotANumber, "source: 1.0 is no whole number", lambda: graph.route(1.0, 4))
+        self.refused(diffuse.NotANumber, "target: '4' is no whole number", lambda: graph.route(1, "4"))
+        self.refused(diffuse.NotANumber, "sources[0]: True is no whole number", lambda: graph.tree([True, 2]))
+        self.refused(diffuse.NotANumber, "arcs[0], weight: 2.5 is no whole number", lambda: Graph(2, [(1, 2, 2.5)]))
+        self.refused(diffuse.NotANumber, "arcs[1], tail: None is no whole number", lambda: Graph(2, [(1, 2, 2), (None, 2, 2)]))
+
+    def test_shapes(self):
+        self.refused(diffuse.BadShape, "arcs[1]: (1, 2) is not a tail, a head and a weight", lambda: Graph(2, [(1, 2, 3), (1, 2)]))
+        self.refused(diffuse.BadShape, "arcs[0]: 1 is not a tail, a head and a weight", lambda: Graph(2, [1, 2, 3]))
+        self.refused(diffuse.BadShape, "the columns of tails, heads and weights have 2, 1 and 1 rows", lambda: Graph.from_columns([1, 2], [1], [1]))
+        grid = memoryview(bytes(8)).cast("B", (2, 4))
+        self.refused(diffuse.BadShape, "sources[0]: one dimension is needed, not the shape (2, 4)", lambda: Graph(5, ARCS).tree(grid))
+
+    def test_algebras_and_limits(self):
+        graph = Graph(5, ARCS)
+        self.refused(diffuse.NoAlgebra, "there is no algebra 'fast'; there are shortest, widest, reach, hops, reliable, within", lambda: graph.tree(1, "fast"))
+        self.refused(diffuse.NoAlgebra, "only within has a limit, and hops was given 5", lambda: graph.tree(1, "hops", 5))
+        for limit in (None, -1, 2**63 + 1, 2.5, True):
+            self.assertRaises(diffuse.NoAlgebra, graph.route, 1, 4, "within", limit)
+        self.assertEqual(graph.route(1, 4, "within", 2**63).value, 8)
+
+    def test_no_route(self):
+        self.refused(diffuse.NoRoute, "no route leads from 1 to 5", lambda: Graph(5, ARCS).route(1, 5))
+        self.refused(diffuse.NoRoute, "no route leads to vertex 5", lambda: Graph(5, ARCS).tree(1).route(5))
+        self.refused(diffuse.NoVertex, "vertex: 6 is not from 1 to 5", lambda: Graph(5, ARCS).tree(1).route(6))
+
+    def test_faults_of_texts(self):
+        """The rows of docs/FORMATS.md."""
+        rows = [("a 1 2 3\n", "NoProblemLine", 1), ("", "NoProblemLine", 1), ("p sp 2 0\np sp 2 0\n", "SecondProblemLine", 2),
+                ("p max 2 1\n", "BadProblemLine", 1), ("p sp 2 1\nx 1 2 3\n", "UnknownLine", 2), ("p sp 2 1\na 1 2\n", "WrongFields", 2),
+                ("p sp 2 1\na 1 2 -3\n", "NotANumber", 2), ("p sp 2 1\na 1 2 4294967296\n", "OutOfRange", 2),
+                ("p sp 2 1\nc\na 1 3 2\n", "NoVertex", 3), ("p sp 2 0\na 1 2 3\n", "TooManyArcs", 2), ("p sp 2 1\n", "TooFewArcs", 2)]
+        for text, name, line in rows:
+            with self.subTest(name):
+                with self.assertRaises(diffuse.TextFault) as caught:
+                    Graph.from_gr(text.encode())
+                self.assertEqual((type(caught.exception).__name__, caught.exception.line), (name, line))
+
+    def test_classes_by_status(self):
+        from diffuse.errors import BY_STATUS
+
+        self.assertEqual(sorted(BY_STATUS), [1, 2, 3, 4, 5, 6, *range(10, 20), 43])
+        for status, kind in BY_STATUS.items():
+            self.assertTrue(issubclass(kind, diffuse.DiffuseError) and 400 <= kind.http < 600, status)
+        error = diffuse.NoRoute("no route leads from 1 to 5")
+        self.assertEqual(error.as_dict(), {"error": "NoRoute", "status": 1, "http": 404, "detail": "no route leads from 1 to 5"})
+
+    def test_every_status_of_a_call_is_an_exception(self):
+        from diffuse.errors import BY_STATUS
+
+        graph, tree = Graph(5, ARCS), Graph(5, ARCS).tree(1)
+        for status, kind in BY_STATUS.items():
+            stub = mock.Mock(**{f"diffuse_graph_{call}.return_value": status for call in ("route", "tree", "check")})
+            with mock.patch("diffuse.graph.library", return_value=stub):
+                if status != 6:
+                    self.assertRaises(kind, graph.route, 1, 2)
+                    self.assertRaises(kind, graph.tree, 1)
+                    self.assertRaises(kind, graph.check, tree)
+        with mock.patch("diffuse.graph.library", return_value=mock.Mock(**{"diffuse_graph_tree.return_value": 99})):
+            self.assertRaisesRegex(diffuse.DiffuseError, "status 99", graph.tree, 1)
+
+
+if __name__ == "__main__":
+    unittest.main()

@@ -1,0 +1,73 @@
+//! The C interface, as `include/diffuse.h` has it, which says what each call does and what its caller owes.
+#![no_std]
+#![allow(clippy::missing_safety_doc)]
+
+/// An arc from `tail` to `head`. Vertices are numbered from 1.
+#[repr(C)]
+#[derive(Clone, Copy, Debug, PartialEq, Eq)]
+pub struct Arc {
+    pub tail: u32,
+    pub head: u32,
+    pub weight: u32,
+}
+
+/// A handle: closed, or open with a graph.
+#[repr(C)]
+#[derive(Debug)]
+pub struct Handle {
+    pub at: *mut u8,
+    pub is_open: bool,
+}
+
+impl Handle {
+    pub const CLOSED: Handle = Handle { at: core::ptr::null_mut(), is_open: false };
+}
+
+unsafe extern "C" {
+    pub fn diffuse_graph_open(vertices: u32, arcs: *const Arc, n_arcs: usize, graph: *mut Handle) -> i32;
+    pub fn diffuse_graph_read(bytes: *const u8, n_bytes: usize, graph: *mut Handle, line: *mut u64) -> i32;
+    pub fn diffuse_graph_share(graph: *mut Handle, second: *mut Handle) -> i32;
+    pub fn diffuse_graph_close(graph: *mut Handle);
+    pub fn diffuse_graph_vertices(graph: *mut Handle) -> u32;
+    pub fn diffuse_graph_arcs(graph: *mut Handle) -> usize;
+    pub fn diffuse_graph_route(
+        graph: *mut Handle,
+        algebra: u32,
+        limit: u64,
+        source: u32,
+        target: u32,
+        code: *mut u64,
+        hops: *mut u32,
+        room: *mut u32,
+        n_room: usize,
+    ) -> i32;
+    pub fn diffuse_graph_tree(
+        graph: *mut Handle,
+        algebra: u32,
+        limit: u64,
+        sources: *const u32,
+        n_sources: usize,
+        codes: *mut u64,
+        n_codes: usize,
+        hops: *mut u32,
+        n_hops: usize,
+        parents: *mut u32,
+        n_parents: usize,
+    ) -> i32;
+    pub fn diffuse_graph_check(
+        graph: *mut Handle,
+        algebra: u32,
+        limit: u64,
+        sources: *const u32,
+        n_sources: usize,
+        codes: *const u64,
+        n_codes: usize,
+        hops: *const u32,
+        n_hops: usize,
+        parents: *const u32,
+        n_parents: usize,
+        vertex: *mut u32,
+        reason: *mut u32,
+    ) -> i32;
+    pub fn diffuse_version() -> u32;
+}

@@ -136,6 +136,7 @@ class Roads(Made):
     def __init__(self, name, size, kind=""):
         words = ["graph", *size, SEED] + ([kind] if kind else [])
         super().__init__(name, size, "roads", words, "%d_%d%s" % (*size, "_" + kind if kind else ""))
+        self.kind = kind
 
 
 class Family(Made):

@@ -12,6 +12,7 @@ import socket
 import sys
 import threading
 import time
+from datetime import datetime, timezone
 from http.server import BaseHTTPRequestHandler, ThreadingHTTPServer
 from select import select
 from urllib.parse import urlsplit
@@ -22,14 +23,12 @@ from questions import Asked, Refused, route, table, tree
 
 LONGEST_BODY, SILENCE = 1 << 20, 30
 ANSWERS = {"/route": route, "/tree": tree, "/table": table}
-REPORTS = ("/health", "/metrics")
 JSON, TEXT = "application/json", "text/plain; version=0.0.4"
 
 
 def log(**fields):
     """One line of JSON on standard error."""
-    now = time.time()
-    stamp = time.strftime("%Y-%m-%dT%H:%M:%S", time.gmtime(now)) + f".{int(now * 1000) % 1000:03}Z"
+    stamp = datetime.now(timezone.utc).isoformat(timespec="milliseconds")
     sys.stderr.write(json.dumps({"time": stamp, **fields}) + "\n")
 
 
@@ -91,7 +90,7 @@ class Handler(BaseHTTPRequestHandler):
         self.note("", int(code), 0)
 
     def note(self, path, status, seconds):
-        path = path if path in ANSWERS or path in REPORTS else "other"
+        path = path if path in (*ANSWERS, "/health", "/metrics") else "other"
         self.server.metrics.observe(path, seconds)
         self.server.metrics.count("diffuse_requests_total", path=path, status=status)
         log(client=self.client_address[0], request=self.requestline, status=status, seconds=round(seconds, 6))
@@ -129,8 +128,8 @@ class Server(ThreadingHTTPServer):
         return {"status": "draining" if self.is_draining else "ok", "vertices": self.graph.vertices, "arcs": self.graph.arcs}
 
     def gauges(self):
-        return {"diffuse_connections": len(self.connections), "diffuse_graph_vertices": self.graph.vertices,
-                "diffuse_graph_arcs": self.graph.arcs}
+        graph = self.graph
+        return {"diffuse_connections": len(self.connections), "diffuse_graph_vertices": graph.vertices, "diffuse_graph_arcs": graph.arcs}
 
     def reload(self):
         """The file's graph answers all further requests; the old one is freed with its last. A bad file changes nothing."""
@@ -144,21 +143,18 @@ class Server(ThreadingHTTPServer):
 
     def process_request(self, request, client_address):
         with self.lock:
-            full = len(self.connections) >= self.words.connections
-            if not full:
+            if len(self.connections) < self.words.connections:
                 self.connections.add(request)
-        if full:
-            self.metrics.count("diffuse_connections_refused_total")
-            self.shutdown_request(request)
-        else:
-            super().process_request(request, client_address)
+                return super().process_request(request, client_address)
+        self.metrics.count("diffuse_connections_refused_total")
+        return self.shutdown_request(request)
 
     def shutdown_request(self, request):
         with self.lock:
             self.connections.discard(request)
         super().shutdown_request(request)
 
-    def handle_error(self, request, client_address):
+    def handle_error(self, _request, client_address):
         log(client=client_address[0], event="connection lost", error=repr(sys.exc_info()[1]))
 
     def drain(self):

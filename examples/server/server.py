@@ -12,6 +12,7 @@ import socket
 import sys
 import threading
 import time
+from concurrent.futures import ThreadPoolExecutor, TimeoutError
 from datetime import datetime, timezone
 from http.server import BaseHTTPRequestHandler, ThreadingHTTPServer
 from select import select
@@ -100,29 +101,27 @@ class Handler(BaseHTTPRequestHandler):
 
 
 class Server(ThreadingHTTPServer):
-    """A thread for each connection, and one graph for all: each search borrows a handle of its own."""
+    """A thread for each connection, and some that search: each search borrows a handle of its own on the one graph."""
 
     daemon_threads, request_queue_size, is_draining = True, 1024, False
 
     def __init__(self, words):
         self.words, self.metrics, self.lock, self.connections = words, Metrics(), threading.Lock(), set()
-        self.admitted, self.searching = threading.Semaphore(words.handles + words.queue), threading.Semaphore(words.handles)
+        self.admitted, self.searches = threading.Semaphore(words.handles + words.queue), ThreadPoolExecutor(words.handles)
         self.graph = Graph.read(words.graph)
         super().__init__((words.host, words.port), Handler)
 
     def answer(self, call, asked):
-        """An answer, once fewer than `handles` others are searched for; refused if too many wait already, or for too long."""
+        """What a search finds, as soon as one of `handles` threads is free; refused if too many wait already, or for too long."""
         if not self.admitted.acquire(blocking=False):
             raise Refused(503, "the queue is full")
+        search = self.searches.submit(call, self.graph, asked)
+        search.add_done_callback(lambda _: self.admitted.release())
         try:
-            if not self.searching.acquire(timeout=max(0, asked.deadline - time.monotonic())):
-                raise Refused(503, "timed out")
-            try:
-                return call(self.graph, asked)
-            finally:
-                self.searching.release()
-        finally:
-            self.admitted.release()
+            return search.result(max(0, asked.deadline - time.monotonic()))
+        except TimeoutError:
+            search.cancel()
+            raise Refused(503, "timed out") from None
 
     def health(self):
         return {"status": "draining" if self.is_draining else "ok", "vertices": self.graph.vertices, "arcs": self.graph.arcs}

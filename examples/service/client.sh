@@ -25,7 +25,8 @@ route() {
             r) echo "$value by $rest"; return ;;
         esac
     done 2> /dev/null <&"$from"
-    echo "the service has died"
+    wait "$service"
+    echo "the service has died, with status $?"
     return 1
 }
 

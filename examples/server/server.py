@@ -70,7 +70,11 @@ class Handler(BaseHTTPRequestHandler):
         if "Transfer-Encoding" in self.headers or not (size.isascii() and size.isdigit()) or int(size) > LONGEST_BODY:
             self.close_connection = True
             raise Refused(413, f"a body must have a Content-Length of at most {LONGEST_BODY}")
-        return self.rfile.read(int(size))
+        try:
+            return self.rfile.read(int(size))
+        except OSError:
+            self.close_connection = True
+            raise Refused(408, "the body has not come") from None
 
     def send(self, status, kind, body):
         data = (body if kind == TEXT else json.dumps(body) + "\n").encode()

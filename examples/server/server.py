@@ -36,7 +36,8 @@ def log(**fields):
 class Handler(BaseHTTPRequestHandler):
     """The requests of one connection, one after the other."""
 
-    protocol_version, timeout, wbufsize, disable_nagle_algorithm = "HTTP/1.1", SILENCE, 1 << 16, True
+    server_version, sys_version, protocol_version = "diffuse", "", "HTTP/1.1"
+    timeout, wbufsize, disable_nagle_algorithm = SILENCE, 1 << 16, True
 
     def do_GET(self):
         began, path, kind = time.monotonic(), self.path.partition("?")[0], JSON

@@ -1,4 +1,4 @@
-"""A server of examples/server that is tried: its process, its log, and a client."""
+"""A server of examples/server that is tried: its process, its log, and a client; and what it is asked by hand."""
 import http.client
 import json
 import os
@@ -11,6 +11,33 @@ from pathlib import Path
 
 SCRIPT = Path(__file__).resolve().parent.parent / "examples/server/server.py"
 PATIENCE = 60
+
+# By hand: a request, and its status and a part of its reply.
+BY_HAND = [
+    ("/route?source=1&target=4", 200, {"source": 1, "target": 4, "value": 8, "hops": 3, "route": [1, 3, 2, 4]}),
+    ("/route?source=1&target=5", 200, {"source": 1, "target": 5, "value": None, "hops": None, "route": None}),
+    ("/route?source=1&target=4&algebra=widest", 200, {"value": 4, "route": [1, 2, 4]}),
+    ("/route?source=1&target=4&algebra=within&limit=7", 200, {"value": None}),
+    ("/tree?sources=1&limit=5", 200, {"sources": [1], "limit": 5, "vertices": [[1, 0, 0, 0], [2, 3, 2, 3], [3, 1, 1, 1]]}),
+    ("/tree?sources=4,5&limit=1", 200, {"vertices": [[4, 0, 0, 0], [5, 0, 0, 0]]}),
+    ("/table?sources=1,4&targets=2,4,5", 200, {"values": [[3, 8, None], [None, 0, None]]}),
+    ("/health", 200, {"status": "ok", "vertices": 5, "arcs": 7}),
+    ("/route?source=1&target=6", 404, {"error": "NoVertex"}),
+    ("/table?sources=1&targets=6", 404, {"error": "NoVertex"}),
+    ("/route?source=1&target=4&algebra=fastest", 400, {"error": "NoAlgebra"}),
+    ("/route?source=1&target=4&limit=7", 400, {"error": "NoAlgebra"}),
+    ("/route?source=1", 400, {"error": "Refused"}),
+    ("/route?source=-1&target=4", 400, {"error": "Refused"}),
+    ("/tree?sources=1" + ",1" * 100 + "&limit=5", 400, {"error": "Refused"}),
+    ("/nowhere", 404, {"error": "Refused"}),
+]
+BODIES = [
+    (b'{"sources": [1], "targets": [4, 2]}', 200, {"values": [[8, 3]]}),
+    (b'{"sources": [true], "targets": [4]}', 400, {"error": "Refused"}),
+    (b'{"sources": [1], "targets": [4.0]}', 400, {"error": "Refused"}),
+    (b"[1]", 400, {"error": "Refused"}),
+    (b"{", 400, {"error": "Refused"}),
+]
 
 
 class Server:

@@ -1,13 +1,17 @@
 """What is measured: programs on one graph and one question file, in turn, with their answers compared."""
-import filecmp
 import os
+import re
+import shlex
+import shutil
 import statistics
 import subprocess
 
-from inputs import ONE_SOURCE, stop
+from answers import OTHER, compare_bytes, compared
+from inputs import ONE_SOURCE, PEER, READING, stop
 
-PEER, BASELINE, DIFFUSING = "dimacs-solver", "baseline", "diffusing"
+BASELINE, DIFFUSING = "baseline", "diffusing"
 TIME, WALL, PEAK, MESSAGES = "processor time", "wall time", "peak memory", "messages"
+BASELINES = {"ss": "heap_dijkstra", "p2p": "pairs_dijkstra"}
 
 
 class Case:
@@ -18,7 +22,7 @@ class Case:
 
     def __init__(self, files, kind):
         self.files, self.kind = files, kind
-        self.taken = {}
+        self.taken, self.found = {}, {}
 
     def title(self):
         return "%s, %s" % (self.files.name, self.kind)
@@ -31,9 +35,11 @@ class Case:
         """How many messages a program handled that wrote this on standard error, if it says so."""
         return None
 
-    def run(self, programs, folder, turn):
-        """One round: each program once, another one first each time; then the answers are compared."""
+    def run(self, programs, folder, turn, own=()):
+        """One round: each program once, another one first each time; then the answers are compared. The caller's own
+        programs need only give the same distances."""
         commands = list(self.commands(programs, folder).items())
+        commands += [(it.name, it.command(self.files.graph, self.files.questions[self.kind])) for it in own]
         turn %= len(commands)
         answers = {name: os.path.join(folder, name + ".answer") for name, _ in commands}
         for name, command in commands[turn:] + commands[:turn]:
@@ -41,8 +47,11 @@ class Case:
             taken[MESSAGES] = self.messages(name, noted, folder)
             self.taken.setdefault(name, []).append(taken)
         for name in answers:
-            if name not in ("diffuse", PEER):
-                compare(self.title(), answers["diffuse"], answers[name])
+            if name in [it.name for it in own]:
+                if self.kind != READING and not self.found.get(name, "").startswith(OTHER):
+                    self.found[name] = compared(answers["diffuse"], answers[name])
+            elif name not in ("diffuse", PEER):
+                compare_bytes(self.title(), answers["diffuse"], answers[name])
         for path in answers.values():
             os.remove(path)
 
@@ -51,7 +60,11 @@ class Case:
 
     def ratios(self, other, what):
         """What diffuse took for one that the other took in the same round; none if the other did not run."""
-        return [ours[what] / theirs[what] for ours, theirs in zip(self.taken["diffuse"], self.taken.get(other, []))]
+        return [ours[what] / theirs[what] for ours, theirs in zip(self.taken.get("diffuse", []), self.taken.get(other, []))]
+
+    def beyond(self, reading, name, what):
+        """What a program took beyond reading the graph, in each round: with questions, less without; none if either did not run."""
+        return [more[what] - less[what] for more, less in zip(self.taken.get(name, []), reading.taken.get(name, []))]
 
 
 class Plain(Case):
@@ -62,15 +75,32 @@ class Plain(Case):
         self.is_long = is_long
 
     def commands(self, programs, folder):
-        questions = self.files.questions[self.kind]
-        baseline = "pairs_dijkstra" if questions.endswith(".p2p") else "heap_dijkstra"
-        commands = {
-            "diffuse": [programs["diffuse"], "solve", self.files.graph, questions, "--plain"],
-            BASELINE: [programs[baseline], self.files.graph, questions],
-        }
+        questions, kind = self.files.questions[self.kind], self.files.word_of(self.kind)
+        commands = {"diffuse": [programs["diffuse"], "solve", self.files.graph, questions, "--plain"]}
+        if kind in BASELINES:
+            commands[BASELINE] = [programs[BASELINES[kind]], self.files.graph, questions]
         if PEER in programs and self.kind == ONE_SOURCE and self.files.marked:
             commands[PEER] = [programs[PEER], "-q", self.files.marked]
         return commands
+
+
+class Own:
+    """A program of the caller's own: NAME=COMMAND, with {graph} and {questions} where the files go, or else at the end."""
+
+    def __init__(self, text):
+        self.name, found, words = text.partition("=")
+        self.words = shlex.split(words)
+        if not found or not self.words or not re.fullmatch(r"[\w.-]+", self.name) or self.name in ("diffuse", BASELINE, DIFFUSING, PEER):
+            stop("--program takes NAME=COMMAND, with a name of your own: %r" % text)
+        program = shutil.which(self.words[0])
+        if program is None:
+            stop("there is no program %s" % self.words[0])
+        self.words[0] = os.path.abspath(program)
+
+    def command(self, graph, questions):
+        if not any("{graph}" in word or "{questions}" in word for word in self.words):
+            return self.words + [graph, questions]
+        return [word.replace("{graph}", graph).replace("{questions}", questions) for word in self.words]
 
 
 class Wide(Case):
@@ -165,16 +195,3 @@ def check_launcher(measure):
     peak = measured(measure, ["/bin/true"], os.devnull)[0][PEAK]
     if peak * 10 > len(ballast):
         stop("the launcher reports a peak of %d bytes for /bin/true, so its figures of memory are wrong" % peak)
-
-
-def compare(title, ours, theirs):
-    """Stops if two answers differ in a byte, and leaves both."""
-    filecmp.clear_cache()
-    if filecmp.cmp(ours, theirs, shallow=False):
-        return
-    number, left, right = 0, b"", b""
-    with open(ours, "rb") as a, open(theirs, "rb") as b:
-        while left == right:
-            number, left, right = number + 1, a.readline(), b.readline()
-    stop("THE ANSWERS DIFFER for %s, first in line %d: %r and %r; they are left in %s and %s"
-         % (title, number, left, right, ours, theirs))

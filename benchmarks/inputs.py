@@ -5,8 +5,9 @@ import subprocess
 import sys
 
 HERE = os.path.dirname(os.path.abspath(__file__))
-SOURCES = ["roads", "heap_dijkstra", "pairs_dijkstra", "threads_dijkstra", "diffusing", "measure"]
+SOURCES = ["roads", "families", "heap_dijkstra", "pairs_dijkstra", "threads_dijkstra", "diffusing", "measure"]
 SEED = 1
+PEER = "dimacs-solver"
 
 # The kinds of question files: the kind that roads.cpp knows and how many questions there are; and one line of many sources.
 ONE_SOURCE, READING, ONE_LIST = "one source", "reading alone", "one list of 1,024 sources"
@@ -38,7 +39,7 @@ def build(folder):
     if shutil.which(compiler()) is None:
         stop("there is no %s on the path, which builds the programs of benchmarks/" % compiler())
     os.makedirs(folder, exist_ok=True)
-    paths, headers = {}, [os.path.join(HERE, name) for name in ("common.hpp", "output.hpp")]
+    paths, headers = {}, [os.path.join(HERE, name) for name in ("common.hpp", "output.hpp", "random.hpp")]
     for name in SOURCES:
         source, paths[name] = os.path.join(HERE, name + ".cpp"), os.path.join(folder, name)
         if not all(is_newer(paths[name], it) for it in [source, *headers]):
@@ -70,6 +71,10 @@ class Files:
         self.graph, self.questions = stem + ".gr", {kind: "%s.%d.%s" % (stem, count, word) for kind, (word, count) in KINDS.items()}
         self.questions[ONE_LIST] = stem + ".ms"
 
+    def word_of(self, kind):
+        """The kind of a question file, as its problem line has it."""
+        return KINDS[kind][0] if kind in KINDS else "ms"
+
     def warm(self):
         """Reads the graphs once, so that no round waits for the disk."""
         for path in filter(None, [self.graph, self.marked]):
@@ -78,25 +83,24 @@ class Files:
                     pass
 
 
-class Roads(Files):
-    """A road-like graph; its kind is `shuffled` or `motorways`, as roads.cpp has it, or none."""
+class Made(Files):
+    """A graph that a program of this folder makes from some words."""
 
-    def __init__(self, name, size, kind=""):
-        self.name, self.kind = name, kind
+    def __init__(self, name, size, maker, words, stem):
+        self.name, self.maker, self.words, self.stem = name, maker, [str(word) for word in words], stem
         self.vertices, self.arcs = size
 
-    def make(self, folder, roads, kind, for_peer):
-        """Writes the graph and the questions of a kind, if they are not there; `for_peer` asks for the graph as LEMON reads it, too."""
-        stem = os.path.join(folder, "%d_%d%s" % (self.vertices, self.arcs, "_" + self.kind if self.kind else ""))
-        self.at(stem)
-        self.write(self.graph, roads, ["graph", str(self.vertices), str(self.arcs), str(SEED)] + ([self.kind] if self.kind else []))
+    def make(self, folder, programs, kind):
+        """Writes the graph and the questions of a kind, if they are not there; if LEMON's program is, the graph as it reads it, too."""
+        self.at(os.path.join(folder, self.stem))
+        self.write(self.graph, programs[self.maker], self.words)
         if kind == ONE_LIST:
-            self.list_sources(roads)
+            self.list_sources(programs["roads"])
         else:
             word, count = KINDS[kind]
-            self.write(self.questions[kind], roads, [word, str(self.vertices), str(count), str(SEED)])
-        if kind == ONE_SOURCE and for_peer:
-            self.marked = stem + ".marked.gr"
+            self.write(self.questions[kind], programs["roads"], [word, str(self.vertices), str(count), str(SEED)])
+        if kind == ONE_SOURCE and PEER in programs:
+            self.marked = os.path.join(folder, self.stem + ".marked.gr")
             if not is_newer(self.marked, self.graph):
                 self.mark()
 
@@ -107,10 +111,10 @@ class Roads(Files):
             sources = [line.split()[1] for line in many.stdout.decode().splitlines() if line.startswith("s ")]
             write_lines(["p aux sp ms 1\n", "m %s\n" % " ".join(sources)], self.questions[ONE_LIST])
 
-    def write(self, path, roads, words):
-        if not is_newer(path, roads):
+    def write(self, path, maker, words):
+        if not is_newer(path, maker):
             note("making " + os.path.basename(path))
-            write_by([roads] + words, path)
+            write_by([maker] + words, path)
 
     def mark(self):
         """The same graph with the line `n SOURCE`, by which LEMON knows where to begin."""
@@ -126,6 +130,53 @@ class Roads(Files):
         os.replace(self.marked + ".part", self.marked)
 
 
+class Roads(Made):
+    """A road-like graph; its kind is `shuffled` or `motorways`, as roads.cpp has it, or none."""
+
+    def __init__(self, name, size, kind=""):
+        words = ["graph", *size, SEED] + ([kind] if kind else [])
+        super().__init__(name, size, "roads", words, "%d_%d%s" % (*size, "_" + kind if kind else ""))
+        self.kind = kind
+
+
+class Family(Made):
+    """A graph of a family of the challenge, as families.cpp has it, of 2^log vertices; of Random4-C, with lengths up to 4^k."""
+
+    def __init__(self, family, log, k=None):
+        words, n = [family, log, SEED] if k is None else [family, k, SEED, log], 2 ** log
+        wide = {"Long-n": 16, "Square-n": 2 ** (log // 2)}.get(family)
+        arcs = 2 * (wide * (n // wide - 1) + n // wide * (wide - 1)) if wide else 4 * n
+        name = "%s, 2^%d vertices%s" % (family, log, "" if k is None else ", lengths up to 4^%d" % k)
+        super().__init__(name, (n, arcs), "families", words, "%s_%d%s" % (family, log, "" if k is None else "_%d" % k))
+
+
+class Given(Files):
+    """A graph and question files of the caller's own. Each question file is a kind by its name."""
+
+    def __init__(self, graph, questions):
+        self.name, self.graph = os.path.basename(graph), os.path.abspath(graph)
+        problem = problem_of(self.graph)
+        if problem[:2] != ["p", "sp"] or len(problem) != 4:
+            stop("%s has no line p sp VERTICES ARCS" % graph)
+        self.questions = {os.path.basename(path): os.path.abspath(path) for path in questions}
+        self.words = {kind: (problem_of(path) + [""] * 5)[3] for kind, path in self.questions.items()}
+
+    def word_of(self, kind):
+        return self.words[kind]
+
+    def make(self, folder, programs, kind):
+        """Writes a question file without questions, which is for reading alone."""
+        if kind == READING:
+            self.questions[READING], self.words[READING] = os.path.join(folder, "none.ss"), "ss"
+            write_lines(["p aux sp ss 0\n"], self.questions[READING])
+
+
+def problem_of(path):
+    """The fields of a file's problem line."""
+    with open(path) as file:
+        return next((line.split() for line in file if line.split()[:1] == ["p"]), [])
+
+
 class Shape(Files):
     """A graph of some plain shape, and one question from vertex 1."""
 
@@ -134,7 +185,7 @@ class Shape(Files):
         self.size, self.shape = size, shape
         self.vertices, self.arcs = shape(size)[:2]
 
-    def make(self, folder):
+    def make(self, folder, _programs, _kind):
         self.at(os.path.join(folder, "%s_%d" % (self.shape.__name__, self.size)))
         if not is_newer(self.graph, __file__):
             note("making " + os.path.basename(self.graph))

@@ -16,7 +16,7 @@ import inputs
 from inputs import ONE_SOURCE, Roads, compiler, note, stop
 from report import Table
 
-SIZES = [("New York", (264346, 733846)), ("Florida", (1070376, 2712798))]
+SIZES = [("New York's size", (264346, 733846)), ("Florida's size", (1070376, 2712798))]
 LIBRARY, BASELINE = "libdiffuse", "baseline"
 
 # What is aimed at for the C library, to the baseline: a tree, and a graph that is kept.
@@ -40,10 +40,10 @@ class Library:
     @staticmethod
     def measured(folder, prefix, rounds, small):
         """Each size with what all libraries took there."""
-        roads, program, found = inputs.build(os.path.join(folder, "bin"))["roads"], build(os.path.join(folder, "bin"), prefix), []
+        programs, program, found = inputs.build(os.path.join(folder, "bin")), build(os.path.join(folder, "bin"), prefix), []
         for name, (vertices, arcs) in SIZES:
             graph = Roads(name, (vertices // 100, arcs // 200 * 2) if small else (vertices, arcs))
-            graph.make(folder, roads, ONE_SOURCE, False)
+            graph.make(folder, programs, ONE_SOURCE)
             note("libraries: " + name)
             found.append(Library(name, peers_of(program, graph.graph, rounds)))
         return found

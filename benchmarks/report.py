@@ -2,7 +2,8 @@
 import math
 import statistics
 
-from cases import BASELINE, DIFFUSING, PEAK, PEER, TIME, WALL
+from cases import BASELINE, DIFFUSING, PEAK, TIME, WALL
+from inputs import PEER
 from services import FOUR_CLIENTS, ONE_CLIENT, PROCESSES
 
 
@@ -33,17 +34,50 @@ def size(value):
 
 
 def spread(ratios):
-    """Median, least and greatest; a dash where nothing was measured."""
+    """The median, and the first and third quartile; a dash if nothing was measured."""
     if not ratios:
         return "-"
-    return "%.2f (%.2f to %.2f)" % (statistics.median(ratios), min(ratios), max(ratios))
+    first, median, third = statistics.quantiles(ratios, n=4, method="inclusive") if len(ratios) > 1 else ratios * 3
+    return "%.2f (%.2f to %.2f)" % (median, first, third)
+
+
+def ran(cases):
+    """The cases that were run."""
+    return [case for case in cases if case.taken]
+
+
+def others_of(cases):
+    """The other programs that were run on some of these cases, with the heads of their columns."""
+    found = list(dict.fromkeys(name for case in cases for name in case.taken if name != "diffuse"))
+    return found, ["ratio to the baseline" if name == BASELINE else "ratio to " + name for name in found]
 
 
 def table_of(title, what, unit, cases):
-    table = Table(title, ["Graph and questions", "diffuse", "ratio to the baseline", "ratio to " + PEER])
-    for case in cases:
-        table.rows.append([case.title(), unit(case.median("diffuse", what)),
-                           spread(case.ratios(BASELINE, what)), spread(case.ratios(PEER, what))])
+    """What diffuse took, and its ratios to all others."""
+    names, heads = others_of(ran(cases))
+    table = Table(title + ": ratios as median (quartiles)", ["Graph and questions", "diffuse"] + heads)
+    for case in ran(cases):
+        table.rows.append([case.title(), unit(case.median("diffuse", what))] + [spread(case.ratios(name, what)) for name in names])
+    return table
+
+
+def beyond_of(title, pairs):
+    """What is left of processor time if what the same program took to read the graph is taken off, round by round."""
+    pairs = [(case, reading) for case, reading in pairs if case.taken and reading and reading.taken]
+    names, heads = others_of([case for case, _ in pairs])
+    names, heads = zip(*[(name, head) for name, head in zip(names, heads) if name != PEER]) if names else ((), ())
+    table = Table(title + ": ratios as median (quartiles)", ["Graph and questions", "diffuse", *heads])
+    for case, reading in pairs:
+        ours = case.beyond(reading, "diffuse", TIME)
+        ratios = [[one / other for one, other in zip(ours, case.beyond(reading, name, TIME)) if other > 0] for name in names]
+        table.rows.append([case.title(), seconds(max(0, statistics.median(ours)))] + [spread(it) for it in ratios])
+    return table
+
+
+def answers_of(cases):
+    """How the answers of the caller's own programs are beside those of diffuse."""
+    table = Table("Answers beside those of diffuse", ["Graph and questions", "Program", "Answers"])
+    table.rows = [[case.title(), name, found] for case in ran(cases) for name, found in case.found.items()]
     return table
 
 
@@ -51,7 +85,7 @@ def growth_of(cases):
     """Time over n log n (n vertices, logarithm of base 2) and peak memory over arcs, of diffuse and of the baseline."""
     table = Table("Growth with --plain: one source, four sizes",
                   ["Vertices", "Arcs", "diffuse", "ns per n log n", "of the baseline", "bytes per arc", "of the baseline"])
-    for case in cases:
+    for case in ran(cases):
         vertices, arcs = case.files.vertices, case.files.arcs
         work = vertices * math.log2(vertices)
         times = ["%.1f" % (case.median(name, TIME) * 1e9 / work) for name in ("diffuse", BASELINE)]
@@ -66,7 +100,7 @@ def engine_growth_of(cases):
     table = Table("Growth of the engine: one source, one worker, one shard",
                   ["Graph", "Arcs", "Messages a vertex", "Messages an arc", "diffuse", "ns a message", "of plain C++",
                    "ns per n log n", "bytes per arc", "of plain C++"])
-    for case in cases:
+    for case in ran(cases):
         vertices, arcs, messages = case.files.vertices, case.files.arcs, case.count()
         time, theirs = case.median("diffuse", TIME), case.median(DIFFUSING, TIME)
         table.rows.append([case.files.name, "{:,}".format(arcs), "%.0f" % (messages / vertices),
@@ -81,7 +115,7 @@ def settings_of(cases):
     name = "Workers: %s, %s" % (cases[0].files.name, cases[0].kind)
     table = Table(name, ["Workers", "Shards", "Width", "Budget", "Messages a vertex", "Processor time", "Wall time",
                          "Peak memory", "Time to plain C++", "Wall to plain C++", "Memory to plain C++", "Time to the baseline"])
-    for case in cases:
+    for case in ran(cases):
         ratios = ["%.2f" % statistics.median(case.ratios(DIFFUSING, what)) for what in (TIME, WALL, PEAK)]
         table.rows.append(["{:,}".format(number) for number in case.settings.values()]
                           + ["%.0f" % (case.count() / case.files.vertices), seconds(case.median("diffuse", TIME)),
@@ -94,8 +128,8 @@ def batches_of(cases, single):
     """Several questions with --plain, beside one source of the same graph."""
     table = Table("Batches with --plain", ["Graph and questions", "Processor time", "Wall time", "Peak memory",
                                            "Processor time to one source", "Wall time to one source"])
-    for case in cases:
-        ratios = ["%.2f" % (case.median("diffuse", what) / single.median("diffuse", what)) for what in (TIME, WALL)]
+    for case in ran(cases):
+        ratios = ["%.2f" % (case.median("diffuse", what) / single.median("diffuse", what)) if single.taken else "-" for what in (TIME, WALL)]
         table.rows.append([case.title(), seconds(case.median("diffuse", TIME)), seconds(case.median("diffuse", WALL)),
                            size(case.median("diffuse", PEAK))] + ratios)
     return table
@@ -105,7 +139,7 @@ def shapes_of(pairs):
     """Each shape at a size and at one whose number of arcs is about four times as great."""
     table = Table("Shapes: one source, at two sizes", ["Shape", "Settings", "Arcs", "diffuse", "Arcs", "diffuse",
                                                        "Growth of arcs", "Growth of time", "Ratio to plain C++"])
-    for less, more in pairs:
+    for less, more in (pair for pair in pairs if len(ran(pair)) == 2):
         settings = "workers %(workers)d, shards %(shards)d" % less.settings
         sides = [cell for case in (less, more)
                  for cell in ("{:,}".format(case.files.arcs), seconds(case.median("diffuse", TIME)))]
@@ -119,7 +153,7 @@ def locks_of(cases):
     """The family on which labels improve exponentially often; how many messages there are is known beforehand."""
     table = Table("Locks: messages of one worker and one shard", ["Locks", "Vertices", "Arcs", "Messages: 2^(k+2) - 3",
                                                                   "Handled by diffuse", "diffuse", "diffuse --plain"])
-    for case, plain in cases:
+    for case, plain in (pair for pair in cases if len(ran(pair)) == 2):
         known, handled = 2 ** (case.files.size + 2) - 3, case.count()
         table.rows.append([str(case.files.size), str(case.files.vertices), str(case.files.arcs), "{:,}".format(known),
                            "exactly these" if handled == known else "ANOTHER NUMBER: {:,}".format(handled),
@@ -129,10 +163,10 @@ def locks_of(cases):
 
 def several_of(cases):
     """Several questions beside the plain C++ program, which has as many threads as the width."""
-    table = Table("Several questions with --plain: ratios as median (least to greatest)",
+    table = Table("Several questions with --plain: ratios as median (quartiles)",
                   ["Graph and questions", "Processor time", "Wall time", "Peak memory",
                    "Processor time to the baseline", "Wall time to the baseline", "Peak memory to the baseline"])
-    for case in cases:
+    for case in ran(cases):
         table.rows.append([case.title(), seconds(case.median("diffuse", TIME)), seconds(case.median("diffuse", WALL)),
                            size(case.median("diffuse", PEAK))] + [spread(case.ratios(BASELINE, what)) for what in (TIME, WALL, PEAK)])
     return table
@@ -141,7 +175,7 @@ def several_of(cases):
 def served_of(case):
     """What a pair takes that a service answers, and one that a process of its own does."""
     table = Table("Services with --plain: %s" % case.title(), ["How", "Pairs a second", "Wall time a pair", "Processor time a pair", "Peak memory"])
-    for way in (ONE_CLIENT, FOUR_CLIENTS, PROCESSES):
+    for way in (ONE_CLIENT, FOUR_CLIENTS, PROCESSES) if case.taken else ():
         wall, time = (case.median(way, what) / len(case.pairs()) for what in (WALL, TIME))
         table.rows.append([way, "%.1f" % (1 / wall), seconds(wall), seconds(time), size(case.median(way, PEAK))])
     return table

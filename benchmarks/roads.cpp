@@ -14,41 +14,12 @@
 // `motorways` some of the further streets go straight over eight cells, along every 32nd row and column, at less than half
 // their length: then a route by few arcs is seldom much longer than the shortest.
 #include "output.hpp"
+#include "random.hpp"
 
 #include <algorithm>
 #include <cmath>
 #include <numeric>
 #include <utility>
-
-// The finishing step of the generator SplitMix64: spreads the bits of a word.
-static uint64_t mixed(uint64_t z) {
-    z = (z ^ (z >> 30)) * 0xBF58476D1CE4E5B9u;
-    z = (z ^ (z >> 27)) * 0x94D049BB133111EBu;
-    return z ^ (z >> 31);
-}
-
-// A sequence of random numbers that depends on the seed, on its use and on the thing that it is for.
-class Random {
-    uint64_t state;
-
-public:
-    Random(uint64_t seed, uint64_t use, uint64_t thing = 0) : state(mixed(mixed(seed * 64 + use) + thing)) {}
-
-    uint64_t next() {
-        state += 0x9E3779B97F4A7C15u;
-        return mixed(state);
-    }
-
-    // A number from 0 to bound - 1.
-    uint64_t below(uint64_t bound) {
-        return static_cast<uint64_t>((static_cast<unsigned __int128>(next()) * bound) >> 64);
-    }
-
-    template <class T>
-    void shuffle(vector<T>& list) {
-        for (size_t i = list.size(); i > 1; i--) std::swap(list[i - 1], list[below(i)]);
-    }
-};
 
 // What a sequence is used for.
 enum Use { STREETS = 1, PLACES, BENDS, DIRECTIONS, NUMBERS, SOURCES, PAIRS, GROUPS };
@@ -260,15 +231,6 @@ static void write_questions(const string& kind, uint32_t vertices, uint64_t ques
         }
     }
     out.write_out();
-}
-
-static uint64_t number(const char* word, uint64_t greatest) {
-    char* end = nullptr;
-    uint64_t value = std::strtoull(word, &end, 10);
-    if (*word < '0' || *word > '9' || *end != '\0' || value > greatest) {
-        stop(string("not a number up to ") + std::to_string(greatest) + ": " + word);
-    }
-    return value;
 }
 
 int main(int count, char** words) {

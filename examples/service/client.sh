@@ -1,22 +1,42 @@
 #!/usr/bin/env bash
 # Asks a service for routes, one pair at a time.
-coproc FIVE { diffuse serve examples/five_vertices.gr --plain; }
-five=$FIVE_PID
+trap '' PIPE # a service that has died must not end this script
+
+# Starts a service over a graph. Without --plain a route may take sixty times as long.
+start() {
+    coproc SERVICE { exec diffuse serve "$1" --plain; }
+    service=$SERVICE_PID to=${SERVICE[1]} from=${SERVICE[0]}
+}
+
+# Ends the service: at the end of its input it has answered all, and its status is 0.
+stop() {
+    exec {to}>&-
+    wait "$service"
+}
 
 route() {
-    printf 'p aux sp p2p 1\nq %s %s\n' "$1" "$2" >&"${FIVE[1]}"
-    while read -r word rest <&"${FIVE[0]}"; do
+    local word rest value
+    printf 'p aux sp p2p 1\nq %s %s\n' "$1" "$2" 2> /dev/null >&"$to"
+    while read -r word rest; do
         case $word in
             f) echo "fault $rest"; return 1 ;;
             u) echo "none"; return ;;
             d) value=${rest% *} ;;
             r) echo "$value by $rest"; return ;;
         esac
-    done
+    done 2> /dev/null <&"$from"
+    wait "$service"
+    echo "the service has died, with status $?"
+    return 1
 }
 
+start examples/five_vertices.gr
 route 1 4
 route 1 5
 route 4 4
-exec {FIVE[1]}>&-
-wait "$five"
+stop
+start examples/small_town.gr
+route 1 5
+kill "$service"
+route 1 5 || { start examples/small_town.gr; route 1 5; }
+stop

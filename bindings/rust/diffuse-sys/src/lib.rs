@@ -1,17 +1,26 @@
-//! The C interface, as `include/diffuse.h` has it.
+//! The C interface, as `include/diffuse.h` has it, which says what each call does and what its caller owes.
+#![no_std]
+#![allow(clippy::missing_safety_doc)]
 
+/// An arc from `tail` to `head`. Vertices are numbered from 1.
 #[repr(C)]
-#[derive(Clone, Copy)]
+#[derive(Clone, Copy, Debug, PartialEq, Eq)]
 pub struct Arc {
     pub tail: u32,
     pub head: u32,
     pub weight: u32,
 }
 
+/// A handle: closed, or open with a graph.
 #[repr(C)]
+#[derive(Debug)]
 pub struct Handle {
     pub at: *mut u8,
     pub is_open: bool,
+}
+
+impl Handle {
+    pub const CLOSED: Handle = Handle { at: core::ptr::null_mut(), is_open: false };
 }
 
 unsafe extern "C" {

@@ -1,0 +1,163 @@
+use crate::error::{self, Error};
+use crate::tree::{Tree, Wrong};
+use crate::{Algebra, Arc};
+use diffuse_sys::*;
+use std::cell::UnsafeCell;
+use std::fmt;
+
+const NO_ROUTE: i32 = 1;
+const WRONG: i32 = 6;
+
+/// A graph in memory. It is freed with the last that shares it.
+pub struct Graph {
+    handle: UnsafeCell<Handle>,
+}
+
+// SAFETY: a handle may go from one thread to another. It is not `Sync`, so that only one call at a time uses it.
+unsafe impl Send for Graph {}
+
+/// A best route.
+#[derive(Clone, Debug, PartialEq, Eq)]
+pub struct Route {
+    /// The best code.
+    pub code: u64,
+    /// The vertices from the source to the target, along least parents: one more than the least hops.
+    pub vertices: Vec<u32>,
+}
+
+impl Graph {
+    /// A graph whose handle is still closed.
+    fn closed() -> Graph {
+        Graph { handle: UnsafeCell::new(Handle::CLOSED) }
+    }
+
+    /// The graph of vertices 1 to `vertices` and these arcs.
+    pub fn open(vertices: u32, arcs: &[Arc]) -> Result<Graph, Error> {
+        let graph = Graph::closed();
+        // SAFETY: the slice is valid for its length, and the handle is closed and in use nowhere else.
+        error::done(unsafe { diffuse_graph_open(vertices, arcs.as_ptr(), arcs.len(), graph.handle.get()) })?;
+        Ok(graph)
+    }
+
+    /// The graph of the bytes of a .gr file of the 9th DIMACS challenge.
+    pub fn read(text: &[u8]) -> Result<Graph, Error> {
+        let (graph, mut line) = (Graph::closed(), 0);
+        // SAFETY: as in `open`.
+        let status = unsafe { diffuse_graph_read(text.as_ptr(), text.len(), graph.handle.get(), &mut line) };
+        error::read(status, line)?;
+        Ok(graph)
+    }
+
+    /// The same graph in memory, for another thread.
+    pub fn share(&self) -> Result<Graph, Error> {
+        let second = Graph::closed();
+        // SAFETY: a `Graph` is not `Sync`, so no other call uses its handle during this one; this holds for all calls below.
+        error::done(unsafe { diffuse_graph_share(self.handle.get(), second.handle.get()) })?;
+        Ok(second)
+    }
+
+    /// How many vertices there are. They are numbered from 1.
+    pub fn vertices(&self) -> u32 {
+        // SAFETY: as in `share`.
+        unsafe { diffuse_graph_vertices(self.handle.get()) }
+    }
+
+    /// How many arcs there are.
+    pub fn arcs(&self) -> usize {
+        // SAFETY: as in `share`.
+        unsafe { diffuse_graph_arcs(self.handle.get()) }
+    }
+
+    /// A best route from a source to a target; none if no walk between them has a value.
+    pub fn route(&self, algebra: Algebra, source: u32, target: u32) -> Result<Option<Route>, Error> {
+        let (number, limit) = algebra.number_and_limit();
+        let (mut code, mut hops, mut vertices) = (0, 0, vec![0; self.vertices() as usize]);
+        // SAFETY: as in `share`; the room is valid for its length, which suffices for every route.
+        let status = unsafe {
+            diffuse_graph_route(
+                self.handle.get(),
+                number,
+                limit,
+                source,
+                target,
+                &mut code,
+                &mut hops,
+                vertices.as_mut_ptr(),
+                vertices.len(),
+            )
+        };
+        if status == NO_ROUTE {
+            return Ok(None);
+        }
+        error::done(status)?;
+        vertices.truncate(hops as usize + 1);
+        vertices.shrink_to_fit();
+        Ok(Some(Route { code, vertices }))
+    }
+
+    /// For each vertex what is best from the nearest of the sources.
+    pub fn tree(&self, algebra: Algebra, sources: &[u32]) -> Result<Tree, Error> {
+        let (number, limit) = algebra.number_and_limit();
+        let n = self.vertices() as usize;
+        let mut tree = Tree::unreached(n);
+        // SAFETY: as in `share`; each slice is valid for its length.
+        error::done(unsafe {
+            diffuse_graph_tree(
+                self.handle.get(),
+                number,
+                limit,
+                sources.as_ptr(),
+                sources.len(),
+                tree.codes.as_mut_ptr(),
+                n,
+                tree.hops.as_mut_ptr(),
+                n,
+                tree.parents.as_mut_ptr(),
+                n,
+            )
+        })?;
+        Ok(tree)
+    }
+
+    /// Judges a tree from these sources: none if it is right, else the first vertex that is wrong. Nothing is solved.
+    pub fn check(&self, algebra: Algebra, sources: &[u32], tree: &Tree) -> Result<Option<Wrong>, Error> {
+        let (number, limit) = algebra.number_and_limit();
+        let (mut vertex, mut reason) = (0, 0);
+        // SAFETY: as in `share`; each slice is valid for its length.
+        let status = unsafe {
+            diffuse_graph_check(
+                self.handle.get(),
+                number,
+                limit,
+                sources.as_ptr(),
+                sources.len(),
+                tree.codes.as_ptr(),
+                tree.codes.len(),
+                tree.hops.as_ptr(),
+                tree.hops.len(),
+                tree.parents.as_ptr(),
+                tree.parents.len(),
+                &mut vertex,
+                &mut reason,
+            )
+        };
+        if status == WRONG {
+            return Ok(Some(Wrong { vertex, reason: reason.into() }));
+        }
+        error::done(status)?;
+        Ok(None)
+    }
+}
+
+impl fmt::Debug for Graph {
+    fn fmt(&self, out: &mut fmt::Formatter<'_>) -> fmt::Result {
+        out.debug_struct("Graph").field("vertices", &self.vertices()).field("arcs", &self.arcs()).finish()
+    }
+}
+
+impl Drop for Graph {
+    fn drop(&mut self) {
+        // SAFETY: nothing uses the handle any more, and it was open or is closed.
+        unsafe { diffuse_graph_close(self.handle.get()) }
+    }
+}

@@ -1,0 +1,86 @@
+//! The five vertices of the README, all worked out by hand, and each refusal.
+use diffuse::{Algebra, Arc, Error, Graph, Label, Reason, Route, TextFault, Tree, Wrong, version};
+use std::thread;
+
+const TEXT: &[u8] = b"p sp 5 7\na 1 2 4\na 1 3 1\na 3 2 2\na 2 4 5\na 3 4 8\na 4 4 0\na 5 1 3\n";
+
+fn five() -> Graph {
+    Graph::read(TEXT).unwrap()
+}
+
+fn arc(tail: u32, head: u32, weight: u32) -> Arc {
+    Arc { tail, head, weight }
+}
+
+#[test]
+fn answers_under_each_algebra() {
+    let (graph, route) = (five(), |code, vertices: &[u32]| Some(Route { code, vertices: vertices.to_vec() }));
+    for (algebra, wanted) in [
+        (Algebra::Shortest, route(8, &[1, 3, 2, 4])),
+        (Algebra::Widest, route(4, &[1, 2, 4])),
+        (Algebra::Reach, route(0, &[1, 2, 4])),
+        (Algebra::Hops, route(2, &[1, 2, 4])),
+        (Algebra::Reliable, route(20, &[1, 2, 4])),
+        (Algebra::Within(8), route(8, &[1, 3, 2, 4])),
+        (Algebra::Within(7), None),
+    ] {
+        assert_eq!(graph.route(algebra, 1, 4), Ok(wanted), "{algebra:?}");
+    }
+    assert_eq!((graph.vertices(), graph.arcs()), (5, 7));
+}
+
+#[test]
+fn a_tree_and_its_check() {
+    let graph = five();
+    let mut tree = graph.tree(Algebra::Shortest, &[1]).unwrap();
+    assert_eq!(tree.label(1), Some(Label { code: 0, hops: 0, parent: None }));
+    assert_eq!(tree.label(4), Some(Label { code: 8, hops: 3, parent: Some(2) }));
+    assert_eq!([tree.label(5), tree.label(0), tree.label(6)], [None; 3]);
+    assert_eq!(graph.check(Algebra::Shortest, &[1], &tree), Ok(None));
+    tree.codes[3] = 9;
+    let wrong = Wrong { vertex: 4, reason: Reason::NotBest };
+    assert_eq!(graph.check(Algebra::Shortest, &[1], &tree), Ok(Some(wrong)));
+}
+
+#[test]
+fn each_refusal() {
+    let graph = five();
+    assert_eq!(graph.route(Algebra::Shortest, 1, 6), Err(Error::NoVertex));
+    assert_eq!(graph.tree(Algebra::Shortest, &[0]), Err(Error::NoVertex));
+    assert_eq!(graph.tree(Algebra::Within(1 << 63 | 1), &[1]), Err(Error::LimitTooGreat));
+    let short = Tree { codes: vec![0], hops: vec![0], parents: vec![0] };
+    assert_eq!(graph.check(Algebra::Shortest, &[1], &short), Err(Error::OtherSize));
+    assert_eq!(Graph::open(2, &[arc(1, 3, 0)]).unwrap_err(), Error::NoVertex);
+    assert_eq!(Graph::open(u32::MAX, &[]).unwrap_err(), Error::TooLarge);
+    for (text, fault, line) in [
+        (&b"a 1 2 4\n"[..], TextFault::NoProblem, 1),
+        (b"p sp 5 0\np sp 5 0\n", TextFault::SecondProblem, 2),
+        (b"p aux 5 0\n", TextFault::BadProblem, 1),
+        (b"p sp 5 0\nx\n", TextFault::UnknownLine, 2),
+        (b"p sp 5 1\na 1 2\n", TextFault::Fields, 2),
+        (b"p sp 5 1\na 1 2 x\n", TextFault::NotANumber, 2),
+        (b"p sp 5 1\na 1 2 4294967296\n", TextFault::Limit, 2),
+        (b"p sp 5 1\nc\na 1 6 4\n", TextFault::NoVertex, 3),
+        (b"p sp 5 0\na 1 2 4\n", TextFault::TooMany, 2),
+        (b"p sp 5 1\n", TextFault::TooFew, 2),
+    ] {
+        assert_eq!(Graph::read(text).unwrap_err(), Error::Text { fault, line }, "{}", text.escape_ascii());
+    }
+    assert_eq!(Graph::read(b"p sp 5 1\n").unwrap_err().to_string(), "fault 19 in line 2");
+}
+
+#[test]
+fn threads_share_one_graph() {
+    let graph = five();
+    let threads = [2, 3, 4].map(|target| {
+        let own = graph.share().unwrap();
+        thread::spawn(move || own.route(Algebra::Shortest, 1, target).unwrap().unwrap().code)
+    });
+    drop(graph);
+    assert_eq!(threads.map(|thread| thread.join().unwrap()), [3, 1, 8]);
+}
+
+#[test]
+fn the_version_of_the_header() {
+    assert_eq!(version(), 10000);
+}

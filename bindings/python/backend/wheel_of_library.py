@@ -73,6 +73,8 @@ def library():
     archive = Path(os.environ.get("DIFFUSE_ARCHIVE") or TOP / "crates/libdiffuse/out/liblibdiffuse.a")
     if not archive.exists():
         raise SystemExit(f"there is no {archive}: run `rt lib` in crates/libdiffuse, or let DIFFUSE_LIBRARY name a libdiffuse.so")
+    settings = {name: value for name, value in os.environ.items() if name not in ("DESTDIR", "LIBDIR")}
     with tempfile.TemporaryDirectory() as prefix:
-        subprocess.run([TOP / "examples/c/install", prefix, archive], check=True, stdout=subprocess.DEVNULL)
+        command = [TOP / "examples/c/install", prefix, archive.resolve()]
+        subprocess.run(command, check=True, stdout=subprocess.DEVNULL, env=settings)
         return Path(prefix, "lib/libdiffuse.so").read_bytes()

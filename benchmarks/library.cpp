@@ -101,14 +101,15 @@ struct Diffuse : Peer {
 
     void open(const ArcList& list) override {
         auto* arcs = reinterpret_cast<const diffuse_arc*>(list.arcs.data());
-        if (diffuse_graph_open(list.vertices, arcs, list.arcs.size(), &graph) != DIFFUSE_DONE) stop("open is refused");
+        if (diffuse_graph_open(list.vertices, arcs, list.arcs.size(), &graph) != DIFFUSE_STATUS_DONE) stop("open is refused");
     }
 
     uint64_t tree(uint32_t source) override {
         size_t n = diffuse_graph_vertices(&graph);
         codes.resize(n), hops.resize(n), parents.resize(n);
-        if (diffuse_graph_tree(&graph, DIFFUSE_SHORTEST, 0, &source, 1, codes.data(), n, hops.data(), n, parents.data(), n) != DIFFUSE_DONE)
-            stop("a tree is refused");
+        auto status = diffuse_graph_tree(
+            &graph, DIFFUSE_ALGEBRA_SHORTEST, 0, &source, 1, codes.data(), n, hops.data(), n, parents.data(), n);
+        if (status != DIFFUSE_STATUS_DONE) stop("a tree is refused");
         return sum_of(codes.data(), n);
     }
 
@@ -116,7 +117,9 @@ struct Diffuse : Peer {
         room.resize(diffuse_graph_vertices(&graph));
         uint64_t code = 0;
         uint32_t length;
-        diffuse_graph_route(&graph, DIFFUSE_SHORTEST, 0, source, target, &code, &length, room.data(), room.size());
+        auto status = diffuse_graph_route(
+            &graph, DIFFUSE_ALGEBRA_SHORTEST, 0, source, target, &code, &length, room.data(), room.size());
+        if (status != DIFFUSE_STATUS_DONE && status != DIFFUSE_STATUS_NO_ROUTE) stop("a route is refused");
         return code;
     }
 };

@@ -43,18 +43,19 @@ static int32_t make(enum call call, struct places *p) {
     case OPEN: return diffuse_graph_open(5, ARCS, 7, &p->graph);
     case READ: return diffuse_graph_read((const uint8_t *)TEXT, sizeof TEXT - 1, &p->graph, &p->line);
     case SHARE: return diffuse_graph_share(&p->graph, &p->second);
-    case ROUTE: return diffuse_graph_route(&p->graph, DIFFUSE_SHORTEST, 0, 1, 4, &p->code, &p->length, p->route, 5);
-    case TREE: return diffuse_graph_tree(&p->graph, DIFFUSE_SHORTEST, 0, &SOURCE, 1, p->codes, 5, p->hops, 5, p->parents, 5);
-    default: return diffuse_graph_check(&p->graph, DIFFUSE_SHORTEST, 0, &SOURCE, 1, p->codes, 5, p->hops, 5, p->parents, 5,
-                                        &p->vertex, &p->reason);
+    case ROUTE: return diffuse_graph_route(&p->graph, DIFFUSE_ALGEBRA_SHORTEST, 0, 1, 4, &p->code, &p->length, p->route, 5);
+    case TREE: return diffuse_graph_tree(&p->graph, DIFFUSE_ALGEBRA_SHORTEST, 0, &SOURCE, 1, p->codes, 5, p->hops, 5,
+                                         p->parents, 5);
+    default: return diffuse_graph_check(&p->graph, DIFFUSE_ALGEBRA_SHORTEST, 0, &SOURCE, 1, p->codes, 5, p->hops, 5,
+                                        p->parents, 5, &p->vertex, &p->reason);
     }
 }
 
 /* Places as they are before a call: with an open graph unless the call opens it, and with a tree if one is checked. */
 static int begin(enum call call, struct places *p) {
     *p = (struct places){.graph = DIFFUSE_CLOSED, .second = DIFFUSE_CLOSED, .line = 7, .code = 7, .length = 7, .vertex = 7};
-    if (call > READ && make(OPEN, p) != DIFFUSE_DONE) return 0;
-    return call != CHECK || make(TREE, p) == DIFFUSE_DONE;
+    if (call > READ && make(OPEN, p) != DIFFUSE_STATUS_DONE) return 0;
+    return call != CHECK || make(TREE, p) == DIFFUSE_STATUS_DONE;
 }
 
 static void end(struct places *p) {
@@ -80,11 +81,11 @@ static long refuse(enum call call) {
         growths_left = n;
         int32_t status = make(call, &p);
         growths_left = -1;
-        if (status == DIFFUSE_MEMORY) {
+        if (status == DIFFUSE_STATUS_MEMORY) {
             if (!was_refused || !is_same(&p, &before)) return -1;
             status = make(call, &p);
         }
-        if (status != DIFFUSE_DONE) return -1;
+        if (status != DIFFUSE_STATUS_DONE) return -1;
         end(&p);
         if (!was_refused) return n;
     }
@@ -105,7 +106,7 @@ static void *ask(void *at) {
     struct places p = {.graph = *(struct diffuse_graph *)at, .second = DIFFUSE_CLOSED};
     long right = 0;
     for (int i = 0; i < 1000; i++) {
-        int done = make(ROUTE, &p) == DIFFUSE_DONE && make(TREE, &p) == DIFFUSE_DONE && make(CHECK, &p) == DIFFUSE_DONE;
+        int done = make(ROUTE, &p) == DIFFUSE_STATUS_DONE && make(TREE, &p) == DIFFUSE_STATUS_DONE && make(CHECK, &p) == DIFFUSE_STATUS_DONE;
         right += done && p.code == 8 && p.length == 3 && p.codes[1] == 3 && p.parents[3] == 2;
     }
     end(&p);
@@ -116,9 +117,9 @@ static int threads(void) {
     struct diffuse_graph graph = DIFFUSE_CLOSED, each[4] = {DIFFUSE_CLOSED, DIFFUSE_CLOSED, DIFFUSE_CLOSED, DIFFUSE_CLOSED};
     pthread_t started[4];
     void *right;
-    if (diffuse_graph_open(5, ARCS, 7, &graph) != DIFFUSE_DONE) return 1;
+    if (diffuse_graph_open(5, ARCS, 7, &graph) != DIFFUSE_STATUS_DONE) return 1;
     for (int i = 0; i < 4; i++) {
-        if (diffuse_graph_share(&graph, &each[i]) != DIFFUSE_DONE) return 1;
+        if (diffuse_graph_share(&graph, &each[i]) != DIFFUSE_STATUS_DONE) return 1;
         if (pthread_create(&started[i], NULL, ask, &each[i]) != 0) return 1;
     }
     diffuse_graph_close(&graph); /* the threads keep the graph */
@@ -136,8 +137,8 @@ static int opens(long count) {
     for (long i = 0; i < count; i++) {
         struct places p;
         if (!begin(i % 2 ? READ : CHECK, &p)) return 1;
-        if (i % 2 && make(READ, &p) != DIFFUSE_DONE) return 1;
-        if (make(SHARE, &p) != DIFFUSE_DONE || make(ROUTE, &p) != DIFFUSE_DONE) return 1;
+        if (i % 2 && make(READ, &p) != DIFFUSE_STATUS_DONE) return 1;
+        if (make(SHARE, &p) != DIFFUSE_STATUS_DONE || make(ROUTE, &p) != DIFFUSE_STATUS_DONE) return 1;
         end(&p);
         in_use = mallinfo2().uordblks;
         if (i == 99) first = in_use;

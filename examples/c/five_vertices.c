@@ -6,20 +6,20 @@
 static void print_route(struct diffuse_graph *graph, uint32_t source, uint32_t target) {
     uint64_t code;
     uint32_t hops, route[5];
-    int32_t status = diffuse_graph_route(graph, DIFFUSE_SHORTEST, 0, source, target, &code, &hops, route, 5);
+    int32_t status = diffuse_graph_route(graph, DIFFUSE_ALGEBRA_SHORTEST, 0, source, target, &code, &hops, route, 5);
     printf("from %" PRIu32 " to %" PRIu32 ": ", source, target);
-    if (status == DIFFUSE_DONE) {
+    if (status == DIFFUSE_STATUS_DONE) {
         printf("%" PRIu64 " by", code);
         for (uint32_t i = 0; i <= hops; i++) printf(" %" PRIu32, route[i]);
         printf("\n");
-    } else printf("%s\n", status == DIFFUSE_NO_ROUTE ? "no route" : "refused");
+    } else printf("%s\n", diffuse_status_text(status));
 }
 
 static void print_check(struct diffuse_graph *graph, uint32_t source, uint64_t *codes, uint32_t *hops, uint32_t *parents) {
     uint32_t v, why;
-    int32_t status = diffuse_graph_check(graph, DIFFUSE_SHORTEST, 0, &source, 1, codes, 5, hops, 5, parents, 5, &v, &why);
-    if (status == DIFFUSE_WRONG) printf("wrong at %" PRIu32 " by reason %" PRIu32 "\n", v, why);
-    else printf("%s\n", status == DIFFUSE_DONE ? "right" : "refused");
+    int32_t status = diffuse_graph_check(graph, DIFFUSE_ALGEBRA_SHORTEST, 0, &source, 1, codes, 5, hops, 5, parents, 5, &v, &why);
+    if (status == DIFFUSE_STATUS_WRONG) printf("wrong at %" PRIu32 " by reason %" PRIu32 "\n", v, why);
+    else printf("%s\n", status == DIFFUSE_STATUS_DONE ? "right" : diffuse_status_text(status));
 }
 
 int main(void) {
@@ -28,10 +28,10 @@ int main(void) {
     uint64_t codes[5];
     uint32_t hops[5], parents[5];
     struct diffuse_graph graph = DIFFUSE_CLOSED;
-    if (diffuse_graph_open(5, arcs, 7, &graph) != DIFFUSE_DONE) return 1;
+    if (diffuse_graph_open(5, arcs, 7, &graph) != DIFFUSE_STATUS_DONE) return 1;
     print_route(&graph, 1, 4);
     print_route(&graph, 1, 5);
-    if (diffuse_graph_tree(&graph, DIFFUSE_SHORTEST, 0, &source, 1, codes, 5, hops, 5, parents, 5) != DIFFUSE_DONE) return 1;
+    if (diffuse_graph_tree(&graph, DIFFUSE_ALGEBRA_SHORTEST, 0, &source, 1, codes, 5, hops, 5, parents, 5) != DIFFUSE_STATUS_DONE) return 1;
     for (int i = 0; i < 5; i++) {
         if (codes[i] == DIFFUSE_UNREACHED) printf("%d: unreached\n", i + 1);
         else printf("%d: %" PRIu64 " %" PRIu32 " %" PRIu32 "\n", i + 1, codes[i], hops[i], parents[i]);

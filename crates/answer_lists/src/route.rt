@@ -1,6 +1,6 @@
 //! A route, written to memory that the caller lends.
 
-ghost use Rattle.std.specs.Prelude.{◌≡◌, ◌≤◌, ◌<◌, ◌+◌, ◌↔◌, ◌∷◌, [], length, take, pos, IfOk, MatchOption};
+ghost use Rattle.std.specs.Prelude.{◌≡◌, ◌≤◌, ◌<◌, ◌+◌, ◌↔◌, ◌∷◌, [], length, take, drop, pos, IfOk, MatchOption};
 ghost use Rattle.road_graph.specs.GraphData.{HasVertex};
 ghost use Rattle.answer_lists.specs.Answers.{IsFound, IsOneOf, IsNoRoute, IsRouteFound, ReportsRoute, HasBoth};
 ghost use Rattle.answer_lists.specs.Choice.{IsAlgebra, OfAlgebra};
@@ -41,7 +41,8 @@ fn find<A: PathAlgebra>(
 /// Copies the vertices of a route into the room.
 fn copy(list: &[Vertex], room: &mut [u32])
     requires { length list.now ≤ length room.old }
-    ensures { take (length list.now) room.new ≡ list.now }
+    ensures list { take (length list.now) room.new ≡ list.now }
+    ensures rest { drop (length list.now) room.new ≡ drop (length list.now) room.old }
 {
     for i in 0..list.len() {
         let v = list[i];
@@ -57,6 +58,8 @@ fn write_route(route: &PairRoute, room: &mut [u32]) -> i32
     ensures short { result ≡ pos 2 → length room.old < route.now.hops + 1 }
     ensures long { result ≡ pos 0 → route.now.hops + 1 ≤ length room.old }
     ensures kept { result ≡ pos 2 → room.new ≡ room.old }
+    ensures rest { result ≡ pos 0 → drop (route.now.hops + 1) room.new ≡ drop (route.now.hops + 1)
+        room.old }
 {
     if room.len() < route.vertices.len() {
         return NO_ROOM;
@@ -82,6 +85,7 @@ fn answer<A: PathAlgebra>(
     ensures short { result ≡ pos 2 → length room.old < hops.new + 1 }
     ensures long { result ≡ pos 0 → hops.new + 1 ≤ length room.old }
     ensures room { (result ≡ pos 0 → ⊥) → room.new ≡ room.old }
+    ensures rest { result ≡ pos 0 → drop (hops.new + 1) room.new ≡ drop (hops.new + 1) room.old }
     ensures places { (IsFound result → ⊥) → (code.new ≡ code.old) × (hops.new ≡ hops.old) }
     ensures status { IsOneOf (0 ∷ 1 ∷ 2 ∷ 3 ∷ []) result }
 {
@@ -113,6 +117,7 @@ pub fn answer_route(
     ensures short { result ≡ pos 2 → length room.old < hops.new + 1 }
     ensures long { result ≡ pos 0 → hops.new + 1 ≤ length room.old }
     ensures room { (result ≡ pos 0 → ⊥) → room.new ≡ room.old }
+    ensures rest { result ≡ pos 0 → drop (hops.new + 1) room.new ≡ drop (hops.new + 1) room.old }
     ensures places { (IsFound result → ⊥) → (code.new ≡ code.old) × (hops.new ≡ hops.old) }
     ensures vertex { (result ≡ pos 17) ↔ (HasBoth graph.now source target → ⊥) }
     ensures algebra { (result ≡ pos 43) ↔ (HasBoth graph.now source target ×

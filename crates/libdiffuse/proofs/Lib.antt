@@ -1,2 +1,4 @@
+mod ArcsOut
 mod FaultNumbers
+mod LentArcs
 mod Values

@@ -17,13 +17,18 @@ lent n arcs = record { vertices = n; arcs = map arc_from arcs }
 abbrev pub IsTooLarge : ℕ → List DiffuseArc → Type 0
 IsTooLarge vertices arcs = (33554432 < vertices) ⊎ (134217728 < length arcs)
 
+-- there are not too many, but an end of an arc is no vertex
+abbrev pub IsBadlyJoined : ℕ → List DiffuseArc → Type 0
+IsBadlyJoined vertices arcs = (IsTooLarge vertices arcs → ⊥) × (IsGraph (lent vertices arcs) → ⊥)
+
 -- a graph can be built: there are not too many vertices or arcs, and each end of an arc is a vertex
 pub record Fits (vertices : ℕ) (arcs : List DiffuseArc) : Type 0 where
   pub small : IsTooLarge vertices arcs → ⊥
   pub roads : IsGraph (lent vertices arcs)
 
--- why no graph was built: out of memory, too many vertices or arcs, or an arc with an end that is no vertex
+-- why no graph was built: there are too many vertices or arcs, an arc has an end that is no vertex, or memory ran out for a graph
 pub record IsFault (vertices : ℕ) (arcs : List DiffuseArc) (status : ℤ) : Type 0 where
   pub one_of : IsOneOf (3 ∷ 16 ∷ 17 ∷ []) status
   pub limit : (status ≡ pos 16) ↔ IsTooLarge vertices arcs
-  pub bad : status ≡ pos 17 → IsGraph (lent vertices arcs) → ⊥
+  pub bad : (status ≡ pos 17) ↔ IsBadlyJoined vertices arcs
+  pub memory : status ≡ pos 3 → IsGraph (lent vertices arcs)

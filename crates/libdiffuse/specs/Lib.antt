@@ -1,3 +1,4 @@
 pub mod Holding
+pub mod Leaving
 pub mod Lent
 pub mod Texts

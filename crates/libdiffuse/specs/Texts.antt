@@ -1,5 +1,5 @@
 -- What the text of a graph file in memory gives.
-use Rattle.std.specs.Prelude.{◌≡◌, ℕ, ◌≤◌, ◌⊎◌, List, ℤ, pos, Option, Some, None, Ok, Err}
+use Rattle.std.specs.Prelude.{◌≡◌, ℕ, ◌<◌, ◌≤◌, ◌⊎◌, List, length, ℤ, pos, Option, Some, None, Ok, Err}
 use Rattle.road_graph.specs.GraphData.{GraphData}
 use Rattle.road_text.specs.declared.faults.ReadFault.{ReadFault}
 use Rattle.road_text.specs.Rules.{text_read, fault_at}
@@ -10,9 +10,13 @@ abbrev pub IsGraphOf : List ℕ → Option GraphData → Type 0
 IsGraphOf bytes None = ⊥
 IsGraphOf bytes (Some g) = text_read gr_rules bytes ≡ Ok g
 
--- the number of a fault of a text: 2, it is too long, or that of a rule of graph files
+-- the text is longer than any that is read
+abbrev pub IsTooLongText : List ℕ → Type 0
+IsTooLongText bytes = 4294967296 < length bytes
+
+-- the number of a rule of graph files
 abbrev pub IsFaultNumber : ℕ → Type 0
-IsFaultNumber n = (n ≡ 2) ⊎ ((10 ≤ n) × (n ≤ 19))
+IsFaultNumber n = (10 ≤ n) × (n ≤ 19)
 
 -- why no graph was read: out of memory, or this is the first fault of the text
 abbrev pub IsReadFaultOf : List ℕ → ReadFault → Type 0

@@ -4,7 +4,7 @@ ghost use Rattle.std.specs.Prelude.{◌≡◌, ◌≢◌, ◌↔◌, ◌∷◌, 
 ghost use Rattle.road_graph.specs.GraphData.{IsGraph};
 ghost use Rattle.answer_lists.specs.Answers.{IsOneOf};
 ghost use Rattle.libdiffuse.specs.Holding.{has_graph};
-ghost use Rattle.libdiffuse.specs.Lent.{IsTooLarge, lent};
+ghost use Rattle.libdiffuse.specs.Lent.{IsBadlyJoined, IsTooLarge, lent};
 
 use crate::arcs::DiffuseArc;
 use crate::handle::{DiffuseGraph, put, take};
@@ -28,8 +28,9 @@ pub extern "C" fn diffuse_graph_open(
     ensures open { (result ≡ pos 5) ↔ (has_graph handle.old.held.roads ≡ true) }
     ensures limit { (result ≡ pos 16) ↔ ((handle.old.held.roads ≡ None) × IsTooLarge vertices
         arcs.now) }
-    ensures roads { result ≡ pos 0 → IsGraph (lent vertices arcs.now) }
-    ensures bad { result ≡ pos 17 → IsGraph (lent vertices arcs.now) → ⊥ }
+    ensures bad { (result ≡ pos 17) ↔ ((handle.old.held.roads ≡ None) × IsBadlyJoined vertices
+        arcs.now) }
+    ensures roads { IsOneOf (0 ∷ 3 ∷ []) result → IsGraph (lent vertices arcs.now) }
 {
     if handle.is_open {
         return OPEN;

@@ -7,6 +7,8 @@ mod arcs;
 mod graphs;
 mod handle;
 mod held;
+mod joining;
+mod leaving;
 mod loose;
 mod opening;
 mod owners;
@@ -20,6 +22,7 @@ pub use graphs::{
     diffuse_graph_vertices,
 };
 pub use handle::DiffuseGraph;
+pub use leaving::diffuse_graph_arcs_from;
 pub use questions::{diffuse_graph_check, diffuse_graph_route, diffuse_graph_tree};
 pub use reading::diffuse_graph_read;
 

@@ -1,6 +1,6 @@
 //! The calls that answer questions: a route, a tree, and whether a tree is right.
 
-ghost use Rattle.std.specs.Prelude.{◌≡◌, ◌↔◌, ◌<◌, ◌≤◌, ◌+◌, ◌∷◌, [], length, pos, None};
+ghost use Rattle.std.specs.Prelude.{◌≡◌, ◌↔◌, ◌<◌, ◌≤◌, ◌+◌, ◌∷◌, [], drop, length, pos, None};
 ghost use Rattle.answer_lists.specs.Answers.{IsFound, ReportsRoute, IsOneOf, HasBoth};
 ghost use Rattle.answer_lists.specs.Choice.{IsAlgebra, OfAlgebra};
 ghost use Rattle.answer_lists.specs.Tree.{AreTreeLists, IsFirstRefuted, ReportsRefusals};
@@ -34,6 +34,7 @@ pub extern "C" fn diffuse_graph_route(
     ensures short { result ≡ pos 2 → length room.old < hops.new + 1 }
     ensures long { result ≡ pos 0 → hops.new + 1 ≤ length room.old }
     ensures room { (result ≡ pos 0 → ⊥) → room.new ≡ room.old }
+    ensures rest { result ≡ pos 0 → drop (hops.new + 1) room.new ≡ drop (hops.new + 1) room.old }
     ensures places { (IsFound result → ⊥) → (code.new ≡ code.old) × (hops.new ≡ hops.old) }
     ensures vertex { OfGraph handle.old.held.roads
         (λ g. (result ≡ pos 17) ↔ (HasBoth g source target → ⊥)) }

@@ -1,17 +1,17 @@
 //! A graph that is read from a text in memory.
 
-ghost use Rattle.std.specs.Prelude.{◌≡◌, ◌⊎◌, ◌≢◌, ◌↔◌, ◌∷◌, [], pos, true, Ok, Some, IfOk, IfErr};
+ghost use Rattle.std.specs.Prelude.{◌≡◌, ◌≤◌, ◌⊎◌, ◌≢◌, ◌↔◌, ◌∷◌, [], length, pos, true, Ok, None, Some, IfOk, IfErr};
 ghost use Rattle.std.specs.Arc.{arc_value};
 ghost use Rattle.road_text.specs.Rules.{text_read};
 ghost use Rattle.graph_text.specs.GraphFiles.{gr_rules};
 ghost use Rattle.answer_lists.specs.Answers.{IsOneOf};
 ghost use Rattle.libdiffuse.specs.Holding.{has_graph};
-ghost use Rattle.libdiffuse.specs.Texts.{IsGraphOf, IsReadFaultOf, IsFaultReported};
+ghost use Rattle.libdiffuse.specs.Texts.{IsGraphOf, IsReadFaultOf, IsFaultReported, IsTooLongText};
 
 use crate::handle::{DiffuseGraph, put};
 use crate::owners::owned;
 use crate::status::OPEN;
-use answer_lists::{DONE, MEMORY};
+use answer_lists::{DONE, MEMORY, NO_ROOM};
 use ghost_count::Count;
 use graph_text::read_gr_as;
 use road_graph::OutGraph;
@@ -48,6 +48,7 @@ impl RoadRead for InMemory<'_> {
 
 /// The graph of a text.
 fn read_graph(alloc: Global, bytes: &[u8]) -> Result<OutGraph, ReadFault>
+    requires { length bytes.now ≤ 4294967296 }
     ensures graph { IfOk result (λ g. text_read gr_rules bytes.now ≡ Ok g) }
     ensures fault { IfErr result (λ f. IsReadFaultOf bytes.now f) }
 {
@@ -60,6 +61,7 @@ fn read_graph(alloc: Global, bytes: &[u8]) -> Result<OutGraph, ReadFault>
 
 /// An owner of the graph of a text, or why there is none.
 fn owner_read(alloc: Global, bytes: &[u8]) -> Result<Box<Arc<OutGraph>>, ReadFault>
+    requires { length bytes.now ≤ 4294967296 }
     ensures graph { IfOk result (λ b. text_read gr_rules bytes.now ≡ Ok (arc_value b.value)) }
     ensures fault { IfErr result (λ f. IsReadFaultOf bytes.now f) }
 {
@@ -87,8 +89,8 @@ fn report_fault(fault: ReadFault, line: &mut u64) -> i32
 
 /// Opens a closed handle with the graph of a .gr text, which may be changed or freed afterwards.
 ///
-/// If the text has a fault, the status is the number of the first one, and its line is written: counted from 1, or 0 if
-/// it is in no line.
+/// If the text has a fault, the status is the number of the first one, and its line is written, counted from 1. A text of
+/// more than 2^32 bytes is refused by its length alone, and the line is then 0.
 #[unsafe(no_mangle)]
 pub extern "C" fn diffuse_graph_read(
     alloc: Global,
@@ -98,12 +100,19 @@ pub extern "C" fn diffuse_graph_read(
 ) -> i32
     ensures graph { result ≡ pos 0 → IsGraphOf bytes.now handle.new.held.roads }
     ensures kept { result ≢ pos 0 → handle.new.held.roads ≡ handle.old.held.roads }
-    ensures status { IsOneOf (0 ∷ 3 ∷ 5 ∷ []) result ⊎ IsFaultReported bytes.now result line.new }
+    ensures status { IsOneOf (0 ∷ 2 ∷ 3 ∷ 5 ∷ []) result ⊎ IsFaultReported bytes.now result
+        line.new }
     ensures line { IsOneOf (0 ∷ 3 ∷ 5 ∷ []) result → line.new ≡ line.old }
+    ensures no_line { result ≡ pos 2 → line.new ≡ 0 }
     ensures open { (result ≡ pos 5) ↔ (has_graph handle.old.held.roads ≡ true) }
+    ensures long { (result ≡ pos 2) ↔ ((handle.old.held.roads ≡ None) × IsTooLongText bytes.now) }
 {
     if handle.is_open {
         return OPEN;
+    }
+    if bytes.len() > 4_294_967_296 {
+        *line = 0;
+        return NO_ROOM;
     }
     match owner_read(alloc, bytes) {
         Ok(owner) => {

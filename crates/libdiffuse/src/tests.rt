@@ -2,9 +2,9 @@
 use crate::handle::closed;
 use crate::held::discard;
 use crate::{
-    DiffuseArc, DiffuseGraph, diffuse_graph_arcs, diffuse_graph_check, diffuse_graph_close,
-    diffuse_graph_open, diffuse_graph_read, diffuse_graph_route, diffuse_graph_share,
-    diffuse_graph_tree, diffuse_graph_vertices, diffuse_version,
+    DiffuseArc, DiffuseGraph, diffuse_graph_arcs, diffuse_graph_arcs_from, diffuse_graph_check,
+    diffuse_graph_close, diffuse_graph_open, diffuse_graph_read, diffuse_graph_route,
+    diffuse_graph_share, diffuse_graph_tree, diffuse_graph_vertices, diffuse_version,
 };
 use std::alloc::Global;
 use std::marker::Send;
@@ -40,6 +40,16 @@ fn assert_opened(
 fn assert_sizes(rt: &impl Abort, alloc: Global, handle: &mut DiffuseGraph) {
     assert_eq!(rt; diffuse_graph_vertices(alloc, handle), 5);
     assert_eq!(rt; diffuse_graph_arcs(alloc, handle), 7);
+}
+
+/// The arcs that leave vertex 3 are read back, in order.
+fn assert_arcs_from(rt: &impl Abort, alloc: Global, handle: &mut DiffuseGraph) {
+    let (mut arcs, mut count) = ([arc(7, 7, 7); 3], 7);
+    let status = diffuse_graph_arcs_from(alloc, handle, 3, &mut arcs, &mut count);
+    assert_eq!(rt; (status, count), (0, 2));
+    for &(i, head, weight) in &[(0, 2, 2), (1, 4, 8), (2, 7, 7)] {
+        assert_eq!(rt; (arcs[i].head, arcs[i].weight), (head, weight));
+    }
 }
 
 fn close(alloc: Global, mut handle: DiffuseGraph) {
@@ -178,6 +188,7 @@ fn a_handle_is_opened_shared_asked_and_closed(rt: HostRuntime) {
     assert_opened(&rt, alloc, &mut first, &mut second);
     assert_routes(&rt, alloc, &mut first);
     assert_sizes(&rt, alloc, &mut first);
+    assert_arcs_from(&rt, alloc, &mut first);
     assert_send(&first);
     close(alloc, first);
     assert_tree(&rt, alloc, &mut second);

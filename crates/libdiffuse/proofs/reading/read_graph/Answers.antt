@@ -2,4 +2,4 @@ use Rattle.libdiffuse.proofs.FaultNumbers.{fault_told}
 use Rattle.libdiffuse.proofs.reading.read_graph.Goals as goal
 
 pub returns-clause-fault : goal.returns-clause-fault
-returns-clause-fault c = fault_told c.args.bytes.now c.read_gr_as.result c.read_gr_as.ensures.fault c.read_gr_as.ensures.told c.read_gr_as.ensures.numbered
+returns-clause-fault c = fault_told c.args.bytes.now c.read_gr_as.result c.requires c.read_gr_as.ensures.fault c.read_gr_as.ensures.told c.read_gr_as.ensures.long c.read_gr_as.ensures.numbered

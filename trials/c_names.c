@@ -1,0 +1,259 @@
+/* Each status, algebra, reason and limit of the header by its name, held against a call of which the answer was worked out by
+   hand; what a call leaves as it was; and what it takes of the stack. Compiles as C and as C++. Link with -Wl,--wrap=malloc,
+   --wrap=realloc and -pthread. Each wrong name is printed; nothing is if all are right. */
+#include <diffuse.h>
+#include <pthread.h>
+#include <stdio.h>
+#include <stdlib.h>
+#include <string.h>
+#include <sys/mman.h>
+
+#ifdef __cplusplus
+extern "C" {
+#endif
+static int is_short_of_memory, wrong;
+void *__real_malloc(size_t);
+void *__real_realloc(void *, size_t);
+void *__wrap_malloc(size_t n) { return is_short_of_memory ? NULL : __real_malloc(n); }
+void *__wrap_realloc(void *p, size_t n) { return is_short_of_memory ? NULL : __real_realloc(p, n); }
+#ifdef __cplusplus
+}
+#endif
+
+static void compare(const char *name, uint64_t wanted, uint64_t found) {
+    if (found == wanted) return;
+    printf("%s is %lu, and a call gives %lu\n", name, (unsigned long)wanted, (unsigned long)found);
+    wrong = 1;
+}
+#define IS(wanted, found) compare(#wanted, (uint64_t)(wanted), (uint64_t)(found))
+
+/* The five vertices of the examples, and four on which two parents of vertex 4 are as good. */
+static const struct diffuse_arc FIVE[] = {{1, 2, 4}, {1, 3, 1}, {3, 2, 2}, {2, 4, 5}, {3, 4, 8}, {4, 4, 0}, {5, 1, 3}};
+static const struct diffuse_arc FOUR[] = {{1, 2, 1}, {1, 3, 1}, {2, 4, 1}, {3, 4, 1}};
+static const struct diffuse_arc BAD[] = {{1, 2, 4}, {1, 6, 1}};
+static const uint32_t ONE = 1, SIX = 6;
+
+struct tree {
+    uint64_t codes[5];
+    uint32_t hops[5], parents[5];
+};
+static const struct tree RIGHT = {{0, 3, 1, 8, DIFFUSE_UNREACHED}, {0, 2, 1, 3, 0}, {0, 3, 1, 2, 0}};
+
+static struct diffuse_graph graph = DIFFUSE_CLOSED, second = DIFFUSE_CLOSED;
+static uint64_t code, line;
+static uint32_t hops, room[8], vertex, reason;
+
+static void open(const struct diffuse_arc *arcs, uint32_t n, size_t m) {
+    diffuse_graph_close(&graph);
+    IS(DIFFUSE_STATUS_DONE, diffuse_graph_open(n, arcs, m, &graph));
+}
+
+static enum diffuse_status route(int algebra, uint64_t limit, uint32_t source, uint32_t target, size_t n) {
+    return diffuse_graph_route(&graph, (enum diffuse_algebra)algebra, limit, source, target, &code, &hops, room, n);
+}
+
+static enum diffuse_status read(const char *text) {
+    return diffuse_graph_read((const uint8_t *)text, strlen(text), &second, &line);
+}
+
+static enum diffuse_status tree(const uint32_t *source, struct tree *t, size_t n) {
+    return diffuse_graph_tree(&graph, DIFFUSE_ALGEBRA_SHORTEST, 0, source, 1, t->codes, n, t->hops, 5, t->parents, 5);
+}
+
+static enum diffuse_status check(const struct tree *t, size_t n) {
+    return diffuse_graph_check(&graph, DIFFUSE_ALGEBRA_SHORTEST, 0, &ONE, 1, t->codes, n, t->hops, n, t->parents, n, &vertex, &reason);
+}
+
+static void statuses(void) {
+    struct tree t = RIGHT;
+    IS(DIFFUSE_STATUS_CLOSED, route(DIFFUSE_ALGEBRA_SHORTEST, 0, 1, 4, 8));
+    IS(DIFFUSE_STATUS_CLOSED, tree(&ONE, &t, 5));
+    IS(DIFFUSE_STATUS_CLOSED, check(&t, 5));
+    IS(DIFFUSE_STATUS_CLOSED, diffuse_graph_share(&graph, &second));
+    open(FIVE, 5, 7);
+    IS(DIFFUSE_STATUS_OPEN, diffuse_graph_open(5, FIVE, 7, &graph));
+    IS(DIFFUSE_STATUS_DONE, route(DIFFUSE_ALGEBRA_SHORTEST, 0, 1, 4, 4));
+    IS(DIFFUSE_STATUS_NO_ROUTE, route(DIFFUSE_ALGEBRA_SHORTEST, 0, 1, 5, 8));
+    IS(DIFFUSE_STATUS_NO_ROOM, route(DIFFUSE_ALGEBRA_SHORTEST, 0, 1, 4, 3));
+    IS(DIFFUSE_STATUS_NO_VERTEX, route(DIFFUSE_ALGEBRA_SHORTEST, 0, 0, 4, 8));
+    IS(DIFFUSE_STATUS_NO_VERTEX, route(DIFFUSE_ALGEBRA_SHORTEST, 0, 1, 6, 8));
+    IS(DIFFUSE_STATUS_NO_ALGEBRA, route(6, 0, 1, 4, 8));
+    IS(DIFFUSE_STATUS_DONE, tree(&ONE, &t, 5));
+    IS(DIFFUSE_STATUS_NO_ROOM, tree(&ONE, &t, 4));
+    IS(DIFFUSE_STATUS_NO_VERTEX, tree(&SIX, &t, 5));
+    IS(DIFFUSE_STATUS_DONE, check(&RIGHT, 5));
+    IS(DIFFUSE_STATUS_NO_ROOM, check(&RIGHT, 4));
+    t.codes[3] = 9;
+    IS(DIFFUSE_STATUS_WRONG, check(&t, 5));
+}
+
+static void faults(void) {
+    IS(DIFFUSE_STATUS_NO_PROBLEM, read("c nothing\na 1 2 3\n"));
+    IS(2, line);
+    IS(DIFFUSE_STATUS_SECOND_PROBLEM, read("p sp 2 0\np sp 2 0\n"));
+    IS(DIFFUSE_STATUS_BAD_PROBLEM, read("p max 2 0\n"));
+    IS(DIFFUSE_STATUS_UNKNOWN_LINE, read("p sp 2 0\nx\n"));
+    IS(DIFFUSE_STATUS_FIELDS, read("p sp 2 1\na 1 2\n"));
+    IS(DIFFUSE_STATUS_NOT_A_NUMBER, read("p sp 2 1\na 1 2 -3\n"));
+    IS(DIFFUSE_STATUS_LIMIT, read("p sp 2 1\na 1 2 4294967296\n"));
+    IS(DIFFUSE_STATUS_NO_VERTEX, read("p sp 2 1\na 1 3 3\n"));
+    IS(DIFFUSE_STATUS_TOO_MANY, read("p sp 2 0\na 1 2 3\n"));
+    IS(DIFFUSE_STATUS_TOO_FEW, read("p sp 2 1\n"));
+    IS(2, line);
+    IS(DIFFUSE_STATUS_DONE, read("p sp 2 1\na 1 2 3\n"));
+    IS(DIFFUSE_STATUS_OPEN, read("p sp 2 1\na 1 2 3\n"));
+    diffuse_graph_close(&second);
+}
+
+/* The code of the best walk from 1 to 4 on the five vertices. */
+static void algebras(void) {
+    static const struct { int algebra; uint64_t limit, code; uint32_t hops; } ROWS[] = {
+        {DIFFUSE_ALGEBRA_SHORTEST, 7, 8, 3}, {DIFFUSE_ALGEBRA_WIDEST, 7, 4, 2}, {DIFFUSE_ALGEBRA_REACH, 7, 0, 2},
+        {DIFFUSE_ALGEBRA_HOPS, 7, 2, 2}, {DIFFUSE_ALGEBRA_RELIABLE, 7, 20, 2}, {DIFFUSE_ALGEBRA_WITHIN, 8, 8, 3}};
+    open(FIVE, 5, 7);
+    for (size_t i = 0; i < sizeof ROWS / sizeof *ROWS; i++) {
+        code = hops = 77;
+        IS(DIFFUSE_STATUS_DONE, route(ROWS[i].algebra, ROWS[i].limit, 1, 4, 8));
+        IS(ROWS[i].code, code);
+        IS(ROWS[i].hops, hops);
+    }
+    IS(DIFFUSE_STATUS_NO_ROUTE, route(DIFFUSE_ALGEBRA_WITHIN, 7, 1, 4, 8));
+}
+
+static void is_refuted(const char *name, enum diffuse_reason wanted, struct tree t, uint32_t at) {
+    vertex = reason = 0;
+    IS(DIFFUSE_STATUS_WRONG, check(&t, 5));
+    IS(at, vertex);
+    compare(name, wanted, reason);
+}
+#define REFUTED(reason, at) is_refuted(#reason, reason, t, at)
+
+static void reasons(void) {
+    static const struct tree TIES = {{0, 1, 1, 2, 0}, {0, 1, 1, 2, 0}, {0, 1, 1, 3, 0}};
+    struct tree t;
+    open(FIVE, 5, 7);
+    t = RIGHT, t.hops[0] = 1;
+    REFUTED(DIFFUSE_REASON_NOT_A_SOURCE_LINE, 1);
+    t = RIGHT, t.codes[1] = 4;
+    REFUTED(DIFFUSE_REASON_NOT_BEST, 2);
+    t = RIGHT, t.codes[3] = 7;
+    REFUTED(DIFFUSE_REASON_NO_PARENT, 4);
+    t = RIGHT, t.hops[3] = 4;
+    REFUTED(DIFFUSE_REASON_OTHER_HOPS, 4);
+    t = RIGHT, t.codes[3] = DIFFUSE_UNREACHED, t.hops[3] = 0, t.parents[3] = 0;
+    REFUTED(DIFFUSE_REASON_HAS_WALK, 4);
+    open(FOUR, 4, 4);
+    IS(DIFFUSE_STATUS_WRONG, check(&TIES, 4));
+    IS(DIFFUSE_REASON_LESSER_PARENT, reason);
+}
+
+/* Memory that is there only when it is read. */
+static void *area(size_t bytes) {
+    void *at = mmap(NULL, bytes, PROT_READ, MAP_PRIVATE | MAP_ANONYMOUS | MAP_NORESERVE, -1, 0);
+    if (at == MAP_FAILED) exit(2);
+    return at;
+}
+
+/* One more than a limit is refused, and that, a bad arc and a long text even without memory. */
+static void limits(void) {
+    size_t arcs = (DIFFUSE_MAX_ARCS + 1) * sizeof(struct diffuse_arc), bytes = DIFFUSE_MAX_TEXT + 1;
+    struct diffuse_arc *many = (struct diffuse_arc *)area(arcs);
+    uint8_t *text = (uint8_t *)area(bytes);
+    open(FIVE, DIFFUSE_MAX_VERTICES, 7);
+    IS(DIFFUSE_STATUS_DONE, route(DIFFUSE_ALGEBRA_WITHIN, DIFFUSE_MAX_LIMIT, 1, 4, 8));
+    IS(DIFFUSE_STATUS_NO_ALGEBRA, route(DIFFUSE_ALGEBRA_WITHIN, DIFFUSE_MAX_LIMIT + 1, 1, 4, 8));
+    diffuse_graph_close(&graph);
+    is_short_of_memory = 1;
+    IS(DIFFUSE_STATUS_MEMORY, diffuse_graph_open(5, FIVE, 7, &graph));
+    IS(DIFFUSE_STATUS_MEMORY, read("p sp 2 1\na 1 2 3\n"));
+    IS(DIFFUSE_STATUS_LIMIT, diffuse_graph_open(DIFFUSE_MAX_VERTICES + 1, FIVE, 7, &graph));
+    IS(DIFFUSE_STATUS_LIMIT, diffuse_graph_open(5, many, DIFFUSE_MAX_ARCS + 1, &graph));
+    IS(DIFFUSE_STATUS_NO_VERTEX, diffuse_graph_open(5, BAD, 2, &graph));
+    line = 7;
+    IS(DIFFUSE_STATUS_NO_ROOM, diffuse_graph_read(text, DIFFUSE_MAX_TEXT + 1, &second, &line));
+    IS(0, line);
+    is_short_of_memory = 0;
+    munmap(many, arcs);
+    munmap(text, bytes);
+}
+
+/* The room behind a route is left as it is, and all of it if there is no route or not the room. */
+static void rooms(void) {
+    static const struct { uint32_t target, n; int status; uint32_t room[8]; } ROWS[] = {
+        {4, 8, DIFFUSE_STATUS_DONE, {1, 3, 2, 4, 7, 7, 7, 7}}, {4, 4, DIFFUSE_STATUS_DONE, {1, 3, 2, 4, 7, 7, 7, 7}},
+        {1, 8, DIFFUSE_STATUS_DONE, {1, 7, 7, 7, 7, 7, 7, 7}}, {4, 3, DIFFUSE_STATUS_NO_ROOM, {7, 7, 7, 7, 7, 7, 7, 7}},
+        {5, 8, DIFFUSE_STATUS_NO_ROUTE, {7, 7, 7, 7, 7, 7, 7, 7}}, {6, 8, DIFFUSE_STATUS_NO_VERTEX, {7, 7, 7, 7, 7, 7, 7, 7}}};
+    open(FIVE, 5, 7);
+    for (size_t i = 0; i < sizeof ROWS / sizeof *ROWS; i++) {
+        for (int k = 0; k < 8; k++) room[k] = 7;
+        IS(ROWS[i].status, route(DIFFUSE_ALGEBRA_SHORTEST, 0, 1, ROWS[i].target, ROWS[i].n));
+        IS(0, memcmp(room, ROWS[i].room, sizeof room));
+    }
+}
+
+/* The arcs that leave a vertex, and the places after them. */
+static void arcs_from(void) {
+    static const struct diffuse_arc WANTED[] = {{3, 2, 2}, {3, 4, 8}, {7, 7, 7}}, NONE[] = {{7, 7, 7}, {7, 7, 7}, {7, 7, 7}};
+    struct diffuse_arc arcs[3];
+    size_t count = 7;
+    memcpy(arcs, NONE, sizeof arcs);
+    diffuse_graph_close(&graph);
+    IS(DIFFUSE_STATUS_CLOSED, diffuse_graph_arcs_from(&graph, 3, arcs, 3, &count));
+    open(FIVE, 5, 7);
+    IS(DIFFUSE_STATUS_NO_VERTEX, diffuse_graph_arcs_from(&graph, 6, arcs, 3, &count));
+    IS(7, count);
+    IS(DIFFUSE_STATUS_NO_ROOM, diffuse_graph_arcs_from(&graph, 3, arcs, 1, &count));
+    IS(2, count);
+    IS(0, memcmp(arcs, NONE, sizeof arcs));
+    IS(DIFFUSE_STATUS_DONE, diffuse_graph_arcs_from(&graph, 3, arcs, 3, &count));
+    IS(2, count);
+    IS(0, memcmp(arcs, WANTED, sizeof arcs));
+    IS(5, diffuse_graph_vertices(&graph));
+    IS(7, diffuse_graph_arcs(&graph));
+}
+
+/* Each status and each reason has a text of its own. */
+static void texts(void) {
+    int statuses = 0, reasons = 0;
+    for (int i = 0; i < 256; i++) {
+        statuses += strcmp(diffuse_status_text(i), diffuse_status_text(-1)) != 0;
+        reasons += strcmp(diffuse_reason_text((uint32_t)i), diffuse_reason_text(0)) != 0;
+        for (int k = 0; k < i; k++) {
+            if (strcmp(diffuse_status_text(i), diffuse_status_text(k)) == 0) IS(0, strcmp(diffuse_status_text(i), diffuse_status_text(-1)));
+            if (strcmp(diffuse_reason_text((uint32_t)i), diffuse_reason_text((uint32_t)k)) == 0)
+                IS(0, strcmp(diffuse_reason_text((uint32_t)i), diffuse_reason_text(0)));
+        }
+    }
+    IS(18, statuses);
+    IS(6, reasons);
+}
+
+static void *all(void *nothing) {
+    statuses();
+    faults();
+    algebras();
+    reasons();
+    rooms();
+    arcs_from();
+    texts();
+    IS(DIFFUSE_VERSION, diffuse_version());
+    diffuse_graph_close(&graph);
+    graph = diffuse_graph_closed();
+    return nothing;
+}
+
+/* All calls on a thread whose whole stack is what the header says. */
+static void stack(void) {
+    pthread_attr_t attributes;
+    pthread_t thread;
+    pthread_attr_init(&attributes);
+    IS(0, pthread_attr_setstacksize(&attributes, DIFFUSE_STACK));
+    IS(0, pthread_create(&thread, &attributes, all, NULL));
+    pthread_join(thread, NULL);
+}
+
+int main(int count, char **words) {
+    if (count == 2 && strcmp(words[1], "stack") == 0) stack();
+    else all(NULL), limits();
+    return wrong;
+}

@@ -47,6 +47,12 @@ pub trait PathAlgebra: Copy + Send + Sync {
     fn name(self) -> AlgebraName
         ensures { result ≡ (meaning self).name };
 
+    /// Whether the values of most walks tie, as if there are few values. A hint, on which no promise
+    /// rests: solvers choose by it between ways to the same answer.
+    fn ties_mostly(self) -> bool {
+        false
+    }
+
     /// The order is that of the meaning.
     ghost one_order: { (a : Self) → (meaning a).no_worse ≡ order };
 

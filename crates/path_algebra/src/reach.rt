@@ -50,4 +50,8 @@ impl PathAlgebra for Reach {
     fn name(self) -> AlgebraName {
         AlgebraName::Reach
     }
+
+    fn ties_mostly(self) -> bool {
+        true
+    }
 }

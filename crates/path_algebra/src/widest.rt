@@ -54,4 +54,8 @@ impl PathAlgebra for Widest {
     fn name(self) -> AlgebraName {
         AlgebraName::Widest
     }
+
+    fn ties_mostly(self) -> bool {
+        true
+    }
 }

@@ -7,3 +7,4 @@ mod Places
 mod Entries
 mod OneRows
 mod Reversing
+mod ByHead

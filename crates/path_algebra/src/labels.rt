@@ -32,7 +32,7 @@ impl<V: Copy> Model for Labels<V> {
 }
 
 impl<V: Copy> Labels<V> {
-    ghost use Rattle.std.specs.Prelude.{◌≡◌, ℕ, ◌≤◌, length};
+    ghost use Rattle.std.specs.Prelude.{◌≡◌, ℕ, ◌-◌, ◌≤◌, length, slice_set};
     ghost use Rattle.path_algebra.specs.Walks.{label_of, better_label};
 
     /// The labels of vertices 1, 2, .. in the order of a list.
@@ -56,6 +56,16 @@ impl<V: Copy> Labels<V> {
         ensures { result ≡ label_of self.now v }
     {
         self.list[v.0 as usize - 1]
+    }
+
+    /// Gives a vertex a label, or takes it away.
+    pub fn set(&mut self, v: Vertex, label: Option<V>)
+        requires low { 1 ≤ v }
+        requires high { v ≤ length self.old }
+        ensures { self.new ≡ slice_set self.old (v - 1) label }
+    {
+        let i = v.0 as usize - 1;
+        self.list[i] = label;
     }
 
     /// At each vertex the better of the two labels, the only one, or none.

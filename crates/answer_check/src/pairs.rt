@@ -2,6 +2,7 @@
 
 ghost use Rattle.std.specs.Prelude.{◌≡◌, [], ◌∷◌, IfOk, option_map};
 ghost use Rattle.road_graph.specs.GraphData.{HasVertex};
+ghost use Rattle.path_plain.specs.UpTo.{AreBestUpTo};
 ghost use Rattle.answer_text.specs.AnswerData.{found_of};
 ghost use Rattle.answer_check.specs.Reasons.{IsPairRefused, IsFirstReason};
 ghost use Rattle.answer_text.specs.IsAnswer.{IsPairAnswer};
@@ -9,11 +10,11 @@ ghost use Rattle.answer_check.specs.Pairs.{IsOther};
 
 use crate::verdict::Reason;
 use answer_text::Found;
-use path_algebra::{PathAlgebra, laws_hold};
-use path_plain::solve_one;
+use path_algebra::{Labels, PathAlgebra, laws_hold};
+use path_plain::solve_to;
 use road_files::are_same;
 use road_graph::{Graph, Memory, Vertex};
-use route_tree::{route_between, routes_follow_parents};
+use route_tree::{route_between_up_to, routes_follow_parents};
 use std::alloc::Global;
 
 /// The first way in which an answer differs from the right code, hops and route.
@@ -35,6 +36,22 @@ fn difference(code: u64, hops: u32, list: &[Vertex], found: &Found) -> Option<Re
     }
 }
 
+/// Labels that are best up to the target of a pair.
+fn labels_to<A: PathAlgebra>(
+    alloc: Global,
+    algebra: A,
+    graph: &Graph,
+    source: Vertex,
+    target: Vertex,
+) -> Result<Labels<A::Value>, Memory>
+    requires source { HasVertex graph.now source }
+    requires target { HasVertex graph.now target }
+    ensures { IfOk result (λ labels. AreBestUpTo (A.meaning algebra) graph.now (source ∷ []) target
+        labels) }
+{
+    solve_to(alloc, algebra, graph.outgoing(), &[source], target)
+}
+
 /// The first reason against the answer to a pair.
 pub(crate) fn reason_of_pair<A: PathAlgebra>(
     alloc: Global,
@@ -53,7 +70,7 @@ pub(crate) fn reason_of_pair<A: PathAlgebra>(
     laws_hold(algebra);
     routes_follow_parents(algebra);
     graph.holds();
-    let labels = solve_one(alloc, algebra, graph, source)?;
+    let labels = labels_to(alloc, algebra, graph, source, target)?;
     let Some(found) = found else {
         let has_walk = labels.of(target).is_some();
         return Ok(if has_walk {
@@ -65,7 +82,7 @@ pub(crate) fn reason_of_pair<A: PathAlgebra>(
     let Some(value) = labels.of(target) else {
         return Ok(Some(Reason::NotBest));
     };
-    let Some(right) = route_between(alloc, algebra, graph, source, target, &labels)? else {
+    let Some(right) = route_between_up_to(alloc, algebra, graph, source, target, &labels)? else {
         return Ok(Some(Reason::NotBest));
     };
     let list = right.vertices.as_slice();

@@ -8,9 +8,9 @@ ghost use Rattle.answer_lists.specs.Choice.{IsAlgebra, OfAlgebra};
 use crate::choice::with_algebra;
 use crate::status::{DONE, MEMORY, NO_ALGEBRA, NO_ROOM, NO_ROUTE, NO_VERTEX};
 use path_algebra::PathAlgebra;
-use path_plain::solve_outgoing;
+use path_plain::solve_to;
 use road_graph::{InGraph, Memory, OutGraph, Vertex};
-use route_tree::{PairRoute, route_outgoing};
+use route_tree::{PairRoute, route_outgoing_up_to};
 use std::alloc::Global;
 
 /// The best code and the route; none if no walk to the target has a value.
@@ -27,9 +27,10 @@ fn find<A: PathAlgebra>(
         (λ r. IsRouteFound (A.meaning algebra) graph.now source target r.0 r.1.hops r.1.vertices.items)) }
 {
     graph.holds();
-    let labels = solve_outgoing(alloc, algebra, graph, &[source])?;
+    let labels = solve_to(alloc, algebra, graph, &[source], target)?;
     let back = InGraph::of(alloc, graph)?;
-    let Some(route) = route_outgoing(alloc, algebra, graph, &back, source, target, &labels)? else {
+    let Some(route) = route_outgoing_up_to(alloc, algebra, graph, &back, source, target, &labels)?
+    else {
         return Ok(None);
     };
     match labels.of(target) {

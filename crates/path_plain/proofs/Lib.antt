@@ -3,4 +3,5 @@ pub mod Rounds
 pub mod Waiting
 mod Steps
 pub mod Offering
-mod Existing
+pub mod Existing
+pub mod UpTo

@@ -20,6 +20,15 @@ not_less : (p q : Bool) → is_lt (cond p (cond q Equal Greater) Less) ≡ false
 not_less true q h = refl
 not_less false q h = cc
 
+-- no entry is better than one that bounds them all, and none that is as good has a lesser place
+pub queue_ahead : {K V : Type 0} (value : K → V) (place : K → ℕ) (no_worse : V → V → Bool) (items : List K) (top : K) → IsUpperBound (open_cmp value place no_worse) top items →
+    (e : K) → Contains items e → IsTrue (no_worse (value top) (value e)) × (IsTrue (no_worse (value e) (value top)) → place top ≤ place e)
+queue_ahead {K} value place no_worse items top upper e h =
+    let passed : K → Type 0 = λ x. is_lt (open_cmp value place no_worse top x) ≡ false in
+    let p : passed e = All-contains passed items e (All-from_recursion passed items upper) h in
+    told no_worse (value top, place top) (value e, place e)
+    (not_less (by_number no_worse (value top, place top) (value e, place e)) (by_number no_worse (value e, place e) (value top, place top)) p)
+
 module _ {K V : Type 0} (value : K → V) (place : K → ℕ) (no_worse : V → V → Bool) (ordered : IsOrder no_worse) (labels : List (Option V)) (settled : List Bool) (items : List K)
     (known : IsQueue value place no_worse labels settled items) where
   pub queue_offer : (i : ℕ) (z : V) (new : K) (next : List K) → i < length labels → ((y : V) → get_or labels i None ≡ Some y → IsTrue (no_worse z y)) →
@@ -85,13 +94,8 @@ module _ {K V : Type 0} (value : K → V) (place : K → ℕ) (no_worse : V → 
     }
 
     module _ (upper : IsUpperBound (open_cmp value place no_worse) top items) where
-      -- no entry is better than the top, and none that is as good has a lesser place
       ahead : (e : K) → Contains items e → IsTrue (no_worse (value top) (value e)) × (IsTrue (no_worse (value e) (value top)) → place top ≤ place e)
-      ahead e h =
-          let passed : K → Type 0 = λ x. is_lt (open_cmp value place no_worse top x) ≡ false in
-          let p : passed e = All-contains passed items e (All-from_recursion passed items upper) h in
-          told no_worse (value top, place top) (value e, place e)
-          (not_less (by_number no_worse (value top, place top) (value e, place e)) (by_number no_worse (value e, place e) (value top, place top)) p)
+      ahead e h = queue_ahead value place no_worse items top upper e h
 
       -- the top entry is the best open vertex
       pub queue_best : get_or settled (place top) false ≡ false → IsBestOpen no_worse labels settled (length labels) (place top) (value top)

@@ -3,3 +3,4 @@ pub mod Order
 pub mod Queue
 pub mod Searching
 pub mod Ties
+pub mod UpTo

@@ -8,5 +8,5 @@ mod queue;
 mod search;
 mod solve;
 
-pub use laws::best_values_exist;
-pub use solve::{solve_from, solve_one, solve_outgoing};
+pub use laws::{best_values_exist, labels_serve_nearer_targets};
+pub use solve::{solve_from, solve_one, solve_outgoing, solve_to};

@@ -129,4 +129,13 @@ impl<A: PathAlgebra> Queue<A> {
         let best = self.heap.pop()?;
         Some((best.value, best.place))
     }
+
+    /// The first entry of the queue, which stays.
+    pub(crate) fn first(&self) -> Option<(A::Value, usize)>
+        ensures { IfSome result
+            (λ x. IsUpperBound (open_cmp (λ o. o.value) (λ o. o.place) A.order) (record { value = x.0; place = x.1 }) self.now) }
+    {
+        let best = self.heap.peek()?;
+        Some((best.value, best.place))
+    }
 }

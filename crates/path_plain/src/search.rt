@@ -1,10 +1,11 @@
 //! A search from a list of sources: vertices are settled best first, each once.
 
-ghost use Rattle.std.specs.Prelude.{◌≡◌, ℕ, ◌+◌, ◌≤◌, All, length, replicate, false, OnOk, IfOk};
+ghost use Rattle.std.specs.Prelude.{◌≡◌, ℕ, ◌+◌, ◌≤◌, All, length, replicate, false, IsTrue, OnOk, IfOk};
 ghost use Rattle.road_graph.specs.GraphData.{HasVertex};
 ghost use Rattle.path_algebra.specs.Walks.{offered, offered_if};
 ghost use Rattle.path_plain.specs.Opening.{AreOpening};
 ghost use Rattle.path_plain.specs.Searching.{IsSameSearch, Relaxes, Proceeds};
+ghost use Rattle.path_plain.specs.UpTo.{IsPast};
 
 use crate::queue::Queue;
 use path_algebra::{Labels, PathAlgebra, laws_hold};
@@ -129,6 +130,20 @@ impl<'g, A: PathAlgebra> Search<'g, A> {
             self.relax(Vertex(i as u32 + 1), x)?;
         }
         Ok(true)
+    }
+
+    /// Whether the target has a label that is better than each value that waits. If so, no vertex that is open can come before it.
+    pub(crate) fn is_past(&self, target: Vertex) -> bool
+        requires { HasVertex self.now.roads target }
+        ensures { IsTrue result → IsPast A.order self.now.labels self.now.settled target }
+    {
+        let Some(t) = self.labels[target.0 as usize - 1] else {
+            return false;
+        };
+        match self.queue.first() {
+            Some((x, _)) => !A::no_worse(x, t),
+            None => false,
+        }
     }
 
     /// The labels.

@@ -3,6 +3,7 @@
 ghost use Rattle.std.specs.Prelude.{◌∷◌, [], All, IfOk};
 ghost use Rattle.road_graph.specs.GraphData.{HasVertex};
 ghost use Rattle.path_algebra.specs.Walks.{AreBest};
+ghost use Rattle.path_plain.specs.UpTo.{AreBestUpTo};
 
 use crate::search::Search;
 use path_algebra::{Labels, PathAlgebra, laws_hold};
@@ -28,7 +29,29 @@ pub fn solve_outgoing<A: PathAlgebra>(
     Ok(search.into_labels())
 }
 
-/// The same, in a graph that has its arcs by number and by head too.
+/// The same as far as the target: the search stops once each value that waits is worse than the target's.
+///
+/// Vertices with a value as good as the target's are settled too, since a tight arc to the target may come from them.
+pub fn solve_to<A: PathAlgebra>(
+    alloc: Global,
+    algebra: A,
+    graph: &OutGraph,
+    sources: &[Vertex],
+    target: Vertex,
+) -> Result<Labels<A::Value>, Memory>
+    requires sources { All (HasVertex graph.now) sources.now }
+    requires target { HasVertex graph.now target }
+    ensures { IfOk result (λ labels. AreBestUpTo (A.meaning algebra) graph.now sources.now target
+        labels) }
+{
+    laws_hold(algebra);
+    graph.holds();
+    let mut search = Search::open(alloc, algebra, graph, sources)?;
+    while !search.is_past(target) && search.settle_next()? {}
+    Ok(search.into_labels())
+}
+
+/// Best values from a list of sources, in a graph that has its arcs by number and by head too.
 pub fn solve_from<A: PathAlgebra>(
     alloc: Global,
     algebra: A,

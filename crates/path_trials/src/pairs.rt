@@ -3,9 +3,12 @@
 use crate::graphs::{FIVE, graph_of};
 use crate::trees::{assert_vertices, tree_from};
 use path_algebra::{Hops, PathAlgebra, Reach, Reliable, Shortest, Widest, Within};
-use path_plain::{solve_one, solve_outgoing};
+use path_plain::{solve_one, solve_outgoing, solve_to};
 use road_graph::{Graph, InGraph, OutGraph, Vertex};
-use route_tree::{PairRoute, Tree, route, route_between, route_outgoing};
+use route_tree::{
+    PairRoute, Tree, route, route_between, route_between_up_to, route_outgoing,
+    route_outgoing_up_to,
+};
 use std::process::Abort;
 
 /// The route between two vertices, or none.
@@ -37,6 +40,40 @@ fn found_outgoing<A: PathAlgebra>(
     let back = InGraph::of(rt.alloc(), graph).expect(rt, "memory");
     let labels = solve_outgoing(rt.alloc(), algebra, graph, &[source]).expect(rt, "memory");
     route_outgoing(rt.alloc(), algebra, graph, &back, source, target, &labels).expect(rt, "memory")
+}
+
+/// The same, by labels of a search that stops past the target.
+fn found_up_to<A: PathAlgebra>(
+    rt: &(impl Abort + AllocGlobal),
+    algebra: A,
+    graph: &Graph,
+    source: u32,
+    target: u32,
+) -> Option<PairRoute> {
+    let (source, target) = (Vertex(source), Vertex(target));
+    assert!(rt; graph.has(source));
+    assert!(rt; graph.has(target));
+    let rows = graph.outgoing();
+    let labels = solve_to(rt.alloc(), algebra, rows, &[source], target).expect(rt, "memory");
+    route_between_up_to(rt.alloc(), algebra, graph, source, target, &labels).expect(rt, "memory")
+}
+
+/// The same, over rows by tail and rows by head alone.
+fn found_outgoing_up_to<A: PathAlgebra>(
+    rt: &(impl Abort + AllocGlobal),
+    algebra: A,
+    graph: &OutGraph,
+    source: u32,
+    target: u32,
+) -> Option<PairRoute> {
+    let (source, target) = (Vertex(source), Vertex(target));
+    assert!(rt; graph.has(source));
+    assert!(rt; graph.has(target));
+    let back = InGraph::of(rt.alloc(), graph).expect(rt, "memory");
+    let labels = solve_to(rt.alloc(), algebra, graph, &[source], target).expect(rt, "memory");
+    route_outgoing_up_to(rt.alloc(), algebra, graph, &back, source, target, &labels).expect(
+        rt, "memory",
+    )
 }
 
 /// Asserts that the route between two vertices goes through these; through none if no walk has a value.
@@ -88,6 +125,10 @@ fn assert_all_from<A: PathAlgebra>(
         let found = found_between(rt, algebra, graph, source, target);
         assert_of_tree(rt, &tree, Vertex(target), &found);
         let found = found_outgoing(rt, algebra, graph.outgoing(), source, target);
+        assert_of_tree(rt, &tree, Vertex(target), &found);
+        let found = found_up_to(rt, algebra, graph, source, target);
+        assert_of_tree(rt, &tree, Vertex(target), &found);
+        let found = found_outgoing_up_to(rt, algebra, graph.outgoing(), source, target);
         assert_of_tree(rt, &tree, Vertex(target), &found);
     }
 }
@@ -159,6 +200,25 @@ fn tight_cycles(rt: HostRuntime) {
     assert_between(&rt, Shortest, &parallel, 3, &[3, 2, 1], 1);
     assert_between(&rt, Shortest, &parallel, 3, &[3, 4], 4);
     assert_all_algebras(&rt, &parallel);
+}
+
+// The target 3 is settled before 8 and 7, whose values are as good; the shorter route goes through them.
+#[test]
+fn equal_values_are_settled(rt: HostRuntime) {
+    let arcs = [
+        (9, 1, 0),
+        (1, 2, 0),
+        (2, 4, 0),
+        (4, 3, 0),
+        (9, 8, 0),
+        (8, 7, 0),
+        (7, 3, 0),
+        (3, 5, 1),
+        (5, 6, 1),
+    ];
+    let graph = graph_of(&rt, 9, &arcs);
+    assert_between(&rt, Shortest, &graph, 9, &[9, 8, 7, 3], 3);
+    assert_all_algebras(&rt, &graph);
 }
 
 #[test]

@@ -4,7 +4,7 @@ ghost use Rattle.std.specs.Prelude.{◌≡◌, length};
 
 use crate::graphs::{FIVE, graph_of, push_both};
 use path_algebra::{Hops, Labels, PathAlgebra, Reach, Reliable, Shortest, Widest, Within};
-use path_plain::{best_values_exist, solve_from, solve_one};
+use path_plain::{best_values_exist, labels_serve_nearer_targets, solve_from, solve_one, solve_to};
 use road_graph::{Graph, Vertex};
 use std::alloc::Global;
 use std::process::Abort;
@@ -48,6 +48,22 @@ fn shortest_from(alloc: Global, graph: &Graph, sources: [Vertex; 3]) -> Option<V
     codes_of(alloc, Shortest, graph, &labels)
 }
 
+/// The codes of the shortest sums from vertex 1 as far as a target, vertex by vertex, or none if a call was refused.
+fn shortest_to(alloc: Global, graph: &Graph, target: Vertex) -> Option<Vec<Option<u64>>> {
+    if !graph.has(Vertex(1)) || !graph.has(target) {
+        return None;
+    }
+    let labels = solve_to(alloc, Shortest, graph.outgoing(), &[Vertex(1)], target).ok()?;
+    codes_of(alloc, Shortest, graph, &labels)
+}
+
+/// Asserts the codes of the shortest sums in the five vertices from vertex 1 as far as a target, vertex by vertex.
+fn assert_codes_to(rt: &(impl Abort + AllocGlobal), target: Vertex, wanted: &[Option<u64>]) {
+    let graph = graph_of(rt, 5, &FIVE);
+    let found = shortest_to(rt.alloc(), &graph, target).expect(rt, "no labels");
+    assert!(rt; found.as_slice() == wanted);
+}
+
 /// Asserts the codes of the labels from vertex 1, vertex by vertex.
 fn assert_codes<A: PathAlgebra>(
     rt: &(impl Abort + AllocGlobal),
@@ -68,6 +84,16 @@ fn assert_codes_from(
     let graph = graph_of(rt, 5, &FIVE);
     let found = shortest_from(rt.alloc(), &graph, sources).expect(rt, "no labels");
     assert!(rt; found.as_slice() == wanted);
+}
+
+// The search to 3 stops before 2 is settled, by which 4 has 8; the one to 5, which no walk reaches, goes on to the end.
+#[test]
+fn five_vertices_as_far_as_a_target(rt: HostRuntime) {
+    labels_serve_nearer_targets(Shortest);
+    assert_codes_to(&rt, Vertex(1), &[Some(0), Some(4), Some(1), None, None]);
+    assert_codes_to(&rt, Vertex(3), &[Some(0), Some(3), Some(1), Some(9), None]);
+    assert_codes_to(&rt, Vertex(2), &[Some(0), Some(3), Some(1), Some(8), None]);
+    assert_codes_to(&rt, Vertex(5), &[Some(0), Some(3), Some(1), Some(8), None]);
 }
 
 #[test]

@@ -8,3 +8,4 @@ mod Told
 mod Existing
 mod VisitingBack
 mod RegionTrees
+mod UpTo

@@ -41,3 +41,7 @@ pub record VisitingBack (g : GraphData) (test : ℕ → Bool) (target k : ℕ) (
   pub arcs_at : (a : ℕ) → Contains arcs a → HasArc g a × IsWithinHops g test target k (arc_of g a).head
   pub closed : (a : ℕ) → HasArc g a → test a ≡ true → IsTrue (is_marked marks (arc_of g a).head) →
       Contains arcs a ⊎ (Contains pending (arc_of g a).head ⊎ (Contains next (arc_of g a).head ⊎ IsTrue (is_marked marks (arc_of g a).tail)))
+
+-- from each marked vertex a walk that passes the test leads to the target
+abbrev pub LeadTo : GraphData → (ℕ → Bool) → ℕ → List Bool → Type 0
+LeadTo g test target marks = (v : ℕ) → HasVertex g v → IsTrue (is_marked marks v) → (k : ℕ) × IsWithinHops g test target k v

@@ -1,8 +1,9 @@
 -- What labels, trees and routes say of walks.
-use Rattle.std.specs.Prelude.{◌≡◌, ℕ, List, ◌∷◌, Contains, Option, Some, None}
+use Rattle.std.specs.Prelude.{◌≡◌, ℕ, ◌+◌, List, [], ◌∷◌, length, Contains, Option, Some, None, MatchOption}
 use Rattle.road_graph.specs.GraphData.{GraphData}
 use Rattle.path_algebra.specs.Algebra.{Algebra}
 use Rattle.path_algebra.specs.Walks.{IsBest, IsUnreached, AreHops, IsParent, IsParentChain}
+use Rattle.route_tree.specs.declared.routes.PairRoute.{PairRoute}
 
 -- a label, hops and a parent of v are its best value, its least hops and its least parent, or none of them if no walk to v has a value; a reached v has no parent exactly if it is a source
 abbrev pub IsToldOf : {V : Type 0} → Algebra V → GraphData → List ℕ → ℕ → Option V → Option ℕ → Option ℕ → Type 0
@@ -18,3 +19,8 @@ pub record IsParentRoute {V : Type 0} (A : Algebra V) (g : GraphData) (sources :
   pub is : list ≡ first ∷ rest
   pub begins : Contains sources first
   pub chain : IsParentChain A g sources first rest v
+
+-- a route between two vertices has the least hops of its target, and its vertices by least parents; none if no walk to the target has a value
+abbrev pub IsPairRoute : {V : Type 0} → Algebra V → GraphData → ℕ → ℕ → Option PairRoute → Type 0
+IsPairRoute A g source target found = MatchOption found (IsUnreached A g (source ∷ []) target)
+    (λ r. AreHops A g (source ∷ []) target r.hops × IsParentRoute A g (source ∷ []) target r.vertices.items × (length r.vertices.items ≡ r.hops + 1))

@@ -3,7 +3,7 @@
 ghost use Rattle.std.specs.Prelude.{◌≡◌, ◌+◌, ◌-◌, ◌≤◌, ◌<◌, [], ◌∷◌, ◌++◌, All, IfOk, OnOk, cond, eqb, false, length, replicate, slice_set, true};
 ghost use Rattle.road_graph.specs.GraphData.{HasVertex};
 ghost use Rattle.path_algebra.specs.Walks.{is_marked, is_tight};
-ghost use Rattle.route_tree.specs.Regions.{Covers, unmarked};
+ghost use Rattle.route_tree.specs.Regions.{Covers, LeadTo, unmarked};
 ghost use Rattle.route_tree.specs.Backward.{VisitsBack, VisitsAllBack, VisitsLevelBack, finds_tail};
 
 use crate::entering::Entering;
@@ -188,8 +188,10 @@ pub(crate) fn marks_back<A: PathAlgebra, G: Entering>(
     requires source { HasVertex (G.roads graph.now) source }
     requires target { HasVertex (G.roads graph.now) target }
     requires labels { length labels.now ≡ (G.roads graph.now).vertices }
-    ensures { IfOk result (λ marks. Covers (G.roads graph.now) (is_tight (A.meaning algebra)
+    ensures covers { IfOk result (λ marks. Covers (G.roads graph.now) (is_tight (A.meaning algebra)
         (G.roads graph.now) labels.now) source target marks.items) }
+    ensures lead { IfOk result (λ marks. LeadTo (G.roads graph.now) (is_tight (A.meaning algebra)
+        (G.roads graph.now) labels.now) target marks.items) }
 {
     graph.holds();
     let mut row = Vec::new(alloc);

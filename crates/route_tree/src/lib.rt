@@ -19,6 +19,8 @@ mod tightness;
 
 pub use hops_and_parents::Tree;
 pub use laws::{hops_tell_reached, labels_and_trees_agree, routes_follow_parents, trees_exist};
-pub use routes::{PairRoute, route, route_between, route_outgoing};
+pub use routes::{
+    PairRoute, route, route_between, route_between_up_to, route_outgoing, route_outgoing_up_to,
+};
 pub use slot::NumberSlot;
 pub use tight_tree::{tree, tree_outgoing};

@@ -1,9 +1,10 @@
 //! Routes: chains of parents, from a whole tree or between two vertices alone.
 
-ghost use Rattle.std.specs.Prelude.{◌≡◌, ◌+◌, ◌≤◌, [], ◌∷◌, ◌++◌, length, IfOk, OnOk, None, MatchOption};
+ghost use Rattle.std.specs.Prelude.{◌≡◌, ◌≤◌, [], ◌∷◌, ◌++◌, length, IfOk, OnOk, None, MatchOption};
 ghost use Rattle.road_graph.specs.GraphData.{HasVertex};
-ghost use Rattle.path_algebra.specs.Walks.{AreBest, AreHops, IsUnreached};
-ghost use Rattle.route_tree.specs.Told.{IsParentRoute};
+ghost use Rattle.path_algebra.specs.Walks.{AreBest};
+ghost use Rattle.path_plain.specs.UpTo.{AreBestUpTo};
+ghost use Rattle.route_tree.specs.Told.{IsPairRoute};
 ghost use Rattle.route_tree.specs.Tree.{IsRoute, hops_of};
 
 use crate::backward::marks_back;
@@ -12,6 +13,7 @@ use crate::hops_and_parents::Tree;
 use crate::region::Region;
 use crate::tight_tree::tree_into;
 use path_algebra::{Labels, PathAlgebra, laws_hold};
+use path_plain::best_values_exist;
 use road_graph::{Graph, InGraph, Memory, OutGraph, Vertex};
 use std::alloc::{AllocError, Global};
 
@@ -67,13 +69,11 @@ fn route_in<A: PathAlgebra, G: Entering>(
     requires back { G.roads back.now ≡ graph.now }
     requires source { HasVertex graph.now source }
     requires target { HasVertex graph.now target }
-    requires labels { AreBest (A.meaning algebra) graph.now (source ∷ []) labels.now }
-    ensures { IfOk result (λ found. MatchOption found (IsUnreached (A.meaning algebra) graph.now (source ∷ []) target)
-        (λ r. AreHops (A.meaning algebra) graph.now (source ∷ []) target r.hops
-        × IsParentRoute (A.meaning algebra) graph.now (source ∷ []) target r.vertices.items
-        × (length r.vertices.items ≡ r.hops + 1))) }
+    requires labels { AreBestUpTo (A.meaning algebra) graph.now (source ∷ []) target labels.now }
+    ensures { IfOk result (IsPairRoute (A.meaning algebra) graph.now source target) }
 {
     laws_hold(algebra);
+    best_values_exist(algebra);
     graph.holds();
     let region = Region::marked(marks_back(alloc, algebra, back, labels, source, target)?);
     let tree = tree_into(alloc, algebra, graph, labels, &region, &[source])?;
@@ -102,20 +102,11 @@ pub fn route_between<A: PathAlgebra>(
     requires source { HasVertex graph.now source }
     requires target { HasVertex graph.now target }
     requires labels { AreBest (A.meaning algebra) graph.now (source ∷ []) labels.now }
-    ensures { IfOk result (λ found. MatchOption found (IsUnreached (A.meaning algebra) graph.now (source ∷ []) target)
-        (λ r. AreHops (A.meaning algebra) graph.now (source ∷ []) target r.hops
-        × IsParentRoute (A.meaning algebra) graph.now (source ∷ []) target r.vertices.items
-        × (length r.vertices.items ≡ r.hops + 1))) }
+    ensures { IfOk result (IsPairRoute (A.meaning algebra) graph.now source target) }
 {
-    route_in(
-        alloc,
-        algebra,
-        graph.outgoing(),
-        graph,
-        source,
-        target,
-        labels,
-    )
+    laws_hold(algebra);
+    graph.holds();
+    route_between_up_to(alloc, algebra, graph, source, target, labels)
 }
 
 /// The same, in a graph that has its arcs by tail alone, with `back`, which has them by head.
@@ -132,10 +123,55 @@ pub fn route_outgoing<A: PathAlgebra>(
     requires source { HasVertex graph.now source }
     requires target { HasVertex graph.now target }
     requires labels { AreBest (A.meaning algebra) graph.now (source ∷ []) labels.now }
-    ensures { IfOk result (λ found. MatchOption found (IsUnreached (A.meaning algebra) graph.now (source ∷ []) target)
-        (λ r. AreHops (A.meaning algebra) graph.now (source ∷ []) target r.hops
-        × IsParentRoute (A.meaning algebra) graph.now (source ∷ []) target r.vertices.items
-        × (length r.vertices.items ≡ r.hops + 1))) }
+    ensures { IfOk result (IsPairRoute (A.meaning algebra) graph.now source target) }
+{
+    laws_hold(algebra);
+    graph.holds();
+    route_outgoing_up_to(alloc, algebra, graph, back, source, target, labels)
+}
+
+/// The route from a source to a target, for labels that are best up to the target, as a search gives them that stops there.
+///
+/// It is the route of the whole tree: a walk of tight arcs to the target passes only vertices whose labels are best.
+pub fn route_between_up_to<A: PathAlgebra>(
+    alloc: Global,
+    algebra: A,
+    graph: &Graph,
+    source: Vertex,
+    target: Vertex,
+    labels: &Labels<A::Value>,
+) -> Result<Option<PairRoute>, Memory>
+    requires source { HasVertex graph.now source }
+    requires target { HasVertex graph.now target }
+    requires labels { AreBestUpTo (A.meaning algebra) graph.now (source ∷ []) target labels.now }
+    ensures { IfOk result (IsPairRoute (A.meaning algebra) graph.now source target) }
+{
+    route_in(
+        alloc,
+        algebra,
+        graph.outgoing(),
+        graph,
+        source,
+        target,
+        labels,
+    )
+}
+
+/// The same, in a graph that has its arcs by tail alone, with `back`, which has them by head.
+pub fn route_outgoing_up_to<A: PathAlgebra>(
+    alloc: Global,
+    algebra: A,
+    graph: &OutGraph,
+    back: &InGraph,
+    source: Vertex,
+    target: Vertex,
+    labels: &Labels<A::Value>,
+) -> Result<Option<PairRoute>, Memory>
+    requires back { back.now ≡ graph.now }
+    requires source { HasVertex graph.now source }
+    requires target { HasVertex graph.now target }
+    requires labels { AreBestUpTo (A.meaning algebra) graph.now (source ∷ []) target labels.now }
+    ensures { IfOk result (IsPairRoute (A.meaning algebra) graph.now source target) }
 {
     route_in(alloc, algebra, graph, back, source, target, labels)
 }

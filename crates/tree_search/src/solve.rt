@@ -6,7 +6,7 @@ ghost use Rattle.path_algebra.specs.Walks.{AreBest};
 ghost use Rattle.route_tree.specs.Tree.{IsTree};
 
 use crate::search::Search;
-use path_algebra::{AlgebraName, Labels, PathAlgebra, laws_hold};
+use path_algebra::{Labels, PathAlgebra, laws_hold};
 use path_plain::solve_outgoing;
 use road_graph::{Memory, OutGraph, Vertex};
 use route_tree::{Tree, tree_outgoing};
@@ -48,7 +48,7 @@ fn solve_in_two_passes<A: PathAlgebra>(
 
 /// The best value of each vertex over all walks from some source of the list, and none if no walk has a value; with the tree of these values. Sources may repeat. The only error is `Memory`.
 ///
-/// One search finds both, except for `Reach` and `Widest`: if most values tie, a heap that orders by hops too costs more than a pass over the arcs.
+/// One search finds both, unless `ties_mostly` says that most values tie: a heap that orders by hops too then costs more than a pass over the arcs.
 /// Besides the labels and the tree it takes a byte a vertex, and the queue.
 pub fn solve_with_tree<A: PathAlgebra>(
     alloc: Global,
@@ -60,10 +60,9 @@ pub fn solve_with_tree<A: PathAlgebra>(
     ensures labels { IfOk result (λ s. AreBest (A.meaning algebra) graph.now sources.now s.0) }
     ensures tree { IfOk result (λ s. IsTree (A.meaning algebra) graph.now sources.now s.1) }
 {
-    match algebra.name() {
-        AlgebraName::Reach | AlgebraName::Widest => {
-            solve_in_two_passes(alloc, algebra, graph, sources)
-        }
-        _ => solve_in_one_search(alloc, algebra, graph, sources),
+    if algebra.ties_mostly() {
+        solve_in_two_passes(alloc, algebra, graph, sources)
+    } else {
+        solve_in_one_search(alloc, algebra, graph, sources)
     }
 }

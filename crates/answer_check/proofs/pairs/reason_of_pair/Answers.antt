@@ -11,7 +11,7 @@ returns-in_default-of g c =
     let A = g.A.PathAlgebra.meaning c.args.algebra in
     let none : label_of c.in_ok-labels.labels c.args.target ≡ None = sym c.of-2.ensures ∙ c.in_default-of.is in
     let unreached : IsUnreached A c.args.graph.now (c.args.source ∷ []) c.args.target =
-    subst (IsBestLabel A c.args.graph.now (c.args.source ∷ []) c.args.target) none (c.in_ok-labels.ensures.best c.args.target c.requires.target) in
+    subst (IsBestLabel A c.args.graph.now (c.args.source ∷ []) c.args.target) none c.in_ok-labels.ensures.at_target in
     rw c.in-Some.is (told_without_walk A c.laws_hold.ensures.lawful c.args.graph.now c.args.source c.args.target (found_of c.in-Some.found) unreached)
 
 pub returns-in_default-2 : goal.returns-in_default-2
@@ -28,7 +28,7 @@ returns g c =
     let t = c.args.target in
     let right = c.in-Some-2.right in
     let label_is : label_of c.in_ok-labels.labels t ≡ Some c.in-Some-of.value = sym c.of-2.ensures ∙ c.in-Some-of.is in
-    let best : IsBest A graph (s ∷ []) t c.in-Some-of.value = subst (IsBestLabel A graph (s ∷ []) t) label_is (c.in_ok-labels.ensures.best t c.requires.target) in
+    let best : IsBest A graph (s ∷ []) t c.in-Some-of.value = subst (IsBestLabel A graph (s ∷ []) t) label_is c.in_ok-labels.ensures.at_target in
     let between : AreHops A graph (s ∷ []) t right.hops × IsParentRoute A graph (s ∷ []) t right.vertices.items × (length right.vertices.items ≡ right.hops + 1) = search rules in
     let route = c.routes_follow_parents.ensures.from_one_source graph s t right.vertices.items between.1 in
     let route_is : IsRouteBetween A graph s t c.as_slice-list.result.now = rw c.as_slice-list.ensures.value route in

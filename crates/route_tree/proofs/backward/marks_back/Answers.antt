@@ -3,6 +3,7 @@ use Rattle.std.proofs.lemmas.List.{nil_from_length}
 use Rattle.path_algebra.specs.Walks.{is_tight}
 use Rattle.route_tree.specs.Regions.{VisitingBack}
 use Rattle.route_tree.proofs.VisitingBack.{back_start, covers_near, covers_all}
+use Rattle.route_tree.proofs.UpTo.{back_leads}
 use Rattle.route_tree.proofs.backward.marks_back.Goals as goal
 use Rattle.route_tree.proofs.backward.marks_back.Goals.{then-loop-search-test+else-not-has, else-loop-search-test}
 
@@ -30,8 +31,8 @@ loop-search-preserved g c =
       visiting = (known.visiting.0 + 1, (rw known.over at c.in_ok-visit_level.ensures.visits) c.args.target known.visiting.0 known.visiting.1);
     }
 
-pub returns : goal.returns
-returns g c =
+pub returns-clause-covers : goal.returns-clause-covers
+returns-clause-covers g c =
     let roads = g.G.Entering.roads c.args.graph.now in
     let test = is_tight (g.A.PathAlgebra.meaning c.args.algebra) roads c.args.labels.now in
     let search = c.loop-search.search in
@@ -45,3 +46,10 @@ returns g c =
           covers_all roads c.holds.ensures test c.args.target k search.marks c.args.source
           (subst (λ (list : List ℕ). VisitingBack roads test c.args.target k search.marks list [] []) none known)
     ])
+
+pub returns-clause-lead : goal.returns-clause-lead
+returns-clause-lead g c =
+    let roads = g.G.Entering.roads c.args.graph.now in
+    let test = is_tight (g.A.PathAlgebra.meaning c.args.algebra) roads c.args.labels.now in
+    let search = c.loop-search.search in
+    rw c.into_marks.ensures (back_leads roads test c.args.target c.loop-search.invariant.visiting.0 search.marks search.next [] c.loop-search.invariant.visiting.1)

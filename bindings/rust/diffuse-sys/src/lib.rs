@@ -30,6 +30,7 @@ unsafe extern "C" {
     pub fn diffuse_graph_close(graph: *mut Handle);
     pub fn diffuse_graph_vertices(graph: *mut Handle) -> u32;
     pub fn diffuse_graph_arcs(graph: *mut Handle) -> usize;
+    pub fn diffuse_graph_arcs_from(graph: *mut Handle, vertex: u32, arcs: *mut Arc, n_arcs: usize, count: *mut usize) -> i32;
     pub fn diffuse_graph_route(
         graph: *mut Handle,
         algebra: u32,

@@ -6,6 +6,7 @@ use std::cell::UnsafeCell;
 use std::fmt;
 
 const NO_ROUTE: i32 = 1;
+const NO_ROOM: i32 = 2;
 const WRONG: i32 = 6;
 
 /// A graph in memory. It is freed with the last that shares it.
@@ -66,6 +67,21 @@ impl Graph {
     pub fn arcs(&self) -> usize {
         // SAFETY: as in `share`.
         unsafe { diffuse_graph_arcs(self.handle.get()) }
+    }
+
+    /// The arcs that leave a vertex, in the order in which they were given.
+    pub fn arcs_from(&self, vertex: u32) -> Result<Vec<Arc>, Error> {
+        let (mut arcs, mut count) = (vec![Arc { tail: 0, head: 0, weight: 0 }; 8], 0);
+        loop {
+            // SAFETY: as in `share`; the slice is valid for its length.
+            let status = unsafe { diffuse_graph_arcs_from(self.handle.get(), vertex, arcs.as_mut_ptr(), arcs.len(), &mut count) };
+            if status != NO_ROOM {
+                error::done(status)?;
+                arcs.truncate(count);
+                return Ok(arcs);
+            }
+            arcs.resize(count, arcs[0]);
+        }
     }
 
     /// A best route from a source to a target; none if no walk between them has a value.

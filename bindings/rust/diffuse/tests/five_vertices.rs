@@ -43,8 +43,17 @@ fn a_tree_and_its_check() {
 }
 
 #[test]
+fn arcs_are_read_back() {
+    assert_eq!(five().arcs_from(3), Ok(vec![arc(3, 2, 2), arc(3, 4, 8)]));
+    let star: Vec<Arc> = (1..=20).map(|v| arc(1, v, v)).collect();
+    let graph = Graph::open(21, &star).unwrap();
+    assert_eq!((graph.arcs_from(1), graph.arcs_from(21)), (Ok(star), Ok(vec![])));
+}
+
+#[test]
 fn each_refusal() {
     let graph = five();
+    assert_eq!(graph.arcs_from(6), Err(Error::NoVertex));
     assert_eq!(graph.route(Algebra::Shortest, 1, 6), Err(Error::NoVertex));
     assert_eq!(graph.tree(Algebra::Shortest, &[0]), Err(Error::NoVertex));
     assert_eq!(graph.tree(Algebra::Within(1 << 63 | 1), &[1]), Err(Error::LimitTooGreat));

@@ -358,13 +358,12 @@ fn five_vertices_in_both_orders(rt: HostRuntime) {
 
 #[test]
 fn locks_in_both_orders(rt: HostRuntime) {
-    for count in [1, 2, 6, 10] {
-        let exponential = (1 << (count + 2)) - 3;
+    // First come, first served 2^(k + 2) - 3 messages, best first 4 k + 1.
+    for (count, arrival, best) in [(1, 5, 5), (2, 13, 9), (6, 253, 25), (10, 4093, 41)] {
         let graph = locks_of(&rt, count);
-        assert_alone(&rt, Shortest, graph, QueueOrder::Arrival, exponential);
-        let linear = u64::from(count) * 4 + 1;
+        assert_alone(&rt, Shortest, graph, QueueOrder::Arrival, arrival);
         let graph = locks_of(&rt, count);
-        assert_alone(&rt, Shortest, graph, QueueOrder::BestFirst, linear);
+        assert_alone(&rt, Shortest, graph, QueueOrder::BestFirst, best);
     }
 }
 

@@ -10,7 +10,7 @@ use Rattle.scholten_core.specs.Items.{item_arc}
 use Rattle.shard_part.specs.PartState.{PartData, state_in, vertex_of, maker_of, IsArc}
 use Rattle.shard_store.specs.Setup.{network_of, place_in}
 use Rattle.shard_part.specs.Weights.{Channels, channels_of, All}
-use Rattle.shard_store.specs.Totals.{total, is}
+use Rattle.shard_store.specs.Totals.{is}
 use Rattle.shard_part.specs.Handling.{route, GoesAtOnce, IsInTurn}
 use Rattle.shard_part.specs.LocalInvariant.{IsClear, LocalInvariant}
 use Rattle.shard_store.specs.Rows.{Rows}

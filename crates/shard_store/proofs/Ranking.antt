@@ -13,9 +13,8 @@ use Rattle.std.proofs.lemmas.Bool.Decides.{leb_tells}
 use Rattle.std.proofs.lemmas.List.{length-map, append-nil}
 use Rattle.std.proofs.lemmas.List.Elements.{All-nil, All-cons}
 use Rattle.std.specs.List.Sorted.{IsPermutation}
-use Rattle.std.proofs.lemmas.List.Sorted.{IsPermutation-append, IsPermutation-map, IsPermutation-refl, IsPermutation-to_front, IsPermutation-sym, IsPermutation-trans}
+use Rattle.std.proofs.lemmas.List.Sorted.{IsPermutation-append, IsPermutation-map, IsPermutation-refl, IsPermutation-to_front, IsPermutation-trans}
 use Rattle.scholten_core.specs.declared.item.Item.{Item}
-use Rattle.scholten_core.specs.declared.item.Item.TheVariants.{Message as MessageOn}
 use Rattle.shard_store.specs.declared.ranked.RankedMessage.{RankedMessage}
 use Rattle.shard_store.specs.Queue.{Line, line, Room, IsItemQueue, ranked_item, IsNewest, IsNoWorseOn, IsBestMessage}
 use Rattle.shard_store.specs.Rank.{rank_cmp}

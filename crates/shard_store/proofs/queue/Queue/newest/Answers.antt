@@ -1,4 +1,4 @@
-use Rattle.std.proofs.Common.{◌≡◌, ◌≤◌, ◌-◌, ap, sym, ◌∙◌, drop, map, length, arith}
+use Rattle.std.proofs.Common.{◌≤◌, ◌-◌, ap, ◌∙◌, drop, map, length, arith}
 use Rattle.std.specs.BinaryHeap.{heap_items}
 use Rattle.std.specs.Prelude.{slice_get}
 use Rattle.std.proofs.lemmas.List.{length-map}

@@ -1,8 +1,8 @@
-use Rattle.std.proofs.Common.{◌≡◌, ◌<◌, ap, refl, ◌∙◌, rules, length, arith}
+use Rattle.std.proofs.Common.{◌≡◌, ap, refl, ◌∙◌, rules, length, arith}
 use Rattle.std.specs.Prelude.{vec_len}
 use Rattle.std.specs.BinaryHeap.{heap_items, heap_len}
 use Rattle.shard_store.specs.Queue.{ranked_item}
-use Rattle.shard_store.proofs.Ranking.{joined, newest_back, newest_fits, newest_ranked, still_queue}
+use Rattle.shard_store.proofs.Ranking.{joined, newest_fits, newest_ranked, still_queue}
 use Rattle.shard_store.proofs.queue.Queue.rank_newest.Goals as goal
 
 pub invariant_of-self : goal.invariant_of-self

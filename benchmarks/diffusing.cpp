@@ -1,6 +1,6 @@
 // Answers every question of a .ss by diffusing computations on threads, with the bytes of `diffuse solve`:
 //
-//     diffusing GRAPH QUESTIONS [WORKERS SHARDS WIDTH BUDGET]
+//     diffusing GRAPH QUESTIONS [WORKERS SHARDS WIDTH BUDGET [best-first]]
 //
 // It is the engine's own rule in plain C++, to measure the engine against: the same parts, items in the same order,
 // batches through mailboxes of one word, a done word, workers that yield after a round in which nothing was done. On
@@ -14,12 +14,15 @@
 #include <algorithm>
 #include <atomic>
 #include <memory>
+#include <queue>
+#include <string>
 #include <thread>
 
 constexpr uint32_t NOT_ENGAGED = ~uint32_t(0);
 
 struct Settings {
     uint32_t workers = 4, shards = 4, width = 1, budget = 1024;
+    bool best_first = false;
 };
 
 // A message on an arc, or the signal that answers it. Arc 0 leads from the environment to the source.
@@ -56,6 +59,47 @@ public:
     }
 };
 
+// A message that waits for its turn by value. Less is worse: a greater value, and of equal values a greater arc.
+struct Ranked {
+    uint64_t value;
+    uint32_t arc;
+    bool operator<(const Ranked& other) const {
+        return value > other.value || (value == other.value && arc > other.arc);
+    }
+};
+
+// The items that wait at a part, in one of two orders. First come, first served they are in a ring. Best first, what came
+// is looked at from the newest on: a signal, or a message that improves nothing, is taken at once, any other is ranked.
+class Queue {
+    bool best_first = false;
+    Ring ring;
+    vector<Item> unranked;
+    std::priority_queue<Ranked> ranked;
+
+public:
+    void open(bool best) { best_first = best; }
+
+    bool is_empty() const { return ring.is_empty() && unranked.empty() && ranked.empty(); }
+
+    void push(const Item& item) {
+        if (best_first) unranked.push_back(item);
+        else ring.push(item);
+    }
+
+    template <class Improves> Item pop(Improves improves) {
+        if (!best_first) return ring.pop();
+        while (!unranked.empty()) {
+            Item item = unranked.back();
+            unranked.pop_back();
+            if (item.is_signal || !improves(item)) return item;
+            ranked.push({item.value, item.arc});
+        }
+        Ranked best = ranked.top();
+        ranked.pop();
+        return {best.arc, false, best.value};
+    }
+};
+
 enum Word : uint32_t { EMPTY, FILLING, FULL, READING };
 
 struct Mailbox {
@@ -80,7 +124,7 @@ struct Network {
 };
 
 struct Part {
-    Ring queue;
+    Queue queue;
     vector<vector<Item>> outboxes;
     uint64_t messages = 0;
     bool knows_end = false, is_over = false;
@@ -97,7 +141,8 @@ class Question {
     std::unique_ptr<Mailbox[]> mailboxes;
     std::atomic<uint32_t> done{0};
 
-    uint32_t shard_behind(uint32_t arc) const { return shard_of[arc == 0 ? source : network.arcs[arc].head]; }
+    uint32_t head_of(uint32_t arc) const { return arc == 0 ? source : network.arcs[arc].head; }
+    uint32_t shard_behind(uint32_t arc) const { return shard_of[head_of(arc)]; }
     uint32_t shard_before(uint32_t arc) const { return shard_of[arc == 0 ? source : network.arcs[arc].tail]; }
 
     static void put(Part& part, uint32_t here, uint32_t to, const Item& item) {
@@ -121,7 +166,7 @@ class Question {
     }
 
     void handle_message(Part& part, uint32_t here, const Item& item) {
-        uint32_t vertex = item.arc == 0 ? source : network.arcs[item.arc].head;
+        uint32_t vertex = head_of(item.arc);
         part.messages++;
         bool better = item.value < labels[vertex];
         if (better) labels[vertex] = item.value;
@@ -175,7 +220,10 @@ public:
           engager(shard_of.size(), NOT_ENGAGED), deficit(shard_of.size()), busy(network.arcs.size()),
           mailboxes(new Mailbox[size_t(settings.shards) * settings.shards]), source(source),
           labels(shard_of.size(), UNREACHED), parts(settings.shards) {
-        for (Part& part : parts) part.outboxes.resize(settings.shards);
+        for (Part& part : parts) {
+            part.outboxes.resize(settings.shards);
+            part.queue.open(settings.best_first);
+        }
         parts[shard_of[source]].queue.push({0, false, 0});
     }
 
@@ -187,7 +235,7 @@ public:
             if (s != here) did |= read_from(part, mailbox(s, here));
         }
         for (uint32_t k = 0; k < settings.budget && !part.queue.is_empty(); k++) {
-            Item item = part.queue.pop();
+            Item item = part.queue.pop([&](const Item& waiting) { return waiting.value < labels[head_of(waiting.arc)]; });
             if (item.is_signal) handle_signal(part, here, item.arc);
             else handle_message(part, here, item);
             did = true;
@@ -228,11 +276,12 @@ static void run(Group& group, const Settings& settings) {
 
 static Settings settings_of(int count, char** words) {
     Settings settings;
-    if (count == 7) {
+    bool best_first = count == 8 && std::string(words[7]) == "best-first";
+    if (count == 7 || best_first) {
         auto number = [&](int i) { return static_cast<uint32_t>(std::strtoul(words[i], nullptr, 10)); };
-        settings = {number(3), number(4), number(5), number(6)};
+        settings = {number(3), number(4), number(5), number(6), best_first};
     } else if (count != 3) {
-        stop("usage: diffusing GRAPH QUESTIONS [WORKERS SHARDS WIDTH BUDGET]");
+        stop("usage: diffusing GRAPH QUESTIONS [WORKERS SHARDS WIDTH BUDGET [best-first]]");
     }
     if (settings.workers == 0 || settings.width == 0 || settings.budget == 0 || settings.shards == 0 || settings.shards > 64) {
         stop("a setting out of its range");

@@ -1,7 +1,7 @@
 //! The graphs that the tests ask about, and their plans.
 
 use road_graph::{Graph, RoadArc, Vertex};
-use shard_part::Plan;
+use shard_part::{Plan, QueueOrder};
 use std::alloc::Global;
 use std::process::Abort;
 
@@ -18,6 +18,9 @@ pub const FIVE: [(u32, u32, u32); 7] = [
 
 /// The least sums from vertex 1 of the five.
 pub const SHORTEST: [Option<u64>; 5] = [Some(0), Some(3), Some(1), Some(8), None];
+
+/// Both orders in which parts take their items.
+pub const ORDERS: [QueueOrder; 2] = [QueueOrder::Arrival, QueueOrder::BestFirst];
 
 /// A graph, and a plan of it.
 #[derive(Drop)]
@@ -63,6 +66,25 @@ pub fn chain_of(rt: &(impl Abort + AllocGlobal), n: u32, weight: u32) -> Graph {
         arcs.push((tail, tail + 1, weight)).expect(rt, "memory");
     }
     graph_of(rt, n, &arcs)
+}
+
+/// This many locks, one after the other. Each is a diamond with a dear way and a free one that is an arc longer, and the dear way of a lock
+/// costs more than those of all later ones together.
+pub fn locks_of(rt: &(impl Abort + AllocGlobal), count: u32) -> Graph {
+    assert!(rt; 1 <= count && count <= 20);
+    let mut arcs = Vec::new(rt.alloc());
+    for k in 0..count {
+        let (door, dear) = (3 * k + 1, 1 << (count - 1 - k));
+        for arc in [
+            (door, door + 1, 0),
+            (door + 1, door + 3, dear),
+            (door + 1, door + 2, 0),
+            (door + 2, door + 3, 0),
+        ] {
+            arcs.push(arc).expect(rt, "memory");
+        }
+    }
+    graph_of(rt, 3 * count + 1, &arcs)
 }
 
 /// Vertices 1 to n in blocks. If memory is refused, the plan is made once more.

@@ -13,7 +13,7 @@ use claims::{claim, swap};
 use path_algebra::{PathAlgebra, Shortest};
 use post_floor::{Floor, Seat};
 use road_graph::Vertex;
-use shard_part::{Part, Shard};
+use shard_part::{Part, QueueOrder, Shard};
 use std::collections::VecDeque;
 use std::process::Abort;
 
@@ -49,7 +49,7 @@ fn places<'g, A: PathAlgebra>(
 ) -> (Floor<A>, VecDeque<Place<'g, A>>)
     ensures { All (λ x. IsAt A.meaning result.0 x.0 x.1) result.1.items }
 {
-    let parts = parts_of(rt, algebra, ground);
+    let parts = parts_of(rt, algebra, ground, QueueOrder::Arrival);
     let opened = Floor::open(rt.alloc(), &ground.plan, Vertex(1), &parts);
     let (floor, seats) = opened.expect(rt, "memory");
     let places = paired(rt, &floor, seats, parts);

@@ -1,17 +1,18 @@
 //! Plans, counters, and parts worked out by hand.
 ghost use Rattle.post_floor.specs.Data.{IsFresh};
 
-use crate::graphs::{Ground, blocks_of, chain_of, five, ground_of, two_vertices};
-use path_algebra::{PathAlgebra, Shortest, Within};
-use road_graph::{ArcNo, Vertex};
-use shard_part::{Batch, Part, Plan, PlanFault, Shard, Tally};
+use crate::graphs::{Ground, ORDERS, blocks_of, chain_of, five, ground_of, locks_of, two_vertices};
+use path_algebra::{Hops, PathAlgebra, Reach, Reliable, Shortest, Widest, Within};
+use road_graph::{ArcNo, Graph, Vertex};
+use shard_part::{Batch, Part, Plan, PlanFault, QueueOrder, Shard, Tally};
 use std::process::Abort;
 
-/// The parts of all shards, with source 1.
+/// The parts of all shards, with source 1, that take their items in this order.
 pub fn parts_of<'g, A: PathAlgebra>(
     rt: &(impl Abort + AllocGlobal),
     algebra: A,
     ground: &'g Ground,
+    order: QueueOrder,
 ) -> Vec<Part<'g, A>>
     ensures { IsFresh A.meaning ground.now.plan 1 result.items }
 {
@@ -20,7 +21,15 @@ pub fn parts_of<'g, A: PathAlgebra>(
     assert!(rt; plan.vertices() == graph.vertices());
     let mut parts = Vec::new(rt.alloc());
     for shard in 0..plan.shards() {
-        let part = Part::open(rt.alloc(), algebra, graph, plan, Shard(shard), Vertex(1));
+        let part = Part::open(
+            rt.alloc(),
+            algebra,
+            graph,
+            plan,
+            Shard(shard),
+            Vertex(1),
+            order,
+        );
         parts.push(part.expect(rt, "memory")).expect(rt, "memory");
     }
     parts
@@ -265,7 +274,9 @@ fn assert_by_hand<A: PathAlgebra<Value = u64>>(
 #[test]
 fn two_parts_by_hand(rt: HostRuntime) {
     let ground = two_vertices(&rt);
-    assert_by_hand(&rt, &mut parts_of(&rt, Shortest, &ground));
+    for order in ORDERS {
+        assert_by_hand(&rt, &mut parts_of(&rt, Shortest, &ground, order));
+    }
 }
 
 /// Asserts the counts of two parts before a message goes over and a signal comes back, and after it.
@@ -286,7 +297,9 @@ fn assert_tallies<A: PathAlgebra>(rt: &(impl Abort + AllocGlobal), parts: &mut [
 #[test]
 fn tallies_of_two_parts(rt: HostRuntime) {
     let ground = two_vertices(&rt);
-    assert_tallies(&rt, &mut parts_of(&rt, Shortest, &ground));
+    for order in ORDERS {
+        assert_tallies(&rt, &mut parts_of(&rt, Shortest, &ground, order));
+    }
 }
 
 /// Asserts that the first part alone ends the diffusion, and sends nothing to two others.
@@ -307,7 +320,52 @@ fn assert_ends_alone<A: PathAlgebra<Value = u64>>(rt: &impl Abort, parts: &mut [
 fn limit_zero_in_parts(rt: HostRuntime) {
     let ground = ground_of(&rt, five(&rt), 3);
     let algebra = Within::new(0).expect(&rt, "a small limit");
-    assert_ends_alone(&rt, &mut parts_of(&rt, algebra, &ground));
+    for order in ORDERS {
+        assert_ends_alone(&rt, &mut parts_of(&rt, algebra, &ground, order));
+    }
+}
+
+/// Asserts that the part of a graph in one shard ends a diffusion from vertex 1, and what each of its counters then is.
+fn assert_alone<A: PathAlgebra>(
+    rt: &(impl Abort + AllocGlobal),
+    algebra: A,
+    graph: Graph,
+    order: QueueOrder,
+    count: u64,
+) {
+    let ground = ground_of(rt, graph, 1);
+    let mut parts = parts_of(rt, algebra, &ground, order);
+    let part = parts.first_mut().expect(rt, "a part");
+    assert!(rt; part.handle(1_000_000) < 1_000_000);
+    assert_ended(rt, part, true);
+    assert_counts(rt, part.tally(), [count; 4]);
+}
+
+#[test]
+fn five_vertices_in_both_orders(rt: HostRuntime) {
+    // First come, first served: vertex 2 has 4 and then 3, and vertex 4 has 9 and then 8, so two arcs are told twice.
+    assert_alone(&rt, Shortest, five(&rt), QueueOrder::Arrival, 9);
+    // Best first: one message goes along each of the six arcs out of a reached vertex, under every algebra.
+    let best = QueueOrder::BestFirst;
+    assert_alone(&rt, Shortest, five(&rt), best, 7);
+    assert_alone(&rt, Widest, five(&rt), best, 7);
+    assert_alone(&rt, Reach, five(&rt), best, 7);
+    assert_alone(&rt, Hops, five(&rt), best, 7);
+    assert_alone(&rt, Reliable, five(&rt), best, 7);
+    // Two of the six would pass the limit.
+    assert_alone(&rt, Within { limit: 5 }, five(&rt), best, 4);
+}
+
+#[test]
+fn locks_in_both_orders(rt: HostRuntime) {
+    for count in [1, 2, 6, 10] {
+        let exponential = (1 << (count + 2)) - 3;
+        let graph = locks_of(&rt, count);
+        assert_alone(&rt, Shortest, graph, QueueOrder::Arrival, exponential);
+        let linear = u64::from(count) * 4 + 1;
+        let graph = locks_of(&rt, count);
+        assert_alone(&rt, Shortest, graph, QueueOrder::BestFirst, linear);
+    }
 }
 
 /// How many items the queue and the outboxes of a part have room for.
@@ -327,10 +385,11 @@ fn rings_of_chain<A: PathAlgebra>(
     algebra: A,
     n: u32,
     shards: u8,
+    order: QueueOrder,
 ) -> usize {
     let ground = ground_of(rt, chain_of(rt, n, 1), shards);
     let mut sum: usize = 0;
-    for part in &parts_of(rt, algebra, &ground) {
+    for part in &parts_of(rt, algebra, &ground, order) {
         sum = sum.saturating_add(rings_of(part, shards));
     }
     sum
@@ -339,6 +398,8 @@ fn rings_of_chain<A: PathAlgebra>(
 #[test]
 fn parts_reserve_for_their_own(rt: HostRuntime) {
     // An item on each of 99,999 arcs and on arc 0; 63 arcs lead from one shard to the next.
-    assert!(rt; rings_of_chain(&rt, Shortest, 100_000, 1) == 100_000);
-    assert!(rt; rings_of_chain(&rt, Shortest, 100_000, 64) == 100_000 + 3 * 63);
+    for order in ORDERS {
+        assert!(rt; rings_of_chain(&rt, Shortest, 100_000, 1, order) == 100_000);
+        assert!(rt; rings_of_chain(&rt, Shortest, 100_000, 64, order) == 100_000 + 3 * 63);
+    }
 }

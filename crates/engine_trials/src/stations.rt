@@ -9,12 +9,12 @@ ghost use Rattle.station.specs.Station.{BelongsTo};
 
 mod threads;
 
-use crate::graphs::{SHORTEST, blocks_of, five};
+use crate::graphs::{ORDERS, SHORTEST, blocks_of, five};
 use crate::parts::assert_counts;
 use path_algebra::{Hops, PathAlgebra, Reach, Reliable, Shortest, Widest, Within};
 use post_floor::Floor;
 use road_graph::{Graph, Vertex};
-use shard_part::{Plan, Shard};
+use shard_part::{Plan, QueueOrder, Shard};
 use station::{
     Finished, GatherFault, Gathered, Station, Ungathered, gather, open_diffusion,
     reach_counts_each_arc_once,
@@ -34,13 +34,14 @@ fn by_table(rt: &(impl Abort + AllocGlobal)) -> Plan {
     }
 }
 
-/// A diffusion from a vertex.
+/// A diffusion from a vertex, whose parts take their items in this order.
 pub fn opened<'g, A: PathAlgebra>(
     rt: &(impl Abort + AllocGlobal),
     algebra: A,
     graph: &'g Graph,
     plan: &'g Plan,
     source: u32,
+    order: QueueOrder,
 ) -> (Floor<A>, Vec<Station<'g, A>>)
     ensures own { All (BelongsTo result.0) result.1.items }
     ensures roads { result.0.setup.diffusion.roads ≡ graph.now }
@@ -48,11 +49,12 @@ pub fn opened<'g, A: PathAlgebra>(
 {
     assert!(rt; graph.has(Vertex(source)));
     assert!(rt; plan.vertices() == graph.vertices());
-    match open_diffusion(rt.alloc(), algebra, graph, plan, Vertex(source)) {
+    let source = Vertex(source);
+    match open_diffusion(rt.alloc(), algebra, graph, plan, source, order) {
         Ok(opened) => opened,
-        Err(_) => {
-            open_diffusion(rt.alloc(), algebra, graph, plan, Vertex(source)).expect(rt, "memory")
-        }
+        Err(_) => open_diffusion(rt.alloc(), algebra, graph, plan, source, order).expect(
+            rt, "memory",
+        ),
     }
 }
 
@@ -198,20 +200,32 @@ fn gathered<A: PathAlgebra>(
     }
 }
 
-/// The answer of a diffusion, after this many turns.
+/// How a diffusion goes on: the order in which parts take their items, how many they take in a turn, and how many turns there are.
+#[derive(Clone, Copy)]
+struct Schedule {
+    order: QueueOrder,
+    budget: u32,
+    turns: usize,
+}
+
+/// The answer of a diffusion.
 fn answered<A: PathAlgebra>(
     rt: &(impl Abort + AllocGlobal),
     algebra: A,
     graph: &Graph,
     plan: &Plan,
     source: u32,
-    budget: u32,
-    turns: usize,
+    schedule: Schedule,
 ) -> Gathered<A::Value>
     ensures { (q : SetupData A) × IsGathered A.meaning q result × (q.diffusion.roads ≡ graph.now) ×
         (q.diffusion.source ≡ source) }
 {
-    let (floor, stations) = opened(rt, algebra, graph, plan, source);
+    let Schedule {
+        order,
+        budget,
+        turns,
+    } = schedule;
+    let (floor, stations) = opened(rt, algebra, graph, plan, source, order);
     let stations = turned(rt, &floor, stations, budget, turns);
     let done = finished(rt, &floor, stations);
     gathered(rt, floor, done)
@@ -234,7 +248,7 @@ fn assert_labels<A: PathAlgebra>(
     }
 }
 
-/// Asserts the labels of the five vertices from vertex 1, after this many turns.
+/// Asserts the labels of the five vertices from vertex 1, after this many turns, in both orders.
 fn assert_answer<A: PathAlgebra>(
     rt: &(impl Abort + AllocGlobal),
     algebra: A,
@@ -243,8 +257,15 @@ fn assert_answer<A: PathAlgebra>(
     turns: usize,
     wanted: [Option<u64>; 5],
 ) {
-    let gathered = answered(rt, algebra, &five(rt), plan, 1, budget, turns);
-    assert_labels(rt, algebra, &gathered, wanted);
+    for order in ORDERS {
+        let schedule = Schedule {
+            order,
+            budget,
+            turns,
+        };
+        let gathered = answered(rt, algebra, &five(rt), plan, 1, schedule);
+        assert_labels(rt, algebra, &gathered, wanted);
+    }
 }
 
 #[test]
@@ -258,9 +279,10 @@ fn assert_all_ended<A: PathAlgebra>(
     algebra: A,
     graph: &Graph,
     plan: &Plan,
+    order: QueueOrder,
     turns: usize,
 ) {
-    let (floor, stations) = opened(rt, algebra, graph, plan, 1);
+    let (floor, stations) = opened(rt, algebra, graph, plan, 1, order);
     for station in &turned(rt, &floor, stations, 1, turns) {
         assert!(rt; station.ended());
     }
@@ -268,7 +290,9 @@ fn assert_all_ended<A: PathAlgebra>(
 
 #[test]
 fn ends_within_two_hundred_turns(rt: HostRuntime) {
-    assert_all_ended(&rt, Shortest, &five(&rt), &blocks_of(&rt, 5, 3), 200);
+    for order in ORDERS {
+        assert_all_ended(&rt, Shortest, &five(&rt), &blocks_of(&rt, 5, 3), order, 200);
+    }
 }
 
 #[test]
@@ -305,12 +329,12 @@ fn reached(
     graph: &Graph,
     plan: &Plan,
     source: u32,
-    budget: u32,
+    schedule: Schedule,
 ) -> Gathered<()>
     ensures { (marked : ℕ → Bool) → AreMarksOfReached reach graph.now source marked → result.tally ≡
         each_shows (1 + count_marked graph.now marked) }
 {
-    let gathered = answered(rt, Reach, graph, plan, source, budget, 200);
+    let gathered = answered(rt, Reach, graph, plan, source, schedule);
     reach_counts_each_arc_once();
     gathered
 }
@@ -324,9 +348,16 @@ fn assert_reached(
     wanted: [Option<u64>; 5],
     count: u64,
 ) {
-    let gathered = reached(rt, &five(rt), plan, source, budget);
-    assert_labels(rt, Reach, &gathered, wanted);
-    assert_counts(rt, gathered.tally, [count; 4]);
+    for order in ORDERS {
+        let schedule = Schedule {
+            order,
+            budget,
+            turns: 200,
+        };
+        let gathered = reached(rt, &five(rt), plan, source, schedule);
+        assert_labels(rt, Reach, &gathered, wanted);
+        assert_counts(rt, gathered.tally, [count; 4]);
+    }
 }
 
 #[test]
@@ -392,7 +423,7 @@ fn assert_never_grows<A: PathAlgebra<Value = u64>>(
 fn peek_never_grows(rt: HostRuntime) {
     let graph = five(&rt);
     let plan = blocks_of(&rt, 5, 3);
-    let (floor, stations) = opened(&rt, Shortest, &graph, &plan, 1);
+    let (floor, stations) = opened(&rt, Shortest, &graph, &plan, 1, QueueOrder::Arrival);
     assert_never_grows(&rt, &floor, stations, 4, Some(8));
 }
 
@@ -447,7 +478,7 @@ fn assert_gathered_at_last<A: PathAlgebra>(
     wanted: [Option<u64>; 5],
 ) {
     let graph = five(rt);
-    let (floor, stations) = opened(rt, algebra, &graph, plan, 1);
+    let (floor, stations) = opened(rt, algebra, &graph, plan, 1, QueueOrder::Arrival);
     let stations = turned(rt, &floor, stations, 1, 200);
     let gathered = gathered_at_last(rt, floor, stations);
     assert_labels(rt, algebra, &gathered, wanted);
@@ -469,7 +500,7 @@ fn assert_unfinished<A: PathAlgebra>(rt: &impl Abort, station: Station<'_, A>, s
 fn finish_before_any_turn(rt: HostRuntime) {
     let graph = five(&rt);
     let plan = blocks_of(&rt, 5, 3);
-    let (_floor, mut stations) = opened(&rt, Shortest, &graph, &plan, 1);
+    let (_floor, mut stations) = opened(&rt, Shortest, &graph, &plan, 1, QueueOrder::Arrival);
     let station = stations.pop().expect(&rt, "a station");
     assert_unfinished(&rt, station, Shard(2));
 }

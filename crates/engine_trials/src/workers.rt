@@ -9,7 +9,7 @@ use crate::stations::{opened, peeked};
 use path_algebra::{PathAlgebra, Shortest};
 use post_floor::Floor;
 use road_graph::Vertex;
-use shard_part::Plan;
+use shard_part::{Plan, QueueOrder};
 use station::Station;
 use std::process::Abort;
 use worker_fleet::{Gate, OpenGate, Outcome, drive};
@@ -96,7 +96,7 @@ fn assert_driven<A: PathAlgebra<Value = u64>>(
     wanted: [Option<u64>; 5],
 ) {
     let graph = five(rt);
-    let (floor, stations) = opened(rt, algebra, &graph, plan, 1);
+    let (floor, stations) = opened(rt, algebra, &graph, plan, 1, QueueOrder::Arrival);
     let stations = placed(rt, &floor, stations);
     let ended = driven(rt, &[floor], stations);
     assert_labels(rt, &ended, wanted);
@@ -110,7 +110,7 @@ fn assert_chain<A: PathAlgebra<Value = u64>>(
 ) {
     let graph = chain_of(rt, vertices, 3);
     let plan = blocks_of(rt, vertices, 64);
-    let (floor, stations) = opened(rt, algebra, &graph, &plan, 1);
+    let (floor, stations) = opened(rt, algebra, &graph, &plan, 1, QueueOrder::Arrival);
     let stations = placed(rt, &floor, stations);
     let back = drive(&[floor], stations, 0, 1024, 1_000_000, &OpenGate);
     assert!(rt; back.outcome == Outcome::Ended);
@@ -125,7 +125,7 @@ fn assert_chain<A: PathAlgebra<Value = u64>>(
 fn assert_gated<A: PathAlgebra>(rt: &(impl Abort + AllocGlobal), algebra: A) {
     let graph = five(rt);
     let plan = blocks_of(rt, 5, 2);
-    let (floor, stations) = opened(rt, algebra, &graph, &plan, 1);
+    let (floor, stations) = opened(rt, algebra, &graph, &plan, 1, QueueOrder::Arrival);
     let stations = placed(rt, &floor, stations);
     let back = drive(&[floor], stations, 0, 1, 1000, &TurnsAtMost(2));
     assert!(rt; back.outcome == Outcome::Gated);

@@ -14,6 +14,7 @@ use Rattle.shard_store.specs.Outgoing.{local_vertices, arcs_out}
 use Rattle.shard_store.specs.Totals.{is}
 use Rattle.shard_part.specs.Weights.{part_weight}
 use Rattle.shard_part.specs.LocalInvariant.{engages, idles, LocalInvariant, IsClear}
+use Rattle.shard_store.specs.Queue.{Room}
 use Rattle.shard_store.specs.Rows.{Rows}
 use Rattle.shard_part.specs.Moves.{AreRowDeficits, RepInvariant, IsPlace, IsArcRow}
 use Rattle.shard_store.proofs.Totals.{sum_at, sum_below_same}
@@ -134,12 +135,12 @@ module _ {S V : Type 0} where
       go false e = absurd (let one : idles (network_of p.setup) (place_in p.setup) p.shard (state_in p) a
           ≡ 1 = (λ i. one_if (eq-eqb _ _ m i && is_idle {V = V} (token_if (e i)))) in omega (arith, z, one))
 
-  busy_written : (p : PartData S V) (r : Rows V) (n : ℕ) (ns : List ℕ) (b i : ℕ) (x : Bool) → RepInvariant p r n ns → IsArcRow p b i →
+  busy_written : (p : PartData S V) (r : Rows V) (n : Room) (ns : List ℕ) (b i : ℕ) (x : Bool) → RepInvariant p r n ns → IsArcRow p b i →
       scatter (arcs_out (network_of p.setup) (local_vertices p.setup p.shard)) (set r.busy i x) false (suc (length p.setup.diffusion.roads.arcs)) ≡ set p.busy b x
   busy_written p r n ns b i x D P = table_write (arcs_out (network_of p.setup) (local_vertices p.setup p.shard)) r.busy p.busy false
       (suc (length p.setup.diffusion.roads.arcs)) i b x D.seen.busy (apart p) P.inside D.sized.busy P.arc
 
-  pub busy_leaves : (p old : PartData S V) (r : Rows V) (n : ℕ) (ns : List ℕ) (b i : ℕ) (x : Bool) → p ≡ old → RepInvariant p r n ns → IsArcRow old b i →
+  pub busy_leaves : (p old : PartData S V) (r : Rows V) (n : Room) (ns : List ℕ) (b i : ℕ) (x : Bool) → p ≡ old → RepInvariant p r n ns → IsArcRow old b i →
       record p {
         busy = scatter (arcs_out (network_of p.setup) (local_vertices p.setup p.shard)) (set r.busy i x) false
             (suc (length p.setup.diffusion.roads.arcs));
@@ -147,7 +148,7 @@ module _ {S V : Type 0} where
   busy_leaves p old r n ns b i x e D Q = ap (λ (ys : List Bool). record p { busy = ys }) (busy_written p r n ns b i x D (row_at p old b i e Q))
       ∙ ap (λ (u : PartData S V). record u { busy = set u.busy b x }) e
 
-  keep_busy : (p : PartData S V) (r : Rows V) (n : ℕ) (ns : List ℕ) (v j b i : ℕ) (x : Bool) (d' : ℕ) → RepInvariant p r n ns → IsPlace p v j → IsArcRow p b i → (network_of p.setup).tail b ≡ v →
+  keep_busy : (p : PartData S V) (r : Rows V) (n : Room) (ns : List ℕ) (v j b i : ℕ) (x : Bool) (d' : ℕ) → RepInvariant p r n ns → IsPlace p v j → IsArcRow p b i → (network_of p.setup).tail b ≡ v →
       d' + one_if (get_or p.busy b false) ≡ get_or r.deficits j 0 + one_if x →
       LocalInvariant (network_of p.setup) (place_in p.setup) (record p { busy = set p.busy b x }) →
       RepInvariant (record p {
@@ -169,7 +170,7 @@ module _ {S V : Type 0} where
     seen = record { labels = D.seen.labels; engagers = D.seen.engagers; busy = refl; told = D.seen.told };
     counts = subst (λ (ys : List Bool). AreRowDeficits (record p { busy = ys }) (record r { busy = set r.busy i x; deficits = set r.deficits j d' })) (sym (busy_written p r n ns b i x D Q)) counts;
     sound = subst (λ (ys : List Bool). LocalInvariant (network_of p.setup) (place_in p.setup) (record p { busy = ys })) (sym (busy_written p r n ns b i x D Q)) s;
-    roomy = record { queue = D.roomy.queue; boxes = D.roomy.boxes; rings = D.roomy.rings; outs = D.roomy.outs };
+    roomy = record { queue = D.roomy.queue; order = D.roomy.order; boxes = D.roomy.boxes; rings = D.roomy.rings; outs = D.roomy.outs };
     tallied = D.tallied;
   }
     where
@@ -197,7 +198,7 @@ module _ {S V : Type 0} where
             | inr m ↦ own_apart p.setup p.shard j k (omega (arith, m, ne)) l (sym q)
           ]
 
-  pub occupy_keeps : (p old : PartData S V) (r : Rows V) (n : ℕ) (ns : List ℕ) (v j b i d : ℕ) → p ≡ old → RepInvariant p r n ns → IsPlace old v j
+  pub occupy_keeps : (p old : PartData S V) (r : Rows V) (n : Room) (ns : List ℕ) (v j b i d : ℕ) → p ≡ old → RepInvariant p r n ns → IsPlace old v j
       → IsArcRow old b i → (network_of old.setup).tail b ≡ v → v ≢ 0 → get_or old.busy b false ≡ false →
       d ≡ get_or r.deficits j 0 →
       RepInvariant (record p {
@@ -219,19 +220,19 @@ module _ {S V : Type 0} where
       )
 
   -- the table of arcs is no longer than all arcs with the environment's
-  pub rows_few : (p : PartData S V) (r : Rows V) (n : ℕ) (ns : List ℕ) → RepInvariant p r n ns → length r.busy ≤ 2 ^ 27 + 1
+  pub rows_few : (p : PartData S V) (r : Rows V) (n : Room) (ns : List ℕ) → RepInvariant p r n ns → length r.busy ≤ 2 ^ 27 + 1
   rows_few p r n ns D =
       let m = own_arcs_most (network_of p.setup) (place_in p.setup) p.shard p.setup.diffusion.roads.vertices (length (local_vertices p.setup p.shard)) in
       let t = ap (λ vs. length (arcs_out (network_of p.setup) vs)) (take_all (length (local_vertices p.setup p.shard)) (local_vertices p.setup p.shard) (omega arith)) in
       let s = D.sized.busy in let a = D.planned.roads.few_arcs in omega (arith, m, t, s, a)
 
-  pub deficit_few : (p old : PartData S V) (r : Rows V) (n : ℕ) (ns : List ℕ) (v j d : ℕ) → p ≡ old → RepInvariant p r n ns → IsPlace old v j → d ≡ get_or r.deficits j 0 → d ≤ 2 ^ 27 + 1
+  pub deficit_few : (p old : PartData S V) (r : Rows V) (n : Room) (ns : List ℕ) (v j d : ℕ) → p ≡ old → RepInvariant p r n ns → IsPlace old v j → d ≡ get_or r.deficits j 0 → d ≤ 2 ^ 27 + 1
   deficit_few p old r n ns v j d e D R h =
       let P = place_at p old v j e R in
       let c = D.counts j P.inside in let m = busy_most (network_of p.setup) (get_or (local_vertices p.setup p.shard) j 0) (state_in p) (suc (length p.setup.diffusion.roads.arcs)) in
       let a = D.planned.roads.few_arcs in omega (arith, h, c, m, a)
 
-  pub free_keeps : (p old : PartData S V) (r : Rows V) (n : ℕ) (ns : List ℕ) (v j a i d : ℕ) → p ≡ old → RepInvariant p r n ns → IsPlace old v j
+  pub free_keeps : (p old : PartData S V) (r : Rows V) (n : Room) (ns : List ℕ) (v j a i d : ℕ) → p ≡ old → RepInvariant p r n ns → IsPlace old v j
       → IsArcRow old a i → (network_of old.setup).tail a ≡ v → place_in old.setup v ≡ old.shard → IsClear old a →
       d ≡ get_or r.deficits j 0 →
       (1 ≤ d) × RepInvariant (record p {

@@ -7,6 +7,7 @@ use Rattle.shard_store.specs.Plans.{shard_in, HasPlanned}
 use Rattle.shard_store.specs.Setup.{SetupData, network_of, place_in}
 use Rattle.shard_part.specs.PartState.{PartData, IsArc}
 use Rattle.shard_store.specs.Outgoing.{outgoing, local_vertices, arcs_out}
+use Rattle.shard_store.specs.Queue.{Room}
 use Rattle.shard_store.specs.Rows.{Rows}
 use Rattle.shard_part.specs.Moves.{RepInvariant, IsPlace, IsArcRow}
 use Rattle.std.specs.List.Sorted.{IsStrictlyIncreasing}
@@ -36,7 +37,7 @@ module _ {S : Type 0} (t : SetupData S) where
 
 module _ {S V : Type 0} where
   -- where the arcs of a place begin
-  pub row_leaves : (p old : PartData S V) (r : Rows V) (n : ℕ) (ns : List ℕ) (v j k d : ℕ) → p ≡ old → RepInvariant p r n ns → IsPlace old v j
+  pub row_leaves : (p old : PartData S V) (r : Rows V) (n : Room) (ns : List ℕ) (v j k d : ℕ) → p ≡ old → RepInvariant p r n ns → IsPlace old v j
       → k < length (outgoing (network_of old.setup) v) → d ≡ get_or r.offsets j 0 →
       (d + k < length r.busy) × IsArcRow old (get_or (outgoing (network_of old.setup) v) k 0) (d + k)
   row_leaves p old r n ns v j k d e D Q l h =
@@ -53,7 +54,7 @@ module _ {S V : Type 0} where
         }),
       )
 
-  pub own_rising : (p old : PartData S V) (r : Rows V) (n : ℕ) (ns : List ℕ) (xs : List ℕ) (v : ℕ) → p ≡ old → RepInvariant p r n ns → xs ≡ r.own
+  pub own_rising : (p old : PartData S V) (r : Rows V) (n : Room) (ns : List ℕ) (xs : List ℕ) (v : ℕ) → p ≡ old → RepInvariant p r n ns → xs ≡ r.own
       → v ≤ old.setup.diffusion.roads.vertices → (v ≢ 0 → place_in old.setup v ≡ old.shard) → IsStrictlyIncreasing xs × Contains xs v
   own_rising p old r n ns xs v e D x l h =
       let A = own_all p.setup p.shard v (subst (λ (u : PartData S V). v ≤ u.setup.diffusion.roads.vertices) (sym e) l) (subst (λ (u : PartData S V). v ≢ 0 → place_in u.setup v ≡ u.shard) (sym e) h) in
@@ -62,7 +63,7 @@ module _ {S V : Type 0} where
         (A.0, A.1, get_or_default_zero (local_vertices p.setup p.shard) A.0 v A.1 ∙ A.2),
       )
 
-  pub place_leaves : (p old : PartData S V) (r : Rows V) (n : ℕ) (ns : List ℕ) (xs : List ℕ) (v j : ℕ) → p ≡ old → RepInvariant p r n ns → xs ≡ r.own
+  pub place_leaves : (p old : PartData S V) (r : Rows V) (n : Room) (ns : List ℕ) (xs : List ℕ) (v j : ℕ) → p ≡ old → RepInvariant p r n ns → xs ≡ r.own
       → j < length xs → get_or xs j 0 ≡ v → IsPlace old v j
   place_leaves p old r n ns xs v j e D x l h = subst (λ (u : PartData S V). IsPlace u v j) e (record {
     inside = subst (λ ys. j < length ys) (x ∙ D.sized.own) l;
@@ -70,7 +71,7 @@ module _ {S V : Type 0} where
   })
 
   -- the head and the tail of an arc, the environment's among them
-  pub arc_in_graph : (p old : PartData S V) (r : Rows V) (n : ℕ) (ns : List ℕ) (a : ℕ) → p ≡ old → RepInvariant p r n ns → IsArc (network_of old.setup) a → a ≢ 0 → HasArc p.setup.diffusion.roads a
+  pub arc_in_graph : (p old : PartData S V) (r : Rows V) (n : Room) (ns : List ℕ) (a : ℕ) → p ≡ old → RepInvariant p r n ns → IsArc (network_of old.setup) a → a ≢ 0 → HasArc p.setup.diffusion.roads a
   arc_in_graph p old r n ns a e D h nz = graph_arc p.setup a nz (subst (λ (u : PartData S V). IsArc (network_of u.setup) a) (sym e) h)
 
   -- an arc is the environment's, or one of the graph's
@@ -80,7 +81,7 @@ module _ {S V : Type 0} where
     | inr n ↦ (graph_arc p.setup a n (subst (λ (u : PartData S V). IsArc (network_of u.setup) a) (sym e) h)).1
   ]
 
-  pub head_arc_is : (p old : PartData S V) (r : Rows V) (n : ℕ) (ns : List ℕ) (a : ℕ) → p ≡ old → RepInvariant p r n ns → IsArc (network_of old.setup) a → a ≢ 0 →
+  pub head_arc_is : (p old : PartData S V) (r : Rows V) (n : Room) (ns : List ℕ) (a : ℕ) → p ≡ old → RepInvariant p r n ns → IsArc (network_of old.setup) a → a ≢ 0 →
       ((arc_of p.setup.diffusion.roads a).head ≡ (network_of old.setup).head a) × (1 ≤ (arc_of p.setup.diffusion.roads a).head)
       × ((arc_of p.setup.diffusion.roads a).head ≤ old.setup.diffusion.roads.vertices)
   head_arc_is p old r n ns a e D h nz =
@@ -91,7 +92,7 @@ module _ {S V : Type 0} where
       )
 
   -- the head of an arc, as the graph has it
-  pub head_told : (p old : PartData S V) (r : Rows V) (n : ℕ) (ns : List ℕ) (b w : ℕ) → p ≡ old → RepInvariant p r n ns
+  pub head_told : (p old : PartData S V) (r : Rows V) (n : Room) (ns : List ℕ) (b w : ℕ) → p ≡ old → RepInvariant p r n ns
       → IsArc (network_of old.setup) b → b ≢ 0 → w ≡ (arc_of old.setup.diffusion.roads b).head →
       (w ≡ (network_of old.setup).head b) × HasPlanned p.setup.plan w
   head_told p old r n ns b w e D h nz is =
@@ -100,6 +101,6 @@ module _ {S V : Type 0} where
       let v = ap (λ (u : PartData S V). u.setup.diffusion.roads.vertices) e in let k = D.planned.covers in let low = H.1 in let high = H.2 in
       (q ∙ H.0, ((omega (arith, q, low)), (omega (arith, q, high, v, k))))
 
-  pub shard_is : (p old : PartData S V) (r : Rows V) (n : ℕ) (ns : List ℕ) (v w : ℕ) → p ≡ old → RepInvariant p r n ns
+  pub shard_is : (p old : PartData S V) (r : Rows V) (n : Room) (ns : List ℕ) (v w : ℕ) → p ≡ old → RepInvariant p r n ns
       → ((v ≡ 0) × (w ≡ p.setup.diffusion.source)) ⊎ ((1 ≤ v) × (w ≡ v)) → shard_in p.setup.plan w ≡ place_in old.setup v
   shard_is p old r n ns v w e D h = sym (placed_as p.setup v w D.planned.source.0 h) ∙ ap (λ (u : PartData S V). place_in u.setup v) e

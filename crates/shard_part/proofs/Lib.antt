@@ -3,6 +3,7 @@ mod Here
 mod Quick
 pub mod Routed
 mod TakenIsEvent
+mod Taking
 pub mod Showing
 pub mod Room
 mod Sound
@@ -16,7 +17,7 @@ mod Offers
 mod Pumping
 mod OffersArePumped
 mod VertexSettles
-mod FrontIsTaken
+mod ItemIsTaken
 mod ToldKept
 pub mod TakenCounts
 mod TakenShown

@@ -12,6 +12,7 @@ use Rattle.shard_store.specs.Outgoing.{local_vertices, arcs_out}
 use Rattle.shard_store.specs.Totals.{is}
 use Rattle.shard_part.specs.Weights.{part_weight}
 use Rattle.shard_part.specs.LocalInvariant.{names, engages, idles, LocalInvariant, IsClear}
+use Rattle.shard_store.specs.Queue.{Room}
 use Rattle.shard_store.specs.Rows.{Rows}
 use Rattle.shard_part.specs.Moves.{RepInvariant, IsPlace, IsArcRow}
 use Rattle.shard_store.proofs.Places.{table_read, table_write, table_long, own_apart, own_below, own_placed, arcs_apart, arc_owner}
@@ -41,28 +42,28 @@ module _ {S V : Type 0} where
   mine_at p v j P nz = subst (λ k. place_in p.setup k ≡ p.shard) P.vertex (own_placed p.setup p.shard j P.inside (λ w. nz (sym P.vertex ∙ w)))
 
   -- reads
-  pub label_read : (p old : PartData S V) (r : Rows V) (n : ℕ) (ns : List ℕ) (v j : ℕ) (x : Option V) → p ≡ old → RepInvariant p r n ns
+  pub label_read : (p old : PartData S V) (r : Rows V) (n : Room) (ns : List ℕ) (v j : ℕ) (x : Option V) → p ≡ old → RepInvariant p r n ns
       → IsPlace old v j → x ≡ get_or r.labels j None → x ≡ get_or old.labels v None
   label_read p old r n ns v j x e D Q h = let P = place_at p old v j e Q in
       table_read (local_vertices p.setup p.shard) r.labels p.labels None (suc p.setup.diffusion.roads.vertices) j v x D.seen.labels
       (own_apart p.setup p.shard) P.inside D.sized.labels P.vertex (below p v j P) h
       ∙ ap (λ (u : PartData S V). get_or u.labels v None) e
 
-  pub engager_read : (p old : PartData S V) (r : Rows V) (n : ℕ) (ns : List ℕ) (v j : ℕ) (x : Option ℕ) → p ≡ old → RepInvariant p r n ns
+  pub engager_read : (p old : PartData S V) (r : Rows V) (n : Room) (ns : List ℕ) (v j : ℕ) (x : Option ℕ) → p ≡ old → RepInvariant p r n ns
       → IsPlace old v j → x ≡ get_or r.engagers j None → x ≡ get_or old.engagers v None
   engager_read p old r n ns v j x e D Q h = let P = place_at p old v j e Q in
       table_read (local_vertices p.setup p.shard) r.engagers p.engagers None (suc p.setup.diffusion.roads.vertices) j v x D.seen.engagers
       (own_apart p.setup p.shard) P.inside D.sized.engagers P.vertex (below p v j P) h
       ∙ ap (λ (u : PartData S V). get_or u.engagers v None) e
 
-  pub busy_read : (p old : PartData S V) (r : Rows V) (n : ℕ) (ns : List ℕ) (b i : ℕ) (x : Bool) → p ≡ old → RepInvariant p r n ns → IsArcRow old b i
+  pub busy_read : (p old : PartData S V) (r : Rows V) (n : Room) (ns : List ℕ) (b i : ℕ) (x : Bool) → p ≡ old → RepInvariant p r n ns → IsArcRow old b i
       → x ≡ get_or r.busy i false → x ≡ get_or old.busy b false
   busy_read p old r n ns b i x e D Q h = let P = row_at p old b i e Q in
       table_read (arcs_out (network_of p.setup) (local_vertices p.setup p.shard)) r.busy p.busy false
       (suc (length p.setup.diffusion.roads.arcs)) i b x D.seen.busy (apart p) P.inside D.sized.busy P.arc (arc_below p b i P) h
       ∙ ap (λ (u : PartData S V). get_or u.busy b false) e
 
-  pub told_read : (p old : PartData S V) (r : Rows V) (n : ℕ) (ns : List ℕ) (b i : ℕ) (x : Option V) → p ≡ old → RepInvariant p r n ns → IsArcRow old b i
+  pub told_read : (p old : PartData S V) (r : Rows V) (n : Room) (ns : List ℕ) (b i : ℕ) (x : Option V) → p ≡ old → RepInvariant p r n ns → IsArcRow old b i
       → x ≡ get_or r.told i None → x ≡ get_or old.told b None
   told_read p old r n ns b i x e D Q h = let P = row_at p old b i e Q in
       table_read (arcs_out (network_of p.setup) (local_vertices p.setup p.shard)) r.told p.told None
@@ -70,7 +71,7 @@ module _ {S V : Type 0} where
       ∙ ap (λ (u : PartData S V). get_or u.told b None) e
 
   -- a label is written
-  pub label_leaves : (p old : PartData S V) (r : Rows V) (n : ℕ) (ns : List ℕ) (v j : ℕ) (x : Option V) → p ≡ old → RepInvariant p r n ns → IsPlace old v j →
+  pub label_leaves : (p old : PartData S V) (r : Rows V) (n : Room) (ns : List ℕ) (v j : ℕ) (x : Option V) → p ≡ old → RepInvariant p r n ns → IsPlace old v j →
       record p { labels = scatter (local_vertices p.setup p.shard) (set r.labels j x) None (suc p.setup.diffusion.roads.vertices) } ≡ record old { labels = set old.labels v x }
   label_leaves p old r n ns v j x e D Q = let P = place_at p old v j e Q in
       ap (λ (ys : List (Option V)). record p { labels = ys })
@@ -78,7 +79,7 @@ module _ {S V : Type 0} where
       (own_apart p.setup p.shard) P.inside D.sized.labels P.vertex)
       ∙ ap (λ (u : PartData S V). record u { labels = set u.labels v x }) e
 
-  pub told_leaves : (p old : PartData S V) (r : Rows V) (n : ℕ) (ns : List ℕ) (b i : ℕ) (x : Option V) → p ≡ old → RepInvariant p r n ns → IsArcRow old b i →
+  pub told_leaves : (p old : PartData S V) (r : Rows V) (n : Room) (ns : List ℕ) (b i : ℕ) (x : Option V) → p ≡ old → RepInvariant p r n ns → IsArcRow old b i →
       record p {
         told = scatter (arcs_out (network_of p.setup) (local_vertices p.setup p.shard)) (set r.told i x) None
             (suc (length p.setup.diffusion.roads.arcs));
@@ -89,7 +90,7 @@ module _ {S V : Type 0} where
       (suc (length p.setup.diffusion.roads.arcs)) i b x D.seen.told (apart p) P.inside D.sized.told P.arc)
       ∙ ap (λ (u : PartData S V). record u { told = set u.told b x }) e
 
-  pub told_keeps : (p : PartData S V) (r : Rows V) (n : ℕ) (ns : List ℕ) (i : ℕ) (x : Option V) → RepInvariant p r n ns →
+  pub told_keeps : (p : PartData S V) (r : Rows V) (n : Room) (ns : List ℕ) (i : ℕ) (x : Option V) → RepInvariant p r n ns →
       RepInvariant (record p {
         told = scatter (arcs_out (network_of p.setup) (local_vertices p.setup p.shard)) (set r.told i x) None
             (suc (length p.setup.diffusion.roads.arcs));
@@ -109,17 +110,17 @@ module _ {S V : Type 0} where
     seen = record { labels = D.seen.labels; engagers = D.seen.engagers; busy = D.seen.busy; told = refl };
     counts = D.counts;
     sound = record { once = D.sound.once; leads = D.sound.leads; here = D.sound.here; gone = D.sound.gone; wide = D.sound.wide };
-    roomy = record { queue = D.roomy.queue; boxes = D.roomy.boxes; rings = D.roomy.rings; outs = D.roomy.outs };
+    roomy = record { queue = D.roomy.queue; order = D.roomy.order; boxes = D.roomy.boxes; rings = D.roomy.rings; outs = D.roomy.outs };
     tallied = D.tallied;
   }
 
   -- an engager is written
-  engagers_written : (p : PartData S V) (r : Rows V) (n : ℕ) (ns : List ℕ) (v j : ℕ) (x : Option ℕ) → RepInvariant p r n ns → IsPlace p v j →
+  engagers_written : (p : PartData S V) (r : Rows V) (n : Room) (ns : List ℕ) (v j : ℕ) (x : Option ℕ) → RepInvariant p r n ns → IsPlace p v j →
       scatter (local_vertices p.setup p.shard) (set r.engagers j x) None (suc p.setup.diffusion.roads.vertices) ≡ set p.engagers v x
   engagers_written p r n ns v j x D P = table_write (local_vertices p.setup p.shard) r.engagers p.engagers None
       (suc p.setup.diffusion.roads.vertices) j v x D.seen.engagers (own_apart p.setup p.shard) P.inside D.sized.engagers P.vertex
 
-  pub engager_leaves : (p old : PartData S V) (r : Rows V) (n : ℕ) (ns : List ℕ) (v j : ℕ) (x : Option ℕ) → p ≡ old → RepInvariant p r n ns → IsPlace old v j →
+  pub engager_leaves : (p old : PartData S V) (r : Rows V) (n : Room) (ns : List ℕ) (v j : ℕ) (x : Option ℕ) → p ≡ old → RepInvariant p r n ns → IsPlace old v j →
       record p { engagers = scatter (local_vertices p.setup p.shard) (set r.engagers j x) None (suc p.setup.diffusion.roads.vertices) } ≡ record old { engagers = set old.engagers v x }
   engager_leaves p old r n ns v j x e D Q =
       ap (λ (ys : List (Option ℕ)). record p { engagers = ys }) (engagers_written p r n ns v j x D (place_at p old v j e Q)) ∙ ap (λ (u : PartData S V). record u { engagers = set u.engagers v x }) e
@@ -140,7 +141,7 @@ module _ {S V : Type 0} where
     | inr ne ↦ inr (ne, ap (λ z. one_if (eqb (place_in p.setup ((network_of p.setup).head b)) p.shard && names z b)) (get_or-set_other p.engagers v ((network_of p.setup).head b) x None ne))
   ]
 
-  keep_engagers : (p : PartData S V) (r : Rows V) (n : ℕ) (ns : List ℕ) (v j : ℕ) (x : Option ℕ) → RepInvariant p r n ns → IsPlace p v j
+  keep_engagers : (p : PartData S V) (r : Rows V) (n : Room) (ns : List ℕ) (v j : ℕ) (x : Option ℕ) → RepInvariant p r n ns → IsPlace p v j
       → LocalInvariant (network_of p.setup) (place_in p.setup) (record p { engagers = set p.engagers v x }) →
       RepInvariant (record p { engagers = scatter (local_vertices p.setup p.shard) (set r.engagers j x) None (suc p.setup.diffusion.roads.vertices) }) (record r { engagers = set r.engagers j x }) n ns
   keep_engagers p r n ns v j x D P s = record {
@@ -158,11 +159,11 @@ module _ {S V : Type 0} where
     seen = record { labels = D.seen.labels; engagers = refl; busy = D.seen.busy; told = D.seen.told };
     counts = D.counts;
     sound = subst (λ (ys : List (Option ℕ)). LocalInvariant (network_of p.setup) (place_in p.setup) (record p { engagers = ys })) (sym (engagers_written p r n ns v j x D P)) s;
-    roomy = record { queue = D.roomy.queue; boxes = D.roomy.boxes; rings = D.roomy.rings; outs = D.roomy.outs };
+    roomy = record { queue = D.roomy.queue; order = D.roomy.order; boxes = D.roomy.boxes; rings = D.roomy.rings; outs = D.roomy.outs };
     tallied = D.tallied;
   }
 
-  pub engage_keeps : (p old : PartData S V) (r : Rows V) (n : ℕ) (ns : List ℕ) (v j a : ℕ) → p ≡ old → RepInvariant p r n ns → IsPlace old v j
+  pub engage_keeps : (p old : PartData S V) (r : Rows V) (n : Room) (ns : List ℕ) (v j a : ℕ) → p ≡ old → RepInvariant p r n ns → IsPlace old v j
       → IsArc (network_of old.setup) a → (network_of old.setup).head a ≡ v → IsClear old a →
       RepInvariant (record p {
         engagers = scatter (local_vertices p.setup p.shard) (set r.engagers j (Some a)) None
@@ -239,7 +240,7 @@ module _ {S V : Type 0} where
       true_and : (t : Bool) → t ≡ true → one_if (true && t) ≡ 1
       true_and t e = ap (λ z. one_if (true && z)) e
 
-  pub release_keeps : (p old : PartData S V) (r : Rows V) (n : ℕ) (ns : List ℕ) (v j e : ℕ) → p ≡ old → RepInvariant p r n ns → IsPlace old v j → v ≢ 0 → (state_in old).engager v ≡ Some e →
+  pub release_keeps : (p old : PartData S V) (r : Rows V) (n : Room) (ns : List ℕ) (v j e : ℕ) → p ≡ old → RepInvariant p r n ns → IsPlace old v j → v ≢ 0 → (state_in old).engager v ≡ Some e →
       RepInvariant (record p {
         engagers = scatter (local_vertices p.setup p.shard) (set r.engagers j None) None
             (suc p.setup.diffusion.roads.vertices);

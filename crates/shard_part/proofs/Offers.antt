@@ -13,6 +13,7 @@ use Rattle.shard_store.specs.Setup.{network_of, place_in}
 use Rattle.shard_part.proofs.Graphs.{arc_in_graph, head_told, shard_is}
 use Rattle.shard_part.proofs.Moves.{mine_at}
 use Rattle.scholten_core.proofs.Quick.{out_idle_counted}
+use Rattle.shard_store.specs.Queue.{Room}
 use Rattle.shard_store.specs.Rows.{Rows}
 use Rattle.shard_part.specs.Moves.{RepInvariant, IsPlace, with_item, with_message, offered, rested, rested_by}
 
@@ -45,7 +46,7 @@ module _ {S V : Type 0} (A : Algebra V) where
       go true false true e = sym e
       go true false false e = sym e
 
-  pub weight_told : (p old : PartData S V) (r : Rows V) (n : ℕ) (ns : List ℕ) (b w : ℕ) → p ≡ old → RepInvariant p r n ns
+  pub weight_told : (p old : PartData S V) (r : Rows V) (n : Room) (ns : List ℕ) (b w : ℕ) → p ≡ old → RepInvariant p r n ns
       → IsArc (network_of old.setup) b → b ≢ 0 → w ≡ (arc_of old.setup.diffusion.roads b).weight → w ≡ (network_of old.setup).weight b
   weight_told p old r n ns b w e D ar nz is =
       is ∙ ap (λ (u : PartData S V). (arc_of u.setup.diffusion.roads b).weight) (sym e)
@@ -53,7 +54,7 @@ module _ {S V : Type 0} (A : Algebra V) where
       ∙ ap (λ (u : PartData S V). (network_of u.setup).weight b) e
 
   -- the shard at the head of an arc, also after a value was offered
-  pub shard_told : (p old q : PartData S V) (r : Rows V) (n : ℕ) (ns : List ℕ) (b w s : ℕ) (label : Option V) → p ≡ old → RepInvariant p r n ns
+  pub shard_told : (p old q : PartData S V) (r : Rows V) (n : Room) (ns : List ℕ) (b w s : ℕ) (label : Option V) → p ≡ old → RepInvariant p r n ns
       → IsArc (network_of old.setup) b → b ≢ 0 → w ≡ (arc_of old.setup.diffusion.roads b).head → s ≡ shard_in p.setup.plan w →
       q ≡ record old { told = set old.told b label } → s ≡ place_in q.setup ((network_of q.setup).head b)
   shard_told p old q r n ns b w s label e D ar nz is h m =

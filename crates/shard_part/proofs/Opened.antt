@@ -21,6 +21,7 @@ use Rattle.shard_part.specs.Weights.{outs_weight, part_weight, All, at_place, in
 use Rattle.shard_part.specs.LocalInvariant.{engages, idles, names, LocalInvariant}
 use Rattle.shard_part.specs.Represents.{HoldsShareIn}
 use Rattle.shard_store.specs.Capacities.{queue_bound, outbox_bound}
+use Rattle.shard_store.specs.Queue.{Room}
 use Rattle.shard_store.specs.Rows.{Rows, idle_rows}
 use Rattle.shard_part.specs.Moves.{abstraction, AreRowDeficits, RepInvariant}
 use Rattle.shard_store.specs.Layout.{is_first, AreOffsets}
@@ -169,12 +170,12 @@ module _ {S V : Type 0} (A : Algebra V) (t : SetupData S) (s : ℕ) (P : IsPlann
     accepted = 0;
   }
 
-  pub opened_stored : (r : Rows V) (offsets : List ℕ) (arcs : ℕ) (queue : List (Item V)) (outs : List (List (Item V))) (sent n : ℕ) (ns : List ℕ)
+  pub opened_stored : (r : Rows V) (offsets : List ℕ) (arcs : ℕ) (queue : List (Item V)) (outs : List (List (Item V))) (sent : ℕ) (n : Room) (ns : List ℕ)
       → AreOffsets (network_of t) (local_vertices t s) offsets arcs → r ≡ idle_rows (local_vertices t s) offsets arcs (is_first t s) →
       queue ≡ first_items A (is_first t s) → outs ≡ replicate t.plan.shards [] → sent ≡ one_if (is_first t s) →
-      n ≡ queue_bound (network_of t) (place_in t) s → length ns ≡ t.plan.shards → ((k : ℕ) → k ≢ s → k < t.plan.shards → get_or ns k 0 ≡ outbox_bound (network_of t) (place_in t) s k) →
+      n.order ≡ t.order → n.capacity ≡ queue_bound (network_of t) (place_in t) s → length ns ≡ t.plan.shards → ((k : ℕ) → k ≢ s → k < t.plan.shards → get_or ns k 0 ≡ outbox_bound (network_of t) (place_in t) s k) →
       RepInvariant (abstraction t s r queue outs sent 0 0 0) r n ns
-  opened_stored r offsets arcs queue outs sent n ns B e q o c room long caps =
+  opened_stored r offsets arcs queue outs sent n ns B e q o c order room long caps =
       let E = opened_seen r offsets arcs queue outs sent B e q o c in
       subst (λ (u : PartData S V). RepInvariant u r n ns) (sym E) (record {
         planned = P;
@@ -197,6 +198,7 @@ module _ {S V : Type 0} (A : Algebra V) (t : SetupData S) (s : ℕ) (P : IsPlann
         counts = opened_counted r (ap (λ (u : Rows V). u.deficits) e);
         sound = opened_sound;
         roomy = record {
+          order = order;
           queue = room;
           boxes = length-replicate {A = List (Item V)} t.plan.shards [];
           rings = long;

@@ -9,6 +9,7 @@ use Rattle.scholten_core.specs.Diffusion.{is_due, extend_label, improves}
 use Rattle.shard_store.specs.Setup.{SetupData, network_of}
 use Rattle.shard_part.specs.PartState.{PartData, state_in, IsArc}
 use Rattle.shard_store.specs.Outgoing.{outgoing, local_vertices}
+use Rattle.shard_store.specs.Queue.{Room}
 use Rattle.shard_store.specs.Rows.{Rows}
 use Rattle.shard_part.specs.Moves.{RepInvariant, IsPlace, IsArcRow, with_message, engaged_or_answered, labelled, offered, offered_all, rested, with_value}
 use Rattle.scholten_core.proofs.Networks.{tail-arc}
@@ -46,7 +47,7 @@ module _ {S V : Type 0} (A : Algebra V) where
   }
 
   -- the graph has the vertex at a place
-  pub vertex_at : (p old : PartData S V) (r : Rows V) (n : ℕ) (ns : List ℕ) (v j : ℕ) → p ≡ old → RepInvariant p r n ns → IsPlace old v j → v ≢ 0 → HasVertex p.setup.diffusion.roads v
+  pub vertex_at : (p old : PartData S V) (r : Rows V) (n : Room) (ns : List ℕ) (v j : ℕ) → p ≡ old → RepInvariant p r n ns → IsPlace old v j → v ≢ 0 → HasVertex p.setup.diffusion.roads v
   vertex_at p old r n ns v j e D Q nz =
       let P : IsPlace p v j = subst (λ (u : PartData S V). IsPlace u v j) (sym e) Q in
       ((omega (arith, nz)), (let b = own_below p.setup p.shard j P.inside in let w = P.vertex in omega (arith, b, w)))
@@ -99,7 +100,7 @@ module _ {S V : Type 0} where
   tail_found p q v k b xs e s l h = ap (λ (t : SetupData S). (network_of t).tail b) s ∙ ap (network_of p.setup).tail (sym h ∙ ap (λ ys. get_or ys k 0) e)
       ∙ ((outgoing_picked (network_of p.setup) v).each k (subst (λ ys. k < length ys) e l)).0
 
-  pub arc_found : (u p q : PartData S V) (r : Rows V) (n : ℕ) (ns : List ℕ) (v b : ℕ) → u ≡ p → RepInvariant u r n ns → q.setup ≡ p.setup → v ≢ 0
+  pub arc_found : (u p q : PartData S V) (r : Rows V) (n : Room) (ns : List ℕ) (v b : ℕ) → u ≡ p → RepInvariant u r n ns → q.setup ≡ p.setup → v ≢ 0
       → (network_of q.setup).tail b ≡ v → IsArc (network_of q.setup) b × (b ≢ 0)
   arc_found u p q r n ns v b e D s nz t =
       let W : WellFormed (network_of q.setup) = subst (λ (x : SetupData S). WellFormed (network_of x)) (ap (λ (y : PartData S V). y.setup) e ∙ sym s) (formed u u.shard D.planned) in
@@ -107,14 +108,14 @@ module _ {S V : Type 0} where
       ((W.head_in b tn, λ _. tn), λ z. tn (ap (network_of q.setup).tail z ∙ W.tail_zero))
 
   -- an arc among those out of its tail
-  pub tail_vertex : (p old : PartData S V) (r : Rows V) (n : ℕ) (ns : List ℕ) (a : ℕ) → p ≡ old → RepInvariant p r n ns
+  pub tail_vertex : (p old : PartData S V) (r : Rows V) (n : Room) (ns : List ℕ) (a : ℕ) → p ≡ old → RepInvariant p r n ns
       → IsArc (network_of old.setup) a → a ≢ 0 → HasVertex p.setup.diffusion.roads ((network_of old.setup).tail a)
   tail_vertex p old r n ns a e D ar nz =
       let g = arc_in_graph p old r n ns a e D ar nz in subst (HasVertex p.setup.diffusion.roads) (sym (tail-arc p.setup.diffusion.roads a g.0)
       ∙ ap (λ (u : PartData S V). (network_of u.setup).tail a) e) (D.planned.roads.ends a g).0
 
   -- the place that the graph gives an arc among those out of its tail
-  pub rank_found : (A : Algebra V) (p old : PartData S V) (r : Rows V) (n : ℕ) (ns : List ℕ) (a k : ℕ) → p ≡ old → RepInvariant p r n ns
+  pub rank_found : (A : Algebra V) (p old : PartData S V) (r : Rows V) (n : Room) (ns : List ℕ) (a k : ℕ) → p ≡ old → RepInvariant p r n ns
       → IsArc (network_of old.setup) a → a ≢ 0 → IsRank p.setup.diffusion.roads a k →
       (k < length (outgoing (network_of old.setup) ((network_of old.setup).tail a))) × (get_or (outgoing (network_of old.setup) ((network_of old.setup).tail a)) k 0 ≡ a)
   rank_found A p old r n ns a k e D ar nz turn =
@@ -125,7 +126,7 @@ module _ {S V : Type 0} where
       (subst (λ ys. k < length ys) is turn.inside, ap (λ ys. get_or ys k 0) (sym is) ∙ turn.found)
 
   -- head and weight of the k-th arc out of a vertex
-  pub road_found : (A : Algebra V) (p old : PartData S V) (r : Rows V) (n : ℕ) (ns : List ℕ) (v j k : ℕ) (rs : List OutRoad) (d : OutRoad) → p ≡ old
+  pub road_found : (A : Algebra V) (p old : PartData S V) (r : Rows V) (n : Room) (ns : List ℕ) (v j k : ℕ) (rs : List OutRoad) (d : OutRoad) → p ≡ old
       → RepInvariant p r n ns → IsPlace old v j → v ≢ 0 → ListsRoadsFrom p.setup.diffusion.roads v rs →
       k < length (outgoing (network_of old.setup) v) → (k < length rs) × (get_or rs k d ≡ road_of (arc_of old.setup.diffusion.roads (get_or (outgoing (network_of old.setup) v) k 0)))
   road_found A p old r n ns v j k rs d e D P nz o l =

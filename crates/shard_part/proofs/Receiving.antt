@@ -3,7 +3,7 @@ use Rattle.std.proofs.Common.{◌≡◌, ◌≢◌, ℕ, zero, suc, ◌+◌, ◌
 use Rattle.std.specs.Prelude.{IsTrue, ◌↔◌}
 use Rattle.std.proofs.lemmas.Bool.{cases_eq, false≢true}
 use Rattle.std.proofs.lemmas.List.{length-map, map-set}
-use Rattle.circular_buffer.specs.Buffer.{Buffer, buffer}
+use Rattle.shard_store.specs.Queue.{Room, Line}
 use Rattle.path_algebra.specs.Algebra.{Algebra}
 use Rattle.road_graph.specs.GraphData.{IsGraph, HasArc, arc_of}
 use Rattle.scholten_core.specs.declared.item.Item.{Item}
@@ -32,10 +32,10 @@ use Rattle.shard_store.proofs.Graphs.{arcs_first}
 
 module _ {S V : Type 0} where
   -- the queue is within its capacity
-  pub queue_within : (A : Algebra V) (p : PartData S V) (r : Rows V) (n : ℕ) (ns : List ℕ) → RepInvariant p r n ns → length p.queue ≤ n
+  pub queue_within : (A : Algebra V) (p : PartData S V) (r : Rows V) (n : Room) (ns : List ℕ) → RepInvariant p r n ns → length p.queue ≤ n.capacity
   queue_within A p r n ns D = let f = sound_fits A (network_of p.setup) (place_in p.setup) (formed p p.shard D.planned) p D.sound in let q = D.roomy.queue in omega (arith, f, q)
 
-  pub room_is : (A : Algebra V) (p old : PartData S V) (r : Rows V) (n : ℕ) (ns : List ℕ) (k l : ℕ) → p ≡ old → RepInvariant p r n ns → k ≡ n
+  pub room_is : (A : Algebra V) (p old : PartData S V) (r : Rows V) (n : Room) (ns : List ℕ) (k l : ℕ) → p ≡ old → RepInvariant p r n ns → k ≡ n.capacity
       → l ≡ length p.queue → k - l + length old.queue ≡ queue_bound (network_of old.setup) (place_in old.setup) old.shard
   room_is A p old r n ns k l e D h q =
       let w = queue_within A p r n ns D in
@@ -43,7 +43,7 @@ module _ {S V : Type 0} where
       subst (λ (u : PartData S V). k - l + length u.queue ≡ queue_bound (network_of u.setup) (place_in u.setup) u.shard) e m
 
   -- the environment's arc has the first row
-  pub entry_row : (p old : PartData S V) (r : Rows V) (n : ℕ) (ns : List ℕ) → p ≡ old → RepInvariant p r n ns → IsArcRow old 0 0
+  pub entry_row : (p old : PartData S V) (r : Rows V) (n : Room) (ns : List ℕ) → p ≡ old → RepInvariant p r n ns → IsArcRow old 0 0
   entry_row p old r n ns e D = let f = arcs_first p.setup p.shard D.planned in subst (λ (u : PartData S V). IsArcRow u 0 0) e (record {
     inside = (let l = ap length f in omega (arith, l));
     arc = ap (λ xs. get_or xs 0 0) f;
@@ -83,7 +83,7 @@ module _ {S V : Type 0} where
           go (o ∷ os) zero = refl
           go (o ∷ os) (suc to) = go os to
 
-  pub swap_leaves : {X : Type 0} (its : X → List (Item V)) (caps : X → ℕ) (rs : List X) (p old : PartData S V) (r : Rows V) (n to : ℕ) (x new : X)
+  pub swap_leaves : {X : Type 0} (its : X → List (Item V)) (caps : X → ℕ) (rs : List X) (p old : PartData S V) (r : Rows V) (n : Room) (to : ℕ) (x new : X)
       → p ≡ old → RepInvariant p r n (map caps rs) → p.outs ≡ map its rs →
       to ≢ old.shard → to < old.setup.plan.shards → x ≡ get_or rs to x → its new ≡ [] → caps new ≡ outbox_bound (network_of old.setup) (place_in old.setup) old.shard to →
       RepInvariant (record p { outs = map its (set rs to new) }) r n (map caps (set rs to new))
@@ -176,25 +176,25 @@ module _ {S V : Type 0} where
       wide = D.wide;
     }
 
-    pub receive_leaves : (p old : PartData S V) (r : Rows V) (n : ℕ) (ns : List ℕ) (batch : List (Item V)) → p ≡ old → RepInvariant p r n ns
+    pub receive_leaves : (p old : PartData S V) (r : Rows V) (n : Room) (ns : List ℕ) (batch : List (Item V)) → p ≡ old → RepInvariant p r n ns
         → length old.queue + length batch ≤ queue_bound (network_of old.setup) (place_in old.setup) old.shard → Fits A old batch →
-        (length p.queue + length batch ≤ n) × ((new : Buffer (Item V)) → new ≡ buffer (p.queue ++ batch) n
-        → RepInvariant (record p { queue = new.items }) r new.capacity ns
+        (length p.queue + length batch ≤ n.capacity) × ((new : Line (Item V)) → new.items ≡ p.queue ++ batch → new.room ≡ n
+        → RepInvariant (record p { queue = new.items }) r new.room ns
         × (record p { queue = new.items } ≡ record old { queue = old.queue ++ batch }))
     receive_leaves p old r n ns batch e D l F =
         let l2 : length p.queue + length batch ≤ queue_bound (network_of p.setup) (place_in p.setup) p.shard = subst
         (λ (u : PartData S V). length u.queue + length batch ≤ queue_bound (network_of u.setup) (place_in u.setup) u.shard) (sym e) l in
         let F2 : Fits A p batch = subst (λ (u : PartData S V). Fits A u batch) (sym e) F in (
           (let q = D.roomy.queue in omega (arith, q, l2)),
-          λ new w. (
-            subst (λ (u : Buffer (Item V)). RepInvariant (record p { queue = u.items }) r u.capacity ns) (sym w)
-                (with_queue p r n ns (p.queue ++ batch) D (received_sound p batch D.planned.roads D.sound F2)),
-            (λ i. record p { queue = (w i).items }) ∙ ap (λ (u : PartData S V). record u { queue = u.queue ++ batch }) e,
+          λ new w k. (
+            subst (λ m. RepInvariant (record p { queue = new.items }) r m ns) (sym k)
+                (subst (λ xs. RepInvariant (record p { queue = xs }) r n ns) (sym w) (with_queue p r n ns (p.queue ++ batch) D (received_sound p batch D.planned.roads D.sound F2))),
+            ap (λ xs. record p { queue = xs }) w ∙ ap (λ (u : PartData S V). record u { queue = u.queue ++ batch }) e,
           ),
         )
 
 -- which arcs may bring an item
-module _ {S V : Type 0} (p old : PartData S V) (r : Rows V) (n : ℕ) (ns : List ℕ) (a : ℕ) (e : p ≡ old) (D : RepInvariant p r n ns) (h : HasArc old.setup.diffusion.roads a) where
+module _ {S V : Type 0} (p old : PartData S V) (r : Rows V) (n : Room) (ns : List ℕ) (a : ℕ) (e : p ≡ old) (D : RepInvariant p r n ns) (h : HasArc old.setup.diffusion.roads a) where
   ends_at : HasArc p.setup.diffusion.roads a
   ends_at = subst (λ (u : PartData S V). HasArc u.setup.diffusion.roads a) (sym e) h
 

@@ -1,17 +1,17 @@
 -- An item is put into the queue or a ring, where it has room, or taken from the queue.
-use Rattle.std.proofs.Common.{◌≡◌, ◌≢◌, ℕ, zero, suc, ◌<◌, ◌≤◌, eqb, Option, Some, None, List, [], ◌∷◌, ◌++◌, length, length-append, set, get_or, drop, map, refl, sym, ap, ◌∙◌, subst, arith, eq-eqb, ne_eqb, length-set, get_or-set_same}
-use Rattle.std.specs.Prelude.{slice_get, IfSome}
+use Rattle.std.proofs.Common.{◌≡◌, ◌≢◌, ◌⊎◌, ℕ, zero, suc, ◌<◌, ◌≤◌, eqb, Option, Some, None, List, [], ◌∷◌, ◌++◌, length, length-append, set, get_or, map, refl, sym, ap, ◌∙◌, subst, arith, eq-eqb, ne_eqb, length-set, get_or-set_same}
+use Rattle.std.specs.Prelude.{IfSome, IfNone}
 use Rattle.std.proofs.lemmas.Bool.{cond-true, cond-false}
 use Rattle.std.proofs.lemmas.List.{length-map, map-set}
-use Rattle.circular_buffer.specs.Buffer.{Buffer, buffer}
+use Rattle.shard_store.specs.Queue.{Room, Line}
 use Rattle.scholten_core.specs.declared.item.Item.{Item}
 use Rattle.path_algebra.specs.Algebra.{Algebra}
 use Rattle.scholten_core.specs.Items.{item_arc}
-use Rattle.shard_part.specs.PartState.{PartData, vertex_of, maker_of, IsArc}
+use Rattle.shard_part.specs.PartState.{PartData, state_in, vertex_of, maker_of, IsArc}
 use Rattle.shard_store.specs.Setup.{network_of, place_in}
 use Rattle.shard_part.specs.Weights.{Channels, channels_of, All}
 use Rattle.shard_store.specs.Totals.{total, is}
-use Rattle.shard_part.specs.Handling.{route}
+use Rattle.shard_part.specs.Handling.{route, GoesAtOnce, IsInTurn}
 use Rattle.shard_part.specs.LocalInvariant.{IsClear, LocalInvariant}
 use Rattle.shard_store.specs.Rows.{Rows}
 use Rattle.shard_part.specs.Moves.{RepInvariant, put_item, IsPopped}
@@ -19,6 +19,16 @@ use Rattle.shard_part.proofs.Sound.{put_sound}
 use Rattle.shard_part.proofs.RingsSuffice.{sound_fits, sound_out_fits}
 use Rattle.shard_part.proofs.Showing.{is_self}
 use Rattle.shard_part.proofs.Moves.{formed}
+use Rattle.std.specs.Prelude.{All as AllOf}
+use Rattle.std.specs.List.Sorted.{IsPermutation}
+use Rattle.shard_store.specs.declared.queue_order.QueueOrder.{QueueOrder}
+use Rattle.shard_store.specs.declared.queue_order.QueueOrder.TheVariants.{Arrival, BestFirst}
+use Rattle.shard_store.specs.Queue.{IsBestMessage}
+use Rattle.scholten_core.specs.Network.{Network}
+use Rattle.scholten_core.specs.Diffusion.{CoreState}
+use Rattle.std.proofs.lemmas.List.Sorted.{All-permutation, IsPermutation-refl}
+use Rattle.std.proofs.lemmas.List.Elements.{All-nil, All-cons}
+use Rattle.shard_store.proofs.Totals.{total_permutation}
 
 pub map_read : {X Y : Type 0} (f : X → Y) (rs : List X) (k : ℕ) (d : Y) (x : X) → k < length rs → x ≡ get_or rs k x → get_or (map f rs) k d ≡ f x
 map_read f [] k d x l e = absurd (omega (arith, l))
@@ -30,17 +40,34 @@ map_kept f [] k x new l e q = refl
 map_kept f (r ∷ rs) zero x new l e q = ap (λ n. n ∷ map f rs) (q ∙ ap f e)
 map_kept f (r ∷ rs) (suc k) x new l e q = ap (λ ys. f r ∷ ys) (map_kept f rs k x new (omega (arith, l)) e q)
 
-fewer : {X : Type 0} (f : X → ℕ) (xs : List X) → total f (drop 1 xs) ≤ total f xs
-fewer f [] = omega arith
-fewer f (x ∷ xs) = omega arith
+all_to_std : {X : Type 0} (P : X → Type 0) (xs : List X) → All P xs → AllOf P xs
+all_to_std P [] h = All-nil P
+all_to_std P (x ∷ xs) h = All-cons P x xs h.0 (all_to_std P xs h.1)
 
-rest_all : {X : Type 0} (P : X → Type 0) (xs : List X) → All P xs → All P (drop 1 xs)
-rest_all P [] h = tt
-rest_all P (x ∷ xs) h = h.1
+all_from_std : {X : Type 0} (P : X → Type 0) (xs : List X) → AllOf P xs → All P xs
+all_from_std P [] h = tt
+all_from_std P (x ∷ xs) h = (h 0 x (omega arith), all_from_std P xs (λ k d l. h (suc k) d (omega (arith, l))))
+
+-- whatever holds of each entry does in whatever order they stand
+pub all_permuted : {X : Type 0} (P : X → Type 0) (xs ys : List X) → IsPermutation xs ys → All P xs → All P ys
+all_permuted P xs ys q h = all_from_std P ys (All-permutation P xs ys q (all_to_std P xs h))
+
+module _ {V : Type 0} where
+  -- as the queue leaves it that gives the first
+  pub first_leaves : (xs ys : List (Item V)) (o : Option (Item V)) → IfSome o (λ i. xs ≡ i ∷ ys) → IfSome o (λ i. IsPermutation xs (i ∷ ys))
+  first_leaves xs ys None q = tt
+  first_leaves xs ys (Some i) q = subst (IsPermutation xs) q (IsPermutation-refl xs)
+
+  module _ (A : Algebra V) (N : Network) where
+    pub best_turn : (o : QueueOrder) (d : CoreState V) (xs ys : List (Item V)) (i : Item V) → o ≡ BestFirst → GoesAtOnce A N d i ⊎ IsBestMessage A.no_worse i ys → IsInTurn A N o d xs i ys
+    best_turn o d xs ys i e q = subst (λ u. IsInTurn A N u d xs i ys) (sym e) q
+
+    pub turn_best : (o : QueueOrder) (d : CoreState V) (xs ys : List (Item V)) (i : Item V) → o ≡ BestFirst → IsInTurn A N o d xs i ys → GoesAtOnce A N d i ⊎ IsBestMessage A.no_worse i ys
+    turn_best o d xs ys i e q = subst (λ u. IsInTurn A N u d xs i ys) e q
 
 module _ {S V : Type 0} where
   -- the lists change, and the part stays sound
-  pub with_queue : (p : PartData S V) (r : Rows V) (n : ℕ) (ns : List ℕ) (xs : List (Item V)) → RepInvariant p r n ns
+  pub with_queue : (p : PartData S V) (r : Rows V) (n : Room) (ns : List ℕ) (xs : List (Item V)) → RepInvariant p r n ns
       → LocalInvariant (network_of p.setup) (place_in p.setup) (record p { queue = xs }) → RepInvariant (record p { queue = xs }) r n ns
   with_queue p r n ns xs D s = record {
     planned = D.planned;
@@ -57,11 +84,11 @@ module _ {S V : Type 0} where
     seen = record { labels = D.seen.labels; engagers = D.seen.engagers; busy = D.seen.busy; told = D.seen.told };
     counts = D.counts;
     sound = s;
-    roomy = record { queue = D.roomy.queue; boxes = D.roomy.boxes; rings = D.roomy.rings; outs = D.roomy.outs };
+    roomy = record { queue = D.roomy.queue; order = D.roomy.order; boxes = D.roomy.boxes; rings = D.roomy.rings; outs = D.roomy.outs };
     tallied = D.tallied;
   }
 
-  pub with_outs : (p : PartData S V) (r : Rows V) (n : ℕ) (ns : List ℕ) (os : List (List (Item V))) → RepInvariant p r n ns
+  pub with_outs : (p : PartData S V) (r : Rows V) (n : Room) (ns : List ℕ) (os : List (List (Item V))) → RepInvariant p r n ns
       → length os ≡ length p.outs → LocalInvariant (network_of p.setup) (place_in p.setup) (record p { outs = os })
       → RepInvariant (record p { outs = os }) r n ns
   with_outs p r n ns os D l s = record {
@@ -79,16 +106,16 @@ module _ {S V : Type 0} where
     seen = record { labels = D.seen.labels; engagers = D.seen.engagers; busy = D.seen.busy; told = D.seen.told };
     counts = D.counts;
     sound = s;
-    roomy = record { queue = D.roomy.queue; boxes = l ∙ D.roomy.boxes; rings = D.roomy.rings; outs = D.roomy.outs };
+    roomy = record { queue = D.roomy.queue; order = D.roomy.order; boxes = l ∙ D.roomy.boxes; rings = D.roomy.rings; outs = D.roomy.outs };
     tallied = D.tallied;
   }
 
   module _ (A : Algebra V) where
     -- an item for the part itself
-    put_here : (p : PartData S V) (r : Rows V) (n : ℕ) (ns : List ℕ) (i : Item V) → RepInvariant p r n ns → IsArc (network_of p.setup) (item_arc i)
+    put_here : (p : PartData S V) (r : Rows V) (n : Room) (ns : List ℕ) (i : Item V) → RepInvariant p r n ns → IsArc (network_of p.setup) (item_arc i)
         → place_in p.setup (maker_of (network_of p.setup) i) ≡ p.shard → IsClear p (item_arc i) →
         place_in p.setup (vertex_of (network_of p.setup) i) ≡ p.shard →
-        (length (p.queue ++ i ∷ []) ≤ n) × (route (network_of p.setup) (place_in p.setup) p.shard i (channels_of p)
+        (length (p.queue ++ i ∷ []) ≤ n.capacity) × (route (network_of p.setup) (place_in p.setup) p.shard i (channels_of p)
         ≡ record { queue = p.queue ++ i ∷ []; outs = p.outs }) × RepInvariant (record p { queue = p.queue ++ i ∷ [] }) r n ns
     put_here p r n ns i D ar m z e =
         let to = cond-true (eqb (place_in p.setup (vertex_of (network_of p.setup) i)) p.shard) (record { queue = p.queue ++ i ∷ []; outs = p.outs })
@@ -104,7 +131,7 @@ module _ {S V : Type 0} where
         ((let q = D.roomy.queue in omega (arith, f, q)), to, with_queue p r n ns (p.queue ++ i ∷ []) D s)
 
     -- an item for another part
-    put_there : (p : PartData S V) (r : Rows V) (n : ℕ) (ns : List ℕ) (i : Item V) (to : ℕ) → RepInvariant p r n ns
+    put_there : (p : PartData S V) (r : Rows V) (n : Room) (ns : List ℕ) (i : Item V) (to : ℕ) → RepInvariant p r n ns
         → IsArc (network_of p.setup) (item_arc i) → place_in p.setup (maker_of (network_of p.setup) i) ≡ p.shard → IsClear p (item_arc i) →
         place_in p.setup (vertex_of (network_of p.setup) i) ≡ to → to ≢ p.shard →
         (to < length p.outs) × (length (get_or p.outs to [] ++ i ∷ []) ≤ get_or ns to 0)
@@ -133,22 +160,22 @@ module _ {S V : Type 0} where
         )
 
     -- as the running method leaves it
-    pub put_here_leaves : (p old : PartData S V) (r : Rows V) (n : ℕ) (ns : List ℕ) (i : Item V) (to : ℕ) (new : Buffer (Item V)) → p ≡ old
+    pub put_here_leaves : (p old : PartData S V) (r : Rows V) (n : Room) (ns : List ℕ) (i : Item V) (to : ℕ) (new : Line (Item V)) → p ≡ old
         → RepInvariant p r n ns → to ≡ place_in old.setup (vertex_of (network_of old.setup) i) →
         IsArc (network_of old.setup) (item_arc i) → place_in old.setup (maker_of (network_of old.setup) i) ≡ old.shard → IsClear old (item_arc i) → to ≡ p.shard →
-        new ≡ buffer (p.queue ++ i ∷ []) n →
-        (length p.queue < n) × RepInvariant (record p { queue = new.items }) r new.capacity ns × (record p { queue = new.items } ≡ put_item i old)
-    put_here_leaves p old r n ns i to new e D t ar m z h w =
+        new.items ≡ p.queue ++ i ∷ [] → new.room ≡ n →
+        (length p.queue < n.capacity) × RepInvariant (record p { queue = new.items }) r new.room ns × (record p { queue = new.items } ≡ put_item i old)
+    put_here_leaves p old r n ns i to new e D t ar m z h w u =
         let R = put_here p r n ns i D (subst (λ (u : PartData S V). IsArc (network_of u.setup) (item_arc i)) (sym e) ar)
         (subst (λ (u : PartData S V). place_in u.setup (maker_of (network_of u.setup) i) ≡ u.shard) (sym e) m)
         (subst (λ (u : PartData S V). IsClear u (item_arc i)) (sym e) z)
         (subst (λ (u : PartData S V). place_in u.setup (vertex_of (network_of u.setup) i) ≡ p.shard) (sym e) (sym t ∙ h)) in (
           (let a = length-append p.queue (i ∷ []) in let f = R.0 in omega (arith, a, f)),
-          subst (λ (u : Buffer (Item V)). RepInvariant (record p { queue = u.items }) r u.capacity ns) (sym w) R.2,
-          (λ k. record p { queue = (w k).items }) ∙ (λ k. record p { queue = (sym R.1 k).queue; outs = (sym R.1 k).outs }) ∙ ap (λ (u : PartData S V). put_item i u) e,
+          subst (λ k. RepInvariant (record p { queue = new.items }) r k ns) (sym u) (subst (λ xs. RepInvariant (record p { queue = xs }) r n ns) (sym w) R.2),
+          ap (λ xs. record p { queue = xs }) w ∙ (λ k. record p { queue = (sym R.1 k).queue; outs = (sym R.1 k).outs }) ∙ ap (λ (u : PartData S V). put_item i u) e,
         )
 
-    pub there_in : {X : Type 0} (its : X → List (Item V)) (rs : List X) (p old : PartData S V) (r : Rows V) (n : ℕ) (ns : List ℕ) (i : Item V)
+    pub there_in : {X : Type 0} (its : X → List (Item V)) (rs : List X) (p old : PartData S V) (r : Rows V) (n : Room) (ns : List ℕ) (i : Item V)
         (to : ℕ) → p ≡ old → RepInvariant p r n ns → p.outs ≡ map its rs → to ≡ place_in old.setup (vertex_of (network_of old.setup) i)
         → to < length rs
     there_in its rs p old r n ns i to e D o t =
@@ -157,7 +184,7 @@ module _ {S V : Type 0} where
         (D.sound.wide (vertex_of (network_of p.setup) i)) in
         let q = ap length o in let l = length-map rs its in omega (arith, w, q, l)
 
-    pub put_there_leaves : {X : Type 0} (its : X → List (Item V)) (caps : X → ℕ) (rs : List X) (p old : PartData S V) (r : Rows V) (n : ℕ)
+    pub put_there_leaves : {X : Type 0} (its : X → List (Item V)) (caps : X → ℕ) (rs : List X) (p old : PartData S V) (r : Rows V) (n : Room)
         (i : Item V) (to : ℕ) (x : X) → p ≡ old → RepInvariant p r n (map caps rs) → p.outs ≡ map its rs →
         to ≡ place_in old.setup (vertex_of (network_of old.setup) i) →
         IsArc (network_of old.setup) (item_arc i) → place_in old.setup (maker_of (network_of old.setup) i) ≡ old.shard → IsClear old (item_arc i) → to ≢ p.shard →
@@ -185,40 +212,50 @@ module _ {S V : Type 0} where
               )),
         )
 
-  -- the front item goes
-  pub pop_leaves : (p : PartData S V) (r : Rows V) (n : ℕ) (ns : List ℕ) (new : Buffer (Item V)) → RepInvariant p r n ns
-      → new ≡ buffer (drop 1 p.queue) n → RepInvariant (record p { queue = new.items }) r new.capacity ns
-  pop_leaves p r n ns new D e = subst (λ (u : Buffer (Item V)). RepInvariant (record p { queue = u.items }) r u.capacity ns) (sym e)
-      (with_queue p r n ns (drop 1 p.queue) D (record {
-        once = λ b. let o = D.sound.once b in let f = fewer (λ j. is b (item_arc j)) p.queue in omega (arith, o, f);
-        leads = D.sound.leads;
-        here = rest_all _ p.queue D.sound.here;
-        gone = D.sound.gone;
-        wide = D.sound.wide;
-      }))
+  -- the items stand in another order
+  pub permuted : (p : PartData S V) (r : Rows V) (n : Room) (ns : List ℕ) (xs : List (Item V)) → RepInvariant p r n ns → IsPermutation p.queue xs → RepInvariant (record p { queue = xs }) r n ns
+  permuted p r n ns xs D q = with_queue p r n ns xs D (record {
+    once = λ b. let o = D.sound.once b in let f = total_permutation (λ j. is b (item_arc j)) p.queue xs q in omega (arith, o, f);
+    leads = D.sound.leads;
+    here = all_permuted _ p.queue xs q D.sound.here;
+    gone = D.sound.gone;
+    wide = D.sound.wide;
+  })
 
-  pub popped : (p old : PartData S V) (r : Rows V) (n : ℕ) (ns : List ℕ) (i : Item V) (new : Buffer (Item V)) → p ≡ old → RepInvariant p r n ns
-      → new ≡ buffer (drop 1 p.queue) n → slice_get p.queue 0 ≡ Some i → IsPopped old (record p { queue = new.items }) i
-  popped p old r n ns i new e D w h = go p.queue refl
-    where
-      go : (xs : List (Item V)) → p.queue ≡ xs → IsPopped old (record p { queue = new.items }) i
-      go [] q = absurd (let z : None ≡ Some i = sym (ap (λ ys. slice_get ys 0) q) ∙ h in cc)
-      go (x ∷ xs) q =
-          let z : Some x ≡ Some i = sym (ap (λ ys. slice_get ys 0) q) ∙ h in
-          let xi : x ≡ i = cc in
-          let rest : new.items ≡ xs = ap (λ u. u.items) w ∙ ap (λ ys. drop 1 ys) q in
-          let front : p.queue ≡ i ∷ new.items = q ∙ (λ k. xi k ∷ sym rest k) in
-          let at = subst (All (λ j. (place_in p.setup (vertex_of (network_of p.setup) j) ≡ p.shard) × IsArc (network_of p.setup) (item_arc j))) front D.sound.here in
-          record {
-            front = ap (λ (u : PartData S V). u.queue) (sym e) ∙ front;
-            same = ap (λ (u : PartData S V). record u { queue = new.items }) e;
-            arc = at.0.1;
-            here = at.0.0;
-            clear = (let o = D.sound.once (item_arc i) in let t = ap (total (λ j. is (item_arc i) (item_arc j))) front in let one = is_self (item_arc i) in omega (arith, o, t, one));
-          }
+  -- an item goes
+  pub item_leaves : (p : PartData S V) (r : Rows V) (n : Room) (ns : List ℕ) (i : Item V) (xs : List (Item V)) → RepInvariant p r n ns → IsPermutation p.queue (i ∷ xs) → RepInvariant (record p { queue = xs }) r n ns
+  item_leaves p r n ns i xs D q = with_queue p r n ns xs D (record {
+    once = λ b. let o = D.sound.once b in let f = total_permutation (λ j. is b (item_arc j)) p.queue (i ∷ xs) q in omega (arith, o, f);
+    leads = D.sound.leads;
+    here = (all_permuted _ p.queue (i ∷ xs) q D.sound.here).1;
+    gone = D.sound.gone;
+    wide = D.sound.wide;
+  })
 
-  pub popped_some : (p old : PartData S V) (r : Rows V) (n : ℕ) (ns : List ℕ) (new : Buffer (Item V)) (o : Option (Item V)) → p ≡ old
-      → RepInvariant p r n ns → new ≡ buffer (drop 1 p.queue) n → o ≡ slice_get p.queue 0 →
-      IfSome o (λ i. IsPopped old (record p { queue = new.items }) i)
-  popped_some p old r n ns new None e D w h = tt
-  popped_some p old r n ns new (Some i) e D w h = popped p old r n ns i new e D w (sym h)
+  -- a queue gave an item, or had none
+  pub pop_leaves : (p : PartData S V) (r : Rows V) (n : Room) (ns : List ℕ) (o : Option (Item V)) (new : Line (Item V)) → RepInvariant p r n ns
+      → new.room ≡ n → IfSome o (λ i. IsPermutation p.queue (i ∷ new.items)) → IfNone o ((p.queue ≡ []) × (new.items ≡ [])) → RepInvariant (record p { queue = new.items }) r new.room ns
+  pop_leaves p r n ns (Some i) new D e q z = subst (λ k. RepInvariant (record p { queue = new.items }) r k ns) (sym e) (item_leaves p r n ns i new.items D q)
+  pop_leaves p r n ns None new D e q z = subst (λ k. RepInvariant (record p { queue = new.items }) r k ns) (sym e)
+      (permuted p r n ns new.items D (subst (IsPermutation p.queue) (z.0 ∙ sym z.1) (IsPermutation-refl p.queue)))
+
+  module _ (A : Algebra V) where
+    pub popped : (p old : PartData S V) (r : Rows V) (n : Room) (ns : List ℕ) (i : Item V) (xs : List (Item V)) → p ≡ old → RepInvariant p r n ns
+        → IsPermutation p.queue (i ∷ xs) → IsInTurn A (network_of p.setup) p.setup.order (state_in p) p.queue i xs → IsPopped A old (record p { queue = xs }) i
+    popped p old r n ns i xs e D q f =
+        let at = all_permuted (λ j. (place_in p.setup (vertex_of (network_of p.setup) j) ≡ p.shard) × IsArc (network_of p.setup) (item_arc j)) p.queue (i ∷ xs) q D.sound.here in
+        record {
+          left = subst (λ (u : PartData S V). IsPermutation u.queue (i ∷ xs)) e q;
+          in_turn = subst (λ (u : PartData S V). IsInTurn A (network_of u.setup) u.setup.order (state_in u) u.queue i xs) e f;
+          same = ap (λ (u : PartData S V). record u { queue = xs }) e;
+          arc = at.0.1;
+          here = at.0.0;
+          clear = (let o = D.sound.once (item_arc i) in let t = total_permutation (λ j. is (item_arc i) (item_arc j)) p.queue (i ∷ xs) q in let one = is_self (item_arc i) in omega (arith, o, t, one));
+        }
+
+    -- the first of a queue in order of arrival
+    pub first_popped : (p old : PartData S V) (r : Rows V) (n : Room) (ns : List ℕ) (new : Line (Item V)) (o : Option (Item V)) → p ≡ old
+        → RepInvariant p r n ns → old.setup.order ≡ Arrival → IfSome o (λ i. p.queue ≡ i ∷ new.items) → IfSome o (λ i. IsPopped A old (record p { queue = new.items }) i)
+    first_popped p old r n ns new None e D k q = tt
+    first_popped p old r n ns new (Some i) e D k q = popped p old r n ns i new.items e D (subst (IsPermutation p.queue) q (IsPermutation-refl p.queue))
+        (subst (λ u. IsInTurn A (network_of p.setup) u (state_in p) p.queue i new.items) (sym (ap (λ (u : PartData S V). u.setup.order) e ∙ k)) q)

@@ -1,6 +1,7 @@
 -- What was counted of a shard makes the tables of its opened part.
 use Rattle.std.proofs.Common.{◌≡◌, ℕ, ◌≤◌, ◌^◌, Bool, true, eqb, List, [], ◌∷◌, length, set, get_or, replicate, refl, sym, ap, ◌∙◌, subst, arith, length-set, get_or-set_other, eqb-true}
-use Rattle.circular_buffer.specs.Buffer.{Buffer, buffer}
+use Rattle.shard_store.specs.Queue.{Line, line, room}
+use Rattle.shard_store.specs.declared.queue_order.QueueOrder.TheVariants.{Arrival}
 use Rattle.path_algebra.specs.Algebra.{Algebra}
 use Rattle.scholten_core.specs.declared.item.Item.{Item}
 use Rattle.scholten_core.specs.Sums.{sum_below, one_if}
@@ -37,7 +38,7 @@ module _ (w : ShardLayoutData) (P : IsPlanned w.setup w.shard) where
 module _ {S : Type 0} (t : SetupData S) (s : ℕ) where
   -- the shard of a diffusion, without its algebra
   abbrev pub layout_of : ShardLayoutData
-  layout_of = record { setup = record { diffusion = record { algebra = tt; roads = t.diffusion.roads; source = t.diffusion.source }; plan = t.plan }; shard = s }
+  layout_of = record { setup = record { diffusion = record { algebra = tt; roads = t.diffusion.roads; source = t.diffusion.source }; plan = t.plan; order = Arrival }; shard = s }
 
   pub same_place : place_in layout_of.setup ≡ place_in t
   unfolding place_in
@@ -47,9 +48,9 @@ module _ {S : Type 0} (t : SetupData S) (s : ℕ) where
   planned_too P = record { roads = P.roads; source = P.source; plan = P.plan; covers = P.covers; shard = P.shard }
 
 module _ {S V : Type 0} (A : Algebra V) (t : SetupData S) (s : ℕ) (P : IsPlanned (layout_of t s).setup s) (first : Bool) (capacities ys zs ns : List ℕ)
-    (sum sent : ℕ) (rows : Rows V) (queue : Buffer (Item V)) (outs : List (List (Item V)))
+    (sum sent : ℕ) (rows : Rows V) (queue : Line (Item V)) (outs : List (List (Item V)))
     (F : first ≡ is_first (layout_of t s).setup s) (R : AreIdle (layout_of t s) rows)
-    (C : CountsAll (layout_of t s) capacities) (Y : ys ≡ capacities) (T : sum ≡ total (λ n. n) ys) (Q : queue ≡ buffer (first_items A first) sum)
+    (C : CountsAll (layout_of t s) capacities) (Y : ys ≡ capacities) (T : sum ≡ total (λ n. n) ys) (Q : queue ≡ line (first_items A first) 0 (room sum t.order))
     (Z : zs ≡ set capacities s 0) (I : outs ≡ replicate (length zs) []) (K : ns ≡ zs)
     (N : sent ≡ one_if first) where
   first_too : first ≡ is_first t s
@@ -71,9 +72,10 @@ module _ {S V : Type 0} (A : Algebra V) (t : SetupData S) (s : ℕ) (P : IsPlann
   made_seen = opened_seen A t s (planned_too t s P) rows R.offsets R.arcs queue.items outs sent starts_too rows_too
       (ap (λ q. q.items) Q ∙ ap (first_items A) first_too) (I ∙ ap (λ n. replicate n []) long) (N ∙ ap one_if first_too)
 
-  pub made_stored : RepInvariant (abstraction t s rows queue.items outs sent 0 0 0) rows queue.capacity ns
-  made_stored = opened_stored A t s (planned_too t s P) rows R.offsets R.arcs queue.items outs sent queue.capacity ns starts_too rows_too
+  pub made_stored : RepInvariant (abstraction t s rows queue.items outs sent 0 0 0) rows queue.room ns
+  made_stored = opened_stored A t s (planned_too t s P) rows R.offsets R.arcs queue.items outs sent queue.room ns starts_too rows_too
       (ap (λ q. q.items) Q ∙ ap (first_items A) first_too) (I ∙ ap (λ n. replicate n []) long) (N ∙ ap one_if first_too)
-      (ap (λ q. q.capacity) Q ∙ T ∙ ap (total (λ n. n)) Y ∙ sum_is (layout_of t s) P capacities C ∙ ap (λ f. queue_bound (network_of t) f s) (same_place t s))
+      (ap (λ q. q.room.order) Q)
+      (ap (λ q. q.room.capacity) Q ∙ T ∙ ap (total (λ n. n)) Y ∙ sum_is (layout_of t s) P capacities C ∙ ap (λ f. queue_bound (network_of t) f s) (same_place t s))
       (ap length K ∙ long)
       (λ k ne l. ap (λ vs. get_or vs k 0) (K ∙ Z) ∙ get_or-set_other capacities s k 0 0 ne ∙ C.1 k l ∙ ap (λ f. outbox_bound (network_of t) f s k) (same_place t s))

@@ -24,7 +24,7 @@ use Rattle.shard_part.specs.Weights.{message_weight, signal_weight, in_flight, p
 use Rattle.shard_part.specs.Handling.{made, HandledItemIn, HandledAll}
 use Rattle.shard_part.specs.Represents.{HoldsShareIn, HoldsShare}
 use Rattle.shard_part.specs.Moves.{IsTallied}
-use Rattle.shard_part.specs.Part.{HandledFront, HandledMany, IsRunOn}
+use Rattle.shard_part.specs.Part.{HandledNext, HandledMany, IsRunOn}
 use Rattle.shard_part.proofs.TakenIsEvent.{handled_event, handled_weighs}
 use Rattle.shard_part.proofs.OffersArePumped.{counted_none, counted_more, counted_top}
 use Rattle.scholten_core.proofs.Basics.{sum_same}
@@ -177,7 +177,7 @@ module _ {S V : Type 0} (meaning : S → Algebra V) where
   handled_same (i ∷ items) p q (m, T, rest) = let r = handled_same items m q rest in (r.0 ∙ T.setup, r.1 ∙ T.shard)
 
   -- one item more was taken
-  pub handled_next : (p m q : PartData S V) (n : ℕ) → HandledMany meaning p n m → HandledFront meaning m q → HandledMany meaning p (n + 1) q
+  pub handled_next : (p m q : PartData S V) (n : ℕ) → HandledMany meaning p n m → HandledNext meaning m q → HandledMany meaning p (n + 1) q
   handled_next p m q n (items, l, T) (i, R) = (items ++ i ∷ [], length-append items (i ∷ []) ∙ ap (λ k. k + 1) l, handled_more items i p m q T R)
 
   pub handled_many_same : (p q : PartData S V) (n : ℕ) → HandledMany meaning p n q → (q.setup ≡ p.setup) × (q.shard ≡ p.shard)

@@ -1,6 +1,7 @@
 -- One item taken by one part is one enabled event of every state of which the part holds its share.
 use Rattle.std.proofs.Common.{◌≡◌, ◌≢◌, ℕ, zero, suc, ◌+◌, ◌<◌, Bool, true, false, ◌&&◌, eqb, List, [], ◌∷◌, ◌++◌, length, refl, sym, ap, ◌∙◌, subst, arith, eq-eqb, ne_eqb, eqb-true}
 use Rattle.std.proofs.lemmas.Bool.{false≢true, and_parts, and_from}
+use Rattle.std.specs.List.Sorted.{IsPermutation}
 use Rattle.scholten_core.specs.declared.token.Token.{Token}
 use Rattle.scholten_core.specs.declared.token.Token.TheVariants.{Idle, Message, Held, Signal}
 use Rattle.scholten_core.specs.declared.event.Event.TheVariants.{Accept}
@@ -24,7 +25,7 @@ use Rattle.scholten_core.proofs.Kept.{Kept, head_real}
 use Rattle.scholten_core.proofs.Shares.{agree_then, message_frame, signal_frame, freed_agree}
 use Rattle.shard_part.proofs.Here.{arrive_here_agree, message_here, signal_here}
 use Rattle.scholten_core.proofs.Items.{settle_made_agree, token_told, token_back}
-use Rattle.shard_store.proofs.Totals.{sum_member}
+use Rattle.shard_store.proofs.Totals.{sum_member, total_permutation}
 use Rattle.shard_part.proofs.InFlight.{message_weighs, signal_weighs, last_weighs, outgoing_is}
 use Rattle.shard_part.proofs.Routed.{routed}
 
@@ -68,7 +69,7 @@ module _ {V : Type 0} (A : Algebra V) where
       go false e l = absurd (omega (arith, l))
 
 module _ {V : Type 0} (A : Algebra V) (N : Network) (place : ℕ → ℕ) where
-  -- the item at the front of a queue is in c, and belongs there
+  -- an item of a queue is in c, and belongs there
   pub record Stands (c : CoreState V) (s : ℕ) (i : Item V) : Type 0 where
     pub real : item_arc i < suc N.arcs
     pub here : place (vertex_of N i) ≡ s
@@ -131,10 +132,10 @@ module _ {V : Type 0} (A : Algebra V) (N : Network) (place : ℕ → ℕ) where
           signal_weighs A N place L W k c h lt tn q K ∙ ap (λ zs. in_flight N place c h + total (at_place N place h) zs) (sym same)
 
 module _ {S V : Type 0} (A : Algebra V) (N : Network) (place : ℕ → ℕ) where
-  pub front_stands : Lawful A → (c : CoreState V) (p : PartData S V) (i : Item V) (rest : List (Item V)) → HoldsShareIn A N place c p → p.queue ≡ i ∷ rest → Stands A N place c p.shard i
-  front_stands L c p i rest H e =
+  pub item_stands : Lawful A → (c : CoreState V) (p : PartData S V) (i : Item V) (rest : List (Item V)) → HoldsShareIn A N place c p → IsPermutation p.queue (i ∷ rest) → Stands A N place c p.shard i
+  item_stands L c p i rest H e =
       let w = H.weighs (marks A p.shard i) in
-      let q : total (marks A p.shard i p.shard) p.queue ≡ marks A p.shard i p.shard i + total (marks A p.shard i p.shard) rest = ap (total (marks A p.shard i p.shard)) e in
+      let q : total (marks A p.shard i p.shard) p.queue ≡ marks A p.shard i p.shard i + total (marks A p.shard i p.shard) rest = total_permutation (marks A p.shard i p.shard) p.queue (i ∷ rest) e in
       let one = marks_self A L p.shard i in
       let r = sum_member (λ b. total (at_place N place (marks A p.shard i)) (item_of b (c.token b))) (suc N.arcs) (omega (arith, w, q, one)) in
       stands_at A N place L c p.shard i r.0 r.1 (c.token r.0) refl r.2
@@ -146,7 +147,7 @@ module _ {S V : Type 0} (A : Algebra V) (N : Network) (place : ℕ → ℕ) wher
       let r = (routed N place p.shard (made A N i (state_in p)) (record { queue = T.rest; outs = p.outs }) wide).weighs h in
       let l = ap (channels_weight p.shard h) T.channels in
       let s = ap (λ z. channels_weight z h (channels_of q)) T.shard in
-      let f = ap (total (h p.shard)) T.front in
+      let f = total_permutation (h p.shard) p.queue (i ∷ T.rest) T.left in
       omega (arith, r, l, s, f)
 
   -- ONE PART: for every kept state of which it holds its share
@@ -159,7 +160,7 @@ module _ {S V : Type 0} (A : Algebra V) (N : Network) (place : ℕ → ℕ) wher
   pub handled_event : Lawful A → WellFormed N → (c : CoreState V) (p : PartData S V) (i : Item V) (q : PartData S V) → Kept A N 0 c
       → HoldsShareIn A N place c p → HandledItemIn A N place p i q → TakenEvent c p i q
   handled_event L W c p i q K H T =
-      let F = front_stands L c p i T.rest H T.front in
+      let F = item_stands L c p i T.rest H T.left in
       let E = event_made A N place L W p.shard c (state_in p) i K H.tables.agree F in
       let balance : (h : ℕ → Item V → ℕ) → part_weight h q + in_flight N place c h ≡ part_weight h p + in_flight N place (step A N c (event_of i)) h =
       λ h. (let a = E.weighs h in let b = handled_weighs p i q H.tables.wide T h in

@@ -19,9 +19,10 @@ use Rattle.shard_part.specs.Represents.{HoldsShareIn}
 use Rattle.shard_part.specs.Exchange.{FitsAlone}
 use Rattle.shard_store.proofs.Totals.{total_append}
 use Rattle.shard_part.proofs.Room.{queue_fits, arc_once, message_free, signal_busy}
-use Rattle.shard_part.proofs.TakenIsEvent.{front_stands}
+use Rattle.shard_part.proofs.TakenIsEvent.{item_stands}
 use Rattle.shard_part.specs.Arriving.{MadeAt, joined, MayReceive}
 use Rattle.std.proofs.lemmas.Bool.{cases_lt, false≢true}
+use Rattle.std.proofs.lemmas.List.Sorted.{IsPermutation-refl}
 use Rattle.scholten_core.specs.declared.event.Event.{Event}
 use Rattle.scholten_core.specs.declared.event.Event.TheVariants.{Deliver, Accept}
 use Rattle.scholten_core.proofs.Ended.{ended, reached_kept}
@@ -76,7 +77,7 @@ module _ {S V : Type 0} (meaning : S → Algebra V) (p : PartData S V) (L : Lawf
   one_fits : (i : Item V) (rest : List (Item V)) (j : ℕ) → j ≢ p.shard → place_in p.setup (maker_of (network_of p.setup) i) ≡ j → Share (i ∷ rest) → FitsAlone (meaning p.setup.diffusion.algebra) p i
   one_fits (MessageOn a x) rest j ne made H =
       let A = meaning p.setup.diffusion.algebra in let N = network_of p.setup in
-      let T = front_stands A N (place_in p.setup) L c (record p { queue = MessageOn a x ∷ rest }) (MessageOn a x) rest H refl in
+      let T = item_stands A N (place_in p.setup) L c (record p { queue = MessageOn a x ∷ rest }) (MessageOn a x) rest H (IsPermutation-refl _) in
       let tok : c.token a ≡ Message x = message_of_item a (c.token a) x T.token in
       let away : place_in p.setup (N.tail a) ≢ p.shard = λ q. ne (sym made ∙ q) in (
         walk_value_is_value A N L W (N.head a) x (K.message_walk a x tok),
@@ -85,7 +86,7 @@ module _ {S V : Type 0} (meaning : S → Algebra V) (p : PartData S V) (L : Lawf
       )
   one_fits (SignalOn a) rest j ne made H =
       let A = meaning p.setup.diffusion.algebra in let N = network_of p.setup in
-      let T = front_stands A N (place_in p.setup) L c (record p { queue = SignalOn a ∷ rest }) (SignalOn a) rest H refl in
+      let T = item_stands A N (place_in p.setup) L c (record p { queue = SignalOn a ∷ rest }) (SignalOn a) rest H (IsPermutation-refl _) in
       let tok : c.token a ≡ Signal = signal_of_item a (c.token a) T.token in
       let away : place_in p.setup (N.head a) ≢ p.shard = λ q. ne (sym made ∙ q) in (
         real_arc a T.real (λ q. away (sym q ∙ T.here)),

@@ -1,10 +1,14 @@
 -- What a part does with the items that it takes.
-use Rattle.std.specs.Prelude.{◌≡◌, ℕ, zero, suc, Bool, true, false, cond, eqb, Option, Some, None, List, [], ◌∷◌, ◌++◌, set, get_or}
+use Rattle.std.specs.Prelude.{◌≡◌, ◌⊎◌, ℕ, zero, suc, Bool, true, false, cond, eqb, Option, Some, None, List, [], ◌∷◌, ◌++◌, set, get_or}
+use Rattle.std.specs.List.Sorted.{IsPermutation}
+use Rattle.shard_store.specs.declared.queue_order.QueueOrder.{QueueOrder}
+use Rattle.shard_store.specs.Queue.{IsBestMessage}
+use Rattle.shard_store.specs.declared.queue_order.QueueOrder.TheVariants.{Arrival, BestFirst}
 use Rattle.scholten_core.specs.declared.item.Item.{Item}
 use Rattle.scholten_core.specs.declared.item.Item.TheVariants.{Message as MessageOn, Signal as SignalOn}
 use Rattle.path_algebra.specs.Algebra.{Algebra}
 use Rattle.scholten_core.specs.Network.{Network}
-use Rattle.scholten_core.specs.Diffusion.{CoreState, put, freed, pump, out_idle, better_of, engaged_by, answer_to}
+use Rattle.scholten_core.specs.Diffusion.{CoreState, put, freed, improves, pump, out_idle, better_of, engaged_by, answer_to}
 use Rattle.scholten_core.specs.Items.{item_of, settle_made}
 use Rattle.scholten_core.specs.Shares.{Agree}
 use Rattle.shard_store.specs.Tallies.{counted_on}
@@ -66,11 +70,23 @@ module _ {V : Type 0} (N : Network) (place : ℕ → ℕ) where
   routes s [] l = l
   routes s (i ∷ is) l = routes s is (route s i l)
 
+module _ {V : Type 0} (A : Algebra V) (N : Network) where
+  -- a signal, or a message that improves nothing
+  abbrev pub GoesAtOnce : CoreState V → Item V → Type 0
+  GoesAtOnce d (MessageOn a x) = improves A x (d.label (N.head a)) ≡ false
+  GoesAtOnce d (SignalOn a) = Unit {0}
+
+  -- of the items that wait it is the turn of i, and the rest goes on waiting: i came first, or it is the best message unless it goes at once
+  abbrev pub IsInTurn : QueueOrder → CoreState V → List (Item V) → Item V → List (Item V) → Type 0
+  IsInTurn Arrival d waiting i rest = waiting ≡ i ∷ rest
+  IsInTurn BestFirst d waiting i rest = GoesAtOnce d i ⊎ IsBestMessage A.no_worse i rest
+
 module _ {S V : Type 0} (A : Algebra V) (N : Network) (place : ℕ → ℕ) where
-  -- a part takes the item i from the front of its queue
+  -- a part takes the item i from its queue
   pub record HandledItemIn (p : PartData S V) (i : Item V) (q : PartData S V) : Type 0 where
     pub rest : List (Item V)
-    pub front : p.queue ≡ i ∷ rest
+    pub left : IsPermutation p.queue (i ∷ rest)
+    pub in_turn : IsInTurn A N p.setup.order (state_in p) p.queue i rest
     pub setup : q.setup ≡ p.setup
     pub shard : q.shard ≡ p.shard
     pub tables : Agree A N (mine place p.shard) (taken A N i (state_in p)) (state_in q)

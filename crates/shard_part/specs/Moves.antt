@@ -1,5 +1,6 @@
 -- The moves of a part, and what its tables and rings keep at each of them.
 use Rattle.std.specs.Prelude.{◌≡◌, ◌≢◌, ℕ, zero, suc, ◌<◌, ◌≤◌, Bool, true, false, cond, Option, Some, None, List, [], ◌∷◌, length, set, get_or, take}
+use Rattle.std.specs.List.Sorted.{IsPermutation}
 use Rattle.scholten_core.specs.declared.item.Item.{Item}
 use Rattle.scholten_core.specs.declared.item.Item.TheVariants.{Message as MessageOn, Signal as SignalOn}
 use Rattle.path_algebra.specs.Algebra.{Algebra}
@@ -7,13 +8,15 @@ use Rattle.scholten_core.specs.Diffusion.{improves, is_due, extend_label, out_id
 use Rattle.scholten_core.specs.Items.{item_arc}
 use Rattle.shard_store.specs.Tallies.{counted_on, top}
 use Rattle.shard_store.specs.Tables.{scatter}
+use Rattle.scholten_core.specs.Network.{Network}
 use Rattle.scholten_core.specs.Deficit.{busy_out}
 use Rattle.shard_part.specs.PartState.{PartData, state_in, IsArc, vertex_of}
 use Rattle.shard_store.specs.Setup.{SetupData, network_of, place_in, IsPlanned}
 use Rattle.shard_part.specs.Weights.{channels_of}
+use Rattle.shard_store.specs.Queue.{Room}
 use Rattle.shard_store.specs.Rows.{Rows}
 use Rattle.shard_store.specs.Outgoing.{local_vertices, arcs_out, outgoing}
-use Rattle.shard_part.specs.Handling.{route}
+use Rattle.shard_part.specs.Handling.{route, IsInTurn}
 use Rattle.shard_part.specs.LocalInvariant.{LocalInvariant, IsClear}
 use Rattle.shard_store.specs.Capacities.{queue_bound, outbox_bound}
 
@@ -52,9 +55,10 @@ pub record IsSeen {S V : Type 0} (p : PartData S V) (r : Rows V) : Type 0 where
   pub busy : p.busy ≡ scatter (arcs_out (network_of p.setup) (local_vertices p.setup p.shard)) r.busy false (suc (length p.setup.diffusion.roads.arcs))
   pub told : p.told ≡ scatter (arcs_out (network_of p.setup) (local_vertices p.setup p.shard)) r.told None (suc (length p.setup.diffusion.roads.arcs))
 
--- the queue has a place for every arc with an end in the shard, each outbox one for every arc between the two shards
-pub record IsRoomy {S V : Type 0} (p : PartData S V) (queue_capacity : ℕ) (out_capacities : List ℕ) : Type 0 where
-  pub queue : queue_capacity ≡ queue_bound (network_of p.setup) (place_in p.setup) p.shard
+-- the queue is in the order of the setup and has a place for every arc with an end in the shard, each outbox one for every arc between the two shards
+pub record IsRoomy {S V : Type 0} (p : PartData S V) (queue_room : Room) (out_capacities : List ℕ) : Type 0 where
+  pub order : queue_room.order ≡ p.setup.order
+  pub queue : queue_room.capacity ≡ queue_bound (network_of p.setup) (place_in p.setup) p.shard
   pub boxes : length p.outs ≡ p.setup.plan.shards
   pub rings : length out_capacities ≡ p.setup.plan.shards
   pub outs : (t : ℕ) → t ≢ p.shard → t < p.setup.plan.shards → get_or out_capacities t 0 ≡ outbox_bound (network_of p.setup) (place_in p.setup) p.shard t
@@ -68,13 +72,13 @@ AreRowDeficits p r = (j : ℕ) → j < length (local_vertices p.setup p.shard) �
 abbrev pub IsTallied : {S V : Type 0} → PartData S V → Type 0
 IsTallied p = (p.sent ≤ top) × (p.delivered ≤ top) × (p.signalled ≤ top) × (p.accepted ≤ top)
 
-pub record RepInvariant {S V : Type 0} (p : PartData S V) (r : Rows V) (queue_capacity : ℕ) (out_capacities : List ℕ) : Type 0 where
+pub record RepInvariant {S V : Type 0} (p : PartData S V) (r : Rows V) (queue_room : Room) (out_capacities : List ℕ) : Type 0 where
   pub planned : IsPlanned p.setup p.shard
   pub sized : AreRowsSized p r
   pub seen : IsSeen p r
   pub counts : AreRowDeficits p r
   pub sound : LocalInvariant (network_of p.setup) (place_in p.setup) p
-  pub roomy : IsRoomy p queue_capacity out_capacities
+  pub roomy : IsRoomy p queue_room out_capacities
   pub tallied : IsTallied p
 
 -- the vertex v is the part's, at the place j
@@ -87,9 +91,15 @@ pub record IsArcRow {S V : Type 0} (p : PartData S V) (b i : ℕ) : Type 0 where
   pub inside : i < length (arcs_out (network_of p.setup) (local_vertices p.setup p.shard))
   pub arc : get_or (arcs_out (network_of p.setup) (local_vertices p.setup p.shard)) i 0 ≡ b
 
--- the item i was taken from the front of the queue
-pub record IsPopped {S V : Type 0} (old new : PartData S V) (i : Item V) : Type 0 where
-  pub front : old.queue ≡ i ∷ new.queue
+-- The item is a signal, or a message that improves nothing at the place of its head.
+abbrev pub IsSettledIn : {V : Type 0} → Algebra V → Network → List ℕ → List (Option V) → Item V → Type 0
+IsSettledIn A N own labels (MessageOn a x) = (j : ℕ) × (j < length own) × (get_or own j 0 ≡ N.head a) × (improves A x (get_or labels j None) ≡ false)
+IsSettledIn A N own labels (SignalOn a) = Unit {0}
+
+-- the item i was taken from the queue, in its turn
+pub record IsPopped {S V : Type 0} (A : Algebra V) (old new : PartData S V) (i : Item V) : Type 0 where
+  pub left : IsPermutation old.queue (i ∷ new.queue)
+  pub in_turn : IsInTurn A (network_of old.setup) old.setup.order (state_in old) old.queue i new.queue
   pub same : new ≡ record old { queue = new.queue }
   pub arc : IsArc (network_of new.setup) (item_arc i)
   pub here : place_in new.setup (vertex_of (network_of new.setup) i) ≡ new.shard
@@ -161,4 +171,4 @@ module _ {S V : Type 0} (A : Algebra V) where
 
   -- the front item is taken and handled
   abbrev pub HandledOne : PartData S V → PartData S V → Type 0
-  HandledOne p q = (i : Item V) × (m : PartData S V) × IsPopped p m i × (q ≡ with_taken i m)
+  HandledOne p q = (i : Item V) × (m : PartData S V) × IsPopped A p m i × (q ≡ with_taken i m)

@@ -20,8 +20,8 @@ OwnIdleIsTold p = (b : ℕ) → place_in p.setup ((network_of p.setup).tail b) �
 
 module _ {S V : Type 0} (meaning : S → Algebra V) where
   -- some item was taken from the front
-  abbrev pub HandledFront : PartData S V → PartData S V → Type 0
-  HandledFront p q = (i : Item V) × HandledItem meaning p i q
+  abbrev pub HandledNext : PartData S V → PartData S V → Type 0
+  HandledNext p q = (i : Item V) × HandledItem meaning p i q
 
   -- n items were taken, one after the other
   abbrev pub HandledMany : PartData S V → ℕ → PartData S V → Type 0

@@ -9,4 +9,4 @@ mod state;
 pub use closed::ClosedPart;
 pub use part::Part;
 pub use scholten_core::Item;
-pub use shard_store::{Batch, Plan, PlanFault, Setup, Shard, Tally};
+pub use shard_store::{Batch, Plan, PlanFault, QueueOrder, Setup, Shard, Tally};

@@ -10,7 +10,7 @@ ghost use Rattle.shard_store.specs.Capacities.{queue_bound, outbox_bound};
 ghost use Rattle.shard_part.specs.Represents.{HoldsShare};
 ghost use Rattle.shard_part.specs.Opening.{opened_part};
 ghost use Rattle.shard_part.specs.Exchange.{Fits};
-ghost use Rattle.shard_part.specs.Part.{HandledFront, HandledMany, IsRunOn};
+ghost use Rattle.shard_part.specs.Part.{HandledNext, HandledMany, IsRunOn};
 
 mod readings;
 
@@ -18,7 +18,7 @@ use crate::closed::ClosedPart;
 use crate::state::PartState;
 use path_algebra::{PathAlgebra, laws_hold};
 use road_graph::{Graph, Memory, Vertex};
-use shard_store::{Batch, Plan, Shard};
+use shard_store::{Batch, Plan, QueueOrder, Shard};
 use std::alloc::Global;
 use std::marker::Model;
 
@@ -41,7 +41,7 @@ impl<'g, A: PathAlgebra> Model for Part<'g, A> {
 
 impl<'g, A: PathAlgebra> Part<'g, A> {
     /// The part of one shard before any event. At the source's part the message of the environment waits, with the origin as its value.
-    /// Its queue has a place for each arc with an end in the shard, each outbox one for each arc between the two shards: no later call takes memory.
+    /// Its items will be taken in this order. Its queue has a place for each arc with an end in the shard, each outbox one for each arc between the two shards: no later call takes memory.
     pub fn open(
         alloc: Global,
         algebra: A,
@@ -49,6 +49,7 @@ impl<'g, A: PathAlgebra> Part<'g, A> {
         plan: &'g Plan,
         shard: Shard,
         source: Vertex,
+        order: QueueOrder,
     ) -> Result<Part<'g, A>, Memory>
         requires source { HasVertex graph.now source }
         requires plan { length plan.now.list ≡ graph.now.vertices }
@@ -57,23 +58,24 @@ impl<'g, A: PathAlgebra> Part<'g, A> {
             (record {
               diffusion = record { algebra = algebra; roads = graph.now; source = source };
               plan = plan.now;
+              order = order;
             }) shard) }
         ensures share { IfOk result (λ p. HoldsShare A.meaning (state_after (A.meaning algebra)
             (network graph.now source) []) p) }
     {
-        let state = PartState::open(alloc, algebra, graph, plan, shard, source)?;
+        let state = PartState::open(alloc, algebra, graph, plan, shard, source, order)?;
         Ok(Part { state })
     }
 
-    /// Takes the front item off the queue and handles it, if there is one.
-    fn take_front(&mut self) -> bool
-        ensures taken { IsTrue result → HandledFront A.meaning self.old self.new }
+    /// Takes the item whose turn it is off the queue and handles it, if there is one.
+    fn take_next(&mut self) -> bool
+        ensures taken { IsTrue result → HandledNext A.meaning self.old self.new }
         ensures none { IsFalse result → (self.old.queue ≡ []) × (self.new ≡ self.old) }
     {
-        self.state.handle_front()
+        self.state.handle_next()
     }
 
-    /// Takes items off the front of the queue and handles them, one after the other, until the budget is used up or the queue is empty, and says how many.
+    /// Takes items off the queue in its order and handles them, one after the other, until the budget is used up or the queue is empty, and says how many.
     ///
     /// What an item makes goes to the back of the queue if it belongs to this shard, else to the back of the outbox to its shard.
     /// Whatever the other parts hold: if this part held its share of a state that some events lead to, the items are that many further events, each enabled in its turn,
@@ -90,7 +92,7 @@ impl<'g, A: PathAlgebra> Part<'g, A> {
     {
         laws_hold(self.state.algebra());
         for taken in 0..budget {
-            if !self.take_front() {
+            if !self.take_next() {
                 return taken;
             }
         }

@@ -12,10 +12,11 @@ mod exchange;
 mod opening;
 mod sending;
 mod stored;
+mod taking;
 
 use path_algebra::PathAlgebra;
 use road_graph::{Graph, Vertex};
-use shard_store::{Batch, Plan, Queue, Shard, Tables, Tally};
+use shard_store::{Batch, Plan, Queue, QueueOrder, Shard, Tables, Tally};
 use std::marker::Model;
 
 /// The tables, the queue and the outboxes of one shard, with the moves that its events are made of.
@@ -26,8 +27,9 @@ pub(crate) struct PartState<'g, A: PathAlgebra> {
     pub(crate) plan: &'g Plan,
     pub(crate) source: Vertex,
     pub(crate) shard: Shard,
+    pub(crate) order: QueueOrder,
     pub(crate) tables: Tables<A::Value>,
-    pub(crate) queue: Queue<A::Value>,
+    pub(crate) queue: Queue<A>,
     pub(crate) outs: Vec<Batch<A::Value>>,
     sent: u64,
     delivered: u64,
@@ -43,9 +45,9 @@ impl<'g, A: PathAlgebra> Model for PartState<'g, A> {
 
     ghost Value = { PartData A A.Value };
 
-    ghost view = { λ p. abstraction (record { diffusion = record { algebra = p.algebra; roads = p.graph.now; source = p.source }; plan = p.plan.now }) p.shard (rows_of p.tables) p.queue.items (map (λ b. b.items) p.outs.items) p.sent p.delivered p.signalled p.accepted };
+    ghost view = { λ p. abstraction (record { diffusion = record { algebra = p.algebra; roads = p.graph.now; source = p.source }; plan = p.plan.now; order = p.order }) p.shard (rows_of p.tables) p.queue.items (map (λ b. b.items) p.outs.items) p.sent p.delivered p.signalled p.accepted };
 
-    ghost invariant = { λ p. RepInvariant (abstraction (record { diffusion = record { algebra = p.algebra; roads = p.graph.now; source = p.source }; plan = p.plan.now }) p.shard (rows_of p.tables) p.queue.items (map (λ b. b.items) p.outs.items) p.sent p.delivered p.signalled p.accepted) (rows_of p.tables) p.queue.capacity (map (λ b. b.capacity) p.outs.items) };
+    ghost invariant = { λ p. RepInvariant (abstraction (record { diffusion = record { algebra = p.algebra; roads = p.graph.now; source = p.source }; plan = p.plan.now; order = p.order }) p.shard (rows_of p.tables) p.queue.items (map (λ b. b.items) p.outs.items) p.sent p.delivered p.signalled p.accepted) (rows_of p.tables) p.queue.room (map (λ b. b.capacity) p.outs.items) };
 }
 
 impl<'g, A: PathAlgebra> PartState<'g, A> {

@@ -1,6 +1,7 @@
 mod Ascending
 mod Blocks
 mod Increasing
+pub mod Ranking
 mod Records
 pub mod Totals
 pub mod Counting

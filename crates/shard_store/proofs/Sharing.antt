@@ -9,6 +9,7 @@ use Rattle.shard_store.specs.contracts.tables.ArcTable as ArcTable
 use Rattle.shard_store.specs.contracts.batch.Batch as Batch
 use Rattle.shard_store.specs.contracts.queue.Queue as Queue
 use Rattle.shard_store.specs.contracts.plan.Plan as Plan
+use Rattle.path_algebra.specs.declared.algebra.PathAlgebra.{Ghosts}
 use Rattle.road_graph.specs.contracts.graph.Graph as Graph
 
 pub VertexTable-send : (V : RattleType) → IsSend V → IsSend (VertexTable.the_row V)
@@ -23,8 +24,8 @@ Tables-send V s = search (sendable, crosses) depth 40
 pub Batch-send : (V : RattleType) → IsSend V → IsSend (Batch.the_row V)
 Batch-send V s = search (sendable, crosses, Cells-send, Deed-send) depth 40
 
-pub Queue-send : (V : RattleType) → IsSend V → IsSend (Queue.the_row V)
-Queue-send V s = search (sendable, crosses) depth 40
+pub Queue-send : (A V : RattleType) (P : Ghosts A.Denot V.Denot) → IsSend A → IsSend V → IsSend (Queue.the_row A V P)
+Queue-send A V P r s = search (sendable, crosses) depth 40
 
 pub Graph-sync : IsSync Graph.the_row
 Graph-sync = search (sendable, crosses) depth 40

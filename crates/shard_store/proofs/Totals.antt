@@ -8,13 +8,31 @@ use Rattle.scholten_core.specs.Sums.{sum_below}
 use Rattle.scholten_core.specs.Items.{item_arc, at}
 use Rattle.shard_store.specs.Totals.{total, counted, is}
 use Rattle.scholten_core.proofs.Items.{at-first, at-skip, at-nil}
-use Rattle.std.specs.Prelude.{slice_get}
+use Rattle.std.specs.Prelude.{slice_get, sum_by}
+use Rattle.std.specs.List.Sorted.{IsPermutation}
+use Rattle.std.proofs.lemmas.List.Sums.{sum_by-cons}
+use Rattle.std.proofs.lemmas.List.Sorted.{sum_by-IsPermutation}
 use Rattle.std.proofs.lemmas.Bool.Decides.{leb_tells}
 pub use Rattle.scholten_core.proofs.Basics.{sum_below_same, sum_at, sum_zero}
 
 pub total_append : {X : Type 0} (f : X → ℕ) (xs ys : List X) → total f (xs ++ ys) ≡ total f xs + total f ys
 total_append f [] ys = omega arith
 total_append f (x ∷ xs) ys = let p = total_append f xs ys in omega (arith, p)
+
+total_is_sum : {X : Type 0} (f : X → ℕ) (xs : List X) → total f xs ≡ sum_by f xs
+total_is_sum f [] = refl
+total_is_sum f (x ∷ xs) = let p = total_is_sum f xs in let q = sum_by-cons f x xs in omega (arith, p, q)
+
+-- lists with the same elements weigh the same
+pub total_permutation : {X : Type 0} (f : X → ℕ) (xs ys : List X) → IsPermutation xs ys → total f xs ≡ total f ys
+total_permutation f xs ys h = total_is_sum f xs ∙ sym (sum_by-IsPermutation f xs ys h) ∙ sym (total_is_sum f ys)
+
+pub total_ones : {X : Type 0} (xs : List X) → total (λ _. 1) xs ≡ length xs
+total_ones [] = refl
+total_ones (x ∷ xs) = let e = total_ones xs in omega (arith, e)
+
+pub length_permutation : {X : Type 0} (xs ys : List X) → IsPermutation xs ys → length xs ≡ length ys
+length_permutation xs ys h = sym (total_ones xs) ∙ total_permutation (λ _. 1) xs ys h ∙ total_ones ys
 
 -- where a sum is more than 0, so is one of its members
 pub sum_member : (f : ℕ → ℕ) (n : ℕ) → 0 < sum_below f n → (k : ℕ) × (k < n) × (0 < f k)

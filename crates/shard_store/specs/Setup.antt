@@ -1,14 +1,16 @@
--- What all parts of a diffusion share: the diffusion, and the plan that says which shard each vertex is in.
+-- What all parts of a diffusion share: the diffusion, the plan that says which shard each vertex is in, and the order in which parts take their items.
 use Rattle.std.specs.Prelude.{◌≡◌, ℕ, ◌-◌, ◌<◌, ◌∷◌, length, get_or}
 use Rattle.road_graph.specs.GraphData.{HasVertex, IsGraph}
 use Rattle.scholten_core.specs.Network.{Network}
 use Rattle.scholten_core.specs.DiffusionData.{DiffusionData, network_in as network_asked}
+use Rattle.shard_store.specs.declared.queue_order.QueueOrder.{QueueOrder}
 use Rattle.shard_store.specs.Plans.{PlanData, IsPlan}
 
 -- the same in all parts of a diffusion
 pub record SetupData (S : Type 0) : Type 0 where
   pub diffusion : DiffusionData S
   pub plan : PlanData
+  pub order : QueueOrder
 
 -- the network of its diffusion
 abbrev pub network_of : {S : Type 0} → SetupData S → Network

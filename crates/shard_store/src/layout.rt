@@ -57,12 +57,13 @@ pub struct ShardLayout<'g> {
 impl<'g> Model for ShardLayout<'g> {
     ghost use Rattle.shard_store.specs.Layout.{ShardLayoutData};
     ghost use Rattle.shard_store.specs.Setup.{IsPlanned};
+    ghost use Rattle.shard_store.specs.declared.queue_order.QueueOrder.TheVariants.{Arrival};
 
     ghost Value = { ShardLayoutData };
 
-    ghost view = { λ w. record { setup = record { diffusion = record { algebra = tt; roads = w.graph.now; source = w.source }; plan = w.plan.now }; shard = w.shard } };
+    ghost view = { λ w. record { setup = record { diffusion = record { algebra = tt; roads = w.graph.now; source = w.source }; plan = w.plan.now; order = Arrival }; shard = w.shard } };
 
-    ghost invariant = { λ w. IsPlanned (record { diffusion = record { algebra = tt {0}; roads = w.graph.now; source = w.source }; plan = w.plan.now }) w.shard };
+    ghost invariant = { λ w. IsPlanned (record { diffusion = record { algebra = tt {0}; roads = w.graph.now; source = w.source }; plan = w.plan.now; order = Arrival }) w.shard };
 }
 
 impl<'g> ShardLayout<'g> {

@@ -2,6 +2,7 @@
 ghost use Rattle.std.specs.Prelude.{◌≡◌};
 
 use crate::plan::Plan;
+use crate::queue_order::QueueOrder;
 use road_graph::{Graph, Vertex};
 use std::marker::Model;
 use std::snapshot::Snapshot;
@@ -13,6 +14,7 @@ pub struct Setup<A> {
     graph: Snapshot<Graph>,
     plan: Snapshot<Plan>,
     source: Vertex,
+    order: QueueOrder,
 }
 
 impl<A> Model for Setup<A> {
@@ -20,15 +22,22 @@ impl<A> Model for Setup<A> {
 
     ghost Value = { SetupData A };
 
-    ghost view = { λ q. record { diffusion = record { algebra = q.algebra; roads = q.graph.value; source = q.source }; plan = q.plan.value } };
+    ghost view = { λ q. record { diffusion = record { algebra = q.algebra; roads = q.graph.value; source = q.source }; plan = q.plan.value; order = q.order } };
 }
 
 impl<A> Setup<A> {
     /// The diffusion of an algebra over a graph from a source, and its plan.
-    pub fn new(algebra: A, graph: &Graph, plan: &Plan, source: Vertex) -> Setup<A>
+    pub fn new(
+        algebra: A,
+        graph: &Graph,
+        plan: &Plan,
+        source: Vertex,
+        order: QueueOrder,
+    ) -> Setup<A>
         ensures { result ≡ record {
           diffusion = record { algebra = algebra; roads = graph.now; source = source };
           plan = plan.now;
+          order = order;
         } }
     {
         Setup {
@@ -36,6 +45,7 @@ impl<A> Setup<A> {
             graph: Snapshot::of(graph),
             plan: Snapshot::of(plan),
             source,
+            order,
         }
     }
 }

@@ -11,7 +11,7 @@ use path_algebra::PathAlgebra;
 use post_floor::{Floor, Seat};
 use road_graph::{Graph, Memory, Vertex};
 use shard_part::laws::plan_holds;
-use shard_part::{Part, Plan, Shard};
+use shard_part::{Part, Plan, QueueOrder, Shard};
 use std::alloc::{AllocError, Global};
 
 /// Appends an item.
@@ -29,17 +29,18 @@ fn open_parts<'g, A: PathAlgebra>(
     graph: &'g Graph,
     plan: &'g Plan,
     source: Vertex,
+    order: QueueOrder,
 ) -> Result<Vec<Part<'g, A>>, Memory>
     requires source { HasVertex graph.now source }
     requires plan { length plan.now.list ≡ graph.now.vertices }
     ensures parts { IfOk result
-        (λ v. v.items ≡ first_parts A.meaning (setup_of algebra graph.now source plan.now)
+        (λ v. v.items ≡ first_parts A.meaning (setup_of algebra graph.now source plan.now order)
         plan.now.shards) }
     ensures known { IfOk result (λ v. All (HoldsReachedShare A.meaning) v.items) }
 {
     let mut parts = Vec::new(alloc);
     for shard in 0..plan.shards() {
-        let part = Part::open(alloc, algebra, graph, plan, Shard(shard), source)?;
+        let part = Part::open(alloc, algebra, graph, plan, Shard(shard), source, order)?;
         push(&mut parts, part)?;
     }
     Ok(parts)
@@ -72,21 +73,22 @@ fn pair<'g, A: PathAlgebra>(
     Ok(stations)
 }
 
-/// A floor with empty mailboxes, and one station for each shard of the plan, in order.
+/// A floor with empty mailboxes, and one station for each shard of the plan, in order. Their parts take items in the order of their queues.
 pub fn open_diffusion<'g, A: PathAlgebra>(
     alloc: Global,
     algebra: A,
     graph: &'g Graph,
     plan: &'g Plan,
     source: Vertex,
+    order: QueueOrder,
 ) -> Result<(Floor<A>, Vec<Station<'g, A>>), Memory>
     requires source { HasVertex graph.now source }
     requires plan { length plan.now.list ≡ graph.now.vertices }
     ensures { IfOk result
-        (λ r. AreOpened A.meaning (setup_of algebra graph.now source plan.now) r.0 r.1.items) }
+        (λ r. AreOpened A.meaning (setup_of algebra graph.now source plan.now order) r.0 r.1.items) }
 {
     plan_holds(plan);
-    let parts = open_parts(alloc, algebra, graph, plan, source)?;
+    let parts = open_parts(alloc, algebra, graph, plan, source, order)?;
     let (floor, seats) = Floor::open(alloc, plan, source, &parts)?;
     let stations = pair(alloc, &floor, plan, parts, seats)?;
     Ok((floor, stations))

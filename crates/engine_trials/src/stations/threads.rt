@@ -8,6 +8,7 @@ use crate::graphs::{SHORTEST, blocks_of, five};
 use crate::parts::assert_counts;
 use path_algebra::{PathAlgebra, Reach, Shortest};
 use post_floor::Floor;
+use shard_part::QueueOrder;
 use station::{Gathered, Station};
 use std::process::Abort;
 use std::sync::Wait;
@@ -130,7 +131,7 @@ fn answered_by_threads<A: PathAlgebra, R: Threads + Wait + Abort + AllocGlobal>(
 ) -> Gathered<A::Value> {
     let graph = five(rt);
     let plan = blocks_of(rt, 5, 3);
-    let (floor, stations) = opened(rt, algebra, &graph, &plan, 1);
+    let (floor, stations) = opened(rt, algebra, &graph, &plan, 1, QueueOrder::Arrival);
     let (first, second, third) = turned_by_threads(rt, &floor, stations, budget);
     let done = with_one_more(rt, &floor, Vec::new(rt.alloc()), first);
     let done = with_one_more(rt, &floor, done, second);

@@ -21,7 +21,13 @@ impl<'g, A: PathAlgebra> Part<'g, A> {
         ensures { result ≡ self.now.setup }
     {
         let state = &self.state;
-        Setup::new(state.algebra, state.graph, state.plan, state.source)
+        Setup::new(
+            state.algebra,
+            state.graph,
+            state.plan,
+            state.source,
+            state.order,
+        )
     }
 
     /// Which shard it is.

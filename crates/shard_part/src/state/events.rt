@@ -1,13 +1,13 @@
 //! How a part handles an item: the event, and the moves that it is made of.
-ghost use Rattle.std.specs.Prelude.{◌≡◌, ◌≢◌, [], Option, Some, None, IfSome, IsTrue, IsFalse, true, false};
+ghost use Rattle.std.specs.Prelude.{◌≡◌, ◌≢◌, [], Option, Some, None, IsTrue, IsFalse, true, false};
 ghost use Rattle.scholten_core.specs.Diffusion.{improves as improves_on};
 ghost use Rattle.scholten_core.specs.Items.{item_arc};
 ghost use Rattle.shard_store.specs.Tallies.{counted_on};
 ghost use Rattle.shard_store.specs.Setup.{network_of, place_in};
 ghost use Rattle.shard_part.specs.PartState.{state_in, vertex_of, IsArc};
 ghost use Rattle.shard_part.specs.LocalInvariant.{IsClear};
-ghost use Rattle.shard_part.specs.Part.{OwnIdleIsTold, HandledFront};
-ghost use Rattle.shard_part.specs.Moves.{IsPlace, IsPopped, HandledOne, engaged_or_answered, labelled, rested, with_value, with_free, with_taken};
+ghost use Rattle.shard_part.specs.Part.{OwnIdleIsTold, HandledNext};
+ghost use Rattle.shard_part.specs.Moves.{IsPlace, HandledOne, engaged_or_answered, labelled, rested, with_value, with_free, with_taken};
 
 use crate::state::PartState;
 use path_algebra::{PathAlgebra, laws_hold};
@@ -16,11 +16,11 @@ use scholten_core::{Item, improves};
 use shard_store::{ArcPlace, VertexPlace};
 
 impl<'g, A: PathAlgebra> PartState<'g, A> {
-    /// Handles the front item, if there is one.
-    pub(crate) fn handle_front(&mut self) -> bool
+    /// Handles the item whose turn it is, if there is one.
+    pub(crate) fn handle_next(&mut self) -> bool
         ensures taken { IsTrue result → HandledOne (A.meaning self.old.setup.diffusion.algebra)
             self.old self.new }
-        ensures item { IsTrue result → OwnIdleIsTold self.old → HandledFront A.meaning self.old
+        ensures item { IsTrue result → OwnIdleIsTold self.old → HandledNext A.meaning self.old
             self.new }
         ensures told { OwnIdleIsTold self.old → OwnIdleIsTold self.new }
         ensures none { IsFalse result → (self.old.queue ≡ []) × (self.new ≡ self.old) }
@@ -33,14 +33,6 @@ impl<'g, A: PathAlgebra> PartState<'g, A> {
             }
             None => false,
         }
-    }
-
-    /// Takes the front item off the queue.
-    fn pop(&mut self) -> Option<Item<A::Value>>
-        ensures none { result ≡ None → (self.old.queue ≡ []) × (self.new ≡ self.old) }
-        ensures some { IfSome result (λ i. IsPopped self.old self.new i) }
-    {
-        self.queue.pop()
     }
 
     /// Handles an item that was taken from the queue.

@@ -1,6 +1,6 @@
 //! A part as it is opened.
 ghost use Rattle.std.specs.Prelude.{◌≡◌, ℕ, ◌≤◌, ◌<◌, [], map, length, replicate, IsTrue, IfOk};
-ghost use Rattle.circular_buffer.specs.Buffer.{buffer};
+ghost use Rattle.shard_store.specs.Queue.{line, room};
 ghost use Rattle.road_graph.specs.GraphData.{HasVertex};
 ghost use Rattle.scholten_core.specs.Network.{network};
 ghost use Rattle.scholten_core.specs.Diffusion.{state_after};
@@ -14,7 +14,9 @@ use crate::state::PartState;
 use path_algebra::PathAlgebra;
 use road_graph::{Graph, Memory, Vertex};
 use scholten_core::{ENTRY, Item, roads_hold};
-use shard_store::{Plan, Queue, Shard, ShardLayout, empty_batches, idle_tables, sum_of};
+use shard_store::{
+    Plan, Queue, QueueOrder, Shard, ShardLayout, empty_batches, idle_tables, sum_of,
+};
 use std::alloc::Global;
 
 impl<'g, A: PathAlgebra> PartState<'g, A> {
@@ -26,6 +28,7 @@ impl<'g, A: PathAlgebra> PartState<'g, A> {
         plan: &'g Plan,
         shard: Shard,
         source: Vertex,
+        order: QueueOrder,
     ) -> Result<PartState<'g, A>, Memory>
         requires source { HasVertex graph.now source }
         requires plan { length plan.now.list ≡ graph.now.vertices }
@@ -34,6 +37,7 @@ impl<'g, A: PathAlgebra> PartState<'g, A> {
             (record {
               diffusion = record { algebra = algebra; roads = graph.now; source = source };
               plan = plan.now;
+              order = order;
             }) shard) }
         ensures share { IfOk result (λ d. HoldsShare A.meaning (state_after (A.meaning algebra)
             (network graph.now source) []) d) }
@@ -51,7 +55,7 @@ impl<'g, A: PathAlgebra> PartState<'g, A> {
         // What a closed part keeps is allocated first, so that the memory freed by closing is in one piece after it.
         let tables = idle_tables(alloc, &layout, own, algebra.origin())?;
         let mut capacities = layout.capacities(alloc, &tables.own)?;
-        let queue = opening_queue(alloc, algebra, sum_of(&capacities), first)?;
+        let queue = opening_queue(alloc, algebra, order, sum_of(&capacities), first)?;
         capacities[shard.0 as usize] = 0;
         let outs = empty_batches(alloc, &capacities)?;
         Ok(PartState {
@@ -60,6 +64,7 @@ impl<'g, A: PathAlgebra> PartState<'g, A> {
             plan,
             source,
             shard,
+            order,
             tables,
             queue,
             outs,
@@ -75,13 +80,14 @@ impl<'g, A: PathAlgebra> PartState<'g, A> {
 fn opening_queue<A: PathAlgebra>(
     alloc: Global,
     algebra: A,
+    order: QueueOrder,
     capacity: usize,
     first: bool,
-) -> Result<Queue<A::Value>, Memory>
+) -> Result<Queue<A>, Memory>
     requires { IsTrue first → 1 ≤ capacity }
-    ensures { IfOk result (λ q. q ≡ buffer (first_items (A.meaning algebra) first) capacity) }
+    ensures { IfOk result (λ q. q ≡ line (first_items (A.meaning algebra) first) 0 (room capacity order)) }
 {
-    let mut queue = Queue::empty(alloc, capacity)?;
+    let mut queue = Queue::empty(alloc, order, capacity)?;
     if first {
         queue.push(Item::Message {
             arc: ENTRY,

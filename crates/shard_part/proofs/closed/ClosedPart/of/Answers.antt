@@ -10,9 +10,9 @@ invariant_of-result g c =
     let s = c.state.inside in let same = c.state.view_is ∙ sym c.of-part.ensures in
     record {
       rows = rows_of s.tables;
-      queue_capacity = s.queue.capacity;
+      queue_room = s.queue.room;
       out_capacities = map (λ b. b.capacity) s.outs.items;
-      stored = subst (λ (u : PartData _ _). RepInvariant u (rows_of s.tables) s.queue.capacity (map (λ b. b.capacity) s.outs.items)) same c.state.invariant;
+      stored = subst (λ (u : PartData _ _). RepInvariant u (rows_of s.tables) s.queue.room (map (λ b. b.capacity) s.outs.items)) same c.state.invariant;
       shard_is = ap (λ (u : PartData _ _). u.shard) same;
       own_are = refl;
       labels_are = refl;

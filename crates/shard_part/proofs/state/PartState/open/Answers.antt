@@ -5,6 +5,7 @@ use Rattle.scholten_core.specs.Sums.{one_if}
 use Rattle.shard_part.specs.PartState.{PartData}
 use Rattle.shard_store.specs.Setup.{place_in}
 use Rattle.shard_part.specs.Represents.{HoldsShareIn}
+use Rattle.shard_store.specs.declared.queue_order.QueueOrder.TheVariants.{Arrival}
 use Rattle.shard_store.specs.Rows.{rows_of}
 use Rattle.shard_part.proofs.TablesOpen.{sum_small, sum_first, made_seen, made_stored}
 use Rattle.shard_part.proofs.Opened.{opened_holds}
@@ -18,6 +19,7 @@ sum_of-requires g c = sum_small (record {
   setup = record {
     diffusion = record { algebra = tt; roads = c.args.graph.now; source = c.args.source };
     plan = c.args.plan.now;
+    order = Arrival;
   };
   shard = c.args.shard;
 }) (record {
@@ -32,7 +34,7 @@ sum_of-requires g c = sum_small (record {
 pub opening_queue-requires-after_bounds : goal.opening_queue-requires-after_bounds
 opening_queue-requires-after_bounds g c κs within = λ z. sum_first
     (record {
-      setup = record { diffusion = record { algebra = tt; roads = c.args.graph.now; source = c.args.source }; plan = c.args.plan.now };
+      setup = record { diffusion = record { algebra = tt; roads = c.args.graph.now; source = c.args.source }; plan = c.args.plan.now; order = Arrival };
       shard = c.args.shard;
     }) (record {
       roads = c.roads_hold.ensures;
@@ -46,7 +48,7 @@ opening_queue-requires-after_bounds g c κs within = λ z. sum_first
 pub invariant_of-result : goal.invariant_of-result
 invariant_of-result g c = let n : c.from.result ≡ one_if c.is_first-first.result = (let f = c.from.ensures in search rules) in
     made_stored (g.A.PathAlgebra.meaning c.args.algebra)
-    (record { diffusion = record { algebra = c.args.algebra; roads = c.args.graph.now; source = c.args.source }; plan = c.args.plan.now })
+    (record { diffusion = record { algebra = c.args.algebra; roads = c.args.graph.now; source = c.args.source }; plan = c.args.plan.now; order = c.args.order })
     c.args.shard
     (record { roads = c.roads_hold.ensures; source = c.requires.source; plan = c.plan_holds.ensures.plan; covers = c.requires.plan; shard = c.requires.shard })
     c.is_first-first.result c.in_ok-capacities.capacities.items c.deref.result.now c.deref-2.result.now (map (λ b. b.capacity) c.in_ok-outs.outs.items) c.sum_of.result c.from.result
@@ -57,7 +59,7 @@ invariant_of-result g c = let n : c.from.result ≡ one_if c.is_first-first.resu
 pub returns-clause-part : goal.returns-clause-part
 returns-clause-part g c = let n : c.from.result ≡ one_if c.is_first-first.result = (let f = c.from.ensures in search rules) in
     made_seen (g.A.PathAlgebra.meaning c.args.algebra)
-    (record { diffusion = record { algebra = c.args.algebra; roads = c.args.graph.now; source = c.args.source }; plan = c.args.plan.now })
+    (record { diffusion = record { algebra = c.args.algebra; roads = c.args.graph.now; source = c.args.source }; plan = c.args.plan.now; order = c.args.order })
     c.args.shard
     (record { roads = c.roads_hold.ensures; source = c.requires.source; plan = c.plan_holds.ensures.plan; covers = c.requires.plan; shard = c.requires.shard })
     c.is_first-first.result c.in_ok-capacities.capacities.items c.deref.result.now c.deref-2.result.now (map (λ b. b.capacity) c.in_ok-outs.outs.items) c.sum_of.result c.from.result
@@ -69,10 +71,10 @@ pub returns-clause-share : goal.returns-clause-share
 returns-clause-share g c = let n : c.from.result ≡ one_if c.is_first-first.result = (let f = c.from.ensures in search rules) in
     subst (λ (u : PartData g.row.A.Denot g.row.A-Value.Denot). HoldsShareIn (g.A.PathAlgebra.meaning c.args.algebra)
     (network c.args.graph.now c.args.source) (place_in
-    (record { diffusion = record { algebra = c.args.algebra; roads = c.args.graph.now; source = c.args.source }; plan = c.args.plan.now }))
+    (record { diffusion = record { algebra = c.args.algebra; roads = c.args.graph.now; source = c.args.source }; plan = c.args.plan.now; order = c.args.order }))
     (opening (g.A.PathAlgebra.meaning c.args.algebra) (network c.args.graph.now c.args.source)) u)
     (sym (made_seen (g.A.PathAlgebra.meaning c.args.algebra)
-    (record { diffusion = record { algebra = c.args.algebra; roads = c.args.graph.now; source = c.args.source }; plan = c.args.plan.now })
+    (record { diffusion = record { algebra = c.args.algebra; roads = c.args.graph.now; source = c.args.source }; plan = c.args.plan.now; order = c.args.order })
     c.args.shard
     (record { roads = c.roads_hold.ensures; source = c.requires.source; plan = c.plan_holds.ensures.plan; covers = c.requires.plan; shard = c.requires.shard })
     c.is_first-first.result c.in_ok-capacities.capacities.items c.deref.result.now c.deref-2.result.now (map (λ b. b.capacity) c.in_ok-outs.outs.items) c.sum_of.result c.from.result
@@ -80,6 +82,6 @@ returns-clause-share g c = let n : c.from.result ≡ one_if c.is_first-first.res
     c.is_first-first.ensures c.in_ok-tables.ensures c.in_ok-capacities.ensures c.deref.ensures.value c.sum_of.ensures c.in_ok-queue.ensures
     (c.deref-2.ensures.value ∙ ap (λ k. set c.in_ok-capacities.capacities.items k 0) c.shard.view_is) c.in_ok-outs.ensures.items c.in_ok-outs.ensures.capacities n))
     (opened_holds (g.A.PathAlgebra.meaning c.args.algebra)
-    (record { diffusion = record { algebra = c.args.algebra; roads = c.args.graph.now; source = c.args.source }; plan = c.args.plan.now })
+    (record { diffusion = record { algebra = c.args.algebra; roads = c.args.graph.now; source = c.args.source }; plan = c.args.plan.now; order = c.args.order })
     c.args.shard
     (record { roads = c.roads_hold.ensures; source = c.requires.source; plan = c.plan_holds.ensures.plan; covers = c.requires.plan; shard = c.requires.shard }))

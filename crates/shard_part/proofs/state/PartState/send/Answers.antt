@@ -1,23 +1,23 @@
 use Rattle.std.proofs.Common.{rules, ap, refl, sym, ◌∙◌, ◌++◌, ◌∷◌, [], length, ◌<◌, eqb-true, eq-eqb}
 use Rattle.std.proofs.lemmas.Bool.{false≢true}
-use Rattle.circular_buffer.specs.Buffer.{buffer}
+use Rattle.shard_store.specs.Queue.{line}
 use Rattle.shard_part.proofs.Rings.{put_here_leaves, put_there_leaves, there_in}
 use Rattle.shard_part.proofs.state.PartState.send.Goals as goal
 
-pub push-requires : goal.push-requires
-push-requires g c = (put_here_leaves (g.A.PathAlgebra.meaning c.self.inside.algebra) _ c.args.self.now _ _ _ c.args.item c.args.to
-    (buffer (c.self.inside.queue.items ++ c.args.item ∷ []) c.self.inside.queue.capacity) c.self.view_is c.self.invariant c.requires.shard
-    c.requires.arc c.requires.made c.requires.clear (eqb-true c.args.to c.self.inside.shard (sym c.eq.ensures ∙ c.if-eq.true)) refl).0
+pub push-requires-after_bounds : goal.push-requires-after_bounds
+push-requires-after_bounds g c κs within = (put_here_leaves (g.A.PathAlgebra.meaning c.self.inside.algebra) _ c.args.self.now _ _ _ c.args.item c.args.to
+    (line (c.self.inside.queue.items ++ c.args.item ∷ []) 0 c.self.inside.queue.room) c.self.view_is c.self.invariant c.requires.shard
+    c.requires.arc c.requires.made c.requires.clear (eqb-true c.args.to c.self.inside.shard (sym c.eq.ensures ∙ c.if-eq.true)) refl refl).0
 
 pub invariant_of-self : goal.invariant_of-self
 invariant_of-self g c = (put_here_leaves (g.A.PathAlgebra.meaning c.self.inside.algebra) _ c.args.self.now _ _ _ c.args.item c.args.to c.push.new.self
     c.self.view_is c.self.invariant c.requires.shard c.requires.arc c.requires.made c.requires.clear
-    (eqb-true c.args.to c.self.inside.shard (sym c.eq.ensures ∙ c.if-eq.true)) c.push.ensures).1
+    (eqb-true c.args.to c.self.inside.shard (sym c.eq.ensures ∙ c.if-eq.true)) (ap (λ q. q.items) c.push.ensures) (ap (λ q. q.room) c.push.ensures)).1
 
 pub returns-then-eq : goal.returns-then-eq
 returns-then-eq g c = (put_here_leaves (g.A.PathAlgebra.meaning c.self.inside.algebra) _ c.args.self.now _ _ _ c.args.item c.args.to c.push.new.self
     c.self.view_is c.self.invariant c.requires.shard c.requires.arc c.requires.made c.requires.clear
-    (eqb-true c.args.to c.self.inside.shard (sym c.eq.ensures ∙ c.if-eq.true)) c.push.ensures).2
+    (eqb-true c.args.to c.self.inside.shard (sym c.eq.ensures ∙ c.if-eq.true)) (ap (λ q. q.items) c.push.ensures) (ap (λ q. q.room) c.push.ensures)).2
 
 pub index_mut-requires : goal.index_mut-requires
 index_mut-requires g c = let l : c.args.to < length c.self.inside.outs.items = there_in (g.A.PathAlgebra.meaning c.self.inside.algebra)

@@ -4,7 +4,8 @@ use Rattle.shard_store.proofs.queue.Queue.append.Given as goal
 abbrev pub invariant-loop-item : goal.invariant-loop-item
 invariant-loop-item g l = record {
   joined : l.self.items ++ l.other.items ≡ l.fn.self.items ++ l.fn.other.items;
-  own : l.self.capacity ≡ l.fn.self.capacity;
+  ranked : l.self.ranked ≡ l.fn.self.ranked;
+  own : l.self.room ≡ l.fn.self.room;
   other : l.other.capacity ≡ l.fn.other.capacity;
 }
 

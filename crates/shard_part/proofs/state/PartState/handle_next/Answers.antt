@@ -1,7 +1,7 @@
 use Rattle.std.proofs.Common.{ap, ◌∙◌}
 use Rattle.shard_part.specs.Moves.{with_taken}
-use Rattle.shard_part.proofs.ToldKept.{front_taken, front_told}
-use Rattle.shard_part.proofs.state.PartState.handle_front.Goals as goal
+use Rattle.shard_part.proofs.ToldKept.{next_taken, next_told}
+use Rattle.shard_part.proofs.state.PartState.handle_next.Goals as goal
 
 pub returns-in-Some-clause-taken : goal.returns-in-Some-clause-taken
 returns-in-Some-clause-taken g c = λ _. (
@@ -14,11 +14,11 @@ returns-in-Some-clause-taken g c = λ _. (
 pub returns-in-Some-clause-item : goal.returns-in-Some-clause-item
 returns-in-Some-clause-item g c = λ _ told. (
   c.in-Some.item,
-  front_taken g.A.PathAlgebra.meaning _ c.args.self.now c.pop.new.self c.handle_item.new.self _ _ _ c.in-Some.item c.self.view_is c.self.invariant c.laws_hold.ensures.lawful c.in-Some.ensures.some
+  next_taken g.A.PathAlgebra.meaning _ c.args.self.now c.pop.new.self c.handle_item.new.self _ _ _ c.in-Some.item c.self.view_is c.self.invariant c.laws_hold.ensures.lawful c.in-Some.ensures.some
       (c.handle_item.ensures ∙ (λ i. with_taken (g.A.PathAlgebra.meaning (ap (λ u. u.setup.diffusion.algebra) c.in-Some.ensures.some.same i)) c.in-Some.item c.pop.new.self)) told,
 )
 
 pub returns-in-Some-clause-told : goal.returns-in-Some-clause-told
-returns-in-Some-clause-told g c = λ told. front_told g.A.PathAlgebra.meaning _ c.args.self.now c.pop.new.self c.handle_item.new.self _ _ _
+returns-in-Some-clause-told g c = λ told. next_told g.A.PathAlgebra.meaning _ c.args.self.now c.pop.new.self c.handle_item.new.self _ _ _
     c.in-Some.item c.self.view_is c.self.invariant c.laws_hold.ensures.lawful c.in-Some.ensures.some
     (c.handle_item.ensures ∙ (λ i. with_taken (g.A.PathAlgebra.meaning (ap (λ u. u.setup.diffusion.algebra) c.in-Some.ensures.some.same i)) c.in-Some.item c.pop.new.self)) told

@@ -1,6 +1,7 @@
--- What the moves do with the item that was taken from the front is one item taken.
+-- What the moves do with the item whose turn it is is one item taken.
 use Rattle.std.proofs.Common.{◌≡◌, ◌≢◌, ℕ, zero, suc, ◌<◌, ◌≤◌, Bool, true, false, cond, Option, Some, None, List, [], ◌∷◌, ◌++◌, length, set, get_or, refl, sym, ap, ◌∙◌, subst, inl, inr, arith, length-set, get_or-set_same, get_or-set_other, eqb-true, eq-eqb, Contains}
 use Rattle.std.proofs.lemmas.Bool.{cond-true, cond-false}
+use Rattle.std.specs.List.Sorted.{IsPermutation}
 use Rattle.scholten_core.specs.declared.token.Token.TheVariants.{Idle}
 use Rattle.scholten_core.specs.declared.item.Item.{Item}
 use Rattle.scholten_core.specs.declared.item.Item.TheVariants.{Message as MessageOn, Signal as SignalOn}
@@ -15,8 +16,9 @@ use Rattle.shard_part.specs.PartState.{PartData, state_in, token_if, mine, verte
 use Rattle.shard_store.specs.Setup.{SetupData, network_of, place_in, IsPlanned}
 use Rattle.shard_part.specs.Weights.{Channels, channels_of, message_weight, signal_weight}
 use Rattle.shard_store.specs.Totals.{total}
-use Rattle.shard_part.specs.Handling.{routes, route, arrive_here, settle_here, taken, made, HandledItemIn}
+use Rattle.shard_part.specs.Handling.{routes, route, arrive_here, settle_here, taken, made, IsInTurn, HandledItemIn}
 use Rattle.shard_store.specs.Outgoing.{outgoing}
+use Rattle.shard_store.specs.Queue.{Room}
 use Rattle.shard_store.specs.Rows.{Rows}
 use Rattle.shard_part.specs.Moves.{RepInvariant, IsPopped, engaged_or_answered, offered, offered_all, rested, with_value, with_free, with_taken}
 use Rattle.shard_part.specs.Part.{OwnIdleIsTold}
@@ -42,7 +44,7 @@ pub record IsFit {S V : Type 0} (p : PartData S V) : Type 0 where
   pub signalled : p.signalled ≤ top
   pub accepted : p.accepted ≤ top
 
-pub stored_fit : {S V : Type 0} (p : PartData S V) (r : Rows V) (n : ℕ) (ns : List ℕ) → RepInvariant p r n ns → IsFit p
+pub stored_fit : {S V : Type 0} (p : PartData S V) (r : Rows V) (n : Room) (ns : List ℕ) → RepInvariant p r n ns → IsFit p
 stored_fit p r n ns D = record {
   labels = table_long _ r.labels p.labels None (suc p.setup.diffusion.roads.vertices) D.seen.labels;
   engagers = table_long _ r.engagers p.engagers None (suc p.setup.diffusion.roads.vertices) D.seen.engagers;
@@ -65,6 +67,16 @@ module _ {V : Type 0} (A : Algebra V) where
   answer_told : (a : ℕ) (o : Option ℕ) → total message_weight (item_of {V = V} a (answer_to o)) ≡ 0
   answer_told a None = refl
   answer_told a (Some e) = refl
+
+module _ {S V : Type 0} where
+  -- the ends of an arc are vertices
+  pub head_within : (p : PartData S V) → IsPlanned p.setup p.shard → (a : ℕ) → IsArc (network_of p.setup) a → (network_of p.setup).head a ≤ p.setup.diffusion.roads.vertices
+  head_within p P zero r = let e = head_of_entry p.setup P.source in let s = P.source.1 in omega (arith, e, s)
+  head_within p P (suc k) r = (head_of_arc p.setup P.roads (suc k) (λ z. omega (arith, z)) r).2
+
+  pub tail_within : (p : PartData S V) → IsPlanned p.setup p.shard → (a : ℕ) → IsArc (network_of p.setup) a → (network_of p.setup).tail a ≤ p.setup.diffusion.roads.vertices
+  tail_within p P zero r = let e = tail_of_entry p.setup in omega (arith, e)
+  tail_within p P (suc k) r = (tail_of_arc p.setup P.roads (suc k) (λ z. omega (arith, z)) r).2
 
 module _ {S V : Type 0} (A : Algebra V) where
   pub has_told : (p : PartData S V) → OwnIdleIsTold p → HasTold A (network_of p.setup) (mine (place_in p.setup) p.shard) 0 (state_in p)
@@ -216,18 +228,10 @@ module _ {S V : Type 0} (A : Algebra V) where
       subst (λ u. Made A (settle_here A N v (freed A N (suc k) (state_in p))) (settle_made A N v (freed A N (suc k) (state_in p)) (outgoing N v)) p1 (rested A v u)) (offered_alone v (suc k) p1) M in
       record { setup = Q.setup; shard = Q.shard; tables = Q.tables; channels = Q.channels; sent = Q.sent; signalled = Q.signalled; delivered = Q.delivered; accepted = Q.accepted }
 
-  head_within : (p : PartData S V) → IsPlanned p.setup p.shard → (a : ℕ) → IsArc (network_of p.setup) a → (network_of p.setup).head a ≤ p.setup.diffusion.roads.vertices
-  head_within p P zero r = let e = head_of_entry p.setup P.source in let s = P.source.1 in omega (arith, e, s)
-  head_within p P (suc k) r = (head_of_arc p.setup P.roads (suc k) (λ z. omega (arith, z)) r).2
-
-  tail_within : (p : PartData S V) → IsPlanned p.setup p.shard → (a : ℕ) → IsArc (network_of p.setup) a → (network_of p.setup).tail a ≤ p.setup.diffusion.roads.vertices
-  tail_within p P zero r = let e = tail_of_entry p.setup in omega (arith, e)
-  tail_within p P (suc k) r = (tail_of_arc p.setup P.roads (suc k) (λ z. omega (arith, z)) r).2
-
   -- the item i is taken, with zs after it
-  handled : Lawful A → (p : PartData S V) (i : Item V) (zs : List (Item V)) → IsPlanned p.setup p.shard → IsFit p → OwnIdleIsTold p → p.queue ≡ i ∷ zs → IsArc (network_of p.setup) (item_arc i) →
+  handled : Lawful A → (p : PartData S V) (i : Item V) (zs : List (Item V)) → IsPlanned p.setup p.shard → IsFit p → OwnIdleIsTold p → IsPermutation p.queue (i ∷ zs) → IsInTurn A (network_of p.setup) p.setup.order (state_in p) p.queue i zs → IsArc (network_of p.setup) (item_arc i) →
       place_in p.setup (vertex_of (network_of p.setup) i) ≡ p.shard → HandledItemIn A (network_of p.setup) (place_in p.setup) p i (with_taken A i (record p { queue = zs }))
-  handled L p (MessageOn a x) zs P F T front r here =
+  handled L p (MessageOn a x) zs P F T left in_turn r here =
       let p0 : PartData S V = record p { queue = zs; delivered = counted_on 1 p.delivered } in
       let M = message_taken L p0 a x (formed p p.shard P)
       (record {
@@ -242,7 +246,8 @@ module _ {S V : Type 0} (A : Algebra V) where
       }) T here r.0 (head_within p P a r) in
       record {
         rest = zs;
-        front = front;
+        left = left;
+        in_turn = in_turn;
         setup = M.setup;
         shard = M.shard;
         tables = record { label = λ v _. M.tables.label v refl; engager = λ v _. M.tables.engager v refl; told = λ b _. M.tables.told b refl; idle = λ b _. M.tables.idle b refl };
@@ -252,7 +257,7 @@ module _ {S V : Type 0} (A : Algebra V) where
         delivered = M.delivered;
         accepted = M.accepted ∙ sym (counted_none p.accepted F.accepted);
       }
-  handled L p (SignalOn a) zs P F T front r here =
+  handled L p (SignalOn a) zs P F T left in_turn r here =
       let p0 : PartData S V = record p { queue = zs; accepted = counted_on 1 p.accepted } in
       let M = signal_taken L p0 a (formed p p.shard P) (record {
         labels = F.labels;
@@ -266,7 +271,8 @@ module _ {S V : Type 0} (A : Algebra V) where
       }) T here r.1 (tail_within p P a r) in
       record {
         rest = zs;
-        front = front;
+        left = left;
+        in_turn = in_turn;
         setup = M.setup;
         shard = M.shard;
         tables = record { label = λ v _. M.tables.label v refl; engager = λ v _. M.tables.engager v refl; told = λ b _. M.tables.told b refl; idle = λ b _. M.tables.idle b refl };
@@ -278,11 +284,11 @@ module _ {S V : Type 0} (A : Algebra V) where
       }
 
   -- the front item was taken off the queue, and did what it does
-  pub popped_taken : Lawful A → (p m q : PartData S V) (i : Item V) → IsPlanned p.setup p.shard → IsFit p → OwnIdleIsTold p → IsPopped p m i
+  pub popped_taken : Lawful A → (p m q : PartData S V) (i : Item V) → IsPlanned p.setup p.shard → IsFit p → OwnIdleIsTold p → IsPopped A p m i
       → q ≡ with_taken A i m → HandledItemIn A (network_of p.setup) (place_in p.setup) p i q
   popped_taken L p m q i P F T O e =
       let s : m.setup ≡ p.setup = ap (λ (u : PartData S V). u.setup) O.same in
       let z : m.shard ≡ p.shard = ap (λ (u : PartData S V). u.shard) O.same in
       let r : IsArc (network_of p.setup) (item_arc i) = subst (λ (t : SetupData S). IsArc (network_of t) (item_arc i)) s O.arc in
       let here : place_in p.setup (vertex_of (network_of p.setup) i) ≡ p.shard = subst (λ (t : SetupData S). place_in t (vertex_of (network_of t) i) ≡ p.shard) s (O.here ∙ z) in
-      subst (HandledItemIn A (network_of p.setup) (place_in p.setup) p i) (ap (with_taken A i) (sym O.same) ∙ sym e) (handled L p i m.queue P F T O.front r here)
+      subst (HandledItemIn A (network_of p.setup) (place_in p.setup) p i) (ap (with_taken A i) (sym O.same) ∙ sym e) (handled L p i m.queue P F T O.left O.in_turn r here)

@@ -1,0 +1,7 @@
+use Rattle.std.proofs.Common.{◌≡◌, drop, map}
+use Rattle.shard_store.specs.Totals.{counted}
+use Rattle.shard_store.specs.Queue.{ranked_item}
+use Rattle.shard_store.proofs.queue.is_ranked.Given as goal
+
+abbrev pub invariant-loop-i : goal.invariant-loop-i
+invariant-loop-i g l = counted l.arc (map ranked_item l.ranked) ≡ counted l.arc (map ranked_item (drop l.i l.ranked))

@@ -36,6 +36,10 @@ pub sum_most : (f g : ℕ → ℕ) (n : ℕ) → ((b : ℕ) → f b ≤ g b) →
 sum_most f g zero h = omega arith
 sum_most f g (suc n) h = let p = sum_most f g n h in let q = h n in omega (arith, p, q)
 
+pub sum_below_most : (f g : ℕ → ℕ) (n : ℕ) → ((b : ℕ) → b < n → f b ≤ g b) → sum_below f n ≤ sum_below g n
+sum_below_most f g zero h = omega arith
+sum_below_most f g (suc n) h = let r = sum_below_most f g n (λ b l. h b (omega (arith, l))) in let k = h n (omega arith) in omega (arith, r, k)
+
 -- the sums differ by what is at a
 pub sum_at : (f g : ℕ → ℕ) (a n : ℕ) → a < n → ((b : ℕ) → b ≢ a → f b ≡ g b) → sum_below f n + g a ≡ sum_below g n + f a
 sum_at f g a zero l h = absurd (omega (arith, l))

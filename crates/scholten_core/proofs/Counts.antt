@@ -299,7 +299,7 @@ module _ {V : Type 0} (A : Algebra V) (N : Network) where
   rest_told v c (Some e) false = refl
   rest_told v c (Some e) true = refl
 
-  rest_label : (v : ℕ) (c : CoreState V) (o : Option ℕ) (t : Bool) → (released A N v c o t).label ≡ c.label
+  pub rest_label : (v : ℕ) (c : CoreState V) (o : Option ℕ) (t : Bool) → (released A N v c o t).label ≡ c.label
   rest_label v c None t = refl
   rest_label v c (Some e) false = refl
   rest_label v c (Some e) true = refl

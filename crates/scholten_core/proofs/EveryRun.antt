@@ -1,25 +1,29 @@
 -- What is promised of every reached state and its accounts, and of every ended one, in the words of the graph.
-use Rattle.std.proofs.Common.{◌≡◌, ℕ, ◌≤◌, Option, Some, None, List, [], ◌∷◌, refl, sym, ap, ◌∙◌, suc, ◌+◌, Bool, is_some, inl, inr, length, arith}
+use Rattle.std.proofs.Common.{◌≡◌, ℕ, ◌<◌, ◌≤◌, ◌^◌, Option, Some, None, List, [], ◌∷◌, refl, sym, ap, subst, ◌∙◌, suc, ◌+◌, Bool, true, is_some, inl, inr, length, arith}
 use Rattle.road_graph.specs.GraphData.{GraphData, IsGraph, HasVertex, HasArc, arc_of}
 use Rattle.path_algebra.specs.Algebra.{Algebra, IsLawful}
 use Rattle.path_algebra.specs.Walks.{IsBestLabel, IsWalkValue}
 use Rattle.scholten_core.specs.declared.event.Event.{Event}
-use Rattle.scholten_core.specs.Network.{network, head_of}
-use Rattle.scholten_core.specs.Diffusion.{CoreState, state_after, HasEnded, IsQuiet, opening}
+use Rattle.scholten_core.specs.Network.{network, head_of, WellFormed}
+use Rattle.scholten_core.specs.Diffusion.{CoreState, extend_label, state_after, HasEnded, IsQuiet, opening}
 use Rattle.scholten_core.specs.Rooted.{IsRooted, NeutralIsIdle, HeldIsEngager}
 use Rattle.scholten_core.specs.Reached.{LabelsAreWalkValues, MessagesAreWalkValues, EntryIsOrigin, LabelsAreBest}
-use Rattle.scholten_core.proofs.Networks.{well_formed, tail-arc, tail-entry}
+use Rattle.scholten_core.proofs.Networks.{well_formed, tail-arc, tail-entry, weight-arc}
 use Rattle.scholten_core.proofs.SharedWalks.{value_in_graph, value_in_network}
 use Rattle.scholten_core.proofs.Kept.{Kept}
 use Rattle.scholten_core.proofs.Ended.{IsSolved, reached_kept, reached_rooted, ended}
 use Rattle.std.proofs.lemmas.Bool.{cases_Bool}
 use Rattle.path_algebra.specs.Given.{reach}
 use Rattle.path_algebra.specs.Laws.{reach_laws}
-use Rattle.scholten_core.specs.Sums.{one_if}
+use Rattle.scholten_core.specs.Sums.{sum_below, one_if}
 use Rattle.scholten_core.specs.Accounts.{sent_on, label_changes, totals_of, AreEqualTotals, AreMarksOfReached, count_marked}
+use Rattle.scholten_core.specs.BestFirst.{IsBestFirst, AreMarksOfWalkEnds}
+use Rattle.scholten_core.proofs.BestFirst.{best_first_sends}
+use Rattle.std.specs.Prelude.{IsSome, IsTrue}
+use Rattle.scholten_core.proofs.Walks.{walk_value_is_value}
 use Rattle.scholten_core.proofs.Counts.{sends_at_most, all_equal}
-use Rattle.scholten_core.proofs.Reach.{IsOneValued, reach_sends, walk_end}
-use Rattle.scholten_core.proofs.Basics.{sum_below_same, sum_first}
+use Rattle.scholten_core.proofs.Reach.{IsOneValued, reach_sends, total_by_arc, walk_end}
+use Rattle.scholten_core.proofs.Basics.{one_if-most, sum_same, sum_below_same, sum_below_most, sum_first}
 
 module _ {V : Type 0} (A : Algebra V) (g : GraphData) (s : ℕ) where
   pub run_kept_at : IsLawful A → IsGraph g → 1 ≤ s → (es : List Event) → Kept A (network g s) 0 (state_after A (network g s) es)
@@ -102,3 +106,80 @@ module _ (g : GraphData) (s : ℕ) where
           → (state_after reach (network g s) es).label 0 ≡ o → (state_after reach (network g s) es).label 0 ≡ None
       no_entry_label K None h = h
       no_entry_label K (Some x) h = absurd (let w = K.label_walk 0 x h in walk_end reach (network g s) (well_formed g s R S.0) s w.0 0 (λ z. let l = S.0 in omega (arith, l, z)) w.1 refl)
+
+-- best first, a message goes along each arc that a label extends along, and along no other
+module _ {V : Type 0} (A : Algebra V) (g : GraphData) (s : ℕ) (L : IsLawful A) (R : IsGraph g) (S : HasVertex g s) (es : List Event) (B : IsBestFirst A (network g s) (opening A (network g s)) es) where
+  abbrev label_at : ℕ → Option V
+  label_at v = (state_after A (network g s) es).label v
+
+  best_first_on : (b : ℕ) → sent_on A (network g s) b (opening A (network g s)) es ≡ one_if (is_some (extend_label A (label_at ((network g s).tail b)) ((network g s).weight b)))
+  best_first_on = best_first_sends A (network g s) L (well_formed g s R S.0) es B
+
+  pub best_first_once : (b : ℕ) → sent_on A (network g s) b (opening A (network g s)) es ≤ 1
+  best_first_once b = let e = best_first_on b in let m = one_if-most (is_some (extend_label A (label_at ((network g s).tail b)) ((network g s).weight b))) in omega (arith, e, m)
+
+  no_entry : (o : Option V) → label_at 0 ≡ o → label_at 0 ≡ None
+  no_entry None h = h
+  no_entry (Some x) h = absurd (
+      let w = (run_kept_at A g s L R S.0 es).label_walk 0 x h in
+      walk_end A (network g s) (well_formed g s R S.0) s w.0 0 (λ z. let l = S.0 in omega (arith, l, z)) w.1 refl)
+
+  -- does the label of its tail extend along the arc
+  abbrev extends : ℕ → Bool
+  extends a = is_some (extend_label A (label_at (arc_of g a).tail) (arc_of g a).weight)
+
+  best_first_total : (totals_of A (network g s) es).sent ≡ 1 + sum_below (λ b. one_if (extends (suc b))) (length g.arcs)
+  best_first_total =
+      let each : ℕ → ℕ = λ b. one_if (is_some (extend_label A (label_at ((network g s).tail b)) ((network g s).weight b))) in
+      let first : each 0 ≡ 0 = ap (λ v. one_if (is_some (extend_label A (label_at v) ((network g s).weight 0)))) (tail-entry g)
+      ∙ ap (λ o. one_if (is_some (extend_label A o ((network g s).weight 0)))) (no_entry (label_at 0) refl) in
+      let all = total_by_arc A (network g s) (opening A (network g s)) es ∙ sum_same (λ b. sent_on A (network g s) b (opening A (network g s)) es) each (suc (length g.arcs)) best_first_on in
+      let split = sum_first each (length g.arcs) in
+      let rest = sum_below_same (λ b. each (suc b)) (λ b. one_if (extends (suc b))) (length g.arcs) (λ b l.
+      (λ i. one_if (is_some (extend_label A (label_at (tail-arc g (suc b) (omega arith) i)) (weight-arc g (suc b) (omega arith) i))))) in
+      omega (arith, first, all, split, rest)
+
+  mark_covers : (o : Option V) (w : ℕ) (m : Bool) → (IsSome o → IsTrue m) → one_if (is_some (extend_label A o w)) ≤ one_if m
+  mark_covers None w m h = omega arith
+  mark_covers (Some x) w m h = let t : one_if m ≡ 1 = ap one_if (h refl) in let l = one_if-most (is_some (extend_label A (Some x) w)) in omega (arith, t, l)
+
+  pub best_first_most : (marked : ℕ → Bool) → ((a : ℕ) → HasArc g a → IsSome (label_at (arc_of g a).tail) → IsTrue (marked a)) → (totals_of A (network g s) es).sent ≤ 1 + count_marked g marked
+  best_first_most marked M =
+      let t = best_first_total in
+      let m = sum_below_most (λ b. one_if (extends (suc b))) (λ b. one_if (marked (suc b))) (length g.arcs)
+      (λ b l. mark_covers (label_at (arc_of g (suc b)).tail) (arc_of g (suc b)).weight (marked (suc b)) (M (suc b) (omega arith, omega (arith, l)))) in
+      omega (arith, t, m)
+
+  -- at the end, the marks of all arcs that some walk with a value ends in
+  extends_marked : HasEnded (state_after A (network g s) es) → (marked : ℕ → Bool) → AreMarksOfWalkEnds A g s marked → (a : ℕ) → HasArc g a → extends a ≡ marked a
+  extends_marked q marked M a h = go (label_at (arc_of g a).tail) refl (ended_is_best A g s L R S.0 es q (arc_of g a).tail (R.ends a h).0)
+    where
+      W : WellFormed (network g s)
+      W = well_formed g s R S.0
+
+      weighs : (arc_of g a).weight < 2 ^ 32
+      weighs = subst (λ w. w < 2 ^ 32) (weight-arc g a h.0) (W.weighs a (λ z. let t = tail-arc g a h.0 in let l = (R.ends a h).0.0 in omega (arith, z, t, l)))
+
+      walked : (x : V) → IsWalkValue A g (s ∷ []) (arc_of g a).tail x → A.is_value x ≡ true
+      walked x w = walk_value_is_value A (network g s) L W (arc_of g a).tail x (value_in_network A g s R (arc_of g a).tail x w)
+
+      extended : (z : V) → IsBestLabel A g (s ∷ []) (arc_of g a).tail (Some z) → (o : Option V) → A.extend z (arc_of g a).weight ≡ o → is_some o ≡ marked a
+      extended z b (Some y) e = sym ((M a h).1 (z, y, b.attained, e))
+      extended z b None e = elim (cases_Bool (marked a)) [
+        | inr f ↦ sym f
+        | inl t ↦ absurd (
+            let r = (M a h).0 t in
+            let m = L.monotone z r.0 (arc_of g a).weight r.1 (walked z b.attained) (walked r.0 r.2) weighs (b.least r.0 r.2) r.3 in
+            let n = m.1 in cc)
+      ]
+
+      go : (o : Option V) → label_at (arc_of g a).tail ≡ o → IsBestLabel A g (s ∷ []) (arc_of g a).tail o → extends a ≡ marked a
+      go (Some z) e b = ap (λ o. is_some (extend_label A o (arc_of g a).weight)) e ∙ extended z b (A.extend z (arc_of g a).weight) refl
+      go None e b = ap (λ o. is_some (extend_label A o (arc_of g a).weight)) e ∙ elim (cases_Bool (marked a)) [ inl t ↦ absurd (let r = (M a h).0 t in b r.0 r.2) | inr f ↦ sym f ]
+
+  pub best_first_ended : HasEnded (state_after A (network g s) es) → (marked : ℕ → Bool) → AreMarksOfWalkEnds A g s marked → (totals_of A (network g s) es).sent ≡ 1 + count_marked g marked
+  best_first_ended q marked M =
+      let t = best_first_total in
+      let m = sum_below_same (λ b. one_if (extends (suc b))) (λ b. one_if (marked (suc b))) (length g.arcs)
+      (λ b l. ap one_if (extends_marked q marked M (suc b) (omega arith, omega (arith, l)))) in
+      omega (arith, t, m)

@@ -7,6 +7,7 @@ pub mod Shares
 pub mod Items
 pub mod Counts
 mod Reach
+mod BestFirst
 pub mod Networks
 mod SharedWalks
 pub mod Quick

@@ -143,7 +143,7 @@ module _ {V : Type 0} (A : Algebra V) (N : Network) where
   walk_end W u [] v n w = λ e. n (w ∙ e)
   walk_end W u (a ∷ p) v n w = walk_end W (N.head a) p v (W.head_in a w.0) w.2
 
-  total_by_arc : (c : CoreState V) (es : List Event) → sent_total A N c es ≡ sum_below (λ b. sent_on A N b c es) (suc N.arcs)
+  pub total_by_arc : (c : CoreState V) (es : List Event) → sent_total A N c es ≡ sum_below (λ b. sent_on A N b c es) (suc N.arcs)
   total_by_arc c [] = sym (sum_zero (λ b. 0) (suc N.arcs) (λ b. refl))
   total_by_arc c (e ∷ es) = ap (λ k. count_sent A N c (step A N c e) + k) (total_by_arc (step A N c e) es)
       ∙ sym (sum_add (λ b. one_if (is_message ((step A N c e).token b) && not (is_message (c.token b)))) (λ b. sent_on A N b (step A N c e) es) (suc N.arcs))

@@ -5,6 +5,7 @@ pub mod Sums
 pub mod Deficit
 pub mod Rooted
 pub mod Accounts
+pub mod BestFirst
 pub mod Shares
 pub mod Items
 pub mod IdleIsTold

@@ -1,7 +1,7 @@
 //! A fact of every graph, and theorems over every run, each the contract of a function that computes nothing: a
 //! caller calls it if its own proof needs what it promises.
-ghost use Rattle.std.specs.Prelude.{◌≡◌, ℕ, ◌+◌, ◌*◌, ◌≤◌, ◌⊎◌, Bool, false, List, length};
-ghost use Rattle.road_graph.specs.GraphData.{GraphData, IsGraph, HasVertex};
+ghost use Rattle.std.specs.Prelude.{◌≡◌, ℕ, ◌+◌, ◌*◌, ◌≤◌, ◌⊎◌, Bool, false, IsTrue, IsSome, List, length};
+ghost use Rattle.road_graph.specs.GraphData.{GraphData, IsGraph, HasVertex, HasArc, arc_of};
 ghost use Rattle.path_algebra.specs.Given.{reach};
 ghost use Rattle.path_algebra.specs.SimpleWalks.{simple_walks};
 ghost use Rattle.scholten_core.specs.declared.event.Event.{Event};
@@ -12,6 +12,7 @@ ghost use Rattle.scholten_core.specs.Reached.{LabelsAreWalkValues, MessagesAreWa
 ghost use Rattle.scholten_core.specs.SimpleWalks.{LabelsAreSimpleWalkValues, MessagesExtendSimpleWalks, message_bound};
 ghost use Rattle.scholten_core.specs.Progress.{CanGoOn, CanEnd, state_at, IsBusySchedule, KeepsGoing, IsFairSchedule};
 ghost use Rattle.scholten_core.specs.Accounts.{totals_of, sent_on, label_changes, AreEqualTotals, AreMarksOfReached, count_marked};
+ghost use Rattle.scholten_core.specs.BestFirst.{IsBestFirst, AreMarksOfWalkEnds};
 
 use path_algebra::{PathAlgebra, laws_hold};
 use road_graph::Graph;
@@ -163,3 +164,29 @@ pub fn reach_sends_once_an_arc()
         (marked : ℕ → Bool) → AreMarksOfReached reach g s marked →
         (totals_of reach (network g s) events).sent ≡ 1 + count_marked g marked }
 {}
+
+/// If events take the best waiting message first, at most one message goes along an arc, and at most as
+/// many are sent as there are arcs out of labelled vertices, and one. At the end, exactly one went along
+/// each arc in which some walk with a value ends, and one into the source.
+pub fn best_first_sends_once_an_arc<A: PathAlgebra>(algebra: A)
+    ensures once { (g : GraphData) (s : ℕ) → IsGraph g → HasVertex g s → (events : List Event) →
+        IsBestFirst (A.meaning algebra) (network g s)
+        (opening (A.meaning algebra) (network g s)) events → (b : ℕ) →
+        sent_on (A.meaning algebra) (network g s) b
+        (opening (A.meaning algebra) (network g s)) events ≤ 1 }
+    ensures most { (g : GraphData) (s : ℕ) → IsGraph g → HasVertex g s → (events : List Event) →
+        IsBestFirst (A.meaning algebra) (network g s)
+        (opening (A.meaning algebra) (network g s)) events → (marked : ℕ → Bool) →
+        ((a : ℕ) → HasArc g a →
+        IsSome ((state_after (A.meaning algebra) (network g s) events).label (arc_of g a).tail) →
+        IsTrue (marked a)) →
+        (totals_of (A.meaning algebra) (network g s) events).sent ≤ 1 + count_marked g marked }
+    ensures ended { (g : GraphData) (s : ℕ) → IsGraph g → HasVertex g s → (events : List Event) →
+        IsBestFirst (A.meaning algebra) (network g s)
+        (opening (A.meaning algebra) (network g s)) events →
+        HasEnded (state_after (A.meaning algebra) (network g s) events) →
+        (marked : ℕ → Bool) → AreMarksOfWalkEnds (A.meaning algebra) g s marked →
+        (totals_of (A.meaning algebra) (network g s) events).sent ≡ 1 + count_marked g marked }
+{
+    laws_hold(algebra);
+}

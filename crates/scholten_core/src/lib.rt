@@ -19,10 +19,10 @@ pub use arcs::{ENTRY, head_of, tail_of};
 pub use event::Event;
 pub use item::Item;
 pub use laws::{
-    a_run_is_never_stuck, ended_runs_are_best, ended_totals_are_equal, every_diffusion_can_end,
-    every_run_is_finite, every_run_is_sound, every_schedule_ends,
-    labels_are_values_of_simple_walks, messages_follow_label_changes, reach_sends_once_an_arc,
-    roads_hold,
+    a_run_is_never_stuck, best_first_sends_once_an_arc, ended_runs_are_best,
+    ended_totals_are_equal, every_diffusion_can_end, every_run_is_finite, every_run_is_sound,
+    every_schedule_ends, labels_are_values_of_simple_walks, messages_follow_label_changes,
+    reach_sends_once_an_arc, roads_hold,
 };
 pub use running::{Core, NoMessage, NoSignal};
 pub use token::Token;

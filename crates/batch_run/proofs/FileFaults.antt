@@ -1,5 +1,5 @@
 -- A fault of a file, as a run reports it.
-use Rattle.std.proofs.Common.{◌≡◌, ◌≢◌, ◌≤◌, ◌↔◌, ◌⊎◌, ◌∙◌, ℕ, Result, Ok, Err, inl, inr, sym, ap, arith}
+use Rattle.std.proofs.Common.{◌≡◌, ◌≢◌, ◌≤◌, ◌↔◌, ◌∙◌, ℕ, Result, Ok, Err, inl, inr, sym, ap, arith}
 use Rattle.std.proofs.lemmas.Bool.{cases_eq}
 use Rattle.road_text.specs.Reads.{IsNumberFrom}
 use Rattle.road_text.specs.declared.faults.ReadFault.{ReadFault}

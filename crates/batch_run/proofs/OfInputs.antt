@@ -1,5 +1,5 @@
 -- What a run promises of inputs that were read, from what answering them promises.
-use Rattle.std.proofs.Common.{◌≡◌, ◌≢◌, ◌⊎◌, ◌↔◌, ◌<◌, ◌≤◌, inl, inr, ℕ, List, Option, Result, Ok, Err, Bool, false, refl, sym, subst, ap, ◌∙◌, arith}
+use Rattle.std.proofs.Common.{◌≡◌, ◌≢◌, ◌⊎◌, ◌↔◌, ◌<◌, ◌≤◌, inl, inr, ℕ, List, Option, Result, Ok, Err, Bool, false, refl, sym, subst, ap, arith}
 use Rattle.std.specs.Prelude.{IfErr, OnOk}
 use Rattle.std.proofs.lemmas.Result.{IfErr-at_err, IfErr-weaker}
 use Rattle.road_graph.specs.GraphData.{GraphData}
@@ -8,11 +8,11 @@ use Rattle.path_algebra.specs.Algebra.{Algebra}
 use Rattle.batch_run.specs.Stopping.{Stalls, Closes}
 use Rattle.batch_run.specs.declared.faults.RunFault.{RunFault}
 use Rattle.batch_run.specs.declared.faults.File.{File}
-use Rattle.batch_run.specs.declared.faults.File.TheVariants.{Graph, Questions, NoFile}
+use Rattle.batch_run.specs.declared.faults.File.TheVariants.{NoFile}
 use Rattle.batch_run.specs.declared.settings.Settings.{Settings}
 use Rattle.batch_run.specs.Answered.{WroteAllOrPrefix, WroteWhole}
 use Rattle.batch_run.specs.InRange.{AreInRange}
-use Rattle.batch_run.specs.Ran.{Begun, BegunWhole, Done, IsRunFaultOf, IsLater, IsPassedOn, IsRoadNumber, by_solver}
+use Rattle.batch_run.specs.Ran.{Begun, BegunWhole, Done, IsRunFaultOf, IsLater, IsPassedOn, by_solver}
 
 -- what holds after each fault but a failed write holds if memory was refused
 pub at_memory : (r : Result (Unit {0}) RunFault) (P : Type 0) → IfErr r (λ f. f.number ≢ 42 → P) → IfErr r (λ f. f.file ≡ NoFile → f.number ≡ 3 → P)

@@ -1,9 +1,8 @@
 -- A batch on its way: the first questions were answered, and their answers written.
-use Rattle.std.proofs.Common.{◌≡◌, ◌≢◌, ℕ, ◌+◌, ◌<◌, ◌≤◌, List, [], ◌∷◌, ◌++◌, length, take, get_or, Option, Result, Ok, Err, Bool, true, false, inl, inr, ◌⊎◌, refl, sym, ap, ◌∙◌, subst, append_assoc, append-nil, arith}
+use Rattle.std.proofs.Common.{◌≡◌, ◌≢◌, ℕ, ◌+◌, ◌<◌, ◌≤◌, List, [], ◌∷◌, ◌++◌, length, take, get_or, Option, Result, Ok, Err, Bool, true, false, inl, inr, refl, sym, ap, ◌∙◌, subst, append_assoc, append-nil, arith}
 use Rattle.std.proofs.lemmas.Bool.{cases_eq}
 use Rattle.std.proofs.lemmas.List.{take_all, take_more}
 use Rattle.std.specs.Io.KnownBytes.{Appends}
-use Rattle.std.specs.Result.{OnOk, IfErr}
 use Rattle.road_graph.specs.GraphData.{GraphData}
 use Rattle.road_text.specs.Written.{WrotePrefix, FailedAfterPrefix}
 use Rattle.road_text.proofs.WriteLaws.{left_more, left_fell, left_appends}
@@ -21,7 +20,7 @@ use Rattle.batch_run.specs.declared.faults.Unanswered.TheVariants as variants
 use Rattle.batch_run.specs.declared.settings.Settings.{Settings}
 use Rattle.worker_fleet.specs.declared.group.GroupFault.{GroupFault}
 use Rattle.worker_fleet.specs.declared.group.GroupFault.TheVariants as group
-use Rattle.batch_run.specs.Answered.{AnsweredAll, WroteAnswer, WroteAnswers, WroteHeader, WroteNext, begun_text, WroteFirst, WroteWhole, WroteAllOrFirst, fault_of_answer, fault_of_group}
+use Rattle.batch_run.specs.Answered.{AnsweredAll, WroteAnswer, WroteAnswers, WroteHeader, WroteNext, begun_text, WroteFirst, WroteWhole, fault_of_answer, fault_of_group}
 use Rattle.worker_fleet.specs.Stops.{Says}
 use Rattle.batch_run.specs.Ran.{IsLater, by_solver}
 

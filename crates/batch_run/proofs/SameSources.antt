@@ -1,5 +1,5 @@
 -- What is solved for one question, for those with the same sources, and for several side by side.
-use Rattle.std.proofs.Common.{arith, ◌≡◌, ℕ, ◌<◌, List, [], ◌∷◌, ◌++◌, length, get_or, map, All, HoldsAt, Vec, Global, subst, sym, ap, ◌∙◌}
+use Rattle.std.proofs.Common.{arith, ◌≡◌, ℕ, ◌<◌, List, [], ◌∷◌, length, get_or, map, All, HoldsAt, Vec, Global, subst, sym}
 use Rattle.std.proofs.lemmas.List.Elements.{All-nil, All-cons, All-head, All-tail}
 use Rattle.std.specs.List.{AllZip}
 use Rattle.std.specs.Prelude.{Result, Ok, Err, IfOk, IfSome, MatchResult, Contains, slice_get}

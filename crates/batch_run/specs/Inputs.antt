@@ -1,7 +1,7 @@
 -- How a run read its inputs, between two moments of them.
 use Rattle.std.specs.Prelude.{◌≡◌, ◌≢◌, ◌+◌, ◌≤◌, ◌↔◌, Result, Err, OnOk, IfErr}
 use Rattle.std.specs.Io.KnownBytes.{IsAtEnd}
-use Rattle.batch_run.specs.declared.faults.File.TheVariants.{Graph, Questions, Bundle, NoFile}
+use Rattle.batch_run.specs.declared.faults.File.TheVariants.{Graph, Questions, Bundle}
 use Rattle.batch_run.specs.declared.faults.RunFault.{RunFault}
 use Rattle.batch_run.specs.Ran.{IsGraphFault, IsQuestionsFault, IsBundleFault}
 use Rattle.batch_run.specs.Streams.{Input}

@@ -1,5 +1,5 @@
 -- Questions that are solved: best labels from their sources, and the tree of these unless the questions are pairs.
-use Rattle.std.specs.Prelude.{◌≡◌, ◌≢◌, ℕ, ◌+◌, ◌<◌, List, [], ◌∷◌, length, get_or, All, Option, IfSome, IsSome, MatchOption}
+use Rattle.std.specs.Prelude.{◌≡◌, ◌≢◌, ℕ, ◌+◌, ◌<◌, List, [], ◌∷◌, length, get_or, Option, IfSome, IsSome, MatchOption}
 use Rattle.road_graph.specs.GraphData.{GraphData}
 use Rattle.road_files.specs.Asked.{Asked, Question, sources_of}
 use Rattle.road_files.specs.declared.questions.Kind.{Kind}

@@ -2,7 +2,7 @@ use Rattle.std.proofs.Common.{subst, Bool}
 use Rattle.std.proofs.lemmas.Result.{IfErr-weaker}
 use Rattle.road_files.specs.Asked.{asked_of}
 use Rattle.batch_run.specs.Reports.{ReportedAllOrPrefix, batch_due}
-use Rattle.batch_run.specs.Solvers.{graph_of, is_plain}
+use Rattle.batch_run.specs.Solvers.{graph_of}
 use Rattle.batch_run.proofs.OfInputs.{done, settings, kinds, placed, stalled, gated, in_no_input, of_no_setting, begun, begun_without_memory, at_memory, begun_when_stopped, later_own, still_read}
 use Rattle.batch_run.proofs.Reporting.{watched}
 use Rattle.batch_run.proofs.run.run_batch.Goals as goal

@@ -1,4 +1,4 @@
-use Rattle.std.proofs.Common.{◌≡◌, inl, inr, Result, Err, refl, arith, ap, ◌∙◌, sym, subst}
+use Rattle.std.proofs.Common.{◌≡◌, inl, inr, Result, Err, refl, arith, ap, ◌∙◌}
 use Rattle.graph_text.specs.GraphFiles.{gr_rules}
 use Rattle.batch_run.specs.Ran.{IsReadAs}
 use Rattle.batch_run.specs.Runs.{input, output}

@@ -9,6 +9,7 @@ use Rattle.road_files.specs.Asked.{Question, Asked}
 use Rattle.path_algebra.specs.Algebra.{Algebra}
 use Rattle.path_algebra.specs.Walks.{AreBest}
 use Rattle.shard_store.specs.Plans.{PlanData}
+use Rattle.shard_store.specs.declared.queue_order.QueueOrder.{QueueOrder}
 use Rattle.shard_store.specs.Setup.{SetupData}
 use Rattle.station.specs.declared.gathering.Gathered.{Gathered}
 use Rattle.station.specs.Gather.{IsGathered}
@@ -25,10 +26,11 @@ use Rattle.batch_run.proofs.OfInputs.{in_no_input, of_no_setting}
 
 -- the counts of a diffusion that was run to its end are those that were gathered
 module _ {S V : Type 0} (meaning : S → Algebra V) where
-  account_of : (algebra : S) (g : GraphData) (plan : PlanData) (source : ℕ) (found : Gathered V) → IsGathered meaning (setup_of algebra g source plan) found →
+  account_of : (algebra : S) (g : GraphData) (plan : PlanData) (order : QueueOrder) (source : ℕ) (found : Gathered V) → IsGathered meaning (setup_of algebra g source plan order) found →
       IsAccount (meaning algebra) g source found.tally
-  account_of algebra g plan source found h = record {
+  account_of algebra g plan order source found h = record {
     plan = plan;
+    order = order;
     labels = found.labels;
     gathered = record { roads = h.roads; source = h.source; labels = h.labels; events = h.events; ended = h.ended; quiet = h.quiet; tally = h.tally; equal = h.equal };
   }
@@ -40,13 +42,13 @@ module _ {S V : Type 0} (meaning : S → Algebra V) where
   pub are_best : (algebra : S) (g : GraphData) (plan : PlanData) (source : ℕ) (e : EndedDiffusion S V) (found : Gathered V) → IsEnded algebra g plan e → e.source ≡ source →
       IsGathered meaning e.floor.setup found → AreBest (meaning algebra) g (source ∷ []) found.labels
   are_best algebra g plan source e found ended from h =
-      subst (λ (s : ℕ). AreBest (meaning algebra) g (s ∷ []) found.labels) from (best_of (setup_of algebra g e.source plan) found
-      (subst (λ (t : SetupData S). IsGathered meaning t found) ended.setup h))
+      subst (λ (s : ℕ). AreBest (meaning algebra) g (s ∷ []) found.labels) from (best_of (setup_of algebra g e.source plan ended.0) found
+      (subst (λ (t : SetupData S). IsGathered meaning t found) ended.1.setup h))
 
   pub is_account : (algebra : S) (g : GraphData) (plan : PlanData) (source : ℕ) (e : EndedDiffusion S V) (found : Gathered V) → IsEnded algebra g plan e → e.source ≡ source →
       IsGathered meaning e.floor.setup found → IsAccount (meaning algebra) g source found.tally
   is_account algebra g plan source e found ended from h =
-      subst (λ (s : ℕ). IsAccount (meaning algebra) g s found.tally) from (account_of algebra g plan e.source found (subst (λ (t : SetupData S). IsGathered meaning t found) ended.setup h))
+      subst (λ (s : ℕ). IsAccount (meaning algebra) g s found.tally) from (account_of algebra g plan ended.0 e.source found (subst (λ (t : SetupData S). IsGathered meaning t found) ended.1.setup h))
 
 module _ {V S : Type 0} (A : Algebra V) (g : GraphData) (may_become : S → Report → S → Type 0) where
   all_more : (ds es : List Due) (rs qs : List Report) → AllZip (IsReportOf A g) ds rs → AllZip (IsReportOf A g) es qs → AllZip (IsReportOf A g) (ds ++ es) (rs ++ qs)

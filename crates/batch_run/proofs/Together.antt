@@ -15,6 +15,7 @@ use Rattle.worker_fleet.specs.Groups.{HasShard, IsDone, Some_of}
 use Rattle.worker_fleet.specs.Turns.{IsOnItsFloor}
 use Rattle.road_graph.specs.GraphData.{GraphData}
 use Rattle.shard_store.specs.Plans.{PlanData}
+use Rattle.shard_store.specs.declared.queue_order.QueueOrder.{QueueOrder}
 use Rattle.road_files.proofs.QuestionLaws.{any_of}
 use Rattle.batch_run.specs.Diffusions.{AreEnded}
 
@@ -89,21 +90,21 @@ pub longer : {X : Type 0} (ys xs : List X) (x : X) → ys ≡ xs ++ x ∷ [] →
 longer ys xs x e = grind (arith, common_steps)
 
 -- what is run to its end stays so while the last is taken away
-module _ {S V W : Type 0} (algebra : S) (roads : GraphData) (plan : PlanData) (sources : List ℕ) (fs gs : List (FloorData S)) (ls ms : List (Vec (StationData S V) W))
+module _ {S V W : Type 0} (algebra : S) (roads : GraphData) (plan : PlanData) (order : QueueOrder) (sources : List ℕ) (fs gs : List (FloorData S)) (ls ms : List (Vec (StationData S V) W))
     (f : FloorData S) (l : Vec (StationData S V) W)
     (is_f : fs ≡ gs ++ f ∷ []) (is_l : ls ≡ ms ++ l ∷ []) (same : length fs ≡ length ls)
-    (each : (q s : ℕ) (e : FloorData S) (k : Vec (StationData S V) W) → q < length fs → AreEnded (setup_of algebra roads (get_or sources q s) plan) (get_or fs q e) (get_or ls q k).items) where
+    (each : (q s : ℕ) (e : FloorData S) (k : Vec (StationData S V) W) → q < length fs → AreEnded (setup_of algebra roads (get_or sources q s) plan order) (get_or fs q e) (get_or ls q k).items) where
   EndedAt : ℕ → FloorData S → Vec (StationData S V) W → Type 0
-  EndedAt q e k = (s : ℕ) → AreEnded (setup_of algebra roads (get_or sources q s) plan) e k.items
+  EndedAt q e k = (s : ℕ) → AreEnded (setup_of algebra roads (get_or sources q s) plan order) e k.items
 
-  pub others_ended : (q s : ℕ) (e : FloorData S) (k : Vec (StationData S V) W) → q < length gs → AreEnded (setup_of algebra roads (get_or sources q s) plan) (get_or gs q e) (get_or ms q k).items
+  pub others_ended : (q s : ℕ) (e : FloorData S) (k : Vec (StationData S V) W) → q < length gs → AreEnded (setup_of algebra roads (get_or sources q s) plan order) (get_or gs q e) (get_or ms q k).items
   unfolding EndedAt
   others_ended q s e k low = others EndedAt fs gs ls ms f l is_f is_l same (λ q e k low s. each q s e k low) q e k low s
 
-  pub last_ended : (stations : List (StationData S V)) (source : ℕ) → stations ≡ l.items → get_or sources (length gs) source ≡ source → AreEnded (setup_of algebra roads source plan) f stations
+  pub last_ended : (stations : List (StationData S V)) (source : ℕ) → stations ≡ l.items → get_or sources (length gs) source ≡ source → AreEnded (setup_of algebra roads source plan order) f stations
   unfolding EndedAt
   last_ended stations source e at =
-      rw e (subst (λ x. AreEnded (setup_of algebra roads x plan) f l.items) at (last_of EndedAt fs gs ls ms f l is_f is_l same (λ q e k low s. each q s e k low) source))
+      rw e (subst (λ x. AreEnded (setup_of algebra roads x plan order) f l.items) at (last_of EndedAt fs gs ls ms f l is_f is_l same (λ q e k low s. each q s e k low) source))
 
 -- what holds of all of a list holds of those at its beginning, and of its last
 pub all_before : {X : Type 0} (P : X → Type 0) (ys xs zs : List X) → ys ≡ xs ++ zs → All P ys → All P xs

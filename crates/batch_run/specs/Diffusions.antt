@@ -6,6 +6,7 @@ use Rattle.road_files.specs.Asked.{Question, sources_of}
 use Rattle.path_algebra.specs.Algebra.{Algebra}
 use Rattle.path_algebra.specs.Walks.{AreBest}
 use Rattle.shard_store.specs.Plans.{PlanData}
+use Rattle.shard_store.specs.declared.queue_order.QueueOrder.{QueueOrder}
 use Rattle.shard_store.specs.Setup.{SetupData}
 use Rattle.post_floor.specs.Data.{FloorData}
 use Rattle.station.specs.Opened.{setup_of}
@@ -36,9 +37,9 @@ pub record AreEnded {A V : Type 0} (t : SetupData A) (floor : FloorData A) (stat
   pub ended : All (λ s. s.ended ≡ true) stations
   pub all : (k : ℕ) → k < t.plan.shards → HasShard k stations
 
--- it was one over this graph and plan, from its source
+-- it was one over this graph and plan, from its source, in some order
 abbrev pub IsEnded : {A V : Type 0} → A → GraphData → PlanData → EndedDiffusion A V → Type 0
-IsEnded algebra roads plan e = AreEnded (setup_of algebra roads e.source plan) e.floor e.stations.items
+IsEnded algebra roads plan e = (order : QueueOrder) × AreEnded (setup_of algebra roads e.source plan order) e.floor e.stations.items
 
 -- a diffusion over the graph was gathered: its labels are best from its source, and its counts are its own
 pub record IsGatheredOver {V : Type 0} (A : Algebra V) (g : GraphData) (d : GatheredDiffusion V) : Type 0 where

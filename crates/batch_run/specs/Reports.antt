@@ -8,6 +8,7 @@ use Rattle.road_files.specs.Asked.{Question, Asked, sources_of}
 use Rattle.path_algebra.specs.Algebra.{Algebra}
 use Rattle.shard_store.specs.declared.tally.Tally.{Tally}
 use Rattle.shard_store.specs.Plans.{PlanData}
+use Rattle.shard_store.specs.declared.queue_order.QueueOrder.{QueueOrder}
 use Rattle.station.specs.Gather.{IsGathered}
 use Rattle.batch_run.specs.declared.faults.File.TheVariants.{NoFile}
 use Rattle.batch_run.specs.declared.faults.RunFault.{RunFault}
@@ -16,13 +17,14 @@ use Rattle.batch_run.specs.declared.watcher.Report.{Report}
 use Rattle.batch_run.specs.declared.watcher.Report.TheVariants.{Begun, Gathered, Answered}
 use Rattle.station.specs.Opened.{setup_of}
 
--- The counts of a diffusion over a graph from a source are those that `gather` reports with some labels, whatever the plan: some events, counted in full, lead from
+-- The counts of a diffusion over a graph from a source are those that `gather` reports with some labels, whatever the plan and the order: some events, counted in full, lead from
 -- its opening to a state that has ended and is quiet; each counter is the lesser of its total and its top, full exactly where a total reaches that, and all totals are
 -- the same.
 pub record IsAccount {V : Type 0} (A : Algebra V) (g : GraphData) (source : ℕ) (tally : Tally) : Type 0 where
   pub plan : PlanData
+  pub order : QueueOrder
   pub labels : List (Option V)
-  pub gathered : IsGathered (λ (B : Algebra V). B) (setup_of A g source plan) (record { labels = labels; tally = tally })
+  pub gathered : IsGathered (λ (B : Algebra V). B) (setup_of A g source plan order) (record { labels = labels; tally = tally })
 
 -- what is due to be reported: that the batch begins, with so many questions and diffusions; that a question's diffusion from a source was gathered; or that so
 -- many questions are answered

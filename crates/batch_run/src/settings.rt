@@ -1,5 +1,8 @@
 //! How a batch is run.
 ghost use Rattle.std.specs.Prelude.{◌≡◌, ◌↔◌, IsTrue, true, false};
+ghost use Rattle.shard_store.specs.declared.queue_order.QueueOrder.TheVariants.{Arrival, BestFirst};
+
+use shard_part::QueueOrder;
 
 /// How a batch is run. The plain solver writes the same bytes whatever settings in range are given.
 #[derive(Clone, Copy, Debug, PartialEq, Eq)]
@@ -16,6 +19,8 @@ pub struct Settings {
     pub turns: u64,
     /// Whether each question is solved by the one-thread solver.
     pub plain: bool,
+    /// Whether a part takes the best waiting message first, and not what came first.
+    pub best_first: bool,
 }
 
 /// What answers the questions of a batch.
@@ -58,10 +63,24 @@ impl Settings {
     }
 }
 
+impl Settings {
+    /// In which order a part takes its items.
+    pub(crate) fn order(&self) -> QueueOrder
+        ensures arrival { (result ≡ Arrival) ↔ (self.now.best_first ≡ false) }
+        ensures best_first { (result ≡ BestFirst) ↔ (self.now.best_first ≡ true) }
+    {
+        if self.best_first {
+            QueueOrder::BestFirst
+        } else {
+            QueueOrder::Arrival
+        }
+    }
+}
+
 impl Default for Settings {
     ghost use Rattle.std.specs.Prelude.{◌≡◌, false};
 
-    ghost is_default = { λ s. s ≡ record { workers = 4; shards = 4; width = 1; budget = 1024; turns = 1000000000000; plain = false } };
+    ghost is_default = { λ s. s ≡ record { workers = 4; shards = 4; width = 1; budget = 1024; turns = 1000000000000; plain = false; best_first = false } };
 
     fn default() -> Settings {
         Settings {
@@ -71,6 +90,7 @@ impl Default for Settings {
             budget: 1024,
             turns: 1_000_000_000_000,
             plain: false,
+            best_first: false,
         }
     }
 }

@@ -11,7 +11,7 @@ use crate::solve::diffusion::{EndedDiffusion, GatheredDiffusion, gather_ended};
 use path_algebra::PathAlgebra;
 use post_floor::Floor;
 use road_graph::{Graph, Vertex};
-use shard_part::Plan;
+use shard_part::{Plan, QueueOrder};
 use station::{Gathered, Station, open_diffusion};
 use std::alloc::{AllocError, Global};
 use std::sync::Wait;
@@ -25,19 +25,21 @@ fn open_all<'g, A: PathAlgebra>(
     graph: &'g Graph,
     plan: &'g Plan,
     sources: &[Vertex],
+    order: QueueOrder,
 ) -> Result<(Vec<Floor<A>>, Vec<Vec<Station<'g, A>>>), AllocError>
     requires plan { IsPlanOf graph.now plan.now }
     requires sources { All (HasVertex graph.now) sources.now }
     ensures floors { IfOk result (λ r. vec_len r.0 ≡ length sources.now) }
     ensures stations { IfOk result (λ r. vec_len r.1 ≡ length sources.now) }
     ensures opened { IfOk result (λ r. (q : ℕ) (s : ℕ) (f : _) (v : _) → q < length sources.now →
-        AreOpened A.meaning (setup_of algebra graph.now (get_or sources.now q s) plan.now)
+        AreOpened A.meaning (setup_of algebra graph.now (get_or sources.now q s) plan.now order)
         (get_or r.0.items q f) (get_or r.1.items q v).items) }
 {
     let mut floors = Vec::new(alloc);
     let mut lists = Vec::new(alloc);
     for source in sources {
-        let Ok((floor, stations)) = open_diffusion(alloc, algebra, graph, plan, *source) else {
+        let Ok((floor, stations)) = open_diffusion(alloc, algebra, graph, plan, *source, order)
+        else {
             return Err(AllocError);
         };
         floors.push(floor)?;
@@ -110,7 +112,8 @@ pub(crate) fn run_together<A: PathAlgebra, R: Threads + Wait, T: Gate>(
 {
     let (alloc, settings) = (batch.run.alloc, batch.run.settings);
     let (algebra, graph) = (batch.algebra, batch.graph);
-    let (mut floors, opened) = open_all(alloc, algebra, graph, plan, sources)?;
+    let order = settings.order();
+    let (mut floors, opened) = open_all(alloc, algebra, graph, plan, sources, order)?;
     let mut lists = run_group(
         batch.run.rt,
         alloc,

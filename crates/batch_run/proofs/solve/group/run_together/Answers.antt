@@ -17,7 +17,7 @@ pub run_group-requires-clause-own : goal.run_group-requires-clause-own
 run_group-requires-clause-own g c κs within =
     let at = (goal.at.run_group-requires-clause-own g c).In_ok-floors in
     λ q d low. rw c.as_slice.ensures.value
-    (opened_placed g.A.PathAlgebra.meaning (λ q. setup_of c.args.batch.now.algebra c.args.batch.now.graph.now (get_or c.args.sources.now q 0) c.args.plan.now)
+    (opened_placed g.A.PathAlgebra.meaning (λ q. setup_of c.args.batch.now.algebra c.args.batch.now.graph.now (get_or c.args.sources.now q 0) c.args.plan.now c.order.result)
     c.in_ok-floors.floors.items c.in_ok-floors.opened.items
     (length c.args.sources.now) (floors_are g at) (λ q f v low. c.in_ok-floors.ensures.opened q 0 f v low) q d (rw c.in_ok-floors.ensures.stations at low))
 
@@ -30,14 +30,14 @@ loop-k-init g c =
       floors = omega (arith, f);
       lists = omega (arith, l);
       each = λ q s e v low.
-          run_ended g.A.PathAlgebra.meaning (λ q. setup_of c.args.batch.now.algebra c.args.batch.now.graph.now (get_or c.args.sources.now q s) c.args.plan.now)
+          run_ended g.A.PathAlgebra.meaning (λ q. setup_of c.args.batch.now.algebra c.args.batch.now.graph.now (get_or c.args.sources.now q s) c.args.plan.now c.order.result)
           c.in_ok-floors.floors.items c.in_ok-floors.opened.items
           (length c.args.sources.now) f (λ q f v low. c.in_ok-floors.ensures.opened q s f v low) c.in_ok-lists.lists.items
           (λ q k d e low. c.in_ok-lists.ensures.all q k d e (rw c.in_ok-floors.ensures.stations low))
           (λ q d low. rw c.as_slice.ensures.value at (c.in_ok-lists.ensures.done q d (rw c.in_ok-floors.ensures.stations low)))
           q e v (rw f at low);
       gathered = rw c.new-gathered.ensures.items (All-nil (IsGatheredOver (g.A.PathAlgebra.meaning c.args.batch.now.algebra) c.args.batch.now.graph.now));
-      order = rw c.new-gathered.ensures.items (sym (drop_all (length c.args.sources.now - 0) c.args.sources.now (omega arith)));
+      sources = rw c.new-gathered.ensures.items (sym (drop_all (length c.args.sources.now - 0) c.args.sources.now (omega arith)));
     }
 
 pub take_last-last-requires-clause-some : goal.take_last-last-requires-clause-some
@@ -53,10 +53,12 @@ gathered_from-requires-after_bounds g c κs within =
     let nf = longer _ _ _ last.floors in
     let low = c.loop-k-test.true in
     let same : length c.loop-k.floors.items ≡ length c.loop-k.lists.items = omega (arith, was.floors, was.lists) in
-    let place : length c.take_last-last.new.floors.items ≡ length c.args.sources.now - 1 - c.loop-k.k = omega (arith, nf, was.floors, low) in
-    last_ended c.args.batch.now.algebra c.args.batch.now.graph.now c.args.plan.now c.args.sources.now _ _ _ _ _ _ last.floors last.lists.1 same was.each
-    c.take_last-last.result.stations.items c.take_last-last.result.source last.lists.2
-    (rw (place, last.source) (sym c.index-sources-sources.is))
+    let place : length c.take_last-last.new.floors.items ≡ length c.args.sources.now - 1 - c.loop-k.k = omega (arith, nf, was.floors, low) in (
+      c.order.result,
+      last_ended c.args.batch.now.algebra c.args.batch.now.graph.now c.args.plan.now c.order.result c.args.sources.now _ _ _ _ _ _ last.floors last.lists.1 same was.each
+          c.take_last-last.result.stations.items c.take_last-last.result.source last.lists.2
+          (rw (place, last.source) (sym c.index-sources-sources.is)),
+    )
 
 pub loop-k-preserved : goal.loop-k-preserved
 loop-k-preserved g c =
@@ -71,10 +73,10 @@ loop-k-preserved g c =
     record {
       floors = omega (arith, nf, was.floors);
       lists = omega (arith, nl, was.lists);
-      each = others_ended c.args.batch.now.algebra c.args.batch.now.graph.now c.args.plan.now c.args.sources.now _ _ _ _ _ _ last.floors last.lists.1 same was.each;
+      each = others_ended c.args.batch.now.algebra c.args.batch.now.graph.now c.args.plan.now c.order.result c.args.sources.now _ _ _ _ _ _ last.floors last.lists.1 same was.each;
       gathered = rw c.in-Ok.ensures.items (All-push (IsGatheredOver (g.A.PathAlgebra.meaning c.args.batch.now.algebra) c.args.batch.now.graph.now) c.loop-k.gathered.items next was.gathered
           c.in_ok-next.ensures.gathered);
-      order = place_before c.args.sources.now (sources_in_order c.loop-k.gathered.items) (sources_in_order c.push.new.self.items) c.loop-k.k source low c.index-sources-sources.is was.order
+      sources = place_before c.args.sources.now (sources_in_order c.loop-k.gathered.items) (sources_in_order c.push.new.self.items) c.loop-k.k source low c.index-sources-sources.is was.sources
           (one_before c.loop-k.gathered.items c.push.new.self.items next c.in-Ok.ensures.items ∙ ap (λ s. s ∷ sources_in_order c.loop-k.gathered.items)
           (c.in_ok-next.ensures.source ∙ last.source));
     }
@@ -85,7 +87,7 @@ returns-clause-gathered g c = c.loop-k.invariant.gathered
 pub returns-clause-sources : goal.returns-clause-sources
 returns-clause-sources g c =
     let none : length c.args.sources.now - c.loop-k.k ≡ 0 = let over = c.loop-k-test.false in omega (arith, over) in
-    c.loop-k.invariant.order ∙ ap (λ n. drop n c.args.sources.now) none
+    c.loop-k.invariant.sources ∙ ap (λ n. drop n c.args.sources.now) none
 
 pub returns-in_err-lists-clause-says : goal.returns-in_err-lists-clause-says
 returns-in_err-lists-clause-says g c =

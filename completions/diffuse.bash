@@ -2,7 +2,7 @@
 # ~/.local/share/bash-completion/completions/diffuse
 _diffuse() {
     local word=${COMP_WORDS[COMP_CWORD]} before=${COMP_WORDS[COMP_CWORD - 1]} engine watching
-    engine="--plain --algebra --limit --width --workers --shards --budget --turns --help"
+    engine="--plain --algebra --limit --width --workers --shards --budget --turns --best-first --help"
     watching="--accounts --progress"
     case $before in
         --algebra)

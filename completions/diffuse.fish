@@ -20,6 +20,7 @@ complete -c diffuse -x -n $answering -l workers -d 'threads, 1 to 64'
 complete -c diffuse -x -n $answering -l shards -d 'parts of the vertices, 1 to 64'
 complete -c diffuse -x -n $answering -l budget -d 'messages and signals per turn, 1 to 65536'
 complete -c diffuse -x -n $answering -l turns -d 'the most turns of a worker in a group'
+complete -c diffuse -f -n $answering -l best-first -d 'let a shard handle the best waiting message next'
 complete -c diffuse -r -n $watching -l accounts -d 'write the counts of each diffusion to a file'
 complete -c diffuse -f -n $watching -l progress -d 'report how many questions are answered'
 complete -c diffuse -f -n '__fish_seen_subcommand_from faults' -a "(diffuse faults 2> /dev/null | string replace -rf '^fault ([0-9]+):.*' '\$1')"

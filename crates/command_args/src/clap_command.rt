@@ -1,8 +1,8 @@
 //! The arguments of the command line, and what help says of them.
 use crate::help::{
-    ACCOUNTS, ALGEBRA, ANSWERS, BUDGET, BUNDLE, EXPLAINED, GRAPH, JUDGED, LIMIT, LIMIT_OF_ANSWERS,
-    NAMES, NUMBERS, PLAIN, PROGRESS, PURPOSE, QUESTIONS, REPLIES, SERVE, SERVED_GRAPH, SHARDS,
-    STATUSES, TURNS, VERDICT, VERDICTS, VERSION, WIDTH, WORKERS,
+    ACCOUNTS, ALGEBRA, ANSWERS, BEST_FIRST, BUDGET, BUNDLE, EXPLAINED, GRAPH, JUDGED, LIMIT,
+    LIMIT_OF_ANSWERS, NAMES, NUMBERS, PLAIN, PROGRESS, PURPOSE, QUESTIONS, REPLIES, SERVE,
+    SERVED_GRAPH, SHARDS, STATUSES, TURNS, VERDICT, VERDICTS, VERSION, WIDTH, WORKERS,
 };
 use clap::builder::ValueParser;
 use clap::{Arg, ArgAction, Command};
@@ -62,7 +62,14 @@ fn settings<'a>(alloc: Global, command: Command<'a>) -> Result<Command<'a>, Allo
         .arg(number(alloc, "workers", 1, 64, "4", WORKERS))?
         .arg(number(alloc, "shards", 1, 64, "4", SHARDS))?
         .arg(number(alloc, "budget", 1, 65_536, "1024", BUDGET))?
-        .arg(number(alloc, "turns", 0, 1_000_000_000_000, "1000000000000", TURNS))
+        .arg(number(alloc, "turns", 0, 1_000_000_000_000, "1000000000000", TURNS))?
+        .arg(
+            Arg::new(alloc, "best-first")
+                .long("best-first")
+                .action(ArgAction::SetTrue)
+                .next_line_help(true)
+                .help(BEST_FIRST),
+        )
 }
 
 /// What is written of a run beside its answers.

@@ -85,8 +85,8 @@ pub const LIMIT_OF_ANSWERS: &str = concat!(
 /// The one-thread solver.
 pub const PLAIN: &str = concat!(
     "The fast way; leave it out to run the diffusing computation. With it\n",
-    "`--workers`, `--shards`, `--budget` and `--turns` say nothing, though\n",
-    "they must be in their ranges",
+    "`--workers`, `--shards`, `--budget`, `--turns` and `--best-first`\n",
+    "have no effect, but must be in range",
 );
 
 /// How many questions are run together.
@@ -104,6 +104,12 @@ pub const SHARDS: &str = "Parts that the vertices are cut into, 1 to 64";
 
 /// How much a shard does before the next has its turn.
 pub const BUDGET: &str = "Messages and signals of a shard in a turn, 1 to 65536";
+
+/// Which of the waiting messages a shard handles next.
+pub const BEST_FIRST: &str = concat!(
+    "Let a shard handle the best waiting message next, not the first that\n",
+    "came: far fewer messages on road graphs, with few shards",
+);
 
 /// How long a worker goes on.
 pub const TURNS: &str = "Turns of a worker in a group, then fault 40";

@@ -88,6 +88,7 @@ fn settings_of(matches: &ArgMatches<'_>) -> Settings {
         budget: number_of(matches, "budget", usual.budget),
         turns: number_of(matches, "turns", usual.turns),
         plain: matches.get_flag("plain"),
+        best_first: matches.get_flag("best-first"),
     }
 }
 

@@ -6,7 +6,7 @@ use Rattle.std.proofs.Math.Nat.{div-le_of_le-mul, mul-le-mul_left, mul-le-mul_ri
 use Rattle.std.proofs.lemmas.Bool.{leb-true, le-leb}
 use Rattle.std.proofs.lemmas.Bool.Decides.{nat_tests}
 use Rattle.path_algebra.specs.Algebra.{Algebra, IsOrder, IsLawful}
-use Rattle.path_algebra.specs.Names.{AlgebraName, Shortest, Hops}
+use Rattle.path_algebra.specs.Names.{AlgebraName, Shortest, Hops, Within}
 use Rattle.path_algebra.specs.Given.{shortest, hops, widest, reach, reliable, within}
 
 pub less_is_better : IsOrder {V = ℕ} (λ a b. nat_le a b)
@@ -142,22 +142,38 @@ reliable_laws = record {
   code_of_value = λ c v k h. coded_below (10 ^ 12) c v h;
 }
 
-pub within_laws : (limit : ℕ) → limit ≤ 2 ^ 63 → IsLawful (within limit)
-within_laws limit fits = record {
+-- the sum of what the arcs cost, by their weights, up to a limit; an arc that passes it is refused; less is better
+abbrev pub limited_sums : AlgebraName → (ℕ → ℕ) → ℕ → Algebra ℕ
+limited_sums name cost limit = record {
+  name = name;
+  is_value = λ v. nat_le v limit;
+  origin = 0;
+  extend = λ v w. if nat_le (v + cost w) limit then Some (v + cost w) else None;
+  no_worse = λ a b. nat_le a b;
+  code = λ v. v;
+  value_of = λ c. if nat_le c limit then Some c else None;
+}
+
+pub limited_laws : (name : AlgebraName) (cost : ℕ → ℕ) (limit : ℕ) → limit ≤ 2 ^ 63 →
+    IsLawful (limited_sums name cost limit)
+limited_laws name cost limit fits = record {
   origin_is_value = le-leb 0 limit (omega arith);
-  extend_is_value = λ v w x h k e. (coded_below limit (v + w) x e).0;
+  extend_is_value = λ v w x h k e. (coded_below limit (v + cost w) x e).0;
   ordered = less_is_better;
   never_better = λ v w x h k e.
-      let sum = (coded_below limit (v + w) x e).1 in
+      let sum = (coded_below limit (v + cost w) x e).1 in
       le-leb v x (omega (arith, sum));
   monotone = λ a b w y ha hb k h e.
-      let kept = coded_below limit (b + w) y e in
+      let kept = coded_below limit (b + cost w) y e in
       let sum = kept.1 in
       let below = leb-true y limit kept.0 in
       let less = leb-true a b h in
-      let t : nat_le (a + w) limit ≡ true = le-leb (a + w) limit (omega (arith, less, sum, below)) in
-      (a + w, rw t refl, le-leb (a + w) y (omega (arith, less, sum)));
+      let t : nat_le (a + cost w) limit ≡ true = le-leb (a + cost w) limit (omega (arith, less, sum, below)) in
+      (a + cost w, rw t refl, le-leb (a + cost w) y (omega (arith, less, sum)));
   code_fits = λ v h. omega (arith, leb-true v limit h);
   value_of_code = λ v h. rw h;
   code_of_value = λ c v k h. coded_below limit c v h;
 }
+
+pub within_laws : (limit : ℕ) → limit ≤ 2 ^ 63 → IsLawful (within limit)
+within_laws limit fits = limited_laws Within (λ w. w) limit fits

@@ -6,3 +6,6 @@ pub mod SimpleWalks
 pub mod Given
 pub mod Laws
 pub mod Open
+pub mod Composition
+pub mod Counted
+pub mod CountedWalks

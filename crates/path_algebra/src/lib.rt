@@ -8,10 +8,13 @@
 #![tactic(auto)]
 
 mod algebra;
+mod composing;
+mod counted_sums;
 mod hops;
 mod labels;
 mod laws;
 mod name;
+mod numbers;
 mod reach;
 mod reliable;
 mod shortest;
@@ -19,6 +22,8 @@ mod widest;
 mod within;
 
 pub use algebra::PathAlgebra;
+pub use composing::{ComposingAlgebra, composition_holds};
+pub use counted_sums::{Cost, CountedSums};
 pub use hops::Hops;
 pub use labels::Labels;
 pub use laws::{
@@ -26,6 +31,7 @@ pub use laws::{
     names_are_read_back, shortest_values_are_least_sums, simple_walks_are_listed, tight_arcs_reach,
 };
 pub use name::AlgebraName;
+pub use numbers::best_numbers_carry_hops;
 pub use reach::Reach;
 pub use reliable::Reliable;
 pub use shortest::Shortest;

@@ -14,11 +14,15 @@ use Rattle.path_factors.proofs.Substitution.{IsWalk-append, Extends-append}
 module _ {V W : Type 0} (A : Algebra V) (C : Composition V W) (composes : IsComposition A C) (g : GraphData) where
   -- the worth of an arc
   pub worth_of_arc : IsGraph g → (a : ℕ) → HasArc g a → IsWorthOfWalk A C g (arc_of g a).tail (arc_of g a).head (C.of_arc (arc_of g a).weight)
-  worth_of_arc roads a has = (
+  worth_of_arc roads a has = λ x y is e. (
     a ∷ [],
     (has, refl, refl),
-    λ x y is e. (y, sym (composes.apply_arc x (arc_of g a).weight is (roads.weights a has)) ∙ e, refl),
+    (y, sym (composes.apply_arc x (arc_of g a).weight is (roads.weights a has)) ∙ e, refl),
   )
+
+  -- the worth of none
+  pub worth_of_none : (u v : ℕ) → IsWorthOfWalk A C g u v C.no_walk
+  worth_of_none u v = λ x y is e. let bad : None ≡ Some y = sym (composes.no_walk_refused x is) ∙ e in absurd (cc)
 
   applied_is : (o : Option V) (b : W) (y : V) → applied C o b ≡ Some y → (m : V) × (o ≡ Some m) × (C.apply m b ≡ Some y)
   applied_is None b y e = cc
@@ -27,14 +31,11 @@ module _ {V W : Type 0} (A : Algebra V) (C : Composition V W) (composes : IsComp
   -- the worth of two walks, one after the other
   pub worth_of_both : (u v w : ℕ) (a b : W) → IsWorthOfWalk A C g u v a → IsWorthOfWalk A C g v w b →
       IsWorthOfWalk A C g u w (C.compose a b)
-  worth_of_both u v w a b first second = (
-    first.0 ++ second.0,
-    IsWalk-append g u first.0 v second.0 w first.1 second.1,
-    λ x y is e.
-        let m = applied_is (C.apply x a) b y (sym (composes.apply_composed x a b is) ∙ e) in
-        Extends-append A g x first.0 m.0 second.0 y (first.2 x m.0 is m.1)
-        (second.2 m.0 y (composes.apply_is_value x a m.0 is m.1) m.2),
-  )
+  worth_of_both u v w a b first second = λ x y is e.
+      let m = applied_is (C.apply x a) b y (sym (composes.apply_composed x a b is) ∙ e) in
+      let to = first x m.0 is m.1 in
+      let on = second m.0 y (composes.apply_is_value x a m.0 is m.1) m.2 in
+      (to.0 ++ on.0, IsWalk-append g u to.0 v on.0 w to.1 on.1, Extends-append A g x to.0 m.0 on.0 y to.2 on.2)
 
 module _ {V W : Type 0} (C : Composition V W) (ordered : IsOrder C.no_worse) where
   same : (a : W) → IsTrue (C.no_worse a a)

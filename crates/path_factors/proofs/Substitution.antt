@@ -27,10 +27,11 @@ module _ {V W : Type 0} (A : Algebra V) (lawful : IsLawful A) (C : Composition V
   pub value_along : (u v : ℕ) (x z : V) (a : W) → IsWalkValue A g sources u x → IsWorthOfWalk A C g u v a →
       C.apply x a ≡ Some z → IsWalkValue A g sources v z
   value_along u v x z a w worth e =
-      let is = walk_value_is_value A lawful g roads sources u x w in (
-        w.0 ++ worth.0,
-        (w.1.0, w.1.1, IsWalk-append g w.1.0 w.0 u worth.0 v w.1.2 worth.1),
-        Extends-append A g A.origin w.0 x worth.0 z w.2 (worth.2 x z is e),
+      let is = walk_value_is_value A lawful g roads sources u x w in
+      let on = worth x z is e in (
+        w.0 ++ on.0,
+        (w.1.0, w.1.1, IsWalk-append g w.1.0 w.0 u on.0 v w.1.2 on.1),
+        Extends-append A g A.origin w.0 x on.0 z w.2 on.2,
       )
 
   module _ (F : FactorData W) (factor : IsFactor A C g F) (before labels : List (Option V))

@@ -39,11 +39,10 @@ Falls F x y a = Contains (row_of F.entering y) (record { place = x; walk = a })
 abbrev pub Leads : {W : Type 0} → FactorData W → ℕ → ℕ → W → Type 0
 Leads F x y a = Rises F x y a ⊎ Falls F x y a
 
--- some walk of the graph from u to v does to a value what a does, wherever a does not refuse it
+-- whatever a makes of a value, some walk of the graph from u to v makes of it
 abbrev pub IsWorthOfWalk : {V W : Type 0} → Algebra V → Composition V W → GraphData → ℕ → ℕ → W → Type 0
 IsWorthOfWalk {V} A C g u v a =
-    (p : List ℕ) × IsWalk g u p v
-    × ((x y : V) → IsTrue (A.is_value x) → C.apply x a ≡ Some y → Extends A g x p y)
+    (x y : V) → IsTrue (A.is_value x) → C.apply x a ≡ Some y → (p : List ℕ) × IsWalk g u p v × Extends A g x p y
 
 -- some link from place x to place y is no worse than a
 abbrev pub LeadsNoWorse : {V W : Type 0} → Composition V W → FactorData W → ℕ → ℕ → W → Type 0

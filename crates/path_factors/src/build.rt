@@ -80,6 +80,7 @@ impl<'g, A: ComposingAlgebra> Factors<'g, A> {
             return Ok(None);
         };
         let mut elimination = Elimination::open(alloc, algebra, graph, order, places)?;
+        elimination.mirror()?;
         elimination.load()?;
         elimination.eliminate_all()?;
         let factors = elimination.into_factors(alloc)?;

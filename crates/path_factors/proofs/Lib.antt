@@ -8,3 +8,4 @@ pub mod Eliminating
 pub mod Loading
 pub mod Asking
 pub mod Packing
+pub mod Finding

@@ -47,6 +47,12 @@ pub record FoundFrom {V : Type 0} (n : ℕ) (before all : List (Option V)) (aske
   pub above : (j : ℕ) → i ≤ j → j < n → is_on asked j ≡ true → is_on known j ≡ true
   pub below : (j : ℕ) → j < i → is_on known j ≡ is_on old j
 
+-- place i is found, and the others are as they were
+pub record FoundAt {V : Type 0} (n : ℕ) (before all : List (Option V)) (i : ℕ) (labels : List (Option V)) (known : List Bool) : Type 0 where
+  pub labels_count : length labels ≡ n
+  pub known_count : length known ≡ n
+  pub agree : Agree n before all labels known
+
 -- what is found so far, as plain data
 pub record AskedState (T W V : Type 0) : Type 0 where
   pub factors : FactorState T W

@@ -105,10 +105,10 @@ fn mark(marks: &mut [bool], i: usize)
 /// for single vertices as they are asked for, and kept.
 #[derive(Drop)]
 pub struct Asked<'f, 'g, A: ComposingAlgebra> {
-    factors: &'f Factors<'g, A>,
+    pub(crate) factors: &'f Factors<'g, A>,
     sources: Vec<Vertex>,
-    labels: Vec<Option<A::Value>>,
-    known: Vec<bool>,
+    pub(crate) labels: Vec<Option<A::Value>>,
+    pub(crate) known: Vec<bool>,
     asked: Vec<bool>,
 }
 
@@ -164,7 +164,7 @@ impl<'g, A: ComposingAlgebra> Factors<'g, A> {
         let mut sources = Vec::new(alloc);
         sources.push(source).map_err(AllocError::from)?;
         let mut asked = self.ask(alloc, sources)?;
-        let label = asked.label(target);
+        let label = asked.label(alloc, target)?;
         Ok(label)
     }
 }
@@ -208,15 +208,21 @@ impl<'f, 'g, A: ComposingAlgebra> Asked<'f, 'g, A> {
     }
 
     /// The best value of a vertex over all walks from the sources, and none if no walk has a value.
-    pub fn label(&mut self, v: Vertex) -> Option<A::Value>
+    ///
+    /// It is found from the places above that of the vertex, which take a step each, and is kept.
+    pub fn label(&mut self, alloc: Global, v: Vertex) -> Result<Option<A::Value>, Memory>
         requires { HasVertex self.old.factors.roads v }
         ensures factors { self.new.factors ≡ self.old.factors }
         ensures sources { self.new.sources ≡ self.old.sources }
-        ensures best { IsBestLabel (A.meaning self.old.factors.algebra) self.old.factors.roads
-            self.old.sources v result }
+        ensures best { IfOk result (λ label. IsBestLabel (A.meaning self.old.factors.algebra)
+            self.old.factors.roads self.old.sources v label) }
     {
         let t = self.factors.place(v);
+        if !self.known[t] {
+            self.find_from_above(alloc, t)?;
+        }
+        // Known by now, by any order that elimination_order gives.
         self.find_if_new(t);
-        self.kept(v, t)
+        Ok(self.kept(v, t))
     }
 }

@@ -8,6 +8,7 @@ use crate::factors::Factors;
 use crate::order::places_of;
 use crate::packed::PackedRows;
 use crate::rows::Rows;
+use elimination_order::least_degree_order;
 use path_algebra::{ComposingAlgebra, composition_holds};
 use road_graph::{Memory, OutGraph, Vertex};
 use std::alloc::Global;
@@ -85,5 +86,20 @@ impl<'g, A: ComposingAlgebra> Factors<'g, A> {
         elimination.eliminate_all()?;
         let factors = elimination.into_factors(alloc)?;
         Ok(Some(factors))
+    }
+
+    /// The factor of a graph by the order of `elimination_order`; none if the graph is too dense to factor.
+    pub fn of(
+        alloc: Global,
+        algebra: A,
+        graph: &'g OutGraph,
+    ) -> Result<Option<Factors<'g, A>>, Memory>
+        ensures algebra { IfOk result (λ built. IfSome built (λ f. f.algebra ≡ algebra)) }
+        ensures roads { IfOk result (λ built. IfSome built (λ f. f.roads ≡ graph.now)) }
+    {
+        let Some(order) = least_degree_order(alloc, graph)? else {
+            return Ok(None);
+        };
+        Factors::build(alloc, algebra, graph, order)
     }
 }

@@ -5,6 +5,7 @@
 //! up and down, find the best value of each vertex.
 #![tactic(auto)]
 
+mod ancestors;
 mod asked;
 mod better;
 mod build;

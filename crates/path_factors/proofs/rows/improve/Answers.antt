@@ -1,4 +1,4 @@
-use Rattle.std.proofs.Common.{◌≡◌, [], ◌∷◌, ◌++◌, arith, length, ◌<◌, ◌≤◌, false}
+use Rattle.std.proofs.Common.{◌≡◌, arith, length, ◌<◌, false}
 use Rattle.std.specs.List.{insert}
 use Rattle.std.proofs.lemmas.Grind.{common_steps}
 use Rattle.path_factors.proofs.Improving.{improved_set, improved_insert}

@@ -1,4 +1,4 @@
-use Rattle.std.proofs.Common.{◌≡◌, ◌∙◌, subst}
+use Rattle.std.proofs.Common.{◌∙◌, subst}
 use Rattle.path_factors.specs.Eliminating.{Improves}
 use Rattle.path_factors.proofs.Connecting.{improves_none, improves_more}
 use Rattle.path_factors.proofs.elimination.Elimination.mirror.Goals as goal

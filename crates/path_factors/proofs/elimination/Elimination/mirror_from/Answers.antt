@@ -1,4 +1,4 @@
-use Rattle.std.proofs.Common.{◌≡◌, ◌∙◌, sym, subst}
+use Rattle.std.proofs.Common.{◌∙◌, sym, subst}
 use Rattle.road_graph.specs.GraphData.{ListsRoadsFrom, HasVertex}
 use Rattle.path_factors.specs.Eliminating.{Improves}
 use Rattle.path_factors.specs.State.{FactorState}

@@ -1,4 +1,4 @@
-use Rattle.std.proofs.Common.{◌≡◌, ◌∙◌, List, [], replicate, ap, sym, subst}
+use Rattle.std.proofs.Common.{◌∙◌, List, [], replicate, ap, sym, subst}
 use Rattle.path_factors.specs.declared.link.Link.{Link}
 use Rattle.path_factors.specs.Eliminating.{IsBegun}
 use Rattle.path_factors.proofs.Loading.{begun_empty}

@@ -1,0 +1,11 @@
+pub mod Substitution
+pub mod Offers
+pub mod Sweeps
+pub mod Places
+pub mod Improving
+pub mod Connecting
+pub mod Eliminating
+pub mod Loading
+pub mod Asking
+pub mod Packing
+pub mod Finding

@@ -1,0 +1,173 @@
+-- A link for each arc.
+use Rattle.std.proofs.Common.{◌≡◌, ℕ, zero, suc, ◌+◌, ◌-◌, ◌<◌, ◌≤◌, inl, inr, List, [], length, replicate, get_or, refl, ap, sym, ◌∙◌, subst, arith}
+use Rattle.std.specs.Prelude.{Contains}
+use Rattle.std.proofs.lemmas.Bool.{cases_lt}
+use Rattle.std.proofs.lemmas.List.{get_or-map, length-map, length-replicate, get_or_default}
+use Rattle.road_graph.specs.GraphData.{GraphData, IsGraph, HasArc, HasVertex, arc_of, road_of, ListsRoadsFrom}
+use Rattle.road_graph.specs.declared.OutRoad.{OutRoad}
+use Rattle.road_graph.proofs.Lists.{not_in_empty}
+use Rattle.path_algebra.specs.Algebra.{Algebra, IsOrder}
+use Rattle.path_algebra.specs.Composition.{Composition, IsComposition}
+use Rattle.path_factors.specs.declared.link.Link.{Link}
+use Rattle.path_factors.specs.Factors.{FactorData, LeadsNoWorse, IsWorthOfWalk, ArePlaces, CoversArcs, row_of, place_of}
+use Rattle.path_factors.specs.Eliminating.{IsBegun, Improves}
+use Rattle.path_factors.proofs.Connecting.{still_leads, improves_none, improves_more, worth_of_arc}
+
+-- the arc of a road
+pub road_at : (g : GraphData) (v : ℕ) (roads : List OutRoad) → ListsRoadsFrom g v roads → (i : ℕ) (r : OutRoad) → i < length roads →
+    r ≡ get_or roads i r → (a : ℕ) × HasArc g a × ((arc_of g a).tail ≡ v) × (r ≡ road_of (arc_of g a))
+road_at g v roads lists i r lt is =
+    let n : length roads ≡ length lists.0 = rw (lists.2) (length-map lists.0 (λ a. road_of (arc_of g a))) in
+    let low : i < length lists.0 = omega (arith, n, lt) in
+    let a = get_or lists.0 i 0 in
+    let at : get_or roads i r ≡ road_of (arc_of g a) =
+    ap (λ (o : List OutRoad). get_or o i r) lists.2 ∙ get_or-map (λ a. road_of (arc_of g a)) lists.0 i 0 r low in
+    let has = (lists.1.complete a).0 (i, low, get_or_default lists.0 i a 0 low) in
+    (a, has.0, has.1, is ∙ at)
+
+-- the road of an arc
+pub arc_listed : (g : GraphData) (v : ℕ) (roads : List OutRoad) → ListsRoadsFrom g v roads → (a : ℕ) → HasArc g a →
+    (arc_of g a).tail ≡ v → Contains roads (road_of (arc_of g a))
+arc_listed g v roads lists a has from =
+    let at = (lists.1.complete a).1 (has, from) in
+    let n : length roads ≡ length lists.0 = rw (lists.2) (length-map lists.0 (λ a. road_of (arc_of g a))) in
+    let low = at.1 in
+    let read : get_or roads at.0 (road_of (arc_of g a)) ≡ road_of (arc_of g a) =
+    ap (λ (o : List OutRoad). get_or o at.0 (road_of (arc_of g a))) lists.2
+    ∙ get_or-map (λ a. road_of (arc_of g a)) lists.0 at.0 a (road_of (arc_of g a)) low
+    ∙ ap (λ (b : ℕ). road_of (arc_of g b)) at.2 in
+    (at.0, omega (arith, n, low), read)
+
+-- a road leads to a vertex
+pub road_inside : (g : GraphData) → IsGraph g → (v : ℕ) (roads : List OutRoad) → ListsRoadsFrom g v roads → (i : ℕ) (r : OutRoad) →
+    i < length roads → r ≡ get_or roads i r → HasVertex g r.head
+road_inside g is_graph v roads lists i r lt is =
+    let a = road_at g v roads lists i r lt is in
+    subst (λ (q : OutRoad). HasVertex g q.head) (sym a.3) ((is_graph.ends a.0 a.1).1)
+
+-- the worth of a road
+pub road_worth : {V W : Type 0} (A : Algebra V) (C : Composition V W) → IsComposition A C → (g : GraphData) → IsGraph g → (v : ℕ) (roads : List OutRoad) →
+    ListsRoadsFrom g v roads → (i : ℕ) (r : OutRoad) → i < length roads → r ≡ get_or roads i r → IsWorthOfWalk A C g v r.head (C.of_arc r.weight)
+road_worth A C composes g is_graph v roads lists i r lt is =
+    let a = road_at g v roads lists i r lt is in
+    subst (λ (q : OutRoad). IsWorthOfWalk A C g v q.head (C.of_arc q.weight)) (sym a.3)
+    (subst (λ (u : ℕ). IsWorthOfWalk A C g u (arc_of g a.0).head (C.of_arc (arc_of g a.0).weight)) a.2
+    (worth_of_arc A C composes g is_graph a.0 a.1))
+
+-- the first j roads from a vertex have links
+pub record Loaded {V W : Type 0} (C : Composition V W) (tail : ℕ) (roads : List OutRoad) (F G : FactorData W) (j : ℕ) : Type 0 where
+  pub improves : Improves C 0 F G
+  pub linked : (r : OutRoad) (i : ℕ) → i < j → get_or roads i r ≡ r → (tail ≡ r.head → ⊥) →
+      LeadsNoWorse C G (place_of F tail) (place_of F r.head) (C.of_arc r.weight)
+
+-- the arcs from the vertices up to k have links
+pub record LoadedTo {V W : Type 0} (C : Composition V W) (g : GraphData) (F G : FactorData W) (k : ℕ) : Type 0 where
+  pub improves : Improves C 0 F G
+  pub covers : (a : ℕ) → HasArc g a → (arc_of g a).tail ≤ k → ((arc_of g a).tail ≡ (arc_of g a).head → ⊥) →
+      LeadsNoWorse C G (place_of F (arc_of g a).tail) (place_of F (arc_of g a).head) (C.of_arc (arc_of g a).weight)
+
+-- the place of a vertex stays the same
+pub same_place : {V W : Type 0} (C : Composition V W) (low : ℕ) (F G : FactorData W) → Improves C low F G → (v : ℕ) → place_of G v ≡ place_of F v
+same_place C low F G improves v = ap (λ (p : List ℕ). get_or p (v - 1) 0) improves.places
+
+module _ {V W : Type 0} (C : Composition V W) (ordered : IsOrder C.no_worse) where
+  pub loaded_none : (tail : ℕ) (roads : List OutRoad) (F : FactorData W) → Loaded C tail roads F F 0
+  loaded_none tail roads F = record { improves = improves_none C ordered 0 F; linked = λ r i low e other. absurd (omega arith) }
+
+  pub loaded_more : (tail : ℕ) (roads : List OutRoad) (F G H : FactorData W) (j : ℕ) (road : OutRoad) → Loaded C tail roads F G j →
+      j < length roads → road ≡ get_or roads j road → Improves C 0 G H →
+      ((tail ≡ road.head → ⊥) → LeadsNoWorse C H (place_of G tail) (place_of G road.head) (C.of_arc road.weight)) →
+      Loaded C tail roads F H (j + 1)
+  loaded_more tail roads F G H j road done lt is improves leads = record {
+    improves = improves_more C ordered 0 F G H done.improves improves;
+    linked = λ r i low e other. elim (cases_lt i j) [
+      | inl before ↦
+          still_leads C ordered 0 G H improves (place_of F tail) (place_of F r.head) (C.of_arc r.weight) (done.linked r i before e other)
+      | inr not_before ↦
+          let at_j : i ≡ j = omega (arith, not_before, low) in
+          let one : road ≡ r =
+          is ∙ get_or_default roads j road r lt ∙ ap (λ (m : ℕ). get_or roads m r) (sym at_j) ∙ e in
+          let new = leads (λ f. other (f ∙ ap (λ (q : OutRoad). q.head) one)) in
+          let moved : LeadsNoWorse C H (place_of F tail) (place_of F road.head) (C.of_arc road.weight) =
+          subst (λ (p : ℕ). LeadsNoWorse C H p (place_of F road.head) (C.of_arc road.weight)) (same_place C 0 F G done.improves tail)
+          (subst (λ (p : ℕ). LeadsNoWorse C H (place_of G tail) p (C.of_arc road.weight)) (same_place C 0 F G done.improves road.head) new) in
+          subst (λ (q : OutRoad). LeadsNoWorse C H (place_of F tail) (place_of F q.head) (C.of_arc q.weight)) one moved
+    ];
+  }
+
+  pub loaded_all : (g : GraphData) (tail : ℕ) (roads : List OutRoad) → ListsRoadsFrom g tail roads → (F G : FactorData W) (j : ℕ) →
+      Loaded C tail roads F G j → length roads ≤ j → (a : ℕ) → HasArc g a → (arc_of g a).tail ≡ tail →
+      ((arc_of g a).tail ≡ (arc_of g a).head → ⊥) →
+      LeadsNoWorse C G (place_of F (arc_of g a).tail) (place_of F (arc_of g a).head) (C.of_arc (arc_of g a).weight)
+  loaded_all g tail roads lists F G j done all a has from other =
+      let at = arc_listed g tail roads lists a has from in
+      let low = at.1 in
+      subst (λ (t : ℕ). LeadsNoWorse C G (place_of F t) (place_of F (arc_of g a).head) (C.of_arc (arc_of g a).weight)) (sym from)
+      (done.linked (road_of (arc_of g a)) at.0 (omega (arith, low, all)) at.2 (λ e. other (from ∙ e)))
+
+  pub loaded_to_none : (g : GraphData) → IsGraph g → (F : FactorData W) → LoadedTo C g F F 0
+  loaded_to_none g roads F = record {
+    improves = improves_none C ordered 0 F;
+    covers = λ a has low other. let tail = (roads.ends a has).0.0 in absurd (omega (arith, tail, low));
+  }
+
+  pub loaded_to_more : (g : GraphData) (F G H : FactorData W) (k : ℕ) → LoadedTo C g F G k → Improves C 0 G H →
+      ((a : ℕ) → HasArc g a → (arc_of g a).tail ≡ k + 1 → ((arc_of g a).tail ≡ (arc_of g a).head → ⊥) →
+      LeadsNoWorse C H (place_of G (arc_of g a).tail) (place_of G (arc_of g a).head) (C.of_arc (arc_of g a).weight)) →
+      LoadedTo C g F H (k + 1)
+  loaded_to_more g F G H k done improves more = record {
+    improves = improves_more C ordered 0 F G H done.improves improves;
+    covers = λ a has low other.
+        let tail = (arc_of g a).tail in
+        let head = (arc_of g a).head in
+        elim (cases_lt k tail) [
+          | inr before ↦ still_leads C ordered 0 G H improves (place_of F tail) (place_of F head) (C.of_arc (arc_of g a).weight) (done.covers a has before other)
+          | inl above ↦
+              let is : tail ≡ k + 1 = omega (arith, above, low) in
+              subst (λ (p : ℕ). LeadsNoWorse C H p (place_of F head) (C.of_arc (arc_of g a).weight)) (same_place C 0 F G done.improves tail)
+              (subst (λ (p : ℕ). LeadsNoWorse C H (place_of G tail) p (C.of_arc (arc_of g a).weight)) (same_place C 0 F G done.improves head) (more a has is other))
+        ];
+  }
+
+  pub loaded_to_all : (g : GraphData) → IsGraph g → (F G : FactorData W) (k : ℕ) → LoadedTo C g F G k → g.vertices ≤ k → CoversArcs C g G
+  loaded_to_all g roads F G k done all = λ a has other.
+      let tail = (arc_of g a).tail in
+      let head = (arc_of g a).head in
+      let within = (roads.ends a has).0.1 in
+      subst (λ (p : ℕ). LeadsNoWorse C G p (place_of G head) (C.of_arc (arc_of g a).weight)) (sym (same_place C 0 F G done.improves tail))
+      (subst (λ (p : ℕ). LeadsNoWorse C G (place_of F tail) p (C.of_arc (arc_of g a).weight)) (sym (same_place C 0 F G done.improves head))
+      (done.covers a has (omega (arith, within, all)) other))
+
+  -- what was covered stays covered
+  pub still_covers : (g : GraphData) (F G : FactorData W) → Improves C 0 F G → CoversArcs C g F → CoversArcs C g G
+  still_covers g F G improves covers = λ a has other.
+      let tail = (arc_of g a).tail in
+      let head = (arc_of g a).head in
+      subst (λ (p : ℕ). LeadsNoWorse C G p (place_of G head) (C.of_arc (arc_of g a).weight)) (sym (same_place C 0 F G improves tail))
+      (subst (λ (p : ℕ). LeadsNoWorse C G (place_of F tail) p (C.of_arc (arc_of g a).weight)) (sym (same_place C 0 F G improves head))
+      (still_leads C ordered 0 F G improves (place_of F tail) (place_of F head) (C.of_arc (arc_of g a).weight) (covers a has other)))
+
+-- no links yet
+row_none : {W : Type 0} (n i : ℕ) → row_of {W = W} (replicate n []) i ≡ []
+row_none zero i = refl
+row_none (suc n) zero = refl
+row_none (suc n) (suc i) = row_none n i
+
+pub begun_empty : {V W : Type 0} (A : Algebra V) (C : Composition V W) (g : GraphData) (order places : List ℕ) → ArePlaces g.vertices order places →
+    IsBegun A C g (record { order = order; places = places; leaving = replicate g.vertices []; entering = replicate g.vertices [] })
+begun_empty {W = W} A C g order places are = record {
+  ordering = are;
+  links = record {
+    leaving_count = length-replicate g.vertices [];
+    entering_count = length-replicate g.vertices [];
+    rising = λ x y a h. absurd (none x (record { place = y; walk = a }) h);
+    falling = λ x y a h. absurd (none y (record { place = x; walk = a }) h);
+    sound = λ x y a l. elim l [
+      | inl h ↦ absurd (none x (record { place = y; walk = a }) h)
+      | inr h ↦ absurd (none y (record { place = x; walk = a }) h)
+    ];
+  };
+}
+  where
+    none : (i : ℕ) (k : Link W) → Contains (row_of (replicate g.vertices []) i) k → ⊥
+    none i k h = not_in_empty k (subst (λ (r : List (Link W)). Contains r k) (row_none g.vertices i) h)

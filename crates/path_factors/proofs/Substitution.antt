@@ -1,0 +1,152 @@
+-- Substitution in a factor gives best values.
+use Rattle.std.proofs.Common.{◌≡◌, ℕ, zero, suc, ◌+◌, ◌<◌, ◌≤◌, inl, inr, List, [], ◌∷◌, ◌++◌, length, ap, sym, ◌∙◌, subst, arith, Option, Some}
+use Rattle.std.specs.Prelude.{IsTrue, All, Contains}
+use Rattle.std.proofs.lemmas.Bool.{cases_eq}
+use Rattle.road_graph.specs.GraphData.{GraphData, IsGraph, HasArc, HasVertex, arc_of}
+use Rattle.path_algebra.specs.Algebra.{Algebra, IsLawful}
+use Rattle.path_algebra.specs.Composition.{Composition, IsComposition, applied}
+use Rattle.path_algebra.specs.Walks.{IsWalk, Extends, IsWalkValue, AreBest, IsNotImproving, label_of}
+use Rattle.path_algebra.proofs.Walks.{labels_are_best, walk_value_is_value, all_inside}
+use Rattle.path_factors.specs.Factors.{FactorData, IsFactor, Rises, Falls, Leads, IsWorthOfWalk, vertex_at, place_of}
+use Rattle.path_factors.specs.Substituting.{at, HasNoWorse, Passes, IsForward, IsBackward}
+
+-- a walk, and after it another
+pub IsWalk-append : (g : GraphData) (u : ℕ) (p : List ℕ) (v : ℕ) (q : List ℕ) (w : ℕ) → IsWalk g u p v → IsWalk g v q w →
+    IsWalk g u (p ++ q) w
+IsWalk-append g u [] v q w h k = subst (λ (s : ℕ). IsWalk g s q w) (sym h) k
+IsWalk-append g u (a ∷ p) v q w h k = (h.0, h.1, IsWalk-append g (arc_of g a).head p v q w h.2 k)
+
+pub Extends-append : {V : Type 0} (A : Algebra V) (g : GraphData) (x : V) (p : List ℕ) (y : V) (q : List ℕ) (z : V) →
+    Extends A g x p y → Extends A g y q z → Extends A g x (p ++ q) z
+Extends-append {V} A g x [] y q z h k = subst (λ (s : V). Extends A g s q z) (sym h) k
+Extends-append A g x (a ∷ p) y q z h k = (h.0, h.1, Extends-append A g h.0 p y q z h.2 k)
+
+module _ {V W : Type 0} (A : Algebra V) (lawful : IsLawful A) (C : Composition V W) (composes : IsComposition A C)
+    (g : GraphData) (roads : IsGraph g) (sources : List ℕ) where
+  -- a walk's value, extended by a walk
+  pub value_along : (u v : ℕ) (x z : V) (a : W) → IsWalkValue A g sources u x → IsWorthOfWalk A C g u v a →
+      C.apply x a ≡ Some z → IsWalkValue A g sources v z
+  value_along u v x z a w worth e =
+      let is = walk_value_is_value A lawful g roads sources u x w in
+      let on = worth x z is e in (
+        w.0 ++ on.0,
+        (w.1.0, w.1.1, IsWalk-append g w.1.0 w.0 u on.0 v w.1.2 on.1),
+        Extends-append A g A.origin w.0 x on.0 z w.2 on.2,
+      )
+
+  module _ (F : FactorData W) (factor : IsFactor A C g F) (before labels : List (Option V))
+      (forward : IsForward A C g F sources before) (backward : IsBackward A C g F before labels) where
+    -- each label is the value of a walk: by induction on how many places are above
+    values_within : (d i : ℕ) (x : V) → g.vertices ≤ i + d → i < g.vertices → at labels i ≡ Some x →
+        IsWalkValue A g sources (vertex_at F i) x
+    values_within zero i x far low e = absurd (omega arith)
+    values_within (suc d) i x far low e = elim ((backward.best i low).given x e) [
+      | inl same ↦ forward.values i x low same
+      | inr down ↦
+          let from = factor.links.falling down.place i down.walk down.falls in
+          let above = from.0 in
+          value_along (vertex_at F down.place) (vertex_at F i) down.value x down.walk
+          (values_within d down.place down.value (omega (arith, far, above)) from.1 down.label)
+          (factor.links.sound down.place i down.walk (inr down.falls)) down.extends
+    ]
+
+    pub values : (i : ℕ) (x : V) → i < g.vertices → at labels i ≡ Some x → IsWalkValue A g sources (vertex_at F i) x
+    values i x low e = values_within g.vertices i x (omega arith) low e
+
+    is_value : (i : ℕ) (x : V) → i < g.vertices → at labels i ≡ Some x → IsTrue (A.is_value x)
+    is_value i x low e = walk_value_is_value A lawful g roads sources (vertex_at F i) x (values i x low e)
+
+    -- no link to a lesser place improves a label
+    passes_down : (x y : ℕ) (a : W) → Falls F x y a → Passes A C (at labels x) a (at labels y)
+    passes_down x y a falls =
+        let inside = factor.links.falling x y a falls in
+        let low : y < g.vertices = omega (arith, inside.0, inside.1) in
+        (backward.best y low).down x a falls
+
+    -- no link to a greater place improves a label. A label that came down from a place z could have gone on from there:
+    -- by the link past x, or, if that would lead back to z, by staying there
+    passes_up : (d x y : ℕ) (a : W) → g.vertices ≤ x + d → Rises F x y a → Passes A C (at labels x) a (at labels y)
+    passes_up zero x y a far rises =
+        let inside = factor.links.rising x y a rises in
+        absurd (omega (arith, inside.0, inside.1))
+    passes_up (suc d) x y a far rises = λ u t e f.
+        let inside = factor.links.rising x y a rises in
+        let low : x < g.vertices = omega (arith, inside.0, inside.1) in
+        elim ((backward.best x low).given u e) [
+          | inl same ↦
+              let first = forward.up x y a rises u t same f in
+              let kept = (backward.best y inside.1).kept first.0 first.1 in
+              (kept.0, kept.1, lawful.ordered.transitive kept.0 first.0 t kept.2 first.2)
+          | inr from ↦
+              let z = from.place in
+              let places = factor.links.falling z x from.walk from.falls in
+              let above = places.0 in
+              let is = is_value z from.value places.1 from.label in
+              elim (cases_eq z y) [
+                | inl same ↦
+                    let falls = composes.never_better from.value from.walk u is from.extends in
+                    let on = composes.never_better u a t (composes.apply_is_value from.value from.walk u is from.extends) f in (
+                      from.value,
+                      subst (λ (i : ℕ). at labels i ≡ Some from.value) same from.label,
+                      lawful.ordered.transitive from.value u t falls on,
+                    )
+                | inr other ↦
+                    let past = factor.closed x low z y from.walk a from.falls rises other in
+                    let whole : C.apply from.value (C.compose from.walk a) ≡ Some t =
+                    composes.apply_composed from.value from.walk a is ∙ ap (λ (o : Option V). applied C o a) from.extends ∙ f in
+                    let better = composes.better_walk from.value past.0 (C.compose from.walk a) t is past.2 whole in
+                    let ends : HasNoWorse A (at labels y) better.0 = elim past.1 [
+                      | inl on ↦ passes_up d z y past.0 (omega (arith, far, above)) on from.value better.0 from.label better.1
+                      | inr down ↦ passes_down z y past.0 down from.value better.0 from.label better.1
+                    ] in
+                    (ends.0, ends.1, lawful.ordered.transitive ends.0 better.0 t ends.2 better.2)
+              ]
+        ]
+
+    pub passes : (x y : ℕ) (a : W) → Leads F x y a → Passes A C (at labels x) a (at labels y)
+    passes x y a leads = elim leads [
+      | inl rises ↦ passes_up g.vertices x y a (omega arith) rises
+      | inr falls ↦ passes_down x y a falls
+    ]
+
+    -- the labels by vertex
+    module _ (inside : All (HasVertex g) sources) (found : List (Option V)) (count : length found ≡ g.vertices)
+        (is : (v : ℕ) → HasVertex g v → label_of found v ≡ at labels (place_of F v)) where
+      by_vertex : (v : ℕ) (x : V) → HasVertex g v → label_of found v ≡ Some x → IsWalkValue A g sources v x
+      by_vertex v x in_v e =
+          let place = factor.ordering.place v in_v in
+          subst (λ (u : ℕ). IsWalkValue A g sources u x) place.1 (values (place_of F v) x place.0 (sym (is v in_v) ∙ e))
+
+      no_arc_improves : (a : ℕ) → HasArc g a → IsNotImproving A g found a
+      no_arc_improves a has = λ x z e f.
+          let tail = (arc_of g a).tail in
+          let head = (arc_of g a).head in
+          let ends = roads.ends a has in
+          let fits = roads.weights a has in
+          let value = walk_value_is_value A lawful g roads sources tail x (by_vertex tail x ends.0 e) in
+          elim (cases_eq tail head) [
+            | inl loop ↦ (
+              x,
+              subst (λ (v : ℕ). label_of found v ≡ Some x) loop e,
+              lawful.never_better x (arc_of g a).weight z value fits f,
+            )
+            | inr other ↦
+                let link = factor.covers a has other in
+                let at_tail : at labels (place_of F tail) ≡ Some x = sym (is tail ends.0) ∙ e in
+                let whole : C.apply x (C.of_arc (arc_of g a).weight) ≡ Some z = composes.apply_arc x (arc_of g a).weight value fits ∙ f in
+                let better = composes.better_walk x link.0 (C.of_arc (arc_of g a).weight) z value link.2 whole in
+                let last = passes (place_of F tail) (place_of F head) link.0 link.1 x better.0 at_tail better.1 in
+                (last.0, (let here = is head ends.1 in here ∙ last.1), lawful.ordered.transitive last.0 better.0 z last.2 better.2)
+          ]
+
+      at_source : (s : ℕ) → Contains sources s → (x : V) × (label_of found s ≡ Some x) × IsTrue (A.no_worse x A.origin)
+      at_source s c =
+          let in_s = all_inside g sources inside s c in
+          let first = forward.at_sources s c in
+          let kept = (backward.best (place_of F s) (factor.ordering.place s in_s).0).kept first.0 first.1 in
+          (kept.0, is s in_s ∙ kept.1, lawful.ordered.transitive kept.0 first.0 A.origin kept.2 first.2)
+
+      pub substitution_is_best : AreBest A g sources found
+      substitution_is_best =
+          labels_are_best A lawful g roads sources found (λ v x in_v e. by_vertex v x in_v e) no_arc_improves
+          (all_inside g sources inside) at_source count

@@ -1,0 +1,15 @@
+-- A running factor as plain data.
+use Rattle.std.specs.Prelude.{◌≡◌}
+use Rattle.road_graph.specs.GraphData.{GraphData}
+use Rattle.path_factors.specs.Factors.{FactorData}
+
+-- the algebra, the graph and its factor
+pub record FactorState (T W : Type 0) : Type 0 where
+  pub algebra : T
+  pub roads : GraphData
+  pub factor : FactorData W
+
+-- of the same algebra and graph
+pub record IsSameState {T W : Type 0} (before after : FactorState T W) : Type 0 where
+  pub algebra : after.algebra ≡ before.algebra
+  pub roads : after.roads ≡ before.roads

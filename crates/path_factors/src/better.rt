@@ -1,0 +1,36 @@
+//! The better of two labels.
+ghost use Rattle.std.specs.Prelude.{◌≡◌, ◌<◌, length, slice_set};
+ghost use Rattle.path_algebra.specs.Walks.{better_label};
+ghost use Rattle.path_factors.specs.Substituting.{at};
+
+use path_algebra::{PathAlgebra, laws_hold};
+
+/// The better of two labels, the only one, or none.
+pub(crate) fn better<A: PathAlgebra>(
+    algebra: A,
+    l: Option<A::Value>,
+    m: Option<A::Value>,
+) -> Option<A::Value>
+    ensures { result ≡ better_label (A.meaning algebra).no_worse l m }
+{
+    laws_hold(algebra);
+    match (l, m) {
+        (Some(y), Some(z)) => Some(if A::no_worse(y, z) { y } else { z }),
+        (None, Some(z)) => Some(z),
+        (l, None) => l,
+    }
+}
+
+/// Leaves a place the better of its label and another.
+pub(crate) fn offer<A: PathAlgebra>(
+    algebra: A,
+    labels: &mut [Option<A::Value>],
+    i: usize,
+    l: Option<A::Value>,
+)
+    requires { i < length labels.old }
+    ensures { labels.new ≡ slice_set labels.old i (better_label (A.meaning algebra).no_worse
+        (at labels.old i) l) }
+{
+    labels[i] = better(algebra, labels[i], l);
+}

@@ -1,0 +1,116 @@
+//! A link for each arc of the graph, before any place is eliminated.
+ghost use Rattle.std.specs.Prelude.{◌≡◌, ℕ, ◌<◌, OnOk};
+ghost use Rattle.road_graph.specs.GraphData.{HasArc, HasVertex, arc_of};
+ghost use Rattle.path_factors.specs.Factors.{CoversArcs, LeadsNoWorse, IsWorthOfWalk, place_of};
+ghost use Rattle.path_factors.specs.Eliminating.{Improves};
+ghost use Rattle.path_factors.specs.State.{IsSameState};
+
+use crate::elimination::Elimination;
+use path_algebra::ComposingAlgebra;
+use road_graph::{Memory, OutRoad, Vertex};
+
+impl<'g, A: ComposingAlgebra> Elimination<'g, A> {
+    /// The place of a vertex.
+    fn place(&self, v: Vertex) -> u32
+        requires { HasVertex self.now.roads v }
+        ensures place { result ≡ place_of self.now.factor v }
+        ensures inside { result < self.now.roads.vertices }
+    {
+        self.places[v.0 as usize - 1]
+    }
+
+    /// Puts a link back for a road from a vertex, though it is no walk.
+    fn mirror_road(&mut self, tail: Vertex, road: OutRoad) -> Result<(), Memory>
+        requires tail { HasVertex self.old.roads tail }
+        requires head { HasVertex self.old.roads road.head }
+        ensures same { OnOk result (IsSameState self.old self.new) }
+        ensures improves { OnOk result (Improves (A.walks self.old.algebra) 0 self.old.factor
+            self.new.factor) }
+    {
+        self.holds();
+        let walk = self.algebra.no_walk();
+        self.connect(self.place(road.head), self.place(tail), walk)?;
+        Ok(())
+    }
+
+    /// Puts a link back for each arc that leaves a vertex.
+    fn mirror_from(&mut self, tail: Vertex) -> Result<(), Memory>
+        requires { HasVertex self.old.roads tail }
+        ensures same { OnOk result (IsSameState self.old self.new) }
+        ensures improves { OnOk result (Improves (A.walks self.old.algebra) 0 self.old.factor
+            self.new.factor) }
+    {
+        self.holds();
+        let graph = self.graph;
+        for road in graph.roads_from(tail) {
+            self.mirror_road(tail, *road)?;
+        }
+        Ok(())
+    }
+
+    /// Puts a link back for each arc, so that the rows of a place list the same places both ways.
+    pub(crate) fn mirror(&mut self) -> Result<(), Memory>
+        ensures same { OnOk result (IsSameState self.old self.new) }
+        ensures improves { OnOk result (Improves (A.walks self.old.algebra) 0 self.old.factor
+            self.new.factor) }
+    {
+        self.holds();
+        for i in 0..self.graph.vertices() {
+            self.mirror_from(Vertex(i + 1))?;
+        }
+        Ok(())
+    }
+
+    /// Puts a link for a road from a vertex.
+    fn add(&mut self, tail: Vertex, road: OutRoad) -> Result<(), Memory>
+        requires tail { HasVertex self.old.roads tail }
+        requires head { HasVertex self.old.roads road.head }
+        requires worth { IsWorthOfWalk (A.meaning self.old.algebra) (A.walks self.old.algebra)
+            self.old.roads tail road.head ((A.walks self.old.algebra).of_arc road.weight) }
+        ensures same { OnOk result (IsSameState self.old self.new) }
+        ensures improves { OnOk result (Improves (A.walks self.old.algebra) 0 self.old.factor
+            self.new.factor) }
+        ensures leads { OnOk result ((tail ≡ road.head → ⊥) →
+            LeadsNoWorse (A.walks self.old.algebra) self.new.factor (place_of self.old.factor tail)
+            (place_of self.old.factor road.head) ((A.walks self.old.algebra).of_arc road.weight)) }
+    {
+        self.holds();
+        let walk = self.algebra.of_arc(road.weight);
+        self.connect(self.place(tail), self.place(road.head), walk)?;
+        Ok(())
+    }
+
+    /// Puts a link for each arc that leaves a vertex.
+    fn load_from(&mut self, tail: Vertex) -> Result<(), Memory>
+        requires { HasVertex self.old.roads tail }
+        ensures same { OnOk result (IsSameState self.old self.new) }
+        ensures improves { OnOk result (Improves (A.walks self.old.algebra) 0 self.old.factor
+            self.new.factor) }
+        ensures covers { OnOk result ((a : ℕ) → HasArc self.old.roads a → (arc_of self.old.roads a).tail ≡ tail →
+            ((arc_of self.old.roads a).tail ≡ (arc_of self.old.roads a).head → ⊥) →
+            LeadsNoWorse (A.walks self.old.algebra) self.new.factor (place_of self.old.factor (arc_of self.old.roads a).tail)
+            (place_of self.old.factor (arc_of self.old.roads a).head) ((A.walks self.old.algebra).of_arc (arc_of self.old.roads a).weight)) }
+    {
+        self.holds();
+        let graph = self.graph;
+        for road in graph.roads_from(tail) {
+            self.add(tail, *road)?;
+        }
+        Ok(())
+    }
+
+    /// Puts a link for each arc.
+    pub(crate) fn load(&mut self) -> Result<(), Memory>
+        ensures same { OnOk result (IsSameState self.old self.new) }
+        ensures improves { OnOk result (Improves (A.walks self.old.algebra) 0 self.old.factor
+            self.new.factor) }
+        ensures covers { OnOk result (CoversArcs (A.walks self.old.algebra) self.old.roads
+            self.new.factor) }
+    {
+        self.holds();
+        for i in 0..self.graph.vertices() {
+            self.load_from(Vertex(i + 1))?;
+        }
+        Ok(())
+    }
+}

@@ -11,7 +11,7 @@ use crate::stops::Stops;
 use path_algebra::{Labels, PathAlgebra};
 use post_floor::Floor;
 use road_graph::{Graph, Vertex};
-use shard_part::Plan;
+use shard_part::{Plan, QueueOrder};
 use station::{Finished, Station, gather, open_diffusion};
 use std::alloc::{AllocError, Global};
 use std::sync::atomic::{AtomicU64, Ordering};
@@ -91,7 +91,8 @@ fn solved_on_threads<A: PathAlgebra, R: Threads + Sync>(
     requires plan { length plan.now.list ≡ graph.now.vertices }
     ensures { IfOk result (λ labels. AreBest (A.meaning algebra) graph.now (source ∷ []) labels) }
 {
-    let (floor, stations) = open_diffusion(alloc, algebra, graph, plan, source)?;
+    let order = QueueOrder::Arrival;
+    let (floor, stations) = open_diffusion(alloc, algebra, graph, plan, source, order)?;
     let stations = turn_all(rt, &floor, algebra, stations, board)?;
     let done = finished(alloc, &floor, stations)?;
     match gather(alloc, floor, done) {

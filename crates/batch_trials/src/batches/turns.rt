@@ -13,7 +13,7 @@ use path_algebra::{PathAlgebra, Reach, Shortest, Widest};
 use post_floor::Floor;
 use road_graph::{Graph, Vertex};
 use road_text::Plain;
-use shard_part::Plan;
+use shard_part::{Plan, QueueOrder};
 use station::{Station, open_diffusion};
 use std::process::Abort;
 use std::sync::Wait;
@@ -111,7 +111,8 @@ fn turns_alone<A: PathAlgebra>(
 ) -> u64 {
     assert!(rt; 1 <= shards && shards <= 64 && graph.has(Vertex(source)));
     let plan = Plan::blocks(rt.alloc(), graph.vertices(), shards).expect(rt, "memory");
-    let opened = open_diffusion(rt.alloc(), algebra, graph, &plan, Vertex(source));
+    let (source, order) = (Vertex(source), QueueOrder::Arrival);
+    let opened = open_diffusion(rt.alloc(), algebra, graph, &plan, source, order);
     let (floor, stations) = opened.expect(rt, "memory");
     turns_to_the_end(rt, &floor, stations)
 }

@@ -51,6 +51,7 @@ pub const SLOW: Settings = Settings {
     budget: 1,
     turns: 1_000_000,
     plain: false,
+    best_first: false,
 };
 
 /// Asserts that each of two workers has made its mark.
@@ -113,6 +114,18 @@ fn any_workers_and_shards(rt: HostRuntime) {
 }
 
 #[test]
+fn best_first_writes_the_same(rt: HostRuntime) {
+    for shards in [1, 3] {
+        let settings = Settings {
+            shards,
+            best_first: true,
+            ..Settings::default()
+        };
+        assert_unchanged(&rt, &settings);
+    }
+}
+
+#[test]
 fn plain_writes_the_same(rt: HostRuntime) {
     let settings = Settings {
         plain: true,
@@ -153,10 +166,21 @@ fn is_answered(
     answered
 }
 
+/// Nine messages and nine signals, an item a turn; best first seven and seven.
 #[test]
 fn turn_limits(rt: HostRuntime) {
-    for &(turns, wanted) in &[(0, false), (17, false), (18, true)] {
-        let settings = Settings { turns, ..SLOW };
+    for &(turns, best_first, wanted) in &[
+        (0, false, false),
+        (17, false, false),
+        (18, false, true),
+        (13, true, false),
+        (14, true, true),
+    ] {
+        let settings = Settings {
+            turns,
+            best_first,
+            ..SLOW
+        };
         assert_eq!(rt; is_answered(&rt, &settings), wanted);
     }
 }

@@ -13,3 +13,4 @@ mod Moved
 mod SameSources
 mod Reporting
 mod Flushing
+mod FileFaults

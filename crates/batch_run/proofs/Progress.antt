@@ -1,11 +1,8 @@
 -- A batch on its way: the first questions were answered, and their answers written.
-use Rattle.std.proofs.Common.{◌≡◌, ◌≢◌, ℕ, ◌+◌, ◌<◌, ◌≤◌, List, [], ◌∷◌, ◌++◌, length, take, get_or, Option, Some, None, Result, Ok, Err, Bool, inl, inr, ◌⊎◌, refl, sym, ap, ◌∙◌, subst, append_assoc, append-nil, arith}
+use Rattle.std.proofs.Common.{◌≡◌, ◌≢◌, ℕ, ◌+◌, ◌<◌, ◌≤◌, List, [], ◌∷◌, ◌++◌, length, take, get_or, Option, Result, Ok, Err, Bool, true, false, inl, inr, refl, sym, ap, ◌∙◌, subst, append_assoc, append-nil, arith}
 use Rattle.std.proofs.lemmas.Bool.{cases_eq}
 use Rattle.std.proofs.lemmas.List.{take_all, take_more}
-use Rattle.std.proofs.lemmas.Result.{IfErr-weaker}
 use Rattle.std.specs.Io.KnownBytes.{Appends}
-use Rattle.std.specs.Result.{OnOk, IfErr}
-use Rattle.std.specs.Prelude.{is_none}
 use Rattle.road_graph.specs.GraphData.{GraphData}
 use Rattle.road_text.specs.Written.{WrotePrefix, FailedAfterPrefix}
 use Rattle.road_text.proofs.WriteLaws.{left_more, left_fell, left_appends}
@@ -23,9 +20,9 @@ use Rattle.batch_run.specs.declared.faults.Unanswered.TheVariants as variants
 use Rattle.batch_run.specs.declared.settings.Settings.{Settings}
 use Rattle.worker_fleet.specs.declared.group.GroupFault.{GroupFault}
 use Rattle.worker_fleet.specs.declared.group.GroupFault.TheVariants as group
-use Rattle.batch_run.specs.Answered.{AnsweredAll, WroteAnswer, WroteAnswers, WroteHeader, WroteNext, begun_text, WroteFirst, WroteWhole, WroteAllOrFirst, fault_of_answer, fault_of_group}
+use Rattle.batch_run.specs.Answered.{AnsweredAll, WroteAnswer, WroteAnswers, WroteHeader, WroteNext, begun_text, WroteFirst, WroteWhole, fault_of_answer, fault_of_group}
 use Rattle.worker_fleet.specs.Stops.{Says}
-use Rattle.batch_run.specs.Ran.{IsLater, IsPlainLater}
+use Rattle.batch_run.specs.Ran.{IsLater, by_solver}
 
 -- the first i questions were answered, and the answers written
 pub record Progress {V : Type 0} (A : Algebra V) (g : GraphData) (asked : Asked) (i : ℕ) (old new : Option (List ℕ)) (before after : ℕ) : Type 0 where
@@ -173,18 +170,6 @@ module _ {V : Type 0} (A : Algebra V) (g : GraphData) (asked : Asked) where
         let three = ap (λ (e : RunFault). e.number) is in
         stopped_between i f (λ e. absurd (omega (arith, three, e))) (subst MayStop (sym is) kind) p
 
-    -- a fault that may stop it is of another kind too
-    pub stopped_otherwise : (Other : RunFault → Type 0) → ((f : RunFault) → MayStop f → Other f) → (r : Result (Unit {0}) RunFault) → AnsweredAll A g asked MayStop old new b a r →
-        AnsweredAll A g asked Other old new b a r
-    stopped_otherwise Other weaker r h = record {
-      text = h.text;
-      sound = h.sound;
-      kind = IfErr-weaker r _ _ weaker h.kind;
-      failed = h.failed;
-      unfailed = h.unfailed;
-      whole = h.whole;
-    }
-
     -- no failure is taken back
     pub no_fewer_failures : (r : Result (Unit {0}) RunFault) → AnsweredAll A g asked MayStop old new b a r → b ≤ a
     no_fewer_failures (Ok u) h = let same = h.sound in omega (arith, same)
@@ -200,9 +185,8 @@ module _ {V : Type 0} (A : Algebra V) (g : GraphData) (asked : Asked) where
       record {
         answers = record { name = A.name; kind = asked.kind; n = g.vertices; list = p.answers };
         right = record { name_is = refl; kind_is = refl; n_is = refl; answers = right };
-        bytes = subst (Appends old new)
-            (sym (p.left.text_is ∙ append-nil p.left.prefix) ∙ ap (λ n. header_text asked.kind n A.name ++ blocks_text p.answers) (sym (answers_count A g asked.questions p.answers right)))
-            p.left.bytes;
+        bytes = subst (Appends old new) (ap (λ n. header_text asked.kind n A.name ++ blocks_text p.answers) (sym (answers_count A g asked.questions p.answers right)))
+            (left_appends old new b a (begun_text A asked p.answers) p.left);
       }
 
   -- all questions are answered
@@ -211,14 +195,13 @@ module _ {V : Type 0} (A : Algebra V) (g : GraphData) (asked : Asked) where
   all_answered MayStop i old new b a le p = record { text = whole_text i old new b a le p; sound = p.left.sound; kind = tt; failed = tt; unfailed = tt; whole = tt }
 
 -- labels were not found: memory or a thread was refused; or, if workers answer, one of them stopped
-pub group_later : {X : Type 0} (s : Settings) (answers : ℕ → ℕ → Bool → Type 0) (schedule : Option X) (f : GroupFault) → is_none schedule ≡ s.plain →
-    (schedule ≡ None → f ≡ group.Memory) → Says answers s.workers s.turns f →
-    IsLater s answers (fault_of_group f)
-group_later s answers schedule group.Memory kind plain says = (refl, refl, inl refl)
-group_later s answers (Some x) group.Stalled kind plain says = (refl, refl, inr (inl (refl, sym kind, says)))
-group_later s answers None group.Stalled kind plain says = let bad : group.Stalled ≡ group.Memory = plain refl in absurd cc
-group_later s answers (Some x) group.Gated kind plain says = (refl, refl, inr (inr (inl (refl, sym kind, says))))
-group_later s answers None group.Gated kind plain says = let bad : group.Gated ≡ group.Memory = plain refl in absurd cc
+pub group_later : (s : Settings) (answers : ℕ → ℕ → Bool → Type 0) (plain : Bool) (f : GroupFault) → (plain ≡ true → f ≡ group.Memory) → Says answers s.workers s.turns f →
+    IsLater (by_solver plain s) answers (fault_of_group f)
+group_later s answers plain group.Memory only says = (refl, refl, inl refl)
+group_later s answers false group.Stalled only says = (refl, refl, inr (inl (refl, refl, says)))
+group_later s answers true group.Stalled only says = let bad : group.Stalled ≡ group.Memory = only refl in absurd cc
+group_later s answers false group.Gated only says = (refl, refl, inr (inr (inl (refl, refl, says))))
+group_later s answers true group.Gated only says = let bad : group.Gated ≡ group.Memory = only refl in absurd cc
 
 -- no fault of labels is a failed write
 no_write : (f : GroupFault) → (fault_of_group f).number ≡ 42 → ⊥
@@ -240,11 +223,3 @@ module _ {V : Type 0} (A : Algebra V) (g : GraphData) (q : Question) (old : Opti
   pub not_written : (new : Option (List ℕ)) (a : ℕ) (u : Unanswered) → WroteAnswer A g q old new b a (Err u) → WroteNext A g q old new b a (Err (fault_of_answer u))
   not_written new a variants.Memory h = (variants.Memory, h, (λ e. absurd (omega (arith, e)), λ e. let bad : variants.Memory ≡ variants.Write = e in cc))
   not_written new a variants.Write h = (variants.Write, h, (λ e. refl, λ e. refl))
-
--- the plain solver is stopped by want of memory or a failed write
-pub plain_stop : (u : Unanswered) → IsPlainLater (fault_of_answer u)
-plain_stop variants.Memory = (refl, refl, inl refl)
-plain_stop variants.Write = (refl, refl, inr refl)
-
-pub plain_is_later : (s : Settings) (answers : ℕ → ℕ → Bool → Type 0) (f : RunFault) → IsPlainLater f → IsLater s answers f
-plain_is_later s answers f h = (h.0, h.1, elim h.2 [ inl memory ↦ inl memory | inr write ↦ inr (inr (inr write)) ])

@@ -1,9 +1,7 @@
 -- What was reported so far, and one report more.
-use Rattle.std.proofs.Common.{◌≡◌, ◌⊎◌, inl, inr, ℕ, zero, suc, ◌+◌, ◌<◌, ◌≤◌, Bool, true, List, [], ◌∷◌, ◌++◌, length, map, take, get_or, Option, Some, None, Result, Ok, Err, refl, sym, ap, ◌∙◌, subst, append_assoc, append-nil, arith}
-use denote.Ref.{Bor}
-use Rattle.std.specs.Prelude.{is_none, OnOk, OnErr, IfErr}
+use Rattle.std.proofs.Common.{◌≡◌, ℕ, zero, suc, ◌+◌, ◌<◌, ◌≤◌, Bool, true, List, [], ◌∷◌, ◌++◌, length, map, take, get_or, Result, Ok, Err, refl, sym, ap, ◌∙◌, subst, append_assoc, append-nil, arith}
+use Rattle.std.specs.Prelude.{IfErr}
 use Rattle.std.specs.List.{AllZip, flat_map}
-use Rattle.std.specs.Option.{option_copied}
 use Rattle.std.proofs.lemmas.List.{take_all, take_more, map-append}
 use Rattle.std.proofs.lemmas.List.Concat.{flat_map-cons}
 use Rattle.road_graph.specs.GraphData.{GraphData}
@@ -219,11 +217,6 @@ none_diffused (q ∷ qs) = flat_map-cons (diffused true) q qs ∙ none_diffused 
 
 pub none_counted : (qs : List Question) → 0 ≡ count_diffusions true qs
 none_counted qs = sym (ap (λ (l : List ℕ). length l) (none_diffused qs))
-
--- there is a plan unless the plain solver answers
-pub kind_copied : {X : Type 0} (plan : Option (Bor X)) (prepared : Option X) (plain : Bool) → option_copied plan ≡ prepared → is_none prepared ≡ plain → is_none plan ≡ plain
-kind_copied {X} None prepared plain e k = ap (λ (o : Option X). is_none o) e ∙ k
-kind_copied {X} (Some p) prepared plain e k = ap (λ (o : Option X). is_none o) e ∙ k
 
 -- what a run reports of inputs that were read, from what answering them reports
 pub watched : {V S : Type 0} (A : Algebra V) (how : Settings) (IsRead : GraphData → Asked → Type 0) (may_become : S → Report → S → Type 0) (old new : S) (g : GraphData)

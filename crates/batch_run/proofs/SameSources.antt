@@ -1,8 +1,10 @@
 -- What is solved for one question, for those with the same sources, and for several side by side.
-use Rattle.std.proofs.Common.{arith, ◌≡◌, ℕ, ◌<◌, List, [], ◌∷◌, ◌++◌, length, get_or, map, All, HoldsAt, Vec, Global, subst, sym, ap, ◌∙◌}
+use Rattle.std.proofs.Common.{arith, ◌≡◌, ℕ, ◌<◌, List, [], ◌∷◌, length, get_or, map, All, HoldsAt, Vec, Global, subst, sym}
 use Rattle.std.proofs.lemmas.List.Elements.{All-nil, All-cons, All-head, All-tail}
 use Rattle.std.specs.List.{AllZip}
-use Rattle.std.specs.Prelude.{Result, Ok, Err, IfOk, MatchResult, Contains}
+use Rattle.std.specs.Prelude.{Result, Ok, Err, IfOk, IfSome, MatchResult, Contains, slice_get}
+use Rattle.road_files.proofs.QuestionLaws.{any_of}
+use Rattle.std.proofs.lemmas.Option.{slice_get-get_or}
 use Rattle.road_graph.specs.GraphData.{GraphData}
 use Rattle.road_files.specs.Asked.{Question, Asked, sources_of}
 use Rattle.path_algebra.specs.Algebra.{Algebra}
@@ -46,17 +48,6 @@ module _ {V : Type 0} (A : Algebra V) (g : GraphData) (asked : Asked) (i : ℕ) 
       for_other A g asked i s.place s (all k d (subst (λ l. k < length l) e low)).solved
       (subst (λ l. HoldsAt (λ s. (d : Question) → sources_of (get_or asked.questions s.place d) ≡ sources_of (get_or asked.questions i d)) l k) e same d)
 
-  -- a question that is solved, alone in the list
-  module _ (s : Solved V) (none ss : List (Solved V)) (h : IsSolvedAt A g asked i s) (empty : none ≡ []) (pushed : ss ≡ none ++ s ∷ []) where
-    alone : ss ≡ s ∷ []
-    alone = pushed ∙ ap (λ l. l ++ s ∷ []) empty
-
-    pub alone_answers : HoldsAt (IsSolvedFor A g asked i) ss 0
-    alone_answers d = subst (λ l. IsSolvedFor A g asked i (get_or l 0 d)) (sym alone) h.solved
-
-    pub alone_solved : i < length asked.questions → All (IsSolved A g asked) ss
-    alone_solved low = subst (All (IsSolved A g asked)) (sym alone) (All-cons (IsSolved A g asked) s [] (at_own A g asked i s low h) (All-nil (IsSolved A g asked)))
-
 -- what each of a list came to, where none failed
 all_ok : {S : Type 0} (E : Type 0) (Holds : ℕ → S → Type 0) (places : List ℕ) (ss : List S) → AllZip (λ k (r : Result S E). IfOk r (Holds k)) places (map Ok ss) → AllZip Holds places ss
 all_ok E Holds [] [] h = tt
@@ -69,3 +60,10 @@ pub gathered : {S E : Type 0} (Holds : ℕ → S → Type 0) (places : List ℕ)
     → MatchResult v (λ c. (ss : List S) × (rs ≡ map Ok ss) × (c.items ≡ ss)) (λ e. Contains rs (Err e)) → IfOk v (λ c. AllZip Holds places c.items)
 gathered Holds places rs (Ok c) each (ss, were, is) = rw is (all_ok _ Holds places ss (subst (λ l. AllZip (λ k r. IfOk r (Holds k)) places l) were each))
 gathered Holds places rs (Err e) each h = tt
+
+-- the one at a place answers the question
+pub held_answers : {V : Type 0} (A : Algebra V) (g : GraphData) (asked : Asked) (i k : ℕ) (ss : List (Solved V)) → k < length ss → HoldsAt (IsSolvedFor A g asked i) ss k →
+    IfSome (slice_get ss k) (IsSolvedFor A g asked i)
+held_answers A g asked i k ss low h =
+    let d = any_of ss k low in
+    rw (slice_get-get_or ss k d low) (h d)

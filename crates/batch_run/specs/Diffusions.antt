@@ -1,16 +1,20 @@
--- Diffusions that were run to their end, and are to be gathered.
-use Rattle.std.specs.Prelude.{◌≡◌, ℕ, ◌<◌, List, ◌++◌, length, map, get_or, drop, reverse, true, Option, IfSome}
+-- Diffusions that were run to their end, and those that were gathered.
+use Rattle.std.specs.Prelude.{◌≡◌, ℕ, ◌<◌, List, [], ◌∷◌, ◌++◌, length, map, get_or, drop, reverse, true}
 use Rattle.std.specs.List.{All, flat_map}
 use Rattle.road_graph.specs.GraphData.{GraphData}
 use Rattle.road_files.specs.Asked.{Question, sources_of}
+use Rattle.path_algebra.specs.Algebra.{Algebra}
+use Rattle.path_algebra.specs.Walks.{AreBest}
 use Rattle.shard_store.specs.Plans.{PlanData}
 use Rattle.shard_store.specs.Setup.{SetupData}
 use Rattle.post_floor.specs.Data.{FloorData}
 use Rattle.station.specs.Opened.{setup_of}
 use Rattle.station.specs.Station.{StationData, BelongsTo}
 use Rattle.worker_fleet.specs.Groups.{HasShard}
-use denote.Ref.{Bor}
 use Rattle.batch_run.specs.declared.solve.diffusion.EndedDiffusion.{EndedDiffusion}
+use Rattle.batch_run.specs.declared.solve.diffusion.GatheredDiffusion.{GatheredDiffusion}
+use Rattle.batch_run.specs.declared.solve.queue.DiffusionQueue.{DiffusionQueue}
+use Rattle.batch_run.specs.Reports.{IsAccount}
 
 -- the plan is one of the graph
 abbrev pub IsPlanOf : GraphData → PlanData → Type 0
@@ -36,16 +40,18 @@ pub record AreEnded {A V : Type 0} (t : SetupData A) (floor : FloorData A) (stat
 abbrev pub IsEnded : {A V : Type 0} → A → GraphData → PlanData → EndedDiffusion A V → Type 0
 IsEnded algebra roads plan e = AreEnded (setup_of algebra roads e.source plan) e.floor e.stations.items
 
+-- a diffusion over the graph was gathered: its labels are best from its source, and its counts are its own
+pub record IsGatheredOver {V : Type 0} (A : Algebra V) (g : GraphData) (d : GatheredDiffusion V) : Type 0 where
+  pub labels : AreBest A g (d.source ∷ []) d.labels
+  pub account : IsAccount A g d.source d.tally
+
 -- the sources of diffusions of which the next one is last, in the order in which they are taken
-abbrev pub sources_in_order : {A V : Type 0} → List (EndedDiffusion A V) → List ℕ
-sources_in_order waiting = reverse (map (λ e. e.source) waiting)
+abbrev pub sources_in_order : {V : Type 0} → List (GatheredDiffusion V) → List ℕ
+sources_in_order waiting = reverse (map (λ d. d.source) waiting)
 
--- those that wait were run to their end, and their sources are a prefix of those to come
-pub record AreNext {A V : Type 0} (algebra : A) (roads : GraphData) (plan : PlanData) (to_come : List ℕ) (waiting : List (EndedDiffusion A V)) : Type 0 where
-  pub ended : All (IsEnded algebra roads plan) waiting
+-- the plan is one of the graph, those that wait were gathered, and their sources are a prefix of those to come
+pub record AreNext {V : Type 0} (A : Algebra V) (g : GraphData) (to_come : List ℕ) (queue : DiffusionQueue V) : Type 0 where
+  pub plan : IsPlanOf g queue.plan
+  pub gathered : All (IsGatheredOver A g) queue.waiting.items
   pub rest : List ℕ
-  pub sources_are : to_come ≡ sources_in_order waiting ++ rest
-
--- if there is a plan, it is one of the graph, and those that wait are the next
-abbrev pub AreReady : {A V : Type 0} → A → GraphData → Option (Bor PlanData) → List ℕ → List (EndedDiffusion A V) → Type 0
-AreReady algebra roads plan to_come waiting = IfSome plan (λ p. IsPlanOf roads p.now × AreNext algebra roads p.now to_come waiting)
+  pub sources_are : to_come ≡ sources_in_order queue.waiting.items ++ rest

@@ -6,7 +6,9 @@ pub mod Answered
 pub mod Ran
 pub mod FaultTexts
 pub mod Stopping
+pub mod Streams
 pub mod Runs
-pub mod ArcsByHead
-pub mod BatchGraphs
 pub mod Reports
+pub mod Inputs
+pub mod InputLaws
+pub mod Solvers

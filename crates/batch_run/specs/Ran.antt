@@ -12,7 +12,7 @@ use Rattle.batch_run.specs.Stopping.{Stalls, Closes}
 use Rattle.batch_run.specs.declared.faults.RunFault.{RunFault}
 use Rattle.batch_run.specs.declared.faults.File.{File}
 use Rattle.batch_run.specs.declared.settings.Settings.{Settings}
-use Rattle.batch_run.specs.declared.faults.File.TheVariants.{NoFile}
+use Rattle.batch_run.specs.declared.faults.File.TheVariants.{Graph, Questions, Bundle, NoFile}
 use Rattle.batch_run.specs.Answered.{WroteAnswers, WroteAnswersPrefix, WroteWhole}
 
 -- the value is what the input spells; and it is what some text spells, also if the input does not show its bytes
@@ -72,6 +72,13 @@ IsBundleFault input f = IsTextFault f → IfSome input (λ b. text_read bundle_r
 abbrev pub IsRoadNumber : ℕ → Type 0
 IsRoadNumber number = IsNumberFrom 10 19 number
 
+-- the inputs of a pair are these, and that of a bundle is this one
+abbrev pub IsPairFile : File → Type 0
+IsPairFile file = (file ≡ Graph) ⊎ (file ≡ Questions)
+
+abbrev pub IsBundleFile : File → Type 0
+IsBundleFile file = file ≡ Bundle
+
 -- a fault of one of these inputs, with a number of theirs; or one of the run: memory or a thread, a limit of turns, a gate, a write, or a setting
 abbrev pub IsRunFaultOf : (File → Type 0) → RunFault → Type 0
 IsRunFaultOf inputs f =
@@ -84,9 +91,9 @@ abbrev pub IsLater : Settings → (ℕ → ℕ → Bool → Type 0) → RunFault
 IsLater s answers f = (f.file ≡ NoFile) × (f.line ≡ 0)
     × ((f.number ≡ 3) ⊎ (((f.number ≡ 40) × (s.plain ≡ false) × Stalls answers s.workers s.turns) ⊎ (((f.number ≡ 41) × (s.plain ≡ false) × Closes answers s.workers s.turns) ⊎ (f.number ≡ 42))))
 
--- a fault that comes then, where the plain solver answers: memory or a write
-abbrev pub IsPlainLater : RunFault → Type 0
-IsPlainLater f = (f.file ≡ NoFile) × (f.line ≡ 0) × ((f.number ≡ 3) ⊎ (f.number ≡ 42))
+-- these settings, if a solver of this kind answers
+abbrev pub by_solver : (plain : Bool) → Settings → Settings
+by_solver plain s = record s { plain = plain }
 
 -- nothing is held back: all was passed on, or passing it on failed
 abbrev pub IsPassedOn : List ℕ → ℕ → ℕ → Type 0

@@ -3,20 +3,19 @@ ghost use Rattle.std.specs.Prelude.{◌≡◌, ◌≢◌, ◌+◌, ◌≤◌, �
 ghost use Rattle.std.specs.Io.KnownBytes.{Keeps};
 ghost use Rattle.road_files.specs.Asked.{AreQuestionsOf, asked_of};
 ghost use Rattle.batch_run.specs.Answered.{WroteAllOrPrefix, WroteWhole};
-ghost use Rattle.batch_run.specs.InRange.{AreInRange};
 ghost use Rattle.batch_run.specs.Reports.{ReportedAllOrPrefix, batch_due};
-ghost use Rattle.batch_run.specs.Ran.{IsPassedOn, IsLater};
+ghost use Rattle.batch_run.specs.Ran.{IsPassedOn, IsLater, by_solver};
+ghost use Rattle.batch_run.specs.Solvers.{graph_of, is_plain};
 
-use crate::batch_graph::{Answerable, answer_over};
+use crate::answering::answer_all;
+use crate::batch::Batch;
 use crate::faults::{File, RunFault, WRITE, fault_of_run};
 use crate::laws::answers_exist;
-use crate::settings::Settings;
+use crate::solve::Solver;
 use crate::watcher::Watcher;
 use answer_text::first_answers_begin_all;
 use path_algebra::PathAlgebra;
-use road_files::Questions;
 use road_text::RoadWrite;
-use std::alloc::Global;
 use std::sync::Wait;
 use std::thread::Threads;
 use worker_fleet::Gate;
@@ -54,43 +53,34 @@ pub(crate) fn answer_and_flush<
     W: RoadWrite,
     R: Threads + Wait + Sync,
     T: Gate,
-    B: Answerable,
     O: Watcher,
 >(
-    rt: &R,
-    alloc: Global,
-    algebra: A,
-    graph: B,
-    questions: Questions,
+    batch: &Batch<'_, A, R, T>,
+    solver: &mut Solver<A::Value>,
     out: &mut W,
-    settings: &Settings,
-    gate: &T,
     watcher: &mut O,
 ) -> Result<(), RunFault>
-    requires within { AreQuestionsOf (B.roads graph).vertices questions }
-    requires settings { AreInRange settings.now }
-    requires kind { settings.now.plain ≡ B.is_plain }
-    ensures text { WroteAllOrPrefix (A.meaning algebra) (B.roads graph) (asked_of questions)
-        (W.written out.old) (W.written out.new) result }
+    requires within { AreQuestionsOf (graph_of solver.old).vertices batch.now.questions.now }
+    ensures text { WroteAllOrPrefix (A.meaning batch.now.algebra) (graph_of solver.old)
+        (asked_of batch.now.questions.now) (W.written out.old) (W.written out.new) result }
     ensures passed_on { OnOk result (W.held out.new ≡ []) }
     ensures sound { OnOk result (W.failures out.new ≡ W.failures out.old) }
-    ensures later { IfErr result (λ f. IsLater settings.now (T.may_answer gate.now) f ×
+    ensures later { IfErr result (λ f. IsLater (by_solver (is_plain solver.old)
+        batch.now.run.now.settings.now) (T.may_answer batch.now.run.now.gate.now) f ×
         (f.number ≡ 42 → W.failures out.old < W.failures out.new)) }
-    ensures whole { IfErr result (λ f. f.number ≢ 42 → WroteWhole (A.meaning algebra)
-        (B.roads graph) (asked_of questions) (W.written out.old) (W.written out.new)) }
+    ensures whole { IfErr result (λ f. f.number ≢ 42 → WroteWhole (A.meaning batch.now.algebra)
+        (graph_of solver.old) (asked_of batch.now.questions.now) (W.written out.old)
+        (W.written out.new)) }
     ensures once { IfErr result (λ f. f.number ≢ 42 → W.failures out.new ≤ W.failures out.old + 1) }
     ensures flushed { IfErr result (λ f. f.number ≢ 42 → IsPassedOn (W.held out.new)
         (W.failures out.old) (W.failures out.new)) }
-    ensures reported { ReportedAllOrPrefix (A.meaning algebra) (B.roads graph) O.may_become
-        (batch_due settings.now.plain (asked_of questions).questions) watcher.old watcher.new
-        result }
+    ensures reported { ReportedAllOrPrefix (A.meaning batch.now.algebra) (graph_of solver.old)
+        O.may_become (batch_due (is_plain solver.old) (asked_of batch.now.questions.now).questions)
+        watcher.old watcher.new result }
 {
-    answers_exist(algebra);
-    first_answers_begin_all(algebra);
-    let graph = graph.into_batch();
-    graph.holds();
-    let answered = answer_over(
-        rt, alloc, algebra, graph, &questions, out, settings, gate, watcher,
-    );
+    answers_exist(batch.algebra);
+    first_answers_begin_all(batch.algebra);
+    let _ = solver.vertices();
+    let answered = answer_all(batch, solver, out, watcher);
     flush_all(out, answered)
 }

@@ -1,82 +1,114 @@
 //! Reads the graph and the questions of a batch.
-ghost use Rattle.std.specs.Prelude.{◌≡◌, ◌≢◌, ◌+◌, ◌≤◌, ◌↔◌, ◌⊎◌, Err, IfOk, OnOk, IfErr};
+ghost use Rattle.std.specs.Prelude.{◌≡◌, ◌≢◌, ◌+◌, ◌≤◌, ◌↔◌, ◌⊎◌, Result, Ok, Err, IfOk, OnOk, IfErr};
 ghost use Rattle.std.specs.Io.KnownBytes.{IsAtEnd};
-ghost use Rattle.road_files.specs.Asked.{AreQuestionsOf, asked_of};
+ghost use Rattle.road_graph.specs.GraphData.{GraphData};
+ghost use Rattle.road_files.specs.Asked.{AreQuestionsOf, Asked, asked_of};
 ghost use Rattle.batch_run.specs.Ran.{IsPairOf, IsGraphFault, IsQuestionsFault, IsRoadNumber};
+ghost use Rattle.batch_run.specs.declared.faults.File.{File};
+ghost use Rattle.batch_run.specs.declared.faults.RunFault.{RunFault};
 
 use crate::faults::{File, RunFault, fault_in};
 use graph_text::{FromArcs, read_gr_as};
-use road_files::{Questions, read_questions};
-use road_graph::Graph;
+use road_files::{Questions, read_bundle_as, read_questions};
 use road_text::RoadRead;
 use std::alloc::Global;
 
-/// Reads a graph of any kind from one input and questions over it from another, and reports the first fault.
-pub(crate) fn read_pair_as<G: RoadRead, Q: RoadRead, B: FromArcs>(
-    alloc: Global,
-    graph_in: &mut G,
-    questions_in: &mut Q,
-) -> Result<(B, Questions), RunFault>
-    ensures read { IfOk result (λ r. IsPairOf (G.left graph_in.old) (Q.left questions_in.old)
-        (B.roads r.0) (asked_of r.1)) }
-    ensures within { IfOk result (λ r. AreQuestionsOf (B.roads r.0).vertices r.1) }
-    ensures sound { OnOk result ((G.failures graph_in.new ≡ G.failures graph_in.old) ×
-        (Q.failures questions_in.new ≡ Q.failures questions_in.old)) }
-    ensures ends { OnOk result (IsAtEnd (G.left graph_in.new) × IsAtEnd (Q.left questions_in.new)) }
-    ensures graph { IfErr result (λ f. f.file ≡ File.Graph → IsGraphFault (G.left graph_in.old) f) }
-    ensures questions { IfErr result (λ f. f.file ≡ File.Questions → IsQuestionsFault
-        (G.left graph_in.old) (Q.left questions_in.old) f) }
-    ensures read_graph { (result ≡ Err (record { number = 1; file = File.Graph; line = 0 })) ↔
-        (G.failures graph_in.new ≢ G.failures graph_in.old) }
-    ensures read_questions { (result ≡ Err (record {
-      number = 1;
-      file = File.Questions;
-      line = 0;
-    })) ↔ (Q.failures questions_in.new ≢ Q.failures questions_in.old) }
-    ensures kinds { IfErr result (λ f. ((f.file ≡ File.Graph) ⊎ (f.file ≡ File.Questions)) ×
-        IsRoadNumber f.number) }
-    ensures placed { IfErr result (λ f. f.number ≤ 3 → f.line ≡ 0) }
-    ensures asked { G.asked graph_in.new ≤ G.asked graph_in.old + 4294967297 }
-    ensures asked_questions { Q.asked questions_in.new ≤ Q.asked questions_in.old + 4294967297 }
-{
-    let graph: B = match read_gr_as(alloc, graph_in) {
-        Ok(graph) => graph,
-        Err(fault) => return Err(fault_in(File::Graph, fault)),
-    };
-    match read_questions(alloc, questions_in, graph.count_vertices()) {
-        Ok(questions) => Ok((graph, questions)),
-        Err(fault) => Err(fault_in(File::Questions, fault)),
+/// What the graph and the questions of a batch are read from.
+pub trait BatchInput {
+    // It spells this graph, and these questions over it.
+    ghost is_read: { Self → GraphData → Asked → Type 0 };
+
+    // A fault of it names this file.
+    ghost is_own: { File → Type 0 };
+
+    // What a run with this outcome did to it, from the one moment to the other.
+    ghost has_read: { Self → Self → Result (Unit {0}) RunFault → Type 0 };
+
+    /// Reads a graph of any kind, and questions over it, and reports the first fault.
+    fn read<G: FromArcs>(&mut self, alloc: Global) -> Result<(G, Questions), RunFault>
+        ensures read { IfOk result (λ r. is_read self.old (G.roads r.0) (asked_of r.1)) }
+        ensures within { IfOk result (λ r. AreQuestionsOf (G.roads r.0).vertices r.1) }
+        ensures done { OnOk result (has_read self.old self.new (Ok tt)) }
+        ensures fault { IfErr result (λ f. has_read self.old self.new (Err f)) }
+        ensures kinds { IfErr result (λ f. is_own f.file × IsRoadNumber f.number) }
+        ensures named { IfErr result (λ f. f.file ≢ File.NoFile) }
+        ensures placed { IfErr result (λ f. f.number ≤ 3 → f.line ≡ 0) };
+
+    // What is true of it after a success is true after a later fault of the run.
+    ghost later: { (old new : Self) (f : RunFault) → f.file ≡ File.NoFile → f.number ≢ 43 → has_read old new (Ok tt) → has_read old new (Err f) };
+
+    // After a fault of the settings it is as it was.
+    ghost unread: { (s : Self) → has_read s s (Err (record { number = 43; file = File.NoFile; line = 0 })) };
+}
+
+/// A graph in one input, and questions over it in another.
+#[derive(Drop)]
+pub struct PairInput<'i, G, Q> {
+    pub graph: &'i mut G,
+    pub questions: &'i mut Q,
+}
+
+impl<G: RoadRead, Q: RoadRead> BatchInput for PairInput<'_, G, Q> {
+    ghost use Rattle.std.specs.Prelude.{◌≡◌};
+    ghost use Rattle.std.proofs.Common.{refl};
+    ghost use Rattle.batch_run.specs.Ran.{IsPairOf, IsPairFile};
+    ghost use Rattle.batch_run.specs.Streams.{input};
+    ghost use Rattle.batch_run.specs.Inputs.{HasReadPair};
+    ghost use Rattle.batch_run.specs.InputLaws.{pair_later, pair_unread};
+
+    ghost is_read = { λ s. IsPairOf (G.left s.graph.now) (Q.left s.questions.now) };
+
+    ghost is_own = { IsPairFile };
+
+    ghost has_read = { λ old new outcome. (new.graph.ghost_name ≡ old.graph.ghost_name) × (new.questions.ghost_name ≡ old.questions.ghost_name) ×
+        HasReadPair (input G.left G.failures G.asked old.graph.now) (input G.left G.failures G.asked new.graph.now)
+        (input Q.left Q.failures Q.asked old.questions.now) (input Q.left Q.failures Q.asked new.questions.now) outcome };
+
+    ghost later = { λ old new f file other h. (h.0, h.1, pair_later _ _ _ _ f file other h.2) };
+
+    ghost unread = { λ s. (refl, refl, pair_unread _ _) };
+
+    fn read<B: FromArcs>(&mut self, alloc: Global) -> Result<(B, Questions), RunFault> {
+        let graph: B = match read_gr_as(alloc, self.graph) {
+            Ok(graph) => graph,
+            Err(fault) => return Err(fault_in(File::Graph, fault)),
+        };
+        match read_questions(alloc, self.questions, graph.count_vertices()) {
+            Ok(questions) => Ok((graph, questions)),
+            Err(fault) => Err(fault_in(File::Questions, fault)),
+        }
     }
 }
 
-/// Reads a graph from one input and questions over it from another, and reports the first fault. Each input is asked at most
-/// 2^32 + 1 times.
-pub fn read_pair<G: RoadRead, Q: RoadRead>(
-    alloc: Global,
-    graph_in: &mut G,
-    questions_in: &mut Q,
-) -> Result<(Graph, Questions), RunFault>
-    ensures read { IfOk result (λ r. IsPairOf (G.left graph_in.old) (Q.left questions_in.old) r.0
-        (asked_of r.1)) }
-    ensures within { IfOk result (λ r. AreQuestionsOf r.0.vertices r.1) }
-    ensures sound { OnOk result ((G.failures graph_in.new ≡ G.failures graph_in.old) ×
-        (Q.failures questions_in.new ≡ Q.failures questions_in.old)) }
-    ensures ends { OnOk result (IsAtEnd (G.left graph_in.new) × IsAtEnd (Q.left questions_in.new)) }
-    ensures graph { IfErr result (λ f. f.file ≡ File.Graph → IsGraphFault (G.left graph_in.old) f) }
-    ensures questions { IfErr result (λ f. f.file ≡ File.Questions → IsQuestionsFault
-        (G.left graph_in.old) (Q.left questions_in.old) f) }
-    ensures read_graph { (result ≡ Err (record { number = 1; file = File.Graph; line = 0 })) ↔
-        (G.failures graph_in.new ≢ G.failures graph_in.old) }
-    ensures read_questions { (result ≡ Err (record {
-      number = 1;
-      file = File.Questions;
-      line = 0;
-    })) ↔ (Q.failures questions_in.new ≢ Q.failures questions_in.old) }
-    ensures kinds { IfErr result (λ f. ((f.file ≡ File.Graph) ⊎ (f.file ≡ File.Questions)) ×
-        IsRoadNumber f.number) }
-    ensures placed { IfErr result (λ f. f.number ≤ 3 → f.line ≡ 0) }
-    ensures asked { G.asked graph_in.new ≤ G.asked graph_in.old + 4294967297 }
-    ensures asked_questions { Q.asked questions_in.new ≤ Q.asked questions_in.old + 4294967297 }
-{
-    read_pair_as(alloc, graph_in, questions_in)
+/// A graph and questions over it, in one input.
+#[derive(Drop)]
+pub struct BundleInput<'i, B> {
+    pub bundle: &'i mut B,
+}
+
+impl<B: RoadRead> BatchInput for BundleInput<'_, B> {
+    ghost use Rattle.std.specs.Prelude.{◌≡◌};
+    ghost use Rattle.std.proofs.Common.{refl};
+    ghost use Rattle.batch_run.specs.Ran.{IsBundleOf, IsBundleFile};
+    ghost use Rattle.batch_run.specs.Streams.{input};
+    ghost use Rattle.batch_run.specs.Inputs.{HasReadBundle};
+    ghost use Rattle.batch_run.specs.InputLaws.{bundle_later, bundle_unread};
+
+    ghost is_read = { λ s. IsBundleOf (B.left s.bundle.now) };
+
+    ghost is_own = { IsBundleFile };
+
+    ghost has_read = { λ old new outcome. (new.bundle.ghost_name ≡ old.bundle.ghost_name) ×
+        HasReadBundle (input B.left B.failures B.asked old.bundle.now) (input B.left B.failures B.asked new.bundle.now) outcome };
+
+    ghost later = { λ old new f file other h. (h.0, bundle_later _ _ f file other h.1) };
+
+    ghost unread = { λ s. (refl, bundle_unread _) };
+
+    fn read<G: FromArcs>(&mut self, alloc: Global) -> Result<(G, Questions), RunFault> {
+        match read_bundle_as(alloc, self.bundle) {
+            Ok(read) => Ok(read),
+            Err(fault) => Err(fault_in(File::Bundle, fault)),
+        }
+    }
 }

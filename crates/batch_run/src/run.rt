@@ -1,126 +1,62 @@
-//! Runs a batch from two inputs: a graph, and questions over it.
-ghost use Rattle.std.specs.Prelude.{◌≡◌};
+//! Runs a batch from its input to its output.
+ghost use Rattle.std.specs.Prelude.{◌≡◌, ◌≢◌, ◌≤◌, Ok, Err, IfOk, IfErr, OnOk};
+ghost use Rattle.road_files.specs.Asked.{AreQuestionsOf, asked_of};
 ghost use Rattle.batch_run.specs.Reports.{Watched};
-ghost use Rattle.batch_run.specs.Runs.{RanPair, input, output};
-ghost use Rattle.batch_run.specs.Ran.{IsPairOf};
+ghost use Rattle.batch_run.specs.Runs.{Ran, output};
+ghost use Rattle.batch_run.specs.Ran.{IsRoadNumber};
+ghost use Rattle.batch_run.specs.Solvers.{graph_of, is_plain};
 
-use crate::batch_graph::Answerable;
-use crate::faults::{RunFault, SETTINGS, fault_of_run};
+use crate::batch::{Batch, Run};
+use crate::faults::{File, RunFault, SETTINGS, fault_of_run};
 use crate::flush::answer_and_flush;
-use crate::inputs::read_pair_as;
-use crate::settings::Settings;
-use crate::watcher::{Unwatched, Watcher};
+use crate::inputs::BatchInput;
+use crate::settings::SolverKind;
+use crate::solve::{PlainSolver, Solver, WorkerSolver};
+use crate::watcher::Watcher;
 use path_algebra::PathAlgebra;
 use road_files::Questions;
 use road_graph::{Graph, OutGraph};
-use road_text::{RoadRead, RoadWrite};
-use std::alloc::Global;
+use road_text::RoadWrite;
 use std::sync::Wait;
 use std::thread::Threads;
 use worker_fleet::Gate;
 
-/// `run_pair_watched`, over a graph of this kind.
-fn run_pair_over<
-    A: PathAlgebra,
-    G: RoadRead,
-    Q: RoadRead,
-    W: RoadWrite,
-    R: Threads + Wait + Sync,
-    T: Gate,
-    B: Answerable,
-    O: Watcher,
->(
-    rt: &R,
-    alloc: Global,
-    algebra: A,
-    graph_in: &mut G,
-    questions_in: &mut Q,
-    out: &mut W,
-    settings: &Settings,
-    gate: &T,
-    watcher: &mut O,
-) -> Result<(), RunFault>
-    requires kind { settings.now.plain ≡ B.is_plain }
-    ensures ran { RanPair (A.meaning algebra) settings.now (T.may_answer gate.now)
-        (input G.left G.failures G.asked graph_in.old)
-        (input G.left G.failures G.asked graph_in.new)
-        (input Q.left Q.failures Q.asked questions_in.old)
-        (input Q.left Q.failures Q.asked questions_in.new)
-        (output W.written W.held W.failures out.old)
-        (output W.written W.held W.failures out.new) result }
-    ensures watched { Watched (A.meaning algebra) settings.now (IsPairOf (G.left graph_in.old)
-        (Q.left questions_in.old)) O.may_become watcher.old watcher.new result }
+/// Reads the graph and the questions of a batch, and makes the solver that the settings choose.
+fn read_batch<V: Copy, I: BatchInput, R, T>(
+    run: &Run<'_, R, T>,
+    input: &mut I,
+) -> Result<(Solver<V>, Questions), RunFault>
+    ensures kind { IfOk result (λ r. is_plain r.0 ≡ run.now.settings.now.plain) }
+    ensures read { IfOk result (λ r. I.is_read input.old (graph_of r.0) (asked_of r.1)) }
+    ensures within { IfOk result (λ r. AreQuestionsOf (graph_of r.0).vertices r.1) }
+    ensures done { OnOk result (I.has_read input.old input.new (Ok tt)) }
+    ensures fault { IfErr result (λ f. I.has_read input.old input.new (Err f)) }
+    ensures kinds { IfErr result (λ f. I.is_own f.file × IsRoadNumber f.number) }
+    ensures named { IfErr result (λ f. f.file ≢ File.NoFile) }
+    ensures placed { IfErr result (λ f. f.number ≤ 3 → f.line ≡ 0) }
 {
-    if !settings.are_in_range() {
-        return Err(fault_of_run(SETTINGS));
+    let alloc = run.alloc;
+    match run.settings.solver() {
+        SolverKind::Plain => {
+            let (graph, questions): (OutGraph, Questions) = match input.read(alloc) {
+                Ok(read) => read,
+                Err(fault) => return Err(fault),
+            };
+            Ok((Solver::Plain(PlainSolver::new(alloc, graph)), questions))
+        }
+        SolverKind::Workers => {
+            let (graph, questions): (Graph, Questions) = match input.read(alloc) {
+                Ok(read) => read,
+                Err(fault) => return Err(fault),
+            };
+            Ok((Solver::Workers(WorkerSolver::new(alloc, graph)), questions))
+        }
     }
-    let (graph, questions): (B, Questions) = match read_pair_as(alloc, graph_in, questions_in) {
-        Ok(read) => read,
-        Err(fault) => return Err(fault),
-    };
-    answer_and_flush(
-        rt, alloc, algebra, graph, questions, out, settings, gate, watcher,
-    )
 }
 
-/// `run_pair`, which reports to a watcher as it goes: that the questions were read, each diffusion that was gathered, with its counts,
-/// and each question that was answered. With `plain` there are no diffusions. Before a fault of an input nothing is reported.
-pub fn run_pair_watched<
-    A: PathAlgebra,
-    G: RoadRead,
-    Q: RoadRead,
-    W: RoadWrite,
-    R: Threads + Wait + Sync,
-    T: Gate,
-    O: Watcher,
->(
-    rt: &R,
-    alloc: Global,
-    algebra: A,
-    graph_in: &mut G,
-    questions_in: &mut Q,
-    out: &mut W,
-    settings: &Settings,
-    gate: &T,
-    watcher: &mut O,
-) -> Result<(), RunFault>
-    ensures ran { RanPair (A.meaning algebra) settings.now (T.may_answer gate.now)
-        (input G.left G.failures G.asked graph_in.old)
-        (input G.left G.failures G.asked graph_in.new)
-        (input Q.left Q.failures Q.asked questions_in.old)
-        (input Q.left Q.failures Q.asked questions_in.new)
-        (output W.written W.held W.failures out.old)
-        (output W.written W.held W.failures out.new) result }
-    ensures watched { Watched (A.meaning algebra) settings.now (IsPairOf (G.left graph_in.old)
-        (Q.left questions_in.old)) O.may_become watcher.old watcher.new result }
-{
-    if settings.plain {
-        return run_pair_over::<A, G, Q, W, R, T, OutGraph, O>(
-            rt,
-            alloc,
-            algebra,
-            graph_in,
-            questions_in,
-            out,
-            settings,
-            gate,
-            watcher,
-        );
-    }
-    run_pair_over::<A, G, Q, W, R, T, Graph, O>(
-        rt,
-        alloc,
-        algebra,
-        graph_in,
-        questions_in,
-        out,
-        settings,
-        gate,
-        watcher,
-    )
-}
-
-/// Answers the questions of one input over the graph of another, and writes the answers.
+/// Answers the questions of an input over its graph, writes the answers, and reports to a watcher as it goes: that the questions
+/// were read, each diffusion that was gathered, with its counts, and each question that was answered. With `plain` there are no
+/// diffusions. Before a fault of an input nothing is reported.
 ///
 /// The settings are tested first (43), then the graph is read and then the questions, and then each question is
 /// answered and written, in order; at last the output is flushed. The first fault in this order is reported. After a
@@ -131,40 +67,38 @@ pub fn run_pair_watched<
 /// one from the sources of the question before it without a new search; `width` searches go side by side on all processors. No
 /// worker is started, the gate is not asked, and the graph is kept with its arcs by tail alone; if the questions are pairs, by head
 /// too.
-pub fn run_pair<
+pub fn run_batch<
     A: PathAlgebra,
-    G: RoadRead,
-    Q: RoadRead,
+    I: BatchInput,
     W: RoadWrite,
     R: Threads + Wait + Sync,
     T: Gate,
+    O: Watcher,
 >(
-    rt: &R,
-    alloc: Global,
+    run: &Run<'_, R, T>,
     algebra: A,
-    graph_in: &mut G,
-    questions_in: &mut Q,
+    input: &mut I,
     out: &mut W,
-    settings: &Settings,
-    gate: &T,
+    watcher: &mut O,
 ) -> Result<(), RunFault>
-    ensures ran { RanPair (A.meaning algebra) settings.now (T.may_answer gate.now)
-        (input G.left G.failures G.asked graph_in.old)
-        (input G.left G.failures G.asked graph_in.new)
-        (input Q.left Q.failures Q.asked questions_in.old)
-        (input Q.left Q.failures Q.asked questions_in.new)
-        (output W.written W.held W.failures out.old)
+    ensures ran { Ran (A.meaning algebra) run.now.settings.now (T.may_answer run.now.gate.now)
+        (I.is_read input.old) I.is_own (output W.written W.held W.failures out.old)
         (output W.written W.held W.failures out.new) result }
+    ensures read { I.has_read input.old input.new result }
+    ensures watched { Watched (A.meaning algebra) run.now.settings.now (I.is_read input.old)
+        O.may_become watcher.old watcher.new result }
 {
-    run_pair_watched(
-        rt,
-        alloc,
+    if !run.settings.are_in_range() {
+        return Err(fault_of_run(SETTINGS));
+    }
+    let (mut solver, questions) = match read_batch(run, input) {
+        Ok(read) => read,
+        Err(fault) => return Err(fault),
+    };
+    let batch = Batch {
+        run,
         algebra,
-        graph_in,
-        questions_in,
-        out,
-        settings,
-        gate,
-        &mut Unwatched,
-    )
+        questions: &questions,
+    };
+    answer_and_flush(&batch, &mut solver, out, watcher)
 }

@@ -1,5 +1,5 @@
 //! How a batch is run.
-ghost use Rattle.std.specs.Prelude.{◌↔◌, IsTrue};
+ghost use Rattle.std.specs.Prelude.{◌≡◌, ◌↔◌, IsTrue, true, false};
 
 /// How a batch is run. The plain solver writes the same bytes whatever settings in range are given.
 #[derive(Clone, Copy, Debug, PartialEq, Eq)]
@@ -18,6 +18,15 @@ pub struct Settings {
     pub plain: bool,
 }
 
+/// What answers the questions of a batch.
+#[derive(Clone, Copy, Debug, PartialEq, Eq)]
+pub enum SolverKind {
+    /// A search of its own for each question, on one thread.
+    Plain,
+    /// A diffusing computation from each source, by workers on threads.
+    Workers,
+}
+
 impl Settings {
     ghost use Rattle.batch_run.specs.InRange.{AreInRange};
 
@@ -34,6 +43,18 @@ impl Settings {
             && 1 <= self.budget
             && self.budget <= 65_536
             && self.turns <= 1_000_000_000_000
+    }
+
+    /// Which solver answers.
+    pub fn solver(&self) -> SolverKind
+        ensures plain { (result ≡ SolverKind.Plain) ↔ (self.now.plain ≡ true) }
+        ensures workers { (result ≡ SolverKind.Workers) ↔ (self.now.plain ≡ false) }
+    {
+        if self.plain {
+            SolverKind::Plain
+        } else {
+            SolverKind::Workers
+        }
     }
 }
 

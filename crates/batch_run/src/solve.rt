@@ -1,90 +1,168 @@
-//! Solves the questions of a batch: by workers if there is a plan for them, else by the plain solver.
-ghost use Rattle.std.specs.Prelude.{◌≡◌, ◌+◌, ◌<◌, length, slice_index_or, All, HoldsAt, IfOk, IfErr, OnOk, is_none, None};
+//! How the questions of a batch are solved.
+ghost use Rattle.std.specs.Prelude.{◌≡◌, ◌+◌, ◌<◌, [], ◌∷◌, ℕ, true, length, slice_index_or, IfOk, IfErr, OnOk, IfSome, IsSome, Some};
+ghost use Rattle.road_graph.specs.GraphData.{HasVertex, IsGraph};
+ghost use Rattle.path_algebra.specs.Walks.{AreBest};
 ghost use Rattle.road_files.specs.Asked.{AreQuestionsOf, Question, asked_of};
 ghost use Rattle.worker_fleet.specs.Stops.{Says};
-ghost use Rattle.batch_run.specs.Diffusions.{AreReady, sources_to_come};
-ghost use Rattle.batch_run.specs.InRange.{AreInRange};
 ghost use Rattle.batch_run.specs.Reports.{ReportedAllOrPrefix, accounts_due};
-ghost use Rattle.batch_run.specs.Solved.{IsSolved, IsSolvedFor};
+ghost use Rattle.batch_run.specs.Solved.{IsRouteFound, IsSolvedFor};
+ghost use Rattle.batch_run.specs.Solvers.{FindsRoutes, IsReady, IsSameSolver, graph_of, is_plain, last_of};
 
-mod context;
 mod diffusion;
 mod group;
 mod merge;
 mod plain;
+mod plain_solver;
 mod queue;
 mod schedule;
 mod solved;
 mod upcoming;
 mod workers;
 
-use crate::solve::workers::solve_by_workers;
+use crate::batch::Batch;
+use crate::solve::plain::{solve_next_plainly, start_plain};
+use crate::solve::workers::{solve_next_by_workers, start_workers};
 use crate::watcher::Watcher;
-pub(crate) use context::{RunContext, RunState};
-use path_algebra::PathAlgebra;
-pub(crate) use plain::solve_plainly;
-use road_files::Questions;
-pub(crate) use schedule::{count_diffusions, prepare};
-use shard_part::Plan;
-pub(crate) use solved::Solved;
+use path_algebra::{Labels, PathAlgebra};
+pub use plain_solver::PlainSolver;
+use road_graph::{Memory, Vertex};
+use route_tree::{PairRoute, route_between, route_outgoing};
+pub(crate) use schedule::count_diffusions;
+pub use solved::Solved;
+use std::alloc::Global;
 use std::sync::Wait;
 use std::thread::Threads;
 use worker_fleet::{Gate, GroupFault};
+pub use workers::WorkerSolver;
 
-/// Which of those that are solved answers the question at a place: workers solve it if there is a plan for them, else the
-/// plain solver, unless one with the same sources is there already.
-pub(crate) fn solved_at<'g, A: PathAlgebra, R: Threads + Wait + Sync, T: Gate, O: Watcher>(
-    context: &RunContext<'g, A, R, T>,
-    plan: Option<&'g Plan>,
-    state: &mut RunState<'g, A>,
-    questions: &Questions,
+/// What solves the questions of a batch, one after the other, each to best labels and their tree, or for a pair to a route.
+///
+/// It is an enum and no trait: the method of an `impl` can't call what sends a value of a type parameter to a thread.
+#[derive(Drop)]
+pub enum Solver<V: Copy> {
+    Plain(PlainSolver<V>),
+    Workers(WorkerSolver<V>),
+}
+
+impl<V: Copy> Solver<V> {
+    /// Whether it solves without diffusions.
+    pub(crate) fn is_plain(&self) -> bool
+        ensures { result ≡ is_plain self.now }
+    {
+        match self {
+            Solver::Plain(_) => true,
+            Solver::Workers(_) => false,
+        }
+    }
+
+    /// How many vertices the graph has.
+    pub fn vertices(&self) -> u32
+        ensures count { result ≡ (graph_of self.now).vertices }
+        ensures graph { IsGraph (graph_of self.now) }
+    {
+        match self {
+            Solver::Plain(solver) => {
+                solver.graph.holds();
+                solver.graph.vertices()
+            }
+            Solver::Workers(solver) => {
+                solver.graph.holds();
+                solver.graph.vertices()
+            }
+        }
+    }
+
+    /// What it solved last.
+    pub(crate) fn last(&self) -> &Solved<V>
+        requires { IsSome (last_of self.now) }
+        ensures { last_of self.now ≡ Some result.now }
+    {
+        match self {
+            Solver::Plain(solver) => &solver.solved[solver.last],
+            Solver::Workers(solver) => {
+                let Some(solved) = &solver.last else {
+                    unreachable!()
+                };
+                solved
+            }
+        }
+    }
+}
+
+/// Makes a solver ready for the first question of a batch. The only error is want of memory.
+pub(crate) fn start<A: PathAlgebra, R, T>(
+    batch: &Batch<'_, A, R, T>,
+    solver: &mut Solver<A::Value>,
+) -> Result<(), Memory>
+    ensures same { IsSameSolver solver.old solver.new }
+    ensures ready { OnOk result (IsReady (A.meaning batch.now.algebra)
+        (asked_of batch.now.questions.now) 0 solver.new) }
+{
+    match solver {
+        Solver::Plain(solver) => start_plain(batch, solver),
+        Solver::Workers(solver) => start_workers(batch, solver),
+    }
+}
+
+/// Solves the question at a place, the next one. Each diffusion is reported.
+pub(crate) fn solve_next<A: PathAlgebra, R: Threads + Wait + Sync, T: Gate, O: Watcher>(
+    batch: &Batch<'_, A, R, T>,
+    solver: &mut Solver<A::Value>,
     i: usize,
     watcher: &mut O,
-) -> Result<usize, GroupFault>
-    requires settings { AreInRange context.now.settings.now }
-    requires within { AreQuestionsOf context.now.graph.now.vertices questions.now }
-    requires place { i < length (asked_of questions.now).questions }
-    requires ready { AreReady context.now.algebra context.now.graph.now plan
-        (sources_to_come (asked_of questions.now).questions i 0) state.old.queue.ended.items }
-    requires solved { All (IsSolved (A.meaning context.now.algebra) context.now.graph.now
-        (asked_of questions.now)) state.old.solved.items }
-    ensures inside { IfOk result (λ k. k < length state.new.solved.items) }
-    ensures answers { IfOk result
-        (HoldsAt (IsSolvedFor (A.meaning context.now.algebra) context.now.graph.now
-        (asked_of questions.now) i) state.new.solved.items) }
-    ensures solved { All (IsSolved (A.meaning context.now.algebra) context.now.graph.now
-        (asked_of questions.now)) state.new.solved.items }
-    ensures ready { OnOk result (AreReady context.now.algebra context.now.graph.now plan.entry
-        (sources_to_come (asked_of questions.now).questions (i + 1) 0)
-        state.new.queue.ended.items) }
-    ensures plain { plan.entry ≡ None → IfErr result (λ f. f ≡ GroupFault.Memory) }
-    ensures says { IfErr result (Says (T.may_answer context.now.gate.now)
-        context.now.settings.now.workers context.now.settings.now.turns) }
-    ensures reported { (default : Question) → ReportedAllOrPrefix
-        (A.meaning context.now.algebra) context.now.graph.now O.may_become
-        (accounts_due (is_none plan.entry) (i + 1)
-        (slice_index_or (asked_of questions.now).questions i default)) watcher.old watcher.new
-        result }
+) -> Result<(), GroupFault>
+    requires place { i < length (asked_of batch.now.questions.now).questions }
+    requires within { AreQuestionsOf (graph_of solver.old).vertices batch.now.questions.now }
+    requires ready { IsReady (A.meaning batch.now.algebra) (asked_of batch.now.questions.now) i
+        solver.old }
+    ensures same { IsSameSolver solver.old solver.new }
+    ensures ready { OnOk result (IsReady (A.meaning batch.now.algebra)
+        (asked_of batch.now.questions.now) (i + 1) solver.new) }
+    ensures some { OnOk result (IsSome (last_of solver.new)) }
+    ensures solved { OnOk result (IfSome (last_of solver.new) (IsSolvedFor
+        (A.meaning batch.now.algebra) (graph_of solver.old) (asked_of batch.now.questions.now) i)) }
+    ensures plain { is_plain solver.old ≡ true → IfErr result (λ f. f ≡ GroupFault.Memory) }
+    ensures says { IfErr result (Says (T.may_answer batch.now.run.now.gate.now)
+        batch.now.run.now.settings.now.workers batch.now.run.now.settings.now.turns) }
+    ensures reported { (default : Question) → ReportedAllOrPrefix (A.meaning batch.now.algebra)
+        (graph_of solver.old) O.may_become (accounts_due (is_plain solver.old) (i + 1)
+        (slice_index_or (asked_of batch.now.questions.now).questions i default)) watcher.old
+        watcher.new result }
 {
-    match plan {
-        Some(plan) => {
-            state.solved.clear();
-            let queue = &mut state.queue;
-            let next = solve_by_workers(context, plan, queue, questions, i, watcher)?;
-            match state.solved.push(next) {
-                Ok(()) => {}
-                Err(_) => return Err(GroupFault::Memory),
-            }
-            Ok(0)
+    match solver {
+        Solver::Plain(solver) => match solve_next_plainly(batch, solver, i) {
+            Ok(()) => Ok(()),
+            Err(_) => Err(GroupFault::Memory),
+        },
+        Solver::Workers(solver) => solve_next_by_workers(batch, solver, i, watcher),
+    }
+}
+
+/// The route from a source to a target, for labels that are best from that source; none if no walk has a value.
+/// The only error is want of memory.
+pub(crate) fn route<A: PathAlgebra>(
+    alloc: Global,
+    algebra: A,
+    solver: &Solver<A::Value>,
+    pair: (Vertex, Vertex),
+    labels: &Labels<A::Value>,
+) -> Result<Option<PairRoute>, Memory>
+    requires ready { FindsRoutes solver.now }
+    requires source { HasVertex (graph_of solver.now) pair.0 }
+    requires target { HasVertex (graph_of solver.now) pair.1 }
+    requires labels { AreBest (A.meaning algebra) (graph_of solver.now) (pair.0 ∷ []) labels.now }
+    ensures { IfOk result (IsRouteFound (A.meaning algebra) (graph_of solver.now) pair.0 pair.1) }
+{
+    let (source, target) = pair;
+    match solver {
+        Solver::Plain(solver) => {
+            let Some(rows) = &solver.by_head else {
+                unreachable!()
+            };
+            route_outgoing(alloc, algebra, &solver.graph, rows, source, target, labels)
         }
-        None => {
-            let (rt, alloc, algebra) = (context.rt, context.alloc, context.algebra);
-            let (graph, settings) = (context.graph.outgoing(), context.settings);
-            let solved = &mut state.solved;
-            match solve_plainly(rt, alloc, algebra, graph, settings, questions, i, solved) {
-                Ok(k) => Ok(k),
-                Err(_) => Err(GroupFault::Memory),
-            }
+        Solver::Workers(solver) => {
+            route_between(alloc, algebra, &solver.graph, source, target, labels)
         }
     }
 }

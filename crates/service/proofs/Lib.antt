@@ -9,3 +9,4 @@ mod ServeLaws
 mod Pieces
 mod AnswerLaws
 mod RunLaws
+mod Staying

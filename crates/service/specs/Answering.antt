@@ -9,6 +9,9 @@ use Rattle.answer_text.specs.AnswerText.{answers_text}
 use Rattle.batch_run.specs.Answered.{begun_text}
 use Rattle.batch_run.specs.Stopping.{Stalls, Closes}
 use Rattle.batch_run.specs.declared.settings.Settings.{Settings}
+use Rattle.batch_run.specs.declared.solve.Solver.{Solver}
+use Rattle.batch_run.specs.Ran.{by_solver}
+use Rattle.batch_run.specs.Solvers.{graph_of, is_plain}
 use Rattle.service.specs.Replies.{fault_text}
 
 -- the right answers, as a batch writes them
@@ -37,3 +40,7 @@ pub record IsStopped {V : Type 0} (A : Algebra V) (how : Settings) (gate : ℕ �
 abbrev pub MayAnswer : {V : Type 0} → Algebra V → Settings → (ℕ → ℕ → Bool → Type 0) → GraphData → Asked → List ℕ → Type 0
 MayAnswer A how gate g asked text =
     IsAnswered A g asked text ⊎ IsStopped A how gate g asked text
+
+-- which texts may reply to what is asked if this solver answers
+abbrev pub MayAnswerBy : {V : Type 0} → Algebra V → Settings → (ℕ → ℕ → Bool → Type 0) → Solver V → Asked → List ℕ → Type 0
+MayAnswerBy A how gate s = MayAnswer A (by_solver (is_plain s) how) gate (graph_of s)

@@ -3,56 +3,50 @@ ghost use Rattle.std.specs.Prelude.{ℕ, List};
 ghost use Rattle.road_text.specs.Written.{WritesText};
 ghost use Rattle.road_files.specs.Asked.{AreQuestionsOf, asked_of};
 ghost use Rattle.batch_run.specs.InRange.{AreInRange};
-ghost use Rattle.service.specs.Answering.{MayAnswer};
+ghost use Rattle.batch_run.specs.Solvers.{IsSameSolver, graph_of};
+ghost use Rattle.service.specs.Answering.{MayAnswerBy};
 
 use crate::fault_lines::write_fault;
 use answer_text::first_answers_begin_all;
-use batch_run::{Gate, Settings, WRITE, answer_all, answers_exist};
+use batch_run::{Batch, Gate, Run, Solver, Unwatched, WRITE, answer_all, answers_exist};
 use path_algebra::PathAlgebra;
 use road_files::Questions;
-use road_graph::Graph;
 use road_text::{RoadWrite, WriteFault};
-use std::alloc::Global;
 use std::sync::Wait;
 use std::thread::Threads;
 
-/// A graph, and how questions over it are answered: each request anew.
+/// How questions are answered.
 #[derive(Drop)]
-pub(crate) struct BatchAnswers<'g, A: PathAlgebra, R: Threads + Wait + Sync, T: Gate> {
-    pub(crate) rt: &'g R,
-    pub(crate) alloc: Global,
+pub(crate) struct BatchAnswers<'r, A: PathAlgebra, R, T> {
+    pub(crate) run: &'r Run<'r, R, T>,
     pub(crate) algebra: A,
-    pub(crate) graph: &'g Graph,
-    pub(crate) settings: &'g Settings,
-    pub(crate) gate: &'g T,
-    ghost in_range: { AreInRange settings.now },
+    ghost in_range: { AreInRange run.now.settings.now },
 }
 
 impl<A: PathAlgebra, R: Threads + Wait + Sync, T: Gate> BatchAnswers<'_, A, R, T> {
     /// Writes the right answers; or the first of them, and then the line of the fault that stopped the run.
     pub(crate) fn answer<W: RoadWrite>(
         &self,
+        solver: &mut Solver<A::Value>,
         questions: &Questions,
         out: &mut W,
     ) -> Result<(), WriteFault>
-        requires { AreQuestionsOf self.now.graph.now.vertices questions.now }
-        ensures { (text : List ℕ) × MayAnswer (A.meaning self.now.algebra) self.now.settings.now
-            (T.may_answer self.now.gate.now) self.now.graph.now (asked_of questions.now) text
-            × WritesText W.written W.failures out.old out.new text result }
+        requires { AreQuestionsOf (graph_of solver.old).vertices questions.now }
+        ensures same { IsSameSolver solver.old solver.new }
+        ensures wrote { (text : List ℕ) × MayAnswerBy (A.meaning self.now.algebra)
+            self.now.run.now.settings.now (T.may_answer self.now.run.now.gate.now) solver.old
+            (asked_of questions.now) text ×
+            WritesText W.written W.failures out.old out.new text result }
     {
         answers_exist(self.algebra);
         first_answers_begin_all(self.algebra);
-        self.graph.holds();
-        match answer_all(
-            self.rt,
-            self.alloc,
-            self.algebra,
-            self.graph,
+        let _ = solver.vertices();
+        let batch = Batch {
+            run: self.run,
+            algebra: self.algebra,
             questions,
-            out,
-            self.settings,
-            self.gate,
-        ) {
+        };
+        match answer_all(&batch, solver, out, &mut Unwatched) {
             Ok(()) => Ok(()),
             Err(fault) => {
                 if fault.number == WRITE {

@@ -2,7 +2,8 @@
 ghost use Rattle.std.specs.Prelude.{◌≡◌, ℕ, ◌+◌, [], ◌++◌, List, map, min, OnOk, OnErr, Err, ◌≤◌};
 ghost use Rattle.road_text.specs.Cuts.{IsLine, IsPresent};
 ghost use Rattle.road_files.specs.RequestTakes.{RequestSoFar, parser_state, ended_of};
-ghost use Rattle.service.specs.Answering.{MayAnswer};
+ghost use Rattle.service.specs.Answering.{MayAnswerBy};
+ghost use Rattle.batch_run.specs.Solvers.{IsSameSolver, graph_of};
 ghost use Rattle.service.specs.Fed.{held_line, WasFed, LineEnded, Fed, FedPart, FedLong, LastFed, LastFedPart, Finished, FinishedPart, RepliedOrFell, goes_on, count_after};
 ghost use Rattle.road_text.specs.Rules.{at_line};
 ghost use Rattle.road_files.specs.ServiceText.{ServiceState, service_end};
@@ -11,7 +12,7 @@ use crate::batch_answers::BatchAnswers;
 use crate::fault_lines::send_fault;
 use crate::replies::send_done;
 use crate::service::Service;
-use batch_run::Gate;
+use batch_run::{Gate, Solver};
 use path_algebra::PathAlgebra;
 use road_files::rules::TOO_FEW;
 use road_files::{LineDone, RequestParser};
@@ -58,18 +59,20 @@ impl Service {
     fn end_line<A: PathAlgebra, R: Threads + Wait + Sync, T: Gate, W: RoadWrite>(
         &mut self,
         answers: &BatchAnswers<'_, A, R, T>,
+        solver: &mut Solver<A::Value>,
         out: &mut W,
     ) -> Result<(), WriteFault>
-        requires { self.old.cutter.taker.questions.list.vertices ≡ answers.now.graph.now.vertices }
+        requires { self.old.cutter.taker.questions.list.vertices ≡ (graph_of solver.old).vertices }
         ensures ended { (at : ℕ) (line : List ℕ) → self.old.line ≡ held_line at → IsLine RequestSoFar self.old.cutter line →
             LineEnded
-            (MayAnswer (A.meaning answers.now.algebra) answers.now.settings.now
-            (T.may_answer answers.now.gate.now) answers.now.graph.now) at line self.old self.new
+            (MayAnswerBy (A.meaning answers.now.algebra) answers.now.run.now.settings.now
+            (T.may_answer answers.now.run.now.gate.now) solver.old) at line self.old self.new
             (W.written out.old) (W.written out.new) (W.failures out.old) (W.failures out.new) result }
         ensures ready { IsPresent RequestSoFar self.new.cutter [] }
         ensures line { self.new.line ≡ min (self.old.line + 1) 18446744073709551615 }
         ensures vertices { self.new.cutter.taker.questions.list.vertices ≡
             self.old.cutter.taker.questions.list.vertices }
+        ensures same { IsSameSolver solver.old solver.new }
         ensures passed_on { OnOk result (W.held out.old ≡ [] → W.held out.new ≡ []) }
     {
         let done = self.cutter.taker.line(self.cutter.scanner.fields());
@@ -77,29 +80,31 @@ impl Service {
         self.count = count_after(&done, self.cutter.taker.is_open(), self.count);
         let line = self.line;
         self.line = line.saturating_add(1);
-        send_done(answers, done, line, out)
+        send_done(answers, solver, done, line, out)
     }
 
     /// Takes the next bytes, and replies, in order, to just those requests that the bytes so far make whole.
     pub fn feed<A: PathAlgebra, R: Threads + Wait + Sync, T: Gate, W: RoadWrite>(
         &mut self,
         answers: &BatchAnswers<'_, A, R, T>,
+        solver: &mut Solver<A::Value>,
         bytes: &[u8],
         out: &mut W,
     ) -> Result<(), Unfed>
-        requires { self.old.cutter.taker.questions.list.vertices ≡ answers.now.graph.now.vertices }
+        requires { self.old.cutter.taker.questions.list.vertices ≡ (graph_of solver.old).vertices }
         ensures fed { OnOk result (Fed
-            (MayAnswer (A.meaning answers.now.algebra) answers.now.settings.now
-            (T.may_answer answers.now.gate.now) answers.now.graph.now) self.old self.new bytes.now
+            (MayAnswerBy (A.meaning answers.now.algebra) answers.now.run.now.settings.now
+            (T.may_answer answers.now.run.now.gate.now) solver.old) self.old self.new bytes.now
             (W.written out.old) (W.written out.new) (W.failures out.old) (W.failures out.new)) }
         ensures fell { result ≡ Err Unfed.Write → FedPart
-            (MayAnswer (A.meaning answers.now.algebra) answers.now.settings.now
-            (T.may_answer answers.now.gate.now) answers.now.graph.now) self.old self.new bytes.now
+            (MayAnswerBy (A.meaning answers.now.algebra) answers.now.run.now.settings.now
+            (T.may_answer answers.now.run.now.gate.now) solver.old) self.old self.new bytes.now
             (W.written out.old) (W.written out.new) (W.failures out.old) (W.failures out.new) }
         ensures long { result ≡ Err Unfed.TooLong → FedLong
-            (MayAnswer (A.meaning answers.now.algebra) answers.now.settings.now
-            (T.may_answer answers.now.gate.now) answers.now.graph.now) self.old self.new bytes.now
+            (MayAnswerBy (A.meaning answers.now.algebra) answers.now.run.now.settings.now
+            (T.may_answer answers.now.run.now.gate.now) solver.old) self.old self.new bytes.now
             (W.written out.old) (W.written out.new) (W.failures out.old) (W.failures out.new) }
+        ensures same { IsSameSolver solver.old solver.new }
         ensures passed_on { OnOk result (W.held out.old ≡ [] → W.held out.new ≡ []) }
         ensures vertices { self.new.cutter.taker.questions.list.vertices ≡
             self.old.cutter.taker.questions.list.vertices }
@@ -115,7 +120,7 @@ impl Service {
             self.count += taken as u64;
             at += taken;
             if ended {
-                match self.end_line(answers, out) {
+                match self.end_line(answers, solver, out) {
                     Ok(()) => {}
                     Err(_) => return Err(Unfed::Write),
                 }
@@ -128,23 +133,25 @@ impl Service {
     fn end_lines<A: PathAlgebra, R: Threads + Wait + Sync, T: Gate, W: RoadWrite>(
         &mut self,
         answers: &BatchAnswers<'_, A, R, T>,
+        solver: &mut Solver<A::Value>,
         out: &mut W,
     ) -> Result<(), WriteFault>
-        requires { self.old.cutter.taker.questions.list.vertices ≡ answers.now.graph.now.vertices }
+        requires { self.old.cutter.taker.questions.list.vertices ≡ (graph_of solver.old).vertices }
         ensures fed { OnOk result (LastFed
-            (MayAnswer (A.meaning answers.now.algebra) answers.now.settings.now
-            (T.may_answer answers.now.gate.now) answers.now.graph.now) self.old self.new
+            (MayAnswerBy (A.meaning answers.now.algebra) answers.now.run.now.settings.now
+            (T.may_answer answers.now.run.now.gate.now) solver.old) self.old self.new
             (W.written out.old) (W.written out.new) (W.failures out.old) (W.failures out.new)) }
         ensures fell { OnErr result (LastFedPart
-            (MayAnswer (A.meaning answers.now.algebra) answers.now.settings.now
-            (T.may_answer answers.now.gate.now) answers.now.graph.now) self.old self.new
+            (MayAnswerBy (A.meaning answers.now.algebra) answers.now.run.now.settings.now
+            (T.may_answer answers.now.run.now.gate.now) solver.old) self.old self.new
             (W.written out.old) (W.written out.new) (W.failures out.old) (W.failures out.new)) }
+        ensures same { IsSameSolver solver.old solver.new }
         ensures passed_on { OnOk result (W.held out.old ≡ [] → W.held out.new ≡ []) }
         ensures vertices { self.new.cutter.taker.questions.list.vertices ≡
             self.old.cutter.taker.questions.list.vertices }
     {
         if self.cutter.to_end() {
-            return self.end_line(answers, out);
+            return self.end_line(answers, solver, out);
         }
         Ok(())
     }
@@ -153,12 +160,13 @@ impl Service {
     fn end_request<A: PathAlgebra, R: Threads + Wait + Sync, T: Gate, W: RoadWrite>(
         &self,
         _answers: &BatchAnswers<'_, A, R, T>,
+        _solver: &Solver<A::Value>,
         out: &mut W,
     ) -> Result<(), WriteFault>
         ensures replied { (at : ℕ) → self.now.line ≡ held_line at →
             RepliedOrFell
-            (MayAnswer (A.meaning _answers.now.algebra) _answers.now.settings.now
-            (T.may_answer _answers.now.gate.now) _answers.now.graph.now) (map (at_line at) (service_end (parser_state self.now.cutter.taker)))
+            (MayAnswerBy (A.meaning _answers.now.algebra) _answers.now.run.now.settings.now
+            (T.may_answer _answers.now.run.now.gate.now) _solver.now) (map (at_line at) (service_end (parser_state self.now.cutter.taker)))
             (W.written out.old) (W.written out.new) (W.failures out.old) (W.failures out.new) result }
         ensures passed_on { OnOk result (W.held out.old ≡ [] → W.held out.new ≡ []) }
     {
@@ -172,21 +180,23 @@ impl Service {
     pub fn finish<A: PathAlgebra, R: Threads + Wait + Sync, T: Gate, W: RoadWrite>(
         mut self,
         answers: &BatchAnswers<'_, A, R, T>,
+        solver: &mut Solver<A::Value>,
         out: &mut W,
     ) -> Result<(), WriteFault>
-        requires { self.cutter.taker.questions.list.vertices ≡ answers.now.graph.now.vertices }
+        requires { self.cutter.taker.questions.list.vertices ≡ (graph_of solver.old).vertices }
         ensures finished { OnOk result (Finished
-            (MayAnswer (A.meaning answers.now.algebra) answers.now.settings.now
-            (T.may_answer answers.now.gate.now) answers.now.graph.now) self
+            (MayAnswerBy (A.meaning answers.now.algebra) answers.now.run.now.settings.now
+            (T.may_answer answers.now.run.now.gate.now) solver.old) self
             (W.written out.old) (W.written out.new) (W.failures out.old) (W.failures out.new)) }
         ensures fell { OnErr result (FinishedPart
-            (MayAnswer (A.meaning answers.now.algebra) answers.now.settings.now
-            (T.may_answer answers.now.gate.now) answers.now.graph.now) self
+            (MayAnswerBy (A.meaning answers.now.algebra) answers.now.run.now.settings.now
+            (T.may_answer answers.now.run.now.gate.now) solver.old) self
             (W.written out.old) (W.written out.new) (W.failures out.old) (W.failures out.new)) }
+        ensures same { IsSameSolver solver.old solver.new }
         ensures passed_on { OnOk result (W.held out.old ≡ [] → W.held out.new ≡ []) }
     {
-        match self.end_lines(answers, out) {
-            Ok(()) => self.end_request(answers, out),
+        match self.end_lines(answers, solver, out) {
+            Ok(()) => self.end_request(answers, solver, out),
             Err(fault) => Err(fault),
         }
     }

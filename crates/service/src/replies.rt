@@ -4,12 +4,13 @@ ghost use Rattle.road_text.specs.Rules.{at_line, fault_at};
 ghost use Rattle.road_text.specs.Written.{WritesText};
 ghost use Rattle.road_files.specs.Asked.{asked_of, AreQuestionsOf};
 ghost use Rattle.road_files.specs.RequestTakes.{EndFits, ended_list, ended_of};
-ghost use Rattle.service.specs.Answering.{MayAnswer};
+ghost use Rattle.service.specs.Answering.{MayAnswerBy};
+ghost use Rattle.batch_run.specs.Solvers.{IsSameSolver, graph_of};
 ghost use Rattle.service.specs.Replies.{held_line, reported_line, RepliedOrFell};
 
 use crate::batch_answers::BatchAnswers;
 use crate::fault_lines::send_fault;
-use batch_run::Gate;
+use batch_run::{Gate, Solver};
 use path_algebra::PathAlgebra;
 use road_files::rules::TOO_FEW;
 use road_files::{Ended, LineDone, Questions};
@@ -20,16 +21,18 @@ use std::thread::Threads;
 /// Writes an answer, and flushes the output.
 fn send_answer<A: PathAlgebra, R: Threads + Wait + Sync, T: Gate, W: RoadWrite>(
     answers: &BatchAnswers<'_, A, R, T>,
+    solver: &mut Solver<A::Value>,
     questions: &Questions,
     out: &mut W,
 ) -> Result<(), WriteFault>
-    requires { AreQuestionsOf (answers.now.graph.now.vertices) questions.now }
-    ensures wrote { (text : List ℕ) × MayAnswer (A.meaning answers.now.algebra)
-        answers.now.settings.now (T.may_answer answers.now.gate.now) answers.now.graph.now
+    requires { AreQuestionsOf (graph_of solver.old).vertices questions.now }
+    ensures wrote { (text : List ℕ) × MayAnswerBy (A.meaning answers.now.algebra) answers.now.run.now.settings.now
+        (T.may_answer answers.now.run.now.gate.now) solver.old
         (asked_of questions.now) text × WritesText W.written W.failures out.old out.new text result }
+    ensures same { IsSameSolver solver.old solver.new }
     ensures passed_on { OnOk result (W.held out.new ≡ []) }
 {
-    answers.answer(questions, out)?;
+    answers.answer(solver, questions, out)?;
     out.flush()
 }
 
@@ -46,45 +49,49 @@ fn reported_line(number: u8, line: u64) -> u64
 /// Replies to a request that has ended with this line.
 fn send_end<A: PathAlgebra, R: Threads + Wait + Sync, T: Gate, W: RoadWrite>(
     answers: &BatchAnswers<'_, A, R, T>,
+    solver: &mut Solver<A::Value>,
     ended: Option<Ended>,
     line: u64,
     out: &mut W,
 ) -> Result<(), WriteFault>
-    requires { EndFits (answers.now.graph.now.vertices) ended }
+    requires { EndFits (graph_of solver.old).vertices ended }
     ensures replied { (at : ℕ) → line ≡ held_line at →
         RepliedOrFell
-        (MayAnswer (A.meaning answers.now.algebra) answers.now.settings.now
-        (T.may_answer answers.now.gate.now) answers.now.graph.now) (map (at_line at) (ended_list ended))
+        (MayAnswerBy (A.meaning answers.now.algebra) answers.now.run.now.settings.now
+        (T.may_answer answers.now.run.now.gate.now) solver.old) (map (at_line at) (ended_list ended))
         (W.written out.old) (W.written out.new) (W.failures out.old) (W.failures out.new) result }
+    ensures same { IsSameSolver solver.old solver.new }
     ensures passed_on { OnOk result (W.held out.old ≡ [] → W.held out.new ≡ []) }
 {
     match ended {
         None => Ok(()),
         Some(Ended::Fault(number)) => send_fault(out, number, reported_line(number, line)),
-        Some(Ended::Asked(questions)) => send_answer(answers, &questions, out),
+        Some(Ended::Asked(questions)) => send_answer(answers, solver, &questions, out),
     }
 }
 
 /// Replies to the requests that have ended with a line.
 pub(crate) fn send_done<A: PathAlgebra, R: Threads + Wait + Sync, T: Gate, W: RoadWrite>(
     answers: &BatchAnswers<'_, A, R, T>,
+    solver: &mut Solver<A::Value>,
     done: LineDone,
     line: u64,
     out: &mut W,
 ) -> Result<(), WriteFault>
-    requires { EndFits (answers.now.graph.now.vertices) done.ended }
+    requires { EndFits (graph_of solver.old).vertices done.ended }
     ensures replied { (at : ℕ) → line ≡ held_line at →
         RepliedOrFell
-        (MayAnswer (A.meaning answers.now.algebra) answers.now.settings.now
-        (T.may_answer answers.now.gate.now) answers.now.graph.now) (map (at_line at) (ended_of done))
+        (MayAnswerBy (A.meaning answers.now.algebra) answers.now.run.now.settings.now
+        (T.may_answer answers.now.run.now.gate.now) solver.old) (map (at_line at) (ended_of done))
         (W.written out.old) (W.written out.new) (W.failures out.old) (W.failures out.new) result }
+    ensures same { IsSameSolver solver.old solver.new }
     ensures passed_on { OnOk result (W.held out.old ≡ [] → W.held out.new ≡ []) }
 {
     if !done.early {
-        return send_end(answers, done.ended, line, out);
+        return send_end(answers, solver, done.ended, line, out);
     }
     match send_fault(out, TOO_FEW.number, line) {
-        Ok(()) => send_end(answers, done.ended, line, out),
+        Ok(()) => send_end(answers, solver, done.ended, line, out),
         Err(fault) => Err(fault),
     }
 }

@@ -1,15 +1,21 @@
 //! Runs a service from bytes to bytes.
-ghost use Rattle.std.specs.Prelude.{◌≡◌};
+ghost use Rattle.std.specs.Prelude.{◌≡◌, IfOk};
+ghost use Rattle.road_text.specs.Reads.{ReadsText};
+ghost use Rattle.graph_text.specs.GraphFiles.{gr_rules};
+ghost use Rattle.batch_run.specs.Solvers.{graph_of, is_plain};
 ghost use Rattle.batch_run.specs.Runs.{input, output};
 ghost use Rattle.service.specs.Served.{RanService};
 
 use crate::batch_answers::BatchAnswers;
 use crate::serving::{Stopped, serve};
-use batch_run::{File, Gate, RunFault, SETTINGS, Settings, WRITE, fault_in, fault_of_run, indexed};
-use graph_text::read_gr;
+use batch_run::{
+    File, Gate, PlainSolver, Run, RunFault, SETTINGS, Solver, SolverKind, WRITE, WorkerSolver,
+    fault_in, fault_of_run,
+};
+use graph_text::read_gr_as;
 use path_algebra::PathAlgebra;
+use road_graph::{Graph, OutGraph};
 use road_text::{READ_FAILED, ReadFault, RoadRead, RoadWrite, TOO_LONG};
-use std::alloc::Global;
 use std::sync::Wait;
 use std::thread::Threads;
 
@@ -18,6 +24,33 @@ fn fault_of_requests(number: u8) -> RunFault
     ensures { result ≡ record { number = number; file = File.Questions; line = 0 } }
 {
     fault_in(File::Questions, ReadFault { number, line: 0 })
+}
+
+/// Reads a graph, and makes the solver that the settings choose.
+fn read_solver<V: Copy, G: RoadRead, R, T>(
+    run: &Run<'_, R, T>,
+    graph_in: &mut G,
+) -> Result<Solver<V>, ReadFault>
+    ensures reads { ReadsText G.left G.failures G.asked graph_in.old graph_in.new gr_rules graph_of
+        10 19 result }
+    ensures kind { IfOk result (λ s. is_plain s ≡ run.now.settings.now.plain) }
+{
+    match run.settings.solver() {
+        SolverKind::Plain => {
+            let graph: OutGraph = match read_gr_as(run.alloc, graph_in) {
+                Ok(graph) => graph,
+                Err(fault) => return Err(fault),
+            };
+            Ok(Solver::Plain(PlainSolver::new(run.alloc, graph)))
+        }
+        SolverKind::Workers => {
+            let graph: Graph = match read_gr_as(run.alloc, graph_in) {
+                Ok(graph) => graph,
+                Err(fault) => return Err(fault),
+            };
+            Ok(Solver::Workers(WorkerSolver::new(run.alloc, graph)))
+        }
+    }
 }
 
 /// Reads a graph from one input, and replies to each request of another input as soon as it is whole.
@@ -40,16 +73,14 @@ pub fn run_service<
     R: Threads + Wait + Sync,
     T: Gate,
 >(
-    rt: &R,
-    alloc: Global,
+    run: &Run<'_, R, T>,
     algebra: A,
     graph_in: &mut G,
     requests_in: &mut Q,
     out: &mut W,
-    settings: &Settings,
-    gate: &T,
 ) -> Result<(), RunFault>
-    ensures ran { RanService (A.meaning algebra) settings.now (T.may_answer gate.now)
+    ensures ran { RanService (A.meaning algebra) run.now.settings.now
+        (T.may_answer run.now.gate.now)
         (input G.left G.failures G.asked graph_in.old)
         (input G.left G.failures G.asked graph_in.new)
         (input Q.left Q.failures Q.asked requests_in.old)
@@ -57,22 +88,15 @@ pub fn run_service<
         (output W.written W.held W.failures out.old)
         (output W.written W.held W.failures out.new) result }
 {
-    if !settings.are_in_range() {
+    if !run.settings.are_in_range() {
         return Err(fault_of_run(SETTINGS));
     }
-    let graph = match read_gr(alloc, graph_in) {
-        Ok(graph) => indexed(alloc, graph, settings),
+    let mut solver: Solver<A::Value> = match read_solver(run, graph_in) {
+        Ok(solver) => solver,
         Err(fault) => return Err(fault_in(File::Graph, fault)),
     };
-    let answers = BatchAnswers {
-        rt,
-        alloc,
-        algebra,
-        graph: &graph,
-        settings,
-        gate,
-    };
-    match serve(rt, alloc, graph.vertices(), &answers, requests_in, out) {
+    let answers = BatchAnswers { run, algebra };
+    match serve(&answers, &mut solver, requests_in, out) {
         Ok(()) => Ok(()),
         Err(Stopped::Read) => Err(fault_of_requests(READ_FAILED)),
         Err(Stopped::TooLong) => Err(fault_of_requests(TOO_LONG)),

@@ -2,15 +2,15 @@
 ghost use Rattle.std.specs.Prelude.{◌≡◌, ◌≢◌, ℕ, ◌≤◌, ◌+◌, [], length, IfOk, OnOk, OnErr, Err};
 ghost use Rattle.std.specs.Io.KnownBytes.{IsAtEnd, ReadConsumes};
 ghost use Rattle.service.specs.Answering.{MayAnswer};
+ghost use Rattle.batch_run.specs.Solvers.{graph_of, is_plain};
 ghost use Rattle.service.specs.Fed.{Served, ServedPrefix, ServedPart};
 
 use crate::batch_answers::BatchAnswers;
 use crate::feeding::Unfed;
 use crate::service::Service;
-use batch_run::Gate;
+use batch_run::{Gate, Solver};
 use path_algebra::PathAlgebra;
 use road_text::{ReadFailed, RoadRead, RoadWrite};
-use std::alloc::Global;
 use std::sync::Wait;
 use std::thread::Threads;
 
@@ -43,31 +43,29 @@ fn ask<I: RoadRead, W: RoadWrite>(
     input.read(buffer)
 }
 
-/// Replies to each request of an input, over a graph with this number of vertices, as soon as it is whole.
+/// Replies to each request of an input, over the graph of the solver, as soon as it is whole.
 pub(crate) fn serve<A: PathAlgebra, I: RoadRead, W: RoadWrite, R: Threads + Wait + Sync, T: Gate>(
-    rt: &R,
-    alloc: Global,
-    vertices: u32,
     answers: &BatchAnswers<'_, A, R, T>,
+    solver: &mut Solver<A::Value>,
     input: &mut I,
     out: &mut W,
 ) -> Result<(), Stopped>
-    requires { vertices ≡ answers.now.graph.now.vertices }
+    requires kind { is_plain solver.old ≡ answers.now.run.now.settings.now.plain }
     ensures served { OnOk result (Served
-        (MayAnswer (A.meaning answers.now.algebra) answers.now.settings.now
-        (T.may_answer answers.now.gate.now) answers.now.graph.now) vertices (I.left input.old)
+        (MayAnswer (A.meaning answers.now.algebra) answers.now.run.now.settings.now
+        (T.may_answer answers.now.run.now.gate.now) (graph_of solver.old)) (graph_of solver.old).vertices (I.left input.old)
         (W.written out.old) (W.written out.new) (W.failures out.old) (W.failures out.new)) }
     ensures read { result ≡ Err Stopped.Read → ServedPrefix
-        (MayAnswer (A.meaning answers.now.algebra) answers.now.settings.now
-        (T.may_answer answers.now.gate.now) answers.now.graph.now) vertices (I.left input.old)
+        (MayAnswer (A.meaning answers.now.algebra) answers.now.run.now.settings.now
+        (T.may_answer answers.now.run.now.gate.now) (graph_of solver.old)) (graph_of solver.old).vertices (I.left input.old)
         (W.written out.old) (W.written out.new) (W.failures out.old) (W.failures out.new) × (I.failures input.new ≡ I.failures input.old + 1) }
     ensures write { result ≡ Err Stopped.Write → ServedPart
-        (MayAnswer (A.meaning answers.now.algebra) answers.now.settings.now
-        (T.may_answer answers.now.gate.now) answers.now.graph.now) vertices (I.left input.old)
+        (MayAnswer (A.meaning answers.now.algebra) answers.now.run.now.settings.now
+        (T.may_answer answers.now.run.now.gate.now) (graph_of solver.old)) (graph_of solver.old).vertices (I.left input.old)
         (W.written out.old) (W.written out.new) (W.failures out.old) (W.failures out.new) }
     ensures long { result ≡ Err Stopped.TooLong → ServedPrefix
-        (MayAnswer (A.meaning answers.now.algebra) answers.now.settings.now
-        (T.may_answer answers.now.gate.now) answers.now.graph.now) vertices (I.left input.old)
+        (MayAnswer (A.meaning answers.now.algebra) answers.now.run.now.settings.now
+        (T.may_answer answers.now.run.now.gate.now) (graph_of solver.old)) (graph_of solver.old).vertices (I.left input.old)
         (W.written out.old) (W.written out.new) (W.failures out.old) (W.failures out.new) }
     ensures passed_on { OnOk result (W.held out.new ≡ []) }
     ensures end { OnOk result (IsAtEnd (I.left input.new)) }
@@ -77,16 +75,16 @@ pub(crate) fn serve<A: PathAlgebra, I: RoadRead, W: RoadWrite, R: Threads + Wait
         Ok(()) => {}
         Err(_) => return Err(Stopped::Write),
     }
-    let mut service = Service::new(alloc, vertices);
+    let mut service = Service::new(answers.run.alloc, solver.vertices());
     let mut buffer = [0u8; BUFFER];
-    for _ in rt.forever() {
+    for _ in answers.run.rt.forever() {
         match ask(input, out, &mut buffer) {
             Err(_) => return Err(Stopped::Read),
-            Ok(0) => match service.finish(answers, out) {
+            Ok(0) => match service.finish(answers, solver, out) {
                 Ok(()) => return Ok(()),
                 Err(_) => return Err(Stopped::Write),
             },
-            Ok(n) => match service.feed(answers, &buffer[..n], out) {
+            Ok(n) => match service.feed(answers, solver, &buffer[..n], out) {
                 Ok(()) => {}
                 Err(Unfed::Write) => return Err(Stopped::Write),
                 Err(Unfed::TooLong) => return Err(Stopped::TooLong),

@@ -1,11 +1,10 @@
 //! Graphs, requests and replies for the tests of services, and helpers that run a service.
 ghost use Rattle.std.specs.Prelude.{◌<◌};
 
-use batch_run::{OpenGate, RunFault, Settings};
+use batch_run::{Gate, OpenGate, Run, RunFault, Settings};
 use path_algebra::{PathAlgebra, Shortest};
 use road_text::{Plain, RoadRead, RoadWrite};
 use service::run_service;
-use std::alloc::Global;
 use std::process::Abort;
 use std::sync::Wait;
 use std::thread::Threads;
@@ -36,19 +35,38 @@ pub(crate) fn plain() -> Settings {
 }
 
 /// How a service over a graph ends.
-pub(crate) fn serve_from<A: PathAlgebra, Q: RoadRead, W: RoadWrite, R: Threads + Wait + Sync>(
-    rt: &R,
-    alloc: Global,
+pub(crate) fn serve<A: PathAlgebra, Q: RoadRead, W: RoadWrite, R: Threads + Wait + Sync, T: Gate>(
+    run: &Run<'_, R, T>,
     algebra: A,
     graph: &str,
     requests: &mut Q,
     out: &mut W,
-    settings: &Settings,
 ) -> Result<(), RunFault> {
     let mut graph = Plain::new(graph.as_bytes());
-    run_service(
-        rt, alloc, algebra, &mut graph, requests, out, settings, &OpenGate,
-    )
+    run_service(run, algebra, &mut graph, requests, out)
+}
+
+/// How it ends with these settings and an open gate.
+pub(crate) fn serve_with<
+    A: PathAlgebra,
+    Q: RoadRead,
+    W: RoadWrite,
+    R: AllocGlobal + Threads + Wait + Sync,
+>(
+    rt: &R,
+    settings: &Settings,
+    algebra: A,
+    graph: &str,
+    requests: &mut Q,
+    out: &mut W,
+) -> Result<(), RunFault> {
+    let run = Run {
+        rt,
+        alloc: rt.alloc(),
+        settings,
+        gate: &OpenGate,
+    };
+    serve(&run, algebra, graph, requests, out)
 }
 
 /// Asserts the replies to requests over `FIVE` that come in pieces of this size.
@@ -61,10 +79,9 @@ pub(crate) fn assert_pieces(
 )
     requires { 0 < piece }
 {
-    let alloc = rt.alloc();
     let mut input = Pieces::new(requests.as_bytes(), piece, false);
-    let mut out = Plain::new(Vec::new(alloc));
-    let ended = serve_from(rt, alloc, Shortest, FIVE, &mut input, &mut out, settings);
+    let mut out = Plain::new(Vec::new(rt.alloc()));
+    let ended = serve_with(rt, settings, Shortest, FIVE, &mut input, &mut out);
     assert_eq!(rt; ended, Ok(()), "{requests}");
     assert_eq!(rt;
         out.into_inner().as_slice(),

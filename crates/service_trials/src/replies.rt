@@ -1,7 +1,7 @@
 //! Requests with their replies.
 use crate::asking::{
     ALL_KINDS, ALL_REPLIES, FIVE, ONE, ONE_REPLY, assert_pieces, assert_replies, joined, plain,
-    serve_from,
+    serve_with,
 };
 use batch_run::Settings;
 use path_algebra::Widest;
@@ -28,15 +28,7 @@ fn each_kind_by_workers(rt: HostRuntime) {
 fn another_algebra(rt: HostRuntime) {
     let mut input = Plain::new("p aux sp ss 1\ns 1\n".as_bytes());
     let mut out = Plain::new(Vec::new(rt.alloc()));
-    let ended = serve_from(
-        &rt,
-        rt.alloc(),
-        Widest,
-        FIVE,
-        &mut input,
-        &mut out,
-        &plain(),
-    );
+    let ended = serve_with(&rt, &plain(), Widest, FIVE, &mut input, &mut out);
     assert_eq!(rt; ended, Ok(()));
     let wanted =
         "p ans ss 1 widest\ns 1\nd 1 4294967296 0 0\nd 2 4 1 1\nd 3 1 1 1\nd 4 4 2 2\nu 5\n";

@@ -1,11 +1,12 @@
 //! Faults that stop a reply, and faults that stop a service.
 ghost use Rattle.std.specs.Prelude.{◌≡◌, false};
 
-use crate::asking::{ALL_KINDS, ALL_REPLIES, FIVE, ONE, ONE_REPLY, joined, plain, serve_from};
-use batch_run::{File, Gate, OpenGate, RunFault, Settings};
+use crate::asking::{
+    ALL_KINDS, ALL_REPLIES, FIVE, ONE, ONE_REPLY, joined, plain, serve, serve_with,
+};
+use batch_run::{File, Gate, OpenGate, Run, RunFault, Settings};
 use path_algebra::Shortest;
 use road_text::Plain;
-use service::run_service;
 use std::process::Abort;
 use std::sync::Wait;
 use std::thread::Threads;
@@ -28,15 +29,7 @@ fn a_write_fails_after_each_number_of_bytes(rt: HostRuntime) {
     for room in 0..wanted.len() {
         let mut input = Plain::new(ALL_KINDS.as_bytes());
         let mut out = Sheet::new(rt.alloc(), room, true);
-        let ended = serve_from(
-            &rt,
-            rt.alloc(),
-            Shortest,
-            FIVE,
-            &mut input,
-            &mut out,
-            &plain(),
-        );
+        let ended = serve_with(&rt, &plain(), Shortest, FIVE, &mut input, &mut out);
         let write = RunFault {
             number: 42,
             file: File::NoFile,
@@ -51,15 +44,7 @@ fn a_write_fails_after_each_number_of_bytes(rt: HostRuntime) {
 fn a_flush_fails(rt: HostRuntime) {
     let mut input = Plain::new(ONE.as_bytes());
     let mut out = Sheet::new(rt.alloc(), 256, false);
-    let ended = serve_from(
-        &rt,
-        rt.alloc(),
-        Shortest,
-        FIVE,
-        &mut input,
-        &mut out,
-        &plain(),
-    );
+    let ended = serve_with(&rt, &plain(), Shortest, FIVE, &mut input, &mut out);
     let write = RunFault {
         number: 42,
         file: File::NoFile,
@@ -74,15 +59,7 @@ fn a_read_fails_after_whole_requests(rt: HostRuntime) {
     let requests = joined(&rt, &[ONE, "p aux sp p2p 1\nq 1 4"]);
     let mut input = Pieces::new(requests.as_bytes(), 3, true);
     let mut out = Plain::new(Vec::new(rt.alloc()));
-    let ended = serve_from(
-        &rt,
-        rt.alloc(),
-        Shortest,
-        FIVE,
-        &mut input,
-        &mut out,
-        &plain(),
-    );
+    let ended = serve_with(&rt, &plain(), Shortest, FIVE, &mut input, &mut out);
     let read = RunFault {
         number: 1,
         file: File::Questions,
@@ -96,15 +73,7 @@ fn a_read_fails_after_whole_requests(rt: HostRuntime) {
 fn a_fault_of_the_graph_comes_first(rt: HostRuntime) {
     let mut input = Pieces::new(b"", 1, true);
     let mut out = Plain::new(Vec::new(rt.alloc()));
-    let ended = serve_from(
-        &rt,
-        rt.alloc(),
-        Shortest,
-        "p sp 1\n",
-        &mut input,
-        &mut out,
-        &plain(),
-    );
+    let ended = serve_with(&rt, &plain(), Shortest, "p sp 1\n", &mut input, &mut out);
     let fault = RunFault {
         number: 12,
         file: File::Graph,
@@ -122,15 +91,7 @@ fn a_setting_out_of_its_range(rt: HostRuntime) {
     };
     let mut input = Plain::new(ONE.as_bytes());
     let mut out = Plain::new(Vec::new(rt.alloc()));
-    let ended = serve_from(
-        &rt,
-        rt.alloc(),
-        Shortest,
-        FIVE,
-        &mut input,
-        &mut out,
-        &settings,
-    );
+    let ended = serve_with(&rt, &settings, Shortest, FIVE, &mut input, &mut out);
     let fault = RunFault {
         number: 43,
         file: File::NoFile,
@@ -159,12 +120,15 @@ fn assert_stops(
         rt,
         &[stopped.as_str(), "p ans ss 0 shortest\n", stopped.as_str()],
     );
-    let mut graph = Plain::new(FIVE.as_bytes());
     let mut input = Plain::new(requests.as_bytes());
     let mut out = Plain::new(Vec::new(alloc));
-    let ended = run_service(
-        rt, alloc, Shortest, &mut graph, &mut input, &mut out, &settings, gate,
-    );
+    let run = Run {
+        rt,
+        alloc,
+        settings: &settings,
+        gate,
+    };
+    let ended = serve(&run, Shortest, FIVE, &mut input, &mut out);
     assert_eq!(rt; ended, Ok(()), "{stop}");
     assert_eq!(rt; out.into_inner().as_slice(), wanted.as_bytes(), "{stop}");
 }

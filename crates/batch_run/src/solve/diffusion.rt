@@ -4,9 +4,10 @@ ghost use Rattle.std.specs.List.{All};
 ghost use Rattle.station.specs.Gather.{IsGathered};
 ghost use Rattle.batch_run.specs.Diffusions.{AreEnded};
 
-use path_algebra::PathAlgebra;
+use path_algebra::{Labels, PathAlgebra};
 use post_floor::Floor;
 use road_graph::Vertex;
+use shard_part::Tally;
 use station::{Finished, GatherFault, Gathered, Station, gather};
 use std::alloc::{AllocError, Global};
 
@@ -16,6 +17,14 @@ pub(crate) struct EndedDiffusion<'g, A: PathAlgebra> {
     pub(crate) source: Vertex,
     pub(crate) floor: Floor<A>,
     pub(crate) stations: Vec<Station<'g, A>>,
+}
+
+/// What a diffusion from a source came to: best labels, and its counts.
+#[derive(Drop)]
+pub(crate) struct GatheredDiffusion<V: Copy> {
+    pub(crate) source: Vertex,
+    pub(crate) labels: Labels<V>,
+    pub(crate) tally: Tally,
 }
 
 /// Stations that have ended, ready to be gathered.

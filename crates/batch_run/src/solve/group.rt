@@ -1,19 +1,18 @@
-//! Diffusions that are run together, on threads, to their end.
+//! Diffusions that are run together, on threads, to their end, and gathered.
 ghost use Rattle.std.specs.Prelude.{◌≡◌, ℕ, ◌<◌, [], ◌∷◌, ◌++◌, length, get_or, IfOk, IfErr, vec_len};
 ghost use Rattle.std.specs.List.{All};
 ghost use Rattle.road_graph.specs.GraphData.{HasVertex};
 ghost use Rattle.station.specs.Opened.{AreOpened, setup_of};
 ghost use Rattle.worker_fleet.specs.Stops.{Says};
-ghost use Rattle.batch_run.specs.Diffusions.{IsEnded, IsPlanOf, sources_in_order};
-ghost use Rattle.batch_run.specs.InRange.{AreInRange};
+ghost use Rattle.batch_run.specs.Diffusions.{IsEnded, IsGatheredOver, IsPlanOf, sources_in_order};
 
-use crate::solve::context::RunContext;
-use crate::solve::diffusion::EndedDiffusion;
+use crate::batch::BatchOver;
+use crate::solve::diffusion::{EndedDiffusion, GatheredDiffusion, gather_ended};
 use path_algebra::PathAlgebra;
 use post_floor::Floor;
 use road_graph::{Graph, Vertex};
 use shard_part::Plan;
-use station::{Station, open_diffusion};
+use station::{Gathered, Station, open_diffusion};
 use std::alloc::{AllocError, Global};
 use std::sync::Wait;
 use std::thread::Threads;
@@ -73,42 +72,64 @@ fn take_last<'g, A: PathAlgebra>(
     }
 }
 
-/// Runs diffusions from each source to their end, together; they come back with the one from the first source last.
-pub(crate) fn run_together<'g, A: PathAlgebra, R: Threads + Wait, T: Gate>(
-    context: &RunContext<'g, A, R, T>,
+/// What an ended diffusion came to.
+fn gathered_from<'g, A: PathAlgebra>(
+    alloc: Global,
+    algebra: A,
+    graph: &'g Graph,
     plan: &'g Plan,
-    sources: &[Vertex],
-) -> Result<Vec<EndedDiffusion<'g, A>>, GroupFault>
-    requires settings { AreInRange context.now.settings.now }
-    requires plan { IsPlanOf context.now.graph.now plan.now }
-    requires sources { All (HasVertex context.now.graph.now) sources.now }
-    ensures ended { IfOk result (λ ended. All (IsEnded context.now.algebra context.now.graph.now
-        plan.now) ended.items) }
-    ensures sources { IfOk result (λ ended. sources_in_order ended.items ≡ sources.now) }
-    ensures says { IfErr result (Says (T.may_answer context.now.gate.now)
-        context.now.settings.now.workers context.now.settings.now.turns) }
+    ended: EndedDiffusion<'g, A>,
+) -> Result<GatheredDiffusion<A::Value>, AllocError>
+    requires { IsEnded algebra graph.now plan.now ended }
+    ensures gathered { IfOk result (IsGatheredOver (A.meaning algebra) graph.now) }
+    ensures source { IfOk result (λ d. d.source ≡ ended.entry.source) }
 {
-    let alloc = context.alloc;
-    let (mut floors, opened) = open_all(alloc, context.algebra, context.graph, plan, sources)?;
-    let settings = context.settings;
+    let source = ended.source;
+    let gathered = gather_ended(alloc, ended)?;
+    let Gathered { labels, tally } = gathered;
+    Ok(GatheredDiffusion {
+        source,
+        labels,
+        tally,
+    })
+}
+
+/// Runs diffusions from each source to their end, together, and gathers each; the one from the first source comes last.
+pub(crate) fn run_together<A: PathAlgebra, R: Threads + Wait, T: Gate>(
+    batch: &BatchOver<'_, A, Graph, R, T>,
+    plan: &Plan,
+    sources: &[Vertex],
+) -> Result<Vec<GatheredDiffusion<A::Value>>, GroupFault>
+    requires plan { IsPlanOf batch.now.graph.now plan.now }
+    requires sources { All (HasVertex batch.now.graph.now) sources.now }
+    ensures gathered { IfOk result (λ v. All (IsGatheredOver (A.meaning batch.now.algebra)
+        batch.now.graph.now) v.items) }
+    ensures sources { IfOk result (λ v. sources_in_order v.items ≡ sources.now) }
+    ensures says { IfErr result (Says (T.may_answer batch.now.run.now.gate.now)
+        batch.now.run.now.settings.now.workers batch.now.run.now.settings.now.turns) }
+{
+    let (alloc, settings) = (batch.run.alloc, batch.run.settings);
+    let (algebra, graph) = (batch.algebra, batch.graph);
+    let (mut floors, opened) = open_all(alloc, algebra, graph, plan, sources)?;
     let mut lists = run_group(
-        context.rt,
+        batch.run.rt,
         alloc,
         floors.as_slice(),
         opened,
         settings.workers as usize,
         settings.budget as u32,
         settings.turns,
-        context.gate,
+        batch.run.gate,
     )?;
-    let mut ended = Vec::new(alloc);
+    let mut gathered = Vec::new(alloc);
     for k in 0..sources.len() {
         let source = sources[sources.len() - 1 - k];
         let last = take_last(&mut floors, &mut lists, source);
-        match ended.push(last) {
+        let next = gathered_from(alloc, algebra, graph, plan, last)?;
+        match gathered.push(next) {
             Ok(()) => {}
             Err(_) => return Err(GroupFault::Memory),
         }
     }
-    Ok(ended)
+    Ok(gathered)
 }

@@ -1,128 +1,115 @@
-//! The diffusions of a batch, one after the other: several are run together, and wait here until they are gathered.
+//! The diffusions of a batch, one after the other: several are run together, and wait here until they are asked for.
 ghost use Rattle.std.specs.Prelude.{◌≡◌, ◌≤◌, ◌+◌, [], ◌∷◌, length, IfOk, IfErr, OnOk, OnErr};
 ghost use Rattle.path_algebra.specs.Walks.{AreBest};
-ghost use Rattle.road_files.specs.Asked.{AreQuestionsOf, asked_of};
+ghost use Rattle.road_files.specs.Asked.{asked_of};
 ghost use Rattle.worker_fleet.specs.Stops.{Says};
-ghost use Rattle.batch_run.specs.Diffusions.{AreNext, HasSource, IsEnded, IsPlanOf, sources_to_come};
-ghost use Rattle.batch_run.specs.InRange.{AreInRange};
+ghost use Rattle.batch_run.specs.Diffusions.{AreNext, HasSource, IsGatheredOver, sources_to_come};
 ghost use Rattle.batch_run.specs.Reports.{Account, Reported};
 
-use crate::solve::context::RunContext;
-use crate::solve::diffusion::{EndedDiffusion, gather_ended};
+use crate::batch::BatchOver;
+use crate::solve::diffusion::GatheredDiffusion;
 use crate::solve::group::run_together;
 use crate::solve::upcoming::upcoming;
 use crate::watcher::{Report, Watcher};
 use path_algebra::{Labels, PathAlgebra};
-use road_files::Questions;
-use road_graph::Vertex;
+use road_graph::{Graph, Vertex};
 use shard_part::Plan;
-use station::Gathered;
 use std::sync::Wait;
 use std::thread::Threads;
 use worker_fleet::{Gate, GroupFault};
 
-/// The diffusions that were run together with the last one that was taken, the next one last.
+/// How the graph is cut into shards, and the gathered diffusions that wait, the next one last.
 #[derive(Drop)]
-pub(crate) struct DiffusionQueue<'g, A: PathAlgebra> {
-    pub(crate) ended: Vec<EndedDiffusion<'g, A>>,
+pub(crate) struct DiffusionQueue<V: Copy> {
+    pub(crate) plan: Plan,
+    pub(crate) waiting: Vec<GatheredDiffusion<V>>,
 }
 
 /// Runs the diffusions from source j of question i on, at most the width, unless some wait.
-fn refill<'g, A: PathAlgebra, R: Threads + Wait, T: Gate>(
-    context: &RunContext<'g, A, R, T>,
-    plan: &'g Plan,
-    queue: &mut DiffusionQueue<'g, A>,
-    questions: &Questions,
+fn refill<A: PathAlgebra, R: Threads + Wait, T: Gate>(
+    batch: &BatchOver<'_, A, Graph, R, T>,
+    queue: &mut DiffusionQueue<A::Value>,
     i: usize,
     j: usize,
 ) -> Result<(), GroupFault>
-    requires settings { AreInRange context.now.settings.now }
-    requires within { AreQuestionsOf context.now.graph.now.vertices questions.now }
-    requires plan { IsPlanOf context.now.graph.now plan.now }
-    requires source { HasSource (asked_of questions.now).questions i j }
-    requires ready { AreNext context.now.algebra context.now.graph.now plan.now
-        (sources_to_come (asked_of questions.now).questions i j) queue.old.ended.items }
-    ensures some { OnOk result (1 ≤ length queue.new.ended.items) }
-    ensures ready { OnOk result (AreNext context.now.algebra context.now.graph.now plan.now
-        (sources_to_come (asked_of questions.now).questions i j) queue.new.ended.items) }
-    ensures says { IfErr result (Says (T.may_answer context.now.gate.now)
-        context.now.settings.now.workers context.now.settings.now.turns) }
+    requires source { HasSource (asked_of batch.now.questions.now).questions i j }
+    requires ready { AreNext (A.meaning batch.now.algebra) batch.now.graph.now
+        (sources_to_come (asked_of batch.now.questions.now).questions i j) queue.old }
+    ensures some { OnOk result (1 ≤ length queue.new.waiting.items) }
+    ensures ready { OnOk result (AreNext (A.meaning batch.now.algebra) batch.now.graph.now
+        (sources_to_come (asked_of batch.now.questions.now).questions i j) queue.new) }
+    ensures says { IfErr result (Says (T.may_answer batch.now.run.now.gate.now)
+        batch.now.run.now.settings.now.workers batch.now.run.now.settings.now.turns) }
 {
-    if !queue.ended.is_empty() {
+    if !queue.waiting.is_empty() {
         return Ok(());
     }
-    let width = context.settings.width as usize;
-    let sources = upcoming(context.alloc, questions, i, j, width)?;
-    let ended = run_together(context, plan, &sources)?;
-    queue.ended = ended;
+    let width = batch.run.settings.width as usize;
+    let sources = upcoming(batch.run.alloc, batch.questions, i, j, width)?;
+    let gathered = run_together(batch, &queue.plan, &sources)?;
+    queue.waiting = gathered;
     Ok(())
 }
 
-/// The next diffusion, which is the one from source j of question i: run to its end, and taken from those that wait.
-fn next_ended<'g, A: PathAlgebra, R: Threads + Wait, T: Gate>(
-    context: &RunContext<'g, A, R, T>,
-    plan: &'g Plan,
-    queue: &mut DiffusionQueue<'g, A>,
-    questions: &Questions,
+/// The next diffusion, which is the one from source j of question i, taken from those that wait.
+fn take_next<A: PathAlgebra, R: Threads + Wait, T: Gate>(
+    batch: &BatchOver<'_, A, Graph, R, T>,
+    queue: &mut DiffusionQueue<A::Value>,
     i: usize,
     j: usize,
     source: Vertex,
-) -> Result<EndedDiffusion<'g, A>, GroupFault>
-    requires settings { AreInRange context.now.settings.now }
-    requires within { AreQuestionsOf context.now.graph.now.vertices questions.now }
-    requires plan { IsPlanOf context.now.graph.now plan.now }
-    requires source { HasSource (asked_of questions.now).questions i j }
-    requires next { sources_to_come (asked_of questions.now).questions i j ≡ source ∷
-        sources_to_come (asked_of questions.now).questions i (j + 1) }
-    requires ready { AreNext context.now.algebra context.now.graph.now plan.now
-        (sources_to_come (asked_of questions.now).questions i j) queue.old.ended.items }
-    ensures source { IfOk result (λ e. e.source ≡ source) }
-    ensures ended { IfOk result (IsEnded context.now.algebra context.now.graph.now plan.now) }
-    ensures ready { OnOk result (AreNext context.now.algebra context.now.graph.now plan.now
-        (sources_to_come (asked_of questions.now).questions i (j + 1)) queue.new.ended.items) }
-    ensures says { IfErr result (Says (T.may_answer context.now.gate.now)
-        context.now.settings.now.workers context.now.settings.now.turns) }
+) -> Result<GatheredDiffusion<A::Value>, GroupFault>
+    requires source { HasSource (asked_of batch.now.questions.now).questions i j }
+    requires next { sources_to_come (asked_of batch.now.questions.now).questions i j ≡ source ∷
+        sources_to_come (asked_of batch.now.questions.now).questions i (j + 1) }
+    requires ready { AreNext (A.meaning batch.now.algebra) batch.now.graph.now
+        (sources_to_come (asked_of batch.now.questions.now).questions i j) queue.old }
+    ensures source { IfOk result (λ d. d.source ≡ source) }
+    ensures gathered { IfOk result (IsGatheredOver (A.meaning batch.now.algebra)
+        batch.now.graph.now) }
+    ensures ready { OnOk result (AreNext (A.meaning batch.now.algebra) batch.now.graph.now
+        (sources_to_come (asked_of batch.now.questions.now).questions i (j + 1)) queue.new) }
+    ensures says { IfErr result (Says (T.may_answer batch.now.run.now.gate.now)
+        batch.now.run.now.settings.now.workers batch.now.run.now.settings.now.turns) }
 {
-    refill(context, plan, queue, questions, i, j)?;
-    let Some(ended) = queue.ended.pop() else {
+    refill(batch, queue, i, j)?;
+    let Some(next) = queue.waiting.pop() else {
         unreachable!()
     };
-    Ok(ended)
+    Ok(next)
 }
 
 /// The labels of the next diffusion, which is the one from source j of question i. It is reported with its counts.
-pub(crate) fn next_labels<'g, A: PathAlgebra, R: Threads + Wait, T: Gate, O: Watcher>(
-    context: &RunContext<'g, A, R, T>,
-    plan: &'g Plan,
-    queue: &mut DiffusionQueue<'g, A>,
-    questions: &Questions,
+pub(crate) fn next_labels<A: PathAlgebra, R: Threads + Wait, T: Gate, O: Watcher>(
+    batch: &BatchOver<'_, A, Graph, R, T>,
+    queue: &mut DiffusionQueue<A::Value>,
     i: usize,
     j: usize,
     source: Vertex,
     watcher: &mut O,
 ) -> Result<Labels<A::Value>, GroupFault>
-    requires settings { AreInRange context.now.settings.now }
-    requires within { AreQuestionsOf context.now.graph.now.vertices questions.now }
-    requires plan { IsPlanOf context.now.graph.now plan.now }
-    requires source { HasSource (asked_of questions.now).questions i j }
-    requires next { sources_to_come (asked_of questions.now).questions i j ≡ source ∷
-        sources_to_come (asked_of questions.now).questions i (j + 1) }
-    requires ready { AreNext context.now.algebra context.now.graph.now plan.now
-        (sources_to_come (asked_of questions.now).questions i j) queue.old.ended.items }
-    ensures labels { IfOk result (λ labels. AreBest (A.meaning context.now.algebra)
-        context.now.graph.now (source ∷ []) labels) }
-    ensures ready { OnOk result (AreNext context.now.algebra context.now.graph.now plan.now
-        (sources_to_come (asked_of questions.now).questions i (j + 1)) queue.new.ended.items) }
-    ensures says { IfErr result (Says (T.may_answer context.now.gate.now)
-        context.now.settings.now.workers context.now.settings.now.turns) }
-    ensures reported { OnOk result (Reported (A.meaning context.now.algebra) context.now.graph.now
+    requires source { HasSource (asked_of batch.now.questions.now).questions i j }
+    requires next { sources_to_come (asked_of batch.now.questions.now).questions i j ≡ source ∷
+        sources_to_come (asked_of batch.now.questions.now).questions i (j + 1) }
+    requires ready { AreNext (A.meaning batch.now.algebra) batch.now.graph.now
+        (sources_to_come (asked_of batch.now.questions.now).questions i j) queue.old }
+    ensures labels { IfOk result (λ labels. AreBest (A.meaning batch.now.algebra)
+        batch.now.graph.now (source ∷ []) labels) }
+    ensures ready { OnOk result (AreNext (A.meaning batch.now.algebra) batch.now.graph.now
+        (sources_to_come (asked_of batch.now.questions.now).questions i (j + 1)) queue.new) }
+    ensures says { IfErr result (Says (T.may_answer batch.now.run.now.gate.now)
+        batch.now.run.now.settings.now.workers batch.now.run.now.settings.now.turns) }
+    ensures reported { OnOk result (Reported (A.meaning batch.now.algebra) batch.now.graph.now
         O.may_become (Account (i + 1) source ∷ []) watcher.old watcher.new) }
     ensures unreported { OnErr result (watcher.new ≡ watcher.old) }
 {
     let question = (i + 1) as u32;
-    let ended = next_ended(context, plan, queue, questions, i, j, source)?;
-    let gathered = gather_ended(context.alloc, ended)?;
-    let Gathered { labels, tally } = gathered;
+    let next = take_next(batch, queue, i, j, source)?;
+    let GatheredDiffusion {
+        source: _,
+        labels,
+        tally,
+    } = next;
     let report = Report::Gathered {
         question,
         source,

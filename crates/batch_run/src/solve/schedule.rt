@@ -1,33 +1,9 @@
-//! The plan of the diffusions of a batch, and how many there are.
-ghost use Rattle.std.specs.Prelude.{◌≡◌, ℕ, true, IfOk, IfSome, None, is_none};
+//! How many diffusions a batch has.
+ghost use Rattle.std.specs.Prelude.{◌≡◌, ℕ};
 ghost use Rattle.road_files.specs.Asked.{AreQuestionsOf, asked_of};
-ghost use Rattle.batch_run.specs.Diffusions.{IsPlanOf};
-ghost use Rattle.batch_run.specs.InRange.{AreInRange};
 ghost use Rattle.batch_run.specs.Reports.{count_diffusions};
 
-use crate::settings::Settings;
 use road_files::Questions;
-use road_graph::{Graph, Memory};
-use shard_part::Plan;
-use std::alloc::Global;
-
-/// The plan of the diffusions, or none if the plain solver is to answer.
-pub(crate) fn prepare(
-    alloc: Global,
-    graph: &Graph,
-    settings: &Settings,
-) -> Result<Option<Plan>, Memory>
-    requires settings { AreInRange settings.now }
-    ensures plan { IfOk result (λ p. IfSome p (IsPlanOf graph.now)) }
-    ensures plain { settings.now.plain ≡ true → IfOk result (λ p. p ≡ None) }
-    ensures kind { IfOk result (λ p. is_none p ≡ settings.now.plain) }
-{
-    if settings.plain {
-        return Ok(None);
-    }
-    let plan = Plan::blocks(alloc, graph.vertices(), settings.shards as u8)?;
-    Ok(Some(plan))
-}
 
 /// How many diffusions a batch has, one from each source of each question: none if the plain solver answers.
 pub(crate) fn count_diffusions(questions: &Questions, plain: bool) -> u64

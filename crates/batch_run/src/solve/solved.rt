@@ -14,7 +14,7 @@ use std::alloc::Global;
 
 /// Best labels from the sources of the question at a place, and their tree unless the questions are pairs.
 #[derive(Drop)]
-pub(crate) struct Solved<V: Copy> {
+pub struct Solved<V: Copy> {
     pub(crate) place: usize,
     pub(crate) labels: Labels<V>,
     pub(crate) tree: Option<Tree>,

@@ -1,54 +1,67 @@
-//! Solves a question by workers.
-ghost use Rattle.std.specs.Prelude.{◌+◌, ◌<◌, length, slice_index_or, false, IfOk, IfErr, OnOk};
+//! Solves questions by workers, one diffusion for each source.
+ghost use Rattle.std.specs.Prelude.{◌≡◌, ◌+◌, ◌<◌, length, slice_index_or, false, IfOk, IfErr, OnOk, IfSome, IsSome};
 ghost use Rattle.road_files.specs.Asked.{AreQuestionsOf, Question, asked_of};
 ghost use Rattle.worker_fleet.specs.Stops.{Says};
-ghost use Rattle.batch_run.specs.Diffusions.{AreNext, IsPlanOf, sources_to_come};
-ghost use Rattle.batch_run.specs.InRange.{AreInRange};
+ghost use Rattle.batch_run.specs.Diffusions.{AreNext, sources_to_come};
 ghost use Rattle.batch_run.specs.Reports.{ReportedAllOrPrefix, accounts_due};
-ghost use Rattle.batch_run.specs.Solved.{IsSolvedAt};
+ghost use Rattle.batch_run.specs.Solved.{IsSolvedAt, IsSolvedFor};
+ghost use Rattle.batch_run.specs.Solvers.{IsWorkerReady};
 
-use crate::solve::context::RunContext;
+use crate::batch::{Batch, BatchOver};
 use crate::solve::merge::merge_all;
 use crate::solve::queue::DiffusionQueue;
 use crate::solve::solved::{Solved, tree_unless_pair};
 use crate::watcher::Watcher;
 use path_algebra::PathAlgebra;
-use road_files::Questions;
+use road_graph::{Graph, Memory};
 use shard_part::Plan;
+use std::alloc::Global;
 use std::sync::Wait;
 use std::thread::Threads;
 use worker_fleet::{Gate, GroupFault};
 
+/// Solves questions by diffusing computations, which workers run on threads.
+#[derive(Drop)]
+pub struct WorkerSolver<V: Copy> {
+    pub(crate) graph: Graph,
+    /// The diffusions of a batch, once it has begun.
+    pub(crate) queue: Option<DiffusionQueue<V>>,
+    /// What was solved last.
+    pub(crate) last: Option<Solved<V>>,
+}
+
 /// Best labels of the question at a place by workers, and their tree unless it is a pair. The diffusions are reported.
-pub(crate) fn solve_by_workers<'g, A: PathAlgebra, R: Threads + Wait, T: Gate, O: Watcher>(
-    context: &RunContext<'g, A, R, T>,
-    plan: &'g Plan,
-    queue: &mut DiffusionQueue<'g, A>,
-    questions: &Questions,
+fn solve_by_workers<A: PathAlgebra, R: Threads + Wait, T: Gate, O: Watcher>(
+    batch: &BatchOver<'_, A, Graph, R, T>,
+    queue: &mut DiffusionQueue<A::Value>,
     i: usize,
     watcher: &mut O,
 ) -> Result<Solved<A::Value>, GroupFault>
-    requires settings { AreInRange context.now.settings.now }
-    requires within { AreQuestionsOf context.now.graph.now.vertices questions.now }
-    requires place { i < length (asked_of questions.now).questions }
-    requires plan { IsPlanOf context.now.graph.now plan.now }
-    requires ready { AreNext context.now.algebra context.now.graph.now plan.now
-        (sources_to_come (asked_of questions.now).questions i 0) queue.old.ended.items }
-    ensures solved { IfOk result (IsSolvedAt (A.meaning context.now.algebra) context.now.graph.now
-        (asked_of questions.now) i) }
-    ensures ready { OnOk result (AreNext context.now.algebra context.now.graph.now plan.now
-        (sources_to_come (asked_of questions.now).questions (i + 1) 0) queue.new.ended.items) }
-    ensures says { IfErr result (Says (T.may_answer context.now.gate.now)
-        context.now.settings.now.workers context.now.settings.now.turns) }
-    ensures reported { (default : Question) → ReportedAllOrPrefix
-        (A.meaning context.now.algebra) context.now.graph.now O.may_become
-        (accounts_due false (i + 1) (slice_index_or (asked_of questions.now).questions i default))
-        watcher.old watcher.new result }
+    requires place { i < length (asked_of batch.now.questions.now).questions }
+    requires ready { AreNext (A.meaning batch.now.algebra) batch.now.graph.now
+        (sources_to_come (asked_of batch.now.questions.now).questions i 0) queue.old }
+    ensures solved { IfOk result (IsSolvedAt (A.meaning batch.now.algebra) batch.now.graph.now
+        (asked_of batch.now.questions.now) i) }
+    ensures ready { OnOk result (AreNext (A.meaning batch.now.algebra) batch.now.graph.now
+        (sources_to_come (asked_of batch.now.questions.now).questions (i + 1) 0) queue.new) }
+    ensures says { IfErr result (Says (T.may_answer batch.now.run.now.gate.now)
+        batch.now.run.now.settings.now.workers batch.now.run.now.settings.now.turns) }
+    ensures reported { (default : Question) → ReportedAllOrPrefix (A.meaning batch.now.algebra)
+        batch.now.graph.now O.may_become (accounts_due false (i + 1)
+        (slice_index_or (asked_of batch.now.questions.now).questions i default)) watcher.old
+        watcher.new result }
 {
-    let labels = merge_all(context, plan, queue, questions, i, watcher)?;
-    let sources = questions.sources(i);
-    let (alloc, algebra, graph) = (context.alloc, context.algebra, context.graph.outgoing());
-    let Ok(tree) = tree_unless_pair(alloc, algebra, graph, questions, sources, &labels) else {
+    let labels = merge_all(batch, queue, i, watcher)?;
+    let sources = batch.questions.sources(i);
+    let (alloc, graph) = (batch.run.alloc, batch.graph.outgoing());
+    let Ok(tree) = tree_unless_pair(
+        alloc,
+        batch.algebra,
+        graph,
+        batch.questions,
+        sources,
+        &labels,
+    ) else {
         return Err(GroupFault::Memory);
     };
     Ok(Solved {
@@ -56,4 +69,75 @@ pub(crate) fn solve_by_workers<'g, A: PathAlgebra, R: Threads + Wait, T: Gate, O
         labels,
         tree,
     })
+}
+
+impl<V: Copy> WorkerSolver<V> {
+    /// The solver over a graph, which is indexed. If memory is refused for that, workers look for arcs instead.
+    pub fn new(alloc: Global, mut graph: Graph) -> Self
+        ensures { result.graph ≡ graph }
+    {
+        let _ = graph.index(alloc);
+        WorkerSolver {
+            graph,
+            queue: None,
+            last: None,
+        }
+    }
+}
+
+/// Before the first question: cuts the graph into shards, and forgets what waits.
+pub(crate) fn start_workers<A: PathAlgebra, R, T>(
+    batch: &Batch<'_, A, R, T>,
+    solver: &mut WorkerSolver<A::Value>,
+) -> Result<(), Memory>
+    ensures graph { solver.new.graph ≡ solver.old.graph }
+    ensures ready { OnOk result (IsWorkerReady (A.meaning batch.now.algebra)
+        (asked_of batch.now.questions.now) 0 solver.new) }
+{
+    let (alloc, shards) = (batch.run.alloc, batch.run.settings.shards as u8);
+    let plan = Plan::blocks(alloc, solver.graph.vertices(), shards)?;
+    solver.queue = Some(DiffusionQueue {
+        plan,
+        waiting: Vec::new(alloc),
+    });
+    Ok(())
+}
+
+/// Solves the question at a place, the next one, by diffusions, which are reported.
+pub(crate) fn solve_next_by_workers<A: PathAlgebra, R: Threads + Wait, T: Gate, O: Watcher>(
+    batch: &Batch<'_, A, R, T>,
+    solver: &mut WorkerSolver<A::Value>,
+    i: usize,
+    watcher: &mut O,
+) -> Result<(), GroupFault>
+    requires place { i < length (asked_of batch.now.questions.now).questions }
+    requires within { AreQuestionsOf solver.old.graph.vertices batch.now.questions.now }
+    requires ready { IsWorkerReady (A.meaning batch.now.algebra)
+        (asked_of batch.now.questions.now) i solver.old }
+    ensures graph { solver.new.graph ≡ solver.old.graph }
+    ensures ready { OnOk result (IsWorkerReady (A.meaning batch.now.algebra)
+        (asked_of batch.now.questions.now) (i + 1) solver.new) }
+    ensures some { OnOk result (IsSome solver.new.last) }
+    ensures solved { OnOk result (IfSome solver.new.last (IsSolvedFor (A.meaning batch.now.algebra)
+        solver.old.graph (asked_of batch.now.questions.now) i)) }
+    ensures says { IfErr result (Says (T.may_answer batch.now.run.now.gate.now)
+        batch.now.run.now.settings.now.workers batch.now.run.now.settings.now.turns) }
+    ensures reported { (default : Question) → ReportedAllOrPrefix (A.meaning batch.now.algebra)
+        solver.old.graph O.may_become (accounts_due false (i + 1)
+        (slice_index_or (asked_of batch.now.questions.now).questions i default)) watcher.old
+        watcher.new result }
+{
+    solver.last = None;
+    let search = BatchOver {
+        run: batch.run,
+        algebra: batch.algebra,
+        graph: &solver.graph,
+        questions: batch.questions,
+    };
+    let Some(queue) = &mut solver.queue else {
+        unreachable!()
+    };
+    let solved = solve_by_workers(&search, queue, i, watcher)?;
+    solver.last = Some(solved);
+    Ok(())
 }

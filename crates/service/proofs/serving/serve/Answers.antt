@@ -1,5 +1,9 @@
 use Rattle.std.proofs.Common.{◌<◌, ℕ, List, [], take, length, rules, Err, ◌+◌, subst, ap, ◌∙◌}
 use Rattle.std.specs.Io.KnownBytes.{Consumes}
+use Rattle.road_files.specs.Asked.{Asked}
+use Rattle.batch_run.specs.Solvers.{graph_of}
+use Rattle.service.specs.Fed.{Fed, FedPart, FedLong, Finished, FinishedPart}
+use Rattle.service.proofs.Staying.{stays_own}
 use Rattle.service.specs.declared.feeding.Unfed.{Unfed}
 use Rattle.service.proofs.ServeLaws.{served_more, served_all, read_failed, feed_fell, feed_long, end_fell, flush_fell}
 use Rattle.service.specs.Answering.{MayAnswer}
@@ -11,38 +15,37 @@ returns-in-Ok-finish-clause-served g c =
     let nothing : Consumes (g.I.RoadRead.left c.loop.input) (g.I.RoadRead.left c.ask.new.input) [] =
     subst (λ k. Consumes (g.I.RoadRead.left c.loop.input) (g.I.RoadRead.left c.ask.new.input) (take k buffer)) c.in-Ok-eq0.field-0-test c.in-Ok-eq0.ensures.bytes.0 in
     let room : 0 < length buffer = search rules in
-    served_all (MayAnswer (g.A.PathAlgebra.meaning c.args.answers.now.algebra) c.args.answers.now.settings.now
-    (g.T.Gate.may_answer c.args.answers.now.gate.now) c.args.answers.now.graph.now) c.loop.service c.args.vertices (g.I.RoadRead.left c.args.input.now)
+    served_all (MayAnswer (g.A.PathAlgebra.meaning c.args.answers.now.algebra) c.args.answers.now.run.now.settings.now (g.T.Gate.may_answer c.args.answers.now.run.now.gate.now) (graph_of c.args.solver.now)) c.loop.service (graph_of c.args.solver.now).vertices (g.I.RoadRead.left c.args.input.now)
     (g.I.RoadRead.left c.loop.input) (g.I.RoadRead.left c.ask.new.input)
     (g.W.RoadWrite.written c.args.out.now) (g.W.RoadWrite.written c.flush.new.self) (g.W.RoadWrite.written c.loop.out) (g.W.RoadWrite.written c.finish.new.out)
     (g.W.RoadWrite.failures c.args.out.now) (g.W.RoadWrite.failures c.flush.new.self) (g.W.RoadWrite.failures c.loop.out) (g.W.RoadWrite.failures c.finish.new.out)
-    c.loop.invariant.vertices c.loop.invariant.served nothing (c.in-Ok-eq0.ensures.bytes.1 c.in-Ok-eq0.field-0-test room) c.flush.ensures.bytes c.in-Ok.ensures.sound c.in-Ok-finish.ensures.finished
+    c.loop.invariant.vertices c.loop.invariant.served nothing (c.in-Ok-eq0.ensures.bytes.1 c.in-Ok-eq0.field-0-test room) c.flush.ensures.bytes c.in-Ok.ensures.sound (stays_own (g.A.PathAlgebra.meaning c.args.answers.now.algebra) c.args.answers.now.run.now.settings.now (g.T.Gate.may_answer c.args.answers.now.run.now.gate.now) c.args.solver.now c.loop.solver c.loop.invariant.same c.requires.kind
+    (λ (may : Asked → List ℕ → Type 0). Finished may c.loop.service (g.W.RoadWrite.written c.loop.out) (g.W.RoadWrite.written c.finish.new.out) (g.W.RoadWrite.failures c.loop.out) (g.W.RoadWrite.failures c.finish.new.out)) c.in-Ok-finish.ensures.finished)
 
 pub loop-preserved : goal.loop-preserved
 loop-preserved g c = record {
   can = tt;
   finite = tt;
-  served = served_more (MayAnswer (g.A.PathAlgebra.meaning c.args.answers.now.algebra) c.args.answers.now.settings.now
-      (g.T.Gate.may_answer c.args.answers.now.gate.now) c.args.answers.now.graph.now) c.loop.service c.feed.new.self (take c.in-Ok-ask.n c.ask.new.buffer)
+  served = served_more (MayAnswer (g.A.PathAlgebra.meaning c.args.answers.now.algebra) c.args.answers.now.run.now.settings.now (g.T.Gate.may_answer c.args.answers.now.run.now.gate.now) (graph_of c.args.solver.now)) c.loop.service c.feed.new.self (take c.in-Ok-ask.n c.ask.new.buffer)
       (g.I.RoadRead.left c.args.input.now) (g.I.RoadRead.left c.loop.input) (g.I.RoadRead.left c.ask.new.input)
       (g.W.RoadWrite.written c.flush.new.self) (g.W.RoadWrite.written c.loop.out) (g.W.RoadWrite.written c.feed.new.out) (g.W.RoadWrite.failures c.flush.new.self)
       (g.W.RoadWrite.failures c.loop.out) (g.W.RoadWrite.failures c.feed.new.out)
-      c.loop.invariant.served c.in-Ok-ask.ensures.bytes.0 c.in-Ok-feed.ensures.fed;
+      c.loop.invariant.served c.in-Ok-ask.ensures.bytes.0 (stays_own (g.A.PathAlgebra.meaning c.args.answers.now.algebra) c.args.answers.now.run.now.settings.now (g.T.Gate.may_answer c.args.answers.now.run.now.gate.now) c.args.solver.now c.loop.solver c.loop.invariant.same c.requires.kind
+      (λ (may : Asked → List ℕ → Type 0). Fed may c.loop.service c.feed.new.self (take c.in-Ok-ask.n c.ask.new.buffer) (g.W.RoadWrite.written c.loop.out) (g.W.RoadWrite.written c.feed.new.out) (g.W.RoadWrite.failures c.loop.out) (g.W.RoadWrite.failures c.feed.new.out)) c.in-Ok-feed.ensures.fed);
   held = c.in-Ok-feed.ensures.passed_on c.loop.invariant.held;
   vertices = c.feed.ensures.vertices ∙ c.loop.invariant.vertices;
+  same = record { graph = c.feed.ensures.same.graph ∙ c.loop.invariant.same.graph; kind = c.feed.ensures.same.kind ∙ c.loop.invariant.same.kind };
   sound = c.in-Ok-ask.ensures.sound ∙ c.loop.invariant.sound;
 }
 
 pub returns-in-Err-clause-write : goal.returns-in-Err-clause-write
-returns-in-Err-clause-write g c = λ is. flush_fell (MayAnswer (g.A.PathAlgebra.meaning c.args.answers.now.algebra) c.args.answers.now.settings.now
-    (g.T.Gate.may_answer c.args.answers.now.gate.now) c.args.answers.now.graph.now) c.args.vertices (g.I.RoadRead.left c.args.input.now)
+returns-in-Err-clause-write g c = λ is. flush_fell (MayAnswer (g.A.PathAlgebra.meaning c.args.answers.now.algebra) c.args.answers.now.run.now.settings.now (g.T.Gate.may_answer c.args.answers.now.run.now.gate.now) (graph_of c.args.solver.now)) (graph_of c.args.solver.now).vertices (g.I.RoadRead.left c.args.input.now)
     (g.W.RoadWrite.written c.args.out.now) (g.W.RoadWrite.written c.flush.new.self) (g.W.RoadWrite.failures c.args.out.now)
     (g.W.RoadWrite.failures c.flush.new.self) c.flush.ensures.bytes c.in-Err.ensures.failed
 
 pub returns-in-Err-ask-clause-read : goal.returns-in-Err-ask-clause-read
 returns-in-Err-ask-clause-read g c = λ is. (
-  read_failed (MayAnswer (g.A.PathAlgebra.meaning c.args.answers.now.algebra) c.args.answers.now.settings.now
-      (g.T.Gate.may_answer c.args.answers.now.gate.now) c.args.answers.now.graph.now) c.loop.service c.args.vertices (g.I.RoadRead.left c.args.input.now)
+  read_failed (MayAnswer (g.A.PathAlgebra.meaning c.args.answers.now.algebra) c.args.answers.now.run.now.settings.now (g.T.Gate.may_answer c.args.answers.now.run.now.gate.now) (graph_of c.args.solver.now)) c.loop.service (graph_of c.args.solver.now).vertices (g.I.RoadRead.left c.args.input.now)
       (g.I.RoadRead.left c.loop.input) (g.I.RoadRead.left c.loop.input)
       (g.W.RoadWrite.written c.args.out.now) (g.W.RoadWrite.written c.flush.new.self) (g.W.RoadWrite.written c.loop.out) (g.W.RoadWrite.written c.loop.out)
       (g.W.RoadWrite.failures c.args.out.now) (g.W.RoadWrite.failures c.flush.new.self) (g.W.RoadWrite.failures c.loop.out) (g.W.RoadWrite.failures c.loop.out)
@@ -51,31 +54,31 @@ returns-in-Err-ask-clause-read g c = λ is. (
 )
 
 pub returns-in-Err-finish-clause-write : goal.returns-in-Err-finish-clause-write
-returns-in-Err-finish-clause-write g c = λ is. end_fell (MayAnswer (g.A.PathAlgebra.meaning c.args.answers.now.algebra) c.args.answers.now.settings.now
-    (g.T.Gate.may_answer c.args.answers.now.gate.now) c.args.answers.now.graph.now) c.loop.service c.args.vertices (g.I.RoadRead.left c.args.input.now)
+returns-in-Err-finish-clause-write g c = λ is. end_fell (MayAnswer (g.A.PathAlgebra.meaning c.args.answers.now.algebra) c.args.answers.now.run.now.settings.now (g.T.Gate.may_answer c.args.answers.now.run.now.gate.now) (graph_of c.args.solver.now)) c.loop.service (graph_of c.args.solver.now).vertices (g.I.RoadRead.left c.args.input.now)
     (g.I.RoadRead.left c.loop.input) (g.I.RoadRead.left c.loop.input)
     (g.W.RoadWrite.written c.args.out.now) (g.W.RoadWrite.written c.flush.new.self) (g.W.RoadWrite.written c.loop.out) (g.W.RoadWrite.written c.finish.new.out)
     (g.W.RoadWrite.failures c.args.out.now) (g.W.RoadWrite.failures c.flush.new.self) (g.W.RoadWrite.failures c.loop.out) (g.W.RoadWrite.failures c.finish.new.out)
-    c.loop.invariant.vertices c.loop.invariant.served c.flush.ensures.bytes c.in-Ok.ensures.sound c.in-Err-finish.ensures.fell
+    c.loop.invariant.vertices c.loop.invariant.served c.flush.ensures.bytes c.in-Ok.ensures.sound (stays_own (g.A.PathAlgebra.meaning c.args.answers.now.algebra) c.args.answers.now.run.now.settings.now (g.T.Gate.may_answer c.args.answers.now.run.now.gate.now) c.args.solver.now c.loop.solver c.loop.invariant.same c.requires.kind
+    (λ (may : Asked → List ℕ → Type 0). FinishedPart may c.loop.service (g.W.RoadWrite.written c.loop.out) (g.W.RoadWrite.written c.finish.new.out) (g.W.RoadWrite.failures c.loop.out) (g.W.RoadWrite.failures c.finish.new.out)) c.in-Err-finish.ensures.fell)
 
 pub returns-in-Err-Write-clause-write : goal.returns-in-Err-Write-clause-write
 returns-in-Err-Write-clause-write g c = λ is.
-    feed_fell (MayAnswer (g.A.PathAlgebra.meaning c.args.answers.now.algebra) c.args.answers.now.settings.now
-    (g.T.Gate.may_answer c.args.answers.now.gate.now) c.args.answers.now.graph.now) c.loop.service c.args.vertices (g.I.RoadRead.left c.args.input.now)
+    feed_fell (MayAnswer (g.A.PathAlgebra.meaning c.args.answers.now.algebra) c.args.answers.now.run.now.settings.now (g.T.Gate.may_answer c.args.answers.now.run.now.gate.now) (graph_of c.args.solver.now)) c.loop.service (graph_of c.args.solver.now).vertices (g.I.RoadRead.left c.args.input.now)
     (g.I.RoadRead.left c.loop.input) (g.I.RoadRead.left c.ask.new.input)
     (g.W.RoadWrite.written c.args.out.now) (g.W.RoadWrite.written c.flush.new.self) (g.W.RoadWrite.written c.loop.out) (g.W.RoadWrite.written c.feed.new.out)
     (g.W.RoadWrite.failures c.args.out.now) (g.W.RoadWrite.failures c.flush.new.self) (g.W.RoadWrite.failures c.loop.out) (g.W.RoadWrite.failures c.feed.new.out)
     c.loop.invariant.vertices c.loop.invariant.served c.flush.ensures.bytes c.in-Ok.ensures.sound
     c.feed.new.self (take c.in-Ok-ask.n c.ask.new.buffer) (c.feed.ensures.vertices ∙ c.loop.invariant.vertices) c.in-Ok-ask.ensures.bytes.0
-    (c.feed.ensures.fell (c.in-Err-Write.is ∙ ap (λ (e : Unfed). Err e) c.in-Err-Write.field-0-is))
+    (stays_own (g.A.PathAlgebra.meaning c.args.answers.now.algebra) c.args.answers.now.run.now.settings.now (g.T.Gate.may_answer c.args.answers.now.run.now.gate.now) c.args.solver.now c.loop.solver c.loop.invariant.same c.requires.kind
+    (λ (may : Asked → List ℕ → Type 0). FedPart may c.loop.service c.feed.new.self (take c.in-Ok-ask.n c.ask.new.buffer) (g.W.RoadWrite.written c.loop.out) (g.W.RoadWrite.written c.feed.new.out) (g.W.RoadWrite.failures c.loop.out) (g.W.RoadWrite.failures c.feed.new.out)) (c.feed.ensures.fell (c.in-Err-Write.is ∙ ap (λ (e : Unfed). Err e) c.in-Err-Write.field-0-is)))
 
 pub returns-in-Err-TooLong-clause-long : goal.returns-in-Err-TooLong-clause-long
 returns-in-Err-TooLong-clause-long g c = λ is.
-    feed_long (MayAnswer (g.A.PathAlgebra.meaning c.args.answers.now.algebra) c.args.answers.now.settings.now
-    (g.T.Gate.may_answer c.args.answers.now.gate.now) c.args.answers.now.graph.now) c.loop.service c.args.vertices (g.I.RoadRead.left c.args.input.now)
+    feed_long (MayAnswer (g.A.PathAlgebra.meaning c.args.answers.now.algebra) c.args.answers.now.run.now.settings.now (g.T.Gate.may_answer c.args.answers.now.run.now.gate.now) (graph_of c.args.solver.now)) c.loop.service (graph_of c.args.solver.now).vertices (g.I.RoadRead.left c.args.input.now)
     (g.I.RoadRead.left c.loop.input) (g.I.RoadRead.left c.ask.new.input)
     (g.W.RoadWrite.written c.args.out.now) (g.W.RoadWrite.written c.flush.new.self) (g.W.RoadWrite.written c.loop.out) (g.W.RoadWrite.written c.feed.new.out)
     (g.W.RoadWrite.failures c.args.out.now) (g.W.RoadWrite.failures c.flush.new.self) (g.W.RoadWrite.failures c.loop.out) (g.W.RoadWrite.failures c.feed.new.out)
     c.loop.invariant.vertices c.loop.invariant.served c.flush.ensures.bytes c.in-Ok.ensures.sound
     c.feed.new.self (take c.in-Ok-ask.n c.ask.new.buffer) (c.feed.ensures.vertices ∙ c.loop.invariant.vertices) c.in-Ok-ask.ensures.bytes.0
-    (c.feed.ensures.long (c.in-Err-TooLong.is ∙ ap (λ (e : Unfed). Err e) c.in-Err-TooLong.field-0-is))
+    (stays_own (g.A.PathAlgebra.meaning c.args.answers.now.algebra) c.args.answers.now.run.now.settings.now (g.T.Gate.may_answer c.args.answers.now.run.now.gate.now) c.args.solver.now c.loop.solver c.loop.invariant.same c.requires.kind
+    (λ (may : Asked → List ℕ → Type 0). FedLong may c.loop.service c.feed.new.self (take c.in-Ok-ask.n c.ask.new.buffer) (g.W.RoadWrite.written c.loop.out) (g.W.RoadWrite.written c.feed.new.out) (g.W.RoadWrite.failures c.loop.out) (g.W.RoadWrite.failures c.feed.new.out)) (c.feed.ensures.long (c.in-Err-TooLong.is ∙ ap (λ (e : Unfed). Err e) c.in-Err-TooLong.field-0-is)))

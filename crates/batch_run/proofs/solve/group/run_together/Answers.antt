@@ -4,8 +4,7 @@ use Rattle.std.proofs.lemmas.List.Elements.{All-nil, All-push}
 use Rattle.std.proofs.lemmas.Result.{err_from_is_err_and}
 use Rattle.worker_fleet.proofs.Stopped.{IsStop-says}
 use Rattle.station.specs.Opened.{setup_of}
-use Rattle.batch_run.specs.declared.solve.diffusion.EndedDiffusion.{EndedDiffusion}
-use Rattle.batch_run.specs.Diffusions.{IsEnded, sources_in_order}
+use Rattle.batch_run.specs.Diffusions.{IsGatheredOver, sources_in_order}
 use Rattle.batch_run.proofs.Together.{opened_placed, run_ended, longer, others_ended, last_ended}
 use Rattle.batch_run.proofs.NextDiffusions.{one_before, place_before}
 use Rattle.batch_run.proofs.solve.group.run_together.Goals as goal
@@ -18,7 +17,7 @@ pub run_group-requires-clause-own : goal.run_group-requires-clause-own
 run_group-requires-clause-own g c κs within =
     let at = (goal.at.run_group-requires-clause-own g c).In_ok-floors in
     λ q d low. rw c.as_slice.ensures.value
-    (opened_placed g.A.PathAlgebra.meaning (λ q. setup_of c.args.context.now.algebra c.args.context.now.graph.now (get_or c.args.sources.now q 0) c.args.plan.now)
+    (opened_placed g.A.PathAlgebra.meaning (λ q. setup_of c.args.batch.now.algebra c.args.batch.now.graph.now (get_or c.args.sources.now q 0) c.args.plan.now)
     c.in_ok-floors.floors.items c.in_ok-floors.opened.items
     (length c.args.sources.now) (floors_are g at) (λ q f v low. c.in_ok-floors.ensures.opened q 0 f v low) q d (rw c.in_ok-floors.ensures.stations at low))
 
@@ -31,15 +30,33 @@ loop-k-init g c =
       floors = omega (arith, f);
       lists = omega (arith, l);
       each = λ q s e v low.
-          run_ended g.A.PathAlgebra.meaning (λ q. setup_of c.args.context.now.algebra c.args.context.now.graph.now (get_or c.args.sources.now q s) c.args.plan.now)
+          run_ended g.A.PathAlgebra.meaning (λ q. setup_of c.args.batch.now.algebra c.args.batch.now.graph.now (get_or c.args.sources.now q s) c.args.plan.now)
           c.in_ok-floors.floors.items c.in_ok-floors.opened.items
           (length c.args.sources.now) f (λ q f v low. c.in_ok-floors.ensures.opened q s f v low) c.in_ok-lists.lists.items
           (λ q k d e low. c.in_ok-lists.ensures.all q k d e (rw c.in_ok-floors.ensures.stations low))
           (λ q d low. rw c.as_slice.ensures.value at (c.in_ok-lists.ensures.done q d (rw c.in_ok-floors.ensures.stations low)))
           q e v (rw f at low);
-      ended = rw c.new-ended.ensures.items (All-nil (λ (e : EndedDiffusion g.row.A.Denot g.row.A-Value.Denot). IsEnded c.args.context.now.algebra c.args.context.now.graph.now c.args.plan.now e));
-      order = rw c.new-ended.ensures.items (sym (drop_all (length c.args.sources.now - 0) c.args.sources.now (omega arith)));
+      gathered = rw c.new-gathered.ensures.items (All-nil (IsGatheredOver (g.A.PathAlgebra.meaning c.args.batch.now.algebra) c.args.batch.now.graph.now));
+      order = rw c.new-gathered.ensures.items (sym (drop_all (length c.args.sources.now - 0) c.args.sources.now (omega arith)));
     }
+
+pub take_last-last-requires-clause-some : goal.take_last-last-requires-clause-some
+take_last-last-requires-clause-some g c κs within = let was = c.loop-k.invariant in let low = c.loop-k-test.true in omega (arith, was.floors, low)
+
+pub take_last-last-requires-clause-both : goal.take_last-last-requires-clause-both
+take_last-last-requires-clause-both g c κs within = let was = c.loop-k.invariant in omega (arith, was.floors, was.lists)
+
+pub gathered_from-requires-after_bounds : goal.gathered_from-requires-after_bounds
+gathered_from-requires-after_bounds g c κs within =
+    let was = c.loop-k.invariant in
+    let last = c.take_last-last.ensures in
+    let nf = longer _ _ _ last.floors in
+    let low = c.loop-k-test.true in
+    let same : length c.loop-k.floors.items ≡ length c.loop-k.lists.items = omega (arith, was.floors, was.lists) in
+    let place : length c.take_last-last.new.floors.items ≡ length c.args.sources.now - 1 - c.loop-k.k = omega (arith, nf, was.floors, low) in
+    last_ended c.args.batch.now.algebra c.args.batch.now.graph.now c.args.plan.now c.args.sources.now _ _ _ _ _ _ last.floors last.lists.1 same was.each
+    c.take_last-last.result.stations.items c.take_last-last.result.source last.lists.2
+    (rw (place, last.source) (sym c.index-sources-sources.is))
 
 pub loop-k-preserved : goal.loop-k-preserved
 loop-k-preserved g c =
@@ -50,19 +67,20 @@ loop-k-preserved g c =
     let low = c.loop-k-test.true in
     let source = c.index-sources-sources.result in
     let same : length c.loop-k.floors.items ≡ length c.loop-k.lists.items = omega (arith, was.floors, was.lists) in
-    let place : length c.take_last-last.new.floors.items ≡ length c.args.sources.now - 1 - c.loop-k.k = omega (arith, nf, was.floors, low) in
+    let next = c.in_ok-next.next in
     record {
       floors = omega (arith, nf, was.floors);
       lists = omega (arith, nl, was.lists);
-      each = others_ended c.args.context.now.algebra c.args.context.now.graph.now c.args.plan.now c.args.sources.now _ _ _ _ _ _ last.floors last.lists.1 same was.each;
-      ended = rw c.in-Ok.ensures.items (All-push (λ (e : EndedDiffusion g.row.A.Denot g.row.A-Value.Denot). IsEnded c.args.context.now.algebra c.args.context.now.graph.now
-          c.args.plan.now e) c.loop-k.ended.items c.take_last-last.result was.ended
-          (last_ended c.args.context.now.algebra c.args.context.now.graph.now c.args.plan.now c.args.sources.now _ _ _ _ _ _ last.floors last.lists.1 same was.each
-          c.take_last-last.result.stations.items c.take_last-last.result.source last.lists.2
-          (rw (place, last.source) (sym c.index-sources-sources.is))));
-      order = place_before c.args.sources.now (sources_in_order c.loop-k.ended.items) (sources_in_order c.push.new.self.items) c.loop-k.k source low c.index-sources-sources.is was.order
-          (one_before c.loop-k.ended.items c.push.new.self.items c.take_last-last.result c.in-Ok.ensures.items ∙ ap (λ s. s ∷ sources_in_order c.loop-k.ended.items) last.source);
+      each = others_ended c.args.batch.now.algebra c.args.batch.now.graph.now c.args.plan.now c.args.sources.now _ _ _ _ _ _ last.floors last.lists.1 same was.each;
+      gathered = rw c.in-Ok.ensures.items (All-push (IsGatheredOver (g.A.PathAlgebra.meaning c.args.batch.now.algebra) c.args.batch.now.graph.now) c.loop-k.gathered.items next was.gathered
+          c.in_ok-next.ensures.gathered);
+      order = place_before c.args.sources.now (sources_in_order c.loop-k.gathered.items) (sources_in_order c.push.new.self.items) c.loop-k.k source low c.index-sources-sources.is was.order
+          (one_before c.loop-k.gathered.items c.push.new.self.items next c.in-Ok.ensures.items ∙ ap (λ s. s ∷ sources_in_order c.loop-k.gathered.items)
+          (c.in_ok-next.ensures.source ∙ last.source));
     }
+
+pub returns-clause-gathered : goal.returns-clause-gathered
+returns-clause-gathered g c = c.loop-k.invariant.gathered
 
 pub returns-clause-sources : goal.returns-clause-sources
 returns-clause-sources g c =

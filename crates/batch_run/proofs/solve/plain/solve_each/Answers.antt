@@ -8,7 +8,7 @@ use Rattle.batch_run.proofs.solve.plain.solve_each.Goals as goal
 
 pub returns : goal.returns
 returns g c =
-    let at = IsSolvedAt (g.A.PathAlgebra.meaning c.args.algebra) c.args.graph.now (asked_of c.args.questions.now) in
+    let at = IsSolvedAt (g.A.PathAlgebra.meaning c.args.batch.now.algebra) c.args.batch.now.graph.now (asked_of c.args.batch.now.questions.now) in
     let done = c.in_ok-solved.ensures in
     let chain = rw (c.map.ensures.base, c.map.ensures.f) at done.1 in
     let slice = ap (λ it. it.slice.now) c.with_min_len.ensures.base ∙ c.par_iter.ensures in

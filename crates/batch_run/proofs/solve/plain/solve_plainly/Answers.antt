@@ -7,39 +7,39 @@ use Rattle.batch_run.proofs.solve.plain.solve_plainly.Goals as goal
 
 pub returns-in-Some-clause-answers : goal.returns-in-Some-clause-answers
 returns-in-Some-clause-answers g c =
-    like_answers (g.A.PathAlgebra.meaning c.args.algebra) c.args.graph.now (asked_of c.args.questions.now) c.args.i c.in-Some.k c.as_slice.result.now c.args.solved.now.items
+    like_answers (g.A.PathAlgebra.meaning c.args.batch.now.algebra) c.args.batch.now.graph.now (asked_of c.args.batch.now.questions.now) c.args.i c.in-Some.k c.as_slice.result.now c.args.solved.now.items
     c.as_slice.ensures.value c.requires.solved c.in-Some.ensures.inside c.in-Some.ensures.same
 
 pub returns-in-Ok-clause-inside : goal.returns-in-Ok-clause-inside
 returns-in-Ok-clause-inside g c =
-    (first_answers (g.A.PathAlgebra.meaning c.args.algebra) c.args.graph.now (asked_of c.args.questions.now) c.args.i c.in_ok-places.ensures.first.0 c.as_slice-2.result.now c.in-Ok.group.items
+    (first_answers (g.A.PathAlgebra.meaning c.args.batch.now.algebra) c.args.batch.now.graph.now (asked_of c.args.batch.now.questions.now) c.args.i c.in_ok-places.ensures.first.0 c.as_slice-2.result.now c.in-Ok.group.items
     (c.as_slice-2.ensures.value ∙ c.in_ok-places.ensures.first.1) c.in-Ok.ensures).0
 
 pub returns-in-Ok-clause-answers : goal.returns-in-Ok-clause-answers
 returns-in-Ok-clause-answers g c =
-    (first_answers (g.A.PathAlgebra.meaning c.args.algebra) c.args.graph.now (asked_of c.args.questions.now) c.args.i c.in_ok-places.ensures.first.0 c.as_slice-2.result.now c.in-Ok.group.items
+    (first_answers (g.A.PathAlgebra.meaning c.args.batch.now.algebra) c.args.batch.now.graph.now (asked_of c.args.batch.now.questions.now) c.args.i c.in_ok-places.ensures.first.0 c.as_slice-2.result.now c.in-Ok.group.items
     (c.as_slice-2.ensures.value ∙ c.in_ok-places.ensures.first.1) c.in-Ok.ensures).1
 
 pub returns-in-Ok-clause-solved : goal.returns-in-Ok-clause-solved
 returns-in-Ok-clause-solved g c =
-    let asked = asked_of c.args.questions.now in
-    all_own (g.A.PathAlgebra.meaning c.args.algebra) c.args.graph.now asked c.as_slice-2.result.now c.in-Ok.group.items
+    let asked = asked_of c.args.batch.now.questions.now in
+    all_own (g.A.PathAlgebra.meaning c.args.batch.now.algebra) c.args.batch.now.graph.now asked c.as_slice-2.result.now c.in-Ok.group.items
     (subst (All (λ k. k < length asked.questions)) (sym c.as_slice-2.ensures.value) c.in_ok-places.ensures.inside) c.in-Ok.ensures
 
 pub returns-clause-inside : goal.returns-clause-inside
 returns-clause-inside g c =
     let one = ap (take 1) (c.deref.ensures.value ∙ c.in_ok-places.ensures.first.1) in
-    (first_answers (g.A.PathAlgebra.meaning c.args.algebra) c.args.graph.now (asked_of c.args.questions.now) c.args.i [] _ c.in_ok-solved.field-0.items one c.in_ok-solved.ensures).0
+    (first_answers (g.A.PathAlgebra.meaning c.args.batch.now.algebra) c.args.batch.now.graph.now (asked_of c.args.batch.now.questions.now) c.args.i [] _ c.in_ok-solved.field-0.items one c.in_ok-solved.ensures).0
 
 pub returns-clause-answers : goal.returns-clause-answers
 returns-clause-answers g c =
     let one = ap (take 1) (c.deref.ensures.value ∙ c.in_ok-places.ensures.first.1) in
-    (first_answers (g.A.PathAlgebra.meaning c.args.algebra) c.args.graph.now (asked_of c.args.questions.now) c.args.i [] _ c.in_ok-solved.field-0.items one c.in_ok-solved.ensures).1
+    (first_answers (g.A.PathAlgebra.meaning c.args.batch.now.algebra) c.args.batch.now.graph.now (asked_of c.args.batch.now.questions.now) c.args.i [] _ c.in_ok-solved.field-0.items one c.in_ok-solved.ensures).1
 
 pub returns-clause-solved : goal.returns-clause-solved
 returns-clause-solved g c =
-    let asked = asked_of c.args.questions.now in
+    let asked = asked_of c.args.batch.now.questions.now in
     let one = ap (take 1) (c.deref.ensures.value ∙ c.in_ok-places.ensures.first.1) in
     let inside = All-cons (λ k. k < length asked.questions) c.args.i [] c.requires.place (All-nil (λ k. k < length asked.questions)) in
-    all_own (g.A.PathAlgebra.meaning c.args.algebra) c.args.graph.now asked _ c.in_ok-solved.field-0.items
+    all_own (g.A.PathAlgebra.meaning c.args.batch.now.algebra) c.args.batch.now.graph.now asked _ c.in_ok-solved.field-0.items
     (subst (All (λ k. k < length asked.questions)) (sym one) inside) c.in_ok-solved.ensures

@@ -9,18 +9,19 @@ use Rattle.batch_run.proofs.solve.queue.refill.Goals as goal
 pub run_together-requires-clause-sources : goal.run_together-requires-clause-sources
 run_together-requires-clause-sources g c κs within =
     rw (c.deref.ensures.value, c.in_ok-sources.ensures)
-    (All-take (IsVertexOf c.args.context.now.graph.now.vertices) c.args.context.now.settings.now.width (sources_to_come (asked_of c.args.questions.now).questions c.args.i c.args.j)
-    (to_come_within c.args.context.now.graph.now.vertices c.args.questions.now c.args.i c.args.j c.requires.within.within))
+    (All-take (IsVertexOf c.args.batch.now.graph.now.vertices) c.args.batch.now.run.now.settings.now.width (sources_to_come (asked_of c.args.batch.now.questions.now).questions c.args.i c.args.j)
+    (to_come_within c.args.batch.now.graph.now.vertices c.args.batch.now.questions.now c.args.i c.args.j c.args.batch.now.within))
+
+pub run_together-requires-clause-plan : goal.run_together-requires-clause-plan
+run_together-requires-clause-plan g c κs within = c.requires.ready.plan
 
 pub returns-clause-some : goal.returns-clause-some
 returns-clause-some g c =
-    some_wait c.args.context.now.algebra c.args.context.now.graph.now c.args.plan.now
-    (sources_to_come (asked_of c.args.questions.now).questions c.args.i c.args.j) c.args.context.now.settings.now.width c.in_ok-ended.ended.items
-    (c.in_ok-ended.ensures.sources ∙ c.deref.ensures.value ∙ c.in_ok-sources.ensures) c.requires.settings.width.0
-    (some_to_come (asked_of c.args.questions.now).questions c.args.i c.args.j (FromSource 0) c.requires.source)
+    some_wait (g.A.PathAlgebra.meaning c.args.batch.now.algebra) c.args.batch.now.graph.now (sources_to_come (asked_of c.args.batch.now.questions.now).questions c.args.i c.args.j) c.args.batch.now.run.now.settings.now.width c.in_ok-gathered.gathered.items
+    (c.in_ok-gathered.ensures.sources ∙ c.deref.ensures.value ∙ c.in_ok-sources.ensures) c.args.batch.now.in_range.width.0
+    (some_to_come (asked_of c.args.batch.now.questions.now).questions c.args.i c.args.j (FromSource 0) c.requires.source)
 
 pub returns-clause-ready : goal.returns-clause-ready
 returns-clause-ready g c =
-    group_waits c.args.context.now.algebra c.args.context.now.graph.now c.args.plan.now
-    (sources_to_come (asked_of c.args.questions.now).questions c.args.i c.args.j) c.args.context.now.settings.now.width c.in_ok-ended.ended.items
-    (c.in_ok-ended.ensures.sources ∙ c.deref.ensures.value ∙ c.in_ok-sources.ensures) c.in_ok-ended.ensures.ended
+    group_waits (g.A.PathAlgebra.meaning c.args.batch.now.algebra) c.args.batch.now.graph.now (sources_to_come (asked_of c.args.batch.now.questions.now).questions c.args.i c.args.j) c.args.batch.now.run.now.settings.now.width _
+    (c.in_ok-gathered.ensures.sources ∙ c.deref.ensures.value ∙ c.in_ok-sources.ensures) c.requires.ready.plan c.in_ok-gathered.ensures.gathered

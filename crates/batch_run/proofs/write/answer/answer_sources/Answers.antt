@@ -2,6 +2,7 @@ use Rattle.std.proofs.Common.{refl}
 use Rattle.std.proofs.lemmas.Result.{err_from_is_err_and}
 use Rattle.answer_text.specs.AnswerData.{SourcesAnswer}
 use Rattle.batch_run.specs.WrittenLines.{written_lines}
+use Rattle.batch_run.specs.Solvers.{graph_of}
 use Rattle.batch_run.proofs.WrittenLines.{lines_are_right}
 use Rattle.batch_run.proofs.write.answer.answer_sources.Goals as goal
 
@@ -9,13 +10,13 @@ pub returns : goal.returns
 returns g c =
     let A = g.A.PathAlgebra.meaning c.args.algebra in
     let n = c.vertices.result in
-    let right = lines_are_right A c.args.graph.now c.args.sources.now c.args.labels.now c.args.tree.now n c.vertices.ensures c.requires.labels c.requires.tree in
-    (SourcesAnswer c.args.sources.now (written_lines A c.args.labels.now c.args.tree.now n), (refl, right), c.in_ok-write_sources.ensures)
+    let right = lines_are_right A (graph_of c.args.solver.now) c.args.sources.now c.args.solved.0.now c.args.solved.1.now n c.vertices.ensures.count c.requires.labels c.requires.tree in
+    (SourcesAnswer c.args.sources.now (written_lines A c.args.solved.0.now c.args.solved.1.now n), (refl, right), c.in_ok-write_sources.ensures)
 
 pub returns-in_err-write_sources : goal.returns-in_err-write_sources
 returns-in_err-write_sources g c =
     let A = g.A.PathAlgebra.meaning c.args.algebra in
     let n = c.vertices.result in
-    let right = lines_are_right A c.args.graph.now c.args.sources.now c.args.labels.now c.args.tree.now n c.vertices.ensures c.requires.labels c.requires.tree in
+    let right = lines_are_right A (graph_of c.args.solver.now) c.args.sources.now c.args.solved.0.now c.args.solved.1.now n c.vertices.ensures.count c.requires.labels c.requires.tree in
     let fault = err_from_is_err_and c.from_residual.result c.from_residual.ensures.1 in
-    rw (fault.1, fault.2) (SourcesAnswer c.args.sources.now (written_lines A c.args.labels.now c.args.tree.now n), (refl, right), c.in_err-write_sources.ensures)
+    rw (fault.1, fault.2) (SourcesAnswer c.args.sources.now (written_lines A c.args.solved.0.now c.args.solved.1.now n), (refl, right), c.in_err-write_sources.ensures)

@@ -1,4 +1,9 @@
-use Rattle.std.proofs.Common.{ap, take-append-drop, ◌≡◌, ℕ, ◌+◌, ◌-◌, ◌≤◌, List, ◌++◌, length, take, drop, subst, sym, ◌∙◌, arith, refl}
+use Rattle.std.proofs.Common.{ap, take-append-drop, ◌≡◌, ℕ, ◌+◌, ◌-◌, ◌≤◌, List, ◌++◌, length, take, drop, subst, sym, ◌∙◌, arith, refl, Result, Ok, Err}
+use Rattle.road_files.specs.Asked.{Asked}
+use Rattle.road_text.specs.Cuts.{IsLine}
+use Rattle.service.specs.Replies.{held_line}
+use Rattle.service.specs.Fed.{LineEnded}
+use Rattle.service.proofs.Staying.{stays}
 use Rattle.road_files.specs.RequestTakes.{RequestSoFar}
 use Rattle.road_text.specs.Cuts.{EndsLine, StaysInLine}
 use Rattle.service.specs.declared.service.Service.{Service}
@@ -7,13 +12,13 @@ use Rattle.std.proofs.lemmas.List.{take_all}
 use Rattle.std.proofs.lemmas.List.{length-take-le}
 use Rattle.service.proofs.Pieces.{next_prefix, next_all, next_within, next_fits}
 use Rattle.service.proofs.ServiceLaws.{fed_none, fed_stay, fed_line, fed_part, fed_long}
-use Rattle.service.specs.Answering.{MayAnswer}
+use Rattle.service.specs.Answering.{MayAnswerBy}
 use Rattle.service.proofs.service.Service.feed.Goals as goal
 
 pub loop-at-init : goal.loop-at-init
 loop-at-init g c = record {
-  fed = fed_none (MayAnswer (g.A.PathAlgebra.meaning c.args.answers.now.algebra) c.args.answers.now.settings.now
-      (g.T.Gate.may_answer c.args.answers.now.gate.now) c.args.answers.now.graph.now) c.args.self.now (g.W.RoadWrite.written c.args.out.now) (g.W.RoadWrite.failures c.args.out.now);
+  fed = fed_none (MayAnswerBy (g.A.PathAlgebra.meaning c.args.answers.now.algebra) c.args.answers.now.run.now.settings.now (g.T.Gate.may_answer c.args.answers.now.run.now.gate.now) c.args.solver.now) c.args.self.now (g.W.RoadWrite.written c.args.out.now) (g.W.RoadWrite.failures c.args.out.now);
+  same = record { graph = refl; kind = refl };
   held = λ h. h;
   vertices = refl;
   within = omega arith;
@@ -21,7 +26,8 @@ loop-at-init g c = record {
 
 pub loop-at-preserved-in-Ok : goal.loop-at-preserved-in-Ok
 loop-at-preserved-in-Ok g c =
-    let texts = (MayAnswer (g.A.PathAlgebra.meaning c.args.answers.now.algebra) c.args.answers.now.settings.now (g.T.Gate.may_answer c.args.answers.now.gate.now) c.args.answers.now.graph.now) in
+    let ok : Result (Unit {0}) (Unit {0}) = Ok tt in
+    let texts = (MayAnswerBy (g.A.PathAlgebra.meaning c.args.answers.now.algebra) c.args.answers.now.run.now.settings.now (g.T.Gate.may_answer c.args.answers.now.run.now.gate.now) c.args.solver.now) in
     let xs : List ℕ = c.args.bytes.now in
     let at : ℕ = c.loop-at.at in
     let m : ℕ = at + c.min.result - at in
@@ -42,10 +48,14 @@ loop-at-preserved-in-Ok g c =
     let further = fed_line texts c.args.self.now c.loop-at.self v c.end_line.new.self (take at xs) (take n slice) (g.W.RoadWrite.written c.args.out.now)
     (g.W.RoadWrite.written c.loop-at.out) (g.W.RoadWrite.written c.end_line.new.out)
     (g.W.RoadWrite.failures c.args.out.now) (g.W.RoadWrite.failures c.loop-at.out) (g.W.RoadWrite.failures c.end_line.new.out)
-    kept.1 kept.0 refl c.end_line.ensures.vertices c.end_line.ensures.line c.end_line.ensures.ready counted c.loop-at.invariant.fed cut c.in-Ok.ensures.ended in
+    kept.1 kept.0 refl c.end_line.ensures.vertices c.end_line.ensures.line c.end_line.ensures.ready counted c.loop-at.invariant.fed cut
+    (stays (g.A.PathAlgebra.meaning c.args.answers.now.algebra) c.args.answers.now.run.now.settings.now (g.T.Gate.may_answer c.args.answers.now.run.now.gate.now) c.args.solver.now c.loop-at.solver c.loop-at.invariant.same
+    (λ (may : Asked → List ℕ → Type 0). (a : ℕ) (line : List ℕ) → v.line ≡ held_line a → IsLine RequestSoFar v.cutter line → LineEnded may a line v c.end_line.new.self
+    (g.W.RoadWrite.written c.loop-at.out) (g.W.RoadWrite.written c.end_line.new.out) (g.W.RoadWrite.failures c.loop-at.out) (g.W.RoadWrite.failures c.end_line.new.out) ok) c.in-Ok.ensures.ended) in
     record {
       fed = subst (λ (x : List ℕ). Fed texts c.args.self.now c.end_line.new.self x (g.W.RoadWrite.written c.args.out.now) (g.W.RoadWrite.written c.end_line.new.out)
           (g.W.RoadWrite.failures c.args.out.now) (g.W.RoadWrite.failures c.end_line.new.out)) (sym (next_prefix xs at n m c.to_line_end-taken.ensures.bound)) further;
+      same = record { graph = c.end_line.ensures.same.graph ∙ c.loop-at.invariant.same.graph; kind = c.end_line.ensures.same.kind ∙ c.loop-at.invariant.same.kind };
       held = λ h. c.in-Ok.ensures.passed_on (c.loop-at.invariant.held h);
       vertices = c.end_line.ensures.vertices ∙ kept.1 ∙ c.loop-at.invariant.vertices;
       within = next_within xs at n m c.loop-at.invariant.within c.to_line_end-taken.ensures.bound;
@@ -53,7 +63,8 @@ loop-at-preserved-in-Ok g c =
 
 pub returns-in-Err-clause-fell : goal.returns-in-Err-clause-fell
 returns-in-Err-clause-fell g c = λ is.
-    let texts = (MayAnswer (g.A.PathAlgebra.meaning c.args.answers.now.algebra) c.args.answers.now.settings.now (g.T.Gate.may_answer c.args.answers.now.gate.now) c.args.answers.now.graph.now) in
+    let failed : Result (Unit {0}) (Unit {0}) = Err tt in
+    let texts = (MayAnswerBy (g.A.PathAlgebra.meaning c.args.answers.now.algebra) c.args.answers.now.run.now.settings.now (g.T.Gate.may_answer c.args.answers.now.run.now.gate.now) c.args.solver.now) in
     let xs : List ℕ = c.args.bytes.now in
     let at : ℕ = c.loop-at.at in
     let m : ℕ = at + c.min.result - at in
@@ -75,11 +86,14 @@ returns-in-Err-clause-fell g c = λ is.
     (g.W.RoadWrite.written c.loop-at.out) (g.W.RoadWrite.written c.end_line.new.out)
     (g.W.RoadWrite.failures c.args.out.now) (g.W.RoadWrite.failures c.loop-at.out) (g.W.RoadWrite.failures c.end_line.new.out)
     kept.1 kept.0 refl c.end_line.ensures.vertices c.end_line.ensures.line c.end_line.ensures.ready counted
-    (sym (take-append-drop (at + n) xs) ∙ ap (λ x. x ++ drop (at + n) xs) (next_prefix xs at n m c.to_line_end-taken.ensures.bound)) c.loop-at.invariant.fed cut c.in-Err.ensures.ended
+    (sym (take-append-drop (at + n) xs) ∙ ap (λ x. x ++ drop (at + n) xs) (next_prefix xs at n m c.to_line_end-taken.ensures.bound)) c.loop-at.invariant.fed cut
+    (stays (g.A.PathAlgebra.meaning c.args.answers.now.algebra) c.args.answers.now.run.now.settings.now (g.T.Gate.may_answer c.args.answers.now.run.now.gate.now) c.args.solver.now c.loop-at.solver c.loop-at.invariant.same
+    (λ (may : Asked → List ℕ → Type 0). (a : ℕ) (line : List ℕ) → v.line ≡ held_line a → IsLine RequestSoFar v.cutter line → LineEnded may a line v c.end_line.new.self
+    (g.W.RoadWrite.written c.loop-at.out) (g.W.RoadWrite.written c.end_line.new.out) (g.W.RoadWrite.failures c.loop-at.out) (g.W.RoadWrite.failures c.end_line.new.out) failed) c.in-Err.ensures.ended)
 
 pub loop-at-preserved : goal.loop-at-preserved
 loop-at-preserved g c =
-    let texts = (MayAnswer (g.A.PathAlgebra.meaning c.args.answers.now.algebra) c.args.answers.now.settings.now (g.T.Gate.may_answer c.args.answers.now.gate.now) c.args.answers.now.graph.now) in
+    let texts = (MayAnswerBy (g.A.PathAlgebra.meaning c.args.answers.now.algebra) c.args.answers.now.run.now.settings.now (g.T.Gate.may_answer c.args.answers.now.run.now.gate.now) c.args.solver.now) in
     let xs : List ℕ = c.args.bytes.now in
     let at : ℕ = c.loop-at.at in
     let m : ℕ = at + c.min.result - at in
@@ -101,20 +115,19 @@ loop-at-preserved g c =
       fed = fed_stay texts c.args.self.now c.loop-at.self _ (take (at + n) xs) (take at xs) slice n (g.W.RoadWrite.written c.args.out.now) (g.W.RoadWrite.written c.loop-at.out)
           (g.W.RoadWrite.failures c.args.out.now) (g.W.RoadWrite.failures c.loop-at.out) kept.1 kept.0 refl (ap (λ k. c.loop-at.self.count + k) stay.all)
           (next_all xs at n m stay.all) c.loop-at.invariant.fed stay;
+      same = c.loop-at.invariant.same;
       held = c.loop-at.invariant.held;
       vertices = kept.1 ∙ c.loop-at.invariant.vertices;
       within = next_within xs at n m c.loop-at.invariant.within c.to_line_end-taken.ensures.bound;
     }
 
 pub returns-clause-fed : goal.returns-clause-fed
-returns-clause-fed g c = subst (λ (x : List ℕ). Fed (MayAnswer (g.A.PathAlgebra.meaning c.args.answers.now.algebra) c.args.answers.now.settings.now
-    (g.T.Gate.may_answer c.args.answers.now.gate.now) c.args.answers.now.graph.now) c.args.self.now c.loop-at.self x (g.W.RoadWrite.written c.args.out.now)
+returns-clause-fed g c = subst (λ (x : List ℕ). Fed (MayAnswerBy (g.A.PathAlgebra.meaning c.args.answers.now.algebra) c.args.answers.now.run.now.settings.now (g.T.Gate.may_answer c.args.answers.now.run.now.gate.now) c.args.solver.now) c.args.self.now c.loop-at.self x (g.W.RoadWrite.written c.args.out.now)
     (g.W.RoadWrite.written c.loop-at.out) (g.W.RoadWrite.failures c.args.out.now) (g.W.RoadWrite.failures c.loop-at.out))
     (take_all c.loop-at.at c.args.bytes.now c.loop-at-test.false) c.loop-at.invariant.fed
 
 pub returns-then-room-eq0-clause-long : goal.returns-then-room-eq0-clause-long
 returns-then-room-eq0-clause-long g c = λ is.
-    fed_long (MayAnswer (g.A.PathAlgebra.meaning c.args.answers.now.algebra) c.args.answers.now.settings.now
-    (g.T.Gate.may_answer c.args.answers.now.gate.now) c.args.answers.now.graph.now) c.args.self.now c.loop-at.self c.args.bytes.now c.loop-at.at
+    fed_long (MayAnswerBy (g.A.PathAlgebra.meaning c.args.answers.now.algebra) c.args.answers.now.run.now.settings.now (g.T.Gate.may_answer c.args.answers.now.run.now.gate.now) c.args.solver.now) c.args.self.now c.loop-at.self c.args.bytes.now c.loop-at.at
     (g.W.RoadWrite.written c.args.out.now) (g.W.RoadWrite.written c.loop-at.out) (g.W.RoadWrite.failures c.args.out.now) (g.W.RoadWrite.failures c.loop-at.out)
     c.loop-at-test.true (omega (arith, c.if-room-eq0.true, c.loop-at.self.few_bytes)) c.loop-at.invariant.fed

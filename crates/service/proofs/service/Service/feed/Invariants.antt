@@ -1,13 +1,15 @@
 use Rattle.std.proofs.Common.{◌≡◌, ◌-◌, ◌≤◌, [], take, length}
+use Rattle.batch_run.specs.Solvers.{IsSameSolver}
 use Rattle.service.specs.Fed.{Fed}
-use Rattle.service.specs.Answering.{MayAnswer}
+use Rattle.service.specs.Answering.{MayAnswerBy}
 use Rattle.service.proofs.service.Service.feed.Given as goal
 
 -- the bytes so far were taken, and just the requests that they make whole replied to
 abbrev pub invariant-loop-at : goal.invariant-loop-at
 invariant-loop-at g l = record {
-  fed : Fed (MayAnswer (g.A.PathAlgebra.meaning l.answers.algebra) l.answers.settings.now (g.T.Gate.may_answer l.answers.gate.now) l.answers.graph.now) l.initial.self l.self
+  fed : Fed (MayAnswerBy (g.A.PathAlgebra.meaning l.answers.algebra) l.answers.run.now.settings.now (g.T.Gate.may_answer l.answers.run.now.gate.now) l.fn.solver) l.initial.self l.self
       (take l.at l.bytes) (g.W.RoadWrite.written l.initial.out) (g.W.RoadWrite.written l.out) (g.W.RoadWrite.failures l.initial.out) (g.W.RoadWrite.failures l.out);
+  same : IsSameSolver l.fn.solver l.solver;
   held : g.W.RoadWrite.held l.initial.out ≡ [] → g.W.RoadWrite.held l.out ≡ [];
   vertices : l.self.cutter.taker.questions.list.vertices ≡ l.initial.self.cutter.taker.questions.list.vertices;
   within : l.at ≤ length l.bytes;

@@ -1,0 +1,54 @@
+-- Solvers between two questions.
+use Rattle.std.specs.Prelude.{◌≡◌, ℕ, Bool, true, false, Option, IfSome, IsSome, slice_get}
+use Rattle.std.specs.List.{All}
+use Rattle.road_graph.specs.GraphData.{GraphData}
+use Rattle.road_files.specs.Asked.{Asked}
+use Rattle.road_files.specs.declared.questions.Kind.TheVariants.{Pairs}
+use Rattle.path_algebra.specs.Algebra.{Algebra}
+use Rattle.batch_run.specs.Diffusions.{AreNext, sources_to_come}
+use Rattle.batch_run.specs.Solved.{IsSolved}
+use Rattle.batch_run.specs.declared.solve.Solver.{Solver}
+use Rattle.batch_run.specs.declared.solve.Solver.TheVariants.{Plain, Workers}
+use Rattle.batch_run.specs.declared.solve.plain_solver.PlainSolver.{PlainSolver}
+use Rattle.batch_run.specs.declared.solve.solved.Solved.{Solved}
+use Rattle.batch_run.specs.declared.solve.workers.WorkerSolver.{WorkerSolver}
+
+-- the plain solver's: what it holds is solved, and for pairs it has the rows of arcs by head
+pub record IsPlainReady {V : Type 0} (A : Algebra V) (asked : Asked) (s : PlainSolver V) : Type 0 where
+  pub solved : All (IsSolved A s.graph asked) s.solved.items
+  pub rows : asked.kind ≡ Pairs → IsSome s.by_head
+
+-- the workers': what waits was gathered, and goes on with the question at this place
+pub record IsWorkerReady {V : Type 0} (A : Algebra V) (asked : Asked) (i : ℕ) (s : WorkerSolver V) : Type 0 where
+  pub some : IsSome s.queue
+  pub next : IfSome s.queue (AreNext A s.graph (sources_to_come asked.questions i 0))
+
+-- the graph over which it solves
+abbrev pub graph_of : {V : Type 0} → Solver V → GraphData
+graph_of (Plain s) = s.graph
+graph_of (Workers s) = s.graph
+
+-- it solves without diffusions
+abbrev pub is_plain : {V : Type 0} → Solver V → Bool
+is_plain (Plain s) = true
+is_plain (Workers s) = false
+
+-- what it solved last
+abbrev pub last_of : {V : Type 0} → Solver V → Option (Solved V)
+last_of (Plain s) = slice_get s.solved.items s.last
+last_of (Workers s) = s.last
+
+-- what it holds is right for this algebra and question list, and the question at this place is the next one
+abbrev pub IsReady : {V : Type 0} → Algebra V → Asked → ℕ → Solver V → Type 0
+IsReady A asked i (Plain s) = IsPlainReady A asked s
+IsReady A asked i (Workers s) = IsWorkerReady A asked i s
+
+-- it has what routes are found by: the plain solver the rows of arcs by head
+abbrev pub FindsRoutes : {V : Type 0} → Solver V → Type 0
+FindsRoutes (Plain s) = IsSome s.by_head
+FindsRoutes (Workers s) = Unit {0}
+
+-- it is of one kind, over one graph, from the one moment to the other
+pub record IsSameSolver {V : Type 0} (old new : Solver V) : Type 0 where
+  pub graph : graph_of new ≡ graph_of old
+  pub kind : is_plain new ≡ is_plain old

@@ -8,8 +8,12 @@ mod workers;
 
 use crate::texts::joined;
 use crate::tolls::Tolls;
-use batch_run::{Gate, OpenGate, RunFault, Settings, read_pair, run_bundle, run_pair};
+use batch_run::{
+    BatchInput, Gate, OpenGate, PairInput, Run, RunFault, Settings, Unwatched, run_bundle, run_pair,
+};
 use path_algebra::{Hops, PathAlgebra, Reach, Reliable, Shortest, Widest, Within};
+use road_files::Questions;
+use road_graph::Graph;
 use road_text::Plain;
 use std::alloc::Global;
 use std::process::Abort;
@@ -59,16 +63,14 @@ fn run_two<A: PathAlgebra, R: Threads + Wait + Sync>(
     let mut out = Plain::new(Vec::new(alloc));
     let mut first = Plain::new(graph.as_bytes());
     let mut second = Plain::new(questions.as_bytes());
-    let ended = run_pair(
+    let run = Run {
         rt,
         alloc,
-        algebra,
-        &mut first,
-        &mut second,
-        &mut out,
         settings,
-        &OpenGate,
-    );
+        gate: &OpenGate,
+    };
+    let (graph, questions) = (&mut first, &mut second);
+    let ended = run_pair(&run, algebra, graph, questions, &mut out, &mut Unwatched);
     (ended, out.into_inner())
 }
 
@@ -83,7 +85,13 @@ fn run_at<A: PathAlgebra, R: Threads + Wait + Sync, T: Gate>(
 ) -> (Result<(), RunFault>, Vec<u8>) {
     let mut out = Plain::new(Vec::new(alloc));
     let mut input = Plain::new(text.as_bytes());
-    let ended = run_bundle(rt, alloc, algebra, &mut input, &mut out, settings, gate);
+    let run = Run {
+        rt,
+        alloc,
+        settings,
+        gate,
+    };
+    let ended = run_bundle(&run, algebra, &mut input, &mut out, &mut Unwatched);
     (ended, out.into_inner())
 }
 
@@ -143,9 +151,12 @@ fn assert_both_ways<A: PathAlgebra>(
 
 #[test]
 fn two_inputs_are_read(rt: HostRuntime) {
-    let mut graph = Plain::new(FIVE.as_bytes());
-    let mut questions = Plain::new(THRICE.as_bytes());
-    match read_pair(rt.alloc(), &mut graph, &mut questions) {
+    let mut pair = PairInput {
+        graph: &mut Plain::new(FIVE.as_bytes()),
+        questions: &mut Plain::new(THRICE.as_bytes()),
+    };
+    let read: Result<(Graph, Questions), RunFault> = pair.read(rt.alloc());
+    match read {
         Ok((graph, questions)) => {
             assert_eq!(rt; (graph.vertices(), graph.arcs()), (5, 7));
             assert_eq!(rt; questions.len(), 3);

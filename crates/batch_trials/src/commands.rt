@@ -4,7 +4,8 @@ mod watched;
 use crate::texts::joined;
 use batch_run::{Settings, fault_of_run};
 use program::{
-    FileSystem, RunOptions, Subcommand, WatchOptions, algebra_of, parse_args, run_command_line,
+    FileSystem, Host, Refusal, RunOptions, Subcommand, WatchOptions, choose, parse_args,
+    run_command_line,
 };
 use road_text::{Buffered, Plain, ReadFailed, WriteFault};
 use std::alloc::{AllocError, Global};
@@ -213,15 +214,15 @@ fn settings_of_a_command_line(rt: HostRuntime) {
 
 /// Which algebra a name and a limit ask for, in words, or `refused`.
 fn algebra_said(rt: &(impl Abort + AllocGlobal), algebra: &str, limit: Option<u64>) -> String {
-    let settings = Settings::default();
-    let said = match algebra_of(&RunOptions {
+    let options = RunOptions {
         algebra,
         limit,
-        settings,
-    }) {
+        settings: Settings::default(),
+    };
+    let said = match choose(&options, true) {
         Ok(chosen) => format!(in rt.alloc(); "Ok({chosen:?})"),
-        Err(fault) => {
-            assert_eq!(rt; fault, fault_of_run(43));
+        Err(refusal) => {
+            assert_eq!(rt; refusal, Refusal::Fault(fault_of_run(43)));
             String::from_str(rt.alloc(), "refused")
         }
     };
@@ -435,11 +436,13 @@ fn run_line(
     given: &str,
 ) -> (Vec<u8>, Vec<u8>, u8) {
     let words = words_of(rt, line);
-    let mut out = Plain::new(Vec::new(rt.alloc()));
-    let mut errors = Plain::new(Vec::new(rt.alloc()));
-    let mut shelf = Shelf { given };
-    let status = run_command_line(rt, &mut shelf, words.as_slice(), &mut out, &mut errors);
-    (out.into_inner(), errors.into_inner(), status)
+    let mut host = Host {
+        files: Shelf { given },
+        out: Plain::new(Vec::new(rt.alloc())),
+        errors: Plain::new(Vec::new(rt.alloc())),
+    };
+    let status = run_command_line(rt, &mut host, words.as_slice());
+    (host.out.into_inner(), host.errors.into_inner(), status)
 }
 
 /// Asserts what a command line with this standard input writes and reports, and its exit status.
@@ -619,12 +622,14 @@ fn bundles_and_statuses(rt: HostRuntime) {
 fn assert_no_room(rt: &(impl Abort + Threads + Wait + AllocGlobal + Sync), line: &str) {
     let words = words_of(rt, line);
     let mut room = [0u8; 3];
-    let mut out = Plain::new(&mut room[..]);
-    let mut errors = Plain::new(Vec::new(rt.alloc()));
-    let mut shelf = Shelf { given: "" };
-    let status = run_command_line(rt, &mut shelf, words.as_slice(), &mut out, &mut errors);
+    let mut host = Host {
+        files: Shelf { given: "" },
+        out: Plain::new(&mut room[..]),
+        errors: Plain::new(Vec::new(rt.alloc())),
+    };
+    let status = run_command_line(rt, &mut host, words.as_slice());
     assert_eq!(rt;
-        errors.into_inner().as_slice(),
+        host.errors.into_inner().as_slice(),
         "diffuse: fault 42\n".as_bytes()
     );
     assert_eq!(rt; status, 5);
@@ -644,11 +649,13 @@ fn an_output_without_room(rt: HostRuntime) {
 fn the_version_is_passed_on(rt: HostRuntime) {
     let words = words_of(&rt, "diffuse --version");
     let mut room = [0u8; 31];
-    let mut errors = Plain::new(Vec::new(rt.alloc()));
-    let mut shelf = Shelf { given: "" };
-    let mut out = Buffered::new(rt.alloc(), Plain::new(&mut room[..])).expect(&rt, "memory");
-    let status = run_command_line(&rt, &mut shelf, words.as_slice(), &mut out, &mut errors);
-    drop(out);
+    let mut host = Host {
+        files: Shelf { given: "" },
+        out: Buffered::new(rt.alloc(), Plain::new(&mut room[..])).expect(&rt, "memory"),
+        errors: Plain::new(Vec::new(rt.alloc())),
+    };
+    let status = run_command_line(&rt, &mut host, words.as_slice());
+    drop(host);
     assert_eq!(rt; status, 0);
     assert_eq!(rt; &room[..], VERSION.as_bytes());
 }

@@ -1,7 +1,6 @@
 -- Texts that are added where a watcher writes, one after the other.
-use Rattle.std.specs.Prelude.{◌≡◌, ◌⊎◌, ℕ, ◌<◌, List, [], ◌++◌, Bool, true, false, Option, Some, None, Result, Ok, Err, if◌then◌else◌}
+use Rattle.std.specs.Prelude.{◌≡◌, ◌⊎◌, ℕ, ◌<◌, List, [], ◌++◌, Bool, true, false, Option, Some, None, Result, Ok, Err}
 use Rattle.std.specs.Option.{option_map}
-use Rattle.std.specs.Io.KnownBytes.{Appends}
 use Rattle.std.proofs.Common.{inl, inr, refl, sym, subst, ◌∙◌, arith}
 use Rattle.std.proofs.KnownBytes.{Appends-nil, Appends-trans, Appends-kept}
 use Rattle.batch_run.specs.declared.faults.RunFault.{RunFault}
@@ -18,11 +17,6 @@ added_then old mid new b m a x y (inl p) (inl q) = inl (Appends-trans old mid ne
 added_then old mid new b m a x y (inl p) (inr q) = let e : m ≡ b = p.1 in inr (omega arith)
 added_then old mid new b m a x y (inr p) (inl q) = let e : a ≡ m = q.1 in inr (omega arith)
 added_then old mid new b m a x y (inr p) (inr q) = inr (omega arith)
-
--- two texts that are shown or not
-pub shown_then : (progress : Bool) (x y : List ℕ) → (if progress then x else []) ++ (if progress then y else []) ≡ (if progress then x ++ y else [])
-shown_then true x y = refl
-shown_then false x y = refl
 
 module _ {A : Type 0} (written : A → Option (List ℕ)) (failures : A → ℕ) where
   -- accounts that are kept go on to be kept

@@ -1,7 +1,5 @@
-mod Opening
 mod Ungated
-mod ShortNames
 mod AccountLines
 mod Adding
 mod Noted
-mod Optional
+mod Ended

@@ -1,5 +1,5 @@
 -- What a watcher leaves to which all reports of a batch were made.
-use Rattle.std.specs.Prelude.{◌≡◌, ◌≢◌, ℕ, List, [], ◌∷◌, Bool, true, false, Option, Result, Ok, Err, OnOk, if◌then◌else◌}
+use Rattle.std.specs.Prelude.{◌≡◌, ◌≢◌, ℕ, List, [], ◌∷◌, ◌++◌, Bool, true, false, Option, Result, Ok, Err, OnOk}
 use Rattle.std.proofs.Common.{inl, inr, refl, sym, subst, ◌∙◌}
 use Rattle.std.proofs.lemmas.Bool.Decides.{eqb_tells}
 use Rattle.road_graph.specs.GraphData.{GraphData}
@@ -11,83 +11,82 @@ use Rattle.batch_run.specs.declared.faults.RunFault.{RunFault}
 use Rattle.batch_run.specs.declared.settings.Settings.{Settings}
 use Rattle.batch_run.specs.declared.watcher.Report.{Report}
 use Rattle.batch_run.specs.Reports.{FollowsReports, ReportedFirst, Watched}
-use Rattle.program.specs.declared.algebra_choice.AlgebraChoice.{AlgebraChoice}
-use Rattle.program.specs.declared.algebra_choice.AlgebraChoice.TheVariants as chosen
+use Rattle.path_algebra.specs.declared.choice.AlgebraChoice.{AlgebraChoice}
+use Rattle.path_algebra.specs.Choices.{Under}
+use Rattle.path_algebra.proofs.Chosen.{under_some}
 use Rattle.program.specs.declared.watch.watcher.Watch.{Watch}
 use Rattle.program.specs.Accounts.{accounts_text}
 use Rattle.program.specs.Progress.{all_after, progress_text, shown_at}
-use Rattle.program.specs.Watching.{AreReportsOf, AreReportsUnder, HasAccounts, IsAdded, Notes, WatchedUnder}
-use Rattle.program.proofs.Adding.{added_none, added_then, has_none, has_then, shown_then}
+use Rattle.program.specs.Watching.{AreReportsOf, HasAccounts, IsAddedIf, Notes}
+use Rattle.program.proofs.Adding.{added_none, added_then, has_none, has_then}
 
--- some reports were made, which on success are those of the batch
-abbrev pub WasTold : {S : Type 0} → (S → Report → S → Type 0) → S → S → Result (Unit {0}) RunFault → (List Report → Type 0) → Type 0
-WasTold may_become old new outcome Are = (reports : List Report) × FollowsReports may_become old reports new × OnOk outcome (Are reports)
+-- some reports were made to a watcher
+abbrev pub WasTold : {S : Type 0} → (S → Report → S → Type 0) → S → S → Type 0
+WasTold may_become old new = (reports : List Report) × FollowsReports may_become old reports new
 
 module _ {V S : Type 0} (A : Algebra V) (plain : Bool) (IsRead : GraphData → Asked → Type 0) (may_become : S → Report → S → Type 0) (old new : S) where
-  none_told : new ≡ old → (reports : List Report) × FollowsReports may_become old reports new × Unit {0}
-  none_told e = ([], e, tt)
+  none_told : new ≡ old → WasTold may_become old new
+  none_told e = ([], e)
 
-  some_told : (number : ℕ) → (number ≢ 43 → ReportedFirst A plain IsRead may_become old new) → (number ≡ 43 → new ≡ old) →
-      (reports : List Report) × FollowsReports may_become old reports new × Unit {0}
+  some_told : (number : ℕ) → (number ≢ 43 → ReportedFirst A plain IsRead may_become old new) → (number ≡ 43 → new ≡ old) → WasTold may_become old new
   some_told number first untouched = elim (eqb_tells number 43) [
     | inl is ↦ none_told (untouched is.1)
-    | inr not ↦ let told = (first not.1).reported.reported in (told.reports, told.told, tt)
+    | inr not ↦ let told = (first not.1).reported.reported in (told.reports, told.told)
   ]
 
   fault_told : (file : File) (number : ℕ) → (file ≡ NoFile → number ≢ 43 → ReportedFirst A plain IsRead may_become old new) → (file ≢ NoFile → new ≡ old) →
-      (number ≡ 43 → new ≡ old) → (reports : List Report) × FollowsReports may_become old reports new × Unit {0}
+      (number ≡ 43 → new ≡ old) → WasTold may_become old new
   fault_told NoFile number first nothing untouched = some_told number (first refl) untouched
   fault_told Graph number first nothing untouched = none_told (nothing (λ e. cc))
   fault_told Questions number first nothing untouched = none_told (nothing (λ e. cc))
   fault_told Bundle number first nothing untouched = none_told (nothing (λ e. cc))
   fault_told Answers number first nothing untouched = none_told (nothing (λ e. cc))
 
--- a batch makes some reports to its watcher
+-- a batch makes some reports to its watcher, which on success are its own
 pub watched_told : {V S : Type 0} (A : Algebra V) (how : Settings) (IsRead : GraphData → Asked → Type 0) (may_become : S → Report → S → Type 0) (old new : S) (outcome : Result (Unit {0}) RunFault) →
-    Watched A how IsRead may_become old new outcome → WasTold may_become old new outcome (AreReportsOf A how.plain IsRead)
+    Watched A how IsRead may_become old new outcome → (told : WasTold may_become old new) × OnOk outcome (AreReportsOf A how.plain IsRead told.0)
 watched_told A how IsRead may_become old new (Ok u) w =
-    (w.all.reported.reports, w.all.reported.told, record { graph = w.all.graph; asked = w.all.asked; read = w.all.read; are_due = w.all.reported.are_due })
-watched_told A how IsRead may_become old new (Err f) w = fault_told A how.plain IsRead may_become old new f.file f.number w.first w.nothing w.untouched
+    ((w.all.reported.reports, w.all.reported.told), record { graph = w.all.graph; asked = w.all.asked; read = w.all.read; are_due = w.all.reported.are_due })
+watched_told A how IsRead may_become old new (Err f) w = (fault_told A how.plain IsRead may_become old new f.file f.number w.first w.nothing w.untouched, tt)
 
 -- the same under the algebra that was chosen
 pub under_told : {S : Type 0} (c : AlgebraChoice) (how : Settings) (IsRead : GraphData → Asked → Type 0) (may_become : S → Report → S → Type 0) (old new : S) (outcome : Result (Unit {0}) RunFault) →
-    WatchedUnder c how IsRead may_become old new outcome → WasTold may_become old new outcome (AreReportsUnder c how.plain IsRead)
-under_told chosen.Shortest how IsRead may_become old new outcome w = watched_told _ how IsRead may_become old new outcome w
-under_told chosen.Widest how IsRead may_become old new outcome w = watched_told _ how IsRead may_become old new outcome w
-under_told chosen.Reach how IsRead may_become old new outcome w = watched_told _ how IsRead may_become old new outcome w
-under_told chosen.Hops how IsRead may_become old new outcome w = watched_told _ how IsRead may_become old new outcome w
-under_told chosen.Reliable how IsRead may_become old new outcome w = watched_told _ how IsRead may_become old new outcome w
-under_told (chosen.Within x) how IsRead may_become old new outcome w = watched_told _ how IsRead may_become old new outcome w
+    Under c (λ V A. Watched A how IsRead may_become old new outcome) →
+    (told : WasTold may_become old new) × Under c (λ V A. OnOk outcome (AreReportsOf A how.plain IsRead told.0))
+under_told c how IsRead may_become old new outcome w =
+    under_some c (WasTold may_become old new) (λ V A. Watched A how IsRead may_become old new outcome) (λ told V A. OnOk outcome (AreReportsOf A how.plain IsRead told.0))
+    (λ V A it. watched_told A how IsRead may_become old new outcome it) w
 
 -- what a watcher of a command leaves to which all these reports were made
 pub record Noted {A E : Type 0} (written : A → Option (List ℕ)) (failures : A → ℕ) (shown : E → Option (List ℕ)) (unshown : E → ℕ) (old : Watch A E)
     (reports : List Report) (new : Watch A E) : Type 0 where
   pub same : (new.accounts.ghost_name ≡ old.accounts.ghost_name) × (new.errors.ghost_name ≡ old.errors.ghost_name)
   pub accounts : HasAccounts written failures old.accounts.now new.accounts.now old.lost new.lost (accounts_text old.name reports)
-  pub errors : IsAdded (shown old.errors.now) (shown new.errors.now) (unshown old.errors.now) (unshown new.errors.now) (if old.progress then progress_text old.all reports else [])
+  pub errors : IsAddedIf shown unshown old.progress old.errors.now new.errors.now (progress_text old.all reports)
 
 module _ {A E : Type 0} (written : A → Option (List ℕ)) (failures : A → ℕ) (shown : E → Option (List ℕ)) (unshown : E → ℕ) where
-  shown_none : (old : Watch A E) (progress : Bool) → IsAdded (shown old.errors.now) (shown old.errors.now) (unshown old.errors.now) (unshown old.errors.now) (if progress then [] else [])
-  shown_none old true = added_none (shown old.errors.now) (unshown old.errors.now)
-  shown_none old false = added_none (shown old.errors.now) (unshown old.errors.now)
+  shown_none : (progress : Bool) (errors : E) → IsAddedIf shown unshown progress errors errors []
+  shown_none true errors = added_none (shown errors) (unshown errors)
+  shown_none false errors = refl
+
+  shown_then : (progress : Bool) (old mid new : E) (x y : List ℕ) → IsAddedIf shown unshown progress old mid x → IsAddedIf shown unshown progress mid new y →
+      IsAddedIf shown unshown progress old new (x ++ y)
+  shown_then true old mid new x y p q = added_then _ _ _ _ _ _ x y p q
+  shown_then false old mid new x y p q = q ∙ p
 
   noted_none : (old new : Watch A E) → new ≡ old → Noted written failures shown unshown old [] new
   noted_none old new e = subst (Noted written failures shown unshown old []) (sym e) (record {
     same = (refl, refl);
     accounts = has_none written failures old.accounts.now old.lost;
-    errors = shown_none old old.progress;
+    errors = shown_none old.progress old.errors.now;
   })
 
   errors_then : (old next new : Watch A E) (r : Report) (rs : List Report) → Notes written failures shown unshown old r next → Noted written failures shown unshown next rs new →
-      IsAdded (shown old.errors.now) (shown new.errors.now) (unshown old.errors.now) (unshown new.errors.now) (if old.progress then progress_text old.all (r ∷ rs) else [])
+      IsAddedIf shown unshown old.progress old.errors.now new.errors.now (progress_text old.all (r ∷ rs))
   errors_then old next new r rs first more =
-      let Added : List ℕ → Type 0 = IsAdded (shown old.errors.now) (shown new.errors.now) (unshown old.errors.now) (unshown new.errors.now) in
-      let later : (progress : Bool) (all : ℕ) → next.progress ≡ progress → next.all ≡ all →
-      IsAdded (shown next.errors.now) (shown new.errors.now) (unshown next.errors.now) (unshown new.errors.now) (if progress then progress_text all rs else []) =
-      λ progress all e f. subst (λ p. IsAdded (shown next.errors.now) (shown new.errors.now) (unshown next.errors.now) (unshown new.errors.now) (if p then progress_text all rs else [])) e
-      (subst (λ n. IsAdded (shown next.errors.now) (shown new.errors.now) (unshown next.errors.now) (unshown new.errors.now) (if next.progress then progress_text n rs else [])) f more.errors) in
-      subst Added (shown_then old.progress (shown_at old.all r) (progress_text (all_after old.all r) rs))
-      (added_then _ _ _ _ _ _ _ _ first.errors (later old.progress (all_after old.all r) first.progress first.all))
+      shown_then old.progress old.errors.now next.errors.now new.errors.now (shown_at old.all r) (progress_text (all_after old.all r) rs) first.errors
+      (subst (λ p. IsAddedIf shown unshown p next.errors.now new.errors.now (progress_text (all_after old.all r) rs)) first.progress
+      (subst (λ n. IsAddedIf shown unshown next.progress next.errors.now new.errors.now (progress_text n rs)) first.all more.errors))
 
   -- a watcher has noted all reports that were made to it
   pub noted_all : (rs : List Report) (old new : Watch A E) → FollowsReports (Notes written failures shown unshown) old rs new → Noted written failures shown unshown old rs new

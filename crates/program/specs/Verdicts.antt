@@ -17,13 +17,8 @@ use Rattle.answer_check.specs.Verdicts.{IsVerdict}
 use Rattle.batch_run.specs.declared.faults.RunFault.{RunFault}
 use Rattle.batch_run.specs.declared.faults.File.TheVariants.{Graph, Questions, Answers}
 use Rattle.batch_run.specs.Ran.{IsPairOf, IsReadAs, IsTextFault, IsRoadNumber}
-use Rattle.program.specs.declared.algebra_choice.AlgebraChoice.{AlgebraChoice}
-use Rattle.program.specs.Under.{Under}
-use Rattle.program.specs.Choices.{name_of, limit_of, GoTogether}
-
--- the verdict on answers under the algebra that was chosen
-abbrev pub IsVerdictUnder : AlgebraChoice → GraphData → Asked → AnswerList → Verdict → Type 0
-IsVerdictUnder chosen g asked told verdict = Under chosen (λ V A. IsVerdict A g asked told verdict)
+use Rattle.path_algebra.specs.declared.choice.AlgebraChoice.{AlgebraChoice}
+use Rattle.path_algebra.specs.Choices.{GoTogether, Under, limit_of, name_of}
 
 -- three inputs spell this graph, these questions over it, and these answers for it
 pub record AreInputs (graph questions answers : Option (List ℕ)) (g : GraphData) (asked : Asked) (told : AnswerList) : Type 0 where
@@ -40,7 +35,7 @@ pub record IsJudged (graph questions answers : Option (List ℕ)) (limit : Optio
   pub chosen : AlgebraChoice
   pub named : name_of chosen ≡ told.name
   pub limited : limit_of chosen ≡ limit
-  pub judged : IsVerdictUnder chosen roads asked told verdict
+  pub judged : Under chosen (λ V A. IsVerdict A roads asked told verdict)
 
 -- the graph and the questions have no fault, and the answers have this one
 pub record IsAnswersFault (graph questions answers : Option (List ℕ)) (f : RunFault) : Type 0 where

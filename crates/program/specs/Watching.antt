@@ -1,26 +1,32 @@
 -- What the watcher of a command writes, and how a command ends that is watched.
-use Rattle.std.specs.Prelude.{◌≡◌, ◌⊎◌, ℕ, ◌<◌, List, [], Bool, true, false, Option, Some, None, Result, Ok, Err, OnOk, if◌then◌else◌}
+use Rattle.std.specs.Prelude.{◌≡◌, ◌⊎◌, ℕ, ◌<◌, List, [], Bool, true, false, Option, Some, None, Result, Ok, Err, OnOk}
 use Rattle.std.specs.Io.KnownBytes.{Appends, Keeps}
 use Rattle.std.specs.List.{AllZip}
 use Rattle.road_graph.specs.GraphData.{GraphData}
 use Rattle.road_files.specs.Asked.{Asked}
 use Rattle.path_algebra.specs.Algebra.{Algebra}
+use Rattle.batch_run.specs.declared.faults.File.{File}
 use Rattle.batch_run.specs.declared.faults.RunFault.{RunFault}
 use Rattle.batch_run.specs.declared.settings.Settings.{Settings}
 use Rattle.batch_run.specs.declared.watcher.Report.{Report}
-use Rattle.batch_run.specs.Reports.{IsReportOf, batch_due, Watched}
+use Rattle.batch_run.specs.Reports.{IsReportOf, batch_due}
 use Rattle.batch_run.specs.Runs.{Output}
-use Rattle.program.specs.declared.algebra_choice.AlgebraChoice.{AlgebraChoice}
+use Rattle.path_algebra.specs.declared.choice.AlgebraChoice.{AlgebraChoice}
+use Rattle.path_algebra.specs.Choices.{Under, name_of}
 use Rattle.program.specs.declared.watch.watcher.Watch.{Watch}
 use Rattle.program.specs.Accounts.{account_of, accounts_text}
 use Rattle.program.specs.Progress.{all_after, progress_text, shown_at}
-use Rattle.program.specs.Choices.{name_of}
 use Rattle.fault_reports.specs.Reports.{EndsAs, Reaches, run_fault}
-use Rattle.program.specs.Under.{Under}
+use Rattle.program.specs.Runs.{RanUnder}
 
 -- the text was added, and no write failed; or a write failed
 abbrev pub IsAdded : Option (List ℕ) → Option (List ℕ) → ℕ → ℕ → List ℕ → Type 0
 IsAdded old new before after text = (Appends old new text × (after ≡ before)) ⊎ (before < after)
+
+-- the text was added, if progress is shown, or a write failed; else nothing was done
+abbrev pub IsAddedIf : {E : Type 0} → (E → Option (List ℕ)) → (E → ℕ) → Bool → E → E → List ℕ → Type 0
+IsAddedIf shown unshown true old new text = IsAdded (shown old) (shown new) (unshown old) (unshown new) text
+IsAddedIf shown unshown false old new text = new ≡ old
 
 -- the text was added to accounts, if they are kept, and no write failed
 abbrev pub AreKept : {A : Type 0} → (A → Option (List ℕ)) → (A → ℕ) → Option A → Option A → List ℕ → Type 0
@@ -52,7 +58,7 @@ pub record Notes {A E : Type 0} (written : A → Option (List ℕ)) (failures : 
   -- the accounts have what the report adds to them
   pub accounts : HasAccounts written failures old.accounts.now new.accounts.now old.lost new.lost (account_of old.name report)
   -- and so has the error output, if progress is shown
-  pub errors : IsAdded (shown old.errors.now) (shown new.errors.now) (unshown old.errors.now) (unshown new.errors.now) (if old.progress then shown_at old.all report else [])
+  pub errors : IsAddedIf shown unshown old.progress old.errors.now new.errors.now (shown_at old.all report)
 
 -- these are the reports of a batch over what was read: of each question in order, and each account is of a diffusion that has ended
 pub record AreReportsOf {V : Type 0} (A : Algebra V) (plain : Bool) (IsRead : GraphData → Asked → Type 0) (reports : List Report) : Type 0 where
@@ -60,14 +66,6 @@ pub record AreReportsOf {V : Type 0} (A : Algebra V) (plain : Bool) (IsRead : Gr
   pub asked : Asked
   pub read : IsRead graph asked
   pub are_due : AllZip (IsReportOf A graph) (batch_due plain asked.questions) reports
-
--- the same under the algebra that was chosen
-abbrev pub AreReportsUnder : AlgebraChoice → Bool → (GraphData → Asked → Type 0) → List Report → Type 0
-AreReportsUnder chosen plain IsRead reports = Under chosen (λ V A. AreReportsOf A plain IsRead reports)
-
--- what was reported to a watcher of a batch under the algebra that was chosen
-abbrev pub WatchedUnder : {S : Type 0} → AlgebraChoice → Settings → (GraphData → Asked → Type 0) → (S → Report → S → Type 0) → S → S → Result (Unit {0}) RunFault → Type 0
-WatchedUnder chosen settings IsRead may_become old new outcome = Under chosen (λ V A. Watched A settings IsRead may_become old new outcome)
 
 -- accounts, if they are wanted, have the text, and nothing is held back; or a write failed, and that is fault 42
 abbrev pub Account : {A : Type 0} → List ℕ → Option (Output A) → Option (Output A) → Result (Unit {0}) RunFault → Type 0
@@ -87,15 +85,16 @@ abbrev pub outcome_of : Result (Unit {0}) RunFault → Result (Unit {0}) RunFaul
 outcome_of (Ok _) kept = kept
 outcome_of (Err f) kept = Err f
 
--- A command that answers what was read before a watcher: what answering leaves, what was reported of it, that the accounts are those of the reports, what was
--- shown on the error output, and how the command ends, which reports a fault last.
-pub record EndsWatched {A E : Type 0} (chosen : AlgebraChoice) (settings : Settings) (progress : Bool) (IsRead : GraphData → Asked → Type 0) (Ran : Result (Unit {0}) RunFault → Type 0) (accounts accounts_after : Option (Output A)) (errors errors_after : Output E) (result : ℕ) : Type 0 where
+-- How a command ends that answers what an input spells: what answering leaves, what was reported of it, that the accounts are those of the reports, what
+-- was shown on the error output, and the exit status; a fault is reported last.
+pub record EndsWatched {W A E : Type 0} (chosen : AlgebraChoice) (settings : Settings) (progress : Bool) (IsRead : GraphData → Asked → Type 0) (inputs : File → Type 0)
+    (HasRead : Result (Unit {0}) RunFault → Type 0) (out out_after : Output W) (accounts accounts_after : Option (Output A)) (errors errors_after : Output E) (result : ℕ) : Type 0 where
   pub outcome : Result (Unit {0}) RunFault
-  pub ran : Ran outcome
+  pub ran : RanUnder chosen settings IsRead inputs HasRead out out_after outcome
   pub reports : List Report
-  pub reported : OnOk outcome (AreReportsUnder chosen settings.plain IsRead reports)
+  pub reported : Under chosen (λ V A. OnOk outcome (AreReportsOf A settings.plain IsRead reports))
   pub kept : Result (Unit {0}) RunFault
   pub accounted : Account (accounts_text (name_of chosen) reports) accounts accounts_after kept
   pub watched : Output E
-  pub shown : IsAdded errors.written watched.written errors.failures watched.failures (if progress then progress_text 0 reports else [])
+  pub shown : IsAddedIf (λ e. e.written) (λ e. e.failures) progress errors watched (progress_text 0 reports)
   pub ends : EndsAs (λ _. 0) watched errors_after (outcome_of outcome kept) result

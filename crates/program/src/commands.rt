@@ -1,11 +1,147 @@
-//! The commands: over streams, over inputs by their names, and as a command line asks for them.
+//! The commands, each as its arguments ask: it gives the exit status, and reports a fault in one line on the error output.
+ghost use Rattle.program.specs.Commands.{DoesBundle, DoesCheck, DoesServe, DoesSolve};
+ghost use Rattle.program.specs.Moments.{moment};
 
-mod named_inputs;
-mod streams;
-mod under_choice;
-mod with_options;
+use crate::answering::{answer, answer_pair, serve_chosen};
+use crate::files::FileSystem;
+use crate::host::Host;
+use crate::judging::{end_check, judge};
+use crate::opening::{
+    STDIN_NAME, choose, create_accounts, open_file, open_to_check, open_to_solve,
+};
+use crate::refusal::{Refusal, refuse};
+use crate::task::Task;
+use batch_run::{BundleInput, File};
+use command_args::{BundleArgs, CheckArgs, ServeArgs, SolveArgs};
+use fault_reports::end_with;
+use road_text::RoadWrite;
+use std::sync::Wait;
+use std::thread::Threads;
 
-pub use named_inputs::{bundle_stdin, check_files, serve_stdin, solve_files};
-pub use streams::{bundle, check, serve, solve};
-pub use with_options::algebra_of;
-pub(crate) use with_options::{bundle_with_options, serve_with_options, solve_with_options};
+/// Answers the questions of one input over the graph of another. The inputs are opened in the order of their names, and the file of
+/// accounts is created, before one is read.
+pub fn solve<'t, R: AllocGlobal + Threads + Wait + Sync, P: FileSystem, W: RoadWrite, E: RoadWrite>(
+    rt: &'t R,
+    host: &mut Host<P, W, E>,
+    args: &'t SolveArgs<'_>,
+) -> u8
+    ensures { DoesSolve P.File P.Stdin P.NewFile P.opens P.creates args.now
+        (moment W.written W.held W.failures E.written E.held E.failures host.old)
+        (moment W.written W.held W.failures E.written E.held E.failures host.new) result }
+{
+    let chosen = match choose(&args.options, args.watching.accounts.is_some()) {
+        Ok(chosen) => chosen,
+        Err(refusal) => return refuse(&mut host.errors, refusal),
+    };
+    let (mut graph, mut questions) = match open_to_solve(&mut host.files, args) {
+        Ok(opened) => opened,
+        Err(refusal) => return refuse(&mut host.errors, refusal),
+    };
+    let mut watching = match create_accounts(&mut host.files, &args.watching) {
+        Ok(watching) => watching,
+        Err(refusal) => return refuse(&mut host.errors, refusal),
+    };
+    let task = Task {
+        rt,
+        alloc: rt.alloc(),
+        settings: &args.options.settings,
+        chosen,
+    };
+    answer_pair(&task, &mut graph, &mut questions, host, &mut watching)
+}
+
+/// Answers the bundle on standard input. The file of accounts is created before it is read.
+pub fn bundle<
+    't,
+    R: AllocGlobal + Threads + Wait + Sync,
+    P: FileSystem,
+    W: RoadWrite,
+    E: RoadWrite,
+>(rt: &'t R, host: &mut Host<P, W, E>, args: &'t BundleArgs<'_>) -> u8
+    ensures { DoesBundle P.Stdin P.NewFile P.creates args.now
+        (moment W.written W.held W.failures E.written E.held E.failures host.old)
+        (moment W.written W.held W.failures E.written E.held E.failures host.new) result }
+{
+    let chosen = match choose(&args.options, args.watching.accounts.is_some()) {
+        Ok(chosen) => chosen,
+        Err(refusal) => return refuse(&mut host.errors, refusal),
+    };
+    let mut text = host.files.stdin();
+    let mut watching = match create_accounts(&mut host.files, &args.watching) {
+        Ok(watching) => watching,
+        Err(refusal) => return refuse(&mut host.errors, refusal),
+    };
+    let task = Task {
+        rt,
+        alloc: rt.alloc(),
+        settings: &args.options.settings,
+        chosen,
+    };
+    let mut input = BundleInput { bundle: &mut text };
+    answer(
+        &task,
+        &mut input,
+        &mut host.out,
+        &mut watching,
+        &mut host.errors,
+    )
+}
+
+/// Replies to the requests of standard input over the graph of a file, which is opened first.
+pub fn serve<'t, R: AllocGlobal + Threads + Wait + Sync, P: FileSystem, W: RoadWrite, E: RoadWrite>(
+    rt: &'t R,
+    host: &mut Host<P, W, E>,
+    args: &'t ServeArgs<'_>,
+) -> u8
+    ensures { DoesServe P.File P.Stdin P.opens args.now
+        (moment W.written W.held W.failures E.written E.held E.failures host.old)
+        (moment W.written W.held W.failures E.written E.held E.failures host.new) result }
+{
+    let chosen = match choose(&args.options, false) {
+        Ok(chosen) => chosen,
+        Err(refusal) => return refuse(&mut host.errors, refusal),
+    };
+    if args.graph == STDIN_NAME {
+        return refuse(&mut host.errors, Refusal::StdinTaken);
+    }
+    let mut graph = match open_file(&mut host.files, args.graph, File::Graph) {
+        Ok(graph) => graph,
+        Err(refusal) => return refuse(&mut host.errors, refusal),
+    };
+    let mut requests = host.files.stdin();
+    let task = Task {
+        rt,
+        alloc: rt.alloc(),
+        settings: &args.options.settings,
+        chosen,
+    };
+    let outcome = serve_chosen(&task, &mut graph, &mut requests, &mut host.out);
+    end_with(&mut host.errors, outcome)
+}
+
+/// Judges the answers of one input to the questions of another over the graph of a third. The inputs are opened in the order of
+/// their names before one is read.
+pub fn check<R: AllocGlobal + Threads + Sync, P: FileSystem, W: RoadWrite, E: RoadWrite>(
+    rt: &R,
+    host: &mut Host<P, W, E>,
+    args: &CheckArgs<'_>,
+) -> u8
+    ensures { DoesCheck P.File P.Stdin P.opens args.now
+        (moment W.written W.held W.failures E.written E.held E.failures host.old)
+        (moment W.written W.held W.failures E.written E.held E.failures host.new) result }
+{
+    let (mut graph, mut questions, mut answers) = match open_to_check(&mut host.files, args) {
+        Ok(opened) => opened,
+        Err(refusal) => return refuse(&mut host.errors, refusal),
+    };
+    let alloc = rt.alloc();
+    let judged = judge(
+        rt,
+        alloc,
+        &mut graph,
+        &mut questions,
+        &mut answers,
+        args.limit,
+    );
+    end_check(&mut host.out, &mut host.errors, judged)
+}

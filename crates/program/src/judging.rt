@@ -4,6 +4,5 @@ mod answers;
 mod verdicts;
 
 pub use answers::judge;
-pub(crate) use answers::judge_and_write;
 pub(crate) use verdicts::end_check;
 pub use verdicts::write_verdict;

@@ -7,7 +7,7 @@ use crate::fault::Fault;
 use crate::stops::Stops;
 use answer_check::{Verdict, check};
 use answer_text::read_answers;
-use batch_run::{OpenGate, Settings, run_bundle};
+use batch_run::{OpenGate, Run, Settings, Unwatched, run_bundle};
 use road_files::read_bundle;
 use road_text::Plain;
 use std::alloc::Global;
@@ -28,7 +28,13 @@ fn answered<R: Threads + Wait + Sync>(rt: &R, alloc: Global, bundle: &str) -> Re
     let mut input = Plain::new(bundle.as_bytes());
     let mut out = Plain::new(Vec::new(alloc));
     let settings = Settings::default();
-    run_bundle(rt, alloc, Stops, &mut input, &mut out, &settings, &OpenGate)?;
+    let run = Run {
+        rt,
+        alloc,
+        settings: &settings,
+        gate: &OpenGate,
+    };
+    run_bundle(&run, Stops, &mut input, &mut out, &mut Unwatched)?;
     Ok(out.into_inner())
 }
 

@@ -1,7 +1,9 @@
 //! What stops a batch, and what it leaves.
 use super::{FIVE, FROM_ONE, SHORTEST, assert_ended};
 use crate::texts::joined;
-use batch_run::{File, OpenGate, RunFault, Settings, fault_of_run, run_bundle, run_pair};
+use batch_run::{
+    File, OpenGate, Run, RunFault, Settings, Unwatched, fault_of_run, run_bundle, run_pair,
+};
 use path_algebra::Shortest;
 use road_text::{Plain, RoadRead, RoadWrite};
 use std::alloc::Global;
@@ -19,9 +21,13 @@ fn outcome_of_pair<R: Threads + Wait + Sync, G: RoadRead, Q: RoadRead, W: RoadWr
     questions: &mut Q,
     out: &mut W,
 ) -> Result<(), RunFault> {
-    run_pair(
-        rt, alloc, Shortest, graph, questions, out, settings, &OpenGate,
-    )
+    let run = Run {
+        rt,
+        alloc,
+        settings,
+        gate: &OpenGate,
+    };
+    run_pair(&run, Shortest, graph, questions, out, &mut Unwatched)
 }
 
 /// The outcome of one input.
@@ -32,7 +38,13 @@ fn outcome<R: Threads + Wait + Sync, B: RoadRead, W: RoadWrite>(
     input: &mut B,
     out: &mut W,
 ) -> Result<(), RunFault> {
-    run_bundle(rt, alloc, Shortest, input, out, settings, &OpenGate)
+    let run = Run {
+        rt,
+        alloc,
+        settings,
+        gate: &OpenGate,
+    };
+    run_bundle(&run, Shortest, input, out, &mut Unwatched)
 }
 
 fn fault(number: u8, file: File, line: u64) -> Result<(), RunFault> {

@@ -3,9 +3,7 @@ use super::gates::Closed;
 use super::workers::{SEVERAL, SLOW};
 use super::{FIVE, FROM_ONE, PAIRS};
 use crate::texts::joined;
-use batch_run::{
-    Gate, OpenGate, Report, RunFault, Settings, Watcher, run_bundle_watched, run_pair_watched,
-};
+use batch_run::{Gate, OpenGate, Report, Run, RunFault, Settings, Watcher, run_bundle, run_pair};
 use path_algebra::{PathAlgebra, Reach, Shortest};
 use road_graph::Vertex;
 use road_text::Plain;
@@ -85,17 +83,14 @@ fn watch_pair<A: PathAlgebra, R: Threads + Wait + Sync, T: Gate>(
     let mut out = Plain::new(Vec::new(alloc));
     let mut graph = Plain::new(inputs.0.as_bytes());
     let mut questions = Plain::new(inputs.1.as_bytes());
-    let ended = run_pair_watched(
+    let run = Run {
         rt,
         alloc,
-        algebra,
-        &mut graph,
-        &mut questions,
-        &mut out,
         settings,
         gate,
-        &mut notes,
-    );
+    };
+    let (graph, questions) = (&mut graph, &mut questions);
+    let ended = run_pair(&run, algebra, graph, questions, &mut out, &mut notes);
     (ended, notes)
 }
 
@@ -110,9 +105,13 @@ fn watch_bundle<A: PathAlgebra, R: Threads + Wait + Sync>(
     let mut notes = Notes::new(alloc);
     let mut out = Plain::new(Vec::new(alloc));
     let mut input = Plain::new(text.as_bytes());
-    let ended = run_bundle_watched(
-        rt, alloc, algebra, &mut input, &mut out, settings, &OpenGate, &mut notes,
-    );
+    let run = Run {
+        rt,
+        alloc,
+        settings,
+        gate: &OpenGate,
+    };
+    let ended = run_bundle(&run, algebra, &mut input, &mut out, &mut notes);
     (ended, notes)
 }
 

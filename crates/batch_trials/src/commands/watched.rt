@@ -1,8 +1,9 @@
 //! Accounts and progress of a batch.
 use super::{FIVE, FROM_ONE, SHORTEST, assert_run};
 use crate::texts::joined;
-use batch_run::Settings;
-use program::{AlgebraChoice, bundle_watched, solve_watched};
+use batch_run::{BatchInput, BundleInput, PairInput, Settings};
+use path_algebra::AlgebraChoice;
+use program::{Task, Watching, answer};
 use road_text::Plain;
 use std::process::Abort;
 use std::sync::Wait;
@@ -27,6 +28,29 @@ struct Said {
     status: u8,
 }
 
+/// Answers an input with so much room for accounts.
+fn answered<R: Abort + Threads + Wait + Sync, I: BatchInput>(
+    task: &Task<'_, R>,
+    input: &mut I,
+    room: usize,
+    progress: bool,
+) -> Said {
+    let mut watching = Watching {
+        accounts: Some(Sheet::new(task.alloc, room, true)),
+        progress,
+    };
+    let mut out = Plain::new(Vec::new(task.alloc));
+    let mut errors = Plain::new(Vec::new(task.alloc));
+    let status = answer(task, input, &mut out, &mut watching, &mut errors);
+    let sheet = watching.accounts.expect(task.rt, "accounts");
+    Said {
+        accounts: sheet.bytes,
+        out: out.into_inner(),
+        errors: errors.into_inner(),
+        status,
+    }
+}
+
 /// Answers questions over `FIVE` with so much room for accounts.
 fn solved(
     rt: &(impl Abort + AllocGlobal + Threads + Wait + Sync),
@@ -36,31 +60,17 @@ fn solved(
     room: usize,
     progress: bool,
 ) -> Said {
-    let mut accounts = Some(Sheet::new(rt.alloc(), room, true));
-    let mut out = Plain::new(Vec::new(rt.alloc()));
-    let mut errors = Plain::new(Vec::new(rt.alloc()));
-    let status = solve_watched(
-        rt,
-        rt.alloc(),
-        chosen,
-        settings,
-        &mut Plain::new(FIVE.as_bytes()),
-        &mut Plain::new(questions.as_bytes()),
-        &mut out,
-        &mut accounts,
-        progress,
-        &mut errors,
-    );
-    let accounts = match accounts {
-        Some(sheet) => sheet.bytes,
-        None => Vec::new(rt.alloc()),
+    let mut pair = PairInput {
+        graph: &mut Plain::new(FIVE.as_bytes()),
+        questions: &mut Plain::new(questions.as_bytes()),
     };
-    Said {
-        accounts,
-        out: out.into_inner(),
-        errors: errors.into_inner(),
-        status,
-    }
+    let task = Task {
+        rt,
+        alloc: rt.alloc(),
+        settings,
+        chosen,
+    };
+    answered(&task, &mut pair, room, progress)
 }
 
 /// Asserts what is counted of questions over `FIVE`.
@@ -120,22 +130,18 @@ fn accounts_of_five_vertices(rt: HostRuntime) {
 #[test]
 fn accounts_of_a_bundle(rt: HostRuntime) {
     let text = joined(&rt, &[FIVE, FROM_THREE]);
-    let mut accounts = Some(Sheet::new(rt.alloc(), ROOM, true));
-    let mut errors = Plain::new(Vec::new(rt.alloc()));
-    let status = bundle_watched(
-        &rt,
-        rt.alloc(),
-        AlgebraChoice::Reach,
-        &Settings::default(),
-        &mut Plain::new(text.as_str().as_bytes()),
-        &mut Plain::new(Vec::new(rt.alloc())),
-        &mut accounts,
-        false,
-        &mut errors,
-    );
-    assert_eq!(rt; status, 0);
-    let sheet = accounts.expect(&rt, "accounts");
-    assert_eq!(rt; sheet.bytes.as_slice(), COUNTS.as_bytes());
+    let mut input = BundleInput {
+        bundle: &mut Plain::new(text.as_str().as_bytes()),
+    };
+    let task = Task {
+        rt: &rt,
+        alloc: rt.alloc(),
+        settings: &Settings::default(),
+        chosen: AlgebraChoice::Reach,
+    };
+    let said = answered(&task, &mut input, ROOM, false);
+    assert_eq!(rt; said.status, 0);
+    assert_eq!(rt; said.accounts.as_slice(), COUNTS.as_bytes());
 }
 
 /// Asserts that accounts without room for all of them are a prefix, that this is reported, and that all is answered.

@@ -1,18 +1,18 @@
 //! How a verdict is written: its line on standard output, and the exit status.
-ghost use Rattle.std.specs.Prelude.{◌≡◌, ◌<◌, [], OnOk, IfErr, OnErr};
-ghost use Rattle.std.specs.Io.KnownBytes.{Appends};
-ghost use Rattle.program.specs.Verdicts.{verdict_text, verdict_status};
+ghost use Rattle.std.specs.Prelude.{◌≡◌};
 ghost use Rattle.batch_run.specs.Runs.{output};
-ghost use Rattle.fault_reports.specs.Reports.{EndsAs};
+ghost use Rattle.fault_reports.specs.Reports.{Reaches};
+ghost use Rattle.program.specs.Judgements.{EndsCheck};
+ghost use Rattle.program.specs.Verdicts.{verdict_text, verdict_status};
 
 use answer_check::Verdict;
-use batch_run::{File, RunFault, WRITE, fault_of_run};
-use fault_reports::report;
-use road_text::{Line, RoadWrite, push_spaced, write_bytes};
+use batch_run::RunFault;
+use fault_reports::{report, show};
+use road_text::{Line, RoadWrite, push_spaced};
 
 /// The line of a verdict.
 #[tactic(auto, unfolding(road_text::specs::Texts::spelled))]
-pub fn line_of_verdict(verdict: Verdict) -> Line
+fn line_of_verdict(verdict: Verdict) -> Line
     ensures { result.bytes ≡ verdict_text verdict }
 {
     let mut line = Line::new();
@@ -36,26 +36,15 @@ pub fn line_of_verdict(verdict: Verdict) -> Line
 }
 
 /// Writes the line of a verdict, and flushes it.
-#[tactic(auto, using(road_text::proofs::WriteLaws::passed_whole))]
 pub fn write_verdict<W: RoadWrite>(to: &mut W, verdict: Verdict) -> Result<(), RunFault>
-    ensures told { OnOk result (Appends (W.written to.old) (W.written to.new)
-        (verdict_text verdict)) }
-    ensures passed_on { OnOk result (W.held to.new ≡ []) }
-    ensures sound { OnOk result (W.failures to.new ≡ W.failures to.old) }
-    ensures fault { IfErr result (λ f. f ≡ record { number = 42; file = File.NoFile; line = 0 }) }
-    ensures write { OnErr result (W.failures to.old < W.failures to.new) }
+    ensures { Reaches (verdict_text verdict) (output W.written W.held W.failures to.old)
+        (output W.written W.held W.failures to.new) result }
 {
-    match write_bytes(to, line_of_verdict(verdict).as_str().as_bytes()) {
-        Ok(()) => match to.flush() {
-            Ok(()) => Ok(()),
-            Err(_) => Err(fault_of_run(WRITE)),
-        },
-        Err(_) => Err(fault_of_run(WRITE)),
-    }
+    show(to, line_of_verdict(verdict).as_str().as_bytes())
 }
 
 /// The exit status of a verdict.
-pub fn status_of_verdict(verdict: Verdict) -> u8
+fn status_of_verdict(verdict: Verdict) -> u8
     ensures { result ≡ verdict_status verdict }
 {
     match verdict {
@@ -64,14 +53,23 @@ pub fn status_of_verdict(verdict: Verdict) -> u8
     }
 }
 
-/// Ends a check: a fault is reported, and gives its status; else the verdict gives it.
-pub(crate) fn end_check<E: RoadWrite>(errors: &mut E, outcome: Result<Verdict, RunFault>) -> u8
-    ensures { EndsAs verdict_status
+/// Ends a check: the verdict is written, and gives the exit status; a fault is reported, and gives its own.
+pub(crate) fn end_check<W: RoadWrite, E: RoadWrite>(
+    out: &mut W,
+    errors: &mut E,
+    judged: Result<Verdict, RunFault>,
+) -> u8
+    ensures { EndsCheck judged
+        (output W.written W.held W.failures out.old) (output W.written W.held W.failures out.new)
         (output E.written E.held E.failures errors.old)
-        (output E.written E.held E.failures errors.new) outcome result }
+        (output E.written E.held E.failures errors.new) result }
 {
-    match outcome {
-        Ok(verdict) => status_of_verdict(verdict),
+    let verdict = match judged {
+        Ok(verdict) => verdict,
+        Err(fault) => return report(errors, fault),
+    };
+    match write_verdict(out, verdict) {
+        Ok(()) => status_of_verdict(verdict),
         Err(fault) => report(errors, fault),
     }
 }

@@ -1,6 +1,5 @@
 //! The text of accounts: what each diffusion of a batch counted.
-ghost use Rattle.std.specs.Prelude.{◌≡◌, ◌≤◌, length};
-ghost use Rattle.path_algebra.specs.Names.{name_text};
+ghost use Rattle.std.specs.Prelude.{◌≡◌};
 ghost use Rattle.road_text.specs.Written.{WritesText};
 ghost use Rattle.program.specs.Accounts.{account_of, account_text, counts_text, heading_text, owner_text};
 
@@ -8,15 +7,6 @@ use batch_run::Report;
 use path_algebra::AlgebraName;
 use road_text::{Line, RoadWrite, WriteFault, push_spaced, write_bytes};
 use shard_part::Tally;
-
-/// The word of an algebra.
-#[tactic(auto, using(crate::proofs::ShortNames::short_name))]
-fn word_of(name: AlgebraName) -> &'static str
-    ensures word { result.now ≡ name_text name }
-    ensures short { length result.now ≤ 10 }
-{
-    name.text()
-}
 
 /// The header before the accounts of so many diffusions.
 #[tactic(auto, unfolding(road_text::specs::Texts::spelled))]
@@ -27,7 +17,7 @@ fn line_of_heading(diffusions: u64, name: AlgebraName) -> Line
     line.push_str("p tally");
     push_spaced(&mut line, diffusions);
     line.push_str(" ");
-    line.push_str(word_of(name));
+    line.push_str(name.text());
     line.push_str("\n");
     line
 }

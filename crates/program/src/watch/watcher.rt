@@ -1,8 +1,8 @@
 //! What watches a batch for a command: it writes accounts and shows progress, each if it is wanted.
-ghost use Rattle.std.specs.Prelude.{◌≡◌, [], if◌then◌else◌};
+ghost use Rattle.std.specs.Prelude.{◌≡◌};
 ghost use Rattle.program.specs.Accounts.{account_of};
 ghost use Rattle.program.specs.Progress.{all_after, shown_at};
-ghost use Rattle.program.specs.Watching.{HasAccounts, IsAdded, Notes};
+ghost use Rattle.program.specs.Watching.{HasAccounts, IsAddedIf, Notes};
 
 use crate::watch::accounts::write_report;
 use crate::watch::progress::show_report;
@@ -58,8 +58,8 @@ fn all_after(all: u32, report: &Report) -> u32
 
 /// Shows what a report says of so many questions, if that is wanted.
 fn show<E: RoadWrite>(errors: &mut E, progress: bool, all: u32, report: &Report)
-    ensures { IsAdded (E.written errors.old) (E.written errors.new) (E.failures errors.old) (E.failures errors.new)
-        (if progress then shown_at all report.now else []) }
+    ensures { IsAddedIf E.written E.failures progress errors.old errors.new
+        (shown_at all report.now) }
 {
     if progress {
         show_report(errors, all, report);

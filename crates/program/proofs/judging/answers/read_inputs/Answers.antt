@@ -1,5 +1,4 @@
-use Rattle.std.proofs.Common.{◌≡◌, IfSome, Err, subst, arith}
-use Rattle.std.proofs.lemmas.Grind.{common_steps}
+use Rattle.std.proofs.Common.{◌≡◌, IfSome, Err, subst}
 use Rattle.std.proofs.Math.Path.{subst⁻¹}
 use Rattle.road_text.specs.Rules.{text_read}
 use Rattle.road_files.specs.Asked.{asked_of}
@@ -26,6 +25,3 @@ returns-in-Err-read_answers-clause-answers g c = λ _. subst⁻¹ (IsAnswersFaul
       fault = λ text. subst (λ n. IfSome (g.S.RoadRead.left c.args.answers_in.now) (λ b. text_read (answer_rules n) b ≡ Err c.in-Err-read_answers.fault)) c.vertices.ensures.count
           (c.in-Err-read_answers.ensures.fault text.0 text.1);
     })
-
-pub returns-in-Err-read_answers-clause-questions : goal.returns-in-Err-read_answers-clause-questions
-returns-in-Err-read_answers-clause-questions g c = grind (arith, common_steps)

@@ -1,0 +1,43 @@
+-- How a command ends, where its input is seen otherwise.
+use Rattle.std.specs.Prelude.{◌≡◌, ◌↔◌, ℕ, Bool, Option, Some, None, IsSome, Result}
+use Rattle.std.specs.Option.{option_map}
+use Rattle.std.proofs.Common.{List, ap, subst, true, false}
+use Rattle.road_graph.specs.GraphData.{GraphData}
+use Rattle.road_files.specs.Asked.{Asked}
+use Rattle.path_algebra.specs.declared.choice.AlgebraChoice.{AlgebraChoice}
+use Rattle.batch_run.specs.declared.faults.File.{File}
+use Rattle.batch_run.specs.declared.faults.RunFault.{RunFault}
+use Rattle.batch_run.specs.declared.settings.Settings.{Settings}
+use Rattle.batch_run.specs.Runs.{Output, output}
+use Rattle.program.specs.Progress.{progress_text}
+use Rattle.program.specs.Watching.{EndsWatched, IsAddedIf}
+
+-- what is made of something is there exactly if that is
+pub wanted_made : {S T : Type 0} (f : S → T) (made : Option S) (W : Type 0) → IsSome made ↔ W → IsSome (option_map f made) ↔ W
+wanted_made f None W is = is
+wanted_made f (Some a) W is = is
+
+-- what was shown of an error output was shown of it at its moments
+pub shown_as : {E : Type 0} (shown : E → Option (List ℕ)) (held : E → List ℕ) (unshown : E → ℕ) (progress : Bool) (old new : E) (text : List ℕ) →
+    IsAddedIf shown unshown progress old new text →
+    IsAddedIf {E = Output E} (λ x. x.written) (λ x. x.failures) progress (output shown held unshown old) (output shown held unshown new) text
+shown_as shown held unshown true old new text h = h
+shown_as shown held unshown false old new text h = ap (output shown held unshown) h
+
+-- another promise of how the input was read, and the same wish for progress
+module _ {W A E : Type 0} (chosen : AlgebraChoice) (settings : Settings) (p q : Bool) (IsRead : GraphData → Asked → Type 0) (inputs : File → Type 0)
+    (HasRead HasRead' : Result (Unit {0}) RunFault → Type 0) (out out_after : Output W) (accounts accounts_after : Option (Output A)) (errors errors_after : Output E) (result : ℕ) where
+  pub ends_as : p ≡ q → ((o : Result (Unit {0}) RunFault) → HasRead o → HasRead' o) →
+      EndsWatched chosen settings p IsRead inputs HasRead out out_after accounts accounts_after errors errors_after result →
+      EndsWatched chosen settings q IsRead inputs HasRead' out out_after accounts accounts_after errors errors_after result
+  ends_as e read ends = record {
+    outcome = ends.outcome;
+    ran = record { run = ends.ran.run; read = read ends.outcome ends.ran.read; ungated = ends.ran.ungated };
+    reports = ends.reports;
+    reported = ends.reported;
+    kept = ends.kept;
+    accounted = ends.accounted;
+    watched = ends.watched;
+    shown = subst (λ progress. IsAddedIf {E = Output E} (λ x. x.written) (λ x. x.failures) progress errors ends.watched (progress_text 0 ends.reports)) e ends.shown;
+    ends = ends.ends;
+  }

@@ -1,0 +1,56 @@
+use Rattle.std.proofs.Common.{◌≡◌, inl, inr, refl, rules, subst}
+use Rattle.std.specs.Prelude.{is_some}
+use Rattle.batch_run.specs.Runs.{input}
+use Rattle.program.specs.Inputs.{of_input}
+use Rattle.program.specs.Opening.{IsChosen}
+use Rattle.program.proofs.Ended.{ends_as, wanted_made}
+use Rattle.program.proofs.commands.solve.Goals as goal
+
+pub returns-in-Err-create_accounts : goal.returns-in-Err-create_accounts
+returns-in-Err-create_accounts g c =
+    let wanted : c.is_some.result ≡ is_some c.args.args.now.watching.accounts = search rules in
+    inr (
+      c.in-Ok.chosen,
+      subst (λ b. IsChosen c.args.args.now.options b c.in-Ok.chosen) wanted c.in-Ok.ensures.chosen,
+      inr (record {
+        opened = _;
+        first = input (of_input g.P.File.RoadRead.left g.P.Stdin.RoadRead.left) (of_input g.P.File.RoadRead.failures g.P.Stdin.RoadRead.failures)
+            (of_input g.P.File.RoadRead.asked g.P.Stdin.RoadRead.asked) c.in-Ok-open_to_solve.opened.0;
+        second = input (of_input g.P.File.RoadRead.left g.P.Stdin.RoadRead.left) (of_input g.P.File.RoadRead.failures g.P.Stdin.RoadRead.failures)
+            (of_input g.P.File.RoadRead.asked g.P.Stdin.RoadRead.asked) c.in-Ok-open_to_solve.opened.1;
+        order = c.in-Ok-open_to_solve.ensures.opened;
+        ends = inl (record {
+          refusal = c.in-Err-create_accounts.refusal;
+          why = (c.in-Err-create_accounts.ensures.creates, c.in-Err-create_accounts.ensures.fault);
+          unwritten = refl;
+          says = c.refuse-in-Err-create_accounts.ensures;
+        });
+      }),
+    )
+
+pub returns : goal.returns
+returns g c =
+    let wanted : c.is_some.result ≡ is_some c.args.args.now.watching.accounts = search rules in
+    inr (
+      c.in-Ok.chosen,
+      subst (λ b. IsChosen c.args.args.now.options b c.in-Ok.chosen) wanted c.in-Ok.ensures.chosen,
+      inr (record {
+        opened = _;
+        first = input (of_input g.P.File.RoadRead.left g.P.Stdin.RoadRead.left) (of_input g.P.File.RoadRead.failures g.P.Stdin.RoadRead.failures)
+            (of_input g.P.File.RoadRead.asked g.P.Stdin.RoadRead.asked) c.in-Ok-open_to_solve.opened.0;
+        second = input (of_input g.P.File.RoadRead.left g.P.Stdin.RoadRead.left) (of_input g.P.File.RoadRead.failures g.P.Stdin.RoadRead.failures)
+            (of_input g.P.File.RoadRead.asked g.P.Stdin.RoadRead.asked) c.in-Ok-open_to_solve.opened.1;
+        order = c.in-Ok-open_to_solve.ensures.opened;
+        ends = inr (record {
+          accounts = _;
+          accounts_after = _;
+          created = record {
+            tried = rw (c.answer_pair.ensures.files) c.in-Ok-create_accounts.ensures.creates;
+            wanted = wanted_made _ c.in-Ok-create_accounts.watching.accounts _ c.in-Ok-create_accounts.ensures.wanted;
+          };
+          first_after = _;
+          second_after = _;
+          ends = ends_as _ _ _ _ _ _ _ _ _ _ _ _ _ _ _ c.in-Ok-create_accounts.ensures.progress (λ o h. h) c.answer_pair.ensures.ends;
+        });
+      }),
+    )

@@ -1,0 +1,131 @@
+-- What the commands do: what they try, in what order, and what they then read and write.
+use Rattle.std.specs.Prelude.{◌≡◌, ◌≢◌, ℕ, ◌⊎◌, ◌↔◌, [], ◌∷◌, Option, Result, IsSome, is_some, false}
+use Rattle.answer_check.specs.declared.verdict.Verdict.{Verdict}
+use Rattle.path_algebra.specs.declared.choice.AlgebraChoice.{AlgebraChoice}
+use Rattle.path_algebra.specs.Choices.{Under}
+use Rattle.batch_run.specs.declared.faults.File.TheVariants.{Graph}
+use Rattle.batch_run.specs.declared.faults.RunFault.{RunFault}
+use Rattle.batch_run.specs.declared.settings.Settings.{Settings}
+use Rattle.batch_run.specs.Inputs.{HasReadBundle, HasReadPair}
+use Rattle.batch_run.specs.Ran.{IsBundleFile, IsBundleOf, IsPairFile, IsPairOf}
+use Rattle.batch_run.specs.Runs.{Input, Output}
+use Rattle.service.specs.Served.{RanService}
+use Rattle.command_args.specs.declared.parsed.BundleArgs.{BundleArgs}
+use Rattle.command_args.specs.declared.parsed.CheckArgs.{CheckArgs}
+use Rattle.command_args.specs.declared.parsed.ServeArgs.{ServeArgs}
+use Rattle.command_args.specs.declared.parsed.SolveArgs.{SolveArgs}
+use Rattle.command_args.specs.declared.parsed.WatchOptions.{WatchOptions}
+use Rattle.fault_reports.specs.Reports.{EndsAs}
+use Rattle.program.specs.declared.opened_input.OpenedInput.{OpenedInput}
+use Rattle.program.specs.declared.refusal.Refusal.{Refusal}
+use Rattle.program.specs.declared.refusal.Refusal.TheVariants.{Fault, StdinTaken}
+use Rattle.program.specs.Inputs.{stdin_name}
+use Rattle.program.specs.Judgements.{EndsCheck, RanJudge}
+use Rattle.program.specs.Moments.{Moment}
+use Rattle.program.specs.Opening.{CannotChoose, CannotCreate, CannotOpen, CreatesIf, HasOpened, IsChosen, Tries, accounts_name, inputs_judged, inputs_solved, missing}
+use Rattle.program.specs.Refusals.{Says}
+use Rattle.program.specs.Runs.{gate_is_open}
+use Rattle.program.specs.Watching.{EndsWatched}
+
+-- a command was refused, for a reason that leaves the files so: its output is as it was, and the reason is said
+pub record IsRefused {P W E : Type 0} (Why : P → Refusal → Type 0) (old new : Moment P W E) (result : ℕ) : Type 0 where
+  pub refusal : Refusal
+  pub why : Why new.files refusal
+  pub unwritten : new.out ≡ old.out
+  pub says : Says refusal old.errors new.errors result
+
+-- the file of accounts was created, if they are wanted
+pub record Creates {S P : Type 0} (creates : Tries P) (watching : WatchOptions) (accounts : Option (Output S)) (files files_after : P) : Type 0 where
+  pub tried : CreatesIf creates (accounts_name watching) files files_after
+  pub wanted : IsSome accounts ↔ IsSome watching.accounts
+
+-- the file of accounts was to be created, and can't be
+abbrev pub Uncreated : {P : Type 0} → Tries P → WatchOptions → P → P → Refusal → Type 0
+Uncreated creates watching files files_after refusal =
+    CreatesIf creates (accounts_name watching) files files_after × CannotCreate watching refusal
+
+-- both inputs were opened, and the file of accounts was created; then the questions were answered
+pub record SolvesOpened (F I S : Type 0) {P W E : Type 0} (creates : Tries P) (chosen : AlgebraChoice) (args : SolveArgs) (first second : Input (OpenedInput F I)) (opened : P) (old new : Moment P W E) (result : ℕ) : Type 0 where
+  pub accounts : Option (Output S)
+  pub accounts_after : Option (Output S)
+  pub created : Creates creates args.watching accounts opened new.files
+  pub first_after : Input (OpenedInput F I)
+  pub second_after : Input (OpenedInput F I)
+  pub ends : EndsWatched chosen args.options.settings args.watching.progress (IsPairOf first.left second.left) IsPairFile (HasReadPair first first_after second second_after)
+      old.out new.out accounts accounts_after old.errors new.errors result
+
+-- inputs were opened, or the first that can't be is reported; then the file of accounts was created, or that is reported; then the questions were answered
+pub record SolvesChosen (F I S : Type 0) {P W E : Type 0} (opens creates : Tries P) (chosen : AlgebraChoice) (args : SolveArgs) (old new : Moment P W E) (result : ℕ) : Type 0 where
+  pub opened : P
+  pub first : Input (OpenedInput F I)
+  pub second : Input (OpenedInput F I)
+  pub order : HasOpened opens (inputs_solved args) (first ∷ second ∷ []) old.files opened
+  pub ends : IsRefused (Uncreated creates args.watching opened) old new result
+      ⊎ SolvesOpened F I S creates chosen args first second opened old new result
+
+-- `solve` with these arguments, over files of this type, a standard input of that, and new files of a third
+abbrev pub DoesSolve : (F I S : Type 0) → {P W E : Type 0} → Tries P → Tries P → SolveArgs → Moment P W E → Moment P W E → ℕ → Type 0
+DoesSolve F I S opens creates args old new result =
+    IsRefused (λ files refusal. (files ≡ old.files) × CannotChoose args.options (is_some args.watching.accounts) refusal) old new result
+    ⊎ ((chosen : AlgebraChoice) × IsChosen args.options (is_some args.watching.accounts) chosen
+    × (IsRefused (CannotOpen opens (inputs_solved args) old.files) old new result
+    ⊎ SolvesChosen F I S opens creates chosen args old new result))
+
+-- the file of accounts was created; then the questions of standard input were answered, which nothing was read of before
+pub record BundlesStdin (I S : Type 0) {P W E : Type 0} (creates : Tries P) (chosen : AlgebraChoice) (args : BundleArgs) (old new : Moment P W E) (result : ℕ) : Type 0 where
+  pub text : Input I
+  pub text_after : Input I
+  pub unread : text.asked ≡ 0
+  pub accounts : Option (Output S)
+  pub accounts_after : Option (Output S)
+  pub created : Creates creates args.watching accounts old.files new.files
+  pub ends : EndsWatched chosen args.options.settings args.watching.progress (IsBundleOf text.left) IsBundleFile (HasReadBundle text text_after)
+      old.out new.out accounts accounts_after old.errors new.errors result
+
+-- `bundle` with these arguments
+abbrev pub DoesBundle : (I S : Type 0) → {P W E : Type 0} → Tries P → BundleArgs → Moment P W E → Moment P W E → ℕ → Type 0
+DoesBundle I S creates args old new result =
+    IsRefused (λ files refusal. (files ≡ old.files) × CannotChoose args.options (is_some args.watching.accounts) refusal) old new result
+    ⊎ ((chosen : AlgebraChoice) × IsChosen args.options (is_some args.watching.accounts) chosen
+    × (IsRefused (Uncreated creates args.watching old.files) old new result
+    ⊎ BundlesStdin I S creates chosen args old new result))
+
+-- the graph's file was opened, and then the requests of standard input were replied to; nothing was read of either before
+pub record ServesOpened (F I : Type 0) {P W E : Type 0} (chosen : AlgebraChoice) (settings : Settings) (old new : Moment P W E) (result : ℕ) : Type 0 where
+  pub roads : Input F
+  pub roads_after : Input F
+  pub requests : Input I
+  pub requests_after : Input I
+  pub unread : (roads.asked ≡ 0) × (requests.asked ≡ 0)
+  pub outcome : Result (Unit {0}) RunFault
+  pub ran : Under chosen (λ V A. RanService A settings gate_is_open roads roads_after requests requests_after old.out new.out outcome)
+  pub ends : EndsAs (λ _. 0) old.errors new.errors outcome result
+
+-- `serve` with these arguments. Standard input has the requests, so the graph can't be there
+abbrev pub DoesServe : (F I : Type 0) → {P W E : Type 0} → Tries P → ServeArgs → Moment P W E → Moment P W E → ℕ → Type 0
+DoesServe F I opens args old new result =
+    IsRefused (λ files refusal. (files ≡ old.files) × CannotChoose args.options false refusal) old new result
+    ⊎ ((chosen : AlgebraChoice) × IsChosen args.options false chosen
+    × (IsRefused (λ files refusal. (files ≡ old.files) × (args.graph.now ≡ stdin_name) × (refusal ≡ StdinTaken)) old new result
+    ⊎ ((args.graph.now ≢ stdin_name) × opens old.files args.graph.now new.files
+    × (IsRefused (λ _ refusal. refusal ≡ Fault (missing Graph)) old new result
+    ⊎ ServesOpened F I chosen args.options.settings old new result))))
+
+-- all three inputs were opened; then the answers were judged, and the verdict was written
+pub record ChecksOpened (F I : Type 0) {P W E : Type 0} (opens : Tries P) (args : CheckArgs) (old new : Moment P W E) (result : ℕ) : Type 0 where
+  pub first : Input (OpenedInput F I)
+  pub first_after : Input (OpenedInput F I)
+  pub second : Input (OpenedInput F I)
+  pub second_after : Input (OpenedInput F I)
+  pub third : Input (OpenedInput F I)
+  pub third_after : Input (OpenedInput F I)
+  pub order : HasOpened opens (inputs_judged args) (first ∷ second ∷ third ∷ []) old.files new.files
+  pub outcome : Result Verdict RunFault
+  pub judged : RanJudge args.limit first first_after second second_after third third_after outcome
+  pub ends : EndsCheck outcome old.out new.out old.errors new.errors result
+
+-- `check` with these arguments
+abbrev pub DoesCheck : (F I : Type 0) → {P W E : Type 0} → Tries P → CheckArgs → Moment P W E → Moment P W E → ℕ → Type 0
+DoesCheck F I opens args old new result =
+    IsRefused (CannotOpen opens (inputs_judged args) old.files) old new result
+    ⊎ ChecksOpened F I opens args old new result

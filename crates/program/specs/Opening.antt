@@ -1,0 +1,98 @@
+-- What a command tries before it reads: its words, the inputs of their names in order, and the file of accounts.
+use Rattle.std.specs.Prelude.{◌≡◌, ◌≢◌, ℕ, ◌⊎◌, List, [], ◌∷◌, Bool, true, Option, Some, None, IsSome, map}
+use Rattle.std.specs.Option.{option_map}
+use Rattle.path_algebra.specs.Names.{name_of_text}
+use Rattle.path_algebra.specs.Choices.{CannotBe, limit_of, name_of}
+use Rattle.path_algebra.specs.declared.choice.AlgebraChoice.{AlgebraChoice}
+use Rattle.batch_run.specs.declared.faults.File.{File}
+use Rattle.batch_run.specs.declared.faults.File.TheVariants.{Graph, Questions, Answers}
+use Rattle.batch_run.specs.declared.faults.RunFault.{RunFault}
+use Rattle.batch_run.specs.declared.settings.Settings.{Settings}
+use Rattle.batch_run.specs.Runs.{Input}
+use Rattle.command_args.specs.declared.parsed.CheckArgs.{CheckArgs}
+use Rattle.command_args.specs.declared.parsed.RunOptions.{RunOptions}
+use Rattle.command_args.specs.declared.parsed.SolveArgs.{SolveArgs}
+use Rattle.command_args.specs.declared.parsed.WatchOptions.{WatchOptions}
+use Rattle.fault_reports.specs.Reports.{run_fault}
+use Rattle.program.specs.Inputs.{NamesStdinOnce, IsNamed, stdin_name}
+use Rattle.program.specs.declared.opened_input.OpenedInput.{OpenedInput}
+use Rattle.program.specs.declared.refusal.Refusal.{Refusal}
+use Rattle.program.specs.declared.refusal.Refusal.TheVariants.{Uncounted, StdinTwice, Fault}
+
+-- accounts are wanted, and of the plain solver, which counts nothing
+abbrev pub IsUncounted : Bool → Settings → Type 0
+IsUncounted accounts settings = (accounts ≡ true) × (settings.plain ≡ true)
+
+-- this is the algebra that the options name, with their limit
+pub record IsChosen (options : RunOptions) (accounts : Bool) (chosen : AlgebraChoice) : Type 0 where
+  pub counted : IsUncounted accounts options.settings → ⊥
+  pub named : name_of_text options.algebra.now ≡ Some (name_of chosen)
+  pub limited : limit_of chosen ≡ options.limit
+
+-- accounts are wanted of the plain solver; or, if not, there is no algebra of that name with that limit, which is fault 43
+abbrev pub CannotChoose : RunOptions → Bool → Refusal → Type 0
+CannotChoose options accounts Uncounted = IsUncounted accounts options.settings
+CannotChoose options accounts (Fault f) =
+    (IsUncounted accounts options.settings → ⊥) × (f ≡ run_fault 43) × CannotBe (name_of_text options.algebra.now) options.limit
+CannotChoose options accounts _ = ⊥
+
+-- trying to open, or to create, the file of a name leads from one state of the files to another
+abbrev pub Tries : Type 0 → Type 1
+Tries P = P → List ℕ → P → Type 0
+
+-- the input of a name was tried: `-` is standard input, for which no file is opened; of another name the file was tried, once
+abbrev pub OpensInput : {P : Type 0} → Tries P → List ℕ → P → P → Type 0
+OpensInput opens name old new = ((name ≡ stdin_name) × (new ≡ old)) ⊎ ((name ≢ stdin_name) × opens old name new)
+
+-- names of inputs, each with what a fault calls the input
+abbrev pub Named : Type 0
+Named = List (List ℕ × File)
+
+-- those of `solve`, in order
+abbrev pub inputs_solved : SolveArgs → Named
+inputs_solved args = (args.graph.now, Graph) ∷ (args.questions.now, Questions) ∷ []
+
+-- those of `check`, in order
+abbrev pub inputs_judged : CheckArgs → Named
+inputs_judged args = (args.graph.now, Graph) ∷ (args.questions.now, Questions) ∷ (args.answers.now, Answers) ∷ []
+
+-- the inputs of these names were opened, in this order, and no other; none of them has been read
+abbrev pub AreOpened : {P F I : Type 0} → Tries P → Named → List (Input (OpenedInput F I)) → P → P → Type 0
+AreOpened opens [] [] old new = new ≡ old
+AreOpened {P} opens ((name, file) ∷ more) (i ∷ others) old new =
+    (next : P) × OpensInput opens name old next × IsNamed name i.state × (i.asked ≡ 0) × AreOpened opens more others next new
+AreOpened opens _ _ old new = ⊥
+
+-- standard input serves for one of them
+abbrev pub HasOpened : {P F I : Type 0} → Tries P → Named → List (Input (OpenedInput F I)) → P → P → Type 0
+HasOpened opens named opened old new = NamesStdinOnce (map (λ n. n.0) named) × AreOpened opens named opened old new
+
+-- a file that can't be opened is fault 1
+abbrev pub missing : File → RunFault
+missing file = record { number = 1; file = file; line = 0 }
+
+-- of the inputs of these names one can't be opened: those before it were tried, in this order, and then it, and no other
+abbrev pub IsMissing : {P : Type 0} → Tries P → Named → P → P → RunFault → Type 0
+IsMissing opens [] old new f = ⊥
+IsMissing {P} opens ((name, file) ∷ more) old new f =
+    ((f ≡ missing file) × (name ≢ stdin_name) × opens old name new)
+    ⊎ ((next : P) × OpensInput opens name old next × IsMissing opens more next new f)
+
+-- standard input is named more than once, and nothing was tried; or one of the inputs can't be opened
+abbrev pub CannotOpen : {P : Type 0} → Tries P → Named → P → P → Refusal → Type 0
+CannotOpen opens named old new StdinTwice = (NamesStdinOnce (map (λ n. n.0) named) → ⊥) × (new ≡ old)
+CannotOpen opens named old new (Fault f) = NamesStdinOnce (map (λ n. n.0) named) × IsMissing opens named old new f
+CannotOpen opens named old new _ = ⊥
+
+-- the file of this name was tried, if one is wanted, and no other
+abbrev pub CreatesIf : {P : Type 0} → Tries P → Option (List ℕ) → P → P → Type 0
+CreatesIf creates None old new = new ≡ old
+CreatesIf creates (Some name) old new = creates old name new
+
+-- the name of the file of accounts, if they are wanted
+abbrev pub accounts_name : WatchOptions → Option (List ℕ)
+accounts_name watching = option_map (λ name. name.now) watching.accounts
+
+-- the file of accounts that is wanted can't be created, which is fault 42
+abbrev pub CannotCreate : WatchOptions → Refusal → Type 0
+CannotCreate watching refusal = (refusal ≡ Fault (run_fault 42)) × IsSome watching.accounts

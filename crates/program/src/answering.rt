@@ -1,0 +1,164 @@
+//! Answers a batch or a service under the algebra that was chosen, and says how it ends.
+ghost use Rattle.std.specs.Prelude.{◌≡◌};
+ghost use Rattle.std.specs.Option.{option_map};
+ghost use Rattle.path_algebra.specs.Choices.{Under};
+ghost use Rattle.batch_run.specs.Inputs.{HasReadPair};
+ghost use Rattle.batch_run.specs.Ran.{IsPairFile, IsPairOf};
+ghost use Rattle.batch_run.specs.Reports.{Watched};
+ghost use Rattle.batch_run.specs.Runs.{Ran, input, output};
+ghost use Rattle.service.specs.Served.{RanService};
+ghost use Rattle.program.specs.Runs.{gate_is_open};
+ghost use Rattle.program.specs.Watching.{EndsAccounts, EndsWatched, outcome_of};
+
+use crate::host::Host;
+use crate::task::{Task, Watching};
+use crate::watch::Watch;
+use batch_run::{
+    BatchInput, OpenGate, PairInput, Run, RunFault, WRITE, Watcher, fault_of_run, run_batch,
+};
+use fault_reports::end_with;
+use path_algebra::with_algebra;
+use road_text::{RoadRead, RoadWrite};
+use service::run_service;
+use std::sync::Wait;
+use std::thread::Threads;
+
+/// Answers the questions of an input over its graph, under the chosen algebra, before a watcher.
+fn run_chosen<R: Threads + Wait + Sync, I: BatchInput, W: RoadWrite, O: Watcher>(
+    task: &Task<'_, R>,
+    input: &mut I,
+    out: &mut W,
+    watcher: &mut O,
+) -> Result<(), RunFault>
+    ensures run { Under task.now.chosen (λ V A. Ran A task.now.settings.now gate_is_open
+        (I.is_read input.old) I.is_own (output W.written W.held W.failures out.old)
+        (output W.written W.held W.failures out.new) result) }
+    ensures read { I.has_read input.old input.new result }
+    ensures watched { Under task.now.chosen (λ V A. Watched A task.now.settings.now
+        (I.is_read input.old) O.may_become watcher.old watcher.new result) }
+{
+    let gate = OpenGate;
+    let run = Run {
+        rt: task.rt,
+        alloc: task.alloc,
+        settings: task.settings,
+        gate: &gate,
+    };
+    with_algebra!(
+        task.chosen,
+        |algebra| run_batch(&run, algebra, input, out, watcher)
+    )
+}
+
+/// Replies to the requests of one input over the graph of another, to each as soon as it is whole, under the chosen algebra.
+pub(crate) fn serve_chosen<R: Threads + Wait + Sync, G: RoadRead, Q: RoadRead, W: RoadWrite>(
+    task: &Task<'_, R>,
+    graph: &mut G,
+    requests: &mut Q,
+    out: &mut W,
+) -> Result<(), RunFault>
+    ensures { Under task.now.chosen (λ V A. RanService A task.now.settings.now gate_is_open
+        (input G.left G.failures G.asked graph.old) (input G.left G.failures G.asked graph.new)
+        (input Q.left Q.failures Q.asked requests.old)
+        (input Q.left Q.failures Q.asked requests.new)
+        (output W.written W.held W.failures out.old)
+        (output W.written W.held W.failures out.new) result) }
+{
+    let gate = OpenGate;
+    let run = Run {
+        rt: task.rt,
+        alloc: task.alloc,
+        settings: task.settings,
+        gate: &gate,
+    };
+    with_algebra!(
+        task.chosen,
+        |algebra| run_service(&run, algebra, graph, requests, out)
+    )
+}
+
+/// The end of accounts: they are flushed, unless a write has failed.
+fn end_accounts<A: RoadWrite>(accounts: &mut Option<A>, lost: bool) -> Result<(), RunFault>
+    ensures { EndsAccounts A.written A.held A.failures accounts.old accounts.new lost result }
+{
+    let Some(to) = accounts else {
+        return Ok(());
+    };
+    if lost || to.flush().is_err() {
+        return Err(fault_of_run(WRITE));
+    }
+    Ok(())
+}
+
+/// The outcome of a command: a fault of the batch, or else one of the accounts.
+fn outcome_of(batch: Result<(), RunFault>, kept: Result<(), RunFault>) -> Result<(), RunFault>
+    ensures { result ≡ outcome_of batch kept }
+{
+    match batch {
+        Ok(()) => kept,
+        Err(fault) => Err(fault),
+    }
+}
+
+/// Answers the questions of an input over its graph, writes accounts and shows progress, each if it is wanted, and gives the exit
+/// status. A fault is reported last, in one line on the error output.
+pub fn answer<R: Threads + Wait + Sync, I: BatchInput, W: RoadWrite, A: RoadWrite, E: RoadWrite>(
+    task: &Task<'_, R>,
+    input: &mut I,
+    out: &mut W,
+    watching: &mut Watching<A>,
+    errors: &mut E,
+) -> u8
+    ensures { EndsWatched task.now.chosen task.now.settings.now watching.old.progress
+        (I.is_read input.old) I.is_own (I.has_read input.old input.new)
+        (output W.written W.held W.failures out.old) (output W.written W.held W.failures out.new)
+        (option_map (output A.written A.held A.failures) watching.old.accounts)
+        (option_map (output A.written A.held A.failures) watching.new.accounts)
+        (output E.written E.held E.failures errors.old)
+        (output E.written E.held E.failures errors.new) result }
+{
+    let mut watch = Watch {
+        name: task.chosen.name(),
+        accounts: &mut watching.accounts,
+        lost: false,
+        progress: watching.progress,
+        all: 0,
+        errors: &mut *errors,
+    };
+    let batch = run_chosen(task, input, out, &mut watch);
+    let lost = watch.lost;
+    let kept = end_accounts(&mut watching.accounts, lost);
+    end_with(errors, outcome_of(batch, kept))
+}
+
+/// Answers the questions of one input over the graph of another, as `answer` does.
+pub(crate) fn answer_pair<
+    R: Threads + Wait + Sync,
+    G: RoadRead,
+    Q: RoadRead,
+    P,
+    W: RoadWrite,
+    A: RoadWrite,
+    E: RoadWrite,
+>(
+    task: &Task<'_, R>,
+    graph: &mut G,
+    questions: &mut Q,
+    host: &mut Host<P, W, E>,
+    watching: &mut Watching<A>,
+) -> u8
+    ensures files { host.new.files ≡ host.old.files }
+    ensures ends { EndsWatched task.now.chosen task.now.settings.now watching.old.progress
+        (IsPairOf (G.left graph.old) (Q.left questions.old)) IsPairFile
+        (HasReadPair (input G.left G.failures G.asked graph.old) (input G.left G.failures G.asked graph.new)
+        (input Q.left Q.failures Q.asked questions.old) (input Q.left Q.failures Q.asked questions.new))
+        (output W.written W.held W.failures host.old.out)
+        (output W.written W.held W.failures host.new.out)
+        (option_map (output A.written A.held A.failures) watching.old.accounts)
+        (option_map (output A.written A.held A.failures) watching.new.accounts)
+        (output E.written E.held E.failures host.old.errors)
+        (output E.written E.held E.failures host.new.errors) result }
+{
+    let mut input = PairInput { graph, questions };
+    answer(task, &mut input, &mut host.out, watching, &mut host.errors)
+}

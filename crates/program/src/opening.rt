@@ -1,0 +1,167 @@
+//! What a command tries before it reads: its words, the inputs of their names in order, and the file of accounts.
+ghost use Rattle.std.specs.Prelude.{◌≡◌, ◌≢◌, ◌↔◌, [], ◌∷◌, IfOk, IfErr, IsSome, IsTrue, map};
+ghost use Rattle.batch_run.specs.Runs.{input};
+ghost use Rattle.program.specs.Inputs.{NamesStdinOnce, IsNamed, of_input, stdin_name};
+ghost use Rattle.program.specs.Opening.{CannotChoose, CannotCreate, CannotOpen, CreatesIf, HasOpened, IsChosen, IsMissing, OpensInput, accounts_name, inputs_judged, inputs_solved, missing};
+
+use crate::files::FileSystem;
+use crate::opened_input::OpenedInput;
+use crate::refusal::Refusal;
+use crate::task::Watching;
+use batch_run::{File, RunFault, SETTINGS, WRITE, fault_of_run};
+use command_args::{CheckArgs, RunOptions, SolveArgs, WatchOptions};
+use path_algebra::{AlgebraChoice, AlgebraName};
+use road_text::READ_FAILED;
+
+/// The name of standard input.
+pub(crate) const STDIN_NAME: &str = "-";
+
+/// The algebra that options ask for. They are refused if accounts are wanted of the plain solver, which counts nothing, and if
+/// the limit is missing or does not belong.
+pub fn choose(options: &RunOptions<'_>, accounts: bool) -> Result<AlgebraChoice, Refusal>
+    ensures chosen { IfOk result (IsChosen options.now accounts) }
+    ensures refused { IfErr result (CannotChoose options.now accounts) }
+{
+    if accounts && options.settings.plain {
+        return Err(Refusal::Uncounted);
+    }
+    match AlgebraName::from_text(options.algebra.as_bytes()) {
+        Some(name) => match AlgebraChoice::named(name, options.limit) {
+            Some(chosen) => Ok(chosen),
+            None => Err(Refusal::Fault(fault_of_run(SETTINGS))),
+        },
+        None => Err(Refusal::Fault(fault_of_run(SETTINGS))),
+    }
+}
+
+/// Whether standard input is named at most once.
+fn names_stdin_once(names: &[&str]) -> bool
+    ensures { IsTrue result ↔ NamesStdinOnce (map (λ name. name.now) names.now) }
+{
+    names.iter().filter(|name| STDIN_NAME == **name).count() <= 1
+}
+
+/// The fault of a file that can't be opened.
+fn missing(file: File) -> RunFault
+    ensures { result ≡ missing file }
+{
+    RunFault {
+        number: READ_FAILED,
+        file,
+        line: 0,
+    }
+}
+
+/// Opens the file of a name.
+pub(crate) fn open_file<P: FileSystem>(
+    files: &mut P,
+    path: &str,
+    file: File,
+) -> Result<P::File, Refusal>
+    ensures opens { P.opens files.old path.now files.new }
+    ensures unread { IfOk result (λ opened. P.File.asked opened ≡ 0) }
+    ensures fault { IfErr result (λ r. r ≡ Refusal.Fault (missing file)) }
+{
+    match files.open(path) {
+        Ok(opened) => Ok(opened),
+        Err(_) => Err(Refusal::Fault(missing(file))),
+    }
+}
+
+/// Opens the input of a name: standard input, or a file.
+fn open<P: FileSystem>(
+    files: &mut P,
+    path: &str,
+    file: File,
+) -> Result<OpenedInput<P::File, P::Stdin>, Refusal>
+    ensures opens { OpensInput P.opens path.now files.old files.new }
+    ensures named { IfOk result (IsNamed path.now) }
+    ensures unread { IfOk result (λ opened. of_input P.File.asked P.Stdin.asked opened ≡ 0) }
+    ensures fault { IfErr result (λ r. (r ≡ Refusal.Fault (missing file)) × (path.now ≢ stdin_name)) }
+{
+    if path == STDIN_NAME {
+        return Ok(OpenedInput::Stdin(files.stdin()));
+    }
+    let opened = open_file(files, path, file)?;
+    Ok(OpenedInput::File(opened))
+}
+
+/// Opens the inputs of `solve` in order: a graph, and questions.
+pub(crate) fn open_to_solve<P: FileSystem>(
+    files: &mut P,
+    args: &SolveArgs<'_>,
+) -> Result<
+    (
+        OpenedInput<P::File, P::Stdin>,
+        OpenedInput<P::File, P::Stdin>,
+    ),
+    Refusal,
+>
+    ensures opened { let seen = input (of_input P.File.left P.Stdin.left)
+        (of_input P.File.failures P.Stdin.failures) (of_input P.File.asked P.Stdin.asked) in
+        IfOk result (λ i. HasOpened P.opens (inputs_solved args.now) (seen i.0 ∷ seen i.1 ∷ [])
+        files.old files.new) }
+    ensures refused { IfErr result (CannotOpen P.opens (inputs_solved args.now) files.old
+        files.new) }
+{
+    if !names_stdin_once(&[args.graph, args.questions]) {
+        return Err(Refusal::StdinTwice);
+    }
+    let graph = open(files, args.graph, File::Graph)?;
+    let questions = open(files, args.questions, File::Questions)?;
+    Ok((graph, questions))
+}
+
+/// Opens the inputs of `check` in order: a graph, questions, and answers.
+pub(crate) fn open_to_check<P: FileSystem>(
+    files: &mut P,
+    args: &CheckArgs<'_>,
+) -> Result<
+    (
+        OpenedInput<P::File, P::Stdin>,
+        OpenedInput<P::File, P::Stdin>,
+        OpenedInput<P::File, P::Stdin>,
+    ),
+    Refusal,
+>
+    ensures opened { let seen = input (of_input P.File.left P.Stdin.left)
+        (of_input P.File.failures P.Stdin.failures) (of_input P.File.asked P.Stdin.asked) in
+        IfOk result (λ i. HasOpened P.opens (inputs_judged args.now)
+        (seen i.0 ∷ seen i.1 ∷ seen i.2 ∷ []) files.old files.new) }
+    ensures refused { IfErr result (CannotOpen P.opens (inputs_judged args.now) files.old
+        files.new) }
+{
+    if !names_stdin_once(&[args.graph, args.questions, args.answers]) {
+        return Err(Refusal::StdinTwice);
+    }
+    let graph = open(files, args.graph, File::Graph)?;
+    let questions = open(files, args.questions, File::Questions)?;
+    let answers = open(files, args.answers, File::Answers)?;
+    Ok((graph, questions, answers))
+}
+
+/// Creates the file of accounts, if they are wanted.
+pub(crate) fn create_accounts<P: FileSystem>(
+    files: &mut P,
+    options: &WatchOptions<'_>,
+) -> Result<Watching<P::NewFile>, Refusal>
+    ensures creates { CreatesIf P.creates (accounts_name options.now) files.old files.new }
+    ensures wanted { IfOk result (λ w. IsSome w.accounts ↔ IsSome options.now.accounts) }
+    ensures progress { IfOk result (λ w. w.progress ≡ options.now.progress) }
+    ensures fault { IfErr result (CannotCreate options.now) }
+{
+    let progress = options.progress;
+    match options.accounts {
+        None => Ok(Watching {
+            accounts: None,
+            progress,
+        }),
+        Some(path) => match files.create(path) {
+            Ok(file) => Ok(Watching {
+                accounts: Some(file),
+                progress,
+            }),
+            Err(_) => Err(Refusal::Fault(fault_of_run(WRITE))),
+        },
+    }
+}

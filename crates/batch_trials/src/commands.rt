@@ -167,8 +167,9 @@ fn settings_said(alloc: Global, settings: &Settings) -> Result<String, AllocErro
         budget,
         turns,
         plain,
+        best_first,
     } = *settings;
-    format!(in alloc; "{workers} {shards} {width} {budget} {turns} {plain}")
+    format!(in alloc; "{workers} {shards} {width} {budget} {turns} {plain} {best_first}")
 }
 
 /// How a bundle is run, as a command line says, in words; or `wrong`.
@@ -190,12 +191,13 @@ fn assert_settings(rt: &(impl Abort + AllocGlobal), options: &str, wanted: &str)
 #[test]
 fn settings_of_a_command_line(rt: HostRuntime) {
     for &(options, wanted) in &[
-        ("--workers 4", "4 4 1 1024 1000000000000 false"),
-        ("--workers 1 --plain", "1 4 1 1024 1000000000000 true"),
-        ("--workers 64 --shards 1", "64 1 1 1024 1000000000000 false"),
-        ("--shards=64 --width 64", "4 64 64 1024 1000000000000 false"),
-        ("--budget 1 --turns 0", "4 4 1 1 0 false"),
-        ("--budget 65536", "4 4 1 65536 1000000000000 false"),
+        ("--workers 4", "4 4 1 1024 1000000000000 false false"),
+        ("--workers 1 --plain", "1 4 1 1024 1000000000000 true false"),
+        ("--best-first", "4 4 1 1024 1000000000000 false true"),
+        ("--workers 64 --shards 1", "64 1 1 1024 1000000000000 false false"),
+        ("--shards=64 --width 64", "4 64 64 1024 1000000000000 false false"),
+        ("--budget 1 --turns 0", "4 4 1 1 0 false false"),
+        ("--budget 65536", "4 4 1 65536 1000000000000 false false"),
         ("--workers 0", "wrong"),
         ("--workers 65", "wrong"),
         ("--shards 0", "wrong"),

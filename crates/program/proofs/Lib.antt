@@ -1,3 +1,4 @@
+mod Chosen
 mod Ungated
 mod AccountLines
 mod Adding

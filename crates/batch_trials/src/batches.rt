@@ -309,6 +309,7 @@ fn any_settings_in_range(rt: HostRuntime) {
             budget,
             turns,
             plain: false,
+            best_first: false,
         };
         assert_both_ways(&rt, Shortest, &settings, FIVE, FROM_ONE, SHORTEST);
     }

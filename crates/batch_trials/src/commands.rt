@@ -194,8 +194,14 @@ fn settings_of_a_command_line(rt: HostRuntime) {
         ("--workers 4", "4 4 1 1024 1000000000000 false false"),
         ("--workers 1 --plain", "1 4 1 1024 1000000000000 true false"),
         ("--best-first", "4 4 1 1024 1000000000000 false true"),
-        ("--workers 64 --shards 1", "64 1 1 1024 1000000000000 false false"),
-        ("--shards=64 --width 64", "4 64 64 1024 1000000000000 false false"),
+        (
+            "--workers 64 --shards 1",
+            "64 1 1 1024 1000000000000 false false",
+        ),
+        (
+            "--shards=64 --width 64",
+            "4 64 64 1024 1000000000000 false false",
+        ),
         ("--budget 1 --turns 0", "4 4 1 1 0 false false"),
         ("--budget 65536", "4 4 1 65536 1000000000000 false false"),
         ("--workers 0", "wrong"),

@@ -17,7 +17,7 @@ pub run_group-requires-clause-own : goal.run_group-requires-clause-own
 run_group-requires-clause-own g c κs within =
     let at = (goal.at.run_group-requires-clause-own g c).In_ok-floors in
     λ q d low. rw c.as_slice.ensures.value
-    (opened_placed g.A.PathAlgebra.meaning (λ q. setup_of c.args.batch.now.algebra c.args.batch.now.graph.now (get_or c.args.sources.now q 0) c.args.plan.now c.order.result)
+    (opened_placed g.A.PathAlgebra.meaning (λ q. setup_of c.args.batch.now.algebra c.args.batch.now.graph.now (get_or c.args.sources.now q 0) c.args.plan.now c.order-order.result)
     c.in_ok-floors.floors.items c.in_ok-floors.opened.items
     (length c.args.sources.now) (floors_are g at) (λ q f v low. c.in_ok-floors.ensures.opened q 0 f v low) q d (rw c.in_ok-floors.ensures.stations at low))
 
@@ -29,13 +29,16 @@ loop-k-init g c =
     record {
       floors = omega (arith, f);
       lists = omega (arith, l);
-      each = λ q s e v low.
-          run_ended g.A.PathAlgebra.meaning (λ q. setup_of c.args.batch.now.algebra c.args.batch.now.graph.now (get_or c.args.sources.now q s) c.args.plan.now c.order.result)
-          c.in_ok-floors.floors.items c.in_ok-floors.opened.items
-          (length c.args.sources.now) f (λ q f v low. c.in_ok-floors.ensures.opened q s f v low) c.in_ok-lists.lists.items
-          (λ q k d e low. c.in_ok-lists.ensures.all q k d e (rw c.in_ok-floors.ensures.stations low))
-          (λ q d low. rw c.as_slice.ensures.value at (c.in_ok-lists.ensures.done q d (rw c.in_ok-floors.ensures.stations low)))
-          q e v (rw f at low);
+      each = (
+        c.order-order.result,
+        λ q s e v low.
+            run_ended g.A.PathAlgebra.meaning (λ q. setup_of c.args.batch.now.algebra c.args.batch.now.graph.now (get_or c.args.sources.now q s) c.args.plan.now c.order-order.result)
+            c.in_ok-floors.floors.items c.in_ok-floors.opened.items
+            (length c.args.sources.now) f (λ q f v low. c.in_ok-floors.ensures.opened q s f v low) c.in_ok-lists.lists.items
+            (λ q k d e low. c.in_ok-lists.ensures.all q k d e (rw c.in_ok-floors.ensures.stations low))
+            (λ q d low. rw c.as_slice.ensures.value at (c.in_ok-lists.ensures.done q d (rw c.in_ok-floors.ensures.stations low)))
+            q e v (rw f at low),
+      );
       gathered = rw c.new-gathered.ensures.items (All-nil (IsGatheredOver (g.A.PathAlgebra.meaning c.args.batch.now.algebra) c.args.batch.now.graph.now));
       sources = rw c.new-gathered.ensures.items (sym (drop_all (length c.args.sources.now - 0) c.args.sources.now (omega arith)));
     }
@@ -54,8 +57,8 @@ gathered_from-requires-after_bounds g c κs within =
     let low = c.loop-k-test.true in
     let same : length c.loop-k.floors.items ≡ length c.loop-k.lists.items = omega (arith, was.floors, was.lists) in
     let place : length c.take_last-last.new.floors.items ≡ length c.args.sources.now - 1 - c.loop-k.k = omega (arith, nf, was.floors, low) in (
-      c.order.result,
-      last_ended c.args.batch.now.algebra c.args.batch.now.graph.now c.args.plan.now c.order.result c.args.sources.now _ _ _ _ _ _ last.floors last.lists.1 same was.each
+      was.each.0,
+      last_ended c.args.batch.now.algebra c.args.batch.now.graph.now c.args.plan.now was.each.0 c.args.sources.now _ _ _ _ _ _ last.floors last.lists.1 same was.each.1
           c.take_last-last.result.stations.items c.take_last-last.result.source last.lists.2
           (rw (place, last.source) (sym c.index-sources-sources.is)),
     )
@@ -73,7 +76,7 @@ loop-k-preserved g c =
     record {
       floors = omega (arith, nf, was.floors);
       lists = omega (arith, nl, was.lists);
-      each = others_ended c.args.batch.now.algebra c.args.batch.now.graph.now c.args.plan.now c.order.result c.args.sources.now _ _ _ _ _ _ last.floors last.lists.1 same was.each;
+      each = (was.each.0, others_ended c.args.batch.now.algebra c.args.batch.now.graph.now c.args.plan.now was.each.0 c.args.sources.now _ _ _ _ _ _ last.floors last.lists.1 same was.each.1);
       gathered = rw c.in-Ok.ensures.items (All-push (IsGatheredOver (g.A.PathAlgebra.meaning c.args.batch.now.algebra) c.args.batch.now.graph.now) c.loop-k.gathered.items next was.gathered
           c.in_ok-next.ensures.gathered);
       sources = place_before c.args.sources.now (sources_in_order c.loop-k.gathered.items) (sources_in_order c.push.new.self.items) c.loop-k.k source low c.index-sources-sources.is was.sources

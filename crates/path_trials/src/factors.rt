@@ -53,34 +53,37 @@ fn assert_labels<A: PathAlgebra>(
     }
 }
 
-/// The labels of a factor by this order.
+/// The labels of a factor by this order, from three sources, which may be the same.
 fn labels_by<A: ComposingAlgebra>(
     rt: &(impl Abort + AllocGlobal),
     algebra: A,
     graph: &OutGraph,
     order: Vec<Vertex>,
-    sources: &[Vertex],
+    sources: [Vertex; 3],
 ) -> Labels<A::Value> {
+    let [a, b, c] = sources;
+    assert!(rt; graph.has(a) && graph.has(b) && graph.has(c));
     let factors = Factors::build(rt.alloc(), algebra, graph, order)
         .expect(rt, "memory")
         .expect(rt, "an order");
-    for s in sources {
-        assert!(rt; graph.has(*s));
-    }
-    factors.solve_by(rt.alloc(), sources).expect(rt, "memory")
+    factors
+        .solve_by(rt.alloc(), &[a, b, c])
+        .expect(rt, "memory")
 }
 
 /// Asserts the labels of the five vertices in all orders.
 fn assert_five(
     rt: &(impl Abort + AllocGlobal),
     cost: Cost,
-    sources: &[Vertex],
+    sources: [u32; 3],
     wanted: &[Option<u64>],
 ) {
     let graph = graph_of(rt, 5, &FIVE);
     let algebra = CountedSums::new(cost, 3).expect(rt, "bits");
     for number in 0..120 {
         let order = order_of(rt, 5, number);
+        let [a, b, c] = sources;
+        let sources = [Vertex(a), Vertex(b), Vertex(c)];
         let labels = labels_by(rt, algebra, graph.outgoing(), order, sources);
         assert_labels(rt, algebra, &labels, wanted);
     }
@@ -90,11 +93,11 @@ fn assert_five(
 #[test]
 fn five_vertices_in_all_orders(rt: HostRuntime) {
     let from_one = [Some(0), Some(26), Some(9), Some(67), None];
-    assert_five(&rt, Cost::Weight, &[Vertex(1)], &from_one);
+    assert_five(&rt, Cost::Weight, [1, 1, 1], &from_one);
     let by_arcs = [Some(0), Some(9), Some(9), Some(18), None];
-    assert_five(&rt, Cost::One, &[Vertex(1)], &by_arcs);
+    assert_five(&rt, Cost::One, [1, 1, 1], &by_arcs);
     let from_both = [Some(0), Some(26), Some(9), Some(67), Some(0)];
-    assert_five(&rt, Cost::Weight, &[Vertex(5), Vertex(1), Vertex(5)], &from_both);
+    assert_five(&rt, Cost::Weight, [5, 1, 5], &from_both);
 }
 
 /// Asserts that substitution and search find the same from each vertex, in some orders and the one by least degree.
@@ -108,18 +111,18 @@ fn assert_as_searched(
     let graph = graph.outgoing();
     let algebra = CountedSums::new(cost, 6).expect(rt, "bits");
     for s in 1..=n {
-        let sources = [Vertex(s)];
-        assert!(rt; graph.has(Vertex(s)));
-        let wanted = solve_outgoing(rt.alloc(), algebra, graph, &sources).expect(rt, "memory");
+        let s = Vertex(s);
+        assert!(rt; graph.has(s));
+        let wanted = solve_outgoing(rt.alloc(), algebra, graph, &[s]).expect(rt, "memory");
         for number in 0..5 {
             let order = order_of(rt, n, number * 1009);
-            let labels = labels_by(rt, algebra, graph, order, &sources);
+            let labels = labels_by(rt, algebra, graph, order, [s, s, s]);
             assert_same(rt, algebra, n, &labels, &wanted);
         }
         let order = least_degree_order(rt.alloc(), graph)
             .expect(rt, "memory")
             .expect(rt, "sparse");
-        let labels = labels_by(rt, algebra, graph, order, &sources);
+        let labels = labels_by(rt, algebra, graph, order, [s, s, s]);
         assert_same(rt, algebra, n, &labels, &wanted);
     }
 }

@@ -10,6 +10,8 @@ mod cores;
 #[cfg(test)]
 mod ends;
 #[cfg(test)]
+mod factors;
+#[cfg(test)]
 mod graphs;
 #[cfg(test)]
 mod pairs;

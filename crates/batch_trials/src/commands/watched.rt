@@ -4,7 +4,7 @@ use crate::texts::joined;
 use batch_run::{BatchInput, BundleInput, PairInput, Settings};
 use path_algebra::AlgebraChoice;
 use program::{Task, Watching, answer};
-use road_text::Plain;
+use road_text::{Plain, RoadRead};
 use std::process::Abort;
 use std::sync::Wait;
 use std::thread::Threads;
@@ -51,6 +51,18 @@ fn answered<R: Abort + Threads + Wait + Sync, I: BatchInput>(
     }
 }
 
+/// Answers the questions of one input over the graph of another with so much room for accounts.
+fn answered_pair<R: Abort + Threads + Wait + Sync, G: RoadRead, Q: RoadRead>(
+    task: &Task<'_, R>,
+    graph: &mut G,
+    questions: &mut Q,
+    room: usize,
+    progress: bool,
+) -> Said {
+    let mut pair = PairInput { graph, questions };
+    answered(task, &mut pair, room, progress)
+}
+
 /// Answers questions over `FIVE` with so much room for accounts.
 fn solved(
     rt: &(impl Abort + AllocGlobal + Threads + Wait + Sync),
@@ -60,17 +72,15 @@ fn solved(
     room: usize,
     progress: bool,
 ) -> Said {
-    let mut pair = PairInput {
-        graph: &mut Plain::new(FIVE.as_bytes()),
-        questions: &mut Plain::new(questions.as_bytes()),
-    };
+    let mut graph = Plain::new(FIVE.as_bytes());
+    let mut questions = Plain::new(questions.as_bytes());
     let task = Task {
         rt,
         alloc: rt.alloc(),
         settings,
         chosen,
     };
-    answered(&task, &mut pair, room, progress)
+    answered_pair(&task, &mut graph, &mut questions, room, progress)
 }
 
 /// Asserts what is counted of questions over `FIVE`.

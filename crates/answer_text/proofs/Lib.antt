@@ -1,6 +1,5 @@
 pub mod VertexLines
 mod Blocks
-mod ShortWords
 pub mod OneAnswer
 mod ListFields
 mod HeldAnswerLines

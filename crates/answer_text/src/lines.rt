@@ -1,6 +1,5 @@
 //! Lines of an answer text, each built before it is written.
-ghost use Rattle.std.specs.Prelude.{◌≡◌, ◌≤◌, length};
-ghost use Rattle.path_algebra.specs.Names.{name_text};
+ghost use Rattle.std.specs.Prelude.{◌≡◌};
 ghost use Rattle.road_text.specs.Texts.{spelled};
 ghost use Rattle.answer_text.specs.AnswerText.{found_words, header_words, pair_words, source_words};
 
@@ -8,14 +7,6 @@ use path_algebra::AlgebraName;
 use road_files::Kind;
 use road_graph::Vertex;
 use road_text::{Line, push_number, push_spaced};
-
-#[tactic(auto, using(crate::proofs::ShortWords::short_name))]
-fn word_of_name(name: AlgebraName) -> &'static str
-    ensures word { result.now ≡ name_text name }
-    ensures short { length result.now ≤ 10 }
-{
-    name.text()
-}
 
 /// The header before `count` answers.
 #[tactic(auto, unfolding(road_text::specs::Texts::spelled))]
@@ -27,7 +18,7 @@ pub fn line_of_header(kind: Kind, count: u32, name: AlgebraName) -> Line
     line.push_str(kind.word());
     push_spaced(&mut line, u64::from(count));
     line.push_str(" ");
-    line.push_str(word_of_name(name));
+    line.push_str(name.text());
     line.push_str("\n");
     line
 }

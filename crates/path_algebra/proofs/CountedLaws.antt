@@ -225,7 +225,7 @@ module _ (g : GraphData) (roads : IsGraph g) (sources : List ℕ) (inside : All 
       extend_is = λ x w y e fits. let sum : min (x + cost w) (2 ^ 63) ≡ y = cc in omega (arith, sum, fits);
     }
 
-    number_fits : (v x : ℕ) → IsBest (counted cost k) g sources v x → x / 2 ^ k ≤ 2 ^ 63 - 1
+    pub number_fits : (v x : ℕ) → IsBest (counted cost k) g sources v x → x / 2 ^ k ≤ 2 ^ 63 - 1
     number_fits v x best =
         let least = core.sum_is_least g cost sources (held_sums name cost) (2 ^ 63 - 1) held_sums_least roads in_s (2 ^ k) fit.few v x (number_at v x best) in
         (held_sums_least.least_if_best v (x / 2 ^ k) (best_if_least g cost name sources light v (x / 2 ^ k) least)).1

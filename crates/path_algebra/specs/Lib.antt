@@ -10,3 +10,5 @@ pub mod Open
 pub mod Composition
 pub mod Counted
 pub mod CountedWalks
+pub mod Carried
+pub mod WidthThenHops

@@ -1,7 +1,10 @@
 //! What a path algebra is.
-ghost use Rattle.std.specs.Prelude.{◌≡◌, Bool};
+ghost use Rattle.std.specs.Prelude.{◌≡◌, Bool, IfSome};
 ghost use Rattle.path_algebra.specs.Algebra.{Algebra, IsOrder, IsLawful};
+ghost use Rattle.path_algebra.specs.Carried.{IsCarried};
+ghost use Rattle.path_algebra.specs.Counted.{cost_of};
 
+use crate::counted_sums::Cost;
 use crate::name::AlgebraName;
 
 /// The values of walks, how one more arc changes a value, and which of two values is no worse.
@@ -51,6 +54,14 @@ pub trait PathAlgebra: Copy + Send + Sync {
     /// rests: solvers choose by it between ways to the same answer.
     fn ties_mostly(self) -> bool {
         false
+    }
+
+    /// What an arc costs, if the best values are the least sums of what arcs cost; otherwise none. Such
+    /// values are carried by counted numbers, and a graph can be factored for them.
+    fn cost(self) -> Option<Cost>
+        ensures { IfSome result (λ cost. IsCarried (meaning self) (cost_of cost)) }
+    {
+        None
     }
 
     /// The order is that of the meaning.

@@ -1,5 +1,6 @@
 //! Least numbers of arcs.
 use crate::algebra::PathAlgebra;
+use crate::counted_sums::Cost;
 use crate::name::AlgebraName;
 
 /// The greatest value.
@@ -52,5 +53,9 @@ impl PathAlgebra for Hops {
 
     fn name(self) -> AlgebraName {
         AlgebraName::Hops
+    }
+
+    fn cost(self) -> Option<Cost> {
+        Some(Cost::One)
     }
 }

@@ -2,11 +2,12 @@
 //! calls it if its own proof needs the theorem.
 ghost use Rattle.std.specs.Prelude.{◌≡◌, ℕ, ◌↔◌, ◌++◌, List, All, Bool, Option, Some, IsTrue, length};
 ghost use Rattle.road_graph.specs.GraphData.{GraphData, IsGraph, HasVertex};
-ghost use Rattle.path_algebra.specs.Algebra.{IsLawful};
+ghost use Rattle.path_algebra.specs.Algebra.{Algebra, IsLawful};
 ghost use Rattle.path_algebra.specs.Given.{shortest};
 ghost use Rattle.path_algebra.specs.Names.{name_text, name_of_text};
 ghost use Rattle.path_algebra.specs.SimpleWalks.{ListsSimpleWalks, simple_walks};
 ghost use Rattle.path_algebra.specs.Walks.{better_label, label_of, AreBest, AreClosed, AreMarksOfTight, IsBest, IsLeastSum, IsWalkValue, is_marked};
+ghost use Rattle.path_algebra.specs.WidthThenHops.{IsWidthThenHops};
 
 use crate::algebra::PathAlgebra;
 use crate::name::AlgebraName;
@@ -85,4 +86,10 @@ pub fn shortest_values_are_least_sums(graph: &Graph)
 pub fn simple_walks_are_listed()
     ensures { (g : GraphData) (s v : ℕ) → IsGraph g → HasVertex g s →
         ListsSimpleWalks g s v (simple_walks g s v) }
+{}
+
+/// Widths whose ties are decided by the number of arcs are not lawful: after a narrow arc, a wider walk
+/// of more arcs is the worse one.
+pub fn width_then_hops_is_not_lawful()
+    ensures { (A : Algebra (ℕ × ℕ)) → IsWidthThenHops A → IsLawful A → ⊥ }
 {}

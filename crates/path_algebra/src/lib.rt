@@ -31,6 +31,7 @@ pub use labels::Labels;
 pub use laws::{
     best_values_are_unique, closed_labels_are_best, laws_hold, merged_labels_are_best,
     names_are_read_back, shortest_values_are_least_sums, simple_walks_are_listed, tight_arcs_reach,
+    width_then_hops_is_not_lawful,
 };
 pub use name::AlgebraName;
 pub use numbers::best_numbers_carry_hops;

@@ -1,5 +1,6 @@
 //! Least sums of weights.
 use crate::algebra::PathAlgebra;
+use crate::counted_sums::Cost;
 use crate::name::AlgebraName;
 
 /// The greatest value.
@@ -53,5 +54,9 @@ impl PathAlgebra for Shortest {
 
     fn name(self) -> AlgebraName {
         AlgebraName::Shortest
+    }
+
+    fn cost(self) -> Option<Cost> {
+        Some(Cost::Weight)
     }
 }

@@ -2,6 +2,7 @@
 ghost use Rattle.std.specs.Prelude.{◌≤◌, ◌^◌};
 
 use crate::algebra::PathAlgebra;
+use crate::counted_sums::Cost;
 use crate::name::AlgebraName;
 
 /// The greatest limit.
@@ -78,5 +79,9 @@ impl PathAlgebra for Within {
 
     fn name(self) -> AlgebraName {
         AlgebraName::Within
+    }
+
+    fn cost(self) -> Option<Cost> {
+        Some(Cost::Weight)
     }
 }

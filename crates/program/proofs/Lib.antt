@@ -1,4 +1,3 @@
-mod Chosen
 mod Ungated
 mod AccountLines
 mod Adding

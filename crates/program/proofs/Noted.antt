@@ -13,7 +13,7 @@ use Rattle.batch_run.specs.declared.watcher.Report.{Report}
 use Rattle.batch_run.specs.Reports.{FollowsReports, ReportedFirst, Watched}
 use Rattle.path_algebra.specs.declared.choice.AlgebraChoice.{AlgebraChoice}
 use Rattle.path_algebra.specs.Choices.{Under}
-use Rattle.program.proofs.Chosen.{under_some}
+use Rattle.path_algebra.proofs.Chosen.{under_some}
 use Rattle.program.specs.declared.watch.watcher.Watch.{Watch}
 use Rattle.program.specs.Accounts.{accounts_text}
 use Rattle.program.specs.Progress.{all_after, progress_text, shown_at}

@@ -1,0 +1,6 @@
+use Rattle.path_algebra.specs.Names.{Shortest}
+use Rattle.path_algebra.proofs.Carried.{held_carried}
+use Rattle.path_algebra.proofs.shortest.ShortestPathAlgebra.cost.Goals as goal
+
+pub returns : goal.returns
+returns c = held_carried Shortest (λ w. w)

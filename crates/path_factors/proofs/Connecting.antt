@@ -9,6 +9,7 @@ use Rattle.path_algebra.proofs.Least.{same_no_worse}
 use Rattle.path_factors.specs.declared.link.Link.{Link}
 use Rattle.path_factors.specs.Factors.{FactorData, LeadsNoWorse, IsWorthOfWalk, IsClosedAt, row_of, vertex_at}
 use Rattle.path_factors.specs.Eliminating.{AreImproved, IsBegun, Improves}
+use Rattle.path_factors.specs.Edges.{LinkRows, AreEdgesImproved}
 use Rattle.path_factors.proofs.Substitution.{IsWalk-append, Extends-append}
 
 module _ {V W : Type 0} (A : Algebra V) (C : Composition V W) (composes : IsComposition A C) (g : GraphData) where
@@ -210,3 +211,35 @@ module _ {V W : Type 0} (C : Composition V W) (ordered : IsOrder C.no_worse) whe
 
       pub down_leads : LeadsNoWorse C lower x y a
       down_leads = (improved.row.has.0, inr improved.row.has.1, improved.row.has.2)
+
+  -- both ways between a lesser place and a greater one
+  module _ (A : Algebra V) (g : GraphData) (F : FactorData W) (begun : IsBegun A C g F) (x y : ℕ) (there back : W)
+      (onward : IsWorthOfWalk A C g (vertex_at F x) (vertex_at F y) there) (homeward : IsWorthOfWalk A C g (vertex_at F y) (vertex_at F x) back)
+      (less : x < y) (low : y < g.vertices) (rows : LinkRows W)
+      (improved : AreEdgesImproved C (record { leaving = F.leaving; entering = F.entering }) x (record { place = y; leaving = there; entering = back }) rows) where
+    abbrev half : FactorData W
+    half = upper A g F begun x y there onward less low rows.leaving improved.leaving
+
+    half_begun : IsBegun A C g half
+    half_begun = up_begun A g F begun x y there onward less low rows.leaving improved.leaving
+
+    abbrev whole : FactorData W
+    whole = record { order = F.order; places = F.places; leaving = rows.leaving; entering = rows.entering }
+
+    pub both_begun : IsBegun A C g whole
+    both_begun = down_begun A g half half_begun y x back homeward less low rows.entering improved.entering
+
+    second : (least : ℕ) → least ≤ x → Improves C least half whole
+    second least h = down_improves A g half half_begun y x back homeward less low rows.entering improved.entering least h
+
+    pub both_improve : (least : ℕ) → least ≤ x → Improves C least F whole
+    both_improve least h =
+        improves_more least F half whole (up_improves A g F begun x y there onward less low rows.leaving improved.leaving least h) (second least h)
+
+    pub both_there : LeadsNoWorse C whole x y there
+    both_there =
+        still_leads 0 half whole (second 0 (omega arith)) x y there
+        (up_leads A g F begun x y there onward less low rows.leaving improved.leaving)
+
+    pub both_back : LeadsNoWorse C whole y x back
+    both_back = down_leads A g half half_begun y x back homeward less low rows.entering improved.entering

@@ -1,106 +1,200 @@
--- The elimination of a place, link by link.
+-- The elimination of a place, edge by edge.
 use Rattle.std.proofs.Common.{◌≡◌, ℕ, ◌+◌, ◌<◌, ◌≤◌, inl, inr, List, length, get_or, ap, sym, ◌∙◌, subst, arith}
 use Rattle.std.specs.Prelude.{Contains}
-use Rattle.std.proofs.lemmas.Bool.{cases_lt}
-use Rattle.std.proofs.lemmas.List.{get_or_default}
+use Rattle.std.proofs.lemmas.Bool.{cases_eq, cases_lt}
+use Rattle.std.proofs.lemmas.List.{get_or_default, get_or-map, length-map}
 use Rattle.path_algebra.specs.Algebra.{IsOrder}
 use Rattle.path_algebra.specs.Composition.{Composition}
 use Rattle.path_factors.specs.declared.link.Link.{Link}
+use Rattle.path_factors.specs.declared.edge.Edge.{Edge}
 use Rattle.path_factors.specs.Factors.{FactorData, Rises, Falls, LeadsNoWorse, IsClosedAt, row_of}
 use Rattle.path_factors.specs.Eliminating.{Improves, AreClosedTo}
+use Rattle.path_factors.specs.Edges.{rising, falling, AreAligned, IsEdgeAt, AreJoined}
 use Rattle.path_factors.proofs.Connecting.{still_leads, improves_none, improves_more, improves_lower, stays_closed}
 
--- the link from was joined with the first j that rise from v
-pub record Passed {V W : Type 0} (C : Composition V W) (v : ℕ) (from : Link W) (F G : FactorData W) (j : ℕ) : Type 0 where
+-- the edge at index i was joined with those after it, up to index j
+pub record Passed {V W : Type 0} (C : Composition V W) (v i : ℕ) (F G : FactorData W) (j : ℕ) : Type 0 where
   pub improves : Improves C (v + 1) F G
-  pub past : (k : Link W) (i : ℕ) → i < j → get_or (row_of F.leaving v) i k ≡ k → (from.place ≡ k.place → ⊥) →
-      LeadsNoWorse C G from.place k.place (C.compose from.walk k.walk)
+  pub joined : (q : ℕ) (e f : Edge W) → i < q → q < j → IsEdgeAt F v i e → IsEdgeAt F v q f → AreJoined C G e f
 
--- the first j links that fall to v were joined with each that rises from it
-pub record Eliminated {V W : Type 0} (C : Composition V W) (v : ℕ) (F G : FactorData W) (j : ℕ) : Type 0 where
+-- the first i edges of v were joined with each after them
+pub record Eliminated {V W : Type 0} (C : Composition V W) (v : ℕ) (F G : FactorData W) (i : ℕ) : Type 0 where
   pub improves : Improves C (v + 1) F G
-  pub past : (k : Link W) (i : ℕ) → i < j → get_or (row_of F.entering v) i k ≡ k → (y : ℕ) (b : W) → Rises F v y b →
-      (k.place ≡ y → ⊥) → LeadsNoWorse C G k.place y (C.compose k.walk b)
+  pub joined : (p q : ℕ) (e f : Edge W) → p < i → p < q → IsEdgeAt F v p e → IsEdgeAt F v q f → AreJoined C G e f
 
 -- each place below k was eliminated
 pub record EliminatedTo {V W : Type 0} (C : Composition V W) (F G : FactorData W) (k : ℕ) : Type 0 where
   pub improves : Improves C 0 F G
   pub closed : AreClosedTo C G k
 
+module _ {W : Type 0} where
+  -- the same edge in the same rows
+  pub edge_same : (F G : FactorData W) (v j : ℕ) (e : Edge W) → row_of G.leaving v ≡ row_of F.leaving v →
+      row_of G.entering v ≡ row_of F.entering v → IsEdgeAt F v j e → IsEdgeAt G v j e
+  edge_same F G v j e up down at = record {
+    leaving_inside = let lt = at.leaving_inside in let n = ap length up in omega (arith, lt, n);
+    entering_inside = let lt = at.entering_inside in let n = ap length down in omega (arith, lt, n);
+    rises = ap (λ (r : List (Link W)). get_or r j (rising e)) up ∙ at.rises;
+    falls = ap (λ (r : List (Link W)). get_or r j (falling e)) down ∙ at.falls;
+  }
+
+  -- the links of an edge
+  pub edge_rises : (F : FactorData W) (v j : ℕ) (e : Edge W) → IsEdgeAt F v j e → Rises F v e.place e.leaving
+  edge_rises F v j e at = (j, at.leaving_inside, at.rises)
+
+  pub edge_falls : (F : FactorData W) (v j : ℕ) (e : Edge W) → IsEdgeAt F v j e → Falls F e.place v e.entering
+  edge_falls F v j e at = (j, at.entering_inside, at.falls)
+
+  -- one index has one edge
+  pub edge_unique : (F : FactorData W) (v j : ℕ) (e f : Edge W) → IsEdgeAt F v j e → IsEdgeAt F v j f → e ≡ f
+  edge_unique F v j e f at also =
+      let up : rising e ≡ rising f =
+      sym at.rises ∙ get_or_default (row_of F.leaving v) j (rising e) (rising f) at.leaving_inside ∙ also.rises in
+      let down : falling e ≡ falling f =
+      sym at.falls ∙ get_or_default (row_of F.entering v) j (falling e) (falling f) at.entering_inside ∙ also.falls in
+      λ i. record { place = (up i).place; leaving = (up i).walk; entering = (down i).walk }
+
+  -- rows that are aligned have the same place at an index
+  module _ (F : FactorData W) (aligned : AreAligned F.leaving F.entering) (v : ℕ) where
+    pub aligned_count : length (row_of F.leaving v) ≡ length (row_of F.entering v)
+    aligned_count =
+        let n = length-map (row_of F.leaving v) (λ k. k.place) in
+        let m = length-map (row_of F.entering v) (λ k. k.place) in
+        let same = ap length (aligned v) in
+        omega (arith, n, m, same)
+
+    pub aligned_place : (j : ℕ) (d c : Link W) → j < length (row_of F.leaving v) →
+        (get_or (row_of F.leaving v) j d).place ≡ (get_or (row_of F.entering v) j c).place
+    aligned_place j d c lt =
+        let n = aligned_count in
+        sym (get_or-map (λ k. k.place) (row_of F.leaving v) j d 0 lt)
+        ∙ ap (λ (r : List ℕ). get_or r j 0) (aligned v)
+        ∙ get_or-map (λ k. k.place) (row_of F.entering v) j c 0 (omega (arith, lt, n))
+
+    -- the edge of a link
+    pub edge_of_riser : (y : ℕ) (b : W) (h : Rises F v y b) → (e : Edge W) × IsEdgeAt F v h.0 e × (rising e ≡ record { place = y; walk = b })
+    edge_of_riser y b h =
+        let k : Link W = record { place = y; walk = b } in
+        let other = get_or (row_of F.entering v) h.0 k in
+        let lt = h.1 in
+        let n = aligned_count in
+        let low : h.0 < length (row_of F.entering v) = omega (arith, lt, n) in
+        let place : other.place ≡ y = sym (aligned_place h.0 k k h.1) ∙ ap (λ (l : Link W). l.place) h.2 in
+        let link : record { place = y; walk = other.walk } ≡ other = λ i. record { place = (sym place) i; walk = other.walk } in (
+          record { place = y; leaving = b; entering = other.walk },
+          record {
+            leaving_inside = h.1;
+            entering_inside = low;
+            rises = h.2;
+            falls = get_or_default (row_of F.entering v) h.0 (record { place = y; walk = other.walk }) k low ∙ sym link;
+          },
+          λ i. k,
+        )
+
+    pub edge_of_faller : (x : ℕ) (a : W) (h : Falls F x v a) → (e : Edge W) × IsEdgeAt F v h.0 e × (falling e ≡ record { place = x; walk = a })
+    edge_of_faller x a h =
+        let k : Link W = record { place = x; walk = a } in
+        let other = get_or (row_of F.leaving v) h.0 k in
+        let lt = h.1 in
+        let n = aligned_count in
+        let low : h.0 < length (row_of F.leaving v) = omega (arith, lt, n) in
+        let place : other.place ≡ x = aligned_place h.0 k k low ∙ ap (λ (l : Link W). l.place) h.2 in
+        let link : record { place = x; walk = other.walk } ≡ other = λ i. record { place = (sym place) i; walk = other.walk } in (
+          record { place = x; leaving = other.walk; entering = a },
+          record {
+            leaving_inside = low;
+            entering_inside = h.1;
+            rises = get_or_default (row_of F.leaving v) h.0 (record { place = x; walk = other.walk }) k low ∙ sym link;
+            falls = h.2;
+          },
+          λ i. k,
+        )
+
 module _ {V W : Type 0} (C : Composition V W) (ordered : IsOrder C.no_worse) where
-  -- the element at one place is one
-  one_at : (xs ys : List (Link W)) (j : ℕ) (k l : Link W) → ys ≡ xs → j < length xs → get_or xs j k ≡ k → l ≡ get_or ys j l → l ≡ k
-  one_at xs ys j k l same lt e f = f ∙ ap (λ (r : List (Link W)). get_or r j l) same ∙ get_or_default xs j l k lt ∙ e
+  still_joined : (low : ℕ) (F G : FactorData W) → Improves C low F G → (e f : Edge W) → AreJoined C F e f → AreJoined C G e f
+  still_joined low F G improves e f joined = λ other. (
+    still_leads C ordered low F G improves e.place f.place (C.compose e.entering f.leaving) (joined other).0,
+    still_leads C ordered low F G improves f.place e.place (C.compose f.entering e.leaving) (joined other).1,
+  )
 
   module _ (v : ℕ) where
-    pub passed_none : (from : Link W) (F : FactorData W) → Passed C v from F F 0
-    passed_none from F = record {
+    pub passed_none : (i : ℕ) (F : FactorData W) → Passed C v i F F (i + 1)
+    passed_none i F = record {
       improves = improves_none C ordered (v + 1) F;
-      past = λ k i low e other. absurd (omega arith);
+      joined = λ q e f less low at also. absurd (omega (arith, less, low));
     }
 
-    pub passed_more : (from : Link W) (F G H : FactorData W) (j : ℕ) (to : Link W) → Passed C v from F G j →
-        j < length (row_of G.leaving v) → to ≡ get_or (row_of G.leaving v) j to → Improves C (v + 1) G H →
-        ((from.place ≡ to.place → ⊥) → LeadsNoWorse C H from.place to.place (C.compose from.walk to.walk)) →
-        Passed C v from F H (j + 1)
-    passed_more from F G H j to done lt is improves leads =
-        let same = done.improves.leaving v (omega arith) in
-        let n = ap length same in
-        record {
-          improves = improves_more C ordered (v + 1) F G H done.improves improves;
-          past = λ k i low e other. elim (cases_lt i j) [
-            | inl before ↦
-                still_leads C ordered (v + 1) G H improves from.place k.place (C.compose from.walk k.walk) (done.past k i before e other)
-            | inr not_before ↦
-                let at_j : i ≡ j = omega (arith, not_before, low) in
-                let here : get_or (row_of F.leaving v) j k ≡ k = ap (λ (m : ℕ). get_or (row_of F.leaving v) m k) (sym at_j) ∙ e in
-                let one = one_at (row_of F.leaving v) (row_of G.leaving v) j k to same (omega (arith, lt, n)) here is in
-                subst (λ (l : Link W). LeadsNoWorse C H from.place l.place (C.compose from.walk l.walk)) one
-                (leads (λ f. other (f ∙ ap (λ (l : Link W). l.place) one)))
-          ];
-        }
+    -- the row of v stays the same
+    pub edge_kept : (F G : FactorData W) → Improves C (v + 1) F G → (j : ℕ) (e : Edge W) → IsEdgeAt F v j e → IsEdgeAt G v j e
+    edge_kept F G improves j e at =
+        edge_same F G v j e (improves.leaving v (omega arith)) (improves.entering v (omega arith)) at
 
-    pub passed_all : (from : Link W) (F G : FactorData W) (j : ℕ) → Passed C v from F G j → length (row_of F.leaving v) ≤ j →
-        (y : ℕ) (b : W) → Rises F v y b → (from.place ≡ y → ⊥) → LeadsNoWorse C G from.place y (C.compose from.walk b)
-    passed_all from F G j done all y b rises other =
-        let low = rises.1 in
-        done.past (record { place = y; walk = b }) rises.0 (omega (arith, low, all)) rises.2 other
+    pub edge_back : (F G : FactorData W) → Improves C (v + 1) F G → (j : ℕ) (e : Edge W) → IsEdgeAt G v j e → IsEdgeAt F v j e
+    edge_back F G improves j e at =
+        edge_same G F v j e (sym (improves.leaving v (omega arith))) (sym (improves.entering v (omega arith))) at
+
+    pub passed_more : (i : ℕ) (F G H : FactorData W) (j : ℕ) (first second : Edge W) → Passed C v i F G j →
+        IsEdgeAt F v i first → IsEdgeAt G v j second → Improves C (v + 1) G H → AreJoined C H first second →
+        Passed C v i F H (j + 1)
+    passed_more i F G H j first second done at_i at_j improves joined = record {
+      improves = improves_more C ordered (v + 1) F G H done.improves improves;
+      joined = λ q e f less low at also. elim (cases_lt q j) [
+        | inl before ↦ still_joined (v + 1) G H improves e f (done.joined q e f less before at also)
+        | inr not_before ↦
+            let is : q ≡ j = omega (arith, not_before, low) in
+            let one = edge_unique F v i first e at_i at in
+            let here : IsEdgeAt F v j f = subst (λ (k : ℕ). IsEdgeAt F v k f) is also in
+            let two = edge_unique F v j second f (edge_back F G done.improves j second at_j) here in
+            subst (λ (k : Edge W). AreJoined C H k f) one (subst (λ (k : Edge W). AreJoined C H first k) two joined)
+      ];
+    }
 
     pub eliminated_none : (F : FactorData W) → Eliminated C v F F 0
     eliminated_none F = record {
       improves = improves_none C ordered (v + 1) F;
-      past = λ k i low e y b rises other. absurd (omega arith);
+      joined = λ p q e f low less at also. absurd (omega arith);
     }
 
-    pub eliminated_more : (F G H : FactorData W) (j : ℕ) (from : Link W) → Eliminated C v F G j →
-        j < length (row_of G.entering v) → from ≡ get_or (row_of G.entering v) j from → Improves C (v + 1) G H →
-        ((y : ℕ) (b : W) → Rises G v y b → (from.place ≡ y → ⊥) → LeadsNoWorse C H from.place y (C.compose from.walk b)) →
-        Eliminated C v F H (j + 1)
-    eliminated_more F G H j from done lt is improves past =
-        let same = done.improves.entering v (omega arith) in
-        let risers = done.improves.leaving v (omega arith) in
-        let n = ap length same in
-        record {
-          improves = improves_more C ordered (v + 1) F G H done.improves improves;
-          past = λ k i low e y b rises other. elim (cases_lt i j) [
-            | inl before ↦
-                still_leads C ordered (v + 1) G H improves k.place y (C.compose k.walk b) (done.past k i before e y b rises other)
-            | inr not_before ↦
-                let at_j : i ≡ j = omega (arith, not_before, low) in
-                let here : get_or (row_of F.entering v) j k ≡ k = ap (λ (m : ℕ). get_or (row_of F.entering v) m k) (sym at_j) ∙ e in
-                let one = one_at (row_of F.entering v) (row_of G.entering v) j k from same (omega (arith, lt, n)) here is in
-                let there : Rises G v y b = subst (λ (r : List (Link W)). Contains r (record { place = y; walk = b })) (sym risers) rises in
-                subst (λ (l : Link W). LeadsNoWorse C H l.place y (C.compose l.walk b)) one
-                (past y b there (λ f. other (ap (λ (l : Link W). l.place) (sym one) ∙ f)))
-          ];
-        }
+    pub eliminated_more : (F G H : FactorData W) (i : ℕ) → Eliminated C v F G i → Improves C (v + 1) G H →
+        ((j : ℕ) (e f : Edge W) → i < j → IsEdgeAt G v i e → IsEdgeAt G v j f → AreJoined C H e f) →
+        Eliminated C v F H (i + 1)
+    eliminated_more F G H i done improves passed = record {
+      improves = improves_more C ordered (v + 1) F G H done.improves improves;
+      joined = λ p q e f low less at also. elim (cases_lt p i) [
+        | inl before ↦ still_joined (v + 1) G H improves e f (done.joined p q e f before less at also)
+        | inr not_before ↦
+            let is : p ≡ i = omega (arith, not_before, low) in
+            let here : IsEdgeAt F v i e = subst (λ (k : ℕ). IsEdgeAt F v k e) is at in
+            passed q e f (omega (arith, is, less)) (edge_kept F G done.improves i e here) (edge_kept F G done.improves q f also)
+      ];
+    }
 
-    pub eliminated_all : (F G : FactorData W) (j : ℕ) → Eliminated C v F G j → length (row_of F.entering v) ≤ j → IsClosedAt C G v
-    eliminated_all F G j done all = λ x y a b falls rises other.
+    pub eliminated_all : (F G : FactorData W) → AreAligned F.leaving F.entering → (i : ℕ) → Eliminated C v F G i →
+        length (row_of F.leaving v) ≤ i → IsClosedAt C G v
+    eliminated_all F G aligned i done all = λ x y a b falls rises other.
         let before : Falls F x v a = subst (λ (r : List (Link W)). Contains r (record { place = x; walk = a })) (done.improves.entering v (omega arith)) falls in
         let onward : Rises F v y b = subst (λ (r : List (Link W)). Contains r (record { place = y; walk = b })) (done.improves.leaving v (omega arith)) rises in
-        let low = before.1 in
-        done.past (record { place = x; walk = a }) before.0 (omega (arith, low, all)) before.2 y b onward other
+        let e = edge_of_faller F aligned v x a before in
+        let f = edge_of_riser F aligned v y b onward in
+        let from : e.0.place ≡ x = ap (λ (l : Link W). l.place) e.2 in
+        let to : f.0.place ≡ y = ap (λ (l : Link W). l.place) f.2 in
+        let apart : e.0.place ≡ f.0.place → ⊥ = λ is. other (sym from ∙ is ∙ to) in
+        let leads : LeadsNoWorse C G e.0.place f.0.place (C.compose e.0.entering f.0.leaving) =
+        elim (cases_lt before.0 onward.0) [
+          | inl less ↦
+              let low = e.1.leaving_inside in
+              (done.joined before.0 onward.0 e.0 f.0 (omega (arith, low, all)) less e.1 f.1 apart).0
+          | inr not_less ↦ elim (cases_eq before.0 onward.0) [
+            | inl is ↦
+                let here : IsEdgeAt F v onward.0 e.0 = subst (λ (k : ℕ). IsEdgeAt F v k e.0) is e.1 in
+                absurd (apart (ap (λ (k : Edge W). k.place) (edge_unique F v onward.0 e.0 f.0 here f.1)))
+            | inr differ ↦
+                let low = f.1.leaving_inside in
+                (done.joined onward.0 before.0 f.0 e.0 (omega (arith, low, all)) (omega (arith, not_less, differ)) f.1 e.1 (λ is. apart (sym is))).1
+          ]
+        ] in
+        subst (λ (l : Link W). LeadsNoWorse C G l.place y (C.compose l.walk b)) e.2
+        (subst (λ (l : Link W). LeadsNoWorse C G e.0.place l.place (C.compose e.0.entering l.walk)) f.2 leads)
 
   pub eliminated_to_none : (F : FactorData W) → EliminatedTo C F F 0
   eliminated_to_none F = record { improves = improves_none C ordered 0 F; closed = λ v low. absurd (omega arith) }

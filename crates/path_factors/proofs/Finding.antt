@@ -1,15 +1,19 @@
--- One more place is found, from the places that it needs.
-use Rattle.std.proofs.Common.{◌≡◌, ℕ, ◌<◌, inl, inr, Bool, true, false, List, length, set, ap, sym, ◌∙◌, subst, arith, Option, None, get_or-set_same, get_or-set_other, length-set}
-use Rattle.std.specs.Prelude.{Contains}
-use Rattle.std.proofs.lemmas.Bool.{cases_eq}
+-- Back substitution at the ancestors of a place, from those that are known down.
+use Rattle.std.proofs.Common.{◌≡◌, ℕ, zero, suc, ◌+◌, ◌<◌, ◌≤◌, ◌⊎◌, inl, inr, List, [], ◌∷◌, ◌++◌, length, set, get_or, Bool, true, false, Option, None, refl, ap, sym, ◌∙◌, subst, arith, get_or-set_same, get_or-set_other, length-set}
+use Rattle.std.specs.Prelude.{All, Contains}
+use Rattle.std.proofs.lemmas.Bool.{cases_eq, cases_lt}
+use Rattle.std.proofs.lemmas.List.{get_or_default, get_or_past, get_or_append_left, get_or_push, length-append}
 use Rattle.road_graph.specs.GraphData.{GraphData}
 use Rattle.path_algebra.specs.Algebra.{Algebra}
 use Rattle.path_algebra.specs.Composition.{Composition}
 use Rattle.path_factors.specs.declared.link.Link.{Link}
-use Rattle.path_factors.specs.Factors.{FactorData, AreLinks, row_of}
+use Rattle.path_factors.specs.Factors.{FactorData, IsFactor, AreLinks, row_of}
 use Rattle.path_factors.specs.Substituting.{at, best_along}
-use Rattle.path_factors.specs.Asking.{is_on, IsBackRun, Agree, FoundAt}
-use Rattle.path_factors.proofs.Asking.{best_along_same}
+use Rattle.path_factors.specs.Edges.{AreAligned}
+use Rattle.path_factors.specs.Tree.{IsAbove, IsTreeParent}
+use Rattle.path_factors.specs.Asking.{is_on, IsBackRun, Agree, FoundAt, IsKnownUpward, AreUnknownUp, AreAllUnknownUp, IsExtended, AreFound}
+use Rattle.path_factors.proofs.Backward.{best_along_same}
+use Rattle.path_factors.proofs.Trees.{above_inside, parent_inside, above_of_faller, above_nested}
 
 module _ {V W : Type 0} (A : Algebra V) (C : Composition V W) (g : GraphData) (F : FactorData W) (links : AreLinks A C g F)
     (before all : List (Option V)) (run : IsBackRun A C g.vertices F before all) (labels : List (Option V)) (known : List Bool)
@@ -53,3 +57,247 @@ module _ {V W : Type 0} (A : Algebra V) (C : Composition V W) (g : GraphData) (F
       ];
     };
   }
+
+module _ {W : Type 0} (rows : List (List (Link W))) (n : ℕ) (known : List Bool) (t : ℕ) where
+  pub unknown_none : AreUnknownUp rows n known t [] t
+  unknown_none = record {
+    first = refl;
+    inside = λ q lt. absurd (omega (arith, lt));
+    fresh = λ q lt. absurd (omega (arith, lt));
+    parents = λ q lt. absurd (omega (arith, lt));
+  }
+
+  pub unknown_more : (list : List ℕ) (v p : ℕ) → AreUnknownUp rows n known t list v → v < n → is_on known v ≡ false →
+      IsTreeParent rows n v p → AreUnknownUp rows n known t (list ++ v ∷ []) p
+  unknown_more list v p up low off parent =
+      let m : length (list ++ v ∷ []) ≡ length list + 1 = length-append list (v ∷ []) in
+      let old : (q : ℕ) → q < length list → get_or (list ++ v ∷ []) q p ≡ get_or list q v = λ q lt. get_or_append_left list (v ∷ []) p q lt ∙ get_or_default list q p v lt in
+      let new : (q : ℕ) → q ≡ length list → get_or (list ++ v ∷ []) q p ≡ v = λ q e. get_or_push list v p q (sym e) in
+      let last : (q : ℕ) → q < length (list ++ v ∷ []) → length list ≤ q → q ≡ length list =
+      λ q lt past. omega (arith, lt, m, past) in
+      record {
+        first = elim (cases_lt 0 (length list)) [
+          | inl some ↦ old 0 some ∙ up.first
+          | inr none ↦
+              let is : 0 ≡ length list = omega (arith, none) in
+              new 0 is ∙ sym (get_or_past list 0 v none) ∙ up.first
+        ];
+        inside = λ q lt. elim (cases_lt q (length list)) [
+          | inl before ↦ let is = old q before in let h = up.inside q before in omega (arith, is, h)
+          | inr past ↦ let is = new q (last q lt past) in omega (arith, is, low)
+        ];
+        fresh = λ q lt. elim (cases_lt q (length list)) [
+          | inl before ↦ ap (is_on known) (old q before) ∙ up.fresh q before
+          | inr past ↦ ap (is_on known) (new q (last q lt past)) ∙ off
+        ];
+        parents = λ q lt. elim (cases_lt q (length list)) [
+          | inl before ↦
+              let here = up.parents q before in
+              let next : get_or (list ++ v ∷ []) (q + 1) p ≡ get_or list (q + 1) v = elim (cases_lt (q + 1) (length list)) [
+                | inl within ↦ old (q + 1) within
+                | inr past ↦
+                    let is : q + 1 ≡ length list = omega (arith, before, past) in
+                    new (q + 1) is ∙ sym (get_or_past list (q + 1) v past)
+              ] in
+              subst (λ (x : ℕ). IsTreeParent rows n (get_or (list ++ v ∷ []) q p) x) (sym next)
+              (subst (λ (x : ℕ). IsTreeParent rows n x (get_or list (q + 1) v)) (sym (old q before)) here)
+          | inr past ↦
+              let is = last q lt past in
+              let end : get_or (list ++ v ∷ []) (q + 1) p ≡ p = get_or_past (list ++ v ∷ []) (q + 1) p (omega (arith, m, is)) in
+              subst (λ (x : ℕ). IsTreeParent rows n (get_or (list ++ v ∷ []) q p) x) (sym end)
+              (subst (λ (x : ℕ). IsTreeParent rows n x p) (sym (new q is)) parent)
+        ];
+      }
+
+  pub unknown_inside : (list : List ℕ) (v : ℕ) → AreUnknownUp rows n known t list v → All (λ i. i < n) list
+  unknown_inside list v up q d lt =
+      let low = up.inside q lt in
+      let read = get_or_default list q d v lt in
+      omega (arith, low, read)
+
+  pub unknown_extends : (list : List ℕ) (v : ℕ) → AreUnknownUp rows n known t list v → (before after : List ℕ) → after ≡ before ++ list →
+      IsExtended n before after
+  unknown_extends list v up before after is = record {
+    more = list;
+    is = is;
+    inside = unknown_inside list v up;
+  }
+
+-- the places from index k of the list on are found
+pub record AreFoundFrom {V W : Type 0} (rows : List (List (Link W))) (n : ℕ) (before all : List (Option V)) (old : List Bool) (list : List ℕ) (k : ℕ)
+    (labels : List (Option V)) (known : List Bool) : Type 0 where
+  pub labels_count : length labels ≡ n
+  pub known_count : length known ≡ n
+  pub agree : Agree n before all labels known
+  pub upward : IsKnownUpward rows known
+  pub listed : (j : ℕ) → is_on known j ≡ true → (is_on old j ≡ true) ⊎ Contains list j
+  pub kept : (j : ℕ) → is_on old j ≡ true → is_on known j ≡ true
+  pub fresh : (q : ℕ) → q < k → q < length list → is_on known (get_or list q 0) ≡ false
+  pub done : (q : ℕ) → k ≤ q → q < length list → is_on known (get_or list q 0) ≡ true
+
+module _ {V W : Type 0} (A : Algebra V) (C : Composition V W) (g : GraphData) (F : FactorData W) (factor : IsFactor A C g F)
+    (aligned : AreAligned F.leaving F.entering) (old : List Bool) (t : ℕ) (list : List ℕ)
+    (unknown : AreAllUnknownUp F.leaving g.vertices old t list) where
+  abbrev v : ℕ
+  v = unknown.0
+
+  read : (q : ℕ) → q < length list → get_or list q v ≡ get_or list q 0
+  read q lt = get_or_default list q v 0 lt
+
+  pub list_inside : (q : ℕ) → q < length list → get_or list q 0 < g.vertices
+  list_inside q lt =
+      let h = unknown.1.inside q lt in
+      let is = read q lt in
+      omega (arith, h, is)
+
+  -- each is below the next
+  rising_one : (q : ℕ) → q + 1 < length list → get_or list q 0 < get_or list (q + 1) 0
+  rising_one q lt =
+      let here : q < length list = omega (arith, lt) in
+      let low = list_inside q here in
+      let is = read q here in
+      let up = parent_inside A C g F factor.links (get_or list q v) (get_or list (q + 1) v) (omega (arith, low, is)) (unknown.1.parents q here) in
+      let on = read (q + 1) lt in
+      omega (arith, up.0, is, on)
+
+  rising_by : (d q : ℕ) → q + suc d < length list → get_or list q 0 < get_or list (q + suc d) 0
+  rising_by zero q lt =
+      let is : q + 1 ≡ q + suc zero = omega arith in
+      subst (λ (r : ℕ). get_or list q 0 < get_or list r 0) is (rising_one q (omega (arith, lt)))
+  rising_by (suc d) q lt =
+      let is : (q + 1) + suc d ≡ q + suc (suc d) = omega arith in
+      let first = rising_one q (omega (arith, lt)) in
+      let more = rising_by d (q + 1) (omega (arith, lt)) in
+      let end = subst (λ (r : ℕ). get_or list (q + 1) 0 < get_or list r 0) is more in
+      omega (arith, first, end)
+
+  rising_list : (p q : ℕ) → p < q → q < length list → get_or list p 0 < get_or list q 0
+  rising_list p q less lt =
+      let d : (e : ℕ) × (p + suc e ≡ q) = gap p q less in
+      subst (λ (r : ℕ). get_or list p 0 < get_or list r 0) d.1 (rising_by d.0 p (omega (arith, d.1, lt)))
+    where
+      gap : (p q : ℕ) → p < q → (e : ℕ) × (p + suc e ≡ q)
+      gap p zero less = absurd (omega (arith, less))
+      gap zero (suc q) less = (q, omega arith)
+      gap (suc p) (suc q) less = let d = gap p q (omega (arith, less)) in let is = d.1 in (d.0, omega (arith, is))
+
+  module _ (before all : List (Option V)) (run : IsBackRun A C g.vertices F before all) where
+    pub found_none : (labels : List (Option V)) → length labels ≡ g.vertices → length old ≡ g.vertices → IsKnownUpward F.leaving old →
+        Agree g.vertices before all labels old → AreFoundFrom F.leaving g.vertices before all old list (length list) labels old
+    found_none labels n m upward agree = record {
+      labels_count = n;
+      known_count = m;
+      agree = agree;
+      upward = upward;
+      listed = λ j on. inl on;
+      kept = λ j on. on;
+      fresh = λ q less lt. ap (is_on old) (sym (read q lt)) ∙ unknown.1.fresh q lt;
+      done = λ q le lt. absurd (omega (arith, le, lt));
+    }
+
+    module _ (q : ℕ) (lt : q < length list) (labels : List (Option V)) (known : List Bool)
+        (done : AreFoundFrom F.leaving g.vertices before all old list (q + 1) labels known) where
+      abbrev i : ℕ
+      i = get_or list q 0
+
+      low : i < g.vertices
+      low = list_inside q lt
+
+      -- what is above the place is known
+      known_above : (y : ℕ) → IsAbove F.leaving i y → is_on known y ≡ true
+      known_above y above =
+          let here = unknown.1.parents q lt in
+          let parent : IsTreeParent F.leaving g.vertices i (get_or list (q + 1) v) =
+          subst (λ (x : ℕ). IsTreeParent F.leaving g.vertices x (get_or list (q + 1) v)) (read q lt) here in
+          let inside = above_inside A C g F factor.links i y above in
+          let le = parent.least y above in
+          let first : (get_or list (q + 1) v < g.vertices) → is_on known (get_or list (q + 1) v) ≡ true = λ within. elim (cases_lt (q + 1) (length list)) [
+            | inl next ↦ ap (is_on known) (read (q + 1) next) ∙ done.done (q + 1) (omega arith) next
+            | inr past ↦
+                let is : get_or list (q + 1) v ≡ v = get_or_past list (q + 1) v past in
+                elim unknown.3 [
+                  | inl end ↦ absurd (omega (arith, within, is, end))
+                  | inr on ↦ ap (is_on known) is ∙ done.kept v on
+                ]
+          ] in
+          elim (cases_eq y (get_or list (q + 1) v)) [
+            | inl is ↦ ap (is_on known) is ∙ first (omega (arith, is, inside.1))
+            | inr other ↦ elim parent.one [
+              | inl none ↦ absurd (omega (arith, none, le, inside.1))
+              | inr up ↦
+                  let past = above_nested A C g F factor.links aligned factor.closed i (get_or list (q + 1) v) y up above (omega (arith, le, other)) in
+                  let r = above_inside A C g F factor.links i (get_or list (q + 1) v) up in
+                  done.upward (get_or list (q + 1) v) y (first r.1) past
+            ]
+          ]
+
+      ready : (k : Link W) → Contains (row_of F.entering i) k → is_on known k.place ≡ true
+      ready k h = known_above k.place (above_of_faller A C g F factor.links aligned k.place i k.walk h)
+
+      fresh : is_on known i ≡ false
+      fresh = done.fresh q (omega arith) lt
+
+      here : is_on (set known i true) i ≡ true
+      here = let m = done.known_count in get_or-set_same known i true false (omega (arith, low, m))
+
+      others : (j : ℕ) → (j ≡ i → ⊥) → is_on (set known i true) j ≡ is_on known j
+      others j other = get_or-set_other known i j true false other
+
+      keeps : (j : ℕ) → is_on known j ≡ true → is_on (set known i true) j ≡ true
+      keeps j on = elim (cases_eq j i) [
+        | inl is ↦ ap (is_on (set known i true)) is ∙ here
+        | inr other ↦ others j other ∙ on
+      ]
+
+      pub found_more : AreFoundFrom F.leaving g.vertices before all old list q
+          (set labels i (best_along A C labels (at labels i) (row_of F.entering i))) (set known i true)
+      found_more =
+          let found = found_at A C g F factor.links before all run labels known done.agree i low done.labels_count done.known_count fresh ready in
+          record {
+            labels_count = found.labels_count;
+            known_count = found.known_count;
+            agree = found.agree;
+            upward = λ x y on above. elim (cases_eq x i) [
+              | inl is ↦ keeps y (known_above y (subst (λ (u : ℕ). IsAbove F.leaving u y) is above))
+              | inr other ↦ keeps y (done.upward x y (sym (others x other) ∙ on) above)
+            ];
+            listed = λ j on. elim (cases_eq j i) [
+              | inl is ↦ inr (q, lt, get_or_default list q j 0 lt ∙ sym is)
+              | inr other ↦ done.listed j (sym (others j other) ∙ on)
+            ];
+            kept = λ j on. keeps j (done.kept j on);
+            fresh = λ p less within.
+                let rises = rising_list p q less lt in
+                others (get_or list p 0) (λ e. omega (arith, rises, e)) ∙ done.fresh p (omega (arith, less)) within;
+            done = λ p le within. elim (cases_eq p q) [
+              | inl is ↦ ap (λ (r : ℕ). is_on (set known i true) (get_or list r 0)) is ∙ here
+              | inr other ↦ keeps (get_or list p 0) (done.done p (omega (arith, le, other)) within)
+            ];
+          }
+
+    pub found_all : (labels : List (Option V)) (known : List Bool) → AreFoundFrom F.leaving g.vertices before all old list 0 labels known →
+        AreFound F.leaving g.vertices before all old list labels known
+    found_all labels known done = record {
+      labels_count = done.labels_count;
+      known_count = done.known_count;
+      agree = done.agree;
+      upward = done.upward;
+      listed = done.listed;
+      kept = done.kept;
+      found = λ j c.
+          let lt = c.1 in
+          ap (is_on known) (sym (get_or_default list c.0 0 j lt ∙ c.2)) ∙ done.done c.0 (omega arith) lt;
+    }
+
+    -- then the place itself is known
+    pub target_found : t < g.vertices → (labels : List (Option V)) (known : List Bool) → AreFound F.leaving g.vertices before all old list labels known →
+        is_on known t ≡ true
+    target_found in_t labels known found = elim (cases_lt 0 (length list)) [
+      | inl some ↦ found.found t (0, some, get_or_default list 0 t v some ∙ unknown.1.first)
+      | inr none ↦
+          let is : v ≡ t = sym (get_or_past list 0 v none) ∙ unknown.1.first in
+          elim unknown.3 [
+            | inl end ↦ absurd (omega (arith, is, end, in_t))
+            | inr on ↦ found.kept t (ap (is_on old) (sym is) ∙ on)
+          ]
+    ]

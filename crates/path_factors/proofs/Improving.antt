@@ -1,16 +1,18 @@
 -- A row into which a link was put.
-use Rattle.std.proofs.Common.{◌≡◌, ℕ, Result, Ok, Err, ◌<◌, inl, inr, true, false, List, [], ◌∷◌, zero, suc, ◌≤◌, length, set, get_or, map, ap, sym, ◌∙◌, subst, arith, get_or-set_same, get_or-set_other, length-set}
+use Rattle.std.proofs.Common.{◌≡◌, ℕ, Result, Ok, Err, ◌<◌, inl, inr, Bool, true, false, cond, List, [], ◌∷◌, zero, suc, ◌≤◌, length, set, get_or, map, refl, ap, sym, ◌∙◌, subst, arith, get_or-set_same, get_or-set_other, length-set}
 use Rattle.std.specs.Prelude.{IsTrue, Contains, OnErr}
 use Rattle.std.specs.List.{insert}
-use Rattle.std.proofs.lemmas.Bool.{cases_eq}
+use Rattle.std.proofs.lemmas.Bool.{cases_eq, cases_Bool}
 use Rattle.std.proofs.lemmas.List.{get_or_default, get_or-map, length-map, set-get_or, map-set}
 use Rattle.road_graph.proofs.Lists.{not_in_empty, here, later, head_or_tail}
 use Rattle.path_algebra.specs.Algebra.{IsOrder}
 use Rattle.path_algebra.specs.Composition.{Composition}
 use Rattle.path_algebra.proofs.Least.{same_no_worse, other_no_worse}
 use Rattle.path_factors.specs.declared.link.Link.{Link}
+use Rattle.path_factors.specs.declared.edge.Edge.{Edge}
 use Rattle.path_factors.specs.Factors.{row_of}
 use Rattle.path_factors.specs.Eliminating.{IsImproved, AreImproved}
+use Rattle.path_factors.specs.Edges.{rising, falling, better_walk, better_edge, IsEdgeImproved}
 
 module _ {V W : Type 0} (C : Composition V W) (ordered : IsOrder C.no_worse) where
   same : (a : W) → IsTrue (C.no_worse a a)
@@ -92,6 +94,57 @@ module _ {V W : Type 0} (C : Composition V W) (ordered : IsOrder C.no_worse) whe
         given = λ l c. inl c;
         kept = λ p a c. (a, c, same a);
         has = (old.walk, subst (λ (i : ℕ). Contains row (record { place = i; walk = old.walk })) leads here, better);
+      }
+
+  -- the better of both put in the place of one that leads to the same place
+  pub improved_better : (row : List (Link W)) (k : Link W) (j : ℕ) (old : Link W) → j < length row →
+      old ≡ get_or row j old → old.place ≡ k.place →
+      IsImproved C row k (set row j (record { place = k.place; walk = better_walk C old.walk k.walk }))
+  improved_better row k j old lt is leads = elim (cases_Bool (C.no_worse old.walk k.walk)) [
+    | inl better ↦
+        let walk : better_walk C old.walk k.walk ≡ old.walk = ap (λ (b : Bool). cond b old.walk k.walk) better in
+        let link : record { place = k.place; walk = better_walk C old.walk k.walk } ≡ old =
+        λ i. record { place = (sym leads) i; walk = walk i } in
+        let same : set row j (record { place = k.place; walk = better_walk C old.walk k.walk }) ≡ row =
+        ap (λ (q : Link W). set row j q) (link ∙ is) ∙ set-get_or row j old in
+        subst (λ (r : List (Link W)). IsImproved C row k r) (sym same) (improved_already row k j old lt is leads better)
+    | inr worse ↦
+        let walk : better_walk C old.walk k.walk ≡ k.walk = ap (λ (b : Bool). cond b old.walk k.walk) worse in
+        let link : record { place = k.place; walk = better_walk C old.walk k.walk } ≡ k =
+        λ i. record { place = k.place; walk = walk i } in
+        subst (λ (q : Link W). IsImproved C row k (set row j q)) (sym link) (improved_set row k j old lt is leads worse)
+  ]
+
+  -- both links of an edge
+  pub edge_improved_set : (row : List (Edge W)) (e : Edge W) (j : ℕ) (old : Edge W) → j < length row →
+      old ≡ get_or row j old → old.place ≡ e.place → IsEdgeImproved C row e (set row j (better_edge C old e))
+  edge_improved_set row e j old lt is leads =
+      let n = length-map row rising in
+      let m = length-map row falling in
+      record {
+        leaving = subst (λ (r : List (Link W)). IsImproved C (map rising row) (rising e) r) (sym (map-set rising row j (better_edge C old e)))
+            (improved_better (map rising row) (rising e) j (rising old) (omega (arith, lt, n))
+            (ap rising is ∙ sym (get_or-map rising row j old (rising old) lt)) leads);
+        entering = subst (λ (r : List (Link W)). IsImproved C (map falling row) (falling e) r) (sym (map-set falling row j (better_edge C old e)))
+            (improved_better (map falling row) (falling e) j (falling old) (omega (arith, lt, m))
+            (ap falling is ∙ sym (get_or-map falling row j old (falling old) lt)) leads);
+      }
+
+  map-insert : (f : Edge W → Link W) (row : List (Edge W)) (j : ℕ) (e : Edge W) → map f (insert row j e) ≡ insert (map f row) j (f e)
+  map-insert f [] zero e = refl
+  map-insert f [] (suc j) e = refl
+  map-insert f (r ∷ row) zero e = refl
+  map-insert f (r ∷ row) (suc j) e = ap (λ (l : List (Link W)). f r ∷ l) (map-insert f row j e)
+
+  pub edge_improved_insert : (row : List (Edge W)) (j : ℕ) (e : Edge W) → j ≤ length row → IsEdgeImproved C row e (insert row j e)
+  edge_improved_insert row j e le =
+      let n = length-map row rising in
+      let m = length-map row falling in
+      record {
+        leaving = subst (λ (r : List (Link W)). IsImproved C (map rising row) (rising e) r) (sym (map-insert rising row j e))
+            (improved_insert (map rising row) j (rising e) (omega (arith, le, n)));
+        entering = subst (λ (r : List (Link W)). IsImproved C (map falling row) (falling e) r) (sym (map-insert falling row j e))
+            (improved_insert (map falling row) j (falling e) (omega (arith, le, m)));
       }
 
 -- the rows of a list of things, one of which was replaced

@@ -2,10 +2,14 @@ pub mod Substitution
 pub mod Offers
 pub mod Sweeps
 pub mod Places
+pub mod Aligned
 pub mod Improving
 pub mod Connecting
 pub mod Eliminating
 pub mod Loading
-pub mod Asking
 pub mod Packing
+pub mod Trees
+pub mod Climbing
+pub mod Backward
 pub mod Finding
+pub mod Asking

@@ -1,14 +1,39 @@
 -- Rows that are packed one after the other.
-use Rattle.std.proofs.Common.{◌≡◌, ℕ, zero, suc, ◌+◌, ◌-◌, ◌<◌, ◌≤◌, inl, inr, List, [], ◌∷◌, ◌++◌, length, take, drop, get_or, refl, ap, sym, ◌∙◌, arith}
+use Rattle.std.proofs.Common.{◌≡◌, ℕ, zero, suc, ◌+◌, ◌-◌, ◌<◌, ◌≤◌, inl, inr, List, [], ◌∷◌, ◌++◌, length, take, drop, get_or, map, append-nil, append_assoc, refl, ap, sym, ◌∙◌, arith}
 use Rattle.std.specs.Prelude.{slice_range}
 use Rattle.std.proofs.lemmas.Bool.{cases_lt}
-use Rattle.std.proofs.lemmas.List.{length-append, length-drop, take-append-le, drop-append-le, take_all}
+use Rattle.std.proofs.lemmas.List.{length-append, length-drop, length-take-le, get_or-take, get_or-drop, map-append, take-append-le, drop-append-le, take_all}
 use Rattle.std.proofs.Math.ListN.{drop_of_length-le}
 use Rattle.path_factors.specs.declared.link.Link.{Link}
 use Rattle.path_factors.specs.Factors.{row_of}
-use Rattle.path_factors.specs.Packing.{rows_between, ArePacked}
+use Rattle.path_factors.specs.declared.edge.Edge.{Edge}
+use Rattle.path_factors.specs.Edges.{rising, falling}
+use Rattle.path_factors.specs.Packing.{links_of, rows_between, ArePacked, ArePackedBothWays, AreFields, AreAppended}
 
 module _ {W : Type 0} where
+  pub links_count : (places : List ℕ) (walks : List W) → length walks ≡ length places → length (links_of places walks) ≡ length places
+  links_count [] walks n = refl
+  links_count (p ∷ places) [] n = absurd (omega (arith, n))
+  links_count (p ∷ places) (a ∷ walks) n =
+      let rest = links_count places walks (omega (arith, n)) in
+      omega (arith, rest)
+
+  pub links-append : (places : List ℕ) (walks : List W) (more : List ℕ) (on : List W) → length walks ≡ length places →
+      links_of (places ++ more) (walks ++ on) ≡ links_of places walks ++ links_of more on
+  links-append [] [] more on n = refl
+  links-append [] (a ∷ walks) more on n = absurd (omega (arith, n))
+  links-append (p ∷ places) [] more on n = absurd (omega (arith, n))
+  links-append (p ∷ places) (a ∷ walks) more on n =
+      ap (λ (l : List (Link W)). record { place = p; walk = a } ∷ l) (links-append places walks more on (omega (arith, n)))
+
+  -- the link at an index
+  pub link_at : (places : List ℕ) (walks : List W) (k : ℕ) (p : ℕ) (a : W) (d : Link W) → length walks ≡ length places → k < length places →
+      p ≡ get_or places k p → a ≡ get_or walks k a → get_or (links_of places walks) k d ≡ record { place = p; walk = a }
+  link_at [] walks k p a d n lt is at = absurd (omega (arith, lt))
+  link_at (q ∷ places) [] k p a d n lt is at = absurd (omega (arith, n))
+  link_at (q ∷ places) (b ∷ walks) zero p a d n lt is at = λ i. record { place = (sym is) i; walk = (sym at) i }
+  link_at (q ∷ places) (b ∷ walks) (suc k) p a d n lt is at = link_at places walks k p a d (omega (arith, n)) (omega (arith, lt)) is at
+
   pub rows_count : (starts : List ℕ) (links : List (Link W)) → length (rows_between starts links) ≡ length starts - 1
   rows_count [] links = refl
   rows_count (s ∷ []) links = refl
@@ -112,3 +137,124 @@ module _ {W : Type 0} where
       get_or_after : (xs : List ℕ) (x : ℕ) → get_or (xs ++ x ∷ []) (length xs) 0 ≡ x
       get_or_after [] x = refl
       get_or_after (y ∷ xs) x = get_or_after xs x
+
+-- a row is as long as its part
+pub row_count : {W : Type 0} (starts : List ℕ) (links : List (Link W)) → ArePacked starts links → (i : ℕ) → i + 1 < length starts →
+    length (row_of (rows_between starts links) i) ≡ get_or starts (i + 1) 0 - get_or starts i 0
+row_count starts links packed i lt =
+    let s = get_or starts i 0 in
+    let e = get_or starts (i + 1) 0 in
+    let up = packed.rising i lt in
+    let within = packed.inside (i + 1) lt in
+    let n = length-drop s links in
+    ap length (row_between starts links i lt) ∙ length-take-le (e - s) (drop s links) (omega (arith, n, up, within))
+
+-- a link of a row, in the whole list
+pub row_link : {W : Type 0} (starts : List ℕ) (links : List (Link W)) → ArePacked starts links → (i : ℕ) → i + 1 < length starts →
+    (j : ℕ) → j < length (row_of (rows_between starts links) i) → (d : Link W) →
+    get_or (row_of (rows_between starts links) i) j d ≡ get_or links (get_or starts i 0 + j) d
+row_link starts links packed i lt j low d =
+    let s = get_or starts i 0 in
+    let e = get_or starts (i + 1) 0 in
+    let n = row_count starts links packed i lt in
+    ap (λ (r : List (Link _)). get_or r j d) (row_between starts links i lt)
+    ∙ get_or-take (e - s) (drop s links) j d (omega (arith, n, low)) ∙ get_or-drop s links j d
+
+-- the same starts serve other links, of which there are as many
+pub packed_as : {W : Type 0} (starts : List ℕ) (links others : List (Link W)) → length others ≡ length links → ArePacked starts links → ArePacked starts others
+packed_as starts links others n packed = record {
+  some = packed.some;
+  rising = packed.rising;
+  inside = λ i lt. let le = packed.inside i lt in omega (arith, le, n);
+  last = let is = packed.last in omega (arith, is, n);
+}
+
+-- links one after the other
+module _ {W : Type 0} (places : List ℕ) (leaving entering : List W) (fields : AreFields places leaving entering) where
+  pub appended_none : AreAppended places leaving entering [] places leaving entering
+  appended_none = record {
+    fields = fields;
+    rises = sym (append-nil (links_of places leaving));
+    falls = sym (append-nil (links_of places entering));
+  }
+
+  pub appended_one : (e : Edge W) → AreAppended places leaving entering (e ∷ []) (places ++ e.place ∷ []) (leaving ++ e.leaving ∷ []) (entering ++ e.entering ∷ [])
+  appended_one e =
+      let l = length-append leaving (e.leaving ∷ []) in
+      let m = length-append entering (e.entering ∷ []) in
+      let n = length-append places (e.place ∷ []) in
+      let p = fields.leaving_count in
+      let q = fields.entering_count in
+      record {
+        fields = record { leaving_count = omega (arith, l, n, p); entering_count = omega (arith, m, n, q) };
+        rises = links-append places leaving (e.place ∷ []) (e.leaving ∷ []) fields.leaving_count;
+        falls = links-append places entering (e.place ∷ []) (e.entering ∷ []) fields.entering_count;
+      }
+
+  pub appended_more : (row on : List (Edge W)) (more most : List ℕ) (more_leaving more_entering most_leaving most_entering : List W) →
+      AreAppended places leaving entering row more more_leaving more_entering →
+      AreAppended more more_leaving more_entering on most most_leaving most_entering →
+      AreAppended places leaving entering (row ++ on) most most_leaving most_entering
+  appended_more row on more most more_leaving more_entering most_leaving most_entering one two = record {
+    fields = two.fields;
+    rises = two.rises ∙ ap (λ (l : List (Link W)). l ++ map rising on) one.rises
+        ∙ append_assoc (links_of places leaving) (map rising row) (map rising on)
+        ∙ ap (λ (l : List (Link W)). links_of places leaving ++ l) (sym (map-append rising row on));
+    falls = two.falls ∙ ap (λ (l : List (Link W)). l ++ map falling on) one.falls
+        ∙ append_assoc (links_of places entering) (map falling row) (map falling on)
+        ∙ ap (λ (l : List (Link W)). links_of places entering ++ l) (sym (map-append falling row on));
+  }
+
+-- what is known of the row of a place, in lists of both links
+module _ {W : Type 0} (starts places : List ℕ) (leaving entering : List W) (packed : ArePackedBothWays starts places leaving entering)
+    (i : ℕ) (low : i < length (rows_between starts (links_of places leaving))) where
+  abbrev risers : List (Link W)
+  risers = links_of places leaving
+
+  abbrev fallers : List (Link W)
+  fallers = links_of places entering
+
+  risers_count : length risers ≡ length places
+  risers_count = links_count places leaving packed.fields.leaving_count
+
+  fallers_count : length fallers ≡ length places
+  fallers_count = links_count places entering packed.fields.entering_count
+
+  pub packed_falls : ArePacked starts fallers
+  packed_falls =
+      let n = risers_count in
+      let m = fallers_count in
+      packed_as starts risers fallers (omega (arith, n, m)) packed.packed
+
+  pub row_inside : i + 1 < length starts
+  row_inside = let n = rows_count starts risers in let some = packed.packed.some in omega (arith, low, n, some)
+
+  pub row_rises : get_or starts i 0 ≤ get_or starts (i + 1) 0
+  row_rises = packed.packed.rising i row_inside
+
+  pub row_ends : get_or starts (i + 1) 0 ≤ length places
+  row_ends = let le = packed.packed.inside (i + 1) row_inside in let n = risers_count in omega (arith, le, n)
+
+  pub risers_of_row : length (row_of (rows_between starts risers) i) ≡ get_or starts (i + 1) 0 - get_or starts i 0
+  risers_of_row = row_count starts risers packed.packed i row_inside
+
+  pub fallers_of_row : length (row_of (rows_between starts fallers) i) ≡ get_or starts (i + 1) 0 - get_or starts i 0
+  fallers_of_row = row_count starts fallers packed_falls i row_inside
+
+  pub riser_at : (j p : ℕ) (a : W) (d : Link W) → j < length (row_of (rows_between starts risers) i) →
+      p ≡ get_or places (get_or starts i 0 + j) p → a ≡ get_or leaving (get_or starts i 0 + j) a →
+      get_or (row_of (rows_between starts risers) i) j d ≡ record { place = p; walk = a }
+  riser_at j p a d lt is at =
+      let n = risers_of_row in
+      let le = row_ends in
+      row_link starts risers packed.packed i row_inside j lt d
+      ∙ link_at places leaving (get_or starts i 0 + j) p a d packed.fields.leaving_count (omega (arith, lt, n, le)) is at
+
+  pub faller_at : (j p : ℕ) (a : W) (d : Link W) → j < length (row_of (rows_between starts fallers) i) →
+      p ≡ get_or places (get_or starts i 0 + j) p → a ≡ get_or entering (get_or starts i 0 + j) a →
+      get_or (row_of (rows_between starts fallers) i) j d ≡ record { place = p; walk = a }
+  faller_at j p a d lt is at =
+      let n = fallers_of_row in
+      let le = row_ends in
+      row_link starts fallers packed_falls i row_inside j lt d
+      ∙ link_at places entering (get_or starts i 0 + j) p a d packed.fields.entering_count (omega (arith, lt, n, le)) is at

@@ -1,31 +1,22 @@
--- Best values of single vertices, found as they are asked for.
-use Rattle.std.specs.Prelude.{◌≡◌, ℕ, ◌<◌, ◌≤◌, List, [], ◌∷◌, length, All, Contains, Bool, true, false, not, ◌&&◌, Option, slice_index_or, slice_set}
+-- Best values of single vertices from one source, found as they are asked for.
+use Rattle.std.specs.Prelude.{◌≡◌, ℕ, ◌+◌, ◌<◌, ◌≤◌, ◌⊎◌, List, [], ◌∷◌, ◌++◌, length, All, Contains, Bool, true, false, Option, Some, None, slice_index_or}
 use Rattle.road_graph.specs.GraphData.{GraphData, HasVertex}
 use Rattle.path_algebra.specs.Algebra.{Algebra}
 use Rattle.path_algebra.specs.Composition.{Composition}
 use Rattle.path_factors.specs.declared.link.Link.{Link}
-use Rattle.path_factors.specs.Factors.{FactorData, row_of}
+use Rattle.path_factors.specs.Factors.{FactorData, row_of, place_of}
 use Rattle.path_factors.specs.State.{FactorState}
 use Rattle.path_factors.specs.Substituting.{at, best_along, IsForward}
+use Rattle.path_factors.specs.Tree.{IsAbove, IsTreeParent, IsAncestor}
 
 -- whether a place is marked
 abbrev pub is_on : List Bool → ℕ → Bool
 is_on marks i = slice_index_or marks i false
 
--- whether a place is asked for and not known yet
-abbrev pub is_due : List Bool → List Bool → ℕ → Bool
-is_due asked known i = is_on asked i && not (is_on known i)
-
--- the marks after the places of the links of a row were marked
-abbrev pub marked_along : {W : Type 0} → List Bool → List (Link W) → List Bool
-marked_along marks [] = marks
-marked_along marks (k ∷ row) = marked_along (slice_set marks k.place true) row
-
--- whatever is due from place t up to place i has the places of its links from above asked for
-abbrev pub AreAskedFor : {W : Type 0} → FactorData W → List Bool → List Bool → ℕ → ℕ → Type 0
-AreAskedFor {W} F known asked t i =
-    (j : ℕ) → t ≤ j → j < i → is_due asked known j ≡ true → (k : Link W) → Contains (row_of F.entering j) k →
-    is_on asked k.place ≡ true
+-- the source, as a list
+abbrev pub sources_of : Option ℕ → List ℕ
+sources_of None = []
+sources_of (Some s) = s ∷ []
 
 -- labels after back substitution of others: each is the best along the row of its place
 pub record IsBackRun {V W : Type 0} (A : Algebra V) (C : Composition V W) (n : ℕ) (F : FactorData W)
@@ -38,36 +29,68 @@ pub record Agree {V : Type 0} (n : ℕ) (before all labels : List (Option V)) (k
   pub done : (i : ℕ) → i < n → is_on known i ≡ true → at labels i ≡ at all i
   pub left : (i : ℕ) → i < n → is_on known i ≡ false → at labels i ≡ at before i
 
--- the places from i on are found, as far as they are asked for, and the marks below are the same
-pub record FoundFrom {V : Type 0} (n : ℕ) (before all : List (Option V)) (asked old : List Bool) (i : ℕ)
-    (labels : List (Option V)) (known : List Bool) : Type 0 where
-  pub labels_count : length labels ≡ n
-  pub known_count : length known ≡ n
-  pub agree : Agree n before all labels known
-  pub above : (j : ℕ) → i ≤ j → j < n → is_on asked j ≡ true → is_on known j ≡ true
-  pub below : (j : ℕ) → j < i → is_on known j ≡ is_on old j
-
 -- place i is found, and the others are as they were
 pub record FoundAt {V : Type 0} (n : ℕ) (before all : List (Option V)) (i : ℕ) (labels : List (Option V)) (known : List Bool) : Type 0 where
   pub labels_count : length labels ≡ n
   pub known_count : length known ≡ n
   pub agree : Agree n before all labels known
 
--- what is found so far, as plain data
-pub record AskedState (T W V : Type 0) : Type 0 where
+-- with a place, all places above it are known
+abbrev pub IsKnownUpward : {W : Type 0} → List (List (Link W)) → List Bool → Type 0
+IsKnownUpward rows known = (x y : ℕ) → is_on known x ≡ true → IsAbove rows x y → is_on known y ≡ true
+
+-- the unknown ancestors of place t, one after the other, up to but not with place v
+pub record AreUnknownUp {W : Type 0} (rows : List (List (Link W))) (n : ℕ) (known : List Bool) (t : ℕ) (list : List ℕ) (v : ℕ) : Type 0 where
+  pub first : slice_index_or list 0 v ≡ t
+  pub inside : (q : ℕ) → q < length list → slice_index_or list q v < n
+  pub fresh : (q : ℕ) → q < length list → is_on known (slice_index_or list q v) ≡ false
+  pub parents : (q : ℕ) → q < length list → IsTreeParent rows n (slice_index_or list q v) (slice_index_or list (q + 1) v)
+
+-- all unknown ancestors of place t
+abbrev pub AreAllUnknownUp : {W : Type 0} → List (List (Link W)) → ℕ → List Bool → ℕ → List ℕ → Type 0
+AreAllUnknownUp rows n known t list =
+    (v : ℕ) × AreUnknownUp rows n known t list v × (v ≤ n) × ((v ≡ n) ⊎ (is_on known v ≡ true))
+
+-- the list and more places
+pub record IsExtended (n : ℕ) (before after : List ℕ) : Type 0 where
+  pub more : List ℕ
+  pub is : after ≡ before ++ more
+  pub inside : All (λ i. i < n) more
+
+-- the places of the list are known, and no other that was not
+pub record AreFound {V W : Type 0} (rows : List (List (Link W))) (n : ℕ) (before all : List (Option V)) (old : List Bool) (list : List ℕ)
+    (labels : List (Option V)) (known : List Bool) : Type 0 where
+  pub labels_count : length labels ≡ n
+  pub known_count : length known ≡ n
+  pub agree : Agree n before all labels known
+  pub upward : IsKnownUpward rows known
+  pub listed : (j : ℕ) → is_on known j ≡ true → (is_on old j ≡ true) ⊎ Contains list j
+  pub kept : (j : ℕ) → is_on old j ≡ true → is_on known j ≡ true
+  pub found : (j : ℕ) → Contains list j → is_on known j ≡ true
+
+-- only the ancestors of place s are labelled
+abbrev pub AreOnlyUp : {V W : Type 0} → List (List (Link W)) → ℕ → ℕ → List (Option V) → Type 0
+AreOnlyUp rows n s labels = (j : ℕ) → (at labels j ≡ None) ⊎ IsAncestor rows n s j
+
+-- place j is that of a source, or above it in the tree
+abbrev pub IsAboveSource : {W : Type 0} → ℕ → FactorData W → List ℕ → ℕ → Type 0
+IsAboveSource n F sources j = (s : ℕ) × Contains sources s × IsAncestor F.leaving n (place_of F s) j
+
+-- an asker as plain data: the factors that it is for, and the source, if it has begun
+pub record AskerState (T W : Type 0) : Type 0 where
   pub factors : FactorState T W
   pub sources : List ℕ
-  pub labels : List (Option V)
-  pub known : List Bool
-  pub asked : List Bool
 
--- what holds of it
-pub record IsAsked {V W : Type 0} (A : Algebra V) (C : Composition V W) (g : GraphData) (F : FactorData W)
-    (sources : List ℕ) (labels : List (Option V)) (known asked : List Bool) : Type 0 where
+-- what holds of an asker
+pub record IsAsking {V W : Type 0} (A : Algebra V) (C : Composition V W) (g : GraphData) (F : FactorData W)
+    (sources : List ℕ) (labels : List (Option V)) (known : List Bool) (asked : List ℕ) : Type 0 where
   pub inside : All (HasVertex g) sources
   pub labels_count : length labels ≡ g.vertices
   pub known_count : length known ≡ g.vertices
-  pub asked_count : length asked ≡ g.vertices
+  pub asked_inside : All (λ i. i < g.vertices) asked
+  pub listed : (j : ℕ) → is_on known j ≡ true → Contains asked j
+  pub upward : IsKnownUpward F.leaving known
+  pub labelled : (j : ℕ) → (at labels j ≡ None) ⊎ ((is_on known j ≡ true) ⊎ IsAboveSource g.vertices F sources j)
   pub before : List (Option V)
   pub forward : IsForward A C g F sources before
   pub all : List (Option V)

@@ -2,5 +2,7 @@ pub mod Factors
 pub mod Substituting
 pub mod State
 pub mod Eliminating
-pub mod Asking
+pub mod Edges
 pub mod Packing
+pub mod Tree
+pub mod Asking

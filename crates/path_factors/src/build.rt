@@ -8,10 +8,12 @@ use crate::factors::Factors;
 use crate::order::places_of;
 use crate::packed::PackedRows;
 use crate::rows::Rows;
+use crate::tree::parents_of;
 use elimination_order::least_degree_order;
 use path_algebra::{ComposingAlgebra, composition_holds};
 use road_graph::{Memory, OutGraph, Vertex};
 use std::alloc::Global;
+use std::snapshot::Snapshot;
 
 impl<'g, A: ComposingAlgebra> Elimination<'g, A> {
     /// No links yet, between the places of an order.
@@ -28,47 +30,46 @@ impl<'g, A: ComposingAlgebra> Elimination<'g, A> {
         ensures order { IfOk result (λ e. e.factor.order ≡ order.items) }
     {
         let n = graph.vertices() as usize;
-        let leaving = Rows::new(alloc, n)?;
-        let entering = Rows::new(alloc, n)?;
+        let rows = Rows::new(alloc, n)?;
         Ok(Elimination {
             algebra,
             graph,
             order,
             places,
-            leaving,
-            entering,
+            rows,
         })
     }
 
     /// The factor, once each arc has a link and each place is eliminated.
-    fn into_factors(self, alloc: Global) -> Result<Factors<'g, A>, Memory>
+    fn into_factors(self, alloc: Global) -> Result<Factors<A>, Memory>
         requires covers { CoversArcs (A.walks self.algebra) self.roads self.factor }
         requires closed { AreClosedTo (A.walks self.algebra) self.factor self.roads.vertices }
         ensures { IfOk result (λ f. f ≡ self.entry) }
     {
-        let leaving = PackedRows::pack(alloc, &self.leaving)?;
-        let entering = PackedRows::pack(alloc, &self.entering)?;
+        self.holds();
+        let rows = PackedRows::pack(alloc, &self.rows)?;
+        let parents = parents_of(alloc, self.graph.vertices(), &rows)?;
         Ok(Factors {
             algebra: self.algebra,
-            graph: self.graph,
-            order: self.order,
+            graph: Snapshot::of(self.graph),
+            order: Snapshot::of(&self.order),
             places: self.places,
-            leaving,
-            entering,
+            rows,
+            parents,
         })
     }
 }
 
-impl<'g, A: ComposingAlgebra> Factors<'g, A> {
+impl<A: ComposingAlgebra> Factors<A> {
     /// The factor of a graph by an order of its vertices; none if the order does not have each vertex once.
     ///
     /// Any order gives right answers, a good one few links.
     pub fn build(
         alloc: Global,
         algebra: A,
-        graph: &'g OutGraph,
+        graph: &OutGraph,
         order: Vec<Vertex>,
-    ) -> Result<Option<Factors<'g, A>>, Memory>
+    ) -> Result<Option<Factors<A>>, Memory>
         ensures algebra { IfOk result (λ built. IfSome built (λ f. f.algebra ≡ algebra)) }
         ensures roads { IfOk result (λ built. IfSome built (λ f. f.roads ≡ graph.now)) }
         ensures order { IfOk result (λ built. IfSome built (λ f. f.factor.order ≡ order.items)) }
@@ -81,7 +82,6 @@ impl<'g, A: ComposingAlgebra> Factors<'g, A> {
             return Ok(None);
         };
         let mut elimination = Elimination::open(alloc, algebra, graph, order, places)?;
-        elimination.mirror()?;
         elimination.load()?;
         elimination.eliminate_all()?;
         let factors = elimination.into_factors(alloc)?;
@@ -89,11 +89,7 @@ impl<'g, A: ComposingAlgebra> Factors<'g, A> {
     }
 
     /// The factor of a graph by the order of `elimination_order`; none if the graph is too dense to factor.
-    pub fn of(
-        alloc: Global,
-        algebra: A,
-        graph: &'g OutGraph,
-    ) -> Result<Option<Factors<'g, A>>, Memory>
+    pub fn of(alloc: Global, algebra: A, graph: &OutGraph) -> Result<Option<Factors<A>>, Memory>
         ensures algebra { IfOk result (λ built. IfSome built (λ f. f.algebra ≡ algebra)) }
         ensures roads { IfOk result (λ built. IfSome built (λ f. f.roads ≡ graph.now)) }
     {

@@ -1,12 +1,14 @@
 //! The elimination of places, one after the other: what makes a factor.
-ghost use Rattle.std.specs.Prelude.{◌≡◌, ℕ, ◌+◌, ◌<◌, ◌≤◌, OnOk, length, slice_index_or};
+ghost use Rattle.std.specs.Prelude.{◌≡◌, ℕ, ◌+◌, ◌<◌, ◌≤◌, OnOk, length};
 ghost use Rattle.road_graph.specs.GraphData.{IsGraph};
 ghost use Rattle.path_algebra.specs.Composition.{IsComposition};
-ghost use Rattle.path_factors.specs.Factors.{row_of, Rises, Falls, IsClosedAt, LeadsNoWorse, IsWorthOfWalk, vertex_at};
+ghost use Rattle.path_factors.specs.declared.edge.Edge.{Edge};
+ghost use Rattle.path_factors.specs.Factors.{row_of, IsClosedAt, LeadsNoWorse, IsWorthOfWalk, vertex_at};
+ghost use Rattle.path_factors.specs.Edges.{AreAligned, IsEdgeAt, AreJoined};
 ghost use Rattle.path_factors.specs.Eliminating.{IsBegun, Improves, AreClosedTo};
 ghost use Rattle.path_factors.specs.State.{IsSameState};
 
-use crate::link::Link;
+use crate::edge::Edge;
 use crate::rows::Rows;
 use path_algebra::{ComposingAlgebra, composition_holds};
 use road_graph::{Memory, OutGraph, Vertex};
@@ -20,8 +22,7 @@ pub(crate) struct Elimination<'g, A: ComposingAlgebra> {
     pub(crate) graph: &'g OutGraph,
     pub(crate) order: Vec<Vertex>,
     pub(crate) places: Vec<u32>,
-    pub(crate) leaving: Rows<A::Walk>,
-    pub(crate) entering: Rows<A::Walk>,
+    pub(crate) rows: Rows<A::Walk>,
 }
 
 impl<'g, A: ComposingAlgebra> Model for Elimination<'g, A> {
@@ -30,32 +31,51 @@ impl<'g, A: ComposingAlgebra> Model for Elimination<'g, A> {
 
     ghost Value = { FactorState A A.Walk };
 
-    ghost view = { λ f. record { algebra = f.algebra; roads = f.graph.now; factor = record { order = f.order.items; places = f.places.items; leaving = f.leaving; entering = f.entering } } };
+    ghost view = { λ f. record { algebra = f.algebra; roads = f.graph.now; factor = record { order = f.order.items; places = f.places.items; leaving = f.rows.leaving; entering = f.rows.entering } } };
 
-    ghost invariant = { λ f. IsBegun (A.meaning f.algebra) (A.walks f.algebra) f.graph.now (record { order = f.order.items; places = f.places.items; leaving = f.leaving; entering = f.entering }) };
+    ghost invariant = { λ f. IsBegun (A.meaning f.algebra) (A.walks f.algebra) f.graph.now (record { order = f.order.items; places = f.places.items; leaving = f.rows.leaving; entering = f.rows.entering }) };
 }
 
 impl<'g, A: ComposingAlgebra> Elimination<'g, A> {
-    /// Makes the link from one place to another no worse than a walk. From a place to itself none is needed.
-    pub(crate) fn connect(&mut self, x: u32, y: u32, walk: A::Walk) -> Result<(), Memory>
+    /// Makes the links from one place to another and back no worse than these walks. From a place to itself none is
+    /// needed.
+    pub(crate) fn connect(
+        &mut self,
+        x: u32,
+        y: u32,
+        there: A::Walk,
+        back: A::Walk,
+    ) -> Result<(), Memory>
         requires from { x < self.old.roads.vertices }
         requires to { y < self.old.roads.vertices }
-        requires worth { IsWorthOfWalk (A.meaning self.old.algebra) (A.walks self.old.algebra)
-            self.old.roads (vertex_at self.old.factor x) (vertex_at self.old.factor y) walk }
+        requires there { IsWorthOfWalk (A.meaning self.old.algebra) (A.walks self.old.algebra)
+            self.old.roads (vertex_at self.old.factor x) (vertex_at self.old.factor y) there }
+        requires back { IsWorthOfWalk (A.meaning self.old.algebra) (A.walks self.old.algebra)
+            self.old.roads (vertex_at self.old.factor y) (vertex_at self.old.factor x) back }
         ensures same { OnOk result (IsSameState self.old self.new) }
         ensures improves { OnOk result ((low : ℕ) → low ≤ x → low ≤ y →
             Improves (A.walks self.old.algebra) low self.old.factor self.new.factor) }
-        ensures leads { OnOk result ((x ≡ y → ⊥) →
-            LeadsNoWorse (A.walks self.old.algebra) self.new.factor x y walk) }
+        ensures there { OnOk result ((x ≡ y → ⊥) →
+            LeadsNoWorse (A.walks self.old.algebra) self.new.factor x y there) }
+        ensures back { OnOk result ((x ≡ y → ⊥) →
+            LeadsNoWorse (A.walks self.old.algebra) self.new.factor y x back) }
     {
         let algebra = self.algebra;
         composition_holds(algebra);
         if x < y {
-            self.leaving
-                .improve(algebra, x as usize, Link { place: y, walk })?;
+            let edge = Edge {
+                place: y,
+                leaving: there,
+                entering: back,
+            };
+            self.rows.improve(algebra, x as usize, edge)?;
         } else if y < x {
-            self.entering
-                .improve(algebra, y as usize, Link { place: x, walk })?;
+            let edge = Edge {
+                place: x,
+                leaving: back,
+                entering: there,
+            };
+            self.rows.improve(algebra, y as usize, edge)?;
         }
         Ok(())
     }
@@ -66,82 +86,67 @@ impl<'g, A: ComposingAlgebra> Elimination<'g, A> {
             self.now.roads self.now.factor }
         ensures roads { IsGraph self.now.roads }
         ensures composes { IsComposition (A.meaning self.now.algebra) (A.walks self.now.algebra) }
+        ensures aligned { AreAligned self.now.factor.leaving self.now.factor.entering }
     {
         composition_holds(self.algebra);
         self.graph.holds();
+        let _ = self.rows.count();
     }
 
-    /// How many links rise from a place.
-    fn rising(&self, v: usize) -> usize
+    /// How many edges a place has.
+    fn count(&self, v: usize) -> usize
         requires { v < self.now.roads.vertices }
         ensures { result ≡ length (row_of self.now.factor.leaving v) }
     {
-        self.leaving.row(v).len()
+        self.rows.row(v).len()
     }
 
-    /// How many links fall to a place.
-    fn falling(&self, v: usize) -> usize
-        requires { v < self.now.roads.vertices }
-        ensures { result ≡ length (row_of self.now.factor.entering v) }
-    {
-        self.entering.row(v).len()
-    }
-
-    /// One of the links that rise from a place.
-    fn riser(&self, v: usize, j: usize) -> Link<A::Walk>
+    /// One of the edges of a place.
+    fn edge(&self, v: usize, j: usize) -> Edge<A::Walk>
         requires place { v < self.now.roads.vertices }
-        requires link { j < length (row_of self.now.factor.leaving v) }
-        ensures { result ≡ slice_index_or (row_of self.now.factor.leaving v) j result }
+        requires edge { j < length (row_of self.now.factor.leaving v) }
+        ensures { IsEdgeAt self.now.factor v j result }
     {
-        self.leaving.row(v)[j]
+        self.rows.row(v)[j]
     }
 
-    /// One of the links that fall to a place.
-    fn faller(&self, v: usize, j: usize) -> Link<A::Walk>
-        requires place { v < self.now.roads.vertices }
-        requires link { j < length (row_of self.now.factor.entering v) }
-        ensures { result ≡ slice_index_or (row_of self.now.factor.entering v) j result }
-    {
-        self.entering.row(v)[j]
-    }
-
-    /// Joins two links that meet at a place.
-    fn join(&mut self, v: usize, from: Link<A::Walk>, to: Link<A::Walk>) -> Result<(), Memory>
-        requires falls { Falls self.old.factor from.place v from.walk }
-        requires rises { Rises self.old.factor v to.place to.walk }
+    /// Joins two edges that meet at a place, both ways.
+    fn join(&mut self, v: usize, e: Edge<A::Walk>, f: Edge<A::Walk>) -> Result<(), Memory>
+        requires first { (j : ℕ) × IsEdgeAt self.old.factor v j e }
+        requires second { (j : ℕ) × IsEdgeAt self.old.factor v j f }
         ensures same { OnOk result (IsSameState self.old self.new) }
         ensures improves { OnOk result (Improves (A.walks self.old.algebra) (v + 1) self.old.factor
             self.new.factor) }
-        ensures leads { OnOk result ((from.place ≡ to.place → ⊥) →
-            LeadsNoWorse (A.walks self.old.algebra) self.new.factor from.place to.place
-            ((A.walks self.old.algebra).compose from.walk to.walk)) }
+        ensures joined { OnOk result (AreJoined (A.walks self.old.algebra) self.new.factor e f) }
     {
         self.holds();
-        let walk = self.algebra.compose(from.walk, to.walk);
-        self.connect(from.place, to.place, walk)?;
+        let there = self.algebra.compose(e.entering, f.leaving);
+        let back = self.algebra.compose(f.entering, e.leaving);
+        self.connect(e.place, f.place, there, back)?;
         Ok(())
     }
 
-    /// Joins a link that falls to a place with each that rises from it.
-    fn pass(&mut self, v: usize, from: Link<A::Walk>) -> Result<(), Memory>
+    /// Joins an edge of a place with each one after it.
+    fn pass(&mut self, v: usize, i: usize) -> Result<(), Memory>
         requires place { v < self.old.roads.vertices }
-        requires falls { Falls self.old.factor from.place v from.walk }
+        requires edge { i < length (row_of self.old.factor.leaving v) }
         ensures same { OnOk result (IsSameState self.old self.new) }
         ensures improves { OnOk result (Improves (A.walks self.old.algebra) (v + 1) self.old.factor
             self.new.factor) }
-        ensures past { OnOk result ((y : ℕ) (b : A.Walk) → Rises self.old.factor v y b → (from.place ≡ y → ⊥) →
-            LeadsNoWorse (A.walks self.old.algebra) self.new.factor from.place y
-            ((A.walks self.old.algebra).compose from.walk b)) }
+        ensures joined { OnOk result ((j : ℕ) (e f : Edge A.Walk) → i < j → IsEdgeAt self.old.factor v i e →
+            IsEdgeAt self.old.factor v j f → AreJoined (A.walks self.old.algebra) self.new.factor e f) }
     {
         self.holds();
-        for j in 0..self.rising(v) {
-            let to = self.riser(v, j);
-            self.join(v, from, to)?;
+        let first = self.edge(v, i);
+        let count = self.count(v);
+        for j in i + 1..count {
+            let second = self.edge(v, j);
+            self.join(v, first, second)?;
         }
         Ok(())
     }
 
-    /// Eliminates a place: joins each link that falls to it with each that rises from it.
+    /// Eliminates a place: joins each two of its edges.
     fn eliminate(&mut self, v: usize) -> Result<(), Memory>
         requires { v < self.old.roads.vertices }
         ensures same { OnOk result (IsSameState self.old self.new) }
@@ -150,9 +155,8 @@ impl<'g, A: ComposingAlgebra> Elimination<'g, A> {
         ensures closed { OnOk result (IsClosedAt (A.walks self.old.algebra) self.new.factor v) }
     {
         self.holds();
-        for j in 0..self.falling(v) {
-            let from = self.faller(v, j);
-            self.pass(v, from)?;
+        for i in 0..self.count(v) {
+            self.pass(v, i)?;
         }
         Ok(())
     }

@@ -1,41 +1,47 @@
 //! A graph that is factored.
+ghost use Rattle.std.specs.Prelude.{◌<◌, ◌≤◌};
 ghost use Rattle.road_graph.specs.GraphData.{IsGraph};
 ghost use Rattle.path_algebra.specs.Algebra.{IsLawful};
 ghost use Rattle.path_algebra.specs.Composition.{IsComposition};
 ghost use Rattle.path_factors.specs.Factors.{IsFactor};
+ghost use Rattle.path_factors.specs.Edges.{AreAligned};
+ghost use Rattle.path_factors.specs.Tree.{IsTreeParent};
 
 use crate::packed::PackedRows;
 use path_algebra::{ComposingAlgebra, composition_holds, laws_hold};
 use road_graph::{OutGraph, Vertex};
 use std::marker::Model;
+use std::snapshot::Snapshot;
 
-/// A graph with links between the places of an order, from which best values are found by substitution.
+/// Links between the places of an order, from which best values of a graph are found by substitution. Contracts alone
+/// see the graph and the order.
+///
+/// It takes 12 bytes for each vertex, and 4 and those of two walks for each edge.
 #[derive(Drop)]
-pub struct Factors<'g, A: ComposingAlgebra> {
+pub struct Factors<A: ComposingAlgebra> {
     pub(crate) algebra: A,
-    pub(crate) graph: &'g OutGraph,
-    /// The vertex at each place.
-    pub(crate) order: Vec<Vertex>,
+    pub(crate) graph: Snapshot<OutGraph>,
+    pub(crate) order: Snapshot<Vec<Vertex>>,
     /// The place of each vertex.
     pub(crate) places: Vec<u32>,
-    /// For each place the links to greater places.
-    pub(crate) leaving: PackedRows<A::Walk>,
-    /// For each place the links from greater places.
-    pub(crate) entering: PackedRows<A::Walk>,
+    /// For each place the links to greater places and from them.
+    pub(crate) rows: PackedRows<A::Walk>,
+    /// For each place the least one to which it has an edge, or how many places there are if it has none.
+    pub(crate) parents: Vec<u32>,
 }
 
-impl<'g, A: ComposingAlgebra> Model for Factors<'g, A> {
-    ghost use Rattle.path_factors.specs.Factors.{IsFactor};
+impl<A: ComposingAlgebra> Model for Factors<A> {
     ghost use Rattle.path_factors.specs.State.{FactorState};
+    ghost use Rattle.path_factors.specs.Tree.{IsFactored};
 
     ghost Value = { FactorState A A.Walk };
 
-    ghost view = { λ f. record { algebra = f.algebra; roads = f.graph.now; factor = record { order = f.order.items; places = f.places.items; leaving = f.leaving; entering = f.entering } } };
+    ghost view = { λ f. record { algebra = f.algebra; roads = f.graph.value; factor = record { order = f.order.value.items; places = f.places.items; leaving = f.rows.leaving; entering = f.rows.entering } } };
 
-    ghost invariant = { λ f. IsFactor (A.meaning f.algebra) (A.walks f.algebra) f.graph.now (record { order = f.order.items; places = f.places.items; leaving = f.leaving; entering = f.entering }) };
+    ghost invariant = { λ f. IsFactored (A.meaning f.algebra) (A.walks f.algebra) f.graph.value (record { order = f.order.value.items; places = f.places.items; leaving = f.rows.leaving; entering = f.rows.entering }) f.parents.items };
 }
 
-impl<'g, A: ComposingAlgebra> Factors<'g, A> {
+impl<A: ComposingAlgebra> Factors<A> {
     /// What holds of every factor. Nothing is computed.
     pub fn holds(&self)
         ensures factor { IsFactor (A.meaning self.now.algebra) (A.walks self.now.algebra)
@@ -43,9 +49,19 @@ impl<'g, A: ComposingAlgebra> Factors<'g, A> {
         ensures roads { IsGraph self.now.roads }
         ensures lawful { IsLawful (A.meaning self.now.algebra) }
         ensures composes { IsComposition (A.meaning self.now.algebra) (A.walks self.now.algebra) }
+        ensures aligned { AreAligned self.now.factor.leaving self.now.factor.entering }
     {
         laws_hold(self.algebra);
         composition_holds(self.algebra);
-        self.graph.holds();
+    }
+
+    /// The least place to which a place has an edge; how many places there are if it has none.
+    pub(crate) fn parent(&self, i: usize) -> usize
+        requires { i < self.now.roads.vertices }
+        ensures parent { IsTreeParent self.now.factor.leaving self.now.roads.vertices i result }
+        ensures above { i < result }
+        ensures inside { result ≤ self.now.roads.vertices }
+    {
+        self.parents[i] as usize
     }
 }

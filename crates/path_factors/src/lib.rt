@@ -5,19 +5,22 @@
 //! up and down, find the best value of each vertex.
 #![tactic(auto)]
 
-mod ancestors;
-mod asked;
+mod asker;
 mod better;
 mod build;
+mod climb;
+mod edge;
 mod elimination;
 mod factors;
+mod find;
 mod link;
 mod load;
 mod order;
 mod packed;
 mod rows;
 mod solve;
+mod tree;
 
-pub use asked::Asked;
+pub use asker::Asker;
 pub use factors::Factors;
 pub use link::Link;

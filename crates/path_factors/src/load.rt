@@ -19,49 +19,7 @@ impl<'g, A: ComposingAlgebra> Elimination<'g, A> {
         self.places[v.0 as usize - 1]
     }
 
-    /// Puts a link back for a road from a vertex, though it is no walk.
-    fn mirror_road(&mut self, tail: Vertex, road: OutRoad) -> Result<(), Memory>
-        requires tail { HasVertex self.old.roads tail }
-        requires head { HasVertex self.old.roads road.head }
-        ensures same { OnOk result (IsSameState self.old self.new) }
-        ensures improves { OnOk result (Improves (A.walks self.old.algebra) 0 self.old.factor
-            self.new.factor) }
-    {
-        self.holds();
-        let walk = self.algebra.no_walk();
-        self.connect(self.place(road.head), self.place(tail), walk)?;
-        Ok(())
-    }
-
-    /// Puts a link back for each arc that leaves a vertex.
-    fn mirror_from(&mut self, tail: Vertex) -> Result<(), Memory>
-        requires { HasVertex self.old.roads tail }
-        ensures same { OnOk result (IsSameState self.old self.new) }
-        ensures improves { OnOk result (Improves (A.walks self.old.algebra) 0 self.old.factor
-            self.new.factor) }
-    {
-        self.holds();
-        let graph = self.graph;
-        for road in graph.roads_from(tail) {
-            self.mirror_road(tail, *road)?;
-        }
-        Ok(())
-    }
-
-    /// Puts a link back for each arc, so that the rows of a place list the same places both ways.
-    pub(crate) fn mirror(&mut self) -> Result<(), Memory>
-        ensures same { OnOk result (IsSameState self.old self.new) }
-        ensures improves { OnOk result (Improves (A.walks self.old.algebra) 0 self.old.factor
-            self.new.factor) }
-    {
-        self.holds();
-        for i in 0..self.graph.vertices() {
-            self.mirror_from(Vertex(i + 1))?;
-        }
-        Ok(())
-    }
-
-    /// Puts a link for a road from a vertex.
+    /// Puts a link for a road from a vertex, and no walk back, unless there is one.
     fn add(&mut self, tail: Vertex, road: OutRoad) -> Result<(), Memory>
         requires tail { HasVertex self.old.roads tail }
         requires head { HasVertex self.old.roads road.head }
@@ -75,8 +33,9 @@ impl<'g, A: ComposingAlgebra> Elimination<'g, A> {
             (place_of self.old.factor road.head) ((A.walks self.old.algebra).of_arc road.weight)) }
     {
         self.holds();
-        let walk = self.algebra.of_arc(road.weight);
-        self.connect(self.place(tail), self.place(road.head), walk)?;
+        let there = self.algebra.of_arc(road.weight);
+        let back = self.algebra.no_walk();
+        self.connect(self.place(tail), self.place(road.head), there, back)?;
         Ok(())
     }
 

@@ -1,15 +1,15 @@
-//! The links of each place.
-ghost use Rattle.std.specs.Prelude.{◌≡◌, ◌≤◌, length, OnOk, OnErr};
-ghost use Rattle.path_factors.specs.Eliminating.{IsImproved};
+//! The edges of each place, while a graph is factored.
+ghost use Rattle.std.specs.Prelude.{◌≡◌, ◌≤◌, cond, length, OnOk, OnErr};
+ghost use Rattle.path_factors.specs.Edges.{IsEdgeImproved, better_edge};
 
-use crate::link::Link;
+use crate::edge::Edge;
 use path_algebra::{ComposingAlgebra, composition_holds};
 use road_graph::Memory;
 use std::alloc::{AllocError, Global};
 use std::marker::Model;
 
-/// The first index of a row, from `i` on, whose link leads to a place or beyond.
-fn step_to<W: Copy>(row: &[Link<W>], i: usize, place: u32) -> usize
+/// The first index of a row, from `i` on, whose edge leads to a place or beyond.
+fn step_to<W: Copy>(row: &[Edge<W>], i: usize, place: u32) -> usize
     requires { i ≤ length row.now }
     ensures { result ≤ length row.now }
 {
@@ -20,8 +20,8 @@ fn step_to<W: Copy>(row: &[Link<W>], i: usize, place: u32) -> usize
     j
 }
 
-/// The first index of an ascending row whose link leads to a place or beyond, by halving.
-fn bisect<W: Copy>(row: &[Link<W>], place: u32) -> usize
+/// The first index of an ascending row whose edge leads to a place or beyond, by halving.
+fn bisect<W: Copy>(row: &[Edge<W>], place: u32) -> usize
     ensures { result ≤ length row.now }
 {
     let mut low = 0;
@@ -37,9 +37,9 @@ fn bisect<W: Copy>(row: &[Link<W>], place: u32) -> usize
     low
 }
 
-/// The first index of an ascending row whose link leads to a place or beyond; looked for from a hint on, if it is not
-/// past the place. Links are offered in ascending order, so most are found in a few steps.
-fn seek<W: Copy>(row: &[Link<W>], hint: u32, place: u32) -> usize
+/// The first index of an ascending row whose edge leads to a place or beyond; looked for from a hint on, if it is not
+/// past the place. Edges are offered in ascending order, so most are found in a few steps.
+fn seek<W: Copy>(row: &[Edge<W>], hint: u32, place: u32) -> usize
     ensures { result ≤ length row.now }
 {
     let i = hint as usize;
@@ -50,53 +50,76 @@ fn seek<W: Copy>(row: &[Link<W>], hint: u32, place: u32) -> usize
     }
 }
 
-/// Makes the link of a row to a place no worse than this one, where `j` is its index or that to insert it at.
+/// The better of two links each way.
+fn better_of<A: ComposingAlgebra>(
+    algebra: A,
+    old: Edge<A::Walk>,
+    new: Edge<A::Walk>,
+) -> Edge<A::Walk>
+    ensures { result ≡ better_edge (A.walks algebra) old new }
+{
+    let leaving = if algebra.no_worse_walk(old.leaving, new.leaving) {
+        old.leaving
+    } else {
+        new.leaving
+    };
+    let entering = if algebra.no_worse_walk(old.entering, new.entering) {
+        old.entering
+    } else {
+        new.entering
+    };
+    Edge {
+        place: new.place,
+        leaving,
+        entering,
+    }
+}
+
+/// Makes the links of a row to and from a place no worse than these, where `j` is their index or that to insert them at.
 fn improve<A: ComposingAlgebra>(
     algebra: A,
-    row: &mut Vec<Link<A::Walk>>,
+    row: &mut Vec<Edge<A::Walk>>,
     j: usize,
-    link: Link<A::Walk>,
+    edge: Edge<A::Walk>,
 ) -> Result<(), Memory>
     requires { j ≤ length row.old.items }
-    ensures done { OnOk result (IsImproved (A.walks algebra) row.old.items link row.new.items) }
+    ensures done { OnOk result (IsEdgeImproved (A.walks algebra) row.old.items edge row.new.items) }
     ensures kept { OnErr result (row.new.items ≡ row.old.items) }
 {
     composition_holds(algebra);
-    if j < row.len() && row[j].place == link.place {
-        if !algebra.no_worse_walk(row[j].walk, link.walk) {
-            row[j] = link;
-        }
+    if j < row.len() && row[j].place == edge.place {
+        row[j] = better_of(algebra, row[j], edge);
     } else {
-        row.insert(j, link).map_err(AllocError::from)?;
+        row.insert(j, edge).map_err(AllocError::from)?;
     }
     Ok(())
 }
 
-/// A row of links for each place.
+/// A row of edges for each place, to greater places.
 #[derive(Drop)]
 pub(crate) struct Rows<W: Copy> {
-    rows: Vec<Vec<Link<W>>>,
-    /// Where a link was last put into each row.
+    rows: Vec<Vec<Edge<W>>>,
+    /// Where an edge was last put into each row.
     hints: Vec<u32>,
 }
 
 impl<W: Copy> Model for Rows<W> {
-    ghost use Rattle.std.specs.Prelude.{List, map};
-    ghost use Rattle.path_factors.specs.declared.link.Link.{Link};
+    ghost use Rattle.std.specs.Prelude.{map};
+    ghost use Rattle.path_factors.specs.Edges.{LinkRows, rising, falling};
 
-    ghost Value = { List (List (Link W)) };
+    ghost Value = { LinkRows W };
 
-    ghost view = { λ r. map (λ row. row.items) r.rows.items };
+    ghost view = { λ r. record { leaving = map (λ row. map rising row.items) r.rows.items; entering = map (λ row. map falling row.items) r.rows.items } };
 }
 
 impl<W: Copy> Rows<W> {
-    ghost use Rattle.std.specs.Prelude.{◌≡◌, ◌<◌, [], length, replicate, IfOk, OnOk, OnErr};
+    ghost use Rattle.std.specs.Prelude.{◌≡◌, ◌<◌, [], length, map, replicate, slice_index_or, IfOk, OnOk, OnErr};
     ghost use Rattle.path_factors.specs.Factors.{row_of};
-    ghost use Rattle.path_factors.specs.Eliminating.{AreImproved};
+    ghost use Rattle.path_factors.specs.Edges.{rising, falling, AreAligned, AreEdgesImproved};
 
-    /// No link at n places.
+    /// No edge at n places.
     pub(crate) fn new(alloc: Global, n: usize) -> Result<Self, Memory>
-        ensures { IfOk result (λ rows. rows ≡ replicate n []) }
+        ensures { IfOk result (λ rows. rows ≡ record { leaving = replicate n []; entering = replicate n [] }) }
     {
         let hints = vec![in alloc; 0; n]?;
         let mut rows = Vec::with_capacity(alloc, n)?;
@@ -106,25 +129,28 @@ impl<W: Copy> Rows<W> {
         Ok(Rows { rows, hints })
     }
 
-    /// How many places have a row.
+    /// How many places have a row, which lists the same places both ways.
     pub(crate) fn count(&self) -> usize
-        ensures { result ≡ length self.now }
+        ensures leaving { result ≡ length self.now.leaving }
+        ensures entering { result ≡ length self.now.entering }
+        ensures aligned { AreAligned self.now.leaving self.now.entering }
     {
         self.rows.len()
     }
 
-    /// The links of a place.
-    pub(crate) fn row(&self, i: usize) -> &[Link<W>]
-        requires { i < length self.now }
-        ensures { result.now ≡ row_of self.now i }
+    /// The edges of a place.
+    pub(crate) fn row(&self, i: usize) -> &[Edge<W>]
+        requires { i < length self.now.leaving }
+        ensures leaving { map rising result.now ≡ row_of self.now.leaving i }
+        ensures entering { map falling result.now ≡ row_of self.now.entering i }
     {
         self.rows[i].as_slice()
     }
 
-    /// Where the link of a row to a place is, or is to be inserted.
+    /// Where the edge of a row to a place is, or is to be inserted.
     fn index_for(&self, i: usize, place: u32) -> usize
-        requires { i < length self.now }
-        ensures { result ≤ length (row_of self.now i) }
+        requires { i < length self.now.leaving }
+        ensures { result ≤ length (row_of self.now.leaving i) }
     {
         let hint = match self.hints.get(i) {
             Some(hint) => *hint,
@@ -133,7 +159,7 @@ impl<W: Copy> Rows<W> {
         seek(self.row(i), hint, place)
     }
 
-    /// Keeps where a link is put into a row.
+    /// Keeps where an edge is put into a row.
     fn note(&mut self, i: usize, j: usize)
         ensures { self.new ≡ self.old }
     {
@@ -142,36 +168,36 @@ impl<W: Copy> Rows<W> {
         }
     }
 
-    /// Makes the link of a row to a place no worse than this one, at its index.
+    /// Makes the links of a row to and from a place no worse than these, at their index.
     fn put<A: ComposingAlgebra<Walk = W>>(
         &mut self,
         algebra: A,
         i: usize,
         j: usize,
-        link: Link<W>,
+        edge: Edge<W>,
     ) -> Result<(), Memory>
-        requires row { i < length self.old }
-        requires index { j ≤ length (row_of self.old i) }
-        ensures done { OnOk result (AreImproved (A.walks algebra) self.old i link self.new) }
+        requires row { i < length self.old.leaving }
+        requires index { j ≤ length (row_of self.old.leaving i) }
+        ensures done { OnOk result (AreEdgesImproved (A.walks algebra) self.old i edge self.new) }
         ensures kept { OnErr result (self.new ≡ self.old) }
     {
-        improve(algebra, &mut self.rows[i], j, link)?;
+        improve(algebra, &mut self.rows[i], j, edge)?;
         Ok(())
     }
 
-    /// Makes the link between two places no worse than this one, in the row of the first.
+    /// Makes the links between two places no worse than these, in the row of the first.
     pub(crate) fn improve<A: ComposingAlgebra<Walk = W>>(
         &mut self,
         algebra: A,
         i: usize,
-        link: Link<W>,
+        edge: Edge<W>,
     ) -> Result<(), Memory>
-        requires { i < length self.old }
-        ensures done { OnOk result (AreImproved (A.walks algebra) self.old i link self.new) }
+        requires { i < length self.old.leaving }
+        ensures done { OnOk result (AreEdgesImproved (A.walks algebra) self.old i edge self.new) }
         ensures kept { OnErr result (self.new ≡ self.old) }
     {
-        let j = self.index_for(i, link.place);
+        let j = self.index_for(i, edge.place);
         self.note(i, j);
-        self.put(algebra, i, j, link)
+        self.put(algebra, i, j, edge)
     }
 }

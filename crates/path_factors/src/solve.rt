@@ -36,9 +36,9 @@ fn label_at<V: Copy>(labels: &[Option<V>], place: u32) -> Option<V>
     labels[place as usize]
 }
 
-impl<'g, A: ComposingAlgebra> Factors<'g, A> {
+impl<A: ComposingAlgebra> Factors<A> {
     /// Offers the label of a place, extended, to each greater place to which it has a link.
-    fn offer_up(&self, labels: &mut [Option<A::Value>], i: usize)
+    pub(crate) fn offer_up(&self, labels: &mut [Option<A::Value>], i: usize)
         requires place { i < self.now.roads.vertices }
         requires labels { length labels.old ≡ self.now.roads.vertices }
         ensures { labels.new ≡ offered_from (A.meaning self.now.algebra) (A.walks self.now.algebra)
@@ -48,7 +48,8 @@ impl<'g, A: ComposingAlgebra> Factors<'g, A> {
         let Some(x) = labels[i] else {
             return;
         };
-        for link in self.leaving.row(i) {
+        for j in 0..self.rows.count(i) {
+            let link = self.rows.riser(i, j);
             offer(
                 algebra,
                 labels,
@@ -67,8 +68,9 @@ impl<'g, A: ComposingAlgebra> Factors<'g, A> {
     {
         let algebra = self.algebra;
         let mut best = labels[i];
-        for link in self.entering.row(i) {
-            best = better(algebra, best, brought(algebra, labels, *link));
+        for j in 0..self.rows.count(i) {
+            let link = self.rows.faller(i, j);
+            best = better(algebra, best, brought(algebra, labels, link));
         }
         best
     }
@@ -83,11 +85,7 @@ impl<'g, A: ComposingAlgebra> Factors<'g, A> {
     }
 
     /// The origin at each source, and no label elsewhere. Sources may repeat.
-    pub(crate) fn at_sources(
-        &self,
-        alloc: Global,
-        sources: &[Vertex],
-    ) -> Result<Vec<Option<A::Value>>, Memory>
+    fn at_sources(&self, alloc: Global, sources: &[Vertex]) -> Result<Vec<Option<A::Value>>, Memory>
         requires { All (HasVertex self.now.roads) sources.now }
         ensures { IfOk result (λ labels. AreOrigins (A.meaning self.now.algebra) self.now.roads
             self.now.factor sources.now labels.items) }
@@ -102,7 +100,7 @@ impl<'g, A: ComposingAlgebra> Factors<'g, A> {
     }
 
     /// Forward substitution: each place, in ascending order, offers its label along its links.
-    pub(crate) fn sweep_up(&self, labels: &mut [Option<A::Value>])
+    fn sweep_up(&self, labels: &mut [Option<A::Value>])
         requires { length labels.old ≡ self.now.roads.vertices }
         ensures { (sources : List ℕ) →
             IsForwardTo (A.meaning self.now.algebra) (A.walks self.now.algebra) self.now.roads self.now.factor sources 0 labels.old →

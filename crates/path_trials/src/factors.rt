@@ -8,7 +8,7 @@ use road_graph::{OutGraph, Vertex};
 use std::process::Abort;
 
 /// One of the orders of the vertices 1 to n, by its number: each next vertex is picked by a digit of it.
-fn order_of(rt: &(impl Abort + AllocGlobal), n: u32, number: u32) -> Vec<Vertex> {
+pub(crate) fn order_of(rt: &(impl Abort + AllocGlobal), n: u32, number: u32) -> Vec<Vertex> {
     let mut left = Vec::new(rt.alloc());
     for v in 1..=n {
         left.push(Vertex(v)).expect(rt, "memory");

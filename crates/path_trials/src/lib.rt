@@ -6,6 +6,8 @@
 #[cfg(test)]
 mod algebras;
 #[cfg(test)]
+mod askers;
+#[cfg(test)]
 mod cores;
 #[cfg(test)]
 mod ends;

@@ -1,9 +1,10 @@
 use Rattle.std.proofs.Common.{◌≡◌, ◌∙◌, ap, sym, subst, arith}
 use Rattle.path_factors.specs.Factors.{IsWorthOfWalk, LeadsNoWorse, vertex_at, place_of}
+use Rattle.path_factors.proofs.Connecting.{worth_of_none}
 use Rattle.path_factors.proofs.elimination.Elimination.add.Goals as goal
 
-pub connect-requires-clause-worth : goal.connect-requires-clause-worth
-connect-requires-clause-worth g c κs within =
+pub connect-requires-clause-there : goal.connect-requires-clause-there
+connect-requires-clause-there g c κs within =
     let A = g.A.PathAlgebra.meaning c.args.self.now.algebra in
     let C = g.A.ComposingAlgebra.walks c.args.self.now.algebra in
     let G = c.args.self.now.roads in
@@ -12,8 +13,8 @@ connect-requires-clause-worth g c κs within =
     let head = c.args.road.head in
     let ordering = c.holds.ensures.begun.ordering in
     let alg : c.self.inside.algebra ≡ c.args.self.now.algebra = λ i. (c.self.view_is i).algebra in
-    let is : c.of_arc-walk.result ≡ C.of_arc c.args.road.weight =
-    c.of_arc-walk.ensures ∙ ap (λ a. (g.A.ComposingAlgebra.walks a).of_arc c.args.road.weight) alg in
+    let is : c.of_arc-there.result ≡ C.of_arc c.args.road.weight =
+    c.of_arc-there.ensures ∙ ap (λ a. (g.A.ComposingAlgebra.walks a).of_arc c.args.road.weight) alg in
     let from : vertex_at F c.place.result ≡ tail = ap (vertex_at F) c.place.ensures.place ∙ (ordering.place tail c.requires.tail).1 in
     let to : vertex_at F c.place-2.result ≡ head = ap (vertex_at F) c.place-2.ensures.place ∙ (ordering.place head c.requires.head).1 in
     subst (λ w. IsWorthOfWalk A C G (vertex_at F c.place.result) (vertex_at F c.place-2.result) w) (sym is)
@@ -32,11 +33,23 @@ returns-clause-leads g c = λ other.
     let head = c.args.road.head in
     let ordering = c.holds.ensures.begun.ordering in
     let alg : c.self.inside.algebra ≡ c.args.self.now.algebra = λ i. (c.self.view_is i).algebra in
-    let is : c.of_arc-walk.result ≡ C.of_arc c.args.road.weight =
-    c.of_arc-walk.ensures ∙ ap (λ a. (g.A.ComposingAlgebra.walks a).of_arc c.args.road.weight) alg in
+    let is : c.of_arc-there.result ≡ C.of_arc c.args.road.weight =
+    c.of_arc-there.ensures ∙ ap (λ a. (g.A.ComposingAlgebra.walks a).of_arc c.args.road.weight) alg in
     let from : vertex_at F c.place.result ≡ tail = ap (vertex_at F) c.place.ensures.place ∙ (ordering.place tail c.requires.tail).1 in
     let to : vertex_at F c.place-2.result ≡ head = ap (vertex_at F) c.place-2.ensures.place ∙ (ordering.place head c.requires.head).1 in
-    let leads = c.in_ok-connect.ensures.leads (λ e. other (sym from ∙ ap (vertex_at F) e ∙ to)) in
+    let leads = c.in_ok-connect.ensures.there (λ e. other (sym from ∙ ap (vertex_at F) e ∙ to)) in
     subst (λ w. LeadsNoWorse C H (place_of F tail) (place_of F head) w) is
-    (subst (λ p. LeadsNoWorse C H p (place_of F head) c.of_arc-walk.result) c.place.ensures.place
-    (subst (λ p. LeadsNoWorse C H c.place.result p c.of_arc-walk.result) c.place-2.ensures.place leads))
+    (subst (λ p. LeadsNoWorse C H p (place_of F head) c.of_arc-there.result) c.place.ensures.place
+    (subst (λ p. LeadsNoWorse C H c.place.result p c.of_arc-there.result) c.place-2.ensures.place leads))
+
+pub connect-requires-clause-back : goal.connect-requires-clause-back
+connect-requires-clause-back g c κs within =
+    let A = g.A.PathAlgebra.meaning c.args.self.now.algebra in
+    let C = g.A.ComposingAlgebra.walks c.args.self.now.algebra in
+    let G = c.args.self.now.roads in
+    let F = c.args.self.now.factor in
+    let alg : c.self.inside.algebra ≡ c.args.self.now.algebra = λ i. (c.self.view_is i).algebra in
+    let is : c.no_walk-back.result ≡ C.no_walk =
+    c.no_walk-back.ensures ∙ ap (λ a. (g.A.ComposingAlgebra.walks a).no_walk) alg in
+    subst (λ w. IsWorthOfWalk A C G (vertex_at F c.place-2.result) (vertex_at F c.place.result) w) (sym is)
+    (worth_of_none A C c.holds.ensures.composes G (vertex_at F c.place-2.result) (vertex_at F c.place.result))

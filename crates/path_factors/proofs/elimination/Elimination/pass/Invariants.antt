@@ -1,3 +1,4 @@
+use Rattle.std.proofs.Common.{◌<◌}
 use Rattle.path_factors.specs.State.{IsSameState}
 use Rattle.path_factors.proofs.Eliminating.{Passed}
 use Rattle.path_factors.proofs.elimination.Elimination.pass.Given as goal
@@ -5,5 +6,6 @@ use Rattle.path_factors.proofs.elimination.Elimination.pass.Given as goal
 abbrev pub invariant-loop-j : goal.invariant-loop-j
 invariant-loop-j g l = record {
   same : IsSameState l.fn.self l.self;
-  passed : Passed (g.A.ComposingAlgebra.walks l.fn.self.algebra) l.v l.from l.fn.self.factor l.self.factor l.j;
+  after : l.i < l.j;
+  passed : Passed (g.A.ComposingAlgebra.walks l.fn.self.algebra) l.v l.i l.fn.self.factor l.self.factor l.j;
 }

@@ -1,10 +1,12 @@
-use Rattle.std.proofs.Common.{◌≡◌, arith}
+use Rattle.std.proofs.Common.{◌≡◌, ◌<◌, length, arith}
+use Rattle.path_factors.specs.Factors.{row_of}
 use Rattle.path_factors.proofs.Places.{entering_inside}
 use Rattle.path_factors.proofs.factors.Factors.best_down.Goals as goal
 
 pub brought-requires-after_bounds : goal.brought-requires-after_bounds
 brought-requires-after_bounds g c κs within =
-    let r = entering_inside (g.A.PathAlgebra.meaning c.self.inside.algebra) (g.A.ComposingAlgebra.walks c.self.inside.algebra) c.self.inside.graph.now _ c.self.invariant.links
-    c.args.i c.row-link-items.result.now c.row-link-items.ensures c.loop-link.link-index c.link-item.result c.loop-link-test.true c.link-item.is in
-    let n : c.self.inside.graph.now.vertices ≡ c.args.self.now.roads.vertices = λ i. (c.self.view_is i).roads.vertices in
+    let lt : c.loop-j.j < length (row_of c.self.inside.rows.entering c.args.i) = omega (arith, c.loop-j-test.true, c.count-j-end.ensures.entering) in
+    let r = entering_inside (g.A.PathAlgebra.meaning c.self.inside.algebra) (g.A.ComposingAlgebra.walks c.self.inside.algebra) c.self.inside.graph.value _ c.self.invariant.factor.links
+    c.args.i (row_of c.self.inside.rows.entering c.args.i) (λ i. row_of c.self.inside.rows.entering c.args.i) c.loop-j.j c.faller-link.result lt c.faller-link.ensures in
+    let n : c.self.inside.graph.value.vertices ≡ c.args.self.now.roads.vertices = λ i. (c.self.view_is i).roads.vertices in
     omega (arith, r.1, n, c.requires.labels)

@@ -7,12 +7,12 @@ use Rattle.path_factors.proofs.factors.Factors.build.Goals as goal
 
 pub into_factors-requires-clause-covers : goal.into_factors-requires-clause-covers
 into_factors-requires-clause-covers g c κs within =
-    let opened = c.mirror.new.self in
+    let opened = c.in_ok-elimination.elimination in
     let loaded = c.load.new.self in
     let done = c.eliminate_all.new.self in
     let load = c.in_ok-load.ensures in
     let all = c.in_ok-eliminate_all.ensures in
-    let ordered = subst (λ a. IsOrder (g.A.ComposingAlgebra.walks a).no_worse) (sym (load.same.algebra ∙ c.in_ok-mirror.ensures.same.algebra ∙ c.in_ok-elimination.ensures.algebra)) c.composition_holds.ensures.ordered in
+    let ordered = subst (λ a. IsOrder (g.A.ComposingAlgebra.walks a).no_worse) (sym (load.same.algebra ∙ c.in_ok-elimination.ensures.algebra)) c.composition_holds.ensures.ordered in
     let roads = subst (λ r. CoversArcs (g.A.ComposingAlgebra.walks opened.algebra) r loaded.factor) (sym load.same.roads) load.covers in
     let covers = subst (λ a. CoversArcs (g.A.ComposingAlgebra.walks a) loaded.roads loaded.factor) (sym load.same.algebra) roads in
     let kept = still_covers (g.A.ComposingAlgebra.walks loaded.algebra) ordered loaded.roads loaded.factor done.factor all.improves covers in

@@ -1,10 +1,12 @@
-use Rattle.std.proofs.Common.{◌≡◌, arith}
+use Rattle.std.proofs.Common.{◌≡◌, ◌<◌, length, arith}
+use Rattle.path_factors.specs.Factors.{row_of}
 use Rattle.path_factors.proofs.Places.{leaving_inside}
 use Rattle.path_factors.proofs.factors.Factors.offer_up.Goals as goal
 
 pub offer-requires-after_bounds : goal.offer-requires-after_bounds
 offer-requires-after_bounds g c κs within =
-    let r = leaving_inside (g.A.PathAlgebra.meaning c.self.inside.algebra) (g.A.ComposingAlgebra.walks c.self.inside.algebra) c.self.inside.graph.now _ c.self.invariant.links
-    c.args.i c.row-link-items.result.now c.row-link-items.ensures c.loop-link.link-index c.link-item.result c.loop-link-test.true c.link-item.is in
-    let n : c.self.inside.graph.now.vertices ≡ c.args.self.now.roads.vertices = λ i. (c.self.view_is i).roads.vertices in
-    omega (arith, r.1, n, c.requires.labels, c.loop-link.invariant.count)
+    let lt : c.loop-j.j < length (row_of c.self.inside.rows.leaving c.args.i) = omega (arith, c.loop-j-test.true, c.count-j-end.ensures.leaving) in
+    let r = leaving_inside (g.A.PathAlgebra.meaning c.self.inside.algebra) (g.A.ComposingAlgebra.walks c.self.inside.algebra) c.self.inside.graph.value _ c.self.invariant.factor.links
+    c.args.i (row_of c.self.inside.rows.leaving c.args.i) (λ i. row_of c.self.inside.rows.leaving c.args.i) c.loop-j.j c.riser-link.result lt c.riser-link.ensures in
+    let n : c.self.inside.graph.value.vertices ≡ c.args.self.now.roads.vertices = λ i. (c.self.view_is i).roads.vertices in
+    omega (arith, r.1, n, c.requires.labels, c.loop-j.invariant.count)

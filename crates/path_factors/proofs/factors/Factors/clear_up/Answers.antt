@@ -1,0 +1,26 @@
+use Rattle.std.proofs.Common.{◌<◌, ◌∙◌, None, length-set, arith}
+use Rattle.path_factors.proofs.Climbing.{clear_more, clear_ends}
+use Rattle.path_factors.proofs.factors.Factors.clear_up.Goals as goal
+
+pub loop-v-preserved : goal.loop-v-preserved
+loop-v-preserved g c =
+    let A = g.A.PathAlgebra.meaning c.args.self.now.algebra in
+    let C = g.A.ComposingAlgebra.walks c.args.self.now.algebra in
+    let G = c.args.self.now.roads in
+    let holds = c.holds.ensures in
+    let v = c.loop-v.v in
+    let count = c.loop-v.invariant.count in
+    let low : v < G.vertices = omega (arith, c.loop-v-test.true, count) in
+    record {
+      count = length-set c.loop-v.labels v None ∙ count;
+      inside = c.parent-v.ensures.inside;
+      up = clear_more A holds.lawful C holds.composes G holds.roads c.args.self.now.factor holds.factor v c.parent-v.result low c.parent-v.ensures.parent c.loop-v.labels count c.loop-v.invariant.up;
+    }
+
+pub returns-clause-none : goal.returns-clause-none
+returns-clause-none g c =
+    let A = g.A.PathAlgebra.meaning c.args.self.now.algebra in
+    let C = g.A.ComposingAlgebra.walks c.args.self.now.algebra in
+    let holds = c.holds.ensures in
+    clear_ends A holds.lawful C holds.composes c.args.self.now.roads holds.roads c.args.self.now.factor holds.factor c.loop-v.v c.loop-v.labels c.loop-v.invariant.count
+    (omega (arith, c.loop-v-test.false, c.loop-v.invariant.inside, c.loop-v.invariant.count)) c.loop-v.invariant.up

@@ -1,0 +1,28 @@
+use Rattle.std.proofs.Common.{◌≡◌, ℕ, ◌<◌, ◌∙◌, [], ◌∷◌, ◌++◌, List, false, append-nil, append_assoc, ap, arith, sym}
+use Rattle.std.proofs.lemmas.Grind.{common_steps}
+use Rattle.path_factors.specs.Asking.{is_on}
+use Rattle.path_factors.proofs.Finding.{unknown_none, unknown_more}
+use Rattle.path_factors.proofs.factors.Factors.list_unknown.Goals as goal
+
+pub loop-v-init : goal.loop-v-init
+loop-v-init g c = record {
+  inside = omega (arith, c.requires.place);
+  listed = ([], sym (append-nil c.args.asked.now.items), unknown_none c.args.self.now.factor.leaving c.args.self.now.roads.vertices c.args.known.now c.args.t);
+}
+
+pub loop-v-preserved : goal.loop-v-preserved
+loop-v-preserved g c =
+    let F = c.args.self.now.factor in
+    let n = c.args.self.now.roads.vertices in
+    let asked = c.args.asked.now.items in
+    let v = c.loop-v.v in
+    let p = c.parent-v.result in
+    let done = c.loop-v.invariant.listed in
+    let low : v < n = omega (arith, c.loop-v-test.true, c.requires.count) in
+    let off : is_on c.args.known.now v ≡ false = grind (arith, common_steps) in
+    let put : c.push.new.self.items ≡ c.loop-v.asked.items ++ v ∷ [] = grind (arith, common_steps) in
+    let more = put ∙ ap (λ (l : List ℕ). l ++ v ∷ []) done.1 ∙ append_assoc asked done.0 (v ∷ []) in
+    record {
+      inside = c.parent-v.ensures.inside;
+      listed = (done.0 ++ v ∷ [], more, unknown_more F.leaving n c.args.known.now c.args.t done.0 v p done.2 low off c.parent-v.ensures.parent);
+    }

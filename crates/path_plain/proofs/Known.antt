@@ -5,12 +5,13 @@ use Rattle.std.proofs.lemmas.List.{get_or-replicate, length-replicate, take_more
 use Rattle.std.proofs.lemmas.List.Elements.{Contains-append_left, Contains-push, Contains-push_cases}
 use Rattle.std.specs.Prelude.{Contains, IsTrue}
 use Rattle.road_graph.proofs.Lists.{not_in_empty, head_or_tail, here, later}
-use Rattle.path_algebra.specs.Walks.{label_of, improved, offered, AreWalkValues, IsNotImproving}
+use Rattle.path_algebra.specs.Walks.{label_of, improved, offered}
 use Rattle.path_plain.specs.Opening.{AreOpening}
-use Rattle.road_graph.specs.GraphData.{GraphData, IsGraph, HasArc, HasVertex, arc_of, ListsArcsFrom}
+use Rattle.road_graph.specs.GraphData.{GraphData, IsGraph, HasVertex, arc_of, ListsArcsFrom}
 use Rattle.path_algebra.specs.Algebra.{Algebra, IsLawful}
 use Rattle.path_algebra.proofs.Least.{same_no_worse}
 use Rattle.path_algebra.specs.Open.{IsBestOpen}
+pub use Rattle.path_plain.specs.Rounds.{IsSettled, Search}
 
 module _ {V : Type 0} (no_worse : V → V → Bool) (origin : V) (n : ℕ) where
   pub opening_none : AreOpening origin n [] (replicate n None)
@@ -81,21 +82,6 @@ module _ {V : Type 0} (no_worse : V → V → Bool) (origin : V) (n : ℕ) where
   opening_more sources i s labels next known lt is low high e =
       let cut : take (i + 1) sources ≡ take i sources ++ s ∷ [] = take_more sources i s lt ∙ ap (λ (t : ℕ). take i sources ++ t ∷ []) (sym is) in
       rw (cut, e) (opening_back (take i sources) labels known s low high)
-
--- a vertex that is marked as settled
-abbrev pub IsSettled : List Bool → ℕ → Type 0
-IsSettled settled v = get_or settled (v - 1) false ≡ true
-
--- x is a level: no settled label is worse, and no open one is better; pending arcs wait for their turn
-pub record Search {V : Type 0} (A : Algebra V) (g : GraphData) (sources : List ℕ) (labels : List (Option V)) (settled : List Bool) (x : V) (pending : List ℕ) : Type 0 where
-  pub labels_count : length labels ≡ g.vertices
-  pub settled_count : length settled ≡ g.vertices
-  pub values : AreWalkValues A g sources labels
-  pub at_sources : (s : ℕ) → Contains sources s → (y : V) × (label_of labels s ≡ Some y) × IsTrue (A.no_worse y A.origin)
-  pub labelled : (v : ℕ) → HasVertex g v → IsSettled settled v → (y : V) × (label_of labels v ≡ Some y) × IsTrue (A.no_worse y x)
-  pub above : (v : ℕ) (y : V) → HasVertex g v → get_or settled (v - 1) false ≡ false → label_of labels v ≡ Some y → IsTrue (A.no_worse x y)
-  pub closed : (a : ℕ) → HasArc g a → IsSettled settled (arc_of g a).tail → Contains pending a ⊎ IsNotImproving A g labels a
-  pub current : (a : ℕ) → Contains pending a → HasArc g a × IsSettled settled (arc_of g a).tail × (label_of labels (arc_of g a).tail ≡ Some x)
 
 module _ {V : Type 0} (A : Algebra V) (lawful : IsLawful A) (g : GraphData) (roads : IsGraph g) (sources : List ℕ) where
   pub none_settled : (v : ℕ) → HasVertex g v → IsSettled (replicate g.vertices false) v → ⊥

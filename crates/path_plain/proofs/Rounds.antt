@@ -12,6 +12,7 @@ use Rattle.path_plain.proofs.Known.{Search, search_start, search_pick}
 use Rattle.path_plain.proofs.Offering.{search_relaxed}
 use Rattle.path_plain.specs.Opening.{AreOpening}
 use Rattle.path_plain.specs.Searching.{Relaxes}
+pub use Rattle.path_plain.specs.Rounds.{Between}
 
 module _ {V : Type 0} (A : Algebra V) (lawful : IsLawful A) (g : GraphData) (roads : IsGraph g) (sources : List ℕ) (inside : All (HasVertex g) sources) (settled : List Bool) (x : V) where
   pub search_ends : (labels : List (Option V)) → Search A g sources labels settled x [] → AnswersBestOpen A.no_worse labels settled g.vertices None → AreBest A g sources labels
@@ -27,11 +28,6 @@ module _ {V : Type 0} (A : Algebra V) (lawful : IsLawful A) (g : GraphData) (roa
       (all_inside g sources inside)
       known.at_sources
       known.labels_count
-
--- a search between two rounds
-pub record Between {V : Type 0} (A : Algebra V) (g : GraphData) (sources : List ℕ) (labels : List (Option V)) (settled : List Bool) : Type 0 where
-  pub level : V
-  pub known : Search A g sources labels settled level []
 
 abbrev pub unsettled : List Bool → ℕ
 unsettled settled = sum_by (λ b. cond b 0 1) settled

@@ -14,6 +14,11 @@ pub record AreBestUpTo {V : Type 0} (A : Algebra V) (g : GraphData) (sources : L
       IsTrue (A.no_worse x t) → label_of labels v ≡ Some x
   pub all : IsUnreached A g sources target → AreBest A g sources labels
 
+-- best up to the target, or everywhere if there is none
+abbrev pub AreBestAsFar : {V : Type 0} → Algebra V → GraphData → List ℕ → Option ℕ → List (Option V) → Type 0
+AreBestAsFar A g sources None labels = AreBest A g sources labels
+AreBestAsFar A g sources (Some target) labels = AreBestUpTo A g sources target labels
+
 -- the target has a label, and that of each open vertex is worse
 pub record IsPast {V : Type 0} (no_worse : V → V → Bool) (labels : List (Option V)) (settled : List Bool) (target : ℕ) : Type 0 where
   pub value : V

@@ -6,7 +6,10 @@
 mod laws;
 mod queue;
 mod search;
+mod searcher;
 mod solve;
+mod touched;
 
 pub use laws::{best_values_exist, labels_serve_nearer_targets};
+pub use searcher::Searcher;
 pub use solve::{solve_from, solve_one, solve_outgoing, solve_to};

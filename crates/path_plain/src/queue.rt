@@ -103,6 +103,13 @@ impl<A: PathAlgebra> Queue<A> {
         }
     }
 
+    /// Takes all entries out of the queue.
+    pub(crate) fn clear(&mut self)
+        ensures { self.new ≡ [] }
+    {
+        self.heap.clear();
+    }
+
     /// Puts an entry into the queue.
     pub(crate) fn push(&mut self, value: A::Value, place: usize) -> Result<(), Memory>
         ensures items { OnOk result

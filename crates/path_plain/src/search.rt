@@ -1,86 +1,115 @@
 //! A search from a list of sources: vertices are settled best first, each once.
 
-ghost use Rattle.std.specs.Prelude.{◌≡◌, ℕ, ◌+◌, ◌≤◌, All, length, replicate, false, IsTrue, OnOk, IfOk};
+ghost use Rattle.std.specs.Prelude.{◌≡◌, ◌+◌, ◌≤◌, [], All, OnOk, IfOk, IfSome, IsTrue, MatchOption, is_some, length, true};
 ghost use Rattle.road_graph.specs.GraphData.{HasVertex};
 ghost use Rattle.path_algebra.specs.Walks.{offered, offered_if};
-ghost use Rattle.path_plain.specs.Opening.{AreOpening};
-ghost use Rattle.path_plain.specs.Searching.{IsSameSearch, Relaxes, Proceeds};
+ghost use Rattle.path_plain.specs.Noting.{noted_list};
+ghost use Rattle.path_plain.specs.Rounds.{Between, Runs};
+ghost use Rattle.path_plain.specs.Searching.{IsBlank, IsOfSame, IsSameSearch, Relaxes, Advances};
 ghost use Rattle.path_plain.specs.UpTo.{IsPast};
 
 use crate::queue::Queue;
+use crate::touched::{Touched, put_back};
 use path_algebra::{Labels, PathAlgebra, laws_hold};
 use road_graph::{Memory, OutGraph, Vertex};
 use std::alloc::Global;
 use std::marker::Model;
+use std::snapshot::Snapshot;
 
 /// The label of each vertex, whether it is settled, and the queue of those that are open.
 #[derive(Drop)]
-pub(crate) struct Search<'g, A: PathAlgebra> {
+pub(crate) struct Search<A: PathAlgebra> {
     algebra: A,
-    graph: &'g OutGraph,
-    labels: Vec<Option<A::Value>>,
+    graph: Snapshot<OutGraph>,
+    labels: Labels<A::Value>,
     settled: Vec<bool>,
     queue: Queue<A>,
+    /// The vertices that have had a label since the search was blank.
+    touched: Touched,
 }
 
-impl<'g, A: PathAlgebra> Model for Search<'g, A> {
-    ghost use Rattle.std.specs.Prelude.{length};
+impl<A: PathAlgebra> Model for Search<A> {
+    ghost use Rattle.std.specs.Prelude.{length, is_some};
     ghost use Rattle.path_plain.specs.Searching.{SearchState, IsSearch};
 
     ghost Value = { SearchState A A.Value };
 
-    ghost view = { λ s. record { algebra = s.algebra; roads = s.graph.now; labels = s.labels.items; settled = s.settled.items; waiting = length s.queue } };
+    ghost view = { λ s. record { algebra = s.algebra; roads = s.graph.value; labels = s.labels; settled = s.settled.items; waiting = length s.queue; notes = is_some s.touched } };
 
-    ghost invariant = { λ s. IsSearch (λ o. o.value) (λ o. o.place) A.order s.graph.now s.labels.items s.settled.items s.queue };
+    ghost invariant = { λ s. IsSearch (λ o. o.value) (λ o. o.place) A.order s.graph.value s.labels s.settled.items s.queue s.touched };
 }
 
-impl<'g, A: PathAlgebra> Search<'g, A> {
-    /// A search in which each source has the origin for its label, and nothing is settled. Sources may repeat.
-    pub(crate) fn open(
+impl<A: PathAlgebra> Search<A> {
+    /// A search in which no vertex has a label. It notes what it touches in `touched`, if that has a list.
+    pub(crate) fn new(
         alloc: Global,
         algebra: A,
-        graph: &'g OutGraph,
-        sources: &[Vertex],
+        graph: &OutGraph,
+        touched: Touched,
     ) -> Result<Self, Memory>
-        requires { All (HasVertex graph.now) sources.now }
+        requires { noted_list touched ≡ [] }
         ensures algebra { IfOk result (λ s. s.algebra ≡ algebra) }
         ensures graph { IfOk result (λ s. s.roads ≡ graph.now) }
-        ensures opening { IfOk result (λ s. AreOpening (A.meaning algebra).origin graph.now.vertices
-            sources.now s.labels) }
-        ensures settled { IfOk result (λ s. s.settled ≡ replicate graph.now.vertices false) }
+        ensures notes { IfOk result (λ s. s.notes ≡ is_some touched) }
+        ensures blank { IfOk result IsBlank }
     {
+        graph.holds();
         let n = graph.vertices() as usize;
         let labels: Vec<Option<A::Value>> = vec![in alloc; None; n]?;
         let settled: Vec<bool> = vec![in alloc; false; n]?;
-        let queue = Queue::new(alloc);
-        let mut search = Search {
+        Ok(Search {
             algebra,
-            graph,
-            labels,
+            graph: Snapshot::of(graph),
+            labels: Labels::from_vec(labels),
             settled,
-            queue,
-        };
+            queue: Queue::new(alloc),
+            touched,
+        })
+    }
+
+    /// Puts back what was touched: no vertex has a label, none is settled, and none waits.
+    pub(crate) fn clear(&mut self)
+        requires { self.old.notes ≡ true }
+        ensures blank { IsBlank self.new }
+        ensures of_same { IsOfSame self.old self.new }
+    {
+        put_back(&mut self.labels, &mut self.settled, self.touched.vertices());
+        self.touched.clear();
+        self.queue.clear();
+    }
+
+    /// Gives each source the origin for its label. Sources may repeat.
+    pub(crate) fn start(&mut self, sources: &[Vertex]) -> Result<(), Memory>
+        requires blank { IsBlank self.old }
+        requires sources { All (HasVertex self.old.roads) sources.now }
+        ensures between { OnOk result (Between (A.meaning self.old.algebra) self.old.roads
+            sources.now self.new.labels self.new.settled) }
+        ensures of_same { IsOfSame self.old self.new }
+    {
+        let algebra = self.algebra;
+        laws_hold(algebra);
         for source in sources {
-            search.offer(*source, algebra.origin())?;
+            self.offer(*source, algebra.origin())?;
         }
-        Ok(search)
+        Ok(())
     }
 
     /// Gives a vertex the value z, if that is strictly better than its label, and puts it into the queue with it.
     fn offer(&mut self, v: Vertex, z: A::Value) -> Result<(), Memory>
         requires { HasVertex self.old.roads v }
         ensures labels { OnOk result (self.new.labels ≡ offered A.order self.old.labels v z) }
-        ensures same { OnOk result (IsSameSearch self.old self.new) }
+        ensures same { IsSameSearch self.old self.new }
         ensures few { OnOk result (self.new.waiting ≤ self.old.waiting + 1) }
     {
-        let i = v.0 as usize - 1;
-        let is_better = match self.labels[i] {
+        let is_better = match self.labels.of(v) {
             Some(y) => !A::no_worse(y, z),
             None => true,
         };
         if is_better {
-            self.queue.push(z, i)?;
-            self.labels[i] = Some(z);
+            let is_new = self.labels.of(v).is_none();
+            self.touched.note_if(v, is_new)?;
+            self.queue.push(z, v.0 as usize - 1)?;
+            self.labels.set(v, Some(z));
         }
         Ok(())
     }
@@ -90,7 +119,7 @@ impl<'g, A: PathAlgebra> Search<'g, A> {
         requires { HasVertex self.old.roads v }
         ensures labels { OnOk result (self.new.labels ≡ offered_if A.order self.old.labels v
             extended) }
-        ensures same { OnOk result (IsSameSearch self.old self.new) }
+        ensures same { IsSameSearch self.old self.new }
         ensures few { OnOk result (self.new.waiting ≤ self.old.waiting + 1) }
     {
         match extended {
@@ -100,15 +129,15 @@ impl<'g, A: PathAlgebra> Search<'g, A> {
     }
 
     /// Extends x along each arc that leaves v, and offers the result to the arc's head.
-    fn relax(&mut self, v: Vertex, x: A::Value) -> Result<(), Memory>
-        requires { HasVertex self.old.roads v }
+    fn relax(&mut self, graph: &OutGraph, v: Vertex, x: A::Value) -> Result<(), Memory>
+        requires graph { graph.now ≡ self.old.roads }
+        requires vertex { HasVertex self.old.roads v }
         ensures relaxes { OnOk result (Relaxes (A.meaning self.old.algebra) self.old.roads v x
             self.old.labels self.new.labels) }
-        ensures same { OnOk result (IsSameSearch self.old self.new) }
+        ensures same { IsSameSearch self.old self.new }
         ensures few { OnOk result (self.new.waiting ≤ self.old.waiting + length self.old.roads.arcs) }
     {
         let algebra = self.algebra;
-        let graph = self.graph;
         laws_hold(algebra);
         graph.holds();
         for road in graph.roads_from(v) {
@@ -118,26 +147,28 @@ impl<'g, A: PathAlgebra> Search<'g, A> {
     }
 
     /// Settles the vertex of the best entry with its value, or drops the entry if its vertex is settled already. False if the queue is empty.
-    pub(crate) fn settle_next(&mut self) -> Result<bool, Memory>
-        ensures { IfOk result (λ more. Proceeds A.order (A.meaning self.old.algebra) more self.old
-            self.new) }
+    fn settle_next(&mut self, graph: &OutGraph) -> Result<bool, Memory>
+        requires { graph.now ≡ self.old.roads }
+        ensures advances { IfOk result (λ more. Advances A.order (A.meaning self.old.algebra) more
+            self.old self.new) }
+        ensures of_same { IsOfSame self.old self.new }
     {
         let Some((x, i)) = self.queue.pop() else {
             return Ok(false);
         };
         if !self.settled[i] {
             self.settled[i] = true;
-            self.relax(Vertex(i as u32 + 1), x)?;
+            self.relax(graph, Vertex(i as u32 + 1), x)?;
         }
         Ok(true)
     }
 
     /// Whether the target has a label that is better than each value that waits. If so, no vertex that is open can come before it.
-    pub(crate) fn is_past(&self, target: Vertex) -> bool
+    fn is_past(&self, target: Vertex) -> bool
         requires { HasVertex self.now.roads target }
         ensures { IsTrue result → IsPast A.order self.now.labels self.now.settled target }
     {
-        let Some(t) = self.labels[target.0 as usize - 1] else {
+        let Some(t) = self.labels.of(target) else {
             return false;
         };
         match self.queue.first() {
@@ -146,10 +177,43 @@ impl<'g, A: PathAlgebra> Search<'g, A> {
         }
     }
 
+    /// Whether there is a target, and the search is past it.
+    fn is_past_any(&self, target: &Option<Vertex>) -> bool
+        requires { IfSome target.now (HasVertex self.now.roads) }
+        ensures { IsTrue result → MatchOption target.now ⊥ (IsPast A.order self.now.labels
+            self.now.settled) }
+    {
+        match target {
+            Some(v) => self.is_past(*v),
+            None => false,
+        }
+    }
+
+    /// Settles vertices until the search is past its target, or if it has none until no vertex waits.
+    pub(crate) fn run(&mut self, graph: &OutGraph, target: Option<Vertex>) -> Result<(), Memory>
+        requires graph { graph.now ≡ self.old.roads }
+        requires target { IfSome target (HasVertex self.old.roads) }
+        ensures runs { OnOk result (Runs (A.meaning self.old.algebra) target self.old self.new) }
+        ensures of_same { IsOfSame self.old self.new }
+    {
+        let algebra = self.algebra;
+        laws_hold(algebra);
+        graph.holds();
+        while !self.is_past_any(&target) && self.settle_next(graph)? {}
+        Ok(())
+    }
+
+    /// The labels.
+    pub(crate) fn labels(&self) -> &Labels<A::Value>
+        ensures { result.now ≡ self.now.labels }
+    {
+        &self.labels
+    }
+
     /// The labels.
     pub(crate) fn into_labels(self) -> Labels<A::Value>
-        ensures { result ≡ self.entry.labels }
+        ensures { result ≡ self.labels }
     {
-        Labels::from_vec(self.labels)
+        self.labels
     }
 }

@@ -1,14 +1,34 @@
 //! Best values from a list of sources.
 
-ghost use Rattle.std.specs.Prelude.{◌∷◌, [], All, IfOk};
+ghost use Rattle.std.specs.Prelude.{◌∷◌, [], All, IfOk, IfSome};
 ghost use Rattle.road_graph.specs.GraphData.{HasVertex};
 ghost use Rattle.path_algebra.specs.Walks.{AreBest};
-ghost use Rattle.path_plain.specs.UpTo.{AreBestUpTo};
+ghost use Rattle.path_plain.specs.UpTo.{AreBestAsFar, AreBestUpTo};
 
 use crate::search::Search;
-use path_algebra::{Labels, PathAlgebra, laws_hold};
+use crate::touched::Touched;
+use path_algebra::{Labels, PathAlgebra};
 use road_graph::{Graph, Memory, OutGraph, Vertex};
 use std::alloc::Global;
+
+/// Best values as far as the target, or everywhere if there is none.
+fn solve_as_far<A: PathAlgebra>(
+    alloc: Global,
+    algebra: A,
+    graph: &OutGraph,
+    sources: &[Vertex],
+    target: Option<Vertex>,
+) -> Result<Labels<A::Value>, Memory>
+    requires sources { All (HasVertex graph.now) sources.now }
+    requires target { IfSome target (HasVertex graph.now) }
+    ensures { IfOk result (λ labels. AreBestAsFar (A.meaning algebra) graph.now sources.now target
+        labels) }
+{
+    let mut search = Search::new(alloc, algebra, graph, Touched::unnoted())?;
+    search.start(sources)?;
+    search.run(graph, target)?;
+    Ok(search.into_labels())
+}
 
 /// The best value of each vertex over all walks from some source of the list, and none if no walk has a value. Sources may repeat.
 ///
@@ -22,11 +42,7 @@ pub fn solve_outgoing<A: PathAlgebra>(
     requires { All (HasVertex graph.now) sources.now }
     ensures { IfOk result (λ labels. AreBest (A.meaning algebra) graph.now sources.now labels) }
 {
-    laws_hold(algebra);
-    graph.holds();
-    let mut search = Search::open(alloc, algebra, graph, sources)?;
-    while search.settle_next()? {}
-    Ok(search.into_labels())
+    solve_as_far(alloc, algebra, graph, sources, None)
 }
 
 /// The same as far as the target: the search stops once each value that waits is worse than the target's.
@@ -44,11 +60,7 @@ pub fn solve_to<A: PathAlgebra>(
     ensures { IfOk result (λ labels. AreBestUpTo (A.meaning algebra) graph.now sources.now target
         labels) }
 {
-    laws_hold(algebra);
-    graph.holds();
-    let mut search = Search::open(alloc, algebra, graph, sources)?;
-    while !search.is_past(target) && search.settle_next()? {}
-    Ok(search.into_labels())
+    solve_as_far(alloc, algebra, graph, sources, Some(target))
 }
 
 /// Best values from a list of sources, in a graph that has its arcs by number and by head too.

@@ -20,4 +20,6 @@ mod pairs;
 #[cfg(test)]
 mod plain_solver;
 #[cfg(test)]
+mod searcher;
+#[cfg(test)]
 mod trees;

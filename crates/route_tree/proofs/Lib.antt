@@ -9,3 +9,4 @@ mod Existing
 mod VisitingBack
 mod RegionTrees
 mod UpTo
+mod Blank

@@ -12,7 +12,8 @@ use Rattle.path_algebra.proofs.Least.{same_no_worse}
 use Rattle.path_plain.specs.UpTo.{AreBestUpTo}
 use Rattle.route_tree.specs.Levels.{IsWalkOf, IsLeastAt, AreLeast, IsTreeArc, IsLeastTail, AreLeastTails}
 use Rattle.route_tree.specs.Regions.{Covers, LeadTo, VisitingBack, is_tight_into}
-use Rattle.route_tree.specs.Told.{IsParentRoute}
+use Rattle.route_tree.specs.Told.{IsParentRoute, IsPairRoute, IsRouteIn}
+use Rattle.route_tree.specs.declared.routes.PairRoute.{PairRoute}
 use Rattle.route_tree.specs.Tree.{IsRoute}
 use Rattle.route_tree.proofs.RegionTrees.{no_route, route_told}
 
@@ -193,3 +194,8 @@ module _ {V : Type 0} (A : Algebra V) (lawful : IsLawful A) (g : GraphData) (roa
   pub route_told_up_to : (k : ℕ) (list : List ℕ) → label_of near target ≡ Some k → IsRoute (record { hops = near; parents = adopted }) target list →
       AreHops A g (source ∷ []) target k × IsParentRoute A g (source ∷ []) target list × (length list ≡ k + 1)
   route_told_up_to = route_by (label_of whole target) refl
+
+  -- the route of the held tree is that of the pair
+  pub pair_told_up_to : (found : Option PairRoute) → IsRouteIn (record { hops = near; parents = adopted }) target found → IsPairRoute A g source target found
+  pair_told_up_to None e = no_route_up_to e
+  pair_told_up_to (Some r) e = route_told_up_to r.hops r.vertices.items e.0 e.1

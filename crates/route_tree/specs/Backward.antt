@@ -3,6 +3,7 @@ use Rattle.std.specs.Prelude.{◌≡◌, ℕ, ◌+◌, List, [], ◌∷◌, leng
 use Rattle.road_graph.specs.GraphData.{GraphData, IsGraph, HasVertex}
 use Rattle.path_algebra.specs.Algebra.{Algebra}
 use Rattle.path_algebra.specs.Walks.{label_of, is_marked, is_tight, is_tight_between}
+use Rattle.route_tree.specs.Blank.{AreFound}
 use Rattle.route_tree.specs.Regions.{VisitingBack}
 use Rattle.route_tree.specs.BreadthFirst.{LabelledGraph}
 
@@ -12,11 +13,12 @@ pub record BackwardState (A V : Type 0) : Type 0 where
   pub marks : List Bool
   pub next : List ℕ
 
--- a label and a mark for each vertex of a graph
-pub record IsBackward {V : Type 0} (g : GraphData) (labels : List (Option V)) (marks : List Bool) (next : List ℕ) : Type 0 where
+-- a label and a mark for each vertex of a graph, and a list of those that have one
+pub record IsBackward {V : Type 0} (g : GraphData) (labels : List (Option V)) (marks : List Bool) (found next : List ℕ) : Type 0 where
   pub roads : IsGraph g
   pub labels_count : length labels ≡ g.vertices
   pub marks_count : length marks ≡ g.vertices
+  pub noted : AreFound g marks found
   pub inside : All (HasVertex g) next
 
 -- whether the search goes back along an arc: it is tight

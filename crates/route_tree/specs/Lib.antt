@@ -3,5 +3,6 @@ pub mod Tree
 pub mod Told
 pub mod Levels
 pub mod Regions
+pub mod Blank
 pub mod BreadthFirst
 pub mod Backward

@@ -1,16 +1,18 @@
 //! The search from a target back over tight arcs, level by level, for the vertices that a route to it may go through.
 
-ghost use Rattle.std.specs.Prelude.{◌≡◌, ◌+◌, ◌-◌, ◌≤◌, ◌<◌, [], ◌∷◌, ◌++◌, All, IfOk, OnOk, cond, eqb, false, length, replicate, slice_set, true};
+ghost use Rattle.std.specs.Prelude.{◌≡◌, ◌+◌, ◌-◌, ◌≤◌, ◌<◌, [], ◌∷◌, ◌++◌, All, Contains, IfOk, OnOk, cond, eqb, false, length, replicate, slice_set, true};
 ghost use Rattle.road_graph.specs.GraphData.{HasVertex};
 ghost use Rattle.path_algebra.specs.Walks.{is_marked, is_tight};
+ghost use Rattle.route_tree.specs.Blank.{AreFound};
 ghost use Rattle.route_tree.specs.Regions.{Covers, LeadTo, unmarked};
 ghost use Rattle.route_tree.specs.Backward.{VisitsBack, VisitsAllBack, VisitsLevelBack, finds_tail};
 
 use crate::entering::Entering;
+use crate::routes::push;
 use crate::tightness::is_tight;
 use path_algebra::{Labels, PathAlgebra};
 use road_graph::{Memory, OutRoad, Vertex};
-use std::alloc::{AllocError, Global};
+use std::alloc::Global;
 use std::marker::Model;
 use std::mem;
 
@@ -22,6 +24,8 @@ struct Backward<'g, A: PathAlgebra, G: Entering> {
     labels: &'g Labels<A::Value>,
     /// Whether a vertex was found.
     marks: Vec<bool>,
+    /// The vertices that were found.
+    found: Vec<Vertex>,
     /// The vertices that were found last, from which the search goes on.
     next: Vec<Vertex>,
 }
@@ -33,20 +37,22 @@ impl<'g, A: PathAlgebra, G: Entering> Model for Backward<'g, A, G> {
 
     ghost view = { λ s. record { over = record { algebra = s.algebra; roads = G.roads s.graph.now; labels = s.labels.now }; marks = s.marks.items; next = s.next.items } };
 
-    ghost invariant = { λ s. IsBackward (G.roads s.graph.now) s.labels.now s.marks.items s.next.items };
+    ghost invariant = { λ s. IsBackward (G.roads s.graph.now) s.labels.now s.marks.items s.found.items s.next.items };
 }
 
 impl<'g, A: PathAlgebra, G: Entering> Backward<'g, A, G> {
-    /// A search that has found the target alone.
+    /// A search that has found the target alone. No vertex has a mark before.
     fn open(
         alloc: Global,
         algebra: A,
         graph: &'g G,
         labels: &'g Labels<A::Value>,
         target: Vertex,
+        marks: Vec<bool>,
     ) -> Result<Self, Memory>
         requires target { HasVertex (G.roads graph.now) target }
         requires labels { length labels.now ≡ (G.roads graph.now).vertices }
+        requires marks { marks.items ≡ replicate (G.roads graph.now).vertices false }
         ensures over { IfOk result (λ s. s.over ≡ record {
           algebra = algebra;
           roads = G.roads
@@ -59,15 +65,16 @@ impl<'g, A: PathAlgebra, G: Entering> Backward<'g, A, G> {
         ensures next { IfOk result (λ s. s.next ≡ target ∷ []) }
     {
         graph.holds();
-        let mut marks = vec![in alloc; false; graph.count() as usize]?;
+        let mut marks = marks;
         marks[target.0 as usize - 1] = true;
-        let mut next = Vec::new(alloc);
-        next.push(target).map_err(AllocError::from)?;
+        let found = list_of(alloc, target)?;
+        let next = list_of(alloc, target)?;
         Ok(Backward {
             algebra,
             graph,
             labels,
             marks,
+            found,
             next,
         })
     }
@@ -90,7 +97,8 @@ impl<'g, A: PathAlgebra, G: Entering> Backward<'g, A, G> {
         ensures size { OnOk result (unmarked self.new.marks + length self.new.next ≡ unmarked
             self.old.marks + length self.old.next) }
     {
-        self.next.push(v).map_err(AllocError::from)?;
+        push(&mut self.found, v)?;
+        push(&mut self.next, v)?;
         self.marks[v.0 as usize - 1] = true;
         Ok(())
     }
@@ -168,15 +176,27 @@ impl<'g, A: PathAlgebra, G: Entering> Backward<'g, A, G> {
         self.visit_all(&level, row)
     }
 
-    /// The marks.
-    fn into_marks(self) -> Vec<bool>
-        ensures { result.items ≡ self.entry.marks }
+    /// The marks, and the vertices that have one.
+    fn into_parts(self) -> (Vec<bool>, Vec<Vertex>)
+        ensures marks { result.0.items ≡ self.entry.marks }
+        ensures count { length result.0.items ≡ self.entry.over.roads.vertices }
+        ensures found { AreFound self.entry.over.roads result.0.items result.1.items }
     {
-        self.marks
+        (self.marks, self.found)
     }
 }
 
-/// Marks of the vertices from which walks of tight arcs lead to the target, level by level until the source is among them.
+/// A list of one vertex.
+fn list_of(alloc: Global, v: Vertex) -> Result<Vec<Vertex>, Memory>
+    ensures { IfOk result (λ list. list.items ≡ v ∷ []) }
+{
+    let mut list = Vec::new(alloc);
+    push(&mut list, v)?;
+    Ok(list)
+}
+
+/// Marks of the vertices from which walks of tight arcs lead to the target, level by level until the source is among
+/// them; and a list of the source and these vertices. No vertex has a mark before.
 pub(crate) fn marks_back<A: PathAlgebra, G: Entering>(
     alloc: Global,
     algebra: A,
@@ -184,20 +204,27 @@ pub(crate) fn marks_back<A: PathAlgebra, G: Entering>(
     labels: &Labels<A::Value>,
     source: Vertex,
     target: Vertex,
-) -> Result<Vec<bool>, Memory>
+    marks: Vec<bool>,
+) -> Result<(Vec<bool>, Vec<Vertex>), Memory>
     requires source { HasVertex (G.roads graph.now) source }
     requires target { HasVertex (G.roads graph.now) target }
     requires labels { length labels.now ≡ (G.roads graph.now).vertices }
-    ensures covers { IfOk result (λ marks. Covers (G.roads graph.now) (is_tight (A.meaning algebra)
-        (G.roads graph.now) labels.now) source target marks.items) }
-    ensures lead { IfOk result (λ marks. LeadTo (G.roads graph.now) (is_tight (A.meaning algebra)
-        (G.roads graph.now) labels.now) target marks.items) }
+    requires marks { marks.items ≡ replicate (G.roads graph.now).vertices false }
+    ensures covers { IfOk result (λ r. Covers (G.roads graph.now) (is_tight (A.meaning algebra)
+        (G.roads graph.now) labels.now) source target r.0.items) }
+    ensures lead { IfOk result (λ r. LeadTo (G.roads graph.now) (is_tight (A.meaning algebra)
+        (G.roads graph.now) labels.now) target r.0.items) }
+    ensures count { IfOk result (λ r. length r.0.items ≡ (G.roads graph.now).vertices) }
+    ensures found { IfOk result (λ r. AreFound (G.roads graph.now) r.0.items r.1.items) }
+    ensures source { IfOk result (λ r. Contains r.1.items source) }
 {
     graph.holds();
     let mut row = Vec::new(alloc);
-    let mut search = Backward::open(alloc, algebra, graph, labels, target)?;
+    let mut search = Backward::open(alloc, algebra, graph, labels, target, marks)?;
     while !search.is_done() && !search.has(source) {
         search.visit_level(alloc, &mut row)?;
     }
-    Ok(search.into_marks())
+    let (marks, mut found) = search.into_parts();
+    push(&mut found, source)?;
+    Ok((marks, found))
 }

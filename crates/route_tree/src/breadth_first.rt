@@ -6,6 +6,7 @@ ghost use Rattle.path_algebra.specs.Walks.{label_of};
 ghost use Rattle.route_tree.specs.Levels.{IsMarked, hops_if, is_near, lesser, next_if, parents_if, unreached};
 ghost use Rattle.route_tree.specs.BreadthFirst.{IsSameSearch, VisitsVertex, VisitsAll, VisitsLevel, passes_road};
 
+use crate::hops_and_parents::Tree;
 use crate::region::Region;
 use crate::slot::NumberSlot;
 use crate::tightness::is_tight;
@@ -52,7 +53,7 @@ fn lesser(old: NumberSlot, new: Vertex) -> NumberSlot
 }
 
 impl<'g, A: PathAlgebra> BreadthFirst<'g, A> {
-    /// A search whose first level is the sources. Sources may repeat.
+    /// A search whose first level is the sources. Sources may repeat. `blank` is room for the hops and the parents.
     pub(crate) fn open(
         alloc: Global,
         algebra: A,
@@ -60,9 +61,12 @@ impl<'g, A: PathAlgebra> BreadthFirst<'g, A> {
         labels: &'g Labels<A::Value>,
         region: &'g Region,
         sources: &[Vertex],
+        blank: Tree,
     ) -> Result<Self, Memory>
         requires sources { All (HasVertex graph.now) sources.now }
         requires labels { length labels.now ≡ graph.now.vertices }
+        requires hops { blank.hops ≡ replicate graph.now.vertices None }
+        requires parents { blank.parents ≡ replicate graph.now.vertices None }
         ensures over { IfOk result (λ s. s.over ≡ record {
           algebra = algebra;
           roads = graph.now;
@@ -74,9 +78,8 @@ impl<'g, A: PathAlgebra> BreadthFirst<'g, A> {
             s.hops s.next) }
         ensures parents { IfOk result (λ s. s.parents ≡ replicate graph.now.vertices None) }
     {
-        let n = graph.vertices() as usize;
-        let hops = vec![in alloc; NumberSlot::none(); n]?;
-        let parents = vec![in alloc; NumberSlot::none(); n]?;
+        graph.holds();
+        let (hops, parents) = blank.into_parts();
         let next = Vec::new(alloc);
         let mut search = BreadthFirst {
             algebra,

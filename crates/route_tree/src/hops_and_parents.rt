@@ -1,9 +1,10 @@
 //! The tree that hops and parents make.
 
-ghost use Rattle.std.specs.Prelude.{◌≡◌, ◌≤◌, length};
+ghost use Rattle.std.specs.Prelude.{◌≡◌, ◌≤◌, IfOk, None, length, replicate};
 
 use crate::slot::NumberSlot;
-use road_graph::Vertex;
+use road_graph::{Memory, Vertex};
+use std::alloc::Global;
 use std::marker::Model;
 
 /// The hops and the parent of each vertex.
@@ -33,6 +34,24 @@ impl Tree {
         ensures { result ≡ record { hops = hops.items; parents = parents.items } }
     {
         Tree { hops, parents }
+    }
+
+    /// A tree of n vertices in which none has hops or a parent.
+    pub(crate) fn blank(alloc: Global, n: usize) -> Result<Tree, Memory>
+        ensures hops { IfOk result (λ tree. tree.hops ≡ replicate n None) }
+        ensures parents { IfOk result (λ tree. tree.parents ≡ replicate n None) }
+    {
+        let hops = vec![in alloc; NumberSlot::none(); n]?;
+        let parents = vec![in alloc; NumberSlot::none(); n]?;
+        Ok(Tree::from_parts(hops, parents))
+    }
+
+    /// The hops and the parents.
+    pub(crate) fn into_parts(self) -> (Vec<NumberSlot>, Vec<NumberSlot>)
+        ensures hops { result.0.items ≡ self.hops }
+        ensures parents { result.1.items ≡ self.parents }
+    {
+        (self.hops, self.parents)
     }
 
     /// The number of vertices, which are 1 to this number.

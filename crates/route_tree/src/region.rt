@@ -1,6 +1,6 @@
 //! Regions of a graph, to which a tree may be restricted.
 
-ghost use Rattle.std.specs.Prelude.{◌≡◌, ◌≤◌, None, Some};
+ghost use Rattle.std.specs.Prelude.{◌≡◌, ◌≤◌, IsSome, None, Some};
 ghost use Rattle.route_tree.specs.Regions.{in_region};
 
 use road_graph::Vertex;
@@ -33,6 +33,14 @@ impl Region {
         ensures { result ≡ Some marks.items }
     {
         Region { marks: Some(marks) }
+    }
+
+    /// The marks of a region that has them.
+    pub(crate) fn into_marks(self) -> Vec<bool>
+        requires { IsSome self }
+        ensures { self ≡ Some result.items }
+    {
+        self.marks.unwrap()
     }
 
     /// Whether a vertex is in the region.

@@ -1,24 +1,22 @@
 //! Routes: chains of parents, from a whole tree or between two vertices alone.
 
-ghost use Rattle.std.specs.Prelude.{◌≡◌, ◌≤◌, [], ◌∷◌, ◌++◌, length, IfOk, OnOk, None, MatchOption};
+ghost use Rattle.std.specs.Prelude.{◌≡◌, ◌≤◌, [], ◌∷◌, ◌++◌, length, IfOk, OnErr, OnOk, None, MatchOption};
 ghost use Rattle.road_graph.specs.GraphData.{HasVertex};
 ghost use Rattle.path_algebra.specs.Walks.{AreBest};
 ghost use Rattle.path_plain.specs.UpTo.{AreBestUpTo};
-ghost use Rattle.route_tree.specs.Told.{IsPairRoute};
+ghost use Rattle.route_tree.specs.Told.{IsPairRoute, IsRouteIn};
 ghost use Rattle.route_tree.specs.Tree.{IsRoute, hops_of};
 
-use crate::backward::marks_back;
-use crate::entering::Entering;
 use crate::hops_and_parents::Tree;
-use crate::region::Region;
-use crate::tight_tree::tree_into;
+use crate::route_finder::RouteFinder;
 use path_algebra::{Labels, PathAlgebra, laws_hold};
-use path_plain::best_values_exist;
 use road_graph::{Graph, InGraph, Memory, OutGraph, Vertex};
 use std::alloc::{AllocError, Global};
 
-fn push(list: &mut Vec<Vertex>, v: Vertex) -> Result<(), Memory>
-    ensures { OnOk result (list.new.items ≡ list.old.items ++ (v ∷ [])) }
+/// Puts a vertex at the end of a list.
+pub(crate) fn push(list: &mut Vec<Vertex>, v: Vertex) -> Result<(), Memory>
+    ensures longer { OnOk result (list.new.items ≡ list.old.items ++ (v ∷ [])) }
+    ensures kept { OnErr result (list.new.items ≡ list.old.items) }
 {
     list.push(v).map_err(AllocError::from)?;
     Ok(())
@@ -56,31 +54,21 @@ pub struct PairRoute {
     pub vertices: Vec<Vertex>,
 }
 
-/// The route from a source to a target, in a graph with its arcs by tail; `back` is the same graph, searched by head.
-fn route_in<A: PathAlgebra, G: Entering>(
+/// The route to a target in a tree, and its hops; none if the target has no hops.
+pub(crate) fn pair_route(
     alloc: Global,
-    algebra: A,
-    graph: &OutGraph,
-    back: &G,
-    source: Vertex,
+    tree: &Tree,
     target: Vertex,
-    labels: &Labels<A::Value>,
 ) -> Result<Option<PairRoute>, Memory>
-    requires back { G.roads back.now ≡ graph.now }
-    requires source { HasVertex graph.now source }
-    requires target { HasVertex graph.now target }
-    requires labels { AreBestUpTo (A.meaning algebra) graph.now (source ∷ []) target labels.now }
-    ensures { IfOk result (IsPairRoute (A.meaning algebra) graph.now source target) }
+    requires low { 1 ≤ target }
+    requires high { target ≤ length tree.now.hops }
+    ensures { IfOk result (IsRouteIn tree.now target) }
 {
-    laws_hold(algebra);
-    best_values_exist(algebra);
-    graph.holds();
-    let region = Region::marked(marks_back(alloc, algebra, back, labels, source, target)?);
-    let tree = tree_into(alloc, algebra, graph, labels, &region, &[source])?;
+    tree.holds();
     let Some(hops) = tree.hops(target) else {
         return Ok(None);
     };
-    let Some(vertices) = route(alloc, &tree, target)? else {
+    let Some(vertices) = route(alloc, tree, target)? else {
         return Ok(None);
     };
     Ok(Some(PairRoute { hops, vertices }))
@@ -146,15 +134,8 @@ pub fn route_between_up_to<A: PathAlgebra>(
     requires labels { AreBestUpTo (A.meaning algebra) graph.now (source ∷ []) target labels.now }
     ensures { IfOk result (IsPairRoute (A.meaning algebra) graph.now source target) }
 {
-    route_in(
-        alloc,
-        algebra,
-        graph.outgoing(),
-        graph,
-        source,
-        target,
-        labels,
-    )
+    let mut finder = RouteFinder::new(alloc, graph.vertices());
+    finder.route_between(algebra, graph, labels, source, target)
 }
 
 /// The same, in a graph that has its arcs by tail alone, with `back`, which has them by head.
@@ -173,5 +154,6 @@ pub fn route_outgoing_up_to<A: PathAlgebra>(
     requires labels { AreBestUpTo (A.meaning algebra) graph.now (source ∷ []) target labels.now }
     ensures { IfOk result (IsPairRoute (A.meaning algebra) graph.now source target) }
 {
-    route_in(alloc, algebra, graph, back, source, target, labels)
+    let mut finder = RouteFinder::new(alloc, graph.vertices());
+    finder.route(algebra, graph, back, labels, source, target)
 }

@@ -1,6 +1,6 @@
 //! The tree of best labels, over the arcs that are tight by them.
 
-ghost use Rattle.std.specs.Prelude.{◌≡◌, All, IfOk, length};
+ghost use Rattle.std.specs.Prelude.{◌≡◌, All, IfOk, None, length, replicate};
 ghost use Rattle.road_graph.specs.GraphData.{HasVertex};
 ghost use Rattle.path_algebra.specs.Walks.{AreBest};
 ghost use Rattle.route_tree.specs.Levels.{AreLeast, AreLeastTails};
@@ -14,7 +14,7 @@ use path_algebra::{Labels, PathAlgebra, laws_hold};
 use road_graph::{Graph, Memory, OutGraph, Vertex};
 use std::alloc::Global;
 
-/// The least hops and the least parents over the tight arcs that lead into a region.
+/// The least hops and the least parents over the tight arcs that lead into a region. `blank` is room for them.
 pub(crate) fn tree_into<A: PathAlgebra>(
     alloc: Global,
     algebra: A,
@@ -22,16 +22,19 @@ pub(crate) fn tree_into<A: PathAlgebra>(
     labels: &Labels<A::Value>,
     region: &Region,
     sources: &[Vertex],
+    blank: Tree,
 ) -> Result<Tree, Memory>
     requires sources { All (HasVertex graph.now) sources.now }
     requires labels { length labels.now ≡ graph.now.vertices }
+    requires hops { blank.hops ≡ replicate graph.now.vertices None }
+    requires parents { blank.parents ≡ replicate graph.now.vertices None }
     ensures hops { IfOk result (λ tree. AreLeast graph.now (is_tight_into (A.meaning algebra)
         graph.now labels.now region.now) sources.now tree.hops) }
     ensures parents { IfOk result (λ tree. AreLeastTails graph.now
         (is_tight_into (A.meaning algebra) graph.now labels.now region.now) tree.hops tree.parents) }
 {
     graph.holds();
-    let mut search = BreadthFirst::open(alloc, algebra, graph, labels, region, sources)?;
+    let mut search = BreadthFirst::open(alloc, algebra, graph, labels, region, sources, blank)?;
     while !search.is_done() {
         search.visit_level(alloc)?;
     }
@@ -55,7 +58,16 @@ pub fn tree_outgoing<A: PathAlgebra>(
 {
     laws_hold(algebra);
     graph.holds();
-    let tree = tree_into(alloc, algebra, graph, labels, &Region::all(), sources)?;
+    let blank = Tree::blank(alloc, graph.vertices() as usize)?;
+    let tree = tree_into(
+        alloc,
+        algebra,
+        graph,
+        labels,
+        &Region::all(),
+        sources,
+        blank,
+    )?;
     Ok(tree)
 }
 

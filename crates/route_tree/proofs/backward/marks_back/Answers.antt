@@ -1,8 +1,10 @@
 use Rattle.std.proofs.Common.{◌≡◌, ℕ, ◌+◌, List, [], length, true, false, eqb-true, eq-eqb, arith, sym, subst, ◌∙◌, refl}
 use Rattle.std.proofs.lemmas.List.{nil_from_length}
+use Rattle.std.proofs.lemmas.List.Elements.{Contains-push}
 use Rattle.path_algebra.specs.Walks.{is_tight}
 use Rattle.route_tree.specs.Regions.{VisitingBack}
 use Rattle.route_tree.proofs.VisitingBack.{back_start, covers_near, covers_all}
+use Rattle.route_tree.proofs.Blank.{found_more}
 use Rattle.route_tree.proofs.UpTo.{back_leads}
 use Rattle.route_tree.proofs.backward.marks_back.Goals as goal
 use Rattle.route_tree.proofs.backward.marks_back.Goals.{then-loop-search-test+else-not-has, else-loop-search-test}
@@ -38,7 +40,7 @@ returns-clause-covers g c =
     let search = c.loop-search.search in
     let k = c.loop-search.invariant.visiting.0 in
     let known = c.loop-search.invariant.visiting.1 in
-    rw c.into_marks.ensures (elim c.loop-search-test.branch [
+    rw c.into_parts-marks.ensures.marks (elim c.loop-search-test.branch [
       | then-loop-search-test+else-not-has w ↦
           covers_near roads c.holds.ensures test c.args.target k search.marks c.args.source search.next known c.requires.source (sym w.has.ensures ∙ w.if-not-has.false)
       | else-loop-search-test w ↦
@@ -52,4 +54,16 @@ returns-clause-lead g c =
     let roads = g.G.Entering.roads c.args.graph.now in
     let test = is_tight (g.A.PathAlgebra.meaning c.args.algebra) roads c.args.labels.now in
     let search = c.loop-search.search in
-    rw c.into_marks.ensures (back_leads roads test c.args.target c.loop-search.invariant.visiting.0 search.marks search.next [] c.loop-search.invariant.visiting.1)
+    rw c.into_parts-marks.ensures.marks (back_leads roads test c.args.target c.loop-search.invariant.visiting.0 search.marks search.next [] c.loop-search.invariant.visiting.1)
+
+pub returns-clause-found : goal.returns-clause-found
+returns-clause-found g c =
+    let roads = g.G.Entering.roads c.args.graph.now in
+    let known = rw c.loop-search.invariant.over at c.into_parts-marks.ensures.found in
+    rw (c.in_ok-push.ensures.longer) (found_more roads _ _ c.args.source c.requires.source known)
+
+pub returns-clause-source : goal.returns-clause-source
+returns-clause-source g c = rw (c.in_ok-push.ensures.longer) (Contains-push _ c.args.source)
+
+pub returns-clause-count : goal.returns-clause-count
+returns-clause-count g c = rw c.loop-search.invariant.over at c.into_parts-marks.ensures.count

@@ -1,26 +1,40 @@
-use Rattle.std.proofs.Common.{◌≡◌, ◌-◌, ◌<◌, length, ◌∙◌, arith, refl, sym, None, get_or}
-use Rattle.std.proofs.lemmas.Grind.{common_steps}
-use Rattle.std.proofs.lemmas.List.{get_or_default}
-use Rattle.path_plain.proofs.Steps.{search_offers}
+use Rattle.std.proofs.Common.{◌≡◌, ℕ, ◌≤◌, ◌-◌, ◌∙◌, arith, ap, refl, sym}
+use Rattle.path_algebra.specs.Walks.{label_of}
+use Rattle.path_plain.specs.Noting.{noted_if}
+use Rattle.path_plain.proofs.Noting.{on_noted}
+use Rattle.path_plain.proofs.Steps.{search_notes, search_offers}
 use Rattle.path_plain.proofs.Waiting.{worse_than_offered, none_is_worse}
 use Rattle.path_plain.proofs.search.Search.offer.Goals as goal
 use Rattle.path_plain.proofs.search.Search.offer.Goals.{in-Some, in-None}
 
+pub invariant_of-self-in_err-push : goal.invariant_of-self-in_err-push
+invariant_of-self-in_err-push g c =
+    let laws = g.met.A.PathAlgebra g.world.𝓛 g.world.𝓜 g.world.𝓡 ((λ s x. x), (λ x. x), (λ x. x), λ x. x) in
+    let n : c.self.inside.graph.value.vertices ≡ c.args.self.now.roads.vertices = λ i. (c.self.view_is i).roads.vertices in
+    rw (c.in_err-push.ensures.kept, c.in_ok-note_if.ensures.noted)
+    (search_notes (λ o. o.value) (λ o. o.place) g.A.PathAlgebra.order laws.ordered c.self.inside.graph.value c.self.inside.labels c.self.inside.settled.items c.self.inside.queue c.self.inside.touched
+    c.self.invariant c.is_none-is_new.result c.args.v c.requires.0 (omega (arith, c.requires.1, n)))
+
 pub invariant_of-self-then-is_better : goal.invariant_of-self-then-is_better
 invariant_of-self-then-is_better g c =
     let laws = g.met.A.PathAlgebra g.world.𝓛 g.world.𝓜 g.world.𝓡 ((λ s x. x), (λ x. x), (λ x. x), λ x. x) in
-    let labels = c.self.inside.labels.items in
-    let k = c.v.inside.0 - 1 in
-    let n : c.self.inside.graph.now.vertices ≡ c.args.self.now.roads.vertices = λ i. (c.self.view_is i).roads.vertices in
-    let lt : k < length labels = omega (arith, c.requires.0, c.requires.1, n, c.v.view_is, c.self.invariant.labels_count) in
-    let old = get_or labels k None in
-    search_offers (λ o. o.value) (λ o. o.place) g.A.PathAlgebra.order laws.ordered c.self.inside.graph.now labels c.self.inside.settled.items c.self.inside.queue c.self.invariant k c.args.z _ _ lt
-    (elim c.match-index.branch [
-      | in-Some w ↦ worse_than_offered g.A.PathAlgebra.order laws.ordered old w.in-Some.y c.args.z w.no_worse.result c.match-index.is_better
-          (get_or_default labels k None c.index.result.now lt ∙ sym c.index.ensures ∙ w.in-Some.is) w.no_worse.ensures w.is_better-is c.if-is_better.true
-      | in-None w ↦ none_is_worse g.A.PathAlgebra.order old c.args.z (get_or_default labels k None c.index.result.now lt ∙ sym c.index.ensures ∙ w.in-None.is)
+    let order = g.A.PathAlgebra.order in
+    let G = c.self.inside.graph.value in
+    let labels = c.self.inside.labels in
+    let settled = c.self.inside.settled.items in
+    let touched = c.self.inside.touched in
+    let is_new = c.is_none-is_new.result in
+    let v = c.args.v in
+    let n : G.vertices ≡ c.args.self.now.roads.vertices = λ i. (c.self.view_is i).roads.vertices in
+    let high : v ≤ G.vertices = omega (arith, c.requires.1, n) in
+    rw (c.set.ensures, c.in_ok-note_if.ensures.noted)
+    (search_offers (λ o. o.value) (λ o. o.place) order laws.ordered G labels settled c.self.inside.queue (noted_if is_new touched v)
+    (search_notes (λ o. o.value) (λ o. o.place) order laws.ordered G labels settled c.self.inside.queue touched c.self.invariant is_new v c.requires.0 high)
+    v c.args.z _ _ c.requires.0 high
+    (on_noted G.vertices labels settled touched c.self.invariant.noted v c.of-then-is_better.result is_new c.requires.0 high (sym c.of-then-is_better.ensures) c.is_none-is_new.ensures)
+    (elim c.match-of.branch [
+      | in-Some w ↦ worse_than_offered order laws.ordered (label_of labels v) w.in-Some.y c.args.z w.no_worse.result c.match-of.is_better
+          (sym c.of.ensures ∙ w.in-Some.is) w.no_worse.ensures w.is_better-is c.if-is_better.true
+      | in-None w ↦ none_is_worse order (label_of labels v) c.args.z (sym c.of.ensures ∙ w.in-None.is)
     ])
-    c.in_ok-push.ensures.items refl refl
-
-pub returns-else-is_better-clause-labels : goal.returns-else-is_better-clause-labels
-returns-else-is_better-clause-labels g c = grind (arith, common_steps)
+    c.in_ok-push.ensures.items refl (ap (λ (k : ℕ). k - 1) c.v.view_is))

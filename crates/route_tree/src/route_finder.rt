@@ -1,0 +1,135 @@
+//! Routes between pairs of one graph, one after the other: the lists of the search stay.
+
+ghost use Rattle.std.specs.Prelude.{◌≡◌, ◌∷◌, [], IfOk};
+ghost use Rattle.road_graph.specs.GraphData.{HasVertex};
+ghost use Rattle.path_plain.specs.UpTo.{AreBestUpTo};
+ghost use Rattle.route_tree.specs.Told.{IsPairRoute};
+
+use crate::backward::marks_back;
+use crate::entering::Entering;
+use crate::lists::Lists;
+use crate::region::Region;
+use crate::routes::{PairRoute, pair_route};
+use crate::tight_tree::tree_into;
+use path_algebra::{Labels, PathAlgebra, laws_hold};
+use path_plain::best_values_exist;
+use road_graph::{Graph, InGraph, Memory, OutGraph, Vertex};
+use std::alloc::Global;
+use std::marker::Model;
+
+/// A search for the routes of pairs, in graphs with one number of vertices. Its lists of all vertices are made once.
+///
+/// Between two pairs only what the search has touched is put back. After a growth that was refused the lists are made
+/// anew.
+#[derive(Drop)]
+pub struct RouteFinder {
+    alloc: Global,
+    vertices: u32,
+    lists: Option<Lists>,
+}
+
+impl Model for RouteFinder {
+    ghost use Rattle.std.specs.Prelude.{◌≡◌, ℕ, IfSome};
+
+    ghost Value = { ℕ };
+
+    ghost view = { λ f. f.vertices };
+
+    ghost invariant = { λ f. IfSome f.lists (λ n. n ≡ f.vertices) };
+}
+
+impl RouteFinder {
+    /// A finder for graphs of this number of vertices. It makes its lists at the first pair.
+    pub fn new(alloc: Global, vertices: u32) -> Self
+        ensures { result ≡ vertices }
+    {
+        RouteFinder {
+            alloc,
+            vertices,
+            lists: None,
+        }
+    }
+
+    /// The lists, which are kept or made.
+    fn take_lists(&mut self) -> Result<Lists, Memory>
+        ensures lists { IfOk result (λ lists. lists ≡ self.old) }
+        ensures same { self.new ≡ self.old }
+    {
+        match self.lists.take() {
+            Some(lists) => Ok(lists),
+            None => Lists::new(self.alloc, self.vertices as usize),
+        }
+    }
+
+    /// The route from a source to a target, in a graph with its arcs by tail; `back` is the same graph, searched by head.
+    fn route_in<A: PathAlgebra, G: Entering>(
+        &mut self,
+        algebra: A,
+        graph: &OutGraph,
+        back: &G,
+        labels: &Labels<A::Value>,
+        source: Vertex,
+        target: Vertex,
+    ) -> Result<Option<PairRoute>, Memory>
+        requires count { graph.now.vertices ≡ self.old }
+        requires back { G.roads back.now ≡ graph.now }
+        requires source { HasVertex graph.now source }
+        requires target { HasVertex graph.now target }
+        requires labels { AreBestUpTo (A.meaning algebra) graph.now (source ∷ []) target labels.now }
+        ensures route { IfOk result (IsPairRoute (A.meaning algebra) graph.now source target) }
+        ensures same { self.new ≡ self.old }
+    {
+        laws_hold(algebra);
+        best_values_exist(algebra);
+        graph.holds();
+        let alloc = self.alloc;
+        let (marks, blank) = self.take_lists()?.into_parts();
+        let (marks, found) = marks_back(alloc, algebra, back, labels, source, target, marks)?;
+        let region = Region::marked(marks);
+        let tree = tree_into(alloc, algebra, graph, labels, &region, &[source], blank)?;
+        let route = pair_route(alloc, &tree, target)?;
+        self.lists = Some(Lists::put_back(region.into_marks(), tree, found.as_slice()));
+        Ok(route)
+    }
+
+    /// The route from a source to a target, for labels that are best up to the target; none if no walk has a value.
+    /// `back` has the arcs of the graph by head. The only error is `Memory`; after it the next call is right too.
+    pub fn route<A: PathAlgebra>(
+        &mut self,
+        algebra: A,
+        graph: &OutGraph,
+        back: &InGraph,
+        labels: &Labels<A::Value>,
+        source: Vertex,
+        target: Vertex,
+    ) -> Result<Option<PairRoute>, Memory>
+        requires count { graph.now.vertices ≡ self.old }
+        requires back { back.now ≡ graph.now }
+        requires source { HasVertex graph.now source }
+        requires target { HasVertex graph.now target }
+        requires labels { AreBestUpTo (A.meaning algebra) graph.now (source ∷ []) target labels.now }
+        ensures route { IfOk result (IsPairRoute (A.meaning algebra) graph.now source target) }
+        ensures same { self.new ≡ self.old }
+    {
+        self.route_in(algebra, graph, back, labels, source, target)
+    }
+
+    /// The same, in a graph that has its arcs by number and by head too.
+    pub fn route_between<A: PathAlgebra>(
+        &mut self,
+        algebra: A,
+        graph: &Graph,
+        labels: &Labels<A::Value>,
+        source: Vertex,
+        target: Vertex,
+    ) -> Result<Option<PairRoute>, Memory>
+        requires count { graph.now.vertices ≡ self.old }
+        requires source { HasVertex graph.now source }
+        requires target { HasVertex graph.now target }
+        requires labels { AreBestUpTo (A.meaning algebra) graph.now (source ∷ []) target labels.now }
+        ensures route { IfOk result (IsPairRoute (A.meaning algebra) graph.now source target) }
+        ensures same { self.new ≡ self.old }
+    {
+        self.route_in(algebra, graph.outgoing(), graph, labels, source, target)
+    }
+}

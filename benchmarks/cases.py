@@ -31,6 +31,10 @@ class Case:
         """The command of each program by its name, `diffuse` first."""
         raise NotImplementedError
 
+    def input(self):
+        """What the programs have on standard input."""
+        return ""
+
     def messages(self, name, noted, folder):
         """How many messages a program handled that wrote this on standard error, if it says so."""
         return None
@@ -43,7 +47,7 @@ class Case:
         turn %= len(commands)
         answers = {name: os.path.join(folder, name + ".answer") for name, _ in commands}
         for name, command in commands[turn:] + commands[:turn]:
-            taken, noted = measured(programs["measure"], command, answers[name])
+            taken, noted = measured(programs["measure"], command, answers[name], self.input())
             taken[MESSAGES] = self.messages(name, noted, folder)
             self.taken.setdefault(name, []).append(taken)
         for name in answers:
@@ -58,13 +62,22 @@ class Case:
     def median(self, name, what):
         return statistics.median(taken[what] for taken in self.taken[name])
 
-    def ratios(self, other, what):
-        """What diffuse took for one that the other took in the same round; none if the other did not run."""
-        return [ours[what] / theirs[what] for ours, theirs in zip(self.taken.get("diffuse", []), self.taken.get(other, []))]
+    def ratios(self, other, what, name="diffuse"):
+        """What a program took for one that the other took in the same round; none if either did not run."""
+        return [ours[what] / theirs[what] for ours, theirs in zip(self.taken.get(name, []), self.taken.get(other, []))]
 
-    def beyond(self, reading, name, what):
-        """What a program took beyond reading the graph, in each round: with questions, less without; none if either did not run."""
-        return [more[what] - less[what] for more, less in zip(self.taken.get(name, []), reading.taken.get(name, []))]
+    def ratios_to(self, other, what):
+        """What diffuse took for one that it took in another case, in the same round; none if either did not run."""
+        return [ours[what] / theirs[what] for ours, theirs in zip(self.taken.get("diffuse", []), other.taken.get("diffuse", []))]
+
+    def beyond(self, less, name, what):
+        """What a program took beyond a case with less to do, as reading the graph alone, in each round; none if either did not run."""
+        return [more[what] - less[what] for more, less in zip(self.taken.get(name, []), less.taken.get(name, []))]
+
+    def beyond_ratios(self, reading, other):
+        """The processor time of diffuse beyond reading for one that the other took in the same round, where that is above 0."""
+        ours, theirs = (self.beyond(reading, name, TIME) for name in ("diffuse", other))
+        return [one / two for one, two in zip(ours, theirs) if two > 0]
 
 
 class Plain(Case):
@@ -134,23 +147,28 @@ class Batch(Wide):
 
 
 class Engine(Case):
-    """Workers beside the same rule in plain C++ with the same settings, and beside the baseline."""
+    """Workers beside the same rule in plain C++ with the same settings and order of messages, and beside the baseline."""
 
     is_long = True
 
-    def __init__(self, files, kind, workers=1, shards=1, width=1, budget=1024):
+    def __init__(self, files, kind, settings=(1, 1, 1, 1024), best_first=False):
         super().__init__(files, kind)
-        self.settings = {"workers": workers, "shards": shards, "width": width, "budget": budget}
+        self.settings, self.best_first = dict(zip(("workers", "shards", "width", "budget"), settings)), best_first
 
     def title(self):
-        return "%s, %s, %s" % (self.files.name, self.kind, ", ".join("%s %d" % it for it in self.settings.items()))
+        settings = ["%s %d" % it for it in self.settings.items()] + (["best first"] if self.best_first else [])
+        return ", ".join([self.files.name, self.kind] + settings)
+
+    def order(self):
+        return "best first" if self.best_first else "as they come"
 
     def commands(self, programs, folder):
         graph, questions = self.files.graph, self.files.questions[self.kind]
         settings = [word for name, number in self.settings.items() for word in ("--" + name, str(number))]
+        words, order = (["--best-first"], ["best-first"]) if self.best_first else ([], [])
         return {
-            "diffuse": [programs["diffuse"], "solve", graph, questions] + settings + ["--accounts", accounts_in(folder)],
-            DIFFUSING: [programs["diffusing"], graph, questions] + settings[1::2],
+            "diffuse": [programs["diffuse"], "solve", graph, questions] + settings + words + ["--accounts", accounts_in(folder)],
+            DIFFUSING: [programs["diffusing"], graph, questions] + settings[1::2] + order,
             BASELINE: [programs["heap_dijkstra"], graph, questions],
         }
 
@@ -162,6 +180,11 @@ class Engine(Case):
     def count(self, name="diffuse"):
         """How many messages a program handled in the last round."""
         return self.taken[name][-1][MESSAGES]
+
+    def each_arc(self):
+        """How many messages diffuse handled for an arc and question, in each round; one more for each question is counted off."""
+        asked = self.files.count_of(self.kind)
+        return [(taken[MESSAGES] - asked) / (asked * self.files.arcs) for taken in self.taken.get("diffuse", [])]
 
     def counts_agree(self):
         """Whether both programs handled the same number of messages, as they do with one worker."""

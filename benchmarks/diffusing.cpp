@@ -4,18 +4,17 @@
 //
 // It is the engine's own rule in plain C++, to measure the engine against: the same parts, items in the same order,
 // batches through mailboxes of one word, a done word, workers that yield after a round in which nothing was done. On
-// standard error it tells how many messages were handled.
+// standard error it reports how many messages were handled.
 //
 // The rule: a message that finds its vertex idle engages it, any other is answered by a signal at once. A better value
 // becomes the vertex's label, and goes on along every outgoing arc that is not waiting for a signal; the others have
 // their turn when their signal comes. A vertex that waits for no signal answers the message that engaged it.
 #include "common.hpp"
+#include "items.hpp"
 
 #include <algorithm>
 #include <atomic>
 #include <memory>
-#include <queue>
-#include <string>
 #include <thread>
 
 constexpr uint32_t NOT_ENGAGED = ~uint32_t(0);
@@ -23,81 +22,6 @@ constexpr uint32_t NOT_ENGAGED = ~uint32_t(0);
 struct Settings {
     uint32_t workers = 4, shards = 4, width = 1, budget = 1024;
     bool best_first = false;
-};
-
-// A message on an arc, or the signal that answers it. Arc 0 leads from the environment to the source.
-struct Item {
-    uint32_t arc;
-    bool is_signal;
-    uint64_t value;
-};
-
-class Ring {
-    vector<Item> room = vector<Item>(64);
-    size_t first = 0, count = 0;
-
-    void grow() {
-        vector<Item> wider(2 * room.size());
-        for (size_t i = 0; i < count; i++) wider[i] = room[(first + i) & (room.size() - 1)];
-        room.swap(wider);
-        first = 0;
-    }
-
-public:
-    bool is_empty() const { return count == 0; }
-
-    void push(const Item& item) {
-        if (count == room.size()) grow();
-        room[(first + count++) & (room.size() - 1)] = item;
-    }
-
-    Item pop() {
-        Item item = room[first];
-        first = (first + 1) & (room.size() - 1);
-        count--;
-        return item;
-    }
-};
-
-// A message that waits for its turn by value. Less is worse: a greater value, and of equal values a greater arc.
-struct Ranked {
-    uint64_t value;
-    uint32_t arc;
-    bool operator<(const Ranked& other) const {
-        return value > other.value || (value == other.value && arc > other.arc);
-    }
-};
-
-// The items that wait at a part, in one of two orders. First come, first served they are in a ring. Best first, what came
-// is looked at from the newest on: a signal, or a message that improves nothing, is taken at once, any other is ranked.
-class Queue {
-    bool best_first = false;
-    Ring ring;
-    vector<Item> unranked;
-    std::priority_queue<Ranked> ranked;
-
-public:
-    void open(bool best) { best_first = best; }
-
-    bool is_empty() const { return ring.is_empty() && unranked.empty() && ranked.empty(); }
-
-    void push(const Item& item) {
-        if (best_first) unranked.push_back(item);
-        else ring.push(item);
-    }
-
-    template <class Improves> Item pop(Improves improves) {
-        if (!best_first) return ring.pop();
-        while (!unranked.empty()) {
-            Item item = unranked.back();
-            unranked.pop_back();
-            if (item.is_signal || !improves(item)) return item;
-            ranked.push({item.value, item.arc});
-        }
-        Ranked best = ranked.top();
-        ranked.pop();
-        return {best.arc, false, best.value};
-    }
 };
 
 enum Word : uint32_t { EMPTY, FILLING, FULL, READING };
@@ -299,6 +223,7 @@ int main(int count, char** words) {
     Output out;
     out.line("p ans ss", {sources.size()}, " shortest");
     uint64_t messages = 0;
+    vector<uint32_t> order;
     for (size_t first = 0; first < sources.size(); first += settings.width) {
         Group group;
         for (size_t i = first; i < std::min(sources.size(), first + settings.width); i++) {
@@ -309,7 +234,7 @@ int main(int count, char** words) {
             for (const Part& part : question->parts) messages += part.messages;
             Answer answer(vertices);
             answer.distance.swap(question->labels);
-            find_parents(network.graph, question->source, answer);
+            find_parents(network.graph, question->source, NO_TARGET, order, answer);
             write_answer(out, question->source, answer);
             question.reset();
         }

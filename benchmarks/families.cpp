@@ -5,20 +5,14 @@
 //     families Long-n K SEED               a grid of 16 by 2^(K - 4) vertices; lengths up to 2^K
 //     families Square-n K SEED             a grid of 2^(K / 2) by 2^(K / 2) vertices, K even; lengths up to 2^K
 //
-// A random graph is a cycle through all vertices, in a random order, and arcs with random ends. In a grid there is an arc each
-// way between neighbours in a row or a column. The length of each arc is drawn from 0 to the greatest. The parameters are those
-// of the challenge, the random numbers are not: these are other graphs of the same families. The same words give the same
-// bytes on every machine.
-#include "output.hpp"
+// After the challenge's description; its own generators could not be consulted, so these are other graphs of these families.
+// Chosen here: a random graph is a cycle through all vertices, in a random order, and arcs with random ends; in a grid there is
+// an arc each way between neighbours in a row or a column; the length of each arc is drawn by itself, from 0 to the greatest.
+// The same words give the same bytes on every machine.
+#include "graphs.hpp"
 #include "random.hpp"
 
-#include <numeric>
-
 enum Use { ORDER = 1, ENDS, LENGTHS };
-
-static void write_head(Output& out, const string& made, uint64_t vertices, uint64_t arcs) {
-    out.text("c " + made + "\np sp " + std::to_string(vertices) + " " + std::to_string(arcs) + "\n");
-}
 
 static void write_random(Output& out, const string& made, uint32_t log, uint64_t longest, uint64_t seed) {
     uint64_t n = uint64_t(1) << log;

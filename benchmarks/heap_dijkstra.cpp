@@ -12,11 +12,6 @@ int main(int count, char** words) {
     vector<uint32_t> sources = read_sources(words[2], graph.vertices());
     Output out;
     out.line("p ans ss", {sources.size()}, " shortest");
-    for (uint32_t source : sources) {
-        Answer answer(graph.vertices());
-        settle(graph, source, answer);
-        find_parents(graph, source, answer);
-        write_answer(out, source, answer);
-    }
+    for (uint32_t source : sources) write_answer(out, source, solve(graph, source));
     out.write_out();
 }

@@ -1,20 +1,25 @@
 """The programs of this folder, built, and the graphs and questions that they are run on."""
+import glob
 import os
 import shutil
 import subprocess
 import sys
 
 HERE = os.path.dirname(os.path.abspath(__file__))
-SOURCES = ["roads", "families", "heap_dijkstra", "pairs_dijkstra", "threads_dijkstra", "diffusing", "measure"]
+SOURCES = ["roads", "roads_rivers", "families", "near_pairs", "heap_dijkstra", "pairs_dijkstra", "threads_dijkstra", "diffusing", "measure"]
 SEED = 1
 PEER = "dimacs-solver"
 
-# The kinds of question files: the kind that roads.cpp knows and how many questions there are; and one line of many sources.
+# The kinds of question files: the kind that roads.cpp knows and how many questions there are; pairs of neighbours, which
+# near_pairs.cpp makes; and one line of many sources.
 ONE_SOURCE, READING, ONE_LIST = "one source", "reading alone", "one list of 1,024 sources"
 FOUR_SOURCES, FIVE_SOURCES, EIGHT_SOURCES = "four sources", "five sources", "eight sources"
-FIVE_PAIRS, TWENTY_PAIRS, FORTY_PAIRS = "five pairs", "twenty pairs", "forty pairs"
+FIVE_PAIRS, TWENTY_PAIRS = "five pairs", "twenty pairs"
+ONE_PAIR, TEN_PAIRS, HUNDRED_PAIRS, THOUSAND_PAIRS = "one pair", "ten pairs", "100 pairs", "1,000 pairs"
+NEAR_PAIRS, NEAR = "5,000 near pairs", "near.p2p"
 KINDS = {ONE_SOURCE: ("ss", 1), READING: ("ss", 0), FOUR_SOURCES: ("ss", 4), FIVE_SOURCES: ("ss", 5), EIGHT_SOURCES: ("ss", 8),
-         FIVE_PAIRS: ("p2p", 5), TWENTY_PAIRS: ("p2p", 20), FORTY_PAIRS: ("p2p", 40)}
+         FIVE_PAIRS: ("p2p", 5), TWENTY_PAIRS: ("p2p", 20), ONE_PAIR: ("p2p", 1), TEN_PAIRS: ("p2p", 10), HUNDRED_PAIRS: ("p2p", 100),
+         THOUSAND_PAIRS: ("p2p", 1000), NEAR_PAIRS: (NEAR, 5000)}
 MANY = 1024
 
 
@@ -39,7 +44,7 @@ def build(folder):
     if shutil.which(compiler()) is None:
         stop("there is no %s on the path, which builds the programs of benchmarks/" % compiler())
     os.makedirs(folder, exist_ok=True)
-    paths, headers = {}, [os.path.join(HERE, name) for name in ("common.hpp", "output.hpp", "random.hpp")]
+    paths, headers = {}, glob.glob(os.path.join(HERE, "*.hpp"))
     for name in SOURCES:
         source, paths[name] = os.path.join(HERE, name + ".cpp"), os.path.join(folder, name)
         if not all(is_newer(paths[name], it) for it in [source, *headers]):
@@ -73,7 +78,11 @@ class Files:
 
     def word_of(self, kind):
         """The kind of a question file, as its problem line has it."""
-        return KINDS[kind][0] if kind in KINDS else "ms"
+        return KINDS[kind][0].rpartition(".")[2] if kind in KINDS else "ms"
+
+    def count_of(self, kind):
+        """How many questions it has."""
+        return KINDS[kind][1]
 
     def warm(self):
         """Reads the graphs once, so that no round waits for the disk."""
@@ -98,7 +107,8 @@ class Made(Files):
             self.list_sources(programs["roads"])
         else:
             word, count = KINDS[kind]
-            self.write(self.questions[kind], programs["roads"], [word, str(self.vertices), str(count), str(SEED)])
+            maker, words = ("near_pairs", [self.graph]) if word == NEAR else ("roads", [word, str(self.vertices)])
+            self.write(self.questions[kind], programs[maker], words + [str(count), str(SEED)])
         if kind == ONE_SOURCE and PEER in programs:
             self.marked = os.path.join(folder, self.stem + ".marked.gr")
             if not is_newer(self.marked, self.graph):
@@ -139,6 +149,13 @@ class Roads(Made):
         self.kind = kind
 
 
+class Rivers(Made):
+    """A road-like graph that rivers cut."""
+
+    def __init__(self, name, size):
+        super().__init__(name + " with rivers", size, "roads_rivers", [*size, SEED], "%d_%d_rivers" % size)
+
+
 class Family(Made):
     """A graph of a family of the challenge, as families.cpp has it, of 2^log vertices; of Random4-C, with lengths up to 4^k."""
 
@@ -175,66 +192,3 @@ def problem_of(path):
     """The fields of a file's problem line."""
     with open(path) as file:
         return next((line.split() for line in file if line.split()[:1] == ["p"]), [])
-
-
-class Shape(Files):
-    """A graph of some plain shape, and one question from vertex 1."""
-
-    def __init__(self, name, size, shape):
-        self.name = "%s of %s" % (name, "{:,}".format(size))
-        self.size, self.shape = size, shape
-        self.vertices, self.arcs = shape(size)[:2]
-
-    def make(self, folder, _programs, _kind):
-        self.at(os.path.join(folder, "%s_%d" % (self.shape.__name__, self.size)))
-        if not is_newer(self.graph, __file__):
-            note("making " + os.path.basename(self.graph))
-            arcs = self.shape(self.size)[2]
-            write_lines(self.lines(arcs), self.graph)
-            write_lines(["p aux sp ss 1\n", "s 1\n"], self.questions[ONE_SOURCE])
-
-    def lines(self, arcs):
-        yield "p sp %d %d\n" % (self.vertices, self.arcs)
-        for arc in arcs:
-            yield "a %d %d %d\n" % arc
-
-
-def star(leaves):
-    """A hub, and an arc each way between it and each leaf."""
-    return leaves + 1, 2 * leaves, (arc for v in range(2, leaves + 2) for arc in ((1, v, v % 1009), (v, 1, v % 1013)))
-
-
-def chain(length):
-    """Arcs one after the other."""
-    return length + 1, length, ((v, v + 1, v % 1009) for v in range(1, length + 1))
-
-
-def zero_grid(side):
-    """A square of places with arcs of weight 0 to the right and down, each way."""
-    def arcs():
-        for v in range(1, side * side + 1):
-            for there in ((v + 1 if v % side else 0), v + side):
-                if 0 < there <= side * side:
-                    yield v, there, 0
-                    yield there, v, 0
-
-    return side * side, 4 * side * (side - 1), arcs()
-
-
-def parallel(count):
-    """Two vertices, and arcs of falling weights from the one to the other."""
-    return 2, count, ((1, 2, count - k) for k in range(count))
-
-
-def locks(count):
-    """Diamonds in a chain on which labels improve exponentially often: each has a dear way, which a first wave takes
-    through all that follows, and a free one that is an arc longer; the arc before them waits until the wave has died."""
-    def arcs():
-        for k in range(count):
-            x = 1 + 3 * k
-            yield x, x + 1, 0
-            yield x + 1, x + 3, 1 << (count - 1 - k)
-            yield x + 1, x + 2, 0
-            yield x + 2, x + 3, 0
-
-    return 3 * count + 1, 4 * count, arcs()

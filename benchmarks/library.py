@@ -1,4 +1,4 @@
-"""Trees and routes from a graph that is kept in memory: libdiffuse beside the plain program, Boost and LEMON as libraries.
+"""Trees, routes and tables from a graph that is kept in memory: libdiffuse beside the plain program, Boost and LEMON as libraries.
 
     python3 benchmarks/library.py --prefix PREFIX [--rounds N] [--small]      PREFIX is where examples/c/install put the library
 
@@ -13,46 +13,69 @@ import sys
 sys.dont_write_bytecode = True
 
 import inputs
-from inputs import ONE_SOURCE, Roads, compiler, note, stop
-from report import Table
+from inputs import NEAR_PAIRS, THOUSAND_PAIRS, Rivers, Roads, compiler, note, stop
+from report import Table, ratio, seconds
 
 SIZES = [("New York's size", (264346, 733846)), ("Florida's size", (1070376, 2712798))]
-LIBRARY, BASELINE = "libdiffuse", "baseline"
+LIBRARY, FACTORED, BASELINE = "libdiffuse", "libdiffuse with factors", "baseline"
+TREE, ROUTE, NEAR_ROUTE, TABLE = range(4)
+ENDS = 100
 
-# What is aimed at for the C library, to the baseline: a tree, and a graph that is kept.
-TREE_AIM, GRAPH_AIM = 1.05, 1.2
+# What is aimed at for the C library, to the baseline: a tree, a route, and a graph that is kept.
+TREE_AIM, ROUTE_AIM, GRAPH_AIM = 1.05, 1.05, 1.2
+
+# With factors, by graph: a route, a tree, and order and build in routes of the baseline. And for all: bytes of factors a vertex,
+# and a table of a hundred by a hundred to as many routes of the baseline.
+FACTOR_AIMS = {"New York's size": (1 / 25, 1 / 2.5, 60), "New York's size with rivers": (1 / 70, 1 / 2.5, 60),
+               "Florida's size": (1 / 70, 1 / 3, 35), "Florida's size with rivers": (1 / 150, 1 / 3, 35)}
+BYTES_AIM, TABLE_AIM = 160, 1 / 1000
 
 
 class Measured:
-    """What library.cpp reports of one library: bytes of its graph, and microseconds."""
+    """What library.cpp reports of one library: bytes of its graph and factors, and seconds; check numbers for each kind of answer."""
 
     def __init__(self, line):
-        self.name, *numbers, self.check = line.split()
-        self.bytes, self.opening, self.tree, self.route = map(int, numbers)
+        self.name, *numbers = line.split(",")
+        self.bytes, self.factor_bytes, self.checks = int(numbers[0]), int(numbers[1]), numbers[5::2]
+        self.opening, self.factoring, *self.times = (float(it) / 1e6 for it in numbers[2:4] + numbers[4::2])
 
 
 class Library:
     """All libraries on one graph."""
 
-    def __init__(self, name, peers):
-        self.name, self.peers = name, {peer.name: peer for peer in peers}
+    def __init__(self, graph, peers):
+        self.name, self.vertices, self.peers = graph.name, graph.vertices, {peer.name: peer for peer in peers}
 
     @staticmethod
-    def measured(folder, prefix, rounds, small):
-        """Each size with what all libraries took there."""
-        programs, program, found = inputs.build(os.path.join(folder, "bin")), build(os.path.join(folder, "bin"), prefix), []
+    def measured(folder, programs, rounds, small):
+        """Each graph with what all libraries took there."""
+        found = []
         for name, (vertices, arcs) in SIZES:
-            graph = Roads(name, (vertices // 100, arcs // 200 * 2) if small else (vertices, arcs))
-            graph.make(folder, programs, ONE_SOURCE)
-            note("libraries: " + name)
-            found.append(Library(name, peers_of(program, graph.graph, rounds)))
+            for maker in (Roads, Rivers):
+                graph = maker(name, (vertices // 100, arcs // 200 * 2) if small else (vertices, arcs))
+                for kind in (THOUSAND_PAIRS, NEAR_PAIRS):
+                    graph.make(folder, programs, kind)
+                note("libraries: " + graph.name)
+                found.append(Library(graph, peers_of(programs["library"], graph, rounds)))
         return found
 
+    def routes(self, seconds):
+        """How many routes of the baseline take so long."""
+        return seconds / self.peers[BASELINE].times[ROUTE]
+
     def aims(self):
-        ours, theirs = self.peers[LIBRARY], self.peers[BASELINE]
+        ours, theirs, factored = (self.peers[name] for name in (LIBRARY, BASELINE, FACTORED))
         title = "%s, C library" % self.name
-        return [(title, "a tree, to the baseline", TREE_AIM, [ours.tree / theirs.tree]),
-                (title, "memory of a graph, to the baseline", GRAPH_AIM, [ours.bytes / theirs.bytes])]
+        route, tree, routes = FACTOR_AIMS[self.name]
+        aims = [("a tree, to the baseline", TREE_AIM, ours.times[TREE] / theirs.times[TREE]),
+                ("a route, to the baseline", ROUTE_AIM, self.routes(ours.times[ROUTE])),
+                ("memory of a graph, to the baseline", GRAPH_AIM, ours.bytes / theirs.bytes),
+                ("a route with factors, to the baseline", route, self.routes(factored.times[ROUTE])),
+                ("a tree with factors, to the baseline", tree, factored.times[TREE] / theirs.times[TREE]),
+                ("order and build, in routes of the baseline", routes, self.routes(factored.factoring)),
+                ("factors, bytes a vertex", BYTES_AIM, factored.factor_bytes / self.vertices),
+                ("a table with factors, to its routes by the baseline", TABLE_AIM, self.routes(factored.times[TABLE]) / ENDS ** 2)]
+        return [(title, what, most, [number]) for what, most, number in aims]
 
 
 def build(folder, prefix):
@@ -65,29 +88,38 @@ def build(folder, prefix):
 
 
 def peers_of(program, graph, rounds):
-    """What each library took. The trees of all have the same sums."""
-    ran = subprocess.run([program, graph, str(rounds)], stdout=subprocess.PIPE, text=True, check=True)
-    peers = [Measured(line) for line in ran.stdout.splitlines()]
-    # Boost and LEMON find no routes, so their check numbers agree with each other.
-    for one, other in zip(peers[0::2], peers[1::2]):
-        if one.check != other.check:
-            stop("%s and %s find different distances" % (one.name, other.name))
+    """What each library took. Their answers of each kind must be equal, if they have some."""
+    words = [program, graph.graph, graph.questions[THOUSAND_PAIRS], graph.questions[NEAR_PAIRS], str(rounds)]
+    peers = [Measured(line) for line in subprocess.run(words, stdout=subprocess.PIPE, text=True, check=True).stdout.splitlines()]
+    for kind in range(4):
+        if len({peer.checks[kind] for peer in peers if peer.times[kind]}) > 1:
+            stop("libraries find different distances over %s: %s" % (graph.name, "; ".join(peer.name for peer in peers)))
     return peers
 
 
-def ratio(number, other):
-    return "%.2f" % (number / other) if other and number else ""
-
-
 def library_of(found):
-    """Milliseconds of processor time and megabytes, medians over the rounds."""
-    table = Table("Libraries: a graph that is kept", ["Size", "Library", "Open, ms", "Tree, ms", "Ratio", "Route, ms", "Ratio", "Graph, MB", "Ratio"])
+    """Processor time, medians over the rounds, and bytes."""
+    table = Table("Libraries: a graph that is kept", ["Graph", "Library", "Open", "Tree", "Ratio", "Route", "Ratio", "Near route", "Ratio", "Graph, MB", "Ratio"])
     for one in found:
         baseline = one.peers[BASELINE]
         for peer in one.peers.values():
-            table.rows.append([one.name, peer.name, "%.1f" % (peer.opening / 1e3), "%.1f" % (peer.tree / 1e3), ratio(peer.tree, baseline.tree),
-                               "%.1f" % (peer.route / 1e3) if peer.route else "", ratio(peer.route, baseline.route),
-                               "%.1f" % (peer.bytes / 1e6), ratio(peer.bytes, baseline.bytes)])
+            row = [one.name, peer.name, seconds(peer.opening)]
+            for time, other in list(zip(peer.times, baseline.times))[:TABLE]:
+                row += [seconds(time), ratio(time / other)] if time else ["", ""]
+            table.rows.append(row + ["%.1f" % (peer.bytes / 1e6), ratio(peer.bytes / baseline.bytes)])
+    return table
+
+
+def factors_of(found):
+    """What factors take in the C library, and after how many routes they have paid for themselves; and tables."""
+    table = Table("Factors in the C library", ["Graph", "Order and build", "in routes of the baseline", "Bytes a vertex", "Pays after routes",
+                                               "Table of 100 by 100", "without factors", "of the baseline, by trees"])
+    for one in found:
+        plain, factored = one.peers[LIBRARY], one.peers[FACTORED]
+        saved = plain.times[ROUTE] - factored.times[ROUTE]
+        table.rows.append([one.name, seconds(factored.factoring), "%.0f" % one.routes(factored.factoring), "%.0f" % (factored.factor_bytes / one.vertices),
+                           "%.0f" % (factored.factoring / saved) if saved > 0 else "never"]
+                          + [seconds(peer.times[TABLE]) for peer in (factored, plain, one.peers[BASELINE])])
     return table
 
 
@@ -98,7 +130,9 @@ def main():
     parser.add_argument("--small", action="store_true", help="all sizes divided by 100: a trial of this script")
     parser.add_argument("--out", default=os.path.join(inputs.HERE, "out"))
     words = parser.parse_args()
-    print(library_of(Library.measured(words.out, words.prefix, words.rounds, words.small)).markdown())
+    folder = os.path.join(words.out, "bin")
+    found = Library.measured(words.out, {**inputs.build(folder), "library": build(folder, words.prefix)}, words.rounds, words.small)
+    print(library_of(found).markdown() + "\n\n" + factors_of(found).markdown())
 
 
 if __name__ == "__main__":

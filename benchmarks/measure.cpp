@@ -1,10 +1,10 @@
-// Runs a command with its standard output in a file, and tells what the command alone has used:
+// Runs a command with its standard output in a file, and reports what the command alone has used:
 //
 //     measure OUTPUT COMMAND [ARGUMENT ..]
 //
 // One line: seconds of processor time (user and system), seconds of the clock, peak memory in KiB, and the exit status
 // (128 and the signal's number where a signal ended it). A child that is forked begins with its parent's memory, and its peak counts that;
-// this program is small, so that what it tells is the command's own peak.
+// this program is small, so that what it reports is the command's own peak.
 #include <chrono>
 #include <cstdio>
 #include <fcntl.h>

@@ -1,18 +1,24 @@
-"""The figures as a picture: how wall time falls with workers, and how processor time grows with the vertices."""
+"""The figures as pictures: how wall time falls with workers, and how processor time grows with the vertices and with pairs."""
 import math
 
 from cases import BASELINE, DIFFUSING, TIME, WALL
+from factored import FACTORS
 from inputs import FIVE_SOURCES
 
 # The batch of the plain solver that is drawn beside the workers.
 FIVE_IN_TURN = FIVE_SOURCES, 1
 
-# Where the entries of the list of inks begin.
-LEGEND = 75, 245, 480, 660
+# The pictures by the names of their files.
+SPEED, FACTORED = "speed.svg", "factors.svg"
+MEANING = {SPEED: "wall time of workers, and processor time by vertices", FACTORED: "processor time by pairs, with factors and without"}
+
+# Where the entries of the list of inks are.
+LEGEND = (75, 345), (310, 345), (575, 345), (75, 367), (310, 367)
 
 INK, PALE = "#222222", "#dddddd"
 WORKERS, SAME_RULE, PLAIN, HEAP = ("#c02a1b", "diffuse, workers"), ("#e09a2b", "the same rule in plain C++"), (
     "#1b5fc0", "diffuse --plain"), ("#3a8f3a", "baseline")
+BEST, BY_FACTORS = ("#8a3fb0", "diffuse, workers, best first"), ("#c02a1b", FACTORS)
 
 
 def text(x, y, words, ink=INK, size=13, anchor="middle"):
@@ -70,40 +76,57 @@ class Panel:
 
 
 def by_workers(plan):
-    cases = [case for case in plan.engine.values()
-             if (case.settings["shards"], case.settings["width"], case.settings["budget"]) == (16, 5, 1024)]
-    workers = [case.settings["workers"] for case in cases]
-    panel = Panel(75, "Wall time of five sources", "workers (16 shards, width 5; {:,} vertices)".format(cases[0].files.vertices),
-                  workers, str)
-    panel.add(WORKERS, [(case.settings["workers"], case.median("diffuse", WALL)) for case in cases])
-    panel.add(SAME_RULE, [(case.settings["workers"], case.median(DIFFUSING, WALL)) for case in cases])
+    cases = {order: [case for case in plan.engine.values() if case.best_first == order and list(case.settings.values())[1:] == [16, 5, 1024]]
+             for order in (False, True)}
+    workers = [case.settings["workers"] for case in cases[False]]
+    panel = Panel(75, "Wall time of five sources", "workers (16 shards, width 5; {:,} vertices)".format(cases[False][0].files.vertices), workers, str)
     one_thread = [plan.batches[FIVE_IN_TURN].median("diffuse", WALL)] * len(workers)
-    panel.add(PLAIN, list(zip(workers, one_thread)))
-    panel.add(HEAP, [(case.settings["workers"], case.median(BASELINE, WALL)) for case in cases])
+    for style, times in ((WORKERS, medians(cases[False], "diffuse", WALL)), (SAME_RULE, medians(cases[False], DIFFUSING, WALL)),
+                         (BEST, medians(cases[True], "diffuse", WALL)), (PLAIN, one_thread), (HEAP, medians(cases[False], BASELINE, WALL))):
+        panel.add(style, list(zip(workers, times)))
     return panel
+
+
+def medians(cases, name, what):
+    return [case.median(name, what) for case in cases]
 
 
 def by_vertices(plan):
-    def points(cases, name):
-        return [(case.files.vertices, case.median(name, TIME)) for case in cases]
-
     def short(count):
         return "%g M" % (count / 1e6) if count >= 1e6 else "%g k" % (count / 1e3)
 
-    ticks = [case.files.vertices for case in plan.growth]
-    panel = Panel(480, "Processor time of one source", "vertices (5 arcs for 2 vertices; workers: 1, with motorways)", ticks, short)
-    motorways = [case for case in plan.engine_growth if case.files.kind]
-    panel.add(WORKERS, points(motorways, "diffuse"))
-    panel.add(SAME_RULE, points(motorways, DIFFUSING))
-    panel.add(PLAIN, points(plan.growth, "diffuse"))
-    panel.add(HEAP, points(plan.growth, BASELINE))
+    def motorways(order):
+        return [case for case in plan.engine_growth if case.files.kind and case.best_first == order]
+
+    panel = Panel(480, "Processor time of one source", "vertices (5 arcs for 2 vertices; workers: 1, with motorways)",
+                  [case.files.vertices for case in plan.growth], short)
+    for style, cases, name in ((WORKERS, motorways(False), "diffuse"), (SAME_RULE, motorways(False), DIFFUSING), (BEST, motorways(True), "diffuse"),
+                               (PLAIN, plan.growth, "diffuse"), (HEAP, plan.growth, BASELINE)):
+        panel.add(style, list(zip([case.files.vertices for case in cases], medians(cases, name, TIME))))
     return panel
 
 
-def picture(plan):
-    """Both panels, with one list of what the inks mean."""
-    body = by_workers(plan).drawn() + by_vertices(plan).drawn()
-    for (ink, words), x in zip((WORKERS, SAME_RULE, PLAIN, HEAP), LEGEND):
-        body += [line(x, 345, x + 22, 345, ink, 3), text(x + 28, 345, words, anchor="start")]
-    return ('<svg xmlns="http://www.w3.org/2000/svg" viewBox="0 0 830 370" width="830" height="370" font-family="sans-serif">\n'
-            '<rect width="830" height="370" fill="white"/>\n' + "\n".join(body) + "\n</svg>\n")
+def by_pairs(cases, left):
+    """The time of `solve` by pairs over one graph, in all."""
+    panel = Panel(left, "Processor time of pairs", "pairs (%s)" % cases[0].files.name, [case.count() for case in cases], "{:,}".format)
+    for style, name in ((BY_FACTORS, FACTORS), (PLAIN, "diffuse"), (HEAP, BASELINE)):
+        panel.add(style, [(case.count(), case.median(name, TIME)) for case in cases])
+    return panel
+
+
+def drawing(panels, styles):
+    """Two panels, with one list of what their inks mean."""
+    body = [element for panel in panels for element in panel.drawn()]
+    for (ink, words), (x, y) in zip(styles, LEGEND):
+        body += [line(x, y, x + 22, y, ink, 3), text(x + 28, y, words, anchor="start")]
+    return ('<svg xmlns="http://www.w3.org/2000/svg" viewBox="0 0 830 390" width="830" height="390" font-family="sans-serif">\n'
+            '<rect width="830" height="390" fill="white"/>\n' + "\n".join(body) + "\n</svg>\n")
+
+
+def pictures(plan):
+    """The pictures by the names of their files."""
+    drawn = {SPEED: drawing([by_workers(plan), by_vertices(plan)], (WORKERS, SAME_RULE, BEST, PLAIN, HEAP))}
+    if plan.factored:
+        roads, rivers = plan.series()
+        drawn[FACTORED] = drawing([by_pairs(roads, 75), by_pairs(rivers, 480)], (BY_FACTORS, PLAIN, HEAP))
+    return drawn

@@ -3,8 +3,9 @@ import math
 import statistics
 
 from cases import BASELINE, DIFFUSING, PEAK, TIME, WALL
+from factored import FACTORS
 from inputs import PEER
-from services import FOUR_CLIENTS, ONE_CLIENT, PROCESSES
+from services import FIRST
 
 
 class Table:
@@ -23,7 +24,10 @@ class Table:
 
 
 def seconds(value):
-    return "%.1f ms" % (value * 1e3) if value < 0.1 else "%.0f ms" % (value * 1e3) if value < 1 else "%.2f s" % value
+    for below, by, form in ((1e-4, 1e6, "%.1f µs"), (0.01, 1e3, "%.2f ms"), (0.1, 1e3, "%.1f ms"), (1, 1e3, "%.0f ms")):
+        if value < below:
+            return form % (value * by)
+    return "%.2f s" % value
 
 
 def size(value):
@@ -38,7 +42,12 @@ def spread(ratios):
     if not ratios:
         return "-"
     first, median, third = statistics.quantiles(ratios, n=4, method="inclusive") if len(ratios) > 1 else ratios * 3
-    return "%.2f (%.2f to %.2f)" % (median, first, third)
+    return "%s (%s to %s)" % tuple(map(ratio, (median, first, third)))
+
+
+def ratio(number):
+    """With two decimals, or if it is small with two digits that count."""
+    return "%.2f" % number if number >= 0.1 else "%.2g" % number
 
 
 def ran(cases):
@@ -68,9 +77,19 @@ def beyond_of(title, pairs):
     names, heads = zip(*[(name, head) for name, head in zip(names, heads) if name != PEER]) if names else ((), ())
     table = Table(title + ": ratios as median (quartiles)", ["Graph and questions", "diffuse", *heads])
     for case, reading in pairs:
-        ours = case.beyond(reading, "diffuse", TIME)
-        ratios = [[one / other for one, other in zip(ours, case.beyond(reading, name, TIME)) if other > 0] for name in names]
-        table.rows.append([case.title(), seconds(max(0, statistics.median(ours)))] + [spread(it) for it in ratios])
+        ours = max(0, statistics.median(case.beyond(reading, "diffuse", TIME)))
+        table.rows.append([case.title(), seconds(ours)] + [spread(case.beyond_ratios(reading, name)) for name in names])
+    return table
+
+
+def pairs_of(pairs):
+    """What a pair takes without reading, by diffuse and by the baseline; and the peak memory of both."""
+    table = Table("Pairs with --plain, without reading the graph: ratios as median (quartiles)",
+                  ["Graph and questions", "A pair", "of the baseline", "Time to the baseline", "Peak memory", "Peak memory to the baseline"])
+    for case, reading in ((case, reading) for case, reading in pairs if case.taken and reading.taken):
+        each = [seconds(max(0, statistics.median(case.beyond(reading, name, TIME))) / case.files.count_of(case.kind)) for name in ("diffuse", BASELINE)]
+        table.rows.append([case.title(), *each, spread(case.beyond_ratios(reading, BASELINE)), size(case.median("diffuse", PEAK)),
+                           spread(case.ratios(BASELINE, PEAK))])
     return table
 
 
@@ -98,29 +117,35 @@ def growth_of(cases):
 def engine_growth_of(cases):
     """How the work of one worker grows: messages an arc, time a message, time over n log n."""
     table = Table("Growth of the engine: one source, one worker, one shard",
-                  ["Graph", "Arcs", "Messages a vertex", "Messages an arc", "diffuse", "ns a message", "of plain C++",
-                   "ns per n log n", "bytes per arc", "of plain C++"])
+                  ["Graph", "Arcs", "Order", "Messages an arc", "diffuse", "ns a message", "of plain C++", "ns per n log n", "Time to the baseline",
+                   "bytes per arc", "of plain C++"])
     for case in ran(cases):
         vertices, arcs, messages = case.files.vertices, case.files.arcs, case.count()
         time, theirs = case.median("diffuse", TIME), case.median(DIFFUSING, TIME)
-        table.rows.append([case.files.name, "{:,}".format(arcs), "%.0f" % (messages / vertices),
-                           "%.1f" % (messages / arcs), seconds(time), "%.0f" % (time * 1e9 / messages),
-                           "%.0f" % (theirs * 1e9 / messages), "%.0f" % (time * 1e9 / (vertices * math.log2(vertices)))]
+        table.rows.append([case.files.name, "{:,}".format(arcs), case.order(), arc_of(case), seconds(time), "%.0f" % (time * 1e9 / messages),
+                           "%.0f" % (theirs * 1e9 / messages), "%.0f" % (time * 1e9 / (vertices * math.log2(vertices))),
+                           ratio(statistics.median(case.ratios(BASELINE, TIME)))]
                           + ["%.0f" % (case.median(name, PEAK) / arcs) for name in ("diffuse", DIFFUSING)])
     return table
 
 
-def settings_of(cases):
-    """What workers, shards, width and budget do."""
-    name = "Workers: %s, %s" % (cases[0].files.name, cases[0].kind)
-    table = Table(name, ["Workers", "Shards", "Width", "Budget", "Messages a vertex", "Processor time", "Wall time",
-                         "Peak memory", "Time to plain C++", "Wall to plain C++", "Memory to plain C++", "Time to the baseline"])
-    for case in ran(cases):
-        ratios = ["%.2f" % statistics.median(case.ratios(DIFFUSING, what)) for what in (TIME, WALL, PEAK)]
+def arc_of(case):
+    return "%.2f" % statistics.median(case.each_arc())
+
+
+def settings_of(pairs):
+    """What workers, shards, width and budget do; each setting best first, with the same as messages come."""
+    name = "Workers: %s, %s" % (pairs[0][0].files.name, pairs[0][0].kind)
+    table = Table(name, ["Workers", "Shards", "Width", "Budget", "Order", "Messages an arc", "Processor time", "Wall time", "Peak memory",
+                         "Time to plain C++", "Wall to plain C++", "Memory to plain C++", "Time to the baseline", "Wall to the baseline",
+                         "Time to the other order"])
+    for case, other in ((case, other) for case, other in pairs if case.taken):
+        ratios = [case.ratios(DIFFUSING, what) for what in (TIME, WALL, PEAK)] + [case.ratios(BASELINE, what) for what in (TIME, WALL)]
         table.rows.append(["{:,}".format(number) for number in case.settings.values()]
-                          + ["%.0f" % (case.count() / case.files.vertices), seconds(case.median("diffuse", TIME)),
-                             seconds(case.median("diffuse", WALL)), size(case.median("diffuse", PEAK))]
-                          + ratios + ["%.0f" % statistics.median(case.ratios(BASELINE, TIME))])
+                          + [case.order(), arc_of(case), seconds(case.median("diffuse", TIME)), seconds(case.median("diffuse", WALL)),
+                             size(case.median("diffuse", PEAK))]
+                          + [ratio(statistics.median(it)) for it in ratios]
+                          + [ratio(case.median("diffuse", TIME) / other.median("diffuse", TIME)) if other and other.taken else ""])
     return table
 
 
@@ -140,7 +165,7 @@ def shapes_of(pairs):
     table = Table("Shapes: one source, at two sizes", ["Shape", "Settings", "Arcs", "diffuse", "Arcs", "diffuse",
                                                        "Growth of arcs", "Growth of time", "Ratio to plain C++"])
     for less, more in (pair for pair in pairs if len(ran(pair)) == 2):
-        settings = "workers %(workers)d, shards %(shards)d" % less.settings
+        settings = "workers %(workers)d, shards %(shards)d" % less.settings + (", best first" if less.best_first else "")
         sides = [cell for case in (less, more)
                  for cell in ("{:,}".format(case.files.arcs), seconds(case.median("diffuse", TIME)))]
         growth = [more.files.arcs / less.files.arcs, more.median("diffuse", TIME) / less.median("diffuse", TIME)]
@@ -150,15 +175,19 @@ def shapes_of(pairs):
 
 
 def locks_of(cases):
-    """The family on which labels improve exponentially often; how many messages there are is known beforehand."""
-    table = Table("Locks: messages of one worker and one shard", ["Locks", "Vertices", "Arcs", "Messages: 2^(k+2) - 3",
-                                                                  "Handled by diffuse", "diffuse", "diffuse --plain"])
-    for case, plain in (pair for pair in cases if len(ran(pair)) == 2):
-        known, handled = 2 ** (case.files.size + 2) - 3, case.count()
-        table.rows.append([str(case.files.size), str(case.files.vertices), str(case.files.arcs), "{:,}".format(known),
-                           "exactly these" if handled == known else "ANOTHER NUMBER: {:,}".format(handled),
-                           seconds(case.median("diffuse", TIME)), seconds(plain.median("diffuse", TIME))])
+    """The family on which labels improve exponentially often; how many messages there are is known beforehand, in both orders."""
+    table = Table("Locks: messages of one worker and one shard", ["Locks", "Vertices", "Arcs", "Messages: 2^(k+2) - 3", "Handled by diffuse",
+                                                                  "Best first: arcs + 1", "Handled by diffuse", "diffuse", "Best first", "diffuse --plain"])
+    for case, best, plain in (three for three in cases if len(ran(three)) == 3):
+        files, numbers = case.files, [handled(2 ** (case.files.size + 2) - 3, case), handled(case.files.arcs + 1, best)]
+        table.rows.append([str(files.size), str(files.vertices), str(files.arcs)] + [cell for number in numbers for cell in number]
+                          + [seconds(it.median("diffuse", TIME)) for it in (case, best, plain)])
     return table
+
+
+def handled(known, case):
+    """How many messages there must be, and whether diffuse handled so many."""
+    return "{:,}".format(known), "exactly these" if case.count() == known else "ANOTHER NUMBER: {:,}".format(case.count())
 
 
 def several_of(cases):
@@ -172,12 +201,26 @@ def several_of(cases):
     return table
 
 
-def served_of(case):
-    """What a pair takes that a service answers, and one that a process of its own does."""
-    table = Table("Services with --plain: %s" % case.title(), ["How", "Pairs a second", "Wall time a pair", "Processor time a pair", "Peak memory"])
-    for way in (ONE_CLIENT, FOUR_CLIENTS, PROCESSES) if case.taken else ():
-        wall, time = (case.median(way, what) / len(case.pairs()) for what in (WALL, TIME))
-        table.rows.append([way, "%.1f" % (1 / wall), seconds(wall), seconds(time), size(case.median(way, PEAK))])
+def served_of(cases):
+    """What a pair takes that a service answers, and one that a process of its own does; and for how many pairs factors pay."""
+    table = Table("Services", ["Graph and pairs", "How", "Pairs", "Pairs a second", "Wall time a pair", "Processor time a pair",
+                               "First answer after", "Pays after pairs", "Peak memory"])
+    for case, way in ((case, way) for case in ran(cases) for way in case.ways):
+        wall, time = (statistics.median(case.each(way, what)) for what in (WALL, TIME))
+        pays = case.pays_after(way) if way.words != case.ways[0].words else None
+        table.rows.append([case.title(), way.name, str(way.count), "%.1f" % (1 / wall), seconds(wall), seconds(time),
+                           seconds(case.median(way.name, FIRST)), "%.0f" % pays if pays else "", size(case.median(way.name, PEAK))])
+    return table
+
+
+def factored_of(cases):
+    """Questions by factors, which are made once a run: reading, order, build, all questions and writing."""
+    table = Table("Factors by solve: ratios as median (quartiles)", ["Graph and questions", "--factors", "--plain", "Baseline", "Time to --plain",
+                                                                    "Time to the baseline", "Peak memory", "Peak memory to --plain"])
+    for case in ran(cases):
+        table.rows.append([case.title()] + [seconds(case.median(name, TIME)) for name in (FACTORS, "diffuse", BASELINE)]
+                          + [spread(case.ratios(name, TIME, FACTORS)) for name in ("diffuse", BASELINE)]
+                          + [size(case.median(FACTORS, PEAK)), spread(case.ratios("diffuse", PEAK, FACTORS))])
     return table
 
 
@@ -187,5 +230,5 @@ def aims_of(aims):
     for title, what, most, ratios in aims:
         median = statistics.median(ratios)
         word = "met" if median <= most else "missed by %.0f %%" % (100 * (median / most - 1))
-        table.rows.append([title, what, "%.2f" % most, "%.2f" % median, word])
+        table.rows.append([title, what, ratio(most), ratio(median), word])
     return table

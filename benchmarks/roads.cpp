@@ -13,13 +13,10 @@
 // neighbours mostly have near numbers, as in the challenge's graphs; with `shuffled` the numbers have no order. With
 // `motorways` some of the further streets go straight over eight cells, along every 32nd row and column, at less than half
 // their length: then a route by few arcs is seldom much longer than the shortest.
-#include "output.hpp"
+#include "graphs.hpp"
 #include "random.hpp"
 
-#include <algorithm>
 #include <cmath>
-#include <numeric>
-#include <utility>
 
 // What a sequence is used for.
 enum Use { STREETS = 1, PLACES, BENDS, DIRECTIONS, NUMBERS, SOURCES, PAIRS, GROUPS };
@@ -76,26 +73,6 @@ static std::pair<uint32_t, uint32_t> ends_of(const Plane& plane, Street street) 
     uint32_t place = street / 2;
     return {place, plane.neighbour(place, street % 2 == 1)};
 }
-
-// Groups of places that streets join, as a forest whose paths are halved at each look.
-class Groups {
-    vector<uint32_t> above;
-
-    uint32_t root(uint32_t place) {
-        while (above[place] != place) place = above[place] = above[above[place]];
-        return place;
-    }
-
-public:
-    explicit Groups(uint32_t count) : above(count) { std::iota(above.begin(), above.end(), 0u); }
-
-    // Whether the two were in different groups; they are in one from now on.
-    bool join(uint32_t a, uint32_t b) {
-        a = root(a), b = root(b);
-        above[std::max(a, b)] = std::min(a, b);
-        return a != b;
-    }
-};
 
 // The streets of the graph, each marked: a random tree, and further ones up to the number that is wanted.
 static vector<bool> chosen_streets(const Plane& plane, uint64_t wanted, uint64_t seed) {
@@ -187,8 +164,7 @@ static void write_graph(uint32_t vertices, uint64_t arcs, uint64_t seed, Kind ki
     auto write_both = [&, &number_of = number_of](uint32_t a, uint32_t b, uint64_t weight) {
         uint64_t u = number_of[a], v = number_of[b];
         if (directions.below(2) == 1) std::swap(u, v);
-        out.line("a", {u, v, weight});
-        out.line("a", {v, u, weight});
+        write_street(out, u, v, weight);
     };
     for (uint32_t place : place_of) {
         for (Street street : {place * 2, place * 2 + 1}) {

@@ -1,14 +1,32 @@
 """Pairs that a service answers while its client waits, beside a process for each pair."""
 import os
+import statistics
 import subprocess
 import time
 
 from cases import MESSAGES, PEAK, TIME, WALL, Case, measured
-from inputs import FORTY_PAIRS, stop
+from inputs import NEAR_PAIRS, stop
 
-ONE_CLIENT, FOUR_CLIENTS, PROCESSES = "a service: one pair a request", "a service: four pairs a request, width 4", "a process for each pair"
-WAYS = {ONE_CLIENT: (1, []), FOUR_CLIENTS: (4, ["--width", "4"])}
-TICKS = os.sysconf("SC_CLK_TCK")
+# How long a service takes from its start to its first answer.
+FIRST = "first answer"
+
+BY_SEARCH, BY_FACTORS = ["--plain"], ["--factors"]
+
+
+class Way:
+    """How so many pairs are asked for: by a service with these words, some pairs a request, or, with none, by a process for each."""
+
+    def __init__(self, words, each, count):
+        self.words, self.each, self.count = words, each, count
+        self.wide = ["--width", str(each)] if each > 1 else []
+        how = "%s a request" % ("one pair" if each == 1 else "%d pairs" % each) if each else "a process for each pair"
+        self.name = "%s, %s%s" % (words[0], how, ", width %d" % each if self.wide else "")
+
+
+def ways_of(factors, few, many):
+    """A service by the search with few pairs, and if the program has factors by these with many: one and four pairs a request."""
+    search = [Way(BY_SEARCH, 1, few), Way(BY_SEARCH, 4, few)]
+    return search + ([Way(BY_FACTORS, 1, many), Way(BY_FACTORS, 4, many)] if factors else [])
 
 
 def request(pairs):
@@ -23,7 +41,7 @@ class Service:
     """A service over a graph, and its client's end of two pipes."""
 
     def __init__(self, program, graph, words):
-        self.run = subprocess.Popen([program, "serve", graph, "--plain"] + words, stdin=subprocess.PIPE, stdout=subprocess.PIPE, text=True)
+        self.run = subprocess.Popen([program, "serve", graph] + words, stdin=subprocess.PIPE, stdout=subprocess.PIPE, text=True)
 
     def ask(self, pairs):
         """The reply to one request: it is whole with the last line of the answer to its last pair."""
@@ -38,10 +56,8 @@ class Service:
         return "".join(lines)
 
     def time(self):
-        """Processor time so far, in seconds."""
-        with open("/proc/%d/stat" % self.run.pid) as file:
-            fields = file.read().rpartition(")")[2].split()
-        return (int(fields[11]) + int(fields[12])) / TICKS
+        """Processor time so far, in seconds, by the system's clock of this process."""
+        return time.clock_gettime(~self.run.pid << 3 | 2)
 
     def peak(self):
         with open("/proc/%d/status" % self.run.pid) as file:
@@ -54,44 +70,61 @@ class Service:
 
 
 class Served(Case):
-    """The same pairs by a service that has read its graph, one and four a request, and by a process for each."""
+    """The same pairs in several ways, each of which answers as many of them as it is said to."""
 
-    def __init__(self, files):
-        super().__init__(files, FORTY_PAIRS)
+    def __init__(self, files, kind, ways, is_long=False):
+        super().__init__(files, kind)
+        self.ways, self.is_long = ways, is_long
+
+    def title(self):
+        return "%s, %s pairs by services" % (self.files.name, "near" if self.kind == NEAR_PAIRS else "random")
 
     def pairs(self):
         with open(self.files.questions[self.kind]) as file:
             return [line for line in file if line.startswith("q ")]
 
     def run(self, programs, folder, turn):
-        answers = {way: self.by_service(programs["diffuse"], way) for way in WAYS}
-        answers[PROCESSES] = self.by_processes(programs, os.path.join(folder, "diffuse.answer"))
-        if len(set(answers.values())) > 1:
-            stop("a service and processes give different answers to the pairs of %s" % self.files.questions[self.kind])
+        turn, answers = turn % len(self.ways), []
+        for way in self.ways[turn:] + self.ways[:turn]:
+            pairs = self.pairs()[:way.count]
+            answers.append(self.by_service(programs["diffuse"], way, pairs) if way.each else self.by_processes(programs, folder, way, pairs))
+        whole = max(answers, key=len)
+        if not all(whole.startswith(answer) for answer in answers):
+            stop("the answers to the pairs of %s differ: by services with %s" % (self.files.graph, "; ".join(way.name for way in self.ways)))
 
-    def keep(self, way, time, wall, peak):
-        self.taken.setdefault(way, []).append({TIME: time, WALL: wall, PEAK: peak, MESSAGES: None})
+    def keep(self, way, time, wall, peak, first):
+        self.taken.setdefault(way.name, []).append({TIME: time, WALL: wall, PEAK: peak, MESSAGES: None, FIRST: first})
 
-    def by_service(self, program, way):
+    def by_service(self, program, way, pairs):
         """What a service answers. Its clock begins when it has read the graph and answered a first pair."""
-        each, words = WAYS[way]
-        pairs, service = self.pairs(), Service(program, self.files.graph, words)
+        started, service = time.monotonic(), Service(program, self.files.graph, way.words + way.wide)
         service.ask(pairs[-1:])
         began, before, replies = time.monotonic(), service.time(), []
-        for first in range(0, len(pairs), each):
-            replies.append(service.ask(pairs[first:first + each]))
-        self.keep(way, service.time() - before, time.monotonic() - began, service.peak())
+        for first in range(0, len(pairs), way.each):
+            replies.append(service.ask(pairs[first:first + way.each]))
+        self.keep(way, service.time() - before, time.monotonic() - began, service.peak(), began - started)
         service.end()
         return without_headers("".join(replies))
 
-    def by_processes(self, programs, answer):
+    def by_processes(self, programs, folder, way, pairs):
         """What processes answer that read the graph and one pair each, one after the other."""
-        replies, taken = [], []
-        for pair in self.pairs():
-            command = [programs["diffuse"], "solve", self.files.graph, "-", "--plain"]
+        replies, taken, answer = [], [], os.path.join(folder, "diffuse.answer")
+        for pair in pairs:
+            command = [programs["diffuse"], "solve", self.files.graph, "-"] + way.words
             taken.append(measured(programs["measure"], command, answer, request([pair]))[0])
             with open(answer) as file:
                 replies.append(file.read())
         os.remove(answer)
-        self.keep(PROCESSES, sum(it[TIME] for it in taken), sum(it[WALL] for it in taken), max(it[PEAK] for it in taken))
+        self.keep(way, sum(it[TIME] for it in taken), sum(it[WALL] for it in taken), max(it[PEAK] for it in taken), taken[0][WALL])
         return without_headers("".join(replies))
+
+    def each(self, way, what):
+        """What a pair takes in this way, in each round."""
+        return [taken[what] / way.count for taken in self.taken.get(way.name, [])]
+
+    def pays_after(self, way):
+        """After how many pairs a service with this way has caught up with the first way, one that answers by the search."""
+        search = self.ways[0]
+        once = self.median(way.name, FIRST) - self.median(search.name, FIRST)
+        saved = statistics.median(self.each(search, WALL)) - statistics.median(self.each(way, WALL))
+        return max(1, 1 + once / saved) if saved > 0 else None

@@ -27,9 +27,7 @@ static void answer_sources(Progress& progress) {
         size_t mine = progress.taken++;
         lock.unlock();
         uint32_t source = progress.sources[mine];
-        Answer answer(progress.graph.vertices());
-        settle(progress.graph, source, answer);
-        find_parents(progress.graph, source, answer);
+        Answer answer = solve(progress.graph, source);
         lock.lock();
         progress.turns.wait(lock, [&] { return progress.written == mine; });
         write_answer(progress.out, source, answer);

@@ -27,14 +27,18 @@ BY_HAND = [
     ("/route?source=1&target=4&algebra=fastest", 400, {"error": "NoAlgebra"}),
     ("/route?source=1&target=4&limit=7", 400, {"error": "NoAlgebra"}),
     ("/route?source=1", 400, {"error": "Refused"}),
-    ("/route?source=-1&target=4", 400, {"error": "Refused"}),
+    ("/route?source=-1&target=4", 404, {"error": "NoVertex"}),
+    ("/route?source=1,2&target=4", 400, {"error": "NotANumber"}),
+    ("/route?source=one&target=4", 400, {"error": "NotANumber"}),
+    ("/tree?sources=1&limit=high", 400, {"error": "NoAlgebra"}),
     ("/tree?sources=1" + ",1" * 100 + "&limit=5", 400, {"error": "Refused"}),
     ("/nowhere", 404, {"error": "Refused"}),
 ]
 BODIES = [
     (b'{"sources": [1], "targets": [4, 2]}', 200, {"values": [[8, 3]]}),
-    (b'{"sources": [true], "targets": [4]}', 400, {"error": "Refused"}),
-    (b'{"sources": [1], "targets": [4.0]}', 400, {"error": "Refused"}),
+    (b'{"sources": 1, "targets": 4, "algebra": ["hops"]}', 400, {"error": "NoAlgebra"}),
+    (b'{"sources": [true], "targets": [4]}', 400, {"error": "NotANumber"}),
+    (b'{"sources": [1], "targets": [4.0]}', 400, {"error": "NotANumber"}),
     (b"[1]", 400, {"error": "Refused"}),
     (b"{", 400, {"error": "Refused"}),
 ]
@@ -73,7 +77,7 @@ class Server:
 
     def counted(self, name):
         """The sum of a counter, as the server reports it."""
-        return sum(int(line.split()[-1]) for line in self.ask("/metrics")[1].splitlines() if line.startswith(name))
+        return sum(float(line.split()[-1]) for line in self.ask("/metrics")[1].splitlines() if line.startswith(name))
 
     def logged(self, event):
         return sum(json.loads(line).get("event") == event for line in list(self.log))

@@ -1,5 +1,5 @@
 #!/usr/bin/env python3
-"""Draws the pictures of the documents but speed.svg, which benchmarks/run draws.
+"""Draws the pictures of the documents but speed.svg and factors.svg, which benchmarks/run draws.
 
     docs/pictures/draw.py [PROGRAM]          PROGRAM is crates/diffuse/out/diffuse, which ./demo makes; needs Graphviz
 

@@ -3,38 +3,27 @@ import threading
 from collections import Counter
 
 BOUNDS = (0.001, 0.0025, 0.005, 0.01, 0.025, 0.05, 0.1, 0.25, 0.5, 1, 2.5, 5, 10)
-LATENCY = "diffuse_request_seconds"
 
 
 class Metrics:
     def __init__(self):
-        self.lock, self.counts, self.buckets, self.sums = threading.Lock(), Counter(), Counter(), Counter()
+        self.lock, self.families = threading.Lock(), {}
 
-    def count(self, name, **labels):
+    def add(self, number, name, kind="counter", part="", **labels):
+        """Adds to one number of a family, that of these labels."""
+        shown = ",".join(f'{label}="{value}"' for label, value in labels.items())
         with self.lock:
-            self.counts[name, of(labels)] += 1
+            self.families.setdefault((name, kind), Counter())[f"{name}{part}{{{shown}}}"] += number
 
-    def observe(self, path, seconds):
-        """Adds a latency to the histogram of a path; each bucket counts those up to its bound."""
+    def observe(self, seconds, name, **labels):
+        """Adds a latency to a histogram; each bucket counts those up to its bound."""
+        for bound in [*BOUNDS, "+Inf"]:
+            self.add(int(bound == "+Inf" or seconds <= bound), name, "histogram", "_bucket", **labels, le=bound)
+        self.add(seconds, name, "histogram", "_sum", **labels)
+        self.add(1, name, "histogram", "_count", **labels)
+
+    def text(self, **gauges):
         with self.lock:
-            for bound in [it for it in BOUNDS if seconds <= it] + ["+Inf"]:
-                self.buckets[path, bound] += 1
-            self.sums[path] += seconds
-
-    def text(self, gauges):
-        with self.lock:
-            lines = [f"# TYPE {name} gauge\n{name} {value}" for name, value in gauges.items()]
-            for name in sorted({name for name, _ in self.counts}):
-                lines.append(f"# TYPE {name} counter")
-                lines += [f"{name}{labels} {count}" for (own, labels), count in sorted(self.counts.items()) if own == name]
-            lines.append(f"# TYPE {LATENCY} histogram")
-            for path, total in self.sums.items():
-                lines += [f"{LATENCY}_bucket{of({'path': path, 'le': it})} {self.buckets[path, it]}" for it in [*BOUNDS, "+Inf"]]
-                lines.append(f"{LATENCY}_sum{of({'path': path})} {total:.6f}")
-                lines.append(f"{LATENCY}_count{of({'path': path})} {self.buckets[path, '+Inf']}")
-        return "\n".join(lines) + "\n"
-
-
-def of(labels):
-    """Labels in braces; no value here has a quote or a backslash."""
-    return "{" + ",".join(f'{name}="{value}"' for name, value in labels.items()) + "}" if labels else ""
+            families = {**{(name, "gauge"): {name: number} for name, number in gauges.items()}, **self.families}
+            return "".join(f"# TYPE {name} {kind}\n" + "".join(f"{label} {number}\n" for label, number in numbers.items())
+                           for (name, kind), numbers in families.items())

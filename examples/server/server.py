@@ -5,10 +5,8 @@ The answers come from the proved library; the server is glue, of which nothing i
 On SIGTERM it answers what it has received, and ends. On SIGHUP it reads the graph's file again, and goes on meanwhile.
 """
 import argparse
-import contextlib
 import json
 import signal
-import socket
 import sys
 import threading
 import time
@@ -16,167 +14,156 @@ from concurrent.futures import ThreadPoolExecutor, TimeoutError
 from datetime import datetime, timezone
 from http.server import BaseHTTPRequestHandler, ThreadingHTTPServer
 from select import select
-from urllib.parse import urlsplit
+from urllib.parse import parse_qsl
 
-from diffuse import DiffuseError, Graph
+from answers import ANSWERS, Refused
+from diffuse import DiffuseError, Graph, NotFactored
 from metrics import Metrics
-from questions import Asked, Refused, route, table, tree
-
-LONGEST_BODY, SILENCE = 1 << 20, 30
-ANSWERS = {"/route": route, "/tree": tree, "/table": table}
-JSON, TEXT = "application/json", "text/plain; version=0.0.4"
 
 
 def log(**fields):
     """One line of JSON on standard error."""
-    stamp = datetime.now(timezone.utc).isoformat(timespec="milliseconds")
-    sys.stderr.write(json.dumps({"time": stamp, **fields}) + "\n")
+    sys.stderr.write(json.dumps({"time": datetime.now(timezone.utc).isoformat(timespec="milliseconds"), **fields}) + "\n")
+
+
+def value_of(text):
+    """A field of a query: a number, or a list of numbers with commas, or else a text."""
+    try:
+        items = json.loads(f"[{text}]")
+    except ValueError:
+        return text
+    return items[0] if len(items) == 1 else items
 
 
 class Handler(BaseHTTPRequestHandler):
-    """The requests of one connection, one after the other."""
+    """The requests of one connection, one after the other. A connection that is silent for long is closed."""
 
     server_version, sys_version, protocol_version = "diffuse", "", "HTTP/1.1"
-    timeout, wbufsize, disable_nagle_algorithm = SILENCE, 1 << 16, True
+    timeout, wbufsize, disable_nagle_algorithm = 5, 1 << 16, True
 
     def do_GET(self):
-        began, path, kind = time.monotonic(), self.path.partition("?")[0], JSON
+        began, path = time.monotonic(), self.path.partition("?")[0]
         try:
-            status, body = 200, self.answer(path, began + self.server.words.timeout)
-            kind = TEXT if path == "/metrics" else JSON
-        except (Refused, DiffuseError) as error:
-            status, body = error.http, error.as_dict()
+            status, reply = 200, self.server.answer(path, self.fields(), began)
+        except DiffuseError as error:
+            status, reply = error.http, error.as_dict()
+        except KeyError as error:
+            status, reply = 400, Refused(400, f"there must be a field {error}").as_dict()
         except Exception as error:  # a request that fails must not take its connection with it
-            status, body = 500, {"error": type(error).__name__, "http": 500, "detail": str(error)}
-        if path == "/health" and self.server.is_draining:
-            status = 503
-        self.send(status, kind, body)
-        self.note(path, status, time.monotonic() - began)
+            status, reply = 500, {"error": type(error).__name__, "http": 500, "detail": str(error)}
+        self.send(status, reply, path if path in (*ANSWERS, "/health", "/metrics") else "other", time.monotonic() - began)
 
     do_POST = do_GET
 
-    def answer(self, path, deadline):
-        body = self.body()
-        if path == "/metrics":
-            return self.server.metrics.text(self.server.gauges())
-        if path == "/health":
-            return self.server.health()
-        if path not in ANSWERS:
-            raise Refused(404, "there is no such path")
-        return self.server.answer(ANSWERS[path], Asked(urlsplit(self.path).query, body, deadline))
-
-    def body(self):
-        """What was sent after the head. One that is not read would be taken for the next request."""
-        size = self.headers.get("Content-Length", "0")
-        if "Transfer-Encoding" in self.headers or not (size.isascii() and size.isdigit()) or int(size) > LONGEST_BODY:
-            self.close_connection = True
-            raise Refused(413, f"a body must have a Content-Length of at most {LONGEST_BODY}")
+    def fields(self):
+        """The fields of the query, and those of the body, a JSON object. A body that is not read would be the next request."""
+        size, closes = self.headers.get("Content-Length", "0"), self.close_connection
+        self.close_connection = True
+        if not size.isdecimal() or len(size) > 6 or "Transfer-Encoding" in self.headers:
+            raise Refused(413, "a body must have a Content-Length below a million")
+        body = self.rfile.read(int(size))
+        self.close_connection = closes
         try:
-            return self.rfile.read(int(size))
-        except OSError:
-            self.close_connection = True
-            raise Refused(408, "the body has not come") from None
+            return {**{name: value_of(text) for name, text in parse_qsl(self.path.partition("?")[2])}, **json.loads(body or "{}")}
+        except (ValueError, TypeError, RecursionError):
+            raise Refused(400, "the body is not a JSON object") from None
 
-    def send(self, status, kind, body):
-        data = (body if kind == TEXT else json.dumps(body) + "\n").encode()
-        self.close_connection = self.close_connection or self.server.is_draining
+    def send(self, status, reply, path, seconds):
+        """Sends a reply, counts it and logs it."""
+        data = (reply if isinstance(reply, str) else json.dumps(reply) + "\n").encode()
+        self.close_connection |= self.server.is_draining
         self.send_response(status)
-        self.send_header("Content-Type", kind)
+        self.send_header("Content-Type", "text/plain; version=0.0.4" if isinstance(reply, str) else "application/json")
         self.send_header("Content-Length", str(len(data)))
         self.send_header("Connection", "close" if self.close_connection else "keep-alive")
         if status == 503:
             self.send_header("Retry-After", "1")
         self.end_headers()
         self.wfile.write(data)
+        self.server.metrics.add(1, "diffuse_requests_total", path=path, status=status)
+        self.server.metrics.observe(seconds, "diffuse_request_seconds", path=path)
+        log(client=self.client_address[0], request=self.requestline, status=status, seconds=round(seconds, 6))
 
     def send_error(self, code, message=None, explain=None):
         """A head that is not HTTP, or a method that is not known."""
         self.close_connection = True
-        self.send(code, JSON, Refused(int(code), message or "refused").as_dict())
-        self.note("", int(code), 0)
-
-    def note(self, path, status, seconds):
-        path = path if path in (*ANSWERS, "/health", "/metrics") else "other"
-        self.server.metrics.observe(path, seconds)
-        self.server.metrics.count("diffuse_requests_total", path=path, status=status)
-        log(client=self.client_address[0], request=self.requestline, status=status, seconds=round(seconds, 6))
+        self.send(code, Refused(int(code), message or "refused").as_dict(), "other", 0)
 
     def log_message(self, *_words):
-        """Each request has a line of its own already."""
+        """Each request has a line already."""
 
 
 class Server(ThreadingHTTPServer):
     """A thread for each connection, and some that search: each search borrows a handle of its own on the one graph."""
 
-    daemon_threads, request_queue_size, is_draining = True, 1024, False
+    daemon_threads, request_queue_size, is_draining = False, 1024, False
 
     def __init__(self, words):
-        self.words, self.metrics, self.lock, self.connections = words, Metrics(), threading.Lock(), set()
+        self.words, self.metrics, self.graph = words, Metrics(), read_graph(words)
         self.admitted, self.searches = threading.Semaphore(words.handles + words.queue), ThreadPoolExecutor(words.handles)
-        self.graph = Graph.read(words.graph)
         super().__init__((words.host, words.port), Handler)
 
-    def answer(self, call, asked):
-        """What a search finds, as soon as one of `handles` threads is free; refused if too many wait already, or for too long."""
+    def answer(self, path, fields, began):
+        """What is replied to a request: what a search finds, unless too many wait already, or it waits too long."""
+        if path == "/metrics":
+            return self.metrics.text(diffuse_threads=threading.active_count(), diffuse_arcs=self.graph.arcs, diffuse_vertices=self.graph.vertices)
+        if path == "/health":
+            return self.health()
+        if path not in ANSWERS:
+            raise Refused(404, "there is no such path")
         if not self.admitted.acquire(blocking=False):
             raise Refused(503, "the queue is full")
-        search = self.searches.submit(call, self.graph, asked)
+        search = self.searches.submit(ANSWERS[path], self.graph, fields)
         search.add_done_callback(lambda _: self.admitted.release())
         try:
-            return search.result(max(0, asked.deadline - time.monotonic()))
+            return search.result(max(0, began + self.words.timeout - time.monotonic()))
         except TimeoutError:
             search.cancel()
             raise Refused(503, "timed out") from None
 
     def health(self):
-        return {"status": "draining" if self.is_draining else "ok", "vertices": self.graph.vertices, "arcs": self.graph.arcs}
-
-    def gauges(self):
-        graph = self.graph
-        return {"diffuse_connections": len(self.connections), "diffuse_graph_vertices": graph.vertices, "diffuse_graph_arcs": graph.arcs}
+        if self.is_draining:
+            raise Refused(503, "the server is ending")
+        return {"status": "ok", "vertices": self.graph.vertices, "arcs": self.graph.arcs}
 
     def reload(self):
         """The file's graph answers all further requests; the old one is freed with its last. A bad file changes nothing."""
         try:
-            self.graph = Graph.read(self.words.graph)
-            self.metrics.count("diffuse_reloads_total", result="done")
+            self.graph = read_graph(self.words)
+            self.metrics.add(1, "diffuse_reloads_total", result="done")
             log(event="reloaded", **self.health())
         except (OSError, DiffuseError) as error:
-            self.metrics.count("diffuse_reloads_total", result="failed")
+            self.metrics.add(1, "diffuse_reloads_total", result="failed")
             log(event="not reloaded", error=str(error))
 
-    def process_request(self, request, client_address):
-        with self.lock:
-            if len(self.connections) < self.words.connections:
-                self.connections.add(request)
-                return super().process_request(request, client_address)
-        self.metrics.count("diffuse_connections_refused_total")
-        return self.shutdown_request(request)
+    def verify_request(self, _request, _address):
+        """Whether there may be a thread for another connection; if not, it is closed without a word."""
+        too_many = threading.active_count() >= self.words.threads
+        self.metrics.add(int(too_many), "diffuse_connections_refused_total")
+        return not too_many
 
-    def shutdown_request(self, request):
-        with self.lock:
-            self.connections.discard(request)
-        super().shutdown_request(request)
-
-    def handle_error(self, _request, client_address):
-        log(client=client_address[0], event="connection lost", error=repr(sys.exc_info()[1]))
+    def handle_error(self, _request, address):
+        log(client=address[0], event="connection lost", error=repr(sys.exc_info()[1]))
 
     def drain(self):
-        """Answers what has arrived, and closes all connections."""
+        """Answers what has arrived, and closes each connection with its last reply, or when it was silent."""
         self.is_draining = True
         self.shutdown()
         while select([self.socket], [], [], 0)[0]:
             self.handle_request()
         self.server_close()
-        with self.lock:
-            for connection in self.connections:
-                with contextlib.suppress(OSError):
-                    connection.shutdown(socket.SHUT_RD)
-        end = time.monotonic() + 2 * self.words.timeout
-        while self.connections and time.monotonic() < end:
-            time.sleep(0.01)
-        log(event="ended", unanswered=len(self.connections))
-        return 1 if self.connections else 0
+        log(event="ended")
+
+
+def read_graph(words):
+    """The graph of the file, factored if that is wished and pays."""
+    graph = Graph.read(words.graph)
+    try:
+        if words.factors:
+            graph.factor()
+    except NotFactored as error:
+        log(event="not factored", error=str(error))
+    return graph
 
 
 def read_words():
@@ -184,10 +171,11 @@ def read_words():
     parser.add_argument("graph", help="a .gr file")
     parser.add_argument("--host", default="127.0.0.1", help="where to listen (default: for this machine alone)")
     parser.add_argument("--port", type=int, default=8080)
+    parser.add_argument("--factors", action="store_true", help="factor each graph, so that an answer takes a fraction of a search")
     parser.add_argument("--handles", type=int, default=4, help="how many searches run at once (default: 4)")
     parser.add_argument("--queue", type=int, default=64, help="how many requests may wait for a search (default: 64)")
-    parser.add_argument("--timeout", type=float, default=5, metavar="SECONDS", help="how long one waits, and a table takes (default: 5)")
-    parser.add_argument("--connections", type=int, default=512, help="how many may be open at once (default: 512)")
+    parser.add_argument("--threads", type=int, default=512, help="how many there may be, one for each connection (default: 512)")
+    parser.add_argument("--timeout", type=float, default=5, metavar="SECONDS", help="how long one waits for its answer (default: 5)")
     return parser.parse_args()
 
 
@@ -202,8 +190,8 @@ def main():
     log(event="listening", port=server.server_port, **server.health())
     while signal.sigwait(signals) == signal.SIGHUP:
         server.reload()
-    return server.drain()
+    server.drain()
 
 
 if __name__ == "__main__":
-    sys.exit(main())
+    main()

@@ -1,0 +1,46 @@
+"""Questions by factors, beside the search and the baseline."""
+from cases import BASELINE, BASELINES, Case
+
+# The name of the program with factors in the figures.
+FACTORS = "diffuse --factors"
+
+
+class Factored(Case):
+    """Questions of a file by `solve --factors`, beside `solve --plain` and the baseline."""
+
+    def __init__(self, files, kind, is_long=False):
+        super().__init__(files, kind)
+        self.is_long = is_long
+
+    def title(self):
+        return "%s by factors, %s" % (self.files.name, self.kind)
+
+    def commands(self, programs, folder):
+        graph, questions = self.files.graph, self.files.questions[self.kind]
+        return {"diffuse": self.ours(programs) + ["--plain"], FACTORS: self.ours(programs) + ["--factors"],
+                BASELINE: [programs[BASELINES[self.files.word_of(self.kind)]], graph, questions]}
+
+    def count(self):
+        """How many questions there are."""
+        return self.files.count_of(self.kind)
+
+    def ours(self, programs):
+        return [programs["diffuse"], "solve", self.files.graph, self.files.questions[self.kind]]
+
+
+class Bundled(Factored):
+    """The same, with the graph and the questions on standard input."""
+
+    def title(self):
+        return "%s by factors, %s as a bundle" % (self.files.name, self.kind)
+
+    def ours(self, programs):
+        return [programs["diffuse"], "bundle"]
+
+    def input(self):
+        return "".join(open(path, encoding="ascii").read() for path in (self.files.graph, self.files.questions[self.kind]))
+
+
+def each_of(less, more, name, what):
+    """What a question takes by a program, in each round: what more questions take beyond less, for each further one."""
+    return [beyond / (more.count() - less.count()) for beyond in more.beyond(less, name, what)]

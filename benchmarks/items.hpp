@@ -1,0 +1,82 @@
+// Messages and signals that wait at a part of the graph.
+#pragma once
+#include <cstdint>
+#include <queue>
+#include <vector>
+
+using std::vector;
+
+// A message on an arc, or the signal that answers it. Arc 0 leads from the environment to the source.
+struct Item {
+    uint32_t arc;
+    bool is_signal;
+    uint64_t value;
+};
+
+class Ring {
+    vector<Item> room = vector<Item>(64);
+    size_t first = 0, count = 0;
+
+    void grow() {
+        vector<Item> wider(2 * room.size());
+        for (size_t i = 0; i < count; i++) wider[i] = room[(first + i) & (room.size() - 1)];
+        room.swap(wider);
+        first = 0;
+    }
+
+public:
+    bool is_empty() const { return count == 0; }
+
+    void push(const Item& item) {
+        if (count == room.size()) grow();
+        room[(first + count++) & (room.size() - 1)] = item;
+    }
+
+    Item pop() {
+        Item item = room[first];
+        first = (first + 1) & (room.size() - 1);
+        count--;
+        return item;
+    }
+};
+
+// A message that waits for its turn by value. Less is worse: a greater value, and of equal values a greater arc.
+struct Ranked {
+    uint64_t value;
+    uint32_t arc;
+    bool operator<(const Ranked& other) const {
+        return value > other.value || (value == other.value && arc > other.arc);
+    }
+};
+
+// The items that wait at a part, in one of two orders. First come, first served they are in a ring. Best first, what came
+// is looked at from the newest on: a signal, or a message that improves nothing, is taken at once, any other is ranked.
+class Queue {
+    bool best_first = false;
+    Ring ring;
+    vector<Item> unranked;
+    std::priority_queue<Ranked> ranked;
+
+public:
+    void open(bool best) { best_first = best; }
+
+    bool is_empty() const { return ring.is_empty() && unranked.empty() && ranked.empty(); }
+
+    void push(const Item& item) {
+        if (best_first) unranked.push_back(item);
+        else ring.push(item);
+    }
+
+    template <class Improves> Item pop(Improves improves) {
+        if (!best_first) return ring.pop();
+        while (!unranked.empty()) {
+            Item item = unranked.back();
+            unranked.pop_back();
+            if (item.is_signal || !improves(item)) return item;
+            ranked.push({item.value, item.arc});
+        }
+        Ranked best = ranked.top();
+        ranked.pop();
+        return {best.arc, false, best.value};
+    }
+};

@@ -3,8 +3,9 @@ ghost use Rattle.std.specs.Prelude.{◌≡◌, ℕ, ◌+◌, ◌<◌, Bool, [], 
 ghost use Rattle.std.specs.List.{All};
 ghost use Rattle.path_algebra.specs.Given.{reach};
 ghost use Rattle.scholten_core.specs.Accounts.{AreMarksOfReached, count_marked};
-ghost use Rattle.shard_store.specs.Setup.{SetupData};
+ghost use Rattle.scholten_core.specs.BestFirst.{AreMarksOfWalkEnds};
 ghost use Rattle.station.specs.Gather.{IsGathered, each_shows};
+ghost use Rattle.station.specs.Opened.{setup_of};
 ghost use Rattle.station.specs.Station.{BelongsTo};
 
 mod threads;
@@ -16,8 +17,8 @@ use post_floor::Floor;
 use road_graph::{Graph, Vertex};
 use shard_part::{Plan, QueueOrder, Shard};
 use station::{
-    Finished, GatherFault, Gathered, Station, Ungathered, gather, open_diffusion,
-    reach_counts_each_arc_once,
+    Finished, GatherFault, Gathered, Station, Ungathered, best_first_counts_each_arc_once, gather,
+    open_diffusion, reach_counts_each_arc_once,
 };
 use std::process::Abort;
 
@@ -44,8 +45,7 @@ pub fn opened<'g, A: PathAlgebra>(
     order: QueueOrder,
 ) -> (Floor<A>, Vec<Station<'g, A>>)
     ensures own { All (BelongsTo result.0) result.1.items }
-    ensures roads { result.0.setup.diffusion.roads ≡ graph.now }
-    ensures source { result.0.setup.diffusion.source ≡ source }
+    ensures setup { result.0.setup ≡ setup_of algebra graph.now source plan.now order }
 {
     assert!(rt; graph.has(Vertex(source)));
     assert!(rt; plan.vertices() == graph.vertices());
@@ -200,12 +200,24 @@ fn gathered<A: PathAlgebra>(
     }
 }
 
-/// How a diffusion goes on: the order in which parts take their items, how many they take in a turn, and how many turns there are.
+/// How a diffusion goes on: the order in which parts take their items, by what weight they may run ahead, how many items they take in a turn, and how many turns there are.
 #[derive(Clone, Copy)]
 struct Schedule {
     order: QueueOrder,
+    ahead: Option<u32>,
     budget: u32,
     turns: usize,
+}
+
+/// The floor, with its shards held back if that is asked.
+fn held_back<A: PathAlgebra>(floor: Floor<A>, ahead: Option<u32>) -> Floor<A>
+    ensures { result ≡ floor }
+{
+    let mut floor = floor;
+    if let Some(ahead) = ahead {
+        floor.hold_back(ahead);
+    }
+    floor
 }
 
 /// The answer of a diffusion.
@@ -217,15 +229,17 @@ fn answered<A: PathAlgebra>(
     source: u32,
     schedule: Schedule,
 ) -> Gathered<A::Value>
-    ensures { (q : SetupData A) × IsGathered A.meaning q result × (q.diffusion.roads ≡ graph.now) ×
-        (q.diffusion.source ≡ source) }
+    ensures { IsGathered A.meaning (setup_of algebra graph.now source plan.now schedule.order)
+        result }
 {
     let Schedule {
         order,
+        ahead,
         budget,
         turns,
     } = schedule;
     let (floor, stations) = opened(rt, algebra, graph, plan, source, order);
+    let floor = held_back(floor, ahead);
     let stations = turned(rt, &floor, stations, budget, turns);
     let done = finished(rt, &floor, stations);
     gathered(rt, floor, done)
@@ -248,7 +262,7 @@ fn assert_labels<A: PathAlgebra>(
     }
 }
 
-/// Asserts the labels of the five vertices from vertex 1, after this many turns, in both orders.
+/// Asserts the labels of the five vertices from vertex 1, after this many turns, in both orders, held back or not.
 fn assert_answer<A: PathAlgebra>(
     rt: &(impl Abort + AllocGlobal),
     algebra: A,
@@ -258,13 +272,16 @@ fn assert_answer<A: PathAlgebra>(
     wanted: [Option<u64>; 5],
 ) {
     for order in ORDERS {
-        let schedule = Schedule {
-            order,
-            budget,
-            turns,
-        };
-        let gathered = answered(rt, algebra, &five(rt), plan, 1, schedule);
-        assert_labels(rt, algebra, &gathered, wanted);
+        for ahead in [None, Some(0), Some(3)] {
+            let schedule = Schedule {
+                order,
+                ahead,
+                budget,
+                turns,
+            };
+            let gathered = answered(rt, algebra, &five(rt), plan, 1, schedule);
+            assert_labels(rt, algebra, &gathered, wanted);
+        }
     }
 }
 
@@ -351,6 +368,7 @@ fn assert_reached(
     for order in ORDERS {
         let schedule = Schedule {
             order,
+            ahead: None,
             budget,
             turns: 200,
         };
@@ -376,6 +394,76 @@ fn reach_accounts_from_other_sources(rt: HostRuntime) {
     let four_alone = [None, None, None, Some(0), None];
     assert_reached(&rt, &plan, 4, 1, four_alone, 2);
     assert_reached(&rt, &plan, 5, 1, [Some(0); 5], 8);
+}
+
+/// The answer in one shard, best first: each counter is one, and one more for each arc in which some walk with a value ends.
+fn best_alone<A: PathAlgebra>(
+    rt: &(impl Abort + AllocGlobal),
+    algebra: A,
+    graph: &Graph,
+    plan: &Plan,
+    source: u32,
+    budget: u32,
+) -> Gathered<A::Value>
+    requires { plan.now.shards ≡ 1 }
+    ensures { (marked : ℕ → Bool) →
+        AreMarksOfWalkEnds (A.meaning algebra) graph.now source marked → result.tally ≡
+        each_shows (1 + count_marked graph.now marked) }
+{
+    let schedule = Schedule {
+        order: QueueOrder::BestFirst,
+        ahead: None,
+        budget,
+        turns: 200,
+    };
+    let gathered = answered(rt, algebra, graph, plan, source, schedule);
+    best_first_counts_each_arc_once(algebra);
+    gathered
+}
+
+/// Asserts each counter of the answer about the five vertices in one shard, best first.
+fn assert_best_alone<A: PathAlgebra>(
+    rt: &(impl Abort + AllocGlobal),
+    algebra: A,
+    source: u32,
+    count: u64,
+) {
+    let (graph, plan) = (five(rt), blocks_of(rt, 5, 1));
+    for budget in [1, 2, 1000] {
+        assert!(rt; plan.shards() == 1);
+        let gathered = best_alone(rt, algebra, &graph, &plan, source, budget);
+        assert_counts(rt, gathered.tally, [count; 4]);
+    }
+}
+
+#[test]
+fn best_first_accounts(rt: HostRuntime) {
+    // From vertex 1 six arcs, from 4 the loop, from 5 all seven; two of the six would pass the limit.
+    assert_best_alone(&rt, Shortest, 1, 7);
+    assert_best_alone(&rt, Widest, 1, 7);
+    assert_best_alone(&rt, Within { limit: 5 }, 1, 4);
+    assert_best_alone(&rt, Shortest, 4, 2);
+    assert_best_alone(&rt, Shortest, 5, 8);
+}
+
+/// Whether the second of three stations is held back that may run ahead by this weight. Vertex 2 waits for 4 at the first station, and vertex 4 for 9 at the second.
+fn is_second_held(rt: &(impl Abort + AllocGlobal), ahead: u32) -> bool {
+    let (graph, plan) = (five(rt), blocks_of(rt, 5, 3));
+    let (floor, stations) = opened(rt, Shortest, &graph, &plan, 1, QueueOrder::BestFirst);
+    let floor = held_back(floor, Some(ahead));
+    let stations = turned_once(rt, &floor, stations, 0, 1);
+    let mut stations = turned_once(rt, &floor, stations, 1, 1);
+    last_of(rt, &floor, &mut stations);
+    let mut second = last_of(rt, &floor, &mut stations);
+    let report = second.turn(&floor, 1);
+    assert!(rt; report.held == (report.handled == 0));
+    report.held
+}
+
+#[test]
+fn holds_back_what_runs_ahead(rt: HostRuntime) {
+    assert!(rt; is_second_held(&rt, 4));
+    assert!(rt; !is_second_held(&rt, 5));
 }
 
 /// The label of a vertex, as a station shows it.

@@ -135,6 +135,8 @@ module _ {S V : Type 0} (meaning : S → Algebra V) (t : SetupData S) (L : AllLa
             below = G.below;
             idle = idle_after meaning t s.views id New e refl r.idle;
             counts = G.counts;
+            own = G.own;
+            best = G.best;
             boxes = λ j jl. elim (cases_eq j k) [
               | inl same ↦ subst (λ (z : ℕ). MailboxInvariant t z (get_or (set s.words k n') z 0) (get_elem? homes' z)
                   (total (fill_claims z) (set s.views id New)) (total (read_claims z) (set s.views id New))) (sym same) box_here

@@ -93,6 +93,8 @@ module _ {S V : Type 0} (meaning : S → Algebra V) (t : SetupData S) where
             below = G.below;
             idle = idle_after meaning t s.views id w d refl r.idle;
             counts = G.counts;
+            own = G.own;
+            best = G.best;
             boxes = λ j jl. let f : total (fill_claims j) s.views ≡ total (fill_claims j) (set s.views id w) = let a =
                 total_set (fill_claims j) s.views id v w c.at in let y : fill_claims j w ≡ fill_claims j v = ap (total (is j)) c.fills in omega (arith, a, y) in
                 let g : total (read_claims j) s.views ≡ total (read_claims j) (set s.views id w) = let a = total_set (read_claims j) s.views id v w

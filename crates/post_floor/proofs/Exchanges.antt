@@ -40,7 +40,7 @@ use Rattle.post_floor.proofs.Ordering.{sender, receiver, looked_on}
 
 module _ {S V : Type 0} (meaning : S → Algebra V) (t : SetupData S) where
   pub unchanged : (d : PartData S V) → Relisted meaning t d d
-  unchanged d = record { setup = refl; shard = refl; tables = refl; outs = refl; sent = refl; delivered = refl; signalled = refl; accepted = refl }
+  unchanged d = record { setup = refl; shard = refl; tables = refl; outs = refl; sent = refl; delivered = refl; signalled = refl; accepted = refl; own = λ h. h }
 
   -- a batch that came from another shard, for a part of this setup
   arrived : (p : PartData S V) (c : CoreState V) (xs : List (Item V)) (j : ℕ) → AllLawful meaning → p.setup ≡ t → WellFormed (network_of t)
@@ -186,7 +186,7 @@ module _ {S V : Type 0} (meaning : S → Algebra V) (t : SetupData S) where
         exchanged y full reading (Goes s k id me told)
         (λ hit. let held = ok.full_home hit in let xs : List (Item V) = held.0 in let homes' : List (Option (Slot V)) = set s.homes k none in let u : View S V = at_word k full (begin_read k me.0) in
         let q : PartData S V = joined d xs in
-        let lists : Relisted meaning t d q = record { setup = refl; shard = refl; tables = refl; outs = refl; sent = refl; delivered = refl; signalled = refl; accepted = refl } in
+        let lists : Relisted meaning t d q = record { setup = refl; shard = refl; tables = refl; outs = refl; sent = refl; delivered = refl; signalled = refl; accepted = refl; own = λ h. h } in
         let C = changes meaning t L W s r id k reading homes' me.0 u b d q items (record {
           at = at;
           one = sh.parts;
@@ -248,7 +248,17 @@ module _ {S V : Type 0} (meaning : S → Algebra V) (t : SetupData S) where
         let to : ℕ = dest t.plan.shards k in
         let xs : List (Item V) = get_or d.outs to [] in
         let q : PartData S V = published_to to d in
-        let lists : Relisted meaning t d q = record { setup = refl; shard = refl; tables = refl; outs = length-set d.outs to []; sent = refl; delivered = refl; signalled = refl; accepted = refl } in
+        let lists : Relisted meaning t d q = record {
+          setup = refl;
+          shard = refl;
+          tables = refl;
+          outs = length-set d.outs to [];
+          sent = refl;
+          delivered = refl;
+          signalled = refl;
+          accepted = refl;
+          own = λ h. get_or-set_other d.outs to d.shard [] [] (λ z. other (sym z)) ∙ h;
+        } in
         let homes' : List (Option (Slot V)) = put_back s.homes me.1 in
         let homes_are : homes' ≡ set s.homes k (some (std.Some (buffer xs (mailbox_capacity t k)))) = ap (put_back s.homes) held in
         let here : get_elem? homes' k ≡ some (some (std.Some (buffer xs (mailbox_capacity t k)))) = ap (λ (z : List (Option (Slot V))). get_elem? z k)

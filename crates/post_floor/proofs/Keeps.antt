@@ -14,11 +14,13 @@ use Rattle.scholten_core.specs.Shares.{Agree}
 use Rattle.scholten_core.proofs.Kept.{Kept as CoreKept, run_kept}
 use Rattle.scholten_core.proofs.Ended.{opening_kept}
 use Rattle.shard_part.specs.PartState.{PartData, state_in, mine, event_of}
-use Rattle.shard_store.specs.Setup.{SetupData, network_of, place_in}
+use Rattle.shard_store.specs.Setup.{SetupData, network_of, place_in, IsPlanned}
 use Rattle.shard_store.specs.Totals.{total, is}
 use Rattle.shard_part.specs.Weights.{All, part_weight}
 use Rattle.shard_part.specs.Handling.{HandledAll}
-use Rattle.shard_part.specs.Represents.{HoldsShareIn, RepresentsIn, Represents}
+use Rattle.shard_part.specs.Represents.{HoldsTables, HoldsShareIn, RepresentsIn, Represents}
+use Rattle.shard_part.specs.OnePart.{AreBestFirstIfOne, OwnOutboxIsEmpty}
+use Rattle.shard_part.proofs.OnePartTakesTheBest.{best_first_more, own_stays, all_best}
 use Rattle.shard_store.proofs.Totals.{total_append}
 use Rattle.shard_part.proofs.Showing.{AllLawful, all_parts, all_append, shown_holds, swap_shown}
 use Rattle.shard_part.proofs.TakenCounts.{run_append, handled_same}
@@ -27,6 +29,7 @@ use Rattle.post_floor.specs.Floor.{Slot, flat, AddUp, CountsNone, in_transit, co
 use Rattle.post_floor.specs.Plays.{IsViewOf, StepsTo}
 use Rattle.post_floor.proofs.Totals.{total_set}
 use Rattle.post_floor.proofs.Parts.{stands}
+use Rattle.post_floor.proofs.OneShard.{lone}
 use Rattle.shard_part.specs.Exact.{totals_from, done_by}
 use Rattle.shard_part.proofs.Exact.{sent_more, delivered_more, signalled_more, accepted_more, saturates, moves}
 
@@ -48,6 +51,7 @@ module _ {S V : Type 0} (meaning : S → Algebra V) (t : SetupData S) where
     pub delivered : e.delivered ≡ d.delivered
     pub signalled : e.signalled ≡ d.signalled
     pub accepted : e.accepted ≡ d.accepted
+    pub own : OwnOutboxIsEmpty d → OwnOutboxIsEmpty e
 
   pub went : (v u : View S V) (b d e : PartData S V) (items : List (Item V)) (T : HandledAll meaning b items d) → IsViewOf v b → Relisted d e → StepsTo u e (gone v u e (done_by meaning items b d T))
   went v u b d e items T s r =
@@ -82,6 +86,8 @@ module _ {S V : Type 0} (meaning : S → Algebra V) (t : SetupData S) where
       pub counts : AddUp (set s.views id w) (totals_of (meaning t.diffusion.algebra) (network_of t) events)
       pub share : HoldsShareIn (meaning t.diffusion.algebra) (network_of t) (place_in t) (core_of meaning t events) e
       pub setup : e.setup ≡ t
+      pub own : All OwnOutboxIsEmpty (flat (set s.views id w))
+      pub best : IsPlanned t 0 → AreBestFirstIfOne meaning t events
 
     pub goes_on : (s : St) (r : FloorInvariant meaning t s) (id : ℕ) (v u : View S V) (b d e : PartData S V) (items : List (Item V)) (T : HandledAll meaning b items d) (mail' : (ℕ → Item V → ℕ) → ℕ) →
         get_elem? s.views id ≡ some v → v.parts ≡ b ∷ [] → Relisted d e → ((h : ℕ → Item V → ℕ) → part_weight h e + mail' h ≡ part_weight h d + in_transit t.plan.shards s.words s.homes h) →
@@ -106,7 +112,8 @@ module _ {S V : Type 0} (meaning : S → Algebra V) (t : SetupData S) where
         let setup : e.setup ≡ t = R.setup ∙ k.0 ∙ all0.1.0 in
         let sw' : Represents meaning t (P.before ++ e ∷ P.after) mail' c' =
         record { same = all_append (λ (p : PartData S V). p.setup ≡ t) P.before (e ∷ P.after) all0.0 (setup, all0.1.1); shown = sw } in
-        let views' : flat (set s.views id w) ≡ P.before ++ e ∷ P.after = P.then w e refl in record {
+        let views' : flat (set s.views id w) ≡ P.before ++ e ∷ P.after = P.then w e refl in
+        let own0 = all_parts (λ (p : PartData S V). OwnOutboxIsEmpty p) P.before (b ∷ P.after) (subst (All (λ (p : PartData S V). OwnOutboxIsEmpty p)) P.now r.own) in record {
           shown = subst (λ (d' : CoreState V). Represents meaning t (flat (set s.views id w)) mail' d') is_c (subst (λ (l : List (PartData S V)). Represents meaning t l mail' c') (sym views') sw');
           whole = λ j lt. let f : PartData S V → ℕ = λ p. is j p.shard in
               let o = r.whole j lt in let x = ap (total f) P.now in let y = ap (total f) views' in let x' = total_append f P.before (b ∷ P.after) in let y' = total_append f P.before (e ∷ P.after) in
@@ -131,4 +138,11 @@ module _ {S V : Type 0} (meaning : S → Algebra V) (t : SetupData S) where
           };
           share = subst (λ (d' : CoreState V). HoldsShareIn A N (place_in t) d' e) is_c (shown_holds A N (place_in t) P.before P.after e mail' c' sw);
           setup = setup;
+          own = subst (All (λ (p : PartData S V). OwnOutboxIsEmpty p)) (sym views')
+              (all_append (λ (p : PartData S V). OwnOutboxIsEmpty p) P.before (e ∷ P.after) own0.0 (R.own (own_stays meaning items b d T own0.1.0), own0.1.1));
+          best = λ planned one. (
+              let X = lone meaning t s r planned one.0 P.before P.after b P.now in
+              best_first_more A N (opening A N) r.events more (r.best planned one)
+              (all_best meaning L t W one.1 items b d c (kept_core r.events) all0.1.0 (all_parts (HoldsTables A N (place_in t) c) P.before (b ∷ P.after) H0.shown.tables).1.0
+              (λ h. let x = H0.shown.weighs h in let y = X.weighs h in let z = X.none h in omega (arith, x, y, z)) X.all own0.1.0 T));
         }

@@ -2,6 +2,7 @@ mod Totals
 mod Parts
 mod Order
 mod Ordering
+mod OneShard
 mod Keeps
 mod Changes
 mod Exchanges

@@ -14,6 +14,7 @@ use Rattle.shard_store.specs.Setup.{SetupData, place_in, IsPlanned}
 use Rattle.shard_store.specs.Totals.{total, is}
 use Rattle.shard_part.specs.Weights.{All}
 use Rattle.shard_part.specs.Represents.{Represents}
+use Rattle.shard_part.specs.OnePart.{OwnOutboxIsEmpty}
 use Rattle.shard_part.specs.Opening.{opened_parts}
 use Rattle.shard_store.proofs.Totals.{sum_zero, sum_below_same}
 use Rattle.shard_store.proofs.Graphs.{place_below}
@@ -25,6 +26,11 @@ use Rattle.post_floor.specs.Seats.{knows}
 use Rattle.post_floor.proofs.Opened.{get_zero}
 use Rattle.post_floor.proofs.Order.{fresh_order}
 use Rattle.post_floor.proofs.Ordering.{only}
+
+none_out : {X : Type 0} (n k : ℕ) → ◌≡◌ {A = List X} (get_or (replicate n []) k []) []
+none_out zero k = refl
+none_out (suc n) zero = refl
+none_out (suc n) (suc k) = none_out n k
 
 module _ {S V : Type 0} (A : Algebra V) (t : SetupData S) where
   -- each shard has a part
@@ -42,6 +48,10 @@ module _ {S V : Type 0} (A : Algebra V) (t : SetupData S) where
   all_below : (m k n : ℕ) → k + n ≤ m → All (λ (p : PartData S V). p.shard < m) (opened_parts A t k n)
   all_below m k zero l = tt
   all_below m k (suc n) l = ((omega (arith, l)), all_below m (suc k) n (omega (arith, l)))
+
+  all_own : (k n : ℕ) → All (λ (p : PartData S V). OwnOutboxIsEmpty p) (opened_parts A t k n)
+  all_own k zero = tt
+  all_own k (suc n) = (none_out t.plan.shards k, all_own (suc k) n)
 
 module _ {S V : Type 0} (meaning : S → Algebra V) (t : SetupData S) (P : IsPlanned t 0) where
   pub opens : (ws : List ℕ) (xs : List (Slot V)) → ws ≡ replicate (box_count t.plan.shards + 1) 0 → length xs ≡ box_count t.plan.shards
@@ -82,6 +92,8 @@ module _ {S V : Type 0} (meaning : S → Algebra V) (t : SetupData S) (P : IsPla
           apart = λ e. absurd (omega (arith, e));
           out = λ z. elim z [ inl e ↦ absurd (omega (arith, e)) | inr e ↦ absurd (omega (arith, e)) ];
         });
+        own = subst (All (λ (p : PartData S V). OwnOutboxIsEmpty p)) (sym all) (all_own (meaning t.diffusion.algebra) t 0 n);
+        best = λ _ _. tt;
         done = λ e. absurd (let z = zero_at (box_count n) in omega (arith, e, z));
         seen = λ id u a sn. let f : false ≡ true = ap (λ (z : View S V). z.seen) (only v id u a) ∙ sn in absurd cc;
         wide = ap length zeros ∙ length-replicate (box_count n + 1) 0;

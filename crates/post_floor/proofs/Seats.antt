@@ -12,6 +12,7 @@ use Rattle.shard_store.specs.Setup.{SetupData, network_of, place_in}
 use Rattle.shard_store.specs.Totals.{total, is}
 use Rattle.shard_part.specs.Weights.{All, part_weight}
 use Rattle.shard_part.specs.Represents.{HoldsTables}
+use Rattle.shard_part.specs.OnePart.{OwnOutboxIsEmpty}
 use Rattle.shard_store.proofs.Totals.{total_append}
 use Rattle.shard_part.proofs.Showing.{all_append, all_parts}
 use Rattle.post_floor.specs.declared.view.View.{View}
@@ -93,6 +94,8 @@ module _ {S V : Type 0} (meaning : S → Algebra V) (t : SetupData S) where
         idle = c.idle r.idle;
         counts = record { sent = c.sent ∙ r.counts.sent; delivered = c.delivered ∙ r.counts.delivered; signalled = c.signalled ∙ r.counts.signalled; accepted = c.accepted ∙ r.counts.accepted };
         boxes = λ j jl. subst (λ (z : ℕ × ℕ). MailboxInvariant t j (get_or s.words j 0) (get_elem? s.homes j) z.0 z.1) (λ i. (sym (c.fills j) i, sym (c.reads j) i)) (r.boxes j jl);
+        own = c.all (λ (p : PartData S V). OwnOutboxIsEmpty p) r.own;
+        best = r.best;
         done = r.done;
         seen = c.seen (get_or s.words (box_count t.plan.shards) 0 ≡ 1) r.seen;
         wide = r.wide;

@@ -24,7 +24,7 @@ use Rattle.post_floor.specs.Boxes.{empty, filling, full, reading, box_count, mai
 use Rattle.post_floor.specs.Floor.{Slot, flat, fill_claims, read_claims, box, in_transit, words_between, IsSeatOf, core_of, FloorInvariant, Rests, IsStill}
 use Rattle.post_floor.proofs.Totals.{total_none, is_one}
 use Rattle.post_floor.proofs.Parts.{flat_total, flat_each, flat_at}
-use Rattle.post_floor.proofs.Opened.{pair_below}
+use Rattle.post_floor.proofs.Opened.{ends_below}
 use Rattle.post_floor.proofs.Order.{after_onto}
 
 -- a sum that is not 0 has a member that is not 0
@@ -60,10 +60,6 @@ idle_not V false e = refl
 box_is : (n k : ℕ) → mailbox n (origin n k) (dest n k) (k % 4) ≡ k
 unfolding origin dest
 box_is n k = ap (λ z. z * 4 + k % 4) (div-add-mod' (k / 4) n) ∙ div-add-mod' k 4
-
-ends_below : (n k : ℕ) → k < box_count n → (origin n k < n) × (dest n k < n)
-unfolding origin dest
-ends_below n k lt = pair_below n k lt
 
 module _ {S V : Type 0} (meaning : S → Algebra V) (t : SetupData S) (s : State (Slot V) (View S V)) (r : FloorInvariant meaning t s) (still : IsStill t.plan.shards s) where
   abbrev n : ℕ

@@ -12,13 +12,14 @@ use Rattle.scholten_core.specs.Accounts.{Totals, totals_of}
 use Rattle.scholten_core.specs.Diffusion.{CoreState, state_after, HasEnded, IsQuiet}
 use Rattle.scholten_core.specs.Reached.{LabelsAreBest}
 use Rattle.scholten_core.specs.Sums.{sum_below}
-use Rattle.shard_store.specs.Setup.{SetupData, network_of, place_in}
+use Rattle.shard_store.specs.Setup.{SetupData, network_of, place_in, IsPlanned}
 use Rattle.shard_part.specs.PartState.{PartData}
 use Rattle.shard_store.specs.Totals.{total, is}
 use Rattle.shard_part.specs.Weights.{All, part_weight}
 use Rattle.shard_store.specs.Capacities.{outbox_bound}
 use Rattle.shard_part.specs.Represents.{Represents}
 use Rattle.shard_part.specs.Arriving.{MadeAt}
+use Rattle.shard_part.specs.OnePart.{AreBestFirstIfOne, OwnOutboxIsEmpty}
 use Rattle.post_floor.specs.declared.view.View.{View}
 use Rattle.post_floor.specs.Boxes.{empty, filling, full, reading, done_now, box_count, mailbox, dest, origin, AreInOrder}
 
@@ -123,7 +124,8 @@ module _ {S V : Type 0} (meaning : S → Algebra V) (t : SetupData S) where
 
   -- What holds between any two steps: some events lead from the opening to a state that all views and all mailboxes represent, the views are of all
   -- shards, their counts add up to what the events did, each mailbox is as its word says, the slots between
-  -- two shards are in order, and the done word says so only if the state has ended.
+  -- two shards are in order, and the done word says so only if the state has ended. No part has an item in its outbox to its own
+  -- shard, and if there is one part, best first, the events take the best waiting message first.
   pub record FloorInvariant (s : State (Slot V) (View S V)) : Type 0 where
     pub events : List Event
     pub shown : Represents meaning t (flat s.views) (in_transit t.plan.shards s.words s.homes) (core_of events)
@@ -137,6 +139,8 @@ module _ {S V : Type 0} (meaning : S → Algebra V) (t : SetupData S) where
     pub wide : length s.words ≡ box_count t.plan.shards + 1
     pub roomy : length s.homes ≡ box_count t.plan.shards
     pub ordered : AreAllInOrder t.plan.shards s.words s.views
+    pub own : All OwnOutboxIsEmpty (flat s.views)
+    pub best : IsPlanned t 0 → AreBestFirstIfOne meaning t events
 
   -- one view has all parts of a diffusion: with the mailboxes it represents a state that some events lead to, its counts are what these did, and if the done word says so, or it has seen that, the state has ended
   pub record FinalView (v : View S V) (ws : List ℕ) (hs : List (Option (Slot V))) : Type 0 where
@@ -145,6 +149,7 @@ module _ {S V : Type 0} (meaning : S → Algebra V) (t : SetupData S) where
     pub counts : AddUp (v ∷ []) (totals_of (meaning t.diffusion.algebra) (network_of t) events)
     pub done : get_or ws (box_count t.plan.shards) 0 ≡ done_now → HasEnded (core_of events)
     pub seen : v.seen ≡ true → HasEnded (core_of events)
+    pub best : IsPlanned t 0 → AreBestFirstIfOne meaning t events
 
   -- after these events all is over: parts and mailboxes represent a state that has ended and is quiet, its labels are best, and no queue, outbox or mailbox holds an item
   pub record RepresentsQuiet (parts : List (PartData S V)) (mailed : (ℕ → Item V → ℕ) → ℕ) (events : List Event) : Type 0 where

@@ -1,5 +1,5 @@
 //! The floor of a diffusion: opened, used by seats step by step, and closed.
-ghost use Rattle.std.specs.Prelude.{◌≡◌, ◌≢◌, true, ◌<◌, map, IfOk, IfErr};
+ghost use Rattle.std.specs.Prelude.{◌≡◌, ◌≢◌, true, ◌<◌, map, IfOk, IfErr, IfSome, IsTrue};
 ghost use Rattle.shard_part.specs.Readings.{has_ended};
 ghost use Rattle.shard_part.specs.Weights.{All};
 ghost use Rattle.post_floor.specs.Boxes.{box_count};
@@ -11,6 +11,7 @@ ghost use Rattle.post_floor.specs.Plays.{FillOutcome, PublishOutcome, ReadOutcom
 use crate::claims::bring;
 use crate::close::{Closed, all_seated, free, join_all, pass_of};
 use crate::exchange::{publish_batch, read_batch};
+use crate::hints::{Hints, Limit};
 use crate::mailbox::{DONE, EMPTY, mailbox_count, next_slot, word_of};
 use crate::open::{batches, seat_all};
 use crate::seat::Seat;
@@ -31,6 +32,7 @@ use std::marker::{Brand, Model};
 pub struct Floor<A: PathAlgebra> {
     pub(crate) table: Table<Option<Batch<A::Value>>, View<A>, Setup<A>, FloorRule<A>, Global>,
     pub(crate) shards: usize,
+    pub(crate) hints: Hints,
 }
 
 impl<A: PathAlgebra> Model for Floor<A> {
@@ -69,7 +71,37 @@ impl<A: PathAlgebra> Floor<A> {
             return Err(Memory);
         };
         let seats = seat_all(alloc, &table.shared, pass, shards)?;
-        Ok((Floor { table, shards }, seats))
+        let hints = Hints::new(alloc, shards)?;
+        Ok((
+            Floor {
+                table,
+                shards,
+                hints,
+            },
+            seats,
+        ))
+    }
+
+    /// From now on a shard takes no message that is worse than the best value that another one shows, extended by an arc of this weight.
+    pub fn hold_back(&mut self, ahead: u32)
+        ensures { self.new ≡ self.old }
+    {
+        self.hints.hold_back(ahead);
+    }
+
+    /// How far a part may run ahead now, if shards are held back and another one shows a value.
+    pub fn limit(&self, part: &Part<'_, A>) -> Option<Limit<A::Value>>
+        ensures { IfSome result (λ l. IsTrue (A.order l.best l.value)) }
+    {
+        self.hints.limit(part.algebra(), part.shard())
+    }
+
+    /// Shows the best value that waits at a part, if shards are held back.
+    pub fn show(&self, part: &Part<'_, A>) {
+        if self.hints.hold() {
+            self.hints
+                .show(part.algebra(), part.shard(), part.best_waiting());
+        }
     }
 
     /// Whether the next mailbox to a shard is empty. If so, this seat is filling it now.
@@ -197,9 +229,18 @@ impl<A: PathAlgebra> Floor<A> {
         ensures refused { IfErr result (λ r. (AllSeated self.setup.plan.shards seats.items → ⊥) ×
             (r.0 ≡ self) × (r.1 ≡ seats)) }
     {
-        let Floor { table, shards } = self;
+        let Floor {
+            table,
+            shards,
+            hints,
+        } = self;
         if !all_seated(&seats, shards) {
-            return Err((Floor { table, shards }, seats));
+            let floor = Floor {
+                table,
+                shards,
+                hints,
+            };
+            return Err((floor, seats));
         }
         let Some(last) = seats.pop() else {
             unreachable!()

@@ -1,11 +1,15 @@
 //! Theorems over every floor: a caller calls one if its own proof needs what it promises.
-ghost use Rattle.std.specs.Prelude.{◌≡◌, ℕ, true, List};
+ghost use Rattle.std.specs.Prelude.{◌≡◌, ◌+◌, ◌≤◌, ℕ, Bool, true, IsTrue, IsSome, List};
 ghost use mathlib.Core.Option.{Option, some};
 ghost use lib.ListN.{get_elem?};
 ghost use Rattle.atomic_table.specs.Table.{State};
+ghost use Rattle.road_graph.specs.GraphData.{HasArc, arc_of};
 ghost use Rattle.scholten_core.specs.declared.event.Event.{Event};
+ghost use Rattle.scholten_core.specs.Accounts.{count_marked};
 ghost use Rattle.scholten_core.specs.Diffusion.{HasEnded};
 ghost use Rattle.shard_store.specs.Setup.{SetupData, IsPlanned, place_in};
+ghost use Rattle.shard_store.specs.Totals.{total};
+ghost use Rattle.shard_part.specs.OnePart.{HasOneBestFirstPart};
 ghost use Rattle.shard_part.specs.PartState.{PartData};
 ghost use Rattle.shard_part.specs.Readings.{has_ended};
 ghost use Rattle.post_floor.specs.declared.view.View.{View};
@@ -34,4 +38,15 @@ pub fn still_floors_have_ended<A: PathAlgebra>(_algebra: A)
         FloorInvariant A.meaning t s → IsStill t.plan.shards s →
         (id place : ℕ) (v : View A A.Value) (p : PartData A A.Value) → get_elem? s.views id ≡ some v →
         get_elem? v.parts place ≡ some p → p.shard ≡ place_in t 0 → has_ended p ≡ true }
+{}
+
+/// If the rule of the floor holds, and there is one shard, whose part takes its items best first, at
+/// most one message was sent along each arc out of a vertex that has a label, and one.
+pub fn one_shard_sends_once_an_arc<A: PathAlgebra>(_algebra: A)
+    ensures { (t : SetupData A) (s : State (Slot A.Value) (View A A.Value)) → IsPlanned t 0 →
+        HasOneBestFirstPart t → (r : FloorInvariant A.meaning t s) → (marked : ℕ → Bool) →
+        ((a : ℕ) → HasArc t.diffusion.roads a →
+        IsSome ((core_of A.meaning t r.events).label (arc_of t.diffusion.roads a).tail) →
+        IsTrue (marked a)) →
+        total (λ v. v.sent) s.views ≤ 1 + count_marked t.diffusion.roads marked }
 {}

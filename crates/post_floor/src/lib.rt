@@ -5,6 +5,7 @@ mod claims;
 mod close;
 mod exchange;
 mod floor;
+mod hints;
 pub mod laws;
 mod mailbox;
 mod open;
@@ -16,6 +17,7 @@ mod view;
 
 pub use close::Closed;
 pub use floor::Floor;
+pub use hints::Limit;
 pub use seat::Seat;
 pub use table::FloorRule;
 pub use view::{View, WordStep};

@@ -20,6 +20,7 @@ mod VertexSettles
 mod ItemIsTaken
 mod ToldKept
 pub mod TakenCounts
+pub mod OnePartTakesTheBest
 mod TakenShown
 mod Opened
 mod Receiving

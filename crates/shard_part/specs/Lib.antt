@@ -13,3 +13,4 @@ pub mod Exchange
 pub mod Opening
 pub mod Arriving
 pub mod Exact
+pub mod OnePart

@@ -1,11 +1,12 @@
 -- What a running part keeps, and what it does with the items that it takes.
-use Rattle.std.specs.Prelude.{◌≡◌, ◌≢◌, ℕ, ◌+◌, List, length, map, ◌++◌}
+use Rattle.std.specs.Prelude.{◌≡◌, ◌≢◌, ℕ, ◌+◌, Bool, Option, Some, None, List, length, map, ◌++◌}
 use Rattle.scholten_core.specs.declared.item.Item.{Item}
 use Rattle.scholten_core.specs.declared.event.Event.{Event}
 use Rattle.scholten_core.specs.declared.token.Token.TheVariants.{Idle}
 use Rattle.path_algebra.specs.Algebra.{Algebra}
 use Rattle.scholten_core.specs.Diffusion.{state_after, count_enabled}
 use Rattle.scholten_core.specs.Accounts.{sent_total, delivered_total, signalled_total, accepted_total}
+use Rattle.shard_store.specs.Queue.{IsHeldBy}
 use Rattle.shard_store.specs.Tallies.{counted_on}
 use Rattle.shard_part.specs.PartState.{PartData, state_in, event_of}
 use Rattle.shard_store.specs.Setup.{SetupData, network_of, place_in}
@@ -17,6 +18,11 @@ use Rattle.shard_part.specs.Represents.{HoldsShare, Represents}
 abbrev pub OwnIdleIsTold : {S V : Type 0} → PartData S V → Type 0
 OwnIdleIsTold p = (b : ℕ) → place_in p.setup ((network_of p.setup).tail b) ≡ p.shard → (network_of p.setup).tail b ≢ 0 →
     (state_in p).token b ≡ Idle → (state_in p).told b ≡ (state_in p).label ((network_of p.setup).tail b)
+
+-- there is a limit, and all that waits at the part is messages worse than it
+abbrev pub IsHeldBack : {S V : Type 0} → (V → V → Bool) → Option V → PartData S V → Type 0
+IsHeldBack no_worse None p = ⊥
+IsHeldBack no_worse (Some x) p = IsHeldBy no_worse x p.queue
 
 module _ {S V : Type 0} (meaning : S → Algebra V) where
   -- some item was taken from the front

@@ -1,12 +1,15 @@
 //! Facts of every plan and part, and theorems over parts and mailboxes, each the contract of a function that computes
 //! nothing: a caller calls it if its own proof needs what it promises.
-ghost use Rattle.std.specs.Prelude.{◌≡◌, ◌↔◌, ◌⊎◌, ◌<◌, ◌≤◌, suc, ℕ, true, List, [], ◌++◌, ◌∷◌, set, get_or};
+ghost use Rattle.std.specs.Prelude.{◌≡◌, ◌↔◌, ◌⊎◌, ◌+◌, ◌<◌, ◌≤◌, suc, ℕ, Bool, true, IsTrue, IsSome, List, [], ◌++◌, ◌∷◌, map, set, get_or};
+ghost use Rattle.road_graph.specs.GraphData.{HasArc, arc_of};
 ghost use Rattle.scholten_core.specs.declared.item.Item.{Item};
 ghost use Rattle.scholten_core.specs.declared.event.Event.{Event};
 ghost use Rattle.scholten_core.specs.Network.{WellFormed};
-ghost use Rattle.scholten_core.specs.Diffusion.{CoreState, state_after, step, is_enabled, HasEnded};
+ghost use Rattle.scholten_core.specs.Accounts.{count_marked};
+ghost use Rattle.scholten_core.specs.BestFirst.{IsBestFirst};
+ghost use Rattle.scholten_core.specs.Diffusion.{CoreState, opening, state_after, step, is_enabled, HasEnded};
 ghost use Rattle.shard_store.specs.Setup.{SetupData, network_of, place_in, IsPlanned};
-ghost use Rattle.shard_part.specs.PartState.{PartData, event_of};
+ghost use Rattle.shard_part.specs.PartState.{PartData, state_in, event_of};
 ghost use Rattle.shard_part.specs.Handling.{HandledItem, HandledAll};
 ghost use Rattle.shard_part.specs.Represents.{AllEnabled, HoldsShare, Represents};
 ghost use Rattle.shard_part.specs.Weights.{mail_weight};
@@ -16,7 +19,8 @@ ghost use Rattle.shard_part.specs.Part.{HandledMany, IsShownOn};
 ghost use Rattle.shard_part.specs.Moves.{IsTallied};
 ghost use Rattle.shard_part.specs.LocalInvariant.{LocalInvariant};
 ghost use Rattle.shard_store.specs.Plans.{IsPlan};
-ghost use Rattle.shard_part.specs.Opening.{opened_parts};
+ghost use Rattle.shard_part.specs.OnePart.{HasOneBestFirstPart};
+ghost use Rattle.shard_part.specs.Opening.{opened_part, opened_parts};
 
 use crate::closed::ClosedPart;
 use crate::part::Part;
@@ -123,4 +127,21 @@ pub fn an_item_waits_until_the_end<A: PathAlgebra>(_algebra: A)
         (state_after (A.meaning t.diffusion.algebra) (network_of t) events) →
         HasEnded (state_after (A.meaning t.diffusion.algebra) (network_of t) events)
         ⊎ (QueueWaits parts ⊎ (OutboxWaits parts ⊎ MailWaits mail)) }
+{}
+
+/// If a plan has one shard, whose part takes its items best first, the items that it takes from its
+/// opening on are events that take the best waiting message first. So whenever it is looked at, it has
+/// sent at most one message along each arc out of a vertex that has a label, and one.
+pub fn one_part_takes_the_best<A: PathAlgebra>(_algebra: A)
+    ensures best { (t : SetupData A) (items : List (Item A.Value)) (q : PartData A A.Value) →
+        IsPlanned t 0 → HasOneBestFirstPart t →
+        HandledAll A.meaning (opened_part (A.meaning t.diffusion.algebra) t 0) items q →
+        IsBestFirst (A.meaning t.diffusion.algebra) (network_of t)
+        (opening (A.meaning t.diffusion.algebra) (network_of t)) (map event_of items) }
+    ensures sent { (t : SetupData A) (items : List (Item A.Value)) (q : PartData A A.Value) →
+        IsPlanned t 0 → HasOneBestFirstPart t →
+        HandledAll A.meaning (opened_part (A.meaning t.diffusion.algebra) t 0) items q →
+        (marked : ℕ → Bool) → ((a : ℕ) → HasArc t.diffusion.roads a →
+        IsSome ((state_in q).label (arc_of t.diffusion.roads a).tail) → IsTrue (marked a)) →
+        q.sent ≤ 1 + count_marked t.diffusion.roads marked }
 {}

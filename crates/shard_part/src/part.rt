@@ -10,7 +10,7 @@ ghost use Rattle.shard_store.specs.Capacities.{queue_bound, outbox_bound};
 ghost use Rattle.shard_part.specs.Represents.{HoldsShare};
 ghost use Rattle.shard_part.specs.Opening.{opened_part};
 ghost use Rattle.shard_part.specs.Exchange.{Fits};
-ghost use Rattle.shard_part.specs.Part.{HandledNext, HandledMany, IsRunOn};
+ghost use Rattle.shard_part.specs.Part.{HandledNext, HandledMany, IsHeldBack, IsRunOn};
 
 mod readings;
 
@@ -75,11 +75,7 @@ impl<'g, A: PathAlgebra> Part<'g, A> {
         self.state.handle_next()
     }
 
-    /// Takes items off the queue in its order and handles them, one after the other, until the budget is used up or the queue is empty, and says how many.
-    ///
-    /// What an item makes goes to the back of the queue if it belongs to this shard, else to the back of the outbox to its shard.
-    /// Whatever the other parts hold: if this part held its share of a state that some events lead to, the items are that many further events, each enabled in its turn,
-    /// and the part holds its share of the state that they lead to. Its counters have grown by what these events sent, delivered, signalled and accepted, up to 2^64 - 1.
+    /// As `handle_within` without a limit: it goes on until the budget is used up or the queue is empty.
     pub fn handle(&mut self, budget: u32) -> u32
         ensures budget { result ≤ budget }
         ensures all { (result ≡ budget) ⊎ (self.new.queue ≡ []) }
@@ -90,13 +86,51 @@ impl<'g, A: PathAlgebra> Part<'g, A> {
             (state_after (A.meaning self.old.setup.diffusion.algebra) (network_of self.old.setup)
             events) self.old → IsRunOn A.meaning events self.old result self.new }
     {
+        self.handle_within(budget, None)
+    }
+
+    /// Takes items off the queue in its order and handles them, one after the other, until the budget is used up, the queue is empty or, best first, all that waits
+    /// is messages worse than the limit, and says how many.
+    ///
+    /// What an item makes goes to the back of the queue if it belongs to this shard, else to the back of the outbox to its shard.
+    /// Whatever the other parts hold: if this part held its share of a state that some events lead to, the items are that many further events, each enabled in its turn,
+    /// and the part holds its share of the state that they lead to. Its counters have grown by what these events sent, delivered, signalled and accepted, up to 2^64 - 1.
+    pub fn handle_within(&mut self, budget: u32, limit: Option<A::Value>) -> u32
+        ensures budget { result ≤ budget }
+        ensures all { (result ≡ budget) ⊎ ((self.new.queue ≡ []) ⊎
+            IsHeldBack A.order limit self.new) }
+        ensures taken { HandledMany A.meaning self.old result self.new }
+        ensures setup { self.new.setup ≡ self.old.setup }
+        ensures shard { self.new.shard ≡ self.old.shard }
+        ensures events { (events : List Event) → HoldsShare A.meaning
+            (state_after (A.meaning self.old.setup.diffusion.algebra) (network_of self.old.setup)
+            events) self.old → IsRunOn A.meaning events self.old result self.new }
+    {
         laws_hold(self.state.algebra());
         for taken in 0..budget {
+            if self.is_held(limit) {
+                return taken;
+            }
             if !self.take_next() {
                 return taken;
             }
         }
         budget
+    }
+
+    /// Whether all that waits is messages worse than the limit, if there is one.
+    fn is_held(&self, limit: Option<A::Value>) -> bool
+        ensures { IsTrue result → IsHeldBack A.order limit self.now }
+    {
+        match limit {
+            Some(limit) => self.state.queue.is_held(limit),
+            None => false,
+        }
+    }
+
+    /// The best value that waits, best first: a hint to others.
+    pub fn best_waiting(&self) -> Option<A::Value> {
+        self.state.queue.best()
     }
 }
 

@@ -1,5 +1,5 @@
 -- What a contract sees of a queue, and what holds of its three lists.
-use Rattle.std.specs.Prelude.{◌≡◌, ℕ, ◌+◌, ◌≤◌, ◌++◌, ◌∷◌, Bool, IsTrue, List, [], length, All, Vec, vec_capacity}
+use Rattle.std.specs.Prelude.{◌≡◌, ℕ, ◌+◌, ◌≤◌, ◌++◌, ◌∷◌, Bool, false, IsTrue, List, [], length, All, Vec, vec_capacity}
 use Rattle.std.specs.BinaryHeap.{IsHeap}
 use Rattle.std.specs.declared.cmp.Ordering.{Ordering}
 use Rattle.scholten_core.specs.declared.item.Item.{Item}
@@ -38,6 +38,15 @@ module _ {V : Type 0} (no_worse : V → V → Bool) where
   abbrev pub IsNoWorseOn : ℕ → V → Item V → Type 0
   IsNoWorseOn a x (MessageOn b y) = IsTrue (no_worse x y) × (IsTrue (no_worse y x) → a ≤ b)
   IsNoWorseOn a x (SignalOn b) = ⊥
+
+  -- the item is a message with a value worse than the limit x
+  abbrev pub IsWorseMessage : V → Item V → Type 0
+  IsWorseMessage x (MessageOn b y) = no_worse y x ≡ false
+  IsWorseMessage x (SignalOn b) = ⊥
+
+  -- so is all that waits: nothing may be taken before the limit moves on
+  abbrev pub IsHeldBy : V → List (Item V) → Type 0
+  IsHeldBy x waiting = All (IsWorseMessage x) waiting
 
   -- the item is the best of the messages that wait, and nothing else waits
   abbrev pub IsBestMessage : Item V → List (Item V) → Type 0

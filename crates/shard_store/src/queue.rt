@@ -7,6 +7,8 @@ ghost use Rattle.shard_store.specs.Totals.{counted};
 ghost use Rattle.shard_store.specs.Queue.{line, room, ranked_item, IsNewest, IsBestMessage};
 ghost use Rattle.shard_store.specs.declared.queue_order.QueueOrder.TheVariants.{Arrival, BestFirst};
 
+mod holding;
+
 use crate::batch::{Batch, carried_in};
 use crate::queue_order::QueueOrder;
 use crate::ranked::RankedMessage;

@@ -58,4 +58,5 @@ module _ {S V : Type 0} (meaning : S → Algebra V) (L : AllLawful meaning) wher
         quiet = ended_is_quiet A t.diffusion.roads t.diffusion.source (L t.diffusion.algebra) P.roads P.source.0 C.events over;
         tally = h.counted ∙ ap tally_of same;
         equal = totals_are_equal A t.diffusion.roads t.diffusion.source (L t.diffusion.algebra) P.roads P.source.0 C.events over;
+        best = C.best (record { roads = P.roads; source = P.source; plan = P.plan; covers = P.covers; shard = few });
       }

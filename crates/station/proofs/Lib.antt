@@ -1,4 +1,5 @@
 mod Batches
+mod Behind
 mod Counted
 mod Trying
 mod Through
@@ -11,4 +12,4 @@ pub mod Carrying
 mod Places
 mod Tallying
 mod Closed
-mod Reached
+pub mod ExactCounts

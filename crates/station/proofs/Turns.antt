@@ -1,5 +1,6 @@
 -- What a whole turn does, of what its steps do.
 use Rattle.std.proofs.Common.{◌≡◌, ◌≢◌, ℕ, ◌+◌, ◌-◌, ◌*◌, ◌<◌, ◌≤◌, Bool, true, false, Option, Some, None, IfSome, List, [], ◌∷◌, length, get_or, min, refl, sym, ap, ◌∙◌, subst, ◌⊎◌, inl, inr, arith, eq-eqb, length-append}
+use Rattle.std.specs.Prelude.{IsTrue}
 use Rattle.std.proofs.lemmas.List.{append-nil}
 use Rattle.path_algebra.specs.Algebra.{Algebra}
 use Rattle.path_algebra.proofs.Least.{same_no_worse}
@@ -13,6 +14,7 @@ use Rattle.shard_part.specs.Weights.{in_flight, part_weight}
 use Rattle.shard_part.specs.Represents.{HoldsShare}
 use Rattle.shard_part.specs.Part.{HandledMany, IsRunOn}
 use Rattle.shard_part.specs.Readings.{IsOwn}
+use Rattle.shard_store.specs.Queue.{IsHeldBy}
 use Rattle.shard_store.specs.Tallies.{top}
 use Rattle.shard_part.proofs.Showing.{AllLawful}
 use Rattle.post_floor.specs.declared.view.View.{View}
@@ -25,7 +27,7 @@ use Rattle.station.specs.declared.turn.Report.{Report}
 use Rattle.station.specs.Steps.{AreReady, AllCameIn, AllTriedFrom, AllTriedTo, Looked}
 use Rattle.post_floor.specs.declared.view.WordStep.{WordStep}
 use Rattle.station.specs.Tries.{at, AreTries, used}
-use Rattle.station.specs.Turn.{Turned, Tried}
+use Rattle.station.specs.Turn.{IsBehindOthers, Turned, Tried}
 use Rattle.station.proofs.Trying.{few_tries}
 use Rattle.station.proofs.Labels.{IsLike, received_like, sent_like, sent_queue, labels_stay}
 
@@ -37,10 +39,10 @@ all_steps a b c d k x y z = omega (arith, x, y, z)
 
 module _ {S V : Type 0} where
   -- all steps of a turn
-  all_tried : (f : FloorData S) (handled taken published : ℕ) (c a b d : SeatData S V) (p q : PartData S V) (o : Bool)
+  all_tried : (f : FloorData S) (handled taken published : ℕ) (held : Bool) (c a b d : SeatData S V) (p q : PartData S V) (o : Bool)
       → AllTriedFrom f f.setup.plan.shards taken c a → (to : AllTriedTo f f.setup.plan.shards published p q a b) → Looked f o b d
-      → Tried f c p (record { handled = handled; taken = taken; published = published; ended = o }) to.outboxes d
-  all_tried f handled taken published c a b d p q o from to look =
+      → Tried f c p (record { handled = handled; taken = taken; published = published; held = held; ended = o }) to.outboxes d
+  all_tried f handled taken published held c a b d p q o from to look =
       let n = f.setup.plan.shards in
       record {
         full = from.full;
@@ -67,6 +69,11 @@ module _ {S V : Type 0} where
       all_steps (length c.knows.steps) (length t.read) (length t.filled) (length d.knows.steps) n reads fills
       (ap (λ (xs : List WordStep). length xs) t.looked ∙ length-append t.filled (at (box_count n) t.number ∷ []))
 
+-- the order of the algebra is that of its meaning
+pub behind_in : {S V : Type 0} (handled budget : ℕ) (held : Bool) (p : PartData S V) (order no_worse : V → V → Bool) → order ≡ no_worse
+    → (handled ≡ budget) ⊎ ((p.queue ≡ []) ⊎ (IsTrue held × IsBehindOthers order p)) → (handled ≡ budget) ⊎ ((p.queue ≡ []) ⊎ (IsTrue held × IsBehindOthers no_worse p))
+behind_in handled budget held p order no_worse e h = subst (λ w. (handled ≡ budget) ⊎ ((p.queue ≡ []) ⊎ (IsTrue held × IsBehindOthers w p))) e h
+
 module _ {S V : Type 0} (meaning : S → Algebra V) where
   -- no item was handled
   none_on : (p : PartData S V) (v : View S V) → IsViewOf v p → (before : List Event) → HoldsShare meaning (core_of meaning p.setup before) p → IsRunOn meaning before p 0 p
@@ -85,7 +92,7 @@ module _ {S V : Type 0} (meaning : S → Algebra V) where
 
   -- a turn after the end
   pub rested : AllLawful meaning → (f : FloorData S) (budget : ℕ) (s : StationData S V) → IsStation meaning s → ReportedEnd s → BelongsTo f s
-      → Turned meaning f budget s (record { handled = 0; taken = 0; published = 0; ended = true }) s
+      → Turned meaning f budget s (record { handled = 0; taken = 0; published = 0; held = false; ended = true }) s
   rested L f budget s i e b = record {
     own = b;
     shard = refl;
@@ -103,7 +110,7 @@ module _ {S V : Type 0} (meaning : S → Algebra V) where
       published = refl;
       sent = refl;
       within = omega arith;
-      all = inr (i.over e).part.queue;
+      all = inr (inl (i.over e).part.queue);
     };
     labels = λ v own x q. (x, q, same_no_worse (meaning s.part.setup.diffusion.algebra).no_worse (L s.part.setup.diffusion.algebra).ordered x);
     tried = λ q. absurd (let z = sym e ∙ q in cc);
@@ -113,16 +120,16 @@ module _ {S V : Type 0} (meaning : S → Algebra V) where
   }
 
   -- a turn before the end
-  pub turned : AllLawful meaning → (f : FloorData S) (budget handled taken published : ℕ) (s : StationData S V) (a b d : SeatData S V) (filled emptied q : PartData S V) (o : Bool) → s.ended ≡ false
+  pub turned : AllLawful meaning → (f : FloorData S) (budget handled taken published : ℕ) (held : Bool) (s : StationData S V) (a b d : SeatData S V) (filled emptied q : PartData S V) (o : Bool) → s.ended ≡ false
       → AllCameIn meaning taken s.part filled → emptied.setup ≡ filled.setup → emptied.shard ≡ filled.shard → HandledMany meaning filled handled emptied
       → ((before : List Event) → HoldsShare meaning (core_of meaning filled.setup before) filled → IsRunOn meaning before filled handled emptied)
-      → handled ≤ budget → ((handled ≡ budget) ⊎ (emptied.queue ≡ [])) → AreReady f d q → s.seat.shard < f.setup.plan.shards
+      → handled ≤ budget → ((handled ≡ budget) ⊎ ((emptied.queue ≡ []) ⊎ (IsTrue held × IsBehindOthers (meaning s.part.setup.diffusion.algebra).no_worse emptied))) → AreReady f d q → s.seat.shard < f.setup.plan.shards
       → AllTriedFrom f f.setup.plan.shards taken s.seat a → AllTriedTo f f.setup.plan.shards published emptied q a b → Looked f o b d
-      → Turned meaning f budget s (record { handled = handled; taken = taken; published = published; ended = o }) (record { part = q; seat = d; ended = o })
-  turned L f budget handled taken published s a b d filled emptied q o going (bs, bl, be, K) es ss T E within all ready own from to look =
+      → Turned meaning f budget s (record { handled = handled; taken = taken; published = published; held = held; ended = o }) (record { part = q; seat = d; ended = o })
+  turned L f budget handled taken published held s a b d filled emptied q o going (bs, bl, be, K) es ss T E within all ready own from to look =
       let before : IsLike s.part filled = subst (λ p. IsLike s.part p) (sym be) (received_like bs s.part) in
       let after : IsLike emptied q = sent_like to.outboxes emptied q to.sent in
-      let tried = all_tried f handled taken published s.seat a b d emptied q o from to look in
+      let tried = all_tried f handled taken published held s.seat a b d emptied q o from to look in
       record {
         own = record { floor = ready.floor; setup = ready.setup };
         shard = after.shard ∙ ss ∙ before.shard;
@@ -140,7 +147,13 @@ module _ {S V : Type 0} (meaning : S → Algebra V) where
           published = to.published;
           sent = to.sent;
           within = within;
-          all = elim all [ inl h ↦ inl h | inr h ↦ inr (sent_queue to.outboxes emptied q to.sent ∙ h) ];
+          all = elim all [
+            | inl h ↦ inl h
+            | inr h ↦ inr (elim h [
+              | inl z ↦ inl (sent_queue to.outboxes emptied q to.sent ∙ z)
+              | inr w ↦ inr (w.0, (w.1.0, subst (IsHeldBy (meaning s.part.setup.diffusion.algebra).no_worse w.1.0) (sym (sent_queue to.outboxes emptied q to.sent)) w.1.1))
+            ])
+          ];
         };
         labels = λ v own. labels_stay meaning L s.part filled emptied q handled v before T after own.1;
         tried = λ _. tried;

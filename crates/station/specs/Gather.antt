@@ -10,6 +10,7 @@ use Rattle.shard_store.specs.declared.tally.Tally.{Tally}
 use Rattle.shard_store.specs.Setup.{SetupData, network_of}
 use Rattle.shard_store.specs.Totals.{total}
 use Rattle.shard_store.specs.Tallies.{tally_of}
+use Rattle.shard_part.specs.OnePart.{AreBestFirstIfOne}
 use Rattle.post_floor.specs.Data.{SeatData}
 use Rattle.post_floor.specs.Floor.{core_of}
 use Rattle.station.specs.declared.gathering.Gathered.{Gathered}
@@ -53,7 +54,7 @@ module _ {S V : Type 0} where
 
 -- The diffusion is about a graph, from one of its vertices. Labels are best. Some events, counted in full, lead to a state that has ended
 -- and is quiet; each counter of the tally is the lesser of its total and its top, full exactly if a total reaches that, and all totals
--- are the same.
+-- are the same. If there is one shard, whose part takes its items best first, the events take the best waiting message first.
 pub record IsGathered {S V : Type 0} (meaning : S → Algebra V) (t : SetupData S) (g : Gathered V) : Type 0 where
   pub roads : IsGraph t.diffusion.roads
   pub source : HasVertex t.diffusion.roads t.diffusion.source
@@ -63,6 +64,7 @@ pub record IsGathered {S V : Type 0} (meaning : S → Algebra V) (t : SetupData 
   pub quiet : IsQuiet (core_of meaning t events)
   pub tally : g.tally ≡ tally_of (totals_of (meaning t.diffusion.algebra) (network_of t) events)
   pub equal : AreEqualTotals (totals_of (meaning t.diffusion.algebra) (network_of t) events)
+  pub best : AreBestFirstIfOne meaning t events
 
 -- what seats have counted together
 abbrev pub counts_of : {S V : Type 0} → List (SeatData S V) → Totals

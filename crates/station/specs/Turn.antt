@@ -1,8 +1,9 @@
 -- What one turn does to a station.
-use Rattle.std.specs.Prelude.{◌≡◌, ◌≢◌, ◌⊎◌, ℕ, ◌+◌, ◌-◌, ◌*◌, ◌≤◌, true, false, eqb, Option, Some, IsTrue, List, [], ◌∷◌, ◌++◌, length, get_or}
+use Rattle.std.specs.Prelude.{◌≡◌, ◌≢◌, ◌⊎◌, ℕ, ◌+◌, ◌-◌, ◌*◌, ◌≤◌, Bool, true, false, eqb, Option, Some, IsTrue, List, [], ◌∷◌, ◌++◌, length, get_or}
 use Rattle.path_algebra.specs.Algebra.{Algebra}
 use Rattle.scholten_core.specs.declared.event.Event.{Event}
 use Rattle.scholten_core.specs.declared.item.Item.{Item}
+use Rattle.shard_store.specs.Queue.{IsHeldBy}
 use Rattle.shard_part.specs.Arriving.{joined}
 use Rattle.shard_part.specs.PartState.{PartData, state_in}
 use Rattle.shard_part.specs.Represents.{HoldsShare}
@@ -22,6 +23,10 @@ abbrev pub StaysOrImproves : {V : Type 0} → Algebra V → Option V → Option 
 StaysOrImproves {V} A before after = (x : V) → before ≡ Some x → (y : V) × (after ≡ Some y) × IsTrue (A.no_worse y x)
 
 module _ {S V : Type 0} where
+  -- some value, which another shard showed, is better than all that waits at the part: no signal waits there, and no message with a value that is no worse
+  abbrev pub IsBehindOthers : (V → V → Bool) → PartData S V → Type 0
+  IsBehindOthers no_worse p = (x : V) × IsHeldBy no_worse x p.queue
+
   -- batches were received, one after the other, each at the back of the queue
   abbrev pub received : PartData S V → List (List (Item V)) → PartData S V
   received p [] = p
@@ -65,7 +70,7 @@ module _ {S V : Type 0} (meaning : S → Algebra V) where
     pub published : length outboxes ≡ r.published
     pub sent : SentOff outboxes emptied q
     pub within : r.handled ≤ budget
-    pub all : (r.handled ≡ budget) ⊎ (q.queue ≡ [])
+    pub all : (r.handled ≡ budget) ⊎ ((q.queue ≡ []) ⊎ (IsTrue r.held × IsBehindOthers (meaning p.setup.diffusion.algebra).no_worse q))
 
   -- What one turn on the floor makes of a station, and reports. After the end it does nothing.
   pub record Turned (f : FloorData S) (budget : ℕ) (before : StationData S V) (r : Report) (after : StationData S V) : Type 0 where
@@ -76,4 +81,4 @@ module _ {S V : Type 0} (meaning : S → Algebra V) where
     pub tried : before.ended ≡ false → Tried f before.seat worked.emptied r worked.outboxes after.seat
     pub steps : length after.seat.knows.steps ≤ length before.seat.knows.steps + 4 * (f.setup.plan.shards - 1) + 1
     pub report : r.ended ≡ after.ended
-    pub stays : ReportedEnd before → (after ≡ before) × (r ≡ record { handled = 0; taken = 0; published = 0; ended = true })
+    pub stays : ReportedEnd before → (after ≡ before) × (r ≡ record { handled = 0; taken = 0; published = 0; held = false; ended = true })

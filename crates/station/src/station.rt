@@ -8,7 +8,7 @@ ghost use Rattle.station.specs.Turn.{Turned};
 mod readings;
 
 use crate::finished::Finished;
-use crate::turn::{Report, fill_all, look_for_end, read_all};
+use crate::turn::{Report, fill_all, handle_all, look_for_end, read_all};
 use path_algebra::PathAlgebra;
 use post_floor::{Floor, Seat};
 use shard_part::{Part, Plan};
@@ -51,7 +51,7 @@ impl<'g, A: PathAlgebra> Station<'g, A> {
     }
 
     /// Takes what the other shards have sent, handles items, at most `budget`, and publishes what is for the others; last it looks whether the diffusion has ended.
-    /// After a turn that reported the end, a turn does nothing.
+    /// If the floor holds shards back, messages that are worse than it allows go on waiting. After a turn that reported the end, a turn does nothing.
     pub fn turn(&mut self, floor: &Floor<A>, budget: u32) -> Report
         requires { BelongsTo floor.now self.old }
         ensures turned { Turned A.meaning floor.now budget self.old result self.new }
@@ -62,17 +62,19 @@ impl<'g, A: PathAlgebra> Station<'g, A> {
                 handled: 0,
                 taken: 0,
                 published: 0,
+                held: false,
                 ended: true,
             };
         }
         let taken = read_all(floor, self.plan, &mut self.seat, &mut self.part);
-        let handled = self.part.handle(budget);
+        let (handled, held) = handle_all(floor, &mut self.part, budget);
         let published = fill_all(floor, self.plan, &mut self.seat, &mut self.part);
         self.ended = look_for_end(floor, &mut self.seat, &self.part);
         Report {
             handled,
             taken,
             published,
+            held,
             ended: self.ended,
         }
     }

@@ -1,8 +1,14 @@
 //! The steps of one turn.
-ghost use Rattle.std.specs.Prelude.{◌≡◌, true, ◌<◌, IsTrue};
+ghost use Rattle.std.specs.Prelude.{◌≡◌, ◌⊎◌, ◌<◌, ◌≤◌, [], List, length, true, IsTrue};
+ghost use Rattle.scholten_core.specs.declared.event.Event.{Event};
+ghost use Rattle.scholten_core.specs.Diffusion.{state_after};
+ghost use Rattle.shard_store.specs.Setup.{network_of};
+ghost use Rattle.shard_part.specs.Part.{HandledMany, IsRunOn};
+ghost use Rattle.shard_part.specs.Represents.{HoldsShare};
 ghost use Rattle.post_floor.specs.Plays.{HoldsEndedShare, HoldsReachedShare};
 ghost use Rattle.station.specs.Station.{IsOverPart};
 ghost use Rattle.station.specs.Steps.{AreReady, AreBehind, CameIn, AllCameIn, TriedFrom, AllTriedFrom, WentOff, TriedTo, AllTriedTo, Looked};
+ghost use Rattle.station.specs.Turn.{IsBehindOthers};
 
 use path_algebra::PathAlgebra;
 use post_floor::{Floor, Seat};
@@ -18,6 +24,8 @@ pub struct Report {
     pub taken: u32,
     /// How many outboxes were published.
     pub published: u32,
+    /// Items wait, and were held back.
+    pub held: bool,
     /// The diffusion has ended.
     pub ended: bool,
 }
@@ -66,6 +74,40 @@ pub(crate) fn read_all<A: PathAlgebra>(
         taken += u32::from(read_from(floor, seat, part, Shard(from)));
     }
     taken
+}
+
+/// Handles items, at most `budget`, as far as the floor lets the part run ahead. Says how many, and whether others are held back.
+pub(crate) fn handle_all<A: PathAlgebra>(
+    floor: &Floor<A>,
+    part: &mut Part<'_, A>,
+    budget: u32,
+) -> (u32, bool)
+    ensures taken { HandledMany A.meaning part.old result.0 part.new }
+    ensures setup { part.new.setup ≡ part.old.setup }
+    ensures shard { part.new.shard ≡ part.old.shard }
+    ensures events { (events : List Event) → HoldsShare A.meaning
+        (state_after (A.meaning part.old.setup.diffusion.algebra) (network_of part.old.setup)
+        events) part.old → IsRunOn A.meaning events part.old result.0 part.new }
+    ensures budget { result.0 ≤ budget }
+    ensures all { (result.0 ≡ budget) ⊎ ((part.new.queue ≡ []) ⊎
+        (IsTrue result.1 × IsBehindOthers A.order part.new)) }
+{
+    let limit = floor.limit(part);
+    let value = match limit {
+        Some(limit) => Some(limit.value),
+        None => None,
+    };
+    let handled = part.handle_within(budget, value);
+    floor.show(part);
+    let held = is_stopped(part, handled, budget);
+    (handled, held)
+}
+
+/// Whether items wait, though not as many were handled as might have been.
+fn is_stopped<A: PathAlgebra>(part: &Part<'_, A>, handled: u32, budget: u32) -> bool
+    ensures { (handled < budget) → (0 < length part.now.queue) → IsTrue result }
+{
+    handled < budget && part.queued() > 0
 }
 
 /// Publishes what waits for a shard, if it is another one, something waits, and the next mailbox is free.

@@ -30,6 +30,13 @@ impl<'g, A: PathAlgebra> Part<'g, A> {
         )
     }
 
+    /// The algebra of its diffusion.
+    pub fn algebra(&self) -> A
+        ensures { result ≡ self.now.setup.diffusion.algebra }
+    {
+        self.state.algebra
+    }
+
     /// Which shard it is.
     pub fn shard(&self) -> Shard
         ensures shard { result ≡ self.now.shard }

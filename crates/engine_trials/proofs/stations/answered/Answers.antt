@@ -1,4 +1,7 @@
+use Rattle.std.proofs.Common.{subst}
+use Rattle.shard_store.specs.Setup.{SetupData}
+use Rattle.station.specs.Gather.{IsGathered}
 use Rattle.engine_trials.proofs.stations.answered.Goals as goal
 
 pub returns : goal.returns
-returns g c = (c.opened-floor.result.0.setup, c.gathered.ensures, c.opened-floor.ensures.roads, c.opened-floor.ensures.source)
+returns g c = subst (λ (t : SetupData _). IsGathered g.A.PathAlgebra.meaning t c.gathered.result) c.opened-floor.ensures.setup c.gathered.ensures

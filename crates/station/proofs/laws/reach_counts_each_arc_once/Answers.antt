@@ -1,4 +1,4 @@
-use Rattle.station.proofs.Reached.{once_an_arc}
+use Rattle.station.proofs.ExactCounts.{once_an_arc}
 use Rattle.station.proofs.laws.reach_counts_each_arc_once.Goals as goal
 
 pub returns : goal.returns

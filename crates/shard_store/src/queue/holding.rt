@@ -1,0 +1,81 @@
+//! Whether what waits in a queue is held back.
+ghost use Rattle.std.specs.Prelude.{◌≡◌, IsTrue, map};
+ghost use Rattle.std.specs.BinaryHeap.{heap_items, IsHeap};
+ghost use Rattle.shard_store.specs.Queue.{ranked_item, IsWorseMessage, IsHeldBy};
+ghost use Rattle.shard_store.specs.Rank.{rank_cmp};
+
+use crate::queue::Queue;
+use crate::queue_order::QueueOrder;
+use crate::ranked::RankedMessage;
+use path_algebra::PathAlgebra;
+use scholten_core::Item;
+use std::collections::BinaryHeap;
+
+impl<A: PathAlgebra> Queue<A> {
+    /// Whether all that waits is held back by a limit: messages with worse values, and nothing else.
+    pub fn is_held(&self, limit: A::Value) -> bool
+        ensures { IsTrue result → IsHeldBy A.order limit self.now.items }
+    {
+        match self.order {
+            QueueOrder::Arrival => false,
+            QueueOrder::BestFirst => {
+                is_top_worse(&self.ranked, limit) && are_worse::<A>(&self.back, limit)
+            }
+        }
+    }
+
+    /// The best value that waits; first come, first served none.
+    pub fn best(&self) -> Option<A::Value> {
+        let mut best = match self.ranked.peek() {
+            Some(top) => Some(top.value),
+            None => None,
+        };
+        for item in &self.back {
+            if let Item::Message { value, .. } = *item {
+                best = better::<A>(best, value);
+            }
+        }
+        best
+    }
+}
+
+/// The better of two values, if there is a first.
+fn better<A: PathAlgebra>(best: Option<A::Value>, value: A::Value) -> Option<A::Value> {
+    match best {
+        Some(best) if A::no_worse(best, value) => Some(best),
+        _ => Some(value),
+    }
+}
+
+/// Whether all ranked messages are worse than a limit.
+fn is_top_worse<A: PathAlgebra>(ranked: &BinaryHeap<RankedMessage<A>>, limit: A::Value) -> bool
+    requires { IsHeap (rank_cmp (λ m. m.value) (λ m. m.arc) A.order) (heap_items ranked.now) }
+    ensures { IsTrue result → IsHeldBy A.order limit (map ranked_item (heap_items ranked.now)) }
+{
+    match ranked.peek() {
+        Some(top) => !A::no_worse(top.value, limit),
+        None => true,
+    }
+}
+
+/// Whether an item is a message worse than a limit.
+fn is_worse<A: PathAlgebra>(item: Item<A::Value>, limit: A::Value) -> bool
+    ensures { IsTrue result → IsWorseMessage A.order limit item }
+{
+    match item {
+        Item::Message { value, .. } => !A::no_worse(value, limit),
+        Item::Signal { .. } => false,
+    }
+}
+
+/// Whether all items of a list are messages worse than a limit.
+fn are_worse<A: PathAlgebra>(items: &[Item<A::Value>], limit: A::Value) -> bool
+    ensures { IsTrue result → IsHeldBy A.order limit items.now }
+{
+    for i in 0..items.len() {
+        if !is_worse::<A>(items[i], limit) {
+            return false;
+        }
+    }
+    true
+}

@@ -11,9 +11,15 @@ use Rattle.path_factors.specs.Factors.{FactorData, IsFactor, AreLinks, row_of}
 use Rattle.path_factors.specs.Substituting.{at, best_along}
 use Rattle.path_factors.specs.Edges.{AreAligned}
 use Rattle.path_factors.specs.Tree.{IsAbove, IsTreeParent}
-use Rattle.path_factors.specs.Asking.{is_on, IsBackRun, Agree, FoundAt, IsKnownUpward, AreUnknownUp, AreAllUnknownUp, IsExtended, AreFound}
+use Rattle.path_factors.specs.Asking.{is_on, IsBackRun, Agree, IsKnownUpward, AreUnknownUp, AreAllUnknownUp, IsExtended, AreFound}
 use Rattle.path_factors.proofs.Backward.{best_along_same}
 use Rattle.path_factors.proofs.Trees.{above_inside, parent_inside, above_of_faller, above_nested}
+
+-- place i is found, and the others are as they were
+pub record FoundAt {V : Type 0} (n : ℕ) (before all : List (Option V)) (i : ℕ) (labels : List (Option V)) (known : List Bool) : Type 0 where
+  pub labels_count : length labels ≡ n
+  pub known_count : length known ≡ n
+  pub agree : Agree n before all labels known
 
 module _ {V W : Type 0} (A : Algebra V) (C : Composition V W) (g : GraphData) (F : FactorData W) (links : AreLinks A C g F)
     (before all : List (Option V)) (run : IsBackRun A C g.vertices F before all) (labels : List (Option V)) (known : List Bool)

@@ -29,24 +29,18 @@ pub record Agree {V : Type 0} (n : ℕ) (before all labels : List (Option V)) (k
   pub done : (i : ℕ) → i < n → is_on known i ≡ true → at labels i ≡ at all i
   pub left : (i : ℕ) → i < n → is_on known i ≡ false → at labels i ≡ at before i
 
--- place i is found, and the others are as they were
-pub record FoundAt {V : Type 0} (n : ℕ) (before all : List (Option V)) (i : ℕ) (labels : List (Option V)) (known : List Bool) : Type 0 where
-  pub labels_count : length labels ≡ n
-  pub known_count : length known ≡ n
-  pub agree : Agree n before all labels known
-
--- with a place, all places above it are known
+-- if a place is known, so is each place above it
 abbrev pub IsKnownUpward : {W : Type 0} → List (List (Link W)) → List Bool → Type 0
 IsKnownUpward rows known = (x y : ℕ) → is_on known x ≡ true → IsAbove rows x y → is_on known y ≡ true
 
--- the unknown ancestors of place t, one after the other, up to but not with place v
+-- the places from t up to v, without v: each is the parent of the one before, and none is known
 pub record AreUnknownUp {W : Type 0} (rows : List (List (Link W))) (n : ℕ) (known : List Bool) (t : ℕ) (list : List ℕ) (v : ℕ) : Type 0 where
   pub first : slice_index_or list 0 v ≡ t
   pub inside : (q : ℕ) → q < length list → slice_index_or list q v < n
   pub fresh : (q : ℕ) → q < length list → is_on known (slice_index_or list q v) ≡ false
   pub parents : (q : ℕ) → q < length list → IsTreeParent rows n (slice_index_or list q v) (slice_index_or list (q + 1) v)
 
--- all unknown ancestors of place t
+-- the same up to the first that is known, or through the last
 abbrev pub AreAllUnknownUp : {W : Type 0} → List (List (Link W)) → ℕ → List Bool → ℕ → List ℕ → Type 0
 AreAllUnknownUp rows n known t list =
     (v : ℕ) × AreUnknownUp rows n known t list v × (v ≤ n) × ((v ≡ n) ⊎ (is_on known v ≡ true))
@@ -72,7 +66,7 @@ pub record AreFound {V W : Type 0} (rows : List (List (Link W))) (n : ℕ) (befo
 abbrev pub AreOnlyUp : {V W : Type 0} → List (List (Link W)) → ℕ → ℕ → List (Option V) → Type 0
 AreOnlyUp rows n s labels = (j : ℕ) → (at labels j ≡ None) ⊎ IsAncestor rows n s j
 
--- place j is that of a source, or above it in the tree
+-- place j is that of a source, or an ancestor of it
 abbrev pub IsAboveSource : {W : Type 0} → ℕ → FactorData W → List ℕ → ℕ → Type 0
 IsAboveSource n F sources j = (s : ℕ) × Contains sources s × IsAncestor F.leaving n (place_of F s) j
 

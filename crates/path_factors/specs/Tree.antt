@@ -21,7 +21,7 @@ abbrev pub IsUp : {W : Type 0} → List (List (Link W)) → ℕ → ℕ → ℕ 
 IsUp rows n zero v y = v ≡ y
 IsUp rows n (suc k) v y = (v < n) × ((p : ℕ) × IsTreeParent rows n v p × IsUp rows n k p y)
 
--- y is v or above it in the tree
+-- place y is an ancestor of place v, or v itself
 abbrev pub IsAncestor : {W : Type 0} → List (List (Link W)) → ℕ → ℕ → ℕ → Type 0
 IsAncestor rows n v y = (k : ℕ) × IsUp rows n k v y
 

@@ -1,5 +1,5 @@
 //! Forward substitution from one place: over its ancestors alone.
-ghost use Rattle.std.specs.Prelude.{◌≡◌, ℕ, ◌<◌, ◌⊎◌, List, [], ◌∷◌, All, Contains, Option, None, length, true, false};
+ghost use Rattle.std.specs.Prelude.{◌≡◌, ℕ, ◌<◌, ◌⊎◌, List, [], ◌∷◌, All, Contains, None, length, true, false};
 ghost use Rattle.road_graph.specs.GraphData.{HasVertex};
 ghost use Rattle.path_factors.specs.Factors.{place_of};
 ghost use Rattle.path_factors.specs.Substituting.{at, IsForward, IsForwardTo};
@@ -50,7 +50,8 @@ impl<A: ComposingAlgebra> Factors<A> {
     pub(crate) fn clear_from(&self, labels: &mut [Option<A::Value>], source: Option<Vertex>)
         requires source { All (HasVertex self.now.roads) (sources_of source) }
         requires count { length labels.old ≡ self.now.roads.vertices }
-        requires up { (j : ℕ) → (at labels.old j ≡ None) ⊎ IsAboveSource self.now.roads.vertices self.now.factor (sources_of source) j }
+        requires up { (j : ℕ) → (at labels.old j ≡ None)
+            ⊎ IsAboveSource self.now.roads.vertices self.now.factor (sources_of source) j }
         ensures count { length labels.new ≡ self.now.roads.vertices }
         ensures none { (j : ℕ) → at labels.new j ≡ None }
     {
@@ -66,9 +67,10 @@ impl<A: ComposingAlgebra> Factors<A> {
         requires count { length labels.old ≡ self.now.roads.vertices }
         requires none { (j : ℕ) → at labels.old j ≡ None }
         ensures count { length labels.new ≡ self.now.roads.vertices }
-        ensures up { AreOnlyUp self.now.factor.leaving self.now.roads.vertices (place_of self.now.factor source) labels.new }
-        ensures forward { IsForward (A.meaning self.now.algebra) (A.walks self.now.algebra) self.now.roads self.now.factor
-            (source ∷ []) labels.new }
+        ensures up { AreOnlyUp self.now.factor.leaving self.now.roads.vertices
+            (place_of self.now.factor source) labels.new }
+        ensures forward { IsForward (A.meaning self.now.algebra) (A.walks self.now.algebra)
+            self.now.roads self.now.factor (source ∷ []) labels.new }
     {
         self.holds();
         let s = self.place(source);
@@ -85,7 +87,8 @@ pub(crate) fn forget<V: Copy>(labels: &mut [Option<V>], known: &mut [bool], aske
     ensures labels_count { length labels.new ≡ length labels.old }
     ensures known_count { length known.new ≡ length known.old }
     ensures unknown { (j : ℕ) → is_on known.new j ≡ false }
-    ensures labels { (j : ℕ) → (at labels.new j ≡ None) ⊎ ((is_on known.old j ≡ false) × (at labels.new j ≡ at labels.old j)) }
+    ensures labels { (j : ℕ) → (at labels.new j ≡ None)
+        ⊎ ((is_on known.old j ≡ false) × (at labels.new j ≡ at labels.old j)) }
 {
     for i in asked {
         labels[*i as usize] = None;

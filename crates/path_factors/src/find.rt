@@ -37,8 +37,9 @@ impl<A: ComposingAlgebra> Factors<A> {
         requires place { i < self.now.roads.vertices }
         requires labels { length labels.old ≡ self.now.roads.vertices }
         requires known { length known.old ≡ self.now.roads.vertices }
-        ensures labels { labels.new ≡ slice_set labels.old i (best_along (A.meaning self.now.algebra) (A.walks self.now.algebra)
-            labels.old (at labels.old i) (row_of self.now.factor.entering i)) }
+        ensures labels { labels.new ≡ slice_set labels.old i
+            (best_along (A.meaning self.now.algebra) (A.walks self.now.algebra) labels.old
+            (at labels.old i) (row_of self.now.factor.entering i)) }
         ensures known { known.new ≡ slice_set known.old i true }
     {
         labels[i] = self.best_down(labels, i);
@@ -55,7 +56,8 @@ impl<A: ComposingAlgebra> Factors<A> {
     )
         requires labels { length labels.old ≡ self.now.roads.vertices }
         requires known { length known.old ≡ self.now.roads.vertices }
-        requires list { AreAllUnknownUp self.now.factor.leaving self.now.roads.vertices known.old t list.now }
+        requires list { AreAllUnknownUp self.now.factor.leaving self.now.roads.vertices known.old t
+            list.now }
         requires upward { IsKnownUpward self.now.factor.leaving known.old }
         ensures { (before all : List (Option A.Value)) →
             IsBackRun (A.meaning self.now.algebra) (A.walks self.now.algebra) self.now.roads.vertices self.now.factor before all →

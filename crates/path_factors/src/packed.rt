@@ -75,13 +75,18 @@ fn append<W: Copy>(
     entering: &mut Vec<W>,
     row: &[Edge<W>],
 ) -> Result<(), Memory>
-    requires { ArePackedBothWays starts.old.items places.old.items leaving.old.items entering.old.items }
-    ensures packed { OnOk result (ArePackedBothWays starts.new.items places.new.items leaving.new.items
-        entering.new.items) }
-    ensures leaving { OnOk result (rows_between starts.new.items (links_of places.new.items leaving.new.items) ≡
-        rows_between starts.old.items (links_of places.old.items leaving.old.items) ++ map rising row.now ∷ []) }
-    ensures entering { OnOk result (rows_between starts.new.items (links_of places.new.items entering.new.items) ≡
-        rows_between starts.old.items (links_of places.old.items entering.old.items) ++ map falling row.now ∷ []) }
+    requires { ArePackedBothWays starts.old.items places.old.items leaving.old.items
+        entering.old.items }
+    ensures packed { OnOk result (ArePackedBothWays starts.new.items places.new.items
+        leaving.new.items entering.new.items) }
+    ensures leaving { OnOk result (
+        rows_between starts.new.items (links_of places.new.items leaving.new.items) ≡
+        rows_between starts.old.items (links_of places.old.items leaving.old.items)
+        ++ map rising row.now ∷ []) }
+    ensures entering { OnOk result (
+        rows_between starts.new.items (links_of places.new.items entering.new.items) ≡
+        rows_between starts.old.items (links_of places.old.items entering.old.items)
+        ++ map falling row.now ∷ []) }
 {
     push_edges(places, leaving, entering, row)?;
     let Ok(end) = u32::try_from(places.len()) else {

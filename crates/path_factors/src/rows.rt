@@ -119,7 +119,8 @@ impl<W: Copy> Rows<W> {
 
     /// No edge at n places.
     pub(crate) fn new(alloc: Global, n: usize) -> Result<Self, Memory>
-        ensures { IfOk result (λ rows. rows ≡ record { leaving = replicate n []; entering = replicate n [] }) }
+        ensures { IfOk result (λ rows. rows ≡
+            record { leaving = replicate n []; entering = replicate n [] }) }
     {
         let hints = vec![in alloc; 0; n]?;
         let mut rows = Vec::with_capacity(alloc, n)?;

@@ -1,0 +1,5 @@
+mod Greatest
+mod Tails
+mod Carrying
+mod Telling
+mod Climbing

@@ -1,0 +1,8 @@
+use Rattle.std.proofs.Common.{◌≡◌, ◌*◌, ◌≤◌}
+use Rattle.path_algebra.specs.Counted.{cost_of, sum_to}
+use Rattle.factor_routes.specs.Greatest.{greatest_into}
+use Rattle.factor_routes.proofs.fitting.sum_of_greatest.Given as goal
+
+abbrev pub invariant-loop-i : goal.invariant-loop-i
+invariant-loop-i l =
+    (l.sum ≡ sum_to (λ v. greatest_into (cost_of l.cost) v l.rows.arcs) l.i) × (l.sum ≤ l.i * 4294967295)

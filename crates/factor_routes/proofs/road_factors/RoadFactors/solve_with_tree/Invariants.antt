@@ -1,0 +1,9 @@
+use Rattle.path_algebra.specs.Walks.{AreBest}
+use Rattle.factor_routes.specs.Numbers.{numbers_of}
+use Rattle.factor_routes.proofs.Telling.{AreTold}
+use Rattle.factor_routes.proofs.road_factors.RoadFactors.solve_with_tree.Given as goal
+
+abbrev pub invariant-loop-i : goal.invariant-loop-i
+invariant-loop-i g l =
+    AreTold (g.A.PathAlgebra.meaning l.algebra) l.self.roads l.sources l.i l.findings.values.items l.findings.hops.items l.findings.parents.items
+    × AreBest (numbers_of l.self) l.self.roads l.sources l.numbers

@@ -1,0 +1,44 @@
+use Rattle.std.proofs.Common.{◌≡◌, ℕ, Option, None, refl, sym, ◌∙◌, subst, arith}
+use Rattle.path_algebra.specs.Counted.{cost_of}
+use Rattle.path_algebra.specs.CountedWalks.{counted_laws}
+use Rattle.path_algebra.specs.Walks.{IsBestLabel}
+use Rattle.factor_routes.specs.Numbers.{numbers_of}
+use Rattle.factor_routes.specs.Tails.{adding_up}
+use Rattle.factor_routes.proofs.Tails.{adding_up_is, adding_up_not, number_is_small, one_label}
+use Rattle.factor_routes.proofs.road_factors.RoadFactors.tail_if.Goals as goal
+
+pub returns-in_default-clause-tail : goal.returns-in_default-clause-tail
+returns-in_default-clause-tail g c = λ sources number are best.
+    let f = c.args.self.now in
+    let same = one_label (numbers_of f) (counted_laws (cost_of f.algebra.cost) f.algebra.bits) f.roads c.holds.ensures.roads sources c.args.road.head
+    c.in_ok-x.field-0 number (c.in_ok-x.ensures.best sources are) best in
+    let is = c.in_default.is in
+    let none : None ≡ number = cc in
+    subst (λ (l : Option ℕ). None ≡ adding_up (cost_of f.algebra.cost) f.algebra.bits c.args.y c.args.road l) none refl
+
+pub overflow_add-x : goal.overflow_add-x
+overflow_add-x g c =
+    let f = c.args.self.now in
+    let known = c.requires.known in
+    let best = subst (λ (l : Option ℕ). IsBestLabel (numbers_of f) f.roads known.0 c.args.road.head l) c.in-Some.is (c.in_ok-x.ensures.best known.0 known.1) in
+    let small = number_is_small f.roads c.holds.ensures.roads (cost_of f.algebra.cost) f.algebra.bits known.0 c.args.road.head c.in-Some.x best in
+    let low = c.added.ensures.low in
+    omega (arith, small, low)
+
+pub returns-then-x-added-clause-tail : goal.returns-then-x-added-clause-tail
+returns-then-x-added-clause-tail g c = λ sources number are best.
+    let f = c.args.self.now in
+    let same = one_label (numbers_of f) (counted_laws (cost_of f.algebra.cost) f.algebra.bits) f.roads c.holds.ensures.roads sources c.args.road.head
+    c.in_ok-x.field-0 number (c.in_ok-x.ensures.best sources are) best in
+    let sum = c.if-x-added.true in
+    let adds = c.added.ensures.sum in
+    adding_up_is (cost_of f.algebra.cost) f.algebra.bits c.args.y c.in-Some.x c.args.road number (sym c.in-Some.is ∙ same) (omega (arith, sum, adds))
+
+pub returns-else-x-added-clause-tail : goal.returns-else-x-added-clause-tail
+returns-else-x-added-clause-tail g c = λ sources number are best.
+    let f = c.args.self.now in
+    let same = one_label (numbers_of f) (counted_laws (cost_of f.algebra.cost) f.algebra.bits) f.roads c.holds.ensures.roads sources c.args.road.head
+    c.in_ok-x.field-0 number (c.in_ok-x.ensures.best sources are) best in
+    let adds = c.added.ensures.sum in
+    adding_up_not (cost_of f.algebra.cost) f.algebra.bits c.args.y c.in-Some.x c.args.road number (sym c.in-Some.is ∙ same)
+    (λ e. c.if-x-added.false (omega (arith, e, adds)))

@@ -1,0 +1,118 @@
+//! Routes and values of single vertices, one source after another.
+ghost use Rattle.std.specs.Prelude.{◌≡◌, ℕ, All, List, Option, Some, IfOk, [], ◌∷◌};
+ghost use Rattle.road_graph.specs.GraphData.{HasVertex};
+ghost use Rattle.path_algebra.specs.Carried.{IsCarried};
+ghost use Rattle.path_algebra.specs.Counted.{cost_of};
+ghost use Rattle.path_algebra.specs.Walks.{IsBestLabel};
+ghost use Rattle.route_tree.specs.Told.{IsPairRoute};
+ghost use Rattle.factor_routes.specs.Numbers.{numbers_of, AreBestNumbers};
+ghost use Rattle.factor_routes.specs.Tails.{IsCountedRoute};
+
+use crate::road_factors::{RoadFactors, RouteAsker};
+use path_algebra::PathAlgebra;
+use path_plain::best_values_exist;
+use road_graph::{InGraph, Memory, Vertex};
+use route_tree::{PairRoute, trees_exist};
+use std::alloc::{AllocError, Global};
+
+impl RoadFactors {
+    /// Begins with a source: from now on the asker is asked for walks from there. It takes back what it found before.
+    pub fn begin(&self, asker: &mut RouteAsker, source: Vertex)
+        requires same { asker.old.factors ≡ self.now }
+        requires source { HasVertex self.now.roads source }
+        ensures same { asker.new.factors ≡ asker.old.factors }
+        ensures source { asker.new.sources ≡ source ∷ [] }
+    {
+        asker.begin(&self.factors, source);
+    }
+
+    /// The best value of a vertex over all walks from the asker's source, and none if no walk has a value.
+    pub fn best_value<A: PathAlgebra>(
+        &self,
+        algebra: A,
+        asker: &mut RouteAsker,
+        v: Vertex,
+    ) -> Result<Option<A::Value>, Memory>
+        requires carried { IsCarried (A.meaning algebra) (cost_of self.now.algebra.cost) }
+        requires same { asker.old.factors ≡ self.now }
+        requires sources { All (HasVertex self.now.roads) asker.old.sources }
+        requires vertex { HasVertex self.now.roads v }
+        ensures same { asker.new.factors ≡ asker.old.factors }
+        ensures sources { asker.new.sources ≡ asker.old.sources }
+        ensures best { IfOk result (λ label. IsBestLabel (A.meaning algebra) self.now.roads
+            asker.old.sources v label) }
+    {
+        self.holds();
+        match self.number(asker, v)? {
+            Some(number) => Ok(self.value_in(algebra, number)),
+            None => Ok(None),
+        }
+    }
+
+    /// The vertices of the route to a vertex, which is given with its number, from the source on.
+    fn route_back(
+        &self,
+        alloc: Global,
+        rows: &InGraph,
+        asker: &mut RouteAsker,
+        end: (Vertex, u64),
+    ) -> Result<Vec<Vertex>, Memory>
+        requires rows { rows.now ≡ self.now.roads }
+        requires same { asker.old.factors ≡ self.now }
+        requires end { HasVertex self.now.roads end.0 }
+        ensures same { asker.new.factors ≡ asker.old.factors }
+        ensures route { IfOk result (λ list. (number : ℕ → Option ℕ) →
+            AreBestNumbers (numbers_of self.now) self.now.roads asker.old.sources number →
+            number end.0 ≡ Some end.1 →
+            IsCountedRoute self.now.roads (cost_of self.now.algebra.cost) self.now.algebra.bits number end.0 list.items) }
+    {
+        self.holds();
+        let mut list = Vec::new(alloc);
+        list.push(end.0).map_err(AllocError::from)?;
+        let (mut at, mut number) = end;
+        while let Some(tail) = self.least_tail(rows, asker, at, number)? {
+            list.push(tail.0).map_err(AllocError::from)?;
+            (at, number) = tail;
+        }
+        list.reverse();
+        Ok(list)
+    }
+
+    /// The route of a pair, from its source to its target; none if no walk has a value. The only error is `Memory`.
+    ///
+    /// It is the route of the whole tree, but only vertices along it and their ancestors in the factors are looked at.
+    pub fn route<A: PathAlgebra>(
+        &self,
+        alloc: Global,
+        algebra: A,
+        rows: &InGraph,
+        asker: &mut RouteAsker,
+        pair: (Vertex, Vertex),
+    ) -> Result<Option<PairRoute>, Memory>
+        requires rows { rows.now ≡ self.now.roads }
+        requires carried { IsCarried (A.meaning algebra) (cost_of self.now.algebra.cost) }
+        requires same { asker.old.factors ≡ self.now }
+        requires source { HasVertex self.now.roads pair.0 }
+        requires target { HasVertex self.now.roads pair.1 }
+        ensures same { asker.new.factors ≡ asker.old.factors }
+        ensures route { IfOk result (IsPairRoute (A.meaning algebra) self.now.roads pair.0 pair.1) }
+    {
+        let (source, target) = pair;
+        self.holds();
+        self.numbers_exist();
+        best_values_exist(algebra);
+        trees_exist(algebra);
+        self.begin(asker, source);
+        let Some(number) = self.number(asker, target)? else {
+            return Ok(None);
+        };
+        if self.value_in(algebra, number).is_none() {
+            return Ok(None);
+        }
+        let vertices = self.route_back(alloc, rows, asker, (target, number))?;
+        Ok(Some(PairRoute {
+            hops: self.hops_in(number),
+            vertices,
+        }))
+    }
+}

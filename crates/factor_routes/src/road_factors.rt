@@ -1,0 +1,97 @@
+//! A road graph that is factored for numbers that carry hops.
+ghost use Rattle.std.specs.Prelude.{◌≡◌, ℕ, IfOk, IfErr};
+ghost use Rattle.road_graph.specs.GraphData.{HasVertex, IsGraph};
+ghost use Rattle.path_algebra.specs.Counted.{cost_of, CountsFit};
+ghost use Rattle.factor_routes.specs.declared.road_factors.Unfactored.TheVariants.{Heavy};
+
+use crate::fitting::fitting_sums;
+use path_algebra::{Cost, CountedSums};
+use path_factors::{Asker, Factors};
+use road_graph::{InGraph, Memory, OutGraph, Vertex};
+use std::alloc::Global;
+use std::marker::Model;
+
+/// Why a graph is not factored.
+#[derive(Clone, Copy, Debug, PartialEq, Eq)]
+pub enum Unfactored {
+    /// Memory was refused.
+    Memory,
+    /// Its factors would have too many links.
+    Dense,
+    /// The sums of its costs, with hops, could pass 2^63.
+    Heavy,
+}
+
+/// What is asked of a factored graph vertex by vertex, from one source after another. It is made once, and then takes no
+/// time or memory for the vertices that are not asked for.
+pub type RouteAsker = Asker<CountedSums>;
+
+/// A factored graph, from which least sums of costs are found with their hops and parents. It serves every algebra whose
+/// values are such sums.
+#[derive(Drop)]
+pub struct RoadFactors {
+    pub(crate) sums: CountedSums,
+    pub(crate) factors: Factors<CountedSums>,
+}
+
+impl Model for RoadFactors {
+    ghost use Rattle.std.specs.Prelude.{◌≡◌, ℕ};
+    ghost use Rattle.path_algebra.specs.Counted.{cost_of, CountsFit};
+    ghost use Rattle.path_algebra.specs.declared.counted_sums.CountedSums.{CountedSums};
+    ghost use Rattle.path_factors.specs.State.{FactorState};
+
+    ghost Value = { FactorState CountedSums ℕ };
+
+    ghost view = { λ f. f.factors };
+
+    ghost invariant = { λ f. (f.factors.algebra ≡ f.sums) × CountsFit f.factors.roads (cost_of f.sums.cost) f.sums.bits };
+}
+
+impl RoadFactors {
+    /// The factors of a graph for the sums of these costs. `rows` is the same graph, with its arcs by head.
+    ///
+    /// # Errors
+    /// `Heavy` only if no number of low bits leaves room for both the hops and the sums.
+    pub fn of(
+        alloc: Global,
+        cost: Cost,
+        graph: &OutGraph,
+        rows: &InGraph,
+    ) -> Result<RoadFactors, Unfactored>
+        requires { rows.now ≡ graph.now }
+        ensures roads { IfOk result (λ f. f.roads ≡ graph.now) }
+        ensures cost { IfOk result (λ f. f.algebra.cost ≡ cost) }
+        ensures heavy { IfErr result (λ e. e ≡ Heavy → (k : ℕ) → CountsFit graph.now (cost_of cost) k → ⊥) }
+    {
+        let Some(sums) = fitting_sums(cost, rows) else {
+            return Err(Unfactored::Heavy);
+        };
+        match Factors::of(alloc, sums, graph) {
+            Ok(Some(factors)) => Ok(RoadFactors { sums, factors }),
+            Ok(None) => Err(Unfactored::Dense),
+            Err(Memory) => Err(Unfactored::Memory),
+        }
+    }
+
+    /// What holds of every factored graph. Nothing is computed.
+    pub fn holds(&self)
+        ensures roads { IsGraph self.now.roads }
+        ensures fits { CountsFit self.now.roads (cost_of self.now.algebra.cost) self.now.algebra.bits }
+    {
+        self.factors.holds();
+    }
+
+    /// What an arc costs.
+    pub fn cost(&self) -> Cost
+        ensures { result ≡ self.now.algebra.cost }
+    {
+        self.sums.cost
+    }
+
+    /// An asker for this graph, without a source.
+    pub fn asker(&self, alloc: Global) -> Result<RouteAsker, Memory>
+        ensures { IfOk result (λ asker. asker.factors ≡ self.now) }
+    {
+        Asker::new(alloc, &self.factors)
+    }
+}

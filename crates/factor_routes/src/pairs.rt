@@ -78,9 +78,45 @@ impl RoadFactors {
         Ok(list)
     }
 
-    /// The route of a pair, from its source to its target; none if no walk has a value. The only error is `Memory`.
+    /// The route from the asker's source to a target; none if no walk has a value. The only error is `Memory`.
     ///
     /// It is the route of the whole tree, but only vertices along it and their ancestors in the factors are looked at.
+    pub fn route_from<A: PathAlgebra>(
+        &self,
+        alloc: Global,
+        algebra: A,
+        rows: &InGraph,
+        asker: &mut RouteAsker,
+        pair: (Vertex, Vertex),
+    ) -> Result<Option<PairRoute>, Memory>
+        requires rows { rows.now ≡ self.now.roads }
+        requires carried { IsCarried (A.meaning algebra) (cost_of self.now.algebra.cost) }
+        requires same { asker.old.factors ≡ self.now }
+        requires begun { asker.old.sources ≡ pair.0 ∷ [] }
+        requires source { HasVertex self.now.roads pair.0 }
+        requires target { HasVertex self.now.roads pair.1 }
+        ensures same { asker.new.factors ≡ asker.old.factors }
+        ensures route { IfOk result (IsPairRoute (A.meaning algebra) self.now.roads pair.0 pair.1) }
+    {
+        let target = pair.1;
+        self.holds();
+        self.numbers_exist();
+        best_values_exist(algebra);
+        trees_exist(algebra);
+        let Some(number) = self.number(asker, target)? else {
+            return Ok(None);
+        };
+        if self.value_in(algebra, number).is_none() {
+            return Ok(None);
+        }
+        let vertices = self.route_back(alloc, rows, asker, (target, number))?;
+        Ok(Some(PairRoute {
+            hops: self.hops_in(number),
+            vertices,
+        }))
+    }
+
+    /// The route of a pair, from its source to its target; none if no walk has a value. The only error is `Memory`.
     pub fn route<A: PathAlgebra>(
         &self,
         alloc: Global,
@@ -97,22 +133,7 @@ impl RoadFactors {
         ensures same { asker.new.factors ≡ asker.old.factors }
         ensures route { IfOk result (IsPairRoute (A.meaning algebra) self.now.roads pair.0 pair.1) }
     {
-        let (source, target) = pair;
-        self.holds();
-        self.numbers_exist();
-        best_values_exist(algebra);
-        trees_exist(algebra);
-        self.begin(asker, source);
-        let Some(number) = self.number(asker, target)? else {
-            return Ok(None);
-        };
-        if self.value_in(algebra, number).is_none() {
-            return Ok(None);
-        }
-        let vertices = self.route_back(alloc, rows, asker, (target, number))?;
-        Ok(Some(PairRoute {
-            hops: self.hops_in(number),
-            vertices,
-        }))
+        self.begin(asker, pair.0);
+        self.route_from(alloc, algebra, rows, asker, pair)
     }
 }

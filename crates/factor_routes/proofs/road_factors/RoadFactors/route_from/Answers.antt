@@ -9,7 +9,7 @@ use Rattle.path_algebra.specs.Walks.{IsBestLabel, label_of}
 use Rattle.factor_routes.specs.Numbers.{AreBestNumbers, numbers_of}
 use Rattle.factor_routes.proofs.Tails.{one_label}
 use Rattle.factor_routes.proofs.Carrying as carrying
-use Rattle.factor_routes.proofs.road_factors.RoadFactors.route.Goals as goal
+use Rattle.factor_routes.proofs.road_factors.RoadFactors.route_from.Goals as goal
 
 pub returns-in_default-clause-route : goal.returns-in_default-clause-route
 returns-in_default-clause-route g c =
@@ -17,12 +17,12 @@ returns-in_default-clause-route g c =
     let sources = c.args.pair.0 ∷ [] in
     let inside = All-cons (HasVertex f.roads) c.args.pair.0 [] c.requires.source (All-nil (HasVertex f.roads)) in
     let carry = c.requires.carried f.roads sources f.algebra.bits c.holds.ensures.roads inside c.holds.ensures.fits in
-    let best = c.in_ok-number.ensures.best sources (c.begin.ensures.same ∙ c.requires.same, c.begin.ensures.source) in
+    let best = c.in_ok-number.ensures.best sources (c.requires.same, c.requires.begun) in
     carry.labels c.args.pair.1 None (subst (λ (l : Option ℕ). IsBestLabel (numbers_of f) f.roads sources c.args.pair.1 l) c.in_default.is best)
 
 pub returns-then-is_none-clause-same : goal.returns-then-is_none-clause-same
 returns-then-is_none-clause-same g c =
-    (c.number.ensures.kept (c.args.pair.0 ∷ []) (c.begin.ensures.same ∙ c.requires.same, c.begin.ensures.source)).0 ∙ sym c.requires.same
+    (c.number.ensures.kept (c.args.pair.0 ∷ []) (c.requires.same, c.requires.begun)).0 ∙ sym c.requires.same
 
 pub returns-then-is_none-clause-route : goal.returns-then-is_none-clause-route
 returns-then-is_none-clause-route g c =
@@ -31,7 +31,7 @@ returns-then-is_none-clause-route g c =
     let sources = c.args.pair.0 ∷ [] in
     let inside = All-cons (HasVertex f.roads) c.args.pair.0 [] c.requires.source (All-nil (HasVertex f.roads)) in
     let carry = c.requires.carried f.roads sources f.algebra.bits c.holds.ensures.roads inside c.holds.ensures.fits in
-    let best = c.in_ok-number.ensures.best sources (c.begin.ensures.same ∙ c.requires.same, c.begin.ensures.source) in
+    let best = c.in_ok-number.ensures.best sources (c.requires.same, c.requires.begun) in
     let at = subst (λ (l : Option ℕ). IsBestLabel (numbers_of f) f.roads sources c.args.pair.1 l) c.in-Some.is best in
     let none : carried_value A f.algebra.bits (Some c.in-Some.number) ≡ None =
     sym c.value_in.ensures ∙ carrying.none_if_none c.value_in.result c.is_none.result c.is_none.ensures c.if-is_none.true in
@@ -40,18 +40,18 @@ returns-then-is_none-clause-route g c =
 
 pub route_back-requires-clause-same : goal.route_back-requires-clause-same
 route_back-requires-clause-same g c =
-    (c.number.ensures.kept (c.args.pair.0 ∷ []) (c.begin.ensures.same ∙ c.requires.same, c.begin.ensures.source)).0
+    (c.number.ensures.kept (c.args.pair.0 ∷ []) (c.requires.same, c.requires.begun)).0
 
 pub returns-in_err-vertices-clause-same : goal.returns-in_err-vertices-clause-same
 returns-in_err-vertices-clause-same g c =
     c.route_back.ensures.same
-    ∙ (c.number.ensures.kept (c.args.pair.0 ∷ []) (c.begin.ensures.same ∙ c.requires.same, c.begin.ensures.source)).0
+    ∙ (c.number.ensures.kept (c.args.pair.0 ∷ []) (c.requires.same, c.requires.begun)).0
     ∙ sym c.requires.same
 
 pub returns-clause-same : goal.returns-clause-same
 returns-clause-same g c =
     c.route_back.ensures.same
-    ∙ (c.number.ensures.kept (c.args.pair.0 ∷ []) (c.begin.ensures.same ∙ c.requires.same, c.begin.ensures.source)).0
+    ∙ (c.number.ensures.kept (c.args.pair.0 ∷ []) (c.requires.same, c.requires.begun)).0
     ∙ sym c.requires.same
 
 pub returns-clause-route : goal.returns-clause-route
@@ -72,10 +72,10 @@ returns-clause-route g c =
     let tree = c.trees_exist.ensures f.roads roads sources inside whole.0 whole.1 in
     let at : number target ≡ Some y =
     one_label (numbers_of f) (counted_laws cost f.algebra.bits) f.roads roads sources target (number target) c.in_ok-number.field-0
-    (best target c.requires.target) (c.in_ok-number.ensures.best sources (c.begin.ensures.same ∙ c.requires.same, c.begin.ensures.source)) ∙ c.in-Some.is in
+    (best target c.requires.target) (c.in_ok-number.ensures.best sources (c.requires.same, c.requires.begun)) ∙ c.in-Some.is in
     let some : IsSome (carried_value A f.algebra.bits (Some y)) =
     ap is_some (sym c.value_in.ensures) ∙ c.is_none.ensures ∙ ap not c.if-is_none.false in
-    let kept = c.number.ensures.kept sources (c.begin.ensures.same ∙ c.requires.same, c.begin.ensures.source) in
+    let kept = c.number.ensures.kept sources (c.requires.same, c.requires.begun) in
     let list = c.in_ok-vertices.vertices.items in
     let back = c.in_ok-vertices.ensures.route number (subst (λ (s : List ℕ). AreBestNumbers (numbers_of f) f.roads s number) (sym kept.1) best) at in
     carrying.route_told A f.roads roads sources cost f.algebra.bits carry number best tree.0 tree.1 target y c.requires.target at some list back

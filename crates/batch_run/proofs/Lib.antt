@@ -10,7 +10,11 @@ mod QuestionKinds
 mod SourcesToCome
 mod NextDiffusions
 mod Moved
-mod SameSources
+mod Searches
+mod LastSolved
+mod KeptLabels
+mod PairAnswers
+mod FactorCosts
 mod Reporting
 mod Flushing
 mod FileFaults

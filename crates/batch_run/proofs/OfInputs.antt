@@ -1,5 +1,5 @@
 -- What a run promises of inputs that were read, from what answering them promises.
-use Rattle.std.proofs.Common.{◌≡◌, ◌≢◌, ◌⊎◌, ◌↔◌, ◌<◌, ◌≤◌, inl, inr, ℕ, List, Option, Result, Ok, Err, Bool, false, refl, sym, subst, ap, arith}
+use Rattle.std.proofs.Common.{◌≡◌, ◌≢◌, ◌⊎◌, ◌<◌, ◌≤◌, inl, inr, ℕ, List, Option, Result, Ok, Err, Bool, false, refl, arith}
 use Rattle.std.specs.Prelude.{IfErr, OnOk}
 use Rattle.std.proofs.lemmas.Result.{IfErr-at_err, IfErr-weaker}
 use Rattle.road_graph.specs.GraphData.{GraphData}
@@ -11,8 +11,7 @@ use Rattle.batch_run.specs.declared.faults.File.{File}
 use Rattle.batch_run.specs.declared.faults.File.TheVariants.{NoFile}
 use Rattle.batch_run.specs.declared.settings.Settings.{Settings}
 use Rattle.batch_run.specs.Answered.{WroteAllOrPrefix, WroteWhole}
-use Rattle.batch_run.specs.InRange.{AreInRange}
-use Rattle.batch_run.specs.Ran.{Begun, BegunWhole, Done, IsRunFaultOf, IsLater, IsPassedOn, by_solver}
+use Rattle.batch_run.specs.Ran.{Begun, BegunWhole, Done, IsRunFaultOf, IsLater, IsPassedOn}
 
 -- what holds after each fault but a failed write holds if memory was refused
 pub at_memory : (r : Result (Unit {0}) RunFault) (P : Type 0) → IfErr r (λ f. f.number ≢ 42 → P) → IfErr r (λ f. f.file ≡ NoFile → f.number ≡ 3 → P)
@@ -45,33 +44,29 @@ module _ {V : Type 0} (A : Algebra V) (IsRead : GraphData → Asked → Type 0) 
       ] in
       (begun_whole (wrote other), passed other)
 
--- with their own solver settings are what they are
-pub by_own : (plain : Bool) (s : Settings) → s.plain ≡ plain → by_solver plain s ≡ s
-by_own plain s e = ap (λ (b : Bool). record s { plain = b }) (sym e)
-
 -- a fault that comes when the inputs have been read is of no input and of no setting, and says why it came
-module _ (s : Settings) (answers : ℕ → ℕ → Bool → Type 0) (before after : ℕ) where
-  later_kind : (f : RunFault) → IsLater s answers f → (inputs : File → Type 0) → IsRunFaultOf inputs f
+module _ (plain : Bool) (s : Settings) (answers : ℕ → ℕ → Bool → Type 0) (before after : ℕ) where
+  later_kind : (f : RunFault) → IsLater plain s answers f → (inputs : File → Type 0) → IsRunFaultOf inputs f
   later_kind f l inputs = grind arith
 
-  later_no_setting : (f : RunFault) → IsLater s answers f → f.number ≢ 43
+  later_no_setting : (f : RunFault) → IsLater plain s answers f → f.number ≢ 43
   later_no_setting f l = grind arith
 
-  later_stalled : (f : RunFault) → IsLater s answers f → f.number ≡ 40 → (s.plain ≡ false) × Stalls answers s.workers s.turns
+  later_stalled : (f : RunFault) → IsLater plain s answers f → f.number ≡ 40 → (plain ≡ false) × Stalls answers s.workers s.turns
   later_stalled f (file, line, inl memory) e = absurd (omega (arith, memory, e))
   later_stalled f (file, line, inr (inl stalled)) e = (stalled.1, stalled.2)
   later_stalled f (file, line, inr (inr (inl gated))) e = absurd (omega (arith, gated.0, e))
   later_stalled f (file, line, inr (inr (inr write))) e = absurd (omega (arith, write, e))
 
-  later_gated : (f : RunFault) → IsLater s answers f → f.number ≡ 41 → (s.plain ≡ false) × Closes answers s.workers s.turns
+  later_gated : (f : RunFault) → IsLater plain s answers f → f.number ≡ 41 → (plain ≡ false) × Closes answers s.workers s.turns
   later_gated f (file, line, inl memory) e = absurd (omega (arith, memory, e))
   later_gated f (file, line, inr (inl stalled)) e = absurd (omega (arith, stalled.0, e))
   later_gated f (file, line, inr (inr (inl gated))) e = (gated.1, gated.2)
   later_gated f (file, line, inr (inr (inr write))) e = absurd (omega (arith, write, e))
 
-  module _ (r : Result (Unit {0}) RunFault) (later : IfErr r (λ f. IsLater s answers f × (f.number ≡ 42 → before < after))) where
-    pub settings : AreInRange s → (r ≡ Err (record { number = 43; file = NoFile; line = 0 })) ↔ (AreInRange s → ⊥)
-    settings inside = (λ e. absurd (later_no_setting _ ((IfErr-at_err _ e later).0) refl), λ no. absurd (no inside))
+  module _ (r : Result (Unit {0}) RunFault) (later : IfErr r (λ f. IsLater plain s answers f × (f.number ≡ 42 → before < after))) where
+    pub no_setting : r ≡ Err (record { number = 43; file = NoFile; line = 0 }) → ⊥
+    no_setting e = later_no_setting _ ((IfErr-at_err _ e later).0) refl
 
     pub kinds : (inputs : File → Type 0) → IfErr r (IsRunFaultOf inputs)
     kinds inputs = IfErr-weaker r _ _ (λ f l. later_kind f l.0 inputs) later
@@ -79,10 +74,10 @@ module _ (s : Settings) (answers : ℕ → ℕ → Bool → Type 0) (before afte
     pub placed : IfErr r (λ f. f.number ≤ 3 → f.line ≡ 0)
     placed = IfErr-weaker r _ _ (λ f l low. l.0.1) later
 
-    pub stalled : IfErr r (λ f. f.number ≡ 40 → (s.plain ≡ false) × Stalls answers s.workers s.turns)
+    pub stalled : IfErr r (λ f. f.number ≡ 40 → (plain ≡ false) × Stalls answers s.workers s.turns)
     stalled = IfErr-weaker r _ _ (λ f l. later_stalled f l.0) later
 
-    pub gated : IfErr r (λ f. f.number ≡ 41 → (s.plain ≡ false) × Closes answers s.workers s.turns)
+    pub gated : IfErr r (λ f. f.number ≡ 41 → (plain ≡ false) × Closes answers s.workers s.turns)
     gated = IfErr-weaker r _ _ (λ f l. later_gated f l.0) later
 
     pub in_no_input : (P : Type 0) → IfErr r (λ f. f.file ≢ NoFile → P)
@@ -91,14 +86,9 @@ module _ (s : Settings) (answers : ℕ → ℕ → Bool → Type 0) (before afte
     pub of_no_setting : (P : Type 0) → IfErr r (λ f. f.number ≡ 43 → P)
     of_no_setting P = IfErr-weaker r _ _ (λ f l e. absurd (later_no_setting f l.0 e)) later
 
--- a later fault of the solver that the settings choose is one of these settings
-pub later_own : (plain : Bool) (s : Settings) (answers : ℕ → ℕ → Bool → Type 0) (before after : ℕ) (r : Result (Unit {0}) RunFault) → plain ≡ s.plain →
-    IfErr r (λ f. IsLater (by_solver plain s) answers f × (f.number ≡ 42 → before < after)) → IfErr r (λ f. IsLater s answers f × (f.number ≡ 42 → before < after))
-later_own plain s answers before after r e = subst (λ (t : Settings). IfErr r (λ f. IsLater t answers f × (f.number ≡ 42 → before < after))) (by_own plain s (sym e))
-
 -- what a run tells of its inputs if it succeeds, it tells at a later fault
-pub still_read : (s : Settings) (answers : ℕ → ℕ → Bool → Type 0) (before after : ℕ) (HasRead : Result (Unit {0}) RunFault → Type 0) → HasRead (Ok tt) →
+pub still_read : (plain : Bool) (s : Settings) (answers : ℕ → ℕ → Bool → Type 0) (before after : ℕ) (HasRead : Result (Unit {0}) RunFault → Type 0) → HasRead (Ok tt) →
     ((f : RunFault) → f.file ≡ NoFile → f.number ≢ 43 → HasRead (Ok tt) → HasRead (Err f)) → (r : Result (Unit {0}) RunFault) →
-    IfErr r (λ f. IsLater s answers f × (f.number ≡ 42 → before < after)) → HasRead r
-still_read s answers before after HasRead read law (Ok u) later = read
-still_read s answers before after HasRead read law (Err f) later = law f later.0.0 (later_no_setting s answers before after f later.0) read
+    IfErr r (λ f. IsLater plain s answers f × (f.number ≡ 42 → before < after)) → HasRead r
+still_read plain s answers before after HasRead read law (Ok u) later = read
+still_read plain s answers before after HasRead read law (Err f) later = law f later.0.0 (later_no_setting plain s answers before after f later.0) read

@@ -22,7 +22,7 @@ use Rattle.worker_fleet.specs.declared.group.GroupFault.{GroupFault}
 use Rattle.worker_fleet.specs.declared.group.GroupFault.TheVariants as group
 use Rattle.batch_run.specs.Answered.{AnsweredAll, WroteAnswer, WroteAnswers, WroteHeader, WroteNext, begun_text, WroteFirst, WroteWhole, fault_of_answer, fault_of_group}
 use Rattle.worker_fleet.specs.Stops.{Says}
-use Rattle.batch_run.specs.Ran.{IsLater, by_solver}
+use Rattle.batch_run.specs.Ran.{IsLater}
 
 -- the first i questions were answered, and the answers written
 pub record Progress {V : Type 0} (A : Algebra V) (g : GraphData) (asked : Asked) (i : ℕ) (old new : Option (List ℕ)) (before after : ℕ) : Type 0 where
@@ -196,7 +196,7 @@ module _ {V : Type 0} (A : Algebra V) (g : GraphData) (asked : Asked) where
 
 -- labels were not found: memory or a thread was refused; or, if workers answer, one of them stopped
 pub group_later : (s : Settings) (answers : ℕ → ℕ → Bool → Type 0) (plain : Bool) (f : GroupFault) → (plain ≡ true → f ≡ group.Memory) → Says answers s.workers s.turns f →
-    IsLater (by_solver plain s) answers (fault_of_group f)
+    IsLater plain s answers (fault_of_group f)
 group_later s answers plain group.Memory only says = (refl, refl, inl refl)
 group_later s answers false group.Stalled only says = (refl, refl, inr (inl (refl, refl, says)))
 group_later s answers true group.Stalled only says = let bad : group.Stalled ≡ group.Memory = only refl in absurd cc
@@ -210,9 +210,9 @@ no_write group.Stalled e = omega (arith, e)
 no_write group.Gated e = omega (arith, e)
 
 -- the answer was not written
-pub answer_later : (s : Settings) (answers : ℕ → ℕ → Bool → Type 0) (u : Unanswered) → IsLater s answers (fault_of_answer u)
-answer_later s answers variants.Memory = (refl, refl, inl refl)
-answer_later s answers variants.Write = (refl, refl, inr (inr (inr refl)))
+pub answer_later : (plain : Bool) (s : Settings) (answers : ℕ → ℕ → Bool → Type 0) (u : Unanswered) → IsLater plain s answers (fault_of_answer u)
+answer_later plain s answers variants.Memory = (refl, refl, inl refl)
+answer_later plain s answers variants.Write = (refl, refl, inr (inr (inr refl)))
 
 module _ {V : Type 0} (A : Algebra V) (g : GraphData) (q : Question) (old : Option (List ℕ)) (b : ℕ) where
   -- a question is not solved, and nothing was written

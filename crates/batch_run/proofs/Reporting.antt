@@ -21,6 +21,7 @@ use Rattle.batch_run.specs.declared.watcher.Report.{Report}
 use Rattle.batch_run.specs.declared.watcher.Report.TheVariants as report
 use Rattle.batch_run.specs.Diffusions.{IsEnded}
 use Rattle.batch_run.specs.Reports.{IsAccount, Due, Beginning, Account, Progress, IsReportOf, FollowsReports, Reported, ReportedAllOrPrefix, ReportedPrefix, Watched, accounts_due, question_due, questions_due, batch_due, count_diffusions, diffused}
+use Rattle.batch_run.specs.Choice.{without_diffusions}
 use Rattle.batch_run.specs.Ran.{IsLater}
 use Rattle.batch_run.proofs.OfInputs.{in_no_input, of_no_setting}
 
@@ -32,7 +33,7 @@ module _ {S V : Type 0} (meaning : S → Algebra V) where
     plan = plan;
     order = order;
     labels = found.labels;
-    gathered = record { roads = h.roads; source = h.source; labels = h.labels; events = h.events; ended = h.ended; quiet = h.quiet; tally = h.tally; equal = h.equal };
+    gathered = record { roads = h.roads; source = h.source; labels = h.labels; events = h.events; ended = h.ended; quiet = h.quiet; tally = h.tally; equal = h.equal; best = h.best };
   }
 
   best_of : (t : SetupData S) (found : Gathered V) → IsGathered meaning t found → AreBest (meaning t.diffusion.algebra) t.diffusion.roads (t.diffusion.source ∷ []) found.labels
@@ -223,13 +224,13 @@ none_counted qs = sym (ap (λ (l : List ℕ). length l) (none_diffused qs))
 -- what a run reports of inputs that were read, from what answering them reports
 pub watched : {V S : Type 0} (A : Algebra V) (how : Settings) (IsRead : GraphData → Asked → Type 0) (may_become : S → Report → S → Type 0) (old new : S) (g : GraphData)
     (asked : Asked) (answers : ℕ → ℕ → Bool → Type 0) (before after : ℕ) (r : Result (Unit {0}) RunFault) →
-    IsRead g asked → ReportedAllOrPrefix A g may_become (batch_due how.plain asked.questions) old new r →
-    IfErr r (λ f. IsLater how answers f × (f.number ≡ 42 → before < after)) → Watched A how IsRead may_become old new r
+    IsRead g asked → ReportedAllOrPrefix A g may_become (batch_due (without_diffusions how) asked.questions) old new r →
+    IfErr r (λ f. IsLater (without_diffusions how) how answers f × (f.number ≡ 42 → before < after)) → Watched A how IsRead may_become old new r
 watched A how IsRead may_become old new g asked answers before after (Ok u) read reported later =
     record { all = record { graph = g; asked = asked; read = read; reported = reported }; first = tt; nothing = tt; untouched = tt }
 watched A how IsRead may_become old new g asked answers before after (Err f) read reported later = record {
   all = tt;
   first = λ file other. record { graph = g; asked = asked; read = read; reported = reported };
-  nothing = in_no_input how answers before after (Err f) later _;
-  untouched = of_no_setting how answers before after (Err f) later _;
+  nothing = in_no_input (without_diffusions how) how answers before after (Err f) later _;
+  untouched = of_no_setting (without_diffusions how) how answers before after (Err f) later _;
 }

@@ -1,4 +1,5 @@
 pub mod InRange
+pub mod Choice
 pub mod WrittenLines
 pub mod Solved
 pub mod Diffusions

@@ -87,13 +87,9 @@ IsRunFaultOf inputs f =
 
 -- a fault that comes when the inputs have been read: memory or a thread, a write; and if stations answer, a worker that made all turns of the limit, or one whose gate
 -- answered false before
-abbrev pub IsLater : Settings → (ℕ → ℕ → Bool → Type 0) → RunFault → Type 0
-IsLater s answers f = (f.file ≡ NoFile) × (f.line ≡ 0)
-    × ((f.number ≡ 3) ⊎ (((f.number ≡ 40) × (s.plain ≡ false) × Stalls answers s.workers s.turns) ⊎ (((f.number ≡ 41) × (s.plain ≡ false) × Closes answers s.workers s.turns) ⊎ (f.number ≡ 42))))
-
--- these settings, if a solver of this kind answers
-abbrev pub by_solver : (plain : Bool) → Settings → Settings
-by_solver plain s = record s { plain = plain }
+abbrev pub IsLater : (plain : Bool) → Settings → (ℕ → ℕ → Bool → Type 0) → RunFault → Type 0
+IsLater plain s answers f = (f.file ≡ NoFile) × (f.line ≡ 0)
+    × ((f.number ≡ 3) ⊎ (((f.number ≡ 40) × (plain ≡ false) × Stalls answers s.workers s.turns) ⊎ (((f.number ≡ 41) × (plain ≡ false) × Closes answers s.workers s.turns) ⊎ (f.number ≡ 42))))
 
 -- nothing is held back: all was passed on, or passing it on failed
 abbrev pub IsPassedOn : List ℕ → ℕ → ℕ → Type 0

@@ -13,6 +13,7 @@ use Rattle.station.specs.Gather.{IsGathered}
 use Rattle.batch_run.specs.declared.faults.File.TheVariants.{NoFile}
 use Rattle.batch_run.specs.declared.faults.RunFault.{RunFault}
 use Rattle.batch_run.specs.declared.settings.Settings.{Settings}
+use Rattle.batch_run.specs.Choice.{without_diffusions}
 use Rattle.batch_run.specs.declared.watcher.Report.{Report}
 use Rattle.batch_run.specs.declared.watcher.Report.TheVariants.{Begun, Gathered, Answered}
 use Rattle.station.specs.Opened.{setup_of}
@@ -105,9 +106,9 @@ pub record ReportedFirst {V S : Type 0} (A : Algebra V) (plain : Bool) (IsRead :
 -- what a batch over what was read reported to a watcher, which went from the one state to the other
 pub record Watched {V S : Type 0} (A : Algebra V) (how : Settings) (IsRead : GraphData → Asked → Type 0) (may_become : S → Report → S → Type 0) (old new : S) (outcome : Result (Unit {0}) RunFault) : Type 0 where
   -- on success all that is due was reported, in order, and nothing else
-  pub all : OnOk outcome (ReportedAll A how.plain IsRead may_become old new)
+  pub all : OnOk outcome (ReportedAll A (without_diffusions how) IsRead may_become old new)
   -- before a fault of the run a prefix of it was
-  pub first : IfErr outcome (λ f. f.file ≡ NoFile → f.number ≢ 43 → ReportedFirst A how.plain IsRead may_become old new)
+  pub first : IfErr outcome (λ f. f.file ≡ NoFile → f.number ≢ 43 → ReportedFirst A (without_diffusions how) IsRead may_become old new)
   -- before a fault of an input nothing was
   pub nothing : IfErr outcome (λ f. f.file ≢ NoFile → new ≡ old)
   -- nor before one of a setting

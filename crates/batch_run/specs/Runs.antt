@@ -1,6 +1,6 @@
 -- What a batch leaves, between two moments of its inputs and its output.
 pub use Rattle.batch_run.specs.Streams.{Input, Output, input, output}
-use Rattle.std.specs.Prelude.{◌≡◌, ◌≢◌, ℕ, ◌+◌, ◌≤◌, ◌<◌, ◌↔◌, ◌⊎◌, Bool, false, [], Result, Err, OnOk, IfErr}
+use Rattle.std.specs.Prelude.{◌≡◌, ◌≢◌, ℕ, ◌+◌, ◌≤◌, ◌<◌, ◌⊎◌, Bool, true, false, [], Result, Err, OnOk, IfErr}
 use Rattle.std.specs.Io.KnownBytes.{Keeps}
 use Rattle.road_graph.specs.GraphData.{GraphData}
 use Rattle.road_files.specs.Asked.{Asked}
@@ -11,6 +11,7 @@ use Rattle.batch_run.specs.declared.faults.File.TheVariants.{NoFile}
 use Rattle.batch_run.specs.declared.faults.RunFault.{RunFault}
 use Rattle.batch_run.specs.declared.settings.Settings.{Settings}
 use Rattle.batch_run.specs.InRange.{AreInRange}
+use Rattle.batch_run.specs.Choice.{without_diffusions}
 use Rattle.batch_run.specs.Inputs.{HasReadPair, HasReadBundle}
 use Rattle.batch_run.specs.Ran.{Done, Begun, BegunWhole, IsPassedOn, IsRunFaultOf, IsPairOf, IsBundleOf, IsPairFile, IsBundleFile}
 
@@ -22,8 +23,10 @@ pub record Ran {V W : Type 0} (A : Algebra V) (how : Settings) (answers : ℕ �
   pub passed_on : OnOk outcome (out_after.held ≡ [])
   -- no write failed
   pub sound : OnOk outcome (out_after.failures ≡ out.failures)
-  -- 43 is reported exactly if a setting is out of its range
-  pub settings : (outcome ≡ Err (record { number = 43; file = NoFile; line = 0 })) ↔ (AreInRange how → ⊥)
+  -- 43 is reported if a setting is out of its range,
+  pub refused : (AreInRange how → ⊥) → outcome ≡ Err (record { number = 43; file = NoFile; line = 0 })
+  -- and else only if factors are chosen
+  pub settings : outcome ≡ Err (record { number = 43; file = NoFile; line = 0 }) → (AreInRange how → ⊥) ⊎ (how.factors ≡ true)
   -- 42 is reported only if a write failed
   pub write : IfErr outcome (λ f. f.number ≡ 42 → out.failures < out_after.failures)
   -- a fault is one of these inputs, with a number of theirs, or one of the run
@@ -31,9 +34,9 @@ pub record Ran {V W : Type 0} (A : Algebra V) (how : Settings) (answers : ℕ �
   -- 1 to 3 are in no line
   pub placed : IfErr outcome (λ f. f.number ≤ 3 → f.line ≡ 0)
   -- 40 is reported only if stations answer, and some worker made each turn up to the limit
-  pub stalled : IfErr outcome (λ f. f.number ≡ 40 → (how.plain ≡ false) × Stalls answers how.workers how.turns)
+  pub stalled : IfErr outcome (λ f. f.number ≡ 40 → (without_diffusions how ≡ false) × Stalls answers how.workers how.turns)
   -- 41 is reported only if stations answer, and the gate answered some worker false before a turn up to the limit
-  pub gated : IfErr outcome (λ f. f.number ≡ 41 → (how.plain ≡ false) × Closes answers how.workers how.turns)
+  pub gated : IfErr outcome (λ f. f.number ≡ 41 → (without_diffusions how ≡ false) × Closes answers how.workers how.turns)
   -- after a fault of an input nothing was written
   pub nothing : IfErr outcome (λ f. f.file ≢ NoFile → Keeps out.written out_after.written)
   -- the output was not even touched

@@ -3,7 +3,7 @@ ghost use Rattle.std.specs.Prelude.{◌≡◌, ◌+◌, ◌<◌, length, slice_i
 ghost use Rattle.road_files.specs.Asked.{AreQuestionsOf, Question, asked_of};
 ghost use Rattle.batch_run.specs.Answered.{AnsweredAll, WroteNext};
 ghost use Rattle.batch_run.specs.Reports.{ReportedAllOrPrefix, batch_due, question_due};
-ghost use Rattle.batch_run.specs.Ran.{IsLater, by_solver};
+ghost use Rattle.batch_run.specs.Ran.{IsLater};
 ghost use Rattle.batch_run.specs.Solvers.{IsReady, IsSameSolver, graph_of, is_plain};
 
 use crate::batch::Batch;
@@ -37,8 +37,8 @@ fn answer_next<A: PathAlgebra, W: RoadWrite, R: Threads + Wait + Sync, T: Gate, 
         (graph_of solver.old)
         (slice_index_or (asked_of batch.now.questions.now).questions i default)
         (W.written out.old) (W.written out.new) (W.failures out.old) (W.failures out.new) result }
-    ensures later { IfErr result (IsLater (by_solver (is_plain solver.old)
-        batch.now.run.now.settings.now) (T.may_answer batch.now.run.now.gate.now)) }
+    ensures later { IfErr result (IsLater (is_plain solver.old)
+        batch.now.run.now.settings.now (T.may_answer batch.now.run.now.gate.now)) }
     ensures reported { (default : Question) → ReportedAllOrPrefix (A.meaning batch.now.algebra)
         (graph_of solver.old) O.may_become (question_due (is_plain solver.old) (i + 1)
         (slice_index_or (asked_of batch.now.questions.now).questions i default)) watcher.old
@@ -67,8 +67,8 @@ pub fn answer_all<A: PathAlgebra, W: RoadWrite, R: Threads + Wait + Sync, T: Gat
     requires within { AreQuestionsOf (graph_of solver.old).vertices batch.now.questions.now }
     ensures same { IsSameSolver solver.old solver.new }
     ensures answered { AnsweredAll (A.meaning batch.now.algebra) (graph_of solver.old)
-        (asked_of batch.now.questions.now) (IsLater (by_solver (is_plain solver.old)
-        batch.now.run.now.settings.now) (T.may_answer batch.now.run.now.gate.now))
+        (asked_of batch.now.questions.now) (IsLater (is_plain solver.old)
+        batch.now.run.now.settings.now (T.may_answer batch.now.run.now.gate.now))
         (W.written out.old) (W.written out.new) (W.failures out.old) (W.failures out.new) result }
     ensures reported { ReportedAllOrPrefix (A.meaning batch.now.algebra) (graph_of solver.old)
         O.may_become (batch_due (is_plain solver.old) (asked_of batch.now.questions.now).questions)

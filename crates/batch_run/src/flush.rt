@@ -4,7 +4,7 @@ ghost use Rattle.std.specs.Io.KnownBytes.{Keeps};
 ghost use Rattle.road_files.specs.Asked.{AreQuestionsOf, asked_of};
 ghost use Rattle.batch_run.specs.Answered.{WroteAllOrPrefix, WroteWhole};
 ghost use Rattle.batch_run.specs.Reports.{ReportedAllOrPrefix, batch_due};
-ghost use Rattle.batch_run.specs.Ran.{IsPassedOn, IsLater, by_solver};
+ghost use Rattle.batch_run.specs.Ran.{IsPassedOn, IsLater};
 ghost use Rattle.batch_run.specs.Solvers.{graph_of, is_plain};
 
 use crate::answering::answer_all;
@@ -65,8 +65,8 @@ pub(crate) fn answer_and_flush<
         (asked_of batch.now.questions.now) (W.written out.old) (W.written out.new) result }
     ensures passed_on { OnOk result (W.held out.new ≡ []) }
     ensures sound { OnOk result (W.failures out.new ≡ W.failures out.old) }
-    ensures later { IfErr result (λ f. IsLater (by_solver (is_plain solver.old)
-        batch.now.run.now.settings.now) (T.may_answer batch.now.run.now.gate.now) f ×
+    ensures later { IfErr result (λ f. IsLater (is_plain solver.old)
+        batch.now.run.now.settings.now (T.may_answer batch.now.run.now.gate.now) f ×
         (f.number ≡ 42 → W.failures out.old < W.failures out.new)) }
     ensures whole { IfErr result (λ f. f.number ≢ 42 → WroteWhole (A.meaning batch.now.algebra)
         (graph_of solver.old) (asked_of batch.now.questions.now) (W.written out.old)

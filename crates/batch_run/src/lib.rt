@@ -23,6 +23,6 @@ pub use inputs::{BatchInput, BundleInput, PairInput};
 pub use laws::answers_exist;
 pub use run::run_batch;
 pub use settings::{Settings, SolverKind};
-pub use solve::{PlainSolver, Solved, Solver, WorkerSolver};
+pub use solve::{FactorSolver, PlainSolver, Solved, Solver, WorkerSolver};
 pub use watcher::{Report, Unwatched, Watcher};
 pub use worker_fleet::{Driven, Gate, OpenGate, Outcome, drive};

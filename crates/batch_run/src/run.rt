@@ -5,13 +5,14 @@ ghost use Rattle.batch_run.specs.Reports.{Watched};
 ghost use Rattle.batch_run.specs.Runs.{Ran, output};
 ghost use Rattle.batch_run.specs.Ran.{IsRoadNumber};
 ghost use Rattle.batch_run.specs.Solvers.{graph_of, is_plain};
+ghost use Rattle.batch_run.specs.Choice.{without_diffusions};
 
 use crate::batch::{Batch, Run};
 use crate::faults::{File, RunFault, SETTINGS, fault_of_run};
 use crate::flush::answer_and_flush;
 use crate::inputs::BatchInput;
 use crate::settings::SolverKind;
-use crate::solve::{PlainSolver, Solver, WorkerSolver};
+use crate::solve::{FactorSolver, PlainSolver, Solver, WorkerSolver};
 use crate::watcher::Watcher;
 use path_algebra::PathAlgebra;
 use road_files::Questions;
@@ -26,7 +27,7 @@ fn read_batch<V: Copy, I: BatchInput, R, T>(
     run: &Run<'_, R, T>,
     input: &mut I,
 ) -> Result<(Solver<V>, Questions), RunFault>
-    ensures kind { IfOk result (λ r. is_plain r.0 ≡ run.now.settings.now.plain) }
+    ensures kind { IfOk result (λ r. is_plain r.0 ≡ without_diffusions run.now.settings.now) }
     ensures read { IfOk result (λ r. I.is_read input.old (graph_of r.0) (asked_of r.1)) }
     ensures within { IfOk result (λ r. AreQuestionsOf (graph_of r.0).vertices r.1) }
     ensures done { OnOk result (I.has_read input.old input.new (Ok tt)) }
@@ -44,6 +45,13 @@ fn read_batch<V: Copy, I: BatchInput, R, T>(
             };
             Ok((Solver::Plain(PlainSolver::new(alloc, graph)), questions))
         }
+        SolverKind::Factors => {
+            let (graph, questions): (OutGraph, Questions) = match input.read(alloc) {
+                Ok(read) => read,
+                Err(fault) => return Err(fault),
+            };
+            Ok((Solver::Factors(FactorSolver::new(alloc, graph)), questions))
+        }
         SolverKind::Workers => {
             let (graph, questions): (Graph, Questions) = match input.read(alloc) {
                 Ok(read) => read,
@@ -55,18 +63,18 @@ fn read_batch<V: Copy, I: BatchInput, R, T>(
 }
 
 /// Answers the questions of an input over its graph, writes the answers, and reports to a watcher as it goes: that the questions
-/// were read, each diffusion that was gathered, with its counts, and each question that was answered. With `plain` there are no
-/// diffusions. Before a fault of an input nothing is reported.
+/// were read, each diffusion that was gathered, with its counts, and each question that was answered. With `plain` or `factors` there
+/// are no diffusions. Before a fault of an input nothing is reported.
 ///
-/// The settings are tested first (43), then the graph is read and then the questions, and then each question is
+/// The settings are tested first (43), and if they choose factors, whether the algebra has a cost (43 too); then the graph is read and then the questions, and then each question is
 /// answered and written, in order; at last the output is flushed. The first fault in this order is reported. After a
 /// fault of an input nothing has been written; after a later one (3, 40 to 42) a prefix of the answers' text has.
 ///
 /// Questions are run in groups of `width` diffusions, each over its own shards, by workers on threads: worker w turns the
 /// stations of the shards whose number is w modulo `workers`. With `plain` the one-thread solver answers each question, and
-/// one from the sources of the question before it without a new search; `width` searches go side by side on all processors. No
-/// worker is started, the gate is not asked, and the graph is kept with its arcs by tail alone; if the questions are pairs, by head
-/// too.
+/// one that was solved just before, or a pair that labels from its source serve, without a new search; `width` searches go side by
+/// side on all processors. With `factors` the graph is factored when the header is written, and its factors answer. With either no
+/// worker is started, the gate is not asked, and the graph is kept with its arcs by tail alone; for pairs and factors by head too.
 pub fn run_batch<
     A: PathAlgebra,
     I: BatchInput,
@@ -88,7 +96,7 @@ pub fn run_batch<
     ensures watched { Watched (A.meaning algebra) run.now.settings.now (I.is_read input.old)
         O.may_become watcher.old watcher.new result }
 {
-    if !run.settings.are_in_range() {
+    if !run.settings.suit(algebra) {
         return Err(fault_of_run(SETTINGS));
     }
     let (mut solver, questions) = match read_batch(run, input) {

@@ -1,10 +1,11 @@
 //! How a batch is run.
-ghost use Rattle.std.specs.Prelude.{◌≡◌, ◌↔◌, IsTrue, true, false};
+ghost use Rattle.std.specs.Prelude.{◌≡◌, ◌↔◌, ◌⊎◌, IsTrue, true, false};
 ghost use Rattle.shard_store.specs.declared.queue_order.QueueOrder.TheVariants.{Arrival, BestFirst};
 
+use path_algebra::{Cost, PathAlgebra};
 use shard_part::QueueOrder;
 
-/// How a batch is run. The plain solver writes the same bytes whatever settings in range are given.
+/// How a batch is run. The plain solver and factors write the same bytes whatever settings in range are given.
 #[derive(Clone, Copy, Debug, PartialEq, Eq)]
 pub struct Settings {
     /// The number of worker threads, 1 to 64.
@@ -19,8 +20,14 @@ pub struct Settings {
     pub turns: u64,
     /// Whether each question is solved by the one-thread solver.
     pub plain: bool,
+    /// Whether the graph is factored and each question is solved by its factors, whatever `plain` says. The algebra has to have a cost.
+    /// A graph that is too dense or too heavy is left to the one-thread solver.
+    pub factors: bool,
     /// Whether a part takes the best waiting message first, and not what came first.
     pub best_first: bool,
+    /// Best first, by what weight a shard may run ahead of the best message that waits at another: worse ones are held
+    /// back. The mean weight of the arcs, if it is not said.
+    pub ahead: Option<u32>,
 }
 
 /// What answers the questions of a batch.
@@ -28,12 +35,17 @@ pub struct Settings {
 pub enum SolverKind {
     /// A search of its own for each question, on one thread.
     Plain,
+    /// The factors of the graph, which is factored once.
+    Factors,
     /// A diffusing computation from each source, by workers on threads.
     Workers,
 }
 
 impl Settings {
     ghost use Rattle.batch_run.specs.InRange.{AreInRange};
+    ghost use Rattle.path_algebra.specs.Carried.{IsCarried};
+    ghost use Rattle.path_algebra.specs.Counted.{cost_of};
+    ghost use Rattle.batch_run.specs.Choice.{without_diffusions};
 
     /// Whether each setting is in its range.
     pub fn are_in_range(&self) -> bool
@@ -50,12 +62,30 @@ impl Settings {
             && self.turns <= 1_000_000_000_000
     }
 
+    /// Whether each setting is in its range, and factors are chosen only for an algebra that has a cost.
+    pub fn suit<A: PathAlgebra>(&self, algebra: A) -> bool
+        ensures in_range { IsTrue result → AreInRange self.now }
+        ensures costs { IsTrue result → self.now.factors ≡ true → (cost : Cost) × IsCarried (A.meaning algebra) (cost_of cost) }
+        ensures out { result ≡ false → (AreInRange self.now → ⊥) ⊎ (self.now.factors ≡ true) }
+    {
+        if !self.are_in_range() {
+            return false;
+        }
+        if !self.factors {
+            return true;
+        }
+        algebra.cost().is_some()
+    }
+
     /// Which solver answers.
     pub fn solver(&self) -> SolverKind
-        ensures plain { (result ≡ SolverKind.Plain) ↔ (self.now.plain ≡ true) }
-        ensures workers { (result ≡ SolverKind.Workers) ↔ (self.now.plain ≡ false) }
+        ensures factors { (result ≡ SolverKind.Factors) ↔ (self.now.factors ≡ true) }
+        ensures plain { (result ≡ SolverKind.Plain) ↔ ((self.now.factors ≡ false) × (self.now.plain ≡ true)) }
+        ensures workers { (result ≡ SolverKind.Workers) ↔ (without_diffusions self.now ≡ false) }
     {
-        if self.plain {
+        if self.factors {
+            SolverKind::Factors
+        } else if self.plain {
             SolverKind::Plain
         } else {
             SolverKind::Workers
@@ -78,9 +108,9 @@ impl Settings {
 }
 
 impl Default for Settings {
-    ghost use Rattle.std.specs.Prelude.{◌≡◌, false};
+    ghost use Rattle.std.specs.Prelude.{◌≡◌, false, None};
 
-    ghost is_default = { λ s. s ≡ record { workers = 4; shards = 4; width = 1; budget = 1024; turns = 1000000000000; plain = false; best_first = false } };
+    ghost is_default = { λ s. s ≡ record { workers = 4; shards = 4; width = 1; budget = 1024; turns = 1000000000000; plain = false; factors = false; best_first = false; ahead = None } };
 
     fn default() -> Settings {
         Settings {
@@ -90,7 +120,9 @@ impl Default for Settings {
             budget: 1024,
             turns: 1_000_000_000_000,
             plain: false,
+            factors: false,
             best_first: false,
+            ahead: None,
         }
     }
 }

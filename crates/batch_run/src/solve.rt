@@ -1,46 +1,53 @@
 //! How the questions of a batch are solved.
-ghost use Rattle.std.specs.Prelude.{◌≡◌, ◌+◌, ◌<◌, [], ◌∷◌, ℕ, true, length, slice_index_or, IfOk, IfErr, OnOk, IfSome, IsSome, Some};
-ghost use Rattle.road_graph.specs.GraphData.{HasVertex, IsGraph};
-ghost use Rattle.path_algebra.specs.Walks.{AreBest};
+ghost use Rattle.std.specs.Prelude.{◌≡◌, ◌+◌, ◌<◌, true, length, slice_index_or, IfErr, OnOk, IfSome, IsSome, Some};
+ghost use Rattle.road_graph.specs.GraphData.{IsGraph};
 ghost use Rattle.road_files.specs.Asked.{AreQuestionsOf, Question, asked_of};
 ghost use Rattle.worker_fleet.specs.Stops.{Says};
 ghost use Rattle.batch_run.specs.Reports.{ReportedAllOrPrefix, accounts_due};
-ghost use Rattle.batch_run.specs.Solved.{IsRouteFound, IsSolvedFor};
-ghost use Rattle.batch_run.specs.Solvers.{FindsRoutes, IsReady, IsSameSolver, graph_of, is_plain, last_of};
+ghost use Rattle.batch_run.specs.Solved.{IsSolvedFor};
+ghost use Rattle.batch_run.specs.Solvers.{IsReady, IsSameSolver, graph_of, is_plain, last_of};
 
 mod diffusion;
+mod factor_solver;
+mod factors;
 mod group;
 mod merge;
+mod pace;
+mod pair;
+mod pair_labels;
 mod plain;
 mod plain_solver;
 mod queue;
 mod schedule;
+mod searched;
+mod side_by_side;
 mod solved;
 mod upcoming;
 mod workers;
 
 use crate::batch::Batch;
+use crate::solve::factors::{solve_next_by_factors, start_factors};
 use crate::solve::plain::{solve_next_plainly, start_plain};
 use crate::solve::workers::{solve_next_by_workers, start_workers};
 use crate::watcher::Watcher;
-use path_algebra::{Labels, PathAlgebra};
+pub use factor_solver::FactorSolver;
+use path_algebra::PathAlgebra;
 pub use plain_solver::PlainSolver;
-use road_graph::{Memory, Vertex};
-use route_tree::{PairRoute, route_between, route_outgoing};
+use road_graph::Memory;
 pub(crate) use schedule::count_diffusions;
 pub use solved::Solved;
-use std::alloc::Global;
 use std::sync::Wait;
 use std::thread::Threads;
 use worker_fleet::{Gate, GroupFault};
 pub use workers::WorkerSolver;
 
-/// What solves the questions of a batch, one after the other, each to best labels and their tree, or for a pair to a route.
+/// What solves the questions of a batch, one after the other: a pair to its answer, another to best labels and their tree.
 ///
 /// It is an enum and no trait: the method of an `impl` can't call what sends a value of a type parameter to a thread.
 #[derive(Drop)]
 pub enum Solver<V: Copy> {
     Plain(PlainSolver<V>),
+    Factors(FactorSolver<V>),
     Workers(WorkerSolver<V>),
 }
 
@@ -50,7 +57,7 @@ impl<V: Copy> Solver<V> {
         ensures { result ≡ is_plain self.now }
     {
         match self {
-            Solver::Plain(_) => true,
+            Solver::Plain(_) | Solver::Factors(_) => true,
             Solver::Workers(_) => false,
         }
     }
@@ -65,6 +72,10 @@ impl<V: Copy> Solver<V> {
                 solver.graph.holds();
                 solver.graph.vertices()
             }
+            Solver::Factors(solver) => {
+                solver.plain.graph.holds();
+                solver.plain.graph.vertices()
+            }
             Solver::Workers(solver) => {
                 solver.graph.holds();
                 solver.graph.vertices()
@@ -78,7 +89,11 @@ impl<V: Copy> Solver<V> {
         ensures { last_of self.now ≡ Some result.now }
     {
         match self {
-            Solver::Plain(solver) => &solver.solved[solver.last],
+            Solver::Plain(solver) => &solver.last_searched().solved,
+            Solver::Factors(solver) => match &solver.last {
+                Some(solved) => solved,
+                None => &solver.plain.last_searched().solved,
+            },
             Solver::Workers(solver) => {
                 let Some(solved) = &solver.last else {
                     unreachable!()
@@ -100,6 +115,7 @@ pub(crate) fn start<A: PathAlgebra, R, T>(
 {
     match solver {
         Solver::Plain(solver) => start_plain(batch, solver),
+        Solver::Factors(solver) => start_factors(batch, solver),
         Solver::Workers(solver) => start_workers(batch, solver),
     }
 }
@@ -134,35 +150,10 @@ pub(crate) fn solve_next<A: PathAlgebra, R: Threads + Wait + Sync, T: Gate, O: W
             Ok(()) => Ok(()),
             Err(_) => Err(GroupFault::Memory),
         },
+        Solver::Factors(solver) => match solve_next_by_factors(batch, solver, i) {
+            Ok(()) => Ok(()),
+            Err(_) => Err(GroupFault::Memory),
+        },
         Solver::Workers(solver) => solve_next_by_workers(batch, solver, i, watcher),
-    }
-}
-
-/// The route from a source to a target, for labels that are best from that source; none if no walk has a value.
-/// The only error is want of memory.
-pub(crate) fn route<A: PathAlgebra>(
-    alloc: Global,
-    algebra: A,
-    solver: &Solver<A::Value>,
-    pair: (Vertex, Vertex),
-    labels: &Labels<A::Value>,
-) -> Result<Option<PairRoute>, Memory>
-    requires ready { FindsRoutes solver.now }
-    requires source { HasVertex (graph_of solver.now) pair.0 }
-    requires target { HasVertex (graph_of solver.now) pair.1 }
-    requires labels { AreBest (A.meaning algebra) (graph_of solver.now) (pair.0 ∷ []) labels.now }
-    ensures { IfOk result (IsRouteFound (A.meaning algebra) (graph_of solver.now) pair.0 pair.1) }
-{
-    let (source, target) = pair;
-    match solver {
-        Solver::Plain(solver) => {
-            let Some(rows) = &solver.by_head else {
-                unreachable!()
-            };
-            route_outgoing(alloc, algebra, &solver.graph, rows, source, target, labels)
-        }
-        Solver::Workers(solver) => {
-            route_between(alloc, algebra, &solver.graph, source, target, labels)
-        }
     }
 }

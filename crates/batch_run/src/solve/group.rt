@@ -8,15 +8,38 @@ ghost use Rattle.batch_run.specs.Diffusions.{IsEnded, IsGatheredOver, IsPlanOf, 
 
 use crate::batch::BatchOver;
 use crate::solve::diffusion::{EndedDiffusion, GatheredDiffusion, gather_ended};
+use crate::solve::pace::Pace;
 use path_algebra::PathAlgebra;
 use post_floor::Floor;
-use road_graph::{Graph, Vertex};
-use shard_part::{Plan, QueueOrder};
+use road_graph::{Graph, Memory, Vertex};
+use shard_part::Plan;
 use station::{Gathered, Station, open_diffusion};
 use std::alloc::{AllocError, Global};
 use std::sync::Wait;
 use std::thread::Threads;
 use worker_fleet::{Gate, GroupFault, run_group};
+
+/// A floor, and its stations, for a diffusion from a source. Its shards are held back as the pace says.
+fn open_at_pace<'g, A: PathAlgebra>(
+    alloc: Global,
+    algebra: A,
+    graph: &'g Graph,
+    plan: &'g Plan,
+    source: Vertex,
+    pace: Pace,
+) -> Result<(Floor<A>, Vec<Station<'g, A>>), Memory>
+    requires plan { IsPlanOf graph.now plan.now }
+    requires source { HasVertex graph.now source }
+    ensures { IfOk result (λ r. AreOpened A.meaning
+        (setup_of algebra graph.now source plan.now pace.order) r.0 r.1.items) }
+{
+    let opened = open_diffusion(alloc, algebra, graph, plan, source, pace.order)?;
+    let (mut floor, stations) = opened;
+    if let Some(ahead) = pace.ahead {
+        floor.hold_back(ahead);
+    }
+    Ok((floor, stations))
+}
 
 /// A floor, and its stations, for a diffusion from each source, in order.
 fn open_all<'g, A: PathAlgebra>(
@@ -25,21 +48,20 @@ fn open_all<'g, A: PathAlgebra>(
     graph: &'g Graph,
     plan: &'g Plan,
     sources: &[Vertex],
-    order: QueueOrder,
+    pace: Pace,
 ) -> Result<(Vec<Floor<A>>, Vec<Vec<Station<'g, A>>>), AllocError>
     requires plan { IsPlanOf graph.now plan.now }
     requires sources { All (HasVertex graph.now) sources.now }
     ensures floors { IfOk result (λ r. vec_len r.0 ≡ length sources.now) }
     ensures stations { IfOk result (λ r. vec_len r.1 ≡ length sources.now) }
     ensures opened { IfOk result (λ r. (q : ℕ) (s : ℕ) (f : _) (v : _) → q < length sources.now →
-        AreOpened A.meaning (setup_of algebra graph.now (get_or sources.now q s) plan.now order)
+        AreOpened A.meaning (setup_of algebra graph.now (get_or sources.now q s) plan.now pace.order)
         (get_or r.0.items q f) (get_or r.1.items q v).items) }
 {
     let mut floors = Vec::new(alloc);
     let mut lists = Vec::new(alloc);
     for source in sources {
-        let Ok((floor, stations)) = open_diffusion(alloc, algebra, graph, plan, *source, order)
-        else {
+        let Ok((floor, stations)) = open_at_pace(alloc, algebra, graph, plan, *source, pace) else {
             return Err(AllocError);
         };
         floors.push(floor)?;
@@ -112,8 +134,8 @@ pub(crate) fn run_together<A: PathAlgebra, R: Threads + Wait, T: Gate>(
 {
     let (alloc, settings) = (batch.run.alloc, batch.run.settings);
     let (algebra, graph) = (batch.algebra, batch.graph);
-    let order = settings.order();
-    let (mut floors, opened) = open_all(alloc, algebra, graph, plan, sources, order)?;
+    let pace = Pace::of(settings, graph);
+    let (mut floors, opened) = open_all(alloc, algebra, graph, plan, sources, pace)?;
     let mut lists = run_group(
         batch.run.rt,
         alloc,

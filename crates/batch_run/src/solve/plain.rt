@@ -1,156 +1,145 @@
-//! Solves questions by the plain solver, several side by side.
-ghost use Rattle.std.specs.Prelude.{◌≡◌, ◌≢◌, ◌≤◌, ◌<◌, ◌∷◌, List, ℕ, length, slice_get, All, HoldsAt, IfOk, OnOk, IfSome, IsSome};
-ghost use Rattle.std.specs.List.{AllZip};
-ghost use Rattle.road_graph.specs.GraphData.{HasVertex};
-ghost use Rattle.path_algebra.specs.Walks.{AreBest};
-ghost use Rattle.route_tree.specs.Tree.{IsTree};
+//! Solves questions by the plain solver.
+ghost use Rattle.std.specs.Prelude.{◌≡◌, ◌<◌, length, slice_get, All, HoldsAt, IfOk, OnOk, IfSome, IsSome};
+ghost use Rattle.std.specs.Option.{ForSome};
 ghost use Rattle.road_files.specs.Asked.{AreQuestionsOf, asked_of};
 ghost use Rattle.road_files.specs.declared.questions.Kind.TheVariants.{Pairs};
-ghost use Rattle.batch_run.specs.Solved.{IsSolved, IsSolvedAt, IsSolvedFor};
+ghost use Rattle.batch_run.specs.Solved.{AreFromSource, IsSearched, IsSearchedAt, IsSolvedFor};
 ghost use Rattle.batch_run.specs.Solvers.{IsPlainReady};
 
 use crate::batch::{Batch, BatchOver};
+use crate::solve::pair_labels::{PairLabels, answer_along, extended_to};
 use crate::solve::plain_solver::PlainSolver;
-use crate::solve::solved::{Solved, find_same_sources};
-use path_algebra::{Labels, PathAlgebra};
-use path_plain::solve_outgoing;
-use rayon::prelude::*;
-use road_files::{Kind, Questions, are_same};
+use crate::solve::searched::{Searched, add, find_from, find_same};
+use crate::solve::side_by_side::{places_from, search_each};
+use crate::solve::solved::Solved;
+use path_algebra::PathAlgebra;
+use road_files::{Kind, Questions};
 use road_graph::{InGraph, Memory, OutGraph, Vertex};
-use route_tree::Tree;
-use std::alloc::{AllocError, Global};
+use std::alloc::Global;
 use std::thread::Threads;
-use tree_search::solve_with_tree;
 
-/// Best labels from sources, and their tree unless the questions are pairs: one search finds both.
-fn search<A: PathAlgebra>(
-    alloc: Global,
-    algebra: A,
-    graph: &OutGraph,
-    questions: &Questions,
-    sources: &[Vertex],
-) -> Result<(Labels<A::Value>, Option<Tree>), Memory>
-    requires sources { All (HasVertex graph.now) sources.now }
-    ensures labels { IfOk result (λ s. AreBest (A.meaning algebra) graph.now sources.now s.0) }
-    ensures tree { IfOk result
-        (λ s. IfSome s.1 (IsTree (A.meaning algebra) graph.now sources.now)) }
-    ensures kept { IfOk result (λ s. (asked_of questions.now).kind ≢ Pairs → IsSome s.1) }
-{
-    match questions {
-        Questions::Pairs(_) => {
-            let labels = solve_outgoing(alloc, algebra, graph, sources)?;
-            Ok((labels, None))
-        }
-        Questions::Sources(_) | Questions::Multi(_) => {
-            let (labels, tree) = solve_with_tree(alloc, algebra, graph, sources)?;
-            Ok((labels, Some(tree)))
-        }
-    }
-}
-
-/// Best labels of the question at a place by the plain solver, and their tree unless it is a pair.
-fn solve<A: PathAlgebra>(
-    alloc: Global,
-    algebra: A,
-    graph: &OutGraph,
-    questions: &Questions,
-    i: usize,
-) -> Result<Solved<A::Value>, Memory>
-    requires within { AreQuestionsOf graph.now.vertices questions.now }
-    requires place { i < length (asked_of questions.now).questions }
-    ensures { IfOk result (IsSolvedAt (A.meaning algebra) graph.now (asked_of questions.now) i) }
-{
-    let sources = questions.sources(i);
-    let (labels, tree) = search(alloc, algebra, graph, questions, sources)?;
-    Ok(Solved {
-        place: i,
-        labels,
-        tree,
-    })
-}
-
-/// The place of a question, and of those that follow it with other sources than the one before them, as many as `most` in all.
-fn places_from(
-    alloc: Global,
-    questions: &Questions,
-    first: usize,
-    most: usize,
-) -> Result<Vec<usize>, AllocError>
-    requires first { first < length (asked_of questions.now).questions }
-    requires some { 1 ≤ most }
-    ensures first { IfOk result (λ v. (rest : List ℕ) × (v.items ≡ first ∷ rest)) }
-    ensures inside { IfOk result
-        (λ v. All (λ place. place < length (asked_of questions.now).questions) v.items) }
-    ensures few { IfOk result (λ v. length v.items ≤ most) }
-{
-    let mut places = Vec::new(alloc);
-    places.push(first)?;
-    for place in first + 1..questions.len() {
-        if places.len() == most {
-            break;
-        }
-        if !are_same(questions.sources(place - 1), questions.sources(place)) {
-            places.push(place)?;
-        }
-    }
-    Ok(places)
-}
-
-/// Best labels of the questions at several places by the plain solver, and their trees: side by side, on all processors.
-fn solve_each<A: PathAlgebra, R: Threads + Sync, T>(
+/// The labels that are kept from a source, taken from those that were found.
+fn take_labels<A: PathAlgebra, R, T>(
     batch: &BatchOver<'_, A, OutGraph, R, T>,
-    places: &[usize],
-) -> Result<Vec<Solved<A::Value>>, Memory>
-    requires { All (λ place. place < length (asked_of batch.now.questions.now).questions)
-        places.now }
-    ensures { IfOk result (λ v. AllZip (IsSolvedAt (A.meaning batch.now.algebra)
-        batch.now.graph.now (asked_of batch.now.questions.now)) places.now v.items) }
+    searched: &mut Vec<Searched<A::Value>>,
+    source: Vertex,
+) -> Option<PairLabels<A::Value>>
+    requires { All (IsSearched (A.meaning batch.now.algebra) batch.now.graph.now
+        (asked_of batch.now.questions.now)) searched.old.items }
+    ensures source { IfSome result (λ p. p.source ≡ source) }
+    ensures labels { IfSome result (AreFromSource (A.meaning batch.now.algebra) batch.now.graph.now) }
+    ensures searched { All (IsSearched (A.meaning batch.now.algebra) batch.now.graph.now
+        (asked_of batch.now.questions.now)) searched.new.items }
 {
-    let (alloc, algebra) = (batch.run.alloc, batch.algebra);
-    let (graph, questions) = (batch.graph, batch.questions);
-    let solved: Result<Vec<Solved<A::Value>>, Memory> = places
-        .par_iter()
-        .with_min_len(1)
-        .map(
-            |place: &usize| -> Result<Solved<A::Value>, Memory>
-                requires { (place.now < length (asked_of questions.now).questions) ×
-                    AreQuestionsOf graph.now.vertices questions.now }
-                ensures { IfOk result (IsSolvedAt (A.meaning algebra) graph.entry.now
-                    (asked_of questions.entry.now) place.now) }
-            { solve(alloc, algebra, graph, questions, *place) },
-        )
-        .collect(batch.run.rt, alloc)?;
-    solved
+    let _ = batch;
+    let k = find_from(searched.as_slice(), source)?;
+    let Searched { kept, .. } = searched.remove(k);
+    kept
 }
 
-/// Which of those that are solved answers the question at a place. If none has its sources, the plain solver solves it, and side
-/// by side those that follow it with other sources, as many as the width in all; it alone, if memory does not suffice for all.
+/// Solves a pair by labels that are kept from its source, if there are any.
+fn search_on<A: PathAlgebra, R, T>(
+    batch: &BatchOver<'_, A, OutGraph, R, T>,
+    by_head: &Option<InGraph>,
+    i: usize,
+    searched: &mut Vec<Searched<A::Value>>,
+) -> Result<Option<Searched<A::Value>>, Memory>
+    requires place { i < length (asked_of batch.now.questions.now).questions }
+    requires rows { ForSome by_head.now (λ rows. rows ≡ batch.now.graph.now) }
+    requires some { (asked_of batch.now.questions.now).kind ≡ Pairs → IsSome by_head.now }
+    requires searched { All (IsSearched (A.meaning batch.now.algebra) batch.now.graph.now
+        (asked_of batch.now.questions.now)) searched.old.items }
+    ensures solved { IfOk result (λ o. IfSome o (IsSearchedAt (A.meaning batch.now.algebra)
+        batch.now.graph.now (asked_of batch.now.questions.now) i)) }
+    ensures searched { All (IsSearched (A.meaning batch.now.algebra) batch.now.graph.now
+        (asked_of batch.now.questions.now)) searched.new.items }
+{
+    let (alloc, algebra, graph) = (batch.run.alloc, batch.algebra, batch.graph);
+    let Questions::Pairs(pairs) = batch.questions else {
+        return Ok(None);
+    };
+    let Some(rows) = by_head else { unreachable!() };
+    let pair = pairs[i];
+    let Some(found) = take_labels(batch, searched, pair.0) else {
+        return Ok(None);
+    };
+    let kept = extended_to(alloc, algebra, graph, found, pair.1)?;
+    let answer = answer_along(alloc, algebra, (graph, rows), pair, &kept.labels)?;
+    Ok(Some(Searched {
+        place: i,
+        solved: Solved::Answer(answer),
+        kept: Some(kept),
+    }))
+}
+
+/// Solves the question at a place by a search of its own, and side by side those that follow it with other sources, as many as the width
+/// in all; it alone, if memory does not suffice for all.
+fn search_anew<A: PathAlgebra, R: Threads + Sync, T>(
+    batch: &BatchOver<'_, A, OutGraph, R, T>,
+    by_head: &Option<InGraph>,
+    i: usize,
+    searched: &mut Vec<Searched<A::Value>>,
+) -> Result<(), Memory>
+    requires place { i < length (asked_of batch.now.questions.now).questions }
+    requires rows { ForSome by_head.now (λ rows. rows ≡ batch.now.graph.now) }
+    requires some { (asked_of batch.now.questions.now).kind ≡ Pairs → IsSome by_head.now }
+    ensures first { OnOk result (0 < length searched.new.items) }
+    ensures answers { OnOk result (HoldsAt (λ s. IsSolvedFor (A.meaning batch.now.algebra)
+        batch.now.graph.now (asked_of batch.now.questions.now) i s.solved) searched.new.items 0) }
+    ensures searched { All (IsSearched (A.meaning batch.now.algebra) batch.now.graph.now
+        (asked_of batch.now.questions.now)) searched.new.items }
+{
+    searched.clear();
+    let (alloc, questions) = (batch.run.alloc, batch.questions);
+    let places = places_from(alloc, questions, i, batch.run.settings.width as usize)?;
+    if let Ok(group) = search_each(batch, by_head, places.as_slice()) {
+        *searched = group;
+        return Ok(());
+    }
+    *searched = search_each(batch, by_head, &places[..1])?;
+    Ok(())
+}
+
+/// Which of those that were found solves the question at a place; if none does, it is solved, and found with them.
 fn solve_plainly<A: PathAlgebra, R: Threads + Sync, T>(
     batch: &BatchOver<'_, A, OutGraph, R, T>,
+    by_head: &Option<InGraph>,
     i: usize,
-    solved: &mut Vec<Solved<A::Value>>,
+    searched: &mut Vec<Searched<A::Value>>,
 ) -> Result<usize, Memory>
     requires place { i < length (asked_of batch.now.questions.now).questions }
-    requires solved { All (IsSolved (A.meaning batch.now.algebra) batch.now.graph.now
-        (asked_of batch.now.questions.now)) solved.old.items }
-    ensures inside { IfOk result (λ k. k < length solved.new.items) }
-    ensures answers { IfOk result (HoldsAt (IsSolvedFor (A.meaning batch.now.algebra)
-        batch.now.graph.now (asked_of batch.now.questions.now) i) solved.new.items) }
-    ensures solved { All (IsSolved (A.meaning batch.now.algebra) batch.now.graph.now
-        (asked_of batch.now.questions.now)) solved.new.items }
+    requires rows { ForSome by_head.now (λ rows. rows ≡ batch.now.graph.now) }
+    requires some { (asked_of batch.now.questions.now).kind ≡ Pairs → IsSome by_head.now }
+    requires searched { All (IsSearched (A.meaning batch.now.algebra) batch.now.graph.now
+        (asked_of batch.now.questions.now)) searched.old.items }
+    ensures inside { IfOk result (λ k. k < length searched.new.items) }
+    ensures answers { IfOk result (HoldsAt (λ s. IsSolvedFor (A.meaning batch.now.algebra)
+        batch.now.graph.now (asked_of batch.now.questions.now) i s.solved) searched.new.items) }
+    ensures searched { All (IsSearched (A.meaning batch.now.algebra) batch.now.graph.now
+        (asked_of batch.now.questions.now)) searched.new.items }
 {
-    let (alloc, questions) = (batch.run.alloc, batch.questions);
-    if let Some(k) = find_same_sources(solved.as_slice(), questions, i) {
+    if let Some(k) = find_same(searched.as_slice(), batch.questions, i) {
         return Ok(k);
     }
-    solved.clear();
-    let places = places_from(alloc, questions, i, batch.run.settings.width as usize)?;
-    if let Ok(group) = solve_each(batch, places.as_slice()) {
-        *solved = group;
+    let Some(next) = search_on(batch, by_head, i, searched)? else {
+        search_anew(batch, by_head, i, searched)?;
         return Ok(0);
+    };
+    add(searched, next)?;
+    Ok(searched.len() - 1)
+}
+
+/// Makes the rows of arcs by head, unless they are there.
+pub(crate) fn make_rows<V: Copy>(alloc: Global, solver: &mut PlainSolver<V>) -> Result<(), Memory>
+    ensures graph { solver.new.graph ≡ solver.old.graph }
+    ensures searched { solver.new.searched ≡ solver.old.searched }
+    ensures rows { OnOk result (IsSome solver.new.by_head) }
+{
+    if solver.by_head.is_none() {
+        let rows = InGraph::of(alloc, &solver.graph)?;
+        solver.by_head = Some(rows);
     }
-    *solved = solve_each(batch, &places[..1])?;
-    Ok(0)
+    Ok(())
 }
 
 /// Before the first question: forgets what was solved. If the questions are pairs, and the first, makes the rows of arcs by head.
@@ -159,13 +148,13 @@ pub(crate) fn start_plain<A: PathAlgebra, R, T>(
     solver: &mut PlainSolver<A::Value>,
 ) -> Result<(), Memory>
     ensures graph { solver.new.graph ≡ solver.old.graph }
+    ensures rows { OnOk result (IsSome solver.old.by_head → IsSome solver.new.by_head) }
     ensures ready { OnOk result (IsPlainReady (A.meaning batch.now.algebra)
         (asked_of batch.now.questions.now) solver.new) }
 {
-    solver.solved.clear();
-    if batch.questions.kind() == Kind::Pairs && solver.by_head.is_none() {
-        let rows = InGraph::of(batch.run.alloc, &solver.graph)?;
-        solver.by_head = Some(rows);
+    solver.searched.clear();
+    if batch.questions.kind() == Kind::Pairs {
+        make_rows(batch.run.alloc, solver)?;
     }
     Ok(())
 }
@@ -181,12 +170,13 @@ pub(crate) fn solve_next_plainly<A: PathAlgebra, R: Threads + Sync, T>(
     requires ready { IsPlainReady (A.meaning batch.now.algebra) (asked_of batch.now.questions.now)
         solver.old }
     ensures graph { solver.new.graph ≡ solver.old.graph }
+    ensures rows { solver.new.by_head ≡ solver.old.by_head }
     ensures ready { IsPlainReady (A.meaning batch.now.algebra) (asked_of batch.now.questions.now)
         solver.new }
-    ensures some { OnOk result (IsSome (slice_get solver.new.solved.items solver.new.last)) }
-    ensures solved { OnOk result (IfSome (slice_get solver.new.solved.items solver.new.last)
-        (IsSolvedFor (A.meaning batch.now.algebra) solver.old.graph
-        (asked_of batch.now.questions.now) i)) }
+    ensures some { OnOk result (IsSome (slice_get solver.new.searched.items solver.new.last)) }
+    ensures solved { OnOk result (IfSome (slice_get solver.new.searched.items solver.new.last)
+        (λ s. IsSolvedFor (A.meaning batch.now.algebra) solver.old.graph
+        (asked_of batch.now.questions.now) i s.solved)) }
 {
     let search = BatchOver {
         run: batch.run,
@@ -194,7 +184,7 @@ pub(crate) fn solve_next_plainly<A: PathAlgebra, R: Threads + Sync, T>(
         graph: &solver.graph,
         questions: batch.questions,
     };
-    let k = solve_plainly(&search, i, &mut solver.solved)?;
+    let k = solve_plainly(&search, &solver.by_head, i, &mut solver.searched)?;
     solver.last = k;
     Ok(())
 }

@@ -1,19 +1,25 @@
 //! Solves questions by workers, one diffusion for each source.
-ghost use Rattle.std.specs.Prelude.{◌≡◌, ◌+◌, ◌<◌, length, slice_index_or, false, IfOk, IfErr, OnOk, IfSome, IsSome};
-ghost use Rattle.road_files.specs.Asked.{AreQuestionsOf, Question, asked_of};
+ghost use Rattle.std.specs.Prelude.{◌≡◌, ◌+◌, ◌<◌, [], ◌∷◌, length, slice_index_or, false, IfOk, IfErr, OnOk, IfSome, IsSome};
+ghost use Rattle.road_graph.specs.GraphData.{HasVertex};
+ghost use Rattle.path_algebra.specs.Walks.{AreBest};
+ghost use Rattle.road_files.specs.Asked.{AreQuestionsOf, Question, asked_of, sources_of};
 ghost use Rattle.worker_fleet.specs.Stops.{Says};
 ghost use Rattle.batch_run.specs.Diffusions.{AreNext, sources_to_come};
 ghost use Rattle.batch_run.specs.Reports.{ReportedAllOrPrefix, accounts_due};
-ghost use Rattle.batch_run.specs.Solved.{IsSolvedAt, IsSolvedFor};
+ghost use Rattle.batch_run.specs.Solved.{IsAnswerBetween, IsSolvedFor};
 ghost use Rattle.batch_run.specs.Solvers.{IsWorkerReady};
 
 use crate::batch::{Batch, BatchOver};
 use crate::solve::merge::merge_all;
+use crate::solve::pair::{answer_by, code_at};
 use crate::solve::queue::DiffusionQueue;
-use crate::solve::solved::{Solved, tree_unless_pair};
+use crate::solve::solved::Solved;
 use crate::watcher::Watcher;
-use path_algebra::PathAlgebra;
-use road_graph::{Graph, Memory};
+use answer_text::Answer;
+use path_algebra::{Labels, PathAlgebra};
+use road_files::Questions;
+use road_graph::{Graph, Memory, Vertex};
+use route_tree::{route_between, tree_outgoing};
 use shard_part::Plan;
 use std::alloc::Global;
 use std::sync::Wait;
@@ -30,7 +36,52 @@ pub struct WorkerSolver<V: Copy> {
     pub(crate) last: Option<Solved<V>>,
 }
 
-/// Best labels of the question at a place by workers, and their tree unless it is a pair. The diffusions are reported.
+/// The answer to a pair, by best labels from its source.
+fn answer_between<A: PathAlgebra>(
+    alloc: Global,
+    algebra: A,
+    graph: &Graph,
+    pair: (Vertex, Vertex),
+    labels: &Labels<A::Value>,
+) -> Result<Answer, Memory>
+    requires source { HasVertex graph.now pair.0 }
+    requires target { HasVertex graph.now pair.1 }
+    requires labels { AreBest (A.meaning algebra) graph.now (pair.0 ∷ []) labels.now }
+    ensures { IfOk result (IsAnswerBetween (A.meaning algebra) graph.now pair.0 pair.1) }
+{
+    let (source, target) = pair;
+    let route = route_between(alloc, algebra, graph, source, target, labels)?;
+    Ok(answer_by(algebra, pair, code_at(algebra, labels, target), route))
+}
+
+/// Solves the question at a place by best labels from its sources.
+fn solve_by_labels<A: PathAlgebra, R, T>(
+    batch: &BatchOver<'_, A, Graph, R, T>,
+    i: usize,
+    labels: Labels<A::Value>,
+) -> Result<Solved<A::Value>, Memory>
+    requires place { i < length (asked_of batch.now.questions.now).questions }
+    requires labels { (default : Question) → AreBest (A.meaning batch.now.algebra)
+        batch.now.graph.now
+        (sources_of (slice_index_or (asked_of batch.now.questions.now).questions i default)) labels }
+    ensures { IfOk result (IsSolvedFor (A.meaning batch.now.algebra) batch.now.graph.now
+        (asked_of batch.now.questions.now) i) }
+{
+    let (alloc, algebra, graph) = (batch.run.alloc, batch.algebra, batch.graph);
+    match batch.questions {
+        Questions::Pairs(pairs) => {
+            let answer = answer_between(alloc, algebra, graph, pairs[i], &labels)?;
+            Ok(Solved::Answer(answer))
+        }
+        _ => {
+            let sources = batch.questions.sources(i);
+            let tree = tree_outgoing(alloc, algebra, graph.outgoing(), sources, &labels)?;
+            Ok(Solved::Tree { labels, tree })
+        }
+    }
+}
+
+/// Solves the question at a place by workers. The diffusions are reported.
 fn solve_by_workers<A: PathAlgebra, R: Threads + Wait, T: Gate, O: Watcher>(
     batch: &BatchOver<'_, A, Graph, R, T>,
     queue: &mut DiffusionQueue<A::Value>,
@@ -40,7 +91,7 @@ fn solve_by_workers<A: PathAlgebra, R: Threads + Wait, T: Gate, O: Watcher>(
     requires place { i < length (asked_of batch.now.questions.now).questions }
     requires ready { AreNext (A.meaning batch.now.algebra) batch.now.graph.now
         (sources_to_come (asked_of batch.now.questions.now).questions i 0) queue.old }
-    ensures solved { IfOk result (IsSolvedAt (A.meaning batch.now.algebra) batch.now.graph.now
+    ensures solved { IfOk result (IsSolvedFor (A.meaning batch.now.algebra) batch.now.graph.now
         (asked_of batch.now.questions.now) i) }
     ensures ready { OnOk result (AreNext (A.meaning batch.now.algebra) batch.now.graph.now
         (sources_to_come (asked_of batch.now.questions.now).questions (i + 1) 0) queue.new) }
@@ -52,23 +103,10 @@ fn solve_by_workers<A: PathAlgebra, R: Threads + Wait, T: Gate, O: Watcher>(
         watcher.new result }
 {
     let labels = merge_all(batch, queue, i, watcher)?;
-    let sources = batch.questions.sources(i);
-    let (alloc, graph) = (batch.run.alloc, batch.graph.outgoing());
-    let Ok(tree) = tree_unless_pair(
-        alloc,
-        batch.algebra,
-        graph,
-        batch.questions,
-        sources,
-        &labels,
-    ) else {
-        return Err(GroupFault::Memory);
-    };
-    Ok(Solved {
-        place: i,
-        labels,
-        tree,
-    })
+    match solve_by_labels(batch, i, labels) {
+        Ok(solved) => Ok(solved),
+        Err(_) => Err(GroupFault::Memory),
+    }
 }
 
 impl<V: Copy> WorkerSolver<V> {

@@ -1,15 +1,12 @@
 //! Writes answers a line at a time: one of all vertices takes no memory but its labels and its tree.
-ghost use Rattle.std.specs.Prelude.{◌≡◌, ℕ, Option, length, option_map};
+ghost use Rattle.std.specs.Prelude.{◌≡◌, ℕ, Option, length};
 ghost use Rattle.road_text.specs.Texts.{text_of};
 ghost use Rattle.road_text.specs.Written.{WritesText};
 ghost use Rattle.answer_text.specs.AnswerText.{answer_text, vertex_lines};
-ghost use Rattle.answer_text.specs.AnswerData.{SourceAnswer, PairAnswer, SourcesAnswer, found_of};
+ghost use Rattle.answer_text.specs.AnswerData.{SourceAnswer, SourcesAnswer};
 ghost use Rattle.batch_run.specs.WrittenLines.{written_line, written_lines};
 
-use answer_text::{
-    Answer, Found, Reached, VertexLine, write_answer, write_source_line, write_sources_line,
-    write_vertex_line,
-};
+use answer_text::{Reached, VertexLine, write_source_line, write_sources_line, write_vertex_line};
 use path_algebra::{Labels, PathAlgebra};
 use road_graph::Vertex;
 use road_text::{RoadWrite, WriteFault};
@@ -60,24 +57,6 @@ fn write_lines<A: PathAlgebra, W: RoadWrite>(
         write_vertex_line(to, &mut text, u64::from(v) + 1, line)?;
     }
     Ok(())
-}
-
-/// Writes the answer to a question from one vertex to another.
-pub(crate) fn write_pair<W: RoadWrite>(
-    to: &mut W,
-    source: Vertex,
-    target: Vertex,
-    found: Option<Found>,
-) -> Result<(), WriteFault>
-    ensures { WritesText W.written W.failures to.old to.new
-        (answer_text (PairAnswer source target (option_map found_of found))) result }
-{
-    let answer = Answer::Pair {
-        source,
-        target,
-        found,
-    };
-    write_answer(to, &answer)
 }
 
 /// Writes the answer to a question from one source.

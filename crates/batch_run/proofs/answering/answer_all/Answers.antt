@@ -2,7 +2,7 @@ use Rattle.std.proofs.Common.{rules, refl, ap, subst, get_or, inl, inr, Err, ◌
 use Rattle.road_graph.specs.GraphData.{GraphData}
 use Rattle.road_files.specs.Asked.{asked_of, FromSource}
 use Rattle.batch_run.specs.Answered.{WroteNext}
-use Rattle.batch_run.specs.Ran.{IsLater, by_solver}
+use Rattle.batch_run.specs.Ran.{IsLater}
 use Rattle.batch_run.specs.Reports.{count_diffusions}
 use Rattle.batch_run.specs.Solvers.{graph_of, is_plain}
 use Rattle.batch_run.proofs.Progress.{start, answered, stopped_first, stopped_at, stopped_for_memory, all_answered}
@@ -14,7 +14,7 @@ begin-requires-after_bounds g c κs within = ((graph_of c.args.solver.now).verti
 
 pub returns-in-Err-clause-answered : goal.returns-in-Err-clause-answered
 returns-in-Err-clause-answered g c = stopped_first (g.A.PathAlgebra.meaning c.args.batch.now.algebra) (graph_of c.args.solver.now) (asked_of c.args.batch.now.questions.now)
-    (IsLater (by_solver (is_plain c.args.solver.now) c.args.batch.now.run.now.settings.now) (g.T.Gate.may_answer c.args.batch.now.run.now.gate.now)) _ _ _ _ c.in-Err.fault (rw c.in-Err.ensures.wrote.0 (refl, refl, inr (inr (inr refl)))) c.in-Err.ensures.wrote
+    (IsLater (is_plain c.args.solver.now) c.args.batch.now.run.now.settings.now (g.T.Gate.may_answer c.args.batch.now.run.now.gate.now)) _ _ _ _ c.in-Err.fault (rw c.in-Err.ensures.wrote.0 (refl, refl, inr (inr (inr refl)))) c.in-Err.ensures.wrote
 
 pub returns-in-Err-clause-reported : goal.returns-in-Err-clause-reported
 returns-in-Err-clause-reported g c = prefix_kept (g.A.PathAlgebra.meaning c.args.batch.now.algebra) (graph_of c.args.solver.now) g.O.Watcher.may_become _ _ _ c.in-Err.ensures.unreported
@@ -22,7 +22,7 @@ returns-in-Err-clause-reported g c = prefix_kept (g.A.PathAlgebra.meaning c.args
 pub returns-in_default-clause-answered : goal.returns-in_default-clause-answered
 returns-in_default-clause-answered g c =
     stopped_for_memory (g.A.PathAlgebra.meaning c.args.batch.now.algebra) (graph_of c.args.solver.now) (asked_of c.args.batch.now.questions.now)
-    (IsLater (by_solver (is_plain c.args.solver.now) c.args.batch.now.run.now.settings.now) (g.T.Gate.may_answer c.args.batch.now.run.now.gate.now)) _ _ _ _ 0 _ c.fault_of_run.ensures (refl, refl, inl refl)
+    (IsLater (is_plain c.args.solver.now) c.args.batch.now.run.now.settings.now (g.T.Gate.may_answer c.args.batch.now.run.now.gate.now)) _ _ _ _ 0 _ c.fault_of_run.ensures (refl, refl, inl refl)
     (start (g.A.PathAlgebra.meaning c.args.batch.now.algebra) (graph_of c.args.solver.now) (asked_of c.args.batch.now.questions.now) _ _ _ _ c.in-Ok.ensures.wrote)
 
 pub returns-in_default-clause-reported : goal.returns-in_default-clause-reported
@@ -65,7 +65,7 @@ returns-in-Err-answer_next-clause-answered g c =
     let was = c.loop-i.invariant in
     let next = c.in-Err-answer_next.ensures in
     stopped_at (g.A.PathAlgebra.meaning c.args.batch.now.algebra) (graph_of c.args.solver.now) (asked_of c.args.batch.now.questions.now) c.loop-i.i _ _ _ _ _ _ (search rules) (FromSource 0) was.progress
-    (IsLater (by_solver (is_plain c.args.solver.now) c.args.batch.now.run.now.settings.now) (g.T.Gate.may_answer c.args.batch.now.run.now.gate.now)) c.in-Err-answer_next.fault (rw was.same.kind at next.later)
+    (IsLater (is_plain c.args.solver.now) c.args.batch.now.run.now.settings.now (g.T.Gate.may_answer c.args.batch.now.run.now.gate.now)) c.in-Err-answer_next.fault (rw was.same.kind at next.later)
     (subst (λ (r : GraphData). WroteNext (g.A.PathAlgebra.meaning c.args.batch.now.algebra) r (get_or (asked_of c.args.batch.now.questions.now).questions c.loop-i.i (FromSource 0))
     (g.W.RoadWrite.written c.loop-i.out) (g.W.RoadWrite.written c.answer_next.new.out) (g.W.RoadWrite.failures c.loop-i.out) (g.W.RoadWrite.failures c.answer_next.new.out)
     (Err c.in-Err-answer_next.fault)) was.same.graph (next.wrote (FromSource 0)))
@@ -79,7 +79,7 @@ returns-in-Err-answer_next-clause-reported g c =
 
 pub returns-clause-answered : goal.returns-clause-answered
 returns-clause-answered g c = all_answered (g.A.PathAlgebra.meaning c.args.batch.now.algebra) (graph_of c.args.solver.now) (asked_of c.args.batch.now.questions.now)
-    (IsLater (by_solver (is_plain c.args.solver.now) c.args.batch.now.run.now.settings.now) (g.T.Gate.may_answer c.args.batch.now.run.now.gate.now)) c.loop-i.i _ _ _ _ (search rules) c.loop-i.invariant.progress
+    (IsLater (is_plain c.args.solver.now) c.args.batch.now.run.now.settings.now (g.T.Gate.may_answer c.args.batch.now.run.now.gate.now)) c.loop-i.i _ _ _ _ (search rules) c.loop-i.invariant.progress
 
 pub returns-clause-reported : goal.returns-clause-reported
 returns-clause-reported g c = reports_ended (g.A.PathAlgebra.meaning c.args.batch.now.algebra) (graph_of c.args.solver.now) g.O.Watcher.may_become (is_plain c.args.solver.now)

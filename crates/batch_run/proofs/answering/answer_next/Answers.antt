@@ -2,7 +2,6 @@ use Rattle.std.proofs.Common.{◌+◌, refl, subst, get_or, Err}
 use Rattle.road_graph.specs.GraphData.{GraphData}
 use Rattle.road_files.specs.Asked.{asked_of}
 use Rattle.batch_run.specs.Answered.{WroteAnswer}
-use Rattle.batch_run.specs.Ran.{by_solver}
 use Rattle.batch_run.specs.Solvers.{graph_of, is_plain}
 use Rattle.batch_run.proofs.Progress.{group_later, answer_later, not_solved, not_written}
 use Rattle.batch_run.proofs.Reporting.{question_answered, question_begun, question_solved}
@@ -34,7 +33,7 @@ returns-in-Err-answer_at-clause-wrote g c = λ d. rw c.fault_of_answer.ensures
 
 pub returns-in-Err-answer_at-clause-later : goal.returns-in-Err-answer_at-clause-later
 returns-in-Err-answer_at-clause-later g c = rw c.fault_of_answer.ensures
-    (answer_later (by_solver (is_plain c.args.solver.now) c.args.batch.now.run.now.settings.now) (g.T.Gate.may_answer c.args.batch.now.run.now.gate.now) c.in-Err-answer_at.unanswered)
+    (answer_later (is_plain c.args.solver.now) c.args.batch.now.run.now.settings.now (g.T.Gate.may_answer c.args.batch.now.run.now.gate.now) c.in-Err-answer_at.unanswered)
 
 pub returns-in-Err-answer_at-clause-reported : goal.returns-in-Err-answer_at-clause-reported
 returns-in-Err-answer_at-clause-reported g c = λ d. question_solved (g.A.PathAlgebra.meaning c.args.batch.now.algebra) (graph_of c.args.solver.now) g.O.Watcher.may_become (is_plain c.args.solver.now) (is_plain c.args.solver.now) refl (c.args.i + 1) (get_or (asked_of c.args.batch.now.questions.now).questions c.args.i d) _ _ (c.in-Ok.ensures.reported d)

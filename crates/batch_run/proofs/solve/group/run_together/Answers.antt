@@ -17,7 +17,7 @@ pub run_group-requires-clause-own : goal.run_group-requires-clause-own
 run_group-requires-clause-own g c κs within =
     let at = (goal.at.run_group-requires-clause-own g c).In_ok-floors in
     λ q d low. rw c.as_slice.ensures.value
-    (opened_placed g.A.PathAlgebra.meaning (λ q. setup_of c.args.batch.now.algebra c.args.batch.now.graph.now (get_or c.args.sources.now q 0) c.args.plan.now c.order-order.result)
+    (opened_placed g.A.PathAlgebra.meaning (λ q. setup_of c.args.batch.now.algebra c.args.batch.now.graph.now (get_or c.args.sources.now q 0) c.args.plan.now c.of-pace.result.order)
     c.in_ok-floors.floors.items c.in_ok-floors.opened.items
     (length c.args.sources.now) (floors_are g at) (λ q f v low. c.in_ok-floors.ensures.opened q 0 f v low) q d (rw c.in_ok-floors.ensures.stations at low))
 
@@ -30,9 +30,9 @@ loop-k-init g c =
       floors = omega (arith, f);
       lists = omega (arith, l);
       each = (
-        c.order-order.result,
+        c.of-pace.result.order,
         λ q s e v low.
-            run_ended g.A.PathAlgebra.meaning (λ q. setup_of c.args.batch.now.algebra c.args.batch.now.graph.now (get_or c.args.sources.now q s) c.args.plan.now c.order-order.result)
+            run_ended g.A.PathAlgebra.meaning (λ q. setup_of c.args.batch.now.algebra c.args.batch.now.graph.now (get_or c.args.sources.now q s) c.args.plan.now c.of-pace.result.order)
             c.in_ok-floors.floors.items c.in_ok-floors.opened.items
             (length c.args.sources.now) f (λ q f v low. c.in_ok-floors.ensures.opened q s f v low) c.in_ok-lists.lists.items
             (λ q k d e low. c.in_ok-lists.ensures.all q k d e (rw c.in_ok-floors.ensures.stations low))

@@ -1,5 +1,5 @@
 use Rattle.road_files.specs.Asked.{asked_of}
-use Rattle.batch_run.proofs.SameSources.{held_answers}
+use Rattle.batch_run.proofs.Searches.{held_answers}
 use Rattle.batch_run.proofs.solve.plain.solve_next_plainly.Goals as goal
 
 pub returns-clause-solved : goal.returns-clause-solved

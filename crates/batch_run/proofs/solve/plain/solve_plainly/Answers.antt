@@ -1,45 +1,19 @@
-use Rattle.std.proofs.Common.{length, take, ◌∙◌, [], ◌<◌, sym, subst, ap}
-use Rattle.std.specs.List.{All}
-use Rattle.std.proofs.lemmas.List.Elements.{All-nil, All-cons}
+use Rattle.std.proofs.Common.{arith}
 use Rattle.road_files.specs.Asked.{asked_of}
-use Rattle.batch_run.proofs.SameSources.{like_answers, all_own, first_answers}
+use Rattle.batch_run.proofs.Searches.{all_added, last_answers, like_answers}
 use Rattle.batch_run.proofs.solve.plain.solve_plainly.Goals as goal
 
 pub returns-in-Some-clause-answers : goal.returns-in-Some-clause-answers
 returns-in-Some-clause-answers g c =
-    like_answers (g.A.PathAlgebra.meaning c.args.batch.now.algebra) c.args.batch.now.graph.now (asked_of c.args.batch.now.questions.now) c.args.i c.in-Some.k c.as_slice.result.now c.args.solved.now.items
-    c.as_slice.ensures.value c.requires.solved c.in-Some.ensures.inside c.in-Some.ensures.same
-
-pub returns-in-Ok-clause-inside : goal.returns-in-Ok-clause-inside
-returns-in-Ok-clause-inside g c =
-    (first_answers (g.A.PathAlgebra.meaning c.args.batch.now.algebra) c.args.batch.now.graph.now (asked_of c.args.batch.now.questions.now) c.args.i c.in_ok-places.ensures.first.0 c.as_slice-2.result.now c.in-Ok.group.items
-    (c.as_slice-2.ensures.value ∙ c.in_ok-places.ensures.first.1) c.in-Ok.ensures).0
-
-pub returns-in-Ok-clause-answers : goal.returns-in-Ok-clause-answers
-returns-in-Ok-clause-answers g c =
-    (first_answers (g.A.PathAlgebra.meaning c.args.batch.now.algebra) c.args.batch.now.graph.now (asked_of c.args.batch.now.questions.now) c.args.i c.in_ok-places.ensures.first.0 c.as_slice-2.result.now c.in-Ok.group.items
-    (c.as_slice-2.ensures.value ∙ c.in_ok-places.ensures.first.1) c.in-Ok.ensures).1
-
-pub returns-in-Ok-clause-solved : goal.returns-in-Ok-clause-solved
-returns-in-Ok-clause-solved g c =
-    let asked = asked_of c.args.batch.now.questions.now in
-    all_own (g.A.PathAlgebra.meaning c.args.batch.now.algebra) c.args.batch.now.graph.now asked c.as_slice-2.result.now c.in-Ok.group.items
-    (subst (All (λ k. k < length asked.questions)) (sym c.as_slice-2.ensures.value) c.in_ok-places.ensures.inside) c.in-Ok.ensures
-
-pub returns-clause-inside : goal.returns-clause-inside
-returns-clause-inside g c =
-    let one = ap (take 1) (c.deref.ensures.value ∙ c.in_ok-places.ensures.first.1) in
-    (first_answers (g.A.PathAlgebra.meaning c.args.batch.now.algebra) c.args.batch.now.graph.now (asked_of c.args.batch.now.questions.now) c.args.i [] _ c.in_ok-solved.field-0.items one c.in_ok-solved.ensures).0
+    like_answers (g.A.PathAlgebra.meaning c.args.batch.now.algebra) c.args.batch.now.graph.now (asked_of c.args.batch.now.questions.now) c.args.i c.in-Some.k c.as_slice.result.now c.args.searched.now.items
+    c.as_slice.ensures.value c.requires.searched c.in-Some.ensures.inside c.in-Some.ensures.same
 
 pub returns-clause-answers : goal.returns-clause-answers
 returns-clause-answers g c =
-    let one = ap (take 1) (c.deref.ensures.value ∙ c.in_ok-places.ensures.first.1) in
-    (first_answers (g.A.PathAlgebra.meaning c.args.batch.now.algebra) c.args.batch.now.graph.now (asked_of c.args.batch.now.questions.now) c.args.i [] _ c.in_ok-solved.field-0.items one c.in_ok-solved.ensures).1
+    last_answers (g.A.PathAlgebra.meaning c.args.batch.now.algebra) c.args.batch.now.graph.now (asked_of c.args.batch.now.questions.now) c.args.i c.in-Some-2.next _ _ c.in_ok-add.ensures.added
+    (rw c.in-Some-2.is at c.in_ok-next.ensures.solved) c.len.result (omega (arith, c.len.ensures, c.add.new.searched.ok.0))
 
-pub returns-clause-solved : goal.returns-clause-solved
-returns-clause-solved g c =
-    let asked = asked_of c.args.batch.now.questions.now in
-    let one = ap (take 1) (c.deref.ensures.value ∙ c.in_ok-places.ensures.first.1) in
-    let inside = All-cons (λ k. k < length asked.questions) c.args.i [] c.requires.place (All-nil (λ k. k < length asked.questions)) in
-    all_own (g.A.PathAlgebra.meaning c.args.batch.now.algebra) c.args.batch.now.graph.now asked _ c.in_ok-solved.field-0.items
-    (subst (All (λ k. k < length asked.questions)) (sym one) inside) c.in_ok-solved.ensures
+pub returns-clause-searched : goal.returns-clause-searched
+returns-clause-searched g c =
+    all_added (g.A.PathAlgebra.meaning c.args.batch.now.algebra) c.args.batch.now.graph.now (asked_of c.args.batch.now.questions.now) c.args.i c.in-Some-2.next _ _ c.in_ok-add.ensures.added
+    (rw c.in-Some-2.is at c.in_ok-next.ensures.solved) c.requires.place c.in_ok-next.ensures.searched

@@ -1,45 +1,25 @@
-use Rattle.std.proofs.Common.{arith}
-use Rattle.road_files.specs.Asked.{FromSource}
-use Rattle.road_files.proofs.QuestionLaws.{in_sources, in_pairs, in_lists, source_at, pair_at, list_at}
-use Rattle.batch_run.proofs.QuestionKinds.{sources_no_pairs, lists_no_pairs}
+use Rattle.std.proofs.lemmas.Result.{err_from_is_err_and}
+use Rattle.road_files.specs.Asked.{asked_of}
+use Rattle.answer_text.specs.AnswerData.{answer_data}
+use Rattle.batch_run.specs.Solved.{IsSolvedFor}
+use Rattle.batch_run.specs.Solvers.{graph_of}
 use Rattle.batch_run.proofs.write.answer.answer_at.Goals as goal
 
-pub kept_tree-tree-requires : goal.kept_tree-tree-requires
-kept_tree-tree-requires g c = ((rw c.last-solved.ensures at c.requires.solved) (FromSource 0)).kept (sources_no_pairs c.args.batch.now.questions.now c.in-Sources.sources c.in-Sources.is)
+pub answer_by_tree-requires-clause-solved : goal.answer_by_tree-requires-clause-solved
+answer_by_tree-requires-clause-solved g c κs within =
+    let held : IsSolvedFor (g.A.PathAlgebra.meaning c.args.batch.now.algebra) (graph_of c.args.solver.now) (asked_of c.args.batch.now.questions.now) c.args.i c.last.result.now =
+    rw c.last.ensures at c.requires.solved in
+    λ d. rw c.in-Tree.is at (held d)
 
-pub index-requires : goal.index-requires
-index-requires g c = let low = in_sources c.args.batch.now.questions.now c.args.i c.in-Sources.sources c.in-Sources.is c.requires.place in omega (arith, low, c.in-Sources.sources.ok.0)
+pub returns-in_err-write_answer-in-Answer : goal.returns-in_err-write_answer-in-Answer
+returns-in_err-write_answer-in-Answer g c =
+    let held : IsSolvedFor (g.A.PathAlgebra.meaning c.args.batch.now.algebra) (graph_of c.args.solver.now) (asked_of c.args.batch.now.questions.now) c.args.i c.last.result.now =
+    rw c.last.ensures at c.requires.solved in
+    let fault = err_from_is_err_and c.from_residual.result c.from_residual.ensures.1 in
+    λ d. rw (fault.1, fault.2) (answer_data c.in-Answer.answer, rw c.in-Answer.is at (held d), c.in_err-write_answer-in-Answer.ensures)
 
-pub index-requires-in-Pairs : goal.index-requires-in-Pairs
-index-requires-in-Pairs g c = let low = in_pairs c.args.batch.now.questions.now c.args.i c.in-Pairs.pairs c.in-Pairs.is c.requires.place in omega (arith, low, c.in-Pairs.pairs.ok.0)
-
-pub index-requires-in-Multi : goal.index-requires-in-Multi
-index-requires-in-Multi g c = let low = in_lists c.args.batch.now.questions.now c.args.i c.in-Multi.lists c.in-Multi.is c.requires.place in omega (arith, low, c.in-Multi.lists.ok.0)
-
-pub answer_source-requires-clause-labels : goal.answer_source-requires-clause-labels
-answer_source-requires-clause-labels g c κs within =
-    let at = source_at c.args.batch.now.questions.now c.args.i c.in-Sources.sources c.index.result.now c.in-Sources.is c.requires.place c.index.ensures (FromSource 0) in
-    rw at at ((rw c.last-solved.ensures at c.requires.solved) (FromSource 0)).labels
-
-pub answer_source-requires-clause-tree : goal.answer_source-requires-clause-tree
-answer_source-requires-clause-tree g c κs within =
-    let at = source_at c.args.batch.now.questions.now c.args.i c.in-Sources.sources c.index.result.now c.in-Sources.is c.requires.place c.index.ensures (FromSource 0) in
-    rw (at, c.kept_tree-tree.ensures) at ((rw c.last-solved.ensures at c.requires.solved) (FromSource 0)).tree
-
-pub answer_pair-requires-clause-labels : goal.answer_pair-requires-clause-labels
-answer_pair-requires-clause-labels g c κs within =
-    let at = pair_at c.args.batch.now.questions.now c.args.i c.in-Pairs.pairs c.index-in-Pairs.result.now c.in-Pairs.is c.requires.place c.index-in-Pairs.ensures (FromSource 0) in
-    rw at at ((rw c.last-solved.ensures at c.requires.solved) (FromSource 0)).labels
-
-pub kept_tree-tree-requires-in-Multi : goal.kept_tree-tree-requires-in-Multi
-kept_tree-tree-requires-in-Multi g c = ((rw c.last-solved.ensures at c.requires.solved) (FromSource 0)).kept (lists_no_pairs c.args.batch.now.questions.now c.in-Multi.lists c.in-Multi.is)
-
-pub answer_sources-requires-clause-labels : goal.answer_sources-requires-clause-labels
-answer_sources-requires-clause-labels g c κs within =
-    let at = list_at c.args.batch.now.questions.now c.args.i c.in-Multi.lists c.index-in-Multi.result.now c.in-Multi.is c.requires.place c.index-in-Multi.ensures (FromSource 0) in
-    rw c.as_slice.ensures.value (rw at at ((rw c.last-solved.ensures at c.requires.solved) (FromSource 0)).labels)
-
-pub answer_sources-requires-clause-tree : goal.answer_sources-requires-clause-tree
-answer_sources-requires-clause-tree g c κs within =
-    let at = list_at c.args.batch.now.questions.now c.args.i c.in-Multi.lists c.index-in-Multi.result.now c.in-Multi.is c.requires.place c.index-in-Multi.ensures (FromSource 0) in
-    rw c.as_slice.ensures.value (rw (at, c.kept_tree-tree-in-Multi.ensures) at ((rw c.last-solved.ensures at c.requires.solved) (FromSource 0)).tree)
+pub returns-in_ok-write_answer-in-Answer : goal.returns-in_ok-write_answer-in-Answer
+returns-in_ok-write_answer-in-Answer g c =
+    let held : IsSolvedFor (g.A.PathAlgebra.meaning c.args.batch.now.algebra) (graph_of c.args.solver.now) (asked_of c.args.batch.now.questions.now) c.args.i c.last.result.now =
+    rw c.last.ensures at c.requires.solved in
+    λ d. (answer_data c.in-Answer.answer, rw c.in-Answer.is at (held d), c.in_ok-write_answer-in-Answer.ensures)

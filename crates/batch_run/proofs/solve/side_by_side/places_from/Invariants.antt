@@ -1,7 +1,7 @@
 use Rattle.std.proofs.Common.{◌≡◌, ℕ, ◌<◌, ◌≤◌, ◌∷◌, List, length}
 use Rattle.std.specs.List.{All}
 use Rattle.road_files.specs.Asked.{asked_of}
-use Rattle.batch_run.proofs.solve.plain.places_from.Given as goal
+use Rattle.batch_run.proofs.solve.side_by_side.places_from.Given as goal
 
 abbrev pub invariant-loop-place : goal.invariant-loop-place
 invariant-loop-place l = record {

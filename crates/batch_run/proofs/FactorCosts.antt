@@ -1,0 +1,16 @@
+-- What an algebra says of its cost.
+use Rattle.std.proofs.Common.{◌≡◌, Option, Some, None, true}
+use Rattle.std.specs.Prelude.{IfSome, is_some}
+use Rattle.path_algebra.specs.Algebra.{Algebra}
+use Rattle.path_algebra.specs.Carried.{IsCarried}
+use Rattle.path_algebra.specs.Counted.{cost_of}
+use Rattle.path_algebra.specs.declared.counted_sums.Cost.{Cost}
+
+-- if it has one, numbers carry its values for that cost
+pub carried_by : {V : Type 0} (A : Algebra V) (o : Option Cost) → IfSome o (λ cost. IsCarried A (cost_of cost)) → is_some o ≡ true → (cost : Cost) × IsCarried A (cost_of cost)
+carried_by A None carried some = absurd cc
+carried_by A (Some cost) carried some = (cost, carried)
+
+-- numbers of the same cost do
+pub carried_for : {V : Type 0} (A : Algebra V) (cost other : Cost) → other ≡ cost → IsCarried A (cost_of cost) → IsCarried A (cost_of other)
+carried_for A cost other same carried = rw same carried

@@ -1,0 +1,38 @@
+use Rattle.std.proofs.Common.{sym, subst, List, ℕ}
+use Rattle.std.specs.List.{All}
+use Rattle.road_graph.specs.GraphData.{HasVertex}
+use Rattle.road_files.specs.Asked.{FromSource, Question}
+use Rattle.road_files.proofs.QuestionLaws.{asked_within, pair_at}
+use Rattle.path_algebra.specs.Walks.{AreBest}
+use Rattle.route_tree.specs.Tree.{IsTree}
+use Rattle.answer_text.specs.AnswerData.{answer_data}
+use Rattle.answer_text.specs.IsAnswer.{IsAnswer}
+use Rattle.batch_run.proofs.QuestionKinds.{no_pairs, pair_asked}
+use Rattle.batch_run.proofs.solve.workers.solve_by_labels.Goals as goal
+
+pub answer_between-requires-clause-labels : goal.answer_between-requires-clause-labels
+answer_between-requires-clause-labels g c κs within =
+    subst (λ (vs : List ℕ). AreBest (g.A.PathAlgebra.meaning c.args.batch.now.algebra) c.args.batch.now.graph.now vs c.args.labels)
+    (pair_at c.args.batch.now.questions.now c.args.i c.in-Pairs.pairs c.index.result.now c.in-Pairs.is c.requires.place c.index.ensures (FromSource 0)) (c.requires.labels (FromSource 0))
+
+pub tree_outgoing-requires-clause-sources : goal.tree_outgoing-requires-clause-sources
+tree_outgoing-requires-clause-sources g c κs within =
+    rw c.outgoing.ensures (subst (λ (vs : List ℕ). All (HasVertex c.args.batch.now.graph.now) vs) (sym (c.sources-sources.ensures (FromSource 0)))
+    (asked_within c.args.batch.now.graph.now.vertices c.args.batch.now.questions.now c.args.i c.args.batch.now.within c.requires.place (FromSource 0)).1)
+
+pub tree_outgoing-requires-clause-labels : goal.tree_outgoing-requires-clause-labels
+tree_outgoing-requires-clause-labels g c κs within =
+    rw c.outgoing.ensures (subst (λ (vs : List ℕ). AreBest (g.A.PathAlgebra.meaning c.args.batch.now.algebra) c.args.batch.now.graph.now vs c.args.labels)
+    (sym (c.sources-sources.ensures (FromSource 0))) (c.requires.labels (FromSource 0)))
+
+pub returns-in_ok-answer-in-Pairs : goal.returns-in_ok-answer-in-Pairs
+returns-in_ok-answer-in-Pairs g c = λ d. subst (λ (q : Question). IsAnswer (g.A.PathAlgebra.meaning c.args.batch.now.algebra) c.args.batch.now.graph.now q (answer_data c.in_ok-answer-in-Pairs.answer))
+    (sym (pair_asked c.args.batch.now.questions.now c.args.i c.in-Pairs.pairs c.index.result.now c.in-Pairs.is c.requires.place c.index.ensures d)) c.in_ok-answer-in-Pairs.ensures
+
+pub returns-in_ok-tree-in_default : goal.returns-in_ok-tree-in_default
+returns-in_ok-tree-in_default g c = λ d. record {
+  labels = c.requires.labels d;
+  tree = subst (λ (vs : List ℕ). IsTree (g.A.PathAlgebra.meaning c.args.batch.now.algebra) c.args.batch.now.graph.now vs c.in_ok-tree-in_default.tree)
+      (c.sources-sources.ensures d) (rw c.outgoing.ensures at c.in_ok-tree-in_default.ensures);
+  unpaired = no_pairs c.args.batch.now.questions.now c.in_default.not-Pairs;
+}

@@ -1,0 +1,42 @@
+//! How the parts of a diffusion take their items.
+use crate::settings::Settings;
+use road_graph::{ArcNo, Graph};
+use shard_part::QueueOrder;
+
+/// In which order parts take their items, and by what weight a shard may run ahead of the others, if it is held back.
+#[derive(Clone, Copy)]
+pub(crate) struct Pace {
+    pub(crate) order: QueueOrder,
+    pub(crate) ahead: Option<u32>,
+}
+
+impl Pace {
+    /// The pace that settings ask for. Best first, a shard may run ahead by the mean weight of the arcs, unless they say by what.
+    pub(crate) fn of(settings: &Settings, graph: &Graph) -> Pace {
+        let ahead = match settings.ahead {
+            _ if !settings.best_first => None,
+            Some(ahead) => Some(ahead),
+            None => Some(mean_weight(graph)),
+        };
+        Pace {
+            order: settings.order(),
+            ahead,
+        }
+    }
+}
+
+/// The mean weight of the arcs; 0 if there are none.
+fn mean_weight(graph: &Graph) -> u32 {
+    graph.holds();
+    let mut sum = 0u64;
+    for number in 0..graph.arcs() as u32 {
+        sum = sum.saturating_add(u64::from(graph.road(ArcNo(number + 1)).weight));
+    }
+    let Some(mean) = sum.checked_div(graph.arcs() as u64) else {
+        return 0;
+    };
+    match u32::try_from(mean) {
+        Ok(mean) => mean,
+        Err(_) => u32::MAX,
+    }
+}

@@ -1,6 +1,6 @@
 -- What a service promises of its inputs and its output when it is stopped, from what reading and serving promise.
 use Rattle.std.proofs.Common.{◌≡◌, ◌≢◌, ◌⊎◌, ◌↔◌, inl, inr, Bool, true, false, eqb, ℕ, ◌+◌, ◌≤◌, Result, Err, refl, ap, subst, arith}
-use Rattle.std.specs.Prelude.{IfSome}
+use Rattle.std.specs.Prelude.{IfSome, []}
 use Rattle.std.proofs.lemmas.Bool.{eqb-true}
 use Rattle.std.specs.Io.KnownBytes.{IsAtEnd}
 use Rattle.road_text.specs.declared.faults.ReadFault.{ReadFault}
@@ -14,7 +14,7 @@ use Rattle.batch_run.specs.declared.settings.Settings.{Settings}
 use Rattle.batch_run.specs.InRange.{AreInRange}
 use Rattle.batch_run.specs.Ran.{IsReadAs, IsRoadNumber}
 use Rattle.batch_run.specs.Runs.{Input, Output}
-use Rattle.service.specs.Fed.{ServedPrefix, ServedPart}
+use Rattle.service.specs.Fed.{ServedSoFar, ServedToLimit, ServedPart}
 use Rattle.service.specs.Answering.{MayAnswer}
 use Rattle.service.specs.Served.{RanService}
 
@@ -56,16 +56,21 @@ module _ {V G Q W : Type 0} (A : Algebra V) (how : Settings) (gate : ℕ → ℕ
     (inside : AreInRange how) (g : GraphData) (read : IsReadAs gr_rules graph.left g) (sound : graph_after.failures ≡ graph.failures) (end : IsAtEnd graph_after.left)
     (asked : graph_after.asked ≤ graph.asked + 4294967297) where
   -- the input of requests stopped it: by a read that failed, and by nothing else it has this number
-  pub stopped : (number : ℕ) → ((number ≡ 1) ⊎ (number ≡ 2)) → ServedPrefix (MayAnswer A how gate g) g.vertices input.left out.written out_after.written out.failures out_after.failures
-      → (number ≡ 1) ↔ (input_after.failures ≢ input.failures) → RanService A how gate graph graph_after input input_after out out_after (Err (record { number = number; file = Questions; line = 0 }))
-  stopped number which first failed = record {
+  pub stopped : (number : ℕ) → ((number ≡ 1) ⊎ (number ≡ 2))
+      → (number ≡ 1 → ServedSoFar (MayAnswer A how gate g) g.vertices input.left input_after.left out.written out_after.written out.failures out_after.failures)
+      → (number ≡ 2 → ServedToLimit (MayAnswer A how gate g) g.vertices input.left input_after.left out.written out_after.written out.failures out_after.failures)
+      → out_after.held ≡ [] → (number ≡ 1) ↔ (input_after.failures ≢ input.failures) → RanService A how gate graph graph_after input input_after out out_after (Err (record { number = number; file = Questions; line = 0 }))
+  stopped number which first long held failed = record {
     done = tt;
     passed_on = tt;
     sound = tt;
     ends = tt;
-    stopped = λ file. (g, read, first);
+    stopped = λ file one. (g, read, first one);
+    too_long = λ file two. (g, read, long two);
+    nothing_held = λ file. held;
     fell = λ write. absurd (low 42 (omega arith) write);
-    settings = (λ e. absurd (other_number _ _ _ (low 43 (omega arith)) refl e), λ no. absurd (no inside));
+    refused = λ no. absurd (no inside);
+    settings = λ e. absurd (other_number _ _ _ (low 43 (omega arith)) refl e);
     graph_fault = λ file. absurd (questions_or_graph file);
     read_graph = (λ e. absurd (other_file _ _ _ questions_or_graph refl e), λ failed. absurd (failed sound));
     read_input = (λ e. failed.0 (number_of _ _ _ refl e), λ lost. rw (failed.1 lost) refl);
@@ -90,9 +95,12 @@ module _ {V G Q W : Type 0} (A : Algebra V) (how : Settings) (gate : ℕ → ℕ
     passed_on = tt;
     sound = tt;
     ends = tt;
-    stopped = λ file. absurd (let bad : NoFile ≡ Questions = file in cc);
+    stopped = λ file one. absurd (let bad : NoFile ≡ Questions = file in cc);
+    too_long = λ file two. absurd (let bad : NoFile ≡ Questions = file in cc);
+    nothing_held = λ file. absurd (let bad : NoFile ≡ Questions = file in cc);
     fell = λ write. (g, read, part);
-    settings = (λ e. absurd (other_number _ _ _ (λ n. omega (arith, n)) refl e), λ no. absurd (no inside));
+    refused = λ no. absurd (no inside);
+    settings = λ e. absurd (other_number _ _ _ (λ n. omega (arith, n)) refl e);
     graph_fault = λ file. absurd (let bad : NoFile ≡ Graph = file in cc);
     read_graph = (λ e. absurd (other_number _ _ _ (λ n. omega (arith, n)) refl e), λ failed. absurd (failed sound));
     read_input = (λ e. absurd (other_number _ _ _ (λ n. omega (arith, n)) refl e), λ failed. absurd (failed input_sound));
@@ -114,9 +122,12 @@ module _ {V G Q W : Type 0} (A : Algebra V) (how : Settings) (gate : ℕ → ℕ
     passed_on = tt;
     sound = tt;
     ends = tt;
-    stopped = λ file. absurd (graph_or_questions file);
+    stopped = λ file one. absurd (graph_or_questions file);
+    too_long = λ file two. absurd (graph_or_questions file);
+    nothing_held = λ file. absurd (graph_or_questions file);
     fell = λ write. absurd (of_input 42 (omega arith) write);
-    settings = (λ e. absurd (other_file _ _ _ graph_or_none refl e), λ no. absurd (no inside));
+    refused = λ no. absurd (no inside);
+    settings = λ e. absurd (other_file _ _ _ graph_or_none refl e);
     graph_fault = λ file own. fault own.0 own.1;
     read_graph = (λ e. told (number_of _ _ _ refl e), λ failed. one_line (is_one f.number graph_after.failures graph.failures untold failed));
     read_input = (λ e. absurd (other_file _ _ _ graph_or_questions refl e), λ failed. absurd (failed refl));

@@ -5,7 +5,7 @@ use Rattle.std.proofs.KnownBytes.{Consumes-nil, Consumes-trans, Consumes-whole, 
 use Rattle.road_files.specs.Asked.{Asked}
 use Rattle.road_files.specs.ServiceText.{Request}
 use Rattle.service.specs.declared.service.Service.{Service}
-use Rattle.service.specs.Fed.{WasFed, HasRequests, MakesWhole, BeginsWith, Fed, FedPart, FedLong, Finished, FinishedPart, HasServed, Served, ServedPrefix, ServedPart, Replied, FellIn}
+use Rattle.service.specs.Fed.{WasFed, IsUnfinished, HasRequests, MakesWhole, BeginsWith, Fed, FedPart, FedLong, Finished, FinishedPart, HasServed, Served, ServedSoFar, ServedToLimit, ServedPart, Replied, FellIn}
 use Rattle.service.proofs.FedLaws.{replied_then}
 use Rattle.service.proofs.ServiceLaws.{Done, Failed}
 use Rattle.road_text.specs.Lines.{lines}
@@ -60,6 +60,13 @@ module _ (answers : Asked → List ℕ → Type 0) where
       begins_less left (fed ++ prefix) rest (subst (BeginsWith left) (ap (λ x. fed ++ x) e ∙ sym (append_assoc fed prefix rest))
       (begins left now (fed ++ piece) (Consumes-trans left mid now fed piece g h)))
 
+  -- what a read that failed left is still there
+  consumes_kept : (left mid now : Option (List ℕ)) (text : List ℕ) → Consumes left mid text → Keeps mid now → Consumes left now text
+  consumes_kept None mid now text g k = tt
+  consumes_kept (Some all) None now text g k = absurd g
+  consumes_kept (Some all) (Some rest) None text g k = absurd k
+  consumes_kept (Some all) (Some rest) (Some same) text g k = g ∙ ap (λ y. text ++ y) (sym k)
+
   replied_kept : (rs : List Request) (first old new : Option (List ℕ)) (z b a : ℕ) → Keeps first old → b ≡ z → Replied answers rs old new b a → Replied answers rs first new z a
   replied_kept rs first old new z b a kept sound r = record { texts = r.texts; right = r.right; bytes = kept_first first old new _ kept r.bytes; sound = r.sound ∙ sound }
 
@@ -86,8 +93,8 @@ module _ (answers : Asked → List ℕ → Type 0) where
     whole fed rs t e h = (parser_state t.cutter.taker, subst (λ k. LinesMay k 1 (Gives None) (lines true fed) rs (parser_state t.cutter.taker)) e h.made)
 
     -- a read failed
-    pub read_failed : ServedPrefix answers n left first was z m
-    read_failed = let (fed, rs, gone, taken, replied) = served in (fed, rs, begins left mid fed gone, whole fed rs s same taken, replied_kept rs first old was z b m kept sound replied)
+    pub read_failed : Keeps mid now → ServedSoFar answers n left now first was z m
+    read_failed stays = let (fed, rs, gone, taken, replied) = served in (fed, rs, consumes_kept left mid now fed gone stays, whole fed rs s same taken, replied_kept rs first old was z b m kept sound replied)
 
     -- a write failed in the replies to what a piece makes whole
     pub feed_fell : (t : Service) (piece : List ℕ) → t.cutter.taker.questions.list.vertices ≡ n → Consumes mid now piece → FedPart answers s t piece was new m a →
@@ -104,16 +111,23 @@ module _ (answers : Asked → List ℕ → Type 0) where
 
     -- a request is too long
     pub feed_long : (t : Service) (piece : List ℕ) → t.cutter.taker.questions.list.vertices ≡ n → Consumes mid now piece → FedLong answers s t piece was new m a →
-        ServedPrefix answers n left first new z a
+        ServedToLimit answers n left now first new z a
     feed_long t piece e here f =
         let (fed, rs, gone, taken, replied) = served in
-        let (prefix, rest, more, is, some, further, full, after) = f fed rs taken in (
-          fed ++ prefix,
-          rs ++ more,
-          begins_part left mid now fed piece prefix rest gone here is,
-          whole (fed ++ prefix) (rs ++ more) t e further,
-          replied_kept (rs ++ more) first old new z b a kept sound (replied_then answers rs more old was new b m a Done replied after),
-        )
+        let (prefix, rest, more, is, some, further, full, after) = f fed rs taken in
+        record {
+          text = fed ++ prefix;
+          beyond = rest;
+          gone = subst (λ (x : List ℕ). Consumes left now x) (ap (λ x. fed ++ x) is ∙ sym (append_assoc fed prefix rest)) (Consumes-trans left mid now fed piece gone here);
+          more = some;
+          rs = rs ++ more;
+          next = parser_state t.cutter.taker;
+          made = subst (λ k. LinesMay k 1 (Gives None) (lines true (fed ++ prefix)) (rs ++ more) (parser_state t.cutter.taker)) e further.made;
+          replied = replied_kept (rs ++ more) first old new z b a kept sound (replied_then answers rs more old was new b m a Done replied after);
+          own = further.own;
+          is_open = subst (λ k. IsUnfinished k (fed ++ prefix) (rs ++ more) (parser_state t.cutter.taker) further.own) e further.is_open;
+          full = sym further.count ∙ full;
+        }
 
     -- a write failed in the replies to what was left
     pub end_fell : FinishedPart answers s was new m a → ServedPart answers n left first new z a

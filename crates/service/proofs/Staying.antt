@@ -1,22 +1,20 @@
 -- What may reply stays the same while a solver answers.
-use Rattle.std.proofs.Common.{◌≡◌, ℕ, Bool, List, ap, subst}
+use Rattle.std.proofs.Common.{◌≡◌, ℕ, Bool, List, subst}
 use Rattle.road_graph.specs.GraphData.{GraphData}
 use Rattle.road_files.specs.Asked.{Asked}
 use Rattle.path_algebra.specs.Algebra.{Algebra}
 use Rattle.batch_run.specs.declared.settings.Settings.{Settings}
 use Rattle.batch_run.specs.declared.solve.Solver.{Solver}
-use Rattle.batch_run.specs.Ran.{by_solver}
+use Rattle.batch_run.specs.Choice.{without_diffusions}
 use Rattle.batch_run.specs.Solvers.{IsSameSolver, graph_of, is_plain}
-use Rattle.service.specs.Answering.{MayAnswer, MayAnswerBy}
+use Rattle.service.specs.Answering.{MayAnswer, MayAnswerAs, MayAnswerBy}
 
 module _ {V : Type 0} (A : Algebra V) (how : Settings) (gate : ℕ → ℕ → Bool → Type 0) (s t : Solver V) (same : IsSameSolver s t) where
   pub stays : (P : (Asked → List ℕ → Type 0) → Type 0) → P (MayAnswerBy A how gate t) → P (MayAnswerBy A how gate s)
   stays P h =
-      subst (λ (b : Bool). P (MayAnswer A (by_solver b how) gate (graph_of s))) same.kind
-      (subst (λ (g : GraphData). P (MayAnswer A (by_solver (is_plain t) how) gate g)) same.graph h)
+      subst (λ (b : Bool). P (MayAnswerAs A b how gate (graph_of s))) same.kind
+      (subst (λ (g : GraphData). P (MayAnswerAs A (is_plain t) how gate g)) same.graph h)
 
   -- it is the solver that the settings choose
-  pub stays_own : is_plain s ≡ how.plain → (P : (Asked → List ℕ → Type 0) → Type 0) → P (MayAnswerBy A how gate t) → P (MayAnswer A how gate (graph_of s))
-  stays_own kind P h =
-      let own : by_solver (is_plain s) how ≡ how = ap (λ (b : Bool). record how { plain = b }) kind in
-      subst (λ (w : Settings). P (MayAnswer A w gate (graph_of s))) own (stays P h)
+  pub stays_own : is_plain s ≡ without_diffusions how → (P : (Asked → List ℕ → Type 0) → Type 0) → P (MayAnswerBy A how gate t) → P (MayAnswer A how gate (graph_of s))
+  stays_own kind P h = subst (λ (b : Bool). P (MayAnswerAs A b how gate (graph_of s))) kind (stays P h)

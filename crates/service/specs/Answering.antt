@@ -10,7 +10,7 @@ use Rattle.batch_run.specs.Answered.{begun_text}
 use Rattle.batch_run.specs.Stopping.{Stalls, Closes}
 use Rattle.batch_run.specs.declared.settings.Settings.{Settings}
 use Rattle.batch_run.specs.declared.solve.Solver.{Solver}
-use Rattle.batch_run.specs.Ran.{by_solver}
+use Rattle.batch_run.specs.Choice.{without_diffusions}
 use Rattle.batch_run.specs.Solvers.{graph_of, is_plain}
 use Rattle.service.specs.Replies.{fault_text}
 
@@ -21,26 +21,31 @@ IsAnswered A g asked text =
 
 -- the number of a fault of the run: memory or a thread; if workers answer, also a worker that took all turns of the
 -- limit, or one to which its gate answered false before that
-abbrev pub IsOfRun : Settings → (ℕ → ℕ → Bool → Type 0) → ℕ → Type 0
-IsOfRun how gate number =
+abbrev pub IsOfRun : (plain : Bool) → Settings → (ℕ → ℕ → Bool → Type 0) → ℕ → Type 0
+IsOfRun plain how gate number =
     (number ≡ 3)
-    ⊎ (((number ≡ 40) × (how.plain ≡ false) × Stalls gate how.workers how.turns)
-    ⊎ ((number ≡ 41) × (how.plain ≡ false) × Closes gate how.workers how.turns))
+    ⊎ (((number ≡ 40) × (plain ≡ false) × Stalls gate how.workers how.turns)
+    ⊎ ((number ≡ 41) × (plain ≡ false) × Closes gate how.workers how.turns))
 
 -- the header, the right answers to the first questions, each whole, and then the fault that stopped the run
-pub record IsStopped {V : Type 0} (A : Algebra V) (how : Settings) (gate : ℕ → ℕ → Bool → Type 0) (g : GraphData) (asked : Asked) (text : List ℕ) : Type 0 where
+pub record IsStopped {V : Type 0} (A : Algebra V) (plain : Bool) (how : Settings) (gate : ℕ → ℕ → Bool → Type 0) (g : GraphData) (asked : Asked) (text : List ℕ) : Type 0 where
   pub count : ℕ
   pub answers : List AnswerData
   pub right : AreAnswers A g (take count asked.questions) answers
   pub number : ℕ
-  pub of_run : IsOfRun how gate number
+  pub of_run : IsOfRun plain how gate number
   pub text_is : text ≡ begun_text A asked answers ++ fault_text number 0
 
--- which texts may reply to what is asked, where `gate` says what the gate may answer to a worker before a turn
-abbrev pub MayAnswer : {V : Type 0} → Algebra V → Settings → (ℕ → ℕ → Bool → Type 0) → GraphData → Asked → List ℕ → Type 0
-MayAnswer A how gate g asked text =
-    IsAnswered A g asked text ⊎ IsStopped A how gate g asked text
+-- which texts may reply to what is asked, with diffusions or without, where `gate` says what the gate may answer to a
+-- worker before a turn
+abbrev pub MayAnswerAs : {V : Type 0} → Algebra V → (plain : Bool) → Settings → (ℕ → ℕ → Bool → Type 0) → GraphData → Asked → List ℕ → Type 0
+MayAnswerAs A plain how gate g asked text =
+    IsAnswered A g asked text ⊎ IsStopped A plain how gate g asked text
 
--- which texts may reply to what is asked if this solver answers
+-- which of them if the solver answers that the settings choose
+abbrev pub MayAnswer : {V : Type 0} → Algebra V → Settings → (ℕ → ℕ → Bool → Type 0) → GraphData → Asked → List ℕ → Type 0
+MayAnswer A how = MayAnswerAs A (without_diffusions how) how
+
+-- which of them if this solver answers
 abbrev pub MayAnswerBy : {V : Type 0} → Algebra V → Settings → (ℕ → ℕ → Bool → Type 0) → Solver V → Asked → List ℕ → Type 0
-MayAnswerBy A how gate s = MayAnswer A (by_solver (is_plain s) how) gate (graph_of s)
+MayAnswerBy A how gate s = MayAnswerAs A (is_plain s) how gate (graph_of s)

@@ -118,9 +118,26 @@ MakesWhole n text rs = (next : ServiceState) × LinesMay n 1 (Gives None) (lines
 abbrev pub BeginsWith : Option (List ℕ) → List ℕ → Type 0
 BeginsWith left text = IfSome left (λ all. (rest : List ℕ) × (all ≡ text ++ rest))
 
--- just the requests that a prefix of the input makes whole were replied to
-abbrev pub ServedPrefix : (Asked → List ℕ → Type 0) → ℕ → Option (List ℕ) → Option (List ℕ) → Option (List ℕ) → ℕ → ℕ → Type 0
-ServedPrefix answers n left old new b a = (text : List ℕ) × (rs : List Request) × BeginsWith left text × MakesWhole n text rs × Replied answers rs old new b a
+-- just the requests that the bytes consumed make whole were replied to
+abbrev pub ServedSoFar : (Asked → List ℕ → Type 0) → ℕ → Option (List ℕ) → Option (List ℕ) → Option (List ℕ) → Option (List ℕ) → ℕ → ℕ → Type 0
+ServedSoFar answers n left now old new b a = (text : List ℕ) × (rs : List Request) × Consumes left now text × MakesWhole n text rs × Replied answers rs old new b a
+
+-- the bytes consumed have more than 2^32 in one request, or in one line: just the requests that the bytes before make whole were replied to
+pub record ServedToLimit (answers : Asked → List ℕ → Type 0) (n : ℕ) (left now old new : Option (List ℕ)) (b a : ℕ) : Type 0 where
+  -- what was taken, and what was consumed beyond it
+  pub text : List ℕ
+  pub beyond : List ℕ
+  pub gone : Consumes left now (text ++ beyond)
+  pub more : 0 < length beyond
+  -- the requests that are whole
+  pub rs : List Request
+  pub next : ServiceState
+  pub made : LinesMay n 1 (Gives None) (lines true text) rs next
+  pub replied : Replied answers rs old new b a
+  -- the last 2^32 bytes taken are all of one request that goes on, or of one line
+  pub own : List ℕ
+  pub is_open : IsUnfinished n text rs next own
+  pub full : length own ≡ 4294967296
 
 -- a write failed in the replies to the requests that a prefix of the input makes whole, or to all of them
 abbrev pub ServedPart : (Asked → List ℕ → Type 0) → ℕ → Option (List ℕ) → Option (List ℕ) → Option (List ℕ) → ℕ → ℕ → Type 0

@@ -1,5 +1,5 @@
 -- What a service does, between two states of its inputs and its output.
-use Rattle.std.specs.Prelude.{◌≡◌, ◌≢◌, ℕ, ◌+◌, ◌≤◌, ◌↔◌, ◌⊎◌, Bool, List, [], Option, Result, Err, OnOk, IfErr}
+use Rattle.std.specs.Prelude.{◌≡◌, ◌≢◌, ℕ, ◌+◌, ◌≤◌, ◌↔◌, ◌⊎◌, Bool, true, List, [], Option, Result, Err, OnOk, IfErr}
 use Rattle.std.specs.Io.KnownBytes.{IsAtEnd}
 use Rattle.road_graph.specs.GraphData.{GraphData}
 use Rattle.graph_text.specs.GraphFiles.{gr_rules}
@@ -10,7 +10,7 @@ use Rattle.batch_run.specs.declared.settings.Settings.{Settings}
 use Rattle.batch_run.specs.InRange.{AreInRange}
 use Rattle.batch_run.specs.Ran.{IsReadAs, IsGraphFault, IsRoadNumber}
 use Rattle.batch_run.specs.Runs.{Input, Output}
-use Rattle.service.specs.Fed.{Served, ServedPrefix, ServedPart}
+use Rattle.service.specs.Fed.{Served, ServedSoFar, ServedToLimit, ServedPart}
 use Rattle.service.specs.Answering.{MayAnswer}
 
 -- the text of an input is a graph, and P holds of it
@@ -33,18 +33,26 @@ pub record RanService {V G Q W : Type 0} (A : Algebra V) (how : Settings) (gate 
   pub sound : OnOk outcome ((graph_after.failures ≡ graph.failures) × (input_after.failures ≡ input.failures) × (out_after.failures ≡ out.failures))
   -- both inputs were read to their end
   pub ends : OnOk outcome (IsAtEnd graph_after.left × IsAtEnd input_after.left)
-  -- at a failed read, or a request that is too long, just the requests that a prefix of the input makes
-  -- whole were replied to
-  pub stopped : IfErr outcome (λ f. f.file ≡ Questions → OverGraph graph.left (λ g.
-      ServedPrefix (MayAnswer A how gate g) g.vertices input.left
+  -- at a failed read just the requests that the bytes consumed make whole were replied to
+  pub stopped : IfErr outcome (λ f. f.file ≡ Questions → f.number ≡ 1 → OverGraph graph.left (λ g.
+      ServedSoFar (MayAnswer A how gate g) g.vertices input.left input_after.left
       out.written out_after.written out.failures out_after.failures))
+  -- 2 is reported of the requests only of one that has more than 2^32 bytes, or of such a line: just
+  -- the requests before it were replied to
+  pub too_long : IfErr outcome (λ f. f.file ≡ Questions → f.number ≡ 2 → OverGraph graph.left (λ g.
+      ServedToLimit (MayAnswer A how gate g) g.vertices input.left input_after.left
+      out.written out_after.written out.failures out_after.failures))
+  -- and nothing is left buffered in the output after either
+  pub nothing_held : IfErr outcome (λ f. f.file ≡ Questions → out_after.held ≡ [])
   -- a failed write leaves a prefix of the replies to the requests that a prefix of the input makes
   -- whole, or to all of them
   pub fell : IfErr outcome (λ f. f.number ≡ 42 → OverGraph graph.left (λ g.
       ServedPart (MayAnswer A how gate g) g.vertices input.left
       out.written out_after.written out.failures out_after.failures))
-  -- 43 is reported exactly if a setting is out of its range
-  pub settings : (outcome ≡ Err (record { number = 43; file = NoFile; line = 0 })) ↔ (AreInRange how → ⊥)
+  -- 43 is reported if a setting is out of its range,
+  pub refused : (AreInRange how → ⊥) → outcome ≡ Err (record { number = 43; file = NoFile; line = 0 })
+  -- and else only if factors are chosen
+  pub settings : outcome ≡ Err (record { number = 43; file = NoFile; line = 0 }) → (AreInRange how → ⊥) ⊎ (how.factors ≡ true)
   -- a fault of the graph is its first one
   pub graph_fault : IfErr outcome (λ f. f.file ≡ Graph → IsGraphFault graph.left f)
   -- 1 is reported of the graph exactly if a read of it failed

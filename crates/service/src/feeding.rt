@@ -1,5 +1,5 @@
 //! Feeds bytes to a service, which replies to the requests in them.
-ghost use Rattle.std.specs.Prelude.{◌≡◌, ℕ, ◌+◌, [], ◌++◌, List, map, min, OnOk, OnErr, Err, ◌≤◌};
+ghost use Rattle.std.specs.Prelude.{◌≡◌, ◌≢◌, ℕ, ◌+◌, [], ◌++◌, List, map, min, OnOk, OnErr, Err, ◌≤◌};
 ghost use Rattle.road_text.specs.Cuts.{IsLine, IsPresent};
 ghost use Rattle.road_files.specs.RequestTakes.{RequestSoFar, parser_state, ended_of};
 ghost use Rattle.service.specs.Answering.{MayAnswerBy};
@@ -105,7 +105,7 @@ impl Service {
             (T.may_answer answers.now.run.now.gate.now) solver.old) self.old self.new bytes.now
             (W.written out.old) (W.written out.new) (W.failures out.old) (W.failures out.new) }
         ensures same { IsSameSolver solver.old solver.new }
-        ensures passed_on { OnOk result (W.held out.old ≡ [] → W.held out.new ≡ []) }
+        ensures passed_on { result ≢ Err Unfed.Write → W.held out.old ≡ [] → W.held out.new ≡ [] }
         ensures vertices { self.new.cutter.taker.questions.list.vertices ≡
             self.old.cutter.taker.questions.list.vertices }
     {

@@ -2,6 +2,7 @@
 ghost use Rattle.std.specs.Prelude.{◌≡◌, IfOk};
 ghost use Rattle.road_text.specs.Reads.{ReadsText};
 ghost use Rattle.graph_text.specs.GraphFiles.{gr_rules};
+ghost use Rattle.batch_run.specs.Choice.{without_diffusions};
 ghost use Rattle.batch_run.specs.Solvers.{graph_of, is_plain};
 ghost use Rattle.batch_run.specs.Runs.{input, output};
 ghost use Rattle.service.specs.Served.{RanService};
@@ -9,8 +10,8 @@ ghost use Rattle.service.specs.Served.{RanService};
 use crate::batch_answers::BatchAnswers;
 use crate::serving::{Stopped, serve};
 use batch_run::{
-    File, Gate, PlainSolver, Run, RunFault, SETTINGS, Solver, SolverKind, WRITE, WorkerSolver,
-    fault_in, fault_of_run,
+    FactorSolver, File, Gate, PlainSolver, Run, RunFault, SETTINGS, Solver, SolverKind, WRITE,
+    WorkerSolver, fault_in, fault_of_run,
 };
 use graph_text::read_gr_as;
 use path_algebra::PathAlgebra;
@@ -33,7 +34,7 @@ fn read_solver<V: Copy, G: RoadRead, R, T>(
 ) -> Result<Solver<V>, ReadFault>
     ensures reads { ReadsText G.left G.failures G.asked graph_in.old graph_in.new gr_rules graph_of
         10 19 result }
-    ensures kind { IfOk result (λ s. is_plain s ≡ run.now.settings.now.plain) }
+    ensures kind { IfOk result (λ s. is_plain s ≡ without_diffusions run.now.settings.now) }
 {
     match run.settings.solver() {
         SolverKind::Plain => {
@@ -42,6 +43,13 @@ fn read_solver<V: Copy, G: RoadRead, R, T>(
                 Err(fault) => return Err(fault),
             };
             Ok(Solver::Plain(PlainSolver::new(run.alloc, graph)))
+        }
+        SolverKind::Factors => {
+            let graph: OutGraph = match read_gr_as(run.alloc, graph_in) {
+                Ok(graph) => graph,
+                Err(fault) => return Err(fault),
+            };
+            Ok(Solver::Factors(FactorSolver::new(run.alloc, graph)))
         }
         SolverKind::Workers => {
             let graph: Graph = match read_gr_as(run.alloc, graph_in) {
@@ -60,11 +68,10 @@ fn read_solver<V: Copy, G: RoadRead, R, T>(
 /// line `f NUMBER LINE`, LINE counted through the whole input, and the service goes on with the next problem line. A
 /// fault of the run (3, 40, 41) does the same, with LINE 0.
 ///
-/// The settings are tested first (43), then the graph is read: a fault of the graph is reported before any request is
-/// read. The service ends at the end of the input, after a failed read (1), at a request with more than 2^32 bytes (2),
+/// The settings are tested first (43), and if they choose factors, whether the algebra has any (43 too). Then the graph is
+/// read: a fault of the graph is reported before any request is read. The first request finds its factors, if they are chosen.
+/// The service ends at the end of the input, after a failed read (1), at a request with more than 2^32 bytes (2),
 /// or after a failed write or flush (42).
-///
-/// Each request is answered anew: nothing of the previous one is kept.
 pub fn run_service<
     A: PathAlgebra,
     G: RoadRead,
@@ -88,7 +95,7 @@ pub fn run_service<
         (output W.written W.held W.failures out.old)
         (output W.written W.held W.failures out.new) result }
 {
-    if !run.settings.are_in_range() {
+    if !run.settings.suit(algebra) {
         return Err(fault_of_run(SETTINGS));
     }
     let mut solver: Solver<A::Value> = match read_solver(run, graph_in) {

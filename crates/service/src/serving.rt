@@ -2,8 +2,9 @@
 ghost use Rattle.std.specs.Prelude.{◌≡◌, ◌≢◌, ℕ, ◌≤◌, ◌+◌, [], length, IfOk, OnOk, OnErr, Err};
 ghost use Rattle.std.specs.Io.KnownBytes.{IsAtEnd, ReadConsumes};
 ghost use Rattle.service.specs.Answering.{MayAnswer};
+ghost use Rattle.batch_run.specs.Choice.{without_diffusions};
 ghost use Rattle.batch_run.specs.Solvers.{graph_of, is_plain};
-ghost use Rattle.service.specs.Fed.{Served, ServedPrefix, ServedPart};
+ghost use Rattle.service.specs.Fed.{Served, ServedSoFar, ServedToLimit, ServedPart};
 
 use crate::batch_answers::BatchAnswers;
 use crate::feeding::Unfed;
@@ -50,24 +51,26 @@ pub(crate) fn serve<A: PathAlgebra, I: RoadRead, W: RoadWrite, R: Threads + Wait
     input: &mut I,
     out: &mut W,
 ) -> Result<(), Stopped>
-    requires kind { is_plain solver.old ≡ answers.now.run.now.settings.now.plain }
+    requires kind { is_plain solver.old ≡ without_diffusions answers.now.run.now.settings.now }
     ensures served { OnOk result (Served
         (MayAnswer (A.meaning answers.now.algebra) answers.now.run.now.settings.now
         (T.may_answer answers.now.run.now.gate.now) (graph_of solver.old)) (graph_of solver.old).vertices (I.left input.old)
         (W.written out.old) (W.written out.new) (W.failures out.old) (W.failures out.new)) }
-    ensures read { result ≡ Err Stopped.Read → ServedPrefix
+    ensures read { result ≡ Err Stopped.Read → ServedSoFar
         (MayAnswer (A.meaning answers.now.algebra) answers.now.run.now.settings.now
-        (T.may_answer answers.now.run.now.gate.now) (graph_of solver.old)) (graph_of solver.old).vertices (I.left input.old)
+        (T.may_answer answers.now.run.now.gate.now) (graph_of solver.old))
+        (graph_of solver.old).vertices (I.left input.old) (I.left input.new)
         (W.written out.old) (W.written out.new) (W.failures out.old) (W.failures out.new) × (I.failures input.new ≡ I.failures input.old + 1) }
     ensures write { result ≡ Err Stopped.Write → ServedPart
         (MayAnswer (A.meaning answers.now.algebra) answers.now.run.now.settings.now
         (T.may_answer answers.now.run.now.gate.now) (graph_of solver.old)) (graph_of solver.old).vertices (I.left input.old)
         (W.written out.old) (W.written out.new) (W.failures out.old) (W.failures out.new) }
-    ensures long { result ≡ Err Stopped.TooLong → ServedPrefix
+    ensures long { result ≡ Err Stopped.TooLong → ServedToLimit
         (MayAnswer (A.meaning answers.now.algebra) answers.now.run.now.settings.now
-        (T.may_answer answers.now.run.now.gate.now) (graph_of solver.old)) (graph_of solver.old).vertices (I.left input.old)
+        (T.may_answer answers.now.run.now.gate.now) (graph_of solver.old))
+        (graph_of solver.old).vertices (I.left input.old) (I.left input.new)
         (W.written out.old) (W.written out.new) (W.failures out.old) (W.failures out.new) }
-    ensures passed_on { OnOk result (W.held out.new ≡ []) }
+    ensures passed_on { result ≢ Err Stopped.Write → W.held out.new ≡ [] }
     ensures end { OnOk result (IsAtEnd (I.left input.new)) }
     ensures sound { result ≢ Err Stopped.Read → I.failures input.new ≡ I.failures input.old }
 {

@@ -12,6 +12,13 @@ use Rattle.service.proofs.run.run_service.Goals as goal
 no_read : (r : Result (Unit {0}) Stopped) → r ≡ Err Write → r ≡ Err Read → ⊥
 no_read r p e = cc
 
+-- nor a read that failed, nor a request that is too long, a failed write
+read_no_write : (r : Result (Unit {0}) Stopped) → r ≡ Err Read → r ≡ Err Write → ⊥
+read_no_write r p e = cc
+
+long_no_write : (r : Result (Unit {0}) Stopped) → r ≡ Err TooLong → r ≡ Err Write → ⊥
+long_no_write r p e = cc
+
 long_no_read : (r : Result (Unit {0}) Stopped) → r ≡ Err TooLong → r ≡ Err Read → ⊥
 long_no_read r p e = cc
 
@@ -21,7 +28,7 @@ returns-in-Err g c = record {
       (input g.G.RoadRead.left g.G.RoadRead.failures g.G.RoadRead.asked c.args.graph_in.now)
       (input g.G.RoadRead.left g.G.RoadRead.failures g.G.RoadRead.asked c.read_solver.new.graph_in)
       (input g.Q.RoadRead.left g.Q.RoadRead.failures g.Q.RoadRead.asked c.args.requests_in.now) (output g.W.RoadWrite.written g.W.RoadWrite.held g.W.RoadWrite.failures c.args.out.now)
-      c.in-Err.fault (c.are_in_range.ensures.0 c.if-not-are_in_range.false) c.in-Err.ensures.reads.fault c.in-Err.ensures.reads.told c.in-Err.ensures.reads.untold c.in-Err.ensures.reads.placed
+      c.in-Err.fault (c.suit.ensures.in_range c.if-not-suit.false) c.in-Err.ensures.reads.fault c.in-Err.ensures.reads.told c.in-Err.ensures.reads.untold c.in-Err.ensures.reads.placed
       c.in-Err.ensures.reads.numbered c.read_solver.ensures.reads.asked);
 }
 
@@ -36,8 +43,9 @@ returns-in-Err-Read g c =
           (input g.Q.RoadRead.left g.Q.RoadRead.failures g.Q.RoadRead.asked c.args.requests_in.now)
           (input g.Q.RoadRead.left g.Q.RoadRead.failures g.Q.RoadRead.asked c.serve.new.input)
           (output g.W.RoadWrite.written g.W.RoadWrite.held g.W.RoadWrite.failures c.args.out.now) (output g.W.RoadWrite.written g.W.RoadWrite.held g.W.RoadWrite.failures c.serve.new.out)
-          (c.are_in_range.ensures.0 c.if-not-are_in_range.false) (graph_of c.in-Ok.solver) read c.in-Ok.ensures.reads.sound c.in-Ok.ensures.reads.end c.read_solver.ensures.reads.asked
-          1 (inl refl) ((c.serve.ensures.read is).0) (λ one. λ same. omega (arith, same, (c.serve.ensures.read is).1), λ lost. refl));
+          (c.suit.ensures.in_range c.if-not-suit.false) (graph_of c.in-Ok.solver) read c.in-Ok.ensures.reads.sound c.in-Ok.ensures.reads.end c.read_solver.ensures.reads.asked
+          1 (inl refl) (λ one. (c.serve.ensures.read is).0) (λ two. absurd (omega (arith, two)))
+          (c.serve.ensures.passed_on (read_no_write c.serve.result is)) (λ one. λ same. omega (arith, same, (c.serve.ensures.read is).1), λ lost. refl));
     }
 
 pub returns-in-Err-TooLong : goal.returns-in-Err-TooLong
@@ -51,8 +59,9 @@ returns-in-Err-TooLong g c =
           (input g.Q.RoadRead.left g.Q.RoadRead.failures g.Q.RoadRead.asked c.args.requests_in.now)
           (input g.Q.RoadRead.left g.Q.RoadRead.failures g.Q.RoadRead.asked c.serve.new.input)
           (output g.W.RoadWrite.written g.W.RoadWrite.held g.W.RoadWrite.failures c.args.out.now) (output g.W.RoadWrite.written g.W.RoadWrite.held g.W.RoadWrite.failures c.serve.new.out)
-          (c.are_in_range.ensures.0 c.if-not-are_in_range.false) (graph_of c.in-Ok.solver) read c.in-Ok.ensures.reads.sound c.in-Ok.ensures.reads.end c.read_solver.ensures.reads.asked
-          2 (inr refl) (c.serve.ensures.long is) (λ one. absurd (omega (arith, one)), λ lost. absurd (lost (c.serve.ensures.sound (long_no_read c.serve.result is)))));
+          (c.suit.ensures.in_range c.if-not-suit.false) (graph_of c.in-Ok.solver) read c.in-Ok.ensures.reads.sound c.in-Ok.ensures.reads.end c.read_solver.ensures.reads.asked
+          2 (inr refl) (λ one. absurd (omega (arith, one))) (λ two. c.serve.ensures.long is)
+          (c.serve.ensures.passed_on (long_no_write c.serve.result is)) (λ one. absurd (omega (arith, one)), λ lost. absurd (lost (c.serve.ensures.sound (long_no_read c.serve.result is)))));
     }
 
 pub returns : goal.returns
@@ -64,6 +73,6 @@ returns g c =
           (input g.G.RoadRead.left g.G.RoadRead.failures g.G.RoadRead.asked c.args.graph_in.now) (input g.G.RoadRead.left g.G.RoadRead.failures g.G.RoadRead.asked c.read_solver.new.graph_in)
           (input g.Q.RoadRead.left g.Q.RoadRead.failures g.Q.RoadRead.asked c.args.requests_in.now) (input g.Q.RoadRead.left g.Q.RoadRead.failures g.Q.RoadRead.asked c.serve.new.input)
           (output g.W.RoadWrite.written g.W.RoadWrite.held g.W.RoadWrite.failures c.args.out.now) (output g.W.RoadWrite.written g.W.RoadWrite.held g.W.RoadWrite.failures c.serve.new.out)
-          (c.are_in_range.ensures.0 c.if-not-are_in_range.false) (graph_of c.in-Ok.solver) read c.in-Ok.ensures.reads.sound c.in-Ok.ensures.reads.end c.read_solver.ensures.reads.asked
+          (c.suit.ensures.in_range c.if-not-suit.false) (graph_of c.in-Ok.solver) read c.in-Ok.ensures.reads.sound c.in-Ok.ensures.reads.end c.read_solver.ensures.reads.asked
           (c.serve.ensures.write stopped) (c.serve.ensures.sound (no_read c.serve.result stopped)));
     }

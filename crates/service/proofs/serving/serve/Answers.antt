@@ -32,7 +32,7 @@ loop-preserved g c = record {
       (g.W.RoadWrite.failures c.loop.out) (g.W.RoadWrite.failures c.feed.new.out)
       c.loop.invariant.served c.in-Ok-ask.ensures.bytes.0 (stays_own (g.A.PathAlgebra.meaning c.args.answers.now.algebra) c.args.answers.now.run.now.settings.now (g.T.Gate.may_answer c.args.answers.now.run.now.gate.now) c.args.solver.now c.loop.solver c.loop.invariant.same c.requires.kind
       (λ (may : Asked → List ℕ → Type 0). Fed may c.loop.service c.feed.new.self (take c.in-Ok-ask.n c.ask.new.buffer) (g.W.RoadWrite.written c.loop.out) (g.W.RoadWrite.written c.feed.new.out) (g.W.RoadWrite.failures c.loop.out) (g.W.RoadWrite.failures c.feed.new.out)) c.in-Ok-feed.ensures.fed);
-  held = c.in-Ok-feed.ensures.passed_on c.loop.invariant.held;
+  held = c.in-Ok-feed.ensures.passed_on (λ e. cc) c.loop.invariant.held;
   vertices = c.feed.ensures.vertices ∙ c.loop.invariant.vertices;
   same = record { graph = c.feed.ensures.same.graph ∙ c.loop.invariant.same.graph; kind = c.feed.ensures.same.kind ∙ c.loop.invariant.same.kind };
   sound = c.in-Ok-ask.ensures.sound ∙ c.loop.invariant.sound;
@@ -46,10 +46,10 @@ returns-in-Err-clause-write g c = λ is. flush_fell (MayAnswer (g.A.PathAlgebra.
 pub returns-in-Err-ask-clause-read : goal.returns-in-Err-ask-clause-read
 returns-in-Err-ask-clause-read g c = λ is. (
   read_failed (MayAnswer (g.A.PathAlgebra.meaning c.args.answers.now.algebra) c.args.answers.now.run.now.settings.now (g.T.Gate.may_answer c.args.answers.now.run.now.gate.now) (graph_of c.args.solver.now)) c.loop.service (graph_of c.args.solver.now).vertices (g.I.RoadRead.left c.args.input.now)
-      (g.I.RoadRead.left c.loop.input) (g.I.RoadRead.left c.loop.input)
+      (g.I.RoadRead.left c.loop.input) (g.I.RoadRead.left c.ask.new.input)
       (g.W.RoadWrite.written c.args.out.now) (g.W.RoadWrite.written c.flush.new.self) (g.W.RoadWrite.written c.loop.out) (g.W.RoadWrite.written c.loop.out)
       (g.W.RoadWrite.failures c.args.out.now) (g.W.RoadWrite.failures c.flush.new.self) (g.W.RoadWrite.failures c.loop.out) (g.W.RoadWrite.failures c.loop.out)
-      c.loop.invariant.vertices c.loop.invariant.served c.flush.ensures.bytes c.in-Ok.ensures.sound,
+      c.loop.invariant.vertices c.loop.invariant.served c.flush.ensures.bytes c.in-Ok.ensures.sound c.in-Err-ask.ensures.bytes,
   c.in-Err-ask.ensures.failed ∙ ap (λ k. k + 1) c.loop.invariant.sound,
 )
 

@@ -2,13 +2,13 @@
 # ~/.local/share/bash-completion/completions/diffuse
 _diffuse() {
     local word=${COMP_WORDS[COMP_CWORD]} before=${COMP_WORDS[COMP_CWORD - 1]} engine watching
-    engine="--plain --algebra --limit --width --workers --shards --budget --turns --best-first --help"
-    watching="--accounts --progress"
+    engine="--plain --factors --algebra --limit --width --workers --shards --budget --turns --best-first --ahead --help"
+    watching="--accounts --progress --times"
     case $before in
         --algebra)
             mapfile -t COMPREPLY < <(compgen -W "shortest widest reach hops reliable within" -- "$word")
             return ;;
-        --limit | --workers | --shards | --width | --budget | --turns)
+        --limit | --workers | --shards | --width | --budget | --turns | --ahead)
             COMPREPLY=()
             return ;;
     esac

@@ -1,4 +1,5 @@
 //! Worked questions with their answers, and what stops a batch.
+mod factors;
 mod faults;
 mod gates;
 mod reports;
@@ -309,7 +310,9 @@ fn any_settings_in_range(rt: HostRuntime) {
             budget,
             turns,
             plain: false,
+            factors: false,
             best_first: false,
+            ahead: None,
         };
         assert_both_ways(&rt, Shortest, &settings, FIVE, FROM_ONE, SHORTEST);
     }

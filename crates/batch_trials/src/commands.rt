@@ -158,7 +158,7 @@ fn command_lines(rt: HostRuntime) {
     }
 }
 
-/// How questions are run, in words.
+/// How questions are run: numbers, and then the flags that are given, in words.
 fn settings_said(alloc: Global, settings: &Settings) -> Result<String, AllocError> {
     let Settings {
         workers,
@@ -167,9 +167,20 @@ fn settings_said(alloc: Global, settings: &Settings) -> Result<String, AllocErro
         budget,
         turns,
         plain,
+        factors,
         best_first,
+        ahead,
     } = *settings;
-    format!(in alloc; "{workers} {shards} {width} {budget} {turns} {plain} {best_first}")
+    let plain = if plain { " plain" } else { "" };
+    let factors = if factors { " factors" } else { "" };
+    let best_first = if best_first { " best-first" } else { "" };
+    let flags = format!(in alloc; "{plain}{factors}{best_first}")?;
+    match ahead {
+        Some(ahead) => format!(in alloc;
+            "{workers} {shards} {width} {budget} {turns}{flags} ahead {ahead}"
+        ),
+        None => format!(in alloc; "{workers} {shards} {width} {budget} {turns}{flags}"),
+    }
 }
 
 /// How a bundle is run, as a command line says, in words; or `wrong`.
@@ -191,19 +202,24 @@ fn assert_settings(rt: &(impl Abort + AllocGlobal), options: &str, wanted: &str)
 #[test]
 fn settings_of_a_command_line(rt: HostRuntime) {
     for &(options, wanted) in &[
-        ("--workers 4", "4 4 1 1024 1000000000000 false false"),
-        ("--workers 1 --plain", "1 4 1 1024 1000000000000 true false"),
-        ("--best-first", "4 4 1 1024 1000000000000 false true"),
+        ("--workers 4", "4 4 1 1024 1000000000000"),
+        ("--workers 1 --plain", "1 4 1 1024 1000000000000 plain"),
+        ("--factors", "4 4 1 1024 1000000000000 factors"),
+        ("--best-first", "4 4 1 1024 1000000000000 best-first"),
         (
-            "--workers 64 --shards 1",
-            "64 1 1 1024 1000000000000 false false",
+            "--best-first --ahead 0",
+            "4 4 1 1024 1000000000000 best-first ahead 0",
         ),
         (
-            "--shards=64 --width 64",
-            "4 64 64 1024 1000000000000 false false",
+            "--ahead 4294967295",
+            "4 4 1 1024 1000000000000 ahead 4294967295",
         ),
-        ("--budget 1 --turns 0", "4 4 1 1 0 false false"),
-        ("--budget 65536", "4 4 1 65536 1000000000000 false false"),
+        ("--ahead 4294967296", "wrong"),
+        ("--factors --plain", "wrong"),
+        ("--workers 64 --shards 1", "64 1 1 1024 1000000000000"),
+        ("--shards=64 --width 64", "4 64 64 1024 1000000000000"),
+        ("--budget 1 --turns 0", "4 4 1 1 0"),
+        ("--budget 65536", "4 4 1 65536 1000000000000"),
         ("--workers 0", "wrong"),
         ("--workers 65", "wrong"),
         ("--shards 0", "wrong"),
@@ -393,7 +409,7 @@ const STDIN_TWICE: &str = "error: `-` is standard input, and serves for one of t
 const NO_SUCH_FAULT: &str = "error: no fault has this number; `diffuse faults` lists them\n";
 
 /// The version of the program, and the line of the toolchain.
-const VERSION: &str = "diffuse 1.0.0 (rattle-kit-13f)\n";
+const VERSION: &str = "diffuse 1.1.0 (rattle-kit-13f)\n";
 
 /// What is said of fault 13.
 const THIRTEEN: &str =

@@ -1,8 +1,9 @@
 //! The arguments of the command line, and what help says of them.
 use crate::help::{
-    ACCOUNTS, ALGEBRA, ANSWERS, BEST_FIRST, BUDGET, BUNDLE, EXPLAINED, GRAPH, JUDGED, LIMIT,
-    LIMIT_OF_ANSWERS, NAMES, NUMBERS, PLAIN, PROGRESS, PURPOSE, QUESTIONS, REPLIES, SERVE,
-    SERVED_GRAPH, SHARDS, STATUSES, TURNS, VERDICT, VERDICTS, VERSION, WIDTH, WORKERS,
+    ACCOUNTS, AHEAD, ALGEBRA, ANSWERS, BEST_FIRST, BUDGET, BUNDLE, EXPLAINED, FACTORS, GRAPH,
+    JUDGED, LIMIT, LIMIT_OF_ANSWERS, NAMES, NUMBERS, PLAIN, PROGRESS, PURPOSE, QUESTIONS, REPLIES,
+    SERVE, SERVED_GRAPH, SHARDS, STATUSES, TIMES, TURNS, VERDICT, VERDICTS, VERSION, WIDTH,
+    WORKERS,
 };
 use clap::builder::ValueParser;
 use clap::{Arg, ArgAction, Command};
@@ -56,6 +57,14 @@ fn settings<'a>(alloc: Global, command: Command<'a>) -> Result<Command<'a>, Allo
                 .next_line_help(true)
                 .help(PLAIN),
         )?
+        .arg(
+            Arg::new(alloc, "factors")
+                .long("factors")
+                .action(ArgAction::SetTrue)
+                .conflicts_with("plain")?
+                .next_line_help(true)
+                .help(FACTORS),
+        )?
         .arg(algebra(alloc))?
         .arg(limit(alloc, LIMIT))?
         .arg(number(alloc, "width", 1, 64, "1", WIDTH))?
@@ -69,6 +78,15 @@ fn settings<'a>(alloc: Global, command: Command<'a>) -> Result<Command<'a>, Allo
                 .action(ArgAction::SetTrue)
                 .next_line_help(true)
                 .help(BEST_FIRST),
+        )?
+        .arg(
+            Arg::new(alloc, "ahead")
+                .long("ahead")
+                .value_name("W")
+                .action(ArgAction::Set)
+                .value_parser(ValueParser::unsigned(0, u64::from(u32::MAX)))
+                .next_line_help(true)
+                .help(AHEAD),
         )
 }
 
@@ -89,6 +107,13 @@ fn watching<'a>(alloc: Global, command: Command<'a>) -> Result<Command<'a>, Allo
                 .action(ArgAction::SetTrue)
                 .next_line_help(true)
                 .help(PROGRESS),
+        )?
+        .arg(
+            Arg::new(alloc, "times")
+                .long("times")
+                .action(ArgAction::SetTrue)
+                .next_line_help(true)
+                .help(TIMES),
         )
 }
 

@@ -20,7 +20,7 @@ macro_rules! with_statuses {
 }
 
 /// The version of the program, and the line of the toolchain that proves it.
-pub const VERSION: &str = "1.0.0 (rattle-kit-13f)";
+pub const VERSION: &str = "1.1.0 (rattle-kit-13f)";
 
 /// What the program is for.
 pub const PURPOSE: &str = concat!(
@@ -84,16 +84,25 @@ pub const LIMIT_OF_ANSWERS: &str = concat!(
 
 /// The one-thread solver.
 pub const PLAIN: &str = concat!(
-    "The fast way; leave it out to run the diffusing computation. With it\n",
-    "`--workers`, `--shards`, `--budget`, `--turns` and `--best-first`\n",
-    "have no effect, but must be in range",
+    "The fast way for a few questions: a search for each. Leave it out, and\n",
+    "`--factors` too, to run the diffusing computation. With it\n",
+    "`--workers`, `--shards`, `--budget`, `--turns`, `--best-first` and\n",
+    "`--ahead` have no effect, but must be in range",
+);
+
+/// The solver by factors of the graph.
+pub const FACTORS: &str = concat!(
+    "The fast way for many questions over one graph of roads: factor it\n",
+    "once, then answer each by substitution. For shortest, within and hops.\n",
+    "The options that have no effect with `--plain` have none here. A graph\n",
+    "that is too dense is answered as with `--plain`",
 );
 
 /// How many questions are run together.
 pub const WIDTH: &str = concat!(
     "Questions under way together, 1 to 64; memory grows with it. With\n",
-    "`--plain` they are solved side by side, on all\n",
-    "processors",
+    "`--plain` they are solved side by side, on all processors; with\n",
+    "`--factors` one after the other",
 );
 
 /// How many threads there are.
@@ -108,7 +117,14 @@ pub const BUDGET: &str = "Messages and signals of a shard in a turn, 1 to 65536"
 /// Which of the waiting messages a shard handles next.
 pub const BEST_FIRST: &str = concat!(
     "Let a shard handle the best waiting message next, not the first that\n",
-    "came: far fewer messages on road graphs, with few shards",
+    "came: far fewer messages on road graphs",
+);
+
+/// How far a shard may run ahead of the others.
+pub const AHEAD: &str = concat!(
+    "With `--best-first`: by what weight a shard may run ahead of the best\n",
+    "message that waits at another, 0 to 4294967295; worse ones are held\n",
+    "back. Without it the mean weight of the arcs",
 );
 
 /// How long a worker goes on.
@@ -117,13 +133,20 @@ pub const TURNS: &str = "Turns of a worker in a group, then fault 40";
 /// Where the counts of a run go.
 pub const ACCOUNTS: &str = concat!(
     "Write what each diffusion sent, delivered, signalled and accepted to\n",
-    "FILE (/dev/stderr serves). Not with `--plain`, which counts nothing",
+    "FILE (/dev/stderr serves). Not with `--plain` or `--factors`, which\n",
+    "count nothing",
 );
 
 /// Whether a run says how far it is.
 pub const PROGRESS: &str = concat!(
     "Say on standard error how many questions are answered, each time\n",
     "another hundredth is",
+);
+
+/// Whether a run says how long it took.
+pub const TIMES: &str = concat!(
+    "Say at last on standard error how many seconds were spent on reading,\n",
+    "solving and writing",
 );
 
 /// What a bundle is.

@@ -22,6 +22,8 @@ pub struct WatchOptions<'a> {
     pub accounts: Option<&'a str>,
     /// Whether progress is shown.
     pub progress: bool,
+    /// Whether it is shown how long reading, solving and writing took.
+    pub times: bool,
 }
 
 /// The arguments of `solve`: the names of its inputs, and its options.
@@ -79,6 +81,10 @@ fn number_of(matches: &ArgMatches<'_>, name: &str, default: u64) -> u64 {
     matches.get_one::<u64>(name).unwrap_or(default)
 }
 
+fn ahead_of(matches: &ArgMatches<'_>) -> Option<u32> {
+    u32::try_from(matches.get_one::<u64>("ahead")?).ok()
+}
+
 fn settings_of(matches: &ArgMatches<'_>) -> Settings {
     let usual = Settings::default();
     Settings {
@@ -88,7 +94,9 @@ fn settings_of(matches: &ArgMatches<'_>) -> Settings {
         budget: number_of(matches, "budget", usual.budget),
         turns: number_of(matches, "turns", usual.turns),
         plain: matches.get_flag("plain"),
+        factors: matches.get_flag("factors"),
         best_first: matches.get_flag("best-first"),
+        ahead: ahead_of(matches),
     }
 }
 
@@ -104,6 +112,7 @@ fn watching_of<'a>(matches: &ArgMatches<'a>) -> WatchOptions<'a> {
     WatchOptions {
         accounts: matches.get_str("accounts"),
         progress: matches.get_flag("progress"),
+        times: matches.get_flag("times"),
     }
 }
 

@@ -154,11 +154,13 @@ const FAULTS: &[FaultRow] = &[
     },
     FaultRow {
         number: 43,
-        meaning: "`--limit` without `within`, or `within` without `--limit`",
+        meaning: "options that do not go with the algebra: `--limit` or `--factors`",
         example: "`diffuse solve --algebra hops --limit 5 roads.gr roads.ss`",
         cause: concat!(
-            "for `check`, the answers name the algebra. A setting out of its range\n",
-            "    is refused with the command line; the library calls that 43 too"
+            "`--limit` goes with `within`, and that not without it; for `check`, the\n",
+            "    answers name the algebra. Or the algebra has no factors: shortest,\n",
+            "    within and hops have. A setting out of its range is refused with the\n",
+            "    command line; the library calls that 43 too"
         ),
     },
 ];

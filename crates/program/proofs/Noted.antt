@@ -10,6 +10,7 @@ use Rattle.batch_run.specs.declared.faults.File.TheVariants.{Graph, Questions, B
 use Rattle.batch_run.specs.declared.faults.RunFault.{RunFault}
 use Rattle.batch_run.specs.declared.settings.Settings.{Settings}
 use Rattle.batch_run.specs.declared.watcher.Report.{Report}
+use Rattle.batch_run.specs.Choice.{without_diffusions}
 use Rattle.batch_run.specs.Reports.{FollowsReports, ReportedFirst, Watched}
 use Rattle.path_algebra.specs.declared.choice.AlgebraChoice.{AlgebraChoice}
 use Rattle.path_algebra.specs.Choices.{Under}
@@ -44,27 +45,27 @@ module _ {V S : Type 0} (A : Algebra V) (plain : Bool) (IsRead : GraphData → A
 
 -- a batch makes some reports to its watcher, which on success are its own
 pub watched_told : {V S : Type 0} (A : Algebra V) (how : Settings) (IsRead : GraphData → Asked → Type 0) (may_become : S → Report → S → Type 0) (old new : S) (outcome : Result (Unit {0}) RunFault) →
-    Watched A how IsRead may_become old new outcome → (told : WasTold may_become old new) × OnOk outcome (AreReportsOf A how.plain IsRead told.0)
+    Watched A how IsRead may_become old new outcome → (told : WasTold may_become old new) × OnOk outcome (AreReportsOf A (without_diffusions how) IsRead told.0)
 watched_told A how IsRead may_become old new (Ok u) w =
     ((w.all.reported.reports, w.all.reported.told), record { graph = w.all.graph; asked = w.all.asked; read = w.all.read; are_due = w.all.reported.are_due })
-watched_told A how IsRead may_become old new (Err f) w = (fault_told A how.plain IsRead may_become old new f.file f.number w.first w.nothing w.untouched, tt)
+watched_told A how IsRead may_become old new (Err f) w = (fault_told A (without_diffusions how) IsRead may_become old new f.file f.number w.first w.nothing w.untouched, tt)
 
 -- the same under the algebra that was chosen
 pub under_told : {S : Type 0} (c : AlgebraChoice) (how : Settings) (IsRead : GraphData → Asked → Type 0) (may_become : S → Report → S → Type 0) (old new : S) (outcome : Result (Unit {0}) RunFault) →
     Under c (λ V A. Watched A how IsRead may_become old new outcome) →
-    (told : WasTold may_become old new) × Under c (λ V A. OnOk outcome (AreReportsOf A how.plain IsRead told.0))
+    (told : WasTold may_become old new) × Under c (λ V A. OnOk outcome (AreReportsOf A (without_diffusions how) IsRead told.0))
 under_told c how IsRead may_become old new outcome w =
-    under_some c (WasTold may_become old new) (λ V A. Watched A how IsRead may_become old new outcome) (λ told V A. OnOk outcome (AreReportsOf A how.plain IsRead told.0))
+    under_some c (WasTold may_become old new) (λ V A. Watched A how IsRead may_become old new outcome) (λ told V A. OnOk outcome (AreReportsOf A (without_diffusions how) IsRead told.0))
     (λ V A it. watched_told A how IsRead may_become old new outcome it) w
 
 -- what a watcher of a command leaves to which all these reports were made
-pub record Noted {A E : Type 0} (written : A → Option (List ℕ)) (failures : A → ℕ) (shown : E → Option (List ℕ)) (unshown : E → ℕ) (old : Watch A E)
-    (reports : List Report) (new : Watch A E) : Type 0 where
+pub record Noted {A E M : Type 0} (written : A → Option (List ℕ)) (failures : A → ℕ) (shown : E → Option (List ℕ)) (unshown : E → ℕ) (old : Watch A E M)
+    (reports : List Report) (new : Watch A E M) : Type 0 where
   pub same : (new.accounts.ghost_name ≡ old.accounts.ghost_name) × (new.errors.ghost_name ≡ old.errors.ghost_name)
   pub accounts : HasAccounts written failures old.accounts.now new.accounts.now old.lost new.lost (accounts_text old.name reports)
   pub errors : IsAddedIf shown unshown old.progress old.errors.now new.errors.now (progress_text old.all reports)
 
-module _ {A E : Type 0} (written : A → Option (List ℕ)) (failures : A → ℕ) (shown : E → Option (List ℕ)) (unshown : E → ℕ) where
+module _ {E : Type 0} (shown : E → Option (List ℕ)) (unshown : E → ℕ) where
   shown_none : (progress : Bool) (errors : E) → IsAddedIf shown unshown progress errors errors []
   shown_none true errors = added_none (shown errors) (unshown errors)
   shown_none false errors = refl
@@ -74,22 +75,23 @@ module _ {A E : Type 0} (written : A → Option (List ℕ)) (failures : A → �
   shown_then true old mid new x y p q = added_then _ _ _ _ _ _ x y p q
   shown_then false old mid new x y p q = q ∙ p
 
-  noted_none : (old new : Watch A E) → new ≡ old → Noted written failures shown unshown old [] new
+module _ {A E M : Type 0} (written : A → Option (List ℕ)) (failures : A → ℕ) (shown : E → Option (List ℕ)) (unshown : E → ℕ) where
+  noted_none : (old new : Watch A E M) → new ≡ old → Noted written failures shown unshown old [] new
   noted_none old new e = subst (Noted written failures shown unshown old []) (sym e) (record {
     same = (refl, refl);
     accounts = has_none written failures old.accounts.now old.lost;
-    errors = shown_none old.progress old.errors.now;
+    errors = shown_none shown unshown old.progress old.errors.now;
   })
 
-  errors_then : (old next new : Watch A E) (r : Report) (rs : List Report) → Notes written failures shown unshown old r next → Noted written failures shown unshown next rs new →
+  errors_then : (old next new : Watch A E M) (r : Report) (rs : List Report) → Notes written failures shown unshown old r next → Noted written failures shown unshown next rs new →
       IsAddedIf shown unshown old.progress old.errors.now new.errors.now (progress_text old.all (r ∷ rs))
   errors_then old next new r rs first more =
-      shown_then old.progress old.errors.now next.errors.now new.errors.now (shown_at old.all r) (progress_text (all_after old.all r) rs) first.errors
+      shown_then shown unshown old.progress old.errors.now next.errors.now new.errors.now (shown_at old.all r) (progress_text (all_after old.all r) rs) first.errors
       (subst (λ p. IsAddedIf shown unshown p next.errors.now new.errors.now (progress_text (all_after old.all r) rs)) first.progress
       (subst (λ n. IsAddedIf shown unshown next.progress next.errors.now new.errors.now (progress_text n rs)) first.all more.errors))
 
   -- a watcher has noted all reports that were made to it
-  pub noted_all : (rs : List Report) (old new : Watch A E) → FollowsReports (Notes written failures shown unshown) old rs new → Noted written failures shown unshown old rs new
+  pub noted_all : (rs : List Report) (old new : Watch A E M) → FollowsReports (Notes written failures shown unshown) old rs new → Noted written failures shown unshown old rs new
   noted_all [] old new e = noted_none old new e
   noted_all (r ∷ rs) old new (next, first, rest) =
       let more = noted_all rs next new rest in record {

@@ -25,6 +25,7 @@ use Rattle.program.specs.Moments.{Moment}
 use Rattle.program.specs.Opening.{CannotChoose, CannotCreate, CannotOpen, CreatesIf, HasOpened, IsChosen, Tries, accounts_name, inputs_judged, inputs_solved, missing}
 use Rattle.program.specs.Refusals.{Says}
 use Rattle.program.specs.Runs.{gate_is_open}
+use Rattle.program.specs.Times.{ShowsTimes}
 use Rattle.program.specs.Watching.{EndsWatched}
 
 -- a command was refused, for a reason that leaves the files so: its output is as it was, and the reason is said
@@ -44,15 +45,17 @@ abbrev pub Uncreated : {P : Type 0} → Tries P → WatchOptions → P → P →
 Uncreated creates watching files files_after refusal =
     CreatesIf creates (accounts_name watching) files files_after × CannotCreate watching refusal
 
--- both inputs were opened, and the file of accounts was created; then the questions were answered
+-- both inputs were opened, and the file of accounts was created; then the questions were answered, and at last times were shown, if they are wanted
 pub record SolvesOpened (F I S : Type 0) {P W E : Type 0} (creates : Tries P) (chosen : AlgebraChoice) (args : SolveArgs) (first second : Input (OpenedInput F I)) (opened : P) (old new : Moment P W E) (result : ℕ) : Type 0 where
   pub accounts : Option (Output S)
   pub accounts_after : Option (Output S)
-  pub created : Creates creates args.watching accounts opened new.files
+  pub answered : Moment P W E
+  pub created : Creates creates args.watching accounts opened answered.files
   pub first_after : Input (OpenedInput F I)
   pub second_after : Input (OpenedInput F I)
   pub ends : EndsWatched chosen args.options.settings args.watching.progress (IsPairOf first.left second.left) IsPairFile (HasReadPair first first_after second second_after)
-      old.out new.out accounts accounts_after old.errors new.errors result
+      old.out answered.out accounts accounts_after old.errors answered.errors result
+  pub timed : ShowsTimes args.watching.times result answered new
 
 -- inputs were opened, or the first that can't be is reported; then the file of accounts was created, or that is reported; then the questions were answered
 pub record SolvesChosen (F I S : Type 0) {P W E : Type 0} (opens creates : Tries P) (chosen : AlgebraChoice) (args : SolveArgs) (old new : Moment P W E) (result : ℕ) : Type 0 where
@@ -71,16 +74,18 @@ DoesSolve F I S opens creates args old new result =
     × (IsRefused (CannotOpen opens (inputs_solved args) old.files) old new result
     ⊎ SolvesChosen F I S opens creates chosen args old new result))
 
--- the file of accounts was created; then the questions of standard input were answered, which nothing was read of before
+-- the file of accounts was created; then the questions of standard input were answered, which nothing was read of before, and at last times were shown, if they are wanted
 pub record BundlesStdin (I S : Type 0) {P W E : Type 0} (creates : Tries P) (chosen : AlgebraChoice) (args : BundleArgs) (old new : Moment P W E) (result : ℕ) : Type 0 where
   pub text : Input I
   pub text_after : Input I
   pub unread : text.asked ≡ 0
   pub accounts : Option (Output S)
   pub accounts_after : Option (Output S)
-  pub created : Creates creates args.watching accounts old.files new.files
+  pub answered : Moment P W E
+  pub created : Creates creates args.watching accounts old.files answered.files
   pub ends : EndsWatched chosen args.options.settings args.watching.progress (IsBundleOf text.left) IsBundleFile (HasReadBundle text text_after)
-      old.out new.out accounts accounts_after old.errors new.errors result
+      old.out answered.out accounts accounts_after old.errors answered.errors result
+  pub timed : ShowsTimes args.watching.times result answered new
 
 -- `bundle` with these arguments
 abbrev pub DoesBundle : (I S : Type 0) → {P W E : Type 0} → Tries P → BundleArgs → Moment P W E → Moment P W E → ℕ → Type 0

@@ -6,6 +6,7 @@ pub mod Accounts
 pub mod Progress
 pub mod Runs
 pub mod Watching
+pub mod Times
 pub mod Verdicts
 pub mod Judgements
 pub mod Commands

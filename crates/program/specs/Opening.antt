@@ -19,9 +19,9 @@ use Rattle.program.specs.declared.opened_input.OpenedInput.{OpenedInput}
 use Rattle.program.specs.declared.refusal.Refusal.{Refusal}
 use Rattle.program.specs.declared.refusal.Refusal.TheVariants.{Uncounted, StdinTwice, Fault}
 
--- accounts are wanted, and of the plain solver, which counts nothing
+-- accounts are wanted, and of a solver that counts nothing: the plain one, or the one by factors
 abbrev pub IsUncounted : Bool → Settings → Type 0
-IsUncounted accounts settings = (accounts ≡ true) × (settings.plain ≡ true)
+IsUncounted accounts settings = (accounts ≡ true) × ((settings.plain ≡ true) ⊎ (settings.factors ≡ true))
 
 -- this is the algebra that the options name, with their limit
 pub record IsChosen (options : RunOptions) (accounts : Bool) (chosen : AlgebraChoice) : Type 0 where
@@ -29,7 +29,7 @@ pub record IsChosen (options : RunOptions) (accounts : Bool) (chosen : AlgebraCh
   pub named : name_of_text options.algebra.now ≡ Some (name_of chosen)
   pub limited : limit_of chosen ≡ options.limit
 
--- accounts are wanted of the plain solver; or, if not, there is no algebra of that name with that limit, which is fault 43
+-- accounts are wanted of a solver that counts nothing; or, if not, there is no algebra of that name with that limit, which is fault 43
 abbrev pub CannotChoose : RunOptions → Bool → Refusal → Type 0
 CannotChoose options accounts Uncounted = IsUncounted accounts options.settings
 CannotChoose options accounts (Fault f) =

@@ -9,6 +9,7 @@ use Rattle.batch_run.specs.declared.faults.File.{File}
 use Rattle.batch_run.specs.declared.faults.RunFault.{RunFault}
 use Rattle.batch_run.specs.declared.settings.Settings.{Settings}
 use Rattle.batch_run.specs.declared.watcher.Report.{Report}
+use Rattle.batch_run.specs.Choice.{without_diffusions}
 use Rattle.batch_run.specs.Reports.{IsReportOf, batch_due}
 use Rattle.batch_run.specs.Runs.{Output}
 use Rattle.path_algebra.specs.declared.choice.AlgebraChoice.{AlgebraChoice}
@@ -47,7 +48,7 @@ pub record HasAccounts {A : Type 0} (written : A → Option (List ℕ)) (failure
   pub stays : lost ≡ true → (lost_after ≡ true) × (new ≡ old)
 
 -- what the watcher of a command does at a report
-pub record Notes {A E : Type 0} (written : A → Option (List ℕ)) (failures : A → ℕ) (shown : E → Option (List ℕ)) (unshown : E → ℕ) (old : Watch A E) (report : Report) (new : Watch A E) : Type 0 where
+pub record Notes {A E M : Type 0} (written : A → Option (List ℕ)) (failures : A → ℕ) (shown : E → Option (List ℕ)) (unshown : E → ℕ) (old : Watch A E M) (report : Report) (new : Watch A E M) : Type 0 where
   -- it goes on to write to the same files
   pub same : (new.accounts.ghost_name ≡ old.accounts.ghost_name) × (new.errors.ghost_name ≡ old.errors.ghost_name)
   -- under the same name, and shows progress as before
@@ -92,7 +93,7 @@ pub record EndsWatched {W A E : Type 0} (chosen : AlgebraChoice) (settings : Set
   pub outcome : Result (Unit {0}) RunFault
   pub ran : RanUnder chosen settings IsRead inputs HasRead out out_after outcome
   pub reports : List Report
-  pub reported : Under chosen (λ V A. OnOk outcome (AreReportsOf A settings.plain IsRead reports))
+  pub reported : Under chosen (λ V A. OnOk outcome (AreReportsOf A (without_diffusions settings) IsRead reports))
   pub kept : Result (Unit {0}) RunFault
   pub accounted : Account (accounts_text (name_of chosen) reports) accounts accounts_after kept
   pub watched : Output E

@@ -10,8 +10,10 @@ ghost use Rattle.service.specs.Served.{RanService};
 ghost use Rattle.program.specs.Runs.{gate_is_open};
 ghost use Rattle.program.specs.Watching.{EndsAccounts, EndsWatched, outcome_of};
 
+use crate::files::FileSystem;
 use crate::host::Host;
-use crate::task::{Task, Watching};
+use crate::task::{MeasuredTask, Task, Watching};
+use crate::times::{FilePhases, Phases, Unmeasured};
 use crate::watch::Watch;
 use batch_run::{
     BatchInput, OpenGate, PairInput, Run, RunFault, WRITE, Watcher, fault_of_run, run_batch,
@@ -100,8 +102,48 @@ fn outcome_of(batch: Result<(), RunFault>, kept: Result<(), RunFault>) -> Result
     }
 }
 
-/// Answers the questions of an input over its graph, writes accounts and shows progress, each if it is wanted, and gives the exit
-/// status. A fault is reported last, in one line on the error output.
+/// Answers the questions of an input over its graph, writes accounts and shows progress, each if it is wanted, takes note of its
+/// phases, and gives the exit status. A fault is reported last, in one line on the error output.
+pub(crate) fn answer_in_phases<
+    R: Threads + Wait + Sync,
+    M: Phases,
+    I: BatchInput,
+    W: RoadWrite,
+    A: RoadWrite,
+    E: RoadWrite,
+>(
+    measured: &MeasuredTask<'_, '_, R, M>,
+    input: &mut I,
+    out: &mut W,
+    watching: &mut Watching<A>,
+    errors: &mut E,
+) -> u8
+    ensures { EndsWatched measured.now.task.now.chosen measured.now.task.now.settings.now
+        watching.old.progress
+        (I.is_read input.old) I.is_own (I.has_read input.old input.new)
+        (output W.written W.held W.failures out.old) (output W.written W.held W.failures out.new)
+        (option_map (output A.written A.held A.failures) watching.old.accounts)
+        (option_map (output A.written A.held A.failures) watching.new.accounts)
+        (output E.written E.held E.failures errors.old)
+        (output E.written E.held E.failures errors.new) result }
+{
+    let task = measured.task;
+    let mut watch = Watch {
+        name: task.chosen.name(),
+        accounts: &mut watching.accounts,
+        lost: false,
+        progress: watching.progress,
+        all: 0,
+        errors: &mut *errors,
+        phases: measured.phases,
+    };
+    let batch = run_chosen(task, input, out, &mut watch);
+    let lost = watch.lost;
+    let kept = end_accounts(&mut watching.accounts, lost);
+    end_with(errors, outcome_of(batch, kept))
+}
+
+/// Answers the questions of an input over its graph, as `answer_in_phases` does.
 pub fn answer<R: Threads + Wait + Sync, I: BatchInput, W: RoadWrite, A: RoadWrite, E: RoadWrite>(
     task: &Task<'_, R>,
     input: &mut I,
@@ -117,26 +159,47 @@ pub fn answer<R: Threads + Wait + Sync, I: BatchInput, W: RoadWrite, A: RoadWrit
         (output E.written E.held E.failures errors.old)
         (output E.written E.held E.failures errors.new) result }
 {
-    let mut watch = Watch {
-        name: task.chosen.name(),
-        accounts: &mut watching.accounts,
-        lost: false,
-        progress: watching.progress,
-        all: 0,
-        errors: &mut *errors,
+    let phases = Unmeasured;
+    let measured = MeasuredTask {
+        task,
+        phases: &phases,
     };
-    let batch = run_chosen(task, input, out, &mut watch);
-    let lost = watch.lost;
-    let kept = end_accounts(&mut watching.accounts, lost);
-    end_with(errors, outcome_of(batch, kept))
+    answer_in_phases(&measured, input, out, watching, errors)
 }
 
-/// Answers the questions of one input over the graph of another, as `answer` does.
+/// Answers the questions of an input over its graph, as `answer_in_phases` does. The files take note of the phases.
+pub(crate) fn answer_measured<
+    R: Threads + Wait + Sync,
+    I: BatchInput,
+    P: FileSystem,
+    W: RoadWrite,
+    A: RoadWrite,
+    E: RoadWrite,
+>(task: &Task<'_, R>, input: &mut I, host: &mut Host<P, W, E>, watching: &mut Watching<A>) -> u8
+    ensures files { host.new.files ≡ host.old.files }
+    ensures ends { EndsWatched task.now.chosen task.now.settings.now watching.old.progress
+        (I.is_read input.old) I.is_own (I.has_read input.old input.new)
+        (output W.written W.held W.failures host.old.out)
+        (output W.written W.held W.failures host.new.out)
+        (option_map (output A.written A.held A.failures) watching.old.accounts)
+        (option_map (output A.written A.held A.failures) watching.new.accounts)
+        (output E.written E.held E.failures host.old.errors)
+        (output E.written E.held E.failures host.new.errors) result }
+{
+    let phases = FilePhases { files: &host.files };
+    let measured = MeasuredTask {
+        task,
+        phases: &phases,
+    };
+    answer_in_phases(&measured, input, &mut host.out, watching, &mut host.errors)
+}
+
+/// Answers the questions of one input over the graph of another, as `answer_measured` does.
 pub(crate) fn answer_pair<
     R: Threads + Wait + Sync,
     G: RoadRead,
     Q: RoadRead,
-    P,
+    P: FileSystem,
     W: RoadWrite,
     A: RoadWrite,
     E: RoadWrite,
@@ -160,5 +223,5 @@ pub(crate) fn answer_pair<
         (output E.written E.held E.failures host.new.errors) result }
 {
     let mut input = PairInput { graph, questions };
-    answer(task, &mut input, &mut host.out, watching, &mut host.errors)
+    answer_measured(task, &mut input, host, watching)
 }

@@ -7,6 +7,8 @@ use crate::commands::{bundle, check, serve, solve};
 use crate::files::{FileSystem, HostFiles};
 use crate::host::Host;
 use crate::refusal::{Refusal, refuse};
+use crate::streams::take_closed_streams;
+use crate::times::{Stopwatch, TimedWriter};
 use batch_run::fault_of_run;
 use clap::Error;
 use clap::error::ErrorKind;
@@ -18,6 +20,7 @@ use std::io::Write;
 use std::rt::{Env, Files};
 use std::sync::Wait;
 use std::thread::Threads;
+use std::time::Clock;
 use std::{env, io};
 
 /// Writes what the command line's parser says: help on the output, a usage fault on the error output.
@@ -86,19 +89,31 @@ fn words_of<R: Env + AllocGlobal>(rt: &R) -> Result<Vec<String>, Refusal> {
     }
 }
 
-/// Runs the program over the system's files and streams, with this error output, and gives the exit status.
-pub fn run<R, E: Write + Drop>(rt: &R, errors: E) -> u8
+/// Runs the program over the system's files and streams, with this stopwatch.
+fn run_measured<'a, R, E: Write + Drop>(rt: &'a R, stopwatch: &Stopwatch<'a, R>, errors: E) -> u8
 where
-    R: Env + Files + Input + Print + AllocGlobal + Threads + Wait + Sync,
+    R: Env + Files + Input + Print + Clock + AllocGlobal + Threads + Wait + Sync,
 {
+    let _taken = take_closed_streams(rt);
     let mut errors = Plain::new(errors);
     let Ok(out) = Buffered::new(rt.alloc(), Plain::new(io::writer(rt))) else {
         return report(&mut errors, fault_of_run(MEMORY));
     };
-    let files = HostFiles { rt };
+    let files = HostFiles { rt, stopwatch };
+    let out = TimedWriter::new(out, stopwatch);
     let mut host = Host { files, out, errors };
     match words_of(rt) {
         Ok(words) => run_command_line(rt, &mut host, words.as_slice()),
         Err(refusal) => refuse(&mut host.errors, refusal),
     }
+}
+
+/// Runs the program over the system's files and streams, with this error output, and gives the exit status.
+pub fn run<R, E: Write + Drop>(rt: &R, errors: E) -> u8
+where
+    R: Env + Files + Input + Print + Clock + AllocGlobal + Threads + Wait + Sync,
+{
+    let _taken = take_closed_streams(rt);
+    let stopwatch = Stopwatch::new(rt);
+    run_measured(rt, &stopwatch, errors)
 }

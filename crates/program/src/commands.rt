@@ -2,7 +2,7 @@
 ghost use Rattle.program.specs.Commands.{DoesBundle, DoesCheck, DoesServe, DoesSolve};
 ghost use Rattle.program.specs.Moments.{moment};
 
-use crate::answering::{answer, answer_pair, serve_chosen};
+use crate::answering::{answer_measured, answer_pair, serve_chosen};
 use crate::files::FileSystem;
 use crate::host::Host;
 use crate::judging::{end_check, judge};
@@ -11,6 +11,7 @@ use crate::opening::{
 };
 use crate::refusal::{Refusal, refuse};
 use crate::task::Task;
+use crate::times::show_times;
 use batch_run::{BundleInput, File};
 use command_args::{BundleArgs, CheckArgs, ServeArgs, SolveArgs};
 use fault_reports::end_with;
@@ -33,6 +34,7 @@ pub fn solve<'t, R: AllocGlobal + Threads + Wait + Sync, P: FileSystem, W: RoadW
         Ok(chosen) => chosen,
         Err(refusal) => return refuse(&mut host.errors, refusal),
     };
+    host.files.measure(args.watching.times);
     let (mut graph, mut questions) = match open_to_solve(&mut host.files, args) {
         Ok(opened) => opened,
         Err(refusal) => return refuse(&mut host.errors, refusal),
@@ -47,7 +49,9 @@ pub fn solve<'t, R: AllocGlobal + Threads + Wait + Sync, P: FileSystem, W: RoadW
         settings: &args.options.settings,
         chosen,
     };
-    answer_pair(&task, &mut graph, &mut questions, host, &mut watching)
+    let status = answer_pair(&task, &mut graph, &mut questions, host, &mut watching);
+    show_times(host, args.watching.times, status);
+    status
 }
 
 /// Answers the bundle on standard input. The file of accounts is created before it is read.
@@ -66,6 +70,7 @@ pub fn bundle<
         Ok(chosen) => chosen,
         Err(refusal) => return refuse(&mut host.errors, refusal),
     };
+    host.files.measure(args.watching.times);
     let mut text = host.files.stdin();
     let mut watching = match create_accounts(&mut host.files, &args.watching) {
         Ok(watching) => watching,
@@ -78,13 +83,9 @@ pub fn bundle<
         chosen,
     };
     let mut input = BundleInput { bundle: &mut text };
-    answer(
-        &task,
-        &mut input,
-        &mut host.out,
-        &mut watching,
-        &mut host.errors,
-    )
+    let status = answer_measured(&task, &mut input, host, &mut watching);
+    show_times(host, args.watching.times, status);
+    status
 }
 
 /// Replies to the requests of standard input over the graph of a file, which is opened first.

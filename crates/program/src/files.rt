@@ -1,11 +1,13 @@
-//! The files and the standard input of a command.
+//! The files and the standard input of a command, and its stopwatch.
 ghost use Rattle.std.specs.Prelude.{◌≡◌, ℕ, List, IfOk};
 
+use crate::times::{Phase, Stopwatch, Times};
 use road_text::{Plain, ReadFailed, RoadRead, RoadWrite, WriteFault};
 use std::fs;
 use std::rt::Files;
+use std::time::Clock;
 
-/// Files by their names, read or written, and standard input. A test may bring its own.
+/// Files by their names, read or written, standard input, and a stopwatch, if there is one. A test may bring its own.
 pub trait FileSystem {
     /// A file that was opened.
     type File: RoadRead + Drop;
@@ -34,15 +36,27 @@ pub trait FileSystem {
     /// Standard input. Nothing has been read of it.
     fn stdin(&self) -> Self::Stdin
         ensures unread { Self.Stdin.asked result ≡ 0 };
+
+    /// Starts the stopwatch, if that is wanted.
+    fn measure(&self, _wanted: bool) {}
+
+    /// The command begins this, and ends what it did before.
+    fn enter(&self, _phase: Phase) {}
+
+    /// Stops the stopwatch, and gives its times, if it was started.
+    fn times(&self) -> Option<Times> {
+        None
+    }
 }
 
-/// The files and the standard input of the system.
+/// The files and the standard input of the system, and a stopwatch by its clock.
 #[derive(Clone, Copy)]
-pub struct HostFiles<'a, R> {
+pub struct HostFiles<'s, 'a, R> {
     pub rt: &'a R,
+    pub stopwatch: &'s Stopwatch<'a, R>,
 }
 
-impl<R: Files + Input> FileSystem for HostFiles<'_, R> {
+impl<R: Files + Input + Clock> FileSystem for HostFiles<'_, '_, R> {
     type File = Plain<R::File>;
 
     type Stdin = Plain<R::Reader>;
@@ -65,5 +79,19 @@ impl<R: Files + Input> FileSystem for HostFiles<'_, R> {
 
     fn stdin(&self) -> Plain<R::Reader> {
         Plain::new(self.rt.reader())
+    }
+
+    fn measure(&self, wanted: bool) {
+        if wanted {
+            self.stopwatch.start();
+        }
+    }
+
+    fn enter(&self, phase: Phase) {
+        self.stopwatch.enter(phase);
+    }
+
+    fn times(&self) -> Option<Times> {
+        self.stopwatch.stop()
     }
 }

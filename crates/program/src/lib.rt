@@ -10,7 +10,9 @@ mod judging;
 mod opened_input;
 mod opening;
 mod refusal;
+mod streams;
 mod task;
+mod times;
 mod watch;
 
 pub use answering::answer;
@@ -27,3 +29,4 @@ pub use opened_input::OpenedInput;
 pub use opening::choose;
 pub use refusal::Refusal;
 pub use task::{Task, Watching};
+pub use times::{Phase, Phases, Stopwatch, Times};

@@ -16,13 +16,13 @@ use road_text::READ_FAILED;
 /// The name of standard input.
 pub(crate) const STDIN_NAME: &str = "-";
 
-/// The algebra that options ask for. They are refused if accounts are wanted of the plain solver, which counts nothing, and if
-/// the limit is missing or does not belong.
+/// The algebra that options ask for. They are refused if accounts are wanted of a solver that counts nothing, and if the limit is
+/// missing or does not belong.
 pub fn choose(options: &RunOptions<'_>, accounts: bool) -> Result<AlgebraChoice, Refusal>
     ensures chosen { IfOk result (IsChosen options.now accounts) }
     ensures refused { IfErr result (CannotChoose options.now accounts) }
 {
-    if accounts && options.settings.plain {
+    if accounts && (options.settings.plain || options.settings.factors) {
         return Err(Refusal::Uncounted);
     }
     match AlgebraName::from_text(options.algebra.as_bytes()) {

@@ -6,7 +6,8 @@ use batch_run::RunFault;
 use fault_reports::{complain, report};
 use road_text::RoadWrite;
 
-const UNCOUNTED: &[u8] = b"error: `--plain` counts nothing, so it does not go with `--accounts`\n";
+const UNCOUNTED: &[u8] =
+    b"error: `--plain` and `--factors` count nothing: leave out `--accounts`\n";
 
 const STDIN_TWICE: &[u8] = b"error: `-` is standard input, and serves for one of the files\n";
 
@@ -17,7 +18,7 @@ const NO_TEXT: &[u8] = b"error: a word of the command line is no text\n";
 /// What keeps a command from reading: words that do not go together, or a fault.
 #[derive(Clone, Copy, Debug, PartialEq, Eq)]
 pub enum Refusal {
-    /// Accounts are wanted of the plain solver, which counts nothing.
+    /// Accounts are wanted of a solver that counts nothing.
     Uncounted,
     /// Standard input is named more than once.
     StdinTwice,

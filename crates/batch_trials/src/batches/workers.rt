@@ -24,7 +24,7 @@ const WIDEST: &str =
     "p ans ss 1 widest\ns 1\nd 1 4294967296 0 0\nd 2 5 1 1\nd 3 5 2 2\nd 4 5 3 3\nd 5 3 4 4\n";
 
 /// What `FROM_ONE` over `CYCLE` is answered.
-const AROUND: &str = "p ans ss 1 shortest\ns 1\nd 1 0 0 0\nd 2 0 1 1\nd 3 0 1 1\n";
+pub const AROUND: &str = "p ans ss 1 shortest\ns 1\nd 1 0 0 0\nd 2 0 1 1\nd 3 0 1 1\n";
 
 /// Two questions from several sources.
 pub const SEVERAL: &str = "p aux sp ms 2\nm 4 5\nm 5 2\n";
@@ -51,7 +51,9 @@ pub const SLOW: Settings = Settings {
     budget: 1,
     turns: 1_000_000,
     plain: false,
+    factors: false,
     best_first: false,
+    ahead: None,
 };
 
 /// Asserts that each of two workers has made its mark.
@@ -115,10 +117,11 @@ fn any_workers_and_shards(rt: HostRuntime) {
 
 #[test]
 fn best_first_writes_the_same(rt: HostRuntime) {
-    for shards in [1, 3] {
+    for (shards, ahead) in [(1, None), (3, None), (3, Some(0)), (5, Some(2))] {
         let settings = Settings {
             shards,
             best_first: true,
+            ahead,
             ..Settings::default()
         };
         assert_unchanged(&rt, &settings);

@@ -225,7 +225,7 @@ fn progress_of_many_questions(rt: HostRuntime) {
 
 #[test]
 fn words_that_ask_to_see_a_run(rt: HostRuntime) {
-    let uncounted = "error: `--plain` counts nothing, so it does not go with `--accounts`\n";
+    let uncounted = "error: `--plain` and `--factors` count nothing: leave out `--accounts`\n";
     let shown = "diffuse: 1 of 1 questions answered\n";
     for &(line, out, errors, status) in &[
         ("diffuse solve g q --progress", SHORTEST, shown, 0),

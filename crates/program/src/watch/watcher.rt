@@ -4,6 +4,7 @@ ghost use Rattle.program.specs.Accounts.{account_of};
 ghost use Rattle.program.specs.Progress.{all_after, shown_at};
 ghost use Rattle.program.specs.Watching.{HasAccounts, IsAddedIf, Notes};
 
+use crate::times::{Phase, Phases};
 use crate::watch::accounts::write_report;
 use crate::watch::progress::show_report;
 use batch_run::{Report, Watcher};
@@ -12,7 +13,7 @@ use road_text::RoadWrite;
 
 /// A watcher of a batch.
 #[derive(Drop)]
-pub(crate) struct Watch<'a, A, E> {
+pub(crate) struct Watch<'a, 'm, A, E, M> {
     /// The name of the batch's algebra.
     pub name: AlgebraName,
     /// Where accounts are written, if they are wanted.
@@ -25,6 +26,8 @@ pub(crate) struct Watch<'a, A, E> {
     pub all: u32,
     /// Where progress is shown.
     pub errors: &'a mut E,
+    /// What takes note of the command's phases.
+    pub phases: &'m M,
 }
 
 /// Adds to the accounts what a report says, and says whether they are lost.
@@ -66,12 +69,21 @@ fn show<E: RoadWrite>(errors: &mut E, progress: bool, all: u32, report: &Report)
     }
 }
 
-impl<A: RoadWrite, E: RoadWrite> Watcher for Watch<'_, A, E> {
+/// Takes note that the next question is solved, once the questions were read or one was answered.
+fn note_phase<M: Phases>(phases: &M, report: &Report) {
+    match report {
+        Report::Gathered { .. } => {}
+        Report::Begun { .. } | Report::Answered { .. } => phases.enter(Phase::Solving),
+    }
+}
+
+impl<A: RoadWrite, E: RoadWrite, M: Phases> Watcher for Watch<'_, '_, A, E, M> {
     ghost may_become = { Notes A.written A.failures E.written E.failures };
 
     fn report(&mut self, report: Report) {
         self.lost = note(self.accounts, self.lost, self.name, &report);
         show(self.errors, self.progress, self.all, &report);
         self.all = all_after(self.all, &report);
+        note_phase(self.phases, &report);
     }
 }

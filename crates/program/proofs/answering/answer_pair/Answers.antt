@@ -6,13 +6,13 @@ use Rattle.program.proofs.answering.answer_pair.Goals as goal
 
 pub returns-clause-ends : goal.returns-clause-ends
 returns-clause-ends g c =
-    let same_graph = c.answer.ensures.ran.read.0 in
-    let same_questions = c.answer.ensures.ran.read.1 in
-    let graph_is : c.answer.new.input.graph.now ≡ c.graph-1.given.0 = search rules in
-    let questions_are : c.answer.new.input.questions.now ≡ c.questions-1.given.0 = search rules in
+    let same_graph = c.answer_measured.ensures.ends.ran.read.0 in
+    let same_questions = c.answer_measured.ensures.ends.ran.read.1 in
+    let graph_is : c.answer_measured.new.input.graph.now ≡ c.graph-1.given.0 = search rules in
+    let questions_are : c.answer_measured.new.input.questions.now ≡ c.questions-1.given.0 = search rules in
     let roads = input g.G.RoadRead.left g.G.RoadRead.failures g.G.RoadRead.asked in
     let asked = input g.Q.RoadRead.left g.Q.RoadRead.failures g.Q.RoadRead.asked in
     ends_as _ _ _ _ _ _ _ _ _ _ _ _ _ _ _ refl
     (λ o h. subst (λ graph. HasReadPair (roads c.args.graph.now) (roads graph) (asked c.args.questions.now) (asked c.questions-1.given.0) o) graph_is
-    (subst (λ questions. HasReadPair (roads c.args.graph.now) (roads c.answer.new.input.graph.now) (asked c.args.questions.now) (asked questions) o) questions_are h.2))
-    c.answer.ensures
+    (subst (λ questions. HasReadPair (roads c.args.graph.now) (roads c.answer_measured.new.input.graph.now) (asked c.args.questions.now) (asked questions) o) questions_are h.2))
+    c.answer_measured.ensures.ends

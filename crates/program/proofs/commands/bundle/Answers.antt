@@ -1,5 +1,6 @@
 use Rattle.std.proofs.Common.{◌≡◌, inr, rules, subst}
 use Rattle.std.specs.Prelude.{is_some}
+use Rattle.program.specs.Moments.{moment}
 use Rattle.program.specs.Opening.{IsChosen}
 use Rattle.program.proofs.Ended.{ends_as, wanted_made}
 use Rattle.program.proofs.commands.bundle.Goals as goal
@@ -16,10 +17,12 @@ returns g c =
         unread = c.stdin-text.ensures.unread;
         accounts = _;
         accounts_after = _;
+        answered = moment g.W.RoadWrite.written g.W.RoadWrite.held g.W.RoadWrite.failures g.E.RoadWrite.written g.E.RoadWrite.held g.E.RoadWrite.failures c.answer_measured-status.new.host;
         created = record {
-          tried = c.in-Ok-create_accounts.ensures.creates;
+          tried = rw (c.answer_measured-status.ensures.files) c.in-Ok-create_accounts.ensures.creates;
           wanted = wanted_made _ c.in-Ok-create_accounts.watching.accounts _ c.in-Ok-create_accounts.ensures.wanted;
         };
-        ends = ends_as _ _ _ _ _ _ _ _ _ _ _ _ _ _ _ c.in-Ok-create_accounts.ensures.progress (λ o h. h.1) c.answer.ensures;
+        ends = ends_as _ _ _ _ _ _ _ _ _ _ _ _ _ _ _ c.in-Ok-create_accounts.ensures.progress (λ o h. h.1) c.answer_measured-status.ensures.ends;
+        timed = c.show_times.ensures;
       }),
     )

@@ -2,6 +2,7 @@ use Rattle.std.proofs.Common.{◌≡◌, inl, inr, refl, rules, subst}
 use Rattle.std.specs.Prelude.{is_some}
 use Rattle.batch_run.specs.Runs.{input}
 use Rattle.program.specs.Inputs.{of_input}
+use Rattle.program.specs.Moments.{moment}
 use Rattle.program.specs.Opening.{IsChosen}
 use Rattle.program.proofs.Ended.{ends_as, wanted_made}
 use Rattle.program.proofs.commands.solve.Goals as goal
@@ -44,13 +45,15 @@ returns g c =
         ends = inr (record {
           accounts = _;
           accounts_after = _;
+          answered = moment g.W.RoadWrite.written g.W.RoadWrite.held g.W.RoadWrite.failures g.E.RoadWrite.written g.E.RoadWrite.held g.E.RoadWrite.failures c.answer_pair-status.new.host;
           created = record {
-            tried = rw (c.answer_pair.ensures.files) c.in-Ok-create_accounts.ensures.creates;
+            tried = rw (c.answer_pair-status.ensures.files) c.in-Ok-create_accounts.ensures.creates;
             wanted = wanted_made _ c.in-Ok-create_accounts.watching.accounts _ c.in-Ok-create_accounts.ensures.wanted;
           };
           first_after = _;
           second_after = _;
-          ends = ends_as _ _ _ _ _ _ _ _ _ _ _ _ _ _ _ c.in-Ok-create_accounts.ensures.progress (λ o h. h) c.answer_pair.ensures.ends;
+          ends = ends_as _ _ _ _ _ _ _ _ _ _ _ _ _ _ _ c.in-Ok-create_accounts.ensures.progress (λ o h. h) c.answer_pair-status.ensures.ends;
+          timed = c.show_times.ensures;
         });
       }),
     )

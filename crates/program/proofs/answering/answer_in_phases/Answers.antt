@@ -9,11 +9,11 @@ use Rattle.program.proofs.Adding.{account}
 use Rattle.program.proofs.Ended.{shown_as}
 use Rattle.program.proofs.Noted.{noted_all, under_told}
 use Rattle.program.proofs.Ungated.{never_gated_under}
-use Rattle.program.proofs.answering.answer.Goals as goal
+use Rattle.program.proofs.answering.answer_in_phases.Goals as goal
 
 pub shape_of-watching : goal.shape_of-watching
 shape_of-watching g c =
-    let told = under_told c.args.task.now.chosen c.args.task.now.settings.now (g.I.BatchInput.is_read c.args.input.now)
+    let told = under_told c.args.measured.now.task.now.chosen c.args.measured.now.task.now.settings.now (g.I.BatchInput.is_read c.args.input.now)
     (Notes g.A.RoadWrite.written g.A.RoadWrite.failures g.E.RoadWrite.written g.E.RoadWrite.failures) _ _ c.run_chosen-batch.result
     c.run_chosen-batch.ensures.watched in
     let noted = noted_all g.A.RoadWrite.written g.A.RoadWrite.failures g.E.RoadWrite.written g.E.RoadWrite.failures told.0.0 _ _ told.0.1 in
@@ -21,7 +21,7 @@ shape_of-watching g c =
 
 pub returns : goal.returns
 returns g c =
-    let told = under_told c.args.task.now.chosen c.args.task.now.settings.now (g.I.BatchInput.is_read c.args.input.now)
+    let told = under_told c.args.measured.now.task.now.chosen c.args.measured.now.task.now.settings.now (g.I.BatchInput.is_read c.args.input.now)
     (Notes g.A.RoadWrite.written g.A.RoadWrite.failures g.E.RoadWrite.written g.E.RoadWrite.failures) _ _ c.run_chosen-batch.result
     c.run_chosen-batch.ensures.watched in
     let noted = noted_all g.A.RoadWrite.written g.A.RoadWrite.failures g.E.RoadWrite.written g.E.RoadWrite.failures told.0.0 _ _ told.0.1 in
@@ -33,14 +33,14 @@ returns g c =
       ran = record {
         run = c.run_chosen-batch.ensures.run;
         read = c.run_chosen-batch.ensures.read;
-        ungated = never_gated_under c.args.task.now.chosen c.args.task.now.settings.now (g.I.BatchInput.is_read c.args.input.now) g.I.BatchInput.is_own _ _
+        ungated = never_gated_under c.args.measured.now.task.now.chosen c.args.measured.now.task.now.settings.now (g.I.BatchInput.is_read c.args.input.now) g.I.BatchInput.is_own _ _
             c.run_chosen-batch.result c.run_chosen-batch.ensures.run;
       };
       reports = told.0.0;
       reported = told.1;
       kept = c.end_accounts-kept.result;
       accounted = account g.A.RoadWrite.written g.A.RoadWrite.failures g.A.RoadWrite.held c.args.watching.now.accounts c.run_chosen-batch.new.watcher.accounts.now
-          c.end_accounts-kept.new.accounts c.run_chosen-batch.new.watcher.lost (accounts_text (name_of c.args.task.now.chosen) told.0.0) c.end_accounts-kept.result
+          c.end_accounts-kept.new.accounts c.run_chosen-batch.new.watcher.lost (accounts_text (name_of c.args.measured.now.task.now.chosen) told.0.0) c.end_accounts-kept.result
           (subst (λ name. HasAccounts g.A.RoadWrite.written g.A.RoadWrite.failures c.args.watching.now.accounts c.run_chosen-batch.new.watcher.accounts.now false
           c.run_chosen-batch.new.watcher.lost (accounts_text name told.0.0)) c.name.ensures noted.accounts)
           c.end_accounts-kept.ensures;

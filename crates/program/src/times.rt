@@ -1,0 +1,13 @@
+//! How long a command reads, solves and writes.
+
+mod phases;
+mod shown;
+mod stopwatch;
+mod timed_writer;
+
+pub(crate) use phases::{FilePhases, Unmeasured};
+pub use phases::{Phase, Phases};
+pub use shown::Times;
+pub(crate) use shown::show_times;
+pub use stopwatch::Stopwatch;
+pub(crate) use timed_writer::TimedWriter;

@@ -1,0 +1,50 @@
+//! The output of a command whose phases are measured.
+ghost use Rattle.std.specs.Prelude.{◌≡◌};
+
+use crate::times::phases::Phase;
+use crate::times::stopwatch::Stopwatch;
+use road_text::{RoadWrite, WriteFault};
+use std::time::Clock;
+
+/// An output that tells a stopwatch when solving ends and an answer is written.
+#[derive(Drop)]
+pub(crate) struct TimedWriter<'s, 'c, W, C> {
+    inner: W,
+    stopwatch: &'s Stopwatch<'c, C>,
+}
+
+impl<'s, 'c, W: RoadWrite, C: Clock> TimedWriter<'s, 'c, W, C> {
+    /// This output, before this stopwatch.
+    pub fn new(inner: W, stopwatch: &'s Stopwatch<'c, C>) -> Self
+        ensures { result.inner ≡ inner }
+    {
+        TimedWriter { inner, stopwatch }
+    }
+
+    /// Something is written: if questions were solved before, that has ended.
+    #[inline(always)]
+    fn writes(&self) {
+        if self.stopwatch.solves() {
+            self.stopwatch.enter(Phase::Writing);
+        }
+    }
+}
+
+impl<W: RoadWrite, C: Clock> RoadWrite for TimedWriter<'_, '_, W, C> {
+    ghost written = { λ t. W.written t.inner };
+
+    ghost held = { λ t. W.held t.inner };
+
+    ghost failures = { λ t. W.failures t.inner };
+
+    #[inline(always)]
+    fn write(&mut self, buf: &[u8]) -> Result<usize, WriteFault> {
+        self.writes();
+        self.inner.write(buf)
+    }
+
+    fn flush(&mut self) -> Result<(), WriteFault> {
+        self.writes();
+        self.inner.flush()
+    }
+}

@@ -1,4 +1,4 @@
-/* Best values, routes and trees in a road graph that is kept in memory. For C99, C++98 and later.
+/* Best values, routes, trees and tables in a road graph that is kept in memory. For C99, C++98 and later.
 
    What each call promises is proved of the library itself; docs/EMBEDDING.md says what that means.
 
@@ -7,9 +7,10 @@
      What the pointers of one call point to does not overlap.
    - A handle starts as DIFFUSE_CLOSED or diffuse_graph_closed(), which is all zero, and is changed only by these calls. It may
      be moved in memory by assignment, if its old place is no longer used. Two copies of an open handle must not both be used.
-   - One call at a time uses a handle, be it only to ask for a route: a call takes the graph out of its handle and puts it
-     back, so no handle is const. A handle may be handed to another thread by whatever orders the two: the start or the end of
-     a thread, a lock, a queue. For calls at the same time, give each thread a handle of its own by diffuse_graph_share.
+   - One call at a time uses a handle, be it only to ask for a route: a call takes the graph out of its handle, may make what its
+     answer needs, and puts all back, so no handle is const. A handle may be handed to another thread by whatever orders the
+     two: the start or the end of a thread, a lock, a queue. For calls at the same time, give each thread a handle of its own
+     by diffuse_graph_share.
    - No call is made from a signal handler, nor in the forked child of a process that has threads.
    - The stack has room: DIFFUSE_STACK bytes are enough for each call. No call recurses. */
 #ifndef DIFFUSE_H
@@ -22,7 +23,7 @@
 
 /* The version of this header. diffuse_version() is that of the library: equal to DIFFUSE_VERSION if the two belong together. */
 #define DIFFUSE_VERSION_MAJOR 1
-#define DIFFUSE_VERSION_MINOR 0
+#define DIFFUSE_VERSION_MINOR 1
 #define DIFFUSE_VERSION_PATCH 0
 #define DIFFUSE_VERSION (10000 * DIFFUSE_VERSION_MAJOR + 100 * DIFFUSE_VERSION_MINOR + DIFFUSE_VERSION_PATCH)
 
@@ -56,11 +57,15 @@ enum diffuse_status {
     DIFFUSE_STATUS_DONE = 0,
     DIFFUSE_STATUS_NO_ROUTE = 1,        /* no walk from the source to the target has a value */
     DIFFUSE_STATUS_NO_ROOM = 2,         /* route and arcs_from: there are fewer places than are needed; tree and check: a list
-                                           does not have just one place for each vertex; read: a text of more than 2^32 bytes */
+                                           does not have just one place for each vertex; table: there is not just one place for
+                                           each source and target; read: a text of more than 2^32 bytes */
     DIFFUSE_STATUS_MEMORY = 3,          /* out of memory */
     DIFFUSE_STATUS_CLOSED = 4,          /* the handle has no graph */
     DIFFUSE_STATUS_OPEN = 5,            /* the handle that was to be opened has a graph already */
     DIFFUSE_STATUS_WRONG = 6,           /* check: the lists are not the tree */
+    DIFFUSE_STATUS_DENSE = 7,           /* factor: so many arcs join the vertices that factors would not pay */
+    DIFFUSE_STATUS_HEAVY = 8,           /* factor: the weights are so great that a sum with its arcs may not fit into 63 bits */
+    DIFFUSE_STATUS_NO_FACTORS = 9,      /* factor: the algebra has no factors */
     DIFFUSE_STATUS_NO_PROBLEM = 10,     /* read: a line before the problem line, or no problem line */
     DIFFUSE_STATUS_SECOND_PROBLEM = 11, /* read: a second problem line */
     DIFFUSE_STATUS_BAD_PROBLEM = 12,    /* read: a problem line that is not `p sp VERTICES ARCS` */
@@ -132,7 +137,9 @@ enum diffuse_status diffuse_graph_open(uint32_t vertices, const struct diffuse_a
 DIFFUSE_CHECKED
 enum diffuse_status diffuse_graph_read(const uint8_t *bytes, size_t n_bytes, struct diffuse_graph *graph, uint64_t *line);
 
-/* Opens a second, closed handle with the graph of an open one. OPEN, CLOSED, MEMORY or DONE. */
+/* Opens a second, closed handle with the graph of an open one, and with the factors that this one has. Both have one copy of
+   the graph, of its factors, and of its arcs by head, which are made now if no call has needed them yet.
+   OPEN, CLOSED, MEMORY or DONE. */
 DIFFUSE_CHECKED
 enum diffuse_status diffuse_graph_share(struct diffuse_graph *graph, struct diffuse_graph *second);
 
@@ -174,7 +181,23 @@ enum diffuse_status diffuse_graph_check(struct diffuse_graph *graph, enum diffus
     const uint32_t *sources, size_t n_sources, const uint64_t *codes, size_t n_codes,
     const uint32_t *hops, size_t n_hops, const uint32_t *parents, size_t n_parents, uint32_t *vertex, uint32_t *reason);
 
-/* The library's version, as DIFFUSE_VERSION is made: 1.0.0 is 10000. */
+/* The best value from each of the sources to each of the targets, as a code: from source i to target j, both counted from 0, in
+   place i * n_targets + j; DIFFUSE_UNREACHED if no walk has a value. With factors each code is found by itself; without them
+   there is a search over the whole graph for each source.
+   CLOSED, NO_VERTEX, NO_ROOM, NO_ALGEBRA, MEMORY or DONE. */
+DIFFUSE_CHECKED
+enum diffuse_status diffuse_graph_table(struct diffuse_graph *graph, enum diffuse_algebra algebra, uint64_t limit,
+    const uint32_t *sources, size_t n_sources, const uint32_t *targets, size_t n_targets, uint64_t *codes, size_t n_codes);
+
+/* Factors the graph for an algebra. Afterwards routes, trees and tables of this handle, and of those opened from it by
+   diffuse_graph_share later, use the factors, and answer the same in a fraction of the time. SHORTEST and WITHIN at every limit
+   have one factoring, HOPS has its own, and the other algebras have none. It takes the time of some tens of routes; a second
+   call for it does nothing. After a refusal calls search, as before.
+   CLOSED, NO_ALGEBRA, NO_FACTORS, MEMORY, DENSE, HEAVY or DONE. */
+DIFFUSE_CHECKED
+enum diffuse_status diffuse_graph_factor(struct diffuse_graph *graph, enum diffuse_algebra algebra);
+
+/* The library's version, as DIFFUSE_VERSION is made: 1.1.0 is 10100. */
 uint32_t diffuse_version(void);
 
 #ifdef __cplusplus
@@ -197,6 +220,9 @@ static inline const char *diffuse_status_text(int32_t status) {
     case DIFFUSE_STATUS_CLOSED: return "the handle is closed";
     case DIFFUSE_STATUS_OPEN: return "the handle is open already";
     case DIFFUSE_STATUS_WRONG: return "not the tree";
+    case DIFFUSE_STATUS_DENSE: return "so many arcs that factors would not pay";
+    case DIFFUSE_STATUS_HEAVY: return "weights that are too great for factors";
+    case DIFFUSE_STATUS_NO_FACTORS: return "an algebra without factors";
     case DIFFUSE_STATUS_NO_PROBLEM: return "no problem line before this line, or none at all";
     case DIFFUSE_STATUS_SECOND_PROBLEM: return "a second problem line";
     case DIFFUSE_STATUS_BAD_PROBLEM: return "a problem line with wrong fields or words";

@@ -29,32 +29,38 @@ void *__wrap_realloc(void *p, size_t n) { return refused() ? NULL : __real_reall
 /* All that calls write to. */
 struct places {
     struct diffuse_graph graph, second;
-    uint64_t line, code, codes[5];
+    uint64_t line, code, codes[5], table[4];
     uint32_t length, route[5], hops[5], parents[5], vertex, reason;
 };
 
-static const uint32_t SOURCE = 1;
+static const uint32_t SOURCE = 1, SOURCES[] = {1, 5}, TARGETS[] = {4, 1};
 
-enum call { OPEN, READ, SHARE, ROUTE, TREE, CHECK, CALLS };
-static const char *const NAMES[] = {"open", "read", "share", "route", "tree", "check"};
+/* From BY_FACTORS on the calls are made after the graph was factored. */
+enum call { OPEN, READ, SHARE, ROUTE, TREE, CHECK, TABLE, FACTOR, BY_FACTORS, SHARE_FACTORS = BY_FACTORS, ROUTE_BY, TREE_BY, TABLE_BY, CALLS };
+static const char *const NAMES[] = {"open", "read", "share", "route", "tree", "check", "table", "factor", "share of factors",
+                                    "route by factors", "tree by factors", "table by factors"};
 
 static int32_t make(enum call call, struct places *p) {
     switch (call) {
     case OPEN: return diffuse_graph_open(5, ARCS, 7, &p->graph);
     case READ: return diffuse_graph_read((const uint8_t *)TEXT, sizeof TEXT - 1, &p->graph, &p->line);
-    case SHARE: return diffuse_graph_share(&p->graph, &p->second);
-    case ROUTE: return diffuse_graph_route(&p->graph, DIFFUSE_ALGEBRA_SHORTEST, 0, 1, 4, &p->code, &p->length, p->route, 5);
-    case TREE: return diffuse_graph_tree(&p->graph, DIFFUSE_ALGEBRA_SHORTEST, 0, &SOURCE, 1, p->codes, 5, p->hops, 5,
+    case SHARE: case SHARE_FACTORS: return diffuse_graph_share(&p->graph, &p->second);
+    case ROUTE: case ROUTE_BY: return diffuse_graph_route(&p->graph, DIFFUSE_ALGEBRA_SHORTEST, 0, 1, 4, &p->code, &p->length, p->route, 5);
+    case TREE: case TREE_BY: return diffuse_graph_tree(&p->graph, DIFFUSE_ALGEBRA_SHORTEST, 0, &SOURCE, 1, p->codes, 5, p->hops, 5,
                                          p->parents, 5);
+    case TABLE: case TABLE_BY: return diffuse_graph_table(&p->graph, DIFFUSE_ALGEBRA_SHORTEST, 0, SOURCES, 2, TARGETS, 2, p->table, 4);
+    case FACTOR: return diffuse_graph_factor(&p->graph, DIFFUSE_ALGEBRA_SHORTEST);
     default: return diffuse_graph_check(&p->graph, DIFFUSE_ALGEBRA_SHORTEST, 0, &SOURCE, 1, p->codes, 5, p->hops, 5,
                                         p->parents, 5, &p->vertex, &p->reason);
     }
 }
 
-/* Places as they are before a call: with an open graph unless the call opens it, and with a tree if one is checked. */
+/* Places as they are before a call: with an open graph unless the call opens it, factored if the call is by factors, and with a
+   tree if one is checked. */
 static int begin(enum call call, struct places *p) {
     *p = (struct places){.graph = DIFFUSE_CLOSED, .second = DIFFUSE_CLOSED, .line = 7, .code = 7, .length = 7, .vertex = 7};
     if (call > READ && make(OPEN, p) != DIFFUSE_STATUS_DONE) return 0;
+    if (call >= BY_FACTORS && make(FACTOR, p) != DIFFUSE_STATUS_DONE) return 0;
     return call != CHECK || make(TREE, p) == DIFFUSE_STATUS_DONE;
 }
 
@@ -106,19 +112,22 @@ static void *ask(void *at) {
     struct places p = {.graph = *(struct diffuse_graph *)at, .second = DIFFUSE_CLOSED};
     long right = 0;
     for (int i = 0; i < 1000; i++) {
-        int done = make(ROUTE, &p) == DIFFUSE_STATUS_DONE && make(TREE, &p) == DIFFUSE_STATUS_DONE && make(CHECK, &p) == DIFFUSE_STATUS_DONE;
-        right += done && p.code == 8 && p.length == 3 && p.codes[1] == 3 && p.parents[3] == 2;
+        int done = make(ROUTE, &p) == DIFFUSE_STATUS_DONE && make(TREE, &p) == DIFFUSE_STATUS_DONE && make(CHECK, &p) == DIFFUSE_STATUS_DONE
+            && make(TABLE, &p) == DIFFUSE_STATUS_DONE;
+        right += done && p.code == 8 && p.length == 3 && p.codes[1] == 3 && p.parents[3] == 2 && p.table[2] == 11;
     }
     end(&p);
     return (void *)right;
 }
 
+/* Four threads, of which two have a handle that was opened before the graph was factored, and two one that was opened after. */
 static int threads(void) {
     struct diffuse_graph graph = DIFFUSE_CLOSED, each[4] = {DIFFUSE_CLOSED, DIFFUSE_CLOSED, DIFFUSE_CLOSED, DIFFUSE_CLOSED};
     pthread_t started[4];
     void *right;
     if (diffuse_graph_open(5, ARCS, 7, &graph) != DIFFUSE_STATUS_DONE) return 1;
     for (int i = 0; i < 4; i++) {
+        if (i == 2 && diffuse_graph_factor(&graph, DIFFUSE_ALGEBRA_SHORTEST) != DIFFUSE_STATUS_DONE) return 1;
         if (diffuse_graph_share(&graph, &each[i]) != DIFFUSE_STATUS_DONE) return 1;
         if (pthread_create(&started[i], NULL, ask, &each[i]) != 0) return 1;
     }
@@ -138,6 +147,7 @@ static int opens(long count) {
         struct places p;
         if (!begin(i % 2 ? READ : CHECK, &p)) return 1;
         if (i % 2 && make(READ, &p) != DIFFUSE_STATUS_DONE) return 1;
+        if (i % 3 == 0 && make(FACTOR, &p) != DIFFUSE_STATUS_DONE) return 1;
         if (make(SHARE, &p) != DIFFUSE_STATUS_DONE || make(ROUTE, &p) != DIFFUSE_STATUS_DONE) return 1;
         end(&p);
         in_use = mallinfo2().uordblks;

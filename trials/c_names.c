@@ -70,6 +70,7 @@ static void statuses(void) {
     IS(DIFFUSE_STATUS_CLOSED, tree(&ONE, &t, 5));
     IS(DIFFUSE_STATUS_CLOSED, check(&t, 5));
     IS(DIFFUSE_STATUS_CLOSED, diffuse_graph_share(&graph, &second));
+    IS(DIFFUSE_STATUS_CLOSED, diffuse_graph_table(&graph, DIFFUSE_ALGEBRA_SHORTEST, 0, &ONE, 1, &ONE, 1, &code, 1));
     open(FIVE, 5, 7);
     IS(DIFFUSE_STATUS_OPEN, diffuse_graph_open(5, FIVE, 7, &graph));
     IS(DIFFUSE_STATUS_DONE, route(DIFFUSE_ALGEBRA_SHORTEST, 0, 1, 4, 4));
@@ -85,6 +86,70 @@ static void statuses(void) {
     IS(DIFFUSE_STATUS_NO_ROOM, check(&RIGHT, 4));
     t.codes[3] = 9;
     IS(DIFFUSE_STATUS_WRONG, check(&t, 5));
+}
+
+static enum diffuse_status table(const uint32_t *sources, const uint32_t *targets, uint64_t *codes, size_t n) {
+    return diffuse_graph_table(&graph, DIFFUSE_ALGEBRA_SHORTEST, 0, sources, 2, targets, 3, codes, n);
+}
+
+/* The table from 1 and 5 to 4, 1 and 5, by searches or by factors. */
+static void tables(void) {
+    static const uint32_t SOURCES[] = {1, 5}, TARGETS[] = {4, 1, 5}, BEYOND[] = {4, 1, 6};
+    static const uint64_t WANTED[] = {8, 0, DIFFUSE_UNREACHED, 11, 3, 0}, NONE[] = {7, 7, 7, 7, 7, 7};
+    uint64_t codes[6];
+    memcpy(codes, NONE, sizeof codes);
+    IS(DIFFUSE_STATUS_NO_VERTEX, table(SOURCES, BEYOND, codes, 6));
+    IS(DIFFUSE_STATUS_NO_VERTEX, table(BEYOND + 1, TARGETS, codes, 6));
+    IS(DIFFUSE_STATUS_NO_ROOM, table(SOURCES, TARGETS, codes, 5));
+    IS(DIFFUSE_STATUS_NO_ALGEBRA, diffuse_graph_table(&graph, (enum diffuse_algebra)6, 0, SOURCES, 2, TARGETS, 3, codes, 6));
+    IS(0, memcmp(codes, NONE, sizeof codes));
+    IS(DIFFUSE_STATUS_DONE, table(SOURCES, TARGETS, codes, 6));
+    IS(0, memcmp(codes, WANTED, sizeof codes));
+    IS(DIFFUSE_STATUS_DONE, diffuse_graph_table(&graph, DIFFUSE_ALGEBRA_SHORTEST, 0, SOURCES, 0, TARGETS, 3, codes, 0));
+}
+
+/* Opens a star, from vertex 1 to all others, or a chain through all vertices. */
+static void open_shape(int is_star, uint32_t n, uint32_t weight) {
+    static struct diffuse_arc arcs[65536];
+    for (uint32_t v = 2; v <= n; v++) {
+        arcs[v - 2].tail = is_star ? 1 : v - 1;
+        arcs[v - 2].head = v;
+        arcs[v - 2].weight = weight;
+    }
+    open(arcs, n, n - 1);
+}
+
+/* Which algebras have factors, and which graphs are refused; answers are the same with them. */
+static void factors(void) {
+    static const int NONE[] = {DIFFUSE_ALGEBRA_WIDEST, DIFFUSE_ALGEBRA_REACH, DIFFUSE_ALGEBRA_RELIABLE};
+    static const int SOME[] = {DIFFUSE_ALGEBRA_SHORTEST, DIFFUSE_ALGEBRA_HOPS, DIFFUSE_ALGEBRA_WITHIN, DIFFUSE_ALGEBRA_SHORTEST};
+    struct tree t = RIGHT;
+    diffuse_graph_close(&graph);
+    IS(DIFFUSE_STATUS_CLOSED, diffuse_graph_factor(&graph, DIFFUSE_ALGEBRA_SHORTEST));
+    open(FIVE, 5, 7);
+    tables();
+    IS(DIFFUSE_STATUS_NO_ALGEBRA, diffuse_graph_factor(&graph, (enum diffuse_algebra)6));
+    for (size_t i = 0; i < 3; i++) IS(DIFFUSE_STATUS_NO_FACTORS, diffuse_graph_factor(&graph, (enum diffuse_algebra)NONE[i]));
+    for (size_t i = 0; i < 4; i++) IS(DIFFUSE_STATUS_DONE, diffuse_graph_factor(&graph, (enum diffuse_algebra)SOME[i]));
+    tables();
+    IS(DIFFUSE_STATUS_DONE, route(DIFFUSE_ALGEBRA_SHORTEST, 0, 1, 4, 4));
+    IS(8, code);
+    IS(3, hops);
+    IS(DIFFUSE_STATUS_NO_ROUTE, route(DIFFUSE_ALGEBRA_SHORTEST, 0, 1, 5, 8));
+    IS(DIFFUSE_STATUS_NO_ROUTE, route(DIFFUSE_ALGEBRA_WITHIN, 7, 1, 4, 8));
+    IS(DIFFUSE_STATUS_NO_ROOM, route(DIFFUSE_ALGEBRA_SHORTEST, 0, 1, 4, 3));
+    IS(DIFFUSE_STATUS_DONE, route(DIFFUSE_ALGEBRA_HOPS, 0, 1, 4, 8));
+    IS(2, code);
+    IS(DIFFUSE_STATUS_DONE, tree(&ONE, &t, 5));
+    IS(0, memcmp(&t, &RIGHT, sizeof t));
+    open_shape(1, 1000, 1);
+    IS(DIFFUSE_STATUS_DENSE, diffuse_graph_factor(&graph, DIFFUSE_ALGEBRA_SHORTEST));
+    IS(DIFFUSE_STATUS_DONE, route(DIFFUSE_ALGEBRA_SHORTEST, 0, 1, 1000, 8));
+    open_shape(0, 65536, 4294967295u);
+    IS(DIFFUSE_STATUS_HEAVY, diffuse_graph_factor(&graph, DIFFUSE_ALGEBRA_SHORTEST));
+    IS(DIFFUSE_STATUS_DONE, diffuse_graph_factor(&graph, DIFFUSE_ALGEBRA_HOPS));
+    IS(DIFFUSE_STATUS_DONE, route(DIFFUSE_ALGEBRA_HOPS, 0, 1, 3, 8));
+    IS(2, code);
 }
 
 static void faults(void) {
@@ -224,7 +289,7 @@ static void texts(void) {
                 IS(0, strcmp(diffuse_reason_text((uint32_t)i), diffuse_reason_text(0)));
         }
     }
-    IS(18, statuses);
+    IS(21, statuses);
     IS(6, reasons);
 }
 
@@ -235,6 +300,7 @@ static void *all(void *nothing) {
     reasons();
     rooms();
     arcs_from();
+    factors();
     texts();
     IS(DIFFUSE_VERSION, diffuse_version());
     diffuse_graph_close(&graph);

@@ -1,4 +1,4 @@
-/* The five vertices: a route, a tree, and a check of it. */
+/* The five vertices: a route, a tree, a check of it, and a table by factors. */
 #include <diffuse.h>
 #include <inttypes.h>
 #include <stdio.h>
@@ -22,6 +22,17 @@ static void print_check(struct diffuse_graph *graph, uint32_t source, uint64_t *
     else printf("%s\n", status == DIFFUSE_STATUS_DONE ? "right" : diffuse_status_text(status));
 }
 
+static void print_table(struct diffuse_graph *graph) {
+    const uint32_t sources[] = {1, 5}, targets[] = {2, 4};
+    uint64_t codes[4];
+    int32_t status = diffuse_graph_factor(graph, DIFFUSE_ALGEBRA_SHORTEST);
+    if (status == DIFFUSE_STATUS_DONE)
+        status = diffuse_graph_table(graph, DIFFUSE_ALGEBRA_SHORTEST, 0, sources, 2, targets, 2, codes, 4);
+    if (status != DIFFUSE_STATUS_DONE) printf("%s\n", diffuse_status_text(status));
+    else for (int i = 0; i < 2; i++)
+        printf("from %" PRIu32 " to 2 and 4: %" PRIu64 " %" PRIu64 "\n", sources[i], codes[2 * i], codes[2 * i + 1]);
+}
+
 int main(void) {
     const struct diffuse_arc arcs[] = {{1, 2, 4}, {1, 3, 1}, {3, 2, 2}, {2, 4, 5}, {3, 4, 8}, {4, 4, 0}, {5, 1, 3}};
     const uint32_t source = 1;
@@ -39,6 +50,7 @@ int main(void) {
     print_check(&graph, source, codes, hops, parents);
     codes[3] = 9;
     print_check(&graph, source, codes, hops, parents);
+    print_table(&graph);
     diffuse_graph_close(&graph);
     return 0;
 }

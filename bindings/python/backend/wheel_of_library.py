@@ -14,7 +14,7 @@ from pathlib import Path
 
 HERE = Path(__file__).resolve().parent.parent
 TOP = HERE.parent.parent
-NAME, VERSION, TAG = "diffuse", "1.0.0", "py3-none-linux_x86_64"
+NAME, VERSION, TAG = "diffuse", "1.1.0", "py3-none-linux_x86_64"
 METADATA = f"""Metadata-Version: 2.1
 Name: {NAME}
 Version: {VERSION}

@@ -44,6 +44,33 @@ class Answers(unittest.TestCase):
         self.assertEqual(tree.route(4), Route(0, 0, [4]))
         self.assertEqual(listed(Graph(5, ARCS).tree([1, 1])), list(BEST["shortest", None]))
 
+    def test_tables_and_factors(self):
+        graph = Graph(5, ARCS)
+        for _ in range(2):  # by searches, and then by factors
+            self.assertEqual([list(map(int, row)) for row in graph.table([1, 5], [4, 1, 5])], [[8, 0, NONE], [11, 3, 0]])
+            self.assertEqual([list(map(int, row)) for row in graph.table(1, 4, "within", 7)], [[NONE]])
+            self.assertEqual(len(graph.table([], [1, 2])), 0)
+            self.assertEqual([len(row) for row in graph.table([1, 2], [])], [0, 0])
+            for (algebra, limit), wanted in BEST.items():
+                self.assertEqual(listed(graph.tree(1, algebra, limit)), list(wanted))
+                self.assertEqual([int(code) for code in graph.table([1], range(1, 6), algebra, limit)[0]], wanted[0])
+            self.assertEqual(graph.route(1, 4), Route(8, 3, [1, 3, 2, 4]))
+            self.assertEqual(graph.route(1, 4, "hops"), Route(2, 2, [1, 2, 4]))
+            for algebra in ("shortest", "hops", diffuse.Algebra.WITHIN):
+                graph.factor(algebra)
+
+    def test_what_is_not_factored(self):
+        star = Graph(1000, [(1, v, 1) for v in range(2, 1001)])
+        self.assertRaises(diffuse.TooDense, star.factor)
+        self.assertEqual(star.route(1, 1000).value, 1)
+        chain = Graph(65536, [(v, v + 1, 2**32 - 1) for v in range(1, 65536)])
+        self.assertRaises(diffuse.TooHeavy, chain.factor)
+        chain.factor("hops")
+        self.assertEqual(chain.route(1, 3, "hops").value, 2)
+        for algebra in ("widest", "reach", "reliable"):
+            self.assertRaises(diffuse.NoFactors, star.factor, algebra)
+        self.assertRaises(diffuse.NoAlgebra, star.factor, "longest")
+
     def test_a_long_route_is_solved_once(self):
         many = 5000
         graph = Graph.from_columns(range(1, many), range(2, many + 1), [3] * (many - 1))
@@ -78,7 +105,7 @@ class Answers(unittest.TestCase):
     def test_a_closed_graph(self):
         with Graph(5, ARCS) as graph:
             tree = graph.tree(1)
-        for call in (lambda: graph.tree(1), lambda: graph.route(1, 2), lambda: graph.check(tree)):
+        for call in (lambda: graph.tree(1), lambda: graph.route(1, 2), lambda: graph.check(tree), lambda: graph.table(1, 2), graph.factor):
             self.assertRaises(diffuse.Closed, call)
         graph.close()
         self.assertEqual(listed(tree), list(BEST["shortest", None]))
@@ -127,6 +154,7 @@ class Refusals(unittest.TestCase):
         self.refused(diffuse.NoVertex, f"target: {big}", lambda: graph.route(1, 2**32 + 1))
         self.refused(diffuse.NoVertex, "sources[1]: 0 is not from 1 to 5", lambda: graph.tree([1, 0]))
         self.refused(diffuse.NoVertex, "sources[0]: 6 is not from 1 to 5", lambda: graph.tree(6))
+        self.refused(diffuse.NoVertex, "targets[1]: 6 is not from 1 to 5", lambda: graph.table(1, [1, 6]))
         self.refused(diffuse.OutOfRange, "arcs[1], weight: -1 is not from 0 to 4294967295", lambda: Graph(2, [(1, 2, 3), (1, 2, -1)]))
         self.refused(diffuse.OutOfRange, "arcs[0], weight: 4294967296 is not from 0 to 4294967295", lambda: Graph(2, [(1, 2, 2**32)]))
         self.refused(diffuse.NoVertex, "arcs[0], head: 3 is not from 1 to 2", lambda: Graph(2, [(1, 3, 3)]))
@@ -180,7 +208,7 @@ class Refusals(unittest.TestCase):
     def test_classes_by_status(self):
         from diffuse.errors import BY_STATUS
 
-        self.assertEqual(sorted(BY_STATUS), [1, 2, 3, 4, 5, 6, *range(10, 20), 43])
+        self.assertEqual(sorted(BY_STATUS), [*range(1, 20), 43])
         for status, kind in BY_STATUS.items():
             self.assertTrue(issubclass(kind, diffuse.DiffuseError) and 400 <= kind.http < 600, status)
         error = diffuse.NoRoute("no route leads from 1 to 5")

@@ -56,6 +56,18 @@ class Threads(unittest.TestCase):
         self.assertTrue(all(wanted[source] == tree for source, tree in found))
         self.assertEqual([route.value for route in routes], wanted[1][0])
 
+    def test_factoring_while_others_ask(self):
+        graph = grid(20)
+        wanted = {source: listed(graph.tree(source)) for source in range(1, 41)}
+        with ThreadPoolExecutor(8) as pool:
+            factoring = [pool.submit(graph.factor, algebra) for algebra in ("shortest", "hops")]
+            found = list(pool.map(lambda place: (1 + place % 40, listed(graph.tree(1 + place % 40))), range(200)))
+        for future in factoring:
+            future.result()
+        found += [(source, listed(graph.tree(source))) for source in wanted]
+        self.assertTrue(all(wanted[source] == tree for source, tree in found))
+        self.assertTrue(all(handle.origin is graph._handles._first for handle in graph._handles._free))
+
     def test_closing_while_others_ask(self):
         for _ in range(20):
             graph, ends = grid(10), []

@@ -3,4 +3,5 @@ mod Filling
 mod Judged
 mod Showing
 mod Spelled
+mod Tabling
 mod Telling

@@ -11,7 +11,7 @@ use Rattle.answer_lists.proofs.Spelled.{line_is}
 
 module _ {V : Type 0} (A : Algebra V) (lawful : IsLawful A) (low : HasLowCodes A) (g : GraphData) (roads : IsGraph g) (sources : List ℕ) (v : ℕ) where
   -- a best value's code is not what is written for none
-  code_kept : (x : V) → IsBest A g sources v x → A.code x ≡ 18446744073709551615 → ⊥
+  pub code_kept : (x : V) → IsBest A g sources v x → A.code x ≡ 18446744073709551615 → ⊥
   code_kept x b = low x (walk_value_is_value A lawful g roads sources v x b.attained)
 
   told : (l : Option V) (h p : Option ℕ) → IsToldOf A g sources v l h p → IsVertexLine A g sources v (line_of (code_for A l) (number_for h) (number_for p))

@@ -22,6 +22,10 @@ HasBoth g source target = HasVertex g source × HasVertex g target
 abbrev pub IsFound : ℤ → Type 0
 IsFound status = (status ≡ pos 0) ⊎ (status ≡ pos 2)
 
+-- the question is answered: there is a walk, or there is none
+abbrev pub IsAnswered : ℤ → Type 0
+IsAnswered status = IsFound status ⊎ (status ≡ pos 1)
+
 -- no walk from the source to the target has a value
 pub record IsNoRoute {V : Type 0} (A : Algebra V) (g : GraphData) (source target : ℕ) : Type 0 where
   pub unreached : IsUnreached A g (source ∷ []) target

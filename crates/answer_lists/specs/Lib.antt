@@ -1,4 +1,5 @@
 pub mod Answers
-pub mod Choice
+pub mod Factoring
 pub mod Shown
+pub mod Table
 pub mod Tree

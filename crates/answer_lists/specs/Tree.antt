@@ -2,6 +2,7 @@
 use Rattle.std.specs.Prelude.{◌≡◌, ◌↔◌, ℕ, ◌==◌, ◌&&◌, if◌then◌else◌, ℤ, pos, true, List, [], ◌∷◌, All, Bool, Option, Some, None}
 use Rattle.road_graph.specs.GraphData.{GraphData, HasVertex}
 use Rattle.path_algebra.specs.Algebra.{Algebra}
+use Rattle.path_algebra.specs.Choices.{IsAlgebra}
 use Rattle.path_algebra.specs.Walks.{is_marked}
 use Rattle.answer_text.specs.declared.answers.Reached.{Reached}
 use Rattle.answer_text.specs.IsAnswer.{AreVertexLines}
@@ -10,7 +11,6 @@ use Rattle.answer_check.specs.Marked.{IsMarkedRefused, IsMarkedRight}
 use Rattle.answer_check.specs.Reasons.{IsLineRefused, reason_number}
 use Rattle.answer_check.specs.Verdicts.{IsEarlier}
 use Rattle.answer_lists.specs.Answers.{HavePlaces}
-use Rattle.answer_lists.specs.Choice.{IsAlgebra}
 
 -- the line of a vertex with this code, hops and parent; 2^64 - 1, 0 and 0 mean that no walk to it has a value
 abbrev pub line_of : ℕ → ℕ → ℕ → Option Reached

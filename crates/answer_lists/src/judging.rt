@@ -2,18 +2,18 @@
 
 ghost use Rattle.std.specs.Prelude.{◌≡◌, ◌∷◌, [], length, pos, All, IfOk, MatchOption};
 ghost use Rattle.road_graph.specs.GraphData.{HasVertex};
+ghost use Rattle.path_algebra.specs.Choices.{OfAlgebra, Under};
 ghost use Rattle.answer_check.specs.Reasons.{reason_number};
 ghost use Rattle.answer_lists.specs.Answers.{HavePlaces, IsOneOf};
-ghost use Rattle.answer_lists.specs.Choice.{OfAlgebra};
 ghost use Rattle.answer_lists.specs.Tree.{lines_of, AreTreeLists, IsFirstRefuted, IsFirstPlace, ReportsRefusals};
 
-use crate::choice::with_algebra;
+use crate::shared_graph::SharedGraph;
 use crate::sources::{are_vertices, vertices_of};
 use crate::status::{DONE, MEMORY, NO_ALGEBRA, NO_ROOM, NO_VERTEX, WRONG};
 use crate::vertices::reason_at;
 use answer_check::{Reason, marks_of};
-use path_algebra::{PathAlgebra, laws_hold};
-use road_graph::{InGraph, Memory, OutGraph, Vertex};
+use path_algebra::{AlgebraChoice, PathAlgebra, laws_hold, with_algebra};
+use road_graph::{InGraph, Memory, Vertex};
 use std::alloc::Global;
 
 /// The first vertex with a reason against its line, and the first such reason. `marks` says which vertices are sources.
@@ -45,7 +45,7 @@ fn first_place<A: PathAlgebra>(
 fn judge<A: PathAlgebra>(
     alloc: Global,
     algebra: A,
-    graph: &OutGraph,
+    graph: &InGraph,
     sources: &[u32],
     codes: &[u64],
     hops: &[u32],
@@ -59,15 +59,14 @@ fn judge<A: PathAlgebra>(
     laws_hold(algebra);
     let list = vertices_of(alloc, sources)?;
     let marks = marks_of(alloc, graph.vertices() as usize, &list)?;
-    let back = InGraph::of(alloc, graph)?;
-    Ok(first_place(algebra, &back, codes, hops, parents, &marks))
+    Ok(first_place(algebra, graph, codes, hops, parents, &marks))
 }
 
 /// Judges a tree and reports the first wrong vertex.
 fn answer<A: PathAlgebra>(
     alloc: Global,
     algebra: A,
-    graph: &OutGraph,
+    graph: &InGraph,
     sources: &[u32],
     codes: &[u64],
     hops: &[u32],
@@ -95,13 +94,11 @@ fn answer<A: PathAlgebra>(
     }
 }
 
-/// Judges a tree by the algebra of a number and reports the first wrong vertex, if each source is a vertex, each list has
-/// a place for each vertex and there is such an algebra.
-pub fn check_tree(
+/// Judges a tree by the chosen algebra and reports the first wrong vertex.
+fn answer_chosen(
     alloc: Global,
-    number: u32,
-    limit: u64,
-    graph: &OutGraph,
+    chosen: AlgebraChoice,
+    graph: &InGraph,
     sources: &[u32],
     codes: &[u64],
     hops: &[u32],
@@ -109,28 +106,62 @@ pub fn check_tree(
     vertex: &mut u32,
     reason: &mut u32,
 ) -> i32
-    ensures right { OfAlgebra number limit (λ V A. result ≡ pos 0 → AreTreeLists A graph.now
-        sources.now codes.now hops.now parents.now) }
-    ensures wrong { OfAlgebra number limit (λ V A. result ≡ pos 6 → IsFirstRefuted A graph.now
-        sources.now codes.now hops.now parents.now vertex.new reason.new) }
+    requires sources { All (HasVertex graph.now) sources.now }
+    requires places { HavePlaces graph.now.vertices codes.now hops.now parents.now }
+    ensures right { result ≡ pos 0 → Under chosen (λ V A. AreTreeLists A graph.now sources.now
+        codes.now hops.now parents.now) }
+    ensures wrong { result ≡ pos 6 → Under chosen (λ V A. IsFirstRefuted A graph.now sources.now
+        codes.now hops.now parents.now vertex.new reason.new) }
     ensures kept { (result ≡ pos 6 → ⊥) → (vertex.new ≡ vertex.old) × (reason.new ≡ reason.old) }
-    ensures refusals { ReportsRefusals graph.now number limit sources.now codes.now hops.now
-        parents.now result }
-    ensures status { IsOneOf (0 ∷ 2 ∷ 3 ∷ 6 ∷ 17 ∷ 43 ∷ []) result }
+    ensures status { IsOneOf (0 ∷ 3 ∷ 6 ∷ []) result }
 {
-    if !are_vertices(graph, sources) {
-        return NO_VERTEX;
-    }
-    let n = graph.vertices() as usize;
-    if codes.len() != n || hops.len() != n || parents.len() != n {
-        return NO_ROOM;
-    }
     with_algebra!(
-        number,
-        limit,
-        NO_ALGEBRA,
+        chosen,
         |algebra| answer(
             alloc, algebra, graph, sources, codes, hops, parents, vertex, reason
         )
+    )
+}
+
+/// Judges a tree by the algebra of a number and reports the first wrong vertex, if each source is a vertex, each list has
+/// a place for each vertex and there is such an algebra.
+#[tactic(auto, using(path_algebra::proofs::Chosen::of_numbered))]
+pub fn check_tree(
+    alloc: Global,
+    number: u32,
+    limit: u64,
+    shared: &mut SharedGraph,
+    sources: &[u32],
+    codes: &[u64],
+    hops: &[u32],
+    parents: &[u32],
+    vertex: &mut u32,
+    reason: &mut u32,
+) -> i32
+    ensures graph { shared.new ≡ shared.old }
+    ensures right { result ≡ pos 0 → OfAlgebra number limit (λ V A. AreTreeLists A shared.old
+        sources.now codes.now hops.now parents.now) }
+    ensures wrong { result ≡ pos 6 → OfAlgebra number limit (λ V A. IsFirstRefuted A shared.old
+        sources.now codes.now hops.now parents.now vertex.new reason.new) }
+    ensures kept { (result ≡ pos 6 → ⊥) → (vertex.new ≡ vertex.old) × (reason.new ≡ reason.old) }
+    ensures refusals { ReportsRefusals shared.old number limit sources.now codes.now hops.now
+        parents.now result }
+    ensures status { IsOneOf (0 ∷ 2 ∷ 3 ∷ 6 ∷ 17 ∷ 43 ∷ []) result }
+{
+    if !are_vertices(shared.graph(), sources) {
+        return NO_VERTEX;
+    }
+    let n = shared.graph().vertices() as usize;
+    if codes.len() != n || hops.len() != n || parents.len() != n {
+        return NO_ROOM;
+    }
+    let Some(chosen) = AlgebraChoice::numbered(number, limit) else {
+        return NO_ALGEBRA;
+    };
+    let Ok(rows) = shared.rows(alloc) else {
+        return MEMORY;
+    };
+    answer_chosen(
+        alloc, chosen, &rows, sources, codes, hops, parents, vertex, reason,
     )
 }

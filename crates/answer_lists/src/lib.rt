@@ -1,17 +1,26 @@
-//! Routes, trees and the check of a tree, in lists of numbers that a caller lends.
+//! Routes, trees, tables and the check of a tree, in lists of numbers that a caller lends.
 #![tactic(auto)]
 
-mod choice;
+mod codes;
 mod evidence;
+mod factored;
+mod factoring;
 mod judging;
 mod lines;
 mod route;
+mod shared_graph;
 mod sources;
 mod status;
+mod table;
 mod tree;
 mod vertices;
 
+pub use factoring::factor_graph;
 pub use judging::check_tree;
 pub use route::answer_route;
-pub use status::{DONE, MEMORY, NO_ALGEBRA, NO_ROOM, NO_ROUTE, NO_VERTEX, WRONG};
+pub use shared_graph::SharedGraph;
+pub use status::{
+    DENSE, DONE, HEAVY, MEMORY, NO_ALGEBRA, NO_FACTORS, NO_ROOM, NO_ROUTE, NO_VERTEX, WRONG,
+};
+pub use table::answer_table;
 pub use tree::answer_tree;

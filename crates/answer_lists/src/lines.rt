@@ -5,11 +5,9 @@ ghost use Rattle.path_algebra.specs.Walks.{label_of};
 ghost use Rattle.answer_lists.specs.Answers.{HavePlaces};
 ghost use Rattle.answer_lists.specs.Tree.{line_of, lines_of};
 
+use crate::codes::NO_CODE;
 use answer_text::Reached;
 use road_graph::Vertex;
-
-/// The code of a vertex without a value.
-pub(crate) const NO_CODE: u64 = u64::MAX;
 
 /// The line of three numbers: none if they are those of an unreached vertex.
 fn line_of(code: u64, hops: u32, parent: u32) -> Option<Reached>

@@ -2,34 +2,35 @@
 
 ghost use Rattle.std.specs.Prelude.{◌≡◌, ◌≤◌, ◌<◌, ◌+◌, ◌↔◌, ◌∷◌, [], length, take, drop, pos, IfOk, MatchOption};
 ghost use Rattle.road_graph.specs.GraphData.{HasVertex};
-ghost use Rattle.answer_lists.specs.Answers.{IsFound, IsOneOf, IsNoRoute, IsRouteFound, ReportsRoute, HasBoth};
-ghost use Rattle.answer_lists.specs.Choice.{IsAlgebra, OfAlgebra};
+ghost use Rattle.path_algebra.specs.Choices.{IsAlgebra, OfAlgebra, Under};
+ghost use Rattle.answer_lists.specs.Answers.{IsAnswered, IsFound, IsOneOf, IsNoRoute, IsRouteFound, ReportsRoute, HasBoth};
 
-use crate::choice::with_algebra;
+use crate::shared_graph::SharedGraph;
 use crate::status::{DONE, MEMORY, NO_ALGEBRA, NO_ROOM, NO_ROUTE, NO_VERTEX};
-use path_algebra::PathAlgebra;
+use path_algebra::{AlgebraChoice, PathAlgebra, with_algebra};
 use path_plain::solve_to;
 use road_graph::{InGraph, Memory, OutGraph, Vertex};
 use route_tree::{PairRoute, route_outgoing_up_to};
 use std::alloc::Global;
 
-/// The best code and the route; none if no walk to the target has a value.
-fn find<A: PathAlgebra>(
+/// The best code and the route, by a search; none if no walk to the target has a value.
+fn search<A: PathAlgebra>(
     alloc: Global,
     algebra: A,
     graph: &OutGraph,
+    rows: &InGraph,
     source: Vertex,
     target: Vertex,
 ) -> Result<Option<(u64, PairRoute)>, Memory>
     requires source { HasVertex graph.now source }
     requires target { HasVertex graph.now target }
+    requires rows { rows.now ≡ graph.now }
     ensures { IfOk result (λ o. MatchOption o (IsNoRoute (A.meaning algebra) graph.now source target)
         (λ r. IsRouteFound (A.meaning algebra) graph.now source target r.0 r.1.hops r.1.vertices.items)) }
 {
     graph.holds();
     let labels = solve_to(alloc, algebra, graph, &[source], target)?;
-    let back = InGraph::of(alloc, graph)?;
-    let Some(route) = route_outgoing_up_to(alloc, algebra, graph, &back, source, target, &labels)?
+    let Some(route) = route_outgoing_up_to(alloc, algebra, graph, rows, source, target, &labels)?
     else {
         return Ok(None);
     };
@@ -37,6 +38,29 @@ fn find<A: PathAlgebra>(
         Some(value) => Ok(Some((algebra.code(value), route))),
         None => Ok(None),
     }
+}
+
+/// The best code and the route; none if no walk to the target has a value.
+fn find<A: PathAlgebra>(
+    alloc: Global,
+    algebra: A,
+    shared: &mut SharedGraph,
+    source: Vertex,
+    target: Vertex,
+) -> Result<Option<(u64, PairRoute)>, Memory>
+    requires source { HasVertex shared.old source }
+    requires target { HasVertex shared.old target }
+    ensures graph { shared.new ≡ shared.old }
+    ensures found { IfOk result (λ o. MatchOption o (IsNoRoute (A.meaning algebra) shared.old source target)
+        (λ r. IsRouteFound (A.meaning algebra) shared.old source target r.0 r.1.hops r.1.vertices.items)) }
+{
+    let rows = shared.rows(alloc)?;
+    let Some(mut factored) = shared.take_factored(algebra) else {
+        return search(alloc, algebra, shared.graph(), &rows, source, target);
+    };
+    let found = factored.route(alloc, algebra, &rows, (source, target));
+    shared.put_factored(factored);
+    found
 }
 
 /// Copies the vertices of a route into the room.
@@ -73,15 +97,16 @@ fn write_route(route: &PairRoute, room: &mut [u32]) -> i32
 fn answer<A: PathAlgebra>(
     alloc: Global,
     algebra: A,
-    graph: &OutGraph,
+    shared: &mut SharedGraph,
     source: Vertex,
     target: Vertex,
     code: &mut u64,
     hops: &mut u32,
     room: &mut [u32],
 ) -> i32
-    requires { HasBoth graph.now source target }
-    ensures tells { ReportsRoute (A.meaning algebra) graph.now source target result code.new hops.new
+    requires { HasBoth shared.old source target }
+    ensures graph { shared.new ≡ shared.old }
+    ensures tells { ReportsRoute (A.meaning algebra) shared.old source target result code.new hops.new
         room.new }
     ensures short { result ≡ pos 2 → length room.old < hops.new + 1 }
     ensures long { result ≡ pos 0 → hops.new + 1 ≤ length room.old }
@@ -90,7 +115,7 @@ fn answer<A: PathAlgebra>(
     ensures places { (IsFound result → ⊥) → (code.new ≡ code.old) × (hops.new ≡ hops.old) }
     ensures status { IsOneOf (0 ∷ 1 ∷ 2 ∷ 3 ∷ []) result }
 {
-    match find(alloc, algebra, graph, source, target) {
+    match find(alloc, algebra, shared, source, target) {
         Ok(Some((value, route))) => {
             *code = value;
             *hops = route.hops;
@@ -101,37 +126,66 @@ fn answer<A: PathAlgebra>(
     }
 }
 
-/// Finds a route by the algebra of a number and writes it, if there is such an algebra and both are vertices.
-pub fn answer_route(
+/// Finds a route by the chosen algebra and writes it.
+fn answer_chosen(
     alloc: Global,
-    number: u32,
-    limit: u64,
-    graph: &OutGraph,
+    chosen: AlgebraChoice,
+    shared: &mut SharedGraph,
     source: Vertex,
     target: Vertex,
     code: &mut u64,
     hops: &mut u32,
     room: &mut [u32],
 ) -> i32
-    ensures tells { OfAlgebra number limit (λ V A. ReportsRoute A graph.now source target result
-        code.new hops.new room.new) }
+    requires { HasBoth shared.old source target }
+    ensures graph { shared.new ≡ shared.old }
+    ensures tells { Under chosen (λ V A. ReportsRoute A shared.old source target result code.new
+        hops.new room.new) }
     ensures short { result ≡ pos 2 → length room.old < hops.new + 1 }
     ensures long { result ≡ pos 0 → hops.new + 1 ≤ length room.old }
     ensures room { (result ≡ pos 0 → ⊥) → room.new ≡ room.old }
     ensures rest { result ≡ pos 0 → drop (hops.new + 1) room.new ≡ drop (hops.new + 1) room.old }
     ensures places { (IsFound result → ⊥) → (code.new ≡ code.old) × (hops.new ≡ hops.old) }
-    ensures vertex { (result ≡ pos 17) ↔ (HasBoth graph.now source target → ⊥) }
-    ensures algebra { (result ≡ pos 43) ↔ (HasBoth graph.now source target ×
+    ensures status { IsOneOf (0 ∷ 1 ∷ 2 ∷ 3 ∷ []) result }
+{
+    with_algebra!(
+        chosen,
+        |algebra| answer(alloc, algebra, shared, source, target, code, hops, room)
+    )
+}
+
+/// Finds a route by the algebra of a number and writes it, if there is such an algebra and both are vertices.
+#[tactic(auto, using(path_algebra::proofs::Chosen::of_numbered))]
+pub fn answer_route(
+    alloc: Global,
+    number: u32,
+    limit: u64,
+    shared: &mut SharedGraph,
+    source: Vertex,
+    target: Vertex,
+    code: &mut u64,
+    hops: &mut u32,
+    room: &mut [u32],
+) -> i32
+    ensures graph { shared.new ≡ shared.old }
+    ensures tells { IsAnswered result → OfAlgebra number limit (λ V A. ReportsRoute A shared.old
+        source target result code.new hops.new room.new) }
+    ensures short { result ≡ pos 2 → length room.old < hops.new + 1 }
+    ensures long { result ≡ pos 0 → hops.new + 1 ≤ length room.old }
+    ensures room { (result ≡ pos 0 → ⊥) → room.new ≡ room.old }
+    ensures rest { result ≡ pos 0 → drop (hops.new + 1) room.new ≡ drop (hops.new + 1) room.old }
+    ensures places { (IsFound result → ⊥) → (code.new ≡ code.old) × (hops.new ≡ hops.old) }
+    ensures vertex { (result ≡ pos 17) ↔ (HasBoth shared.old source target → ⊥) }
+    ensures algebra { (result ≡ pos 43) ↔ (HasBoth shared.old source target ×
         (IsAlgebra number limit → ⊥)) }
     ensures status { IsOneOf (0 ∷ 1 ∷ 2 ∷ 3 ∷ 17 ∷ 43 ∷ []) result }
 {
+    let graph = shared.graph();
     if !graph.has(source) || !graph.has(target) {
         return NO_VERTEX;
     }
-    with_algebra!(
-        number,
-        limit,
-        NO_ALGEBRA,
-        |algebra| answer(alloc, algebra, graph, source, target, code, hops, room)
-    )
+    let Some(chosen) = AlgebraChoice::numbered(number, limit) else {
+        return NO_ALGEBRA;
+    };
+    answer_chosen(alloc, chosen, shared, source, target, code, hops, room)
 }

@@ -10,6 +10,12 @@ pub const NO_ROOM: i32 = 2;
 pub const MEMORY: i32 = 3;
 /// The lists are not the tree.
 pub const WRONG: i32 = 6;
+/// So many arcs join the vertices that factors would not pay.
+pub const DENSE: i32 = 7;
+/// The weights are so great that a sum with its hops may not fit into 63 bits.
+pub const HEAVY: i32 = 8;
+/// The algebra has no factors.
+pub const NO_FACTORS: i32 = 9;
 /// A vertex or an arc's end is out of range.
 pub const NO_VERTEX: i32 = 17;
 /// The number names no algebra, or its limit is too great.

@@ -3,31 +3,22 @@
 ghost use Rattle.std.specs.Prelude.{◌≡◌, ◌∷◌, [], pos, IfOk};
 ghost use Rattle.std.specs.List.{All};
 ghost use Rattle.road_graph.specs.GraphData.{HasVertex};
+ghost use Rattle.path_algebra.specs.Choices.{OfAlgebra, Under};
 ghost use Rattle.path_algebra.specs.Walks.{AreBest};
 ghost use Rattle.route_tree.specs.Tree.{IsTree};
 ghost use Rattle.answer_text.specs.IsAnswer.{IsVertexLine};
 ghost use Rattle.answer_lists.specs.Answers.{HavePlaces, IsOneOf};
-ghost use Rattle.answer_lists.specs.Choice.{OfAlgebra};
-ghost use Rattle.answer_lists.specs.Tree.{AreTreeLists, ReportsRefusals, HasLowCodes, line_of, number_for, code_for};
+ghost use Rattle.answer_lists.specs.Tree.{AreTreeLists, ReportsRefusals, HasLowCodes, line_of, number_for};
 
-use crate::choice::with_algebra;
-use crate::lines::NO_CODE;
+use crate::codes::code_for;
+use crate::shared_graph::SharedGraph;
 use crate::sources::{are_vertices, vertices_of};
 use crate::status::{DONE, MEMORY, NO_ALGEBRA, NO_ROOM, NO_VERTEX};
-use path_algebra::{Labels, PathAlgebra, laws_hold};
+use path_algebra::{AlgebraChoice, Labels, PathAlgebra, laws_hold, with_algebra};
 use road_graph::{Memory, OutGraph, Vertex};
 use route_tree::{Tree, labels_and_trees_agree};
 use std::alloc::Global;
 use tree_search::solve_with_tree;
-
-fn code_for<A: PathAlgebra>(algebra: A, value: Option<A::Value>) -> u64
-    ensures { result ≡ code_for (A.meaning algebra) value }
-{
-    match value {
-        Some(value) => algebra.code(value),
-        None => NO_CODE,
-    }
-}
 
 fn hops_for(hops: Option<u32>) -> u32
     ensures { result ≡ number_for hops }
@@ -101,20 +92,44 @@ fn write_lists<A: PathAlgebra>(
     }
 }
 
+/// The labels from some sources, and their tree.
+fn solve<A: PathAlgebra>(
+    alloc: Global,
+    algebra: A,
+    shared: &mut SharedGraph,
+    sources: &[Vertex],
+) -> Result<(Labels<A::Value>, Tree), Memory>
+    requires { All (HasVertex shared.old) sources.now }
+    ensures graph { shared.new ≡ shared.old }
+    ensures labels { IfOk result (λ s. AreBest (A.meaning algebra) shared.old sources.now s.0) }
+    ensures tree { IfOk result (λ s. IsTree (A.meaning algebra) shared.old sources.now s.1) }
+{
+    let Some(factored) = shared.take_factored(algebra) else {
+        return solve_with_tree(alloc, algebra, shared.graph(), sources);
+    };
+    let found = match shared.rows(alloc) {
+        Ok(rows) => factored.tree(alloc, algebra, &rows, sources),
+        Err(Memory) => Err(Memory),
+    };
+    shared.put_factored(factored);
+    found
+}
+
 /// Finds a tree and writes it.
 fn answer<A: PathAlgebra>(
     alloc: Global,
     algebra: A,
-    graph: &OutGraph,
+    shared: &mut SharedGraph,
     sources: &[u32],
     codes: &mut [u64],
     hops: &mut [u32],
     parents: &mut [u32],
 ) -> i32
     requires low { HasLowCodes (A.meaning algebra) }
-    requires sources { All (HasVertex graph.now) sources.now }
-    requires places { HavePlaces graph.now.vertices codes.old hops.old parents.old }
-    ensures tree { result ≡ pos 0 → AreTreeLists (A.meaning algebra) graph.now sources.now codes.new
+    requires sources { All (HasVertex shared.old) sources.now }
+    requires places { HavePlaces shared.old.vertices codes.old hops.old parents.old }
+    ensures graph { shared.new ≡ shared.old }
+    ensures tree { result ≡ pos 0 → AreTreeLists (A.meaning algebra) shared.old sources.now codes.new
         hops.new parents.new }
     ensures kept { (result ≡ pos 0 → ⊥) → (codes.new ≡ codes.old) × (hops.new ≡ hops.old) ×
         (parents.new ≡ parents.old) }
@@ -123,35 +138,72 @@ fn answer<A: PathAlgebra>(
     let Ok(list) = vertices_of(alloc, sources) else {
         return MEMORY;
     };
-    match solve_with_tree(alloc, algebra, graph, &list) {
+    match solve(alloc, algebra, shared, &list) {
         Ok((labels, tree)) => {
-            write_lists(algebra, graph, &list, &labels, &tree, codes, hops, parents);
+            write_lists(
+                algebra,
+                shared.graph(),
+                &list,
+                &labels,
+                &tree,
+                codes,
+                hops,
+                parents,
+            );
             DONE
         }
         Err(Memory) => MEMORY,
     }
 }
 
-/// Finds a tree by the algebra of a number and writes it, if each source is a vertex, each list has a place for each
-/// vertex and there is such an algebra.
-pub fn answer_tree(
+/// Finds a tree by the chosen algebra and writes it.
+fn answer_chosen(
     alloc: Global,
-    number: u32,
-    limit: u64,
-    graph: &OutGraph,
+    chosen: AlgebraChoice,
+    shared: &mut SharedGraph,
     sources: &[u32],
     codes: &mut [u64],
     hops: &mut [u32],
     parents: &mut [u32],
 ) -> i32
-    ensures tree { OfAlgebra number limit (λ V A. result ≡ pos 0 → AreTreeLists A graph.now
+    requires sources { All (HasVertex shared.old) sources.now }
+    requires places { HavePlaces shared.old.vertices codes.old hops.old parents.old }
+    ensures graph { shared.new ≡ shared.old }
+    ensures tree { result ≡ pos 0 → Under chosen (λ V A. AreTreeLists A shared.old sources.now codes.new
+        hops.new parents.new) }
+    ensures kept { (result ≡ pos 0 → ⊥) → (codes.new ≡ codes.old) × (hops.new ≡ hops.old) ×
+        (parents.new ≡ parents.old) }
+    ensures status { IsOneOf (0 ∷ 3 ∷ []) result }
+{
+    with_algebra!(
+        chosen,
+        |algebra| answer(alloc, algebra, shared, sources, codes, hops, parents)
+    )
+}
+
+/// Finds a tree by the algebra of a number and writes it, if each source is a vertex, each list has a place for each
+/// vertex and there is such an algebra.
+#[tactic(auto, using(path_algebra::proofs::Chosen::of_numbered))]
+pub fn answer_tree(
+    alloc: Global,
+    number: u32,
+    limit: u64,
+    shared: &mut SharedGraph,
+    sources: &[u32],
+    codes: &mut [u64],
+    hops: &mut [u32],
+    parents: &mut [u32],
+) -> i32
+    ensures graph { shared.new ≡ shared.old }
+    ensures tree { result ≡ pos 0 → OfAlgebra number limit (λ V A. AreTreeLists A shared.old
         sources.now codes.new hops.new parents.new) }
     ensures kept { (result ≡ pos 0 → ⊥) → (codes.new ≡ codes.old) × (hops.new ≡ hops.old) ×
         (parents.new ≡ parents.old) }
-    ensures refusals { ReportsRefusals graph.now number limit sources.now codes.old hops.old
+    ensures refusals { ReportsRefusals shared.old number limit sources.now codes.old hops.old
         parents.old result }
     ensures status { IsOneOf (0 ∷ 2 ∷ 3 ∷ 17 ∷ 43 ∷ []) result }
 {
+    let graph = shared.graph();
     if !are_vertices(graph, sources) {
         return NO_VERTEX;
     }
@@ -159,10 +211,8 @@ pub fn answer_tree(
     if codes.len() != n || hops.len() != n || parents.len() != n {
         return NO_ROOM;
     }
-    with_algebra!(
-        number,
-        limit,
-        NO_ALGEBRA,
-        |algebra| answer(alloc, algebra, graph, sources, codes, hops, parents)
-    )
+    let Some(chosen) = AlgebraChoice::numbered(number, limit) else {
+        return NO_ALGEBRA;
+    };
+    answer_chosen(alloc, chosen, shared, sources, codes, hops, parents)
 }

@@ -1,11 +1,11 @@
 -- The roads out of a vertex, with the vertex as their tail, are its arcs.
-use Rattle.std.proofs.Common.{◌≡◌, ℕ, List, [], ◌∷◌, length, get_or, refl, ap, ◌∙◌, subst}
+use Rattle.std.proofs.Common.{◌≡◌, ℕ, List, [], ◌∷◌, get_or, refl, ap, ◌∙◌, subst}
 use Rattle.std.specs.Prelude.{map}
 use Rattle.std.specs.List.{All}
 use Rattle.std.proofs.lemmas.List.Elements.{All-head, All-tail, All-contains_itself}
 use Rattle.road_graph.specs.declared.OutRoad.{OutRoad}
 use Rattle.road_graph.specs.declared.RoadArc.{RoadArc}
-use Rattle.road_graph.specs.GraphData.{GraphData, ListsArcsFrom, ListsRoadsFrom, arc_of, road_of, roads_of}
+use Rattle.road_graph.specs.GraphData.{GraphData, ListsRoadsFrom, arc_of, road_of, roads_of}
 use Rattle.libdiffuse.specs.Leaving.{AreArcsFrom, arc_out_of}
 use Rattle.libdiffuse.specs.Lent.{arc_from}
 

@@ -1,12 +1,12 @@
 -- A reader that never fails reports the fault of its text, or that there was no memory, if the text is not too long.
-use Rattle.std.proofs.Common.{◌≡◌, ◌≢◌, ℕ, ◌≤◌, ◌⊎◌, inl, inr, List, length, refl, arith, Result, Ok, Err, Some}
+use Rattle.std.proofs.Common.{◌≡◌, ◌≢◌, ℕ, ◌≤◌, ◌⊎◌, inl, inr, List, length, refl, arith, Result, Ok, Err, Option, Some}
 use Rattle.std.specs.Prelude.{IfErr}
 use Rattle.road_graph.specs.GraphData.{GraphData}
 use Rattle.road_text.specs.declared.faults.ReadFault.{ReadFault}
-use Rattle.road_text.specs.Reads.{IsNumberFrom, IsReadNumber, IsTooLong, ReadsFault, TellsFailure}
+use Rattle.road_text.specs.Reads.{IsNumberFrom, IsReadNumber, IsTooLong, ReadsFault, RunsOutUnbroken, TellsFailure}
 use Rattle.road_text.specs.Rules.{text_read}
 use Rattle.graph_text.specs.GraphFiles.{gr_rules}
-use Rattle.libdiffuse.specs.Texts.{IsReadFaultOf}
+use Rattle.libdiffuse.specs.Texts.{IsReadFaultOf, RunsOutWithin}
 
 cases_number : (n : ℕ) → IsNumberFrom 10 19 n → (n ≡ 1 → ⊥) → (n ≡ 2 → ⊥) → (n ≡ 3) ⊎ ((10 ≤ n) × (n ≤ 19))
 cases_number n (inl low) sound short = grind (arith, low, sound, short)
@@ -22,3 +22,7 @@ fault_of bytes f first sound short numbered = elim (cases_number f.number number
 pub fault_told : (bytes : List ℕ) (r : Result GraphData ReadFault) → length bytes ≤ 4294967296 → ReadsFault gr_rules (Some bytes) r → TellsFailure 0 0 r → IsTooLong (Some bytes) r → IsReadNumber 10 19 r → IfErr r (λ f. IsReadFaultOf bytes f)
 fault_told bytes (Ok g) fits first told long numbered = tt
 fault_told bytes (Err f) fits first told long numbered = fault_of bytes f first (λ e. told e refl) (λ e. omega (arith, fits, long e)) numbered
+
+pub ran_out : (bytes : List ℕ) (r : Result GraphData ReadFault) (rest : Option (List ℕ)) → RunsOutUnbroken gr_rules (Some bytes) rest r → IfErr r (λ f. f.number ≡ 3 → RunsOutWithin bytes)
+ran_out bytes (Ok g) rest after = tt
+ran_out bytes (Err f) rest after = λ e. record { rest = rest; after = after e }

@@ -12,7 +12,8 @@ use crate::opening::owner_of;
 use crate::owners::another;
 use crate::status::{CLOSED, OPEN};
 use answer_lists::{DONE, MEMORY};
-use std::alloc::{AllocError, Global};
+use road_graph::Memory;
+use std::alloc::Global;
 
 /// Opens a closed handle with the graph of these arcs. They may be changed or freed afterwards.
 #[unsafe(no_mangle)]
@@ -62,15 +63,15 @@ pub extern "C" fn diffuse_graph_share(
     if second.is_open {
         return OPEN;
     }
-    let Some(owner) = take(alloc, handle) else {
+    let Some(mut owner) = take(alloc, handle) else {
         return CLOSED;
     };
-    let status = match another(alloc, &owner) {
+    let status = match another(alloc, &mut owner) {
         Ok(other) => {
             put(second, other);
             DONE
         }
-        Err(AllocError) => MEMORY,
+        Err(Memory) => MEMORY,
     };
     put(handle, owner);
     status
@@ -93,7 +94,7 @@ pub extern "C" fn diffuse_graph_vertices(alloc: Global, handle: &mut DiffuseGrap
     let Some(owner) = take(alloc, handle) else {
         return 0;
     };
-    let count = owner.vertices();
+    let count = owner.graph().vertices();
     put(handle, owner);
     count
 }
@@ -107,7 +108,7 @@ pub extern "C" fn diffuse_graph_arcs(alloc: Global, handle: &mut DiffuseGraph) -
     let Some(owner) = take(alloc, handle) else {
         return 0;
     };
-    let count = owner.arcs();
+    let count = owner.graph().arcs();
     put(handle, owner);
     count
 }

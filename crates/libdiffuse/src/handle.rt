@@ -1,15 +1,13 @@
 //! The handle that C keeps.
 
 ghost use Rattle.std.specs.Prelude.{◌≡◌, Some, None, MatchOption, true, false};
-ghost use Rattle.std.specs.Arc.{arc_value};
 ghost use Rattle.libdiffuse.specs.Holding.{has_graph};
 
 use crate::held::{Held, discard, hold, nothing, release};
 use crate::loose::Loose;
-use road_graph::OutGraph;
+use answer_lists::SharedGraph;
 use std::alloc::Global;
 use std::mem;
-use std::sync::Arc;
 
 /// A handle: closed, or open with a graph. C begins with one that is all zero, and changes nothing in it.
 #[repr(C)]
@@ -30,8 +28,8 @@ pub(crate) fn closed() -> DiffuseGraph
 }
 
 /// An open handle with this owner.
-fn opened(owner: Box<Arc<OutGraph>>) -> DiffuseGraph
-    ensures { result.held.roads ≡ Some (arc_value owner.value) }
+fn opened(owner: Box<SharedGraph>) -> DiffuseGraph
+    ensures { result.held.roads ≡ Some owner.value }
 {
     DiffuseGraph {
         held: hold(Loose::of(owner)),
@@ -40,9 +38,9 @@ fn opened(owner: Box<Arc<OutGraph>>) -> DiffuseGraph
 }
 
 /// Takes the owner out, if there is one. The handle is closed afterwards.
-pub(crate) fn take(alloc: Global, handle: &mut DiffuseGraph) -> Option<Box<Arc<OutGraph>>>
+pub(crate) fn take(alloc: Global, handle: &mut DiffuseGraph) -> Option<Box<SharedGraph>>
     ensures graph { MatchOption result (handle.old.held.roads ≡ None) (λ b. handle.old.held.roads ≡
-        Some (arc_value b.value)) }
+        Some b.value) }
     ensures closed { handle.new.held.roads ≡ None }
 {
     let DiffuseGraph { held, is_open } = mem::replace(handle, closed());
@@ -55,9 +53,9 @@ pub(crate) fn take(alloc: Global, handle: &mut DiffuseGraph) -> Option<Box<Arc<O
 }
 
 /// Puts an owner into a closed handle.
-pub(crate) fn put(handle: &mut DiffuseGraph, owner: Box<Arc<OutGraph>>)
+pub(crate) fn put(handle: &mut DiffuseGraph, owner: Box<SharedGraph>)
     requires { handle.old.held.roads ≡ None }
-    ensures { handle.new.held.roads ≡ Some (arc_value owner.value) }
+    ensures { handle.new.held.roads ≡ Some owner.value }
 {
     let DiffuseGraph { held, is_open: _ } = mem::replace(handle, opened(owner));
     discard(held);

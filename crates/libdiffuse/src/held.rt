@@ -1,16 +1,14 @@
 //! A graph that C keeps as a pointer.
 
 ghost use Rattle.std.specs.Prelude.{◌≡◌, Option, Some, None, true};
-ghost use Rattle.std.specs.Arc.{arc_value};
 ghost use Rattle.road_graph.specs.GraphData.{GraphData};
 ghost use Rattle.libdiffuse.specs.Holding.{has_graph};
 
 use crate::loose::Loose;
-use road_graph::OutGraph;
+use answer_lists::SharedGraph;
 use std::alloc::Global;
 use std::marker::{Model, Send};
 use std::ptr::null_mut;
-use std::sync::Arc;
 
 /// Nothing, or an owner of a graph in a block of the heap. It cannot be dropped, so the owner is not lost.
 #[repr(C)]
@@ -36,21 +34,21 @@ pub(crate) fn nothing() -> Held
 }
 
 /// Holds an owner of a graph.
-pub(crate) fn hold(owner: Loose<Arc<OutGraph>, Global>) -> Held
-    ensures { result.roads ≡ Some (arc_value owner.value) }
+pub(crate) fn hold(owner: Loose<SharedGraph, Global>) -> Held
+    ensures { result.roads ≡ Some owner.value }
 {
     let Loose { at, alloc: _ } = owner;
     Held { at: at as *mut u8 }
 }
 
 /// Gives the owner back.
-pub(crate) fn release(alloc: Global, held: Held) -> Loose<Arc<OutGraph>, Global>
+pub(crate) fn release(alloc: Global, held: Held) -> Loose<SharedGraph, Global>
     requires { has_graph held.roads ≡ true }
-    ensures { held.roads ≡ Some (arc_value result.value) }
+    ensures { held.roads ≡ Some result.value }
 {
     let Held { at } = held;
     Loose {
-        at: at as *mut Arc<OutGraph>,
+        at: at as *mut SharedGraph,
         alloc,
     }
 }

@@ -78,8 +78,9 @@ pub extern "C" fn diffuse_graph_arcs_from(
     let Some(owner) = take(alloc, handle) else {
         return CLOSED;
     };
-    let status = if owner.has(Vertex(vertex)) {
-        answer(&owner, Vertex(vertex), arcs, count)
+    let graph = owner.graph();
+    let status = if graph.has(Vertex(vertex)) {
+        answer(graph, Vertex(vertex), arcs, count)
     } else {
         NO_VERTEX
     };

@@ -1,9 +1,10 @@
-//! The engine for callers in C: a graph behind a handle, routes and trees in it by six algebras, and whether a tree is right.
+//! The engine for callers in C: a graph behind a handle, routes, trees and tables by six algebras, and whether a tree is right.
 #![tactic(auto)]
 
 ghost use Rattle.std.specs.Prelude.{◌≡◌};
 
 mod arcs;
+mod factors;
 mod graphs;
 mod handle;
 mod held;
@@ -15,8 +16,10 @@ mod owners;
 mod questions;
 mod reading;
 mod status;
+mod tables;
 
 pub use arcs::DiffuseArc;
+pub use factors::diffuse_graph_factor;
 pub use graphs::{
     diffuse_graph_arcs, diffuse_graph_close, diffuse_graph_open, diffuse_graph_share,
     diffuse_graph_vertices,
@@ -25,13 +28,14 @@ pub use handle::DiffuseGraph;
 pub use leaving::diffuse_graph_arcs_from;
 pub use questions::{diffuse_graph_check, diffuse_graph_route, diffuse_graph_tree};
 pub use reading::diffuse_graph_read;
+pub use tables::diffuse_graph_table;
 
 /// The library's version: 10,000 times the first number, 100 times the second, and the third.
 #[unsafe(no_mangle)]
 pub extern "C" fn diffuse_version() -> u32
-    ensures { result ≡ 10000 }
+    ensures { result ≡ 10100 }
 {
-    10_000
+    10_100
 }
 
 #[cfg(test)]

@@ -1,17 +1,15 @@
 //! A graph that is built from lent arcs.
 
 ghost use Rattle.std.specs.Prelude.{◌≡◌, IfOk, IfErr};
-ghost use Rattle.std.specs.Arc.{arc_value};
 ghost use Rattle.libdiffuse.specs.Lent.{Fits, IsFault, lent};
 
 use crate::arcs::{DiffuseArc, roads_of};
 use crate::joining::join_vertices;
 use crate::owners::owned;
 use crate::status::LIMIT;
-use answer_lists::{MEMORY, NO_VERTEX};
+use answer_lists::{MEMORY, NO_VERTEX, SharedGraph};
 use road_graph::{Memory, OutGraph};
 use std::alloc::{AllocError, Global};
-use std::sync::Arc;
 
 /// The graph of these arcs. Whether there is one is found before anything is allocated.
 fn graph_of(alloc: Global, vertices: u32, arcs: &[DiffuseArc]) -> Result<OutGraph, i32>
@@ -39,8 +37,8 @@ pub(crate) fn owner_of(
     alloc: Global,
     vertices: u32,
     arcs: &[DiffuseArc],
-) -> Result<Box<Arc<OutGraph>>, i32>
-    ensures graph { IfOk result (λ b. arc_value b.value ≡ lent vertices arcs.now) }
+) -> Result<Box<SharedGraph>, i32>
+    ensures graph { IfOk result (λ b. b.value ≡ lent vertices arcs.now) }
     ensures fits { IfOk result (λ b. Fits vertices arcs.now) }
     ensures fault { IfErr result (λ n. IsFault vertices arcs.now n) }
 {

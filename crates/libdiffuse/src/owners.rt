@@ -1,27 +1,25 @@
 //! Owners of a graph: each open handle has one, and the graph is freed with the last.
 
 ghost use Rattle.std.specs.Prelude.{◌≡◌, IfOk};
-ghost use Rattle.std.specs.Arc.{arc_value};
 
-use road_graph::OutGraph;
+use answer_lists::SharedGraph;
+use road_graph::{Memory, OutGraph};
 use std::alloc::{AllocError, Global};
-use std::sync::Arc;
 
 /// The first owner of a graph.
-pub(crate) fn owned(alloc: Global, graph: OutGraph) -> Result<Box<Arc<OutGraph>>, AllocError>
-    ensures { IfOk result (λ b. arc_value b.value ≡ graph) }
+pub(crate) fn owned(alloc: Global, graph: OutGraph) -> Result<Box<SharedGraph>, AllocError>
+    ensures { IfOk result (λ b. b.value ≡ graph) }
 {
-    let owner = Arc::new(alloc, graph).map_err(AllocError::from)?;
+    let owner = SharedGraph::of(alloc, graph)?;
     Ok(Box::new(alloc, owner).map_err(AllocError::from)?)
 }
 
-/// One more owner of the same graph.
-pub(crate) fn another(
-    alloc: Global,
-    owner: &Arc<OutGraph>,
-) -> Result<Box<Arc<OutGraph>>, AllocError>
-    ensures { IfOk result (λ b. arc_value b.value ≡ arc_value owner.now) }
+/// One more owner of the same graph. The rows by head are made first, so that both have one copy of them.
+pub(crate) fn another(alloc: Global, owner: &mut SharedGraph) -> Result<Box<SharedGraph>, Memory>
+    ensures kept { owner.new ≡ owner.old }
+    ensures same { IfOk result (λ b. b.value ≡ owner.old) }
 {
-    let second = Arc::try_clone(owner)?;
+    let _rows = owner.rows(alloc)?;
+    let second = owner.another()?;
     Ok(Box::new(alloc, second).map_err(AllocError::from)?)
 }

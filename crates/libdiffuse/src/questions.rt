@@ -1,8 +1,8 @@
 //! The calls that answer questions: a route, a tree, and whether a tree is right.
 
 ghost use Rattle.std.specs.Prelude.{◌≡◌, ◌↔◌, ◌<◌, ◌≤◌, ◌+◌, ◌∷◌, [], drop, length, pos, None};
-ghost use Rattle.answer_lists.specs.Answers.{IsFound, ReportsRoute, IsOneOf, HasBoth};
-ghost use Rattle.answer_lists.specs.Choice.{IsAlgebra, OfAlgebra};
+ghost use Rattle.path_algebra.specs.Choices.{IsAlgebra, OfAlgebra};
+ghost use Rattle.answer_lists.specs.Answers.{IsAnswered, IsFound, ReportsRoute, IsOneOf, HasBoth};
 ghost use Rattle.answer_lists.specs.Tree.{AreTreeLists, IsFirstRefuted, ReportsRefusals};
 ghost use Rattle.libdiffuse.specs.Holding.{OfGraph};
 
@@ -29,7 +29,7 @@ pub extern "C" fn diffuse_graph_route(
     room: &mut [u32],
 ) -> i32
     ensures kept { handle.new.held.roads ≡ handle.old.held.roads }
-    ensures tells { OfGraph handle.old.held.roads (λ g. OfAlgebra algebra limit
+    ensures tells { OfGraph handle.old.held.roads (λ g. IsAnswered result → OfAlgebra algebra limit
         (λ V A. ReportsRoute A g source target result code.new hops.new room.new)) }
     ensures short { result ≡ pos 2 → length room.old < hops.new + 1 }
     ensures long { result ≡ pos 0 → hops.new + 1 ≤ length room.old }
@@ -43,11 +43,11 @@ pub extern "C" fn diffuse_graph_route(
     ensures closed { (result ≡ pos 4) ↔ (handle.old.held.roads ≡ None) }
     ensures status { IsOneOf (0 ∷ 1 ∷ 2 ∷ 3 ∷ 4 ∷ 17 ∷ 43 ∷ []) result }
 {
-    let Some(owner) = take(alloc, handle) else {
+    let Some(mut owner) = take(alloc, handle) else {
         return CLOSED;
     };
     let (s, t) = (Vertex(source), Vertex(target));
-    let status = answer_route(alloc, algebra, limit, &owner, s, t, code, hops, room);
+    let status = answer_route(alloc, algebra, limit, &mut owner, s, t, code, hops, room);
     put(handle, owner);
     status
 }
@@ -68,8 +68,8 @@ pub extern "C" fn diffuse_graph_tree(
     parents: &mut [u32],
 ) -> i32
     ensures kept { handle.new.held.roads ≡ handle.old.held.roads }
-    ensures tree { OfGraph handle.old.held.roads (λ g. OfAlgebra algebra limit
-        (λ V A. result ≡ pos 0 → AreTreeLists A g sources.now codes.new hops.new parents.new)) }
+    ensures tree { OfGraph handle.old.held.roads (λ g. result ≡ pos 0 → OfAlgebra algebra limit
+        (λ V A. AreTreeLists A g sources.now codes.new hops.new parents.new)) }
     ensures lists { (result ≡ pos 0 → ⊥) → (codes.new ≡ codes.old) × (hops.new ≡ hops.old) ×
         (parents.new ≡ parents.old) }
     ensures refusals { OfGraph handle.old.held.roads (λ g. ReportsRefusals g algebra limit sources.now
@@ -77,10 +77,12 @@ pub extern "C" fn diffuse_graph_tree(
     ensures closed { (result ≡ pos 4) ↔ (handle.old.held.roads ≡ None) }
     ensures status { IsOneOf (0 ∷ 2 ∷ 3 ∷ 4 ∷ 17 ∷ 43 ∷ []) result }
 {
-    let Some(owner) = take(alloc, handle) else {
+    let Some(mut owner) = take(alloc, handle) else {
         return CLOSED;
     };
-    let status = answer_tree(alloc, algebra, limit, &owner, sources, codes, hops, parents);
+    let status = answer_tree(
+        alloc, algebra, limit, &mut owner, sources, codes, hops, parents,
+    );
     put(handle, owner);
     status
 }
@@ -102,22 +104,22 @@ pub extern "C" fn diffuse_graph_check(
     reason: &mut u32,
 ) -> i32
     ensures kept { handle.new.held.roads ≡ handle.old.held.roads }
-    ensures right { OfGraph handle.old.held.roads (λ g. OfAlgebra algebra limit
-        (λ V A. result ≡ pos 0 → AreTreeLists A g sources.now codes.now hops.now parents.now)) }
-    ensures wrong { OfGraph handle.old.held.roads (λ g. OfAlgebra algebra limit
-        (λ V A. result ≡ pos 6 → IsFirstRefuted A g sources.now codes.now hops.now parents.now
-        vertex.new reason.new)) }
+    ensures right { OfGraph handle.old.held.roads (λ g. result ≡ pos 0 → OfAlgebra algebra limit
+        (λ V A. AreTreeLists A g sources.now codes.now hops.now parents.now)) }
+    ensures wrong { OfGraph handle.old.held.roads (λ g. result ≡ pos 6 → OfAlgebra algebra limit
+        (λ V A. IsFirstRefuted A g sources.now codes.now hops.now parents.now vertex.new
+        reason.new)) }
     ensures place { (result ≡ pos 6 → ⊥) → (vertex.new ≡ vertex.old) × (reason.new ≡ reason.old) }
     ensures refusals { OfGraph handle.old.held.roads (λ g. ReportsRefusals g algebra limit sources.now
         codes.now hops.now parents.now result) }
     ensures closed { (result ≡ pos 4) ↔ (handle.old.held.roads ≡ None) }
     ensures status { IsOneOf (0 ∷ 2 ∷ 3 ∷ 4 ∷ 6 ∷ 17 ∷ 43 ∷ []) result }
 {
-    let Some(owner) = take(alloc, handle) else {
+    let Some(mut owner) = take(alloc, handle) else {
         return CLOSED;
     };
     let status = check_tree(
-        alloc, algebra, limit, &owner, sources, codes, hops, parents, vertex, reason,
+        alloc, algebra, limit, &mut owner, sources, codes, hops, parents, vertex, reason,
     );
     put(handle, owner);
     status

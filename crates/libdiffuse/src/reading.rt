@@ -1,23 +1,21 @@
 //! A graph that is read from a text in memory.
 
 ghost use Rattle.std.specs.Prelude.{◌≡◌, ◌≤◌, ◌⊎◌, ◌≢◌, ◌↔◌, ◌∷◌, [], length, pos, true, Ok, None, Some, IfOk, IfErr};
-ghost use Rattle.std.specs.Arc.{arc_value};
 ghost use Rattle.road_text.specs.Rules.{text_read};
 ghost use Rattle.graph_text.specs.GraphFiles.{gr_rules};
 ghost use Rattle.answer_lists.specs.Answers.{IsOneOf};
 ghost use Rattle.libdiffuse.specs.Holding.{has_graph};
-ghost use Rattle.libdiffuse.specs.Texts.{IsGraphOf, IsReadFaultOf, IsFaultReported, IsTooLongText};
+ghost use Rattle.libdiffuse.specs.Texts.{IsGraphOf, IsReadFaultOf, IsFaultReported, IsShortOfMemory, IsTooLongText, RunsOutWithin};
 
 use crate::handle::{DiffuseGraph, put};
 use crate::owners::owned;
 use crate::status::OPEN;
-use answer_lists::{DONE, MEMORY, NO_ROOM};
+use answer_lists::{DONE, MEMORY, NO_ROOM, SharedGraph};
 use ghost_count::Count;
 use graph_text::read_gr_as;
 use road_graph::OutGraph;
 use road_text::{ReadFailed, ReadFault, RoadRead};
 use std::alloc::{AllocError, Global};
-use std::sync::Arc;
 
 /// Bytes in memory. No read of them fails.
 #[derive(Drop)]
@@ -51,6 +49,7 @@ fn read_graph(alloc: Global, bytes: &[u8]) -> Result<OutGraph, ReadFault>
     requires { length bytes.now ≤ 4294967296 }
     ensures graph { IfOk result (λ g. text_read gr_rules bytes.now ≡ Ok g) }
     ensures fault { IfErr result (λ f. IsReadFaultOf bytes.now f) }
+    ensures memory { IfErr result (λ f. f.number ≡ 3 → RunsOutWithin bytes.now) }
 {
     let mut text = InMemory {
         rest: bytes,
@@ -60,10 +59,11 @@ fn read_graph(alloc: Global, bytes: &[u8]) -> Result<OutGraph, ReadFault>
 }
 
 /// An owner of the graph of a text, or why there is none.
-fn owner_read(alloc: Global, bytes: &[u8]) -> Result<Box<Arc<OutGraph>>, ReadFault>
+fn owner_read(alloc: Global, bytes: &[u8]) -> Result<Box<SharedGraph>, ReadFault>
     requires { length bytes.now ≤ 4294967296 }
-    ensures graph { IfOk result (λ b. text_read gr_rules bytes.now ≡ Ok (arc_value b.value)) }
+    ensures graph { IfOk result (λ b. text_read gr_rules bytes.now ≡ Ok b.value) }
     ensures fault { IfErr result (λ f. IsReadFaultOf bytes.now f) }
+    ensures memory { IfErr result (λ f. f.number ≡ 3 → IsShortOfMemory bytes.now) }
 {
     let graph = read_graph(alloc, bytes)?;
     match owned(alloc, graph) {
@@ -102,6 +102,7 @@ pub extern "C" fn diffuse_graph_read(
     ensures kept { result ≢ pos 0 → handle.new.held.roads ≡ handle.old.held.roads }
     ensures status { IsOneOf (0 ∷ 2 ∷ 3 ∷ 5 ∷ []) result ⊎ IsFaultReported bytes.now result
         line.new }
+    ensures memory { result ≡ pos 3 → IsShortOfMemory bytes.now }
     ensures line { IsOneOf (0 ∷ 3 ∷ 5 ∷ []) result → line.new ≡ line.old }
     ensures no_line { result ≡ pos 2 → line.new ≡ 0 }
     ensures open { (result ≡ pos 5) ↔ (has_graph handle.old.held.roads ≡ true) }

@@ -3,8 +3,9 @@ use crate::handle::closed;
 use crate::held::discard;
 use crate::{
     DiffuseArc, DiffuseGraph, diffuse_graph_arcs, diffuse_graph_arcs_from, diffuse_graph_check,
-    diffuse_graph_close, diffuse_graph_open, diffuse_graph_read, diffuse_graph_route,
-    diffuse_graph_share, diffuse_graph_tree, diffuse_graph_vertices, diffuse_version,
+    diffuse_graph_close, diffuse_graph_factor, diffuse_graph_open, diffuse_graph_read,
+    diffuse_graph_route, diffuse_graph_share, diffuse_graph_table, diffuse_graph_tree,
+    diffuse_graph_vertices, diffuse_version,
 };
 use std::alloc::Global;
 use std::marker::Send;
@@ -110,6 +111,24 @@ fn assert_tree(rt: &impl Abort, alloc: Global, handle: &mut DiffuseGraph) {
     assert_eq!(rt; parents, [0, 3, 1, 2, 0]);
 }
 
+/// The table from 1 and 5 to 4, 1 and 5, by the shortest walks.
+fn assert_table(rt: &impl Abort, alloc: Global, handle: &mut DiffuseGraph) {
+    let mut codes = [0; 6];
+    let status = diffuse_graph_table(alloc, handle, 0, 0, &[1, 5], &[4, 1, 5], &mut codes);
+    assert_eq!(rt; status, 0);
+    assert_eq!(rt; codes, [8, 0, u64::MAX, 11, 3, 0]);
+}
+
+/// Factored for the algebras that have factors, the graph is asked the same again.
+fn assert_factored(rt: &impl Abort, alloc: Global, handle: &mut DiffuseGraph) {
+    for &(number, wanted) in &[(0, 0), (1, 9), (2, 9), (3, 0), (4, 9), (5, 0), (6, 43)] {
+        assert_eq!(rt; diffuse_graph_factor(alloc, handle, number), wanted);
+    }
+    assert_routes(rt, alloc, handle);
+    assert_tree(rt, alloc, handle);
+    assert_table(rt, alloc, handle);
+}
+
 /// A check of lists from vertex 1 by the shortest walks has this status, and reports this vertex and reason.
 fn assert_check(
     rt: &impl Abort,
@@ -193,7 +212,9 @@ fn a_handle_is_opened_shared_asked_and_closed(rt: HostRuntime) {
     close(alloc, first);
     assert_tree(&rt, alloc, &mut second);
     assert_checks(&rt, alloc, &mut second);
+    assert_table(&rt, alloc, &mut second);
+    assert_factored(&rt, alloc, &mut second);
     close(alloc, second);
     assert_reads(&rt, alloc);
-    assert_eq!(&rt; diffuse_version(), 10_000);
+    assert_eq!(&rt; diffuse_version(), 10_100);
 }

@@ -1,4 +1,4 @@
-"""Best values, routes and trees in road graphs, by a library that is proved right for every input.
+"""Best values, routes, trees and tables in road graphs, by a library that is proved right for every input.
 
 `Graph` takes numbered vertices and whole weights; `Network` takes names, decimals and several costs, and writes CSV, GeoJSON
 and pictures. docs/PLANNING.md is a walk through `Network`, docs/EMBEDDING.md says what is proved.
@@ -7,9 +7,9 @@ from ._library import version
 from .algebras import ALGEBRAS, UNREACHED, Algebra
 from .answers import Route, Tree
 from .errors import (
-    AlreadyOpen, BadProblemLine, BadShape, Closed, DiffuseError, InputError, NoAlgebra, NoProblemLine, NoRoom, NoRoute,
-    NotANumber, NoVertex, OutOfMemory, OutOfRange, Reason, SecondProblemLine, TextFault, TooFewArcs, TooManyArcs, UnknownLine,
-    WrongFields, WrongTree,
+    AlreadyOpen, BadProblemLine, BadShape, Closed, DiffuseError, InputError, NoAlgebra, NoFactors, NoProblemLine, NoRoom, NoRoute,
+    NotANumber, NotFactored, NoVertex, OutOfMemory, OutOfRange, Reason, SecondProblemLine, TextFault, TooDense, TooFewArcs,
+    TooHeavy, TooManyArcs, UnknownLine, WrongFields, WrongTree,
 )
 from .graph import Graph
 from .named import Isochrone, NamedRoute, NamedTree
@@ -18,7 +18,8 @@ from .places import Places
 
 __all__ = [
     "Algebra", "ALGEBRAS", "AlreadyOpen", "BadProblemLine", "BadShape", "Closed", "DiffuseError", "Graph", "InputError",
-    "Isochrone", "NamedRoute", "NamedTree", "Network", "NoAlgebra", "NoProblemLine", "NoRoom", "NoRoute", "NotANumber",
-    "NoVertex", "OutOfMemory", "OutOfRange", "Places", "Reason", "Route", "SecondProblemLine", "TextFault",
-    "TooFewArcs", "TooManyArcs", "Tree", "UnknownLine", "UNREACHED", "version", "WrongFields", "WrongTree",
+    "Isochrone", "NamedRoute", "NamedTree", "Network", "NoAlgebra", "NoFactors", "NoProblemLine", "NoRoom", "NoRoute",
+    "NotANumber", "NotFactored", "NoVertex", "OutOfMemory", "OutOfRange", "Places", "Reason", "Route", "SecondProblemLine",
+    "TextFault", "TooDense", "TooFewArcs", "TooHeavy", "TooManyArcs", "Tree", "UnknownLine", "UNREACHED", "version",
+    "WrongFields", "WrongTree",
 ]

@@ -6,6 +6,7 @@ import os
 from ctypes import POINTER, c_bool, c_int32, c_size_t, c_uint32, c_uint64, c_void_p
 from functools import lru_cache
 from pathlib import Path
+from typing import Optional
 
 NAME = "libdiffuse.so"
 PLACE = "DIFFUSE_LIBRARY"
@@ -16,6 +17,8 @@ class Handle(ctypes.Structure):
     """A handle, which begins closed: all zero."""
 
     _fields_ = [("at", c_void_p), ("is_open", c_bool)]
+    origin: Optional["Handle"] = None
+    """The handle that it was made of by diffuse_graph_share."""
 
 
 _HANDLE = POINTER(Handle)
@@ -32,6 +35,8 @@ _CALLS = {
     "diffuse_graph_route": (c_int32, [*_QUESTION, c_uint32, c_uint32, _CODE, _NUMBER, *_LIST]),
     "diffuse_graph_tree": (c_int32, [*_QUESTION, *_LIST, *_LIST, *_LIST, *_LIST]),
     "diffuse_graph_check": (c_int32, [*_QUESTION, *_LIST, *_LIST, *_LIST, *_LIST, _NUMBER, _NUMBER]),
+    "diffuse_graph_table": (c_int32, [*_QUESTION, *_LIST, *_LIST, *_LIST]),
+    "diffuse_graph_factor": (c_int32, [_HANDLE, c_uint32]),
     "diffuse_version": (c_uint32, []),
 }
 
@@ -66,6 +71,6 @@ def library() -> ctypes.CDLL:
 
 
 def version() -> str:
-    """The version of the C library, as "1.0.0"."""
+    """The version of the C library, as "1.1.0"."""
     number = library().diffuse_version()
     return f"{number // 10000}.{number // 100 % 100}.{number % 100}"

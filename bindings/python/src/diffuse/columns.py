@@ -127,6 +127,11 @@ def room(code: str, count: int) -> Any:
     return np.zeros(count, dtype=_DTYPES[code]) if np is not None else array(code, bytes(array(code).itemsize * count))
 
 
+def rows_of(values: Any, count: int, width: int) -> Any:
+    """A list of numbers as so many rows of so many: numpy's, or a list of arrays without numpy."""
+    return values.reshape(count, width) if np is not None else [values[i * width:(i + 1) * width] for i in range(count)]
+
+
 def greatest(column: Any) -> int:
     """The greatest number of a column, or 0 if it is empty."""
     return 0 if not len(column) else max(column) if isinstance(column, array) else int(column.max())

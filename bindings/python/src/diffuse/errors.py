@@ -36,7 +36,7 @@ class NoRoute(DiffuseError):
 
 
 class NoRoom(InputError):
-    """A list that does not have just one place for each vertex; or a text longer than 2^32 bytes."""
+    """A list that does not have just one place for each vertex, or for each answer; or a text longer than 2^32 bytes."""
 
     status = 2
 
@@ -93,6 +93,30 @@ class WrongTree(DiffuseError):
     def __init__(self, vertex: int, reason: int) -> None:
         self.vertex, self.reason = vertex, Reason(reason)
         super().__init__(f"the tree is wrong at vertex {vertex}: {self.reason.text}")
+
+
+class NotFactored(DiffuseError):
+    """The graph was not factored, and is searched as before."""
+
+    http = 422
+
+
+class TooDense(NotFactored):
+    """So many arcs join the vertices that factors would not pay."""
+
+    status = 7
+
+
+class TooHeavy(NotFactored):
+    """The weights are so great that a sum with its arcs may not fit into 63 bits."""
+
+    status = 8
+
+
+class NoFactors(NotFactored):
+    """The algebra has no factors: only shortest, hops and within have."""
+
+    status = 9
 
 
 class TextFault(InputError):
@@ -170,8 +194,8 @@ class NoAlgebra(InputError):
 
 
 _KINDS: tuple[type[DiffuseError], ...] = (
-    NoRoute, NoRoom, OutOfMemory, Closed, AlreadyOpen, WrongTree, NoProblemLine, SecondProblemLine, BadProblemLine, UnknownLine,
-    WrongFields, NotANumber, OutOfRange, NoVertex, TooManyArcs, TooFewArcs, NoAlgebra,
+    NoRoute, NoRoom, OutOfMemory, Closed, AlreadyOpen, WrongTree, TooDense, TooHeavy, NoFactors, NoProblemLine, SecondProblemLine,
+    BadProblemLine, UnknownLine, WrongFields, NotANumber, OutOfRange, NoVertex, TooManyArcs, TooFewArcs, NoAlgebra,
 )
 BY_STATUS = {kind.status: kind for kind in _KINDS}
 

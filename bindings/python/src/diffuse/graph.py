@@ -8,11 +8,11 @@ from typing import Any, Iterable, Optional, Union
 
 from ._handles import Handles
 from ._library import DONE, NO_ROUTE, WRONG, Handle, library
-from .algebras import Algebra, AnyAlgebra, question_of
+from .algebras import Algebra, AnyAlgebra, algebra_of, question_of
 from .answers import Route, Tree
 from .columns import (
     MOST_32, MOST_64, MOST_ARCS, MOST_VERTICES, Column, address, arcs_of, arcs_of_columns, greatest, names_row, numbers, room,
-    vertex_number, whole_number,
+    rows_of, vertex_number, whole_number,
 )
 from .errors import NoRoom, NoRoute, NoVertex, OutOfRange, WrongTree, refusal, text_refusal
 
@@ -145,9 +145,38 @@ class Graph:
         if status != DONE:
             raise refusal(status)
 
-    def _sources(self, sources: Any) -> Any:
+    def table(self, sources: Union[int, Iterable[int]], targets: Union[int, Iterable[int]],
+              algebra: AnyAlgebra = Algebra.SHORTEST, limit: Optional[int] = None) -> Any:
+        """The best value from each source to each target: a row for each source, with a place for each target.
+
+        A target that no walk with a value leads to has UNREACHED. The table is an array of numpy of two dimensions (uint64),
+        or a list of rows without numpy. Each source takes a search, unless the graph was factored.
+
+        Raises NoVertex, NotANumber, NoAlgebra, OutOfMemory or Closed.
+        """
+        number, bound = question_of(algebra, limit)
+        begins, ends = self._sources(sources), self._sources(targets, "targets")
+        codes = room("Q", len(begins) * len(ends))
+        with self._handles.borrowed() as handle:
+            status = library().diffuse_graph_table(byref(handle), number, bound, *_lent(begins), *_lent(ends), *_lent(codes))
+        if status != DONE:
+            raise refusal(status)
+        return rows_of(codes, len(begins), len(ends))
+
+    def factor(self, algebra: AnyAlgebra = Algebra.SHORTEST) -> None:
+        """Factors the graph for an algebra, after which its routes, trees and tables are the same, in a fraction of the time.
+
+        `shortest` and `within` have one factoring, `hops` has its own. Calls of other threads go on meanwhile.
+
+        Raises NoFactors, TooDense or TooHeavy, after which the graph is searched as before; NoAlgebra, OutOfMemory or Closed.
+        """
+        status = self._handles.factor(algebra_of(algebra))
+        if status != DONE:
+            raise refusal(status)
+
+    def _sources(self, sources: Any, name: str = "sources") -> Any:
         listed = [sources] if hasattr(sources, "__index__") and getattr(sources, "ndim", 0) == 0 else sources
-        return numbers(listed, names_row("sources"), 1, self._vertices, "I", NoVertex)
+        return numbers(listed, names_row(name), 1, self._vertices, "I", NoVertex)
 
     def _list(self, values: Any, name: str, most: int, code: str) -> Any:
         column = numbers(values, names_row(name), 0, most, code)

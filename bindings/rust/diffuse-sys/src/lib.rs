@@ -70,5 +70,17 @@ unsafe extern "C" {
         vertex: *mut u32,
         reason: *mut u32,
     ) -> i32;
+    pub fn diffuse_graph_table(
+        graph: *mut Handle,
+        algebra: u32,
+        limit: u64,
+        sources: *const u32,
+        n_sources: usize,
+        targets: *const u32,
+        n_targets: usize,
+        codes: *mut u64,
+        n_codes: usize,
+    ) -> i32;
+    pub fn diffuse_graph_factor(graph: *mut Handle, algebra: u32) -> i32;
     pub fn diffuse_version() -> u32;
 }

@@ -1,4 +1,4 @@
-//! The five vertices: a route, a tree, and a check of it.
+//! The five vertices: a route, a tree, a check of it, and a table by factors.
 use diffuse::{Algebra, Arc, Error, Graph, Tree, Wrong};
 
 fn print_route(graph: &Graph, source: u32, target: u32) -> Result<(), Error> {
@@ -21,6 +21,15 @@ fn print_check(graph: &Graph, tree: &Tree) -> Result<(), Error> {
     Ok(())
 }
 
+fn print_table(graph: &Graph, sources: &[u32]) -> Result<(), Error> {
+    graph.factor(Algebra::Shortest)?;
+    let table = graph.table(Algebra::Shortest, sources, &[2, 4])?;
+    for (source, row) in sources.iter().zip(table.codes.chunks(2)) {
+        println!("from {source} to 2 and 4: {} {}", row[0], row[1]);
+    }
+    Ok(())
+}
+
 fn main() -> Result<(), Error> {
     let arcs = [(1, 2, 4), (1, 3, 1), (3, 2, 2), (2, 4, 5), (3, 4, 8), (4, 4, 0), (5, 1, 3)].map(|(tail, head, weight)| Arc {
         tail,
@@ -39,5 +48,6 @@ fn main() -> Result<(), Error> {
     }
     print_check(&graph, &tree)?;
     tree.codes[3] = 9;
-    print_check(&graph, &tree)
+    print_check(&graph, &tree)?;
+    print_table(&graph, &[1, 5])
 }

@@ -14,6 +14,12 @@ pub enum Error {
     LimitTooGreat,
     /// A tree to be checked does not have a line for each vertex.
     OtherSize,
+    /// The graph is not factored: so many arcs join its vertices that factors would not pay.
+    TooDense,
+    /// The graph is not factored: its weights are so great that a sum with its arcs may not fit into 63 bits.
+    TooHeavy,
+    /// The algebra has no factors.
+    NoFactors,
     /// A text is longer than 2^32 bytes.
     TextTooLong,
     /// The first fault of a text, and its line, counted from 1.
@@ -65,6 +71,9 @@ pub(crate) fn done(status: i32) -> Result<(), Error> {
         0 => return Ok(()),
         2 => Error::OtherSize,
         3 => Error::Memory,
+        7 => Error::TooDense,
+        8 => Error::TooHeavy,
+        9 => Error::NoFactors,
         16 => Error::TooLarge,
         17 => Error::NoVertex,
         43 => Error::LimitTooGreat,
@@ -89,6 +98,9 @@ impl fmt::Display for Error {
             Error::TooLarge => out.write_str("more than 2^25 vertices or 2^27 arcs"),
             Error::LimitTooGreat => out.write_str("a limit above 2^63"),
             Error::OtherSize => out.write_str("a tree without a line for each vertex"),
+            Error::TooDense => out.write_str("so many arcs that factors would not pay"),
+            Error::TooHeavy => out.write_str("weights that are too great for factors"),
+            Error::NoFactors => out.write_str("an algebra without factors"),
             Error::TextTooLong => out.write_str("a text of more than 2^32 bytes"),
             Error::Text { fault, line } => write!(out, "fault {} in line {line}", *fault as i32),
             Error::Other(status) => write!(out, "status {status}"),

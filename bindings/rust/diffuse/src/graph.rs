@@ -1,4 +1,5 @@
 use crate::error::{self, Error};
+use crate::table::Table;
 use crate::tree::{Tree, Wrong};
 use crate::{Algebra, Arc};
 use diffuse_sys::*;
@@ -49,7 +50,7 @@ impl Graph {
         Ok(graph)
     }
 
-    /// The same graph in memory, for another thread.
+    /// The same graph in memory, with the factors that it has, for another thread.
     pub fn share(&self) -> Result<Graph, Error> {
         let second = Graph::closed();
         // SAFETY: a `Graph` is not `Sync`, so no other call uses its handle during this one; this holds for all calls below.
@@ -133,6 +134,37 @@ impl Graph {
             )
         })?;
         Ok(tree)
+    }
+
+    /// The best codes from each of the sources to each of the targets. Each source takes a search, unless the graph was factored.
+    pub fn table(&self, algebra: Algebra, sources: &[u32], targets: &[u32]) -> Result<Table, Error> {
+        let (number, limit) = algebra.number_and_limit();
+        let mut codes = vec![Tree::UNREACHED; sources.len() * targets.len()];
+        // SAFETY: as in `share`; each slice is valid for its length.
+        error::done(unsafe {
+            diffuse_graph_table(
+                self.handle.get(),
+                number,
+                limit,
+                sources.as_ptr(),
+                sources.len(),
+                targets.as_ptr(),
+                targets.len(),
+                codes.as_mut_ptr(),
+                codes.len(),
+            )
+        })?;
+        Ok(Table { codes, targets: targets.len() })
+    }
+
+    /// Factors the graph for an algebra. Afterwards routes, trees and tables of this graph, and of those that are shared from it
+    /// later, are the same, in a fraction of the time.
+    ///
+    /// `Shortest` and `Within` have one factoring, `Hops` has its own, and the others have none. A graph that is refused is
+    /// searched as before.
+    pub fn factor(&self, algebra: Algebra) -> Result<(), Error> {
+        // SAFETY: as in `share`.
+        error::done(unsafe { diffuse_graph_factor(self.handle.get(), algebra.number_and_limit().0) })
     }
 
     /// Judges a tree from these sources: none if it is right, else the first vertex that is wrong. Nothing is solved.

@@ -1,4 +1,4 @@
-//! Best values, routes and trees in a road graph that is kept in memory.
+//! Best values, routes, trees and tables in a road graph that is kept in memory.
 //!
 //! The answers come from `libdiffuse`, whose calls are proved to meet their contracts. This wrapper is not proved.
 //!
@@ -24,12 +24,14 @@
 mod algebra;
 mod error;
 mod graph;
+mod table;
 mod tree;
 
 pub use algebra::Algebra;
 pub use diffuse_sys::Arc;
 pub use error::{Error, TextFault};
 pub use graph::{Graph, Route};
+pub use table::Table;
 pub use tree::{Label, Reason, Tree, Wrong};
 
 /// The version of the library: 10,000 times the first number, 100 times the second, and the third.

@@ -43,6 +43,31 @@ fn a_tree_and_its_check() {
 }
 
 #[test]
+fn a_table_by_searches_and_by_factors() {
+    let graph = five();
+    for _ in 0..2 {
+        let table = graph.table(Algebra::Shortest, &[1, 5], &[4, 1, 5]).unwrap();
+        assert_eq!(table.codes, [8, 0, Tree::UNREACHED, 11, 3, 0]);
+        assert_eq!([table.code(1, 0), table.code(0, 2), table.code(0, 3), table.code(2, 0)], [Some(11), None, None, None]);
+        assert_eq!(graph.table(Algebra::Within(7), &[1], &[4]).unwrap().codes, [Tree::UNREACHED]);
+        assert_eq!(graph.table(Algebra::Hops, &[], &[4]).unwrap().codes, []);
+        assert_eq!(graph.route(Algebra::Shortest, 1, 4).unwrap().unwrap().vertices, [1, 3, 2, 4]);
+        assert_eq!((graph.factor(Algebra::Shortest), graph.factor(Algebra::Hops)), (Ok(()), Ok(())));
+    }
+}
+
+#[test]
+fn what_is_not_factored() {
+    let star: Vec<Arc> = (2..=1000).map(|v| arc(1, v, 1)).collect();
+    let chain: Vec<Arc> = (1..65536).map(|v| arc(v, v + 1, u32::MAX)).collect();
+    assert_eq!(Graph::open(1000, &star).unwrap().factor(Algebra::Shortest), Err(Error::TooDense));
+    assert_eq!(Graph::open(65536, &chain).unwrap().factor(Algebra::Within(0)), Err(Error::TooHeavy));
+    for algebra in [Algebra::Widest, Algebra::Reach, Algebra::Reliable] {
+        assert_eq!(five().factor(algebra), Err(Error::NoFactors));
+    }
+}
+
+#[test]
 fn arcs_are_read_back() {
     assert_eq!(five().arcs_from(3), Ok(vec![arc(3, 2, 2), arc(3, 4, 8)]));
     let star: Vec<Arc> = (1..=20).map(|v| arc(1, v, v)).collect();
@@ -56,6 +81,7 @@ fn each_refusal() {
     assert_eq!(graph.arcs_from(6), Err(Error::NoVertex));
     assert_eq!(graph.route(Algebra::Shortest, 1, 6), Err(Error::NoVertex));
     assert_eq!(graph.tree(Algebra::Shortest, &[0]), Err(Error::NoVertex));
+    assert_eq!(graph.table(Algebra::Shortest, &[1], &[6]), Err(Error::NoVertex));
     assert_eq!(graph.tree(Algebra::Within(1 << 63 | 1), &[1]), Err(Error::LimitTooGreat));
     let short = Tree { codes: vec![0], hops: vec![0], parents: vec![0] };
     assert_eq!(graph.check(Algebra::Shortest, &[1], &short), Err(Error::OtherSize));
@@ -91,5 +117,5 @@ fn threads_share_one_graph() {
 
 #[test]
 fn the_version_of_the_header() {
-    assert_eq!(version(), 10000);
+    assert_eq!(version(), 10100);
 }

@@ -1,7 +1,5 @@
-use Rattle.std.proofs.Common.{ℕ, ◌≤◌, ◌↔◌, ◌∙◌, Contains, IsTrue, arith, subst}
-use Rattle.road_graph.specs.GraphData.{GraphData}
+use Rattle.std.proofs.Common.{ℕ, ◌≤◌, ◌↔◌, ◌∙◌, Contains, IsTrue, arith}
 use Rattle.path_algebra.specs.Walks.{is_marked}
-use Rattle.answer_lists.specs.Tree.{lines_of, IsFirstPlace}
 use Rattle.answer_lists.proofs.Judged.{tree_judged}
 use Rattle.answer_lists.proofs.judging.judge.Goals as goal
 
@@ -11,6 +9,5 @@ returns g c =
     let listed = c.deref.ensures.value ∙ c.in_ok-list.ensures in
     let marked : (v : ℕ) → 1 ≤ v → v ≤ a.graph.now.vertices → IsTrue (is_marked c.deref-2.result.now v) ↔ Contains a.sources.now v =
     λ v low high. rw (c.deref-2.ensures.value, ← listed) (c.in_ok-marks.ensures.marks v low (omega (arith, high, n))) in
-    let first = subst (λ (h : GraphData). IsFirstPlace A h (lines_of a.codes.now a.hops.now a.parents.now) c.deref-2.result.now c.first_place.result) c.in_ok-back.ensures c.first_place.ensures in
     tree_judged A c.laws_hold.ensures.lawful a.graph.now c.vertices.ensures.roads a.sources.now c.requires.sources
-    a.codes.now a.hops.now a.parents.now c.requires.places c.deref-2.result.now marked c.first_place.result first
+    a.codes.now a.hops.now a.parents.now c.requires.places c.deref-2.result.now marked c.first_place.result c.first_place.ensures

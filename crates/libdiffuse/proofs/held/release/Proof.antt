@@ -1,12 +1,12 @@
 -- `release` hands on what is owned, and casts the pointer back.
-use Rattle.std.proofs.Common.{◌≡◌, List, [], ◌∷◌, ◌++◌, refl, sym, ◌∙◌, subst, Option, Some, true, ap}
+use Rattle.std.proofs.Common.{◌≡◌, List, [], ◌∷◌, ◌++◌, refl, sym, ◌∙◌, subst, Option, Some, true}
 use mir.Val.{Val, vptr}
 use mir.Raw.{raw as bare}
 use base.Logic.{SProp, ent, emp, id⊢, never, fst∗}
 use base.Fml.{ftrue}
 use prog.Wp.{WpFn}
 use types.Logic.{sem}
-use types.Kit.{‵, raw, ◌⊛◌, ◌$◌, ◌∵◌, !, qed, by, move, keep, split, fsplit, fjoin, fpick, feq_l, suffices, rewrite, use0}
+use types.Kit.{‵, raw, ◌⊛◌, ◌$◌, ◌∵◌, !, qed, by, move, keep, split, fsplit, fjoin, suffices, rewrite, use0}
 use types.Run.{stop, fld, of_opd, no_more, and_then, returns, enter}
 use types.ByLocal.{alloc_all, pass_all, free_all, look_at, get, get_in, sets}
 use types.Part.{agg, sub, whole}
@@ -44,14 +44,13 @@ release_spec 𝓤 𝓛 𝓜 𝓡 wired =
     qed 𝓛 ((‵ ftrue ⊛ ‵ (owns (Z ∷ held.the_row ∷ []) z.0.3 z.0.4)) ∷ raw (fact 𝓤 (has_graph d.roads ≡ true)) ∷ []) ∵ move ! (1 ∷ []) $ heard ! (has_graph d.roads ≡ true)
     (λ yes. let g : GraphData = (the_graph d.roads yes).0 in let is : d.roads ≡ Some g = (the_graph d.roads yes).1 in split ! $ move ! (1 ∷ []) $ fsplit ! $
     handle_tells (al R Z LZ ghosts) ! a z.0.4.0 (λ h ea fits. move ! (1 ∷ []) $ fsplit ! $ held_out ! d z.0.4.1.0
-    (λ ws. rewrite ! 0 (λ (x : Option (GraphData)). ‵ (held_at d.at x)) is refl $ fpick ! (λ v. fsplit ! $ feq_l ! (λ same.
-    in_a_block ! d.at (λ p. box_owns freeable R p v) (fst∗ 𝓤 (never 𝓤) (sem 𝓛 (freeable (bare (lone R.mir)) null_ptr))) (λ b o e.
+    (λ ws. rewrite ! 0 (λ (x : Option (GraphData)). ‵ (held_at d.at x)) is refl $ in_a_block ! d.at (λ p. box_owns freeable R p g) (fst∗ 𝓤 (never 𝓤) (sem 𝓛 (freeable (bare (lone R.mir)) null_ptr))) (λ b o e.
     let got : z.0.4.1.0 ≡ alone (block_ptr b o) ∷ [] = ws ∙ (λ i. alone (e i) ∷ []) in let xs : List Val = h ∷ alone (block_ptr b o) ∷ [] in
     suffices ! (Run xs) (subst (λ (us : List Val). ent 𝓤 (Run xs) (Run us)) (sym (λ i. ea i ++ (got i ++ []))) (id⊢ 𝓤 (Run xs))) $
     keep ! (0 ∷ 2 ∷ []) $ enter ! 𝓣.C 𝓣.Λ fn xs Post $ alloc_all ! (λ l. pass_all ! refl (fits, ((tt, (tt, tt)), tt)) $
     sets ! (of_opd ! (get_in ! (fld ! refl (stop !)) (sub ! 0 refl (whole !)))) refl (tt, tt) $ sets ! (of_opd ! (get ! refl)) refl (tt, tt) $
     sets ! (agg ! (and_then ! (get ! refl) (and_then ! (get ! refl) (no_more !)))) refl (loose_good R Z LZ ghosts b o h fits) $
     returns ! (look_at ! 0 refl) $ free_all ! refl $
-    loose_in R Z LZ ghosts ! b o h a v $ use0 𝓛 (raw (fact 𝓤 (d.roads ≡ Some v.value)))
-    (fact_i 𝓤 (d.roads ≡ Some v.value) (emp 𝓤) (is ∙ ap Some (sym same))) $ nothing ! $ nothing ! $ fjoin ! $ nothing ! $ fjoin ! $ nothing ! $ keep ! (0 ∷ 1 ∷ 3 ∷ 2 ∷ []) $
-    by ! (leaves 𝓛 ended hs c z (both (vptr b o) h) (record { at = block_ptr b o; alloc = a; value = v }) (tt, (tt, tt)) (tt, (tt, tt)))))))))))
+    loose_in R Z LZ ghosts ! b o h a g $ use0 𝓛 (raw (fact 𝓤 (d.roads ≡ Some g)))
+    (fact_i 𝓤 (d.roads ≡ Some g) (emp 𝓤) is) $ nothing ! $ nothing ! $ fjoin ! $ nothing ! $ fjoin ! $ nothing ! $ keep ! (0 ∷ 1 ∷ 3 ∷ 2 ∷ []) $
+    by ! (leaves 𝓛 ended hs c z (both (vptr b o) h) (record { at = block_ptr b o; alloc = a; value = g }) (tt, (tt, tt)) (tt, (tt, tt)))))))))

@@ -18,11 +18,11 @@ lies R s (block_ptr b o) x = part_keyless R s full_share x b o
 lies R s null_ptr x = tt
 
 inside : IsSend shared_row
-inside = search (sendable, crosses) depth 30
+inside = search (sendable, crosses) depth 60 fits 100000
 
 keyless : (p : Ptr) (x : Option (GraphData)) → Keyless (held_at p x)
 keyless p None = tt
-keyless p (Some g) = λ a. (tt, (lies shared_row inside p a, frees.frees the_heap (raw (lone shared_row.mir)) p))
+keyless p (Some g) = (lies shared_row inside p g, frees.frees the_heap (raw (lone shared_row.mir)) p)
 
 pub send : IsSend the_row
 send = let ps : IsSend RawPtr = search sendable in owning_send the_type (ps, tt) (λ d. keyless d.at d.roads) (λ k x w. tt)

@@ -1,0 +1,10 @@
+use Rattle.std.proofs.Common.{◌≡◌, [], ◌∷◌, take}
+use Rattle.answer_lists.specs.Table.{AreRowCodes}
+use Rattle.answer_lists.proofs.factored.Factored.ask_row.Given as goal
+
+abbrev pub invariant-loop-target : goal.invariant-loop-target
+invariant-loop-target g l = record {
+  same : l.asker.factors ≡ l.self;
+  source : l.asker.sources ≡ l.fn.source ∷ [];
+  row : AreRowCodes (g.A.PathAlgebra.meaning l.algebra) l.self.roads (take l.target-index l.targets) l.fn.source l.row.items;
+}

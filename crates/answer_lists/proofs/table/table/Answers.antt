@@ -1,0 +1,19 @@
+use Rattle.std.proofs.Common.{rules, ◌≡◌, ◌+◌, ◌++◌, ◌<◌, List, ℕ, length, get_or, take, refl, ap, ◌∙◌, subst, sym}
+use Rattle.road_graph.specs.GraphData.{GraphData}
+use Rattle.answer_lists.specs.Table.{AreTableCodes}
+use Rattle.answer_lists.proofs.Tabling.{table_more}
+use Rattle.answer_lists.proofs.table.table.Goals as goal
+
+pub loop-source-preserved : goal.loop-source-preserved
+loop-source-preserved g c =
+    let a = c.args in let A = g.A.PathAlgebra.meaning a.algebra in let i = c.loop-source.source-index in
+    let lt : i < length a.sources.now = search rules in
+    let joined : c.extend_from_slice.new.self.items ≡ c.loop-source.codes.items ++ c.in_ok-row.row.items =
+    c.in_ok-extend_from_slice.ensures.items ∙ ap (λ (xs : List ℕ). c.loop-source.codes.items ++ xs) c.deref.ensures.value in
+    let more = table_more A c.loop-source.shared a.targets.now a.sources.now c.loop-source.codes.items c.in_ok-row.row.items i (get_or a.sources.now i 0) lt refl
+    c.loop-source.invariant.table c.in_ok-row.ensures.row in
+    record {
+      same = c.row.ensures.graph ∙ c.loop-source.invariant.same;
+      table = subst (λ (x : GraphData). AreTableCodes A x (take (i + 1) a.sources.now) a.targets.now c.extend_from_slice.new.self.items) (sym c.row.ensures.graph)
+          (subst (AreTableCodes A c.loop-source.shared (take (i + 1) a.sources.now) a.targets.now) (sym joined) more);
+    }

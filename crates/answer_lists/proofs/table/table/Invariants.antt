@@ -1,0 +1,9 @@
+use Rattle.std.proofs.Common.{take, ◌≡◌}
+use Rattle.answer_lists.specs.Table.{AreTableCodes}
+use Rattle.answer_lists.proofs.table.table.Given as goal
+
+abbrev pub invariant-loop-source : goal.invariant-loop-source
+invariant-loop-source g l = record {
+  same : l.shared ≡ l.initial.shared;
+  table : AreTableCodes (g.A.PathAlgebra.meaning l.algebra) l.shared (take l.source-index l.sources) l.targets l.codes.items;
+}

@@ -1,0 +1,201 @@
+//! A factored graph, and what asks it.
+
+ghost use Rattle.std.specs.Prelude.{◌≡◌, ◌∷◌, [], IfOk, MatchOption};
+ghost use Rattle.std.specs.List.{All};
+ghost use Rattle.road_graph.specs.GraphData.{HasVertex};
+ghost use Rattle.path_algebra.specs.Carried.{IsCarried};
+ghost use Rattle.path_algebra.specs.Counted.{cost_of};
+ghost use Rattle.path_algebra.specs.Walks.{AreBest};
+ghost use Rattle.route_tree.specs.Tree.{IsTree};
+ghost use Rattle.answer_lists.specs.Answers.{IsNoRoute, IsRouteFound};
+ghost use Rattle.answer_lists.specs.Table.{AreRowCodes};
+ghost use Rattle.answer_lists.specs.Tree.{HasLowCodes};
+
+use crate::codes::{code_for, push_code};
+use factor_routes::{RoadFactors, RouteAsker};
+use path_algebra::{Cost, Labels, PathAlgebra, laws_hold};
+use road_graph::{InGraph, Memory, Vertex};
+use route_tree::{PairRoute, Tree};
+use std::alloc::{AllocError, Global};
+use std::marker::Model;
+use std::sync::Arc;
+
+/// An owner of a factored graph, with an asker of its own once it was needed.
+#[derive(Drop)]
+pub(crate) struct Factored {
+    factors: Arc<RoadFactors>,
+    asker: Option<RouteAsker>,
+}
+
+impl Model for Factored {
+    ghost use Rattle.std.specs.Prelude.{◌≡◌, ℕ, IfSome};
+    ghost use Rattle.std.specs.Arc.{arc_value};
+    ghost use Rattle.path_algebra.specs.declared.counted_sums.CountedSums.{CountedSums};
+    ghost use Rattle.path_factors.specs.State.{FactorState};
+
+    ghost Value = { FactorState CountedSums ℕ };
+
+    ghost view = { λ f. arc_value f.factors };
+
+    ghost invariant = { λ f. IfSome f.asker (λ a. a.factors ≡ arc_value f.factors) };
+}
+
+impl Factored {
+    /// The first owner.
+    pub(crate) fn of(alloc: Global, factors: RoadFactors) -> Result<Factored, AllocError>
+        ensures { IfOk result (λ f. f ≡ factors) }
+    {
+        let factors = Arc::new(alloc, factors).map_err(AllocError::from)?;
+        Ok(Factored {
+            factors,
+            asker: None,
+        })
+    }
+
+    /// One more owner, which makes its own asker.
+    pub(crate) fn another(&self) -> Result<Factored, AllocError>
+        ensures { IfOk result (λ f. f ≡ self.now) }
+    {
+        let factors = Arc::try_clone(&self.factors)?;
+        Ok(Factored {
+            factors,
+            asker: None,
+        })
+    }
+
+    /// What an arc costs.
+    pub(crate) fn cost(&self) -> Cost
+        ensures { result ≡ self.now.algebra.cost }
+    {
+        self.factors.cost()
+    }
+
+    /// Takes the asker out, or makes it.
+    fn take_asker(&mut self, alloc: Global) -> Result<RouteAsker, Memory>
+        ensures kept { self.new ≡ self.old }
+        ensures asker { IfOk result (λ a. a.factors ≡ self.old) }
+    {
+        match self.asker.take() {
+            Some(asker) => Ok(asker),
+            None => self.factors.asker(alloc),
+        }
+    }
+
+    /// Asks for the code of the best value of each target.
+    fn ask_row<A: PathAlgebra>(
+        &self,
+        alloc: Global,
+        algebra: A,
+        asker: &mut RouteAsker,
+        source: Vertex,
+        targets: &[u32],
+    ) -> Result<Vec<u64>, Memory>
+        requires carried { IsCarried (A.meaning algebra) (cost_of self.now.algebra.cost) }
+        requires same { asker.old.factors ≡ self.now }
+        requires low { HasLowCodes (A.meaning algebra) }
+        requires source { HasVertex self.now.roads source }
+        requires targets { All (HasVertex self.now.roads) targets.now }
+        ensures same { asker.new.factors ≡ self.now }
+        ensures row { IfOk result (λ row. AreRowCodes (A.meaning algebra) self.now.roads targets.now
+            source row.items) }
+    {
+        laws_hold(algebra);
+        self.factors.holds();
+        self.factors.begin(asker, source);
+        let mut row = Vec::with_capacity(alloc, targets.len())?;
+        for target in targets {
+            let value = self.factors.best_value(algebra, asker, Vertex(*target))?;
+            push_code(&mut row, code_for(algebra, value))?;
+        }
+        Ok(row)
+    }
+
+    /// The codes of a row of a table.
+    pub(crate) fn row<A: PathAlgebra>(
+        &mut self,
+        alloc: Global,
+        algebra: A,
+        source: Vertex,
+        targets: &[u32],
+    ) -> Result<Vec<u64>, Memory>
+        requires carried { IsCarried (A.meaning algebra) (cost_of self.old.algebra.cost) }
+        requires low { HasLowCodes (A.meaning algebra) }
+        requires source { HasVertex self.old.roads source }
+        requires targets { All (HasVertex self.old.roads) targets.now }
+        ensures kept { self.new ≡ self.old }
+        ensures row { IfOk result (λ row. AreRowCodes (A.meaning algebra) self.old.roads targets.now
+            source row.items) }
+    {
+        let mut asker = self.take_asker(alloc)?;
+        let row = self.ask_row(alloc, algebra, &mut asker, source, targets);
+        self.asker = Some(asker);
+        row
+    }
+
+    /// Asks for the best code and the route.
+    fn ask_route<A: PathAlgebra>(
+        &self,
+        alloc: Global,
+        algebra: A,
+        rows: &InGraph,
+        asker: &mut RouteAsker,
+        ends: (Vertex, Vertex),
+    ) -> Result<Option<(u64, PairRoute)>, Memory>
+        requires carried { IsCarried (A.meaning algebra) (cost_of self.now.algebra.cost) }
+        requires same { asker.old.factors ≡ self.now }
+        requires rows { rows.now ≡ self.now.roads }
+        requires source { HasVertex self.now.roads ends.0 }
+        requires target { HasVertex self.now.roads ends.1 }
+        ensures same { asker.new.factors ≡ self.now }
+        ensures found { IfOk result (λ o. MatchOption o (IsNoRoute (A.meaning algebra) self.now.roads ends.0 ends.1)
+            (λ r. IsRouteFound (A.meaning algebra) self.now.roads ends.0 ends.1 r.0 r.1.hops r.1.vertices.items)) }
+    {
+        self.factors.begin(asker, ends.0);
+        let Some(value) = self.factors.best_value(algebra, asker, ends.1)? else {
+            return Ok(None);
+        };
+        match self.factors.route_from(alloc, algebra, rows, asker, ends)? {
+            Some(route) => Ok(Some((algebra.code(value), route))),
+            None => Ok(None),
+        }
+    }
+
+    /// The best code and the route; none if no walk to the target has a value.
+    pub(crate) fn route<A: PathAlgebra>(
+        &mut self,
+        alloc: Global,
+        algebra: A,
+        rows: &InGraph,
+        ends: (Vertex, Vertex),
+    ) -> Result<Option<(u64, PairRoute)>, Memory>
+        requires carried { IsCarried (A.meaning algebra) (cost_of self.old.algebra.cost) }
+        requires rows { rows.now ≡ self.old.roads }
+        requires source { HasVertex self.old.roads ends.0 }
+        requires target { HasVertex self.old.roads ends.1 }
+        ensures kept { self.new ≡ self.old }
+        ensures found { IfOk result (λ o. MatchOption o (IsNoRoute (A.meaning algebra) self.old.roads ends.0 ends.1)
+            (λ r. IsRouteFound (A.meaning algebra) self.old.roads ends.0 ends.1 r.0 r.1.hops r.1.vertices.items)) }
+    {
+        let mut asker = self.take_asker(alloc)?;
+        let found = self.ask_route(alloc, algebra, rows, &mut asker, ends);
+        self.asker = Some(asker);
+        found
+    }
+
+    /// The labels from some sources, and their tree.
+    pub(crate) fn tree<A: PathAlgebra>(
+        &self,
+        alloc: Global,
+        algebra: A,
+        rows: &InGraph,
+        sources: &[Vertex],
+    ) -> Result<(Labels<A::Value>, Tree), Memory>
+        requires carried { IsCarried (A.meaning algebra) (cost_of self.now.algebra.cost) }
+        requires rows { rows.now ≡ self.now.roads }
+        requires sources { All (HasVertex self.now.roads) sources.now }
+        ensures labels { IfOk result (λ s. AreBest (A.meaning algebra) self.now.roads sources.now s.0) }
+        ensures tree { IfOk result (λ s. IsTree (A.meaning algebra) self.now.roads sources.now s.1) }
+    {
+        self.factors.solve_with_tree(alloc, algebra, rows, sources)
+    }
+}

@@ -1,0 +1,54 @@
+//! Factors of a graph, made for the answers that are asked for later.
+
+ghost use Rattle.std.specs.Prelude.{◌≡◌, ◌↔◌, ◌∷◌, [], pos};
+ghost use Rattle.path_algebra.specs.Choices.{IsAlgebra, OfAlgebra, Under};
+ghost use Rattle.answer_lists.specs.Answers.{IsOneOf};
+ghost use Rattle.answer_lists.specs.Factoring.{IsTooHeavy};
+
+use crate::shared_graph::SharedGraph;
+use crate::status::{DENSE, DONE, HEAVY, MEMORY, NO_ALGEBRA, NO_FACTORS};
+use factor_routes::Unfactored;
+use path_algebra::{AlgebraChoice, PathAlgebra, with_algebra};
+use std::alloc::Global;
+
+/// Factors a graph for an algebra.
+fn factor<A: PathAlgebra>(alloc: Global, algebra: A, shared: &mut SharedGraph) -> i32
+    ensures graph { shared.new ≡ shared.old }
+    ensures heavy { result ≡ pos 8 → IsTooHeavy (A.meaning algebra) shared.old }
+    ensures status { IsOneOf (0 ∷ 3 ∷ 7 ∷ 8 ∷ 9 ∷ []) result }
+{
+    let Some(cost) = algebra.cost() else {
+        return NO_FACTORS;
+    };
+    match shared.factor(alloc, cost) {
+        Ok(()) => DONE,
+        Err(Unfactored::Memory) => MEMORY,
+        Err(Unfactored::Dense) => DENSE,
+        Err(Unfactored::Heavy) => HEAVY,
+    }
+}
+
+/// Factors a graph for the chosen algebra.
+fn factor_chosen(alloc: Global, chosen: AlgebraChoice, shared: &mut SharedGraph) -> i32
+    ensures graph { shared.new ≡ shared.old }
+    ensures heavy { result ≡ pos 8 → Under chosen (λ V A. IsTooHeavy A shared.old) }
+    ensures status { IsOneOf (0 ∷ 3 ∷ 7 ∷ 8 ∷ 9 ∷ []) result }
+{
+    with_algebra!(chosen, |algebra| factor(alloc, algebra, shared))
+}
+
+/// Factors a graph for the algebra of a number, at every limit, if there is such an algebra.
+///
+/// What is asked afterwards has the same answers, whether there are factors or not.
+#[tactic(auto, using(path_algebra::proofs::Chosen::of_numbered))]
+pub fn factor_graph(alloc: Global, number: u32, shared: &mut SharedGraph) -> i32
+    ensures graph { shared.new ≡ shared.old }
+    ensures heavy { result ≡ pos 8 → OfAlgebra number 0 (λ V A. IsTooHeavy A shared.old) }
+    ensures algebra { (result ≡ pos 43) ↔ (IsAlgebra number 0 → ⊥) }
+    ensures status { IsOneOf (0 ∷ 3 ∷ 7 ∷ 8 ∷ 9 ∷ 43 ∷ []) result }
+{
+    let Some(chosen) = AlgebraChoice::numbered(number, 0) else {
+        return NO_ALGEBRA;
+    };
+    factor_chosen(alloc, chosen, shared)
+}

@@ -1,0 +1,203 @@
+//! The codes of the best values from some vertices to others, written to a list of the caller.
+
+ghost use Rattle.std.specs.Prelude.{◌≡◌, ◌↔◌, ◌*◌, ◌∷◌, [], length, pos, IfOk, IsTrue};
+ghost use Rattle.std.specs.List.{All};
+ghost use Rattle.road_graph.specs.GraphData.{HasVertex};
+ghost use Rattle.path_algebra.specs.Choices.{OfAlgebra, Under};
+ghost use Rattle.path_algebra.specs.Walks.{AreBest};
+ghost use Rattle.answer_lists.specs.Answers.{IsOneOf};
+ghost use Rattle.answer_lists.specs.Table.{AreRowCodes, AreTableCodes, ReportsTableRefusals};
+ghost use Rattle.answer_lists.specs.Tree.{HasLowCodes};
+
+use crate::codes::{code_for, push_code};
+use crate::shared_graph::SharedGraph;
+use crate::sources::are_vertices;
+use crate::status::{DONE, MEMORY, NO_ALGEBRA, NO_ROOM, NO_VERTEX};
+use path_algebra::{AlgebraChoice, Labels, PathAlgebra, laws_hold, with_algebra};
+use path_plain::solve_outgoing;
+use road_graph::{Memory, OutGraph, Vertex};
+use std::alloc::Global;
+
+/// The codes of the labels of some vertices.
+fn codes_at<A: PathAlgebra>(
+    alloc: Global,
+    algebra: A,
+    graph: &OutGraph,
+    source: Vertex,
+    labels: &Labels<A::Value>,
+    targets: &[u32],
+) -> Result<Vec<u64>, Memory>
+    requires low { HasLowCodes (A.meaning algebra) }
+    requires targets { All (HasVertex graph.now) targets.now }
+    requires best { AreBest (A.meaning algebra) graph.now (source ∷ []) labels.now }
+    ensures { IfOk result (λ row. AreRowCodes (A.meaning algebra) graph.now targets.now source
+        row.items) }
+{
+    graph.holds();
+    laws_hold(algebra);
+    let mut row = Vec::with_capacity(alloc, targets.len())?;
+    for target in targets {
+        let label = labels.of(Vertex(*target));
+        push_code(&mut row, code_for(algebra, label))?;
+    }
+    Ok(row)
+}
+
+/// The codes from one source, by a search.
+fn searched_row<A: PathAlgebra>(
+    alloc: Global,
+    algebra: A,
+    graph: &OutGraph,
+    source: Vertex,
+    targets: &[u32],
+) -> Result<Vec<u64>, Memory>
+    requires low { HasLowCodes (A.meaning algebra) }
+    requires source { HasVertex graph.now source }
+    requires targets { All (HasVertex graph.now) targets.now }
+    ensures { IfOk result (λ row. AreRowCodes (A.meaning algebra) graph.now targets.now source
+        row.items) }
+{
+    let labels = solve_outgoing(alloc, algebra, graph, &[source])?;
+    codes_at(alloc, algebra, graph, source, &labels, targets)
+}
+
+/// The codes from one source.
+fn row<A: PathAlgebra>(
+    alloc: Global,
+    algebra: A,
+    shared: &mut SharedGraph,
+    source: Vertex,
+    targets: &[u32],
+) -> Result<Vec<u64>, Memory>
+    requires low { HasLowCodes (A.meaning algebra) }
+    requires source { HasVertex shared.old source }
+    requires targets { All (HasVertex shared.old) targets.now }
+    ensures graph { shared.new ≡ shared.old }
+    ensures row { IfOk result (λ row. AreRowCodes (A.meaning algebra) shared.old targets.now source
+        row.items) }
+{
+    let Some(mut factored) = shared.take_factored(algebra) else {
+        return searched_row(alloc, algebra, shared.graph(), source, targets);
+    };
+    let row = factored.row(alloc, algebra, source, targets);
+    shared.put_factored(factored);
+    row
+}
+
+/// The codes from each source, one row after the other.
+fn table<A: PathAlgebra>(
+    alloc: Global,
+    algebra: A,
+    shared: &mut SharedGraph,
+    sources: &[u32],
+    targets: &[u32],
+) -> Result<Vec<u64>, Memory>
+    requires low { HasLowCodes (A.meaning algebra) }
+    requires sources { All (HasVertex shared.old) sources.now }
+    requires targets { All (HasVertex shared.old) targets.now }
+    ensures graph { shared.new ≡ shared.old }
+    ensures table { IfOk result (λ codes. AreTableCodes (A.meaning algebra) shared.old sources.now
+        targets.now codes.items) }
+{
+    let mut codes = Vec::new(alloc);
+    for source in sources {
+        let row = row(alloc, algebra, shared, Vertex(*source), targets)?;
+        codes.extend_from_slice(&row)?;
+    }
+    Ok(codes)
+}
+
+/// Finds a table and writes it.
+fn answer<A: PathAlgebra>(
+    alloc: Global,
+    algebra: A,
+    shared: &mut SharedGraph,
+    sources: &[u32],
+    targets: &[u32],
+    codes: &mut [u64],
+) -> i32
+    requires low { HasLowCodes (A.meaning algebra) }
+    requires sources { All (HasVertex shared.old) sources.now }
+    requires targets { All (HasVertex shared.old) targets.now }
+    requires places { length codes.old ≡ length sources.now * length targets.now }
+    ensures graph { shared.new ≡ shared.old }
+    ensures table { result ≡ pos 0 → AreTableCodes (A.meaning algebra) shared.old sources.now
+        targets.now codes.new }
+    ensures kept { (result ≡ pos 0 → ⊥) → codes.new ≡ codes.old }
+    ensures status { IsOneOf (0 ∷ 3 ∷ []) result }
+{
+    match table(alloc, algebra, shared, sources, targets) {
+        Ok(list) => {
+            codes.copy_from_slice(&list);
+            DONE
+        }
+        Err(Memory) => MEMORY,
+    }
+}
+
+/// Finds a table by the chosen algebra and writes it.
+fn answer_chosen(
+    alloc: Global,
+    chosen: AlgebraChoice,
+    shared: &mut SharedGraph,
+    sources: &[u32],
+    targets: &[u32],
+    codes: &mut [u64],
+) -> i32
+    requires sources { All (HasVertex shared.old) sources.now }
+    requires targets { All (HasVertex shared.old) targets.now }
+    requires places { length codes.old ≡ length sources.now * length targets.now }
+    ensures graph { shared.new ≡ shared.old }
+    ensures table { result ≡ pos 0 → Under chosen (λ V A. AreTableCodes A shared.old sources.now
+        targets.now codes.new) }
+    ensures kept { (result ≡ pos 0 → ⊥) → codes.new ≡ codes.old }
+    ensures status { IsOneOf (0 ∷ 3 ∷ []) result }
+{
+    with_algebra!(
+        chosen,
+        |algebra| answer(alloc, algebra, shared, sources, targets, codes)
+    )
+}
+
+/// Whether a list has just one place for each pair of a source and a target.
+fn has_places(sources: usize, targets: usize, places: usize) -> bool
+    ensures { IsTrue result ↔ (places ≡ sources * targets) }
+{
+    match sources.checked_mul(targets) {
+        Some(pairs) => pairs == places,
+        None => false,
+    }
+}
+
+/// Finds a table by the algebra of a number and writes it, if each source and each target is a vertex, there is just one
+/// place for each pair of them, and there is such an algebra.
+#[tactic(auto, using(path_algebra::proofs::Chosen::of_numbered))]
+pub fn answer_table(
+    alloc: Global,
+    number: u32,
+    limit: u64,
+    shared: &mut SharedGraph,
+    sources: &[u32],
+    targets: &[u32],
+    codes: &mut [u64],
+) -> i32
+    ensures graph { shared.new ≡ shared.old }
+    ensures table { result ≡ pos 0 → OfAlgebra number limit (λ V A. AreTableCodes A shared.old
+        sources.now targets.now codes.new) }
+    ensures kept { (result ≡ pos 0 → ⊥) → codes.new ≡ codes.old }
+    ensures refusals { ReportsTableRefusals shared.old number limit sources.now targets.now
+        codes.old result }
+    ensures status { IsOneOf (0 ∷ 2 ∷ 3 ∷ 17 ∷ 43 ∷ []) result }
+{
+    let graph = shared.graph();
+    if !are_vertices(graph, sources) || !are_vertices(graph, targets) {
+        return NO_VERTEX;
+    }
+    if !has_places(sources.len(), targets.len(), codes.len()) {
+        return NO_ROOM;
+    }
+    let Some(chosen) = AlgebraChoice::numbered(number, limit) else {
+        return NO_ALGEBRA;
+    };
+    answer_chosen(alloc, chosen, shared, sources, targets, codes)
+}

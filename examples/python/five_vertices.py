@@ -1,4 +1,4 @@
-"""The five vertices: a route, a tree, and a check of it."""
+"""The five vertices: a route, a tree, a check of it, and a table by factors."""
 from diffuse import Graph, NoRoute, WrongTree
 
 ARCS = [(1, 2, 4), (1, 3, 1), (3, 2, 2), (2, 4, 5), (3, 4, 8), (4, 4, 0), (5, 1, 3)]
@@ -29,3 +29,6 @@ with Graph(5, ARCS) as graph:
     print_check(graph, tree)
     tree.values[3] = 9
     print_check(graph, tree)
+    graph.factor()
+    for source, row in zip([1, 5], graph.table([1, 5], [2, 4])):
+        print(f"from {source} to 2 and 4:", *row)

@@ -72,9 +72,14 @@ impl<'g, A: PathAlgebra> Asker<'g, A> {
             return Ok(None);
         };
         let code = self.algebra.code(value);
-        let route = self
-            .finder
-            .route(self.algebra, self.graph, &self.back, labels, source, target)?;
+        let route = self.finder.route(
+            self.algebra,
+            self.graph,
+            &self.back,
+            labels,
+            source,
+            target,
+        )?;
         Ok(route.map(|route| (code, route)))
     }
 }

@@ -200,24 +200,12 @@ fn gathered<A: PathAlgebra>(
     }
 }
 
-/// How a diffusion goes on: the order in which parts take their items, by what weight they may run ahead, how many items they take in a turn, and how many turns there are.
+/// How a diffusion goes on: the order in which parts take their items, how many they take in a turn, and how many turns there are.
 #[derive(Clone, Copy)]
 struct Schedule {
     order: QueueOrder,
-    ahead: Option<u32>,
     budget: u32,
     turns: usize,
-}
-
-/// The floor, with its shards held back if that is asked.
-fn held_back<A: PathAlgebra>(floor: Floor<A>, ahead: Option<u32>) -> Floor<A>
-    ensures { result ≡ floor }
-{
-    let mut floor = floor;
-    if let Some(ahead) = ahead {
-        floor.hold_back(ahead);
-    }
-    floor
 }
 
 /// The answer of a diffusion.
@@ -234,12 +222,10 @@ fn answered<A: PathAlgebra>(
 {
     let Schedule {
         order,
-        ahead,
         budget,
         turns,
     } = schedule;
     let (floor, stations) = opened(rt, algebra, graph, plan, source, order);
-    let floor = held_back(floor, ahead);
     let stations = turned(rt, &floor, stations, budget, turns);
     let done = finished(rt, &floor, stations);
     gathered(rt, floor, done)
@@ -262,7 +248,7 @@ fn assert_labels<A: PathAlgebra>(
     }
 }
 
-/// Asserts the labels of the five vertices from vertex 1, after this many turns, in both orders, held back or not.
+/// Asserts the labels of the five vertices from vertex 1, after this many turns, in both orders.
 fn assert_answer<A: PathAlgebra>(
     rt: &(impl Abort + AllocGlobal),
     algebra: A,
@@ -272,16 +258,13 @@ fn assert_answer<A: PathAlgebra>(
     wanted: [Option<u64>; 5],
 ) {
     for order in ORDERS {
-        for ahead in [None, Some(0), Some(3)] {
-            let schedule = Schedule {
-                order,
-                ahead,
-                budget,
-                turns,
-            };
-            let gathered = answered(rt, algebra, &five(rt), plan, 1, schedule);
-            assert_labels(rt, algebra, &gathered, wanted);
-        }
+        let schedule = Schedule {
+            order,
+            budget,
+            turns,
+        };
+        let gathered = answered(rt, algebra, &five(rt), plan, 1, schedule);
+        assert_labels(rt, algebra, &gathered, wanted);
     }
 }
 
@@ -368,7 +351,6 @@ fn assert_reached(
     for order in ORDERS {
         let schedule = Schedule {
             order,
-            ahead: None,
             budget,
             turns: 200,
         };
@@ -412,7 +394,6 @@ fn best_alone<A: PathAlgebra>(
 {
     let schedule = Schedule {
         order: QueueOrder::BestFirst,
-        ahead: None,
         budget,
         turns: 200,
     };
@@ -444,26 +425,6 @@ fn best_first_accounts(rt: HostRuntime) {
     assert_best_alone(&rt, Within { limit: 5 }, 1, 4);
     assert_best_alone(&rt, Shortest, 4, 2);
     assert_best_alone(&rt, Shortest, 5, 8);
-}
-
-/// Whether the second of three stations is held back that may run ahead by this weight. Vertex 2 waits for 4 at the first station, and vertex 4 for 9 at the second.
-fn is_second_held(rt: &(impl Abort + AllocGlobal), ahead: u32) -> bool {
-    let (graph, plan) = (five(rt), blocks_of(rt, 5, 3));
-    let (floor, stations) = opened(rt, Shortest, &graph, &plan, 1, QueueOrder::BestFirst);
-    let floor = held_back(floor, Some(ahead));
-    let stations = turned_once(rt, &floor, stations, 0, 1);
-    let mut stations = turned_once(rt, &floor, stations, 1, 1);
-    last_of(rt, &floor, &mut stations);
-    let mut second = last_of(rt, &floor, &mut stations);
-    let report = second.turn(&floor, 1);
-    assert!(rt; report.held == (report.handled == 0));
-    report.held
-}
-
-#[test]
-fn holds_back_what_runs_ahead(rt: HostRuntime) {
-    assert!(rt; is_second_held(&rt, 4));
-    assert!(rt; !is_second_held(&rt, 5));
 }
 
 /// The label of a vertex, as a station shows it.

@@ -1,6 +1,7 @@
 -- The lines of vertices, one by one.
 use Rattle.std.proofs.Common.{◌≡◌, ℕ, ◌+◌, ◌<◌, ◌≤◌, List, [], ◌++◌, length, drop, get_or, Option, refl, sym, ap, ◌∙◌, drop-cons, drop_of_length-le, add-one}
 use Rattle.road_text.specs.Texts.{spelled, text_of}
+use Rattle.road_text.specs.Streams.{Output}
 use Rattle.road_text.specs.Written.{WrotePrefix, FailedAfterPrefix}
 use Rattle.road_text.proofs.WriteLaws.{left_step, fell_step}
 use Rattle.answer_text.specs.declared.answers.Reached.{Reached}
@@ -23,13 +24,13 @@ pub vertices_end : (i : ℕ) (ls : List (Option Reached)) → length ls ≤ i �
 unfolding vertices_from
 vertices_end i ls le = ap (λ xs. text_of (vertex_lines (i + 1) xs)) (drop_of_length-le ls le)
 
-module _ (old mid new : Option (List ℕ)) (b m a : ℕ) (text line : List ℕ) (ls : List (Option Reached)) (i v : ℕ) (d : Option Reached) (lt : i < length ls) (at : v ≡ i)
+module _ {X : Type 0} (old mid new : Output X) (text line : List ℕ) (ls : List (Option Reached)) (i v : ℕ) (d : Option Reached) (lt : i < length ls) (at : v ≡ i)
     (is : line ≡ spelled (vertex_words (v + 1) (get_or ls i d)))
-    (was : WrotePrefix old mid b m text (vertices_from i ls)) where
-  pub vertex_left : WrotePrefix mid new m a line [] → WrotePrefix old new b a text (vertices_from (i + 1) ls)
-  vertex_left piece = left_step old mid new b m a text (vertices_from i ls) (spelled (vertex_words (i + 1) (get_or ls i d))) line (vertices_from (i + 1) ls)
+    (was : WrotePrefix old mid text (vertices_from i ls)) where
+  pub vertex_left : WrotePrefix mid new line [] → WrotePrefix old new text (vertices_from (i + 1) ls)
+  vertex_left piece = left_step old mid new text (vertices_from i ls) (spelled (vertex_words (i + 1) (get_or ls i d))) line (vertices_from (i + 1) ls)
       (vertices_next i ls d lt) (is ∙ ap (λ k. spelled (vertex_words (k + 1) (get_or ls i d))) at) was piece
 
-  pub vertex_fell : FailedAfterPrefix mid new m a line → FailedAfterPrefix old new b a text
-  vertex_fell piece = fell_step old mid new b m a text (vertices_from i ls) (spelled (vertex_words (i + 1) (get_or ls i d))) line (vertices_from (i + 1) ls)
+  pub vertex_fell : FailedAfterPrefix mid new line → FailedAfterPrefix old new text
+  vertex_fell piece = fell_step old mid new text (vertices_from i ls) (spelled (vertex_words (i + 1) (get_or ls i d))) line (vertices_from (i + 1) ls)
       (vertices_next i ls d lt) (is ∙ ap (λ k. spelled (vertex_words (k + 1) (get_or ls i d))) at) was piece

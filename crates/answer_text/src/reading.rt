@@ -11,7 +11,7 @@ use std::alloc::Global;
 /// The answers of an answer text over a graph with `n` vertices. Whether they are right for the graph is not checked
 /// here.
 pub fn read_answers<R: RoadRead>(alloc: Global, from: &mut R, n: u32) -> Result<Answers, ReadFault>
-    ensures { ReadsText R.left R.failures R.asked from.old from.new (answer_rules n) answer_list 30
+    ensures { ReadsText (R.seen from.old) (R.seen from.new) (answer_rules n) answer_list 30
         36 result }
 {
     read_whole(from, AnswerParser::new(alloc, n))

@@ -23,21 +23,21 @@ pub fn write_header<W: RoadWrite>(
     count: u32,
     name: AlgebraName,
 ) -> Result<(), WriteFault>
-    ensures { WritesText W.written W.failures to.old to.new (header_text kind count name) result }
+    ensures { WritesText (W.seen to.old) (W.seen to.new) (header_text kind count name) result }
 {
     write_bytes(to, line_of_header(kind, count, name).as_str().as_bytes())
 }
 
 /// Writes the first line of an answer from one source. `write_vertex_line` writes those that follow.
 pub fn write_source_line<W: RoadWrite>(to: &mut W, source: Vertex) -> Result<(), WriteFault>
-    ensures { WritesText W.written W.failures to.old to.new (spelled (source_words source)) result }
+    ensures { WritesText (W.seen to.old) (W.seen to.new) (spelled (source_words source)) result }
 {
     write_bytes(to, line_of_source(source).as_str().as_bytes())
 }
 
 /// Writes the first line of an answer from several sources. `write_vertex_line` writes those that follow.
 pub fn write_sources_line<W: RoadWrite>(to: &mut W, sources: &[Vertex]) -> Result<(), WriteFault>
-    ensures { WritesText W.written W.failures to.old to.new
+    ensures { WritesText (W.seen to.old) (W.seen to.new)
         (spelled (list_words (codes "m") sources.now)) result }
 {
     write_list(to, b"m", sources)
@@ -50,7 +50,7 @@ pub fn write_vertex_line<W: RoadWrite>(
     vertex: u64,
     reached: Option<Reached>,
 ) -> Result<(), WriteFault>
-    ensures { WritesText W.written W.failures to.old to.new (spelled (vertex_words vertex reached))
+    ensures { WritesText (W.seen to.old) (W.seen to.new) (spelled (vertex_words vertex reached))
         result }
 {
     line.fill(vertex, reached);
@@ -59,7 +59,7 @@ pub fn write_vertex_line<W: RoadWrite>(
 
 /// Writes the lines of all vertices.
 fn write_vertices<W: RoadWrite>(to: &mut W, lines: &[Option<Reached>]) -> Result<(), WriteFault>
-    ensures { WritesText W.written W.failures to.old to.new (text_of (vertex_lines 1 lines.now))
+    ensures { WritesText (W.seen to.old) (W.seen to.new) (text_of (vertex_lines 1 lines.now))
         result }
 {
     let mut vertex: u64 = 0;
@@ -78,7 +78,7 @@ fn write_source<W: RoadWrite>(
     source: Vertex,
     lines: &[Option<Reached>],
 ) -> Result<(), WriteFault>
-    ensures { WritesText W.written W.failures to.old to.new (spelled (source_words source) ++
+    ensures { WritesText (W.seen to.old) (W.seen to.new) (spelled (source_words source) ++
         text_of (vertex_lines 1 lines.now)) result }
 {
     write_source_line(to, source)?;
@@ -92,8 +92,8 @@ fn write_multi<W: RoadWrite>(
     sources: &[Vertex],
     lines: &[Option<Reached>],
 ) -> Result<(), WriteFault>
-    ensures { WritesText W.written W.failures to.old to.new
-        (spelled (list_words (codes "m") sources.now) ++ text_of (vertex_lines 1 lines.now)) result }
+    ensures { WritesText (W.seen to.old) (W.seen to.new) (spelled (list_words (codes "m")
+        sources.now) ++ text_of (vertex_lines 1 lines.now)) result }
 {
     write_sources_line(to, sources)?;
     write_vertices(to, lines)
@@ -104,21 +104,21 @@ fn write_pair_line<W: RoadWrite>(
     source: Vertex,
     target: Vertex,
 ) -> Result<(), WriteFault>
-    ensures { WritesText W.written W.failures to.old to.new (spelled (pair_words source target))
+    ensures { WritesText (W.seen to.old) (W.seen to.new) (spelled (pair_words source target))
         result }
 {
     write_bytes(to, line_of_pair(source, target).as_str().as_bytes())
 }
 
 fn write_found_line<W: RoadWrite>(to: &mut W, code: u64, hops: u32) -> Result<(), WriteFault>
-    ensures { WritesText W.written W.failures to.old to.new (spelled (found_words code hops)) result }
+    ensures { WritesText (W.seen to.old) (W.seen to.new) (spelled (found_words code hops)) result }
 {
     write_bytes(to, line_of_found(code, hops).as_str().as_bytes())
 }
 
 #[tactic(auto, unfolding(road_text::specs::Texts::spelled))]
 fn write_unreached<W: RoadWrite>(to: &mut W) -> Result<(), WriteFault>
-    ensures { WritesText W.written W.failures to.old to.new (text_of ((codes "u" ∷ []) ∷ [])) result }
+    ensures { WritesText (W.seen to.old) (W.seen to.new) (text_of ((codes "u" ∷ []) ∷ [])) result }
 {
     write_bytes(to, b"u\n")
 }
@@ -130,7 +130,7 @@ fn write_found<W: RoadWrite>(
     hops: u32,
     route: &[Vertex],
 ) -> Result<(), WriteFault>
-    ensures { WritesText W.written W.failures to.old to.new
+    ensures { WritesText (W.seen to.old) (W.seen to.new)
         (text_of (found_words code hops ∷ list_words (codes "r") route.now ∷ [])) result }
 {
     write_found_line(to, code, hops)?;
@@ -144,7 +144,7 @@ fn write_pair<W: RoadWrite>(
     target: Vertex,
     found: &Option<Found>,
 ) -> Result<(), WriteFault>
-    ensures { WritesText W.written W.failures to.old to.new
+    ensures { WritesText (W.seen to.old) (W.seen to.new)
         (text_of (pair_words source target ∷ found_lines (option_map found_of found.now))) result }
 {
     write_pair_line(to, source, target)?;
@@ -157,7 +157,7 @@ fn write_pair<W: RoadWrite>(
 /// Writes an answer.
 #[tactic(auto, unfolding(crate::specs::AnswerText::answer_text))]
 pub fn write_answer<W: RoadWrite>(to: &mut W, answer: &Answer) -> Result<(), WriteFault>
-    ensures { WritesText W.written W.failures to.old to.new (answer_text (answer_data answer.now))
+    ensures { WritesText (W.seen to.old) (W.seen to.new) (answer_text (answer_data answer.now))
         result }
 {
     match answer {
@@ -173,7 +173,7 @@ pub fn write_answer<W: RoadWrite>(to: &mut W, answer: &Answer) -> Result<(), Wri
 
 /// Writes answers, one after the other.
 fn write_blocks<W: RoadWrite>(to: &mut W, answers: &[Answer]) -> Result<(), WriteFault>
-    ensures { WritesText W.written W.failures to.old to.new
+    ensures { WritesText (W.seen to.old) (W.seen to.new)
         (blocks_text (map answer_data answers.now)) result }
 {
     for answer in answers {
@@ -186,7 +186,7 @@ fn write_blocks<W: RoadWrite>(to: &mut W, answers: &[Answer]) -> Result<(), Writ
 #[tactic(auto, using(road_text::proofs::WriteLaws::wrote_then, road_text::proofs::WriteLaws::fell_first))]
 pub fn write_answers<W: RoadWrite>(to: &mut W, answers: &Answers) -> Result<(), WriteFault>
     requires { length answers.now.list.items ≤ MAX_ANSWERS }
-    ensures { WritesText W.written W.failures to.old to.new (answers_text (answer_list answers.now))
+    ensures { WritesText (W.seen to.old) (W.seen to.new) (answers_text (answer_list answers.now))
         result }
 {
     write_header(to, answers.kind, answers.list.len() as u32, answers.name)?;

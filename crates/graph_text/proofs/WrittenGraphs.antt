@@ -1,5 +1,5 @@
 -- The lines of a graph: they are written one after the other, and read again.
-use Rattle.std.proofs.Common.{◌≡◌, ℕ, ◌+◌, ◌<◌, ◌≤◌, List, [], ◌++◌, length, get_or, map, Option, Result, ap, ◌∙◌, arith, subst, ◌-◌, ◌∷◌, Ok, refl, ◌*◌, ◌^◌, Some, None, lit<, codes, decimal, append_assoc, append-nil, length-append}
+use Rattle.std.proofs.Common.{◌≡◌, ℕ, ◌+◌, ◌<◌, ◌≤◌, List, [], ◌++◌, length, get_or, map, Result, ap, ◌∙◌, arith, subst, ◌-◌, ◌∷◌, Ok, refl, ◌*◌, ◌^◌, Some, None, lit<, codes, decimal, append_assoc, append-nil, length-append}
 use Rattle.std.proofs.lemmas.List.{get_or_default}
 use Rattle.std.specs.List.{AllByRecursion}
 use Rattle.std.proofs.lemmas.Bool.{le-ltb, ne_eqb, lt-ltb}
@@ -8,7 +8,8 @@ use Rattle.std.proofs.lemmas.List.Elements.{recursion_from_All}
 use Rattle.road_graph.specs.GraphData.{GraphData, arc_of, IsGraph, JoinsVertices}
 use Rattle.road_graph.specs.declared.RoadArc.{RoadArc}
 use Rattle.road_text.specs.Texts.{text_of, spelled, AreLines}
-use Rattle.road_text.specs.Written.{WrotePrefix, FailedAfterPrefix, Wrote}
+use Rattle.road_text.specs.Streams.{Output}
+use Rattle.road_text.specs.Written.{WrotePrefix, FailedAfterPrefix, WritesText}
 use Rattle.road_text.proofs.WriteLaws.{wrote_then, fell_first}
 use Rattle.road_text.specs.Rules.{text_read}
 use Rattle.road_text.proofs.RoundTrip.{after, value_again, read_again, decimal_is_number, word_of_number, word_by_test}
@@ -20,18 +21,18 @@ use Rattle.graph_text.specs.GraphFiles.{gr_problem, one_arc, gr_line, gr_rules, 
 pub arc_at : (g : GraphData) (i : ℕ) → arc_of g (i + 1) ≡ get_or g.arcs i (record { tail = 0; head = 0; weight = 0 })
 arc_at g i = let same : (i + 1) - 1 ≡ i = omega arith in ap (λ k. get_or g.arcs k (record { tail = 0; head = 0; weight = 0 })) same
 
-module _ (old mid new : Option (List ℕ)) (b m a : ℕ) (line : List ℕ) where
+module _ {X : Type 0} (old mid new : Output X) (line : List ℕ) where
   -- a problem line, and then the lines of a graph
-  pub graph_then : {B E : Type 0} (g : GraphData) (r : Result B E) → line ≡ spelled (graph_words g.vertices (length g.arcs)) → WrotePrefix old mid b m line [] →
-      Wrote mid new m a (text_of (map arc_words g.arcs)) r → Wrote old new b a (gr_text g) r
+  pub graph_then : {B E : Type 0} (g : GraphData) (r : Result B E) → line ≡ spelled (graph_words g.vertices (length g.arcs)) → WrotePrefix old mid line [] →
+      WritesText mid new (text_of (map arc_words g.arcs)) r → WritesText old new (gr_text g) r
   unfolding gr_text
-  graph_then g r is was next = wrote_then old mid new b m a (spelled (graph_words g.vertices (length g.arcs))) (text_of (map arc_words g.arcs)) r
-      (subst (λ x. WrotePrefix old mid b m x []) is was) next
+  graph_then g r is was next = wrote_then old mid new (spelled (graph_words g.vertices (length g.arcs))) (text_of (map arc_words g.arcs)) r
+      (subst (λ x. WrotePrefix old mid x []) is was) next
 
-module _ (old new : Option (List ℕ)) (b a : ℕ) (line : List ℕ) where
-  pub graph_fell : (g : GraphData) → line ≡ spelled (graph_words g.vertices (length g.arcs)) → FailedAfterPrefix old new b a line → FailedAfterPrefix old new b a (gr_text g)
+module _ {X : Type 0} (old new : Output X) (line : List ℕ) where
+  pub graph_fell : (g : GraphData) → line ≡ spelled (graph_words g.vertices (length g.arcs)) → FailedAfterPrefix old new line → FailedAfterPrefix old new (gr_text g)
   unfolding gr_text
-  graph_fell g is was = fell_first old new b a (spelled (graph_words g.vertices (length g.arcs))) (text_of (map arc_words g.arcs)) (subst (FailedAfterPrefix old new b a) is was)
+  graph_fell g is was = fell_first old new (spelled (graph_words g.vertices (length g.arcs))) (text_of (map arc_words g.arcs)) (subst (FailedAfterPrefix old new) is was)
 
 -- an arc that a graph with n vertices may have
 abbrev pub IsArcOf : ℕ → RoadArc → Type 0

@@ -35,7 +35,7 @@ fn fill_arc(line: &mut Line, arc: RoadArc)
 }
 
 fn write_arcs<W: RoadWrite>(to: &mut W, graph: &Graph) -> Result<(), WriteFault>
-    ensures { WritesText W.written W.failures to.old to.new (text_of (map arc_words graph.now.arcs))
+    ensures { WritesText (W.seen to.old) (W.seen to.new) (text_of (map arc_words graph.now.arcs))
         result }
 {
     let mut line = Line::new();
@@ -50,7 +50,7 @@ fn write_arcs<W: RoadWrite>(to: &mut W, graph: &Graph) -> Result<(), WriteFault>
 
 /// Writes a graph as a graph file: the whole text, or a prefix of it if a write fails.
 pub fn write_gr<W: RoadWrite>(to: &mut W, graph: &Graph) -> Result<(), WriteFault>
-    ensures { WritesText W.written W.failures to.old to.new (gr_text graph.now) result }
+    ensures { WritesText (W.seen to.old) (W.seen to.new) (gr_text graph.now) result }
 {
     let line = line_of_graph(graph.vertices(), graph.arcs() as u64);
     write_bytes(to, line.as_str().as_bytes())?;

@@ -16,7 +16,7 @@ pub fn read_bundle_as<R: RoadRead, G: FromArcs>(
     alloc: Global,
     from: &mut R,
 ) -> Result<(G, Questions), ReadFault>
-    ensures reads { ReadsText R.left R.failures R.asked from.old from.new bundle_rules
+    ensures reads { ReadsText (R.seen from.old) (R.seen from.new) bundle_rules
         (bundle_with G.roads) 10 19 result }
     ensures fit { IfOk result (λ b. AreQuestionsOf (G.roads b.0).vertices b.1) }
 {
@@ -28,7 +28,7 @@ pub fn read_bundle<R: RoadRead>(
     alloc: Global,
     from: &mut R,
 ) -> Result<(Graph, Questions), ReadFault>
-    ensures reads { ReadsText R.left R.failures R.asked from.old from.new bundle_rules bundle_of 10
+    ensures reads { ReadsText (R.seen from.old) (R.seen from.new) bundle_rules bundle_of 10
         19 result }
     ensures fit { IfOk result (λ b. AreQuestionsOf b.0.vertices b.1) }
 {

@@ -18,7 +18,7 @@ fn read_asked<R: RoadRead>(
     vertices: u32,
     only: Option<Kind>,
 ) -> Result<Questions, ReadFault>
-    ensures reads { ReadsText R.left R.failures R.asked from.old from.new
+    ensures reads { ReadsText (R.seen from.old) (R.seen from.new)
         (question_rules vertices only) asked_of 10 19 result }
     ensures fit { IfOk result (FitsFile vertices only) }
 {
@@ -31,7 +31,7 @@ pub fn read_questions<R: RoadRead>(
     from: &mut R,
     vertices: u32,
 ) -> Result<Questions, ReadFault>
-    ensures reads { ReadsText R.left R.failures R.asked from.old from.new
+    ensures reads { ReadsText (R.seen from.old) (R.seen from.new)
         (question_rules vertices None) asked_of 10 19 result }
     ensures fit { IfOk result (AreQuestionsOf vertices) }
 {
@@ -74,7 +74,7 @@ pub fn read_ss<R: RoadRead>(
     from: &mut R,
     vertices: u32,
 ) -> Result<Vec<Vertex>, ReadFault>
-    ensures reads { ReadsText R.left R.failures R.asked from.old from.new
+    ensures reads { ReadsText (R.seen from.old) (R.seen from.new)
         (question_rules vertices (Some Kind.Sources)) asked_of_sources 10 19 result }
     ensures fit { IfOk result (λ sources. AreQuestionsOf vertices (Questions.Sources sources)) }
 {
@@ -88,7 +88,7 @@ pub fn read_p2p<R: RoadRead>(
     from: &mut R,
     vertices: u32,
 ) -> Result<Vec<(Vertex, Vertex)>, ReadFault>
-    ensures reads { ReadsText R.left R.failures R.asked from.old from.new
+    ensures reads { ReadsText (R.seen from.old) (R.seen from.new)
         (question_rules vertices (Some Kind.Pairs)) asked_of_pairs 10 19 result }
     ensures fit { IfOk result (λ pairs. AreQuestionsOf vertices (Questions.Pairs pairs)) }
 {
@@ -102,7 +102,7 @@ pub fn read_ms<R: RoadRead>(
     from: &mut R,
     vertices: u32,
 ) -> Result<Vec<Vec<Vertex>>, ReadFault>
-    ensures reads { ReadsText R.left R.failures R.asked from.old from.new
+    ensures reads { ReadsText (R.seen from.old) (R.seen from.new)
         (question_rules vertices (Some Kind.Multi)) asked_of_lists 10 19 result }
     ensures fit { IfOk result (λ lists. AreQuestionsOf vertices (Questions.Multi lists)) }
 {

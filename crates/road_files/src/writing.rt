@@ -11,7 +11,7 @@ use road_graph::Vertex;
 use road_text::{Line, RoadWrite, WriteFault, write_bytes};
 
 fn write_sources<W: RoadWrite>(to: &mut W, sources: &[Vertex]) -> Result<(), WriteFault>
-    ensures { WritesText W.written W.failures to.old to.new
+    ensures { WritesText (W.seen to.old) (W.seen to.new)
         (text_of (map question_words (map of_source sources.now))) result }
 {
     let mut line = Line::new();
@@ -24,7 +24,7 @@ fn write_sources<W: RoadWrite>(to: &mut W, sources: &[Vertex]) -> Result<(), Wri
 
 /// Writes sources as an .ss file: the whole text, or a prefix of it if a write fails.
 pub fn write_ss<W: RoadWrite>(to: &mut W, sources: &[Vertex]) -> Result<(), WriteFault>
-    ensures { WritesText W.written W.failures to.old to.new
+    ensures { WritesText (W.seen to.old) (W.seen to.new)
         (questions_text (record { kind = Kind.Sources; questions = map of_source sources.now }))
         result }
 {
@@ -34,7 +34,7 @@ pub fn write_ss<W: RoadWrite>(to: &mut W, sources: &[Vertex]) -> Result<(), Writ
 }
 
 fn write_pairs<W: RoadWrite>(to: &mut W, pairs: &[(Vertex, Vertex)]) -> Result<(), WriteFault>
-    ensures { WritesText W.written W.failures to.old to.new
+    ensures { WritesText (W.seen to.old) (W.seen to.new)
         (text_of (map question_words (map of_pair pairs.now))) result }
 {
     let mut line = Line::new();
@@ -47,7 +47,7 @@ fn write_pairs<W: RoadWrite>(to: &mut W, pairs: &[(Vertex, Vertex)]) -> Result<(
 
 /// Writes pairs of a source and a target as a .p2p file: the whole text, or a prefix of it if a write fails.
 pub fn write_p2p<W: RoadWrite>(to: &mut W, pairs: &[(Vertex, Vertex)]) -> Result<(), WriteFault>
-    ensures { WritesText W.written W.failures to.old to.new
+    ensures { WritesText (W.seen to.old) (W.seen to.new)
         (questions_text (record { kind = Kind.Pairs; questions = map of_pair pairs.now })) result }
 {
     let line = line_of_problem(Kind::Pairs, pairs.len() as u64);
@@ -57,7 +57,7 @@ pub fn write_p2p<W: RoadWrite>(to: &mut W, pairs: &[(Vertex, Vertex)]) -> Result
 
 /// Writes each vertex after a space, and then the line's end.
 fn write_vertices<W: RoadWrite>(to: &mut W, vertices: &[Vertex]) -> Result<(), WriteFault>
-    ensures { WritesText W.written W.failures to.old to.new (spaced vertices.now) result }
+    ensures { WritesText (W.seen to.old) (W.seen to.new) (spaced vertices.now) result }
 {
     let mut line = Line::new();
     for vertex in vertices {
@@ -75,7 +75,7 @@ pub fn write_list<W: RoadWrite>(
     word: &[u8],
     vertices: &[Vertex],
 ) -> Result<(), WriteFault>
-    ensures { WritesText W.written W.failures to.old to.new
+    ensures { WritesText (W.seen to.old) (W.seen to.new)
         (spelled (list_words word.now vertices.now)) result }
 {
     write_bytes(to, word)?;
@@ -83,7 +83,7 @@ pub fn write_list<W: RoadWrite>(
 }
 
 fn write_lists<W: RoadWrite>(to: &mut W, lists: &[Vec<Vertex>]) -> Result<(), WriteFault>
-    ensures { WritesText W.written W.failures to.old to.new
+    ensures { WritesText (W.seen to.old) (W.seen to.new)
         (text_of (map question_words (map of_list lists.now))) result }
 {
     for list in lists {
@@ -94,7 +94,7 @@ fn write_lists<W: RoadWrite>(to: &mut W, lists: &[Vec<Vertex>]) -> Result<(), Wr
 
 /// Writes lists of sources as an .ms file: the whole text, or a prefix of it if a write fails.
 pub fn write_ms<W: RoadWrite>(to: &mut W, lists: &[Vec<Vertex>]) -> Result<(), WriteFault>
-    ensures { WritesText W.written W.failures to.old to.new
+    ensures { WritesText (W.seen to.old) (W.seen to.new)
         (questions_text (record { kind = Kind.Multi; questions = map of_list lists.now })) result }
 {
     let line = line_of_problem(Kind::Multi, lists.len() as u64);

@@ -8,6 +8,7 @@ use Rattle.road_text.specs.declared.faults.Rule.{Rule}
 use Rattle.road_text.specs.Lines.{fields, lines}
 use Rattle.road_text.specs.Rules.{Rules, fault_at, ◌>>=◌, unless, at_line, value_of_lines, text_read, too_long}
 use Rattle.road_text.specs.Takes.{Breaks, GivesBy, Leaves}
+use Rattle.road_text.specs.Streams.{Input}
 use Rattle.road_text.specs.Reads.{IsNumberFrom, IsReadNumber, ReadsSomeFault, ReadsText, ReadsValue, ReadsSome, ReadsFault, TellsFailure, TellsNoOther, IsTooLong, HasLineIfInText, FailsOnce, FailsAfter, RunsOutAfter, BreaksNone, FailsUnbroken, RunsOutUnbroken}
 use Rattle.road_text.specs.Words.{number_up_to}
 use Rattle.std.specs.Bool.{MatchBool}
@@ -142,21 +143,21 @@ module _ {S V T R : Type 0} (rules : Rules S V) (view : R → V) (meaning : Mean
       { before = q.before; last = q.last; taken = q.taken; unbroken = unbroken_by q.before q.unbroken; one_read = q.one_read; fits = q.fits }) h
 
   -- What `read_whole` promises, said by the rules, which tell faults of these numbers alone. Its clauses go in as they are.
-  pub reads_text : {X : Type 0} (bytes : X → Option (List ℕ)) (failed reads : X → ℕ) (old new : X) (least greatest : ℕ)
+  pub reads_text : {X : Type 0} (old new : Input X) (least greatest : ℕ)
       → ((s : S) (fs : List (List ℕ)) → IsOwn least greatest (rules.line s fs)) → ((s : S) → IsOwn least greatest (rules.end s)) → (r : Result R ReadFault)
-      → IfOk r (λ v. IfSome (bytes old) (λ all. TextGives meaning parser all (Ok v))) → IfOk r (λ v. SomeTextGives meaning parser (Ok v))
-      → IfErr r (λ f. 2 ≤ f.number → f.number ≢ 3 → IfSome (bytes old) (λ all. TextGives meaning parser all (Err f))) →
+      → IfOk r (λ v. IfSome old.left (λ all. TextGives meaning parser all (Ok v))) → IfOk r (λ v. SomeTextGives meaning parser (Ok v))
+      → IfErr r (λ f. 2 ≤ f.number → f.number ≢ 3 → IfSome old.left (λ all. TextGives meaning parser all (Err f))) →
       IfErr r (λ f. 2 ≤ f.number → f.number ≢ 3 → SomeTextGives meaning parser (Err f))
-      → OnOk r (failed new ≡ failed old) → TellsFailure (failed old) (failed new) r → TellsNoOther (failed old) (failed new) r → IsTooLong (bytes old) r → HasLineIfInText r → IsReadNumber 10 255 r
-      → OnOk r (IsAtEnd (bytes new)) → reads new ≤ reads old + 4294967297 → FailsOnce (failed old) (failed new) r
-      → IfErr r (λ f. f.number ≡ 1 → FailsAfter (IsUnbroken meaning parser) (bytes old) (bytes new)) → IfErr r (λ f. f.number ≡ 3 → RunsOutAfter (IsUnbroken meaning parser) (bytes old) (bytes new))
-      → ReadsText bytes failed reads old new rules view least greatest r
-  reads_text bytes failed reads old new least greatest line end r value some_text fault some_fault sound told untold long placed numbered at_end asked once before_failure before_memory =
+      → OnOk r (new.failures ≡ old.failures) → TellsFailure old.failures new.failures r → TellsNoOther old.failures new.failures r → IsTooLong old.left r → HasLineIfInText r → IsReadNumber 10 255 r
+      → OnOk r (IsAtEnd new.left) → new.asked ≤ old.asked + 4294967297 → FailsOnce old.failures new.failures r
+      → IfErr r (λ f. f.number ≡ 1 → FailsAfter (IsUnbroken meaning parser) old.left new.left) → IfErr r (λ f. f.number ≡ 3 → RunsOutAfter (IsUnbroken meaning parser) old.left new.left)
+      → ReadsText old new rules view least greatest r
+  reads_text old new least greatest line end r value some_text fault some_fault sound told untold long placed numbered at_end asked once before_failure before_memory =
       let some : ReadsSomeFault rules r = reads_some_fault r some_fault in
       record {
-        value = reads_value (bytes old) r value;
+        value = reads_value old.left r value;
         some_text = reads_some r some_text;
-        fault = reads_fault (bytes old) r fault;
+        fault = reads_fault old.left r fault;
         some_fault = some;
         sound = sound;
         told = told;
@@ -167,13 +168,13 @@ module _ {S V T R : Type 0} (rules : Rules S V) (view : R → V) (meaning : Mean
         end = at_end;
         asked = asked;
         once = once;
-        before_failure = fails_unbroken (bytes old) (bytes new) r before_failure;
-        before_memory = runs_out_unbroken (bytes old) (bytes new) r before_memory;
+        before_failure = fails_unbroken old.left new.left r before_failure;
+        before_memory = runs_out_unbroken old.left new.left r before_memory;
       }
 
 -- what is read stays read where the value is a part of another, and a fault is one whatever the value is
-module _ {S V A B X : Type 0} (bytes : X → Option (List ℕ)) (failed reads : X → ℕ) (old new : X) (rules : Rules S V) (least greatest : ℕ) (view : A → V) (whole : B → A) where
-  pub reads_part : (x : B) → ReadsText bytes failed reads old new rules view least greatest (Ok (whole x)) → ReadsText bytes failed reads old new rules (λ b. view (whole b)) least greatest (Ok x)
+module _ {S V A B X : Type 0} (old new : Input X) (rules : Rules S V) (least greatest : ℕ) (view : A → V) (whole : B → A) where
+  pub reads_part : (x : B) → ReadsText old new rules view least greatest (Ok (whole x)) → ReadsText old new rules (λ b. view (whole b)) least greatest (Ok x)
   reads_part x h = record {
     value = h.value;
     some_text = h.some_text;
@@ -193,7 +194,7 @@ module _ {S V A B X : Type 0} (bytes : X → Option (List ℕ)) (failed reads : 
     before_memory = tt;
   }
 
-  pub reads_no_part : (e : ReadFault) → ReadsText bytes failed reads old new rules view least greatest (Err e) → ReadsText bytes failed reads old new rules (λ b. view (whole b)) least greatest (Err e)
+  pub reads_no_part : (e : ReadFault) → ReadsText old new rules view least greatest (Err e) → ReadsText old new rules (λ b. view (whole b)) least greatest (Err e)
   reads_no_part e h = record {
     value = tt;
     some_text = tt;

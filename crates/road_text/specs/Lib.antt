@@ -1,3 +1,4 @@
+pub mod Streams
 pub mod Lines
 pub mod Words
 pub mod Rules

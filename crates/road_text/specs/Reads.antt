@@ -5,6 +5,7 @@ use Rattle.std.specs.Io.KnownBytes.{Consumes, IsAtEnd}
 use Rattle.road_text.specs.declared.faults.ReadFault.{ReadFault}
 use Rattle.road_text.specs.Lines.{lines}
 use Rattle.road_text.specs.Rules.{Rules, text_read, state_after}
+use Rattle.road_text.specs.Streams.{Input}
 
 -- the value is that of the text, if it is known
 abbrev pub ReadsValue : {S V A : Type 0} → Rules S V → (A → V) → Option (List ℕ) → Result A ReadFault → Type 0
@@ -75,21 +76,20 @@ IsNumberFrom least greatest number = ((1 ≤ number) × (number ≤ 3)) ⊎ ((le
 abbrev pub IsReadNumber : {A : Type 0} → ℕ → ℕ → Result A ReadFault → Type 0
 IsReadNumber least greatest result = IfErr result (λ f. IsNumberFrom least greatest f.number)
 
--- what a reader of whole texts promises by these rules, between two states of what it reads from: `bytes` is what is
--- left there, `failed` how many reads failed, `reads` how many were asked for, and `view` the value of a result
-pub record ReadsText {S V A X : Type 0} (bytes : X → Option (List ℕ)) (failed reads : X → ℕ) (old new : X) (rules : Rules S V) (view : A → V) (least greatest : ℕ) (result : Result A ReadFault) : Type 0 where
-  pub value : ReadsValue rules view (bytes old) result
+-- what a reader of whole texts promises by these rules, between two moments of its input: `view` is the value of a result
+pub record ReadsText {S V A X : Type 0} (old new : Input X) (rules : Rules S V) (view : A → V) (least greatest : ℕ) (result : Result A ReadFault) : Type 0 where
+  pub value : ReadsValue rules view old.left result
   pub some_text : ReadsSome rules view result
-  pub fault : ReadsFault rules (bytes old) result
+  pub fault : ReadsFault rules old.left result
   pub some_fault : ReadsSomeFault rules result
-  pub sound : OnOk result (failed new ≡ failed old)
-  pub told : TellsFailure (failed old) (failed new) result
-  pub untold : TellsNoOther (failed old) (failed new) result
-  pub long : IsTooLong (bytes old) result
+  pub sound : OnOk result (new.failures ≡ old.failures)
+  pub told : TellsFailure old.failures new.failures result
+  pub untold : TellsNoOther old.failures new.failures result
+  pub long : IsTooLong old.left result
   pub placed : HasLineIfInText result
   pub numbered : IsReadNumber least greatest result
-  pub end : OnOk result (IsAtEnd (bytes new))
-  pub asked : reads new ≤ reads old + 4294967297
-  pub once : FailsOnce (failed old) (failed new) result
-  pub before_failure : FailsUnbroken rules (bytes old) (bytes new) result
-  pub before_memory : RunsOutUnbroken rules (bytes old) (bytes new) result
+  pub end : OnOk result (IsAtEnd new.left)
+  pub asked : new.asked ≤ old.asked + 4294967297
+  pub once : FailsOnce old.failures new.failures result
+  pub before_failure : FailsUnbroken rules old.left new.left result
+  pub before_memory : RunsOutUnbroken rules old.left new.left result

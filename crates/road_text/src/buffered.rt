@@ -1,5 +1,5 @@
 //! Collects small writes into large ones.
-ghost use Rattle.std.specs.Prelude.{◌≡◌, ℕ, ◌+◌, ◌≤◌, ◌<◌, List, [], ◌++◌, drop, take, length, OnOk, OnErr, IfOk, vec_len, vec_capacity};
+ghost use Rattle.std.specs.Prelude.{◌≡◌, ℕ, ◌+◌, ◌≤◌, ◌<◌, List, [], ◌++◌, drop, take, length, OnOk, OnErr, IfOk, vec_len, vec_capacity, refl};
 ghost use Rattle.std.specs.Io.KnownBytes.{append_known, WriteAppends, Appends, Keeps};
 
 use crate::ends::{RoadWrite, WriteFault};
@@ -41,13 +41,15 @@ impl<W> Buffered<W> {
 impl<W: RoadWrite> Buffered<W> {
     /// Writes the buffered bytes to the inner writer. What a failed write leaves stays buffered.
     fn pass_on(&mut self) -> Result<(), WriteFault>
-        ensures bytes { Keeps (append_known (W.written self.old.inner) self.old.buf.items)
-            (append_known (W.written self.new.inner) self.new.buf.items) }
+        ensures bytes { Keeps (append_known (W.seen self.old.inner).written self.old.buf.items)
+            (append_known (W.seen self.new.inner).written self.new.buf.items) }
         ensures empty { OnOk result (self.new.buf.items ≡ []) }
         ensures room { OnOk result (vec_len self.new.buf ≡ 0) }
         ensures capacity { vec_capacity self.new.buf ≡ vec_capacity self.old.buf }
-        ensures sound { OnOk result (W.failures self.new.inner ≡ W.failures self.old.inner) }
-        ensures failed { OnErr result (W.failures self.new.inner ≡ W.failures self.old.inner + 1) }
+        ensures sound { OnOk result ((W.seen self.new.inner).failures ≡
+            (W.seen self.old.inner).failures) }
+        ensures failed { OnErr result ((W.seen self.new.inner).failures ≡
+            (W.seen self.old.inner).failures + 1) }
     {
         let (written, result) = write_out(self.buf.as_slice(), &mut self.inner);
         remove_prefix(&mut self.buf, written);
@@ -59,10 +61,13 @@ impl<W: RoadWrite> Buffered<W> {
     fn write_cold(&mut self, buf: &[u8]) -> Result<usize, WriteFault>
         ensures bound { IfOk result (λ n. n ≤ length buf.now) }
         ensures some { IfOk result (λ n. 0 < length buf.now → 0 < n) }
-        ensures bytes { WriteAppends (append_known (W.written self.old.inner) self.old.buf.items)
-            (append_known (W.written self.new.inner) self.new.buf.items) result buf.now }
-        ensures sound { OnOk result (W.failures self.new.inner ≡ W.failures self.old.inner) }
-        ensures failed { OnErr result (W.failures self.new.inner ≡ W.failures self.old.inner + 1) }
+        ensures bytes { WriteAppends (append_known (W.seen self.old.inner).written
+            self.old.buf.items) (append_known (W.seen self.new.inner).written self.new.buf.items)
+            result buf.now }
+        ensures sound { OnOk result ((W.seen self.new.inner).failures ≡
+            (W.seen self.old.inner).failures) }
+        ensures failed { OnErr result ((W.seen self.new.inner).failures ≡
+            (W.seen self.old.inner).failures + 1) }
     {
         self.pass_on()?;
         if buf.len() >= self.buf.capacity() {
@@ -74,11 +79,12 @@ impl<W: RoadWrite> Buffered<W> {
 }
 
 impl<W: RoadWrite> RoadWrite for Buffered<W> {
-    ghost written = { λ g. append_known (W.written g.inner) g.buf.items };
-
-    ghost held = { λ g. W.held g.inner ++ g.buf.items };
-
-    ghost failures = { λ g. W.failures g.inner };
+    ghost seen = { λ g. record {
+      state = g;
+      written = append_known (W.seen g.inner).written g.buf.items;
+      held = (W.seen g.inner).held ++ g.buf.items;
+      failures = (W.seen g.inner).failures;
+    } };
 
     #[inline(always)]
     fn write(&mut self, buf: &[u8]) -> Result<usize, WriteFault> {
@@ -93,15 +99,18 @@ impl<W: RoadWrite> RoadWrite for Buffered<W> {
         self.pass_on()?;
         self.inner.flush()
     }
+
+    ghost itself = { λ _. refl };
 }
 
 /// Writes until all is written or a write fails, and returns how many bytes were written.
 fn write_out<W: RoadWrite>(bytes: &[u8], to: &mut W) -> (usize, Result<(), WriteFault>)
     ensures bound { result.0 ≤ length bytes.now }
     ensures all { OnOk result.1 (result.0 ≡ length bytes.now) }
-    ensures bytes { Appends (W.written to.old) (W.written to.new) (take result.0 bytes.now) }
-    ensures sound { OnOk result.1 (W.failures to.new ≡ W.failures to.old) }
-    ensures failed { OnErr result.1 (W.failures to.new ≡ W.failures to.old + 1) }
+    ensures bytes { Appends (W.seen to.old).written (W.seen to.new).written
+        (take result.0 bytes.now) }
+    ensures sound { OnOk result.1 ((W.seen to.new).failures ≡ (W.seen to.old).failures) }
+    ensures failed { OnErr result.1 ((W.seen to.new).failures ≡ (W.seen to.old).failures + 1) }
 {
     let mut written = 0;
     while written < bytes.len() {

@@ -1,5 +1,5 @@
 //! Any reader or writer of std as an end of texts.
-ghost use Rattle.std.specs.Prelude.{◌≡◌, ℕ, ◌+◌, ◌≤◌, ◌<◌, List, [], length};
+ghost use Rattle.std.specs.Prelude.{◌≡◌, ℕ, ◌+◌, ◌≤◌, ◌<◌, List, [], length, refl};
 
 use crate::ends::{ReadFailed, RoadRead, RoadWrite, WriteFault};
 use ghost_count::Count;
@@ -36,11 +36,7 @@ impl<T> Plain<T> {
 }
 
 impl<T: Read> RoadRead for Plain<T> {
-    ghost left = { λ p. T.remaining p.inner };
-
-    ghost failures = { λ p. p.failed.total };
-
-    ghost asked = { λ p. p.reads.total };
+    ghost seen = { λ p. record { state = p; left = T.remaining p.inner; failures = p.failed.total; asked = p.reads.total } };
 
     fn read(&mut self, buf: &mut [u8]) -> Result<usize, ReadFailed> {
         self.reads = self.reads.next();
@@ -52,12 +48,12 @@ impl<T: Read> RoadRead for Plain<T> {
             }
         }
     }
+
+    ghost itself = { λ _. refl };
 }
 
 impl<T: Write + Drop> RoadWrite for Plain<T> {
-    ghost written = { λ p. T.contents p.inner };
-
-    ghost failures = { λ p. p.failed.total };
+    ghost seen = { λ p. record { state = p; written = T.contents p.inner; held = []; failures = p.failed.total } };
 
     fn write(&mut self, buf: &[u8]) -> Result<usize, WriteFault> {
         match self.inner.write(buf) {
@@ -78,4 +74,6 @@ impl<T: Write + Drop> RoadWrite for Plain<T> {
             }
         }
     }
+
+    ghost itself = { λ _. refl };
 }

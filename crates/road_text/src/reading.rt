@@ -36,17 +36,17 @@ fn next_piece(count: u64) -> usize
 /// Reads what the reader has left as one text, and returns what it gives.
 pub fn read_text<R: RoadRead, T: LineParser>(from: &mut R, parser: T) -> Result<T::Value, Halt>
     requires { T.meaning.so_far parser [] }
-    ensures value { IfOk result (λ v. IfSome (R.left from.old) (λ all. TextGives T.meaning parser
-        all (Ok v))) }
+    ensures value { IfOk result (λ v. IfSome (R.seen from.old).left (λ all. TextGives T.meaning
+        parser all (Ok v))) }
     ensures some_text { IfOk result (λ v. SomeTextGives T.meaning parser (Ok v)) }
-    ensures end { OnOk result (IsAtEnd (R.left from.new)) }
-    ensures sound { OnOk result (R.failures from.new ≡ R.failures from.old) }
-    ensures asked { R.asked from.new ≤ R.asked from.old + 4294967297 }
-    ensures stops { IfErr result (λ h. Stops T.meaning parser (R.left from.old)
-        (R.failures from.old) (R.failures from.new) h) }
+    ensures end { OnOk result (IsAtEnd (R.seen from.new).left) }
+    ensures sound { OnOk result ((R.seen from.new).failures ≡ (R.seen from.old).failures) }
+    ensures asked { (R.seen from.new).asked ≤ (R.seen from.old).asked + 4294967297 }
+    ensures stops { IfErr result (λ h. Stops T.meaning parser (R.seen from.old).left
+        (R.seen from.old).failures (R.seen from.new).failures h) }
     ensures some_stops { IfErr result (SomeTextStops T.meaning parser) }
-    ensures stops_after { IfErr result (λ h. StopsAfter T.meaning parser (R.left from.old)
-        (R.left from.new) (R.failures from.old) (R.failures from.new) h) }
+    ensures stops_after { IfErr result (λ h. StopsAfter T.meaning parser (R.seen from.old).left
+        (R.seen from.new).left (R.seen from.old).failures (R.seen from.new).failures h) }
     ensures numbered { IfErr result IsNumbered }
 {
     let mut reader = LineReader::new(parser);
@@ -68,26 +68,26 @@ pub fn read_whole<R: RoadRead, T: LineParser>(
     parser: T,
 ) -> Result<T::Value, ReadFault>
     requires { T.meaning.so_far parser [] }
-    ensures value { IfOk result (λ v. IfSome (R.left from.old) (λ all. TextGives T.meaning parser
-        all (Ok v))) }
+    ensures value { IfOk result (λ v. IfSome (R.seen from.old).left (λ all. TextGives T.meaning
+        parser all (Ok v))) }
     ensures some_text { IfOk result (λ v. SomeTextGives T.meaning parser (Ok v)) }
-    ensures fault { IfErr result (λ f. 2 ≤ f.number → f.number ≢ 3 → IfSome (R.left from.old)
+    ensures fault { IfErr result (λ f. 2 ≤ f.number → f.number ≢ 3 → IfSome (R.seen from.old).left
         (λ all. TextGives T.meaning parser all (Err f))) }
     ensures some_fault { IfErr result (λ f. 2 ≤ f.number → f.number ≢ 3 → SomeTextGives T.meaning
         parser (Err f)) }
-    ensures sound { OnOk result (R.failures from.new ≡ R.failures from.old) }
-    ensures told { TellsFailure (R.failures from.old) (R.failures from.new) result }
-    ensures untold { TellsNoOther (R.failures from.old) (R.failures from.new) result }
-    ensures long { IsTooLong (R.left from.old) result }
+    ensures sound { OnOk result ((R.seen from.new).failures ≡ (R.seen from.old).failures) }
+    ensures told { TellsFailure (R.seen from.old).failures (R.seen from.new).failures result }
+    ensures untold { TellsNoOther (R.seen from.old).failures (R.seen from.new).failures result }
+    ensures long { IsTooLong (R.seen from.old).left result }
     ensures placed { HasLineIfInText result }
     ensures numbered { IsReadNumber 10 255 result }
-    ensures end { OnOk result (IsAtEnd (R.left from.new)) }
-    ensures asked { R.asked from.new ≤ R.asked from.old + 4294967297 }
-    ensures once { FailsOnce (R.failures from.old) (R.failures from.new) result }
-    ensures before_failure { IfErr result (λ f. f.number ≡ 1 →
-        FailsAfter (IsUnbroken T.meaning parser) (R.left from.old) (R.left from.new)) }
-    ensures before_memory { IfErr result (λ f. f.number ≡ 3 →
-        RunsOutAfter (IsUnbroken T.meaning parser) (R.left from.old) (R.left from.new)) }
+    ensures end { OnOk result (IsAtEnd (R.seen from.new).left) }
+    ensures asked { (R.seen from.new).asked ≤ (R.seen from.old).asked + 4294967297 }
+    ensures once { FailsOnce (R.seen from.old).failures (R.seen from.new).failures result }
+    ensures before_failure { IfErr result (λ f. f.number ≡ 1 → FailsAfter
+        (IsUnbroken T.meaning parser) (R.seen from.old).left (R.seen from.new).left) }
+    ensures before_memory { IfErr result (λ f. f.number ≡ 3 → RunsOutAfter
+        (IsUnbroken T.meaning parser) (R.seen from.old).left (R.seen from.new).left) }
 {
     match read_text(from, parser) {
         Ok(value) => Ok(value),

@@ -9,5 +9,5 @@ use Rattle.answer_text.proofs.reading.read_answers.Goals as goal
 pub returns : goal.returns
 returns g c = let s = c.new.result in let n = c.args.n in let new = c.new.ensures in let e = c.read_whole.ensures in
     reads_text (answer_rules n) answer_list answer_meaning s (by_value s n new.begun new.n)
-    (by_fault s n new.begun new.n) g.R.RoadRead.left g.R.RoadRead.failures g.R.RoadRead.asked c.args.from.now c.read_whole.new.from 30 36 (answers_line n) (answers_end n)
+    (by_fault s n new.begun new.n) (g.R.RoadRead.seen c.args.from.now) (g.R.RoadRead.seen c.read_whole.new.from) 30 36 (answers_line n) (answers_end n)
     c.read_whole.result e.value e.some_text e.fault e.some_fault e.sound e.told e.untold e.long e.placed e.numbered e.end e.asked e.once e.before_failure e.before_memory

@@ -5,5 +5,5 @@ use Rattle.answer_text.specs.AnswerData.{answer_data}
 use Rattle.answer_text.proofs.writing.write_blocks.Given as goal
 
 abbrev pub invariant-loop-answer : goal.invariant-loop-answer
-invariant-loop-answer g l = WrotePrefix (g.W.RoadWrite.written l.fn.to) (g.W.RoadWrite.written l.to) (g.W.RoadWrite.failures l.fn.to) (g.W.RoadWrite.failures l.to)
+invariant-loop-answer g l = WrotePrefix (g.W.RoadWrite.seen l.fn.to) (g.W.RoadWrite.seen l.to)
     (blocks_text (map answer_data l.answers)) (blocks_text (map answer_data (drop l.answer-index l.answers)))

@@ -8,6 +8,6 @@ use Rattle.answer_text.proofs.writing.write_vertices.Given as goal
 abbrev pub invariant-loop-line : goal.invariant-loop-line
 invariant-loop-line g l = record {
   vertex : l.vertex ≡ l.line-index;
-  left : WrotePrefix (g.W.RoadWrite.written l.fn.to) (g.W.RoadWrite.written l.to) (g.W.RoadWrite.failures l.fn.to) (g.W.RoadWrite.failures l.to)
+  left : WrotePrefix (g.W.RoadWrite.seen l.fn.to) (g.W.RoadWrite.seen l.to)
       (text_of (vertex_lines 1 l.lines)) (vertices_from l.line-index l.lines);
 }

@@ -7,5 +7,5 @@ use Rattle.road_files.specs.WrittenQuestions.{question_words}
 use Rattle.road_files.proofs.writing.write_lists.Given as goal
 
 abbrev pub invariant-loop-list : goal.invariant-loop-list
-invariant-loop-list g l = WrotePrefix (g.W.RoadWrite.written l.fn.to) (g.W.RoadWrite.written l.to) (g.W.RoadWrite.failures l.fn.to) (g.W.RoadWrite.failures l.to)
+invariant-loop-list g l = WrotePrefix (g.W.RoadWrite.seen l.fn.to) (g.W.RoadWrite.seen l.to)
     (text_of (map question_words (map of_list l.lists))) (lines_from question_words l.list-index (map of_list l.lists))

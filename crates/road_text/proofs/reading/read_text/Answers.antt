@@ -28,18 +28,18 @@ loop-preserved g c = record {
 
 pub returns-in-Ok-eq0-clause-value : goal.returns-in-Ok-eq0-clause-value
 returns-in-Ok-eq0-clause-value g c =
-    let gone : Consumes (g.R.RoadRead.left c.loop.from) (g.R.RoadRead.left c.read.new.self) [] =
-    subst (λ (n : ℕ). Consumes (g.R.RoadRead.left c.loop.from) (g.R.RoadRead.left c.read.new.self) (take n c.read.new.buf)) c.in-Ok-eq0.field-0-test c.in-Ok-eq0.ensures.bytes.0 in
-    let ended : IsAtEnd (g.R.RoadRead.left c.read.new.self) = c.in-Ok-eq0.ensures.bytes.1 c.in-Ok-eq0.field-0-test
+    let gone : Consumes (g.R.RoadRead.seen c.loop.from).left (g.R.RoadRead.seen c.read.new.self).left [] =
+    subst (λ (n : ℕ). Consumes (g.R.RoadRead.seen c.loop.from).left (g.R.RoadRead.seen c.read.new.self).left (take n c.read.new.buf)) c.in-Ok-eq0.field-0-test c.in-Ok-eq0.ensures.bytes.0 in
+    let ended : IsAtEnd (g.R.RoadRead.seen c.read.new.self).left = c.in-Ok-eq0.ensures.bytes.1 c.in-Ok-eq0.field-0-test
     (omega (arith, c.next_piece.ensures.some, length-take-le c.next_piece.result c.loop.buffer (omega (arith, c.next_piece.ensures.bound)))) in
     IfOk-weaker c.finish.result _ _ (λ v h. has_read_value g.T.LineParser.meaning c.args.parser _ _ _ c.loop.reader v c.loop.reader.few_bytes c.loop.invariant.has_read gone ended
     h) c.finish.ensures.ok
 
 pub returns-in-Ok-eq0-clause-stops : goal.returns-in-Ok-eq0-clause-stops
 returns-in-Ok-eq0-clause-stops g c =
-    let gone : Consumes (g.R.RoadRead.left c.loop.from) (g.R.RoadRead.left c.read.new.self) [] =
-    subst (λ (n : ℕ). Consumes (g.R.RoadRead.left c.loop.from) (g.R.RoadRead.left c.read.new.self) (take n c.read.new.buf)) c.in-Ok-eq0.field-0-test c.in-Ok-eq0.ensures.bytes.0 in
-    let ended : IsAtEnd (g.R.RoadRead.left c.read.new.self) = c.in-Ok-eq0.ensures.bytes.1 c.in-Ok-eq0.field-0-test
+    let gone : Consumes (g.R.RoadRead.seen c.loop.from).left (g.R.RoadRead.seen c.read.new.self).left [] =
+    subst (λ (n : ℕ). Consumes (g.R.RoadRead.seen c.loop.from).left (g.R.RoadRead.seen c.read.new.self).left (take n c.read.new.buf)) c.in-Ok-eq0.field-0-test c.in-Ok-eq0.ensures.bytes.0 in
+    let ended : IsAtEnd (g.R.RoadRead.seen c.read.new.self).left = c.in-Ok-eq0.ensures.bytes.1 c.in-Ok-eq0.field-0-test
     (omega (arith, c.next_piece.ensures.some, length-take-le c.next_piece.result c.loop.buffer (omega (arith, c.next_piece.ensures.bound)))) in
     IfErr-weaker c.finish.result _ _ (λ h p. stops_at_end g.T.LineParser.meaning c.args.parser _ _ _ _ _ c.loop.reader h c.loop.reader.few_bytes
     (c.in-Ok-eq0.ensures.sound ∙ c.loop.invariant.sound) c.loop.invariant.has_read gone ended p) c.finish.ensures.err
@@ -73,8 +73,8 @@ returns-in-Err-clause-stops_after g c = (
 
 pub returns-in-Ok-eq0-clause-stops_after : goal.returns-in-Ok-eq0-clause-stops_after
 returns-in-Ok-eq0-clause-stops_after g c =
-    let gone : Consumes (g.R.RoadRead.left c.loop.from) (g.R.RoadRead.left c.read.new.self) [] =
-    subst (λ (n : ℕ). Consumes (g.R.RoadRead.left c.loop.from) (g.R.RoadRead.left c.read.new.self) (take n c.read.new.buf)) c.in-Ok-eq0.field-0-test c.in-Ok-eq0.ensures.bytes.0 in
+    let gone : Consumes (g.R.RoadRead.seen c.loop.from).left (g.R.RoadRead.seen c.read.new.self).left [] =
+    subst (λ (n : ℕ). Consumes (g.R.RoadRead.seen c.loop.from).left (g.R.RoadRead.seen c.read.new.self).left (take n c.read.new.buf)) c.in-Ok-eq0.field-0-test c.in-Ok-eq0.ensures.bytes.0 in
     IfErr-weaker c.finish.result _ _ (λ h p. stops_after_end g.T.LineParser.meaning c.args.parser g.met.T.LineParser.stops_short _ _ _ _ _ c.loop.reader h c.loop.reader.few_bytes
     c.loop.invariant.has_read gone p) c.finish.ensures.err
 

@@ -1,4 +1,4 @@
-use Rattle.std.proofs.Common.{◌≡◌, [], ◌≤◌, ℕ, List, ap, arith, length, drop, drop_of_length-le}
+use Rattle.std.proofs.Common.{◌≤◌, ℕ, List, ap, arith, length, drop_of_length-le}
 use Rattle.answer_text.proofs.vertex_lines.VertexLine.clear.Goals as goal
 
 pub returns-clause-bytes : goal.returns-clause-bytes

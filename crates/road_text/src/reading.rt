@@ -34,6 +34,8 @@ fn next_piece(count: u64) -> usize
 }
 
 /// Reads what the reader has left as one text, and returns what it gives.
+// Not inlined, so that a caller that reads several texts has one buffer on its stack at a time.
+#[inline(never)]
 pub fn read_text<R: RoadRead, T: LineParser>(from: &mut R, parser: T) -> Result<T::Value, Halt>
     requires { T.meaning.so_far parser [] }
     ensures value { IfOk result (λ v. IfSome (R.seen from.old).left (λ all. TextGives T.meaning

@@ -3,5 +3,5 @@ use Rattle.std.proofs.Common.{arith}
 use Rattle.std.proofs.lemmas.Grind.{common_steps}
 use Rattle.road_text.proofs.number_fields.limited_number.Goals as goal
 
-pub overflow_cast-result : goal.overflow_cast-result
-overflow_cast-result c = grind (arith, common_steps)
+pub returns-in-Some-2-clause-limit : goal.returns-in-Some-2-clause-limit
+returns-in-Some-2-clause-limit c = grind (arith, common_steps)

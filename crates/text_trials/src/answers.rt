@@ -1,5 +1,5 @@
 //! Worked answers written and read, faults by their lines, and a writer that fails at each byte.
-ghost use Rattle.std.specs.Prelude.{◌≡◌, ◌<◌, ◌≤◌, Some, length};
+ghost use Rattle.std.specs.Prelude.{◌≡◌, ◌<◌, ◌≤◌, Some, length, refl, []};
 
 use answer_text::{
     Answer, Answers, Found, Reached, VertexLine, read_answers, write_answer, write_answers,
@@ -52,9 +52,12 @@ impl Sheet {
 }
 
 impl RoadWrite for Sheet {
-    ghost written = { λ s. Some s.bytes.items };
-
-    ghost failures = { λ s. s.failed.total };
+    ghost seen = { λ s. record {
+      state = s;
+      written = Some s.bytes.items;
+      held = [];
+      failures = s.failed.total;
+    } };
 
     fn write(&mut self, buf: &[u8]) -> Result<usize, WriteFault> {
         let mut taken = self.room.saturating_sub(self.bytes.len());
@@ -77,6 +80,8 @@ impl RoadWrite for Sheet {
     fn flush(&mut self) -> Result<(), WriteFault> {
         Ok(())
     }
+
+    ghost itself = { λ _. refl };
 }
 
 fn reached(code: u64, hops: u32, parent: u32) -> Option<Reached> {

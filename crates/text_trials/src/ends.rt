@@ -1,5 +1,5 @@
 //! A reader that gives pieces and then may fail, and a writer that takes a byte at a time and then fails.
-ghost use Rattle.std.specs.Prelude.{◌≡◌, ◌<◌, ◌≤◌, Some};
+ghost use Rattle.std.specs.Prelude.{◌≡◌, ◌<◌, ◌≤◌, Some, refl, []};
 
 use ghost_count::Count;
 use road_text::{ReadFailed, RoadRead, RoadWrite, WriteFault};
@@ -31,11 +31,12 @@ impl<'a> Pieces<'a> {
 }
 
 impl RoadRead for Pieces<'_> {
-    ghost left = { λ p. Some p.bytes.now };
-
-    ghost failures = { λ p. p.failed.total };
-
-    ghost asked = { λ p. p.reads.total };
+    ghost seen = { λ p. record {
+      state = p;
+      left = Some p.bytes.now;
+      failures = p.failed.total;
+      asked = p.reads.total;
+    } };
 
     fn read(&mut self, buf: &mut [u8]) -> Result<usize, ReadFailed> {
         self.reads = self.reads.next();
@@ -55,6 +56,8 @@ impl RoadRead for Pieces<'_> {
         self.bytes = rest;
         Ok(taken)
     }
+
+    ghost itself = { λ _. refl };
 }
 
 /// Takes one byte at a time as long as there is room, and then fails; its flush may fail too.
@@ -78,9 +81,12 @@ impl Sheet {
 }
 
 impl RoadWrite for Sheet {
-    ghost written = { λ s. Some s.bytes.items };
-
-    ghost failures = { λ s. s.failed.total };
+    ghost seen = { λ s. record {
+      state = s;
+      written = Some s.bytes.items;
+      held = [];
+      failures = s.failed.total;
+    } };
 
     fn write(&mut self, buf: &[u8]) -> Result<usize, WriteFault> {
         if buf.is_empty() {
@@ -100,4 +106,6 @@ impl RoadWrite for Sheet {
         self.failed = self.failed.next();
         Err(WriteFault)
     }
+
+    ghost itself = { λ _. refl };
 }

@@ -1,5 +1,5 @@
 //! A small kind of text, read in pieces and with failures, and the writers over an output that fills up.
-ghost use Rattle.std.specs.Prelude.{◌≡◌, ◌<◌, ◌≤◌, ◌+◌, ◌^◌, ℕ, List, Some, Ok, length, map, refl, IfOk, IfErr, IfSome};
+ghost use Rattle.std.specs.Prelude.{◌≡◌, ◌<◌, ◌≤◌, ◌+◌, ◌^◌, ℕ, List, Some, Ok, length, map, refl, IfOk, IfErr, IfSome, []};
 ghost use Rattle.text_trials.specs.Numbers.{below_top, numbers_line, numbers_rules};
 ghost use Rattle.road_text.specs.Reads.{ReadsValue, ReadsFault, TellsFailure, TellsNoOther, IsReadNumber};
 ghost use Rattle.road_text.specs.Slots.{word_in};
@@ -85,10 +85,10 @@ impl LineParser for NumberParser {
 
 /// The numbers of a text.
 fn read_numbers<R: RoadRead>(alloc: Global, from: &mut R) -> Result<Vec<u64>, ReadFault>
-    ensures value { ReadsValue numbers_rules (λ v. v.items) (R.left from.old) result }
-    ensures fault { ReadsFault numbers_rules (R.left from.old) result }
-    ensures told { TellsFailure (R.failures from.old) (R.failures from.new) result }
-    ensures untold { TellsNoOther (R.failures from.old) (R.failures from.new) result }
+    ensures value { ReadsValue numbers_rules (λ v. v.items) (R.seen from.old).left result }
+    ensures fault { ReadsFault numbers_rules (R.seen from.old).left result }
+    ensures told { TellsFailure (R.seen from.old).failures (R.seen from.new).failures result }
+    ensures untold { TellsNoOther (R.seen from.old).failures (R.seen from.new).failures result }
     ensures numbered { IsReadNumber 10 255 result }
 {
     read_whole(
@@ -116,9 +116,12 @@ impl Sheet {
 }
 
 impl RoadWrite for Sheet {
-    ghost written = { λ s. Some s.bytes.items };
-
-    ghost failures = { λ s. s.failed.total };
+    ghost seen = { λ s. record {
+      state = s;
+      written = Some s.bytes.items;
+      held = [];
+      failures = s.failed.total;
+    } };
 
     fn write(&mut self, buf: &[u8]) -> Result<usize, WriteFault> {
         let mut taken = 32 - self.bytes.len();
@@ -138,6 +141,8 @@ impl RoadWrite for Sheet {
     fn flush(&mut self) -> Result<(), WriteFault> {
         Ok(())
     }
+
+    ghost itself = { λ _. refl };
 }
 
 /// The sum of the numbers, or the fault's number and line.

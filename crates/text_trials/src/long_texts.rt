@@ -1,5 +1,7 @@
 //! Texts of 2^32 bytes and more, and a reader of std that fails once.
 
+ghost use Rattle.std.specs.Prelude.{refl, None};
+
 use ghost_count::Count;
 use graph_text::read_gr;
 use road_text::{Plain, ReadFailed, RoadRead};
@@ -25,9 +27,12 @@ impl Comment {
 }
 
 impl RoadRead for Comment {
-    ghost failures = { λ c. c.failed.total };
-
-    ghost asked = { λ c. c.reads.total };
+    ghost seen = { λ c. record {
+      state = c;
+      left = None;
+      failures = c.failed.total;
+      asked = c.reads.total;
+    } };
 
     fn read(&mut self, buf: &mut [u8]) -> Result<usize, ReadFailed> {
         self.reads = self.reads.next();
@@ -38,6 +43,8 @@ impl RoadRead for Comment {
         buf.fill(b'c');
         Ok(buf.len())
     }
+
+    ghost itself = { λ _. refl };
 }
 
 /// Fails at its first read, and is at its end from then on.

@@ -21,8 +21,8 @@ fault_from ns none cut ls f h = subst (λ (start : List ℕ). value_of_lines cut
 
 pub returns-clause-value : goal.returns-clause-value
 returns-clause-value g c = let ns = c.new.result.items in let none = c.new.ensures.items in
-    reads_value numbers_rules (λ v. v.items) meaning ns (value_from ns none) (fault_from ns none) (g.R.RoadRead.left c.args.from.now) c.read_whole.result c.read_whole.ensures.value
+    reads_value numbers_rules (λ v. v.items) meaning ns (value_from ns none) (fault_from ns none) (g.R.RoadRead.seen c.args.from.now).left c.read_whole.result c.read_whole.ensures.value
 
 pub returns-clause-fault : goal.returns-clause-fault
 returns-clause-fault g c = let ns = c.new.result.items in let none = c.new.ensures.items in
-    reads_fault numbers_rules (λ v. v.items) meaning ns (value_from ns none) (fault_from ns none) (g.R.RoadRead.left c.args.from.now) c.read_whole.result c.read_whole.ensures.fault
+    reads_fault numbers_rules (λ v. v.items) meaning ns (value_from ns none) (fault_from ns none) (g.R.RoadRead.seen c.args.from.now).left c.read_whole.result c.read_whole.ensures.fault

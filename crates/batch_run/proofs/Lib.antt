@@ -6,15 +6,9 @@ mod Existing
 pub mod Prefixes
 mod OfInputs
 mod Together
-mod QuestionKinds
 mod SourcesToCome
 mod NextDiffusions
 mod Moved
-mod Searches
-mod LastSolved
-mod KeptLabels
-mod PairAnswers
-mod FactorCosts
 mod Reporting
 mod Flushing
 mod FileFaults

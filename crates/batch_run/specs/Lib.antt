@@ -1,7 +1,6 @@
 pub mod InRange
 pub mod Choice
 pub mod WrittenLines
-pub mod Solved
 pub mod Diffusions
 pub mod Answered
 pub mod Ran

@@ -21,7 +21,7 @@ use worker_fleet::Gate;
 /// Answers the question at a place: solves it, writes its answer and reports that it is answered.
 fn answer_next<A: PathAlgebra, W: RoadWrite, R: Threads + Wait + Sync, T: Gate, O: Watcher>(
     batch: &Batch<'_, A, R, T>,
-    solver: &mut Solver<A::Value>,
+    solver: &mut Solver<A>,
     i: usize,
     out: &mut W,
     watcher: &mut O,
@@ -60,7 +60,7 @@ fn answer_next<A: PathAlgebra, W: RoadWrite, R: Threads + Wait + Sync, T: Gate, 
 /// Answers all questions in order, writes the answers, and stops at the first fault. Nothing is flushed.
 pub fn answer_all<A: PathAlgebra, W: RoadWrite, R: Threads + Wait + Sync, T: Gate, O: Watcher>(
     batch: &Batch<'_, A, R, T>,
-    solver: &mut Solver<A::Value>,
+    solver: &mut Solver<A>,
     out: &mut W,
     watcher: &mut O,
 ) -> Result<(), RunFault>

@@ -1,11 +1,12 @@
 //! What the questions of a batch have in common.
-ghost use Rattle.std.specs.Prelude.{◌≤◌, length};
+ghost use Rattle.std.specs.Prelude.{◌≡◌, ◌≤◌, length};
 ghost use Rattle.road_files.specs.Asked.{AskWithin, AskWithin-prop, asked_of};
 ghost use Rattle.batch_run.specs.InRange.{AreInRange};
 
 use crate::settings::Settings;
 use graph_text::FromArcs;
 use path_algebra::PathAlgebra;
+use question_solvers::Task;
 use road_files::Questions;
 use std::alloc::Global;
 
@@ -29,6 +30,22 @@ pub struct Batch<'b, A: PathAlgebra, R, T> {
     pub algebra: A,
     pub questions: &'b Questions,
     ghost in_range: { AreInRange run.now.settings.now },
+}
+
+impl<'b, A: PathAlgebra, R, T> Batch<'b, A, R, T> {
+    /// The same as a task of the solvers that need no diffusion.
+    pub(crate) fn task(&self) -> Task<'b, A, R>
+        ensures algebra { result.algebra ≡ self.now.algebra }
+        ensures questions { result.questions.now ≡ self.now.questions.now }
+    {
+        Task {
+            rt: self.run.rt,
+            alloc: self.run.alloc,
+            algebra: self.algebra,
+            questions: self.questions,
+            width: self.run.settings.width as usize,
+        }
+    }
 }
 
 /// A batch over the graph of a solver.

@@ -56,7 +56,7 @@ pub(crate) fn answer_and_flush<
     O: Watcher,
 >(
     batch: &Batch<'_, A, R, T>,
-    solver: &mut Solver<A::Value>,
+    solver: &mut Solver<A>,
     out: &mut W,
     watcher: &mut O,
 ) -> Result<(), RunFault>

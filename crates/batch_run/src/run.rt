@@ -12,9 +12,10 @@ use crate::faults::{File, RunFault, SETTINGS, fault_of_run};
 use crate::flush::answer_and_flush;
 use crate::inputs::BatchInput;
 use crate::settings::SolverKind;
-use crate::solve::{FactorSolver, PlainSolver, Solver, WorkerSolver};
+use crate::solve::{Solver, WorkerSolver};
 use crate::watcher::Watcher;
 use path_algebra::PathAlgebra;
+use question_solvers::{FactorSolver, PlainSolver};
 use road_files::Questions;
 use road_graph::{Graph, OutGraph};
 use road_text::RoadWrite;
@@ -23,10 +24,10 @@ use std::thread::Threads;
 use worker_fleet::Gate;
 
 /// Reads the graph and the questions of a batch, and makes the solver that the settings choose.
-fn read_batch<V: Copy, I: BatchInput, R, T>(
+fn read_batch<A: PathAlgebra, I: BatchInput, R, T>(
     run: &Run<'_, R, T>,
     input: &mut I,
-) -> Result<(Solver<V>, Questions), RunFault>
+) -> Result<(Solver<A>, Questions), RunFault>
     ensures kind { IfOk result (λ r. is_plain r.0 ≡ without_diffusions run.now.settings.now) }
     ensures read { IfOk result (λ r. I.is_read input.old (graph_of r.0) (asked_of r.1)) }
     ensures within { IfOk result (λ r. AreQuestionsOf (graph_of r.0).vertices r.1) }

@@ -4,38 +4,28 @@ ghost use Rattle.road_graph.specs.GraphData.{IsGraph};
 ghost use Rattle.road_files.specs.Asked.{AreQuestionsOf, Question, asked_of};
 ghost use Rattle.worker_fleet.specs.Stops.{Says};
 ghost use Rattle.batch_run.specs.Reports.{ReportedAllOrPrefix, accounts_due};
-ghost use Rattle.batch_run.specs.Solved.{IsSolvedFor};
+ghost use Rattle.question_solvers.specs.Solved.{IsSolvedFor};
 ghost use Rattle.batch_run.specs.Solvers.{IsReady, IsSameSolver, graph_of, is_plain, last_of};
 
 mod diffusion;
-mod factor_solver;
-mod factors;
 mod group;
 mod merge;
 mod pace;
-mod pair;
-mod pair_labels;
-mod plain;
-mod plain_solver;
 mod queue;
 mod schedule;
-mod searched;
-mod side_by_side;
-mod solved;
 mod upcoming;
 mod workers;
 
 use crate::batch::Batch;
-use crate::solve::factors::{solve_next_by_factors, start_factors};
-use crate::solve::plain::{solve_next_plainly, start_plain};
 use crate::solve::workers::{solve_next_by_workers, start_workers};
 use crate::watcher::Watcher;
-pub use factor_solver::FactorSolver;
 use path_algebra::PathAlgebra;
-pub use plain_solver::PlainSolver;
+use question_solvers::{
+    FactorSolver, PlainSolver, Solved, solve_next_by_factors, solve_next_plainly, start_factors,
+    start_plain,
+};
 use road_graph::Memory;
 pub(crate) use schedule::count_diffusions;
-pub use solved::Solved;
 use std::sync::Wait;
 use std::thread::Threads;
 use worker_fleet::{Gate, GroupFault};
@@ -45,13 +35,13 @@ pub use workers::WorkerSolver;
 ///
 /// It is an enum and no trait: the method of an `impl` can't call what sends a value of a type parameter to a thread.
 #[derive(Drop)]
-pub enum Solver<V: Copy> {
-    Plain(PlainSolver<V>),
-    Factors(FactorSolver<V>),
-    Workers(WorkerSolver<V>),
+pub enum Solver<A: PathAlgebra> {
+    Plain(PlainSolver<A>),
+    Factors(FactorSolver<A>),
+    Workers(WorkerSolver<A::Value>),
 }
 
-impl<V: Copy> Solver<V> {
+impl<A: PathAlgebra> Solver<A> {
     /// Whether it solves without diffusions.
     pub(crate) fn is_plain(&self) -> bool
         ensures { result ≡ is_plain self.now }
@@ -68,14 +58,8 @@ impl<V: Copy> Solver<V> {
         ensures graph { IsGraph (graph_of self.now) }
     {
         match self {
-            Solver::Plain(solver) => {
-                solver.graph.holds();
-                solver.graph.vertices()
-            }
-            Solver::Factors(solver) => {
-                solver.plain.graph.holds();
-                solver.plain.graph.vertices()
-            }
+            Solver::Plain(solver) => solver.vertices(),
+            Solver::Factors(solver) => solver.vertices(),
             Solver::Workers(solver) => {
                 solver.graph.holds();
                 solver.graph.vertices()
@@ -84,16 +68,13 @@ impl<V: Copy> Solver<V> {
     }
 
     /// What it solved last.
-    pub(crate) fn last(&self) -> &Solved<V>
+    pub(crate) fn last(&self) -> &Solved<A::Value>
         requires { IsSome (last_of self.now) }
         ensures { last_of self.now ≡ Some result.now }
     {
         match self {
-            Solver::Plain(solver) => &solver.last_searched().solved,
-            Solver::Factors(solver) => match &solver.last {
-                Some(solved) => solved,
-                None => &solver.plain.last_searched().solved,
-            },
+            Solver::Plain(solver) => solver.last(),
+            Solver::Factors(solver) => solver.last(),
             Solver::Workers(solver) => {
                 let Some(solved) = &solver.last else {
                     unreachable!()
@@ -107,15 +88,15 @@ impl<V: Copy> Solver<V> {
 /// Makes a solver ready for the first question of a batch. The only error is want of memory.
 pub(crate) fn start<A: PathAlgebra, R, T>(
     batch: &Batch<'_, A, R, T>,
-    solver: &mut Solver<A::Value>,
+    solver: &mut Solver<A>,
 ) -> Result<(), Memory>
     ensures same { IsSameSolver solver.old solver.new }
     ensures ready { OnOk result (IsReady (A.meaning batch.now.algebra)
         (asked_of batch.now.questions.now) 0 solver.new) }
 {
     match solver {
-        Solver::Plain(solver) => start_plain(batch, solver),
-        Solver::Factors(solver) => start_factors(batch, solver),
+        Solver::Plain(solver) => start_plain(&batch.task(), solver),
+        Solver::Factors(solver) => start_factors(&batch.task(), solver),
         Solver::Workers(solver) => start_workers(batch, solver),
     }
 }
@@ -123,7 +104,7 @@ pub(crate) fn start<A: PathAlgebra, R, T>(
 /// Solves the question at a place, the next one. Each diffusion is reported.
 pub(crate) fn solve_next<A: PathAlgebra, R: Threads + Wait + Sync, T: Gate, O: Watcher>(
     batch: &Batch<'_, A, R, T>,
-    solver: &mut Solver<A::Value>,
+    solver: &mut Solver<A>,
     i: usize,
     watcher: &mut O,
 ) -> Result<(), GroupFault>
@@ -146,11 +127,11 @@ pub(crate) fn solve_next<A: PathAlgebra, R: Threads + Wait + Sync, T: Gate, O: W
         watcher.new result }
 {
     match solver {
-        Solver::Plain(solver) => match solve_next_plainly(batch, solver, i) {
+        Solver::Plain(solver) => match solve_next_plainly(&batch.task(), solver, i) {
             Ok(()) => Ok(()),
             Err(_) => Err(GroupFault::Memory),
         },
-        Solver::Factors(solver) => match solve_next_by_factors(batch, solver, i) {
+        Solver::Factors(solver) => match solve_next_by_factors(&batch.task(), solver, i) {
             Ok(()) => Ok(()),
             Err(_) => Err(GroupFault::Memory),
         },

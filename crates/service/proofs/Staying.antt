@@ -9,7 +9,7 @@ use Rattle.batch_run.specs.Choice.{without_diffusions}
 use Rattle.batch_run.specs.Solvers.{IsSameSolver, graph_of, is_plain}
 use Rattle.service.specs.Answering.{MayAnswer, MayAnswerAs, MayAnswerBy}
 
-module _ {V : Type 0} (A : Algebra V) (how : Settings) (gate : ℕ → ℕ → Bool → Type 0) (s t : Solver V) (same : IsSameSolver s t) where
+module _ {S V : Type 0} (A : Algebra V) (how : Settings) (gate : ℕ → ℕ → Bool → Type 0) (s t : Solver S V) (same : IsSameSolver s t) where
   pub stays : (P : (Asked → List ℕ → Type 0) → Type 0) → P (MayAnswerBy A how gate t) → P (MayAnswerBy A how gate s)
   stays P h =
       subst (λ (b : Bool). P (MayAnswerAs A b how gate (graph_of s))) same.kind

@@ -47,5 +47,5 @@ abbrev pub MayAnswer : {V : Type 0} → Algebra V → Settings → (ℕ → ℕ 
 MayAnswer A how = MayAnswerAs A (without_diffusions how) how
 
 -- which of them if this solver answers
-abbrev pub MayAnswerBy : {V : Type 0} → Algebra V → Settings → (ℕ → ℕ → Bool → Type 0) → Solver V → Asked → List ℕ → Type 0
+abbrev pub MayAnswerBy : {S V : Type 0} → Algebra V → Settings → (ℕ → ℕ → Bool → Type 0) → Solver S V → Asked → List ℕ → Type 0
 MayAnswerBy A how gate s = MayAnswerAs A (is_plain s) how gate (graph_of s)

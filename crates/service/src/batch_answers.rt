@@ -27,7 +27,7 @@ impl<A: PathAlgebra, R: Threads + Wait + Sync, T: Gate> BatchAnswers<'_, A, R, T
     /// Writes the right answers; or the first of them, and then the line of the fault that stopped the run.
     pub(crate) fn answer<W: RoadWrite>(
         &self,
-        solver: &mut Solver<A::Value>,
+        solver: &mut Solver<A>,
         questions: &Questions,
         out: &mut W,
     ) -> Result<(), WriteFault>

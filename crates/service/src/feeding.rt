@@ -59,7 +59,7 @@ impl Service {
     fn end_line<A: PathAlgebra, R: Threads + Wait + Sync, T: Gate, W: RoadWrite>(
         &mut self,
         answers: &BatchAnswers<'_, A, R, T>,
-        solver: &mut Solver<A::Value>,
+        solver: &mut Solver<A>,
         out: &mut W,
     ) -> Result<(), WriteFault>
         requires { self.old.cutter.taker.questions.list.vertices ≡ (graph_of solver.old).vertices }
@@ -87,7 +87,7 @@ impl Service {
     pub fn feed<A: PathAlgebra, R: Threads + Wait + Sync, T: Gate, W: RoadWrite>(
         &mut self,
         answers: &BatchAnswers<'_, A, R, T>,
-        solver: &mut Solver<A::Value>,
+        solver: &mut Solver<A>,
         bytes: &[u8],
         out: &mut W,
     ) -> Result<(), Unfed>
@@ -133,7 +133,7 @@ impl Service {
     fn end_lines<A: PathAlgebra, R: Threads + Wait + Sync, T: Gate, W: RoadWrite>(
         &mut self,
         answers: &BatchAnswers<'_, A, R, T>,
-        solver: &mut Solver<A::Value>,
+        solver: &mut Solver<A>,
         out: &mut W,
     ) -> Result<(), WriteFault>
         requires { self.old.cutter.taker.questions.list.vertices ≡ (graph_of solver.old).vertices }
@@ -160,7 +160,7 @@ impl Service {
     fn end_request<A: PathAlgebra, R: Threads + Wait + Sync, T: Gate, W: RoadWrite>(
         &self,
         _answers: &BatchAnswers<'_, A, R, T>,
-        _solver: &Solver<A::Value>,
+        _solver: &Solver<A>,
         out: &mut W,
     ) -> Result<(), WriteFault>
         ensures replied { (at : ℕ) → self.now.line ≡ held_line at →
@@ -180,7 +180,7 @@ impl Service {
     pub fn finish<A: PathAlgebra, R: Threads + Wait + Sync, T: Gate, W: RoadWrite>(
         mut self,
         answers: &BatchAnswers<'_, A, R, T>,
-        solver: &mut Solver<A::Value>,
+        solver: &mut Solver<A>,
         out: &mut W,
     ) -> Result<(), WriteFault>
         requires { self.cutter.taker.questions.list.vertices ≡ (graph_of solver.old).vertices }

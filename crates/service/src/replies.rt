@@ -21,7 +21,7 @@ use std::thread::Threads;
 /// Writes an answer, and flushes the output.
 fn send_answer<A: PathAlgebra, R: Threads + Wait + Sync, T: Gate, W: RoadWrite>(
     answers: &BatchAnswers<'_, A, R, T>,
-    solver: &mut Solver<A::Value>,
+    solver: &mut Solver<A>,
     questions: &Questions,
     out: &mut W,
 ) -> Result<(), WriteFault>
@@ -49,7 +49,7 @@ fn reported_line(number: u8, line: u64) -> u64
 /// Replies to a request that has ended with this line.
 fn send_end<A: PathAlgebra, R: Threads + Wait + Sync, T: Gate, W: RoadWrite>(
     answers: &BatchAnswers<'_, A, R, T>,
-    solver: &mut Solver<A::Value>,
+    solver: &mut Solver<A>,
     ended: Option<Ended>,
     line: u64,
     out: &mut W,
@@ -73,7 +73,7 @@ fn send_end<A: PathAlgebra, R: Threads + Wait + Sync, T: Gate, W: RoadWrite>(
 /// Replies to the requests that have ended with a line.
 pub(crate) fn send_done<A: PathAlgebra, R: Threads + Wait + Sync, T: Gate, W: RoadWrite>(
     answers: &BatchAnswers<'_, A, R, T>,
-    solver: &mut Solver<A::Value>,
+    solver: &mut Solver<A>,
     done: LineDone,
     line: u64,
     out: &mut W,

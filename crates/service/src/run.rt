@@ -28,10 +28,10 @@ fn fault_of_requests(number: u8) -> RunFault
 }
 
 /// Reads a graph, and makes the solver that the settings choose.
-fn read_solver<V: Copy, G: RoadRead, R, T>(
+fn read_solver<A: PathAlgebra, G: RoadRead, R, T>(
     run: &Run<'_, R, T>,
     graph_in: &mut G,
-) -> Result<Solver<V>, ReadFault>
+) -> Result<Solver<A>, ReadFault>
     ensures reads { ReadsText G.left G.failures G.asked graph_in.old graph_in.new gr_rules graph_of
         10 19 result }
     ensures kind { IfOk result (λ s. is_plain s ≡ without_diffusions run.now.settings.now) }
@@ -98,7 +98,7 @@ pub fn run_service<
     if !run.settings.suit(algebra) {
         return Err(fault_of_run(SETTINGS));
     }
-    let mut solver: Solver<A::Value> = match read_solver(run, graph_in) {
+    let mut solver: Solver<A> = match read_solver(run, graph_in) {
         Ok(solver) => solver,
         Err(fault) => return Err(fault_in(File::Graph, fault)),
     };

@@ -47,7 +47,7 @@ fn ask<I: RoadRead, W: RoadWrite>(
 /// Replies to each request of an input, over the graph of the solver, as soon as it is whole.
 pub(crate) fn serve<A: PathAlgebra, I: RoadRead, W: RoadWrite, R: Threads + Wait + Sync, T: Gate>(
     answers: &BatchAnswers<'_, A, R, T>,
-    solver: &mut Solver<A::Value>,
+    solver: &mut Solver<A>,
     input: &mut I,
     out: &mut W,
 ) -> Result<(), Stopped>

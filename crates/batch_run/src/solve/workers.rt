@@ -6,17 +6,16 @@ ghost use Rattle.road_files.specs.Asked.{AreQuestionsOf, Question, asked_of, sou
 ghost use Rattle.worker_fleet.specs.Stops.{Says};
 ghost use Rattle.batch_run.specs.Diffusions.{AreNext, sources_to_come};
 ghost use Rattle.batch_run.specs.Reports.{ReportedAllOrPrefix, accounts_due};
-ghost use Rattle.batch_run.specs.Solved.{IsAnswerBetween, IsSolvedFor};
+ghost use Rattle.question_solvers.specs.Solved.{IsAnswerBetween, IsSolvedFor};
 ghost use Rattle.batch_run.specs.Solvers.{IsWorkerReady};
 
 use crate::batch::{Batch, BatchOver};
 use crate::solve::merge::merge_all;
-use crate::solve::pair::{answer_by, code_at};
 use crate::solve::queue::DiffusionQueue;
-use crate::solve::solved::Solved;
 use crate::watcher::Watcher;
 use answer_text::Answer;
 use path_algebra::{Labels, PathAlgebra};
+use question_solvers::{Solved, answer_by, code_at};
 use road_files::Questions;
 use road_graph::{Graph, Memory, Vertex};
 use route_tree::{route_between, tree_outgoing};

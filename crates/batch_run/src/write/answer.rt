@@ -4,15 +4,16 @@ ghost use Rattle.path_algebra.specs.Walks.{AreBest};
 ghost use Rattle.route_tree.specs.Tree.{IsTree};
 ghost use Rattle.road_files.specs.Asked.{AreQuestionsOf, Question, FromSource, FromSources, asked_of, sources_of};
 ghost use Rattle.batch_run.specs.Answered.{WroteAnswer};
-ghost use Rattle.batch_run.specs.Solved.{IsSolvedFor, IsTreeFrom};
+ghost use Rattle.question_solvers.specs.Solved.{IsSolvedFor, IsTreeFrom};
 ghost use Rattle.batch_run.specs.Solvers.{graph_of, last_of};
 
 use crate::batch::Batch;
 use crate::faults::Unanswered;
-use crate::solve::{Solved, Solver};
+use crate::solve::Solver;
 use crate::write::lines::{write_source, write_sources};
 use answer_text::write_answer;
 use path_algebra::{Labels, PathAlgebra};
+use question_solvers::Solved;
 use road_files::Questions;
 use road_graph::Vertex;
 use road_text::RoadWrite;
@@ -21,7 +22,7 @@ use route_tree::Tree;
 /// Writes the right answer to a question from one source to all vertices, by the tree of its best labels.
 fn answer_source<A: PathAlgebra, W: RoadWrite>(
     algebra: A,
-    solver: &Solver<A::Value>,
+    solver: &Solver<A>,
     source: Vertex,
     solved: (&Labels<A::Value>, &Tree),
     out: &mut W,
@@ -39,7 +40,7 @@ fn answer_source<A: PathAlgebra, W: RoadWrite>(
 /// Writes the right answer to a question from several sources to all vertices, by the tree of its best labels.
 fn answer_sources<A: PathAlgebra, W: RoadWrite>(
     algebra: A,
-    solver: &Solver<A::Value>,
+    solver: &Solver<A>,
     sources: &[Vertex],
     solved: (&Labels<A::Value>, &Tree),
     out: &mut W,
@@ -57,7 +58,7 @@ fn answer_sources<A: PathAlgebra, W: RoadWrite>(
 /// Writes the right answer to the question at a place, by the tree of its best labels.
 fn answer_by_tree<A: PathAlgebra, W: RoadWrite, R, T>(
     batch: &Batch<'_, A, R, T>,
-    solver: &Solver<A::Value>,
+    solver: &Solver<A>,
     i: usize,
     solved: (&Labels<A::Value>, &Tree),
     out: &mut W,
@@ -85,7 +86,7 @@ fn answer_by_tree<A: PathAlgebra, W: RoadWrite, R, T>(
 /// Writes the right answer to the question at a place, which was solved last.
 pub(crate) fn answer_at<A: PathAlgebra, W: RoadWrite, R, T>(
     batch: &Batch<'_, A, R, T>,
-    solver: &Solver<A::Value>,
+    solver: &Solver<A>,
     i: usize,
     out: &mut W,
 ) -> Result<(), Unanswered>

@@ -1,8 +1,8 @@
 use Rattle.std.specs.Prelude.{slice_get}
 use Rattle.road_files.specs.Asked.{asked_of}
-use Rattle.batch_run.specs.Solved.{IsSolvedFor}
-use Rattle.batch_run.specs.declared.solve.searched.Searched.{Searched}
-use Rattle.batch_run.proofs.LastSolved.{held_mapped}
+use Rattle.question_solvers.specs.Solved.{IsSolvedFor}
+use Rattle.question_solvers.specs.declared.searched.Searched.{Searched}
+use Rattle.question_solvers.proofs.LastSolved.{held_mapped}
 use Rattle.batch_run.proofs.solve.solve_next.Goals as goal
 
 pub returns-in-Ok-clause-solved : goal.returns-in-Ok-clause-solved

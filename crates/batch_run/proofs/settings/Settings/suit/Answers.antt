@@ -1,5 +1,5 @@
 use Rattle.std.proofs.Common.{rules}
-use Rattle.batch_run.proofs.FactorCosts.{carried_by}
+use Rattle.question_solvers.proofs.FactorCosts.{carried_by}
 use Rattle.batch_run.proofs.settings.Settings.suit.Goals as goal
 
 pub returns-clause-costs : goal.returns-clause-costs

@@ -7,7 +7,7 @@ use Rattle.path_algebra.specs.Walks.{AreBest}
 use Rattle.route_tree.specs.Tree.{IsTree}
 use Rattle.answer_text.specs.AnswerData.{answer_data}
 use Rattle.answer_text.specs.IsAnswer.{IsAnswer}
-use Rattle.batch_run.proofs.QuestionKinds.{no_pairs, pair_asked}
+use Rattle.question_solvers.proofs.QuestionKinds.{no_pairs, pair_asked}
 use Rattle.batch_run.proofs.solve.workers.solve_by_labels.Goals as goal
 
 pub answer_between-requires-clause-labels : goal.answer_between-requires-clause-labels

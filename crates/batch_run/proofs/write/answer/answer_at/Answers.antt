@@ -1,7 +1,7 @@
 use Rattle.std.proofs.lemmas.Result.{err_from_is_err_and}
 use Rattle.road_files.specs.Asked.{asked_of}
 use Rattle.answer_text.specs.AnswerData.{answer_data}
-use Rattle.batch_run.specs.Solved.{IsSolvedFor}
+use Rattle.question_solvers.specs.Solved.{IsSolvedFor}
 use Rattle.batch_run.specs.Solvers.{graph_of}
 use Rattle.batch_run.proofs.write.answer.answer_at.Goals as goal
 

@@ -1,7 +1,7 @@
 use Rattle.std.proofs.Common.{arith}
 use Rattle.road_files.specs.Asked.{FromSource}
 use Rattle.road_files.proofs.QuestionLaws.{in_sources, in_lists, source_at, list_at}
-use Rattle.batch_run.proofs.QuestionKinds.{are_pairs}
+use Rattle.question_solvers.proofs.QuestionKinds.{are_pairs}
 use Rattle.batch_run.proofs.write.answer.answer_by_tree.Goals as goal
 
 pub index-requires : goal.index-requires

@@ -1,0 +1,83 @@
+-- What is found for one question, for the same one at another place, and for several side by side.
+use Rattle.std.proofs.Common.{arith, ◌≡◌, ℕ, ◌<◌, ◌-◌, ap, ◌∙◌, List, [], ◌∷◌, ◌++◌, length, get_or, map, All, HoldsAt, Vec, Global, subst, sym}
+use Rattle.std.proofs.lemmas.List.Elements.{All-nil, All-cons, All-head, All-tail, All-push}
+use Rattle.std.proofs.lemmas.List.{get_or_push, length_push}
+use Rattle.std.specs.List.{AllZip}
+use Rattle.std.specs.Prelude.{Result, Ok, Err, IfOk, IfSome, MatchResult, Contains, slice_get}
+use Rattle.road_files.proofs.QuestionLaws.{any_of}
+use Rattle.std.proofs.lemmas.Option.{slice_get-get_or}
+use Rattle.road_graph.specs.GraphData.{GraphData}
+use Rattle.road_files.specs.Asked.{Question, Asked}
+use Rattle.path_algebra.specs.Algebra.{Algebra}
+use Rattle.question_solvers.specs.Solved.{IsSearched, IsSearchedAt, IsSolution, IsSolvedFor}
+use Rattle.question_solvers.specs.declared.solved.Solved.{Solved}
+use Rattle.question_solvers.specs.declared.searched.Searched.{Searched}
+
+module _ {V : Type 0} (A : Algebra V) (g : GraphData) (asked : Asked) where
+  -- what is solved for one question is so for the same one at another place
+  pub for_other : (i j : ℕ) (s : Solved V) → IsSolvedFor A g asked j s → ((d : Question) → get_or asked.questions j d ≡ get_or asked.questions i d) → IsSolvedFor A g asked i s
+  for_other i j s h same d = subst (λ (q : Question). IsSolution A g asked.kind q s) (same d) (h d)
+
+  pub at_own : (i : ℕ) (s : Searched V) → i < length asked.questions → IsSearchedAt A g asked i s → IsSearched A g asked s
+  at_own i s low h = record {
+    place = subst (λ k. k < length asked.questions) (sym h.place) low;
+    solved = subst (λ k. IsSolvedFor A g asked k s.solved) (sym h.place) h.solved;
+    kept = h.kept;
+  }
+
+  -- those of a group are each found for a question
+  pub all_own : (places : List ℕ) (ss : List (Searched V)) → All (λ k. k < length asked.questions) places → AllZip (IsSearchedAt A g asked) places ss → All (IsSearched A g asked) ss
+  all_own [] [] inside h = All-nil (IsSearched A g asked)
+  all_own [] (s ∷ ss) inside h = absurd h
+  all_own (k ∷ ks) [] inside h = absurd h
+  all_own (k ∷ ks) (s ∷ ss) inside h =
+      All-cons (IsSearched A g asked) s ss (at_own k s (All-head (λ j. j < length asked.questions) k ks inside) h.0) (all_own ks ss (All-tail (λ j. j < length asked.questions) k ks inside) h.1)
+
+  -- the first of a group answers the question at its first place
+  pub first_answers : (i : ℕ) (rest places : List ℕ) (ss : List (Searched V)) → places ≡ i ∷ rest → AllZip (IsSearchedAt A g asked) places ss →
+      (0 < length ss) × HoldsAt (λ s. IsSolvedFor A g asked i s.solved) ss 0
+  first_answers i rest places ss e h = go ss (subst (λ l. AllZip (IsSearchedAt A g asked) l ss) e h)
+    where
+      go : (ts : List (Searched V)) → AllZip (IsSearchedAt A g asked) (i ∷ rest) ts → (0 < length ts) × HoldsAt (λ s. IsSolvedFor A g asked i s.solved) ts 0
+      go [] p = absurd p
+      go (s ∷ ts) p = (omega arith, λ d. p.0.solved)
+
+module _ {V : Type 0} (A : Algebra V) (g : GraphData) (asked : Asked) (i : ℕ) where
+  -- of those that were found, one for the same question answers it
+  pub like_answers : (k : ℕ) (seen ss : List (Searched V)) → seen ≡ ss → All (IsSearched A g asked) ss → k < length seen
+      → HoldsAt (λ s. (d : Question) → get_or asked.questions s.place d ≡ get_or asked.questions i d) seen k → HoldsAt (λ s. IsSolvedFor A g asked i s.solved) ss k
+  like_answers k seen ss e all low same x =
+      let s = get_or ss k x in
+      for_other A g asked i s.place s.solved (all k x (subst (λ l. k < length l) e low)).solved
+      (subst (λ l. HoldsAt (λ (t : Searched V). (d : Question) → get_or asked.questions t.place d ≡ get_or asked.questions i d) l k) e same x)
+
+module _ {V : Type 0} (A : Algebra V) (g : GraphData) (asked : Asked) (i : ℕ) (s : Searched V) (old new : List (Searched V)) (added : new ≡ old ++ s ∷ []) (found : IsSearchedAt A g asked i s) where
+  -- what is added last answers its question
+  pub last_answers : (n : ℕ) → n ≡ length new → HoldsAt (λ t. IsSolvedFor A g asked i t.solved) new (n - 1)
+  last_answers n all x =
+      let place : length old ≡ n - 1 = omega (arith, all, ap length added, length_push old s) in
+      let at : get_or new (n - 1) x ≡ s = ap (λ (l : List (Searched V)). get_or l (n - 1) x) added ∙ get_or_push old s x (n - 1) place in
+      subst (λ (t : Searched V). IsSolvedFor A g asked i t.solved) (sym at) found.solved
+
+  pub all_added : i < length asked.questions → All (IsSearched A g asked) old → All (IsSearched A g asked) new
+  all_added low all = subst (All (IsSearched A g asked)) (sym added) (All-push (IsSearched A g asked) old s all (at_own A g asked i s low found))
+
+-- what each of a list came to, where none failed
+all_ok : {S : Type 0} (E : Type 0) (Holds : ℕ → S → Type 0) (places : List ℕ) (ss : List S) → AllZip (λ k (r : Result S E). IfOk r (Holds k)) places (map Ok ss) → AllZip Holds places ss
+all_ok E Holds [] [] h = tt
+all_ok E Holds [] (s ∷ ss) h = absurd h
+all_ok E Holds (k ∷ ks) [] h = absurd h
+all_ok E Holds (k ∷ ks) (s ∷ ss) h = (h.0, all_ok E Holds ks ss h.1)
+
+-- and gathered in the order of the list
+pub gathered : {S E : Type 0} (Holds : ℕ → S → Type 0) (places : List ℕ) (rs : List (Result S E)) (v : Result (Vec S Global) E) → AllZip (λ k r. IfOk r (Holds k)) places rs
+    → MatchResult v (λ c. (ss : List S) × (rs ≡ map Ok ss) × (c.items ≡ ss)) (λ e. Contains rs (Err e)) → IfOk v (λ c. AllZip Holds places c.items)
+gathered Holds places rs (Ok c) each (ss, were, is) = rw is (all_ok _ Holds places ss (subst (λ l. AllZip (λ k r. IfOk r (Holds k)) places l) were each))
+gathered Holds places rs (Err e) each h = tt
+
+-- the one at a place answers the question
+pub held_answers : {V : Type 0} (A : Algebra V) (g : GraphData) (asked : Asked) (i k : ℕ) (ss : List (Searched V)) → k < length ss → HoldsAt (λ s. IsSolvedFor A g asked i s.solved) ss k →
+    IfSome (slice_get ss k) (λ s. IsSolvedFor A g asked i s.solved)
+held_answers A g asked i k ss low h =
+    let d = any_of ss k low in
+    rw (slice_get-get_or ss k d low) (h d)

@@ -1,0 +1,21 @@
+//! Solves questions by searches and by the factors of their graph.
+#![tactic(auto)]
+
+mod factor_solver;
+mod factors;
+mod pair;
+mod pair_labels;
+mod plain;
+mod plain_solver;
+mod searched;
+mod side_by_side;
+mod solved;
+mod task;
+
+pub use factor_solver::FactorSolver;
+pub use factors::{solve_next_by_factors, start_factors};
+pub use pair::{answer_by, code_at};
+pub use plain::{solve_next_plainly, start_plain};
+pub use plain_solver::PlainSolver;
+pub use solved::Solved;
+pub use task::Task;

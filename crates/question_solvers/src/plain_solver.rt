@@ -1,0 +1,58 @@
+//! What the plain solver keeps between two questions.
+ghost use Rattle.std.specs.Prelude.{◌≡◌, IsSome, Some};
+ghost use Rattle.std.specs.Option.{ForSome};
+
+use crate::searched::Searched;
+use crate::solved::Solved;
+use path_algebra::PathAlgebra;
+use road_graph::{InGraph, OutGraph};
+use std::alloc::Global;
+
+/// Solves each question by one search on one thread, several side by side. A pair's search stops at its target. A question that was
+/// solved just before needs no new search, nor does a pair that the labels from its source serve. No worker is started and no gate is
+/// asked.
+#[derive(Drop)]
+pub struct PlainSolver<A: PathAlgebra> {
+    pub(crate) graph: OutGraph,
+    /// The rows of the graph's arcs by head, made once, when the first batch of pairs begins.
+    pub(crate) by_head: Option<InGraph>,
+    /// What was found side by side.
+    pub(crate) searched: Vec<Searched<A::Value>>,
+    /// Which of these answers the question that was solved last.
+    pub(crate) last: usize,
+    ghost rows: { ForSome by_head (λ rows. rows ≡ graph) },
+}
+
+impl<A: PathAlgebra> PlainSolver<A> {
+    ghost use Rattle.road_graph.specs.GraphData.{IsGraph};
+    ghost use Rattle.question_solvers.specs.Solvers.{last_of_plain};
+
+    /// The solver over a graph.
+    pub fn new(alloc: Global, graph: OutGraph) -> Self
+        ensures { result.graph ≡ graph }
+    {
+        PlainSolver {
+            graph,
+            by_head: None,
+            searched: Vec::new(alloc),
+            last: 0,
+        }
+    }
+
+    /// How many vertices the graph has.
+    pub fn vertices(&self) -> u32
+        ensures count { result ≡ self.now.graph.vertices }
+        ensures graph { IsGraph self.now.graph }
+    {
+        self.graph.holds();
+        self.graph.vertices()
+    }
+
+    /// What it solved last.
+    pub fn last(&self) -> &Solved<A::Value>
+        requires { IsSome (last_of_plain self.now) }
+        ensures { last_of_plain self.now ≡ Some result.now }
+    {
+        &self.searched[self.last].solved
+    }
+}

@@ -1,0 +1,91 @@
+//! What one search of the plain solver found, and which of several serves a question.
+ghost use Rattle.std.specs.Prelude.{◌≡◌, ◌<◌, ◌↔◌, [], ◌∷◌, ◌++◌, length, slice_index_or, All, HoldsAt, IfSome, IsTrue, OnErr, OnOk};
+ghost use Rattle.std.specs.Option.{IsSomeAnd};
+ghost use Rattle.road_files.specs.Asked.{Question, asked_of};
+
+use crate::pair_labels::PairLabels;
+use crate::solved::Solved;
+use road_files::{Questions, are_same};
+use road_graph::{Memory, Vertex};
+
+/// What the question at a place is solved to; and of a pair the labels, which may serve other pairs of its source.
+#[derive(Drop)]
+pub(crate) struct Searched<V: Copy> {
+    pub(crate) place: usize,
+    pub(crate) solved: Solved<V>,
+    pub(crate) kept: Option<PairLabels<V>>,
+}
+
+impl<V: Copy> Searched<V> {
+    /// Whether it has labels from a source.
+    fn is_from(&self, source: Vertex) -> bool
+        ensures { IsTrue result ↔ IsSomeAnd self.now.kept (λ p. p.source ≡ source) }
+    {
+        match &self.kept {
+            Some(kept) => kept.source == source,
+            None => false,
+        }
+    }
+}
+
+/// Adds what was found to the rest.
+pub(crate) fn add<V: Copy>(searched: &mut Vec<Searched<V>>, next: Searched<V>) -> Result<(), Memory>
+    ensures added { OnOk result (searched.new.items ≡ searched.old.items ++ next ∷ []) }
+    ensures kept { OnErr result (searched.new.items ≡ searched.old.items) }
+{
+    match searched.push(next) {
+        Ok(()) => Ok(()),
+        Err(_) => Err(Memory),
+    }
+}
+
+/// Whether two questions are the same.
+fn is_same(questions: &Questions, i: usize, j: usize) -> bool
+    requires first { i < length (asked_of questions.now).questions }
+    requires second { j < length (asked_of questions.now).questions }
+    ensures { IsTrue result → (default : Question) →
+        slice_index_or (asked_of questions.now).questions i default ≡
+        slice_index_or (asked_of questions.now).questions j default }
+{
+    match questions {
+        Questions::Sources(sources) => sources[i] == sources[j],
+        Questions::Pairs(pairs) => pairs[i] == pairs[j],
+        Questions::Multi(lists) => are_same(lists[i].as_slice(), lists[j].as_slice()),
+    }
+}
+
+/// Which of several solves the same question as the one at a place.
+pub(crate) fn find_same<V: Copy>(
+    searched: &[Searched<V>],
+    questions: &Questions,
+    i: usize,
+) -> Option<usize>
+    requires place { i < length (asked_of questions.now).questions }
+    requires places { All (λ s. s.place < length (asked_of questions.now).questions) searched.now }
+    ensures inside { IfSome result (λ k. k < length searched.now) }
+    ensures same { IfSome result
+        (HoldsAt (λ s. (default : Question) →
+        slice_index_or (asked_of questions.now).questions s.place default ≡
+        slice_index_or (asked_of questions.now).questions i default) searched.now) }
+{
+    for k in 0..searched.len() {
+        if is_same(questions, searched[k].place, i) {
+            return Some(k);
+        }
+    }
+    None
+}
+
+/// Which of several has labels from a source.
+pub(crate) fn find_from<V: Copy>(searched: &[Searched<V>], source: Vertex) -> Option<usize>
+    ensures inside { IfSome result (λ k. k < length searched.now) }
+    ensures from { IfSome result
+        (HoldsAt (λ s. IsSomeAnd s.kept (λ p. p.source ≡ source)) searched.now) }
+{
+    for k in 0..searched.len() {
+        if searched[k].is_from(source) {
+            return Some(k);
+        }
+    }
+    None
+}

@@ -33,11 +33,11 @@ last_of (Plain s) = last_of_plain s
 last_of (Factors s) = last_by_factors s.last s.plain
 last_of (Workers s) = s.last
 
--- what it holds is right for this algebra and question list, and the question at this place is the next one
-abbrev pub IsReady : {S V : Type 0} → Algebra V → Asked → ℕ → Solver S V → Type 0
-IsReady A asked i (Plain s) = IsPlainReady A asked s
-IsReady A asked i (Factors s) = IsFactorReady A asked s
-IsReady A asked i (Workers s) = IsWorkerReady A asked i s
+-- what it holds is right for this algebra, of this meaning, and question list, and the question at this place is the next one
+abbrev pub IsReady : {S V : Type 0} → (S → Algebra V) → S → Asked → ℕ → Solver S V → Type 0
+IsReady meaning algebra asked i (Plain s) = IsPlainReady meaning algebra asked s
+IsReady meaning algebra asked i (Factors s) = IsFactorReady meaning algebra asked s
+IsReady meaning algebra asked i (Workers s) = IsWorkerReady (meaning algebra) asked i s
 
 -- it is of one kind, over one graph, from the one moment to the other
 pub record IsSameSolver {S V : Type 0} (old new : Solver S V) : Type 0 where

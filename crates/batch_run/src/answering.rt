@@ -28,10 +28,10 @@ fn answer_next<A: PathAlgebra, W: RoadWrite, R: Threads + Wait + Sync, T: Gate, 
 ) -> Result<(), RunFault>
     requires place { i < length (asked_of batch.now.questions.now).questions }
     requires within { AreQuestionsOf (graph_of solver.old).vertices batch.now.questions.now }
-    requires ready { IsReady (A.meaning batch.now.algebra) (asked_of batch.now.questions.now) i
+    requires ready { IsReady A.meaning batch.now.algebra (asked_of batch.now.questions.now) i
         solver.old }
     ensures same { IsSameSolver solver.old solver.new }
-    ensures ready { OnOk result (IsReady (A.meaning batch.now.algebra)
+    ensures ready { OnOk result (IsReady A.meaning batch.now.algebra
         (asked_of batch.now.questions.now) (i + 1) solver.new) }
     ensures wrote { (default : Question) → WroteNext (A.meaning batch.now.algebra)
         (graph_of solver.old)

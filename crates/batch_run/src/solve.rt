@@ -91,7 +91,7 @@ pub(crate) fn start<A: PathAlgebra, R, T>(
     solver: &mut Solver<A>,
 ) -> Result<(), Memory>
     ensures same { IsSameSolver solver.old solver.new }
-    ensures ready { OnOk result (IsReady (A.meaning batch.now.algebra)
+    ensures ready { OnOk result (IsReady A.meaning batch.now.algebra
         (asked_of batch.now.questions.now) 0 solver.new) }
 {
     match solver {
@@ -110,10 +110,10 @@ pub(crate) fn solve_next<A: PathAlgebra, R: Threads + Wait + Sync, T: Gate, O: W
 ) -> Result<(), GroupFault>
     requires place { i < length (asked_of batch.now.questions.now).questions }
     requires within { AreQuestionsOf (graph_of solver.old).vertices batch.now.questions.now }
-    requires ready { IsReady (A.meaning batch.now.algebra) (asked_of batch.now.questions.now) i
+    requires ready { IsReady A.meaning batch.now.algebra (asked_of batch.now.questions.now) i
         solver.old }
     ensures same { IsSameSolver solver.old solver.new }
-    ensures ready { OnOk result (IsReady (A.meaning batch.now.algebra)
+    ensures ready { OnOk result (IsReady A.meaning batch.now.algebra
         (asked_of batch.now.questions.now) (i + 1) solver.new) }
     ensures some { OnOk result (IsSome (last_of solver.new)) }
     ensures solved { OnOk result (IfSome (last_of solver.new) (IsSolvedFor

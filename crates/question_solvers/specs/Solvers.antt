@@ -11,16 +11,16 @@ use Rattle.question_solvers.specs.declared.factor_solver.FactorSolver.{FactorSol
 use Rattle.question_solvers.specs.declared.plain_solver.PlainSolver.{PlainSolver}
 use Rattle.question_solvers.specs.declared.solved.Solved.{Solved}
 
--- the plain solver's: what it found is right, and for pairs it has the rows of arcs by head
-pub record IsPlainReady {S V : Type 0} (A : Algebra V) (asked : Asked) (s : PlainSolver S V) : Type 0 where
-  pub searched : All (IsSearched A s.graph asked) s.searched.items
+-- the plain solver's, for an algebra with this meaning: what it found is right, and for pairs it has the rows of arcs by head
+pub record IsPlainReady {S V : Type 0} (meaning : S → Algebra V) (algebra : S) (asked : Asked) (s : PlainSolver S V) : Type 0 where
+  pub searched : All (IsSearched (meaning algebra) s.graph asked) s.searched.items
   pub rows : asked.kind ≡ Pairs → IsSome s.by_head
 
 -- the factors' solver: the plain one in it is ready, and factors have the rows of arcs by head and carry the algebra's values
-pub record IsFactorReady {S V : Type 0} (A : Algebra V) (asked : Asked) (s : FactorSolver S V) : Type 0 where
-  pub plain : IsPlainReady A asked s.plain
+pub record IsFactorReady {S V : Type 0} (meaning : S → Algebra V) (algebra : S) (asked : Asked) (s : FactorSolver S V) : Type 0 where
+  pub plain : IsPlainReady meaning algebra asked s.plain
   pub rows : IfSome s.factored (λ f. IsSome s.plain.by_head)
-  pub carried : IfSome s.factored (λ f. IsCarried A (cost_of f.factors.algebra.cost))
+  pub carried : IfSome s.factored (λ f. IsCarried (meaning algebra) (cost_of f.factors.algebra.cost))
 
 -- what the plain solver solved last
 abbrev pub last_of_plain : {S V : Type 0} → PlainSolver S V → Option (Solved V)

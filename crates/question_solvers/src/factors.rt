@@ -81,7 +81,7 @@ pub fn start_factors<A: PathAlgebra, R>(
     solver: &mut FactorSolver<A>,
 ) -> Result<(), Memory>
     ensures graph { solver.new.plain.graph ≡ solver.old.plain.graph }
-    ensures ready { OnOk result (IsFactorReady (A.meaning task.now.algebra)
+    ensures ready { OnOk result (IsFactorReady A.meaning task.now.algebra
         (asked_of task.now.questions.now) solver.new) }
 {
     solver.last = None;
@@ -102,10 +102,10 @@ pub fn solve_next_by_factors<A: PathAlgebra, R: Threads + Sync>(
 ) -> Result<(), Memory>
     requires place { i < length (asked_of task.now.questions.now).questions }
     requires within { AreQuestionsOf solver.old.plain.graph.vertices task.now.questions.now }
-    requires ready { IsFactorReady (A.meaning task.now.algebra) (asked_of task.now.questions.now)
+    requires ready { IsFactorReady A.meaning task.now.algebra (asked_of task.now.questions.now)
         solver.old }
     ensures graph { solver.new.plain.graph ≡ solver.old.plain.graph }
-    ensures ready { OnOk result (IsFactorReady (A.meaning task.now.algebra)
+    ensures ready { OnOk result (IsFactorReady A.meaning task.now.algebra
         (asked_of task.now.questions.now) solver.new) }
     ensures some { OnOk result (IsSome (last_by_factors solver.new.last solver.new.plain)) }
     ensures solved { OnOk result (IfSome (last_by_factors solver.new.last solver.new.plain)

@@ -152,7 +152,7 @@ pub fn start_plain<A: PathAlgebra, R>(
 ) -> Result<(), Memory>
     ensures graph { solver.new.graph ≡ solver.old.graph }
     ensures rows { OnOk result (IsSome solver.old.by_head → IsSome solver.new.by_head) }
-    ensures ready { OnOk result (IsPlainReady (A.meaning task.now.algebra)
+    ensures ready { OnOk result (IsPlainReady A.meaning task.now.algebra
         (asked_of task.now.questions.now) solver.new) }
 {
     solver.searched.clear();
@@ -170,11 +170,11 @@ pub fn solve_next_plainly<A: PathAlgebra, R: Threads + Sync>(
 ) -> Result<(), Memory>
     requires place { i < length (asked_of task.now.questions.now).questions }
     requires within { AreQuestionsOf solver.old.graph.vertices task.now.questions.now }
-    requires ready { IsPlainReady (A.meaning task.now.algebra) (asked_of task.now.questions.now)
+    requires ready { IsPlainReady A.meaning task.now.algebra (asked_of task.now.questions.now)
         solver.old }
     ensures graph { solver.new.graph ≡ solver.old.graph }
     ensures rows { solver.new.by_head ≡ solver.old.by_head }
-    ensures ready { IsPlainReady (A.meaning task.now.algebra) (asked_of task.now.questions.now)
+    ensures ready { IsPlainReady A.meaning task.now.algebra (asked_of task.now.questions.now)
         solver.new }
     ensures some { OnOk result (IsSome (slice_get solver.new.searched.items solver.new.last)) }
     ensures solved { OnOk result (IfSome (slice_get solver.new.searched.items solver.new.last)

@@ -9,7 +9,7 @@ abbrev pub invariant-loop-i : goal.invariant-loop-i
 invariant-loop-i g l = record {
   progress : Progress (g.A.PathAlgebra.meaning l.batch.algebra) (graph_of l.fn.solver) (asked_of l.batch.questions.now) l.i (g.W.RoadWrite.written l.fn.out)
       (g.W.RoadWrite.written l.out) (g.W.RoadWrite.failures l.fn.out) (g.W.RoadWrite.failures l.out);
-  ready : IsReady (g.A.PathAlgebra.meaning l.batch.algebra) (asked_of l.batch.questions.now) l.i l.solver;
+  ready : IsReady g.A.PathAlgebra.meaning l.batch.algebra (asked_of l.batch.questions.now) l.i l.solver;
   same : IsSameSolver l.fn.solver l.solver;
   reported : Reported (g.A.PathAlgebra.meaning l.batch.algebra) (graph_of l.fn.solver) g.O.Watcher.may_become
       (due_first (is_plain l.fn.solver) (asked_of l.batch.questions.now).questions l.i) l.fn.watcher l.watcher;

@@ -203,6 +203,22 @@ impl<A: PathAlgebra> Search<A> {
         Ok(())
     }
 
+    /// The algebra.
+    pub(crate) fn algebra(&self) -> A
+        ensures { result ≡ self.now.algebra }
+    {
+        self.algebra
+    }
+
+    /// Gives it another algebra. What it found under the one before stays until it is cleared.
+    pub(crate) fn set_algebra(&mut self, algebra: A)
+        ensures algebra { self.new.algebra ≡ algebra }
+        ensures roads { self.new.roads ≡ self.old.roads }
+        ensures notes { self.new.notes ≡ self.old.notes }
+    {
+        self.algebra = algebra;
+    }
+
     /// The labels.
     pub(crate) fn labels(&self) -> &Labels<A::Value>
         ensures { result.now ≡ self.now.labels }

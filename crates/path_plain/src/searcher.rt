@@ -1,6 +1,6 @@
 //! Pairs of one graph, one after the other: the lists of the search stay.
 
-ghost use Rattle.std.specs.Prelude.{◌≡◌, ◌∷◌, [], IfOk, OnOk};
+ghost use Rattle.std.specs.Prelude.{◌≡◌, ◌↔◌, ◌∷◌, [], IfOk, IsTrue, None, OnOk, Some};
 ghost use Rattle.road_graph.specs.GraphData.{HasVertex};
 ghost use Rattle.path_plain.specs.Rounds.{Between};
 ghost use Rattle.path_plain.specs.Searcher.{IsSearcher};
@@ -30,7 +30,7 @@ impl<A: PathAlgebra> Model for Searcher<A> {
 
     ghost Value = { SearcherState A A.Value };
 
-    ghost view = { λ s. record { algebra = s.search.algebra; roads = s.search.roads; labels = s.search.labels } };
+    ghost view = { λ s. record { algebra = s.search.algebra; roads = s.search.roads; source = s.source; labels = s.search.labels } };
 
     ghost invariant = { λ s. IsSearcher (A.meaning s.search.algebra) s.search s.source };
 }
@@ -84,6 +84,7 @@ impl<A: PathAlgebra> Searcher<A> {
         requires target { HasVertex graph.now target }
         ensures labels { OnOk result (AreBestUpTo (A.meaning self.old.algebra) graph.now
             (source ∷ []) target self.new.labels) }
+        ensures source { OnOk result (self.new.source ≡ Some source) }
         ensures same { IsOfSameGraph self.old self.new }
     {
         let before = self.source.take();
@@ -91,6 +92,33 @@ impl<A: PathAlgebra> Searcher<A> {
         self.search.run(graph, Some(target))?;
         self.source = Some(source);
         Ok(())
+    }
+
+    /// Its algebra.
+    pub fn algebra(&self) -> A
+        ensures { result ≡ self.now.algebra }
+    {
+        self.search.algebra()
+    }
+
+    /// Gives it another algebra. The next search begins anew.
+    pub fn set_algebra(&mut self, algebra: A)
+        ensures algebra { self.new.algebra ≡ algebra }
+        ensures roads { self.new.roads ≡ self.old.roads }
+        ensures source { self.new.source ≡ None }
+    {
+        self.source = None;
+        self.search.set_algebra(algebra);
+    }
+
+    /// Whether its search came from this source, so that a pair from there goes on with it.
+    pub fn is_from(&self, source: Vertex) -> bool
+        ensures { IsTrue result ↔ (self.now.source ≡ Some source) }
+    {
+        match self.source {
+            Some(v) => v == source,
+            None => false,
+        }
     }
 
     /// The labels of the question before.

@@ -12,6 +12,7 @@ mod entering;
 mod hops_and_parents;
 mod laws;
 mod lists;
+mod pair_searcher;
 mod region;
 mod route_finder;
 mod routes;
@@ -21,6 +22,7 @@ mod tightness;
 
 pub use hops_and_parents::Tree;
 pub use laws::{hops_tell_reached, labels_and_trees_agree, routes_follow_parents, trees_exist};
+pub use pair_searcher::PairSearcher;
 pub use route_finder::RouteFinder;
 pub use routes::{
     PairRoute, route, route_between, route_between_up_to, route_outgoing, route_outgoing_up_to,

@@ -1,0 +1,99 @@
+//! Pairs of one graph, one after the other: what their searches use stays.
+
+ghost use Rattle.std.specs.Prelude.{◌≡◌, ◌↔◌, ◌∷◌, [], IfOk, IsTrue, None, OnOk, Some};
+ghost use Rattle.road_graph.specs.GraphData.{HasVertex};
+ghost use Rattle.path_algebra.specs.Walks.{IsBestLabel};
+ghost use Rattle.path_plain.specs.Searcher.{IsOfSameGraph};
+ghost use Rattle.route_tree.specs.Told.{IsPairRoute};
+
+use crate::route_finder::RouteFinder;
+use crate::routes::PairRoute;
+use path_algebra::PathAlgebra;
+use path_plain::Searcher;
+use road_graph::{InGraph, Memory, OutGraph, Vertex};
+use std::alloc::Global;
+use std::marker::Model;
+
+/// A search for the values and the routes of the pairs of a graph. Its lists of all vertices are made once.
+///
+/// Between two pairs only what the search has touched is put back, and of two from one source the second goes on where
+/// the first stopped. After a growth that was refused the next pair is right too.
+#[derive(Drop)]
+pub struct PairSearcher<A: PathAlgebra> {
+    searcher: Searcher<A>,
+    finder: RouteFinder,
+}
+
+impl<A: PathAlgebra> Model for PairSearcher<A> {
+    ghost use Rattle.std.specs.Prelude.{◌≡◌};
+    ghost use Rattle.path_plain.specs.Searcher.{SearcherState};
+
+    ghost Value = { SearcherState A A.Value };
+
+    ghost view = { λ s. s.searcher };
+
+    ghost invariant = { λ s. s.finder ≡ s.searcher.roads.vertices };
+}
+
+impl<A: PathAlgebra> PairSearcher<A> {
+    /// A searcher for the pairs of this graph. The only error is want of memory.
+    pub fn new(alloc: Global, algebra: A, graph: &OutGraph) -> Result<Self, Memory>
+        ensures algebra { IfOk result (λ s. s.algebra ≡ algebra) }
+        ensures graph { IfOk result (λ s. s.roads ≡ graph.now) }
+    {
+        let searcher = Searcher::new(alloc, algebra, graph)?;
+        let finder = RouteFinder::new(alloc, graph.vertices());
+        Ok(PairSearcher { searcher, finder })
+    }
+
+    /// Its algebra.
+    pub fn algebra(&self) -> A
+        ensures { result ≡ self.now.algebra }
+    {
+        self.searcher.algebra()
+    }
+
+    /// Gives it another algebra. The next search begins anew.
+    pub fn set_algebra(&mut self, algebra: A)
+        ensures algebra { self.new.algebra ≡ algebra }
+        ensures roads { self.new.roads ≡ self.old.roads }
+    {
+        self.searcher.set_algebra(algebra);
+    }
+
+    /// Whether the pair before came from this source, so that one more from there goes on with its search.
+    pub fn is_from(&self, source: Vertex) -> bool
+        ensures { IsTrue result ↔ (self.now.source ≡ Some source) }
+    {
+        self.searcher.is_from(source)
+    }
+
+    /// The best value of a pair's target over all walks from its source, and the route to it; neither if no walk has a
+    /// value. `rows` has the arcs of the graph by head. The only error is want of memory; after it the next call is right too.
+    pub fn solve(
+        &mut self,
+        graph: &OutGraph,
+        rows: &InGraph,
+        pair: (Vertex, Vertex),
+    ) -> Result<(Option<A::Value>, Option<PairRoute>), Memory>
+        requires graph { graph.now ≡ self.old.roads }
+        requires rows { rows.now ≡ graph.now }
+        requires source { HasVertex graph.now pair.0 }
+        requires target { HasVertex graph.now pair.1 }
+        ensures value { IfOk result (λ found. IsBestLabel (A.meaning self.old.algebra) graph.now
+            (pair.0 ∷ []) pair.1 found.0) }
+        ensures route { IfOk result (λ found. IsPairRoute (A.meaning self.old.algebra) graph.now
+            pair.0 pair.1 found.1) }
+        ensures source { OnOk result (self.new.source ≡ Some pair.0) }
+        ensures same { IsOfSameGraph self.old self.new }
+    {
+        let (source, target) = pair;
+        let algebra = self.searcher.algebra();
+        self.searcher.solve_to(graph, source, target)?;
+        let labels = self.searcher.labels();
+        let route = self
+            .finder
+            .route(algebra, graph, rows, labels, source, target)?;
+        Ok((labels.of(target), route))
+    }
+}

@@ -2,6 +2,7 @@
 use Rattle.std.specs.Prelude.{◌≡◌, ℕ, Bool, true, false, Option, IfSome, IsSome}
 use Rattle.road_graph.specs.GraphData.{GraphData}
 use Rattle.road_files.specs.Asked.{Asked}
+use Rattle.path_algebra.specs.declared.algebra.PathAlgebra.{Ghosts}
 use Rattle.path_algebra.specs.Algebra.{Algebra}
 use Rattle.batch_run.specs.Diffusions.{AreNext, sources_to_come}
 use Rattle.question_solvers.specs.Solvers.{IsFactorReady, IsPlainReady, last_by_factors, last_of_plain}
@@ -16,30 +17,30 @@ pub record IsWorkerReady {V : Type 0} (A : Algebra V) (asked : Asked) (i : ℕ) 
   pub next : IfSome s.queue (AreNext A s.graph (sources_to_come asked.questions i 0))
 
 -- the graph over which it solves
-abbrev pub graph_of : {S V : Type 0} → Solver S V → GraphData
+abbrev pub graph_of : {S V : Type 0} {G : Ghosts S V} → Solver S V G → GraphData
 graph_of (Plain s) = s.graph
 graph_of (Factors s) = s.plain.graph
 graph_of (Workers s) = s.graph
 
 -- it solves without diffusions
-abbrev pub is_plain : {S V : Type 0} → Solver S V → Bool
+abbrev pub is_plain : {S V : Type 0} {G : Ghosts S V} → Solver S V G → Bool
 is_plain (Plain s) = true
 is_plain (Factors s) = true
 is_plain (Workers s) = false
 
 -- what it solved last
-abbrev pub last_of : {S V : Type 0} → Solver S V → Option (Solved V)
+abbrev pub last_of : {S V : Type 0} {G : Ghosts S V} → Solver S V G → Option (Solved V)
 last_of (Plain s) = last_of_plain s
 last_of (Factors s) = last_by_factors s.last s.plain
 last_of (Workers s) = s.last
 
 -- what it holds is right for this algebra, of this meaning, and question list, and the question at this place is the next one
-abbrev pub IsReady : {S V : Type 0} → (S → Algebra V) → S → Asked → ℕ → Solver S V → Type 0
+abbrev pub IsReady : {S V : Type 0} {G : Ghosts S V} → (S → Algebra V) → S → Asked → ℕ → Solver S V G → Type 0
 IsReady meaning algebra asked i (Plain s) = IsPlainReady meaning algebra asked s
 IsReady meaning algebra asked i (Factors s) = IsFactorReady meaning algebra asked s
 IsReady meaning algebra asked i (Workers s) = IsWorkerReady (meaning algebra) asked i s
 
 -- it is of one kind, over one graph, from the one moment to the other
-pub record IsSameSolver {S V : Type 0} (old new : Solver S V) : Type 0 where
+pub record IsSameSolver {S V : Type 0} {G : Ghosts S V} (old new : Solver S V G) : Type 0 where
   pub graph : graph_of new ≡ graph_of old
   pub kind : is_plain new ≡ is_plain old

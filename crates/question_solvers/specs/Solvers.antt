@@ -3,6 +3,7 @@ use Rattle.std.specs.Prelude.{◌≡◌, Option, Some, None, option_map, IfSome,
 use Rattle.std.specs.List.{All}
 use Rattle.road_files.specs.Asked.{Asked}
 use Rattle.road_files.specs.declared.questions.Kind.TheVariants.{Pairs}
+use Rattle.path_algebra.specs.declared.algebra.PathAlgebra.{Ghosts}
 use Rattle.path_algebra.specs.Algebra.{Algebra}
 use Rattle.path_algebra.specs.Carried.{IsCarried}
 use Rattle.path_algebra.specs.Counted.{cost_of}
@@ -12,21 +13,21 @@ use Rattle.question_solvers.specs.declared.plain_solver.PlainSolver.{PlainSolver
 use Rattle.question_solvers.specs.declared.solved.Solved.{Solved}
 
 -- the plain solver's, for an algebra with this meaning: what it found is right, and for pairs it has the rows of arcs by head
-pub record IsPlainReady {S V : Type 0} (meaning : S → Algebra V) (algebra : S) (asked : Asked) (s : PlainSolver S V) : Type 0 where
+pub record IsPlainReady {S V : Type 0} {G : Ghosts S V} (meaning : S → Algebra V) (algebra : S) (asked : Asked) (s : PlainSolver S V G) : Type 0 where
   pub searched : All (IsSearched (meaning algebra) s.graph asked) s.searched.items
   pub rows : asked.kind ≡ Pairs → IsSome s.by_head
 
 -- the factors' solver: the plain one in it is ready, and factors have the rows of arcs by head and carry the algebra's values
-pub record IsFactorReady {S V : Type 0} (meaning : S → Algebra V) (algebra : S) (asked : Asked) (s : FactorSolver S V) : Type 0 where
+pub record IsFactorReady {S V : Type 0} {G : Ghosts S V} (meaning : S → Algebra V) (algebra : S) (asked : Asked) (s : FactorSolver S V G) : Type 0 where
   pub plain : IsPlainReady meaning algebra asked s.plain
   pub rows : IfSome s.factored (λ f. IsSome s.plain.by_head)
   pub carried : IfSome s.factored (λ f. IsCarried (meaning algebra) (cost_of f.factors.algebra.cost))
 
 -- what the plain solver solved last
-abbrev pub last_of_plain : {S V : Type 0} → PlainSolver S V → Option (Solved V)
+abbrev pub last_of_plain : {S V : Type 0} {G : Ghosts S V} → PlainSolver S V G → Option (Solved V)
 last_of_plain s = option_map (λ x. x.solved) (slice_get s.searched.items s.last)
 
 -- what factors solved, and if they did not, the plain solver
-abbrev pub last_by_factors : {S V : Type 0} → Option (Solved V) → PlainSolver S V → Option (Solved V)
+abbrev pub last_by_factors : {S V : Type 0} {G : Ghosts S V} → Option (Solved V) → PlainSolver S V G → Option (Solved V)
 last_by_factors (Some solved) plain = Some solved
 last_by_factors None plain = last_of_plain plain

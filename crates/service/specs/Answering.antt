@@ -2,6 +2,7 @@
 use Rattle.std.specs.Prelude.{◌≡◌, ℕ, ◌⊎◌, Bool, false, List, ◌++◌, take}
 use Rattle.road_graph.specs.GraphData.{GraphData}
 use Rattle.road_files.specs.Asked.{Asked}
+use Rattle.path_algebra.specs.declared.algebra.PathAlgebra.{Ghosts}
 use Rattle.path_algebra.specs.Algebra.{Algebra}
 use Rattle.answer_text.specs.AnswerData.{AnswerData, AnswerList}
 use Rattle.answer_text.specs.IsAnswer.{AreAnswers, IsAnswerList}
@@ -47,5 +48,5 @@ abbrev pub MayAnswer : {V : Type 0} → Algebra V → Settings → (ℕ → ℕ 
 MayAnswer A how = MayAnswerAs A (without_diffusions how) how
 
 -- which of them if this solver answers
-abbrev pub MayAnswerBy : {S V : Type 0} → Algebra V → Settings → (ℕ → ℕ → Bool → Type 0) → Solver S V → Asked → List ℕ → Type 0
+abbrev pub MayAnswerBy : {S V : Type 0} {G : Ghosts S V} → Algebra V → Settings → (ℕ → ℕ → Bool → Type 0) → Solver S V G → Asked → List ℕ → Type 0
 MayAnswerBy A how gate s = MayAnswerAs A (is_plain s) how gate (graph_of s)

@@ -1,5 +1,5 @@
 mod Greatest
-mod Tails
+pub mod Tails
 mod Carrying
 mod Telling
 mod Climbing

@@ -1,5 +1,5 @@
 mod Totals
-mod Parts
+pub mod Parts
 mod Order
 mod Ordering
 mod OneShard

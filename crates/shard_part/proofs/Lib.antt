@@ -21,6 +21,7 @@ mod ItemIsTaken
 mod ToldKept
 pub mod TakenCounts
 pub mod OnePartTakesTheBest
+mod Within
 mod TakenShown
 mod Opened
 mod Receiving

@@ -1,17 +1,21 @@
 -- What a running part keeps, and what it does with the items that it takes.
-use Rattle.std.specs.Prelude.{◌≡◌, ◌≢◌, ℕ, ◌+◌, Bool, Option, Some, None, List, length, map, ◌++◌}
+use Rattle.std.specs.Prelude.{◌≡◌, ◌≢◌, ◌⊎◌, ℕ, ◌+◌, Bool, Option, Some, None, IsTrue, List, [], ◌∷◌, length, map, ◌++◌}
 use Rattle.scholten_core.specs.declared.item.Item.{Item}
+use Rattle.scholten_core.specs.declared.item.Item.TheVariants.{Message as MessageOn, Signal as SignalOn}
 use Rattle.scholten_core.specs.declared.event.Event.{Event}
 use Rattle.scholten_core.specs.declared.token.Token.TheVariants.{Idle}
 use Rattle.path_algebra.specs.Algebra.{Algebra}
-use Rattle.scholten_core.specs.Diffusion.{state_after, count_enabled}
+use Rattle.scholten_core.specs.Network.{Network}
+use Rattle.scholten_core.specs.Diffusion.{CoreState, state_after, count_enabled}
 use Rattle.scholten_core.specs.Accounts.{sent_total, delivered_total, signalled_total, accepted_total}
+use Rattle.shard_store.specs.declared.queue_order.QueueOrder.{QueueOrder}
+use Rattle.shard_store.specs.declared.queue_order.QueueOrder.TheVariants.{Arrival, BestFirst}
 use Rattle.shard_store.specs.Queue.{IsHeldBy}
 use Rattle.shard_store.specs.Tallies.{counted_on}
 use Rattle.shard_part.specs.PartState.{PartData, state_in, event_of}
 use Rattle.shard_store.specs.Setup.{SetupData, network_of, place_in}
 use Rattle.shard_part.specs.Weights.{in_flight, part_weight}
-use Rattle.shard_part.specs.Handling.{HandledItem, HandledAll}
+use Rattle.shard_part.specs.Handling.{GoesAtOnce, HandledItem, HandledAll}
 use Rattle.shard_part.specs.Represents.{HoldsShare, Represents}
 
 -- an idle arc out of a vertex of the part was last offered the vertex's label
@@ -24,6 +28,18 @@ abbrev pub IsHeldBack : {S V : Type 0} → (V → V → Bool) → Option V → P
 IsHeldBack no_worse None p = ⊥
 IsHeldBack no_worse (Some x) p = IsHeldBy no_worse x p.queue
 
+module _ {V : Type 0} (A : Algebra V) (N : Network) where
+  -- the item is a message with a value no worse than x
+  abbrev pub IsNoWorseMessage : V → Item V → Type 0
+  IsNoWorseMessage x (MessageOn a y) = IsTrue (A.no_worse y x)
+  IsNoWorseMessage x (SignalOn a) = ⊥
+
+  -- the item may be taken, best first, under a limit, if there is one: it goes at once, or it is a message no worse than the limit
+  abbrev pub IsWithin : QueueOrder → Option V → CoreState V → Item V → Type 0
+  IsWithin Arrival limit d i = Unit {0}
+  IsWithin BestFirst None d i = Unit {0}
+  IsWithin BestFirst (Some x) d i = GoesAtOnce A N d i ⊎ IsNoWorseMessage x i
+
 module _ {S V : Type 0} (meaning : S → Algebra V) where
   -- some item was taken from the front
   abbrev pub HandledNext : PartData S V → PartData S V → Type 0
@@ -32,6 +48,16 @@ module _ {S V : Type 0} (meaning : S → Algebra V) where
   -- n items were taken, one after the other
   abbrev pub HandledMany : PartData S V → ℕ → PartData S V → Type 0
   HandledMany p n q = (items : List (Item V)) × (length items ≡ n) × HandledAll meaning p items q
+
+  -- these items were taken, one after the other, each of them within the limit
+  abbrev pub HandledAllWithin : Option V → PartData S V → List (Item V) → PartData S V → Type 0
+  HandledAllWithin limit p [] q = p ≡ q
+  HandledAllWithin limit p (i ∷ is) q = (m : PartData S V) × HandledItem meaning p i m
+      × IsWithin (meaning p.setup.diffusion.algebra) (network_of p.setup) p.setup.order limit (state_in p) i × HandledAllWithin limit m is q
+
+  -- n items were
+  abbrev pub HandledWithin : Option V → PartData S V → ℕ → PartData S V → Type 0
+  HandledWithin limit p n q = (items : List (Item V)) × (length items ≡ n) × HandledAllWithin limit p items q
 
   -- n items were taken, and they are n events after the given ones, each enabled in its turn: the part holds its share of the state
   -- after all of them, its queue and outboxes have gained and lost what that state has gained and lost,

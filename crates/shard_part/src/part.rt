@@ -10,7 +10,8 @@ ghost use Rattle.shard_store.specs.Capacities.{queue_bound, outbox_bound};
 ghost use Rattle.shard_part.specs.Represents.{HoldsShare};
 ghost use Rattle.shard_part.specs.Opening.{opened_part};
 ghost use Rattle.shard_part.specs.Exchange.{Fits};
-ghost use Rattle.shard_part.specs.Part.{HandledNext, HandledMany, IsHeldBack, IsRunOn};
+ghost use Rattle.shard_store.specs.declared.queue_order.QueueOrder.TheVariants.{BestFirst};
+ghost use Rattle.shard_part.specs.Part.{HandledNext, HandledMany, HandledWithin, IsHeldBack, IsRunOn};
 
 mod readings;
 
@@ -90,7 +91,7 @@ impl<'g, A: PathAlgebra> Part<'g, A> {
     }
 
     /// Takes items off the queue in its order and handles them, one after the other, until the budget is used up, the queue is empty or, best first, all that waits
-    /// is messages worse than the limit, and says how many.
+    /// is messages worse than the limit, and says how many. So best first no message that improves a label is worse than the limit.
     ///
     /// What an item makes goes to the back of the queue if it belongs to this shard, else to the back of the outbox to its shard.
     /// Whatever the other parts hold: if this part held its share of a state that some events lead to, the items are that many further events, each enabled in its turn,
@@ -99,6 +100,7 @@ impl<'g, A: PathAlgebra> Part<'g, A> {
         ensures budget { result ≤ budget }
         ensures all { (result ≡ budget) ⊎ ((self.new.queue ≡ []) ⊎
             IsHeldBack A.order limit self.new) }
+        ensures within { HandledWithin A.meaning limit self.old result self.new }
         ensures taken { HandledMany A.meaning self.old result self.new }
         ensures setup { self.new.setup ≡ self.old.setup }
         ensures shard { self.new.shard ≡ self.old.shard }
@@ -120,7 +122,9 @@ impl<'g, A: PathAlgebra> Part<'g, A> {
 
     /// Whether all that waits is messages worse than the limit, if there is one.
     fn is_held(&self, limit: Option<A::Value>) -> bool
-        ensures { IsTrue result → IsHeldBack A.order limit self.now }
+        ensures held { IsTrue result → IsHeldBack A.order limit self.now }
+        ensures all { self.now.setup.order ≡ BestFirst → IsHeldBack A.order limit self.now →
+            IsTrue result }
     {
         match limit {
             Some(limit) => self.state.queue.is_held(limit),

@@ -2,7 +2,7 @@ mod Ascending
 mod Blocks
 mod Increasing
 pub mod Ranking
-mod Holding
+pub mod Holding
 mod Records
 pub mod Totals
 pub mod Counting

@@ -3,6 +3,7 @@ ghost use Rattle.std.specs.Prelude.{◌≡◌, IsTrue, map};
 ghost use Rattle.std.specs.BinaryHeap.{heap_items, IsHeap};
 ghost use Rattle.shard_store.specs.Queue.{ranked_item, IsWorseMessage, IsHeldBy};
 ghost use Rattle.shard_store.specs.Rank.{rank_cmp};
+ghost use Rattle.shard_store.specs.declared.queue_order.QueueOrder.TheVariants.{BestFirst};
 
 use crate::queue::Queue;
 use crate::queue_order::QueueOrder;
@@ -12,9 +13,11 @@ use scholten_core::Item;
 use std::collections::BinaryHeap;
 
 impl<A: PathAlgebra> Queue<A> {
-    /// Whether all that waits is held back by a limit: messages with worse values, and nothing else.
+    /// Whether all that waits is held back by a limit: messages with worse values, and nothing else. First come, first served nothing is.
     pub fn is_held(&self, limit: A::Value) -> bool
-        ensures { IsTrue result → IsHeldBy A.order limit self.now.items }
+        ensures held { IsTrue result → IsHeldBy A.order limit self.now.items }
+        ensures all { self.now.room.order ≡ BestFirst → IsHeldBy A.order limit self.now.items →
+            IsTrue result }
     {
         match self.order {
             QueueOrder::Arrival => false,
@@ -50,7 +53,10 @@ fn better<A: PathAlgebra>(best: Option<A::Value>, value: A::Value) -> Option<A::
 /// Whether all ranked messages are worse than a limit.
 fn is_top_worse<A: PathAlgebra>(ranked: &BinaryHeap<RankedMessage<A>>, limit: A::Value) -> bool
     requires { IsHeap (rank_cmp (λ m. m.value) (λ m. m.arc) A.order) (heap_items ranked.now) }
-    ensures { IsTrue result → IsHeldBy A.order limit (map ranked_item (heap_items ranked.now)) }
+    ensures held { IsTrue result → IsHeldBy A.order limit
+        (map ranked_item (heap_items ranked.now)) }
+    ensures all { IsHeldBy A.order limit (map ranked_item (heap_items ranked.now)) →
+        IsTrue result }
 {
     match ranked.peek() {
         Some(top) => !A::no_worse(top.value, limit),
@@ -60,7 +66,8 @@ fn is_top_worse<A: PathAlgebra>(ranked: &BinaryHeap<RankedMessage<A>>, limit: A:
 
 /// Whether an item is a message worse than a limit.
 fn is_worse<A: PathAlgebra>(item: Item<A::Value>, limit: A::Value) -> bool
-    ensures { IsTrue result → IsWorseMessage A.order limit item }
+    ensures worse { IsTrue result → IsWorseMessage A.order limit item }
+    ensures all { IsWorseMessage A.order limit item → IsTrue result }
 {
     match item {
         Item::Message { value, .. } => !A::no_worse(value, limit),
@@ -70,7 +77,8 @@ fn is_worse<A: PathAlgebra>(item: Item<A::Value>, limit: A::Value) -> bool
 
 /// Whether all items of a list are messages worse than a limit.
 fn are_worse<A: PathAlgebra>(items: &[Item<A::Value>], limit: A::Value) -> bool
-    ensures { IsTrue result → IsHeldBy A.order limit items.now }
+    ensures held { IsTrue result → IsHeldBy A.order limit items.now }
+    ensures all { IsHeldBy A.order limit items.now → IsTrue result }
 {
     for i in 0..items.len() {
         if !is_worse::<A>(items[i], limit) {

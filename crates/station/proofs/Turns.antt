@@ -12,8 +12,8 @@ use Rattle.shard_store.specs.Setup.{IsPlanned, network_of, place_in}
 use Rattle.shard_part.specs.PartState.{PartData, state_in}
 use Rattle.shard_part.specs.Weights.{in_flight, part_weight}
 use Rattle.shard_part.specs.Represents.{HoldsShare}
-use Rattle.shard_part.specs.Part.{HandledMany, IsRunOn}
-use Rattle.shard_part.specs.Readings.{IsOwn}
+use Rattle.shard_part.specs.Part.{HandledMany, HandledWithin, IsHeldBack, IsRunOn}
+use Rattle.shard_part.specs.Readings.{IsOwn, has_ended}
 use Rattle.shard_store.specs.Queue.{IsHeldBy}
 use Rattle.shard_store.specs.Tallies.{top}
 use Rattle.shard_part.proofs.Showing.{AllLawful}
@@ -27,7 +27,7 @@ use Rattle.station.specs.declared.turn.Report.{Report}
 use Rattle.station.specs.Steps.{AreReady, AllCameIn, AllTriedFrom, AllTriedTo, Looked}
 use Rattle.post_floor.specs.declared.view.WordStep.{WordStep}
 use Rattle.station.specs.Tries.{at, AreTries, used}
-use Rattle.station.specs.Turn.{IsBehindOthers, Turned, Tried}
+use Rattle.station.specs.Turn.{IsAsFar, Turned, Tried}
 use Rattle.station.proofs.Trying.{few_tries}
 use Rattle.station.proofs.Labels.{IsLike, received_like, sent_like, sent_queue, labels_stay}
 
@@ -70,9 +70,20 @@ module _ {S V : Type 0} where
       (ap (λ (xs : List WordStep). length xs) t.looked ∙ length-append t.filled (at (box_count n) t.number ∷ []))
 
 -- the order of the algebra is that of its meaning
-pub behind_in : {S V : Type 0} (handled budget : ℕ) (held : Bool) (p : PartData S V) (order no_worse : V → V → Bool) → order ≡ no_worse
-    → (handled ≡ budget) ⊎ ((p.queue ≡ []) ⊎ (IsTrue held × IsBehindOthers order p)) → (handled ≡ budget) ⊎ ((p.queue ≡ []) ⊎ (IsTrue held × IsBehindOthers no_worse p))
-behind_in handled budget held p order no_worse e h = subst (λ w. (handled ≡ budget) ⊎ ((p.queue ≡ []) ⊎ (IsTrue held × IsBehindOthers w p))) e h
+pub as_far_in : {S V : Type 0} (handled budget : ℕ) (held : Bool) (limit : Option V) (p : PartData S V) (order no_worse : V → V → Bool) → order ≡ no_worse
+    → IsAsFar order budget handled held limit p → IsAsFar no_worse budget handled held limit p
+as_far_in handled budget held limit p order no_worse e h = subst (λ w. IsAsFar w budget handled held limit p) e h
+
+-- what is sent off leaves the queue as it is
+far_sent : {S V : Type 0} (no_worse : V → V → Bool) (budget handled : ℕ) (held : Bool) (limit : Option V) (p q : PartData S V) → q.queue ≡ p.queue
+    → IsAsFar no_worse budget handled held limit p → IsAsFar no_worse budget handled held limit q
+far_sent no_worse budget handled held limit p q e (inl h) = inl h
+far_sent no_worse budget handled held limit p q e (inr (inl z)) = inr (inl (e ∙ z))
+far_sent {S} {V} no_worse budget handled held limit p q e (inr (inr w)) = inr (inr (w.0, (held_in limit w.1.0, w.1.1, subst (IsHeldBy no_worse w.1.1) (sym e) w.1.2)))
+  where
+    held_in : (o : Option V) → IsHeldBack no_worse o p → IsHeldBack no_worse o q
+    held_in None b = absurd b
+    held_in (Some x) b = subst (IsHeldBy no_worse x) (sym e) b
 
 module _ {S V : Type 0} (meaning : S → Algebra V) where
   -- no item was handled
@@ -110,23 +121,27 @@ module _ {S V : Type 0} (meaning : S → Algebra V) where
       published = refl;
       sent = refl;
       within = omega arith;
+      limit = None;
+      in_limit = ([], refl, refl);
       all = inr (inl (i.over e).part.queue);
     };
     labels = λ v own x q. (x, q, same_no_worse (meaning s.part.setup.diffusion.algebra).no_worse (L s.part.setup.diffusion.algebra).ordered x);
     tried = λ q. absurd (let z = sym e ∙ q in cc);
     steps = omega arith;
     report = sym e;
+    announced = λ _. refl;
     stays = λ _. (refl, refl);
   }
 
   -- a turn before the end
-  pub turned : AllLawful meaning → (f : FloorData S) (budget handled taken published : ℕ) (held : Bool) (s : StationData S V) (a b d : SeatData S V) (filled emptied q : PartData S V) (o : Bool) → s.ended ≡ false
+  pub turned : AllLawful meaning → (f : FloorData S) (budget handled taken published : ℕ) (held : Bool) (limit : Option V) (s : StationData S V) (a b d : SeatData S V) (filled emptied q : PartData S V) (o : Bool) → s.ended ≡ false
       → AllCameIn meaning taken s.part filled → emptied.setup ≡ filled.setup → emptied.shard ≡ filled.shard → HandledMany meaning filled handled emptied
       → ((before : List Event) → HoldsShare meaning (core_of meaning filled.setup before) filled → IsRunOn meaning before filled handled emptied)
-      → handled ≤ budget → ((handled ≡ budget) ⊎ ((emptied.queue ≡ []) ⊎ (IsTrue held × IsBehindOthers (meaning s.part.setup.diffusion.algebra).no_worse emptied))) → AreReady f d q → s.seat.shard < f.setup.plan.shards
+      → handled ≤ budget → HandledWithin meaning limit filled handled emptied → IsAsFar (meaning s.part.setup.diffusion.algebra).no_worse budget handled held limit emptied
+      → (has_ended q ≡ true → o ≡ true) → AreReady f d q → s.seat.shard < f.setup.plan.shards
       → AllTriedFrom f f.setup.plan.shards taken s.seat a → AllTriedTo f f.setup.plan.shards published emptied q a b → Looked f o b d
       → Turned meaning f budget s (record { handled = handled; taken = taken; published = published; held = held; ended = o }) (record { part = q; seat = d; ended = o })
-  turned L f budget handled taken published held s a b d filled emptied q o going (bs, bl, be, K) es ss T E within all ready own from to look =
+  turned L f budget handled taken published held limit s a b d filled emptied q o going (bs, bl, be, K) es ss T E within bounded all announced ready own from to look =
       let before : IsLike s.part filled = subst (λ p. IsLike s.part p) (sym be) (received_like bs s.part) in
       let after : IsLike emptied q = sent_like to.outboxes emptied q to.sent in
       let tried = all_tried f handled taken published held s.seat a b d emptied q o from to look in
@@ -147,18 +162,15 @@ module _ {S V : Type 0} (meaning : S → Algebra V) where
           published = to.published;
           sent = to.sent;
           within = within;
-          all = elim all [
-            | inl h ↦ inl h
-            | inr h ↦ inr (elim h [
-              | inl z ↦ inl (sent_queue to.outboxes emptied q to.sent ∙ z)
-              | inr w ↦ inr (w.0, (w.1.0, subst (IsHeldBy (meaning s.part.setup.diffusion.algebra).no_worse w.1.0) (sym (sent_queue to.outboxes emptied q to.sent)) w.1.1))
-            ])
-          ];
+          limit = limit;
+          in_limit = bounded;
+          all = far_sent (meaning s.part.setup.diffusion.algebra).no_worse budget handled held limit emptied q (sent_queue to.outboxes emptied q to.sent) all;
         };
         labels = λ v own. labels_stay meaning L s.part filled emptied q handled v before T after own.1;
         tried = λ _. tried;
         steps = few_steps f s.seat emptied _ to.outboxes d own tried;
         report = refl;
+        announced = announced;
         stays = λ e. absurd cc;
       }
 

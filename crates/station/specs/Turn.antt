@@ -7,8 +7,8 @@ use Rattle.shard_store.specs.Queue.{IsHeldBy}
 use Rattle.shard_part.specs.Arriving.{joined}
 use Rattle.shard_part.specs.PartState.{PartData, state_in}
 use Rattle.shard_part.specs.Represents.{HoldsShare}
-use Rattle.shard_part.specs.Part.{HandledMany, IsRunOn}
-use Rattle.shard_part.specs.Readings.{IsOwn}
+use Rattle.shard_part.specs.Part.{HandledMany, HandledWithin, IsHeldBack, IsRunOn}
+use Rattle.shard_part.specs.Readings.{IsOwn, has_ended}
 use Rattle.post_floor.specs.Boxes.{box_count}
 use Rattle.post_floor.specs.Data.{FloorData, SeatData, fill_box, read_box}
 use Rattle.post_floor.specs.Floor.{core_of}
@@ -23,9 +23,14 @@ abbrev pub StaysOrImproves : {V : Type 0} → Algebra V → Option V → Option 
 StaysOrImproves {V} A before after = (x : V) → before ≡ Some x → (y : V) × (after ≡ Some y) × IsTrue (A.no_worse y x)
 
 module _ {S V : Type 0} where
-  -- some value, which another shard showed, is better than all that waits at the part: no signal waits there, and no message with a value that is no worse
-  abbrev pub IsBehindOthers : (V → V → Bool) → PartData S V → Type 0
-  IsBehindOthers no_worse p = (x : V) × IsHeldBy no_worse x p.queue
+  -- The limit holds back all that waits at the part, and some value, which another shard showed, is better than all of it: no signal waits there, and no
+  -- message with a value that is no worse.
+  abbrev pub IsBehindOthers : (V → V → Bool) → Option V → PartData S V → Type 0
+  IsBehindOthers no_worse limit p = IsHeldBack no_worse limit p × (x : V) × IsHeldBy no_worse x p.queue
+
+  -- of the items of a part, with which it is p then, as many were handled as the budget allows, or all, or all that the limit does not hold back
+  abbrev pub IsAsFar : (V → V → Bool) → (budget handled : ℕ) → Bool → Option V → PartData S V → Type 0
+  IsAsFar no_worse budget handled held limit p = (handled ≡ budget) ⊎ ((p.queue ≡ []) ⊎ (IsTrue held × IsBehindOthers no_worse limit p))
 
   -- batches were received, one after the other, each at the back of the queue
   abbrev pub received : PartData S V → List (List (Item V)) → PartData S V
@@ -70,7 +75,9 @@ module _ {S V : Type 0} (meaning : S → Algebra V) where
     pub published : length outboxes ≡ r.published
     pub sent : SentOff outboxes emptied q
     pub within : r.handled ≤ budget
-    pub all : (r.handled ≡ budget) ⊎ ((q.queue ≡ []) ⊎ (IsTrue r.held × IsBehindOthers (meaning p.setup.diffusion.algebra).no_worse q))
+    pub limit : Option V  -- how far it might run ahead of the others
+    pub in_limit : HandledWithin meaning limit filled r.handled emptied
+    pub all : IsAsFar (meaning p.setup.diffusion.algebra).no_worse budget r.handled r.held limit q
 
   -- What one turn on the floor makes of a station, and reports. After the end it does nothing.
   pub record Turned (f : FloorData S) (budget : ℕ) (before : StationData S V) (r : Report) (after : StationData S V) : Type 0 where
@@ -81,4 +88,5 @@ module _ {S V : Type 0} (meaning : S → Algebra V) where
     pub tried : before.ended ≡ false → Tried f before.seat worked.emptied r worked.outboxes after.seat
     pub steps : length after.seat.knows.steps ≤ length before.seat.knows.steps + 4 * (f.setup.plan.shards - 1) + 1
     pub report : r.ended ≡ after.ended
+    pub announced : has_ended after.part ≡ true → r.ended ≡ true
     pub stays : ReportedEnd before → (after ≡ before) × (r ≡ record { handled = 0; taken = 0; published = 0; held = false; ended = true })

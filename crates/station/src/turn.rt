@@ -1,14 +1,15 @@
 //! The steps of one turn.
-ghost use Rattle.std.specs.Prelude.{◌≡◌, ◌⊎◌, ◌<◌, ◌≤◌, [], List, length, true, IsTrue};
+ghost use Rattle.std.specs.Prelude.{◌≡◌, ◌<◌, ◌≤◌, List, Option, length, true, IsTrue};
 ghost use Rattle.scholten_core.specs.declared.event.Event.{Event};
 ghost use Rattle.scholten_core.specs.Diffusion.{state_after};
 ghost use Rattle.shard_store.specs.Setup.{network_of};
-ghost use Rattle.shard_part.specs.Part.{HandledMany, IsRunOn};
+ghost use Rattle.shard_part.specs.Part.{HandledMany, HandledWithin, IsRunOn};
+ghost use Rattle.shard_part.specs.Readings.{has_ended};
 ghost use Rattle.shard_part.specs.Represents.{HoldsShare};
 ghost use Rattle.post_floor.specs.Plays.{HoldsEndedShare, HoldsReachedShare};
 ghost use Rattle.station.specs.Station.{IsOverPart};
 ghost use Rattle.station.specs.Steps.{AreReady, AreBehind, CameIn, AllCameIn, TriedFrom, AllTriedFrom, WentOff, TriedTo, AllTriedTo, Looked};
-ghost use Rattle.station.specs.Turn.{IsBehindOthers};
+ghost use Rattle.station.specs.Turn.{IsAsFar};
 
 use path_algebra::PathAlgebra;
 use post_floor::{Floor, Seat};
@@ -89,8 +90,8 @@ pub(crate) fn handle_all<A: PathAlgebra>(
         (state_after (A.meaning part.old.setup.diffusion.algebra) (network_of part.old.setup)
         events) part.old → IsRunOn A.meaning events part.old result.0 part.new }
     ensures budget { result.0 ≤ budget }
-    ensures all { (result.0 ≡ budget) ⊎ ((part.new.queue ≡ []) ⊎
-        (IsTrue result.1 × IsBehindOthers A.order part.new)) }
+    ensures all { (limit : Option A.Value) × HandledWithin A.meaning limit part.old result.0
+        part.new × IsAsFar A.order budget result.0 result.1 limit part.new }
 {
     let limit = floor.limit(part);
     let value = match limit {
@@ -167,9 +168,11 @@ pub(crate) fn look_for_end<A: PathAlgebra>(
     ensures seen { IsTrue result → seat.new.knows.seen ≡ true }
     ensures ended { IsTrue result → HoldsEndedShare A.meaning part.now }
     ensures over { IsTrue result → IsOverPart A.meaning part.now }
+    ensures announced { has_ended part.now ≡ true → IsTrue result }
 {
     part_holds(part);
-    if part.ended() {
+    let ended = part.ended();
+    if ended {
         floor.announce(seat, part);
         return true;
     }

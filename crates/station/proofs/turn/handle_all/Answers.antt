@@ -8,15 +8,19 @@ pub returns-clause-all : goal.returns-clause-all
 returns-clause-all g c =
     let laws = g.met.A.PathAlgebra g.world.𝓛 g.world.𝓜 g.world.𝓡 ((λ s x. x), (λ x. x), (λ x. x), λ x. x) in
     let p = c.handle_within-handled.new.self in
-    settle g.A.PathAlgebra.order p c.handle_within-handled.result c.args.budget c.is_stopped-held.result c.handle_within-handled.ensures.budget c.is_stopped-held.ensures
-    (elim c.handle_within-handled.ensures.all [
-      | inl e ↦ inl e
-      | inr h ↦ inr (elim h [
-        | inl z ↦ inl z
-        | inr b ↦ inr (elim c.match-limit.branch [
-          | in-Some w ↦ (let l = w.in-Some.limit in
-              (l.best, all_worse g.A.PathAlgebra.order laws.ordered l.best l.value w.in-Some.ensures p.queue (subst (λ o. IsHeldBack g.A.PathAlgebra.order o p) w.value-is b)))
-          | in-None w ↦ absurd (subst (λ o. IsHeldBack g.A.PathAlgebra.order o p) w.value-is b)
-        ])
-      ])
-    ])
+    let limit = c.match-limit.value in (
+      limit,
+      c.handle_within-handled.ensures.within,
+      settle g.A.PathAlgebra.order p c.handle_within-handled.result c.args.budget c.is_stopped-held.result limit c.handle_within-handled.ensures.budget c.is_stopped-held.ensures
+          (elim c.handle_within-handled.ensures.all [
+            | inl e ↦ inl e
+            | inr h ↦ inr (elim h [
+              | inl z ↦ inl z
+              | inr b ↦ inr (elim c.match-limit.branch [
+                | in-Some w ↦ (let l = w.in-Some.limit in
+                    (b, l.best, all_worse g.A.PathAlgebra.order laws.ordered l.best l.value w.in-Some.ensures p.queue (subst (λ o. IsHeldBack g.A.PathAlgebra.order o p) w.value-is b)))
+                | in-None w ↦ absurd (subst (λ o. IsHeldBack g.A.PathAlgebra.order o p) w.value-is b)
+              ])
+            ])
+          ]),
+    )

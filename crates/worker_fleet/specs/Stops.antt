@@ -1,8 +1,11 @@
 -- Why a group of diffusions is not run to its end.
-use Rattle.std.specs.Prelude.{◌≡◌, ℕ, ◌+◌, ◌<◌, Bool, false, List, length, Vec, slice_index_or}
+use Rattle.std.specs.Prelude.{◌≡◌, ℕ, ◌+◌, ◌<◌, ◌≤◌, Bool, false, List, length, Vec, slice_index_or}
 use Rattle.std.specs.List.{AllWithin, HoldsAt}
+use Rattle.std.specs.declared.alloc.Global.{Global}
 use Rattle.path_algebra.specs.Algebra.{Algebra}
+use Rattle.shard_store.specs.Setup.{SetupData}
 use Rattle.post_floor.specs.Data.{FloorData}
+use Rattle.station.specs.Opened.{AreOpened}
 use Rattle.station.specs.Station.{StationData}
 use Rattle.worker_fleet.specs.declared.driving.Driven.{Driven}
 use Rattle.worker_fleet.specs.declared.driving.Outcome.TheVariants as outcomes
@@ -30,6 +33,21 @@ pub record IsStop {A V Z : Type 0} (meaning : A → Algebra V) (floors : List (F
   pub count : length all ≡ workers
   pub drove : (w : ℕ) (d : Driven A V) → w < workers → Drives meaning floors budget limit answers w (share_of workers w 0 diffusions) (slice_index_or all w d)
   pub first : IsFirstStop all fault
+
+-- Some diffusions of these setups, at most `width`, were opened together, each worker drove its share of their stations, and the least numbered that stopped before
+-- the end did so by this fault.
+pub record StopsGroup {A V : Type 0} (meaning : A → Algebra V) (IsOne : SetupData A → Type 0) (workers width budget limit : ℕ) (answers : ℕ → ℕ → Bool → Type 0) (fault : GroupFault) : Type 0 where
+  pub count : ℕ
+  pub few : count ≤ width
+  pub setup : ℕ → SetupData A
+  pub each : (q : ℕ) → q < count → IsOne (setup q)
+  pub floors : List (FloorData A)
+  pub floors_are : length floors ≡ count
+  pub diffusions : List (Vec (StationData A V) Global)
+  pub diffusions_are : length diffusions ≡ count
+  pub opened : (q : ℕ) (f : FloorData A) (stations : Vec (StationData A V) Global) → q < count →
+      AreOpened meaning (setup q) (slice_index_or floors q f) (slice_index_or diffusions q stations).items
+  pub stop : IsStop meaning floors budget limit workers answers diffusions fault
 
 -- some worker made each turn up to the limit
 pub record Stalls (answers : ℕ → ℕ → Bool → Type 0) (workers limit : ℕ) : Type 0 where

@@ -1,7 +1,7 @@
 mod Totals
 pub mod Parts
 mod Order
-mod Ordering
+pub mod Ordering
 mod OneShard
 mod Keeps
 mod Changes

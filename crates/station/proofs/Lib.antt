@@ -13,3 +13,5 @@ mod Places
 mod Tallying
 mod Closed
 pub mod ExactCounts
+mod QuietTries
+mod QuietRound

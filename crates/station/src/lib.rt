@@ -10,7 +10,9 @@ mod turn;
 
 pub use finished::Finished;
 pub use gathering::{GatherFault, Gathered, Ungathered, gather};
-pub use laws::{best_first_counts_each_arc_once, reach_counts_each_arc_once};
+pub use laws::{
+    best_first_counts_each_arc_once, quiet_rounds_are_still, reach_counts_each_arc_once,
+};
 pub use open::open_diffusion;
 pub use station::Station;
 pub use turn::Report;

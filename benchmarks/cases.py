@@ -11,14 +11,17 @@ from inputs import ONE_SOURCE, PEER, READING, stop
 
 BASELINE, DIFFUSING = "baseline", "diffusing"
 TIME, WALL, PEAK, MESSAGES = "processor time", "wall time", "peak memory", "messages"
+
+# The part of the wall time in which a program solves, if it was run with --times.
+SOLVE = "solving time"
 BASELINES = {"ss": "heap_dijkstra", "p2p": "pairs_dijkstra"}
 
 
 class Case:
     """One graph with one question file, the commands that answer it, and what each took in each round."""
 
-    # Whether it is run in the first rounds alone.
-    is_long = False
+    # Whether it is run in the first rounds alone, or only in the first.
+    is_long = is_once = False
 
     def __init__(self, files, kind):
         self.files, self.kind = files, kind
@@ -54,7 +57,7 @@ class Case:
             if name in [it.name for it in own]:
                 if self.kind != READING and not self.found.get(name, "").startswith(OTHER):
                     self.found[name] = compared(answers["diffuse"], answers[name])
-            elif name not in ("diffuse", PEER):
+            elif name not in ("diffuse", PEER) and "diffuse" in answers:
                 compare_bytes(self.title(), answers["diffuse"], answers[name])
         for path in answers.values():
             os.remove(path)
@@ -62,13 +65,22 @@ class Case:
     def median(self, name, what):
         return statistics.median(taken[what] for taken in self.taken[name])
 
+    def count(self):
+        """How many questions there are."""
+        return self.files.count_of(self.kind)
+
+    def each(self, name, what, less=None):
+        """What a program took for a question, in each round; without what it took for a case with no questions, if there is one."""
+        rounds = [taken[what] for taken in self.taken.get(name, [])] if less is None else self.beyond(less, name, what)
+        return [taken / self.count() for taken in rounds]
+
     def ratios(self, other, what, name="diffuse"):
         """What a program took for one that the other took in the same round; none if either did not run."""
-        return [ours[what] / theirs[what] for ours, theirs in zip(self.taken.get(name, []), self.taken.get(other, []))]
+        return ratios([taken[what] for taken in self.taken.get(name, [])], [taken[what] for taken in self.taken.get(other, [])])
 
     def ratios_to(self, other, what):
         """What diffuse took for one that it took in another case, in the same round; none if either did not run."""
-        return [ours[what] / theirs[what] for ours, theirs in zip(self.taken.get("diffuse", []), other.taken.get("diffuse", []))]
+        return ratios([taken[what] for taken in self.taken.get("diffuse", [])], [taken[what] for taken in other.taken.get("diffuse", [])])
 
     def beyond(self, less, name, what):
         """What a program took beyond a case with less to do, as reading the graph alone, in each round; none if either did not run."""
@@ -76,8 +88,12 @@ class Case:
 
     def beyond_ratios(self, reading, other):
         """The processor time of diffuse beyond reading for one that the other took in the same round, where that is above 0."""
-        ours, theirs = (self.beyond(reading, name, TIME) for name in ("diffuse", other))
-        return [one / two for one, two in zip(ours, theirs) if two > 0]
+        return ratios(*(self.beyond(reading, name, TIME) for name in ("diffuse", other)))
+
+
+def ratios(ours, theirs):
+    """Ratios round by round. One to nothing says nothing, which happens at a hundredth of the sizes."""
+    return [one / two for one, two in zip(ours, theirs) if two > 0]
 
 
 class Plain(Case):
@@ -89,9 +105,9 @@ class Plain(Case):
 
     def commands(self, programs, folder):
         questions, kind = self.files.questions[self.kind], self.files.word_of(self.kind)
-        commands = {"diffuse": [programs["diffuse"], "solve", self.files.graph, questions, "--plain"]}
+        commands = {"diffuse": [programs["diffuse"], "solve", self.files.graph, questions, "--plain", "--times"]}
         if kind in BASELINES:
-            commands[BASELINE] = [programs[BASELINES[kind]], self.files.graph, questions]
+            commands[BASELINE] = [programs[BASELINES[kind]], self.files.graph, questions, "--times"]
         if PEER in programs and self.kind == ONE_SOURCE and self.files.marked:
             commands[PEER] = [programs[PEER], "-q", self.files.marked]
         return commands
@@ -147,13 +163,12 @@ class Batch(Wide):
 
 
 class Engine(Case):
-    """Workers beside the same rule in plain C++ with the same settings and order of messages, and beside the baseline."""
+    """Workers beside the baseline, and beside the same rule in plain C++ with the same settings and order of messages."""
 
-    is_long = True
-
-    def __init__(self, files, kind, settings=(1, 1, 1, 1024), best_first=False):
+    def __init__(self, files, kind, settings=(1, 1, 1, 1024), best_first=False, same_rule=True):
         super().__init__(files, kind)
         self.settings, self.best_first = dict(zip(("workers", "shards", "width", "budget"), settings)), best_first
+        self.same_rule, self.is_long = same_rule, not best_first
 
     def title(self):
         settings = ["%s %d" % it for it in self.settings.items()] + (["best first"] if self.best_first else [])
@@ -166,29 +181,31 @@ class Engine(Case):
         graph, questions = self.files.graph, self.files.questions[self.kind]
         settings = [word for name, number in self.settings.items() for word in ("--" + name, str(number))]
         words, order = (["--best-first"], ["best-first"]) if self.best_first else ([], [])
-        return {
+        commands = {
             "diffuse": [programs["diffuse"], "solve", graph, questions] + settings + words + ["--accounts", accounts_in(folder)],
-            DIFFUSING: [programs["diffusing"], graph, questions] + settings[1::2] + order,
             BASELINE: [programs["heap_dijkstra"], graph, questions],
         }
+        if self.same_rule:
+            commands[DIFFUSING] = [programs["diffusing"], graph, questions] + settings[1::2] + order
+        return commands
 
     def messages(self, name, noted, folder):
         if name == DIFFUSING:
             return int(noted)
         return delivered(accounts_in(folder)) if name == "diffuse" else None
 
-    def count(self, name="diffuse"):
+    def handled(self, name="diffuse"):
         """How many messages a program handled in the last round."""
         return self.taken[name][-1][MESSAGES]
 
     def each_arc(self):
         """How many messages diffuse handled for an arc and question, in each round; one more for each question is counted off."""
-        asked = self.files.count_of(self.kind)
+        asked = self.count()
         return [(taken[MESSAGES] - asked) / (asked * self.files.arcs) for taken in self.taken.get("diffuse", [])]
 
     def counts_agree(self):
         """Whether both programs handled the same number of messages, as they do with one worker."""
-        return self.settings["workers"] > 1 or self.count() == self.count(DIFFUSING)
+        return self.settings["workers"] > 1 or not self.same_rule or self.handled() == self.handled(DIFFUSING)
 
 
 def accounts_in(folder):
@@ -209,7 +226,8 @@ def measured(measure, command, answer, text=""):
     time, wall, peak, status = run.stdout.split()
     if status != "0":
         stop("status %s of: %s: %s" % (status, " ".join(command), run.stderr.strip()))
-    return {TIME: float(time), WALL: float(wall), PEAK: int(peak) * 1024}, run.stderr.strip()
+    shown = re.search(r"^times: read [\d.]+ solve ([\d.]+) ", run.stderr, re.M)
+    return {TIME: float(time), WALL: float(wall), PEAK: int(peak) * 1024, SOLVE: float(shown[1]) if shown else None}, run.stderr.strip()
 
 
 def check_launcher(measure):

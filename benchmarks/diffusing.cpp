@@ -3,8 +3,9 @@
 //     diffusing GRAPH QUESTIONS [WORKERS SHARDS WIDTH BUDGET [best-first]]
 //
 // It is the engine's own rule in plain C++, to measure the engine against: the same parts, items in the same order,
-// batches through mailboxes of one word, a done word, workers that yield after a round in which nothing was done. On
-// standard error it reports how many messages were handled.
+// batches through mailboxes of one word, a done word, workers that yield after a round in which nothing was done. Best
+// first, each shard shows the best value that waits there, and takes no message that is worse than the best that another
+// shows, extended by the mean weight of the arcs. On standard error it reports how many messages were handled.
 //
 // The rule: a message that finds its vertex idle engages it, any other is answered by a signal at once. A better value
 // becomes the vertex's label, and goes on along every outgoing arc that is not waiting for a signal; the others have
@@ -26,6 +27,11 @@ struct Settings {
 
 enum Word : uint32_t { EMPTY, FILLING, FULL, READING };
 
+// What a shard shows the others of the best value that waits there.
+struct Hint {
+    alignas(64) std::atomic<uint64_t> word{NO_VALUE};
+};
+
 struct Mailbox {
     alignas(64) std::atomic<uint32_t> word{EMPTY};
     vector<Item> batch;
@@ -36,8 +42,12 @@ struct Network {
     Graph graph;
     vector<Arc> arcs;
     vector<uint32_t> numbers;
+    uint64_t mean_weight;
 
     explicit Network(ArcList list) : graph(list), numbers(list.arcs.size()) {
+        uint64_t sum = 0;
+        for (const Arc& arc : list.arcs) sum += arc.weight;
+        mean_weight = list.arcs.empty() ? 0 : sum / list.arcs.size();
         vector<uint32_t> next(size_t(list.vertices) + 1);
         for (uint32_t v = 1; v <= list.vertices; v++) next[v] = graph.begin_of(v);
         for (uint32_t i = 0; i < list.arcs.size(); i++) numbers[next[list.arcs[i].tail]++] = i + 1;
@@ -63,6 +73,7 @@ class Question {
     vector<uint32_t> engager, deficit;
     vector<char> busy;
     std::unique_ptr<Mailbox[]> mailboxes;
+    std::unique_ptr<Hint[]> hints;
     std::atomic<uint32_t> done{0};
 
     uint32_t head_of(uint32_t arc) const { return arc == 0 ? source : network.arcs[arc].head; }
@@ -134,6 +145,26 @@ class Question {
         return true;
     }
 
+    // The worst value that a shard may take now: it is held back if another one shows a value.
+    uint64_t limit(uint32_t here) const {
+        uint64_t best = NO_VALUE;
+        for (uint32_t s = 0; s < settings.shards; s++) {
+            if (s != here) best = std::min(best, hints[s].word.load(std::memory_order_relaxed));
+        }
+        return best == NO_VALUE ? NO_VALUE : best + network.mean_weight;
+    }
+
+    // Handles items, as many as the budget and the limit allow; how many.
+    uint32_t handle_within(Part& part, uint32_t here, uint64_t limit) {
+        for (uint32_t k = 0; k < settings.budget; k++) {
+            if (part.queue.is_empty() || part.queue.is_held(limit)) return k;
+            Item item = part.queue.pop([&](const Item& waiting) { return waiting.value < labels[head_of(waiting.arc)]; });
+            if (item.is_signal) handle_signal(part, here, item.arc);
+            else handle_message(part, here, item);
+        }
+        return settings.budget;
+    }
+
 public:
     const uint32_t source;
     vector<uint64_t> labels;
@@ -142,7 +173,7 @@ public:
     Question(const Network& network, const vector<uint8_t>& shard_of, const Settings& settings, uint32_t source)
         : network(network), shard_of(shard_of), settings(settings), told(network.arcs.size(), UNREACHED),
           engager(shard_of.size(), NOT_ENGAGED), deficit(shard_of.size()), busy(network.arcs.size()),
-          mailboxes(new Mailbox[size_t(settings.shards) * settings.shards]), source(source),
+          mailboxes(new Mailbox[size_t(settings.shards) * settings.shards]), hints(new Hint[settings.shards]), source(source),
           labels(shard_of.size(), UNREACHED), parts(settings.shards) {
         for (Part& part : parts) {
             part.outboxes.resize(settings.shards);
@@ -158,12 +189,8 @@ public:
         for (uint32_t s = 0; s < settings.shards; s++) {
             if (s != here) did |= read_from(part, mailbox(s, here));
         }
-        for (uint32_t k = 0; k < settings.budget && !part.queue.is_empty(); k++) {
-            Item item = part.queue.pop([&](const Item& waiting) { return waiting.value < labels[head_of(waiting.arc)]; });
-            if (item.is_signal) handle_signal(part, here, item.arc);
-            else handle_message(part, here, item);
-            did = true;
-        }
+        did |= handle_within(part, here, settings.best_first ? limit(here) : NO_VALUE) > 0;
+        if (settings.best_first) hints[here].word.store(part.queue.best(), std::memory_order_relaxed);
         for (uint32_t s = 0; s < settings.shards; s++) {
             if (s != here) did |= publish(part.outboxes[s], mailbox(here, s));
         }

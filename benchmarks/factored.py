@@ -16,16 +16,22 @@ class Factored(Case):
         return "%s by factors, %s" % (self.files.name, self.kind)
 
     def commands(self, programs, folder):
-        graph, questions = self.files.graph, self.files.questions[self.kind]
-        return {"diffuse": self.ours(programs) + ["--plain"], FACTORS: self.ours(programs) + ["--factors"],
-                BASELINE: [programs[BASELINES[self.files.word_of(self.kind)]], graph, questions]}
-
-    def count(self):
-        """How many questions there are."""
-        return self.files.count_of(self.kind)
+        baseline = programs[BASELINES[self.files.word_of(self.kind)]]
+        return {"diffuse": self.ours(programs) + ["--plain", "--times"], FACTORS: self.ours(programs) + ["--factors", "--times"],
+                BASELINE: [baseline, self.files.graph, self.files.questions[self.kind], "--times"]}
 
     def ours(self, programs):
         return [programs["diffuse"], "solve", self.files.graph, self.files.questions[self.kind]]
+
+
+class FactoredAlone(Factored):
+    """The same without the others, which would take long."""
+
+    def title(self):
+        return super().title() + " alone"
+
+    def commands(self, programs, folder):
+        return {FACTORS: super().commands(programs, folder)[FACTORS]}
 
 
 class Bundled(Factored):
@@ -39,8 +45,3 @@ class Bundled(Factored):
 
     def input(self):
         return "".join(open(path, encoding="ascii").read() for path in (self.files.graph, self.files.questions[self.kind]))
-
-
-def each_of(less, more, name, what):
-    """What a question takes by a program, in each round: what more questions take beyond less, for each further one."""
-    return [beyond / (more.count() - less.count()) for beyond in more.beyond(less, name, what)]

@@ -1,10 +1,13 @@
 // Messages and signals that wait at a part of the graph.
 #pragma once
+#include <algorithm>
 #include <cstdint>
 #include <queue>
 #include <vector>
 
 using std::vector;
+
+constexpr uint64_t NO_VALUE = ~uint64_t(0);
 
 // A message on an arc, or the signal that answers it. Arc 0 leads from the environment to the source.
 struct Item {
@@ -65,6 +68,21 @@ public:
     void push(const Item& item) {
         if (best_first) unranked.push_back(item);
         else ring.push(item);
+    }
+
+    // The best value that waits, and none first come, first served.
+    uint64_t best() const {
+        uint64_t best = ranked.empty() ? NO_VALUE : ranked.top().value;
+        for (const Item& item : unranked) {
+            if (!item.is_signal) best = std::min(best, item.value);
+        }
+        return best;
+    }
+
+    // Best first, whether all that waits is messages worse than a limit.
+    bool is_held(uint64_t limit) const {
+        if (!best_first || (!ranked.empty() && ranked.top().value <= limit)) return false;
+        return std::all_of(unranked.begin(), unranked.end(), [&](const Item& item) { return !item.is_signal && item.value > limit; });
     }
 
     template <class Improves> Item pop(Improves improves) {

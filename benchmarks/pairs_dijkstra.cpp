@@ -1,13 +1,15 @@
 // Answers every pair of a .p2p as `diffuse solve GRAPH QUESTIONS` does, with the same bytes:
 //
-//     pairs_dijkstra GRAPH QUESTIONS
+//     pairs_dijkstra GRAPH QUESTIONS [--times]
 //
 // For each pair it searches as `heap_dijkstra` does until nothing waits that is as near as the target, and then goes over the
 // tight arcs up to the target's hops. Its lists are made once.
 #include "routes.hpp"
+#include "times.hpp"
 
 int main(int count, char** words) {
-    if (count != 3) stop("usage: pairs_dijkstra GRAPH QUESTIONS");
+    if (!has_two_files(count, words)) stop("usage: pairs_dijkstra GRAPH QUESTIONS [--times]");
+    Times times;
     Graph graph(read_graph(words[1]));
     vector<Pair> pairs = read_pairs(words[2], graph.vertices());
     RouteFinder finder(graph);
@@ -15,7 +17,9 @@ int main(int count, char** words) {
     Output out;
     out.line("p ans p2p", {pairs.size()}, " shortest");
     for (Pair pair : pairs) {
+        times.enter(SOLVING);
         uint64_t distance = finder.find(pair.source, pair.target, route);
+        times.enter(WRITING);
         out.line("q", {pair.source, pair.target});
         if (distance == UNREACHED) {
             out.line("u", {});
@@ -25,4 +29,5 @@ int main(int count, char** words) {
         out.list('r', route);
     }
     out.write_out();
+    if (count == 4) times.show();
 }

@@ -2,7 +2,7 @@
 import math
 import statistics
 
-from cases import BASELINE, DIFFUSING, PEAK, TIME, WALL
+from cases import BASELINE, DIFFUSING, PEAK, SOLVE, TIME, WALL
 from factored import FACTORS
 from inputs import PEER
 from services import FIRST
@@ -82,14 +82,13 @@ def beyond_of(title, pairs):
     return table
 
 
-def pairs_of(pairs):
-    """What a pair takes without reading, by diffuse and by the baseline; and the peak memory of both."""
-    table = Table("Pairs with --plain, without reading the graph: ratios as median (quartiles)",
+def pairs_of(cases):
+    """What it takes to solve a pair, by diffuse and by the baseline; and the peak memory of both."""
+    table = Table("Pairs with --plain, without reading and writing: ratios as median (quartiles)",
                   ["Graph and questions", "A pair", "of the baseline", "Time to the baseline", "Peak memory", "Peak memory to the baseline"])
-    for case, reading in ((case, reading) for case, reading in pairs if case.taken and reading.taken):
-        each = [seconds(max(0, statistics.median(case.beyond(reading, name, TIME))) / case.files.count_of(case.kind)) for name in ("diffuse", BASELINE)]
-        table.rows.append([case.title(), *each, spread(case.beyond_ratios(reading, BASELINE)), size(case.median("diffuse", PEAK)),
-                           spread(case.ratios(BASELINE, PEAK))])
+    for case in ran(cases):
+        each = [seconds(statistics.median(case.each(name, SOLVE))) for name in ("diffuse", BASELINE)]
+        table.rows.append([case.title(), *each, spread(case.ratios(BASELINE, SOLVE)), size(case.median("diffuse", PEAK)), spread(case.ratios(BASELINE, PEAK))])
     return table
 
 
@@ -120,7 +119,7 @@ def engine_growth_of(cases):
                   ["Graph", "Arcs", "Order", "Messages an arc", "diffuse", "ns a message", "of plain C++", "ns per n log n", "Time to the baseline",
                    "bytes per arc", "of plain C++"])
     for case in ran(cases):
-        vertices, arcs, messages = case.files.vertices, case.files.arcs, case.count()
+        vertices, arcs, messages = case.files.vertices, case.files.arcs, case.handled()
         time, theirs = case.median("diffuse", TIME), case.median(DIFFUSING, TIME)
         table.rows.append([case.files.name, "{:,}".format(arcs), case.order(), arc_of(case), seconds(time), "%.0f" % (time * 1e9 / messages),
                            "%.0f" % (theirs * 1e9 / messages), "%.0f" % (time * 1e9 / (vertices * math.log2(vertices))),
@@ -144,7 +143,7 @@ def settings_of(pairs):
         table.rows.append(["{:,}".format(number) for number in case.settings.values()]
                           + [case.order(), arc_of(case), seconds(case.median("diffuse", TIME)), seconds(case.median("diffuse", WALL)),
                              size(case.median("diffuse", PEAK))]
-                          + [ratio(statistics.median(it)) for it in ratios]
+                          + [ratio(statistics.median(it)) if it else "-" for it in ratios]
                           + [ratio(case.median("diffuse", TIME) / other.median("diffuse", TIME)) if other and other.taken else ""])
     return table
 
@@ -187,7 +186,7 @@ def locks_of(cases):
 
 def handled(known, case):
     """How many messages there must be, and whether diffuse handled so many."""
-    return "{:,}".format(known), "exactly these" if case.count() == known else "ANOTHER NUMBER: {:,}".format(case.count())
+    return "{:,}".format(known), "exactly these" if case.handled() == known else "ANOTHER NUMBER: {:,}".format(case.handled())
 
 
 def several_of(cases):
@@ -206,7 +205,7 @@ def served_of(cases):
     table = Table("Services", ["Graph and pairs", "How", "Pairs", "Pairs a second", "Wall time a pair", "Processor time a pair",
                                "First answer after", "Pays after pairs", "Peak memory"])
     for case, way in ((case, way) for case in ran(cases) for way in case.ways):
-        wall, time = (statistics.median(case.each(way, what)) for what in (WALL, TIME))
+        wall, time = (statistics.median(case.each_by(way, what)) for what in (WALL, TIME))
         pays = case.pays_after(way) if way.words != case.ways[0].words else None
         table.rows.append([case.title(), way.name, str(way.count), "%.1f" % (1 / wall), seconds(wall), seconds(time),
                            seconds(case.median(way.name, FIRST)), "%.0f" % pays if pays else "", size(case.median(way.name, PEAK))])
@@ -226,9 +225,9 @@ def factored_of(cases):
 
 def aims_of(aims):
     """Whether the median of each aim's ratios is at most what is aimed at, and how far it is from it."""
-    table = Table("Aims: medians of ratios", ["Graph, questions and settings", "Of", "Aim: at most", "Median", "Aim"])
+    table = Table("Aims: ratios as median (quartiles)", ["Graph, questions and settings", "Of", "Aim: at most", "Measured", "Aim"])
     for title, what, most, ratios in aims:
         median = statistics.median(ratios)
         word = "met" if median <= most else "missed by %.0f %%" % (100 * (median / most - 1))
-        table.rows.append([title, what, ratio(most), ratio(median), word])
+        table.rows.append([title, what, ratio(most), spread(ratios), word])
     return table

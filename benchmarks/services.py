@@ -23,10 +23,9 @@ class Way:
         self.name = "%s, %s%s" % (words[0], how, ", width %d" % each if self.wide else "")
 
 
-def ways_of(factors, few, many):
-    """A service by the search with few pairs, and if the program has factors by these with many: one and four pairs a request."""
-    search = [Way(BY_SEARCH, 1, few), Way(BY_SEARCH, 4, few)]
-    return search + ([Way(BY_FACTORS, 1, many), Way(BY_FACTORS, 4, many)] if factors else [])
+def ways_of(few, many):
+    """A service by the search with few pairs, and by factors with many: one and four pairs a request."""
+    return [Way(words, each, count) for words, count in ((BY_SEARCH, few), (BY_FACTORS, many)) for each in (1, 4)]
 
 
 def request(pairs):
@@ -118,7 +117,7 @@ class Served(Case):
         self.keep(way, sum(it[TIME] for it in taken), sum(it[WALL] for it in taken), max(it[PEAK] for it in taken), taken[0][WALL])
         return without_headers("".join(replies))
 
-    def each(self, way, what):
+    def each_by(self, way, what):
         """What a pair takes in this way, in each round."""
         return [taken[what] / way.count for taken in self.taken.get(way.name, [])]
 
@@ -126,5 +125,5 @@ class Served(Case):
         """After how many pairs a service with this way has caught up with the first way, one that answers by the search."""
         search = self.ways[0]
         once = self.median(way.name, FIRST) - self.median(search.name, FIRST)
-        saved = statistics.median(self.each(search, WALL)) - statistics.median(self.each(way, WALL))
+        saved = statistics.median(self.each_by(search, WALL)) - statistics.median(self.each_by(way, WALL))
         return max(1, 1 + once / saved) if saved > 0 else None

@@ -1,0 +1,127 @@
+"""What pairs, factors and the best message first are to reach: these cases, and the aims of each."""
+import statistics
+
+from cases import BASELINE, PEAK, SOLVE, TIME, WALL, Engine, Plain, ratios
+from chosen import Chosen
+from factored import FACTORS, Factored, FactoredAlone
+from inputs import FIVE_SOURCES, NEAR_PAIRS, ONE_SOURCE, READING, TEN_PAIRS, THOUSAND_PAIRS, TWENTY_PAIRS
+from report import Table, pairs_of, ran, seconds, served_of, settings_of, size, spread
+from services import BY_FACTORS, BY_SEARCH, Served, Way, ways_of
+
+# Workers, shards, width and budget of the engine, over five sources. The best message first is tried with each.
+ALONE, SIXTEEN, CUT, TOGETHER = (1, 1, 1, 1024), (1, 16, 1, 1024), (1, 64, 1, 1024), (4, 16, 5, 1024)
+ORDERS = AS_THEY_COME, BEST_FIRST = False, True
+
+# Best first, by settings: messages an arc, and to messages as they come the processor time; to the baseline, of what, and at most how much.
+ORDER_AIMS = {ALONE: (1, 0.2, TIME, 3.5), SIXTEEN: (1.05, 0.12, TIME, None), CUT: (1.05, 0.12, TIME, None), TOGETHER: (1.3, None, WALL, 2)}
+
+# A pair by factors, and order and build in pairs: both to the baseline's pair, by graph.
+FACTOR_AIMS = {"New York's size": (1 / 25, 60), "New York's size with rivers": (1 / 70, 60),
+               "Florida's size": (1 / 70, 35), "Florida's size with rivers": (1 / 150, 35)}
+
+
+class Reach(Chosen):
+    """Pairs and factors over graphs of two sizes, services, and workers in both orders of messages."""
+
+    def __init__(self, only, sizes, motorways, largest=None, same_rule=False):
+        """`largest` is a graph that takes long, `same_rule` whether plain C++ runs the engine's rule with messages as they come too."""
+        super().__init__(only)
+        new_york, far = sizes[0], [graph for graph in sizes if graph.name.startswith("Florida")]
+        self.whole = [Plain(graph, ONE_SOURCE) for graph in sizes]
+        self.pairs = [Plain(graph, kind) for kind in (TWENTY_PAIRS, NEAR_PAIRS) for graph in sizes]
+        self.built, self.many = ([FactoredAlone(graph, kind, graph in far) for graph in sizes] for kind in (READING, THOUSAND_PAIRS))
+        self.served = [Served(new_york, THOUSAND_PAIRS, ways_of(40, 400) + [Way(BY_SEARCH, 0, 40)]), Served(new_york, NEAR_PAIRS, ways_of(1000, 1000)[::2])]
+        self.engine = {(settings, order): Engine(motorways, FIVE_SOURCES, settings, order, same_rule or order) for order in ORDERS for settings in ORDER_AIMS}
+        self.by_order = [Engine(new_york, ONE_SOURCE, ALONE, order, same_rule or order) for order in ORDERS]
+        self.by_order[0].is_once = True
+        self.largest = [Factored(largest, TEN_PAIRS, True), FactoredAlone(largest, THOUSAND_PAIRS, True)] if largest else []
+
+    def workers(self):
+        return [*self.engine.values(), *self.by_order]
+
+    def cases(self):
+        return self.whole + self.pairs + self.built + self.many + self.served + self.workers() + self.largest
+
+    def tables(self):
+        return [pairs_of(self.pairs), self.factors_of(), served_of(self.served), settings_of(in_both_orders(self.engine))]
+
+    def of(self, cases, graph, kind=None):
+        """The case of a graph, of a kind if there are several."""
+        return next(case for case in cases if case.files is graph and kind in (None, case.kind))
+
+    def ratios_of(self, graph):
+        """By factors: order and build, and a pair, in pairs of the baseline; in each round."""
+        built, many = self.of(self.built, graph), self.of(self.many, graph)
+        pair = self.of(self.pairs, graph, TWENTY_PAIRS).each(BASELINE, SOLVE)
+        return ratios([taken[SOLVE] for taken in built.taken.get(FACTORS, [])], pair), ratios(many.each(FACTORS, SOLVE, built), pair)
+
+    def factors_of(self):
+        """What factors take, what a pair takes by them, and after how many pairs they have paid for themselves."""
+        table = Table("Factors by solve, without reading and writing: ratios as median (quartiles)",
+                      ["Graph", "Order and build", "in pairs of the baseline", "A pair", "by --plain", "to the baseline's", "Pays after pairs", "Peak memory"])
+        for built in ran(self.built):
+            graph = built.files
+            many, twenty = self.of(self.many, graph), self.of(self.pairs, graph, TWENTY_PAIRS)
+            if not (many.taken and twenty.taken):
+                continue
+            once, pair, plain = built.median(FACTORS, SOLVE), statistics.median(many.each(FACTORS, SOLVE, built)), statistics.median(twenty.each("diffuse", SOLVE))
+            order, each = self.ratios_of(graph)
+            table.rows.append([graph.name, seconds(once), spread(order), seconds(max(0, pair)), seconds(plain), spread(each),
+                               "%.0f" % (once / (plain - pair)) if plain > pair else "never", size(many.median(FACTORS, PEAK))])
+        return table
+
+    def aims(self):
+        """What is aimed at: of what, the most, and the ratios that were measured."""
+        return [aim for aim in self.pair_aims() + self.factor_aims() + self.service_aims() + self.order_aims() + self.largest_aims() if aim[3]]
+
+    def pair_aims(self):
+        """Pairs to the baseline, and to a search for all vertices, which is what a pair takes that does not stop at its target."""
+        aims = []
+        for case in self.pairs:
+            near = case.kind == NEAR_PAIRS
+            whole = self.of(self.whole, case.files)
+            aims += [(case.title(), "solving, to a search of all vertices", 0.15 if near else 0.55, ratios(case.each("diffuse", SOLVE), whole.each("diffuse", SOLVE))),
+                     (case.title(), "solving, to the baseline", 0.8, case.ratios(BASELINE, SOLVE))]
+            aims += [] if near else [(case.title(), "peak memory, to the baseline", 1.2, case.ratios(BASELINE, PEAK))]
+        return aims
+
+    def factor_aims(self):
+        aims = []
+        for case in self.built:
+            pair, once = FACTOR_AIMS[case.files.name]
+            order, each = self.ratios_of(case.files)
+            aims += [(case.files.name, "a pair by factors, to the baseline", pair, each), (case.files.name, "order and build, in pairs of the baseline", once, order)]
+        return aims
+
+    def service_aims(self):
+        """Services, in milliseconds a pair."""
+        random, near = self.served
+        wanted = [(random, BY_SEARCH, (1000 / 45,)), (random, BY_FACTORS, (2, 1)), (near, BY_SEARCH, (1000 / 300,))]
+        return [(case.title(), way.name + ": ms a pair", most, [1e3 * it for it in case.each_by(way, WALL)])
+                for case, words, aims in wanted for way, most in zip([way for way in case.ways if way.words == words and way.each], aims)]
+
+    def order_aims(self):
+        """The best message first: messages, time and memory to those as messages come, and time to the baseline."""
+        aims = []
+        for settings, (arc, time, what, slower) in ORDER_AIMS.items():
+            best, other = self.engine[settings, BEST_FIRST], self.engine[settings, AS_THEY_COME]
+            wanted = [("messages an arc", arc, best.each_arc()), ("processor time, to messages as they come", time, best.ratios_to(other, TIME)),
+                      ("%s, to the baseline" % what, slower, best.ratios(BASELINE, what)),
+                      ("peak memory, to messages as they come", 1.05, best.ratios_to(other, PEAK))]
+            aims += [(best.title(), of, most, numbers) for of, most, numbers in wanted if most]
+        other, best = self.by_order
+        return aims + [(best.title(), "messages an arc", 1, best.each_arc()), (best.title(), "processor time, to messages as they come", 0.02, best.ratios_to(other, TIME))]
+
+    def largest_aims(self):
+        """The largest graph, factored in 8 GB; and a pair to one of the baseline."""
+        if not self.largest:
+            return []
+        ten, many = self.largest
+        pair = [(more - less) / (many.count() - ten.count()) for more, less in zip(*([taken[SOLVE] for taken in case.taken.get(FACTORS, [])] for case in (many, ten)))]
+        return [(ten.title(), "peak memory in GB", 8, [taken[PEAK] / 1e9 for taken in many.taken.get(FACTORS, [])]),
+                (ten.title(), "a pair by factors, to the baseline", 1 / 300, ratios(pair, ten.each(BASELINE, SOLVE)))]
+
+
+def in_both_orders(engine):
+    """The cases of workers, those with the best message first with the same as messages come."""
+    return [(case, engine[settings, AS_THEY_COME] if order else None) for (settings, order), case in engine.items()]

@@ -5,8 +5,8 @@
 //
 // Each round asks all of them for a tree, a route and a near route, by the pairs in turn, and each seventh round for a table of
 // the first hundred sources and targets; another one begins each time. A line for each, with commas: its name, the bytes of its
-// graph and of its factors, microseconds of processor time for opening and for factoring, and for each kind of answer the
-// median and a check number. libdiffuse is asked with its graph as it is, and factored.
+// graph and of its factors, microseconds of processor time for opening and for factoring, and for each kind of answer a check
+// number and the microseconds of each round. libdiffuse is asked with its graph as it is, and factored.
 #include "other_libraries.hpp"
 #include "routes.hpp"
 

@@ -7,6 +7,7 @@ All of them answer in one run of library.cpp. A ratio is what one took for one t
 """
 import argparse
 import os
+import statistics
 import subprocess
 import sys
 
@@ -14,7 +15,7 @@ sys.dont_write_bytecode = True
 
 import inputs
 from inputs import NEAR_PAIRS, THOUSAND_PAIRS, Rivers, Roads, compiler, note, stop
-from report import Table, ratio, seconds
+from report import Table, ratio, seconds, spread
 
 SIZES = [("New York's size", (264346, 733846)), ("Florida's size", (1070376, 2712798))]
 LIBRARY, FACTORED, BASELINE = "libdiffuse", "libdiffuse with factors", "baseline"
@@ -32,12 +33,14 @@ BYTES_AIM, TABLE_AIM = 160, 1 / 1000
 
 
 class Measured:
-    """What library.cpp reports of one library: bytes of its graph and factors, and seconds; check numbers for each kind of answer."""
+    """What library.cpp reports of one library: bytes of its graph and factors, and seconds; for each kind of answer a check number."""
 
     def __init__(self, line):
-        self.name, *numbers = line.split(",")
-        self.bytes, self.factor_bytes, self.checks = int(numbers[0]), int(numbers[1]), numbers[5::2]
-        self.opening, self.factoring, *self.times = (float(it) / 1e6 for it in numbers[2:4] + numbers[4::2])
+        self.name, graph, factors, opening, factoring, *kinds = line.split(",")
+        self.bytes, self.factor_bytes, self.checks = int(graph), int(factors), kinds[::2]
+        self.opening, self.factoring = float(opening) / 1e6, float(factoring) / 1e6
+        self.rounds = [[float(it) / 1e6 for it in times.split()] for times in kinds[1::2]]
+        self.times = [statistics.median(rounds) if rounds else 0 for rounds in self.rounds]
 
 
 class Library:
@@ -59,23 +62,27 @@ class Library:
                 found.append(Library(graph, peers_of(programs["library"], graph, rounds)))
         return found
 
-    def routes(self, seconds):
-        """How many routes of the baseline take so long."""
-        return seconds / self.peers[BASELINE].times[ROUTE]
+    def ratios(self, name, kind):
+        """What a library took for one that the baseline took for the same answer, in each round."""
+        return [one / other for one, other in zip(self.peers[name].rounds[kind], self.peers[BASELINE].rounds[kind])]
+
+    def in_routes(self, seconds):
+        """How many routes of the baseline take so long, by the route of each round."""
+        return [seconds / route for route in self.peers[BASELINE].rounds[ROUTE]]
 
     def aims(self):
         ours, theirs, factored = (self.peers[name] for name in (LIBRARY, BASELINE, FACTORED))
         title = "%s, C library" % self.name
         route, tree, routes = FACTOR_AIMS[self.name]
-        aims = [("a tree, to the baseline", TREE_AIM, ours.times[TREE] / theirs.times[TREE]),
-                ("a route, to the baseline", ROUTE_AIM, self.routes(ours.times[ROUTE])),
-                ("memory of a graph, to the baseline", GRAPH_AIM, ours.bytes / theirs.bytes),
-                ("a route with factors, to the baseline", route, self.routes(factored.times[ROUTE])),
-                ("a tree with factors, to the baseline", tree, factored.times[TREE] / theirs.times[TREE]),
-                ("order and build, in routes of the baseline", routes, self.routes(factored.factoring)),
-                ("factors, bytes a vertex", BYTES_AIM, factored.factor_bytes / self.vertices),
-                ("a table with factors, to its routes by the baseline", TABLE_AIM, self.routes(factored.times[TABLE]) / ENDS ** 2)]
-        return [(title, what, most, [number]) for what, most, number in aims]
+        each = [table / ENDS ** 2 for table in factored.rounds[TABLE]]
+        return [(title, "a tree, to the baseline", TREE_AIM, self.ratios(LIBRARY, TREE)),
+                (title, "a route, to the baseline", ROUTE_AIM, self.ratios(LIBRARY, ROUTE)),
+                (title, "memory of a graph, to the baseline", GRAPH_AIM, [ours.bytes / theirs.bytes]),
+                (title, "a route with factors, to the baseline", route, self.ratios(FACTORED, ROUTE)),
+                (title, "a tree with factors, to the baseline", tree, self.ratios(FACTORED, TREE)),
+                (title, "order and build, in routes of the baseline", routes, self.in_routes(factored.factoring)),
+                (title, "factors, bytes a vertex", BYTES_AIM, [factored.factor_bytes / self.vertices]),
+                (title, "a table with factors, to its routes by the baseline", TABLE_AIM, [time / theirs.times[ROUTE] for time in each])]
 
 
 def build(folder, prefix):
@@ -99,13 +106,13 @@ def peers_of(program, graph, rounds):
 
 def library_of(found):
     """Processor time, medians over the rounds, and bytes."""
-    table = Table("Libraries: a graph that is kept", ["Graph", "Library", "Open", "Tree", "Ratio", "Route", "Ratio", "Near route", "Ratio", "Graph, MB", "Ratio"])
+    table = Table("Libraries, a graph that is kept: ratios as median (quartiles)", ["Graph", "Library", "Open", "Tree", "Ratio", "Route", "Ratio", "Near route", "Ratio", "Graph, MB", "Ratio"])
     for one in found:
         baseline = one.peers[BASELINE]
         for peer in one.peers.values():
             row = [one.name, peer.name, seconds(peer.opening)]
-            for time, other in list(zip(peer.times, baseline.times))[:TABLE]:
-                row += [seconds(time), ratio(time / other)] if time else ["", ""]
+            for kind in (TREE, ROUTE, NEAR_ROUTE):
+                row += [seconds(peer.times[kind]), spread(one.ratios(peer.name, kind))] if peer.times[kind] else ["", ""]
             table.rows.append(row + ["%.1f" % (peer.bytes / 1e6), ratio(peer.bytes / baseline.bytes)])
     return table
 
@@ -117,7 +124,7 @@ def factors_of(found):
     for one in found:
         plain, factored = one.peers[LIBRARY], one.peers[FACTORED]
         saved = plain.times[ROUTE] - factored.times[ROUTE]
-        table.rows.append([one.name, seconds(factored.factoring), "%.0f" % one.routes(factored.factoring), "%.0f" % (factored.factor_bytes / one.vertices),
+        table.rows.append([one.name, seconds(factored.factoring), spread(one.in_routes(factored.factoring)), "%.0f" % (factored.factor_bytes / one.vertices),
                            "%.0f" % (factored.factoring / saved) if saved > 0 else "never"]
                           + [seconds(peer.times[TABLE]) for peer in (factored, plain, one.peers[BASELINE])])
     return table

@@ -2,7 +2,6 @@
 #pragma once
 #include "common.hpp"
 
-#include <algorithm>
 #include <ctime>
 #include <malloc.h>
 
@@ -15,12 +14,6 @@ static double now() {
 static size_t bytes_in_use() {
     struct mallinfo2 all = mallinfo2();
     return all.uordblks + all.hblkhd;
-}
-
-static double median(vector<double> times) {
-    if (times.empty()) return 0;
-    std::nth_element(times.begin(), times.begin() + times.size() / 2, times.end());
-    return times[times.size() / 2];
 }
 
 // What is asked for: all distances from a source, a route, a route to a neighbour, and the distances from many to many.
@@ -70,7 +63,10 @@ struct Peer {
 
     void print() const {
         std::printf("%s,%zu,%zu,%.0f,%.0f", name, bytes, factor_bytes, opening, factoring);
-        for (int kind = 0; kind < KINDS; kind++) std::printf(",%.2f,%llu", median(times[kind]), static_cast<unsigned long long>(checks[kind]));
+        for (int kind = 0; kind < KINDS; kind++) {
+            std::printf(",%llu,", static_cast<unsigned long long>(checks[kind]));
+            for (double time : times[kind]) std::printf("%.2f ", time);
+        }
         std::printf("\n");
     }
 };

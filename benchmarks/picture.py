@@ -76,8 +76,8 @@ class Panel:
 
 
 def by_workers(plan):
-    cases = {order: sorted((case for case in plan.engine.values() if case.best_first == order and list(case.settings.values())[1:] == [16, 5, 1024]),
-                           key=lambda case: case.settings["workers"]) for order in (False, True)}
+    cases = {order: [case for case in plan.engine.values() if case.best_first == order and list(case.settings.values())[1:] == [16, 5, 1024]]
+             for order in (False, True)}
     workers = [case.settings["workers"] for case in cases[False]]
     panel = Panel(75, "Wall time of five sources", "workers (16 shards, width 5; {:,} vertices)".format(cases[False][0].files.vertices), workers, str)
     one_thread = [plan.batches[FIVE_IN_TURN].median("diffuse", WALL)] * len(workers)

@@ -6,7 +6,7 @@ from factored import Bundled, Factored
 from inputs import (EIGHT_SOURCES, FIVE_PAIRS, FIVE_SOURCES, FOUR_SOURCES, HUNDRED_PAIRS, ONE_LIST, ONE_PAIR, ONE_SOURCE, READING,
                     TEN_PAIRS, THOUSAND_PAIRS, Family, Given, Rivers, Roads)
 from picture import FIVE_IN_TURN
-from reach import ALONE, AS_THEY_COME, CUT, ORDERS, TOGETHER, Reach, in_both_orders
+from reach import ALONE, AS_THEY_COME, CUT, ORDERS, SIXTEEN, TOGETHER, Reach, in_both_orders
 from report import (batches_of, engine_growth_of, factored_of, growth_of, locks_of, seconds, served_of, settings_of, several_of,
                     shapes_of, table_of)
 from services import Served, ways_of
@@ -27,8 +27,8 @@ BATCHES = [FIVE_IN_TURN, (FOUR_SOURCES, 1), (FOUR_SOURCES, 4), (FIVE_PAIRS, 1), 
 # Pairs in growing numbers, by factors.
 SERIES = (ONE_PAIR, TEN_PAIRS, HUNDRED_PAIRS, THOUSAND_PAIRS)
 
-# Workers, shards, width and budget of the engine beside those of its aims.
-SETTINGS = [(1, 16, 5, 1024), (2, 16, 5, 1024), (4, 16, 1, 1024), (4, 4, 1, 1024), (4, 64, 5, 1024), (4, 16, 5, 64), (4, 16, 5, 65536)]
+# Workers, shards, width and budget of the engine.
+SETTINGS = [ALONE, SIXTEEN, CUT, (1, 16, 5, 1024), (2, 16, 5, 1024), TOGETHER, (4, 16, 1, 1024), (4, 4, 1, 1024), (4, 64, 5, 1024), (4, 16, 5, 64), (4, 16, 5, 65536)]
 
 # Shapes at two sizes, with workers and shards, and in both orders or only as messages come.
 SHAPES = [(shapes.star, 500000, 2000000, 1, 1, ORDERS), (shapes.star, 500000, 2000000, 4, 4, ORDERS[:1]),
@@ -89,7 +89,8 @@ class Plan(Chosen):
         self.batches = {batch: Batch(new_york, *batch) for batch in BATCHES}
         self.served = [Served(graph, THOUSAND_PAIRS, ways_of(few, 400)) for graph, few in ((rivers[0], 40), (florida, 20), (rivers[1], 20))]
         self.factored = [Factored(graph, kind, kind == THOUSAND_PAIRS) for graph in (new_york, rivers[0]) for kind in SERIES] + [Bundled(rivers[0], HUNDRED_PAIRS)]
-        self.engine = {**self.reach.engine, **{(settings, order): Engine(motorways, FIVE_SOURCES, settings, order) for order in ORDERS for settings in SETTINGS}}
+        self.engine = {(settings, order): self.reach.engine.get((settings, order)) or Engine(motorways, FIVE_SOURCES, settings, order)
+                       for order in ORDERS for settings in SETTINGS}
         growing = [graph_of(sized(size, small), kind) for kind, sizes in ENGINE_GROWTH for size in sizes]
         self.engine_growth = [case for order, last in zip(ORDERS, self.reach.by_order) for case in [Engine(graph, ONE_SOURCE, ALONE, order) for graph in growing] + [last]]
         by = 10 if small else 1
@@ -117,7 +118,7 @@ class Plan(Chosen):
         pairs, factors, *_ = self.reach.tables()
         return self.plain_tables(self.plain, reading) + [
             pairs, several_of(self.several), growth_of(self.growth), table_of("Families of the challenge with --plain: one source", TIME, seconds, self.families),
-            batches_of(list(self.batches.values()), self.plain[0]), served_of(self.reach.served + self.served), factors, factored_of(self.factored),
+            batches_of(list(self.batches.values()), self.plain[0]), served_of(self.reach.served + self.served), factors, factored_of(self.factored + self.reach.largest[:1]),
             settings_of(in_both_orders(self.engine)), engine_growth_of(self.engine_growth), shapes_of(self.shapes), locks_of(self.locks)]
 
     def aims(self):

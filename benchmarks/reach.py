@@ -5,7 +5,7 @@ from cases import BASELINE, PEAK, SOLVE, TIME, WALL, Engine, Plain, ratios
 from chosen import Chosen
 from factored import FACTORS, Factored, FactoredAlone
 from inputs import FIVE_SOURCES, NEAR_PAIRS, ONE_SOURCE, READING, TEN_PAIRS, THOUSAND_PAIRS, TWENTY_PAIRS
-from report import Table, pairs_of, ran, seconds, served_of, settings_of, size, spread
+from report import Table, factored_of, pairs_of, ran, seconds, served_of, settings_of, size, spread
 from services import BY_FACTORS, BY_SEARCH, Served, Way, ways_of
 
 # Workers, shards, width and budget of the engine, over five sources. The best message first is tried with each.
@@ -21,7 +21,7 @@ FACTOR_AIMS = {"New York's size": (1 / 25, 60), "New York's size with rivers": (
 
 
 class Reach(Chosen):
-    """Pairs and factors over graphs of two sizes, services, and workers in both orders of messages."""
+    """Pairs and factors over graphs of two sizes; services; workers in both orders of messages."""
 
     def __init__(self, only, sizes, motorways, largest=None, same_rule=False):
         """`largest` is a graph that takes long, `same_rule` whether plain C++ runs the engine's rule with messages as they come too."""
@@ -43,7 +43,8 @@ class Reach(Chosen):
         return self.whole + self.pairs + self.built + self.many + self.served + self.workers() + self.largest
 
     def tables(self):
-        return [pairs_of(self.pairs), self.factors_of(), served_of(self.served), settings_of(in_both_orders(self.engine))]
+        return [pairs_of(self.pairs), self.factors_of(), factored_of(self.largest[:1]), served_of(self.served),
+                settings_of(in_both_orders(self.engine) + [(self.by_order[0], None), self.by_order[::-1]])]
 
     def of(self, cases, graph, kind=None):
         """The case of a graph, of a kind if there are several."""

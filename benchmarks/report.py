@@ -134,13 +134,12 @@ def arc_of(case):
 
 def settings_of(pairs):
     """What workers, shards, width and budget do; each setting best first, with the same as messages come."""
-    name = "Workers: %s, %s" % (pairs[0][0].files.name, pairs[0][0].kind)
-    table = Table(name, ["Workers", "Shards", "Width", "Budget", "Order", "Messages an arc", "Processor time", "Wall time", "Peak memory",
+    table = Table("Workers", ["Graph and questions", "Workers", "Shards", "Width", "Budget", "Order", "Messages an arc", "Processor time", "Wall time", "Peak memory",
                          "Time to plain C++", "Wall to plain C++", "Memory to plain C++", "Time to the baseline", "Wall to the baseline",
                          "Time to the other order"])
     for case, other in ((case, other) for case, other in pairs if case.taken):
         ratios = [case.ratios(DIFFUSING, what) for what in (TIME, WALL, PEAK)] + [case.ratios(BASELINE, what) for what in (TIME, WALL)]
-        table.rows.append(["{:,}".format(number) for number in case.settings.values()]
+        table.rows.append(["%s, %s" % (case.files.name, case.kind)] + ["{:,}".format(number) for number in case.settings.values()]
                           + [case.order(), arc_of(case), seconds(case.median("diffuse", TIME)), seconds(case.median("diffuse", WALL)),
                              size(case.median("diffuse", PEAK))]
                           + [ratio(statistics.median(it)) if it else "-" for it in ratios]

@@ -8,9 +8,14 @@ from pathlib import Path
 TOP = Path(__file__).resolve().parent.parent
 
 
+def plain_parser_of(page):
+    """A command line that is explained by a text."""
+    return argparse.ArgumentParser(description=page, formatter_class=argparse.RawDescriptionHelpFormatter)
+
+
 def parser_of(page):
     """A command line that ends with the program, and is explained by a text."""
-    parser = argparse.ArgumentParser(description=page, formatter_class=argparse.RawDescriptionHelpFormatter)
+    parser = plain_parser_of(page)
     parser.add_argument("program", nargs="?", type=whole_path, default=str(TOP / "crates/diffuse/out/diffuse"))
     return parser
 

@@ -12,8 +12,8 @@ from inputs import ONE_SOURCE, PEER, READING, stop
 BASELINE, DIFFUSING = "baseline", "diffusing"
 TIME, WALL, PEAK, MESSAGES = "processor time", "wall time", "peak memory", "messages"
 
-# The part of the wall time in which a program solves, if it was run with --times.
-SOLVE = "solving time"
+# The parts of the wall time, if a program was run with --times.
+PARTS = READ, SOLVE, WRITE = "reading time", "solving time", "writing time"
 BASELINES = {"ss": "heap_dijkstra", "p2p": "pairs_dijkstra"}
 
 
@@ -226,8 +226,9 @@ def measured(measure, command, answer, text=""):
     time, wall, peak, status = run.stdout.split()
     if status != "0":
         stop("status %s of: %s: %s" % (status, " ".join(command), run.stderr.strip()))
-    shown = re.search(r"^times: read [\d.]+ solve ([\d.]+) ", run.stderr, re.M)
-    return {TIME: float(time), WALL: float(wall), PEAK: int(peak) * 1024, SOLVE: float(shown[1]) if shown else None}, run.stderr.strip()
+    shown = re.search(r"^times: read ([\d.]+) solve ([\d.]+) write ([\d.]+)$", run.stderr, re.M)
+    parts = dict(zip(PARTS, map(float, shown.groups()))) if shown else {}
+    return {TIME: float(time), WALL: float(wall), PEAK: int(peak) * 1024, **parts}, run.stderr.strip()
 
 
 def check_launcher(measure):

@@ -5,9 +5,9 @@
 //     families Long-n K SEED               a grid of 16 by 2^(K - 4) vertices; lengths up to 2^K
 //     families Square-n K SEED             a grid of 2^(K / 2) by 2^(K / 2) vertices, K even; lengths up to 2^K
 //
-// After the challenge's description; its own generators could not be consulted, so these are other graphs of these families.
-// Chosen here: a random graph is a cycle through all vertices, in a random order, and arcs with random ends; in a grid there is
-// an arc each way between neighbours in a row or a column; the length of each arc is drawn by itself, from 0 to the greatest.
+// As README.md defines them, after the challenge's reports: a random graph is a cycle through all vertices, in a random order, and
+// arcs with random ends; in a grid there is an arc each way between neighbours in a row or a column; the length of each arc is
+// drawn by itself, from 0 to the greatest.
 // The same words give the same bytes on every machine.
 #include "graphs.hpp"
 #include "random.hpp"

@@ -7,8 +7,8 @@ from inputs import (EIGHT_SOURCES, FIVE_PAIRS, FIVE_SOURCES, FOUR_SOURCES, HUNDR
                     TEN_PAIRS, THOUSAND_PAIRS, Family, Given, Rivers, Roads)
 from picture import FIVE_IN_TURN
 from reach import ALONE, AS_THEY_COME, CUT, ORDERS, SIXTEEN, TOGETHER, Reach, in_both_orders
-from report import (batches_of, engine_growth_of, factored_of, growth_of, locks_of, seconds, served_of, settings_of, several_of,
-                    shapes_of, table_of)
+from report import (batches_of, engine_growth_of, factored_of, growth_of, locks_of, parts_of, seconds, served_of, settings_of,
+                    several_of, shapes_of, table_of)
 from services import Served, ways_of
 from shapes import Shape
 
@@ -117,7 +117,7 @@ class Plan(Chosen):
         reading = {case.files: case for case in self.plain if case.kind == READING}
         pairs, factors, *_ = self.reach.tables()
         return self.plain_tables(self.plain, reading) + [
-            pairs, several_of(self.several), growth_of(self.growth), table_of("Families of the challenge with --plain: one source", TIME, seconds, self.families),
+            parts_of([case for case in self.plain if case.kind == ONE_SOURCE]), pairs, several_of(self.several), growth_of(self.growth), table_of("Families of the challenge with --plain: one source", TIME, seconds, self.families),
             batches_of(list(self.batches.values()), self.plain[0]), served_of(self.reach.served + self.served), factors, factored_of(self.factored + self.reach.largest[:1]),
             settings_of(in_both_orders(self.engine)), engine_growth_of(self.engine_growth), shapes_of(self.shapes), locks_of(self.locks)]
 

@@ -2,7 +2,7 @@
 import math
 import statistics
 
-from cases import BASELINE, DIFFUSING, PEAK, SOLVE, TIME, WALL
+from cases import BASELINE, DIFFUSING, PARTS, PEAK, SOLVE, TIME, WALL
 from factored import FACTORS
 from inputs import PEER
 from services import FIRST
@@ -79,6 +79,17 @@ def beyond_of(title, pairs):
     for case, reading in pairs:
         ours = max(0, statistics.median(case.beyond(reading, "diffuse", TIME)))
         table.rows.append([case.title(), seconds(ours)] + [spread(case.beyond_ratios(reading, name)) for name in names])
+    return table
+
+
+def parts_of(cases):
+    """Which part of the wall time programs read, solve and write, as medians; and the longest round to the shortest."""
+    table = Table("Where the time of one source goes, with --plain", ["Graph and questions", "Program", "Reading", "Solving", "Writing", "Longest round to shortest"])
+    for case, name in ((case, name) for case in ran(cases) for name in ("diffuse", BASELINE)):
+        whole = [sum(taken[part] for part in PARTS) for taken in case.taken[name]]
+        shares = [statistics.median(taken[part] / all for taken, all in zip(case.taken[name], whole) if all) if any(whole) else 0 for part in PARTS]
+        times = [taken[TIME] for taken in case.taken[name]]
+        table.rows.append([case.title(), name] + ["%.0f %%" % (100 * share) for share in shares] + ["%.2f" % (max(times) / min(times))])
     return table
 
 

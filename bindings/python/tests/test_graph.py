@@ -37,6 +37,12 @@ class Answers(unittest.TestCase):
         self.assertEqual(graph.route(1, 4, "within", 8), Route(8, 3, [1, 3, 2, 4]))
         self.assertEqual(graph.route(1, 4, diffuse.Algebra.HOPS).vertices, [1, 2, 4])
 
+    def test_routes_of_each_algebra_by_its_name(self):
+        wanted = {"shortest": 8, "widest": 4, "reach": 0, "hops": 2, "reliable": 20, "within": 8}
+        self.assertEqual(set(wanted), set(diffuse.ALGEBRAS))
+        for name, value in wanted.items():
+            self.assertEqual(Graph(5, ARCS).route(1, 4, name, 8 if name == "within" else None).value, value, name)
+
     def test_several_sources_and_routes_of_a_tree(self):
         tree = Graph(5, ARCS).tree([4, 5])
         self.assertEqual(listed(tree), [[3, 6, 4, 0, 0], [1, 3, 2, 0, 0], [5, 3, 1, 0, 0]])

@@ -43,6 +43,27 @@ fn a_tree_and_its_check() {
 }
 
 #[test]
+fn each_reason_by_its_name() {
+    let graph = five();
+    for (vertex, line, reason) in [
+        (1, (0, 1, 0), Reason::NotASourceLine),
+        (2, (4, 2, 3), Reason::NotBest),
+        (5, (7, 0, 0), Reason::NoParent),
+        (4, (8, 4, 2), Reason::OtherHops),
+        (4, (Tree::UNREACHED, 0, 0), Reason::HasWalk),
+    ] {
+        let mut tree = graph.tree(Algebra::Shortest, &[1]).unwrap();
+        let place = vertex as usize - 1;
+        (tree.codes[place], tree.hops[place], tree.parents[place]) = line;
+        assert_eq!(graph.check(Algebra::Shortest, &[1], &tree), Ok(Some(Wrong { vertex, reason })));
+    }
+    let two_ways = Graph::open(4, &[arc(1, 2, 1), arc(1, 3, 1), arc(2, 4, 1), arc(3, 4, 1)]).unwrap();
+    let tree = Tree { codes: vec![0, 1, 1, 2], hops: vec![0, 1, 1, 2], parents: vec![0, 1, 1, 3] };
+    let wrong = Wrong { vertex: 4, reason: Reason::LesserParent };
+    assert_eq!(two_ways.check(Algebra::Shortest, &[1], &tree), Ok(Some(wrong)));
+}
+
+#[test]
 fn a_table_by_searches_and_by_factors() {
     let graph = five();
     for _ in 0..2 {

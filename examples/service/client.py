@@ -8,10 +8,10 @@ class Died(Exception):
 
 
 class Service:
-    """A service over a graph, with --plain: without it a route may take sixty times as long."""
+    """A service over a graph: by --plain, or for hundreds of pairs by --factors. Without either a route takes far longer."""
 
-    def __init__(self, graph):
-        words = ["diffuse", "serve", graph, "--plain"]
+    def __init__(self, graph, way="--plain"):
+        words = ["diffuse", "serve", graph, way]
         self.run = subprocess.Popen(words, stdin=subprocess.PIPE, stdout=subprocess.PIPE, text=True)
 
     def route(self, source, target):
@@ -36,9 +36,9 @@ class Service:
             self.run.stdin.close()
         return self.run.wait()
 
-    def switched(self, graph):
+    def switched(self, graph, way="--plain"):
         """A service over another graph, once it answers. This one ends when it has answered all."""
-        other = Service(graph)
+        other = Service(graph, way)
         other.route(1, 1)
         self.stop()
         return other
@@ -46,7 +46,7 @@ class Service:
 
 five = Service("examples/five_vertices.gr")
 print(five.route(1, 4), five.route(1, 5), five.route(4, 4))
-town = five.switched("examples/small_town.gr")
+town = five.switched("examples/small_town.gr", "--factors")
 print(town.route(1, 5), five.run.returncode)
 town.run.kill()
 try:

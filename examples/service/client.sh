@@ -2,9 +2,9 @@
 # Asks a service for routes, one pair at a time.
 trap '' PIPE # a service that has died must not end this script
 
-# Starts a service over a graph. Without --plain a route may take sixty times as long.
+# Starts a service over a graph: by --plain, or for hundreds of pairs by --factors. Without either a route takes far longer.
 start() {
-    coproc SERVICE { exec diffuse serve "$1" --plain; }
+    coproc SERVICE { exec diffuse serve "$1" "${2:---plain}"; }
     service=$SERVICE_PID to=${SERVICE[1]} from=${SERVICE[0]}
 }
 
@@ -35,7 +35,7 @@ route 1 4
 route 1 5
 route 4 4
 stop
-start examples/small_town.gr
+start examples/small_town.gr --factors
 route 1 5
 kill "$service"
 route 1 5 || { start examples/small_town.gr; route 1 5; }

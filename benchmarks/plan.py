@@ -116,7 +116,8 @@ class Plan(Chosen):
     def tables(self):
         reading = {case.files: case for case in self.plain if case.kind == READING}
         pairs, factors, *_ = self.reach.tables()
-        return self.plain_tables(self.plain, reading) + [
+        with_own = [case for case in self.reach.pairs + self.growth if case.found]
+        return self.plain_tables(self.plain + with_own, reading) + [
             parts_of([case for case in self.plain if case.kind == ONE_SOURCE]), pairs, several_of(self.several), growth_of(self.growth), table_of("Families of the challenge with --plain: one source", TIME, seconds, self.families),
             batches_of(list(self.batches.values()), self.plain[0]), served_of(self.reach.served + self.served), factors, factored_of(self.factored + self.reach.largest[:1]),
             settings_of(in_both_orders(self.engine)), engine_growth_of(self.engine_growth), shapes_of(self.shapes), locks_of(self.locks)]

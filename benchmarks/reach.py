@@ -44,7 +44,7 @@ class Reach(Chosen):
 
     def tables(self):
         return [pairs_of(self.pairs), self.factors_of(), factored_of(self.largest[:1]), served_of(self.served),
-                settings_of(in_both_orders(self.engine) + [(self.by_order[0], None), self.by_order[::-1]])]
+                settings_of(in_both_orders(self.engine) + [(self.by_order[0], None), self.by_order[::-1]])] + self.plain_tables([case for case in self.pairs if case.found], {})
 
     def of(self, cases, graph, kind=None):
         """The case of a graph, of a kind if there are several."""

@@ -92,6 +92,17 @@ class Questions(WithFiles):
         self.assertEqual(sorted(tree.arcs), [2, 4])
         self.refused(diffuse.NoRoute, "no route leads to Island", lambda: tree.route("Island"))
 
+    def test_tables_by_searches_and_by_factors(self):
+        network = self.network()
+        for _ in range(2):
+            self.assertEqual(network.table(["A", "C"], ["B", "D", "Island"], by="minutes"), [[1.5, 12.45, None], [5.5, 10.25, None]])
+            self.assertEqual(network.table("A", "D", by="minutes", algebra="within", limit=12), [[None]])
+            self.assertEqual(network.table("A", ["A", "D"], by="lanes", algebra="widest"), [[inf, 2]])
+            self.assertEqual(network.route("A", "D", by="minutes").cells("road"), ["Tunnel", "Lane", "Spur"])
+            network.factor("minutes")
+        self.assertRaises(diffuse.NoFactors, network.factor, "lanes", "widest")
+        self.refused(diffuse.NoVertex, "there is no place 'Z'", lambda: network.table("A", ["Z"], by="minutes"))
+
     def test_who_reaches_me(self):
         tree = self.network().tree("C", by="minutes", towards=True)
         self.assertEqual([tree.cost(place) for place in "ABCD"], [2.2, 0.7, 0, None])

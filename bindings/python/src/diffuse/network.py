@@ -5,13 +5,13 @@ from decimal import ROUND_FLOOR, Decimal
 from threading import Lock
 from typing import Any, Hashable, Iterable, Mapping, Optional, Sequence, Union
 
-from .algebras import MOST_LIMIT, Algebra, AnyAlgebra, algebra_of
+from .algebras import MOST_LIMIT, UNREACHED, Algebra, AnyAlgebra, algebra_of
 from .answers import Route
 from .drawing import draw
 from .errors import InputError, NoAlgebra, NoRoute, NoVertex
 from .formats import dimacs_places, dimacs_roads, networkx_tables
 from .graph import Graph
-from .named import Isochrone, NamedRoute, NamedTree
+from .named import Isochrone, NamedRoute, NamedTree, worth
 from .places import Places, places_of
 from .roads import ArcsByTail, Cost, Costs, Roads, best_arc, roads_of, with_sum
 from .tables import Path, decimal_of, read_table, table_of
@@ -137,6 +137,24 @@ class Network:
         kind, begins = self._algebra(algebra, by), self._sources(sources)
         tree = self.graph(by, towards).tree([self.vertex(name) for name in begins], kind, self._limit(by, limit))
         return NamedTree(self, tree, by, kind, begins, towards)
+
+    def table(self, sources: Sources, targets: Sources, by: str, algebra: AnyAlgebra = Algebra.SHORTEST,
+              limit: Optional[Number] = None) -> list[list[Optional[float]]]:
+        """What is best from each source to each target, in the unit of the cost: a row for each source, None where no route leads.
+
+        Each source takes a search, unless `factor` was called before. Raises as `tree` does.
+        """
+        kind, ends = self._algebra(algebra, by), [[self.vertex(name) for name in self._sources(names)] for names in (sources, targets)]
+        rows, scale = self.graph(by).table(*ends, kind, self._limit(by, limit)), self.cost(by).scale
+        return [[None if value == UNREACHED else worth(value, kind, scale) for value in row.tolist()] for row in rows]
+
+    def factor(self, by: str, algebra: AnyAlgebra = Algebra.SHORTEST) -> None:
+        """Factors the graph by a cost, once: routes and tables by it are then the same, in a fraction of the time.
+
+        It takes as long as some tens of routes. Raises NotFactored if that does not pay or the algebra has no factors; then the
+        graph is searched as before. InputError, OutOfMemory.
+        """
+        self.graph(by).factor(self._algebra(algebra, by))
 
     def isochrone(self, sources: Sources, by: str, limits: Sequence[Number],
                   towards: bool = False) -> Isochrone:

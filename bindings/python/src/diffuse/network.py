@@ -144,8 +144,9 @@ class Network:
 
         Each source takes a search, unless `factor` was called before. Raises as `tree` does.
         """
-        kind, ends = self._algebra(algebra, by), [[self.vertex(name) for name in self._sources(names)] for names in (sources, targets)]
-        rows, scale = self.graph(by).table(*ends, kind, self._limit(by, limit)), self.cost(by).scale
+        kind, scale = self._algebra(algebra, by), self.cost(by).scale
+        begins, ends = ([self.vertex(name) for name in self._sources(names)] for names in (sources, targets))
+        rows = self.graph(by).table(begins, ends, kind, self._limit(by, limit))
         return [[None if value == UNREACHED else worth(value, kind, scale) for value in row.tolist()] for row in rows]
 
     def factor(self, by: str, algebra: AnyAlgebra = Algebra.SHORTEST) -> None:

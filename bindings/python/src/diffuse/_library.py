@@ -19,6 +19,13 @@ class Handle(ctypes.Structure):
     _fields_ = [("at", c_void_p), ("is_open", c_bool)]
     origin: Optional["Handle"] = None
     """The handle that it was made of by diffuse_graph_share."""
+    _places: Optional["ctypes.Array[c_uint32]"] = None
+
+    def places(self, vertices: int) -> "ctypes.Array[c_uint32]":
+        """Room for the longest route of its graph: made once, and used by one call after the other, as the handle is."""
+        if self._places is None:
+            self._places = (c_uint32 * vertices)()
+        return self._places
 
 
 _HANDLE = POINTER(Handle)

@@ -99,15 +99,16 @@ class Graph:
         number, bound = question_of(algebra, limit)
         ends = (vertex_number(source, "source", self._vertices), vertex_number(target, "target", self._vertices))
         code, hops = c_uint64(), c_uint32()
-        places = (c_uint32 * self._vertices)()
         with self._handles.borrowed() as handle:
+            places = handle.places(self._vertices)
             status = library().diffuse_graph_route(
                 byref(handle), number, bound, *ends, byref(code), byref(hops), addressof(places), self._vertices)
+            vertices = places[:hops.value + 1] if status == DONE else []
         if status == NO_ROUTE:
             raise NoRoute(f"no route leads from {ends[0]} to {ends[1]}")
         if status != DONE:
             raise refusal(status)
-        return Route(code.value, hops.value, places[:hops.value + 1])
+        return Route(code.value, hops.value, vertices)
 
     def tree(self, sources: Union[int, Iterable[int]], algebra: AnyAlgebra = Algebra.SHORTEST,
              limit: Optional[int] = None) -> Tree:

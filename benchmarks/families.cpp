@@ -5,8 +5,9 @@
 //     families Long-n K SEED               a grid of 16 by 2^(K - 4) vertices; lengths up to 2^K
 //     families Square-n K SEED             a grid of 2^(K / 2) by 2^(K / 2) vertices, K even; lengths up to 2^K
 //
-// As README.md defines them: a random graph is a cycle through all vertices, in a random order, and arcs with random ends; in a grid there is an arc each way between neighbours in a row or a column; the length of each arc is
-// drawn by itself, from 0 to the greatest.
+// As README.md defines them: a random graph is a cycle through all vertices, in a random order, and arcs with random ends; in a
+// grid there is an arc each way between neighbours in a row or a column; the length of each arc is drawn by itself, from 0 to the
+// greatest.
 // The same words give the same bytes on every machine.
 #include "graphs.hpp"
 #include "random.hpp"

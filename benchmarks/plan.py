@@ -28,7 +28,8 @@ BATCHES = [FIVE_IN_TURN, (FOUR_SOURCES, 1), (FOUR_SOURCES, 4), (FIVE_PAIRS, 1), 
 SERIES = (ONE_PAIR, TEN_PAIRS, HUNDRED_PAIRS, THOUSAND_PAIRS)
 
 # Workers, shards, width and budget of the engine.
-SETTINGS = [ALONE, SIXTEEN, CUT, (1, 16, 5, 1024), (2, 16, 5, 1024), TOGETHER, (4, 16, 1, 1024), (4, 4, 1, 1024), (4, 64, 5, 1024), (4, 16, 5, 64), (4, 16, 5, 65536)]
+SETTINGS = [ALONE, SIXTEEN, CUT, (1, 16, 5, 1024), (2, 16, 5, 1024), TOGETHER, (4, 16, 1, 1024), (4, 4, 1, 1024), (4, 64, 5, 1024),
+            (4, 16, 5, 64), (4, 16, 5, 65536)]
 
 # Shapes at two sizes, with workers and shards, and in both orders or only as messages come.
 SHAPES = [(shapes.star, 500000, 2000000, 1, 1, ORDERS), (shapes.star, 500000, 2000000, 4, 4, ORDERS[:1]),
@@ -88,11 +89,13 @@ class Plan(Chosen):
         self.families = [Plain(Family(*family), ONE_SOURCE) for family in (SMALL_FAMILIES if small else FAMILIES)]
         self.batches = {batch: Batch(new_york, *batch) for batch in BATCHES}
         self.served = [Served(graph, THOUSAND_PAIRS, ways_of(few, 400)) for graph, few in ((rivers[0], 40), (florida, 20), (rivers[1], 20))]
-        self.factored = [Factored(graph, kind, kind == THOUSAND_PAIRS) for graph in (new_york, rivers[0]) for kind in SERIES] + [Bundled(rivers[0], HUNDRED_PAIRS)]
+        self.factored = [Factored(graph, kind, kind == THOUSAND_PAIRS) for graph in (new_york, rivers[0]) for kind in SERIES]
+        self.bundled = Bundled(rivers[0], HUNDRED_PAIRS)
         self.engine = {(settings, order): self.reach.engine.get((settings, order)) or Engine(motorways, FIVE_SOURCES, settings, order)
                        for order in ORDERS for settings in SETTINGS}
         growing = [graph_of(sized(size, small), kind) for kind, sizes in ENGINE_GROWTH for size in sizes]
-        self.engine_growth = [case for order, last in zip(ORDERS, self.reach.by_order) for case in [Engine(graph, ONE_SOURCE, ALONE, order) for graph in growing] + [last]]
+        self.engine_growth = [case for order, last in zip(ORDERS, self.reach.by_order)
+                              for case in [Engine(graph, ONE_SOURCE, ALONE, order) for graph in growing] + [last]]
         by = 10 if small else 1
         self.shapes = [[Engine(Shape(shape.__name__.replace("_", " "), count // by, shape), ONE_SOURCE, (workers, shards, 1, 1024), order)
                         for count in (less, more)] for shape, less, more, workers, shards, orders in SHAPES for order in orders]
@@ -101,7 +104,7 @@ class Plan(Chosen):
 
     def series(self):
         """The cases of growing numbers of pairs over two graphs."""
-        return self.factored[:len(SERIES)], self.factored[len(SERIES):2 * len(SERIES)]
+        return self.factored[:len(SERIES)], self.factored[len(SERIES):]
 
     def workers(self):
         """All cases of workers."""
@@ -110,7 +113,7 @@ class Plan(Chosen):
 
     def cases(self):
         found = (self.plain + self.reach.cases() + self.several + self.growth + self.families + list(self.batches.values()) + self.served
-                 + self.factored + self.workers() + [plain for *_, plain in self.locks])
+                 + self.factored + [self.bundled] + self.workers() + [plain for *_, plain in self.locks])
         return list(dict.fromkeys(found))
 
     def tables(self):
@@ -118,9 +121,11 @@ class Plan(Chosen):
         pairs, factors, *_ = self.reach.tables()
         with_own = [case for case in self.reach.pairs + self.growth if case.found]
         return self.plain_tables(self.plain + with_own, reading) + [
-            parts_of([case for case in self.plain if case.kind == ONE_SOURCE]), pairs, several_of(self.several), growth_of(self.growth), table_of("Families of the challenge with --plain: one source", TIME, seconds, self.families),
-            batches_of(list(self.batches.values()), self.plain[0]), served_of(self.reach.served + self.served), factors, factored_of(self.factored + self.reach.largest[:1]),
-            settings_of(in_both_orders(self.engine)), engine_growth_of(self.engine_growth), shapes_of(self.shapes), locks_of(self.locks)]
+            parts_of([case for case in self.plain if case.kind == ONE_SOURCE]), pairs, several_of(self.several), growth_of(self.growth),
+            table_of("Families of the challenge with --plain: one source", TIME, seconds, self.families),
+            batches_of(list(self.batches.values()), self.plain[0]), served_of(self.reach.served + self.served), factors,
+            factored_of(self.factored + [self.bundled] + self.reach.largest[:1]), settings_of(in_both_orders(self.engine)),
+            engine_growth_of(self.engine_growth), shapes_of(self.shapes), locks_of(self.locks)]
 
     def aims(self):
         """What is aimed at: of what, the most, and the ratios that were measured."""

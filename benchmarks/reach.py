@@ -30,8 +30,10 @@ class Reach(Chosen):
         self.whole = [Plain(graph, ONE_SOURCE) for graph in sizes]
         self.pairs = [Plain(graph, kind) for kind in (TWENTY_PAIRS, NEAR_PAIRS) for graph in sizes]
         self.built, self.many = ([FactoredAlone(graph, kind, graph in far) for graph in sizes] for kind in (READING, THOUSAND_PAIRS))
-        self.served = [Served(new_york, THOUSAND_PAIRS, ways_of(40, 400) + [Way(BY_SEARCH, 0, 40)]), Served(new_york, NEAR_PAIRS, ways_of(1000, 1000)[::2])]
-        self.engine = {(settings, order): Engine(motorways, FIVE_SOURCES, settings, order, same_rule or order) for order in ORDERS for settings in ORDER_AIMS}
+        self.served = [Served(new_york, THOUSAND_PAIRS, ways_of(40, 400) + [Way(BY_SEARCH, 0, 40)]),
+                       Served(new_york, NEAR_PAIRS, ways_of(1000, 1000)[::2])]
+        self.engine = {(settings, order): Engine(motorways, FIVE_SOURCES, settings, order, same_rule or order)
+                       for order in ORDERS for settings in ORDER_AIMS}
         self.by_order = [Engine(new_york, ONE_SOURCE, ALONE, order, same_rule or order) for order in ORDERS]
         self.by_order[0].is_once = True
         self.largest = [Factored(largest, TEN_PAIRS, True), FactoredAlone(largest, THOUSAND_PAIRS, True)] if largest else []
@@ -43,8 +45,10 @@ class Reach(Chosen):
         return self.whole + self.pairs + self.built + self.many + self.served + self.workers() + self.largest
 
     def tables(self):
-        return [pairs_of(self.pairs), self.factors_of(), factored_of(self.largest[:1]), served_of(self.served),
-                settings_of(in_both_orders(self.engine) + [(self.by_order[0], None), self.by_order[::-1]])] + self.plain_tables([case for case in self.pairs if case.found], {})
+        workers = in_both_orders(self.engine) + [(self.by_order[0], None), self.by_order[::-1]]
+        with_own = [case for case in self.pairs if case.found]
+        return [pairs_of(self.pairs), self.factors_of(), factored_of(self.largest[:1]), served_of(self.served), settings_of(workers),
+                *self.plain_tables(with_own, {})]
 
     def of(self, cases, graph, kind=None):
         """The case of a graph, of a kind if there are several."""
@@ -58,18 +62,20 @@ class Reach(Chosen):
 
     def factors_of(self):
         """What factors take, what a pair takes by them, and after how many pairs they have paid for themselves."""
-        table = Table("Factors by solve, without reading and writing: ratios as median (quartiles)",
-                      ["Graph", "Order and build", "in pairs of the baseline", "A pair", "by --plain", "to the baseline's", "Pays after pairs", "Peak memory"])
+        heads = ["Graph", "Order and build", "in pairs of the baseline", "A pair", "by --plain", "to the baseline's", "Pays after pairs", "Peak memory"]
+        table = Table("Factors by solve, without reading and writing: ratios as median (quartiles)", heads)
         for built in ran(self.built):
-            graph = built.files
-            many, twenty = self.of(self.many, graph), self.of(self.pairs, graph, TWENTY_PAIRS)
-            if not (many.taken and twenty.taken):
-                continue
-            once, pair, plain = built.median(FACTORS, SOLVE), statistics.median(many.each(FACTORS, SOLVE, built)), statistics.median(twenty.each("diffuse", SOLVE))
-            order, each = self.ratios_of(graph)
-            table.rows.append([graph.name, seconds(once), spread(order), seconds(max(0, pair)), seconds(plain), spread(each),
-                               "%.0f" % (once / (plain - pair)) if plain > pair else "never", size(many.median(FACTORS, PEAK))])
+            many, twenty = self.of(self.many, built.files), self.of(self.pairs, built.files, TWENTY_PAIRS)
+            if many.taken and twenty.taken:
+                table.rows.append(self.factor_row(built, many, twenty))
         return table
+
+    def factor_row(self, built, many, twenty):
+        """A graph's order and build, pairs by factors, and pairs by the search."""
+        once, peak, (order, ratios) = built.median(FACTORS, SOLVE), many.median(FACTORS, PEAK), self.ratios_of(built.files)
+        pair, plain = (statistics.median(each) for each in (many.each(FACTORS, SOLVE, built), twenty.each("diffuse", SOLVE)))
+        pays = "%.0f" % (once / (plain - pair)) if plain > pair else "never"
+        return [built.files.name, seconds(once), spread(order), seconds(max(0, pair)), seconds(plain), spread(ratios), pays, size(peak)]
 
     def aims(self):
         """What is aimed at: of what, the most, and the ratios that were measured."""
@@ -81,7 +87,8 @@ class Reach(Chosen):
         for case in self.pairs:
             near = case.kind == NEAR_PAIRS
             whole = self.of(self.whole, case.files)
-            aims += [(case.title(), "solving, to a search of all vertices", 0.15 if near else 0.55, ratios(case.each("diffuse", SOLVE), whole.each("diffuse", SOLVE))),
+            stopping = ratios(*(it.each("diffuse", SOLVE) for it in (case, whole)))
+            aims += [(case.title(), "solving, to a search of all vertices", 0.15 if near else 0.55, stopping),
                      (case.title(), "solving, to the baseline", 0.8, case.ratios(BASELINE, SOLVE))]
             aims += [] if near else [(case.title(), "peak memory, to the baseline", 1.2, case.ratios(BASELINE, PEAK))]
         return aims
@@ -91,7 +98,8 @@ class Reach(Chosen):
         for case in self.built:
             pair, once = FACTOR_AIMS[case.files.name]
             order, each = self.ratios_of(case.files)
-            aims += [(case.files.name, "a pair by factors, to the baseline", pair, each), (case.files.name, "order and build, in pairs of the baseline", once, order)]
+            aims += [(case.files.name, "a pair by factors, to the baseline", pair, each),
+                     (case.files.name, "order and build, in pairs of the baseline", once, order)]
         return aims
 
     def service_aims(self):
@@ -111,14 +119,15 @@ class Reach(Chosen):
                       ("peak memory, to messages as they come", 1.05, best.ratios_to(other, PEAK))]
             aims += [(best.title(), of, most, numbers) for of, most, numbers in wanted if most]
         other, best = self.by_order
-        return aims + [(best.title(), "messages an arc", 1, best.each_arc()), (best.title(), "processor time, to messages as they come", 0.02, best.ratios_to(other, TIME))]
+        return aims + [(best.title(), "messages an arc", 1, best.each_arc()),
+                       (best.title(), "processor time, to messages as they come", 0.02, best.ratios_to(other, TIME))]
 
     def largest_aims(self):
         """The largest graph, factored in 8 GB; and a pair to one of the baseline."""
         if not self.largest:
             return []
         ten, many = self.largest
-        pair = [(more - less) / (many.count() - ten.count()) for more, less in zip(*([taken[SOLVE] for taken in case.taken.get(FACTORS, [])] for case in (many, ten)))]
+        pair = [beyond / (many.count() - ten.count()) for beyond in many.beyond(ten, FACTORS, SOLVE)]
         return [(ten.title(), "peak memory in GB", 8, [taken[PEAK] / 1e9 for taken in many.taken.get(FACTORS, [])]),
                 (ten.title(), "a pair by factors, to the baseline", 1 / 300, ratios(pair, ten.each(BASELINE, SOLVE)))]
 

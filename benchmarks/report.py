@@ -84,7 +84,8 @@ def beyond_of(title, pairs):
 
 def parts_of(cases):
     """Which part of the wall time programs read, solve and write, as medians; and the longest round to the shortest."""
-    table = Table("Where the time of one source goes, with --plain", ["Graph and questions", "Program", "Reading", "Solving", "Writing", "Longest round to shortest"])
+    heads = ["Graph and questions", "Program", "Reading", "Solving", "Writing", "Longest round to shortest"]
+    table = Table("Where the time of one source goes, with --plain", heads)
     for case, name in ((case, name) for case in ran(cases) for name in ("diffuse", BASELINE)):
         whole = [sum(taken[part] for part in PARTS) for taken in case.taken[name]]
         shares = [statistics.median(taken[part] / all for taken, all in zip(case.taken[name], whole) if all) if any(whole) else 0 for part in PARTS]
@@ -99,7 +100,8 @@ def pairs_of(cases):
                   ["Graph and questions", "A pair", "of the baseline", "Time to the baseline", "Peak memory", "Peak memory to the baseline"])
     for case in ran(cases):
         each = [seconds(statistics.median(case.each(name, SOLVE))) for name in ("diffuse", BASELINE)]
-        table.rows.append([case.title(), *each, spread(case.ratios(BASELINE, SOLVE)), size(case.median("diffuse", PEAK)), spread(case.ratios(BASELINE, PEAK))])
+        table.rows.append([case.title(), *each, spread(case.ratios(BASELINE, SOLVE)), size(case.median("diffuse", PEAK)),
+                           spread(case.ratios(BASELINE, PEAK))])
     return table
 
 

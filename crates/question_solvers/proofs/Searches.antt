@@ -1,5 +1,5 @@
 -- What is found for one question, for the same one at another place, and for several side by side.
-use Rattle.std.proofs.Common.{arith, ◌≡◌, ℕ, ◌<◌, ◌-◌, ap, ◌∙◌, List, [], ◌∷◌, ◌++◌, length, get_or, map, All, HoldsAt, Vec, Global, subst, sym}
+use Rattle.std.proofs.Common.{arith, ◌≡◌, ℕ, ◌<◌, ◌-◌, ap, ◌∙◌, List, [], ◌∷◌, ◌++◌, length, get_or, map, All, HoldsAt, Vec, Global, subst, sym, inl, inr, ◌⊎◌}
 use Rattle.std.proofs.lemmas.List.Elements.{All-nil, All-cons, All-head, All-tail, All-push}
 use Rattle.std.proofs.lemmas.List.{get_or_push, length_push}
 use Rattle.std.specs.List.{AllZip}
@@ -9,7 +9,7 @@ use Rattle.std.proofs.lemmas.Option.{slice_get-get_or}
 use Rattle.road_graph.specs.GraphData.{GraphData}
 use Rattle.road_files.specs.Asked.{Question, Asked}
 use Rattle.path_algebra.specs.Algebra.{Algebra}
-use Rattle.question_solvers.specs.Solved.{IsSearched, IsSearchedAt, IsSolution, IsSolvedFor}
+use Rattle.question_solvers.specs.Solved.{AreFoundFrom, IsSearched, IsSearchedAt, IsSolution, IsSolvedFor}
 use Rattle.question_solvers.specs.declared.solved.Solved.{Solved}
 use Rattle.question_solvers.specs.declared.searched.Searched.{Searched}
 
@@ -22,7 +22,6 @@ module _ {V : Type 0} (A : Algebra V) (g : GraphData) (asked : Asked) where
   at_own i s low h = record {
     place = subst (λ k. k < length asked.questions) (sym h.place) low;
     solved = subst (λ k. IsSolvedFor A g asked k s.solved) (sym h.place) h.solved;
-    kept = h.kept;
   }
 
   -- those of a group are each found for a question
@@ -33,14 +32,21 @@ module _ {V : Type 0} (A : Algebra V) (g : GraphData) (asked : Asked) where
   all_own (k ∷ ks) (s ∷ ss) inside h =
       All-cons (IsSearched A g asked) s ss (at_own k s (All-head (λ j. j < length asked.questions) k ks inside) h.0) (all_own ks ss (All-tail (λ j. j < length asked.questions) k ks inside) h.1)
 
-  -- the first of a group answers the question at its first place
-  pub first_answers : (i : ℕ) (rest places : List ℕ) (ss : List (Searched V)) → places ≡ i ∷ rest → AllZip (IsSearchedAt A g asked) places ss →
-      (0 < length ss) × HoldsAt (λ s. IsSolvedFor A g asked i s.solved) ss 0
-  first_answers i rest places ss e h = go ss (subst (λ l. AllZip (IsSearchedAt A g asked) l ss) e h)
-    where
-      go : (ts : List (Searched V)) → AllZip (IsSearchedAt A g asked) (i ∷ rest) ts → (0 < length ts) × HoldsAt (λ s. IsSolvedFor A g asked i s.solved) ts 0
-      go [] p = absurd p
-      go (s ∷ ts) p = (omega arith, λ d. p.0.solved)
+  -- the first of a group solves the question at its first place
+  first_solves : (i : ℕ) (rest : List ℕ) (ss : List (Searched V)) → AllZip (IsSearchedAt A g asked) (i ∷ rest) ss → (0 < length ss) × HoldsAt (λ s. IsSolvedFor A g asked i s.solved) ss 0
+  first_solves i rest [] h = absurd h
+  first_solves i rest (s ∷ ss) h = (omega arith, λ d. h.0.solved)
+
+  pub found_from : (i : ℕ) (rest places : List ℕ) (ss : List (Searched V)) → places ≡ i ∷ rest → All (λ k. k < length asked.questions) places → AllZip (IsSearchedAt A g asked) places ss →
+      AreFoundFrom A g asked i ss
+  found_from i rest places ss e inside h =
+      let first = first_solves i rest ss (subst (λ l. AllZip (IsSearchedAt A g asked) l ss) e h) in
+      record { some = first.0; first = first.1; each = all_own places ss inside h }
+
+  pub found_if_ok : {E : Type 0} (i : ℕ) (rest places : List ℕ) (r : Result (Vec (Searched V) Global) E) → places ≡ i ∷ rest → All (λ k. k < length asked.questions) places →
+      IfOk r (λ v. AllZip (IsSearchedAt A g asked) places v.items) → IfOk r (λ v. AreFoundFrom A g asked i v.items)
+  found_if_ok i rest places (Ok v) e inside h = found_from i rest places v.items e inside h
+  found_if_ok i rest places (Err f) e inside h = tt
 
 module _ {V : Type 0} (A : Algebra V) (g : GraphData) (asked : Asked) (i : ℕ) where
   -- of those that were found, one for the same question answers it
@@ -51,16 +57,21 @@ module _ {V : Type 0} (A : Algebra V) (g : GraphData) (asked : Asked) (i : ℕ) 
       for_other A g asked i s.place s.solved (all k x (subst (λ l. k < length l) e low)).solved
       (subst (λ l. HoldsAt (λ (t : Searched V). (d : Question) → get_or asked.questions t.place d ≡ get_or asked.questions i d) l k) e same x)
 
-module _ {V : Type 0} (A : Algebra V) (g : GraphData) (asked : Asked) (i : ℕ) (s : Searched V) (old new : List (Searched V)) (added : new ≡ old ++ s ∷ []) (found : IsSearchedAt A g asked i s) where
-  -- what is added last answers its question
-  pub last_answers : (n : ℕ) → n ≡ length new → HoldsAt (λ t. IsSolvedFor A g asked i t.solved) new (n - 1)
-  last_answers n all x =
-      let place : length old ≡ n - 1 = omega (arith, all, ap length added, length_push old s) in
-      let at : get_or new (n - 1) x ≡ s = ap (λ (l : List (Searched V)). get_or l (n - 1) x) added ∙ get_or_push old s x (n - 1) place in
-      subst (λ (t : Searched V). IsSolvedFor A g asked i t.solved) (sym at) found.solved
+module _ {V : Type 0} (A : Algebra V) (g : GraphData) (asked : Asked) (i : ℕ) (s : Searched V) (old new : List (Searched V)) (low : i < length asked.questions) (found : IsSearchedAt A g asked i s) where
+  -- what is found is put among the rest
+  pub all_put : All (IsSearched A g asked) old →
+      ((j : ℕ) (d : Searched V) → j < length new → (get_or new j d ≡ s) ⊎ ((j < length old) × (get_or new j d ≡ get_or old j d))) → All (IsSearched A g asked) new
+  all_put all others j d inside = elim (others j d inside) as (λ _. IsSearched A g asked (get_or new j d)) [
+    | inl new_one ↦ rw new_one (at_own A g asked i s low found)
+    | inr (was, same) ↦ rw same (all j d was)
+  ]
 
-  pub all_added : i < length asked.questions → All (IsSearched A g asked) old → All (IsSearched A g asked) new
-  all_added low all = subst (All (IsSearched A g asked)) (sym added) (All-push (IsSearched A g asked) old s all (at_own A g asked i s low found))
+  pub put_answers : (k : ℕ) → ((d : Searched V) → get_or new k d ≡ s) → HoldsAt (λ t. IsSolvedFor A g asked i t.solved) new k
+  put_answers k there x = subst (λ (t : Searched V). IsSolvedFor A g asked i t.solved) (sym (there x)) found.solved
+
+  pub put_answers_if_ok : {E : Type 0} (r : Result ℕ E) → IfOk r (λ j. (d : Searched V) → get_or new j d ≡ s) → IfOk r (HoldsAt (λ t. IsSolvedFor A g asked i t.solved) new)
+  put_answers_if_ok (Ok k) there = put_answers k there
+  put_answers_if_ok (Err e) there = tt
 
 -- what each of a list came to, where none failed
 all_ok : {S : Type 0} (E : Type 0) (Holds : ℕ → S → Type 0) (places : List ℕ) (ss : List S) → AllZip (λ k (r : Result S E). IfOk r (Holds k)) places (map Ok ss) → AllZip Holds places ss

@@ -1,20 +1,29 @@
 -- Solvers between two questions.
 use Rattle.std.specs.Prelude.{◌≡◌, Option, Some, None, option_map, IfSome, IsSome, slice_get}
 use Rattle.std.specs.List.{All}
+use Rattle.std.specs.Option.{ForSome}
+use Rattle.road_graph.specs.GraphData.{GraphData}
 use Rattle.road_files.specs.Asked.{Asked}
 use Rattle.road_files.specs.declared.questions.Kind.TheVariants.{Pairs}
 use Rattle.path_algebra.specs.declared.algebra.PathAlgebra.{Ghosts}
 use Rattle.path_algebra.specs.Algebra.{Algebra}
 use Rattle.path_algebra.specs.Carried.{IsCarried}
 use Rattle.path_algebra.specs.Counted.{cost_of}
+use Rattle.path_plain.specs.Searcher.{SearcherState}
 use Rattle.question_solvers.specs.Solved.{IsSearched}
 use Rattle.question_solvers.specs.declared.factor_solver.FactorSolver.{FactorSolver}
 use Rattle.question_solvers.specs.declared.plain_solver.PlainSolver.{PlainSolver}
 use Rattle.question_solvers.specs.declared.solved.Solved.{Solved}
 
--- the plain solver's, for an algebra with this meaning: what it found is right, and for pairs it has the rows of arcs by head
+-- it searches this graph by this algebra
+pub record IsSearcherOf {S V : Type 0} (algebra : S) (g : GraphData) (s : SearcherState S V) : Type 0 where
+  pub by : s.algebra ≡ algebra
+  pub over : s.roads ≡ g
+
+-- the plain solver's, for an algebra with this meaning: what it found is right, its searcher is the graph's, and for pairs it has the rows of arcs by head
 pub record IsPlainReady {S V : Type 0} {G : Ghosts S V} (meaning : S → Algebra V) (algebra : S) (asked : Asked) (s : PlainSolver S V G) : Type 0 where
   pub searched : All (IsSearched (meaning algebra) s.graph asked) s.searched.items
+  pub searcher : ForSome s.searcher (IsSearcherOf algebra s.graph)
   pub rows : asked.kind ≡ Pairs → IsSome s.by_head
 
 -- the factors' solver: the plain one in it is ready, and factors have the rows of arcs by head and carry the algebra's values

@@ -91,9 +91,11 @@ impl<A: PathAlgebra> FactorSolver<A> {
 
     /// Factors the graph for what arcs cost, unless it is so already, or was refused. The only error is want of memory.
     pub(crate) fn factor(&mut self, alloc: Global, cost: Cost) -> Result<(), Memory>
+        requires { IsSome self.old.plain.by_head }
         ensures graph { self.new.plain.graph ≡ self.old.plain.graph }
         ensures rows { self.new.plain.by_head ≡ self.old.plain.by_head }
         ensures searched { self.new.plain.searched ≡ self.old.plain.searched }
+        ensures searcher { self.new.plain.searcher ≡ self.old.plain.searcher }
         ensures cost { OnOk result (IfSome self.new.factored (λ f. f.factors.algebra.cost ≡ cost)) }
     {
         if let Some(factored) = &self.factored {
@@ -106,7 +108,7 @@ impl<A: PathAlgebra> FactorSolver<A> {
             return Ok(());
         }
         let Some(rows) = &self.plain.by_head else {
-            return Ok(());
+            unreachable!()
         };
         match Factored::of(alloc, cost, &self.plain.graph, rows)? {
             Some(factored) => self.factored = Some(factored),

@@ -4,7 +4,8 @@
 mod factor_solver;
 mod factors;
 mod pair;
-mod pair_labels;
+mod pair_search;
+mod pairs;
 mod plain;
 mod plain_solver;
 mod searched;

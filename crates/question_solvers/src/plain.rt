@@ -1,132 +1,114 @@
 //! Solves questions by the plain solver.
-ghost use Rattle.std.specs.Prelude.{◌≡◌, ◌<◌, length, slice_get, All, HoldsAt, IfOk, OnOk, IfSome, IsSome};
+ghost use Rattle.std.specs.Prelude.{◌≡◌, ◌≢◌, ◌<◌, length, slice_get, All, HoldsAt, IfOk, OnOk, IfSome, IsSome};
 ghost use Rattle.std.specs.Option.{ForSome};
 ghost use Rattle.road_files.specs.Asked.{AreQuestionsOf, asked_of};
 ghost use Rattle.road_files.specs.declared.questions.Kind.TheVariants.{Pairs};
-ghost use Rattle.question_solvers.specs.Solved.{AreFromSource, IsSearched, IsSearchedAt, IsSolvedFor};
-ghost use Rattle.question_solvers.specs.Solvers.{IsPlainReady};
+ghost use Rattle.question_solvers.specs.Solved.{IsSearched, IsSolvedFor};
+ghost use Rattle.question_solvers.specs.Solvers.{IsPlainReady, IsSearcherOf};
 
-use crate::pair_labels::{PairLabels, answer_along, extended_to};
+use crate::pair_search::search_on;
+use crate::pairs::search_pairs;
 use crate::plain_solver::PlainSolver;
-use crate::searched::{Searched, add, find_from, find_same};
-use crate::side_by_side::{places_from, search_each};
-use crate::solved::Solved;
+use crate::searched::{Searched, find_same, put};
+use crate::side_by_side::search_trees;
 use crate::task::{Task, TaskOver};
 use path_algebra::PathAlgebra;
-use road_files::{Kind, Questions};
-use road_graph::{InGraph, Memory, OutGraph, Vertex};
+use road_files::{Kind, Questions, are_same};
+use road_graph::{InGraph, Memory, OutGraph};
+use route_tree::PairSearcher;
 use std::alloc::Global;
 use std::thread::Threads;
 
-/// The labels that are kept from a source, taken from those that were found.
-fn take_labels<A: PathAlgebra, R>(
-    task: &TaskOver<'_, A, R>,
-    searched: &mut Vec<Searched<A::Value>>,
-    source: Vertex,
-) -> Option<PairLabels<A::Value>>
-    requires { All (IsSearched (A.meaning task.now.algebra) task.now.graph.now
-        (asked_of task.now.questions.now)) searched.old.items }
-    ensures source { IfSome result (λ p. p.source ≡ source) }
-    ensures labels { IfSome result (AreFromSource (A.meaning task.now.algebra) task.now.graph.now) }
-    ensures searched { All (IsSearched (A.meaning task.now.algebra) task.now.graph.now
-        (asked_of task.now.questions.now)) searched.new.items }
-{
-    let _ = task;
-    let k = find_from(searched.as_slice(), source)?;
-    let Searched { kept, .. } = searched.remove(k);
-    kept
-}
-
-/// Solves a pair by labels that are kept from its source, if there are any.
-fn search_on<A: PathAlgebra, R>(
-    task: &TaskOver<'_, A, R>,
-    by_head: &Option<InGraph>,
+/// Which of those that were found solves the question at a place, from sources; if none does, it is solved by a search.
+fn solve_from_sources<A: PathAlgebra, R: Threads + Sync>(
+    over: &TaskOver<'_, A, R>,
     i: usize,
     searched: &mut Vec<Searched<A::Value>>,
-) -> Result<Option<Searched<A::Value>>, Memory>
-    requires place { i < length (asked_of task.now.questions.now).questions }
-    requires rows { ForSome by_head.now (λ rows. rows ≡ task.now.graph.now) }
-    requires some { (asked_of task.now.questions.now).kind ≡ Pairs → IsSome by_head.now }
-    requires searched { All (IsSearched (A.meaning task.now.algebra) task.now.graph.now
-        (asked_of task.now.questions.now)) searched.old.items }
-    ensures solved { IfOk result (λ o. IfSome o (IsSearchedAt (A.meaning task.now.algebra)
-        task.now.graph.now (asked_of task.now.questions.now) i)) }
-    ensures searched { All (IsSearched (A.meaning task.now.algebra) task.now.graph.now
-        (asked_of task.now.questions.now)) searched.new.items }
+) -> Result<usize, Memory>
+    requires unpaired { (asked_of over.now.questions.now).kind ≢ Pairs }
+    requires place { i < length (asked_of over.now.questions.now).questions }
+    requires searched { All (IsSearched (A.meaning over.now.algebra) over.now.graph.now
+        (asked_of over.now.questions.now)) searched.old.items }
+    ensures inside { IfOk result (λ k. k < length searched.new.items) }
+    ensures answers { IfOk result (HoldsAt (λ s. IsSolvedFor (A.meaning over.now.algebra)
+        over.now.graph.now (asked_of over.now.questions.now) i s.solved) searched.new.items) }
+    ensures searched { All (IsSearched (A.meaning over.now.algebra) over.now.graph.now
+        (asked_of over.now.questions.now)) searched.new.items }
 {
-    let (alloc, algebra, graph) = (task.alloc, task.algebra, task.graph);
-    let Questions::Pairs(pairs) = task.questions else {
-        return Ok(None);
-    };
-    let Some(rows) = by_head else { unreachable!() };
-    let pair = pairs[i];
-    let Some(found) = take_labels(task, searched, pair.0) else {
-        return Ok(None);
-    };
-    let kept = extended_to(alloc, algebra, graph, found, pair.1)?;
-    let answer = answer_along(alloc, algebra, (graph, rows), pair, &kept.labels)?;
-    Ok(Some(Searched {
-        place: i,
-        solved: Solved::Answer(answer),
-        kept: Some(kept),
-    }))
-}
-
-/// Solves the question at a place by a search of its own, and side by side those that follow it with other sources, as many as the width
-/// in all; it alone, if memory does not suffice for all.
-fn search_anew<A: PathAlgebra, R: Threads + Sync>(
-    task: &TaskOver<'_, A, R>,
-    by_head: &Option<InGraph>,
-    i: usize,
-    searched: &mut Vec<Searched<A::Value>>,
-) -> Result<(), Memory>
-    requires place { i < length (asked_of task.now.questions.now).questions }
-    requires rows { ForSome by_head.now (λ rows. rows ≡ task.now.graph.now) }
-    requires some { (asked_of task.now.questions.now).kind ≡ Pairs → IsSome by_head.now }
-    ensures first { OnOk result (0 < length searched.new.items) }
-    ensures answers { OnOk result (HoldsAt (λ s. IsSolvedFor (A.meaning task.now.algebra)
-        task.now.graph.now (asked_of task.now.questions.now) i s.solved) searched.new.items 0) }
-    ensures searched { All (IsSearched (A.meaning task.now.algebra) task.now.graph.now
-        (asked_of task.now.questions.now)) searched.new.items }
-{
-    searched.clear();
-    let (alloc, questions) = (task.alloc, task.questions);
-    let places = places_from(alloc, questions, i, task.width)?;
-    if let Ok(group) = search_each(task, by_head, places.as_slice()) {
-        *searched = group;
-        return Ok(());
+    if let Some(k) = find_same(searched.as_slice(), over.questions, i) {
+        return Ok(k);
     }
-    *searched = search_each(task, by_head, &places[..1])?;
-    Ok(())
+    searched.clear();
+    *searched = search_trees(over, i)?;
+    Ok(0)
+}
+
+/// Whether the question at a place has the sources of the one before it.
+fn follows(questions: &Questions, i: usize) -> bool
+    requires { i < length (asked_of questions.now).questions }
+{
+    i > 0 && are_same(questions.sources(i - 1), questions.sources(i))
+}
+
+/// The same of a pair. If it is solved alone, or follows one of its source, the searcher solves it that is kept.
+fn solve_pair<A: PathAlgebra, R: Threads + Sync>(
+    over: &TaskOver<'_, A, R>,
+    rows: &InGraph,
+    i: usize,
+    kept: &mut Option<PairSearcher<A>>,
+    searched: &mut Vec<Searched<A::Value>>,
+) -> Result<usize, Memory>
+    requires pairs { (asked_of over.now.questions.now).kind ≡ Pairs }
+    requires place { i < length (asked_of over.now.questions.now).questions }
+    requires rows { rows.now ≡ over.now.graph.now }
+    requires kept { ForSome kept.old (IsSearcherOf over.now.algebra over.now.graph.now) }
+    requires searched { All (IsSearched (A.meaning over.now.algebra) over.now.graph.now
+        (asked_of over.now.questions.now)) searched.old.items }
+    ensures kept { ForSome kept.new (IsSearcherOf over.now.algebra over.now.graph.now) }
+    ensures inside { IfOk result (λ k. k < length searched.new.items) }
+    ensures answers { IfOk result (HoldsAt (λ s. IsSolvedFor (A.meaning over.now.algebra)
+        over.now.graph.now (asked_of over.now.questions.now) i s.solved) searched.new.items) }
+    ensures searched { All (IsSearched (A.meaning over.now.algebra) over.now.graph.now
+        (asked_of over.now.questions.now)) searched.new.items }
+{
+    if let Some(k) = find_same(searched.as_slice(), over.questions, i) {
+        return Ok(k);
+    }
+    if over.width == 1 || follows(over.questions, i) {
+        let next = search_on(over, rows, i, kept)?;
+        return put(searched, 0, next);
+    }
+    searched.clear();
+    *searched = search_pairs(over, rows, i)?;
+    Ok(0)
 }
 
 /// Which of those that were found solves the question at a place; if none does, it is solved, and found with them.
 fn solve_plainly<A: PathAlgebra, R: Threads + Sync>(
-    task: &TaskOver<'_, A, R>,
+    over: &TaskOver<'_, A, R>,
     by_head: &Option<InGraph>,
     i: usize,
+    kept: &mut Option<PairSearcher<A>>,
     searched: &mut Vec<Searched<A::Value>>,
 ) -> Result<usize, Memory>
-    requires place { i < length (asked_of task.now.questions.now).questions }
-    requires rows { ForSome by_head.now (λ rows. rows ≡ task.now.graph.now) }
-    requires some { (asked_of task.now.questions.now).kind ≡ Pairs → IsSome by_head.now }
-    requires searched { All (IsSearched (A.meaning task.now.algebra) task.now.graph.now
-        (asked_of task.now.questions.now)) searched.old.items }
+    requires place { i < length (asked_of over.now.questions.now).questions }
+    requires rows { ForSome by_head.now (λ rows. rows ≡ over.now.graph.now) }
+    requires some { (asked_of over.now.questions.now).kind ≡ Pairs → IsSome by_head.now }
+    requires kept { ForSome kept.old (IsSearcherOf over.now.algebra over.now.graph.now) }
+    requires searched { All (IsSearched (A.meaning over.now.algebra) over.now.graph.now
+        (asked_of over.now.questions.now)) searched.old.items }
+    ensures kept { ForSome kept.new (IsSearcherOf over.now.algebra over.now.graph.now) }
     ensures inside { IfOk result (λ k. k < length searched.new.items) }
-    ensures answers { IfOk result (HoldsAt (λ s. IsSolvedFor (A.meaning task.now.algebra)
-        task.now.graph.now (asked_of task.now.questions.now) i s.solved) searched.new.items) }
-    ensures searched { All (IsSearched (A.meaning task.now.algebra) task.now.graph.now
-        (asked_of task.now.questions.now)) searched.new.items }
+    ensures answers { IfOk result (HoldsAt (λ s. IsSolvedFor (A.meaning over.now.algebra)
+        over.now.graph.now (asked_of over.now.questions.now) i s.solved) searched.new.items) }
+    ensures searched { All (IsSearched (A.meaning over.now.algebra) over.now.graph.now
+        (asked_of over.now.questions.now)) searched.new.items }
 {
-    if let Some(k) = find_same(searched.as_slice(), task.questions, i) {
-        return Ok(k);
+    if over.questions.kind() != Kind::Pairs {
+        return solve_from_sources(over, i, searched);
     }
-    let Some(next) = search_on(task, by_head, i, searched)? else {
-        search_anew(task, by_head, i, searched)?;
-        return Ok(0);
-    };
-    add(searched, next)?;
-    Ok(searched.len() - 1)
+    let Some(rows) = by_head else { unreachable!() };
+    solve_pair(over, rows, i, kept, searched)
 }
 
 /// Makes the rows of arcs by head, unless they are there.
@@ -136,6 +118,7 @@ pub(crate) fn make_rows<A: PathAlgebra>(
 ) -> Result<(), Memory>
     ensures graph { solver.new.graph ≡ solver.old.graph }
     ensures searched { solver.new.searched ≡ solver.old.searched }
+    ensures searcher { solver.new.searcher ≡ solver.old.searcher }
     ensures rows { OnOk result (IsSome solver.new.by_head) }
 {
     if solver.by_head.is_none() {
@@ -145,7 +128,7 @@ pub(crate) fn make_rows<A: PathAlgebra>(
     Ok(())
 }
 
-/// Before the first question: forgets what was solved. If the questions are pairs, and the first, makes the rows of arcs by head.
+/// Before the first question: forgets what was solved, but keeps the lists of the searcher. If the questions are pairs, and the first, makes the rows of arcs by head.
 pub fn start_plain<A: PathAlgebra, R>(
     task: &Task<'_, A, R>,
     solver: &mut PlainSolver<A>,
@@ -156,6 +139,9 @@ pub fn start_plain<A: PathAlgebra, R>(
         (asked_of task.now.questions.now) solver.new) }
 {
     solver.searched.clear();
+    if let Some(searcher) = &mut solver.searcher {
+        searcher.set_algebra(task.algebra);
+    }
     if task.questions.kind() == Kind::Pairs {
         make_rows(task.alloc, solver)?;
     }
@@ -181,7 +167,7 @@ pub fn solve_next_plainly<A: PathAlgebra, R: Threads + Sync>(
         (λ s. IsSolvedFor (A.meaning task.now.algebra) solver.old.graph
         (asked_of task.now.questions.now) i s.solved)) }
 {
-    let search = TaskOver {
+    let over = TaskOver {
         rt: task.rt,
         alloc: task.alloc,
         algebra: task.algebra,
@@ -189,7 +175,8 @@ pub fn solve_next_plainly<A: PathAlgebra, R: Threads + Sync>(
         questions: task.questions,
         width: task.width,
     };
-    let k = solve_plainly(&search, &solver.by_head, i, &mut solver.searched)?;
+    let (kept, searched) = (&mut solver.searcher, &mut solver.searched);
+    let k = solve_plainly(&over, &solver.by_head, i, kept, searched)?;
     solver.last = k;
     Ok(())
 }

@@ -1,31 +1,16 @@
-//! What one search of the plain solver found, and which of several serves a question.
-ghost use Rattle.std.specs.Prelude.{◌≡◌, ◌<◌, ◌↔◌, [], ◌∷◌, ◌++◌, length, slice_index_or, All, HoldsAt, IfSome, IsTrue, OnErr, OnOk};
-ghost use Rattle.std.specs.Option.{IsSomeAnd};
+//! What was found ahead of its turn, and which of several solves a question.
+ghost use Rattle.std.specs.Prelude.{◌≡◌, ◌⊎◌, ℕ, ◌<◌, [], ◌∷◌, ◌++◌, length, get_or, slice_index_or, All, HoldsAt, IfOk, IfSome, IsTrue, OnErr, OnOk};
 ghost use Rattle.road_files.specs.Asked.{Question, asked_of};
 
-use crate::pair_labels::PairLabels;
 use crate::solved::Solved;
 use road_files::{Questions, are_same};
-use road_graph::{Memory, Vertex};
+use road_graph::Memory;
 
-/// What the question at a place is solved to; and of a pair the labels, which may serve other pairs of its source.
+/// What the question at a place is solved to.
 #[derive(Drop)]
 pub(crate) struct Searched<V: Copy> {
     pub(crate) place: usize,
     pub(crate) solved: Solved<V>,
-    pub(crate) kept: Option<PairLabels<V>>,
-}
-
-impl<V: Copy> Searched<V> {
-    /// Whether it has labels from a source.
-    fn is_from(&self, source: Vertex) -> bool
-        ensures { IsTrue result ↔ IsSomeAnd self.now.kept (λ p. p.source ≡ source) }
-    {
-        match &self.kept {
-            Some(kept) => kept.source == source,
-            None => false,
-        }
-    }
 }
 
 /// Adds what was found to the rest.
@@ -37,6 +22,26 @@ pub(crate) fn add<V: Copy>(searched: &mut Vec<Searched<V>>, next: Searched<V>) -
         Ok(()) => Ok(()),
         Err(_) => Err(Memory),
     }
+}
+
+/// Puts what was found in place of what was found there before, or after the rest, if there is nothing. Where it is.
+pub(crate) fn put<V: Copy>(
+    searched: &mut Vec<Searched<V>>,
+    k: usize,
+    next: Searched<V>,
+) -> Result<usize, Memory>
+    ensures inside { IfOk result (λ j. j < length searched.new.items) }
+    ensures there { IfOk result (λ j. (d : _) → get_or searched.new.items j d ≡ next) }
+    ensures others { (j : ℕ) (d : _) → j < length searched.new.items →
+        (get_or searched.new.items j d ≡ next) ⊎ ((j < length searched.old.items) ×
+        (get_or searched.new.items j d ≡ get_or searched.old.items j d)) }
+{
+    if k < searched.len() {
+        searched[k] = next;
+        return Ok(k);
+    }
+    add(searched, next)?;
+    Ok(searched.len() - 1)
 }
 
 /// Whether two questions are the same.
@@ -70,20 +75,6 @@ pub(crate) fn find_same<V: Copy>(
 {
     for k in 0..searched.len() {
         if is_same(questions, searched[k].place, i) {
-            return Some(k);
-        }
-    }
-    None
-}
-
-/// Which of several has labels from a source.
-pub(crate) fn find_from<V: Copy>(searched: &[Searched<V>], source: Vertex) -> Option<usize>
-    ensures inside { IfSome result (λ k. k < length searched.now) }
-    ensures from { IfSome result
-        (HoldsAt (λ s. IsSomeAnd s.kept (λ p. p.source ≡ source)) searched.now) }
-{
-    for k in 0..searched.len() {
-        if searched[k].is_from(source) {
             return Some(k);
         }
     }

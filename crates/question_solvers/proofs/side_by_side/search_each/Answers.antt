@@ -8,7 +8,7 @@ use Rattle.question_solvers.proofs.side_by_side.search_each.Goals as goal
 
 pub returns : goal.returns
 returns g c =
-    let at = IsSearchedAt (g.A.PathAlgebra.meaning c.args.task.now.algebra) c.args.task.now.graph.now (asked_of c.args.task.now.questions.now) in
+    let at = IsSearchedAt (g.A.PathAlgebra.meaning c.args.over.now.algebra) c.args.over.now.graph.now (asked_of c.args.over.now.questions.now) in
     let done = c.in_ok-searched.ensures in
     let chain = done.1 in
     let slice = ap (λ it. it.base.slice.now) c.map.ensures.base ∙ ap (λ it. it.slice.now) c.with_min_len.ensures.base ∙ c.par_iter.ensures in

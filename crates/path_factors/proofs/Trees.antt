@@ -1,6 +1,7 @@
 -- The tree of an elimination: what is above a place is its parent, or above its parent.
 use Rattle.std.proofs.Common.{◌≡◌, ℕ, zero, suc, ◌+◌, ◌<◌, ◌≤◌, ◌⊎◌, inl, inr, List, [], ◌∷◌, ◌++◌, length, get_or, refl, ap, sym, ◌∙◌, subst, arith}
-use Rattle.std.specs.Prelude.{Contains}
+use Rattle.std.specs.Prelude.{Contains, min}
+use Rattle.std.proofs.Math.Nat.{min-le_left, min-le_right, min-eq_left, min-eq_right}
 use Rattle.std.proofs.lemmas.Bool.{cases_lt}
 use Rattle.std.proofs.lemmas.List.{get_or_default, get_or_append_left, get_or_push}
 use Rattle.road_graph.specs.GraphData.{GraphData}
@@ -101,24 +102,25 @@ module _ {W : Type 0} (rows : List (List (Link W))) (none v : ℕ) where
   pub least_none : IsLeastTo rows none v 0 none
   least_none = record { least = λ q k low is. absurd (omega (arith, low)); one = inl refl }
 
-  pub least_more : (j least next : ℕ) (k : Link W) → IsLeastTo rows none v j least → j < length (row_of rows v) →
-      k ≡ get_or (row_of rows v) j k → next ≤ least → next ≤ k.place → (next ≡ least) ⊎ (next ≡ k.place) →
-      IsLeastTo rows none v (j + 1) next
-  least_more j least next k done lt is first second one = record {
+  pub least_more : (j least : ℕ) (k : Link W) → IsLeastTo rows none v j least → j < length (row_of rows v) →
+      k ≡ get_or (row_of rows v) j k → IsLeastTo rows none v (j + 1) (min least k.place)
+  least_more j least k done lt is = record {
     least = λ q l low e. elim (cases_lt q j) [
-      | inl before ↦ let le = done.least q l before e in omega (arith, le, first)
+      | inl before ↦ let le = done.least q l before e in let first = min-le_left least k.place in omega (arith, le, first)
       | inr past ↦
           let here : q ≡ j = omega (arith, past, low) in
           let read : get_or (row_of rows v) j l ≡ l = ap (λ (p : ℕ). get_or (row_of rows v) p l) (sym here) ∙ e in
           let same : k.place ≡ l.place = ap (λ (m : Link W). m.place) (is ∙ get_or_default (row_of rows v) j k l lt ∙ read) in
+          let second = min-le_right least k.place in
           omega (arith, second, same)
     ];
-    one = elim one [
-      | inl old ↦ elim done.one [
-        | inl none ↦ inl (old ∙ none)
-        | inr up ↦ inr (subst (λ (p : ℕ). IsAbove rows v p) (sym old) up)
-      ]
-      | inr new ↦ inr (subst (λ (p : ℕ). IsAbove rows v p) (sym new) (k.walk, (j, lt, sym is)))
+    one = elim (cases_lt k.place least) [
+      | inl less ↦ inr (subst (λ (p : ℕ). IsAbove rows v p) (sym (min-eq_right {n = k.place} {m = least} (omega (arith, less)))) (k.walk, (j, lt, sym is)))
+      | inr not_less ↦ (let old : min least k.place ≡ least = min-eq_left {n = least} {m = k.place} not_less in
+          elim done.one [
+            | inl none ↦ inl (old ∙ none)
+            | inr up ↦ inr (subst (λ (p : ℕ). IsAbove rows v p) (sym old) up)
+          ])
     ];
   }
 

@@ -1,19 +1,10 @@
 //! The parents of places: the tree of an elimination.
-ghost use Rattle.std.specs.Prelude.{◌≡◌, ◌<◌, ◌≤◌, ◌⊎◌, IfOk, length};
+ghost use Rattle.std.specs.Prelude.{◌≡◌, ◌<◌, IfOk, length};
 ghost use Rattle.path_factors.specs.Tree.{IsTreeParent, AreTreeParents};
 
 use crate::packed::PackedRows;
 use road_graph::Memory;
 use std::alloc::{AllocError, Global};
-
-/// The lesser of two numbers.
-fn lesser(a: u32, b: u32) -> u32
-    ensures first { result ≤ a }
-    ensures second { result ≤ b }
-    ensures one { (result ≡ a) ⊎ (result ≡ b) }
-{
-    if a <= b { a } else { b }
-}
 
 /// The least place of a row, or `none` if it is empty.
 fn least_place<W: Copy>(rows: &PackedRows<W>, i: usize, none: u32) -> u32
@@ -23,7 +14,7 @@ fn least_place<W: Copy>(rows: &PackedRows<W>, i: usize, none: u32) -> u32
     let mut least = none;
     for j in 0..rows.count(i) {
         let link = rows.riser(i, j);
-        least = lesser(least, link.place);
+        least = least.min(link.place);
     }
     least
 }

@@ -7,8 +7,8 @@ loop-j-init g c = least_none c.args.rows.now.leaving c.args.none c.args.i
 
 pub loop-j-preserved : goal.loop-j-preserved
 loop-j-preserved g c =
-    least_more c.args.rows.now.leaving c.args.none c.args.i c.loop-j.j c.loop-j.least c.lesser-least.result c.riser-link.result c.loop-j.invariant
-    (omega (arith, c.loop-j-test.true, c.count-j-end.ensures.leaving)) c.riser-link.ensures c.lesser-least.ensures.first c.lesser-least.ensures.second c.lesser-least.ensures.one
+    rw c.min-least.ensures (least_more c.args.rows.now.leaving c.args.none c.args.i c.loop-j.j c.loop-j.least c.riser-link.result c.loop-j.invariant
+    (omega (arith, c.loop-j-test.true, c.count-j-end.ensures.leaving)) c.riser-link.ensures)
 
 pub returns : goal.returns
 returns g c =

@@ -3,8 +3,10 @@
    What each call promises is proved of the library itself; docs/EMBEDDING.md says what that means.
 
    What a caller owes, since nothing checks it:
-   - Each pointer is aligned for its type, valid for as many elements as the number after it says, and not null even for none.
-     What the pointers of one call point to does not overlap.
+   - Each pointer is aligned for its type and valid for as many elements as the number after it says. What the pointers of one
+     call point to does not overlap. NULL will do for a list of no elements, and for a single number that is not wanted: a line,
+     a count, code, hops, vertex or reason. A caller that finds a function by its symbol, past the macros at the end, gives each
+     single number a place.
    - A handle starts as DIFFUSE_CLOSED or diffuse_graph_closed(), which is all zero, and is changed only by these calls. It may
      be moved in memory by assignment, if its old place is no longer used. Two copies of an open handle must not both be used.
    - One call at a time uses a handle, be it only to ask for a route: a call takes the graph out of its handle, may make what its
@@ -57,8 +59,8 @@ enum diffuse_status {
     DIFFUSE_STATUS_DONE = 0,
     DIFFUSE_STATUS_NO_ROUTE = 1,        /* no walk from the source to the target has a value */
     DIFFUSE_STATUS_NO_ROOM = 2,         /* route and arcs_from: there are fewer places than are needed; tree and check: a list
-                                           does not have just one place for each vertex; table: there is not just one place for
-                                           each source and target; read: a text of more than 2^32 bytes */
+                                           does not have just one place for each vertex, nor, for tree, none; table: there is
+                                           not just one place for each source and target; read: a text of more than 2^32 bytes */
     DIFFUSE_STATUS_MEMORY = 3,          /* out of memory */
     DIFFUSE_STATUS_CLOSED = 4,          /* the handle has no graph */
     DIFFUSE_STATUS_OPEN = 5,            /* the handle that was to be opened has a graph already */
@@ -102,13 +104,13 @@ enum diffuse_reason {
 /* The code of a vertex to which no walk has a value; its hops and its parent are 0. */
 #define DIFFUSE_UNREACHED ((uint64_t)-1)
 
-/* What compilers are told that know it: no pointer is null, and a status is not to be dropped. */
+/* What compilers are told that know it: which pointers are not null, and that a status is not to be dropped. */
 #if defined(__GNUC__)
-#define DIFFUSE_NONNULL __attribute__((nonnull))
-#define DIFFUSE_CHECKED DIFFUSE_NONNULL __attribute__((warn_unused_result))
+#define DIFFUSE_NONNULL(places) __attribute__((nonnull places))
+#define DIFFUSE_CHECKED(places) DIFFUSE_NONNULL(places) __attribute__((warn_unused_result))
 #else
-#define DIFFUSE_NONNULL
-#define DIFFUSE_CHECKED
+#define DIFFUSE_NONNULL(places)
+#define DIFFUSE_CHECKED(places)
 #endif
 
 /* What the library takes for granted of the compiler. */
@@ -127,32 +129,32 @@ extern "C" {
 
 /* Opens a closed handle with the graph of these arcs, which may be changed or freed afterwards.
    OPEN, LIMIT, NO_VERTEX, MEMORY or DONE. Whether the arcs join vertices is found before memory is asked for. */
-DIFFUSE_CHECKED
+DIFFUSE_CHECKED((4))
 enum diffuse_status diffuse_graph_open(uint32_t vertices, const struct diffuse_arc *arcs, size_t n_arcs,
     struct diffuse_graph *graph);
 
 /* Opens a closed handle with the graph of a .gr text of the 9th DIMACS challenge, which may be changed or freed afterwards.
    OPEN, NO_ROOM, MEMORY, one of NO_PROBLEM to TOO_FEW, or DONE. A text of more than DIFFUSE_MAX_TEXT bytes is refused unread,
    with line 0. If the text has a fault, the status is the number of the first one, and *line its line, counted from 1. */
-DIFFUSE_CHECKED
+DIFFUSE_CHECKED((3, 4))
 enum diffuse_status diffuse_graph_read(const uint8_t *bytes, size_t n_bytes, struct diffuse_graph *graph, uint64_t *line);
 
 /* Opens a second, closed handle with the graph of an open one, and with the factors that this one has. Both have one copy of
    the graph, of its factors, and of its arcs by head, which are made now if no call has needed them yet.
    OPEN, CLOSED, MEMORY or DONE. */
-DIFFUSE_CHECKED
+DIFFUSE_CHECKED((1, 2))
 enum diffuse_status diffuse_graph_share(struct diffuse_graph *graph, struct diffuse_graph *second);
 
 /* Closes a handle. The graph is freed with the last handle that has it; a closed handle stays closed. */
-DIFFUSE_NONNULL void diffuse_graph_close(struct diffuse_graph *graph);
+DIFFUSE_NONNULL((1)) void diffuse_graph_close(struct diffuse_graph *graph);
 
 /* How many vertices and arcs the graph of a handle has; 0 if it is closed. */
-DIFFUSE_NONNULL uint32_t diffuse_graph_vertices(struct diffuse_graph *graph);
-DIFFUSE_NONNULL size_t diffuse_graph_arcs(struct diffuse_graph *graph);
+DIFFUSE_NONNULL((1)) uint32_t diffuse_graph_vertices(struct diffuse_graph *graph);
+DIFFUSE_NONNULL((1)) size_t diffuse_graph_arcs(struct diffuse_graph *graph);
 
 /* Reads back the arcs that leave a vertex, in the order in which they were given, and counts them. The places after them are
    left as they are. If there are fewer places, the number is written all the same. CLOSED, NO_VERTEX, NO_ROOM or DONE. */
-DIFFUSE_CHECKED
+DIFFUSE_CHECKED((1, 5))
 enum diffuse_status diffuse_graph_arcs_from(struct diffuse_graph *graph, uint32_t vertex,
     struct diffuse_arc *arcs, size_t n_arcs, size_t *count);
 
@@ -160,14 +162,14 @@ enum diffuse_status diffuse_graph_arcs_from(struct diffuse_graph *graph, uint32_
    value from its tail's), and the route along least parents: hops + 1 vertices, from the source on. The room after them is
    left as it is. If the room is shorter, code and hops are written all the same.
    CLOSED, NO_VERTEX, NO_ALGEBRA, MEMORY, NO_ROUTE, NO_ROOM or DONE. */
-DIFFUSE_CHECKED
+DIFFUSE_CHECKED((1, 6, 7))
 enum diffuse_status diffuse_graph_route(struct diffuse_graph *graph, enum diffuse_algebra algebra, uint64_t limit,
     uint32_t source, uint32_t target, uint64_t *code, uint32_t *hops, uint32_t *room, size_t n_room);
 
 /* For each vertex v, in place v - 1: the best value from the nearest of the sources, as a code, its least hops and its least
-   parent. An unreached vertex has DIFFUSE_UNREACHED, 0 and 0; a source has parent 0.
+   parent. An unreached vertex has DIFFUSE_UNREACHED, 0 and 0; a source has parent 0. A list of no places is not wanted.
    CLOSED, NO_VERTEX, NO_ROOM, NO_ALGEBRA, MEMORY or DONE. */
-DIFFUSE_CHECKED
+DIFFUSE_CHECKED((1))
 enum diffuse_status diffuse_graph_tree(struct diffuse_graph *graph, enum diffuse_algebra algebra, uint64_t limit,
     const uint32_t *sources, size_t n_sources, uint64_t *codes, size_t n_codes, uint32_t *hops, size_t n_hops,
     uint32_t *parents, size_t n_parents);
@@ -176,7 +178,7 @@ enum diffuse_status diffuse_graph_tree(struct diffuse_graph *graph, enum diffuse
    is judged by itself and those of the vertices with an arc to it. If the lists are not the tree, the status is WRONG; then
    *vertex is the first vertex whose line the others refute, and *reason the first reason, an enum diffuse_reason.
    CLOSED, NO_VERTEX, NO_ROOM, NO_ALGEBRA, MEMORY, WRONG or DONE. */
-DIFFUSE_CHECKED
+DIFFUSE_CHECKED((1, 12, 13))
 enum diffuse_status diffuse_graph_check(struct diffuse_graph *graph, enum diffuse_algebra algebra, uint64_t limit,
     const uint32_t *sources, size_t n_sources, const uint64_t *codes, size_t n_codes,
     const uint32_t *hops, size_t n_hops, const uint32_t *parents, size_t n_parents, uint32_t *vertex, uint32_t *reason);
@@ -185,7 +187,7 @@ enum diffuse_status diffuse_graph_check(struct diffuse_graph *graph, enum diffus
    place i * n_targets + j; DIFFUSE_UNREACHED if no walk has a value. With factors each code is found by itself; without them
    there is a search over the whole graph for each source.
    CLOSED, NO_VERTEX, NO_ROOM, NO_ALGEBRA, MEMORY or DONE. */
-DIFFUSE_CHECKED
+DIFFUSE_CHECKED((1))
 enum diffuse_status diffuse_graph_table(struct diffuse_graph *graph, enum diffuse_algebra algebra, uint64_t limit,
     const uint32_t *sources, size_t n_sources, const uint32_t *targets, size_t n_targets, uint64_t *codes, size_t n_codes);
 
@@ -194,7 +196,7 @@ enum diffuse_status diffuse_graph_table(struct diffuse_graph *graph, enum diffus
    have one factoring, HOPS has its own, and the other algebras have none. It takes the time of some tens of routes; a second
    call for it does nothing. After a refusal calls search, as before.
    CLOSED, NO_ALGEBRA, NO_FACTORS, MEMORY, DENSE, HEAVY or DONE. */
-DIFFUSE_CHECKED
+DIFFUSE_CHECKED((1))
 enum diffuse_status diffuse_graph_factor(struct diffuse_graph *graph, enum diffuse_algebra algebra);
 
 /* The library's version, as DIFFUSE_VERSION is made: 1.1.0 is 10100. */
@@ -203,6 +205,42 @@ uint32_t diffuse_version(void);
 #ifdef __cplusplus
 }
 #endif
+
+/* The calls that write a single number, with a place for each that is not wanted. */
+static inline DIFFUSE_CHECKED((3)) enum diffuse_status diffuse_graph_read_nullable(const uint8_t *bytes, size_t n_bytes,
+    struct diffuse_graph *graph, uint64_t *line) {
+    uint64_t unwanted = 0;
+    return diffuse_graph_read(bytes, n_bytes, graph, line ? line : &unwanted);
+}
+
+static inline DIFFUSE_CHECKED((1)) enum diffuse_status diffuse_graph_arcs_from_nullable(struct diffuse_graph *graph,
+    uint32_t vertex, struct diffuse_arc *arcs, size_t n_arcs, size_t *count) {
+    size_t unwanted = 0;
+    return diffuse_graph_arcs_from(graph, vertex, arcs, n_arcs, count ? count : &unwanted);
+}
+
+static inline DIFFUSE_CHECKED((1)) enum diffuse_status diffuse_graph_route_nullable(struct diffuse_graph *graph,
+    enum diffuse_algebra algebra, uint64_t limit, uint32_t source, uint32_t target, uint64_t *code, uint32_t *hops,
+    uint32_t *room, size_t n_room) {
+    uint64_t unwanted_code = 0;
+    uint32_t unwanted_hops = 0;
+    return diffuse_graph_route(graph, algebra, limit, source, target, code ? code : &unwanted_code,
+        hops ? hops : &unwanted_hops, room, n_room);
+}
+
+static inline DIFFUSE_CHECKED((1)) enum diffuse_status diffuse_graph_check_nullable(struct diffuse_graph *graph,
+    enum diffuse_algebra algebra, uint64_t limit, const uint32_t *sources, size_t n_sources, const uint64_t *codes,
+    size_t n_codes, const uint32_t *hops, size_t n_hops, const uint32_t *parents, size_t n_parents, uint32_t *vertex,
+    uint32_t *reason) {
+    uint32_t unwanted_vertex = 0, unwanted_reason = 0;
+    return diffuse_graph_check(graph, algebra, limit, sources, n_sources, codes, n_codes, hops, n_hops, parents, n_parents,
+        vertex ? vertex : &unwanted_vertex, reason ? reason : &unwanted_reason);
+}
+
+#define diffuse_graph_read diffuse_graph_read_nullable
+#define diffuse_graph_arcs_from diffuse_graph_arcs_from_nullable
+#define diffuse_graph_route diffuse_graph_route_nullable
+#define diffuse_graph_check diffuse_graph_check_nullable
 
 /* A closed handle, to be assigned. */
 static inline struct diffuse_graph diffuse_graph_closed(void) {

@@ -277,6 +277,72 @@ static void arcs_from(void) {
     IS(7, diffuse_graph_arcs(&graph));
 }
 
+/* NULL for each single number that is not wanted: the others are written, and the statuses are the same. */
+static void unwanted_numbers(void) {
+    static const uint8_t BAD_TEXT[] = "p sp 2 1\na 1 3 3\n";
+    struct diffuse_arc arcs[2];
+    struct tree t = RIGHT;
+    open(FIVE, 5, 7);
+    code = hops = 77;
+    IS(DIFFUSE_STATUS_DONE, diffuse_graph_route(&graph, DIFFUSE_ALGEBRA_SHORTEST, 0, 1, 4, &code, NULL, room, 8));
+    IS(8, code);
+    IS(DIFFUSE_STATUS_DONE, diffuse_graph_route(&graph, DIFFUSE_ALGEBRA_SHORTEST, 0, 1, 4, NULL, &hops, room, 8));
+    IS(3, hops);
+    IS(DIFFUSE_STATUS_NO_ROUTE, diffuse_graph_route(&graph, DIFFUSE_ALGEBRA_SHORTEST, 0, 1, 5, NULL, NULL, room, 8));
+    IS(DIFFUSE_STATUS_NO_ROOM, diffuse_graph_arcs_from(&graph, 3, arcs, 1, NULL));
+    IS(DIFFUSE_STATUS_DONE, diffuse_graph_arcs_from(&graph, 3, arcs, 2, NULL));
+    IS(8, arcs[1].weight);
+    t.codes[3] = 9;
+    vertex = reason = 0;
+    for (int i = 0; i < 2; i++)
+        IS(DIFFUSE_STATUS_WRONG, diffuse_graph_check(&graph, DIFFUSE_ALGEBRA_SHORTEST, 0, &ONE, 1, t.codes, 5, t.hops, 5, t.parents, 5,
+                                                     i ? NULL : &vertex, i ? &reason : NULL));
+    IS(4, vertex);
+    IS(DIFFUSE_REASON_NOT_BEST, reason);
+    IS(DIFFUSE_STATUS_NO_VERTEX, diffuse_graph_read(BAD_TEXT, sizeof BAD_TEXT - 1, &second, NULL));
+}
+
+/* NULL for each list of no elements. */
+static void empty_lists(void) {
+    struct diffuse_graph empty = DIFFUSE_CLOSED;
+    struct tree t;
+    size_t count = 7;
+    IS(DIFFUSE_STATUS_NO_PROBLEM, diffuse_graph_read(NULL, 0, &empty, NULL));
+    IS(DIFFUSE_STATUS_DONE, diffuse_graph_open(0, NULL, 0, &empty));
+    IS(DIFFUSE_STATUS_DONE, diffuse_graph_tree(&empty, DIFFUSE_ALGEBRA_SHORTEST, 0, NULL, 0, NULL, 0, NULL, 0, NULL, 0));
+    IS(DIFFUSE_STATUS_DONE, diffuse_graph_check(&empty, DIFFUSE_ALGEBRA_SHORTEST, 0, NULL, 0, NULL, 0, NULL, 0, NULL, 0, NULL, NULL));
+    IS(DIFFUSE_STATUS_DONE, diffuse_graph_table(&empty, DIFFUSE_ALGEBRA_SHORTEST, 0, NULL, 0, NULL, 0, NULL, 0));
+    diffuse_graph_close(&empty);
+    open(FIVE, 5, 7);
+    code = hops = 77;
+    IS(DIFFUSE_STATUS_NO_ROOM, diffuse_graph_route(&graph, DIFFUSE_ALGEBRA_SHORTEST, 0, 1, 4, &code, &hops, NULL, 0));
+    IS(8, code);
+    IS(3, hops);
+    IS(DIFFUSE_STATUS_NO_ROOM, diffuse_graph_arcs_from(&graph, 3, NULL, 0, &count));
+    IS(2, count);
+    IS(DIFFUSE_STATUS_DONE, diffuse_graph_tree(&graph, DIFFUSE_ALGEBRA_SHORTEST, 0, NULL, 0, t.codes, 5, t.hops, 5, t.parents, 5));
+    IS(DIFFUSE_UNREACHED, t.codes[0]);
+    IS(DIFFUSE_STATUS_DONE, diffuse_graph_table(&graph, DIFFUSE_ALGEBRA_SHORTEST, 0, NULL, 0, &ONE, 1, NULL, 0));
+    IS(DIFFUSE_STATUS_DONE, diffuse_graph_table(&graph, DIFFUSE_ALGEBRA_SHORTEST, 0, &ONE, 1, NULL, 0, NULL, 0));
+    IS(DIFFUSE_STATUS_NO_ROOM, diffuse_graph_check(&graph, DIFFUSE_ALGEBRA_SHORTEST, 0, &ONE, 1, NULL, 0, NULL, 0, NULL, 0, NULL, NULL));
+}
+
+/* The lists of a tree that are wanted are as ever: each alone, and each two. */
+static void unwanted_lists(void) {
+    open(FIVE, 5, 7);
+    for (int wanted = 0; wanted < 8; wanted++) {
+        struct tree t;
+        memset(&t, 7, sizeof t);
+        IS(DIFFUSE_STATUS_DONE, diffuse_graph_tree(&graph, DIFFUSE_ALGEBRA_SHORTEST, 0, &ONE, 1,
+                                                   wanted & 1 ? t.codes : NULL, wanted & 1 ? 5 : 0,
+                                                   wanted & 2 ? t.hops : NULL, wanted & 2 ? 5 : 0,
+                                                   wanted & 4 ? t.parents : NULL, wanted & 4 ? 5 : 0));
+        IS((wanted & 1) != 0, memcmp(t.codes, RIGHT.codes, sizeof t.codes) == 0);
+        IS((wanted & 2) != 0, memcmp(t.hops, RIGHT.hops, sizeof t.hops) == 0);
+        IS((wanted & 4) != 0, memcmp(t.parents, RIGHT.parents, sizeof t.parents) == 0);
+    }
+}
+
 /* Each status and each reason has a text of its own. */
 static void texts(void) {
     int statuses = 0, reasons = 0;
@@ -300,6 +366,9 @@ static void *all(void *nothing) {
     reasons();
     rooms();
     arcs_from();
+    unwanted_numbers();
+    empty_lists();
+    unwanted_lists();
     factors();
     texts();
     IS(DIFFUSE_VERSION, diffuse_version());

@@ -36,6 +36,12 @@ def output_of(*command, **settings):
     return ran.stdout if ran.returncode == 0 else f"status {ran.returncode}\n{ran.stdout}"
 
 
+def links_with(*flags):
+    """Whether the C compiler links with these flags."""
+    command = ["cc", *flags, "-x", "c", "-", "-o", os.devnull]
+    return subprocess.run(command, input="int main(void) { return 0; }", text=True, stderr=subprocess.DEVNULL).returncode == 0
+
+
 class Tally:
     """Reports each case and counts."""
 

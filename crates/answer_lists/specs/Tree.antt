@@ -1,5 +1,5 @@
 -- A tree in three lists, each with a number for each vertex, and the first vertex at which such lists are wrong.
-use Rattle.std.specs.Prelude.{◌≡◌, ◌↔◌, ℕ, ◌==◌, ◌&&◌, if◌then◌else◌, ℤ, pos, true, List, [], ◌∷◌, All, Bool, Option, Some, None}
+use Rattle.std.specs.Prelude.{◌≡◌, ◌⊎◌, ◌↔◌, ℕ, ◌==◌, ◌&&◌, if◌then◌else◌, ℤ, pos, true, List, [], ◌∷◌, All, Bool, Option, Some, None, length}
 use Rattle.road_graph.specs.GraphData.{GraphData, HasVertex}
 use Rattle.path_algebra.specs.Algebra.{Algebra}
 use Rattle.path_algebra.specs.Choices.{IsAlgebra}
@@ -30,6 +30,28 @@ pub record AreTreeLists {V : Type 0} (A : Algebra V) (g : GraphData) (sources co
   pub places : HavePlaces g.vertices codes hops parents
   pub lines : AreVertexLines A g sources (lines_of codes hops parents)
 
+-- a list is this one, or has no place, since it is not wanted
+abbrev pub IsListOrNone : List ℕ → List ℕ → Type 0
+IsListOrNone list whole = (list ≡ whole) ⊎ (list ≡ [])
+
+-- the lists are those of the tree, but for the ones that are not wanted
+pub record AreWantedLists {V : Type 0} (A : Algebra V) (g : GraphData) (sources codes hops parents : List ℕ) : Type 0 where
+  pub all_codes : List ℕ
+  pub all_hops : List ℕ
+  pub all_parents : List ℕ
+  pub tree : AreTreeLists A g sources all_codes all_hops all_parents
+  pub codes_are : IsListOrNone codes all_codes
+  pub hops_are : IsListOrNone hops all_hops
+  pub parents_are : IsListOrNone parents all_parents
+
+-- so many places are one for each of n vertices, or none
+abbrev pub IsAllOrNone : ℕ → ℕ → Type 0
+IsAllOrNone n count = (count ≡ n) ⊎ (count ≡ 0)
+
+-- each list has a place for each of n vertices, or none
+abbrev pub HaveAllOrNone : ℕ → List ℕ → List ℕ → List ℕ → Type 0
+HaveAllOrNone n codes hops parents = IsAllOrNone n (length codes) × IsAllOrNone n (length hops) × IsAllOrNone n (length parents)
+
 -- the lists are not the tree, and v is the first vertex whose line its neighbours' lines refute; the first reason has this number
 pub record IsFirstRefuted {V : Type 0} (A : Algebra V) (g : GraphData) (sources codes hops parents : List ℕ) (v number : ℕ) : Type 0 where
   pub wrong : AreTreeLists A g sources codes hops parents → ⊥
@@ -46,11 +68,17 @@ IsFirstPlace A g lines marks (Some p) =
     HasVertex g p.0 × IsMarkedRefused A g lines p.0 (is_marked marks p.0) p.1
     × ((u : ℕ) (r : Reason) → IsEarlier u r p.0 p.1 → HasVertex g u × IsMarkedRefused A g lines u (is_marked marks u) r → ⊥)
 
--- which questions about a tree are refused, in this order: a source is no vertex, a list does not have n places, there is no such algebra
+-- which checks of a tree are refused, in this order: a source is no vertex, a list does not have n places, there is no such algebra
 pub record ReportsRefusals (g : GraphData) (number limit : ℕ) (sources codes hops parents : List ℕ) (status : ℤ) : Type 0 where
   pub vertex : (status ≡ pos 17) ↔ (All (HasVertex g) sources → ⊥)
   pub places : (status ≡ pos 2) ↔ (All (HasVertex g) sources × (HavePlaces g.vertices codes hops parents → ⊥))
   pub algebra : (status ≡ pos 43) ↔ (All (HasVertex g) sources × HavePlaces g.vertices codes hops parents × (IsAlgebra number limit → ⊥))
+
+-- which questions for a tree are refused: the same, but a list may also have no places
+pub record ReportsTreeRefusals (g : GraphData) (number limit : ℕ) (sources codes hops parents : List ℕ) (status : ℤ) : Type 0 where
+  pub vertex : (status ≡ pos 17) ↔ (All (HasVertex g) sources → ⊥)
+  pub places : (status ≡ pos 2) ↔ (All (HasVertex g) sources × (HaveAllOrNone g.vertices codes hops parents → ⊥))
+  pub algebra : (status ≡ pos 43) ↔ (All (HasVertex g) sources × HaveAllOrNone g.vertices codes hops parents × (IsAlgebra number limit → ⊥))
 
 -- the number that is written for a code, hops or a parent, or for none
 abbrev pub code_for : {V : Type 0} → Algebra V → Option V → ℕ

@@ -1,14 +1,14 @@
 //! A tree, written to three lists of the caller.
 
-ghost use Rattle.std.specs.Prelude.{◌≡◌, ◌∷◌, [], pos, IfOk};
+ghost use Rattle.std.specs.Prelude.{◌≡◌, ◌↔◌, ◌∷◌, [], pos, set, IfOk, IsTrue};
 ghost use Rattle.std.specs.List.{All};
 ghost use Rattle.road_graph.specs.GraphData.{HasVertex};
 ghost use Rattle.path_algebra.specs.Choices.{OfAlgebra, Under};
 ghost use Rattle.path_algebra.specs.Walks.{AreBest};
 ghost use Rattle.route_tree.specs.Tree.{IsTree};
 ghost use Rattle.answer_text.specs.IsAnswer.{IsVertexLine};
-ghost use Rattle.answer_lists.specs.Answers.{HavePlaces, IsOneOf};
-ghost use Rattle.answer_lists.specs.Tree.{AreTreeLists, ReportsRefusals, HasLowCodes, line_of, number_for};
+ghost use Rattle.answer_lists.specs.Answers.{IsOneOf};
+ghost use Rattle.answer_lists.specs.Tree.{AreWantedLists, IsAllOrNone, HaveAllOrNone, ReportsTreeRefusals, HasLowCodes, line_of, number_for};
 
 use crate::codes::code_for;
 use crate::shared_graph::SharedGraph;
@@ -64,7 +64,16 @@ fn numbers_of<A: PathAlgebra>(
     )
 }
 
-/// Writes a tree to three lists.
+/// Writes to a place of a list, if the list has it.
+fn put<T: Copy>(list: &mut [T], i: usize, x: T)
+    ensures { list.new ≡ set list.old i x }
+{
+    if i < list.len() {
+        list[i] = x;
+    }
+}
+
+/// Writes a tree to three lists, of which those without places are not wanted.
 fn write_lists<A: PathAlgebra>(
     algebra: A,
     graph: &OutGraph,
@@ -76,19 +85,19 @@ fn write_lists<A: PathAlgebra>(
     parents: &mut [u32],
 )
     requires low { HasLowCodes (A.meaning algebra) }
-    requires places { HavePlaces graph.now.vertices codes.old hops.old parents.old }
+    requires places { HaveAllOrNone graph.now.vertices codes.old hops.old parents.old }
     requires best { AreBest (A.meaning algebra) graph.now sources.now labels.now }
     requires tree { IsTree (A.meaning algebra) graph.now sources.now tree.now }
-    ensures { AreTreeLists (A.meaning algebra) graph.now sources.now codes.new hops.new
+    ensures { AreWantedLists (A.meaning algebra) graph.now sources.now codes.new hops.new
         parents.new }
 {
     graph.holds();
-    for i in 0..codes.len() {
+    for i in 0..graph.vertices() as usize {
         let v = Vertex(i as u32 + 1);
         let (code, near, parent) = numbers_of(algebra, graph, sources, labels, tree, v);
-        codes[i] = code;
-        hops[i] = near;
-        parents[i] = parent;
+        put(codes, i, code);
+        put(hops, i, near);
+        put(parents, i, parent);
     }
 }
 
@@ -127,10 +136,10 @@ fn answer<A: PathAlgebra>(
 ) -> i32
     requires low { HasLowCodes (A.meaning algebra) }
     requires sources { All (HasVertex shared.old) sources.now }
-    requires places { HavePlaces shared.old.vertices codes.old hops.old parents.old }
+    requires places { HaveAllOrNone shared.old.vertices codes.old hops.old parents.old }
     ensures graph { shared.new ≡ shared.old }
-    ensures tree { result ≡ pos 0 → AreTreeLists (A.meaning algebra) shared.old sources.now codes.new
-        hops.new parents.new }
+    ensures tree { result ≡ pos 0 → AreWantedLists (A.meaning algebra) shared.old sources.now
+        codes.new hops.new parents.new }
     ensures kept { (result ≡ pos 0 → ⊥) → (codes.new ≡ codes.old) × (hops.new ≡ hops.old) ×
         (parents.new ≡ parents.old) }
     ensures status { IsOneOf (0 ∷ 3 ∷ []) result }
@@ -167,10 +176,10 @@ fn answer_chosen(
     parents: &mut [u32],
 ) -> i32
     requires sources { All (HasVertex shared.old) sources.now }
-    requires places { HavePlaces shared.old.vertices codes.old hops.old parents.old }
+    requires places { HaveAllOrNone shared.old.vertices codes.old hops.old parents.old }
     ensures graph { shared.new ≡ shared.old }
-    ensures tree { result ≡ pos 0 → Under chosen (λ V A. AreTreeLists A shared.old sources.now codes.new
-        hops.new parents.new) }
+    ensures tree { result ≡ pos 0 → Under chosen (λ V A. AreWantedLists A shared.old sources.now
+        codes.new hops.new parents.new) }
     ensures kept { (result ≡ pos 0 → ⊥) → (codes.new ≡ codes.old) × (hops.new ≡ hops.old) ×
         (parents.new ≡ parents.old) }
     ensures status { IsOneOf (0 ∷ 3 ∷ []) result }
@@ -181,8 +190,15 @@ fn answer_chosen(
     )
 }
 
+/// Whether so many places are one for each of n vertices, or none.
+fn is_all_or_none(n: usize, count: usize) -> bool
+    ensures { IsTrue result ↔ IsAllOrNone n count }
+{
+    count == n || count == 0
+}
+
 /// Finds a tree by the algebra of a number and writes it, if each source is a vertex, each list has a place for each
-/// vertex and there is such an algebra.
+/// vertex or none, and there is such an algebra. A list without places is not wanted.
 #[tactic(auto, using(path_algebra::proofs::Chosen::of_numbered))]
 pub fn answer_tree(
     alloc: Global,
@@ -195,11 +211,11 @@ pub fn answer_tree(
     parents: &mut [u32],
 ) -> i32
     ensures graph { shared.new ≡ shared.old }
-    ensures tree { result ≡ pos 0 → OfAlgebra number limit (λ V A. AreTreeLists A shared.old
+    ensures tree { result ≡ pos 0 → OfAlgebra number limit (λ V A. AreWantedLists A shared.old
         sources.now codes.new hops.new parents.new) }
     ensures kept { (result ≡ pos 0 → ⊥) → (codes.new ≡ codes.old) × (hops.new ≡ hops.old) ×
         (parents.new ≡ parents.old) }
-    ensures refusals { ReportsRefusals shared.old number limit sources.now codes.old hops.old
+    ensures refusals { ReportsTreeRefusals shared.old number limit sources.now codes.old hops.old
         parents.old result }
     ensures status { IsOneOf (0 ∷ 2 ∷ 3 ∷ 17 ∷ 43 ∷ []) result }
 {
@@ -208,7 +224,11 @@ pub fn answer_tree(
         return NO_VERTEX;
     }
     let n = graph.vertices() as usize;
-    if codes.len() != n || hops.len() != n || parents.len() != n {
+    let (codes_fit, hops_fit) = (
+        is_all_or_none(n, codes.len()),
+        is_all_or_none(n, hops.len()),
+    );
+    if !codes_fit || !hops_fit || !is_all_or_none(n, parents.len()) {
         return NO_ROOM;
     }
     let Some(chosen) = AlgebraChoice::numbered(number, limit) else {

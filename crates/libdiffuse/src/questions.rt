@@ -3,7 +3,7 @@
 ghost use Rattle.std.specs.Prelude.{◌≡◌, ◌↔◌, ◌<◌, ◌≤◌, ◌+◌, ◌∷◌, [], drop, length, pos, None};
 ghost use Rattle.path_algebra.specs.Choices.{IsAlgebra, OfAlgebra};
 ghost use Rattle.answer_lists.specs.Answers.{IsAnswered, IsFound, ReportsRoute, IsOneOf, HasBoth};
-ghost use Rattle.answer_lists.specs.Tree.{AreTreeLists, IsFirstRefuted, ReportsRefusals};
+ghost use Rattle.answer_lists.specs.Tree.{AreTreeLists, AreWantedLists, IsFirstRefuted, ReportsRefusals, ReportsTreeRefusals};
 ghost use Rattle.libdiffuse.specs.Holding.{OfGraph};
 
 use crate::handle::{DiffuseGraph, put, take};
@@ -55,7 +55,8 @@ pub extern "C" fn diffuse_graph_route(
 /// For each vertex the best value from the nearest of some sources, as a code, its least hops and its least parent, by
 /// the algebra of a number.
 ///
-/// A vertex that no walk with a value leads to has the code 2^64 - 1; it and each source have parent 0.
+/// A vertex that no walk with a value leads to has the code 2^64 - 1; it and each source have parent 0. A list without
+/// places is not wanted.
 #[unsafe(no_mangle)]
 pub extern "C" fn diffuse_graph_tree(
     alloc: Global,
@@ -69,11 +70,11 @@ pub extern "C" fn diffuse_graph_tree(
 ) -> i32
     ensures kept { handle.new.held.roads ≡ handle.old.held.roads }
     ensures tree { OfGraph handle.old.held.roads (λ g. result ≡ pos 0 → OfAlgebra algebra limit
-        (λ V A. AreTreeLists A g sources.now codes.new hops.new parents.new)) }
+        (λ V A. AreWantedLists A g sources.now codes.new hops.new parents.new)) }
     ensures lists { (result ≡ pos 0 → ⊥) → (codes.new ≡ codes.old) × (hops.new ≡ hops.old) ×
         (parents.new ≡ parents.old) }
-    ensures refusals { OfGraph handle.old.held.roads (λ g. ReportsRefusals g algebra limit sources.now
-        codes.old hops.old parents.old result) }
+    ensures refusals { OfGraph handle.old.held.roads (λ g. ReportsTreeRefusals g algebra limit
+        sources.now codes.old hops.old parents.old result) }
     ensures closed { (result ≡ pos 4) ↔ (handle.old.held.roads ≡ None) }
     ensures status { IsOneOf (0 ∷ 2 ∷ 3 ∷ 4 ∷ 17 ∷ 43 ∷ []) result }
 {

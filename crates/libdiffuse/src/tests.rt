@@ -111,6 +111,20 @@ fn assert_tree(rt: &impl Abort, alloc: Global, handle: &mut DiffuseGraph) {
     assert_eq!(rt; parents, [0, 3, 1, 2, 0]);
 }
 
+/// Lists without places are left out: codes alone, parents alone, and none at all.
+fn assert_parts_of_a_tree(rt: &impl Abort, alloc: Global, handle: &mut DiffuseGraph) {
+    let (mut codes, mut parents) = ([0; 5], [0; 5]);
+    let ones = &[1];
+    let status = diffuse_graph_tree(alloc, handle, 0, 0, ones, &mut codes, &mut [], &mut []);
+    assert_eq!(rt; status, 0);
+    assert_eq!(rt; codes, [0, 3, 1, 8, u64::MAX]);
+    let status = diffuse_graph_tree(alloc, handle, 0, 0, ones, &mut [], &mut [], &mut parents);
+    assert_eq!(rt; status, 0);
+    assert_eq!(rt; parents, [0, 3, 1, 2, 0]);
+    let status = diffuse_graph_tree(alloc, handle, 0, 0, ones, &mut [], &mut [], &mut []);
+    assert_eq!(rt; status, 0);
+}
+
 /// The table from 1 and 5 to 4, 1 and 5, by the shortest walks.
 fn assert_table(rt: &impl Abort, alloc: Global, handle: &mut DiffuseGraph) {
     let mut codes = [0; 6];
@@ -211,6 +225,7 @@ fn a_handle_is_opened_shared_asked_and_closed(rt: HostRuntime) {
     assert_send(&first);
     close(alloc, first);
     assert_tree(&rt, alloc, &mut second);
+    assert_parts_of_a_tree(&rt, alloc, &mut second);
     assert_checks(&rt, alloc, &mut second);
     assert_table(&rt, alloc, &mut second);
     assert_factored(&rt, alloc, &mut second);

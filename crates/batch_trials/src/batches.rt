@@ -4,6 +4,7 @@ mod faults;
 mod gates;
 mod reports;
 mod sources;
+mod stops;
 mod turns;
 mod workers;
 

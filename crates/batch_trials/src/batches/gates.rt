@@ -39,6 +39,49 @@ impl Counting {
     }
 }
 
+/// Keeps the greatest number of a worker that asks.
+#[derive(Drop)]
+pub struct GreatestWorker(pub AtomicU64);
+
+impl Gate for GreatestWorker {
+    ghost may_answer = { λ _ _ _ answer. answer ≡ true };
+
+    fn before(&self, worker: u64, _turn: u64) -> bool {
+        self.0.fetch_max(worker, Ordering::SeqCst);
+        true
+    }
+}
+
+/// Counts how often it is asked, and answers `false` the time of this number alone.
+#[derive(Drop)]
+pub struct FalseOnce {
+    asked: AtomicU64,
+    closed: u64,
+}
+
+impl Gate for FalseOnce {
+    ghost may_answer = { λ _ _ _ _. Unit {0} };
+
+    fn before(&self, _worker: u64, _turn: u64) -> bool {
+        self.asked.fetch_add(1, Ordering::SeqCst) != self.closed
+    }
+}
+
+impl FalseOnce {
+    /// Answers `false` after so many times, once.
+    pub fn after(closed: u64) -> FalseOnce {
+        FalseOnce {
+            asked: AtomicU64::new(0),
+            closed,
+        }
+    }
+
+    /// How often it was asked.
+    pub fn asked(&self) -> u64 {
+        self.asked.load(Ordering::SeqCst)
+    }
+}
+
 /// Closed to every worker.
 pub struct Closed;
 

@@ -26,12 +26,12 @@ const THREE_PAIRS: &str = "p aux sp p2p 3\nq 1 4\nq 1 2\nq 5 2\n";
 const THREE_ROUTES: &str =
     "p ans p2p 3 shortest\nq 1 4\nd 8 3\nr 1 3 2 4\nq 1 2\nd 3 2\nr 1 3 2\nq 5 2\nd 6 3\nr 5 1 3 2\n";
 
-/// One turn of a station, with one item.
-fn turn_one<A: PathAlgebra>(floor: &Floor<A>, station: &mut Station<'_, A>)
+/// One turn of a station, with at most so many items.
+fn turn_one<A: PathAlgebra>(floor: &Floor<A>, station: &mut Station<'_, A>, budget: u32)
     requires { BelongsTo floor.now station.old }
     ensures { BelongsTo floor.now station.new }
 {
-    station.turn(floor, 1);
+    station.turn(floor, budget);
 }
 
 /// One turn of one station of a list.
@@ -40,13 +40,14 @@ fn turned_once<'g, A: PathAlgebra>(
     floor: &Floor<A>,
     stations: Vec<Station<'g, A>>,
     k: usize,
+    budget: u32,
 ) -> Vec<Station<'g, A>>
     requires { All (BelongsTo floor.now) stations.items }
     ensures { All (BelongsTo floor.now) result.items }
 {
     let mut stations = stations;
     assert!(rt; k < stations.len());
-    turn_one(floor, &mut stations[k]);
+    turn_one(floor, &mut stations[k], budget);
     stations
 }
 
@@ -55,6 +56,7 @@ fn turned_each<'g, A: PathAlgebra>(
     rt: &impl Abort,
     floor: &Floor<A>,
     stations: Vec<Station<'g, A>>,
+    budget: u32,
 ) -> (Vec<Station<'g, A>>, u64)
     requires { All (BelongsTo floor.now) stations.items }
     ensures { All (BelongsTo floor.now) result.0.items }
@@ -64,7 +66,7 @@ fn turned_each<'g, A: PathAlgebra>(
     for k in 0..stations.len() {
         assert!(rt; k < stations.len() && turns < 64);
         if !stations[k].ended() {
-            stations = turned_once(rt, floor, stations, k);
+            stations = turned_once(rt, floor, stations, k, budget);
             turns += 1;
         }
     }
@@ -76,13 +78,14 @@ fn turns_to_the_end<'g, A: PathAlgebra>(
     rt: &impl Abort,
     floor: &Floor<A>,
     stations: Vec<Station<'g, A>>,
+    budget: u32,
 ) -> u64
     requires { All (BelongsTo floor.now) stations.items }
 {
     let mut stations = stations;
     let mut turns = 0u64;
     for _ in 0..1000 {
-        let (turned, more) = turned_each(rt, floor, stations);
+        let (turned, more) = turned_each(rt, floor, stations, budget);
         stations = turned;
         if more == 0 {
             return turns;
@@ -106,7 +109,7 @@ fn turns_alone<A: PathAlgebra>(
     rt: &(impl Abort + AllocGlobal),
     algebra: A,
     graph: &Graph,
-    shards: u8,
+    (shards, budget): (u8, u32),
     source: u32,
 ) -> u64 {
     assert!(rt; 1 <= shards && shards <= 64 && graph.has(Vertex(source)));
@@ -114,7 +117,7 @@ fn turns_alone<A: PathAlgebra>(
     let (source, order) = (Vertex(source), QueueOrder::Arrival);
     let opened = open_diffusion(rt.alloc(), algebra, graph, &plan, source, order);
     let (floor, stations) = opened.expect(rt, "memory");
-    turns_to_the_end(rt, &floor, stations)
+    turns_to_the_end(rt, &floor, stations, budget)
 }
 
 /// How often the gate of one worker is asked until a question from the first vertex is answered.
@@ -122,12 +125,13 @@ fn turns_asked<A: PathAlgebra>(
     rt: &(impl Abort + AllocGlobal + Threads + Wait + Sync),
     algebra: A,
     graph: &str,
-    shards: u8,
+    (shards, budget): (u8, u32),
 ) -> u64 {
     let text = joined(rt, &[graph, FROM_ONE]);
     let gate = Counting::new();
     let settings = Settings {
         shards: u64::from(shards),
+        budget: u64::from(budget),
         ..SLOW
     };
     let (ended, _) = run_at(rt, rt.alloc(), algebra, text.as_str(), &settings, &gate);
@@ -142,9 +146,17 @@ fn assert_turns_agree<A: PathAlgebra>(
     graph: &str,
 ) {
     let roads = graph_of(rt, graph);
-    for shards in [1u8, 3, 5] {
-        let asked = turns_asked(rt, algebra, graph, shards);
-        assert_eq!(rt; asked, turns_alone(rt, algebra, &roads, shards, 1));
+    for &cut in &[
+        (1u8, 1u32),
+        (3, 1),
+        (5, 1),
+        (1, 2),
+        (3, 2),
+        (1, 1024),
+        (3, 1024),
+    ] {
+        let asked = turns_asked(rt, algebra, graph, cut);
+        assert_eq!(rt; asked, turns_alone(rt, algebra, &roads, cut, 1));
     }
 }
 
@@ -175,9 +187,20 @@ fn assert_asked(
 fn turns_from(rt: &(impl Abort + AllocGlobal), graph: &Graph, source: u32) -> u64
     ensures { result ≤ 1000000 }
 {
-    let turns = turns_alone(rt, Shortest, graph, 1, source);
+    let turns = turns_alone(rt, Shortest, graph, (1, 1), source);
     assert!(rt; turns <= 1_000_000);
     turns
+}
+
+/// Nine messages and nine signals: with two items a turn half as many turns, and with 1,024 fewer than that.
+#[test]
+fn budgets_are_kept(rt: HostRuntime) {
+    let graph = graph_of(&rt, FIVE);
+    let one = turns_alone(&rt, Shortest, &graph, (1, 1), 1);
+    let two = turns_alone(&rt, Shortest, &graph, (1, 2), 1);
+    let most = turns_alone(&rt, Shortest, &graph, (1, 1024), 1);
+    assert_eq!(rt; one, 18);
+    assert!(rt; most < two && two < one);
 }
 
 #[test]

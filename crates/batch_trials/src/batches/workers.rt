@@ -1,11 +1,11 @@
-//! Batches on workers: the same bytes for all, and what stops them.
-use super::gates::{Closed, ClosedAt, ClosedTo, Meeting};
+//! Batches on workers: the same bytes for all.
+use super::gates::{Closed, GreatestWorker, Meeting};
 use super::{
-    FIVE, FIVE_REACHED, FIVE_WIDEST, FROM_ONE, PAIRS, ROUTES, SHORTEST, THRICE, assert_answered,
-    assert_ended, run_at,
+    FIVE, FIVE_REACHED, FIVE_WIDEST, FROM_ONE, PAIRS, ROUTES, SHORTEST, SHORTEST_THRICE, THRICE,
+    assert_answered, assert_ended, run_at,
 };
 use crate::texts::joined;
-use batch_run::{File, Gate, OpenGate, RunFault, Settings};
+use batch_run::{Gate, RunFault, Settings};
 use crossbeam_utils::CachePadded;
 use path_algebra::{Reach, Shortest, Widest};
 use std::process::Abort;
@@ -40,9 +40,6 @@ const TWICE: &str = "p aux sp ms 1\nm 1 1\n";
 const FROM_TWICE: &str =
     "p ans ms 1 shortest\nm 1 1\nd 1 0 0 0\nd 2 3 2 3\nd 3 1 1 1\nd 4 8 3 2\nu 5\n";
 
-/// What is written before the first answer to `FROM_ONE`.
-const HEADER: &str = "p ans ss 1 shortest\n";
-
 /// One worker, one shard, one item a turn.
 pub const SLOW: Settings = Settings {
     workers: 1,
@@ -75,14 +72,6 @@ pub fn assert_ends<T: Gate>(
     let text = joined(rt, &[FIVE, questions]);
     let ended = run_at(rt, rt.alloc(), Shortest, text.as_str(), settings, gate);
     assert_ended(rt, ended, wanted, written);
-}
-
-fn stopped(number: u8) -> Result<(), RunFault> {
-    Err(RunFault {
-        number,
-        file: File::NoFile,
-        line: 0,
-    })
 }
 
 /// Asserts that settings change no answer: of an algebra, from one source, from several, or to pairs.
@@ -141,6 +130,19 @@ fn plain_writes_the_same(rt: HostRuntime) {
 }
 
 #[test]
+fn plain_of_any_width_writes_the_same(rt: HostRuntime) {
+    for width in [1, 2, 3, 64] {
+        let settings = Settings {
+            plain: true,
+            width,
+            ..Settings::default()
+        };
+        assert_unchanged(&rt, &settings);
+        assert_answered(&rt, Shortest, &settings, FIVE, THRICE, SHORTEST_THRICE);
+    }
+}
+
+#[test]
 fn any_width_and_budget(rt: HostRuntime) {
     for &(width, budget) in &[(1, 1), (2, 1), (3, 2), (64, 65_536)] {
         let settings = Settings {
@@ -153,98 +155,16 @@ fn any_width_and_budget(rt: HostRuntime) {
     }
 }
 
-/// Whether a question is answered; if not, asserts that the limit of turns has stopped it after the header.
-fn is_answered(
-    rt: &(impl Abort + AllocGlobal + Threads + Wait + Sync),
-    settings: &Settings,
-) -> bool {
-    let text = joined(rt, &[FIVE, FROM_ONE]);
-    let ended = run_at(rt, rt.alloc(), Shortest, text.as_str(), settings, &OpenGate);
-    let answered = ended.0.is_ok();
-    if answered {
-        assert_ended(rt, ended, Ok(()), SHORTEST);
-    } else {
-        assert_ended(rt, ended, stopped(40), HEADER);
-    }
-    answered
-}
-
-/// Nine messages and nine signals, an item a turn; best first seven and seven.
 #[test]
-fn turn_limits(rt: HostRuntime) {
-    for &(turns, best_first, wanted) in &[
-        (0, false, false),
-        (17, false, false),
-        (18, false, true),
-        (13, true, false),
-        (14, true, true),
-    ] {
-        let settings = Settings {
-            turns,
-            best_first,
-            ..SLOW
-        };
-        assert_eq!(rt; is_answered(&rt, &settings), wanted);
-    }
-}
-
-#[test]
-fn every_turn_limit(rt: HostRuntime) {
-    for turns in 0..=200 {
-        let settings = Settings {
-            shards: 3,
-            turns,
-            ..SLOW
-        };
-        let answered = is_answered(&rt, &settings);
-        assert!(rt; answered || turns < 200);
-    }
-}
-
-#[test]
-fn no_turn_for_no_question(rt: HostRuntime) {
-    let settings = Settings { turns: 0, ..SLOW };
-    let text = "p sp 1 0\np aux sp ss 0\n";
-    let ended = run_at(&rt, rt.alloc(), Shortest, text, &settings, &Closed);
-    assert_ended(&rt, ended, Ok(()), "p ans ss 0 shortest\n");
-}
-
-#[test]
-fn a_gate_that_closes(rt: HostRuntime) {
-    for shards in [1, 3] {
-        let settings = Settings { shards, ..SLOW };
-        for turn in 1..=18 {
-            let gate = ClosedAt(turn);
-            assert_ends(&rt, FROM_ONE, &settings, &gate, stopped(41), HEADER);
-        }
-    }
-    assert_ends(&rt, FROM_ONE, &SLOW, &ClosedAt(19), Ok(()), SHORTEST);
-}
-
-#[test]
-fn the_least_worker_that_stopped(rt: HostRuntime) {
+fn each_of_five_workers_asks(rt: HostRuntime) {
+    let gate = GreatestWorker(AtomicU64::new(0));
     let settings = Settings {
-        workers: 2,
-        shards: 2,
-        turns: 1,
+        workers: 5,
+        shards: 5,
         ..Settings::default()
     };
-    for &(closed_to, wanted) in &[(0, 41), (1, 40)] {
-        let gate = ClosedTo(closed_to);
-        assert_ends(&rt, FROM_ONE, &settings, &gate, stopped(wanted), HEADER);
-    }
-}
-
-#[test]
-fn a_closed_gate(rt: HostRuntime) {
-    for workers in [1, 2, 64] {
-        let settings = Settings {
-            workers,
-            ..Settings::default()
-        };
-        let header = "p ans ss 3 shortest\n";
-        assert_ends(&rt, THRICE, &settings, &Closed, stopped(41), header);
-    }
+    assert_ends(&rt, FROM_ONE, &settings, &gate, Ok(()), SHORTEST);
+    assert_eq!(rt; gate.0.load(Ordering::SeqCst), 4);
 }
 
 #[test]

@@ -1,0 +1,137 @@
+//! What stops a batch on workers: a limit of turns, and a gate.
+use super::gates::{Closed, ClosedAt, ClosedTo, FalseOnce};
+use super::workers::{SLOW, assert_ends};
+use super::{FIVE, FROM_ONE, SHORTEST, SHORTEST_THRICE, THRICE, assert_ended, run_at};
+use crate::texts::joined;
+use batch_run::{File, OpenGate, RunFault, Settings};
+use path_algebra::Shortest;
+use std::process::Abort;
+use std::sync::Wait;
+use std::thread::Threads;
+
+/// What is written before the first answer to `FROM_ONE`.
+const HEADER: &str = "p ans ss 1 shortest\n";
+
+/// What is written of `SHORTEST_THRICE` before the second answer.
+const ONE_OF_THREE: &str =
+    "p ans ss 3 shortest\ns 1\nd 1 0 0 0\nd 2 3 2 3\nd 3 1 1 1\nd 4 8 3 2\nu 5\n";
+
+fn stopped(number: u8) -> Result<(), RunFault> {
+    Err(RunFault {
+        number,
+        file: File::NoFile,
+        line: 0,
+    })
+}
+
+/// Whether a question is answered; if not, asserts that the limit of turns has stopped it after the header.
+fn is_answered(
+    rt: &(impl Abort + AllocGlobal + Threads + Wait + Sync),
+    settings: &Settings,
+) -> bool {
+    let text = joined(rt, &[FIVE, FROM_ONE]);
+    let ended = run_at(rt, rt.alloc(), Shortest, text.as_str(), settings, &OpenGate);
+    let answered = ended.0.is_ok();
+    if answered {
+        assert_ended(rt, ended, Ok(()), SHORTEST);
+    } else {
+        assert_ended(rt, ended, stopped(40), HEADER);
+    }
+    answered
+}
+
+/// Nine messages and nine signals, an item a turn; best first seven and seven.
+#[test]
+fn turn_limits(rt: HostRuntime) {
+    for &(turns, best_first, wanted) in &[
+        (0, false, false),
+        (17, false, false),
+        (18, false, true),
+        (13, true, false),
+        (14, true, true),
+    ] {
+        let settings = Settings {
+            turns,
+            best_first,
+            ..SLOW
+        };
+        assert_eq!(rt; is_answered(&rt, &settings), wanted);
+    }
+}
+
+#[test]
+fn every_turn_limit(rt: HostRuntime) {
+    for turns in 0..=200 {
+        let settings = Settings {
+            shards: 3,
+            turns,
+            ..SLOW
+        };
+        let answered = is_answered(&rt, &settings);
+        assert!(rt; answered || turns < 200);
+    }
+}
+
+#[test]
+fn no_turn_for_no_question(rt: HostRuntime) {
+    let settings = Settings { turns: 0, ..SLOW };
+    let text = "p sp 1 0\np aux sp ss 0\n";
+    let ended = run_at(&rt, rt.alloc(), Shortest, text, &settings, &Closed);
+    assert_ended(&rt, ended, Ok(()), "p ans ss 0 shortest\n");
+}
+
+#[test]
+fn a_gate_that_closes(rt: HostRuntime) {
+    for shards in [1, 3] {
+        let settings = Settings { shards, ..SLOW };
+        for turn in 1..=18 {
+            let gate = ClosedAt(turn);
+            assert_ends(&rt, FROM_ONE, &settings, &gate, stopped(41), HEADER);
+        }
+    }
+    assert_ends(&rt, FROM_ONE, &SLOW, &ClosedAt(19), Ok(()), SHORTEST);
+}
+
+/// Three questions of 18 turns each: the one in whose turn the gate answers `false` is not answered, and the gate is not asked again.
+#[test]
+fn a_gate_that_answers_false_once(rt: HostRuntime) {
+    for &(after, written) in &[
+        (0, "p ans ss 3 shortest\n"),
+        (17, "p ans ss 3 shortest\n"),
+        (18, ONE_OF_THREE),
+        (35, ONE_OF_THREE),
+    ] {
+        let gate = FalseOnce::after(after);
+        assert_ends(&rt, THRICE, &SLOW, &gate, stopped(41), written);
+        assert_eq!(rt; gate.asked(), after + 1);
+    }
+    let gate = FalseOnce::after(54);
+    assert_ends(&rt, THRICE, &SLOW, &gate, Ok(()), SHORTEST_THRICE);
+    assert_eq!(rt; gate.asked(), 54);
+}
+
+#[test]
+fn the_least_worker_that_stopped(rt: HostRuntime) {
+    let settings = Settings {
+        workers: 2,
+        shards: 2,
+        turns: 1,
+        ..Settings::default()
+    };
+    for &(closed_to, wanted) in &[(0, 41), (1, 40)] {
+        let gate = ClosedTo(closed_to);
+        assert_ends(&rt, FROM_ONE, &settings, &gate, stopped(wanted), HEADER);
+    }
+}
+
+#[test]
+fn a_closed_gate(rt: HostRuntime) {
+    for workers in [1, 2, 64] {
+        let settings = Settings {
+            workers,
+            ..Settings::default()
+        };
+        let header = "p ans ss 3 shortest\n";
+        assert_ends(&rt, THRICE, &settings, &Closed, stopped(41), header);
+    }
+}

@@ -1,6 +1,7 @@
 mod SourceByMore
 mod LinesAreRight
 mod WrittenLines
+pub mod CauseCases
 mod Progress
 mod Existing
 pub mod Prefixes
@@ -10,5 +11,6 @@ mod SourcesToCome
 mod NextDiffusions
 mod Moved
 mod Reporting
+mod WrittenReports
 mod Flushing
 mod FileFaults

@@ -2,6 +2,7 @@
 use Rattle.std.proofs.Common.{◌≡◌, ℕ, List, ◌++◌, take, ap, ◌∙◌, append_assoc, All, Option, Result, Ok, Err, ◌≤◌, inl, inr, arith}
 use Rattle.std.proofs.lemmas.List.Elements.{All-map}
 use Rattle.std.proofs.lemmas.Result.{IfErr-weaker}
+use Rattle.road_text.specs.Streams.{Output}
 use Rattle.road_graph.specs.GraphData.{GraphData}
 use Rattle.road_files.specs.Asked.{FromSource, Asked, asked_of, of_pair, of_list, AreQuestionsOf}
 use Rattle.road_files.specs.declared.questions.Questions.{Questions}
@@ -10,7 +11,8 @@ use Rattle.path_algebra.specs.Algebra.{Algebra}
 use Rattle.answer_text.specs.AnswerData.{AnswerData, AnswerList}
 use Rattle.answer_text.specs.IsAnswer.{AreAnswers, IsAnswerList}
 use Rattle.answer_text.specs.AnswerText.{answers_text}
-use Rattle.batch_run.specs.declared.faults.RunFault.{RunFault}
+use Rattle.batch_run.specs.declared.faults.Cause.{Cause}
+use Rattle.batch_run.specs.declared.faults.Cause.TheVariants.{Write}
 use Rattle.std.specs.Prelude.{◌≢◌, IfErr}
 use Rattle.batch_run.specs.Ran.{IsPassedOn}
 use Rattle.batch_run.specs.Answered.{AsksWithin, begun_text, WroteFirst, WroteAnswersPrefix, WroteAllOrFirst, WroteAllOrPrefix}
@@ -25,7 +27,7 @@ module _ {V : Type 0} (A : Algebra V) (g : GraphData) (q : Questions) (within : 
     (exists : (asked : Asked) → All (AsksWithin g) asked.questions → (told : AnswerList) × IsAnswerList A g asked told)
     (begins : (asked : Asked) (count : ℕ) (ts : List AnswerData) (all : AnswerList) → AreAnswers A g (take count asked.questions) ts → IsAnswerList A g asked all →
     (rest : List ℕ) × (answers_text all ≡ begun_text A asked ts ++ rest)) where
-  prefix_of_first : (old new : Option (List ℕ)) → WroteFirst A g (asked_of q) old new → WroteAnswersPrefix A g (asked_of q) old new
+  prefix_of_first : {X : Type 0} (old new : Output X) → WroteFirst A g (asked_of q) old new → WroteAnswersPrefix A g (asked_of q) old new
   prefix_of_first old new w =
       let all = exists (asked_of q) (asks_by g q within) in
       let more = begins (asked_of q) w.count w.answers all.0 w.right all.1 in
@@ -38,10 +40,10 @@ module _ {V : Type 0} (A : Algebra V) (g : GraphData) (q : Questions) (within : 
         bytes = w.bytes;
       }
 
-  pub all_or_prefix : (old new : Option (List ℕ)) (r : Result (Unit {0}) RunFault) → WroteAllOrFirst A g (asked_of q) old new r → WroteAllOrPrefix A g (asked_of q) old new r
+  pub all_or_prefix : {X E : Type 0} (old new : Output X) (r : Result (Unit {0}) E) → WroteAllOrFirst A g (asked_of q) old new r → WroteAllOrPrefix A g (asked_of q) old new r
   all_or_prefix old new (Ok u) w = w
   all_or_prefix old new (Err f) w = prefix_of_first old new w
 
 -- what is passed on now is passed on, counted from an earlier moment
-pub passed_on_since : (r : Result (Unit {0}) RunFault) (held : List ℕ) (b m a : ℕ) → b ≤ m → IfErr r (λ f. f.number ≢ 42 → IsPassedOn held m a) → IfErr r (λ f. f.number ≢ 42 → IsPassedOn held b a)
-passed_on_since r held b m a le = IfErr-weaker r _ _ (λ f passed other. elim (passed other) [ inl none ↦ inl none | inr more ↦ inr (omega (arith, le, more)) ])
+pub passed_on_since : (r : Result (Unit {0}) Cause) (held : List ℕ) (b m a : ℕ) → b ≤ m → IfErr r (λ cause. cause ≢ Write → IsPassedOn held m a) → IfErr r (λ cause. cause ≢ Write → IsPassedOn held b a)
+passed_on_since r held b m a le = IfErr-weaker r _ _ (λ cause passed other. elim (passed other) [ inl none ↦ inl none | inr more ↦ inr (omega (arith, le, more)) ])

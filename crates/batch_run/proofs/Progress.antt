@@ -1,9 +1,9 @@
 -- A batch on its way: the first questions were answered, and their answers written.
 use Rattle.std.proofs.Common.{◌≡◌, ◌≢◌, ℕ, ◌+◌, ◌<◌, ◌≤◌, List, [], ◌∷◌, ◌++◌, length, take, get_or, Option, Result, Ok, Err, Bool, true, false, inl, inr, refl, sym, ap, ◌∙◌, subst, append_assoc, append-nil, arith}
-use Rattle.std.proofs.lemmas.Bool.{cases_eq}
 use Rattle.std.proofs.lemmas.List.{take_all, take_more}
 use Rattle.std.specs.Io.KnownBytes.{Appends}
 use Rattle.road_graph.specs.GraphData.{GraphData}
+use Rattle.road_text.specs.Streams.{Output}
 use Rattle.road_text.specs.Written.{WrotePrefix, FailedAfterPrefix}
 use Rattle.road_text.proofs.WriteLaws.{left_more, left_fell, left_appends}
 use Rattle.road_files.specs.Asked.{Question, Asked}
@@ -14,21 +14,21 @@ use Rattle.answer_text.specs.AnswerData.{AnswerData}
 use Rattle.answer_text.specs.IsAnswer.{IsAnswer, AreAnswers}
 use Rattle.answer_text.specs.AnswerText.{answer_text, blocks_text, header_text}
 use Rattle.answer_text.proofs.OneAnswer.{blocks_split, answers_count}
-use Rattle.batch_run.specs.declared.faults.RunFault.{RunFault}
-use Rattle.batch_run.specs.declared.faults.Unanswered.{Unanswered}
-use Rattle.batch_run.specs.declared.faults.Unanswered.TheVariants as variants
+use Rattle.batch_run.specs.declared.faults.Cause.{Cause}
+use Rattle.batch_run.specs.declared.faults.Cause.TheVariants as causes
 use Rattle.batch_run.specs.declared.settings.Settings.{Settings}
 use Rattle.worker_fleet.specs.declared.group.GroupFault.{GroupFault}
 use Rattle.worker_fleet.specs.declared.group.GroupFault.TheVariants as group
-use Rattle.batch_run.specs.Answered.{AnsweredAll, WroteAnswer, WroteAnswers, WroteHeader, WroteNext, begun_text, WroteFirst, WroteWhole, fault_of_answer, fault_of_group}
+use Rattle.batch_run.specs.Answered.{AnsweredAll, WroteAnswers, WroteNext, begun_text, WroteFirst, WroteWhole}
+use Rattle.batch_run.specs.Causes.{MayStop, cause_of}
+use Rattle.batch_run.proofs.CauseCases.{write_or_other}
 use Rattle.worker_fleet.specs.Stops.{Says}
-use Rattle.batch_run.specs.Ran.{IsLater}
 
 -- the first i questions were answered, and the answers written
-pub record Progress {V : Type 0} (A : Algebra V) (g : GraphData) (asked : Asked) (i : ℕ) (old new : Option (List ℕ)) (before after : ℕ) : Type 0 where
+pub record Progress {V X : Type 0} (A : Algebra V) (g : GraphData) (asked : Asked) (i : ℕ) (old new : Output X) : Type 0 where
   pub answers : List AnswerData
   pub right : AreAnswers A g (take i asked.questions) answers
-  pub left : WrotePrefix old new before after (begun_text A asked answers) []
+  pub left : WrotePrefix old new (begun_text A asked answers) []
 
 blocks-push : (ts : List AnswerData) (t : AnswerData) → blocks_text (ts ++ t ∷ []) ≡ blocks_text ts ++ answer_text t
 blocks-push ts t = blocks_split ts (t ∷ []) ∙ ap (λ y. blocks_text ts ++ y) (append-nil (answer_text t))
@@ -48,46 +48,41 @@ module _ {V : Type 0} (A : Algebra V) (asked : Asked) where
 
   -- the header as the writer was given it
   module _ (kind : Kind) (count : ℕ) (name : AlgebraName) (same_kind : kind ≡ asked.kind) (same_count : count ≡ length asked.questions) (same_name : name ≡ A.name)
-      (old new : Option (List ℕ)) (b a : ℕ) where
+      {X : Type 0} (old new : Output X) where
     header_is : header_text kind count name ≡ begun_text A asked []
     header_is = ap (λ k. header_text k count name) same_kind ∙ ap (λ n. header_text asked.kind n name) same_count ∙ ap (λ m. header_text asked.kind (length asked.questions) m) same_name
         ∙ sym (append-nil (header_text asked.kind (length asked.questions) A.name))
 
-    pub header_written : WrotePrefix old new b a (header_text kind count name) [] → WroteHeader A asked old new b a (Ok tt)
-    header_written h = subst (λ t. WrotePrefix old new b a t []) header_is h
+    pub header_written : WrotePrefix old new (header_text kind count name) [] → WrotePrefix old new (begun_text A asked []) []
+    header_written h = subst (λ t. WrotePrefix old new t []) header_is h
 
-    pub header_failed : (f : RunFault) → f ≡ fault_of_answer variants.Write → FailedAfterPrefix old new b a (header_text kind count name) → WroteHeader A asked old new b a (Err f)
-    header_failed f is h = (is, subst (λ t. FailedAfterPrefix old new b a t) header_is h)
-
--- of the reasons why a question is not answered, a failed write has the number 42
-write_by_number : (u : Unanswered) → (fault_of_answer u).number ≡ 42 → u ≡ variants.Write
-write_by_number variants.Memory e = absurd (omega (arith, e))
-write_by_number variants.Write e = refl
+    pub header_failed : FailedAfterPrefix old new (header_text kind count name) → FailedAfterPrefix old new (begun_text A asked [])
+    header_failed h = subst (λ t. FailedAfterPrefix old new t) header_is h
 
 module _ {V : Type 0} (A : Algebra V) (g : GraphData) (asked : Asked) where
   -- no question is answered yet
-  pub start : (old new : Option (List ℕ)) (b a : ℕ) → WroteHeader A asked old new b a (Ok tt) → Progress A g asked 0 old new b a
-  start old new b a h = record { answers = []; right = tt; left = h }
+  pub start : {X : Type 0} (old new : Output X) → WrotePrefix old new (begun_text A asked []) [] → Progress A g asked 0 old new
+  start old new h = record { answers = []; right = tt; left = h }
 
-  stop : (i : ℕ) (old new : Option (List ℕ)) (b a : ℕ) → Progress A g asked i old new b a → WroteFirst A g asked old new
-  stop i old new b a p = record { count = i; answers = p.answers; right = p.right; prefix = p.left.prefix; rest = []; text_is = p.left.text_is; bytes = p.left.bytes }
+  stop : (i : ℕ) {X : Type 0} (old new : Output X) → Progress A g asked i old new → WroteFirst A g asked old new
+  stop i old new p = record { count = i; answers = p.answers; right = p.right; prefix = p.left.prefix; rest = []; text_is = p.left.text_is; bytes = p.left.bytes }
 
   -- what was written between two answers is whole
-  stop_whole : (i : ℕ) (old new : Option (List ℕ)) (b a : ℕ) → Progress A g asked i old new b a → WroteWhole A g asked old new
-  stop_whole i old new b a p = record {
+  stop_whole : (i : ℕ) {X : Type 0} (old new : Output X) → Progress A g asked i old new → WroteWhole A g asked old new
+  stop_whole i old new p = record {
     count = i;
     answers = p.answers;
     right = p.right;
-    bytes = left_appends old new b a (begun_text A asked p.answers) p.left;
+    bytes = left_appends old new (begun_text A asked p.answers) p.left;
   }
 
-  module _ (i : ℕ) (old mid new : Option (List ℕ)) (b m a : ℕ) (t : AnswerData) (lt : i < length asked.questions) (q : Question)
-      (is : IsAnswer A g (get_or asked.questions i q) t) (p : Progress A g asked i old mid b m) where
+  module _ (i : ℕ) {X : Type 0} (old mid new : Output X) (t : AnswerData) (lt : i < length asked.questions) (q : Question)
+      (is : IsAnswer A g (get_or asked.questions i q) t) (p : Progress A g asked i old mid) where
     now_right : AreAnswers A g (take (i + 1) asked.questions) (p.answers ++ t ∷ [])
     now_right = subst (λ x. AreAnswers A g x (p.answers ++ t ∷ [])) (sym (take_more asked.questions i q lt))
         (answers-push A g (take i asked.questions) p.answers (get_or asked.questions i q) t p.right is)
 
-    begun : WrotePrefix old mid b m (begun_text A asked (p.answers ++ t ∷ [])) (answer_text t ++ [])
+    begun : WrotePrefix old mid (begun_text A asked (p.answers ++ t ∷ [])) (answer_text t ++ [])
     begun = record {
       prefix = p.left.prefix;
       text_is = begun-push A asked p.answers t ∙ ap (λ x. x ++ answer_text t) (p.left.text_is ∙ append-nil p.left.prefix) ∙ ap (λ x. p.left.prefix ++ x) (sym (append-nil (answer_text t)));
@@ -95,131 +90,101 @@ module _ {V : Type 0} (A : Algebra V) (g : GraphData) (asked : Asked) where
       sound = p.left.sound;
     }
 
-    pub step : WrotePrefix mid new m a (answer_text t) [] → Progress A g asked (i + 1) old new b a
+    pub step : WrotePrefix mid new (answer_text t) [] → Progress A g asked (i + 1) old new
     step h = record { answers = p.answers ++ t ∷ []; right = now_right; left = left_more begun h }
 
-    pub fell : FailedAfterPrefix mid new m a (answer_text t) → WroteFirst A g asked old new
+    pub fell : FailedAfterPrefix mid new (answer_text t) → WroteFirst A g asked old new
     fell h = let f = left_fell [] begun h in
         record { count = i + 1; answers = p.answers ++ t ∷ []; right = now_right; prefix = f.prefix; rest = f.rest; text_is = f.text_is; bytes = f.bytes }
 
-  module _ (i : ℕ) (old mid new : Option (List ℕ)) (b m a : ℕ) (lt : i < length asked.questions) (q : Question) (p : Progress A g asked i old mid b m) where
+  module _ (i : ℕ) {X : Type 0} (old mid new : Output X) (lt : i < length asked.questions) (q : Question) (p : Progress A g asked i old mid) where
     -- one question more was answered
-    pub answered : WroteAnswer A g (get_or asked.questions i q) mid new m a (Ok tt) → Progress A g asked (i + 1) old new b a
-    answered h = step i old mid new b m a h.0 lt q h.1 p h.2
+    pub answered : WroteNext A g (get_or asked.questions i q) mid new (Ok tt) → Progress A g asked (i + 1) old new
+    answered h = step i old mid new h.0 lt q h.1 p h.2
 
-    -- a question was not
-    unanswered : (u : Unanswered) → WroteAnswer A g (get_or asked.questions i q) mid new m a (Err u) → WroteFirst A g asked old new
-    unanswered variants.Memory h = subst (WroteFirst A g asked old) (sym h.0) (stop i old mid b m p)
-    unanswered variants.Write h = fell i old mid new b m a h.0 lt q h.1 p h.2
-
-    -- memory was refused between two answers, and no write failed
-    whole : (u : Unanswered) → WroteAnswer A g (get_or asked.questions i q) mid new m a (Err u) → (fault_of_answer u).number ≢ 42 → WroteWhole A g asked old new
-    whole variants.Memory h ne = subst (WroteWhole A g asked old) (sym h.0) (stop_whole i old mid b m p)
-    whole variants.Write h ne = absurd (ne refl)
-
-    unfailed : (u : Unanswered) → WroteAnswer A g (get_or asked.questions i q) mid new m a (Err u) → (fault_of_answer u).number ≢ 42 → a ≡ b
-    unfailed variants.Memory h ne = h.1 ∙ p.left.sound
-    unfailed variants.Write h ne = absurd (ne refl)
-
-    one_failed : (u : Unanswered) → WroteAnswer A g (get_or asked.questions i q) mid new m a (Err u) → (fault_of_answer u).number ≡ 42 → a ≡ b + 1
-    one_failed variants.Memory h e = absurd (omega (arith, e))
-    one_failed variants.Write h e = omega (arith, h.2.failed, p.left.sound)
-
-    -- a fault stopped the batch at the question
-    pub stopped_at : (MayStop : RunFault → Type 0) (f : RunFault) → MayStop f → WroteNext A g (get_or asked.questions i q) mid new m a (Err f) → AnsweredAll A g asked MayStop old new b a (Err f)
-    stopped_at MayStop f kind (u, h, write) =
-        let no_failure : f.number ≢ 42 → (fault_of_answer u).number ≢ 42 = λ other e. other (write.1 (write_by_number u e)) in
-        record {
-          text = unanswered u h;
-          sound = tt;
-          kind = kind;
-          failed = λ e. one_failed u h (ap (λ (w : Unanswered). (fault_of_answer w).number) (write.0 e));
-          unfailed = λ other. unfailed u h (no_failure other);
-          whole = λ other. whole u h (no_failure other);
-        }
-
-  module _ (MayStop : RunFault → Type 0) (old new : Option (List ℕ)) (b a : ℕ) where
-    -- the header was not written
-    pub stopped_first : (f : RunFault) → MayStop f → WroteHeader A asked old new b a (Err f) → AnsweredAll A g asked MayStop old new b a (Err f)
-    stopped_first f kind (is, h) =
-        let write : f.number ≡ 42 = ap (λ (e : RunFault). e.number) is in
-        record {
-          text = record { count = 0; answers = []; right = tt; prefix = h.prefix; rest = h.rest; text_is = h.text_is; bytes = h.bytes };
-          sound = tt;
-          kind = kind;
-          failed = λ _. h.failed;
-          unfailed = λ other. absurd (other write);
-          whole = λ other. absurd (other write);
-        }
-
-    -- a fault but a failed write stopped the batch between two answers
-    stopped_between : (i : ℕ) (f : RunFault) → f.number ≢ 42 → MayStop f → Progress A g asked i old new b a → AnsweredAll A g asked MayStop old new b a (Err f)
-    stopped_between i f other kind p = record {
-      text = stop i old new b a p;
+    -- it stopped at the question
+    pub stopped_at : (MayStop : Cause → Type 0) (cause : Cause) → MayStop cause → WroteNext A g (get_or asked.questions i q) mid new (Err cause) →
+        AnsweredAll A g asked MayStop old new (Err cause)
+    stopped_at MayStop cause kind h = record {
+      text = elim (write_or_other cause) [
+        | inl write ↦ let failed = h.0 write in fell i old mid new failed.0 lt q failed.1 p failed.2
+        | inr other ↦ subst (WroteFirst A g asked old) (sym (h.1 other)) (stop i old mid p)
+      ];
       sound = tt;
       kind = kind;
-      failed = λ write. absurd (other write);
-      unfailed = λ _. p.left.sound;
-      whole = λ _. stop_whole i old new b a p;
+      failed = λ write. let one = (h.0 write).2.failed in omega (arith, one, p.left.sound);
+      unfailed = λ other. ap (λ (o : Output X). o.failures) (h.1 other) ∙ p.left.sound;
+      whole = λ other. subst (WroteWhole A g asked old) (sym (h.1 other)) (stop_whole i old mid p);
     }
 
-    -- want of memory did
-    pub stopped_for_memory : (i : ℕ) (f : RunFault) → f ≡ fault_of_answer variants.Memory → MayStop (fault_of_answer variants.Memory) → Progress A g asked i old new b a →
-        AnsweredAll A g asked MayStop old new b a (Err f)
-    stopped_for_memory i f is kind p =
-        let three = ap (λ (e : RunFault). e.number) is in
-        stopped_between i f (λ e. absurd (omega (arith, three, e))) (subst MayStop (sym is) kind) p
+  module _ (MayStop : Cause → Type 0) {X : Type 0} (old new : Output X) where
+    -- the header was not written
+    pub stopped_first : (cause : Cause) → cause ≡ causes.Write → MayStop cause → FailedAfterPrefix old new (begun_text A asked []) → AnsweredAll A g asked MayStop old new (Err cause)
+    stopped_first cause write kind h = record {
+      text = record { count = 0; answers = []; right = tt; prefix = h.prefix; rest = h.rest; text_is = h.text_is; bytes = h.bytes };
+      sound = tt;
+      kind = kind;
+      failed = λ _. h.failed;
+      unfailed = λ other. absurd (other write);
+      whole = λ other. absurd (other write);
+    }
+
+    -- want of memory stopped it before the first question
+    pub stopped_for_memory : (cause : Cause) → cause ≡ causes.Memory → MayStop cause → Progress A g asked 0 old new → AnsweredAll A g asked MayStop old new (Err cause)
+    stopped_for_memory cause memory kind p = record {
+      text = stop 0 old new p;
+      sound = tt;
+      kind = kind;
+      failed = λ write. let bad : causes.Memory ≡ causes.Write = sym memory ∙ write in cc;
+      unfailed = λ _. p.left.sound;
+      whole = λ _. stop_whole 0 old new p;
+    }
 
     -- no failure is taken back
-    pub no_fewer_failures : (r : Result (Unit {0}) RunFault) → AnsweredAll A g asked MayStop old new b a r → b ≤ a
+    pub no_fewer_failures : (r : Result (Unit {0}) Cause) → AnsweredAll A g asked MayStop old new r → old.failures ≤ new.failures
     no_fewer_failures (Ok u) h = let same = h.sound in omega (arith, same)
-    no_fewer_failures (Err f) h = elim (cases_eq f.number 42) [
+    no_fewer_failures (Err cause) h = elim (write_or_other cause) [
       | inl write ↦ let one = h.failed write in omega (arith, one)
       | inr other ↦ let same = h.unfailed other in omega (arith, same)
     ]
 
 module _ {V : Type 0} (A : Algebra V) (g : GraphData) (asked : Asked) where
-  whole_text : (i : ℕ) (old new : Option (List ℕ)) (b a : ℕ) → length asked.questions ≤ i → Progress A g asked i old new b a → WroteAnswers A g asked old new
-  whole_text i old new b a le p =
+  whole_text : (i : ℕ) {X : Type 0} (old new : Output X) → length asked.questions ≤ i → Progress A g asked i old new → WroteAnswers A g asked old new
+  whole_text i old new le p =
       let right : AreAnswers A g asked.questions p.answers = subst (λ x. AreAnswers A g x p.answers) (take_all i asked.questions le) p.right in
       record {
         answers = record { name = A.name; kind = asked.kind; n = g.vertices; list = p.answers };
         right = record { name_is = refl; kind_is = refl; n_is = refl; answers = right };
-        bytes = subst (Appends old new) (ap (λ n. header_text asked.kind n A.name ++ blocks_text p.answers) (sym (answers_count A g asked.questions p.answers right)))
-            (left_appends old new b a (begun_text A asked p.answers) p.left);
+        bytes = subst (Appends old.written new.written) (ap (λ n. header_text asked.kind n A.name ++ blocks_text p.answers) (sym (answers_count A g asked.questions p.answers right)))
+            (left_appends old new (begun_text A asked p.answers) p.left);
       }
 
   -- all questions are answered
-  pub all_answered : (MayStop : RunFault → Type 0) (i : ℕ) (old new : Option (List ℕ)) (b a : ℕ) → length asked.questions ≤ i → Progress A g asked i old new b a →
-      AnsweredAll A g asked MayStop old new b a (Ok tt)
-  all_answered MayStop i old new b a le p = record { text = whole_text i old new b a le p; sound = p.left.sound; kind = tt; failed = tt; unfailed = tt; whole = tt }
+  pub all_answered : (MayStop : Cause → Type 0) (i : ℕ) {X : Type 0} (old new : Output X) → length asked.questions ≤ i → Progress A g asked i old new →
+      AnsweredAll A g asked MayStop old new (Ok tt)
+  all_answered MayStop i old new le p = record { text = whole_text i old new le p; sound = p.left.sound; kind = tt; failed = tt; unfailed = tt; whole = tt }
 
--- labels were not found: memory or a thread was refused; or, if workers answer, one of them stopped
-pub group_later : (s : Settings) (answers : ℕ → ℕ → Bool → Type 0) (plain : Bool) (f : GroupFault) → (plain ≡ true → f ≡ group.Memory) → Says answers s.workers s.turns f →
-    IsLater plain s answers (fault_of_group f)
-group_later s answers plain group.Memory only says = (refl, refl, inl refl)
-group_later s answers false group.Stalled only says = (refl, refl, inr (inl (refl, refl, says)))
-group_later s answers true group.Stalled only says = let bad : group.Stalled ≡ group.Memory = only refl in absurd cc
-group_later s answers false group.Gated only says = (refl, refl, inr (inr (inl (refl, refl, says))))
-group_later s answers true group.Gated only says = let bad : group.Gated ≡ group.Memory = only refl in absurd cc
+-- a question is not solved: memory or a thread was refused; or, if workers answer, one of them stopped
+pub group_may_stop : (s : Settings) (answers : ℕ → ℕ → Bool → Type 0) (plain : Bool) (f : GroupFault) → (plain ≡ true → f ≡ group.Memory) → Says answers s.workers s.turns f →
+    MayStop plain s answers (cause_of f)
+group_may_stop s answers plain group.Memory only says = tt
+group_may_stop s answers false group.Stalled only says = (refl, says)
+group_may_stop s answers true group.Stalled only says = let bad : group.Stalled ≡ group.Memory = only refl in absurd cc
+group_may_stop s answers false group.Gated only says = (refl, says)
+group_may_stop s answers true group.Gated only says = let bad : group.Gated ≡ group.Memory = only refl in absurd cc
 
--- no fault of labels is a failed write
-no_write : (f : GroupFault) → (fault_of_group f).number ≡ 42 → ⊥
-no_write group.Memory e = omega (arith, e)
-no_write group.Stalled e = omega (arith, e)
-no_write group.Gated e = omega (arith, e)
+-- that is no failed write
+no_write : (f : GroupFault) → cause_of f ≢ causes.Write
+no_write group.Memory e = let bad : causes.Memory ≡ causes.Write = e in cc
+no_write group.Stalled e = let bad : causes.Stalled ≡ causes.Write = e in cc
+no_write group.Gated e = let bad : causes.Gated ≡ causes.Write = e in cc
 
--- the answer was not written
-pub answer_later : (plain : Bool) (s : Settings) (answers : ℕ → ℕ → Bool → Type 0) (u : Unanswered) → IsLater plain s answers (fault_of_answer u)
-answer_later plain s answers variants.Memory = (refl, refl, inl refl)
-answer_later plain s answers variants.Write = (refl, refl, inr (inr (inr refl)))
+module _ {V : Type 0} (A : Algebra V) (g : GraphData) (q : Question) {X : Type 0} (old : Output X) where
+  -- then nothing of its answer was written
+  pub not_solved : (f : GroupFault) → WroteNext A g q old old (Err (cause_of f))
+  not_solved f = (λ write. absurd (no_write f write), λ _. refl)
 
-module _ {V : Type 0} (A : Algebra V) (g : GraphData) (q : Question) (old : Option (List ℕ)) (b : ℕ) where
-  -- a question is not solved, and nothing was written
-  pub not_solved : (f : GroupFault) → WroteNext A g q old old b b (Err (fault_of_group f))
-  not_solved f = (variants.Memory, (refl, refl), (λ e. absurd (no_write f e), λ e. let bad : variants.Memory ≡ variants.Write = e in cc))
-
-  -- its answer was not written
-  pub not_written : (new : Option (List ℕ)) (a : ℕ) (u : Unanswered) → WroteAnswer A g q old new b a (Err u) → WroteNext A g q old new b a (Err (fault_of_answer u))
-  not_written new a variants.Memory h = (variants.Memory, h, (λ e. absurd (omega (arith, e)), λ e. let bad : variants.Memory ≡ variants.Write = e in cc))
-  not_written new a variants.Write h = (variants.Write, h, (λ e. refl, λ e. refl))
+  -- its answer was not written whole
+  pub not_written : (new : Output X) (cause : Cause) → cause ≡ causes.Write → (answer : AnswerData) × IsAnswer A g q answer × FailedAfterPrefix old new (answer_text answer) →
+      WroteNext A g q old new (Err cause)
+  not_written new cause write h = (λ _. h, λ other. absurd (other write))

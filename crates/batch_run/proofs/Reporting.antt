@@ -1,9 +1,10 @@
 -- What was reported so far, and one report more.
-use Rattle.std.proofs.Common.{◌≡◌, ℕ, zero, suc, ◌+◌, ◌<◌, ◌≤◌, Bool, true, List, [], ◌∷◌, ◌++◌, length, map, take, get_or, Result, Ok, Err, refl, sym, ap, ◌∙◌, subst, append_assoc, append-nil, arith}
+use Rattle.std.proofs.Common.{◌≡◌, ℕ, zero, suc, ◌+◌, ◌<◌, ◌≤◌, Bool, true, List, [], ◌∷◌, ◌++◌, length, map, take, get_or, Option, Result, Ok, Err, refl, sym, ap, ◌∙◌, subst, append_assoc, append-nil, arith}
 use Rattle.std.specs.Prelude.{IfErr}
 use Rattle.std.specs.List.{AllZip, flat_map}
 use Rattle.std.proofs.lemmas.List.{take_all, take_more, map-append}
 use Rattle.std.proofs.lemmas.List.Concat.{flat_map-cons}
+use Rattle.road_text.specs.Streams.{Output}
 use Rattle.road_graph.specs.GraphData.{GraphData}
 use Rattle.road_files.specs.Asked.{Question, Asked}
 use Rattle.path_algebra.specs.Algebra.{Algebra}
@@ -15,15 +16,15 @@ use Rattle.station.specs.declared.gathering.Gathered.{Gathered}
 use Rattle.station.specs.Gather.{IsGathered}
 use Rattle.station.specs.Opened.{setup_of}
 use Rattle.batch_run.specs.declared.solve.diffusion.EndedDiffusion.{EndedDiffusion}
-use Rattle.batch_run.specs.declared.faults.RunFault.{RunFault}
+use Rattle.batch_run.specs.declared.faults.Cause.{Cause}
 use Rattle.batch_run.specs.declared.settings.Settings.{Settings}
 use Rattle.batch_run.specs.declared.watcher.Report.{Report}
 use Rattle.batch_run.specs.declared.watcher.Report.TheVariants as report
 use Rattle.batch_run.specs.Diffusions.{IsEnded}
-use Rattle.batch_run.specs.Reports.{IsAccount, Due, Beginning, Account, Progress, IsReportOf, FollowsReports, Reported, ReportedAllOrPrefix, ReportedPrefix, Watched, accounts_due, question_due, questions_due, batch_due, count_diffusions, diffused}
+use Rattle.batch_run.specs.Reports.{IsAccount, Due, Beginning, Account, Progress, IsReportOf, FollowsReports, Reported, ReportedAllOrPrefix, ReportedPrefix, ReportedWritten, Watched, accounts_due, question_due, questions_due, batch_due, count_diffusions, diffused}
 use Rattle.batch_run.specs.Choice.{without_diffusions}
-use Rattle.batch_run.specs.Ran.{IsLater}
-use Rattle.batch_run.proofs.OfInputs.{in_no_input, of_no_setting}
+use Rattle.batch_run.specs.Causes.{fault_of}
+use Rattle.batch_run.proofs.CauseCases.{no_setting}
 
 -- the counts of a diffusion that was run to its end are those that were gathered
 module _ {S V : Type 0} (meaning : S → Algebra V) where
@@ -159,6 +160,31 @@ due_from plain n (q ∷ qs) (suc i) =
     let after = due_from plain (n + 1) qs i in
     (after.0, ap (λ (x : List Due). head ++ x) after.1 ∙ sym (append_assoc head (questions_due plain (n + 1) (take i qs)) after.0))
 
+module _ (plain : Bool) (qs : List Question) (i : ℕ) where
+  -- what is due until so many questions are answered is a prefix of all
+  pub first_follows : (rest : List Due) × (batch_due plain qs ≡ due_first plain qs i ++ rest)
+  first_follows = let after = due_from plain 0 qs i in (after.0, ap (λ (x : List Due). Beginning (length qs) (count_diffusions plain qs) ∷ x) after.1)
+
+  module _ (k : ℕ) (q : Question) (low : i < length qs) (number : k ≡ i + 1) where
+    pub next_due : due_first plain qs (i + 1) ≡ due_first plain qs i ++ question_due plain k (get_or qs i q)
+    next_due =
+        let same : i + 1 ≡ suc i = omega arith in
+        ap (due_first plain qs) same ∙ ap (λ (x : List Due). Beginning (length qs) (count_diffusions plain qs) ∷ x) (due_push plain 0 qs i k q low (omega (arith, number)))
+
+    -- and so it is with some accounts of the next question
+    pub accounts_follow : (ds es : List Due) → accounts_due plain k (get_or qs i q) ≡ ds ++ es → (rest : List Due) × (batch_due plain qs ≡ (due_first plain qs i ++ ds) ++ rest)
+    accounts_follow ds es e =
+        let first = due_first plain qs i in
+        let after = due_from plain 0 qs (i + 1) in
+        let last = Progress k ∷ [] in
+        let all : batch_due plain qs ≡ (first ++ question_due plain k (get_or qs i q)) ++ after.0 =
+        ap (λ (x : List Due). Beginning (length qs) (count_diffusions plain qs) ∷ x) after.1 ∙ ap (λ (x : List Due). x ++ after.0) next_due in (
+          es ++ (last ++ after.0),
+          all ∙ ap (λ (x : List Due). (first ++ (x ++ last)) ++ after.0) e ∙ ap (λ (x : List Due). (first ++ x) ++ after.0) (append_assoc ds es last)
+              ∙ append_assoc first (ds ++ (es ++ last)) after.0 ∙ ap (λ (x : List Due). first ++ x) (append_assoc ds (es ++ last) after.0)
+              ∙ ap (λ (x : List Due). first ++ (ds ++ x)) (append_assoc es last after.0) ∙ sym (append_assoc first ds (es ++ (last ++ after.0))),
+        )
+
 module _ {V S : Type 0} (A : Algebra V) (g : GraphData) (may_become : S → Report → S → Type 0) (plain : Bool) (qs : List Question) where
   -- the batch begins
   pub begun : (n d : ℕ) (old new : S) → n ≡ length qs → d ≡ count_diffusions plain qs → may_become old (report.Begun n d) new → Reported A g may_become (due_first plain qs 0) old new
@@ -166,52 +192,21 @@ module _ {V S : Type 0} (A : Algebra V) (g : GraphData) (may_become : S → Repo
       one A g may_become (Beginning (length qs) (count_diffusions plain qs)) (report.Begun n d) old new
       (ap (λ (m : ℕ). report.Begun m d) count ∙ ap (λ (m : ℕ). report.Begun (length qs) m) diffusions) become
 
-  -- it stopped between two questions
-  pub stopped : (i : ℕ) (old new : S) → Reported A g may_become (due_first plain qs i) old new → ReportedPrefix A g may_become (batch_due plain qs) old new
-  stopped i old new h =
-      let after = due_from plain 0 qs i in
-      prefix_whole A g may_become (due_first plain qs i) after.0 (batch_due plain qs) old new (ap (λ (x : List Due). Beginning (length qs) (count_diffusions plain qs) ∷ x) after.1) h
-
   -- all questions are answered
   pub ended : (i : ℕ) (old new : S) → length qs ≤ i → Reported A g may_become (due_first plain qs i) old new → Reported A g may_become (batch_due plain qs) old new
   ended i old new le h = subst (λ (x : List Question). Reported A g may_become (Beginning (length qs) (count_diffusions plain qs) ∷ questions_due plain 0 x) old new) (take_all i qs le) h
 
   module _ (i k : ℕ) (q : Question) (low : i < length qs) (number : k ≡ i + 1) (old mid : S) (first : Reported A g may_become (due_first plain qs i) old mid) where
-    next_due : due_first plain qs (i + 1) ≡ due_first plain qs i ++ question_due plain k (get_or qs i q)
-    next_due =
-        let same : i + 1 ≡ suc i = omega arith in
-        ap (due_first plain qs) same ∙ ap (λ (x : List Due). Beginning (length qs) (count_diffusions plain qs) ∷ x) (due_push plain 0 qs i k q low (omega (arith, number)))
-
     -- one question more is answered
     pub answered : (new : S) → Reported A g may_become (question_due plain k (get_or qs i q)) mid new → Reported A g may_become (due_first plain qs (i + 1)) old new
     answered new one =
-        subst (λ (x : List Due). Reported A g may_become x old new) (sym next_due) (more A g may_become (due_first plain qs i) (question_due plain k (get_or qs i q)) old mid new first one)
+        subst (λ (x : List Due). Reported A g may_become x old new) (sym (next_due plain qs i k q low number)) (more A g may_become (due_first plain qs i) (question_due plain k (get_or qs i q)) old mid new first one)
 
-    -- it stopped at a question
-    pub stopped_within : (new : S) → ReportedPrefix A g may_become (question_due plain k (get_or qs i q)) mid new → ReportedPrefix A g may_become (batch_due plain qs) old new
-    stopped_within new part =
-        let after = due_from plain 0 qs (i + 1) in
-        let all : batch_due plain qs ≡ (due_first plain qs i ++ question_due plain k (get_or qs i q)) ++ after.0 =
-        ap (λ (x : List Due). Beginning (length qs) (count_diffusions plain qs) ∷ x) after.1 ∙ ap (λ (x : List Due). x ++ after.0) next_due in
-        prefix_more A g may_become (due_first plain qs i) (question_due plain k (get_or qs i q)) after.0 (batch_due plain qs) old mid new all first part
-
--- of one question, solved with the plain solver or without
-module _ {V S : Type 0} (A : Algebra V) (g : GraphData) (may_become : S → Report → S → Type 0) (b plain : Bool) (same : b ≡ plain) (k : ℕ) (q : Question) (old : S) where
-  -- it is answered
-  pub question_answered : (mid new : S) → Reported A g may_become (accounts_due b k q) old mid → may_become mid (report.Answered k) new → Reported A g may_become (question_due plain k q) old new
-  question_answered mid new accounts become =
-      subst (λ (p : Bool). Reported A g may_become (question_due p k q) old new) same
-      (more A g may_become (accounts_due b k q) (Progress k ∷ []) old mid new accounts (one A g may_become (Progress k) (report.Answered k) mid new refl become))
-
-  -- it stopped while it was solved
-  pub question_begun : (new : S) → ReportedPrefix A g may_become (accounts_due b k q) old new → ReportedPrefix A g may_become (question_due plain k q) old new
-  question_begun new accounts =
-      subst (λ (p : Bool). ReportedPrefix A g may_become (question_due p k q) old new) same
-      (prefix_more A g may_become [] (accounts_due b k q) (Progress k ∷ []) (question_due b k q) old old new refl (none A g may_become old) accounts)
-
-  -- it stopped when it was solved
-  pub question_solved : (new : S) → Reported A g may_become (accounts_due b k q) old new → ReportedPrefix A g may_become (question_due plain k q) old new
-  question_solved new accounts = question_begun new (prefix_all A g may_become (accounts_due b k q) old new accounts)
+-- a question is answered
+module _ {V S : Type 0} (A : Algebra V) (g : GraphData) (may_become : S → Report → S → Type 0) (plain : Bool) (k : ℕ) (q : Question) where
+  pub question_answered : (old mid new : S) → Reported A g may_become (accounts_due plain k q) old mid → may_become mid (report.Answered k) new → Reported A g may_become (question_due plain k q) old new
+  question_answered old mid new accounts become =
+      more A g may_become (accounts_due plain k q) (Progress k ∷ []) old mid new accounts (one A g may_become (Progress k) (report.Answered k) mid new refl become)
 
 -- the plain solver answers by no diffusion
 none_diffused : (qs : List Question) → flat_map (diffused true) qs ≡ []
@@ -222,15 +217,15 @@ pub none_counted : (qs : List Question) → 0 ≡ count_diffusions true qs
 none_counted qs = sym (ap (λ (l : List ℕ). length l) (none_diffused qs))
 
 -- what a run reports of inputs that were read, from what answering them reports
-pub watched : {V S : Type 0} (A : Algebra V) (how : Settings) (IsRead : GraphData → Asked → Type 0) (may_become : S → Report → S → Type 0) (old new : S) (g : GraphData)
-    (asked : Asked) (answers : ℕ → ℕ → Bool → Type 0) (before after : ℕ) (r : Result (Unit {0}) RunFault) →
-    IsRead g asked → ReportedAllOrPrefix A g may_become (batch_due (without_diffusions how) asked.questions) old new r →
-    IfErr r (λ f. IsLater (without_diffusions how) how answers f × (f.number ≡ 42 → before < after)) → Watched A how IsRead may_become old new r
-watched A how IsRead may_become old new g asked answers before after (Ok u) read reported later =
-    record { all = record { graph = g; asked = asked; read = read; reported = reported }; first = tt; nothing = tt; untouched = tt }
-watched A how IsRead may_become old new g asked answers before after (Err f) read reported later = record {
-  all = tt;
-  first = λ file other. record { graph = g; asked = asked; read = read; reported = reported };
-  nothing = in_no_input (without_diffusions how) how answers before after (Err f) later _;
-  untouched = of_no_setting (without_diffusions how) how answers before after (Err f) later _;
-}
+module _ {V S W : Type 0} (A : Algebra V) (how : Settings) (IsRead : GraphData → Asked → Type 0) (may_become : S → Report → S → Type 0) (old new : S) (out out_after : Output W) (g : GraphData)
+    (asked : Asked) (read : IsRead g asked) where
+  pub watched_all : Reported A g may_become (batch_due (without_diffusions how) asked.questions) old new → Watched A how IsRead may_become old new out out_after (Ok tt)
+  watched_all reported = record { all = record { graph = g; asked = asked; read = read; reported = reported }; first = tt; nothing = tt; untouched = tt }
+
+  pub watched_first : (cause : Cause) → ReportedWritten A g asked (without_diffusions how) may_become old new out out_after → Watched A how IsRead may_become old new out out_after (Err (fault_of cause))
+  watched_first cause reported = record {
+    all = tt;
+    first = λ file other. record { graph = g; asked = asked; read = read; reported = reported };
+    nothing = λ other. absurd (other refl);
+    untouched = λ setting. absurd (no_setting cause setting);
+  }

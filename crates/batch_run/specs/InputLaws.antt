@@ -4,7 +4,7 @@ use Rattle.batch_run.specs.declared.faults.File.{File}
 use Rattle.batch_run.specs.declared.faults.File.TheVariants.{Graph, Questions, Bundle, NoFile}
 use Rattle.batch_run.specs.declared.faults.RunFault.{RunFault}
 use Rattle.batch_run.specs.Inputs.{HasReadPair, HasReadBundle}
-use Rattle.batch_run.specs.Streams.{Input}
+use Rattle.road_text.specs.Streams.{Input}
 
 file_of : Result (Unit {0}) RunFault → File
 file_of (Ok u) = NoFile
@@ -27,6 +27,8 @@ module _ {G Q : Type 0} (first first_after : Input G) (second second_after : Inp
     questions = λ e. let bad : Questions ≡ NoFile = sym e ∙ none in cc;
     read_graph = not_failed f Graph first.failures first_after.failures (λ e. let bad : Graph ≡ NoFile = sym e ∙ none in cc) h.sound.0 (Err f) refl;
     read_questions = not_failed f Questions second.failures second_after.failures (λ e. let bad : Questions ≡ NoFile = sym e ∙ none in cc) h.sound.1 (Err f) refl;
+    memory = λ e. let bad : Graph ≡ NoFile = sym e ∙ none in cc;
+    memory_questions = λ e. let bad : Questions ≡ NoFile = sym e ∙ none in cc;
     untouched = λ e. absurd (other e);
     ends = tt;
     asked = h.asked;
@@ -40,6 +42,8 @@ pair_unread first second = record {
   questions = λ e. cc;
   read_graph = not_failed (record { number = 43; file = NoFile; line = 0 }) Graph first.failures first.failures (λ e. cc) refl _ refl;
   read_questions = not_failed (record { number = 43; file = NoFile; line = 0 }) Questions second.failures second.failures (λ e. cc) refl _ refl;
+  memory = λ e. cc;
+  memory_questions = λ e. cc;
   untouched = λ e. (refl, refl);
   ends = tt;
   asked = omega arith;
@@ -51,6 +55,7 @@ bundle_later text text_after f none other h = record {
   sound = tt;
   bundle = λ e. let bad : Bundle ≡ NoFile = sym e ∙ none in cc;
   read_bundle = not_failed f Bundle text.failures text_after.failures (λ e. let bad : Bundle ≡ NoFile = sym e ∙ none in cc) h.sound (Err f) refl;
+  memory = λ e. let bad : Bundle ≡ NoFile = sym e ∙ none in cc;
   untouched = λ e. absurd (other e);
   end = tt;
   asked = h.asked;
@@ -61,6 +66,7 @@ bundle_unread text = record {
   sound = tt;
   bundle = λ e. cc;
   read_bundle = not_failed (record { number = 43; file = NoFile; line = 0 }) Bundle text.failures text.failures (λ e. cc) refl _ refl;
+  memory = λ e. cc;
   untouched = λ e. refl;
   end = tt;
   asked = omega arith;

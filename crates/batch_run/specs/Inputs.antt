@@ -1,10 +1,15 @@
 -- How a run read its inputs, between two moments of them.
-use Rattle.std.specs.Prelude.{◌≡◌, ◌≢◌, ◌+◌, ◌≤◌, ◌↔◌, Result, Err, OnOk, IfErr}
+use Rattle.std.specs.Prelude.{◌≡◌, ◌≢◌, ◌+◌, ◌≤◌, ◌↔◌, None, Result, Err, OnOk, IfErr}
 use Rattle.std.specs.Io.KnownBytes.{IsAtEnd}
+use Rattle.road_graph.specs.GraphData.{GraphData}
+use Rattle.road_text.specs.Reads.{BreaksNone, RunsOutAfter}
+use Rattle.graph_text.specs.GraphFiles.{gr_rules}
+use Rattle.road_files.specs.QuestionFiles.{question_rules}
+use Rattle.road_files.specs.BundleFiles.{bundle_rules}
 use Rattle.batch_run.specs.declared.faults.File.TheVariants.{Graph, Questions, Bundle}
 use Rattle.batch_run.specs.declared.faults.RunFault.{RunFault}
-use Rattle.batch_run.specs.Ran.{IsGraphFault, IsQuestionsFault, IsBundleFault}
-use Rattle.batch_run.specs.Streams.{Input}
+use Rattle.batch_run.specs.Ran.{IsReadAs, IsGraphFault, IsQuestionsFault, IsBundleFault}
+use Rattle.road_text.specs.Streams.{Input}
 
 -- a graph was read from one input and questions from another, or this fault stopped the run
 pub record HasReadPair {G Q : Type 0} (first first_after : Input G) (second second_after : Input Q) (outcome : Result (Unit {0}) RunFault) : Type 0 where
@@ -18,6 +23,11 @@ pub record HasReadPair {G Q : Type 0} (first first_after : Input G) (second seco
   pub read_graph : (outcome ≡ Err (record { number = 1; file = Graph; line = 0 })) ↔ (first_after.failures ≢ first.failures)
   -- and of the questions exactly if one of them did
   pub read_questions : (outcome ≡ Err (record { number = 1; file = Questions; line = 0 })) ↔ (second_after.failures ≢ second.failures)
+  -- 3 is reported of the graph only of bytes that fit, after those of all reads but the last, which break no rule
+  pub memory : IfErr outcome (λ f. f.file ≡ Graph → f.number ≡ 3 → RunsOutAfter (BreaksNone gr_rules) first.left first_after.left)
+  -- and so it is of the questions, over a graph that has no fault
+  pub memory_questions : IfErr outcome (λ f. f.file ≡ Questions → f.number ≡ 3 →
+      (g : GraphData) × IsReadAs gr_rules first.left g × RunsOutAfter (BreaksNone (question_rules g.vertices None)) second.left second_after.left)
   -- settings are tested before anything is read
   pub untouched : IfErr outcome (λ f. f.number ≡ 43 → (first_after ≡ first) × (second_after ≡ second))
   -- both inputs were read to their end
@@ -35,6 +45,8 @@ pub record HasReadBundle {B : Type 0} (text text_after : Input B) (outcome : Res
   pub bundle : IfErr outcome (λ f. f.file ≡ Bundle → IsBundleFault text.left f)
   -- 1 is reported exactly if a read failed
   pub read_bundle : (outcome ≡ Err (record { number = 1; file = Bundle; line = 0 })) ↔ (text_after.failures ≢ text.failures)
+  -- 3 is reported only of bytes that fit, after those of all reads but the last, which break no rule
+  pub memory : IfErr outcome (λ f. f.file ≡ Bundle → f.number ≡ 3 → RunsOutAfter (BreaksNone bundle_rules) text.left text_after.left)
   -- settings are tested before anything is read
   pub untouched : IfErr outcome (λ f. f.number ≡ 43 → text_after ≡ text)
   -- the bundle was read to its end

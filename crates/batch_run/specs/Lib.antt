@@ -6,7 +6,7 @@ pub mod Answered
 pub mod Ran
 pub mod FaultTexts
 pub mod Stopping
-pub mod Streams
+pub mod Causes
 pub mod Runs
 pub mod Reports
 pub mod Inputs

@@ -1,17 +1,16 @@
 -- What a batch promises of its inputs and its output.
-use Rattle.std.specs.Prelude.{◌≡◌, ◌≢◌, ℕ, ◌<◌, ◌≤◌, ◌⊎◌, Bool, false, List, [], Option, None, Ok, Err, IfSome}
+use Rattle.std.specs.Prelude.{◌≡◌, ◌≢◌, ℕ, ◌<◌, ◌≤◌, ◌⊎◌, List, [], Option, None, Ok, Err, IfSome}
 use Rattle.road_graph.specs.GraphData.{GraphData}
 use Rattle.road_text.specs.Reads.{IsNumberFrom}
+use Rattle.road_text.specs.Streams.{Output}
 use Rattle.road_text.specs.Rules.{Rules, text_read}
 use Rattle.road_files.specs.Asked.{Asked}
 use Rattle.graph_text.specs.GraphFiles.{gr_rules}
 use Rattle.road_files.specs.QuestionFiles.{question_rules}
 use Rattle.road_files.specs.BundleFiles.{bundle_rules}
 use Rattle.path_algebra.specs.Algebra.{Algebra}
-use Rattle.batch_run.specs.Stopping.{Stalls, Closes}
 use Rattle.batch_run.specs.declared.faults.RunFault.{RunFault}
 use Rattle.batch_run.specs.declared.faults.File.{File}
-use Rattle.batch_run.specs.declared.settings.Settings.{Settings}
 use Rattle.batch_run.specs.declared.faults.File.TheVariants.{Graph, Questions, Bundle, NoFile}
 use Rattle.batch_run.specs.Answered.{WroteAnswers, WroteAnswersPrefix, WroteWhole}
 
@@ -30,21 +29,21 @@ abbrev pub IsBundleOf : Option (List ℕ) → GraphData → Asked → Type 0
 IsBundleOf input g asked = IsReadAs bundle_rules input (g, asked)
 
 -- the answers to what was read were written, whole
-pub record Done {V : Type 0} (A : Algebra V) (IsRead : GraphData → Asked → Type 0) (old new : Option (List ℕ)) : Type 0 where
+pub record Done {V X : Type 0} (A : Algebra V) (IsRead : GraphData → Asked → Type 0) (old new : Output X) : Type 0 where
   pub graph : GraphData
   pub asked : Asked
   pub read : IsRead graph asked
   pub wrote : WroteAnswers A graph asked old new
 
 -- a prefix of them was
-pub record Begun {V : Type 0} (A : Algebra V) (IsRead : GraphData → Asked → Type 0) (old new : Option (List ℕ)) : Type 0 where
+pub record Begun {V X : Type 0} (A : Algebra V) (IsRead : GraphData → Asked → Type 0) (old new : Output X) : Type 0 where
   pub graph : GraphData
   pub asked : Asked
   pub read : IsRead graph asked
   pub wrote : WroteAnswersPrefix A graph asked old new
 
 -- the header was, and the answers to the first questions, each of them whole
-pub record BegunWhole {V : Type 0} (A : Algebra V) (IsRead : GraphData → Asked → Type 0) (old new : Option (List ℕ)) : Type 0 where
+pub record BegunWhole {V X : Type 0} (A : Algebra V) (IsRead : GraphData → Asked → Type 0) (old new : Output X) : Type 0 where
   pub graph : GraphData
   pub asked : Asked
   pub read : IsRead graph asked
@@ -84,12 +83,6 @@ abbrev pub IsRunFaultOf : (File → Type 0) → RunFault → Type 0
 IsRunFaultOf inputs f =
     (inputs f.file × IsRoadNumber f.number)
     ⊎ ((f.file ≡ NoFile) × (f.line ≡ 0) × ((f.number ≡ 3) ⊎ ((f.number ≡ 40) ⊎ ((f.number ≡ 41) ⊎ ((f.number ≡ 42) ⊎ (f.number ≡ 43))))))
-
--- a fault that comes when the inputs have been read: memory or a thread, a write; and if stations answer, a worker that made all turns of the limit, or one whose gate
--- answered false before
-abbrev pub IsLater : (plain : Bool) → Settings → (ℕ → ℕ → Bool → Type 0) → RunFault → Type 0
-IsLater plain s answers f = (f.file ≡ NoFile) × (f.line ≡ 0)
-    × ((f.number ≡ 3) ⊎ (((f.number ≡ 40) × (plain ≡ false) × Stalls answers s.workers s.turns) ⊎ (((f.number ≡ 41) × (plain ≡ false) × Closes answers s.workers s.turns) ⊎ (f.number ≡ 42))))
 
 -- nothing is held back: all was passed on, or passing it on failed
 abbrev pub IsPassedOn : List ℕ → ℕ → ℕ → Type 0

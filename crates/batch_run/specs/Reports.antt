@@ -2,7 +2,8 @@
 -- gathered, 1 is answered, question 2 from 4 was gathered, question 2 from 5 was, 2 are answered. With the plain solver: it begins (2 questions, 0 diffusions),
 -- 1 is answered, 2 are.
 use Rattle.std.specs.Prelude.{◌≡◌, ◌≢◌, ℕ, ◌+◌, Bool, true, false, List, [], ◌∷◌, ◌++◌, length, map, Option, Result, Ok, Err, OnOk, IfErr}
-use Rattle.std.specs.List.{AllZip, flat_map}
+use Rattle.std.specs.List.{AllByRecursion, AllZip, flat_map}
+use Rattle.road_text.specs.Streams.{Output}
 use Rattle.road_graph.specs.GraphData.{GraphData}
 use Rattle.road_files.specs.Asked.{Question, Asked, sources_of}
 use Rattle.path_algebra.specs.Algebra.{Algebra}
@@ -13,6 +14,7 @@ use Rattle.station.specs.Gather.{IsGathered}
 use Rattle.batch_run.specs.declared.faults.File.TheVariants.{NoFile}
 use Rattle.batch_run.specs.declared.faults.RunFault.{RunFault}
 use Rattle.batch_run.specs.declared.settings.Settings.{Settings}
+use Rattle.batch_run.specs.Answered.{WroteAtLeast}
 use Rattle.batch_run.specs.Choice.{without_diffusions}
 use Rattle.batch_run.specs.declared.watcher.Report.{Report}
 use Rattle.batch_run.specs.declared.watcher.Report.TheVariants.{Begun, Gathered, Answered}
@@ -96,19 +98,30 @@ pub record ReportedAll {V S : Type 0} (A : Algebra V) (plain : Bool) (IsRead : G
   pub read : IsRead graph asked
   pub reported : Reported A graph may_become (batch_due plain asked.questions) old new
 
--- a prefix of it was
-pub record ReportedFirst {V S : Type 0} (A : Algebra V) (plain : Bool) (IsRead : GraphData → Asked → Type 0) (may_become : S → Report → S → Type 0) (old new : S) : Type 0 where
+-- what a report says was written, before: that a batch begins, the header; that so many questions are answered, their answers too, each whole
+abbrev pub IsWritten : {V W : Type 0} → Algebra V → GraphData → Asked → Output W → Output W → Due → Type 0
+IsWritten A g asked out out_after (Beginning n d) = WroteAtLeast A g asked 0 out out_after
+IsWritten A g asked out out_after (Account k s) = Unit {0}
+IsWritten A g asked out out_after (Progress n) = WroteAtLeast A g asked n out out_after
+
+-- a prefix of what is due of a batch was reported, and what it says was written
+pub record ReportedWritten {V S W : Type 0} (A : Algebra V) (g : GraphData) (asked : Asked) (plain : Bool) (may_become : S → Report → S → Type 0) (old new : S) (out out_after : Output W) : Type 0 where
+  pub reported : ReportedPrefix A g may_become (batch_due plain asked.questions) old new
+  pub written : AllByRecursion (IsWritten A g asked out out_after) reported.prefix
+
+-- so it was with a prefix of what is due of what was read
+pub record ReportedFirst {V S W : Type 0} (A : Algebra V) (plain : Bool) (IsRead : GraphData → Asked → Type 0) (may_become : S → Report → S → Type 0) (old new : S) (out out_after : Output W) : Type 0 where
   pub graph : GraphData
   pub asked : Asked
   pub read : IsRead graph asked
-  pub reported : ReportedPrefix A graph may_become (batch_due plain asked.questions) old new
+  pub reported : ReportedWritten A graph asked plain may_become old new out out_after
 
--- what a batch over what was read reported to a watcher, which went from the one state to the other
-pub record Watched {V S : Type 0} (A : Algebra V) (how : Settings) (IsRead : GraphData → Asked → Type 0) (may_become : S → Report → S → Type 0) (old new : S) (outcome : Result (Unit {0}) RunFault) : Type 0 where
+-- what a batch over what was read reported to a watcher, which went from the one state to the other, while the output took bytes
+pub record Watched {V S W : Type 0} (A : Algebra V) (how : Settings) (IsRead : GraphData → Asked → Type 0) (may_become : S → Report → S → Type 0) (old new : S) (out out_after : Output W) (outcome : Result (Unit {0}) RunFault) : Type 0 where
   -- on success all that is due was reported, in order, and nothing else
   pub all : OnOk outcome (ReportedAll A (without_diffusions how) IsRead may_become old new)
-  -- before a fault of the run a prefix of it was
-  pub first : IfErr outcome (λ f. f.file ≡ NoFile → f.number ≢ 43 → ReportedFirst A (without_diffusions how) IsRead may_become old new)
+  -- before a fault of the run a prefix of it was, and each question that it reports as answered has its answer in the output, whole
+  pub first : IfErr outcome (λ f. f.file ≡ NoFile → f.number ≢ 43 → ReportedFirst A (without_diffusions how) IsRead may_become old new out out_after)
   -- before a fault of an input nothing was
   pub nothing : IfErr outcome (λ f. f.file ≢ NoFile → new ≡ old)
   -- nor before one of a setting

@@ -1,5 +1,5 @@
 -- What a batch leaves, between two moments of its inputs and its output.
-pub use Rattle.batch_run.specs.Streams.{Input, Output, input, output}
+pub use Rattle.road_text.specs.Streams.{Input, Output}
 use Rattle.std.specs.Prelude.{◌≡◌, ◌≢◌, ℕ, ◌+◌, ◌≤◌, ◌<◌, ◌⊎◌, Bool, true, false, [], Result, Err, OnOk, IfErr}
 use Rattle.std.specs.Io.KnownBytes.{Keeps}
 use Rattle.road_graph.specs.GraphData.{GraphData}
@@ -18,7 +18,7 @@ use Rattle.batch_run.specs.Ran.{Done, Begun, BegunWhole, IsPassedOn, IsRunFaultO
 -- the questions of a batch were answered over its graph, or this fault stopped it
 pub record Ran {V W : Type 0} (A : Algebra V) (how : Settings) (answers : ℕ → ℕ → Bool → Type 0) (IsRead : GraphData → Asked → Type 0) (inputs : File → Type 0) (out out_after : Output W) (outcome : Result (Unit {0}) RunFault) : Type 0 where
   -- the right answers to what the inputs spell were written, whole
-  pub done : OnOk outcome (Done A IsRead out.written out_after.written)
+  pub done : OnOk outcome (Done A IsRead out out_after)
   -- and the output holds nothing back
   pub passed_on : OnOk outcome (out_after.held ≡ [])
   -- no write failed
@@ -44,15 +44,15 @@ pub record Ran {V W : Type 0} (A : Algebra V) (how : Settings) (answers : ℕ �
   -- settings are tested before anything is written
   pub untouched : IfErr outcome (λ f. f.number ≡ 43 → out_after ≡ out)
   -- a later fault leaves a prefix of the right text
-  pub begun : IfErr outcome (λ f. f.file ≡ NoFile → f.number ≢ 43 → Begun A IsRead out.written out_after.written)
+  pub begun : IfErr outcome (λ f. f.file ≡ NoFile → f.number ≢ 43 → Begun A IsRead out out_after)
   -- want of memory leaves the first answers, each of them whole
-  pub whole : IfErr outcome (λ f. f.file ≡ NoFile → f.number ≡ 3 → BegunWhole A IsRead out.written out_after.written)
+  pub whole : IfErr outcome (λ f. f.file ≡ NoFile → f.number ≡ 3 → BegunWhole A IsRead out out_after)
   -- and they are passed on, or passing them on failed
   pub flushed : IfErr outcome (λ f. f.file ≡ NoFile → f.number ≡ 3 → IsPassedOn out_after.held out.failures out_after.failures)
   -- at most that one write failed
   pub once : IfErr outcome (λ f. f.file ≡ NoFile → f.number ≡ 3 → out_after.failures ≤ out.failures + 1)
   -- a limit of turns or a gate leaves the first answers, each of them whole, and passed on
-  pub stopped : IfErr outcome (λ f. (f.number ≡ 40) ⊎ (f.number ≡ 41) → BegunWhole A IsRead out.written out_after.written × IsPassedOn out_after.held out.failures out_after.failures)
+  pub stopped : IfErr outcome (λ f. (f.number ≡ 40) ⊎ (f.number ≡ 41) → BegunWhole A IsRead out out_after × IsPassedOn out_after.held out.failures out_after.failures)
 
 -- the questions of one input were answered over the graph of another, or this fault stopped it
 pub record RanPair {V G Q W : Type 0} (A : Algebra V) (how : Settings) (answers : ℕ → ℕ → Bool → Type 0) (first first_after : Input G) (second second_after : Input Q) (out out_after : Output W) (outcome : Result (Unit {0}) RunFault) : Type 0 where

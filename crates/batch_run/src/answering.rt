@@ -1,19 +1,19 @@
 //! Answers all questions of a batch.
-ghost use Rattle.std.specs.Prelude.{◌≡◌, ◌+◌, ◌<◌, length, slice_index_or, IfErr, OnOk};
+ghost use Rattle.std.specs.Prelude.{◌≡◌, ◌+◌, ◌<◌, length, slice_index_or, IfErr, OnErr, OnOk};
 ghost use Rattle.road_files.specs.Asked.{AreQuestionsOf, Question, asked_of};
 ghost use Rattle.batch_run.specs.Answered.{AnsweredAll, WroteNext};
-ghost use Rattle.batch_run.specs.Reports.{ReportedAllOrPrefix, batch_due, question_due};
-ghost use Rattle.batch_run.specs.Ran.{IsLater};
+ghost use Rattle.batch_run.specs.Causes.{MayStop};
+ghost use Rattle.batch_run.specs.Reports.{Reported, ReportedPrefix, ReportedWritten, accounts_due, batch_due, question_due};
 ghost use Rattle.batch_run.specs.Solvers.{IsReady, IsSameSolver, graph_of, is_plain};
 
 use crate::batch::Batch;
 use crate::begin::begin;
-use crate::faults::{RunFault, fault_of_answer, fault_of_group, fault_of_run};
+use crate::faults::Cause;
 use crate::solve::{Solver, solve_next, start};
 use crate::watcher::{Report, Watcher};
 use crate::write::answer_at;
 use path_algebra::PathAlgebra;
-use road_text::{MEMORY, RoadWrite};
+use road_text::RoadWrite;
 use std::sync::Wait;
 use std::thread::Threads;
 use worker_fleet::Gate;
@@ -25,7 +25,7 @@ fn answer_next<A: PathAlgebra, W: RoadWrite, R: Threads + Wait + Sync, T: Gate, 
     i: usize,
     out: &mut W,
     watcher: &mut O,
-) -> Result<(), RunFault>
+) -> Result<(), Cause>
     requires place { i < length (asked_of batch.now.questions.now).questions }
     requires within { AreQuestionsOf (graph_of solver.old).vertices batch.now.questions.now }
     requires ready { IsReady A.meaning batch.now.algebra (asked_of batch.now.questions.now) i
@@ -34,24 +34,22 @@ fn answer_next<A: PathAlgebra, W: RoadWrite, R: Threads + Wait + Sync, T: Gate, 
     ensures ready { OnOk result (IsReady A.meaning batch.now.algebra
         (asked_of batch.now.questions.now) (i + 1) solver.new) }
     ensures wrote { (default : Question) → WroteNext (A.meaning batch.now.algebra)
-        (graph_of solver.old)
-        (slice_index_or (asked_of batch.now.questions.now).questions i default)
-        (W.written out.old) (W.written out.new) (W.failures out.old) (W.failures out.new) result }
-    ensures later { IfErr result (IsLater (is_plain solver.old)
+        (graph_of solver.old) (slice_index_or (asked_of batch.now.questions.now).questions i
+        default) (W.seen out.old) (W.seen out.new) result }
+    ensures kind { IfErr result (MayStop (is_plain solver.old)
         batch.now.run.now.settings.now (T.may_answer batch.now.run.now.gate.now)) }
-    ensures reported { (default : Question) → ReportedAllOrPrefix (A.meaning batch.now.algebra)
+    ensures reported { OnOk result ((default : Question) → Reported (A.meaning batch.now.algebra)
         (graph_of solver.old) O.may_become (question_due (is_plain solver.old) (i + 1)
         (slice_index_or (asked_of batch.now.questions.now).questions i default)) watcher.old
-        watcher.new result }
+        watcher.new) }
+    ensures unreported { OnErr result ((default : Question) →
+        ReportedPrefix (A.meaning batch.now.algebra) (graph_of solver.old) O.may_become
+        (accounts_due (is_plain solver.old) (i + 1)
+        (slice_index_or (asked_of batch.now.questions.now).questions i default)) watcher.old
+        watcher.new) }
 {
-    match solve_next(batch, solver, i, watcher) {
-        Ok(()) => {}
-        Err(fault) => return Err(fault_of_group(fault)),
-    }
-    match answer_at(batch, solver, i, out) {
-        Ok(()) => {}
-        Err(unanswered) => return Err(fault_of_answer(unanswered)),
-    }
+    solve_next(batch, solver, i, watcher)?;
+    answer_at(batch, solver, i, out)?;
     let questions = (i + 1) as u32;
     watcher.report(Report::Answered { questions });
     Ok(())
@@ -63,35 +61,25 @@ pub fn answer_all<A: PathAlgebra, W: RoadWrite, R: Threads + Wait + Sync, T: Gat
     solver: &mut Solver<A>,
     out: &mut W,
     watcher: &mut O,
-) -> Result<(), RunFault>
+) -> Result<(), Cause>
     requires within { AreQuestionsOf (graph_of solver.old).vertices batch.now.questions.now }
     ensures same { IsSameSolver solver.old solver.new }
     ensures answered { AnsweredAll (A.meaning batch.now.algebra) (graph_of solver.old)
-        (asked_of batch.now.questions.now) (IsLater (is_plain solver.old)
+        (asked_of batch.now.questions.now) (MayStop (is_plain solver.old)
         batch.now.run.now.settings.now (T.may_answer batch.now.run.now.gate.now))
-        (W.written out.old) (W.written out.new) (W.failures out.old) (W.failures out.new) result }
-    ensures reported { ReportedAllOrPrefix (A.meaning batch.now.algebra) (graph_of solver.old)
+        (W.seen out.old) (W.seen out.new) result }
+    ensures all { OnOk result (Reported (A.meaning batch.now.algebra) (graph_of solver.old)
         O.may_become (batch_due (is_plain solver.old) (asked_of batch.now.questions.now).questions)
-        watcher.old watcher.new result }
+        watcher.old watcher.new) }
+    ensures reported { ReportedWritten (A.meaning batch.now.algebra) (graph_of solver.old)
+        (asked_of batch.now.questions.now) (is_plain solver.old) O.may_become watcher.old
+        watcher.new (W.seen out.old) (W.seen out.new) }
 {
-    match begin(
-        batch.algebra,
-        batch.questions,
-        solver.is_plain(),
-        out,
-        watcher,
-    ) {
-        Ok(()) => {}
-        Err(fault) => return Err(fault),
-    }
-    let Ok(()) = start(batch, solver) else {
-        return Err(fault_of_run(MEMORY));
-    };
+    let plain = solver.is_plain();
+    begin(batch.algebra, batch.questions, plain, out, watcher)?;
+    start(batch, solver)?;
     for i in 0..batch.questions.len() {
-        match answer_next(batch, solver, i, out, watcher) {
-            Ok(()) => {}
-            Err(fault) => return Err(fault),
-        }
+        answer_next(batch, solver, i, out, watcher)?;
     }
     Ok(())
 }

@@ -1,6 +1,6 @@
 //! Runs a batch of a pair of inputs, or of a bundle.
 ghost use Rattle.batch_run.specs.Reports.{Watched};
-ghost use Rattle.batch_run.specs.Runs.{RanBundle, RanPair, input, output};
+ghost use Rattle.batch_run.specs.Runs.{RanBundle, RanPair};
 ghost use Rattle.batch_run.specs.Ran.{IsBundleOf, IsPairOf};
 
 use crate::batch::Run;
@@ -32,13 +32,11 @@ pub fn run_pair<
     watcher: &mut O,
 ) -> Result<(), RunFault>
     ensures ran { RanPair (A.meaning algebra) run.now.settings.now (T.may_answer run.now.gate.now)
-        (input G.left G.failures G.asked graph.old) (input G.left G.failures G.asked graph.new)
-        (input Q.left Q.failures Q.asked questions.old)
-        (input Q.left Q.failures Q.asked questions.new)
-        (output W.written W.held W.failures out.old)
-        (output W.written W.held W.failures out.new) result }
+        (G.seen graph.old) (G.seen graph.new) (Q.seen questions.old) (Q.seen questions.new)
+        (W.seen out.old) (W.seen out.new) result }
     ensures watched { Watched (A.meaning algebra) run.now.settings.now (IsPairOf
-        (G.left graph.old) (Q.left questions.old)) O.may_become watcher.old watcher.new result }
+        (G.seen graph.old).left (Q.seen questions.old).left) O.may_become watcher.old watcher.new
+        (W.seen out.old) (W.seen out.new) result }
 {
     let mut input = PairInput { graph, questions };
     run_batch(run, algebra, &mut input, out, watcher)
@@ -59,12 +57,11 @@ pub fn run_bundle<
     out: &mut W,
     watcher: &mut O,
 ) -> Result<(), RunFault>
-    ensures ran { RanBundle (A.meaning algebra) run.now.settings.now
-        (T.may_answer run.now.gate.now) (input B.left B.failures B.asked bundle.old)
-        (input B.left B.failures B.asked bundle.new) (output W.written W.held W.failures out.old)
-        (output W.written W.held W.failures out.new) result }
+    ensures ran { RanBundle (A.meaning algebra) run.now.settings.now (T.may_answer run.now.gate.now)
+        (B.seen bundle.old) (B.seen bundle.new) (W.seen out.old) (W.seen out.new) result }
     ensures watched { Watched (A.meaning algebra) run.now.settings.now (IsBundleOf
-        (B.left bundle.old)) O.may_become watcher.old watcher.new result }
+        (B.seen bundle.old).left) O.may_become watcher.old watcher.new
+        (W.seen out.old) (W.seen out.new) result }
 {
     let mut input = BundleInput { bundle };
     run_batch(run, algebra, &mut input, out, watcher)

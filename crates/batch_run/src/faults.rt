@@ -1,8 +1,9 @@
 //! What stops a batch.
 ghost use Rattle.std.specs.Prelude.{◌≡◌, Some};
-ghost use Rattle.batch_run.specs.Answered.{fault_of_answer, fault_of_group};
+ghost use Rattle.batch_run.specs.Causes.{number_of};
 ghost use Rattle.batch_run.specs.FaultTexts.{fault_shown, file_text};
 
+use road_graph::Memory;
 use road_text::{MEMORY, ReadFault, WriteFault};
 use std::error::Error;
 use std::fmt;
@@ -62,22 +63,74 @@ impl fmt::Display for RunFault {
 
 impl Error for RunFault {}
 
-/// Why a question was not answered.
+/// Why a batch stopped after its input was read.
 #[derive(Clone, Copy, Debug, PartialEq, Eq)]
-pub(crate) enum Unanswered {
-    /// Memory was refused, and nothing of the answer was written.
+pub enum Cause {
+    /// Memory or a thread was refused.
     Memory,
+    /// A worker reached its limit of turns.
+    Stalled,
+    /// A worker's gate answered `false`.
+    Gated,
     /// A write failed.
     Write,
 }
 
-impl From<WriteFault> for Unanswered {
-    ghost use Rattle.batch_run.specs.declared.faults.Unanswered.TheVariants.{Write};
+impl Cause {
+    /// The number of the fault that reports it.
+    pub fn number(self) -> u8
+        ensures { result ≡ number_of self }
+    {
+        match self {
+            Cause::Memory => MEMORY,
+            Cause::Stalled => STALLED,
+            Cause::Gated => GATED,
+            Cause::Write => WRITE,
+        }
+    }
+}
 
-    ghost from_gives = { λ _ e. e ≡ Write };
+impl From<Memory> for Cause {
+    ghost use Rattle.batch_run.specs.declared.faults.Cause.TheVariants as causes;
 
-    fn from(_fault: WriteFault) -> Unanswered {
-        Unanswered::Write
+    ghost from_gives = { λ _ cause. cause ≡ causes.Memory };
+
+    fn from(_refused: Memory) -> Cause {
+        Cause::Memory
+    }
+}
+
+impl From<WriteFault> for Cause {
+    ghost use Rattle.batch_run.specs.declared.faults.Cause.TheVariants as causes;
+
+    ghost from_gives = { λ _ cause. cause ≡ causes.Write };
+
+    fn from(_fault: WriteFault) -> Cause {
+        Cause::Write
+    }
+}
+
+impl From<GroupFault> for Cause {
+    ghost use Rattle.batch_run.specs.Causes.{cause_of};
+
+    ghost from_gives = { λ fault cause. cause ≡ cause_of fault };
+
+    fn from(fault: GroupFault) -> Cause {
+        match fault {
+            GroupFault::Memory => Cause::Memory,
+            GroupFault::Stalled => Cause::Stalled,
+            GroupFault::Gated => Cause::Gated,
+        }
+    }
+}
+
+impl From<Cause> for RunFault {
+    ghost use Rattle.batch_run.specs.Causes.{fault_of};
+
+    ghost from_gives = { λ cause fault. fault ≡ fault_of cause };
+
+    fn from(cause: Cause) -> RunFault {
+        fault_of_run(cause.number())
     }
 }
 
@@ -112,26 +165,5 @@ pub fn fault_in(file: File, fault: ReadFault) -> RunFault
         number: fault.number,
         file,
         line: fault.line,
-    }
-}
-
-/// What a question that is not answered stops the batch with.
-pub(crate) fn fault_of_answer(unanswered: Unanswered) -> RunFault
-    ensures { result ≡ fault_of_answer unanswered }
-{
-    match unanswered {
-        Unanswered::Memory => fault_of_run(MEMORY),
-        Unanswered::Write => fault_of_run(WRITE),
-    }
-}
-
-/// What labels that are not found stop the batch with.
-pub(crate) fn fault_of_group(fault: GroupFault) -> RunFault
-    ensures { result ≡ fault_of_group fault }
-{
-    match fault {
-        GroupFault::Memory => fault_of_run(MEMORY),
-        GroupFault::Stalled => fault_of_run(STALLED),
-        GroupFault::Gated => fault_of_run(GATED),
     }
 }

@@ -3,13 +3,14 @@ ghost use Rattle.std.specs.Prelude.{◌≡◌, ◌≢◌, ◌+◌, ◌≤◌, �
 ghost use Rattle.std.specs.Io.KnownBytes.{Keeps};
 ghost use Rattle.road_files.specs.Asked.{AreQuestionsOf, asked_of};
 ghost use Rattle.batch_run.specs.Answered.{WroteAllOrPrefix, WroteWhole};
-ghost use Rattle.batch_run.specs.Reports.{ReportedAllOrPrefix, batch_due};
-ghost use Rattle.batch_run.specs.Ran.{IsPassedOn, IsLater};
+ghost use Rattle.batch_run.specs.Causes.{MayStop};
+ghost use Rattle.batch_run.specs.Reports.{Reported, ReportedWritten, batch_due};
+ghost use Rattle.batch_run.specs.Ran.{IsPassedOn};
 ghost use Rattle.batch_run.specs.Solvers.{graph_of, is_plain};
 
 use crate::answering::answer_all;
 use crate::batch::Batch;
-use crate::faults::{File, RunFault, WRITE, fault_of_run};
+use crate::faults::Cause;
 use crate::laws::answers_exist;
 use crate::solve::Solver;
 use crate::watcher::Watcher;
@@ -21,30 +22,25 @@ use std::thread::Threads;
 use worker_fleet::Gate;
 
 /// Passes on what was written, also after a fault that was no failed write: the first fault stays.
-fn flush_all<W: RoadWrite>(out: &mut W, answered: Result<(), RunFault>) -> Result<(), RunFault>
-    ensures bytes { Keeps (W.written out.old) (W.written out.new) }
-    ensures passed_on { OnOk result ((answered ≡ Ok tt) × (W.held out.new ≡ [])) }
-    ensures sound { OnOk result (W.failures out.new ≡ W.failures out.old) }
-    ensures fault { IfErr result (λ f. (answered ≡ Err f) ⊎
-        ((f ≡ record { number = 42; file = File.NoFile; line = 0 }) × (answered ≡ Ok tt) ×
-        (W.failures out.old < W.failures out.new))) }
-    ensures more { W.failures out.old ≤ W.failures out.new }
-    ensures once { W.failures out.new ≤ W.failures out.old + 1 }
-    ensures flushed { IfErr result (λ f. f.number ≢ 42 → IsPassedOn (W.held out.new)
-        (W.failures out.old) (W.failures out.new)) }
+fn flush_all<W: RoadWrite>(out: &mut W, answered: Result<(), Cause>) -> Result<(), Cause>
+    ensures bytes { Keeps (W.seen out.old).written (W.seen out.new).written }
+    ensures passed_on { OnOk result ((answered ≡ Ok tt) × ((W.seen out.new).held ≡ [])) }
+    ensures sound { OnOk result ((W.seen out.new).failures ≡ (W.seen out.old).failures) }
+    ensures first { IfErr result (λ cause. (answered ≡ Err cause) ⊎ ((cause ≡ Cause.Write) ×
+        (answered ≡ Ok tt) × ((W.seen out.old).failures < (W.seen out.new).failures))) }
+    ensures more { (W.seen out.old).failures ≤ (W.seen out.new).failures }
+    ensures once { (W.seen out.new).failures ≤ (W.seen out.old).failures + 1 }
+    ensures flushed { IfErr result (λ cause. cause ≢ Cause.Write → IsPassedOn (W.seen out.new).held
+        (W.seen out.old).failures (W.seen out.new).failures) }
 {
     match answered {
-        Err(fault) => {
-            if fault.number != WRITE {
-                let _ = out.flush();
-            }
-            Err(fault)
+        Ok(()) => out.flush()?,
+        Err(Cause::Write) => {}
+        Err(_) => {
+            let _ = out.flush();
         }
-        Ok(()) => match out.flush() {
-            Ok(()) => Ok(()),
-            Err(_) => Err(fault_of_run(WRITE)),
-        },
     }
+    answered
 }
 
 /// Answers all questions over the graph, and passes the answers on.
@@ -59,24 +55,30 @@ pub(crate) fn answer_and_flush<
     solver: &mut Solver<A>,
     out: &mut W,
     watcher: &mut O,
-) -> Result<(), RunFault>
+) -> Result<(), Cause>
     requires within { AreQuestionsOf (graph_of solver.old).vertices batch.now.questions.now }
     ensures text { WroteAllOrPrefix (A.meaning batch.now.algebra) (graph_of solver.old)
-        (asked_of batch.now.questions.now) (W.written out.old) (W.written out.new) result }
-    ensures passed_on { OnOk result (W.held out.new ≡ []) }
-    ensures sound { OnOk result (W.failures out.new ≡ W.failures out.old) }
-    ensures later { IfErr result (λ f. IsLater (is_plain solver.old)
-        batch.now.run.now.settings.now (T.may_answer batch.now.run.now.gate.now) f ×
-        (f.number ≡ 42 → W.failures out.old < W.failures out.new)) }
-    ensures whole { IfErr result (λ f. f.number ≢ 42 → WroteWhole (A.meaning batch.now.algebra)
-        (graph_of solver.old) (asked_of batch.now.questions.now) (W.written out.old)
-        (W.written out.new)) }
-    ensures once { IfErr result (λ f. f.number ≢ 42 → W.failures out.new ≤ W.failures out.old + 1) }
-    ensures flushed { IfErr result (λ f. f.number ≢ 42 → IsPassedOn (W.held out.new)
-        (W.failures out.old) (W.failures out.new)) }
-    ensures reported { ReportedAllOrPrefix (A.meaning batch.now.algebra) (graph_of solver.old)
+        (asked_of batch.now.questions.now) (W.seen out.old) (W.seen out.new)
+        result }
+    ensures passed_on { OnOk result ((W.seen out.new).held ≡ []) }
+    ensures sound { OnOk result ((W.seen out.new).failures ≡ (W.seen out.old).failures) }
+    ensures kind { IfErr result (MayStop (is_plain solver.old)
+        batch.now.run.now.settings.now (T.may_answer batch.now.run.now.gate.now)) }
+    ensures failed { IfErr result (λ cause. cause ≡ Cause.Write → (W.seen out.old).failures <
+        (W.seen out.new).failures) }
+    ensures whole { IfErr result (λ cause. cause ≢ Cause.Write → WroteWhole
+        (A.meaning batch.now.algebra) (graph_of solver.old) (asked_of batch.now.questions.now)
+        (W.seen out.old) (W.seen out.new)) }
+    ensures once { IfErr result (λ cause. cause ≢ Cause.Write → (W.seen out.new).failures ≤
+        (W.seen out.old).failures + 1) }
+    ensures flushed { IfErr result (λ cause. cause ≢ Cause.Write → IsPassedOn (W.seen out.new).held
+        (W.seen out.old).failures (W.seen out.new).failures) }
+    ensures all { OnOk result (Reported (A.meaning batch.now.algebra) (graph_of solver.old)
         O.may_become (batch_due (is_plain solver.old) (asked_of batch.now.questions.now).questions)
-        watcher.old watcher.new result }
+        watcher.old watcher.new) }
+    ensures reported { ReportedWritten (A.meaning batch.now.algebra) (graph_of solver.old)
+        (asked_of batch.now.questions.now) (is_plain solver.old) O.may_become watcher.old
+        watcher.new (W.seen out.old) (W.seen out.new) }
 {
     answers_exist(batch.algebra);
     first_answers_begin_all(batch.algebra);

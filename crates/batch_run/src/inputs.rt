@@ -52,17 +52,16 @@ impl<G: RoadRead, Q: RoadRead> BatchInput for PairInput<'_, G, Q> {
     ghost use Rattle.std.specs.Prelude.{◌≡◌};
     ghost use Rattle.std.proofs.Common.{refl};
     ghost use Rattle.batch_run.specs.Ran.{IsPairOf, IsPairFile};
-    ghost use Rattle.batch_run.specs.Streams.{input};
     ghost use Rattle.batch_run.specs.Inputs.{HasReadPair};
     ghost use Rattle.batch_run.specs.InputLaws.{pair_later, pair_unread};
 
-    ghost is_read = { λ s. IsPairOf (G.left s.graph.now) (Q.left s.questions.now) };
+    ghost is_read = { λ s. IsPairOf (G.seen s.graph.now).left (Q.seen s.questions.now).left };
 
     ghost is_own = { IsPairFile };
 
     ghost has_read = { λ old new outcome. (new.graph.ghost_name ≡ old.graph.ghost_name) × (new.questions.ghost_name ≡ old.questions.ghost_name) ×
-        HasReadPair (input G.left G.failures G.asked old.graph.now) (input G.left G.failures G.asked new.graph.now)
-        (input Q.left Q.failures Q.asked old.questions.now) (input Q.left Q.failures Q.asked new.questions.now) outcome };
+        HasReadPair (G.seen old.graph.now) (G.seen new.graph.now)
+        (Q.seen old.questions.now) (Q.seen new.questions.now) outcome };
 
     ghost later = { λ old new f file other h. (h.0, h.1, pair_later _ _ _ _ f file other h.2) };
 
@@ -90,16 +89,15 @@ impl<B: RoadRead> BatchInput for BundleInput<'_, B> {
     ghost use Rattle.std.specs.Prelude.{◌≡◌};
     ghost use Rattle.std.proofs.Common.{refl};
     ghost use Rattle.batch_run.specs.Ran.{IsBundleOf, IsBundleFile};
-    ghost use Rattle.batch_run.specs.Streams.{input};
     ghost use Rattle.batch_run.specs.Inputs.{HasReadBundle};
     ghost use Rattle.batch_run.specs.InputLaws.{bundle_later, bundle_unread};
 
-    ghost is_read = { λ s. IsBundleOf (B.left s.bundle.now) };
+    ghost is_read = { λ s. IsBundleOf (B.seen s.bundle.now).left };
 
     ghost is_own = { IsBundleFile };
 
     ghost has_read = { λ old new outcome. (new.bundle.ghost_name ≡ old.bundle.ghost_name) ×
-        HasReadBundle (input B.left B.failures B.asked old.bundle.now) (input B.left B.failures B.asked new.bundle.now) outcome };
+        HasReadBundle (B.seen old.bundle.now) (B.seen new.bundle.now) outcome };
 
     ghost later = { λ old new f file other h. (h.0, bundle_later _ _ f file other h.1) };
 

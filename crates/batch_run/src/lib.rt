@@ -18,7 +18,7 @@ mod write;
 pub use answering::answer_all;
 pub use batch::{Batch, Run};
 pub use entries::{run_bundle, run_pair};
-pub use faults::{File, RunFault, SETTINGS, WRITE, fault_in, fault_of_run};
+pub use faults::{Cause, File, RunFault, SETTINGS, WRITE, fault_in, fault_of_run};
 pub use inputs::{BatchInput, BundleInput, PairInput};
 pub use laws::answers_exist;
 pub use question_solvers::{FactorSolver, PlainSolver, Solved};

@@ -2,7 +2,7 @@
 ghost use Rattle.std.specs.Prelude.{◌≡◌, ◌≢◌, ◌≤◌, Ok, Err, IfOk, IfErr, OnOk};
 ghost use Rattle.road_files.specs.Asked.{AreQuestionsOf, asked_of};
 ghost use Rattle.batch_run.specs.Reports.{Watched};
-ghost use Rattle.batch_run.specs.Runs.{Ran, output};
+ghost use Rattle.batch_run.specs.Runs.{Ran};
 ghost use Rattle.batch_run.specs.Ran.{IsRoadNumber};
 ghost use Rattle.batch_run.specs.Solvers.{graph_of, is_plain};
 ghost use Rattle.batch_run.specs.Choice.{without_diffusions};
@@ -40,24 +40,15 @@ fn read_batch<A: PathAlgebra, I: BatchInput, R, T>(
     let alloc = run.alloc;
     match run.settings.solver() {
         SolverKind::Plain => {
-            let (graph, questions): (OutGraph, Questions) = match input.read(alloc) {
-                Ok(read) => read,
-                Err(fault) => return Err(fault),
-            };
+            let (graph, questions): (OutGraph, Questions) = input.read(alloc)?;
             Ok((Solver::Plain(PlainSolver::new(alloc, graph)), questions))
         }
         SolverKind::Factors => {
-            let (graph, questions): (OutGraph, Questions) = match input.read(alloc) {
-                Ok(read) => read,
-                Err(fault) => return Err(fault),
-            };
+            let (graph, questions): (OutGraph, Questions) = input.read(alloc)?;
             Ok((Solver::Factors(FactorSolver::new(alloc, graph)), questions))
         }
         SolverKind::Workers => {
-            let (graph, questions): (Graph, Questions) = match input.read(alloc) {
-                Ok(read) => read,
-                Err(fault) => return Err(fault),
-            };
+            let (graph, questions): (Graph, Questions) = input.read(alloc)?;
             Ok((Solver::Workers(WorkerSolver::new(alloc, graph)), questions))
         }
     }
@@ -91,11 +82,11 @@ pub fn run_batch<
     watcher: &mut O,
 ) -> Result<(), RunFault>
     ensures ran { Ran (A.meaning algebra) run.now.settings.now (T.may_answer run.now.gate.now)
-        (I.is_read input.old) I.is_own (output W.written W.held W.failures out.old)
-        (output W.written W.held W.failures out.new) result }
+        (I.is_read input.old) I.is_own (W.seen out.old) (W.seen out.new) result }
     ensures read { I.has_read input.old input.new result }
     ensures watched { Watched (A.meaning algebra) run.now.settings.now (I.is_read input.old)
-        O.may_become watcher.old watcher.new result }
+        O.may_become watcher.old watcher.new (W.seen out.old) (W.seen out.new)
+        result }
 {
     if !run.settings.suit(algebra) {
         return Err(fault_of_run(SETTINGS));
@@ -109,5 +100,6 @@ pub fn run_batch<
         algebra,
         questions: &questions,
     };
-    answer_and_flush(&batch, &mut solver, out, watcher)
+    answer_and_flush(&batch, &mut solver, out, watcher)?;
+    Ok(())
 }

@@ -8,7 +8,6 @@ ghost use Rattle.question_solvers.specs.Solved.{IsSolvedFor, IsTreeFrom};
 ghost use Rattle.batch_run.specs.Solvers.{graph_of, last_of};
 
 use crate::batch::Batch;
-use crate::faults::Unanswered;
 use crate::solve::Solver;
 use crate::write::lines::{write_source, write_sources};
 use answer_text::write_answer;
@@ -16,7 +15,7 @@ use path_algebra::{Labels, PathAlgebra};
 use question_solvers::Solved;
 use road_files::Questions;
 use road_graph::Vertex;
-use road_text::RoadWrite;
+use road_text::{RoadWrite, WriteFault};
 use route_tree::Tree;
 
 /// Writes the right answer to a question from one source to all vertices, by the tree of its best labels.
@@ -26,15 +25,14 @@ fn answer_source<A: PathAlgebra, W: RoadWrite>(
     source: Vertex,
     solved: (&Labels<A::Value>, &Tree),
     out: &mut W,
-) -> Result<(), Unanswered>
+) -> Result<(), WriteFault>
     requires labels { AreBest (A.meaning algebra) (graph_of solver.now) (source ∷ []) solved.0.now }
     requires tree { IsTree (A.meaning algebra) (graph_of solver.now) (source ∷ []) solved.1.now }
     ensures { WroteAnswer (A.meaning algebra) (graph_of solver.now) (FromSource source)
-        (W.written out.old) (W.written out.new) (W.failures out.old) (W.failures out.new) result }
+        (W.seen out.old) (W.seen out.new) result }
 {
     let (labels, tree) = solved;
-    write_source(out, algebra, solver.vertices(), source, labels, tree)?;
-    Ok(())
+    write_source(out, algebra, solver.vertices(), source, labels, tree)
 }
 
 /// Writes the right answer to a question from several sources to all vertices, by the tree of its best labels.
@@ -44,15 +42,14 @@ fn answer_sources<A: PathAlgebra, W: RoadWrite>(
     sources: &[Vertex],
     solved: (&Labels<A::Value>, &Tree),
     out: &mut W,
-) -> Result<(), Unanswered>
+) -> Result<(), WriteFault>
     requires labels { AreBest (A.meaning algebra) (graph_of solver.now) sources.now solved.0.now }
     requires tree { IsTree (A.meaning algebra) (graph_of solver.now) sources.now solved.1.now }
     ensures { WroteAnswer (A.meaning algebra) (graph_of solver.now) (FromSources sources.now)
-        (W.written out.old) (W.written out.new) (W.failures out.old) (W.failures out.new) result }
+        (W.seen out.old) (W.seen out.new) result }
 {
     let (labels, tree) = solved;
-    write_sources(out, algebra, solver.vertices(), sources, labels, tree)?;
-    Ok(())
+    write_sources(out, algebra, solver.vertices(), sources, labels, tree)
 }
 
 /// Writes the right answer to the question at a place, by the tree of its best labels.
@@ -62,16 +59,15 @@ fn answer_by_tree<A: PathAlgebra, W: RoadWrite, R, T>(
     i: usize,
     solved: (&Labels<A::Value>, &Tree),
     out: &mut W,
-) -> Result<(), Unanswered>
+) -> Result<(), WriteFault>
     requires place { i < length (asked_of batch.now.questions.now).questions }
     requires solved { (default : Question) → IsTreeFrom (A.meaning batch.now.algebra)
         (graph_of solver.now) (asked_of batch.now.questions.now).kind
         (sources_of (slice_index_or (asked_of batch.now.questions.now).questions i default))
         solved.0.now solved.1.now }
-    ensures { (default : Question) → WroteAnswer (A.meaning batch.now.algebra)
-        (graph_of solver.now)
-        (slice_index_or (asked_of batch.now.questions.now).questions i default)
-        (W.written out.old) (W.written out.new) (W.failures out.old) (W.failures out.new) result }
+    ensures { (default : Question) → WroteAnswer (A.meaning batch.now.algebra) (graph_of solver.now)
+        (slice_index_or (asked_of batch.now.questions.now).questions i default) (W.seen out.old)
+        (W.seen out.new) result }
 {
     let algebra = batch.algebra;
     match batch.questions {
@@ -89,22 +85,18 @@ pub(crate) fn answer_at<A: PathAlgebra, W: RoadWrite, R, T>(
     solver: &Solver<A>,
     i: usize,
     out: &mut W,
-) -> Result<(), Unanswered>
+) -> Result<(), WriteFault>
     requires place { i < length (asked_of batch.now.questions.now).questions }
     requires within { AreQuestionsOf (graph_of solver.now).vertices batch.now.questions.now }
     requires some { IsSome (last_of solver.now) }
     requires solved { IfSome (last_of solver.now) (IsSolvedFor (A.meaning batch.now.algebra)
         (graph_of solver.now) (asked_of batch.now.questions.now) i) }
-    ensures { (default : Question) → WroteAnswer (A.meaning batch.now.algebra)
-        (graph_of solver.now)
-        (slice_index_or (asked_of batch.now.questions.now).questions i default)
-        (W.written out.old) (W.written out.new) (W.failures out.old) (W.failures out.new) result }
+    ensures { (default : Question) → WroteAnswer (A.meaning batch.now.algebra) (graph_of solver.now)
+        (slice_index_or (asked_of batch.now.questions.now).questions i default) (W.seen out.old)
+        (W.seen out.new) result }
 {
     match solver.last() {
         Solved::Tree { labels, tree } => answer_by_tree(batch, solver, i, (labels, tree), out),
-        Solved::Answer(answer) => {
-            write_answer(out, answer)?;
-            Ok(())
-        }
+        Solved::Answer(answer) => write_answer(out, answer),
     }
 }

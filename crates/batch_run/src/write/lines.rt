@@ -44,9 +44,8 @@ fn write_lines<A: PathAlgebra, W: RoadWrite>(
 ) -> Result<(), WriteFault>
     requires labels { length labels.now ≡ n }
     requires hops { length tree.now.hops ≡ n }
-    ensures { WritesText W.written W.failures to.old to.new
-        (text_of (vertex_lines 1 (written_lines (A.meaning algebra) labels.now tree.now n)))
-        result }
+    ensures { WritesText (W.seen to.old) (W.seen to.new) (text_of (vertex_lines 1 (written_lines
+        (A.meaning algebra) labels.now tree.now n))) result }
 {
     let mut text = VertexLine::new();
     for v in 0..n {
@@ -70,9 +69,8 @@ pub(crate) fn write_source<A: PathAlgebra, W: RoadWrite>(
 ) -> Result<(), WriteFault>
     requires labels { length labels.now ≡ n }
     requires hops { length tree.now.hops ≡ n }
-    ensures { WritesText W.written W.failures to.old to.new
-        (answer_text (SourceAnswer source (written_lines (A.meaning algebra) labels.now tree.now
-        n))) result }
+    ensures { WritesText (W.seen to.old) (W.seen to.new) (answer_text (SourceAnswer source
+        (written_lines (A.meaning algebra) labels.now tree.now n))) result }
 {
     write_source_line(to, source)?;
     write_lines(to, algebra, n, labels, tree)
@@ -89,9 +87,8 @@ pub(crate) fn write_sources<A: PathAlgebra, W: RoadWrite>(
 ) -> Result<(), WriteFault>
     requires labels { length labels.now ≡ n }
     requires hops { length tree.now.hops ≡ n }
-    ensures { WritesText W.written W.failures to.old to.new
-        (answer_text (SourcesAnswer sources.now (written_lines (A.meaning algebra) labels.now
-        tree.now n))) result }
+    ensures { WritesText (W.seen to.old) (W.seen to.new) (answer_text (SourcesAnswer sources.now
+        (written_lines (A.meaning algebra) labels.now tree.now n))) result }
 {
     write_sources_line(to, sources)?;
     write_lines(to, algebra, n, labels, tree)

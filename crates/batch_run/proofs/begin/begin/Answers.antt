@@ -1,10 +1,11 @@
+use Rattle.std.proofs.lemmas.Result.{err_from_is_err_and}
 use Rattle.road_files.specs.Asked.{asked_of}
 use Rattle.batch_run.proofs.Progress.{header_written, header_failed}
 use Rattle.batch_run.proofs.begin.begin.Goals as goal
 
-pub returns-in-Err-clause-wrote : goal.returns-in-Err-clause-wrote
-returns-in-Err-clause-wrote g c = header_failed (g.A.PathAlgebra.meaning c.args.algebra)
-    (asked_of c.args.questions.now) _ _ _ c.kind.ensures c.len-count.ensures c.name.ensures _ _ _ _ _ c.fault_of_run.ensures c.in-Err.ensures
+pub returns-in_err-write_header-clause-wrote : goal.returns-in_err-write_header-clause-wrote
+returns-in_err-write_header-clause-wrote g c = rw (err_from_is_err_and c.from_residual.result c.from_residual.ensures.1).1 (header_failed (g.A.PathAlgebra.meaning c.args.algebra)
+    (asked_of c.args.questions.now) _ _ _ c.kind.ensures c.len-count.ensures c.name.ensures _ _ c.in_err-write_header.ensures)
 
 pub returns-clause-wrote : goal.returns-clause-wrote
-returns-clause-wrote g c = header_written (g.A.PathAlgebra.meaning c.args.algebra) (asked_of c.args.questions.now) _ _ _ c.kind.ensures c.len-count.ensures c.name.ensures _ _ _ _ c.in-Ok.ensures
+returns-clause-wrote g c = header_written (g.A.PathAlgebra.meaning c.args.algebra) (asked_of c.args.questions.now) _ _ _ c.kind.ensures c.len-count.ensures c.name.ensures _ _ c.in_ok-write_header.ensures

@@ -10,7 +10,7 @@ use Rattle.batch_run.proofs.inputs.PairInputBatchInput.read.Goals as goal
 pub returns-in-Ok-read_questions-clause-read : goal.returns-in-Ok-read_questions-clause-read
 returns-in-Ok-read_questions-clause-read g c = record {
   graph_is = record { told = c.in-Ok.ensures.value; some_text = c.in-Ok.ensures.some_text };
-  questions_are = subst (λ n. IsReadAs (question_rules n None) (g.Q.RoadRead.left c.args.self.now.questions.now) (asked_of c.in-Ok-read_questions.questions)) c.count_vertices.ensures.count
+  questions_are = subst (λ n. IsReadAs (question_rules n None) (g.Q.RoadRead.seen c.args.self.now.questions.now).left (asked_of c.in-Ok-read_questions.questions)) c.count_vertices.ensures.count
       (record { told = c.in-Ok-read_questions.ensures.reads.value; some_text = c.in-Ok-read_questions.ensures.reads.some_text });
 }
 
@@ -31,6 +31,12 @@ returns-in-Err-read_questions-clause-fault g c =
         );
         read_graph = not_failed c.fault_in-in-Err-read_questions.result Graph _ _ (λ e. let bad : Questions ≡ Graph = sym own ∙ e in cc) c.in-Ok.ensures.sound _ refl;
         read_questions = told_of Questions c.in-Err-read_questions.fault _ is _ _ reads.told reads.untold reads.placed;
+        memory = λ e. let bad : Questions ≡ Graph = sym own ∙ e in cc;
+        memory_questions = λ e three. (
+          g.B.FromArcs.roads c.in-Ok.graph,
+          record { told = c.in-Ok.ensures.value; some_text = c.in-Ok.ensures.some_text },
+          rw c.count_vertices.ensures.count at (reads.before_memory (rw is at three)),
+        );
         untouched = λ e. absurd (no_setting Questions c.in-Err-read_questions.fault _ is reads.numbered e);
         ends = tt;
         asked = c.in-Ok.ensures.asked;

@@ -1,4 +1,3 @@
-use Rattle.std.proofs.lemmas.Result.{err_from_is_err_and}
 use Rattle.road_files.specs.Asked.{asked_of}
 use Rattle.answer_text.specs.AnswerData.{answer_data}
 use Rattle.question_solvers.specs.Solved.{IsSolvedFor}
@@ -11,15 +10,8 @@ answer_by_tree-requires-clause-solved g c κs within =
     rw c.last.ensures at c.requires.solved in
     λ d. rw c.in-Tree.is at (held d)
 
-pub returns-in_err-write_answer-in-Answer : goal.returns-in_err-write_answer-in-Answer
-returns-in_err-write_answer-in-Answer g c =
+pub returns-in-Answer : goal.returns-in-Answer
+returns-in-Answer g c =
     let held : IsSolvedFor (g.A.PathAlgebra.meaning c.args.batch.now.algebra) (graph_of c.args.solver.now) (asked_of c.args.batch.now.questions.now) c.args.i c.last.result.now =
     rw c.last.ensures at c.requires.solved in
-    let fault = err_from_is_err_and c.from_residual.result c.from_residual.ensures.1 in
-    λ d. rw (fault.1, fault.2) (answer_data c.in-Answer.answer, rw c.in-Answer.is at (held d), c.in_err-write_answer-in-Answer.ensures)
-
-pub returns-in_ok-write_answer-in-Answer : goal.returns-in_ok-write_answer-in-Answer
-returns-in_ok-write_answer-in-Answer g c =
-    let held : IsSolvedFor (g.A.PathAlgebra.meaning c.args.batch.now.algebra) (graph_of c.args.solver.now) (asked_of c.args.batch.now.questions.now) c.args.i c.last.result.now =
-    rw c.last.ensures at c.requires.solved in
-    λ d. (answer_data c.in-Answer.answer, rw c.in-Answer.is at (held d), c.in_ok-write_answer-in-Answer.ensures)
+    λ d. (answer_data c.in-Answer.answer, rw c.in-Answer.is at (held d), c.write_answer.ensures)

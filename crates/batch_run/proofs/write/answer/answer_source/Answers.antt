@@ -1,5 +1,4 @@
 use Rattle.std.proofs.Common.{[], ◌∷◌, refl}
-use Rattle.std.proofs.lemmas.Result.{err_from_is_err_and}
 use Rattle.answer_text.specs.AnswerData.{SourceAnswer}
 use Rattle.batch_run.specs.WrittenLines.{written_lines}
 use Rattle.batch_run.specs.Solvers.{graph_of}
@@ -11,12 +10,4 @@ returns g c =
     let A = g.A.PathAlgebra.meaning c.args.algebra in
     let n = c.vertices.result in
     let right = lines_are_right A (graph_of c.args.solver.now) (c.args.source ∷ []) c.args.solved.0.now c.args.solved.1.now n c.vertices.ensures.count c.requires.labels c.requires.tree in
-    (SourceAnswer c.args.source (written_lines A c.args.solved.0.now c.args.solved.1.now n), (refl, right), c.in_ok-write_source.ensures)
-
-pub returns-in_err-write_source : goal.returns-in_err-write_source
-returns-in_err-write_source g c =
-    let A = g.A.PathAlgebra.meaning c.args.algebra in
-    let n = c.vertices.result in
-    let right = lines_are_right A (graph_of c.args.solver.now) (c.args.source ∷ []) c.args.solved.0.now c.args.solved.1.now n c.vertices.ensures.count c.requires.labels c.requires.tree in
-    let fault = err_from_is_err_and c.from_residual.result c.from_residual.ensures.1 in
-    rw (fault.1, fault.2) (SourceAnswer c.args.source (written_lines A c.args.solved.0.now c.args.solved.1.now n), (refl, right), c.in_err-write_source.ensures)
+    (SourceAnswer c.args.source (written_lines A c.args.solved.0.now c.args.solved.1.now n), (refl, right), c.write_source.ensures)

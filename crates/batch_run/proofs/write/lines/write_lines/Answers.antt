@@ -11,7 +11,7 @@ use Rattle.batch_run.proofs.write.lines.write_lines.Goals as goal
 pub loop-v-init : goal.loop-v-init
 loop-v-init g c =
     let lines = written_lines (g.A.PathAlgebra.meaning c.args.algebra) c.args.labels.now c.args.tree.now c.args.n in
-    subst (WrotePrefix _ _ _ _ _) (sym (vertices_start lines)) (left_start _ _ _)
+    subst (WrotePrefix _ _ _) (sym (vertices_start lines)) (left_start _ _)
 
 pub loop-v-preserved : goal.loop-v-preserved
 loop-v-preserved g c =
@@ -21,7 +21,7 @@ loop-v-preserved g c =
     let within : c.loop-v.v < length lines = rw (lines_count A c.args.labels.now c.args.tree.now c.args.n) lt in
     let line = line_is A c.args.labels.now c.args.tree.now c.args.n c.loop-v.v (c.loop-v.v + 1) c.line_of-line.result _ _ _ lt
     (omega arith) c.line_of-line.ensures c.of.ensures c.hops-hops.ensures c.parent-parent.ensures in
-    vertex_left _ _ _ _ _ _ _ _ lines c.loop-v.v c.from.result None within c.from.ensures
+    vertex_left _ _ _ _ _ lines c.loop-v.v c.from.result None within c.from.ensures
     (ap (λ l. spelled (vertex_words (c.from.result + 1) l)) line) c.loop-v.invariant c.in_ok-write_vertex_line.ensures
 
 pub returns-in_err-write_vertex_line : goal.returns-in_err-write_vertex_line
@@ -32,11 +32,11 @@ returns-in_err-write_vertex_line g c =
     let within : c.loop-v.v < length lines = rw (lines_count A c.args.labels.now c.args.tree.now c.args.n) lt in
     let line = line_is A c.args.labels.now c.args.tree.now c.args.n c.loop-v.v (c.loop-v.v + 1) c.line_of-line.result _ _ _ lt
     (omega arith) c.line_of-line.ensures c.of.ensures c.hops-hops.ensures c.parent-parent.ensures in
-    fell_out _ _ _ _ _ _ c.from_residual.result c.from_residual.ensures.1 (vertex_fell _ _ _ _ _ _ _ _ lines c.loop-v.v c.from.result None within c.from.ensures
+    fell_out _ _ _ _ c.from_residual.result c.from_residual.ensures.1 (vertex_fell _ _ _ _ _ lines c.loop-v.v c.from.result None within c.from.ensures
     (ap (λ l. spelled (vertex_words (c.from.result + 1) l)) line) c.loop-v.invariant c.in_err-write_vertex_line.ensures)
 
 pub returns : goal.returns
 returns g c =
     let A = g.A.PathAlgebra.meaning c.args.algebra in
     let count = lines_count A c.args.labels.now c.args.tree.now c.args.n in
-    left_end _ _ _ _ _ _ (vertices_end c.loop-v.v (written_lines A c.args.labels.now c.args.tree.now c.args.n) (omega (arith, count, c.loop-v-test.false))) c.loop-v.invariant
+    left_end _ _ _ _ (vertices_end c.loop-v.v (written_lines A c.args.labels.now c.args.tree.now c.args.n) (omega (arith, count, c.loop-v-test.false))) c.loop-v.invariant

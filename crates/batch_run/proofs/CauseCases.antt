@@ -1,0 +1,54 @@
+-- Causes by cases, and by their numbers.
+use Rattle.std.proofs.Common.{◌≡◌, ◌≢◌, ◌⊎◌, inl, inr, ℕ, ◌<◌, Bool, false, refl, ap, arith}
+use Rattle.batch_run.specs.Causes.{MayStop, number_of}
+use Rattle.batch_run.specs.Stopping.{Stalls, Closes}
+use Rattle.batch_run.specs.declared.faults.Cause.{Cause}
+use Rattle.batch_run.specs.declared.faults.Cause.TheVariants.{Memory, Stalled, Gated, Write}
+use Rattle.batch_run.specs.declared.settings.Settings.{Settings}
+
+-- a cause is a failed write, or another
+pub write_or_other : (cause : Cause) → (cause ≡ Write) ⊎ (cause ≢ Write)
+write_or_other Memory = inr (λ e. let bad : Memory ≡ Write = e in cc)
+write_or_other Stalled = inr (λ e. let bad : Stalled ≡ Write = e in cc)
+write_or_other Gated = inr (λ e. let bad : Gated ≡ Write = e in cc)
+write_or_other Write = inl refl
+
+-- 42 reports a failed write
+pub write_by_number : (cause : Cause) → number_of cause ≡ 42 → cause ≡ Write
+write_by_number Memory e = absurd (omega (arith, e))
+write_by_number Stalled e = absurd (omega (arith, e))
+write_by_number Gated e = absurd (omega (arith, e))
+write_by_number Write e = refl
+
+-- another number does not
+pub other_by_number : (cause : Cause) → number_of cause ≢ 42 → cause ≢ Write
+other_by_number cause other write = other (ap number_of write)
+
+-- no cause is reported as a fault of a setting
+pub no_setting : (cause : Cause) → number_of cause ≢ 43
+no_setting Memory e = omega (arith, e)
+no_setting Stalled e = omega (arith, e)
+no_setting Gated e = omega (arith, e)
+no_setting Write e = omega (arith, e)
+
+-- the numbers are these
+pub numbered : (cause : Cause) → (number_of cause ≡ 3) ⊎ ((number_of cause ≡ 40) ⊎ ((number_of cause ≡ 41) ⊎ ((number_of cause ≡ 42) ⊎ (number_of cause ≡ 43))))
+numbered Memory = inl refl
+numbered Stalled = inr (inl refl)
+numbered Gated = inr (inr (inl refl))
+numbered Write = inr (inr (inr (inl refl)))
+
+module _ (plain : Bool) (s : Settings) (answers : ℕ → ℕ → Bool → Type 0) where
+  -- 40 reports that some worker made each turn up to the limit
+  pub stalled_by_number : (cause : Cause) → MayStop plain s answers cause → number_of cause ≡ 40 → (plain ≡ false) × Stalls answers s.workers s.turns
+  stalled_by_number Memory may e = absurd (omega (arith, e))
+  stalled_by_number Stalled may e = may
+  stalled_by_number Gated may e = absurd (omega (arith, e))
+  stalled_by_number Write may e = absurd (omega (arith, e))
+
+  -- and 41 that the gate answered some worker false before
+  pub gated_by_number : (cause : Cause) → MayStop plain s answers cause → number_of cause ≡ 41 → (plain ≡ false) × Closes answers s.workers s.turns
+  gated_by_number Memory may e = absurd (omega (arith, e))
+  gated_by_number Stalled may e = absurd (omega (arith, e))
+  gated_by_number Gated may e = may
+  gated_by_number Write may e = absurd (omega (arith, e))

@@ -1,0 +1,34 @@
+-- Why a batch stops after its input was read, and how that is reported.
+use Rattle.std.specs.Prelude.{◌≡◌, ℕ, Bool, false}
+use Rattle.worker_fleet.specs.declared.group.GroupFault.{GroupFault}
+use Rattle.worker_fleet.specs.declared.group.GroupFault.TheVariants as group
+use Rattle.batch_run.specs.Stopping.{Stalls, Closes}
+use Rattle.batch_run.specs.declared.faults.Cause.{Cause}
+use Rattle.batch_run.specs.declared.faults.Cause.TheVariants.{Memory, Stalled, Gated, Write}
+use Rattle.batch_run.specs.declared.faults.File.TheVariants.{NoFile}
+use Rattle.batch_run.specs.declared.faults.RunFault.{RunFault}
+use Rattle.batch_run.specs.declared.settings.Settings.{Settings}
+
+-- the number that reports it
+abbrev pub number_of : Cause → ℕ
+number_of Memory = 3
+number_of Stalled = 40
+number_of Gated = 41
+number_of Write = 42
+
+-- the fault that reports it, in no input and no line
+abbrev pub fault_of : Cause → RunFault
+fault_of cause = record { number = number_of cause; file = NoFile; line = 0 }
+
+-- why a group of diffusions is not run to its end
+abbrev pub cause_of : GroupFault → Cause
+cause_of group.Memory = Memory
+cause_of group.Stalled = Stalled
+cause_of group.Gated = Gated
+
+-- a batch may stop for this: memory or a thread, or a write; and if stations answer, a worker that made all turns of the limit, or one whose gate answered false before
+abbrev pub MayStop : (plain : Bool) → Settings → (ℕ → ℕ → Bool → Type 0) → Cause → Type 0
+MayStop plain s answers Memory = Unit {0}
+MayStop plain s answers Stalled = (plain ≡ false) × Stalls answers s.workers s.turns
+MayStop plain s answers Gated = (plain ≡ false) × Closes answers s.workers s.turns
+MayStop plain s answers Write = Unit {0}
